@@ -1,0 +1,7 @@
+//! The base of the linker core: bits of numbers, words and texts of bytes, and the deletions of
+//! relaxation.
+#![tactic(auto)]
+
+pub mod bit_misc;
+pub mod relaxation;
+pub mod utils;

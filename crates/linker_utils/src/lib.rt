@@ -1,0 +1,9 @@
+//! The core of a linker: what relocations mean, how instructions are rewritten, and where values
+//! stand in them.
+#![tactic(auto)]
+
+pub mod elf;
+
+pub use linker_base::bit_misc;
+pub use linker_base::relaxation;
+pub use linker_base::utils;
