@@ -37,6 +37,13 @@ bit_at_window x low high i =
         ])
     ]
 
+pub mod_mod : (x m n : ℕ) → n ≤ m → x % 2 ^ m % 2 ^ n ≡ x % 2 ^ n
+mod_mod x m n h =
+    let apart : m ≡ (m - n) + n = omega arith in
+    ap (λ k. x % 2 ^ k % 2 ^ n) apart
+        ∙ ap (λ y. y % 2 ^ n) (mod-pow-add x (m - n) n)
+        ∙ mod_low (x / 2 ^ n % 2 ^ (m - n)) n (x % 2 ^ n) (mod_below x (2 ^ n) (pow_pos n))
+
 -- ---- two's complement
 
 below_itself : (n f : ℕ) → f < 2 ^ n → f % 2 ^ n ≡ f

@@ -7,9 +7,9 @@ use Rattle.std.proofs.lemmas.List.Elements.{All-nil, All-cons, All-head, All-tai
 use Rattle.std.proofs.lemmas.Nat.{pow_pos, mod_below}
 use Rattle.std.proofs.lemmas.Nat.Bits.{same_from_bits}
 use Rattle.linker_base.specs.Bits.{signed}
-use Rattle.linker_base.specs.Form.{Mark, replaced, ored, cleared, Place, IsLaid, is_placed, placed_bit, bit_for, place_sum, IsClear, Written, MachineReads, signed_immediate}
-use Rattle.linker_base.proofs.Places.{holds, is_of, has_value, value_bit, values_apart, adds, value_bit_none, bit_at-place_sum, value_bit_laid}
-use Rattle.linker_base.proofs.Fields.{bit_at_window, bit_at_mod, bit_at_mod_above, signed_rem, signed_bits, aligned_rem}
+use Rattle.linker_base.specs.Form.{holds, is_of, has_value, values_apart, Mark, replaced, ored, cleared, Place, IsLaid, is_placed, placed_bit, bit_for, place_sum, IsClear, Written, MachineReads, IsReadBack, signed_immediate}
+use Rattle.linker_base.proofs.Places.{value_bit, adds, value_bit_none, bit_at-place_sum, value_bit_laid}
+use Rattle.linker_base.proofs.Fields.{mod_mod, bit_at_window, bit_at_mod, bit_at_mod_above, signed_rem, signed_bits, aligned_rem}
 
 -- all places take their bits below bit 64
 abbrev pub values_below : ℕ → List Place → Bool
@@ -182,10 +182,11 @@ place_sum_below ps n x a b =
     subst (λ y. y < 2 ^ n) (sym same) (mod_below (place_sum ps x) (2 ^ n) (pow_pos n))
 
 pub signed_restored : (w : Width) (n low : ℕ) (ps : List Place) (v : ℕ) (neg : Bool) (before after : ℕ) → IsSoundImmediate n low ps → v < 2 ^ 64
-    → v ≡ cast_unsigned w64 ((signed_immediate w n low ps).reading before)
-    → Written (signed_immediate w n low ps) v neg before after → after ≡ before
-signed_restored w n low ps v neg before after s h e laid =
+    → Written (signed_immediate w n low ps) v neg before after → IsReadBack (signed_immediate w n low ps) v neg before → after ≡ before
+signed_restored w n low ps v neg before after s h laid back =
     let apart = values_apart_fills low n ps s.filled in
     restored n 0 ps v before after apart s.below s.held s.unadded
-        (ap (λ y. y % 2 ^ n) (whole v h ∙ e) ∙ signed_bits n (place_sum ps before) (place_sum_below ps n before apart s.below) s.fits)
+        (ap (λ y. y % 2 ^ n) (whole v h ∙ back.value)
+            ∙ mod_mod (cast_unsigned w64 (signed n (place_sum ps before))) 64 n s.fits
+            ∙ signed_bits n (place_sum ps before) (place_sum_below ps n before apart s.below) s.fits)
         laid

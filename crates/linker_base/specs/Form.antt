@@ -1,8 +1,8 @@
 -- Instruction forms: where the bits of a value stand in the bytes of an instruction, and which number the machine reads
 -- there. A form's window is its 2, 4 or 8 bytes as one little-endian number; bit j of its second word is bit 32 + j.
-use Rattle.std.specs.Prelude.{◌≡◌, ℕ, zero, suc, ◌+◌, ◌-◌, ◌*◌, ◌%◌, ◌^◌, ◌<◌, max, Bool, true, false, ◌==◌, IsTrue, List, [], ◌∷◌, Option, None, Some, ℤ, pos, int_lt}
+use Rattle.std.specs.Prelude.{◌≡◌, ℕ, zero, suc, ◌+◌, ◌-◌, ◌*◌, ◌%◌, ◌^◌, ◌<◌, max, Bool, true, false, not, ◌&&◌, ◌||◌, ◌==◌, IsTrue, List, [], ◌∷◌, Option, None, Some, ℤ, pos, int_lt}
 use Rattle.std.specs.List.{All, list_any, sum_by}
-use Rattle.std.specs.Int.{Width, bit_at, from_le_bytes, int_rem_euclid}
+use Rattle.std.specs.Int.{Width, w64, cast_unsigned, bit_at, from_le_bytes, int_rem_euclid}
 use Rattle.linker_base.specs.Bits.{signed}
 
 -- What stands at a place: the value's bit, that bit ORed to the old one, or 0.
@@ -58,6 +58,26 @@ is_placed places w = list_any (λ (p : Place). p.word == w) places
 pub record IsLaid (places : List Place) (v before after : ℕ) : Type 0 where
   pub placed : All (λ (p : Place). bit_at after p.word ≡ placed_bit p.mark (bit_for p v) (bit_at before p.word)) places
   pub kept : (w : ℕ) → is_placed places w ≡ false → bit_at after w ≡ bit_at before w
+
+-- a place that holds a bit of the value
+abbrev pub holds : Mark → Bool
+holds replaced = true
+holds ored = true
+holds cleared = false
+
+-- p is the place of value bit k
+abbrev pub is_of : Place → ℕ → Bool
+is_of p k = holds p.mark && p.value == k
+
+-- value bit k has a place
+abbrev pub has_value : List Place → ℕ → Bool
+has_value [] k = false
+has_value (p ∷ ps) k = is_of p k || has_value ps k
+
+-- no value bit has two places
+abbrev pub values_apart : List Place → Bool
+values_apart [] = true
+values_apart (p ∷ ps) = not (holds p.mark && has_value ps p.value) && values_apart ps
 
 -- 2 ^ k times the window's bit at a place of value bit k, and 0 at one that is only cleared
 abbrev pub worth : Mark → ℕ → ℕ → ℕ
@@ -127,6 +147,12 @@ Written form v neg before after =
 abbrev pub MachineReads : Form → ℕ → Bool → ℕ → ℕ → Type 0
 MachineReads form v neg before after =
     IsClear (form.places before) before → IsSameBy form.modulus (form.machine after) (form.wanted neg before v)
+
+-- The value and the flag are those that reading the window answers, the value cut to the form's width.
+pub record IsReadBack (form : Form) (v : ℕ) (neg : Bool) (before : ℕ) : Type 0 where
+  pub restores : IsTrue (form.restores before)
+  pub value : v ≡ cast_unsigned w64 (form.reading before) % 2 ^ form.width before
+  pub flag : neg ≡ form.flag before
 
 -- A form whose machine reads n bits, those of the value from bit `low` up, in two's complement.
 abbrev pub signed_immediate : Width → ℕ → ℕ → List Place → Form
