@@ -1,11 +1,45 @@
-//! Words and texts of bytes.
-ghost use Rattle.std.specs.Prelude.{◌≡◌, ◌≤◌, length, take};
-ghost use Rattle.std.specs.Int.{from_le_bytes, w32};
+//! Words, masks and readers of bytes.
+ghost use Rattle.std.specs.Prelude.{◌≡◌, ◌≤◌, length, drop, slice_index, EachIndex, bit_and, bit_or};
+ghost use Rattle.std.specs.Int.{from_le_bytes, w32, w64};
 
 /// The little-endian number of the first four bytes.
 pub fn u32_from_slice(data: &[u8]) -> u32
-    requires { 4 ≤ length data.now }
-    ensures { result ≡ from_le_bytes w32 data.now }
+    requires { 4 ≤ length «data».now }
+    ensures { result ≡ from_le_bytes w32 «data».now }
 {
     u32::from_le_bytes([data[0], data[1], data[2], data[3]])
+}
+
+/// The little-endian number of the first eight bytes.
+pub fn u64_from_slice(data: &[u8]) -> u64
+    requires { 8 ≤ length «data».now }
+    ensures { result ≡ from_le_bytes w64 «data».now }
+{
+    u64::from_le_bytes([
+        data[0], data[1], data[2], data[3], data[4], data[5], data[6], data[7],
+    ])
+}
+
+/// Sets in `dest` each bit that is set in the mask. The bytes past the mask's length stay.
+pub fn or_from_slice(dest: &mut [u8], mask_bytes: &[u8])
+    requires { length mask_bytes.now ≤ length dest.old }
+    ensures masked { EachIndex mask_bytes.now (λ k.
+        slice_index dest.new k ≡ bit_or (slice_index dest.old k) (slice_index mask_bytes.now k)) }
+    ensures rest { drop (length mask_bytes.now) dest.new ≡ drop (length mask_bytes.now) dest.old }
+{
+    for (i, mask) in mask_bytes.iter().enumerate() {
+        dest[i] |= *mask;
+    }
+}
+
+/// Clears in `dest` each bit that is clear in the mask. The bytes past the mask's length stay.
+pub fn and_from_slice(dest: &mut [u8], mask_bytes: &[u8])
+    requires { length mask_bytes.now ≤ length dest.old }
+    ensures masked { EachIndex mask_bytes.now (λ k.
+        slice_index dest.new k ≡ bit_and (slice_index dest.old k) (slice_index mask_bytes.now k)) }
+    ensures rest { drop (length mask_bytes.now) dest.new ≡ drop (length mask_bytes.now) dest.old }
+{
+    for (i, mask) in mask_bytes.iter().enumerate() {
+        dest[i] &= *mask;
+    }
 }
