@@ -1,1 +1,3 @@
 pub mod Bits
+pub mod Faults
+pub mod Uleb

@@ -1,6 +1,16 @@
 //! Words, masks and readers of bytes.
-ghost use Rattle.std.specs.Prelude.{◌≡◌, ◌≤◌, length, drop, slice_index, EachIndex, bit_and, bit_or};
+ghost use Rattle.std.specs.Prelude.{◌≡◌, ℕ, ◌<◌, ◌≤◌, ◌==◌, ◌⊎◌, List, length, drop, slice_index, EachIndex, bit_and, bit_or, codes, Contains, IsErr, IfOk, OnOk, OnErr};
 ghost use Rattle.std.specs.Int.{from_le_bytes, w32, w64};
+ghost use Rattle.std.specs.List.{before_first, after_first};
+ghost use Rattle.std.specs.Str.{encode_utf8_all};
+ghost use Rattle.std.specs.String.{string_bytes};
+ghost use Rattle.bstr.specs.Utf8.{lossy_chars};
+ghost use Rattle.linker_base.specs.Faults.{FailsExactly};
+ghost use Rattle.linker_base.specs.Uleb.{Uleb, UlebEnded, UlebTooLarge, HasOneReading};
+
+use anyhow::{Result, anyhow, bail, ensure};
+use bstr::ByteSlice;
+use std::alloc::Global;
 
 /// The little-endian number of the first four bytes.
 pub fn u32_from_slice(data: &[u8]) -> u32
@@ -42,4 +52,19 @@ pub fn and_from_slice(dest: &mut [u8], mask_bytes: &[u8])
     for (i, mask) in mask_bytes.iter().enumerate() {
         dest[i] &= *mask;
     }
+}
+
+/// Takes a little-endian number of four bytes off the front of the content. With fewer than four
+/// bytes it fails, and the content stays.
+pub fn read_u32(content: &mut &[u8]) -> Result<u32>
+    ensures value { IfOk result (λ n. n ≡ from_le_bytes w32 content.old.now) }
+    ensures rest { OnOk result (content.new.now ≡ drop 4 content.old.now) }
+    ensures short { FailsExactly (codes "Not enough bytes to read u32") (length content.old.now < 4) result }
+    ensures refused { OnErr result (length content.old.now < 4) }
+    ensures unchanged { OnErr result (content.new.now ≡ content.old.now) }
+{
+    let bytes: &[u8] = *content;
+    ensure!(bytes.len() >= 4, "Not enough bytes to read u32");
+    *content = &bytes[4..];
+    Ok(u32_from_slice(bytes))
 }
