@@ -68,3 +68,36 @@ pub fn read_u32(content: &mut &[u8]) -> Result<u32>
     *content = &bytes[4..];
     Ok(u32_from_slice(bytes))
 }
+
+/// Takes a ULEB128 number off the front of the content: seven bits a byte, the lowest first, and
+/// each byte but the last is at least 0x80. It takes ten bytes at most, and the tenth is 0 or 1;
+/// zeros that only pad are accepted. It fails with "ended" where the content ends first, and with
+/// "too large" where the tenth byte isn't 0 or 1. The content then stays.
+pub fn read_uleb128(content: &mut &[u8]) -> Result<u64>
+    ensures number { IfOk result (λ n. Uleb content.old.now n content.new.now) }
+    ensures accepted { (n : ℕ) (rest : List ℕ) → Uleb content.old.now n rest → (result ≡ Ok n) × (content.new.now ≡ rest) }
+
+    ensures ended { FailsExactly (codes "Failed to read ULEB128 value: ended") (UlebEnded content.old.now) result }
+    ensures too_large { FailsExactly (codes "Failed to read ULEB128 value: too large") (UlebTooLarge content.old.now) result }
+    ensures refused { OnErr result (UlebEnded content.old.now ⊎ UlebTooLarge content.old.now) }
+    ensures unchanged { OnErr result (content.new.now ≡ content.old.now) }
+{
+    let bytes: &[u8] = *content;
+    let mut value = 0;
+    for (i, byte) in bytes.iter().enumerate() {
+        if i == 9 && *byte > 1 {
+            bail!("Failed to read ULEB128 value: too large");
+        }
+        value |= u64::from(*byte & 0x7f) << (7 * i as u64);
+        if *byte < 0x80 {
+            *content = &bytes[i + 1..];
+            return Ok(value);
+        }
+    }
+    bail!("Failed to read ULEB128 value: ended");
+}
+
+/// Bytes begin with one ULEB128 number at most, and one rest follows it.
+pub fn uleb128_has_one_reading()
+    ensures { HasOneReading }
+{}
