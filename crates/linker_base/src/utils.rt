@@ -1,16 +1,16 @@
 //! Words, masks and readers of bytes.
 ghost use Rattle.std.specs.Prelude.{◌≡◌, ℕ, ◌<◌, ◌≤◌, ◌==◌, ◌⊎◌, List, length, drop, slice_index, EachIndex, bit_and, bit_or, codes, Contains, IsErr, IfOk, OnOk, OnErr};
 ghost use Rattle.std.specs.Int.{from_le_bytes, w32, w64};
-ghost use Rattle.std.specs.List.{before_first, after_first};
 ghost use Rattle.std.specs.Str.{encode_utf8_all};
 ghost use Rattle.std.specs.String.{string_bytes};
 ghost use Rattle.bstr.specs.Utf8.{lossy_chars};
 ghost use Rattle.linker_base.specs.Faults.{FailsExactly};
+ghost use Rattle.linker_base.specs.Text.{text_before_nul, after_nul};
 ghost use Rattle.linker_base.specs.Uleb.{Uleb, UlebEnded, UlebTooLarge, HasOneReading};
 
-use anyhow::{Result, anyhow, bail, ensure};
+use anyhow::{Result, bail, ensure};
 use bstr::ByteSlice;
-use std::alloc::Global;
+use std::alloc::{AllocError, Global};
 
 /// The little-endian number of the first four bytes.
 pub fn u32_from_slice(data: &[u8]) -> u32
@@ -67,6 +67,35 @@ pub fn read_u32(content: &mut &[u8]) -> Result<u32>
     ensure!(bytes.len() >= 4, "Not enough bytes to read u32");
     *content = &bytes[4..];
     Ok(u32_from_slice(bytes))
+}
+
+/// Takes the bytes up to the first NUL off the front of the content, and the NUL, and makes text of
+/// those before it: U+FFFD stands for each piece that is not UTF-8. With no NUL it fails, and so it
+/// does where memory runs out. The content then stays.
+pub fn read_string(alloc: Global, content: &mut &[u8]) -> Result<String>
+    ensures text { IfOk result (λ text. string_bytes text ≡ text_before_nul content.old.now) }
+    ensures rest { OnOk result (content.new.now ≡ after_nul content.old.now) }
+
+    ensures no_nul { FailsExactly (codes "No null terminator found in string") (¬ Contains content.old.now 0) result }
+    // only a fault for want of memory is left where there is a NUL
+    ensures memory { FailsExactly (codes "Out of memory") (Contains content.old.now 0 × IsErr result) result }
+    ensures unchanged { OnErr result (content.new.now ≡ content.old.now) }
+{
+    let bytes: &[u8] = *content;
+    let Some(end) = bytes.find_byte(0) else {
+        bail!("No null terminator found in string");
+    };
+    let Ok(text) = lossy_text(alloc, &bytes[..end]) else {
+        bail!("Out of memory");
+    };
+    *content = &bytes[end + 1..];
+    Ok(text)
+}
+
+fn lossy_text(alloc: Global, bytes: &[u8]) -> Result<String, AllocError>
+    ensures { IfOk result (λ text. string_bytes text ≡ encode_utf8_all (lossy_chars bytes.now)) }
+{
+    bytes.to_str_lossy(alloc)?.into_owned(alloc)
 }
 
 /// Takes a ULEB128 number off the front of the content: seven bits a byte, the lowest first, and
