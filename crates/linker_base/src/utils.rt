@@ -130,3 +130,112 @@ pub fn read_uleb128(content: &mut &[u8]) -> Result<u64>
 pub fn uleb128_has_one_reading()
     ensures { HasOneReading }
 {}
+
+#[cfg(test)]
+mod tests {
+    use super::*;
+    use std::test::Fail;
+
+    #[test]
+    fn takes_words_lowest_byte_first(rt: HostRuntime) -> Result<(), Fail> {
+        let bytes = [1, 2, 3, 4, 5, 6, 7, 0x88, 9];
+        assert_eq!(rt; u32_from_slice(&bytes), 0x0403_0201);
+        assert_eq!(rt; u64_from_slice(&bytes), 0x8807_0605_0403_0201);
+
+        let mut content: &[u8] = &[1, 2, 3, 4, 5];
+        assert_eq!(rt; read_u32(&mut content)?, 0x0403_0201);
+        assert_eq!(rt; content, [5].as_slice());
+
+        let mut short: &[u8] = &[1, 2, 3];
+        let fault = read_u32(&mut short).expect_err(&rt, "three bytes");
+        assert_eq!(rt;
+            fault.to_string(rt.alloc())?.as_str(),
+            "Not enough bytes to read u32"
+        );
+        assert_eq!(rt; short, [1, 2, 3].as_slice());
+        Ok(())
+    }
+
+    #[test]
+    fn masks_the_bytes_below_the_length_of_the_mask(rt: HostRuntime) {
+        let mut dest = [0x0f, 0x30, 0x55];
+        or_from_slice(&mut dest, &[0x81, 0x02]);
+        assert_eq!(rt; dest, [0x8f, 0x32, 0x55]);
+        and_from_slice(&mut dest, &[0x7f, 0xf0]);
+        assert_eq!(rt; dest, [0x0f, 0x30, 0x55]);
+    }
+
+    #[test]
+    fn reads_uleb128_of_ten_bytes_at_most(rt: HostRuntime) -> Result<(), Fail> {
+        let read: [(&[u8], u64, &[u8]); 6] = [
+            (b"\xe5\x8e\x26", 624485, b""),
+            (b"\xe5\x8e\x26\x07", 624485, b"\x07"),
+            (b"\x80\x00", 0, b""),
+            (b"\x80\x80\x80\x80\x80\x80\x80\x80\x80\x00", 0, b""),
+            (b"\x80\x80\x80\x80\x80\x80\x80\x80\x80\x01", 1 << 63, b""),
+            (
+                b"\xff\xff\xff\xff\xff\xff\xff\xff\xff\x01\x80",
+                u64::MAX,
+                b"\x80",
+            ),
+        ];
+        for (bytes, number, rest) in read {
+            let mut content = bytes;
+            assert_eq!(rt; read_uleb128(&mut content)?, number, "of {bytes:?}");
+            assert_eq!(rt; content, rest, "after {bytes:?}");
+        }
+
+        let ended = "Failed to read ULEB128 value: ended";
+        let too_large = "Failed to read ULEB128 value: too large";
+        let refused: [(&[u8], &str); 5] = [
+            (b"", ended),
+            (b"\x80", ended),
+            (b"\x80\x80\x80\x80\x80\x80\x80\x80\x80", ended),
+            (b"\x80\x80\x80\x80\x80\x80\x80\x80\x80\x80", too_large),
+            (b"\xff\xff\xff\xff\xff\xff\xff\xff\xff\x02", too_large),
+        ];
+        for (bytes, text) in refused {
+            let mut content = bytes;
+            let fault = read_uleb128(&mut content).expect_err(&rt, "no number");
+            assert_eq!(rt; fault.to_string(rt.alloc())?.as_str(), text, "of {bytes:?}");
+            assert_eq!(rt; content, bytes);
+        }
+        Ok(())
+    }
+
+    #[test]
+    fn reads_the_text_before_a_nul(rt: HostRuntime) -> Result<(), Fail> {
+        let read: [(&[u8], &str, &[u8]); 3] = [
+            (b"a\0b", "a", b"b"),
+            (b"a\xffb\0c", "a\u{fffd}b", b"c"),
+            (b"\0", "", b""),
+        ];
+        for (bytes, text, rest) in read {
+            let mut content = bytes;
+            assert_eq!(rt; read_string(rt.alloc(), &mut content)?.as_str(), text);
+            assert_eq!(rt; content, rest);
+        }
+
+        let mut content: &[u8] = b"ab";
+        let fault = read_string(rt.alloc(), &mut content).expect_err(&rt, "no NUL");
+        assert_eq!(rt;
+            fault.to_string(rt.alloc())?.as_str(),
+            "No null terminator found in string"
+        );
+        assert_eq!(rt; content, b"ab".as_slice());
+        Ok(())
+    }
+
+    // A run in which one allocation fails meets the refusal.
+    #[test]
+    fn a_refused_growth_leaves_the_content(rt: HostRuntime) -> Result<(), Fail> {
+        let mut content: &[u8] = b"a\0b";
+        if let Err(fault) = read_string(rt.alloc(), &mut content) {
+            assert_eq!(rt; fault.to_string(rt.alloc())?.as_str(), "Out of memory");
+            assert_eq!(rt; content, b"a\0b".as_slice());
+            assert_eq!(rt; read_string(rt.alloc(), &mut content)?.as_str(), "a");
+        }
+        assert_eq!(rt; content, b"b".as_slice());
+        Ok(())
+    }
+}
