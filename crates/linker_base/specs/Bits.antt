@@ -1,7 +1,7 @@
--- Fields of a number's bits. One bit is std's `bit_at n k`, which is `n / 2 ^ k % 2`.
-use Rattle.std.specs.Prelude.{ℕ, ◌-◌, ◌/◌, ◌%◌, ◌^◌, ℤ, pos, ◌-ℤ◌, nat_lt, if◌then◌else◌}
+-- Runs of bits of a number, and numbers in two's complement.
+use Rattle.std.specs.Prelude.{ℕ, ℤ, pos, ◌-◌, ◌/◌, ◌%◌, ◌^◌, ◌-ℤ◌, nat_lt, if◌then◌else◌}
 
--- the number in bits s and up, below bit e, of v
+-- bits s and up, below bit e, of v
 abbrev pub field : ℕ → ℕ → ℕ → ℕ
 field v s e = v / 2 ^ s % 2 ^ (e - s)
 
