@@ -4,8 +4,8 @@ use Rattle.std.specs.Int.{bit_at, int_rem_euclid, w64, cast_unsigned}
 use Rattle.std.proofs.lemmas.Bool.{cond_both, cases_lt, lt-ltb, le-ltb, le-leb, lt-leb}
 use Rattle.std.proofs.lemmas.Int.{ints, int_rem_euclid_is}
 use Rattle.std.proofs.lemmas.Nat.{pow_pos, pow-add, mod_low, shr-shr, shr_split, div-add-mod', mod_below, mod-pow-add, shl-shr}
-use Rattle.std.proofs.lemmas.Nat.Bits.{bit_at-zero, bit_at_cat_low, bit_at_cat_high, bit_at_above}
-use Rattle.linker_base.specs.Bits.{signed}
+use Rattle.std.proofs.lemmas.Nat.Bits.{same_from_bits, bit_at-zero, bit_at_cat_low, bit_at_cat_high, bit_at_above}
+use Rattle.linker_base.specs.Bits.{field, signed}
 
 pub bit_at_mod : (x n j : ℕ) → j < n → bit_at (x % 2 ^ n) j ≡ bit_at x j
 bit_at_mod x n j h = sym (bit_at_cat_low (x / 2 ^ n) n (x % 2 ^ n) j h) ∙ ap (λ y. bit_at y j) (div-add-mod' x (2 ^ n))
@@ -83,3 +83,12 @@ aligned_rem x low n h =
     let whole : x - x % 2 ^ low ≡ x / 2 ^ low * 2 ^ low = omega (arith, shr_split x low) in
     let apart : n ≡ (n - low) + low = omega arith in
     ap (λ y. y % 2 ^ n) whole ∙ ap (λ k. x / 2 ^ low * 2 ^ low % 2 ^ k) apart ∙ shl_rem (x / 2 ^ low) low (n - low)
+
+-- ---- fields and distances
+
+pub same_fields : (x y s e : ℕ) → ((w : ℕ) → s ≤ w → w < e → bit_at x w ≡ bit_at y w) → field x s e ≡ field y s e
+same_fields x y s e h =
+    same_from_bits (field x s e) (field y s e) (λ j. elim (cases_lt j (e - s)) [
+      inl inside ↦ bit_at_run x s (e - s) j inside ∙ h (s + j) (omega arith) (omega arith) ∙ sym (bit_at_run y s (e - s) j inside)
+    | inr above ↦ bit_at_mod_above (x / 2 ^ s) (e - s) j above ∙ sym (bit_at_mod_above (y / 2 ^ s) (e - s) j above)
+    ])

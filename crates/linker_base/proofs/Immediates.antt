@@ -1,13 +1,13 @@
 -- The laws of forms: what the machine reads after a write, and that writing back what was read changes nothing.
 use Rattle.std.proofs.Common.{◌≡◌, ℕ, ◌+◌, ◌-◌, ◌*◌, ◌/◌, ◌%◌, ◌^◌, ◌<◌, ◌≤◌, Bool, true, false, not, ◌&&◌, ltb, leb, eqb, List, [], ◌∷◌, refl, sym, ◌∙◌, ap, subst, arith, get_or, inl, inr, cond, pos}
 use Rattle.std.specs.Int.{bit_at, int_rem_euclid, w64, cast_unsigned, Width}
-use Rattle.std.specs.List.{All}
+use Rattle.std.specs.List.{All, list_all}
 use Rattle.std.proofs.lemmas.Bool.{agree_below, agree_below_at, and_parts, or_parts, or_cases, eqb-true, ltb-true, leb-true, cases_lt, cases_Bool, le-ltb, or_from, and_right, and_from, ne_eqb, eqb-false, eq-eqb, cond-true, cond-false, not-true}
 use Rattle.std.proofs.lemmas.List.Elements.{All-nil, All-cons, All-head, All-tail}
 use Rattle.std.proofs.lemmas.Nat.{pow_pos, mod_below}
 use Rattle.std.proofs.lemmas.Nat.Bits.{same_from_bits}
 use Rattle.linker_base.specs.Bits.{signed}
-use Rattle.linker_base.specs.Form.{holds, is_of, has_value, values_apart, Mark, replaced, ored, cleared, Place, IsLaid, is_placed, placed_bit, bit_for, place_sum, IsClear, Written, MachineReads, IsReadBack, signed_immediate}
+use Rattle.linker_base.specs.Form.{is_clear_at, holds, is_of, has_value, values_apart, Mark, replaced, ored, cleared, Place, IsLaid, is_placed, placed_bit, bit_for, place_sum, IsClear, Written, MachineReads, IsReadBack, signed_immediate}
 use Rattle.linker_base.proofs.Places.{value_bit, adds, value_bit_none, bit_at-place_sum, value_bit_laid}
 use Rattle.linker_base.proofs.Fields.{mod_mod, bit_at_window, bit_at_mod, bit_at_mod_above, signed_rem, signed_bits, aligned_rem}
 
@@ -190,3 +190,24 @@ signed_restored w n low ps v neg before after s h laid back =
             ∙ mod_mod (cast_unsigned w64 (signed n (place_sum ps before))) 64 n s.fits
             ∙ signed_bits n (place_sum ps before) (place_sum_below ps n before apart s.below) s.fits)
         laid
+
+-- ---- no place is only ORed
+
+abbrev pub is_not_ored : Mark → Bool
+is_not_ored replaced = true
+is_not_ored ored = false
+is_not_ored cleared = true
+
+abbrev pub none_ored : List Place → Bool
+none_ored ps = list_all (λ (p : Place). is_not_ored p.mark) ps
+
+clear_at : (m : Mark) (b : ℕ) → is_not_ored m ≡ true → is_clear_at m b ≡ true
+clear_at replaced b h = refl
+clear_at ored b h = cc
+clear_at cleared b h = refl
+
+pub always_clear : (ps : List Place) (x : ℕ) → none_ored ps ≡ true → IsClear ps x
+always_clear [] x h = All-nil (λ (p : Place). is_clear_at p.mark (bit_at x p.word) ≡ true)
+always_clear (p ∷ ps) x h =
+    let parts = and_parts (is_not_ored p.mark) (none_ored ps) h in
+    All-cons (λ (q : Place). is_clear_at q.mark (bit_at x q.word) ≡ true) p ps (clear_at p.mark (bit_at x p.word) parts.0) (always_clear ps x parts.1)
