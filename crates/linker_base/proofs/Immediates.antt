@@ -4,10 +4,11 @@ use Rattle.std.specs.Int.{bit_at, int_rem_euclid, w64, cast_unsigned, Width}
 use Rattle.std.specs.List.{All, list_all}
 use Rattle.std.proofs.lemmas.Bool.{agree_below, agree_below_at, and_parts, or_parts, or_cases, eqb-true, ltb-true, leb-true, cases_lt, cases_Bool, le-ltb, or_from, and_right, and_from, ne_eqb, eqb-false, eq-eqb, cond-true, cond-false, not-true}
 use Rattle.std.proofs.lemmas.List.Elements.{All-nil, All-cons, All-head, All-tail}
-use Rattle.std.proofs.lemmas.Nat.{pow_pos, mod_below}
+use Rattle.std.proofs.lemmas.Nat.{pow_pos, pow_below, mod_below}
 use Rattle.std.proofs.lemmas.Nat.Bits.{same_from_bits}
+use Rattle.std.proofs.Math.Nat.{mod-eq_of_lt}
 use Rattle.linker_base.specs.Bits.{signed}
-use Rattle.linker_base.specs.Form.{is_clear_at, holds, is_of, has_value, values_apart, Mark, replaced, ored, cleared, Place, IsLaid, is_placed, placed_bit, bit_for, place_sum, IsClear, Written, MachineReads, IsReadBack, signed_immediate}
+use Rattle.linker_base.specs.Form.{is_clear_at, holds, is_of, has_value, values_apart, Mark, replaced, ored, cleared, Place, IsLaid, is_placed, placed_bit, bit_for, place_sum, IsClear, Written, MachineReads, IsReadBack, field_form, number_of, Sign, unsigned, twos_complement, Claim, exactly, modulo}
 use Rattle.linker_base.proofs.Places.{value_bit, adds, value_bit_none, bit_at-place_sum, value_bit_laid}
 use Rattle.linker_base.proofs.Fields.{mod_mod, bit_at_window, bit_at_mod, bit_at_mod_above, signed_rem, signed_bits, aligned_rem}
 
@@ -135,41 +136,35 @@ restored n r ps v before after apart below held u e laid =
             below held u (own_bits ps before apart held) laid.placed)
         laid.kept
 
--- ---- forms of one signed field
+-- ---- forms of one field
 
--- what `signed_immediate` asks of its numbers and places: the runs fill bits low to n, each place holds a bit of the value
-abbrev pub is_sound_immediate : ℕ → ℕ → List Place → Bool
-is_sound_immediate n low ps = leb low n && (leb n 64 && (fills low n ps && (values_below n ps && (all_hold ps && adds 0 ps))))
+-- what `field_form` asks of its numbers and places: they hold value bits low up, below n, each once, and nothing else; the
+-- value has n bits, or every value is written
+abbrev pub is_sound_field : ℕ → ℕ → ℕ → List Place → Bool
+is_sound_field width n low ps =
+    leb low n && (leb n width && (leb width 64 && (fills low n ps && (values_below n ps && (all_hold ps && adds 0 ps)))))
 
-pub record IsSoundImmediate (n low : ℕ) (ps : List Place) : Type 0 where
+pub record IsSoundField (width n low : ℕ) (ps : List Place) : Type 0 where
   pub ordered : low ≤ n
-  pub fits : n ≤ 64
+  pub within : n ≤ width
+  pub fits : width ≤ 64
   pub filled : fills low n ps ≡ true
   pub below : values_below n ps ≡ true
   pub held : all_hold ps ≡ true
   pub unadded : adds 0 ps ≡ true
 
-pub sound_immediate : (n low : ℕ) (ps : List Place) → is_sound_immediate n low ps ≡ true → IsSoundImmediate n low ps
-sound_immediate n low ps h =
-    let a = and_parts (leb low n) (leb n 64 && (fills low n ps && (values_below n ps && (all_hold ps && adds 0 ps)))) h in
-    let b = and_parts (leb n 64) (fills low n ps && (values_below n ps && (all_hold ps && adds 0 ps))) a.1 in
-    let c = and_parts (fills low n ps) (values_below n ps && (all_hold ps && adds 0 ps)) b.1 in
-    let d = and_parts (values_below n ps) (all_hold ps && adds 0 ps) c.1 in
-    let e = and_parts (all_hold ps) (adds 0 ps) d.1 in
-    record { ordered = leb-true low n a.0; fits = leb-true n 64 b.0; filled = c.0; below = d.0; held = e.0; unadded = e.1 }
+pub sound_field : (width n low : ℕ) (ps : List Place) → is_sound_field width n low ps ≡ true → IsSoundField width n low ps
+sound_field width n low ps h =
+    let a = and_parts (leb low n) (leb n width && (leb width 64 && (fills low n ps && (values_below n ps && (all_hold ps && adds 0 ps))))) h in
+    let b = and_parts (leb n width) (leb width 64 && (fills low n ps && (values_below n ps && (all_hold ps && adds 0 ps)))) a.1 in
+    let c = and_parts (leb width 64) (fills low n ps && (values_below n ps && (all_hold ps && adds 0 ps))) b.1 in
+    let d = and_parts (fills low n ps) (values_below n ps && (all_hold ps && adds 0 ps)) c.1 in
+    let e = and_parts (values_below n ps) (all_hold ps && adds 0 ps) d.1 in
+    let f = and_parts (all_hold ps) (adds 0 ps) e.1 in
+    record { ordered = leb-true low n a.0; within = leb-true n width b.0; fits = leb-true width 64 c.0; filled = d.0; below = e.0; held = f.0; unadded = f.1 }
 
 whole : (v : ℕ) → v < 2 ^ 64 → (v + 0) % 2 ^ 64 ≡ v
 whole v h = omega arith
-
-pub signed_machine : (w : Width) (n low : ℕ) (ps : List Place) (v : ℕ) (neg : Bool) (before after : ℕ) → IsSoundImmediate n low ps → v < 2 ^ 64
-    → Written (signed_immediate w n low ps) v neg before after → MachineReads (signed_immediate w n low ps) v neg before after
-signed_machine w n low ps v neg before after s h laid clear =
-    let field = v / 2 ^ low % 2 ^ (n - low) * 2 ^ low in
-    let same : place_sum ps after ≡ field =
-        place_sum_laid low n 0 ps v before after s.fits s.filled s.unadded laid clear ∙ ap (λ y. y / 2 ^ low % 2 ^ (n - low) * 2 ^ low) (whole v h) in
-    let aligned : (v - v % 2 ^ low) % 2 ^ n ≡ field = aligned_rem v low n s.ordered in
-    let small : field < 2 ^ n = subst (λ y. y < 2 ^ n) aligned (mod_below (v - v % 2 ^ low) (2 ^ n) (pow_pos n)) in
-    ap (λ y. int_rem_euclid (signed n y) (pos (2 ^ n))) same ∙ signed_rem n field small ∙ sym (ap pos aligned)
 
 pub place_sum_below : (ps : List Place) (n x : ℕ) → values_apart ps ≡ true → values_below n ps ≡ true → place_sum ps x < 2 ^ n
 place_sum_below ps n x a b =
@@ -181,15 +176,65 @@ place_sum_below ps n x a b =
         ]) in
     subst (λ y. y < 2 ^ n) (sym same) (mod_below (place_sum ps x) (2 ^ n) (pow_pos n))
 
-pub signed_restored : (w : Width) (n low : ℕ) (ps : List Place) (v : ℕ) (neg : Bool) (before after : ℕ) → IsSoundImmediate n low ps → v < 2 ^ 64
-    → Written (signed_immediate w n low ps) v neg before after → IsReadBack (signed_immediate w n low ps) v neg before → after ≡ before
-signed_restored w n low ps v neg before after s h laid back =
-    let apart = values_apart_fills low n ps s.filled in
-    restored n 0 ps v before after apart s.below s.held s.unadded
-        (ap (λ y. y % 2 ^ n) (whole v h ∙ back.value)
-            ∙ mod_mod (cast_unsigned w64 (signed n (place_sum ps before))) 64 n s.fits
-            ∙ signed_bits n (place_sum ps before) (place_sum_below ps n before apart s.below) s.fits)
-        laid
+-- either sign reads a number of n bits modulo 2 ^ n
+number_rem : (s : Sign) (n f : ℕ) → f < 2 ^ n → int_rem_euclid (number_of s n f) (pos (2 ^ n)) ≡ pos f
+number_rem unsigned n f h = ap pos (mod-eq_of_lt h)
+number_rem twos_complement n f h = signed_rem n f h
+
+number_bits : (s : Sign) (n f : ℕ) → f < 2 ^ n → n ≤ 64 → cast_unsigned w64 (number_of s n f) % 2 ^ n ≡ f
+number_bits unsigned n f h l = mod-eq_of_lt h
+number_bits twos_complement n f h l = signed_bits n f h l
+
+module _ (w : Width) (width n low : ℕ) (read : Sign) (flags : Bool) (machine : Sign) (ps : List Place) (sound : IsSoundField width n low ps) where
+  short : n ≤ 64
+  short = let a = sound.within in let b = sound.fits in omega arith
+
+  -- the number at the places after a write
+  laid_field : (v before after : ℕ) → v < 2 ^ 64 → IsLaid ps v before after → IsClear ps before → place_sum ps after ≡ (v - v % 2 ^ low) % 2 ^ n
+  laid_field v before after h laid clear =
+      place_sum_laid low n 0 ps v before after short sound.filled sound.unadded laid clear
+          ∙ ap (λ y. y / 2 ^ low % 2 ^ (n - low) * 2 ^ low) (whole v h)
+          ∙ sym (aligned_rem v low n sound.ordered)
+
+  -- modulo 2 ^ n the machine reads the value
+  pub field_machine : (v : ℕ) (neg : Bool) (before after : ℕ) → v < 2 ^ 64
+      → Written (field_form w width n low read flags machine (modulo n) ps) v neg before after
+      → MachineReads (field_form w width n low read flags machine (modulo n) ps) v neg before after
+  field_machine v neg before after h laid clear =
+      let same = laid_field v before after h laid clear in
+      let small : (v - v % 2 ^ low) % 2 ^ n < 2 ^ n = mod_below (v - v % 2 ^ low) (2 ^ n) (pow_pos n) in
+      ap (λ y. int_rem_euclid (number_of machine n y) (pos (2 ^ n))) same ∙ number_rem machine n ((v - v % 2 ^ low) % 2 ^ n) small
+
+  pub field_restored : (claim : Claim) (v : ℕ) (neg : Bool) (before after : ℕ) → v < 2 ^ 64
+      → Written (field_form w width n low read flags machine claim ps) v neg before after
+      → IsReadBack (field_form w width n low read flags machine claim ps) v neg before → after ≡ before
+  field_restored claim v neg before after h laid back =
+      let apart = values_apart_fills low n ps sound.filled in
+      let sum = place_sum ps before in
+      restored n 0 ps v before after apart sound.below sound.held sound.unadded
+          (ap (λ y. y % 2 ^ n) (whole v h ∙ back.value)
+              ∙ mod_mod (cast_unsigned w64 (number_of read n sum)) width n sound.within
+              ∙ number_bits read n sum (place_sum_below ps n before apart sound.below) short)
+          laid
+
+subst_below : (v n m : ℕ) → v < 2 ^ n → n ≤ m → v < 2 ^ m
+subst_below v n m h l =
+    elim (cases_lt n m) [
+      inl below ↦ omega (arith, pow_below n m below)
+    | inr at ↦ let same : n ≡ m = omega arith in subst (λ k. v < 2 ^ k) same h
+    ]
+
+below_still : (v r m : ℕ) → v < m → v - r < m
+below_still v r m h = omega arith
+
+-- a field of all the value's bits, which the machine reads unsigned, is the value
+pub field_machine_exactly : (w : Width) (n : ℕ) (read : Sign) (flags : Bool) (ps : List Place) → IsSoundField n n 0 ps
+    → (v : ℕ) (neg : Bool) (before after : ℕ) → v < 2 ^ n
+    → Written (field_form w n n 0 read flags unsigned exactly ps) v neg before after
+    → MachineReads (field_form w n n 0 read flags unsigned exactly ps) v neg before after
+field_machine_exactly w n read flags ps sound v neg before after h laid clear =
+    let wide : v < 2 ^ 64 = subst_below v n 64 h sound.fits in
+    ap pos (laid_field w n n 0 read flags unsigned ps sound v before after wide laid clear ∙ mod-eq_of_lt (below_still v (v % 2 ^ 0) (2 ^ n) h))
 
 -- ---- no place is only ORed
 

@@ -1,6 +1,6 @@
 -- Instruction forms: where the bits of a value stand in the bytes of an instruction, and which number the machine reads
 -- there. A form's window is its 2, 4 or 8 bytes as one little-endian number; bit j of its second word is bit 32 + j.
-use Rattle.std.specs.Prelude.{◌≡◌, ℕ, zero, suc, ◌+◌, ◌-◌, ◌*◌, ◌%◌, ◌^◌, ◌<◌, max, Bool, true, false, not, ◌&&◌, ◌||◌, ◌==◌, IsTrue, List, [], ◌∷◌, Option, None, Some, ℤ, pos, int_lt}
+use Rattle.std.specs.Prelude.{◌≡◌, ℕ, zero, suc, ◌+◌, ◌-◌, ◌*◌, ◌%◌, ◌^◌, ◌<◌, max, Bool, true, false, not, ◌&&◌, ◌||◌, ◌==◌, IsTrue, List, [], ◌∷◌, ⊤, ℤ, pos, int_lt}
 use Rattle.std.specs.List.{All, list_any, sum_by}
 use Rattle.std.specs.Int.{Width, w64, cast_unsigned, bit_at, from_le_bytes, int_rem_euclid}
 use Rattle.linker_base.specs.Bits.{signed}
@@ -102,10 +102,16 @@ IsClear places x = All (λ (p : Place). IsTrue (is_clear_at p.mark (bit_at x p.w
 abbrev pub IsSameModulo : ℕ → ℤ → ℤ → Type 0
 IsSameModulo n a b = int_rem_euclid a (pos (2 ^ n)) ≡ int_rem_euclid b (pos (2 ^ n))
 
--- a and b are the same modulo the power of two that is named, or equal where none is
-abbrev pub IsSameBy : Option ℕ → ℤ → ℤ → Type 0
-IsSameBy None a b = a ≡ b
-IsSameBy (Some n) a b = IsSameModulo n a b
+-- How near the machine's number has to come: the same number, the same modulo 2 ^ n, or nothing is claimed of it.
+pub data Claim : Type 0 where
+  exactly : Claim
+  modulo : ℕ → Claim
+  unclaimed : Claim
+
+abbrev pub IsSameBy : Claim → ℤ → ℤ → Type 0
+IsSameBy exactly a b = a ≡ b
+IsSameBy (modulo n) a b = IsSameModulo n a b
+IsSameBy unclaimed a b = ⊤
 
 -- What defines a form.
 pub record Form : Type 0 where
@@ -126,9 +132,9 @@ pub record Form : Type 0 where
   pub restores : ℕ → Bool
   -- the number that the machine reads
   pub machine : ℕ → ℤ
-  -- what it has to be, by the flag, the window before and the value, modulo 2 to the modulus or exactly
+  -- what it has to be after a write, by the flag, the window before and the value, and how near
   pub wanted : Bool → ℕ → ℕ → ℤ
-  pub modulus : Option ℕ
+  pub claim : Claim
 
 -- the number in a form's window, of bytes that begin with it
 abbrev pub window_of : Form → List ℕ → ℕ
@@ -146,7 +152,7 @@ Written form v neg before after =
 -- the machine reads what it has to, where the places that are only ORed held 0
 abbrev pub MachineReads : Form → ℕ → Bool → ℕ → ℕ → Type 0
 MachineReads form v neg before after =
-    IsClear (form.places before) before → IsSameBy form.modulus (form.machine after) (form.wanted neg before v)
+    IsClear (form.places before) before → IsSameBy form.claim (form.machine after) (form.wanted neg before v)
 
 -- The value and the flag are those that reading the window answers, the value cut to the form's width.
 pub record IsReadBack (form : Form) (v : ℕ) (neg : Bool) (before : ℕ) : Type 0 where
@@ -154,19 +160,34 @@ pub record IsReadBack (form : Form) (v : ℕ) (neg : Bool) (before : ℕ) : Type
   pub value : v ≡ cast_unsigned w64 (form.reading before) % 2 ^ form.width before
   pub flag : neg ≡ form.flag before
 
--- A form whose machine reads n bits, those of the value from bit `low` up, in two's complement.
-abbrev pub signed_immediate : Width → ℕ → ℕ → List Place → Form
-signed_immediate w n low ps =
+-- How a field of bits is read: as it stands, or in two's complement.
+pub data Sign : Type 0 where
+  unsigned : Sign
+  twos_complement : Sign
+
+-- the number f of n bits, read so
+abbrev pub number_of : Sign → ℕ → ℕ → ℤ
+number_of unsigned n f = pos f
+number_of twos_complement n f = signed n f
+
+-- Values of `width` bits at places of bits `low` up, below bit n. `read_value` reads their number by one sign, and flags a
+-- number below 0 where `flags`; the machine reads it by another.
+abbrev pub field_form : Width → ℕ → ℕ → ℕ → Sign → Bool → Sign → Claim → List Place → Form
+field_form w width n low read flags machine claim ps =
     record {
       window = w;
-      width = λ _. 64;
+      width = λ _. width;
       places = λ _. ps;
       number = λ _ v. v;
       base = λ _ x. x;
-      reading = λ x. signed n (place_sum ps x);
-      flag = λ x. int_lt (signed n (place_sum ps x)) (pos 0);
+      reading = λ x. number_of read n (place_sum ps x);
+      flag = λ x. flags && int_lt (number_of read n (place_sum ps x)) (pos 0);
       restores = λ _. true;
-      machine = λ x. signed n (place_sum ps x);
+      machine = λ x. number_of machine n (place_sum ps x);
       wanted = λ _ _ v. pos (v - v % 2 ^ low);
-      modulus = Some n;
+      claim = claim;
     }
+
+-- Every value is written; the machine reads n bits, those of the value from bit `low` up, in two's complement.
+abbrev pub signed_immediate : Width → ℕ → ℕ → List Place → Form
+signed_immediate w n low ps = field_form w 64 n low twos_complement true twos_complement (modulo n) ps

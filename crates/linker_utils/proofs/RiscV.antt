@@ -2,8 +2,8 @@
 use Rattle.std.proofs.Common.{◌≡◌, ℕ, ◌^◌, ◌<◌, Bool, true, refl, ap, sym, ◌∙◌, IsTrue, List, ◌++◌, pos, int_lt}
 use Rattle.std.specs.Int.{w32, w64, cast_unsigned, from_le_bytes}
 use Rattle.linker_base.specs.Bits.{signed}
-use Rattle.linker_base.specs.Form.{window_of, Place, Form, IsLaid, bits_to, Written, MachineReads, IsReadBack, place_sum, signed_immediate, values_apart}
-use Rattle.linker_base.proofs.Immediates.{IsSoundImmediate, sound_immediate, signed_machine, signed_restored, place_sum_below}
+use Rattle.linker_base.specs.Form.{window_of, Place, Form, IsLaid, bits_to, Written, MachineReads, IsReadBack, place_sum, twos_complement, modulo}
+use Rattle.linker_base.proofs.Immediates.{IsSoundField, sound_field, field_machine, field_restored, place_sum_below}
 use Rattle.linker_utils.specs.RiscV.{riscv_form}
 use Rattle.linker_utils.specs.declared.elf.RiscVInstruction.{RiscVInstruction}
 use Rattle.linker_utils.specs.declared.elf.RiscVInstruction.TheVariants.{JType}
@@ -11,16 +11,16 @@ use Rattle.linker_utils.specs.declared.elf.RiscVInstruction.TheVariants.{JType}
 abbrev pub jtype_places : List Place
 jtype_places = bits_to 12 19 12 ++ bits_to 11 11 20 ++ bits_to 1 10 21 ++ bits_to 20 20 31
 
-pub jtype_sound : IsSoundImmediate 21 1 jtype_places
-jtype_sound = sound_immediate 21 1 jtype_places refl
+pub jtype_sound : IsSoundField 64 21 1 jtype_places
+jtype_sound = sound_field 64 21 1 jtype_places refl
 
 pub riscv_machine : (f : RiscVInstruction) (v : ℕ) (neg : Bool) (before after : ℕ) → v < 2 ^ 64
     → Written (riscv_form f) v neg before after → MachineReads (riscv_form f) v neg before after
-riscv_machine JType v neg before after h laid = signed_machine w32 21 1 jtype_places v neg before after jtype_sound h laid
+riscv_machine JType v neg before after h laid = field_machine w32 64 21 1 twos_complement true twos_complement jtype_places jtype_sound v neg before after h laid
 
 pub riscv_restored : (f : RiscVInstruction) (v : ℕ) (neg : Bool) (before after : ℕ) → v < 2 ^ 64
     → Written (riscv_form f) v neg before after → IsReadBack (riscv_form f) v neg before → after ≡ before
-riscv_restored JType v neg before after h laid back = signed_restored w32 21 1 jtype_places v neg before after jtype_sound h laid back
+riscv_restored JType v neg before after h laid back = field_restored w32 64 21 1 twos_complement true twos_complement jtype_places jtype_sound (modulo 21) v neg before after h laid back
 
 pub jtype_written : (f : RiscVInstruction) (v : ℕ) (neg : Bool) (before after : List ℕ)
     → IsLaid jtype_places v (from_le_bytes w32 before) (from_le_bytes w32 after) → Written (riscv_form f) v neg (window_of (riscv_form f) before) (window_of (riscv_form f) after)
