@@ -1,6 +1,6 @@
 -- Instruction forms: where the bits of a value stand in the bytes of an instruction, and which number the machine reads
 -- there. A form's window is its 2, 4 or 8 bytes as one little-endian number; bit j of its second word is bit 32 + j.
-use Rattle.std.specs.Prelude.{◌≡◌, ℕ, zero, suc, ◌+◌, ◌-◌, ◌*◌, ◌%◌, ◌^◌, ◌<◌, max, Bool, true, false, not, ◌&&◌, ◌||◌, ◌==◌, IsTrue, List, [], ◌∷◌, ⊤, ℤ, pos, int_lt}
+use Rattle.std.specs.Prelude.{◌≡◌, ℕ, zero, suc, ◌+◌, ◌-◌, ◌*◌, ◌%◌, ◌^◌, ◌<◌, max, Bool, true, false, not, ◌&&◌, ◌||◌, ◌==◌, nat_lt, IsTrue, List, [], ◌∷◌, ⊤, ℤ, pos, int_lt}
 use Rattle.std.specs.List.{All, list_any, sum_by}
 use Rattle.std.specs.Int.{Width, w64, cast_unsigned, bit_at, from_le_bytes, int_rem_euclid}
 use Rattle.linker_base.specs.Bits.{signed}
@@ -78,6 +78,11 @@ has_value (p ∷ ps) k = is_of p k || has_value ps k
 abbrev pub values_apart : List Place → Bool
 values_apart [] = true
 values_apart (p ∷ ps) = not (holds p.mark && has_value ps p.value) && values_apart ps
+
+-- all places are of value bits below bit n
+abbrev pub values_below : ℕ → List Place → Bool
+values_below n [] = true
+values_below n (p ∷ ps) = nat_lt p.value n && values_below n ps
 
 -- 2 ^ k times the window's bit at a place of value bit k, and 0 at one that is only cleared
 abbrev pub worth : Mark → ℕ → ℕ → ℕ

@@ -29,13 +29,13 @@ jtype_written JType v neg before after h = h
 pub jtype_below : (x : ℕ) → place_sum jtype_places x < 2 ^ 21
 jtype_below x = place_sum_below jtype_places 21 x refl refl
 
-pub jtype_number : (f : RiscVInstruction) (number sum x : ℕ) (bytes : List ℕ) → number ≡ cast_unsigned w64 (signed 21 sum) → sum ≡ place_sum jtype_places x → x ≡ from_le_bytes w32 bytes
+pub jtype_number : (f : RiscVInstruction) (number : ℕ) (bytes : List ℕ) → number ≡ cast_unsigned w64 (signed 21 (place_sum jtype_places (from_le_bytes w32 bytes)))
     → number ≡ cast_unsigned w64 ((riscv_form f).reading (window_of (riscv_form f) bytes))
-jtype_number JType number sum x bytes e s w = e ∙ ap (λ y. cast_unsigned w64 (signed 21 y)) (s ∙ ap (place_sum jtype_places) w)
+jtype_number JType number bytes e = e
 
-pub jtype_flag : (f : RiscVInstruction) (flag : Bool) (sum x : ℕ) (bytes : List ℕ) → flag ≡ int_lt (signed 21 sum) (pos 0) → sum ≡ place_sum jtype_places x → x ≡ from_le_bytes w32 bytes
+pub jtype_flag : (f : RiscVInstruction) (flag : Bool) (bytes : List ℕ) → flag ≡ int_lt (signed 21 (place_sum jtype_places (from_le_bytes w32 bytes))) (pos 0)
     → flag ≡ (riscv_form f).flag (window_of (riscv_form f) bytes)
-jtype_flag JType flag sum x bytes e s w = e ∙ ap (λ y. int_lt (signed 21 y) (pos 0)) (s ∙ ap (place_sum jtype_places) w)
+jtype_flag JType flag bytes e = e
 
 pub riscv_window : (f : RiscVInstruction) (bytes : List ℕ) → window_of (riscv_form f) bytes ≡ from_le_bytes w32 bytes
 riscv_window JType bytes = refl

@@ -8,11 +8,12 @@ use Rattle.std.proofs.lemmas.Bool.{and_parts, or_parts, or_left, or_right, or_fr
 use Rattle.std.proofs.lemmas.List.Elements.{All-nil, All-cons, All-append}
 use Rattle.std.proofs.lemmas.List.{take_more, flat_map_more, take-append-drop}
 use Rattle.std.proofs.lemmas.List.Concat.{flat_map-append}
+use Rattle.linker_base.proofs.Immediates.{place_sum_below}
 use Rattle.linker_base.proofs.Places.{values_apart_left, place_sum-append}
 use Rattle.std.proofs.lemmas.List.Sums.{AllPass-from_list_all, sum_by-append, sum_by-cons}
 use Rattle.std.proofs.lemmas.Nat.{pow_pos, pow-add, and_mask, one_shl, shl_whole, mod_below, shl_below, pow_below, mod-pow-add, shr-shr, or_disjoint}
 use Rattle.std.proofs.lemmas.Nat.Bits.{bit_at-lt, bit_at_and, bit_at_or, bit_at_not, bit_at_ones, bit_at_ones_above, bit_at_above, same_from_bits, bit_at-zero}
-use Rattle.linker_base.specs.Form.{holds, values_apart, Mark, replaced, ored, cleared, Place, row, IsLaid, is_placed, placed_bit, bit_for, place_sum, worth}
+use Rattle.linker_base.specs.Form.{holds, values_below, values_apart, Mark, replaced, ored, cleared, Place, row, IsLaid, is_placed, placed_bit, bit_for, place_sum, worth}
 use Rattle.linker_utils.specs.declared.elf.engine.Run.{Run}
 use Rattle.linker_utils.specs.Runs.{run_fits, runs_fit, runs_read, words_below, mark_of, run_places, spread, is_apart, are_apart}
 use Rattle.linker_base.proofs.Fields.{bit_at_mod, bit_at_run, bit_at_shl, bit_at_shl_below, bit_at_mod_above}
@@ -353,3 +354,7 @@ laid_below ps n v x y h laid small =
             laid.kept i (not_placed_above ps n i h above) ∙ bit_at_above x n i small above ∙ sym (bit_at_mod_above y n i above)
         ]) in
     subst (λ t. t < 2 ^ n) (sym same) (mod_below y (2 ^ n) (pow_pos n))
+
+pub read_below : (rs : List Run) (n x number : ℕ) → runs_read rs ≡ true → values_below n (spread rs) ≡ true → number ≡ place_sum (spread rs) x → number < 2 ^ n
+read_below rs n x number h b e =
+    subst (λ y. y < 2 ^ n) (sym e) (place_sum_below (spread rs) n x (and_parts (list_all run_fits rs) (values_apart (spread rs)) h).1 b)

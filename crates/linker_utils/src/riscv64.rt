@@ -1,10 +1,13 @@
 //! RISC-V: relaxation rewrites, and calls that become jumps.
 
-ghost use Rattle.std.specs.Prelude.{◌≡◌, ◌≤◌, ◌<◌, ◌+◌, ◌↔◌, IsTrue, IsOk, OnOk, OnErr, length};
+ghost use Rattle.std.specs.Prelude.{◌≡◌, ◌≤◌, ◌<◌, ◌+◌, ◌↔◌, IsTrue, IsOk, OnOk, OnErr, length, drop};
+ghost use Rattle.std.specs.Int.{byte_len, cast_unsigned, w64};
+ghost use Rattle.linker_base.specs.Form.{window_of, Written, MachineReads, IsReadBack};
 ghost use Rattle.linker_base.specs.Rewrite.{CanRewrite, rewritten, offset_after, addend_after};
-ghost use Rattle.linker_utils.specs.RiscV.{riscv_rewrite, riscv_modifier, IsEven, IsJalDistance, JumpsAt};
+ghost use Rattle.linker_utils.specs.RiscV.{riscv_form, riscv_rewrite, riscv_modifier, IsEven, IsJalDistance, JumpsAt};
 
 use crate::elf::RiscVInstruction;
+use crate::elf::engine::{self, Run, Window, runs};
 use crate::relaxation::RelocationModifier;
 use crate::rewrite::has_window;
 use crate::utils::u32_from_slice;
@@ -132,4 +135,36 @@ pub fn jal_site(section: &mut [u8], site: u64, distance: i64) -> Result<(), Call
     let jal = &mut section[site as usize..];
     RiscVInstruction::JType.write_to_value(distance.cast_unsigned(), distance < 0, jal);
     Ok(())
+}
+
+const J_TYPE: [Run; 4] = runs![(12, 12, 8), (11, 20, 1), (1, 21, 10), (20, 31, 1)];
+
+impl RiscVInstruction {
+    /// Writes a value into the instruction that `dest` begins with, and changes no other bit.
+    /// `negative` plays no part.
+    #[inline]
+    pub fn write_to_value(self, extracted_value: u64, negative: bool, dest: &mut [u8])
+        requires { byte_len (riscv_form self).window ≤ length dest.old }
+        ensures written { Written (riscv_form self) extracted_value negative (window_of (riscv_form self) dest.old) (window_of (riscv_form self) dest.new) }
+        ensures rest { drop (byte_len (riscv_form self).window) dest.new ≡ drop (byte_len (riscv_form self).window) dest.old }
+        ensures machine { MachineReads (riscv_form self) extracted_value negative (window_of (riscv_form self) dest.old) (window_of (riscv_form self) dest.new) }
+        ensures restored { IsReadBack (riscv_form self) extracted_value negative (window_of (riscv_form self) dest.old) → dest.new ≡ dest.old }
+    {
+        match self {
+            RiscVInstruction::JType => engine::write(Window::Four, &J_TYPE, extracted_value, dest),
+        }
+    }
+
+    /// The value in the instruction that `bytes` begins with, sign-extended to 64 bits, and whether
+    /// it is below 0.
+    #[inline]
+    pub fn read_value(self, bytes: &[u8]) -> (u64, bool)
+        requires { byte_len (riscv_form self).window ≤ length bytes.now }
+        ensures number { result.0 ≡ cast_unsigned w64 ((riscv_form self).reading (window_of (riscv_form self) bytes.now)) }
+        ensures flag { result.1 ≡ (riscv_form self).flag (window_of (riscv_form self) bytes.now) }
+    {
+        match self {
+            RiscVInstruction::JType => engine::read_signed(Window::Four, &J_TYPE, 21, bytes),
+        }
+    }
 }

@@ -3,7 +3,7 @@
 ghost use Rattle.std.specs.Prelude.{◌≡◌, ◌<◌, ◌≤◌, ◌^◌, IsTrue, length, drop, pos, int_lt};
 ghost use Rattle.std.specs.Int.{from_le_bytes, byte_len, cast_unsigned, w64};
 ghost use Rattle.linker_base.specs.Bits.{signed};
-ghost use Rattle.linker_base.specs.Form.{IsLaid, place_sum};
+ghost use Rattle.linker_base.specs.Form.{IsLaid, place_sum, values_below};
 ghost use Rattle.linker_utils.specs.Runs.{run_places, spread, run_fits, runs_fit, runs_read, words_below, width_of, bits_of};
 
 /// What becomes of a window's bits under a run.
@@ -26,6 +26,21 @@ pub(crate) struct Run {
     pub(crate) added: u64,
     pub(crate) mark: Mark,
 }
+
+/// Runs of replaced bits: value bit, window bit and length of each.
+macro_rules! runs {
+    ($(($value:literal, $word:literal, $len:literal)),*) => {
+        [$($crate::elf::engine::Run {
+            value: $value,
+            word: $word,
+            len: $len,
+            added: 0,
+            mark: $crate::elf::engine::Mark::Replaced,
+        }),*]
+    };
+}
+
+pub(crate) use runs;
 
 /// The length of a window in bytes.
 #[derive(Clone, Copy)]
@@ -112,7 +127,7 @@ fn insert(runs: &[Run], value: u64, window: u64) -> u64
 
 /// The number that stands in the runs of a window.
 #[inline(always)]
-pub(crate) fn extract(runs: &[Run], window: u64) -> u64
+fn extract(runs: &[Run], window: u64) -> u64
     requires { IsTrue (runs_read runs.now) }
     ensures { result ≡ place_sum (spread runs.now) window }
 {
@@ -125,7 +140,7 @@ pub(crate) fn extract(runs: &[Run], window: u64) -> u64
 
 /// A number of `bits` bits in two's complement, at 64 bits, and whether it is below 0.
 #[inline(always)]
-pub(crate) fn signed_number(number: u64, bits: u32) -> (u64, bool)
+fn signed_number(number: u64, bits: u32) -> (u64, bool)
     requires some { 0 < bits }
     requires short { bits < 64 }
     requires fits { number < 2 ^ bits }
@@ -153,4 +168,29 @@ pub(crate) fn write(window: Window, runs: &[Run], value: u64, dest: &mut [u8])
     let before = window.load(dest);
     let after = insert(runs, value, before);
     window.store(after, dest);
+}
+
+/// Reads the number in the runs of the window that `bytes` begins with.
+#[inline(always)]
+pub(crate) fn read(window: Window, runs: &[Run], bytes: &[u8]) -> u64
+    requires room { byte_len (width_of window) ≤ length bytes.now }
+    requires sound { IsTrue (runs_read runs.now) }
+    ensures { result ≡ place_sum (spread runs.now) (from_le_bytes (width_of window) bytes.now) }
+{
+    extract(runs, window.load(bytes))
+}
+
+/// Reads the number of `bits` bits in the runs of the window that `bytes` begins with, in two's
+/// complement at 64 bits, and whether it is below 0.
+#[inline(always)]
+pub(crate) fn read_signed(window: Window, runs: &[Run], bits: u32, bytes: &[u8]) -> (u64, bool)
+    requires room { byte_len (width_of window) ≤ length bytes.now }
+    requires sound { IsTrue (runs_read runs.now) }
+    requires some { 0 < bits }
+    requires short { bits < 64 }
+    requires fits { IsTrue (values_below bits (spread runs.now)) }
+    ensures number { result.0 ≡ cast_unsigned w64 (signed bits (place_sum (spread runs.now) (from_le_bytes (width_of window) bytes.now))) }
+    ensures flag { result.1 ≡ int_lt (signed bits (place_sum (spread runs.now) (from_le_bytes (width_of window) bytes.now))) (pos 0) }
+{
+    signed_number(read(window, runs, bytes), bits)
 }
