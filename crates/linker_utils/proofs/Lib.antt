@@ -1,3 +1,4 @@
+pub mod Bounds
 pub mod Jumps
 pub mod RiscV
 pub mod Runs

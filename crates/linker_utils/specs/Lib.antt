@@ -1,2 +1,3 @@
+pub mod Elf
 pub mod RiscV
 pub mod Runs

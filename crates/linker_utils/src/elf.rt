@@ -2,6 +2,343 @@
 
 pub(crate) mod engine;
 
+ghost use Rattle.std.specs.Prelude.{◌≡◌, ◌≤◌, ◌<◌, ◌+◌, ◌*◌, ◌-◌, ◌^◌, ◌↔◌, ◌==◌, IsTrue, Some, None, if◌then◌else◌, length, drop, ℕ};
+ghost use Rattle.std.specs.Int.{byte_len, cast_unsigned, w64};
+ghost use Rattle.linker_base.specs.Form.{Form, window_of, Fits, Written, MachineReads, IsReadBack};
+ghost use Rattle.linker_utils.specs.Elf.{relocation_form, bit_bounds, IsAllowed};
+
+use std::marker::Model;
+
+use crate::bit_misc::BitRange;
+
+/// 2 KiB: half a page.
+pub const SIZE_2KB: u64 = 0x800;
+
+/// 4 KiB: a page.
+pub const SIZE_4KB: u64 = 0x1000;
+
+/// 2 GiB.
+pub const SIZE_2GB: u64 = 1 << 31;
+
+/// 4 GiB.
+pub const SIZE_4GB: u64 = 1 << 32;
+
+/// The bits of an address below its page of 4 KiB.
+pub const PAGE_MASK_4KB: u64 = 0xfff;
+
+/// What a relocation's value is computed from.
+#[derive(Debug, Clone, Copy, PartialEq, Eq)]
+pub enum RelocationKind {
+    /// Nothing: the relocation asks for no value.
+    None,
+    /// The symbol's address plus the addend.
+    Absolute,
+    /// The low part of the symbol's address plus the addend.
+    AbsoluteLowPart,
+    /// The symbol's address plus the addend, set in place of what is there.
+    AbsoluteSet,
+    /// The same, in the low 6 bits of a byte.
+    AbsoluteSetWord6,
+    /// The symbol's address plus the addend, added to what is there.
+    AbsoluteAddition,
+    /// The same, in the low 6 bits of a byte.
+    AbsoluteAdditionWord6,
+    /// The symbol's address plus the addend, subtracted from what is there.
+    AbsoluteSubtraction,
+    /// The same, in the low 6 bits of a byte.
+    AbsoluteSubtractionWord6,
+    /// The second of a pair of RISC-V relocations that set a ULEB128 number to a difference of symbols.
+    PairSubtractionULEB128RiscV,
+    /// The same pair of LoongArch.
+    PairSubtractionULEB128LoongArch,
+    /// The symbol's address plus the addend, relative to the place.
+    Relative,
+    /// The low 12 bits of the value of the high part that the symbol names.
+    RelativeRiscVLow12,
+    /// The high 32 bits of a LoongArch address relative to the place.
+    RelativeLoongArchHigh,
+    /// The GOT entry's address relative to the place.
+    GotRelative,
+    /// The high 32 bits of that, of LoongArch.
+    GotRelativeLoongArch64,
+    /// The GOT entry's address relative to the GOT.
+    GotRelGotBase,
+    /// The GOT entry's address.
+    Got,
+    /// The symbol's address relative to the GOT.
+    SymRelGotBase,
+    /// The PLT entry's address relative to the GOT.
+    PltRelGotBase,
+    /// The PLT entry's address relative to the place.
+    PltRelative,
+    /// The symbol's size plus the addend.
+    SymbolSize,
+    /// Bytes that keep what follows aligned.
+    Alignment,
+    /// The address of the pair of GOT entries of general-dynamic TLS, relative to the place.
+    TlsGd,
+    /// The address of that pair.
+    TlsGdGot,
+    /// The address of that pair relative to the GOT.
+    TlsGdGotBase,
+    /// The address of the pair of GOT entries of local-dynamic TLS, relative to the place.
+    TlsLd,
+    /// The address of that pair.
+    TlsLdGot,
+    /// The address of that pair relative to the GOT.
+    TlsLdGotBase,
+    /// The offset in the module's TLS block.
+    DtpOff,
+    /// The address of the GOT entry of the offset from the thread pointer, relative to the place.
+    GotTpOff,
+    /// The address of that entry.
+    GotTpOffGot,
+    /// The address of that entry relative to the GOT.
+    GotTpOffGotBase,
+    /// The high 32 bits of that entry's address relative to the place, of LoongArch.
+    GotTpOffLoongArch64,
+    /// The offset from the thread pointer.
+    TpOff,
+    /// The address of the TLS descriptor, relative to the place.
+    TlsDesc,
+    /// The address of the TLS descriptor.
+    TlsDescGot,
+    /// The address of the TLS descriptor relative to the GOT.
+    TlsDescGotBase,
+    /// The high 32 bits of the descriptor's address relative to the place, of LoongArch.
+    TlsDescLoongArch64,
+    /// The call through a TLS descriptor, which holds no value.
+    TlsDescCall,
+}
+
+/// Whether a number of bits is read in two's complement.
+#[derive(Debug, Clone, Copy, PartialEq, Eq)]
+pub enum Sign {
+    Signed,
+    Unsigned,
+}
+
+/// Where a relocation's value goes.
+#[derive(Debug, Clone, Copy, PartialEq, Eq)]
+pub enum RelocationSize {
+    /// Whole bytes, as many as said.
+    ByteSize(u8),
+    /// A run of the value's bits into an instruction of a form.
+    BitMasking {
+        range: BitRange,
+        insn: RelocationInstruction,
+    },
+}
+
+impl RelocationSize {
+    /// Bits `start` and up, below `end`, into a RISC-V instruction.
+    pub fn bit_mask_riscv(start: u8, end: u8, insn: RiscVInstruction) -> RelocationSize
+        ensures { result ≡ RelocationSize.BitMasking (record { start = start; end = end }) (RelocationInstruction.RiscV insn) }
+    {
+        RelocationSize::BitMasking {
+            range: BitRange { start, end },
+            insn: RelocationInstruction::RiscV(insn),
+        }
+    }
+}
+
+/// An instruction form of one of the architectures.
+#[derive(Debug, Clone, Copy, PartialEq, Eq)]
+pub enum RelocationInstruction {
+    RiscV(RiscVInstruction),
+}
+
+/// The size of the pages that a mask cuts addresses to.
+#[derive(Debug, Clone, Copy, PartialEq, Eq)]
+pub enum PageMaskPattern {
+    Size4KB,
+}
+
+/// Which addresses are cut to their page before a difference is taken.
+#[derive(Debug, Clone, Copy, PartialEq, Eq)]
+pub enum PageMask {
+    /// The symbol's address plus the addend, and the place.
+    SymbolPlusAddendAndPosition(PageMaskPattern),
+    /// The GOT entry's address, and the place.
+    GotEntryAndPosition(PageMaskPattern),
+    /// The GOT's address.
+    GotBase(PageMaskPattern),
+}
+
+/// A number, not 0, that is added to the symbol's or the entry's value before a page mask is applied
+/// and before the bit range is taken.
+#[derive(Debug, Clone, Copy, PartialEq, Eq)]
+pub struct Bias {
+    value: u64,
+}
+
+impl Model for Bias {
+    ghost Value = { ℕ };
+
+    ghost view = { λ b. b.value };
+
+    ghost inverse = { λ n. record { value = n } };
+}
+
+impl Bias {
+    /// The bias of a number, and none of 0.
+    pub fn from_value(value: u64) -> Option<Bias>
+        ensures { result ≡ (if value == 0 then None else Some value) }
+    {
+        if value == 0 { None } else { Some(Bias { value }) }
+    }
+
+    /// The number.
+    pub fn value(self) -> u64
+        ensures { result ≡ self }
+    {
+        self.value
+    }
+}
+
+/// The values that a relocation may have: from the first bound up, below the second, or all.
+#[derive(Debug, Clone, Copy, PartialEq, Eq)]
+pub struct AllowedRange {
+    pub bounds: Option<(i64, i64)>,
+}
+
+impl AllowedRange {
+    /// From `min` up, below `max`.
+    pub fn new(min: i64, max: i64) -> AllowedRange
+        ensures { result.bounds ≡ Some (min, max) }
+    {
+        AllowedRange {
+            bounds: Some((min, max)),
+        }
+    }
+
+    /// All values.
+    pub fn no_check() -> AllowedRange
+        ensures { result.bounds ≡ None }
+    {
+        AllowedRange { bounds: None }
+    }
+
+    /// The numbers of `n` bits: signed from -2^(n-1) up, below 2^(n-1), or unsigned below 2^n.
+    pub fn from_bit_size(n: u32, sign: Sign) -> AllowedRange
+        requires some { 1 ≤ n }
+        requires short { n ≤ 62 }
+        ensures { result.bounds ≡ Some (bit_bounds n sign) }
+    {
+        match sign {
+            Sign::Signed => AllowedRange::new(-(1i64 << (n - 1)), 1i64 << (n - 1)),
+            Sign::Unsigned => AllowedRange::new(0, 1i64 << n),
+        }
+    }
+
+    /// The numbers of `k` bytes; of eight bytes, all values.
+    pub fn from_byte_size(k: u32, sign: Sign) -> AllowedRange
+        requires some { 1 ≤ k }
+        requires short { k ≤ 8 }
+        ensures { result.bounds ≡ (if k == 8 then None else Some (bit_bounds (8 * k) sign)) }
+    {
+        if k == 8 {
+            AllowedRange::no_check()
+        } else {
+            AllowedRange::from_bit_size(8 * k, sign)
+        }
+    }
+
+    /// Whether a value is allowed.
+    pub fn contains(self, v: i64) -> bool
+        ensures { IsTrue result ↔ IsAllowed self v }
+    {
+        match self.bounds {
+            Some((min, max)) => min <= v && v < max,
+            None => true,
+        }
+    }
+}
+
+/// What a relocation means.
+#[derive(Debug, Clone, Copy, PartialEq, Eq)]
+pub struct RelocationKindInfo {
+    /// What its value is computed from.
+    pub kind: RelocationKind,
+    /// Where its value goes.
+    pub size: RelocationSize,
+    /// Which addresses are cut to their page.
+    pub mask: Option<PageMask>,
+    /// The values that it may have.
+    pub range: AllowedRange,
+    /// What its value has to be a multiple of.
+    pub alignment: u64,
+    /// What is added first.
+    pub bias: Option<Bias>,
+    /// Whether a thunk may stand in for a target that is out of range.
+    pub thunkable: bool,
+    /// Whether the addend stands in the section.
+    pub implicit_addend: bool,
+}
+
+/// A form of instructions that hold a value: where its bits stand, and which number they are.
+pub trait InstructionForm: Copy {
+    // what defines the form
+    ghost form: { Self → Form };
+
+    /// The length in bytes of the window that the form reads and writes.
+    fn window(self) -> usize
+        ensures { result ≡ byte_len (form self).window };
+
+    /// Whether a value can be written to the instruction that `bytes` begins with.
+    fn fits(self, value: u64, bytes: &[u8]) -> bool
+        requires { byte_len (form self).window ≤ length bytes.now }
+        ensures { IsTrue result ↔ Fits (form self) value (window_of (form self) bytes.now) };
+
+    /// Writes a value and its sign into the instruction that `dest` begins with, and changes no bit
+    /// but the form's.
+    fn write(self, value: u64, negative: bool, dest: &mut [u8])
+        requires room { byte_len (form self).window ≤ length dest.old }
+        requires fits { Fits (form self) value (window_of (form self) dest.old) }
+        ensures written { Written (form self) value negative (window_of (form self) dest.old) (window_of (form self) dest.new) }
+        ensures rest { drop (byte_len (form self).window) dest.new ≡ drop (byte_len (form self).window) dest.old }
+        ensures machine { MachineReads (form self) value negative (window_of (form self) dest.old) (window_of (form self) dest.new) }
+        ensures restored { IsReadBack (form self) value negative (window_of (form self) dest.old) → dest.new ≡ dest.old };
+
+    /// The value in the instruction that `bytes` begins with, modulo 2^64, and the form's flag.
+    fn read(self, bytes: &[u8]) -> (u64, bool)
+        requires { byte_len (form self).window ≤ length bytes.now }
+        ensures number { result.0 ≡ cast_unsigned w64 ((form self).reading (window_of (form self) bytes.now)) }
+        ensures flag { result.1 ≡ (form self).flag (window_of (form self) bytes.now) };
+}
+
+impl InstructionForm for RelocationInstruction {
+    ghost form = { relocation_form };
+
+    #[inline]
+    fn window(self) -> usize {
+        match self {
+            RelocationInstruction::RiscV(insn) => insn.window(),
+        }
+    }
+
+    #[inline]
+    fn fits(self, value: u64, bytes: &[u8]) -> bool {
+        match self {
+            RelocationInstruction::RiscV(insn) => insn.fits(value, bytes),
+        }
+    }
+
+    #[inline]
+    fn write(self, value: u64, negative: bool, dest: &mut [u8]) {
+        match self {
+            RelocationInstruction::RiscV(insn) => insn.write(value, negative, dest),
+        }
+    }
+
+    #[inline]
+    fn read(self, bytes: &[u8]) -> (u64, bool) {
+        match self {
+            RelocationInstruction::RiscV(insn) => insn.read(bytes),
+        }
+    }
+}
+
 /// RISC-V instructions that hold an immediate value. The window is 4 bytes, and every value fits.
 #[derive(Debug, Clone, Copy, PartialEq, Eq)]
 pub enum RiscVInstruction {

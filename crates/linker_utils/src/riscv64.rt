@@ -6,7 +6,7 @@ ghost use Rattle.linker_base.specs.Form.{window_of, Written, MachineReads, IsRea
 ghost use Rattle.linker_base.specs.Rewrite.{CanRewrite, rewritten, offset_after, addend_after};
 ghost use Rattle.linker_utils.specs.RiscV.{riscv_form, riscv_rewrite, riscv_modifier, IsEven, IsJalDistance, JumpsAt};
 
-use crate::elf::RiscVInstruction;
+use crate::elf::{InstructionForm, RiscVInstruction};
 use crate::elf::engine::{self, Run, Window, runs};
 use crate::relaxation::RelocationModifier;
 use crate::rewrite::has_window;
@@ -166,5 +166,31 @@ impl RiscVInstruction {
         match self {
             RiscVInstruction::JType => engine::read_signed(Window::Four, &J_TYPE, 21, bytes),
         }
+    }
+}
+
+impl InstructionForm for RiscVInstruction {
+    ghost form = { riscv_form };
+
+    #[inline]
+    fn window(self) -> usize {
+        match self {
+            RiscVInstruction::JType => 4,
+        }
+    }
+
+    #[inline]
+    fn fits(self, _value: u64, _bytes: &[u8]) -> bool {
+        true
+    }
+
+    #[inline]
+    fn write(self, value: u64, negative: bool, dest: &mut [u8]) {
+        self.write_to_value(value, negative, dest);
+    }
+
+    #[inline]
+    fn read(self, bytes: &[u8]) -> (u64, bool) {
+        self.read_value(bytes)
     }
 }
