@@ -2,5 +2,6 @@ pub mod Bits
 pub mod Fields
 pub mod Immediates
 pub mod Places
+pub mod Rewrites
 pub mod TextLemmas
 pub mod UlebLemmas

@@ -1,5 +1,5 @@
 -- Rewrites of instructions: the window of bytes that a rewrite changes, what it needs there, and what it leaves.
-use Rattle.std.specs.Prelude.{◌≡◌, ℕ, ◌+◌, ◌-◌, ◌≤◌, Bool, IsTrue, List, ◌++◌, length, take, drop, Option, None, Some, ℤ, ⊤}
+use Rattle.std.specs.Prelude.{◌≡◌, ℕ, ◌+◌, ◌-◌, ◌≤◌, Bool, true, IsTrue, List, ◌++◌, length, take, drop, Option, None, Some, ℤ, ⊤}
 
 -- A rewrite at an offset o of a section.
 pub record Rewrite : Type 0 where
@@ -14,6 +14,10 @@ pub record Rewrite : Type 0 where
   pub offset : ℕ → ℕ
   -- the addend after
   pub addend : ℤ → ℤ
+
+-- a rewrite that takes every window, and leaves the offset and the addend as they are
+abbrev pub replaces : ℕ → ℕ → (List ℕ → List ℕ) → Rewrite
+replaces back len bytes = record { back = back; len = len; admits = λ _. true; bytes = bytes; offset = λ o. o; addend = λ a. a }
 
 abbrev pub window_at : Rewrite → List ℕ → ℕ → List ℕ
 window_at r section o = take r.len (drop (o - r.back) section)

@@ -1,5 +1,5 @@
 -- What a rewritten call reads as.
-use Rattle.std.proofs.Common.{◌≡◌, ℕ, zero, suc, ◌+◌, ◌-◌, ◌*◌, ◌/◌, ◌%◌, ◌^◌, ◌<◌, ◌≤◌, Bool, true, false, List, [], ◌∷◌, ◌++◌, length, take, drop, get_or, refl, sym, ◌∙◌, ap, subst, arith, ℤ, pos, negsuc, ◌≤ℤ◌, ◌-ℤ◌, ltb, IsTrue}
+use Rattle.std.proofs.Common.{◌≡◌, ℕ, zero, suc, ◌+◌, ◌-◌, ◌*◌, ◌/◌, ◌%◌, ◌^◌, ◌<◌, ◌≤◌, Bool, true, false, List, [], ◌∷◌, ◌++◌, length, take, drop, get_or, refl, sym, ◌∙◌, ap, subst, arith, ℤ, pos, negsuc, ◌≤ℤ◌, ◌-ℤ◌, ltb, IsTrue, Some}
 use Rattle.std.specs.Int.{w32, w64, from_le_bytes, to_le_bytes, cast_unsigned, int_rem_euclid, bit_at}
 use Rattle.std.proofs.lemmas.Bool.{agree_below, agree_below_at, cond_both, ltb-true, ltb-false}
 use Rattle.std.proofs.lemmas.List.{get_or-take, get_or_append_left, append-nil, append_assoc, take_at, drop_at, drop_all, take_rest, length-take, length-append, length-drop, drop-drop, take_all}
@@ -11,10 +11,11 @@ use lib.Bits.{bit_and}
 use borrow.Rule.Slice.PartMut.{put_mid, post_of}
 use Rattle.linker_base.specs.Bits.{field, signed}
 use Rattle.linker_base.specs.Form.{Place, is_placed, Written, MachineReads, IsClear, place_sum}
-use Rattle.linker_base.specs.Rewrite.{rewritten}
+use Rattle.linker_base.specs.Rewrite.{Rewrite, rewritten}
 use Rattle.linker_base.proofs.Fields.{same_fields, signed_rem}
 use Rattle.linker_utils.specs.RiscV.{riscv_form, riscv_rewrite, call_to_jal, word_at, JumpsAt, IsEven, IsJalDistance}
 use Rattle.linker_utils.specs.declared.elf.RiscVInstruction.TheVariants.{JType}
+use Rattle.linker_utils.specs.declared.riscv64.RelaxationKind.{RelaxationKind}
 use Rattle.linker_utils.specs.declared.riscv64.RelaxationKind.TheVariants.{CallToJal}
 use Rattle.linker_base.proofs.Immediates.{always_clear}
 use Rattle.linker_utils.proofs.RiscV.{jtype_places, jtype_below}
@@ -73,18 +74,17 @@ jal_code x =
         ∙ or_shifted (x / 128 % 32) 7 111 (omega arith)
         ∙ omega arith
 
-pub call_rewritten : (s ys : List ℕ) (o x : ℕ) → x ≡ from_le_bytes w32 (take (length s - o) (drop o s))
+pub call_made : (s ys : List ℕ) (o x : ℕ) → x ≡ from_le_bytes w32 (take (length s - o) (drop o s))
     → ys ≡ to_le_bytes w32 (bit_or 111 (bit_and (x / 128) 31 * 128 % 4294967296))
-    → put_mid o (o + 4 - o) s ys ≡ rewritten (riscv_rewrite CallToJal) s o
-call_rewritten s ys o x e y =
+    → ys ≡ call_to_jal (take 4 (drop (o - 0) s))
+call_made s ys o x e y =
     let word : x ≡ from_le_bytes w32 (take 4 (drop (o - 0) s)) =
         e ∙ ap (from_le_bytes w32) (take_rest s o) ∙ sym (word_of_front (drop o s)) ∙ ap (λ k. from_le_bytes w32 (take 4 (drop k s))) (omega arith) in
-    let bytes : ys ≡ call_to_jal (take 4 (drop (o - 0) s)) =
-        y ∙ ap (to_le_bytes w32) (jal_code x ∙ ap (λ w. 0x6f + field w 7 12 * 128) word) in
-    ap (λ b. take o s ++ (b ++ drop (o + 4 - o) (drop o s))) bytes
-        ∙ ap (λ t. take o s ++ (call_to_jal (take 4 (drop (o - 0) s)) ++ t)) (drop-drop (o + 4 - o) o s ∙ ap (λ k. drop k s) (omega arith))
-        ∙ ap (λ k. take k s ++ (call_to_jal (take 4 (drop (o - 0) s)) ++ drop (o - 0 + 4) s)) (omega arith)
-        ∙ sym (append_assoc (take (o - 0) s) (call_to_jal (take 4 (drop (o - 0) s))) (drop (o - 0 + 4) s))
+    y ∙ ap (to_le_bytes w32) (jal_code x ∙ ap (λ w. 0x6f + field w 7 12 * 128) word)
+
+-- the rewrite of a kind that is known
+pub rewritten_as : (kind known : RelaxationKind) (r : Rewrite) (s after : List ℕ) (o : ℕ) → kind ≡ known → riscv_rewrite known ≡ Some r → after ≡ rewritten (Some r) s o → after ≡ rewritten (riscv_rewrite kind) s o
+rewritten_as kind known r s after o e k h = h ∙ ap (λ t. rewritten t s o) (sym k ∙ ap riscv_rewrite (sym e))
 
 module _ (s s1 sub : List ℕ) (site v : ℕ) (d : ℤ)
     (inside : site + 4 ≤ length s)

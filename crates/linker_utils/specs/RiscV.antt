@@ -1,10 +1,10 @@
 -- RISC-V: its instruction forms (RISC-V unprivileged ISA, "Immediate Encoding Variants"), its rewrites and its jumps (RISC-V
 -- ELF psABI, "Function Call Relaxation").
-use Rattle.std.specs.Prelude.{◌≡◌, ℕ, ◌+◌, ◌*◌, Bool, true, List, ◌++◌, take, drop, Option, None, Some, ℤ, pos, negsuc, ◌≤ℤ◌}
+use Rattle.std.specs.Prelude.{◌≡◌, ℕ, ◌+◌, ◌*◌, List, ◌++◌, take, drop, Option, None, Some, ℤ, pos, negsuc, ◌≤ℤ◌}
 use Rattle.std.specs.Int.{w32, from_le_bytes, to_le_bytes, int_rem_euclid}
 use Rattle.linker_base.specs.Bits.{field}
 use Rattle.linker_base.specs.Form.{Form, bits_to, signed_immediate}
-use Rattle.linker_base.specs.Rewrite.{Rewrite}
+use Rattle.linker_base.specs.Rewrite.{Rewrite, replaces}
 use Rattle.linker_base.specs.declared.relaxation.RelocationModifier.{RelocationModifier}
 use Rattle.linker_base.specs.declared.relaxation.RelocationModifier.TheVariants.{Normal, SkipNextRelocation}
 use Rattle.linker_utils.specs.declared.elf.RiscVInstruction.{RiscVInstruction}
@@ -21,8 +21,7 @@ call_to_jal window = to_le_bytes w32 (0x6f + field (from_le_bytes w32 window) 7 
 
 abbrev pub riscv_rewrite : RelaxationKind → Option Rewrite
 riscv_rewrite NoOp = None
-riscv_rewrite CallToJal =
-    Some (record { back = 0; len = 4; admits = λ _. true; bytes = call_to_jal; offset = λ o. o; addend = λ a. a })
+riscv_rewrite CallToJal = Some (replaces 0 4 call_to_jal)
 
 abbrev pub riscv_modifier : RelaxationKind → RelocationModifier
 riscv_modifier NoOp = Normal

@@ -7,9 +7,9 @@ ghost use Rattle.linker_base.specs.Rewrite.{CanRewrite, rewritten, offset_after,
 ghost use Rattle.linker_utils.specs.RiscV.{riscv_form, riscv_rewrite, riscv_modifier, IsEven, IsJalDistance, JumpsAt};
 
 use crate::elf::{InstructionForm, RiscVInstruction};
-use crate::elf::engine::{self, Run, Window, runs};
+use crate::elf::engine::{self, Run, Window, run};
 use crate::relaxation::RelocationModifier;
-use crate::rewrite::has_window;
+use crate::rewrite::{has_window, overwrite};
 use crate::utils::u32_from_slice;
 
 /// The least distance that `distance_fits_jal` accepts, in bytes.
@@ -60,10 +60,10 @@ impl RelaxationKind {
         match self {
             RelaxationKind::NoOp => {}
             RelaxationKind::CallToJal => {
-                let offset = *offset_in_section as usize;
-                let auipc = u32_from_slice(&section_bytes[offset..]);
+                let offset = *offset_in_section;
+                let auipc = u32_from_slice(&section_bytes[offset as usize..]);
                 let jal = 0x6f | (auipc >> 7 & 0x1f) << 7;
-                section_bytes[offset..offset + 4].copy_from_slice(&jal.to_le_bytes());
+                overwrite(section_bytes, offset, &jal.to_le_bytes());
             }
         }
     }
@@ -137,7 +137,7 @@ pub fn jal_site(section: &mut [u8], site: u64, distance: i64) -> Result<(), Call
     Ok(())
 }
 
-const J_TYPE: [Run; 4] = runs![(12, 12, 8), (11, 20, 1), (1, 21, 10), (20, 31, 1)];
+const J_TYPE: [Run; 4] = [run!(12, 12, 8), run!(11, 20, 1), run!(1, 21, 10), run!(20, 31, 1)];
 
 impl RiscVInstruction {
     /// Writes a value into the instruction that `dest` begins with, and changes no other bit.

@@ -27,20 +27,33 @@ pub(crate) struct Run {
     pub(crate) mark: Mark,
 }
 
-/// Runs of replaced bits: value bit, window bit and length of each.
-macro_rules! runs {
-    ($(($value:literal, $word:literal, $len:literal)),*) => {
-        [$($crate::elf::engine::Run {
+/// A run of bits: value bit, window bit and length, of replaced bits if nothing else is said, or
+/// window bit and length of one that is only cleared.
+macro_rules! run {
+    ($value:literal, $word:literal, $len:literal) => {
+        $crate::elf::engine::run!($value, $word, $len, 0, Replaced)
+    };
+    (ored $value:literal, $word:literal, $len:literal) => {
+        $crate::elf::engine::run!($value, $word, $len, 0, Ored)
+    };
+    (added $added:literal: $value:literal, $word:literal, $len:literal) => {
+        $crate::elf::engine::run!($value, $word, $len, $added, Replaced)
+    };
+    (cleared $word:literal, $len:literal) => {
+        $crate::elf::engine::run!(0, $word, $len, 0, Cleared)
+    };
+    ($value:literal, $word:literal, $len:literal, $added:literal, $mark:ident) => {
+        $crate::elf::engine::Run {
             value: $value,
             word: $word,
             len: $len,
-            added: 0,
-            mark: $crate::elf::engine::Mark::Replaced,
-        }),*]
+            added: $added,
+            mark: $crate::elf::engine::Mark::$mark,
+        }
     };
 }
 
-pub(crate) use runs;
+pub(crate) use run;
 
 /// The length of a window in bytes.
 #[derive(Clone, Copy)]
