@@ -13,20 +13,20 @@ use bstr::ByteSlice;
 use std::alloc::{AllocError, Global};
 
 /// The little-endian number of the first four bytes.
-pub fn u32_from_slice(data: &[u8]) -> u32
-    requires { 4 ≤ length «data».now }
-    ensures { result ≡ from_le_bytes w32 «data».now }
+pub fn u32_from_slice(bytes: &[u8]) -> u32
+    requires { 4 ≤ length bytes.now }
+    ensures { result ≡ from_le_bytes w32 bytes.now }
 {
-    u32::from_le_bytes([data[0], data[1], data[2], data[3]])
+    u32::from_le_bytes([bytes[0], bytes[1], bytes[2], bytes[3]])
 }
 
 /// The little-endian number of the first eight bytes.
-pub fn u64_from_slice(data: &[u8]) -> u64
-    requires { 8 ≤ length «data».now }
-    ensures { result ≡ from_le_bytes w64 «data».now }
+pub fn u64_from_slice(bytes: &[u8]) -> u64
+    requires { 8 ≤ length bytes.now }
+    ensures { result ≡ from_le_bytes w64 bytes.now }
 {
     u64::from_le_bytes([
-        data[0], data[1], data[2], data[3], data[4], data[5], data[6], data[7],
+        bytes[0], bytes[1], bytes[2], bytes[3], bytes[4], bytes[5], bytes[6], bytes[7],
     ])
 }
 
