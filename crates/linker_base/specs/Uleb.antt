@@ -21,12 +21,12 @@ pub record Uleb (bytes : List ℕ) (n : ℕ) (rest : List ℕ) : Type 0 where
   pub number : n ≡ uleb_number bytes last
   pub rest_is : rest ≡ drop (last + 1) bytes
 
--- the bytes end before the number does
+-- the bytes end before the number does: there are fewer than ten, and none of them is the last
 pub record UlebEnded (bytes : List ℕ) : Type 0 where
   pub short : length bytes < 10
   pub continue : AllContinue (length bytes) bytes
 
--- the tenth byte brings more than bit 63, or goes on
+-- the number reaches a tenth byte that is neither 0 nor 1: it sets a bit above bit 63, or continues
 pub record UlebTooLarge (bytes : List ℕ) : Type 0 where
   pub long : 9 < length bytes
   pub continue : AllContinue 9 bytes

@@ -13,20 +13,20 @@ use bstr::ByteSlice;
 use std::alloc::{AllocError, Global};
 
 /// The little-endian number of the first four bytes.
-pub fn u32_from_slice(data: &[u8]) -> u32
-    requires { 4 ≤ length «data».now }
-    ensures { result ≡ from_le_bytes w32 «data».now }
+pub fn u32_from_slice(bytes: &[u8]) -> u32
+    requires { 4 ≤ length bytes.now }
+    ensures { result ≡ from_le_bytes w32 bytes.now }
 {
-    u32::from_le_bytes([data[0], data[1], data[2], data[3]])
+    u32::from_le_bytes([bytes[0], bytes[1], bytes[2], bytes[3]])
 }
 
 /// The little-endian number of the first eight bytes.
-pub fn u64_from_slice(data: &[u8]) -> u64
-    requires { 8 ≤ length «data».now }
-    ensures { result ≡ from_le_bytes w64 «data».now }
+pub fn u64_from_slice(bytes: &[u8]) -> u64
+    requires { 8 ≤ length bytes.now }
+    ensures { result ≡ from_le_bytes w64 bytes.now }
 {
     u64::from_le_bytes([
-        data[0], data[1], data[2], data[3], data[4], data[5], data[6], data[7],
+        bytes[0], bytes[1], bytes[2], bytes[3], bytes[4], bytes[5], bytes[6], bytes[7],
     ])
 }
 
@@ -59,7 +59,8 @@ pub fn and_from_slice(dest: &mut [u8], mask_bytes: &[u8])
 pub fn read_u32(content: &mut &[u8]) -> Result<u32>
     ensures value { IfOk result (λ n. n ≡ from_le_bytes w32 content.old.now) }
     ensures rest { OnOk result (content.new.now ≡ drop 4 content.old.now) }
-    ensures short { FailsExactly (codes "Not enough bytes to read u32") (length content.old.now < 4) result }
+    ensures short { FailsExactly (codes "Not enough bytes to read u32")
+        (length content.old.now < 4) result }
     ensures refused { OnErr result (length content.old.now < 4) }
     ensures unchanged { OnErr result (content.new.now ≡ content.old.now) }
 {
@@ -76,9 +77,11 @@ pub fn read_string(alloc: Global, content: &mut &[u8]) -> Result<String>
     ensures text { IfOk result (λ text. string_bytes text ≡ text_before_nul content.old.now) }
     ensures rest { OnOk result (content.new.now ≡ after_nul content.old.now) }
 
-    ensures no_nul { FailsExactly (codes "No null terminator found in string") (¬ Contains content.old.now 0) result }
-    // only a fault for want of memory is left where there is a NUL
-    ensures memory { FailsExactly (codes "Out of memory") (Contains content.old.now 0 × IsErr result) result }
+    ensures no_nul { FailsExactly (codes "No null terminator found in string")
+        (¬ Contains content.old.now 0) result }
+    // where there is a NUL, it fails only for want of memory
+    ensures memory { FailsExactly (codes "Out of memory")
+        (Contains content.old.now 0 × IsErr result) result }
     ensures unchanged { OnErr result (content.new.now ≡ content.old.now) }
 {
     let bytes: &[u8] = *content;
@@ -104,10 +107,13 @@ fn lossy_text(alloc: Global, bytes: &[u8]) -> Result<String, AllocError>
 /// "too large" where the tenth byte isn't 0 or 1. The content then stays.
 pub fn read_uleb128(content: &mut &[u8]) -> Result<u64>
     ensures number { IfOk result (λ n. Uleb content.old.now n content.new.now) }
-    ensures accepted { (n : ℕ) (rest : List ℕ) → Uleb content.old.now n rest → (result ≡ Ok n) × (content.new.now ≡ rest) }
+    ensures accepted { (n : ℕ) (rest : List ℕ) → Uleb content.old.now n rest
+        → (result ≡ Ok n) × (content.new.now ≡ rest) }
 
-    ensures ended { FailsExactly (codes "Failed to read ULEB128 value: ended") (UlebEnded content.old.now) result }
-    ensures too_large { FailsExactly (codes "Failed to read ULEB128 value: too large") (UlebTooLarge content.old.now) result }
+    ensures ended { FailsExactly (codes "Failed to read ULEB128 value: ended")
+        (UlebEnded content.old.now) result }
+    ensures too_large { FailsExactly (codes "Failed to read ULEB128 value: too large")
+        (UlebTooLarge content.old.now) result }
     ensures refused { OnErr result (UlebEnded content.old.now ⊎ UlebTooLarge content.old.now) }
     ensures unchanged { OnErr result (content.new.now ≡ content.old.now) }
 {
