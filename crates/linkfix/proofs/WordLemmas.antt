@@ -72,5 +72,5 @@ module _ (line rest : List ℕ) (spaces : ℕ) (counted : spaces ≡ prefix_len 
   pub word_left : (word after : List ℕ) (n : ℕ) → 0 < length rest → n ≡ position_or_len is_space rest → word ≡ take n rest
       → after ≡ drop n rest → words_of line ≡ word ∷ words_of after
   word_left word after n h len front back =
-    let e : rest ≡ behind_spaces line = rw counted at cut in
-    rw (front, back, len, e) (words_of-first line (rw e at h))
+      let e : rest ≡ behind_spaces line = rw counted at cut in
+      rw (front, back, len, e) (words_of-first line (rw e at h))

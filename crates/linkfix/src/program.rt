@@ -3,15 +3,13 @@
 ghost use Rattle.std.specs.Prelude.{◌≡◌, ◌<◌, ◌^◌, ◌≤◌, pos, ◌-ℤ◌};
 ghost use Rattle.linkfix.specs.Spelling.{HasSmallNumbers};
 
-use std::alloc::{AllocError, Global};
-use std::io;
-use std::io::{Read, Write};
-
-use linker_utils::riscv64::{CallError, jal_site};
-
 use crate::commands::{BadLine, Command, parse_command};
 use crate::input::{InputFault, Lines};
 use crate::sections::{LineFault, read_section, show_section};
+use linker_utils::riscv64::{CallError, jal_site};
+use std::alloc::{AllocError, Global};
+use std::io;
+use std::io::{Read, Write};
 
 /// What a run answers last where it doesn't obey all its lines.
 #[derive(Debug, Clone, Copy, PartialEq, Eq)]

@@ -4,9 +4,8 @@ ghost use Rattle.std.specs.String.{string_bytes};
 ghost use Rattle.hex.specs.Hex.{encode_lower};
 ghost use Rattle.linkfix.specs.Hexed.{hexed};
 
-use std::alloc::{AllocError, Global};
-
 use hex::FromHexError;
+use std::alloc::{AllocError, Global};
 
 /// Why a line gives no section.
 #[derive(Debug, Clone, Copy, PartialEq, Eq)]
