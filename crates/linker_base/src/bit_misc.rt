@@ -1,8 +1,106 @@
-//! Bits and runs of bits of a 64-bit number.
+//! Bits and runs of bits of a 64-bit number. Bit 0 is the lowest.
+ghost use Rattle.std.specs.Prelude.{◌≡◌, ℕ, ◌+◌, ◌-◌, ◌%◌, ◌^◌, ◌<◌, ◌≤◌};
+ghost use Rattle.std.specs.Int.{bit_at, cast_unsigned, w64};
+ghost use Rattle.linker_base.specs.Bits.{field, signed};
+
+use std::ops::Range;
 
 /// A half-open run of bits: bit `start` and up, below bit `end`.
 #[derive(Debug, Clone, Copy, PartialEq, Eq)]
 pub struct BitRange {
     pub start: u8,
     pub end: u8,
+}
+
+/// Reads bits of a number of 64 bits. Positions and counts are in bits.
+pub trait BitExtraction {
+    // the number whose bits are read
+    ghost number: { Self → ℕ };
+
+    /// The bit at `position`, which is 0 or 1.
+    fn extract_bit(self, position: u32) -> u64
+        requires { position < 64 }
+        ensures { result ≡ bit_at (number self) position };
+
+    /// The bits from `range.start` up, below `range.end`, moved down to bit 0.
+    fn extract_bit_range(self, range: Range<u32>) -> u64
+        requires not_empty { range.start < range.end }
+        requires in_word { range.end ≤ 64 }
+        ensures { result ≡ field (number self) range.start range.end };
+
+    /// The lowest `num_bits` bits.
+    fn low_bits(self, num_bits: u32) -> u64
+        requires { num_bits < 64 }
+        ensures { result ≡ number self % 2 ^ num_bits };
+
+    /// The lowest `num_bits` bits, read in two's complement, as a number modulo 2^64.
+    fn low_bits_signed(self, num_bits: u32) -> u64
+        requires not_empty { 0 < num_bits }
+        requires in_word { num_bits < 64 }
+        ensures { result ≡ cast_unsigned w64 (signed num_bits (number self % 2 ^ num_bits)) };
+
+    /// The number with every bit above `sign_bit` set, if bit `sign_bit` is set. Where it is clear
+    /// the number stays as it is, also where higher bits are set.
+    fn sign_extend(self, sign_bit: u32) -> u64
+        requires { sign_bit < 64 }
+        ensures clear { bit_at (number self) sign_bit ≡ 0 → result ≡ number self }
+        ensures set { bit_at (number self) sign_bit ≡ 1
+            → result ≡ number self % 2 ^ (sign_bit + 1) + (2 ^ 64 - 2 ^ (sign_bit + 1)) };
+}
+
+impl BitExtraction for u64 {
+    ghost number = { λ n. n };
+
+    fn extract_bit(self, position: u32) -> u64 {
+        (self >> position) & 1
+    }
+
+    fn extract_bit_range(self, range: Range<u32>) -> u64 {
+        (self >> range.start) & (u64::MAX >> (64 - (range.end - range.start)))
+    }
+
+    fn low_bits(self, num_bits: u32) -> u64 {
+        self & ((1 << num_bits) - 1)
+    }
+
+    fn low_bits_signed(self, num_bits: u32) -> u64 {
+        self.low_bits(num_bits).sign_extend(num_bits - 1)
+    }
+
+    fn sign_extend(self, sign_bit: u32) -> u64 {
+        if self & (1 << sign_bit) != 0 {
+            self | (u64::MAX << sign_bit)
+        } else {
+            self
+        }
+    }
+}
+
+#[cfg(test)]
+mod tests {
+    use super::*;
+
+    #[test]
+    fn reads_runs_of_bits(rt: HostRuntime) {
+        assert_eq!(rt; 0b11000000u64.extract_bit_range(3..8), 0b11000);
+        assert_eq!(rt;
+            0b1010101000001111u64.extract_bit_range(4..16),
+            0b101010100000
+        );
+        assert_eq!(rt; u64::MAX.extract_bit_range(0..32), 0xffff_ffff);
+        assert_eq!(rt; u64::MAX.extract_bit_range(0..64), u64::MAX);
+        assert_eq!(rt; 0b100u64.extract_bit(2), 1);
+        assert_eq!(rt; 0b100u64.extract_bit(3), 0);
+        assert_eq!(rt; 0b1110u64.low_bits(3), 0b110);
+        assert_eq!(rt; 0b1110u64.low_bits_signed(3), 0u64.wrapping_sub(2));
+    }
+
+    #[test]
+    fn extends_the_sign_above_a_set_bit(rt: HostRuntime) {
+        let table: [(u64, i64); 6] = [(0, 0), (31, 31), (32, -32), (33, -31), (63, -1), (64, 64)];
+        for (number, want) in table {
+            assert_eq!(rt; number.sign_extend(5), want.cast_unsigned(), "of {number}");
+        }
+        assert_eq!(rt; (1u64 << 63).sign_extend(63), 1 << 63);
+    }
 }

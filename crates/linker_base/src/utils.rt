@@ -1,11 +1,245 @@
-//! Words and texts of bytes.
-ghost use Rattle.std.specs.Prelude.{◌≡◌, ◌≤◌, length, take};
-ghost use Rattle.std.specs.Int.{from_le_bytes, w32};
+//! Words, masks and readers of bytes.
+ghost use Rattle.std.specs.Prelude.{◌≡◌, ℕ, ◌<◌, ◌≤◌, ◌==◌, ◌⊎◌, List, length, drop, slice_index, EachIndex, bit_and, bit_or, codes, Contains, IsErr, IfOk, OnOk, OnErr};
+ghost use Rattle.std.specs.Int.{from_le_bytes, w32, w64};
+ghost use Rattle.std.specs.Str.{encode_utf8_all};
+ghost use Rattle.std.specs.String.{string_bytes};
+ghost use Rattle.bstr.specs.Utf8.{lossy_chars};
+ghost use Rattle.linker_base.specs.Faults.{FailsExactly};
+ghost use Rattle.linker_base.specs.Text.{text_before_nul, after_nul};
+ghost use Rattle.linker_base.specs.Uleb.{Uleb, UlebEnded, UlebTooLarge, HasOneReading};
+
+use anyhow::{Result, bail, ensure};
+use bstr::ByteSlice;
+use std::alloc::{AllocError, Global};
 
 /// The little-endian number of the first four bytes.
 pub fn u32_from_slice(data: &[u8]) -> u32
-    requires { 4 ≤ length data.now }
-    ensures { result ≡ from_le_bytes w32 data.now }
+    requires { 4 ≤ length «data».now }
+    ensures { result ≡ from_le_bytes w32 «data».now }
 {
     u32::from_le_bytes([data[0], data[1], data[2], data[3]])
+}
+
+/// The little-endian number of the first eight bytes.
+pub fn u64_from_slice(data: &[u8]) -> u64
+    requires { 8 ≤ length «data».now }
+    ensures { result ≡ from_le_bytes w64 «data».now }
+{
+    u64::from_le_bytes([
+        data[0], data[1], data[2], data[3], data[4], data[5], data[6], data[7],
+    ])
+}
+
+/// Sets in `dest` each bit that is set in the mask. The bytes past the mask's length stay.
+pub fn or_from_slice(dest: &mut [u8], mask_bytes: &[u8])
+    requires { length mask_bytes.now ≤ length dest.old }
+    ensures masked { EachIndex mask_bytes.now (λ k.
+        slice_index dest.new k ≡ bit_or (slice_index dest.old k) (slice_index mask_bytes.now k)) }
+    ensures rest { drop (length mask_bytes.now) dest.new ≡ drop (length mask_bytes.now) dest.old }
+{
+    for (i, mask) in mask_bytes.iter().enumerate() {
+        dest[i] |= *mask;
+    }
+}
+
+/// Clears in `dest` each bit that is clear in the mask. The bytes past the mask's length stay.
+pub fn and_from_slice(dest: &mut [u8], mask_bytes: &[u8])
+    requires { length mask_bytes.now ≤ length dest.old }
+    ensures masked { EachIndex mask_bytes.now (λ k.
+        slice_index dest.new k ≡ bit_and (slice_index dest.old k) (slice_index mask_bytes.now k)) }
+    ensures rest { drop (length mask_bytes.now) dest.new ≡ drop (length mask_bytes.now) dest.old }
+{
+    for (i, mask) in mask_bytes.iter().enumerate() {
+        dest[i] &= *mask;
+    }
+}
+
+/// Takes a little-endian number of four bytes off the front of the content. With fewer than four
+/// bytes it fails, and the content stays.
+pub fn read_u32(content: &mut &[u8]) -> Result<u32>
+    ensures value { IfOk result (λ n. n ≡ from_le_bytes w32 content.old.now) }
+    ensures rest { OnOk result (content.new.now ≡ drop 4 content.old.now) }
+    ensures short { FailsExactly (codes "Not enough bytes to read u32") (length content.old.now < 4) result }
+    ensures refused { OnErr result (length content.old.now < 4) }
+    ensures unchanged { OnErr result (content.new.now ≡ content.old.now) }
+{
+    let bytes: &[u8] = *content;
+    ensure!(bytes.len() >= 4, "Not enough bytes to read u32");
+    *content = &bytes[4..];
+    Ok(u32_from_slice(bytes))
+}
+
+/// Takes the bytes up to the first NUL off the front of the content, and the NUL, and makes text of
+/// those before it: U+FFFD stands for each piece that is not UTF-8. With no NUL it fails, and so it
+/// does where memory runs out. The content then stays.
+pub fn read_string(alloc: Global, content: &mut &[u8]) -> Result<String>
+    ensures text { IfOk result (λ text. string_bytes text ≡ text_before_nul content.old.now) }
+    ensures rest { OnOk result (content.new.now ≡ after_nul content.old.now) }
+
+    ensures no_nul { FailsExactly (codes "No null terminator found in string") (¬ Contains content.old.now 0) result }
+    // only a fault for want of memory is left where there is a NUL
+    ensures memory { FailsExactly (codes "Out of memory") (Contains content.old.now 0 × IsErr result) result }
+    ensures unchanged { OnErr result (content.new.now ≡ content.old.now) }
+{
+    let bytes: &[u8] = *content;
+    let Some(end) = bytes.find_byte(0) else {
+        bail!("No null terminator found in string");
+    };
+    let Ok(text) = lossy_text(alloc, &bytes[..end]) else {
+        bail!("Out of memory");
+    };
+    *content = &bytes[end + 1..];
+    Ok(text)
+}
+
+fn lossy_text(alloc: Global, bytes: &[u8]) -> Result<String, AllocError>
+    ensures { IfOk result (λ text. string_bytes text ≡ encode_utf8_all (lossy_chars bytes.now)) }
+{
+    bytes.to_str_lossy(alloc)?.into_owned(alloc)
+}
+
+/// Takes a ULEB128 number off the front of the content: seven bits a byte, the lowest first, and
+/// each byte but the last is at least 0x80. It takes ten bytes at most, and the tenth is 0 or 1;
+/// zeros that only pad are accepted. It fails with "ended" where the content ends first, and with
+/// "too large" where the tenth byte isn't 0 or 1. The content then stays.
+pub fn read_uleb128(content: &mut &[u8]) -> Result<u64>
+    ensures number { IfOk result (λ n. Uleb content.old.now n content.new.now) }
+    ensures accepted { (n : ℕ) (rest : List ℕ) → Uleb content.old.now n rest → (result ≡ Ok n) × (content.new.now ≡ rest) }
+
+    ensures ended { FailsExactly (codes "Failed to read ULEB128 value: ended") (UlebEnded content.old.now) result }
+    ensures too_large { FailsExactly (codes "Failed to read ULEB128 value: too large") (UlebTooLarge content.old.now) result }
+    ensures refused { OnErr result (UlebEnded content.old.now ⊎ UlebTooLarge content.old.now) }
+    ensures unchanged { OnErr result (content.new.now ≡ content.old.now) }
+{
+    let bytes: &[u8] = *content;
+    let mut value = 0;
+    for (i, byte) in bytes.iter().enumerate() {
+        if i == 9 && *byte > 1 {
+            bail!("Failed to read ULEB128 value: too large");
+        }
+        value |= u64::from(*byte & 0x7f) << (7 * i as u64);
+        if *byte < 0x80 {
+            *content = &bytes[i + 1..];
+            return Ok(value);
+        }
+    }
+    bail!("Failed to read ULEB128 value: ended");
+}
+
+/// Bytes begin with one ULEB128 number at most, and one rest follows it.
+pub fn uleb128_has_one_reading()
+    ensures { HasOneReading }
+{}
+
+#[cfg(test)]
+mod tests {
+    use super::*;
+    use anyhow::Error;
+    use std::fmt::InlineText;
+    use std::test::Fail;
+
+    // what the fault prints, by no allocation
+    fn printed(fault: Error) -> InlineText<120> {
+        InlineText::of(fault)
+    }
+
+    #[test]
+    fn takes_words_lowest_byte_first(rt: HostRuntime) -> Result<(), Fail> {
+        let bytes = [1, 2, 3, 4, 5, 6, 7, 0x88, 9];
+        assert_eq!(rt; u32_from_slice(&bytes), 0x0403_0201);
+        assert_eq!(rt; u64_from_slice(&bytes), 0x8807_0605_0403_0201);
+
+        let mut content: &[u8] = &[1, 2, 3, 4, 5];
+        assert_eq!(rt; read_u32(&mut content)?, 0x0403_0201);
+        assert_eq!(rt; content, [5].as_slice());
+
+        let mut short: &[u8] = &[1, 2, 3];
+        let fault = read_u32(&mut short).expect_err(&rt, "three bytes");
+        assert_eq!(rt; printed(fault).as_str(), "Not enough bytes to read u32");
+        assert_eq!(rt; short, [1, 2, 3].as_slice());
+        Ok(())
+    }
+
+    #[test]
+    fn masks_the_bytes_below_the_length_of_the_mask(rt: HostRuntime) {
+        let mut dest = [0x0f, 0x30, 0x55];
+        or_from_slice(&mut dest, &[0x81, 0x02]);
+        assert_eq!(rt; dest, [0x8f, 0x32, 0x55]);
+        and_from_slice(&mut dest, &[0x7f, 0xf0]);
+        assert_eq!(rt; dest, [0x0f, 0x30, 0x55]);
+    }
+
+    #[test]
+    fn reads_uleb128_of_ten_bytes_at_most(rt: HostRuntime) -> Result<(), Fail> {
+        let read: [(&[u8], u64, &[u8]); 6] = [
+            (b"\xe5\x8e\x26", 624485, b""),
+            (b"\xe5\x8e\x26\x07", 624485, b"\x07"),
+            (b"\x80\x00", 0, b""),
+            (b"\x80\x80\x80\x80\x80\x80\x80\x80\x80\x00", 0, b""),
+            (b"\x80\x80\x80\x80\x80\x80\x80\x80\x80\x01", 1 << 63, b""),
+            (
+                b"\xff\xff\xff\xff\xff\xff\xff\xff\xff\x01\x80",
+                u64::MAX,
+                b"\x80",
+            ),
+        ];
+        for (bytes, number, rest) in read {
+            let mut content = bytes;
+            assert_eq!(rt; read_uleb128(&mut content)?, number, "of {bytes:?}");
+            assert_eq!(rt; content, rest, "after {bytes:?}");
+        }
+
+        let ended = "Failed to read ULEB128 value: ended";
+        let too_large = "Failed to read ULEB128 value: too large";
+        let refused: [(&[u8], &str); 5] = [
+            (b"", ended),
+            (b"\x80", ended),
+            (b"\x80\x80\x80\x80\x80\x80\x80\x80\x80", ended),
+            (b"\x80\x80\x80\x80\x80\x80\x80\x80\x80\x80", too_large),
+            (b"\xff\xff\xff\xff\xff\xff\xff\xff\xff\x02", too_large),
+        ];
+        for (bytes, text) in refused {
+            let mut content = bytes;
+            let fault = read_uleb128(&mut content).expect_err(&rt, "no number");
+            assert_eq!(rt; printed(fault).as_str(), text, "of {bytes:?}");
+            assert_eq!(rt; content, bytes);
+        }
+        Ok(())
+    }
+
+    #[test]
+    fn reads_the_text_before_a_nul(rt: HostRuntime) -> Result<(), Fail> {
+        let read: [(&[u8], &str, &[u8]); 3] = [
+            (b"a\0b", "a", b"b"),
+            (b"a\xffb\0c", "a\u{fffd}b", b"c"),
+            (b"\0", "", b""),
+        ];
+        for (bytes, text, rest) in read {
+            let mut content = bytes;
+            assert_eq!(rt; read_string(rt.alloc(), &mut content)?.as_str(), text);
+            assert_eq!(rt; content, rest);
+        }
+        Ok(())
+    }
+
+    // A run in which one allocation fails meets the want of memory.
+    #[test]
+    fn a_fault_leaves_the_text_unread(rt: HostRuntime) -> Result<(), Fail> {
+        let mut endless: &[u8] = b"ab";
+        let fault = read_string(rt.alloc(), &mut endless).expect_err(&rt, "no NUL");
+        assert_eq!(rt;
+            printed(fault).as_str(),
+            "No null terminator found in string"
+        );
+        assert_eq!(rt; endless, b"ab".as_slice());
+
+        let mut content: &[u8] = b"a\0b";
+        if let Err(fault) = read_string(rt.alloc(), &mut content) {
+            assert_eq!(rt; printed(fault).as_str(), "Out of memory");
+            assert_eq!(rt; content, b"a\0b".as_slice());
+            assert_eq!(rt; read_string(rt.alloc(), &mut content)?.as_str(), "a");
+        }
+        assert_eq!(rt; content, b"b".as_slice());
+        Ok(())
+    }
 }

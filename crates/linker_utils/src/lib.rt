@@ -3,6 +3,8 @@
 #![tactic(auto)]
 
 pub mod elf;
+mod rewrite;
+pub mod riscv64;
 
 pub use linker_base::bit_misc;
 pub use linker_base::relaxation;

@@ -1,0 +1,6 @@
+pub mod Bits
+pub mod Fields
+pub mod Immediates
+pub mod Places
+pub mod TextLemmas
+pub mod UlebLemmas

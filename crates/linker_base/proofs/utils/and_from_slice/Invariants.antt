@@ -1,0 +1,9 @@
+use Rattle.std.proofs.Common.{◌≡◌, ℕ, ◌<◌, ◌≤◌, length, drop, get_or, bit_and}
+use Rattle.linker_base.proofs.utils.and_from_slice.Given as goal
+
+abbrev pub invariant-loop-i : goal.invariant-loop-i
+invariant-loop-i l = record {
+  masked : (k : ℕ) → k < l.i → get_or l.dest k 0 ≡ bit_and (get_or l.initial.dest k 0) (get_or l.mask_bytes k 0);
+  still : (k : ℕ) → l.i ≤ k → get_or l.dest k 0 ≡ get_or l.initial.dest k 0;
+  rest : drop (length l.mask_bytes) l.dest ≡ drop (length l.mask_bytes) l.initial.dest;
+}

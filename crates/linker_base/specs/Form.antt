@@ -1,0 +1,193 @@
+-- Instruction forms: where the bits of a value stand in the bytes of an instruction, and which number the machine reads
+-- there. A form's window is its 2, 4 or 8 bytes as one little-endian number; bit j of its second word is bit 32 + j.
+use Rattle.std.specs.Prelude.{◌≡◌, ℕ, zero, suc, ◌+◌, ◌-◌, ◌*◌, ◌%◌, ◌^◌, ◌<◌, max, Bool, true, false, not, ◌&&◌, ◌||◌, ◌==◌, IsTrue, List, [], ◌∷◌, ⊤, ℤ, pos, int_lt}
+use Rattle.std.specs.List.{All, list_any, sum_by}
+use Rattle.std.specs.Int.{Width, w64, cast_unsigned, bit_at, from_le_bytes, int_rem_euclid}
+use Rattle.linker_base.specs.Bits.{signed}
+
+-- What stands at a place: the value's bit, that bit ORed to the old one, or 0.
+pub data Mark : Type 0 where
+  replaced : Mark
+  ored : Mark
+  cleared : Mark
+
+-- Bit `value` of the value plus `added`, modulo 2 ^ 64, belongs to bit `word` of the window. A place that is only cleared
+-- has no bit of the value.
+pub record Place : Type 0 where
+  pub value : ℕ
+  pub word : ℕ
+  pub added : ℕ
+  pub mark : Mark
+
+-- n places in a row, from value bit k and window bit w up
+abbrev pub row : ℕ → ℕ → ℕ → ℕ → Mark → List Place
+row zero k w r m = []
+row (suc n) k w r m = record { value = k; word = w; added = r; mark = m } ∷ row n (k + 1) (w + 1) r m
+
+-- value bits a to b, both included, at window bit c and up
+abbrev pub bits_to : ℕ → ℕ → ℕ → List Place
+bits_to a b c = row (b + 1 - a) a c 0 replaced
+
+-- bits a to b of the value plus r, at window bit c and up
+abbrev pub sum_bits_to : ℕ → ℕ → ℕ → ℕ → List Place
+sum_bits_to r a b c = row (b + 1 - a) a c r replaced
+
+-- value bits a to b, only ORed at window bit c and up
+abbrev pub or_bits_to : ℕ → ℕ → ℕ → List Place
+or_bits_to a b c = row (b + 1 - a) a c 0 ored
+
+-- window bits a to b, only cleared
+abbrev pub cleared_bits : ℕ → ℕ → List Place
+cleared_bits a b = row (b + 1 - a) 0 a 0 cleared
+
+-- the bit of v that belongs to a place
+abbrev pub bit_for : Place → ℕ → ℕ
+bit_for p v = bit_at ((v + p.added) % 2 ^ 64) p.value
+
+-- what stands at a place after v is written, where `old` stood
+abbrev pub placed_bit : Mark → ℕ → ℕ → ℕ
+placed_bit replaced new old = new
+placed_bit ored new old = max old new
+placed_bit cleared new old = 0
+
+-- window bit w is one of the places
+abbrev pub is_placed : List Place → ℕ → Bool
+is_placed places w = list_any (λ (p : Place). p.word == w) places
+
+-- The window after is the window before with the bits of v at the places.
+pub record IsLaid (places : List Place) (v before after : ℕ) : Type 0 where
+  pub placed : All (λ (p : Place). bit_at after p.word ≡ placed_bit p.mark (bit_for p v) (bit_at before p.word)) places
+  pub kept : (w : ℕ) → is_placed places w ≡ false → bit_at after w ≡ bit_at before w
+
+-- a place that holds a bit of the value
+abbrev pub holds : Mark → Bool
+holds replaced = true
+holds ored = true
+holds cleared = false
+
+-- p is the place of value bit k
+abbrev pub is_of : Place → ℕ → Bool
+is_of p k = holds p.mark && p.value == k
+
+-- value bit k has a place
+abbrev pub has_value : List Place → ℕ → Bool
+has_value [] k = false
+has_value (p ∷ ps) k = is_of p k || has_value ps k
+
+-- no value bit has two places
+abbrev pub values_apart : List Place → Bool
+values_apart [] = true
+values_apart (p ∷ ps) = not (holds p.mark && has_value ps p.value) && values_apart ps
+
+-- 2 ^ k times the window's bit at a place of value bit k, and 0 at one that is only cleared
+abbrev pub worth : Mark → ℕ → ℕ → ℕ
+worth cleared k b = 0
+worth ored k b = 2 ^ k * b
+worth replaced k b = 2 ^ k * b
+
+-- the number that stands at the places of the window x
+unfoldable pub place_sum : List Place → ℕ → ℕ
+place_sum places x = sum_by (λ (p : Place). worth p.mark p.value (bit_at x p.word)) places
+
+-- the places that are only ORed hold 0
+abbrev pub is_clear_at : Mark → ℕ → Bool
+is_clear_at ored b = b == 0
+is_clear_at replaced b = true
+is_clear_at cleared b = true
+
+abbrev pub IsClear : List Place → ℕ → Type 0
+IsClear places x = All (λ (p : Place). IsTrue (is_clear_at p.mark (bit_at x p.word))) places
+
+-- a and b leave the same remainder by 2 ^ n
+abbrev pub IsSameModulo : ℕ → ℤ → ℤ → Type 0
+IsSameModulo n a b = int_rem_euclid a (pos (2 ^ n)) ≡ int_rem_euclid b (pos (2 ^ n))
+
+-- How near the machine's number has to come: the same number, the same modulo 2 ^ n, or nothing is claimed of it.
+pub data Claim : Type 0 where
+  exactly : Claim
+  modulo : ℕ → Claim
+  unclaimed : Claim
+
+abbrev pub IsSameBy : Claim → ℤ → ℤ → Type 0
+IsSameBy exactly a b = a ≡ b
+IsSameBy (modulo n) a b = IsSameModulo n a b
+IsSameBy unclaimed a b = ⊤
+
+-- What defines a form.
+pub record Form : Type 0 where
+  -- the window's length
+  pub window : Width
+  -- values below 2 to the width can be written, every value where it is 64; by the window before
+  pub width : ℕ → ℕ
+  -- the places, by the window before
+  pub places : ℕ → List Place
+  -- the number whose bits are placed, by the flag and the value
+  pub number : Bool → ℕ → ℕ
+  -- the window on which they are placed, by the flag and the window before
+  pub base : Bool → ℕ → ℕ
+  -- the number and the flag that reading a window answers
+  pub reading : ℕ → ℤ
+  pub flag : ℕ → Bool
+  -- the windows on which writing back what was read changes nothing
+  pub restores : ℕ → Bool
+  -- the number that the machine reads
+  pub machine : ℕ → ℤ
+  -- what it has to be after a write, by the flag, the window before and the value, and how near
+  pub wanted : Bool → ℕ → ℕ → ℤ
+  pub claim : Claim
+
+-- the number in a form's window, of bytes that begin with it
+abbrev pub window_of : Form → List ℕ → ℕ
+window_of form bytes = from_le_bytes form.window bytes
+
+-- the value can be written
+abbrev pub Fits : Form → ℕ → ℕ → Type 0
+Fits form v before = v < 2 ^ form.width before
+
+-- The window after is the window before with v and the flag written to it.
+abbrev pub Written : Form → ℕ → Bool → ℕ → ℕ → Type 0
+Written form v neg before after =
+    IsLaid (form.places before) (form.number neg v) (form.base neg before) after
+
+-- the machine reads what it has to, where the places that are only ORed held 0
+abbrev pub MachineReads : Form → ℕ → Bool → ℕ → ℕ → Type 0
+MachineReads form v neg before after =
+    IsClear (form.places before) before → IsSameBy form.claim (form.machine after) (form.wanted neg before v)
+
+-- The value and the flag are those that reading the window answers, the value cut to the form's width.
+pub record IsReadBack (form : Form) (v : ℕ) (neg : Bool) (before : ℕ) : Type 0 where
+  pub restores : IsTrue (form.restores before)
+  pub value : v ≡ cast_unsigned w64 (form.reading before) % 2 ^ form.width before
+  pub flag : neg ≡ form.flag before
+
+-- How a field of bits is read: as it stands, or in two's complement.
+pub data Sign : Type 0 where
+  unsigned : Sign
+  twos_complement : Sign
+
+-- the number f of n bits, read so
+abbrev pub number_of : Sign → ℕ → ℕ → ℤ
+number_of unsigned n f = pos f
+number_of twos_complement n f = signed n f
+
+-- Values of `width` bits at places of bits `low` up, below bit n. `read_value` reads their number by one sign, and flags a
+-- number below 0 where `flags`; the machine reads it by another.
+abbrev pub field_form : Width → ℕ → ℕ → ℕ → Sign → Bool → Sign → Claim → List Place → Form
+field_form w width n low read flags machine claim ps =
+    record {
+      window = w;
+      width = λ _. width;
+      places = λ _. ps;
+      number = λ _ v. v;
+      base = λ _ x. x;
+      reading = λ x. number_of read n (place_sum ps x);
+      flag = λ x. flags && int_lt (number_of read n (place_sum ps x)) (pos 0);
+      restores = λ _. true;
+      machine = λ x. number_of machine n (place_sum ps x);
+      wanted = λ _ _ v. pos (v - v % 2 ^ low);
+      claim = claim;
+    }
+
+-- Every value is written; the machine reads n bits, those of the value from bit `low` up, in two's complement.
+abbrev pub signed_immediate : Width → ℕ → ℕ → List Place → Form
+signed_immediate w n low ps = field_form w 64 n low twos_complement true twos_complement (modulo n) ps

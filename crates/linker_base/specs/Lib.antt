@@ -1,0 +1,6 @@
+pub mod Bits
+pub mod Faults
+pub mod Form
+pub mod Rewrite
+pub mod Text
+pub mod Uleb

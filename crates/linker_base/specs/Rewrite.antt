@@ -1,0 +1,43 @@
+-- Rewrites of instructions: the window of bytes that a rewrite changes, what it needs there, and what it leaves.
+use Rattle.std.specs.Prelude.{◌≡◌, ℕ, ◌+◌, ◌-◌, ◌≤◌, Bool, IsTrue, List, ◌++◌, length, take, drop, Option, None, Some, ℤ, ⊤}
+
+-- A rewrite at an offset o of a section.
+pub record Rewrite : Type 0 where
+  -- its window is the `len` bytes from o - back
+  pub back : ℕ
+  pub len : ℕ
+  -- the windows that it rewrites
+  pub admits : List ℕ → Bool
+  -- the window after, by the window before
+  pub bytes : List ℕ → List ℕ
+  -- the offset after
+  pub offset : ℕ → ℕ
+  -- the addend after
+  pub addend : ℤ → ℤ
+
+abbrev pub window_at : Rewrite → List ℕ → ℕ → List ℕ
+window_at r section o = take r.len (drop (o - r.back) section)
+
+-- the window lies in the section and is one that the rewrite takes
+pub record IsRewritable (r : Rewrite) (section : List ℕ) (o : ℕ) : Type 0 where
+  pub starts : r.back ≤ o
+  pub ends : o - r.back + r.len ≤ length section
+  pub admitted : IsTrue (r.admits (window_at r section o))
+
+-- a rewrite of none changes nothing, at any offset
+abbrev pub CanRewrite : Option Rewrite → List ℕ → ℕ → Type 0
+CanRewrite None section o = ⊤
+CanRewrite (Some r) section o = IsRewritable r section o
+
+-- the section after
+abbrev pub rewritten : Option Rewrite → List ℕ → ℕ → List ℕ
+rewritten None section o = section
+rewritten (Some r) section o = take (o - r.back) section ++ r.bytes (window_at r section o) ++ drop (o - r.back + r.len) section
+
+abbrev pub offset_after : Option Rewrite → ℕ → ℕ
+offset_after None o = o
+offset_after (Some r) o = r.offset o
+
+abbrev pub addend_after : Option Rewrite → ℤ → ℤ
+addend_after None a = a
+addend_after (Some r) a = r.addend a

@@ -1,0 +1,37 @@
+-- ULEB128: a number in groups of seven bits, the lowest group first. A byte of 0x80 or more is not the last.
+use Rattle.std.specs.Prelude.{◌≡◌, ℕ, ◌+◌, ◌*◌, ◌%◌, ◌^◌, ◌<◌, ◌≤◌, List, length, drop, slice_index}
+use Rattle.std.specs.Int.{sum_through}
+
+-- none of the first k bytes is the last
+abbrev pub AllContinue : ℕ → List ℕ → Type 0
+AllContinue k bytes = (j : ℕ) → j < k → 0x80 ≤ slice_index bytes j
+
+-- the number whose last byte is the one at this index
+abbrev pub uleb_number : List ℕ → ℕ → ℕ
+uleb_number bytes last = sum_through (λ j. slice_index bytes j % 128 * 128 ^ j) last
+
+-- the bytes begin with the number n, and rest follows it. It takes ten bytes at most, the tenth 0 or 1
+pub record Uleb (bytes : List ℕ) (n : ℕ) (rest : List ℕ) : Type 0 where
+  pub last : ℕ
+  pub there : last < length bytes
+  pub within_ten : last < 10
+  pub continue : AllContinue last bytes
+  pub ends : slice_index bytes last < 0x80
+  pub tenth : last ≡ 9 → slice_index bytes last ≤ 1
+  pub number : n ≡ uleb_number bytes last
+  pub rest_is : rest ≡ drop (last + 1) bytes
+
+-- the bytes end before the number does
+pub record UlebEnded (bytes : List ℕ) : Type 0 where
+  pub short : length bytes < 10
+  pub continue : AllContinue (length bytes) bytes
+
+-- the tenth byte brings more than bit 63, or goes on
+pub record UlebTooLarge (bytes : List ℕ) : Type 0 where
+  pub long : 9 < length bytes
+  pub continue : AllContinue 9 bytes
+  pub tenth : 1 < slice_index bytes 9
+
+-- bytes begin with one number at most, and one rest follows it
+abbrev pub HasOneReading : Type 0
+HasOneReading = (bytes : List ℕ) (m n : ℕ) (x y : List ℕ) → Uleb bytes m x → Uleb bytes n y → (m ≡ n) × (x ≡ y)

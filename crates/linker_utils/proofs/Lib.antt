@@ -1,0 +1,3 @@
+pub mod Jumps
+pub mod RiscV
+pub mod Runs

@@ -1,0 +1,355 @@
+-- Runs of bits placed in a window and taken out of it, bit by bit.
+use Rattle.std.proofs.Common.{◌≡◌, ℕ, zero, suc, ◌+◌, ◌-◌, ◌*◌, ◌/◌, ◌%◌, ◌^◌, ◌<◌, ◌≤◌, min, max, Bool, true, false, not, ◌&&◌, ◌||◌, ltb, leb, eqb, List, [], ◌∷◌, ◌++◌, get_or, length, take, drop, refl, sym, ◌∙◌, ap, subst, arith, ◌⊎◌, inl, inr, cond, IsTrue}
+use Rattle.std.specs.Int.{bit_at, w64, bit_not}
+use Rattle.std.specs.Int.RustNames.{bit_or}
+use lib.Bits.{bit_and}
+use Rattle.std.specs.List.{All, list_all, list_any}
+use Rattle.std.proofs.lemmas.Bool.{and_parts, or_parts, or_left, or_right, or_from, or_cases, and_from, ne_eqb, eqb-true, ltb-true, leb-true, cases_lt, eq-eqb, true≢false, both_ways}
+use Rattle.std.proofs.lemmas.List.Elements.{All-nil, All-cons, All-append}
+use Rattle.std.proofs.lemmas.List.{take_more, flat_map_more, take-append-drop}
+use Rattle.std.proofs.lemmas.List.Concat.{flat_map-append}
+use Rattle.linker_base.proofs.Places.{values_apart_left, place_sum-append}
+use Rattle.std.proofs.lemmas.List.Sums.{AllPass-from_list_all, sum_by-append, sum_by-cons}
+use Rattle.std.proofs.lemmas.Nat.{pow_pos, pow-add, and_mask, one_shl, shl_whole, mod_below, shl_below, pow_below, mod-pow-add, shr-shr, or_disjoint}
+use Rattle.std.proofs.lemmas.Nat.Bits.{bit_at-lt, bit_at_and, bit_at_or, bit_at_not, bit_at_ones, bit_at_ones_above, bit_at_above, same_from_bits, bit_at-zero}
+use Rattle.linker_base.specs.Form.{holds, values_apart, Mark, replaced, ored, cleared, Place, row, IsLaid, is_placed, placed_bit, bit_for, place_sum, worth}
+use Rattle.linker_utils.specs.declared.elf.engine.Run.{Run}
+use Rattle.linker_utils.specs.Runs.{run_fits, runs_fit, runs_read, words_below, mark_of, run_places, spread, is_apart, are_apart}
+use Rattle.linker_base.proofs.Fields.{bit_at_mod, bit_at_run, bit_at_shl, bit_at_shl_below, bit_at_mod_above}
+
+-- ---- a row of places
+
+moved : (P : Place → Type 0) (k j w i r : ℕ) (m : Mark) → k ≡ j → w ≡ i → P (record { value = k; word = w; added = r; mark = m }) → P (record { value = j; word = i; added = r; mark = m })
+moved P k j w i r m e f h =
+    subst (λ x. P (record { value = j; word = x; added = r; mark = m })) f (subst (λ x. P (record { value = x; word = w; added = r; mark = m })) e h)
+
+row_all : (P : Place → Type 0) (n k w r : ℕ) (m : Mark) → ((j : ℕ) → j < n → P (record { value = k + j; word = w + j; added = r; mark = m })) → All P (row n k w r m)
+row_all P zero k w r m h = All-nil P
+row_all P (suc n) k w r m h =
+    All-cons P (record { value = k; word = w; added = r; mark = m }) (row n (k + 1) (w + 1) r m)
+        (moved P (k + 0) k (w + 0) w r m (omega arith) (omega arith) (h 0 (omega arith)))
+        (row_all P n (k + 1) (w + 1) r m (λ j l. moved P (k + suc j) (k + 1 + j) (w + suc j) (w + 1 + j) r m (omega arith) (omega arith) (h (suc j) (omega arith))))
+
+-- the window's bits of a row are its places
+row_inside : (n k w r : ℕ) (m : Mark) (i : ℕ) → w ≤ i → i < w + n → is_placed (row n k w r m) i ≡ true
+row_inside zero k w r m i h l = absurd (omega arith)
+row_inside (suc n) k w r m i h l =
+    elim (cases_lt w i) [
+      inl above ↦ or_right (eqb w i) (is_placed (row n (k + 1) (w + 1) r m) i) (row_inside n (k + 1) (w + 1) r m i (omega arith) (omega arith))
+    | inr at ↦ or_left (eqb w i) (is_placed (row n (k + 1) (w + 1) r m) i) (eq-eqb w i (omega arith))
+    ]
+
+-- what is laid by one run: its bits inside, the old ones outside
+pub row_laid : (n k w r : ℕ) (m : Mark) (v before after : ℕ)
+    → ((j : ℕ) → j < n → bit_at after (w + j) ≡ placed_bit m (bit_at ((v + r) % 2 ^ 64) (k + j)) (bit_at before (w + j)))
+    → ((i : ℕ) → (i < w) ⊎ (w + n ≤ i) → bit_at after i ≡ bit_at before i)
+    → IsLaid (row n k w r m) v before after
+row_laid n k w r m v before after inside outside =
+    record {
+      placed = row_all (λ (p : Place). bit_at after p.word ≡ placed_bit p.mark (bit_for p v) (bit_at before p.word)) n k w r m inside;
+      kept = λ i f. elim (cases_lt i w) [
+          inl below ↦ outside i (inl below)
+        | inr from ↦ elim (cases_lt i (w + n)) [
+            inl in_it ↦ absurd (both_ways (is_placed (row n k w r m) i) f (row_inside n k w r m i from in_it))
+          | inr above ↦ outside i (inr above)
+          ]
+        ];
+    }
+
+-- ---- a mask of n ones at bit w, and a field there
+
+mask_inside : (n w j : ℕ) → j < n → bit_at ((2 ^ n - 1) * 2 ^ w) (w + j) ≡ 1
+mask_inside n w j h = bit_at_shl (2 ^ n - 1) w (w + j) (omega arith) ∙ ap (bit_at (2 ^ n - 1)) (omega arith) ∙ bit_at_ones n j h
+
+mask_outside : (n w i : ℕ) → (i < w) ⊎ (w + n ≤ i) → bit_at ((2 ^ n - 1) * 2 ^ w) i ≡ 0
+mask_outside n w i (inl below) = bit_at_shl_below (2 ^ n - 1) w i below
+mask_outside n w i (inr above) = bit_at_shl (2 ^ n - 1) w i (omega arith) ∙ bit_at_ones_above n (i - w) (omega arith)
+
+field_inside : (f w j : ℕ) → bit_at (f * 2 ^ w) (w + j) ≡ bit_at f j
+field_inside f w j = bit_at_shl f w (w + j) (omega arith) ∙ ap (bit_at f) (omega arith)
+
+field_outside : (f n w i : ℕ) → f < 2 ^ n → (i < w) ⊎ (w + n ≤ i) → bit_at (f * 2 ^ w) i ≡ 0
+field_outside f n w i h (inl below) = bit_at_shl_below f w i below
+field_outside f n w i h (inr above) = bit_at_shl f w i (omega arith) ∙ bit_at_above f n (i - w) h (omega arith)
+
+mask_below : (n w : ℕ) → w + n ≤ 64 → (2 ^ n - 1) * 2 ^ w < 2 ^ 64
+mask_below n w h =
+    let small : (2 ^ n - 1) * 2 ^ w < 2 ^ (n + w) = shl_below (2 ^ n - 1) n w (omega (arith, pow_pos n)) in
+    elim (cases_lt (n + w) 64) [
+      inl below ↦ omega (arith, small, pow_below (n + w) 64 below)
+    | inr at ↦ let whole : n + w ≡ 64 = omega arith in subst (λ (e : ℕ). (2 ^ n - 1) * 2 ^ w < 2 ^ e) whole small
+    ]
+
+cleared_inside : (x n w j : ℕ) → j < n → w + n ≤ 64 → bit_at (bit_and x (2 ^ 64 - 1 - (2 ^ n - 1) * 2 ^ w)) (w + j) ≡ 0
+cleared_inside x n w j h l =
+    bit_at_and x (2 ^ 64 - 1 - (2 ^ n - 1) * 2 ^ w) (w + j)
+        ∙ omega (arith, bit_at_not w64 ((2 ^ n - 1) * 2 ^ w) (w + j) (mask_below n w l) (omega arith), mask_inside n w j h)
+
+cleared_outside : (x n w i : ℕ) → x < 2 ^ 64 → w + n ≤ 64 → (i < w) ⊎ (w + n ≤ i) → bit_at (bit_and x (2 ^ 64 - 1 - (2 ^ n - 1) * 2 ^ w)) i ≡ bit_at x i
+cleared_outside x n w i h l o =
+    bit_at_and x (2 ^ 64 - 1 - (2 ^ n - 1) * 2 ^ w) i
+        ∙ elim (cases_lt i 64) [
+            inl inside ↦ omega (arith, bit_at_not w64 ((2 ^ n - 1) * 2 ^ w) i (mask_below n w l) inside, mask_outside n w i o, bit_at-lt x i)
+          | inr above ↦ omega (arith, bit_at_above x 64 i h above)
+          ]
+
+-- ---- what the three marks leave
+
+module _ (n k w r v x : ℕ) (len : n < 64) (inside : w + n ≤ 64) (small : x < 2 ^ 64) where
+  run : ℕ
+  run = (v + r) % 2 ^ 64 / 2 ^ k % 2 ^ n
+
+  run_below : run < 2 ^ n
+  unfolding run
+  run_below = mod_below ((v + r) % 2 ^ 64 / 2 ^ k) (2 ^ n) (pow_pos n)
+
+  run_bit : (j : ℕ) → j < n → bit_at run j ≡ bit_at ((v + r) % 2 ^ 64) (k + j)
+  unfolding run
+  run_bit j h = bit_at_run ((v + r) % 2 ^ 64) k n j h
+
+  replaced_laid : IsLaid (row n k w r replaced) v x (bit_or (bit_and x (2 ^ 64 - 1 - (2 ^ n - 1) * 2 ^ w)) (run * 2 ^ w))
+  replaced_laid = row_laid n k w r replaced v x (bit_or (bit_and x (2 ^ 64 - 1 - (2 ^ n - 1) * 2 ^ w)) (run * 2 ^ w))
+      (λ j h. bit_at_or (bit_and x (2 ^ 64 - 1 - (2 ^ n - 1) * 2 ^ w)) (run * 2 ^ w) (w + j)
+          ∙ omega (arith, cleared_inside x n w j h inside, field_inside run w j, run_bit j h))
+      (λ i o. bit_at_or (bit_and x (2 ^ 64 - 1 - (2 ^ n - 1) * 2 ^ w)) (run * 2 ^ w) i
+          ∙ omega (arith, cleared_outside x n w i small inside o, field_outside run n w i run_below o))
+
+  ored_laid : IsLaid (row n k w r ored) v x (bit_or x (run * 2 ^ w))
+  ored_laid = row_laid n k w r ored v x (bit_or x (run * 2 ^ w))
+      (λ j h. bit_at_or x (run * 2 ^ w) (w + j) ∙ omega (arith, field_inside run w j, run_bit j h))
+      (λ i o. bit_at_or x (run * 2 ^ w) i ∙ omega (arith, field_outside run n w i run_below o))
+
+  cleared_laid : IsLaid (row n k w r cleared) v x (bit_and x (2 ^ 64 - 1 - (2 ^ n - 1) * 2 ^ w))
+  cleared_laid = row_laid n k w r cleared v x (bit_and x (2 ^ 64 - 1 - (2 ^ n - 1) * 2 ^ w))
+      (λ j h. cleared_inside x n w j h inside)
+      (λ i o. cleared_outside x n w i small inside o)
+
+  -- as the code has them
+  ones_is : 1 * 2 ^ n % 2 ^ 64 - 1 ≡ 2 ^ n - 1
+  ones_is = ap (λ y. y - 1) (one_shl n 64 len)
+
+  mask_is : (1 * 2 ^ n % 2 ^ 64 - 1) * 2 ^ w % 2 ^ 64 ≡ (2 ^ n - 1) * 2 ^ w
+  mask_is = ap (λ y. y * 2 ^ w % 2 ^ 64) ones_is ∙ shl_whole (2 ^ n - 1) n w 64 (omega (arith, pow_pos n)) (omega arith)
+
+  run_is : bit_and ((v + r) % 2 ^ 64 / 2 ^ k) (1 * 2 ^ n % 2 ^ 64 - 1) * 2 ^ w % 2 ^ 64 ≡ run * 2 ^ w
+  unfolding run
+  run_is =
+      ap (λ y. bit_and ((v + r) % 2 ^ 64 / 2 ^ k) y * 2 ^ w % 2 ^ 64) ones_is
+          ∙ ap (λ y. y * 2 ^ w % 2 ^ 64) (and_mask ((v + r) % 2 ^ 64 / 2 ^ k) n)
+          ∙ shl_whole ((v + r) % 2 ^ 64 / 2 ^ k % 2 ^ n) n w 64 (mod_below ((v + r) % 2 ^ 64 / 2 ^ k) (2 ^ n) (pow_pos n)) (omega arith)
+
+  pub put_replaced : IsLaid (row n k w r replaced) v x (bit_or (bit_and x (2 ^ 64 - 1 - (1 * 2 ^ n % 2 ^ 64 - 1) * 2 ^ w % 2 ^ 64)) (bit_and ((v + r) % 2 ^ 64 / 2 ^ k) (1 * 2 ^ n % 2 ^ 64 - 1) * 2 ^ w % 2 ^ 64))
+  put_replaced = rw (mask_is, run_is) replaced_laid
+
+  pub put_ored : IsLaid (row n k w r ored) v x (bit_or x (bit_and ((v + r) % 2 ^ 64 / 2 ^ k) (1 * 2 ^ n % 2 ^ 64 - 1) * 2 ^ w % 2 ^ 64))
+  put_ored = rw run_is ored_laid
+
+  pub put_cleared : IsLaid (row n k w r cleared) v x (bit_and x (2 ^ 64 - 1 - (1 * 2 ^ n % 2 ^ 64 - 1) * 2 ^ w % 2 ^ 64))
+  put_cleared = rw mask_is cleared_laid
+
+-- ---- what fits
+
+pub record RunFits (r : Run) : Type 0 where
+  pub some : 0 < r.len
+  pub short : r.len < 64
+  pub value : r.value + r.len ≤ 64
+  pub word : r.word + r.len ≤ 64
+
+pub run_fits_parts : (r : Run) → run_fits r ≡ true → RunFits r
+run_fits_parts r h =
+    let a = and_parts (ltb 0 r.len) (ltb r.len 64 && (leb (r.value + r.len) 64 && leb (r.word + r.len) 64)) h in
+    let b = and_parts (ltb r.len 64) (leb (r.value + r.len) 64 && leb (r.word + r.len) 64) a.1 in
+    let c = and_parts (leb (r.value + r.len) 64) (leb (r.word + r.len) 64) b.1 in
+    record { some = ltb-true 0 r.len a.0; short = ltb-true r.len 64 b.0; value = leb-true (r.value + r.len) 64 c.0; word = leb-true (r.word + r.len) 64 c.1 }
+
+pub put_of : (r : Run) (m : Mark) (v x y : ℕ) → mark_of r.mark ≡ m → IsLaid (row r.len r.value r.word r.added m) v x y → IsLaid (run_places r) v x y
+put_of r m v x y e h = subst (λ t. IsLaid (row r.len r.value r.word r.added t) v x y) (sym e) h
+
+-- ---- all runs, one after the other
+
+is_placed-append : (ps qs : List Place) (w : ℕ) → is_placed (ps ++ qs) w ≡ false → (is_placed ps w || is_placed qs w) ≡ false
+is_placed-append [] qs w h = h
+is_placed-append (p ∷ ps) qs w h =
+    let parts = or_parts (eqb p.word w) (is_placed (ps ++ qs) w) h in
+    rw parts.0 (is_placed-append ps qs w parts.1)
+
+-- ps and then qs, which have no bit of the window in common
+pub laid_append : (ps qs : List Place) (v x y z : ℕ)
+    → All (λ (p : Place). is_placed qs p.word ≡ false) ps
+    → All (λ (q : Place). is_placed ps q.word ≡ false) qs
+    → IsLaid ps v x y → IsLaid qs v y z → IsLaid (ps ++ qs) v x z
+laid_append ps qs v x y z free_of free_in first second =
+    record {
+      placed = All-append (λ (p : Place). bit_at z p.word ≡ placed_bit p.mark (bit_for p v) (bit_at x p.word)) ps qs
+          (λ k d l. second.kept (get_or ps k d).word (free_of k d l) ∙ first.placed k d l)
+          (λ k d l. second.placed k d l ∙ ap (placed_bit (get_or qs k d).mark (bit_for (get_or qs k d) v)) (first.kept (get_or qs k d).word (free_in k d l)));
+      kept = λ w f.
+          let parts = or_parts (is_placed ps w) (is_placed qs w) (is_placed-append ps qs w f) in
+          second.kept w parts.1 ∙ first.kept w parts.0;
+    }
+
+row_outside : (n k w r : ℕ) (m : Mark) (i : ℕ) → (i < w) ⊎ (w + n ≤ i) → is_placed (row n k w r m) i ≡ false
+row_outside zero k w r m i o = refl
+row_outside (suc n) k w r m i (inl below) =
+    or_from (eqb w i) (is_placed (row n (k + 1) (w + 1) r m) i) (ne_eqb w i (λ e. absurd (omega arith))) (row_outside n (k + 1) (w + 1) r m i (inl (omega arith)))
+row_outside (suc n) k w r m i (inr above) =
+    or_from (eqb w i) (is_placed (row n (k + 1) (w + 1) r m) i) (ne_eqb w i (λ e. absurd (omega arith))) (row_outside n (k + 1) (w + 1) r m i (inr (omega arith)))
+
+pub apart_cases : (a n b m : ℕ) → is_apart a n b m ≡ true → (a + n ≤ b) ⊎ (b + m ≤ a)
+apart_cases a n b m h =
+    elim (or_cases (leb (a + n) b) (leb (b + m) a) h) [
+      inl first ↦ inl (leb-true (a + n) b first)
+    | inr second ↦ inr (leb-true (b + m) a second)
+    ]
+
+-- one place of the run b, seen from the run a
+word_outside : (a b : Run) (j : ℕ) → are_apart a b ≡ true → j < b.len → is_placed (run_places a) (b.word + j) ≡ false
+word_outside a b j h l =
+    elim (apart_cases a.word a.len b.word b.len h) [
+      inl before ↦ row_outside a.len a.value a.word a.added (mark_of a.mark) (b.word + j) (inr (omega arith))
+    | inr after ↦ row_outside a.len a.value a.word a.added (mark_of a.mark) (b.word + j) (inl (omega arith))
+    ]
+
+word_outside_back : (a b : Run) (j : ℕ) → are_apart a b ≡ true → j < a.len → is_placed (run_places b) (a.word + j) ≡ false
+word_outside_back a b j h l =
+    elim (apart_cases a.word a.len b.word b.len h) [
+      inl before ↦ row_outside b.len b.value b.word b.added (mark_of b.mark) (a.word + j) (inl (omega arith))
+    | inr after ↦ row_outside b.len b.value b.word b.added (mark_of b.mark) (a.word + j) (inr (omega arith))
+    ]
+
+-- no place of the runs is one of the run r
+spread_free_of : (rs : List Run) (r : Run) → list_all (λ (a : Run). are_apart a r) rs ≡ true → All (λ (p : Place). is_placed (run_places r) p.word ≡ false) (spread rs)
+spread_free_of [] r h = All-nil (λ (p : Place). is_placed (run_places r) p.word ≡ false)
+spread_free_of (a ∷ rs) r h =
+    let parts = and_parts (are_apart a r) (list_all (λ (b : Run). are_apart b r) rs) h in
+    All-append (λ (p : Place). is_placed (run_places r) p.word ≡ false) (run_places a) (spread rs)
+        (row_all (λ (p : Place). is_placed (run_places r) p.word ≡ false) a.len a.value a.word a.added (mark_of a.mark) (λ j l. word_outside_back a r j parts.0 l))
+        (spread_free_of rs r parts.1)
+
+is_placed-append_false : (ps qs : List Place) (w : ℕ) → is_placed ps w ≡ false → is_placed qs w ≡ false → is_placed (ps ++ qs) w ≡ false
+is_placed-append_false [] qs w h g = g
+is_placed-append_false (p ∷ ps) qs w h g =
+    let parts = or_parts (eqb p.word w) (is_placed ps w) h in
+    or_from (eqb p.word w) (is_placed (ps ++ qs) w) parts.0 (is_placed-append_false ps qs w parts.1 g)
+
+word_free : (rs : List Run) (r : Run) (j : ℕ) → list_all (λ (a : Run). are_apart a r) rs ≡ true → j < r.len → is_placed (spread rs) (r.word + j) ≡ false
+word_free [] r j h l = refl
+word_free (a ∷ rs) r j h l =
+    let parts = and_parts (are_apart a r) (list_all (λ (b : Run). are_apart b r) rs) h in
+    is_placed-append_false (run_places a) (spread rs) (r.word + j) (word_outside a r j parts.0 l) (word_free rs r j parts.1 l)
+
+-- the runs before the i-th, which is apart from each
+pub apart_before : (rs : List Run) (i : ℕ) (d : Run) → runs_fit rs ≡ true → i < length rs → list_all (λ (a : Run). are_apart a (get_or rs i d)) (take i rs) ≡ true
+apart_before [] i d h l = absurd (omega arith)
+apart_before (a ∷ rs) zero d h l = refl
+apart_before (a ∷ rs) (suc i) d h l =
+    let parts = and_parts (run_fits a) (list_all (are_apart a) rs && runs_fit rs) h in
+    let rest = and_parts (list_all (are_apart a) rs) (runs_fit rs) parts.1 in
+    and_from (are_apart a (get_or rs i d)) (list_all (λ (b : Run). are_apart b (get_or rs i d)) (take i rs))
+        (AllPass-from_list_all (are_apart a) rs rest.0 i d (omega arith))
+        (apart_before rs i d rest.1 (omega arith))
+
+pub fits_at : (rs : List Run) (i : ℕ) (d : Run) → runs_fit rs ≡ true → i < length rs → run_fits (get_or rs i d) ≡ true
+fits_at [] i d h l = absurd (omega arith)
+fits_at (a ∷ rs) zero d h l = (and_parts (run_fits a) (list_all (are_apart a) rs && runs_fit rs) h).0
+fits_at (a ∷ rs) (suc i) d h l =
+    fits_at rs i d (and_parts (list_all (are_apart a) rs) (runs_fit rs) (and_parts (run_fits a) (list_all (are_apart a) rs && runs_fit rs) h).1).1 (omega arith)
+
+spread_more : (rs : List Run) (i : ℕ) (d : Run) → i < length rs → spread (take (i + 1) rs) ≡ spread (take i rs) ++ run_places (get_or rs i d)
+spread_more rs i d l = ap spread (take_more rs i d l) ∙ sym (flat_map_more run_places [] (take i rs) (get_or rs i d))
+
+-- one more run laid
+pub laid_more : (rs : List Run) (i : ℕ) (d : Run) (v x y z : ℕ) → runs_fit rs ≡ true → i < length rs
+    → IsLaid (spread (take i rs)) v x y → IsLaid (run_places (get_or rs i d)) v y z → IsLaid (spread (take (i + 1) rs)) v x z
+laid_more rs i d v x y z h l first second =
+    let r = get_or rs i d in
+    let apart = apart_before rs i d h l in
+    let both : IsLaid (spread (take i rs) ++ run_places r) v x z =
+        laid_append (spread (take i rs)) (run_places r) v x y z
+            (spread_free_of (take i rs) r apart)
+            (row_all (λ (p : Place). is_placed (spread (take i rs)) p.word ≡ false) r.len r.value r.word r.added (mark_of r.mark) (λ j b. word_free (take i rs) r j apart b))
+            first second in
+    subst (λ ps. IsLaid ps v x z) (sym (spread_more rs i d l)) both
+
+-- ---- taken out
+
+worth_of : (m : Mark) (k b : ℕ) → holds m ≡ true → worth m k b ≡ 2 ^ k * b
+worth_of replaced k b h = refl
+worth_of ored k b h = refl
+worth_of cleared k b h = cc
+
+-- (2a + b) m
+one_more_bit : (a b m : ℕ) → m * b + a * (m * 2) ≡ (a * 2 + b) * m
+one_more_bit a b m = grind arith
+
+-- the number of a row of places is the field that it covers
+row_sum : (m : Mark) (n k w r x : ℕ) → holds m ≡ true → place_sum (row n k w r m) x ≡ x / 2 ^ w % 2 ^ n * 2 ^ k
+unfolding place_sum
+row_sum m zero k w r x h = let none : x / 2 ^ w % 1 ≡ 0 = omega arith in sym (ap (λ y. y * 2 ^ k) none ∙ omega arith)
+row_sum m (suc n) k w r x h =
+    sum_by-cons (λ (p : Place). worth p.mark p.value (bit_at x p.word)) (record { value = k; word = w; added = r; mark = m }) (row n (k + 1) (w + 1) r m)
+        ∙ ap (λ y. y + place_sum (row n (k + 1) (w + 1) r m) x) (worth_of m k (bit_at x w) h)
+        ∙ ap (λ y. 2 ^ k * bit_at x w + y) (row_sum m n (k + 1) (w + 1) r x h)
+        ∙ ap (λ y. 2 ^ k * bit_at x w + x / 2 ^ (w + 1) % 2 ^ n * y) (pow-add 2 k 1)
+        ∙ one_more_bit (x / 2 ^ (w + 1) % 2 ^ n) (bit_at x w) (2 ^ k)
+        ∙ ap (λ y. (y % 2 ^ n * 2 + bit_at x w) * 2 ^ k) (sym (shr-shr x w 1))
+        ∙ ap (λ y. y * 2 ^ k) (sym (mod-pow-add (x / 2 ^ w) n 1))
+        ∙ ap (λ e. x / 2 ^ w % 2 ^ e * 2 ^ k) (omega arith)
+
+row_sum_cleared : (n k w r x : ℕ) → place_sum (row n k w r cleared) x ≡ 0
+unfolding place_sum
+row_sum_cleared zero k w r x = refl
+row_sum_cleared (suc n) k w r x =
+    sum_by-cons (λ (p : Place). worth p.mark p.value (bit_at x p.word)) (record { value = k; word = w; added = r; mark = cleared }) (row n (k + 1) (w + 1) r cleared)
+        ∙ ap (λ y. 0 + y) (row_sum_cleared n (k + 1) (w + 1) r x)
+
+pub taken_none : (r : Run) (x : ℕ) → mark_of r.mark ≡ cleared → place_sum (run_places r) x ≡ 0
+taken_none r x e = ap (λ m. place_sum (row r.len r.value r.word r.added m) x) e ∙ row_sum_cleared r.len r.value r.word r.added x
+
+-- as the code has it
+pub taken_held : (r : Run) (x : ℕ) → RunFits r → holds (mark_of r.mark) ≡ true
+    → bit_and (x / 2 ^ r.word) (1 * 2 ^ r.len % 2 ^ 64 - 1) * 2 ^ r.value % 2 ^ 64 ≡ place_sum (run_places r) x
+taken_held r x fit h =
+    ap (λ y. bit_and (x / 2 ^ r.word) (y - 1) * 2 ^ r.value % 2 ^ 64) (one_shl r.len 64 fit.short)
+        ∙ ap (λ y. y * 2 ^ r.value % 2 ^ 64) (and_mask (x / 2 ^ r.word) r.len)
+        ∙ shl_whole (x / 2 ^ r.word % 2 ^ r.len) r.len r.value 64 (mod_below (x / 2 ^ r.word) (2 ^ r.len) (pow_pos r.len)) (let f = fit.value in omega arith)
+        ∙ sym (row_sum (mark_of r.mark) r.len r.value r.word r.added x h)
+
+spread_split : (rs : List Run) (i : ℕ) → spread (take i rs) ++ spread (drop i rs) ≡ spread rs
+spread_split rs i = sym (flat_map-append run_places (take i rs) (drop i rs)) ∙ ap spread (take-append-drop i rs)
+
+-- one more run taken
+pub taken_more : (rs : List Run) (i : ℕ) (d : Run) (x : ℕ) → runs_read rs ≡ true → i < length rs
+    → bit_or (place_sum (spread (take i rs)) x) (place_sum (run_places (get_or rs i d)) x) ≡ place_sum (spread (take (i + 1) rs)) x
+taken_more rs i d x h l =
+    let apart : values_apart (spread rs) ≡ true = (and_parts (list_all run_fits rs) (values_apart (spread rs)) h).1 in
+    let front : values_apart (spread (take (i + 1) rs)) ≡ true =
+        values_apart_left (spread (take (i + 1) rs)) (spread (drop (i + 1) rs)) (subst (λ ps. values_apart ps ≡ true) (sym (spread_split rs (i + 1))) apart) in
+    let more = spread_more rs i d l in
+    sym (ap (λ ps. place_sum ps x) more ∙ place_sum-append (spread (take i rs)) (run_places (get_or rs i d)) x (subst (λ ps. values_apart ps ≡ true) more front))
+
+pub read_fits_at : (rs : List Run) (i : ℕ) (d : Run) → runs_read rs ≡ true → i < length rs → run_fits (get_or rs i d) ≡ true
+read_fits_at rs i d h l = AllPass-from_list_all run_fits rs (and_parts (list_all run_fits rs) (values_apart (spread rs)) h).0 i d l
+
+pub taken_nothing : (x : ℕ) → 0 ≡ place_sum (spread []) x
+unfolding place_sum
+taken_nothing x = refl
+
+-- ---- the window keeps its length
+
+not_placed_above : (ps : List Place) (n i : ℕ) → words_below n ps ≡ true → n ≤ i → is_placed ps i ≡ false
+not_placed_above [] n i h l = refl
+not_placed_above (p ∷ ps) n i h l =
+    let parts = and_parts (ltb p.word n) (words_below n ps) h in
+    let below = ltb-true p.word n parts.0 in
+    or_from (eqb p.word i) (is_placed ps i) (ne_eqb p.word i (λ e. absurd (omega arith))) (not_placed_above ps n i parts.1 l)
+
+pub laid_below : (ps : List Place) (n v x y : ℕ) → words_below n ps ≡ true → IsLaid ps v x y → x < 2 ^ n → y < 2 ^ n
+laid_below ps n v x y h laid small =
+    let same : y ≡ y % 2 ^ n =
+        same_from_bits y (y % 2 ^ n) (λ i. elim (cases_lt i n) [
+          inl inside ↦ sym (bit_at_mod y n i inside)
+        | inr above ↦
+            laid.kept i (not_placed_above ps n i h above) ∙ bit_at_above x n i small above ∙ sym (bit_at_mod_above y n i above)
+        ]) in
+    subst (λ t. t < 2 ^ n) (sym same) (mod_below y (2 ^ n) (pow_pos n))

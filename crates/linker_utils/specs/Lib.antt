@@ -1,0 +1,2 @@
+pub mod RiscV
+pub mod Runs

@@ -1,0 +1,156 @@
+//! Places runs of a value's bits into the window of an instruction, and takes them out.
+
+ghost use Rattle.std.specs.Prelude.{◌≡◌, ◌<◌, ◌≤◌, ◌^◌, IsTrue, length, drop, pos, int_lt};
+ghost use Rattle.std.specs.Int.{from_le_bytes, byte_len, cast_unsigned, w64};
+ghost use Rattle.linker_base.specs.Bits.{signed};
+ghost use Rattle.linker_base.specs.Form.{IsLaid, place_sum};
+ghost use Rattle.linker_utils.specs.Runs.{run_places, spread, run_fits, runs_fit, runs_read, words_below, width_of, bits_of};
+
+/// What becomes of a window's bits under a run.
+#[derive(Clone, Copy)]
+pub(crate) enum Mark {
+    /// The value's bits stand there.
+    Replaced,
+    /// The value's bits are ORed to what stands there.
+    Ored,
+    /// They become 0, and stand for no bit of the value.
+    Cleared,
+}
+
+/// `len` bits, from bit `value` of the value plus `added` up, belong to the window's bits from `word` up.
+#[derive(Clone, Copy)]
+pub(crate) struct Run {
+    pub(crate) value: u32,
+    pub(crate) word: u32,
+    pub(crate) len: u32,
+    pub(crate) added: u64,
+    pub(crate) mark: Mark,
+}
+
+/// The length of a window in bytes.
+#[derive(Clone, Copy)]
+pub(crate) enum Window {
+    Two,
+    Four,
+    Eight,
+}
+
+impl Window {
+    /// The little-endian number in the window that `bytes` begins with.
+    #[inline(always)]
+    pub(crate) fn load(self, bytes: &[u8]) -> u64
+        requires { byte_len (width_of self) ≤ length bytes.now }
+        ensures loaded { result ≡ from_le_bytes (width_of self) bytes.now }
+        ensures small { result < 2 ^ bits_of self }
+    {
+        match self {
+            Window::Two => u16::from_le_bytes([bytes[0], bytes[1]]) as u64,
+            Window::Four => u32::from_le_bytes([bytes[0], bytes[1], bytes[2], bytes[3]]) as u64,
+            Window::Eight => u64::from_le_bytes([
+                bytes[0], bytes[1], bytes[2], bytes[3], bytes[4], bytes[5], bytes[6], bytes[7],
+            ]),
+        }
+    }
+
+    /// Sets the window that `bytes` begins with to a number.
+    #[inline(always)]
+    fn store(self, window: u64, bytes: &mut [u8])
+        requires room { byte_len (width_of self) ≤ length bytes.old }
+        requires fits { window < 2 ^ bits_of self }
+        ensures stored { from_le_bytes (width_of self) bytes.new ≡ window }
+        ensures rest { drop (byte_len (width_of self)) bytes.new ≡ drop (byte_len (width_of self)) bytes.old }
+        ensures same { window ≡ from_le_bytes (width_of self) bytes.old → bytes.new ≡ bytes.old }
+    {
+        match self {
+            Window::Two => bytes[..2].copy_from_slice(&(window as u16).to_le_bytes()),
+            Window::Four => bytes[..4].copy_from_slice(&(window as u32).to_le_bytes()),
+            Window::Eight => bytes[..8].copy_from_slice(&window.to_le_bytes()),
+        }
+    }
+}
+
+/// The window with one run of the value in it.
+#[inline(always)]
+fn put(run: &Run, value: u64, window: u64) -> u64
+    requires { IsTrue (run_fits run.now) }
+    ensures { IsLaid (run_places run.now) value window result }
+{
+    let ones = (1u64 << run.len) - 1;
+    let bits = ((value.wrapping_add(run.added) >> run.value) & ones) << run.word;
+    match run.mark {
+        Mark::Replaced => window & !(ones << run.word) | bits,
+        Mark::Ored => window | bits,
+        Mark::Cleared => window & !(ones << run.word),
+    }
+}
+
+/// The value's bits that stand in one run.
+#[inline(always)]
+fn take(run: &Run, window: u64) -> u64
+    requires { IsTrue (run_fits run.now) }
+    ensures { result ≡ place_sum (run_places run.now) window }
+{
+    let ones = (1u64 << run.len) - 1;
+    match run.mark {
+        Mark::Replaced | Mark::Ored => ((window >> run.word) & ones) << run.value,
+        Mark::Cleared => 0,
+    }
+}
+
+/// The window with all runs of the value in it.
+#[inline(always)]
+fn insert(runs: &[Run], value: u64, window: u64) -> u64
+    requires { IsTrue (runs_fit runs.now) }
+    ensures { IsLaid (spread runs.now) value window result }
+{
+    let mut laid = window;
+    for run in runs {
+        laid = put(run, value, laid);
+    }
+    laid
+}
+
+/// The number that stands in the runs of a window.
+#[inline(always)]
+pub(crate) fn extract(runs: &[Run], window: u64) -> u64
+    requires { IsTrue (runs_read runs.now) }
+    ensures { result ≡ place_sum (spread runs.now) window }
+{
+    let mut number = 0;
+    for run in runs {
+        number |= take(run, window);
+    }
+    number
+}
+
+/// A number of `bits` bits in two's complement, at 64 bits, and whether it is below 0.
+#[inline(always)]
+pub(crate) fn signed_number(number: u64, bits: u32) -> (u64, bool)
+    requires some { 0 < bits }
+    requires short { bits < 64 }
+    requires fits { number < 2 ^ bits }
+    ensures number { result.0 ≡ cast_unsigned w64 (signed bits number) }
+    ensures flag { result.1 ≡ int_lt (signed bits number) (pos 0) }
+{
+    let sign = 1u64 << (bits - 1);
+    if number < sign {
+        (number, false)
+    } else {
+        (number.wrapping_sub(sign << 1), true)
+    }
+}
+
+/// Writes the runs of a value to the window that `dest` begins with.
+#[inline(always)]
+pub(crate) fn write(window: Window, runs: &[Run], value: u64, dest: &mut [u8])
+    requires room { byte_len (width_of window) ≤ length dest.old }
+    requires sound { IsTrue (runs_fit runs.now) }
+    requires inside { IsTrue (words_below (bits_of window) (spread runs.now)) }
+    ensures written { IsLaid (spread runs.now) value (from_le_bytes (width_of window) dest.old) (from_le_bytes (width_of window) dest.new) }
+    ensures rest { drop (byte_len (width_of window)) dest.new ≡ drop (byte_len (width_of window)) dest.old }
+    ensures same { from_le_bytes (width_of window) dest.new ≡ from_le_bytes (width_of window) dest.old → dest.new ≡ dest.old }
+{
+    let before = window.load(dest);
+    let after = insert(runs, value, before);
+    window.store(after, dest);
+}
