@@ -1,6 +1,7 @@
 //! The run of the program over a reader and a writer.
 
-ghost use Rattle.std.specs.Prelude.{◌≡◌, ◌<◌, ◌^◌, ◌≤◌, pos, ◌-ℤ◌};
+ghost use Rattle.std.specs.Prelude.{◌≡◌, ◌<◌, ◌^◌, ◌≤◌, pos, ◌-ℤ◌, OnOk, OnErr};
+ghost use Rattle.linker_utils.specs.RiscV.{JumpsAt};
 ghost use Rattle.linkfix.specs.Spelling.{HasSmallNumbers};
 
 use crate::commands::{BadLine, Command, parse_command};
@@ -137,7 +138,7 @@ impl Workbench {
     {
         match command {
             Command::Call { site, target } => {
-                jal_site(self.section.as_mut_slice(), site, distance(site, target))?;
+                self.call(site, target)?;
                 output.write_all(b"ok\n")?;
             }
             Command::Show => {
@@ -147,6 +148,17 @@ impl Workbench {
             }
         }
         Ok(())
+    }
+
+    /// Turns the call at `site` into one jump to `target`.
+    fn call(&mut self, site: u64, target: u64) -> Result<(), CallError>
+        requires site_is_small { site < 2 ^ 63 }
+        requires target_is_small { target < 2 ^ 63 }
+        ensures jumps { OnOk result
+            (JumpsAt self.old.section.items self.new.section.items site (pos target -ℤ pos site)) }
+        ensures unchanged { OnErr result (self.new.section.items ≡ self.old.section.items) }
+    {
+        jal_site(self.section.as_mut_slice(), site, distance(site, target))
     }
 }
 
