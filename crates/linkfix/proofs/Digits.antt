@@ -1,0 +1,9 @@
+-- What one digit more does to a number.
+use Rattle.std.proofs.Common.{ℕ, ◌+◌, ◌*◌, ◌≤◌, List, [], ◌∷◌, arith}
+use Rattle.std.specs.Char.{digit_value}
+use Rattle.std.specs.Str.Parse.{digits_value_after}
+
+-- more digits never make a number smaller
+pub digits_value_after-grows : (n : ℕ) (cs : List ℕ) → n ≤ digits_value_after 10 n cs
+digits_value_after-grows n [] = omega arith
+digits_value_after-grows n (c ∷ cs) = let h = digits_value_after-grows (n * 10 + digit_value c) cs in omega (arith, h)

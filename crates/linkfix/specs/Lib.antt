@@ -1,0 +1,4 @@
+pub mod Hexed
+pub mod Spelling
+pub mod Unread
+pub mod Words

@@ -1,0 +1,475 @@
+//! Runs over memory. The expected lines are worked by hand from the RISC-V unprivileged ISA's `jal`.
+use crate::program::run;
+use std::alloc::Global;
+use std::io;
+use std::io::{ErrorKind, Read, Write};
+use std::process::Abort;
+use std::test::Fail;
+
+/// A writer into fixed memory, which fails once `writes_left` calls of `write` were made.
+#[derive(Drop)]
+struct Page {
+    bytes: [u8; 64],
+    len: usize,
+    writes_left: u32,
+    faults: u32,
+}
+
+impl Page {
+    fn new(writes_left: u32) -> Page {
+        Page {
+            bytes: [0; 64],
+            len: 0,
+            writes_left,
+            faults: 0,
+        }
+    }
+
+    fn written(&self) -> &str {
+        match self.bytes.get(..self.len).map(str::from_utf8) {
+            Some(Ok(text)) => text,
+            _ => "too much, or no text",
+        }
+    }
+}
+
+impl Write for Page {
+    fn write(&mut self, buf: &[u8]) -> io::Result<usize> {
+        if self.writes_left == 0 {
+            self.faults = self.faults.saturating_add(1);
+            return Err(io::Error::from(ErrorKind::Other));
+        }
+        self.writes_left -= 1;
+        for byte in buf {
+            let at = self.len;
+            if let Some(place) = self.bytes.get_mut(at) {
+                *place = *byte;
+            }
+            self.len = at.saturating_add(1);
+        }
+        Ok(buf.len())
+    }
+
+    fn flush(&mut self) -> io::Result<()> {
+        Ok(())
+    }
+}
+
+/// A reader that gives `piece` bytes a time at most, and notes the least room that it was given.
+#[derive(Drop)]
+struct Pieces<'a> {
+    bytes: &'a [u8],
+    piece: usize,
+    least_room: usize,
+}
+
+impl Read for Pieces<'_> {
+    fn read(&mut self, buf: &mut [u8]) -> io::Result<usize> {
+        self.least_room = self.least_room.min(buf.len());
+        let most = self.piece.min(buf.len());
+        let piece = self.piece;
+        let mut front = self.bytes.get(..piece).unwrap_or(self.bytes);
+        let count = front.read(&mut buf[..most])?;
+        self.bytes = self.bytes.get(count..).unwrap_or(&[]);
+        Ok(count)
+    }
+}
+
+/// A reader that gives one LF at each read, and ends after `lines` of them.
+#[derive(Drop)]
+struct BlankLines {
+    lines: u32,
+    reads: u32,
+}
+
+impl Read for BlankLines {
+    fn read(&mut self, buf: &mut [u8]) -> io::Result<usize> {
+        self.reads = self.reads.saturating_add(1);
+        if self.reads > self.lines {
+            return Ok(0);
+        }
+        match buf.first_mut() {
+            None => Ok(0),
+            Some(place) => {
+                *place = b'\n';
+                Ok(1)
+            }
+        }
+    }
+}
+
+/// A reader whose first read gives `bytes`, and whose next ones fail.
+#[derive(Drop)]
+struct Broken<'a> {
+    bytes: &'a [u8],
+    kind: ErrorKind,
+}
+
+impl Read for Broken<'_> {
+    fn read(&mut self, buf: &mut [u8]) -> io::Result<usize> {
+        if self.bytes.is_empty() {
+            return Err(io::Error::from(self.kind));
+        }
+        self.bytes.read(buf)
+    }
+}
+
+#[derive(Clone, Copy)]
+struct Row {
+    input: &'static [u8],
+    answers: &'static str,
+    status: u8,
+}
+
+fn compare(rt: &impl Abort, alloc: Global, rows: &[Row]) {
+    for row in rows {
+        let mut page = Page::new(9);
+        let status = run(alloc, row.input, &mut page);
+        assert_eq!(rt; page.written(), row.answers, "answers to {:?}", row.input);
+        assert_eq!(rt; status, row.status, "status of {:?}", row.input);
+    }
+}
+
+#[test]
+fn calls_become_jumps(rt: HostRuntime) {
+    let rows = [
+        Row {
+            input: b"97000000e780000013000000\ncall 0 8\nshow\n",
+            answers: "ok\nef008000e780000013000000\n",
+            status: 0,
+        },
+        Row {
+            input: b"97000000e780000013000000\ncall 8 0\nshow\n",
+            answers: "ok\n97000000e78000006ff09fff\n",
+            status: 0,
+        },
+        Row {
+            input: b"97000000e780000013000000\ncall 8 0\ncall 0 8\nshow\nshow\n",
+            answers: "ok\nok\nef008000e78000006ff09fff\nef008000e78000006ff09fff\n",
+            status: 0,
+        },
+    ];
+    compare(&rt, rt.alloc(), &rows);
+}
+
+#[test]
+fn refused_calls_end_the_run(rt: HostRuntime) {
+    let rows = [
+        Row {
+            input: b"97000000e780000013000000\ncall 10 0\nshow\n",
+            answers: "OutOfSection\n",
+            status: 1,
+        },
+        Row {
+            input: b"97000000e780000013000000\nshow\ncall 0 3\nshow\n",
+            answers: "97000000e780000013000000\nOddDistance\n",
+            status: 1,
+        },
+        Row {
+            input: b"97000000e780000013000000\ncall 0 1048576\n",
+            answers: "TooFar\n",
+            status: 1,
+        },
+        Row {
+            input: b"\ncall 0 0\n",
+            answers: "OutOfSection\n",
+            status: 1,
+        },
+    ];
+    compare(&rt, rt.alloc(), &rows);
+}
+
+#[test]
+fn the_first_line_is_the_section(rt: HostRuntime) {
+    let rows = [
+        Row {
+            input: b"",
+            answers: "",
+            status: 0,
+        },
+        Row {
+            input: b"\n",
+            answers: "",
+            status: 0,
+        },
+        Row {
+            input: b"\nshow\n",
+            answers: "\n",
+            status: 0,
+        },
+        Row {
+            input: b"aBcDeF09\r\nshow",
+            answers: "abcdef09\n",
+            status: 0,
+        },
+        Row {
+            input: b"9",
+            answers: "bad section\n",
+            status: 1,
+        },
+        Row {
+            input: b"9g\nshow\n",
+            answers: "bad section\n",
+            status: 1,
+        },
+        Row {
+            input: b" 97\nshow\n",
+            answers: "bad section\n",
+            status: 1,
+        },
+        Row {
+            input: b"97 \nshow\n",
+            answers: "bad section\n",
+            status: 1,
+        },
+        Row {
+            input: b"97\r\r\nshow\n",
+            answers: "bad section\n",
+            status: 1,
+        },
+        Row {
+            input: b"97\r",
+            answers: "bad section\n",
+            status: 1,
+        },
+    ];
+    compare(&rt, rt.alloc(), &rows);
+}
+
+#[test]
+fn lines_are_words_parted_by_spaces(rt: HostRuntime) {
+    let rows = [
+        Row {
+            input: b"97\r\nshow\r\n",
+            answers: "97\n",
+            status: 0,
+        },
+        Row {
+            input: b"97\n\n  \n\r\n \r\n  show  \n",
+            answers: "97\n",
+            status: 0,
+        },
+        Row {
+            input: b"97\nshow",
+            answers: "97\n",
+            status: 0,
+        },
+        Row {
+            input: b"97000000\n  call   0  0 \nshow\n",
+            answers: "ok\nef000000\n",
+            status: 0,
+        },
+        Row {
+            input: b"97\nshow\r\r\n",
+            answers: "bad line\n",
+            status: 1,
+        },
+        Row {
+            input: b"97\nshow\r",
+            answers: "bad line\n",
+            status: 1,
+        },
+        Row {
+            input: b"97\n\tshow\n",
+            answers: "bad line\n",
+            status: 1,
+        },
+        Row {
+            input: b"97\nshow\xc3\xa9\n",
+            answers: "bad line\n",
+            status: 1,
+        },
+        Row {
+            input: b"97\n\xa0\n",
+            answers: "bad line\n",
+            status: 1,
+        },
+        Row {
+            input: b"97\nSHOW\n",
+            answers: "bad line\n",
+            status: 1,
+        },
+        Row {
+            input: b"97\nshow show\n",
+            answers: "bad line\n",
+            status: 1,
+        },
+        Row {
+            input: b"97\nhide\n",
+            answers: "bad line\n",
+            status: 1,
+        },
+    ];
+    compare(&rt, rt.alloc(), &rows);
+}
+
+#[test]
+fn numbers_are_decimal_and_below_two_to_the_63(rt: HostRuntime) {
+    let rows = [
+        Row {
+            input: b"97000000\ncall 000 0000000000000000000000000\n",
+            answers: "ok\n",
+            status: 0,
+        },
+        Row {
+            input: b"97000000\ncall 9223372036854775807 0\n",
+            answers: "OutOfSection\n",
+            status: 1,
+        },
+        Row {
+            input: b"97000000\ncall 0 9223372036854775807\n",
+            answers: "OddDistance\n",
+            status: 1,
+        },
+        Row {
+            input: b"97000000\ncall 0 9223372036854775808\n",
+            answers: "bad line\n",
+            status: 1,
+        },
+        Row {
+            input: b"97000000\ncall 18446744073709551616 0\n",
+            answers: "bad line\n",
+            status: 1,
+        },
+        Row {
+            input: b"97000000\ncall 0\n",
+            answers: "bad line\n",
+            status: 1,
+        },
+        Row {
+            input: b"97000000\ncall\n",
+            answers: "bad line\n",
+            status: 1,
+        },
+        Row {
+            input: b"97000000\ncall 0 0 0\n",
+            answers: "bad line\n",
+            status: 1,
+        },
+        Row {
+            input: b"97000000\ncall +0 0\n",
+            answers: "bad line\n",
+            status: 1,
+        },
+        Row {
+            input: b"97000000\ncall 0 -0\n",
+            answers: "bad line\n",
+            status: 1,
+        },
+        Row {
+            input: b"97000000\ncall 0x0 0\n",
+            answers: "bad line\n",
+            status: 1,
+        },
+        Row {
+            input: b"97000000\ncall 0 a\n",
+            answers: "bad line\n",
+            status: 1,
+        },
+    ];
+    compare(&rt, rt.alloc(), &rows);
+}
+
+#[test]
+fn input_may_come_in_pieces(rt: HostRuntime) {
+    for piece in [1, 2, 3, 5, 4096] {
+        let mut pieces = Pieces {
+            bytes: b"97000000e780000013000000\r\ncall 0 8\r\n\r\nshow",
+            piece,
+            least_room: usize::MAX,
+        };
+        let mut page = Page::new(9);
+        let status = run(rt.alloc(), &mut pieces, &mut page);
+        assert_eq!(rt;
+            page.written(),
+            "ok\nef008000e780000013000000\n",
+            "{piece} a time"
+        );
+        assert_eq!(rt; status, 0);
+        assert!(rt; pieces.least_room >= 4096);
+    }
+}
+
+#[test]
+fn lines_may_be_long(rt: HostRuntime) -> Result<(), Fail> {
+    let mut input = vec![in rt.alloc(); b'0'; 9998]?;
+    input.extend_from_slice(b"97\n")?;
+    for _ in 0..5000 {
+        input.push(b' ')?;
+    }
+    input.extend_from_slice(b"show\n")?;
+    let mut output = Vec::new(rt.alloc());
+    let status = run(rt.alloc(), input.as_slice(), &mut output);
+    assert_eq!(rt; status, 0);
+    assert_eq!(rt; output.len(), 10_001);
+    assert_eq!(rt; output.iter().filter(|byte| **byte == b'0').count(), 9998);
+    assert!(rt; output.ends_with(b"97\n"));
+    Ok(())
+}
+
+#[test]
+fn a_failed_read_ends_the_run(rt: HostRuntime) {
+    for kind in [
+        ErrorKind::Other,
+        ErrorKind::OutOfMemory,
+        ErrorKind::UnexpectedEof,
+    ] {
+        let broken = Broken {
+            bytes: b"97000000\ncall 0 0\nshow",
+            kind,
+        };
+        let mut page = Page::new(9);
+        let status = run(rt.alloc(), broken, &mut page);
+        assert_eq!(rt; page.written(), "ok\n", "at {kind:?}");
+        assert_eq!(rt; status, 1, "at {kind:?}");
+    }
+}
+
+#[test]
+fn an_input_is_read_1048576_times_at_most(rt: HostRuntime) {
+    for (lines, status) in [(1_048_575, 0), (u32::MAX, 1)] {
+        let mut blank = BlankLines { lines, reads: 0 };
+        let mut page = Page::new(9);
+        assert_eq!(rt;
+            run(rt.alloc(), &mut blank, &mut page),
+            status,
+            "{lines} lines"
+        );
+        assert_eq!(rt; blank.reads, 1_048_576, "{lines} lines");
+        assert_eq!(rt; page.written(), "", "{lines} lines");
+    }
+}
+
+#[test]
+fn a_failed_write_is_the_last_one(rt: HostRuntime) {
+    for (writes, answers) in [(0, ""), (1, "ok\n")] {
+        for input in [
+            b"97000000\ncall 0 0\nshow\nshow\n".as_slice(),
+            b"97000000\ncall 0 0\nhide\n".as_slice(),
+        ] {
+            let mut page = Page::new(writes);
+            assert_eq!(rt; run(rt.alloc(), input, &mut page), 1);
+            assert_eq!(rt; page.written(), answers);
+            assert_eq!(rt; page.faults, 1);
+        }
+    }
+}
+
+/// With every growth granted this is the first row of the calls. With one of them refused, as by
+/// `rt try --test --fail-alloc N`, the run says so behind the answers so far.
+#[test]
+fn a_refused_growth_is_told(rt: HostRuntime) {
+    let mut page = Page::new(9);
+    let status = run(
+        rt.alloc(),
+        b"97000000e780000013000000\ncall 0 8\nshow\n".as_slice(),
+        &mut page,
+    );
+    let answers = page.written();
+    if status == 0 {
+        assert_eq!(rt; answers, "ok\nef008000e780000013000000\n");
+    } else {
+        assert_eq!(rt; status, 1);
+        assert!(rt; answers == "out of memory\n" || answers == "ok\nout of memory\n");
+    }
+}
