@@ -1,2 +1,3 @@
-pub mod Rank
 pub mod Places
+pub mod Rank
+pub mod Unions

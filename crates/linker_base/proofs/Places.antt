@@ -1,12 +1,12 @@
 -- Where a list of deletions parts at an offset or at an output place, and what is gone before it.
-use Rattle.std.proofs.Common.{◌≡◌, ℕ, zero, suc, ◌+◌, ◌<◌, ◌≤◌, true, false, List, [], ◌∷◌, length, get_or, take, refl, ap, ⊎_elim, arith}
-use Rattle.std.specs.Prelude.{not, AllPairs}
+use Rattle.std.proofs.Common.{◌≡◌, ℕ, zero, suc, ◌+◌, ◌-◌, ◌<◌, ◌≤◌, true, false, List, [], ◌∷◌, length, get_or, take, refl, ap, ⊎_elim, add-one, arith}
+use Rattle.std.specs.Prelude.{◌^◌, not, AllPairs}
 use Rattle.std.specs.List.{list_any, AllWithin}
 use Rattle.std.proofs.lemmas.Bool.{cases_lt}
 use Rattle.std.proofs.lemmas.Bool.Decides.{nat_tests}
-use Rattle.std.proofs.lemmas.List.{get_or_default}
-use Rattle.std.proofs.lemmas.List.Sums.{sum_by-cons, sum_by_more}
-use Rattle.linker_base.specs.Deletions.{IsApart, bytes_of, holds, is_kept, IsInside, rank, IsSelected}
+use Rattle.std.proofs.lemmas.List.{get_or_default, take_all}
+use Rattle.std.proofs.lemmas.List.Sums.{sum_by-cons, sum_by_more, sum_by-take-le}
+use Rattle.linker_base.specs.Deletions.{IsBefore, IsApart, IsValid, bytes_of, holds, is_kept, IsInside, rank, IsSelected}
 use Rattle.linker_base.proofs.Rank.{removed_by, removed, rank-removed}
 
 -- deletions that end at or below an offset, and then such that begin at or above it
@@ -98,3 +98,40 @@ selected-place ds k y apart within before after = record {
 
     ahead : AllWithin (λ d. suc p ≤ d.0) ds k (length ds)
     ahead j d from below = omega (arith, after j d from below, bytes_of-take_rise ds k j from)
+
+-- the bytes of the deletions from the one at i up to the one at j lie between their offsets
+pub bytes_between : (ds : List (ℕ × ℕ)) (i j : ℕ) (d : ℕ × ℕ) → AllPairs IsBefore ds → i ≤ j → j < length ds → (get_or ds i d).0 + bytes_of (take j ds) ≤ (get_or ds j d).0 + bytes_of (take i ds)
+bytes_between ds i zero d ascending le within = let e : i ≡ zero = omega arith in rw e (omega arith)
+bytes_between ds i (suc j) d ascending le within =
+    ⊎_elim
+    (λ (below : i < suc j).
+      let before = bytes_between ds i j d ascending (omega arith) (omega arith) in
+      let next : (get_or ds j d).0 + (get_or ds j d).1 ≤ (get_or ds (suc j) d).0 = (ascending j (suc j) d (omega arith) within).1 in
+      let more : bytes_of (take (suc j) ds) ≡ bytes_of (take j ds) + (get_or ds j d).1 = rw (← (add-one j)) (sum_by_more (λ (e : ℕ × ℕ). e.1) ds j d (omega arith)) in
+      omega arith)
+    (λ (from : suc j ≤ i). let e : i ≡ suc j = omega arith in rw e (omega arith))
+    (cases_lt i (suc j))
+
+-- the bytes of the earlier deletions fit below a deletion's offset
+pub bytes-le-offset : (ds : List (ℕ × ℕ)) (j : ℕ) (d : ℕ × ℕ) → AllPairs IsBefore ds → j < length ds → bytes_of (take j ds) ≤ (get_or ds j d).0
+bytes-le-offset ds j d ascending within = omega (arith, bytes_between ds 0 j d ascending (omega arith) within)
+
+-- the output places of a list by ascending offset don't fall
+pub places_rise : (ds : List (ℕ × ℕ)) (i j : ℕ) (d : ℕ × ℕ) → AllPairs IsBefore ds → i ≤ j → j < length ds → (get_or ds i d).0 - bytes_of (take i ds) ≤ (get_or ds j d).0 - bytes_of (take j ds)
+places_rise ds i j d ascending le within =
+    omega (arith, bytes_between ds i j d ascending le within, bytes-le-offset ds i d ascending (omega arith), bytes-le-offset ds j d ascending within)
+
+-- all bytes of a valid list fit below the end of its last deletion, and so 64 bits
+pub bytes_fit : (ds : List (ℕ × ℕ)) → IsValid ds → bytes_of ds < 2 ^ 64
+bytes_fit [] valid = omega arith
+bytes_fit (d ∷ ds) valid =
+    let last = length ds in
+    let end : (get_or (d ∷ ds) last d).0 + (get_or (d ∷ ds) last d).1 < 2 ^ 64 = valid.ends last d (omega arith) in
+    let before = bytes-le-offset (d ∷ ds) last d valid.ascending (omega arith) in
+    let more = sum_by_more (λ (e : ℕ × ℕ). e.1) (d ∷ ds) last d (omega arith) in
+    let whole : take (last + 1) (d ∷ ds) ≡ d ∷ ds = take_all (last + 1) (d ∷ ds) (omega arith) in
+    omega (arith, rw whole at more)
+
+-- an offset of a valid list is at most the end of its last deletion: the bytes below any offset fit too
+pub bytes_of-take_fit : (ds : List (ℕ × ℕ)) (k : ℕ) → IsValid ds → bytes_of (take k ds) < 2 ^ 64
+bytes_of-take_fit ds k valid = omega (arith, bytes_fit ds valid, sum_by-take-le (λ (e : ℕ × ℕ). e.1) ds k)
