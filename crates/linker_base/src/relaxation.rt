@@ -1,11 +1,15 @@
 //! Deletions that relaxation makes in a section, and the offsets of what they leave.
 
-ghost use Rattle.std.specs.Prelude.{◌≡◌, ◌≤◌, ◌↔◌, IsTrue, IsOk, IfOk, [], map, length, take};
-ghost use Rattle.linker_base.specs.Deletions.{IsBefore, EndFits, IsValid, bytes_of};
-ghost use Rattle.linker_base.specs.Deltas.{deletion_of, IsListing, AreListed};
+ghost use Rattle.std.specs.Prelude.{◌≡◌, ◌<◌, ◌≤◌, ◌↔◌, IsTrue, IsOk, IfOk, IfSome, IfNone, [], map, length, take};
+ghost use Rattle.std.specs.Option.{ForSome};
+ghost use Rattle.std.specs.List.Sorted.{IsPartitionPoint};
+ghost use Rattle.linker_base.specs.Deletions.{IsBefore, EndFits, IsValid, bytes_of, rank, IsInside, IsSelected, HasInput};
+ghost use Rattle.linker_base.specs.Deltas.{deletion_of, IsListing, AreListed, ArePlaced};
 
 use std::alloc::{AllocError, AllocFailed, Global};
 use std::marker::Model;
+
+pub mod laws;
 
 /// What a linker does with the relocation that follows a rewritten one.
 #[derive(Debug, Clone, Copy, PartialEq, Eq)]
@@ -119,6 +123,60 @@ impl SectionRelaxDeltas {
     {
         bytes_of_first(&self.deltas, self.deltas.len())
     }
+
+    /// The offset in the output section of what stands at `input_offset`: that offset less the
+    /// bytes of all deletions at lower offsets, or how many kept bytes lie below it.
+    ///
+    /// It asks an offset that `is_inside` denies. The search takes O(log n).
+    pub fn input_to_output_offset(&self, input_offset: u64) -> u64
+        requires { ¬ IsInside self.now input_offset }
+        ensures { result ≡ rank self.now input_offset }
+    {
+        let deltas = self.deltas.as_slice();
+        let below = count_below(deltas, input_offset);
+        input_offset - bytes_of_first(deltas, below)
+    }
+
+    /// Whether the offset lies above the first byte of a deletion and below its end.
+    pub fn is_inside(&self, input_offset: u64) -> bool
+        ensures { IsTrue result ↔ IsInside self.now input_offset }
+    {
+        is_inside_one(&self.deltas, input_offset)
+    }
+
+    /// The offset in the input section of the kept byte at `output_offset`: that offset and the
+    /// bytes of all deletions whose output place is at most that.
+    ///
+    /// It asks an offset that `output_fits` accepts. The search takes O(log n).
+    pub fn output_to_input_offset(&self, output_offset: u64) -> u64
+        requires { HasInput self.now output_offset }
+        ensures { IsSelected self.now output_offset result }
+    {
+        let deltas = self.deltas.as_slice();
+        let passed = count_placed(deltas, output_offset);
+        output_offset + bytes_of_first(deltas, passed)
+    }
+
+    /// Whether the input offset of the kept byte at `output_offset` is at most `u64::MAX`.
+    pub fn output_fits(&self, output_offset: u64) -> bool
+        ensures { IsTrue result ↔ HasInput self.now output_offset }
+    {
+        let deltas = self.deltas.as_slice();
+        let passed = count_placed(deltas, output_offset);
+        bytes_of_first(deltas, passed) <= u64::MAX - output_offset
+    }
+}
+
+/// `input_to_output_offset` of the deltas, or `input_offset` itself where there are none.
+pub fn opt_input_to_output(deltas: Option<&SectionRelaxDeltas>, input_offset: u64) -> u64
+    requires { ForSome deltas (λ section. ¬ IsInside section.now input_offset) }
+    ensures some { IfSome deltas.entry (λ section. result ≡ rank section.now input_offset) }
+    ensures none { IfNone deltas.entry (result ≡ input_offset) }
+{
+    match deltas {
+        Some(section) => section.input_to_output_offset(input_offset),
+        None => input_offset,
+    }
 }
 
 // Whether the first pair lies below the second: it has a lower offset and does not reach past it.
@@ -144,5 +202,38 @@ fn bytes_of_first(deltas: &[RelaxDelta], count: usize) -> u64
     match count.checked_sub(1) {
         Some(last) => deltas[last].cumulative_deleted,
         None => 0,
+    }
+}
+
+// How many deltas lie at offsets strictly below `offset`.
+fn count_below(deltas: &[RelaxDelta], offset: u64) -> usize
+    requires { AreListed deltas.now }
+    ensures within { result ≤ length deltas.now }
+    ensures below { IsPartitionPoint (λ d. d.0 < offset) (λ d. offset ≤ d.0) (map deletion_of deltas.now) result }
+{
+    deltas.partition_point(|delta| delta.input_offset < offset)
+}
+
+// How many deltas have an output place, their offset less the bytes deleted before, of at most
+// `offset`. The sums of any two fields fit 65 bits, so no search through 128 bits overflows.
+fn count_placed(deltas: &[RelaxDelta], offset: u64) -> usize
+    requires { AreListed deltas.now }
+    ensures within { result ≤ length deltas.now }
+    ensures placed { ArePlaced (map deletion_of deltas.now) offset result }
+{
+    deltas.partition_point(|delta| {
+        let end = u128::from(delta.input_offset) + u128::from(delta.bytes_deleted);
+        end <= u128::from(offset) + u128::from(delta.cumulative_deleted)
+    })
+}
+
+// Whether a delta begins below the offset and ends above it.
+fn is_inside_one(deltas: &[RelaxDelta], offset: u64) -> bool
+    requires { AreListed deltas.now }
+    ensures { IsTrue result ↔ IsInside (map deletion_of deltas.now) offset }
+{
+    match count_below(deltas, offset).checked_sub(1) {
+        Some(last) => offset - deltas[last].input_offset < u64::from(deltas[last].bytes_deleted),
+        None => false,
     }
 }
