@@ -105,10 +105,10 @@ bytes_between ds i zero d ascending le within = let e : i ≡ zero = omega arith
 bytes_between ds i (suc j) d ascending le within =
     ⊎_elim
     (λ (below : i < suc j).
-      let before = bytes_between ds i j d ascending (omega arith) (omega arith) in
-      let next : (get_or ds j d).0 + (get_or ds j d).1 ≤ (get_or ds (suc j) d).0 = (ascending j (suc j) d (omega arith) within).1 in
-      let more : bytes_of (take (suc j) ds) ≡ bytes_of (take j ds) + (get_or ds j d).1 = rw (← (add-one j)) (sum_by_more (λ (e : ℕ × ℕ). e.1) ds j d (omega arith)) in
-      omega arith)
+    let before = bytes_between ds i j d ascending (omega arith) (omega arith) in
+    let next : (get_or ds j d).0 + (get_or ds j d).1 ≤ (get_or ds (suc j) d).0 = (ascending j (suc j) d (omega arith) within).1 in
+    let more : bytes_of (take (suc j) ds) ≡ bytes_of (take j ds) + (get_or ds j d).1 = rw (← (add-one j)) (sum_by_more (λ (e : ℕ × ℕ). e.1) ds j d (omega arith)) in
+    omega arith)
     (λ (from : suc j ≤ i). let e : i ≡ suc j = omega arith in rw e (omega arith))
     (cases_lt i (suc j))
 
