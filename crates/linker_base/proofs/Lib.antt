@@ -1,4 +1,5 @@
 pub mod Laws
+pub mod Listed
 pub mod Places
 pub mod Rank
 pub mod Unions

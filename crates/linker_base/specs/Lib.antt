@@ -1,2 +1,3 @@
 pub mod Deletions
+pub mod Deltas
 pub mod Laws

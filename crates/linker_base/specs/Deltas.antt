@@ -1,0 +1,22 @@
+-- The deltas that a section keeps of its deletions, and a cursor's walk through them.
+use Rattle.std.specs.Prelude.{◌≡◌, ℕ, ◌+◌, ◌<◌, List, length, map, take, slice_index_or}
+use Rattle.linker_base.specs.declared.relaxation.RelaxDelta.{RelaxDelta}
+use Rattle.linker_base.specs.Deletions.{IsValid, bytes_of}
+
+-- the deletion that a delta records
+abbrev pub deletion_of : RelaxDelta → ℕ × ℕ
+deletion_of delta = (delta.input_offset, delta.bytes_deleted)
+
+-- the deltas record these deletions in this order, each with the bytes of all deletions up to it
+pub record IsListing (deletions : List (ℕ × ℕ)) (deltas : List RelaxDelta) : Type 0 where
+  pub same : map deletion_of deltas ≡ deletions
+  pub sums : (k : ℕ) (d : RelaxDelta) → k < length deltas → (slice_index_or deltas k d).cumulative_deleted ≡ bytes_of (take (k + 1) deletions)
+
+-- the deltas list a valid list of deletions
+pub record AreListed (deltas : List RelaxDelta) : Type 0 where
+  pub valid : IsValid (map deletion_of deltas)
+  pub listing : IsListing (map deletion_of deltas) deltas
+
+-- what holds of the fields of a section's deltas
+pub record IsSound (list : List RelaxDelta) : Type 0 where
+  pub deltas : AreListed list
