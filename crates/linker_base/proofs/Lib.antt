@@ -1,4 +1,6 @@
+pub mod Laws
 pub mod Listed
+pub mod Merging
 pub mod Places
 pub mod Rank
 pub mod Search

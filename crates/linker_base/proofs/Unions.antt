@@ -4,7 +4,7 @@ use Rattle.std.specs.Prelude.{◌⊎◌, not, ◌&&◌, nat_le, nat_lt, AllPairs
 use Rattle.std.specs.List.Sorted.{IsNonDecreasingBy}
 use Rattle.std.proofs.lemmas.Bool.{cases_lt}
 use Rattle.std.proofs.lemmas.Bool.Decides.{nat_tests}
-use Rattle.std.proofs.lemmas.List.{append_assoc}
+use Rattle.std.proofs.lemmas.List.{append_assoc, get_or_append_left, length-append}
 use Rattle.std.proofs.lemmas.List.Elements.{All-contains}
 use Rattle.std.proofs.lemmas.List.Sorted.{All-permutation, Contains-permutation, IsPermutation-sym, IsPermutation-trans, IsPermutation-append_left, IsPermutation-append_right, IsPermutation-append_comm, list_any-IsPermutation}
 use Rattle.std.proofs.lemmas.Map.Keys.{IsDistinct-IsPermutation, IsDistinct-from_apart, apart_from_distinct}
@@ -120,6 +120,13 @@ valid_once xs ys same valid other = same_ascending xs ys valid.ascending other.a
 -- deletions sort into one valid list alone
 pub union_once : (all a b : List (ℕ × ℕ)) → IsSortedUnion all a → IsSortedUnion all b → a ≡ b
 union_once all a b one other = valid_once a b (IsPermutation-trans a all b (IsPermutation-sym all a one.same) other.same) one.valid other.valid
+
+-- the first part of disjoint deletions is disjoint
+pub disjoint_left : (xs ys : List (ℕ × ℕ)) → AreDisjoint (xs ++ ys) → AreDisjoint xs
+disjoint_left xs ys disjoint = record {
+  apart = λ i j d below within. rw (get_or_append_left xs ys d i (omega arith), get_or_append_left xs ys d j within) at (disjoint.apart i j d below (omega (arith, length-append xs ys)));
+  ends = λ k d within. rw (get_or_append_left xs ys d k within) at (disjoint.ends k d (omega (arith, length-append xs ys)));
+}
 
 -- the order of the deletions doesn't matter to which positions are kept
 pub kept_permutation : (xs ys : List (ℕ × ℕ)) (p : ℕ) → IsPermutation xs ys → is_kept xs p ≡ is_kept ys p

@@ -1,9 +1,9 @@
 //! Deletions that relaxation makes in a section, and the offsets of what they leave.
 
-ghost use Rattle.std.specs.Prelude.{◌≡◌, ◌<◌, ◌≤◌, ◌↔◌, IsTrue, IsOk, IfOk, IfSome, IfNone, [], map, length, take};
+ghost use Rattle.std.specs.Prelude.{◌≡◌, ◌<◌, ◌≤◌, ◌↔◌, ◌+◌, ◌++◌, IsTrue, IsOk, IfOk, OnOk, OnErr, IfSome, IfNone, All, [], map, length, take, vec_len, vec_capacity};
 ghost use Rattle.std.specs.Option.{ForSome};
 ghost use Rattle.std.specs.List.Sorted.{IsPartitionPoint};
-ghost use Rattle.linker_base.specs.Deletions.{IsBefore, EndFits, IsValid, bytes_of, rank, IsInside, IsSelected, HasInput};
+ghost use Rattle.linker_base.specs.Deletions.{IsBefore, IsApart, EndFits, AreDisjoint, IsValid, IsSortedUnion, bytes_of, rank, IsInside, IsSelected, HasInput};
 ghost use Rattle.linker_base.specs.Deltas.{deletion_of, IsListing, AreListed, ArePlaced};
 
 use std::alloc::{AllocError, AllocFailed, Global};
@@ -100,6 +100,48 @@ impl SectionRelaxDeltas {
             }
         }
         true
+    }
+
+    /// Adds deletions, each an offset and a count of bytes, in any order.
+    ///
+    /// What is listed is then as `new` makes it of the old and the additional pairs, sorted. The
+    /// list grows once, before anything changes, and not at all where `additional` is empty. The
+    /// work is O((n + k) log(n + k)) for k pairs beside n deltas. `is_mergeable` tests what it asks.
+    pub fn merge_additional(&mut self, additional: &[(u64, u32)]) -> Result<(), OutOfMemory>
+        requires { AreDisjoint (self.old ++ additional.now) }
+        ensures ok { OnOk result (IsSortedUnion (self.old ++ additional.now) self.new) }
+        ensures err { OnErr result (self.new ≡ self.old) }
+        ensures empty_succeeds { additional.now ≡ [] → IsOk result }
+        ensures empty_stays { additional.now ≡ [] → self.new ≡ self.old }
+    {
+        let deltas = &mut self.deltas;
+        if additional.is_empty() {
+            return Ok(());
+        }
+        deltas.reserve(additional.len())?;
+        append(deltas, additional);
+        sort_and_sum(deltas);
+        Ok(())
+    }
+
+    /// Whether the pairs may be merged: their ends are at most `u64::MAX`, and of any two
+    /// deletions, old or additional, one has the lower offset and does not reach past the other's.
+    ///
+    /// It takes no memory. For k pairs beside n deltas the work is O(k log n + k) where the pairs
+    /// ascend, as a pass over a section makes them, and else O(k log n + k²).
+    pub fn is_mergeable(&self, additional: &[(u64, u32)]) -> bool
+        ensures { IsTrue result ↔ AreDisjoint (self.now ++ additional.now) }
+    {
+        are_disjoint(additional) && are_free(&self.deltas, additional)
+    }
+
+    /// A copy of the deltas. It takes memory once.
+    pub fn clone(&self) -> Result<Self, OutOfMemory>
+        ensures { IfOk result (λ section. section ≡ self.now) }
+    {
+        Ok(SectionRelaxDeltas {
+            deltas: self.deltas.clone()?,
+        })
     }
 
     /// The deletions by ascending offset, each with the sum of the bytes up to it.
@@ -236,4 +278,91 @@ fn is_inside_one(deltas: &[RelaxDelta], offset: u64) -> bool
         Some(last) => offset - deltas[last].input_offset < u64::from(deltas[last].bytes_deleted),
         None => false,
     }
+}
+
+// Puts the pairs behind the deltas, with no sum yet.
+fn append(deltas: &mut Vec<RelaxDelta>, pairs: &[(u64, u32)])
+    requires { vec_len deltas.old + length pairs.now ≤ vec_capacity deltas.old }
+    ensures appended { map deletion_of deltas.new.items ≡ map deletion_of deltas.old.items ++ pairs.now }
+    ensures len { vec_len deltas.new ≡ vec_len deltas.old + length pairs.now }
+    ensures capacity { vec_capacity deltas.new ≡ vec_capacity deltas.old }
+{
+    for &(input_offset, bytes_deleted) in pairs {
+        deltas.push_reserved(RelaxDelta {
+            input_offset,
+            cumulative_deleted: 0,
+            bytes_deleted,
+        });
+    }
+}
+
+// Puts the deltas in order, and sums their bytes anew.
+fn sort_and_sum(deltas: &mut [RelaxDelta])
+    requires { AreDisjoint (map deletion_of deltas.old) }
+    ensures sorted { IsSortedUnion (map deletion_of deltas.old) (map deletion_of deltas.new) }
+    ensures listed { AreListed deltas.new }
+{
+    deltas.sort_unstable_by_key(|delta| delta.input_offset);
+    let mut sum = 0;
+    for delta in deltas.iter_mut() {
+        sum += u64::from(delta.bytes_deleted);
+        delta.cumulative_deleted = sum;
+    }
+}
+
+// Whether the pairs, in any order, make a valid list once sorted: one pass where they are one.
+fn are_disjoint(pairs: &[(u64, u32)]) -> bool
+    ensures { IsTrue result ↔ AreDisjoint pairs.now }
+{
+    if SectionRelaxDeltas::is_valid(pairs) {
+        return true;
+    }
+    for (at, &pair) in pairs.iter().enumerate() {
+        if !end_fits(pair) || !is_apart_from(&pairs[..at], pair) {
+            return false;
+        }
+    }
+    true
+}
+
+// Whether each of the others lies below the pair or above it.
+fn is_apart_from(others: &[(u64, u32)], pair: (u64, u32)) -> bool
+    ensures { IsTrue result ↔ All (λ other. IsApart other pair) others.now }
+{
+    for &other in others {
+        if !is_before(other, pair) && !is_before(pair, other) {
+            return false;
+        }
+    }
+    true
+}
+
+// Whether each of the pairs lies below or above each of the deltas.
+fn are_free(deltas: &[RelaxDelta], pairs: &[(u64, u32)]) -> bool
+    requires { AreListed deltas.now }
+    ensures { IsTrue result ↔ All (λ pair. All (λ d. IsApart d pair) (map deletion_of deltas.now)) pairs.now }
+{
+    for &pair in pairs {
+        if !is_free(deltas, pair) {
+            return false;
+        }
+    }
+    true
+}
+
+// Whether the pair lies below or above each of the deltas: the nearest two decide.
+fn is_free(deltas: &[RelaxDelta], pair: (u64, u32)) -> bool
+    requires { AreListed deltas.now }
+    ensures { IsTrue result ↔ All (λ d. IsApart d pair) (map deletion_of deltas.now) }
+{
+    let below = count_below(deltas, pair.0);
+    (below == 0 || is_before(deletion(&deltas[below - 1]), pair))
+        && (below == deltas.len() || is_before(pair, deletion(&deltas[below])))
+}
+
+// The deletion that the delta records.
+fn deletion(delta: &RelaxDelta) -> (u64, u32)
+    ensures { result ≡ deletion_of delta.now }
+{
+    (delta.input_offset, delta.bytes_deleted)
 }

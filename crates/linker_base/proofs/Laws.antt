@@ -1,0 +1,135 @@
+-- The laws of deletions, proved.
+use Rattle.std.proofs.Common.{◌≡◌, ℕ, zero, suc, ◌+◌, ◌-◌, ◌<◌, ◌≤◌, true, false, cond, List, [], ◌∷◌, ◌++◌, length, get_or, take, refl, ap, inl, inr, ⊎_elim, arith}
+use Rattle.std.specs.Prelude.{max, not, nat_lt, All, AllPairs, Contains, IsPermutation}
+use Rattle.std.specs.List.{list_any, AllWithin}
+use Rattle.std.proofs.lemmas.Bool.{cases_lt, cases_Bool, not-true, false_from_ne_true, both_ways, or_right}
+use Rattle.std.proofs.lemmas.Bool.Decides.{nat_tests}
+use Rattle.std.proofs.lemmas.List.Elements.{All-head, All-tail}
+use Rattle.std.proofs.lemmas.List.Sums.{sum_by-cons, sum_by-le-sum_by, count_by-le-length}
+use Rattle.std.proofs.lemmas.List.Sorted.{IsPermutation-append_left, IsPermutation-append_right, IsPermutation-append_comm}
+use Rattle.std.proofs.lemmas.List.{append_assoc}
+use Rattle.linker_base.specs.Deletions.{IsBefore, bytes_of, holds, is_kept, IsInside, rank, IsSelected}
+use Rattle.linker_base.specs.Laws.{InAfterOutReturns, OutAfterInIsFirstKept, OutAfterInReturnsKept, MergeOrderIsFree, begun_below, WalkGivesRanks, MergesShortenDistances}
+use Rattle.linker_base.proofs.Rank.{all_pairs_tail, rank_kept, rank_gone, rank-mono, selected_once}
+use Rattle.linker_base.proofs.Places.{rank-parted}
+use Rattle.linker_base.proofs.Unions.{apart_from_ascending, disjoint_permutation, disjoint_from_union, disjoint_left, union_once, union_of_merges, union_swapped}
+
+-- where a listed deletion holds a position, some deletion does
+held_somewhere : (ds : List (ℕ × ℕ)) (k p : ℕ) (d : ℕ × ℕ) → k < length ds → holds (get_or ds k d) p ≡ true → list_any (λ e. holds e p) ds ≡ true
+held_somewhere [] k p d within held = absurd (omega arith)
+held_somewhere (e ∷ ds) zero p d within held = rw held refl
+held_somewhere (e ∷ ds) (suc k) p d within held = let rest = held_somewhere ds k p d (omega arith) held in or_right (holds e p) (list_any (λ e. holds e p) ds) rest
+
+-- a kept position isn't strictly inside a deletion
+kept_outside : (ds : List (ℕ × ℕ)) (p : ℕ) → is_kept ds p ≡ true → IsInside ds p → ⊥
+kept_outside ds p kept (k, d, within, at, (below, above)) =
+    let held : holds (get_or ds k d) p ≡ true = rw at (grind (arith, nat_tests)) in
+    both_ways _ (not-true _ kept) (held_somewhere ds k p d within held)
+
+pub in_after_out : InAfterOutReturns
+in_after_out ds y p selected = (kept_outside ds p selected.kept, selected.ranked)
+
+pub out_after_in : OutAfterInIsFirstKept
+out_after_in ds i p selected = record {
+  kept = selected.kept;
+  at_or_after = ⊎_elim
+      (λ (below : p < i). absurd (omega (arith, rank_kept ds p selected.kept, rank-mono ds (suc p) i (omega arith), selected.ranked)))
+      (λ (from : i ≤ p). from)
+      (cases_lt p i);
+  none_between = λ q from below. false_from_ne_true (is_kept ds q) (λ kept. omega (arith, rank_kept ds q kept, rank-mono ds i q from, rank-mono ds (suc q) p (omega arith), selected.ranked));
+}
+
+pub out_after_kept : OutAfterInReturnsKept
+out_after_kept ds i fits kept =
+    let here : IsSelected ds (rank ds i) i = record { kept = kept; ranked = refl } in
+    ((i, fits, here), λ p selected. selected_once ds (rank ds i) p i selected here)
+
+last_moved : (old first second : List (ℕ × ℕ)) → IsPermutation (old ++ (first ++ second)) ((old ++ second) ++ first)
+last_moved old first second = rw append_assoc (IsPermutation-append_right old (first ++ second) (second ++ first) (IsPermutation-append_comm first second))
+
+pub merge_order : MergeOrderIsFree
+merge_order old first second one both merged again =
+    let union = union_of_merges old first second one both merged again in
+    let other = disjoint_permutation _ _ (last_moved old first second) (disjoint_from_union _ both union) in
+    record {
+      second_at_first = disjoint_left (old ++ second) first other;
+      then_first = λ two union_two. disjoint_permutation _ (two ++ first) (IsPermutation-append_left first (old ++ second) two union_two.same) other;
+      same = λ two swapped union_two union_swapped_two. union_once (old ++ (first ++ second)) swapped both (union_swapped old first second swapped (union_of_merges old second first two swapped union_two union_swapped_two)) union;
+      at_once = λ sorted union_sorted. union_once _ sorted both union_sorted union;
+    }
+
+-- where no deletion begins below i, none is counted
+begun_none : (ds : List (ℕ × ℕ)) (i : ℕ) → All (λ d. i ≤ d.0) ds → begun_below ds i ≡ 0
+begun_none [] i from = refl
+begun_none (e ∷ ds) i from =
+    let first : i ≤ e.0 = All-head (λ d. i ≤ d.0) e ds from in
+    let rest = begun_none ds i (All-tail (λ d. i ≤ d.0) e ds from) in
+    grind (arith, nat_tests, sum_by-cons (λ (d : ℕ × ℕ). cond (nat_lt d.0 i) 1 0) e ds, rest)
+
+-- the first `begun_below` deletions of an ascending list begin below i, and the others don't
+begun_parted : (ds : List (ℕ × ℕ)) (i : ℕ) → AllPairs IsBefore ds → AllWithin (λ d. d.0 < i) ds 0 (begun_below ds i) × AllWithin (λ d. i ≤ d.0) ds (begun_below ds i) (length ds)
+begun_parted [] i ascending = (λ k d from below. absurd (omega arith), λ k d from below. absurd (omega arith))
+begun_parted (e ∷ ds) i ascending = elim (cases_lt e.0 i) [
+  | inl below ↦
+      let count : begun_below (e ∷ ds) i ≡ suc (begun_below ds i) = grind (arith, nat_tests, sum_by-cons (λ (d : ℕ × ℕ). cond (nat_lt d.0 i) 1 0) e ds) in
+      let rest = begun_parted ds i (all_pairs_tail IsBefore e ds ascending) in
+      rw count (one_more (begun_below ds i) below rest.0, λ k d. later (begun_below ds i) rest.1 k d)
+  | inr from ↦
+      let all : All (λ d. i ≤ d.0) (e ∷ ds) = from_first from in
+      rw (begun_none (e ∷ ds) i all) (λ k d low high. absurd (omega arith), λ k d low high. all k d high)
+]
+  where
+    one_more : (n : ℕ) → e.0 < i → AllWithin (λ d. d.0 < i) ds 0 n → AllWithin (λ d. d.0 < i) (e ∷ ds) 0 (suc n)
+    one_more n below rest zero d low high = below
+    one_more n below rest (suc k) d low high = rest k d (omega arith) (omega arith)
+
+    later : (n : ℕ) → AllWithin (λ d. i ≤ d.0) ds n (length ds) → AllWithin (λ d. i ≤ d.0) (e ∷ ds) (suc n) (suc (length ds))
+    later n rest zero d low high = absurd (omega arith)
+    later n rest (suc k) d low high = rest k d (omega arith) (omega arith)
+
+    from_first : i ≤ e.0 → All (λ d. i ≤ d.0) (e ∷ ds)
+    from_first from zero d within = from
+    from_first from (suc k) d within = omega (arith, (ascending zero (suc k) d (omega arith) within).0)
+
+-- a later query has no fewer deletions below it
+begun_below-rise : (ds : List (ℕ × ℕ)) (i j : ℕ) → i ≤ j → begun_below ds i ≤ begun_below ds j
+begun_below-rise ds i j le = sum_by-le-sum_by (λ (d : ℕ × ℕ). cond (nat_lt d.0 i) 1 0) (λ (d : ℕ × ℕ). cond (nat_lt d.0 j) 1 0) ds (λ d. grind (arith, nat_tests))
+
+pub walk-ranks : WalkGivesRanks
+walk-ranks ds k [] valid rise outside passed = refl
+walk-ranks ds k (i ∷ queries) valid rise outside passed =
+    let now = begun_below ds i in
+    let enough : k ≤ now = All-head (λ q. k ≤ begun_below ds q) i queries passed in
+    let most : max k now ≡ now = omega arith in
+    let parted = begun_parted ds i valid.ascending in
+    let answer = rank-parted ds now i (apart_from_ascending ds valid.ascending) (count_by-le-length (λ (d : ℕ × ℕ). nat_lt d.0 i) ds) parted.0 parted.1 (All-head (λ q. ¬ (IsInside ds q)) i queries outside) in
+    let here : i - bytes_of (take now ds) ≡ rank ds i = omega arith in
+    let rest = walk-ranks ds now queries valid (λ a b d le within. rise (suc a) (suc b) d (omega arith) (omega arith)) (All-tail (λ q. ¬ (IsInside ds q)) i queries outside) (λ a d within. begun_below-rise ds i (get_or queries a d) (rise zero (suc a) d (omega arith) (omega arith))) in
+    rw (most, here, rest) refl
+
+-- a position that more deletions keep is kept by fewer
+kept_by_fewer : (ds more : List (ℕ × ℕ)) (p : ℕ) → All (Contains more) ds → is_kept more p ≡ true → is_kept ds p ≡ true
+kept_by_fewer ds more p held kept = ap not (free ds held)
+  where
+    free : (ds : List (ℕ × ℕ)) → All (Contains more) ds → list_any (λ e. holds e p) ds ≡ false
+    free [] held = refl
+    free (d ∷ ds) held =
+        let first = All-head (Contains more) d ds held in
+        let none : holds d p ≡ false = false_from_ne_true (holds d p) (λ here. both_ways _ (not-true _ kept) (held_somewhere more first.0 p d first.1 (rw first.2 here))) in
+        rw none (free ds (All-tail (Contains more) d ds held))
+
+-- as one offset rises, the rank over more deletions rises no more than that over fewer
+shorter : (ds more : List (ℕ × ℕ)) (a b : ℕ) → All (Contains more) ds → a ≤ b → rank more b + rank ds a ≤ rank ds b + rank more a
+shorter ds more a zero held le = let e : a ≡ zero = omega arith in rw e (omega arith)
+shorter ds more a (suc b) held le = ⊎_elim
+    (λ (below : a < suc b).
+    let before = shorter ds more a b held (omega arith) in
+    ⊎_elim
+    (λ kept. omega (arith, rank_kept more b kept, rank_kept ds b (kept_by_fewer ds more b held kept)))
+    (λ gone. omega (arith, rank_gone more b gone, rank-mono ds b (suc b) (omega arith)))
+    (cases_Bool (is_kept more b)))
+    (λ (from : suc b ≤ a). let e : a ≡ suc b = omega arith in rw e (omega arith))
+    (cases_lt a (suc b))
+
+pub merges_shorten : MergesShortenDistances
+merges_shorten ds more a b held le = omega (arith, shorter ds more a b held le, rank-mono ds a b le, rank-mono more a b le)
