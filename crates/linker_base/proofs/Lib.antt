@@ -5,3 +5,4 @@ pub mod Places
 pub mod Rank
 pub mod Search
 pub mod Unions
+pub mod Walking

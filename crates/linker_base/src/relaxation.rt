@@ -9,7 +9,10 @@ ghost use Rattle.linker_base.specs.Deltas.{deletion_of, IsListing, AreListed, Ar
 use std::alloc::{AllocError, AllocFailed, Global};
 use std::marker::Model;
 
+mod cursor;
 pub mod laws;
+
+pub use cursor::RelaxCursor;
 
 /// What a linker does with the relocation that follows a rewritten one.
 #[derive(Debug, Clone, Copy, PartialEq, Eq)]
@@ -206,6 +209,13 @@ impl SectionRelaxDeltas {
         let deltas = self.deltas.as_slice();
         let passed = count_placed(deltas, output_offset);
         bytes_of_first(deltas, passed) <= u64::MAX - output_offset
+    }
+
+    /// A cursor before the first deletion.
+    pub fn cursor(&self) -> RelaxCursor<'_>
+        ensures { result ≡ record { deletions = self.now; passed = 0 } }
+    {
+        RelaxCursor::new(&self.deltas)
     }
 }
 
