@@ -1,6 +1,6 @@
 -- Lists of deltas: how one grows, what its sums are, and how a valid list is tested.
-use Rattle.std.proofs.Common.{◌≡◌, ℕ, zero, suc, ◌+◌, ◌-◌, ◌<◌, ◌≤◌, List, [], ◌∷◌, ◌++◌, length, map, get_or, take, refl, sym, ap, ◌∙◌, inl, inr, arith, add-one}
-use Rattle.std.specs.Prelude.{◌^◌, All, AllPairs, sum_by}
+use Rattle.std.proofs.Common.{◌≡◌, ℕ, zero, suc, ◌+◌, ◌-◌, ◌<◌, ◌≤◌, List, [], ◌∷◌, ◌++◌, length, map, get_or, take, sym, ap, ◌∙◌, inl, inr, arith, add-one}
+use Rattle.std.specs.Prelude.{◌^◌, AllPairs}
 use Rattle.std.proofs.lemmas.Bool.{cases_lt}
 use Rattle.std.proofs.lemmas.List.{length_push, get_or_push, get_or_append_left, get_or-take, length-take, take_more, map_push, length-map, take-append-le, take_all, get_or_default}
 use Rattle.std.proofs.lemmas.List.Elements.{All-push}
@@ -8,7 +8,7 @@ use Rattle.std.proofs.lemmas.List.Quantifiers.{all_pairs_push}
 use Rattle.std.proofs.lemmas.List.Sums.{sum_by_more, sum_by_push}
 use Rattle.linker_base.specs.declared.relaxation.RelaxDelta.{RelaxDelta}
 use Rattle.linker_base.specs.Deletions.{IsBefore, EndFits, IsValid, bytes_of}
-use Rattle.linker_base.specs.Deltas.{deletion_of, IsListing, AreListed}
+use Rattle.linker_base.specs.Deltas.{deletion_of, IsListing}
 
 -- in a valid list, the deletions before one take no more bytes than lie before it
 pub taken_before : (ds : List (ℕ × ℕ)) → AllPairs IsBefore ds → (k : ℕ) (d : ℕ × ℕ) → k < length ds → bytes_of (take k ds) ≤ (get_or ds k d).0

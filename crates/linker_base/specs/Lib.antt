@@ -1,3 +1,4 @@
 pub mod Deletions
 pub mod Deltas
 pub mod Laws
+pub mod Sections

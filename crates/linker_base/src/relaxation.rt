@@ -8,6 +8,9 @@ use std::alloc::{AllocError, AllocFailed, Global};
 use std::marker::Model;
 
 pub mod laws;
+mod map;
+
+pub use map::RelaxDeltaMap;
 
 /// What a linker does with the relocation that follows a rewritten one.
 #[derive(Debug, Clone, Copy, PartialEq, Eq)]
