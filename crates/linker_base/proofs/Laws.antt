@@ -67,7 +67,7 @@ begun_none (e ∷ ds) i from =
     grind (arith, nat_tests, sum_by-cons (λ (d : ℕ × ℕ). cond (nat_lt d.0 i) 1 0) e ds, rest)
 
 -- the first `begun_below` deletions of an ascending list begin below i, and the others don't
-begun_parted : (ds : List (ℕ × ℕ)) (i : ℕ) → AllPairs IsBefore ds → AllWithin (λ d. d.0 < i) ds 0 (begun_below ds i) × AllWithin (λ d. i ≤ d.0) ds (begun_below ds i) (length ds)
+pub begun_parted : (ds : List (ℕ × ℕ)) (i : ℕ) → AllPairs IsBefore ds → AllWithin (λ d. d.0 < i) ds 0 (begun_below ds i) × AllWithin (λ d. i ≤ d.0) ds (begun_below ds i) (length ds)
 begun_parted [] i ascending = (λ k d from below. absurd (omega arith), λ k d from below. absurd (omega arith))
 begun_parted (e ∷ ds) i ascending = elim (cases_lt e.0 i) [
   | inl below ↦
@@ -92,7 +92,7 @@ begun_parted (e ∷ ds) i ascending = elim (cases_lt e.0 i) [
     from_first from (suc k) d within = omega (arith, (ascending zero (suc k) d (omega arith) within).0)
 
 -- a later query has no fewer deletions below it
-begun_below-rise : (ds : List (ℕ × ℕ)) (i j : ℕ) → i ≤ j → begun_below ds i ≤ begun_below ds j
+pub begun_below-rise : (ds : List (ℕ × ℕ)) (i j : ℕ) → i ≤ j → begun_below ds i ≤ begun_below ds j
 begun_below-rise ds i j le = sum_by-le-sum_by (λ (d : ℕ × ℕ). cond (nat_lt d.0 i) 1 0) (λ (d : ℕ × ℕ). cond (nat_lt d.0 j) 1 0) ds (λ d. grind (arith, nat_tests))
 
 pub walk-ranks : WalkGivesRanks

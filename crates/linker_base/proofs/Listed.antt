@@ -8,20 +8,13 @@ use Rattle.std.proofs.lemmas.List.Quantifiers.{all_pairs_push}
 use Rattle.std.proofs.lemmas.List.Sums.{sum_by_more, sum_by_push}
 use Rattle.linker_base.specs.declared.relaxation.RelaxDelta.{RelaxDelta}
 use Rattle.linker_base.specs.Deletions.{IsBefore, EndFits, IsValid, bytes_of}
-use Rattle.linker_base.specs.Deltas.{deletion_of, IsListing}
+use Rattle.linker_base.specs.Deltas.{deletion_of, IsListing, AreListed}
+use Rattle.linker_base.proofs.Places.{bytes_of-take_fit}
 
--- in a valid list, the deletions before one take no more bytes than lie before it
-pub taken_before : (ds : List (ℕ × ℕ)) → AllPairs IsBefore ds → (k : ℕ) (d : ℕ × ℕ) → k < length ds → bytes_of (take k ds) ≤ (get_or ds k d).0
-taken_before ds ascending zero d within = omega arith
-taken_before ds ascending (suc k) d within =
-    let below : k < length ds = omega arith in
-    omega (arith, taken_before ds ascending k d below, rw add-one at (sum_by_more (λ (e : ℕ × ℕ). e.1) ds k d below), (ascending k (suc k) d (omega arith) within).1)
-
--- and up to its end no more than lie up to there, so 64 bits hold the sum
+-- up to and including one deletion of a valid list, the bytes are those before it and its own, and 64 bits hold them
 pub taken_up_to : (ds : List (ℕ × ℕ)) → IsValid ds → (k : ℕ) (d : ℕ × ℕ) → k < length ds → (bytes_of (take k ds) + (get_or ds k d).1 ≡ bytes_of (take (k + 1) ds)) × (bytes_of (take (k + 1) ds) < 2 ^ 64)
 taken_up_to ds valid k d within =
-    let more = sum_by_more (λ (e : ℕ × ℕ). e.1) ds k d within in
-    (sym more, omega (arith, more, taken_before ds valid.ascending k d within, valid.ends k d within))
+    (sym (sum_by_more (λ (e : ℕ × ℕ). e.1) ds k d within), bytes_of-take_fit ds (k + 1) valid)
 
 -- one more delta, with the sum so far and its own bytes, lists one more deletion
 pub IsListing-push : (ds : List (ℕ × ℕ)) (deltas : List RelaxDelta) (delta : RelaxDelta) → IsListing ds deltas → delta.cumulative_deleted ≡ bytes_of ds + delta.bytes_deleted → IsListing (ds ++ deletion_of delta ∷ []) (deltas ++ delta ∷ [])

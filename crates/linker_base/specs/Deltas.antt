@@ -1,5 +1,5 @@
 -- The deltas that a section keeps of its deletions, and a cursor's walk through them.
-use Rattle.std.specs.Prelude.{◌≡◌, ℕ, ◌+◌, ◌<◌, List, length, map, take, slice_index_or}
+use Rattle.std.specs.Prelude.{◌≡◌, ℕ, ◌+◌, ◌<◌, ◌≤◌, List, length, map, take, slice_index_or}
 use Rattle.linker_base.specs.declared.relaxation.RelaxDelta.{RelaxDelta}
 use Rattle.linker_base.specs.Deletions.{IsValid, bytes_of}
 
@@ -20,3 +20,8 @@ pub record AreListed (deltas : List RelaxDelta) : Type 0 where
 -- what holds of the fields of a section's deltas
 pub record IsSound (list : List RelaxDelta) : Type 0 where
   pub deltas : AreListed list
+
+-- the first `passed` deletions are those whose output place, the offset less the bytes deleted before, is at most y
+pub record ArePlaced (deletions : List (ℕ × ℕ)) (y passed : ℕ) : Type 0 where
+  pub before : (k : ℕ) (d : ℕ × ℕ) → k < passed → (slice_index_or deletions k d).0 ≤ y + bytes_of (take k deletions)
+  pub after : (k : ℕ) (d : ℕ × ℕ) → passed ≤ k → k < length deletions → y + bytes_of (take k deletions) < (slice_index_or deletions k d).0

@@ -2,3 +2,4 @@ pub mod Deletions
 pub mod Deltas
 pub mod Laws
 pub mod Sections
+pub mod Walk

@@ -1,16 +1,21 @@
 //! Deletions that relaxation makes in a section, and the offsets of what they leave.
 
-ghost use Rattle.std.specs.Prelude.{◌≡◌, ◌≤◌, ◌↔◌, IsTrue, IsOk, IfOk, [], map, length, take};
-ghost use Rattle.linker_base.specs.Deletions.{IsBefore, EndFits, IsValid, bytes_of};
-ghost use Rattle.linker_base.specs.Deltas.{deletion_of, IsListing, AreListed};
+ghost use Rattle.std.specs.Prelude.{◌≡◌, ◌<◌, ◌≤◌, ◌↔◌, ◌+◌, ◌++◌, IsTrue, IsOk, IfOk, OnOk, OnErr, IfSome, IfNone, All, [], map, length, take, vec_len, vec_capacity};
+ghost use Rattle.std.specs.Option.{ForSome};
+ghost use Rattle.std.specs.List.Sorted.{IsPartitionPoint};
+ghost use Rattle.linker_base.specs.Deletions.{IsBefore, IsApart, EndFits, AreDisjoint, IsValid, IsSortedUnion, bytes_of, rank, IsInside, IsSelected, HasInput};
+ghost use Rattle.linker_base.specs.Deltas.{deletion_of, IsListing, AreListed, ArePlaced};
 
 use std::alloc::{AllocError, AllocFailed, Global};
 use std::marker::Model;
 
+mod cursor;
 pub mod laws;
 mod map;
 
 pub use map::RelaxDeltaMap;
+
+pub use cursor::RelaxCursor;
 
 /// What a linker does with the relocation that follows a rewritten one.
 #[derive(Debug, Clone, Copy, PartialEq, Eq)]
@@ -103,6 +108,48 @@ impl SectionRelaxDeltas {
         true
     }
 
+    /// Adds deletions, each an offset and a count of bytes, in any order.
+    ///
+    /// What is listed is then as `new` makes it of the old and the additional pairs, sorted. The
+    /// list grows once, before anything changes, and not at all where `additional` is empty. The
+    /// work is O((n + k) log(n + k)) for k pairs beside n deltas. `is_mergeable` tests what it asks.
+    pub fn merge_additional(&mut self, additional: &[(u64, u32)]) -> Result<(), OutOfMemory>
+        requires { AreDisjoint (self.old ++ additional.now) }
+        ensures ok { OnOk result (IsSortedUnion (self.old ++ additional.now) self.new) }
+        ensures err { OnErr result (self.new ≡ self.old) }
+        ensures empty_succeeds { additional.now ≡ [] → IsOk result }
+        ensures empty_stays { additional.now ≡ [] → self.new ≡ self.old }
+    {
+        let deltas = &mut self.deltas;
+        if additional.is_empty() {
+            return Ok(());
+        }
+        deltas.reserve(additional.len())?;
+        append(deltas, additional);
+        sort_and_sum(deltas);
+        Ok(())
+    }
+
+    /// Whether the pairs may be merged: their ends are at most `u64::MAX`, and of any two
+    /// deletions, old or additional, one has the lower offset and does not reach past the other's.
+    ///
+    /// It takes no memory. For k pairs beside n deltas the work is O(k log n + k) where the pairs
+    /// ascend, as a pass over a section makes them, and else O(k log n + k²).
+    pub fn is_mergeable(&self, additional: &[(u64, u32)]) -> bool
+        ensures { IsTrue result ↔ AreDisjoint (self.now ++ additional.now) }
+    {
+        are_disjoint(additional) && are_free(&self.deltas, additional)
+    }
+
+    /// A copy of the deltas. It takes memory once.
+    pub fn clone(&self) -> Result<Self, OutOfMemory>
+        ensures { IfOk result (λ section. section ≡ self.now) }
+    {
+        Ok(SectionRelaxDeltas {
+            deltas: self.deltas.clone()?,
+        })
+    }
+
     /// The deletions by ascending offset, each with the sum of the bytes up to it.
     pub fn deltas(&self) -> &[RelaxDelta]
         ensures valid { IsValid self.now }
@@ -123,6 +170,67 @@ impl SectionRelaxDeltas {
         ensures { result ≡ bytes_of self.now }
     {
         bytes_of_first(&self.deltas, self.deltas.len())
+    }
+
+    /// The offset in the output section of what stands at `input_offset`: that offset less the
+    /// bytes of all deletions at lower offsets, or how many kept bytes lie below it.
+    ///
+    /// It asks an offset that `is_inside` denies. The search takes O(log n).
+    pub fn input_to_output_offset(&self, input_offset: u64) -> u64
+        requires { ¬ IsInside self.now input_offset }
+        ensures { result ≡ rank self.now input_offset }
+    {
+        let deltas = self.deltas.as_slice();
+        let below = count_below(deltas, input_offset);
+        input_offset - bytes_of_first(deltas, below)
+    }
+
+    /// Whether the offset lies above the first byte of a deletion and below its end.
+    pub fn is_inside(&self, input_offset: u64) -> bool
+        ensures { IsTrue result ↔ IsInside self.now input_offset }
+    {
+        is_inside_one(&self.deltas, input_offset)
+    }
+
+    /// The offset in the input section of the kept byte at `output_offset`: that offset and the
+    /// bytes of all deletions whose output place is at most that.
+    ///
+    /// It asks an offset that `output_fits` accepts. The search takes O(log n).
+    pub fn output_to_input_offset(&self, output_offset: u64) -> u64
+        requires { HasInput self.now output_offset }
+        ensures { IsSelected self.now output_offset result }
+    {
+        let deltas = self.deltas.as_slice();
+        let passed = count_placed(deltas, output_offset);
+        output_offset + bytes_of_first(deltas, passed)
+    }
+
+    /// Whether the input offset of the kept byte at `output_offset` is at most `u64::MAX`.
+    pub fn output_fits(&self, output_offset: u64) -> bool
+        ensures { IsTrue result ↔ HasInput self.now output_offset }
+    {
+        let deltas = self.deltas.as_slice();
+        let passed = count_placed(deltas, output_offset);
+        bytes_of_first(deltas, passed) <= u64::MAX - output_offset
+    }
+
+    /// A cursor before the first deletion.
+    pub fn cursor(&self) -> RelaxCursor<'_>
+        ensures { result ≡ record { deletions = self.now; passed = 0 } }
+    {
+        RelaxCursor::new(&self.deltas)
+    }
+}
+
+/// `input_to_output_offset` of the deltas, or `input_offset` itself where there are none.
+pub fn opt_input_to_output(deltas: Option<&SectionRelaxDeltas>, input_offset: u64) -> u64
+    requires { ForSome deltas (λ section. ¬ IsInside section.now input_offset) }
+    ensures some { IfSome deltas.entry (λ section. result ≡ rank section.now input_offset) }
+    ensures none { IfNone deltas.entry (result ≡ input_offset) }
+{
+    match deltas {
+        Some(section) => section.input_to_output_offset(input_offset),
+        None => input_offset,
     }
 }
 
@@ -150,4 +258,124 @@ fn bytes_of_first(deltas: &[RelaxDelta], count: usize) -> u64
         Some(last) => deltas[last].cumulative_deleted,
         None => 0,
     }
+}
+
+// How many deltas lie at offsets strictly below `offset`.
+fn count_below(deltas: &[RelaxDelta], offset: u64) -> usize
+    requires { AreListed deltas.now }
+    ensures within { result ≤ length deltas.now }
+    ensures below { IsPartitionPoint (λ d. d.0 < offset) (λ d. offset ≤ d.0) (map deletion_of deltas.now) result }
+{
+    deltas.partition_point(|delta| delta.input_offset < offset)
+}
+
+// How many deltas have an output place, their offset less the bytes deleted before, of at most
+// `offset`. The sums of any two fields fit 65 bits, so no search through 128 bits overflows.
+fn count_placed(deltas: &[RelaxDelta], offset: u64) -> usize
+    requires { AreListed deltas.now }
+    ensures within { result ≤ length deltas.now }
+    ensures placed { ArePlaced (map deletion_of deltas.now) offset result }
+{
+    deltas.partition_point(|delta| {
+        let end = u128::from(delta.input_offset) + u128::from(delta.bytes_deleted);
+        end <= u128::from(offset) + u128::from(delta.cumulative_deleted)
+    })
+}
+
+// Whether a delta begins below the offset and ends above it.
+fn is_inside_one(deltas: &[RelaxDelta], offset: u64) -> bool
+    requires { AreListed deltas.now }
+    ensures { IsTrue result ↔ IsInside (map deletion_of deltas.now) offset }
+{
+    match count_below(deltas, offset).checked_sub(1) {
+        Some(last) => offset - deltas[last].input_offset < u64::from(deltas[last].bytes_deleted),
+        None => false,
+    }
+}
+
+// Puts the pairs behind the deltas, with no sum yet.
+fn append(deltas: &mut Vec<RelaxDelta>, pairs: &[(u64, u32)])
+    requires { vec_len deltas.old + length pairs.now ≤ vec_capacity deltas.old }
+    ensures appended { map deletion_of deltas.new.items ≡ map deletion_of deltas.old.items ++ pairs.now }
+    ensures len { vec_len deltas.new ≡ vec_len deltas.old + length pairs.now }
+    ensures capacity { vec_capacity deltas.new ≡ vec_capacity deltas.old }
+{
+    for &(input_offset, bytes_deleted) in pairs {
+        deltas.push_reserved(RelaxDelta {
+            input_offset,
+            cumulative_deleted: 0,
+            bytes_deleted,
+        });
+    }
+}
+
+// Puts the deltas in order, and sums their bytes anew.
+fn sort_and_sum(deltas: &mut [RelaxDelta])
+    requires { AreDisjoint (map deletion_of deltas.old) }
+    ensures sorted { IsSortedUnion (map deletion_of deltas.old) (map deletion_of deltas.new) }
+    ensures listed { AreListed deltas.new }
+{
+    deltas.sort_unstable_by_key(|delta| delta.input_offset);
+    let mut sum = 0;
+    for delta in deltas.iter_mut() {
+        sum += u64::from(delta.bytes_deleted);
+        delta.cumulative_deleted = sum;
+    }
+}
+
+// Whether the pairs, in any order, make a valid list once sorted: one pass where they are one.
+fn are_disjoint(pairs: &[(u64, u32)]) -> bool
+    ensures { IsTrue result ↔ AreDisjoint pairs.now }
+{
+    if SectionRelaxDeltas::is_valid(pairs) {
+        return true;
+    }
+    for (at, &pair) in pairs.iter().enumerate() {
+        if !end_fits(pair) || !is_apart_from(&pairs[..at], pair) {
+            return false;
+        }
+    }
+    true
+}
+
+// Whether each of the others lies below the pair or above it.
+fn is_apart_from(others: &[(u64, u32)], pair: (u64, u32)) -> bool
+    ensures { IsTrue result ↔ All (λ other. IsApart other pair) others.now }
+{
+    for &other in others {
+        if !is_before(other, pair) && !is_before(pair, other) {
+            return false;
+        }
+    }
+    true
+}
+
+// Whether each of the pairs lies below or above each of the deltas.
+fn are_free(deltas: &[RelaxDelta], pairs: &[(u64, u32)]) -> bool
+    requires { AreListed deltas.now }
+    ensures { IsTrue result ↔ All (λ pair. All (λ d. IsApart d pair) (map deletion_of deltas.now)) pairs.now }
+{
+    for &pair in pairs {
+        if !is_free(deltas, pair) {
+            return false;
+        }
+    }
+    true
+}
+
+// Whether the pair lies below or above each of the deltas: the nearest two decide.
+fn is_free(deltas: &[RelaxDelta], pair: (u64, u32)) -> bool
+    requires { AreListed deltas.now }
+    ensures { IsTrue result ↔ All (λ d. IsApart d pair) (map deletion_of deltas.now) }
+{
+    let below = count_below(deltas, pair.0);
+    (below == 0 || is_before(deletion(&deltas[below - 1]), pair))
+        && (below == deltas.len() || is_before(pair, deletion(&deltas[below])))
+}
+
+// The deletion that the delta records.
+fn deletion(delta: &RelaxDelta) -> (u64, u32)
+    ensures { result ≡ deletion_of delta.now }
+{
+    (delta.input_offset, delta.bytes_deleted)
 }
