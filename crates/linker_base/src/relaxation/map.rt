@@ -7,7 +7,7 @@ ghost use Rattle.linker_base.specs.Sections.{IsAboveAll, IsLast, IndicesRise, Is
 ghost use Rattle.linker_base.specs.contracts.relaxation.SectionRelaxDeltas.{the_row as deltas_row};
 ghost use Rattle.linker_base.specs.contracts.relaxation.map.RelaxDeltaMap.{the_row};
 
-use crate::relaxation::SectionRelaxDeltas;
+use super::{OutOfMemory, SectionRelaxDeltas};
 use std::alloc::Global;
 use std::marker::Model;
 
@@ -112,6 +112,18 @@ impl RelaxDeltaMap {
         ensures { MatchOption result (self.now ≡ finite.empty) (IsLast self.now) }
     {
         self.entries.last().map(|entry| entry.0)
+    }
+
+    /// A copy of the map and of the deltas of each section. It takes memory for both.
+    pub fn clone(&self) -> Result<Self, OutOfMemory>
+        ensures { IfOk result (λ sections. sections ≡ self.now) }
+    {
+        let sections = self.entries.as_slice();
+        let mut entries = Vec::with_capacity(*self.entries.allocator(), sections.len())?;
+        for (section_index, deltas) in sections {
+            entries.push_reserved((*section_index, deltas.clone()?));
+        }
+        Ok(RelaxDeltaMap { entries })
     }
 }
 
