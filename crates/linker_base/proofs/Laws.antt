@@ -103,14 +103,14 @@ taken_to ds k i ascending passed =
     let parted = begun_parted ds i ascending in
     ⊎_elim
     (λ (more : b < k).
-      let e : max k b ≡ k = omega arith in
-      let past : length ds ≤ b = ⊎_elim
-        (λ (inside : b < length ds).
-          let low : (get_or ds b (0, 0)).0 < i = rw (get_or-take k ds b (0, 0) more) at (passed b (0, 0) (omega (arith, length-take k ds))) in
-          absurd (omega (arith, low, parted.1 b (0, 0) (omega arith) inside)))
-        (λ le. le)
-        (cases_lt b (length ds)) in
-      rw (e, take_all k ds (omega arith), take_all b ds past) refl)
+    let e : max k b ≡ k = omega arith in
+    let past : length ds ≤ b = ⊎_elim
+    (λ (inside : b < length ds).
+    let low : (get_or ds b (0, 0)).0 < i = rw (get_or-take k ds b (0, 0) more) at (passed b (0, 0) (omega (arith, length-take k ds))) in
+    absurd (omega (arith, low, parted.1 b (0, 0) (omega arith) inside)))
+    (λ le. le)
+    (cases_lt b (length ds)) in
+    rw (e, take_all k ds (omega arith), take_all b ds past) refl)
     (λ (le : k ≤ b). let e : max k b ≡ b = omega arith in rw e refl)
     (cases_lt b k)
 

@@ -1,6 +1,6 @@
 -- What sorted entries say of the finite map that they hold, and what an edit of them does to it.
 use Rattle.std.proofs.Common.{◌≡◌, ℕ, zero, suc, ◌+◌, ◌-◌, ◌<◌, ◌≤◌, ◌≢◌, Bool, true, cond, eqb, List, [], ◌∷◌, ◌++◌, length, get_or, set, Option, Some, None, Result, Ok, Err, IfOk, IfErr, is_some, refl, sym, ap, subst, ◌∙◌, inl, inr, ⊎_elim, arith}
-use Rattle.std.specs.Prelude.{◌↔◌, MatchOption, OnOk, is_ok, option_map, slice_get, ◌⊎◌, All, IsTrue, HoldsAt, insert as insert_at}
+use Rattle.std.specs.Prelude.{◌↔◌, IfSome, MatchOption, OnOk, is_ok, option_map, slice_get, ◌⊎◌, All, IsTrue, HoldsAt, insert as insert_at}
 use Rattle.std.specs.List.{AllWithin}
 use Rattle.std.specs.List.Sorted.{IsSearchInRange, IsBinarySearchResult, IsNonDecreasingBy}
 use Rattle.std.specs.Ordering.{nat_cmp, eq_by_cmp, ordering_index}
@@ -112,7 +112,7 @@ module _ (es : Entries) where
 
   -- an index above all that are there is above each entry's
   pub above_entries : (k : ℕ) → IsAboveAll (held es) k → All (λ e. e.0 < k) es
-  above_entries k above j d within = above (get_or es j d).0 (contains-entry j d within)
+  above_entries k above j d within = above.lower (get_or es j d).0 (contains-entry j d within)
 
   -- so it would go at the end
   pub gap_at_end : (k : ℕ) → IsAboveAll (held es) k → IsGap es k (length es)
@@ -201,7 +201,7 @@ module _ (es : Entries) (m : Sections) (k at : ℕ) (x : ℕ × List (ℕ × ℕ
 -- entries that a push has changed, where it found memory
 module _ (es new : Entries) (m : Sections) (k : ℕ) (v : List (ℕ × ℕ)) (found : Bool) (rise : IndicesRise es) (holds : held es ≡ m) where
   above_held : IsAboveAll m k → IsAboveAll (held es) k
-  above_held above other there = above other (rw holds at there)
+  above_held above = record { lower = λ other there. above.lower other (rw holds at there) }
 
   pub rise_pushed : new ≡ cond found (es ++ (k, v) ∷ []) es → IsAboveAll m k → IndicesRise new
   rise_pushed is above = rw is (cond_both found (es ++ (k, v) ∷ []) es IndicesRise (λ _. rise-push es k v rise (above_held above)) (λ _. rise))
@@ -240,3 +240,8 @@ pub is_empty_of : (es : Entries) (m : Sections) (b : Bool) (n : ℕ) → n ≡ l
 is_empty_of [] m b n len is holds = (λ _. sym holds, λ _. is ∙ ap (λ k. eqb k 0) len)
 is_empty_of (e ∷ es) m b n len is holds =
     (λ true_b. absurd (grind (arith, nat_tests, true_b)), λ same. absurd (omega (arith, ap length (held_empty (e ∷ es) (holds ∙ same)))))
+
+-- an index above the last is above all
+pub above_last : (m : Sections) (r : Option ℕ) → MatchOption r (m ≡ empty) (IsLast m) → (index : ℕ) → IfSome r (λ last. last < index) → IsAboveAll m index
+above_last m None same index high = record { lower = λ other there. absurd (false≢true (ap is_some (sym (get-empty nat_cmp other)) ∙ sym (ap (λ (n : Sections). contains_key n other) same) ∙ there)) }
+above_last m (Some last) is_last index high = record { lower = λ other there. omega (arith, is_last.highest other there, high) }

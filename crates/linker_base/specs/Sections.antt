@@ -9,8 +9,8 @@ abbrev pub Sections : Type 0
 Sections = FinMap nat_cmp (List (ℕ × ℕ))
 
 -- every section that is there has a lower index
-abbrev pub IsAboveAll : Sections → ℕ → Type 0
-IsAboveAll sections index = (other : ℕ) → IsTrue (contains_key sections other) → other < index
+pub record IsAboveAll (sections : Sections) (index : ℕ) : Type 0 where
+  pub lower : (other : ℕ) → IsTrue (contains_key sections other) → other < index
 
 -- the section is there, and no higher one
 pub record IsLast (sections : Sections) (index : ℕ) : Type 0 where

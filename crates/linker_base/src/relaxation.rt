@@ -13,9 +13,8 @@ mod cursor;
 pub mod laws;
 mod map;
 
-pub use map::RelaxDeltaMap;
-
 pub use cursor::RelaxCursor;
+pub use map::RelaxDeltaMap;
 
 /// What a linker does with the relocation that follows a rewritten one.
 #[derive(Debug, Clone, Copy, PartialEq, Eq)]

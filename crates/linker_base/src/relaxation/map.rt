@@ -1,6 +1,6 @@
 //! The deltas of several sections.
 
-ghost use Rattle.std.specs.Prelude.{◌≡◌, ◌↔◌, IsTrue, IfOk, IfErr, OnOk, OnErr, None, MatchOption, option_map, option_copied};
+ghost use Rattle.std.specs.Prelude.{◌≡◌, ◌<◌, ◌↔◌, ℕ, IsTrue, IfSome, IfOk, IfErr, OnOk, OnErr, None, MatchOption, option_map, option_copied};
 ghost use Rattle.std.specs.Borrow.{LendsIf, sem};
 ghost use Rattle.std.specs.FinMap as finite;
 ghost use Rattle.linker_base.specs.Sections.{IsAboveAll, IsLast, IndicesRise, IsAt, IsGap};
@@ -107,9 +107,10 @@ impl RelaxDeltaMap {
         self.entries.is_empty()
     }
 
-    /// The highest section index that is there.
+    /// The highest section index that is there. Any index above it may be given to `insert`.
     pub fn last_index(&self) -> Option<usize>
-        ensures { MatchOption result (self.now ≡ finite.empty) (IsLast self.now) }
+        ensures last { MatchOption result (self.now ≡ finite.empty) (IsLast self.now) }
+        ensures above { (index : ℕ) → IfSome result (λ last. last < index) → IsAboveAll self.now index }
     {
         self.entries.last().map(|entry| entry.0)
     }
@@ -134,4 +135,44 @@ fn search(entries: &[(usize, SectionRelaxDeltas)], section_index: usize) -> Resu
     ensures absent { IfErr result (IsGap entries.now section_index) }
 {
     entries.binary_search_by_key(&section_index, |entry| entry.0)
+}
+
+#[cfg(test)]
+mod tests {
+    use super::*;
+    use std::test::Fail;
+
+    #[test]
+    fn a_merge_through_get_mut_leaves_the_other_section(rt: HostRuntime) -> Result<(), Fail> {
+        let alloc = rt.alloc();
+        let (third, first) = ([(8, 4)], [(4, 4)]);
+        assert!(rt; SectionRelaxDeltas::is_valid(&third) && SectionRelaxDeltas::is_valid(&first));
+        let mut sections = RelaxDeltaMap::new(alloc);
+        assert_eq!(rt; sections.last_index(), None);
+        assert!(rt;
+            sections
+                .insert(3, SectionRelaxDeltas::new(alloc, &third)?)
+                .is_ok()
+        );
+        assert!(rt; sections.get(1).is_none());
+        assert!(rt;
+            sections
+                .insert_sorted(1, SectionRelaxDeltas::new(alloc, &first)?)
+                .is_ok()
+        );
+        assert_eq!(rt; sections.last_index(), Some(3));
+
+        let more = [(0, 2)];
+        if let Some(deltas) = sections.get_mut(1) {
+            assert!(rt; deltas.is_mergeable(&more));
+            deltas.merge_additional(&more)?;
+        }
+        assert!(rt; sections.get(2).is_none());
+        let copy = sections.clone()?;
+        for (section_index, want) in [(1, 6), (3, 4)] {
+            let deltas = copy.get(section_index).expect(&rt, "the section is there");
+            assert_eq!(rt; deltas.total_deleted(), want, "section {section_index}");
+        }
+        Ok(())
+    }
 }
