@@ -1,3 +1,4 @@
+pub mod Batches
 pub mod Laws
 pub mod Listed
 pub mod Merging

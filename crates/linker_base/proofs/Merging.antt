@@ -11,7 +11,7 @@ use Rattle.linker_base.specs.declared.relaxation.RelaxDelta.{RelaxDelta}
 use Rattle.linker_base.specs.Deletions.{IsBefore, IsApart, EndFits, AreDisjoint, IsValid, IsSortedUnion, bytes_of}
 use Rattle.linker_base.specs.Deltas.{deletion_of, AreListed}
 use Rattle.linker_base.proofs.Search.{blank, deletion_at}
-use Rattle.linker_base.proofs.Unions.{disjoint_from_valid, union_from_sort}
+use Rattle.linker_base.proofs.Unions.{union_from_sort}
 
 -- the last of the first k lies below the pair
 abbrev pub IsPastLast : List (ℕ × ℕ) → ℕ → ℕ × ℕ → Type 0
@@ -76,15 +76,12 @@ between_from_free ds k pair within parted free = record {
   ];
 }
 
--- a valid list and others are disjoint together where the others are, and each is apart from all of the list
-pub disjoint_joined : (ds others : List (ℕ × ℕ)) → IsValid ds → AreDisjoint others → All (λ pair. All (λ d. IsApart d pair) ds) others → AreDisjoint (ds ++ others)
-disjoint_joined ds others valid disjoint free = record { apart = apart; ends = ends }
+-- two lists of disjoint deletions are so together, where each of the second is apart from all of the first
+pub disjoint_joined : (ds others : List (ℕ × ℕ)) → AreDisjoint ds → AreDisjoint others → All (λ pair. All (λ d. IsApart d pair) ds) others → AreDisjoint (ds ++ others)
+disjoint_joined ds others first disjoint free = record { apart = apart; ends = ends }
   where
     long : length (ds ++ others) ≡ length ds + length others
     long = length-append ds others
-
-    first : AreDisjoint ds
-    first = disjoint_from_valid ds valid
 
     apart : AllPairs IsApart (ds ++ others)
     apart i j d lt within = elim (cases_lt j (length ds)) [

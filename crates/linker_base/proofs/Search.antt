@@ -1,6 +1,6 @@
 -- What a search in the deltas of a section finds.
 use Rattle.std.proofs.Common.{◌≡◌, ℕ, zero, suc, ◌+◌, ◌-◌, ◌<◌, ◌≤◌, Bool, true, false, List, length, map, get_or, take, leb, ltb, refl, sym, ap, ◌∙◌, subst, inl, inr, arith}
-use Rattle.std.specs.Prelude.{◌^◌, ◌↔◌}
+use Rattle.std.specs.Prelude.{◌^◌, ◌↔◌, All, Any}
 use Rattle.std.specs.List.Sorted.{IsNonDecreasingBy, IsPartitionedBy, IsPartitionPoint}
 use Rattle.std.proofs.lemmas.Bool.{cases_order}
 use Rattle.std.proofs.lemmas.Bool.Decides.{nat_tests}
@@ -8,7 +8,7 @@ use Rattle.std.proofs.lemmas.List.{get_or-map, get_or_default, length-map}
 use Rattle.std.proofs.lemmas.List.Sums.{sum_by_more}
 use Rattle.linker_base.specs.declared.relaxation.RelaxDelta.{RelaxDelta}
 use Rattle.linker_base.specs.Deletions.{IsBefore, IsValid, IsInside, IsSelected, HasInput, bytes_of, rank}
-use Rattle.linker_base.specs.Deltas.{deletion_of, IsListing, AreListed, ArePlaced}
+use Rattle.linker_base.specs.Deltas.{deletion_of, IsListing, AreListed, ArePlaced, IsOnlyAt}
 use Rattle.linker_base.proofs.Places.{rank-parted, selected-place, bytes_between}
 use Rattle.linker_base.proofs.Rank.{input_fits}
 use Rattle.linker_base.proofs.Unions.{apart_from_ascending}
@@ -96,3 +96,24 @@ module _ (ds : List (ℕ × ℕ)) (valid : IsValid ds) where
 
   pub fits_from_search : (y k : ℕ) → k ≤ length ds → ArePlaced ds y k → HasInput ds y ↔ (y + bytes_of (take k ds) < 2 ^ 64)
   fits_from_search y k within placed = input_fits ds y (y + bytes_of (take k ds)) (selected_from_search y k within placed)
+
+  -- of a valid list one deletion at most begins at an offset
+  pub only_at : (offset k : ℕ) (e : ℕ × ℕ) → k < length ds → (get_or ds k e).0 ≡ offset → IsOnlyAt ds offset (get_or ds k e).1
+  only_at offset k e within here = record { some = (k, get_or ds k e, within, get_or_default ds k _ e within, here); only = only }
+    where
+      only : All (λ d. d.0 ≡ offset → (get_or ds k e).1 ≡ d.1) ds
+      only j d inside there = elim (cases_order j k) [
+        | inl same ↦ rw (same, get_or_default ds k d e within) refl
+        | inr (inl lower) ↦ absurd (omega (arith, (valid.ascending j k d lower within).0, ap (λ (x : ℕ × ℕ). x.0) (get_or_default ds k d e within)))
+        | inr (inr higher) ↦ absurd (omega (arith, (valid.ascending k j d higher inside).0, ap (λ (x : ℕ × ℕ). x.0) (get_or_default ds k d e within)))
+      ]
+
+  -- and none where the first that begins at it or above does not begin at it
+  pub none_at : (offset k : ℕ) → IsPartitionPoint (λ d. d.0 < offset) (λ d. offset ≤ d.0) ds k → ((e : ℕ × ℕ) → k < length ds → (get_or ds k e).0 ≡ offset → ⊥) → Any (λ d. d.0 ≡ offset) ds → ⊥
+  none_at offset k parted other (j, d, inside, is, here) =
+      let at : (get_or ds j d).0 ≡ offset = ap (λ (x : ℕ × ℕ). x.0) is ∙ here in
+      elim (cases_order j k) [
+        | inl same ↦ other d (omega arith) (rw (← same) at)
+        | inr (inl lower) ↦ omega (arith, at, parted.0 j d (omega arith) lower)
+        | inr (inr higher) ↦ omega (arith, at, (valid.ascending k j d higher inside).0, parted.1 k d (omega arith) (omega arith))
+      ]

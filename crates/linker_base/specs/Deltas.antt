@@ -1,11 +1,17 @@
 -- The deltas that a section keeps of its deletions, and a cursor's walk through them.
-use Rattle.std.specs.Prelude.{◌≡◌, ℕ, ◌+◌, ◌<◌, ◌≤◌, List, length, map, take, slice_index_or}
+use Rattle.std.specs.Prelude.{◌≡◌, ℕ, ◌+◌, ◌<◌, ◌≤◌, List, length, map, take, slice_index_or, All, Any}
+use Rattle.std.specs.List.{flat_map}
+use Rattle.std.specs.Global.{Vec}
 use Rattle.linker_base.specs.declared.relaxation.RelaxDelta.{RelaxDelta}
 use Rattle.linker_base.specs.Deletions.{IsValid, bytes_of}
 
 -- the deletion that a delta records
 abbrev pub deletion_of : RelaxDelta → ℕ × ℕ
 deletion_of delta = (delta.input_offset, delta.bytes_deleted)
+
+-- the pairs of all batches, one batch after the other
+abbrev pub pairs_of : List (Vec (ℕ × ℕ)) → List (ℕ × ℕ)
+pairs_of batches = flat_map (λ batch. batch.items) batches
 
 -- the deltas record these deletions in this order, each with the bytes of all deletions up to it
 pub record IsListing (deletions : List (ℕ × ℕ)) (deltas : List RelaxDelta) : Type 0 where
@@ -25,3 +31,15 @@ pub record IsSound (list : List RelaxDelta) : Type 0 where
 pub record ArePlaced (deletions : List (ℕ × ℕ)) (y passed : ℕ) : Type 0 where
   pub before : (k : ℕ) (d : ℕ × ℕ) → k < passed → (slice_index_or deletions k d).0 ≤ y + bytes_of (take k deletions)
   pub after : (k : ℕ) (d : ℕ × ℕ) → passed ≤ k → k < length deletions → y + bytes_of (take k deletions) < (slice_index_or deletions k d).0
+
+-- a valid list of deletions from an offset on, and an offset that the next may have
+pub record IsRun (from next : ℕ) (deletions : List (ℕ × ℕ)) : Type 0 where
+  pub valid : IsValid deletions
+  pub rise : from ≤ next
+  pub begin : All (λ d. from ≤ d.0) deletions
+  pub end : All (λ d. (d.0 < next) × (d.0 + d.1 ≤ next)) deletions
+
+-- some deletion stands at the offset, and each that does has these bytes
+pub record IsOnlyAt (deletions : List (ℕ × ℕ)) (offset bytes : ℕ) : Type 0 where
+  pub some : Any (λ d. d.0 ≡ offset) deletions
+  pub only : All (λ d. d.0 ≡ offset → bytes ≡ d.1) deletions

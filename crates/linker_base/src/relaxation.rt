@@ -1,20 +1,25 @@
 //! Deletions that relaxation makes in a section, and the offsets of what they leave.
 
-ghost use Rattle.std.specs.Prelude.{◌≡◌, ◌<◌, ◌≤◌, ◌↔◌, ◌+◌, ◌++◌, IsTrue, IsOk, IfOk, OnOk, OnErr, IfSome, IfNone, All, [], map, length, take, vec_len, vec_capacity};
+ghost use Rattle.std.specs.Prelude.{◌≡◌, ◌↔◌, ◌+◌, ◌++◌, IsTrue, IsOk, IfOk, OnOk, OnErr, IfSome, IfNone, All, Any, []};
 ghost use Rattle.std.specs.Option.{ForSome};
-ghost use Rattle.std.specs.List.Sorted.{IsPartitionPoint};
-ghost use Rattle.linker_base.specs.Deletions.{IsBefore, IsApart, EndFits, AreDisjoint, IsValid, IsSortedUnion, bytes_of, rank, IsInside, IsSelected, HasInput};
-ghost use Rattle.linker_base.specs.Deltas.{deletion_of, IsListing, AreListed, ArePlaced};
+ghost use Rattle.linker_base.specs.Deletions.{AreDisjoint, IsValid, IsSortedUnion, bytes_of, rank, IsInside, IsSelected, HasInput};
+ghost use Rattle.linker_base.specs.Deltas.{IsListing, pairs_of};
 
 use std::alloc::{AllocError, AllocFailed, Global};
 use std::marker::Model;
 
+mod apart;
 mod cursor;
 pub mod laws;
 mod map;
+mod merge;
+mod search;
 
+use apart::{are_disjoint, are_disjoint_batches, are_free, are_free_batches, end_fits, is_before};
 pub use cursor::RelaxCursor;
 pub use map::RelaxDeltaMap;
+use merge::{append, append_all, count_pairs, sort_and_sum};
+use search::{bytes_of_first, count_below, count_placed, delta_at, is_inside_one};
 
 /// What a linker does with the relocation that follows a rewritten one.
 #[derive(Debug, Clone, Copy, PartialEq, Eq)]
@@ -140,6 +145,33 @@ impl SectionRelaxDeltas {
         are_disjoint(additional) && are_free(&self.deltas, additional)
     }
 
+    /// Adds the deletions of all batches, or of none where memory is wanting.
+    ///
+    /// What is listed is then as `new` makes it of the old and all additional pairs, sorted. The
+    /// list grows once, before anything changes. The work is O((n + k) log(n + k)) for k pairs in
+    /// all batches beside n deltas. `are_mergeable` tests what it asks.
+    pub fn merge_all(&mut self, batches: &[Vec<(u64, u32)>]) -> Result<(), OutOfMemory>
+        requires { AreDisjoint (self.old ++ pairs_of batches.now) }
+        ensures ok { OnOk result (IsSortedUnion (self.old ++ pairs_of batches.now) self.new) }
+        ensures err { OnErr result (self.new ≡ self.old) }
+    {
+        let deltas = &mut self.deltas;
+        deltas.reserve(count_pairs(batches))?;
+        append_all(deltas, batches);
+        sort_and_sum(deltas);
+        Ok(())
+    }
+
+    /// Whether all batches together may be merged, as `is_mergeable` says of their pairs.
+    ///
+    /// It takes no memory. For k pairs in all batches beside n deltas the work is O(k log n + k)
+    /// where the pairs ascend, from each batch to the next too, and else O(k log n + k²).
+    pub fn are_mergeable(&self, batches: &[Vec<(u64, u32)>]) -> bool
+        ensures { IsTrue result ↔ AreDisjoint (self.now ++ pairs_of batches.now) }
+    {
+        are_disjoint_batches(batches) && are_free_batches(&self.deltas, batches)
+    }
+
     /// A copy of the deltas. It takes memory once.
     pub fn clone(&self) -> Result<Self, OutOfMemory>
         ensures { IfOk result (λ section. section ≡ self.now) }
@@ -155,6 +187,24 @@ impl SectionRelaxDeltas {
         ensures listing { IsListing self.now result.now }
     {
         &self.deltas
+    }
+
+    /// Whether a deletion is listed at the offset, be it one of no bytes.
+    pub fn has_delta_at(&self, offset: u64) -> bool
+        ensures { IsTrue result ↔ Any (λ d. d.0 ≡ offset) self.now }
+    {
+        delta_at(&self.deltas, offset).is_some()
+    }
+
+    /// The bytes that are deleted at the offset: 0 where no deletion is listed there.
+    pub fn delta_bytes_at(&self, offset: u64) -> u32
+        ensures listed { All (λ d. d.0 ≡ offset → result ≡ d.1) self.now }
+        ensures none { ¬ (Any (λ d. d.0 ≡ offset) self.now) → result ≡ 0 }
+    {
+        match delta_at(&self.deltas, offset) {
+            Some(delta) => delta.bytes_deleted,
+            None => 0,
+        }
     }
 
     /// Whether nothing is listed. A deletion of no bytes counts as listed.
@@ -231,150 +281,4 @@ pub fn opt_input_to_output(deltas: Option<&SectionRelaxDeltas>, input_offset: u6
         Some(section) => section.input_to_output_offset(input_offset),
         None => input_offset,
     }
-}
-
-// Whether the first pair lies below the second: it has a lower offset and does not reach past it.
-fn is_before(first: (u64, u32), second: (u64, u32)) -> bool
-    ensures { IsTrue result ↔ IsBefore first second }
-{
-    first.0 < second.0 && u64::from(first.1) <= second.0 - first.0
-}
-
-// Whether the pair ends at `u64::MAX` or below.
-fn end_fits(pair: (u64, u32)) -> bool
-    ensures { IsTrue result ↔ EndFits pair }
-{
-    u64::from(pair.1) <= u64::MAX - pair.0
-}
-
-// The bytes that the first `count` deltas delete.
-fn bytes_of_first(deltas: &[RelaxDelta], count: usize) -> u64
-    requires within { count ≤ length deltas.now }
-    requires listed { AreListed deltas.now }
-    ensures { result ≡ bytes_of (take count (map deletion_of deltas.now)) }
-{
-    match count.checked_sub(1) {
-        Some(last) => deltas[last].cumulative_deleted,
-        None => 0,
-    }
-}
-
-// How many deltas lie at offsets strictly below `offset`.
-fn count_below(deltas: &[RelaxDelta], offset: u64) -> usize
-    requires { AreListed deltas.now }
-    ensures within { result ≤ length deltas.now }
-    ensures below { IsPartitionPoint (λ d. d.0 < offset) (λ d. offset ≤ d.0) (map deletion_of deltas.now) result }
-{
-    deltas.partition_point(|delta| delta.input_offset < offset)
-}
-
-// How many deltas have an output place, their offset less the bytes deleted before, of at most
-// `offset`. The sums of any two fields fit 65 bits, so no search through 128 bits overflows.
-fn count_placed(deltas: &[RelaxDelta], offset: u64) -> usize
-    requires { AreListed deltas.now }
-    ensures within { result ≤ length deltas.now }
-    ensures placed { ArePlaced (map deletion_of deltas.now) offset result }
-{
-    deltas.partition_point(|delta| {
-        let end = u128::from(delta.input_offset) + u128::from(delta.bytes_deleted);
-        end <= u128::from(offset) + u128::from(delta.cumulative_deleted)
-    })
-}
-
-// Whether a delta begins below the offset and ends above it.
-fn is_inside_one(deltas: &[RelaxDelta], offset: u64) -> bool
-    requires { AreListed deltas.now }
-    ensures { IsTrue result ↔ IsInside (map deletion_of deltas.now) offset }
-{
-    match count_below(deltas, offset).checked_sub(1) {
-        Some(last) => offset - deltas[last].input_offset < u64::from(deltas[last].bytes_deleted),
-        None => false,
-    }
-}
-
-// Puts the pairs behind the deltas, with no sum yet.
-fn append(deltas: &mut Vec<RelaxDelta>, pairs: &[(u64, u32)])
-    requires { vec_len deltas.old + length pairs.now ≤ vec_capacity deltas.old }
-    ensures appended { map deletion_of deltas.new.items ≡ map deletion_of deltas.old.items ++ pairs.now }
-    ensures len { vec_len deltas.new ≡ vec_len deltas.old + length pairs.now }
-    ensures capacity { vec_capacity deltas.new ≡ vec_capacity deltas.old }
-{
-    for &(input_offset, bytes_deleted) in pairs {
-        deltas.push_reserved(RelaxDelta {
-            input_offset,
-            cumulative_deleted: 0,
-            bytes_deleted,
-        });
-    }
-}
-
-// Puts the deltas in order, and sums their bytes anew.
-fn sort_and_sum(deltas: &mut [RelaxDelta])
-    requires { AreDisjoint (map deletion_of deltas.old) }
-    ensures sorted { IsSortedUnion (map deletion_of deltas.old) (map deletion_of deltas.new) }
-    ensures listed { AreListed deltas.new }
-{
-    deltas.sort_unstable_by_key(|delta| delta.input_offset);
-    let mut sum = 0;
-    for delta in deltas.iter_mut() {
-        sum += u64::from(delta.bytes_deleted);
-        delta.cumulative_deleted = sum;
-    }
-}
-
-// Whether the pairs, in any order, make a valid list once sorted: one pass where they are one.
-fn are_disjoint(pairs: &[(u64, u32)]) -> bool
-    ensures { IsTrue result ↔ AreDisjoint pairs.now }
-{
-    if SectionRelaxDeltas::is_valid(pairs) {
-        return true;
-    }
-    for (at, &pair) in pairs.iter().enumerate() {
-        if !end_fits(pair) || !is_apart_from(&pairs[..at], pair) {
-            return false;
-        }
-    }
-    true
-}
-
-// Whether each of the others lies below the pair or above it.
-fn is_apart_from(others: &[(u64, u32)], pair: (u64, u32)) -> bool
-    ensures { IsTrue result ↔ All (λ other. IsApart other pair) others.now }
-{
-    for &other in others {
-        if !is_before(other, pair) && !is_before(pair, other) {
-            return false;
-        }
-    }
-    true
-}
-
-// Whether each of the pairs lies below or above each of the deltas.
-fn are_free(deltas: &[RelaxDelta], pairs: &[(u64, u32)]) -> bool
-    requires { AreListed deltas.now }
-    ensures { IsTrue result ↔ All (λ pair. All (λ d. IsApart d pair) (map deletion_of deltas.now)) pairs.now }
-{
-    for &pair in pairs {
-        if !is_free(deltas, pair) {
-            return false;
-        }
-    }
-    true
-}
-
-// Whether the pair lies below or above each of the deltas: the nearest two decide.
-fn is_free(deltas: &[RelaxDelta], pair: (u64, u32)) -> bool
-    requires { AreListed deltas.now }
-    ensures { IsTrue result ↔ All (λ d. IsApart d pair) (map deletion_of deltas.now) }
-{
-    let below = count_below(deltas, pair.0);
-    (below == 0 || is_before(deletion(&deltas[below - 1]), pair))
-        && (below == deltas.len() || is_before(pair, deletion(&deltas[below])))
-}
-
-// The deletion that the delta records.
-fn deletion(delta: &RelaxDelta) -> (u64, u32)
-    ensures { result ≡ deletion_of delta.now }
-{
-    (delta.input_offset, delta.bytes_deleted)
 }

@@ -1,10 +1,12 @@
 //! The cursor that translates offsets in one walk through the deletions.
 
-ghost use Rattle.std.specs.Prelude.{◌≡◌, ◌-◌, ◌≤◌, ◌↔◌, IsTrue, map};
+ghost use Rattle.std.specs.Prelude.{◌≡◌, ◌-◌, ◌<◌, ◌≤◌, ◌↔◌, IsTrue, All, AllPairs, length, map, slice_index};
+ghost use Rattle.linker_base.specs.Deletions.{IsBefore, IsInside, rank};
 ghost use Rattle.linker_base.specs.Deltas.{deletion_of, AreListed};
-ghost use Rattle.linker_base.specs.Walk.{Walk, passed_bytes, walk_to};
+ghost use Rattle.linker_base.specs.Walk.{Walk, passed_bytes, walk_to, walk_through, AreAhead};
 
-use super::{RelaxDelta, bytes_of_first, count_below};
+use super::RelaxDelta;
+use super::search::{bytes_of_first, count_below, is_inside_one};
 use std::marker::Model;
 
 /// A walk through the deletions of a section, for offsets that are asked in order.
@@ -65,6 +67,33 @@ impl<'a> RelaxCursor<'a> {
         bytes_of_first(self.deltas, passed) <= input_offset
     }
 
+    /// Translates each of the queries, in order, into its place in `out`: to its output offset.
+    ///
+    /// It asks as many places as queries, queries that do not decrease, none strictly inside a
+    /// deletion, and that each delta already passed begins strictly below the first query, as
+    /// `can_translate_all` tests but for the lengths. One pass takes O(n + q).
+    pub fn translate_all(&mut self, queries: &[u64], out: &mut [u64])
+        requires same_length { length queries.now ≡ length out.old }
+        requires ahead { AreAhead self.old queries.now }
+        ensures ranks { out.new ≡ map (rank self.old.deletions) queries.now }
+        ensures walks { self.new ≡ walk_through self.old queries.now }
+    {
+        for (at, &query) in queries.iter().enumerate() {
+            self.pass(query);
+            out[at] = query - self.deleted;
+        }
+    }
+
+    /// Whether `translate_all` may be asked for the queries, with as many places.
+    pub fn can_translate_all(&self, queries: &[u64]) -> bool
+        ensures { IsTrue result ↔ AreAhead self.now queries.now }
+    {
+        if !queries.is_sorted() || !are_outside(self.deltas, queries) {
+            return false;
+        }
+        begin_below_first(&self.deltas[..self.passed], queries)
+    }
+
     /// How many deltas were passed since the cursor was made: the turns of the loop that passes
     /// them.
     pub fn turns(&self) -> usize
@@ -84,4 +113,28 @@ impl<'a> RelaxCursor<'a> {
             self.passed += 1;
         }
     }
+}
+
+// Whether none of the offsets lies strictly inside a deletion.
+fn are_outside(deltas: &[RelaxDelta], offsets: &[u64]) -> bool
+    requires { AreListed deltas.now }
+    ensures { IsTrue result ↔ All (λ i. ¬ (IsInside (map deletion_of deltas.now) i)) offsets.now }
+{
+    for &offset in offsets {
+        if is_inside_one(deltas, offset) {
+            return false;
+        }
+    }
+    true
+}
+
+// Whether all deltas begin strictly below the first offset, if there is one.
+fn begin_below_first(deltas: &[RelaxDelta], offsets: &[u64]) -> bool
+    requires { AllPairs IsBefore (map deletion_of deltas.now) }
+    ensures { IsTrue result ↔ (0 < length offsets.now → All (λ d. d.0 < slice_index offsets.now 0) (map deletion_of deltas.now)) }
+{
+    if deltas.is_empty() || offsets.is_empty() {
+        return true;
+    }
+    deltas[deltas.len() - 1].input_offset < offsets[0]
 }
