@@ -7,9 +7,10 @@ use Rattle.std.proofs.lemmas.Bool.Decides.{nat_tests}
 use Rattle.std.proofs.lemmas.List.Elements.{All-head, All-tail}
 use Rattle.std.proofs.lemmas.List.Sums.{sum_by-cons, sum_by-le-sum_by, count_by-le-length}
 use Rattle.std.proofs.lemmas.List.Sorted.{IsPermutation-append_left, IsPermutation-append_right, IsPermutation-append_comm}
-use Rattle.std.proofs.lemmas.List.{append_assoc}
-use Rattle.linker_base.specs.Deletions.{IsBefore, bytes_of, holds, is_kept, IsInside, rank, IsSelected}
-use Rattle.linker_base.specs.Laws.{InAfterOutReturns, OutAfterInIsFirstKept, OutAfterInReturnsKept, MergeOrderIsFree, begun_below, WalkGivesRanks, MergesShortenDistances}
+use Rattle.std.proofs.lemmas.List.{append_assoc, take_all, get_or-take, length-take}
+use Rattle.linker_base.specs.Walk.{passed_bytes, walk_to}
+use Rattle.linker_base.specs.Deletions.{begun_below, IsBefore, bytes_of, holds, is_kept, IsInside, rank, IsSelected}
+use Rattle.linker_base.specs.Laws.{InAfterOutReturns, OutAfterInIsFirstKept, OutAfterInReturnsKept, MergeOrderIsFree, CursorGivesRanks, MergesShortenDistances}
 use Rattle.linker_base.proofs.Rank.{all_pairs_tail, rank_kept, rank_gone, rank-mono, selected_once}
 use Rattle.linker_base.proofs.Places.{rank-parted}
 use Rattle.linker_base.proofs.Unions.{apart_from_ascending, disjoint_permutation, disjoint_from_union, disjoint_left, union_once, union_of_merges, union_swapped}
@@ -95,17 +96,48 @@ begun_parted (e ∷ ds) i ascending = elim (cases_lt e.0 i) [
 pub begun_below-rise : (ds : List (ℕ × ℕ)) (i j : ℕ) → i ≤ j → begun_below ds i ≤ begun_below ds j
 begun_below-rise ds i j le = sum_by-le-sum_by (λ (d : ℕ × ℕ). cond (nat_lt d.0 i) 1 0) (λ (d : ℕ × ℕ). cond (nat_lt d.0 j) 1 0) ds (λ d. grind (arith, nat_tests))
 
-pub walk-ranks : WalkGivesRanks
-walk-ranks ds k [] valid rise outside passed = refl
-walk-ranks ds k (i ∷ queries) valid rise outside passed =
+-- where what is passed begins below i, a query at i leaves just what begins below i as passed
+taken_to : (ds : List (ℕ × ℕ)) (k i : ℕ) → AllPairs IsBefore ds → All (λ d. d.0 < i) (take k ds) → take (max k (begun_below ds i)) ds ≡ take (begun_below ds i) ds
+taken_to ds k i ascending passed =
+    let b = begun_below ds i in
+    let parted = begun_parted ds i ascending in
+    ⊎_elim
+    (λ (more : b < k).
+    let e : max k b ≡ k = omega arith in
+    let past : length ds ≤ b = ⊎_elim
+    (λ (inside : b < length ds).
+    let low : (get_or ds b (0, 0)).0 < i = rw (get_or-take k ds b (0, 0) more) at (passed b (0, 0) (omega (arith, length-take k ds))) in
+    absurd (omega (arith, low, parted.1 b (0, 0) (omega arith) inside)))
+    (λ le. le)
+    (cases_lt b (length ds)) in
+    rw (e, take_all k ds (omega arith), take_all b ds past) refl)
+    (λ (le : k ≤ b). let e : max k b ≡ b = omega arith in rw e refl)
+    (cases_lt b k)
+
+pub cursor_ranks : CursorGivesRanks
+cursor_ranks walk [] valid ahead = (tt, refl)
+cursor_ranks walk (i ∷ queries) valid ahead =
+    let ds = walk.deletions in
     let now = begun_below ds i in
-    let enough : k ≤ now = All-head (λ q. k ≤ begun_below ds q) i queries passed in
-    let most : max k now ≡ now = omega arith in
+    let taken = taken_to ds walk.passed i valid.ascending (ahead.begun (omega arith)) in
+    let bytes : passed_bytes (walk_to walk i) ≡ bytes_of (take now ds) = ap bytes_of taken in
     let parted = begun_parted ds i valid.ascending in
-    let answer = rank-parted ds now i (apart_from_ascending ds valid.ascending) (count_by-le-length (λ (d : ℕ × ℕ). nat_lt d.0 i) ds) parted.0 parted.1 (All-head (λ q. ¬ (IsInside ds q)) i queries outside) in
-    let here : i - bytes_of (take now ds) ≡ rank ds i = omega arith in
-    let rest = walk-ranks ds now queries valid (λ a b d le within. rise (suc a) (suc b) d (omega arith) (omega arith)) (All-tail (λ q. ¬ (IsInside ds q)) i queries outside) (λ a d within. begun_below-rise ds i (get_or queries a d) (rise zero (suc a) d (omega arith) (omega arith))) in
-    rw (most, here, rest) refl
+    let answer = rank-parted ds now i (apart_from_ascending ds valid.ascending) (count_by-le-length (λ (d : ℕ × ℕ). nat_lt d.0 i) ds) parted.0 parted.1 (All-head (λ q. ¬ (IsInside ds q)) i queries ahead.outside) in
+    let here : i - passed_bytes (walk_to walk i) ≡ rank ds i = omega arith in
+    let rest = cursor_ranks (walk_to walk i) queries valid (record {
+      ascending = λ a b d le within. ahead.ascending (suc a) (suc b) d (omega arith) (omega arith);
+      outside = All-tail (λ q. ¬ (IsInside ds q)) i queries ahead.outside;
+      begun = λ some. rw taken (begun_before (rise_on some) now parted.0);
+    }) in
+    ((omega arith, rest.0), rw (here, rest.1) refl)
+  where
+    rise_on : 0 < length queries → i ≤ get_or queries 0 0
+    rise_on some = ahead.ascending 0 1 0 (omega arith) (omega arith)
+
+    begun_before : {q : ℕ} → i ≤ q → (n : ℕ) → AllWithin (λ d. d.0 < i) walk.deletions 0 n → All (λ d. d.0 < q) (take n walk.deletions)
+    begun_before le n below k d within =
+        let inside : k < n = omega (arith, length-take n walk.deletions) in
+        rw (get_or-take n walk.deletions k d inside) (omega (arith, below k d (omega arith) inside))
 
 -- a position that more deletions keep is kept by fewer
 kept_by_fewer : (ds more : List (ℕ × ℕ)) (p : ℕ) → All (Contains more) ds → is_kept more p ≡ true → is_kept ds p ≡ true

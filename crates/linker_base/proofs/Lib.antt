@@ -5,5 +5,6 @@ pub mod Merging
 pub mod Places
 pub mod Rank
 pub mod Search
+pub mod Sections
 pub mod Unions
 pub mod Walking

@@ -1,5 +1,5 @@
 -- Deletions in a section as pairs of an offset and a count of bytes, the positions that they leave, and how these are counted.
-use Rattle.std.specs.Prelude.{◌≡◌, ℕ, zero, suc, ◌+◌, ◌^◌, ◌<◌, ◌≤◌, List, Bool, not, ◌&&◌, ◌⊎◌, if◌then◌else◌, nat_le, nat_lt, IsTrue, All, Any, AllPairs, sum_by, IsPermutation}
+use Rattle.std.specs.Prelude.{◌≡◌, ℕ, zero, suc, ◌+◌, ◌^◌, ◌<◌, ◌≤◌, List, Bool, not, ◌&&◌, ◌⊎◌, if◌then◌else◌, nat_le, nat_lt, IsTrue, All, Any, AllPairs, sum_by, count_by, IsPermutation}
 use Rattle.std.specs.List.{list_any}
 
 -- the first deletion lies below the second
@@ -58,3 +58,7 @@ pub record IsSelected (deletions : List (ℕ × ℕ)) (y p : ℕ) : Type 0 where
 -- some 64-bit offset is the kept position of rank y
 abbrev pub HasInput : List (ℕ × ℕ) → ℕ → Type 0
 HasInput deletions y = (p : ℕ) × (p < 2 ^ 64) × IsSelected deletions y p
+
+-- how many deletions begin strictly below i
+abbrev pub begun_below : List (ℕ × ℕ) → ℕ → ℕ
+begun_below deletions i = count_by (λ d. nat_lt d.0 i) deletions

@@ -1,7 +1,8 @@
 -- Laws of deletions, over the definitions alone.
-use Rattle.std.specs.Prelude.{◌≡◌, ℕ, ◌-◌, ◌^◌, ◌<◌, ◌≤◌, List, [], ◌∷◌, ◌++◌, map, max, take, nat_lt, IsTrue, IsFalse, All, Contains, count_by}
-use Rattle.std.specs.List.Sorted.{IsNonDecreasing}
-use Rattle.linker_base.specs.Deletions.{AreDisjoint, IsValid, IsSortedUnion, bytes_of, is_kept, IsInside, rank, IsSelected, HasInput}
+use Rattle.std.specs.Prelude.{◌≡◌, ℕ, ◌-◌, ◌^◌, ◌<◌, ◌≤◌, List, [], ◌∷◌, ◌++◌, map, ⊤, IsTrue, IsFalse, All, Contains}
+use Rattle.linker_base.specs.Walk.{Walk, passed_bytes, walk_to, AreAhead}
+pub use Rattle.linker_base.specs.Deletions.{begun_below}
+use Rattle.linker_base.specs.Deletions.{AreDisjoint, IsValid, IsSortedUnion, is_kept, IsInside, rank, IsSelected, HasInput}
 
 -- the input offset of y isn't strictly inside a deletion, and its output offset is y
 abbrev pub InAfterOutReturns : Type 0
@@ -36,18 +37,19 @@ pub record MergesInAnyOrder (old first second both : List (ℕ × ℕ)) : Type 0
 abbrev pub MergeOrderIsFree : Type 0
 MergeOrderIsFree = (old first second one both : List (ℕ × ℕ)) → IsSortedUnion (old ++ first) one → IsSortedUnion (one ++ second) both → MergesInAnyOrder old first second both
 
--- how many deletions begin strictly below i
-abbrev pub begun_below : List (ℕ × ℕ) → ℕ → ℕ
-begun_below deletions i = count_by (λ d. nat_lt d.0 i) deletions
+-- a cursor may be asked each query, one after the other
+abbrev pub MayAsk : Walk → List ℕ → Type 0
+MayAsk walk [] = ⊤
+MayAsk walk (i ∷ queries) = (passed_bytes (walk_to walk i) ≤ i) × MayAsk (walk_to walk i) queries
 
--- what a cursor that has passed k deletions answers to queries, one after the other: each minus the bytes of all that are passed by then
-abbrev pub walk : List (ℕ × ℕ) → ℕ → List ℕ → List ℕ
-walk deletions k [] = []
-walk deletions k (i ∷ queries) = let passed = max k (begun_below deletions i) in (i - bytes_of (take passed deletions)) ∷ walk deletions passed queries
+-- what it answers: each query minus the bytes of all that is passed by then
+abbrev pub answers : Walk → List ℕ → List ℕ
+answers walk [] = []
+answers walk (i ∷ queries) = (i - passed_bytes (walk_to walk i)) ∷ answers (walk_to walk i) queries
 
--- a cursor that is asked in order, outside deletions, and has passed none too many answers the ranks
-abbrev pub WalkGivesRanks : Type 0
-WalkGivesRanks = (deletions : List (ℕ × ℕ)) (k : ℕ) (queries : List ℕ) → IsValid deletions → IsNonDecreasing queries → All (λ i. ¬ (IsInside deletions i)) queries → All (λ i. k ≤ begun_below deletions i) queries → walk deletions k queries ≡ map (rank deletions) queries
+-- a cursor answers the ranks to queries that lie ahead of it
+abbrev pub CursorGivesRanks : Type 0
+CursorGivesRanks = (walk : Walk) (queries : List ℕ) → IsValid walk.deletions → AreAhead walk queries → MayAsk walk queries × (answers walk queries ≡ map (rank walk.deletions) queries)
 
 -- where `more` has all of `deletions`, two offsets are no farther apart after it
 abbrev pub MergesShortenDistances : Type 0

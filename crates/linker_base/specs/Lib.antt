@@ -1,4 +1,5 @@
 pub mod Deletions
 pub mod Deltas
 pub mod Laws
+pub mod Sections
 pub mod Walk

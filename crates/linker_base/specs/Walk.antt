@@ -4,7 +4,7 @@ use Rattle.std.specs.List.Sorted.{IsNonDecreasing}
 use Rattle.linker_base.specs.declared.relaxation.RelaxDelta.{RelaxDelta}
 use Rattle.linker_base.specs.Deletions.{IsInside, bytes_of}
 use Rattle.linker_base.specs.Deltas.{deletion_of, AreListed}
-use Rattle.linker_base.specs.Laws.{begun_below}
+use Rattle.linker_base.specs.Deletions.{begun_below}
 
 -- a valid list of deletions, and how many of them are passed
 pub record Walk : Type 0 where

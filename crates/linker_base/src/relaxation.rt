@@ -11,11 +11,13 @@ use std::marker::Model;
 mod apart;
 mod cursor;
 pub mod laws;
+mod map;
 mod merge;
 mod search;
 
 use apart::{are_disjoint, are_disjoint_batches, are_free, are_free_batches, end_fits, is_before};
 pub use cursor::RelaxCursor;
+pub use map::RelaxDeltaMap;
 use merge::{append, append_all, count_pairs, sort_and_sum};
 use search::{bytes_of_first, count_below, count_placed, delta_at, is_inside_one};
 

@@ -1,5 +1,5 @@
 //! Laws of deletions: each function does nothing, and its contract is a law.
-ghost use Rattle.linker_base.specs.Laws.{InAfterOutReturns, OutAfterInIsFirstKept, OutAfterInReturnsKept, RankNeverDecreases, MergeOrderIsFree, WalkGivesRanks, MergesShortenDistances};
+ghost use Rattle.linker_base.specs.Laws.{InAfterOutReturns, OutAfterInIsFirstKept, OutAfterInReturnsKept, RankNeverDecreases, MergeOrderIsFree, CursorGivesRanks, MergesShortenDistances};
 
 /// Back to the output: the input offset of an output offset `y` isn't strictly inside a deletion,
 /// and its output offset is `y`.
@@ -28,7 +28,7 @@ pub fn merge_order_is_free()
 /// A cursor that is asked in an order that doesn't decrease, never strictly inside a deletion,
 /// answers as a translation of each query by itself.
 pub fn cursor_gives_ranks()
-    ensures { WalkGivesRanks }
+    ensures { CursorGivesRanks }
 {}
 
 /// More deletions never move two offsets apart: a branch that reaches its target still does after

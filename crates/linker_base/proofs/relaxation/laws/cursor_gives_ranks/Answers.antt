@@ -1,5 +1,5 @@
-use Rattle.linker_base.proofs.Laws.{walk-ranks}
+use Rattle.linker_base.proofs.Laws.{cursor_ranks}
 use Rattle.linker_base.proofs.relaxation.laws.cursor_gives_ranks.Goals as goal
 
 pub returns : goal.returns
-returns c = walk-ranks
+returns c = cursor_ranks

@@ -2,7 +2,7 @@ use Rattle.std.proofs.Common.{◌≡◌, map, arith}
 use Rattle.std.proofs.lemmas.Bool.Decides.{nat_tests}
 use Rattle.std.proofs.lemmas.List.{length-map}
 use Rattle.linker_base.specs.Deltas.{deletion_of}
-use Rattle.linker_base.specs.Laws.{begun_below}
+use Rattle.linker_base.specs.Deletions.{begun_below}
 use Rattle.linker_base.specs.Walk.{passed_bytes, walk_to}
 use Rattle.linker_base.proofs.Walking.{begun_from_parted}
 use Rattle.linker_base.proofs.relaxation.cursor.RelaxCursor.can_translate.Goals as goal

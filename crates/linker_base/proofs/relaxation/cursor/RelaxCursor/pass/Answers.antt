@@ -1,6 +1,5 @@
-use Rattle.std.proofs.Common.{◌≡◌, ℕ, ap, map, max, arith}
+use Rattle.std.proofs.Common.{ℕ, ap, map, arith}
 use Rattle.linker_base.specs.Deltas.{deletion_of}
-use Rattle.linker_base.specs.Laws.{begun_below}
 use Rattle.linker_base.specs.Walk.{Walk}
 use Rattle.linker_base.proofs.Walking.{walked_to}
 use Rattle.linker_base.proofs.relaxation.cursor.RelaxCursor.pass.Goals as goal
