@@ -32,12 +32,13 @@ pub record ArePlaced (deletions : List (ℕ × ℕ)) (y passed : ℕ) : Type 0 w
   pub before : (k : ℕ) (d : ℕ × ℕ) → k < passed → (slice_index_or deletions k d).0 ≤ y + bytes_of (take k deletions)
   pub after : (k : ℕ) (d : ℕ × ℕ) → passed ≤ k → k < length deletions → y + bytes_of (take k deletions) < (slice_index_or deletions k d).0
 
--- a valid list of deletions from an offset on, and an offset that the next may have
+-- a valid list of deletions from an offset on, and the least offset that the next may have
 pub record IsRun (from next : ℕ) (deletions : List (ℕ × ℕ)) : Type 0 where
   pub valid : IsValid deletions
   pub rise : from ≤ next
   pub begin : All (λ d. from ≤ d.0) deletions
   pub end : All (λ d. (d.0 < next) × (d.0 + d.1 ≤ next)) deletions
+  pub least : (i : ℕ) → from ≤ i → All (λ d. (d.0 < i) × (d.0 + d.1 ≤ i)) deletions → next ≤ i
 
 -- some deletion stands at the offset, and each that does has these bytes
 pub record IsOnlyAt (deletions : List (ℕ × ℕ)) (offset bytes : ℕ) : Type 0 where

@@ -1,6 +1,6 @@
 //! Tests of deletions that are to be merged. None takes memory.
 
-ghost use Rattle.std.specs.Prelude.{◌≡◌, ◌↔◌, IsTrue, IfSome, All, map};
+ghost use Rattle.std.specs.Prelude.{◌≡◌, ◌≤◌, ◌↔◌, IsTrue, MatchOption, All, map};
 ghost use Rattle.linker_base.specs.Deletions.{IsBefore, IsApart, EndFits, AreDisjoint, IsValid};
 ghost use Rattle.linker_base.specs.Deltas.{deletion_of, AreListed, IsRun, pairs_of};
 
@@ -94,9 +94,9 @@ pub(super) fn are_disjoint_batches(batches: &[Vec<(u64, u32)>]) -> bool
     true
 }
 
-// Whether the pairs of all batches, one batch after the other, are found to be a valid list.
+// Whether the pairs of all batches, one batch after the other, are a valid list.
 fn are_ascending(batches: &[Vec<(u64, u32)>]) -> bool
-    ensures { IsTrue result → IsValid (pairs_of batches.now) }
+    ensures { IsTrue result ↔ IsValid (pairs_of batches.now) }
 {
     let mut next = 0;
     for batch in batches {
@@ -111,7 +111,7 @@ fn are_ascending(batches: &[Vec<(u64, u32)>]) -> bool
 // The lowest offset that may follow the pairs, where they are a valid list that begins at `from`
 // or above. It may be one past the 64 bits of an offset.
 fn next_after(from: u128, pairs: &[(u64, u32)]) -> Option<u128>
-    ensures { IfSome result (λ next. IsRun from next pairs.now) }
+    ensures { MatchOption result (¬ (IsValid pairs.now × All (λ d. from ≤ d.0) pairs.now)) (λ next. IsRun from next pairs.now) }
 {
     let mut next = from;
     for &pair in pairs {
