@@ -8,7 +8,8 @@ use Rattle.std.proofs.lemmas.List.{take_more, length_push, get_or_push, get_or-t
 use Rattle.std.proofs.lemmas.List.Concat.{flat_map-append}
 use Rattle.std.proofs.lemmas.List.Elements.{All-append, All-push}
 use Rattle.linker_base.specs.Deletions.{IsBefore, IsApart, EndFits, AreDisjoint, IsValid}
-use Rattle.linker_base.specs.Deltas.{pairs_of, IsRun}
+use Rattle.linker_base.specs.Deltas.{pairs_of}
+use Rattle.linker_base.specs.Listed.{IsRun}
 use Rattle.linker_base.proofs.Listed.{IsValid-push}
 
 -- one more batch

@@ -68,7 +68,8 @@ pub struct SectionRelaxDeltas {
 
 impl Model for SectionRelaxDeltas {
     ghost use Rattle.std.specs.Prelude.{ℕ, List, map};
-    ghost use Rattle.linker_base.specs.Deltas.{deletion_of, IsSound};
+    ghost use Rattle.linker_base.specs.Deltas.{deletion_of};
+    ghost use Rattle.linker_base.specs.Listed.{IsSound};
 
     ghost Value = { List (ℕ × ℕ) };
 

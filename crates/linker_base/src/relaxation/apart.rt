@@ -2,7 +2,8 @@
 
 ghost use Rattle.std.specs.Prelude.{◌≡◌, ◌≤◌, ◌↔◌, IsTrue, MatchOption, All, map};
 ghost use Rattle.linker_base.specs.Deletions.{IsBefore, IsApart, EndFits, AreDisjoint, IsValid};
-ghost use Rattle.linker_base.specs.Deltas.{deletion_of, AreListed, IsRun, pairs_of};
+ghost use Rattle.linker_base.specs.Deltas.{deletion_of, pairs_of};
+ghost use Rattle.linker_base.specs.Listed.{AreListed, IsRun};
 
 use super::search::count_below;
 use super::{RelaxDelta, SectionRelaxDeltas};
