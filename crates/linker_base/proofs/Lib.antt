@@ -1,7 +1,17 @@
+pub mod Batches
 pub mod Bits
 pub mod Fields
 pub mod Immediates
+pub mod Laws
+pub mod Listed
+pub mod Merging
+pub mod OutputPlaces
 pub mod Places
+pub mod Rank
 pub mod Rewrites
+pub mod Search
+pub mod Sections
 pub mod TextLemmas
 pub mod UlebLemmas
+pub mod Unions
+pub mod Walking

@@ -1,6 +1,12 @@
 pub mod Bits
+pub mod Deletions
+pub mod Deltas
 pub mod Faults
 pub mod Form
+pub mod Laws
+pub mod Listed
 pub mod Rewrite
+pub mod Sections
 pub mod Text
 pub mod Uleb
+pub mod Walk

@@ -1,5 +1,26 @@
 //! Deletions that relaxation makes in a section, and the offsets of what they leave.
 
+ghost use Rattle.std.specs.Prelude.{◌≡◌, ◌↔◌, ◌+◌, ◌++◌, IsTrue, IsOk, IfOk, OnOk, OnErr, IfSome, IfNone, All, Any, []};
+ghost use Rattle.std.specs.Option.{ForSome};
+ghost use Rattle.linker_base.specs.Deletions.{AreDisjoint, IsValid, IsSortedUnion, bytes_of, rank, IsInside, IsSelected, HasInput};
+ghost use Rattle.linker_base.specs.Deltas.{IsListing, pairs_of};
+
+use std::alloc::{AllocError, AllocFailed, Global};
+use std::marker::Model;
+
+mod apart;
+mod cursor;
+pub mod laws;
+mod map;
+mod merge;
+mod search;
+
+use apart::{are_disjoint, are_disjoint_batches, are_free, are_free_batches, end_fits, is_before};
+pub use cursor::RelaxCursor;
+pub use map::RelaxDeltaMap;
+use merge::{append, append_all, count_pairs, sort_and_sum};
+use search::{bytes_of_first, count_below, count_placed, delta_at, is_inside_one};
+
 /// What a linker does with the relocation that follows a rewritten one.
 #[derive(Debug, Clone, Copy, PartialEq, Eq)]
 pub enum RelocationModifier {
@@ -7,4 +28,323 @@ pub enum RelocationModifier {
     Normal,
     /// It is skipped: the rewrite did its work too.
     SkipNextRelocation,
+}
+
+/// A growth was refused for want of memory. The call that answers it has changed nothing.
+#[derive(Debug, Clone, Copy, PartialEq, Eq)]
+pub struct OutOfMemory;
+
+impl From<AllocError> for OutOfMemory {
+    fn from(_error: AllocError) -> OutOfMemory {
+        OutOfMemory
+    }
+}
+
+impl<T: Drop> From<AllocFailed<T>> for OutOfMemory {
+    fn from(_error: AllocFailed<T>) -> OutOfMemory {
+        OutOfMemory
+    }
+}
+
+/// One deletion in an input section, with the sum of the deletions up to it.
+#[derive(Debug, Clone, Copy, PartialEq, Eq)]
+pub struct RelaxDelta {
+    /// The offset in the input section of the first deleted byte.
+    pub input_offset: u64,
+    /// The bytes that this deletion and all at lower offsets delete.
+    pub cumulative_deleted: u64,
+    /// How many bytes are deleted here. A deletion of no bytes is listed all the same.
+    pub bytes_deleted: u32,
+}
+
+/// The deletions in one input section, by ascending offset.
+///
+/// Two deletions have different offsets, none reaches past the offset of the next, and each ends
+/// at `u64::MAX` or below. Contracts see the list of their offsets and bytes.
+#[derive(Debug, Drop)]
+pub struct SectionRelaxDeltas {
+    deltas: Vec<RelaxDelta>,
+}
+
+impl Model for SectionRelaxDeltas {
+    ghost use Rattle.std.specs.Prelude.{ℕ, List, map};
+    ghost use Rattle.linker_base.specs.Deltas.{deletion_of};
+    ghost use Rattle.linker_base.specs.Listed.{IsSound};
+
+    ghost Value = { List (ℕ × ℕ) };
+
+    ghost view = { λ section. map deletion_of section.deltas.items };
+
+    ghost invariant = { λ section. IsSound section.deltas.items };
+}
+
+impl SectionRelaxDeltas {
+    /// The deletions that `raw` lists, each as an offset and a count of bytes.
+    ///
+    /// It takes memory once, and none where `raw` is empty. `is_valid` tests what it asks.
+    pub fn new(alloc: Global, raw: &[(u64, u32)]) -> Result<Self, OutOfMemory>
+        requires { IsValid raw.now }
+        ensures ok { IfOk result (λ section. section ≡ raw.now) }
+        ensures empty_succeeds { raw.now ≡ [] → IsOk result }
+    {
+        let mut deltas = Vec::with_capacity(alloc, raw.len())?;
+        let mut cumulative_deleted = 0;
+        for &(input_offset, bytes_deleted) in raw {
+            cumulative_deleted += u64::from(bytes_deleted);
+            deltas.push_reserved(RelaxDelta {
+                input_offset,
+                cumulative_deleted,
+                bytes_deleted,
+            });
+        }
+        Ok(SectionRelaxDeltas { deltas })
+    }
+
+    /// Whether `raw` may be given to `new`: its offsets strictly ascend, no pair reaches past the
+    /// offset of the next, and each ends at `u64::MAX` or below.
+    pub fn is_valid(raw: &[(u64, u32)]) -> bool
+        ensures { IsTrue result ↔ IsValid raw.now }
+    {
+        for (at, &pair) in raw.iter().enumerate() {
+            if !end_fits(pair) || at > 0 && !is_before(raw[at - 1], pair) {
+                return false;
+            }
+        }
+        true
+    }
+
+    /// Adds deletions, each an offset and a count of bytes, in any order.
+    ///
+    /// What is listed is then as `new` makes it of the old and the additional pairs, sorted. The
+    /// list grows once, before anything changes, and not at all where `additional` is empty. The
+    /// work is O((n + k) log(n + k)) for k pairs beside n deltas. `is_mergeable` tests what it asks.
+    pub fn merge_additional(&mut self, additional: &[(u64, u32)]) -> Result<(), OutOfMemory>
+        requires { AreDisjoint (self.old ++ additional.now) }
+        ensures ok { OnOk result (IsSortedUnion (self.old ++ additional.now) self.new) }
+        ensures err { OnErr result (self.new ≡ self.old) }
+        ensures empty_succeeds { additional.now ≡ [] → IsOk result }
+        ensures empty_stays { additional.now ≡ [] → self.new ≡ self.old }
+    {
+        let deltas = &mut self.deltas;
+        if additional.is_empty() {
+            return Ok(());
+        }
+        deltas.reserve(additional.len())?;
+        append(deltas, additional);
+        sort_and_sum(deltas);
+        Ok(())
+    }
+
+    /// Whether the pairs may be merged: their ends are at most `u64::MAX`, and of any two
+    /// deletions, old or additional, one has the lower offset and does not reach past the other's.
+    ///
+    /// It takes no memory. For k pairs beside n deltas the work is O(k log n + k) where the pairs
+    /// ascend, as a pass over a section makes them, and else O(k log n + k²).
+    pub fn is_mergeable(&self, additional: &[(u64, u32)]) -> bool
+        ensures { IsTrue result ↔ AreDisjoint (self.now ++ additional.now) }
+    {
+        are_disjoint(additional) && are_free(&self.deltas, additional)
+    }
+
+    /// Adds the deletions of all batches, or of none where memory is wanting.
+    ///
+    /// What is listed is then as `new` makes it of the old and all additional pairs, sorted. The
+    /// list grows once, before anything changes. The work is O((n + k) log(n + k)) for k pairs in
+    /// all batches beside n deltas. `are_mergeable` tests what it asks.
+    pub fn merge_all(&mut self, batches: &[Vec<(u64, u32)>]) -> Result<(), OutOfMemory>
+        requires { AreDisjoint (self.old ++ pairs_of batches.now) }
+        ensures ok { OnOk result (IsSortedUnion (self.old ++ pairs_of batches.now) self.new) }
+        ensures err { OnErr result (self.new ≡ self.old) }
+    {
+        let deltas = &mut self.deltas;
+        deltas.reserve(count_pairs(batches))?;
+        append_all(deltas, batches);
+        sort_and_sum(deltas);
+        Ok(())
+    }
+
+    /// Whether all batches together may be merged, as `is_mergeable` says of their pairs.
+    ///
+    /// It takes no memory. For k pairs in all batches beside n deltas the work is O(k log n + k)
+    /// where the pairs ascend, from each batch to the next too, and else O(k log n + k²).
+    pub fn are_mergeable(&self, batches: &[Vec<(u64, u32)>]) -> bool
+        ensures { IsTrue result ↔ AreDisjoint (self.now ++ pairs_of batches.now) }
+    {
+        are_disjoint_batches(batches) && are_free_batches(&self.deltas, batches)
+    }
+
+    /// A copy of the deltas. It takes memory once.
+    pub fn clone(&self) -> Result<Self, OutOfMemory>
+        ensures { IfOk result (λ section. section ≡ self.now) }
+    {
+        Ok(SectionRelaxDeltas {
+            deltas: self.deltas.clone()?,
+        })
+    }
+
+    /// The deletions by ascending offset, each with the sum of the bytes up to it.
+    pub fn deltas(&self) -> &[RelaxDelta]
+        ensures valid { IsValid self.now }
+        ensures listing { IsListing self.now result.now }
+    {
+        &self.deltas[..]
+    }
+
+    /// Whether a deletion is listed at the offset, be it one of no bytes.
+    pub fn has_delta_at(&self, offset: u64) -> bool
+        ensures { IsTrue result ↔ Any (λ d. d.0 ≡ offset) self.now }
+    {
+        delta_at(&self.deltas, offset).is_some()
+    }
+
+    /// The bytes that are deleted at the offset: 0 where no deletion is listed there.
+    pub fn delta_bytes_at(&self, offset: u64) -> u32
+        ensures listed { All (λ d. d.0 ≡ offset → result ≡ d.1) self.now }
+        ensures none { ¬ (Any (λ d. d.0 ≡ offset) self.now) → result ≡ 0 }
+    {
+        match delta_at(&self.deltas, offset) {
+            Some(delta) => delta.bytes_deleted,
+            None => 0,
+        }
+    }
+
+    /// Whether nothing is listed. A deletion of no bytes counts as listed.
+    pub fn is_empty(&self) -> bool
+        ensures { IsTrue result ↔ (self.now ≡ []) }
+    {
+        self.deltas.is_empty()
+    }
+
+    /// The bytes that all deletions take together.
+    pub fn total_deleted(&self) -> u64
+        ensures { result ≡ bytes_of self.now }
+    {
+        bytes_of_first(&self.deltas, self.deltas.len())
+    }
+
+    /// The offset in the output section of what stands at `input_offset`: that offset less the
+    /// bytes of all deletions at lower offsets, or how many kept bytes lie below it.
+    ///
+    /// It asks an offset that `is_inside` denies. The search takes O(log n).
+    pub fn input_to_output_offset(&self, input_offset: u64) -> u64
+        requires { ¬ IsInside self.now input_offset }
+        ensures { result ≡ rank self.now input_offset }
+    {
+        let deltas = self.deltas.as_slice();
+        let below = count_below(deltas, input_offset);
+        input_offset - bytes_of_first(deltas, below)
+    }
+
+    /// Whether the offset lies above the first byte of a deletion and below its end.
+    pub fn is_inside(&self, input_offset: u64) -> bool
+        ensures { IsTrue result ↔ IsInside self.now input_offset }
+    {
+        is_inside_one(&self.deltas, input_offset)
+    }
+
+    /// The offset in the input section of the kept byte at `output_offset`: that offset and the
+    /// bytes of all deletions whose output place is at most that.
+    ///
+    /// It asks an offset that `output_fits` accepts. The search takes O(log n).
+    pub fn output_to_input_offset(&self, output_offset: u64) -> u64
+        requires { HasInput self.now output_offset }
+        ensures { IsSelected self.now output_offset result }
+    {
+        let deltas = self.deltas.as_slice();
+        let passed = count_placed(deltas, output_offset);
+        output_offset + bytes_of_first(deltas, passed)
+    }
+
+    /// Whether the input offset of the kept byte at `output_offset` is at most `u64::MAX`.
+    pub fn output_fits(&self, output_offset: u64) -> bool
+        ensures { IsTrue result ↔ HasInput self.now output_offset }
+    {
+        let deltas = self.deltas.as_slice();
+        let added = bytes_of_first(deltas, count_placed(deltas, output_offset));
+        added <= u64::MAX - output_offset
+    }
+
+    /// A cursor before the first deletion.
+    pub fn cursor(&self) -> RelaxCursor<'_>
+        ensures { result ≡ record { deletions = self.now; passed = 0 } }
+    {
+        RelaxCursor::new(&self.deltas)
+    }
+}
+
+/// `input_to_output_offset` of the deltas, or `input_offset` itself where there are none.
+pub fn opt_input_to_output(deltas: Option<&SectionRelaxDeltas>, input_offset: u64) -> u64
+    requires { ForSome deltas (λ section. ¬ IsInside section.now input_offset) }
+    ensures some { IfSome deltas.entry (λ section. result ≡ rank section.now input_offset) }
+    ensures none { IfNone deltas.entry (result ≡ input_offset) }
+{
+    match deltas {
+        Some(section) => section.input_to_output_offset(input_offset),
+        None => input_offset,
+    }
+}
+
+#[cfg(test)]
+mod tests {
+    use super::*;
+    use std::test::Fail;
+
+    // Each test holds whichever growth is refused: `rt try --test --fail-alloc N` refuses the Nth.
+
+    #[test]
+    fn a_refused_merge_leaves_the_deltas(rt: HostRuntime) -> Result<(), Fail> {
+        let (old, more) = ([(4, 4)], [(8, 4)]);
+        assert!(rt; SectionRelaxDeltas::is_valid(&old));
+        let Ok(mut deltas) = SectionRelaxDeltas::new(rt.alloc(), &old) else {
+            return Ok(());
+        };
+        assert!(rt; deltas.is_mergeable(&more));
+        let (count, total) = match deltas.merge_additional(&more) {
+            Ok(()) => (2, 8),
+            Err(OutOfMemory) => (1, 4),
+        };
+        assert_eq!(rt; deltas.deltas().len(), count);
+        assert_eq!(rt; deltas.total_deleted(), total);
+        assert_eq!(rt; deltas.has_delta_at(8), count == 2);
+        Ok(())
+    }
+
+    #[test]
+    fn a_refused_copy_leaves_the_deltas(rt: HostRuntime) -> Result<(), Fail> {
+        let raw = [(4, 4), (12, 2)];
+        assert!(rt; SectionRelaxDeltas::is_valid(&raw));
+        let Ok(deltas) = SectionRelaxDeltas::new(rt.alloc(), &raw) else {
+            return Ok(());
+        };
+        if let Ok(copy) = deltas.clone() {
+            assert_eq!(rt; copy.deltas(), deltas.deltas());
+        }
+        assert_eq!(rt; deltas.deltas().len(), 2);
+        assert_eq!(rt; deltas.total_deleted(), 6);
+        Ok(())
+    }
+
+    #[test]
+    fn refused_batches_leave_the_deltas(rt: HostRuntime) -> Result<(), Fail> {
+        let old = [(4, 4)];
+        assert!(rt; SectionRelaxDeltas::is_valid(&old));
+        let (Ok(mut deltas), Ok(first), Ok(second)) = (
+            SectionRelaxDeltas::new(rt.alloc(), &old),
+            [(8, 4)].to_vec(rt.alloc()),
+            [(16, 4)].to_vec(rt.alloc()),
+        ) else {
+            return Ok(());
+        };
+        let Ok(batches) = vec![in rt.alloc(); first, second] else {
+            return Ok(());
+        };
+        assert!(rt; deltas.are_mergeable(&batches));
+        let (count, total) = match deltas.merge_all(&batches) {
+            Ok(()) => (3, 12),
+            Err(OutOfMemory) => (1, 4),
+        };
+        assert_eq!(rt; deltas.deltas().len(), count);
+        assert_eq!(rt; deltas.total_deleted(), total);
+        Ok(())
+    }
 }

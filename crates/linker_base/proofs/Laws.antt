@@ -1,0 +1,167 @@
+-- The laws of deletions, proved.
+use Rattle.std.proofs.Common.{◌≡◌, ℕ, zero, suc, ◌+◌, ◌-◌, ◌<◌, ◌≤◌, true, false, cond, List, [], ◌∷◌, ◌++◌, length, get_or, take, refl, ap, inl, inr, ⊎_elim, arith}
+use Rattle.std.specs.Prelude.{max, not, nat_lt, All, AllPairs, Contains, IsPermutation}
+use Rattle.std.specs.List.{list_any, AllWithin}
+use Rattle.std.proofs.lemmas.Bool.{cases_lt, cases_Bool, not-true, false_from_ne_true, both_ways, or_right}
+use Rattle.std.proofs.lemmas.Bool.Decides.{nat_tests}
+use Rattle.std.proofs.lemmas.List.Elements.{All-head, All-tail}
+use Rattle.std.proofs.lemmas.List.Sums.{sum_by-cons, sum_by-le-sum_by, count_by-le-length}
+use Rattle.std.proofs.lemmas.List.Sorted.{IsPermutation-append_left, IsPermutation-append_right, IsPermutation-append_comm}
+use Rattle.std.proofs.lemmas.List.{append_assoc, take_all, get_or-take, length-take}
+use Rattle.linker_base.specs.Walk.{passed_bytes, walk_to}
+use Rattle.linker_base.specs.Deletions.{begun_below, IsBefore, bytes_of, holds, is_kept, IsInside, rank, IsSelected}
+use Rattle.linker_base.specs.Laws.{InAfterOutReturns, OutAfterInIsFirstKept, OutAfterInReturnsKept, MergeOrderIsFree, CursorGivesRanks, MergesShortenDistances}
+use Rattle.linker_base.proofs.Rank.{all_pairs_tail, rank_kept, rank_gone, rank-mono, selected_once}
+use Rattle.linker_base.proofs.OutputPlaces.{rank-parted}
+use Rattle.linker_base.proofs.Unions.{apart_from_ascending, disjoint_permutation, disjoint_from_union, disjoint_left, union_once, union_of_merges, union_swapped}
+
+-- where a listed deletion holds a position, some deletion does
+held_somewhere : (ds : List (ℕ × ℕ)) (k p : ℕ) (d : ℕ × ℕ) → k < length ds → holds (get_or ds k d) p ≡ true → list_any (λ e. holds e p) ds ≡ true
+held_somewhere [] k p d within held = absurd (omega arith)
+held_somewhere (e ∷ ds) zero p d within held = rw held refl
+held_somewhere (e ∷ ds) (suc k) p d within held = let rest = held_somewhere ds k p d (omega arith) held in or_right (holds e p) (list_any (λ e. holds e p) ds) rest
+
+-- a kept position isn't strictly inside a deletion
+kept_outside : (ds : List (ℕ × ℕ)) (p : ℕ) → is_kept ds p ≡ true → IsInside ds p → ⊥
+kept_outside ds p kept (k, d, within, at, (below, above)) =
+    let held : holds (get_or ds k d) p ≡ true = rw at (grind (arith, nat_tests)) in
+    both_ways _ (not-true _ kept) (held_somewhere ds k p d within held)
+
+pub in_after_out : InAfterOutReturns
+in_after_out ds y p selected = (kept_outside ds p selected.kept, selected.ranked)
+
+pub out_after_in : OutAfterInIsFirstKept
+out_after_in ds i p selected = record {
+  kept = selected.kept;
+  at_or_after = ⊎_elim
+      (λ (below : p < i). absurd (omega (arith, rank_kept ds p selected.kept, rank-mono ds (suc p) i (omega arith), selected.ranked)))
+      (λ (from : i ≤ p). from)
+      (cases_lt p i);
+  none_between = λ q from below. false_from_ne_true (is_kept ds q) (λ kept. omega (arith, rank_kept ds q kept, rank-mono ds i q from, rank-mono ds (suc q) p (omega arith), selected.ranked));
+}
+
+pub out_after_kept : OutAfterInReturnsKept
+out_after_kept ds i fits kept =
+    let here : IsSelected ds (rank ds i) i = record { kept = kept; ranked = refl } in
+    ((i, fits, here), λ p selected. selected_once ds (rank ds i) p i selected here)
+
+last_moved : (old first second : List (ℕ × ℕ)) → IsPermutation (old ++ (first ++ second)) ((old ++ second) ++ first)
+last_moved old first second = rw append_assoc (IsPermutation-append_right old (first ++ second) (second ++ first) (IsPermutation-append_comm first second))
+
+pub merge_order : MergeOrderIsFree
+merge_order old first second one both merged again =
+    let union = union_of_merges old first second one both merged again in
+    let other = disjoint_permutation _ _ (last_moved old first second) (disjoint_from_union _ both union) in
+    record {
+      second_at_first = disjoint_left (old ++ second) first other;
+      then_first = λ two union_two. disjoint_permutation _ (two ++ first) (IsPermutation-append_left first (old ++ second) two union_two.same) other;
+      same = λ two swapped union_two union_swapped_two. union_once (old ++ (first ++ second)) swapped both (union_swapped old first second swapped (union_of_merges old second first two swapped union_two union_swapped_two)) union;
+      at_once = λ sorted union_sorted. union_once _ sorted both union_sorted union;
+    }
+
+-- where no deletion begins below i, none is counted
+begun_none : (ds : List (ℕ × ℕ)) (i : ℕ) → All (λ d. i ≤ d.0) ds → begun_below ds i ≡ 0
+begun_none [] i from = refl
+begun_none (e ∷ ds) i from =
+    let first : i ≤ e.0 = All-head (λ d. i ≤ d.0) e ds from in
+    let rest = begun_none ds i (All-tail (λ d. i ≤ d.0) e ds from) in
+    grind (arith, nat_tests, sum_by-cons (λ (d : ℕ × ℕ). cond (nat_lt d.0 i) 1 0) e ds, rest)
+
+-- the first `begun_below` deletions of an ascending list begin below i, and the others don't
+pub begun_parted : (ds : List (ℕ × ℕ)) (i : ℕ) → AllPairs IsBefore ds → AllWithin (λ d. d.0 < i) ds 0 (begun_below ds i) × AllWithin (λ d. i ≤ d.0) ds (begun_below ds i) (length ds)
+begun_parted [] i ascending = (λ k d from below. absurd (omega arith), λ k d from below. absurd (omega arith))
+begun_parted (e ∷ ds) i ascending = elim (cases_lt e.0 i) [
+  | inl below ↦
+      let count : begun_below (e ∷ ds) i ≡ suc (begun_below ds i) = grind (arith, nat_tests, sum_by-cons (λ (d : ℕ × ℕ). cond (nat_lt d.0 i) 1 0) e ds) in
+      let rest = begun_parted ds i (all_pairs_tail IsBefore e ds ascending) in
+      rw count (one_more (begun_below ds i) below rest.0, λ k d. later (begun_below ds i) rest.1 k d)
+  | inr from ↦
+      let all : All (λ d. i ≤ d.0) (e ∷ ds) = from_first from in
+      rw (begun_none (e ∷ ds) i all) (λ k d low high. absurd (omega arith), λ k d low high. all k d high)
+]
+  where
+    one_more : (n : ℕ) → e.0 < i → AllWithin (λ d. d.0 < i) ds 0 n → AllWithin (λ d. d.0 < i) (e ∷ ds) 0 (suc n)
+    one_more n below rest zero d low high = below
+    one_more n below rest (suc k) d low high = rest k d (omega arith) (omega arith)
+
+    later : (n : ℕ) → AllWithin (λ d. i ≤ d.0) ds n (length ds) → AllWithin (λ d. i ≤ d.0) (e ∷ ds) (suc n) (suc (length ds))
+    later n rest zero d low high = absurd (omega arith)
+    later n rest (suc k) d low high = rest k d (omega arith) (omega arith)
+
+    from_first : i ≤ e.0 → All (λ d. i ≤ d.0) (e ∷ ds)
+    from_first from zero d within = from
+    from_first from (suc k) d within = omega (arith, (ascending zero (suc k) d (omega arith) within).0)
+
+-- a later query has no fewer deletions below it
+pub begun_below-rise : (ds : List (ℕ × ℕ)) (i j : ℕ) → i ≤ j → begun_below ds i ≤ begun_below ds j
+begun_below-rise ds i j le = sum_by-le-sum_by (λ (d : ℕ × ℕ). cond (nat_lt d.0 i) 1 0) (λ (d : ℕ × ℕ). cond (nat_lt d.0 j) 1 0) ds (λ d. grind (arith, nat_tests))
+
+-- where what is passed begins below i, a query at i leaves just what begins below i as passed
+taken_to : (ds : List (ℕ × ℕ)) (k i : ℕ) → AllPairs IsBefore ds → All (λ d. d.0 < i) (take k ds) → take (max k (begun_below ds i)) ds ≡ take (begun_below ds i) ds
+taken_to ds k i ascending passed =
+    let b = begun_below ds i in
+    let parted = begun_parted ds i ascending in
+    ⊎_elim
+    (λ (more : b < k).
+    let e : max k b ≡ k = omega arith in
+    let past : length ds ≤ b = ⊎_elim
+    (λ (inside : b < length ds).
+    let low : (get_or ds b (0, 0)).0 < i = rw (get_or-take k ds b (0, 0) more) at (passed b (0, 0) (omega (arith, length-take k ds))) in
+    absurd (omega (arith, low, parted.1 b (0, 0) (omega arith) inside)))
+    (λ le. le)
+    (cases_lt b (length ds)) in
+    rw (e, take_all k ds (omega arith), take_all b ds past) refl)
+    (λ (le : k ≤ b). let e : max k b ≡ b = omega arith in rw e refl)
+    (cases_lt b k)
+
+pub cursor_ranks : CursorGivesRanks
+cursor_ranks walk [] valid ahead = (tt, refl)
+cursor_ranks walk (i ∷ queries) valid ahead =
+    let ds = walk.deletions in
+    let now = begun_below ds i in
+    let taken = taken_to ds walk.passed i valid.ascending (ahead.begun (omega arith)) in
+    let bytes : passed_bytes (walk_to walk i) ≡ bytes_of (take now ds) = ap bytes_of taken in
+    let parted = begun_parted ds i valid.ascending in
+    let answer = rank-parted ds now i (apart_from_ascending ds valid.ascending) (count_by-le-length (λ (d : ℕ × ℕ). nat_lt d.0 i) ds) parted.0 parted.1 (All-head (λ q. ¬ (IsInside ds q)) i queries ahead.outside) in
+    let here : i - passed_bytes (walk_to walk i) ≡ rank ds i = omega arith in
+    let rest = cursor_ranks (walk_to walk i) queries valid (record {
+      ascending = λ a b d le within. ahead.ascending (suc a) (suc b) d (omega arith) (omega arith);
+      outside = All-tail (λ q. ¬ (IsInside ds q)) i queries ahead.outside;
+      begun = λ some. rw taken (begun_before (rise_on some) now parted.0);
+    }) in
+    ((omega arith, rest.0), rw (here, rest.1) refl)
+  where
+    rise_on : 0 < length queries → i ≤ get_or queries 0 0
+    rise_on some = ahead.ascending 0 1 0 (omega arith) (omega arith)
+
+    begun_before : {q : ℕ} → i ≤ q → (n : ℕ) → AllWithin (λ d. d.0 < i) walk.deletions 0 n → All (λ d. d.0 < q) (take n walk.deletions)
+    begun_before le n below k d within =
+        let inside : k < n = omega (arith, length-take n walk.deletions) in
+        rw (get_or-take n walk.deletions k d inside) (omega (arith, below k d (omega arith) inside))
+
+-- a position that more deletions keep is kept by fewer
+kept_by_fewer : (ds more : List (ℕ × ℕ)) (p : ℕ) → All (Contains more) ds → is_kept more p ≡ true → is_kept ds p ≡ true
+kept_by_fewer ds more p held kept = ap not (free ds held)
+  where
+    free : (ds : List (ℕ × ℕ)) → All (Contains more) ds → list_any (λ e. holds e p) ds ≡ false
+    free [] held = refl
+    free (d ∷ ds) held =
+        let first = All-head (Contains more) d ds held in
+        let none : holds d p ≡ false = false_from_ne_true (holds d p) (λ here. both_ways _ (not-true _ kept) (held_somewhere more first.0 p d first.1 (rw first.2 here))) in
+        rw none (free ds (All-tail (Contains more) d ds held))
+
+-- as one offset rises, the rank over more deletions rises no more than that over fewer
+shorter : (ds more : List (ℕ × ℕ)) (a b : ℕ) → All (Contains more) ds → a ≤ b → rank more b + rank ds a ≤ rank ds b + rank more a
+shorter ds more a zero held le = let e : a ≡ zero = omega arith in rw e (omega arith)
+shorter ds more a (suc b) held le = ⊎_elim
+    (λ (below : a < suc b).
+    let before = shorter ds more a b held (omega arith) in
+    ⊎_elim
+    (λ kept. omega (arith, rank_kept more b kept, rank_kept ds b (kept_by_fewer ds more b held kept)))
+    (λ gone. omega (arith, rank_gone more b gone, rank-mono ds b (suc b) (omega arith)))
+    (cases_Bool (is_kept more b)))
+    (λ (from : suc b ≤ a). let e : a ≡ suc b = omega arith in rw e (omega arith))
+    (cases_lt a (suc b))
+
+pub merges_shorten : MergesShortenDistances
+merges_shorten ds more a b held le = omega (arith, shorter ds more a b held le, rank-mono ds a b le, rank-mono more a b le)

@@ -1,0 +1,87 @@
+-- Lists of deltas: how one grows, what its sums are, and how a valid list is tested.
+use Rattle.std.proofs.Common.{◌≡◌, ℕ, zero, suc, ◌+◌, ◌-◌, ◌<◌, ◌≤◌, List, [], ◌∷◌, ◌++◌, length, map, get_or, take, sym, ap, ◌∙◌, inl, inr, arith, add-one}
+use Rattle.std.specs.Prelude.{◌^◌, AllPairs}
+use Rattle.std.proofs.lemmas.Bool.{cases_lt}
+use Rattle.std.proofs.lemmas.List.{length_push, get_or_push, get_or_append_left, get_or-take, length-take, take_more, map_push, length-map, take-append-le, take_all, get_or_default}
+use Rattle.std.proofs.lemmas.List.Elements.{All-push}
+use Rattle.std.proofs.lemmas.List.Quantifiers.{all_pairs_push}
+use Rattle.std.proofs.lemmas.List.Sums.{sum_by_more, sum_by_push}
+use Rattle.linker_base.specs.declared.relaxation.RelaxDelta.{RelaxDelta}
+use Rattle.linker_base.specs.Deletions.{IsBefore, EndFits, IsValid, bytes_of}
+use Rattle.linker_base.specs.Deltas.{deletion_of, IsListing}
+use Rattle.linker_base.specs.Listed.{AreListed}
+use Rattle.linker_base.proofs.OutputPlaces.{bytes_of-take_fit}
+
+-- up to and including one deletion of a valid list, the bytes are those before it and its own, and 64 bits hold them
+pub taken_up_to : (ds : List (ℕ × ℕ)) → IsValid ds → (k : ℕ) (d : ℕ × ℕ) → k < length ds → (bytes_of (take k ds) + (get_or ds k d).1 ≡ bytes_of (take (k + 1) ds)) × (bytes_of (take (k + 1) ds) < 2 ^ 64)
+taken_up_to ds valid k d within =
+    (sym (sum_by_more (λ (e : ℕ × ℕ). e.1) ds k d within), bytes_of-take_fit ds (k + 1) valid)
+
+-- one more delta, with the sum so far and its own bytes, lists one more deletion
+pub IsListing-push : (ds : List (ℕ × ℕ)) (deltas : List RelaxDelta) (delta : RelaxDelta) → IsListing ds deltas → delta.cumulative_deleted ≡ bytes_of ds + delta.bytes_deleted → IsListing (ds ++ deletion_of delta ∷ []) (deltas ++ delta ∷ [])
+IsListing-push ds deltas delta listing sum = record { same = same; sums = sums }
+  where
+    same : map deletion_of (deltas ++ delta ∷ []) ≡ ds ++ deletion_of delta ∷ []
+    same = map_push deletion_of deltas delta ∙ ap (λ l. l ++ deletion_of delta ∷ []) listing.same
+
+    long : length ds ≡ length deltas
+    long = ap length (sym listing.same) ∙ length-map deltas deletion_of
+
+    sums : (k : ℕ) (d : RelaxDelta) → k < length (deltas ++ delta ∷ []) → (get_or (deltas ++ delta ∷ []) k d).cumulative_deleted ≡ bytes_of (take (k + 1) (ds ++ deletion_of delta ∷ []))
+    sums k d within = elim (cases_lt k (length deltas)) [
+      | inl below ↦
+          let inner : k + 1 ≤ length ds = omega (arith, long) in
+          rw (get_or_append_left deltas (delta ∷ []) d k below, take-append-le (k + 1) ds (deletion_of delta ∷ []) inner) (listing.sums k d below)
+      | inr at_end ↦
+          let here : length deltas ≡ k = omega (arith, length_push deltas delta) in
+          let whole : length (ds ++ deletion_of delta ∷ []) ≤ k + 1 = omega (arith, long, length_push ds (deletion_of delta)) in
+          rw (get_or_push deltas delta d k here, take_all (k + 1) (ds ++ deletion_of delta ∷ []) whole, sum_by_push (λ (e : ℕ × ℕ). e.1) ds (deletion_of delta)) sum
+    ]
+
+-- the first deletions and one more that fits and lies past the last of them are valid
+pub IsValid-push : (ds : List (ℕ × ℕ)) (d : ℕ × ℕ) → IsValid ds → EndFits d → ((e : ℕ × ℕ) → 0 < length ds → IsBefore (get_or ds (length ds - 1) e) d) → IsValid (ds ++ d ∷ [])
+IsValid-push ds d valid fits last = record {
+  ascending = all_pairs_push IsBefore ds d valid.ascending below;
+  ends = All-push EndFits ds d valid.ends fits;
+}
+  where
+    below : (k : ℕ) (e : ℕ × ℕ) → k < length ds → IsBefore (get_or ds k e) d
+    below k e within = elim (cases_lt k (length ds - 1)) [
+      | inl earlier ↦
+          let step = valid.ascending k (length ds - 1) e earlier (omega arith) in
+          let end = last e (omega arith) in
+          (omega (arith, step.0, end.0), omega (arith, step.1, end.0))
+      | inr at_end ↦
+          let here : k ≡ length ds - 1 = omega arith in
+          rw here (last e (omega arith))
+    ]
+
+-- a front of a valid list is valid
+pub IsValid-take : (ds : List (ℕ × ℕ)) (k : ℕ) → IsValid ds → IsValid (take k ds)
+IsValid-take ds k valid = record {
+  ascending = λ i j d lt within.
+      let short = length-take k ds in
+      let low : i < k = omega arith in
+      let high : j < k = omega arith in
+      rw (get_or-take k ds i d low, get_or-take k ds j d high) (valid.ascending i j d lt (omega arith));
+  ends = λ i d within.
+      let short = length-take k ds in
+      let low : i < k = omega arith in
+      rw (get_or-take k ds i d low) (valid.ends i d (omega arith));
+}
+
+-- one more deletion of the list keeps the front valid
+pub IsValid-more : (ds : List (ℕ × ℕ)) (k : ℕ) → k < length ds → IsValid (take k ds) → EndFits (get_or ds k (0, 0)) → (0 < k → IsBefore (get_or ds (k - 1) (0, 0)) (get_or ds k (0, 0))) → IsValid (take (k + 1) ds)
+IsValid-more ds k within valid fits last =
+    let long : length (take k ds) ≡ k = omega (arith, length-take k ds) in
+    rw (take_more ds k (0, 0) within) (IsValid-push (take k ds) _ valid fits (λ e some.
+    let positive : 0 < k = omega arith in
+    let low : k - 1 < k = omega arith in
+    let inside : k - 1 < length ds = omega arith in
+    rw (long, get_or-take k ds (k - 1) e low, get_or_default ds (k - 1) e (0, 0) inside) (last positive)))
+
+-- one more delta of the list is listed
+pub IsListing-more : (ds : List (ℕ × ℕ)) (deltas : List RelaxDelta) (delta : RelaxDelta) (k : ℕ) → k < length ds → IsListing (take k ds) deltas → deletion_of delta ≡ get_or ds k (0, 0) → delta.cumulative_deleted ≡ bytes_of (take (k + 1) ds) → IsListing (take (k + 1) ds) (deltas ++ delta ∷ [])
+IsListing-more ds deltas delta k within listing same sum =
+    let more = take_more ds k (0, 0) within in
+    rw (more, ← same) (IsListing-push (take k ds) deltas delta listing (sum ∙ sum_by_more (λ (e : ℕ × ℕ). e.1) ds k (0, 0) within ∙ ap (λ (e : ℕ × ℕ). bytes_of (take k ds) + e.1) (sym same)))

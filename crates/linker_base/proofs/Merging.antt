@@ -1,0 +1,137 @@
+-- Deletions beside those of a section: whether they may be merged, and what a merge leaves.
+use Rattle.std.proofs.Common.{◌≡◌, ◌≢◌, ℕ, suc, ◌+◌, ◌-◌, ◌<◌, ◌≤◌, List, ◌++◌, length, map, get_or, set, take, refl, sym, ap, ◌∙◌, inl, inr, ⊎_elim, arith}
+use Rattle.std.specs.Prelude.{◌↔◌, Bool, IsTrue, All, AllPairs, IsPermutation}
+use Rattle.std.specs.List.Sorted.{IsNonDecreasingBy, IsPartitionPoint}
+use Rattle.std.proofs.lemmas.Bool.{cases_lt, cases_order}
+use Rattle.std.proofs.lemmas.List.{get_or_append_left, get_or-append_right, get_or-append-add, get_or_default, length-append, length-map, get_or-set_same, get_or-set_other}
+use Rattle.std.proofs.lemmas.List.Sums.{sum_by_more}
+use Rattle.std.proofs.lemmas.List.Sorted.{IsPermutation-map}
+use Rattle.std.proofs.Math.Seq.{map-set_same}
+use Rattle.linker_base.specs.declared.relaxation.RelaxDelta.{RelaxDelta}
+use Rattle.linker_base.specs.Deletions.{IsBefore, IsApart, EndFits, AreDisjoint, IsValid, IsSortedUnion, bytes_of}
+use Rattle.linker_base.specs.Deltas.{deletion_of}
+use Rattle.linker_base.specs.Listed.{AreListed}
+use Rattle.linker_base.proofs.Search.{blank, deletion_at}
+use Rattle.linker_base.proofs.Unions.{union_from_sort}
+
+-- the last of the first k lies below the pair
+abbrev pub IsPastLast : List (ℕ × ℕ) → ℕ → ℕ × ℕ → Type 0
+IsPastLast ds k pair = (d : ℕ × ℕ) → 0 < k → IsBefore (get_or ds (k - 1) d) pair
+
+-- the next of them lies above the pair
+abbrev pub IsBelowNext : List (ℕ × ℕ) → ℕ → ℕ × ℕ → Type 0
+IsBelowNext ds k pair = (d : ℕ × ℕ) → k < length ds → IsBefore pair (get_or ds k d)
+
+-- a pair is apart from all of a valid list where it is from the last that begins below it and from the next
+pub record IsBetween (ds : List (ℕ × ℕ)) (k : ℕ) (pair : ℕ × ℕ) : Type 0 where
+  pub past_last : IsPastLast ds k pair
+  pub below_next : IsBelowNext ds k pair
+
+-- a test of the delta there decides each of the two
+pub past_last_decides : (deltas : List RelaxDelta) (k : ℕ) (pair last : ℕ × ℕ) (b : Bool) → 0 < k → k ≤ length deltas → last ≡ deletion_of (get_or deltas (k - 1) blank) → (IsTrue b ↔ IsBefore last pair) → IsTrue b ↔ IsPastLast (map deletion_of deltas) k pair
+past_last_decides deltas k pair last b some within is decides =
+    let inside : k - 1 < length deltas = omega arith in
+    let here = rw is at decides in (
+      λ holds d positive. rw (deletion_at deltas (k - 1) blank d inside) (here.0 holds),
+      λ past. here.1 (rw (deletion_at deltas (k - 1) blank (0, 0) inside) at (past (0, 0) some)),
+    )
+
+pub below_next_decides : (deltas : List RelaxDelta) (k : ℕ) (pair next : ℕ × ℕ) (b : Bool) → k < length deltas → next ≡ deletion_of (get_or deltas k blank) → (IsTrue b ↔ IsBefore pair next) → IsTrue b ↔ IsBelowNext (map deletion_of deltas) k pair
+below_next_decides deltas k pair next b within is decides =
+    let here = rw is at decides in (
+      λ holds d inside. rw (deletion_at deltas k blank d within) (here.0 holds),
+      λ below. here.1 (rw (deletion_at deltas k blank (0, 0) within) at (below (0, 0) (omega (arith, length-map deltas deletion_of)))),
+    )
+
+pub free_from_between : (ds : List (ℕ × ℕ)) → IsValid ds → (k : ℕ) (pair : ℕ × ℕ) → k ≤ length ds → IsBetween ds k pair → All (λ d. IsApart d pair) ds
+free_from_between ds valid k pair bound between j d within = elim (cases_lt j k) [
+  | inl low ↦
+      let last = between.past_last d (omega arith) in
+      elim (cases_order j (k - 1)) [
+        | inl same ↦ inl (rw same last)
+        | inr (inl lower) ↦
+            let step = valid.ascending j (k - 1) d lower (omega arith) in
+            inl (omega (arith, step.0, last.0), omega (arith, step.1, last.0))
+        | inr (inr higher) ↦ absurd (omega arith)
+      ]
+  | inr from ↦
+      let next = between.below_next d (omega arith) in
+      elim (cases_order k j) [
+        | inl same ↦ inr (rw (← same) next)
+        | inr (inl lower) ↦
+            let step = valid.ascending k j d lower within in
+            inr (omega (arith, step.0, next.0), omega (arith, step.0, next.1))
+        | inr (inr higher) ↦ absurd (omega arith)
+      ]
+]
+
+pub between_from_free : (ds : List (ℕ × ℕ)) (k : ℕ) (pair : ℕ × ℕ) → k ≤ length ds → IsPartitionPoint (λ d. d.0 < pair.0) (λ d. pair.0 ≤ d.0) ds k → All (λ d. IsApart d pair) ds → IsBetween ds k pair
+between_from_free ds k pair within parted free = record {
+  past_last = λ d some. elim (free (k - 1) d (omega arith)) [
+    | inl before ↦ before
+    | inr after ↦ absurd (omega (arith, after.0, parted.0 (k - 1) d (omega arith) (omega arith)))
+  ];
+  below_next = λ d inside. elim (free k d inside) [
+    | inl before ↦ absurd (omega (arith, before.0, parted.1 k d (omega arith) inside))
+    | inr after ↦ after
+  ];
+}
+
+-- two lists of disjoint deletions are so together, where each of the second is apart from all of the first
+pub disjoint_joined : (ds others : List (ℕ × ℕ)) → AreDisjoint ds → AreDisjoint others → All (λ pair. All (λ d. IsApart d pair) ds) others → AreDisjoint (ds ++ others)
+disjoint_joined ds others first disjoint free = record { apart = apart; ends = ends }
+  where
+    long : length (ds ++ others) ≡ length ds + length others
+    long = length-append ds others
+
+    apart : AllPairs IsApart (ds ++ others)
+    apart i j d lt within = elim (cases_lt j (length ds)) [
+      | inl low ↦
+          let lower : i < length ds = omega arith in
+          rw (get_or_append_left ds others d i lower, get_or_append_left ds others d j low) (first.apart i j d lt low)
+      | inr high ↦ elim (cases_lt i (length ds)) [
+        | inl low ↦ rw (get_or_append_left ds others d i low, get_or-append_right ds others (length ds) j d refl high) (free (j - length ds) d (omega (arith, long)) i d low)
+        | inr from ↦ rw (get_or-append_right ds others (length ds) i d refl from, get_or-append_right ds others (length ds) j d refl high) (disjoint.apart (i - length ds) (j - length ds) d (omega arith) (omega (arith, long)))
+      ]
+    ]
+
+    ends : All EndFits (ds ++ others)
+    ends i d within = elim (cases_lt i (length ds)) [
+      | inl low ↦ rw (get_or_append_left ds others d i low) (first.ends i d low)
+      | inr from ↦ rw (get_or-append_right ds others (length ds) i d refl from) (disjoint.ends (i - length ds) d (omega (arith, long)))
+    ]
+
+pub disjoint_back : (ds others : List (ℕ × ℕ)) → AreDisjoint (ds ++ others) → AreDisjoint others
+disjoint_back ds others disjoint = record {
+  apart = λ i j d lt within. rw (← get_or-append-add ds others i d, ← get_or-append-add ds others j d) (disjoint.apart (length ds + i) (length ds + j) d (omega arith) (omega (arith, length-append ds others)));
+  ends = λ i d within. rw (← get_or-append-add ds others i d) (disjoint.ends (length ds + i) d (omega (arith, length-append ds others)));
+}
+
+pub disjoint_across : (ds others : List (ℕ × ℕ)) → AreDisjoint (ds ++ others) → All (λ pair. All (λ d. IsApart d pair) ds) others
+disjoint_across ds others disjoint j e within i d low =
+    let apart = disjoint.apart i (length ds + j) d (omega arith) (omega (arith, length-append ds others)) in
+    let same : get_or (ds ++ others) (length ds + j) d ≡ get_or others j e = get_or-append-add ds others j d ∙ get_or_default others j d e within in
+    rw (get_or_append_left ds others d i low, same) at apart
+
+-- deltas sorted by offset are the sorted union of what they were
+pub union_of_sorted : (old new : List RelaxDelta) → IsPermutation old new → AreDisjoint (map deletion_of old) → IsNonDecreasingBy (λ d. d.input_offset) new → IsSortedUnion (map deletion_of old) (map deletion_of new)
+union_of_sorted old new moved disjoint rise = union_from_sort (map deletion_of old) (map deletion_of new) (IsPermutation-map deletion_of old new moved) disjoint (λ i j d le within.
+    let inside : j < length new = omega (arith, length-map new deletion_of) in
+    rw (deletion_at new i blank d (omega arith), deletion_at new j blank d inside) (rise i j blank le inside))
+
+-- a new sum at one place keeps the deletions
+pub same_after_sum : (deltas : List RelaxDelta) (k sum : ℕ) → k < length deltas → map deletion_of (set deltas k (record (get_or deltas k blank) { cumulative_deleted = sum })) ≡ map deletion_of deltas
+same_after_sum deltas k sum within = map-set_same deletion_of deltas k (record (get_or deltas k blank) { cumulative_deleted = sum }) blank refl
+
+-- and where the sums before it are right, and it is too, so are all up to it
+pub sums_more : (deltas : List RelaxDelta) (k sum : ℕ) → k < length deltas → sum ≡ bytes_of (take (k + 1) (map deletion_of deltas))
+    → ((j : ℕ) (d : RelaxDelta) → j < k → (get_or deltas j d).cumulative_deleted ≡ bytes_of (take (j + 1) (map deletion_of deltas)))
+    → (j : ℕ) (d : RelaxDelta) → j < k + 1 → (get_or (set deltas k (record (get_or deltas k blank) { cumulative_deleted = sum })) j d).cumulative_deleted ≡ bytes_of (take (j + 1) (map deletion_of deltas))
+sums_more deltas k sum within right before j d below = elim (cases_lt j k) [
+  | inl low ↦
+      let other : j ≢ k = omega arith in
+      rw (get_or-set_other deltas k j (record (get_or deltas k blank) { cumulative_deleted = sum }) d other) (before j d low)
+  | inr high ↦
+      let same : j ≡ k = omega arith in
+      rw (same, get_or-set_same deltas k (record (get_or deltas k blank) { cumulative_deleted = sum }) d within) right
+]

@@ -1,0 +1,137 @@
+-- Where a list of deletions parts at an offset or at an output place, and what is gone before it.
+use Rattle.std.proofs.Common.{◌≡◌, ℕ, zero, suc, ◌+◌, ◌-◌, ◌<◌, ◌≤◌, true, false, List, [], ◌∷◌, length, get_or, take, refl, ap, ⊎_elim, add-one, arith}
+use Rattle.std.specs.Prelude.{◌^◌, not, AllPairs}
+use Rattle.std.specs.List.{list_any, AllWithin}
+use Rattle.std.proofs.lemmas.Bool.{cases_lt}
+use Rattle.std.proofs.lemmas.Bool.Decides.{nat_tests}
+use Rattle.std.proofs.lemmas.List.{get_or_default, take_all}
+use Rattle.std.proofs.lemmas.List.Sums.{sum_by-cons, sum_by_more, sum_by-take-le}
+use Rattle.linker_base.specs.Deletions.{IsBefore, IsApart, IsValid, bytes_of, holds, is_kept, IsInside, rank, IsSelected}
+use Rattle.linker_base.proofs.Rank.{removed_by, removed, rank-removed}
+
+-- deletions that end at or below an offset, and then such that begin at or above it
+pub record AreParted (ds : List (ℕ × ℕ)) (k i : ℕ) : Type 0 where
+  pub passed : AllWithin (λ d. d.0 + d.1 ≤ i) ds 0 k
+  pub ahead : AllWithin (λ d. i ≤ d.0) ds k (length ds)
+
+parted_tail : (d : ℕ × ℕ) (ds : List (ℕ × ℕ)) (k i : ℕ) → AreParted (d ∷ ds) (suc k) i → AreParted ds k i
+parted_tail d ds k i h = record {
+  passed = λ j e from below. h.passed (suc j) e (omega arith) (omega arith);
+  ahead = λ j e from below. h.ahead (suc j) e (omega arith) (omega arith);
+}
+
+parted_from_start : (d : ℕ × ℕ) (ds : List (ℕ × ℕ)) (i : ℕ) → AreParted (d ∷ ds) zero i → AreParted ds zero i
+parted_from_start d ds i h = record {
+  passed = λ j e from below. absurd (omega arith);
+  ahead = λ j e from below. h.ahead (suc j) e (omega arith) (omega arith);
+}
+
+-- where the list is parted by an offset, the bytes gone below it are those of the first deletions
+pub removed-parted : (ds : List (ℕ × ℕ)) (k i : ℕ) → AreParted ds k i → removed ds i ≡ bytes_of (take k ds)
+removed-parted [] zero i h = refl
+removed-parted [] (suc k) i h = refl
+removed-parted (d ∷ ds) zero i h =
+    let first : i ≤ d.0 = h.ahead 0 d (omega arith) (omega arith) in
+    omega (arith, sum_by-cons (removed_by i) d ds, removed-parted ds zero i (parted_from_start d ds i h))
+removed-parted (d ∷ ds) (suc k) i h =
+    let first : d.0 + d.1 ≤ i = h.passed 0 d (omega arith) (omega arith) in
+    omega (arith, sum_by-cons (removed_by i) d ds, sum_by-cons (λ (e : ℕ × ℕ). e.1) d (take k ds), removed-parted ds k i (parted_tail d ds k i h))
+
+-- a deletion that begins below an offset ends at or below it, where the offset isn't strictly inside one
+pub ends_below : (ds : List (ℕ × ℕ)) (i : ℕ) → (IsInside ds i → ⊥) → (k : ℕ) (d : ℕ × ℕ) → k < length ds → (get_or ds k d).0 < i → (get_or ds k d).0 + (get_or ds k d).1 ≤ i
+ends_below ds i outside k d within below = ⊎_elim
+    (λ (inside : i < (get_or ds k d).0 + (get_or ds k d).1). absurd (outside (k, get_or ds k d, within, get_or_default ds k _ d within, (below, inside))))
+    (λ ends. ends)
+    (cases_lt i ((get_or ds k d).0 + (get_or ds k d).1))
+
+-- an offset that isn't strictly inside a deletion parts the list at the first deletion at or above it
+pub parted_by_offset : (ds : List (ℕ × ℕ)) (k i : ℕ) → k ≤ length ds → AllWithin (λ d. d.0 < i) ds 0 k → AllWithin (λ d. i ≤ d.0) ds k (length ds) → (IsInside ds i → ⊥) → AreParted ds k i
+parted_by_offset ds k i within below from outside = record {
+  passed = λ j d low high. ends_below ds i outside j d (omega arith) (below j d low high);
+  ahead = from;
+}
+
+-- an offset is its rank and the bytes of the deletions below it
+pub rank-parted : (ds : List (ℕ × ℕ)) (k i : ℕ) → AllPairs IsApart ds → k ≤ length ds → AllWithin (λ d. d.0 < i) ds 0 k → AllWithin (λ d. i ≤ d.0) ds k (length ds) → (IsInside ds i → ⊥) → rank ds i + bytes_of (take k ds) ≡ i
+rank-parted ds k i apart within below from outside =
+    omega (arith, rank-removed ds i apart, removed-parted ds k i (parted_by_offset ds k i within below from outside))
+
+-- the bytes of the first deletions don't fall as more are taken
+pub bytes_of-take_rise : (ds : List (ℕ × ℕ)) (j k : ℕ) → j ≤ k → bytes_of (take j ds) ≤ bytes_of (take k ds)
+bytes_of-take_rise ds zero k le = omega arith
+bytes_of-take_rise [] (suc j) (suc k) le = omega arith
+bytes_of-take_rise (d ∷ ds) (suc j) zero le = absurd (omega arith)
+bytes_of-take_rise [] (suc j) zero le = absurd (omega arith)
+bytes_of-take_rise (d ∷ ds) (suc j) (suc k) le =
+    omega (arith, sum_by-cons (λ (e : ℕ × ℕ). e.1) d (take j ds), sum_by-cons (λ (e : ℕ × ℕ). e.1) d (take k ds), bytes_of-take_rise ds j k (omega arith))
+
+-- no deletion holds a position that parts the list, if those ahead begin above it
+kept-parted : (ds : List (ℕ × ℕ)) (k p : ℕ) → AreParted ds k (suc p) → AllWithin (λ d. d.0 + d.1 ≤ p) ds 0 k → is_kept ds p ≡ true
+kept-parted ds k p parted passed = ap not (free ds k parted passed)
+  where
+    free : (ds : List (ℕ × ℕ)) (k : ℕ) → AreParted ds k (suc p) → AllWithin (λ d. d.0 + d.1 ≤ p) ds 0 k → list_any (λ d. holds d p) ds ≡ false
+    free [] k parted passed = refl
+    free (d ∷ ds) zero parted passed =
+        let first : suc p ≤ d.0 = parted.ahead 0 d (omega arith) (omega arith) in
+        let rest = free ds zero (parted_from_start d ds (suc p) parted) (λ j e from below. absurd (omega arith)) in
+        rw rest (grind (arith, nat_tests))
+    free (d ∷ ds) (suc k) parted passed =
+        let first : d.0 + d.1 ≤ p = passed 0 d (omega arith) (omega arith) in
+        let rest = free ds k (parted_tail d ds k (suc p) parted) (λ j e from below. passed (suc j) e (omega arith) (omega arith)) in
+        rw rest (grind (arith, nat_tests))
+
+-- where the output places part the list at k, the first k deletions are the bytes to add
+pub selected-place : (ds : List (ℕ × ℕ)) (k y : ℕ) → AllPairs IsApart ds → k ≤ length ds
+    → ((j : ℕ) (d : ℕ × ℕ) → j < k → (get_or ds j d).0 ≤ y + bytes_of (take j ds))
+    → ((j : ℕ) (d : ℕ × ℕ) → k ≤ j → j < length ds → y + bytes_of (take j ds) < (get_or ds j d).0)
+    → IsSelected ds y (y + bytes_of (take k ds))
+selected-place ds k y apart within before after = record {
+  kept = kept-parted ds k p (record { passed = λ j d from below. omega (arith, passed j d from below); ahead = ahead }) passed;
+  ranked = omega (arith, rank-removed ds p apart, removed-parted ds k p (record { passed = passed; ahead = λ j d from below. omega (arith, ahead j d from below) }));
+}
+  where
+    p : ℕ
+    p = y + bytes_of (take k ds)
+
+    passed : AllWithin (λ d. d.0 + d.1 ≤ p) ds 0 k
+    passed j d from below = omega (arith, before j d below, sum_by_more (λ (e : ℕ × ℕ). e.1) ds j d (omega arith), bytes_of-take_rise ds (j + 1) k (omega arith))
+
+    ahead : AllWithin (λ d. suc p ≤ d.0) ds k (length ds)
+    ahead j d from below = omega (arith, after j d from below, bytes_of-take_rise ds k j from)
+
+-- the bytes of the deletions from the one at i up to the one at j lie between their offsets
+pub bytes_between : (ds : List (ℕ × ℕ)) (i j : ℕ) (d : ℕ × ℕ) → AllPairs IsBefore ds → i ≤ j → j < length ds → (get_or ds i d).0 + bytes_of (take j ds) ≤ (get_or ds j d).0 + bytes_of (take i ds)
+bytes_between ds i zero d ascending le within = let e : i ≡ zero = omega arith in rw e (omega arith)
+bytes_between ds i (suc j) d ascending le within =
+    ⊎_elim
+    (λ (below : i < suc j).
+    let before = bytes_between ds i j d ascending (omega arith) (omega arith) in
+    let next : (get_or ds j d).0 + (get_or ds j d).1 ≤ (get_or ds (suc j) d).0 = (ascending j (suc j) d (omega arith) within).1 in
+    let more : bytes_of (take (suc j) ds) ≡ bytes_of (take j ds) + (get_or ds j d).1 = rw (← (add-one j)) (sum_by_more (λ (e : ℕ × ℕ). e.1) ds j d (omega arith)) in
+    omega arith)
+    (λ (from : suc j ≤ i). let e : i ≡ suc j = omega arith in rw e (omega arith))
+    (cases_lt i (suc j))
+
+-- the bytes of the earlier deletions fit below a deletion's offset
+pub bytes-le-offset : (ds : List (ℕ × ℕ)) (j : ℕ) (d : ℕ × ℕ) → AllPairs IsBefore ds → j < length ds → bytes_of (take j ds) ≤ (get_or ds j d).0
+bytes-le-offset ds j d ascending within = omega (arith, bytes_between ds 0 j d ascending (omega arith) within)
+
+-- the output places of a list by ascending offset don't fall
+pub places_rise : (ds : List (ℕ × ℕ)) (i j : ℕ) (d : ℕ × ℕ) → AllPairs IsBefore ds → i ≤ j → j < length ds → (get_or ds i d).0 - bytes_of (take i ds) ≤ (get_or ds j d).0 - bytes_of (take j ds)
+places_rise ds i j d ascending le within =
+    omega (arith, bytes_between ds i j d ascending le within, bytes-le-offset ds i d ascending (omega arith), bytes-le-offset ds j d ascending within)
+
+-- all bytes of a valid list fit below the end of its last deletion, and so 64 bits
+pub bytes_fit : (ds : List (ℕ × ℕ)) → IsValid ds → bytes_of ds < 2 ^ 64
+bytes_fit [] valid = omega arith
+bytes_fit (d ∷ ds) valid =
+    let last = length ds in
+    let end : (get_or (d ∷ ds) last d).0 + (get_or (d ∷ ds) last d).1 < 2 ^ 64 = valid.ends last d (omega arith) in
+    let before = bytes-le-offset (d ∷ ds) last d valid.ascending (omega arith) in
+    let more = sum_by_more (λ (e : ℕ × ℕ). e.1) (d ∷ ds) last d (omega arith) in
+    let whole : take (last + 1) (d ∷ ds) ≡ d ∷ ds = take_all (last + 1) (d ∷ ds) (omega arith) in
+    omega (arith, rw whole at more)
+
+-- an offset of a valid list is at most the end of its last deletion: the bytes below any offset fit too
+pub bytes_of-take_fit : (ds : List (ℕ × ℕ)) (k : ℕ) → IsValid ds → bytes_of (take k ds) < 2 ^ 64
+bytes_of-take_fit ds k valid = omega (arith, bytes_fit ds valid, sum_by-take-le (λ (e : ℕ × ℕ). e.1) ds k)

@@ -1,0 +1,110 @@
+-- How many positions are kept, and how many bytes are gone, below an offset.
+use Rattle.std.proofs.Common.{◌≡◌, ℕ, zero, suc, ◌+◌, ◌-◌, ◌<◌, ◌≤◌, true, false, cond, List, [], ◌∷◌, refl, inl, inr, ⊎_elim, arith}
+use Rattle.std.specs.Prelude.{◌^◌, ◌↔◌, min, ◌||◌, All, AllPairs, sum_by, count_by}
+use Rattle.std.specs.List.{list_any}
+use Rattle.std.proofs.lemmas.Bool.{cases_Bool, cases_lt, cases_order}
+use Rattle.std.proofs.lemmas.Bool.Decides.{nat_tests}
+use Rattle.std.proofs.lemmas.List.Elements.{All-head, All-tail}
+use Rattle.std.proofs.lemmas.List.Sums.{sum_by-cons}
+use Rattle.linker_base.specs.Deletions.{IsApart, holds, is_kept, rank, IsSelected, HasInput}
+
+-- the bytes of the deletion below i
+abbrev pub removed_by : ℕ → ℕ × ℕ → ℕ
+removed_by i d = min d.1 (i - d.0)
+
+-- the bytes of all deletions below i
+abbrev pub removed : List (ℕ × ℕ) → ℕ → ℕ
+removed ds i = sum_by (removed_by i) ds
+
+-- R holds between the later elements too
+pub all_pairs_tail : {X : Type 0} (R : X → X → Type 0) (x : X) (xs : List X) → AllPairs R (x ∷ xs) → AllPairs R xs
+all_pairs_tail R x xs h i j d lt within = h (suc i) (suc j) d (omega arith) (omega arith)
+
+-- and from the first element to each later one
+pub all_pairs_head : {X : Type 0} (R : X → X → Type 0) (x : X) (xs : List X) → AllPairs R (x ∷ xs) → All (R x) xs
+all_pairs_head R x xs h k d within = h zero (suc k) d (omega arith) (omega arith)
+
+-- one position on, a deletion has one byte more below it where it holds that position
+removed_by_step : (i : ℕ) (d : ℕ × ℕ) → removed_by (suc i) d ≡ removed_by i d + cond (holds d i) 1 0
+removed_by_step i d = grind (arith, nat_tests)
+
+-- one position on, the bytes gone are more by the deletions that hold that position
+removed_step : (ds : List (ℕ × ℕ)) (i : ℕ) → removed ds (suc i) ≡ removed ds i + count_by (λ d. holds d i) ds
+removed_step [] i = refl
+removed_step (d ∷ ds) i =
+    omega (arith, sum_by-cons (removed_by (suc i)) d ds, sum_by-cons (removed_by i) d ds, sum_by-cons (λ d. cond (holds d i) 1 0) d ds, removed_by_step i d, removed_step ds i)
+
+-- a deletion that holds a position is apart from none that holds it too
+held_alone : (d : ℕ × ℕ) (ds : List (ℕ × ℕ)) (i : ℕ) → All (IsApart d) ds → holds d i ≡ true → list_any (λ e. holds e i) ds ≡ false
+held_alone d [] i apart held = refl
+held_alone d (e ∷ ds) i apart held =
+    let rest = held_alone d ds i (All-tail (IsApart d) e ds apart) held in
+    let first = All-head (IsApart d) e ds apart in
+    rw rest (not_both first)
+  where
+    not_both : IsApart d e → (holds e i || false) ≡ false
+    not_both (inl below) = grind (arith, nat_tests, held, below.1)
+    not_both (inr above) = grind (arith, nat_tests, held, above.1)
+
+-- no deletion holds the position, so none is counted
+count_none : (ds : List (ℕ × ℕ)) (i : ℕ) → list_any (λ e. holds e i) ds ≡ false → count_by (λ d. holds d i) ds ≡ 0
+count_none [] i none = refl
+count_none (d ∷ ds) i none = grind (arith, sum_by-cons (λ d. cond (holds d i) 1 0) d ds, count_none ds i, none)
+
+-- where deletions are apart, at most one holds a position
+held_once : (ds : List (ℕ × ℕ)) (i : ℕ) → AllPairs IsApart ds → count_by (λ d. holds d i) ds ≡ cond (list_any (λ d. holds d i) ds) 1 0
+held_once [] i apart = refl
+held_once (d ∷ ds) i apart = rw (sum_by-cons (λ d. cond (holds d i) 1 0) d ds) (⊎_elim
+    (λ (held : holds d i ≡ true). let none = held_alone d ds i (all_pairs_head IsApart d ds apart) held in rw held (omega (arith, count_none ds i none)))
+    (λ (free : holds d i ≡ false). let rest = held_once ds i (all_pairs_tail IsApart d ds apart) in rw free (omega (arith, rest)))
+    (cases_Bool (holds d i)))
+
+-- each position below i is kept or gone
+pub rank-removed : (ds : List (ℕ × ℕ)) (i : ℕ) → AllPairs IsApart ds → rank ds i + removed ds i ≡ i
+unfolding rank
+rank-removed ds zero apart = none ds
+  where
+    none : (ds : List (ℕ × ℕ)) → 0 + removed ds 0 ≡ 0
+    none [] = refl
+    none (d ∷ ds) = omega (arith, sum_by-cons (removed_by 0) d ds, none ds)
+rank-removed ds (suc i) apart =
+    let before = rank-removed ds i apart in
+    let step = removed_step ds i in
+    let once = held_once ds i apart in
+    elim (cases_Bool (list_any (λ d. holds d i) ds)) [
+      | inl held ↦ rw held (omega (arith, rw held at once))
+      | inr free ↦ rw free (omega (arith, rw free at once))
+    ]
+
+-- a kept position is counted
+pub rank_kept : (ds : List (ℕ × ℕ)) (i : ℕ) → is_kept ds i ≡ true → rank ds (suc i) ≡ rank ds i + 1
+unfolding rank
+rank_kept ds i kept = rw kept refl
+
+-- a position that is gone isn't
+pub rank_gone : (ds : List (ℕ × ℕ)) (i : ℕ) → is_kept ds i ≡ false → rank ds (suc i) ≡ rank ds i
+unfolding rank
+rank_gone ds i gone = rw gone refl
+
+-- a later offset has no lower rank
+pub rank-mono : (ds : List (ℕ × ℕ)) (a b : ℕ) → a ≤ b → rank ds a ≤ rank ds b
+rank-mono ds a zero le = let e : a ≡ 0 = omega arith in rw e (omega arith)
+rank-mono ds a (suc b) le =
+    ⊎_elim
+    (λ (below : a < suc b).
+    let before = rank-mono ds a b (omega arith) in
+    ⊎_elim (λ kept. omega (arith, rank_kept ds b kept)) (λ gone. omega (arith, rank_gone ds b gone)) (cases_Bool (is_kept ds b)))
+    (λ (from : suc b ≤ a). let e : a ≡ suc b = omega arith in rw e (omega arith))
+    (cases_lt a (suc b))
+
+-- two kept positions of one rank are one
+pub selected_once : (ds : List (ℕ × ℕ)) (y p q : ℕ) → IsSelected ds y p → IsSelected ds y q → p ≡ q
+selected_once ds y p q one other = elim (cases_order p q) [
+  | inl same ↦ same
+  | inr (inl below) ↦ absurd (omega (arith, rank_kept ds p one.kept, rank-mono ds (suc p) q (omega arith), one.ranked, other.ranked))
+  | inr (inr above) ↦ absurd (omega (arith, rank_kept ds q other.kept, rank-mono ds (suc q) p (omega arith), one.ranked, other.ranked))
+]
+
+-- an offset of 64 bits has rank y and is kept just where the one that is selected is of 64 bits
+pub input_fits : (ds : List (ℕ × ℕ)) (y p : ℕ) → IsSelected ds y p → HasInput ds y ↔ (p < 2 ^ 64)
+input_fits ds y p selected = (λ has. omega (arith, selected_once ds y p has.0 selected has.2), λ fits. (p, fits, selected))

@@ -1,0 +1,153 @@
+-- Deletions in any order, and the one valid list that they sort into.
+use Rattle.std.proofs.Common.{◌≡◌, ℕ, zero, suc, ◌+◌, ◌<◌, ◌≤◌, Bool, true, false, List, [], ◌∷◌, ◌++◌, refl, sym, ap, ◌∙◌, inl, inr, ⊎_elim, arith}
+use Rattle.std.specs.Prelude.{◌⊎◌, not, ◌&&◌, nat_le, nat_lt, AllPairs, Contains, IsPermutation}
+use Rattle.std.specs.List.Sorted.{IsNonDecreasingBy}
+use Rattle.std.proofs.lemmas.Bool.{cases_lt}
+use Rattle.std.proofs.lemmas.Bool.Decides.{nat_tests}
+use Rattle.std.proofs.lemmas.List.{append_assoc, get_or_append_left, length-append}
+use Rattle.std.proofs.lemmas.List.Elements.{All-contains}
+use Rattle.std.proofs.lemmas.List.Sorted.{All-permutation, Contains-permutation, IsPermutation-sym, IsPermutation-trans, IsPermutation-append_left, IsPermutation-append_right, IsPermutation-append_comm, list_any-IsPermutation}
+use Rattle.std.proofs.lemmas.Map.Keys.{IsDistinct-IsPermutation, IsDistinct-from_apart, apart_from_distinct}
+use Rattle.linker_base.specs.Deletions.{IsBefore, IsApart, EndFits, AreDisjoint, IsValid, IsSortedUnion, holds, is_kept, rank}
+use Rattle.linker_base.proofs.Rank.{all_pairs_tail, all_pairs_head}
+
+-- the test of IsBefore, and of two deletions of which none is before the other
+abbrev is_before : ℕ × ℕ → ℕ × ℕ → Bool
+is_before a b = nat_lt a.0 b.0 && nat_le (a.0 + a.1) b.0
+
+abbrev touch : ℕ × ℕ → ℕ × ℕ → Bool
+touch a b = not (is_before a b) && not (is_before b a)
+
+touch_flips : (a b : ℕ × ℕ) → touch a b ≡ touch b a
+touch_flips a b = both (not (is_before a b)) (not (is_before b a))
+  where
+    both : (x y : Bool) → (x && y) ≡ (y && x)
+    both true true = refl
+    both true false = refl
+    both false true = refl
+    both false false = refl
+
+touch_not : (a b : ℕ × ℕ) → IsApart a b → touch a b ≡ false
+touch_not a b (inl below) = grind (arith, nat_tests, below.0, below.1)
+touch_not a b (inr above) = grind (arith, nat_tests, above.0, above.1)
+
+apart_from_touch : (a b : ℕ × ℕ) → touch a b ≡ false → IsApart a b
+apart_from_touch a b none = ⊎_elim
+    (λ (below : a.0 < b.0). inl (below, grind (arith, nat_tests)))
+    (λ (from : b.0 ≤ a.0). inr (grind (arith, nat_tests), grind (arith, nat_tests)))
+    (cases_lt a.0 b.0)
+
+-- deletions that are apart stay so in any order
+pub apart_permutation : (xs ys : List (ℕ × ℕ)) → IsPermutation xs ys → AllPairs IsApart xs → AllPairs IsApart ys
+apart_permutation xs ys same apart i j d below within =
+    let distinct = IsDistinct-from_apart touch xs (λ i j d lt in'. touch_not _ _ (apart i j d lt in')) in
+    apart_from_touch _ _ (apart_from_distinct touch ys i j d (IsDistinct-IsPermutation touch touch_flips xs ys same distinct) below within)
+
+pub disjoint_permutation : (xs ys : List (ℕ × ℕ)) → IsPermutation xs ys → AreDisjoint xs → AreDisjoint ys
+disjoint_permutation xs ys same disjoint = record {
+  apart = apart_permutation xs ys same disjoint.apart;
+  ends = All-permutation EndFits xs ys same disjoint.ends;
+}
+
+-- deletions in order are apart
+pub apart_from_ascending : (ds : List (ℕ × ℕ)) → AllPairs IsBefore ds → AllPairs IsApart ds
+apart_from_ascending ds ascending i j d below within = inl (ascending i j d below within)
+
+pub disjoint_from_valid : (ds : List (ℕ × ℕ)) → IsValid ds → AreDisjoint ds
+disjoint_from_valid ds valid = record { apart = apart_from_ascending ds valid.ascending; ends = valid.ends }
+
+-- disjoint deletions whose offsets don't fall are a valid list
+pub valid_from_disjoint : (ds : List (ℕ × ℕ)) → AreDisjoint ds → IsNonDecreasingBy (λ d. d.0) ds → IsValid ds
+valid_from_disjoint ds disjoint rise = record { ascending = ascending; ends = disjoint.ends }
+  where
+    ascending : AllPairs IsBefore ds
+    ascending i j d below within = elim (disjoint.apart i j d below within) [
+      | inl before ↦ before
+      | inr after ↦ absurd (omega (arith, rise i j d (omega arith) within, after.0))
+    ]
+
+-- a sort of disjoint deletions by offset is their sorted union
+pub union_from_sort : (all ds : List (ℕ × ℕ)) → IsPermutation all ds → AreDisjoint all → IsNonDecreasingBy (λ d. d.0) ds → IsSortedUnion all ds
+union_from_sort all ds same disjoint rise = record { same = same; valid = valid_from_disjoint ds (disjoint_permutation all ds same disjoint) rise }
+
+-- only disjoint deletions have a sorted union
+pub disjoint_from_union : (all ds : List (ℕ × ℕ)) → IsSortedUnion all ds → AreDisjoint all
+disjoint_from_union all ds union = disjoint_permutation ds all (IsPermutation-sym all ds union.same) (disjoint_from_valid ds union.valid)
+
+-- each list has the other's deletions
+record HaveSame (xs ys : List (ℕ × ℕ)) : Type 0 where
+  there : (d : ℕ × ℕ) → Contains xs d → Contains ys d
+  back : (d : ℕ × ℕ) → Contains ys d → Contains xs d
+
+contains_head : (d : ℕ × ℕ) (ds : List (ℕ × ℕ)) → Contains (d ∷ ds) d
+contains_head d ds = (0, omega arith, refl)
+
+contains_tail : (d e : ℕ × ℕ) (ds : List (ℕ × ℕ)) → Contains ds e → Contains (d ∷ ds) e
+contains_tail d e ds (k, within, at) = (suc k, omega arith, at)
+
+contains_cases : (d e : ℕ × ℕ) (ds : List (ℕ × ℕ)) → Contains (d ∷ ds) e → Contains ds e ⊎ (d ≡ e)
+contains_cases d e ds (zero, within, at) = inr at
+contains_cases d e ds (suc k, within, at) = inl (k, omega arith, at)
+
+-- lists by ascending offset that have the same deletions are equal
+same_ascending : (xs ys : List (ℕ × ℕ)) → AllPairs IsBefore xs → AllPairs IsBefore ys → HaveSame xs ys → xs ≡ ys
+same_ascending [] [] up rise have = refl
+same_ascending [] (y ∷ ys) up rise have = let found = have.back y (contains_head y ys) in absurd (omega (arith, found.1))
+same_ascending (x ∷ xs) [] up rise have = let found = have.there x (contains_head x xs) in absurd (omega (arith, found.1))
+same_ascending (x ∷ xs) (y ∷ ys) up rise have =
+    let above = all_pairs_head IsBefore x xs up in
+    let over = all_pairs_head IsBefore y ys rise in
+    let first : x ≡ y = ⊎_elim
+    (λ (later : Contains ys x). ⊎_elim
+    (λ (after : Contains xs y). absurd (omega (arith, (All-contains (IsBefore y) ys x over later).0, (All-contains (IsBefore x) xs y above after).0)))
+    (λ same. same)
+    (contains_cases x y xs (have.back y (contains_head y ys))))
+    (λ same. sym same)
+    (contains_cases y x ys (have.there x (contains_head x xs))) in
+    let rest = same_ascending xs ys (all_pairs_tail IsBefore x xs up) (all_pairs_tail IsBefore y ys rise) (record {
+      there = λ d held. ⊎_elim (λ later. later) (λ (same : y ≡ d). absurd (omega (arith, (All-contains (IsBefore x) xs d above held).0, ap (λ (e : ℕ × ℕ). e.0) (first ∙ same)))) (contains_cases y d ys (have.there d (contains_tail x d xs held)));
+      back = λ d held. ⊎_elim (λ later. later) (λ (same : x ≡ d). absurd (omega (arith, (All-contains (IsBefore y) ys d over held).0, ap (λ (e : ℕ × ℕ). e.0) (sym first ∙ same)))) (contains_cases x d xs (have.back d (contains_tail y d ys held)));
+    }) in
+    cc
+
+-- one valid list alone has given deletions
+pub valid_once : (xs ys : List (ℕ × ℕ)) → IsPermutation xs ys → IsValid xs → IsValid ys → xs ≡ ys
+valid_once xs ys same valid other = same_ascending xs ys valid.ascending other.ascending (record {
+  there = λ d held. Contains-permutation xs ys d same held;
+  back = λ d held. Contains-permutation ys xs d (IsPermutation-sym xs ys same) held;
+})
+
+-- deletions sort into one valid list alone
+pub union_once : (all a b : List (ℕ × ℕ)) → IsSortedUnion all a → IsSortedUnion all b → a ≡ b
+union_once all a b one other = valid_once a b (IsPermutation-trans a all b (IsPermutation-sym all a one.same) other.same) one.valid other.valid
+
+-- the first part of disjoint deletions is disjoint
+pub disjoint_left : (xs ys : List (ℕ × ℕ)) → AreDisjoint (xs ++ ys) → AreDisjoint xs
+disjoint_left xs ys disjoint = record {
+  apart = λ i j d below within. rw (get_or_append_left xs ys d i (omega arith), get_or_append_left xs ys d j within) at (disjoint.apart i j d below (omega (arith, length-append xs ys)));
+  ends = λ k d within. rw (get_or_append_left xs ys d k within) at (disjoint.ends k d (omega (arith, length-append xs ys)));
+}
+
+-- the order of the deletions doesn't matter to which positions are kept
+pub kept_permutation : (xs ys : List (ℕ × ℕ)) (p : ℕ) → IsPermutation xs ys → is_kept xs p ≡ is_kept ys p
+kept_permutation xs ys p same = ap not (list_any-IsPermutation (λ d. holds d p) xs ys same)
+
+-- nor to the rank
+pub rank-permutation : (xs ys : List (ℕ × ℕ)) (i : ℕ) → IsPermutation xs ys → rank xs i ≡ rank ys i
+unfolding rank
+rank-permutation xs ys zero same = refl
+rank-permutation xs ys (suc i) same = rw (kept_permutation xs ys i same, rank-permutation xs ys i same) refl
+
+-- merging two batches, one after the other, gives the sorted union of all
+pub union_of_merges : (old first second one both : List (ℕ × ℕ)) → IsSortedUnion (old ++ first) one → IsSortedUnion (one ++ second) both → IsSortedUnion (old ++ (first ++ second)) both
+union_of_merges old first second one both merged again = record {
+  same = rw (← (append_assoc old first second)) (IsPermutation-trans _ (one ++ second) both (IsPermutation-append_left second (old ++ first) one merged.same) again.same);
+  valid = again.valid;
+}
+
+-- the two batches may change places
+pub union_swapped : (old first second both : List (ℕ × ℕ)) → IsSortedUnion (old ++ (second ++ first)) both → IsSortedUnion (old ++ (first ++ second)) both
+union_swapped old first second both union = record {
+  same = IsPermutation-trans _ (old ++ (second ++ first)) both (IsPermutation-append_right old (first ++ second) (second ++ first) (IsPermutation-append_comm first second)) union.same;
+  valid = union.valid;
+}

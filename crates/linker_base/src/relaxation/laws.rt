@@ -1,0 +1,38 @@
+//! Laws of deletions: each function does nothing, and its contract is a law.
+ghost use Rattle.linker_base.specs.Laws.{InAfterOutReturns, OutAfterInIsFirstKept, OutAfterInReturnsKept, RankNeverDecreases, MergeOrderIsFree, CursorGivesRanks, MergesShortenDistances};
+
+/// Back to the output: the input offset of an output offset `y` isn't strictly inside a deletion,
+/// and its output offset is `y`.
+pub fn in_after_out_returns()
+    ensures { InAfterOutReturns }
+{}
+
+/// Back to the input: the input offset of the output offset of `i` is the first kept position at
+/// or after `i`, wherever `i` lies. So it is `i` where `i` is kept, and then it is always there.
+pub fn out_after_in_returns()
+    ensures first_kept { OutAfterInIsFirstKept }
+    ensures kept { OutAfterInReturnsKept }
+{}
+
+/// Of two input offsets the later one has no lower output offset.
+pub fn output_offsets_never_decrease()
+    ensures { RankNeverDecreases }
+{}
+
+/// Two batches of deletions may be merged in either order, and also at once: where one order is
+/// allowed so is the other, and the lists that are left are equal.
+pub fn merge_order_is_free()
+    ensures { MergeOrderIsFree }
+{}
+
+/// A cursor that is asked in an order that doesn't decrease, never strictly inside a deletion,
+/// answers as a translation of each query by itself.
+pub fn cursor_gives_ranks()
+    ensures { CursorGivesRanks }
+{}
+
+/// More deletions never move two offsets apart: a branch that reaches its target still does after
+/// every merge.
+pub fn merges_shorten_distances()
+    ensures { MergesShortenDistances }
+{}
