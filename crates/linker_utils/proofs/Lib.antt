@@ -1,4 +1,5 @@
 pub mod Bounds
+pub mod Calls
 pub mod Jumps
 pub mod RiscV
 pub mod Runs

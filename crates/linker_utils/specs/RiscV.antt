@@ -1,6 +1,7 @@
 -- RISC-V: its instruction forms (RISC-V unprivileged ISA, "Immediate Encoding Variants"), its rewrites and its jumps (RISC-V
 -- ELF psABI, "Function Call Relaxation").
-use Rattle.std.specs.Prelude.{◌≡◌, ℕ, ◌+◌, ◌*◌, List, ◌++◌, take, drop, Option, None, Some, ℤ, pos, negsuc, ◌≤ℤ◌}
+use Rattle.std.specs.Prelude.{◌≡◌, ℕ, ◌+◌, ◌*◌, List, ◌++◌, take, drop, Option, None, Some, ℤ, pos, negsuc, ◌≤ℤ◌, ◌-ℤ◌, ◌≤◌, ◌<◌, length, IsTrue}
+use Rattle.linker_base.specs.Deletions.{is_kept, rank}
 use Rattle.std.specs.Int.{w32, from_le_bytes, to_le_bytes, int_rem_euclid}
 use Rattle.linker_base.specs.Bits.{field}
 use Rattle.linker_base.specs.Form.{Form, bits_to, signed_immediate}
@@ -45,3 +46,15 @@ pub record JumpsAt (before after : List ℕ) (site : ℕ) (distance : ℤ) : Typ
   pub reads : (riscv_form JType).machine (word_at after site) ≡ distance
   pub front : take site after ≡ take site before
   pub rest : drop (site + 4) after ≡ drop (site + 4) before
+
+-- the four bytes at the site lie in the section, and the target isn't past its end
+abbrev pub IsInSection : List ℕ → ℕ → ℕ → Type 0
+IsInSection section site target = (site + 4 ≤ length section) × (target ≤ length section)
+
+-- none of the four bytes at the site is deleted
+abbrev pub IsSiteKept : List (ℕ × ℕ) → ℕ → Type 0
+IsSiteKept deletions site = (k : ℕ) → k < 4 → IsTrue (is_kept deletions (site + k))
+
+-- how far the target stands from the site once the deleted bytes are gone
+abbrev pub output_distance : List (ℕ × ℕ) → ℕ → ℕ → ℤ
+output_distance deletions site target = pos (rank deletions target) -ℤ pos (rank deletions site)

@@ -1,14 +1,15 @@
 //! RISC-V: relaxation rewrites, and calls that become jumps.
 
-ghost use Rattle.std.specs.Prelude.{◌≡◌, ◌≤◌, ◌<◌, ◌+◌, ◌↔◌, IsTrue, IsOk, OnOk, OnErr, length, drop};
+ghost use Rattle.std.specs.Prelude.{◌≡◌, ◌≤◌, ◌<◌, ◌+◌, ◌^◌, ◌↔◌, IsTrue, IsOk, OnOk, OnErr, length, drop};
 ghost use Rattle.std.specs.Int.{byte_len, cast_unsigned, w64};
 ghost use Rattle.linker_base.specs.Form.{window_of, Written, MachineReads, IsReadBack};
 ghost use Rattle.linker_base.specs.Rewrite.{CanRewrite, rewritten, offset_after, addend_after};
-ghost use Rattle.linker_utils.specs.RiscV.{riscv_form, riscv_rewrite, riscv_modifier, IsEven, IsJalDistance, JumpsAt};
+ghost use Rattle.linker_utils.specs.RiscV.{riscv_form, riscv_rewrite, riscv_modifier, IsEven, IsJalDistance, JumpsAt, IsInSection, IsSiteKept, output_distance};
+ghost use Rattle.linker_base.specs.Deletions.{IsInside};
 
-use crate::elf::{InstructionForm, RiscVInstruction};
 use crate::elf::engine::{self, Run, Window, run};
-use crate::relaxation::RelocationModifier;
+use crate::elf::{InstructionForm, RiscVInstruction};
+use crate::relaxation::{RelocationModifier, SectionRelaxDeltas};
 use crate::rewrite::{has_window, overwrite};
 use crate::utils::u32_from_slice;
 
@@ -137,7 +138,82 @@ pub fn jal_site(section: &mut [u8], site: u64, distance: i64) -> Result<(), Call
     Ok(())
 }
 
-const J_TYPE: [Run; 4] = [run!(12, 12, 8), run!(11, 20, 1), run!(1, 21, 10), run!(20, 31, 1)];
+/// Whether none of the four bytes at a site is deleted.
+fn is_site_kept(deltas: &SectionRelaxDeltas, site: u64) -> bool
+    requires { site + 4 < 2 ^ 64 }
+    ensures { IsTrue result ↔ IsSiteKept deltas.now site }
+{
+    let end = site + 4;
+    if deltas.is_inside(site) {
+        return false;
+    }
+    if deltas.is_inside(end) {
+        return false;
+    }
+    let first = deltas.input_to_output_offset(site);
+    let past = deltas.input_to_output_offset(end);
+    past - first == 4
+}
+
+/// How far the target stands from the site once the deleted bytes are gone.
+fn distance_after(deltas: &SectionRelaxDeltas, site: u64, target: u64) -> i64
+    requires site_outside { ¬ IsInside deltas.now site }
+    requires target_outside { ¬ IsInside deltas.now target }
+    requires site_fits { site < 2 ^ 63 }
+    requires target_fits { target < 2 ^ 63 }
+    ensures { result ≡ output_distance deltas.now site target }
+{
+    let from = deltas.input_to_output_offset(site);
+    let to = deltas.input_to_output_offset(target);
+    to as i64 - from as i64
+}
+
+/// Turns a call into a jump as `jal_site` does, in a section whose bytes stand where they stood
+/// before the deletions: the distance is that from the site's output offset to the target's, so that
+/// the jump is right once the deleted bytes are gone. The target may be the section's end.
+///
+/// After a refusal the section is as it was; the first cause in the order `OutOfSection`,
+/// `SiteDeleted`, `TargetInside`, `OddDistance`, `TooFar` is told.
+pub fn relax_call(
+    section: &mut [u8],
+    deltas: &SectionRelaxDeltas,
+    site: u64,
+    target: u64,
+) -> Result<(), CallError>
+    ensures jumps { OnOk result (JumpsAt section.old section.new site (output_distance deltas.now site target)) }
+    ensures accepted { IsOk result ↔ (IsInSection section.old site target × IsSiteKept deltas.now site × ¬ IsInside deltas.now target
+        × IsEven (output_distance deltas.now site target) × IsJalDistance (output_distance deltas.now site target)) }
+
+    ensures out_of_section { (result ≡ Err CallError.OutOfSection) ↔ ¬ IsInSection section.old site target }
+    ensures site_deleted { (result ≡ Err CallError.SiteDeleted) ↔ (IsInSection section.old site target × ¬ IsSiteKept deltas.now site) }
+    ensures target_inside { (result ≡ Err CallError.TargetInside)
+        ↔ (IsInSection section.old site target × IsSiteKept deltas.now site × IsInside deltas.now target) }
+    ensures odd_distance { (result ≡ Err CallError.OddDistance)
+        ↔ (IsInSection section.old site target × IsSiteKept deltas.now site × ¬ IsInside deltas.now target
+        × ¬ IsEven (output_distance deltas.now site target)) }
+    ensures too_far { (result ≡ Err CallError.TooFar)
+        ↔ (IsInSection section.old site target × IsSiteKept deltas.now site × ¬ IsInside deltas.now target
+        × IsEven (output_distance deltas.now site target) × ¬ IsJalDistance (output_distance deltas.now site target)) }
+    ensures unchanged { OnErr result (section.new ≡ section.old) }
+{
+    if !has_window(section, site, 0, 4) || target > section.len() as u64 {
+        return Err(CallError::OutOfSection);
+    }
+    if !is_site_kept(deltas, site) {
+        return Err(CallError::SiteDeleted);
+    }
+    if deltas.is_inside(target) {
+        return Err(CallError::TargetInside);
+    }
+    jal_site(section, site, distance_after(deltas, site, target))
+}
+
+const J_TYPE: [Run; 4] = [
+    run!(12, 12, 8),
+    run!(11, 20, 1),
+    run!(1, 21, 10),
+    run!(20, 31, 1),
+];
 
 impl RiscVInstruction {
     /// Writes a value into the instruction that `dest` begins with, and changes no other bit.
