@@ -66,8 +66,8 @@ IsRun-push from next ds d run begins fits = record {
   begin = All-push (λ e. from ≤ e.0) ds d run.begin (omega (arith, run.rise));
   end = All-push (λ e. (e.0 < d.0 + max d.1 1) × (e.0 + e.1 ≤ d.0 + max d.1 1)) ds d (λ k e within. (omega (arith, (run.end k e within).0), omega (arith, (run.end k e within).1))) (omega arith, omega arith);
   least = λ i le below.
-    let last = rw (get_or_push ds d (0, 0) (length ds) refl) at (below (length ds) (0, 0) (omega (arith, length_push ds d))) in
-    omega (arith, last.0, last.1);
+      let last = rw (get_or_push ds d (0, 0) (length ds) refl) at (below (length ds) (0, 0) (omega (arith, length_push ds d))) in
+      omega (arith, last.0, last.1);
 }
 
 -- a run and another from its end on

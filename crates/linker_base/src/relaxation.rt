@@ -15,7 +15,7 @@ mod map;
 mod merge;
 mod search;
 
-use apart::{are_disjoint, are_disjoint_batches, are_free, are_free_batches, end_fits, is_before};
+use apart::{are_disjoint, are_disjoint_batches, are_free, are_free_batches, valid_len};
 pub use cursor::RelaxCursor;
 pub use map::RelaxDeltaMap;
 use merge::{append, append_all, count_pairs, sort_and_sum};
@@ -105,12 +105,7 @@ impl SectionRelaxDeltas {
     pub fn is_valid(raw: &[(u64, u32)]) -> bool
         ensures { IsTrue result ↔ IsValid raw.now }
     {
-        for (at, &pair) in raw.iter().enumerate() {
-            if !end_fits(pair) || at > 0 && !is_before(raw[at - 1], pair) {
-                return false;
-            }
-        }
-        true
+        valid_len(raw) == raw.len()
     }
 
     /// Adds deletions, each an offset and a count of bytes, in any order.
