@@ -4,11 +4,12 @@ use Rattle.std.specs.Prelude.{max, All, AllPairs}
 use Rattle.std.specs.Global.{Vec}
 use Rattle.std.specs.List.{flat_map}
 use Rattle.std.proofs.lemmas.Bool.{cases_lt}
-use Rattle.std.proofs.lemmas.List.{take_more, append-nil, take-append-drop, take_all, length-append, get_or_append_left, get_or-append_right, get_or-append-add}
+use Rattle.std.proofs.lemmas.List.{take_more, length_push, get_or_push, get_or-take, get_or_default, length-take, append-nil, take-append-drop, take_all, length-append, get_or_append_left, get_or-append_right, get_or-append-add}
 use Rattle.std.proofs.lemmas.List.Concat.{flat_map-append}
 use Rattle.std.proofs.lemmas.List.Elements.{All-append, All-push}
 use Rattle.linker_base.specs.Deletions.{IsBefore, IsApart, EndFits, AreDisjoint, IsValid}
-use Rattle.linker_base.specs.Deltas.{pairs_of, IsRun}
+use Rattle.linker_base.specs.Deltas.{pairs_of}
+use Rattle.linker_base.specs.Listed.{IsRun}
 use Rattle.linker_base.proofs.Listed.{IsValid-push}
 
 -- one more batch
@@ -55,6 +56,7 @@ IsRun-nil from = record {
   rise = omega arith;
   begin = λ i d within. absurd (omega arith);
   end = λ i d within. absurd (omega arith);
+  least = λ i le below. le;
 }
 
 pub IsRun-push : (from next : ℕ) (ds : List (ℕ × ℕ)) (d : ℕ × ℕ) → IsRun from next ds → next ≤ d.0 → EndFits d → IsRun from (d.0 + max d.1 1) (ds ++ d ∷ [])
@@ -63,6 +65,9 @@ IsRun-push from next ds d run begins fits = record {
   rise = omega (arith, run.rise);
   begin = All-push (λ e. from ≤ e.0) ds d run.begin (omega (arith, run.rise));
   end = All-push (λ e. (e.0 < d.0 + max d.1 1) × (e.0 + e.1 ≤ d.0 + max d.1 1)) ds d (λ k e within. (omega (arith, (run.end k e within).0), omega (arith, (run.end k e within).1))) (omega arith, omega arith);
+  least = λ i le below.
+      let last = rw (get_or_push ds d (0, 0) (length ds) refl) at (below (length ds) (0, 0) (omega (arith, length_push ds d))) in
+      omega (arith, last.0, last.1);
 }
 
 -- a run and another from its end on
@@ -72,6 +77,7 @@ IsRun-append from middle next xs ys first second = record {
   rise = omega (arith, first.rise, second.rise);
   begin = All-append (λ e. from ≤ e.0) xs ys first.begin (λ k e within. omega (arith, first.rise, second.begin k e within));
   end = All-append (λ e. (e.0 < next) × (e.0 + e.1 ≤ next)) xs ys (λ k e within. (omega (arith, second.rise, (first.end k e within).0), omega (arith, second.rise, (first.end k e within).1))) second.end;
+  least = λ i le below. second.least i (first.least i le (All-front (λ e. (e.0 < i) × (e.0 + e.1 ≤ i)) xs ys below)) (All-back (λ e. (e.0 < i) × (e.0 + e.1 ≤ i)) xs ys below);
 }
   where
     long : length (xs ++ ys) ≡ length xs + length ys
@@ -92,3 +98,29 @@ IsRun-append from middle next xs ys first second = record {
             | inr from ↦ rw (get_or-append_right xs ys (length xs) i d refl from, get_or-append_right xs ys (length xs) j d refl high) (second.valid.ascending (i - length xs) (j - length xs) d (omega arith) inside)
           ]
     ]
+
+-- a valid list goes on no lower than after any front of it
+pub run_goes_on : (from next : ℕ) (ds : List (ℕ × ℕ)) (k : ℕ) → k < length ds → IsRun from next (take k ds) → IsValid ds → All (λ d. from ≤ d.0) ds → next ≤ (get_or ds k (0, 0)).0
+run_goes_on from next ds k within run valid begin = run.least (get_or ds k (0, 0)).0 (begin k (0, 0) within) (λ j e inside.
+    let low : j < k = omega (arith, length-take k ds) in
+    let there : j < length ds = omega arith in
+    rw (get_or-take k ds j e low, get_or_default ds j e (0, 0) there) (valid.ascending j k (0, 0) low within))
+
+-- both parts of a valid list are valid, and the second goes on no lower than after the first
+pub IsValid-front : (xs ys : List (ℕ × ℕ)) → IsValid (xs ++ ys) → IsValid xs
+IsValid-front xs ys valid = record {
+  ascending = λ i j d lt within. let lower : i < length xs = omega arith in rw (← get_or_append_left xs ys d i lower, ← get_or_append_left xs ys d j within) (valid.ascending i j d lt (omega (arith, length-append xs ys)));
+  ends = All-front EndFits xs ys valid.ends;
+}
+
+pub IsValid-back : (xs ys : List (ℕ × ℕ)) → IsValid (xs ++ ys) → IsValid ys
+IsValid-back xs ys valid = record {
+  ascending = λ i j d lt within. rw (← get_or-append-add xs ys i d, ← get_or-append-add xs ys j d) (valid.ascending (length xs + i) (length xs + j) d (omega arith) (omega (arith, length-append xs ys)));
+  ends = All-back EndFits xs ys valid.ends;
+}
+
+pub run_goes_on_after : (from next : ℕ) (xs ys : List (ℕ × ℕ)) → IsRun from next xs → IsValid (xs ++ ys) → All (λ d. from ≤ d.0) ys → All (λ d. next ≤ d.0) ys
+run_goes_on_after from next xs ys run valid begin k d within = run.least (get_or ys k d).0 (begin k d within) (λ j e inside.
+    let before = valid.ascending j (length xs + k) e (omega arith) (omega (arith, length-append xs ys)) in
+    let same : get_or (xs ++ ys) (length xs + k) e ≡ get_or ys k d = get_or-append-add xs ys k e ∙ get_or_default ys k e d within in
+    rw (get_or_append_left xs ys e j inside, same) at before)

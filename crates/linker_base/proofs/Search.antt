@@ -8,7 +8,8 @@ use Rattle.std.proofs.lemmas.List.{get_or-map, get_or_default, length-map}
 use Rattle.std.proofs.lemmas.List.Sums.{sum_by_more}
 use Rattle.linker_base.specs.declared.relaxation.RelaxDelta.{RelaxDelta}
 use Rattle.linker_base.specs.Deletions.{IsBefore, IsValid, IsInside, IsSelected, HasInput, bytes_of, rank}
-use Rattle.linker_base.specs.Deltas.{deletion_of, IsListing, AreListed, ArePlaced, IsOnlyAt}
+use Rattle.linker_base.specs.Deltas.{deletion_of, IsListing}
+use Rattle.linker_base.specs.Listed.{AreListed, ArePlaced, IsOnlyAt}
 use Rattle.linker_base.proofs.Places.{rank-parted, selected-place, bytes_between}
 use Rattle.linker_base.proofs.Rank.{input_fits}
 use Rattle.linker_base.proofs.Unions.{apart_from_ascending}

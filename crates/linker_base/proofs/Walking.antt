@@ -7,7 +7,8 @@ use Rattle.std.proofs.lemmas.List.{length-map, length-take, get_or-take, get_or_
 use Rattle.std.proofs.lemmas.List.Sums.{count_by-le-length}
 use Rattle.linker_base.specs.declared.relaxation.RelaxDelta.{RelaxDelta}
 use Rattle.linker_base.specs.Deletions.{IsBefore, IsValid, IsInside, bytes_of, rank}
-use Rattle.linker_base.specs.Deltas.{deletion_of, AreListed}
+use Rattle.linker_base.specs.Deltas.{deletion_of}
+use Rattle.linker_base.specs.Listed.{AreListed}
 use Rattle.linker_base.specs.Deletions.{begun_below}
 use Rattle.linker_base.proofs.Laws.{begun_parted}
 use Rattle.linker_base.proofs.Search.{blank, deletion_at, rank_from_search}

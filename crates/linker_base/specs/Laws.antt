@@ -1,7 +1,6 @@
 -- Laws of deletions, over the definitions alone.
 use Rattle.std.specs.Prelude.{◌≡◌, ℕ, ◌-◌, ◌^◌, ◌<◌, ◌≤◌, List, [], ◌∷◌, ◌++◌, map, ⊤, IsTrue, IsFalse, All, Contains}
 use Rattle.linker_base.specs.Walk.{Walk, passed_bytes, walk_to, AreAhead}
-pub use Rattle.linker_base.specs.Deletions.{begun_below}
 use Rattle.linker_base.specs.Deletions.{AreDisjoint, IsValid, IsSortedUnion, is_kept, IsInside, rank, IsSelected, HasInput}
 
 -- the input offset of y isn't strictly inside a deletion, and its output offset is y

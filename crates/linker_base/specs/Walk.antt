@@ -1,10 +1,7 @@
 -- A cursor's walk through the deletions of a section.
-use Rattle.std.specs.Prelude.{◌≡◌, ℕ, ◌<◌, ◌≤◌, List, length, map, slice_index, take, max, fold, All}
+use Rattle.std.specs.Prelude.{ℕ, ◌<◌, List, length, slice_index, take, max, fold, All}
 use Rattle.std.specs.List.Sorted.{IsNonDecreasing}
-use Rattle.linker_base.specs.declared.relaxation.RelaxDelta.{RelaxDelta}
-use Rattle.linker_base.specs.Deletions.{IsInside, bytes_of}
-use Rattle.linker_base.specs.Deltas.{deletion_of, AreListed}
-use Rattle.linker_base.specs.Deletions.{begun_below}
+use Rattle.linker_base.specs.Deletions.{IsInside, bytes_of, begun_below}
 
 -- a valid list of deletions, and how many of them are passed
 pub record Walk : Type 0 where
@@ -28,9 +25,3 @@ pub record AreAhead (walk : Walk) (queries : List ℕ) : Type 0 where
   pub ascending : IsNonDecreasing queries
   pub outside : All (λ i. ¬ (IsInside walk.deletions i)) queries
   pub begun : 0 < length queries → All (λ d. d.0 < slice_index queries 0) (take walk.passed walk.deletions)
-
--- what holds of a cursor's fields
-pub record IsWalking (deltas : List RelaxDelta) (passed deleted : ℕ) : Type 0 where
-  pub listed : AreListed deltas
-  pub within : passed ≤ length deltas
-  pub sum : deleted ≡ bytes_of (take passed (map deletion_of deltas))

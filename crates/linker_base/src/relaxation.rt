@@ -15,7 +15,7 @@ mod map;
 mod merge;
 mod search;
 
-use apart::{are_disjoint, are_disjoint_batches, are_free, are_free_batches, end_fits, is_before};
+use apart::{are_disjoint, are_disjoint_batches, are_free, are_free_batches, valid_len};
 pub use cursor::RelaxCursor;
 pub use map::RelaxDeltaMap;
 use merge::{append, append_all, count_pairs, sort_and_sum};
@@ -68,7 +68,8 @@ pub struct SectionRelaxDeltas {
 
 impl Model for SectionRelaxDeltas {
     ghost use Rattle.std.specs.Prelude.{ℕ, List, map};
-    ghost use Rattle.linker_base.specs.Deltas.{deletion_of, IsSound};
+    ghost use Rattle.linker_base.specs.Deltas.{deletion_of};
+    ghost use Rattle.linker_base.specs.Listed.{IsSound};
 
     ghost Value = { List (ℕ × ℕ) };
 
@@ -104,12 +105,7 @@ impl SectionRelaxDeltas {
     pub fn is_valid(raw: &[(u64, u32)]) -> bool
         ensures { IsTrue result ↔ IsValid raw.now }
     {
-        for (at, &pair) in raw.iter().enumerate() {
-            if !end_fits(pair) || at > 0 && !is_before(raw[at - 1], pair) {
-                return false;
-            }
-        }
-        true
+        valid_len(raw) == raw.len()
     }
 
     /// Adds deletions, each an offset and a count of bytes, in any order.
@@ -186,7 +182,7 @@ impl SectionRelaxDeltas {
         ensures valid { IsValid self.now }
         ensures listing { IsListing self.now result.now }
     {
-        &self.deltas
+        &self.deltas[..]
     }
 
     /// Whether a deletion is listed at the offset, be it one of no bytes.
@@ -259,8 +255,8 @@ impl SectionRelaxDeltas {
         ensures { IsTrue result ↔ HasInput self.now output_offset }
     {
         let deltas = self.deltas.as_slice();
-        let passed = count_placed(deltas, output_offset);
-        bytes_of_first(deltas, passed) <= u64::MAX - output_offset
+        let added = bytes_of_first(deltas, count_placed(deltas, output_offset));
+        added <= u64::MAX - output_offset
     }
 
     /// A cursor before the first deletion.
@@ -280,5 +276,70 @@ pub fn opt_input_to_output(deltas: Option<&SectionRelaxDeltas>, input_offset: u6
     match deltas {
         Some(section) => section.input_to_output_offset(input_offset),
         None => input_offset,
+    }
+}
+
+#[cfg(test)]
+mod tests {
+    use super::*;
+    use std::test::Fail;
+
+    // Each test holds whichever growth is refused: `rt try --test --fail-alloc N` refuses the Nth.
+
+    #[test]
+    fn a_refused_merge_leaves_the_deltas(rt: HostRuntime) -> Result<(), Fail> {
+        let (old, more) = ([(4, 4)], [(8, 4)]);
+        assert!(rt; SectionRelaxDeltas::is_valid(&old));
+        let Ok(mut deltas) = SectionRelaxDeltas::new(rt.alloc(), &old) else {
+            return Ok(());
+        };
+        assert!(rt; deltas.is_mergeable(&more));
+        let (count, total) = match deltas.merge_additional(&more) {
+            Ok(()) => (2, 8),
+            Err(OutOfMemory) => (1, 4),
+        };
+        assert_eq!(rt; deltas.deltas().len(), count);
+        assert_eq!(rt; deltas.total_deleted(), total);
+        assert_eq!(rt; deltas.has_delta_at(8), count == 2);
+        Ok(())
+    }
+
+    #[test]
+    fn a_refused_copy_leaves_the_deltas(rt: HostRuntime) -> Result<(), Fail> {
+        let raw = [(4, 4), (12, 2)];
+        assert!(rt; SectionRelaxDeltas::is_valid(&raw));
+        let Ok(deltas) = SectionRelaxDeltas::new(rt.alloc(), &raw) else {
+            return Ok(());
+        };
+        if let Ok(copy) = deltas.clone() {
+            assert_eq!(rt; copy.deltas(), deltas.deltas());
+        }
+        assert_eq!(rt; deltas.deltas().len(), 2);
+        assert_eq!(rt; deltas.total_deleted(), 6);
+        Ok(())
+    }
+
+    #[test]
+    fn refused_batches_leave_the_deltas(rt: HostRuntime) -> Result<(), Fail> {
+        let old = [(4, 4)];
+        assert!(rt; SectionRelaxDeltas::is_valid(&old));
+        let (Ok(mut deltas), Ok(first), Ok(second)) = (
+            SectionRelaxDeltas::new(rt.alloc(), &old),
+            [(8, 4)].to_vec(rt.alloc()),
+            [(16, 4)].to_vec(rt.alloc()),
+        ) else {
+            return Ok(());
+        };
+        let Ok(batches) = vec![in rt.alloc(); first, second] else {
+            return Ok(());
+        };
+        assert!(rt; deltas.are_mergeable(&batches));
+        let (count, total) = match deltas.merge_all(&batches) {
+            Ok(()) => (3, 12),
+            Err(OutOfMemory) => (1, 4),
+        };
+        assert_eq!(rt; deltas.deltas().len(), count);
+        assert_eq!(rt; deltas.total_deleted(), total);
+        Ok(())
     }
 }

@@ -1,34 +1,48 @@
 //! Tests of deletions that are to be merged. None takes memory.
 
-ghost use Rattle.std.specs.Prelude.{◌≡◌, ◌↔◌, IsTrue, IfSome, All, map};
+ghost use Rattle.std.specs.Prelude.{◌≡◌, ◌≤◌, ◌↔◌, IsTrue, MatchOption, All, map, length, take};
 ghost use Rattle.linker_base.specs.Deletions.{IsBefore, IsApart, EndFits, AreDisjoint, IsValid};
-ghost use Rattle.linker_base.specs.Deltas.{deletion_of, AreListed, IsRun, pairs_of};
+ghost use Rattle.linker_base.specs.Deltas.{deletion_of, pairs_of};
+ghost use Rattle.linker_base.specs.Listed.{AreListed, IsRun};
 
+use super::RelaxDelta;
 use super::search::count_below;
-use super::{RelaxDelta, SectionRelaxDeltas};
 
 // Whether the first pair lies below the second: it has a lower offset and does not reach past it.
-pub(super) fn is_before(first: (u64, u32), second: (u64, u32)) -> bool
+fn is_before(first: (u64, u32), second: (u64, u32)) -> bool
     ensures { IsTrue result ↔ IsBefore first second }
 {
     first.0 < second.0 && u64::from(first.1) <= second.0 - first.0
 }
 
 // Whether the pair ends at `u64::MAX` or below.
-pub(super) fn end_fits(pair: (u64, u32)) -> bool
+fn end_fits(pair: (u64, u32)) -> bool
     ensures { IsTrue result ↔ EndFits pair }
 {
     u64::from(pair.1) <= u64::MAX - pair.0
 }
 
-// Whether the pairs, in any order, make a valid list once sorted: one pass where they are one.
+// How many of the first pairs make a valid list.
+pub(super) fn valid_len(pairs: &[(u64, u32)]) -> usize
+    ensures within { result ≤ length pairs.now }
+    ensures valid { IsValid (take result pairs.now) }
+    ensures whole { IsValid pairs.now → result ≡ length pairs.now }
+{
+    for (at, &pair) in pairs.iter().enumerate() {
+        if !end_fits(pair) || at > 0 && !is_before(pairs[at - 1], pair) {
+            return at;
+        }
+    }
+    pairs.len()
+}
+
+// Whether the pairs, in any order, make a valid list once sorted. Pairs that ascend take one pass:
+// the first that is not valid after those before it touches the last of them.
 pub(super) fn are_disjoint(pairs: &[(u64, u32)]) -> bool
     ensures { IsTrue result ↔ AreDisjoint pairs.now }
 {
-    if SectionRelaxDeltas::is_valid(pairs) {
-        return true;
-    }
-    for (at, &pair) in pairs.iter().enumerate() {
+    for at in valid_len(pairs)..pairs.len() {
+        let pair = pairs[at];
         if !end_fits(pair) || !is_apart_from(&pairs[..at], pair) {
             return false;
         }
@@ -78,15 +92,13 @@ fn deletion(delta: &RelaxDelta) -> (u64, u32)
     (delta.input_offset, delta.bytes_deleted)
 }
 
-// Whether the pairs of all batches, in any order, make a valid list once sorted: one pass where
-// they are one, from each batch to the next too.
+// Whether the pairs of all batches, in any order, make a valid list once sorted. Pairs that
+// ascend, from each batch to the next too, take one pass.
 pub(super) fn are_disjoint_batches(batches: &[Vec<(u64, u32)>]) -> bool
     ensures { IsTrue result ↔ AreDisjoint (pairs_of batches.now) }
 {
-    if are_ascending(batches) {
-        return true;
-    }
-    for (at, batch) in batches.iter().enumerate() {
+    for at in count_ascending(batches)..batches.len() {
+        let batch = &batches[at];
         if !are_disjoint(batch) || !are_apart(&batches[..at], batch) {
             return false;
         }
@@ -94,24 +106,26 @@ pub(super) fn are_disjoint_batches(batches: &[Vec<(u64, u32)>]) -> bool
     true
 }
 
-// Whether the pairs of all batches, one batch after the other, are found to be a valid list.
-fn are_ascending(batches: &[Vec<(u64, u32)>]) -> bool
-    ensures { IsTrue result → IsValid (pairs_of batches.now) }
+// How many of the first batches make a valid list, one after the other.
+fn count_ascending(batches: &[Vec<(u64, u32)>]) -> usize
+    ensures within { result ≤ length batches.now }
+    ensures valid { IsValid (pairs_of (take result batches.now)) }
+    ensures whole { IsValid (pairs_of batches.now) → result ≡ length batches.now }
 {
     let mut next = 0;
-    for batch in batches {
+    for (at, batch) in batches.iter().enumerate() {
         match next_after(next, batch) {
             Some(after) => next = after,
-            None => return false,
+            None => return at,
         }
     }
-    true
+    batches.len()
 }
 
 // The lowest offset that may follow the pairs, where they are a valid list that begins at `from`
 // or above. It may be one past the 64 bits of an offset.
 fn next_after(from: u128, pairs: &[(u64, u32)]) -> Option<u128>
-    ensures { IfSome result (λ next. IsRun from next pairs.now) }
+    ensures { MatchOption result (¬ (IsValid pairs.now × All (λ d. from ≤ d.0) pairs.now)) (λ next. IsRun from next pairs.now) }
 {
     let mut next = from;
     for &pair in pairs {

@@ -2,7 +2,8 @@
 
 ghost use Rattle.std.specs.Prelude.{◌≡◌, ◌-◌, ◌<◌, ◌≤◌, ◌↔◌, IsTrue, All, AllPairs, length, map, slice_index};
 ghost use Rattle.linker_base.specs.Deletions.{IsBefore, IsInside, rank};
-ghost use Rattle.linker_base.specs.Deltas.{deletion_of, AreListed};
+ghost use Rattle.linker_base.specs.Deltas.{deletion_of};
+ghost use Rattle.linker_base.specs.Listed.{AreListed};
 ghost use Rattle.linker_base.specs.Walk.{Walk, passed_bytes, walk_to, walk_through, AreAhead};
 
 use super::RelaxDelta;
@@ -24,7 +25,8 @@ pub struct RelaxCursor<'a> {
 impl<'a> Model for RelaxCursor<'a> {
     ghost use Rattle.std.specs.Prelude.{map};
     ghost use Rattle.linker_base.specs.Deltas.{deletion_of};
-    ghost use Rattle.linker_base.specs.Walk.{Walk, IsWalking};
+    ghost use Rattle.linker_base.specs.Walk.{Walk};
+    ghost use Rattle.linker_base.specs.Listed.{IsWalking};
 
     ghost Value = { Walk };
 

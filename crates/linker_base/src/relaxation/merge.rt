@@ -2,7 +2,8 @@
 
 ghost use Rattle.std.specs.Prelude.{◌≡◌, ◌≤◌, ◌+◌, ◌-◌, ◌^◌, ◌++◌, map, min, length, vec_len, vec_capacity};
 ghost use Rattle.linker_base.specs.Deletions.{AreDisjoint, IsSortedUnion};
-ghost use Rattle.linker_base.specs.Deltas.{deletion_of, AreListed, pairs_of};
+ghost use Rattle.linker_base.specs.Deltas.{deletion_of, pairs_of};
+ghost use Rattle.linker_base.specs.Listed.{AreListed};
 
 use super::RelaxDelta;
 

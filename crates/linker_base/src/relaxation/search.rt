@@ -3,7 +3,8 @@
 ghost use Rattle.std.specs.Prelude.{◌≡◌, ◌<◌, ◌≤◌, ◌↔◌, IsTrue, MatchOption, Any, map, length, take};
 ghost use Rattle.std.specs.List.Sorted.{IsPartitionPoint};
 ghost use Rattle.linker_base.specs.Deletions.{bytes_of, IsInside};
-ghost use Rattle.linker_base.specs.Deltas.{deletion_of, AreListed, ArePlaced, IsOnlyAt};
+ghost use Rattle.linker_base.specs.Deltas.{deletion_of};
+ghost use Rattle.linker_base.specs.Listed.{AreListed, ArePlaced, IsOnlyAt};
 
 use super::RelaxDelta;
 

@@ -1,6 +1,7 @@
 use Rattle.std.proofs.Common.{◌≡◌, map, sym, ap, ◌∙◌}
 use Rattle.std.proofs.lemmas.Bool.{false≢true}
-use Rattle.linker_base.specs.Deltas.{deletion_of, AreListed, pairs_of}
+use Rattle.linker_base.specs.Deltas.{deletion_of, pairs_of}
+use Rattle.linker_base.specs.Listed.{AreListed}
 use Rattle.linker_base.proofs.Merging.{disjoint_joined, disjoint_back, disjoint_across}
 use Rattle.linker_base.proofs.Unions.{disjoint_from_valid}
 use Rattle.linker_base.proofs.relaxation.SectionRelaxDeltas.are_mergeable.Goals as goal

@@ -1,7 +1,8 @@
 use Rattle.std.proofs.Common.{◌≡◌, map, ap, ◌∙◌, arith}
 use Rattle.std.proofs.lemmas.List.{length-map}
 use Rattle.linker_base.specs.Deletions.{IsInside}
-use Rattle.linker_base.specs.Deltas.{deletion_of, AreListed}
+use Rattle.linker_base.specs.Deltas.{deletion_of}
+use Rattle.linker_base.specs.Listed.{AreListed}
 use Rattle.linker_base.proofs.Search.{rank_from_search}
 use Rattle.linker_base.proofs.relaxation.SectionRelaxDeltas.input_to_output_offset.Goals as goal
 

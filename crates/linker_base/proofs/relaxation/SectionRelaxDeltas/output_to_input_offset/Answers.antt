@@ -1,7 +1,8 @@
 use Rattle.std.proofs.Common.{◌≡◌, map, ap, ◌∙◌, arith}
 use Rattle.std.proofs.lemmas.List.{length-map}
 use Rattle.linker_base.specs.Deletions.{HasInput}
-use Rattle.linker_base.specs.Deltas.{deletion_of, AreListed}
+use Rattle.linker_base.specs.Deltas.{deletion_of}
+use Rattle.linker_base.specs.Listed.{AreListed}
 use Rattle.linker_base.proofs.Search.{selected_from_search, fits_from_search}
 use Rattle.linker_base.proofs.relaxation.SectionRelaxDeltas.output_to_input_offset.Goals as goal
 

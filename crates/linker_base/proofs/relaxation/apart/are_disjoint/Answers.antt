@@ -1,6 +1,7 @@
-use Rattle.std.proofs.Common.{◌≡◌, ◌<◌, ◌≤◌, sym, ◌∙◌, inl, inr, arith}
+use Rattle.std.proofs.Common.{◌≡◌, ◌<◌, ◌≤◌, take, sym, ◌∙◌, inl, inr, arith}
 use Rattle.std.proofs.lemmas.Bool.{cases_lt, false≢true}
 use Rattle.std.proofs.lemmas.List.{get_or-take, get_or_default, length-take}
+use Rattle.linker_base.proofs.Unions.{disjoint_from_valid}
 use Rattle.linker_base.proofs.relaxation.apart.are_disjoint.Goals as goal
 use Rattle.linker_base.proofs.relaxation.apart.are_disjoint.Goals.{then-not-end_fits-via-then-not-end_fits, then-not-end_fits-via-else-not-end_fits+then-not-is_apart_from}
 
@@ -39,4 +40,17 @@ loop-at-preserved c =
             let here : k ≡ at = omega arith in
             rw (here, get_or_default pairs at d (0, 0) within) (c.end_fits.ensures.0 c.if-not-end_fits.false)
       ];
+    }
+
+-- what is valid is disjoint
+pub loop-at-init : goal.loop-at-init
+loop-at-init c =
+    let pairs = c.args.pairs.now in
+    let n = c.valid_len-at.result in
+    let first = disjoint_from_valid (take n pairs) c.valid_len-at.ensures.valid in
+    record {
+      apart = λ j k d lower below.
+          let before : j < n = omega arith in
+          rw (← get_or-take n pairs j d before, ← get_or-take n pairs k d below) (first.apart j k d lower (omega (arith, length-take n pairs, c.valid_len-at.ensures.within)));
+      ends = λ k d below. rw (← get_or-take n pairs k d below) (first.ends k d (omega (arith, length-take n pairs, c.valid_len-at.ensures.within)));
     }

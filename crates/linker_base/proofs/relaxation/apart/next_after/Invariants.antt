@@ -1,5 +1,5 @@
 use Rattle.std.proofs.Common.{take}
-use Rattle.linker_base.specs.Deltas.{IsRun}
+use Rattle.linker_base.specs.Listed.{IsRun}
 use Rattle.linker_base.proofs.relaxation.apart.next_after.Given as goal
 
 abbrev pub invariant-loop-pair : goal.invariant-loop-pair

@@ -1,6 +1,6 @@
 use Rattle.std.proofs.Common.{◌≡◌, ℕ, ◌-◌, ◌<◌, ◌≤◌, length, get_or}
 use Rattle.linker_base.specs.declared.relaxation.RelaxDelta.{RelaxDelta}
-use Rattle.linker_base.specs.Walk.{IsWalking}
+use Rattle.linker_base.specs.Listed.{IsWalking}
 use Rattle.linker_base.proofs.relaxation.cursor.RelaxCursor.pass.Given as goal
 
 abbrev pub invariant-loop-self : goal.invariant-loop-self

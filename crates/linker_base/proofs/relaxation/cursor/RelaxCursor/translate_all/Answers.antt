@@ -6,7 +6,7 @@ use Rattle.std.proofs.lemmas.List.Sums.{fold_more}
 use Rattle.std.proofs.lemmas.Grind.{same_number_lists}
 use Rattle.linker_base.specs.Deletions.{IsInside, rank}
 use Rattle.linker_base.specs.Deltas.{deletion_of}
-use Rattle.linker_base.specs.Laws.{begun_below}
+use Rattle.linker_base.specs.Deletions.{begun_below}
 use Rattle.linker_base.specs.Walk.{Walk, walk_to, walk_through}
 use Rattle.linker_base.proofs.Walking.{steps_to, begun_later}
 use Rattle.linker_base.proofs.relaxation.cursor.RelaxCursor.translate_all.Goals as goal

@@ -1,6 +1,0 @@
-use Rattle.std.proofs.Common.{take}
-use Rattle.linker_base.specs.Deltas.{pairs_of, IsRun}
-use Rattle.linker_base.proofs.relaxation.apart.are_ascending.Given as goal
-
-abbrev pub invariant-loop-batch : goal.invariant-loop-batch
-invariant-loop-batch l = IsRun 0 l.next (pairs_of (take l.batch-index l.batches))
