@@ -44,8 +44,8 @@ impl RelaxDeltaMap {
         }
     }
 
-    /// Adds a section above all that are there. The deltas come back where memory is wanting, and
-    /// the map is then as it was.
+    /// Adds a section above all that are there, which `last_index` tells. The deltas come back
+    /// where memory is wanting, and the map is then as it was.
     pub fn insert(
         &mut self,
         section_index: usize,
@@ -61,8 +61,10 @@ impl RelaxDeltaMap {
             .map_err(|refused| refused.value.1)
     }
 
-    /// Adds a section at its place, which may lie anywhere. It asks that the section isn't there
-    /// yet. The deltas come back where memory is wanting, and the map is then as it was.
+    /// Adds a section wherever its place is. It asks that the section isn't there yet, which `get`
+    /// tells. The deltas come back where memory is wanting, and the map is then as it was.
+    ///
+    /// The sections above it move up by one entry, so it takes O(n) where `insert` takes O(1).
     pub fn insert_sorted(
         &mut self,
         section_index: usize,
@@ -79,7 +81,7 @@ impl RelaxDeltaMap {
             .map_err(|refused| refused.value.1)
     }
 
-    /// The deltas of the section, if it is there.
+    /// The deltas of the section, if it is there. The search takes O(log n).
     pub fn get(&self, section_index: usize) -> Option<&SectionRelaxDeltas>
         ensures { option_copied result ≡ finite.get self.now section_index }
     {
@@ -89,7 +91,8 @@ impl RelaxDeltaMap {
         }
     }
 
-    /// The deltas of the section to change, if it is there. All other sections stay.
+    /// The deltas of the section to change, if it is there. All other sections stay. The search
+    /// takes O(log n).
     pub fn get_mut(&mut self, section_index: usize) -> Option<&mut SectionRelaxDeltas>
         ensures* lends { sem 𝓛 (LendsIf the_row deltas_row self.entry result (λ left. finite.insert self.old section_index left) self.old) }
         ensures value { option_map (λ deltas. deltas.now) result ≡ finite.get self.old section_index }
@@ -115,7 +118,8 @@ impl RelaxDeltaMap {
         self.entries.last().map(|entry| entry.0)
     }
 
-    /// A copy of the map and of the deltas of each section. It takes memory for both.
+    /// A copy of the map and of the deltas of each section. It takes memory once for the entries
+    /// and once for each section.
     pub fn clone(&self) -> Result<Self, OutOfMemory>
         ensures { IfOk result (λ sections. sections ≡ self.now) }
     {
@@ -174,5 +178,37 @@ mod tests {
             assert_eq!(rt; deltas.total_deleted(), want, "section {section_index}");
         }
         Ok(())
+    }
+
+    // An ordinary run refuses nothing. `rt try --test --fail-alloc N` refuses the Nth growth.
+    #[test]
+    fn a_refused_growth_hands_the_deltas_back(rt: HostRuntime) {
+        let pairs = [(8, 4)];
+        assert!(rt; SectionRelaxDeltas::is_valid(&pairs));
+        let mut sections = RelaxDeltaMap::new(rt.alloc());
+        for section_index in [9, 7, 5, 3, 1] {
+            let Ok(deltas) = SectionRelaxDeltas::new(rt.alloc(), &pairs) else {
+                return;
+            };
+            let was_empty = sections.is_empty();
+            assert!(rt; sections.get(section_index).is_none());
+            if let Err(back) = sections.insert_sorted(section_index, deltas) {
+                assert_eq!(rt; back.total_deleted(), 4);
+                assert!(rt; sections.get(section_index).is_none());
+                assert_eq!(rt; sections.is_empty(), was_empty);
+                return;
+            }
+        }
+        assert_eq!(rt; sections.last_index(), Some(9));
+        let Ok(deltas) = SectionRelaxDeltas::new(rt.alloc(), &pairs) else {
+            return;
+        };
+        if let Err(back) = sections.insert(11, deltas) {
+            assert_eq!(rt; back.total_deleted(), 4);
+            assert_eq!(rt; sections.last_index(), Some(9));
+        }
+        if let Ok(copy) = sections.clone() {
+            assert_eq!(rt; copy.last_index(), sections.last_index());
+        }
     }
 }
