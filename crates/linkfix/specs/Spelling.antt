@@ -2,7 +2,7 @@
 use Rattle.std.specs.Prelude.{◌≡◌, ℕ, ◌<◌, ◌^◌, List, [], ◌∷◌, codes}
 use Rattle.std.specs.Str.Parse.{IsNumeral, digits_value}
 use Rattle.linkfix.specs.declared.commands.Command.{Command}
-use Rattle.linkfix.specs.declared.commands.Command.TheVariants.{Call, Show}
+use Rattle.linkfix.specs.declared.commands.Command.TheVariants.{Call, Delete, Show, ToInput, ToOutput}
 
 -- the word writes n in one decimal digit or more, and n is below 2 ^ 63
 abbrev pub IsNumber : List ℕ → ℕ → Type 0
@@ -13,12 +13,19 @@ abbrev pub BeginsWithNumber : List (List ℕ) → Type 0
 BeginsWithNumber [] = ⊥
 BeginsWithNumber (word ∷ ws) = (n : ℕ) × IsNumber word n
 
+-- the word writes n, which is below 2 ^ 32
+abbrev pub IsCount : List ℕ → ℕ → Type 0
+IsCount word n = IsNumber word n × (n < 2 ^ 32)
+
+-- the first word is a number below 2 ^ 32
+abbrev pub BeginsWithCount : List (List ℕ) → Type 0
+BeginsWithCount [] = ⊥
+BeginsWithCount (word ∷ ws) = (n : ℕ) × IsCount word n
+
 -- the words write the command
 abbrev pub Spells : Command → List (List ℕ) → Type 0
+Spells (Delete offset bytes) ws = (a : List ℕ) × (b : List ℕ) × (ws ≡ codes "del" ∷ a ∷ b ∷ []) × IsNumber a offset × IsCount b bytes
+Spells (ToOutput i) ws = (a : List ℕ) × (ws ≡ codes "in" ∷ a ∷ []) × IsNumber a i
+Spells (ToInput y) ws = (a : List ℕ) × (ws ≡ codes "out" ∷ a ∷ []) × IsNumber a y
 Spells (Call site target) ws = (a : List ℕ) × (b : List ℕ) × (ws ≡ codes "call" ∷ a ∷ b ∷ []) × IsNumber a site × IsNumber b target
 Spells Show ws = ws ≡ codes "show" ∷ []
-
--- the numbers of the command are below 2 ^ 63
-abbrev pub HasSmallNumbers : Command → Type 0
-HasSmallNumbers (Call site target) = (site < 2 ^ 63) × (target < 2 ^ 63)
-HasSmallNumbers Show = Unit {0}

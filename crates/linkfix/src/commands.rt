@@ -5,7 +5,7 @@ ghost use Rattle.std.specs.List.{position_or_len, prefix_len};
 ghost use Rattle.std.specs.Option.{SomeIff};
 ghost use Rattle.std.specs.Str.Parse.{IsNumeral, digits_value};
 ghost use Rattle.linkfix.specs.Words.{is_space, words_of};
-ghost use Rattle.linkfix.specs.Spelling.{BeginsWithNumber, IsNumber, Spells};
+ghost use Rattle.linkfix.specs.Spelling.{BeginsWithCount, BeginsWithNumber, IsCount, IsNumber, Spells};
 ghost use Rattle.linkfix.specs.declared.commands.Command.{Command};
 
 /// The greatest number that a command takes.
@@ -14,6 +14,12 @@ const MAX_NUMBER: u64 = i64::MAX as u64;
 /// What a command line asks for.
 #[derive(Debug, Clone, Copy, PartialEq, Eq)]
 pub enum Command {
+    /// `del o b`: `bytes` bytes from `offset` on are deleted.
+    Delete { offset: u64, bytes: u32 },
+    /// `in i`: the output offset of an input offset.
+    ToOutput { input_offset: u64 },
+    /// `out y`: the input offset of an output offset.
+    ToInput { output_offset: u64 },
     /// `call site target`: the call at `site` becomes one jump to `target`.
     Call { site: u64, target: u64 },
     /// `show`: the bytes of the section.
@@ -37,6 +43,16 @@ pub fn parse_command(line: &[u8]) -> Result<Option<Command>, BadLine>
         return Ok(None);
     };
     let command = match name {
+        b"del" => Command::Delete {
+            offset: take_number(&mut words)?,
+            bytes: take_count(&mut words)?,
+        },
+        b"in" => Command::ToOutput {
+            input_offset: take_number(&mut words)?,
+        },
+        b"out" => Command::ToInput {
+            output_offset: take_number(&mut words)?,
+        },
         b"call" => Command::Call {
             site: take_number(&mut words)?,
             target: take_number(&mut words)?,
@@ -57,6 +73,15 @@ fn take_number(words: &mut Words<'_>) -> Result<u64, BadLine>
     ensures bad { OnErr result (¬ BeginsWithNumber (words_of words.old.rest.now)) }
 {
     words.next().and_then(parse_number).ok_or(BadLine)
+}
+
+/// Takes the next word, which has to be a number of 32 bits.
+fn take_count(words: &mut Words<'_>) -> Result<u32, BadLine>
+    ensures ok { IfOk result (λ n. (word : List ℕ)
+        × (words_of words.old.rest.now ≡ word ∷ words_of words.new.rest.now) × IsCount word n) }
+    ensures bad { OnErr result (¬ BeginsWithCount (words_of words.old.rest.now)) }
+{
+    u32::try_from(take_number(words)?).map_err(|_| BadLine)
 }
 
 /// The number that a word writes in decimal digits, up to 2^63 - 1. Leading zeros are accepted, a

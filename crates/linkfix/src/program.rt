@@ -1,13 +1,14 @@
 //! The run of the program over a reader and a writer.
 
-ghost use Rattle.std.specs.Prelude.{◌≡◌, ◌<◌, ◌^◌, ◌≤◌, pos, ◌-ℤ◌, OnOk, OnErr};
-ghost use Rattle.linker_utils.specs.RiscV.{JumpsAt};
-ghost use Rattle.linkfix.specs.Spelling.{HasSmallNumbers};
+ghost use Rattle.std.specs.Prelude.{◌≡◌, ◌≤◌, ◌↔◌, ◌⊎◌, ◌++◌, ◌∷◌, [], IfOk, IfErr, OnOk, OnErr};
+ghost use Rattle.linker_utils.specs.RiscV.{JumpsAt, output_distance};
+ghost use Rattle.linker_base.specs.Deletions.{AreDisjoint, IsSortedUnion, IsInside, IsSelected, HasInput, rank};
 
 use crate::commands::{BadLine, Command, parse_command};
 use crate::input::{InputFault, Lines};
 use crate::sections::{LineFault, read_section, show_section};
-use linker_utils::riscv64::{CallError, jal_site};
+use linker_utils::relaxation::{OutOfMemory, SectionRelaxDeltas};
+use linker_utils::riscv64::{CallError, relax_call};
 use std::alloc::{AllocError, Global};
 use std::io;
 use std::io::{Read, Write};
@@ -17,6 +18,9 @@ use std::io::{Read, Write};
 enum Refusal {
     BadSection,
     BadLine,
+    BadDeletion,
+    Inside,
+    TooLarge,
     Call(CallError),
     OutOfMemory,
 }
@@ -27,6 +31,9 @@ impl Refusal {
         match self {
             Refusal::BadSection => "bad section\n",
             Refusal::BadLine => "bad line\n",
+            Refusal::BadDeletion => "bad deletion\n",
+            Refusal::Inside => "inside\n",
+            Refusal::TooLarge => "too large\n",
             Refusal::Call(CallError::OutOfSection) => "OutOfSection\n",
             Refusal::Call(CallError::SiteDeleted) => "SiteDeleted\n",
             Refusal::Call(CallError::TargetInside) => "TargetInside\n",
@@ -75,6 +82,18 @@ impl From<CallError> for Stop {
     }
 }
 
+impl From<Refusal> for Stop {
+    fn from(refusal: Refusal) -> Stop {
+        Stop::Refused(refusal)
+    }
+}
+
+impl From<OutOfMemory> for Stop {
+    fn from(_e: OutOfMemory) -> Stop {
+        Stop::Refused(Refusal::OutOfMemory)
+    }
+}
+
 impl From<AllocError> for Stop {
     fn from(_e: AllocError) -> Stop {
         Stop::Refused(Refusal::OutOfMemory)
@@ -115,6 +134,7 @@ fn obey_lines<R: Read + Drop, W: Write>(
     let mut workbench = Workbench {
         alloc,
         section: read_section(alloc, &line)?,
+        deltas: SectionRelaxDeltas::new(alloc, &[])?,
     };
     while lines.next_line(&mut line)? {
         if let Some(command) = parse_command(&line)? {
@@ -124,19 +144,31 @@ fn obey_lines<R: Read + Drop, W: Write>(
     Ok(())
 }
 
-/// The section that the commands work on.
+/// The section that the commands work on, and its deletions. The bytes stay where they stood before
+/// the deletions.
 #[derive(Drop)]
 struct Workbench {
     alloc: Global,
     section: Vec<u8>,
+    deltas: SectionRelaxDeltas,
 }
 
 impl Workbench {
     /// Obeys a command and writes its answer line.
-    fn obey<W: Write>(&mut self, command: Command, output: &mut W) -> Result<(), Stop>
-        requires { HasSmallNumbers command }
-    {
+    fn obey<W: Write>(&mut self, command: Command, output: &mut W) -> Result<(), Stop> {
         match command {
+            Command::Delete { offset, bytes } => {
+                self.delete(offset, bytes)?;
+                output.write_all(b"ok\n")?;
+            }
+            Command::ToOutput { input_offset } => {
+                let number = self.output_offset(input_offset)?;
+                self.answer(number, output)?;
+            }
+            Command::ToInput { output_offset } => {
+                let number = self.input_offset(output_offset)?;
+                self.answer(number, output)?;
+            }
             Command::Call { site, target } => {
                 self.call(site, target)?;
                 output.write_all(b"ok\n")?;
@@ -150,23 +182,60 @@ impl Workbench {
         Ok(())
     }
 
-    /// Turns the call at `site` into one jump to `target`.
-    fn call(&mut self, site: u64, target: u64) -> Result<(), CallError>
-        requires site_is_small { site < 2 ^ 63 }
-        requires target_is_small { target < 2 ^ 63 }
-        ensures jumps { OnOk result
-            (JumpsAt self.old.section.items self.new.section.items site (pos target -ℤ pos site)) }
-        ensures unchanged { OnErr result (self.new.section.items ≡ self.old.section.items) }
-    {
-        jal_site(self.section.as_mut_slice(), site, distance(site, target))
+    fn answer<W: Write>(&self, number: u64, output: &mut W) -> Result<(), Stop> {
+        let text = format!(in self.alloc; "{number}\n")?;
+        output.write_all(text.as_bytes())?;
+        Ok(())
     }
-}
 
-/// How far `target` lies above `site`, negative where it lies below.
-fn distance(site: u64, target: u64) -> i64
-    requires site_is_small { site < 2 ^ 63 }
-    requires target_is_small { target < 2 ^ 63 }
-    ensures { result ≡ pos target -ℤ pos site }
-{
-    target as i64 - site as i64
+    /// Deletes bytes, where that touches no earlier deletion.
+    fn delete(&mut self, offset: u64, bytes: u32) -> Result<(), Refusal>
+        ensures deleted { OnOk result (IsSortedUnion (self.old.deltas ++ (offset, bytes) ∷ []) self.new.deltas) }
+        ensures bad_deletion { (result ≡ Err Refusal.BadDeletion) ↔ ¬ AreDisjoint (self.old.deltas ++ (offset, bytes) ∷ []) }
+        ensures refused { IfErr result (λ e. (e ≡ Refusal.BadDeletion) ⊎ (e ≡ Refusal.OutOfMemory)) }
+        ensures unchanged { OnErr result (self.new.deltas ≡ self.old.deltas) }
+    {
+        let pair = [(offset, bytes)];
+        if !self.deltas.is_mergeable(&pair) {
+            return Err(Refusal::BadDeletion);
+        }
+        self.deltas
+            .merge_additional(&pair)
+            .map_err(|_| Refusal::OutOfMemory)
+    }
+
+    /// The output offset of an input offset that isn't strictly inside a deletion.
+    fn output_offset(&self, input_offset: u64) -> Result<u64, Refusal>
+        ensures rank { IfOk result (λ y. y ≡ rank self.now.deltas input_offset) }
+        ensures inside { (result ≡ Err Refusal.Inside) ↔ IsInside self.now.deltas input_offset }
+        ensures refused { IfErr result (λ e. e ≡ Refusal.Inside) }
+    {
+        if self.deltas.is_inside(input_offset) {
+            return Err(Refusal::Inside);
+        }
+        Ok(self.deltas.input_to_output_offset(input_offset))
+    }
+
+    /// The input offset of the kept byte at an output offset, where it is at most 2^64 - 1.
+    fn input_offset(&self, output_offset: u64) -> Result<u64, Refusal>
+        ensures selected { IfOk result (λ p. IsSelected self.now.deltas output_offset p) }
+        ensures too_large { (result ≡ Err Refusal.TooLarge) ↔ ¬ HasInput self.now.deltas output_offset }
+        ensures refused { IfErr result (λ e. e ≡ Refusal.TooLarge) }
+    {
+        if !self.deltas.output_fits(output_offset) {
+            return Err(Refusal::TooLarge);
+        }
+        Ok(self.deltas.output_to_input_offset(output_offset))
+    }
+
+    /// Turns the call at `site` into one jump to `target`, which is right once the deleted bytes are
+    /// gone.
+    fn call(&mut self, site: u64, target: u64) -> Result<(), CallError>
+        ensures jumps { OnOk result
+            (JumpsAt self.old.section.items self.new.section.items site (output_distance self.old.deltas site target)) }
+        ensures unchanged { OnErr result (self.new.section.items ≡ self.old.section.items) }
+        ensures deltas_stay { self.new.deltas ≡ self.old.deltas }
+    {
+        relax_call(self.section.as_mut_slice(), &self.deltas, site, target)
+    }
 }
