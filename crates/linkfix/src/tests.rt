@@ -167,13 +167,112 @@ fn refused_calls_end_the_run(rt: HostRuntime) {
         },
         Row {
             input: b"97000000e780000013000000\ncall 0 1048576\n",
-            answers: "TooFar\n",
+            answers: "OutOfSection\n",
             status: 1,
         },
         Row {
             input: b"\ncall 0 0\n",
             answers: "OutOfSection\n",
             status: 1,
+        },
+    ];
+    compare(&rt, rt.alloc(), &rows);
+}
+
+#[test]
+fn calls_go_through_deletions(rt: HostRuntime) {
+    let rows = [
+        Row {
+            input: b"97000000e780000013000000\ndel 4 4\ncall 0 8\nshow\n",
+            answers: "ok\nok\nef004000e780000013000000\n",
+            status: 0,
+        },
+        Row {
+            input: b"97000000e780000013000000\ndel 4 4\ncall 0 12\nshow\n",
+            answers: "ok\nok\nef008000e780000013000000\n",
+            status: 0,
+        },
+        Row {
+            input: b"97000000e780000013000000\ndel 2 0\ncall 0 8\nshow\n",
+            answers: "ok\nok\nef008000e780000013000000\n",
+            status: 0,
+        },
+        Row {
+            input: b"97000000e780000013000000\ndel 0 4\ncall 0 8\n",
+            answers: "ok\nSiteDeleted\n",
+            status: 1,
+        },
+        Row {
+            input: b"97000000e780000013000000\ndel 4 4\ncall 3 8\n",
+            answers: "ok\nSiteDeleted\n",
+            status: 1,
+        },
+        Row {
+            input: b"97000000e780000013000000\ndel 4 4\ncall 0 6\n",
+            answers: "ok\nTargetInside\n",
+            status: 1,
+        },
+        Row {
+            input: b"97000000e780000013000000\ndel 4 1\ncall 0 8\n",
+            answers: "ok\nOddDistance\n",
+            status: 1,
+        },
+        Row {
+            input: b"97000000e780000013000000\ndel 10 4\ncall 0 12\n",
+            answers: "ok\nTargetInside\n",
+            status: 1,
+        },
+        Row {
+            input: b"97000000e780000013000000\ncall 0 13\n",
+            answers: "OutOfSection\n",
+            status: 1,
+        },
+    ];
+    compare(&rt, rt.alloc(), &rows);
+}
+
+#[test]
+fn offsets_are_translated_both_ways(rt: HostRuntime) {
+    let rows = [
+        Row {
+            input: b"\ndel 4 4\nin 0\nin 4\nin 8\nout 3\nout 4\n",
+            answers: "ok\n0\n4\n4\n3\n8\n",
+            status: 0,
+        },
+        Row {
+            input: b"\ndel 8 4\ndel 16 4\ndel 0 2\nin 20\nout 0\n",
+            answers: "ok\nok\nok\n10\n2\n",
+            status: 0,
+        },
+        Row {
+            input: b"97000000e780000013000000\ndel 4 4\nin 6\n",
+            answers: "ok\ninside\n",
+            status: 1,
+        },
+        Row {
+            input: b"\ndel 4 4\ndel 6 1\n",
+            answers: "ok\nbad deletion\n",
+            status: 1,
+        },
+        Row {
+            input: b"\ndel 4 4\ndel 4 0\n",
+            answers: "ok\nbad deletion\n",
+            status: 1,
+        },
+        Row {
+            input: b"\ndel 0 4294967296\n",
+            answers: "bad line\n",
+            status: 1,
+        },
+        Row {
+            input: b"\ndel 9223372036854775807 4294967295\nin 9223372036854775807\n",
+            answers: "ok\n9223372036854775807\n",
+            status: 0,
+        },
+        Row {
+            input: b"\ndel 9223372036854775807 4294967295\nout 9223372036854775807\n",
+            answers: "ok\n9223372041149743102\n",
+            status: 0,
         },
     ];
     compare(&rt, rt.alloc(), &rows);
@@ -318,7 +417,7 @@ fn numbers_are_decimal_and_below_two_to_the_63(rt: HostRuntime) {
         },
         Row {
             input: b"97000000\ncall 0 9223372036854775807\n",
-            answers: "OddDistance\n",
+            answers: "OutOfSection\n",
             status: 1,
         },
         Row {
@@ -455,21 +554,21 @@ fn a_failed_write_is_the_last_one(rt: HostRuntime) {
     }
 }
 
-/// With every growth granted this is the first row of the calls. With one of them refused, as by
+/// With every growth granted this is the first row of the calls through deletions. With one of them refused, as by
 /// `rt try --test --fail-alloc N`, the run says so behind the answers so far.
 #[test]
 fn a_refused_growth_is_told(rt: HostRuntime) {
     let mut page = Page::new(9);
     let status = run(
         rt.alloc(),
-        b"97000000e780000013000000\ncall 0 8\nshow\n".as_slice(),
+        b"97000000e780000013000000\ndel 4 4\ncall 0 8\nshow\n".as_slice(),
         &mut page,
     );
     let answers = page.written();
     if status == 0 {
-        assert_eq!(rt; answers, "ok\nef008000e780000013000000\n");
+        assert_eq!(rt; answers, "ok\nok\nef004000e780000013000000\n");
     } else {
         assert_eq!(rt; status, 1);
-        assert!(rt; answers == "out of memory\n" || answers == "ok\nout of memory\n");
+        assert!(rt; answers == "out of memory\n" || answers == "ok\nok\nout of memory\n");
     }
 }
