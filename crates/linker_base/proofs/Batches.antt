@@ -2,12 +2,11 @@
 use Rattle.std.proofs.Common.{◌≡◌, ℕ, ◌+◌, ◌-◌, ◌<◌, ◌≤◌, List, [], ◌∷◌, ◌++◌, length, get_or, take, drop, refl, sym, ap, ◌∙◌, inl, inr, arith}
 use Rattle.std.specs.Prelude.{max, All, AllPairs}
 use Rattle.std.specs.Global.{Vec}
-use Rattle.std.specs.List.{flat_map}
 use Rattle.std.proofs.lemmas.Bool.{cases_lt}
 use Rattle.std.proofs.lemmas.List.{take_more, length_push, get_or_push, get_or-take, get_or_default, length-take, append-nil, take-append-drop, take_all, length-append, get_or_append_left, get_or-append_right, get_or-append-add}
 use Rattle.std.proofs.lemmas.List.Concat.{flat_map-append}
 use Rattle.std.proofs.lemmas.List.Elements.{All-append, All-push}
-use Rattle.linker_base.specs.Deletions.{IsBefore, IsApart, EndFits, AreDisjoint, IsValid}
+use Rattle.linker_base.specs.Deletions.{IsBefore, EndFits, AreDisjoint, IsValid}
 use Rattle.linker_base.specs.Deltas.{pairs_of}
 use Rattle.linker_base.specs.Listed.{IsRun}
 use Rattle.linker_base.proofs.Listed.{IsValid-push}

@@ -1,5 +1,5 @@
 -- What a search in the deltas of a section finds.
-use Rattle.std.proofs.Common.{◌≡◌, ℕ, zero, suc, ◌+◌, ◌-◌, ◌<◌, ◌≤◌, Bool, true, false, List, length, map, get_or, take, leb, ltb, refl, sym, ap, ◌∙◌, subst, inl, inr, arith}
+use Rattle.std.proofs.Common.{◌≡◌, ℕ, ◌+◌, ◌-◌, ◌<◌, ◌≤◌, Bool, true, false, List, length, map, get_or, take, leb, ltb, refl, ap, ◌∙◌, inl, inr, arith}
 use Rattle.std.specs.Prelude.{◌^◌, ◌↔◌, All, Any}
 use Rattle.std.specs.List.Sorted.{IsNonDecreasingBy, IsPartitionedBy, IsPartitionPoint}
 use Rattle.std.proofs.lemmas.Bool.{cases_order}
@@ -7,8 +7,8 @@ use Rattle.std.proofs.lemmas.Bool.Decides.{nat_tests}
 use Rattle.std.proofs.lemmas.List.{get_or-map, get_or_default, length-map}
 use Rattle.std.proofs.lemmas.List.Sums.{sum_by_more}
 use Rattle.linker_base.specs.declared.relaxation.RelaxDelta.{RelaxDelta}
-use Rattle.linker_base.specs.Deletions.{IsBefore, IsValid, IsInside, IsSelected, HasInput, bytes_of, rank}
-use Rattle.linker_base.specs.Deltas.{deletion_of, IsListing}
+use Rattle.linker_base.specs.Deletions.{IsValid, IsInside, IsSelected, HasInput, bytes_of, rank}
+use Rattle.linker_base.specs.Deltas.{deletion_of}
 use Rattle.linker_base.specs.Listed.{AreListed, ArePlaced, IsOnlyAt}
 use Rattle.linker_base.proofs.Places.{rank-parted, selected-place, bytes_between}
 use Rattle.linker_base.proofs.Rank.{input_fits}

@@ -30,7 +30,7 @@ pub(super) fn count_below(deltas: &[RelaxDelta], offset: u64) -> usize
 }
 
 // How many deltas have an output place, their offset less the bytes deleted before, of at most
-// `offset`. The sums of any two fields fit 65 bits, so no search through 128 bits overflows.
+// `offset`. Either side of the comparison may take more than 64 bits.
 pub(super) fn count_placed(deltas: &[RelaxDelta], offset: u64) -> usize
     requires { AreListed deltas.now }
     ensures within { result ≤ length deltas.now }

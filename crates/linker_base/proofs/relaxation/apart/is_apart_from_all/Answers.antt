@@ -1,4 +1,4 @@
-use Rattle.std.proofs.Common.{take, refl, sym, ◌∙◌}
+use Rattle.std.proofs.Common.{refl, sym, ◌∙◌}
 use Rattle.std.proofs.lemmas.Bool.{false≢true}
 use Rattle.linker_base.specs.Deletions.{IsApart}
 use Rattle.linker_base.proofs.Batches.{pairs_all, All-batch}

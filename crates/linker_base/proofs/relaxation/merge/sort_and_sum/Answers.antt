@@ -1,7 +1,7 @@
-use Rattle.std.proofs.Common.{◌≡◌, ◌+◌, ◌<◌, length, map, take, refl, sym, ap, ◌∙◌, arith, rules}
+use Rattle.std.proofs.Common.{◌≡◌, ◌+◌, ◌<◌, length, map, take, refl, ◌∙◌, arith, rules}
 use Rattle.std.proofs.lemmas.List.{length-map}
 use Rattle.std.proofs.lemmas.List.Sorted.{IsNonDecreasingBy-from_sort_by_key}
-use Rattle.linker_base.specs.Deletions.{IsValid, IsSortedUnion, bytes_of}
+use Rattle.linker_base.specs.Deletions.{IsValid, bytes_of}
 use Rattle.linker_base.specs.Deltas.{deletion_of}
 use Rattle.linker_base.proofs.Listed.{taken_up_to}
 use Rattle.linker_base.proofs.Search.{blank, deletion_at}

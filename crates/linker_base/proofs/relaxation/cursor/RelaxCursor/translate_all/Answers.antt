@@ -1,13 +1,13 @@
-use Rattle.std.proofs.Common.{◌≡◌, ◌≢◌, ℕ, ◌+◌, ◌-◌, ◌<◌, ◌≤◌, length, map, max, get_or, set, take, sym, ap, ◌∙◌, inl, inr, arith}
+use Rattle.std.proofs.Common.{◌≡◌, ◌≢◌, ◌+◌, ◌-◌, ◌<◌, length, map, max, get_or, take, sym, ap, ◌∙◌, inl, inr, arith}
 use Rattle.std.specs.Prelude.{All}
 use Rattle.std.proofs.lemmas.Bool.{cases_lt}
-use Rattle.std.proofs.lemmas.List.{length-map, get_or-map, get_or-set_same, get_or-set_other, take_all}
+use Rattle.std.proofs.lemmas.List.{length-map, get_or-map, get_or-set_same, get_or-set_other}
 use Rattle.std.proofs.lemmas.List.Sums.{fold_more}
 use Rattle.std.proofs.lemmas.Grind.{same_number_lists}
 use Rattle.linker_base.specs.Deletions.{IsInside, rank}
 use Rattle.linker_base.specs.Deltas.{deletion_of}
 use Rattle.linker_base.specs.Deletions.{begun_below}
-use Rattle.linker_base.specs.Walk.{Walk, walk_to, walk_through}
+use Rattle.linker_base.specs.Walk.{Walk, walk_to}
 use Rattle.linker_base.proofs.Walking.{steps_to, begun_later}
 use Rattle.linker_base.proofs.relaxation.cursor.RelaxCursor.translate_all.Goals as goal
 
