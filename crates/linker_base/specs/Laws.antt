@@ -50,6 +50,6 @@ answers walk (i ∷ queries) = (i - passed_bytes (walk_to walk i)) ∷ answers (
 abbrev pub CursorGivesRanks : Type 0
 CursorGivesRanks = (walk : Walk) (queries : List ℕ) → IsValid walk.deletions → AreAhead walk queries → MayAsk walk queries × (answers walk queries ≡ map (rank walk.deletions) queries)
 
--- where `more` has all of `deletions`, two offsets are no farther apart after it
+-- where `more` has all of `deletions`, two offsets are no farther apart after it; a rank never decreases, so no difference is cut off at 0
 abbrev pub MergesShortenDistances : Type 0
 MergesShortenDistances = (deletions more : List (ℕ × ℕ)) (a b : ℕ) → All (Contains more) deletions → a ≤ b → rank more b - rank more a ≤ rank deletions b - rank deletions a

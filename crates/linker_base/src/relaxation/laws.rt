@@ -31,7 +31,7 @@ pub fn cursor_gives_ranks()
     ensures { CursorGivesRanks }
 {}
 
-/// More deletions never move two offsets apart: a branch that reaches its target still does after
+/// More deletions never move two offsets apart: a branch within range of its target stays so under
 /// every merge.
 pub fn merges_shorten_distances()
     ensures { MergesShortenDistances }
