@@ -3,5 +3,6 @@ pub mod Fields
 pub mod Immediates
 pub mod Places
 pub mod Rewrites
+pub mod Rounded
 pub mod TextLemmas
 pub mod UlebLemmas

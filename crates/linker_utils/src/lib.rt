@@ -6,6 +6,4 @@ pub mod elf;
 mod rewrite;
 pub mod riscv64;
 
-pub use linker_base::bit_misc;
-pub use linker_base::relaxation;
-pub use linker_base::utils;
+pub use linker_base::{bit_misc, relaxation, utils};

@@ -2,12 +2,12 @@
 
 ghost use Rattle.std.specs.Prelude.{◌≡◌, ◌≤◌, ◌<◌, ◌+◌, ◌↔◌, IsTrue, IsOk, OnOk, OnErr, length, drop};
 ghost use Rattle.std.specs.Int.{byte_len, cast_unsigned, w64};
-ghost use Rattle.linker_base.specs.Form.{window_of, Written, MachineReads, IsReadBack};
+ghost use Rattle.linker_base.specs.Form.{window_of, IsLaid, Written, MachineReads, IsReadBack};
 ghost use Rattle.linker_base.specs.Rewrite.{CanRewrite, rewritten, offset_after, addend_after};
-ghost use Rattle.linker_utils.specs.RiscV.{riscv_form, riscv_rewrite, riscv_modifier, IsEven, IsJalDistance, JumpsAt};
+ghost use Rattle.linker_utils.specs.RiscV.{riscv_form, riscv_places, PairReads, riscv_rewrite, riscv_modifier, IsEven, IsJalDistance, JumpsAt};
 
-use crate::elf::{InstructionForm, RiscVInstruction};
 use crate::elf::engine::{self, Run, Window, run};
+use crate::elf::{InstructionForm, RiscVInstruction};
 use crate::relaxation::RelocationModifier;
 use crate::rewrite::{has_window, overwrite};
 use crate::utils::u32_from_slice;
@@ -137,11 +137,77 @@ pub fn jal_site(section: &mut [u8], site: u64, distance: i64) -> Result<(), Call
     Ok(())
 }
 
-const J_TYPE: [Run; 4] = [run!(12, 12, 8), run!(11, 20, 1), run!(1, 21, 10), run!(20, 31, 1)];
+const U_TYPE: [Run; 1] = [run!(added 0x800: 12, 12, 20)];
+
+const I_TYPE: [Run; 1] = [run!(0, 20, 12)];
+
+const S_TYPE: [Run; 2] = [run!(0, 7, 5), run!(5, 25, 7)];
+
+const B_TYPE: [Run; 4] = [
+    run!(11, 7, 1),
+    run!(1, 8, 4),
+    run!(5, 25, 6),
+    run!(12, 31, 1),
+];
+
+const J_TYPE: [Run; 4] = [
+    run!(12, 12, 8),
+    run!(11, 20, 1),
+    run!(1, 21, 10),
+    run!(20, 31, 1),
+];
+
+const CB_TYPE: [Run; 5] = [
+    run!(5, 2, 1),
+    run!(1, 3, 2),
+    run!(6, 5, 2),
+    run!(3, 10, 2),
+    run!(8, 12, 1),
+];
+
+const CJ_TYPE: [Run; 8] = [
+    run!(5, 2, 1),
+    run!(1, 3, 3),
+    run!(7, 6, 1),
+    run!(6, 7, 1),
+    run!(10, 8, 1),
+    run!(8, 9, 2),
+    run!(4, 11, 1),
+    run!(11, 12, 1),
+];
+
+const CLUI_TYPE: [Run; 2] = [run!(added 0x800: 12, 2, 5), run!(added 0x800: 17, 12, 1)];
+
+const UI_TYPE: [Run; 2] = [run!(added 0x800: 12, 12, 20), run!(0, 52, 12)];
+
+const UI_LOW: [Run; 1] = [run!(0, 52, 12)];
 
 impl RiscVInstruction {
+    #[inline(always)]
+    fn place(self, value: u64, dest: &mut [u8])
+        requires { byte_len (riscv_form self).window ≤ length dest.old }
+        ensures laid { IsLaid (riscv_places self) value (window_of (riscv_form self) dest.old) (window_of (riscv_form self) dest.new) }
+        ensures rest { drop (byte_len (riscv_form self).window) dest.new ≡ drop (byte_len (riscv_form self).window) dest.old }
+        ensures same { window_of (riscv_form self) dest.new ≡ window_of (riscv_form self) dest.old → dest.new ≡ dest.old }
+    {
+        match self {
+            RiscVInstruction::UType => engine::write(Window::Four, &U_TYPE, value, dest),
+            RiscVInstruction::IType => engine::write(Window::Four, &I_TYPE, value, dest),
+            RiscVInstruction::SType => engine::write(Window::Four, &S_TYPE, value, dest),
+            RiscVInstruction::BType => engine::write(Window::Four, &B_TYPE, value, dest),
+            RiscVInstruction::JType => engine::write(Window::Four, &J_TYPE, value, dest),
+            RiscVInstruction::CbType => engine::write(Window::Two, &CB_TYPE, value, dest),
+            RiscVInstruction::CjType => engine::write(Window::Two, &CJ_TYPE, value, dest),
+            RiscVInstruction::CluiType => engine::write(Window::Two, &CLUI_TYPE, value, dest),
+            RiscVInstruction::UiType => engine::write(Window::Eight, &UI_TYPE, value, dest),
+        }
+    }
+
     /// Writes a value into the instruction that `dest` begins with, and changes no other bit.
-    /// `negative` plays no part.
+    /// `negative` plays no part. `UType` and then `IType` or `SType` of one value make a pair, and
+    /// `UiType` holds one: what the two instructions add up to is the value modulo 2^32, and the
+    /// value itself where it is from -2^31-0x800 up, below 2^31-0x800 (RISC-V ELF psABI, "Absolute
+    /// Addresses" and "PC-Relative Symbol Addresses").
     #[inline]
     pub fn write_to_value(self, extracted_value: u64, negative: bool, dest: &mut [u8])
         requires { byte_len (riscv_form self).window ≤ length dest.old }
@@ -149,14 +215,16 @@ impl RiscVInstruction {
         ensures rest { drop (byte_len (riscv_form self).window) dest.new ≡ drop (byte_len (riscv_form self).window) dest.old }
         ensures machine { MachineReads (riscv_form self) extracted_value negative (window_of (riscv_form self) dest.old) (window_of (riscv_form self) dest.new) }
         ensures restored { IsReadBack (riscv_form self) extracted_value negative (window_of (riscv_form self) dest.old) → dest.new ≡ dest.old }
+        ensures pair { PairReads self extracted_value (window_of (riscv_form self) dest.new) }
     {
-        match self {
-            RiscVInstruction::JType => engine::write(Window::Four, &J_TYPE, extracted_value, dest),
-        }
+        let _ = negative;
+        self.place(extracted_value, dest);
     }
 
     /// The value in the instruction that `bytes` begins with, sign-extended to 64 bits, and whether
-    /// it is below 0.
+    /// it is below 0. Of `UType` and `CluiType` it is the least value that gives those bits, and of
+    /// `CluiType` the flag says whether the immediate itself is below 0; of `UType` and `UiType` the
+    /// flag is false.
     #[inline]
     pub fn read_value(self, bytes: &[u8]) -> (u64, bool)
         requires { byte_len (riscv_form self).window ≤ length bytes.now }
@@ -164,7 +232,25 @@ impl RiscVInstruction {
         ensures flag { result.1 ≡ (riscv_form self).flag (window_of (riscv_form self) bytes.now) }
     {
         match self {
+            RiscVInstruction::UType => {
+                let (high, _) = engine::read_signed(Window::Four, &U_TYPE, 32, bytes);
+                (high.wrapping_sub(0x800), false)
+            }
+            RiscVInstruction::IType => engine::read_signed(Window::Four, &I_TYPE, 12, bytes),
+            RiscVInstruction::SType => engine::read_signed(Window::Four, &S_TYPE, 12, bytes),
+            RiscVInstruction::BType => engine::read_signed(Window::Four, &B_TYPE, 13, bytes),
             RiscVInstruction::JType => engine::read_signed(Window::Four, &J_TYPE, 21, bytes),
+            RiscVInstruction::CbType => engine::read_signed(Window::Two, &CB_TYPE, 9, bytes),
+            RiscVInstruction::CjType => engine::read_signed(Window::Two, &CJ_TYPE, 12, bytes),
+            RiscVInstruction::CluiType => {
+                let (high, negative) = engine::read_signed(Window::Two, &CLUI_TYPE, 18, bytes);
+                (high.wrapping_sub(0x800), negative)
+            }
+            RiscVInstruction::UiType => {
+                let (high, _) = engine::read_signed(Window::Eight, &U_TYPE, 32, bytes);
+                let (low, _) = engine::read_signed(Window::Eight, &UI_LOW, 12, bytes);
+                (high.wrapping_add(low), false)
+            }
         }
     }
 }
@@ -175,7 +261,13 @@ impl InstructionForm for RiscVInstruction {
     #[inline]
     fn window(self) -> usize {
         match self {
-            RiscVInstruction::JType => 4,
+            RiscVInstruction::UType
+            | RiscVInstruction::IType
+            | RiscVInstruction::SType
+            | RiscVInstruction::BType
+            | RiscVInstruction::JType => 4,
+            RiscVInstruction::CbType | RiscVInstruction::CjType | RiscVInstruction::CluiType => 2,
+            RiscVInstruction::UiType => 8,
         }
     }
 
