@@ -1,4 +1,5 @@
 pub mod Bounds
 pub mod Jumps
 pub mod RiscV
+pub mod RiscVRewrites
 pub mod Runs

@@ -216,6 +216,10 @@ pub u_laid : (v before high : ℕ) → IsLaid (riscv_places UType) v before high
 u_laid v before high laid =
     place_sum_placed 12 32 0x800 (riscv_places UType) v before high (omega arith) u_sound.filled u_sound.added laid.placed (always_clear (riscv_places UType) before refl)
 
+pub clui_laid : (v before after : ℕ) → IsLaid (riscv_places CluiType) v before after → place_sum (riscv_places CluiType) after ≡ (v + 0x800) % 2 ^ 64 / 4096 % 64 * 4096
+clui_laid v before after laid =
+    place_sum_placed 12 18 0x800 (riscv_places CluiType) v before after (omega arith) clui_sound.filled clui_sound.added laid.placed (always_clear (riscv_places CluiType) before refl)
+
 completed : (v before high l : ℕ) → v < 2 ^ 64 → IsLaid (riscv_places UType) v before high → l ≡ (v - v % 1) % 4096
     → IsPairOf v (signed 32 (place_sum (riscv_places UType) high) +ℤ signed 12 l)
 completed v before high l wide laid low =

@@ -1,7 +1,7 @@
 -- RISC-V: its instruction forms (RISC-V unprivileged ISA, "Immediate Encoding Variants"), its rewrites and its jumps (RISC-V
 -- ELF psABI, "Function Call Relaxation").
-use Rattle.std.specs.Prelude.{◌≡◌, ℕ, ◌+◌, ◌*◌, Bool, true, false, List, ◌++◌, take, drop, Option, None, Some, ℤ, pos, negsuc, ◌≤ℤ◌, ◌<ℤ◌, ◌+ℤ◌, ⊤}
-use Rattle.std.specs.Int.{w16, w32, w64, from_le_bytes, to_le_bytes, int_rem_euclid}
+use Rattle.std.specs.Prelude.{◌≡◌, ◌≢◌, ℕ, ◌+◌, ◌-◌, ◌*◌, ◌%◌, ◌^◌, ◌≤◌, Bool, true, false, List, [], ◌∷◌, ◌++◌, length, take, drop, Option, None, Some, ℤ, pos, negsuc, ◌≤ℤ◌, ◌<ℤ◌, ◌+ℤ◌, ⊤}
+use Rattle.std.specs.Int.{w16, w32, w64, from_le_bytes, to_le_bytes, int_rem_euclid, int_div_euclid, cast_signed}
 use Rattle.linker_base.specs.Bits.{field, signed}
 use Rattle.linker_base.specs.Form.{Form, Place, bits_to, sum_bits_to, place_sum, signed_immediate, modulo, Written, IsSameModulo}
 use Rattle.linker_base.specs.Rounded.{rounded_immediate}
@@ -11,7 +11,7 @@ use Rattle.linker_base.specs.declared.relaxation.RelocationModifier.TheVariants.
 use Rattle.linker_utils.specs.declared.elf.RiscVInstruction.{RiscVInstruction}
 use Rattle.linker_utils.specs.declared.elf.RiscVInstruction.TheVariants.{UType, IType, SType, BType, JType, CbType, CjType, CluiType, UiType}
 use Rattle.linker_utils.specs.declared.riscv64.RelaxationKind.{RelaxationKind}
-use Rattle.linker_utils.specs.declared.riscv64.RelaxationKind.TheVariants.{NoOp, CallToJal}
+use Rattle.linker_utils.specs.declared.riscv64.RelaxationKind.TheVariants.{NoOp, ReplaceWithNop, CallToJal, Hi20ToCLui, Hi20Delete, Lo12Rs1ToZero}
 
 -- the places of a form's bits
 abbrev pub riscv_places : RiscVInstruction → List Place
@@ -86,13 +86,65 @@ PairReads UiType v after = IsPairOf v ((riscv_form UiType).machine after)
 abbrev pub call_to_jal : List ℕ → List ℕ
 call_to_jal window = to_le_bytes w32 (0x6f + field (from_le_bytes w32 window) 7 12 * 128)
 
+-- two `c.nop`
+abbrev pub two_nops : List ℕ → List ℕ
+two_nops window = 0x01 ∷ 0x00 ∷ 0x01 ∷ 0x00 ∷ []
+
+-- `c.lui` of immediate 0, with the destination register of the half before: bits 7 to 11
+abbrev pub hi20_to_clui : List ℕ → List ℕ
+hi20_to_clui window = to_le_bytes w16 (0x6001 + field (from_le_bytes w16 window) 7 12 * 128)
+
+-- the word with bits 15 to 19 cleared
+abbrev pub rs1_to_zero : List ℕ → List ℕ
+rs1_to_zero window = let word = from_le_bytes w32 window in to_le_bytes w32 (word - field word 15 20 * 2 ^ 15)
+
 abbrev pub riscv_rewrite : RelaxationKind → Option Rewrite
 riscv_rewrite NoOp = None
+riscv_rewrite ReplaceWithNop = Some (replaces 0 4 two_nops)
 riscv_rewrite CallToJal = Some (replaces 0 4 call_to_jal)
+riscv_rewrite Hi20ToCLui = Some (replaces 0 2 hi20_to_clui)
+riscv_rewrite Hi20Delete = None
+riscv_rewrite Lo12Rs1ToZero = Some (replaces 0 4 rs1_to_zero)
 
 abbrev pub riscv_modifier : RelaxationKind → RelocationModifier
 riscv_modifier NoOp = Normal
+riscv_modifier ReplaceWithNop = Normal
 riscv_modifier CallToJal = SkipNextRelocation
+riscv_modifier Hi20ToCLui = Normal
+riscv_modifier Hi20Delete = SkipNextRelocation
+riscv_modifier Lo12Rs1ToZero = Normal
+
+-- bits 12 to 31 of the value plus 0x800
+abbrev pub high_20 : ℕ → ℕ
+high_20 v = field ((v + 0x800) % 2 ^ 64) 12 32
+
+-- the low 12 bits, in two's complement
+abbrev pub low_12 : ℕ → ℤ
+low_12 v = signed 12 (v % 2 ^ 12)
+
+-- from -2 ^ 31 up, below 2 ^ 31
+abbrev pub IsSigned32 : ℤ → Type 0
+IsSigned32 z = (negsuc 2147483647 ≤ℤ z) × (z <ℤ pos 2147483648)
+
+-- the value plus 0x800, in two's complement, divided by 4096 and rounded down
+abbrev pub rounded_high : ℕ → ℤ
+rounded_high v = int_div_euclid (cast_signed w64 ((v + 0x800) % 2 ^ 64)) (pos 4096)
+
+-- from -32 to 31 and not 0
+abbrev pub FitsClui : ℕ → Type 0
+FitsClui v = (negsuc 31 ≤ℤ rounded_high v) × (rounded_high v ≤ℤ pos 31) × (rounded_high v ≢ pos 0)
+
+-- the form's immediate, once written, and the signed low 12 bits make the value, in two's complement
+abbrev pub HoldsHigh : RiscVInstruction → ℕ → Type 0
+HoldsHigh form v = (neg : Bool) (before after : ℕ) → Written (riscv_form form) v neg before after → (riscv_form form).machine after +ℤ low_12 v ≡ signed 64 v
+
+-- `auipc rd` and `jalr rd, _(rd)`
+pub record IsCallPair (auipc jalr : ℕ) : Type 0 where
+  pub auipc_opcode : field auipc 0 7 ≡ 0x17
+  pub jalr_opcode : field jalr 0 7 ≡ 0x67
+  pub jalr_function : field jalr 12 15 ≡ 0
+  pub links : field jalr 7 12 ≡ field auipc 7 12
+  pub source : field jalr 15 20 ≡ field auipc 7 12
 
 abbrev pub IsEven : ℤ → Type 0
 IsEven d = int_rem_euclid d (pos 2) ≡ pos 0
@@ -104,6 +156,10 @@ IsJalDistance d = (negsuc 1048575 ≤ℤ d) × (d ≤ℤ pos 1048575)
 -- the word of four bytes at a site
 abbrev pub word_at : List ℕ → ℕ → ℕ
 word_at section site = from_le_bytes w32 (drop site section)
+
+-- eight bytes are there, and are such a pair
+abbrev pub IsPlainCall : List ℕ → ℕ → Type 0
+IsPlainCall section site = (site + 8 ≤ length section) × IsCallPair (word_at section site) (word_at section (site + 4))
 
 -- At the site stands `jal` by the distance with the old destination register, and no other byte has changed.
 pub record JumpsAt (before after : List ℕ) (site : ℕ) (distance : ℤ) : Type 0 where
