@@ -236,8 +236,8 @@ pub enum CallError {
 
 /// Turns the `auipc` at a site of a section into a `jal` by a distance in bytes, with the `auipc`'s
 /// destination register. It is `CallToJal` and then the J-immediate; `is_plain_call` tells whether
-/// the call links that register. After a refusal the section is
-/// as it was; the first cause in the order `OutOfSection`, `OddDistance`, `TooFar` is told.
+/// the call links that register. After a refusal the section is as it was; the first cause in the
+/// order `OutOfSection`, `OddDistance`, `TooFar` is told.
 pub fn jal_site(section: &mut [u8], site: u64, distance: i64) -> Result<(), CallError>
     ensures jumps { OnOk result (JumpsAt section.old section.new site distance) }
     ensures accepted { IsOk result ↔ ((site + 4 ≤ length section.old) × IsEven distance × IsJalDistance distance) }
