@@ -30,19 +30,19 @@ bit_at_shl a k i h = ap (λ y. bit_at y i) (omega arith) ∙ bit_at_cat_high a k
 pub bit_at_window : (x low high i : ℕ) → bit_at (x / 2 ^ low % 2 ^ (high - low) * 2 ^ low) i ≡ cond (leb low i && ltb i high) (bit_at x i) 0
 bit_at_window x low high i =
     elim (cases_lt i low) [
-      inl below ↦ rw (lt-leb low i below) (bit_at_shl_below (x / 2 ^ low % 2 ^ (high - low)) low i below)
-    | inr from ↦ rw (le-leb low i from) (bit_at_shl (x / 2 ^ low % 2 ^ (high - low)) low i from ∙ elim (cases_lt i high) [
-          inl inside ↦ rw (lt-ltb i high inside) (bit_at_run x low (high - low) (i - low) (omega arith) ∙ ap (bit_at x) (omega arith))
+      | inl below ↦ rw (lt-leb low i below) (bit_at_shl_below (x / 2 ^ low % 2 ^ (high - low)) low i below)
+      | inr from ↦ rw (le-leb low i from) (bit_at_shl (x / 2 ^ low % 2 ^ (high - low)) low i from ∙ elim (cases_lt i high) [
+        | inl inside ↦ rw (lt-ltb i high inside) (bit_at_run x low (high - low) (i - low) (omega arith) ∙ ap (bit_at x) (omega arith))
         | inr above ↦ rw (le-ltb i high above) (bit_at_mod_above (x / 2 ^ low) (high - low) (i - low) (omega arith))
-        ])
+      ])
     ]
 
 pub mod_mod : (x m n : ℕ) → n ≤ m → x % 2 ^ m % 2 ^ n ≡ x % 2 ^ n
 mod_mod x m n h =
     let apart : m ≡ (m - n) + n = omega arith in
     ap (λ k. x % 2 ^ k % 2 ^ n) apart
-        ∙ ap (λ y. y % 2 ^ n) (mod-pow-add x (m - n) n)
-        ∙ mod_low (x / 2 ^ n % 2 ^ (m - n)) n (x % 2 ^ n) (mod_below x (2 ^ n) (pow_pos n))
+    ∙ ap (λ y. y % 2 ^ n) (mod-pow-add x (m - n) n)
+    ∙ mod_low (x / 2 ^ n % 2 ^ (m - n)) n (x % 2 ^ n) (mod_below x (2 ^ n) (pow_pos n))
 
 -- ---- two's complement
 
@@ -52,8 +52,8 @@ below_itself n f h = ap (λ y. y % 2 ^ n) (omega arith) ∙ mod_low 0 n f h
 pub signed_rem : (n f : ℕ) → f < 2 ^ n → int_rem_euclid (signed n f) (pos (2 ^ n)) ≡ pos f
 signed_rem n f h =
     cond_both (ltb f (2 ^ (n - 1))) (pos f) (pos f -ℤ pos (2 ^ n)) (λ z. int_rem_euclid z (pos (2 ^ n)) ≡ pos f)
-        (λ _. ap pos (below_itself n f h))
-        (λ _. int_rem_euclid_is (pos f -ℤ pos (2 ^ n)) (pos (2 ^ n)) (2 ^ n) 1 f (pow_pos n) refl (omega (arith, ints)) ∙ ap pos (below_itself n f h))
+    (λ _. ap pos (below_itself n f h))
+    (λ _. int_rem_euclid_is (pos f -ℤ pos (2 ^ n)) (pos (2 ^ n)) (2 ^ n) 1 f (pow_pos n) refl (omega (arith, ints)) ∙ ap pos (below_itself n f h))
 
 below_zero : (f m : ℕ) → f < m → pos f -ℤ pos m ≡ negsuc (m - f - 1)
 below_zero f m h = omega (arith, ints)
@@ -65,13 +65,13 @@ whole_less f m t q h e = omega arith
 signed_cast : (n f q : ℕ) → f < 2 ^ n → 2 ^ 64 ≡ suc q * 2 ^ n → cast_unsigned w64 (signed n f) % 2 ^ n ≡ f
 signed_cast n f q h e =
     cond_both (ltb f (2 ^ (n - 1))) (pos f) (pos f -ℤ pos (2 ^ n)) (λ z. cast_unsigned w64 z % 2 ^ n ≡ f)
-        (λ _. below_itself n f h)
-        (λ _. ap (λ y. y % 2 ^ n) (ap (cast_unsigned w64) (below_zero f (2 ^ n) h) ∙ whole_less f (2 ^ n) (2 ^ 64) q h e) ∙ mod_low q n f h)
+    (λ _. below_itself n f h)
+    (λ _. ap (λ y. y % 2 ^ n) (ap (cast_unsigned w64) (below_zero f (2 ^ n) h) ∙ whole_less f (2 ^ n) (2 ^ 64) q h e) ∙ mod_low q n f h)
 
 pub signed_bits : (n f : ℕ) → f < 2 ^ n → n ≤ 64 → cast_unsigned w64 (signed n f) % 2 ^ n ≡ f
 signed_bits n f h l =
     signed_cast n f (2 ^ (64 - n) - 1) h
-        (ap (λ k. 2 ^ k) (let e : 64 ≡ (64 - n) + n = omega arith in e) ∙ pow-add 2 (64 - n) n ∙ ap (λ y. y * 2 ^ n) (omega (arith, pow_pos (64 - n))))
+    (ap (λ k. 2 ^ k) (let e : 64 ≡ (64 - n) + n = omega arith in e) ∙ pow-add 2 (64 - n) n ∙ ap (λ y. y * 2 ^ n) (omega (arith, pow_pos (64 - n))))
 
 shl_rem : (a low m : ℕ) → a * 2 ^ low % 2 ^ (m + low) ≡ a % 2 ^ m * 2 ^ low
 shl_rem a low m =
@@ -89,6 +89,6 @@ aligned_rem x low n h =
 pub same_fields : (x y s e : ℕ) → ((w : ℕ) → s ≤ w → w < e → bit_at x w ≡ bit_at y w) → field x s e ≡ field y s e
 same_fields x y s e h =
     same_from_bits (field x s e) (field y s e) (λ j. elim (cases_lt j (e - s)) [
-      inl inside ↦ bit_at_run x s (e - s) j inside ∙ h (s + j) (omega arith) (omega arith) ∙ sym (bit_at_run y s (e - s) j inside)
-    | inr above ↦ bit_at_mod_above (x / 2 ^ s) (e - s) j above ∙ sym (bit_at_mod_above (y / 2 ^ s) (e - s) j above)
+      | inl inside ↦ bit_at_run x s (e - s) j inside ∙ h (s + j) (omega arith) (omega arith) ∙ sym (bit_at_run y s (e - s) j inside)
+      | inr above ↦ bit_at_mod_above (x / 2 ^ s) (e - s) j above ∙ sym (bit_at_mod_above (y / 2 ^ s) (e - s) j above)
     ])

@@ -22,31 +22,37 @@ has_value_above (p ∷ ps) n k h l =
     let parts = and_parts (ltb p.value n) (values_below n ps) h in
     let below : p.value < n = ltb-true p.value n parts.0 in
     or_from (is_of p k) (has_value ps k)
-        (and_right (holds p.mark) (eqb p.value k) (ne_eqb p.value k (λ e. absurd (omega arith))))
-        (has_value_above ps n k parts.1 l)
+    (and_right (holds p.mark) (eqb p.value k) (ne_eqb p.value k (λ e. absurd (omega arith))))
+    (has_value_above ps n k parts.1 l)
 
 has_value_fills : (low high : ℕ) (ps : List Place) (k : ℕ) → high ≤ 64 → fills low high ps ≡ true → has_value ps k ≡ (leb low k && ltb k high)
 has_value_fills low high ps k l h =
     let parts = and_parts (values_apart ps && values_below 64 ps) (agree_below (has_value ps) (λ j. leb low j && ltb j high) 64) h in
     let below = (and_parts (values_apart ps) (values_below 64 ps) parts.0).1 in
     elim (cases_lt k 64) [
-      inl inside ↦ agree_below_at (has_value ps) (λ j. leb low j && ltb j high) 64 k parts.1 inside
-    | inr above ↦ has_value_above ps 64 k below above ∙ sym (and_right (leb low k) (ltb k high) (le-ltb k high (omega arith)))
+      | inl inside ↦ agree_below_at (has_value ps) (λ j. leb low j && ltb j high) 64 k parts.1 inside
+      | inr above ↦ has_value_above ps 64 k below above ∙ sym (and_right (leb low k) (ltb k high) (le-ltb k high (omega arith)))
     ]
 
-values_apart_fills : (low high : ℕ) (ps : List Place) → fills low high ps ≡ true → values_apart ps ≡ true
+pub values_apart_fills : (low high : ℕ) (ps : List Place) → fills low high ps ≡ true → values_apart ps ≡ true
 values_apart_fills low high ps h =
     (and_parts (values_apart ps) (values_below 64 ps) (and_parts (values_apart ps && values_below 64 ps) (agree_below (has_value ps) (λ j. leb low j && ltb j high) 64) h).0).0
 
--- after a write, where the places that are only ORed held 0, the number at the places is that field of the value plus r
+-- where a value is placed and the places that are only ORed held 0, the number at the places is that field of the value plus r
+pub place_sum_placed : (low high r : ℕ) (ps : List Place) (v before after : ℕ) → high ≤ 64 → fills low high ps ≡ true → adds r ps ≡ true
+    → All (λ (p : Place). bit_at after p.word ≡ placed_bit p.mark (bit_for p v) (bit_at before p.word)) ps → IsClear ps before
+    → place_sum ps after ≡ (v + r) % 2 ^ 64 / 2 ^ low % 2 ^ (high - low) * 2 ^ low
+place_sum_placed low high r ps v before after l h u placed clear =
+    same_from_bits (place_sum ps after) ((v + r) % 2 ^ 64 / 2 ^ low % 2 ^ (high - low) * 2 ^ low) (λ i.
+    bit_at-place_sum ps after i (values_apart_fills low high ps h)
+    ∙ value_bit_laid ps r v before after i u placed clear
+    ∙ ap (λ t. cond t (bit_at ((v + r) % 2 ^ 64) i) 0) (has_value_fills low high ps i l h)
+    ∙ sym (bit_at_window ((v + r) % 2 ^ 64) low high i))
+
+-- after a write
 pub place_sum_laid : (low high r : ℕ) (ps : List Place) (v before after : ℕ) → high ≤ 64 → fills low high ps ≡ true → adds r ps ≡ true → IsLaid ps v before after → IsClear ps before
     → place_sum ps after ≡ (v + r) % 2 ^ 64 / 2 ^ low % 2 ^ (high - low) * 2 ^ low
-place_sum_laid low high r ps v before after l h u laid clear =
-    same_from_bits (place_sum ps after) ((v + r) % 2 ^ 64 / 2 ^ low % 2 ^ (high - low) * 2 ^ low) (λ i.
-        bit_at-place_sum ps after i (values_apart_fills low high ps h)
-            ∙ value_bit_laid ps r v before after i u laid.placed clear
-            ∙ ap (λ t. cond t (bit_at ((v + r) % 2 ^ 64) i) 0) (has_value_fills low high ps i l h)
-            ∙ sym (bit_at_window ((v + r) % 2 ^ 64) low high i))
+place_sum_laid low high r ps v before after l h u laid clear = place_sum_placed low high r ps v before after l h u laid.placed clear
 
 -- ---- what was read, written back
 
@@ -64,11 +70,11 @@ other_values k (p ∷ ps) h a =
     let none = or_parts (is_of p k) (has_value ps k) h in
     let held = and_parts (holds p.mark) (all_hold ps) a in
     All-cons (λ (q : Place). eqb k q.value ≡ false) p ps
-        (eqb_turned p.value k (rw held.0 at none.0))
-        (other_values k ps none.1 held.1)
+    (eqb_turned p.value k (rw held.0 at none.0))
+    (other_values k ps none.1 held.1)
 
 -- the place of a place's value bit is itself
-own_bits : (ps : List Place) (x : ℕ) → values_apart ps ≡ true → all_hold ps ≡ true → All (λ (p : Place). value_bit ps p.value x ≡ bit_at x p.word) ps
+pub own_bits : (ps : List Place) (x : ℕ) → values_apart ps ≡ true → all_hold ps ≡ true → All (λ (p : Place). value_bit ps p.value x ≡ bit_at x p.word) ps
 own_bits [] x h a = All-nil (λ (p : Place). value_bit [] p.value x ≡ bit_at x p.word)
 own_bits (p ∷ ps) x h a =
     let held = and_parts (holds p.mark) (all_hold ps) a in
@@ -77,22 +83,22 @@ own_bits (p ∷ ps) x h a =
     let others = other_values p.value ps alone held.1 in
     let rest = own_bits ps x parts.1 held.1 in
     All-cons (λ (q : Place). value_bit (p ∷ ps) q.value x ≡ bit_at x q.word) p ps
-        (cond-true (is_of p p.value) (bit_at x p.word) (value_bit ps p.value x) (and_from (holds p.mark) (eqb p.value p.value) held.0 (eq-eqb p.value p.value refl)))
-        (λ k d l. cond-false (is_of p (get_or ps k d).value) (bit_at x p.word) (value_bit ps (get_or ps k d).value x) (and_right (holds p.mark) (eqb p.value (get_or ps k d).value) (others k d l)) ∙ rest k d l)
+    (cond-true (is_of p p.value) (bit_at x p.word) (value_bit ps p.value x) (and_from (holds p.mark) (eqb p.value p.value) held.0 (eq-eqb p.value p.value refl)))
+    (λ k d l. cond-false (is_of p (get_or ps k d).value) (bit_at x p.word) (value_bit ps (get_or ps k d).value x) (and_right (holds p.mark) (eqb p.value (get_or ps k d).value) (others k d l)) ∙ rest k d l)
 
 bit_looked_up : (ps : List Place) (w x y : ℕ) → All (λ (p : Place). bit_at y p.word ≡ bit_at x p.word) ps → is_placed ps w ≡ true → bit_at y w ≡ bit_at x w
 bit_looked_up [] w x y h t = cc
 bit_looked_up (p ∷ ps) w x y h t =
     elim (or_cases (eqb p.word w) (is_placed ps w) t) [
-      inl e ↦ subst (λ k. bit_at y k ≡ bit_at x k) (eqb-true p.word w e) (All-head (λ (q : Place). bit_at y q.word ≡ bit_at x q.word) p ps h)
-    | inr e ↦ bit_looked_up ps w x y (All-tail (λ (q : Place). bit_at y q.word ≡ bit_at x q.word) p ps h) e
+      | inl e ↦ subst (λ k. bit_at y k ≡ bit_at x k) (eqb-true p.word w e) (All-head (λ (q : Place). bit_at y q.word ≡ bit_at x q.word) p ps h)
+      | inr e ↦ bit_looked_up ps w x y (All-tail (λ (q : Place). bit_at y q.word ≡ bit_at x q.word) p ps h) e
     ]
 
-same_window : (ps : List Place) (before after : ℕ) → All (λ (p : Place). bit_at after p.word ≡ bit_at before p.word) ps → ((w : ℕ) → is_placed ps w ≡ false → bit_at after w ≡ bit_at before w) → after ≡ before
+pub same_window : (ps : List Place) (before after : ℕ) → All (λ (p : Place). bit_at after p.word ≡ bit_at before p.word) ps → ((w : ℕ) → is_placed ps w ≡ false → bit_at after w ≡ bit_at before w) → after ≡ before
 same_window ps before after placed kept =
     same_from_bits after before (λ w. elim (cases_Bool (is_placed ps w)) [
-      inl t ↦ bit_looked_up ps w before after placed t
-    | inr f ↦ kept w f
+      | inl t ↦ bit_looked_up ps w before after placed t
+      | inr f ↦ kept w f
     ])
 
 same_bit : (m : Mark) (new old : ℕ) → holds m ≡ true → new ≡ old → placed_bit m new old ≡ old
@@ -100,7 +106,7 @@ same_bit replaced new old h e = e
 same_bit ored new old h e = omega arith
 same_bit cleared new old h e = cc
 
-bits_kept : (n r : ℕ) (v before after : ℕ) (f : ℕ → ℕ) (ps : List Place) → ((k : ℕ) → k < n → bit_at ((v + r) % 2 ^ 64) k ≡ f k)
+pub bits_kept : (n r : ℕ) (v before after : ℕ) (f : ℕ → ℕ) (ps : List Place) → ((k : ℕ) → k < n → bit_at ((v + r) % 2 ^ 64) k ≡ f k)
     → values_below n ps ≡ true → all_hold ps ≡ true → adds r ps ≡ true
     → All (λ (p : Place). f p.value ≡ bit_at before p.word) ps
     → All (λ (p : Place). bit_at after p.word ≡ placed_bit p.mark (bit_for p v) (bit_at before p.word)) ps
@@ -111,25 +117,25 @@ bits_kept n r v before after f (p ∷ ps) g b a u own placed =
     let held = and_parts (holds p.mark) (all_hold ps) a in
     let added = and_parts (eqb p.added r) (adds r ps) u in
     let new : bit_for p v ≡ bit_at before p.word =
-        ap (λ a. bit_at ((v + a) % 2 ^ 64) p.value) (eqb-true p.added r added.0)
-            ∙ g p.value (ltb-true p.value n below.0)
-            ∙ All-head (λ (q : Place). f q.value ≡ bit_at before q.word) p ps own in
+    ap (λ a. bit_at ((v + a) % 2 ^ 64) p.value) (eqb-true p.added r added.0)
+    ∙ g p.value (ltb-true p.value n below.0)
+    ∙ All-head (λ (q : Place). f q.value ≡ bit_at before q.word) p ps own in
     All-cons (λ (q : Place). bit_at after q.word ≡ bit_at before q.word) p ps
-        (All-head (λ (q : Place). bit_at after q.word ≡ placed_bit q.mark (bit_for q v) (bit_at before q.word)) p ps placed
-            ∙ same_bit p.mark (bit_for p v) (bit_at before p.word) held.0 new)
-        (bits_kept n r v before after f ps g below.1 held.1 added.1
-            (All-tail (λ (q : Place). f q.value ≡ bit_at before q.word) p ps own)
-            (All-tail (λ (q : Place). bit_at after q.word ≡ placed_bit q.mark (bit_for q v) (bit_at before q.word)) p ps placed))
+    (All-head (λ (q : Place). bit_at after q.word ≡ placed_bit q.mark (bit_for q v) (bit_at before q.word)) p ps placed
+    ∙ same_bit p.mark (bit_for p v) (bit_at before p.word) held.0 new)
+    (bits_kept n r v before after f ps g below.1 held.1 added.1
+    (All-tail (λ (q : Place). f q.value ≡ bit_at before q.word) p ps own)
+    (All-tail (λ (q : Place). bit_at after q.word ≡ placed_bit q.mark (bit_for q v) (bit_at before q.word)) p ps placed))
 
 -- a write of a value whose sum with r has the bits that stand at the places changes nothing
 pub restored : (n r : ℕ) (ps : List Place) (v before after : ℕ) → values_apart ps ≡ true → values_below n ps ≡ true → all_hold ps ≡ true → adds r ps ≡ true
     → (v + r) % 2 ^ 64 % 2 ^ n ≡ place_sum ps before → IsLaid ps v before after → after ≡ before
 restored n r ps v before after apart below held u e laid =
     same_window ps before after
-        (bits_kept n r v before after (λ k. value_bit ps k before) ps
-            (λ k l. sym (bit_at_mod ((v + r) % 2 ^ 64) n k l) ∙ ap (λ y. bit_at y k) e ∙ bit_at-place_sum ps before k apart)
-            below held u (own_bits ps before apart held) laid.placed)
-        laid.kept
+    (bits_kept n r v before after (λ k. value_bit ps k before) ps
+    (λ k l. sym (bit_at_mod ((v + r) % 2 ^ 64) n k l) ∙ ap (λ y. bit_at y k) e ∙ bit_at-place_sum ps before k apart)
+    below held u (own_bits ps before apart held) laid.placed)
+    laid.kept
 
 -- ---- forms of one field
 
@@ -164,11 +170,11 @@ whole v h = omega arith
 pub place_sum_below : (ps : List Place) (n x : ℕ) → values_apart ps ≡ true → values_below n ps ≡ true → place_sum ps x < 2 ^ n
 place_sum_below ps n x a b =
     let same : place_sum ps x ≡ place_sum ps x % 2 ^ n =
-        same_from_bits (place_sum ps x) (place_sum ps x % 2 ^ n) (λ i. elim (cases_lt i n) [
-          inl inside ↦ sym (bit_at_mod (place_sum ps x) n i inside)
-        | inr above ↦
-            bit_at-place_sum ps x i a ∙ value_bit_none ps i x (has_value_above ps n i b above) ∙ sym (bit_at_mod_above (place_sum ps x) n i above)
-        ]) in
+    same_from_bits (place_sum ps x) (place_sum ps x % 2 ^ n) (λ i. elim (cases_lt i n) [
+      | inl inside ↦ sym (bit_at_mod (place_sum ps x) n i inside)
+      | inr above ↦
+          bit_at-place_sum ps x i a ∙ value_bit_none ps i x (has_value_above ps n i b above) ∙ sym (bit_at_mod_above (place_sum ps x) n i above)
+    ]) in
     subst (λ y. y < 2 ^ n) (sym same) (mod_below (place_sum ps x) (2 ^ n) (pow_pos n))
 
 -- either sign reads a number of n bits modulo 2 ^ n
@@ -185,11 +191,11 @@ module _ (w : Width) (width n low : ℕ) (read : Sign) (flags : Bool) (machine :
   short = let a = sound.within in let b = sound.fits in omega arith
 
   -- the number at the places after a write
-  laid_field : (v before after : ℕ) → v < 2 ^ 64 → IsLaid ps v before after → IsClear ps before → place_sum ps after ≡ (v - v % 2 ^ low) % 2 ^ n
+  pub laid_field : (v before after : ℕ) → v < 2 ^ 64 → IsLaid ps v before after → IsClear ps before → place_sum ps after ≡ (v - v % 2 ^ low) % 2 ^ n
   laid_field v before after h laid clear =
       place_sum_laid low n 0 ps v before after short sound.filled sound.unadded laid clear
-          ∙ ap (λ y. y / 2 ^ low % 2 ^ (n - low) * 2 ^ low) (whole v h)
-          ∙ sym (aligned_rem v low n sound.ordered)
+      ∙ ap (λ y. y / 2 ^ low % 2 ^ (n - low) * 2 ^ low) (whole v h)
+      ∙ sym (aligned_rem v low n sound.ordered)
 
   -- modulo 2 ^ n the machine reads the value
   pub field_machine : (v : ℕ) (neg : Bool) (before after : ℕ) → v < 2 ^ 64
@@ -207,16 +213,16 @@ module _ (w : Width) (width n low : ℕ) (read : Sign) (flags : Bool) (machine :
       let apart = values_apart_fills low n ps sound.filled in
       let sum = place_sum ps before in
       restored n 0 ps v before after apart sound.below sound.held sound.unadded
-          (ap (λ y. y % 2 ^ n) (whole v h ∙ back.value)
-              ∙ mod_mod (cast_unsigned w64 (number_of read n sum)) width n sound.within
-              ∙ number_bits read n sum (place_sum_below ps n before apart sound.below) short)
-          laid
+      (ap (λ y. y % 2 ^ n) (whole v h ∙ back.value)
+      ∙ mod_mod (cast_unsigned w64 (number_of read n sum)) width n sound.within
+      ∙ number_bits read n sum (place_sum_below ps n before apart sound.below) short)
+      laid
 
 subst_below : (v n m : ℕ) → v < 2 ^ n → n ≤ m → v < 2 ^ m
 subst_below v n m h l =
     elim (cases_lt n m) [
-      inl below ↦ omega (arith, pow_below n m below)
-    | inr at ↦ let same : n ≡ m = omega arith in subst (λ k. v < 2 ^ k) same h
+      | inl below ↦ omega (arith, pow_below n m below)
+      | inr at ↦ let same : n ≡ m = omega arith in subst (λ k. v < 2 ^ k) same h
     ]
 
 below_still : (v r m : ℕ) → v < m → v - r < m

@@ -9,6 +9,7 @@ pub mod OutputPlaces
 pub mod Places
 pub mod Rank
 pub mod Rewrites
+pub mod Rounded
 pub mod Search
 pub mod Sections
 pub mod TextLemmas

@@ -9,7 +9,6 @@ use Rattle.std.proofs.lemmas.List.Sums.{sum_by_more, sum_by_push}
 use Rattle.linker_base.specs.declared.relaxation.RelaxDelta.{RelaxDelta}
 use Rattle.linker_base.specs.Deletions.{IsBefore, EndFits, IsValid, bytes_of}
 use Rattle.linker_base.specs.Deltas.{deletion_of, IsListing}
-use Rattle.linker_base.specs.Listed.{AreListed}
 use Rattle.linker_base.proofs.OutputPlaces.{bytes_of-take_fit}
 
 -- up to and including one deletion of a valid list, the bytes are those before it and its own, and 64 bits hold them

@@ -30,13 +30,13 @@ one_bit_more s k i h =
 pub add_bit : (s k b i : ℕ) → bit_at s k ≡ 0 → b < 2 → bit_at (2 ^ k * b + s) i ≡ cond (eqb k i) b (bit_at s i)
 add_bit s k zero i h l =
     elim (cases_eq k i) [
-      inl e ↦ rw (eq-eqb k i e) (ap (λ n. bit_at n i) (omega arith) ∙ rw e at h)
-    | inr e ↦ rw (ne_eqb k i e) (ap (λ n. bit_at n i) (omega arith))
+      | inl e ↦ rw (eq-eqb k i e) (ap (λ n. bit_at n i) (omega arith) ∙ rw e at h)
+      | inr e ↦ rw (ne_eqb k i e) (ap (λ n. bit_at n i) (omega arith))
     ]
 add_bit s k (suc zero) i h l =
     elim (cases_eq k i) [
-      inl e ↦ rw (eq-eqb k i e) (ap (λ n. bit_at n i) (omega arith) ∙ one_bit_more s k i h ∙ omega (arith, subst (λ j. bit_at (2 ^ k) j ≡ 1) e (bit_at-pow_same k), subst (λ j. bit_at s j ≡ 0) e h))
-    | inr e ↦ rw (ne_eqb k i e) (ap (λ n. bit_at n i) (omega arith) ∙ one_bit_more s k i h ∙ omega (arith, bit_at-pow_other k i (λ f. e (sym f))))
+      | inl e ↦ rw (eq-eqb k i e) (ap (λ n. bit_at n i) (omega arith) ∙ one_bit_more s k i h ∙ omega (arith, subst (λ j. bit_at (2 ^ k) j ≡ 1) e (bit_at-pow_same k), subst (λ j. bit_at s j ≡ 0) e h))
+      | inr e ↦ rw (ne_eqb k i e) (ap (λ n. bit_at n i) (omega arith) ∙ one_bit_more s k i h ∙ omega (arith, bit_at-pow_other k i (λ f. e (sym f))))
     ]
 add_bit s k (suc (suc b)) i h l = absurd (omega arith)
 
@@ -59,10 +59,10 @@ bit_at-place_sum (p ∷ ps) x k h =
     let apart = (and_parts (not (holds p.mark && has_value ps p.value)) (values_apart ps) h).1 in
     let rest : (i : ℕ) → bit_at (place_sum ps x) i ≡ value_bit ps i x = λ i. bit_at-place_sum ps x i apart in
     let free : holds p.mark ≡ true → bit_at (place_sum ps x) p.value ≡ 0 =
-        λ t. rest p.value ∙ value_bit_none ps p.value x (no_later p ps h t) in
+    λ t. rest p.value ∙ value_bit_none ps p.value x (no_later p ps h t) in
     ap (λ n. bit_at n k) (sum_by-cons (λ (q : Place). worth q.mark q.value (bit_at x q.word)) p ps)
-        ∙ add_worth p.mark p.value (bit_at x p.word) (place_sum ps x) k free (bit_at-lt x p.word)
-        ∙ ap (λ n. cond (is_of p k) (bit_at x p.word) n) (rest k)
+    ∙ add_worth p.mark p.value (bit_at x p.word) (place_sum ps x) k free (bit_at-lt x p.word)
+    ∙ ap (λ n. cond (is_of p k) (bit_at x p.word) n) (rest k)
 
 -- ---- what a write leaves
 
@@ -88,14 +88,14 @@ value_bit_laid (p ∷ ps) r v before after k u h c =
     let first : bit_at after p.word ≡ placed_bit p.mark (bit_for p v) (bit_at before p.word) = All-head (λ (q : Place). bit_at after q.word ≡ placed_bit q.mark (bit_for q v) (bit_at before q.word)) p ps h in
     let clear : is_clear_at p.mark (bit_at before p.word) ≡ true = All-head (λ (q : Place). is_clear_at q.mark (bit_at before q.word) ≡ true) p ps c in
     let rest = value_bit_laid ps r v before after k parts.1
-        (All-tail (λ (q : Place). bit_at after q.word ≡ placed_bit q.mark (bit_for q v) (bit_at before q.word)) p ps h)
-        (All-tail (λ (q : Place). is_clear_at q.mark (bit_at before q.word) ≡ true) p ps c) in
+    (All-tail (λ (q : Place). bit_at after q.word ≡ placed_bit q.mark (bit_for q v) (bit_at before q.word)) p ps h)
+    (All-tail (λ (q : Place). is_clear_at q.mark (bit_at before q.word) ≡ true) p ps c) in
     elim (cases_Bool (is_of p k)) [
-      inl t ↦
-        let both = and_parts (holds p.mark) (eqb p.value k) t in
-        let at : p.value ≡ k = eqb-true p.value k both.1 in
-        rw t (first ∙ placed_new p.mark (bit_for p v) (bit_at before p.word) both.0 clear ∙ rw (same, at))
-    | inr f ↦ rw f rest
+      | inl t ↦
+          let both = and_parts (holds p.mark) (eqb p.value k) t in
+          let at : p.value ≡ k = eqb-true p.value k both.1 in
+          rw t (first ∙ placed_new p.mark (bit_for p v) (bit_at before p.word) both.0 clear ∙ rw (same, at))
+      | inr f ↦ rw f rest
     ]
 
 -- ---- places side by side
@@ -112,9 +112,9 @@ values_apart_left [] qs h = refl
 values_apart_left (p ∷ ps) qs h =
     let parts = and_parts (not (holds p.mark && has_value (ps ++ qs) p.value)) (values_apart (ps ++ qs)) h in
     and_from (not (holds p.mark && has_value ps p.value)) (values_apart ps)
-        (not_from_false (holds p.mark && has_value ps p.value) (none_of (holds p.mark) (has_value (ps ++ qs) p.value) (has_value ps p.value)
-            (λ f. (has_value-append ps qs p.value f).0) (not-true (holds p.mark && has_value (ps ++ qs) p.value) parts.0)))
-        (values_apart_left ps qs parts.1)
+    (not_from_false (holds p.mark && has_value ps p.value) (none_of (holds p.mark) (has_value (ps ++ qs) p.value) (has_value ps p.value)
+    (λ f. (has_value-append ps qs p.value f).0) (not-true (holds p.mark && has_value (ps ++ qs) p.value) parts.0)))
+    (values_apart_left ps qs parts.1)
   where
     none_of : (a b c : Bool) → (b ≡ false → c ≡ false) → (a && b) ≡ false → (a && c) ≡ false
     none_of true b c g e = g e
@@ -131,11 +131,11 @@ values_disjoint [] qs k h t = cc
 values_disjoint (p ∷ ps) qs k h t =
     let parts = and_parts (not (holds p.mark && has_value (ps ++ qs) p.value)) (values_apart (ps ++ qs)) h in
     elim (or_cases (is_of p k) (has_value ps k) t) [
-      inl here ↦
-        let both = and_parts (holds p.mark) (eqb p.value k) here in
-        let none : has_value (ps ++ qs) p.value ≡ false = rw both.0 at (not-true (holds p.mark && has_value (ps ++ qs) p.value) parts.0) in
-        subst (λ j. has_value qs j ≡ false) (eqb-true p.value k both.1) (has_value-append ps qs p.value none).1
-    | inr later ↦ values_disjoint ps qs k parts.1 later
+      | inl here ↦
+          let both = and_parts (holds p.mark) (eqb p.value k) here in
+          let none : has_value (ps ++ qs) p.value ≡ false = rw both.0 at (not-true (holds p.mark && has_value (ps ++ qs) p.value) parts.0) in
+          subst (λ j. has_value qs j ≡ false) (eqb-true p.value k both.1) (has_value-append ps qs p.value none).1
+      | inr later ↦ values_disjoint ps qs k parts.1 later
     ]
 
 sums : (ps qs : List Place) (x : ℕ) → place_sum (ps ++ qs) x ≡ place_sum ps x + place_sum qs x
@@ -146,11 +146,11 @@ sums ps qs x = sum_by-append (λ (p : Place). worth p.mark p.value (bit_at x p.w
 pub place_sum-append : (ps qs : List Place) (x : ℕ) → values_apart (ps ++ qs) ≡ true → place_sum (ps ++ qs) x ≡ bit_or (place_sum ps x) (place_sum qs x)
 place_sum-append ps qs x h =
     let disjoint : bit_and (place_sum ps x) (place_sum qs x) ≡ 0 =
-        same_from_bits (bit_and (place_sum ps x) (place_sum qs x)) 0 (λ k.
-            bit_at_and (place_sum ps x) (place_sum qs x) k
-                ∙ elim (cases_Bool (has_value ps k)) [
-                    inl t ↦ omega (arith, bit_at-place_sum qs x k (values_apart_right ps qs h) ∙ value_bit_none qs k x (values_disjoint ps qs k h t))
-                  | inr f ↦ omega (arith, bit_at-place_sum ps x k (values_apart_left ps qs h) ∙ value_bit_none ps k x f)
-                  ]
-                ∙ sym (bit_at-zero k)) in
+    same_from_bits (bit_and (place_sum ps x) (place_sum qs x)) 0 (λ k.
+    bit_at_and (place_sum ps x) (place_sum qs x) k
+    ∙ elim (cases_Bool (has_value ps k)) [
+      | inl t ↦ omega (arith, bit_at-place_sum qs x k (values_apart_right ps qs h) ∙ value_bit_none qs k x (values_disjoint ps qs k h t))
+      | inr f ↦ omega (arith, bit_at-place_sum ps x k (values_apart_left ps qs h) ∙ value_bit_none ps k x f)
+    ]
+    ∙ sym (bit_at-zero k)) in
     sums ps qs x ∙ sym (or_disjoint (place_sum ps x) (place_sum qs x) disjoint)

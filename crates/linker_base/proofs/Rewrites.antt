@@ -9,5 +9,5 @@ pub overwritten : (r : Rewrite) (section bytes : List ℕ) (o at : ℕ) → at �
     → take at section ++ bytes ++ drop (at + length bytes) section ≡ rewritten (Some r) section o
 overwritten r section bytes o at start len made =
     ap (λ k. take k section ++ bytes ++ drop (k + length bytes) section) start
-        ∙ ap (λ n. take (o - r.back) section ++ bytes ++ drop (o - r.back + n) section) len
-        ∙ ap (λ b. take (o - r.back) section ++ b ++ drop (o - r.back + r.len) section) made
+    ∙ ap (λ n. take (o - r.back) section ++ bytes ++ drop (o - r.back + n) section) len
+    ∙ ap (λ b. take (o - r.back) section ++ b ++ drop (o - r.back + r.len) section) made

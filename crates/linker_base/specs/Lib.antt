@@ -6,6 +6,7 @@ pub mod Form
 pub mod Laws
 pub mod Listed
 pub mod Rewrite
+pub mod Rounded
 pub mod Sections
 pub mod Text
 pub mod Uleb

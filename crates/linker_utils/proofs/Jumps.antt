@@ -22,7 +22,7 @@ use Rattle.linker_utils.proofs.RiscV.{jtype_places, jtype_below}
 
 -- ---- words in lists
 
-word_of_front : (xs : List ℕ) → from_le_bytes w32 (take 4 xs) ≡ from_le_bytes w32 xs
+pub word_of_front : (xs : List ℕ) → from_le_bytes w32 (take 4 xs) ≡ from_le_bytes w32 xs
 word_of_front [] = refl
 word_of_front (a ∷ []) = refl
 word_of_front (a ∷ b ∷ []) = refl

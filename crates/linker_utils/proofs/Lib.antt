@@ -2,4 +2,5 @@ pub mod Bounds
 pub mod Calls
 pub mod Jumps
 pub mod RiscV
+pub mod RiscVRewrites
 pub mod Runs

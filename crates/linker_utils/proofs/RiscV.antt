@@ -1,41 +1,338 @@
--- The RISC-V forms keep the laws of forms.
-use Rattle.std.proofs.Common.{◌≡◌, ℕ, ◌^◌, ◌<◌, Bool, true, refl, ap, sym, ◌∙◌, IsTrue, List, ◌++◌, pos, int_lt}
-use Rattle.std.specs.Int.{w32, w64, cast_unsigned, from_le_bytes}
+-- The RISC-V forms keep the laws of forms, and pairs make their value.
+use Rattle.std.proofs.Common.{◌≡◌, ℕ, suc, ◌+◌, ◌-◌, ◌*◌, ◌/◌, ◌%◌, ◌^◌, ◌<◌, ◌≤◌, Bool, true, false, refl, ap, sym, subst, ◌∙◌, arith, IsTrue, List, [], ◌∷◌, ◌++◌, ◌⊎◌, inl, inr, ltb, ℤ, pos, negsuc, ◌+ℤ◌, ◌-ℤ◌, ◌≤ℤ◌, ◌<ℤ◌, int_lt, drop}
+use Rattle.std.specs.Int.{w16, w32, w64, cast_unsigned, from_le_bytes, bit_at, int_rem_euclid, byte_len}
+use Rattle.std.specs.List.{All}
+use Rattle.std.proofs.lemmas.Bool.{cases_lt, cond-true, cond-false, lt-ltb, le-ltb}
+use Rattle.std.proofs.lemmas.Int.{ints, int_rem_euclid_is}
+use Rattle.std.proofs.lemmas.List.Elements.{All-nil, All-cons, All-head, All-tail, All-append}
 use Rattle.linker_base.specs.Bits.{signed}
-use Rattle.linker_base.specs.Form.{window_of, Place, Form, IsLaid, bits_to, Written, MachineReads, IsReadBack, place_sum, twos_complement, modulo}
-use Rattle.linker_base.proofs.Immediates.{IsSoundField, sound_field, field_machine, field_restored, place_sum_below}
-use Rattle.linker_utils.specs.RiscV.{riscv_form}
+use Rattle.linker_base.specs.Form.{window_of, Place, Form, IsLaid, bits_to, sum_bits_to, row, replaced, placed_bit, bit_for, Written, MachineReads, IsReadBack, place_sum, twos_complement, modulo}
+use Rattle.linker_base.proofs.Immediates.{IsSoundField, sound_field, field_machine, field_restored, laid_field, place_sum_placed, place_sum_below, always_clear, same_window}
+use Rattle.linker_base.proofs.Rounded.{IsSoundPart, sound_part, rounded_laid, rounded_machine, rounded_restored, part_kept}
+use Rattle.linker_utils.specs.RiscV.{riscv_form, riscv_places, ui_sum, IsPairRange, IsPairOf, Completes, PairReads}
 use Rattle.linker_utils.specs.declared.elf.RiscVInstruction.{RiscVInstruction}
-use Rattle.linker_utils.specs.declared.elf.RiscVInstruction.TheVariants.{JType}
+use Rattle.linker_utils.specs.declared.elf.RiscVInstruction.TheVariants.{UType, IType, SType, BType, JType, CbType, CjType, CluiType, UiType}
+use Rattle.linker_utils.proofs.Runs.{row_sum}
 
 abbrev pub jtype_places : List Place
-jtype_places = bits_to 12 19 12 ++ bits_to 11 11 20 ++ bits_to 1 10 21 ++ bits_to 20 20 31
+jtype_places = riscv_places JType
 
-pub jtype_sound : IsSoundField 64 21 1 jtype_places
-jtype_sound = sound_field 64 21 1 jtype_places refl
+u_sound : IsSoundPart 12 32 0x800 (riscv_places UType)
+u_sound = sound_part 12 32 0x800 (riscv_places UType) refl
+
+i_sound : IsSoundField 64 12 0 (riscv_places IType)
+i_sound = sound_field 64 12 0 (riscv_places IType) refl
+
+s_sound : IsSoundField 64 12 0 (riscv_places SType)
+s_sound = sound_field 64 12 0 (riscv_places SType) refl
+
+b_sound : IsSoundField 64 13 1 (riscv_places BType)
+b_sound = sound_field 64 13 1 (riscv_places BType) refl
+
+j_sound : IsSoundField 64 21 1 jtype_places
+j_sound = sound_field 64 21 1 jtype_places refl
+
+cb_sound : IsSoundField 64 9 1 (riscv_places CbType)
+cb_sound = sound_field 64 9 1 (riscv_places CbType) refl
+
+cj_sound : IsSoundField 64 12 1 (riscv_places CjType)
+cj_sound = sound_field 64 12 1 (riscv_places CjType) refl
+
+clui_sound : IsSoundPart 12 18 0x800 (riscv_places CluiType)
+clui_sound = sound_part 12 18 0x800 (riscv_places CluiType) refl
+
+abbrev ui_low : List Place
+ui_low = bits_to 0 11 52
+
+ui_low_sound : IsSoundPart 0 12 0 ui_low
+ui_low_sound = sound_part 0 12 0 ui_low refl
+
+-- ---- numbers in two's complement
+
+pub signed_cases : (n f : ℕ) → ((f < 2 ^ (n - 1)) × (signed n f ≡ pos f)) ⊎ ((2 ^ (n - 1) ≤ f) × (signed n f ≡ pos f -ℤ pos (2 ^ n)))
+signed_cases n f =
+    elim (cases_lt f (2 ^ (n - 1))) [
+      | inl below ↦ inl (below, cond-true (ltb f (2 ^ (n - 1))) (pos f) (pos f -ℤ pos (2 ^ n)) (lt-ltb f (2 ^ (n - 1)) below))
+      | inr above ↦ inr (above, cond-false (ltb f (2 ^ (n - 1))) (pos f) (pos f -ℤ pos (2 ^ n)) (le-ltb f (2 ^ (n - 1)) above))
+    ]
+
+-- a number's bits, from the number plus 2 ^ 64
+cast_rem : (z : ℤ) (m : ℕ) → z +ℤ pos (2 ^ 64) ≡ pos m → cast_unsigned w64 z % 2 ^ 64 ≡ m % 2 ^ 64
+cast_rem (pos a) m e = let same : m ≡ a + 2 ^ 64 = omega (arith, ints) in omega arith
+cast_rem (negsuc a) m e = let same : m + a + 1 ≡ 2 ^ 64 = omega (arith, ints) in omega arith
+
+-- ---- pairs
+
+added : (x y a b : ℤ) → x ≡ a → y ≡ b → x +ℤ y ≡ a +ℤ b
+added x y a b e f = cc
+
+pair_rem : (v m : ℕ) (z a b x y : ℤ) → x ≡ a → y ≡ b → a +ℤ b +ℤ pos (2 * 2 ^ 32) ≡ pos m → m % 2 ^ 32 ≡ v % 2 ^ 32 → int_rem_euclid (x +ℤ y) (pos (2 ^ 32)) ≡ pos (v % 2 ^ 32)
+pair_rem v m z a b x y e f whole same =
+    ap (λ t. int_rem_euclid t (pos (2 ^ 32))) (added x y a b e f) ∙ int_rem_euclid_is (a +ℤ b) (pos (2 ^ 32)) (2 ^ 32) 2 m (omega arith) refl whole ∙ ap pos same
+
+pair_exact : (x y z a b c : ℤ) → x ≡ a → y ≡ b → z ≡ c → (IsPairRange c → a +ℤ b ≡ c) → IsPairRange z → x +ℤ y ≡ z
+pair_exact x y z a b c e f g h r = added x y a b e f ∙ h (subst IsPairRange g r) ∙ sym g
+
+module _ (v h l : ℕ) (wide : v < 2 ^ 64) (high : h ≡ (v + 0x800) % 2 ^ 64 / 4096 % 1048576 * 4096) (low : l ≡ v % 4096) where
+  modulo_32 : int_rem_euclid (signed 32 h +ℤ signed 12 l) (pos (2 ^ 32)) ≡ pos (v % 2 ^ 32)
+  modulo_32 =
+      elim (signed_cases 32 h) [
+        | inl a ↦ elim (signed_cases 12 l) [
+          | inl b ↦ pair_rem v (h + l + 8589934592) (pos 0) (pos h) (pos l) (signed 32 h) (signed 12 l) a.1 b.1 (omega (arith, ints)) (let k = b.0 in omega arith)
+          | inr b ↦ pair_rem v (h + l + 8589930496) (pos 0) (pos h) (pos l -ℤ pos 4096) (signed 32 h) (signed 12 l) a.1 b.1 (omega (arith, ints)) (let k = b.0 in omega arith)
+        ]
+        | inr a ↦ elim (signed_cases 12 l) [
+          | inl b ↦ pair_rem v (h + l + 4294967296) (pos 0) (pos h -ℤ pos 4294967296) (pos l) (signed 32 h) (signed 12 l) a.1 b.1 (omega (arith, ints)) (let k = b.0 in omega arith)
+          | inr b ↦ pair_rem v (h + l + 4294963200) (pos 0) (pos h -ℤ pos 4294967296) (pos l -ℤ pos 4096) (signed 32 h) (signed 12 l) a.1 b.1 (omega (arith, ints)) (let k = b.0 in omega arith)
+        ]
+      ]
+
+  exactly_so : (c : ℤ) → ((v < 2 ^ 63) × (c ≡ pos v)) ⊎ ((2 ^ 63 ≤ v) × (c ≡ pos v -ℤ pos (2 ^ 64))) → IsPairRange c → signed 32 h +ℤ signed 12 l ≡ c
+  exactly_so c s r =
+      elim s [
+        | inl n ↦ elim (signed_cases 32 h) [
+          | inl a ↦ elim (signed_cases 12 l) [
+            | inl b ↦ pair_exact (signed 32 h) (signed 12 l) c (pos h) (pos l) (pos v) a.1 b.1 n.1 (λ t. let k = b.0 in let j = a.0 in let i = n.0 in omega (arith, ints)) r
+            | inr b ↦ pair_exact (signed 32 h) (signed 12 l) c (pos h) (pos l -ℤ pos 4096) (pos v) a.1 b.1 n.1 (λ t. let k = b.0 in let j = a.0 in let i = n.0 in omega (arith, ints)) r
+          ]
+          | inr a ↦ absurd (let t = subst IsPairRange n.1 r in let j = a.0 in let i = n.0 in omega (arith, ints))
+        ]
+        | inr n ↦ elim (signed_cases 32 h) [
+          | inl a ↦ elim (signed_cases 12 l) [
+            | inl b ↦ pair_exact (signed 32 h) (signed 12 l) c (pos h) (pos l) (pos v -ℤ pos (2 ^ 64)) a.1 b.1 n.1 (λ t. let k = b.0 in let j = a.0 in let i = n.0 in omega (arith, ints)) r
+            | inr b ↦ pair_exact (signed 32 h) (signed 12 l) c (pos h) (pos l -ℤ pos 4096) (pos v -ℤ pos (2 ^ 64)) a.1 b.1 n.1 (λ t. let k = b.0 in let j = a.0 in let i = n.0 in omega (arith, ints)) r
+          ]
+          | inr a ↦ elim (signed_cases 12 l) [
+            | inl b ↦ pair_exact (signed 32 h) (signed 12 l) c (pos h -ℤ pos (2 ^ 32)) (pos l) (pos v -ℤ pos (2 ^ 64)) a.1 b.1 n.1 (λ t. let k = b.0 in let j = a.0 in let i = n.0 in omega (arith, ints)) r
+            | inr b ↦ pair_exact (signed 32 h) (signed 12 l) c (pos h -ℤ pos (2 ^ 32)) (pos l -ℤ pos 4096) (pos v -ℤ pos (2 ^ 64)) a.1 b.1 n.1 (λ t. let k = b.0 in let j = a.0 in let i = n.0 in omega (arith, ints)) r
+          ]
+        ]
+      ]
+
+  pub pair_of : IsPairOf v (signed 32 h +ℤ signed 12 l)
+  pair_of = record { same = modulo_32; exact = exactly_so (signed 64 v) (signed_cases 64 v) }
+
+-- ---- both words of `UiType`
+
+all_left : {X : Type 0} (P : X → Type 0) (xs ys : List X) → All P (xs ++ ys) → All P xs
+all_left P [] ys h = All-nil P
+all_left P (x ∷ xs) ys h = All-cons P x xs (All-head P x (xs ++ ys) h) (all_left P xs ys (All-tail P x (xs ++ ys) h))
+
+all_right : {X : Type 0} (P : X → Type 0) (xs ys : List X) → All P (xs ++ ys) → All P ys
+all_right P [] ys h = h
+all_right P (x ∷ xs) ys h = all_right P xs ys (All-tail P x (xs ++ ys) h)
+
+abbrev Placed : ℕ → ℕ → ℕ → Place → Type 0
+Placed v before after p = bit_at after p.word ≡ placed_bit p.mark (bit_for p v) (bit_at before p.word)
+
+module _ (v before after : ℕ) (wide : v < 2 ^ 64) (laid : IsLaid (riscv_places UiType) v before after) where
+  placed_high : All (Placed v before after) (riscv_places UType)
+  placed_high = all_left (Placed v before after) (riscv_places UType) ui_low laid.placed
+
+  placed_low : All (Placed v before after) ui_low
+  placed_low = all_right (Placed v before after) (riscv_places UType) ui_low laid.placed
+
+  ui_pair : IsPairOf v (ui_sum after)
+  ui_pair =
+      let high : place_sum (riscv_places UType) after ≡ (v + 0x800) % 2 ^ 64 / 2 ^ 12 % 2 ^ (32 - 12) * 2 ^ 12 =
+      place_sum_placed 12 32 0x800 (riscv_places UType) v before after (omega arith) u_sound.filled u_sound.added placed_high (always_clear (riscv_places UType) before refl) in
+      let low : place_sum ui_low after ≡ (v + 0) % 2 ^ 64 / 2 ^ 0 % 2 ^ (12 - 0) * 2 ^ 0 =
+      place_sum_placed 0 12 0 ui_low v before after (omega arith) ui_low_sound.filled ui_low_sound.added placed_low (always_clear ui_low before refl) in
+      pair_of v (place_sum (riscv_places UType) after) (place_sum ui_low after) wide high (low ∙ omega arith)
+
+-- the value that reading both words gives has their bits
+ui_bits : (v h l : ℕ) → h < 2 ^ 32 → h % 4096 ≡ 0 → l < 4096 → v ≡ cast_unsigned w64 (signed 32 h +ℤ signed 12 l) % 2 ^ 64
+    → ((v + 0x800) % 2 ^ 64 / 4096 % 1048576 * 4096 ≡ h) × (v % 4096 ≡ l)
+ui_bits v h l hb hm lb e =
+    elim (signed_cases 32 h) [
+      | inl a ↦ elim (signed_cases 12 l) [
+        | inl b ↦ ui_found (pos h) (pos l) (h + l + 18446744073709551616) a.1 b.1 (omega (arith, ints)) (λ w. let k = b.0 in let j = a.0 in (omega arith, omega arith))
+        | inr b ↦ ui_found (pos h) (pos l -ℤ pos 4096) (h + l + 18446744073709547520) a.1 b.1 (omega (arith, ints)) (λ w. let k = b.0 in let j = a.0 in (omega arith, omega arith))
+      ]
+      | inr a ↦ elim (signed_cases 12 l) [
+        | inl b ↦ ui_found (pos h -ℤ pos (2 ^ 32)) (pos l) (h + l + 18446744069414584320) a.1 b.1 (omega (arith, ints)) (λ w. let k = b.0 in let j = a.0 in (omega arith, omega arith))
+        | inr b ↦ ui_found (pos h -ℤ pos (2 ^ 32)) (pos l -ℤ pos 4096) (h + l + 18446744069414580224) a.1 b.1 (omega (arith, ints)) (λ w. let k = b.0 in let j = a.0 in (omega arith, omega arith))
+      ]
+    ]
+  where
+    ui_found : (a b : ℤ) (m : ℕ) → signed 32 h ≡ a → signed 12 l ≡ b → a +ℤ b +ℤ pos (2 ^ 64) ≡ pos m
+        → (v ≡ m % 2 ^ 64 → ((v + 0x800) % 2 ^ 64 / 4096 % 1048576 * 4096 ≡ h) × (v % 4096 ≡ l))
+        → ((v + 0x800) % 2 ^ 64 / 4096 % 1048576 * 4096 ≡ h) × (v % 4096 ≡ l)
+    ui_found a b m x y whole found =
+        found (e ∙ ap (λ z. cast_unsigned w64 z % 2 ^ 64) (added (signed 32 h) (signed 12 l) a b x y) ∙ cast_rem (a +ℤ b) m whole)
+
+ui_restored : (v before after : ℕ) → IsLaid (riscv_places UiType) v before after → v < 2 ^ 64 → v ≡ cast_unsigned w64 (ui_sum before) % 2 ^ 64 → after ≡ before
+ui_restored v before after laid wide e =
+    let h = place_sum (riscv_places UType) before in
+    let l = place_sum ui_low before in
+    let aligned : h ≡ before / 2 ^ 12 % 2 ^ 20 * 2 ^ 12 = row_sum replaced 20 12 12 0x800 before refl in
+    let bits = ui_bits v h l (place_sum_below (riscv_places UType) 32 before refl refl) (ap (λ y. y % 4096) aligned ∙ omega arith) (place_sum_below ui_low 12 before refl refl) e in
+    let low : (v + 0) % 2 ^ 64 / 2 ^ 0 % 2 ^ (12 - 0) * 2 ^ 0 ≡ v % 4096 = omega arith in
+    same_window (riscv_places UiType) before after
+    (All-append (λ (p : Place). bit_at after p.word ≡ bit_at before p.word) (riscv_places UType) ui_low
+    (part_kept 12 32 0x800 (riscv_places UType) v before after u_sound bits.0 (placed_high v before after wide laid))
+    (part_kept 0 12 0 ui_low v before after ui_low_sound (low ∙ bits.1) (placed_low v before after wide laid)))
+    laid.kept
+
+-- ---- the laws
+
+pub riscv_written : (f : RiscVInstruction) (v : ℕ) (neg : Bool) (before after : ℕ) → IsLaid (riscv_places f) v before after → Written (riscv_form f) v neg before after
+riscv_written UType v neg before after h = h
+riscv_written IType v neg before after h = h
+riscv_written SType v neg before after h = h
+riscv_written BType v neg before after h = h
+riscv_written JType v neg before after h = h
+riscv_written CbType v neg before after h = h
+riscv_written CjType v neg before after h = h
+riscv_written CluiType v neg before after h = h
+riscv_written UiType v neg before after h = h
 
 pub riscv_machine : (f : RiscVInstruction) (v : ℕ) (neg : Bool) (before after : ℕ) → v < 2 ^ 64
     → Written (riscv_form f) v neg before after → MachineReads (riscv_form f) v neg before after
-riscv_machine JType v neg before after h laid = field_machine w32 64 21 1 twos_complement true twos_complement jtype_places jtype_sound v neg before after h laid
+riscv_machine UType v neg before after h laid = rounded_machine w32 32 12 0x800 false (riscv_places UType) u_sound v neg before after laid
+riscv_machine IType v neg before after h laid = field_machine w32 64 12 0 twos_complement true twos_complement (riscv_places IType) i_sound v neg before after h laid
+riscv_machine SType v neg before after h laid = field_machine w32 64 12 0 twos_complement true twos_complement (riscv_places SType) s_sound v neg before after h laid
+riscv_machine BType v neg before after h laid = field_machine w32 64 13 1 twos_complement true twos_complement (riscv_places BType) b_sound v neg before after h laid
+riscv_machine JType v neg before after h laid = field_machine w32 64 21 1 twos_complement true twos_complement jtype_places j_sound v neg before after h laid
+riscv_machine CbType v neg before after h laid = field_machine w16 64 9 1 twos_complement true twos_complement (riscv_places CbType) cb_sound v neg before after h laid
+riscv_machine CjType v neg before after h laid = field_machine w16 64 12 1 twos_complement true twos_complement (riscv_places CjType) cj_sound v neg before after h laid
+riscv_machine CluiType v neg before after h laid = rounded_machine w16 18 12 0x800 true (riscv_places CluiType) clui_sound v neg before after laid
+riscv_machine UiType v neg before after h laid = λ clear. (ui_pair v before after h laid).same
 
 pub riscv_restored : (f : RiscVInstruction) (v : ℕ) (neg : Bool) (before after : ℕ) → v < 2 ^ 64
     → Written (riscv_form f) v neg before after → IsReadBack (riscv_form f) v neg before → after ≡ before
-riscv_restored JType v neg before after h laid back = field_restored w32 64 21 1 twos_complement true twos_complement jtype_places jtype_sound (modulo 21) v neg before after h laid back
+riscv_restored UType v neg before after h laid back = rounded_restored w32 32 12 0x800 false (riscv_places UType) u_sound (omega arith) v neg before after laid back
+riscv_restored IType v neg before after h laid back = field_restored w32 64 12 0 twos_complement true twos_complement (riscv_places IType) i_sound (modulo 12) v neg before after h laid back
+riscv_restored SType v neg before after h laid back = field_restored w32 64 12 0 twos_complement true twos_complement (riscv_places SType) s_sound (modulo 12) v neg before after h laid back
+riscv_restored BType v neg before after h laid back = field_restored w32 64 13 1 twos_complement true twos_complement (riscv_places BType) b_sound (modulo 13) v neg before after h laid back
+riscv_restored JType v neg before after h laid back = field_restored w32 64 21 1 twos_complement true twos_complement jtype_places j_sound (modulo 21) v neg before after h laid back
+riscv_restored CbType v neg before after h laid back = field_restored w16 64 9 1 twos_complement true twos_complement (riscv_places CbType) cb_sound (modulo 9) v neg before after h laid back
+riscv_restored CjType v neg before after h laid back = field_restored w16 64 12 1 twos_complement true twos_complement (riscv_places CjType) cj_sound (modulo 12) v neg before after h laid back
+riscv_restored CluiType v neg before after h laid back = rounded_restored w16 18 12 0x800 true (riscv_places CluiType) clui_sound (omega arith) v neg before after laid back
+riscv_restored UiType v neg before after h laid back = ui_restored v before after laid h back.value
 
-pub jtype_written : (f : RiscVInstruction) (v : ℕ) (neg : Bool) (before after : List ℕ)
-    → IsLaid jtype_places v (from_le_bytes w32 before) (from_le_bytes w32 after) → Written (riscv_form f) v neg (window_of (riscv_form f) before) (window_of (riscv_form f) after)
-jtype_written JType v neg before after h = h
+-- what stands in the high part of a pair
+pub u_laid : (v before high : ℕ) → IsLaid (riscv_places UType) v before high → place_sum (riscv_places UType) high ≡ (v + 0x800) % 2 ^ 64 / 4096 % 1048576 * 4096
+u_laid v before high laid =
+    place_sum_placed 12 32 0x800 (riscv_places UType) v before high (omega arith) u_sound.filled u_sound.added laid.placed (always_clear (riscv_places UType) before refl)
+
+pub clui_laid : (v before after : ℕ) → IsLaid (riscv_places CluiType) v before after → place_sum (riscv_places CluiType) after ≡ (v + 0x800) % 2 ^ 64 / 4096 % 64 * 4096
+clui_laid v before after laid =
+    place_sum_placed 12 18 0x800 (riscv_places CluiType) v before after (omega arith) clui_sound.filled clui_sound.added laid.placed (always_clear (riscv_places CluiType) before refl)
+
+completed : (v before high l : ℕ) → v < 2 ^ 64 → IsLaid (riscv_places UType) v before high → l ≡ (v - v % 1) % 4096
+    → IsPairOf v (signed 32 (place_sum (riscv_places UType) high) +ℤ signed 12 l)
+completed v before high l wide laid low =
+    pair_of v (place_sum (riscv_places UType) high) l wide (u_laid v before high laid) (low ∙ omega arith)
+
+pub riscv_pair : (f : RiscVInstruction) (v : ℕ) (neg : Bool) (before after : ℕ) → v < 2 ^ 64
+    → Written (riscv_form f) v neg before after → PairReads f v after
+riscv_pair UType v neg before after h laid = tt
+riscv_pair IType v neg before after h laid = λ n b high high_laid.
+    completed v b high (place_sum (riscv_places IType) after) h high_laid
+    (laid_field w32 64 12 0 twos_complement true twos_complement (riscv_places IType) i_sound v before after h laid (always_clear (riscv_places IType) before refl))
+riscv_pair SType v neg before after h laid = λ n b high high_laid.
+    completed v b high (place_sum (riscv_places SType) after) h high_laid
+    (laid_field w32 64 12 0 twos_complement true twos_complement (riscv_places SType) s_sound v before after h laid (always_clear (riscv_places SType) before refl))
+riscv_pair BType v neg before after h laid = tt
+riscv_pair JType v neg before after h laid = tt
+riscv_pair CbType v neg before after h laid = tt
+riscv_pair CjType v neg before after h laid = tt
+riscv_pair CluiType v neg before after h laid = tt
+riscv_pair UiType v neg before after h laid = ui_pair v before after h laid
 
 pub jtype_below : (x : ℕ) → place_sum jtype_places x < 2 ^ 21
 jtype_below x = place_sum_below jtype_places 21 x refl refl
 
-pub jtype_number : (f : RiscVInstruction) (number : ℕ) (bytes : List ℕ) → number ≡ cast_unsigned w64 (signed 21 (place_sum jtype_places (from_le_bytes w32 bytes)))
+-- ---- a form that is known
+
+pub laid_as : (f known : RiscVInstruction) (v : ℕ) (before after : List ℕ) → f ≡ known
+    → IsLaid (riscv_places known) v (window_of (riscv_form known) before) (window_of (riscv_form known) after)
+    → IsLaid (riscv_places f) v (window_of (riscv_form f) before) (window_of (riscv_form f) after)
+laid_as f known v before after e = subst (λ g. IsLaid (riscv_places g) v (window_of (riscv_form g) before) (window_of (riscv_form g) after)) (sym e)
+
+pub number_as : (f known : RiscVInstruction) (number : ℕ) (bytes : List ℕ) → f ≡ known
+    → number ≡ cast_unsigned w64 ((riscv_form known).reading (window_of (riscv_form known) bytes))
     → number ≡ cast_unsigned w64 ((riscv_form f).reading (window_of (riscv_form f) bytes))
-jtype_number JType number bytes e = e
+number_as f known number bytes e = subst (λ g. number ≡ cast_unsigned w64 ((riscv_form g).reading (window_of (riscv_form g) bytes))) (sym e)
 
-pub jtype_flag : (f : RiscVInstruction) (flag : Bool) (bytes : List ℕ) → flag ≡ int_lt (signed 21 (place_sum jtype_places (from_le_bytes w32 bytes))) (pos 0)
-    → flag ≡ (riscv_form f).flag (window_of (riscv_form f) bytes)
-jtype_flag JType flag bytes e = e
+pub flag_as : (f known : RiscVInstruction) (flag : Bool) (bytes : List ℕ) → f ≡ known
+    → flag ≡ (riscv_form known).flag (window_of (riscv_form known) bytes) → flag ≡ (riscv_form f).flag (window_of (riscv_form f) bytes)
+flag_as f known flag bytes e = subst (λ g. flag ≡ (riscv_form g).flag (window_of (riscv_form g) bytes)) (sym e)
 
-pub riscv_window : (f : RiscVInstruction) (bytes : List ℕ) → window_of (riscv_form f) bytes ≡ from_le_bytes w32 bytes
-riscv_window JType bytes = refl
+-- ---- sums at 64 bits
+
+abbrev IsShort : ℤ → Type 0
+IsShort z = (negsuc 4611686018427387903 ≤ℤ z) × (z <ℤ pos 4611686018427387904)
+
+mixed : (x y : ℕ) → x < 2 ^ 62 → y < 2 ^ 62 → (x + (2 ^ 64 - suc y)) % 2 ^ 64 ≡ cast_unsigned w64 (pos x +ℤ negsuc y)
+mixed x y a b =
+    elim (cases_lt y x) [
+      | inl above ↦
+          let z : pos x +ℤ negsuc y ≡ pos (x - suc y) = omega (arith, ints) in
+          let n : (x + (2 ^ 64 - suc y)) % 2 ^ 64 ≡ x - suc y = omega arith in
+          n ∙ sym (ap (cast_unsigned w64) z)
+      | inr below ↦
+          let z : pos x +ℤ negsuc y ≡ negsuc (y - x) = omega (arith, ints) in
+          let n : (x + (2 ^ 64 - suc y)) % 2 ^ 64 ≡ 2 ^ 64 - suc (y - x) = omega arith in
+          n ∙ sym (ap (cast_unsigned w64) z)
+    ]
+
+cast_add : (a b : ℤ) → IsShort a → IsShort b → (cast_unsigned w64 a + cast_unsigned w64 b) % 2 ^ 64 ≡ cast_unsigned w64 (a +ℤ b)
+cast_add (pos x) (pos y) f g =
+    let below : x < 2 ^ 62 = omega (arith, ints) in
+    let small : y < 2 ^ 62 = omega (arith, ints) in
+    omega arith
+cast_add (pos x) (negsuc y) f g = mixed x y (omega (arith, ints)) (omega (arith, ints))
+cast_add (negsuc x) (pos y) f g =
+    let swapped : negsuc x +ℤ pos y ≡ pos y +ℤ negsuc x = omega (arith, ints) in
+    let n : (2 ^ 64 - suc x + y) % 2 ^ 64 ≡ (y + (2 ^ 64 - suc x)) % 2 ^ 64 = omega arith in
+    n ∙ mixed y x (omega (arith, ints)) (omega (arith, ints)) ∙ sym (ap (cast_unsigned w64) swapped)
+cast_add (negsuc x) (negsuc y) f g =
+    let below : x < 2 ^ 62 = omega (arith, ints) in
+    let small : y < 2 ^ 62 = omega (arith, ints) in
+    omega arith
+
+signed_short : (n s : ℕ) → s < 2 ^ n → 2 ^ n ≤ 2 ^ 32 → IsShort (signed n s)
+signed_short n s h l =
+    elim (signed_cases n s) [
+      | inl a ↦ subst IsShort (sym a.1) (omega (arith, ints), omega (arith, ints))
+      | inr a ↦ subst IsShort (sym a.1) (omega (arith, ints), omega (arith, ints))
+    ]
+
+-- a number less 0x800, as the code takes it off
+less_0x800 : (n s number : ℕ) → s < 2 ^ n → 2 ^ n ≤ 2 ^ 32 → number ≡ cast_unsigned w64 (signed n s)
+    → (number + 18446744073709549568) % 2 ^ 64 ≡ cast_unsigned w64 (signed n s -ℤ pos 0x800)
+less_0x800 n s number h l e =
+    let z : signed n s +ℤ negsuc 2047 ≡ signed n s -ℤ pos 0x800 = minus_0x800 (signed n s) in
+    ap (λ y. (y + 18446744073709549568) % 2 ^ 64) e
+    ∙ cast_add (signed n s) (negsuc 2047) (signed_short n s h l) (omega (arith, ints), omega (arith, ints))
+    ∙ ap (cast_unsigned w64) z
+  where
+    minus_0x800 : (z : ℤ) → z +ℤ negsuc 2047 ≡ z -ℤ pos 0x800
+    minus_0x800 z = omega (arith, ints)
+
+pub u_read : (bytes : List ℕ) (number : ℕ) → number ≡ cast_unsigned w64 (signed 32 (place_sum (riscv_places UType) (from_le_bytes w32 bytes)))
+    → (number + 18446744073709549568) % 2 ^ 64 ≡ cast_unsigned w64 ((riscv_form UType).reading (window_of (riscv_form UType) bytes))
+u_read bytes number e =
+    let x = from_le_bytes w32 bytes in
+    less_0x800 32 (place_sum (riscv_places UType) x) number (place_sum_below (riscv_places UType) 32 x refl refl) (omega arith) e
+
+pub clui_read : (bytes : List ℕ) (number : ℕ) → number ≡ cast_unsigned w64 (signed 18 (place_sum (riscv_places CluiType) (from_le_bytes w16 bytes)))
+    → (number + 18446744073709549568) % 2 ^ 64 ≡ cast_unsigned w64 ((riscv_form CluiType).reading (window_of (riscv_form CluiType) bytes))
+clui_read bytes number e =
+    let x = from_le_bytes w16 bytes in
+    less_0x800 18 (place_sum (riscv_places CluiType) x) number (place_sum_below (riscv_places CluiType) 18 x refl refl) (omega arith) e
+
+pub ui_read : (bytes : List ℕ) (high low : ℕ) → high ≡ cast_unsigned w64 (signed 32 (place_sum (riscv_places UType) (from_le_bytes w64 bytes)))
+    → low ≡ cast_unsigned w64 (signed 12 (place_sum (bits_to 0 11 52) (from_le_bytes w64 bytes)))
+    → (high + low) % 2 ^ 64 ≡ cast_unsigned w64 ((riscv_form UiType).reading (window_of (riscv_form UiType) bytes))
+ui_read bytes high low e f =
+    let x = from_le_bytes w64 bytes in
+    let h = place_sum (riscv_places UType) x in
+    let l = place_sum (bits_to 0 11 52) x in
+    ap (λ y. (y + low) % 2 ^ 64) e
+    ∙ ap (λ y. (cast_unsigned w64 (signed 32 h) + y) % 2 ^ 64) f
+    ∙ cast_add (signed 32 h) (signed 12 l)
+    (signed_short 32 h (place_sum_below (riscv_places UType) 32 x refl refl) (omega arith))
+    (signed_short 12 l (place_sum_below (bits_to 0 11 52) 12 x refl refl) (omega arith))

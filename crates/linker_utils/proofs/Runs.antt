@@ -284,7 +284,7 @@ one_more_bit : (a b m : ℕ) → m * b + a * (m * 2) ≡ (a * 2 + b) * m
 one_more_bit a b m = grind arith
 
 -- the number of a row of places is the field that it covers
-row_sum : (m : Mark) (n k w r x : ℕ) → holds m ≡ true → place_sum (row n k w r m) x ≡ x / 2 ^ w % 2 ^ n * 2 ^ k
+pub row_sum : (m : Mark) (n k w r x : ℕ) → holds m ≡ true → place_sum (row n k w r m) x ≡ x / 2 ^ w % 2 ^ n * 2 ^ k
 unfolding place_sum
 row_sum m zero k w r x h = let none : x / 2 ^ w % 1 ≡ 0 = omega arith in sym (ap (λ y. y * 2 ^ k) none ∙ omega arith)
 row_sum m (suc n) k w r x h =

@@ -1,3 +1,4 @@
 pub mod Elf
 pub mod RiscV
+pub mod RiscVRows
 pub mod Runs

@@ -1,32 +1,151 @@
 -- RISC-V: its instruction forms (RISC-V unprivileged ISA, "Immediate Encoding Variants"), its rewrites and its jumps (RISC-V
 -- ELF psABI, "Function Call Relaxation").
-use Rattle.std.specs.Prelude.{◌≡◌, ℕ, ◌+◌, ◌*◌, List, ◌++◌, take, drop, Option, None, Some, ℤ, pos, negsuc, ◌≤ℤ◌, ◌-ℤ◌, ◌≤◌, ◌<◌, length, IsTrue}
+use Rattle.std.specs.Prelude.{◌≡◌, ℕ, ◌+◌, ◌*◌, List, ◌++◌, take, drop, Option, None, Some, ℤ, pos, negsuc, ◌≤ℤ◌, ◌-ℤ◌, ◌≤◌, ◌<◌, length, IsTrue, ◌≢◌, ◌-◌, ◌%◌, ◌^◌, Bool, true, false, [], ◌∷◌, ◌<ℤ◌, ◌+ℤ◌, ⊤}
 use Rattle.linker_base.specs.Deletions.{is_kept, rank}
-use Rattle.std.specs.Int.{w32, from_le_bytes, to_le_bytes, int_rem_euclid}
-use Rattle.linker_base.specs.Bits.{field}
-use Rattle.linker_base.specs.Form.{Form, bits_to, signed_immediate}
+use Rattle.std.specs.Int.{w32, from_le_bytes, to_le_bytes, int_rem_euclid, w16, w64, int_div_euclid, cast_signed}
+use Rattle.linker_base.specs.Bits.{field, signed}
+use Rattle.linker_base.specs.Form.{Form, bits_to, signed_immediate, Place, sum_bits_to, place_sum, modulo, Written, IsSameModulo}
+use Rattle.linker_base.specs.Rounded.{rounded_immediate}
 use Rattle.linker_base.specs.Rewrite.{Rewrite, replaces}
 use Rattle.linker_base.specs.declared.relaxation.RelocationModifier.{RelocationModifier}
 use Rattle.linker_base.specs.declared.relaxation.RelocationModifier.TheVariants.{Normal, SkipNextRelocation}
 use Rattle.linker_utils.specs.declared.elf.RiscVInstruction.{RiscVInstruction}
-use Rattle.linker_utils.specs.declared.elf.RiscVInstruction.TheVariants.{JType}
+use Rattle.linker_utils.specs.declared.elf.RiscVInstruction.TheVariants.{UType, IType, SType, BType, JType, CbType, CjType, CluiType, UiType}
 use Rattle.linker_utils.specs.declared.riscv64.RelaxationKind.{RelaxationKind}
-use Rattle.linker_utils.specs.declared.riscv64.RelaxationKind.TheVariants.{NoOp, CallToJal}
+use Rattle.linker_utils.specs.declared.riscv64.RelaxationKind.TheVariants.{NoOp, ReplaceWithNop, CallToJal, Hi20ToCLui, Hi20Delete, Lo12Rs1ToZero}
+
+-- the places of a form's bits
+abbrev pub riscv_places : RiscVInstruction → List Place
+riscv_places UType = sum_bits_to 0x800 12 31 12
+riscv_places IType = bits_to 0 11 20
+riscv_places SType = bits_to 0 4 7 ++ bits_to 5 11 25
+riscv_places BType = bits_to 11 11 7 ++ bits_to 1 4 8 ++ bits_to 5 10 25 ++ bits_to 12 12 31
+riscv_places JType = bits_to 12 19 12 ++ bits_to 11 11 20 ++ bits_to 1 10 21 ++ bits_to 20 20 31
+riscv_places CbType = bits_to 5 5 2 ++ bits_to 1 2 3 ++ bits_to 6 7 5 ++ bits_to 3 4 10 ++ bits_to 8 8 12
+riscv_places CjType = bits_to 5 5 2 ++ bits_to 1 3 3 ++ bits_to 7 7 6 ++ bits_to 6 6 7 ++ bits_to 10 10 8 ++ bits_to 8 9 9 ++ bits_to 4 4 11 ++ bits_to 11 11 12
+riscv_places CluiType = sum_bits_to 0x800 12 16 2 ++ sum_bits_to 0x800 17 17 12
+riscv_places UiType = sum_bits_to 0x800 12 31 12 ++ bits_to 0 11 52
+
+-- the sum of the immediates of `UType` in the window's first word and `IType` in its second
+abbrev pub ui_sum : ℕ → ℤ
+ui_sum x = signed 32 (place_sum (sum_bits_to 0x800 12 31 12) x) +ℤ signed 12 (place_sum (bits_to 0 11 52) x)
+
+abbrev pub ui_form : Form
+ui_form =
+    record {
+      window = w64;
+      width = λ _. 64;
+      places = λ _. riscv_places UiType;
+      number = λ _ v. v;
+      base = λ _ x. x;
+      reading = ui_sum;
+      flag = λ _. false;
+      restores = λ _. true;
+      machine = ui_sum;
+      wanted = λ _ _ v. pos v;
+      claim = modulo 32;
+    }
 
 abbrev pub riscv_form : RiscVInstruction → Form
-riscv_form JType = signed_immediate w32 21 1 (bits_to 12 19 12 ++ bits_to 11 11 20 ++ bits_to 1 10 21 ++ bits_to 20 20 31)
+riscv_form UType = rounded_immediate w32 32 12 0x800 false (riscv_places UType)
+riscv_form IType = signed_immediate w32 12 0 (riscv_places IType)
+riscv_form SType = signed_immediate w32 12 0 (riscv_places SType)
+riscv_form BType = signed_immediate w32 13 1 (riscv_places BType)
+riscv_form JType = signed_immediate w32 21 1 (riscv_places JType)
+riscv_form CbType = signed_immediate w16 9 1 (riscv_places CbType)
+riscv_form CjType = signed_immediate w16 12 1 (riscv_places CjType)
+riscv_form CluiType = rounded_immediate w16 18 12 0x800 true (riscv_places CluiType)
+riscv_form UiType = ui_form
+
+-- from -2 ^ 31 - 0x800 up, below 2 ^ 31 - 0x800
+abbrev pub IsPairRange : ℤ → Type 0
+IsPairRange z = (negsuc 2147485695 ≤ℤ z) × (z <ℤ pos 2147481600)
+
+-- The sum of a high and a low part is the value: modulo 2 ^ 32, and exactly in the range of pairs.
+pub record IsPairOf (v : ℕ) (sum : ℤ) : Type 0 where
+  pub same : IsSameModulo 32 sum (pos v)
+  pub exact : IsPairRange (signed 64 v) → sum ≡ signed 64 v
+
+-- the low part completes each high part that was written of the same value
+abbrev pub Completes : RiscVInstruction → ℕ → ℕ → Type 0
+Completes low v after =
+    (neg : Bool) (before high : ℕ) → Written (riscv_form UType) v neg before high → IsPairOf v ((riscv_form UType).machine high +ℤ (riscv_form low).machine after)
+
+-- what a written instruction and its pair read as
+abbrev pub PairReads : RiscVInstruction → ℕ → ℕ → Type 0
+PairReads UType v after = ⊤
+PairReads IType v after = Completes IType v after
+PairReads SType v after = Completes SType v after
+PairReads BType v after = ⊤
+PairReads JType v after = ⊤
+PairReads CbType v after = ⊤
+PairReads CjType v after = ⊤
+PairReads CluiType v after = ⊤
+PairReads UiType v after = IsPairOf v ((riscv_form UiType).machine after)
 
 -- `jal` of distance 0, with the destination register of the word before: bits 7 to 11
 abbrev pub call_to_jal : List ℕ → List ℕ
 call_to_jal window = to_le_bytes w32 (0x6f + field (from_le_bytes w32 window) 7 12 * 128)
 
+-- two `c.nop`
+abbrev pub two_nops : List ℕ → List ℕ
+two_nops window = 0x01 ∷ 0x00 ∷ 0x01 ∷ 0x00 ∷ []
+
+-- `c.lui` of immediate 0, with the destination register of the half before: bits 7 to 11
+abbrev pub hi20_to_clui : List ℕ → List ℕ
+hi20_to_clui window = to_le_bytes w16 (0x6001 + field (from_le_bytes w16 window) 7 12 * 128)
+
+-- the word with bits 15 to 19 cleared
+abbrev pub rs1_to_zero : List ℕ → List ℕ
+rs1_to_zero window = let word = from_le_bytes w32 window in to_le_bytes w32 (word - field word 15 20 * 2 ^ 15)
+
 abbrev pub riscv_rewrite : RelaxationKind → Option Rewrite
 riscv_rewrite NoOp = None
+riscv_rewrite ReplaceWithNop = Some (replaces 0 4 two_nops)
 riscv_rewrite CallToJal = Some (replaces 0 4 call_to_jal)
+riscv_rewrite Hi20ToCLui = Some (replaces 0 2 hi20_to_clui)
+riscv_rewrite Hi20Delete = None
+riscv_rewrite Lo12Rs1ToZero = Some (replaces 0 4 rs1_to_zero)
 
 abbrev pub riscv_modifier : RelaxationKind → RelocationModifier
 riscv_modifier NoOp = Normal
+riscv_modifier ReplaceWithNop = Normal
 riscv_modifier CallToJal = SkipNextRelocation
+riscv_modifier Hi20ToCLui = Normal
+riscv_modifier Hi20Delete = SkipNextRelocation
+riscv_modifier Lo12Rs1ToZero = Normal
+
+-- bits 12 to 31 of the value plus 0x800
+abbrev pub high_20 : ℕ → ℕ
+high_20 v = field ((v + 0x800) % 2 ^ 64) 12 32
+
+-- the low 12 bits, in two's complement
+abbrev pub low_12 : ℕ → ℤ
+low_12 v = signed 12 (v % 2 ^ 12)
+
+-- from -2 ^ 31 up, below 2 ^ 31
+abbrev pub IsSigned32 : ℤ → Type 0
+IsSigned32 z = (negsuc 2147483647 ≤ℤ z) × (z <ℤ pos 2147483648)
+
+-- the value plus 0x800, in two's complement, divided by 4096 and rounded down
+abbrev pub rounded_high : ℕ → ℤ
+rounded_high v = int_div_euclid (cast_signed w64 ((v + 0x800) % 2 ^ 64)) (pos 4096)
+
+-- from -32 to 31 and not 0
+abbrev pub FitsClui : ℕ → Type 0
+FitsClui v = (negsuc 31 ≤ℤ rounded_high v) × (rounded_high v ≤ℤ pos 31) × (rounded_high v ≢ pos 0)
+
+-- the form's immediate, once written, and the signed low 12 bits make the value, in two's complement
+abbrev pub HoldsHigh : RiscVInstruction → ℕ → Type 0
+HoldsHigh form v = (neg : Bool) (before after : ℕ) → Written (riscv_form form) v neg before after → (riscv_form form).machine after +ℤ low_12 v ≡ signed 64 v
+
+-- `auipc rd` and `jalr rd, _(rd)`
+pub record IsCallPair (auipc jalr : ℕ) : Type 0 where
+  pub auipc_opcode : field auipc 0 7 ≡ 0x17
+  pub jalr_opcode : field jalr 0 7 ≡ 0x67
+  pub jalr_function : field jalr 12 15 ≡ 0
+  pub links : field jalr 7 12 ≡ field auipc 7 12
+  pub source : field jalr 15 20 ≡ field auipc 7 12
 
 abbrev pub IsEven : ℤ → Type 0
 IsEven d = int_rem_euclid d (pos 2) ≡ pos 0
@@ -38,6 +157,10 @@ IsJalDistance d = (negsuc 1048575 ≤ℤ d) × (d ≤ℤ pos 1048575)
 -- the word of four bytes at a site
 abbrev pub word_at : List ℕ → ℕ → ℕ
 word_at section site = from_le_bytes w32 (drop site section)
+
+-- eight bytes are there, and are such a pair
+abbrev pub IsPlainCall : List ℕ → ℕ → Type 0
+IsPlainCall section site = (site + 8 ≤ length section) × IsCallPair (word_at section site) (word_at section (site + 4))
 
 -- At the site stands `jal` by the distance with the old destination register, and no other byte has changed.
 pub record JumpsAt (before after : List ℕ) (site : ℕ) (distance : ℤ) : Type 0 where

@@ -1,0 +1,161 @@
+-- The laws of forms whose places hold bits of the value plus a constant.
+use Rattle.std.proofs.Common.{◌≡◌, ℕ, suc, ◌+◌, ◌-◌, ◌*◌, ◌/◌, ◌%◌, ◌^◌, ◌<◌, ◌≤◌, Bool, true, false, ◌&&◌, ltb, leb, List, [], ◌∷◌, refl, sym, ◌∙◌, ap, arith, cond, pos, negsuc, ◌-ℤ◌, inl, inr}
+use Rattle.std.specs.Int.{bit_at, int_rem_euclid, w64, cast_unsigned, Width}
+use Rattle.std.specs.List.{All}
+use Rattle.std.proofs.lemmas.Bool.{and_parts, and_from, and_right, leb-true, ltb-true, cond_both, cond-true, cond-false, le-leb, le-ltb, lt-ltb, cases_lt}
+use Rattle.std.proofs.lemmas.Int.{ints}
+use Rattle.std.proofs.lemmas.List.Elements.{All-nil, All-cons, All-head, All-tail}
+use Rattle.std.proofs.lemmas.Nat.{pow_pos, pow-add, mod_low, mod_below}
+use Rattle.std.proofs.lemmas.Nat.Bits.{same_from_bits}
+use Rattle.std.proofs.Math.Nat.{mod-eq_of_lt}
+use Rattle.linker_base.specs.Bits.{signed}
+use Rattle.linker_base.specs.Form.{values_below, values_apart, Place, IsLaid, placed_bit, bit_for, place_sum, IsClear, Written, MachineReads, IsReadBack}
+use Rattle.linker_base.specs.Rounded.{rounded_immediate}
+use Rattle.linker_base.proofs.Places.{value_bit, adds, bit_at-place_sum}
+use Rattle.linker_base.proofs.Fields.{bit_at_window, bit_at_mod, signed_rem, aligned_rem}
+use Rattle.linker_base.proofs.Immediates.{fills, values_apart_fills, place_sum_laid, place_sum_below, restored, all_hold, own_bits, bits_kept}
+
+-- all places are of value bits from bit n up
+abbrev pub values_from : ℕ → List Place → Bool
+values_from n [] = true
+values_from n (p ∷ ps) = leb n p.value && values_from n ps
+
+looked_up : (low n before : ℕ) (f g : ℕ → ℕ) (ps : List Place) → ((k : ℕ) → low ≤ k → k < n → f k ≡ g k)
+    → values_from low ps ≡ true → values_below n ps ≡ true
+    → All (λ (p : Place). g p.value ≡ bit_at before p.word) ps → All (λ (p : Place). f p.value ≡ bit_at before p.word) ps
+looked_up low n before f g [] same a b own = All-nil (λ (p : Place). f p.value ≡ bit_at before p.word)
+looked_up low n before f g (p ∷ ps) same a b own =
+    let from = and_parts (leb low p.value) (values_from low ps) a in
+    let below = and_parts (ltb p.value n) (values_below n ps) b in
+    All-cons (λ (q : Place). f q.value ≡ bit_at before q.word) p ps
+    (same p.value (leb-true low p.value from.0) (ltb-true p.value n below.0) ∙ All-head (λ (q : Place). g q.value ≡ bit_at before q.word) p ps own)
+    (looked_up low n before f g ps same from.1 below.1 (All-tail (λ (q : Place). g q.value ≡ bit_at before q.word) p ps own))
+
+-- bits low and up, below n, of x
+inside_window : (x low n k : ℕ) → low ≤ k → k < n → bit_at (x / 2 ^ low % 2 ^ (n - low) * 2 ^ low) k ≡ bit_at x k
+inside_window x low n k a b =
+    bit_at_window x low n k ∙ cond-true (leb low k && ltb k n) (bit_at x k) 0 (and_from (leb low k) (ltb k n) (le-leb low k a) (lt-ltb k n b))
+
+-- what the places of bits low to n need for `read_value` and a write to be inverse
+pub record IsSoundPart (low n r : ℕ) (ps : List Place) : Type 0 where
+  pub ordered : low ≤ n
+  pub short : n ≤ 64
+  pub filled : fills low n ps ≡ true
+  pub from : values_from low ps ≡ true
+  pub below : values_below n ps ≡ true
+  pub held : all_hold ps ≡ true
+  pub added : adds r ps ≡ true
+
+-- placing a value whose sum with r has the bits that stand at the places changes none of them
+pub part_kept : (low n r : ℕ) (ps : List Place) (v before after : ℕ) → IsSoundPart low n r ps
+    → (v + r) % 2 ^ 64 / 2 ^ low % 2 ^ (n - low) * 2 ^ low ≡ place_sum ps before
+    → All (λ (p : Place). bit_at after p.word ≡ placed_bit p.mark (bit_for p v) (bit_at before p.word)) ps
+    → All (λ (p : Place). bit_at after p.word ≡ bit_at before p.word) ps
+part_kept low n r ps v before after sound e placed =
+    let apart = values_apart_fills low n ps sound.filled in
+    let x = (v + r) % 2 ^ 64 in
+    let same : (k : ℕ) → low ≤ k → k < n → bit_at x k ≡ value_bit ps k before =
+    λ k a b. sym (inside_window x low n k a b) ∙ ap (λ y. bit_at y k) e ∙ bit_at-place_sum ps before k apart in
+    bits_kept n r v before after (bit_at x) ps (λ k l. refl) sound.below sound.held sound.added
+    (looked_up low n before (bit_at x) (λ k. value_bit ps k before) ps same sound.from sound.below (own_bits ps before apart sound.held))
+    placed
+
+-- a field below bit 64 doesn't see what is cut off there
+pub field_of_sum : (x low n : ℕ) → n ≤ 64 → x % 2 ^ 64 / 2 ^ low % 2 ^ (n - low) * 2 ^ low ≡ x / 2 ^ low % 2 ^ (n - low) * 2 ^ low
+field_of_sum x low n h =
+    same_from_bits (x % 2 ^ 64 / 2 ^ low % 2 ^ (n - low) * 2 ^ low) (x / 2 ^ low % 2 ^ (n - low) * 2 ^ low) (λ i.
+    bit_at_window (x % 2 ^ 64) low n i
+    ∙ elim (cases_lt i n) [
+      | inl inside ↦ ap (λ y. cond (leb low i && ltb i n) y 0) (bit_at_mod x 64 i (omega arith))
+      | inr above ↦
+          let out : (leb low i && ltb i n) ≡ false = and_right (leb low i) (ltb i n) (le-ltb i n above) in
+          cond-false (leb low i && ltb i n) (bit_at (x % 2 ^ 64) i) 0 out ∙ sym (cond-false (leb low i && ltb i n) (bit_at x i) 0 out)
+    ]
+    ∙ sym (bit_at_window x low n i))
+
+-- ---- two's complement less a constant
+
+module _ (s r m q : ℕ) (small : s < m) (parts : 2 ^ 64 ≡ suc q * m) (room : m + r ≤ 2 ^ 64) where
+  below_whole : s < 2 ^ 64
+  below_whole = omega arith
+
+  -- s itself, where it isn't below r
+  above_part : r ≤ s → (cast_unsigned w64 (pos s -ℤ pos r) % 2 ^ 64 + r) % 2 ^ 64 ≡ s
+  above_part h =
+      let z : pos s -ℤ pos r ≡ pos (s - r) = omega (arith, ints) in
+      let cast : cast_unsigned w64 (pos s -ℤ pos r) ≡ s - r = ap (cast_unsigned w64) z in
+      let wide = below_whole in
+      ap (λ y. (y % 2 ^ 64 + r) % 2 ^ 64) cast ∙ omega arith
+
+  below_part : s < r → (cast_unsigned w64 (pos s -ℤ pos r) % 2 ^ 64 + r) % 2 ^ 64 ≡ s
+  below_part h =
+      let z : pos s -ℤ pos r ≡ negsuc (r - s - 1) = omega (arith, ints) in
+      let cast : cast_unsigned w64 (pos s -ℤ pos r) ≡ 2 ^ 64 - (r - s) = ap (cast_unsigned w64) z ∙ omega arith in
+      ap (λ y. (y % 2 ^ 64 + r) % 2 ^ 64) cast ∙ omega arith
+
+  -- s - m
+  minus_part : (cast_unsigned w64 (pos s -ℤ pos m -ℤ pos r) % 2 ^ 64 + r) % 2 ^ 64 ≡ q * m + s
+  minus_part =
+      let z : pos s -ℤ pos m -ℤ pos r ≡ negsuc (m + r - s - 1) = omega (arith, ints) in
+      let cast : cast_unsigned w64 (pos s -ℤ pos m -ℤ pos r) ≡ 2 ^ 64 - (m + r - s) = ap (cast_unsigned w64) z ∙ omega arith in
+      ap (λ y. (y % 2 ^ 64 + r) % 2 ^ 64) cast ∙ omega arith
+
+-- the bits of a signed number less r, to which r is added again
+signed_less : (n s r q : ℕ) → s < 2 ^ n → 2 ^ 64 ≡ suc q * 2 ^ n → 2 ^ n + r ≤ 2 ^ 64
+    → (cast_unsigned w64 (signed n s -ℤ pos r) % 2 ^ 64 + r) % 2 ^ 64 % 2 ^ n ≡ s
+signed_less n s r q h e room =
+    let same : s % 2 ^ n ≡ s = mod-eq_of_lt h in
+    cond_both (ltb s (2 ^ (n - 1))) (pos s) (pos s -ℤ pos (2 ^ n)) (λ z. (cast_unsigned w64 (z -ℤ pos r) % 2 ^ 64 + r) % 2 ^ 64 % 2 ^ n ≡ s)
+    (λ _. elim (cases_lt s r) [
+      | inl below ↦ ap (λ y. y % 2 ^ n) (below_part s r (2 ^ n) q h e room below) ∙ same
+      | inr above ↦ ap (λ y. y % 2 ^ n) (above_part s r (2 ^ n) q h e room above) ∙ same
+    ])
+    (λ _. ap (λ y. y % 2 ^ n) (minus_part s r (2 ^ n) q h e room) ∙ mod_low q n s h)
+
+whole_parts : (n : ℕ) → n ≤ 64 → 2 ^ 64 ≡ suc (2 ^ (64 - n) - 1) * 2 ^ n
+whole_parts n l =
+    ap (λ k. 2 ^ k) (let e : 64 ≡ (64 - n) + n = omega arith in e) ∙ pow-add 2 (64 - n) n ∙ ap (λ y. y * 2 ^ n) (omega (arith, pow_pos (64 - n)))
+
+-- ---- rounded immediates
+
+-- what `rounded_immediate` asks of its numbers and places
+abbrev pub is_sound_part : ℕ → ℕ → ℕ → List Place → Bool
+is_sound_part low n r ps =
+    leb low n && (leb n 64 && (fills low n ps && (values_from low ps && (values_below n ps && (all_hold ps && adds r ps)))))
+
+pub sound_part : (low n r : ℕ) (ps : List Place) → is_sound_part low n r ps ≡ true → IsSoundPart low n r ps
+sound_part low n r ps h =
+    let a = and_parts (leb low n) (leb n 64 && (fills low n ps && (values_from low ps && (values_below n ps && (all_hold ps && adds r ps))))) h in
+    let b = and_parts (leb n 64) (fills low n ps && (values_from low ps && (values_below n ps && (all_hold ps && adds r ps)))) a.1 in
+    let c = and_parts (fills low n ps) (values_from low ps && (values_below n ps && (all_hold ps && adds r ps))) b.1 in
+    let d = and_parts (values_from low ps) (values_below n ps && (all_hold ps && adds r ps)) c.1 in
+    let e = and_parts (values_below n ps) (all_hold ps && adds r ps) d.1 in
+    let f = and_parts (all_hold ps) (adds r ps) e.1 in
+    record { ordered = leb-true low n a.0; short = leb-true n 64 b.0; filled = c.0; from = d.0; below = e.0; held = f.0; added = f.1 }
+
+module _ (w : Width) (n low r : ℕ) (flags : Bool) (ps : List Place) (sound : IsSoundPart low n r ps) where
+  -- the number at the places after a write
+  pub rounded_laid : (v before after : ℕ) → IsLaid ps v before after → IsClear ps before → place_sum ps after ≡ (v + r - (v + r) % 2 ^ low) % 2 ^ n
+  rounded_laid v before after laid clear =
+      place_sum_laid low n r ps v before after sound.short sound.filled sound.added laid clear
+      ∙ field_of_sum (v + r) low n sound.short
+      ∙ sym (aligned_rem (v + r) low n sound.ordered)
+
+  -- modulo 2 ^ n the machine reads the rounded value
+  pub rounded_machine : (v : ℕ) (neg : Bool) (before after : ℕ)
+      → Written (rounded_immediate w n low r flags ps) v neg before after
+      → MachineReads (rounded_immediate w n low r flags ps) v neg before after
+  rounded_machine v neg before after laid clear =
+      ap (λ y. int_rem_euclid (signed n y) (pos (2 ^ n))) (rounded_laid v before after laid clear)
+      ∙ signed_rem n ((v + r - (v + r) % 2 ^ low) % 2 ^ n) (mod_below (v + r - (v + r) % 2 ^ low) (2 ^ n) (pow_pos n))
+
+  pub rounded_restored : 2 ^ n + r ≤ 2 ^ 64 → (v : ℕ) (neg : Bool) (before after : ℕ)
+      → Written (rounded_immediate w n low r flags ps) v neg before after
+      → IsReadBack (rounded_immediate w n low r flags ps) v neg before → after ≡ before
+  rounded_restored room v neg before after laid back =
+      let apart = values_apart_fills low n ps sound.filled in
+      let sum = place_sum ps before in
+      restored n r ps v before after apart sound.below sound.held sound.added
+      (ap (λ y. (y + r) % 2 ^ 64 % 2 ^ n) back.value
+      ∙ signed_less n sum r (2 ^ (64 - n) - 1) (place_sum_below ps n before apart sound.below) (whole_parts n sound.short) room)
+      laid

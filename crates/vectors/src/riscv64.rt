@@ -1,0 +1,420 @@
+//! RISC-V: instructions, pairs and rewrites as assemblers and linkers write them, and values worked by
+//! hand from the manual.
+
+mod pairs;
+mod words;
+
+use linker_utils::elf::{
+    AllowedRange, Bias, InstructionForm, RelocationInstruction, RelocationSize, RiscVInstruction,
+    Sign,
+};
+use linker_utils::riscv64::{
+    CallError, RelaxationKind, RiscVRelocation, distance_fits_jal, is_plain_call, jal_site,
+    relocation_type_from_raw,
+};
+
+/// What `read_value` answers where the machine reads `machine`.
+fn reading(form: RiscVInstruction, machine: i64) -> (u64, bool) {
+    match form {
+        RiscVInstruction::UType => (machine.cast_unsigned().wrapping_sub(0x800), false),
+        RiscVInstruction::CluiType => (machine.cast_unsigned().wrapping_sub(0x800), machine < 0),
+        RiscVInstruction::UiType => (machine.cast_unsigned(), false),
+        _ => (machine.cast_unsigned(), machine < 0),
+    }
+}
+
+#[test]
+fn writes_and_reads_the_words_of_assemblers(rt: HostRuntime) {
+    let forms: [(RiscVInstruction, &[words::Word]); 8] = [
+        (RiscVInstruction::UType, &words::U_TYPE),
+        (RiscVInstruction::IType, &words::I_TYPE),
+        (RiscVInstruction::SType, &words::S_TYPE),
+        (RiscVInstruction::BType, &words::B_TYPE),
+        (RiscVInstruction::JType, &words::J_TYPE),
+        (RiscVInstruction::CbType, &words::CB_TYPE),
+        (RiscVInstruction::CjType, &words::CJ_TYPE),
+        (RiscVInstruction::CluiType, &words::CLUI_TYPE),
+    ];
+    for (form, words) in forms {
+        for (before, value, after, machine) in words {
+            let mut bytes = before.to_le_bytes();
+            form.write_to_value(value.cast_unsigned(), *value < 0, &mut bytes);
+            assert_eq!(rt; u32::from_le_bytes(bytes), *after, "{form:?} of {value}");
+            assert_eq!(rt;
+                form.read_value(&bytes),
+                reading(form, *machine),
+                "{form:?} of {value}"
+            );
+        }
+    }
+}
+
+#[test]
+fn writes_and_reads_linked_pairs(rt: HostRuntime) {
+    let tables: [(RiscVInstruction, &[pairs::Pair]); 2] = [
+        (RiscVInstruction::IType, &pairs::U_WITH_I),
+        (RiscVInstruction::SType, &pairs::U_WITH_S),
+    ];
+    for (low_form, pairs) in tables {
+        for (before, value, after) in pairs {
+            let mut high = before[0].to_le_bytes();
+            let mut low = before[1].to_le_bytes();
+            RiscVInstruction::UType.write_to_value(value.cast_unsigned(), false, &mut high);
+            low_form.write_to_value(value.cast_unsigned(), false, &mut low);
+            assert_eq!(rt;
+                u32::from_le_bytes(high),
+                after[0],
+                "the high part of {value}"
+            );
+            assert_eq!(rt;
+                u32::from_le_bytes(low),
+                after[1],
+                "the low part of {value}"
+            );
+            let (rounded, _) = RiscVInstruction::UType.read_value(&high);
+            let (rest, _) = low_form.read_value(&low);
+            let sum = rounded.wrapping_add(0x800).wrapping_add(rest);
+            assert_eq!(rt; sum, value.cast_unsigned());
+        }
+    }
+    for (before, value, after) in &pairs::UI {
+        let mut bytes = both(*before);
+        RiscVInstruction::UiType.write_to_value(value.cast_unsigned(), false, &mut bytes);
+        assert_eq!(rt; bytes, both(*after), "{value}");
+        assert_eq!(rt;
+            RiscVInstruction::UiType.read_value(&bytes),
+            (value.cast_unsigned(), false)
+        );
+    }
+}
+
+/// Two words as the bytes of a section.
+fn both(words: [u32; 2]) -> [u8; 8] {
+    (words[0] as u64 | (words[1] as u64) << 32).to_le_bytes()
+}
+
+#[test]
+fn shortens_lui_as_gnu_ld_does(rt: HostRuntime) {
+    let table: [([u8; 8], i64, [u8; 6]); 11] = [
+        (
+            [0xb7, 0x04, 0x00, 0x00, 0x93, 0x84, 0x04, 0x00],
+            6144,
+            [0x89, 0x64, 0x93, 0x84, 0x04, 0x80],
+        ),
+        (
+            [0xb7, 0x01, 0x00, 0x00, 0x93, 0x81, 0x01, 0x00],
+            115177,
+            [0xf1, 0x61, 0x93, 0x81, 0x91, 0x1e],
+        ),
+        (
+            [0xb7, 0x02, 0x00, 0x00, 0x93, 0x82, 0x02, 0x00],
+            98513,
+            [0xe1, 0x62, 0x93, 0x82, 0x12, 0x0d],
+        ),
+        (
+            [0xb7, 0x02, 0x00, 0x00, 0x93, 0x82, 0x02, 0x00],
+            81582,
+            [0xd1, 0x62, 0x93, 0x82, 0xe2, 0xea],
+        ),
+        (
+            [0xb7, 0x01, 0x00, 0x00, 0x93, 0x81, 0x01, 0x00],
+            107386,
+            [0xe9, 0x61, 0x93, 0x81, 0xa1, 0x37],
+        ),
+        (
+            [0xb7, 0x04, 0x00, 0x00, 0x93, 0x84, 0x04, 0x00],
+            37206,
+            [0xa5, 0x64, 0x93, 0x84, 0x64, 0x15],
+        ),
+        (
+            [0xb7, 0x04, 0x00, 0x00, 0x93, 0x84, 0x04, 0x00],
+            -8192,
+            [0xf9, 0x74, 0x93, 0x84, 0x04, 0x00],
+        ),
+        (
+            [0x37, 0x05, 0x00, 0x00, 0x13, 0x05, 0x05, 0x00],
+            -120984,
+            [0x09, 0x75, 0x13, 0x05, 0x85, 0x76],
+        ),
+        (
+            [0xb7, 0x04, 0x00, 0x00, 0x93, 0x84, 0x04, 0x00],
+            -7223,
+            [0xf9, 0x74, 0x93, 0x84, 0x94, 0x3c],
+        ),
+        (
+            [0xb7, 0x04, 0x00, 0x00, 0x93, 0x84, 0x04, 0x00],
+            -71432,
+            [0xbd, 0x74, 0x93, 0x84, 0x84, 0x8f],
+        ),
+        (
+            [0x37, 0x05, 0x00, 0x00, 0x13, 0x05, 0x05, 0x00],
+            -100355,
+            [0x1d, 0x75, 0x13, 0x05, 0xd5, 0x7f],
+        ),
+    ];
+    for (before, value, after) in table {
+        let value = value.cast_unsigned();
+        assert!(rt; RelaxationKind::hi20_fits_clui(value));
+        let mut section = before;
+        let mut offset = 0;
+        let mut addend = 0;
+        RelaxationKind::Hi20ToCLui.apply(&mut section, &mut offset, &mut addend);
+        RiscVInstruction::CluiType.write_to_value(value, false, &mut section);
+        RiscVInstruction::IType.write_to_value(value, false, &mut section[4..]);
+        assert_eq!(rt; section[..2], after[..2]);
+        assert_eq!(rt; section[4..], after[2..]);
+    }
+}
+
+#[test]
+fn deletes_lui_as_gnu_ld_does(rt: HostRuntime) {
+    let table: [([u8; 8], u64, [u8; 4]); 2] = [
+        (
+            [0x37, 0x05, 0x00, 0x00, 0x13, 0x05, 0x05, 0x00],
+            0,
+            [0x13, 0x05, 0x00, 0x00],
+        ),
+        (
+            [0x37, 0x05, 0x00, 0x00, 0x13, 0x05, 0x05, 0x00],
+            291,
+            [0x13, 0x05, 0x30, 0x12],
+        ),
+    ];
+    for (before, value, after) in table {
+        assert!(rt; RelaxationKind::hi20_is_zero(value));
+        let mut section = before;
+        let mut addend = 0;
+        let mut high = 0;
+        RelaxationKind::Hi20Delete.apply(&mut section, &mut high, &mut addend);
+        assert_eq!(rt; section, before);
+        let mut low = 4;
+        RelaxationKind::Lo12Rs1ToZero.apply(&mut section, &mut low, &mut addend);
+        RiscVInstruction::IType.write_to_value(value, false, &mut section[4..]);
+        assert_eq!(rt; section[4..], after[..]);
+    }
+}
+
+#[test]
+fn places_immediates_where_the_manual_has_them(rt: HostRuntime) {
+    let table: [(RiscVInstruction, u32, i64, u32, i64, bool); 19] = [
+        (
+            RiscVInstruction::UType,
+            0x0000_0537,
+            0x800,
+            0x0000_1537,
+            0x800,
+            false,
+        ),
+        (
+            RiscVInstruction::IType,
+            0x0005_0513,
+            0x800,
+            0x8005_0513,
+            -2048,
+            true,
+        ),
+        (
+            RiscVInstruction::BType,
+            0x0000_0063,
+            -4096,
+            0x8000_0063,
+            -4096,
+            true,
+        ),
+        (
+            RiscVInstruction::BType,
+            0x0000_0063,
+            4094,
+            0x7e00_0fe3,
+            4094,
+            false,
+        ),
+        (
+            RiscVInstruction::JType,
+            0x0000_006f,
+            -1048576,
+            0x8000_006f,
+            -1048576,
+            true,
+        ),
+        (
+            RiscVInstruction::JType,
+            0x0000_006f,
+            1048574,
+            0x7fff_f06f,
+            1048574,
+            false,
+        ),
+        (RiscVInstruction::CbType, 0xc001, 254, 0xcc7d, 254, false),
+        (RiscVInstruction::CjType, 0xa001, -2, 0xbffd, -2, true),
+        (
+            RiscVInstruction::CluiType,
+            0x6501,
+            -0x1000,
+            0x757d,
+            -0x1800,
+            true,
+        ),
+        (
+            RiscVInstruction::UType,
+            0,
+            -0x801,
+            0xffff_f000,
+            -0x1800,
+            false,
+        ),
+        (RiscVInstruction::IType, 0, -1, 0xfff0_0000, -1, true),
+        (RiscVInstruction::SType, 0, -1, 0xfe00_0f80, -1, true),
+        (RiscVInstruction::BType, 0, -1, 0xfe00_0f80, -2, true),
+        (RiscVInstruction::JType, 0, -1, 0xffff_f000, -2, true),
+        (RiscVInstruction::CbType, 0, 0xffff, 0x1c7c, -2, true),
+        (RiscVInstruction::CjType, 0, 0xffff, 0x1ffc, -2, true),
+        (RiscVInstruction::UType, 0, 0xffff_fff6, 0, -0x800, false),
+        (
+            RiscVInstruction::IType,
+            0,
+            0xffff_fff6,
+            0xff60_0000,
+            -10,
+            true,
+        ),
+        (
+            RiscVInstruction::UType,
+            0x0000_0037,
+            0x7fff_f7ff,
+            0x7fff_f037,
+            0x7fff_e800,
+            false,
+        ),
+    ];
+    for (form, before, value, after, read, negative) in table {
+        let mut bytes = before.to_le_bytes();
+        form.write_to_value(value.cast_unsigned(), negative, &mut bytes);
+        assert_eq!(rt; u32::from_le_bytes(bytes), after, "{form:?} of {value}");
+        assert_eq!(rt;
+            form.read_value(&bytes),
+            (read.cast_unsigned(), negative),
+            "{form:?} of {value}"
+        );
+        let any = RelocationInstruction::RiscV(form);
+        assert_eq!(rt; any.read(&bytes), (read.cast_unsigned(), negative));
+        assert!(rt; any.window() <= 4 && any.fits(value.cast_unsigned(), &bytes));
+        any.write(read.cast_unsigned(), negative, &mut bytes);
+        assert_eq!(rt; u32::from_le_bytes(bytes), after, "{form:?} written back");
+    }
+    let mut call = [0; 8];
+    RiscVInstruction::UiType.write_to_value(0x800, false, &mut call);
+    assert_eq!(rt; call, both([0x0000_1000, 0x8000_0000]));
+    assert_eq!(rt; RiscVInstruction::UiType.read_value(&call), (0x800, false));
+    assert_eq!(rt; RiscVInstruction::UiType.window(), 8);
+}
+
+#[test]
+fn rewrites_single_instructions(rt: HostRuntime) {
+    let table: [(RelaxationKind, u32, u32); 4] = [
+        (RelaxationKind::Hi20ToCLui, 0x0000_0537, 0x0000_6501),
+        (RelaxationKind::Lo12Rs1ToZero, 0x0005_0513, 0x0000_0513),
+        (RelaxationKind::ReplaceWithNop, 0x0005_0513, 0x0001_0001),
+        (RelaxationKind::CallToJal, 0x0000_0097, 0x0000_00ef),
+    ];
+    for (kind, before, after) in table {
+        let mut section = before.to_le_bytes();
+        assert!(rt; kind.can_apply(&section, 0));
+        assert!(rt; !kind.can_apply(&section, 3));
+        assert!(rt; !kind.can_apply(&section, 1 << 32));
+        let mut offset = 0;
+        let mut addend = 5;
+        kind.apply(&mut section, &mut offset, &mut addend);
+        assert_eq!(rt; u32::from_le_bytes(section), after, "{kind:?}");
+        assert_eq!(rt; (offset, addend), (0, 5));
+    }
+    let mut half = 0x0000_0537u32.to_le_bytes();
+    RelaxationKind::Hi20ToCLui.apply(&mut half, &mut 0, &mut 0);
+    RiscVInstruction::CluiType.write_to_value((-0x1000i64).cast_unsigned(), true, &mut half);
+    assert_eq!(rt; u32::from_le_bytes(half), 0x757d);
+}
+
+#[test]
+fn tells_which_high_parts_are_zero_or_fit(rt: HostRuntime) {
+    for (value, want) in [(0x7ff, true), (1u64 << 32, true), (0x800, false)] {
+        assert_eq!(rt; RelaxationKind::hi20_is_zero(value), want, "{value}");
+    }
+    let table: [(i64, bool); 9] = [
+        (-0x1000, true),
+        (-0x20800, true),
+        (-0x20801, false),
+        (-0x800, false),
+        (0x1f7ff, true),
+        (0x1f800, false),
+        (0x1000, true),
+        (0x20000, false),
+        (0, false),
+    ];
+    for (value, want) in table {
+        assert_eq!(rt;
+            RelaxationKind::hi20_fits_clui(value.cast_unsigned()),
+            want,
+            "{value}"
+        );
+    }
+    for (register, want) in [(0, false), (1, true), (2, false), (3, true), (31, true)] {
+        assert_eq!(rt; RelaxationKind::rd_valid_for_clui(register), want);
+    }
+}
+
+#[test]
+fn tells_plain_calls_from_tail_calls(rt: HostRuntime) {
+    let plain = both([0x0000_0097, 0x0000_80e7]);
+    assert!(rt; is_plain_call(&plain, 0));
+    assert!(rt; !is_plain_call(&plain, 1));
+    assert!(rt; !is_plain_call(&plain[..7], 0));
+    let tail = [0x17, 0x03, 0x00, 0x00, 0x67, 0x00, 0x03, 0x00];
+    assert!(rt; !is_plain_call(&tail, 0));
+    let mut section = tail;
+    assert_eq!(rt; jal_site(&mut section, 0, 8194), Ok(()));
+    assert!(rt; section.starts_with(&[0x6f, 0x23, 0x20, 0x00]));
+}
+
+#[test]
+fn refuses_distances_that_jal_cannot_hold(rt: HostRuntime) {
+    for (distance, want) in [(-1048576, true), (1048575, true), (1048576, false)] {
+        assert_eq!(rt; distance_fits_jal(distance), want);
+    }
+    let mut section = 0x0000_0097u32.to_le_bytes();
+    assert_eq!(rt; jal_site(&mut section, 0, 1048576), Err(CallError::TooFar));
+    assert_eq!(rt;
+        jal_site(&mut section, 0, 1048575),
+        Err(CallError::OddDistance)
+    );
+    assert_eq!(rt; jal_site(&mut section, 1, 2), Err(CallError::OutOfSection));
+}
+
+#[test]
+fn relocations_say_where_values_go(rt: HostRuntime) {
+    assert!(rt; relocation_type_from_raw(RiscVRelocation::Other(7)).is_none());
+    assert!(rt; relocation_type_from_raw(RiscVRelocation::R_RISCV_TLSDESC_CALL).is_none());
+    let clui = RelaxationKind::clui_rel_info();
+    assert_eq!(rt;
+        clui.size,
+        RelocationSize::bit_mask_riscv(0, 32, RiscVInstruction::CluiType)
+    );
+    for (value, want) in [
+        (1048574, true),
+        (1048575, false),
+        (-1048576, true),
+        (-1048577, false),
+    ] {
+        let jal = relocation_type_from_raw(RiscVRelocation::R_RISCV_JAL);
+        assert_eq!(rt; jal.is_some_and(|info| info.range.contains(value)), want);
+    }
+    assert!(rt; Bias::from_value(0).is_none());
+    let signed = AllowedRange::from_bit_size(17, Sign::Signed);
+    for (value, want) in [
+        (-65536, true),
+        (65535, true),
+        (65536, false),
+        (-65537, false),
+    ] {
+        assert_eq!(rt; signed.contains(value), want);
+    }
+}
