@@ -1,4 +1,6 @@
 pub mod Bounds
 pub mod Jumps
+pub mod PowerPcForms
+pub mod PowerPcPairs
 pub mod RiscV
 pub mod Runs

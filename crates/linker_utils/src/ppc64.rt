@@ -1,0 +1,147 @@
+//! PowerPC64: the forms of its instructions, and addresses in two halves.
+
+ghost use Rattle.std.specs.Prelude.{◌≡◌, ◌≤◌, ◌↔◌, IsTrue, length, drop};
+ghost use Rattle.std.specs.Int.{byte_len, cast_unsigned, from_le_bytes, w32, w64};
+ghost use Rattle.linker_base.specs.Form.{window_of, Written, MachineReads, IsReadBack};
+ghost use Rattle.linker_base.specs.Rewrite.{CanRewrite, rewritten, offset_after, addend_after};
+ghost use Rattle.linker_utils.specs.PowerPc.{ppc64_form, ppc64_rewrite, ppc64_modifier, PairHolds, KeepsHigh};
+
+use crate::bit_misc::BitExtraction;
+use crate::elf::{InstructionForm, Ppc64Instruction};
+use crate::elf::engine::{self, Run, Window, run};
+use crate::relaxation::RelocationModifier;
+
+/// A rewrite of one instruction.
+#[derive(Debug, Clone, Copy, PartialEq, Eq)]
+pub enum RelaxationKind {
+    /// Leaves the instruction as it is, where only the kind of its relocation changes.
+    NoOp,
+}
+
+impl RelaxationKind {
+    /// Rewrites the instruction at an offset of a section. The section, the offset and the addend
+    /// stay.
+    #[inline]
+    pub fn apply(self, _section_bytes: &mut [u8], _offset_in_section: &mut u64, _addend: &mut i64)
+        requires { CanRewrite (ppc64_rewrite self) _section_bytes.old _offset_in_section.old }
+        ensures bytes { _section_bytes.new ≡ rewritten (ppc64_rewrite self) _section_bytes.old _offset_in_section.old }
+        ensures offset { _offset_in_section.new ≡ offset_after (ppc64_rewrite self) _offset_in_section.old }
+        ensures addend { _addend.new ≡ addend_after (ppc64_rewrite self) _addend.old }
+    {
+        match self {
+            RelaxationKind::NoOp => {}
+        }
+    }
+
+    /// Whether `apply` may be called at an offset of a section: at every one.
+    #[inline]
+    pub fn can_apply(self, _section: &[u8], _offset: u64) -> bool
+        ensures { IsTrue result ↔ CanRewrite (ppc64_rewrite self) _section.now _offset }
+    {
+        match self {
+            RelaxationKind::NoOp => true,
+        }
+    }
+
+    /// What becomes of the relocation after the rewritten one.
+    #[inline]
+    pub fn next_modifier(&self) -> RelocationModifier
+        ensures { result ≡ ppc64_modifier self.now }
+    {
+        match self {
+            RelaxationKind::NoOp => RelocationModifier::Normal,
+        }
+    }
+}
+
+const D_FORM: [Run; 1] = [run!(0, 0, 16)];
+
+const DS_FORM: [Run; 1] = [run!(2, 2, 14)];
+
+const I_FORM: [Run; 1] = [run!(2, 2, 24)];
+
+impl Ppc64Instruction {
+    /// Writes a value into the instruction that `dest` begins with, and changes no other bit.
+    /// `negative` plays no part.
+    #[inline]
+    pub fn write_to_value(self, extracted_value: u64, negative: bool, dest: &mut [u8])
+        requires { byte_len (ppc64_form self).window ≤ length dest.old }
+        ensures written { Written (ppc64_form self) extracted_value negative (window_of (ppc64_form self) dest.old) (window_of (ppc64_form self) dest.new) }
+        ensures rest { drop (byte_len (ppc64_form self).window) dest.new ≡ drop (byte_len (ppc64_form self).window) dest.old }
+        ensures machine { MachineReads (ppc64_form self) extracted_value negative (window_of (ppc64_form self) dest.old) (window_of (ppc64_form self) dest.new) }
+        ensures restored { IsReadBack (ppc64_form self) extracted_value negative (window_of (ppc64_form self) dest.old) → dest.new ≡ dest.old }
+    {
+        match self {
+            Ppc64Instruction::D => engine::write(Window::Four, &D_FORM, extracted_value, dest),
+            Ppc64Instruction::Ds | Ppc64Instruction::Branch14 => {
+                engine::write(Window::Four, &DS_FORM, extracted_value, dest);
+            }
+            Ppc64Instruction::Branch24 => {
+                engine::write(Window::Four, &I_FORM, extracted_value, dest);
+            }
+        }
+    }
+
+    /// The value in the instruction that `bytes` begins with, read without a sign: the bits that the
+    /// form doesn't hold are 0. The flag is always false.
+    #[inline]
+    pub fn read_value(self, bytes: &[u8]) -> (u64, bool)
+        requires { byte_len (ppc64_form self).window ≤ length bytes.now }
+        ensures number { result.0 ≡ cast_unsigned w64 ((ppc64_form self).reading (window_of (ppc64_form self) bytes.now)) }
+        ensures flag { result.1 ≡ (ppc64_form self).flag (window_of (ppc64_form self) bytes.now) }
+    {
+        let value = match self {
+            Ppc64Instruction::D => engine::read(Window::Four, &D_FORM, bytes),
+            Ppc64Instruction::Ds | Ppc64Instruction::Branch14 => {
+                engine::read(Window::Four, &DS_FORM, bytes)
+            }
+            Ppc64Instruction::Branch24 => engine::read(Window::Four, &I_FORM, bytes),
+        };
+        (value, false)
+    }
+}
+
+impl InstructionForm for Ppc64Instruction {
+    ghost form = { ppc64_form };
+
+    #[inline]
+    fn window(self) -> usize {
+        match self {
+            Ppc64Instruction::D
+            | Ppc64Instruction::Ds
+            | Ppc64Instruction::Branch14
+            | Ppc64Instruction::Branch24 => 4,
+        }
+    }
+
+    #[inline]
+    fn fits(self, _value: u64, _bytes: &[u8]) -> bool {
+        true
+    }
+
+    #[inline]
+    fn write(self, value: u64, negative: bool, dest: &mut [u8]) {
+        self.write_to_value(value, negative, dest);
+    }
+
+    #[inline]
+    fn read(self, bytes: &[u8]) -> (u64, bool) {
+        self.read_value(bytes)
+    }
+}
+
+/// Writes a value into a pair of D-form instructions, as `addis` and `addi`: the high half, adjusted
+/// for the low half's sign, into the one that `ha` begins with, and the low half into the one that
+/// `lo` begins with (64-bit ELF V2 ABI for Power, "@ha" and "@l"). What the pair adds is the value
+/// modulo 2^32, and the value itself, read signed, from -2^31 - 0x8000 up, below 2^31 - 0x8000.
+pub fn write_ha_lo(ha: &mut [u8], lo: &mut [u8], value: u64)
+    requires ha_room { 4 ≤ length ha.old }
+    requires lo_room { 4 ≤ length lo.old }
+    ensures pair { PairHolds (from_le_bytes w32 ha.new) (from_le_bytes w32 lo.new) value }
+    ensures ha_kept { KeepsHigh ha.old ha.new }
+    ensures lo_kept { KeepsHigh lo.old lo.new }
+{
+    let high = value.wrapping_add(0x8000).extract_bit_range(16..32);
+    Ppc64Instruction::D.write_to_value(high, false, ha);
+    Ppc64Instruction::D.write_to_value(value.low_bits(16), false, lo);
+}
