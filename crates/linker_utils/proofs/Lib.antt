@@ -4,3 +4,4 @@ pub mod PowerPcForms
 pub mod PowerPcPairs
 pub mod RiscV
 pub mod Runs
+pub mod X86Bytes

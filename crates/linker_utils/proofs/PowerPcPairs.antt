@@ -52,13 +52,13 @@ halves : (v h l : ℕ) → h ≡ (v + 32768) / 65536 % 65536 → l ≡ v % 65536
 unfolding turns
 halves v h l eh el =
     elim (cases_lt h 32768) [
-      inl low ↦ elim (cases_lt l 32768) [
-        inl down ↦ rw (signed_low h low, signed_low l down) (omega (arith, ints))
-      | inr up ↦ rw (signed_low h low, signed_high l up) (omega (arith, ints))
+      | inl low ↦ elim (cases_lt l 32768) [
+        | inl down ↦ rw (signed_low h low, signed_low l down) (omega (arith, ints))
+        | inr up ↦ rw (signed_low h low, signed_high l up) (omega (arith, ints))
       ]
-    | inr high ↦ elim (cases_lt l 32768) [
-        inl down ↦ rw (signed_high h high, signed_low l down) (omega (arith, ints))
-      | inr up ↦ rw (signed_high h high, signed_high l up) (omega (arith, ints))
+      | inr high ↦ elim (cases_lt l 32768) [
+        | inl down ↦ rw (signed_high h high, signed_low l down) (omega (arith, ints))
+        | inr up ↦ rw (signed_high h high, signed_high l up) (omega (arith, ints))
       ]
     ]
 
@@ -70,13 +70,13 @@ bounded : (h l : ℕ) → h < 65536 → l < 65536
     → (negsuc 2147516415 ≤ℤ (signed 16 h *ℤ pos 65536 +ℤ signed 16 l)) × ((signed 16 h *ℤ pos 65536 +ℤ signed 16 l) <ℤ pos 2147450880)
 bounded h l hs ls =
     elim (cases_lt h 32768) [
-      inl low ↦ elim (cases_lt l 32768) [
-        inl down ↦ rw (signed_low h low, signed_low l down) (omega (arith, ints), omega (arith, ints))
-      | inr up ↦ rw (signed_low h low, signed_high l up) (omega (arith, ints), omega (arith, ints))
+      | inl low ↦ elim (cases_lt l 32768) [
+        | inl down ↦ rw (signed_low h low, signed_low l down) (omega (arith, ints), omega (arith, ints))
+        | inr up ↦ rw (signed_low h low, signed_high l up) (omega (arith, ints), omega (arith, ints))
       ]
-    | inr high ↦ elim (cases_lt l 32768) [
-        inl down ↦ rw (signed_high h high, signed_low l down) (omega (arith, ints), omega (arith, ints))
-      | inr up ↦ rw (signed_high h high, signed_high l up) (omega (arith, ints), omega (arith, ints))
+      | inr high ↦ elim (cases_lt l 32768) [
+        | inl down ↦ rw (signed_high h high, signed_low l down) (omega (arith, ints), omega (arith, ints))
+        | inr up ↦ rw (signed_high h high, signed_high l up) (omega (arith, ints), omega (arith, ints))
       ]
     ]
 
@@ -90,8 +90,8 @@ nearest : (v k : ℕ) (p : ℤ) → v < 2 ^ 64 → p +ℤ pos (k * 4294967296) �
     → IsPairDistance (signed 64 v) → p ≡ signed 64 v
 nearest v k p small sum least most near =
     elim (cases_lt v 9223372036854775808) [
-      inl low ↦ let is = wide_low v low in let reach = rw is at near in rw is (let a = reach.0 in let b = reach.1 in omega (arith, ints))
-    | inr high ↦ let is = wide_high v high in let reach = rw is at near in rw is (let a = reach.0 in let b = reach.1 in omega (arith, ints))
+      | inl low ↦ let is = wide_low v low in let reach = rw is at near in rw is (let a = reach.0 in let b = reach.1 in omega (arith, ints))
+      | inr high ↦ let is = wide_high v high in let reach = rw is at near in rw is (let a = reach.0 in let b = reach.1 in omega (arith, ints))
     ]
 
 pub pair_holds : (v h l x y ha lo : ℕ) → v < 2 ^ 64 → h ≡ field ((v + 0x8000) % 2 ^ 64) 16 32 → l ≡ v % 2 ^ 16

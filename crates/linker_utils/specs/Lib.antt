@@ -1,5 +1,7 @@
 pub mod Elf
 pub mod PowerPc
+pub mod PowerPcRows
 pub mod RiscV
 pub mod Runs
 pub mod X86
+pub mod X86Rows

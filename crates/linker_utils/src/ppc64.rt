@@ -1,14 +1,19 @@
 //! PowerPC64: the forms of its instructions, and addresses in two halves.
 
-ghost use Rattle.std.specs.Prelude.{◌≡◌, ◌≤◌, ◌↔◌, IsTrue, length, drop};
+ghost use Rattle.std.specs.Prelude.{◌≡◌, ◌≤◌, ◌↔◌, ◌==◌, if◌then◌else◌, Some, None, IsTrue, length, drop};
 ghost use Rattle.std.specs.Int.{byte_len, cast_unsigned, from_le_bytes, w32, w64};
 ghost use Rattle.linker_base.specs.Form.{window_of, Written, MachineReads, IsReadBack};
 ghost use Rattle.linker_base.specs.Rewrite.{CanRewrite, rewritten, offset_after, addend_after};
 ghost use Rattle.linker_utils.specs.PowerPc.{ppc64_form, ppc64_rewrite, ppc64_modifier, PairHolds, KeepsHigh};
+ghost use Rattle.linker_utils.specs.PowerPcRows as rows;
+ghost use Rattle.linker_utils.specs.PowerPcRows.{ppc64_row};
 
 use crate::bit_misc::BitExtraction;
-use crate::elf::{InstructionForm, Ppc64Instruction};
 use crate::elf::engine::{self, Run, Window, run};
+use crate::elf::{
+    AllowedRange, Bias, InstructionForm, Ppc64Instruction, RelocationKind, RelocationKindInfo,
+    RelocationSize, Sign,
+};
 use crate::relaxation::RelocationModifier;
 
 /// A rewrite of one instruction.
@@ -144,4 +149,270 @@ pub fn write_ha_lo(ha: &mut [u8], lo: &mut [u8], value: u64)
     let high = value.wrapping_add(0x8000).extract_bit_range(16..32);
     Ppc64Instruction::D.write_to_value(high, false, ha);
     Ppc64Instruction::D.write_to_value(value.low_bits(16), false, lo);
+}
+
+/// A relocation of PowerPC64 by its name (64-bit ELF V2 ABI for Power, "Relocation Types").
+#[allow(non_camel_case_types)]
+#[derive(Debug, Clone, Copy, PartialEq, Eq)]
+pub enum Ppc64Relocation {
+    R_PPC64_TLS,
+    R_PPC64_TLSGD,
+    R_PPC64_TLSLD,
+    R_PPC64_ADDR64,
+    R_PPC64_ADDR32,
+    R_PPC64_REL64,
+    R_PPC64_REL32,
+    R_PPC64_REL24,
+    R_PPC64_REL14,
+    R_PPC64_REL16_HA,
+    R_PPC64_REL16_LO,
+    R_PPC64_TOC16_HA,
+    R_PPC64_TOC16_LO,
+    R_PPC64_TOC16_LO_DS,
+    R_PPC64_TPREL64,
+    R_PPC64_TPREL16,
+    R_PPC64_TPREL16_LO,
+    R_PPC64_TPREL16_HI,
+    R_PPC64_TPREL16_HA,
+    R_PPC64_TPREL16_DS,
+    R_PPC64_TPREL16_LO_DS,
+    R_PPC64_DTPREL64,
+    R_PPC64_DTPREL16,
+    R_PPC64_DTPREL16_LO,
+    R_PPC64_DTPREL16_HI,
+    R_PPC64_DTPREL16_HA,
+    R_PPC64_DTPREL16_DS,
+    R_PPC64_DTPREL16_LO_DS,
+    R_PPC64_GOT_TPREL16_HA,
+    R_PPC64_GOT_TPREL16_HI,
+    R_PPC64_GOT_TPREL16_DS,
+    R_PPC64_GOT_TPREL16_LO_DS,
+    R_PPC64_GOT_TLSGD16,
+    R_PPC64_GOT_TLSGD16_LO,
+    R_PPC64_GOT_TLSGD16_HI,
+    R_PPC64_GOT_TLSGD16_HA,
+    R_PPC64_GOT_TLSLD16,
+    R_PPC64_GOT_TLSLD16_LO,
+    R_PPC64_GOT_TLSLD16_HI,
+    R_PPC64_GOT_TLSLD16_HA,
+    /// A relocation without a name here, by its number.
+    Other(u32),
+}
+
+#[inline(always)]
+fn described(
+    kind: RelocationKind,
+    size: RelocationSize,
+    range: AllowedRange,
+    alignment: u64,
+    bias: u64,
+) -> RelocationKindInfo
+    ensures { result ≡ rows.described kind size range alignment (if bias == 0 then None else Some bias) }
+{
+    RelocationKindInfo {
+        kind,
+        size,
+        mask: None,
+        range,
+        alignment,
+        bias: Bias::from_value(bias),
+        thunkable: false,
+        implicit_addend: false,
+    }
+}
+
+/// A number of whole bytes.
+#[inline(always)]
+fn bytes(kind: RelocationKind, count: u8, range: AllowedRange) -> RelocationKindInfo
+    ensures { result ≡ rows.bytes kind count range }
+{
+    described(kind, RelocationSize::ByteSize(count), range, 1, 0)
+}
+
+/// Bits 16 to 31, adjusted for the sign of bits 0 to 15.
+#[inline(always)]
+fn high_adjusted(kind: RelocationKind) -> RelocationKindInfo
+    ensures { result ≡ rows.high_adjusted kind }
+{
+    let size = RelocationSize::bit_mask_ppc64(16, 32, Ppc64Instruction::D);
+    described(kind, size, AllowedRange::no_check(), 1, 0x8000)
+}
+
+/// Bits 16 to 31.
+#[inline(always)]
+fn high(kind: RelocationKind) -> RelocationKindInfo
+    ensures { result ≡ rows.high kind }
+{
+    let size = RelocationSize::bit_mask_ppc64(16, 32, Ppc64Instruction::D);
+    described(kind, size, AllowedRange::no_check(), 1, 0)
+}
+
+/// Bits 0 to 15.
+#[inline(always)]
+fn low(kind: RelocationKind, range: AllowedRange) -> RelocationKindInfo
+    ensures { result ≡ rows.low kind range }
+{
+    let size = RelocationSize::bit_mask_ppc64(0, 16, Ppc64Instruction::D);
+    described(kind, size, range, 1, 0)
+}
+
+/// Bits 0 to 15 of a multiple of 4.
+#[inline(always)]
+fn low_ds(kind: RelocationKind, range: AllowedRange) -> RelocationKindInfo
+    ensures { result ≡ rows.low_ds kind range }
+{
+    let size = RelocationSize::bit_mask_ppc64(0, 16, Ppc64Instruction::Ds);
+    described(kind, size, range, 4, 0)
+}
+
+/// A signed distance of so many bits, a multiple of 4.
+#[inline(always)]
+fn branch(bits: u8, insn: Ppc64Instruction) -> RelocationKindInfo
+    requires some { 1 ≤ bits }
+    requires short { bits ≤ 62 }
+    ensures { result ≡ rows.branch bits insn }
+{
+    let range = AllowedRange::from_bit_size(bits.into(), Sign::Signed);
+    described(
+        RelocationKind::Relative,
+        RelocationSize::bit_mask_ppc64(0, bits, insn),
+        range,
+        4,
+        0,
+    )
+}
+
+/// What a relocation means, or `None` for one without a name. Values of half words that are checked
+/// have 16 signed bits; "HA" halves have a bias of 0x8000.
+pub fn relocation_type_from_raw(name: Ppc64Relocation) -> Option<RelocationKindInfo>
+    ensures { result ≡ ppc64_row name }
+{
+    match name {
+        Ppc64Relocation::R_PPC64_TLS
+        | Ppc64Relocation::R_PPC64_TLSGD
+        | Ppc64Relocation::R_PPC64_TLSLD => Some(bytes(
+            RelocationKind::None,
+            0,
+            AllowedRange::no_check(),
+        )),
+        Ppc64Relocation::R_PPC64_ADDR64 => Some(bytes(
+            RelocationKind::Absolute,
+            8,
+            AllowedRange::no_check(),
+        )),
+        Ppc64Relocation::R_PPC64_ADDR32 => Some(bytes(
+            RelocationKind::Absolute,
+            4,
+            AllowedRange::new(-0x80000000, 0x100000000),
+        )),
+        Ppc64Relocation::R_PPC64_REL64 => Some(bytes(
+            RelocationKind::Relative,
+            8,
+            AllowedRange::no_check(),
+        )),
+        Ppc64Relocation::R_PPC64_REL32 => Some(bytes(
+            RelocationKind::Relative,
+            4,
+            AllowedRange::from_bit_size(32, Sign::Signed),
+        )),
+        Ppc64Relocation::R_PPC64_REL24 => Some(branch(26, Ppc64Instruction::Branch24)),
+        Ppc64Relocation::R_PPC64_REL14 => Some(branch(16, Ppc64Instruction::Branch14)),
+        Ppc64Relocation::R_PPC64_REL16_HA => Some(high_adjusted(RelocationKind::Relative)),
+        Ppc64Relocation::R_PPC64_REL16_LO => Some(low(
+            RelocationKind::Relative,
+            AllowedRange::no_check(),
+        )),
+        Ppc64Relocation::R_PPC64_TOC16_HA => Some(high_adjusted(RelocationKind::SymRelGotBase)),
+        Ppc64Relocation::R_PPC64_TOC16_LO => Some(low(
+            RelocationKind::SymRelGotBase,
+            AllowedRange::no_check(),
+        )),
+        Ppc64Relocation::R_PPC64_TOC16_LO_DS => Some(low_ds(
+            RelocationKind::SymRelGotBase,
+            AllowedRange::no_check(),
+        )),
+        Ppc64Relocation::R_PPC64_TPREL64 => Some(bytes(
+            RelocationKind::TpOff,
+            8,
+            AllowedRange::no_check(),
+        )),
+        Ppc64Relocation::R_PPC64_TPREL16 => Some(low(
+            RelocationKind::TpOff,
+            AllowedRange::from_bit_size(16, Sign::Signed),
+        )),
+        Ppc64Relocation::R_PPC64_TPREL16_LO => Some(low(
+            RelocationKind::TpOff,
+            AllowedRange::no_check(),
+        )),
+        Ppc64Relocation::R_PPC64_TPREL16_HI => Some(high(RelocationKind::TpOff)),
+        Ppc64Relocation::R_PPC64_TPREL16_HA => Some(high_adjusted(RelocationKind::TpOff)),
+        Ppc64Relocation::R_PPC64_TPREL16_DS => Some(low_ds(
+            RelocationKind::TpOff,
+            AllowedRange::from_bit_size(16, Sign::Signed),
+        )),
+        Ppc64Relocation::R_PPC64_TPREL16_LO_DS => Some(low_ds(
+            RelocationKind::TpOff,
+            AllowedRange::no_check(),
+        )),
+        Ppc64Relocation::R_PPC64_DTPREL64 => Some(bytes(
+            RelocationKind::DtpOff,
+            8,
+            AllowedRange::no_check(),
+        )),
+        Ppc64Relocation::R_PPC64_DTPREL16 => Some(low(
+            RelocationKind::DtpOff,
+            AllowedRange::from_bit_size(16, Sign::Signed),
+        )),
+        Ppc64Relocation::R_PPC64_DTPREL16_LO => Some(low(
+            RelocationKind::DtpOff,
+            AllowedRange::no_check(),
+        )),
+        Ppc64Relocation::R_PPC64_DTPREL16_HI => Some(high(RelocationKind::DtpOff)),
+        Ppc64Relocation::R_PPC64_DTPREL16_HA => Some(high_adjusted(RelocationKind::DtpOff)),
+        Ppc64Relocation::R_PPC64_DTPREL16_DS => Some(low_ds(
+            RelocationKind::DtpOff,
+            AllowedRange::from_bit_size(16, Sign::Signed),
+        )),
+        Ppc64Relocation::R_PPC64_DTPREL16_LO_DS => Some(low_ds(
+            RelocationKind::DtpOff,
+            AllowedRange::no_check(),
+        )),
+        Ppc64Relocation::R_PPC64_GOT_TPREL16_HA => Some(high_adjusted(
+            RelocationKind::GotTpOffGotBase,
+        )),
+        Ppc64Relocation::R_PPC64_GOT_TPREL16_HI => Some(high(RelocationKind::GotTpOffGotBase)),
+        Ppc64Relocation::R_PPC64_GOT_TPREL16_DS => Some(low_ds(
+            RelocationKind::GotTpOffGotBase,
+            AllowedRange::from_bit_size(16, Sign::Signed),
+        )),
+        Ppc64Relocation::R_PPC64_GOT_TPREL16_LO_DS => Some(low_ds(
+            RelocationKind::GotTpOffGotBase,
+            AllowedRange::no_check(),
+        )),
+        Ppc64Relocation::R_PPC64_GOT_TLSGD16 => Some(low(
+            RelocationKind::TlsGdGotBase,
+            AllowedRange::from_bit_size(16, Sign::Signed),
+        )),
+        Ppc64Relocation::R_PPC64_GOT_TLSGD16_LO => Some(low(
+            RelocationKind::TlsGdGotBase,
+            AllowedRange::no_check(),
+        )),
+        Ppc64Relocation::R_PPC64_GOT_TLSGD16_HI => Some(high(RelocationKind::TlsGdGotBase)),
+        Ppc64Relocation::R_PPC64_GOT_TLSGD16_HA => Some(high_adjusted(
+            RelocationKind::TlsGdGotBase,
+        )),
+        Ppc64Relocation::R_PPC64_GOT_TLSLD16 => Some(low(
+            RelocationKind::TlsLdGotBase,
+            AllowedRange::from_bit_size(16, Sign::Signed),
+        )),
+        Ppc64Relocation::R_PPC64_GOT_TLSLD16_LO => Some(low(
+            RelocationKind::TlsLdGotBase,
+            AllowedRange::no_check(),
+        )),
+        Ppc64Relocation::R_PPC64_GOT_TLSLD16_HI => Some(high(RelocationKind::TlsLdGotBase)),
+        Ppc64Relocation::R_PPC64_GOT_TLSLD16_HA => Some(high_adjusted(
+            RelocationKind::TlsLdGotBase,
+        )),
+        Ppc64Relocation::Other(_) => None,
+    }
 }

@@ -3,7 +3,10 @@
 ghost use Rattle.std.specs.Prelude.{◌≡◌, ◌≤◌, ◌↔◌, IsTrue, Some};
 ghost use Rattle.linker_base.specs.Rewrite.{IsRewritable, CanRewrite, rewritten, offset_after, addend_after};
 ghost use Rattle.linker_utils.specs.X86.{prefix, evex, modrm, operand, prefixed_operand, evex_operand, absolute, rex_add, x86_64_rewrite, x86_64_modifier, KeepsRegister};
+ghost use Rattle.linker_utils.specs.X86Rows as rows;
+ghost use Rattle.linker_utils.specs.X86Rows.{x86_64_row};
 
+use crate::elf::{AllowedRange, RelocationKind, RelocationKindInfo, RelocationSize, Sign};
 use crate::relaxation::RelocationModifier;
 use crate::rewrite::{has_window, overwrite};
 
@@ -67,7 +70,11 @@ fn moved_prefix(n: u8, byte: u8) -> u8
 fn moved_evex(byte: u8) -> u8
     ensures { result ≡ evex byte }
 {
-    let high = if byte & 0x80 == 0 { (byte | 0x80) & !0x20 } else { byte };
+    let high = if byte & 0x80 == 0 {
+        (byte | 0x80) & !0x20
+    } else {
+        byte
+    };
     if byte & 0x10 == 0 { high | 0x18 } else { high }
 }
 
@@ -188,8 +195,8 @@ impl RelaxationKind {
                     section,
                     offset - 3,
                     &[
-                        0x64, 0x48, 0x8b, 0x04, 0x25, 0, 0, 0, 0, 0x48, 0x8d, 0x80, 0, 0, 0, 0, 0x66,
-                        0x0f, 0x1f, 0x44, 0, 0,
+                        0x64, 0x48, 0x8b, 0x04, 0x25, 0, 0, 0, 0, 0x48, 0x8d, 0x80, 0, 0, 0, 0,
+                        0x66, 0x0f, 0x1f, 0x44, 0, 0,
                     ],
                 );
                 *offset_in_section = offset + 9;
@@ -209,7 +216,9 @@ impl RelaxationKind {
                 overwrite(
                     section,
                     offset - 3,
-                    &[0x66, 0x66, 0x66, 0x66, 0x64, 0x48, 0x8b, 0x04, 0x25, 0, 0, 0, 0],
+                    &[
+                        0x66, 0x66, 0x66, 0x66, 0x64, 0x48, 0x8b, 0x04, 0x25, 0, 0, 0, 0,
+                    ],
                 );
                 *offset_in_section = offset + 5;
             }
@@ -325,5 +334,227 @@ impl RelaxationKind {
             | RelaxationKind::TlsDescToInitialExec
             | RelaxationKind::SkipTlsDescCall => RelocationModifier::Normal,
         }
+    }
+}
+
+/// A relocation of x86-64 by its name (x86-64 psABI, "Relocation Types").
+#[allow(non_camel_case_types)]
+#[derive(Debug, Clone, Copy, PartialEq, Eq)]
+pub enum X86_64Relocation {
+    R_X86_64_NONE,
+    R_X86_64_TLSDESC_CALL,
+    R_X86_64_64,
+    R_X86_64_32,
+    R_X86_64_32S,
+    R_X86_64_16,
+    R_X86_64_8,
+    R_X86_64_PC64,
+    R_X86_64_GOTPC64,
+    R_X86_64_PC32,
+    R_X86_64_GOTPC32,
+    R_X86_64_PC16,
+    R_X86_64_PC8,
+    R_X86_64_GOT32,
+    R_X86_64_GOT64,
+    R_X86_64_GOTOFF64,
+    R_X86_64_PLT32,
+    R_X86_64_PLTOFF64,
+    R_X86_64_GOTPCREL,
+    R_X86_64_GOTPCRELX,
+    R_X86_64_REX_GOTPCRELX,
+    R_X86_64_CODE_4_GOTPCRELX,
+    R_X86_64_CODE_5_GOTPCRELX,
+    R_X86_64_CODE_6_GOTPCRELX,
+    R_X86_64_SIZE32,
+    R_X86_64_SIZE64,
+    R_X86_64_TLSGD,
+    R_X86_64_TLSLD,
+    R_X86_64_DTPOFF32,
+    R_X86_64_DTPOFF64,
+    R_X86_64_GOTTPOFF,
+    R_X86_64_CODE_4_GOTTPOFF,
+    R_X86_64_CODE_5_GOTTPOFF,
+    R_X86_64_CODE_6_GOTTPOFF,
+    R_X86_64_TPOFF32,
+    R_X86_64_GOTPC32_TLSDESC,
+    R_X86_64_CODE_4_GOTPC32_TLSDESC,
+    R_X86_64_CODE_5_GOTPC32_TLSDESC,
+    R_X86_64_CODE_6_GOTPC32_TLSDESC,
+    /// A relocation without a name here, by its number.
+    Other(u32),
+}
+
+#[inline(always)]
+fn described(kind: RelocationKind, size: RelocationSize, range: AllowedRange) -> RelocationKindInfo
+    ensures { result ≡ rows.described kind size range }
+{
+    RelocationKindInfo {
+        kind,
+        size,
+        mask: None,
+        range,
+        alignment: 1,
+        bias: None,
+        thunkable: false,
+        implicit_addend: false,
+    }
+}
+
+/// A number of whole bytes.
+#[inline(always)]
+fn bytes(kind: RelocationKind, count: u8, range: AllowedRange) -> RelocationKindInfo
+    ensures { result ≡ rows.bytes kind count range }
+{
+    described(kind, RelocationSize::ByteSize(count), range)
+}
+
+/// What a relocation means, or `None` for one without a name. Fields of 8 bytes are not checked;
+/// those of 16 and 8 bits that hold an address may be of either sign.
+pub fn relocation_from_raw(name: X86_64Relocation) -> Option<RelocationKindInfo>
+    ensures { result ≡ x86_64_row name }
+{
+    match name {
+        X86_64Relocation::R_X86_64_NONE => Some(bytes(
+            RelocationKind::None,
+            0,
+            AllowedRange::no_check(),
+        )),
+        X86_64Relocation::R_X86_64_TLSDESC_CALL => Some(bytes(
+            RelocationKind::TlsDescCall,
+            0,
+            AllowedRange::no_check(),
+        )),
+        X86_64Relocation::R_X86_64_64 => Some(bytes(
+            RelocationKind::Absolute,
+            8,
+            AllowedRange::no_check(),
+        )),
+        X86_64Relocation::R_X86_64_32 => Some(bytes(
+            RelocationKind::Absolute,
+            4,
+            AllowedRange::from_bit_size(32, Sign::Unsigned),
+        )),
+        X86_64Relocation::R_X86_64_32S => Some(bytes(
+            RelocationKind::Absolute,
+            4,
+            AllowedRange::from_bit_size(32, Sign::Signed),
+        )),
+        X86_64Relocation::R_X86_64_16 => Some(bytes(
+            RelocationKind::Absolute,
+            2,
+            AllowedRange::new(-0x8000, 0x10000),
+        )),
+        X86_64Relocation::R_X86_64_8 => Some(bytes(
+            RelocationKind::Absolute,
+            1,
+            AllowedRange::new(-128, 0x100),
+        )),
+        X86_64Relocation::R_X86_64_PC64 | X86_64Relocation::R_X86_64_GOTPC64 => Some(bytes(
+            RelocationKind::Relative,
+            8,
+            AllowedRange::no_check(),
+        )),
+        X86_64Relocation::R_X86_64_PC32 | X86_64Relocation::R_X86_64_GOTPC32 => Some(bytes(
+            RelocationKind::Relative,
+            4,
+            AllowedRange::from_bit_size(32, Sign::Signed),
+        )),
+        X86_64Relocation::R_X86_64_PC16 => Some(bytes(
+            RelocationKind::Relative,
+            2,
+            AllowedRange::from_bit_size(16, Sign::Signed),
+        )),
+        X86_64Relocation::R_X86_64_PC8 => Some(bytes(
+            RelocationKind::Relative,
+            1,
+            AllowedRange::from_bit_size(8, Sign::Signed),
+        )),
+        X86_64Relocation::R_X86_64_GOT32 => Some(bytes(
+            RelocationKind::GotRelGotBase,
+            4,
+            AllowedRange::from_bit_size(32, Sign::Unsigned),
+        )),
+        X86_64Relocation::R_X86_64_GOT64 => Some(bytes(
+            RelocationKind::GotRelGotBase,
+            8,
+            AllowedRange::no_check(),
+        )),
+        X86_64Relocation::R_X86_64_GOTOFF64 => Some(bytes(
+            RelocationKind::SymRelGotBase,
+            8,
+            AllowedRange::no_check(),
+        )),
+        X86_64Relocation::R_X86_64_PLT32 => Some(bytes(
+            RelocationKind::PltRelative,
+            4,
+            AllowedRange::from_bit_size(32, Sign::Signed),
+        )),
+        X86_64Relocation::R_X86_64_PLTOFF64 => Some(bytes(
+            RelocationKind::PltRelGotBase,
+            8,
+            AllowedRange::no_check(),
+        )),
+        X86_64Relocation::R_X86_64_GOTPCREL
+        | X86_64Relocation::R_X86_64_GOTPCRELX
+        | X86_64Relocation::R_X86_64_REX_GOTPCRELX
+        | X86_64Relocation::R_X86_64_CODE_4_GOTPCRELX
+        | X86_64Relocation::R_X86_64_CODE_5_GOTPCRELX
+        | X86_64Relocation::R_X86_64_CODE_6_GOTPCRELX => Some(bytes(
+            RelocationKind::GotRelative,
+            4,
+            AllowedRange::from_bit_size(32, Sign::Signed),
+        )),
+        X86_64Relocation::R_X86_64_SIZE32 => Some(bytes(
+            RelocationKind::SymbolSize,
+            4,
+            AllowedRange::from_bit_size(32, Sign::Unsigned),
+        )),
+        X86_64Relocation::R_X86_64_SIZE64 => Some(bytes(
+            RelocationKind::SymbolSize,
+            8,
+            AllowedRange::no_check(),
+        )),
+        X86_64Relocation::R_X86_64_TLSGD => Some(bytes(
+            RelocationKind::TlsGd,
+            4,
+            AllowedRange::from_bit_size(32, Sign::Signed),
+        )),
+        X86_64Relocation::R_X86_64_TLSLD => Some(bytes(
+            RelocationKind::TlsLd,
+            4,
+            AllowedRange::from_bit_size(32, Sign::Signed),
+        )),
+        X86_64Relocation::R_X86_64_DTPOFF32 => Some(bytes(
+            RelocationKind::DtpOff,
+            4,
+            AllowedRange::from_bit_size(32, Sign::Signed),
+        )),
+        X86_64Relocation::R_X86_64_DTPOFF64 => Some(bytes(
+            RelocationKind::DtpOff,
+            8,
+            AllowedRange::no_check(),
+        )),
+        X86_64Relocation::R_X86_64_GOTTPOFF
+        | X86_64Relocation::R_X86_64_CODE_4_GOTTPOFF
+        | X86_64Relocation::R_X86_64_CODE_5_GOTTPOFF
+        | X86_64Relocation::R_X86_64_CODE_6_GOTTPOFF => Some(bytes(
+            RelocationKind::GotTpOff,
+            4,
+            AllowedRange::from_bit_size(32, Sign::Signed),
+        )),
+        X86_64Relocation::R_X86_64_TPOFF32 => Some(bytes(
+            RelocationKind::TpOff,
+            4,
+            AllowedRange::from_bit_size(32, Sign::Signed),
+        )),
+        X86_64Relocation::R_X86_64_GOTPC32_TLSDESC
+        | X86_64Relocation::R_X86_64_CODE_4_GOTPC32_TLSDESC
+        | X86_64Relocation::R_X86_64_CODE_5_GOTPC32_TLSDESC
+        | X86_64Relocation::R_X86_64_CODE_6_GOTPC32_TLSDESC => Some(bytes(
+            RelocationKind::TlsDesc,
+            4,
+            AllowedRange::from_bit_size(32, Sign::Signed),
+        )),
+        X86_64Relocation::Other(_) => None,
     }
 }

@@ -13,7 +13,7 @@ returns-clause-lo_kept c = d_kept c.low_bits.result c.args.lo.now c.write_to_val
 pub returns-clause-pair : goal.returns-clause-pair
 returns-clause-pair c =
     pair_holds c.args.value c.extract_bit_range-high.result c.low_bits.result
-        (from_le_bytes w32 c.args.ha.now) (from_le_bytes w32 c.args.lo.now) (from_le_bytes w32 c.write_to_value.new.dest) (from_le_bytes w32 c.write_to_value-2.new.dest)
-        c.ranges.value.fits
-        (c.extract_bit_range-high.ensures ∙ ap (λ n. field n 16 32) (search rules)) c.low_bits.ensures
-        c.write_to_value.ensures.machine c.write_to_value-2.ensures.machine
+    (from_le_bytes w32 c.args.ha.now) (from_le_bytes w32 c.args.lo.now) (from_le_bytes w32 c.write_to_value.new.dest) (from_le_bytes w32 c.write_to_value-2.new.dest)
+    c.ranges.value.fits
+    (c.extract_bit_range-high.ensures ∙ ap (λ n. field n 16 32) (search rules)) c.low_bits.ensures
+    c.write_to_value.ensures.machine c.write_to_value-2.ensures.machine

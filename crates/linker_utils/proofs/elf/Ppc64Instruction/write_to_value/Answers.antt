@@ -17,7 +17,7 @@ pub returns-in-D-clause-restored : goal.returns-in-D-clause-restored
 returns-in-D-clause-restored c = λ back.
     let f = ppc64_form c.args.self in
     c.write.ensures.same (same_window c.args.self c.args.dest.now c.write.new.dest
-        (ppc64_restored c.args.self c.args.extracted_value c.args.negative (window_of f c.args.dest.now) (window_of f c.write.new.dest) c.ranges.extracted_value.fits (returns-in-D-clause-written c) back))
+    (ppc64_restored c.args.self c.args.extracted_value c.args.negative (window_of f c.args.dest.now) (window_of f c.write.new.dest) c.ranges.extracted_value.fits (returns-in-D-clause-written c) back))
 
 pub returns-in-Ds-clause-written : goal.returns-in-Ds-clause-written
 returns-in-Ds-clause-written c = elim c.in-Ds.is [ inl e ↦ written_as c.args.self Ds c.args.extracted_value c.args.negative c.args.dest.now c.write-in-Ds.new.dest e c.write-in-Ds.ensures.written | inr e ↦ written_as c.args.self Branch14 c.args.extracted_value c.args.negative c.args.dest.now c.write-in-Ds.new.dest e c.write-in-Ds.ensures.written ]
@@ -31,7 +31,7 @@ pub returns-in-Ds-clause-restored : goal.returns-in-Ds-clause-restored
 returns-in-Ds-clause-restored c = λ back.
     let f = ppc64_form c.args.self in
     c.write-in-Ds.ensures.same (same_window c.args.self c.args.dest.now c.write-in-Ds.new.dest
-        (ppc64_restored c.args.self c.args.extracted_value c.args.negative (window_of f c.args.dest.now) (window_of f c.write-in-Ds.new.dest) c.ranges.extracted_value.fits (returns-in-Ds-clause-written c) back))
+    (ppc64_restored c.args.self c.args.extracted_value c.args.negative (window_of f c.args.dest.now) (window_of f c.write-in-Ds.new.dest) c.ranges.extracted_value.fits (returns-in-Ds-clause-written c) back))
 
 pub returns-in-Branch24-clause-written : goal.returns-in-Branch24-clause-written
 returns-in-Branch24-clause-written c = written_as c.args.self Branch24 c.args.extracted_value c.args.negative c.args.dest.now c.write-in-Branch24.new.dest c.in-Branch24.is c.write-in-Branch24.ensures.written
@@ -45,4 +45,4 @@ pub returns-in-Branch24-clause-restored : goal.returns-in-Branch24-clause-restor
 returns-in-Branch24-clause-restored c = λ back.
     let f = ppc64_form c.args.self in
     c.write-in-Branch24.ensures.same (same_window c.args.self c.args.dest.now c.write-in-Branch24.new.dest
-        (ppc64_restored c.args.self c.args.extracted_value c.args.negative (window_of f c.args.dest.now) (window_of f c.write-in-Branch24.new.dest) c.ranges.extracted_value.fits (returns-in-Branch24-clause-written c) back))
+    (ppc64_restored c.args.self c.args.extracted_value c.args.negative (window_of f c.args.dest.now) (window_of f c.write-in-Branch24.new.dest) c.ranges.extracted_value.fits (returns-in-Branch24-clause-written c) back))
