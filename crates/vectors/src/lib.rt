@@ -2,6 +2,11 @@
 #![tactic(auto)]
 
 #[cfg(test)]
+mod ppc64;
+#[cfg(test)]
+mod x86_64;
+
+#[cfg(test)]
 mod tests {
     use linker_utils::utils::u32_from_slice;
 
