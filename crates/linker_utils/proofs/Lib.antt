@@ -1,6 +1,9 @@
 pub mod Bounds
 pub mod Calls
 pub mod Jumps
+pub mod PowerPcForms
+pub mod PowerPcPairs
 pub mod RiscV
 pub mod RiscVRewrites
 pub mod Runs
+pub mod X86Bytes

@@ -139,12 +139,23 @@ impl RelocationSize {
             insn: RelocationInstruction::RiscV(insn),
         }
     }
+
+    /// Bits `start` and up, below `end`, into a PowerPC64 instruction.
+    pub fn bit_mask_ppc64(start: u8, end: u8, insn: Ppc64Instruction) -> RelocationSize
+        ensures { result ≡ RelocationSize.BitMasking (record { start = start; end = end }) (RelocationInstruction.Ppc64 insn) }
+    {
+        RelocationSize::BitMasking {
+            range: BitRange { start, end },
+            insn: RelocationInstruction::Ppc64(insn),
+        }
+    }
 }
 
 /// An instruction form of one of the architectures.
 #[derive(Debug, Clone, Copy, PartialEq, Eq)]
 pub enum RelocationInstruction {
     RiscV(RiscVInstruction),
+    Ppc64(Ppc64Instruction),
 }
 
 /// The size of the pages that a mask cuts addresses to.
@@ -317,6 +328,7 @@ impl InstructionForm for RelocationInstruction {
     fn window(self) -> usize {
         match self {
             RelocationInstruction::RiscV(insn) => insn.window(),
+            RelocationInstruction::Ppc64(insn) => insn.window(),
         }
     }
 
@@ -324,6 +336,7 @@ impl InstructionForm for RelocationInstruction {
     fn fits(self, value: u64, bytes: &[u8]) -> bool {
         match self {
             RelocationInstruction::RiscV(insn) => insn.fits(value, bytes),
+            RelocationInstruction::Ppc64(insn) => insn.fits(value, bytes),
         }
     }
 
@@ -331,6 +344,7 @@ impl InstructionForm for RelocationInstruction {
     fn write(self, value: u64, negative: bool, dest: &mut [u8]) {
         match self {
             RelocationInstruction::RiscV(insn) => insn.write(value, negative, dest),
+            RelocationInstruction::Ppc64(insn) => insn.write(value, negative, dest),
         }
     }
 
@@ -338,6 +352,7 @@ impl InstructionForm for RelocationInstruction {
     fn read(self, bytes: &[u8]) -> (u64, bool) {
         match self {
             RelocationInstruction::RiscV(insn) => insn.read(bytes),
+            RelocationInstruction::Ppc64(insn) => insn.read(bytes),
         }
     }
 }
@@ -371,4 +386,23 @@ pub enum RiscVInstruction {
     /// A `UType` instruction and the `IType` instruction after it, in 8 bytes, as `auipc` with
     /// `jalr`: both parts of one value.
     UiType,
+}
+
+/// PowerPC64 instructions that hold a displacement. The window is 4 bytes, and every value fits:
+/// its bits stand in the word where they stand in the value, and the word's other bits stay.
+/// Bits are numbered from the least significant one.
+#[derive(Debug, Clone, Copy, PartialEq, Eq)]
+pub enum Ppc64Instruction {
+    /// D-form, as `addi`: value bits 0 to 15 at bit 0 and up. A signed number of 16 bits (Power
+    /// ISA, "D-Form").
+    D,
+    /// DS-form, as `ld`: value bits 2 to 15 at bit 2 and up. A signed number of 16 bits, whose
+    /// lowest two are 0 (Power ISA, "DS-Form").
+    Ds,
+    /// B-form, as `bc`: value bits 2 to 15 at bit 2 and up. A signed distance of 16 bits, whose
+    /// lowest two are 0 (Power ISA, "B-Form").
+    Branch14,
+    /// I-form, as `b`: value bits 2 to 25 at bit 2 and up. A signed distance of 26 bits, whose
+    /// lowest two are 0 (Power ISA, "I-Form").
+    Branch24,
 }

@@ -3,7 +3,9 @@
 #![tactic(auto)]
 
 pub mod elf;
+pub mod ppc64;
 mod rewrite;
 pub mod riscv64;
+pub mod x86_64;
 
 pub use linker_base::{bit_misc, relaxation, utils};

@@ -3,6 +3,9 @@
 
 #[cfg(test)]
 mod riscv64;
+mod ppc64;
+#[cfg(test)]
+mod x86_64;
 
 #[cfg(test)]
 mod tests {
