@@ -68,7 +68,7 @@ other_values k (p ∷ ps) h a =
         (other_values k ps none.1 held.1)
 
 -- the place of a place's value bit is itself
-own_bits : (ps : List Place) (x : ℕ) → values_apart ps ≡ true → all_hold ps ≡ true → All (λ (p : Place). value_bit ps p.value x ≡ bit_at x p.word) ps
+pub own_bits : (ps : List Place) (x : ℕ) → values_apart ps ≡ true → all_hold ps ≡ true → All (λ (p : Place). value_bit ps p.value x ≡ bit_at x p.word) ps
 own_bits [] x h a = All-nil (λ (p : Place). value_bit [] p.value x ≡ bit_at x p.word)
 own_bits (p ∷ ps) x h a =
     let held = and_parts (holds p.mark) (all_hold ps) a in
@@ -88,7 +88,7 @@ bit_looked_up (p ∷ ps) w x y h t =
     | inr e ↦ bit_looked_up ps w x y (All-tail (λ (q : Place). bit_at y q.word ≡ bit_at x q.word) p ps h) e
     ]
 
-same_window : (ps : List Place) (before after : ℕ) → All (λ (p : Place). bit_at after p.word ≡ bit_at before p.word) ps → ((w : ℕ) → is_placed ps w ≡ false → bit_at after w ≡ bit_at before w) → after ≡ before
+pub same_window : (ps : List Place) (before after : ℕ) → All (λ (p : Place). bit_at after p.word ≡ bit_at before p.word) ps → ((w : ℕ) → is_placed ps w ≡ false → bit_at after w ≡ bit_at before w) → after ≡ before
 same_window ps before after placed kept =
     same_from_bits after before (λ w. elim (cases_Bool (is_placed ps w)) [
       inl t ↦ bit_looked_up ps w before after placed t

@@ -1,6 +1,7 @@
 pub mod Bits
 pub mod Fields
 pub mod Immediates
+pub mod Parts
 pub mod Places
 pub mod Rewrites
 pub mod TextLemmas

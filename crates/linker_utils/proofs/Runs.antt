@@ -24,7 +24,7 @@ moved : (P : Place → Type 0) (k j w i r : ℕ) (m : Mark) → k ≡ j → w �
 moved P k j w i r m e f h =
     subst (λ x. P (record { value = j; word = x; added = r; mark = m })) f (subst (λ x. P (record { value = x; word = w; added = r; mark = m })) e h)
 
-row_all : (P : Place → Type 0) (n k w r : ℕ) (m : Mark) → ((j : ℕ) → j < n → P (record { value = k + j; word = w + j; added = r; mark = m })) → All P (row n k w r m)
+pub row_all : (P : Place → Type 0) (n k w r : ℕ) (m : Mark) → ((j : ℕ) → j < n → P (record { value = k + j; word = w + j; added = r; mark = m })) → All P (row n k w r m)
 row_all P zero k w r m h = All-nil P
 row_all P (suc n) k w r m h =
     All-cons P (record { value = k; word = w; added = r; mark = m }) (row n (k + 1) (w + 1) r m)
@@ -284,7 +284,7 @@ one_more_bit : (a b m : ℕ) → m * b + a * (m * 2) ≡ (a * 2 + b) * m
 one_more_bit a b m = grind arith
 
 -- the number of a row of places is the field that it covers
-row_sum : (m : Mark) (n k w r x : ℕ) → holds m ≡ true → place_sum (row n k w r m) x ≡ x / 2 ^ w % 2 ^ n * 2 ^ k
+pub row_sum : (m : Mark) (n k w r x : ℕ) → holds m ≡ true → place_sum (row n k w r m) x ≡ x / 2 ^ w % 2 ^ n * 2 ^ k
 unfolding place_sum
 row_sum m zero k w r x h = let none : x / 2 ^ w % 1 ≡ 0 = omega arith in sym (ap (λ y. y * 2 ^ k) none ∙ omega arith)
 row_sum m (suc n) k w r x h =

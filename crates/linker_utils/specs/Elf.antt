@@ -6,7 +6,9 @@ use Rattle.linker_utils.specs.declared.elf.Sign.TheVariants.{Signed, Unsigned}
 use Rattle.linker_utils.specs.declared.elf.AllowedRange.{AllowedRange}
 use Rattle.linker_utils.specs.declared.elf.RelocationInstruction.{RelocationInstruction}
 use Rattle.linker_utils.specs.declared.elf.RelocationInstruction.TheVariants.{RiscV}
+use Rattle.linker_utils.specs.declared.elf.RelocationInstruction.TheVariants.{LoongArch64}
 use Rattle.linker_utils.specs.RiscV.{riscv_form}
+use Rattle.linker_utils.specs.LoongArch.{loongarch_form}
 
 -- the least number of n bits, and the first above them
 abbrev pub bit_bounds : ℕ → Sign → ℤ × ℤ
@@ -23,3 +25,4 @@ IsAllowed range v = IsWithin range.bounds v
 -- the form of an instruction of any architecture
 abbrev pub relocation_form : RelocationInstruction → Form
 relocation_form (RiscV f) = riscv_form f
+relocation_form (LoongArch64 f) = loongarch_form f

@@ -1,3 +1,4 @@
 pub mod Elf
+pub mod LoongArch
 pub mod RiscV
 pub mod Runs

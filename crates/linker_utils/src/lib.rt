@@ -3,6 +3,7 @@
 #![tactic(auto)]
 
 pub mod elf;
+pub mod loongarch64;
 mod rewrite;
 pub mod riscv64;
 
