@@ -20,9 +20,9 @@ pub signed_bounds : (n : ℕ) (s : Sign) → 1 ≤ n → n ≤ 62 → s ≡ Sign
 signed_bounds n s a b e =
     let bound = one_shl_signed (n - 1) (omega arith) in
     ap (λ z. Some (z, to_z w64 (1 * 2 ^ (n - 1) % 18446744073709551616))) (to_z-of_z w64 (pos 0 -ℤ to_z w64 (1 * 2 ^ (n - 1) % 18446744073709551616)) (negated (n - 1) (omega arith)))
-        ∙ ap (λ z. Some (pos 0 -ℤ z, z)) bound
-        ∙ ap (λ z. Some (z, pos (2 ^ (n - 1)))) (omega (arith, ints))
-        ∙ ap (λ t. Some (bit_bounds n t)) (sym e)
+    ∙ ap (λ z. Some (pos 0 -ℤ z, z)) bound
+    ∙ ap (λ z. Some (z, pos (2 ^ (n - 1)))) (omega (arith, ints))
+    ∙ ap (λ t. Some (bit_bounds n t)) (sym e)
 
 pub unsigned_bounds : (n : ℕ) (s : Sign) → n ≤ 62 → s ≡ Unsigned → Some (pos 0, to_z w64 (1 * 2 ^ n % 18446744073709551616)) ≡ Some (bit_bounds n s)
 unsigned_bounds n s b e = ap (λ z. Some (pos 0, z)) (one_shl_signed n (omega arith)) ∙ ap (λ t. Some (bit_bounds n t)) (sym e)

@@ -69,17 +69,17 @@ jal_code : (x : ℕ) → bit_or 111 (bit_and (x / 128) 31 * 128 % 4294967296) �
 jal_code x =
     let register : bit_and (x / 128) 31 ≡ x / 128 % 32 = and_mask (x / 128) 5 in
     ap (λ r. bit_or 111 (r * 128 % 4294967296)) register
-        ∙ ap (bit_or 111) (let small : x / 128 % 32 * 128 % 4294967296 ≡ x / 128 % 32 * 128 = omega arith in small)
-        ∙ or_comm 111 (x / 128 % 32 * 128)
-        ∙ or_shifted (x / 128 % 32) 7 111 (omega arith)
-        ∙ omega arith
+    ∙ ap (bit_or 111) (let small : x / 128 % 32 * 128 % 4294967296 ≡ x / 128 % 32 * 128 = omega arith in small)
+    ∙ or_comm 111 (x / 128 % 32 * 128)
+    ∙ or_shifted (x / 128 % 32) 7 111 (omega arith)
+    ∙ omega arith
 
 pub call_made : (s ys : List ℕ) (o x : ℕ) → x ≡ from_le_bytes w32 (take (length s - o) (drop o s))
     → ys ≡ to_le_bytes w32 (bit_or 111 (bit_and (x / 128) 31 * 128 % 4294967296))
     → ys ≡ call_to_jal (take 4 (drop (o - 0) s))
 call_made s ys o x e y =
     let word : x ≡ from_le_bytes w32 (take 4 (drop (o - 0) s)) =
-        e ∙ ap (from_le_bytes w32) (take_rest s o) ∙ sym (word_of_front (drop o s)) ∙ ap (λ k. from_le_bytes w32 (take 4 (drop k s))) (omega arith) in
+    e ∙ ap (from_le_bytes w32) (take_rest s o) ∙ sym (word_of_front (drop o s)) ∙ ap (λ k. from_le_bytes w32 (take 4 (drop k s))) (omega arith) in
     y ∙ ap (to_le_bytes w32) (jal_code x ∙ ap (λ w. 0x6f + field w 7 12 * 128) word)
 
 -- the rewrite of a kind that is known
@@ -90,7 +90,6 @@ module _ (s s1 sub : List ℕ) (site v : ℕ) (d : ℤ)
     (inside : site + 4 ≤ length s)
     (call : s1 ≡ rewritten (riscv_rewrite CallToJal) s site)
     (same_length : length sub ≡ length s1 - site) where
-
   jal_word : ℕ
   jal_word = 0x6f + field (from_le_bytes w32 (take 4 (drop (site - 0) s))) 7 12 * 128
 
@@ -114,13 +113,13 @@ module _ (s s1 sub : List ℕ) (site v : ℕ) (d : ℤ)
   after : put_mid site (length s1 - site) s1 sub ≡ take site s1 ++ sub
   after =
       ap (λ ys. take site s1 ++ (sub ++ ys)) (drop_all (length s1 - site) (drop site s1) (omega (arith, length-drop site s1)))
-          ∙ ap (λ ys. take site s1 ++ ys) (append-nil sub)
+      ∙ ap (λ ys. take site s1 ++ ys) (append-nil sub)
 
   long : length s1 ≡ length s
   long =
       ap length parted
-          ∙ length-append (take (site - 0) s) (to_le_bytes w32 jal_word ++ drop (site - 0 + 4) s)
-          ∙ omega (arith, front_length, length-drop (site - 0 + 4) s)
+      ∙ length-append (take (site - 0) s) (to_le_bytes w32 jal_word ++ drop (site - 0 + 4) s)
+      ∙ omega (arith, front_length, length-drop (site - 0 + 4) s)
 
   front_length_after : length (take site s1) ≡ site
   front_length_after = ap length front_same ∙ length-take site s ∙ omega arith

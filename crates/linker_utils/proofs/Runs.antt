@@ -28,16 +28,16 @@ pub row_all : (P : Place → Type 0) (n k w r : ℕ) (m : Mark) → ((j : ℕ) �
 row_all P zero k w r m h = All-nil P
 row_all P (suc n) k w r m h =
     All-cons P (record { value = k; word = w; added = r; mark = m }) (row n (k + 1) (w + 1) r m)
-        (moved P (k + 0) k (w + 0) w r m (omega arith) (omega arith) (h 0 (omega arith)))
-        (row_all P n (k + 1) (w + 1) r m (λ j l. moved P (k + suc j) (k + 1 + j) (w + suc j) (w + 1 + j) r m (omega arith) (omega arith) (h (suc j) (omega arith))))
+    (moved P (k + 0) k (w + 0) w r m (omega arith) (omega arith) (h 0 (omega arith)))
+    (row_all P n (k + 1) (w + 1) r m (λ j l. moved P (k + suc j) (k + 1 + j) (w + suc j) (w + 1 + j) r m (omega arith) (omega arith) (h (suc j) (omega arith))))
 
 -- the window's bits of a row are its places
 row_inside : (n k w r : ℕ) (m : Mark) (i : ℕ) → w ≤ i → i < w + n → is_placed (row n k w r m) i ≡ true
 row_inside zero k w r m i h l = absurd (omega arith)
 row_inside (suc n) k w r m i h l =
     elim (cases_lt w i) [
-      inl above ↦ or_right (eqb w i) (is_placed (row n (k + 1) (w + 1) r m) i) (row_inside n (k + 1) (w + 1) r m i (omega arith) (omega arith))
-    | inr at ↦ or_left (eqb w i) (is_placed (row n (k + 1) (w + 1) r m) i) (eq-eqb w i (omega arith))
+      | inl above ↦ or_right (eqb w i) (is_placed (row n (k + 1) (w + 1) r m) i) (row_inside n (k + 1) (w + 1) r m i (omega arith) (omega arith))
+      | inr at ↦ or_left (eqb w i) (is_placed (row n (k + 1) (w + 1) r m) i) (eq-eqb w i (omega arith))
     ]
 
 -- what is laid by one run: its bits inside, the old ones outside
@@ -49,12 +49,12 @@ row_laid n k w r m v before after inside outside =
     record {
       placed = row_all (λ (p : Place). bit_at after p.word ≡ placed_bit p.mark (bit_for p v) (bit_at before p.word)) n k w r m inside;
       kept = λ i f. elim (cases_lt i w) [
-          inl below ↦ outside i (inl below)
+        | inl below ↦ outside i (inl below)
         | inr from ↦ elim (cases_lt i (w + n)) [
-            inl in_it ↦ absurd (both_ways (is_placed (row n k w r m) i) f (row_inside n k w r m i from in_it))
+          | inl in_it ↦ absurd (both_ways (is_placed (row n k w r m) i) f (row_inside n k w r m i from in_it))
           | inr above ↦ outside i (inr above)
-          ]
-        ];
+        ]
+      ];
     }
 
 -- ---- a mask of n ones at bit w, and a field there
@@ -77,22 +77,22 @@ mask_below : (n w : ℕ) → w + n ≤ 64 → (2 ^ n - 1) * 2 ^ w < 2 ^ 64
 mask_below n w h =
     let small : (2 ^ n - 1) * 2 ^ w < 2 ^ (n + w) = shl_below (2 ^ n - 1) n w (omega (arith, pow_pos n)) in
     elim (cases_lt (n + w) 64) [
-      inl below ↦ omega (arith, small, pow_below (n + w) 64 below)
-    | inr at ↦ let whole : n + w ≡ 64 = omega arith in subst (λ (e : ℕ). (2 ^ n - 1) * 2 ^ w < 2 ^ e) whole small
+      | inl below ↦ omega (arith, small, pow_below (n + w) 64 below)
+      | inr at ↦ let whole : n + w ≡ 64 = omega arith in subst (λ (e : ℕ). (2 ^ n - 1) * 2 ^ w < 2 ^ e) whole small
     ]
 
 cleared_inside : (x n w j : ℕ) → j < n → w + n ≤ 64 → bit_at (bit_and x (2 ^ 64 - 1 - (2 ^ n - 1) * 2 ^ w)) (w + j) ≡ 0
 cleared_inside x n w j h l =
     bit_at_and x (2 ^ 64 - 1 - (2 ^ n - 1) * 2 ^ w) (w + j)
-        ∙ omega (arith, bit_at_not w64 ((2 ^ n - 1) * 2 ^ w) (w + j) (mask_below n w l) (omega arith), mask_inside n w j h)
+    ∙ omega (arith, bit_at_not w64 ((2 ^ n - 1) * 2 ^ w) (w + j) (mask_below n w l) (omega arith), mask_inside n w j h)
 
 cleared_outside : (x n w i : ℕ) → x < 2 ^ 64 → w + n ≤ 64 → (i < w) ⊎ (w + n ≤ i) → bit_at (bit_and x (2 ^ 64 - 1 - (2 ^ n - 1) * 2 ^ w)) i ≡ bit_at x i
 cleared_outside x n w i h l o =
     bit_at_and x (2 ^ 64 - 1 - (2 ^ n - 1) * 2 ^ w) i
-        ∙ elim (cases_lt i 64) [
-            inl inside ↦ omega (arith, bit_at_not w64 ((2 ^ n - 1) * 2 ^ w) i (mask_below n w l) inside, mask_outside n w i o, bit_at-lt x i)
-          | inr above ↦ omega (arith, bit_at_above x 64 i h above)
-          ]
+    ∙ elim (cases_lt i 64) [
+      | inl inside ↦ omega (arith, bit_at_not w64 ((2 ^ n - 1) * 2 ^ w) i (mask_below n w l) inside, mask_outside n w i o, bit_at-lt x i)
+      | inr above ↦ omega (arith, bit_at_above x 64 i h above)
+    ]
 
 -- ---- what the three marks leave
 
@@ -111,9 +111,9 @@ module _ (n k w r v x : ℕ) (len : n < 64) (inside : w + n ≤ 64) (small : x <
   replaced_laid : IsLaid (row n k w r replaced) v x (bit_or (bit_and x (2 ^ 64 - 1 - (2 ^ n - 1) * 2 ^ w)) (run * 2 ^ w))
   replaced_laid = row_laid n k w r replaced v x (bit_or (bit_and x (2 ^ 64 - 1 - (2 ^ n - 1) * 2 ^ w)) (run * 2 ^ w))
       (λ j h. bit_at_or (bit_and x (2 ^ 64 - 1 - (2 ^ n - 1) * 2 ^ w)) (run * 2 ^ w) (w + j)
-          ∙ omega (arith, cleared_inside x n w j h inside, field_inside run w j, run_bit j h))
+      ∙ omega (arith, cleared_inside x n w j h inside, field_inside run w j, run_bit j h))
       (λ i o. bit_at_or (bit_and x (2 ^ 64 - 1 - (2 ^ n - 1) * 2 ^ w)) (run * 2 ^ w) i
-          ∙ omega (arith, cleared_outside x n w i small inside o, field_outside run n w i run_below o))
+      ∙ omega (arith, cleared_outside x n w i small inside o, field_outside run n w i run_below o))
 
   ored_laid : IsLaid (row n k w r ored) v x (bit_or x (run * 2 ^ w))
   ored_laid = row_laid n k w r ored v x (bit_or x (run * 2 ^ w))
@@ -136,8 +136,8 @@ module _ (n k w r v x : ℕ) (len : n < 64) (inside : w + n ≤ 64) (small : x <
   unfolding run
   run_is =
       ap (λ y. bit_and ((v + r) % 2 ^ 64 / 2 ^ k) y * 2 ^ w % 2 ^ 64) ones_is
-          ∙ ap (λ y. y * 2 ^ w % 2 ^ 64) (and_mask ((v + r) % 2 ^ 64 / 2 ^ k) n)
-          ∙ shl_whole ((v + r) % 2 ^ 64 / 2 ^ k % 2 ^ n) n w 64 (mod_below ((v + r) % 2 ^ 64 / 2 ^ k) (2 ^ n) (pow_pos n)) (omega arith)
+      ∙ ap (λ y. y * 2 ^ w % 2 ^ 64) (and_mask ((v + r) % 2 ^ 64 / 2 ^ k) n)
+      ∙ shl_whole ((v + r) % 2 ^ 64 / 2 ^ k % 2 ^ n) n w 64 (mod_below ((v + r) % 2 ^ 64 / 2 ^ k) (2 ^ n) (pow_pos n)) (omega arith)
 
   pub put_replaced : IsLaid (row n k w r replaced) v x (bit_or (bit_and x (2 ^ 64 - 1 - (1 * 2 ^ n % 2 ^ 64 - 1) * 2 ^ w % 2 ^ 64)) (bit_and ((v + r) % 2 ^ 64 / 2 ^ k) (1 * 2 ^ n % 2 ^ 64 - 1) * 2 ^ w % 2 ^ 64))
   put_replaced = rw (mask_is, run_is) replaced_laid
@@ -199,23 +199,23 @@ row_outside (suc n) k w r m i (inr above) =
 pub apart_cases : (a n b m : ℕ) → is_apart a n b m ≡ true → (a + n ≤ b) ⊎ (b + m ≤ a)
 apart_cases a n b m h =
     elim (or_cases (leb (a + n) b) (leb (b + m) a) h) [
-      inl first ↦ inl (leb-true (a + n) b first)
-    | inr second ↦ inr (leb-true (b + m) a second)
+      | inl first ↦ inl (leb-true (a + n) b first)
+      | inr second ↦ inr (leb-true (b + m) a second)
     ]
 
 -- one place of the run b, seen from the run a
 word_outside : (a b : Run) (j : ℕ) → are_apart a b ≡ true → j < b.len → is_placed (run_places a) (b.word + j) ≡ false
 word_outside a b j h l =
     elim (apart_cases a.word a.len b.word b.len h) [
-      inl before ↦ row_outside a.len a.value a.word a.added (mark_of a.mark) (b.word + j) (inr (omega arith))
-    | inr after ↦ row_outside a.len a.value a.word a.added (mark_of a.mark) (b.word + j) (inl (omega arith))
+      | inl before ↦ row_outside a.len a.value a.word a.added (mark_of a.mark) (b.word + j) (inr (omega arith))
+      | inr after ↦ row_outside a.len a.value a.word a.added (mark_of a.mark) (b.word + j) (inl (omega arith))
     ]
 
 word_outside_back : (a b : Run) (j : ℕ) → are_apart a b ≡ true → j < a.len → is_placed (run_places b) (a.word + j) ≡ false
 word_outside_back a b j h l =
     elim (apart_cases a.word a.len b.word b.len h) [
-      inl before ↦ row_outside b.len b.value b.word b.added (mark_of b.mark) (a.word + j) (inl (omega arith))
-    | inr after ↦ row_outside b.len b.value b.word b.added (mark_of b.mark) (a.word + j) (inr (omega arith))
+      | inl before ↦ row_outside b.len b.value b.word b.added (mark_of b.mark) (a.word + j) (inl (omega arith))
+      | inr after ↦ row_outside b.len b.value b.word b.added (mark_of b.mark) (a.word + j) (inr (omega arith))
     ]
 
 -- no place of the runs is one of the run r
@@ -224,8 +224,8 @@ spread_free_of [] r h = All-nil (λ (p : Place). is_placed (run_places r) p.word
 spread_free_of (a ∷ rs) r h =
     let parts = and_parts (are_apart a r) (list_all (λ (b : Run). are_apart b r) rs) h in
     All-append (λ (p : Place). is_placed (run_places r) p.word ≡ false) (run_places a) (spread rs)
-        (row_all (λ (p : Place). is_placed (run_places r) p.word ≡ false) a.len a.value a.word a.added (mark_of a.mark) (λ j l. word_outside_back a r j parts.0 l))
-        (spread_free_of rs r parts.1)
+    (row_all (λ (p : Place). is_placed (run_places r) p.word ≡ false) a.len a.value a.word a.added (mark_of a.mark) (λ j l. word_outside_back a r j parts.0 l))
+    (spread_free_of rs r parts.1)
 
 is_placed-append_false : (ps qs : List Place) (w : ℕ) → is_placed ps w ≡ false → is_placed qs w ≡ false → is_placed (ps ++ qs) w ≡ false
 is_placed-append_false [] qs w h g = g
@@ -247,8 +247,8 @@ apart_before (a ∷ rs) (suc i) d h l =
     let parts = and_parts (run_fits a) (list_all (are_apart a) rs && runs_fit rs) h in
     let rest = and_parts (list_all (are_apart a) rs) (runs_fit rs) parts.1 in
     and_from (are_apart a (get_or rs i d)) (list_all (λ (b : Run). are_apart b (get_or rs i d)) (take i rs))
-        (AllPass-from_list_all (are_apart a) rs rest.0 i d (omega arith))
-        (apart_before rs i d rest.1 (omega arith))
+    (AllPass-from_list_all (are_apart a) rs rest.0 i d (omega arith))
+    (apart_before rs i d rest.1 (omega arith))
 
 pub fits_at : (rs : List Run) (i : ℕ) (d : Run) → runs_fit rs ≡ true → i < length rs → run_fits (get_or rs i d) ≡ true
 fits_at [] i d h l = absurd (omega arith)
@@ -266,10 +266,10 @@ laid_more rs i d v x y z h l first second =
     let r = get_or rs i d in
     let apart = apart_before rs i d h l in
     let both : IsLaid (spread (take i rs) ++ run_places r) v x z =
-        laid_append (spread (take i rs)) (run_places r) v x y z
-            (spread_free_of (take i rs) r apart)
-            (row_all (λ (p : Place). is_placed (spread (take i rs)) p.word ≡ false) r.len r.value r.word r.added (mark_of r.mark) (λ j b. word_free (take i rs) r j apart b))
-            first second in
+    laid_append (spread (take i rs)) (run_places r) v x y z
+    (spread_free_of (take i rs) r apart)
+    (row_all (λ (p : Place). is_placed (spread (take i rs)) p.word ≡ false) r.len r.value r.word r.added (mark_of r.mark) (λ j b. word_free (take i rs) r j apart b))
+    first second in
     subst (λ ps. IsLaid ps v x z) (sym (spread_more rs i d l)) both
 
 -- ---- taken out
@@ -289,20 +289,20 @@ unfolding place_sum
 row_sum m zero k w r x h = let none : x / 2 ^ w % 1 ≡ 0 = omega arith in sym (ap (λ y. y * 2 ^ k) none ∙ omega arith)
 row_sum m (suc n) k w r x h =
     sum_by-cons (λ (p : Place). worth p.mark p.value (bit_at x p.word)) (record { value = k; word = w; added = r; mark = m }) (row n (k + 1) (w + 1) r m)
-        ∙ ap (λ y. y + place_sum (row n (k + 1) (w + 1) r m) x) (worth_of m k (bit_at x w) h)
-        ∙ ap (λ y. 2 ^ k * bit_at x w + y) (row_sum m n (k + 1) (w + 1) r x h)
-        ∙ ap (λ y. 2 ^ k * bit_at x w + x / 2 ^ (w + 1) % 2 ^ n * y) (pow-add 2 k 1)
-        ∙ one_more_bit (x / 2 ^ (w + 1) % 2 ^ n) (bit_at x w) (2 ^ k)
-        ∙ ap (λ y. (y % 2 ^ n * 2 + bit_at x w) * 2 ^ k) (sym (shr-shr x w 1))
-        ∙ ap (λ y. y * 2 ^ k) (sym (mod-pow-add (x / 2 ^ w) n 1))
-        ∙ ap (λ e. x / 2 ^ w % 2 ^ e * 2 ^ k) (omega arith)
+    ∙ ap (λ y. y + place_sum (row n (k + 1) (w + 1) r m) x) (worth_of m k (bit_at x w) h)
+    ∙ ap (λ y. 2 ^ k * bit_at x w + y) (row_sum m n (k + 1) (w + 1) r x h)
+    ∙ ap (λ y. 2 ^ k * bit_at x w + x / 2 ^ (w + 1) % 2 ^ n * y) (pow-add 2 k 1)
+    ∙ one_more_bit (x / 2 ^ (w + 1) % 2 ^ n) (bit_at x w) (2 ^ k)
+    ∙ ap (λ y. (y % 2 ^ n * 2 + bit_at x w) * 2 ^ k) (sym (shr-shr x w 1))
+    ∙ ap (λ y. y * 2 ^ k) (sym (mod-pow-add (x / 2 ^ w) n 1))
+    ∙ ap (λ e. x / 2 ^ w % 2 ^ e * 2 ^ k) (omega arith)
 
-row_sum_cleared : (n k w r x : ℕ) → place_sum (row n k w r cleared) x ≡ 0
+pub row_sum_cleared : (n k w r x : ℕ) → place_sum (row n k w r cleared) x ≡ 0
 unfolding place_sum
 row_sum_cleared zero k w r x = refl
 row_sum_cleared (suc n) k w r x =
     sum_by-cons (λ (p : Place). worth p.mark p.value (bit_at x p.word)) (record { value = k; word = w; added = r; mark = cleared }) (row n (k + 1) (w + 1) r cleared)
-        ∙ ap (λ y. 0 + y) (row_sum_cleared n (k + 1) (w + 1) r x)
+    ∙ ap (λ y. 0 + y) (row_sum_cleared n (k + 1) (w + 1) r x)
 
 pub taken_none : (r : Run) (x : ℕ) → mark_of r.mark ≡ cleared → place_sum (run_places r) x ≡ 0
 taken_none r x e = ap (λ m. place_sum (row r.len r.value r.word r.added m) x) e ∙ row_sum_cleared r.len r.value r.word r.added x
@@ -312,9 +312,9 @@ pub taken_held : (r : Run) (x : ℕ) → RunFits r → holds (mark_of r.mark) �
     → bit_and (x / 2 ^ r.word) (1 * 2 ^ r.len % 2 ^ 64 - 1) * 2 ^ r.value % 2 ^ 64 ≡ place_sum (run_places r) x
 taken_held r x fit h =
     ap (λ y. bit_and (x / 2 ^ r.word) (y - 1) * 2 ^ r.value % 2 ^ 64) (one_shl r.len 64 fit.short)
-        ∙ ap (λ y. y * 2 ^ r.value % 2 ^ 64) (and_mask (x / 2 ^ r.word) r.len)
-        ∙ shl_whole (x / 2 ^ r.word % 2 ^ r.len) r.len r.value 64 (mod_below (x / 2 ^ r.word) (2 ^ r.len) (pow_pos r.len)) (let f = fit.value in omega arith)
-        ∙ sym (row_sum (mark_of r.mark) r.len r.value r.word r.added x h)
+    ∙ ap (λ y. y * 2 ^ r.value % 2 ^ 64) (and_mask (x / 2 ^ r.word) r.len)
+    ∙ shl_whole (x / 2 ^ r.word % 2 ^ r.len) r.len r.value 64 (mod_below (x / 2 ^ r.word) (2 ^ r.len) (pow_pos r.len)) (let f = fit.value in omega arith)
+    ∙ sym (row_sum (mark_of r.mark) r.len r.value r.word r.added x h)
 
 spread_split : (rs : List Run) (i : ℕ) → spread (take i rs) ++ spread (drop i rs) ≡ spread rs
 spread_split rs i = sym (flat_map-append run_places (take i rs) (drop i rs)) ∙ ap spread (take-append-drop i rs)
@@ -325,7 +325,7 @@ pub taken_more : (rs : List Run) (i : ℕ) (d : Run) (x : ℕ) → runs_read rs 
 taken_more rs i d x h l =
     let apart : values_apart (spread rs) ≡ true = (and_parts (list_all run_fits rs) (values_apart (spread rs)) h).1 in
     let front : values_apart (spread (take (i + 1) rs)) ≡ true =
-        values_apart_left (spread (take (i + 1) rs)) (spread (drop (i + 1) rs)) (subst (λ ps. values_apart ps ≡ true) (sym (spread_split rs (i + 1))) apart) in
+    values_apart_left (spread (take (i + 1) rs)) (spread (drop (i + 1) rs)) (subst (λ ps. values_apart ps ≡ true) (sym (spread_split rs (i + 1))) apart) in
     let more = spread_more rs i d l in
     sym (ap (λ ps. place_sum ps x) more ∙ place_sum-append (spread (take i rs)) (run_places (get_or rs i d)) x (subst (λ ps. values_apart ps ≡ true) more front))
 
@@ -348,11 +348,11 @@ not_placed_above (p ∷ ps) n i h l =
 pub laid_below : (ps : List Place) (n v x y : ℕ) → words_below n ps ≡ true → IsLaid ps v x y → x < 2 ^ n → y < 2 ^ n
 laid_below ps n v x y h laid small =
     let same : y ≡ y % 2 ^ n =
-        same_from_bits y (y % 2 ^ n) (λ i. elim (cases_lt i n) [
-          inl inside ↦ sym (bit_at_mod y n i inside)
-        | inr above ↦
-            laid.kept i (not_placed_above ps n i h above) ∙ bit_at_above x n i small above ∙ sym (bit_at_mod_above y n i above)
-        ]) in
+    same_from_bits y (y % 2 ^ n) (λ i. elim (cases_lt i n) [
+      | inl inside ↦ sym (bit_at_mod y n i inside)
+      | inr above ↦
+          laid.kept i (not_placed_above ps n i h above) ∙ bit_at_above x n i small above ∙ sym (bit_at_mod_above y n i above)
+    ]) in
     subst (λ t. t < 2 ^ n) (sym same) (mod_below y (2 ^ n) (pow_pos n))
 
 pub read_below : (rs : List Run) (n x number : ℕ) → runs_read rs ≡ true → values_below n (spread rs) ≡ true → number ≡ place_sum (spread rs) x → number < 2 ^ n

@@ -7,9 +7,8 @@ ghost use Rattle.std.specs.Int.{byte_len, cast_unsigned, w64};
 ghost use Rattle.linker_base.specs.Form.{Form, window_of, Fits, Written, MachineReads, IsReadBack};
 ghost use Rattle.linker_utils.specs.Elf.{relocation_form, bit_bounds, IsAllowed};
 
-use std::marker::Model;
-
 use crate::bit_misc::BitRange;
+use std::marker::Model;
 
 /// 2 KiB: half a page.
 pub const SIZE_2KB: u64 = 0x800;
@@ -196,7 +195,11 @@ impl Bias {
     pub fn from_value(value: u64) -> Option<Bias>
         ensures { result ≡ (if value == 0 then None else Some value) }
     {
-        if value == 0 { None } else { Some(Bias { value }) }
+        if value == 0 {
+            None
+        } else {
+            Some(Bias { value })
+        }
     }
 
     /// The number.

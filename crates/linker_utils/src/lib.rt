@@ -7,6 +7,4 @@ pub mod loongarch64;
 mod rewrite;
 pub mod riscv64;
 
-pub use linker_base::bit_misc;
-pub use linker_base::relaxation;
-pub use linker_base::utils;
+pub use linker_base::{bit_misc, relaxation, utils};

@@ -1,13 +1,94 @@
-//! LoongArch: instruction forms.
+//! LoongArch: instruction forms, relaxation rewrites, and addresses made by five instructions.
 
-ghost use Rattle.std.specs.Prelude.{◌≡◌, ◌≤◌, length, drop};
+ghost use Rattle.std.specs.Prelude.{◌≡◌, ◌≤◌, ◌+◌, ◌-◌, ◌%◌, ◌^◌, ◌↔◌, ◌⊎◌, IsTrue, length, take, drop};
 ghost use Rattle.std.specs.Int.{byte_len, cast_unsigned, w64};
 ghost use Rattle.linker_base.specs.Form.{window_of, Fits, Written, MachineReads, IsReadBack};
-ghost use Rattle.linker_utils.specs.LoongArch.{loongarch_form, ReadsLow, Reaches};
+ghost use Rattle.linker_base.specs.Rewrite.{CanRewrite, rewritten, offset_after, addend_after};
+ghost use Rattle.linker_utils.specs.LoongArch.{loongarch_form, ReadsLow, Reaches, loongarch_rewrite, loongarch_modifier, page, high_distance, MakesAddress};
 
 use crate::bit_misc::BitExtraction;
-use crate::elf::{InstructionForm, LoongArch64Instruction};
 use crate::elf::engine::{self, Run, Window, run};
+use crate::elf::{
+    InstructionForm, LoongArch64Instruction, PAGE_MASK_4KB, SIZE_2GB, SIZE_2KB, SIZE_4GB, SIZE_4KB,
+};
+use crate::relaxation::RelocationModifier;
+use crate::rewrite::{has_window, overwrite};
+
+/// `andi $zero, $zero, 0`, the canonical no-operation (LoongArch Reference Manual, volume 1).
+const NOP: [u8; 4] = [0x00, 0x00, 0x40, 0x03];
+
+/// A rewrite of one instruction.
+#[derive(Debug, Clone, Copy, PartialEq, Eq)]
+pub enum RelaxationKind {
+    /// Leaves the instruction as it is, where only the kind of its relocation changes.
+    NoOp,
+    /// Turns the instruction into `nop`.
+    ReplaceWithNop,
+}
+
+impl RelaxationKind {
+    /// Rewrites the instruction at an offset of a section. All other bytes, the offset and the
+    /// addend stay.
+    #[inline]
+    pub fn apply(self, section_bytes: &mut [u8], offset_in_section: &mut u64, addend: &mut i64)
+        requires { CanRewrite (loongarch_rewrite self) section_bytes.old offset_in_section.old }
+        ensures bytes { section_bytes.new ≡ rewritten (loongarch_rewrite self) section_bytes.old offset_in_section.old }
+        ensures offset { offset_in_section.new ≡ offset_after (loongarch_rewrite self) offset_in_section.old }
+        ensures addend { addend.new ≡ addend_after (loongarch_rewrite self) addend.old }
+    {
+        let _ = addend;
+        match self {
+            RelaxationKind::NoOp => {}
+            RelaxationKind::ReplaceWithNop => overwrite(section_bytes, *offset_in_section, &NOP),
+        }
+    }
+
+    /// Whether `apply` may be called at an offset of a section: the bytes that it rewrites lie in
+    /// the section.
+    #[inline]
+    pub fn can_apply(self, section: &[u8], offset: u64) -> bool
+        ensures { IsTrue result ↔ CanRewrite (loongarch_rewrite self) section.now offset }
+    {
+        match self {
+            RelaxationKind::NoOp => true,
+            RelaxationKind::ReplaceWithNop => has_window(section, offset, 0, 4),
+        }
+    }
+
+    /// What becomes of the relocation after the rewritten one: it is applied as usual.
+    #[inline]
+    pub fn next_modifier(&self) -> RelocationModifier
+        ensures { result ≡ loongarch_modifier self.now }
+    {
+        RelocationModifier::Normal
+    }
+}
+
+/// The address of a page of 4 KiB that holds an address.
+#[inline(always)]
+fn page_of(address: u64) -> u64
+    ensures { result ≡ page address }
+{
+    address & !PAGE_MASK_4KB
+}
+
+/// The number whose bits 32 to 51 and 52 to 63 complete an address that is made relative to `pc`:
+/// those are what `R_LARCH_PCALA64_LO20` and `R_LARCH_PCALA64_HI12` ask for. `s` is the symbol's
+/// address plus the addend, and `pc` the address of the first instruction plus 8. Modulo 2^64 the
+/// number is the page of `s + 2^31 + c` less the page of `pc - 8`, where `c` is `2^12 - 2^32` if bit
+/// 11 of `s` is set, and 0 otherwise (LoongArch ELF psABI, "Relocation Types").
+#[inline]
+pub fn highest_relocation_with_bias(s: u64, pc: u64) -> u64
+    ensures { result ≡ high_distance s pc }
+{
+    let correction = if s.extract_bit(11) == 1 {
+        SIZE_4KB.wrapping_sub(SIZE_4GB)
+    } else {
+        0
+    };
+    let target = page_of(s.wrapping_add(SIZE_2GB).wrapping_add(correction));
+    target.wrapping_sub(page_of(pc.wrapping_sub(8)))
+}
 
 const SHIFT_5: [Run; 1] = [run!(0, 5, 20)];
 

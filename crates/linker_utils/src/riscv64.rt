@@ -6,8 +6,8 @@ ghost use Rattle.linker_base.specs.Form.{window_of, Written, MachineReads, IsRea
 ghost use Rattle.linker_base.specs.Rewrite.{CanRewrite, rewritten, offset_after, addend_after};
 ghost use Rattle.linker_utils.specs.RiscV.{riscv_form, riscv_rewrite, riscv_modifier, IsEven, IsJalDistance, JumpsAt};
 
-use crate::elf::{InstructionForm, RiscVInstruction};
 use crate::elf::engine::{self, Run, Window, run};
+use crate::elf::{InstructionForm, RiscVInstruction};
 use crate::relaxation::RelocationModifier;
 use crate::rewrite::{has_window, overwrite};
 use crate::utils::u32_from_slice;
@@ -137,7 +137,12 @@ pub fn jal_site(section: &mut [u8], site: u64, distance: i64) -> Result<(), Call
     Ok(())
 }
 
-const J_TYPE: [Run; 4] = [run!(12, 12, 8), run!(11, 20, 1), run!(1, 21, 10), run!(20, 31, 1)];
+const J_TYPE: [Run; 4] = [
+    run!(12, 12, 8),
+    run!(11, 20, 1),
+    run!(1, 21, 10),
+    run!(20, 31, 1),
+];
 
 impl RiscVInstruction {
     /// Writes a value into the instruction that `dest` begins with, and changes no other bit.

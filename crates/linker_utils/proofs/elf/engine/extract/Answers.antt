@@ -12,5 +12,5 @@ take-number-requires c = read_fits_at c.args.runs.now c.loop-run.run-index _ c.r
 pub loop-run-preserved : goal.loop-run-preserved
 loop-run-preserved c =
     ap (λ y. bit_or y c.take-number.result) c.loop-run.invariant
-        ∙ ap (bit_or _) c.take-number.ensures
-        ∙ taken_more c.args.runs.now c.loop-run.run-index _ c.args.window c.requires c.loop-run-test.true
+    ∙ ap (bit_or _) c.take-number.ensures
+    ∙ taken_more c.args.runs.now c.loop-run.run-index _ c.args.window c.requires c.loop-run-test.true

@@ -7,4 +7,4 @@ put-laid-requires c = fits_at c.args.runs.now c.loop-run.run-index _ c.requires 
 pub loop-run-preserved : goal.loop-run-preserved
 loop-run-preserved c =
     laid_more c.args.runs.now c.loop-run.run-index _ c.args.value c.args.window c.loop-run.laid c.put-laid.result
-        c.requires c.loop-run-test.true c.loop-run.invariant c.put-laid.ensures
+    c.requires c.loop-run-test.true c.loop-run.invariant c.put-laid.ensures

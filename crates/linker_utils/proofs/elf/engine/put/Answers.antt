@@ -22,19 +22,18 @@ returns-in-Replaced c =
     let r = c.args.run.now in
     let fit = run_fits_parts r c.requires in
     put_of r replaced c.args.value c.args.window _ (ap mark_of c.in-Replaced.is)
-        (put_replaced r.len r.value r.word r.added c.args.value c.args.window fit.short fit.word (search rules))
+    (put_replaced r.len r.value r.word r.added c.args.value c.args.window fit.short fit.word (search rules))
 
 pub returns-in-Ored : goal.returns-in-Ored
 returns-in-Ored c =
     let r = c.args.run.now in
     let fit = run_fits_parts r c.requires in
     put_of r ored c.args.value c.args.window _ (ap mark_of c.in-Ored.is)
-        (put_ored r.len r.value r.word r.added c.args.value c.args.window fit.short fit.word (search rules))
+    (put_ored r.len r.value r.word r.added c.args.value c.args.window fit.short fit.word (search rules))
 
 pub returns-in-Cleared : goal.returns-in-Cleared
 returns-in-Cleared c =
     let r = c.args.run.now in
     let fit = run_fits_parts r c.requires in
     put_of r cleared c.args.value c.args.window _ (ap mark_of c.in-Cleared.is)
-        (put_cleared r.len r.value r.word r.added c.args.value c.args.window fit.short fit.word (search rules))
-
+    (put_cleared r.len r.value r.word r.added c.args.value c.args.window fit.short fit.word (search rules))

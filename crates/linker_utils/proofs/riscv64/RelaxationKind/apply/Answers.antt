@@ -12,4 +12,4 @@ returns-in-CallToJal-clause-bytes c =
     let o = c.args.offset_in_section.now in
     let made = call_made s c.to_le_bytes.result o c.u32_from_slice-auipc.result c.u32_from_slice-auipc.ensures c.to_le_bytes.ensures in
     rewritten_as c.args.self CallToJal (replaces 0 4 call_to_jal) s c.overwrite.new.section o c.in-CallToJal.is refl
-        (c.overwrite.ensures ∙ overwritten (replaces 0 4 call_to_jal) s c.to_le_bytes.result o o (omega arith) (search rules) made)
+    (c.overwrite.ensures ∙ overwritten (replaces 0 4 call_to_jal) s c.to_le_bytes.result o o (omega arith) (search rules) made)
