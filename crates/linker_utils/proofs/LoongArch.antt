@@ -62,6 +62,14 @@ part_sum : (low high r : ℕ) (ps : List Place) (v before after : ℕ) → high 
 part_sum low high r ps v before after l f a h n placed =
     place_sum_laid low high r ps v after after l f a (part_laid ps v before after h placed) (always_clear ps after n)
 
+-- ---- an immediate of 20 bits
+
+pub shift5_field : (v before after : ℕ) → v < 2 ^ 20 → IsLaid shift5_places v before after → field after 5 25 ≡ v
+shift5_field v before after h laid =
+    let sum : place_sum shift5_places after ≡ field after 5 25 * 1 = row_sum replaced 20 0 5 0 after refl in
+    let value = part_sum 0 20 0 shift5_places v before after (omega arith) refl refl refl refl laid.placed in
+    omega arith
+
 -- ---- an immediate of 12 or 16 bits
 
 shift10_low_sum : (v before after : ℕ) → v < 2 ^ 64 → IsLaid shift10_places v before after → place_sum shift10_low after ≡ v % 2 ^ 12
@@ -72,6 +80,9 @@ shift10_low_sum v before after h laid =
 
 shift10_low_field : (x : ℕ) → place_sum shift10_low x ≡ field x 10 22
 shift10_low_field x = row_sum replaced 12 0 10 0 x refl ∙ omega arith
+
+pub shift10_field : (v before after : ℕ) → v < 2 ^ 12 → IsLaid shift10_places v before after → field after 10 22 ≡ v
+shift10_field v before after h laid = sym (shift10_low_field after) ∙ shift10_low_sum v before after (omega arith) laid ∙ omega arith
 
 shift10_low_below : (x : ℕ) → place_sum shift10_low x < 2 ^ 12
 shift10_low_below x = place_sum_below shift10_low 12 x refl refl

@@ -1,6 +1,6 @@
 -- LoongArch: its instruction forms (LoongArch Reference Manual, volume 1), its rewrites, and its calls and addresses of
 -- several instructions (LoongArch ELF psABI).
-use Rattle.std.specs.Prelude.{◌≡◌, ℕ, ◌+◌, ◌-◌, ◌*◌, ◌%◌, ◌^◌, Bool, true, false, ◌==◌, if◌then◌else◌, List, [], ◌∷◌, ◌++◌, drop, Option, None, Some, ℤ, pos, neg_ℤ, ◌+ℤ◌, ◌-ℤ◌, ◌*ℤ◌, ◌≤ℤ◌, ◌<ℤ◌, ⊤}
+use Rattle.std.specs.Prelude.{◌≡◌, ℕ, ◌+◌, ◌-◌, ◌*◌, ◌%◌, ◌^◌, Bool, true, false, ◌==◌, if◌then◌else◌, List, [], ◌∷◌, ◌++◌, drop, Option, None, Some, ℤ, pos, neg_ℤ, ◌+ℤ◌, ◌-ℤ◌, ◌*ℤ◌, ◌≤ℤ◌, ◌<ℤ◌, ⊤, ◌≤◌}
 use Rattle.std.specs.Int.{w32, w64, bit_at, from_le_bytes, cast_unsigned, int_rem_euclid}
 use Rattle.linker_base.specs.Bits.{field, signed}
 use Rattle.linker_base.specs.Form.{Form, Place, bits_to, or_bits_to, sum_bits_to, cleared_bits, place_sum, field_form, unsigned, twos_complement, modulo, unclaimed}
@@ -117,9 +117,9 @@ high_correction s = if bit_at s 11 == 1 then 2 ^ 64 + 2 ^ 12 - 2 ^ 32 else 0
 abbrev pub high_distance : ℕ → ℕ → ℕ
 high_distance s pc = (page ((s + 2 ^ 31 + high_correction s) % 2 ^ 64) + (2 ^ 64 - page ((pc + (2 ^ 64 - 8)) % 2 ^ 64))) % 2 ^ 64
 
--- word n of a sequence of instructions
+-- the instruction at a byte
 abbrev pub instruction : List ℕ → ℕ → ℕ
-instruction bytes n = from_le_bytes w32 (drop (4 * n) bytes)
+instruction bytes k = from_le_bytes w32 (drop k bytes)
 
 -- the address that `pcalau12i` makes
 abbrev pub pcalau12i : ℕ → ℕ → ℤ
@@ -135,18 +135,25 @@ number_of_three addi lu32i lu52i =
 -- the address that `pcalau12i` at pc, `addi.d` from zero, `lu32i.d`, `lu52i.d` and `add.d` of both make
 abbrev pub five : ℕ → List ℕ → ℤ
 five pc bytes =
-    int_rem_euclid (pcalau12i pc (instruction bytes 0) +ℤ number_of_three (instruction bytes 1) (instruction bytes 2) (instruction bytes 3)) (pos (2 ^ 64))
+    int_rem_euclid (pcalau12i pc (instruction bytes 0) +ℤ number_of_three (instruction bytes 4) (instruction bytes 8) (instruction bytes 12)) (pos (2 ^ 64))
 
 -- the bits of a word below bit s and from bit e up stay
 pub record IsKeptOutside (s e before after : ℕ) : Type 0 where
   pub below : field after 0 s ≡ field before 0 s
   pub above : field after e 32 ≡ field before e 32
 
+-- Bits s and up, below e, of the instruction at a byte are a number, and nothing else has changed.
+pub record IsSetAt (s e : ℕ) (before after : List ℕ) (at value : ℕ) : Type 0 where
+  pub immediate : field (instruction after at) s e ≡ value
+  pub outside : IsKeptOutside s e (instruction before at) (instruction after at)
+  pub front : (k : ℕ) → k + 4 ≤ at → instruction after k ≡ instruction before k
+  pub rest : (k : ℕ) → at + 4 ≤ k → drop k after ≡ drop k before
+
 -- The five instructions at pc make the target, and nothing but their immediates has changed.
 pub record MakesAddress (before after : List ℕ) (pc target : ℕ) : Type 0 where
   pub makes : five pc after ≡ pos target
   pub first : IsKeptOutside 5 25 (instruction before 0) (instruction after 0)
-  pub second : IsKeptOutside 10 22 (instruction before 1) (instruction after 1)
-  pub third : IsKeptOutside 5 25 (instruction before 2) (instruction after 2)
-  pub fourth : IsKeptOutside 10 22 (instruction before 3) (instruction after 3)
+  pub second : IsKeptOutside 10 22 (instruction before 4) (instruction after 4)
+  pub third : IsKeptOutside 5 25 (instruction before 8) (instruction after 8)
+  pub fourth : IsKeptOutside 10 22 (instruction before 12) (instruction after 12)
   pub rest : drop 16 after ≡ drop 16 before

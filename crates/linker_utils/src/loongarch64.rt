@@ -1,10 +1,10 @@
 //! LoongArch: instruction forms, relaxation rewrites, and addresses made by five instructions.
 
-ghost use Rattle.std.specs.Prelude.{◌≡◌, ◌≤◌, ◌+◌, ◌-◌, ◌%◌, ◌^◌, ◌↔◌, ◌⊎◌, IsTrue, length, take, drop};
+ghost use Rattle.std.specs.Prelude.{◌≡◌, ◌≤◌, ◌<◌, ◌+◌, ◌^◌, ◌↔◌, IsTrue, length, drop};
 ghost use Rattle.std.specs.Int.{byte_len, cast_unsigned, w64};
 ghost use Rattle.linker_base.specs.Form.{window_of, Fits, Written, MachineReads, IsReadBack};
 ghost use Rattle.linker_base.specs.Rewrite.{CanRewrite, rewritten, offset_after, addend_after};
-ghost use Rattle.linker_utils.specs.LoongArch.{loongarch_form, ReadsLow, Reaches, loongarch_rewrite, loongarch_modifier, page, high_distance, MakesAddress};
+ghost use Rattle.linker_utils.specs.LoongArch.{loongarch_form, ReadsLow, Reaches, loongarch_rewrite, loongarch_modifier, page, high_distance, MakesAddress, IsSetAt};
 
 use crate::bit_misc::BitExtraction;
 use crate::elf::engine::{self, Run, Window, run};
@@ -88,6 +88,42 @@ pub fn highest_relocation_with_bias(s: u64, pc: u64) -> u64
     };
     let target = page_of(s.wrapping_add(SIZE_2GB).wrapping_add(correction));
     target.wrapping_sub(page_of(pc.wrapping_sub(8)))
+}
+
+/// Makes the five instructions in 20 bytes, `pcalau12i a`, `addi.d t` from zero, `lu32i.d t`,
+/// `lu52i.d t` and `add.d` of both, compute the address `target` where the first stands at `pc`, for
+/// every `pc` and `target`. Only the immediates of the first four are written: the opcodes and
+/// registers, and the fifth, are the caller's and stay (LoongArch ELF psABI, the extreme code model).
+pub fn write_address_sequence(dest: &mut [u8], pc: u64, target: u64)
+    requires { 20 ≤ length dest.old }
+    ensures { MakesAddress dest.old dest.new pc target }
+{
+    let distance = page_of(target.wrapping_add(SIZE_2KB)).wrapping_sub(page_of(pc));
+    let high = highest_relocation_with_bias(target, pc.wrapping_add(8));
+    write_20_bits(dest, 0, distance.extract_bit_range(12..32));
+    write_12_bits(dest, 4, target.extract_bit_range(0..12));
+    write_20_bits(dest, 8, high.extract_bit_range(32..52));
+    write_12_bits(dest, 12, high.extract_bit_range(52..64));
+}
+
+/// Writes an immediate of 20 bits into the instruction at byte `at`.
+#[inline(always)]
+fn write_20_bits(dest: &mut [u8], at: usize, value: u64)
+    requires room { at + 4 ≤ length dest.old }
+    requires fits { value < 2 ^ 20 }
+    ensures { IsSetAt 5 25 dest.old dest.new at value }
+{
+    LoongArch64Instruction::Shift5.write_to_value(value, false, &mut dest[at..at + 4]);
+}
+
+/// Writes an immediate of 12 bits into the instruction at byte `at`.
+#[inline(always)]
+fn write_12_bits(dest: &mut [u8], at: usize, value: u64)
+    requires room { at + 4 ≤ length dest.old }
+    requires fits { value < 2 ^ 12 }
+    ensures { IsSetAt 10 22 dest.old dest.new at value }
+{
+    LoongArch64Instruction::Shift10.write_to_value(value, false, &mut dest[at..at + 4]);
 }
 
 const SHIFT_5: [Run; 1] = [run!(0, 5, 20)];
