@@ -1,15 +1,20 @@
-//! LoongArch: instruction forms, relaxation rewrites, and addresses made by five instructions.
+//! LoongArch: the relocation table, instruction forms, relaxation rewrites, and addresses made by
+//! five instructions.
 
 ghost use Rattle.std.specs.Prelude.{◌≡◌, ◌≤◌, ◌<◌, ◌+◌, ◌^◌, ◌↔◌, IsTrue, length, drop};
 ghost use Rattle.std.specs.Int.{byte_len, cast_unsigned, w64};
 ghost use Rattle.linker_base.specs.Form.{window_of, Fits, Written, MachineReads, IsReadBack};
 ghost use Rattle.linker_base.specs.Rewrite.{CanRewrite, rewritten, offset_after, addend_after};
 ghost use Rattle.linker_utils.specs.LoongArch.{loongarch_form, ReadsLow, Reaches, loongarch_rewrite, loongarch_modifier, page, high_distance, MakesAddress, IsSetAt};
+ghost use Rattle.linker_utils.specs.LoongArchRows.{loongarch_row};
+ghost use Rattle.linker_utils.specs.LoongArchRows as rows;
 
 use crate::bit_misc::BitExtraction;
 use crate::elf::engine::{self, Run, Window, run};
 use crate::elf::{
-    InstructionForm, LoongArch64Instruction, PAGE_MASK_4KB, SIZE_2GB, SIZE_2KB, SIZE_4GB, SIZE_4KB,
+    AllowedRange, Bias, InstructionForm, LoongArch64Instruction, PAGE_MASK_4KB, PageMask,
+    PageMaskPattern, RelocationKind, RelocationKindInfo, RelocationSize, SIZE_2GB, SIZE_2KB,
+    SIZE_4GB, SIZE_4KB, Sign,
 };
 use crate::relaxation::RelocationModifier;
 use crate::rewrite::{has_window, overwrite};
@@ -250,5 +255,343 @@ impl InstructionForm for LoongArch64Instruction {
     #[inline]
     fn read(self, bytes: &[u8]) -> (u64, bool) {
         self.read_value(bytes)
+    }
+}
+
+/// The types of LoongArch relocations, by their names in the LoongArch ELF psABI, "Relocation
+/// Types", which says what each asks for.
+#[derive(Debug, Clone, Copy, PartialEq, Eq)]
+#[allow(non_camel_case_types)]
+pub enum LoongArch64Relocation {
+    R_LARCH_NONE,
+    R_LARCH_32,
+    R_LARCH_64,
+    R_LARCH_ADD6,
+    R_LARCH_ADD8,
+    R_LARCH_ADD16,
+    R_LARCH_ADD24,
+    R_LARCH_ADD32,
+    R_LARCH_ADD64,
+    R_LARCH_SUB6,
+    R_LARCH_SUB8,
+    R_LARCH_SUB16,
+    R_LARCH_SUB24,
+    R_LARCH_SUB32,
+    R_LARCH_SUB64,
+    R_LARCH_ADD_ULEB128,
+    R_LARCH_SUB_ULEB128,
+    R_LARCH_ABS_HI20,
+    R_LARCH_ABS_LO12,
+    R_LARCH_ABS64_HI12,
+    R_LARCH_ABS64_LO20,
+    R_LARCH_PCALA_HI20,
+    R_LARCH_PCALA_LO12,
+    R_LARCH_PCALA64_HI12,
+    R_LARCH_PCALA64_LO20,
+    R_LARCH_32_PCREL,
+    R_LARCH_PCREL20_S2,
+    R_LARCH_64_PCREL,
+    R_LARCH_PCADD_HI20,
+    R_LARCH_GOT_PC_HI20,
+    R_LARCH_GOT_PC_LO12,
+    R_LARCH_GOT64_PC_HI12,
+    R_LARCH_GOT64_PC_LO20,
+    R_LARCH_B16,
+    R_LARCH_B21,
+    R_LARCH_B26,
+    R_LARCH_CALL36,
+    R_LARCH_CALL30,
+    R_LARCH_TLS_LE_HI20,
+    R_LARCH_TLS_LE_LO12,
+    R_LARCH_TLS_LE64_LO20,
+    R_LARCH_TLS_LE64_HI12,
+    R_LARCH_TLS_LE_HI20_R,
+    R_LARCH_TLS_LE_LO12_R,
+    R_LARCH_TLS_IE_PC_HI20,
+    R_LARCH_TLS_IE_PC_LO12,
+    R_LARCH_TLS_IE64_PC_LO20,
+    R_LARCH_TLS_IE64_PC_HI12,
+    R_LARCH_TLS_IE_HI20,
+    R_LARCH_TLS_IE_LO12,
+    R_LARCH_TLS_IE64_HI12,
+    R_LARCH_TLS_IE64_LO20,
+    R_LARCH_TLS_LD_PC_HI20,
+    R_LARCH_TLS_LD_HI20,
+    R_LARCH_TLS_GD_PC_HI20,
+    R_LARCH_TLS_GD_HI20,
+    R_LARCH_TLS_DESC_PC_HI20,
+    R_LARCH_TLS_DESC_PC_LO12,
+    R_LARCH_TLS_DESC64_PC_HI12,
+    R_LARCH_TLS_DESC64_PC_LO20,
+    R_LARCH_TLS_DESC_LD,
+    R_LARCH_TLS_DESC_CALL,
+    R_LARCH_TLS_DTPREL32,
+    R_LARCH_TLS_DTPREL64,
+    R_LARCH_TLS_LD_PCREL20_S2,
+    R_LARCH_TLS_GD_PCREL20_S2,
+    R_LARCH_TLS_DESC_PCREL20_S2,
+    R_LARCH_RELAX,
+    R_LARCH_TLS_LE_ADD_R,
+    R_LARCH_ALIGN,
+    /// A type with another number.
+    Other(u32),
+}
+
+/// What a relocation type means, and `None` of a type that isn't supported.
+pub fn relocation_type_from_raw(name: LoongArch64Relocation) -> Option<RelocationKindInfo>
+    ensures { result ≡ loongarch_row name }
+{
+    let info = match name {
+        LoongArch64Relocation::R_LARCH_NONE
+        | LoongArch64Relocation::R_LARCH_TLS_DESC_LD
+        | LoongArch64Relocation::R_LARCH_RELAX
+        | LoongArch64Relocation::R_LARCH_TLS_LE_ADD_R
+        | LoongArch64Relocation::R_LARCH_ALIGN => bytes(RelocationKind::None, 0),
+        LoongArch64Relocation::R_LARCH_32 => bytes_within(
+            RelocationKind::Absolute,
+            4,
+            AllowedRange::new(-(1 << 31), 1 << 32),
+        ),
+        LoongArch64Relocation::R_LARCH_64 => bytes(RelocationKind::Absolute, 8),
+        LoongArch64Relocation::R_LARCH_ABS_HI20 => high(RelocationKind::Absolute),
+        LoongArch64Relocation::R_LARCH_ABS_LO12 => low(RelocationKind::Absolute),
+        LoongArch64Relocation::R_LARCH_ABS64_LO20 => middle(RelocationKind::Absolute),
+        LoongArch64Relocation::R_LARCH_ABS64_HI12 => upper(RelocationKind::Absolute),
+        LoongArch64Relocation::R_LARCH_ADD6 => bytes(RelocationKind::AbsoluteAdditionWord6, 1),
+        LoongArch64Relocation::R_LARCH_SUB6 => bytes(RelocationKind::AbsoluteSubtractionWord6, 1),
+        LoongArch64Relocation::R_LARCH_ADD8 => bytes(RelocationKind::AbsoluteAddition, 1),
+        LoongArch64Relocation::R_LARCH_ADD16 => bytes(RelocationKind::AbsoluteAddition, 2),
+        LoongArch64Relocation::R_LARCH_ADD24 => bytes(RelocationKind::AbsoluteAddition, 3),
+        LoongArch64Relocation::R_LARCH_ADD32 => bytes(RelocationKind::AbsoluteAddition, 4),
+        LoongArch64Relocation::R_LARCH_ADD64 => bytes(RelocationKind::AbsoluteAddition, 8),
+        LoongArch64Relocation::R_LARCH_SUB8 => bytes(RelocationKind::AbsoluteSubtraction, 1),
+        LoongArch64Relocation::R_LARCH_SUB16 => bytes(RelocationKind::AbsoluteSubtraction, 2),
+        LoongArch64Relocation::R_LARCH_SUB24 => bytes(RelocationKind::AbsoluteSubtraction, 3),
+        LoongArch64Relocation::R_LARCH_SUB32 => bytes(RelocationKind::AbsoluteSubtraction, 4),
+        LoongArch64Relocation::R_LARCH_SUB64 => bytes(RelocationKind::AbsoluteSubtraction, 8),
+        LoongArch64Relocation::R_LARCH_ADD_ULEB128 => bytes(RelocationKind::Relative, 0),
+        LoongArch64Relocation::R_LARCH_PCALA_HI20 => paged(
+            RelocationKind::Relative,
+            PageMask::SymbolPlusAddendAndPosition(PageMaskPattern::Size4KB),
+        ),
+        LoongArch64Relocation::R_LARCH_32_PCREL => bytes_within(
+            RelocationKind::Relative,
+            4,
+            AllowedRange::from_bit_size(32, Sign::Signed),
+        ),
+        LoongArch64Relocation::R_LARCH_PCREL20_S2 => branch(
+            RelocationKind::Relative,
+            22,
+            LoongArch64Instruction::Shift5,
+        ),
+        LoongArch64Relocation::R_LARCH_64_PCREL => bytes(RelocationKind::Relative, 8),
+        LoongArch64Relocation::R_LARCH_PCADD_HI20 => biased(RelocationKind::Relative),
+        LoongArch64Relocation::R_LARCH_B16 => branch(
+            RelocationKind::Relative,
+            18,
+            LoongArch64Instruction::Shift10,
+        ),
+        LoongArch64Relocation::R_LARCH_B21 => branch(
+            RelocationKind::Relative,
+            23,
+            LoongArch64Instruction::Branch21,
+        ),
+        LoongArch64Relocation::R_LARCH_CALL30 => bits(
+            RelocationKind::Relative,
+            2,
+            19,
+            LoongArch64Instruction::Call30,
+        ),
+        LoongArch64Relocation::R_LARCH_SUB_ULEB128 => bytes(
+            RelocationKind::PairSubtractionULEB128LoongArch,
+            8,
+        ),
+        LoongArch64Relocation::R_LARCH_PCALA_LO12 => low(RelocationKind::AbsoluteLowPart),
+        LoongArch64Relocation::R_LARCH_PCALA64_LO20 => middle(
+            RelocationKind::RelativeLoongArchHigh,
+        ),
+        LoongArch64Relocation::R_LARCH_PCALA64_HI12 => upper(RelocationKind::RelativeLoongArchHigh),
+        LoongArch64Relocation::R_LARCH_B26 => branch(
+            RelocationKind::PltRelative,
+            28,
+            LoongArch64Instruction::Branch26,
+        ),
+        LoongArch64Relocation::R_LARCH_CALL36 => branch(
+            RelocationKind::PltRelative,
+            38,
+            LoongArch64Instruction::Call36,
+        ),
+        LoongArch64Relocation::R_LARCH_GOT_PC_HI20 => paged(
+            RelocationKind::GotRelative,
+            PageMask::GotEntryAndPosition(PageMaskPattern::Size4KB),
+        ),
+        LoongArch64Relocation::R_LARCH_GOT_PC_LO12 => low(RelocationKind::Got),
+        LoongArch64Relocation::R_LARCH_GOT64_PC_LO20 => middle(
+            RelocationKind::GotRelativeLoongArch64,
+        ),
+        LoongArch64Relocation::R_LARCH_GOT64_PC_HI12 => upper(
+            RelocationKind::GotRelativeLoongArch64,
+        ),
+        LoongArch64Relocation::R_LARCH_TLS_LE_HI20 => high(RelocationKind::TpOff),
+        LoongArch64Relocation::R_LARCH_TLS_LE_LO12 | LoongArch64Relocation::R_LARCH_TLS_LE_LO12_R =>
+            low(RelocationKind::TpOff),
+        LoongArch64Relocation::R_LARCH_TLS_LE64_LO20 => middle(RelocationKind::TpOff),
+        LoongArch64Relocation::R_LARCH_TLS_LE64_HI12 => upper(RelocationKind::TpOff),
+        LoongArch64Relocation::R_LARCH_TLS_LE_HI20_R => biased(RelocationKind::TpOff),
+        LoongArch64Relocation::R_LARCH_TLS_IE_PC_HI20 => paged(
+            RelocationKind::GotTpOff,
+            PageMask::GotEntryAndPosition(PageMaskPattern::Size4KB),
+        ),
+        LoongArch64Relocation::R_LARCH_TLS_IE_PC_LO12
+        | LoongArch64Relocation::R_LARCH_TLS_IE_LO12 => low(RelocationKind::GotTpOffGot),
+        LoongArch64Relocation::R_LARCH_TLS_IE_HI20 => high(RelocationKind::GotTpOffGot),
+        LoongArch64Relocation::R_LARCH_TLS_IE64_LO20 => middle(RelocationKind::GotTpOffGot),
+        LoongArch64Relocation::R_LARCH_TLS_IE64_HI12 => upper(RelocationKind::GotTpOffGot),
+        LoongArch64Relocation::R_LARCH_TLS_IE64_PC_LO20 => middle(
+            RelocationKind::GotTpOffLoongArch64,
+        ),
+        LoongArch64Relocation::R_LARCH_TLS_IE64_PC_HI12 => upper(
+            RelocationKind::GotTpOffLoongArch64,
+        ),
+        LoongArch64Relocation::R_LARCH_TLS_LD_PC_HI20
+        | LoongArch64Relocation::R_LARCH_TLS_GD_PC_HI20 => paged(
+            RelocationKind::TlsGd,
+            PageMask::GotEntryAndPosition(PageMaskPattern::Size4KB),
+        ),
+        LoongArch64Relocation::R_LARCH_TLS_LD_HI20 | LoongArch64Relocation::R_LARCH_TLS_GD_HI20 =>
+            high(RelocationKind::TlsGdGot),
+        LoongArch64Relocation::R_LARCH_TLS_DESC_PC_HI20 => paged(
+            RelocationKind::TlsDesc,
+            PageMask::GotEntryAndPosition(PageMaskPattern::Size4KB),
+        ),
+        LoongArch64Relocation::R_LARCH_TLS_DESC_PC_LO12 => low(RelocationKind::TlsDescGot),
+        LoongArch64Relocation::R_LARCH_TLS_DESC64_PC_LO20 => middle(
+            RelocationKind::TlsDescLoongArch64,
+        ),
+        LoongArch64Relocation::R_LARCH_TLS_DESC64_PC_HI12 => upper(
+            RelocationKind::TlsDescLoongArch64,
+        ),
+        LoongArch64Relocation::R_LARCH_TLS_DESC_CALL => bytes(RelocationKind::TlsDescCall, 0),
+        LoongArch64Relocation::R_LARCH_TLS_DTPREL32 => bytes(RelocationKind::DtpOff, 4),
+        LoongArch64Relocation::R_LARCH_TLS_DTPREL64 => bytes(RelocationKind::DtpOff, 8),
+        LoongArch64Relocation::R_LARCH_TLS_LD_PCREL20_S2
+        | LoongArch64Relocation::R_LARCH_TLS_GD_PCREL20_S2
+        | LoongArch64Relocation::R_LARCH_TLS_DESC_PCREL20_S2
+        | LoongArch64Relocation::Other(_) => return None,
+    };
+    Some(info)
+}
+
+/// A description without mask, range, alignment and bias.
+#[inline(always)]
+fn plain(kind: RelocationKind, size: RelocationSize) -> RelocationKindInfo
+    ensures { result ≡ rows.plain kind size }
+{
+    RelocationKindInfo {
+        kind,
+        size,
+        mask: None,
+        range: AllowedRange::no_check(),
+        alignment: 1,
+        bias: None,
+        thunkable: false,
+        implicit_addend: false,
+    }
+}
+
+#[inline(always)]
+fn bytes(kind: RelocationKind, count: u8) -> RelocationKindInfo
+    ensures { result ≡ rows.bytes kind count }
+{
+    plain(kind, RelocationSize::ByteSize(count))
+}
+
+#[inline(always)]
+fn bytes_within(kind: RelocationKind, count: u8, range: AllowedRange) -> RelocationKindInfo
+    ensures { result ≡ record (rows.bytes kind count) { range = range } }
+{
+    RelocationKindInfo {
+        range,
+        ..bytes(kind, count)
+    }
+}
+
+#[inline(always)]
+fn bits(
+    kind: RelocationKind,
+    start: u8,
+    end: u8,
+    insn: LoongArch64Instruction,
+) -> RelocationKindInfo
+    ensures { result ≡ rows.bits kind start end insn }
+{
+    plain(kind, RelocationSize::bit_mask_loongarch64(start, end, insn))
+}
+
+/// A distance in units of 4 bytes, of signed bits below bit `end`.
+#[inline(always)]
+fn branch(kind: RelocationKind, end: u8, insn: LoongArch64Instruction) -> RelocationKindInfo
+    requires some { 1 ≤ end }
+    requires short { end ≤ 62 }
+    ensures { result ≡ rows.branch kind end insn }
+{
+    RelocationKindInfo {
+        range: AllowedRange::from_bit_size(end as u32, Sign::Signed),
+        alignment: 4,
+        ..bits(kind, 2, end, insn)
+    }
+}
+
+/// Bits 12 to 31.
+#[inline(always)]
+fn high(kind: RelocationKind) -> RelocationKindInfo
+    ensures { result ≡ rows.high kind }
+{
+    bits(kind, 12, 32, LoongArch64Instruction::Shift5)
+}
+
+/// Bits 0 to 11.
+#[inline(always)]
+fn low(kind: RelocationKind) -> RelocationKindInfo
+    ensures { result ≡ rows.low kind }
+{
+    bits(kind, 0, 12, LoongArch64Instruction::Shift10)
+}
+
+/// Bits 32 to 51.
+#[inline(always)]
+fn middle(kind: RelocationKind) -> RelocationKindInfo
+    ensures { result ≡ rows.middle kind }
+{
+    bits(kind, 32, 52, LoongArch64Instruction::Shift5)
+}
+
+/// Bits 52 to 63.
+#[inline(always)]
+fn upper(kind: RelocationKind) -> RelocationKindInfo
+    ensures { result ≡ rows.upper kind }
+{
+    bits(kind, 52, 64, LoongArch64Instruction::Shift10)
+}
+
+/// Bits 12 to 31, rounded since the low 12 bits are read signed.
+#[inline(always)]
+fn biased(kind: RelocationKind) -> RelocationKindInfo
+    ensures { result ≡ rows.biased kind }
+{
+    RelocationKindInfo {
+        bias: Bias::from_value(SIZE_2KB),
+        ..high(kind)
+    }
+}
+
+/// The same of addresses cut to their page.
+#[inline(always)]
+fn paged(kind: RelocationKind, mask: PageMask) -> RelocationKindInfo
+    ensures { result ≡ rows.paged kind mask }
+{
+    RelocationKindInfo {
+        mask: Some(mask),
+        ..biased(kind)
     }
 }
