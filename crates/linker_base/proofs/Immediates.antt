@@ -86,7 +86,7 @@ own_bits (p ∷ ps) x h a =
     (cond-true (is_of p p.value) (bit_at x p.word) (value_bit ps p.value x) (and_from (holds p.mark) (eqb p.value p.value) held.0 (eq-eqb p.value p.value refl)))
     (λ k d l. cond-false (is_of p (get_or ps k d).value) (bit_at x p.word) (value_bit ps (get_or ps k d).value x) (and_right (holds p.mark) (eqb p.value (get_or ps k d).value) (others k d l)) ∙ rest k d l)
 
-bit_looked_up : (ps : List Place) (w x y : ℕ) → All (λ (p : Place). bit_at y p.word ≡ bit_at x p.word) ps → is_placed ps w ≡ true → bit_at y w ≡ bit_at x w
+pub bit_looked_up : (ps : List Place) (w x y : ℕ) → All (λ (p : Place). bit_at y p.word ≡ bit_at x p.word) ps → is_placed ps w ≡ true → bit_at y w ≡ bit_at x w
 bit_looked_up [] w x y h t = cc
 bit_looked_up (p ∷ ps) w x y h t =
     elim (or_cases (eqb p.word w) (is_placed ps w) t) [

@@ -6,6 +6,7 @@ pub mod Laws
 pub mod Listed
 pub mod Merging
 pub mod OutputPlaces
+pub mod Parts
 pub mod Places
 pub mod Rank
 pub mod Rewrites

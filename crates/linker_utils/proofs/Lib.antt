@@ -1,6 +1,10 @@
 pub mod Bounds
 pub mod Calls
 pub mod Jumps
+pub mod LoongArch
+pub mod LoongArchAddresses
+pub mod LoongArchNumbers
+pub mod LoongArchSequences
 pub mod PowerPcForms
 pub mod PowerPcPairs
 pub mod RiscV

@@ -24,7 +24,7 @@ moved : (P : Place → Type 0) (k j w i r : ℕ) (m : Mark) → k ≡ j → w �
 moved P k j w i r m e f h =
     subst (λ x. P (record { value = j; word = x; added = r; mark = m })) f (subst (λ x. P (record { value = x; word = w; added = r; mark = m })) e h)
 
-row_all : (P : Place → Type 0) (n k w r : ℕ) (m : Mark) → ((j : ℕ) → j < n → P (record { value = k + j; word = w + j; added = r; mark = m })) → All P (row n k w r m)
+pub row_all : (P : Place → Type 0) (n k w r : ℕ) (m : Mark) → ((j : ℕ) → j < n → P (record { value = k + j; word = w + j; added = r; mark = m })) → All P (row n k w r m)
 row_all P zero k w r m h = All-nil P
 row_all P (suc n) k w r m h =
     All-cons P (record { value = k; word = w; added = r; mark = m }) (row n (k + 1) (w + 1) r m)
@@ -297,7 +297,7 @@ row_sum m (suc n) k w r x h =
     ∙ ap (λ y. y * 2 ^ k) (sym (mod-pow-add (x / 2 ^ w) n 1))
     ∙ ap (λ e. x / 2 ^ w % 2 ^ e * 2 ^ k) (omega arith)
 
-row_sum_cleared : (n k w r x : ℕ) → place_sum (row n k w r cleared) x ≡ 0
+pub row_sum_cleared : (n k w r x : ℕ) → place_sum (row n k w r cleared) x ≡ 0
 unfolding place_sum
 row_sum_cleared zero k w r x = refl
 row_sum_cleared (suc n) k w r x =

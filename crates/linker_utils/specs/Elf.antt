@@ -5,9 +5,10 @@ use Rattle.linker_utils.specs.declared.elf.Sign.{Sign}
 use Rattle.linker_utils.specs.declared.elf.Sign.TheVariants.{Signed, Unsigned}
 use Rattle.linker_utils.specs.declared.elf.AllowedRange.{AllowedRange}
 use Rattle.linker_utils.specs.declared.elf.RelocationInstruction.{RelocationInstruction}
-use Rattle.linker_utils.specs.declared.elf.RelocationInstruction.TheVariants.{RiscV, Ppc64}
+use Rattle.linker_utils.specs.declared.elf.RelocationInstruction.TheVariants.{RiscV, Ppc64, LoongArch64}
 use Rattle.linker_utils.specs.PowerPc.{ppc64_form}
 use Rattle.linker_utils.specs.RiscV.{riscv_form}
+use Rattle.linker_utils.specs.LoongArch.{loongarch_form}
 
 -- the least number of n bits, and the first above them
 abbrev pub bit_bounds : ℕ → Sign → ℤ × ℤ
@@ -25,3 +26,4 @@ IsAllowed range v = IsWithin range.bounds v
 abbrev pub relocation_form : RelocationInstruction → Form
 relocation_form (RiscV f) = riscv_form f
 relocation_form (Ppc64 f) = ppc64_form f
+relocation_form (LoongArch64 f) = loongarch_form f

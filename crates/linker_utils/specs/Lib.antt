@@ -1,4 +1,6 @@
 pub mod Elf
+pub mod LoongArch
+pub mod LoongArchRows
 pub mod PowerPc
 pub mod PowerPcRows
 pub mod RiscV

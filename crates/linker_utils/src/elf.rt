@@ -149,6 +149,16 @@ impl RelocationSize {
             insn: RelocationInstruction::Ppc64(insn),
         }
     }
+
+    /// Bits `start` and up, below `end`, into a LoongArch instruction.
+    pub fn bit_mask_loongarch64(start: u8, end: u8, insn: LoongArch64Instruction) -> RelocationSize
+        ensures { result ≡ RelocationSize.BitMasking (record { start = start; end = end }) (RelocationInstruction.LoongArch64 insn) }
+    {
+        RelocationSize::BitMasking {
+            range: BitRange { start, end },
+            insn: RelocationInstruction::LoongArch64(insn),
+        }
+    }
 }
 
 /// An instruction form of one of the architectures.
@@ -156,6 +166,7 @@ impl RelocationSize {
 pub enum RelocationInstruction {
     RiscV(RiscVInstruction),
     Ppc64(Ppc64Instruction),
+    LoongArch64(LoongArch64Instruction),
 }
 
 /// The size of the pages that a mask cuts addresses to.
@@ -329,6 +340,7 @@ impl InstructionForm for RelocationInstruction {
         match self {
             RelocationInstruction::RiscV(insn) => insn.window(),
             RelocationInstruction::Ppc64(insn) => insn.window(),
+            RelocationInstruction::LoongArch64(insn) => insn.window(),
         }
     }
 
@@ -337,6 +349,7 @@ impl InstructionForm for RelocationInstruction {
         match self {
             RelocationInstruction::RiscV(insn) => insn.fits(value, bytes),
             RelocationInstruction::Ppc64(insn) => insn.fits(value, bytes),
+            RelocationInstruction::LoongArch64(insn) => insn.fits(value, bytes),
         }
     }
 
@@ -345,6 +358,7 @@ impl InstructionForm for RelocationInstruction {
         match self {
             RelocationInstruction::RiscV(insn) => insn.write(value, negative, dest),
             RelocationInstruction::Ppc64(insn) => insn.write(value, negative, dest),
+            RelocationInstruction::LoongArch64(insn) => insn.write(value, negative, dest),
         }
     }
 
@@ -353,6 +367,7 @@ impl InstructionForm for RelocationInstruction {
         match self {
             RelocationInstruction::RiscV(insn) => insn.read(bytes),
             RelocationInstruction::Ppc64(insn) => insn.read(bytes),
+            RelocationInstruction::LoongArch64(insn) => insn.read(bytes),
         }
     }
 }
@@ -405,4 +420,31 @@ pub enum Ppc64Instruction {
     /// I-form, as `b`: value bits 2 to 25 at bit 2 and up. A signed distance of 26 bits, whose
     /// lowest two are 0 (Power ISA, "I-Form").
     Branch24,
+}
+
+/// LoongArch instructions that hold an immediate value, and the pairs that a long call is. The
+/// window is 4 bytes, and 8 for a pair. The names of fields are those of the LoongArch Reference
+/// Manual, volume 1, "Instruction Encoding".
+#[derive(Debug, Clone, Copy, PartialEq, Eq)]
+pub enum LoongArch64Instruction {
+    /// An immediate of 20 bits: value bits 0 to 19 at bit 5 and up. Values below 2^20 fit.
+    Shift5,
+    /// An immediate of 12 bits at bit 10 and up, or of 16 there: value bits 0 to 11 are replaced,
+    /// and 12 to 15 are only ORed at bit 22 and up, where an immediate of 12 bits has its opcode.
+    /// Values below 2^16 fit. Reading answers bits 0 to 11.
+    Shift10,
+    /// The offset of `b` and `bl` in units of 4 bytes: value bits 0 to 15 at bit 10 and up, 16 to
+    /// 25 at bit 0 and up. Signed, of 26 bits. Values below 2^26 fit.
+    Branch26,
+    /// The offset of `beqz` and `bnez` in units of 4 bytes: value bits 0 to 15 at bit 10 and up, 16
+    /// to 20 at bit 0 and up. Signed, of 21 bits. Values below 2^21 fit.
+    Branch21,
+    /// The pair of a call of `R_LARCH_CALL30`: value bits 9 to 19 at bit 14 and up of word one,
+    /// whose bits 5 to 13 become 0, and 0 to 8 at bit 10 and up of word two. Values below 2^20 fit.
+    Call30,
+    /// `pcaddu18i` and `jirl`, in units of 4 bytes: bits 16 to 35 of the value plus 0x8000 at bit 5
+    /// and up of word one, value bits 0 to 15 at bit 10 and up of word two. `jirl` reads the low
+    /// part signed, so that 0x8000 is added for the high part; a carry out of it is dropped. Values
+    /// below 2^36 fit. Reading answers the high part and the signed low part together, modulo 2^36.
+    Call36,
 }

@@ -4,6 +4,7 @@
 
 pub mod elf;
 pub mod ppc64;
+pub mod loongarch64;
 mod rewrite;
 pub mod riscv64;
 pub mod x86_64;

@@ -1,0 +1,159 @@
+-- LoongArch: its instruction forms (LoongArch Reference Manual, volume 1), its rewrites, and its calls and addresses of
+-- several instructions (LoongArch ELF psABI).
+use Rattle.std.specs.Prelude.{◌≡◌, ℕ, ◌+◌, ◌-◌, ◌*◌, ◌%◌, ◌^◌, Bool, true, false, ◌==◌, if◌then◌else◌, List, [], ◌∷◌, ◌++◌, drop, Option, None, Some, ℤ, pos, neg_ℤ, ◌+ℤ◌, ◌-ℤ◌, ◌*ℤ◌, ◌≤ℤ◌, ◌<ℤ◌, ⊤, ◌≤◌}
+use Rattle.std.specs.Int.{w32, w64, bit_at, from_le_bytes, cast_unsigned, int_rem_euclid}
+use Rattle.linker_base.specs.Bits.{field, signed}
+use Rattle.linker_base.specs.Form.{Form, Place, bits_to, or_bits_to, sum_bits_to, cleared_bits, place_sum, field_form, unsigned, twos_complement, modulo, unclaimed}
+use Rattle.linker_base.specs.Rewrite.{Rewrite, replaces}
+use Rattle.linker_base.specs.declared.relaxation.RelocationModifier.{RelocationModifier}
+use Rattle.linker_base.specs.declared.relaxation.RelocationModifier.TheVariants.{Normal}
+use Rattle.linker_utils.specs.declared.elf.LoongArch64Instruction.{LoongArch64Instruction}
+use Rattle.linker_utils.specs.declared.elf.LoongArch64Instruction.TheVariants.{Shift5, Shift10, Branch26, Branch21, Call30, Call36}
+use Rattle.linker_utils.specs.declared.loongarch64.RelaxationKind.{RelaxationKind}
+use Rattle.linker_utils.specs.declared.loongarch64.RelaxationKind.TheVariants.{NoOp, ReplaceWithNop}
+
+-- ---- forms; bit j of a pair's second word is bit 32 + j
+
+-- the part of a `Shift10` that every reading takes
+abbrev pub shift10_low : List Place
+shift10_low = bits_to 0 11 10
+
+abbrev pub call36_high : List Place
+call36_high = sum_bits_to 0x8000 16 35 5
+
+abbrev pub call36_low : List Place
+call36_low = bits_to 0 15 42
+
+-- the immediates of `pcaddu18i` and of `jirl`
+abbrev pub pcaddu18i : ℕ → ℤ
+pcaddu18i pair = signed 20 (field pair 5 25)
+
+abbrev pub jirl : ℕ → ℤ
+jirl pair = signed 16 (field pair 42 58)
+
+abbrev pub call36_form : Form
+call36_form =
+    record {
+      window = w64;
+      width = λ _. 36;
+      places = λ _. call36_high ++ call36_low;
+      number = λ _ v. v;
+      base = λ _ x. x;
+      reading = λ x. int_rem_euclid (pos (place_sum call36_high x) +ℤ signed 16 (place_sum call36_low x)) (pos (2 ^ 36));
+      flag = λ _. false;
+      restores = λ _. true;
+      machine = λ x. (pcaddu18i x *ℤ pos (2 ^ 16)) +ℤ jirl x;
+      wanted = λ _ _ v. pos v;
+      claim = modulo 36;
+    }
+
+abbrev pub loongarch_form : LoongArch64Instruction → Form
+loongarch_form Shift5 = field_form w32 20 20 0 unsigned false twos_complement (modulo 20) (bits_to 0 19 5)
+loongarch_form Shift10 =
+    record (field_form w32 16 16 0 unsigned false twos_complement (modulo 16) (shift10_low ++ or_bits_to 12 15 22)) {
+      reading = λ x. pos (place_sum shift10_low x);
+    }
+loongarch_form Branch26 = field_form w32 26 26 0 twos_complement true twos_complement (modulo 26) (bits_to 0 15 10 ++ bits_to 16 25 0)
+loongarch_form Branch21 = field_form w32 21 21 0 twos_complement true twos_complement (modulo 21) (bits_to 0 15 10 ++ bits_to 16 20 0)
+loongarch_form Call30 =
+    record (field_form w64 20 20 0 unsigned false unsigned unclaimed (bits_to 9 19 14 ++ bits_to 0 8 42 ++ cleared_bits 5 13)) {
+      restores = λ x. field x 5 14 == 0;
+    }
+loongarch_form Call36 = call36_form
+
+-- An immediate of 12 bits in a `Shift10` holds the value's, whatever stood in the places that are only ORed.
+abbrev pub ReadsLow : LoongArch64Instruction → ℕ → ℕ → Type 0
+ReadsLow Shift5 v after = ⊤
+ReadsLow Shift10 v after = field after 10 22 ≡ v % 2 ^ 12
+ReadsLow Branch26 v after = ⊤
+ReadsLow Branch21 v after = ⊤
+ReadsLow Call30 v after = ⊤
+ReadsLow Call36 v after = ⊤
+
+-- how far in bytes `pcaddu18i` and `jirl` go
+abbrev pub reach : ℕ → ℤ
+reach pair = (pcaddu18i pair *ℤ pos (2 ^ 18)) +ℤ (jirl pair *ℤ pos 4)
+
+-- v is bits 2 to 37 of d, a multiple of 4
+pub record IsCallBy (v : ℕ) (d : ℤ) : Type 0 where
+  pub aligned : int_rem_euclid d (pos 4) ≡ pos 0
+  pub bits : v ≡ field (cast_unsigned w64 d) 2 38
+
+-- A pair with bits 2 to 37 of a distance goes that far, from -2^37 to 2^37 - 2^17; from there below 2^37 it is 2^38 less.
+pub record GoesBy (v after : ℕ) : Type 0 where
+  pub near : (d : ℤ) → IsCallBy v d → neg_ℤ (pos (2 ^ 37)) ≤ℤ d → d <ℤ pos (2 ^ 37 - 2 ^ 17) → reach after ≡ d
+  pub far : (d : ℤ) → IsCallBy v d → pos (2 ^ 37 - 2 ^ 17) ≤ℤ d → d <ℤ pos (2 ^ 37) → reach after ≡ d -ℤ pos (2 ^ 38)
+
+abbrev pub Reaches : LoongArch64Instruction → ℕ → ℕ → Type 0
+Reaches Shift5 v after = ⊤
+Reaches Shift10 v after = ⊤
+Reaches Branch26 v after = ⊤
+Reaches Branch21 v after = ⊤
+Reaches Call30 v after = ⊤
+Reaches Call36 v after = GoesBy v after
+
+-- ---- rewrites
+
+abbrev pub loongarch_rewrite : RelaxationKind → Option Rewrite
+loongarch_rewrite NoOp = None
+loongarch_rewrite ReplaceWithNop = Some (replaces 0 4 (λ _. 0x00 ∷ 0x00 ∷ 0x40 ∷ 0x03 ∷ []))
+
+abbrev pub loongarch_modifier : RelaxationKind → RelocationModifier
+loongarch_modifier NoOp = Normal
+loongarch_modifier ReplaceWithNop = Normal
+
+-- ---- addresses
+
+-- a number less its remainder by 4096, the size of a page
+abbrev pub page : ℕ → ℕ
+page n = n - n % 4096
+
+-- 2^12 - 2^32 modulo 2^64 where bit 11 is set: where `addi.d` takes its 12 bits for a number below 0, the page is one more,
+-- and `addi.d` leaves 1 less in bits 32 and up
+abbrev pub high_correction : ℕ → ℕ
+high_correction s = if bit_at s 11 == 1 then 2 ^ 64 + 2 ^ 12 - 2 ^ 32 else 0
+
+-- the distance from the page of pc - 8 to that of s, rounded for its bits 32 to 63, modulo 2^64
+abbrev pub high_distance : ℕ → ℕ → ℕ
+high_distance s pc = (page ((s + 2 ^ 31 + high_correction s) % 2 ^ 64) + (2 ^ 64 - page ((pc + (2 ^ 64 - 8)) % 2 ^ 64))) % 2 ^ 64
+
+-- the instruction at a byte
+abbrev pub instruction : List ℕ → ℕ → ℕ
+instruction bytes k = from_le_bytes w32 (drop k bytes)
+
+-- the address that `pcalau12i` makes
+abbrev pub pcalau12i : ℕ → ℕ → ℤ
+pcalau12i pc word =
+    let sum = pos pc +ℤ (signed 20 (field word 5 25) *ℤ pos 4096) in
+    sum -ℤ int_rem_euclid sum (pos 4096)
+
+-- the number that `addi.d` from zero, `lu32i.d` and `lu52i.d` make: bits 0 to 31, 32 to 51 and 52 to 63
+abbrev pub number_of_three : ℕ → ℕ → ℕ → ℤ
+number_of_three addi lu32i lu52i =
+    int_rem_euclid (signed 12 (field addi 10 22)) (pos (2 ^ 32)) +ℤ pos (2 ^ 32 * field lu32i 5 25 + 2 ^ 52 * field lu52i 10 22)
+
+-- the address that `pcalau12i` at pc, `addi.d` from zero, `lu32i.d`, `lu52i.d` and `add.d` of both make
+abbrev pub five : ℕ → List ℕ → ℤ
+five pc bytes =
+    int_rem_euclid (pcalau12i pc (instruction bytes 0) +ℤ number_of_three (instruction bytes 4) (instruction bytes 8) (instruction bytes 12)) (pos (2 ^ 64))
+
+-- the bits of a word below bit s and from bit e up stay
+pub record IsKeptOutside (s e before after : ℕ) : Type 0 where
+  pub below : field after 0 s ≡ field before 0 s
+  pub above : field after e 32 ≡ field before e 32
+
+-- Bits s and up, below e, of the instruction at a byte are a number, and nothing else has changed.
+pub record IsSetAt (s e : ℕ) (before after : List ℕ) (at value : ℕ) : Type 0 where
+  pub immediate : field (instruction after at) s e ≡ value
+  pub outside : IsKeptOutside s e (instruction before at) (instruction after at)
+  pub front : (k : ℕ) → k + 4 ≤ at → instruction after k ≡ instruction before k
+  pub rest : (k : ℕ) → at + 4 ≤ k → drop k after ≡ drop k before
+
+-- The five instructions at pc make the target, and nothing but their immediates has changed.
+pub record MakesAddress (before after : List ℕ) (pc target : ℕ) : Type 0 where
+  pub makes : five pc after ≡ pos target
+  pub first : IsKeptOutside 5 25 (instruction before 0) (instruction after 0)
+  pub second : IsKeptOutside 10 22 (instruction before 4) (instruction after 4)
+  pub third : IsKeptOutside 5 25 (instruction before 8) (instruction after 8)
+  pub fourth : IsKeptOutside 10 22 (instruction before 12) (instruction after 12)
+  pub rest : drop 16 after ≡ drop 16 before
