@@ -50,41 +50,61 @@ fn writes_and_reads_the_words_of_assemblers(rt: HostRuntime) {
 }
 
 #[test]
-fn writes_and_reads_linked_pairs(rt: HostRuntime) {
-    let tables: [(RiscVInstruction, &[pairs::Pair]); 2] = [
-        (RiscVInstruction::IType, &pairs::U_WITH_I),
-        (RiscVInstruction::SType, &pairs::U_WITH_S),
-    ];
-    for (low_form, pairs) in tables {
-        for (before, value, after) in pairs {
-            let mut high = before[0].to_le_bytes();
-            let mut low = before[1].to_le_bytes();
-            RiscVInstruction::UType.write_to_value(value.cast_unsigned(), false, &mut high);
-            low_form.write_to_value(value.cast_unsigned(), false, &mut low);
-            assert_eq!(rt;
-                u32::from_le_bytes(high),
-                after[0],
-                "the high part of {value}"
-            );
-            assert_eq!(rt;
-                u32::from_le_bytes(low),
-                after[1],
-                "the low part of {value}"
-            );
-            let (rounded, _) = RiscVInstruction::UType.read_value(&high);
-            let (rest, _) = low_form.read_value(&low);
-            let sum = rounded.wrapping_add(0x800).wrapping_add(rest);
-            assert_eq!(rt; sum, value.cast_unsigned());
-        }
+fn writes_and_reads_pairs_that_add(rt: HostRuntime) {
+    for (before, value, after) in &pairs::U_WITH_I {
+        let mut high = before[0].to_le_bytes();
+        let mut low = before[1].to_le_bytes();
+        RiscVInstruction::UType.write_to_value(value.cast_unsigned(), false, &mut high);
+        RiscVInstruction::IType.write_to_value(value.cast_unsigned(), false, &mut low);
+        assert_eq!(rt;
+            u32::from_le_bytes(high),
+            after[0],
+            "the high part of {value}"
+        );
+        assert_eq!(rt;
+            u32::from_le_bytes(low),
+            after[1],
+            "the low part of {value}"
+        );
+        let (rounded, _) = RiscVInstruction::UType.read_value(&high);
+        let (rest, _) = RiscVInstruction::IType.read_value(&low);
+        let sum = rounded.wrapping_add(0x800).wrapping_add(rest);
+        assert_eq!(rt; sum, value.cast_unsigned());
     }
+}
+
+#[test]
+fn writes_and_reads_pairs_that_store(rt: HostRuntime) {
+    for (before, value, after) in &pairs::U_WITH_S {
+        let mut high = before[0].to_le_bytes();
+        let mut low = before[1].to_le_bytes();
+        RiscVInstruction::UType.write_to_value(value.cast_unsigned(), false, &mut high);
+        RiscVInstruction::SType.write_to_value(value.cast_unsigned(), false, &mut low);
+        assert_eq!(rt;
+            u32::from_le_bytes(high),
+            after[0],
+            "the high part of {value}"
+        );
+        assert_eq!(rt;
+            u32::from_le_bytes(low),
+            after[1],
+            "the low part of {value}"
+        );
+        let (rounded, _) = RiscVInstruction::UType.read_value(&high);
+        let (rest, _) = RiscVInstruction::SType.read_value(&low);
+        let sum = rounded.wrapping_add(0x800).wrapping_add(rest);
+        assert_eq!(rt; sum, value.cast_unsigned());
+    }
+}
+
+#[test]
+fn writes_and_reads_calls(rt: HostRuntime) {
     for (before, value, after) in &pairs::UI {
         let mut bytes = both(*before);
         RiscVInstruction::UiType.write_to_value(value.cast_unsigned(), false, &mut bytes);
         assert_eq!(rt; bytes, both(*after), "{value}");
-        assert_eq!(rt;
-            RiscVInstruction::UiType.read_value(&bytes),
-            (value.cast_unsigned(), false)
-        );
+        let read = RiscVInstruction::UiType.read_value(&bytes);
+        assert_eq!(rt; read, (value.cast_unsigned(), false));
     }
 }
 
@@ -161,8 +181,8 @@ fn shortens_lui_as_gnu_ld_does(rt: HostRuntime) {
         RelaxationKind::Hi20ToCLui.apply(&mut section, &mut offset, &mut addend);
         RiscVInstruction::CluiType.write_to_value(value, false, &mut section);
         RiscVInstruction::IType.write_to_value(value, false, &mut section[4..]);
-        assert_eq!(rt; section[..2], after[..2]);
-        assert_eq!(rt; section[4..], after[2..]);
+        let [a, b, _, _, c, d, e, f] = section;
+        assert_eq!(rt; [a, b, c, d, e, f], after);
     }
 }
 
@@ -190,7 +210,8 @@ fn deletes_lui_as_gnu_ld_does(rt: HostRuntime) {
         let mut low = 4;
         RelaxationKind::Lo12Rs1ToZero.apply(&mut section, &mut low, &mut addend);
         RiscVInstruction::IType.write_to_value(value, false, &mut section[4..]);
-        assert_eq!(rt; section[4..], after[..]);
+        let [_, _, _, _, a, b, c, d] = section;
+        assert_eq!(rt; [a, b, c, d], after);
     }
 }
 
@@ -289,6 +310,7 @@ fn places_immediates_where_the_manual_has_them(rt: HostRuntime) {
     ];
     for (form, before, value, after, read, negative) in table {
         let mut bytes = before.to_le_bytes();
+        assert!(rt; form.window() <= bytes.len());
         form.write_to_value(value.cast_unsigned(), negative, &mut bytes);
         assert_eq!(rt; u32::from_le_bytes(bytes), after, "{form:?} of {value}");
         assert_eq!(rt;
@@ -296,17 +318,22 @@ fn places_immediates_where_the_manual_has_them(rt: HostRuntime) {
             (read.cast_unsigned(), negative),
             "{form:?} of {value}"
         );
-        let any = RelocationInstruction::RiscV(form);
-        assert_eq!(rt; any.read(&bytes), (read.cast_unsigned(), negative));
-        assert!(rt; any.window() <= 4 && any.fits(value.cast_unsigned(), &bytes));
-        any.write(read.cast_unsigned(), negative, &mut bytes);
-        assert_eq!(rt; u32::from_le_bytes(bytes), after, "{form:?} written back");
     }
     let mut call = [0; 8];
     RiscVInstruction::UiType.write_to_value(0x800, false, &mut call);
     assert_eq!(rt; call, both([0x0000_1000, 0x8000_0000]));
     assert_eq!(rt; RiscVInstruction::UiType.read_value(&call), (0x800, false));
-    assert_eq!(rt; RiscVInstruction::UiType.window(), 8);
+}
+
+#[test]
+fn one_interface_serves_all_forms(rt: HostRuntime) {
+    let insn = RelocationInstruction::RiscV(RiscVInstruction::UiType);
+    let mut call = both([0x0000_0097, 0x0000_80e7]);
+    assert_eq!(rt; insn.window(), 8);
+    assert!(rt; insn.fits(u64::MAX, &call));
+    insn.write(0x800, false, &mut call);
+    assert_eq!(rt; call, both([0x0000_1097, 0x8000_80e7]));
+    assert_eq!(rt; insn.read(&call), (0x800, false));
 }
 
 #[test]
