@@ -595,43 +595,48 @@ fn no_op_changes_nothing(rt: HostRuntime) {
     );
 }
 
-#[test]
-fn tells_what_relocations_mean(rt: HostRuntime) {
-    assert_eq!(rt; relocation_type_from_raw(Ppc64Relocation::Other(7)), None);
-    let plain = RelocationKindInfo {
-        kind: RelocationKind::Absolute,
-        size: RelocationSize::ByteSize(4),
+fn info(
+    kind: RelocationKind,
+    size: RelocationSize,
+    range: AllowedRange,
+    alignment: u64,
+    bias: u64,
+) -> Option<RelocationKindInfo> {
+    Some(RelocationKindInfo {
+        kind,
+        size,
         mask: None,
-        range: AllowedRange::new(-2147483648, 4294967296),
-        alignment: 1,
-        bias: None,
+        range,
+        alignment,
+        bias: Bias::from_value(bias),
         thunkable: false,
         implicit_addend: false,
-    };
-    assert_eq!(rt;
-        relocation_type_from_raw(Ppc64Relocation::R_PPC64_ADDR32),
-        Some(plain)
-    );
-    let branch = RelocationKindInfo {
-        kind: RelocationKind::Relative,
-        size: RelocationSize::bit_mask_ppc64(0, 26, Ppc64Instruction::Branch24),
-        range: AllowedRange::new(-33554432, 33554432),
-        alignment: 4,
-        ..plain
-    };
-    assert_eq!(rt;
-        relocation_type_from_raw(Ppc64Relocation::R_PPC64_REL24),
-        Some(branch)
-    );
-    let high = RelocationKindInfo {
-        kind: RelocationKind::TpOff,
-        size: RelocationSize::bit_mask_ppc64(16, 32, Ppc64Instruction::D),
-        range: AllowedRange::no_check(),
-        bias: Bias::from_value(0x8000),
-        ..plain
-    };
-    assert_eq!(rt;
-        relocation_type_from_raw(Ppc64Relocation::R_PPC64_TPREL16_HA),
-        Some(high)
-    );
+    })
+}
+
+#[test]
+fn tells_what_relocations_mean(rt: HostRuntime) {
+    let word = RelocationSize::ByteSize(4);
+    let branch = RelocationSize::bit_mask_ppc64(0, 26, Ppc64Instruction::Branch24);
+    let high = RelocationSize::bit_mask_ppc64(16, 32, Ppc64Instruction::D);
+    let mixed = AllowedRange::new(-2147483648, 4294967296);
+    let distances = AllowedRange::new(-33554432, 33554432);
+    let all = AllowedRange::no_check();
+    for (name, meaning) in [
+        (
+            Ppc64Relocation::R_PPC64_ADDR32,
+            info(RelocationKind::Absolute, word, mixed, 1, 0),
+        ),
+        (
+            Ppc64Relocation::R_PPC64_REL24,
+            info(RelocationKind::Relative, branch, distances, 4, 0),
+        ),
+        (
+            Ppc64Relocation::R_PPC64_TPREL16_HA,
+            info(RelocationKind::TpOff, high, all, 1, 0x8000),
+        ),
+        (Ppc64Relocation::Other(7), None),
+    ] {
+        assert_eq!(rt; relocation_type_from_raw(name), meaning, "{name:?}");
+    }
 }

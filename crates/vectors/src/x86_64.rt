@@ -444,20 +444,29 @@ static REWRITES: [Rewrite; 61] = [
     },
 ];
 
+fn linked(kind: RelaxationKind, at: u64, before: [u8; 10], field: Option<u32>) -> Option<[u8; 10]> {
+    let mut section = before;
+    let mut offset = at;
+    let mut addend = -4;
+    if !kind.can_apply(&section, offset) {
+        return None;
+    }
+    kind.apply(&mut section, &mut offset, &mut addend);
+    if let Some(value) = field {
+        if offset > 6 {
+            return None;
+        }
+        let start = offset as usize;
+        section[start..start + 4].copy_from_slice(&value.to_le_bytes());
+    }
+    Some(section)
+}
+
 #[test]
 fn rewrites_as_linkers_do(rt: HostRuntime) {
     for rewrite in &REWRITES {
-        let mut section = rewrite.before;
-        let mut offset = rewrite.offset;
-        let mut addend = -4;
-        assert!(rt; rewrite.kind.can_apply(&section, offset));
-        rewrite.kind.apply(&mut section, &mut offset, &mut addend);
-        if let Some(field) = rewrite.field {
-            assert!(rt; offset <= 6);
-            let start = offset as usize;
-            section[start..start + 4].copy_from_slice(&field.to_le_bytes());
-        }
-        assert_eq!(rt; section, rewrite.after, "{:?}", rewrite.kind);
+        let after = linked(rewrite.kind, rewrite.offset, rewrite.before, rewrite.field);
+        assert_eq!(rt; after, Some(rewrite.after), "{:?}", rewrite.kind);
     }
 }
 
@@ -576,41 +585,39 @@ fn rewrites_inside_the_section_alone(rt: HostRuntime) {
     assert!(rt; RelaxationKind::NoOp.can_apply(&[], u64::MAX));
 }
 
-#[test]
-fn tells_what_relocations_mean(rt: HostRuntime) {
-    assert_eq!(rt; relocation_from_raw(X86_64Relocation::Other(7)), None);
-    let mixed = RelocationKindInfo {
-        kind: RelocationKind::Absolute,
-        size: RelocationSize::ByteSize(2),
+fn info(kind: RelocationKind, bytes: u8, range: AllowedRange) -> Option<RelocationKindInfo> {
+    Some(RelocationKindInfo {
+        kind,
+        size: RelocationSize::ByteSize(bytes),
         mask: None,
-        range: AllowedRange::new(-32768, 65536),
+        range,
         alignment: 1,
         bias: None,
         thunkable: false,
         implicit_addend: false,
-    };
-    assert_eq!(rt;
-        relocation_from_raw(X86_64Relocation::R_X86_64_16),
-        Some(mixed)
-    );
-    let entry = RelocationKindInfo {
-        kind: RelocationKind::GotRelative,
-        size: RelocationSize::ByteSize(4),
-        range: AllowedRange::new(-2147483648, 2147483648),
-        ..mixed
-    };
-    assert_eq!(rt;
-        relocation_from_raw(X86_64Relocation::R_X86_64_CODE_6_GOTPCRELX),
-        Some(entry)
-    );
-    let whole = RelocationKindInfo {
-        kind: RelocationKind::SymbolSize,
-        size: RelocationSize::ByteSize(8),
-        range: AllowedRange::no_check(),
-        ..mixed
-    };
-    assert_eq!(rt;
-        relocation_from_raw(X86_64Relocation::R_X86_64_SIZE64),
-        Some(whole)
-    );
+    })
+}
+
+#[test]
+fn tells_what_relocations_mean(rt: HostRuntime) {
+    let mixed = AllowedRange::new(-32768, 65536);
+    let words = AllowedRange::new(-2147483648, 2147483648);
+    let all = AllowedRange::no_check();
+    for (name, meaning) in [
+        (
+            X86_64Relocation::R_X86_64_16,
+            info(RelocationKind::Absolute, 2, mixed),
+        ),
+        (
+            X86_64Relocation::R_X86_64_CODE_6_GOTPCRELX,
+            info(RelocationKind::GotRelative, 4, words),
+        ),
+        (
+            X86_64Relocation::R_X86_64_SIZE64,
+            info(RelocationKind::SymbolSize, 8, all),
+        ),
+        (X86_64Relocation::Other(7), None),
+    ] {
+        assert_eq!(rt; relocation_from_raw(name), meaning, "{name:?}");
+    }
 }
