@@ -1,3 +1,4 @@
+pub mod AArch64Forms
 pub mod Bounds
 pub mod Jumps
 pub mod RiscV

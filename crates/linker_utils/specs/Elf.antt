@@ -5,7 +5,8 @@ use Rattle.linker_utils.specs.declared.elf.Sign.{Sign}
 use Rattle.linker_utils.specs.declared.elf.Sign.TheVariants.{Signed, Unsigned}
 use Rattle.linker_utils.specs.declared.elf.AllowedRange.{AllowedRange}
 use Rattle.linker_utils.specs.declared.elf.RelocationInstruction.{RelocationInstruction}
-use Rattle.linker_utils.specs.declared.elf.RelocationInstruction.TheVariants.{RiscV}
+use Rattle.linker_utils.specs.declared.elf.RelocationInstruction.TheVariants.{AArch64, RiscV}
+use Rattle.linker_utils.specs.AArch64.{aarch64_form}
 use Rattle.linker_utils.specs.RiscV.{riscv_form}
 
 -- the least number of n bits, and the first above them
@@ -22,4 +23,5 @@ IsAllowed range v = IsWithin range.bounds v
 
 -- the form of an instruction of any architecture
 abbrev pub relocation_form : RelocationInstruction → Form
+relocation_form (AArch64 f) = aarch64_form f
 relocation_form (RiscV f) = riscv_form f
