@@ -1,5 +1,7 @@
 //! AArch64: instruction forms, relaxation rewrites, and the moves that load a number of 64 bits.
 
+mod relocations;
+
 ghost use Rattle.std.specs.Prelude.{◌++◌, Some, take, ◌≡◌, ◌≤◌, ◌<◌, ◌+◌, ◌↔◌, ◌∷◌, [], IsTrue, length, drop};
 ghost use Rattle.std.specs.Int.{byte_len, cast_unsigned, w32, w64, from_le_bytes, to_le_bytes};
 ghost use Rattle.linker_base.specs.Form.{window_of, Fits, Written, MachineReads, IsReadBack};
@@ -12,6 +14,7 @@ use crate::elf::{AArch64Instruction, InstructionForm};
 use crate::relaxation::RelocationModifier;
 use crate::rewrite::{has_window, overwrite};
 use crate::utils::u32_from_slice;
+pub use relocations::{AArch64Relocation, relocation_type_from_raw};
 
 /// The bytes between the thread pointer and the first TLS block: the two words that the thread's
 /// control block has there (System V ABI for the Arm 64-bit Architecture, "Thread-local storage").
