@@ -1,3 +1,6 @@
+pub mod AArch64Forms
+pub mod AArch64Moves
+pub mod AArch64Rewrites
 pub mod Bounds
 pub mod Calls
 pub mod Jumps

@@ -338,7 +338,7 @@ taken_nothing x = refl
 
 -- ---- the window keeps its length
 
-not_placed_above : (ps : List Place) (n i : ℕ) → words_below n ps ≡ true → n ≤ i → is_placed ps i ≡ false
+pub not_placed_above : (ps : List Place) (n i : ℕ) → words_below n ps ≡ true → n ≤ i → is_placed ps i ≡ false
 not_placed_above [] n i h l = refl
 not_placed_above (p ∷ ps) n i h l =
     let parts = and_parts (ltb p.word n) (words_below n ps) h in

@@ -5,8 +5,9 @@ use Rattle.linker_utils.specs.declared.elf.Sign.{Sign}
 use Rattle.linker_utils.specs.declared.elf.Sign.TheVariants.{Signed, Unsigned}
 use Rattle.linker_utils.specs.declared.elf.AllowedRange.{AllowedRange}
 use Rattle.linker_utils.specs.declared.elf.RelocationInstruction.{RelocationInstruction}
-use Rattle.linker_utils.specs.declared.elf.RelocationInstruction.TheVariants.{RiscV, Ppc64, LoongArch64}
+use Rattle.linker_utils.specs.declared.elf.RelocationInstruction.TheVariants.{RiscV, Ppc64, LoongArch64, AArch64}
 use Rattle.linker_utils.specs.PowerPc.{ppc64_form}
+use Rattle.linker_utils.specs.AArch64.{aarch64_form}
 use Rattle.linker_utils.specs.RiscV.{riscv_form}
 use Rattle.linker_utils.specs.LoongArch.{loongarch_form}
 
@@ -24,6 +25,7 @@ IsAllowed range v = IsWithin range.bounds v
 
 -- the form of an instruction of any architecture
 abbrev pub relocation_form : RelocationInstruction → Form
+relocation_form (AArch64 f) = aarch64_form f
 relocation_form (RiscV f) = riscv_form f
 relocation_form (Ppc64 f) = ppc64_form f
 relocation_form (LoongArch64 f) = loongarch_form f

@@ -1,3 +1,5 @@
+pub mod AArch64
+pub mod AArch64Rows
 pub mod Elf
 pub mod LoongArch
 pub mod LoongArchRows

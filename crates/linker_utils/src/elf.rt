@@ -130,6 +130,16 @@ pub enum RelocationSize {
 }
 
 impl RelocationSize {
+    /// Bits `start` and up, below `end`, into an AArch64 instruction.
+    pub fn bit_mask_aarch64(start: u8, end: u8, insn: AArch64Instruction) -> RelocationSize
+        ensures { result ≡ RelocationSize.BitMasking (record { start = start; end = end }) (RelocationInstruction.AArch64 insn) }
+    {
+        RelocationSize::BitMasking {
+            range: BitRange { start, end },
+            insn: RelocationInstruction::AArch64(insn),
+        }
+    }
+
     /// Bits `start` and up, below `end`, into a RISC-V instruction.
     pub fn bit_mask_riscv(start: u8, end: u8, insn: RiscVInstruction) -> RelocationSize
         ensures { result ≡ RelocationSize.BitMasking (record { start = start; end = end }) (RelocationInstruction.RiscV insn) }
@@ -164,6 +174,7 @@ impl RelocationSize {
 /// An instruction form of one of the architectures.
 #[derive(Debug, Clone, Copy, PartialEq, Eq)]
 pub enum RelocationInstruction {
+    AArch64(AArch64Instruction),
     RiscV(RiscVInstruction),
     Ppc64(Ppc64Instruction),
     LoongArch64(LoongArch64Instruction),
@@ -338,6 +349,7 @@ impl InstructionForm for RelocationInstruction {
     #[inline]
     fn window(self) -> usize {
         match self {
+            RelocationInstruction::AArch64(insn) => insn.window(),
             RelocationInstruction::RiscV(insn) => insn.window(),
             RelocationInstruction::Ppc64(insn) => insn.window(),
             RelocationInstruction::LoongArch64(insn) => insn.window(),
@@ -347,6 +359,7 @@ impl InstructionForm for RelocationInstruction {
     #[inline]
     fn fits(self, value: u64, bytes: &[u8]) -> bool {
         match self {
+            RelocationInstruction::AArch64(insn) => insn.fits(value, bytes),
             RelocationInstruction::RiscV(insn) => insn.fits(value, bytes),
             RelocationInstruction::Ppc64(insn) => insn.fits(value, bytes),
             RelocationInstruction::LoongArch64(insn) => insn.fits(value, bytes),
@@ -356,6 +369,7 @@ impl InstructionForm for RelocationInstruction {
     #[inline]
     fn write(self, value: u64, negative: bool, dest: &mut [u8]) {
         match self {
+            RelocationInstruction::AArch64(insn) => insn.write(value, negative, dest),
             RelocationInstruction::RiscV(insn) => insn.write(value, negative, dest),
             RelocationInstruction::Ppc64(insn) => insn.write(value, negative, dest),
             RelocationInstruction::LoongArch64(insn) => insn.write(value, negative, dest),
@@ -365,6 +379,7 @@ impl InstructionForm for RelocationInstruction {
     #[inline]
     fn read(self, bytes: &[u8]) -> (u64, bool) {
         match self {
+            RelocationInstruction::AArch64(insn) => insn.read(bytes),
             RelocationInstruction::RiscV(insn) => insn.read(bytes),
             RelocationInstruction::Ppc64(insn) => insn.read(bytes),
             RelocationInstruction::LoongArch64(insn) => insn.read(bytes),
@@ -447,4 +462,44 @@ pub enum LoongArch64Instruction {
     /// part signed, so that 0x8000 is added for the high part; a carry out of it is dropped. Values
     /// below 2^36 fit. Reading answers the high part and the signed low part together, modulo 2^36.
     Call36,
+}
+
+/// AArch64 instructions that hold an immediate value (Arm Architecture Reference Manual for
+/// A-profile, DDI 0487, C6.2 and C7.2). The window is one instruction of 4 bytes. The value's bits
+/// are only ORed into it, but for `Movnz` and `MachOLow12`, so that they have to be 0 before.
+#[derive(Debug, Clone, Copy, PartialEq, Eq)]
+pub enum AArch64Instruction {
+    /// `adr` and `adrp`: value bits 0 and 1 at bit 29 and up, 2 to 20 at bit 5 and up. Signed 21
+    /// bits, in bytes for `adr` and in pages of 4 KiB for `adrp`. Values below 2^21 fit.
+    Adr,
+    /// `movk` and `movz`: 16 bits at bit 5 and up. The machine takes them unsigned and moves them up
+    /// by the instruction's shift; reading sign-extends them. Values below 2^16 fit.
+    Movkz,
+    /// `movn` and `movz` of 64 bits: the low 16 bits of the value at bit 5 and up, for a negative
+    /// value complemented. It sets the opcode by the sign and keeps the register, bits 0 to 4, and
+    /// the shift, bits 21 and 22. Every value fits.
+    Movnz,
+    /// `ldr` of a literal: signed 19 bits at bit 5 and up, in words of 4 bytes. Values below 2^19
+    /// fit.
+    Ldr,
+    /// `ldr` of a register with an unsigned offset: unsigned 12 bits at bit 10 and up, in units of
+    /// the access size. Values below 2^12 fit.
+    LdrRegister,
+    /// `add` of an immediate: unsigned 12 bits at bit 10 and up. Values below 2^12 fit.
+    Add,
+    /// Loads and stores with an unsigned offset: 12 bits at bit 10 and up, in units of the access
+    /// size. The machine takes them unsigned; reading sign-extends them. Values below 2^12 fit.
+    LdSt,
+    /// `tbz` and `tbnz`: signed 14 bits at bit 5 and up, in words of 4 bytes. Values below 2^14 fit.
+    TstBr,
+    /// `b.cond`, `cbz` and `cbnz`: signed 19 bits at bit 5 and up, in words of 4 bytes. Values below
+    /// 2^19 fit.
+    Bcond,
+    /// `b` and `bl`: signed 26 bits at bit 0 and up, in words of 4 bytes. Values below 2^26 fit.
+    JumpCall,
+    /// The offset in a page, in bytes, of `add`, of loads and of stores: its 12 bits from the access
+    /// scale up, at bit 10 and up. The bits below the scale are dropped. The scale is 0 for `add`
+    /// and by the old instruction's size, up to 4, for a load or store. Values below 2^(12 + scale)
+    /// fit.
+    MachOLow12,
 }

@@ -2,6 +2,7 @@
 //! stand in them.
 #![tactic(auto)]
 
+pub mod aarch64;
 pub mod elf;
 pub mod ppc64;
 pub mod loongarch64;

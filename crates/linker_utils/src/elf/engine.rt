@@ -183,6 +183,21 @@ pub(crate) fn write(window: Window, runs: &[Run], value: u64, dest: &mut [u8])
     window.store(after, dest);
 }
 
+/// Writes the runs of a value over a number, and that to the window that `dest` begins with.
+#[inline(always)]
+pub(crate) fn write_over(window: Window, runs: &[Run], value: u64, number: u64, dest: &mut [u8])
+    requires room { byte_len (width_of window) ≤ length dest.old }
+    requires sound { IsTrue (runs_fit runs.now) }
+    requires inside { IsTrue (words_below (bits_of window) (spread runs.now)) }
+    requires fits { number < 2 ^ bits_of window }
+    ensures written { IsLaid (spread runs.now) value number (from_le_bytes (width_of window) dest.new) }
+    ensures rest { drop (byte_len (width_of window)) dest.new ≡ drop (byte_len (width_of window)) dest.old }
+    ensures same { from_le_bytes (width_of window) dest.new ≡ from_le_bytes (width_of window) dest.old → dest.new ≡ dest.old }
+{
+    let after = insert(runs, value, number);
+    window.store(after, dest);
+}
+
 /// Reads the number in the runs of the window that `bytes` begins with.
 #[inline(always)]
 pub(crate) fn read(window: Window, runs: &[Run], bytes: &[u8]) -> u64

@@ -1,0 +1,198 @@
+-- AArch64: its instruction forms (Arm Architecture Reference Manual for A-profile, DDI 0487, C6.2 and C7.2), its rewrites and
+-- the moves that load an address.
+use Rattle.std.specs.Prelude.{ℕ, ◌+◌, ◌-◌, ◌*◌, ◌/◌, ◌%◌, ◌^◌, Bool, true, false, ◌&&◌, ◌||◌, ◌==◌, if◌then◌else◌, List, ◌++◌, drop, Option, None, Some, ℤ, pos, negsuc, bit_and}
+use Rattle.std.specs.Int.{w32, w64, bit_at, from_le_bytes, to_le_bytes}
+use Rattle.linker_base.specs.Bits.{field}
+use Rattle.linker_base.specs.Form.{Form, Place, bits_to, or_bits_to, place_sum, field_form, unsigned, twos_complement, exactly, modulo}
+use Rattle.linker_base.specs.Rewrite.{Rewrite, replaces}
+use Rattle.linker_base.specs.declared.relaxation.RelocationModifier.{RelocationModifier}
+use Rattle.linker_base.specs.declared.relaxation.RelocationModifier.TheVariants.{Normal}
+use Rattle.linker_utils.specs.declared.aarch64.RelaxationKind.{RelaxationKind}
+use Rattle.linker_utils.specs.declared.aarch64.RelaxationKind.TheVariants.{NoOp, ReplaceWithNop, MovzX0Lsl16, MovkX0, MovzXnLsl16, MovkXn, AdrpToAdr, AdrpX0, LdrX0, AddToAdr, LdrToAdr, LdrToAdd, AdrpAddToNopAdr}
+use Rattle.linker_utils.specs.declared.elf.AArch64Instruction.{AArch64Instruction}
+use Rattle.linker_utils.specs.declared.elf.AArch64Instruction.TheVariants.{Adr, Movkz, Movnz, Ldr, LdrRegister, Add, LdSt, TstBr, Bcond, JumpCall, MachOLow12}
+
+-- ---- moves of 16 bits
+
+-- bits 23 and up: MOVN, MOVZ and MOVK of 64 bits
+abbrev pub movn_opcode : ℕ
+movn_opcode = 0x125
+
+abbrev pub movz_opcode : ℕ
+movz_opcode = 0x1a5
+
+abbrev pub movk_opcode : ℕ
+movk_opcode = 0x1e5
+
+abbrev pub opcode_of : ℕ → ℕ
+opcode_of word = word / 2 ^ 23
+
+-- how far up the 16 bits go
+abbrev pub shift_of : ℕ → ℕ
+shift_of word = 16 * field word 21 23
+
+abbrev pub imm16_places : List Place
+imm16_places = bits_to 0 15 5
+
+-- the 16 bits, for a negative value complemented
+abbrev pub moved_bits : Bool → ℕ → ℕ
+moved_bits negative v = if negative then 65535 - v % 2 ^ 16 else v % 2 ^ 16
+
+-- what the bits come to after the shift
+abbrev pub moved_value : Bool → ℕ → ℕ → ℤ
+moved_value negative bits shift = if negative then negsuc (bits * 2 ^ shift) else pos (bits * 2 ^ shift)
+
+-- The opcode goes by the flag. The machine complements what MOVN holds.
+abbrev pub movnz : Form
+movnz =
+    record {
+      window = w32;
+      width = λ _. 64;
+      places = λ _. imm16_places;
+      number = moved_bits;
+      base = λ negative x. (if negative then movn_opcode else movz_opcode) * 2 ^ 23 + x % 2 ^ 23;
+      reading = λ x. moved_value (bit_at x 30 == 0) (place_sum imm16_places x) 0;
+      flag = λ x. bit_at x 30 == 0;
+      restores = λ x. opcode_of x == movn_opcode || opcode_of x == movz_opcode;
+      machine = λ x. moved_value (opcode_of x == movn_opcode) (place_sum imm16_places x) (shift_of x);
+      wanted = λ negative before v. moved_value negative (moved_bits negative v) (shift_of before);
+      claim = exactly;
+    }
+
+-- ---- offsets in a page, in bytes
+
+-- a load or store with an unsigned offset
+abbrev pub has_scaled_offset : ℕ → Bool
+has_scaled_offset word = field word 27 30 == 7 && field word 24 26 == 1
+
+-- of 16 bytes, by a register for vectors
+abbrev pub is_of_16_bytes : ℕ → Bool
+is_of_16_bytes word = field word 30 32 == 0 && (bit_at word 26 == 1 && bit_at word 23 == 1)
+
+-- log2 of the bytes in a unit of the offset
+abbrev pub access_scale : ℕ → ℕ
+access_scale word = if has_scaled_offset word then (if is_of_16_bytes word then 4 else field word 30 32) else 0
+
+abbrev pub low12_places : ℕ → List Place
+low12_places scale = bits_to scale (scale + 11) 10
+
+abbrev pub macho_low12 : Form
+macho_low12 =
+    record {
+      window = w32;
+      width = λ x. 12 + access_scale x;
+      places = λ x. low12_places (access_scale x);
+      number = λ _ v. v;
+      base = λ _ x. x;
+      reading = λ x. pos (place_sum (low12_places (access_scale x)) x);
+      flag = λ _. false;
+      restores = λ _. true;
+      machine = λ x. pos (place_sum (low12_places (access_scale x)) x);
+      wanted = λ _ before v. pos (v - v % 2 ^ access_scale before);
+      claim = exactly;
+    }
+
+abbrev pub aarch64_form : AArch64Instruction → Form
+aarch64_form Adr = field_form w32 21 21 0 twos_complement false twos_complement (modulo 21) (or_bits_to 0 1 29 ++ or_bits_to 2 20 5)
+aarch64_form Movkz = field_form w32 16 16 0 twos_complement false unsigned exactly (or_bits_to 0 15 5)
+aarch64_form Movnz = movnz
+aarch64_form Ldr = field_form w32 19 19 0 twos_complement false twos_complement (modulo 19) (or_bits_to 0 18 5)
+aarch64_form LdrRegister = field_form w32 12 12 0 unsigned false unsigned exactly (or_bits_to 0 11 10)
+aarch64_form Add = field_form w32 12 12 0 unsigned false unsigned exactly (or_bits_to 0 11 10)
+aarch64_form LdSt = field_form w32 12 12 0 twos_complement false unsigned exactly (or_bits_to 0 11 10)
+aarch64_form TstBr = field_form w32 14 14 0 twos_complement false twos_complement (modulo 14) (or_bits_to 0 13 5)
+aarch64_form Bcond = field_form w32 19 19 0 twos_complement false twos_complement (modulo 19) (or_bits_to 0 18 5)
+aarch64_form JumpCall = field_form w32 26 26 0 twos_complement false twos_complement (modulo 26) (or_bits_to 0 25 0)
+aarch64_form MachOLow12 = macho_low12
+
+-- ---- rewrites
+
+-- the destination register
+abbrev pub rd_of : ℕ → ℕ
+rd_of word = field word 0 5
+
+-- the first source register
+abbrev pub rn_of : ℕ → ℕ
+rn_of word = field word 5 10
+
+-- a rewrite of the instructions that pass a test
+abbrev pub rewrites_where : (ℕ → Bool) → (ℕ → ℕ) → Rewrite
+rewrites_where test new =
+    record {
+      back = 0;
+      len = 4;
+      admits = λ window. test (from_le_bytes w32 window);
+      bytes = λ window. to_le_bytes w32 (new (from_le_bytes w32 window));
+      offset = λ o. o;
+      addend = λ a. a;
+    }
+
+abbrev pub rewrites_word : (ℕ → ℕ) → Rewrite
+rewrites_word new = rewrites_where (λ _. true) new
+
+abbrev pub nop : ℕ
+nop = 0xd503201f
+
+-- `ldr` of 64 bits with an unsigned offset
+abbrev pub is_ldr64 : ℕ → Bool
+is_ldr64 word = word / 2 ^ 22 == 0x3e5
+
+-- `nop`, and `adr` with the destination register of the first instruction before
+abbrev pub nop_adr : List ℕ → List ℕ
+nop_adr window = to_le_bytes w64 (nop + (0x10000000 + rd_of (from_le_bytes w32 window)) * 2 ^ 32)
+
+abbrev pub aarch64_rewrite : RelaxationKind → Option Rewrite
+aarch64_rewrite NoOp = None
+aarch64_rewrite ReplaceWithNop = Some (rewrites_word (λ _. nop))
+aarch64_rewrite MovzX0Lsl16 = Some (rewrites_word (λ _. 0xd2a00000))
+aarch64_rewrite MovkX0 = Some (rewrites_word (λ _. 0xf2800000))
+aarch64_rewrite MovzXnLsl16 = Some (rewrites_word (λ word. 0xd2a00000 + rd_of word))
+aarch64_rewrite MovkXn = Some (rewrites_where (λ word. rn_of word == rd_of word) (λ word. 0xf2800000 + rd_of word))
+aarch64_rewrite AdrpToAdr = Some (rewrites_word (λ word. bit_and word 0x7fffffff))
+aarch64_rewrite AdrpX0 = Some (rewrites_word (λ _. 0x90000000))
+aarch64_rewrite LdrX0 = Some (rewrites_word (λ _. 0xf9400000))
+aarch64_rewrite AddToAdr = Some (rewrites_word (λ word. bit_and word 0x76ffffff))
+aarch64_rewrite LdrToAdr = Some (rewrites_word (λ word. bit_and word 0x76ffffff))
+aarch64_rewrite LdrToAdd = Some (rewrites_where is_ldr64 (λ word. 0x91000000 + field word 0 21))
+aarch64_rewrite AdrpAddToNopAdr = Some (replaces 4 8 nop_adr)
+
+abbrev pub aarch64_modifier : RelaxationKind → RelocationModifier
+aarch64_modifier kind = Normal
+
+-- ---- the moves of a number of 64 bits
+
+-- a move of 16 bits into register rd, with an opcode and a shift
+abbrev pub mov_word : ℕ → ℕ → ℕ → ℕ
+mov_word opcode rd bits = opcode + bits * 2 ^ 5 + rd
+
+-- MOVZ of the lowest 16 bits of v, then MOVK of the next, of those after them and of the highest
+abbrev pub mov_words : ℕ → ℕ → List ℕ
+mov_words rd v =
+    to_le_bytes w32 (mov_word 0xd2800000 rd (field v 0 16)) ++ to_le_bytes w32 (mov_word 0xf2a00000 rd (field v 16 32))
+    ++ to_le_bytes w32 (mov_word 0xf2c00000 rd (field v 32 48)) ++ to_le_bytes w32 (mov_word 0xf2e00000 rd (field v 48 64))
+
+abbrev pub is_move : ℕ → ℕ → ℕ → Bool
+is_move opcode rd word = opcode_of word == opcode && rd_of word == rd
+
+-- the 16 bits of a move
+abbrev pub imm_of : ℕ → ℕ
+imm_of word = field word 5 21
+
+-- v with other bits in place of the 16 from bit `shift` up
+abbrev pub with_bits : ℕ → ℕ → ℕ → ℕ
+with_bits v shift bits = v - field v shift (shift + 16) * 2 ^ shift + bits * 2 ^ shift
+
+-- what MOVK leaves of v
+abbrev pub movk : ℕ → ℕ → ℕ
+movk v word = with_bits v (shift_of word) (imm_of word)
+
+-- what the four moves leave in register rd, if they are MOVZ and three MOVK into it
+abbrev pub moved4 : ℕ → ℕ → ℕ → ℕ → ℕ → Option ℕ
+moved4 rd a b c d =
+    if is_move movz_opcode rd a && (is_move movk_opcode rd b && (is_move movk_opcode rd c && is_move movk_opcode rd d))
+    then Some (movk (movk (movk (imm_of a * 2 ^ shift_of a) b) c) d) else None
+
+-- the same of the four instructions that the bytes begin with
+abbrev pub mov4 : ℕ → List ℕ → Option ℕ
+mov4 rd bytes =
+    moved4 rd (from_le_bytes w32 bytes) (from_le_bytes w32 (drop 4 bytes)) (from_le_bytes w32 (drop 8 bytes)) (from_le_bytes w32 (drop 12 bytes))

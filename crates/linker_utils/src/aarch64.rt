@@ -1,0 +1,431 @@
+//! AArch64: instruction forms, relaxation rewrites, and the moves that load a number of 64 bits.
+
+mod relocations;
+
+ghost use Rattle.std.specs.Prelude.{◌++◌, Some, take, ◌≡◌, ◌≤◌, ◌<◌, ◌+◌, ◌↔◌, ◌∷◌, [], IsTrue, length, drop};
+ghost use Rattle.std.specs.Int.{byte_len, cast_unsigned, w32, w64, from_le_bytes, to_le_bytes};
+ghost use Rattle.linker_base.specs.Form.{window_of, Fits, Written, MachineReads, IsReadBack};
+ghost use Rattle.linker_base.specs.Rewrite.{CanRewrite, rewritten, offset_after, addend_after};
+ghost use Rattle.linker_utils.specs.AArch64.{aarch64_form, aarch64_rewrite, aarch64_modifier, access_scale, rd_of, rn_of, mov_word, mov_words, mov4};
+
+use crate::bit_misc::BitExtraction;
+use crate::elf::engine::{self, Mark, Run, Window, run};
+use crate::elf::{AArch64Instruction, InstructionForm};
+use crate::relaxation::RelocationModifier;
+use crate::rewrite::{has_window, overwrite};
+use crate::utils::u32_from_slice;
+pub use relocations::{AArch64Relocation, relocation_type_from_raw};
+
+/// The bytes between the thread pointer and the first TLS block: the two words that the thread's
+/// control block has there (System V ABI for the Arm 64-bit Architecture, "Thread-local storage").
+pub const TLS_TCB_SIZE: u64 = 16;
+
+/// A rewrite of one instruction, or of a pair (ELF for the Arm 64-bit Architecture, "Relocation
+/// optimization"). All are of 4 bytes, and their offset is that of the instruction, but for
+/// `AdrpAddToNopAdr`. The register of an instruction is its bits 0 to 4.
+#[derive(Debug, Clone, Copy, PartialEq, Eq)]
+pub enum RelaxationKind {
+    /// Leaves the instruction as it is, where only the kind of its relocation changes.
+    NoOp,
+    /// `nop`.
+    ReplaceWithNop,
+    /// `movz x0, #0, lsl #16`.
+    MovzX0Lsl16,
+    /// `movk x0, #0`.
+    MovkX0,
+    /// `movz`, with a shift by 16, of 0 into the old instruction's register.
+    MovzXnLsl16,
+    /// `movk` of 0 into the old instruction's register, which must be its source, bits 5 to 9, too.
+    MovkXn,
+    /// Turns `adrp` into `adr`: bit 31 is cleared.
+    AdrpToAdr,
+    /// `adrp x0` of distance 0.
+    AdrpX0,
+    /// `ldr x0, [x0]`.
+    LdrX0,
+    /// Turns `add` into `adr`: bits 24, 27 and 31 are cleared.
+    AddToAdr,
+    /// The same of `ldr`.
+    LdrToAdr,
+    /// Turns `ldr` of 64 bits with an unsigned offset into `add`, with bits 0 to 20 as they were. Any
+    /// other instruction is refused.
+    LdrToAdd,
+    /// Turns the pair of `adrp`, 4 bytes before the offset, and `add` into `nop` and `adr` of
+    /// distance 0 with the `adrp`'s register.
+    AdrpAddToNopAdr,
+}
+
+/// The instruction at an offset of the section.
+#[inline(always)]
+fn word_at(section: &[u8], offset: u64) -> u32
+    requires { offset + 4 ≤ length section.now }
+    ensures { result ≡ from_le_bytes w32 (take 4 (drop offset section.now)) }
+{
+    u32_from_slice(&section[offset as usize..])
+}
+
+/// Puts an instruction at an offset of the section.
+#[inline(always)]
+fn put_word(section: &mut [u8], offset: u64, word: u32)
+    requires { offset + 4 ≤ length section.old }
+    ensures { section.new ≡ take offset section.old ++ to_le_bytes w32 word ++ drop (offset + 4) section.old }
+{
+    overwrite(section, offset, &word.to_le_bytes());
+}
+
+#[inline(always)]
+fn destination(word: u32) -> u32
+    ensures { result ≡ rd_of word }
+{
+    word & 0x1f
+}
+
+#[inline(always)]
+fn source(word: u32) -> u32
+    ensures { result ≡ rn_of word }
+{
+    word >> 5 & 0x1f
+}
+
+const NOP: u32 = 0xd503_201f;
+
+const ADR_WORD: u32 = 0x1000_0000;
+
+impl RelaxationKind {
+    /// Rewrites the instruction at an offset of a section. All other bytes, the offset and the
+    /// addend stay.
+    #[inline]
+    pub fn apply(self, section_bytes: &mut [u8], offset_in_section: &mut u64, addend: &mut i64)
+        requires { CanRewrite (aarch64_rewrite self) section_bytes.old offset_in_section.old }
+        ensures bytes { section_bytes.new ≡ rewritten (aarch64_rewrite self) section_bytes.old offset_in_section.old }
+        ensures offset { offset_in_section.new ≡ offset_after (aarch64_rewrite self) offset_in_section.old }
+        ensures addend { addend.new ≡ addend_after (aarch64_rewrite self) addend.old }
+    {
+        let _ = addend;
+        let offset = *offset_in_section;
+        match self {
+            RelaxationKind::NoOp => {}
+            RelaxationKind::ReplaceWithNop => put_word(section_bytes, offset, NOP),
+            RelaxationKind::MovzX0Lsl16 => put_word(section_bytes, offset, 0xd2a0_0000),
+            RelaxationKind::MovkX0 => put_word(section_bytes, offset, 0xf280_0000),
+            RelaxationKind::MovzXnLsl16 => {
+                let rd = destination(word_at(section_bytes, offset));
+                put_word(section_bytes, offset, 0xd2a0_0000 | rd);
+            }
+            RelaxationKind::MovkXn => {
+                let rd = destination(word_at(section_bytes, offset));
+                put_word(section_bytes, offset, 0xf280_0000 | rd);
+            }
+            RelaxationKind::AdrpToAdr => {
+                let adrp = word_at(section_bytes, offset);
+                put_word(section_bytes, offset, adrp & 0x7fff_ffff);
+            }
+            RelaxationKind::AdrpX0 => put_word(section_bytes, offset, 0x9000_0000),
+            RelaxationKind::LdrX0 => put_word(section_bytes, offset, 0xf940_0000),
+            RelaxationKind::AddToAdr | RelaxationKind::LdrToAdr => {
+                let word = word_at(section_bytes, offset);
+                put_word(section_bytes, offset, word & 0x76ff_ffff);
+            }
+            RelaxationKind::LdrToAdd => {
+                let ldr = word_at(section_bytes, offset);
+                put_word(section_bytes, offset, ldr & 0x001f_ffff | 0x9100_0000);
+            }
+            RelaxationKind::AdrpAddToNopAdr => {
+                let rd = destination(word_at(section_bytes, offset - 4));
+                let pair = (((ADR_WORD | rd) as u64) << 32) | NOP as u64;
+                overwrite(section_bytes, offset - 4, &pair.to_le_bytes());
+            }
+        }
+    }
+
+    /// Whether `apply` may be called at an offset of a section: the bytes that it rewrites lie in
+    /// the section, and the instruction is one that `MovkXn` and `LdrToAdd` take.
+    #[inline]
+    pub fn can_apply(self, section: &[u8], offset: u64) -> bool
+        ensures { IsTrue result ↔ CanRewrite (aarch64_rewrite self) section.now offset }
+    {
+        match self {
+            RelaxationKind::NoOp => true,
+            RelaxationKind::MovkXn => {
+                if !has_window(section, offset, 0, 4) {
+                    return false;
+                }
+                let word = word_at(section, offset);
+                source(word) == destination(word)
+            }
+            RelaxationKind::LdrToAdd => {
+                if !has_window(section, offset, 0, 4) {
+                    return false;
+                }
+                word_at(section, offset) >> 22 == 0x3e5
+            }
+            RelaxationKind::AdrpAddToNopAdr => has_window(section, offset, 4, 8),
+            RelaxationKind::ReplaceWithNop
+            | RelaxationKind::MovzX0Lsl16
+            | RelaxationKind::MovkX0
+            | RelaxationKind::MovzXnLsl16
+            | RelaxationKind::AdrpToAdr
+            | RelaxationKind::AdrpX0
+            | RelaxationKind::LdrX0
+            | RelaxationKind::AddToAdr
+            | RelaxationKind::LdrToAdr => has_window(section, offset, 0, 4),
+        }
+    }
+
+    /// What becomes of the relocation after the rewritten one: it is applied as usual.
+    #[inline]
+    pub fn next_modifier(&self) -> RelocationModifier
+        ensures { result ≡ aarch64_modifier self.now }
+    {
+        RelocationModifier::Normal
+    }
+}
+
+/// A move of 16 bits into a register.
+#[inline(always)]
+fn mov(opcode: u32, rd: u32, bits: u64) -> u32
+    requires opcode { opcode ≤ 0xf2e00000 }
+    requires register { rd ≤ 30 }
+    requires bits { bits < 65536 }
+    ensures { result ≡ mov_word opcode rd bits }
+{
+    opcode + ((bits as u32) << 5) + rd
+}
+
+/// Writes the four instructions that load a number into register `rd`: `movz` of its lowest 16 bits,
+/// and `movk` of the next, lowest first (DDI 0487, C6.2.252 and C6.2.254). The bytes after the first
+/// 16 stay.
+#[inline]
+pub fn write_mov_sequence(dest: &mut [u8], rd: u32, value: u64)
+    requires room { 16 ≤ length dest.old }
+    requires register { rd ≤ 30 }
+    ensures words { dest.new ≡ mov_words rd value ++ drop 16 dest.old }
+    ensures loads { mov4 rd dest.new ≡ Some value }
+{
+    put_word(
+        dest,
+        0,
+        mov(0xd280_0000, rd, value.extract_bit_range(0..16)),
+    );
+    put_word(
+        dest,
+        4,
+        mov(0xf2a0_0000, rd, value.extract_bit_range(16..32)),
+    );
+    put_word(
+        dest,
+        8,
+        mov(0xf2c0_0000, rd, value.extract_bit_range(32..48)),
+    );
+    put_word(
+        dest,
+        12,
+        mov(0xf2e0_0000, rd, value.extract_bit_range(48..64)),
+    );
+}
+
+const ADR: [Run; 2] = [run!(ored 0, 29, 2), run!(ored 2, 5, 19)];
+
+const IMM14: [Run; 1] = [run!(ored 0, 5, 14)];
+
+const IMM16: [Run; 1] = [run!(ored 0, 5, 16)];
+
+const IMM19: [Run; 1] = [run!(ored 0, 5, 19)];
+
+const IMM26: [Run; 1] = [run!(ored 0, 0, 26)];
+
+const IMM12: [Run; 1] = [run!(ored 0, 10, 12)];
+
+const MOVED: [Run; 1] = [run!(0, 5, 16)];
+
+/// How far up the offset of a load or store goes: log2 of its access size in bytes, and 0 for other
+/// instructions (DDI 0487, C4.1.94, "Load/store register (unsigned immediate)").
+#[inline(always)]
+fn scale_of(word: u64) -> u32
+    ensures scale { result ≡ access_scale word }
+    ensures small { result < 5 }
+{
+    if word.extract_bit_range(27..30) != 7 || word.extract_bit_range(24..26) != 1 {
+        return 0;
+    }
+    let size = word.extract_bit_range(30..32) as u32;
+    if size == 0 && word.extract_bit(26) == 1 && word.extract_bit(23) == 1 {
+        4
+    } else {
+        size
+    }
+}
+
+/// The 12 bits of an offset from its scale up.
+#[inline(always)]
+fn scaled(scale: u32) -> [Run; 1]
+    ensures { result ≡ record { value = scale; word = 10; len = 12; added = 0; mark = Mark.Replaced } ∷ [] }
+{
+    [Run {
+        value: scale,
+        word: 10,
+        len: 12,
+        added: 0,
+        mark: Mark::Replaced,
+    }]
+}
+
+impl AArch64Instruction {
+    /// Writes a value into the instruction that `dest` begins with, and changes no other bit; `Movnz`
+    /// sets the opcode too, by `negative`, which plays no part elsewhere.
+    #[inline]
+    pub fn write_to_value(self, extracted_value: u64, negative: bool, dest: &mut [u8])
+        requires room { byte_len (aarch64_form self).window ≤ length dest.old }
+        requires fits { Fits (aarch64_form self) extracted_value (window_of (aarch64_form self) dest.old) }
+        ensures written { Written (aarch64_form self) extracted_value negative (window_of (aarch64_form self) dest.old) (window_of (aarch64_form self) dest.new) }
+        ensures rest { drop (byte_len (aarch64_form self).window) dest.new ≡ drop (byte_len (aarch64_form self).window) dest.old }
+        ensures machine { MachineReads (aarch64_form self) extracted_value negative (window_of (aarch64_form self) dest.old) (window_of (aarch64_form self) dest.new) }
+        ensures restored { IsReadBack (aarch64_form self) extracted_value negative (window_of (aarch64_form self) dest.old) → dest.new ≡ dest.old }
+    {
+        match self {
+            AArch64Instruction::Adr => engine::write(Window::Four, &ADR, extracted_value, dest),
+            AArch64Instruction::Movkz => engine::write(Window::Four, &IMM16, extracted_value, dest),
+            AArch64Instruction::Movnz => {
+                let word = Window::Four.load(dest) & 0x007f_ffff;
+                if negative {
+                    engine::write_over(
+                        Window::Four,
+                        &MOVED,
+                        !extracted_value & 0xffff,
+                        word | 0x9280_0000,
+                        dest,
+                    );
+                } else {
+                    engine::write_over(
+                        Window::Four,
+                        &MOVED,
+                        extracted_value & 0xffff,
+                        word | 0xd280_0000,
+                        dest,
+                    );
+                }
+            }
+            AArch64Instruction::Ldr | AArch64Instruction::Bcond => {
+                engine::write(Window::Four, &IMM19, extracted_value, dest)
+            }
+            AArch64Instruction::LdrRegister | AArch64Instruction::Add | AArch64Instruction::LdSt =>
+                engine::write(Window::Four, &IMM12, extracted_value, dest),
+            AArch64Instruction::TstBr => engine::write(Window::Four, &IMM14, extracted_value, dest),
+            AArch64Instruction::JumpCall => {
+                engine::write(Window::Four, &IMM26, extracted_value, dest)
+            }
+            AArch64Instruction::MachOLow12 => {
+                let scale = scale_of(Window::Four.load(dest));
+                engine::write(Window::Four, &scaled(scale), extracted_value, dest);
+            }
+        }
+    }
+
+    /// The value in the instruction that `bytes` begins with, modulo 2^64. The flag is false, but for
+    /// `Movnz`, where it says that the instruction is a `movn`, bit 30 being clear, and the value the
+    /// complement of the 16 bits.
+    #[inline]
+    pub fn read_value(self, bytes: &[u8]) -> (u64, bool)
+        requires { byte_len (aarch64_form self).window ≤ length bytes.now }
+        ensures number { result.0 ≡ cast_unsigned w64 ((aarch64_form self).reading (window_of (aarch64_form self) bytes.now)) }
+        ensures flag { result.1 ≡ (aarch64_form self).flag (window_of (aarch64_form self) bytes.now) }
+    {
+        match self {
+            AArch64Instruction::Adr => (
+                engine::read_signed(Window::Four, &ADR, 21, bytes).0,
+                false,
+            ),
+            AArch64Instruction::Movkz => {
+                (
+                    engine::read_signed(Window::Four, &IMM16, 16, bytes).0,
+                    false,
+                )
+            }
+            AArch64Instruction::Movnz => {
+                let moved = engine::read(Window::Four, &MOVED, bytes);
+                if Window::Four.load(bytes).extract_bit(30) == 0 {
+                    (!moved, true)
+                } else {
+                    (moved, false)
+                }
+            }
+            AArch64Instruction::Ldr | AArch64Instruction::Bcond => {
+                (
+                    engine::read_signed(Window::Four, &IMM19, 19, bytes).0,
+                    false,
+                )
+            }
+            AArch64Instruction::LdrRegister | AArch64Instruction::Add => {
+                (engine::read(Window::Four, &IMM12, bytes), false)
+            }
+            AArch64Instruction::LdSt => {
+                (
+                    engine::read_signed(Window::Four, &IMM12, 12, bytes).0,
+                    false,
+                )
+            }
+            AArch64Instruction::TstBr => {
+                (
+                    engine::read_signed(Window::Four, &IMM14, 14, bytes).0,
+                    false,
+                )
+            }
+            AArch64Instruction::JumpCall => {
+                (
+                    engine::read_signed(Window::Four, &IMM26, 26, bytes).0,
+                    false,
+                )
+            }
+            AArch64Instruction::MachOLow12 => {
+                let scale = scale_of(Window::Four.load(bytes));
+                (engine::read(Window::Four, &scaled(scale), bytes), false)
+            }
+        }
+    }
+}
+
+impl InstructionForm for AArch64Instruction {
+    ghost form = { aarch64_form };
+
+    #[inline]
+    fn window(self) -> usize {
+        match self {
+            AArch64Instruction::Adr
+            | AArch64Instruction::Movkz
+            | AArch64Instruction::Movnz
+            | AArch64Instruction::Ldr
+            | AArch64Instruction::LdrRegister
+            | AArch64Instruction::Add
+            | AArch64Instruction::LdSt
+            | AArch64Instruction::TstBr
+            | AArch64Instruction::Bcond
+            | AArch64Instruction::JumpCall
+            | AArch64Instruction::MachOLow12 => 4,
+        }
+    }
+
+    #[inline]
+    fn fits(self, value: u64, bytes: &[u8]) -> bool {
+        match self {
+            AArch64Instruction::Adr => value < 1 << 21,
+            AArch64Instruction::Movkz => value < 1 << 16,
+            AArch64Instruction::Movnz => true,
+            AArch64Instruction::Ldr | AArch64Instruction::Bcond => value < 1 << 19,
+            AArch64Instruction::LdrRegister | AArch64Instruction::Add | AArch64Instruction::LdSt =>
+                value < 1 << 12,
+            AArch64Instruction::TstBr => value < 1 << 14,
+            AArch64Instruction::JumpCall => value < 1 << 26,
+            AArch64Instruction::MachOLow12 => value >> scale_of(Window::Four.load(bytes)) < 1 << 12,
+        }
+    }
+
+    #[inline]
+    fn write(self, value: u64, negative: bool, dest: &mut [u8]) {
+        self.write_to_value(value, negative, dest);
+    }
+
+    #[inline]
+    fn read(self, bytes: &[u8]) -> (u64, bool) {
+        self.read_value(bytes)
+    }
+}
