@@ -31,9 +31,9 @@ over [] v before after h placed = All-nil (λ (p : Place). bit_at after p.word �
 over (p ∷ ps) v before after h placed =
     let parts = and_parts (is_replaced p.mark) (all_replaced ps) h in
     All-cons (λ (q : Place). bit_at after q.word ≡ placed_bit q.mark (bit_for q v) (bit_at after q.word)) p ps
-        (placed_over p.mark (bit_for p v) (bit_at before p.word) (bit_at after p.word) parts.0
-            (All-head (λ (q : Place). bit_at after q.word ≡ placed_bit q.mark (bit_for q v) (bit_at before q.word)) p ps placed))
-        (over ps v before after parts.1 (All-tail (λ (q : Place). bit_at after q.word ≡ placed_bit q.mark (bit_for q v) (bit_at before q.word)) p ps placed))
+    (placed_over p.mark (bit_for p v) (bit_at before p.word) (bit_at after p.word) parts.0
+    (All-head (λ (q : Place). bit_at after q.word ≡ placed_bit q.mark (bit_for q v) (bit_at before q.word)) p ps placed))
+    (over ps v before after parts.1 (All-tail (λ (q : Place). bit_at after q.word ≡ placed_bit q.mark (bit_for q v) (bit_at before q.word)) p ps placed))
 
 -- a part whose bits are replaced is laid by itself: written again over the window after, it changes nothing
 pub part_laid : (ps : List Place) (v before after : ℕ) → all_replaced ps ≡ true → ArePlaced ps v before after → IsLaid ps v after after
@@ -44,10 +44,10 @@ pub same_places : (ps : List Place) (x y : ℕ) → values_apart ps ≡ true →
 same_places ps x y apart held e k d l =
     let j = (get_or ps k d).value in
     sym (own_bits ps x apart held k d l)
-        ∙ sym (bit_at-place_sum ps x j apart)
-        ∙ ap (λ n. bit_at n j) e
-        ∙ bit_at-place_sum ps y j apart
-        ∙ own_bits ps y apart held k d l
+    ∙ sym (bit_at-place_sum ps x j apart)
+    ∙ ap (λ n. bit_at n j) e
+    ∙ bit_at-place_sum ps y j apart
+    ∙ own_bits ps y apart held k d l
 
 -- windows with the same bits at the places are the same, after a write
 pub unchanged : (ps : List Place) (v before after : ℕ) → IsLaid ps v before after → All (λ (p : Place). bit_at after p.word ≡ bit_at before p.word) ps → after ≡ before
@@ -83,10 +83,10 @@ ored_kept n (p ∷ ps) v before after h w o placed =
     let first = and_parts (is_ored p.mark) (eqb p.added 0 && leb n p.value) parts.0 in
     let second = and_parts (eqb p.added 0) (leb n p.value) first.1 in
     All-cons (λ (q : Place). bit_at after q.word ≡ bit_at before q.word) p ps
-        (ored_none p.mark (bit_for p v) (bit_at before p.word) (bit_at after p.word) first.0
-            (bit_none v p.added p.value n h w (eqb-true p.added 0 second.0) (leb-true n p.value second.1))
-            (All-head (λ (q : Place). bit_at after q.word ≡ placed_bit q.mark (bit_for q v) (bit_at before q.word)) p ps placed))
-        (ored_kept n ps v before after h w parts.1 (All-tail (λ (q : Place). bit_at after q.word ≡ placed_bit q.mark (bit_for q v) (bit_at before q.word)) p ps placed))
+    (ored_none p.mark (bit_for p v) (bit_at before p.word) (bit_at after p.word) first.0
+    (bit_none v p.added p.value n h w (eqb-true p.added 0 second.0) (leb-true n p.value second.1))
+    (All-head (λ (q : Place). bit_at after q.word ≡ placed_bit q.mark (bit_for q v) (bit_at before q.word)) p ps placed))
+    (ored_kept n ps v before after h w parts.1 (All-tail (λ (q : Place). bit_at after q.word ≡ placed_bit q.mark (bit_for q v) (bit_at before q.word)) p ps placed))
 
 abbrev pub is_cleared : Mark → Bool
 is_cleared replaced = false
@@ -107,8 +107,8 @@ cleared_kept [] v before after h none placed = All-nil (λ (p : Place). bit_at a
 cleared_kept (p ∷ ps) v before after h none placed =
     let parts = and_parts (is_cleared p.mark) (all_cleared ps) h in
     All-cons (λ (q : Place). bit_at after q.word ≡ bit_at before q.word) p ps
-        (cleared_none p.mark (bit_for p v) (bit_at before p.word) (bit_at after p.word) parts.0
-            (All-head (λ (q : Place). bit_at before q.word ≡ 0) p ps none)
-            (All-head (λ (q : Place). bit_at after q.word ≡ placed_bit q.mark (bit_for q v) (bit_at before q.word)) p ps placed))
-        (cleared_kept ps v before after parts.1 (All-tail (λ (q : Place). bit_at before q.word ≡ 0) p ps none)
-            (All-tail (λ (q : Place). bit_at after q.word ≡ placed_bit q.mark (bit_for q v) (bit_at before q.word)) p ps placed))
+    (cleared_none p.mark (bit_for p v) (bit_at before p.word) (bit_at after p.word) parts.0
+    (All-head (λ (q : Place). bit_at before q.word ≡ 0) p ps none)
+    (All-head (λ (q : Place). bit_at after q.word ≡ placed_bit q.mark (bit_for q v) (bit_at before q.word)) p ps placed))
+    (cleared_kept ps v before after parts.1 (All-tail (λ (q : Place). bit_at before q.word ≡ 0) p ps none)
+    (All-tail (λ (q : Place). bit_at after q.word ≡ placed_bit q.mark (bit_for q v) (bit_at before q.word)) p ps placed))

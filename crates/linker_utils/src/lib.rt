@@ -4,8 +4,8 @@
 
 pub mod aarch64;
 pub mod elf;
-pub mod ppc64;
 pub mod loongarch64;
+pub mod ppc64;
 mod rewrite;
 pub mod riscv64;
 pub mod x86_64;

@@ -1,0 +1,247 @@
+//! Deletions and offsets, worked by hand: an offset's place is the count of kept bytes below it.
+
+use linker_utils::relaxation::{
+    OutOfMemory, RelaxDelta, RelaxDeltaMap, SectionRelaxDeltas, opt_input_to_output,
+};
+use std::alloc::Global;
+use std::process::Abort;
+use std::test::Fail;
+
+fn deltas_of(
+    rt: &impl Abort,
+    alloc: Global,
+    raw: &[(u64, u32)],
+) -> Result<SectionRelaxDeltas, OutOfMemory> {
+    assert!(rt; SectionRelaxDeltas::is_valid(raw), "{raw:?} is valid");
+    SectionRelaxDeltas::new(alloc, raw)
+}
+
+fn output(rt: &impl Abort, deltas: &SectionRelaxDeltas, input_offset: u64) -> u64 {
+    assert!(rt;
+        !deltas.is_inside(input_offset),
+        "{input_offset} is outside"
+    );
+    deltas.input_to_output_offset(input_offset)
+}
+
+fn input(rt: &impl Abort, deltas: &SectionRelaxDeltas, output_offset: u64) -> u64 {
+    assert!(rt; deltas.output_fits(output_offset), "{output_offset} fits");
+    deltas.output_to_input_offset(output_offset)
+}
+
+#[derive(Clone, Copy)]
+struct Row {
+    raw: &'static [(u64, u32)],
+    // input offset and output offset
+    outputs: &'static [(u64, u64)],
+    // output offset and input offset
+    inputs: &'static [(u64, u64)],
+}
+
+#[test]
+fn offsets_are_translated_both_ways(rt: HostRuntime) -> Result<(), Fail> {
+    let rows = [
+        Row {
+            raw: &[(4, 4)],
+            outputs: &[(0, 0), (4, 4), (8, 4)],
+            inputs: &[(3, 3), (4, 8)],
+        },
+        Row {
+            raw: &[(4, 4), (8, 4)],
+            outputs: &[(8, 4), (12, 4)],
+            inputs: &[(4, 12)],
+        },
+        Row {
+            raw: &[(4, 0), (6, 2)],
+            outputs: &[(6, 6), (8, 6)],
+            inputs: &[(4, 4), (6, 8)],
+        },
+        Row {
+            raw: &[(u64::MAX - 3, 3)],
+            outputs: &[(u64::MAX, u64::MAX - 3)],
+            inputs: &[(u64::MAX - 3, u64::MAX)],
+        },
+        Row {
+            raw: &[],
+            outputs: &[(0, 0), (u64::MAX, u64::MAX)],
+            inputs: &[(0, 0), (u64::MAX, u64::MAX)],
+        },
+    ];
+    for row in rows {
+        let deltas = deltas_of(&rt, rt.alloc(), row.raw)?;
+        for (from, to) in row.outputs {
+            assert_eq!(rt;
+                output(&rt, &deltas, *from),
+                *to,
+                "in {from} of {:?}",
+                row.raw
+            );
+        }
+        for (from, to) in row.inputs {
+            assert_eq!(rt;
+                input(&rt, &deltas, *from),
+                *to,
+                "out {from} of {:?}",
+                row.raw
+            );
+        }
+    }
+    Ok(())
+}
+
+#[test]
+fn deletions_of_no_bytes_are_listed(rt: HostRuntime) -> Result<(), Fail> {
+    let deltas = deltas_of(&rt, rt.alloc(), &[(4, 0), (6, 2)])?;
+    assert!(rt; deltas.has_delta_at(4));
+    assert_eq!(rt; deltas.delta_bytes_at(4), 0);
+    assert_eq!(rt; deltas.delta_bytes_at(6), 2);
+    assert!(rt; !deltas.has_delta_at(5));
+    assert!(rt; !deltas.is_empty());
+    Ok(())
+}
+
+fn sums(deltas: &SectionRelaxDeltas) -> [Option<u64>; 4] {
+    let listed = deltas.deltas();
+    let sum = |delta: &RelaxDelta| delta.cumulative_deleted;
+    [
+        listed.first().map(sum),
+        listed.get(1).map(sum),
+        listed.get(2).map(sum),
+        listed.get(3).map(sum),
+    ]
+}
+
+#[test]
+fn merges_sort_and_sum(rt: HostRuntime) -> Result<(), Fail> {
+    let mut merged = deltas_of(&rt, rt.alloc(), &[(8, 4)])?;
+    let more = [(16, 4), (0, 2)];
+    assert!(rt; merged.is_mergeable(&more));
+    merged.merge_additional(&more)?;
+    assert_eq!(rt; sums(&merged), [Some(2), Some(6), Some(10), None]);
+    assert_eq!(rt; merged.total_deleted(), 10);
+    assert_eq!(rt; output(&rt, &merged, 20), 10);
+    assert_eq!(rt; input(&rt, &merged, 0), 2);
+
+    let mut batched = deltas_of(&rt, rt.alloc(), &[(8, 4)])?;
+    let batches = vec![in rt.alloc(); [(16, 4)].to_vec(rt.alloc())?, [(0, 2)].to_vec(rt.alloc())?]?;
+    assert!(rt; batched.are_mergeable(&batches));
+    batched.merge_all(&batches)?;
+    assert_eq!(rt; batched.deltas(), merged.deltas());
+    assert_eq!(rt; merged.clone()?.deltas(), merged.deltas());
+    Ok(())
+}
+
+#[test]
+fn only_valid_deletions_are_taken(rt: HostRuntime) -> Result<(), Fail> {
+    let valid: [&[(u64, u32)]; 4] = [
+        &[],
+        &[(0, 4), (4, 1)],
+        &[(u64::MAX, 0)],
+        &[(u64::MAX - 1, 1)],
+    ];
+    for raw in valid {
+        assert!(rt; SectionRelaxDeltas::is_valid(raw), "{raw:?}");
+    }
+    let invalid: [&[(u64, u32)]; 4] = [
+        &[(0, 5), (4, 1)],
+        &[(4, 0), (4, 1)],
+        &[(5, 1), (4, 1)],
+        &[(u64::MAX, 1)],
+    ];
+    for raw in invalid {
+        assert!(rt; !SectionRelaxDeltas::is_valid(raw), "{raw:?}");
+    }
+
+    let deltas = deltas_of(&rt, rt.alloc(), &[(4, 4)])?;
+    let mergeable: [&[(u64, u32)]; 3] = [&[], &[(8, 0)], &[(8, 4), (0, 4)]];
+    for pairs in mergeable {
+        assert!(rt; deltas.is_mergeable(pairs), "{pairs:?}");
+    }
+    let touching: [&[(u64, u32)]; 5] = [
+        &[(6, 1)],
+        &[(4, 0)],
+        &[(0, 5)],
+        &[(9, 2), (8, 2)],
+        &[(20, 1), (20, 1)],
+    ];
+    for pairs in touching {
+        assert!(rt; !deltas.is_mergeable(pairs), "{pairs:?}");
+    }
+
+    let none = deltas_of(&rt, rt.alloc(), &[])?;
+    let overlapping = vec![in rt.alloc();
+        [(0, 4)].to_vec(rt.alloc())?,
+        [(2, 1)].to_vec(rt.alloc())?,
+    ]?;
+    assert!(rt; !none.are_mergeable(&overlapping));
+
+    let first = deltas_of(&rt, rt.alloc(), &[(0, 4)])?;
+    for (offset, inside) in [(0, false), (1, true), (3, true), (4, false)] {
+        assert_eq!(rt; first.is_inside(offset), inside, "{offset}");
+    }
+    let last = deltas_of(&rt, rt.alloc(), &[(u64::MAX - 3, 3)])?;
+    assert!(rt; !last.output_fits(u64::MAX - 2));
+    Ok(())
+}
+
+#[test]
+fn a_cursor_passes_each_deletion_once(rt: HostRuntime) -> Result<(), Fail> {
+    let deltas = deltas_of(&rt, rt.alloc(), &[(4, 4), (12, 2)])?;
+    let mut cursor = deltas.cursor();
+    for (query, answer) in [(4, 4), (8, 4), (8, 4), (14, 8), (20, 14)] {
+        assert!(rt; cursor.can_translate(query), "{query}");
+        assert_eq!(rt; cursor.translate(query), answer, "{query}");
+    }
+    assert_eq!(rt; cursor.turns(), 2);
+    // back again: what is passed stays passed
+    assert!(rt; cursor.can_translate(12));
+    assert_eq!(rt; cursor.translate(12), 6);
+    assert!(rt; !cursor.can_translate(5));
+    assert!(rt; cursor.can_translate(6));
+
+    let mut walker = deltas.cursor();
+    let queries = [4, 8, 8, 14, 20];
+    let mut answers = [0; 5];
+    assert!(rt; walker.can_translate_all(&queries));
+    walker.translate_all(&queries, &mut answers);
+    assert_eq!(rt; answers, [4, 4, 4, 8, 14]);
+    assert_eq!(rt; walker.turns(), 2);
+    Ok(())
+}
+
+#[test]
+fn no_deltas_leave_offsets(rt: HostRuntime) -> Result<(), Fail> {
+    assert_eq!(rt; opt_input_to_output(None, 9), 9);
+    let deltas = deltas_of(&rt, rt.alloc(), &[(4, 4)])?;
+    assert!(rt; !deltas.is_inside(9));
+    assert_eq!(rt; opt_input_to_output(Some(&deltas), 9), 5);
+    Ok(())
+}
+
+#[test]
+fn a_map_keeps_each_section(rt: HostRuntime) -> Result<(), Fail> {
+    let mut map = RelaxDeltaMap::new(rt.alloc());
+    assert!(rt; map.is_empty());
+    assert_eq!(rt; map.last_index(), None);
+    let third = deltas_of(&rt, rt.alloc(), &[(8, 2)])?;
+    if map.insert(3, third).is_err() {
+        return Err(Fail::from("no memory"));
+    }
+    assert!(rt; map.get(1).is_none());
+    let first = deltas_of(&rt, rt.alloc(), &[(4, 4)])?;
+    if map.insert_sorted(1, first).is_err() {
+        return Err(Fail::from("no memory"));
+    }
+    assert_eq!(rt; map.last_index(), Some(3));
+    assert!(rt; map.get(2).is_none());
+    assert_eq!(rt; map.get(1).map(|d| d.total_deleted()), Some(4));
+    assert_eq!(rt; map.get(3).map(|d| d.total_deleted()), Some(2));
+    if let Some(lent) = map.get_mut(1) {
+        assert!(rt; lent.is_mergeable(&[(0, 2)]));
+        lent.merge_additional(&[(0, 2)])?;
+    }
+    assert_eq!(rt; map.get(1).map(|d| d.total_deleted()), Some(6));
+    assert_eq!(rt; map.get(3).map(|d| d.total_deleted()), Some(2));
+    assert_eq!(rt; map.clone()?.get(1).map(|d| d.total_deleted()), Some(6));
+    Ok(())
+}
