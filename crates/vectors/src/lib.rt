@@ -2,6 +2,9 @@
 #![tactic(auto)]
 
 #[cfg(test)]
+mod aarch64;
+
+#[cfg(test)]
 mod tests {
     use linker_utils::utils::u32_from_slice;
 
