@@ -2,9 +2,13 @@
 #![tactic(auto)]
 
 #[cfg(test)]
+mod aarch64;
+#[cfg(test)]
 mod deltas;
 #[cfg(test)]
 mod jumps;
+#[cfg(test)]
+mod loongarch64;
 #[cfg(test)]
 mod ppc64;
 #[cfg(test)]

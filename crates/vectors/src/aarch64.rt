@@ -1,0 +1,912 @@
+//! AArch64: words that LLVM 19.1.7's and GNU binutils 2.40's assemblers and linkers wrote, and worked
+//! values.
+
+mod fields;
+mod moves;
+mod offsets;
+
+use linker_utils::aarch64::{
+    AArch64Relocation, RelaxationKind, TLS_TCB_SIZE, relocation_type_from_raw, write_mov_sequence,
+};
+use linker_utils::bit_misc::BitExtraction;
+use linker_utils::elf::{
+    AArch64Instruction, AllowedRange, InstructionForm, PageMask, PageMaskPattern, RelocationKind,
+    RelocationKindInfo, RelocationSize, Sign,
+};
+use linker_utils::relaxation::RelocationModifier;
+use linker_utils::utils::u32_from_slice;
+
+/// The word that a form leaves, and none of a value that does not fit.
+fn written(form: AArch64Instruction, value: u64, negative: bool, before: u32) -> Option<u32> {
+    let mut bytes = before.to_le_bytes();
+    if form.window() != 4 || !form.fits(value, &bytes) {
+        return None;
+    }
+    form.write_to_value(value, negative, &mut bytes);
+    Some(u32_from_slice(&bytes))
+}
+
+fn read(form: AArch64Instruction, word: u32) -> Option<(u64, bool)> {
+    if form.window() != 4 {
+        return None;
+    }
+    Some(form.read_value(&word.to_le_bytes()))
+}
+
+/// Whether a form writes the words of a table and reads its numbers back, in the bits of a mask.
+fn agrees(form: AArch64Instruction, mask: u64, rows: &[(u32, u64, u32, i64)]) -> bool {
+    for &(before, value, after, machine) in rows {
+        if written(form, value, false, before) != Some(after) {
+            return false;
+        }
+        let Some((number, negative)) = read(form, after) else {
+            return false;
+        };
+        if negative || number & mask != machine.cast_unsigned() & mask {
+            return false;
+        }
+    }
+    true
+}
+
+#[test]
+fn writes_what_assemblers_write(rt: HostRuntime) {
+    assert!(rt; agrees(AArch64Instruction::Adr, u64::MAX, &fields::ADR));
+    assert!(rt; agrees(AArch64Instruction::Movkz, 0xffff, &fields::MOVKZ));
+    assert!(rt; agrees(AArch64Instruction::Ldr, u64::MAX, &fields::LDR));
+    assert!(rt;
+        agrees(
+            AArch64Instruction::LdrRegister,
+            u64::MAX,
+            &fields::LDR_REGISTER
+        )
+    );
+    assert!(rt; agrees(AArch64Instruction::Add, u64::MAX, &fields::ADD));
+    assert!(rt; agrees(AArch64Instruction::TstBr, u64::MAX, &fields::TST_BR));
+    assert!(rt; agrees(AArch64Instruction::Bcond, u64::MAX, &fields::BCOND));
+    assert!(rt; agrees(AArch64Instruction::JumpCall, u64::MAX, &fields::JUMP_CALL));
+    assert!(rt; agrees(AArch64Instruction::LdSt, 0xfff, &offsets::LD_ST));
+    assert!(rt;
+        agrees(
+            AArch64Instruction::MachOLow12,
+            u64::MAX,
+            &offsets::MACHO_LOW12
+        )
+    );
+}
+
+#[test]
+fn moves_by_the_sign(rt: HostRuntime) {
+    for &(before, value, negative, after) in &moves::MOVNZ {
+        assert_eq!(rt;
+            written(AArch64Instruction::Movnz, value, negative, before),
+            Some(after),
+            "{value}"
+        );
+        let Some((number, flag)) = read(AArch64Instruction::Movnz, after) else {
+            panic!(rt; "no window");
+        };
+        assert_eq!(rt; flag, negative, "{value}");
+        assert_eq!(rt; number & 0xffff, value & 0xffff, "{value}");
+    }
+    assert_eq!(rt;
+        written(AArch64Instruction::Movnz, 0xfffe, true, 0xd2a0_0003),
+        Some(0x92a0_0023)
+    );
+    assert_eq!(rt;
+        read(AArch64Instruction::Movnz, 0x92a0_0023),
+        Some((0xffff_ffff_ffff_fffe, true))
+    );
+}
+
+#[test]
+fn writes_and_reads_only_the_field(rt: HostRuntime) {
+    assert_eq!(rt;
+        written(AArch64Instruction::LdSt, 0xfff, false, 0),
+        Some(0x003f_fc00)
+    );
+    assert_eq!(rt;
+        read(AArch64Instruction::LdSt, 0x003f_fc00),
+        Some((u64::MAX, false))
+    );
+    assert_eq!(rt;
+        written(AArch64Instruction::Adr, 0x1f_ffff, false, 0x1000_0000),
+        Some(0x70ff_ffe0)
+    );
+    assert_eq!(rt;
+        read(AArch64Instruction::Adr, 0x70ff_ffe0),
+        Some((u64::MAX, false))
+    );
+    assert_eq!(rt;
+        written(AArch64Instruction::MachOLow12, 0x120, false, 0x3dc0_0000),
+        Some(0x3dc0_4800)
+    );
+    assert_eq!(rt;
+        read(AArch64Instruction::MachOLow12, 0x3dc0_4800),
+        Some((0x120, false))
+    );
+}
+
+#[test]
+fn refuses_values_past_the_field(rt: HostRuntime) {
+    let word = 0x3dc0_0000u32.to_le_bytes();
+    assert!(rt; !AArch64Instruction::Movkz.fits(0x10000, &word));
+    assert!(rt; !AArch64Instruction::MachOLow12.fits(0x10000, &word));
+    assert!(rt; AArch64Instruction::MachOLow12.fits(0xffff, &word));
+}
+
+#[test]
+fn loads_numbers_by_four_moves(rt: HostRuntime) {
+    for &(rd, value, words) in &moves::MOV_SEQUENCES {
+        assert!(rt; rd <= 30, "{rd}");
+        let mut bytes = [0u8; 16];
+        write_mov_sequence(&mut bytes, rd, value);
+        let first = [u32_from_slice(&bytes), u32_from_slice(&bytes[4..])];
+        let last = [u32_from_slice(&bytes[8..]), u32_from_slice(&bytes[12..])];
+        assert_eq!(rt; first, [words[0], words[1]], "{value}");
+        assert_eq!(rt; last, [words[2], words[3]], "{value}");
+    }
+    let mut bytes = [0u8; 16];
+    write_mov_sequence(&mut bytes, 5, 0x0123_4567_89ab_cdef);
+    assert_eq!(rt; u32_from_slice(&bytes), 0xd299_bde5);
+    assert_eq!(rt; u32_from_slice(&bytes[4..]), 0xf2b1_3565);
+    assert_eq!(rt; u32_from_slice(&bytes[8..]), 0xf2c8_ace5);
+    assert_eq!(rt; u32_from_slice(&bytes[12..]), 0xf2e0_2465);
+}
+
+/// The field of an `adrp` at `pc`: how many pages its target's page is away.
+fn page_field(pc: u64, target: u64) -> u64 {
+    (target & !0xfff)
+        .wrapping_sub(pc & !0xfff)
+        .extract_bit_range(12..33)
+}
+
+#[test]
+fn reaches_targets_by_page_and_offset(rt: HostRuntime) {
+    for &(pc, target, before, after) in &ADRP_ADD {
+        assert_eq!(rt;
+            written(
+                AArch64Instruction::Adr,
+                page_field(pc, target),
+                false,
+                before[0]
+            ),
+            Some(after[0]),
+            "{target}"
+        );
+        assert_eq!(rt;
+            written(AArch64Instruction::Add, target & 0xfff, false, before[1]),
+            Some(after[1]),
+            "{target}"
+        );
+    }
+    for &(pc, target, before, after) in &ADRP_LDR {
+        assert_eq!(rt;
+            written(
+                AArch64Instruction::Adr,
+                page_field(pc, target),
+                false,
+                before[0]
+            ),
+            Some(after[0]),
+            "{target}"
+        );
+        assert_eq!(rt;
+            written(
+                AArch64Instruction::LdSt,
+                (target & 0xfff) >> 3,
+                false,
+                before[1]
+            ),
+            Some(after[1]),
+            "{target}"
+        );
+    }
+}
+
+/// Rewrites at an offset, and then writes a value there. It tells whether both can be done and the
+/// offset and the addend stay.
+fn rewritten(
+    section: &mut [u8],
+    at: u64,
+    kind: RelaxationKind,
+    form: AArch64Instruction,
+    value: u64,
+) -> bool {
+    if !kind.can_apply(section, at) {
+        return false;
+    }
+    let mut offset = at;
+    let mut addend = 7;
+    kind.apply(section, &mut offset, &mut addend);
+    if offset != at || addend != 7 || kind.next_modifier() != RelocationModifier::Normal {
+        return false;
+    }
+    let len = section.len() as u64;
+    if len < 4 || at > len - 4 {
+        return false;
+    }
+    let dest = &mut section[at as usize..];
+    if form.window() != 4 || !form.fits(value, dest) {
+        return false;
+    }
+    form.write_to_value(value, false, dest);
+    true
+}
+
+#[test]
+fn rewrites_as_linkers_do(rt: HostRuntime) {
+    for &(before, value, after) in &NOP_ADR {
+        let mut section = before;
+        assert!(rt;
+            rewritten(
+                &mut section,
+                4,
+                RelaxationKind::AdrpAddToNopAdr,
+                AArch64Instruction::Adr,
+                value
+            )
+        );
+        assert_eq!(rt; section, after);
+    }
+    for &(before, page, low, after) in &ADRP_TO_ADD {
+        let mut section = before;
+        assert!(rt;
+            rewritten(
+                &mut section,
+                0,
+                RelaxationKind::NoOp,
+                AArch64Instruction::Adr,
+                page
+            )
+        );
+        assert!(rt;
+            rewritten(
+                &mut section,
+                4,
+                RelaxationKind::LdrToAdd,
+                AArch64Instruction::Add,
+                low
+            )
+        );
+        assert_eq!(rt; section, after);
+    }
+    for &(before, high, low, after) in &TO_MOVES {
+        let mut section = before;
+        assert!(rt;
+            rewritten(
+                &mut section,
+                0,
+                RelaxationKind::MovzXnLsl16,
+                AArch64Instruction::Movkz,
+                high
+            )
+        );
+        assert!(rt;
+            rewritten(
+                &mut section,
+                4,
+                RelaxationKind::MovkXn,
+                AArch64Instruction::Movkz,
+                low
+            )
+        );
+        assert_eq!(rt; section, after);
+    }
+    let mut section = [
+        0, 0, 0, 0x90, 1, 0, 0x40, 0xf9, 0, 0, 0, 0x91, 0x20, 0, 0x3f, 0xd6,
+    ];
+    assert!(rt;
+        rewritten(
+            &mut section,
+            0,
+            RelaxationKind::MovzX0Lsl16,
+            AArch64Instruction::Movkz,
+            1
+        )
+    );
+    assert!(rt;
+        rewritten(
+            &mut section,
+            4,
+            RelaxationKind::MovkX0,
+            AArch64Instruction::Movkz,
+            0
+        )
+    );
+    let mut addend = 0;
+    for at in [8u64, 12] {
+        let mut offset = at;
+        assert!(rt; RelaxationKind::ReplaceWithNop.can_apply(&section, offset));
+        RelaxationKind::ReplaceWithNop.apply(&mut section, &mut offset, &mut addend);
+    }
+    assert_eq!(rt;
+        section,
+        [
+            0x20, 0, 0xa0, 0xd2, 0, 0, 0x80, 0xf2, 0x1f, 0x20, 3, 0xd5, 0x1f, 0x20, 3, 0xd5
+        ]
+    );
+}
+
+/// The word that a rewrite leaves, and none where it may not be applied.
+fn rewritten_word(kind: RelaxationKind, word: u32) -> Option<u32> {
+    let mut section = word.to_le_bytes();
+    if !kind.can_apply(&section, 0) {
+        return None;
+    }
+    let mut offset = 0;
+    let mut addend = 0;
+    kind.apply(&mut section, &mut offset, &mut addend);
+    Some(u32_from_slice(&section))
+}
+
+#[test]
+fn rewrites_one_instruction(rt: HostRuntime) {
+    let table: [(RelaxationKind, u32, Option<u32>); 11] = [
+        (RelaxationKind::NoOp, 0xf940_0421, Some(0xf940_0421)),
+        (RelaxationKind::LdrToAdd, 0xf940_0421, Some(0x9100_0421)),
+        (RelaxationKind::LdrToAdd, 0xb940_0421, None),
+        (RelaxationKind::MovkXn, 0xf940_0021, Some(0xf280_0001)),
+        (RelaxationKind::MovkXn, 0xf940_0041, None),
+        (RelaxationKind::LdrToAdr, 0xf940_0000, Some(0x7040_0000)),
+        (RelaxationKind::AddToAdr, 0x9100_0021, Some(0x1000_0021)),
+        (RelaxationKind::AdrpToAdr, 0xb000_0003, Some(0x3000_0003)),
+        (RelaxationKind::AdrpX0, 0xffff_ffff, Some(0x9000_0000)),
+        (RelaxationKind::LdrX0, 0xffff_ffff, Some(0xf940_0000)),
+        (RelaxationKind::AdrpAddToNopAdr, 0x9000_0003, None),
+    ];
+    for &(kind, before, after) in &table {
+        assert_eq!(rt; rewritten_word(kind, before), after, "{before}");
+    }
+    let section = [0u8; 8];
+    assert!(rt; !RelaxationKind::AdrpAddToNopAdr.can_apply(&section, 3));
+    assert!(rt; !RelaxationKind::ReplaceWithNop.can_apply(&section, 5));
+    assert!(rt; !RelaxationKind::ReplaceWithNop.can_apply(&section, u64::MAX));
+}
+
+/// A row without a page mask.
+fn row(
+    kind: RelocationKind,
+    size: RelocationSize,
+    range: AllowedRange,
+    alignment: u64,
+) -> Option<RelocationKindInfo> {
+    Some(RelocationKindInfo {
+        kind,
+        size,
+        mask: None,
+        range,
+        alignment,
+        bias: None,
+        thunkable: false,
+        implicit_addend: false,
+    })
+}
+
+#[test]
+fn tells_what_relocations_mean(rt: HostRuntime) {
+    assert_eq!(rt; TLS_TCB_SIZE, 16);
+    assert_eq!(rt; relocation_type_from_raw(AArch64Relocation::Other(7)), None);
+    let all = AllowedRange::no_check();
+    let signed21 = AllowedRange::from_bit_size(21, Sign::Signed);
+    let literal = RelocationSize::bit_mask_aarch64(2, 21, AArch64Instruction::Ldr);
+    let next16 = RelocationSize::bit_mask_aarch64(16, 32, AArch64Instruction::Movnz);
+    let table: [(AArch64Relocation, Option<RelocationKindInfo>); 5] = [
+        (
+            AArch64Relocation::R_AARCH64_GOTREL64,
+            row(
+                RelocationKind::SymRelGotBase,
+                RelocationSize::ByteSize(8),
+                all,
+                1,
+            ),
+        ),
+        (
+            AArch64Relocation::R_AARCH64_GOTREL32,
+            row(
+                RelocationKind::SymRelGotBase,
+                RelocationSize::ByteSize(4),
+                AllowedRange::from_bit_size(32, Sign::Signed),
+                1,
+            ),
+        ),
+        (
+            AArch64Relocation::R_AARCH64_GOT_LD_PREL19,
+            row(RelocationKind::GotRelative, literal, signed21, 4),
+        ),
+        (
+            AArch64Relocation::R_AARCH64_TLSLD_LD_PREL19,
+            row(RelocationKind::TlsLd, literal, signed21, 4),
+        ),
+        (
+            AArch64Relocation::R_AARCH64_TLSGD_MOVW_G1,
+            row(RelocationKind::TlsGdGotBase, next16, all, 1),
+        ),
+    ];
+    for &(name, want) in &table {
+        assert_eq!(rt; relocation_type_from_raw(name), want);
+    }
+    let page = RelocationKindInfo {
+        kind: RelocationKind::GotRelative,
+        size: RelocationSize::bit_mask_aarch64(12, 33, AArch64Instruction::Adr),
+        mask: Some(PageMask::GotEntryAndPosition(PageMaskPattern::Size4KB)),
+        range: AllowedRange::from_bit_size(33, Sign::Signed),
+        alignment: 1,
+        bias: None,
+        thunkable: false,
+        implicit_addend: false,
+    };
+    assert_eq!(rt;
+        relocation_type_from_raw(AArch64Relocation::R_AARCH64_ADR_GOT_PAGE),
+        Some(page)
+    );
+}
+
+/// `adrp` and `add`: the address of the `adrp`, the target, the two words before and after.
+static ADRP_ADD: [(u64, u64, [u32; 2], [u32; 2]); 30] = [
+    (
+        0x439bac004,
+        0x539baa003,
+        [0x9000_0003, 0x9100_0063],
+        [0xd07f_ffe3, 0x9100_0c63],
+    ),
+    (
+        0x1226fe6004,
+        0x1226fe5fff,
+        [0x9000_0003, 0x9100_0063],
+        [0xf0ff_ffe3, 0x913f_fc63],
+    ),
+    (
+        0x16831e6ca4,
+        0x16831e6cad,
+        [0x9000_0003, 0x9100_0063],
+        [0x9000_0003, 0x9132_b463],
+    ),
+    (
+        0x1add092cdc,
+        0x1add092cfb,
+        [0x9000_0003, 0x9100_0063],
+        [0x9000_0003, 0x9133_ec63],
+    ),
+    (
+        0x2681fc27fc,
+        0x2681fc283c,
+        [0x9000_0003, 0x9100_0063],
+        [0x9000_0003, 0x9120_f063],
+    ),
+    (
+        0x301acaa800,
+        0x301acaa881,
+        [0x9000_0003, 0x9100_0063],
+        [0x9000_0003, 0x9122_0463],
+    ),
+    (
+        0x383950e800,
+        0x383950e9ff,
+        [0x9000_0003, 0x9100_0063],
+        [0x9000_0003, 0x9127_fc63],
+    ),
+    (
+        0x44464a6008,
+        0x44464a6408,
+        [0x9000_0003, 0x9100_0063],
+        [0x9000_0003, 0x9110_2063],
+    ),
+    (
+        0x4d77ef2ffc,
+        0x4d77ef37fd,
+        [0x9000_0003, 0x9100_0063],
+        [0xb000_0003, 0x911f_f463],
+    ),
+    (
+        0x537ee30800,
+        0x537ee327ff,
+        [0x9000_0003, 0x9100_0063],
+        [0xd000_0003, 0x911f_fc63],
+    ),
+    (
+        0x5cc5ca0ff8,
+        0x5cc5ca4ff8,
+        [0x9000_0003, 0x9100_0063],
+        [0x9000_0023, 0x913f_e063],
+    ),
+    (
+        0x64a9aaa5f8,
+        0x64a9ab25f9,
+        [0x9000_0003, 0x9100_0063],
+        [0x9000_0043, 0x9117_e463],
+    ),
+    (
+        0x6c876f2634,
+        0x6c87712633,
+        [0x9000_0003, 0x9100_0063],
+        [0x9000_0103, 0x9118_cc63],
+    ),
+    (
+        0x731384cffc,
+        0x731388cffc,
+        [0x9000_0003, 0x9100_0063],
+        [0x9000_0203, 0x913f_f063],
+    ),
+    (
+        0x7831c6c000,
+        0x7831cec001,
+        [0x9000_0003, 0x9100_0063],
+        [0x9000_0403, 0x9100_0463],
+    ),
+    (
+        0x8398f88d58,
+        0x8399188d57,
+        [0x9000_0003, 0x9100_0063],
+        [0x9000_1003, 0x9135_5c63],
+    ),
+    (
+        0x8ccac84000,
+        0x8ccb084000,
+        [0x9000_0003, 0x9100_0063],
+        [0x9000_2003, 0x9100_0063],
+    ),
+    (
+        0x984d2f0ff8,
+        0x984daf0ff9,
+        [0x9000_0003, 0x9100_0063],
+        [0x9000_4003, 0x913f_e463],
+    ),
+    (
+        0xa21dd10ff8,
+        0xa21fd10ff7,
+        [0x9000_0003, 0x9100_0063],
+        [0x9001_0003, 0x913f_dc63],
+    ),
+    (
+        0xad7fc36ff8,
+        0xad83c36ff8,
+        [0x9000_0003, 0x9100_0063],
+        [0x9002_0003, 0x913f_e063],
+    ),
+    (
+        0xb18541233c,
+        0xb18d41233d,
+        [0x9000_0003, 0x9100_0063],
+        [0x9004_0003, 0x910c_f463],
+    ),
+    (
+        0xb9f6a70004,
+        0xba16a70003,
+        [0x9000_0003, 0x9100_0063],
+        [0x9010_0003, 0x9100_0c63],
+    ),
+    (
+        0xc485d72ffc,
+        0xc4c5d72ffc,
+        [0x9000_0003, 0x9100_0063],
+        [0x9020_0003, 0x913f_f063],
+    ),
+    (
+        0xcda6fb4000,
+        0xce26fb4001,
+        [0x9000_0003, 0x9100_0063],
+        [0x9040_0003, 0x9100_0463],
+    ),
+    (
+        0xd35d41effc,
+        0xd35d4207f8,
+        [0x9000_0003, 0x9100_0063],
+        [0xd000_0003, 0x911f_e063],
+    ),
+    (
+        0xdc3bc3cff8,
+        0xdcca812192,
+        [0x9000_0003, 0x9100_0063],
+        [0xd047_5ea3, 0x9106_4863],
+    ),
+    (
+        0xe12dcc024c,
+        0xe09ac86dae,
+        [0x9000_0003, 0x9100_0063],
+        [0xd0b6_7e23, 0x9136_b863],
+    ),
+    (
+        0xe3ebdcc800,
+        0xe435df06b1,
+        [0x9000_0003, 0x9100_0063],
+        [0x9025_0123, 0x911a_c463],
+    ),
+    (
+        0xeca98c6800,
+        0xed9214ea30,
+        [0x9000_0003, 0x9100_0063],
+        [0x9074_4443, 0x9128_c063],
+    ),
+    (
+        0xf5ff9de008,
+        0xf53310cf51,
+        [0x9000_0003, 0x9100_0063],
+        [0xd099_b963, 0x913d_4463],
+    ),
+];
+
+/// `adrp` and `ldr`: the address of the `adrp`, the target, the two words before and after.
+static ADRP_LDR: [(u64, u64, [u32; 2], [u32; 2]); 30] = [
+    (
+        0x439bac004,
+        0x539baa000,
+        [0x9000_0003, 0xf940_0063],
+        [0xd07f_ffe3, 0xf940_0063],
+    ),
+    (
+        0x1226fe6004,
+        0x1226fe5ff8,
+        [0x9000_0003, 0xf940_0063],
+        [0xf0ff_ffe3, 0xf947_fc63],
+    ),
+    (
+        0x16831e6ca4,
+        0x16831e6ca8,
+        [0x9000_0003, 0xf940_0063],
+        [0x9000_0003, 0xf946_5463],
+    ),
+    (
+        0x1add092cdc,
+        0x1add092cf8,
+        [0x9000_0003, 0xf940_0063],
+        [0x9000_0003, 0xf946_7c63],
+    ),
+    (
+        0x2681fc27fc,
+        0x2681fc2838,
+        [0x9000_0003, 0xf940_0063],
+        [0x9000_0003, 0xf944_1c63],
+    ),
+    (
+        0x301acaa800,
+        0x301acaa880,
+        [0x9000_0003, 0xf940_0063],
+        [0x9000_0003, 0xf944_4063],
+    ),
+    (
+        0x383950e800,
+        0x383950e9f8,
+        [0x9000_0003, 0xf940_0063],
+        [0x9000_0003, 0xf944_fc63],
+    ),
+    (
+        0x44464a6008,
+        0x44464a6408,
+        [0x9000_0003, 0xf940_0063],
+        [0x9000_0003, 0xf942_0463],
+    ),
+    (
+        0x4d77ef2ffc,
+        0x4d77ef37f8,
+        [0x9000_0003, 0xf940_0063],
+        [0xb000_0003, 0xf943_fc63],
+    ),
+    (
+        0x537ee30800,
+        0x537ee327f8,
+        [0x9000_0003, 0xf940_0063],
+        [0xd000_0003, 0xf943_fc63],
+    ),
+    (
+        0x5cc5ca0ff8,
+        0x5cc5ca4ff8,
+        [0x9000_0003, 0xf940_0063],
+        [0x9000_0023, 0xf947_fc63],
+    ),
+    (
+        0x64a9aaa5f8,
+        0x64a9ab25f8,
+        [0x9000_0003, 0xf940_0063],
+        [0x9000_0043, 0xf942_fc63],
+    ),
+    (
+        0x6c876f2634,
+        0x6c87712630,
+        [0x9000_0003, 0xf940_0063],
+        [0x9000_0103, 0xf943_1863],
+    ),
+    (
+        0x731384cffc,
+        0x731388cff8,
+        [0x9000_0003, 0xf940_0063],
+        [0x9000_0203, 0xf947_fc63],
+    ),
+    (
+        0x7831c6c000,
+        0x7831cec000,
+        [0x9000_0003, 0xf940_0063],
+        [0x9000_0403, 0xf940_0063],
+    ),
+    (
+        0x8398f88d58,
+        0x8399188d50,
+        [0x9000_0003, 0xf940_0063],
+        [0x9000_1003, 0xf946_a863],
+    ),
+    (
+        0x8ccac84000,
+        0x8ccb084000,
+        [0x9000_0003, 0xf940_0063],
+        [0x9000_2003, 0xf940_0063],
+    ),
+    (
+        0x984d2f0ff8,
+        0x984daf0ff8,
+        [0x9000_0003, 0xf940_0063],
+        [0x9000_4003, 0xf947_fc63],
+    ),
+    (
+        0xa21dd10ff8,
+        0xa21fd10ff0,
+        [0x9000_0003, 0xf940_0063],
+        [0x9001_0003, 0xf947_f863],
+    ),
+    (
+        0xad7fc36ff8,
+        0xad83c36ff8,
+        [0x9000_0003, 0xf940_0063],
+        [0x9002_0003, 0xf947_fc63],
+    ),
+    (
+        0xb18541233c,
+        0xb18d412338,
+        [0x9000_0003, 0xf940_0063],
+        [0x9004_0003, 0xf941_9c63],
+    ),
+    (
+        0xb9f6a70004,
+        0xba16a70000,
+        [0x9000_0003, 0xf940_0063],
+        [0x9010_0003, 0xf940_0063],
+    ),
+    (
+        0xc485d72ffc,
+        0xc4c5d72ff8,
+        [0x9000_0003, 0xf940_0063],
+        [0x9020_0003, 0xf947_fc63],
+    ),
+    (
+        0xcda6fb4000,
+        0xce26fb4000,
+        [0x9000_0003, 0xf940_0063],
+        [0x9040_0003, 0xf940_0063],
+    ),
+    (
+        0xd35d41effc,
+        0xd35d4207f8,
+        [0x9000_0003, 0xf940_0063],
+        [0xd000_0003, 0xf943_fc63],
+    ),
+    (
+        0xdc3bc3cff8,
+        0xdcca812190,
+        [0x9000_0003, 0xf940_0063],
+        [0xd047_5ea3, 0xf940_c863],
+    ),
+    (
+        0xe12dcc024c,
+        0xe09ac86da8,
+        [0x9000_0003, 0xf940_0063],
+        [0xd0b6_7e23, 0xf946_d463],
+    ),
+    (
+        0xe3ebdcc800,
+        0xe435df06b0,
+        [0x9000_0003, 0xf940_0063],
+        [0x9025_0123, 0xf943_5863],
+    ),
+    (
+        0xeca98c6800,
+        0xed9214ea30,
+        [0x9000_0003, 0xf940_0063],
+        [0x9074_4443, 0xf945_1863],
+    ),
+    (
+        0xf5ff9de008,
+        0xf53310cf50,
+        [0x9000_0003, 0xf940_0063],
+        [0xd099_b963, 0xf947_a863],
+    ),
+];
+
+/// `adrp` and `add` in reach of `adr`: the bytes before, the value, and the bytes after.
+static NOP_ADR: [([u8; 8], u64, [u8; 8]); 8] = [
+    (
+        [0x1e, 0x00, 0x00, 0x90, 0xde, 0x03, 0x00, 0x91],
+        0x3,
+        [0x1f, 0x20, 0x03, 0xd5, 0x1e, 0x00, 0x00, 0x70],
+    ),
+    (
+        [0x01, 0x00, 0x00, 0x90, 0x21, 0x00, 0x00, 0x91],
+        0xfffff,
+        [0x1f, 0x20, 0x03, 0xd5, 0xe1, 0xff, 0x7f, 0x70],
+    ),
+    (
+        [0x1e, 0x00, 0x00, 0x90, 0xde, 0x03, 0x00, 0x91],
+        0x1,
+        [0x1f, 0x20, 0x03, 0xd5, 0x1e, 0x00, 0x00, 0x30],
+    ),
+    (
+        [0x1e, 0x00, 0x00, 0x90, 0xde, 0x03, 0x00, 0x91],
+        0x67551,
+        [0x1f, 0x20, 0x03, 0xd5, 0x9e, 0xaa, 0x33, 0x30],
+    ),
+    (
+        [0x11, 0x00, 0x00, 0x90, 0x31, 0x02, 0x00, 0x91],
+        0xed91c,
+        [0x1f, 0x20, 0x03, 0xd5, 0xf1, 0xc8, 0x76, 0x10],
+    ),
+    (
+        [0x1e, 0x00, 0x00, 0x90, 0xde, 0x03, 0x00, 0x91],
+        0x52e5a,
+        [0x1f, 0x20, 0x03, 0xd5, 0xde, 0x72, 0x29, 0x50],
+    ),
+    (
+        [0x03, 0x00, 0x00, 0x90, 0x63, 0x00, 0x00, 0x91],
+        0x12b744,
+        [0x1f, 0x20, 0x03, 0xd5, 0x23, 0xba, 0x95, 0x10],
+    ),
+    (
+        [0x03, 0x00, 0x00, 0x90, 0x63, 0x00, 0x00, 0x91],
+        0xbff1c,
+        [0x1f, 0x20, 0x03, 0xd5, 0xe3, 0xf8, 0x5f, 0x10],
+    ),
+];
+
+/// Loads of an address that the linker knows: the bytes before, the pages, the offset, and the bytes
+/// after.
+static ADRP_TO_ADD: [([u8; 8], u64, u64, [u8; 8]); 5] = [
+    (
+        [0x03, 0x00, 0x00, 0x90, 0x63, 0x00, 0x40, 0xf9],
+        0x4fcd5,
+        0xba8,
+        [0xa3, 0xe6, 0x27, 0xb0, 0x63, 0xa0, 0x2e, 0x91],
+    ),
+    (
+        [0x03, 0x00, 0x00, 0x90, 0x63, 0x00, 0x40, 0xf9],
+        0x62013,
+        0x220,
+        [0x83, 0x00, 0x31, 0xf0, 0x63, 0x80, 0x08, 0x91],
+    ),
+    (
+        [0x00, 0x00, 0x00, 0x90, 0x00, 0x00, 0x40, 0xf9],
+        0x74350,
+        0x898,
+        [0x80, 0x1a, 0x3a, 0x90, 0x00, 0x60, 0x22, 0x91],
+    ),
+    (
+        [0x03, 0x00, 0x00, 0x90, 0x63, 0x00, 0x40, 0xf9],
+        0x8668d,
+        0xf10,
+        [0x63, 0x34, 0x43, 0xb0, 0x63, 0x40, 0x3c, 0x91],
+    ),
+    (
+        [0x11, 0x00, 0x00, 0x90, 0x31, 0x02, 0x40, 0xf9],
+        0x989cb,
+        0x588,
+        [0x51, 0x4e, 0x4c, 0xf0, 0x31, 0x22, 0x16, 0x91],
+    ),
+];
+
+/// Offsets from the thread pointer, by moves: the bytes before, the two halves, and the bytes after.
+static TO_MOVES: [([u8; 8], u64, u64, [u8; 8]); 3] = [
+    (
+        [0x03, 0x00, 0x00, 0x90, 0x63, 0x00, 0x40, 0xf9],
+        0x0,
+        0x18,
+        [0x03, 0x00, 0xa0, 0xd2, 0x03, 0x03, 0x80, 0xf2],
+    ),
+    (
+        [0x11, 0x00, 0x00, 0x90, 0x31, 0x02, 0x40, 0xf9],
+        0x1,
+        0x10,
+        [0x31, 0x00, 0xa0, 0xd2, 0x11, 0x02, 0x80, 0xf2],
+    ),
+    (
+        [0x00, 0x00, 0x00, 0x90, 0x00, 0x00, 0x40, 0xf9],
+        0x3,
+        0x8,
+        [0x60, 0x00, 0xa0, 0xd2, 0x00, 0x01, 0x80, 0xf2],
+    ),
+];
