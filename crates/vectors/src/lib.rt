@@ -2,6 +2,9 @@
 #![tactic(auto)]
 
 #[cfg(test)]
+mod loongarch64;
+
+#[cfg(test)]
 mod tests {
     use linker_utils::utils::u32_from_slice;
 
