@@ -108,8 +108,8 @@ loongarch_modifier ReplaceWithNop = Normal
 abbrev pub page : ℕ → ℕ
 page n = n - n % 4096
 
--- 2^12 - 2^32 modulo 2^64 where bit 11 is set: where `addi.d` takes its 12 bits for a number below 0, the page is one more,
--- and `addi.d` leaves 1 less in bits 32 and up
+-- 2^12 - 2^32 modulo 2^64 where bit 11 is set: `addi.d` then reads the low 12 bits as 2^12 less, and of that bits 0 to 31
+-- are kept, which is 2^32 more
 abbrev pub high_correction : ℕ → ℕ
 high_correction s = if bit_at s 11 == 1 then 2 ^ 64 + 2 ^ 12 - 2 ^ 32 else 0
 
