@@ -186,7 +186,6 @@ fn unsigned(n: u32, info: RelocationKindInfo) -> RelocationKindInfo
     }
 }
 
-// the numbers of n bits of either sign
 fn within(min: i64, max: i64, info: RelocationKindInfo) -> RelocationKindInfo
     ensures { result ≡ within_row min max info }
 {
