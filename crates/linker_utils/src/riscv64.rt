@@ -302,6 +302,9 @@ fn distance_after(deltas: &SectionRelaxDeltas, site: u64, target: u64) -> i64
 ///
 /// After a refusal the section is as it was; the first cause in the order `OutOfSection`,
 /// `SiteDeleted`, `TargetInside`, `OddDistance`, `TooFar` is told.
+///
+/// The jump links the register of the `auipc`, which for a plain call is the `jalr`'s too:
+/// `is_plain_call` tells these from others, as `tail f`.
 pub fn relax_call(
     section: &mut [u8],
     deltas: &SectionRelaxDeltas,
