@@ -193,7 +193,7 @@ fn mov(opcode: u32, rd: u32, bits: u64) -> u32
 }
 
 /// Writes the four instructions that load a number into register `rd`: `movz` of its lowest 16 bits,
-/// and `movk` of the next, lowest first (DDI 0487, C6.2.252 and C6.2.254). The bytes after the first
+/// and `movk` of the next, lowest first (DDI 0487, "MOVZ" and "MOVK"). The bytes after the first
 /// 16 stay.
 #[inline]
 pub fn write_mov_sequence(dest: &mut [u8], rd: u32, value: u64)
@@ -239,7 +239,7 @@ const IMM12: [Run; 1] = [run!(ored 0, 10, 12)];
 const MOVED: [Run; 1] = [run!(0, 5, 16)];
 
 /// How far up the offset of a load or store goes: log2 of its access size in bytes, and 0 for other
-/// instructions (DDI 0487, C4.1.94, "Load/store register (unsigned immediate)").
+/// instructions (DDI 0487, "Load/store register (unsigned immediate)").
 #[inline(always)]
 fn scale_of(word: u64) -> u32
     ensures scale { result ≡ access_scale word }

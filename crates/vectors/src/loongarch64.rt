@@ -1,4 +1,4 @@
-//! LoongArch: what assemblers and linkers write, and worked rows.
+//! LoongArch: what assemblers and linkers write, and values worked by hand.
 
 mod assembled;
 mod linked;
