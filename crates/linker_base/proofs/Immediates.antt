@@ -178,7 +178,7 @@ place_sum_below ps n x a b =
     subst (λ y. y < 2 ^ n) (sym same) (mod_below (place_sum ps x) (2 ^ n) (pow_pos n))
 
 -- either sign reads a number of n bits modulo 2 ^ n
-number_rem : (s : Sign) (n f : ℕ) → f < 2 ^ n → int_rem_euclid (number_of s n f) (pos (2 ^ n)) ≡ pos f
+pub number_rem : (s : Sign) (n f : ℕ) → f < 2 ^ n → int_rem_euclid (number_of s n f) (pos (2 ^ n)) ≡ pos f
 number_rem unsigned n f h = ap pos (mod-eq_of_lt h)
 number_rem twos_complement n f h = signed_rem n f h
 
@@ -218,7 +218,7 @@ module _ (w : Width) (width n low : ℕ) (read : Sign) (flags : Bool) (machine :
       ∙ number_bits read n sum (place_sum_below ps n before apart sound.below) short)
       laid
 
-subst_below : (v n m : ℕ) → v < 2 ^ n → n ≤ m → v < 2 ^ m
+pub subst_below : (v n m : ℕ) → v < 2 ^ n → n ≤ m → v < 2 ^ m
 subst_below v n m h l =
     elim (cases_lt n m) [
       | inl below ↦ omega (arith, pow_below n m below)

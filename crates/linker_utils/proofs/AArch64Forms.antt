@@ -67,7 +67,7 @@ high_kept ps v base after laid n b =
     same_from_bits (after / 2 ^ n) (base / 2 ^ n) (λ i.
     bit_at_shr after n i ∙ laid.kept (n + i) (not_placed_above ps n (n + i) b (omega arith)) ∙ sym (bit_at_shr base n i))
 
-movnz_machine : (neg : Bool) (v before after : ℕ) → Written movnz v neg before after → MachineReads movnz v neg before after
+pub movnz_machine : (neg : Bool) (v before after : ℕ) → Written movnz v neg before after → MachineReads movnz v neg before after
 movnz_machine true v before after laid = λ clear.
     let high : after / 2 ^ 21 ≡ (movn_opcode * 2 ^ 23 + before % 2 ^ 23) / 2 ^ 21 = high_kept imm16_places (moved_bits true v) (movn_opcode * 2 ^ 23 + before % 2 ^ 23) after laid 21 refl in
     let opcode : opcode_of after ≡ movn_opcode = omega arith in

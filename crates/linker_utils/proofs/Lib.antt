@@ -1,6 +1,7 @@
 pub mod AArch64Forms
 pub mod AArch64Moves
 pub mod AArch64Rewrites
+pub mod Agreement
 pub mod Bounds
 pub mod Calls
 pub mod Jumps
@@ -12,5 +13,6 @@ pub mod PowerPcForms
 pub mod PowerPcPairs
 pub mod RiscV
 pub mod RiscVRewrites
+pub mod RowsAgree
 pub mod Runs
 pub mod X86Bytes

@@ -72,13 +72,13 @@ shift5_field v before after h laid =
 
 -- ---- an immediate of 12 or 16 bits
 
-shift10_low_sum : (v before after : ℕ) → v < 2 ^ 64 → IsLaid shift10_places v before after → place_sum shift10_low after ≡ v % 2 ^ 12
+pub shift10_low_sum : (v before after : ℕ) → v < 2 ^ 64 → IsLaid shift10_places v before after → place_sum shift10_low after ≡ v % 2 ^ 12
 shift10_low_sum v before after h laid =
     part_sum 0 12 0 shift10_low v before after (omega arith) refl refl refl refl
     (All-take (λ (p : Place). bit_at after p.word ≡ placed_bit p.mark (bit_for p v) (bit_at before p.word)) 12 shift10_places laid.placed)
     ∙ omega arith
 
-shift10_low_field : (x : ℕ) → place_sum shift10_low x ≡ field x 10 22
+pub shift10_low_field : (x : ℕ) → place_sum shift10_low x ≡ field x 10 22
 shift10_low_field x = row_sum replaced 12 0 10 0 x refl ∙ omega arith
 
 pub shift10_field : (v before after : ℕ) → v < 2 ^ 12 → IsLaid shift10_places v before after → field after 10 22 ≡ v

@@ -1,5 +1,6 @@
 pub mod AArch64
 pub mod AArch64Rows
+pub mod Agrees
 pub mod Elf
 pub mod LoongArch
 pub mod LoongArchRows

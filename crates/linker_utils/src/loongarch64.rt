@@ -1,11 +1,12 @@
 //! LoongArch: the relocation table, instruction forms, relaxation rewrites, and addresses made by
 //! five instructions.
 
-ghost use Rattle.std.specs.Prelude.{◌≡◌, ◌≤◌, ◌<◌, ◌+◌, ◌^◌, ◌↔◌, IsTrue, length, drop};
+ghost use Rattle.std.specs.Prelude.{IfSome, ◌≡◌, ◌≤◌, ◌<◌, ◌+◌, ◌^◌, ◌↔◌, IsTrue, length, drop};
 ghost use Rattle.std.specs.Int.{byte_len, cast_unsigned, w64};
 ghost use Rattle.linker_base.specs.Form.{window_of, Fits, Written, MachineReads, IsReadBack};
 ghost use Rattle.linker_base.specs.Rewrite.{CanRewrite, rewritten, offset_after, addend_after};
 ghost use Rattle.linker_utils.specs.LoongArch.{loongarch_form, ReadsLow, Reaches, loongarch_rewrite, loongarch_modifier, page, high_distance, MakesAddress, IsSetAt};
+ghost use Rattle.linker_utils.specs.Agrees.{LoongArchRowAgrees};
 ghost use Rattle.linker_utils.specs.LoongArchRows.{loongarch_row};
 ghost use Rattle.linker_utils.specs.LoongArchRows as rows;
 
@@ -339,7 +340,8 @@ pub enum LoongArch64Relocation {
 
 /// What a relocation type means, and `None` of a type that isn't supported.
 pub fn relocation_type_from_raw(name: LoongArch64Relocation) -> Option<RelocationKindInfo>
-    ensures { result ≡ loongarch_row name }
+    ensures row { result ≡ loongarch_row name }
+    ensures agrees { IfSome result (LoongArchRowAgrees name) }
 {
     let info = match name {
         LoongArch64Relocation::R_LARCH_NONE

@@ -1,10 +1,11 @@
 //! PowerPC64: the forms of its instructions, and addresses in two halves.
 
-ghost use Rattle.std.specs.Prelude.{◌≡◌, ◌≤◌, ◌↔◌, ◌==◌, if◌then◌else◌, Some, None, IsTrue, length, drop};
+ghost use Rattle.std.specs.Prelude.{IfSome, ◌≡◌, ◌≤◌, ◌↔◌, ◌==◌, if◌then◌else◌, Some, None, IsTrue, length, drop};
 ghost use Rattle.std.specs.Int.{byte_len, cast_unsigned, from_le_bytes, w32, w64};
 ghost use Rattle.linker_base.specs.Form.{window_of, Written, MachineReads, IsReadBack};
 ghost use Rattle.linker_base.specs.Rewrite.{CanRewrite, rewritten, offset_after, addend_after};
 ghost use Rattle.linker_utils.specs.PowerPc.{ppc64_form, ppc64_rewrite, ppc64_modifier, PairHolds, KeepsHigh};
+ghost use Rattle.linker_utils.specs.Agrees.{RowAgrees};
 ghost use Rattle.linker_utils.specs.PowerPcRows as rows;
 ghost use Rattle.linker_utils.specs.PowerPcRows.{ppc64_row};
 
@@ -285,134 +286,127 @@ fn branch(bits: u8, insn: Ppc64Instruction) -> RelocationKindInfo
 /// What a relocation means, or `None` for one without a name. Values of half words that are checked
 /// have 16 signed bits; "HA" halves have a bias of 0x8000.
 pub fn relocation_type_from_raw(name: Ppc64Relocation) -> Option<RelocationKindInfo>
-    ensures { result ≡ ppc64_row name }
+    ensures row { result ≡ ppc64_row name }
+    ensures agrees { IfSome result RowAgrees }
 {
-    match name {
+    let info = match name {
         Ppc64Relocation::R_PPC64_TLS
         | Ppc64Relocation::R_PPC64_TLSGD
-        | Ppc64Relocation::R_PPC64_TLSLD => Some(bytes(
+        | Ppc64Relocation::R_PPC64_TLSLD => bytes(
             RelocationKind::None,
             0,
             AllowedRange::no_check(),
-        )),
-        Ppc64Relocation::R_PPC64_ADDR64 => Some(bytes(
+        ),
+        Ppc64Relocation::R_PPC64_ADDR64 => bytes(
             RelocationKind::Absolute,
             8,
             AllowedRange::no_check(),
-        )),
-        Ppc64Relocation::R_PPC64_ADDR32 => Some(bytes(
+        ),
+        Ppc64Relocation::R_PPC64_ADDR32 => bytes(
             RelocationKind::Absolute,
             4,
             AllowedRange::new(-0x80000000, 0x100000000),
-        )),
-        Ppc64Relocation::R_PPC64_REL64 => Some(bytes(
+        ),
+        Ppc64Relocation::R_PPC64_REL64 => bytes(
             RelocationKind::Relative,
             8,
             AllowedRange::no_check(),
-        )),
-        Ppc64Relocation::R_PPC64_REL32 => Some(bytes(
+        ),
+        Ppc64Relocation::R_PPC64_REL32 => bytes(
             RelocationKind::Relative,
             4,
             AllowedRange::from_bit_size(32, Sign::Signed),
-        )),
-        Ppc64Relocation::R_PPC64_REL24 => Some(branch(26, Ppc64Instruction::Branch24)),
-        Ppc64Relocation::R_PPC64_REL14 => Some(branch(16, Ppc64Instruction::Branch14)),
-        Ppc64Relocation::R_PPC64_REL16_HA => Some(high_adjusted(RelocationKind::Relative)),
-        Ppc64Relocation::R_PPC64_REL16_LO => Some(low(
+        ),
+        Ppc64Relocation::R_PPC64_REL24 => branch(26, Ppc64Instruction::Branch24),
+        Ppc64Relocation::R_PPC64_REL14 => branch(16, Ppc64Instruction::Branch14),
+        Ppc64Relocation::R_PPC64_REL16_HA => high_adjusted(RelocationKind::Relative),
+        Ppc64Relocation::R_PPC64_REL16_LO => low(
             RelocationKind::Relative,
             AllowedRange::no_check(),
-        )),
-        Ppc64Relocation::R_PPC64_TOC16_HA => Some(high_adjusted(RelocationKind::SymRelGotBase)),
-        Ppc64Relocation::R_PPC64_TOC16_LO => Some(low(
+        ),
+        Ppc64Relocation::R_PPC64_TOC16_HA => high_adjusted(RelocationKind::SymRelGotBase),
+        Ppc64Relocation::R_PPC64_TOC16_LO => low(
             RelocationKind::SymRelGotBase,
             AllowedRange::no_check(),
-        )),
-        Ppc64Relocation::R_PPC64_TOC16_LO_DS => Some(low_ds(
+        ),
+        Ppc64Relocation::R_PPC64_TOC16_LO_DS => low_ds(
             RelocationKind::SymRelGotBase,
             AllowedRange::no_check(),
-        )),
-        Ppc64Relocation::R_PPC64_TPREL64 => Some(bytes(
+        ),
+        Ppc64Relocation::R_PPC64_TPREL64 => bytes(
             RelocationKind::TpOff,
             8,
             AllowedRange::no_check(),
-        )),
-        Ppc64Relocation::R_PPC64_TPREL16 => Some(low(
+        ),
+        Ppc64Relocation::R_PPC64_TPREL16 => low(
             RelocationKind::TpOff,
             AllowedRange::from_bit_size(16, Sign::Signed),
-        )),
-        Ppc64Relocation::R_PPC64_TPREL16_LO => Some(low(
-            RelocationKind::TpOff,
-            AllowedRange::no_check(),
-        )),
-        Ppc64Relocation::R_PPC64_TPREL16_HI => Some(high(RelocationKind::TpOff)),
-        Ppc64Relocation::R_PPC64_TPREL16_HA => Some(high_adjusted(RelocationKind::TpOff)),
-        Ppc64Relocation::R_PPC64_TPREL16_DS => Some(low_ds(
+        ),
+        Ppc64Relocation::R_PPC64_TPREL16_LO => low(RelocationKind::TpOff, AllowedRange::no_check()),
+        Ppc64Relocation::R_PPC64_TPREL16_HI => high(RelocationKind::TpOff),
+        Ppc64Relocation::R_PPC64_TPREL16_HA => high_adjusted(RelocationKind::TpOff),
+        Ppc64Relocation::R_PPC64_TPREL16_DS => low_ds(
             RelocationKind::TpOff,
             AllowedRange::from_bit_size(16, Sign::Signed),
-        )),
-        Ppc64Relocation::R_PPC64_TPREL16_LO_DS => Some(low_ds(
+        ),
+        Ppc64Relocation::R_PPC64_TPREL16_LO_DS => low_ds(
             RelocationKind::TpOff,
             AllowedRange::no_check(),
-        )),
-        Ppc64Relocation::R_PPC64_DTPREL64 => Some(bytes(
+        ),
+        Ppc64Relocation::R_PPC64_DTPREL64 => bytes(
             RelocationKind::DtpOff,
             8,
             AllowedRange::no_check(),
-        )),
-        Ppc64Relocation::R_PPC64_DTPREL16 => Some(low(
+        ),
+        Ppc64Relocation::R_PPC64_DTPREL16 => low(
             RelocationKind::DtpOff,
             AllowedRange::from_bit_size(16, Sign::Signed),
-        )),
-        Ppc64Relocation::R_PPC64_DTPREL16_LO => Some(low(
+        ),
+        Ppc64Relocation::R_PPC64_DTPREL16_LO => low(
             RelocationKind::DtpOff,
             AllowedRange::no_check(),
-        )),
-        Ppc64Relocation::R_PPC64_DTPREL16_HI => Some(high(RelocationKind::DtpOff)),
-        Ppc64Relocation::R_PPC64_DTPREL16_HA => Some(high_adjusted(RelocationKind::DtpOff)),
-        Ppc64Relocation::R_PPC64_DTPREL16_DS => Some(low_ds(
+        ),
+        Ppc64Relocation::R_PPC64_DTPREL16_HI => high(RelocationKind::DtpOff),
+        Ppc64Relocation::R_PPC64_DTPREL16_HA => high_adjusted(RelocationKind::DtpOff),
+        Ppc64Relocation::R_PPC64_DTPREL16_DS => low_ds(
             RelocationKind::DtpOff,
             AllowedRange::from_bit_size(16, Sign::Signed),
-        )),
-        Ppc64Relocation::R_PPC64_DTPREL16_LO_DS => Some(low_ds(
+        ),
+        Ppc64Relocation::R_PPC64_DTPREL16_LO_DS => low_ds(
             RelocationKind::DtpOff,
             AllowedRange::no_check(),
-        )),
-        Ppc64Relocation::R_PPC64_GOT_TPREL16_HA => Some(high_adjusted(
-            RelocationKind::GotTpOffGotBase,
-        )),
-        Ppc64Relocation::R_PPC64_GOT_TPREL16_HI => Some(high(RelocationKind::GotTpOffGotBase)),
-        Ppc64Relocation::R_PPC64_GOT_TPREL16_DS => Some(low_ds(
+        ),
+        Ppc64Relocation::R_PPC64_GOT_TPREL16_HA => high_adjusted(RelocationKind::GotTpOffGotBase),
+        Ppc64Relocation::R_PPC64_GOT_TPREL16_HI => high(RelocationKind::GotTpOffGotBase),
+        Ppc64Relocation::R_PPC64_GOT_TPREL16_DS => low_ds(
             RelocationKind::GotTpOffGotBase,
             AllowedRange::from_bit_size(16, Sign::Signed),
-        )),
-        Ppc64Relocation::R_PPC64_GOT_TPREL16_LO_DS => Some(low_ds(
+        ),
+        Ppc64Relocation::R_PPC64_GOT_TPREL16_LO_DS => low_ds(
             RelocationKind::GotTpOffGotBase,
             AllowedRange::no_check(),
-        )),
-        Ppc64Relocation::R_PPC64_GOT_TLSGD16 => Some(low(
+        ),
+        Ppc64Relocation::R_PPC64_GOT_TLSGD16 => low(
             RelocationKind::TlsGdGotBase,
             AllowedRange::from_bit_size(16, Sign::Signed),
-        )),
-        Ppc64Relocation::R_PPC64_GOT_TLSGD16_LO => Some(low(
+        ),
+        Ppc64Relocation::R_PPC64_GOT_TLSGD16_LO => low(
             RelocationKind::TlsGdGotBase,
             AllowedRange::no_check(),
-        )),
-        Ppc64Relocation::R_PPC64_GOT_TLSGD16_HI => Some(high(RelocationKind::TlsGdGotBase)),
-        Ppc64Relocation::R_PPC64_GOT_TLSGD16_HA => Some(high_adjusted(
-            RelocationKind::TlsGdGotBase,
-        )),
-        Ppc64Relocation::R_PPC64_GOT_TLSLD16 => Some(low(
+        ),
+        Ppc64Relocation::R_PPC64_GOT_TLSGD16_HI => high(RelocationKind::TlsGdGotBase),
+        Ppc64Relocation::R_PPC64_GOT_TLSGD16_HA => high_adjusted(RelocationKind::TlsGdGotBase),
+        Ppc64Relocation::R_PPC64_GOT_TLSLD16 => low(
             RelocationKind::TlsLdGotBase,
             AllowedRange::from_bit_size(16, Sign::Signed),
-        )),
-        Ppc64Relocation::R_PPC64_GOT_TLSLD16_LO => Some(low(
+        ),
+        Ppc64Relocation::R_PPC64_GOT_TLSLD16_LO => low(
             RelocationKind::TlsLdGotBase,
             AllowedRange::no_check(),
-        )),
-        Ppc64Relocation::R_PPC64_GOT_TLSLD16_HI => Some(high(RelocationKind::TlsLdGotBase)),
-        Ppc64Relocation::R_PPC64_GOT_TLSLD16_HA => Some(high_adjusted(
-            RelocationKind::TlsLdGotBase,
-        )),
-        Ppc64Relocation::Other(_) => None,
-    }
+        ),
+        Ppc64Relocation::R_PPC64_GOT_TLSLD16_HI => high(RelocationKind::TlsLdGotBase),
+        Ppc64Relocation::R_PPC64_GOT_TLSLD16_HA => high_adjusted(RelocationKind::TlsLdGotBase),
+        Ppc64Relocation::Other(_) => return None,
+    };
+    Some(info)
 }

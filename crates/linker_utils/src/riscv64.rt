@@ -1,12 +1,13 @@
 //! RISC-V: relaxation rewrites, and calls that become jumps.
 
-ghost use Rattle.std.specs.Prelude.{◌≡◌, ◌≤◌, ◌<◌, ◌+◌, ◌^◌, ◌↔◌, IsTrue, IsOk, OnOk, OnErr, length, drop, ◌≢◌};
+ghost use Rattle.std.specs.Prelude.{IfSome, ◌≡◌, ◌≤◌, ◌<◌, ◌+◌, ◌^◌, ◌↔◌, IsTrue, IsOk, OnOk, OnErr, length, drop, ◌≢◌};
 ghost use Rattle.std.specs.Int.{byte_len, cast_unsigned, w64, from_le_bytes, w16};
 ghost use Rattle.linker_base.specs.Form.{window_of, Written, MachineReads, IsReadBack, IsLaid};
 ghost use Rattle.linker_base.specs.Rewrite.{CanRewrite, rewritten, offset_after, addend_after};
 ghost use Rattle.linker_utils.specs.RiscV.{riscv_form, riscv_rewrite, riscv_modifier, IsEven, IsJalDistance, JumpsAt, IsInSection, IsSiteKept, output_distance, riscv_places, PairReads, high_20, low_12, IsSigned32, FitsClui, HoldsHigh, IsCallPair, IsPlainCall};
 ghost use Rattle.linker_base.specs.Deletions.{IsInside};
 ghost use Rattle.linker_base.specs.Bits.{signed};
+ghost use Rattle.linker_utils.specs.Agrees.{RowAgrees};
 ghost use Rattle.linker_utils.specs.RiscVRows.{riscv_row, clui_row};
 ghost use Rattle.linker_utils.specs.RiscVRows as rows;
 
@@ -583,7 +584,8 @@ fn in_form(
 
 /// What a relocation means, and `None` where it isn't known.
 pub fn relocation_type_from_raw(name: RiscVRelocation) -> Option<RelocationKindInfo>
-    ensures { result ≡ riscv_row name }
+    ensures row { result ≡ riscv_row name }
+    ensures agrees { IfSome result RowAgrees }
 {
     let info = match name {
         RiscVRelocation::R_RISCV_NONE

@@ -1,6 +1,7 @@
 //! What the relocations of AArch64 mean.
 
-ghost use Rattle.std.specs.Prelude.{◌≡◌, ◌≤◌};
+ghost use Rattle.std.specs.Prelude.{◌≡◌, ◌≤◌, IfSome};
+ghost use Rattle.linker_utils.specs.Agrees.{RowAgrees};
 ghost use Rattle.linker_utils.specs.AArch64Rows.{aarch64_row, bytes_row, bits_row, of_size_row, signed_row, unsigned_row, within_row, aligned_row, paged_row, thunkable_row};
 
 use self::AArch64Relocation as Name;
@@ -222,6 +223,15 @@ fn thunkable(info: RelocationKindInfo) -> RelocationKindInfo
 /// What a relocation means, and none for `Other`. Bits go by the value after the bias and the page
 /// mask.
 pub fn relocation_type_from_raw(name: AArch64Relocation) -> Option<RelocationKindInfo>
+    ensures row { result ≡ aarch64_row name }
+    ensures agrees { IfSome result RowAgrees }
+{
+    described(name)
+}
+
+// The table.
+#[inline(always)]
+fn described(name: AArch64Relocation) -> Option<RelocationKindInfo>
     ensures { result ≡ aarch64_row name }
 {
     let info = match name {
