@@ -1,5 +1,7 @@
-//! Test vectors that cross crates. A library with no code of its own: its modules are tests.
+//! Test vectors that cross crates, and `poke`, a user of the interface of instruction forms alone.
 #![tactic(auto)]
+
+pub mod poke;
 
 #[cfg(test)]
 mod aarch64;
