@@ -25,11 +25,11 @@ pub fn poke<F: InstructionForm>(
     if section.len() < window || section.len() - window < offset {
         return false;
     }
-    if !form.fits(value, &section[offset..]) {
-        return false;
+    let fits = form.fits(value, &section[offset..]);
+    if fits {
+        form.write(value, negative, &mut section[offset..]);
     }
-    form.write(value, negative, &mut section[offset..]);
-    true
+    fits
 }
 
 #[cfg(test)]
