@@ -1,10 +1,19 @@
 //! Values written into the instructions of a section, of whatever form: what rests on the interface of
 //! forms alone.
 
-ghost use Rattle.std.specs.Prelude.{◌≡◌, ◌↔◌, IsTrue, false};
-ghost use Rattle.vectors.specs.Poke.{CanPoke, IsPoked};
+ghost use Rattle.std.specs.Prelude.{◌≡◌, ◌≤◌, ◌%◌, ◌^◌, ◌↔◌, IsTrue, false, length};
+ghost use Rattle.std.specs.Int.{byte_len};
+ghost use Rattle.linker_base.specs.Form.{window_of};
+ghost use Rattle.vectors.specs.Poke.{window_at, IsInside, CanPoke, IsPoked};
 
 use linker_utils::elf::InstructionForm;
+
+fn has_window<F: InstructionForm>(form: F, section: &[u8], offset: usize) -> bool
+    ensures { IsTrue result ↔ IsInside (F.form form) section.now offset }
+{
+    let window = form.window();
+    window <= section.len() && offset <= section.len() - window
+}
 
 /// Writes a value and its sign into the instruction at an offset of a section, and answers whether
 /// it could: where the form's window lies in the section and the value fits there. Then all bytes
@@ -21,21 +30,46 @@ pub fn poke<F: InstructionForm>(
     ensures poked { IsTrue result → IsPoked (F.form form) value negative offset section.old section.new }
     ensures unchanged { result ≡ false → section.new ≡ section.old }
 {
-    let window = form.window();
-    if section.len() < window || section.len() - window < offset {
-        return false;
-    }
-    let fits = form.fits(value, &section[offset..]);
+    let fits = has_window(form, section, offset) && form.fits(value, &section[offset..]);
     if fits {
         form.write(value, negative, &mut section[offset..]);
     }
     fits
 }
 
+/// The low bits of a value, as many as the form takes.
+fn cut<F: InstructionForm>(form: F, value: u64, bytes: &[u8]) -> u64
+    requires { byte_len (F.form form).window ≤ length bytes.now }
+    ensures { result ≡ value % 2 ^ (F.form form).width (window_of (F.form form) bytes.now) }
+{
+    let mut mask = u64::MAX;
+    while !form.fits(mask, bytes) {
+        mask >>= 1;
+    }
+    value & mask
+}
+
+/// Reads the value in the instruction at an offset of a section and writes it back, cut to the bits
+/// that the form takes. Answers whether the form's window lies in the section. Where the form
+/// restores the window, nothing changes.
+pub fn touch<F: InstructionForm>(form: F, section: &mut [u8], offset: usize) -> bool
+    ensures inside { IsTrue result ↔ IsInside (F.form form) section.old offset }
+    ensures restored { IsTrue ((F.form form).restores (window_at (F.form form) section.old offset)) → section.new ≡ section.old }
+    ensures unchanged { result ≡ false → section.new ≡ section.old }
+{
+    if !has_window(form, section, offset) {
+        return false;
+    }
+    let bytes = &section[offset..];
+    let (value, negative) = form.read(bytes);
+    let field = cut(form, value, bytes);
+    poke(form, field, negative, section, offset)
+}
+
 #[cfg(test)]
 mod tests {
-    use super::poke;
-    use linker_utils::elf::{AArch64Instruction, RiscVInstruction};
+    use super::{poke, touch};
+    use linker_utils::elf::{AArch64Instruction, LoongArch64Instruction, RiscVInstruction};
 
     /// A word of 0, and `jal x0, 0`.
     const JUMP: [u8; 8] = [0x00, 0x00, 0x00, 0x00, 0x6f, 0x00, 0x00, 0x00];
@@ -69,5 +103,19 @@ mod tests {
         let mut section = 0xd2a0_0003u32.to_le_bytes();
         assert!(rt; poke(AArch64Instruction::Movnz, 0xfffe, true, &mut section, 0));
         assert_eq!(rt; section, 0x92a0_0023u32.to_le_bytes());
+    }
+
+    /// `b.eq` by -4 bytes, whose 19 bits are all 1, and a pair of `CALL30` with bit 5 set in word one.
+    #[test]
+    fn what_was_read_is_written_back(rt: HostRuntime) {
+        let branch = [0x00, 0x00, 0x00, 0x00, 0xe0, 0xff, 0xff, 0x54];
+        let mut section = branch;
+        assert!(rt; touch(AArch64Instruction::Bcond, &mut section, 4));
+        assert_eq!(rt; section, branch);
+        assert!(rt; !touch(AArch64Instruction::Bcond, &mut section, 5));
+        assert_eq!(rt; section, branch);
+        let mut call = [0x20, 0x00, 0x00, 0x00, 0x00, 0x00, 0x00, 0x00];
+        assert!(rt; touch(LoongArch64Instruction::Call30, &mut call, 0));
+        assert_eq!(rt; call, [0; 8]);
     }
 }
