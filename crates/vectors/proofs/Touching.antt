@@ -8,7 +8,7 @@ use Rattle.std.proofs.lemmas.Grind.{same_number_lists}
 use Rattle.std.proofs.lemmas.Nat.{and_mask, pow-add, pow_pos, mod_below}
 use Rattle.std.proofs.Math.Nat.{mul-le-mul_right, div-eq_of_lt, add-mul-div_right, mod-eq_of_lt, pow-le-pow_right}
 use Rattle.linker_base.specs.Form.{Form, window_of, Fits, RestoresRead}
-use Rattle.vectors.specs.Poke.{window_at, IsPoked}
+use Rattle.vectors.specs.Poke.{window_at, IsPoked, value_at, flag_at}
 
 -- ---- the bits that a form takes
 
@@ -133,19 +133,24 @@ module _ (form : Form) (o : ℕ) (s : List ℕ) where
       let width = form.width (window_at form s o) in
       subst (λ y. y < 2 ^ width) (sym (e ∙ ap (λ b. number % 2 ^ form.width (window_of form b)) (take_rest s o))) (mod_below number (2 ^ width) (pow_pos width))
 
-  pub touched : (made : List ℕ) (v number : ℕ) (neg : Bool) → RestoresRead form → v < 2 ^ 64
-      → number ≡ cast_unsigned w64 (form.reading (window_of form (take (length s - o) (drop o s))))
-      → neg ≡ form.flag (window_of form (take (length s - o) (drop o s)))
-      → v ≡ number % 2 ^ form.width (window_of form (take (length s - o) (drop o s)))
+  pub value_is : (v number : ℕ) → number ≡ cast_unsigned w64 (form.reading (window_of form (take (length s - o) (drop o s))))
+      → v ≡ number % 2 ^ form.width (window_of form (take (length s - o) (drop o s))) → v ≡ value_at form s o
+  value_is v number read cut =
+      cut ∙ ap (λ y. y % 2 ^ form.width (window_of form (take (length s - o) (drop o s)))) read
+      ∙ ap (λ y. cast_unsigned w64 (form.reading (window_of form y)) % 2 ^ form.width (window_of form y)) (take_rest s o)
+
+  pub flag_is : (neg : Bool) → neg ≡ form.flag (window_of form (take (length s - o) (drop o s))) → neg ≡ flag_at form s o
+  flag_is neg flag = flag ∙ ap (λ y. form.flag (window_of form y)) (take_rest s o)
+
+  pub read_poked : (made : List ℕ) (v : ℕ) (neg : Bool) → v ≡ value_at form s o → neg ≡ flag_at form s o → IsPoked form v neg o s made
+      → IsPoked form (value_at form s o) (flag_at form s o) o s made
+  read_poked made v neg value flag poked =
+      subst (λ n. IsPoked form (value_at form s o) n o s made) flag (subst (λ x. IsPoked form x neg o s made) value poked)
+
+  pub touched : (made : List ℕ) (v : ℕ) (neg : Bool) → RestoresRead form → v < 2 ^ 64 → v ≡ value_at form s o → neg ≡ flag_at form s o
       → IsTrue (form.restores (window_at form s o)) → IsPoked form v neg o s made
       → length made ≡ length s → AreBytes s → AreBytes made → made ≡ s
-  touched made v number neg law wide read flag cut restores poked long b c =
-      let whole = take_rest s o in
+  touched made v neg law wide value flag restores poked long b c =
       let same : window_at form made o ≡ window_at form s o =
-      law v neg (window_at form s o) (window_at form made o) wide poked.written (record {
-        restores = restores;
-        value = cut ∙ ap (λ y. y % 2 ^ form.width (window_of form (take (length s - o) (drop o s)))) read
-            ∙ ap (λ y. cast_unsigned w64 (form.reading (window_of form y)) % 2 ^ form.width (window_of form y)) whole;
-        flag = flag ∙ ap (λ y. form.flag (window_of form y)) whole;
-      }) in
+      law v neg (window_at form s o) (window_at form made o) wide poked.written (record { restores = restores; value = value; flag = flag }) in
       same_section form o s made long b c same poked.front poked.rest

@@ -1,6 +1,6 @@
 -- Instructions at an offset of a section.
-use Rattle.std.specs.Prelude.{◌≡◌, ℕ, ◌+◌, ◌≤◌, Bool, List, length, take, drop}
-use Rattle.std.specs.Int.{byte_len}
+use Rattle.std.specs.Prelude.{◌≡◌, ℕ, ◌+◌, ◌%◌, ◌^◌, ◌≤◌, Bool, List, length, take, drop}
+use Rattle.std.specs.Int.{byte_len, cast_unsigned, w64}
 use Rattle.linker_base.specs.Form.{Form, window_of, Fits, Written, OthersStay}
 
 -- the form's window at an offset
@@ -21,3 +21,10 @@ pub record IsPoked (form : Form) (value : ℕ) (negative : Bool) (offset : ℕ) 
   pub others : OthersStay form (window_at form before offset) (window_at form after offset)
   pub front : take offset after ≡ take offset before
   pub rest : drop (offset + byte_len form.window) after ≡ drop (offset + byte_len form.window) before
+
+-- the value and the flag that reading the window answers, the value cut to the form's width
+abbrev pub value_at : Form → List ℕ → ℕ → ℕ
+value_at form section offset = let x = window_at form section offset in cast_unsigned w64 (form.reading x) % 2 ^ form.width x
+
+abbrev pub flag_at : Form → List ℕ → ℕ → Bool
+flag_at form section offset = form.flag (window_at form section offset)

@@ -1,8 +1,6 @@
 //! Test vectors that cross crates, and `poke`, a user of the interface of instruction forms alone.
 #![tactic(auto)]
 
-pub mod poke;
-
 #[cfg(test)]
 mod aarch64;
 #[cfg(test)]
@@ -11,6 +9,7 @@ mod deltas;
 mod jumps;
 #[cfg(test)]
 mod loongarch64;
+pub mod poke;
 #[cfg(test)]
 mod ppc64;
 #[cfg(test)]

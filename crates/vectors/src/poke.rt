@@ -4,7 +4,7 @@
 ghost use Rattle.std.specs.Prelude.{◌≡◌, ◌≤◌, ◌%◌, ◌^◌, ◌↔◌, IsTrue, false, length};
 ghost use Rattle.std.specs.Int.{byte_len};
 ghost use Rattle.linker_base.specs.Form.{window_of};
-ghost use Rattle.vectors.specs.Poke.{window_at, IsInside, CanPoke, IsPoked};
+ghost use Rattle.vectors.specs.Poke.{window_at, IsInside, CanPoke, IsPoked, value_at, flag_at};
 
 use linker_utils::elf::InstructionForm;
 
@@ -50,10 +50,12 @@ fn cut<F: InstructionForm>(form: F, value: u64, bytes: &[u8]) -> u64
 }
 
 /// Reads the value in the instruction at an offset of a section and writes it back, cut to the bits
-/// that the form takes. Answers whether the form's window lies in the section. Where the form
-/// restores the window, nothing changes.
+/// that the form takes. Answers whether the form's window lies in the section; if not, nothing
+/// changes. Nor does it where the form restores the window: every form does, but for AArch64's
+/// `Movnz` on other opcodes and LoongArch's `Call30` on bits that it clears.
 pub fn touch<F: InstructionForm>(form: F, section: &mut [u8], offset: usize) -> bool
     ensures inside { IsTrue result ↔ IsInside (F.form form) section.old offset }
+    ensures written { IsTrue result → IsPoked (F.form form) (value_at (F.form form) section.old offset) (flag_at (F.form form) section.old offset) offset section.old section.new }
     ensures restored { IsTrue ((F.form form).restores (window_at (F.form form) section.old offset)) → section.new ≡ section.old }
     ensures unchanged { result ≡ false → section.new ≡ section.old }
 {
@@ -97,7 +99,8 @@ mod tests {
         assert_eq!(rt; section, [0; 4]);
     }
 
-    /// -65537 is -1 less 0x10000: `movz x3, #0, lsl #16` becomes `movn x3, #1, lsl #16`.
+    /// Bits 16 to 31 of -65537, the complement of 0x10000: `movz x3, #0, lsl #16` becomes
+    /// `movn x3, #1, lsl #16`.
     #[test]
     fn a_negative_value_turns_the_opcode(rt: HostRuntime) {
         let mut section = 0xd2a0_0003u32.to_le_bytes();
