@@ -8,7 +8,7 @@ use Rattle.std.proofs.lemmas.Nat.{pow_pos, pow_below, mod_below}
 use Rattle.std.proofs.lemmas.Nat.Bits.{same_from_bits}
 use Rattle.std.proofs.Math.Nat.{mod-eq_of_lt}
 use Rattle.linker_base.specs.Bits.{signed}
-use Rattle.linker_base.specs.Form.{values_below, is_clear_at, holds, is_of, has_value, values_apart, Mark, replaced, ored, cleared, Place, IsLaid, is_placed, placed_bit, bit_for, place_sum, IsClear, Written, MachineReads, IsReadBack, field_form, number_of, Sign, unsigned, twos_complement, Claim, exactly, modulo}
+use Rattle.linker_base.specs.Form.{values_below, is_clear_at, holds, is_of, has_value, values_apart, Mark, replaced, ored, cleared, Place, IsLaid, is_placed, placed_bit, bit_for, place_sum, IsClear, Written, MachineReads, IsReadBack, RestoresRead, field_form, number_of, Sign, unsigned, twos_complement, Claim, exactly, modulo}
 use Rattle.linker_base.proofs.Places.{value_bit, adds, value_bit_none, bit_at-place_sum, value_bit_laid}
 use Rattle.linker_base.proofs.Fields.{mod_mod, bit_at_window, bit_at_mod, bit_at_mod_above, signed_rem, signed_bits, aligned_rem}
 
@@ -25,7 +25,7 @@ has_value_above (p ∷ ps) n k h l =
     (and_right (holds p.mark) (eqb p.value k) (ne_eqb p.value k (λ e. absurd (omega arith))))
     (has_value_above ps n k parts.1 l)
 
-has_value_fills : (low high : ℕ) (ps : List Place) (k : ℕ) → high ≤ 64 → fills low high ps ≡ true → has_value ps k ≡ (leb low k && ltb k high)
+pub has_value_fills : (low high : ℕ) (ps : List Place) (k : ℕ) → high ≤ 64 → fills low high ps ≡ true → has_value ps k ≡ (leb low k && ltb k high)
 has_value_fills low high ps k l h =
     let parts = and_parts (values_apart ps && values_below 64 ps) (agree_below (has_value ps) (λ j. leb low j && ltb j high) 64) h in
     let below = (and_parts (values_apart ps) (values_below 64 ps) parts.0).1 in
@@ -217,6 +217,11 @@ module _ (w : Width) (width n low : ℕ) (read : Sign) (flags : Bool) (machine :
       ∙ mod_mod (cast_unsigned w64 (number_of read n sum)) width n sound.within
       ∙ number_bits read n sum (place_sum_below ps n before apart sound.below) short)
       laid
+
+pub field_restores : (w : Width) (width n low : ℕ) (read : Sign) (flags : Bool) (machine : Sign) (claim : Claim) (ps : List Place) → is_sound_field width n low ps ≡ true
+    → RestoresRead (field_form w width n low read flags machine claim ps)
+field_restores w width n low read flags machine claim ps h v neg before after wide laid back =
+    field_restored w width n low read flags machine ps (sound_field width n low ps h) claim v neg before after wide laid back
 
 pub subst_below : (v n m : ℕ) → v < 2 ^ n → n ≤ m → v < 2 ^ m
 subst_below v n m h l =

@@ -5,12 +5,15 @@ pub mod Immediates
 pub mod Laws
 pub mod Listed
 pub mod Merging
+pub mod Moves
 pub mod OutputPlaces
+pub mod Pairs
 pub mod Parts
 pub mod Places
 pub mod Rank
 pub mod Rewrites
 pub mod Rounded
+pub mod Rows
 pub mod Search
 pub mod Sections
 pub mod TextLemmas

@@ -138,7 +138,7 @@ values_disjoint (p ∷ ps) qs k h t =
       | inr later ↦ values_disjoint ps qs k parts.1 later
     ]
 
-sums : (ps qs : List Place) (x : ℕ) → place_sum (ps ++ qs) x ≡ place_sum ps x + place_sum qs x
+pub sums : (ps qs : List Place) (x : ℕ) → place_sum (ps ++ qs) x ≡ place_sum ps x + place_sum qs x
 unfolding place_sum
 sums ps qs x = sum_by-append (λ (p : Place). worth p.mark p.value (bit_at x p.word)) ps qs
 

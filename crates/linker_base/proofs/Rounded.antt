@@ -9,7 +9,7 @@ use Rattle.std.proofs.lemmas.Nat.{pow_pos, pow-add, mod_low, mod_below}
 use Rattle.std.proofs.lemmas.Nat.Bits.{same_from_bits}
 use Rattle.std.proofs.Math.Nat.{mod-eq_of_lt}
 use Rattle.linker_base.specs.Bits.{signed}
-use Rattle.linker_base.specs.Form.{values_below, values_apart, Place, IsLaid, placed_bit, bit_for, place_sum, IsClear, Written, MachineReads, IsReadBack}
+use Rattle.linker_base.specs.Form.{values_below, values_apart, Place, IsLaid, placed_bit, bit_for, place_sum, IsClear, Written, MachineReads, IsReadBack, RestoresRead}
 use Rattle.linker_base.specs.Rounded.{rounded_immediate}
 use Rattle.linker_base.proofs.Places.{value_bit, adds, bit_at-place_sum}
 use Rattle.linker_base.proofs.Fields.{bit_at_window, bit_at_mod, signed_rem, aligned_rem}
@@ -159,3 +159,8 @@ module _ (w : Width) (n low r : ℕ) (flags : Bool) (ps : List Place) (sound : I
       (ap (λ y. (y + r) % 2 ^ 64 % 2 ^ n) back.value
       ∙ signed_less n sum r (2 ^ (64 - n) - 1) (place_sum_below ps n before apart sound.below) (whole_parts n sound.short) room)
       laid
+
+pub rounded_restores : (w : Width) (n low r : ℕ) (flags : Bool) (ps : List Place) → is_sound_part low n r ps ≡ true → leb (2 ^ n + r) (2 ^ 64) ≡ true
+    → RestoresRead (rounded_immediate w n low r flags ps)
+rounded_restores w n low r flags ps h room v neg before after wide laid back =
+    rounded_restored w n low r flags ps (sound_part low n r ps h) (leb-true (2 ^ n + r) (2 ^ 64) room) v neg before after laid back

@@ -130,6 +130,8 @@ pub record Form : Type 0 where
   pub number : Bool → ℕ → ℕ
   -- the window on which they are placed, by the flag and the window before
   pub base : Bool → ℕ → ℕ
+  -- the window's bits that the base sets: an opcode, by the flag
+  pub opcode : ℕ → Bool
   -- the number and the flag that reading a window answers
   pub reading : ℕ → ℤ
   pub flag : ℕ → Bool
@@ -165,6 +167,24 @@ pub record IsReadBack (form : Form) (v : ℕ) (neg : Bool) (before : ℕ) : Type
   pub value : v ≡ cast_unsigned w64 (form.reading before) % 2 ^ form.width before
   pub flag : neg ≡ form.flag before
 
+-- ---- laws of forms
+
+-- Each bit that is neither at a place nor in the opcode that the form sets is the old one.
+abbrev pub OthersStay : Form → ℕ → ℕ → Type 0
+OthersStay form before after =
+    (w : ℕ) → is_placed (form.places before) w ≡ false → form.opcode w ≡ false → bit_at after w ≡ bit_at before w
+
+-- A write keeps the other bits.
+abbrev pub KeepsOthers : Form → Type 0
+KeepsOthers form = (v : ℕ) (neg : Bool) (before after : ℕ) → Written form v neg before after → OthersStay form before after
+
+-- Writing back what was read changes nothing.
+abbrev pub RestoresRead : Form → Type 0
+RestoresRead form =
+    (v : ℕ) (neg : Bool) (before after : ℕ) → v < 2 ^ 64 → Written form v neg before after → IsReadBack form v neg before → after ≡ before
+
+-- ---- forms of one field
+
 -- How a field of bits is read: as it stands, or in two's complement.
 pub data Sign : Type 0 where
   unsigned : Sign
@@ -185,6 +205,7 @@ field_form w width n low read flags machine claim ps =
       places = λ _. ps;
       number = λ _ v. v;
       base = λ _ x. x;
+      opcode = λ _. false;
       reading = λ x. number_of read n (place_sum ps x);
       flag = λ x. flags && int_lt (number_of read n (place_sum ps x)) (pos 0);
       restores = λ _. true;

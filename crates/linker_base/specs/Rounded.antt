@@ -1,5 +1,5 @@
 -- Forms that hold a rounded value: the bits of the value plus a constant stand at the places.
-use Rattle.std.specs.Prelude.{ℕ, ◌+◌, ◌-◌, ◌%◌, ◌^◌, Bool, true, ◌&&◌, List, pos, ◌-ℤ◌, int_lt}
+use Rattle.std.specs.Prelude.{ℕ, ◌+◌, ◌-◌, ◌%◌, ◌^◌, Bool, true, false, ◌&&◌, List, pos, ◌-ℤ◌, int_lt}
 use Rattle.std.specs.Int.{Width}
 use Rattle.linker_base.specs.Bits.{signed}
 use Rattle.linker_base.specs.Form.{Place, Form, place_sum, modulo}
@@ -14,6 +14,7 @@ rounded_immediate w n low r flags ps =
       places = λ _. ps;
       number = λ _ v. v;
       base = λ _ x. x;
+      opcode = λ _. false;
       reading = λ x. signed n (place_sum ps x) -ℤ pos r;
       flag = λ x. flags && int_lt (signed n (place_sum ps x)) (pos 0);
       restores = λ _. true;

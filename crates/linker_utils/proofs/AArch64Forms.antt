@@ -15,6 +15,7 @@ use Rattle.linker_utils.specs.declared.elf.engine.Run.{Run}
 use Rattle.linker_utils.specs.declared.elf.engine.Mark.TheVariants.{Replaced}
 use Rattle.linker_utils.specs.Runs.{words_below, spread, runs_read}
 use Rattle.linker_utils.proofs.Runs.{not_placed_above}
+use Rattle.linker_utils.specs.FormLaws.{scale_small, low12_sound}
 use Rattle.linker_utils.specs.AArch64.{aarch64_form, movnz, macho_low12, imm16_places, moved_bits, moved_value, opcode_of, shift_of, movn_opcode, movz_opcode, access_scale, low12_places, has_scaled_offset, is_of_16_bytes}
 use Rattle.linker_utils.specs.declared.elf.AArch64Instruction.{AArch64Instruction}
 use Rattle.linker_utils.specs.declared.elf.AArch64Instruction.TheVariants.{Adr, Movkz, Movnz, Ldr, LdrRegister, Add, LdSt, TstBr, Bcond, JumpCall, MachOLow12}
@@ -83,55 +84,7 @@ movnz_machine false v before after laid = λ clear.
     ∙ ap (λ s. moved_value false s (shift_of after)) (moved_sum false v (movz_opcode * 2 ^ 23 + before % 2 ^ 23) after laid)
     ∙ ap (λ h. moved_value false (moved_bits false v) (16 * h)) shift
 
-bits_read_back : (neg flag : Bool) (v s : ℕ) → s < 2 ^ 16 → v ≡ cast_unsigned w64 (moved_value flag s 0) % 2 ^ 64 → neg ≡ flag → moved_bits neg v ≡ s
-bits_read_back true true v s h e f = omega arith
-bits_read_back false false v s h e f = omega arith
-bits_read_back true false v s h e f = cc
-bits_read_back false true v s h e f = cc
-
-movn_same : (neg : Bool) (x : ℕ) → neg ≡ true → opcode_of x ≡ movn_opcode → movnz.base neg x ≡ x
-movn_same true x e o = omega arith
-movn_same false x e o = cc
-
-movz_same : (neg : Bool) (x : ℕ) → neg ≡ false → opcode_of x ≡ movz_opcode → movnz.base neg x ≡ x
-movz_same true x e o = cc
-movz_same false x e o = omega arith
-
-base_same : (neg : Bool) (x : ℕ) → IsTrue (movnz.restores x) → neg ≡ movnz.flag x → movnz.base neg x ≡ x
-base_same neg x h f =
-    elim (or_cases (eqb (opcode_of x) movn_opcode) (eqb (opcode_of x) movz_opcode) h) [
-      | inl e ↦
-          let o : opcode_of x ≡ movn_opcode = eqb-true (opcode_of x) movn_opcode e in
-          let bit : bit_at x 30 ≡ 0 = omega arith in
-          movn_same neg x (f ∙ ap (λ b. eqb b 0) bit) o
-      | inr e ↦
-          let o : opcode_of x ≡ movz_opcode = eqb-true (opcode_of x) movz_opcode e in
-          let bit : bit_at x 30 ≡ 1 = omega arith in
-          movz_same neg x (f ∙ ap (λ b. eqb b 0) bit) o
-    ]
-
-movnz_restored : (neg : Bool) (v before after : ℕ) → Written movnz v neg before after → IsReadBack movnz v neg before → after ≡ before
-movnz_restored neg v before after laid back =
-    let small = place_sum_below imm16_places 16 before refl refl in
-    let bits = bits_read_back neg (movnz.flag before) v (place_sum imm16_places before) small back.value back.flag in
-    let same = base_same neg before back.restores back.flag in
-    let over : IsLaid imm16_places (moved_bits neg v) before after = subst (λ b. IsLaid imm16_places (moved_bits neg v) b after) same laid in
-    restored 16 0 imm16_places (moved_bits neg v) before after refl refl refl refl
-    (ap (λ m. (m + 0) % 2 ^ 64 % 2 ^ 16) bits ∙ omega arith) over
-
 -- ---- MachOLow12
-
-scale_from : (a b : Bool) (s : ℕ) → s < 4 → cond a (cond b 4 s) 0 < 5
-scale_from true true s h = omega arith
-scale_from true false s h = omega arith
-scale_from false b s h = omega arith
-
-pub scale_small : (x : ℕ) → access_scale x < 5
-scale_small x = scale_from (has_scaled_offset x) (is_of_16_bytes x) (field x 30 32) (omega arith)
-
-pub low12_sound : (s : ℕ) → s < 5 → IsSoundField (12 + s) (12 + s) s (low12_places s)
-low12_sound s h =
-    sound_field (12 + s) (12 + s) s (low12_places s) (agree_below_at (λ k. is_sound_field (12 + k) (12 + k) k (low12_places k)) (λ _. true) 5 s refl h)
 
 low12_inside : (s : ℕ) → s < 5 → words_below 22 (low12_places s) ≡ true
 low12_inside s h = agree_below_at (λ k. words_below 22 (low12_places k)) (λ _. true) 5 s refl h
@@ -162,12 +115,6 @@ macho_machine neg v before after h l laid = λ clear.
     ap (λ k. pos (place_sum (low12_places k) after)) same
     ∙ ap pos (scaled_sum (12 + s) s (low12_places s) (low12_sound s small) v before after h l laid clear)
 
-macho_restored : (neg : Bool) (v before after : ℕ) → v < 2 ^ 64 → Written macho_low12 v neg before after → IsReadBack macho_low12 v neg before → after ≡ before
-macho_restored neg v before after h laid back =
-    let s = access_scale before in
-    field_restored w32 (12 + s) (12 + s) s unsigned false unsigned (low12_places s) (low12_sound s (scale_small before)) exactly v neg before after h laid
-    (record { restores = refl; value = back.value; flag = back.flag })
-
 -- ---- all forms
 
 pub aarch64_machine : (f : AArch64Instruction) (v : ℕ) (neg : Bool) (before after : ℕ) → v < 2 ^ 64 → Fits (aarch64_form f) v before
@@ -183,20 +130,6 @@ aarch64_machine TstBr v neg before after h fit laid = field_machine w32 14 14 0 
 aarch64_machine Bcond v neg before after h fit laid = field_machine w32 19 19 0 twos_complement false twos_complement (or_bits_to 0 18 5) imm19_sound v neg before after h laid
 aarch64_machine JumpCall v neg before after h fit laid = field_machine w32 26 26 0 twos_complement false twos_complement (or_bits_to 0 25 0) imm26_sound v neg before after h laid
 aarch64_machine MachOLow12 v neg before after h fit laid = macho_machine neg v before after fit h laid
-
-pub aarch64_restored : (f : AArch64Instruction) (v : ℕ) (neg : Bool) (before after : ℕ) → v < 2 ^ 64
-    → Written (aarch64_form f) v neg before after → IsReadBack (aarch64_form f) v neg before → after ≡ before
-aarch64_restored Adr v neg before after h laid back = field_restored w32 21 21 0 twos_complement false twos_complement adr adr_sound (modulo 21) v neg before after h laid back
-aarch64_restored Movkz v neg before after h laid back = field_restored w32 16 16 0 twos_complement false unsigned (or_bits_to 0 15 5) imm16_sound exactly v neg before after h laid back
-aarch64_restored Movnz v neg before after h laid back = movnz_restored neg v before after laid back
-aarch64_restored Ldr v neg before after h laid back = field_restored w32 19 19 0 twos_complement false twos_complement (or_bits_to 0 18 5) imm19_sound (modulo 19) v neg before after h laid back
-aarch64_restored LdrRegister v neg before after h laid back = field_restored w32 12 12 0 unsigned false unsigned (or_bits_to 0 11 10) imm12_sound exactly v neg before after h laid back
-aarch64_restored Add v neg before after h laid back = field_restored w32 12 12 0 unsigned false unsigned (or_bits_to 0 11 10) imm12_sound exactly v neg before after h laid back
-aarch64_restored LdSt v neg before after h laid back = field_restored w32 12 12 0 twos_complement false unsigned (or_bits_to 0 11 10) imm12_sound exactly v neg before after h laid back
-aarch64_restored TstBr v neg before after h laid back = field_restored w32 14 14 0 twos_complement false twos_complement (or_bits_to 0 13 5) imm14_sound (modulo 14) v neg before after h laid back
-aarch64_restored Bcond v neg before after h laid back = field_restored w32 19 19 0 twos_complement false twos_complement (or_bits_to 0 18 5) imm19_sound (modulo 19) v neg before after h laid back
-aarch64_restored JumpCall v neg before after h laid back = field_restored w32 26 26 0 twos_complement false twos_complement (or_bits_to 0 25 0) imm26_sound (modulo 26) v neg before after h laid back
-aarch64_restored MachOLow12 v neg before after h laid back = macho_restored neg v before after h laid back
 
 pub aarch64_window : (f : AArch64Instruction) (bytes : List ℕ) → window_of (aarch64_form f) bytes ≡ from_le_bytes w32 bytes
 aarch64_window Adr bytes = refl

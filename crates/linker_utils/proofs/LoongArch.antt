@@ -15,8 +15,9 @@ use Rattle.linker_base.proofs.Fields.{bit_at_run}
 use Rattle.linker_base.proofs.Immediates.{IsSoundField, sound_field, field_machine, field_restored, fills, none_ored, place_sum_below, place_sum_laid, always_clear}
 use Rattle.linker_base.proofs.Places.{adds, place_sum-append}
 use Rattle.linker_base.proofs.Parts.{ArePlaced, all_replaced, part_laid, same_places, unchanged, ored_kept, cleared_kept}
-use Rattle.linker_utils.proofs.Runs.{row_all, row_sum, row_sum_cleared}
-use Rattle.linker_utils.proofs.LoongArchNumbers.{pair_number, pair_read, near_pair, far_pair}
+use Rattle.linker_base.proofs.Rows.{row_sum, row_sum_cleared}
+use Rattle.linker_utils.specs.FormLaws.{loongarch_restored}
+use Rattle.linker_utils.proofs.LoongArchNumbers.{pair_number, near_pair, far_pair}
 use Rattle.linker_utils.specs.LoongArch.{loongarch_form, shift10_low, call36_high, call36_low, pcaddu18i, jirl, reach, ReadsLow, Reaches, GoesBy, IsCallBy}
 use Rattle.linker_utils.specs.declared.elf.LoongArch64Instruction.{LoongArch64Instruction}
 use Rattle.linker_utils.specs.declared.elf.LoongArch64Instruction.TheVariants.{Shift5, Shift10, Branch26, Branch21, Call30, Call36}
@@ -84,19 +85,6 @@ shift10_low_field x = row_sum replaced 12 0 10 0 x refl ∙ omega arith
 pub shift10_field : (v before after : ℕ) → v < 2 ^ 12 → IsLaid shift10_places v before after → field after 10 22 ≡ v
 shift10_field v before after h laid = sym (shift10_low_field after) ∙ shift10_low_sum v before after (omega arith) laid ∙ omega arith
 
-shift10_low_below : (x : ℕ) → place_sum shift10_low x < 2 ^ 12
-shift10_low_below x = place_sum_below shift10_low 12 x refl refl
-
-pub shift10_restored : (v before after : ℕ) → v ≡ place_sum shift10_low before % 2 ^ 16 → IsLaid shift10_places v before after → after ≡ before
-shift10_restored v before after e laid =
-    let low = shift10_low_below before in
-    let same : v ≡ place_sum shift10_low before = omega arith in
-    unchanged shift10_places v before after laid
-    (All-append (λ (p : Place). bit_at after p.word ≡ bit_at before p.word) shift10_low (or_bits_to 12 15 22)
-    (same_places shift10_low after before refl refl (shift10_low_sum v before after (omega arith) laid ∙ omega arith))
-    (ored_kept 12 (or_bits_to 12 15 22) v before after (omega arith) (omega arith) refl
-    (All-drop (λ (p : Place). bit_at after p.word ≡ placed_bit p.mark (bit_for p v) (bit_at before p.word)) 12 shift10_places laid.placed)))
-
 -- ---- the pair of a call with 20 bits
 
 call30_sum : (v before after : ℕ) → v < 2 ^ 64 → IsLaid call30_places v before after → place_sum call30_held after ≡ v % 2 ^ 20
@@ -105,25 +93,11 @@ call30_sum v before after h laid =
     (All-take (λ (p : Place). bit_at after p.word ≡ placed_bit p.mark (bit_for p v) (bit_at before p.word)) 20 call30_places laid.placed)
     ∙ omega arith
 
-call30_clear : (x : ℕ) → field x 5 14 ≡ 0 → All (λ (p : Place). bit_at x p.word ≡ 0) (cleared_bits 5 13)
-call30_clear x e =
-    row_all (λ (p : Place). bit_at x p.word ≡ 0) 9 0 5 0 cleared (λ j l. sym (bit_at_run x 5 9 j l) ∙ ap (λ y. bit_at y j) e ∙ bit_at-zero j)
-
 pub call30_reads : (x : ℕ) → place_sum call30_places x ≡ place_sum call30_held x
 call30_reads x =
     place_sum-append call30_held (cleared_bits 5 13) x refl
     ∙ ap (bit_or (place_sum call30_held x)) (row_sum_cleared 9 0 5 0 x)
     ∙ or_zero_r (place_sum call30_held x)
-
-pub call30_restored : (v before after : ℕ) → field before 5 14 ≡ 0 → v ≡ place_sum call30_places before % 2 ^ 20 → IsLaid call30_places v before after → after ≡ before
-call30_restored v before after clear e laid =
-    let low : place_sum call30_held before < 2 ^ 20 = place_sum_below call30_held 20 before refl refl in
-    let same : v ≡ place_sum call30_held before % 2 ^ 20 = e ∙ ap (λ y. y % 2 ^ 20) (call30_reads before) in
-    unchanged call30_places v before after laid
-    (All-append (λ (p : Place). bit_at after p.word ≡ bit_at before p.word) call30_held (cleared_bits 5 13)
-    (same_places call30_held after before refl refl (call30_sum v before after (omega arith) laid ∙ omega arith))
-    (cleared_kept (cleared_bits 5 13) v before after refl (call30_clear before clear)
-    (All-drop (λ (p : Place). bit_at after p.word ≡ placed_bit p.mark (bit_for p v) (bit_at before p.word)) 20 call30_places laid.placed)))
 
 -- ---- `pcaddu18i` and `jirl`
 
@@ -160,21 +134,6 @@ call36_reaches v before after h laid =
       far = λ d is a b. far_pair v (field after 5 25) (field after 42 58) d high low is a b;
     }
 
-call36_restored : (v before after : ℕ) → v < 2 ^ 64
-    → v ≡ cast_unsigned w64 (int_rem_euclid (pos (place_sum call36_high before) +ℤ signed 16 (place_sum call36_low before)) (pos (2 ^ 36))) % 2 ^ 36
-    → IsLaid call36_places v before after → after ≡ before
-call36_restored v before after h e laid =
-    let high = call36_high_field before in
-    let low = call36_low_field before in
-    let read : v ≡ cast_unsigned w64 (int_rem_euclid (pos (field before 5 25 * 2 ^ 16) +ℤ signed 16 (field before 42 58)) (pos (2 ^ 36))) % 2 ^ 36 =
-    e ∙ ap (λ y. cast_unsigned w64 (int_rem_euclid (pos y +ℤ signed 16 (place_sum call36_low before)) (pos (2 ^ 36))) % 2 ^ 36) high
-    ∙ ap (λ y. cast_unsigned w64 (int_rem_euclid (pos (field before 5 25 * 2 ^ 16) +ℤ signed 16 y) (pos (2 ^ 36))) % 2 ^ 36) low in
-    let parts = pair_read v (field before 5 25) (field before 42 58) (mod_below (before / 2 ^ 5) (2 ^ 20) (omega arith)) (mod_below (before / 2 ^ 42) (2 ^ 16) (omega arith)) read in
-    unchanged call36_places v before after laid
-    (All-append (λ (p : Place). bit_at after p.word ≡ bit_at before p.word) call36_high call36_low
-    (same_places call36_high after before refl refl (call36_high_sum v before after laid ∙ ap (λ y. y * 2 ^ 16) parts.0 ∙ sym high))
-    (same_places call36_low after before refl refl (call36_low_sum v before after h laid ∙ parts.1 ∙ sym low)))
-
 -- ---- all forms
 
 pub loongarch_machine : (f : LoongArch64Instruction) (v : ℕ) (neg : Bool) (before after : ℕ) → v < 2 ^ 64
@@ -185,15 +144,6 @@ loongarch_machine Branch26 v neg before after h laid = field_machine w32 26 26 0
 loongarch_machine Branch21 v neg before after h laid = field_machine w32 21 21 0 twos_complement true twos_complement branch21_places branch21_sound v neg before after h laid
 loongarch_machine Call30 v neg before after h laid = λ clear. tt
 loongarch_machine Call36 v neg before after h laid = λ clear. call36_machine v before after h laid
-
-pub loongarch_restored : (f : LoongArch64Instruction) (v : ℕ) (neg : Bool) (before after : ℕ) → v < 2 ^ 64
-    → Written (loongarch_form f) v neg before after → IsReadBack (loongarch_form f) v neg before → after ≡ before
-loongarch_restored Shift5 v neg before after h laid back = field_restored w32 20 20 0 unsigned false twos_complement shift5_places shift5_sound (modulo 20) v neg before after h laid back
-loongarch_restored Shift10 v neg before after h laid back = shift10_restored v before after back.value laid
-loongarch_restored Branch26 v neg before after h laid back = field_restored w32 26 26 0 twos_complement true twos_complement branch26_places branch26_sound (modulo 26) v neg before after h laid back
-loongarch_restored Branch21 v neg before after h laid back = field_restored w32 21 21 0 twos_complement true twos_complement branch21_places branch21_sound (modulo 21) v neg before after h laid back
-loongarch_restored Call30 v neg before after h laid back = call30_restored v before after (eqb-true (field before 5 14) 0 back.restores) back.value laid
-loongarch_restored Call36 v neg before after h laid back = call36_restored v before after h back.value laid
 
 pub loongarch_low : (f : LoongArch64Instruction) (v : ℕ) (neg : Bool) (before after : ℕ) → v < 2 ^ 64
     → Written (loongarch_form f) v neg before after → ReadsLow f v after

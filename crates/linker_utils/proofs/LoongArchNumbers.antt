@@ -32,25 +32,6 @@ pair_number v h l b e f =
     (λ s t. int_rem_euclid_is (((pos h -ℤ pos (2 ^ 20)) *ℤ pos (2 ^ 16)) +ℤ pos l) (pos (2 ^ 36)) (2 ^ 36) 1 (h * 2 ^ 16 + l) (omega arith) refl (omega (arith, ints)) ∙ ap pos (omega arith))
     (λ s t. int_rem_euclid_is (((pos h -ℤ pos (2 ^ 20)) *ℤ pos (2 ^ 16)) +ℤ (pos l -ℤ pos (2 ^ 16))) (pos (2 ^ 36)) (2 ^ 36) 1 (h * 2 ^ 16 + l - 2 ^ 16) (omega arith) refl (omega (arith, ints)) ∙ ap pos (omega arith))
 
-read_low : (v h l : ℕ) → h < 2 ^ 20 → l < 2 ^ 15 → v ≡ (h * 2 ^ 16 + l) % 2 ^ 36 → ((v + 0x8000) % 2 ^ 64 / 2 ^ 16 % 2 ^ 20 ≡ h) × (v % 2 ^ 16 ≡ l)
-read_low v h l a b e = (omega arith, omega arith)
-
-read_high : (v h l : ℕ) → h < 2 ^ 20 → l < 2 ^ 16 → 2 ^ 15 ≤ l → v ≡ (h * 2 ^ 16 + l + (2 ^ 36 - 2 ^ 16)) % 2 ^ 36 → ((v + 0x8000) % 2 ^ 64 / 2 ^ 16 % 2 ^ 20 ≡ h) × (v % 2 ^ 16 ≡ l)
-read_high v h l a b c e = (omega arith, omega arith)
-
--- what stands in the pair's fields, from the number that is read there
-pub pair_read : (v h l : ℕ) → h < 2 ^ 20 → l < 2 ^ 16
-    → v ≡ cast_unsigned w64 (int_rem_euclid (pos (h * 2 ^ 16) +ℤ signed 16 l) (pos (2 ^ 36))) % 2 ^ 36
-    → ((v + 0x8000) % 2 ^ 64 / 2 ^ 16 % 2 ^ 20 ≡ h) × (v % 2 ^ 16 ≡ l)
-pair_read v h l a b =
-    cond_both (ltb l (2 ^ 15)) (pos l) (pos l -ℤ pos (2 ^ 16))
-    (λ z. v ≡ cast_unsigned w64 (int_rem_euclid (pos (h * 2 ^ 16) +ℤ z) (pos (2 ^ 36))) % 2 ^ 36 → ((v + 0x8000) % 2 ^ 64 / 2 ^ 16 % 2 ^ 20 ≡ h) × (v % 2 ^ 16 ≡ l))
-    (λ t. λ e. read_low v h l a (ltb-true l (2 ^ 15) t) (e ∙ omega arith))
-    (λ t. λ e. read_high v h l a b (ltb-false l (2 ^ 15) t)
-    (e ∙ ap (λ z. cast_unsigned w64 z % 2 ^ 36)
-    (int_rem_euclid_is (pos (h * 2 ^ 16) +ℤ (pos l -ℤ pos (2 ^ 16))) (pos (2 ^ 36)) (2 ^ 36) 1 (h * 2 ^ 16 + l + (2 ^ 36 - 2 ^ 16)) (omega arith) refl (omega (arith, ints)))
-    ∙ omega arith))
-
 -- the distance is not negative, or it is
 near_forward : (v h l a : ℕ) → h ≡ (v + 0x8000) % 2 ^ 64 / 2 ^ 16 % 2 ^ 20 → l ≡ v % 2 ^ 16 → a % 4 ≡ 0 → v ≡ a / 4 % 2 ^ 36 → a < 2 ^ 37 - 2 ^ 17
     → (signed 20 h *ℤ pos (2 ^ 18)) +ℤ (signed 16 l *ℤ pos 4) ≡ pos a

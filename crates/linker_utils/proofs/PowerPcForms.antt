@@ -23,13 +23,6 @@ ppc64_machine Ds v neg before after h laid = field_machine w32 64 16 2 unsigned 
 ppc64_machine Branch14 v neg before after h laid = field_machine w32 64 16 2 unsigned false twos_complement (bits_to 2 15 2) ds_sound v neg before after h laid
 ppc64_machine Branch24 v neg before after h laid = field_machine w32 64 26 2 unsigned false twos_complement (bits_to 2 25 2) i_sound v neg before after h laid
 
-pub ppc64_restored : (f : Ppc64Instruction) (v : ℕ) (neg : Bool) (before after : ℕ) → v < 2 ^ 64
-    → Written (ppc64_form f) v neg before after → IsReadBack (ppc64_form f) v neg before → after ≡ before
-ppc64_restored D v neg before after h laid back = field_restored w32 64 16 0 unsigned false twos_complement (bits_to 0 15 0) d_sound (modulo 16) v neg before after h laid back
-ppc64_restored Ds v neg before after h laid back = field_restored w32 64 16 2 unsigned false twos_complement (bits_to 2 15 2) ds_sound (modulo 16) v neg before after h laid back
-ppc64_restored Branch14 v neg before after h laid back = field_restored w32 64 16 2 unsigned false twos_complement (bits_to 2 15 2) ds_sound (modulo 16) v neg before after h laid back
-ppc64_restored Branch24 v neg before after h laid back = field_restored w32 64 26 2 unsigned false twos_complement (bits_to 2 25 2) i_sound (modulo 26) v neg before after h laid back
-
 pub ppc64_window : (f : Ppc64Instruction) (bytes : List ℕ) → window_of (ppc64_form f) bytes ≡ from_le_bytes w32 bytes
 ppc64_window D bytes = refl
 ppc64_window Ds bytes = refl

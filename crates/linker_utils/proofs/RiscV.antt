@@ -1,4 +1,4 @@
--- The RISC-V forms keep the laws of forms, and pairs make their value.
+-- What the machine reads of the RISC-V forms, and pairs make their value.
 use Rattle.std.proofs.Common.{◌≡◌, ℕ, suc, ◌+◌, ◌-◌, ◌*◌, ◌/◌, ◌%◌, ◌^◌, ◌<◌, ◌≤◌, Bool, true, false, refl, ap, sym, subst, ◌∙◌, arith, IsTrue, List, [], ◌∷◌, ◌++◌, ◌⊎◌, inl, inr, ltb, ℤ, pos, negsuc, ◌+ℤ◌, ◌-ℤ◌, ◌≤ℤ◌, ◌<ℤ◌, int_lt, drop}
 use Rattle.std.specs.Int.{w16, w32, w64, cast_unsigned, from_le_bytes, bit_at, int_rem_euclid, byte_len}
 use Rattle.std.specs.List.{All}
@@ -8,11 +8,11 @@ use Rattle.std.proofs.lemmas.List.Elements.{All-nil, All-cons, All-head, All-tai
 use Rattle.linker_base.specs.Bits.{signed}
 use Rattle.linker_base.specs.Form.{window_of, Place, Form, IsLaid, bits_to, sum_bits_to, row, replaced, placed_bit, bit_for, Written, MachineReads, IsReadBack, place_sum, twos_complement, modulo}
 use Rattle.linker_base.proofs.Immediates.{IsSoundField, sound_field, field_machine, field_restored, laid_field, place_sum_placed, place_sum_below, always_clear, same_window}
+use Rattle.linker_base.proofs.Pairs.{signed_cases, added, all_left, all_right}
 use Rattle.linker_base.proofs.Rounded.{IsSoundPart, sound_part, rounded_laid, rounded_machine, rounded_restored, part_kept}
 use Rattle.linker_utils.specs.RiscV.{riscv_form, riscv_places, ui_sum, IsPairRange, IsPairOf, Completes, PairReads}
 use Rattle.linker_utils.specs.declared.elf.RiscVInstruction.{RiscVInstruction}
 use Rattle.linker_utils.specs.declared.elf.RiscVInstruction.TheVariants.{UType, IType, SType, BType, JType, CbType, CjType, CluiType, UiType}
-use Rattle.linker_utils.proofs.Runs.{row_sum}
 
 abbrev pub jtype_places : List Place
 jtype_places = riscv_places JType
@@ -47,24 +47,7 @@ ui_low = bits_to 0 11 52
 ui_low_sound : IsSoundPart 0 12 0 ui_low
 ui_low_sound = sound_part 0 12 0 ui_low refl
 
--- ---- numbers in two's complement
-
-pub signed_cases : (n f : ℕ) → ((f < 2 ^ (n - 1)) × (signed n f ≡ pos f)) ⊎ ((2 ^ (n - 1) ≤ f) × (signed n f ≡ pos f -ℤ pos (2 ^ n)))
-signed_cases n f =
-    elim (cases_lt f (2 ^ (n - 1))) [
-      | inl below ↦ inl (below, cond-true (ltb f (2 ^ (n - 1))) (pos f) (pos f -ℤ pos (2 ^ n)) (lt-ltb f (2 ^ (n - 1)) below))
-      | inr above ↦ inr (above, cond-false (ltb f (2 ^ (n - 1))) (pos f) (pos f -ℤ pos (2 ^ n)) (le-ltb f (2 ^ (n - 1)) above))
-    ]
-
--- a number's bits, from the number plus 2 ^ 64
-cast_rem : (z : ℤ) (m : ℕ) → z +ℤ pos (2 ^ 64) ≡ pos m → cast_unsigned w64 z % 2 ^ 64 ≡ m % 2 ^ 64
-cast_rem (pos a) m e = let same : m ≡ a + 2 ^ 64 = omega (arith, ints) in omega arith
-cast_rem (negsuc a) m e = let same : m + a + 1 ≡ 2 ^ 64 = omega (arith, ints) in omega arith
-
 -- ---- pairs
-
-added : (x y a b : ℤ) → x ≡ a → y ≡ b → x +ℤ y ≡ a +ℤ b
-added x y a b e f = cc
 
 pair_rem : (v m : ℕ) (z a b x y : ℤ) → x ≡ a → y ≡ b → a +ℤ b +ℤ pos (2 * 2 ^ 32) ≡ pos m → m % 2 ^ 32 ≡ v % 2 ^ 32 → int_rem_euclid (x +ℤ y) (pos (2 ^ 32)) ≡ pos (v % 2 ^ 32)
 pair_rem v m z a b x y e f whole same =
@@ -114,14 +97,6 @@ module _ (v h l : ℕ) (wide : v < 2 ^ 64) (high : h ≡ (v + 0x800) % 2 ^ 64 / 
 
 -- ---- both words of `UiType`
 
-all_left : {X : Type 0} (P : X → Type 0) (xs ys : List X) → All P (xs ++ ys) → All P xs
-all_left P [] ys h = All-nil P
-all_left P (x ∷ xs) ys h = All-cons P x xs (All-head P x (xs ++ ys) h) (all_left P xs ys (All-tail P x (xs ++ ys) h))
-
-all_right : {X : Type 0} (P : X → Type 0) (xs ys : List X) → All P (xs ++ ys) → All P ys
-all_right P [] ys h = h
-all_right P (x ∷ xs) ys h = all_right P xs ys (All-tail P x (xs ++ ys) h)
-
 abbrev Placed : ℕ → ℕ → ℕ → Place → Type 0
 Placed v before after p = bit_at after p.word ≡ placed_bit p.mark (bit_for p v) (bit_at before p.word)
 
@@ -139,40 +114,6 @@ module _ (v before after : ℕ) (wide : v < 2 ^ 64) (laid : IsLaid (riscv_places
       let low : place_sum ui_low after ≡ (v + 0) % 2 ^ 64 / 2 ^ 0 % 2 ^ (12 - 0) * 2 ^ 0 =
       place_sum_placed 0 12 0 ui_low v before after (omega arith) ui_low_sound.filled ui_low_sound.added placed_low (always_clear ui_low before refl) in
       pair_of v (place_sum (riscv_places UType) after) (place_sum ui_low after) wide high (low ∙ omega arith)
-
--- the value that reading both words gives has their bits
-ui_bits : (v h l : ℕ) → h < 2 ^ 32 → h % 4096 ≡ 0 → l < 4096 → v ≡ cast_unsigned w64 (signed 32 h +ℤ signed 12 l) % 2 ^ 64
-    → ((v + 0x800) % 2 ^ 64 / 4096 % 1048576 * 4096 ≡ h) × (v % 4096 ≡ l)
-ui_bits v h l hb hm lb e =
-    elim (signed_cases 32 h) [
-      | inl a ↦ elim (signed_cases 12 l) [
-        | inl b ↦ ui_found (pos h) (pos l) (h + l + 18446744073709551616) a.1 b.1 (omega (arith, ints)) (λ w. let k = b.0 in let j = a.0 in (omega arith, omega arith))
-        | inr b ↦ ui_found (pos h) (pos l -ℤ pos 4096) (h + l + 18446744073709547520) a.1 b.1 (omega (arith, ints)) (λ w. let k = b.0 in let j = a.0 in (omega arith, omega arith))
-      ]
-      | inr a ↦ elim (signed_cases 12 l) [
-        | inl b ↦ ui_found (pos h -ℤ pos (2 ^ 32)) (pos l) (h + l + 18446744069414584320) a.1 b.1 (omega (arith, ints)) (λ w. let k = b.0 in let j = a.0 in (omega arith, omega arith))
-        | inr b ↦ ui_found (pos h -ℤ pos (2 ^ 32)) (pos l -ℤ pos 4096) (h + l + 18446744069414580224) a.1 b.1 (omega (arith, ints)) (λ w. let k = b.0 in let j = a.0 in (omega arith, omega arith))
-      ]
-    ]
-  where
-    ui_found : (a b : ℤ) (m : ℕ) → signed 32 h ≡ a → signed 12 l ≡ b → a +ℤ b +ℤ pos (2 ^ 64) ≡ pos m
-        → (v ≡ m % 2 ^ 64 → ((v + 0x800) % 2 ^ 64 / 4096 % 1048576 * 4096 ≡ h) × (v % 4096 ≡ l))
-        → ((v + 0x800) % 2 ^ 64 / 4096 % 1048576 * 4096 ≡ h) × (v % 4096 ≡ l)
-    ui_found a b m x y whole found =
-        found (e ∙ ap (λ z. cast_unsigned w64 z % 2 ^ 64) (added (signed 32 h) (signed 12 l) a b x y) ∙ cast_rem (a +ℤ b) m whole)
-
-ui_restored : (v before after : ℕ) → IsLaid (riscv_places UiType) v before after → v < 2 ^ 64 → v ≡ cast_unsigned w64 (ui_sum before) % 2 ^ 64 → after ≡ before
-ui_restored v before after laid wide e =
-    let h = place_sum (riscv_places UType) before in
-    let l = place_sum ui_low before in
-    let aligned : h ≡ before / 2 ^ 12 % 2 ^ 20 * 2 ^ 12 = row_sum replaced 20 12 12 0x800 before refl in
-    let bits = ui_bits v h l (place_sum_below (riscv_places UType) 32 before refl refl) (ap (λ y. y % 4096) aligned ∙ omega arith) (place_sum_below ui_low 12 before refl refl) e in
-    let low : (v + 0) % 2 ^ 64 / 2 ^ 0 % 2 ^ (12 - 0) * 2 ^ 0 ≡ v % 4096 = omega arith in
-    same_window (riscv_places UiType) before after
-    (All-append (λ (p : Place). bit_at after p.word ≡ bit_at before p.word) (riscv_places UType) ui_low
-    (part_kept 12 32 0x800 (riscv_places UType) v before after u_sound bits.0 (placed_high v before after wide laid))
-    (part_kept 0 12 0 ui_low v before after ui_low_sound (low ∙ bits.1) (placed_low v before after wide laid)))
-    laid.kept
 
 -- ---- the laws
 
@@ -198,18 +139,6 @@ riscv_machine CbType v neg before after h laid = field_machine w16 64 9 1 twos_c
 riscv_machine CjType v neg before after h laid = field_machine w16 64 12 1 twos_complement true twos_complement (riscv_places CjType) cj_sound v neg before after h laid
 riscv_machine CluiType v neg before after h laid = rounded_machine w16 18 12 0x800 true (riscv_places CluiType) clui_sound v neg before after laid
 riscv_machine UiType v neg before after h laid = λ clear. (ui_pair v before after h laid).same
-
-pub riscv_restored : (f : RiscVInstruction) (v : ℕ) (neg : Bool) (before after : ℕ) → v < 2 ^ 64
-    → Written (riscv_form f) v neg before after → IsReadBack (riscv_form f) v neg before → after ≡ before
-riscv_restored UType v neg before after h laid back = rounded_restored w32 32 12 0x800 false (riscv_places UType) u_sound (omega arith) v neg before after laid back
-riscv_restored IType v neg before after h laid back = field_restored w32 64 12 0 twos_complement true twos_complement (riscv_places IType) i_sound (modulo 12) v neg before after h laid back
-riscv_restored SType v neg before after h laid back = field_restored w32 64 12 0 twos_complement true twos_complement (riscv_places SType) s_sound (modulo 12) v neg before after h laid back
-riscv_restored BType v neg before after h laid back = field_restored w32 64 13 1 twos_complement true twos_complement (riscv_places BType) b_sound (modulo 13) v neg before after h laid back
-riscv_restored JType v neg before after h laid back = field_restored w32 64 21 1 twos_complement true twos_complement jtype_places j_sound (modulo 21) v neg before after h laid back
-riscv_restored CbType v neg before after h laid back = field_restored w16 64 9 1 twos_complement true twos_complement (riscv_places CbType) cb_sound (modulo 9) v neg before after h laid back
-riscv_restored CjType v neg before after h laid back = field_restored w16 64 12 1 twos_complement true twos_complement (riscv_places CjType) cj_sound (modulo 12) v neg before after h laid back
-riscv_restored CluiType v neg before after h laid back = rounded_restored w16 18 12 0x800 true (riscv_places CluiType) clui_sound (omega arith) v neg before after laid back
-riscv_restored UiType v neg before after h laid back = ui_restored v before after laid h back.value
 
 -- what stands in the high part of a pair
 pub u_laid : (v before high : ℕ) → IsLaid (riscv_places UType) v before high → place_sum (riscv_places UType) high ≡ (v + 0x800) % 2 ^ 64 / 4096 % 1048576 * 4096

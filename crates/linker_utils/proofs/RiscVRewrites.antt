@@ -13,7 +13,8 @@ use Rattle.linker_base.specs.Form.{place_sum}
 use Rattle.linker_utils.specs.RiscV.{riscv_places, hi20_to_clui, rs1_to_zero, FitsClui, HoldsHigh, IsPairRange, IsCallPair, IsPlainCall, word_at}
 use Rattle.linker_utils.specs.declared.elf.RiscVInstruction.TheVariants.{UType, CluiType}
 use Rattle.linker_utils.proofs.Jumps.{word_of_front}
-use Rattle.linker_utils.proofs.RiscV.{signed_cases, clui_laid, u_laid, pair_of}
+use Rattle.linker_base.proofs.Pairs.{signed_cases}
+use Rattle.linker_utils.proofs.RiscV.{clui_laid, u_laid, pair_of}
 
 -- ---- the bytes
 

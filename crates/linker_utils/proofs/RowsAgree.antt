@@ -43,7 +43,7 @@ use Rattle.linker_utils.specs.declared.riscv64.RiscVRelocation.TheVariants.{R_RI
 use Rattle.linker_utils.proofs.AArch64Forms.{movnz_machine}
 use Rattle.linker_utils.proofs.Agreement.{is_agreeing, field_agrees, sum_agrees, le_yes, quotient_low, quotient_high, rem_below}
 use Rattle.linker_utils.proofs.LoongArch.{shift5_places, shift10_places, branch26_places, branch21_places, shift10_low_sum, shift10_low_field}
-use Rattle.linker_utils.proofs.Runs.{row_sum}
+use Rattle.linker_base.proofs.Rows.{row_sum}
 
 -- ---- MOVN and MOVZ
 

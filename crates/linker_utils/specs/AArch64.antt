@@ -1,6 +1,6 @@
 -- AArch64: its instruction forms (Arm Architecture Reference Manual for A-profile, DDI 0487, C6.2 and C7.2), its rewrites and
 -- the moves that load an address.
-use Rattle.std.specs.Prelude.{ℕ, ◌+◌, ◌-◌, ◌*◌, ◌/◌, ◌%◌, ◌^◌, Bool, true, false, ◌&&◌, ◌||◌, ◌==◌, if◌then◌else◌, List, ◌++◌, drop, Option, None, Some, ℤ, pos, negsuc, bit_and}
+use Rattle.std.specs.Prelude.{ℕ, ◌+◌, ◌-◌, ◌*◌, ◌/◌, ◌%◌, ◌^◌, Bool, true, false, not, ◌&&◌, ◌||◌, ◌==◌, if◌then◌else◌, List, ◌++◌, drop, Option, None, Some, ℤ, pos, negsuc, nat_lt, bit_and}
 use Rattle.std.specs.Int.{w32, w64, bit_at, from_le_bytes, to_le_bytes}
 use Rattle.linker_base.specs.Bits.{field}
 use Rattle.linker_base.specs.Form.{Form, Place, bits_to, or_bits_to, place_sum, field_form, unsigned, twos_complement, exactly, modulo}
@@ -42,7 +42,7 @@ moved_bits negative v = if negative then 65535 - v % 2 ^ 16 else v % 2 ^ 16
 abbrev pub moved_value : Bool → ℕ → ℕ → ℤ
 moved_value negative bits shift = if negative then negsuc (bits * 2 ^ shift) else pos (bits * 2 ^ shift)
 
--- The opcode goes by the flag. The machine complements what MOVN holds.
+-- The opcode, bits 23 and up, goes by the flag. The machine complements what MOVN holds.
 abbrev pub movnz : Form
 movnz =
     record {
@@ -51,6 +51,7 @@ movnz =
       places = λ _. imm16_places;
       number = moved_bits;
       base = λ negative x. (if negative then movn_opcode else movz_opcode) * 2 ^ 23 + x % 2 ^ 23;
+      opcode = λ w. not (nat_lt w 23);
       reading = λ x. moved_value (bit_at x 30 == 0) (place_sum imm16_places x) 0;
       flag = λ x. bit_at x 30 == 0;
       restores = λ x. opcode_of x == movn_opcode || opcode_of x == movz_opcode;
@@ -84,6 +85,7 @@ macho_low12 =
       places = λ x. low12_places (access_scale x);
       number = λ _ v. v;
       base = λ _ x. x;
+      opcode = λ _. false;
       reading = λ x. pos (place_sum (low12_places (access_scale x)) x);
       flag = λ _. false;
       restores = λ _. true;

@@ -2,6 +2,7 @@ pub mod AArch64
 pub mod AArch64Rows
 pub mod Agrees
 pub mod Elf
+pub mod FormLaws
 pub mod LoongArch
 pub mod LoongArchRows
 pub mod PowerPc

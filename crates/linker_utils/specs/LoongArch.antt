@@ -39,6 +39,7 @@ call36_form =
       places = λ _. call36_high ++ call36_low;
       number = λ _ v. v;
       base = λ _ x. x;
+      opcode = λ _. false;
       reading = λ x. int_rem_euclid (pos (place_sum call36_high x) +ℤ signed 16 (place_sum call36_low x)) (pos (2 ^ 36));
       flag = λ _. false;
       restores = λ _. true;

@@ -38,6 +38,7 @@ ui_form =
       places = λ _. riscv_places UiType;
       number = λ _ v. v;
       base = λ _ x. x;
+      opcode = λ _. false;
       reading = ui_sum;
       flag = λ _. false;
       restores = λ _. true;

@@ -6,6 +6,7 @@ ghost use Rattle.std.specs.Prelude.{◌++◌, Some, take, ◌≡◌, ◌≤◌, 
 ghost use Rattle.std.specs.Int.{byte_len, cast_unsigned, w32, w64, from_le_bytes, to_le_bytes};
 ghost use Rattle.linker_base.specs.Form.{window_of, Fits, Written, MachineReads, IsReadBack};
 ghost use Rattle.linker_base.specs.Rewrite.{CanRewrite, rewritten, offset_after, addend_after};
+ghost use Rattle.linker_utils.specs.FormLaws.{aarch64_keeps, aarch64_restored};
 ghost use Rattle.linker_utils.specs.AArch64.{aarch64_form, aarch64_rewrite, aarch64_modifier, access_scale, rd_of, rn_of, mov_word, mov_words, mov4};
 
 use crate::bit_misc::BitExtraction;
@@ -386,6 +387,10 @@ impl AArch64Instruction {
 
 impl InstructionForm for AArch64Instruction {
     ghost form = { aarch64_form };
+
+    ghost keeps = { aarch64_keeps };
+
+    ghost restores = { aarch64_restored };
 
     #[inline]
     fn window(self) -> usize {

@@ -4,8 +4,9 @@ pub(crate) mod engine;
 
 ghost use Rattle.std.specs.Prelude.{◌≡◌, ◌≤◌, ◌<◌, ◌+◌, ◌*◌, ◌-◌, ◌^◌, ◌↔◌, ◌==◌, IsTrue, Some, None, if◌then◌else◌, length, drop, ℕ};
 ghost use Rattle.std.specs.Int.{byte_len, cast_unsigned, w64};
-ghost use Rattle.linker_base.specs.Form.{Form, window_of, Fits, Written, MachineReads, IsReadBack};
+ghost use Rattle.linker_base.specs.Form.{Form, window_of, Fits, Written, MachineReads, IsReadBack, KeepsOthers, RestoresRead};
 ghost use Rattle.linker_utils.specs.Elf.{relocation_form, bit_bounds, IsAllowed};
+ghost use Rattle.linker_utils.specs.FormLaws.{relocation_keeps, relocation_restored};
 
 use crate::bit_misc::BitRange;
 use std::marker::Model;
@@ -341,10 +342,20 @@ pub trait InstructionForm: Copy {
         requires { byte_len (form self).window ≤ length bytes.now }
         ensures number { result.0 ≡ cast_unsigned w64 ((form self).reading (window_of (form self) bytes.now)) }
         ensures flag { result.1 ≡ (form self).flag (window_of (form self) bytes.now) };
+
+    // a write keeps each bit that is neither at a place nor in an opcode that the form sets
+    ghost keeps: { (f : Self) → KeepsOthers (form f) };
+
+    // writing back what was read changes nothing
+    ghost restores: { (f : Self) → RestoresRead (form f) };
 }
 
 impl InstructionForm for RelocationInstruction {
     ghost form = { relocation_form };
+
+    ghost keeps = { relocation_keeps };
+
+    ghost restores = { relocation_restored };
 
     #[inline]
     fn window(self) -> usize {

@@ -5,6 +5,7 @@ ghost use Rattle.std.specs.Prelude.{IfSome, ◌≡◌, ◌≤◌, ◌<◌, ◌+�
 ghost use Rattle.std.specs.Int.{byte_len, cast_unsigned, w64};
 ghost use Rattle.linker_base.specs.Form.{window_of, Fits, Written, MachineReads, IsReadBack};
 ghost use Rattle.linker_base.specs.Rewrite.{CanRewrite, rewritten, offset_after, addend_after};
+ghost use Rattle.linker_utils.specs.FormLaws.{loongarch_keeps, loongarch_restored};
 ghost use Rattle.linker_utils.specs.LoongArch.{loongarch_form, ReadsLow, Reaches, loongarch_rewrite, loongarch_modifier, page, high_distance, MakesAddress, IsSetAt};
 ghost use Rattle.linker_utils.specs.Agrees.{LoongArchRowAgrees};
 ghost use Rattle.linker_utils.specs.LoongArchRows.{loongarch_row};
@@ -228,6 +229,10 @@ fn read_call_36(bytes: &[u8]) -> u64
 
 impl InstructionForm for LoongArch64Instruction {
     ghost form = { loongarch_form };
+
+    ghost keeps = { loongarch_keeps };
+
+    ghost restores = { loongarch_restored };
 
     #[inline]
     fn window(self) -> usize {

@@ -4,6 +4,7 @@ ghost use Rattle.std.specs.Prelude.{IfSome, ◌≡◌, ◌≤◌, ◌↔◌, ◌
 ghost use Rattle.std.specs.Int.{byte_len, cast_unsigned, from_le_bytes, w32, w64};
 ghost use Rattle.linker_base.specs.Form.{window_of, Written, MachineReads, IsReadBack};
 ghost use Rattle.linker_base.specs.Rewrite.{CanRewrite, rewritten, offset_after, addend_after};
+ghost use Rattle.linker_utils.specs.FormLaws.{ppc64_keeps, ppc64_restored};
 ghost use Rattle.linker_utils.specs.PowerPc.{ppc64_form, ppc64_rewrite, ppc64_modifier, PairHolds, KeepsHigh};
 ghost use Rattle.linker_utils.specs.Agrees.{RowAgrees};
 ghost use Rattle.linker_utils.specs.PowerPcRows as rows;
@@ -109,6 +110,10 @@ impl Ppc64Instruction {
 
 impl InstructionForm for Ppc64Instruction {
     ghost form = { ppc64_form };
+
+    ghost keeps = { ppc64_keeps };
+
+    ghost restores = { ppc64_restored };
 
     #[inline]
     fn window(self) -> usize {

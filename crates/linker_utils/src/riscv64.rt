@@ -4,6 +4,7 @@ ghost use Rattle.std.specs.Prelude.{IfSome, ◌≡◌, ◌≤◌, ◌<◌, ◌+�
 ghost use Rattle.std.specs.Int.{byte_len, cast_unsigned, w64, from_le_bytes, w16};
 ghost use Rattle.linker_base.specs.Form.{window_of, Written, MachineReads, IsReadBack, IsLaid};
 ghost use Rattle.linker_base.specs.Rewrite.{CanRewrite, rewritten, offset_after, addend_after};
+ghost use Rattle.linker_utils.specs.FormLaws.{riscv_keeps, riscv_restored};
 ghost use Rattle.linker_utils.specs.RiscV.{riscv_form, riscv_rewrite, riscv_modifier, IsEven, IsJalDistance, JumpsAt, IsInSection, IsSiteKept, output_distance, riscv_places, PairReads, high_20, low_12, IsSigned32, FitsClui, HoldsHigh, IsCallPair, IsPlainCall};
 ghost use Rattle.linker_base.specs.Deletions.{IsInside};
 ghost use Rattle.linker_base.specs.Bits.{signed};
@@ -460,6 +461,10 @@ impl RiscVInstruction {
 
 impl InstructionForm for RiscVInstruction {
     ghost form = { riscv_form };
+
+    ghost keeps = { riscv_keeps };
+
+    ghost restores = { riscv_restored };
 
     #[inline]
     fn window(self) -> usize {

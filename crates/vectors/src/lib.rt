@@ -1,4 +1,4 @@
-//! Test vectors that cross crates. A library with no code of its own: its modules are tests.
+//! Test vectors that cross crates, and `poke`, a user of the interface of instruction forms alone.
 #![tactic(auto)]
 
 #[cfg(test)]
@@ -9,6 +9,7 @@ mod deltas;
 mod jumps;
 #[cfg(test)]
 mod loongarch64;
+pub mod poke;
 #[cfg(test)]
 mod ppc64;
 #[cfg(test)]

@@ -2,7 +2,8 @@ use Rattle.std.proofs.Common.{◌∙◌, sym}
 use Rattle.linker_base.specs.Form.{window_of}
 use Rattle.linker_utils.specs.AArch64.{aarch64_form}
 use Rattle.linker_utils.specs.declared.elf.AArch64Instruction.TheVariants.{Adr, Movkz, TstBr, JumpCall}
-use Rattle.linker_utils.proofs.AArch64Forms.{aarch64_machine, aarch64_restored, aarch64_window, written_as, imm19_written, imm12_written, movn_written, movz_written, macho_written}
+use Rattle.linker_utils.proofs.AArch64Forms.{aarch64_machine, aarch64_window, written_as, imm19_written, imm12_written, movn_written, movz_written, macho_written}
+use Rattle.linker_utils.specs.FormLaws.{aarch64_restored}
 use Rattle.linker_utils.proofs.elf.AArch64Instruction.write_to_value.Goals as goal
 
 pub returns-in-Adr-clause-written : goal.returns-in-Adr-clause-written

@@ -2,7 +2,8 @@ use Rattle.std.proofs.Common.{inl, inr, ⊎_elim}
 use Rattle.linker_base.specs.Form.{window_of}
 use Rattle.linker_utils.specs.PowerPc.{ppc64_form}
 use Rattle.linker_utils.specs.declared.elf.Ppc64Instruction.TheVariants.{D, Ds, Branch14, Branch24}
-use Rattle.linker_utils.proofs.PowerPcForms.{ppc64_machine, ppc64_restored, written_as, same_window}
+use Rattle.linker_utils.proofs.PowerPcForms.{ppc64_machine, written_as, same_window}
+use Rattle.linker_utils.specs.FormLaws.{ppc64_restored}
 use Rattle.linker_utils.proofs.elf.Ppc64Instruction.write_to_value.Goals as goal
 
 pub returns-in-D-clause-written : goal.returns-in-D-clause-written

@@ -1,4 +1,5 @@
-use Rattle.linker_utils.proofs.RiscV.{riscv_written, riscv_machine, riscv_restored, riscv_pair}
+use Rattle.linker_utils.proofs.RiscV.{riscv_written, riscv_machine, riscv_pair}
+use Rattle.linker_utils.specs.FormLaws.{riscv_restored}
 use Rattle.linker_utils.specs.RiscV.{riscv_form}
 use Rattle.linker_base.specs.Form.{window_of}
 use Rattle.linker_utils.proofs.elf.RiscVInstruction.write_to_value.Goals as goal

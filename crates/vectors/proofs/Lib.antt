@@ -1,0 +1,2 @@
+pub mod Poking
+pub mod Touching

@@ -1,0 +1,30 @@
+-- Instructions at an offset of a section.
+use Rattle.std.specs.Prelude.{◌≡◌, ℕ, ◌+◌, ◌%◌, ◌^◌, ◌≤◌, Bool, List, length, take, drop}
+use Rattle.std.specs.Int.{byte_len, cast_unsigned, w64}
+use Rattle.linker_base.specs.Form.{Form, window_of, Fits, Written, OthersStay}
+
+-- the form's window at an offset
+abbrev pub window_at : Form → List ℕ → ℕ → ℕ
+window_at form section offset = window_of form (drop offset section)
+
+-- the window lies in the section
+abbrev pub IsInside : Form → List ℕ → ℕ → Type 0
+IsInside form section offset = offset + byte_len form.window ≤ length section
+
+-- the value can be written there
+abbrev pub CanPoke : Form → ℕ → List ℕ → ℕ → Type 0
+CanPoke form value section offset = IsInside form section offset × Fits form value (window_at form section offset)
+
+-- The value and the flag are written at an offset; the window's other bits and all bytes around it are the old ones.
+pub record IsPoked (form : Form) (value : ℕ) (negative : Bool) (offset : ℕ) (before after : List ℕ) : Type 0 where
+  pub written : Written form value negative (window_at form before offset) (window_at form after offset)
+  pub others : OthersStay form (window_at form before offset) (window_at form after offset)
+  pub front : take offset after ≡ take offset before
+  pub rest : drop (offset + byte_len form.window) after ≡ drop (offset + byte_len form.window) before
+
+-- the value and the flag that reading the window answers, the value cut to the form's width
+abbrev pub value_at : Form → List ℕ → ℕ → ℕ
+value_at form section offset = let x = window_at form section offset in cast_unsigned w64 (form.reading x) % 2 ^ form.width x
+
+abbrev pub flag_at : Form → List ℕ → ℕ → Bool
+flag_at form section offset = form.flag (window_at form section offset)
