@@ -69,7 +69,7 @@ shift5_outside : (w : ℕ) → w < 32 → is_placed shift5_places w ≡ (leb 5 w
 shift5_outside w h = agree_below_at (is_placed shift5_places) (λ i. leb 5 i && ltb i 25) 32 w refl h
 
 shift5_kept : (v before after w : ℕ) → IsLaid shift5_places v before after → w < 32 → (leb 5 w && ltb w 25) ≡ false → bit_at after w ≡ bit_at before w
-shift5_kept v before after w laid h o = laid.kept w (shift5_outside w h ∙ o)
+shift5_kept v old new w laid h o = laid.kept w (shift5_outside w h ∙ o)
 
 pub shift5_keeps : (v before after : ℕ) → IsLaid shift5_places v before after → IsKeptOutside 5 25 before after
 shift5_keeps v before after laid =
