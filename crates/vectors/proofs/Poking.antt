@@ -1,5 +1,5 @@
 -- What a write to the end of a section, from an offset on, leaves.
-use Rattle.std.proofs.Common.{◌≡◌, ℕ, ◌+◌, ◌-◌, ◌≤◌, Bool, List, ◌++◌, length, take, drop, refl, sym, ◌∙◌, ap, subst, arith}
+use Rattle.std.proofs.Common.{◌≡◌, ℕ, ◌-◌, ◌≤◌, Bool, List, ◌++◌, length, take, drop, sym, ◌∙◌, ap, subst, arith}
 use Rattle.std.specs.Int.{byte_len}
 use Rattle.std.proofs.lemmas.List.{append-nil, drop_all, drop_at, take_rest, length-take, length-drop, drop-drop}
 use Rattle.std.proofs.lemmas.Slice.{take-put_mid_below}
