@@ -1,5 +1,5 @@
 -- Values in two parts: a rounded high one and a signed low one, or bits that are held and others.
-use Rattle.std.proofs.Common.{◌≡◌, ℕ, suc, ◌+◌, ◌-◌, ◌*◌, ◌/◌, ◌%◌, ◌^◌, ◌<◌, ◌≤◌, Bool, true, false, ◌&&◌, refl, ap, sym, ◌∙◌, subst, arith, List, [], ◌∷◌, ◌++◌, ◌⊎◌, inl, inr, ltb, leb, ℤ, pos, negsuc, ◌+ℤ◌, ◌-ℤ◌}
+use Rattle.std.proofs.Common.{◌≡◌, ℕ, ◌+◌, ◌-◌, ◌*◌, ◌/◌, ◌%◌, ◌^◌, ◌<◌, ◌≤◌, true, ◌&&◌, refl, ap, sym, ◌∙◌, arith, List, [], ◌∷◌, ◌++◌, ◌⊎◌, inl, inr, ltb, ℤ, pos, negsuc, ◌+ℤ◌, ◌-ℤ◌}
 use Rattle.std.specs.Int.{w64, cast_unsigned, bit_at, int_rem_euclid}
 use Rattle.std.specs.List.{All}
 use Rattle.std.proofs.lemmas.Bool.{cases_lt, cond_both, cond-true, cond-false, lt-ltb, lt-leb, le-ltb, ltb-true, ltb-false, and_parts}
@@ -7,11 +7,11 @@ use Rattle.std.proofs.lemmas.Int.{ints, int_rem_euclid_is}
 use Rattle.std.proofs.lemmas.List.Elements.{All-nil, All-cons, All-head, All-tail, All-append}
 use Rattle.std.proofs.lemmas.List.Sums.{sum_by-cons}
 use Rattle.std.proofs.lemmas.Nat.Bits.{same_from_bits, bit_at-zero}
-use Rattle.linker_base.specs.Bits.{field, signed}
-use Rattle.linker_base.specs.Form.{Mark, replaced, ored, cleared, Place, IsLaid, placed_bit, bit_for, place_sum, worth, values_apart}
+use Rattle.linker_base.specs.Bits.{signed}
+use Rattle.linker_base.specs.Form.{Mark, replaced, ored, cleared, Place, IsLaid, placed_bit, bit_for, place_sum, worth}
 use Rattle.linker_base.proofs.Fields.{bit_at_mod, bit_at_mod_above}
 use Rattle.linker_base.proofs.Immediates.{has_value_fills, values_apart_fills, place_sum_below}
-use Rattle.linker_base.proofs.Parts.{ArePlaced, unchanged, is_cleared, all_cleared, cleared_kept, ored_from, ored_kept}
+use Rattle.linker_base.proofs.Parts.{unchanged, is_cleared, all_cleared, cleared_kept, ored_from, ored_kept}
 use Rattle.linker_base.proofs.Places.{bit_at-place_sum, value_bit_none, sums}
 use Rattle.linker_base.proofs.Rounded.{IsSoundPart, part_kept}
 

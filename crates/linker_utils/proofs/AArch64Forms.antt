@@ -1,13 +1,13 @@
 -- The AArch64 forms keep the laws of forms.
 use Rattle.std.proofs.Common.{◌≡◌, ℕ, ◌+◌, ◌-◌, ◌*◌, ◌/◌, ◌%◌, ◌^◌, ◌<◌, ◌⊎◌, inl, inr, Bool, true, false, eqb, refl, ap, sym, ◌∙◌, subst, arith, IsTrue, List, zero, suc, ◌↔◌, ltb, [], ◌∷◌, ◌++◌, pos, cond}
 use Rattle.std.specs.Int.{w32, w64, cast_unsigned, from_le_bytes, bit_at}
-use Rattle.std.proofs.lemmas.Bool.{lt-ltb, ltb-true, agree_below_at, or_cases, eqb-true}
+use Rattle.std.proofs.lemmas.Bool.{lt-ltb, ltb-true, agree_below_at}
 use Rattle.std.proofs.Math.Nat.{mod-eq_of_lt}
 use Rattle.linker_base.specs.Bits.{signed, field}
-use Rattle.linker_base.specs.Form.{window_of, Place, IsLaid, Written, MachineReads, IsReadBack, Fits, place_sum, row, or_bits_to, IsClear, replaced, unsigned, twos_complement, exactly, modulo}
+use Rattle.linker_base.specs.Form.{window_of, Place, IsLaid, Written, MachineReads, Fits, place_sum, row, or_bits_to, IsClear, replaced, unsigned, twos_complement}
 use Rattle.std.proofs.lemmas.Nat.Bits.{same_from_bits}
 use Rattle.linker_base.proofs.Fields.{bit_at_shr, aligned_rem}
-use Rattle.linker_base.proofs.Immediates.{IsSoundField, sound_field, is_sound_field, field_machine, field_machine_exactly, field_restored, place_sum_below, place_sum_laid, always_clear, restored}
+use Rattle.linker_base.proofs.Immediates.{IsSoundField, sound_field, field_machine, field_machine_exactly, place_sum_laid, always_clear}
 use Rattle.std.proofs.lemmas.Nat.{and_mask, or_comm, or_shifted}
 use Rattle.std.specs.Int.RustNames.{bit_or}
 use lib.Bits.{bit_and}
@@ -16,7 +16,7 @@ use Rattle.linker_utils.specs.declared.elf.engine.Mark.TheVariants.{Replaced}
 use Rattle.linker_utils.specs.Runs.{words_below, spread, runs_read}
 use Rattle.linker_utils.proofs.Runs.{not_placed_above}
 use Rattle.linker_utils.specs.FormLaws.{scale_small, low12_sound}
-use Rattle.linker_utils.specs.AArch64.{aarch64_form, movnz, macho_low12, imm16_places, moved_bits, moved_value, opcode_of, shift_of, movn_opcode, movz_opcode, access_scale, low12_places, has_scaled_offset, is_of_16_bytes}
+use Rattle.linker_utils.specs.AArch64.{aarch64_form, movnz, macho_low12, imm16_places, moved_bits, moved_value, opcode_of, shift_of, movn_opcode, movz_opcode, access_scale, low12_places}
 use Rattle.linker_utils.specs.declared.elf.AArch64Instruction.{AArch64Instruction}
 use Rattle.linker_utils.specs.declared.elf.AArch64Instruction.TheVariants.{Adr, Movkz, Movnz, Ldr, LdrRegister, Add, LdSt, TstBr, Bcond, JumpCall, MachOLow12}
 

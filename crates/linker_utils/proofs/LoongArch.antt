@@ -1,24 +1,18 @@
 -- The LoongArch forms keep the laws of forms.
-use Rattle.std.proofs.Common.{◌≡◌, ℕ, zero, suc, ◌+◌, ◌-◌, ◌*◌, ◌/◌, ◌%◌, ◌^◌, ◌<◌, ◌≤◌, max, Bool, true, false, refl, ap, sym, ◌∙◌, subst, arith, List, ◌++◌, take, drop, ℤ, pos, negsuc, ◌+ℤ◌, ◌-ℤ◌, ◌*ℤ◌, cond, ltb, eqb}
-use Rattle.std.specs.Int.{w32, w64, bit_at, cast_unsigned, from_le_bytes, int_rem_euclid}
-use Rattle.std.specs.List.{All}
-use Rattle.std.proofs.lemmas.Bool.{eqb-true, cond_both, ltb-true, ltb-false}
-use Rattle.std.proofs.lemmas.Int.{ints, int_rem_euclid_is}
-use Rattle.std.proofs.lemmas.List.Elements.{All-append, All-take, All-drop}
-use Rattle.std.proofs.lemmas.Nat.{mod_below}
-use Rattle.std.proofs.lemmas.Nat.Bits.{bit_at-zero, bit_at_above, bit_at-lt}
+use Rattle.std.proofs.Common.{◌≡◌, ℕ, ◌+◌, ◌-◌, ◌*◌, ◌/◌, ◌%◌, ◌^◌, ◌<◌, ◌≤◌, Bool, true, false, refl, ap, sym, ◌∙◌, subst, arith, List, ◌++◌, ℤ, pos, ◌+ℤ◌, ◌*ℤ◌}
+use Rattle.std.specs.Int.{w32, w64, bit_at, cast_unsigned, int_rem_euclid}
+use Rattle.std.proofs.lemmas.List.Elements.{All-take, All-drop}
 use Rattle.std.specs.Int.Bits.{or_zero_r}
 use lib.Bits.{bit_or}
-use Rattle.linker_base.specs.Bits.{field, signed}
-use Rattle.linker_base.specs.Form.{window_of, Place, Form, IsLaid, bits_to, or_bits_to, cleared_bits, bit_for, placed_bit, Written, MachineReads, IsReadBack, IsClear, place_sum, unsigned, twos_complement, modulo, unclaimed, replaced, ored, cleared}
-use Rattle.linker_base.proofs.Fields.{bit_at_run}
-use Rattle.linker_base.proofs.Immediates.{IsSoundField, sound_field, field_machine, field_restored, fills, none_ored, place_sum_below, place_sum_laid, always_clear}
+use Rattle.linker_base.specs.Bits.{field}
+use Rattle.linker_base.specs.Form.{window_of, Place, IsLaid, bits_to, or_bits_to, cleared_bits, bit_for, placed_bit, Written, MachineReads, IsReadBack, place_sum, unsigned, twos_complement, replaced}
+use Rattle.linker_base.proofs.Immediates.{IsSoundField, sound_field, field_machine, fills, none_ored, place_sum_laid, always_clear}
 use Rattle.linker_base.proofs.Places.{adds, place_sum-append}
-use Rattle.linker_base.proofs.Parts.{ArePlaced, all_replaced, part_laid, same_places, unchanged, ored_kept, cleared_kept}
+use Rattle.linker_base.proofs.Parts.{ArePlaced, all_replaced, part_laid}
 use Rattle.linker_base.proofs.Rows.{row_sum, row_sum_cleared}
 use Rattle.linker_utils.specs.FormLaws.{loongarch_restored}
 use Rattle.linker_utils.proofs.LoongArchNumbers.{pair_number, near_pair, far_pair}
-use Rattle.linker_utils.specs.LoongArch.{loongarch_form, shift10_low, call36_high, call36_low, pcaddu18i, jirl, reach, ReadsLow, Reaches, GoesBy, IsCallBy}
+use Rattle.linker_utils.specs.LoongArch.{loongarch_form, shift10_low, call36_high, call36_low, pcaddu18i, jirl, ReadsLow, Reaches, GoesBy}
 use Rattle.linker_utils.specs.declared.elf.LoongArch64Instruction.{LoongArch64Instruction}
 use Rattle.linker_utils.specs.declared.elf.LoongArch64Instruction.TheVariants.{Shift5, Shift10, Branch26, Branch21, Call30, Call36}
 

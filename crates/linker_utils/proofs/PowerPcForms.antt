@@ -1,8 +1,8 @@
 -- The PowerPC64 forms keep the laws of forms.
-use Rattle.std.proofs.Common.{◌≡◌, ℕ, ◌^◌, ◌<◌, Bool, true, false, refl, ap, sym, ◌∙◌, IsTrue, List, pos, subst}
+use Rattle.std.proofs.Common.{◌≡◌, ℕ, ◌^◌, ◌<◌, Bool, false, refl, sym, ◌∙◌, List, subst}
 use Rattle.std.specs.Int.{w32, w64, cast_unsigned, from_le_bytes}
-use Rattle.linker_base.specs.Form.{window_of, Place, Form, IsLaid, bits_to, Written, MachineReads, IsReadBack, place_sum, unsigned, twos_complement, modulo}
-use Rattle.linker_base.proofs.Immediates.{IsSoundField, sound_field, field_machine, field_restored}
+use Rattle.linker_base.specs.Form.{window_of, bits_to, Written, MachineReads, unsigned, twos_complement}
+use Rattle.linker_base.proofs.Immediates.{IsSoundField, sound_field, field_machine}
 use Rattle.linker_utils.specs.PowerPc.{ppc64_form}
 use Rattle.linker_utils.specs.declared.elf.Ppc64Instruction.{Ppc64Instruction}
 use Rattle.linker_utils.specs.declared.elf.Ppc64Instruction.TheVariants.{D, Ds, Branch14, Branch24}

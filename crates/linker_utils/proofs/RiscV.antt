@@ -1,16 +1,15 @@
 -- What the machine reads of the RISC-V forms, and pairs make their value.
-use Rattle.std.proofs.Common.{◌≡◌, ℕ, suc, ◌+◌, ◌-◌, ◌*◌, ◌/◌, ◌%◌, ◌^◌, ◌<◌, ◌≤◌, Bool, true, false, refl, ap, sym, subst, ◌∙◌, arith, IsTrue, List, [], ◌∷◌, ◌++◌, ◌⊎◌, inl, inr, ltb, ℤ, pos, negsuc, ◌+ℤ◌, ◌-ℤ◌, ◌≤ℤ◌, ◌<ℤ◌, int_lt, drop}
-use Rattle.std.specs.Int.{w16, w32, w64, cast_unsigned, from_le_bytes, bit_at, int_rem_euclid, byte_len}
+use Rattle.std.proofs.Common.{◌≡◌, ℕ, suc, ◌+◌, ◌-◌, ◌*◌, ◌/◌, ◌%◌, ◌^◌, ◌<◌, ◌≤◌, Bool, true, false, refl, ap, sym, subst, ◌∙◌, arith, List, ◌⊎◌, inl, inr, ℤ, pos, negsuc, ◌+ℤ◌, ◌-ℤ◌, ◌≤ℤ◌, ◌<ℤ◌}
+use Rattle.std.specs.Int.{w16, w32, w64, cast_unsigned, from_le_bytes, bit_at, int_rem_euclid}
 use Rattle.std.specs.List.{All}
-use Rattle.std.proofs.lemmas.Bool.{cases_lt, cond-true, cond-false, lt-ltb, le-ltb}
+use Rattle.std.proofs.lemmas.Bool.{cases_lt}
 use Rattle.std.proofs.lemmas.Int.{ints, int_rem_euclid_is}
-use Rattle.std.proofs.lemmas.List.Elements.{All-nil, All-cons, All-head, All-tail, All-append}
 use Rattle.linker_base.specs.Bits.{signed}
-use Rattle.linker_base.specs.Form.{window_of, Place, Form, IsLaid, bits_to, sum_bits_to, row, replaced, placed_bit, bit_for, Written, MachineReads, IsReadBack, place_sum, twos_complement, modulo}
-use Rattle.linker_base.proofs.Immediates.{IsSoundField, sound_field, field_machine, field_restored, laid_field, place_sum_placed, place_sum_below, always_clear, same_window}
+use Rattle.linker_base.specs.Form.{window_of, Place, IsLaid, bits_to, placed_bit, bit_for, Written, MachineReads, place_sum, twos_complement}
+use Rattle.linker_base.proofs.Immediates.{IsSoundField, sound_field, field_machine, laid_field, place_sum_placed, place_sum_below, always_clear}
 use Rattle.linker_base.proofs.Pairs.{signed_cases, added, all_left, all_right}
-use Rattle.linker_base.proofs.Rounded.{IsSoundPart, sound_part, rounded_laid, rounded_machine, rounded_restored, part_kept}
-use Rattle.linker_utils.specs.RiscV.{riscv_form, riscv_places, ui_sum, IsPairRange, IsPairOf, Completes, PairReads}
+use Rattle.linker_base.proofs.Rounded.{IsSoundPart, sound_part, rounded_machine}
+use Rattle.linker_utils.specs.RiscV.{riscv_form, riscv_places, ui_sum, IsPairRange, IsPairOf, PairReads}
 use Rattle.linker_utils.specs.declared.elf.RiscVInstruction.{RiscVInstruction}
 use Rattle.linker_utils.specs.declared.elf.RiscVInstruction.TheVariants.{UType, IType, SType, BType, JType, CbType, CjType, CluiType, UiType}
 

@@ -1,20 +1,20 @@
 -- Runs of bits placed in a window and taken out of it, bit by bit.
-use Rattle.std.proofs.Common.{◌≡◌, ℕ, zero, suc, ◌+◌, ◌-◌, ◌*◌, ◌/◌, ◌%◌, ◌^◌, ◌<◌, ◌≤◌, min, max, Bool, true, false, not, ◌&&◌, ◌||◌, ltb, leb, eqb, List, [], ◌∷◌, ◌++◌, get_or, length, take, drop, refl, sym, ◌∙◌, ap, subst, arith, ◌⊎◌, inl, inr, cond, IsTrue}
-use Rattle.std.specs.Int.{bit_at, w64, bit_not}
+use Rattle.std.proofs.Common.{◌≡◌, ℕ, zero, suc, ◌+◌, ◌-◌, ◌*◌, ◌/◌, ◌%◌, ◌^◌, ◌<◌, ◌≤◌, true, false, ◌&&◌, ◌||◌, ltb, leb, eqb, List, [], ◌∷◌, ◌++◌, get_or, length, take, drop, refl, sym, ◌∙◌, ap, subst, arith, ◌⊎◌, inl, inr}
+use Rattle.std.specs.Int.{bit_at, w64}
 use Rattle.std.specs.Int.RustNames.{bit_or}
 use lib.Bits.{bit_and}
-use Rattle.std.specs.List.{All, list_all, list_any}
-use Rattle.std.proofs.lemmas.Bool.{and_parts, or_parts, or_left, or_right, or_from, or_cases, and_from, ne_eqb, eqb-true, ltb-true, leb-true, cases_lt, eq-eqb, true≢false, both_ways}
-use Rattle.std.proofs.lemmas.List.Elements.{All-nil, All-cons, All-append}
+use Rattle.std.specs.List.{All, list_all}
+use Rattle.std.proofs.lemmas.Bool.{and_parts, or_parts, or_left, or_right, or_from, or_cases, and_from, ne_eqb, ltb-true, leb-true, cases_lt, eq-eqb, both_ways}
+use Rattle.std.proofs.lemmas.List.Elements.{All-nil, All-append}
 use Rattle.std.proofs.lemmas.List.{take_more, flat_map_more, take-append-drop}
 use Rattle.std.proofs.lemmas.List.Concat.{flat_map-append}
 use Rattle.linker_base.proofs.Immediates.{place_sum_below}
 use Rattle.linker_base.proofs.Places.{values_apart_left, place_sum-append}
 use Rattle.linker_base.proofs.Rows.{row_all, row_sum, row_sum_cleared}
-use Rattle.std.proofs.lemmas.List.Sums.{AllPass-from_list_all, sum_by-append, sum_by-cons}
-use Rattle.std.proofs.lemmas.Nat.{pow_pos, pow-add, and_mask, one_shl, shl_whole, mod_below, shl_below, pow_below, mod-pow-add, shr-shr, or_disjoint}
-use Rattle.std.proofs.lemmas.Nat.Bits.{bit_at-lt, bit_at_and, bit_at_or, bit_at_not, bit_at_ones, bit_at_ones_above, bit_at_above, same_from_bits, bit_at-zero}
-use Rattle.linker_base.specs.Form.{holds, values_below, values_apart, Mark, replaced, ored, cleared, Place, row, IsLaid, is_placed, placed_bit, bit_for, place_sum, worth}
+use Rattle.std.proofs.lemmas.List.Sums.{AllPass-from_list_all}
+use Rattle.std.proofs.lemmas.Nat.{pow_pos, and_mask, one_shl, shl_whole, mod_below, shl_below, pow_below}
+use Rattle.std.proofs.lemmas.Nat.Bits.{bit_at-lt, bit_at_and, bit_at_or, bit_at_not, bit_at_ones, bit_at_ones_above, bit_at_above, same_from_bits}
+use Rattle.linker_base.specs.Form.{holds, values_below, values_apart, Mark, replaced, ored, cleared, Place, row, IsLaid, is_placed, placed_bit, bit_for, place_sum}
 use Rattle.linker_utils.specs.declared.elf.engine.Run.{Run}
 use Rattle.linker_utils.specs.Runs.{run_fits, runs_fit, runs_read, words_below, mark_of, run_places, spread, is_apart, are_apart}
 use Rattle.linker_base.proofs.Fields.{bit_at_mod, bit_at_run, bit_at_shl, bit_at_shl_below, bit_at_mod_above}

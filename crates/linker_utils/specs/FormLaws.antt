@@ -1,6 +1,6 @@
 -- The forms of all architectures keep the laws of forms.
-use Rattle.std.proofs.Common.{◌≡◌, ℕ, ◌+◌, ◌/◌, ◌^◌, ◌<◌, Bool, true, false, refl, ap, sym, ◌∙◌, List, ◌++◌, cond}
-use Rattle.std.specs.Int.{w16, w32, w64, bit_at}
+use Rattle.std.proofs.Common.{◌≡◌, ℕ, ◌+◌, ◌/◌, ◌^◌, ◌<◌, true, false, refl, ap, sym, ◌∙◌, List, ◌++◌, cond}
+use Rattle.std.specs.Int.{w16, w32, bit_at}
 use Rattle.std.specs.List.{All}
 use Rattle.std.proofs.lemmas.Bool.{agree_below_at, eqb-true, ltb-true}
 use Rattle.std.proofs.lemmas.Nat.{mod_below}

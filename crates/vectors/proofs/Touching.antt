@@ -1,6 +1,6 @@
 -- What was read of a window, cut to the bits that its form takes and written back.
 use Rattle.std.proofs.Common.{◌≡◌, ℕ, zero, suc, ◌+◌, ◌-◌, ◌*◌, ◌/◌, ◌%◌, ◌^◌, ◌<◌, ◌≤◌, min, Bool, List, length, take, drop, get_or, refl, sym, ◌∙◌, ap, subst, arith, inl, inr, IsTrue}
-use Rattle.std.specs.Int.{Width, cast_unsigned, w8, w16, w32, w64, w128, byte_len, from_le_bytes, byte_worth, sum_through}
+use Rattle.std.specs.Int.{Width, cast_unsigned, w64, byte_len, from_le_bytes, byte_worth, sum_through}
 use lib.Bits.{bit_and}
 use Rattle.std.proofs.lemmas.Bool.{cases_lt}
 use Rattle.std.proofs.lemmas.List.{get_or-take, get_or-drop, take_rest}

@@ -1,7 +1,7 @@
 -- Instructions at an offset of a section.
 use Rattle.std.specs.Prelude.{◌≡◌, ℕ, ◌+◌, ◌%◌, ◌^◌, ◌≤◌, Bool, List, length, take, drop}
 use Rattle.std.specs.Int.{byte_len, cast_unsigned, w64}
-use Rattle.linker_base.specs.Form.{Form, window_of, Fits, Written, OthersStay}
+use Rattle.linker_base.specs.Form.{Form, window_of, Fits, Written, MachineReads, OthersStay}
 
 -- the form's window at an offset
 abbrev pub window_at : Form → List ℕ → ℕ → ℕ
@@ -15,9 +15,11 @@ IsInside form section offset = offset + byte_len form.window ≤ length section
 abbrev pub CanPoke : Form → ℕ → List ℕ → ℕ → Type 0
 CanPoke form value section offset = IsInside form section offset × Fits form value (window_at form section offset)
 
--- The value and the flag are written at an offset; the window's other bits and all bytes around it are the old ones.
+-- The value and the flag are written at an offset, where the machine reads them; the window's other bits and all bytes
+-- around it are the old ones.
 pub record IsPoked (form : Form) (value : ℕ) (negative : Bool) (offset : ℕ) (before after : List ℕ) : Type 0 where
   pub written : Written form value negative (window_at form before offset) (window_at form after offset)
+  pub machine : MachineReads form value negative (window_at form before offset) (window_at form after offset)
   pub others : OthersStay form (window_at form before offset) (window_at form after offset)
   pub front : take offset after ≡ take offset before
   pub rest : drop (offset + byte_len form.window) after ≡ drop (offset + byte_len form.window) before

@@ -16,9 +16,10 @@ fn has_window<F: InstructionForm>(form: F, section: &[u8], offset: usize) -> boo
 }
 
 /// Writes a value and its sign into the instruction at an offset of a section, and answers whether
-/// it could: where the form's window lies in the section and the value fits there. Then all bytes
-/// outside the window stay, and all bits of the window that are neither at the form's places nor in
-/// an opcode that the form sets. Otherwise nothing changes.
+/// it could: where the form's window lies in the section and the value fits there. Then the machine
+/// reads the value there, if the bits that are only ORed were 0, and all bytes outside the window
+/// stay, and all bits of the window that are neither at the form's places nor in an opcode that the
+/// form sets. Otherwise nothing changes.
 pub fn poke<F: InstructionForm>(
     form: F,
     value: u64,

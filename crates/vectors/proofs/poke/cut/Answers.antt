@@ -1,4 +1,4 @@
-use Rattle.std.proofs.Common.{rules, arith}
+use Rattle.std.proofs.Common.{rules}
 use Rattle.linker_base.specs.Form.{window_of}
 use Rattle.vectors.proofs.Touching.{whole_mask, next_mask, cut_by}
 use Rattle.vectors.proofs.poke.cut.Goals as goal

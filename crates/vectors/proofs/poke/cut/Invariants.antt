@@ -1,4 +1,3 @@
-use Rattle.std.proofs.Common.{ℕ}
 use Rattle.linker_base.specs.Form.{window_of}
 use Rattle.vectors.proofs.Touching.{IsMask}
 use Rattle.vectors.proofs.poke.cut.Given as goal
