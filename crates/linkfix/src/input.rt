@@ -1,6 +1,7 @@
 //! The lines of an input, within a bound on its reads.
 
 ghost use Rattle.std.specs.Prelude.{◌≡◌, ◌<◌, ◌≤◌, ◌+◌, ◌*◌, ◌-◌, IfOk, IsTrue};
+ghost use Rattle.linkfix.specs.declared.input.InputFault.{InputFault};
 
 use std::alloc::AllocError;
 use std::io::{ErrorKind, Read};
@@ -21,6 +22,8 @@ pub enum InputFault {
 }
 
 impl From<AllocError> for InputFault {
+    ghost from_gives = { λ _ fault. fault ≡ InputFault.OutOfMemory };
+
     fn from(_e: AllocError) -> InputFault {
         InputFault::OutOfMemory
     }

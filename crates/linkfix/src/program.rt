@@ -1,8 +1,12 @@
 //! The run of the program over a reader and a writer.
 
 ghost use Rattle.std.specs.Prelude.{◌≡◌, ◌≤◌, ◌↔◌, ◌⊎◌, ◌++◌, ◌∷◌, [], IfOk, IfErr, OnOk, OnErr};
-ghost use Rattle.linker_utils.specs.RiscV.{JumpsAt, output_distance};
+ghost use Rattle.linker_utils.specs.RiscV.{IsEven, IsInSection, IsJalDistance, IsSiteKept, JumpsAt, output_distance};
 ghost use Rattle.linker_base.specs.Deletions.{AreDisjoint, IsSortedUnion, IsInside, IsSelected, HasInput, rank};
+ghost use Rattle.linkfix.specs.declared.input.InputFault.{InputFault};
+ghost use Rattle.linkfix.specs.declared.program.Refusal.{Refusal};
+ghost use Rattle.linkfix.specs.declared.program.Stop.{Stop};
+ghost use Rattle.linkfix.specs.declared.sections.LineFault.{LineFault};
 
 use crate::commands::{BadLine, Command, parse_command};
 use crate::input::{InputFault, Lines};
@@ -53,6 +57,9 @@ enum Stop {
 }
 
 impl From<InputFault> for Stop {
+    ghost from_gives = { λ fault stop. (fault ≡ InputFault.Read → stop ≡ Stop.Fault)
+        × (fault ≡ InputFault.OutOfMemory → stop ≡ Stop.Refused Refusal.OutOfMemory) };
+
     fn from(fault: InputFault) -> Stop {
         match fault {
             InputFault::Read => Stop::Fault,
@@ -62,6 +69,9 @@ impl From<InputFault> for Stop {
 }
 
 impl From<LineFault> for Stop {
+    ghost from_gives = { λ fault stop. (fault ≡ LineFault.BadSection → stop ≡ Stop.Refused Refusal.BadSection)
+        × (fault ≡ LineFault.OutOfMemory → stop ≡ Stop.Refused Refusal.OutOfMemory) };
+
     fn from(fault: LineFault) -> Stop {
         Stop::Refused(match fault {
             LineFault::BadSection => Refusal::BadSection,
@@ -71,36 +81,48 @@ impl From<LineFault> for Stop {
 }
 
 impl From<BadLine> for Stop {
+    ghost from_gives = { λ _ stop. stop ≡ Stop.Refused Refusal.BadLine };
+
     fn from(_e: BadLine) -> Stop {
         Stop::Refused(Refusal::BadLine)
     }
 }
 
 impl From<CallError> for Stop {
+    ghost from_gives = { λ error stop. stop ≡ Stop.Refused (Refusal.Call error) };
+
     fn from(error: CallError) -> Stop {
         Stop::Refused(Refusal::Call(error))
     }
 }
 
 impl From<Refusal> for Stop {
+    ghost from_gives = { λ refusal stop. stop ≡ Stop.Refused refusal };
+
     fn from(refusal: Refusal) -> Stop {
         Stop::Refused(refusal)
     }
 }
 
 impl From<OutOfMemory> for Stop {
+    ghost from_gives = { λ _ stop. stop ≡ Stop.Refused Refusal.OutOfMemory };
+
     fn from(_e: OutOfMemory) -> Stop {
         Stop::Refused(Refusal::OutOfMemory)
     }
 }
 
 impl From<AllocError> for Stop {
+    ghost from_gives = { λ _ stop. stop ≡ Stop.Refused Refusal.OutOfMemory };
+
     fn from(_e: AllocError) -> Stop {
         Stop::Refused(Refusal::OutOfMemory)
     }
 }
 
 impl From<io::Error> for Stop {
+    ghost from_gives = { λ _ stop. stop ≡ Stop.Fault };
+
     fn from(_e: io::Error) -> Stop {
         Stop::Fault
     }
@@ -233,6 +255,17 @@ impl Workbench {
     fn call(&mut self, site: u64, target: u64) -> Result<(), CallError>
         ensures jumps { OnOk result
             (JumpsAt self.old.section.items self.new.section.items site (output_distance self.old.deltas site target)) }
+        ensures out_of_section { (result ≡ Err CallError.OutOfSection) ↔ ¬ IsInSection self.old.section.items site target }
+        ensures site_deleted { (result ≡ Err CallError.SiteDeleted)
+            ↔ (IsInSection self.old.section.items site target × ¬ IsSiteKept self.old.deltas site) }
+        ensures target_inside { (result ≡ Err CallError.TargetInside)
+            ↔ (IsInSection self.old.section.items site target × IsSiteKept self.old.deltas site × IsInside self.old.deltas target) }
+        ensures odd_distance { (result ≡ Err CallError.OddDistance)
+            ↔ (IsInSection self.old.section.items site target × IsSiteKept self.old.deltas site × ¬ IsInside self.old.deltas target
+            × ¬ IsEven (output_distance self.old.deltas site target)) }
+        ensures too_far { (result ≡ Err CallError.TooFar)
+            ↔ (IsInSection self.old.section.items site target × IsSiteKept self.old.deltas site × ¬ IsInside self.old.deltas target
+            × IsEven (output_distance self.old.deltas site target) × ¬ IsJalDistance (output_distance self.old.deltas site target)) }
         ensures unchanged { OnErr result (self.new.section.items ≡ self.old.section.items) }
         ensures deltas_stay { self.new.deltas ≡ self.old.deltas }
     {
