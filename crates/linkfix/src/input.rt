@@ -1,6 +1,6 @@
 //! The lines of an input, within a bound on its reads.
 
-ghost use Rattle.std.specs.Prelude.{◌≡◌, ◌<◌, ◌≤◌, ◌+◌, ◌*◌, ◌-◌, IfOk, IsTrue};
+ghost use Rattle.std.specs.Prelude.{◌≡◌, ◌<◌, ◌≤◌, ◌+◌, ◌*◌, ◌-◌, ◌⊎◌, IfOk, IsTrue};
 ghost use Rattle.linkfix.specs.declared.input.InputFault.{InputFault};
 
 use std::alloc::AllocError;
@@ -46,7 +46,9 @@ pub struct Lines<R> {
 impl<R: Read> Lines<R> {
     ghost use Rattle.linkfix.specs.Unread.{unread};
 
-    pub fn new(input: R) -> Lines<R> {
+    pub fn new(input: R) -> Lines<R>
+        ensures { unread result ≡ 1048576 * 4096 }
+    {
         Lines {
             input,
             reads_left: READ_LIMIT,
@@ -62,6 +64,7 @@ impl<R: Read> Lines<R> {
     /// put into `line`.
     pub fn next_line(&mut self, line: &mut Vec<u8>) -> Result<bool, InputFault>
         ensures progress { IfOk result (λ found. IsTrue found → unread self.new < unread self.old) }
+        ensures last { IfOk result (λ found. IsTrue found ⊎ IsTrue self.new.has_ended) }
     {
         line.clear();
         loop {
@@ -88,6 +91,7 @@ impl<R: Read> Lines<R> {
         requires { self.old.start ≡ self.old.end }
         ensures reads { IfOk result (λ more. IsTrue more → self.new.reads_left < self.old.reads_left) }
         ensures bound { IfOk result (λ more. unread self.new ≤ unread self.old) }
+        ensures last { IfOk result (λ more. IsTrue more ⊎ IsTrue self.new.has_ended) }
     {
         while !self.has_ended {
             if self.reads_left == 0 {

@@ -1,8 +1,10 @@
 //! The run of the program over a reader and a writer.
 
-ghost use Rattle.std.specs.Prelude.{◌≡◌, ◌≤◌, ◌↔◌, ◌⊎◌, ◌++◌, ◌∷◌, [], IfOk, IfErr, OnOk, OnErr};
-ghost use Rattle.linker_utils.specs.RiscV.{IsEven, IsInSection, IsJalDistance, IsSiteKept, JumpsAt, output_distance};
+ghost use Rattle.std.specs.Prelude.{◌≡◌, ◌≤◌, ◌↔◌, ◌⊎◌, ◌++◌, ◌∷◌, [], ℕ, List, codes, decimal, IfOk, IfErr, OnOk, OnErr};
+ghost use Rattle.linker_utils.specs.RiscV.{JumpsAt, output_distance};
 ghost use Rattle.linker_base.specs.Deletions.{AreDisjoint, IsSortedUnion, IsInside, IsSelected, HasInput, rank};
+ghost use Rattle.std.specs.Io.KnownBytes.{Appends};
+ghost use Rattle.linkfix.specs.Obeying.{FailsFor, IsFromOutside, Obeys, Refuses};
 ghost use Rattle.linkfix.specs.declared.input.InputFault.{InputFault};
 ghost use Rattle.linkfix.specs.declared.program.Refusal.{Refusal};
 ghost use Rattle.linkfix.specs.declared.program.Stop.{Stop};
@@ -177,7 +179,13 @@ struct Workbench {
 
 impl Workbench {
     /// Obeys a command and writes its answer line.
-    fn obey<W: Write>(&mut self, command: Command, output: &mut W) -> Result<(), Stop> {
+    fn obey<W: Write>(&mut self, command: Command, output: &mut W) -> Result<(), Stop>
+        ensures obeyed { OnOk result ((line : List ℕ) × Obeys command self.old self.new line
+            × Appends (W.contents output.old) (W.contents output.new) (line ++ codes "\n")) }
+        ensures refused { IfErr result (λ stop. ((refusal : Refusal) × (stop ≡ Stop.Refused refusal) × Refuses command self.old refusal)
+            ⊎ IsFromOutside stop) }
+        ensures causes { (refusal : Refusal) → Refuses command self.old refusal → result ≡ Err (Stop.Refused refusal) }
+    {
         match command {
             Command::Delete { offset, bytes } => {
                 self.delete(offset, bytes)?;
@@ -204,7 +212,10 @@ impl Workbench {
         Ok(())
     }
 
-    fn answer<W: Write>(&self, number: u64, output: &mut W) -> Result<(), Stop> {
+    fn answer<W: Write>(&self, number: u64, output: &mut W) -> Result<(), Stop>
+        ensures written { OnOk result (Appends (W.contents output.old) (W.contents output.new) (decimal number ++ codes "\n")) }
+        ensures refused { IfErr result IsFromOutside }
+    {
         let text = format!(in self.alloc; "{number}\n")?;
         output.write_all(text.as_bytes())?;
         Ok(())
@@ -216,6 +227,7 @@ impl Workbench {
         ensures bad_deletion { (result ≡ Err Refusal.BadDeletion) ↔ ¬ AreDisjoint (self.old.deltas ++ (offset, bytes) ∷ []) }
         ensures refused { IfErr result (λ e. (e ≡ Refusal.BadDeletion) ⊎ (e ≡ Refusal.OutOfMemory)) }
         ensures unchanged { OnErr result (self.new.deltas ≡ self.old.deltas) }
+        ensures section_stays { self.new.section ≡ self.old.section }
     {
         let pair = [(offset, bytes)];
         if !self.deltas.is_mergeable(&pair) {
@@ -255,17 +267,7 @@ impl Workbench {
     fn call(&mut self, site: u64, target: u64) -> Result<(), CallError>
         ensures jumps { OnOk result
             (JumpsAt self.old.section.items self.new.section.items site (output_distance self.old.deltas site target)) }
-        ensures out_of_section { (result ≡ Err CallError.OutOfSection) ↔ ¬ IsInSection self.old.section.items site target }
-        ensures site_deleted { (result ≡ Err CallError.SiteDeleted)
-            ↔ (IsInSection self.old.section.items site target × ¬ IsSiteKept self.old.deltas site) }
-        ensures target_inside { (result ≡ Err CallError.TargetInside)
-            ↔ (IsInSection self.old.section.items site target × IsSiteKept self.old.deltas site × IsInside self.old.deltas target) }
-        ensures odd_distance { (result ≡ Err CallError.OddDistance)
-            ↔ (IsInSection self.old.section.items site target × IsSiteKept self.old.deltas site × ¬ IsInside self.old.deltas target
-            × ¬ IsEven (output_distance self.old.deltas site target)) }
-        ensures too_far { (result ≡ Err CallError.TooFar)
-            ↔ (IsInSection self.old.section.items site target × IsSiteKept self.old.deltas site × ¬ IsInside self.old.deltas target
-            × IsEven (output_distance self.old.deltas site target) × ¬ IsJalDistance (output_distance self.old.deltas site target)) }
+        ensures refused { (error : CallError) → (result ≡ Err error) ↔ FailsFor error self.old.section.items self.old.deltas site target }
         ensures unchanged { OnErr result (self.new.section.items ≡ self.old.section.items) }
         ensures deltas_stay { self.new.deltas ≡ self.old.deltas }
     {
