@@ -1,2 +1,3 @@
 mod Digits
+mod LineLemmas
 mod WordLemmas
