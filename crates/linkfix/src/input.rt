@@ -48,7 +48,8 @@ impl<R: Read> Lines<R> {
     ghost use Rattle.linkfix.specs.Unread.{pending, unread};
 
     pub fn new(input: R) -> Lines<R>
-        ensures { unread result ≡ 1048576 * 4096 }
+        ensures bound { unread result ≡ 1048576 * 4096 }
+        ensures known { pending (R.remaining result.input) result ≡ R.remaining input }
     {
         Lines {
             input,

@@ -1,10 +1,10 @@
 //! The run of the program over a reader and a writer.
 
-ghost use Rattle.std.specs.Prelude.{◌≡◌, ◌≤◌, ◌↔◌, ◌⊎◌, ◌++◌, ◌∷◌, [], ℕ, List, codes, decimal, IfOk, IfErr, OnOk, OnErr};
+ghost use Rattle.std.specs.Prelude.{◌≡◌, ◌≤◌, ◌↔◌, ◌⊎◌, ◌++◌, ◌∷◌, [], ℕ, List, codes, decimal, IfSome, IfOk, IfErr, OnOk, OnErr};
 ghost use Rattle.linker_utils.specs.RiscV.{JumpsAt, output_distance};
 ghost use Rattle.linker_base.specs.Deletions.{AreDisjoint, IsSortedUnion, IsInside, IsSelected, HasInput, rank};
 ghost use Rattle.std.specs.Io.KnownBytes.{Appends};
-ghost use Rattle.linkfix.specs.Obeying.{FailsFor, IsFromOutside, Obeys, Refuses};
+ghost use Rattle.linkfix.specs.Obeying.{FailsFor, IsFromOutside, IsObeyed, Obeys, Refuses};
 ghost use Rattle.linkfix.specs.declared.input.InputFault.{InputFault};
 ghost use Rattle.linkfix.specs.declared.program.Refusal.{Refusal};
 ghost use Rattle.linkfix.specs.declared.program.Stop.{Stop};
@@ -135,7 +135,8 @@ impl From<io::Error> for Stop {
 /// answer, and its status is 1. A read or a write that fails ends the run with status 1, with no
 /// further answer; so does an input that hasn't ended after 1,048,576 reads.
 pub fn run<R: Read + Drop, W: Write + Drop>(alloc: Global, input: R, mut output: W) -> u8
-    ensures { result ≤ 1 }
+    ensures status { result ≤ 1 }
+    ensures obeyed { result ≡ 0 → IfSome (R.remaining input) (λ bytes. (answers : List ℕ) × IsObeyed bytes answers) }
 {
     match obey_lines(alloc, input, &mut output) {
         Ok(()) => 0,
@@ -147,11 +148,10 @@ pub fn run<R: Read + Drop, W: Write + Drop>(alloc: Global, input: R, mut output:
     }
 }
 
-fn obey_lines<R: Read + Drop, W: Write>(
-    alloc: Global,
-    input: R,
-    output: &mut W,
-) -> Result<(), Stop> {
+fn obey_lines<R: Read + Drop, W: Write>(alloc: Global, input: R, output: &mut W) -> Result<(), Stop>
+    ensures obeyed { OnOk result (IfSome (R.remaining input) (λ bytes. (answers : List ℕ) × IsObeyed bytes answers
+        × Appends (W.contents output.old) (W.contents output.new) answers)) }
+{
     let mut lines = Lines::new(input);
     let mut line = Vec::new(alloc);
     lines.next_line(&mut line)?;
