@@ -7,7 +7,6 @@ use Rattle.std.proofs.lemmas.List.Elements.{All-nil, All-cons, All-head, All-tai
 use Rattle.std.proofs.lemmas.Nat.{pow_pos, pow_below, mod_below}
 use Rattle.std.proofs.lemmas.Nat.Bits.{same_from_bits}
 use Rattle.std.proofs.Math.Nat.{mod-eq_of_lt}
-use Rattle.linker_base.specs.Bits.{signed}
 use Rattle.linker_base.specs.Form.{values_below, is_clear_at, holds, is_of, has_value, values_apart, Mark, replaced, ored, cleared, Place, IsLaid, is_placed, placed_bit, bit_for, place_sum, IsClear, Written, MachineReads, IsReadBack, field_form, number_of, Sign, unsigned, twos_complement, Claim, exactly, modulo}
 use Rattle.linker_base.proofs.Places.{value_bit, adds, value_bit_none, bit_at-place_sum, value_bit_laid}
 use Rattle.linker_base.proofs.Fields.{mod_mod, bit_at_window, bit_at_mod, bit_at_mod_above, signed_rem, signed_bits, aligned_rem}

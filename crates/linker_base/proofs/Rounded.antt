@@ -9,7 +9,7 @@ use Rattle.std.proofs.lemmas.Nat.{pow_pos, pow-add, mod_low, mod_below}
 use Rattle.std.proofs.lemmas.Nat.Bits.{same_from_bits}
 use Rattle.std.proofs.Math.Nat.{mod-eq_of_lt}
 use Rattle.linker_base.specs.Bits.{signed}
-use Rattle.linker_base.specs.Form.{values_below, values_apart, Place, IsLaid, placed_bit, bit_for, place_sum, IsClear, Written, MachineReads, IsReadBack}
+use Rattle.linker_base.specs.Form.{values_below, Place, IsLaid, placed_bit, bit_for, place_sum, IsClear, Written, MachineReads, IsReadBack}
 use Rattle.linker_base.specs.Rounded.{rounded_immediate}
 use Rattle.linker_base.proofs.Places.{value_bit, adds, bit_at-place_sum}
 use Rattle.linker_base.proofs.Fields.{bit_at_window, bit_at_mod, signed_rem, aligned_rem}
