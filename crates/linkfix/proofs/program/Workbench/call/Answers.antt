@@ -1,4 +1,3 @@
-use Rattle.std.proofs.Common.{◌≡◌, Err}
 use Rattle.linker_utils.specs.declared.riscv64.CallError.TheVariants.{OutOfSection, SiteDeleted, TargetInside, OddDistance, TooFar}
 use Rattle.linkfix.proofs.program.Workbench.call.Goals as goal
 
