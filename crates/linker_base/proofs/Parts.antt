@@ -1,5 +1,5 @@
 -- Forms of several parts, each with an added number, a mark or a sign of its own.
-use Rattle.std.proofs.Common.{◌≡◌, ℕ, ◌+◌, ◌%◌, ◌^◌, ◌<◌, ◌≤◌, max, Bool, true, false, ◌&&◌, eqb, leb, List, [], ◌∷◌, get_or, refl, sym, ◌∙◌, ap, arith}
+use Rattle.std.proofs.Common.{◌≡◌, ℕ, ◌+◌, ◌%◌, ◌^◌, ◌<◌, ◌≤◌, Bool, true, false, ◌&&◌, eqb, leb, List, [], ◌∷◌, get_or, refl, sym, ◌∙◌, ap, arith}
 use Rattle.std.specs.Int.{bit_at}
 use Rattle.std.specs.List.{All, list_all}
 use Rattle.std.proofs.lemmas.Bool.{and_parts, eqb-true, leb-true}
@@ -7,7 +7,7 @@ use Rattle.std.proofs.lemmas.List.Elements.{All-nil, All-cons, All-head, All-tai
 use Rattle.std.proofs.lemmas.Nat.Bits.{bit_at_above}
 use Rattle.linker_base.specs.Form.{Mark, replaced, ored, cleared, Place, IsLaid, placed_bit, bit_for, place_sum, values_apart}
 use Rattle.linker_base.proofs.Immediates.{all_hold, own_bits, same_window}
-use Rattle.linker_base.proofs.Places.{value_bit, bit_at-place_sum}
+use Rattle.linker_base.proofs.Places.{bit_at-place_sum}
 
 -- what a write leaves at a part of its places
 abbrev pub ArePlaced : List Place → ℕ → ℕ → ℕ → Type 0

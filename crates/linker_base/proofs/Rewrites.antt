@@ -1,7 +1,5 @@
 -- What a rewrite leaves, from the bytes that the code puts.
-use Rattle.std.proofs.Common.{◌≡◌, ℕ, ◌+◌, ◌-◌, ◌≤◌, List, ◌++◌, length, take, drop, refl, sym, ◌∙◌, ap, arith, Some}
-use Rattle.std.specs.Int.{w32, from_le_bytes}
-use Rattle.std.proofs.lemmas.List.{take_rest}
+use Rattle.std.proofs.Common.{◌≡◌, ℕ, ◌+◌, ◌-◌, List, ◌++◌, length, take, drop, ◌∙◌, ap, Some}
 use Rattle.linker_base.specs.Rewrite.{Rewrite, rewritten, window_at}
 
 -- bytes put at the window's start are the rewrite

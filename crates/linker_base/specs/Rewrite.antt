@@ -1,5 +1,5 @@
 -- Rewrites of instructions: the window of bytes that a rewrite changes, what it needs there, and what it leaves.
-use Rattle.std.specs.Prelude.{◌≡◌, ℕ, ◌+◌, ◌-◌, ◌≤◌, Bool, true, IsTrue, List, ◌++◌, length, take, drop, Option, None, Some, ℤ, ⊤}
+use Rattle.std.specs.Prelude.{ℕ, ◌+◌, ◌-◌, ◌≤◌, Bool, true, IsTrue, List, ◌++◌, length, take, drop, Option, None, Some, ℤ, ⊤}
 
 -- A rewrite at an offset o of a section.
 pub record Rewrite : Type 0 where

@@ -144,12 +144,14 @@ impl SectionRelaxDeltas {
     /// Adds the deletions of all batches, or of none where memory is wanting.
     ///
     /// What is listed is then as `new` makes it of the old and all additional pairs, sorted. The
-    /// list grows once, before anything changes. The work is O((n + k) log(n + k)) for k pairs in
-    /// all batches beside n deltas. `are_mergeable` tests what it asks.
+    /// list grows once, before anything changes, and not at all where no batch has a pair. The work
+    /// is O((n + k) log(n + k)) for k pairs in all batches beside n deltas. `are_mergeable` tests
+    /// what it asks.
     pub fn merge_all(&mut self, batches: &[Vec<(u64, u32)>]) -> Result<(), OutOfMemory>
         requires { AreDisjoint (self.old ++ pairs_of batches.now) }
         ensures ok { OnOk result (IsSortedUnion (self.old ++ pairs_of batches.now) self.new) }
         ensures err { OnErr result (self.new ≡ self.old) }
+        ensures empty_succeeds { pairs_of batches.now ≡ [] → IsOk result }
     {
         let deltas = &mut self.deltas;
         deltas.reserve(count_pairs(batches))?;
@@ -168,13 +170,14 @@ impl SectionRelaxDeltas {
         are_disjoint_batches(batches) && are_free_batches(&self.deltas, batches)
     }
 
-    /// A copy of the deltas. It takes memory once.
+    /// A copy of the deltas. It takes memory once, and none where there are none.
     pub fn clone(&self) -> Result<Self, OutOfMemory>
-        ensures { IfOk result (λ section. section ≡ self.now) }
+        ensures ok { IfOk result (λ section. section ≡ self.now) }
+        ensures empty_succeeds { self.now ≡ [] → IsOk result }
     {
-        Ok(SectionRelaxDeltas {
-            deltas: self.deltas.clone()?,
-        })
+        let mut deltas = Vec::with_capacity(*self.deltas.allocator(), self.deltas.len())?;
+        deltas.extend_from_slice(&self.deltas)?;
+        Ok(SectionRelaxDeltas { deltas })
     }
 
     /// The deletions by ascending offset, each with the sum of the bytes up to it.

@@ -1,2 +1,4 @@
 mod Digits
+mod LineLemmas
+mod Running
 mod WordLemmas

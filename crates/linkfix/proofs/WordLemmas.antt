@@ -1,5 +1,5 @@
 -- The words of a line, the first of them and the others.
-use Rattle.std.proofs.Common.{◌≡◌, ℕ, ◌+◌, ◌<◌, Bool, true, false, not, inl, inr, List, [], ◌∷◌, length, take, drop, refl, sym, ◌∙◌, arith, one-add}
+use Rattle.std.proofs.Common.{◌≡◌, ℕ, ◌<◌, true, false, inl, inr, List, [], ◌∷◌, length, take, drop, refl, sym, ◌∙◌, arith, one-add}
 use Rattle.std.proofs.lemmas.Bool.{cases_Bool}
 use Rattle.std.specs.List.{position_or_len, prefix_len}
 use Rattle.linkfix.specs.Words.{begins_word, is_space, with_front, words_of}

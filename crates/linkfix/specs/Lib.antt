@@ -1,4 +1,5 @@
 pub mod Hexed
+pub mod Obeying
 pub mod Spelling
 pub mod Unread
 pub mod Words

@@ -1,6 +1,8 @@
 //! The lines of an input, within a bound on its reads.
 
-ghost use Rattle.std.specs.Prelude.{◌≡◌, ◌<◌, ◌≤◌, ◌+◌, ◌*◌, ◌-◌, IfOk, IsTrue};
+ghost use Rattle.std.specs.Prelude.{◌≡◌, ◌<◌, ◌≤◌, ◌+◌, ◌*◌, ◌-◌, ◌⊎◌, ◌↔◌, ◌≢◌, [], Some, All, length, slice_index, take, IfSome, IfNone, IfOk, IsTrue};
+ghost use Rattle.std.specs.Io.BufRead.{drop_through, first_line, strip_last};
+ghost use Rattle.linkfix.specs.declared.input.InputFault.{InputFault};
 
 use std::alloc::AllocError;
 use std::io::{ErrorKind, Read};
@@ -21,6 +23,8 @@ pub enum InputFault {
 }
 
 impl From<AllocError> for InputFault {
+    ghost from_gives = { λ _ fault. fault ≡ InputFault.OutOfMemory };
+
     fn from(_e: AllocError) -> InputFault {
         InputFault::OutOfMemory
     }
@@ -41,9 +45,12 @@ pub struct Lines<R> {
 }
 
 impl<R: Read> Lines<R> {
-    ghost use Rattle.linkfix.specs.Unread.{unread};
+    ghost use Rattle.linkfix.specs.Unread.{pending, unread};
 
-    pub fn new(input: R) -> Lines<R> {
+    pub fn new(input: R) -> Lines<R>
+        ensures bound { unread result ≡ 1048576 * 4096 }
+        ensures known { pending (R.remaining result.input) result ≡ R.remaining input }
+    {
         Lines {
             input,
             reads_left: READ_LIMIT,
@@ -59,16 +66,18 @@ impl<R: Read> Lines<R> {
     /// put into `line`.
     pub fn next_line(&mut self, line: &mut Vec<u8>) -> Result<bool, InputFault>
         ensures progress { IfOk result (λ found. IsTrue found → unread self.new < unread self.old) }
+        ensures last { IfOk result (λ found. IsTrue found ⊎ IsTrue self.new.has_ended) }
+        ensures cut { IfOk result (λ found. IfSome (pending (R.remaining self.old.input) self.old) (λ xs.
+            (line.new.items ≡ first_line xs) × (pending (R.remaining self.new.input) self.new ≡ Some (drop_through 10 xs))
+            × (IsTrue found ↔ (xs ≢ [])))) }
     {
         line.clear();
         loop {
             let unread = &self.bytes[self.start..self.end];
-            if let Some(at) = unread.iter().position(|byte| *byte == b'\n') {
+            if let Some(at) = line_end(unread) {
                 line.extend_from_slice(&unread[..at])?;
                 self.start += at + 1;
-                if line.last() == Some(&b'\r') {
-                    line.pop();
-                }
+                strip_carriage_return(line);
                 return Ok(true);
             }
             line.extend_from_slice(unread)?;
@@ -85,6 +94,9 @@ impl<R: Read> Lines<R> {
         requires { self.old.start ≡ self.old.end }
         ensures reads { IfOk result (λ more. IsTrue more → self.new.reads_left < self.old.reads_left) }
         ensures bound { IfOk result (λ more. unread self.new ≤ unread self.old) }
+        ensures last { IfOk result (λ more. IsTrue more ⊎ IsTrue self.new.has_ended) }
+        ensures kept { IfOk result (λ more. IfSome (pending (R.remaining self.old.input) self.old) (λ xs.
+            (pending (R.remaining self.new.input) self.new ≡ Some xs) × (IsTrue more ⊎ (xs ≡ [])))) }
     {
         while !self.has_ended {
             if self.reads_left == 0 {
@@ -103,5 +115,22 @@ impl<R: Read> Lines<R> {
             }
         }
         Ok(false)
+    }
+}
+
+/// Where the first LF stands.
+fn line_end(bytes: &[u8]) -> Option<usize>
+    ensures some { IfSome result (λ i. (i < length bytes.now) × (slice_index bytes.now i ≡ 10) × All (λ byte. byte ≢ 10) (take i bytes.now)) }
+    ensures none { IfNone result (All (λ byte. byte ≢ 10) bytes.now) }
+{
+    bytes.iter().position(|byte| *byte == b'\n')
+}
+
+/// Takes one CR off the end.
+fn strip_carriage_return(line: &mut Vec<u8>)
+    ensures { line.new.items ≡ strip_last 13 line.old.items }
+{
+    if line.last() == Some(&b'\r') {
+        line.pop();
     }
 }

@@ -1,8 +1,14 @@
 //! The run of the program over a reader and a writer.
 
-ghost use Rattle.std.specs.Prelude.{◌≡◌, ◌≤◌, ◌↔◌, ◌⊎◌, ◌++◌, ◌∷◌, [], IfOk, IfErr, OnOk, OnErr};
+ghost use Rattle.std.specs.Prelude.{◌≡◌, ◌≤◌, ◌↔◌, ◌⊎◌, ◌++◌, ◌∷◌, [], ℕ, List, codes, decimal, IfSome, IfOk, IfErr, OnOk, OnErr};
 ghost use Rattle.linker_utils.specs.RiscV.{JumpsAt, output_distance};
 ghost use Rattle.linker_base.specs.Deletions.{AreDisjoint, IsSortedUnion, IsInside, IsSelected, HasInput, rank};
+ghost use Rattle.std.specs.Io.KnownBytes.{Appends};
+ghost use Rattle.linkfix.specs.Obeying.{FailsFor, IsFromOutside, IsObeyed, Obeys, Refuses};
+ghost use Rattle.linkfix.specs.declared.input.InputFault.{InputFault};
+ghost use Rattle.linkfix.specs.declared.program.Refusal.{Refusal};
+ghost use Rattle.linkfix.specs.declared.program.Stop.{Stop};
+ghost use Rattle.linkfix.specs.declared.sections.LineFault.{LineFault};
 
 use crate::commands::{BadLine, Command, parse_command};
 use crate::input::{InputFault, Lines};
@@ -53,6 +59,9 @@ enum Stop {
 }
 
 impl From<InputFault> for Stop {
+    ghost from_gives = { λ fault stop. (fault ≡ InputFault.Read → stop ≡ Stop.Fault)
+        × (fault ≡ InputFault.OutOfMemory → stop ≡ Stop.Refused Refusal.OutOfMemory) };
+
     fn from(fault: InputFault) -> Stop {
         match fault {
             InputFault::Read => Stop::Fault,
@@ -62,6 +71,9 @@ impl From<InputFault> for Stop {
 }
 
 impl From<LineFault> for Stop {
+    ghost from_gives = { λ fault stop. (fault ≡ LineFault.BadSection → stop ≡ Stop.Refused Refusal.BadSection)
+        × (fault ≡ LineFault.OutOfMemory → stop ≡ Stop.Refused Refusal.OutOfMemory) };
+
     fn from(fault: LineFault) -> Stop {
         Stop::Refused(match fault {
             LineFault::BadSection => Refusal::BadSection,
@@ -71,36 +83,48 @@ impl From<LineFault> for Stop {
 }
 
 impl From<BadLine> for Stop {
+    ghost from_gives = { λ _ stop. stop ≡ Stop.Refused Refusal.BadLine };
+
     fn from(_e: BadLine) -> Stop {
         Stop::Refused(Refusal::BadLine)
     }
 }
 
 impl From<CallError> for Stop {
+    ghost from_gives = { λ error stop. stop ≡ Stop.Refused (Refusal.Call error) };
+
     fn from(error: CallError) -> Stop {
         Stop::Refused(Refusal::Call(error))
     }
 }
 
 impl From<Refusal> for Stop {
+    ghost from_gives = { λ refusal stop. stop ≡ Stop.Refused refusal };
+
     fn from(refusal: Refusal) -> Stop {
         Stop::Refused(refusal)
     }
 }
 
 impl From<OutOfMemory> for Stop {
+    ghost from_gives = { λ _ stop. stop ≡ Stop.Refused Refusal.OutOfMemory };
+
     fn from(_e: OutOfMemory) -> Stop {
         Stop::Refused(Refusal::OutOfMemory)
     }
 }
 
 impl From<AllocError> for Stop {
+    ghost from_gives = { λ _ stop. stop ≡ Stop.Refused Refusal.OutOfMemory };
+
     fn from(_e: AllocError) -> Stop {
         Stop::Refused(Refusal::OutOfMemory)
     }
 }
 
 impl From<io::Error> for Stop {
+    ghost from_gives = { λ _ stop. stop ≡ Stop.Fault };
+
     fn from(_e: io::Error) -> Stop {
         Stop::Fault
     }
@@ -111,7 +135,8 @@ impl From<io::Error> for Stop {
 /// answer, and its status is 1. A read or a write that fails ends the run with status 1, with no
 /// further answer; so does an input that hasn't ended after 1,048,576 reads.
 pub fn run<R: Read + Drop, W: Write + Drop>(alloc: Global, input: R, mut output: W) -> u8
-    ensures { result ≤ 1 }
+    ensures status { result ≤ 1 }
+    ensures obeyed { result ≡ 0 → IfSome (R.remaining input) (λ bytes. (answers : List ℕ) × IsObeyed bytes answers) }
 {
     match obey_lines(alloc, input, &mut output) {
         Ok(()) => 0,
@@ -123,11 +148,10 @@ pub fn run<R: Read + Drop, W: Write + Drop>(alloc: Global, input: R, mut output:
     }
 }
 
-fn obey_lines<R: Read + Drop, W: Write>(
-    alloc: Global,
-    input: R,
-    output: &mut W,
-) -> Result<(), Stop> {
+fn obey_lines<R: Read + Drop, W: Write>(alloc: Global, input: R, output: &mut W) -> Result<(), Stop>
+    ensures obeyed { OnOk result (IfSome (R.remaining input) (λ bytes. (answers : List ℕ) × IsObeyed bytes answers
+        × Appends (W.contents output.old) (W.contents output.new) answers)) }
+{
     let mut lines = Lines::new(input);
     let mut line = Vec::new(alloc);
     lines.next_line(&mut line)?;
@@ -155,7 +179,13 @@ struct Workbench {
 
 impl Workbench {
     /// Obeys a command and writes its answer line.
-    fn obey<W: Write>(&mut self, command: Command, output: &mut W) -> Result<(), Stop> {
+    fn obey<W: Write>(&mut self, command: Command, output: &mut W) -> Result<(), Stop>
+        ensures obeyed { OnOk result ((line : List ℕ) × Obeys command self.old self.new line
+            × Appends (W.contents output.old) (W.contents output.new) (line ++ codes "\n")) }
+        ensures refused { IfErr result (λ stop. ((refusal : Refusal) × (stop ≡ Stop.Refused refusal) × Refuses command self.old refusal)
+            ⊎ IsFromOutside stop) }
+        ensures causes { (refusal : Refusal) → Refuses command self.old refusal → result ≡ Err (Stop.Refused refusal) }
+    {
         match command {
             Command::Delete { offset, bytes } => {
                 self.delete(offset, bytes)?;
@@ -182,7 +212,10 @@ impl Workbench {
         Ok(())
     }
 
-    fn answer<W: Write>(&self, number: u64, output: &mut W) -> Result<(), Stop> {
+    fn answer<W: Write>(&self, number: u64, output: &mut W) -> Result<(), Stop>
+        ensures written { OnOk result (Appends (W.contents output.old) (W.contents output.new) (decimal number ++ codes "\n")) }
+        ensures refused { IfErr result IsFromOutside }
+    {
         let text = format!(in self.alloc; "{number}\n")?;
         output.write_all(text.as_bytes())?;
         Ok(())
@@ -194,6 +227,7 @@ impl Workbench {
         ensures bad_deletion { (result ≡ Err Refusal.BadDeletion) ↔ ¬ AreDisjoint (self.old.deltas ++ (offset, bytes) ∷ []) }
         ensures refused { IfErr result (λ e. (e ≡ Refusal.BadDeletion) ⊎ (e ≡ Refusal.OutOfMemory)) }
         ensures unchanged { OnErr result (self.new.deltas ≡ self.old.deltas) }
+        ensures section_stays { self.new.section ≡ self.old.section }
     {
         let pair = [(offset, bytes)];
         if !self.deltas.is_mergeable(&pair) {
@@ -233,6 +267,7 @@ impl Workbench {
     fn call(&mut self, site: u64, target: u64) -> Result<(), CallError>
         ensures jumps { OnOk result
             (JumpsAt self.old.section.items self.new.section.items site (output_distance self.old.deltas site target)) }
+        ensures refused { (error : CallError) → (result ≡ Err error) ↔ FailsFor error self.old.section.items self.old.deltas site target }
         ensures unchanged { OnErr result (self.new.section.items ≡ self.old.section.items) }
         ensures deltas_stay { self.new.deltas ≡ self.old.deltas }
     {

@@ -1,6 +1,6 @@
 //! The deltas of several sections.
 
-ghost use Rattle.std.specs.Prelude.{◌≡◌, ◌<◌, ◌↔◌, ℕ, IsTrue, IfSome, IfOk, IfErr, OnOk, OnErr, None, MatchOption, option_map, option_copied};
+ghost use Rattle.std.specs.Prelude.{◌≡◌, ◌<◌, ◌↔◌, ℕ, IsTrue, IsOk, IfSome, IfOk, IfErr, OnOk, OnErr, None, MatchOption, option_map, option_copied};
 ghost use Rattle.std.specs.Borrow.{LendsIf, sem};
 ghost use Rattle.std.specs.FinMap as finite;
 ghost use Rattle.linker_base.specs.Sections.{IsAboveAll, IsLast, IndicesRise, IsAt, IsGap};
@@ -119,9 +119,10 @@ impl RelaxDeltaMap {
     }
 
     /// A copy of the map and of the deltas of each section. It takes memory once for the entries
-    /// and once for each section.
+    /// and once for each section that has any, and none where the map is empty.
     pub fn clone(&self) -> Result<Self, OutOfMemory>
-        ensures { IfOk result (λ sections. sections ≡ self.now) }
+        ensures ok { IfOk result (λ sections. sections ≡ self.now) }
+        ensures empty_succeeds { self.now ≡ finite.empty → IsOk result }
     {
         let sections = self.entries.as_slice();
         let mut entries = Vec::with_capacity(*self.entries.allocator(), sections.len())?;

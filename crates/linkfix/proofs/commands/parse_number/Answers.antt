@@ -1,7 +1,6 @@
-use Rattle.std.proofs.Common.{◌≡◌, ◌+◌, ◌*◌, ◌<◌, ◌≤◌, ◌∷◌, suc, length, drop, get_or, arith, drop-cons}
+use Rattle.std.proofs.Common.{◌+◌, ◌*◌, ◌<◌, suc, length, drop, get_or, arith, drop-cons}
 use Rattle.std.proofs.lemmas.Str.{digit_value_digit}
 use Rattle.std.specs.Char.{digit_value}
-use Rattle.std.specs.Str.Parse.{digits_value, digits_value_after}
 use Rattle.linkfix.proofs.Digits.{digits_value_after-grows}
 use Rattle.linkfix.proofs.commands.parse_number.Goals as goal
 
