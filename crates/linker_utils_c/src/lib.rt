@@ -1,0 +1,6 @@
+//! The core of a linker for programs in C and C++: numbers and slices of bytes in, a status out.
+#![tactic(auto)]
+
+mod forms;
+mod rewrites;
+mod status;
