@@ -1,3 +1,4 @@
 pub mod Forms
+pub mod Relocations
 pub mod Rewrites
 pub mod Status
