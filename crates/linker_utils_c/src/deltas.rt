@@ -3,16 +3,18 @@
 //! Deltas that `linker_utils_deltas_create` or `linker_utils_deltas_merge` wrote list deletions, and of
 //! those the calls say what they answer. Of any other array they are safe, and say nothing.
 
-ghost use Rattle.std.specs.Prelude.{◌≡◌, ◌≢◌, ◌<◌, ◌≤◌, ◌+◌, ◌^◌, ◌++◌, ◌↔◌, ◌⊎◌, IsTrue, IfOk, MatchOption, length, map};
+ghost use Rattle.std.specs.Prelude.{◌≡◌, ◌≢◌, ◌<◌, ◌≤◌, ◌+◌, ◌^◌, ◌++◌, ◌↔◌, ◌⊎◌, IsTrue, IfOk, MatchOption, MatchResult, pos, ◌-ℤ◌, length, map, take, max, All};
 ghost use Rattle.std.specs.List.Sorted.{IsNonDecreasing, IsPartitionPoint};
-ghost use Rattle.linker_base.specs.Deletions.{AreDisjoint, IsValid, IsBefore, EndFits, IsInside, IsSelected, HasInput, bytes_of, rank};
+ghost use Rattle.linker_base.specs.Deletions.{AreDisjoint, IsValid, IsBefore, EndFits, IsInside, IsSelected, HasInput, begun_below, bytes_of, rank};
 ghost use Rattle.linker_base.specs.Deltas.{IsListing};
 ghost use Rattle.linker_base.specs.Listed.{AreListed, ArePlaced};
+ghost use Rattle.linker_utils.specs.RiscV.{IsEven, IsJalDistance, JumpsAt, IsInSection, IsSiteKept, output_distance};
 ghost use Rattle.linker_utils_c.specs.Status.{code};
 ghost use Rattle.linker_utils_c.specs.Deltas.{pair_of, pairs_in, pairs_under, AreDeltasOf, AreMerged};
 
 use crate::status::Status;
 use linker_utils::relaxation::{OutOfMemory, RelaxDelta, SectionRelaxDeltas};
+use linker_utils::riscv64::{self, CallError};
 use std::alloc::Global;
 
 /// Some bytes of an input section that are deleted.
@@ -224,4 +226,257 @@ pub extern "C" fn linker_utils_deltas_total_deleted(deltas: &[RelaxDelta]) -> u6
         Some(delta) => delta.cumulative_deleted,
         None => 0,
     }
+}
+
+// The deletions of an array of deltas, as the library keeps them.
+fn section_of(alloc: Global, deltas: &[RelaxDelta]) -> Result<SectionRelaxDeltas, Status>
+    ensures { MatchResult result (λ section. (section ≡ pairs_under deltas.now) × IsValid (pairs_under deltas.now))
+        (λ status. (status ≡ Status.OutOfMemory) ⊎ ((status ≡ Status.InvalidDeletions) × ¬ IsValid (pairs_under deltas.now))) }
+{
+    let Ok(pairs) = pairs_of_deltas(alloc, deltas) else {
+        return Err(Status::OutOfMemory);
+    };
+    if !SectionRelaxDeltas::is_valid(&pairs) {
+        return Err(Status::InvalidDeletions);
+    }
+    match SectionRelaxDeltas::new(alloc, &pairs) {
+        Ok(section) => Ok(section),
+        Err(OutOfMemory) => Err(Status::OutOfMemory),
+    }
+}
+
+/// Whether `linker_utils_deltas_merge` takes the additional deletions, in any order.
+#[unsafe(no_mangle)]
+pub extern "C" fn linker_utils_deltas_is_mergeable(
+    alloc: Global,
+    deltas: &[RelaxDelta],
+    additional: &[Deletion],
+) -> u32
+    ensures mergeable { result ≡ code Status.Success → AreDisjoint (pairs_under deltas.now ++ pairs_in additional.now) }
+    ensures touching { result ≡ code Status.NotMergeable → ¬ AreDisjoint (pairs_under deltas.now ++ pairs_in additional.now) }
+    ensures invalid { result ≡ code Status.InvalidDeletions → ¬ IsValid (pairs_under deltas.now) }
+    ensures accepted { IsValid (pairs_under deltas.now) → AreDisjoint (pairs_under deltas.now ++ pairs_in additional.now)
+        → (result ≡ code Status.Success) ⊎ (result ≡ code Status.OutOfMemory) }
+{
+    let section = match section_of(alloc, deltas) {
+        Ok(section) => section,
+        Err(refusal) => return refusal.number(),
+    };
+    let Ok(pairs) = pairs_from(alloc, additional) else {
+        return Status::OutOfMemory.number();
+    };
+    if !section.is_mergeable(&pairs) {
+        return Status::NotMergeable.number();
+    }
+    Status::Success.number()
+}
+
+/// Writes the deltas of the old and the additional deletions, sorted, as many as both.
+#[unsafe(no_mangle)]
+pub extern "C" fn linker_utils_deltas_merge(
+    alloc: Global,
+    deltas: &[RelaxDelta],
+    additional: &[Deletion],
+    merged: &mut [RelaxDelta],
+) -> u32
+    ensures merged { result ≡ code Status.Success → AreMerged (pairs_under deltas.now ++ pairs_in additional.now) merged.new }
+    ensures different_lengths { (result ≡ code Status.DifferentLengths) ↔ (length merged.old ≢ length deltas.now + length additional.now) }
+    ensures touching { result ≡ code Status.NotMergeable → ¬ AreDisjoint (pairs_under deltas.now ++ pairs_in additional.now) }
+    ensures invalid { result ≡ code Status.InvalidDeletions → ¬ IsValid (pairs_under deltas.now) }
+    ensures accepted { length merged.old ≡ length deltas.now + length additional.now → IsValid (pairs_under deltas.now)
+        → AreDisjoint (pairs_under deltas.now ++ pairs_in additional.now) → (result ≡ code Status.Success) ⊎ (result ≡ code Status.OutOfMemory) }
+    ensures unchanged { result ≢ code Status.Success → merged.new ≡ merged.old }
+{
+    if merged.len() < deltas.len() || merged.len() - deltas.len() != additional.len() {
+        return Status::DifferentLengths.number();
+    }
+    let mut section = match section_of(alloc, deltas) {
+        Ok(section) => section,
+        Err(refusal) => return refusal.number(),
+    };
+    let Ok(pairs) = pairs_from(alloc, additional) else {
+        return Status::OutOfMemory.number();
+    };
+    if !section.is_mergeable(&pairs) {
+        return Status::NotMergeable.number();
+    }
+    if section.merge_additional(&pairs).is_err() {
+        return Status::OutOfMemory.number();
+    }
+    merged.copy_from_slice(section.deltas());
+    Status::Success.number()
+}
+
+// The output offset of a site of which none of the four bytes is deleted.
+#[inline(always)]
+fn kept_site(deltas: &[RelaxDelta], site: u64) -> Option<u64>
+    requires { site + 4 < 2 ^ 64 }
+    ensures low { MatchOption result (Unit {0}) (λ first. first ≤ site) }
+    ensures kept { AreListed deltas.now → MatchOption result (¬ IsSiteKept (pairs_under deltas.now) site)
+        (λ first. IsSiteKept (pairs_under deltas.now) site × (first ≡ rank (pairs_under deltas.now) site)) }
+{
+    let Some(first) = output_of(deltas, site) else {
+        return None;
+    };
+    let Some(past) = output_of(deltas, site + 4) else {
+        return None;
+    };
+    if past.saturating_sub(first) != 4 {
+        return None;
+    }
+    Some(first)
+}
+
+#[inline(always)]
+fn distance_between(from: u64, to: u64) -> i64
+    requires from_fits { from < 2 ^ 63 }
+    requires to_fits { to < 2 ^ 63 }
+    ensures { result ≡ pos to -ℤ pos from }
+{
+    to as i64 - from as i64
+}
+
+/// Turns the call at a site into a jump to a target, in a section whose bytes stand where they stood
+/// before the deletions.
+#[unsafe(no_mangle)]
+pub extern "C" fn linker_utils_relax_call(
+    section: &mut [u8],
+    deltas: &[RelaxDelta],
+    site: u64,
+    target: u64,
+) -> u32
+    ensures jumps { AreListed deltas.now → result ≡ code Status.Success
+        → JumpsAt section.old section.new site (output_distance (pairs_under deltas.now) site target) }
+    ensures out_of_section { (result ≡ code Status.OutOfSection) ↔ ¬ IsInSection section.old site target }
+    ensures site_deleted { AreListed deltas.now → (result ≡ code Status.SiteDeleted)
+        ↔ (IsInSection section.old site target × ¬ IsSiteKept (pairs_under deltas.now) site) }
+    ensures target_inside { AreListed deltas.now → (result ≡ code Status.TargetInside)
+        ↔ (IsInSection section.old site target × IsSiteKept (pairs_under deltas.now) site × IsInside (pairs_under deltas.now) target) }
+    ensures odd_distance { AreListed deltas.now → (result ≡ code Status.OddDistance)
+        ↔ (IsInSection section.old site target × IsSiteKept (pairs_under deltas.now) site × ¬ IsInside (pairs_under deltas.now) target
+        × ¬ IsEven (output_distance (pairs_under deltas.now) site target)) }
+    ensures too_far { AreListed deltas.now → (result ≡ code Status.TooFar)
+        ↔ (IsInSection section.old site target × IsSiteKept (pairs_under deltas.now) site × ¬ IsInside (pairs_under deltas.now) target
+        × IsEven (output_distance (pairs_under deltas.now) site target) × ¬ IsJalDistance (output_distance (pairs_under deltas.now) site target)) }
+    ensures accepted { AreListed deltas.now → (result ≡ code Status.Success)
+        ↔ (IsInSection section.old site target × IsSiteKept (pairs_under deltas.now) site × ¬ IsInside (pairs_under deltas.now) target
+        × IsEven (output_distance (pairs_under deltas.now) site target) × IsJalDistance (output_distance (pairs_under deltas.now) site target)) }
+    ensures unchanged { result ≢ code Status.Success → section.new ≡ section.old }
+{
+    let len = section.len() as u64;
+    if len < 4 || len - 4 < site || len < target {
+        return Status::OutOfSection.number();
+    }
+    let Some(from) = kept_site(deltas, site) else {
+        return Status::SiteDeleted.number();
+    };
+    let Some(to) = output_of(deltas, target) else {
+        return Status::TargetInside.number();
+    };
+    match riscv64::jal_site(section, site, distance_between(from, to)) {
+        Ok(()) => Status::Success.number(),
+        Err(CallError::OutOfSection) => Status::OutOfSection.number(),
+        Err(CallError::SiteDeleted) => Status::SiteDeleted.number(),
+        Err(CallError::TargetInside) => Status::TargetInside.number(),
+        Err(CallError::OddDistance) => Status::OddDistance.number(),
+        Err(CallError::TooFar) => Status::TooFar.number(),
+    }
+}
+
+// How many deltas begin strictly below an offset, or are passed before.
+#[inline(always)]
+fn pass(deltas: &[RelaxDelta], passed: usize, offset: u64) -> usize
+    requires { passed ≤ length deltas.now }
+    ensures within { result ≤ length deltas.now }
+    ensures walks { AreListed deltas.now → result ≡ max passed (begun_below (pairs_under deltas.now) offset) }
+{
+    let mut reached = passed;
+    while reached < deltas.len() && deltas[reached].input_offset < offset {
+        reached += 1;
+    }
+    reached
+}
+
+// Whether the offset lies strictly inside the last of the first deltas.
+#[inline(always)]
+fn is_inside_last(deltas: &[RelaxDelta], passed: usize, offset: u64) -> bool
+    requires { passed ≤ length deltas.now }
+    ensures { AreListed deltas.now → passed ≡ begun_below (pairs_under deltas.now) offset
+        → (IsTrue result ↔ IsInside (pairs_under deltas.now) offset) }
+{
+    let Some(last) = passed.checked_sub(1) else {
+        return false;
+    };
+    let delta = deltas[last];
+    offset.saturating_sub(delta.input_offset) < u64::from(delta.bytes_deleted)
+}
+
+// The bytes that the first deltas delete.
+#[inline(always)]
+fn bytes_of_first(deltas: &[RelaxDelta], passed: usize) -> u64
+    requires { passed ≤ length deltas.now }
+    ensures { AreListed deltas.now → result ≡ bytes_of (take passed (pairs_under deltas.now)) }
+{
+    match passed.checked_sub(1) {
+        Some(last) => deltas[last].cumulative_deleted,
+        None => 0,
+    }
+}
+
+// Whether none of the queries lies strictly inside a deletion, in one walk.
+fn are_outside(deltas: &[RelaxDelta], queries: &[u64]) -> bool
+    requires { IsNonDecreasing queries.now }
+    ensures { AreListed deltas.now → (IsTrue result ↔ All (λ i. ¬ (IsInside (pairs_under deltas.now) i)) queries.now) }
+{
+    let mut passed = 0;
+    for &query in queries {
+        passed = pass(deltas, passed, query);
+        if is_inside_last(deltas, passed, query) {
+            return false;
+        }
+    }
+    true
+}
+
+// Writes the output offset of each of the queries, in one walk.
+fn write_outputs(deltas: &[RelaxDelta], queries: &[u64], outputs: &mut [u64])
+    requires same_length { length queries.now ≡ length outputs.old }
+    requires ascending { IsNonDecreasing queries.now }
+    ensures { AreListed deltas.now → All (λ i. ¬ (IsInside (pairs_under deltas.now) i)) queries.now
+        → outputs.new ≡ map (rank (pairs_under deltas.now)) queries.now }
+{
+    let mut passed = 0;
+    for (at, &query) in queries.iter().enumerate() {
+        passed = pass(deltas, passed, query);
+        outputs[at] = query.saturating_sub(bytes_of_first(deltas, passed));
+    }
+}
+
+/// The output offset of each of the queries, which may not decrease, in one walk through the deltas.
+#[unsafe(no_mangle)]
+pub extern "C" fn linker_utils_deltas_translate_all(
+    deltas: &[RelaxDelta],
+    queries: &[u64],
+    outputs: &mut [u64],
+) -> u32
+    ensures ranks { AreListed deltas.now → result ≡ code Status.Success → outputs.new ≡ map (rank (pairs_under deltas.now)) queries.now }
+    ensures different_lengths { (result ≡ code Status.DifferentLengths) ↔ (length outputs.old ≢ length queries.now) }
+    ensures falling { (result ≡ code Status.NotAscending) ↔ ((length outputs.old ≡ length queries.now) × ¬ IsNonDecreasing queries.now) }
+    ensures inside { AreListed deltas.now → (result ≡ code Status.InsideDeletion)
+        ↔ ((length outputs.old ≡ length queries.now) × IsNonDecreasing queries.now × ¬ All (λ i. ¬ (IsInside (pairs_under deltas.now) i)) queries.now) }
+    ensures accepted { AreListed deltas.now → (result ≡ code Status.Success)
+        ↔ ((length outputs.old ≡ length queries.now) × IsNonDecreasing queries.now × All (λ i. ¬ (IsInside (pairs_under deltas.now) i)) queries.now) }
+    ensures unchanged { result ≢ code Status.Success → outputs.new ≡ outputs.old }
+{
+    if outputs.len() != queries.len() {
+        return Status::DifferentLengths.number();
+    }
+    if !queries.is_sorted() {
+        return Status::NotAscending.number();
+    }
+    if !are_outside(deltas, queries) {
+        return Status::InsideDeletion.number();
+    }
+    write_outputs(deltas, queries, outputs);
+    Status::Success.number()
 }
