@@ -1,12 +1,14 @@
 -- Lists of deletions and deltas that are made one by one, and what searches in them find.
-use Rattle.std.proofs.Common.{◌≡◌, ℕ, ◌+◌, ◌-◌, ◌<◌, ◌≤◌, List, [], ◌∷◌, ◌++◌, length, map, get_or, take, set, refl, sym, ap, ◌∙◌, arith}
-use Rattle.std.specs.Prelude.{◌^◌, ◌↔◌}
+use Rattle.std.proofs.Common.{◌≡◌, ℕ, ◌+◌, ◌-◌, ◌<◌, ◌≤◌, List, [], ◌∷◌, ◌++◌, length, map, get_or, take, set, refl, sym, ap, ◌∙◌, inl, inr, arith}
+use Rattle.std.specs.Prelude.{◌^◌, ◌↔◌, max, All}
 use Rattle.std.specs.List.Sorted.{IsPartitionPoint}
-use Rattle.std.proofs.lemmas.List.{get_or-map, length-map, take_more, take_more_set, take_all}
+use Rattle.std.proofs.lemmas.Bool.{cases_lt}
+use Rattle.std.proofs.lemmas.List.{get_or-map, get_or-take, length-map, length-take, take_more, take_more_set}
 use Rattle.linker_base.specs.declared.relaxation.RelaxDelta.{RelaxDelta}
-use Rattle.linker_base.specs.Deletions.{IsValid, IsInside, IsSelected, HasInput, bytes_of, rank}
+use Rattle.linker_base.specs.Deletions.{IsValid, IsInside, IsSelected, HasInput, begun_below, bytes_of, rank}
 use Rattle.linker_base.specs.Deltas.{deletion_of, IsListing}
 use Rattle.linker_base.specs.Listed.{AreListed, ArePlaced}
+use Rattle.linker_base.proofs.Laws.{begun_parted}
 use Rattle.linker_base.proofs.Listed.{IsListing-more}
 use Rattle.linker_base.proofs.Search.{blank, deletion_at, inside_last, rank_from_search, selected_from_search, fits_from_search}
 use Rattle.linker_utils_c.specs.declared.deltas.Deletion.{Deletion}
@@ -77,3 +79,16 @@ module _ (deltas : List RelaxDelta) (listed : AreListed deltas) where
 
   pub input_before : (y : ℕ) → ArePlaced ds y 0 → IsSelected ds y (y + 0) × (HasInput ds y ↔ (y + 0 < 2 ^ 64))
   input_before y placed = (selected_from_search ds listed.valid y 0 (omega arith) placed, fits_from_search ds listed.valid y 0 (omega arith) placed)
+
+-- what a walk has passed at a query is what begins below it, where all that it had passed does
+pub begun_at : (ds : List (ℕ × ℕ)) → IsValid ds → (before after i : ℕ) → after ≡ max before (begun_below ds i) → before ≤ length ds → All (λ d. d.0 < i) (take before ds) → after ≡ begun_below ds i
+begun_at ds valid before after i moved within below =
+    let b = begun_below ds i in
+    let parted = begun_parted ds i valid.ascending in
+    let enough : before ≤ b = elim (cases_lt b before) [
+      | inl short ↦
+          let inside : b < length (take before ds) = omega (arith, length-take before ds) in
+          absurd (omega (arith, rw (get_or-take before ds b (0, 0) short) at (below b (0, 0) inside), parted.1 b (0, 0) (omega arith) (omega arith)))
+      | inr le ↦ le
+    ] in
+    omega arith

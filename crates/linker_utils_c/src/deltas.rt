@@ -452,6 +452,15 @@ fn write_outputs(deltas: &[RelaxDelta], queries: &[u64], outputs: &mut [u64])
     }
 }
 
+fn ascend(queries: &[u64]) -> bool
+    ensures { IsTrue result ↔ IsNonDecreasing queries.now }
+{
+    if queries.is_sorted() {
+        return true;
+    }
+    false
+}
+
 /// The output offset of each of the queries, which may not decrease, in one walk through the deltas.
 #[unsafe(no_mangle)]
 pub extern "C" fn linker_utils_deltas_translate_all(
@@ -471,7 +480,7 @@ pub extern "C" fn linker_utils_deltas_translate_all(
     if outputs.len() != queries.len() {
         return Status::DifferentLengths.number();
     }
-    if !queries.is_sorted() {
+    if !ascend(queries) {
         return Status::NotAscending.number();
     }
     if !are_outside(deltas, queries) {
