@@ -38,11 +38,7 @@ pub extern "C" fn linker_utils_u64_from_slice(bytes: &[u8], value: &mut u64) -> 
 
 /// The little-endian number of the first four bytes, and how many bytes it took.
 #[unsafe(no_mangle)]
-pub extern "C" fn linker_utils_read_u32(
-    bytes: &[u8],
-    value: &mut u32,
-    consumed: &mut usize,
-) -> u32
+pub extern "C" fn linker_utils_read_u32(bytes: &[u8], value: &mut u32, consumed: &mut usize) -> u32
     ensures room { HasRoom 4 bytes.now result }
     ensures number { result ≡ code Status.Success → value.new ≡ from_le_bytes w32 bytes.now }
     ensures taken { result ≡ code Status.Success → consumed.new ≡ 4 }
