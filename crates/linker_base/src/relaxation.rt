@@ -47,6 +47,7 @@ impl<T: Drop> From<AllocFailed<T>> for OutOfMemory {
 }
 
 /// One deletion in an input section, with the sum of the deletions up to it.
+#[repr(C)]
 #[derive(Debug, Clone, Copy, PartialEq, Eq)]
 pub struct RelaxDelta {
     /// The offset in the input section of the first deleted byte.

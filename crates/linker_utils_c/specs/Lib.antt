@@ -1,0 +1,5 @@
+pub mod Deltas
+pub mod Forms
+pub mod Relocations
+pub mod Rewrites
+pub mod Status

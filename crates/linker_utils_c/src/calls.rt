@@ -1,0 +1,75 @@
+//! RISC-V calls that become jumps, and tests for shorter instructions.
+
+ghost use Rattle.std.specs.Prelude.{◌≡◌, ◌≢◌, ◌↔◌, ◌<◌, ◌≤◌, ◌+◌, IsTrue, length};
+ghost use Rattle.linker_base.specs.Bits.{signed};
+ghost use Rattle.linker_utils.specs.RiscV.{IsEven, IsJalDistance, JumpsAt, IsPlainCall, FitsClui, HoldsHigh, IsSigned32, high_20, low_12};
+ghost use Rattle.linker_utils_c.specs.Status.{code};
+
+use crate::status::Status;
+use linker_utils::elf::RiscVInstruction;
+use linker_utils::riscv64::{self, CallError, RelaxationKind};
+
+/// Turns the `auipc` at a site of a section into a `jal` by a distance in bytes, with the `auipc`'s
+/// destination register. The first that applies of `OutOfSection`, `OddDistance`, `TooFar`.
+#[unsafe(no_mangle)]
+pub extern "C" fn linker_utils_jal_site(section: &mut [u8], site: u64, distance: i64) -> u32
+    ensures jumps { result ≡ code Status.Success → JumpsAt section.old section.new site distance }
+    ensures out_of_section { (result ≡ code Status.OutOfSection) ↔ (length section.old < site + 4) }
+    ensures odd_distance { (result ≡ code Status.OddDistance) ↔ ((site + 4 ≤ length section.old) × ¬ IsEven distance) }
+    ensures too_far { (result ≡ code Status.TooFar) ↔ ((site + 4 ≤ length section.old) × IsEven distance × ¬ IsJalDistance distance) }
+    ensures accepted { (result ≡ code Status.Success) ↔ ((site + 4 ≤ length section.old) × IsEven distance × IsJalDistance distance) }
+    ensures unchanged { result ≢ code Status.Success → section.new ≡ section.old }
+{
+    match riscv64::jal_site(section, site, distance) {
+        Ok(()) => Status::Success.number(),
+        Err(CallError::OutOfSection) => Status::OutOfSection.number(),
+        Err(CallError::SiteDeleted) => Status::SiteDeleted.number(),
+        Err(CallError::TargetInside) => Status::TargetInside.number(),
+        Err(CallError::OddDistance) => Status::OddDistance.number(),
+        Err(CallError::TooFar) => Status::TooFar.number(),
+    }
+}
+
+/// Whether the eight bytes of a plain call stand at the site: `auipc` and then `jalr` with the same
+/// register as source and as both destinations.
+#[unsafe(no_mangle)]
+pub extern "C" fn linker_utils_is_plain_call(section: &[u8], site: u64) -> bool
+    ensures { IsTrue result ↔ IsPlainCall section.now site }
+{
+    riscv64::is_plain_call(section, site)
+}
+
+/// Whether a distance in bytes lies in the range of `jal`.
+#[unsafe(no_mangle)]
+pub extern "C" fn linker_utils_distance_fits_jal(distance: i64) -> bool
+    ensures { IsTrue result ↔ IsJalDistance distance }
+{
+    riscv64::distance_fits_jal(distance)
+}
+
+/// Whether the high part of a value is 0.
+#[unsafe(no_mangle)]
+pub extern "C" fn linker_utils_hi20_is_zero(value: u64) -> bool
+    ensures exactly { IsTrue result ↔ (high_20 value ≡ 0) }
+    ensures low { IsTrue result → IsSigned32 (signed 64 value) → signed 64 value ≡ low_12 value }
+{
+    RelaxationKind::hi20_is_zero(value)
+}
+
+/// Whether `c.lui` holds the high part of a value.
+#[unsafe(no_mangle)]
+pub extern "C" fn linker_utils_hi20_fits_clui(value: u64) -> bool
+    ensures exactly { IsTrue result ↔ FitsClui value }
+    ensures compressed { IsTrue result → HoldsHigh RiscVInstruction.CluiType value }
+    ensures whole { IsTrue result → HoldsHigh RiscVInstruction.UType value }
+{
+    RelaxationKind::hi20_fits_clui(value)
+}
+
+/// Whether a register can be the destination of `c.lui`.
+#[unsafe(no_mangle)]
+pub extern "C" fn linker_utils_rd_valid_for_clui(rd: u32) -> bool
+    ensures { IsTrue result ↔ ((rd ≢ 0) × (rd ≢ 2)) }
+{
+    RelaxationKind::rd_valid_for_clui(rd)
+}

@@ -1,0 +1,241 @@
+//! Values in the fields of instructions, by numbers of architectures and forms.
+
+ghost use Rattle.std.specs.Prelude.{◌≡◌, ◌≢◌, slice_get, IfOk, IfErr, IfSome, IfNone};
+ghost use Rattle.std.specs.Int.{byte_len, cast_unsigned, w64};
+ghost use Rattle.linker_base.specs.Form.{window_of};
+ghost use Rattle.linker_utils.specs.Elf.{relocation_form};
+ghost use Rattle.linker_utils_c.specs.Status.{code, HasRoom};
+ghost use Rattle.linker_utils_c.specs.Forms.{aarch64_forms, riscv_forms, loongarch64_forms, ppc64_forms, named_form, TakesValue, HasValue};
+
+use crate::status::Status;
+use linker_utils::elf::{
+    AArch64Instruction, InstructionForm, LoongArch64Instruction, Ppc64Instruction,
+    RelocationInstruction, RiscVInstruction,
+};
+
+#[inline(always)]
+fn aarch64_form(number: u32) -> Option<AArch64Instruction>
+    ensures { result ≡ slice_get aarch64_forms number }
+{
+    let form = match number {
+        0 => AArch64Instruction::Adr,
+        1 => AArch64Instruction::Movkz,
+        2 => AArch64Instruction::Movnz,
+        3 => AArch64Instruction::Ldr,
+        4 => AArch64Instruction::LdrRegister,
+        5 => AArch64Instruction::Add,
+        6 => AArch64Instruction::LdSt,
+        7 => AArch64Instruction::TstBr,
+        8 => AArch64Instruction::Bcond,
+        9 => AArch64Instruction::JumpCall,
+        10 => AArch64Instruction::MachOLow12,
+        _ => return None,
+    };
+    Some(form)
+}
+
+#[inline(always)]
+fn riscv_form(number: u32) -> Option<RiscVInstruction>
+    ensures { result ≡ slice_get riscv_forms number }
+{
+    let form = match number {
+        0 => RiscVInstruction::UType,
+        1 => RiscVInstruction::IType,
+        2 => RiscVInstruction::SType,
+        3 => RiscVInstruction::BType,
+        4 => RiscVInstruction::JType,
+        5 => RiscVInstruction::CbType,
+        6 => RiscVInstruction::CjType,
+        7 => RiscVInstruction::CluiType,
+        8 => RiscVInstruction::UiType,
+        _ => return None,
+    };
+    Some(form)
+}
+
+#[inline(always)]
+fn loongarch64_form(number: u32) -> Option<LoongArch64Instruction>
+    ensures { result ≡ slice_get loongarch64_forms number }
+{
+    let form = match number {
+        0 => LoongArch64Instruction::Shift5,
+        1 => LoongArch64Instruction::Shift10,
+        2 => LoongArch64Instruction::Branch26,
+        3 => LoongArch64Instruction::Branch21,
+        4 => LoongArch64Instruction::Call30,
+        5 => LoongArch64Instruction::Call36,
+        _ => return None,
+    };
+    Some(form)
+}
+
+#[inline(always)]
+fn ppc64_form(number: u32) -> Option<Ppc64Instruction>
+    ensures { result ≡ slice_get ppc64_forms number }
+{
+    let form = match number {
+        0 => Ppc64Instruction::D,
+        1 => Ppc64Instruction::Ds,
+        2 => Ppc64Instruction::Branch14,
+        3 => Ppc64Instruction::Branch24,
+        _ => return None,
+    };
+    Some(form)
+}
+
+/// The form of an architecture and a number, or which of the two is unknown.
+#[inline(always)]
+fn form_of(architecture: u32, form: u32) -> Result<RelocationInstruction, Status>
+    ensures { result ≡ named_form architecture form }
+{
+    let named = match architecture {
+        0 => aarch64_form(form).map(RelocationInstruction::AArch64),
+        1 => riscv_form(form).map(RelocationInstruction::RiscV),
+        2 => loongarch64_form(form).map(RelocationInstruction::LoongArch64),
+        3 => ppc64_form(form).map(RelocationInstruction::Ppc64),
+        _ => return Err(Status::UnknownArchitecture),
+    };
+    named.ok_or(Status::UnknownForm)
+}
+
+/// The length in bytes of the window that a form reads and writes. `UnknownArchitecture`,
+/// `UnknownForm`.
+#[unsafe(no_mangle)]
+pub extern "C" fn linker_utils_window(architecture: u32, form: u32, window: &mut usize) -> u32
+    ensures found { IfOk (named_form architecture form) (λ named. (result ≡ code Status.Success) × (window.new ≡ byte_len (relocation_form named).window)) }
+    ensures refused { IfErr (named_form architecture form) (λ refusal. (result ≡ code refusal) × (window.new ≡ window.old)) }
+{
+    match form_of(architecture, form) {
+        Ok(named) => {
+            *window = named.window();
+            Status::Success.number()
+        }
+        Err(refusal) => refusal.number(),
+    }
+}
+
+/// Whether `linker_utils_write` of the value to these bytes would answer `Success`: it answers what
+/// that would.
+#[unsafe(no_mangle)]
+pub extern "C" fn linker_utils_fits(architecture: u32, form: u32, value: u64, bytes: &[u8]) -> u32
+    ensures known { IfOk (named_form architecture form) (λ named. TakesValue (relocation_form named) value bytes.now result) }
+    ensures refused { IfErr (named_form architecture form) (λ refusal. result ≡ code refusal) }
+{
+    match form_of(architecture, form) {
+        Ok(named) => fit(named, value, bytes).number(),
+        Err(refusal) => refusal.number(),
+    }
+}
+
+#[inline(always)]
+fn fit<F: InstructionForm>(form: F, value: u64, bytes: &[u8]) -> Status
+    ensures { TakesValue (F.form form) value bytes.now (code result) }
+{
+    if bytes.len() < form.window() {
+        return Status::TooShort;
+    }
+    if !form.fits(value, bytes) {
+        return Status::DoesNotFit;
+    }
+    Status::Success
+}
+
+// Writes a value by a form, if there is one.
+#[inline(always)]
+fn write_by<F: InstructionForm>(
+    form: Option<F>,
+    value: u64,
+    negative: bool,
+    dest: &mut [u8],
+) -> Status
+    ensures known { IfSome form (λ named. TakesValue (F.form named) value dest.old (code result)) }
+    ensures written { IfSome form (λ named. result ≡ Status.Success → HasValue (F.form named) value negative dest.old dest.new) }
+    ensures unknown { IfNone form (result ≡ Status.UnknownForm) }
+    ensures unchanged { result ≢ Status.Success → dest.new ≡ dest.old }
+{
+    let Some(named) = form else {
+        return Status::UnknownForm;
+    };
+    let status = fit(named, value, dest);
+    if status != Status::Success {
+        return status;
+    }
+    named.write(value, negative, dest);
+    Status::Success
+}
+
+/// Writes a value and its sign into the instruction that `dest` begins with, and changes no bit but
+/// the form's. `UnknownArchitecture`, `UnknownForm`, `TooShort` with fewer bytes than the window,
+/// `DoesNotFit`.
+#[unsafe(no_mangle)]
+pub extern "C" fn linker_utils_write(
+    architecture: u32,
+    form: u32,
+    value: u64,
+    negative: bool,
+    dest: &mut [u8],
+) -> u32
+    ensures known { IfOk (named_form architecture form) (λ named. TakesValue (relocation_form named) value dest.old result) }
+    ensures written { IfOk (named_form architecture form) (λ named. result ≡ code Status.Success → HasValue (relocation_form named) value negative dest.old dest.new) }
+    ensures refused { IfErr (named_form architecture form) (λ refusal. result ≡ code refusal) }
+    ensures unchanged { result ≢ code Status.Success → dest.new ≡ dest.old }
+{
+    match architecture {
+        0 => write_by(aarch64_form(form), value, negative, dest).number(),
+        1 => write_by(riscv_form(form), value, negative, dest).number(),
+        2 => write_by(loongarch64_form(form), value, negative, dest).number(),
+        3 => write_by(ppc64_form(form), value, negative, dest).number(),
+        _ => Status::UnknownArchitecture.number(),
+    }
+}
+
+// Reads a value by a form, if there is one.
+#[inline(always)]
+fn read_by<F: InstructionForm>(
+    form: Option<F>,
+    bytes: &[u8],
+    value: &mut u64,
+    negative: &mut bool,
+) -> Status
+    ensures known { IfSome form (λ named. HasRoom (byte_len (F.form named).window) bytes.now (code result)) }
+    ensures number { IfSome form (λ named. result ≡ Status.Success → value.new ≡ cast_unsigned w64 ((F.form named).reading (window_of (F.form named) bytes.now))) }
+    ensures flag { IfSome form (λ named. result ≡ Status.Success → negative.new ≡ (F.form named).flag (window_of (F.form named) bytes.now)) }
+    ensures unknown { IfNone form (result ≡ Status.UnknownForm) }
+    ensures value_stays { result ≢ Status.Success → value.new ≡ value.old }
+    ensures flag_stays { result ≢ Status.Success → negative.new ≡ negative.old }
+{
+    let Some(named) = form else {
+        return Status::UnknownForm;
+    };
+    if bytes.len() < named.window() {
+        return Status::TooShort;
+    }
+    (*value, *negative) = named.read(bytes);
+    Status::Success
+}
+
+/// Reads the value in the instruction that `bytes` begins with, modulo 2^64, and the form's flag.
+/// `UnknownArchitecture`, `UnknownForm`, `TooShort` with fewer bytes than the window.
+#[unsafe(no_mangle)]
+pub extern "C" fn linker_utils_read(
+    architecture: u32,
+    form: u32,
+    bytes: &[u8],
+    value: &mut u64,
+    negative: &mut bool,
+) -> u32
+    ensures known { IfOk (named_form architecture form) (λ named. HasRoom (byte_len (relocation_form named).window) bytes.now result) }
+    ensures number { IfOk (named_form architecture form) (λ named. result ≡ code Status.Success → value.new ≡ cast_unsigned w64 ((relocation_form named).reading (window_of (relocation_form named) bytes.now))) }
+    ensures flag { IfOk (named_form architecture form) (λ named. result ≡ code Status.Success → negative.new ≡ (relocation_form named).flag (window_of (relocation_form named) bytes.now)) }
+    ensures refused { IfErr (named_form architecture form) (λ refusal. result ≡ code refusal) }
+    ensures value_stays { result ≢ code Status.Success → value.new ≡ value.old }
+    ensures flag_stays { result ≢ code Status.Success → negative.new ≡ negative.old }
+{
+    match architecture {
+        0 => read_by(aarch64_form(form), bytes, value, negative).number(),
+        1 => read_by(riscv_form(form), bytes, value, negative).number(),
+        2 => read_by(loongarch64_form(form), bytes, value, negative).number(),
+        3 => read_by(ppc64_form(form), bytes, value, negative).number(),
+        _ => Status::UnknownArchitecture.number(),
+    }
+}

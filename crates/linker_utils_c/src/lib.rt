@@ -1,0 +1,11 @@
+//! The core of a linker for programs in C and C++: numbers and slices of bytes in, a status out.
+#![tactic(auto)]
+
+mod calls;
+mod deltas;
+mod forms;
+mod readers;
+mod relocations;
+mod rewrites;
+mod sequences;
+mod status;

@@ -1,0 +1,362 @@
+//! Rewrites of instructions, by numbers of architectures and rewrites.
+
+ghost use Rattle.std.specs.Prelude.{◌≡◌, ◌≢◌, ◌↔◌, IsTrue, slice_get, Option, IfOk, IfErr, IfSome, IfNone};
+ghost use Rattle.linker_base.specs.Rewrite.{Rewrite, CanRewrite};
+ghost use Rattle.linker_base.specs.declared.relaxation.RelocationModifier.{RelocationModifier};
+ghost use Rattle.linker_utils.specs.AArch64.{aarch64_rewrite, aarch64_modifier};
+ghost use Rattle.linker_utils.specs.RiscV.{riscv_rewrite, riscv_modifier};
+ghost use Rattle.linker_utils.specs.LoongArch.{loongarch_rewrite, loongarch_modifier};
+ghost use Rattle.linker_utils.specs.PowerPc.{ppc64_rewrite, ppc64_modifier};
+ghost use Rattle.linker_utils.specs.X86.{x86_64_rewrite, x86_64_modifier};
+ghost use Rattle.linker_utils_c.specs.Status.{code};
+ghost use Rattle.linker_utils_c.specs.Rewrites.{aarch64_rewrites, riscv_rewrites, loongarch64_rewrites, ppc64_rewrites, x86_64_rewrites, named_rewrite, relaxation_rewrite, relaxation_modifier, modifier_number, TakesRewrite, IsRewritten};
+
+use crate::status::Status;
+use linker_utils::relaxation::RelocationModifier;
+use linker_utils::{aarch64, loongarch64, ppc64, riscv64, x86_64};
+
+/// A rewrite of one architecture.
+trait Rewriting: Copy {
+    // what the rewrite does, and what becomes of the next relocation
+    ghost rewrite: { Self → Option Rewrite };
+
+    ghost modifier: { Self → RelocationModifier };
+
+    /// Rewrites the instruction at an offset of a section.
+    fn rewrite_at(self, section: &mut [u8], offset: &mut u64, addend: &mut i64)
+        requires { CanRewrite (rewrite self) section.old offset.old }
+        ensures { IsRewritten (rewrite self) section.old section.new offset.old offset.new addend.old addend.new };
+
+    /// Whether it may be applied at an offset of a section.
+    fn can_rewrite_at(self, section: &[u8], offset: u64) -> bool
+        ensures { IsTrue result ↔ CanRewrite (rewrite self) section.now offset };
+
+    /// What becomes of the next relocation.
+    fn modifier_after(self) -> RelocationModifier
+        ensures { result ≡ modifier self };
+}
+
+impl Rewriting for aarch64::RelaxationKind {
+    ghost rewrite = { aarch64_rewrite };
+
+    ghost modifier = { aarch64_modifier };
+
+    #[inline(always)]
+    fn rewrite_at(self, section: &mut [u8], offset: &mut u64, addend: &mut i64) {
+        self.apply(section, offset, addend);
+    }
+
+    #[inline(always)]
+    fn can_rewrite_at(self, section: &[u8], offset: u64) -> bool {
+        self.can_apply(section, offset)
+    }
+
+    #[inline(always)]
+    fn modifier_after(self) -> RelocationModifier {
+        self.next_modifier()
+    }
+}
+
+impl Rewriting for riscv64::RelaxationKind {
+    ghost rewrite = { riscv_rewrite };
+
+    ghost modifier = { riscv_modifier };
+
+    #[inline(always)]
+    fn rewrite_at(self, section: &mut [u8], offset: &mut u64, addend: &mut i64) {
+        self.apply(section, offset, addend);
+    }
+
+    #[inline(always)]
+    fn can_rewrite_at(self, section: &[u8], offset: u64) -> bool {
+        self.can_apply(section, offset)
+    }
+
+    #[inline(always)]
+    fn modifier_after(self) -> RelocationModifier {
+        self.next_modifier()
+    }
+}
+
+impl Rewriting for loongarch64::RelaxationKind {
+    ghost rewrite = { loongarch_rewrite };
+
+    ghost modifier = { loongarch_modifier };
+
+    #[inline(always)]
+    fn rewrite_at(self, section: &mut [u8], offset: &mut u64, addend: &mut i64) {
+        self.apply(section, offset, addend);
+    }
+
+    #[inline(always)]
+    fn can_rewrite_at(self, section: &[u8], offset: u64) -> bool {
+        self.can_apply(section, offset)
+    }
+
+    #[inline(always)]
+    fn modifier_after(self) -> RelocationModifier {
+        self.next_modifier()
+    }
+}
+
+impl Rewriting for ppc64::RelaxationKind {
+    ghost rewrite = { ppc64_rewrite };
+
+    ghost modifier = { ppc64_modifier };
+
+    #[inline(always)]
+    fn rewrite_at(self, section: &mut [u8], offset: &mut u64, addend: &mut i64) {
+        self.apply(section, offset, addend);
+    }
+
+    #[inline(always)]
+    fn can_rewrite_at(self, section: &[u8], offset: u64) -> bool {
+        self.can_apply(section, offset)
+    }
+
+    #[inline(always)]
+    fn modifier_after(self) -> RelocationModifier {
+        self.next_modifier()
+    }
+}
+
+impl Rewriting for x86_64::RelaxationKind {
+    ghost rewrite = { x86_64_rewrite };
+
+    ghost modifier = { x86_64_modifier };
+
+    #[inline(always)]
+    fn rewrite_at(self, section: &mut [u8], offset: &mut u64, addend: &mut i64) {
+        self.apply(section, offset, addend);
+    }
+
+    #[inline(always)]
+    fn can_rewrite_at(self, section: &[u8], offset: u64) -> bool {
+        self.can_apply(section, offset)
+    }
+
+    #[inline(always)]
+    fn modifier_after(self) -> RelocationModifier {
+        self.next_modifier()
+    }
+}
+
+#[inline(always)]
+fn aarch64_rewrite(number: u32) -> Option<aarch64::RelaxationKind>
+    ensures { result ≡ slice_get aarch64_rewrites number }
+{
+    let kind = match number {
+        0 => aarch64::RelaxationKind::NoOp,
+        1 => aarch64::RelaxationKind::ReplaceWithNop,
+        2 => aarch64::RelaxationKind::MovzX0Lsl16,
+        3 => aarch64::RelaxationKind::MovkX0,
+        4 => aarch64::RelaxationKind::MovzXnLsl16,
+        5 => aarch64::RelaxationKind::MovkXn,
+        6 => aarch64::RelaxationKind::AdrpToAdr,
+        7 => aarch64::RelaxationKind::AdrpX0,
+        8 => aarch64::RelaxationKind::LdrX0,
+        9 => aarch64::RelaxationKind::AddToAdr,
+        10 => aarch64::RelaxationKind::LdrToAdr,
+        11 => aarch64::RelaxationKind::LdrToAdd,
+        12 => aarch64::RelaxationKind::AdrpAddToNopAdr,
+        _ => return None,
+    };
+    Some(kind)
+}
+
+#[inline(always)]
+fn riscv_rewrite(number: u32) -> Option<riscv64::RelaxationKind>
+    ensures { result ≡ slice_get riscv_rewrites number }
+{
+    let kind = match number {
+        0 => riscv64::RelaxationKind::NoOp,
+        1 => riscv64::RelaxationKind::ReplaceWithNop,
+        2 => riscv64::RelaxationKind::CallToJal,
+        3 => riscv64::RelaxationKind::Hi20ToCLui,
+        4 => riscv64::RelaxationKind::Hi20Delete,
+        5 => riscv64::RelaxationKind::Lo12Rs1ToZero,
+        _ => return None,
+    };
+    Some(kind)
+}
+
+#[inline(always)]
+fn loongarch64_rewrite(number: u32) -> Option<loongarch64::RelaxationKind>
+    ensures { result ≡ slice_get loongarch64_rewrites number }
+{
+    let kind = match number {
+        0 => loongarch64::RelaxationKind::NoOp,
+        1 => loongarch64::RelaxationKind::ReplaceWithNop,
+        _ => return None,
+    };
+    Some(kind)
+}
+
+#[inline(always)]
+fn ppc64_rewrite(number: u32) -> Option<ppc64::RelaxationKind>
+    ensures { result ≡ slice_get ppc64_rewrites number }
+{
+    let kind = match number {
+        0 => ppc64::RelaxationKind::NoOp,
+        _ => return None,
+    };
+    Some(kind)
+}
+
+#[inline(always)]
+fn x86_64_rewrite(number: u32, n: u8) -> Option<x86_64::RelaxationKind>
+    ensures { result ≡ slice_get (x86_64_rewrites n) number }
+{
+    let kind = match number {
+        0 => x86_64::RelaxationKind::MovIndirectToLea,
+        1 => x86_64::RelaxationKind::MovIndirectToAbsolute,
+        2 => x86_64::RelaxationKind::RexMovIndirectToAbsolute(n),
+        3 => x86_64::RelaxationKind::RexAddIndirectToAbsolute(n),
+        4 => x86_64::RelaxationKind::RexSubIndirectToAbsolute(n),
+        5 => x86_64::RelaxationKind::RexCmpIndirectToAbsolute(n),
+        6 => x86_64::RelaxationKind::CallIndirectToRelative,
+        7 => x86_64::RelaxationKind::JmpIndirectToRelative,
+        8 => x86_64::RelaxationKind::NoOp,
+        9 => x86_64::RelaxationKind::TlsGdToLocalExec,
+        10 => x86_64::RelaxationKind::TlsGdToLocalExecLarge,
+        11 => x86_64::RelaxationKind::TlsLdToLocalExec,
+        12 => x86_64::RelaxationKind::TlsLdToLocalExecNoPlt,
+        13 => x86_64::RelaxationKind::TlsLdToLocalExec64,
+        14 => x86_64::RelaxationKind::TlsGdToInitialExec,
+        15 => x86_64::RelaxationKind::TlsDescToLocalExec(n),
+        16 => x86_64::RelaxationKind::TlsDescToInitialExec,
+        17 => x86_64::RelaxationKind::SkipTlsDescCall,
+        _ => return None,
+    };
+    Some(kind)
+}
+
+// Whether a rewrite, if there is one, can be applied.
+#[inline(always)]
+fn test_by<R: Rewriting>(rewrite: Option<R>, section: &[u8], offset: u64) -> Status
+    ensures known { IfSome rewrite (λ named. TakesRewrite (R.rewrite named) section.now offset (code result)) }
+    ensures unknown { IfNone rewrite (result ≡ Status.UnknownRewrite) }
+{
+    let Some(named) = rewrite else {
+        return Status::UnknownRewrite;
+    };
+    if !named.can_rewrite_at(section, offset) {
+        return Status::CannotApply;
+    }
+    Status::Success
+}
+
+// Applies a rewrite, if there is one.
+#[inline(always)]
+fn apply_by<R: Rewriting>(
+    rewrite: Option<R>,
+    section: &mut [u8],
+    offset: &mut u64,
+    addend: &mut i64,
+) -> Status
+    ensures known { IfSome rewrite (λ named. TakesRewrite (R.rewrite named) section.old offset.old (code result)) }
+    ensures rewritten { IfSome rewrite (λ named. result ≡ Status.Success
+        → IsRewritten (R.rewrite named) section.old section.new offset.old offset.new addend.old addend.new) }
+    ensures unknown { IfNone rewrite (result ≡ Status.UnknownRewrite) }
+    ensures section_stays { result ≢ Status.Success → section.new ≡ section.old }
+    ensures offset_stays { result ≢ Status.Success → offset.new ≡ offset.old }
+    ensures addend_stays { result ≢ Status.Success → addend.new ≡ addend.old }
+{
+    let Some(named) = rewrite else {
+        return Status::UnknownRewrite;
+    };
+    if !named.can_rewrite_at(section, *offset) {
+        return Status::CannotApply;
+    }
+    named.rewrite_at(section, offset, addend);
+    Status::Success
+}
+
+// What becomes of the relocation after a rewrite, if there is one.
+#[inline(always)]
+fn modifier_by<R: Rewriting>(rewrite: Option<R>, modifier: &mut u32) -> Status
+    ensures found { IfSome rewrite (λ named. (result ≡ Status.Success) × (modifier.new ≡ modifier_number (R.modifier named))) }
+    ensures unknown { IfNone rewrite ((result ≡ Status.UnknownRewrite) × (modifier.new ≡ modifier.old)) }
+{
+    let Some(named) = rewrite else {
+        return Status::UnknownRewrite;
+    };
+    *modifier = match named.modifier_after() {
+        RelocationModifier::Normal => 0,
+        RelocationModifier::SkipNextRelocation => 1,
+    };
+    Status::Success
+}
+
+/// Whether `linker_utils_apply` at this offset would answer `Success`: it answers what that would.
+#[unsafe(no_mangle)]
+pub extern "C" fn linker_utils_can_apply(
+    architecture: u32,
+    rewrite: u32,
+    n: u8,
+    section: &[u8],
+    offset: u64,
+) -> u32
+    ensures known { IfOk (named_rewrite architecture rewrite n) (λ named. TakesRewrite (relaxation_rewrite named) section.now offset result) }
+    ensures refused { IfErr (named_rewrite architecture rewrite n) (λ refusal. result ≡ code refusal) }
+{
+    match architecture {
+        0 => test_by(aarch64_rewrite(rewrite), section, offset).number(),
+        1 => test_by(riscv_rewrite(rewrite), section, offset).number(),
+        2 => test_by(loongarch64_rewrite(rewrite), section, offset).number(),
+        3 => test_by(ppc64_rewrite(rewrite), section, offset).number(),
+        4 => test_by(x86_64_rewrite(rewrite, n), section, offset).number(),
+        _ => Status::UnknownArchitecture.number(),
+    }
+}
+
+/// Rewrites the instruction at an offset of a section, and sets the offset and the addend to those of
+/// the relocation after it. `UnknownArchitecture`, `UnknownRewrite`, `CannotApply`.
+#[unsafe(no_mangle)]
+pub extern "C" fn linker_utils_apply(
+    architecture: u32,
+    rewrite: u32,
+    n: u8,
+    section: &mut [u8],
+    offset: &mut u64,
+    addend: &mut i64,
+) -> u32
+    ensures known { IfOk (named_rewrite architecture rewrite n) (λ named. TakesRewrite (relaxation_rewrite named) section.old offset.old result) }
+    ensures rewritten { IfOk (named_rewrite architecture rewrite n) (λ named. result ≡ code Status.Success
+        → IsRewritten (relaxation_rewrite named) section.old section.new offset.old offset.new addend.old addend.new) }
+    ensures refused { IfErr (named_rewrite architecture rewrite n) (λ refusal. result ≡ code refusal) }
+    ensures section_stays { result ≢ code Status.Success → section.new ≡ section.old }
+    ensures offset_stays { result ≢ code Status.Success → offset.new ≡ offset.old }
+    ensures addend_stays { result ≢ code Status.Success → addend.new ≡ addend.old }
+{
+    match architecture {
+        0 => apply_by(aarch64_rewrite(rewrite), section, offset, addend).number(),
+        1 => apply_by(riscv_rewrite(rewrite), section, offset, addend).number(),
+        2 => apply_by(loongarch64_rewrite(rewrite), section, offset, addend).number(),
+        3 => apply_by(ppc64_rewrite(rewrite), section, offset, addend).number(),
+        4 => apply_by(x86_64_rewrite(rewrite, n), section, offset, addend).number(),
+        _ => Status::UnknownArchitecture.number(),
+    }
+}
+
+/// What becomes of the relocation after the rewritten one: 0 where it is applied as usual, 1 where it
+/// is skipped. `UnknownArchitecture`, `UnknownRewrite`.
+#[unsafe(no_mangle)]
+pub extern "C" fn linker_utils_next_modifier(
+    architecture: u32,
+    rewrite: u32,
+    n: u8,
+    modifier: &mut u32,
+) -> u32
+    ensures found { IfOk (named_rewrite architecture rewrite n) (λ named. (result ≡ code Status.Success) × (modifier.new ≡ modifier_number (relaxation_modifier named))) }
+    ensures refused { IfErr (named_rewrite architecture rewrite n) (λ refusal. (result ≡ code refusal) × (modifier.new ≡ modifier.old)) }
+{
+    match architecture {
+        0 => modifier_by(aarch64_rewrite(rewrite), modifier).number(),
+        1 => modifier_by(riscv_rewrite(rewrite), modifier).number(),
+        2 => modifier_by(loongarch64_rewrite(rewrite), modifier).number(),
+        3 => modifier_by(ppc64_rewrite(rewrite), modifier).number(),
+        4 => modifier_by(x86_64_rewrite(rewrite, n), modifier).number(),
+        _ => Status::UnknownArchitecture.number(),
+    }
+}

@@ -1,0 +1,65 @@
+//! What a call answers.
+
+ghost use Rattle.std.specs.Prelude.{◌≡◌};
+ghost use Rattle.linker_utils_c.specs.Status.{code};
+
+/// What a call answers, and why it refuses.
+#[derive(Debug, Clone, Copy, PartialEq, Eq)]
+pub enum Status {
+    /// The call did what it says.
+    Success,
+    /// No architecture has this number, or it has no forms of instructions.
+    UnknownArchitecture,
+    /// The architecture has no form with this number.
+    UnknownForm,
+    /// The architecture has no rewrite with this number.
+    UnknownRewrite,
+    /// The architecture has no relocation with this number, or its meaning is not known.
+    UnknownRelocation,
+    /// Fewer bytes than the call reads or writes.
+    TooShort,
+    /// The form does not hold the value.
+    DoesNotFit,
+    /// The rewrite may not be applied there.
+    CannotApply,
+    /// The register is not one from 0 to 30.
+    BadRegister,
+    /// The four bytes at the site do not lie in the section, or the target is past its end.
+    OutOfSection,
+    /// One of the four bytes at the site is deleted.
+    SiteDeleted,
+    /// The target lies strictly inside a deletion.
+    TargetInside,
+    /// The distance is odd.
+    OddDistance,
+    /// The distance is out of the range of `jal`.
+    TooFar,
+    /// The deletions do not strictly ascend, one reaches past the next, or one ends past 2^64 - 1.
+    InvalidDeletions,
+    /// A deletion touches another, or ends past 2^64 - 1.
+    NotMergeable,
+    /// The offset lies strictly inside a deletion.
+    InsideDeletion,
+    /// The input offset would be past 2^64 - 1.
+    TooLarge,
+    /// The queries decrease somewhere.
+    NotAscending,
+    /// The array that is to be written has not as many places as are written.
+    DifferentLengths,
+    /// `malloc` or `realloc` refused.
+    OutOfMemory,
+    /// The bytes end before the ULEB128 number does.
+    Uleb128Ended,
+    /// The tenth byte of the ULEB128 number is neither 0 nor 1.
+    Uleb128TooLarge,
+}
+
+impl Status {
+    /// The number that C sees.
+    #[inline]
+    pub fn number(self) -> u32
+        ensures { result ≡ code self }
+    {
+        self as u32
+    }
+}
