@@ -5,7 +5,7 @@ use Rattle.linker_utils_c.proofs.ListedRows.{row_at, row_past}
 use Rattle.linker_utils_c.proofs.relocations.aarch64_info.Goals as goal
 
 pub returns-then-place-lt114 : goal.returns-then-place-lt114
-returns-then-place-lt114 c = c.relocation_type_from_raw.ensures ∙ row_at aarch64_row aarch64_relocations c.args.number _ (omega arith)
+returns-then-place-lt114 c = c.relocation_type_from_raw.ensures.row ∙ row_at aarch64_row aarch64_relocations c.args.number _ (omega arith)
 
 pub returns-else-place-lt114 : goal.returns-else-place-lt114
 returns-else-place-lt114 c = row_past aarch64_row aarch64_relocations c.args.number (omega arith)
