@@ -1,15 +1,15 @@
 -- A field within its range is read as the value: from comparisons of a row's bits, range and alignment.
-use Rattle.std.proofs.Common.{◌≡◌, ℕ, suc, ◌+◌, ◌-◌, ◌*◌, ◌/◌, ◌%◌, ◌^◌, ◌<◌, ◌≤◌, Bool, true, false, ◌&&◌, ◌||◌, ltb, leb, eqb, refl, sym, ◌∙◌, ap, subst, arith, inl, inr, cond, ℤ, pos, negsuc, ◌-ℤ◌, ◌+ℤ◌, neg_ℤ, ◌≤ℤ◌, ◌<ℤ◌, Option, Some, None, unsigned_abs, List, int_lt}
+use Rattle.std.proofs.Common.{◌≡◌, ℕ, ◌+◌, ◌-◌, ◌*◌, ◌/◌, ◌%◌, ◌^◌, ◌<◌, ◌≤◌, Bool, true, ◌&&◌, ◌||◌, ltb, leb, eqb, refl, sym, ◌∙◌, ap, subst, arith, inl, inr, cond, ℤ, pos, negsuc, ◌-ℤ◌, neg_ℤ, ◌≤ℤ◌, ◌<ℤ◌, Option, Some, None, unsigned_abs, List, int_lt}
 use Rattle.std.specs.Int.{Width, int_rem_euclid}
-use Rattle.std.proofs.lemmas.Bool.{and_parts, or_cases, leb-true, eqb-true, ltb-true, cond_both, lt-ltb, le-ltb}
+use Rattle.std.proofs.lemmas.Bool.{and_parts, or_cases, leb-true, eqb-true, lt-ltb, le-ltb}
 use Rattle.std.proofs.lemmas.Int.{ints, int_rem_euclid_is}
-use Rattle.std.proofs.lemmas.Nat.{pow_pos, pow-add, mod_below, mod_low, div-add-mod'}
+use Rattle.std.proofs.lemmas.Nat.{pow_pos, pow-add, mod_below, div-add-mod'}
 use Rattle.std.proofs.Math.Nat.{mod-eq_of_lt, div-lt_iff_lt-mul}
 use Rattle.std.proofs.lemmas.Float.{T_from_true}
 use Rattle.std.specs.Int.Signed.{le_z, le_z_yes}
 use Rattle.linker_base.specs.Bits.{signed}
 use Rattle.linker_base.specs.Form.{Sign, unsigned, twos_complement, number_of, IsSameModulo, Claim, Place, IsClear, Written, field_form, place_sum}
-use Rattle.linker_base.proofs.Fields.{mod_mod, signed_rem}
+use Rattle.linker_base.proofs.Fields.{mod_mod}
 use Rattle.linker_base.proofs.Immediates.{subst_below, number_rem, IsSoundField, laid_field}
 use Rattle.linker_utils.specs.Agrees.{bits_from, IsFieldOf, IsSameIn}
 use Rattle.linker_utils.specs.Elf.{IsWithin}

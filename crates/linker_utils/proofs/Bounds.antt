@@ -1,5 +1,5 @@
 -- The bounds of ranges.
-use Rattle.std.proofs.Common.{◌≡◌, ℕ, ◌-◌, ◌*◌, ◌%◌, ◌^◌, ◌<◌, ◌≤◌, ap, sym, ◌∙◌, arith, pos, neg_ℤ, ◌-ℤ◌, to_z, of_z, FitsSigned, w64, Some}
+use Rattle.std.proofs.Common.{◌≡◌, ℕ, ◌-◌, ◌*◌, ◌%◌, ◌^◌, ◌<◌, ◌≤◌, ap, sym, ◌∙◌, arith, pos, ◌-ℤ◌, to_z, of_z, FitsSigned, w64, Some}
 use Rattle.linker_utils.specs.Elf.{bit_bounds}
 use Rattle.linker_utils.specs.declared.elf.Sign.{Sign}
 use Rattle.linker_utils.specs.declared.elf.Sign.TheVariants.{Signed, Unsigned}

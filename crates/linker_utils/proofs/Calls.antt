@@ -1,11 +1,11 @@
 -- When the four bytes at a site are kept.
-use Rattle.std.proofs.Common.{◌≡◌, ℕ, zero, suc, ◌+◌, ◌-◌, ◌<◌, ◌≤◌, ◌^◌, Bool, true, false, not, List, length, get_or, refl, sym, ◌∙◌, ap, arith, ◌⊎◌, inl, inr, IsTrue, leb, ltb, add-zero, add-suc, zero-add, pos, ◌-ℤ◌, to_z, of_z, w64, FitsSigned}
+use Rattle.std.proofs.Common.{◌≡◌, ℕ, zero, suc, ◌+◌, ◌-◌, ◌<◌, ◌≤◌, ◌^◌, true, not, List, length, get_or, refl, ◌∙◌, ap, arith, inl, inr, leb, ltb, add-zero, add-suc, zero-add, pos, ◌-ℤ◌, to_z, of_z, w64, FitsSigned}
 use Rattle.std.proofs.lemmas.Int.{ints, to_z_pos, to_z-of_z}
 use Rattle.std.specs.List.{list_any}
 use Rattle.std.proofs.lemmas.Bool.{cases_Bool, cases_lt, both_ways, and_from, le-leb, lt-ltb}
 use Rattle.std.proofs.lemmas.List.Folds.{list_any_at}
 use Rattle.linker_base.specs.Deletions.{holds, is_kept, rank, IsInside}
-use Rattle.linker_base.proofs.Rank.{rank_kept, rank_gone, rank-mono}
+use Rattle.linker_base.proofs.Rank.{rank_kept, rank_gone}
 use Rattle.linker_utils.specs.RiscV.{IsSiteKept, output_distance}
 
 -- a position that a deletion holds is not kept

@@ -1,16 +1,15 @@
 -- What a rewritten call reads as.
-use Rattle.std.proofs.Common.{◌≡◌, ℕ, zero, suc, ◌+◌, ◌-◌, ◌*◌, ◌/◌, ◌%◌, ◌^◌, ◌<◌, ◌≤◌, Bool, true, false, List, [], ◌∷◌, ◌++◌, length, take, drop, get_or, refl, sym, ◌∙◌, ap, subst, arith, ℤ, pos, negsuc, ◌≤ℤ◌, ◌-ℤ◌, ltb, IsTrue, Some}
+use Rattle.std.proofs.Common.{◌≡◌, ℕ, suc, ◌+◌, ◌-◌, ◌*◌, ◌/◌, ◌%◌, ◌^◌, ◌<◌, ◌≤◌, false, List, [], ◌∷◌, ◌++◌, length, take, drop, refl, sym, ◌∙◌, ap, arith, ℤ, pos, negsuc, ◌-ℤ◌, ltb, Some}
 use Rattle.std.specs.Int.{w32, w64, from_le_bytes, to_le_bytes, cast_unsigned, int_rem_euclid, bit_at}
-use Rattle.std.proofs.lemmas.Bool.{agree_below, agree_below_at, cond_both, ltb-true, ltb-false}
-use Rattle.std.proofs.lemmas.List.{get_or-take, get_or_append_left, append-nil, append_assoc, take_at, drop_at, drop_all, take_rest, length-take, length-append, length-drop, drop-drop, take_all}
-use Rattle.std.proofs.lemmas.List.Elements.{All-nil, All-cons}
+use Rattle.std.proofs.lemmas.Bool.{agree_below_at, cond_both, ltb-true, ltb-false}
+use Rattle.std.proofs.lemmas.List.{append-nil, append_assoc, take_at, drop_at, drop_all, take_rest, length-take, length-append, length-drop, drop-drop}
 use Rattle.std.proofs.lemmas.Int.{ints}
 use Rattle.std.proofs.lemmas.Nat.{from_le_bytes-to_le_bytes_4, mod_below, and_mask, or_comm, or_shifted}
 use Rattle.std.specs.Int.RustNames.{bit_or}
 use lib.Bits.{bit_and}
-use borrow.Rule.Slice.PartMut.{put_mid, post_of}
+use borrow.Rule.Slice.PartMut.{put_mid}
 use Rattle.linker_base.specs.Bits.{field, signed}
-use Rattle.linker_base.specs.Form.{Place, is_placed, Written, MachineReads, IsClear, place_sum}
+use Rattle.linker_base.specs.Form.{is_placed, Written, MachineReads, place_sum}
 use Rattle.linker_base.specs.Rewrite.{Rewrite, rewritten}
 use Rattle.linker_base.proofs.Fields.{same_fields, signed_rem}
 use Rattle.linker_utils.specs.RiscV.{riscv_form, riscv_rewrite, call_to_jal, word_at, JumpsAt, IsEven, IsJalDistance}

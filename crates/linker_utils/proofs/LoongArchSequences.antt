@@ -1,19 +1,18 @@
 -- What the writes of a sequence leave, instruction by instruction.
-use Rattle.std.proofs.Common.{◌≡◌, ℕ, zero, suc, ◌+◌, ◌-◌, ◌*◌, ◌/◌, ◌%◌, ◌^◌, ◌<◌, ◌≤◌, Bool, true, false, ◌&&◌, ltb, leb, List, [], ◌∷◌, ◌++◌, length, take, drop, refl, ap, sym, ◌∙◌, subst, arith, inl, inr, pos}
+use Rattle.std.proofs.Common.{◌≡◌, ℕ, ◌+◌, ◌-◌, ◌^◌, ◌<◌, ◌≤◌, true, false, ◌&&◌, ltb, leb, List, [], ◌∷◌, length, take, drop, refl, ap, sym, ◌∙◌, subst, arith, inl, inr}
 use Rattle.std.specs.Int.{w32, bit_at, from_le_bytes}
-use Rattle.std.specs.List.{All}
-use Rattle.std.proofs.lemmas.Bool.{agree_below, agree_below_at, lt-leb, le-ltb, le-leb, lt-ltb, cases_lt, and_right}
+use Rattle.std.proofs.lemmas.Bool.{agree_below_at, lt-leb, le-ltb, le-leb, lt-ltb, cases_lt, and_right}
 use Rattle.std.proofs.lemmas.List.{drop-take}
 use Rattle.std.proofs.lemmas.List.Elements.{All-drop}
 use Rattle.std.proofs.lemmas.Slice.{between-put_mid, take-put_mid_below, drop-put_mid}
 use borrow.Rule.Slice.PartMut.{put_mid}
 use Rattle.linker_base.specs.Bits.{field}
-use Rattle.linker_base.specs.Form.{Place, IsLaid, is_placed, or_bits_to, replaced, place_sum, bit_for, placed_bit}
+use Rattle.linker_base.specs.Form.{Place, IsLaid, is_placed, or_bits_to, bit_for, placed_bit}
 use Rattle.linker_base.proofs.Fields.{same_fields}
 use Rattle.linker_base.proofs.Immediates.{bit_looked_up}
 use Rattle.linker_base.proofs.Parts.{ored_kept}
-use Rattle.linker_utils.proofs.LoongArch.{shift5_places, shift10_places, shift5_field, shift10_field}
-use Rattle.linker_utils.proofs.LoongArchAddresses.{first_of_five, high_of_five, five_of, five_from, made}
+use Rattle.linker_utils.proofs.LoongArch.{shift5_places, shift10_places}
+use Rattle.linker_utils.proofs.LoongArchAddresses.{first_of_five, high_of_five, five_from, made}
 use Rattle.linker_utils.specs.LoongArch.{instruction, IsKeptOutside, IsSetAt, MakesAddress}
 
 -- ---- the instruction in a list of bytes

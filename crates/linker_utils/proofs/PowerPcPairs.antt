@@ -1,10 +1,10 @@
 -- What a pair of halves adds up to.
-use Rattle.std.proofs.Common.{◌≡◌, ℕ, ◌+◌, ◌-◌, ◌*◌, ◌/◌, ◌%◌, ◌^◌, ◌<◌, ◌≤◌, List, drop, refl, sym, ◌∙◌, ap, arith, inl, inr, ⊎_elim, ℤ, pos, negsuc, ◌+ℤ◌, ◌-ℤ◌, ◌≤ℤ◌, ◌<ℤ◌, ltb, false}
+use Rattle.std.proofs.Common.{◌≡◌, ℕ, ◌+◌, ◌-◌, ◌*◌, ◌/◌, ◌%◌, ◌^◌, ◌<◌, ◌≤◌, List, drop, refl, sym, ◌∙◌, ap, arith, inl, inr, ℤ, pos, negsuc, ◌+ℤ◌, ◌-ℤ◌, ◌≤ℤ◌, ◌<ℤ◌, false}
 use Rattle.std.specs.Prelude.{◌*ℤ◌}
-use Rattle.std.specs.Int.{w32, from_le_bytes, int_rem_euclid, bit_at}
+use Rattle.std.specs.Int.{w32, from_le_bytes, int_rem_euclid}
 use Rattle.std.proofs.lemmas.Int.{ints, int_rem_euclid_is}
 use Rattle.std.proofs.lemmas.Bool.{cases_lt, lt-ltb, le-ltb, agree_below_at}
-use Rattle.std.proofs.lemmas.Nat.{mod_below, pow_pos}
+use Rattle.std.proofs.lemmas.Nat.{pow_pos}
 use Rattle.linker_base.specs.Bits.{field, signed}
 use Rattle.linker_base.specs.Form.{Place, bits_to, is_placed, place_sum, Written, MachineReads}
 use Rattle.linker_base.proofs.Fields.{same_fields, signed_rem}

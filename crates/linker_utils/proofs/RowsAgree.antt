@@ -1,23 +1,21 @@
 -- The rows of the relocation tables agree with the machines: one law a form, and comparisons of each row's numbers.
-use Rattle.std.proofs.Common.{◌≡◌, ℕ, ◌+◌, ◌-◌, ◌*◌, ◌/◌, ◌%◌, ◌^◌, ◌<◌, ◌≤◌, Bool, true, false, ◌&&◌, ltb, eqb, refl, sym, ◌∙◌, ap, subst, arith, ℤ, pos, negsuc, neg_ℤ, ◌≤ℤ◌, ◌<ℤ◌, Option, Some, None, unsigned_abs, List, ◌++◌, int_lt, IfSome}
+use Rattle.std.proofs.Common.{◌≡◌, ℕ, ◌+◌, ◌-◌, ◌/◌, ◌%◌, ◌^◌, ◌<◌, Bool, true, false, ◌&&◌, eqb, refl, sym, ◌∙◌, ap, subst, arith, ℤ, pos, negsuc, neg_ℤ, ◌≤ℤ◌, ◌<ℤ◌, Option, Some, None, unsigned_abs, ◌++◌, int_lt, IfSome}
 use Rattle.std.specs.Int.{w16, w32, int_rem_euclid}
 use Rattle.std.specs.Int.Signed.{le_z}
 use Rattle.std.proofs.lemmas.Bool.{and_parts, eqb-true, le-ltb}
 use Rattle.std.proofs.lemmas.Int.{ints}
 use Rattle.std.proofs.lemmas.Nat.{shl-shr}
 use Rattle.linker_base.specs.Bits.{field}
-use Rattle.linker_base.specs.Form.{Place, Written, IsClear, IsSameModulo, bits_to, or_bits_to, place_sum, Sign, unsigned, twos_complement, exactly, modulo, replaced}
+use Rattle.linker_base.specs.Form.{Written, bits_to, or_bits_to, place_sum, unsigned, twos_complement, exactly, modulo, replaced}
 use Rattle.linker_base.specs.declared.bit_misc.BitRange.{BitRange}
 use Rattle.linker_base.proofs.Immediates.{sound_field, laid_field, always_clear}
 use Rattle.linker_utils.specs.Elf.{IsWithin}
 use Rattle.linker_utils.specs.Agrees.{bits_from, IsFieldOf, IsSameIn, InstructionAgrees, SizeAgrees, AgreesBy, RowAgrees, LoongArchRowAgrees, reads_signed}
-use Rattle.linker_utils.specs.AArch64.{aarch64_form, movnz, imm16_places, moved_bits, moved_value, shift_of}
+use Rattle.linker_utils.specs.AArch64.{movnz, imm16_places, moved_bits, moved_value, shift_of}
 use Rattle.linker_utils.specs.AArch64Rows.{aarch64_row}
-use Rattle.linker_utils.specs.LoongArch.{loongarch_form, shift10_low}
 use Rattle.linker_utils.specs.LoongArchRows.{loongarch_row}
-use Rattle.linker_utils.specs.PowerPc.{ppc64_form}
 use Rattle.linker_utils.specs.PowerPcRows.{ppc64_row}
-use Rattle.linker_utils.specs.RiscV.{riscv_form, riscv_places}
+use Rattle.linker_utils.specs.RiscV.{riscv_places}
 use Rattle.linker_utils.specs.RiscVRows.{riscv_row}
 use Rattle.linker_utils.specs.declared.elf.AArch64Instruction.{AArch64Instruction}
 use Rattle.linker_utils.specs.declared.elf.AArch64Instruction.TheVariants.{Adr, Movkz, Movnz, Ldr, LdrRegister, Add, LdSt, TstBr, Bcond, JumpCall, MachOLow12}

@@ -1,13 +1,12 @@
 -- What the rewrites of x86-64 leave in prefix and ModRM bytes.
-use Rattle.std.proofs.Common.{◌≡◌, ℕ, ◌+◌, ◌-◌, ◌*◌, ◌/◌, ◌%◌, ◌^◌, ◌<◌, ◌≤◌, List, [], ◌∷◌, ◌++◌, length, take, drop, get_or, refl, sym, ◌∙◌, ap, arith, Some, eqb, true, false, bit_and, bit_or, min}
+use Rattle.std.proofs.Common.{◌≡◌, ℕ, ◌+◌, ◌-◌, ◌*◌, ◌/◌, ◌≤◌, List, [], ◌∷◌, ◌++◌, length, take, drop, get_or, refl, sym, ◌∙◌, ap, arith, Some, bit_and, bit_or, min}
 use Rattle.std.specs.Int.{bit_at}
 use Rattle.std.proofs.lemmas.Bool.{eq-eqb, ne_eqb}
 use Rattle.std.proofs.lemmas.List.{get_or-take, get_or-drop, append_assoc, drop_at, length-take}
-use Rattle.std.proofs.lemmas.Nat.{mod_below}
 use Rattle.std.proofs.lemmas.Nat.Bits.{bit_at-lt, bit_at_and, bit_at_or, and_pow}
 use Rattle.linker_base.specs.Bits.{field}
 use Rattle.linker_base.specs.Rewrite.{rewritten}
-use Rattle.linker_utils.specs.X86.{rex, evex, evex_high, modrm, rex_mov, prefixed_operand, x86_64_rewrite, MovesRegister, KeepsRegister}
+use Rattle.linker_utils.specs.X86.{rex, evex, evex_high, modrm, rex_mov, KeepsRegister}
 
 -- ---- the EVEX byte, by the code's tests
 

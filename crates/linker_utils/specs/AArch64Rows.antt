@@ -1,6 +1,5 @@
 -- What the relocations of AArch64 mean (ELF for the Arm 64-bit Architecture, "Relocation").
-use Rattle.std.specs.Prelude.{ℕ, ◌-◌, ◌^◌, ℤ, pos, neg_ℤ, Bool, true, false, Option, Some, None}
-use Rattle.linker_utils.specs.Elf.{bit_bounds}
+use Rattle.std.specs.Prelude.{ℕ, ◌-◌, ◌^◌, ℤ, pos, neg_ℤ, true, false, Option, Some, None}
 use Rattle.linker_utils.specs.declared.elf.RelocationKind.{RelocationKind}
 use Rattle.linker_utils.specs.declared.elf.RelocationKind.TheVariants.{Absolute, AbsoluteLowPart, DtpOff, Got, GotRelGotBase, GotRelative, GotTpOff, GotTpOffGot, GotTpOffGotBase, PltRelative, Relative, SymRelGotBase, TlsDesc, TlsDescCall, TlsDescGot, TlsDescGotBase, TlsGd, TlsGdGot, TlsGdGotBase, TlsLd, TlsLdGot, TlsLdGotBase, TpOff}
 use Rattle.linker_utils.specs.declared.elf.RelocationKind.TheVariants.{None as Nothing}
@@ -9,7 +8,6 @@ use Rattle.linker_utils.specs.declared.elf.RelocationSize.TheVariants.{ByteSize,
 use Rattle.linker_utils.specs.declared.elf.RelocationInstruction.TheVariants.{AArch64}
 use Rattle.linker_utils.specs.declared.elf.AArch64Instruction.{AArch64Instruction}
 use Rattle.linker_utils.specs.declared.elf.AArch64Instruction.TheVariants.{Add, Adr, Bcond, JumpCall, LdSt, Ldr, LdrRegister, Movkz, Movnz, TstBr}
-use Rattle.linker_utils.specs.declared.elf.Sign.TheVariants.{Signed, Unsigned}
 use Rattle.linker_utils.specs.declared.elf.PageMask.{PageMask}
 use Rattle.linker_utils.specs.declared.elf.PageMask.TheVariants.{SymbolPlusAddendAndPosition, GotEntryAndPosition, GotBase}
 use Rattle.linker_utils.specs.declared.elf.PageMaskPattern.TheVariants.{Size4KB}

@@ -12,17 +12,16 @@ use Rattle.linker_utils.specs.LoongArch.{loongarch_form}
 use Rattle.linker_utils.specs.PowerPc.{ppc64_form}
 use Rattle.linker_utils.specs.RiscV.{riscv_form}
 use Rattle.linker_utils.specs.declared.elf.AArch64Instruction.{AArch64Instruction}
-use Rattle.linker_utils.specs.declared.elf.AArch64Instruction.TheVariants.{Adr, Movkz, Movnz, Ldr, LdrRegister, Add, LdSt, TstBr, Bcond, JumpCall, MachOLow12}
+use Rattle.linker_utils.specs.declared.elf.AArch64Instruction.TheVariants.{Movnz}
 use Rattle.linker_utils.specs.declared.elf.LoongArch64Instruction.{LoongArch64Instruction}
-use Rattle.linker_utils.specs.declared.elf.LoongArch64Instruction.TheVariants.{Shift5, Shift10, Branch26, Branch21, Call30, Call36}
-use Rattle.linker_utils.specs.declared.elf.Ppc64Instruction.{Ppc64Instruction}
+use Rattle.linker_utils.specs.declared.elf.LoongArch64Instruction.TheVariants.{Shift5, Shift10, Call30, Call36}
 use Rattle.linker_utils.specs.declared.elf.RelocationInstruction.{RelocationInstruction}
 use Rattle.linker_utils.specs.declared.elf.RelocationInstruction.TheVariants.{RiscV, Ppc64, LoongArch64, AArch64}
 use Rattle.linker_utils.specs.declared.elf.RelocationKindInfo.{RelocationKindInfo}
 use Rattle.linker_utils.specs.declared.elf.RelocationSize.{RelocationSize}
 use Rattle.linker_utils.specs.declared.elf.RelocationSize.TheVariants.{ByteSize, BitMasking}
 use Rattle.linker_utils.specs.declared.elf.RiscVInstruction.{RiscVInstruction}
-use Rattle.linker_utils.specs.declared.elf.RiscVInstruction.TheVariants.{UType, IType, SType, BType, JType, CbType, CjType, CluiType, UiType}
+use Rattle.linker_utils.specs.declared.elf.RiscVInstruction.TheVariants.{UType, IType, SType, CluiType, UiType}
 use Rattle.linker_utils.specs.declared.loongarch64.LoongArch64Relocation.{LoongArch64Relocation}
 use Rattle.linker_utils.specs.declared.loongarch64.LoongArch64Relocation.TheVariants.{R_LARCH_PCREL20_S2, R_LARCH_B16}
 

@@ -1,5 +1,5 @@
 -- The rows of LoongArch relocations (LoongArch ELF psABI, "Relocation Types").
-use Rattle.std.specs.Prelude.{ℕ, ◌^◌, true, false, Option, None, Some, ℤ, pos, neg_ℤ}
+use Rattle.std.specs.Prelude.{ℕ, ◌^◌, false, Option, None, Some, ℤ, pos, neg_ℤ}
 use Rattle.linker_utils.specs.Elf.{bit_bounds}
 use Rattle.linker_utils.specs.declared.elf.Sign.TheVariants.{Signed}
 use Rattle.linker_utils.specs.declared.elf.RelocationKind.{RelocationKind}

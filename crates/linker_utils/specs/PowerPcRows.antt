@@ -1,5 +1,5 @@
 -- The relocations of PowerPC64 (64-bit ELF V2 ABI for Power, "Relocation Types"), name by name.
-use Rattle.std.specs.Prelude.{ℕ, ◌-◌, ◌^◌, ◌==◌, if◌then◌else◌, false, Option, Some, None, ℤ, pos, neg_ℤ}
+use Rattle.std.specs.Prelude.{ℕ, false, Option, Some, None}
 use Rattle.linker_utils.specs.declared.elf.AllowedRange.{AllowedRange}
 use Rattle.linker_utils.specs.declared.elf.RelocationKind.{RelocationKind}
 use Rattle.linker_utils.specs.declared.elf.RelocationKind.TheVariants.{Absolute, Relative, SymRelGotBase, TpOff, DtpOff, GotTpOffGotBase, TlsGdGotBase, TlsLdGotBase}

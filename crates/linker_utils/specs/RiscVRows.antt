@@ -1,7 +1,5 @@
 -- What the relocations of RISC-V mean (RISC-V ELF psABI, "Relocations").
 use Rattle.std.specs.Prelude.{ℕ, false, Option, Some, None, ℤ, pos, negsuc}
-use Rattle.linker_base.specs.declared.bit_misc.BitRange.{BitRange}
-use Rattle.linker_utils.specs.declared.elf.AllowedRange.{AllowedRange}
 use Rattle.linker_utils.specs.declared.elf.RelocationKind.{RelocationKind}
 use Rattle.linker_utils.specs.declared.elf.RelocationKind.TheVariants.{None as Nothing, Absolute, Relative, PltRelative, GotRelative, GotTpOff, TlsGd, RelativeRiscVLow12, TpOff, AbsoluteAddition, AbsoluteSubtraction, AbsoluteSubtractionWord6, AbsoluteSetWord6, AbsoluteSet, Alignment, PairSubtractionULEB128RiscV}
 use Rattle.linker_utils.specs.declared.elf.RelocationInstruction.TheVariants.{RiscV}

@@ -1,5 +1,5 @@
 -- Runs of places, as the engine keeps them.
-use Rattle.std.specs.Prelude.{ℕ, ◌+◌, Bool, true, false, ◌&&◌, ◌||◌, not, nat_le, nat_lt, List, [], ◌∷◌, ◌++◌}
+use Rattle.std.specs.Prelude.{ℕ, ◌+◌, Bool, true, ◌&&◌, ◌||◌, nat_le, nat_lt, List, [], ◌∷◌}
 use Rattle.std.specs.List.{list_all, flat_map}
 use Rattle.std.specs.Int.{Width, w16, w32, w64}
 use Rattle.linker_base.specs.Form.{Place, row, replaced, ored, cleared, values_apart}

@@ -1,5 +1,5 @@
 -- The relocations of x86-64 (x86-64 psABI, "Relocation Types"), name by name.
-use Rattle.std.specs.Prelude.{ℕ, ◌-◌, ◌^◌, ◌==◌, if◌then◌else◌, false, Option, Some, None, ℤ, pos, neg_ℤ}
+use Rattle.std.specs.Prelude.{ℕ, false, Option, Some, None}
 use Rattle.linker_utils.specs.declared.elf.AllowedRange.{AllowedRange}
 use Rattle.linker_utils.specs.declared.elf.RelocationKind.{RelocationKind}
 use Rattle.linker_utils.specs.declared.elf.RelocationKind.TheVariants.{TlsDescCall, Absolute, Relative, GotRelGotBase, SymRelGotBase, PltRelative, PltRelGotBase, GotRelative, SymbolSize, TlsGd, TlsLd, DtpOff, GotTpOff, TpOff, TlsDesc}

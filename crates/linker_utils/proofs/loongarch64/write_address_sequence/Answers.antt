@@ -1,4 +1,4 @@
-use Rattle.std.proofs.Common.{rules, ◌≡◌, ◌∙◌}
+use Rattle.std.proofs.Common.{◌≡◌}
 use Rattle.linker_base.specs.Bits.{field}
 use Rattle.linker_utils.proofs.LoongArchAddresses.{first_of_five, high_of_five}
 use Rattle.linker_utils.proofs.LoongArchSequences.{makes_address}

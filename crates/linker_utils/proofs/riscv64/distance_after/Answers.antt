@@ -1,5 +1,5 @@
-use Rattle.std.proofs.Common.{◌≡◌, ◌<◌, ◌^◌, arith, ap, ◌∙◌, pos, ◌-ℤ◌, to_z, of_z, w64, FitsSigned}
-use Rattle.std.proofs.lemmas.Int.{ints, to_z-of_z, to_z_pos}
+use Rattle.std.proofs.Common.{arith}
+use Rattle.std.proofs.lemmas.Int.{ints}
 use Rattle.linker_utils.proofs.Calls.{rank-le, distance_fits, distance_is}
 use Rattle.linker_utils.proofs.riscv64.distance_after.Goals as goal
 

@@ -1,4 +1,4 @@
-use Rattle.std.proofs.Common.{◌≡◌, ◌+◌, ◌-◌, arith}
+use Rattle.std.proofs.Common.{◌+◌, ◌-◌, arith}
 use Rattle.std.proofs.lemmas.Bool.{eqb-true, eq-eqb, false≢true}
 use Rattle.linker_base.proofs.Rank.{rank-mono}
 use Rattle.linker_utils.proofs.Calls.{kept_outside, kept_end_outside, kept_rank, rank_kept_site}

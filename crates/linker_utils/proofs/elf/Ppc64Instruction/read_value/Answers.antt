@@ -1,4 +1,4 @@
-use Rattle.std.proofs.Common.{inl, inr, ⊎_elim}
+use Rattle.std.proofs.Common.{inl, inr}
 use Rattle.linker_utils.specs.declared.elf.Ppc64Instruction.TheVariants.{D, Ds, Branch14, Branch24}
 use Rattle.linker_utils.proofs.PowerPcForms.{read_as}
 use Rattle.linker_utils.proofs.elf.Ppc64Instruction.read_value.Goals as goal

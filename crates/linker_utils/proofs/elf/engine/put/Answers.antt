@@ -1,6 +1,5 @@
-use Rattle.std.proofs.Common.{ℕ, ◌+◌, ◌<◌, ◌≤◌, ◌&&◌, ltb, leb, arith, rules, ap, ◌≡◌, true}
-use Rattle.std.proofs.lemmas.Bool.{and_parts, ltb-true, leb-true}
-use Rattle.linker_utils.proofs.Runs.{RunFits, run_fits_parts, put_replaced, put_ored, put_cleared, put_of}
+use Rattle.std.proofs.Common.{arith, rules, ap}
+use Rattle.linker_utils.proofs.Runs.{run_fits_parts, put_replaced, put_ored, put_cleared, put_of}
 use Rattle.linker_base.specs.Form.{replaced, ored, cleared}
 use Rattle.linker_utils.specs.Runs.{mark_of}
 use Rattle.linker_utils.proofs.elf.engine.put.Goals as goal

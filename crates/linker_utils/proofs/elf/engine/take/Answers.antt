@@ -1,4 +1,4 @@
-use Rattle.std.proofs.Common.{ap, sym, refl, inl, inr, ⊎_elim}
+use Rattle.std.proofs.Common.{ap, sym, inl, inr}
 use Rattle.linker_utils.specs.Runs.{mark_of}
 use Rattle.linker_base.specs.Form.{holds}
 use Rattle.linker_utils.proofs.Runs.{run_fits_parts, taken_held, taken_none}

@@ -1,4 +1,4 @@
-use Rattle.std.proofs.Common.{◌≡◌, ◌∙◌, ap, subst, sym, Some}
+use Rattle.std.proofs.Common.{◌∙◌, ap, subst}
 use Rattle.linker_base.specs.Rewrite.{CanRewrite, rewritten}
 use Rattle.linker_utils.specs.X86.{x86_64_rewrite}
 use Rattle.linker_utils.proofs.X86Bytes.{keeps_register}
