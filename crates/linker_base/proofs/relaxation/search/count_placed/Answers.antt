@@ -1,11 +1,8 @@
-use Rattle.std.proofs.Common.{rules}
-use Rattle.std.proofs.lemmas.List.Sorted.{IsPartitionPoint-from_clause}
-use Rattle.linker_base.proofs.Search.{is_placed, placed_first, placed_from_search}
+use Rattle.linker_base.proofs.Search.{placed_first, placed_from_search}
 use Rattle.linker_base.proofs.relaxation.search.count_placed.Goals as goal
 
 pub returns-clause-placed : goal.returns-clause-placed
 returns-clause-placed c =
     let deltas = c.args.deltas.now in
-    let found = c.partition_point.ensures in
-    let parted = IsPartitionPoint-from_clause (is_placed c.args.offset) deltas c.partition_point.result found.partitioned (placed_first deltas c.requires c.args.offset) (λ a r f called. search rules) in
-    placed_from_search deltas c.requires c.args.offset c.partition_point.result found.bound parted
+    let found = c.count_passing.ensures in
+    placed_from_search deltas c.requires c.args.offset c.count_passing.result found.within (found.parted (placed_first deltas c.requires c.args.offset))
