@@ -1,1 +1,2 @@
+pub mod DeltaLists
 pub mod ListedRows

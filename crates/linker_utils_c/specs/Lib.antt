@@ -1,3 +1,4 @@
+pub mod Deltas
 pub mod Forms
 pub mod Relocations
 pub mod Rewrites

@@ -2,6 +2,7 @@
 #![tactic(auto)]
 
 mod calls;
+mod deltas;
 mod forms;
 mod readers;
 mod relocations;
