@@ -9,7 +9,7 @@ use std::alloc::{AllocError, AllocFailed, Global};
 use std::marker::Model;
 
 mod apart;
-mod counting;
+pub mod counting;
 mod cursor;
 pub mod laws;
 mod map;

@@ -13,7 +13,7 @@ ghost use Rattle.linker_utils_c.specs.Status.{code};
 ghost use Rattle.linker_utils_c.specs.Deltas.{pair_of, pairs_in, pairs_under, AreDeltasOf, AreMerged};
 
 use crate::status::Status;
-use linker_utils::relaxation::{OutOfMemory, RelaxDelta, SectionRelaxDeltas};
+use linker_utils::relaxation::{OutOfMemory, RelaxDelta, SectionRelaxDeltas, counting};
 use linker_utils::riscv64::{self, CallError};
 use std::alloc::Global;
 
@@ -132,7 +132,7 @@ fn count_below(deltas: &[RelaxDelta], offset: u64) -> usize
     ensures within { result ≤ length deltas.now }
     ensures below { AreListed deltas.now → IsPartitionPoint (λ d. d.0 < offset) (λ d. offset ≤ d.0) (pairs_under deltas.now) result }
 {
-    deltas.partition_point(|delta| delta.input_offset < offset)
+    counting::count_below(deltas, offset)
 }
 
 // How many deltas have an output place of at most `offset`.
@@ -141,10 +141,7 @@ fn count_placed(deltas: &[RelaxDelta], offset: u64) -> usize
     ensures within { result ≤ length deltas.now }
     ensures placed { AreListed deltas.now → ArePlaced (pairs_under deltas.now) offset result }
 {
-    deltas.partition_point(|delta| {
-        let end = u128::from(delta.input_offset) + u128::from(delta.bytes_deleted);
-        end <= u128::from(offset) + u128::from(delta.cumulative_deleted)
-    })
+    counting::count_placed(deltas, offset)
 }
 
 // The output offset of what stands at an input offset, or none inside a deletion.

@@ -1,14 +1,16 @@
 //! How many of a section's first deltas pass a test, by a search that makes no branch of an answer.
 
-ghost use Rattle.std.specs.Prelude.{◌≡◌, ◌<◌, ◌≤◌, ◌+◌, ◌-◌, ◌*◌, ◌/◌, true, false, length};
+ghost use Rattle.std.specs.Prelude.{map, ◌≡◌, ◌<◌, ◌≤◌, ◌+◌, ◌-◌, ◌*◌, ◌/◌, true, false, length};
 ghost use Rattle.std.specs.List.Sorted.{IsPartitionedBy, IsPartitionPoint};
+ghost use Rattle.linker_base.specs.Deltas.{deletion_of};
+ghost use Rattle.linker_base.specs.Listed.{AreListed, ArePlaced};
 ghost use Rattle.linker_base.specs.Counting.{passes, IsWithin, IsNarrowed};
 
 use super::RelaxDelta;
 
 /// What is asked of a delta.
 #[derive(Clone, Copy)]
-pub(super) enum Test {
+enum Test {
     /// Whether it begins strictly below an offset.
     Begins(u64),
     /// Whether its output place, its offset less the bytes deleted before, is at most an offset.
@@ -34,7 +36,7 @@ impl Test {
 
 /// `len` deltas from `start` on, among which those that pass end.
 #[derive(Clone, Copy)]
-pub(super) struct Stretch {
+struct Stretch {
     start: usize,
     len: usize,
 }
@@ -100,7 +102,7 @@ fn quarter(deltas: &[RelaxDelta], test: Test, stretch: Stretch) -> Stretch
 
 /// How many deltas pass, where none that passes comes after one that fails. O(log n).
 #[inline(always)]
-pub(super) fn count_passing(deltas: &[RelaxDelta], test: Test) -> usize
+fn count_passing(deltas: &[RelaxDelta], test: Test) -> usize
     ensures within { result ≤ length deltas.now }
     ensures parted { IsPartitionedBy (passes test) deltas.now → IsPartitionPoint (λ d. passes test d ≡ true) (λ d. passes test d ≡ false) deltas.now result }
 {
@@ -118,4 +120,26 @@ pub(super) fn count_passing(deltas: &[RelaxDelta], test: Test) -> usize
     let some = halve_often(deltas, test, stretch);
     let last = halve_often(deltas, test, some);
     last.start + test.passes(&deltas[last.start]) as usize
+}
+
+/// How many deltas lie at offsets strictly below `offset`, of such as `SectionRelaxDeltas::deltas`
+/// lends. Of any other slice it says nothing but that they are at most all. The search takes
+/// O(log n).
+#[inline(always)]
+pub fn count_below(deltas: &[RelaxDelta], offset: u64) -> usize
+    ensures within { result ≤ length deltas.now }
+    ensures below { AreListed deltas.now → IsPartitionPoint (λ d. d.0 < offset) (λ d. offset ≤ d.0) (map deletion_of deltas.now) result }
+{
+    count_passing(deltas, Test::Begins(offset))
+}
+
+/// How many deltas have an output place, their offset less the bytes deleted before, of at most
+/// `offset`, of such as `SectionRelaxDeltas::deltas` lends. Of any other slice it says nothing but
+/// that they are at most all. The search takes O(log n).
+#[inline(always)]
+pub fn count_placed(deltas: &[RelaxDelta], offset: u64) -> usize
+    ensures within { result ≤ length deltas.now }
+    ensures placed { AreListed deltas.now → ArePlaced (map deletion_of deltas.now) offset result }
+{
+    count_passing(deltas, Test::IsPlaced(offset))
 }

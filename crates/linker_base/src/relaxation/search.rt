@@ -6,8 +6,7 @@ ghost use Rattle.linker_base.specs.Deletions.{bytes_of, IsInside};
 ghost use Rattle.linker_base.specs.Deltas.{deletion_of};
 ghost use Rattle.linker_base.specs.Listed.{AreListed, ArePlaced, IsOnlyAt};
 
-use super::RelaxDelta;
-use super::counting::{Test, count_passing};
+use super::{RelaxDelta, counting};
 
 // The bytes that the first `count` deltas delete.
 pub(super) fn bytes_of_first(deltas: &[RelaxDelta], count: usize) -> u64
@@ -27,7 +26,7 @@ pub(super) fn count_below(deltas: &[RelaxDelta], offset: u64) -> usize
     ensures within { result ≤ length deltas.now }
     ensures below { IsPartitionPoint (λ d. d.0 < offset) (λ d. offset ≤ d.0) (map deletion_of deltas.now) result }
 {
-    count_passing(deltas, Test::Begins(offset))
+    counting::count_below(deltas, offset)
 }
 
 // How many deltas have an output place, their offset less the bytes deleted before, of at most
@@ -37,7 +36,7 @@ pub(super) fn count_placed(deltas: &[RelaxDelta], offset: u64) -> usize
     ensures within { result ≤ length deltas.now }
     ensures placed { ArePlaced (map deletion_of deltas.now) offset result }
 {
-    count_passing(deltas, Test::IsPlaced(offset))
+    counting::count_placed(deltas, offset)
 }
 
 // Whether a delta begins below the offset and ends above it.
