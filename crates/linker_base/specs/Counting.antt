@@ -1,5 +1,5 @@
 -- What a search among a section's deltas asks of them, and what it knows on the way.
-use Rattle.std.specs.Prelude.{◌≡◌, ℕ, ◌+◌, ◌-◌, ◌%◌, ◌^◌, ◌<◌, ◌≤◌, Bool, true, false, nat_lt, nat_le, List, length}
+use Rattle.std.specs.Prelude.{◌≡◌, ℕ, ◌+◌, ◌-◌, ◌%◌, ◌^◌, ◌≤◌, Bool, true, false, nat_lt, nat_le, List, length}
 use Rattle.std.specs.List.{AllWithin}
 use Rattle.linker_base.specs.declared.relaxation.RelaxDelta.{RelaxDelta}
 use Rattle.linker_base.specs.declared.relaxation.counting.Test.{Test}
@@ -15,10 +15,9 @@ abbrev pub passes : Test → RelaxDelta → Bool
 passes (Begins offset) delta = nat_lt delta.input_offset offset
 passes (IsPlaced offset) delta = nat_le (place_of delta) offset
 
--- a stretch is one delta or more of the list
-pub record IsWithin (stretch : Stretch) (deltas : List RelaxDelta) : Type 0 where
-  pub some : 0 < stretch.len
-  pub inside : stretch.start + stretch.len ≤ length deltas
+-- a stretch lies in the list
+abbrev pub IsWithin : Stretch → List RelaxDelta → Type 0
+IsWithin stretch deltas = stretch.start + stretch.len ≤ length deltas
 
 -- all before a stretch are known to pass, and all after it to fail
 pub record IsNarrowed (test : RelaxDelta → Bool) (deltas : List RelaxDelta) (stretch : Stretch) : Type 0 where

@@ -49,7 +49,7 @@ fn halve(deltas: &[RelaxDelta], test: Test, stretch: Stretch) -> Stretch
     ensures half { 2 * result.len ≤ stretch.len + 1 }
     ensures narrowed { IsPartitionedBy (passes test) deltas.now → IsNarrowed (passes test) deltas.now stretch → IsNarrowed (passes test) deltas.now result }
 {
-    if stretch.len == 1 {
+    if stretch.len <= 1 {
         return stretch;
     }
     let half = stretch.len / 2;
@@ -106,9 +106,6 @@ fn count_passing(deltas: &[RelaxDelta], test: Test) -> usize
     ensures within { result ≤ length deltas.now }
     ensures parted { IsPartitionedBy (passes test) deltas.now → IsPartitionPoint (λ d. passes test d ≡ true) (λ d. passes test d ≡ false) deltas.now result }
 {
-    if deltas.is_empty() {
-        return 0;
-    }
     let mut stretch = Stretch {
         start: 0,
         len: deltas.len(),
@@ -119,6 +116,9 @@ fn count_passing(deltas: &[RelaxDelta], test: Test) -> usize
     // Written out, as LLVM makes a branch of what a loop selects, and that is guessed wrong half the time.
     let some = halve_often(deltas, test, stretch);
     let last = halve_often(deltas, test, some);
+    if last.len == 0 {
+        return last.start;
+    }
     last.start + test.passes(&deltas[last.start]) as usize
 }
 
