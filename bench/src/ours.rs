@@ -17,7 +17,6 @@ pub struct Delta {
     pub bytes_deleted: u32,
 }
 
-#[link(name = "linker_utils_c", kind = "static")]
 extern "C" {
     pub fn linker_utils_write(
         architecture: u32,
