@@ -1,7 +1,7 @@
 /* The verified core of a linker, for programs in C and C++.
  *
  * The archive is `liblinker_utils_c.a`, of the crate `linker_utils_c`. Link it with the kit's
- * `libc/c/heap.c`, by which the calls that take memory use `malloc`, `realloc` and `free`.
+ * `c/liblibc_c.a`, by which the calls that take memory use `malloc`, `realloc` and `free`.
  *
  * What holds of every call:
  * - A slice is a pointer and then a count of elements. Its pointer may not be null, also where the
@@ -660,7 +660,8 @@ uint32_t linker_utils_can_apply(uint32_t architecture, uint32_t rewrite, uint8_t
 uint32_t linker_utils_apply(uint32_t architecture, uint32_t rewrite, uint8_t n, uint8_t *section,
                             size_t section_len, uint64_t *offset, int64_t *addend);
 
-/* What becomes of the relocation after the rewritten one: `enum linker_utils_modifier`. */
+/* What becomes of the relocation after the rewritten one, into `modifier`: a number of
+ * `enum linker_utils_modifier`. */
 uint32_t linker_utils_next_modifier(uint32_t architecture, uint32_t rewrite, uint8_t n,
                                     uint32_t *modifier);
 

@@ -1,5 +1,5 @@
 -- Lists of deletions and deltas that are made one by one, and what searches in them find.
-use Rattle.std.proofs.Common.{◌≡◌, ℕ, ◌+◌, ◌-◌, ◌<◌, ◌≤◌, List, [], ◌∷◌, ◌++◌, length, map, get_or, take, set, refl, sym, ap, ◌∙◌, inl, inr, arith}
+use Rattle.std.proofs.Common.{◌≡◌, ℕ, ◌+◌, ◌-◌, ◌<◌, ◌≤◌, List, [], ◌∷◌, ◌++◌, length, map, get_or, take, set, refl, ap, ◌∙◌, inl, inr, arith}
 use Rattle.std.specs.Prelude.{◌^◌, ◌↔◌, max, All}
 use Rattle.std.specs.List.Sorted.{IsPartitionPoint}
 use Rattle.std.proofs.lemmas.Bool.{cases_lt}
@@ -62,13 +62,12 @@ module _ (deltas : List RelaxDelta) (listed : AreListed deltas) where
       let last = inside_last ds listed.valid i (k + 1) (0, 0) (omega arith) (omega arith) parted in
       let below = rw here at (parted.0 k (0, 0) (omega arith) (omega arith)) in
       let back : k + 1 - 1 ≡ k = omega arith in
-      let into = rw (back, here) at last in
-      (
+      let into = rw (back, here) at last in (
         below,
         into.1,
         λ past.
-          let outside : ¬ IsInside ds i = λ inside. omega (arith, into.0 inside) in
-          (outside, rw (bytes_at k within) (rank_from_search ds listed.valid i (k + 1) (omega arith) parted outside)),
+            let outside : ¬ IsInside ds i = λ inside. omega (arith, into.0 inside) in
+            (outside, rw (bytes_at k within) (rank_from_search ds listed.valid i (k + 1) (omega arith) parted outside)),
       )
 
   -- the kept byte at an output offset, from the deltas that have an output place of at most that

@@ -1,5 +1,5 @@
 -- The deletions and deltas that C passes.
-use Rattle.std.specs.Prelude.{◌≡◌, ℕ, ◌++◌, List, map}
+use Rattle.std.specs.Prelude.{◌≡◌, ℕ, List, map}
 use Rattle.linker_base.specs.declared.relaxation.RelaxDelta.{RelaxDelta}
 use Rattle.linker_base.specs.Deletions.{IsSortedUnion}
 use Rattle.linker_base.specs.Deltas.{deletion_of}

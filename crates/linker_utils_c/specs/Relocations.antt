@@ -1,6 +1,5 @@
 -- The numbers by which C names relocations, and what they mean in numbers.
 use Rattle.std.specs.Prelude.{ℕ, ◌==◌, if◌then◌else◌, Bool, true, false, List, [], ◌∷◌, slice_get, Option, None, Some, Result, Ok, Err, ℤ, pos, is_some}
-use Rattle.linker_base.specs.declared.bit_misc.BitRange.{BitRange}
 use Rattle.linker_utils.specs.declared.elf.RelocationKind.{RelocationKind}
 use Rattle.linker_utils.specs.declared.elf.RelocationKind.TheVariants as kinds
 use Rattle.linker_utils.specs.declared.elf.RelocationKindInfo.{RelocationKindInfo}

@@ -2,10 +2,11 @@
 
 ghost use Rattle.std.specs.Prelude.{◌≡◌, ◌≢◌, ◌↔◌, ◌<◌, ◌≤◌, ◌+◌, IsTrue, length};
 ghost use Rattle.linker_base.specs.Bits.{signed};
-ghost use Rattle.linker_utils.specs.RiscV.{IsEven, IsJalDistance, JumpsAt, IsPlainCall, FitsClui, high_20};
+ghost use Rattle.linker_utils.specs.RiscV.{IsEven, IsJalDistance, JumpsAt, IsPlainCall, FitsClui, HoldsHigh, IsSigned32, high_20, low_12};
 ghost use Rattle.linker_utils_c.specs.Status.{code};
 
 use crate::status::Status;
+use linker_utils::elf::RiscVInstruction;
 use linker_utils::riscv64::{self, CallError, RelaxationKind};
 
 /// Turns the `auipc` at a site of a section into a `jal` by a distance in bytes, with the `auipc`'s
@@ -48,7 +49,8 @@ pub extern "C" fn linker_utils_distance_fits_jal(distance: i64) -> bool
 /// Whether the high part of a value is 0.
 #[unsafe(no_mangle)]
 pub extern "C" fn linker_utils_hi20_is_zero(value: u64) -> bool
-    ensures { IsTrue result ↔ (high_20 value ≡ 0) }
+    ensures exactly { IsTrue result ↔ (high_20 value ≡ 0) }
+    ensures low { IsTrue result → IsSigned32 (signed 64 value) → signed 64 value ≡ low_12 value }
 {
     RelaxationKind::hi20_is_zero(value)
 }
@@ -56,7 +58,9 @@ pub extern "C" fn linker_utils_hi20_is_zero(value: u64) -> bool
 /// Whether `c.lui` holds the high part of a value.
 #[unsafe(no_mangle)]
 pub extern "C" fn linker_utils_hi20_fits_clui(value: u64) -> bool
-    ensures { IsTrue result ↔ FitsClui value }
+    ensures exactly { IsTrue result ↔ FitsClui value }
+    ensures compressed { IsTrue result → HoldsHigh RiscVInstruction.CluiType value }
+    ensures whole { IsTrue result → HoldsHigh RiscVInstruction.UType value }
 {
     RelaxationKind::hi20_fits_clui(value)
 }

@@ -249,11 +249,11 @@ pub extern "C" fn linker_utils_deltas_is_mergeable(
     deltas: &[RelaxDelta],
     additional: &[Deletion],
 ) -> u32
-    ensures mergeable { result ≡ code Status.Success → AreDisjoint (pairs_under deltas.now ++ pairs_in additional.now) }
-    ensures touching { result ≡ code Status.NotMergeable → ¬ AreDisjoint (pairs_under deltas.now ++ pairs_in additional.now) }
-    ensures invalid { result ≡ code Status.InvalidDeletions → ¬ IsValid (pairs_under deltas.now) }
-    ensures accepted { IsValid (pairs_under deltas.now) → AreDisjoint (pairs_under deltas.now ++ pairs_in additional.now)
+    ensures mergeable { IsValid (pairs_under deltas.now) → AreDisjoint (pairs_under deltas.now ++ pairs_in additional.now)
         → (result ≡ code Status.Success) ⊎ (result ≡ code Status.OutOfMemory) }
+    ensures touching { IsValid (pairs_under deltas.now) → ¬ AreDisjoint (pairs_under deltas.now ++ pairs_in additional.now)
+        → (result ≡ code Status.NotMergeable) ⊎ (result ≡ code Status.OutOfMemory) }
+    ensures invalid { ¬ IsValid (pairs_under deltas.now) → (result ≡ code Status.InvalidDeletions) ⊎ (result ≡ code Status.OutOfMemory) }
 {
     let section = match section_of(alloc, deltas) {
         Ok(section) => section,
@@ -278,10 +278,12 @@ pub extern "C" fn linker_utils_deltas_merge(
 ) -> u32
     ensures merged { result ≡ code Status.Success → AreMerged (pairs_under deltas.now ++ pairs_in additional.now) merged.new }
     ensures different_lengths { (result ≡ code Status.DifferentLengths) ↔ (length merged.old ≢ length deltas.now + length additional.now) }
-    ensures touching { result ≡ code Status.NotMergeable → ¬ AreDisjoint (pairs_under deltas.now ++ pairs_in additional.now) }
-    ensures invalid { result ≡ code Status.InvalidDeletions → ¬ IsValid (pairs_under deltas.now) }
     ensures accepted { length merged.old ≡ length deltas.now + length additional.now → IsValid (pairs_under deltas.now)
         → AreDisjoint (pairs_under deltas.now ++ pairs_in additional.now) → (result ≡ code Status.Success) ⊎ (result ≡ code Status.OutOfMemory) }
+    ensures touching { length merged.old ≡ length deltas.now + length additional.now → IsValid (pairs_under deltas.now)
+        → ¬ AreDisjoint (pairs_under deltas.now ++ pairs_in additional.now) → (result ≡ code Status.NotMergeable) ⊎ (result ≡ code Status.OutOfMemory) }
+    ensures invalid { length merged.old ≡ length deltas.now + length additional.now → ¬ IsValid (pairs_under deltas.now)
+        → (result ≡ code Status.InvalidDeletions) ⊎ (result ≡ code Status.OutOfMemory) }
     ensures unchanged { result ≢ code Status.Success → merged.new ≡ merged.old }
 {
     if merged.len() < deltas.len() || merged.len() - deltas.len() != additional.len() {

@@ -115,12 +115,7 @@ pub extern "C" fn linker_utils_window(architecture: u32, form: u32, window: &mut
 
 /// Whether `linker_utils_write` of the value to these bytes would answer `Success`.
 #[unsafe(no_mangle)]
-pub extern "C" fn linker_utils_fits(
-    architecture: u32,
-    form: u32,
-    value: u64,
-    bytes: &[u8],
-) -> u32
+pub extern "C" fn linker_utils_fits(architecture: u32, form: u32, value: u64, bytes: &[u8]) -> u32
     ensures known { IfOk (named_form architecture form) (λ named. TakesValue (relocation_form named) value bytes.now result) }
     ensures refused { IfErr (named_form architecture form) (λ refusal. result ≡ code refusal) }
 {

@@ -1,6 +1,6 @@
 //! Numbers that bytes begin with.
 
-ghost use Rattle.std.specs.Prelude.{◌≡◌, ◌≢◌, ◌↔◌, ◌-◌, length, drop};
+ghost use Rattle.std.specs.Prelude.{ℕ, List, ◌≤◌, ◌≡◌, ◌≢◌, ◌↔◌, ◌-◌, length, drop};
 ghost use Rattle.std.specs.Int.{from_le_bytes, w32, w64};
 ghost use Rattle.linker_base.specs.Uleb.{Uleb, UlebEnded, UlebTooLarge};
 ghost use Rattle.linker_utils_c.specs.Status.{code, HasRoom};
@@ -38,11 +38,7 @@ pub extern "C" fn linker_utils_u64_from_slice(bytes: &[u8], value: &mut u64) -> 
 
 /// The little-endian number of the first four bytes, and how many bytes it took.
 #[unsafe(no_mangle)]
-pub extern "C" fn linker_utils_read_u32(
-    bytes: &[u8],
-    value: &mut u32,
-    consumed: &mut usize,
-) -> u32
+pub extern "C" fn linker_utils_read_u32(bytes: &[u8], value: &mut u32, consumed: &mut usize) -> u32
     ensures room { HasRoom 4 bytes.now result }
     ensures number { result ≡ code Status.Success → value.new ≡ from_le_bytes w32 bytes.now }
     ensures taken { result ≡ code Status.Success → consumed.new ≡ 4 }
@@ -68,6 +64,8 @@ pub extern "C" fn linker_utils_read_uleb128(
     consumed: &mut usize,
 ) -> u32
     ensures number { result ≡ code Status.Success → Uleb bytes.now value.new (drop consumed.new bytes.now) }
+    ensures taken { result ≡ code Status.Success → consumed.new ≤ length bytes.now }
+    ensures accepted { (n : ℕ) (rest : List ℕ) → Uleb bytes.now n rest → (result ≡ code Status.Success) × (value.new ≡ n) × (drop consumed.new bytes.now ≡ rest) }
     ensures ended { (result ≡ code Status.Uleb128Ended) ↔ UlebEnded bytes.now }
     ensures too_large { (result ≡ code Status.Uleb128TooLarge) ↔ UlebTooLarge bytes.now }
     ensures value_stays { result ≢ code Status.Success → value.new ≡ value.old }

@@ -516,11 +516,7 @@ fn in_numbers(info: RelocationKindInfo) -> Row
 
 /// What the relocation of an architecture and a number means.
 #[unsafe(no_mangle)]
-pub extern "C" fn linker_utils_relocation(
-    architecture: u32,
-    relocation: u32,
-    row: &mut Row,
-) -> u32
+pub extern "C" fn linker_utils_relocation(architecture: u32, relocation: u32, row: &mut Row) -> u32
     ensures found { IfOk (named_row architecture relocation) (λ info. (result ≡ code Status.Success) × (row.new ≡ row_of info)) }
     ensures refused { IfErr (named_row architecture relocation) (λ refusal. (result ≡ code refusal) × (row.new ≡ row.old)) }
 {

@@ -1,4 +1,4 @@
-use Rattle.std.proofs.Common.{◌≡◌, ℕ, ◌<◌, ◌≤◌, length, get_or, take}
+use Rattle.std.proofs.Common.{ℕ, ◌<◌, ◌≤◌, length, get_or, take}
 use Rattle.std.specs.Prelude.{All}
 use Rattle.linker_base.specs.Deletions.{IsInside}
 use Rattle.linker_base.specs.Listed.{AreListed}

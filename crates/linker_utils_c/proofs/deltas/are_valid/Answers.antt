@@ -1,4 +1,4 @@
-use Rattle.std.proofs.Common.{◌≡◌, ℕ, ◌-◌, ◌<◌, true, length, sym, ◌∙◌, arith}
+use Rattle.std.proofs.Common.{◌≡◌, ◌-◌, ◌<◌, true, length, sym, ◌∙◌, arith}
 use Rattle.std.proofs.lemmas.Bool.{false≢true}
 use Rattle.std.proofs.lemmas.List.{length-map}
 use Rattle.linker_base.proofs.Listed.{IsValid-more}
@@ -13,8 +13,7 @@ returns-then-not-end_fits c =
     let ds = c.args.deletions.now in
     let k = c.loop-at.at in
     let inside : k < length (pairs_in ds) = omega (arith, length-map ds pair_of) in
-    let here = pair_at ds k c.loop-at-test.true in
-    (
+    let here = pair_at ds k c.loop-at-test.true in (
       λ f. absurd (false≢true f),
       λ valid. elim c.then-not-end_fits.branch [
         | then-not-end_fits-via-then-not-end_fits w ↦ sym w.if-not-end_fits.true ∙ c.end_fits.ensures.1 (rw here at (valid.ends k (0, 0) inside))

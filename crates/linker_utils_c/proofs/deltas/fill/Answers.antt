@@ -1,4 +1,4 @@
-use Rattle.std.proofs.Common.{◌≡◌, ◌<◌, length, sym, arith}
+use Rattle.std.proofs.Common.{◌<◌, length, sym, arith}
 use Rattle.std.proofs.lemmas.List.{length-map, length-set}
 use Rattle.linker_base.proofs.Listed.{taken_up_to}
 use Rattle.linker_utils_c.specs.Deltas.{pair_of, pairs_in}

@@ -1,4 +1,4 @@
-use Rattle.std.proofs.Common.{◌≡◌, ◌+◌, ◌<◌, length, arith}
+use Rattle.std.proofs.Common.{◌≡◌, ◌+◌, arith}
 use Rattle.std.proofs.lemmas.Bool.Decides.{nat_tests}
 use Rattle.linker_utils_c.proofs.DeltaLists.{before_all, inside_at}
 use Rattle.linker_utils_c.proofs.deltas.output_of.Goals as goal

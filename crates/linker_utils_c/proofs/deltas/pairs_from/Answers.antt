@@ -1,5 +1,4 @@
-use Rattle.std.proofs.Common.{map, refl, arith}
-use Rattle.linker_base.proofs.Search.{blank}
+use Rattle.std.proofs.Common.{refl, arith}
 use Rattle.linker_utils_c.specs.Deltas.{pair_of}
 use Rattle.linker_utils_c.proofs.DeltaLists.{no_deletion, take_more_map}
 use Rattle.linker_utils_c.proofs.deltas.pairs_from.Goals as goal

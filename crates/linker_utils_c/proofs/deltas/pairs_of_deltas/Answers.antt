@@ -1,7 +1,7 @@
-use Rattle.std.proofs.Common.{map, refl, arith}
+use Rattle.std.proofs.Common.{refl, arith}
 use Rattle.linker_base.proofs.Search.{blank}
 use Rattle.linker_base.specs.Deltas.{deletion_of}
-use Rattle.linker_utils_c.proofs.DeltaLists.{no_deletion, take_more_map}
+use Rattle.linker_utils_c.proofs.DeltaLists.{take_more_map}
 use Rattle.linker_utils_c.proofs.deltas.pairs_of_deltas.Goals as goal
 
 pub loop-delta-preserved : goal.loop-delta-preserved

@@ -1,0 +1,54 @@
+//! A merge for which `malloc` refuses memory. It runs in a process of its own, under a limit of 1 GB.
+
+use sathunne::{deltas_is_mergeable, deltas_merge, Deletion, Delta, Status};
+use std::alloc::{alloc_zeroed, Layout};
+use std::env;
+use std::process::Command;
+
+const WITHIN_LIMIT: &str = "SATHUNNE_WITHIN_LIMIT";
+
+#[test]
+fn a_merge_without_memory_changes_nothing() {
+    if env::var_os(WITHIN_LIMIT).is_some() {
+        merge_too_many();
+        return;
+    }
+    let status = Command::new("sh")
+        .args(["-c", "ulimit -v 1000000 && exec \"$0\" --exact \"$1\""])
+        .arg(env::current_exe().expect("this test has a path"))
+        .arg("a_merge_without_memory_changes_nothing")
+        .env(WITHIN_LIMIT, "1")
+        .status()
+        .expect("`sh` runs");
+    assert!(status.success());
+}
+
+/// Deletions of 320 MB, of which the library has to make a copy, beside places of 480 MB.
+fn merge_too_many() {
+    const COUNT: usize = 20_000_000;
+    let deletions: &mut [Deletion] = zeros(COUNT);
+    let merged: &mut [Delta] = zeros(COUNT);
+    assert_eq!(
+        deltas_is_mergeable(&[], deletions),
+        Err(Status::OutOfMemory)
+    );
+    assert_eq!(
+        deltas_merge(&[], deletions, merged),
+        Err(Status::OutOfMemory)
+    );
+    assert_eq!(
+        (merged[0], merged[COUNT - 1]),
+        (Delta::default(), Delta::default())
+    );
+}
+
+/// Places that are never freed, of a type of numbers alone.
+fn zeros<T>(count: usize) -> &'static mut [T] {
+    let layout = Layout::array::<T>(count).expect("a layout");
+    // SAFETY: the layout has a size, and zeros are a value of the type.
+    unsafe {
+        let at = alloc_zeroed(layout).cast::<T>();
+        assert!(!at.is_null(), "the limit leaves room for the slices");
+        std::slice::from_raw_parts_mut(at, count)
+    }
+}
