@@ -18,11 +18,17 @@ use Rattle.linker_utils.specs.RiscV.{riscv_rewrite, riscv_modifier}
 use Rattle.linker_utils.specs.LoongArch.{loongarch_rewrite, loongarch_modifier}
 use Rattle.linker_utils.specs.PowerPc.{ppc64_rewrite, ppc64_modifier}
 use Rattle.linker_utils.specs.X86.{x86_64_rewrite, x86_64_modifier}
-use Rattle.linker_utils_c.specs.declared.rewrites.Relaxation.{Relaxation}
-use Rattle.linker_utils_c.specs.declared.rewrites.Relaxation.TheVariants.{AArch64, RiscV, LoongArch64, Ppc64, X86_64}
 use Rattle.linker_utils_c.specs.declared.status.Status.{Status}
 use Rattle.linker_utils_c.specs.declared.status.Status.TheVariants.{Success, UnknownArchitecture, UnknownRewrite, CannotApply}
 use Rattle.linker_utils_c.specs.Status.{code}
+
+-- a rewrite of any architecture
+pub data Relaxation : Type 0 where
+  AArch64 : AArch64Kind → Relaxation
+  RiscV : RiscVKind → Relaxation
+  LoongArch64 : LoongArch64Kind → Relaxation
+  Ppc64 : Ppc64Kind → Relaxation
+  X86_64 : X86_64Kind → Relaxation
 
 -- The rewrites of each architecture, by their numbers from 0 up.
 abbrev pub aarch64_rewrites : List AArch64Kind

@@ -1,6 +1,6 @@
 //! Values in the fields of instructions, by numbers of architectures and forms.
 
-ghost use Rattle.std.specs.Prelude.{◌≡◌, ◌≢◌, slice_get, IfOk, IfErr};
+ghost use Rattle.std.specs.Prelude.{◌≡◌, ◌≢◌, slice_get, IfOk, IfErr, IfSome, IfNone};
 ghost use Rattle.std.specs.Int.{byte_len, cast_unsigned, w64};
 ghost use Rattle.linker_base.specs.Form.{window_of};
 ghost use Rattle.linker_utils.specs.Elf.{relocation_form};
@@ -126,8 +126,8 @@ pub extern "C" fn linker_utils_fits(architecture: u32, form: u32, value: u64, by
 }
 
 #[inline(always)]
-fn fit(form: RelocationInstruction, value: u64, bytes: &[u8]) -> Status
-    ensures { TakesValue (relocation_form form) value bytes.now (code result) }
+fn fit<F: InstructionForm>(form: F, value: u64, bytes: &[u8]) -> Status
+    ensures { TakesValue (F.form form) value bytes.now (code result) }
 {
     if bytes.len() < form.window() {
         return Status::TooShort;
@@ -135,6 +135,30 @@ fn fit(form: RelocationInstruction, value: u64, bytes: &[u8]) -> Status
     if !form.fits(value, bytes) {
         return Status::DoesNotFit;
     }
+    Status::Success
+}
+
+// Writes a value by a form, if there is one.
+#[inline(always)]
+fn write_by<F: InstructionForm>(
+    form: Option<F>,
+    value: u64,
+    negative: bool,
+    dest: &mut [u8],
+) -> Status
+    ensures known { IfSome form (λ named. TakesValue (F.form named) value dest.old (code result)) }
+    ensures written { IfSome form (λ named. result ≡ Status.Success → HasValue (F.form named) value negative dest.old dest.new) }
+    ensures unknown { IfNone form (result ≡ Status.UnknownForm) }
+    ensures unchanged { result ≢ Status.Success → dest.new ≡ dest.old }
+{
+    let Some(named) = form else {
+        return Status::UnknownForm;
+    };
+    let status = fit(named, value, dest);
+    if status != Status::Success {
+        return status;
+    }
+    named.write(value, negative, dest);
     Status::Success
 }
 
@@ -153,16 +177,38 @@ pub extern "C" fn linker_utils_write(
     ensures refused { IfErr (named_form architecture form) (λ refusal. result ≡ code refusal) }
     ensures unchanged { result ≢ code Status.Success → dest.new ≡ dest.old }
 {
-    let named = match form_of(architecture, form) {
-        Ok(named) => named,
-        Err(refusal) => return refusal.number(),
-    };
-    let status = fit(named, value, dest);
-    if status != Status::Success {
-        return status.number();
+    match architecture {
+        0 => write_by(aarch64_form(form), value, negative, dest).number(),
+        1 => write_by(riscv_form(form), value, negative, dest).number(),
+        2 => write_by(loongarch64_form(form), value, negative, dest).number(),
+        3 => write_by(ppc64_form(form), value, negative, dest).number(),
+        _ => Status::UnknownArchitecture.number(),
     }
-    named.write(value, negative, dest);
-    Status::Success.number()
+}
+
+// Reads a value by a form, if there is one.
+#[inline(always)]
+fn read_by<F: InstructionForm>(
+    form: Option<F>,
+    bytes: &[u8],
+    value: &mut u64,
+    negative: &mut bool,
+) -> Status
+    ensures known { IfSome form (λ named. HasRoom (byte_len (F.form named).window) bytes.now (code result)) }
+    ensures number { IfSome form (λ named. result ≡ Status.Success → value.new ≡ cast_unsigned w64 ((F.form named).reading (window_of (F.form named) bytes.now))) }
+    ensures flag { IfSome form (λ named. result ≡ Status.Success → negative.new ≡ (F.form named).flag (window_of (F.form named) bytes.now)) }
+    ensures unknown { IfNone form (result ≡ Status.UnknownForm) }
+    ensures value_stays { result ≢ Status.Success → value.new ≡ value.old }
+    ensures flag_stays { result ≢ Status.Success → negative.new ≡ negative.old }
+{
+    let Some(named) = form else {
+        return Status::UnknownForm;
+    };
+    if bytes.len() < named.window() {
+        return Status::TooShort;
+    }
+    (*value, *negative) = named.read(bytes);
+    Status::Success
 }
 
 /// Reads the value in the instruction that `bytes` begins with, modulo 2^64, and the form's flag.
@@ -181,13 +227,11 @@ pub extern "C" fn linker_utils_read(
     ensures value_stays { result ≢ code Status.Success → value.new ≡ value.old }
     ensures flag_stays { result ≢ code Status.Success → negative.new ≡ negative.old }
 {
-    let named = match form_of(architecture, form) {
-        Ok(named) => named,
-        Err(refusal) => return refusal.number(),
-    };
-    if bytes.len() < named.window() {
-        return Status::TooShort.number();
+    match architecture {
+        0 => read_by(aarch64_form(form), bytes, value, negative).number(),
+        1 => read_by(riscv_form(form), bytes, value, negative).number(),
+        2 => read_by(loongarch64_form(form), bytes, value, negative).number(),
+        3 => read_by(ppc64_form(form), bytes, value, negative).number(),
+        _ => Status::UnknownArchitecture.number(),
     }
-    (*value, *negative) = named.read(bytes);
-    Status::Success.number()
 }

@@ -1,7 +1,13 @@
 //! Rewrites of instructions, by numbers of architectures and rewrites.
 
-ghost use Rattle.std.specs.Prelude.{◌≡◌, ◌≢◌, ◌↔◌, IsTrue, slice_get, IfOk, IfErr};
-ghost use Rattle.linker_base.specs.Rewrite.{CanRewrite, rewritten, offset_after, addend_after};
+ghost use Rattle.std.specs.Prelude.{◌≡◌, ◌≢◌, ◌↔◌, IsTrue, slice_get, Option, IfOk, IfErr, IfSome, IfNone};
+ghost use Rattle.linker_base.specs.Rewrite.{Rewrite, CanRewrite};
+ghost use Rattle.linker_base.specs.declared.relaxation.RelocationModifier.{RelocationModifier};
+ghost use Rattle.linker_utils.specs.AArch64.{aarch64_rewrite, aarch64_modifier};
+ghost use Rattle.linker_utils.specs.RiscV.{riscv_rewrite, riscv_modifier};
+ghost use Rattle.linker_utils.specs.LoongArch.{loongarch_rewrite, loongarch_modifier};
+ghost use Rattle.linker_utils.specs.PowerPc.{ppc64_rewrite, ppc64_modifier};
+ghost use Rattle.linker_utils.specs.X86.{x86_64_rewrite, x86_64_modifier};
 ghost use Rattle.linker_utils_c.specs.Status.{code};
 ghost use Rattle.linker_utils_c.specs.Rewrites.{aarch64_rewrites, riscv_rewrites, loongarch64_rewrites, ppc64_rewrites, x86_64_rewrites, named_rewrite, relaxation_rewrite, relaxation_modifier, modifier_number, TakesRewrite, IsRewritten};
 
@@ -9,55 +15,129 @@ use crate::status::Status;
 use linker_utils::relaxation::RelocationModifier;
 use linker_utils::{aarch64, loongarch64, ppc64, riscv64, x86_64};
 
-/// A rewrite of any architecture.
-#[derive(Clone, Copy)]
-pub enum Relaxation {
-    AArch64(aarch64::RelaxationKind),
-    RiscV(riscv64::RelaxationKind),
-    LoongArch64(loongarch64::RelaxationKind),
-    Ppc64(ppc64::RelaxationKind),
-    X86_64(x86_64::RelaxationKind),
+/// A rewrite of one architecture.
+trait Rewriting: Copy {
+    // what the rewrite does, and what becomes of the next relocation
+    ghost rewrite: { Self → Option Rewrite };
+
+    ghost modifier: { Self → RelocationModifier };
+
+    /// Rewrites the instruction at an offset of a section.
+    fn rewrite_at(self, section: &mut [u8], offset: &mut u64, addend: &mut i64)
+        requires { CanRewrite (rewrite self) section.old offset.old }
+        ensures { IsRewritten (rewrite self) section.old section.new offset.old offset.new addend.old addend.new };
+
+    /// Whether it may be applied at an offset of a section.
+    fn can_rewrite_at(self, section: &[u8], offset: u64) -> bool
+        ensures { IsTrue result ↔ CanRewrite (rewrite self) section.now offset };
+
+    /// What becomes of the next relocation.
+    fn modifier_after(self) -> RelocationModifier
+        ensures { result ≡ modifier self };
 }
 
-impl Relaxation {
+impl Rewriting for aarch64::RelaxationKind {
+    ghost rewrite = { aarch64_rewrite };
+
+    ghost modifier = { aarch64_modifier };
+
     #[inline(always)]
-    fn apply(self, section: &mut [u8], offset: &mut u64, addend: &mut i64)
-        requires { CanRewrite (relaxation_rewrite self) section.old offset.old }
-        ensures { IsRewritten (relaxation_rewrite self) section.old section.new offset.old offset.new addend.old addend.new }
-    {
-        match self {
-            Relaxation::AArch64(kind) => kind.apply(section, offset, addend),
-            Relaxation::RiscV(kind) => kind.apply(section, offset, addend),
-            Relaxation::LoongArch64(kind) => kind.apply(section, offset, addend),
-            Relaxation::Ppc64(kind) => kind.apply(section, offset, addend),
-            Relaxation::X86_64(kind) => kind.apply(section, offset, addend),
-        }
+    fn rewrite_at(self, section: &mut [u8], offset: &mut u64, addend: &mut i64) {
+        self.apply(section, offset, addend);
     }
 
     #[inline(always)]
-    fn can_apply(self, section: &[u8], offset: u64) -> bool
-        ensures { IsTrue result ↔ CanRewrite (relaxation_rewrite self) section.now offset }
-    {
-        match self {
-            Relaxation::AArch64(kind) => kind.can_apply(section, offset),
-            Relaxation::RiscV(kind) => kind.can_apply(section, offset),
-            Relaxation::LoongArch64(kind) => kind.can_apply(section, offset),
-            Relaxation::Ppc64(kind) => kind.can_apply(section, offset),
-            Relaxation::X86_64(kind) => kind.can_apply(section, offset),
-        }
+    fn can_rewrite_at(self, section: &[u8], offset: u64) -> bool {
+        self.can_apply(section, offset)
     }
 
     #[inline(always)]
-    fn next_modifier(self) -> RelocationModifier
-        ensures { result ≡ relaxation_modifier self }
-    {
-        match self {
-            Relaxation::AArch64(kind) => kind.next_modifier(),
-            Relaxation::RiscV(kind) => kind.next_modifier(),
-            Relaxation::LoongArch64(kind) => kind.next_modifier(),
-            Relaxation::Ppc64(kind) => kind.next_modifier(),
-            Relaxation::X86_64(kind) => kind.next_modifier(),
-        }
+    fn modifier_after(self) -> RelocationModifier {
+        self.next_modifier()
+    }
+}
+
+impl Rewriting for riscv64::RelaxationKind {
+    ghost rewrite = { riscv_rewrite };
+
+    ghost modifier = { riscv_modifier };
+
+    #[inline(always)]
+    fn rewrite_at(self, section: &mut [u8], offset: &mut u64, addend: &mut i64) {
+        self.apply(section, offset, addend);
+    }
+
+    #[inline(always)]
+    fn can_rewrite_at(self, section: &[u8], offset: u64) -> bool {
+        self.can_apply(section, offset)
+    }
+
+    #[inline(always)]
+    fn modifier_after(self) -> RelocationModifier {
+        self.next_modifier()
+    }
+}
+
+impl Rewriting for loongarch64::RelaxationKind {
+    ghost rewrite = { loongarch_rewrite };
+
+    ghost modifier = { loongarch_modifier };
+
+    #[inline(always)]
+    fn rewrite_at(self, section: &mut [u8], offset: &mut u64, addend: &mut i64) {
+        self.apply(section, offset, addend);
+    }
+
+    #[inline(always)]
+    fn can_rewrite_at(self, section: &[u8], offset: u64) -> bool {
+        self.can_apply(section, offset)
+    }
+
+    #[inline(always)]
+    fn modifier_after(self) -> RelocationModifier {
+        self.next_modifier()
+    }
+}
+
+impl Rewriting for ppc64::RelaxationKind {
+    ghost rewrite = { ppc64_rewrite };
+
+    ghost modifier = { ppc64_modifier };
+
+    #[inline(always)]
+    fn rewrite_at(self, section: &mut [u8], offset: &mut u64, addend: &mut i64) {
+        self.apply(section, offset, addend);
+    }
+
+    #[inline(always)]
+    fn can_rewrite_at(self, section: &[u8], offset: u64) -> bool {
+        self.can_apply(section, offset)
+    }
+
+    #[inline(always)]
+    fn modifier_after(self) -> RelocationModifier {
+        self.next_modifier()
+    }
+}
+
+impl Rewriting for x86_64::RelaxationKind {
+    ghost rewrite = { x86_64_rewrite };
+
+    ghost modifier = { x86_64_modifier };
+
+    #[inline(always)]
+    fn rewrite_at(self, section: &mut [u8], offset: &mut u64, addend: &mut i64) {
+        self.apply(section, offset, addend);
+    }
+
+    #[inline(always)]
+    fn can_rewrite_at(self, section: &[u8], offset: u64) -> bool {
+        self.can_apply(section, offset)
+    }
+
+    #[inline(always)]
+    fn modifier_after(self) -> RelocationModifier {
+        self.next_modifier()
     }
 }
 
@@ -151,20 +231,61 @@ fn x86_64_rewrite(number: u32, n: u8) -> Option<x86_64::RelaxationKind>
     Some(kind)
 }
 
-/// The rewrite of an architecture and a number, or which of the two is unknown.
+// Whether a rewrite, if there is one, can be applied.
 #[inline(always)]
-fn rewrite_of(architecture: u32, rewrite: u32, n: u8) -> Result<Relaxation, Status>
-    ensures { result ≡ named_rewrite architecture rewrite n }
+fn test_by<R: Rewriting>(rewrite: Option<R>, section: &[u8], offset: u64) -> Status
+    ensures known { IfSome rewrite (λ named. TakesRewrite (R.rewrite named) section.now offset (code result)) }
+    ensures unknown { IfNone rewrite (result ≡ Status.UnknownRewrite) }
 {
-    let named = match architecture {
-        0 => aarch64_rewrite(rewrite).map(Relaxation::AArch64),
-        1 => riscv_rewrite(rewrite).map(Relaxation::RiscV),
-        2 => loongarch64_rewrite(rewrite).map(Relaxation::LoongArch64),
-        3 => ppc64_rewrite(rewrite).map(Relaxation::Ppc64),
-        4 => x86_64_rewrite(rewrite, n).map(Relaxation::X86_64),
-        _ => return Err(Status::UnknownArchitecture),
+    let Some(named) = rewrite else {
+        return Status::UnknownRewrite;
     };
-    named.ok_or(Status::UnknownRewrite)
+    if !named.can_rewrite_at(section, offset) {
+        return Status::CannotApply;
+    }
+    Status::Success
+}
+
+// Applies a rewrite, if there is one.
+#[inline(always)]
+fn apply_by<R: Rewriting>(
+    rewrite: Option<R>,
+    section: &mut [u8],
+    offset: &mut u64,
+    addend: &mut i64,
+) -> Status
+    ensures known { IfSome rewrite (λ named. TakesRewrite (R.rewrite named) section.old offset.old (code result)) }
+    ensures rewritten { IfSome rewrite (λ named. result ≡ Status.Success
+        → IsRewritten (R.rewrite named) section.old section.new offset.old offset.new addend.old addend.new) }
+    ensures unknown { IfNone rewrite (result ≡ Status.UnknownRewrite) }
+    ensures section_stays { result ≢ Status.Success → section.new ≡ section.old }
+    ensures offset_stays { result ≢ Status.Success → offset.new ≡ offset.old }
+    ensures addend_stays { result ≢ Status.Success → addend.new ≡ addend.old }
+{
+    let Some(named) = rewrite else {
+        return Status::UnknownRewrite;
+    };
+    if !named.can_rewrite_at(section, *offset) {
+        return Status::CannotApply;
+    }
+    named.rewrite_at(section, offset, addend);
+    Status::Success
+}
+
+// What becomes of the relocation after a rewrite, if there is one.
+#[inline(always)]
+fn modifier_by<R: Rewriting>(rewrite: Option<R>, modifier: &mut u32) -> Status
+    ensures found { IfSome rewrite (λ named. (result ≡ Status.Success) × (modifier.new ≡ modifier_number (R.modifier named))) }
+    ensures unknown { IfNone rewrite ((result ≡ Status.UnknownRewrite) × (modifier.new ≡ modifier.old)) }
+{
+    let Some(named) = rewrite else {
+        return Status::UnknownRewrite;
+    };
+    *modifier = match named.modifier_after() {
+        RelocationModifier::Normal => 0,
+        RelocationModifier::SkipNextRelocation => 1,
+    };
+    Status::Success
 }
 
 /// Whether `linker_utils_apply` at this offset would answer `Success`.
@@ -179,14 +300,14 @@ pub extern "C" fn linker_utils_can_apply(
     ensures known { IfOk (named_rewrite architecture rewrite n) (λ named. TakesRewrite (relaxation_rewrite named) section.now offset result) }
     ensures refused { IfErr (named_rewrite architecture rewrite n) (λ refusal. result ≡ code refusal) }
 {
-    let named = match rewrite_of(architecture, rewrite, n) {
-        Ok(named) => named,
-        Err(refusal) => return refusal.number(),
-    };
-    if !named.can_apply(section, offset) {
-        return Status::CannotApply.number();
+    match architecture {
+        0 => test_by(aarch64_rewrite(rewrite), section, offset).number(),
+        1 => test_by(riscv_rewrite(rewrite), section, offset).number(),
+        2 => test_by(loongarch64_rewrite(rewrite), section, offset).number(),
+        3 => test_by(ppc64_rewrite(rewrite), section, offset).number(),
+        4 => test_by(x86_64_rewrite(rewrite, n), section, offset).number(),
+        _ => Status::UnknownArchitecture.number(),
     }
-    Status::Success.number()
 }
 
 /// Rewrites the instruction at an offset of a section, and sets the offset and the addend to those of
@@ -208,15 +329,14 @@ pub extern "C" fn linker_utils_apply(
     ensures offset_stays { result ≢ code Status.Success → offset.new ≡ offset.old }
     ensures addend_stays { result ≢ code Status.Success → addend.new ≡ addend.old }
 {
-    let named = match rewrite_of(architecture, rewrite, n) {
-        Ok(named) => named,
-        Err(refusal) => return refusal.number(),
-    };
-    if !named.can_apply(section, *offset) {
-        return Status::CannotApply.number();
+    match architecture {
+        0 => apply_by(aarch64_rewrite(rewrite), section, offset, addend).number(),
+        1 => apply_by(riscv_rewrite(rewrite), section, offset, addend).number(),
+        2 => apply_by(loongarch64_rewrite(rewrite), section, offset, addend).number(),
+        3 => apply_by(ppc64_rewrite(rewrite), section, offset, addend).number(),
+        4 => apply_by(x86_64_rewrite(rewrite, n), section, offset, addend).number(),
+        _ => Status::UnknownArchitecture.number(),
     }
-    named.apply(section, offset, addend);
-    Status::Success.number()
 }
 
 /// What becomes of the relocation after the rewritten one: 0 where it is applied as usual, 1 where it
@@ -231,14 +351,12 @@ pub extern "C" fn linker_utils_next_modifier(
     ensures found { IfOk (named_rewrite architecture rewrite n) (λ named. (result ≡ code Status.Success) × (modifier.new ≡ modifier_number (relaxation_modifier named))) }
     ensures refused { IfErr (named_rewrite architecture rewrite n) (λ refusal. (result ≡ code refusal) × (modifier.new ≡ modifier.old)) }
 {
-    match rewrite_of(architecture, rewrite, n) {
-        Ok(named) => {
-            *modifier = match named.next_modifier() {
-                RelocationModifier::Normal => 0,
-                RelocationModifier::SkipNextRelocation => 1,
-            };
-            Status::Success.number()
-        }
-        Err(refusal) => refusal.number(),
+    match architecture {
+        0 => modifier_by(aarch64_rewrite(rewrite), modifier).number(),
+        1 => modifier_by(riscv_rewrite(rewrite), modifier).number(),
+        2 => modifier_by(loongarch64_rewrite(rewrite), modifier).number(),
+        3 => modifier_by(ppc64_rewrite(rewrite), modifier).number(),
+        4 => modifier_by(x86_64_rewrite(rewrite, n), modifier).number(),
+        _ => Status::UnknownArchitecture.number(),
     }
 }
