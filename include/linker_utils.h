@@ -12,6 +12,8 @@
  *   else while the call runs.
  * - With such pointers and counts each call is defined, whatever the numbers and bytes. It answers a
  *   status of `enum linker_utils_status`; with any but `LINKER_UTILS_OK` it has written nothing.
+ * - A call that may answer `LINKER_UTILS_OUT_OF_MEMORY` is not for a signal handler, nor for the forked
+ *   child of a process with threads.
  *
  * Numbers of architectures, forms, rewrites and relocations are those of the enums below, not the
  * types of ELF files. Bits are numbered from the least significant one. What forms, rewrites and

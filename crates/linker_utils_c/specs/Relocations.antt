@@ -39,23 +39,146 @@ use Rattle.linker_utils_c.specs.declared.status.Status.TheVariants.{UnknownArchi
 -- The relocations of each architecture, by their numbers from 0 up.
 abbrev pub aarch64_relocations : List AArch64Relocation
 aarch64_relocations =
-    aarch64_names.R_AARCH64_NONE ∷ aarch64_names.R_AARCH64_ABS64 ∷ aarch64_names.R_AARCH64_ABS32 ∷ aarch64_names.R_AARCH64_ABS16 ∷ aarch64_names.R_AARCH64_PREL64 ∷ aarch64_names.R_AARCH64_PREL32 ∷ aarch64_names.R_AARCH64_PREL16 ∷ aarch64_names.R_AARCH64_PLT32 ∷ aarch64_names.R_AARCH64_MOVW_UABS_G0 ∷ aarch64_names.R_AARCH64_MOVW_UABS_G0_NC ∷ aarch64_names.R_AARCH64_MOVW_UABS_G1 ∷ aarch64_names.R_AARCH64_MOVW_UABS_G1_NC ∷ aarch64_names.R_AARCH64_MOVW_UABS_G2 ∷ aarch64_names.R_AARCH64_MOVW_UABS_G2_NC ∷ aarch64_names.R_AARCH64_MOVW_UABS_G3 ∷ aarch64_names.R_AARCH64_MOVW_SABS_G0 ∷ aarch64_names.R_AARCH64_MOVW_SABS_G1 ∷ aarch64_names.R_AARCH64_MOVW_SABS_G2 ∷ aarch64_names.R_AARCH64_LD_PREL_LO19 ∷ aarch64_names.R_AARCH64_ADR_PREL_LO21 ∷ aarch64_names.R_AARCH64_ADR_PREL_PG_HI21 ∷ aarch64_names.R_AARCH64_ADR_PREL_PG_HI21_NC ∷ aarch64_names.R_AARCH64_ADD_ABS_LO12_NC ∷ aarch64_names.R_AARCH64_LDST8_ABS_LO12_NC ∷ aarch64_names.R_AARCH64_LDST16_ABS_LO12_NC ∷ aarch64_names.R_AARCH64_LDST32_ABS_LO12_NC ∷ aarch64_names.R_AARCH64_LDST64_ABS_LO12_NC ∷ aarch64_names.R_AARCH64_LDST128_ABS_LO12_NC ∷ aarch64_names.R_AARCH64_TSTBR14 ∷ aarch64_names.R_AARCH64_CONDBR19 ∷ aarch64_names.R_AARCH64_JUMP26 ∷ aarch64_names.R_AARCH64_CALL26 ∷ aarch64_names.R_AARCH64_MOVW_PREL_G0 ∷ aarch64_names.R_AARCH64_MOVW_PREL_G0_NC ∷ aarch64_names.R_AARCH64_MOVW_PREL_G1 ∷ aarch64_names.R_AARCH64_MOVW_PREL_G1_NC ∷ aarch64_names.R_AARCH64_MOVW_PREL_G2 ∷ aarch64_names.R_AARCH64_MOVW_PREL_G2_NC ∷ aarch64_names.R_AARCH64_MOVW_PREL_G3 ∷ aarch64_names.R_AARCH64_MOVW_GOTOFF_G0 ∷ aarch64_names.R_AARCH64_MOVW_GOTOFF_G0_NC ∷ aarch64_names.R_AARCH64_MOVW_GOTOFF_G1 ∷ aarch64_names.R_AARCH64_MOVW_GOTOFF_G1_NC ∷ aarch64_names.R_AARCH64_MOVW_GOTOFF_G2 ∷ aarch64_names.R_AARCH64_MOVW_GOTOFF_G2_NC ∷ aarch64_names.R_AARCH64_MOVW_GOTOFF_G3 ∷ aarch64_names.R_AARCH64_GOTREL64 ∷ aarch64_names.R_AARCH64_GOTREL32 ∷ aarch64_names.R_AARCH64_GOTPCREL32 ∷ aarch64_names.R_AARCH64_GOT_LD_PREL19 ∷ aarch64_names.R_AARCH64_LD64_GOTOFF_LO15 ∷ aarch64_names.R_AARCH64_ADR_GOT_PAGE ∷ aarch64_names.R_AARCH64_LD64_GOT_LO12_NC ∷ aarch64_names.R_AARCH64_LD64_GOTPAGE_LO15 ∷ aarch64_names.R_AARCH64_TLSGD_ADR_PREL21 ∷ aarch64_names.R_AARCH64_TLSGD_ADR_PAGE21 ∷ aarch64_names.R_AARCH64_TLSGD_ADD_LO12_NC ∷ aarch64_names.R_AARCH64_TLSGD_MOVW_G1 ∷ aarch64_names.R_AARCH64_TLSGD_MOVW_G0_NC ∷ aarch64_names.R_AARCH64_TLSLD_ADR_PREL21 ∷ aarch64_names.R_AARCH64_TLSLD_ADR_PAGE21 ∷ aarch64_names.R_AARCH64_TLSLD_ADD_LO12_NC ∷ aarch64_names.R_AARCH64_TLSLD_MOVW_G1 ∷ aarch64_names.R_AARCH64_TLSLD_MOVW_G0_NC ∷ aarch64_names.R_AARCH64_TLSLD_LD_PREL19 ∷ aarch64_names.R_AARCH64_TLSLD_MOVW_DTPREL_G2 ∷ aarch64_names.R_AARCH64_TLSLD_MOVW_DTPREL_G1 ∷ aarch64_names.R_AARCH64_TLSLD_MOVW_DTPREL_G1_NC ∷ aarch64_names.R_AARCH64_TLSLD_MOVW_DTPREL_G0 ∷ aarch64_names.R_AARCH64_TLSLD_MOVW_DTPREL_G0_NC ∷ aarch64_names.R_AARCH64_TLSLD_ADD_DTPREL_HI12 ∷ aarch64_names.R_AARCH64_TLSLD_ADD_DTPREL_LO12 ∷ aarch64_names.R_AARCH64_TLSLD_ADD_DTPREL_LO12_NC ∷ aarch64_names.R_AARCH64_TLSLD_LDST8_DTPREL_LO12 ∷ aarch64_names.R_AARCH64_TLSLD_LDST8_DTPREL_LO12_NC ∷ aarch64_names.R_AARCH64_TLSLD_LDST16_DTPREL_LO12 ∷ aarch64_names.R_AARCH64_TLSLD_LDST16_DTPREL_LO12_NC ∷ aarch64_names.R_AARCH64_TLSLD_LDST32_DTPREL_LO12 ∷ aarch64_names.R_AARCH64_TLSLD_LDST32_DTPREL_LO12_NC ∷ aarch64_names.R_AARCH64_TLSLD_LDST64_DTPREL_LO12 ∷ aarch64_names.R_AARCH64_TLSLD_LDST64_DTPREL_LO12_NC ∷ aarch64_names.R_AARCH64_TLSLD_LDST128_DTPREL_LO12 ∷ aarch64_names.R_AARCH64_TLSLD_LDST128_DTPREL_LO12_NC ∷ aarch64_names.R_AARCH64_TLSIE_MOVW_GOTTPREL_G1 ∷ aarch64_names.R_AARCH64_TLSIE_MOVW_GOTTPREL_G0_NC ∷ aarch64_names.R_AARCH64_TLSIE_ADR_GOTTPREL_PAGE21 ∷ aarch64_names.R_AARCH64_TLSIE_LD64_GOTTPREL_LO12_NC ∷ aarch64_names.R_AARCH64_TLSIE_LD_GOTTPREL_PREL19 ∷ aarch64_names.R_AARCH64_TLSLE_MOVW_TPREL_G2 ∷ aarch64_names.R_AARCH64_TLSLE_MOVW_TPREL_G1 ∷ aarch64_names.R_AARCH64_TLSLE_MOVW_TPREL_G1_NC ∷ aarch64_names.R_AARCH64_TLSLE_MOVW_TPREL_G0 ∷ aarch64_names.R_AARCH64_TLSLE_MOVW_TPREL_G0_NC ∷ aarch64_names.R_AARCH64_TLSLE_ADD_TPREL_HI12 ∷ aarch64_names.R_AARCH64_TLSLE_ADD_TPREL_LO12 ∷ aarch64_names.R_AARCH64_TLSLE_ADD_TPREL_LO12_NC ∷ aarch64_names.R_AARCH64_TLSLE_LDST8_TPREL_LO12 ∷ aarch64_names.R_AARCH64_TLSLE_LDST8_TPREL_LO12_NC ∷ aarch64_names.R_AARCH64_TLSLE_LDST16_TPREL_LO12 ∷ aarch64_names.R_AARCH64_TLSLE_LDST16_TPREL_LO12_NC ∷ aarch64_names.R_AARCH64_TLSLE_LDST32_TPREL_LO12 ∷ aarch64_names.R_AARCH64_TLSLE_LDST32_TPREL_LO12_NC ∷ aarch64_names.R_AARCH64_TLSLE_LDST64_TPREL_LO12 ∷ aarch64_names.R_AARCH64_TLSLE_LDST64_TPREL_LO12_NC ∷ aarch64_names.R_AARCH64_TLSLE_LDST128_TPREL_LO12 ∷ aarch64_names.R_AARCH64_TLSLE_LDST128_TPREL_LO12_NC ∷ aarch64_names.R_AARCH64_TLSDESC_LD_PREL19 ∷ aarch64_names.R_AARCH64_TLSDESC_ADR_PREL21 ∷ aarch64_names.R_AARCH64_TLSDESC_ADR_PAGE21 ∷ aarch64_names.R_AARCH64_TLSDESC_LD64_LO12 ∷ aarch64_names.R_AARCH64_TLSDESC_ADD_LO12 ∷ aarch64_names.R_AARCH64_TLSDESC_OFF_G1 ∷ aarch64_names.R_AARCH64_TLSDESC_OFF_G0_NC ∷ aarch64_names.R_AARCH64_TLSDESC_CALL ∷ []
+    aarch64_names.R_AARCH64_NONE ∷ aarch64_names.R_AARCH64_ABS64 ∷ aarch64_names.R_AARCH64_ABS32 ∷
+    aarch64_names.R_AARCH64_ABS16 ∷ aarch64_names.R_AARCH64_PREL64 ∷ aarch64_names.R_AARCH64_PREL32 ∷
+    aarch64_names.R_AARCH64_PREL16 ∷ aarch64_names.R_AARCH64_PLT32 ∷ aarch64_names.R_AARCH64_MOVW_UABS_G0 ∷
+    aarch64_names.R_AARCH64_MOVW_UABS_G0_NC ∷ aarch64_names.R_AARCH64_MOVW_UABS_G1 ∷
+    aarch64_names.R_AARCH64_MOVW_UABS_G1_NC ∷ aarch64_names.R_AARCH64_MOVW_UABS_G2 ∷
+    aarch64_names.R_AARCH64_MOVW_UABS_G2_NC ∷ aarch64_names.R_AARCH64_MOVW_UABS_G3 ∷
+    aarch64_names.R_AARCH64_MOVW_SABS_G0 ∷ aarch64_names.R_AARCH64_MOVW_SABS_G1 ∷
+    aarch64_names.R_AARCH64_MOVW_SABS_G2 ∷ aarch64_names.R_AARCH64_LD_PREL_LO19 ∷
+    aarch64_names.R_AARCH64_ADR_PREL_LO21 ∷ aarch64_names.R_AARCH64_ADR_PREL_PG_HI21 ∷
+    aarch64_names.R_AARCH64_ADR_PREL_PG_HI21_NC ∷ aarch64_names.R_AARCH64_ADD_ABS_LO12_NC ∷
+    aarch64_names.R_AARCH64_LDST8_ABS_LO12_NC ∷ aarch64_names.R_AARCH64_LDST16_ABS_LO12_NC ∷
+    aarch64_names.R_AARCH64_LDST32_ABS_LO12_NC ∷ aarch64_names.R_AARCH64_LDST64_ABS_LO12_NC ∷
+    aarch64_names.R_AARCH64_LDST128_ABS_LO12_NC ∷ aarch64_names.R_AARCH64_TSTBR14 ∷
+    aarch64_names.R_AARCH64_CONDBR19 ∷ aarch64_names.R_AARCH64_JUMP26 ∷ aarch64_names.R_AARCH64_CALL26 ∷
+    aarch64_names.R_AARCH64_MOVW_PREL_G0 ∷ aarch64_names.R_AARCH64_MOVW_PREL_G0_NC ∷
+    aarch64_names.R_AARCH64_MOVW_PREL_G1 ∷ aarch64_names.R_AARCH64_MOVW_PREL_G1_NC ∷
+    aarch64_names.R_AARCH64_MOVW_PREL_G2 ∷ aarch64_names.R_AARCH64_MOVW_PREL_G2_NC ∷
+    aarch64_names.R_AARCH64_MOVW_PREL_G3 ∷ aarch64_names.R_AARCH64_MOVW_GOTOFF_G0 ∷
+    aarch64_names.R_AARCH64_MOVW_GOTOFF_G0_NC ∷ aarch64_names.R_AARCH64_MOVW_GOTOFF_G1 ∷
+    aarch64_names.R_AARCH64_MOVW_GOTOFF_G1_NC ∷ aarch64_names.R_AARCH64_MOVW_GOTOFF_G2 ∷
+    aarch64_names.R_AARCH64_MOVW_GOTOFF_G2_NC ∷ aarch64_names.R_AARCH64_MOVW_GOTOFF_G3 ∷
+    aarch64_names.R_AARCH64_GOTREL64 ∷ aarch64_names.R_AARCH64_GOTREL32 ∷ aarch64_names.R_AARCH64_GOTPCREL32 ∷
+    aarch64_names.R_AARCH64_GOT_LD_PREL19 ∷ aarch64_names.R_AARCH64_LD64_GOTOFF_LO15 ∷
+    aarch64_names.R_AARCH64_ADR_GOT_PAGE ∷ aarch64_names.R_AARCH64_LD64_GOT_LO12_NC ∷
+    aarch64_names.R_AARCH64_LD64_GOTPAGE_LO15 ∷ aarch64_names.R_AARCH64_TLSGD_ADR_PREL21 ∷
+    aarch64_names.R_AARCH64_TLSGD_ADR_PAGE21 ∷ aarch64_names.R_AARCH64_TLSGD_ADD_LO12_NC ∷
+    aarch64_names.R_AARCH64_TLSGD_MOVW_G1 ∷ aarch64_names.R_AARCH64_TLSGD_MOVW_G0_NC ∷
+    aarch64_names.R_AARCH64_TLSLD_ADR_PREL21 ∷ aarch64_names.R_AARCH64_TLSLD_ADR_PAGE21 ∷
+    aarch64_names.R_AARCH64_TLSLD_ADD_LO12_NC ∷ aarch64_names.R_AARCH64_TLSLD_MOVW_G1 ∷
+    aarch64_names.R_AARCH64_TLSLD_MOVW_G0_NC ∷ aarch64_names.R_AARCH64_TLSLD_LD_PREL19 ∷
+    aarch64_names.R_AARCH64_TLSLD_MOVW_DTPREL_G2 ∷ aarch64_names.R_AARCH64_TLSLD_MOVW_DTPREL_G1 ∷
+    aarch64_names.R_AARCH64_TLSLD_MOVW_DTPREL_G1_NC ∷ aarch64_names.R_AARCH64_TLSLD_MOVW_DTPREL_G0 ∷
+    aarch64_names.R_AARCH64_TLSLD_MOVW_DTPREL_G0_NC ∷ aarch64_names.R_AARCH64_TLSLD_ADD_DTPREL_HI12 ∷
+    aarch64_names.R_AARCH64_TLSLD_ADD_DTPREL_LO12 ∷ aarch64_names.R_AARCH64_TLSLD_ADD_DTPREL_LO12_NC ∷
+    aarch64_names.R_AARCH64_TLSLD_LDST8_DTPREL_LO12 ∷ aarch64_names.R_AARCH64_TLSLD_LDST8_DTPREL_LO12_NC ∷
+    aarch64_names.R_AARCH64_TLSLD_LDST16_DTPREL_LO12 ∷ aarch64_names.R_AARCH64_TLSLD_LDST16_DTPREL_LO12_NC ∷
+    aarch64_names.R_AARCH64_TLSLD_LDST32_DTPREL_LO12 ∷ aarch64_names.R_AARCH64_TLSLD_LDST32_DTPREL_LO12_NC ∷
+    aarch64_names.R_AARCH64_TLSLD_LDST64_DTPREL_LO12 ∷ aarch64_names.R_AARCH64_TLSLD_LDST64_DTPREL_LO12_NC ∷
+    aarch64_names.R_AARCH64_TLSLD_LDST128_DTPREL_LO12 ∷ aarch64_names.R_AARCH64_TLSLD_LDST128_DTPREL_LO12_NC ∷
+    aarch64_names.R_AARCH64_TLSIE_MOVW_GOTTPREL_G1 ∷ aarch64_names.R_AARCH64_TLSIE_MOVW_GOTTPREL_G0_NC ∷
+    aarch64_names.R_AARCH64_TLSIE_ADR_GOTTPREL_PAGE21 ∷ aarch64_names.R_AARCH64_TLSIE_LD64_GOTTPREL_LO12_NC ∷
+    aarch64_names.R_AARCH64_TLSIE_LD_GOTTPREL_PREL19 ∷ aarch64_names.R_AARCH64_TLSLE_MOVW_TPREL_G2 ∷
+    aarch64_names.R_AARCH64_TLSLE_MOVW_TPREL_G1 ∷ aarch64_names.R_AARCH64_TLSLE_MOVW_TPREL_G1_NC ∷
+    aarch64_names.R_AARCH64_TLSLE_MOVW_TPREL_G0 ∷ aarch64_names.R_AARCH64_TLSLE_MOVW_TPREL_G0_NC ∷
+    aarch64_names.R_AARCH64_TLSLE_ADD_TPREL_HI12 ∷ aarch64_names.R_AARCH64_TLSLE_ADD_TPREL_LO12 ∷
+    aarch64_names.R_AARCH64_TLSLE_ADD_TPREL_LO12_NC ∷ aarch64_names.R_AARCH64_TLSLE_LDST8_TPREL_LO12 ∷
+    aarch64_names.R_AARCH64_TLSLE_LDST8_TPREL_LO12_NC ∷ aarch64_names.R_AARCH64_TLSLE_LDST16_TPREL_LO12 ∷
+    aarch64_names.R_AARCH64_TLSLE_LDST16_TPREL_LO12_NC ∷ aarch64_names.R_AARCH64_TLSLE_LDST32_TPREL_LO12 ∷
+    aarch64_names.R_AARCH64_TLSLE_LDST32_TPREL_LO12_NC ∷ aarch64_names.R_AARCH64_TLSLE_LDST64_TPREL_LO12 ∷
+    aarch64_names.R_AARCH64_TLSLE_LDST64_TPREL_LO12_NC ∷ aarch64_names.R_AARCH64_TLSLE_LDST128_TPREL_LO12 ∷
+    aarch64_names.R_AARCH64_TLSLE_LDST128_TPREL_LO12_NC ∷ aarch64_names.R_AARCH64_TLSDESC_LD_PREL19 ∷
+    aarch64_names.R_AARCH64_TLSDESC_ADR_PREL21 ∷ aarch64_names.R_AARCH64_TLSDESC_ADR_PAGE21 ∷
+    aarch64_names.R_AARCH64_TLSDESC_LD64_LO12 ∷ aarch64_names.R_AARCH64_TLSDESC_ADD_LO12 ∷
+    aarch64_names.R_AARCH64_TLSDESC_OFF_G1 ∷ aarch64_names.R_AARCH64_TLSDESC_OFF_G0_NC ∷
+    aarch64_names.R_AARCH64_TLSDESC_CALL ∷ []
 
 abbrev pub riscv_relocations : List RiscVRelocation
 riscv_relocations =
-    riscv_names.R_RISCV_NONE ∷ riscv_names.R_RISCV_32 ∷ riscv_names.R_RISCV_64 ∷ riscv_names.R_RISCV_BRANCH ∷ riscv_names.R_RISCV_JAL ∷ riscv_names.R_RISCV_CALL ∷ riscv_names.R_RISCV_CALL_PLT ∷ riscv_names.R_RISCV_GOT_HI20 ∷ riscv_names.R_RISCV_TLS_GOT_HI20 ∷ riscv_names.R_RISCV_TLS_GD_HI20 ∷ riscv_names.R_RISCV_PCREL_HI20 ∷ riscv_names.R_RISCV_PCREL_LO12_I ∷ riscv_names.R_RISCV_PCREL_LO12_S ∷ riscv_names.R_RISCV_HI20 ∷ riscv_names.R_RISCV_LO12_I ∷ riscv_names.R_RISCV_LO12_S ∷ riscv_names.R_RISCV_TPREL_HI20 ∷ riscv_names.R_RISCV_TPREL_LO12_I ∷ riscv_names.R_RISCV_TPREL_LO12_S ∷ riscv_names.R_RISCV_TPREL_ADD ∷ riscv_names.R_RISCV_ADD8 ∷ riscv_names.R_RISCV_ADD16 ∷ riscv_names.R_RISCV_ADD32 ∷ riscv_names.R_RISCV_ADD64 ∷ riscv_names.R_RISCV_SUB8 ∷ riscv_names.R_RISCV_SUB16 ∷ riscv_names.R_RISCV_SUB32 ∷ riscv_names.R_RISCV_SUB64 ∷ riscv_names.R_RISCV_GOT32_PCREL ∷ riscv_names.R_RISCV_ALIGN ∷ riscv_names.R_RISCV_RVC_BRANCH ∷ riscv_names.R_RISCV_RVC_JUMP ∷ riscv_names.R_RISCV_RELAX ∷ riscv_names.R_RISCV_SUB6 ∷ riscv_names.R_RISCV_SET6 ∷ riscv_names.R_RISCV_SET8 ∷ riscv_names.R_RISCV_SET16 ∷ riscv_names.R_RISCV_SET32 ∷ riscv_names.R_RISCV_32_PCREL ∷ riscv_names.R_RISCV_PLT32 ∷ riscv_names.R_RISCV_SET_ULEB128 ∷ riscv_names.R_RISCV_SUB_ULEB128 ∷ riscv_names.R_RISCV_TLSDESC_HI20 ∷ riscv_names.R_RISCV_TLSDESC_LOAD_LO12 ∷ riscv_names.R_RISCV_TLSDESC_ADD_LO12 ∷ riscv_names.R_RISCV_TLSDESC_CALL ∷ []
+    riscv_names.R_RISCV_NONE ∷ riscv_names.R_RISCV_32 ∷ riscv_names.R_RISCV_64 ∷ riscv_names.R_RISCV_BRANCH ∷
+    riscv_names.R_RISCV_JAL ∷ riscv_names.R_RISCV_CALL ∷ riscv_names.R_RISCV_CALL_PLT ∷
+    riscv_names.R_RISCV_GOT_HI20 ∷ riscv_names.R_RISCV_TLS_GOT_HI20 ∷ riscv_names.R_RISCV_TLS_GD_HI20 ∷
+    riscv_names.R_RISCV_PCREL_HI20 ∷ riscv_names.R_RISCV_PCREL_LO12_I ∷ riscv_names.R_RISCV_PCREL_LO12_S ∷
+    riscv_names.R_RISCV_HI20 ∷ riscv_names.R_RISCV_LO12_I ∷ riscv_names.R_RISCV_LO12_S ∷
+    riscv_names.R_RISCV_TPREL_HI20 ∷ riscv_names.R_RISCV_TPREL_LO12_I ∷ riscv_names.R_RISCV_TPREL_LO12_S ∷
+    riscv_names.R_RISCV_TPREL_ADD ∷ riscv_names.R_RISCV_ADD8 ∷ riscv_names.R_RISCV_ADD16 ∷
+    riscv_names.R_RISCV_ADD32 ∷ riscv_names.R_RISCV_ADD64 ∷ riscv_names.R_RISCV_SUB8 ∷ riscv_names.R_RISCV_SUB16 ∷
+    riscv_names.R_RISCV_SUB32 ∷ riscv_names.R_RISCV_SUB64 ∷ riscv_names.R_RISCV_GOT32_PCREL ∷
+    riscv_names.R_RISCV_ALIGN ∷ riscv_names.R_RISCV_RVC_BRANCH ∷ riscv_names.R_RISCV_RVC_JUMP ∷
+    riscv_names.R_RISCV_RELAX ∷ riscv_names.R_RISCV_SUB6 ∷ riscv_names.R_RISCV_SET6 ∷ riscv_names.R_RISCV_SET8 ∷
+    riscv_names.R_RISCV_SET16 ∷ riscv_names.R_RISCV_SET32 ∷ riscv_names.R_RISCV_32_PCREL ∷
+    riscv_names.R_RISCV_PLT32 ∷ riscv_names.R_RISCV_SET_ULEB128 ∷ riscv_names.R_RISCV_SUB_ULEB128 ∷
+    riscv_names.R_RISCV_TLSDESC_HI20 ∷ riscv_names.R_RISCV_TLSDESC_LOAD_LO12 ∷ riscv_names.R_RISCV_TLSDESC_ADD_LO12 ∷
+    riscv_names.R_RISCV_TLSDESC_CALL ∷ []
 
 abbrev pub loongarch64_relocations : List LoongArch64Relocation
 loongarch64_relocations =
-    loongarch64_names.R_LARCH_NONE ∷ loongarch64_names.R_LARCH_32 ∷ loongarch64_names.R_LARCH_64 ∷ loongarch64_names.R_LARCH_ADD6 ∷ loongarch64_names.R_LARCH_ADD8 ∷ loongarch64_names.R_LARCH_ADD16 ∷ loongarch64_names.R_LARCH_ADD24 ∷ loongarch64_names.R_LARCH_ADD32 ∷ loongarch64_names.R_LARCH_ADD64 ∷ loongarch64_names.R_LARCH_SUB6 ∷ loongarch64_names.R_LARCH_SUB8 ∷ loongarch64_names.R_LARCH_SUB16 ∷ loongarch64_names.R_LARCH_SUB24 ∷ loongarch64_names.R_LARCH_SUB32 ∷ loongarch64_names.R_LARCH_SUB64 ∷ loongarch64_names.R_LARCH_ADD_ULEB128 ∷ loongarch64_names.R_LARCH_SUB_ULEB128 ∷ loongarch64_names.R_LARCH_ABS_HI20 ∷ loongarch64_names.R_LARCH_ABS_LO12 ∷ loongarch64_names.R_LARCH_ABS64_HI12 ∷ loongarch64_names.R_LARCH_ABS64_LO20 ∷ loongarch64_names.R_LARCH_PCALA_HI20 ∷ loongarch64_names.R_LARCH_PCALA_LO12 ∷ loongarch64_names.R_LARCH_PCALA64_HI12 ∷ loongarch64_names.R_LARCH_PCALA64_LO20 ∷ loongarch64_names.R_LARCH_32_PCREL ∷ loongarch64_names.R_LARCH_PCREL20_S2 ∷ loongarch64_names.R_LARCH_64_PCREL ∷ loongarch64_names.R_LARCH_PCADD_HI20 ∷ loongarch64_names.R_LARCH_GOT_PC_HI20 ∷ loongarch64_names.R_LARCH_GOT_PC_LO12 ∷ loongarch64_names.R_LARCH_GOT64_PC_HI12 ∷ loongarch64_names.R_LARCH_GOT64_PC_LO20 ∷ loongarch64_names.R_LARCH_B16 ∷ loongarch64_names.R_LARCH_B21 ∷ loongarch64_names.R_LARCH_B26 ∷ loongarch64_names.R_LARCH_CALL36 ∷ loongarch64_names.R_LARCH_CALL30 ∷ loongarch64_names.R_LARCH_TLS_LE_HI20 ∷ loongarch64_names.R_LARCH_TLS_LE_LO12 ∷ loongarch64_names.R_LARCH_TLS_LE64_LO20 ∷ loongarch64_names.R_LARCH_TLS_LE64_HI12 ∷ loongarch64_names.R_LARCH_TLS_LE_HI20_R ∷ loongarch64_names.R_LARCH_TLS_LE_LO12_R ∷ loongarch64_names.R_LARCH_TLS_IE_PC_HI20 ∷ loongarch64_names.R_LARCH_TLS_IE_PC_LO12 ∷ loongarch64_names.R_LARCH_TLS_IE64_PC_LO20 ∷ loongarch64_names.R_LARCH_TLS_IE64_PC_HI12 ∷ loongarch64_names.R_LARCH_TLS_IE_HI20 ∷ loongarch64_names.R_LARCH_TLS_IE_LO12 ∷ loongarch64_names.R_LARCH_TLS_IE64_HI12 ∷ loongarch64_names.R_LARCH_TLS_IE64_LO20 ∷ loongarch64_names.R_LARCH_TLS_LD_PC_HI20 ∷ loongarch64_names.R_LARCH_TLS_LD_HI20 ∷ loongarch64_names.R_LARCH_TLS_GD_PC_HI20 ∷ loongarch64_names.R_LARCH_TLS_GD_HI20 ∷ loongarch64_names.R_LARCH_TLS_DESC_PC_HI20 ∷ loongarch64_names.R_LARCH_TLS_DESC_PC_LO12 ∷ loongarch64_names.R_LARCH_TLS_DESC64_PC_HI12 ∷ loongarch64_names.R_LARCH_TLS_DESC64_PC_LO20 ∷ loongarch64_names.R_LARCH_TLS_DESC_LD ∷ loongarch64_names.R_LARCH_TLS_DESC_CALL ∷ loongarch64_names.R_LARCH_TLS_DTPREL32 ∷ loongarch64_names.R_LARCH_TLS_DTPREL64 ∷ loongarch64_names.R_LARCH_TLS_LD_PCREL20_S2 ∷ loongarch64_names.R_LARCH_TLS_GD_PCREL20_S2 ∷ loongarch64_names.R_LARCH_TLS_DESC_PCREL20_S2 ∷ loongarch64_names.R_LARCH_RELAX ∷ loongarch64_names.R_LARCH_TLS_LE_ADD_R ∷ loongarch64_names.R_LARCH_ALIGN ∷ []
+    loongarch64_names.R_LARCH_NONE ∷ loongarch64_names.R_LARCH_32 ∷ loongarch64_names.R_LARCH_64 ∷
+    loongarch64_names.R_LARCH_ADD6 ∷ loongarch64_names.R_LARCH_ADD8 ∷ loongarch64_names.R_LARCH_ADD16 ∷
+    loongarch64_names.R_LARCH_ADD24 ∷ loongarch64_names.R_LARCH_ADD32 ∷ loongarch64_names.R_LARCH_ADD64 ∷
+    loongarch64_names.R_LARCH_SUB6 ∷ loongarch64_names.R_LARCH_SUB8 ∷ loongarch64_names.R_LARCH_SUB16 ∷
+    loongarch64_names.R_LARCH_SUB24 ∷ loongarch64_names.R_LARCH_SUB32 ∷ loongarch64_names.R_LARCH_SUB64 ∷
+    loongarch64_names.R_LARCH_ADD_ULEB128 ∷ loongarch64_names.R_LARCH_SUB_ULEB128 ∷
+    loongarch64_names.R_LARCH_ABS_HI20 ∷ loongarch64_names.R_LARCH_ABS_LO12 ∷ loongarch64_names.R_LARCH_ABS64_HI12 ∷
+    loongarch64_names.R_LARCH_ABS64_LO20 ∷ loongarch64_names.R_LARCH_PCALA_HI20 ∷
+    loongarch64_names.R_LARCH_PCALA_LO12 ∷ loongarch64_names.R_LARCH_PCALA64_HI12 ∷
+    loongarch64_names.R_LARCH_PCALA64_LO20 ∷ loongarch64_names.R_LARCH_32_PCREL ∷
+    loongarch64_names.R_LARCH_PCREL20_S2 ∷ loongarch64_names.R_LARCH_64_PCREL ∷
+    loongarch64_names.R_LARCH_PCADD_HI20 ∷ loongarch64_names.R_LARCH_GOT_PC_HI20 ∷
+    loongarch64_names.R_LARCH_GOT_PC_LO12 ∷ loongarch64_names.R_LARCH_GOT64_PC_HI12 ∷
+    loongarch64_names.R_LARCH_GOT64_PC_LO20 ∷ loongarch64_names.R_LARCH_B16 ∷ loongarch64_names.R_LARCH_B21 ∷
+    loongarch64_names.R_LARCH_B26 ∷ loongarch64_names.R_LARCH_CALL36 ∷ loongarch64_names.R_LARCH_CALL30 ∷
+    loongarch64_names.R_LARCH_TLS_LE_HI20 ∷ loongarch64_names.R_LARCH_TLS_LE_LO12 ∷
+    loongarch64_names.R_LARCH_TLS_LE64_LO20 ∷ loongarch64_names.R_LARCH_TLS_LE64_HI12 ∷
+    loongarch64_names.R_LARCH_TLS_LE_HI20_R ∷ loongarch64_names.R_LARCH_TLS_LE_LO12_R ∷
+    loongarch64_names.R_LARCH_TLS_IE_PC_HI20 ∷ loongarch64_names.R_LARCH_TLS_IE_PC_LO12 ∷
+    loongarch64_names.R_LARCH_TLS_IE64_PC_LO20 ∷ loongarch64_names.R_LARCH_TLS_IE64_PC_HI12 ∷
+    loongarch64_names.R_LARCH_TLS_IE_HI20 ∷ loongarch64_names.R_LARCH_TLS_IE_LO12 ∷
+    loongarch64_names.R_LARCH_TLS_IE64_HI12 ∷ loongarch64_names.R_LARCH_TLS_IE64_LO20 ∷
+    loongarch64_names.R_LARCH_TLS_LD_PC_HI20 ∷ loongarch64_names.R_LARCH_TLS_LD_HI20 ∷
+    loongarch64_names.R_LARCH_TLS_GD_PC_HI20 ∷ loongarch64_names.R_LARCH_TLS_GD_HI20 ∷
+    loongarch64_names.R_LARCH_TLS_DESC_PC_HI20 ∷ loongarch64_names.R_LARCH_TLS_DESC_PC_LO12 ∷
+    loongarch64_names.R_LARCH_TLS_DESC64_PC_HI12 ∷ loongarch64_names.R_LARCH_TLS_DESC64_PC_LO20 ∷
+    loongarch64_names.R_LARCH_TLS_DESC_LD ∷ loongarch64_names.R_LARCH_TLS_DESC_CALL ∷
+    loongarch64_names.R_LARCH_TLS_DTPREL32 ∷ loongarch64_names.R_LARCH_TLS_DTPREL64 ∷
+    loongarch64_names.R_LARCH_TLS_LD_PCREL20_S2 ∷ loongarch64_names.R_LARCH_TLS_GD_PCREL20_S2 ∷
+    loongarch64_names.R_LARCH_TLS_DESC_PCREL20_S2 ∷ loongarch64_names.R_LARCH_RELAX ∷
+    loongarch64_names.R_LARCH_TLS_LE_ADD_R ∷ loongarch64_names.R_LARCH_ALIGN ∷ []
 
 abbrev pub ppc64_relocations : List Ppc64Relocation
 ppc64_relocations =
-    ppc64_names.R_PPC64_TLS ∷ ppc64_names.R_PPC64_TLSGD ∷ ppc64_names.R_PPC64_TLSLD ∷ ppc64_names.R_PPC64_ADDR64 ∷ ppc64_names.R_PPC64_ADDR32 ∷ ppc64_names.R_PPC64_REL64 ∷ ppc64_names.R_PPC64_REL32 ∷ ppc64_names.R_PPC64_REL24 ∷ ppc64_names.R_PPC64_REL14 ∷ ppc64_names.R_PPC64_REL16_HA ∷ ppc64_names.R_PPC64_REL16_LO ∷ ppc64_names.R_PPC64_TOC16_HA ∷ ppc64_names.R_PPC64_TOC16_LO ∷ ppc64_names.R_PPC64_TOC16_LO_DS ∷ ppc64_names.R_PPC64_TPREL64 ∷ ppc64_names.R_PPC64_TPREL16 ∷ ppc64_names.R_PPC64_TPREL16_LO ∷ ppc64_names.R_PPC64_TPREL16_HI ∷ ppc64_names.R_PPC64_TPREL16_HA ∷ ppc64_names.R_PPC64_TPREL16_DS ∷ ppc64_names.R_PPC64_TPREL16_LO_DS ∷ ppc64_names.R_PPC64_DTPREL64 ∷ ppc64_names.R_PPC64_DTPREL16 ∷ ppc64_names.R_PPC64_DTPREL16_LO ∷ ppc64_names.R_PPC64_DTPREL16_HI ∷ ppc64_names.R_PPC64_DTPREL16_HA ∷ ppc64_names.R_PPC64_DTPREL16_DS ∷ ppc64_names.R_PPC64_DTPREL16_LO_DS ∷ ppc64_names.R_PPC64_GOT_TPREL16_HA ∷ ppc64_names.R_PPC64_GOT_TPREL16_HI ∷ ppc64_names.R_PPC64_GOT_TPREL16_DS ∷ ppc64_names.R_PPC64_GOT_TPREL16_LO_DS ∷ ppc64_names.R_PPC64_GOT_TLSGD16 ∷ ppc64_names.R_PPC64_GOT_TLSGD16_LO ∷ ppc64_names.R_PPC64_GOT_TLSGD16_HI ∷ ppc64_names.R_PPC64_GOT_TLSGD16_HA ∷ ppc64_names.R_PPC64_GOT_TLSLD16 ∷ ppc64_names.R_PPC64_GOT_TLSLD16_LO ∷ ppc64_names.R_PPC64_GOT_TLSLD16_HI ∷ ppc64_names.R_PPC64_GOT_TLSLD16_HA ∷ []
+    ppc64_names.R_PPC64_TLS ∷ ppc64_names.R_PPC64_TLSGD ∷ ppc64_names.R_PPC64_TLSLD ∷ ppc64_names.R_PPC64_ADDR64 ∷
+    ppc64_names.R_PPC64_ADDR32 ∷ ppc64_names.R_PPC64_REL64 ∷ ppc64_names.R_PPC64_REL32 ∷ ppc64_names.R_PPC64_REL24 ∷
+    ppc64_names.R_PPC64_REL14 ∷ ppc64_names.R_PPC64_REL16_HA ∷ ppc64_names.R_PPC64_REL16_LO ∷
+    ppc64_names.R_PPC64_TOC16_HA ∷ ppc64_names.R_PPC64_TOC16_LO ∷ ppc64_names.R_PPC64_TOC16_LO_DS ∷
+    ppc64_names.R_PPC64_TPREL64 ∷ ppc64_names.R_PPC64_TPREL16 ∷ ppc64_names.R_PPC64_TPREL16_LO ∷
+    ppc64_names.R_PPC64_TPREL16_HI ∷ ppc64_names.R_PPC64_TPREL16_HA ∷ ppc64_names.R_PPC64_TPREL16_DS ∷
+    ppc64_names.R_PPC64_TPREL16_LO_DS ∷ ppc64_names.R_PPC64_DTPREL64 ∷ ppc64_names.R_PPC64_DTPREL16 ∷
+    ppc64_names.R_PPC64_DTPREL16_LO ∷ ppc64_names.R_PPC64_DTPREL16_HI ∷ ppc64_names.R_PPC64_DTPREL16_HA ∷
+    ppc64_names.R_PPC64_DTPREL16_DS ∷ ppc64_names.R_PPC64_DTPREL16_LO_DS ∷ ppc64_names.R_PPC64_GOT_TPREL16_HA ∷
+    ppc64_names.R_PPC64_GOT_TPREL16_HI ∷ ppc64_names.R_PPC64_GOT_TPREL16_DS ∷ ppc64_names.R_PPC64_GOT_TPREL16_LO_DS ∷
+    ppc64_names.R_PPC64_GOT_TLSGD16 ∷ ppc64_names.R_PPC64_GOT_TLSGD16_LO ∷ ppc64_names.R_PPC64_GOT_TLSGD16_HI ∷
+    ppc64_names.R_PPC64_GOT_TLSGD16_HA ∷ ppc64_names.R_PPC64_GOT_TLSLD16 ∷ ppc64_names.R_PPC64_GOT_TLSLD16_LO ∷
+    ppc64_names.R_PPC64_GOT_TLSLD16_HI ∷ ppc64_names.R_PPC64_GOT_TLSLD16_HA ∷ []
 
 abbrev pub x86_64_relocations : List X86_64Relocation
 x86_64_relocations =
-    x86_64_names.R_X86_64_NONE ∷ x86_64_names.R_X86_64_TLSDESC_CALL ∷ x86_64_names.R_X86_64_64 ∷ x86_64_names.R_X86_64_32 ∷ x86_64_names.R_X86_64_32S ∷ x86_64_names.R_X86_64_16 ∷ x86_64_names.R_X86_64_8 ∷ x86_64_names.R_X86_64_PC64 ∷ x86_64_names.R_X86_64_GOTPC64 ∷ x86_64_names.R_X86_64_PC32 ∷ x86_64_names.R_X86_64_GOTPC32 ∷ x86_64_names.R_X86_64_PC16 ∷ x86_64_names.R_X86_64_PC8 ∷ x86_64_names.R_X86_64_GOT32 ∷ x86_64_names.R_X86_64_GOT64 ∷ x86_64_names.R_X86_64_GOTOFF64 ∷ x86_64_names.R_X86_64_PLT32 ∷ x86_64_names.R_X86_64_PLTOFF64 ∷ x86_64_names.R_X86_64_GOTPCREL ∷ x86_64_names.R_X86_64_GOTPCRELX ∷ x86_64_names.R_X86_64_REX_GOTPCRELX ∷ x86_64_names.R_X86_64_CODE_4_GOTPCRELX ∷ x86_64_names.R_X86_64_CODE_5_GOTPCRELX ∷ x86_64_names.R_X86_64_CODE_6_GOTPCRELX ∷ x86_64_names.R_X86_64_SIZE32 ∷ x86_64_names.R_X86_64_SIZE64 ∷ x86_64_names.R_X86_64_TLSGD ∷ x86_64_names.R_X86_64_TLSLD ∷ x86_64_names.R_X86_64_DTPOFF32 ∷ x86_64_names.R_X86_64_DTPOFF64 ∷ x86_64_names.R_X86_64_GOTTPOFF ∷ x86_64_names.R_X86_64_CODE_4_GOTTPOFF ∷ x86_64_names.R_X86_64_CODE_5_GOTTPOFF ∷ x86_64_names.R_X86_64_CODE_6_GOTTPOFF ∷ x86_64_names.R_X86_64_TPOFF32 ∷ x86_64_names.R_X86_64_GOTPC32_TLSDESC ∷ x86_64_names.R_X86_64_CODE_4_GOTPC32_TLSDESC ∷ x86_64_names.R_X86_64_CODE_5_GOTPC32_TLSDESC ∷ x86_64_names.R_X86_64_CODE_6_GOTPC32_TLSDESC ∷ []
+    x86_64_names.R_X86_64_NONE ∷ x86_64_names.R_X86_64_TLSDESC_CALL ∷ x86_64_names.R_X86_64_64 ∷
+    x86_64_names.R_X86_64_32 ∷ x86_64_names.R_X86_64_32S ∷ x86_64_names.R_X86_64_16 ∷ x86_64_names.R_X86_64_8 ∷
+    x86_64_names.R_X86_64_PC64 ∷ x86_64_names.R_X86_64_GOTPC64 ∷ x86_64_names.R_X86_64_PC32 ∷
+    x86_64_names.R_X86_64_GOTPC32 ∷ x86_64_names.R_X86_64_PC16 ∷ x86_64_names.R_X86_64_PC8 ∷
+    x86_64_names.R_X86_64_GOT32 ∷ x86_64_names.R_X86_64_GOT64 ∷ x86_64_names.R_X86_64_GOTOFF64 ∷
+    x86_64_names.R_X86_64_PLT32 ∷ x86_64_names.R_X86_64_PLTOFF64 ∷ x86_64_names.R_X86_64_GOTPCREL ∷
+    x86_64_names.R_X86_64_GOTPCRELX ∷ x86_64_names.R_X86_64_REX_GOTPCRELX ∷ x86_64_names.R_X86_64_CODE_4_GOTPCRELX ∷
+    x86_64_names.R_X86_64_CODE_5_GOTPCRELX ∷ x86_64_names.R_X86_64_CODE_6_GOTPCRELX ∷ x86_64_names.R_X86_64_SIZE32 ∷
+    x86_64_names.R_X86_64_SIZE64 ∷ x86_64_names.R_X86_64_TLSGD ∷ x86_64_names.R_X86_64_TLSLD ∷
+    x86_64_names.R_X86_64_DTPOFF32 ∷ x86_64_names.R_X86_64_DTPOFF64 ∷ x86_64_names.R_X86_64_GOTTPOFF ∷
+    x86_64_names.R_X86_64_CODE_4_GOTTPOFF ∷ x86_64_names.R_X86_64_CODE_5_GOTTPOFF ∷
+    x86_64_names.R_X86_64_CODE_6_GOTTPOFF ∷ x86_64_names.R_X86_64_TPOFF32 ∷ x86_64_names.R_X86_64_GOTPC32_TLSDESC ∷
+    x86_64_names.R_X86_64_CODE_4_GOTPC32_TLSDESC ∷ x86_64_names.R_X86_64_CODE_5_GOTPC32_TLSDESC ∷
+    x86_64_names.R_X86_64_CODE_6_GOTPC32_TLSDESC ∷ []
 
 -- what the name at a place of a list means
 abbrev pub listed_row : {A : Type 0} → (A → Option RelocationKindInfo) → Option A → Option RelocationKindInfo

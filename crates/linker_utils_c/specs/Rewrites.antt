@@ -32,10 +32,16 @@ pub data Relaxation : Type 0 where
 
 -- The rewrites of each architecture, by their numbers from 0 up.
 abbrev pub aarch64_rewrites : List AArch64Kind
-aarch64_rewrites = aarch64_kinds.NoOp ∷ aarch64_kinds.ReplaceWithNop ∷ aarch64_kinds.MovzX0Lsl16 ∷ aarch64_kinds.MovkX0 ∷ aarch64_kinds.MovzXnLsl16 ∷ aarch64_kinds.MovkXn ∷ aarch64_kinds.AdrpToAdr ∷ aarch64_kinds.AdrpX0 ∷ aarch64_kinds.LdrX0 ∷ aarch64_kinds.AddToAdr ∷ aarch64_kinds.LdrToAdr ∷ aarch64_kinds.LdrToAdd ∷ aarch64_kinds.AdrpAddToNopAdr ∷ []
+aarch64_rewrites =
+    aarch64_kinds.NoOp ∷ aarch64_kinds.ReplaceWithNop ∷ aarch64_kinds.MovzX0Lsl16 ∷ aarch64_kinds.MovkX0 ∷
+    aarch64_kinds.MovzXnLsl16 ∷ aarch64_kinds.MovkXn ∷ aarch64_kinds.AdrpToAdr ∷ aarch64_kinds.AdrpX0 ∷
+    aarch64_kinds.LdrX0 ∷ aarch64_kinds.AddToAdr ∷ aarch64_kinds.LdrToAdr ∷ aarch64_kinds.LdrToAdd ∷
+    aarch64_kinds.AdrpAddToNopAdr ∷ []
 
 abbrev pub riscv_rewrites : List RiscVKind
-riscv_rewrites = riscv_kinds.NoOp ∷ riscv_kinds.ReplaceWithNop ∷ riscv_kinds.CallToJal ∷ riscv_kinds.Hi20ToCLui ∷ riscv_kinds.Hi20Delete ∷ riscv_kinds.Lo12Rs1ToZero ∷ []
+riscv_rewrites =
+    riscv_kinds.NoOp ∷ riscv_kinds.ReplaceWithNop ∷ riscv_kinds.CallToJal ∷ riscv_kinds.Hi20ToCLui ∷
+    riscv_kinds.Hi20Delete ∷ riscv_kinds.Lo12Rs1ToZero ∷ []
 
 abbrev pub loongarch64_rewrites : List LoongArch64Kind
 loongarch64_rewrites = loongarch64_kinds.NoOp ∷ loongarch64_kinds.ReplaceWithNop ∷ []
@@ -45,7 +51,13 @@ ppc64_rewrites = ppc64_kinds.NoOp ∷ []
 
 abbrev pub x86_64_rewrites : ℕ → List X86_64Kind
 x86_64_rewrites n =
-    x86_64_kinds.MovIndirectToLea ∷ x86_64_kinds.MovIndirectToAbsolute ∷ x86_64_kinds.RexMovIndirectToAbsolute n ∷ x86_64_kinds.RexAddIndirectToAbsolute n ∷ x86_64_kinds.RexSubIndirectToAbsolute n ∷ x86_64_kinds.RexCmpIndirectToAbsolute n ∷ x86_64_kinds.CallIndirectToRelative ∷ x86_64_kinds.JmpIndirectToRelative ∷ x86_64_kinds.NoOp ∷ x86_64_kinds.TlsGdToLocalExec ∷ x86_64_kinds.TlsGdToLocalExecLarge ∷ x86_64_kinds.TlsLdToLocalExec ∷ x86_64_kinds.TlsLdToLocalExecNoPlt ∷ x86_64_kinds.TlsLdToLocalExec64 ∷ x86_64_kinds.TlsGdToInitialExec ∷ x86_64_kinds.TlsDescToLocalExec n ∷ x86_64_kinds.TlsDescToInitialExec ∷ x86_64_kinds.SkipTlsDescCall ∷ []
+    x86_64_kinds.MovIndirectToLea ∷ x86_64_kinds.MovIndirectToAbsolute ∷ x86_64_kinds.RexMovIndirectToAbsolute n ∷
+    x86_64_kinds.RexAddIndirectToAbsolute n ∷ x86_64_kinds.RexSubIndirectToAbsolute n ∷
+    x86_64_kinds.RexCmpIndirectToAbsolute n ∷ x86_64_kinds.CallIndirectToRelative ∷
+    x86_64_kinds.JmpIndirectToRelative ∷ x86_64_kinds.NoOp ∷ x86_64_kinds.TlsGdToLocalExec ∷
+    x86_64_kinds.TlsGdToLocalExecLarge ∷ x86_64_kinds.TlsLdToLocalExec ∷ x86_64_kinds.TlsLdToLocalExecNoPlt ∷
+    x86_64_kinds.TlsLdToLocalExec64 ∷ x86_64_kinds.TlsGdToInitialExec ∷ x86_64_kinds.TlsDescToLocalExec n ∷
+    x86_64_kinds.TlsDescToInitialExec ∷ x86_64_kinds.SkipTlsDescCall ∷ []
 
 -- the rewrite at a place of a list
 abbrev pub listed_rewrite : {A : Type 0} → (A → Relaxation) → Option A → Result Relaxation Status

@@ -10,7 +10,7 @@ use linker_utils::elf::RiscVInstruction;
 use linker_utils::riscv64::{self, CallError, RelaxationKind};
 
 /// Turns the `auipc` at a site of a section into a `jal` by a distance in bytes, with the `auipc`'s
-/// destination register.
+/// destination register. The first that applies of `OutOfSection`, `OddDistance`, `TooFar`.
 #[unsafe(no_mangle)]
 pub extern "C" fn linker_utils_jal_site(section: &mut [u8], site: u64, distance: i64) -> u32
     ensures jumps { result ≡ code Status.Success → JumpsAt section.old section.new site distance }
@@ -30,7 +30,8 @@ pub extern "C" fn linker_utils_jal_site(section: &mut [u8], site: u64, distance:
     }
 }
 
-/// Whether the eight bytes of a plain call stand at the site.
+/// Whether the eight bytes of a plain call stand at the site: `auipc` and then `jalr` with the same
+/// register as source and as both destinations.
 #[unsafe(no_mangle)]
 pub extern "C" fn linker_utils_is_plain_call(section: &[u8], site: u64) -> bool
     ensures { IsTrue result ↔ IsPlainCall section.now site }

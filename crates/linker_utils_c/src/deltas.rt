@@ -54,7 +54,7 @@ fn are_valid(deletions: &[Deletion]) -> bool
     true
 }
 
-/// Whether `linker_utils_deltas_create` takes the deletions.
+/// Whether `linker_utils_deltas_create` takes the deletions. `InvalidDeletions`.
 #[unsafe(no_mangle)]
 pub extern "C" fn linker_utils_deltas_is_valid(deletions: &[Deletion]) -> u32
     ensures valid { IsValid (pairs_in deletions.now) → result ≡ code Status.Success }
@@ -83,7 +83,7 @@ fn fill(deletions: &[Deletion], deltas: &mut [RelaxDelta])
     }
 }
 
-/// Writes the deltas of the deletions, as many as these.
+/// Writes the deltas of the deletions, as many as these. `InvalidDeletions`, then `DifferentLengths`.
 #[unsafe(no_mangle)]
 pub extern "C" fn linker_utils_deltas_create(
     deletions: &[Deletion],
@@ -161,7 +161,8 @@ pub(crate) fn output_of(deltas: &[RelaxDelta], input_offset: u64) -> Option<u64>
     Some(input_offset.saturating_sub(delta.cumulative_deleted))
 }
 
-/// The offset in the output section of what stands at an input offset.
+/// The offset in the output section of what stands at an input offset. `InsideDeletion`. The search
+/// takes O(log n).
 #[unsafe(no_mangle)]
 pub extern "C" fn linker_utils_deltas_input_to_output(
     deltas: &[RelaxDelta],
@@ -194,7 +195,8 @@ fn bytes_before(deltas: &[RelaxDelta], output_offset: u64) -> u64
     }
 }
 
-/// The offset in the input section of the kept byte at an output offset.
+/// The offset in the input section of the kept byte at an output offset. `TooLarge`. The search takes
+/// O(log n).
 #[unsafe(no_mangle)]
 pub extern "C" fn linker_utils_deltas_output_to_input(
     deltas: &[RelaxDelta],
@@ -243,6 +245,7 @@ fn section_of(alloc: Global, deltas: &[RelaxDelta]) -> Result<SectionRelaxDeltas
 }
 
 /// Whether `linker_utils_deltas_merge` takes the additional deletions, in any order.
+/// `InvalidDeletions` where the deltas' own are that, `NotMergeable`, `OutOfMemory`.
 #[unsafe(no_mangle)]
 pub extern "C" fn linker_utils_deltas_is_mergeable(
     alloc: Global,
@@ -268,7 +271,9 @@ pub extern "C" fn linker_utils_deltas_is_mergeable(
     Status::Success.number()
 }
 
-/// Writes the deltas of the old and the additional deletions, sorted, as many as both.
+/// Writes the deltas of the old and the additional deletions, sorted, as many as both. The first that
+/// applies of `DifferentLengths`, `InvalidDeletions` where the deltas' own are that, `NotMergeable`;
+/// `OutOfMemory`.
 #[unsafe(no_mangle)]
 pub extern "C" fn linker_utils_deltas_merge(
     alloc: Global,
@@ -336,7 +341,8 @@ fn distance_between(from: u64, to: u64) -> i64
 }
 
 /// Turns the call at a site into a jump to a target, in a section whose bytes stand where they stood
-/// before the deletions.
+/// before the deletions. The first that applies of `OutOfSection`, `SiteDeleted`, `TargetInside`,
+/// `OddDistance`, `TooFar`.
 #[unsafe(no_mangle)]
 pub extern "C" fn linker_utils_relax_call(
     section: &mut [u8],
@@ -460,7 +466,8 @@ fn ascend(queries: &[u64]) -> bool
     false
 }
 
-/// The output offset of each of the queries, which may not decrease, in one walk through the deltas.
+/// The output offset of each of the queries, which may not decrease, in one walk through the deltas:
+/// O(n + q). The first that applies of `DifferentLengths`, `NotAscending`, `InsideDeletion`.
 #[unsafe(no_mangle)]
 pub extern "C" fn linker_utils_deltas_translate_all(
     deltas: &[RelaxDelta],

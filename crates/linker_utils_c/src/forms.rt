@@ -98,7 +98,8 @@ fn form_of(architecture: u32, form: u32) -> Result<RelocationInstruction, Status
     named.ok_or(Status::UnknownForm)
 }
 
-/// The length in bytes of the window that a form reads and writes.
+/// The length in bytes of the window that a form reads and writes. `UnknownArchitecture`,
+/// `UnknownForm`.
 #[unsafe(no_mangle)]
 pub extern "C" fn linker_utils_window(architecture: u32, form: u32, window: &mut usize) -> u32
     ensures found { IfOk (named_form architecture form) (λ named. (result ≡ code Status.Success) × (window.new ≡ byte_len (relocation_form named).window)) }
@@ -113,7 +114,8 @@ pub extern "C" fn linker_utils_window(architecture: u32, form: u32, window: &mut
     }
 }
 
-/// Whether `linker_utils_write` of the value to these bytes would answer `Success`.
+/// Whether `linker_utils_write` of the value to these bytes would answer `Success`: it answers what
+/// that would.
 #[unsafe(no_mangle)]
 pub extern "C" fn linker_utils_fits(architecture: u32, form: u32, value: u64, bytes: &[u8]) -> u32
     ensures known { IfOk (named_form architecture form) (λ named. TakesValue (relocation_form named) value bytes.now result) }
@@ -163,7 +165,8 @@ fn write_by<F: InstructionForm>(
 }
 
 /// Writes a value and its sign into the instruction that `dest` begins with, and changes no bit but
-/// the form's.
+/// the form's. `UnknownArchitecture`, `UnknownForm`, `TooShort` with fewer bytes than the window,
+/// `DoesNotFit`.
 #[unsafe(no_mangle)]
 pub extern "C" fn linker_utils_write(
     architecture: u32,
@@ -212,6 +215,7 @@ fn read_by<F: InstructionForm>(
 }
 
 /// Reads the value in the instruction that `bytes` begins with, modulo 2^64, and the form's flag.
+/// `UnknownArchitecture`, `UnknownForm`, `TooShort` with fewer bytes than the window.
 #[unsafe(no_mangle)]
 pub extern "C" fn linker_utils_read(
     architecture: u32,

@@ -8,7 +8,7 @@ ghost use Rattle.linker_utils_c.specs.Status.{code, HasRoom};
 use crate::status::Status;
 use linker_utils::utils;
 
-/// The little-endian number of the first four bytes.
+/// The little-endian number of the first four bytes. `TooShort`.
 #[unsafe(no_mangle)]
 pub extern "C" fn linker_utils_u32_from_slice(bytes: &[u8], value: &mut u32) -> u32
     ensures room { HasRoom 4 bytes.now result }
@@ -22,7 +22,7 @@ pub extern "C" fn linker_utils_u32_from_slice(bytes: &[u8], value: &mut u32) -> 
     Status::Success.number()
 }
 
-/// The little-endian number of the first eight bytes.
+/// The little-endian number of the first eight bytes. `TooShort`.
 #[unsafe(no_mangle)]
 pub extern "C" fn linker_utils_u64_from_slice(bytes: &[u8], value: &mut u64) -> u32
     ensures room { HasRoom 8 bytes.now result }
@@ -36,7 +36,7 @@ pub extern "C" fn linker_utils_u64_from_slice(bytes: &[u8], value: &mut u64) -> 
     Status::Success.number()
 }
 
-/// The little-endian number of the first four bytes, and how many bytes it took.
+/// The little-endian number of the first four bytes, and how many bytes it took. `TooShort`.
 #[unsafe(no_mangle)]
 pub extern "C" fn linker_utils_read_u32(bytes: &[u8], value: &mut u32, consumed: &mut usize) -> u32
     ensures room { HasRoom 4 bytes.now result }
@@ -56,7 +56,8 @@ pub extern "C" fn linker_utils_read_u32(bytes: &[u8], value: &mut u32, consumed:
     }
 }
 
-/// The ULEB128 number that the bytes begin with, and how many bytes it took.
+/// The ULEB128 number that the bytes begin with, and how many bytes it took. `Uleb128Ended`,
+/// `Uleb128TooLarge`.
 #[unsafe(no_mangle)]
 pub extern "C" fn linker_utils_read_uleb128(
     bytes: &[u8],

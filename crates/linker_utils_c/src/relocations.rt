@@ -1,13 +1,13 @@
 //! What relocations mean, by numbers of architectures and relocations.
 
-ghost use Rattle.std.specs.Prelude.{◌≡◌, ◌≢◌, slice_get, MatchOption, IfOk, IfErr};
+ghost use Rattle.std.specs.Prelude.{◌≡◌, slice_get, IfOk, IfErr};
 ghost use Rattle.linker_utils.specs.AArch64Rows.{aarch64_row};
 ghost use Rattle.linker_utils.specs.RiscVRows.{riscv_row};
 ghost use Rattle.linker_utils.specs.LoongArchRows.{loongarch_row};
 ghost use Rattle.linker_utils.specs.PowerPcRows.{ppc64_row};
 ghost use Rattle.linker_utils.specs.X86Rows.{x86_64_row};
 ghost use Rattle.linker_utils_c.specs.Status.{code};
-ghost use Rattle.linker_utils_c.specs.Relocations.{aarch64_relocations, riscv_relocations, loongarch64_relocations, ppc64_relocations, x86_64_relocations, listed_row, known_row, named_row, row_of, kind_number, mask_number, form_numbers, bounds_or_zero};
+ghost use Rattle.linker_utils_c.specs.Relocations.{aarch64_relocations, riscv_relocations, loongarch64_relocations, ppc64_relocations, x86_64_relocations, listed_row, known_row, named_row, row_of, mask_number, form_numbers};
 
 use crate::status::Status;
 use linker_utils::elf::{PageMask, RelocationInstruction, RelocationKindInfo, RelocationSize};
@@ -514,7 +514,8 @@ fn in_numbers(info: RelocationKindInfo) -> Row
     }
 }
 
-/// What the relocation of an architecture and a number means.
+/// What the relocation of an architecture and a number means. `UnknownArchitecture`,
+/// `UnknownRelocation`.
 #[unsafe(no_mangle)]
 pub extern "C" fn linker_utils_relocation(architecture: u32, relocation: u32, row: &mut Row) -> u32
     ensures found { IfOk (named_row architecture relocation) (λ info. (result ≡ code Status.Success) × (row.new ≡ row_of info)) }

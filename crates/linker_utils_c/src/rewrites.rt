@@ -288,7 +288,7 @@ fn modifier_by<R: Rewriting>(rewrite: Option<R>, modifier: &mut u32) -> Status
     Status::Success
 }
 
-/// Whether `linker_utils_apply` at this offset would answer `Success`.
+/// Whether `linker_utils_apply` at this offset would answer `Success`: it answers what that would.
 #[unsafe(no_mangle)]
 pub extern "C" fn linker_utils_can_apply(
     architecture: u32,
@@ -311,7 +311,7 @@ pub extern "C" fn linker_utils_can_apply(
 }
 
 /// Rewrites the instruction at an offset of a section, and sets the offset and the addend to those of
-/// the relocation after it.
+/// the relocation after it. `UnknownArchitecture`, `UnknownRewrite`, `CannotApply`.
 #[unsafe(no_mangle)]
 pub extern "C" fn linker_utils_apply(
     architecture: u32,
@@ -340,7 +340,7 @@ pub extern "C" fn linker_utils_apply(
 }
 
 /// What becomes of the relocation after the rewritten one: 0 where it is applied as usual, 1 where it
-/// is skipped.
+/// is skipped. `UnknownArchitecture`, `UnknownRewrite`.
 #[unsafe(no_mangle)]
 pub extern "C" fn linker_utils_next_modifier(
     architecture: u32,

@@ -1,6 +1,6 @@
 //! Sequences of instructions that load a number or make an address.
 
-ghost use Rattle.std.specs.Prelude.{◌≡◌, ◌≢◌, ◌↔◌, ◌<◌, ◌≤◌, ◌++◌, ◌⊎◌, Some, length, drop};
+ghost use Rattle.std.specs.Prelude.{◌≡◌, ◌≢◌, ◌<◌, ◌≤◌, ◌++◌, ◌⊎◌, Some, length, drop};
 ghost use Rattle.std.specs.Int.{from_le_bytes, w32};
 ghost use Rattle.linker_utils.specs.AArch64.{mov_words, mov4};
 ghost use Rattle.linker_utils.specs.LoongArch.{MakesAddress, high_distance};
@@ -10,7 +10,8 @@ ghost use Rattle.linker_utils_c.specs.Status.{code, HasRoom};
 use crate::status::Status;
 use linker_utils::{aarch64, loongarch64, ppc64};
 
-/// AArch64: writes the four instructions that load a number into register `rd`.
+/// AArch64: writes the four instructions that load a number into register `rd`. `TooShort` with fewer
+/// than 16 bytes, then `BadRegister`.
 #[unsafe(no_mangle)]
 pub extern "C" fn linker_utils_write_mov_sequence(dest: &mut [u8], rd: u32, value: u64) -> u32
     ensures short { length dest.old < 16 → result ≡ code Status.TooShort }
@@ -30,6 +31,7 @@ pub extern "C" fn linker_utils_write_mov_sequence(dest: &mut [u8], rd: u32, valu
 }
 
 /// LoongArch: makes the five instructions compute the address `target` where the first stands at `pc`.
+/// `TooShort` with fewer than 20 bytes.
 #[unsafe(no_mangle)]
 pub extern "C" fn linker_utils_write_address_sequence(dest: &mut [u8], pc: u64, target: u64) -> u32
     ensures room { HasRoom 20 dest.old result }
@@ -52,7 +54,7 @@ pub extern "C" fn linker_utils_highest_relocation_with_bias(s: u64, pc: u64) -> 
 }
 
 /// PowerPC64: writes a value into a pair of D-form instructions, its adjusted high half into `ha` and
-/// its low half into `lo`.
+/// its low half into `lo`. `TooShort` where one has fewer than 4 bytes.
 #[unsafe(no_mangle)]
 pub extern "C" fn linker_utils_write_ha_lo(ha: &mut [u8], lo: &mut [u8], value: u64) -> u32
     ensures short { (length ha.old < 4) ⊎ (length lo.old < 4) → result ≡ code Status.TooShort }
