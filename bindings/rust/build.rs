@@ -8,6 +8,10 @@ fn main() {
     println!("cargo:rerun-if-env-changed=LINKER_UTILS_ARCHIVES");
     println!("cargo:rerun-if-changed=../archive");
     println!("cargo:rerun-if-changed=../../crates/linker_utils_c/out/liblinker_utils_c.a");
+    for library in ["linker_base", "linker_utils", "linker_utils_c"] {
+        println!("cargo:rerun-if-changed=../../crates/{library}/src");
+        println!("cargo:rerun-if-changed=../../crates/{library}/specs");
+    }
     let folders = match env::var("LINKER_UTILS_ARCHIVES") {
         Ok(folders) => folders.replace(':', "\n"),
         Err(_) => {
