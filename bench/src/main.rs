@@ -866,7 +866,7 @@ fn lists(report: &mut Report) {
             &first,
             &second,
         );
-        if old + more <= 20_000 {
+        if old + more <= 200_000 {
             random.shuffle(&mut second);
             merge_line(
                 report,
