@@ -1,5 +1,6 @@
 pub mod Batches
 pub mod Bits
+pub mod Counting
 pub mod Fields
 pub mod Immediates
 pub mod Laws

@@ -1,6 +1,6 @@
 -- What a search in the deltas of a section finds.
 use Rattle.std.proofs.Common.{◌≡◌, ℕ, ◌+◌, ◌-◌, ◌<◌, ◌≤◌, Bool, true, false, List, length, map, get_or, take, leb, ltb, refl, ap, ◌∙◌, inl, inr, arith}
-use Rattle.std.specs.Prelude.{◌^◌, ◌↔◌, All, Any}
+use Rattle.std.specs.Prelude.{◌%◌, ◌^◌, ◌↔◌, All, Any}
 use Rattle.std.specs.List.Sorted.{IsNonDecreasingBy, IsPartitionedBy, IsPartitionPoint}
 use Rattle.std.proofs.lemmas.Bool.{cases_order}
 use Rattle.std.proofs.lemmas.Bool.Decides.{nat_tests}
@@ -9,8 +9,9 @@ use Rattle.std.proofs.lemmas.List.Sums.{sum_by_more}
 use Rattle.linker_base.specs.declared.relaxation.RelaxDelta.{RelaxDelta}
 use Rattle.linker_base.specs.Deletions.{IsValid, IsInside, IsSelected, HasInput, bytes_of, rank}
 use Rattle.linker_base.specs.Deltas.{deletion_of}
+use Rattle.linker_base.specs.Counting.{place_of}
 use Rattle.linker_base.specs.Listed.{AreListed, ArePlaced, IsOnlyAt}
-use Rattle.linker_base.proofs.OutputPlaces.{rank-parted, selected-place, bytes_between}
+use Rattle.linker_base.proofs.OutputPlaces.{rank-parted, selected-place, bytes_between, bytes-le-offset}
 use Rattle.linker_base.proofs.Rank.{input_fits}
 use Rattle.linker_base.proofs.Unions.{apart_from_ascending}
 
@@ -46,16 +47,27 @@ parted_from_search deltas i k within found = (
   λ j d low high. let inside : j < length deltas = omega (arith, length-map deltas deletion_of) in rw (deletion_at deltas j blank d inside) (grind (arith, nat_tests, found.1 j blank low inside)),
 )
 
+place_from_sum : (offset bytes before : ℕ) → before ≤ offset → offset + bytes < 2 ^ 64 → (offset + bytes + (2 ^ 64 - (before + bytes))) % 2 ^ 64 + before ≡ offset
+place_from_sum offset bytes before low fits = omega arith
+
+-- the output place of a delta and the bytes deleted before it make its offset
+place_at : (deltas : List RelaxDelta) → AreListed deltas → (k : ℕ) (d : RelaxDelta) → k < length deltas → place_of (get_or deltas k d) + bytes_of (take k (map deletion_of deltas)) ≡ (get_or deltas k d).input_offset
+place_at deltas listed k d within =
+    let ds = map deletion_of deltas in
+    let inside : k < length ds = omega (arith, length-map deltas deletion_of) in
+    let at = deletion_at deltas k d (0, 0) within in
+    rw (sum_at deltas listed k d within) (place_from_sum (get_or deltas k d).input_offset (get_or deltas k d).bytes_deleted (bytes_of (take k ds)) (rw at at (bytes-le-offset ds k (0, 0) listed.valid.ascending inside)) (rw at at (listed.valid.ends k (0, 0) inside)))
+
 -- whether the output place of a delta is at most y
 abbrev pub is_placed : ℕ → RelaxDelta → Bool
-is_placed y d = leb (d.input_offset + d.bytes_deleted) (y + d.cumulative_deleted)
+is_placed y d = leb (place_of d) y
 
 -- which means the same of its deletion
 placed_at : (deltas : List RelaxDelta) → AreListed deltas → (y k : ℕ) (d : RelaxDelta) (e : ℕ × ℕ) → k < length deltas → ((is_placed y (get_or deltas k d) ≡ true → (get_or (map deletion_of deltas) k e).0 ≤ y + bytes_of (take k (map deletion_of deltas))) × ((get_or (map deletion_of deltas) k e).0 ≤ y + bytes_of (take k (map deletion_of deltas)) → is_placed y (get_or deltas k d) ≡ true) × (is_placed y (get_or deltas k d) ≡ false → y + bytes_of (take k (map deletion_of deltas)) < (get_or (map deletion_of deltas) k e).0))
 placed_at deltas listed y k d e within =
-    let sum = sum_at deltas listed k d within in
+    let place = place_at deltas listed k d within in
     rw (deletion_at deltas k d e within)
-    (λ yes. grind (arith, nat_tests), λ low. grind (arith, nat_tests), λ no. grind (arith, nat_tests))
+    (λ low. grind (arith, nat_tests), λ low. grind (arith, nat_tests), λ high. grind (arith, nat_tests))
 
 -- output places don't fall, so a search by them parts the deltas
 pub placed_first : (deltas : List RelaxDelta) → AreListed deltas → (y : ℕ) → IsPartitionedBy (is_placed y) deltas

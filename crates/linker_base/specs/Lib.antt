@@ -1,4 +1,5 @@
 pub mod Bits
+pub mod Counting
 pub mod Deletions
 pub mod Deltas
 pub mod Faults

@@ -9,6 +9,7 @@ use std::alloc::{AllocError, AllocFailed, Global};
 use std::marker::Model;
 
 mod apart;
+pub mod counting;
 mod cursor;
 pub mod laws;
 mod map;

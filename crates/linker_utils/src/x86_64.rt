@@ -127,7 +127,7 @@ fn put_evex(section: &mut [u8], offset: u64, opcode: u8, others: u8)
 }
 
 /// Rewrites an `add` with any prefix or none.
-#[inline]
+#[inline(always)]
 fn put_add(section: &mut [u8], offset: u64, n: u8)
     requires { IsRewritable (rex_add n) section.old offset }
     ensures { section.new ≡ rewritten (Some (rex_add n)) section.old offset }
@@ -141,7 +141,7 @@ fn put_add(section: &mut [u8], offset: u64, n: u8)
 }
 
 impl RelaxationKind {
-    #[inline]
+    #[inline(always)]
     fn rewrite(self, section: &mut [u8], offset_in_section: &mut u64, addend: &mut i64)
         requires { CanRewrite (x86_64_rewrite self) section.old offset_in_section.old }
         ensures bytes { section.new ≡ rewritten (x86_64_rewrite self) section.old offset_in_section.old }
@@ -258,7 +258,7 @@ impl RelaxationKind {
     ///
     /// Where the operand of `mov` becomes absolute, and bit 0 of its REX byte was clear, the register
     /// that it names stays the same.
-    #[inline]
+    #[inline(always)]
     pub fn apply(self, section_bytes: &mut [u8], offset_in_section: &mut u64, addend: &mut i64)
         requires { CanRewrite (x86_64_rewrite self) section_bytes.old offset_in_section.old }
         ensures bytes { section_bytes.new ≡ rewritten (x86_64_rewrite self) section_bytes.old offset_in_section.old }
@@ -272,7 +272,7 @@ impl RelaxationKind {
 
     /// Whether `apply` may be called at an offset of a section: the bytes that it rewrites lie in
     /// the section.
-    #[inline]
+    #[inline(always)]
     pub fn can_apply(self, section: &[u8], offset: u64) -> bool
         ensures { IsTrue result ↔ CanRewrite (x86_64_rewrite self) section.now offset }
     {

@@ -1,2 +1,3 @@
 pub mod DeltaLists
 pub mod ListedRows
+pub mod Moved

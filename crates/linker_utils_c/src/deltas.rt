@@ -4,8 +4,8 @@
 //! those the calls say what they answer. Of any other array they are safe, and say nothing.
 
 ghost use Rattle.std.specs.Prelude.{◌≡◌, ◌≢◌, ◌<◌, ◌≤◌, ◌+◌, ◌^◌, ◌++◌, ◌↔◌, ◌⊎◌, IsTrue, IfOk, MatchOption, MatchResult, pos, ◌-ℤ◌, length, map, take, max, All};
-ghost use Rattle.std.specs.List.Sorted.{IsNonDecreasing, IsPartitionPoint};
-ghost use Rattle.linker_base.specs.Deletions.{AreDisjoint, IsValid, IsBefore, EndFits, IsInside, IsSelected, HasInput, begun_below, bytes_of, rank};
+ghost use Rattle.std.specs.List.Sorted.{IsNonDecreasing, IsPartitionPoint, IsPermutation};
+ghost use Rattle.linker_base.specs.Deletions.{AreDisjoint, IsValid, IsSortedUnion, IsBefore, EndFits, IsInside, IsSelected, HasInput, begun_below, bytes_of, rank};
 ghost use Rattle.linker_base.specs.Deltas.{IsListing};
 ghost use Rattle.linker_base.specs.Listed.{AreListed, ArePlaced};
 ghost use Rattle.linker_utils.specs.RiscV.{IsEven, IsJalDistance, JumpsAt, IsInSection, IsSiteKept, output_distance};
@@ -13,7 +13,7 @@ ghost use Rattle.linker_utils_c.specs.Status.{code};
 ghost use Rattle.linker_utils_c.specs.Deltas.{pair_of, pairs_in, pairs_under, AreDeltasOf, AreMerged};
 
 use crate::status::Status;
-use linker_utils::relaxation::{OutOfMemory, RelaxDelta, SectionRelaxDeltas};
+use linker_utils::relaxation::{OutOfMemory, RelaxDelta, SectionRelaxDeltas, counting};
 use linker_utils::riscv64::{self, CallError};
 use std::alloc::Global;
 
@@ -132,7 +132,7 @@ fn count_below(deltas: &[RelaxDelta], offset: u64) -> usize
     ensures within { result ≤ length deltas.now }
     ensures below { AreListed deltas.now → IsPartitionPoint (λ d. d.0 < offset) (λ d. offset ≤ d.0) (pairs_under deltas.now) result }
 {
-    deltas.partition_point(|delta| delta.input_offset < offset)
+    counting::count_below(deltas, offset)
 }
 
 // How many deltas have an output place of at most `offset`.
@@ -141,10 +141,7 @@ fn count_placed(deltas: &[RelaxDelta], offset: u64) -> usize
     ensures within { result ≤ length deltas.now }
     ensures placed { AreListed deltas.now → ArePlaced (pairs_under deltas.now) offset result }
 {
-    deltas.partition_point(|delta| {
-        let end = u128::from(delta.input_offset) + u128::from(delta.bytes_deleted);
-        end <= u128::from(offset) + u128::from(delta.cumulative_deleted)
-    })
+    counting::count_placed(deltas, offset)
 }
 
 // The output offset of what stands at an input offset, or none inside a deletion.
@@ -247,6 +244,45 @@ fn section_of(alloc: Global, deltas: &[RelaxDelta]) -> Result<SectionRelaxDeltas
     }
 }
 
+// The pairs of deletions by ascending offset, which are tested and merged in fewest steps.
+fn ascending_pairs(alloc: Global, deletions: &[Deletion]) -> Result<Vec<(u64, u32)>, OutOfMemory>
+    ensures { IfOk result (λ pairs. IsPermutation (pairs_in deletions.now) pairs.items) }
+{
+    let mut pairs = pairs_from(alloc, deletions)?;
+    pairs.sort_unstable_by_key(|pair| pair.0);
+    Ok(pairs)
+}
+
+// Whether deletions in any order may be merged.
+fn is_mergeable(
+    alloc: Global,
+    section: &SectionRelaxDeltas,
+    additional: &[Deletion],
+) -> Result<bool, OutOfMemory>
+    ensures { IfOk result (λ answer. IsTrue answer ↔ AreDisjoint (section.now ++ pairs_in additional.now)) }
+{
+    let pairs = ascending_pairs(alloc, additional)?;
+    Ok(section.is_mergeable(&pairs))
+}
+
+// Merges deletions in any order.
+fn merge_section(alloc: Global, section: &mut SectionRelaxDeltas, additional: &[Deletion]) -> Status
+    ensures merged { result ≡ Status.Success → IsSortedUnion (section.old ++ pairs_in additional.now) section.new }
+    ensures status { ((result ≡ Status.Success) × AreDisjoint (section.old ++ pairs_in additional.now)) ⊎ (result ≡ Status.OutOfMemory)
+        ⊎ ((result ≡ Status.NotMergeable) × ¬ AreDisjoint (section.old ++ pairs_in additional.now)) }
+{
+    let Ok(pairs) = ascending_pairs(alloc, additional) else {
+        return Status::OutOfMemory;
+    };
+    if !section.is_mergeable(&pairs) {
+        return Status::NotMergeable;
+    }
+    if section.merge_additional(&pairs).is_err() {
+        return Status::OutOfMemory;
+    }
+    Status::Success
+}
+
 /// Whether `linker_utils_deltas_merge` takes the additional deletions, in any order.
 /// `InvalidDeletions` where the deltas' own are that, `NotMergeable`, `OutOfMemory`.
 #[unsafe(no_mangle)]
@@ -265,13 +301,11 @@ pub extern "C" fn linker_utils_deltas_is_mergeable(
         Ok(section) => section,
         Err(refusal) => return refusal.number(),
     };
-    let Ok(pairs) = pairs_from(alloc, additional) else {
-        return Status::OutOfMemory.number();
-    };
-    if !section.is_mergeable(&pairs) {
-        return Status::NotMergeable.number();
+    match is_mergeable(alloc, &section, additional) {
+        Ok(true) => Status::Success.number(),
+        Ok(false) => Status::NotMergeable.number(),
+        Err(OutOfMemory) => Status::OutOfMemory.number(),
     }
-    Status::Success.number()
 }
 
 /// Writes the deltas of the old and the additional deletions, sorted, as many as both. The first that
@@ -301,17 +335,11 @@ pub extern "C" fn linker_utils_deltas_merge(
         Ok(section) => section,
         Err(refusal) => return refusal.number(),
     };
-    let Ok(pairs) = pairs_from(alloc, additional) else {
-        return Status::OutOfMemory.number();
-    };
-    if !section.is_mergeable(&pairs) {
-        return Status::NotMergeable.number();
+    let status = merge_section(alloc, &mut section, additional);
+    if status == Status::Success {
+        merged.copy_from_slice(section.deltas());
     }
-    if section.merge_additional(&pairs).is_err() {
-        return Status::OutOfMemory.number();
-    }
-    merged.copy_from_slice(section.deltas());
-    Status::Success.number()
+    status.number()
 }
 
 // The output offset of a site of which none of the four bytes is deleted.

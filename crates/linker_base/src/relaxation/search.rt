@@ -6,7 +6,7 @@ ghost use Rattle.linker_base.specs.Deletions.{bytes_of, IsInside};
 ghost use Rattle.linker_base.specs.Deltas.{deletion_of};
 ghost use Rattle.linker_base.specs.Listed.{AreListed, ArePlaced, IsOnlyAt};
 
-use super::RelaxDelta;
+use super::{RelaxDelta, counting};
 
 // The bytes that the first `count` deltas delete.
 pub(super) fn bytes_of_first(deltas: &[RelaxDelta], count: usize) -> u64
@@ -26,20 +26,17 @@ pub(super) fn count_below(deltas: &[RelaxDelta], offset: u64) -> usize
     ensures within { result ≤ length deltas.now }
     ensures below { IsPartitionPoint (λ d. d.0 < offset) (λ d. offset ≤ d.0) (map deletion_of deltas.now) result }
 {
-    deltas.partition_point(|delta| delta.input_offset < offset)
+    counting::count_below(deltas, offset)
 }
 
 // How many deltas have an output place, their offset less the bytes deleted before, of at most
-// `offset`. Either side of the comparison may take more than 64 bits.
+// `offset`.
 pub(super) fn count_placed(deltas: &[RelaxDelta], offset: u64) -> usize
     requires { AreListed deltas.now }
     ensures within { result ≤ length deltas.now }
     ensures placed { ArePlaced (map deletion_of deltas.now) offset result }
 {
-    deltas.partition_point(|delta| {
-        let end = u128::from(delta.input_offset) + u128::from(delta.bytes_deleted);
-        end <= u128::from(offset) + u128::from(delta.cumulative_deleted)
-    })
+    counting::count_placed(deltas, offset)
 }
 
 // Whether a delta begins below the offset and ends above it.

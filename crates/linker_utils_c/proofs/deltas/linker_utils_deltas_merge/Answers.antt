@@ -1,4 +1,4 @@
-use Rattle.std.proofs.Common.{◌++◌, rules, arith}
+use Rattle.std.proofs.Common.{◌++◌, inl, inr, rules, arith}
 use Rattle.std.proofs.lemmas.List.{length-append, length-map}
 use Rattle.std.proofs.lemmas.List.Sorted.{length_permutation}
 use Rattle.linker_base.specs.Deletions.{IsSortedUnion}
@@ -14,3 +14,12 @@ copy_from_slice-requires c =
     let union : IsSortedUnion (old ++ more) (pairs_under c.deltas.result.now) = search rules in
     let long = length_permutation (old ++ more) (pairs_under c.deltas.result.now) union.same in
     omega (arith, long, length-append old more, length-map c.args.deltas.now deletion_of, length-map c.args.additional.now pair_of, length-map c.deltas.result.now deletion_of)
+
+-- a merge that was refused was refused for this, or for want of memory
+pub returns-clause-touching : goal.returns-clause-touching
+returns-clause-touching c same valid apart =
+    elim c.merge_section-status.ensures.status [
+      | inl done ↦ absurd (apart (search rules))
+      | inr (inl memory) ↦ inr (search rules)
+      | inr (inr touching) ↦ inl (search rules)
+    ]

@@ -1,0 +1,506 @@
+//! The original crate behind calls of the same shape: numbers in, the same tests of numbers and of
+//! lengths, a status out. No call is inlined.
+
+use crate::table::Row;
+use linker_utils::elf::{
+    AArch64Instruction, LoongArch64Instruction, PageMask, Ppc64Instruction, RelocationInstruction,
+    RelocationKind, RelocationKindInfo, RelocationSize, RiscVInstruction,
+};
+use linker_utils::relaxation::{RelocationModifier, SectionRelaxDeltas};
+use linker_utils::{aarch64, loongarch64, ppc64, riscv64, x86_64};
+use std::slice;
+
+const OK: u32 = 0;
+const UNKNOWN_FORM: u32 = 2;
+const UNKNOWN_REWRITE: u32 = 3;
+const UNKNOWN_RELOCATION: u32 = 4;
+const TOO_SHORT: u32 = 5;
+const CANNOT_APPLY: u32 = 7;
+const ULEB128_ENDED: u32 = 21;
+
+#[derive(Clone, Copy)]
+enum Form {
+    AArch64(AArch64Instruction),
+    RiscV(RiscVInstruction),
+    LoongArch64(LoongArch64Instruction),
+    Ppc64(Ppc64Instruction),
+}
+
+#[inline(always)]
+fn form_of(architecture: u32, form: u32) -> Option<Form> {
+    Some(match architecture {
+        0 => Form::AArch64(match form {
+            0 => AArch64Instruction::Adr,
+            1 => AArch64Instruction::Movkz,
+            2 => AArch64Instruction::Movnz,
+            3 => AArch64Instruction::Ldr,
+            4 => AArch64Instruction::LdrRegister,
+            5 => AArch64Instruction::Add,
+            6 => AArch64Instruction::LdSt,
+            7 => AArch64Instruction::TstBr,
+            8 => AArch64Instruction::Bcond,
+            9 => AArch64Instruction::JumpCall,
+            10 => AArch64Instruction::MachOLow12,
+            _ => return None,
+        }),
+        1 => Form::RiscV(match form {
+            0 => RiscVInstruction::UType,
+            1 => RiscVInstruction::IType,
+            2 => RiscVInstruction::SType,
+            3 => RiscVInstruction::BType,
+            4 => RiscVInstruction::JType,
+            5 => RiscVInstruction::CbType,
+            6 => RiscVInstruction::CjType,
+            7 => RiscVInstruction::CluiType,
+            8 => RiscVInstruction::UiType,
+            _ => return None,
+        }),
+        2 => Form::LoongArch64(match form {
+            0 => LoongArch64Instruction::Shift5,
+            1 => LoongArch64Instruction::Shift10,
+            2 => LoongArch64Instruction::Branch26,
+            3 => LoongArch64Instruction::Branch21,
+            4 => LoongArch64Instruction::Call30,
+            5 => LoongArch64Instruction::Call36,
+            _ => return None,
+        }),
+        3 => Form::Ppc64(match form {
+            0 => Ppc64Instruction::D,
+            1 => Ppc64Instruction::Ds,
+            2 => Ppc64Instruction::Branch14,
+            3 => Ppc64Instruction::Branch24,
+            _ => return None,
+        }),
+        _ => return None,
+    })
+}
+
+#[inline(always)]
+fn window(form: Form) -> usize {
+    match form {
+        Form::RiscV(
+            RiscVInstruction::CbType | RiscVInstruction::CjType | RiscVInstruction::CluiType,
+        ) => 2,
+        Form::RiscV(RiscVInstruction::UiType)
+        | Form::LoongArch64(LoongArch64Instruction::Call30 | LoongArch64Instruction::Call36) => 8,
+        _ => 4,
+    }
+}
+
+#[inline(never)]
+pub unsafe extern "C" fn write(
+    architecture: u32,
+    form: u32,
+    value: u64,
+    negative: bool,
+    dest: *mut u8,
+    dest_len: usize,
+) -> u32 {
+    let Some(form) = form_of(architecture, form) else {
+        return UNKNOWN_FORM;
+    };
+    if dest_len < window(form) {
+        return TOO_SHORT;
+    }
+    let dest = unsafe { slice::from_raw_parts_mut(dest, dest_len) };
+    match form {
+        Form::AArch64(form) => form.write_to_value(value, negative, dest),
+        Form::RiscV(form) => form.write_to_value(value, negative, dest),
+        Form::LoongArch64(form) => form.write_to_value(value, negative, dest),
+        Form::Ppc64(form) => form.write_to_value(value, negative, dest),
+    }
+    OK
+}
+
+#[inline(never)]
+pub unsafe extern "C" fn read(
+    architecture: u32,
+    form: u32,
+    bytes: *const u8,
+    bytes_len: usize,
+    value: *mut u64,
+    negative: *mut bool,
+) -> u32 {
+    let Some(form) = form_of(architecture, form) else {
+        return UNKNOWN_FORM;
+    };
+    if bytes_len < window(form) {
+        return TOO_SHORT;
+    }
+    let bytes = unsafe { slice::from_raw_parts(bytes, bytes_len) };
+    let read = match form {
+        Form::AArch64(form) => form.read_value(bytes),
+        Form::RiscV(form) => form.read_value(bytes),
+        Form::LoongArch64(form) => form.read_value(bytes),
+        Form::Ppc64(form) => form.read_value(bytes),
+    };
+    unsafe {
+        *value = read.0;
+        *negative = read.1;
+    }
+    OK
+}
+
+#[derive(Clone, Copy)]
+enum Rewrite {
+    AArch64(aarch64::RelaxationKind),
+    RiscV(riscv64::RelaxationKind),
+    LoongArch64(loongarch64::RelaxationKind),
+    Ppc64(ppc64::RelaxationKind),
+    X86(x86_64::RelaxationKind),
+}
+
+#[inline(always)]
+fn rewrite_of(architecture: u32, rewrite: u32, n: u8) -> Option<Rewrite> {
+    use aarch64::RelaxationKind as A;
+    use riscv64::RelaxationKind as R;
+    use x86_64::RelaxationKind as X;
+    Some(match architecture {
+        0 => Rewrite::AArch64(match rewrite {
+            0 => A::NoOp,
+            1 => A::ReplaceWithNop,
+            2 => A::MovzX0Lsl16,
+            3 => A::MovkX0,
+            4 => A::MovzXnLsl16,
+            5 => A::MovkXn,
+            6 => A::AdrpToAdr,
+            7 => A::AdrpX0,
+            8 => A::LdrX0,
+            9 => A::AddToAdr,
+            10 => A::LdrToAdr,
+            11 => A::LdrToAdd,
+            12 => A::AdrpAddToNopAdr,
+            _ => return None,
+        }),
+        1 => Rewrite::RiscV(match rewrite {
+            0 => R::NoOp,
+            1 => R::ReplaceWithNop,
+            2 => R::CallToJal,
+            3 => R::Hi20ToCLui,
+            4 => R::Hi20Delete,
+            5 => R::Lo12Rs1ToZero,
+            _ => return None,
+        }),
+        2 => Rewrite::LoongArch64(match rewrite {
+            0 => loongarch64::RelaxationKind::NoOp,
+            1 => loongarch64::RelaxationKind::ReplaceWithNop,
+            _ => return None,
+        }),
+        3 => Rewrite::Ppc64(match rewrite {
+            0 => ppc64::RelaxationKind::NoOp,
+            _ => return None,
+        }),
+        4 => Rewrite::X86(match rewrite {
+            0 => X::MovIndirectToLea,
+            1 => X::MovIndirectToAbsolute,
+            2 => X::RexMovIndirectToAbsolute(n),
+            3 => X::RexAddIndirectToAbsolute(n),
+            4 => X::RexSubIndirectToAbsolute(n),
+            5 => X::RexCmpIndirectToAbsolute(n),
+            6 => X::CallIndirectToRelative,
+            7 => X::JmpIndirectToRelative,
+            8 => X::NoOp,
+            9 => X::TlsGdToLocalExec,
+            10 => X::TlsGdToLocalExecLarge,
+            11 => X::TlsLdToLocalExec,
+            12 => X::TlsLdToLocalExecNoPlt,
+            13 => X::TlsLdToLocalExec64,
+            14 => X::TlsGdToInitialExec,
+            15 => X::TlsDescToLocalExec(n),
+            16 => X::TlsDescToInitialExec,
+            17 => X::SkipTlsDescCall,
+            _ => return None,
+        }),
+        _ => return None,
+    })
+}
+
+/// How far below the offset the bytes of a rewrite begin, and how many they are.
+#[inline(always)]
+fn bytes_of(rewrite: Rewrite) -> (u64, u64) {
+    use aarch64::RelaxationKind as A;
+    use riscv64::RelaxationKind as R;
+    use x86_64::RelaxationKind as X;
+    match rewrite {
+        Rewrite::AArch64(kind) => match kind {
+            A::NoOp => (0, 0),
+            A::AdrpAddToNopAdr => (4, 8),
+            _ => (0, 4),
+        },
+        Rewrite::RiscV(kind) => match kind {
+            R::NoOp | R::Hi20Delete => (0, 0),
+            R::Hi20ToCLui => (0, 2),
+            _ => (0, 4),
+        },
+        Rewrite::LoongArch64(kind) => match kind {
+            loongarch64::RelaxationKind::NoOp => (0, 0),
+            loongarch64::RelaxationKind::ReplaceWithNop => (0, 4),
+        },
+        Rewrite::Ppc64(_) => (0, 0),
+        Rewrite::X86(kind) => match kind {
+            X::NoOp => (0, 0),
+            X::MovIndirectToLea | X::TlsDescToInitialExec => (2, 1),
+            X::MovIndirectToAbsolute | X::CallIndirectToRelative => (2, 2),
+            X::RexMovIndirectToAbsolute(_)
+            | X::RexSubIndirectToAbsolute(_)
+            | X::RexCmpIndirectToAbsolute(_)
+            | X::TlsDescToLocalExec(_) => (3, 3),
+            X::RexAddIndirectToAbsolute(3 | 4) => (3, 3),
+            X::RexAddIndirectToAbsolute(6) => (5, 5),
+            X::RexAddIndirectToAbsolute(_) => (2, 2),
+            X::JmpIndirectToRelative => (2, 6),
+            X::TlsGdToLocalExec | X::TlsGdToInitialExec => (4, 12),
+            X::TlsLdToLocalExec => (3, 12),
+            X::TlsLdToLocalExecNoPlt => (3, 13),
+            X::TlsGdToLocalExecLarge | X::TlsLdToLocalExec64 => (3, 22),
+            X::SkipTlsDescCall => (0, 2),
+        },
+    }
+}
+
+#[inline(never)]
+pub unsafe extern "C" fn apply(
+    architecture: u32,
+    rewrite: u32,
+    n: u8,
+    section: *mut u8,
+    section_len: usize,
+    offset: *mut u64,
+    addend: *mut i64,
+) -> u32 {
+    let Some(rewrite) = rewrite_of(architecture, rewrite, n) else {
+        return UNKNOWN_REWRITE;
+    };
+    let (section, offset, addend) = unsafe {
+        (
+            slice::from_raw_parts_mut(section, section_len),
+            &mut *offset,
+            &mut *addend,
+        )
+    };
+    let (back, len) = bytes_of(rewrite);
+    let room = section_len as u64;
+    if len > 0 && (*offset < back || len > room || *offset - back > room - len) {
+        return CANNOT_APPLY;
+    }
+    match rewrite {
+        Rewrite::AArch64(kind) => kind.apply(section, offset, addend),
+        Rewrite::RiscV(kind) => kind.apply(section, offset, addend),
+        Rewrite::LoongArch64(kind) => kind.apply(section, offset, addend),
+        Rewrite::Ppc64(kind) => kind.apply(section, offset, addend),
+        Rewrite::X86(kind) => kind.apply(section, offset, addend),
+    }
+    OK
+}
+
+#[inline(never)]
+pub unsafe extern "C" fn next_modifier(
+    architecture: u32,
+    rewrite: u32,
+    n: u8,
+    modifier: *mut u32,
+) -> u32 {
+    let Some(rewrite) = rewrite_of(architecture, rewrite, n) else {
+        return UNKNOWN_REWRITE;
+    };
+    let next = match rewrite {
+        Rewrite::AArch64(kind) => kind.next_modifier(),
+        Rewrite::RiscV(kind) => kind.next_modifier(),
+        Rewrite::LoongArch64(kind) => kind.next_modifier(),
+        Rewrite::Ppc64(kind) => kind.next_modifier(),
+        Rewrite::X86(kind) => kind.next_modifier(),
+    };
+    unsafe {
+        *modifier = match next {
+            RelocationModifier::Normal => 0,
+            RelocationModifier::SkipNextRelocation => 1,
+        }
+    };
+    OK
+}
+
+/// What a relocation means, by its number in ELF files, as the crate itself says it.
+#[inline(never)]
+pub unsafe extern "C" fn relocation(
+    architecture: u32,
+    number: u32,
+    row: *mut RelocationKindInfo,
+) -> u32 {
+    let info = match architecture {
+        0 => aarch64::relocation_type_from_raw(number),
+        1 => riscv64::relocation_type_from_raw(number),
+        2 => loongarch64::relocation_type_from_raw(number),
+        3 => ppc64::relocation_type_from_raw(number),
+        4 => x86_64::relocation_from_raw(number),
+        _ => None,
+    };
+    match info {
+        Some(info) => {
+            unsafe { row.write(info) };
+            OK
+        }
+        None => UNKNOWN_RELOCATION,
+    }
+}
+
+fn kind_number(kind: RelocationKind) -> u32 {
+    const NAMES: [&str; 40] = [
+        "None",
+        "Absolute",
+        "AbsoluteLowPart",
+        "AbsoluteSet",
+        "AbsoluteSetWord6",
+        "AbsoluteAddition",
+        "AbsoluteAdditionWord6",
+        "AbsoluteSubtraction",
+        "AbsoluteSubtractionWord6",
+        "PairSubtractionULEB128RiscV",
+        "PairSubtractionULEB128LoongArch",
+        "Relative",
+        "RelativeRiscVLow12",
+        "RelativeLoongArchHigh",
+        "GotRelative",
+        "GotRelativeLoongArch64",
+        "GotRelGotBase",
+        "Got",
+        "SymRelGotBase",
+        "PltRelGotBase",
+        "PltRelative",
+        "SymbolSize",
+        "Alignment",
+        "TlsGd",
+        "TlsGdGot",
+        "TlsGdGotBase",
+        "TlsLd",
+        "TlsLdGot",
+        "TlsLdGotBase",
+        "DtpOff",
+        "GotTpOff",
+        "GotTpOffGot",
+        "GotTpOffGotBase",
+        "GotTpOffLoongArch64",
+        "TpOff",
+        "TlsDesc",
+        "TlsDescGot",
+        "TlsDescGotBase",
+        "TlsDescLoongArch64",
+        "TlsDescCall",
+    ];
+    let name = format!("{kind:?}");
+    NAMES.iter().position(|&known| known == name).expect("kind") as u32
+}
+
+/// The same as C sees it.
+pub fn flattened(info: &RelocationKindInfo) -> Row {
+    let (is_bits, byte_size, first_bit, end_bit, architecture, form) = match info.size {
+        RelocationSize::ByteSize(size) => (false, size, 0, 0, 0, 0),
+        RelocationSize::BitMasking { range, insn } => {
+            let (architecture, form) = match insn {
+                RelocationInstruction::AArch64(form) => (0, format!("{form:?}")),
+                RelocationInstruction::RiscV(form) => (1, format!("{form:?}")),
+                RelocationInstruction::LoongArch64(form) => (2, format!("{form:?}")),
+                RelocationInstruction::Ppc64(form) => (3, format!("{form:?}")),
+            };
+            let form = crate::table::FORMS
+                .iter()
+                .find(|known| known.architecture == architecture && known.name == form)
+                .expect("form")
+                .number;
+            (true, 0, range.start, range.end, architecture, form)
+        }
+    };
+    let (min, max) = info.range.bounds.unwrap_or((0, 0));
+    Row {
+        kind: kind_number(info.kind),
+        is_bits,
+        byte_size,
+        first_bit,
+        end_bit,
+        architecture,
+        form,
+        mask: match info.mask {
+            None => 0,
+            Some(PageMask::SymbolPlusAddendAndPosition(_)) => 1,
+            Some(PageMask::GotEntryAndPosition(_)) => 2,
+            Some(PageMask::GotBase(_)) => 3,
+        },
+        has_range: info.range.bounds.is_some(),
+        min,
+        max,
+        alignment: info.alignment,
+        bias: info.bias.map_or(0, |bias| bias.value()),
+        thunkable: info.thunkable,
+        implicit_addend: info.implicit_addend,
+    }
+}
+
+#[inline(never)]
+pub unsafe extern "C" fn hi20_is_zero(value: u64) -> bool {
+    riscv64::RelaxationKind::hi20_is_zero(value)
+}
+
+#[inline(never)]
+pub unsafe extern "C" fn highest_relocation_with_bias(s: u64, pc: u64) -> u64 {
+    loongarch64::highest_relocation_with_bias(s, pc)
+}
+
+#[inline(never)]
+pub unsafe extern "C" fn read_uleb128(
+    bytes: *const u8,
+    bytes_len: usize,
+    value: *mut u64,
+    consumed: *mut usize,
+) -> u32 {
+    let mut content = unsafe { slice::from_raw_parts(bytes, bytes_len) };
+    match linker_utils::utils::read_uleb128(&mut content) {
+        Ok(number) => {
+            unsafe {
+                *value = number;
+                *consumed = bytes_len - content.len();
+            }
+            OK
+        }
+        Err(_) => ULEB128_ENDED,
+    }
+}
+
+#[inline(never)]
+pub fn new(raw: Vec<(u64, u32)>) -> SectionRelaxDeltas {
+    SectionRelaxDeltas::new(raw)
+}
+
+#[inline(never)]
+pub fn merge(deltas: &mut SectionRelaxDeltas, additional: Vec<(u64, u32)>) {
+    deltas.merge_additional(additional);
+}
+
+#[inline(never)]
+pub unsafe extern "C" fn input_to_output(
+    deltas: &SectionRelaxDeltas,
+    input_offset: u64,
+    output_offset: *mut u64,
+) -> u32 {
+    unsafe { *output_offset = deltas.input_to_output_offset(input_offset) };
+    OK
+}
+
+#[inline(never)]
+pub unsafe extern "C" fn output_to_input(
+    deltas: &SectionRelaxDeltas,
+    output_offset: u64,
+    input_offset: *mut u64,
+) -> u32 {
+    unsafe { *input_offset = deltas.output_to_input_offset(output_offset) };
+    OK
+}
+
+#[inline(never)]
+pub fn translate_all(deltas: &SectionRelaxDeltas, queries: &[u64], outputs: &mut [u64]) {
+    let mut cursor = deltas.cursor();
+    for (query, output) in queries.iter().zip(outputs) {
+        *output = cursor.translate(*query);
+    }
+}
+
+pub type Deltas = SectionRelaxDeltas;
+pub type Info = RelocationKindInfo;
