@@ -62,7 +62,7 @@ enum linker_utils_status {
     LINKER_UTILS_TOO_FAR = 13,
     /* The deletions do not strictly ascend, one reaches past the next, or one ends past 2^64 - 1. */
     LINKER_UTILS_INVALID_DELETIONS = 14,
-    /* A deletion touches another, or ends past 2^64 - 1. */
+    /* Two deletions overlap or begin at one offset, or one ends past 2^64 - 1. */
     LINKER_UTILS_NOT_MERGEABLE = 15,
     /* The offset lies strictly inside a deletion. */
     LINKER_UTILS_INSIDE_DELETION = 16,
@@ -752,14 +752,15 @@ uint32_t linker_utils_deltas_create(const struct linker_utils_deletion *deletion
 
 /* OK where `linker_utils_deltas_merge` takes the additional deletions, in any order: each ends at
  * 2^64 - 1 or below, and of any two, old or additional, one has the lower offset and does not reach
- * past the other's. INVALID_DELETIONS where the deltas are none, NOT_MERGEABLE, OUT_OF_MEMORY. */
+ * past the other's. INVALID_DELETIONS where the deltas list no valid deletions, NOT_MERGEABLE,
+ * OUT_OF_MEMORY. */
 uint32_t linker_utils_deltas_is_mergeable(const struct linker_utils_delta *deltas, size_t deltas_len,
                                           const struct linker_utils_deletion *additional,
                                           size_t additional_len);
 
 /* Writes the deltas of the old and the additional deletions, sorted, as many as both. The first that
- * applies of DIFFERENT_LENGTHS, INVALID_DELETIONS where the deltas are none, NOT_MERGEABLE;
- * OUT_OF_MEMORY. */
+ * applies of DIFFERENT_LENGTHS, INVALID_DELETIONS where the deltas list no valid deletions,
+ * NOT_MERGEABLE; OUT_OF_MEMORY. */
 uint32_t linker_utils_deltas_merge(const struct linker_utils_delta *deltas, size_t deltas_len,
                                    const struct linker_utils_deletion *additional,
                                    size_t additional_len, struct linker_utils_delta *merged,

@@ -35,7 +35,7 @@ pub enum Status {
     TooFar,
     /// The deletions do not strictly ascend, one reaches past the next, or one ends past 2^64 - 1.
     InvalidDeletions,
-    /// A deletion touches another, or ends past 2^64 - 1.
+    /// Two deletions overlap or begin at one offset, or one ends past 2^64 - 1.
     NotMergeable,
     /// The offset lies strictly inside a deletion.
     InsideDeletion,
