@@ -14,7 +14,7 @@ IsApart a b = IsBefore a b ⊎ IsBefore b a
 abbrev pub EndFits : ℕ × ℕ → Type 0
 EndFits d = d.0 + d.1 < 2 ^ 64
 
--- deletions in any order, none of which touches another
+-- deletions in any order: of any two one lies below the other
 pub record AreDisjoint (deletions : List (ℕ × ℕ)) : Type 0 where
   pub apart : AllPairs IsApart deletions
   pub ends : All EndFits deletions

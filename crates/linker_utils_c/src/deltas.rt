@@ -293,7 +293,7 @@ pub extern "C" fn linker_utils_deltas_is_mergeable(
 ) -> u32
     ensures mergeable { IsValid (pairs_under deltas.now) → AreDisjoint (pairs_under deltas.now ++ pairs_in additional.now)
         → (result ≡ code Status.Success) ⊎ (result ≡ code Status.OutOfMemory) }
-    ensures touching { IsValid (pairs_under deltas.now) → ¬ AreDisjoint (pairs_under deltas.now ++ pairs_in additional.now)
+    ensures overlapping { IsValid (pairs_under deltas.now) → ¬ AreDisjoint (pairs_under deltas.now ++ pairs_in additional.now)
         → (result ≡ code Status.NotMergeable) ⊎ (result ≡ code Status.OutOfMemory) }
     ensures invalid { ¬ IsValid (pairs_under deltas.now) → (result ≡ code Status.InvalidDeletions) ⊎ (result ≡ code Status.OutOfMemory) }
 {
@@ -322,7 +322,7 @@ pub extern "C" fn linker_utils_deltas_merge(
     ensures different_lengths { (result ≡ code Status.DifferentLengths) ↔ (length merged.old ≢ length deltas.now + length additional.now) }
     ensures accepted { length merged.old ≡ length deltas.now + length additional.now → IsValid (pairs_under deltas.now)
         → AreDisjoint (pairs_under deltas.now ++ pairs_in additional.now) → (result ≡ code Status.Success) ⊎ (result ≡ code Status.OutOfMemory) }
-    ensures touching { length merged.old ≡ length deltas.now + length additional.now → IsValid (pairs_under deltas.now)
+    ensures overlapping { length merged.old ≡ length deltas.now + length additional.now → IsValid (pairs_under deltas.now)
         → ¬ AreDisjoint (pairs_under deltas.now ++ pairs_in additional.now) → (result ≡ code Status.NotMergeable) ⊎ (result ≡ code Status.OutOfMemory) }
     ensures invalid { length merged.old ≡ length deltas.now + length additional.now → ¬ IsValid (pairs_under deltas.now)
         → (result ≡ code Status.InvalidDeletions) ⊎ (result ≡ code Status.OutOfMemory) }
@@ -491,10 +491,7 @@ fn write_outputs(deltas: &[RelaxDelta], queries: &[u64], outputs: &mut [u64])
 fn ascend(queries: &[u64]) -> bool
     ensures { IsTrue result ↔ IsNonDecreasing queries.now }
 {
-    if queries.is_sorted() {
-        return true;
-    }
-    false
+    queries.is_sorted()
 }
 
 /// The output offset of each of the queries, which may not decrease, in one walk through the deltas:

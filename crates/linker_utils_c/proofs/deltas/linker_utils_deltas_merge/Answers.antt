@@ -16,8 +16,8 @@ copy_from_slice-requires c =
     omega (arith, long, length-append old more, length-map c.args.deltas.now deletion_of, length-map c.args.additional.now pair_of, length-map c.deltas.result.now deletion_of)
 
 -- a merge that was refused was refused for this, or for want of memory
-pub returns-clause-touching : goal.returns-clause-touching
-returns-clause-touching c same valid apart =
+pub returns-clause-overlapping : goal.returns-clause-overlapping
+returns-clause-overlapping c same valid apart =
     elim c.merge_section-status.ensures.status [
       | inl done ↦ absurd (apart (search rules))
       | inr (inl memory) ↦ inr (search rules)
