@@ -1,26 +1,25 @@
 //! Measures the archive's calls, and beside them those of the original crate where it is built in.
-//! Before anything is timed both are asked the same, and have to answer the same.
+//! Before anything is timed both get the same input, and have to return the same.
 
 #![cfg_attr(not(feature = "upstream"), allow(dead_code, clippy::let_unit_value))]
 
 mod inputs;
 mod measure;
-mod ours;
-mod relocations;
 mod table;
 #[cfg(feature = "upstream")]
 mod theirs;
 
 use inputs::{deletions, is_inside, Random};
 use measure::{Report, Side};
-use ours::*;
+use sathunne::raw::*;
+use sathunne::Architecture;
 use std::hint::black_box;
-use table::{Form, Reads, Rewrite, Row, ARCHITECTURES, FORMS, REWRITES};
+use table::*;
 
-type Write = unsafe extern "C" fn(u32, u32, u64, bool, *mut u8, usize) -> u32;
-type Read = unsafe extern "C" fn(u32, u32, *const u8, usize, *mut u64, *mut bool) -> u32;
-type Apply = unsafe extern "C" fn(u32, u32, u8, *mut u8, usize, *mut u64, *mut i64) -> u32;
-type Modifier = unsafe extern "C" fn(u32, u32, u8, *mut u32) -> u32;
+type Write = unsafe extern "C" fn(u16, u32, u64, bool, *mut u8, usize) -> u32;
+type Read = unsafe extern "C" fn(u16, u32, *const u8, usize, *mut u64, *mut u8) -> u32;
+type Apply = unsafe extern "C" fn(u16, u32, u8, *mut u8, usize, *mut u64, *mut i64) -> u32;
+type Modifier = unsafe extern "C" fn(u16, u32, u8, *mut u32) -> u32;
 type Uleb = unsafe extern "C" fn(*const u8, usize, *mut u64, *mut usize) -> u32;
 type OfOne = unsafe extern "C" fn(u64) -> bool;
 type OfTwo = unsafe extern "C" fn(u64, u64) -> u64;
@@ -28,8 +27,8 @@ type OfTwo = unsafe extern "C" fn(u64, u64) -> u64;
 /// Calls of a round.
 const CALLS: usize = 2048;
 
-fn done<T>(answer: T) {
-    black_box(answer);
+fn done<T>(result: T) {
+    black_box(result);
 }
 
 fn side_if<'a>(make: impl FnOnce() -> Side<'a>) -> Option<Side<'a>> {
@@ -56,11 +55,11 @@ const THEIRS: (Write, Read, Apply, Modifier, Uleb, OfOne, OfTwo) = (
 const THEIRS: (Write, Read, Apply, Modifier, Uleb, OfOne, OfTwo) = OURS;
 
 const OURS: (Write, Read, Apply, Modifier, Uleb, OfOne, OfTwo) = (
-    linker_utils_write,
-    linker_utils_read,
-    linker_utils_apply,
+    linker_utils_write_nonnull,
+    linker_utils_read_nonnull,
+    linker_utils_apply_nonnull,
     linker_utils_next_modifier,
-    linker_utils_read_uleb128,
+    linker_utils_read_uleb128_nonnull,
     linker_utils_hi20_is_zero,
     linker_utils_highest_relocation_with_bias,
 );
@@ -77,7 +76,7 @@ fn main() {
         check_rewrites();
         check_rows();
         check_uleb128();
-        eprintln!("both answer the same");
+        eprintln!("both return the same");
     }
     if wants("forms") {
         forms(&mut report);
@@ -103,8 +102,8 @@ fn main() {
     report.summary();
 }
 
-fn name_of(architecture: u32, name: &str) -> String {
-    format!("{} {name}", ARCHITECTURES[architecture as usize])
+fn line_of(machine: u16, name: &str) -> String {
+    format!("{} {name}", name_of(machine))
 }
 
 // ---- forms
@@ -112,7 +111,7 @@ fn name_of(architecture: u32, name: &str) -> String {
 /// One call each: a form and the value that is written.
 #[derive(Clone, Copy)]
 struct Value {
-    architecture: u32,
+    machine: u16,
     form: u32,
     value: u64,
     negative: bool,
@@ -120,7 +119,7 @@ struct Value {
 
 fn value_of(random: &mut Random, form: &Form) -> Value {
     Value {
-        architecture: form.architecture,
+        machine: form.machine,
         form: form.number,
         value: random.below(form.values),
         negative: random.word() % 2 == 1,
@@ -133,7 +132,7 @@ fn write_all(write: Write, values: &[Value], words: &mut [u8]) {
         let dest = &mut words[8 * at..8 * at + 8];
         let status = unsafe {
             write(
-                value.architecture,
+                value.machine,
                 value.form,
                 value.value,
                 value.negative,
@@ -147,12 +146,12 @@ fn write_all(write: Write, values: &[Value], words: &mut [u8]) {
 
 fn read_all(read: Read, values: &[Value], words: &[u8]) -> u64 {
     let read = black_box(read);
-    let (mut value, mut negative, mut sum) = (0, false, 0u64);
+    let (mut value, mut negative, mut sum) = (0, 0, 0u64);
     for (at, form) in values.iter().enumerate() {
         let bytes = &words[8 * at..8 * at + 8];
         unsafe {
             read(
-                form.architecture,
+                form.machine,
                 form.form,
                 bytes.as_ptr(),
                 8,
@@ -177,22 +176,22 @@ fn check_forms() {
             assert_eq!(ours, theirs, "write of {} to {word:02x?}", form.name);
             assert!(value.value != 0 || ours.len() == 8);
             if form.reads == Reads::Same {
-                let mut answers = [(0u64, false); 2];
-                for (read, answer) in [OURS.1, THEIRS.1].into_iter().zip(&mut answers) {
+                let mut results = [(0u64, 0u8); 2];
+                for (read, result) in [OURS.1, THEIRS.1].into_iter().zip(&mut results) {
                     let status = unsafe {
                         read(
-                            value.architecture,
+                            value.machine,
                             value.form,
                             word.as_ptr(),
                             8,
-                            &mut answer.0,
-                            &mut answer.1,
+                            &mut result.0,
+                            &mut result.1,
                         )
                     };
                     assert_eq!(status, 0);
                 }
                 assert_eq!(
-                    answers[0], answers[1],
+                    results[0], results[1],
                     "read of {} from {word:02x?}",
                     form.name
                 );
@@ -209,16 +208,16 @@ fn forms(report: &mut Report) {
         write_line(
             report,
             &mut random,
-            &name_of(form.architecture, form.name),
+            &line_of(form.machine, form.name),
             &values,
         );
     }
-    for architecture in 0..4 {
-        let values = mixed(&mut random, architecture, |_| true);
+    for machine in [AARCH64, RISCV, LOONGARCH64, PPC64] {
+        let values = mixed(&mut random, machine, |_| true);
         write_line(
             report,
             &mut random,
-            &name_of(architecture, "forms at random"),
+            &line_of(machine, "forms at random"),
             &values,
         );
     }
@@ -226,35 +225,33 @@ fn forms(report: &mut Report) {
     for form in &FORMS {
         let values = vec![value_of(&mut random, form); CALLS];
         let name = match form.reads {
-            Reads::Other => format!("{} (answers differ)", form.name),
+            Reads::Other => format!("{} (results differ)", form.name),
             _ => form.name.to_string(),
         };
         read_line(
             report,
             &mut random,
-            &name_of(form.architecture, &name),
+            &line_of(form.machine, &name),
             &values,
             form.reads != Reads::Missing,
         );
     }
-    for architecture in 0..4 {
-        let values = mixed(&mut random, architecture, |form| {
-            form.reads != Reads::Missing
-        });
+    for machine in [AARCH64, RISCV, LOONGARCH64, PPC64] {
+        let values = mixed(&mut random, machine, |form| form.reads != Reads::Missing);
         read_line(
             report,
             &mut random,
-            &name_of(architecture, "forms at random"),
+            &line_of(machine, "forms at random"),
             &values,
             true,
         );
     }
 }
 
-fn mixed(random: &mut Random, architecture: u32, is_wanted: impl Fn(&Form) -> bool) -> Vec<Value> {
+fn mixed(random: &mut Random, machine: u16, is_wanted: impl Fn(&Form) -> bool) -> Vec<Value> {
     let forms: Vec<&Form> = FORMS
         .iter()
-        .filter(|form| form.architecture == architecture && is_wanted(form))
+        .filter(|form| form.machine == machine && is_wanted(form))
         .collect();
     (0..CALLS)
         .map(|_| {
@@ -301,7 +298,7 @@ const SECTION: usize = 32;
 
 fn section_of(random: &mut Random, rewrite: &Rewrite) -> Vec<u8> {
     let mut section = random.bytes(SECTION);
-    if rewrite.architecture == 0 {
+    if rewrite.machine == AARCH64 {
         let word = match rewrite.number {
             // the registers of `MovkXn` are the same, and `LdrToAdd` wants a load of 64 bits
             5 => {
@@ -324,7 +321,7 @@ fn apply_all(apply: Apply, rewrites: &[&Rewrite], sections: &mut [u8]) -> u64 {
         let (mut offset, mut addend) = (8u64, -4i64);
         let status = unsafe {
             apply(
-                rewrite.architecture,
+                rewrite.machine,
                 rewrite.number,
                 rewrite.n,
                 section.as_mut_ptr(),
@@ -344,7 +341,7 @@ fn modifiers(modifier: Modifier, rewrites: &[&Rewrite]) -> u64 {
     let modifier = black_box(modifier);
     let (mut next, mut sum) = (0, 0u64);
     for rewrite in rewrites {
-        unsafe { modifier(rewrite.architecture, rewrite.number, rewrite.n, &mut next) };
+        unsafe { modifier(rewrite.machine, rewrite.number, rewrite.n, &mut next) };
         sum += u64::from(next);
     }
     sum
@@ -410,18 +407,18 @@ fn rewrites(report: &mut Report) {
         } else {
             format!("{} (bytes differ)", rewrite.name)
         };
-        line(&name_of(rewrite.architecture, &name), &[rewrite; COUNT]);
+        line(&line_of(rewrite.machine, &name), &[rewrite; COUNT]);
     }
     let mut random = Random::new(5);
-    for architecture in [0, 1, 4] {
+    for machine in [AARCH64, RISCV, X86_64] {
         let kinds: Vec<&Rewrite> = REWRITES
             .iter()
-            .filter(|rewrite| rewrite.architecture == architecture)
+            .filter(|rewrite| rewrite.machine == machine)
             .collect();
         let list: Vec<&Rewrite> = (0..COUNT)
             .map(|_| kinds[random.below(kinds.len() as u128) as usize])
             .collect();
-        line(&name_of(architecture, "rewrites at random"), &list);
+        line(&line_of(machine, "rewrites at random"), &list);
     }
     let all: Vec<&Rewrite> = (0..CALLS)
         .map(|_| &REWRITES[random.below(REWRITES.len() as u128) as usize])
@@ -437,30 +434,28 @@ fn rewrites(report: &mut Report) {
 
 // ---- relocations
 
-const LISTS: [&[(u32, u32)]; 5] = [
-    relocations::AARCH64,
-    relocations::RISCV,
-    relocations::LOONGARCH64,
-    relocations::PPC64,
-    relocations::X86_64,
-];
+/// The types of a machine's relocations: those that the library has a name for.
+fn types_of(machine: u16) -> Vec<u32> {
+    let architecture = Architecture::from_machine(machine).expect("one of five");
+    let is_known = |r_type: &u32| sathunne::relocation_name(architecture, *r_type).is_ok();
+    let types = (0..1 << 16).filter(is_known);
+    types
+        .filter(|r_type| machine != LOONGARCH64 || !OTHER_TYPES.contains(r_type))
+        .collect()
+}
 
 #[cfg(feature = "upstream")]
 fn check_rows() {
-    for (architecture, list) in LISTS.iter().enumerate() {
-        for &(number, elf) in *list {
-            let mut row = Row::default();
+    for machine in MACHINES {
+        for r_type in types_of(machine) {
+            let mut row = RelocationInfo::default();
             let mut info = std::mem::MaybeUninit::<theirs::Info>::uninit();
-            let ours = unsafe { linker_utils_relocation(architecture as u32, number, &mut row) };
-            let theirs = unsafe { theirs::relocation(architecture as u32, elf, info.as_mut_ptr()) };
-            assert_eq!(
-                ours, theirs,
-                "status of {elf} of {}",
-                ARCHITECTURES[architecture]
-            );
-            if ours == 0 && !(architecture == 0 && table::OTHER_ROWS.contains(&elf)) {
+            let ours = unsafe { linker_utils_relocation(machine, r_type, &mut row) };
+            let theirs = unsafe { theirs::relocation(machine, r_type, info.as_mut_ptr()) };
+            assert_eq!(ours, theirs, "status of {r_type} of {}", name_of(machine));
+            if ours == 0 && !(machine == AARCH64 && OTHER_ROWS.contains(&r_type)) {
                 let known = theirs::flattened(&unsafe { info.assume_init() });
-                assert_eq!(row, known, "row {elf} of {}", ARCHITECTURES[architecture]);
+                assert_eq!(row, known, "row {r_type} of {}", name_of(machine));
             }
         }
     }
@@ -469,12 +464,12 @@ fn check_rows() {
 #[cfg(not(feature = "upstream"))]
 fn check_rows() {}
 
-fn rows_of_ours(architecture: u32, numbers: &[(u32, u32)]) -> u64 {
-    let relocation: unsafe extern "C" fn(u32, u32, *mut Row) -> u32 =
+fn rows_of_ours(machine: u16, types: &[u32]) -> u64 {
+    let relocation: unsafe extern "C" fn(u16, u32, *mut RelocationInfo) -> u32 =
         black_box(linker_utils_relocation);
-    let (mut row, mut sum) = (Row::default(), 0u64);
-    for &(number, _) in numbers {
-        let status = unsafe { relocation(architecture, number, &mut row) };
+    let (mut row, mut sum) = (RelocationInfo::default(), 0u64);
+    for &r_type in types {
+        let status = unsafe { relocation(machine, r_type, &mut row) };
         sum = sum
             .wrapping_add(row.alignment)
             .wrapping_add(u64::from(status));
@@ -483,13 +478,13 @@ fn rows_of_ours(architecture: u32, numbers: &[(u32, u32)]) -> u64 {
 }
 
 #[cfg(feature = "upstream")]
-fn rows_of_theirs(architecture: u32, numbers: &[(u32, u32)]) -> u64 {
-    let relocation: unsafe extern "C" fn(u32, u32, *mut theirs::Info) -> u32 =
+fn rows_of_theirs(machine: u16, types: &[u32]) -> u64 {
+    let relocation: unsafe extern "C" fn(u16, u32, *mut theirs::Info) -> u32 =
         black_box(theirs::relocation);
     let mut info = std::mem::MaybeUninit::<theirs::Info>::zeroed();
     let mut sum = 0u64;
-    for &(_, elf) in numbers {
-        let status = unsafe { relocation(architecture, elf, info.as_mut_ptr()) };
+    for &r_type in types {
+        let status = unsafe { relocation(machine, r_type, info.as_mut_ptr()) };
         let alignment = unsafe { (*info.as_ptr()).alignment };
         sum = sum.wrapping_add(alignment).wrapping_add(u64::from(status));
     }
@@ -497,36 +492,32 @@ fn rows_of_theirs(architecture: u32, numbers: &[(u32, u32)]) -> u64 {
 }
 
 #[cfg(not(feature = "upstream"))]
-fn rows_of_theirs(_architecture: u32, _numbers: &[(u32, u32)]) -> u64 {
+fn rows_of_theirs(_machine: u16, _types: &[u32]) -> u64 {
     0
 }
 
 fn rows(report: &mut Report) {
     let mut random = Random::new(6);
-    report.heading("Rows of relocations, by names at random");
-    for (architecture, list) in LISTS.iter().enumerate() {
-        let numbers: Vec<(u32, u32)> = (0..CALLS)
-            .map(|_| list[random.below(list.len() as u128) as usize])
-            .collect();
-        let architecture = architecture as u32;
-        report.line(
-            ARCHITECTURES[architecture as usize],
-            CALLS,
-            1.0,
-            Side::new(|| done(rows_of_ours(architecture, &numbers))),
-            side_if(|| Side::new(|| done(rows_of_theirs(architecture, &numbers)))),
-        );
-    }
-    for (name, architecture, at) in [("AArch64, one name", 0, 28), ("x86-64, one name", 4, 5)] {
-        let numbers = vec![LISTS[architecture as usize][at]; CALLS];
+    report.heading("Rows of relocations, by ELF types at random");
+    let mut line = |name: &str, machine: u16, types: &[u32]| {
         report.line(
             name,
             CALLS,
             1.0,
-            Side::new(|| done(rows_of_ours(architecture, &numbers))),
-            side_if(|| Side::new(|| done(rows_of_theirs(architecture, &numbers)))),
+            Side::new(|| done(rows_of_ours(machine, types))),
+            side_if(|| Side::new(|| done(rows_of_theirs(machine, types)))),
         );
+    };
+    for machine in MACHINES {
+        let known = types_of(machine);
+        let types: Vec<u32> = (0..CALLS)
+            .map(|_| known[random.below(known.len() as u128) as usize])
+            .collect();
+        line(name_of(machine), machine, &types);
     }
+    // `R_AARCH64_TSTBR14` and `R_X86_64_16`
+    line("AArch64, one type", AARCH64, &[279; CALLS]);
+    line("x86-64, one type", X86_64, &[12; CALLS]);
 }
 
 // ---- numbers
@@ -647,21 +638,69 @@ const BLANK: Delta = Delta {
 fn created(list: &[Deletion]) -> Vec<Delta> {
     let mut deltas = vec![BLANK; list.len()];
     let status = unsafe {
-        linker_utils_deltas_create(list.as_ptr(), list.len(), deltas.as_mut_ptr(), list.len())
+        linker_utils_deltas_create_nonnull(
+            list.as_ptr(),
+            list.len(),
+            deltas.as_mut_ptr(),
+            list.len(),
+            &mut 0,
+        )
     };
     assert_eq!(status, 0);
     deltas
 }
 
-type Translate = unsafe extern "C" fn(*const Delta, usize, u64, *mut u64) -> u32;
+/// Deltas, and the heads of their blocks.
+struct Ours {
+    deltas: Vec<Delta>,
+    heads: Vec<BlockHead>,
+}
 
-fn translate_by_ours(translate: Translate, deltas: &[Delta], queries: &[u64]) -> u64 {
-    let translate = black_box(translate);
-    let (mut answer, mut sum) = (0, 0u64);
-    for query in queries {
-        let status = unsafe { translate(deltas.as_ptr(), deltas.len(), *query, &mut answer) };
+fn inputs_by_ours(ours: &Ours, queries: &[u64]) -> u64 {
+    let translate: unsafe extern "C" fn(*const Delta, usize, u64) -> u64 =
+        black_box(linker_utils_deltas_input_to_output_nonnull);
+    let (deltas, len) = (ours.deltas.as_ptr(), ours.deltas.len());
+    queries.iter().fold(0u64, |sum, &query| {
+        sum.wrapping_add(unsafe { translate(deltas, len, query) })
+    })
+}
+
+fn inputs_by_heads(ours: &Ours, queries: &[u64]) -> u64 {
+    let translate: unsafe extern "C" fn(*const Delta, usize, *const BlockHead, usize, u64) -> u64 =
+        black_box(linker_utils_deltas_input_to_output_by_heads_nonnull);
+    let (deltas, len) = (ours.deltas.as_ptr(), ours.deltas.len());
+    let (heads, blocks) = (ours.heads.as_ptr(), ours.heads.len());
+    queries.iter().fold(0u64, |sum, &query| {
+        sum.wrapping_add(unsafe { translate(deltas, len, heads, blocks, query) })
+    })
+}
+
+fn outputs_by_ours(ours: &Ours, queries: &[u64]) -> u64 {
+    let translate: unsafe extern "C" fn(*const Delta, usize, u64, *mut u64) -> u32 =
+        black_box(linker_utils_deltas_output_to_input_nonnull);
+    let (deltas, len) = (ours.deltas.as_ptr(), ours.deltas.len());
+    let (mut input, mut sum) = (0, 0u64);
+    for &query in queries {
+        let status = unsafe { translate(deltas, len, query, &mut input) };
         sum = sum
-            .wrapping_add(answer)
+            .wrapping_add(input)
+            .wrapping_add(u64::from(status) << 48);
+    }
+    sum
+}
+
+type OutputByHeads =
+    unsafe extern "C" fn(*const Delta, usize, *const BlockHead, usize, u64, *mut u64) -> u32;
+
+fn outputs_by_heads(ours: &Ours, queries: &[u64]) -> u64 {
+    let translate: OutputByHeads = black_box(linker_utils_deltas_output_to_input_by_heads_nonnull);
+    let (deltas, len) = (ours.deltas.as_ptr(), ours.deltas.len());
+    let (heads, blocks) = (ours.heads.as_ptr(), ours.heads.len());
+    let (mut input, mut sum) = (0, 0u64);
+    for &query in queries {
+        let status = unsafe { translate(deltas, len, heads, blocks, query, &mut input) };
+        sum = sum
+            .wrapping_add(input)
             .wrapping_add(u64::from(status) << 48);
     }
     sum
@@ -671,18 +710,22 @@ fn translate_by_ours(translate: Translate, deltas: &[Delta], queries: &[u64]) ->
 mod translated {
     use super::{black_box, theirs};
 
-    pub type Translate = unsafe extern "C" fn(&theirs::Deltas, u64, *mut u64) -> u32;
+    pub fn inputs(deltas: &theirs::Deltas, queries: &[u64]) -> u64 {
+        let translate: unsafe extern "C" fn(&theirs::Deltas, u64) -> u64 =
+            black_box(theirs::input_to_output);
+        queries.iter().fold(0u64, |sum, &query| {
+            sum.wrapping_add(unsafe { translate(deltas, query) })
+        })
+    }
 
-    pub const IN: Translate = theirs::input_to_output;
-    pub const OUT: Translate = theirs::output_to_input;
-
-    pub fn sum(translate: Translate, deltas: &theirs::Deltas, queries: &[u64]) -> u64 {
-        let translate = black_box(translate);
-        let (mut answer, mut sum) = (0, 0u64);
-        for query in queries {
-            let status = unsafe { translate(deltas, *query, &mut answer) };
+    pub fn outputs(deltas: &theirs::Deltas, queries: &[u64]) -> u64 {
+        let translate: unsafe extern "C" fn(&theirs::Deltas, u64, *mut u64) -> u32 =
+            black_box(theirs::output_to_input);
+        let (mut input, mut sum) = (0, 0u64);
+        for &query in queries {
+            let status = unsafe { translate(deltas, query, &mut input) };
             sum = sum
-                .wrapping_add(answer)
+                .wrapping_add(input)
                 .wrapping_add(u64::from(status) << 48);
         }
         sum
@@ -713,12 +756,11 @@ mod translated {
 
 #[cfg(not(feature = "upstream"))]
 mod translated {
-    pub type Translate = ();
+    pub fn inputs(_deltas: &(), _queries: &[u64]) -> u64 {
+        0
+    }
 
-    pub const IN: Translate = ();
-    pub const OUT: Translate = ();
-
-    pub fn sum(_translate: Translate, _deltas: &(), _queries: &[u64]) -> u64 {
+    pub fn outputs(_deltas: &(), _queries: &[u64]) -> u64 {
         0
     }
 
@@ -738,7 +780,10 @@ fn translations(report: &mut Report, is_quick: bool) {
     report.heading("Translations of an offset");
     for count in [10, 1_000, 100_000, 10_000_000] {
         let (list, len) = deletions(&mut random, count);
-        let ours = created(&ours_of(&list));
+        let deltas = created(&ours_of(&list));
+        let mut heads = vec![BlockHead::default(); sathunne::deltas_block_count(&deltas)];
+        assert_eq!(sathunne::deltas_heads(&deltas, &mut heads), Ok(()));
+        let ours = Ours { deltas, heads };
         let theirs = translated::new(list.clone());
         let queries = if count > 1_000_000 { 5_000 } else { 20_000 };
         let mut inputs: Vec<u64> = Vec::with_capacity(queries);
@@ -748,22 +793,35 @@ fn translations(report: &mut Report, is_quick: bool) {
                 inputs.push(query);
             }
         }
-        let kept = len - ours.last().map_or(0, |delta| delta.cumulative_deleted);
+        let kept = len - sathunne::deltas_total_deleted(&ours.deltas);
         let outputs: Vec<u64> = (0..queries)
             .map(|_| random.below(u128::from(kept)))
             .collect();
         let share = if is_quick { 1.0 } else { 3.0 };
-        for (name, of_ours, of_theirs, random_queries) in [
+        type ByOurs = fn(&Ours, &[u64]) -> u64;
+        type ByTheirs<T> = fn(&T, &[u64]) -> u64;
+        fn both<T>(_: &T, ours: ByOurs, theirs: ByTheirs<T>) -> (ByOurs, ByTheirs<T>) {
+            (ours, theirs)
+        }
+        for (name, (of_ours, of_theirs), random_queries) in [
             (
                 "input to output",
-                linker_utils_deltas_input_to_output as Translate,
-                translated::IN,
+                both(&theirs, inputs_by_ours, translated::inputs),
+                inputs.clone(),
+            ),
+            (
+                "input to output by heads",
+                both(&theirs, inputs_by_heads, translated::inputs),
                 inputs,
             ),
             (
                 "output to input",
-                linker_utils_deltas_output_to_input,
-                translated::OUT,
+                both(&theirs, outputs_by_ours, translated::outputs),
+                outputs.clone(),
+            ),
+            (
+                "output to input by heads",
+                both(&theirs, outputs_by_heads, translated::outputs),
                 outputs,
             ),
         ] {
@@ -772,8 +830,8 @@ fn translations(report: &mut Report, is_quick: bool) {
             for (order, queries) in [("random", random_queries), ("ascending", ascending)] {
                 if cfg!(feature = "upstream") {
                     assert_eq!(
-                        translate_by_ours(of_ours, &ours, &queries),
-                        translated::sum(of_theirs, &theirs, &queries),
+                        of_ours(&ours, &queries),
+                        of_theirs(&theirs, &queries),
                         "{name} over {count}"
                     );
                 }
@@ -781,8 +839,8 @@ fn translations(report: &mut Report, is_quick: bool) {
                     &format!("{name}, {count} deletions, {order}"),
                     queries.len(),
                     share,
-                    Side::new(|| done(translate_by_ours(of_ours, &ours, &queries))),
-                    side_if(|| Side::new(|| done(translated::sum(of_theirs, &theirs, &queries)))),
+                    Side::new(|| done(of_ours(&ours, &queries))),
+                    side_if(|| Side::new(|| done(of_theirs(&theirs, &queries)))),
                 );
             }
         }
@@ -809,13 +867,14 @@ fn cursors(report: &mut Report) {
         let mut of_theirs = vec![0u64; wanted];
         let walk = |outputs: &mut [u64]| {
             let status = unsafe {
-                linker_utils_deltas_translate_all(
+                linker_utils_deltas_translate_all_nonnull(
                     ours.as_ptr(),
                     ours.len(),
                     queries.as_ptr(),
                     queries.len(),
                     outputs.as_mut_ptr(),
                     outputs.len(),
+                    &mut 0,
                 )
             };
             assert_eq!(status, 0);
@@ -894,11 +953,12 @@ fn new_line(report: &mut Report, list: &[(u64, u32)]) {
         Side::new(|| {
             let deltas = black_box(&mut deltas);
             let status = unsafe {
-                linker_utils_deltas_create(
+                linker_utils_deltas_create_nonnull(
                     raw.as_ptr(),
                     raw.len(),
                     deltas.as_mut_ptr(),
                     deltas.len(),
+                    &mut 0,
                 )
             };
             assert_eq!(status, 0);
@@ -924,13 +984,14 @@ fn merge_line(report: &mut Report, name: &str, first: &[(u64, u32)], second: &[(
     let mut merged = vec![BLANK; first.len() + second.len()];
     let merge = |merged: &mut [Delta]| {
         let status = unsafe {
-            linker_utils_deltas_merge(
+            linker_utils_deltas_merge_nonnull(
                 old.as_ptr(),
                 old.len(),
                 additional.as_ptr(),
                 additional.len(),
                 merged.as_mut_ptr(),
                 merged.len(),
+                &mut 0,
             )
         };
         assert_eq!(status, 0, "{name}");

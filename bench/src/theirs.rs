@@ -1,13 +1,14 @@
 //! The original crate behind calls of the same shape: numbers in, the same tests of numbers and of
 //! lengths, a status out. No call is inlined.
 
-use crate::table::Row;
+use crate::table::{AARCH64, LOONGARCH64, PPC64, RISCV, X86_64};
 use linker_utils::elf::{
     AArch64Instruction, LoongArch64Instruction, PageMask, Ppc64Instruction, RelocationInstruction,
     RelocationKind, RelocationKindInfo, RelocationSize, RiscVInstruction,
 };
 use linker_utils::relaxation::{RelocationModifier, SectionRelaxDeltas};
 use linker_utils::{aarch64, loongarch64, ppc64, riscv64, x86_64};
+use sathunne::raw::RelocationInfo;
 use std::slice;
 
 const OK: u32 = 0;
@@ -27,9 +28,9 @@ enum Form {
 }
 
 #[inline(always)]
-fn form_of(architecture: u32, form: u32) -> Option<Form> {
-    Some(match architecture {
-        0 => Form::AArch64(match form {
+fn form_of(machine: u16, form: u32) -> Option<Form> {
+    Some(match machine {
+        AARCH64 => Form::AArch64(match form {
             0 => AArch64Instruction::Adr,
             1 => AArch64Instruction::Movkz,
             2 => AArch64Instruction::Movnz,
@@ -43,7 +44,7 @@ fn form_of(architecture: u32, form: u32) -> Option<Form> {
             10 => AArch64Instruction::MachOLow12,
             _ => return None,
         }),
-        1 => Form::RiscV(match form {
+        RISCV => Form::RiscV(match form {
             0 => RiscVInstruction::UType,
             1 => RiscVInstruction::IType,
             2 => RiscVInstruction::SType,
@@ -55,7 +56,7 @@ fn form_of(architecture: u32, form: u32) -> Option<Form> {
             8 => RiscVInstruction::UiType,
             _ => return None,
         }),
-        2 => Form::LoongArch64(match form {
+        LOONGARCH64 => Form::LoongArch64(match form {
             0 => LoongArch64Instruction::Shift5,
             1 => LoongArch64Instruction::Shift10,
             2 => LoongArch64Instruction::Branch26,
@@ -64,7 +65,7 @@ fn form_of(architecture: u32, form: u32) -> Option<Form> {
             5 => LoongArch64Instruction::Call36,
             _ => return None,
         }),
-        3 => Form::Ppc64(match form {
+        PPC64 => Form::Ppc64(match form {
             0 => Ppc64Instruction::D,
             1 => Ppc64Instruction::Ds,
             2 => Ppc64Instruction::Branch14,
@@ -89,14 +90,14 @@ fn window(form: Form) -> usize {
 
 #[inline(never)]
 pub unsafe extern "C" fn write(
-    architecture: u32,
+    machine: u16,
     form: u32,
     value: u64,
     negative: bool,
     dest: *mut u8,
     dest_len: usize,
 ) -> u32 {
-    let Some(form) = form_of(architecture, form) else {
+    let Some(form) = form_of(machine, form) else {
         return UNKNOWN_FORM;
     };
     if dest_len < window(form) {
@@ -114,14 +115,14 @@ pub unsafe extern "C" fn write(
 
 #[inline(never)]
 pub unsafe extern "C" fn read(
-    architecture: u32,
+    machine: u16,
     form: u32,
     bytes: *const u8,
     bytes_len: usize,
     value: *mut u64,
-    negative: *mut bool,
+    negative: *mut u8,
 ) -> u32 {
-    let Some(form) = form_of(architecture, form) else {
+    let Some(form) = form_of(machine, form) else {
         return UNKNOWN_FORM;
     };
     if bytes_len < window(form) {
@@ -136,7 +137,7 @@ pub unsafe extern "C" fn read(
     };
     unsafe {
         *value = read.0;
-        *negative = read.1;
+        *negative = u8::from(read.1);
     }
     OK
 }
@@ -151,12 +152,12 @@ enum Rewrite {
 }
 
 #[inline(always)]
-fn rewrite_of(architecture: u32, rewrite: u32, n: u8) -> Option<Rewrite> {
+fn rewrite_of(machine: u16, rewrite: u32, n: u8) -> Option<Rewrite> {
     use aarch64::RelaxationKind as A;
     use riscv64::RelaxationKind as R;
     use x86_64::RelaxationKind as X;
-    Some(match architecture {
-        0 => Rewrite::AArch64(match rewrite {
+    Some(match machine {
+        AARCH64 => Rewrite::AArch64(match rewrite {
             0 => A::NoOp,
             1 => A::ReplaceWithNop,
             2 => A::MovzX0Lsl16,
@@ -172,7 +173,7 @@ fn rewrite_of(architecture: u32, rewrite: u32, n: u8) -> Option<Rewrite> {
             12 => A::AdrpAddToNopAdr,
             _ => return None,
         }),
-        1 => Rewrite::RiscV(match rewrite {
+        RISCV => Rewrite::RiscV(match rewrite {
             0 => R::NoOp,
             1 => R::ReplaceWithNop,
             2 => R::CallToJal,
@@ -181,16 +182,16 @@ fn rewrite_of(architecture: u32, rewrite: u32, n: u8) -> Option<Rewrite> {
             5 => R::Lo12Rs1ToZero,
             _ => return None,
         }),
-        2 => Rewrite::LoongArch64(match rewrite {
+        LOONGARCH64 => Rewrite::LoongArch64(match rewrite {
             0 => loongarch64::RelaxationKind::NoOp,
             1 => loongarch64::RelaxationKind::ReplaceWithNop,
             _ => return None,
         }),
-        3 => Rewrite::Ppc64(match rewrite {
+        PPC64 => Rewrite::Ppc64(match rewrite {
             0 => ppc64::RelaxationKind::NoOp,
             _ => return None,
         }),
-        4 => Rewrite::X86(match rewrite {
+        X86_64 => Rewrite::X86(match rewrite {
             0 => X::MovIndirectToLea,
             1 => X::MovIndirectToAbsolute,
             2 => X::RexMovIndirectToAbsolute(n),
@@ -260,7 +261,7 @@ fn bytes_of(rewrite: Rewrite) -> (u64, u64) {
 
 #[inline(never)]
 pub unsafe extern "C" fn apply(
-    architecture: u32,
+    machine: u16,
     rewrite: u32,
     n: u8,
     section: *mut u8,
@@ -268,7 +269,7 @@ pub unsafe extern "C" fn apply(
     offset: *mut u64,
     addend: *mut i64,
 ) -> u32 {
-    let Some(rewrite) = rewrite_of(architecture, rewrite, n) else {
+    let Some(rewrite) = rewrite_of(machine, rewrite, n) else {
         return UNKNOWN_REWRITE;
     };
     let (section, offset, addend) = unsafe {
@@ -295,12 +296,12 @@ pub unsafe extern "C" fn apply(
 
 #[inline(never)]
 pub unsafe extern "C" fn next_modifier(
-    architecture: u32,
+    machine: u16,
     rewrite: u32,
     n: u8,
     modifier: *mut u32,
 ) -> u32 {
-    let Some(rewrite) = rewrite_of(architecture, rewrite, n) else {
+    let Some(rewrite) = rewrite_of(machine, rewrite, n) else {
         return UNKNOWN_REWRITE;
     };
     let next = match rewrite {
@@ -322,16 +323,16 @@ pub unsafe extern "C" fn next_modifier(
 /// What a relocation means, by its number in ELF files, as the crate itself says it.
 #[inline(never)]
 pub unsafe extern "C" fn relocation(
-    architecture: u32,
-    number: u32,
+    machine: u16,
+    r_type: u32,
     row: *mut RelocationKindInfo,
 ) -> u32 {
-    let info = match architecture {
-        0 => aarch64::relocation_type_from_raw(number),
-        1 => riscv64::relocation_type_from_raw(number),
-        2 => loongarch64::relocation_type_from_raw(number),
-        3 => ppc64::relocation_type_from_raw(number),
-        4 => x86_64::relocation_from_raw(number),
+    let info = match machine {
+        AARCH64 => aarch64::relocation_type_from_raw(r_type),
+        RISCV => riscv64::relocation_type_from_raw(r_type),
+        LOONGARCH64 => loongarch64::relocation_type_from_raw(r_type),
+        PPC64 => ppc64::relocation_type_from_raw(r_type),
+        X86_64 => x86_64::relocation_from_raw(r_type),
         _ => None,
     };
     match info {
@@ -344,79 +345,39 @@ pub unsafe extern "C" fn relocation(
 }
 
 fn kind_number(kind: RelocationKind) -> u32 {
-    const NAMES: [&str; 40] = [
-        "None",
-        "Absolute",
-        "AbsoluteLowPart",
-        "AbsoluteSet",
-        "AbsoluteSetWord6",
-        "AbsoluteAddition",
-        "AbsoluteAdditionWord6",
-        "AbsoluteSubtraction",
-        "AbsoluteSubtractionWord6",
-        "PairSubtractionULEB128RiscV",
-        "PairSubtractionULEB128LoongArch",
-        "Relative",
-        "RelativeRiscVLow12",
-        "RelativeLoongArchHigh",
-        "GotRelative",
-        "GotRelativeLoongArch64",
-        "GotRelGotBase",
-        "Got",
-        "SymRelGotBase",
-        "PltRelGotBase",
-        "PltRelative",
-        "SymbolSize",
-        "Alignment",
-        "TlsGd",
-        "TlsGdGot",
-        "TlsGdGotBase",
-        "TlsLd",
-        "TlsLdGot",
-        "TlsLdGotBase",
-        "DtpOff",
-        "GotTpOff",
-        "GotTpOffGot",
-        "GotTpOffGotBase",
-        "GotTpOffLoongArch64",
-        "TpOff",
-        "TlsDesc",
-        "TlsDescGot",
-        "TlsDescGotBase",
-        "TlsDescLoongArch64",
-        "TlsDescCall",
-    ];
     let name = format!("{kind:?}");
-    NAMES.iter().position(|&known| known == name).expect("kind") as u32
+    let ours = sathunne::RelocationKind::ALL.iter();
+    let ours = ours.copied().find(|known| format!("{known:?}") == name);
+    ours.expect("the same names").number()
 }
 
 /// The same as C sees it.
-pub fn flattened(info: &RelocationKindInfo) -> Row {
-    let (is_bits, byte_size, first_bit, end_bit, architecture, form) = match info.size {
-        RelocationSize::ByteSize(size) => (false, size, 0, 0, 0, 0),
+pub fn flattened(info: &RelocationKindInfo) -> RelocationInfo {
+    let (is_bits, byte_size, first_bit, end_bit, machine, form) = match info.size {
+        RelocationSize::ByteSize(size) => (0, size, 0, 0, 0, 0),
         RelocationSize::BitMasking { range, insn } => {
-            let (architecture, form) = match insn {
-                RelocationInstruction::AArch64(form) => (0, format!("{form:?}")),
-                RelocationInstruction::RiscV(form) => (1, format!("{form:?}")),
-                RelocationInstruction::LoongArch64(form) => (2, format!("{form:?}")),
-                RelocationInstruction::Ppc64(form) => (3, format!("{form:?}")),
+            let (machine, form) = match insn {
+                RelocationInstruction::AArch64(form) => (AARCH64, format!("{form:?}")),
+                RelocationInstruction::RiscV(form) => (RISCV, format!("{form:?}")),
+                RelocationInstruction::LoongArch64(form) => (LOONGARCH64, format!("{form:?}")),
+                RelocationInstruction::Ppc64(form) => (PPC64, format!("{form:?}")),
             };
             let form = crate::table::FORMS
                 .iter()
-                .find(|known| known.architecture == architecture && known.name == form)
+                .find(|known| known.machine == machine && known.name == form)
                 .expect("form")
                 .number;
-            (true, 0, range.start, range.end, architecture, form)
+            (1, 0, range.start, range.end, machine, form)
         }
     };
     let (min, max) = info.range.bounds.unwrap_or((0, 0));
-    Row {
+    RelocationInfo {
         kind: kind_number(info.kind),
         is_bits,
         byte_size,
         first_bit,
         end_bit,
-        architecture,
+        machine,
         form,
         mask: match info.mask {
             None => 0,
@@ -424,13 +385,13 @@ pub fn flattened(info: &RelocationKindInfo) -> Row {
             Some(PageMask::GotEntryAndPosition(_)) => 2,
             Some(PageMask::GotBase(_)) => 3,
         },
-        has_range: info.range.bounds.is_some(),
+        has_range: u8::from(info.range.bounds.is_some()),
         min,
         max,
         alignment: info.alignment,
         bias: info.bias.map_or(0, |bias| bias.value()),
-        thunkable: info.thunkable,
-        implicit_addend: info.implicit_addend,
+        thunkable: u8::from(info.thunkable),
+        implicit_addend: u8::from(info.implicit_addend),
     }
 }
 
@@ -475,13 +436,8 @@ pub fn merge(deltas: &mut SectionRelaxDeltas, additional: Vec<(u64, u32)>) {
 }
 
 #[inline(never)]
-pub unsafe extern "C" fn input_to_output(
-    deltas: &SectionRelaxDeltas,
-    input_offset: u64,
-    output_offset: *mut u64,
-) -> u32 {
-    unsafe { *output_offset = deltas.input_to_output_offset(input_offset) };
-    OK
+pub unsafe extern "C" fn input_to_output(deltas: &SectionRelaxDeltas, input_offset: u64) -> u64 {
+    deltas.input_to_output_offset(input_offset)
 }
 
 #[inline(never)]

@@ -1,89 +1,77 @@
-//! The verified core of a linker, over its static library: what each call does and refuses is proved of
-//! the library, and said in `include/linker_utils.h`.
+//! The verified core of a linker, over its static library: what each call does, and when it fails, is
+//! proved of the library and said in `include/linker_utils.h`.
 //!
-//! A form, a rewrite and a relocation are numbers, which come from the enums of this crate. A number that
-//! no enum has is refused.
+//! ```
+//! use sathunne::{relocation, write, Architecture, RelocationSize, Status};
+//!
+//! // `R_AARCH64_CONDBR19` (280) in a `b.eq`, over a distance of 8 bytes
+//! let distance: i64 = 8;
+//! let info = relocation(Architecture::AArch64, 280)?;
+//! let mut insn = 0x5400_0000_u32.to_le_bytes();
+//! if let RelocationSize::Bits { range, form } = info.size {
+//!     let bits = (distance as u64 >> range.start) & ((1 << range.len()) - 1);
+//!     write(form, bits, distance < 0, &mut insn)?;
+//! }
+//! assert_eq!(u32::from_le_bytes(insn), 0x5400_0040);
+//! # Ok::<(), Status>(())
+//! ```
 
 mod names;
-mod raw;
+pub mod raw;
 
 pub use names::*;
+use std::error::Error;
+use std::fmt;
+use std::ops::Range;
 
-/// A form of instructions that hold a value.
-#[derive(Debug, Clone, Copy, PartialEq, Eq)]
-pub struct Form {
-    architecture: u32,
-    number: u32,
+/// Where a relocation's value goes.
+#[derive(Debug, Clone, PartialEq, Eq)]
+pub enum RelocationSize {
+    /// So many whole bytes, the lowest first.
+    Bytes(u8),
+    /// These bits of the value into the instruction of a form.
+    Bits { range: Range<u8>, form: Form },
 }
 
-impl Form {
-    /// The form of these numbers, if there is one.
-    pub const fn numbered(architecture: u32, number: u32) -> Form {
-        Form {
-            architecture,
-            number,
-        }
-    }
-}
-
-/// A rewrite of an instruction.
-#[derive(Debug, Clone, Copy, PartialEq, Eq)]
-pub struct Rewrite {
-    architecture: u32,
-    number: u32,
-    n: u8,
-}
-
-impl Rewrite {
-    /// The rewrite of these numbers, if there is one; `n` is that of the instruction's bytes before the
-    /// field.
-    pub const fn numbered(architecture: u32, number: u32, n: u8) -> Rewrite {
-        Rewrite {
-            architecture,
-            number,
-            n,
-        }
-    }
-}
-
-/// A relocation.
-#[derive(Debug, Clone, Copy, PartialEq, Eq)]
-pub struct Relocation {
-    architecture: u32,
-    number: u32,
-}
-
-impl Relocation {
-    /// The relocation of these numbers, if there is one.
-    pub const fn numbered(architecture: u32, number: u32) -> Relocation {
-        Relocation {
-            architecture,
-            number,
-        }
-    }
-}
-
-/// What a relocation means, in the numbers of the enums.
-#[repr(C)]
-#[derive(Debug, Clone, Copy, Default, PartialEq, Eq)]
-pub struct Row {
-    /// The place in `RelocationKind`.
-    pub kind: u32,
-    pub is_bits: bool,
-    pub byte_size: u8,
-    pub first_bit: u8,
-    pub end_bit: u8,
-    pub architecture: u32,
-    pub form: u32,
-    /// The place in `Mask`.
-    pub mask: u32,
-    pub has_range: bool,
-    pub min: i64,
-    pub max: i64,
+/// What a relocation means. How it is applied is said at `struct linker_utils_relocation_info` in
+/// `include/linker_utils.h`.
+#[derive(Debug, Clone, PartialEq, Eq)]
+pub struct RelocationInfo {
+    pub kind: RelocationKind,
+    pub size: RelocationSize,
+    pub mask: Option<PageMask>,
+    /// The values that are allowed, or `None` where all are.
+    pub range: Option<Range<i64>>,
+    /// What the value has to be a multiple of.
     pub alignment: u64,
+    /// What is added first; 0 where nothing is.
     pub bias: u64,
+    /// Whether a thunk may stand in for a target that is out of range.
     pub thunkable: bool,
+    /// Whether the addend stands in the section.
     pub implicit_addend: bool,
+}
+
+impl From<raw::RelocationInfo> for RelocationInfo {
+    fn from(info: raw::RelocationInfo) -> RelocationInfo {
+        let size = match info.is_bits {
+            0 => RelocationSize::Bytes(info.byte_size),
+            _ => RelocationSize::Bits {
+                range: info.first_bit..info.end_bit,
+                form: Form::from_numbers(info.machine, info.form).expect("a form of the library's"),
+            },
+        };
+        RelocationInfo {
+            kind: RelocationKind::from_number(info.kind).expect("a kind of the library's"),
+            size,
+            mask: PageMask::from_number(info.mask),
+            range: (info.has_range != 0).then_some(info.min..info.max),
+            alignment: info.alignment,
+            bias: info.bias,
+            thunkable: info.thunkable != 0,
+            implicit_addend: info.implicit_addend != 0,
+        }
+    }
 }
 
 /// Some bytes of an input section that are deleted.
@@ -103,125 +91,187 @@ pub struct Delta {
     pub bytes_deleted: u32,
 }
 
-fn answer<T>(status: u32, value: T) -> Result<T, Status> {
-    match status.checked_sub(1) {
-        None => Ok(value),
-        Some(place) => Err(Status::ALL[place as usize]),
+/// The first delta of a block of 64, as far as a search reads it.
+#[repr(C)]
+#[derive(Debug, Clone, Copy, Default, PartialEq, Eq)]
+pub struct BlockHead {
+    pub input_offset: u64,
+    pub output_place: u64,
+}
+
+/// A RISC-V call: the offset in the input section of its `auipc`, and of what it calls.
+#[repr(C)]
+#[derive(Debug, Clone, Copy, Default, PartialEq, Eq)]
+pub struct Call {
+    pub site: u64,
+    pub target: u64,
+}
+
+fn result_of<T>(status: u32, value: T) -> Result<T, Status> {
+    match status {
+        0 => Ok(value),
+        _ => Err(Status::from_number(status).expect("a status of the library's")),
     }
 }
 
-// SAFETY of each call below: a slice's pointer and length are its own, a reference is of one value, and
-// the declarations in `raw` fit the library. It asks no more.
-
-/// The length in bytes of the window that a form reads and writes.
-pub fn window(form: Form) -> Result<usize, Status> {
-    let mut window = 0;
-    let status = unsafe { raw::linker_utils_window(form.architecture, form.number, &mut window) };
-    answer(status, window)
+/// Why a call over an array fails, and at which of its entries, where it is one's fault.
+#[derive(Debug, Clone, Copy, PartialEq, Eq)]
+pub struct ArrayError {
+    pub status: Status,
+    pub index: Option<usize>,
 }
 
-/// Whether `write` of the value to these bytes would be taken.
-pub fn fits(form: Form, value: u64, bytes: &[u8]) -> Result<(), Status> {
+impl fmt::Display for ArrayError {
+    fn fmt(&self, f: &mut fmt::Formatter<'_>) -> fmt::Result {
+        write!(f, "{}", self.status)?;
+        match self.index {
+            Some(index) => write!(f, " It is entry {index}."),
+            None => Ok(()),
+        }
+    }
+}
+
+impl Error for ArrayError {}
+
+impl From<Status> for ArrayError {
+    fn from(status: Status) -> ArrayError {
+        let index = None;
+        ArrayError { status, index }
+    }
+}
+
+/// The result of a call that writes the index of an entry where the status speaks of one.
+fn result_over(call: impl FnOnce(&mut usize) -> u32) -> Result<(), ArrayError> {
+    let mut faulty = 0;
+    result_of(call(&mut faulty), ()).map_err(|status| match status {
+        Status::DifferentLengths | Status::OutOfMemory | Status::UnknownLinkRegister => {
+            status.into()
+        }
+        _ => ArrayError {
+            status,
+            index: Some(faulty),
+        },
+    })
+}
+
+// SAFETY of each call below: a slice's pointer and length are its own, a reference is of one value, and
+// the declarations in `raw` fit the library. It requires no more.
+
+/// The length in bytes of the window that a form reads and writes.
+pub fn window(form: impl Into<Form>) -> Result<usize, Status> {
+    let (machine, form) = form.into().numbers();
+    let mut window = 0;
+    let status = unsafe { raw::linker_utils_window(machine, form, &mut window) };
+    result_of(status, window)
+}
+
+/// Whether `write` of the value to these bytes would succeed.
+pub fn fits(form: impl Into<Form>, value: u64, bytes: &[u8]) -> Result<(), Status> {
+    let (machine, form) = form.into().numbers();
     let (at, len) = (bytes.as_ptr(), bytes.len());
-    let status = unsafe { raw::linker_utils_fits(form.architecture, form.number, value, at, len) };
-    answer(status, ())
+    let status = unsafe { raw::linker_utils_fits_nonnull(machine, form, value, at, len) };
+    result_of(status, ())
 }
 
 /// Writes a value and its sign into the instruction that `dest` begins with.
-pub fn write(form: Form, value: u64, negative: bool, dest: &mut [u8]) -> Result<(), Status> {
+pub fn write(
+    form: impl Into<Form>,
+    value: u64,
+    negative: bool,
+    dest: &mut [u8],
+) -> Result<(), Status> {
+    let (machine, form) = form.into().numbers();
     let (at, len) = (dest.as_mut_ptr(), dest.len());
-    let status = unsafe {
-        raw::linker_utils_write(form.architecture, form.number, value, negative, at, len)
-    };
-    answer(status, ())
+    let status =
+        unsafe { raw::linker_utils_write_nonnull(machine, form, value, negative, at, len) };
+    result_of(status, ())
 }
 
 /// The value in the instruction that `bytes` begins with, modulo 2^64, and the form's flag.
-pub fn read(form: Form, bytes: &[u8]) -> Result<(u64, bool), Status> {
-    let (mut value, mut negative) = (0, false);
+pub fn read(form: impl Into<Form>, bytes: &[u8]) -> Result<(u64, bool), Status> {
+    let (machine, form) = form.into().numbers();
+    let (mut value, mut negative) = (0, 0);
     let status = unsafe {
-        raw::linker_utils_read(
-            form.architecture,
-            form.number,
+        raw::linker_utils_read_nonnull(
+            machine,
+            form,
             bytes.as_ptr(),
             bytes.len(),
             &mut value,
             &mut negative,
         )
     };
-    answer(status, (value, negative))
+    result_of(status, (value, negative != 0))
 }
 
-/// Whether `apply` at this offset would be taken.
-pub fn can_apply(rewrite: Rewrite, section: &[u8], offset: u64) -> Result<(), Status> {
-    let status = unsafe {
-        raw::linker_utils_can_apply(
-            rewrite.architecture,
-            rewrite.number,
-            rewrite.n,
-            section.as_ptr(),
-            section.len(),
-            offset,
-        )
-    };
-    answer(status, ())
+/// Whether `apply` at this offset would succeed.
+pub fn can_apply(rewrite: impl Into<Rewrite>, section: &[u8], offset: u64) -> Result<(), Status> {
+    let (machine, rewrite, n) = rewrite.into().numbers();
+    let (at, len) = (section.as_ptr(), section.len());
+    let status =
+        unsafe { raw::linker_utils_can_apply_nonnull(machine, rewrite, n, at, len, offset) };
+    result_of(status, ())
 }
 
 /// Rewrites the instruction at an offset of a section.
 pub fn apply(
-    rewrite: Rewrite,
+    rewrite: impl Into<Rewrite>,
     section: &mut [u8],
     offset: &mut u64,
     addend: &mut i64,
 ) -> Result<(), Status> {
-    let status = unsafe {
-        raw::linker_utils_apply(
-            rewrite.architecture,
-            rewrite.number,
-            rewrite.n,
-            section.as_mut_ptr(),
-            section.len(),
-            offset,
-            addend,
-        )
-    };
-    answer(status, ())
+    let (machine, rewrite, n) = rewrite.into().numbers();
+    let (at, len) = (section.as_mut_ptr(), section.len());
+    let status =
+        unsafe { raw::linker_utils_apply_nonnull(machine, rewrite, n, at, len, offset, addend) };
+    result_of(status, ())
 }
 
-/// What becomes of the relocation after the rewritten one.
-pub fn next_modifier(rewrite: Rewrite) -> Result<Modifier, Status> {
+/// What becomes of the relocation after that of the rewritten instruction.
+pub fn next_modifier(rewrite: impl Into<Rewrite>) -> Result<Modifier, Status> {
+    let (machine, rewrite, n) = rewrite.into().numbers();
     let mut modifier = 0;
-    let status = unsafe {
-        raw::linker_utils_next_modifier(
-            rewrite.architecture,
-            rewrite.number,
-            rewrite.n,
-            &mut modifier,
-        )
-    };
-    let modifier = match modifier {
-        0 => Modifier::Normal,
-        _ => Modifier::SkipNextRelocation,
-    };
-    answer(status, modifier)
+    let status = unsafe { raw::linker_utils_next_modifier(machine, rewrite, n, &mut modifier) };
+    let modifier = Modifier::from_number(modifier).expect("a modifier of the library's");
+    result_of(status, modifier)
 }
 
-/// What a relocation means.
-pub fn relocation(relocation: Relocation) -> Result<Row, Status> {
-    let mut row = Row::default();
+/// What the relocation of an ELF type means.
+pub fn relocation(architecture: Architecture, r_type: u32) -> Result<RelocationInfo, Status> {
+    let mut info = raw::RelocationInfo::default();
+    let status = unsafe { raw::linker_utils_relocation(architecture.machine(), r_type, &mut info) };
+    result_of(status, ())?;
+    Ok(info.into())
+}
+
+/// The name of the relocation of an ELF type, as `R_X86_64_PC32`.
+pub fn relocation_name(architecture: Architecture, r_type: u32) -> Result<String, Status> {
+    let (mut name, mut used) = ([0; 64], 0);
     let status = unsafe {
-        raw::linker_utils_relocation(relocation.architecture, relocation.number, &mut row)
+        raw::linker_utils_relocation_name_nonnull(
+            architecture.machine(),
+            r_type,
+            name.as_mut_ptr(),
+            name.len(),
+            &mut used,
+        )
     };
-    answer(status, row)
+    result_of(status, ())?;
+    Ok(String::from_utf8_lossy(&name[..used]).into_owned())
+}
+
+/// What `R_RISCV_HI20` means at a `c.lui`, which `RiscVRewrite::Hi20ToCLui` leaves.
+pub fn clui_rel_info() -> RelocationInfo {
+    let mut info = raw::RelocationInfo::default();
+    unsafe { raw::linker_utils_clui_rel_info(&mut info) };
+    info.into()
 }
 
 /// Turns the `auipc` at a site of a section into a `jal` by a distance.
 pub fn jal_site(section: &mut [u8], site: u64, distance: i64) -> Result<(), Status> {
     let (at, len) = (section.as_mut_ptr(), section.len());
-    answer(
-        unsafe { raw::linker_utils_jal_site(at, len, site, distance) },
-        (),
-    )
+    let status = unsafe { raw::linker_utils_jal_site_nonnull(at, len, site, distance) };
+    result_of(status, ())
 }
 
 /// Turns the call at a site into a jump to a target, once the deleted bytes are gone.
@@ -232,7 +282,7 @@ pub fn relax_call(
     target: u64,
 ) -> Result<(), Status> {
     let status = unsafe {
-        raw::linker_utils_relax_call(
+        raw::linker_utils_relax_call_nonnull(
             section.as_mut_ptr(),
             section.len(),
             deltas.as_ptr(),
@@ -241,12 +291,12 @@ pub fn relax_call(
             target,
         )
     };
-    answer(status, ())
+    result_of(status, ())
 }
 
 /// Whether the eight bytes of a plain call stand at the site.
 pub fn is_plain_call(section: &[u8], site: u64) -> bool {
-    unsafe { raw::linker_utils_is_plain_call(section.as_ptr(), section.len(), site) }
+    unsafe { raw::linker_utils_is_plain_call_nonnull(section.as_ptr(), section.len(), site) }
 }
 
 /// Whether a distance in bytes lies in the range of `jal`.
@@ -272,19 +322,15 @@ pub fn rd_valid_for_clui(rd: u32) -> bool {
 /// AArch64: writes the four instructions that load a number into register `rd`.
 pub fn write_mov_sequence(dest: &mut [u8], rd: u32, value: u64) -> Result<(), Status> {
     let (at, len) = (dest.as_mut_ptr(), dest.len());
-    answer(
-        unsafe { raw::linker_utils_write_mov_sequence(at, len, rd, value) },
-        (),
-    )
+    let status = unsafe { raw::linker_utils_write_mov_sequence_nonnull(at, len, rd, value) };
+    result_of(status, ())
 }
 
 /// LoongArch: makes five instructions compute the address `target` where the first stands at `pc`.
 pub fn write_address_sequence(dest: &mut [u8], pc: u64, target: u64) -> Result<(), Status> {
     let (at, len) = (dest.as_mut_ptr(), dest.len());
-    answer(
-        unsafe { raw::linker_utils_write_address_sequence(at, len, pc, target) },
-        (),
-    )
+    let status = unsafe { raw::linker_utils_write_address_sequence_nonnull(at, len, pc, target) };
+    result_of(status, ())
 }
 
 /// LoongArch: the number whose upper 32 bits complete the address `s`, relative to `pc`.
@@ -296,42 +342,33 @@ pub fn highest_relocation_with_bias(s: u64, pc: u64) -> u64 {
 pub fn write_ha_lo(ha: &mut [u8], lo: &mut [u8], value: u64) -> Result<(), Status> {
     let (ha_at, ha_len) = (ha.as_mut_ptr(), ha.len());
     let (lo_at, lo_len) = (lo.as_mut_ptr(), lo.len());
-    answer(
-        unsafe { raw::linker_utils_write_ha_lo(ha_at, ha_len, lo_at, lo_len, value) },
-        (),
-    )
+    let status =
+        unsafe { raw::linker_utils_write_ha_lo_nonnull(ha_at, ha_len, lo_at, lo_len, value) };
+    result_of(status, ())
 }
 
 /// The little-endian number of the first four bytes.
 pub fn u32_from_slice(bytes: &[u8]) -> Result<u32, Status> {
     let mut value = 0;
     let (at, len) = (bytes.as_ptr(), bytes.len());
-    answer(
-        unsafe { raw::linker_utils_u32_from_slice(at, len, &mut value) },
-        (),
-    )?;
-    Ok(value)
+    let status = unsafe { raw::linker_utils_u32_from_slice_nonnull(at, len, &mut value) };
+    result_of(status, value)
 }
 
 /// The little-endian number of the first eight bytes.
 pub fn u64_from_slice(bytes: &[u8]) -> Result<u64, Status> {
     let mut value = 0;
     let (at, len) = (bytes.as_ptr(), bytes.len());
-    answer(
-        unsafe { raw::linker_utils_u64_from_slice(at, len, &mut value) },
-        (),
-    )?;
-    Ok(value)
+    let status = unsafe { raw::linker_utils_u64_from_slice_nonnull(at, len, &mut value) };
+    result_of(status, value)
 }
 
 /// Takes a little-endian number of four bytes off the front of the content.
 pub fn read_u32(content: &mut &[u8]) -> Result<u32, Status> {
     let (mut value, mut consumed) = (0, 0);
     let (at, len) = (content.as_ptr(), content.len());
-    answer(
-        unsafe { raw::linker_utils_read_u32(at, len, &mut value, &mut consumed) },
-        (),
-    )?;
+    let status = unsafe { raw::linker_utils_read_u32_nonnull(at, len, &mut value, &mut consumed) };
+    result_of(status, ())?;
     *content = &content[consumed..];
     Ok(value)
 }
@@ -340,90 +377,85 @@ pub fn read_u32(content: &mut &[u8]) -> Result<u32, Status> {
 pub fn read_uleb128(content: &mut &[u8]) -> Result<u64, Status> {
     let (mut value, mut consumed) = (0, 0);
     let (at, len) = (content.as_ptr(), content.len());
-    answer(
-        unsafe { raw::linker_utils_read_uleb128(at, len, &mut value, &mut consumed) },
-        (),
-    )?;
+    let status =
+        unsafe { raw::linker_utils_read_uleb128_nonnull(at, len, &mut value, &mut consumed) };
+    result_of(status, ())?;
     *content = &content[consumed..];
     Ok(value)
 }
 
 /// Whether `deltas_create` takes the deletions.
-pub fn deltas_is_valid(deletions: &[Deletion]) -> Result<(), Status> {
+pub fn deltas_is_valid(deletions: &[Deletion]) -> Result<(), ArrayError> {
     let (at, len) = (deletions.as_ptr(), deletions.len());
-    answer(unsafe { raw::linker_utils_deltas_is_valid(at, len) }, ())
+    result_over(|faulty| unsafe { raw::linker_utils_deltas_is_valid_nonnull(at, len, faulty) })
 }
 
 /// Writes the deltas of the deletions, as many as these.
-pub fn deltas_create(deletions: &[Deletion], deltas: &mut [Delta]) -> Result<(), Status> {
-    let status = unsafe {
-        raw::linker_utils_deltas_create(
+pub fn deltas_create(deletions: &[Deletion], deltas: &mut [Delta]) -> Result<(), ArrayError> {
+    result_over(|faulty| unsafe {
+        raw::linker_utils_deltas_create_nonnull(
             deletions.as_ptr(),
             deletions.len(),
             deltas.as_mut_ptr(),
             deltas.len(),
+            faulty,
         )
-    };
-    answer(status, ())
+    })
 }
 
 /// Whether `deltas_merge` takes the additional deletions.
 pub fn deltas_is_mergeable(deltas: &[Delta], additional: &[Deletion]) -> Result<(), Status> {
     let status = unsafe {
-        raw::linker_utils_deltas_is_mergeable(
+        raw::linker_utils_deltas_is_mergeable_nonnull(
             deltas.as_ptr(),
             deltas.len(),
             additional.as_ptr(),
             additional.len(),
         )
     };
-    answer(status, ())
+    result_of(status, ())
 }
 
-/// Writes the deltas of the old and the additional deletions, sorted, as many as both.
+/// Writes the deltas of the old and the additional deletions, sorted, as many as both. The entry at
+/// fault is one of the deltas with `InvalidDeletions`, and else one of the additional deletions.
 pub fn deltas_merge(
     deltas: &[Delta],
     additional: &[Deletion],
     merged: &mut [Delta],
-) -> Result<(), Status> {
-    let status = unsafe {
-        raw::linker_utils_deltas_merge(
+) -> Result<(), ArrayError> {
+    result_over(|faulty| unsafe {
+        raw::linker_utils_deltas_merge_nonnull(
             deltas.as_ptr(),
             deltas.len(),
             additional.as_ptr(),
             additional.len(),
             merged.as_mut_ptr(),
             merged.len(),
+            faulty,
         )
-    };
-    answer(status, ())
+    })
 }
 
 /// The bytes that all deletions take together.
 pub fn deltas_total_deleted(deltas: &[Delta]) -> u64 {
-    unsafe { raw::linker_utils_deltas_total_deleted(deltas.as_ptr(), deltas.len()) }
+    unsafe { raw::linker_utils_deltas_total_deleted_nonnull(deltas.as_ptr(), deltas.len()) }
 }
 
-/// The offset in the output section of what stands at an input offset.
-pub fn deltas_input_to_output(deltas: &[Delta], input_offset: u64) -> Result<u64, Status> {
-    let mut output = 0;
+/// The offset in the output section of what stands at an input offset, or, inside a deletion, of what
+/// follows it.
+pub fn deltas_input_to_output(deltas: &[Delta], input_offset: u64) -> u64 {
     let (at, len) = (deltas.as_ptr(), deltas.len());
-    answer(
-        unsafe { raw::linker_utils_deltas_input_to_output(at, len, input_offset, &mut output) },
-        (),
-    )?;
-    Ok(output)
+    unsafe { raw::linker_utils_deltas_input_to_output_nonnull(at, len, input_offset) }
 }
 
 /// The offset in the input section of the kept byte at an output offset.
 pub fn deltas_output_to_input(deltas: &[Delta], output_offset: u64) -> Result<u64, Status> {
     let mut input = 0;
     let (at, len) = (deltas.as_ptr(), deltas.len());
-    answer(
-        unsafe { raw::linker_utils_deltas_output_to_input(at, len, output_offset, &mut input) },
-        (),
-    )?;
-    Ok(input)
+    let status = unsafe {
+        raw::linker_utils_deltas_output_to_input_nonnull(at, len, output_offset, &mut input)
+    };
+    result_of(status, input)
 }
 
 /// The output offset of each of the queries, which may not decrease.
@@ -431,16 +463,102 @@ pub fn deltas_translate_all(
     deltas: &[Delta],
     queries: &[u64],
     outputs: &mut [u64],
-) -> Result<(), Status> {
-    let status = unsafe {
-        raw::linker_utils_deltas_translate_all(
+) -> Result<(), ArrayError> {
+    result_over(|faulty| unsafe {
+        raw::linker_utils_deltas_translate_all_nonnull(
             deltas.as_ptr(),
             deltas.len(),
             queries.as_ptr(),
             queries.len(),
             outputs.as_mut_ptr(),
             outputs.len(),
+            faulty,
+        )
+    })
+}
+
+/// How many blocks of 64 the deltas have; the last may be shorter.
+pub fn deltas_block_count(deltas: &[Delta]) -> usize {
+    unsafe { raw::linker_utils_deltas_block_count_nonnull(deltas.as_ptr(), deltas.len()) }
+}
+
+/// Writes the heads of the deltas' blocks, as many as these.
+pub fn deltas_heads(deltas: &[Delta], heads: &mut [BlockHead]) -> Result<(), Status> {
+    let status = unsafe {
+        raw::linker_utils_deltas_heads_nonnull(
+            deltas.as_ptr(),
+            deltas.len(),
+            heads.as_mut_ptr(),
+            heads.len(),
         )
     };
-    answer(status, ())
+    result_of(status, ())
+}
+
+/// `deltas_input_to_output` with the heads of the deltas' blocks.
+pub fn deltas_input_to_output_by_heads(
+    deltas: &[Delta],
+    heads: &[BlockHead],
+    input_offset: u64,
+) -> u64 {
+    unsafe {
+        raw::linker_utils_deltas_input_to_output_by_heads_nonnull(
+            deltas.as_ptr(),
+            deltas.len(),
+            heads.as_ptr(),
+            heads.len(),
+            input_offset,
+        )
+    }
+}
+
+/// `deltas_output_to_input` with the heads of the deltas' blocks.
+pub fn deltas_output_to_input_by_heads(
+    deltas: &[Delta],
+    heads: &[BlockHead],
+    output_offset: u64,
+) -> Result<u64, Status> {
+    let mut input = 0;
+    let status = unsafe {
+        raw::linker_utils_deltas_output_to_input_by_heads_nonnull(
+            deltas.as_ptr(),
+            deltas.len(),
+            heads.as_ptr(),
+            heads.len(),
+            output_offset,
+            &mut input,
+        )
+    };
+    result_of(status, input)
+}
+
+/// How many bytes of a section are kept: as many as `pack` writes.
+pub fn packed_len(section: &[u8], deltas: &[Delta]) -> usize {
+    let (at, len) = (section.as_ptr(), section.len());
+    unsafe { raw::linker_utils_packed_len_nonnull(at, len, deltas.as_ptr(), deltas.len()) }
+}
+
+/// Writes the kept bytes of a section, in order, with its calls made jumps. The entry at fault is one
+/// of the calls.
+pub fn pack(
+    section: &[u8],
+    deltas: &[Delta],
+    calls: &[Call],
+    link: LinkRegister,
+    packed: &mut [u8],
+) -> Result<(), ArrayError> {
+    result_over(|faulty| unsafe {
+        raw::linker_utils_pack_nonnull(
+            section.as_ptr(),
+            section.len(),
+            deltas.as_ptr(),
+            deltas.len(),
+            calls.as_ptr(),
+            calls.len(),
+            link.number(),
+            packed.as_mut_ptr(),
+            packed.len(),
+            faulty,
+        )
+    })
 }

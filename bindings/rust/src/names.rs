@@ -1,706 +1,495 @@
-//! The names that the static library knows by numbers: the order of each enum is its numbering.
+//! Enums of the library's numbers, those of `include/linker_utils.h`. Their variants have the names
+//! of the proved library's own enums.
 
-#![allow(non_camel_case_types)]
+use std::fmt;
 
-use crate::{Form, Relocation, Rewrite};
+macro_rules! numbered {
+    ($(#[$about:meta])* $name:ident: $number:ty { $($(#[$doc:meta])* $variant:ident = $value:literal,)* }) => {
+        $(#[$about])*
+        #[derive(Debug, Clone, Copy, PartialEq, Eq, Hash)]
+        pub enum $name {
+            $($(#[$doc])* $variant = $value,)*
+        }
 
-/// Why a call refuses. It has then changed nothing.
-#[derive(Debug, Clone, Copy, PartialEq, Eq)]
-pub enum Status {
-    /// No architecture has this number, or it has no forms of instructions.
-    UnknownArchitecture,
-    /// The architecture has no form with this number.
-    UnknownForm,
-    /// The architecture has no rewrite with this number.
-    UnknownRewrite,
-    /// The architecture has no relocation with this number, or its meaning is not known.
-    UnknownRelocation,
-    /// Fewer bytes than the call reads or writes.
-    TooShort,
-    /// The form does not hold the value.
-    DoesNotFit,
-    /// The rewrite may not be applied there.
-    CannotApply,
-    /// The register is not one from 0 to 30.
-    BadRegister,
-    /// The four bytes at the site do not lie in the section, or the target is past its end.
-    OutOfSection,
-    /// One of the four bytes at the site is deleted.
-    SiteDeleted,
-    /// The target lies strictly inside a deletion.
-    TargetInside,
-    /// The distance is odd.
-    OddDistance,
-    /// The distance is out of the range of `jal`.
-    TooFar,
-    /// The deletions do not strictly ascend, one reaches past the next, or one ends past 2^64 - 1.
-    InvalidDeletions,
-    /// Two deletions overlap or begin at one offset, or one ends past 2^64 - 1.
-    NotMergeable,
-    /// The offset lies strictly inside a deletion.
-    InsideDeletion,
-    /// The input offset would be past 2^64 - 1.
-    TooLarge,
-    /// The queries decrease somewhere.
-    NotAscending,
-    /// The array that is to be written has not as many places as are written.
-    DifferentLengths,
-    /// `malloc` or `realloc` refused.
-    OutOfMemory,
-    /// The bytes end before the ULEB128 number does.
-    Uleb128Ended,
-    /// The tenth byte of the ULEB128 number is neither 0 nor 1.
-    Uleb128TooLarge,
+        impl $name {
+            /// Each of them.
+            pub const ALL: &'static [$name] = &[$($name::$variant),*];
+
+            /// The library's number.
+            pub const fn number(self) -> $number {
+                self as $number
+            }
+
+            /// The one with the library's number, if there is one.
+            pub const fn from_number(number: $number) -> Option<$name> {
+                match number {
+                    $($value => Some($name::$variant),)*
+                    _ => None,
+                }
+            }
+        }
+    };
 }
 
-impl Status {
-    /// Each status, from number 1 up.
-    pub const ALL: [Status; 22] = [
-        Status::UnknownArchitecture,
-        Status::UnknownForm,
-        Status::UnknownRewrite,
-        Status::UnknownRelocation,
-        Status::TooShort,
-        Status::DoesNotFit,
-        Status::CannotApply,
-        Status::BadRegister,
-        Status::OutOfSection,
-        Status::SiteDeleted,
-        Status::TargetInside,
-        Status::OddDistance,
-        Status::TooFar,
-        Status::InvalidDeletions,
-        Status::NotMergeable,
-        Status::InsideDeletion,
-        Status::TooLarge,
-        Status::NotAscending,
-        Status::DifferentLengths,
-        Status::OutOfMemory,
-        Status::Uleb128Ended,
-        Status::Uleb128TooLarge,
-    ];
-}
-
-/// The architectures.
-#[derive(Debug, Clone, Copy, PartialEq, Eq)]
-pub enum Architecture {
-    AArch64,
-    RiscV,
-    LoongArch64,
-    Ppc64,
-    X86_64,
-}
-
-/// AArch64 instructions that hold a value.
-#[derive(Debug, Clone, Copy, PartialEq, Eq)]
-pub enum AArch64Form {
-    Adr,
-    Movkz,
-    Movnz,
-    Ldr,
-    LdrRegister,
-    Add,
-    LdSt,
-    TstBr,
-    Bcond,
-    JumpCall,
-    MachOLow12,
-}
-
-impl From<AArch64Form> for Form {
-    fn from(form: AArch64Form) -> Form {
-        Form::numbered(Architecture::AArch64 as u32, form as u32)
+numbered! {
+    /// Why a call fails. It has then changed nothing.
+    Status: u32 {
+        /// No architecture has this machine number, or it has no instruction forms.
+        UnknownArchitecture = 1,
+        /// The architecture has no form with this number.
+        UnknownForm = 2,
+        /// The architecture has no rewrite with this number.
+        UnknownRewrite = 3,
+        /// The architecture has no relocation of this type, or its meaning is not known.
+        UnknownRelocation = 4,
+        /// There are fewer bytes than the call reads or writes.
+        TooShort = 5,
+        /// The form does not hold the value.
+        DoesNotFit = 6,
+        /// The rewrite may not be applied there.
+        CannotApply = 7,
+        /// The register is not one from 0 to 30.
+        BadRegister = 8,
+        /// The four bytes at the site do not lie in the section, or the target is past its end.
+        OutOfSection = 9,
+        /// One of the four bytes at the site is deleted.
+        SiteDeleted = 10,
+        /// The distance is odd.
+        OddDistance = 12,
+        /// The distance is out of the range of `jal`.
+        TooFar = 13,
+        /// The deletions do not strictly ascend, one reaches past the next, or one ends past 2^64 - 1.
+        InvalidDeletions = 14,
+        /// Two deletions overlap or begin at one offset, or one ends past 2^64 - 1.
+        NotMergeable = 15,
+        /// The input offset would be past 2^64 - 1.
+        TooLarge = 17,
+        /// The queries decrease somewhere.
+        NotAscending = 18,
+        /// The array to be written has another length than what is written.
+        DifferentLengths = 19,
+        /// `malloc` or `realloc` returned null.
+        OutOfMemory = 20,
+        /// The bytes end before the ULEB128 number does.
+        Uleb128Ended = 21,
+        /// The tenth byte of the ULEB128 number is neither 0 nor 1.
+        Uleb128TooLarge = 22,
+        /// No link register of a call has this number.
+        UnknownLinkRegister = 23,
+        /// A call's site is less than 4 above that of the call before it.
+        CallsNotApart = 24,
+        /// The eight bytes at the site are not an `auipc` and a `jalr` over its register.
+        NotACall = 25,
     }
 }
 
-/// RISC-V instructions that hold a value.
-#[derive(Debug, Clone, Copy, PartialEq, Eq)]
-pub enum RiscVForm {
-    UType,
-    IType,
-    SType,
-    BType,
-    JType,
-    CbType,
-    CjType,
-    CluiType,
-    UiType,
-}
-
-impl From<RiscVForm> for Form {
-    fn from(form: RiscVForm) -> Form {
-        Form::numbered(Architecture::RiscV as u32, form as u32)
+impl fmt::Display for Status {
+    fn fmt(&self, f: &mut fmt::Formatter<'_>) -> fmt::Result {
+        f.write_str(match self {
+            Status::UnknownArchitecture => {
+                "No architecture has this machine number, or it has no instruction forms."
+            }
+            Status::UnknownForm => {
+                "The architecture has no form with this number."
+            }
+            Status::UnknownRewrite => {
+                "The architecture has no rewrite with this number."
+            }
+            Status::UnknownRelocation => {
+                "The architecture has no relocation of this type, or its meaning is not known."
+            }
+            Status::TooShort => {
+                "There are fewer bytes than the call reads or writes."
+            }
+            Status::DoesNotFit => {
+                "The form does not hold the value."
+            }
+            Status::CannotApply => {
+                "The rewrite may not be applied there."
+            }
+            Status::BadRegister => {
+                "The register is not one from 0 to 30."
+            }
+            Status::OutOfSection => {
+                "The four bytes at the site do not lie in the section, or the target is past its end."
+            }
+            Status::SiteDeleted => {
+                "One of the four bytes at the site is deleted."
+            }
+            Status::OddDistance => {
+                "The distance is odd."
+            }
+            Status::TooFar => {
+                "The distance is out of the range of `jal`."
+            }
+            Status::InvalidDeletions => {
+                "The deletions do not strictly ascend, one reaches past the next, or one ends past 2^64 - 1."
+            }
+            Status::NotMergeable => {
+                "Two deletions overlap or begin at one offset, or one ends past 2^64 - 1."
+            }
+            Status::TooLarge => {
+                "The input offset would be past 2^64 - 1."
+            }
+            Status::NotAscending => {
+                "The queries decrease somewhere."
+            }
+            Status::DifferentLengths => {
+                "The array to be written has another length than what is written."
+            }
+            Status::OutOfMemory => {
+                "`malloc` or `realloc` returned null."
+            }
+            Status::Uleb128Ended => {
+                "The bytes end before the ULEB128 number does."
+            }
+            Status::Uleb128TooLarge => {
+                "The tenth byte of the ULEB128 number is neither 0 nor 1."
+            }
+            Status::UnknownLinkRegister => "No link register of a call has this number.",
+            Status::CallsNotApart => {
+                "A call's site is less than 4 above that of the call before it."
+            }
+            Status::NotACall => {
+                "The eight bytes at the site are not an `auipc` and a `jalr` over its register."
+            }
+        })
     }
 }
 
-/// LoongArch instructions that hold a value.
-#[derive(Debug, Clone, Copy, PartialEq, Eq)]
-pub enum LoongArch64Form {
-    Shift5,
-    Shift10,
-    Branch26,
-    Branch21,
-    Call30,
-    Call36,
-}
+impl std::error::Error for Status {}
 
-impl From<LoongArch64Form> for Form {
-    fn from(form: LoongArch64Form) -> Form {
-        Form::numbered(Architecture::LoongArch64 as u32, form as u32)
+numbered! {
+    /// An architecture, by `e_machine` in the ELF header of its files.
+    Architecture: u16 {
+        /// 64-bit Power, little-endian (ELFv2).
+        Ppc64 = 21,
+        X86_64 = 62,
+        /// Little-endian.
+        AArch64 = 183,
+        /// RV64, with or without the C extension.
+        RiscV = 243,
+        LoongArch64 = 258,
     }
 }
 
-/// PowerPC64 instructions that hold a value.
-#[derive(Debug, Clone, Copy, PartialEq, Eq)]
-pub enum Ppc64Form {
-    D,
-    Ds,
-    Branch14,
-    Branch24,
-}
+impl Architecture {
+    /// The architecture of a file by `e_machine` of its ELF header.
+    pub const fn from_machine(e_machine: u16) -> Option<Architecture> {
+        Architecture::from_number(e_machine)
+    }
 
-impl From<Ppc64Form> for Form {
-    fn from(form: Ppc64Form) -> Form {
-        Form::numbered(Architecture::Ppc64 as u32, form as u32)
+    /// `e_machine` in the ELF header of the architecture's files.
+    pub const fn machine(self) -> u16 {
+        self.number()
     }
 }
 
-/// Rewrites of AArch64.
-#[derive(Debug, Clone, Copy, PartialEq, Eq)]
-pub enum AArch64Rewrite {
-    NoOp,
-    ReplaceWithNop,
-    MovzX0Lsl16,
-    MovkX0,
-    MovzXnLsl16,
-    MovkXn,
-    AdrpToAdr,
-    AdrpX0,
-    LdrX0,
-    AddToAdr,
-    LdrToAdr,
-    LdrToAdd,
-    AdrpAddToNopAdr,
-}
-
-impl From<AArch64Rewrite> for Rewrite {
-    fn from(rewrite: AArch64Rewrite) -> Rewrite {
-        Rewrite::numbered(Architecture::AArch64 as u32, rewrite as u32, 0)
+numbered! {
+    /// AArch64 instructions that hold a value.
+    AArch64Form: u32 {
+        Adr = 0,
+        Movkz = 1,
+        Movnz = 2,
+        Ldr = 3,
+        LdrRegister = 4,
+        Add = 5,
+        LdSt = 6,
+        TstBr = 7,
+        Bcond = 8,
+        JumpCall = 9,
+        MachOLow12 = 10,
     }
 }
 
-/// Rewrites of RISC-V.
-#[derive(Debug, Clone, Copy, PartialEq, Eq)]
-pub enum RiscVRewrite {
-    NoOp,
-    ReplaceWithNop,
-    CallToJal,
-    Hi20ToCLui,
-    Hi20Delete,
-    Lo12Rs1ToZero,
-}
-
-impl From<RiscVRewrite> for Rewrite {
-    fn from(rewrite: RiscVRewrite) -> Rewrite {
-        Rewrite::numbered(Architecture::RiscV as u32, rewrite as u32, 0)
+numbered! {
+    /// RISC-V instructions that hold a value.
+    RiscVForm: u32 {
+        UType = 0,
+        IType = 1,
+        SType = 2,
+        BType = 3,
+        JType = 4,
+        CbType = 5,
+        CjType = 6,
+        CluiType = 7,
+        UiType = 8,
     }
 }
 
-/// Rewrites of LoongArch.
-#[derive(Debug, Clone, Copy, PartialEq, Eq)]
-pub enum LoongArch64Rewrite {
-    NoOp,
-    ReplaceWithNop,
-}
-
-impl From<LoongArch64Rewrite> for Rewrite {
-    fn from(rewrite: LoongArch64Rewrite) -> Rewrite {
-        Rewrite::numbered(Architecture::LoongArch64 as u32, rewrite as u32, 0)
+numbered! {
+    /// LoongArch instructions that hold a value.
+    LoongArch64Form: u32 {
+        Shift5 = 0,
+        Shift10 = 1,
+        Branch26 = 2,
+        Branch21 = 3,
+        Call30 = 4,
+        Call36 = 5,
     }
 }
 
-/// Rewrites of PowerPC64.
-#[derive(Debug, Clone, Copy, PartialEq, Eq)]
-pub enum Ppc64Rewrite {
-    NoOp,
-}
-
-impl From<Ppc64Rewrite> for Rewrite {
-    fn from(rewrite: Ppc64Rewrite) -> Rewrite {
-        Rewrite::numbered(Architecture::Ppc64 as u32, rewrite as u32, 0)
+numbered! {
+    /// PowerPC64 instructions that hold a value.
+    Ppc64Form: u32 {
+        D = 0,
+        Ds = 1,
+        Branch14 = 2,
+        Branch24 = 3,
     }
 }
 
-/// Rewrites of x86-64. The number is that of the instruction's bytes before the field.
-#[derive(Debug, Clone, Copy, PartialEq, Eq)]
-pub enum X86_64Rewrite {
-    MovIndirectToLea,
-    MovIndirectToAbsolute,
-    RexMovIndirectToAbsolute(u8),
-    RexAddIndirectToAbsolute(u8),
-    RexSubIndirectToAbsolute(u8),
-    RexCmpIndirectToAbsolute(u8),
-    CallIndirectToRelative,
-    JmpIndirectToRelative,
-    NoOp,
-    TlsGdToLocalExec,
-    TlsGdToLocalExecLarge,
-    TlsLdToLocalExec,
-    TlsLdToLocalExecNoPlt,
-    TlsLdToLocalExec64,
-    TlsGdToInitialExec,
-    TlsDescToLocalExec(u8),
-    TlsDescToInitialExec,
-    SkipTlsDescCall,
-}
-
-impl From<X86_64Rewrite> for Rewrite {
-    fn from(rewrite: X86_64Rewrite) -> Rewrite {
-        let (number, n) = match rewrite {
-            X86_64Rewrite::MovIndirectToLea => (0, 0),
-            X86_64Rewrite::MovIndirectToAbsolute => (1, 0),
-            X86_64Rewrite::RexMovIndirectToAbsolute(n) => (2, n),
-            X86_64Rewrite::RexAddIndirectToAbsolute(n) => (3, n),
-            X86_64Rewrite::RexSubIndirectToAbsolute(n) => (4, n),
-            X86_64Rewrite::RexCmpIndirectToAbsolute(n) => (5, n),
-            X86_64Rewrite::CallIndirectToRelative => (6, 0),
-            X86_64Rewrite::JmpIndirectToRelative => (7, 0),
-            X86_64Rewrite::NoOp => (8, 0),
-            X86_64Rewrite::TlsGdToLocalExec => (9, 0),
-            X86_64Rewrite::TlsGdToLocalExecLarge => (10, 0),
-            X86_64Rewrite::TlsLdToLocalExec => (11, 0),
-            X86_64Rewrite::TlsLdToLocalExecNoPlt => (12, 0),
-            X86_64Rewrite::TlsLdToLocalExec64 => (13, 0),
-            X86_64Rewrite::TlsGdToInitialExec => (14, 0),
-            X86_64Rewrite::TlsDescToLocalExec(n) => (15, n),
-            X86_64Rewrite::TlsDescToInitialExec => (16, 0),
-            X86_64Rewrite::SkipTlsDescCall => (17, 0),
-        };
-        Rewrite::numbered(Architecture::X86_64 as u32, number, n)
+numbered! {
+    /// Rewrites of AArch64.
+    AArch64Rewrite: u32 {
+        NoOp = 0,
+        ReplaceWithNop = 1,
+        MovzX0Lsl16 = 2,
+        MovkX0 = 3,
+        MovzXnLsl16 = 4,
+        MovkXn = 5,
+        AdrpToAdr = 6,
+        AdrpX0 = 7,
+        LdrX0 = 8,
+        AddToAdr = 9,
+        LdrToAdr = 10,
+        LdrToAdd = 11,
+        AdrpAddToNopAdr = 12,
     }
 }
 
-/// What becomes of the relocation after a rewritten one.
-#[derive(Debug, Clone, Copy, PartialEq, Eq)]
-pub enum Modifier {
-    Normal,
-    SkipNextRelocation,
-}
-
-/// What a relocation's value is computed from.
-#[derive(Debug, Clone, Copy, PartialEq, Eq)]
-pub enum RelocationKind {
-    None,
-    Absolute,
-    AbsoluteLowPart,
-    AbsoluteSet,
-    AbsoluteSetWord6,
-    AbsoluteAddition,
-    AbsoluteAdditionWord6,
-    AbsoluteSubtraction,
-    AbsoluteSubtractionWord6,
-    PairSubtractionULEB128RiscV,
-    PairSubtractionULEB128LoongArch,
-    Relative,
-    RelativeRiscVLow12,
-    RelativeLoongArchHigh,
-    GotRelative,
-    GotRelativeLoongArch64,
-    GotRelGotBase,
-    Got,
-    SymRelGotBase,
-    PltRelGotBase,
-    PltRelative,
-    SymbolSize,
-    Alignment,
-    TlsGd,
-    TlsGdGot,
-    TlsGdGotBase,
-    TlsLd,
-    TlsLdGot,
-    TlsLdGotBase,
-    DtpOff,
-    GotTpOff,
-    GotTpOffGot,
-    GotTpOffGotBase,
-    GotTpOffLoongArch64,
-    TpOff,
-    TlsDesc,
-    TlsDescGot,
-    TlsDescGotBase,
-    TlsDescLoongArch64,
-    TlsDescCall,
-}
-
-/// Which addresses are cut to their page of 4 KiB before a difference is taken.
-#[derive(Debug, Clone, Copy, PartialEq, Eq)]
-pub enum Mask {
-    None,
-    SymbolPlusAddendAndPosition,
-    GotEntryAndPosition,
-    GotBase,
-}
-
-/// The relocations of AArch64.
-#[derive(Debug, Clone, Copy, PartialEq, Eq)]
-pub enum AArch64Relocation {
-    R_AARCH64_NONE,
-    R_AARCH64_ABS64,
-    R_AARCH64_ABS32,
-    R_AARCH64_ABS16,
-    R_AARCH64_PREL64,
-    R_AARCH64_PREL32,
-    R_AARCH64_PREL16,
-    R_AARCH64_PLT32,
-    R_AARCH64_MOVW_UABS_G0,
-    R_AARCH64_MOVW_UABS_G0_NC,
-    R_AARCH64_MOVW_UABS_G1,
-    R_AARCH64_MOVW_UABS_G1_NC,
-    R_AARCH64_MOVW_UABS_G2,
-    R_AARCH64_MOVW_UABS_G2_NC,
-    R_AARCH64_MOVW_UABS_G3,
-    R_AARCH64_MOVW_SABS_G0,
-    R_AARCH64_MOVW_SABS_G1,
-    R_AARCH64_MOVW_SABS_G2,
-    R_AARCH64_LD_PREL_LO19,
-    R_AARCH64_ADR_PREL_LO21,
-    R_AARCH64_ADR_PREL_PG_HI21,
-    R_AARCH64_ADR_PREL_PG_HI21_NC,
-    R_AARCH64_ADD_ABS_LO12_NC,
-    R_AARCH64_LDST8_ABS_LO12_NC,
-    R_AARCH64_LDST16_ABS_LO12_NC,
-    R_AARCH64_LDST32_ABS_LO12_NC,
-    R_AARCH64_LDST64_ABS_LO12_NC,
-    R_AARCH64_LDST128_ABS_LO12_NC,
-    R_AARCH64_TSTBR14,
-    R_AARCH64_CONDBR19,
-    R_AARCH64_JUMP26,
-    R_AARCH64_CALL26,
-    R_AARCH64_MOVW_PREL_G0,
-    R_AARCH64_MOVW_PREL_G0_NC,
-    R_AARCH64_MOVW_PREL_G1,
-    R_AARCH64_MOVW_PREL_G1_NC,
-    R_AARCH64_MOVW_PREL_G2,
-    R_AARCH64_MOVW_PREL_G2_NC,
-    R_AARCH64_MOVW_PREL_G3,
-    R_AARCH64_MOVW_GOTOFF_G0,
-    R_AARCH64_MOVW_GOTOFF_G0_NC,
-    R_AARCH64_MOVW_GOTOFF_G1,
-    R_AARCH64_MOVW_GOTOFF_G1_NC,
-    R_AARCH64_MOVW_GOTOFF_G2,
-    R_AARCH64_MOVW_GOTOFF_G2_NC,
-    R_AARCH64_MOVW_GOTOFF_G3,
-    R_AARCH64_GOTREL64,
-    R_AARCH64_GOTREL32,
-    R_AARCH64_GOTPCREL32,
-    R_AARCH64_GOT_LD_PREL19,
-    R_AARCH64_LD64_GOTOFF_LO15,
-    R_AARCH64_ADR_GOT_PAGE,
-    R_AARCH64_LD64_GOT_LO12_NC,
-    R_AARCH64_LD64_GOTPAGE_LO15,
-    R_AARCH64_TLSGD_ADR_PREL21,
-    R_AARCH64_TLSGD_ADR_PAGE21,
-    R_AARCH64_TLSGD_ADD_LO12_NC,
-    R_AARCH64_TLSGD_MOVW_G1,
-    R_AARCH64_TLSGD_MOVW_G0_NC,
-    R_AARCH64_TLSLD_ADR_PREL21,
-    R_AARCH64_TLSLD_ADR_PAGE21,
-    R_AARCH64_TLSLD_ADD_LO12_NC,
-    R_AARCH64_TLSLD_MOVW_G1,
-    R_AARCH64_TLSLD_MOVW_G0_NC,
-    R_AARCH64_TLSLD_LD_PREL19,
-    R_AARCH64_TLSLD_MOVW_DTPREL_G2,
-    R_AARCH64_TLSLD_MOVW_DTPREL_G1,
-    R_AARCH64_TLSLD_MOVW_DTPREL_G1_NC,
-    R_AARCH64_TLSLD_MOVW_DTPREL_G0,
-    R_AARCH64_TLSLD_MOVW_DTPREL_G0_NC,
-    R_AARCH64_TLSLD_ADD_DTPREL_HI12,
-    R_AARCH64_TLSLD_ADD_DTPREL_LO12,
-    R_AARCH64_TLSLD_ADD_DTPREL_LO12_NC,
-    R_AARCH64_TLSLD_LDST8_DTPREL_LO12,
-    R_AARCH64_TLSLD_LDST8_DTPREL_LO12_NC,
-    R_AARCH64_TLSLD_LDST16_DTPREL_LO12,
-    R_AARCH64_TLSLD_LDST16_DTPREL_LO12_NC,
-    R_AARCH64_TLSLD_LDST32_DTPREL_LO12,
-    R_AARCH64_TLSLD_LDST32_DTPREL_LO12_NC,
-    R_AARCH64_TLSLD_LDST64_DTPREL_LO12,
-    R_AARCH64_TLSLD_LDST64_DTPREL_LO12_NC,
-    R_AARCH64_TLSLD_LDST128_DTPREL_LO12,
-    R_AARCH64_TLSLD_LDST128_DTPREL_LO12_NC,
-    R_AARCH64_TLSIE_MOVW_GOTTPREL_G1,
-    R_AARCH64_TLSIE_MOVW_GOTTPREL_G0_NC,
-    R_AARCH64_TLSIE_ADR_GOTTPREL_PAGE21,
-    R_AARCH64_TLSIE_LD64_GOTTPREL_LO12_NC,
-    R_AARCH64_TLSIE_LD_GOTTPREL_PREL19,
-    R_AARCH64_TLSLE_MOVW_TPREL_G2,
-    R_AARCH64_TLSLE_MOVW_TPREL_G1,
-    R_AARCH64_TLSLE_MOVW_TPREL_G1_NC,
-    R_AARCH64_TLSLE_MOVW_TPREL_G0,
-    R_AARCH64_TLSLE_MOVW_TPREL_G0_NC,
-    R_AARCH64_TLSLE_ADD_TPREL_HI12,
-    R_AARCH64_TLSLE_ADD_TPREL_LO12,
-    R_AARCH64_TLSLE_ADD_TPREL_LO12_NC,
-    R_AARCH64_TLSLE_LDST8_TPREL_LO12,
-    R_AARCH64_TLSLE_LDST8_TPREL_LO12_NC,
-    R_AARCH64_TLSLE_LDST16_TPREL_LO12,
-    R_AARCH64_TLSLE_LDST16_TPREL_LO12_NC,
-    R_AARCH64_TLSLE_LDST32_TPREL_LO12,
-    R_AARCH64_TLSLE_LDST32_TPREL_LO12_NC,
-    R_AARCH64_TLSLE_LDST64_TPREL_LO12,
-    R_AARCH64_TLSLE_LDST64_TPREL_LO12_NC,
-    R_AARCH64_TLSLE_LDST128_TPREL_LO12,
-    R_AARCH64_TLSLE_LDST128_TPREL_LO12_NC,
-    R_AARCH64_TLSDESC_LD_PREL19,
-    R_AARCH64_TLSDESC_ADR_PREL21,
-    R_AARCH64_TLSDESC_ADR_PAGE21,
-    R_AARCH64_TLSDESC_LD64_LO12,
-    R_AARCH64_TLSDESC_ADD_LO12,
-    R_AARCH64_TLSDESC_OFF_G1,
-    R_AARCH64_TLSDESC_OFF_G0_NC,
-    R_AARCH64_TLSDESC_CALL,
-}
-
-impl From<AArch64Relocation> for Relocation {
-    fn from(name: AArch64Relocation) -> Relocation {
-        Relocation::numbered(Architecture::AArch64 as u32, name as u32)
+numbered! {
+    /// Rewrites of RISC-V.
+    RiscVRewrite: u32 {
+        NoOp = 0,
+        ReplaceWithNop = 1,
+        CallToJal = 2,
+        Hi20ToCLui = 3,
+        Hi20Delete = 4,
+        Lo12Rs1ToZero = 5,
     }
 }
 
-/// The relocations of RISC-V.
-#[derive(Debug, Clone, Copy, PartialEq, Eq)]
-pub enum RiscVRelocation {
-    R_RISCV_NONE,
-    R_RISCV_32,
-    R_RISCV_64,
-    R_RISCV_BRANCH,
-    R_RISCV_JAL,
-    R_RISCV_CALL,
-    R_RISCV_CALL_PLT,
-    R_RISCV_GOT_HI20,
-    R_RISCV_TLS_GOT_HI20,
-    R_RISCV_TLS_GD_HI20,
-    R_RISCV_PCREL_HI20,
-    R_RISCV_PCREL_LO12_I,
-    R_RISCV_PCREL_LO12_S,
-    R_RISCV_HI20,
-    R_RISCV_LO12_I,
-    R_RISCV_LO12_S,
-    R_RISCV_TPREL_HI20,
-    R_RISCV_TPREL_LO12_I,
-    R_RISCV_TPREL_LO12_S,
-    R_RISCV_TPREL_ADD,
-    R_RISCV_ADD8,
-    R_RISCV_ADD16,
-    R_RISCV_ADD32,
-    R_RISCV_ADD64,
-    R_RISCV_SUB8,
-    R_RISCV_SUB16,
-    R_RISCV_SUB32,
-    R_RISCV_SUB64,
-    R_RISCV_GOT32_PCREL,
-    R_RISCV_ALIGN,
-    R_RISCV_RVC_BRANCH,
-    R_RISCV_RVC_JUMP,
-    R_RISCV_RELAX,
-    R_RISCV_SUB6,
-    R_RISCV_SET6,
-    R_RISCV_SET8,
-    R_RISCV_SET16,
-    R_RISCV_SET32,
-    R_RISCV_32_PCREL,
-    R_RISCV_PLT32,
-    R_RISCV_SET_ULEB128,
-    R_RISCV_SUB_ULEB128,
-    R_RISCV_TLSDESC_HI20,
-    R_RISCV_TLSDESC_LOAD_LO12,
-    R_RISCV_TLSDESC_ADD_LO12,
-    R_RISCV_TLSDESC_CALL,
-}
-
-impl From<RiscVRelocation> for Relocation {
-    fn from(name: RiscVRelocation) -> Relocation {
-        Relocation::numbered(Architecture::RiscV as u32, name as u32)
+numbered! {
+    /// Rewrites of LoongArch.
+    LoongArch64Rewrite: u32 {
+        NoOp = 0,
+        ReplaceWithNop = 1,
     }
 }
 
-/// The relocations of LoongArch.
-#[derive(Debug, Clone, Copy, PartialEq, Eq)]
-pub enum LoongArch64Relocation {
-    R_LARCH_NONE,
-    R_LARCH_32,
-    R_LARCH_64,
-    R_LARCH_ADD6,
-    R_LARCH_ADD8,
-    R_LARCH_ADD16,
-    R_LARCH_ADD24,
-    R_LARCH_ADD32,
-    R_LARCH_ADD64,
-    R_LARCH_SUB6,
-    R_LARCH_SUB8,
-    R_LARCH_SUB16,
-    R_LARCH_SUB24,
-    R_LARCH_SUB32,
-    R_LARCH_SUB64,
-    R_LARCH_ADD_ULEB128,
-    R_LARCH_SUB_ULEB128,
-    R_LARCH_ABS_HI20,
-    R_LARCH_ABS_LO12,
-    R_LARCH_ABS64_HI12,
-    R_LARCH_ABS64_LO20,
-    R_LARCH_PCALA_HI20,
-    R_LARCH_PCALA_LO12,
-    R_LARCH_PCALA64_HI12,
-    R_LARCH_PCALA64_LO20,
-    R_LARCH_32_PCREL,
-    R_LARCH_PCREL20_S2,
-    R_LARCH_64_PCREL,
-    R_LARCH_PCADD_HI20,
-    R_LARCH_GOT_PC_HI20,
-    R_LARCH_GOT_PC_LO12,
-    R_LARCH_GOT64_PC_HI12,
-    R_LARCH_GOT64_PC_LO20,
-    R_LARCH_B16,
-    R_LARCH_B21,
-    R_LARCH_B26,
-    R_LARCH_CALL36,
-    R_LARCH_CALL30,
-    R_LARCH_TLS_LE_HI20,
-    R_LARCH_TLS_LE_LO12,
-    R_LARCH_TLS_LE64_LO20,
-    R_LARCH_TLS_LE64_HI12,
-    R_LARCH_TLS_LE_HI20_R,
-    R_LARCH_TLS_LE_LO12_R,
-    R_LARCH_TLS_IE_PC_HI20,
-    R_LARCH_TLS_IE_PC_LO12,
-    R_LARCH_TLS_IE64_PC_LO20,
-    R_LARCH_TLS_IE64_PC_HI12,
-    R_LARCH_TLS_IE_HI20,
-    R_LARCH_TLS_IE_LO12,
-    R_LARCH_TLS_IE64_HI12,
-    R_LARCH_TLS_IE64_LO20,
-    R_LARCH_TLS_LD_PC_HI20,
-    R_LARCH_TLS_LD_HI20,
-    R_LARCH_TLS_GD_PC_HI20,
-    R_LARCH_TLS_GD_HI20,
-    R_LARCH_TLS_DESC_PC_HI20,
-    R_LARCH_TLS_DESC_PC_LO12,
-    R_LARCH_TLS_DESC64_PC_HI12,
-    R_LARCH_TLS_DESC64_PC_LO20,
-    R_LARCH_TLS_DESC_LD,
-    R_LARCH_TLS_DESC_CALL,
-    R_LARCH_TLS_DTPREL32,
-    R_LARCH_TLS_DTPREL64,
-    R_LARCH_TLS_LD_PCREL20_S2,
-    R_LARCH_TLS_GD_PCREL20_S2,
-    R_LARCH_TLS_DESC_PCREL20_S2,
-    R_LARCH_RELAX,
-    R_LARCH_TLS_LE_ADD_R,
-    R_LARCH_ALIGN,
-}
-
-impl From<LoongArch64Relocation> for Relocation {
-    fn from(name: LoongArch64Relocation) -> Relocation {
-        Relocation::numbered(Architecture::LoongArch64 as u32, name as u32)
+numbered! {
+    /// Rewrites of PowerPC64.
+    Ppc64Rewrite: u32 {
+        NoOp = 0,
     }
 }
 
-/// The relocations of PowerPC64.
-#[derive(Debug, Clone, Copy, PartialEq, Eq)]
-pub enum Ppc64Relocation {
-    R_PPC64_TLS,
-    R_PPC64_TLSGD,
-    R_PPC64_TLSLD,
-    R_PPC64_ADDR64,
-    R_PPC64_ADDR32,
-    R_PPC64_REL64,
-    R_PPC64_REL32,
-    R_PPC64_REL24,
-    R_PPC64_REL14,
-    R_PPC64_REL16_HA,
-    R_PPC64_REL16_LO,
-    R_PPC64_TOC16_HA,
-    R_PPC64_TOC16_LO,
-    R_PPC64_TOC16_LO_DS,
-    R_PPC64_TPREL64,
-    R_PPC64_TPREL16,
-    R_PPC64_TPREL16_LO,
-    R_PPC64_TPREL16_HI,
-    R_PPC64_TPREL16_HA,
-    R_PPC64_TPREL16_DS,
-    R_PPC64_TPREL16_LO_DS,
-    R_PPC64_DTPREL64,
-    R_PPC64_DTPREL16,
-    R_PPC64_DTPREL16_LO,
-    R_PPC64_DTPREL16_HI,
-    R_PPC64_DTPREL16_HA,
-    R_PPC64_DTPREL16_DS,
-    R_PPC64_DTPREL16_LO_DS,
-    R_PPC64_GOT_TPREL16_HA,
-    R_PPC64_GOT_TPREL16_HI,
-    R_PPC64_GOT_TPREL16_DS,
-    R_PPC64_GOT_TPREL16_LO_DS,
-    R_PPC64_GOT_TLSGD16,
-    R_PPC64_GOT_TLSGD16_LO,
-    R_PPC64_GOT_TLSGD16_HI,
-    R_PPC64_GOT_TLSGD16_HA,
-    R_PPC64_GOT_TLSLD16,
-    R_PPC64_GOT_TLSLD16_LO,
-    R_PPC64_GOT_TLSLD16_HI,
-    R_PPC64_GOT_TLSLD16_HA,
+macro_rules! x86_64_rewrites {
+    ($($variant:ident $(($n:ident))? = $value:literal,)*) => {
+        /// Rewrites of x86-64. The number is that of the instruction's bytes before the field.
+        #[derive(Debug, Clone, Copy, PartialEq, Eq, Hash)]
+        pub enum X86_64Rewrite {
+            $($variant $((x86_64_rewrites!(@count $n)))?,)*
+        }
+
+        impl X86_64Rewrite {
+            /// The library's number, and that of the bytes before the field, or 0.
+            pub const fn numbers(self) -> (u32, u8) {
+                match self {
+                    $(X86_64Rewrite::$variant $(($n))? => ($value, x86_64_rewrites!(@or_zero $($n)?)),)*
+                }
+            }
+
+            /// The one with the library's numbers, if there is one.
+            pub const fn from_numbers(number: u32, bytes_before: u8) -> Option<X86_64Rewrite> {
+                match number {
+                    $($value => Some(X86_64Rewrite::$variant $((x86_64_rewrites!(@bytes_before $n bytes_before)))?),)*
+                    _ => None,
+                }
+            }
+        }
+    };
+    (@count $n:ident) => { u8 };
+    (@bytes_before $n:ident $count:ident) => { $count };
+    (@or_zero) => { 0 };
+    (@or_zero $n:ident) => { $n };
 }
 
-impl From<Ppc64Relocation> for Relocation {
-    fn from(name: Ppc64Relocation) -> Relocation {
-        Relocation::numbered(Architecture::Ppc64 as u32, name as u32)
+x86_64_rewrites! {
+    MovIndirectToLea = 0,
+    MovIndirectToAbsolute = 1,
+    RexMovIndirectToAbsolute(n) = 2,
+    RexAddIndirectToAbsolute(n) = 3,
+    RexSubIndirectToAbsolute(n) = 4,
+    RexCmpIndirectToAbsolute(n) = 5,
+    CallIndirectToRelative = 6,
+    JmpIndirectToRelative = 7,
+    NoOp = 8,
+    TlsGdToLocalExec = 9,
+    TlsGdToLocalExecLarge = 10,
+    TlsLdToLocalExec = 11,
+    TlsLdToLocalExecNoPlt = 12,
+    TlsLdToLocalExec64 = 13,
+    TlsGdToInitialExec = 14,
+    TlsDescToLocalExec(n) = 15,
+    TlsDescToInitialExec = 16,
+    SkipTlsDescCall = 17,
+}
+
+numbered! {
+    /// What becomes of the relocation after that of a rewritten instruction.
+    Modifier: u32 {
+        Normal = 0,
+        SkipNextRelocation = 1,
     }
 }
 
-/// The relocations of x86-64.
-#[derive(Debug, Clone, Copy, PartialEq, Eq)]
-pub enum X86_64Relocation {
-    R_X86_64_NONE,
-    R_X86_64_TLSDESC_CALL,
-    R_X86_64_64,
-    R_X86_64_32,
-    R_X86_64_32S,
-    R_X86_64_16,
-    R_X86_64_8,
-    R_X86_64_PC64,
-    R_X86_64_GOTPC64,
-    R_X86_64_PC32,
-    R_X86_64_GOTPC32,
-    R_X86_64_PC16,
-    R_X86_64_PC8,
-    R_X86_64_GOT32,
-    R_X86_64_GOT64,
-    R_X86_64_GOTOFF64,
-    R_X86_64_PLT32,
-    R_X86_64_PLTOFF64,
-    R_X86_64_GOTPCREL,
-    R_X86_64_GOTPCRELX,
-    R_X86_64_REX_GOTPCRELX,
-    R_X86_64_CODE_4_GOTPCRELX,
-    R_X86_64_CODE_5_GOTPCRELX,
-    R_X86_64_CODE_6_GOTPCRELX,
-    R_X86_64_SIZE32,
-    R_X86_64_SIZE64,
-    R_X86_64_TLSGD,
-    R_X86_64_TLSLD,
-    R_X86_64_DTPOFF32,
-    R_X86_64_DTPOFF64,
-    R_X86_64_GOTTPOFF,
-    R_X86_64_CODE_4_GOTTPOFF,
-    R_X86_64_CODE_5_GOTTPOFF,
-    R_X86_64_CODE_6_GOTTPOFF,
-    R_X86_64_TPOFF32,
-    R_X86_64_GOTPC32_TLSDESC,
-    R_X86_64_CODE_4_GOTPC32_TLSDESC,
-    R_X86_64_CODE_5_GOTPC32_TLSDESC,
-    R_X86_64_CODE_6_GOTPC32_TLSDESC,
-}
-
-impl From<X86_64Relocation> for Relocation {
-    fn from(name: X86_64Relocation) -> Relocation {
-        Relocation::numbered(Architecture::X86_64 as u32, name as u32)
+numbered! {
+    /// Which register the jump that is made of a RISC-V call links.
+    LinkRegister: u32 {
+        /// That of the `auipc`, as `relax_call`.
+        OfAuipc = 0,
+        /// That of the `jalr`, as linkers do.
+        OfJalr = 1,
     }
 }
+
+numbered! {
+    /// What a relocation's value is computed from: `include/linker_utils.h` gives each kind's formula.
+    RelocationKind: u32 {
+        None = 0,
+        Absolute = 1,
+        AbsoluteLowPart = 2,
+        AbsoluteSet = 3,
+        AbsoluteSetWord6 = 4,
+        AbsoluteAddition = 5,
+        AbsoluteAdditionWord6 = 6,
+        AbsoluteSubtraction = 7,
+        AbsoluteSubtractionWord6 = 8,
+        PairSubtractionULEB128RiscV = 9,
+        PairSubtractionULEB128LoongArch = 10,
+        Relative = 11,
+        RelativeRiscVLow12 = 12,
+        RelativeLoongArchHigh = 13,
+        GotRelative = 14,
+        GotRelativeLoongArch64 = 15,
+        GotRelGotBase = 16,
+        Got = 17,
+        SymRelGotBase = 18,
+        PltRelGotBase = 19,
+        PltRelative = 20,
+        SymbolSize = 21,
+        Alignment = 22,
+        TlsGd = 23,
+        TlsGdGot = 24,
+        TlsGdGotBase = 25,
+        TlsLd = 26,
+        TlsLdGot = 27,
+        TlsLdGotBase = 28,
+        DtpOff = 29,
+        GotTpOff = 30,
+        GotTpOffGot = 31,
+        GotTpOffGotBase = 32,
+        GotTpOffLoongArch64 = 33,
+        TpOff = 34,
+        TlsDesc = 35,
+        TlsDescGot = 36,
+        TlsDescGotBase = 37,
+        TlsDescLoongArch64 = 38,
+        TlsDescCall = 39,
+    }
+}
+
+numbered! {
+    /// Which addresses of the formula are cut to their page of 4 KiB.
+    PageMask: u32 {
+        /// S + A, and P.
+        SymbolPlusAddendAndPosition = 1,
+        /// The GOT entry's address, and P.
+        GotEntryAndPosition = 2,
+        /// The GOT's address.
+        GotBase = 3,
+    }
+}
+
+/// A form of instructions that hold a value.
+#[derive(Debug, Clone, Copy, PartialEq, Eq, Hash)]
+pub enum Form {
+    AArch64(AArch64Form),
+    RiscV(RiscVForm),
+    LoongArch64(LoongArch64Form),
+    Ppc64(Ppc64Form),
+}
+
+impl Form {
+    pub(crate) const fn numbers(self) -> (u16, u32) {
+        match self {
+            Form::AArch64(form) => (Architecture::AArch64.machine(), form.number()),
+            Form::RiscV(form) => (Architecture::RiscV.machine(), form.number()),
+            Form::LoongArch64(form) => (Architecture::LoongArch64.machine(), form.number()),
+            Form::Ppc64(form) => (Architecture::Ppc64.machine(), form.number()),
+        }
+    }
+
+    pub(crate) fn from_numbers(machine: u16, form: u32) -> Option<Form> {
+        Some(match Architecture::from_machine(machine)? {
+            Architecture::AArch64 => Form::AArch64(AArch64Form::from_number(form)?),
+            Architecture::RiscV => Form::RiscV(RiscVForm::from_number(form)?),
+            Architecture::LoongArch64 => Form::LoongArch64(LoongArch64Form::from_number(form)?),
+            Architecture::Ppc64 => Form::Ppc64(Ppc64Form::from_number(form)?),
+            Architecture::X86_64 => return None,
+        })
+    }
+}
+
+/// A rewrite of an instruction.
+#[derive(Debug, Clone, Copy, PartialEq, Eq, Hash)]
+pub enum Rewrite {
+    AArch64(AArch64Rewrite),
+    RiscV(RiscVRewrite),
+    LoongArch64(LoongArch64Rewrite),
+    Ppc64(Ppc64Rewrite),
+    X86_64(X86_64Rewrite),
+}
+
+impl Rewrite {
+    pub(crate) const fn numbers(self) -> (u16, u32, u8) {
+        match self {
+            Rewrite::AArch64(rewrite) => (Architecture::AArch64.machine(), rewrite.number(), 0),
+            Rewrite::RiscV(rewrite) => (Architecture::RiscV.machine(), rewrite.number(), 0),
+            Rewrite::LoongArch64(rewrite) => {
+                (Architecture::LoongArch64.machine(), rewrite.number(), 0)
+            }
+            Rewrite::Ppc64(rewrite) => (Architecture::Ppc64.machine(), rewrite.number(), 0),
+            Rewrite::X86_64(rewrite) => {
+                let (number, bytes_before) = rewrite.numbers();
+                (Architecture::X86_64.machine(), number, bytes_before)
+            }
+        }
+    }
+}
+
+macro_rules! variants_of {
+    ($whole:ident { $($variant:ident($part:ident),)* }) => {
+        $(impl From<$part> for $whole {
+            fn from(part: $part) -> $whole {
+                $whole::$variant(part)
+            }
+        })*
+    };
+}
+
+variants_of! { Form {
+    AArch64(AArch64Form),
+    RiscV(RiscVForm),
+    LoongArch64(LoongArch64Form),
+    Ppc64(Ppc64Form),
+} }
+variants_of! { Rewrite {
+    AArch64(AArch64Rewrite),
+    RiscV(RiscVRewrite),
+    LoongArch64(LoongArch64Rewrite),
+    Ppc64(Ppc64Rewrite),
+    X86_64(X86_64Rewrite),
+} }

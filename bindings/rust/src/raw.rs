@@ -1,42 +1,64 @@
-//! The functions of the static library, as `include/linker_utils.h` declares them.
+//! The static library's own symbols, as `include/linker_utils.h` declares them: what each of them
+//! requires of pointers and counts, and does, is said there. No pointer to a slice may be null.
 
-use crate::{Deletion, Delta, Row};
+pub use crate::{BlockHead, Call, Deletion, Delta};
+
+/// `struct linker_utils_relocation_info`.
+#[repr(C)]
+#[derive(Debug, Clone, Copy, Default, PartialEq, Eq)]
+pub struct RelocationInfo {
+    pub kind: u32,
+    pub form: u32,
+    pub mask: u32,
+    pub machine: u16,
+    pub is_bits: u8,
+    pub byte_size: u8,
+    pub first_bit: u8,
+    pub end_bit: u8,
+    pub has_range: u8,
+    pub thunkable: u8,
+    pub implicit_addend: u8,
+    pub min: i64,
+    pub max: i64,
+    pub alignment: u64,
+    pub bias: u64,
+}
 
 extern "C" {
-    pub fn linker_utils_window(architecture: u32, form: u32, window: *mut usize) -> u32;
-    pub fn linker_utils_fits(
-        architecture: u32,
+    pub fn linker_utils_fits_nonnull(
+        machine: u16,
         form: u32,
         value: u64,
         bytes: *const u8,
         bytes_len: usize,
     ) -> u32;
-    pub fn linker_utils_write(
-        architecture: u32,
+    pub fn linker_utils_write_nonnull(
+        machine: u16,
         form: u32,
         value: u64,
         negative: bool,
         dest: *mut u8,
         dest_len: usize,
     ) -> u32;
-    pub fn linker_utils_read(
-        architecture: u32,
+    pub fn linker_utils_read_nonnull(
+        machine: u16,
         form: u32,
         bytes: *const u8,
         bytes_len: usize,
         value: *mut u64,
-        negative: *mut bool,
+        negative: *mut u8,
     ) -> u32;
-    pub fn linker_utils_can_apply(
-        architecture: u32,
+    pub fn linker_utils_window(machine: u16, form: u32, window: *mut usize) -> u32;
+    pub fn linker_utils_can_apply_nonnull(
+        machine: u16,
         rewrite: u32,
         n: u8,
         section: *const u8,
         section_len: usize,
         offset: u64,
     ) -> u32;
-    pub fn linker_utils_apply(
-        architecture: u32,
+    pub fn linker_utils_apply_nonnull(
+        machine: u16,
         rewrite: u32,
         n: u8,
         section: *mut u8,
@@ -44,20 +66,24 @@ extern "C" {
         offset: *mut u64,
         addend: *mut i64,
     ) -> u32;
-    pub fn linker_utils_next_modifier(
-        architecture: u32,
-        rewrite: u32,
-        n: u8,
-        modifier: *mut u32,
+    pub fn linker_utils_next_modifier(machine: u16, rewrite: u32, n: u8, modifier: *mut u32)
+        -> u32;
+    pub fn linker_utils_relocation_name_nonnull(
+        machine: u16,
+        r_type: u32,
+        name: *mut u8,
+        name_len: usize,
+        name_used: *mut usize,
     ) -> u32;
-    pub fn linker_utils_relocation(architecture: u32, relocation: u32, row: *mut Row) -> u32;
-    pub fn linker_utils_jal_site(
+    pub fn linker_utils_relocation(machine: u16, r_type: u32, info: *mut RelocationInfo) -> u32;
+    pub fn linker_utils_clui_rel_info(info: *mut RelocationInfo);
+    pub fn linker_utils_jal_site_nonnull(
         section: *mut u8,
         section_len: usize,
         site: u64,
         distance: i64,
     ) -> u32;
-    pub fn linker_utils_relax_call(
+    pub fn linker_utils_relax_call_nonnull(
         section: *mut u8,
         section_len: usize,
         deltas: *const Delta,
@@ -65,85 +91,149 @@ extern "C" {
         site: u64,
         target: u64,
     ) -> u32;
-    pub fn linker_utils_is_plain_call(section: *const u8, section_len: usize, site: u64) -> bool;
+    pub fn linker_utils_is_plain_call_nonnull(
+        section: *const u8,
+        section_len: usize,
+        site: u64,
+    ) -> bool;
     pub fn linker_utils_distance_fits_jal(distance: i64) -> bool;
     pub fn linker_utils_hi20_is_zero(value: u64) -> bool;
     pub fn linker_utils_hi20_fits_clui(value: u64) -> bool;
     pub fn linker_utils_rd_valid_for_clui(rd: u32) -> bool;
-    pub fn linker_utils_write_mov_sequence(
+    pub fn linker_utils_write_mov_sequence_nonnull(
         dest: *mut u8,
         dest_len: usize,
         rd: u32,
         value: u64,
     ) -> u32;
-    pub fn linker_utils_write_address_sequence(
+    pub fn linker_utils_write_address_sequence_nonnull(
         dest: *mut u8,
         dest_len: usize,
         pc: u64,
         target: u64,
     ) -> u32;
-    pub fn linker_utils_highest_relocation_with_bias(s: u64, pc: u64) -> u64;
-    pub fn linker_utils_write_ha_lo(
+    pub fn linker_utils_write_ha_lo_nonnull(
         ha: *mut u8,
         ha_len: usize,
         lo: *mut u8,
         lo_len: usize,
         value: u64,
     ) -> u32;
-    pub fn linker_utils_u32_from_slice(bytes: *const u8, bytes_len: usize, value: *mut u32) -> u32;
-    pub fn linker_utils_u64_from_slice(bytes: *const u8, bytes_len: usize, value: *mut u64) -> u32;
-    pub fn linker_utils_read_u32(
+    pub fn linker_utils_highest_relocation_with_bias(s: u64, pc: u64) -> u64;
+    pub fn linker_utils_u32_from_slice_nonnull(
+        bytes: *const u8,
+        bytes_len: usize,
+        value: *mut u32,
+    ) -> u32;
+    pub fn linker_utils_u64_from_slice_nonnull(
+        bytes: *const u8,
+        bytes_len: usize,
+        value: *mut u64,
+    ) -> u32;
+    pub fn linker_utils_read_u32_nonnull(
         bytes: *const u8,
         bytes_len: usize,
         value: *mut u32,
         consumed: *mut usize,
     ) -> u32;
-    pub fn linker_utils_read_uleb128(
+    pub fn linker_utils_read_uleb128_nonnull(
         bytes: *const u8,
         bytes_len: usize,
         value: *mut u64,
         consumed: *mut usize,
     ) -> u32;
-    pub fn linker_utils_deltas_is_valid(deletions: *const Deletion, deletions_len: usize) -> u32;
-    pub fn linker_utils_deltas_create(
+    pub fn linker_utils_deltas_is_valid_nonnull(
+        deletions: *const Deletion,
+        deletions_len: usize,
+        faulty: *mut usize,
+    ) -> u32;
+    pub fn linker_utils_deltas_create_nonnull(
         deletions: *const Deletion,
         deletions_len: usize,
         deltas: *mut Delta,
         deltas_len: usize,
+        faulty: *mut usize,
     ) -> u32;
-    pub fn linker_utils_deltas_is_mergeable(
+    pub fn linker_utils_deltas_is_mergeable_nonnull(
         deltas: *const Delta,
         deltas_len: usize,
         additional: *const Deletion,
         additional_len: usize,
     ) -> u32;
-    pub fn linker_utils_deltas_merge(
+    pub fn linker_utils_deltas_merge_nonnull(
         deltas: *const Delta,
         deltas_len: usize,
         additional: *const Deletion,
         additional_len: usize,
         merged: *mut Delta,
         merged_len: usize,
+        faulty: *mut usize,
     ) -> u32;
-    pub fn linker_utils_deltas_total_deleted(deltas: *const Delta, deltas_len: usize) -> u64;
-    pub fn linker_utils_deltas_input_to_output(
+    pub fn linker_utils_deltas_total_deleted_nonnull(
+        deltas: *const Delta,
+        deltas_len: usize,
+    ) -> u64;
+    pub fn linker_utils_deltas_input_to_output_nonnull(
         deltas: *const Delta,
         deltas_len: usize,
         input_offset: u64,
-        output_offset: *mut u64,
-    ) -> u32;
-    pub fn linker_utils_deltas_output_to_input(
+    ) -> u64;
+    pub fn linker_utils_deltas_output_to_input_nonnull(
         deltas: *const Delta,
         deltas_len: usize,
         output_offset: u64,
         input_offset: *mut u64,
     ) -> u32;
-    pub fn linker_utils_deltas_translate_all(
+    pub fn linker_utils_deltas_translate_all_nonnull(
         deltas: *const Delta,
         deltas_len: usize,
         queries: *const u64,
         queries_len: usize,
         outputs: *mut u64,
         outputs_len: usize,
+        faulty: *mut usize,
+    ) -> u32;
+    pub fn linker_utils_packed_len_nonnull(
+        section: *const u8,
+        section_len: usize,
+        deltas: *const Delta,
+        deltas_len: usize,
+    ) -> usize;
+    pub fn linker_utils_pack_nonnull(
+        section: *const u8,
+        section_len: usize,
+        deltas: *const Delta,
+        deltas_len: usize,
+        calls: *const Call,
+        calls_len: usize,
+        link: u32,
+        packed: *mut u8,
+        packed_len: usize,
+        faulty: *mut usize,
+    ) -> u32;
+    pub fn linker_utils_deltas_block_count_nonnull(
+        deltas: *const Delta,
+        deltas_len: usize,
+    ) -> usize;
+    pub fn linker_utils_deltas_heads_nonnull(
+        deltas: *const Delta,
+        deltas_len: usize,
+        heads: *mut BlockHead,
+        heads_len: usize,
+    ) -> u32;
+    pub fn linker_utils_deltas_input_to_output_by_heads_nonnull(
+        deltas: *const Delta,
+        deltas_len: usize,
+        heads: *const BlockHead,
+        heads_len: usize,
+        input_offset: u64,
+    ) -> u64;
+    pub fn linker_utils_deltas_output_to_input_by_heads_nonnull(
+        deltas: *const Delta,
+        deltas_len: usize,
+        heads: *const BlockHead,
+        heads_len: usize,
+        output_offset: u64,
+        input_offset: *mut u64,
     ) -> u32;
 }

@@ -2,6 +2,7 @@
 //! hand.
 
 use sathunne::*;
+use std::ops::Range;
 
 /// The bytes of words, lowest byte first.
 fn bytes_of(words: &[u32]) -> Vec<u8> {
@@ -11,12 +12,12 @@ fn bytes_of(words: &[u32]) -> Vec<u8> {
 /// The word that a value makes of another.
 fn written(form: impl Into<Form>, before: u32, value: i64) -> Result<u32, Status> {
     let mut bytes = before.to_le_bytes();
-    write(form.into(), value as u64, value < 0, &mut bytes)?;
+    write(form, value as u64, value < 0, &mut bytes)?;
     Ok(u32::from_le_bytes(bytes))
 }
 
 fn read_back(form: impl Into<Form>, word: u32) -> (i64, bool) {
-    let (value, flag) = read(form.into(), &word.to_le_bytes()).expect("a word is read");
+    let (value, flag) = read(form, &word.to_le_bytes()).expect("a word is read");
     (value as i64, flag)
 }
 
@@ -50,6 +51,17 @@ fn deltas(pairs: &[(u64, u32)]) -> Vec<Delta> {
     assert_eq!(deltas_is_valid(&deletions), Ok(()));
     assert_eq!(deltas_create(&deletions, &mut deltas), Ok(()));
     deltas
+}
+
+/// The error of an array as a whole, and of one of its entries.
+fn failure(status: Status) -> ArrayError {
+    let index = None;
+    ArrayError { status, index }
+}
+
+fn at(index: usize, status: Status) -> ArrayError {
+    let index = Some(index);
+    ArrayError { status, index }
 }
 
 fn sums(deltas: &[Delta]) -> Vec<u64> {
@@ -173,10 +185,7 @@ fn writes_and_reads_values_in_words() {
 #[test]
 fn the_sign_chooses_the_opcode_of_a_move() {
     let mut word = 0xd2a0_0003_u32.to_le_bytes();
-    assert_eq!(
-        write(AArch64Form::Movnz.into(), 0xfffe, true, &mut word),
-        Ok(())
-    );
+    assert_eq!(write(AArch64Form::Movnz, 0xfffe, true, &mut word), Ok(()));
     assert_eq!(u32::from_le_bytes(word), 0x92a0_0023);
 }
 
@@ -189,61 +198,65 @@ fn writes_values_in_half_words_and_pairs() {
     ];
     for (form, before, value, after) in halves {
         let mut half = before.to_le_bytes();
-        assert_eq!(window(form.into()), Ok(2));
-        assert_eq!(
-            write(form.into(), value as u64, value < 0, &mut half),
-            Ok(())
-        );
+        assert_eq!(window(form), Ok(2));
+        assert_eq!(write(form, value as u64, value < 0, &mut half), Ok(()));
         assert_eq!(u16::from_le_bytes(half), after, "{form:?}");
     }
     assert_eq!(
-        read(RiscVForm::CluiType.into(), &[0x7d, 0x75]),
+        read(RiscVForm::CluiType, &[0x7d, 0x75]),
         Ok((-0x1800_i64 as u64, true))
     );
 
     let mut pair = [0; 8];
-    assert_eq!(window(RiscVForm::UiType.into()), Ok(8));
-    assert_eq!(
-        write(RiscVForm::UiType.into(), 0x800, false, &mut pair),
-        Ok(())
-    );
+    assert_eq!(window(RiscVForm::UiType), Ok(8));
+    assert_eq!(write(RiscVForm::UiType, 0x800, false, &mut pair), Ok(()));
     assert_eq!(pair.to_vec(), bytes_of(&[0x0000_1000, 0x8000_0000]));
 
     let mut pair = [0; 8];
     let words = ((1_u64 << 38) - 4) >> 2;
     assert_eq!(
-        write(LoongArch64Form::Call36.into(), words, false, &mut pair),
+        write(LoongArch64Form::Call36, words, false, &mut pair),
         Ok(())
     );
     assert_eq!(pair.to_vec(), bytes_of(&[0, 0x03ff_fc00]));
     assert_eq!(
-        read(LoongArch64Form::Call36.into(), &pair),
+        read(LoongArch64Form::Call36, &pair),
         Ok(((1 << 36) - 1, false))
     );
 
     let mut pair = [0; 8];
     assert_eq!(
-        write(LoongArch64Form::Call30.into(), 0xf_ffff, false, &mut pair),
+        write(LoongArch64Form::Call30, 0xf_ffff, false, &mut pair),
         Ok(())
     );
     assert_eq!(pair.to_vec(), bytes_of(&[0x01ff_c000, 0x0007_fc00]));
 }
 
 #[test]
-fn refuses_forms_and_values() {
+fn rejects_forms_and_values() {
     // an architecture without forms, one that is none, and a number past the last form of each
-    for (architecture, forms) in [(0, 11), (1, 9), (2, 6), (3, 4)] {
-        assert!(window(Form::numbered(architecture, forms - 1)).is_ok());
-        let form = Form::numbered(architecture, forms);
-        assert_eq!(window(form), Err(Status::UnknownForm));
+    let (mut len, mut value, mut negative) = (9, 9, 9);
+    let bytes = [0; 8];
+    let (at, unknown) = (bytes.as_ptr(), Status::UnknownArchitecture.number());
+    // SAFETY: the slice is `bytes`, and the references are of one value.
+    unsafe {
+        for (machine, forms) in [(183, 11), (243, 9), (258, 6), (21, 4)] {
+            let status = raw::linker_utils_window(machine, forms, &mut len);
+            assert_eq!((status, len), (Status::UnknownForm.number(), 9));
+        }
+        for machine in [62, 0, 1, u16::MAX] {
+            let status = raw::linker_utils_window(machine, 0, &mut len);
+            assert_eq!((status, len), (unknown, 9));
+            assert_eq!(
+                raw::linker_utils_fits_nonnull(machine, 0, 0, at, 8),
+                unknown
+            );
+            let status =
+                raw::linker_utils_read_nonnull(machine, 0, at, 8, &mut value, &mut negative);
+            assert_eq!((status, value, negative), (unknown, 9, 9));
+        }
     }
-    for architecture in [4, 5, u32::MAX] {
-        let form = Form::numbered(architecture, 0);
-        assert_eq!(window(form), Err(Status::UnknownArchitecture));
-        assert_eq!(fits(form, 0, &[0; 4]), Err(Status::UnknownArchitecture));
-        assert_eq!(read(form, &[0; 4]), Err(Status::UnknownArchitecture));
-    }
-    let adr = AArch64Form::Adr.into();
+    let adr = AArch64Form::Adr;
     let mut word = [0; 4];
     assert_eq!(
         write(adr, 1 << 21, false, &mut word),
@@ -259,10 +272,10 @@ fn refuses_forms_and_values() {
     // the scale of a load of 16 bytes
     let load = 0x3dc0_0000_u32.to_le_bytes();
     assert_eq!(
-        fits(AArch64Form::MachOLow12.into(), 0x1_0000, &load),
+        fits(AArch64Form::MachOLow12, 0x1_0000, &load),
         Err(Status::DoesNotFit)
     );
-    assert_eq!(fits(AArch64Form::MachOLow12.into(), 0xffff, &load), Ok(()));
+    assert_eq!(fits(AArch64Form::MachOLow12, 0xffff, &load), Ok(()));
 }
 
 #[test]
@@ -343,33 +356,47 @@ fn rewrites_instructions() {
 }
 
 #[test]
-fn refuses_rewrites() {
+fn rejects_rewrites() {
     // `ldr x1, [x2]`
     let (mut section, mut offset, mut addend) = ([0x41, 0, 0x40, 0xf9], 0, 7);
-    let refused = [
-        (AArch64Rewrite::MovkXn.into(), Status::CannotApply),
-        (Rewrite::numbered(4, 18, 0), Status::UnknownRewrite),
-        (Rewrite::numbered(5, 0, 0), Status::UnknownArchitecture),
-    ];
-    for (rewrite, status) in refused {
-        assert_eq!(can_apply(rewrite, &section, 0), Err(status));
-        assert_eq!(
-            apply(rewrite, &mut section, &mut offset, &mut addend),
-            Err(status)
-        );
-        assert_eq!((section, offset, addend), ([0x41, 0, 0x40, 0xf9], 0, 7));
+    let cannot = Err(Status::CannotApply);
+    assert_eq!(can_apply(AArch64Rewrite::MovkXn, &section, 0), cannot);
+    let rewritten = apply(
+        AArch64Rewrite::MovkXn,
+        &mut section,
+        &mut offset,
+        &mut addend,
+    );
+    assert_eq!(rewritten, cannot);
+    let (mut modifier, at) = (9, section.as_mut_ptr());
+    // past the last rewrite of each architecture, and a machine that is none
+    let unknown = [(183, 13), (243, 6), (258, 2), (21, 1), (62, 18), (0, 0)];
+    for (machine, rewrite) in unknown {
+        let status = match machine {
+            0 => Status::UnknownArchitecture.number(),
+            _ => Status::UnknownRewrite.number(),
+        };
+        // SAFETY: the slice is `section`, and the references are of one value.
+        unsafe {
+            let can = raw::linker_utils_can_apply_nonnull(machine, rewrite, 0, at, 4, 0);
+            let done = raw::linker_utils_apply_nonnull(
+                machine,
+                rewrite,
+                0,
+                at,
+                4,
+                &mut offset,
+                &mut addend,
+            );
+            let next = raw::linker_utils_next_modifier(machine, rewrite, 0, &mut modifier);
+            assert_eq!([can, done, next, modifier], [status, status, status, 9]);
+        }
     }
-    let jump = X86_64Rewrite::JmpIndirectToRelative.into();
+    assert_eq!((section, offset, addend), ([0x41, 0, 0x40, 0xf9], 0, 7));
+    let jump = X86_64Rewrite::JmpIndirectToRelative;
     assert_eq!(can_apply(jump, &[0; 6], 2), Ok(()));
     assert_eq!(can_apply(jump, &[0; 6], 1), Err(Status::CannotApply));
     assert_eq!(can_apply(jump, &[0; 6], u64::MAX), Err(Status::CannotApply));
-    for (architecture, rewrites) in [(0, 13), (1, 6), (2, 2), (3, 1), (4, 18)] {
-        assert!(next_modifier(Rewrite::numbered(architecture, rewrites - 1, 0)).is_ok());
-        let past = Rewrite::numbered(architecture, rewrites, 0);
-        assert_eq!(next_modifier(past), Err(Status::UnknownRewrite));
-    }
-    let none = Rewrite::numbered(5, 0, 0);
-    assert_eq!(next_modifier(none), Err(Status::UnknownArchitecture));
 }
 
 #[test]
@@ -384,215 +411,228 @@ fn tells_what_becomes_of_the_next_relocation() {
         X86_64Rewrite::TlsLdToLocalExecNoPlt.into(),
         X86_64Rewrite::TlsLdToLocalExec64.into(),
     ];
-    let mut count = 0;
-    for (architecture, rewrites) in [(0, 13), (1, 6), (2, 2), (3, 1), (4, 18)] {
-        for number in 0..rewrites {
-            let rewrite = Rewrite::numbered(architecture, number, 0);
-            let modifier = next_modifier(rewrite);
-            if skipped.contains(&rewrite) {
-                count += 1;
-                assert_eq!(modifier, Ok(Modifier::SkipNextRelocation), "{rewrite:?}");
-            } else {
-                assert_eq!(modifier, Ok(Modifier::Normal), "{rewrite:?}");
-            }
-        }
+    for rewrite in skipped {
+        let modifier = next_modifier(rewrite);
+        assert_eq!(modifier, Ok(Modifier::SkipNextRelocation), "{rewrite:?}");
     }
-    assert_eq!(count, skipped.len());
+    let all = (AArch64Rewrite::ALL.iter().map(|&it| it.into()))
+        .chain(RiscVRewrite::ALL.iter().map(|&it| it.into()))
+        .chain(LoongArch64Rewrite::ALL.iter().map(|&it| it.into()))
+        .chain(Ppc64Rewrite::ALL.iter().map(|&it| it.into()))
+        .chain((0..18).map(|it| {
+            X86_64Rewrite::from_numbers(it, 3)
+                .expect("one of 18")
+                .into()
+        }));
+    for rewrite in all.filter(|it: &Rewrite| !skipped.contains(it)) {
+        assert_eq!(next_modifier(rewrite), Ok(Modifier::Normal), "{rewrite:?}");
+    }
 }
 
-/// A row of whole bytes.
-fn in_bytes(kind: RelocationKind, byte_size: u8) -> Row {
-    Row {
-        kind: kind as u32,
-        byte_size,
+/// What a relocation of whole bytes means.
+fn in_bytes(kind: RelocationKind, byte_size: u8) -> RelocationInfo {
+    RelocationInfo {
+        kind,
+        size: RelocationSize::Bytes(byte_size),
+        mask: None,
+        range: None,
         alignment: 1,
-        ..Row::default()
+        bias: 0,
+        thunkable: false,
+        implicit_addend: false,
     }
 }
 
-/// A row of bits from the first up, below the end.
-fn in_bits(kind: RelocationKind, bits: (u8, u8), architecture: Architecture, form: u32) -> Row {
-    Row {
-        kind: kind as u32,
-        is_bits: true,
-        first_bit: bits.0,
-        end_bit: bits.1,
-        architecture: architecture as u32,
-        form,
-        alignment: 1,
-        ..Row::default()
+/// What a relocation of bits from the first up, below the end, means.
+fn in_bits(kind: RelocationKind, range: Range<u8>, form: impl Into<Form>) -> RelocationInfo {
+    RelocationInfo {
+        size: RelocationSize::Bits {
+            range,
+            form: form.into(),
+        },
+        ..in_bytes(kind, 0)
     }
 }
 
-fn within(bounds: (i64, i64), row: Row) -> Row {
-    Row {
-        has_range: true,
-        min: bounds.0,
-        max: bounds.1,
-        ..row
+fn within(range: Range<i64>, info: RelocationInfo) -> RelocationInfo {
+    RelocationInfo {
+        range: Some(range),
+        ..info
     }
 }
 
 #[test]
 fn tells_what_relocations_mean() {
-    let rows: [(Relocation, Row); 16] = [
+    use Architecture::{AArch64, LoongArch64, Ppc64, RiscV, X86_64};
+    let meanings = [
         (
-            AArch64Relocation::R_AARCH64_NONE.into(),
+            AArch64,
+            0,
+            "R_AARCH64_NONE",
             in_bytes(RelocationKind::None, 0),
         ),
         (
-            AArch64Relocation::R_AARCH64_GOTREL64.into(),
+            AArch64,
+            307,
+            "R_AARCH64_GOTREL64",
             in_bytes(RelocationKind::SymRelGotBase, 8),
         ),
         (
-            AArch64Relocation::R_AARCH64_CALL26.into(),
-            Row {
+            AArch64,
+            282,
+            "R_AARCH64_JUMP26",
+            RelocationInfo {
                 alignment: 4,
                 thunkable: true,
                 ..within(
-                    (-(1 << 27), 1 << 27),
-                    in_bits(
-                        RelocationKind::PltRelative,
-                        (2, 28),
-                        Architecture::AArch64,
-                        AArch64Form::JumpCall as u32,
-                    ),
+                    -(1 << 27)..1 << 27,
+                    in_bits(RelocationKind::PltRelative, 2..28, AArch64Form::JumpCall),
                 )
             },
         ),
         (
-            AArch64Relocation::R_AARCH64_ADR_PREL_PG_HI21.into(),
-            Row {
-                mask: Mask::SymbolPlusAddendAndPosition as u32,
+            AArch64,
+            275,
+            "R_AARCH64_ADR_PREL_PG_HI21",
+            RelocationInfo {
+                mask: Some(PageMask::SymbolPlusAddendAndPosition),
                 ..within(
-                    (-(1 << 32), 1 << 32),
-                    in_bits(
-                        RelocationKind::Relative,
-                        (12, 33),
-                        Architecture::AArch64,
-                        AArch64Form::Adr as u32,
-                    ),
+                    -(1 << 32)..1 << 32,
+                    in_bits(RelocationKind::Relative, 12..33, AArch64Form::Adr),
                 )
             },
         ),
         (
-            AArch64Relocation::R_AARCH64_LD64_GOTPAGE_LO15.into(),
-            Row {
-                mask: Mask::GotBase as u32,
+            AArch64,
+            313,
+            "R_AARCH64_LD64_GOTPAGE_LO15",
+            RelocationInfo {
+                mask: Some(PageMask::GotBase),
                 alignment: 8,
                 ..within(
-                    (0, 1 << 15),
-                    in_bits(
-                        RelocationKind::GotRelGotBase,
-                        (3, 15),
-                        Architecture::AArch64,
-                        AArch64Form::LdSt as u32,
-                    ),
+                    0..1 << 15,
+                    in_bits(RelocationKind::GotRelGotBase, 3..15, AArch64Form::LdSt),
                 )
             },
         ),
         (
-            AArch64Relocation::R_AARCH64_TLSDESC_CALL.into(),
+            AArch64,
+            569,
+            "R_AARCH64_TLSDESC_CALL",
             in_bytes(RelocationKind::TlsDescCall, 0),
         ),
         (
-            RiscVRelocation::R_RISCV_32.into(),
-            within((-(1 << 31), 1 << 32), in_bytes(RelocationKind::Absolute, 4)),
+            RiscV,
+            1,
+            "R_RISCV_32",
+            within(-(1 << 31)..1 << 32, in_bytes(RelocationKind::Absolute, 4)),
         ),
         (
-            RiscVRelocation::R_RISCV_JAL.into(),
-            Row {
+            RiscV,
+            17,
+            "R_RISCV_JAL",
+            RelocationInfo {
                 alignment: 2,
                 ..within(
-                    (-1048576, 1048575),
-                    in_bits(
-                        RelocationKind::Relative,
-                        (0, 32),
-                        Architecture::RiscV,
-                        RiscVForm::JType as u32,
-                    ),
+                    -1048576..1048575,
+                    in_bits(RelocationKind::Relative, 0..32, RiscVForm::JType),
                 )
             },
         ),
         (
-            RiscVRelocation::R_RISCV_SUB_ULEB128.into(),
+            RiscV,
+            61,
+            "R_RISCV_SUB_ULEB128",
             in_bytes(RelocationKind::PairSubtractionULEB128RiscV, 8),
         ),
         (
-            LoongArch64Relocation::R_LARCH_PCALA_HI20.into(),
-            Row {
-                mask: Mask::SymbolPlusAddendAndPosition as u32,
+            LoongArch64,
+            71,
+            "R_LARCH_PCALA_HI20",
+            RelocationInfo {
+                mask: Some(PageMask::SymbolPlusAddendAndPosition),
                 bias: 0x800,
-                ..in_bits(
-                    RelocationKind::Relative,
-                    (12, 32),
-                    Architecture::LoongArch64,
-                    LoongArch64Form::Shift5 as u32,
-                )
+                ..in_bits(RelocationKind::Relative, 12..32, LoongArch64Form::Shift5)
             },
         ),
         (
-            LoongArch64Relocation::R_LARCH_GOT_PC_HI20.into(),
-            Row {
-                mask: Mask::GotEntryAndPosition as u32,
+            LoongArch64,
+            75,
+            "R_LARCH_GOT_PC_HI20",
+            RelocationInfo {
+                mask: Some(PageMask::GotEntryAndPosition),
                 bias: 0x800,
-                ..in_bits(
-                    RelocationKind::GotRelative,
-                    (12, 32),
-                    Architecture::LoongArch64,
-                    LoongArch64Form::Shift5 as u32,
-                )
+                ..in_bits(RelocationKind::GotRelative, 12..32, LoongArch64Form::Shift5)
             },
         ),
         (
-            LoongArch64Relocation::R_LARCH_ALIGN.into(),
+            LoongArch64,
+            102,
+            "R_LARCH_ALIGN",
             in_bytes(RelocationKind::None, 0),
         ),
         (
-            Ppc64Relocation::R_PPC64_REL16_HA.into(),
-            Row {
+            Ppc64,
+            252,
+            "R_PPC64_REL16_HA",
+            RelocationInfo {
                 bias: 0x8000,
-                ..in_bits(
-                    RelocationKind::Relative,
-                    (16, 32),
-                    Architecture::Ppc64,
-                    Ppc64Form::D as u32,
-                )
+                ..in_bits(RelocationKind::Relative, 16..32, Ppc64Form::D)
             },
         ),
         (
-            Ppc64Relocation::R_PPC64_GOT_TLSLD16_HI.into(),
-            in_bits(
-                RelocationKind::TlsLdGotBase,
-                (16, 32),
-                Architecture::Ppc64,
-                Ppc64Form::D as u32,
-            ),
+            Ppc64,
+            85,
+            "R_PPC64_GOT_TLSLD16_HI",
+            in_bits(RelocationKind::TlsLdGotBase, 16..32, Ppc64Form::D),
         ),
         (
-            X86_64Relocation::R_X86_64_32S.into(),
-            within((-(1 << 31), 1 << 31), in_bytes(RelocationKind::Absolute, 4)),
+            X86_64,
+            11,
+            "R_X86_64_32S",
+            within(-(1 << 31)..1 << 31, in_bytes(RelocationKind::Absolute, 4)),
         ),
         (
-            X86_64Relocation::R_X86_64_CODE_6_GOTPC32_TLSDESC.into(),
-            within((-(1 << 31), 1 << 31), in_bytes(RelocationKind::TlsDesc, 4)),
+            X86_64,
+            51,
+            "R_X86_64_CODE_6_GOTPC32_TLSDESC",
+            within(-(1 << 31)..1 << 31, in_bytes(RelocationKind::TlsDesc, 4)),
         ),
     ];
-    for (name, row) in rows {
-        assert_eq!(relocation(name), Ok(row), "{name:?}");
+    for (architecture, r_type, name, meaning) in meanings {
+        assert_eq!(relocation(architecture, r_type), Ok(meaning), "{name}");
+        let found = relocation_name(architecture, r_type);
+        assert_eq!(found.as_deref(), Ok(name), "{r_type}");
     }
+    let compressed = in_bits(RelocationKind::Absolute, 0..32, RiscVForm::CluiType);
+    assert_eq!(clui_rel_info(), within(-(1 << 31)..1 << 32, compressed));
 }
 
 #[test]
-fn refuses_relocations() {
-    let unknown = RiscVRelocation::R_RISCV_TLSDESC_CALL.into();
-    assert_eq!(relocation(unknown), Err(Status::UnknownRelocation));
-    for (architecture, names) in [(0, 115), (1, 46), (2, 70), (3, 40), (4, 39)] {
-        let past = Relocation::numbered(architecture, names);
-        assert_eq!(relocation(past), Err(Status::UnknownRelocation));
+fn rejects_relocations() {
+    let unknown = Err(Status::UnknownRelocation);
+    // `R_RISCV_TLSDESC_CALL` has a name, and its meaning is not known
+    assert_eq!(relocation(Architecture::RiscV, 65), unknown);
+    for &architecture in Architecture::ALL {
+        assert_eq!(relocation(architecture, u32::MAX), unknown);
+        let name = relocation_name(architecture, u32::MAX);
+        assert_eq!(name, Err(Status::UnknownRelocation));
     }
-    let none = Relocation::numbered(5, 0);
-    assert_eq!(relocation(none), Err(Status::UnknownArchitecture));
+    let (mut info, mut name, mut used) = (raw::RelocationInfo::default(), [0xaa; 11], 7);
+    // SAFETY: the slice is `name`, and the references are of one value.
+    unsafe {
+        let status = raw::linker_utils_relocation(0, 0, &mut info);
+        assert_eq!(status, Status::UnknownArchitecture.number());
+        for (machine, status) in [(62, Status::TooShort), (0, Status::UnknownArchitecture)] {
+            let at = name.as_mut_ptr();
+            // `R_X86_64_32S` has 12 letters
+            let returned =
+                raw::linker_utils_relocation_name_nonnull(machine, 11, at, 11, &mut used);
+            assert_eq!(returned, status.number());
+        }
+    }
+    assert_eq!(info, raw::RelocationInfo::default());
+    assert_eq!((name, used), ([0xaa; 11], 7));
 }
 
 #[test]
@@ -600,23 +640,26 @@ fn turns_calls_into_jumps() {
     let mut section = CALL;
     assert_eq!(jal_site(&mut section, 0, 8), Ok(()));
     assert_eq!(section[..4], [0xef, 0, 0x80, 0]);
-    let refused = [
+    let rejected = [
         (9, 8, Status::OutOfSection),
         (u64::MAX, 8, Status::OutOfSection),
         (0, 1048575, Status::OddDistance),
         (0, 1048576, Status::TooFar),
     ];
-    for (site, distance, status) in refused {
+    for (site, distance, status) in rejected {
         let mut section = CALL;
         assert_eq!(jal_site(&mut section, site, distance), Err(status));
         assert_eq!(section, CALL);
     }
 
-    let relaxed: [(&[(u64, u32)], u64, u64, [u8; 4]); 4] = [
+    let relaxed: [(&[(u64, u32)], u64, u64, [u8; 4]); 6] = [
         (&[], 0, 8, [0xef, 0, 0x80, 0]),
         (&[(4, 4)], 0, 8, [0xef, 0, 0x40, 0]),
         (&[(4, 4)], 0, 12, [0xef, 0, 0x80, 0]),
         (&[(2, 0)], 0, 8, [0xef, 0, 0x80, 0]),
+        // targets inside a deletion: what follows it, and the section's end
+        (&[(4, 4)], 0, 6, [0xef, 0, 0x40, 0]),
+        (&[(10, 4)], 0, 12, [0xef, 0, 0xa0, 0]),
     ];
     for (pairs, site, target, word) in relaxed {
         let mut section = CALL;
@@ -627,16 +670,14 @@ fn turns_calls_into_jumps() {
         assert_eq!(section[..4], word, "{pairs:?}, from {site} to {target}");
         assert_eq!(section[4..], CALL[4..]);
     }
-    let refused: [(&[(u64, u32)], u64, u64, Status); 7] = [
+    let rejected: [(&[(u64, u32)], u64, u64, Status); 5] = [
         (&[], 10, 0, Status::OutOfSection),
         (&[], 0, 13, Status::OutOfSection),
         (&[(0, 4)], 0, 8, Status::SiteDeleted),
         (&[(4, 4)], 3, 8, Status::SiteDeleted),
-        (&[(4, 4)], 0, 6, Status::TargetInside),
-        (&[(10, 4)], 0, 12, Status::TargetInside),
         (&[(4, 1)], 0, 8, Status::OddDistance),
     ];
-    for (pairs, site, target, status) in refused {
+    for (pairs, site, target, status) in rejected {
         let mut section = CALL;
         assert_eq!(
             relax_call(&mut section, &deltas(pairs), site, target),
@@ -771,26 +812,27 @@ fn reads_numbers() {
 fn translates_offsets() {
     let one = deltas(&[(4, 4)]);
     for (input, output) in [(0, 0), (4, 4), (8, 4)] {
-        assert_eq!(deltas_input_to_output(&one, input), Ok(output));
+        assert_eq!(deltas_input_to_output(&one, input), output);
     }
-    assert_eq!(deltas_input_to_output(&one, 6), Err(Status::InsideDeletion));
+    // inside the deletion: what follows it
+    assert_eq!(deltas_input_to_output(&one, 6), 4);
     assert_eq!(deltas_output_to_input(&one, 3), Ok(3));
     assert_eq!(deltas_output_to_input(&one, 4), Ok(8));
     assert_eq!(deltas_total_deleted(&one), 4);
 
     let joined = deltas(&[(4, 4), (8, 4)]);
     assert_eq!(deltas_output_to_input(&joined, 4), Ok(12));
-    assert_eq!(deltas_input_to_output(&joined, 8), Ok(4));
-    assert_eq!(deltas_input_to_output(&joined, 12), Ok(4));
+    assert_eq!(deltas_input_to_output(&joined, 8), 4);
+    assert_eq!(deltas_input_to_output(&joined, 12), 4);
 
     let nothing_first = deltas(&[(4, 0), (6, 2)]);
-    assert_eq!(deltas_input_to_output(&nothing_first, 6), Ok(6));
-    assert_eq!(deltas_input_to_output(&nothing_first, 8), Ok(6));
+    assert_eq!(deltas_input_to_output(&nothing_first, 6), 6);
+    assert_eq!(deltas_input_to_output(&nothing_first, 8), 6);
     assert_eq!(deltas_output_to_input(&nothing_first, 4), Ok(4));
     assert_eq!(deltas_output_to_input(&nothing_first, 6), Ok(8));
 
     let last = deltas(&[(u64::MAX - 3, 3)]);
-    assert_eq!(deltas_input_to_output(&last, u64::MAX), Ok(u64::MAX - 3));
+    assert_eq!(deltas_input_to_output(&last, u64::MAX), u64::MAX - 3);
     assert_eq!(deltas_output_to_input(&last, u64::MAX - 3), Ok(u64::MAX));
     assert_eq!(
         deltas_output_to_input(&last, u64::MAX - 2),
@@ -798,14 +840,14 @@ fn translates_offsets() {
     );
 
     assert_eq!(deltas_total_deleted(&[]), 0);
-    assert_eq!(deltas_input_to_output(&[], 5), Ok(5));
+    assert_eq!(deltas_input_to_output(&[], 5), 5);
     assert_eq!(deltas_output_to_input(&[], u64::MAX), Ok(u64::MAX));
 
     let many: Vec<_> = (0..65).map(|k| (8 * k, 4)).collect();
     let many = deltas(&many);
     assert_eq!(deltas_total_deleted(&many), 260);
-    assert_eq!(deltas_input_to_output(&many, 512), Ok(256));
-    assert_eq!(deltas_input_to_output(&many, 520), Ok(260));
+    assert_eq!(deltas_input_to_output(&many, 512), 256);
+    assert_eq!(deltas_input_to_output(&many, 520), 260);
     assert_eq!(deltas_output_to_input(&many, 255), Ok(511));
     assert_eq!(deltas_output_to_input(&many, 256), Ok(516));
 }
@@ -819,18 +861,18 @@ fn translates_many_offsets() {
         Ok(())
     );
     assert_eq!(outputs, [4, 4, 4, 8, 14]);
-    let refused: [(&[u64], Status); 3] = [
-        (&[4, 8, 8, 14], Status::DifferentLengths),
-        (&[4, 8, 7, 13, 20], Status::NotAscending),
-        (&[4, 8, 8, 13, 20], Status::InsideDeletion),
+    let rejected: [(&[u64], ArrayError); 2] = [
+        (&[4, 8, 8, 14], failure(Status::DifferentLengths)),
+        (&[4, 8, 7, 13, 20], at(2, Status::NotAscending)),
     ];
-    for (queries, status) in refused {
-        assert_eq!(
-            deltas_translate_all(&two, queries, &mut outputs),
-            Err(status)
-        );
+    for (queries, error) in rejected {
+        let translated = deltas_translate_all(&two, queries, &mut outputs);
+        assert_eq!(translated, Err(error));
         assert_eq!(outputs, [4, 4, 4, 8, 14]);
     }
+    // inside the deletions: what follows them
+    let inside = deltas_translate_all(&two, &[5, 7, 8, 13, 14], &mut outputs);
+    assert_eq!((inside, outputs), (Ok(()), [4, 4, 4, 8, 8]));
     assert_eq!(deltas_translate_all(&two, &[], &mut []), Ok(()));
     assert_eq!(
         deltas_translate_all(&[], &[3, 9], &mut outputs[..2]),
@@ -843,26 +885,21 @@ fn translates_many_offsets() {
 fn tests_and_lists_deletions() {
     assert_eq!(sums(&deltas(&[(0, 2), (8, 4), (16, 4)])), [2, 6, 10]);
     let mut places = [Delta::default(); 2];
-    let invalid: [&[(u64, u32)]; 4] = [
-        &[(4, 4), (7, 1)],
-        &[(4, 0), (4, 1)],
-        &[(8, 1), (4, 1)],
-        &[(4, 1), (u64::MAX, 1)],
+    let invalid: [(&[(u64, u32)], usize); 5] = [
+        (&[(4, 4), (7, 1)], 1),
+        (&[(4, 0), (4, 1)], 1),
+        (&[(8, 1), (4, 1)], 1),
+        (&[(4, 1), (u64::MAX, 1)], 1),
+        (&[(0, 1), (4, 1), (2, 1), (1, 1)], 2),
     ];
-    for pairs in invalid {
+    for (pairs, index) in invalid {
         let list = deletions(pairs);
-        assert_eq!(
-            deltas_is_valid(&list),
-            Err(Status::InvalidDeletions),
-            "{pairs:?}"
-        );
-        assert_eq!(
-            deltas_create(&list, &mut places),
-            Err(Status::InvalidDeletions)
-        );
+        let error = Err(at(index, Status::InvalidDeletions));
+        assert_eq!(deltas_is_valid(&list), error, "{pairs:?}");
+        assert_eq!(deltas_create(&list, &mut places), error, "{pairs:?}");
     }
     let longer = deltas_create(&deletions(&[(4, 4)]), &mut places);
-    assert_eq!(longer, Err(Status::DifferentLengths));
+    assert_eq!(longer, Err(failure(Status::DifferentLengths)));
     assert_eq!(places, [Delta::default(); 2]);
     assert_eq!(deltas_create(&[], &mut []), Ok(()));
 }
@@ -876,7 +913,7 @@ fn merges_deletions() {
     assert_eq!(deltas_merge(&old, &more, &mut merged), Ok(()));
     assert_eq!(merged.to_vec(), deltas(&[(0, 2), (8, 4), (16, 4)]));
     assert_eq!(sums(&merged), [2, 6, 10]);
-    assert_eq!(deltas_input_to_output(&merged, 20), Ok(10));
+    assert_eq!(deltas_input_to_output(&merged, 20), 10);
     assert_eq!(deltas_output_to_input(&merged, 0), Ok(2));
 
     let one = deltas(&[(4, 4)]);
@@ -887,11 +924,14 @@ fn merges_deletions() {
         assert_eq!(deltas_is_mergeable(&one, &more), Err(Status::NotMergeable));
         assert_eq!(
             deltas_merge(&one, &more, &mut places),
-            Err(Status::NotMergeable)
+            Err(at(0, Status::NotMergeable))
         );
     }
+    let more = deletions(&[(0, 2), (12, 4), (14, 1), (1, 9)]);
+    let overlapping = deltas_merge(&one, &more, &mut [Delta::default(); 5]);
+    assert_eq!(overlapping, Err(at(2, Status::NotMergeable)));
     let short = deltas_merge(&one, &more, &mut places);
-    assert_eq!(short, Err(Status::DifferentLengths));
+    assert_eq!(short, Err(failure(Status::DifferentLengths)));
     // what no call wrote as deltas
     let falling = [
         one[0],
@@ -900,9 +940,16 @@ fn merges_deletions() {
             ..one[0]
         },
     ];
-    let invalid = Err(Status::InvalidDeletions);
-    assert_eq!(deltas_is_mergeable(&falling, &[]), invalid);
-    assert_eq!(deltas_merge(&falling, &[], &mut places), invalid);
+    assert_eq!(
+        deltas_is_mergeable(&falling, &[]),
+        Err(Status::InvalidDeletions)
+    );
+    let error = at(1, Status::InvalidDeletions);
+    assert_eq!(deltas_merge(&falling, &[], &mut places), Err(error));
+    assert_eq!(
+        error.to_string(),
+        format!("{} It is entry 1.", Status::InvalidDeletions)
+    );
     assert_eq!(places, [Delta::default(); 2]);
 }
 
@@ -927,4 +974,91 @@ fn any_array_of_deltas_is_safe() {
         let _ = relax_call(&mut CALL.clone(), &odd, 0, offset);
     }
     let _ = deltas_total_deleted(&odd);
+}
+
+#[test]
+fn packs_sections() {
+    // `auipc ra, 0`, `jalr ra`, `nop`, `ret`, and the same as a tail call: `auipc t1, 0`, `jr t1`
+    let call = bytes_of(&[0x0000_0097, 0x0000_80e7, 0x0000_0013, 0x0000_8067]);
+    let tail = bytes_of(&[0x0000_0317, 0x0003_0067, 0x0000_0013, 0x0000_8067]);
+    let one = deltas(&[(4, 4)]);
+    assert_eq!(packed_len(&call, &one), 12);
+    let to_ret = [Call {
+        site: 0,
+        target: 12,
+    }];
+    let jumps = [
+        (&call, LinkRegister::OfAuipc, 0x0080_00ef),
+        (&call, LinkRegister::OfJalr, 0x0080_00ef),
+        (&tail, LinkRegister::OfAuipc, 0x0080_036f),
+        (&tail, LinkRegister::OfJalr, 0x0080_006f),
+    ];
+    for (section, link, jal) in jumps {
+        let mut packed = [0; 12];
+        assert_eq!(pack(section, &one, &to_ret, link, &mut packed), Ok(()));
+        assert_eq!(packed.to_vec(), bytes_of(&[jal, 0x0000_0013, 0x0000_8067]));
+    }
+
+    let calls = |pairs: &[(u64, u64)]| -> Vec<Call> {
+        let calls = pairs.iter();
+        calls.map(|&(site, target)| Call { site, target }).collect()
+    };
+    let rejected: [(&[(u64, u64)], ArrayError); 6] = [
+        (&[(0, 12), (3, 12)], at(1, Status::CallsNotApart)),
+        (&[(8, 12), (0, 12)], at(1, Status::CallsNotApart)),
+        (&[(0, 12), (13, 12)], at(1, Status::OutOfSection)),
+        (&[(0, 12), (4, 12)], at(1, Status::SiteDeleted)),
+        (&[(0, 12), (8, 12)], at(1, Status::NotACall)),
+        (&[(0, 13)], at(0, Status::OddDistance)),
+    ];
+    let mut packed = [0xaa; 12];
+    for (pairs, error) in rejected {
+        let calls = calls(pairs);
+        let result = pack(&call, &one, &calls, LinkRegister::OfJalr, &mut packed);
+        assert_eq!(result, Err(error), "{pairs:?}");
+    }
+    let short = pack(
+        &call,
+        &one,
+        &to_ret,
+        LinkRegister::OfJalr,
+        &mut packed[..11],
+    );
+    assert_eq!(short, Err(failure(Status::DifferentLengths)));
+    assert_eq!(packed, [0xaa; 12]);
+}
+
+#[test]
+fn translates_offsets_by_heads() {
+    let many: Vec<_> = (0..65).map(|k| (8 * k, 4)).collect();
+    let many = deltas(&many);
+    assert_eq!(deltas_block_count(&many), 2);
+    let mut heads = [BlockHead::default(); 2];
+    assert_eq!(deltas_heads(&many, &mut heads), Ok(()));
+    assert_eq!((heads[1].input_offset, heads[1].output_place), (512, 256));
+    for (input, output) in [(0, 0), (2, 0), (512, 256), (515, 256), (520, 260)] {
+        let found = deltas_input_to_output_by_heads(&many, &heads, input);
+        assert_eq!(found, output, "{input}");
+        // fewer heads than blocks
+        let found = deltas_input_to_output_by_heads(&many, &heads[..1], input);
+        assert_eq!(found, output, "{input}");
+    }
+    for (output, input) in [(0, 4), (255, 511), (256, 516)] {
+        let found = deltas_output_to_input_by_heads(&many, &heads, output);
+        assert_eq!(found, Ok(input), "{output}");
+    }
+    let past = deltas_output_to_input_by_heads(&many, &heads, u64::MAX);
+    assert_eq!(past, Err(Status::TooLarge));
+
+    let short = deltas_heads(&many, &mut heads[..1]);
+    assert_eq!(short, Err(Status::DifferentLengths));
+    // heads that no call wrote are safe
+    let odd = [BlockHead {
+        input_offset: u64::MAX,
+        output_place: u64::MAX,
+    }; 2];
+    for offset in [0, 300, u64::MAX] {
+        let _ = deltas_input_to_output_by_heads(&many, &odd, offset);
+        let _ = deltas_output_to_input_by_heads(&many, &odd, offset);
+    }
 }

@@ -1,6 +1,6 @@
-//! A merge for which `malloc` refuses memory. It runs in a process of its own, under a limit of 1 GB.
+//! A merge for which `malloc` fails. It runs in a process of its own, under a limit of 1 GB.
 
-use sathunne::{deltas_is_mergeable, deltas_merge, Deletion, Delta, Status};
+use sathunne::{deltas_is_mergeable, deltas_merge, ArrayError, Deletion, Delta, Status};
 use std::alloc::{alloc_zeroed, Layout};
 use std::env;
 use std::process::Command;
@@ -23,18 +23,21 @@ fn a_merge_without_memory_changes_nothing() {
     assert!(status.success());
 }
 
-/// Deletions of 320 MB, of which the library has to make a copy, beside places of 480 MB.
+/// Deletions of 320 MB, of which a merge has to make a copy, beside places of 480 MB.
 fn merge_too_many() {
     const COUNT: usize = 20_000_000;
     let deletions: &mut [Deletion] = zeros(COUNT);
     let merged: &mut [Delta] = zeros(COUNT);
     assert_eq!(
         deltas_is_mergeable(&[], deletions),
-        Err(Status::OutOfMemory)
+        Err(Status::NotMergeable)
     );
     assert_eq!(
         deltas_merge(&[], deletions, merged),
-        Err(Status::OutOfMemory)
+        Err(ArrayError {
+            status: Status::OutOfMemory,
+            index: None,
+        })
     );
     assert_eq!(
         (merged[0], merged[COUNT - 1]),

@@ -8,7 +8,7 @@ use Rattle.std.proofs.lemmas.List.Concat.{flat_map-append}
 use Rattle.std.proofs.lemmas.List.Elements.{All-append, All-push}
 use Rattle.linker_base.specs.Deletions.{IsBefore, EndFits, AreDisjoint, IsValid}
 use Rattle.linker_base.specs.Deltas.{pairs_of}
-use Rattle.linker_base.specs.Listed.{IsRun}
+use Rattle.linker_base.specs.Inner.Listed.{IsRun}
 use Rattle.linker_base.proofs.Listed.{IsValid-push}
 
 -- one more batch

@@ -1,5 +1,5 @@
 -- The laws of deletions, proved.
-use Rattle.std.proofs.Common.{◌≡◌, ℕ, zero, suc, ◌+◌, ◌-◌, ◌<◌, ◌≤◌, true, false, cond, List, [], ◌∷◌, ◌++◌, length, get_or, take, refl, ap, inl, inr, ⊎_elim, arith}
+use Rattle.std.proofs.Common.{◌≡◌, ℕ, zero, suc, ◌+◌, ◌-◌, ◌<◌, ◌≤◌, true, false, cond, List, [], ◌∷◌, ◌++◌, length, map, get_or, take, refl, ap, inl, inr, ⊎_elim, arith}
 use Rattle.std.specs.Prelude.{max, not, nat_lt, All, AllPairs, Contains, IsPermutation}
 use Rattle.std.specs.List.{list_any, AllWithin}
 use Rattle.std.proofs.lemmas.Bool.{cases_lt, cases_Bool, not-true, false_from_ne_true, both_ways, or_right}
@@ -8,23 +8,22 @@ use Rattle.std.proofs.lemmas.List.Elements.{All-head, All-tail}
 use Rattle.std.proofs.lemmas.List.Sums.{sum_by-cons, sum_by-le-sum_by, count_by-le-length}
 use Rattle.std.proofs.lemmas.List.Sorted.{IsPermutation-append_left, IsPermutation-append_right, IsPermutation-append_comm}
 use Rattle.std.proofs.lemmas.List.{append_assoc, take_all, get_or-take, length-take}
-use Rattle.linker_base.specs.Walk.{passed_bytes, walk_to}
-use Rattle.linker_base.specs.Deletions.{begun_below, IsBefore, bytes_of, holds, is_kept, IsInside, rank, IsSelected}
-use Rattle.linker_base.specs.Laws.{InAfterOutReturns, OutAfterInIsFirstKept, OutAfterInReturnsKept, MergeOrderIsFree, CursorGivesRanks, MergesShortenDistances}
+use Rattle.linker_base.specs.Walk.{walk_to, IsAhead}
+use Rattle.linker_base.specs.Deletions.{begun_below, IsBefore, covers, is_kept, IsInsideDeletion, rank, IsSelected}
+use Rattle.linker_base.specs.Laws.{InAfterOutReturns, OutAfterInIsFirstKept, OutAfterInReturnsKept, MergeOrderIsFree, AreTranslations, CursorGivesRanks, MergesShortenDistances}
 use Rattle.linker_base.proofs.Rank.{all_pairs_tail, rank_kept, rank_gone, rank-mono, selected_once}
-use Rattle.linker_base.proofs.OutputPlaces.{rank-parted}
-use Rattle.linker_base.proofs.Unions.{apart_from_ascending, disjoint_permutation, disjoint_from_union, disjoint_left, union_once, union_of_merges, union_swapped}
+use Rattle.linker_base.proofs.Unions.{disjoint_permutation, disjoint_from_union, disjoint_left, union_once, union_of_merges, union_swapped}
 
 -- where a listed deletion holds a position, some deletion does
-held_somewhere : (ds : List (ℕ × ℕ)) (k p : ℕ) (d : ℕ × ℕ) → k < length ds → holds (get_or ds k d) p ≡ true → list_any (λ e. holds e p) ds ≡ true
+held_somewhere : (ds : List (ℕ × ℕ)) (k p : ℕ) (d : ℕ × ℕ) → k < length ds → covers (get_or ds k d) p ≡ true → list_any (λ e. covers e p) ds ≡ true
 held_somewhere [] k p d within held = absurd (omega arith)
 held_somewhere (e ∷ ds) zero p d within held = rw held refl
-held_somewhere (e ∷ ds) (suc k) p d within held = let rest = held_somewhere ds k p d (omega arith) held in or_right (holds e p) (list_any (λ e. holds e p) ds) rest
+held_somewhere (e ∷ ds) (suc k) p d within held = let rest = held_somewhere ds k p d (omega arith) held in or_right (covers e p) (list_any (λ e. covers e p) ds) rest
 
 -- a kept position isn't strictly inside a deletion
-kept_outside : (ds : List (ℕ × ℕ)) (p : ℕ) → is_kept ds p ≡ true → IsInside ds p → ⊥
+kept_outside : (ds : List (ℕ × ℕ)) (p : ℕ) → is_kept ds p ≡ true → IsInsideDeletion ds p → ⊥
 kept_outside ds p kept (k, d, within, at, (below, above)) =
-    let held : holds (get_or ds k d) p ≡ true = rw at (grind (arith, nat_tests)) in
+    let held : covers (get_or ds k d) p ≡ true = rw at (grind (arith, nat_tests)) in
     both_ways _ (not-true _ kept) (held_somewhere ds k p d within held)
 
 pub in_after_out : InAfterOutReturns
@@ -56,7 +55,8 @@ merge_order old first second one both merged again =
       second_at_first = disjoint_left (old ++ second) first other;
       then_first = λ two union_two. disjoint_permutation _ (two ++ first) (IsPermutation-append_left first (old ++ second) two union_two.same) other;
       same = λ two swapped union_two union_swapped_two. union_once (old ++ (first ++ second)) swapped both (union_swapped old first second swapped (union_of_merges old second first two swapped union_two union_swapped_two)) union;
-      at_once = λ sorted union_sorted. union_once _ sorted both union_sorted union;
+      at_once = disjoint_from_union _ both union;
+      same_at_once = λ sorted union_sorted. union_once _ sorted both union_sorted union;
     }
 
 -- where no deletion begins below i, none is counted
@@ -115,22 +115,24 @@ taken_to ds k i ascending passed =
     (cases_lt b k)
 
 pub cursor_ranks : CursorGivesRanks
-cursor_ranks walk [] valid ahead = (tt, refl)
+cursor_ranks walk [] valid ahead = (tt, λ outputs none. none)
 cursor_ranks walk (i ∷ queries) valid ahead =
     let ds = walk.deletions in
     let now = begun_below ds i in
-    let taken = taken_to ds walk.passed i valid.ascending (ahead.begun (omega arith)) in
-    let bytes : passed_bytes (walk_to walk i) ≡ bytes_of (take now ds) = ap bytes_of taken in
+    let first = ahead.first (omega arith) in
+    let taken = taken_to ds walk.passed i valid.ascending first in
     let parted = begun_parted ds i valid.ascending in
-    let answer = rank-parted ds now i (apart_from_ascending ds valid.ascending) (count_by-le-length (λ (d : ℕ × ℕ). nat_lt d.0 i) ds) parted.0 parted.1 (All-head (λ q. ¬ (IsInside ds q)) i queries ahead.outside) in
-    let here : i - passed_bytes (walk_to walk i) ≡ rank ds i = omega arith in
     let rest = cursor_ranks (walk_to walk i) queries valid (record {
       ascending = λ a b d le within. ahead.ascending (suc a) (suc b) d (omega arith) (omega arith);
-      outside = All-tail (λ q. ¬ (IsInside ds q)) i queries ahead.outside;
-      begun = λ some. rw taken (begun_before (rise_on some) now parted.0);
+      first = λ some. rw taken (begun_before (rise_on some) now parted.0);
     }) in
-    ((omega arith, rest.0), rw (here, rest.1) refl)
+    ((inl first, rest.0), each first rest.1)
   where
+    each : IsAhead walk i → ((outputs : List ℕ) → AreTranslations (walk_to walk i) queries outputs → outputs ≡ map (rank walk.deletions) queries)
+        → (outputs : List ℕ) → AreTranslations walk (i ∷ queries) outputs → outputs ≡ map (rank walk.deletions) (i ∷ queries)
+    each first rest [] none = absurd none
+    each first rest (output ∷ outputs) given = rw (given.0.ahead first, rest outputs given.1) refl
+
     rise_on : 0 < length queries → i ≤ get_or queries 0 0
     rise_on some = ahead.ascending 0 1 0 (omega arith) (omega arith)
 
@@ -143,11 +145,11 @@ cursor_ranks walk (i ∷ queries) valid ahead =
 kept_by_fewer : (ds more : List (ℕ × ℕ)) (p : ℕ) → All (Contains more) ds → is_kept more p ≡ true → is_kept ds p ≡ true
 kept_by_fewer ds more p held kept = ap not (free ds held)
   where
-    free : (ds : List (ℕ × ℕ)) → All (Contains more) ds → list_any (λ e. holds e p) ds ≡ false
+    free : (ds : List (ℕ × ℕ)) → All (Contains more) ds → list_any (λ e. covers e p) ds ≡ false
     free [] held = refl
     free (d ∷ ds) held =
         let first = All-head (Contains more) d ds held in
-        let none : holds d p ≡ false = false_from_ne_true (holds d p) (λ here. both_ways _ (not-true _ kept) (held_somewhere more first.0 p d first.1 (rw first.2 here))) in
+        let none : covers d p ≡ false = false_from_ne_true (covers d p) (λ here. both_ways _ (not-true _ kept) (held_somewhere more first.0 p d first.1 (rw first.2 here))) in
         rw none (free ds (All-tail (Contains more) d ds held))
 
 -- as one offset rises, the rank over more deletions rises no more than that over fewer

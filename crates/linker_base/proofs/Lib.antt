@@ -1,6 +1,6 @@
 pub mod Batches
 pub mod Bits
-pub mod Counting
+pub mod ConsecutiveBits
 pub mod Fields
 pub mod Immediates
 pub mod Laws
@@ -9,12 +9,12 @@ pub mod Merging
 pub mod Moves
 pub mod OutputPlaces
 pub mod Pairs
+pub mod PartitionPoint
 pub mod Parts
 pub mod Places
 pub mod Rank
 pub mod Rewrites
 pub mod Rounded
-pub mod Rows
 pub mod Search
 pub mod Sections
 pub mod TextLemmas

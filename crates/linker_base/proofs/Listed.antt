@@ -8,7 +8,8 @@ use Rattle.std.proofs.lemmas.List.Quantifiers.{all_pairs_push}
 use Rattle.std.proofs.lemmas.List.Sums.{sum_by_more, sum_by_push}
 use Rattle.linker_base.specs.declared.relaxation.RelaxDelta.{RelaxDelta}
 use Rattle.linker_base.specs.Deletions.{IsBefore, EndFits, IsValid, bytes_of}
-use Rattle.linker_base.specs.Deltas.{deletion_of, IsListing}
+use Rattle.linker_base.specs.Deltas.{deletion_of, RecordsDeletions}
+use Rattle.linker_base.specs.Listed.{IsFirstInvalid}
 use Rattle.linker_base.proofs.OutputPlaces.{bytes_of-take_fit}
 
 -- up to and including one deletion of a valid list, the bytes are those before it and its own, and 64 bits hold them
@@ -17,8 +18,8 @@ taken_up_to ds valid k d within =
     (sym (sum_by_more (λ (e : ℕ × ℕ). e.1) ds k d within), bytes_of-take_fit ds (k + 1) valid)
 
 -- one more delta, with the sum so far and its own bytes, lists one more deletion
-pub IsListing-push : (ds : List (ℕ × ℕ)) (deltas : List RelaxDelta) (delta : RelaxDelta) → IsListing ds deltas → delta.cumulative_deleted ≡ bytes_of ds + delta.bytes_deleted → IsListing (ds ++ deletion_of delta ∷ []) (deltas ++ delta ∷ [])
-IsListing-push ds deltas delta listing sum = record { same = same; sums = sums }
+pub RecordsDeletions-push : (ds : List (ℕ × ℕ)) (deltas : List RelaxDelta) (delta : RelaxDelta) → RecordsDeletions ds deltas → delta.cumulative_deleted ≡ bytes_of ds + delta.bytes_deleted → RecordsDeletions (ds ++ deletion_of delta ∷ []) (deltas ++ delta ∷ [])
+RecordsDeletions-push ds deltas delta listing sum = record { same = same; sums = sums }
   where
     same : map deletion_of (deltas ++ delta ∷ []) ≡ ds ++ deletion_of delta ∷ []
     same = map_push deletion_of deltas delta ∙ ap (λ l. l ++ deletion_of delta ∷ []) listing.same
@@ -80,7 +81,23 @@ IsValid-more ds k within valid fits last =
     rw (long, get_or-take k ds (k - 1) e low, get_or_default ds (k - 1) e (0, 0) inside) (last positive)))
 
 -- one more delta of the list is listed
-pub IsListing-more : (ds : List (ℕ × ℕ)) (deltas : List RelaxDelta) (delta : RelaxDelta) (k : ℕ) → k < length ds → IsListing (take k ds) deltas → deletion_of delta ≡ get_or ds k (0, 0) → delta.cumulative_deleted ≡ bytes_of (take (k + 1) ds) → IsListing (take (k + 1) ds) (deltas ++ delta ∷ [])
-IsListing-more ds deltas delta k within listing same sum =
+pub RecordsDeletions-more : (ds : List (ℕ × ℕ)) (deltas : List RelaxDelta) (delta : RelaxDelta) (k : ℕ) → k < length ds → RecordsDeletions (take k ds) deltas → deletion_of delta ≡ get_or ds k (0, 0) → delta.cumulative_deleted ≡ bytes_of (take (k + 1) ds) → RecordsDeletions (take (k + 1) ds) (deltas ++ delta ∷ [])
+RecordsDeletions-more ds deltas delta k within listing same sum =
     let more = take_more ds k (0, 0) within in
-    rw (more, ← same) (IsListing-push (take k ds) deltas delta listing (sum ∙ sum_by_more (λ (e : ℕ × ℕ). e.1) ds k (0, 0) within ∙ ap (λ (e : ℕ × ℕ). bytes_of (take k ds) + e.1) (sym same)))
+    rw (more, ← same) (RecordsDeletions-push (take k ds) deltas delta listing (sum ∙ sum_by_more (λ (e : ℕ × ℕ). e.1) ds k (0, 0) within ∙ ap (λ (e : ℕ × ℕ). bytes_of (take k ds) + e.1) (sym same)))
+
+pub IsValid-nil : IsValid []
+IsValid-nil = record { ascending = λ i j d lt within. absurd (omega arith); ends = λ i d within. absurd (omega arith) }
+
+-- the deletion at a place is not valid after those before it, where it does not fit or does not lie past the one before
+pub first_invalid_at : (ds : List (ℕ × ℕ)) (k : ℕ) → k < length ds → IsValid (take k ds) → (EndFits (get_or ds k (0, 0)) → (0 < k → IsBefore (get_or ds (k - 1) (0, 0)) (get_or ds k (0, 0))) → ⊥) → IsFirstInvalid ds k
+first_invalid_at ds k within valid faulty = record {
+  within = within;
+  before = valid;
+  here = λ more.
+      let long : length (take (k + 1) ds) ≡ k + 1 = omega (arith, length-take (k + 1) ds) in
+      let last : k < k + 1 = omega arith in
+      faulty (rw (get_or-take (k + 1) ds k (0, 0) last) at (more.ends k (0, 0) (omega arith))) (λ positive.
+      let earlier : k - 1 < k + 1 = omega arith in
+      rw (get_or-take (k + 1) ds (k - 1) (0, 0) earlier, get_or-take (k + 1) ds k (0, 0) last) at (more.ascending (k - 1) k (0, 0) (omega arith) (omega arith)));
+}

@@ -1,16 +1,21 @@
 -- Deletions beside those of a section: whether they may be merged, and what a merge leaves.
-use Rattle.std.proofs.Common.{◌≡◌, ◌≢◌, ℕ, ◌+◌, ◌-◌, ◌<◌, ◌≤◌, List, ◌++◌, length, map, get_or, set, take, refl, ◌∙◌, inl, inr, arith}
+use Rattle.std.proofs.Common.{◌≡◌, ◌≢◌, ℕ, ◌+◌, ◌-◌, ◌<◌, ◌≤◌, List, [], ◌∷◌, ◌++◌, length, map, get_or, set, take, drop, true, false, not, refl, sym, ◌∙◌, inl, inr, arith}
 use Rattle.std.specs.Prelude.{◌↔◌, Bool, IsTrue, All, AllPairs, IsPermutation}
 use Rattle.std.specs.List.Sorted.{IsNonDecreasingBy, IsPartitionPoint}
-use Rattle.std.proofs.lemmas.Bool.{cases_lt, cases_order}
-use Rattle.std.proofs.lemmas.List.{get_or_append_left, get_or-append_right, get_or-append-add, get_or_default, length-append, length-map, get_or-set_same, get_or-set_other}
+use Rattle.std.specs.Prelude.{Option, Some, None, MatchOption}
+use Rattle.std.specs.Option.{is_some}
+use Rattle.std.proofs.lemmas.Bool.{cases_lt, cases_order, false≢true}
+use Rattle.std.proofs.lemmas.List.{append_assoc, take-append-drop, take_more, get_or-take, length-take, get_or_append_left, get_or-append_right, get_or-append-add, get_or_default, length-append, length-map, get_or-set_same, get_or-set_other}
+use Rattle.std.proofs.lemmas.List.Elements.{All-nil, All-cons, All-append}
 use Rattle.std.proofs.lemmas.List.Sorted.{IsPermutation-map}
 use Rattle.std.proofs.Math.Seq.{map-set_same}
 use Rattle.linker_base.specs.declared.relaxation.RelaxDelta.{RelaxDelta}
-use Rattle.linker_base.specs.Deletions.{IsBefore, IsApart, EndFits, AreDisjoint, IsValid, IsSortedUnion, bytes_of}
+use Rattle.linker_base.specs.Deletions.{IsBefore, DoNotOverlap, EndFits, AreDisjoint, IsValid, IsSortedUnion, bytes_of}
 use Rattle.linker_base.specs.Deltas.{deletion_of}
+use Rattle.linker_base.specs.Listed.{IsFirstOverlapping}
+use Rattle.linker_base.proofs.Batches.{All-front, All-back}
 use Rattle.linker_base.proofs.Search.{blank, deletion_at}
-use Rattle.linker_base.proofs.Unions.{union_from_sort}
+use Rattle.linker_base.proofs.Unions.{disjoint_left, union_from_sort}
 
 -- the last of the first k lies below the pair
 abbrev pub IsPastLast : List (ℕ × ℕ) → ℕ → ℕ × ℕ → Type 0
@@ -41,7 +46,7 @@ below_next_decides deltas k pair next b within is decides =
       λ below. here.1 (rw (deletion_at deltas k blank (0, 0) within) at (below (0, 0) (omega (arith, length-map deltas deletion_of)))),
     )
 
-pub free_from_between : (ds : List (ℕ × ℕ)) → IsValid ds → (k : ℕ) (pair : ℕ × ℕ) → k ≤ length ds → IsBetween ds k pair → All (λ d. IsApart d pair) ds
+pub free_from_between : (ds : List (ℕ × ℕ)) → IsValid ds → (k : ℕ) (pair : ℕ × ℕ) → k ≤ length ds → IsBetween ds k pair → All (λ d. DoNotOverlap d pair) ds
 free_from_between ds valid k pair bound between j d within = elim (cases_lt j k) [
   | inl low ↦
       let last = between.past_last d (omega arith) in
@@ -63,7 +68,7 @@ free_from_between ds valid k pair bound between j d within = elim (cases_lt j k)
       ]
 ]
 
-pub between_from_free : (ds : List (ℕ × ℕ)) (k : ℕ) (pair : ℕ × ℕ) → k ≤ length ds → IsPartitionPoint (λ d. d.0 < pair.0) (λ d. pair.0 ≤ d.0) ds k → All (λ d. IsApart d pair) ds → IsBetween ds k pair
+pub between_from_free : (ds : List (ℕ × ℕ)) (k : ℕ) (pair : ℕ × ℕ) → k ≤ length ds → IsPartitionPoint (λ d. d.0 < pair.0) (λ d. pair.0 ≤ d.0) ds k → All (λ d. DoNotOverlap d pair) ds → IsBetween ds k pair
 between_from_free ds k pair within parted free = record {
   past_last = λ d some. elim (free (k - 1) d (omega arith)) [
     | inl before ↦ before
@@ -76,13 +81,13 @@ between_from_free ds k pair within parted free = record {
 }
 
 -- two lists of disjoint deletions are so together, where each of the second is apart from all of the first
-pub disjoint_joined : (ds others : List (ℕ × ℕ)) → AreDisjoint ds → AreDisjoint others → All (λ pair. All (λ d. IsApart d pair) ds) others → AreDisjoint (ds ++ others)
+pub disjoint_joined : (ds others : List (ℕ × ℕ)) → AreDisjoint ds → AreDisjoint others → All (λ pair. All (λ d. DoNotOverlap d pair) ds) others → AreDisjoint (ds ++ others)
 disjoint_joined ds others first disjoint free = record { apart = apart; ends = ends }
   where
     long : length (ds ++ others) ≡ length ds + length others
     long = length-append ds others
 
-    apart : AllPairs IsApart (ds ++ others)
+    apart : AllPairs DoNotOverlap (ds ++ others)
     apart i j d lt within = elim (cases_lt j (length ds)) [
       | inl low ↦
           let lower : i < length ds = omega arith in
@@ -105,7 +110,7 @@ disjoint_back ds others disjoint = record {
   ends = λ i d within. rw (← get_or-append-add ds others i d) (disjoint.ends (length ds + i) d (omega (arith, length-append ds others)));
 }
 
-pub disjoint_across : (ds others : List (ℕ × ℕ)) → AreDisjoint (ds ++ others) → All (λ pair. All (λ d. IsApart d pair) ds) others
+pub disjoint_across : (ds others : List (ℕ × ℕ)) → AreDisjoint (ds ++ others) → All (λ pair. All (λ d. DoNotOverlap d pair) ds) others
 disjoint_across ds others disjoint j e within i d low =
     let apart = disjoint.apart i (length ds + j) d (omega arith) (omega (arith, length-append ds others)) in
     let same : get_or (ds ++ others) (length ds + j) d ≡ get_or others j e = get_or-append-add ds others j d ∙ get_or_default others j d e within in
@@ -133,3 +138,57 @@ sums_more deltas k sum within right before j d below = elim (cases_lt j k) [
       let same : j ≡ k = omega arith in
       rw (same, get_or-set_same deltas k (record (get_or deltas k blank) { cumulative_deleted = sum }) d within) right
 ]
+
+-- where all are disjoint, so are those with the first of the additional ones
+pub disjoint_take : (ds others : List (ℕ × ℕ)) (k : ℕ) → AreDisjoint (ds ++ others) → AreDisjoint (ds ++ take k others)
+disjoint_take ds others k all = disjoint_left (ds ++ take k others) (drop k others) (rw (append_assoc ds (take k others) (drop k others), take-append-drop k others) all)
+
+-- one additional deletion more stands behind the others
+one_more : (ds others : List (ℕ × ℕ)) (k : ℕ) → k < length others → ds ++ take (k + 1) others ≡ (ds ++ take k others) ++ get_or others k (0, 0) ∷ []
+one_more ds others k within = rw (take_more others k (0, 0) within, append_assoc ds (take k others) (get_or others k (0, 0) ∷ [])) refl
+
+alone : (d : ℕ × ℕ) → EndFits d → AreDisjoint (d ∷ [])
+alone d fits = record { apart = λ i j e lt within. absurd (omega arith); ends = All-cons EndFits d [] fits (All-nil EndFits) }
+
+-- it is disjoint with them where it fits, and overlaps neither a listed deletion nor an earlier one
+pub disjoint_more : (ds others : List (ℕ × ℕ)) (k : ℕ) → k < length others → AreDisjoint (ds ++ take k others) → EndFits (get_or others k (0, 0)) → All (λ d. DoNotOverlap d (get_or others k (0, 0))) ds → All (λ d. DoNotOverlap d (get_or others k (0, 0))) (take k others) → AreDisjoint (ds ++ take (k + 1) others)
+disjoint_more ds others k within disjoint fits beside earlier =
+    let here = get_or others k (0, 0) in
+    rw (one_more ds others k within) (disjoint_joined (ds ++ take k others) (here ∷ []) disjoint (alone here fits)
+    (All-cons (λ pair. All (λ d. DoNotOverlap d pair) (ds ++ take k others)) here [] (All-append (λ d. DoNotOverlap d here) ds (take k others) beside earlier) (All-nil (λ pair. All (λ d. DoNotOverlap d pair) (ds ++ take k others)))))
+
+pub record IsBeside (ds others : List (ℕ × ℕ)) (k : ℕ) : Type 0 where
+  pub fits : EndFits (get_or others k (0, 0))
+  pub beside : All (λ d. DoNotOverlap d (get_or others k (0, 0))) ds
+  pub earlier : All (λ d. DoNotOverlap d (get_or others k (0, 0))) (take k others)
+
+-- and only there
+pub beside_from_disjoint : (ds others : List (ℕ × ℕ)) (k : ℕ) → k < length others → AreDisjoint (ds ++ take (k + 1) others) → IsBeside ds others k
+beside_from_disjoint ds others k within disjoint =
+    let here = get_or others k (0, 0) in
+    let joined : AreDisjoint ((ds ++ take k others) ++ here ∷ []) = rw (one_more ds others k within) at disjoint in
+    let across : All (λ d. DoNotOverlap d here) (ds ++ take k others) = disjoint_across (ds ++ take k others) (here ∷ []) joined 0 (0, 0) (omega arith) in
+    record {
+      fits = (disjoint_back (ds ++ take k others) (here ∷ []) joined).ends 0 (0, 0) (omega arith);
+      beside = All-front (λ d. DoNotOverlap d here) ds (take k others) across;
+      earlier = All-back (λ d. DoNotOverlap d here) ds (take k others) across;
+    }
+
+-- in a valid front a deletion overlaps no earlier one
+pub earlier_from_valid : (others : List (ℕ × ℕ)) (n k : ℕ) → k < n → n ≤ length others → IsValid (take n others) → All (λ d. DoNotOverlap d (get_or others k (0, 0))) (take k others)
+earlier_from_valid others n k low bound valid j d within =
+    let lower : j < k = omega (arith, length-take k others) in
+    let inside : j < n = omega arith in
+    let there : k < length others = omega arith in
+    inl (rw (get_or-take k others j d lower) (rw (get_or-take n others j d inside, get_or-take n others k d low, get_or_default others k d (0, 0) there) at (valid.ascending j k d lower (omega (arith, length-take n others)))))
+
+-- the first that overlaps denies that all are disjoint
+pub overlapping_denies : (ds others : List (ℕ × ℕ)) (at : ℕ) → IsFirstOverlapping ds others at → AreDisjoint (ds ++ others) → ⊥
+overlapping_denies ds others k first all = first.here (disjoint_take ds others (k + 1) all)
+
+-- a result that is none exactly where P holds
+pub none_decides : (o : Option ℕ) (b : Bool) (P : Type 0) (Q : ℕ → Type 0) → is_some o ≡ not b → MatchOption o P Q → ((n : ℕ) → Q n → P → ⊥) → IsTrue b ↔ P
+none_decides None true P Q is holds denies = (λ t. holds, λ p. refl)
+none_decides None false P Q is holds denies = absurd (false≢true is)
+none_decides (Some n) true P Q is holds denies = absurd (false≢true (sym is))
+none_decides (Some n) false P Q is holds denies = (λ f. absurd (false≢true f), λ p. absurd (denies n holds p))

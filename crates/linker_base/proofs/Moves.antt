@@ -4,17 +4,17 @@ use Rattle.std.proofs.Common.{◌≡◌, ℕ, ◌+◌, ◌-◌, ◌*◌, ◌/◌
 use Rattle.std.specs.Int.{w64, cast_unsigned, bit_at}
 use Rattle.std.proofs.lemmas.Bool.{or_cases, eqb-true, ltb-true, not-false}
 use Rattle.std.proofs.lemmas.Nat.Bits.{bit_at_cat_low}
-use Rattle.linker_base.specs.Form.{Place, Form, IsLaid, place_sum, KeepsOthers}
+use Rattle.linker_base.specs.Form.{ImmediateBit, Form, BitsWritten, place_sum, WriteKeepsOtherBits}
 use Rattle.linker_base.proofs.Fields.{bit_at_mod}
 use Rattle.linker_base.proofs.Immediates.{place_sum_below, restored, values_apart_fills}
 use Rattle.linker_base.proofs.Rounded.{IsSoundPart}
 
 -- a form whose base has the old bits outside its opcode
-pub keeps_others : (form : Form) → ((neg : Bool) (x w : ℕ) → form.opcode w ≡ false → bit_at (form.base neg x) w ≡ bit_at x w) → KeepsOthers form
+pub keeps_others : (form : Form) → ((neg : Bool) (x w : ℕ) → form.opcode w ≡ false → bit_at (form.base neg x) w ≡ bit_at x w) → WriteKeepsOtherBits form
 keeps_others form same v neg before after laid w p o = laid.kept w p ∙ same neg before w o
 
 -- one that places its bits on the old window
-pub keeps_base : (form : Form) → ((neg : Bool) (x : ℕ) → form.base neg x ≡ x) → KeepsOthers form
+pub keeps_base : (form : Form) → ((neg : Bool) (x : ℕ) → form.base neg x ≡ x) → WriteKeepsOtherBits form
 keeps_base form same = keeps_others form (λ neg x w o. ap (λ y. bit_at y w) (same neg x))
 
 -- an opcode from bit n up keeps the bits below
@@ -59,8 +59,8 @@ opcode_same neg x h f =
           positive_same neg x (f ∙ ap (λ b. eqb b 0) bit) o
     ]
 
-pub move_restored : (ps : List Place) (neg : Bool) (v before after : ℕ) → IsSoundPart 0 16 0 ps
-    → IsLaid ps (signed_bits neg v) (with_opcode neg before) after
+pub move_restored : (ps : List ImmediateBit) (neg : Bool) (v before after : ℕ) → IsSoundPart 0 16 0 ps
+    → BitsWritten ps (signed_bits neg v) (with_opcode neg before) after
     → (eqb (before / 2 ^ 23) 0x125 || eqb (before / 2 ^ 23) 0x1a5) ≡ true
     → v ≡ cast_unsigned w64 (cond (eqb (bit_at before 30) 0) (negsuc (place_sum ps before * 2 ^ 0)) (pos (place_sum ps before * 2 ^ 0))) % 2 ^ 64
     → neg ≡ eqb (bit_at before 30) 0 → after ≡ before
@@ -68,7 +68,7 @@ move_restored ps neg v before after sound laid opcode value flag =
     let apart = values_apart_fills 0 16 ps sound.filled in
     let small = place_sum_below ps 16 before apart sound.below in
     let bits = bits_read_back neg (eqb (bit_at before 30) 0) v (place_sum ps before) small value flag in
-    let over : IsLaid ps (signed_bits neg v) before after = subst (λ b. IsLaid ps (signed_bits neg v) b after) (opcode_same neg before opcode flag) laid in
+    let over : BitsWritten ps (signed_bits neg v) before after = subst (λ b. BitsWritten ps (signed_bits neg v) b after) (opcode_same neg before opcode flag) laid in
     restored 16 0 ps (signed_bits neg v) before after apart sound.below sound.held sound.added
     (ap (λ m. (m + 0) % 2 ^ 64 % 2 ^ 16) bits ∙ omega arith) over
 

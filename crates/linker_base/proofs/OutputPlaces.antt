@@ -6,7 +6,7 @@ use Rattle.std.proofs.lemmas.Bool.{cases_lt}
 use Rattle.std.proofs.lemmas.Bool.Decides.{nat_tests}
 use Rattle.std.proofs.lemmas.List.{get_or_default, take_all}
 use Rattle.std.proofs.lemmas.List.Sums.{sum_by-cons, sum_by_more, sum_by-take-le}
-use Rattle.linker_base.specs.Deletions.{IsBefore, IsApart, IsValid, bytes_of, holds, is_kept, IsInside, rank, IsSelected}
+use Rattle.linker_base.specs.Deletions.{IsBefore, DoNotOverlap, IsValid, bytes_of, covers, is_kept, rank, IsSelected}
 use Rattle.linker_base.proofs.Rank.{removed_by, removed, rank-removed}
 
 -- deletions that end at or below an offset, and then such that begin at or above it
@@ -37,24 +37,9 @@ removed-parted (d ∷ ds) (suc k) i h =
     let first : d.0 + d.1 ≤ i = h.passed 0 d (omega arith) (omega arith) in
     omega (arith, sum_by-cons (removed_by i) d ds, sum_by-cons (λ (e : ℕ × ℕ). e.1) d (take k ds), removed-parted ds k i (parted_tail d ds k i h))
 
--- a deletion that begins below an offset ends at or below it, where the offset isn't strictly inside one
-pub ends_below : (ds : List (ℕ × ℕ)) (i : ℕ) → (IsInside ds i → ⊥) → (k : ℕ) (d : ℕ × ℕ) → k < length ds → (get_or ds k d).0 < i → (get_or ds k d).0 + (get_or ds k d).1 ≤ i
-ends_below ds i outside k d within below = ⊎_elim
-    (λ (inside : i < (get_or ds k d).0 + (get_or ds k d).1). absurd (outside (k, get_or ds k d, within, get_or_default ds k _ d within, (below, inside))))
-    (λ ends. ends)
-    (cases_lt i ((get_or ds k d).0 + (get_or ds k d).1))
-
--- an offset that isn't strictly inside a deletion parts the list at the first deletion at or above it
-pub parted_by_offset : (ds : List (ℕ × ℕ)) (k i : ℕ) → k ≤ length ds → AllWithin (λ d. d.0 < i) ds 0 k → AllWithin (λ d. i ≤ d.0) ds k (length ds) → (IsInside ds i → ⊥) → AreParted ds k i
-parted_by_offset ds k i within below from outside = record {
-  passed = λ j d low high. ends_below ds i outside j d (omega arith) (below j d low high);
-  ahead = from;
-}
-
--- an offset is its rank and the bytes of the deletions below it
-pub rank-parted : (ds : List (ℕ × ℕ)) (k i : ℕ) → AllPairs IsApart ds → k ≤ length ds → AllWithin (λ d. d.0 < i) ds 0 k → AllWithin (λ d. i ≤ d.0) ds k (length ds) → (IsInside ds i → ⊥) → rank ds i + bytes_of (take k ds) ≡ i
-rank-parted ds k i apart within below from outside =
-    omega (arith, rank-removed ds i apart, removed-parted ds k i (parted_by_offset ds k i within below from outside))
+-- an offset that parts the list is its rank and the bytes of the deletions below it
+pub rank-parted : (ds : List (ℕ × ℕ)) (k i : ℕ) → AllPairs DoNotOverlap ds → AreParted ds k i → rank ds i + bytes_of (take k ds) ≡ i
+rank-parted ds k i apart parted = omega (arith, rank-removed ds i apart, removed-parted ds k i parted)
 
 -- the bytes of the first deletions don't fall as more are taken
 pub bytes_of-take_rise : (ds : List (ℕ × ℕ)) (j k : ℕ) → j ≤ k → bytes_of (take j ds) ≤ bytes_of (take k ds)
@@ -69,7 +54,7 @@ bytes_of-take_rise (d ∷ ds) (suc j) (suc k) le =
 kept-parted : (ds : List (ℕ × ℕ)) (k p : ℕ) → AreParted ds k (suc p) → AllWithin (λ d. d.0 + d.1 ≤ p) ds 0 k → is_kept ds p ≡ true
 kept-parted ds k p parted passed = ap not (free ds k parted passed)
   where
-    free : (ds : List (ℕ × ℕ)) (k : ℕ) → AreParted ds k (suc p) → AllWithin (λ d. d.0 + d.1 ≤ p) ds 0 k → list_any (λ d. holds d p) ds ≡ false
+    free : (ds : List (ℕ × ℕ)) (k : ℕ) → AreParted ds k (suc p) → AllWithin (λ d. d.0 + d.1 ≤ p) ds 0 k → list_any (λ d. covers d p) ds ≡ false
     free [] k parted passed = refl
     free (d ∷ ds) zero parted passed =
         let first : suc p ≤ d.0 = parted.ahead 0 d (omega arith) (omega arith) in
@@ -81,7 +66,7 @@ kept-parted ds k p parted passed = ap not (free ds k parted passed)
         rw rest (grind (arith, nat_tests))
 
 -- where the output places part the list at k, the first k deletions are the bytes to add
-pub selected-place : (ds : List (ℕ × ℕ)) (k y : ℕ) → AllPairs IsApart ds → k ≤ length ds
+pub selected-place : (ds : List (ℕ × ℕ)) (k y : ℕ) → AllPairs DoNotOverlap ds → k ≤ length ds
     → ((j : ℕ) (d : ℕ × ℕ) → j < k → (get_or ds j d).0 ≤ y + bytes_of (take j ds))
     → ((j : ℕ) (d : ℕ × ℕ) → k ≤ j → j < length ds → y + bytes_of (take j ds) < (get_or ds j d).0)
     → IsSelected ds y (y + bytes_of (take k ds))

@@ -8,7 +8,7 @@ use Rattle.std.proofs.lemmas.List.Elements.{All-nil, All-cons, All-head, All-tai
 use Rattle.std.proofs.lemmas.List.Sums.{sum_by-cons}
 use Rattle.std.proofs.lemmas.Nat.Bits.{same_from_bits, bit_at-zero}
 use Rattle.linker_base.specs.Bits.{signed}
-use Rattle.linker_base.specs.Form.{Mark, replaced, ored, cleared, Place, IsLaid, placed_bit, bit_for, place_sum, worth}
+use Rattle.linker_base.specs.Form.{Mark, replaced, ored, cleared, ImmediateBit, BitsWritten, placed_bit, bit_for, place_sum, worth}
 use Rattle.linker_base.proofs.Fields.{bit_at_mod, bit_at_mod_above}
 use Rattle.linker_base.proofs.Immediates.{has_value_fills, values_apart_fills, place_sum_below}
 use Rattle.linker_base.proofs.Parts.{unchanged, is_cleared, all_cleared, cleared_kept, ored_from, ored_kept}
@@ -32,7 +32,7 @@ cast_rem (negsuc a) m e = let same : m + a + 1 ≡ 2 ^ 64 = omega (arith, ints) 
 pub added : (x y a b : ℤ) → x ≡ a → y ≡ b → x +ℤ y ≡ a +ℤ b
 added x y a b e f = cc
 
--- ---- both parts of what is laid
+-- ---- both parts of what is written
 
 pub all_left : {X : Type 0} (P : X → Type 0) (xs ys : List X) → All P (xs ++ ys) → All P xs
 all_left P [] ys h = All-nil P
@@ -43,7 +43,7 @@ all_right P [] ys h = h
 all_right P (x ∷ xs) ys h = all_right P xs ys (All-tail P x (xs ++ ys) h)
 
 -- the bits below a part's own are 0
-part_aligned : (low n r : ℕ) (ps : List Place) (x : ℕ) → IsSoundPart low n r ps → place_sum ps x % 2 ^ low ≡ 0
+part_aligned : (low n r : ℕ) (ps : List ImmediateBit) (x : ℕ) → IsSoundPart low n r ps → place_sum ps x % 2 ^ low ≡ 0
 part_aligned low n r ps x sound =
     same_from_bits (place_sum ps x % 2 ^ low) 0 (λ i. elim (cases_lt i low) [
       | inl inside ↦
@@ -54,18 +54,18 @@ part_aligned low n r ps x sound =
       | inr above ↦ bit_at_mod_above (place_sum ps x) low i above ∙ sym (bit_at-zero i)
     ])
 
-part_below : (low n r : ℕ) (ps : List Place) (x : ℕ) → IsSoundPart low n r ps → place_sum ps x < 2 ^ n
+part_below : (low n r : ℕ) (ps : List ImmediateBit) (x : ℕ) → IsSoundPart low n r ps → place_sum ps x < 2 ^ n
 part_below low n r ps x sound = place_sum_below ps n x (values_apart_fills low n ps sound.filled) sound.below
 
--- two parts whose sums are those before are laid without a change
-parts_restored : (a b r c d s : ℕ) (high low : List Place) (v before after : ℕ) → IsSoundPart a b r high → IsSoundPart c d s low → IsLaid (high ++ low) v before after
+-- two parts whose sums are those before are written without a change
+parts_restored : (a b r c d s : ℕ) (high low : List ImmediateBit) (v before after : ℕ) → IsSoundPart a b r high → IsSoundPart c d s low → BitsWritten (high ++ low) v before after
     → (v + r) % 2 ^ 64 / 2 ^ a % 2 ^ (b - a) * 2 ^ a ≡ place_sum high before
     → (v + s) % 2 ^ 64 / 2 ^ c % 2 ^ (d - c) * 2 ^ c ≡ place_sum low before
     → after ≡ before
 parts_restored a b r c d s high low v before after high_sound low_sound laid high_same low_same =
-    let Placed : Place → Type 0 = λ p. bit_at after p.word ≡ placed_bit p.mark (bit_for p v) (bit_at before p.word) in
+    let Placed : ImmediateBit → Type 0 = λ p. bit_at after p.insn_bit ≡ placed_bit p.mark (bit_for p v) (bit_at before p.insn_bit) in
     unchanged (high ++ low) v before after laid
-    (All-append (λ (p : Place). bit_at after p.word ≡ bit_at before p.word) high low
+    (All-append (λ (p : ImmediateBit). bit_at after p.insn_bit ≡ bit_at before p.insn_bit) high low
     (part_kept a b r high v before after high_sound high_same (all_left Placed high low laid.placed))
     (part_kept c d s low v before after low_sound low_same (all_right Placed high low laid.placed)))
 
@@ -93,7 +93,7 @@ pair_bits v h l hb hm lb e =
         found (e ∙ ap (λ z. cast_unsigned w64 z % 2 ^ 64) (added (signed 32 h) (signed 12 l) a b x y) ∙ cast_rem (a +ℤ b) m whole)
 
 -- writing back the sum of the parts, with 0x800 added for the high one, changes nothing
-pub pair_restored : (high low : List Place) (v before after : ℕ) → IsSoundPart 12 32 0x800 high → IsSoundPart 0 12 0 low → IsLaid (high ++ low) v before after → v < 2 ^ 64
+pub pair_restored : (high low : List ImmediateBit) (v before after : ℕ) → IsSoundPart 12 32 0x800 high → IsSoundPart 0 12 0 low → BitsWritten (high ++ low) v before after → v < 2 ^ 64
     → v ≡ cast_unsigned w64 (signed 32 (place_sum high before) +ℤ signed 12 (place_sum low before)) % 2 ^ 64 → after ≡ before
 pair_restored high low v before after high_sound low_sound laid wide e =
     let bits = pair_bits v (place_sum high before) (place_sum low before) (part_below 12 32 0x800 high before high_sound) (part_aligned 12 32 0x800 high before high_sound)
@@ -123,7 +123,7 @@ pair_read v h l a b =
     ∙ omega arith))
 
 -- writing back the high part and the signed low one together, modulo 2 ^ 36, with 0x8000 added for the high one, changes nothing
-pub long_pair_restored : (high low : List Place) (v before after : ℕ) → IsSoundPart 16 36 0x8000 high → IsSoundPart 0 16 0 low → IsLaid (high ++ low) v before after → v < 2 ^ 64
+pub long_pair_restored : (high low : List ImmediateBit) (v before after : ℕ) → IsSoundPart 16 36 0x8000 high → IsSoundPart 0 16 0 low → BitsWritten (high ++ low) v before after → v < 2 ^ 64
     → v ≡ cast_unsigned w64 (int_rem_euclid (pos (place_sum high before) +ℤ signed 16 (place_sum low before)) (pos (2 ^ 36))) % 2 ^ 36 → after ≡ before
 long_pair_restored high low v before after high_sound low_sound laid wide e =
     let h = place_sum high before / 2 ^ 16 in
@@ -138,27 +138,27 @@ long_pair_restored high low v before after high_sound low_sound laid wide e =
 
 -- ---- bits that are held, and others that stay
 
-part_restored : (n : ℕ) (held others : List Place) (v before after : ℕ) → IsSoundPart 0 n 0 held → v < 2 ^ 64 → v % 2 ^ n ≡ place_sum held before
-    → All (λ (p : Place). bit_at after p.word ≡ bit_at before p.word) others → IsLaid (held ++ others) v before after → after ≡ before
+part_restored : (n : ℕ) (held others : List ImmediateBit) (v before after : ℕ) → IsSoundPart 0 n 0 held → v < 2 ^ 64 → v % 2 ^ n ≡ place_sum held before
+    → All (λ (p : ImmediateBit). bit_at after p.insn_bit ≡ bit_at before p.insn_bit) others → BitsWritten (held ++ others) v before after → after ≡ before
 part_restored n held others v before after sound wide same stay laid =
     let whole : (v + 0) % 2 ^ 64 / 2 ^ 0 % 2 ^ (n - 0) * 2 ^ 0 ≡ v % 2 ^ n =
     ap (λ y. y / 2 ^ 0 % 2 ^ (n - 0) * 2 ^ 0) (let low : (v + 0) % 2 ^ 64 ≡ v = omega arith in low)
     ∙ ap (λ k. v / 2 ^ 0 % 2 ^ k * 2 ^ 0) (let same : n - 0 ≡ n = omega arith in same)
     ∙ ap (λ y. y % 2 ^ n * 2 ^ 0) (let one : v / 2 ^ 0 ≡ v = omega arith in one) ∙ omega arith in
     unchanged (held ++ others) v before after laid
-    (All-append (λ (p : Place). bit_at after p.word ≡ bit_at before p.word) held others
+    (All-append (λ (p : ImmediateBit). bit_at after p.insn_bit ≡ bit_at before p.insn_bit) held others
     (part_kept 0 n 0 held v before after sound (whole ∙ same)
-    (all_left (λ (p : Place). bit_at after p.word ≡ placed_bit p.mark (bit_for p v) (bit_at before p.word)) held others laid.placed))
+    (all_left (λ (p : ImmediateBit). bit_at after p.insn_bit ≡ placed_bit p.mark (bit_for p v) (bit_at before p.insn_bit)) held others laid.placed))
     stay)
 
 -- 12 bits are read of 16, of which the highest four are only ORed
-pub low_restored : (held others : List Place) (v before after : ℕ) → IsSoundPart 0 12 0 held → ored_from 12 others ≡ true → v < 2 ^ 64 → v ≡ place_sum held before % 2 ^ 16
-    → IsLaid (held ++ others) v before after → after ≡ before
+pub low_restored : (held others : List ImmediateBit) (v before after : ℕ) → IsSoundPart 0 12 0 held → ored_from 12 others ≡ true → v < 2 ^ 64 → v ≡ place_sum held before % 2 ^ 16
+    → BitsWritten (held ++ others) v before after → after ≡ before
 low_restored held others v before after sound high wide e laid =
     let below = part_below 0 12 0 held before sound in
     part_restored 12 held others v before after sound wide (omega arith)
     (ored_kept 12 others v before after (omega arith) wide high
-    (all_right (λ (p : Place). bit_at after p.word ≡ placed_bit p.mark (bit_for p v) (bit_at before p.word)) held others laid.placed))
+    (all_right (λ (p : ImmediateBit). bit_at after p.insn_bit ≡ placed_bit p.mark (bit_for p v) (bit_at before p.insn_bit)) held others laid.placed))
     laid
 
 cleared_worth : (m : Mark) (k b : ℕ) → is_cleared m ≡ true → worth m k b ≡ 0
@@ -167,22 +167,22 @@ cleared_worth ored k b h = cc
 cleared_worth cleared k b h = refl
 
 -- places that are only cleared have no number
-cleared_sum : (ps : List Place) (x : ℕ) → all_cleared ps ≡ true → place_sum ps x ≡ 0
+cleared_sum : (ps : List ImmediateBit) (x : ℕ) → all_cleared ps ≡ true → place_sum ps x ≡ 0
 unfolding place_sum
 cleared_sum [] x h = refl
 cleared_sum (p ∷ ps) x h =
     let parts = and_parts (is_cleared p.mark) (all_cleared ps) h in
-    sum_by-cons (λ (q : Place). worth q.mark q.value (bit_at x q.word)) p ps
-    ∙ ap (λ y. y + place_sum ps x) (cleared_worth p.mark p.value (bit_at x p.word) parts.0)
+    sum_by-cons (λ (q : ImmediateBit). worth q.mark q.value (bit_at x q.insn_bit)) p ps
+    ∙ ap (λ y. y + place_sum ps x) (cleared_worth p.mark p.value (bit_at x p.insn_bit) parts.0)
     ∙ ap (λ y. 0 + y) (cleared_sum ps x parts.1)
 
 -- 20 bits, and others that held 0 and are cleared
-pub clear_restored : (held others : List Place) (v before after : ℕ) → IsSoundPart 0 20 0 held → all_cleared others ≡ true → All (λ (p : Place). bit_at before p.word ≡ 0) others
-    → v < 2 ^ 64 → v ≡ place_sum (held ++ others) before % 2 ^ 20 → IsLaid (held ++ others) v before after → after ≡ before
+pub clear_restored : (held others : List ImmediateBit) (v before after : ℕ) → IsSoundPart 0 20 0 held → all_cleared others ≡ true → All (λ (p : ImmediateBit). bit_at before p.insn_bit ≡ 0) others
+    → v < 2 ^ 64 → v ≡ place_sum (held ++ others) before % 2 ^ 20 → BitsWritten (held ++ others) v before after → after ≡ before
 clear_restored held others v before after sound clear none wide e laid =
     let below = part_below 0 20 0 held before sound in
     let sum : place_sum (held ++ others) before ≡ place_sum held before = sums held others before ∙ ap (λ y. place_sum held before + y) (cleared_sum others before clear) ∙ omega arith in
     part_restored 20 held others v before after sound wide (omega arith)
     (cleared_kept others v before after clear none
-    (all_right (λ (p : Place). bit_at after p.word ≡ placed_bit p.mark (bit_for p v) (bit_at before p.word)) held others laid.placed))
+    (all_right (λ (p : ImmediateBit). bit_at after p.insn_bit ≡ placed_bit p.mark (bit_for p v) (bit_at before p.insn_bit)) held others laid.placed))
     laid

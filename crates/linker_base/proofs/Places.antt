@@ -8,18 +8,18 @@ use Rattle.std.proofs.lemmas.List.Sums.{sum_by-cons, sum_by-append}
 use Rattle.std.proofs.lemmas.Nat.{or_disjoint}
 use Rattle.std.proofs.lemmas.Nat.Bits.{bit_at_and, same_from_bits, bit_at-lt, bit_at_or, bit_at-pow_same, bit_at-pow_other, bit_at-zero, and_pow}
 use lib.Bits.{bit_and, bit_or}
-use Rattle.linker_base.specs.Form.{holds, is_of, has_value, values_apart, Mark, replaced, ored, cleared, Place, placed_bit, bit_for, worth, place_sum, IsClear, is_clear_at}
+use Rattle.linker_base.specs.Form.{holds_value_bit, is_of, has_value, values_apart, Mark, replaced, ored, cleared, ImmediateBit, placed_bit, bit_for, worth, place_sum, IsClear, is_clear_at}
 
 -- the window's bit at the place of value bit k, and 0 where it has none
-abbrev pub value_bit : List Place → ℕ → ℕ → ℕ
+abbrev pub value_bit : List ImmediateBit → ℕ → ℕ → ℕ
 value_bit [] k x = 0
-value_bit (p ∷ ps) k x = cond (is_of p k) (bit_at x p.word) (value_bit ps k x)
+value_bit (p ∷ ps) k x = cond (is_of p k) (bit_at x p.insn_bit) (value_bit ps k x)
 
-pub value_bit_none : (ps : List Place) (k x : ℕ) → has_value ps k ≡ false → value_bit ps k x ≡ 0
+pub value_bit_none : (ps : List ImmediateBit) (k x : ℕ) → has_value ps k ≡ false → value_bit ps k x ≡ 0
 value_bit_none [] k x h = refl
 value_bit_none (p ∷ ps) k x h =
     let parts = or_parts (is_of p k) (has_value ps k) h in
-    cond-false (is_of p k) (bit_at x p.word) (value_bit ps k x) parts.0 ∙ value_bit_none ps k x parts.1
+    cond-false (is_of p k) (bit_at x p.insn_bit) (value_bit ps k x) parts.0 ∙ value_bit_none ps k x parts.1
 
 one_bit_more : (s k i : ℕ) → bit_at s k ≡ 0 → bit_at (s + 2 ^ k) i ≡ max (bit_at s i) (bit_at (2 ^ k) i)
 one_bit_more s k i h =
@@ -40,110 +40,110 @@ add_bit s k (suc zero) i h l =
     ]
 add_bit s k (suc (suc b)) i h l = absurd (omega arith)
 
-add_worth : (m : Mark) (k b s i : ℕ) → (holds m ≡ true → bit_at s k ≡ 0) → b < 2 → bit_at (worth m k b + s) i ≡ cond (holds m && eqb k i) b (bit_at s i)
+add_worth : (m : Mark) (k b s i : ℕ) → (holds_value_bit m ≡ true → bit_at s k ≡ 0) → b < 2 → bit_at (worth m k b + s) i ≡ cond (holds_value_bit m && eqb k i) b (bit_at s i)
 add_worth replaced k b s i h l = add_bit s k b i (h refl) l
 add_worth ored k b s i h l = add_bit s k b i (h refl) l
 add_worth cleared k b s i h l = ap (λ n. bit_at n i) (omega arith)
 
 -- the value bit of a place is no later place's
-no_later : (p : Place) (ps : List Place) → values_apart (p ∷ ps) ≡ true → holds p.mark ≡ true → has_value ps p.value ≡ false
+no_later : (p : ImmediateBit) (ps : List ImmediateBit) → values_apart (p ∷ ps) ≡ true → holds_value_bit p.mark ≡ true → has_value ps p.value ≡ false
 no_later p ps h t =
-    let first = not-true (holds p.mark && has_value ps p.value) (and_parts (not (holds p.mark && has_value ps p.value)) (values_apart ps) h).0 in
+    let first = not-true (holds_value_bit p.mark && has_value ps p.value) (and_parts (not (holds_value_bit p.mark && has_value ps p.value)) (values_apart ps) h).0 in
     rw t at first
 
 -- bit k of the number at the places is the window's bit at the place of value bit k
-pub bit_at-place_sum : (ps : List Place) (x k : ℕ) → values_apart ps ≡ true → bit_at (place_sum ps x) k ≡ value_bit ps k x
+pub bit_at-place_sum : (ps : List ImmediateBit) (x k : ℕ) → values_apart ps ≡ true → bit_at (place_sum ps x) k ≡ value_bit ps k x
 unfolding place_sum
 bit_at-place_sum [] x k h = bit_at-zero k
 bit_at-place_sum (p ∷ ps) x k h =
-    let apart = (and_parts (not (holds p.mark && has_value ps p.value)) (values_apart ps) h).1 in
+    let apart = (and_parts (not (holds_value_bit p.mark && has_value ps p.value)) (values_apart ps) h).1 in
     let rest : (i : ℕ) → bit_at (place_sum ps x) i ≡ value_bit ps i x = λ i. bit_at-place_sum ps x i apart in
-    let free : holds p.mark ≡ true → bit_at (place_sum ps x) p.value ≡ 0 =
+    let free : holds_value_bit p.mark ≡ true → bit_at (place_sum ps x) p.value ≡ 0 =
     λ t. rest p.value ∙ value_bit_none ps p.value x (no_later p ps h t) in
-    ap (λ n. bit_at n k) (sum_by-cons (λ (q : Place). worth q.mark q.value (bit_at x q.word)) p ps)
-    ∙ add_worth p.mark p.value (bit_at x p.word) (place_sum ps x) k free (bit_at-lt x p.word)
-    ∙ ap (λ n. cond (is_of p k) (bit_at x p.word) n) (rest k)
+    ap (λ n. bit_at n k) (sum_by-cons (λ (q : ImmediateBit). worth q.mark q.value (bit_at x q.insn_bit)) p ps)
+    ∙ add_worth p.mark p.value (bit_at x p.insn_bit) (place_sum ps x) k free (bit_at-lt x p.insn_bit)
+    ∙ ap (λ n. cond (is_of p k) (bit_at x p.insn_bit) n) (rest k)
 
 -- ---- what a write leaves
 
-placed_new : (m : Mark) (new old : ℕ) → holds m ≡ true → is_clear_at m old ≡ true → placed_bit m new old ≡ new
+placed_new : (m : Mark) (new old : ℕ) → holds_value_bit m ≡ true → is_clear_at m old ≡ true → placed_bit m new old ≡ new
 placed_new replaced new old h c = refl
 placed_new ored new old h c = omega (arith, eqb-true old 0 c)
 placed_new cleared new old h c = cc
 
 -- all places take their bits from the value plus r
-abbrev pub adds : ℕ → List Place → Bool
+abbrev pub adds : ℕ → List ImmediateBit → Bool
 adds r [] = true
 adds r (p ∷ ps) = eqb p.added r && adds r ps
 
 -- after a write the places, where those that are only ORed held 0, have the bits of the value plus r
-pub value_bit_laid : (ps : List Place) (r v before after k : ℕ) → adds r ps ≡ true
-    → All (λ (p : Place). bit_at after p.word ≡ placed_bit p.mark (bit_for p v) (bit_at before p.word)) ps
+pub value_bit_laid : (ps : List ImmediateBit) (r v before after k : ℕ) → adds r ps ≡ true
+    → All (λ (p : ImmediateBit). bit_at after p.insn_bit ≡ placed_bit p.mark (bit_for p v) (bit_at before p.insn_bit)) ps
     → IsClear ps before
     → value_bit ps k after ≡ cond (has_value ps k) (bit_at ((v + r) % 2 ^ 64) k) 0
 value_bit_laid [] r v before after k u h c = refl
 value_bit_laid (p ∷ ps) r v before after k u h c =
     let parts = and_parts (eqb p.added r) (adds r ps) u in
     let same : p.added ≡ r = eqb-true p.added r parts.0 in
-    let first : bit_at after p.word ≡ placed_bit p.mark (bit_for p v) (bit_at before p.word) = All-head (λ (q : Place). bit_at after q.word ≡ placed_bit q.mark (bit_for q v) (bit_at before q.word)) p ps h in
-    let clear : is_clear_at p.mark (bit_at before p.word) ≡ true = All-head (λ (q : Place). is_clear_at q.mark (bit_at before q.word) ≡ true) p ps c in
+    let first : bit_at after p.insn_bit ≡ placed_bit p.mark (bit_for p v) (bit_at before p.insn_bit) = All-head (λ (q : ImmediateBit). bit_at after q.insn_bit ≡ placed_bit q.mark (bit_for q v) (bit_at before q.insn_bit)) p ps h in
+    let clear : is_clear_at p.mark (bit_at before p.insn_bit) ≡ true = All-head (λ (q : ImmediateBit). is_clear_at q.mark (bit_at before q.insn_bit) ≡ true) p ps c in
     let rest = value_bit_laid ps r v before after k parts.1
-    (All-tail (λ (q : Place). bit_at after q.word ≡ placed_bit q.mark (bit_for q v) (bit_at before q.word)) p ps h)
-    (All-tail (λ (q : Place). is_clear_at q.mark (bit_at before q.word) ≡ true) p ps c) in
+    (All-tail (λ (q : ImmediateBit). bit_at after q.insn_bit ≡ placed_bit q.mark (bit_for q v) (bit_at before q.insn_bit)) p ps h)
+    (All-tail (λ (q : ImmediateBit). is_clear_at q.mark (bit_at before q.insn_bit) ≡ true) p ps c) in
     elim (cases_Bool (is_of p k)) [
       | inl t ↦
-          let both = and_parts (holds p.mark) (eqb p.value k) t in
+          let both = and_parts (holds_value_bit p.mark) (eqb p.value k) t in
           let at : p.value ≡ k = eqb-true p.value k both.1 in
-          rw t (first ∙ placed_new p.mark (bit_for p v) (bit_at before p.word) both.0 clear ∙ rw (same, at))
+          rw t (first ∙ placed_new p.mark (bit_for p v) (bit_at before p.insn_bit) both.0 clear ∙ rw (same, at))
       | inr f ↦ rw f rest
     ]
 
 -- ---- places side by side
 
-has_value-append : (ps qs : List Place) (k : ℕ) → has_value (ps ++ qs) k ≡ false → (has_value ps k ≡ false) × (has_value qs k ≡ false)
+has_value-append : (ps qs : List ImmediateBit) (k : ℕ) → has_value (ps ++ qs) k ≡ false → (has_value ps k ≡ false) × (has_value qs k ≡ false)
 has_value-append [] qs k h = (refl, h)
 has_value-append (p ∷ ps) qs k h =
     let parts = or_parts (is_of p k) (has_value (ps ++ qs) k) h in
     let rest = has_value-append ps qs k parts.1 in
     (or_from (is_of p k) (has_value ps k) parts.0 rest.0, rest.1)
 
-pub values_apart_left : (ps qs : List Place) → values_apart (ps ++ qs) ≡ true → values_apart ps ≡ true
+pub values_apart_left : (ps qs : List ImmediateBit) → values_apart (ps ++ qs) ≡ true → values_apart ps ≡ true
 values_apart_left [] qs h = refl
 values_apart_left (p ∷ ps) qs h =
-    let parts = and_parts (not (holds p.mark && has_value (ps ++ qs) p.value)) (values_apart (ps ++ qs)) h in
-    and_from (not (holds p.mark && has_value ps p.value)) (values_apart ps)
-    (not_from_false (holds p.mark && has_value ps p.value) (none_of (holds p.mark) (has_value (ps ++ qs) p.value) (has_value ps p.value)
-    (λ f. (has_value-append ps qs p.value f).0) (not-true (holds p.mark && has_value (ps ++ qs) p.value) parts.0)))
+    let parts = and_parts (not (holds_value_bit p.mark && has_value (ps ++ qs) p.value)) (values_apart (ps ++ qs)) h in
+    and_from (not (holds_value_bit p.mark && has_value ps p.value)) (values_apart ps)
+    (not_from_false (holds_value_bit p.mark && has_value ps p.value) (none_of (holds_value_bit p.mark) (has_value (ps ++ qs) p.value) (has_value ps p.value)
+    (λ f. (has_value-append ps qs p.value f).0) (not-true (holds_value_bit p.mark && has_value (ps ++ qs) p.value) parts.0)))
     (values_apart_left ps qs parts.1)
   where
     none_of : (a b c : Bool) → (b ≡ false → c ≡ false) → (a && b) ≡ false → (a && c) ≡ false
     none_of true b c g e = g e
     none_of false b c g e = refl
 
-pub values_apart_right : (ps qs : List Place) → values_apart (ps ++ qs) ≡ true → values_apart qs ≡ true
+pub values_apart_right : (ps qs : List ImmediateBit) → values_apart (ps ++ qs) ≡ true → values_apart qs ≡ true
 values_apart_right [] qs h = h
 values_apart_right (p ∷ ps) qs h =
-    values_apart_right ps qs (and_parts (not (holds p.mark && has_value (ps ++ qs) p.value)) (values_apart (ps ++ qs)) h).1
+    values_apart_right ps qs (and_parts (not (holds_value_bit p.mark && has_value (ps ++ qs) p.value)) (values_apart (ps ++ qs)) h).1
 
 -- a value bit that has a place among the first has none among the others
-values_disjoint : (ps qs : List Place) (k : ℕ) → values_apart (ps ++ qs) ≡ true → has_value ps k ≡ true → has_value qs k ≡ false
+values_disjoint : (ps qs : List ImmediateBit) (k : ℕ) → values_apart (ps ++ qs) ≡ true → has_value ps k ≡ true → has_value qs k ≡ false
 values_disjoint [] qs k h t = cc
 values_disjoint (p ∷ ps) qs k h t =
-    let parts = and_parts (not (holds p.mark && has_value (ps ++ qs) p.value)) (values_apart (ps ++ qs)) h in
+    let parts = and_parts (not (holds_value_bit p.mark && has_value (ps ++ qs) p.value)) (values_apart (ps ++ qs)) h in
     elim (or_cases (is_of p k) (has_value ps k) t) [
       | inl here ↦
-          let both = and_parts (holds p.mark) (eqb p.value k) here in
-          let none : has_value (ps ++ qs) p.value ≡ false = rw both.0 at (not-true (holds p.mark && has_value (ps ++ qs) p.value) parts.0) in
+          let both = and_parts (holds_value_bit p.mark) (eqb p.value k) here in
+          let none : has_value (ps ++ qs) p.value ≡ false = rw both.0 at (not-true (holds_value_bit p.mark && has_value (ps ++ qs) p.value) parts.0) in
           subst (λ j. has_value qs j ≡ false) (eqb-true p.value k both.1) (has_value-append ps qs p.value none).1
       | inr later ↦ values_disjoint ps qs k parts.1 later
     ]
 
-pub sums : (ps qs : List Place) (x : ℕ) → place_sum (ps ++ qs) x ≡ place_sum ps x + place_sum qs x
+pub sums : (ps qs : List ImmediateBit) (x : ℕ) → place_sum (ps ++ qs) x ≡ place_sum ps x + place_sum qs x
 unfolding place_sum
-sums ps qs x = sum_by-append (λ (p : Place). worth p.mark p.value (bit_at x p.word)) ps qs
+sums ps qs x = sum_by-append (λ (p : ImmediateBit). worth p.mark p.value (bit_at x p.insn_bit)) ps qs
 
 -- the number at all places, from the numbers at the first and at the others
-pub place_sum-append : (ps qs : List Place) (x : ℕ) → values_apart (ps ++ qs) ≡ true → place_sum (ps ++ qs) x ≡ bit_or (place_sum ps x) (place_sum qs x)
+pub place_sum-append : (ps qs : List ImmediateBit) (x : ℕ) → values_apart (ps ++ qs) ≡ true → place_sum (ps ++ qs) x ≡ bit_or (place_sum ps x) (place_sum qs x)
 place_sum-append ps qs x h =
     let disjoint : bit_and (place_sum ps x) (place_sum qs x) ≡ 0 =
     same_from_bits (bit_and (place_sum ps x) (place_sum qs x)) 0 (λ k.

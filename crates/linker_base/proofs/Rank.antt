@@ -1,12 +1,12 @@
 -- How many positions are kept, and how many bytes are gone, below an offset.
-use Rattle.std.proofs.Common.{◌≡◌, ℕ, zero, suc, ◌+◌, ◌-◌, ◌<◌, ◌≤◌, true, false, cond, List, [], ◌∷◌, refl, inl, inr, ⊎_elim, arith}
+use Rattle.std.proofs.Common.{◌≡◌, ℕ, zero, suc, ◌+◌, ◌-◌, ◌<◌, ◌≤◌, true, false, cond, List, [], ◌∷◌, refl, ap, inl, inr, ⊎_elim, add-zero, add-suc, zero-add, arith}
 use Rattle.std.specs.Prelude.{◌^◌, ◌↔◌, min, ◌||◌, All, AllPairs, sum_by, count_by}
 use Rattle.std.specs.List.{list_any}
 use Rattle.std.proofs.lemmas.Bool.{cases_Bool, cases_lt, cases_order}
 use Rattle.std.proofs.lemmas.Bool.Decides.{nat_tests}
 use Rattle.std.proofs.lemmas.List.Elements.{All-head, All-tail}
 use Rattle.std.proofs.lemmas.List.Sums.{sum_by-cons}
-use Rattle.linker_base.specs.Deletions.{IsApart, holds, is_kept, rank, IsSelected, HasInput}
+use Rattle.linker_base.specs.Deletions.{DoNotOverlap, covers, is_kept, rank, IsSelected, HasInput, AreKept}
 
 -- the bytes of the deletion below i
 abbrev pub removed_by : ℕ → ℕ × ℕ → ℕ
@@ -25,42 +25,42 @@ pub all_pairs_head : {X : Type 0} (R : X → X → Type 0) (x : X) (xs : List X)
 all_pairs_head R x xs h k d within = h zero (suc k) d (omega arith) (omega arith)
 
 -- one position on, a deletion has one byte more below it where it holds that position
-removed_by_step : (i : ℕ) (d : ℕ × ℕ) → removed_by (suc i) d ≡ removed_by i d + cond (holds d i) 1 0
+removed_by_step : (i : ℕ) (d : ℕ × ℕ) → removed_by (suc i) d ≡ removed_by i d + cond (covers d i) 1 0
 removed_by_step i d = grind (arith, nat_tests)
 
 -- one position on, the bytes gone are more by the deletions that hold that position
-removed_step : (ds : List (ℕ × ℕ)) (i : ℕ) → removed ds (suc i) ≡ removed ds i + count_by (λ d. holds d i) ds
+removed_step : (ds : List (ℕ × ℕ)) (i : ℕ) → removed ds (suc i) ≡ removed ds i + count_by (λ d. covers d i) ds
 removed_step [] i = refl
 removed_step (d ∷ ds) i =
-    omega (arith, sum_by-cons (removed_by (suc i)) d ds, sum_by-cons (removed_by i) d ds, sum_by-cons (λ d. cond (holds d i) 1 0) d ds, removed_by_step i d, removed_step ds i)
+    omega (arith, sum_by-cons (removed_by (suc i)) d ds, sum_by-cons (removed_by i) d ds, sum_by-cons (λ d. cond (covers d i) 1 0) d ds, removed_by_step i d, removed_step ds i)
 
 -- a deletion that holds a position is apart from none that holds it too
-held_alone : (d : ℕ × ℕ) (ds : List (ℕ × ℕ)) (i : ℕ) → All (IsApart d) ds → holds d i ≡ true → list_any (λ e. holds e i) ds ≡ false
+held_alone : (d : ℕ × ℕ) (ds : List (ℕ × ℕ)) (i : ℕ) → All (DoNotOverlap d) ds → covers d i ≡ true → list_any (λ e. covers e i) ds ≡ false
 held_alone d [] i apart held = refl
 held_alone d (e ∷ ds) i apart held =
-    let rest = held_alone d ds i (All-tail (IsApart d) e ds apart) held in
-    let first = All-head (IsApart d) e ds apart in
+    let rest = held_alone d ds i (All-tail (DoNotOverlap d) e ds apart) held in
+    let first = All-head (DoNotOverlap d) e ds apart in
     rw rest (not_both first)
   where
-    not_both : IsApart d e → (holds e i || false) ≡ false
+    not_both : DoNotOverlap d e → (covers e i || false) ≡ false
     not_both (inl below) = grind (arith, nat_tests, held, below.1)
     not_both (inr above) = grind (arith, nat_tests, held, above.1)
 
 -- no deletion holds the position, so none is counted
-count_none : (ds : List (ℕ × ℕ)) (i : ℕ) → list_any (λ e. holds e i) ds ≡ false → count_by (λ d. holds d i) ds ≡ 0
+count_none : (ds : List (ℕ × ℕ)) (i : ℕ) → list_any (λ e. covers e i) ds ≡ false → count_by (λ d. covers d i) ds ≡ 0
 count_none [] i none = refl
-count_none (d ∷ ds) i none = grind (arith, sum_by-cons (λ d. cond (holds d i) 1 0) d ds, count_none ds i, none)
+count_none (d ∷ ds) i none = grind (arith, sum_by-cons (λ d. cond (covers d i) 1 0) d ds, count_none ds i, none)
 
 -- where deletions are apart, at most one holds a position
-held_once : (ds : List (ℕ × ℕ)) (i : ℕ) → AllPairs IsApart ds → count_by (λ d. holds d i) ds ≡ cond (list_any (λ d. holds d i) ds) 1 0
+held_once : (ds : List (ℕ × ℕ)) (i : ℕ) → AllPairs DoNotOverlap ds → count_by (λ d. covers d i) ds ≡ cond (list_any (λ d. covers d i) ds) 1 0
 held_once [] i apart = refl
-held_once (d ∷ ds) i apart = rw (sum_by-cons (λ d. cond (holds d i) 1 0) d ds) (⊎_elim
-    (λ (held : holds d i ≡ true). let none = held_alone d ds i (all_pairs_head IsApart d ds apart) held in rw held (omega (arith, count_none ds i none)))
-    (λ (free : holds d i ≡ false). let rest = held_once ds i (all_pairs_tail IsApart d ds apart) in rw free (omega (arith, rest)))
-    (cases_Bool (holds d i)))
+held_once (d ∷ ds) i apart = rw (sum_by-cons (λ d. cond (covers d i) 1 0) d ds) (⊎_elim
+    (λ (held : covers d i ≡ true). let none = held_alone d ds i (all_pairs_head DoNotOverlap d ds apart) held in rw held (omega (arith, count_none ds i none)))
+    (λ (free : covers d i ≡ false). let rest = held_once ds i (all_pairs_tail DoNotOverlap d ds apart) in rw free (omega (arith, rest)))
+    (cases_Bool (covers d i)))
 
 -- each position below i is kept or gone
-pub rank-removed : (ds : List (ℕ × ℕ)) (i : ℕ) → AllPairs IsApart ds → rank ds i + removed ds i ≡ i
+pub rank-removed : (ds : List (ℕ × ℕ)) (i : ℕ) → AllPairs DoNotOverlap ds → rank ds i + removed ds i ≡ i
 unfolding rank
 rank-removed ds zero apart = none ds
   where
@@ -71,7 +71,7 @@ rank-removed ds (suc i) apart =
     let before = rank-removed ds i apart in
     let step = removed_step ds i in
     let once = held_once ds i apart in
-    elim (cases_Bool (list_any (λ d. holds d i) ds)) [
+    elim (cases_Bool (list_any (λ d. covers d i) ds)) [
       | inl held ↦ rw held (omega (arith, rw held at once))
       | inr free ↦ rw free (omega (arith, rw free at once))
     ]
@@ -108,3 +108,38 @@ selected_once ds y p q one other = elim (cases_order p q) [
 -- an offset of 64 bits has rank y and is kept just where the one that is selected is of 64 bits
 pub input_fits : (ds : List (ℕ × ℕ)) (y p : ℕ) → IsSelected ds y p → HasInput ds y ↔ (p < 2 ^ 64)
 input_fits ds y p selected = (λ has. omega (arith, selected_once ds y p has.0 selected has.2), λ fits. (p, fits, selected))
+
+rank_step : (ds : List (ℕ × ℕ)) (i : ℕ) → rank ds (suc i) ≤ rank ds i + 1
+rank_step ds i =
+    elim (cases_Bool (is_kept ds i)) [
+      | inl t ↦ omega (arith, rank_kept ds i t)
+      | inr f ↦ omega (arith, rank_gone ds i f)
+    ]
+
+-- the rank rises by at most one a position
+pub rank_steps : (ds : List (ℕ × ℕ)) (i n : ℕ) → rank ds (i + n) ≤ rank ds i + n
+rank_steps ds i zero = omega (arith, ap (rank ds) (add-zero i))
+rank_steps ds i (suc n) = omega (arith, ap (rank ds) (add-suc i n), rank_step ds (i + n), rank_steps ds i n)
+
+rank-zero : (ds : List (ℕ × ℕ)) → rank ds 0 ≡ 0
+unfolding rank
+rank-zero ds = refl
+
+pub rank-le : (ds : List (ℕ × ℕ)) (i : ℕ) → rank ds i ≤ i
+rank-le ds i = omega (arith, rank_steps ds 0 i, ap (rank ds) (zero-add i), rank-zero ds)
+
+-- and by as many as there are where all are kept
+pub rank_all_kept : (ds : List (ℕ × ℕ)) (start len : ℕ) → AreKept ds start len → rank ds (start + len) ≡ rank ds start + len
+rank_all_kept ds start zero kept = omega (arith, ap (rank ds) (add-zero start))
+rank_all_kept ds start (suc n) kept =
+    omega (arith, ap (rank ds) (add-suc start n), rank_kept ds (start + n) (kept n (omega arith)), rank_all_kept ds start n (λ k low. kept k (omega arith)))
+
+-- and only there
+pub kept_from_rank : (ds : List (ℕ × ℕ)) (start len : ℕ) → rank ds (start + len) ≡ rank ds start + len → AreKept ds start len
+kept_from_rank ds start len all k low =
+    elim (cases_Bool (is_kept ds (start + k))) [
+      | inl t ↦ t
+      | inr f ↦
+          let rest : start + len ≡ suc (start + k) + (len - suc k) = omega arith in
+          absurd (omega (arith, ap (rank ds) rest, rank_steps ds (suc (start + k)) (len - suc k), rank_gone ds (start + k) f, rank_steps ds start k))
+    ]

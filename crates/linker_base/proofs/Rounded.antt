@@ -9,27 +9,27 @@ use Rattle.std.proofs.lemmas.Nat.{pow_pos, pow-add, mod_low, mod_below}
 use Rattle.std.proofs.lemmas.Nat.Bits.{same_from_bits}
 use Rattle.std.proofs.Math.Nat.{mod-eq_of_lt}
 use Rattle.linker_base.specs.Bits.{signed}
-use Rattle.linker_base.specs.Form.{values_below, Place, IsLaid, placed_bit, bit_for, place_sum, IsClear, Written, MachineReads, IsReadBack, RestoresRead}
+use Rattle.linker_base.specs.Form.{values_below, ImmediateBit, BitsWritten, placed_bit, bit_for, place_sum, IsClear, Written, MachineReads, IsReadBack, WriteBackChangesNothing}
 use Rattle.linker_base.specs.Rounded.{rounded_immediate}
 use Rattle.linker_base.proofs.Places.{value_bit, adds, bit_at-place_sum}
 use Rattle.linker_base.proofs.Fields.{bit_at_window, bit_at_mod, signed_rem, aligned_rem}
 use Rattle.linker_base.proofs.Immediates.{fills, values_apart_fills, place_sum_laid, place_sum_below, restored, all_hold, own_bits, bits_kept}
 
 -- all places are of value bits from bit n up
-abbrev pub values_from : ℕ → List Place → Bool
+abbrev pub values_from : ℕ → List ImmediateBit → Bool
 values_from n [] = true
 values_from n (p ∷ ps) = leb n p.value && values_from n ps
 
-looked_up : (low n before : ℕ) (f g : ℕ → ℕ) (ps : List Place) → ((k : ℕ) → low ≤ k → k < n → f k ≡ g k)
+looked_up : (low n before : ℕ) (f g : ℕ → ℕ) (ps : List ImmediateBit) → ((k : ℕ) → low ≤ k → k < n → f k ≡ g k)
     → values_from low ps ≡ true → values_below n ps ≡ true
-    → All (λ (p : Place). g p.value ≡ bit_at before p.word) ps → All (λ (p : Place). f p.value ≡ bit_at before p.word) ps
-looked_up low n before f g [] same a b own = All-nil (λ (p : Place). f p.value ≡ bit_at before p.word)
+    → All (λ (p : ImmediateBit). g p.value ≡ bit_at before p.insn_bit) ps → All (λ (p : ImmediateBit). f p.value ≡ bit_at before p.insn_bit) ps
+looked_up low n before f g [] same a b own = All-nil (λ (p : ImmediateBit). f p.value ≡ bit_at before p.insn_bit)
 looked_up low n before f g (p ∷ ps) same a b own =
     let from = and_parts (leb low p.value) (values_from low ps) a in
     let below = and_parts (ltb p.value n) (values_below n ps) b in
-    All-cons (λ (q : Place). f q.value ≡ bit_at before q.word) p ps
-    (same p.value (leb-true low p.value from.0) (ltb-true p.value n below.0) ∙ All-head (λ (q : Place). g q.value ≡ bit_at before q.word) p ps own)
-    (looked_up low n before f g ps same from.1 below.1 (All-tail (λ (q : Place). g q.value ≡ bit_at before q.word) p ps own))
+    All-cons (λ (q : ImmediateBit). f q.value ≡ bit_at before q.insn_bit) p ps
+    (same p.value (leb-true low p.value from.0) (ltb-true p.value n below.0) ∙ All-head (λ (q : ImmediateBit). g q.value ≡ bit_at before q.insn_bit) p ps own)
+    (looked_up low n before f g ps same from.1 below.1 (All-tail (λ (q : ImmediateBit). g q.value ≡ bit_at before q.insn_bit) p ps own))
 
 -- bits low and up, below n, of x
 inside_window : (x low n k : ℕ) → low ≤ k → k < n → bit_at (x / 2 ^ low % 2 ^ (n - low) * 2 ^ low) k ≡ bit_at x k
@@ -37,7 +37,7 @@ inside_window x low n k a b =
     bit_at_window x low n k ∙ cond-true (leb low k && ltb k n) (bit_at x k) 0 (and_from (leb low k) (ltb k n) (le-leb low k a) (lt-ltb k n b))
 
 -- what the places of bits low to n need for `read_value` and a write to be inverse
-pub record IsSoundPart (low n r : ℕ) (ps : List Place) : Type 0 where
+pub record IsSoundPart (low n r : ℕ) (ps : List ImmediateBit) : Type 0 where
   pub ordered : low ≤ n
   pub short : n ≤ 64
   pub filled : fills low n ps ≡ true
@@ -47,10 +47,10 @@ pub record IsSoundPart (low n r : ℕ) (ps : List Place) : Type 0 where
   pub added : adds r ps ≡ true
 
 -- placing a value whose sum with r has the bits that stand at the places changes none of them
-pub part_kept : (low n r : ℕ) (ps : List Place) (v before after : ℕ) → IsSoundPart low n r ps
+pub part_kept : (low n r : ℕ) (ps : List ImmediateBit) (v before after : ℕ) → IsSoundPart low n r ps
     → (v + r) % 2 ^ 64 / 2 ^ low % 2 ^ (n - low) * 2 ^ low ≡ place_sum ps before
-    → All (λ (p : Place). bit_at after p.word ≡ placed_bit p.mark (bit_for p v) (bit_at before p.word)) ps
-    → All (λ (p : Place). bit_at after p.word ≡ bit_at before p.word) ps
+    → All (λ (p : ImmediateBit). bit_at after p.insn_bit ≡ placed_bit p.mark (bit_for p v) (bit_at before p.insn_bit)) ps
+    → All (λ (p : ImmediateBit). bit_at after p.insn_bit ≡ bit_at before p.insn_bit) ps
 part_kept low n r ps v before after sound e placed =
     let apart = values_apart_fills low n ps sound.filled in
     let x = (v + r) % 2 ^ 64 in
@@ -118,12 +118,12 @@ whole_parts n l =
 
 -- ---- rounded immediates
 
--- what `rounded_immediate` asks of its numbers and places
-abbrev pub is_sound_part : ℕ → ℕ → ℕ → List Place → Bool
+-- what `rounded_immediate` requires of its numbers and places
+abbrev pub is_sound_part : ℕ → ℕ → ℕ → List ImmediateBit → Bool
 is_sound_part low n r ps =
     leb low n && (leb n 64 && (fills low n ps && (values_from low ps && (values_below n ps && (all_hold ps && adds r ps)))))
 
-pub sound_part : (low n r : ℕ) (ps : List Place) → is_sound_part low n r ps ≡ true → IsSoundPart low n r ps
+pub sound_part : (low n r : ℕ) (ps : List ImmediateBit) → is_sound_part low n r ps ≡ true → IsSoundPart low n r ps
 sound_part low n r ps h =
     let a = and_parts (leb low n) (leb n 64 && (fills low n ps && (values_from low ps && (values_below n ps && (all_hold ps && adds r ps))))) h in
     let b = and_parts (leb n 64) (fills low n ps && (values_from low ps && (values_below n ps && (all_hold ps && adds r ps)))) a.1 in
@@ -133,9 +133,9 @@ sound_part low n r ps h =
     let f = and_parts (all_hold ps) (adds r ps) e.1 in
     record { ordered = leb-true low n a.0; short = leb-true n 64 b.0; filled = c.0; from = d.0; below = e.0; held = f.0; added = f.1 }
 
-module _ (w : Width) (n low r : ℕ) (flags : Bool) (ps : List Place) (sound : IsSoundPart low n r ps) where
+module _ (w : Width) (n low r : ℕ) (flags : Bool) (ps : List ImmediateBit) (sound : IsSoundPart low n r ps) where
   -- the number at the places after a write
-  pub rounded_laid : (v before after : ℕ) → IsLaid ps v before after → IsClear ps before → place_sum ps after ≡ (v + r - (v + r) % 2 ^ low) % 2 ^ n
+  pub rounded_laid : (v before after : ℕ) → BitsWritten ps v before after → IsClear ps before → place_sum ps after ≡ (v + r - (v + r) % 2 ^ low) % 2 ^ n
   rounded_laid v before after laid clear =
       place_sum_laid low n r ps v before after sound.short sound.filled sound.added laid clear
       ∙ field_of_sum (v + r) low n sound.short
@@ -160,7 +160,7 @@ module _ (w : Width) (n low r : ℕ) (flags : Bool) (ps : List Place) (sound : I
       ∙ signed_less n sum r (2 ^ (64 - n) - 1) (place_sum_below ps n before apart sound.below) (whole_parts n sound.short) room)
       laid
 
-pub rounded_restores : (w : Width) (n low r : ℕ) (flags : Bool) (ps : List Place) → is_sound_part low n r ps ≡ true → leb (2 ^ n + r) (2 ^ 64) ≡ true
-    → RestoresRead (rounded_immediate w n low r flags ps)
+pub rounded_restores : (w : Width) (n low r : ℕ) (flags : Bool) (ps : List ImmediateBit) → is_sound_part low n r ps ≡ true → leb (2 ^ n + r) (2 ^ 64) ≡ true
+    → WriteBackChangesNothing (rounded_immediate w n low r flags ps)
 rounded_restores w n low r flags ps h room v neg before after wide laid back =
     rounded_restored w n low r flags ps (sound_part low n r ps h) (leb-true (2 ^ n + r) (2 ^ 64) room) v neg before after laid back

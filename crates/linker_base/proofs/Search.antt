@@ -1,18 +1,22 @@
 -- What a search in the deltas of a section finds.
 use Rattle.std.proofs.Common.{◌≡◌, ℕ, ◌+◌, ◌-◌, ◌<◌, ◌≤◌, Bool, true, false, List, length, map, get_or, take, leb, ltb, refl, ap, ◌∙◌, inl, inr, arith}
-use Rattle.std.specs.Prelude.{◌%◌, ◌^◌, ◌↔◌, All, Any}
+use Rattle.std.specs.Prelude.{◌%◌, ◌^◌, ◌↔◌, max, All, Any}
 use Rattle.std.specs.List.Sorted.{IsNonDecreasingBy, IsPartitionedBy, IsPartitionPoint}
-use Rattle.std.proofs.lemmas.Bool.{cases_order}
+use Rattle.std.proofs.lemmas.Bool.{cases_lt, cases_order}
 use Rattle.std.proofs.lemmas.Bool.Decides.{nat_tests}
 use Rattle.std.proofs.lemmas.List.{get_or-map, get_or_default, length-map}
 use Rattle.std.proofs.lemmas.List.Sums.{sum_by_more}
 use Rattle.linker_base.specs.declared.relaxation.RelaxDelta.{RelaxDelta}
-use Rattle.linker_base.specs.Deletions.{IsValid, IsInside, IsSelected, HasInput, bytes_of, rank}
+use Rattle.linker_base.specs.Deletions.{IsValid, IsInsideDeletion, IsSelected, HasInput, bytes_of, rank}
 use Rattle.linker_base.specs.Deltas.{deletion_of}
-use Rattle.linker_base.specs.Counting.{place_of}
-use Rattle.linker_base.specs.Listed.{AreListed, ArePlaced, IsOnlyAt}
-use Rattle.linker_base.proofs.OutputPlaces.{rank-parted, selected-place, bytes_between, bytes-le-offset}
-use Rattle.linker_base.proofs.Rank.{input_fits}
+use Rattle.linker_base.specs.declared.relaxation.blocks.BlockHead.{BlockHead}
+use Rattle.linker_base.specs.Blocks.{place_of, AreHeads}
+use Rattle.linker_base.specs.Inner.Blocks.{no_head}
+use Rattle.linker_base.specs.Inner.PartitionPoint.{IsPartitioned, IsPointOf, HeadsAgree}
+use Rattle.linker_base.specs.Listed.{AreValidDeltas}
+use Rattle.linker_base.specs.Inner.Listed.{ArePlaced, IsOnlyAt, IsEndOf}
+use Rattle.linker_base.proofs.OutputPlaces.{AreParted, rank-parted, selected-place, bytes_between, bytes-le-offset}
+use Rattle.linker_base.proofs.Rank.{rank-mono, input_fits}
 use Rattle.linker_base.proofs.Unions.{apart_from_ascending}
 
 -- what a read past the end gives
@@ -24,34 +28,27 @@ pub deletion_at : (deltas : List RelaxDelta) (k : ℕ) (d : RelaxDelta) (e : ℕ
 deletion_at deltas k d e within = get_or-map deletion_of deltas k d e within
 
 -- the sum at a place is that of the deletions before it and its own bytes
-pub sum_at : (deltas : List RelaxDelta) → AreListed deltas → (k : ℕ) (d : RelaxDelta) → k < length deltas → (get_or deltas k d).cumulative_deleted ≡ bytes_of (take k (map deletion_of deltas)) + (get_or deltas k d).bytes_deleted
+pub sum_at : (deltas : List RelaxDelta) → AreValidDeltas deltas → (k : ℕ) (d : RelaxDelta) → k < length deltas → (get_or deltas k d).cumulative_deleted ≡ bytes_of (take k (map deletion_of deltas)) + (get_or deltas k d).bytes_deleted
 sum_at deltas listed k d within =
     let inside : k < length (map deletion_of deltas) = omega (arith, length-map deltas deletion_of) in
     listed.listing.sums k d within ∙ sum_by_more (λ (e : ℕ × ℕ). e.1) (map deletion_of deltas) k (0, 0) inside ∙ ap (λ (e : ℕ × ℕ). bytes_of (take k (map deletion_of deltas)) + e.1) (deletion_at deltas k d (0, 0) within)
 
 -- the offsets of deltas rise
-pub offsets_rise : (deltas : List RelaxDelta) → AreListed deltas → IsNonDecreasingBy (λ d. d.input_offset) deltas
-offsets_rise deltas listed i j d le within = elim (cases_order i j) [
+pub offsets_rise : (deltas : List RelaxDelta) → IsValid (map deletion_of deltas) → IsNonDecreasingBy (λ d. d.input_offset) deltas
+offsets_rise deltas valid i j d le within = elim (cases_order i j) [
   | inl same ↦ rw same (omega arith)
   | inr (inl lower) ↦
       let inside : j < length (map deletion_of deltas) = omega (arith, length-map deltas deletion_of) in
-      let before = rw (deletion_at deltas i d (0, 0) (omega arith), deletion_at deltas j d (0, 0) within) at (listed.valid.ascending i j (0, 0) lower inside) in
+      let before = rw (deletion_at deltas i d (0, 0) (omega arith), deletion_at deltas j d (0, 0) within) at (valid.ascending i j (0, 0) lower inside) in
       omega (arith, before.0)
   | inr (inr above) ↦ absurd (omega arith)
 ]
-
--- a search by offset parts the deletions
-pub parted_from_search : (deltas : List RelaxDelta) (i k : ℕ) → k ≤ length deltas → IsPartitionPoint (λ d. ltb d.input_offset i ≡ true) (λ d. ltb d.input_offset i ≡ false) deltas k → IsPartitionPoint (λ d. d.0 < i) (λ d. i ≤ d.0) (map deletion_of deltas) k
-parted_from_search deltas i k within found = (
-  λ j d low high. rw (deletion_at deltas j blank d (omega arith)) (grind (arith, nat_tests, found.0 j blank low high)),
-  λ j d low high. let inside : j < length deltas = omega (arith, length-map deltas deletion_of) in rw (deletion_at deltas j blank d inside) (grind (arith, nat_tests, found.1 j blank low inside)),
-)
 
 place_from_sum : (offset bytes before : ℕ) → before ≤ offset → offset + bytes < 2 ^ 64 → (offset + bytes + (2 ^ 64 - (before + bytes))) % 2 ^ 64 + before ≡ offset
 place_from_sum offset bytes before low fits = omega arith
 
 -- the output place of a delta and the bytes deleted before it make its offset
-place_at : (deltas : List RelaxDelta) → AreListed deltas → (k : ℕ) (d : RelaxDelta) → k < length deltas → place_of (get_or deltas k d) + bytes_of (take k (map deletion_of deltas)) ≡ (get_or deltas k d).input_offset
+place_at : (deltas : List RelaxDelta) → AreValidDeltas deltas → (k : ℕ) (d : RelaxDelta) → k < length deltas → place_of (get_or deltas k d) + bytes_of (take k (map deletion_of deltas)) ≡ (get_or deltas k d).input_offset
 place_at deltas listed k d within =
     let ds = map deletion_of deltas in
     let inside : k < length ds = omega (arith, length-map deltas deletion_of) in
@@ -63,14 +60,14 @@ abbrev pub is_placed : ℕ → RelaxDelta → Bool
 is_placed y d = leb (place_of d) y
 
 -- which means the same of its deletion
-placed_at : (deltas : List RelaxDelta) → AreListed deltas → (y k : ℕ) (d : RelaxDelta) (e : ℕ × ℕ) → k < length deltas → ((is_placed y (get_or deltas k d) ≡ true → (get_or (map deletion_of deltas) k e).0 ≤ y + bytes_of (take k (map deletion_of deltas))) × ((get_or (map deletion_of deltas) k e).0 ≤ y + bytes_of (take k (map deletion_of deltas)) → is_placed y (get_or deltas k d) ≡ true) × (is_placed y (get_or deltas k d) ≡ false → y + bytes_of (take k (map deletion_of deltas)) < (get_or (map deletion_of deltas) k e).0))
+placed_at : (deltas : List RelaxDelta) → AreValidDeltas deltas → (y k : ℕ) (d : RelaxDelta) (e : ℕ × ℕ) → k < length deltas → ((is_placed y (get_or deltas k d) ≡ true → (get_or (map deletion_of deltas) k e).0 ≤ y + bytes_of (take k (map deletion_of deltas))) × ((get_or (map deletion_of deltas) k e).0 ≤ y + bytes_of (take k (map deletion_of deltas)) → is_placed y (get_or deltas k d) ≡ true) × (is_placed y (get_or deltas k d) ≡ false → y + bytes_of (take k (map deletion_of deltas)) < (get_or (map deletion_of deltas) k e).0))
 placed_at deltas listed y k d e within =
     let place = place_at deltas listed k d within in
     rw (deletion_at deltas k d e within)
     (λ low. grind (arith, nat_tests), λ low. grind (arith, nat_tests), λ high. grind (arith, nat_tests))
 
 -- output places don't fall, so a search by them parts the deltas
-pub placed_first : (deltas : List RelaxDelta) → AreListed deltas → (y : ℕ) → IsPartitionedBy (is_placed y) deltas
+pub placed_first : (deltas : List RelaxDelta) → AreValidDeltas deltas → (y : ℕ) → IsPartitionedBy (is_placed y) deltas
 placed_first deltas listed y i j d le within passes =
     let ds = map deletion_of deltas in
     let inside : j < length ds = omega (arith, length-map deltas deletion_of) in
@@ -78,20 +75,12 @@ placed_first deltas listed y i j d le within passes =
     let high = (placed_at deltas listed y j d (0, 0) within).0 passes in
     (placed_at deltas listed y i d (0, 0) (omega arith)).1 (omega arith)
 
-pub placed_from_search : (deltas : List RelaxDelta) → AreListed deltas → (y k : ℕ) → k ≤ length deltas → IsPartitionPoint (λ d. is_placed y d ≡ true) (λ d. is_placed y d ≡ false) deltas k → ArePlaced (map deletion_of deltas) y k
-placed_from_search deltas listed y k within found = record {
-  before = λ j d below. (placed_at deltas listed y j blank d (omega arith)).0 (found.0 j blank (omega arith) below);
-  after = λ j d from below.
-      let inside : j < length deltas = omega (arith, length-map deltas deletion_of) in
-      (placed_at deltas listed y j blank d inside).2 (found.1 j blank from inside);
-}
-
 module _ (ds : List (ℕ × ℕ)) (valid : IsValid ds) where
   -- an offset is inside a deletion where it is inside the last one that begins below it
-  pub inside_last : (i k : ℕ) (d : ℕ × ℕ) → 0 < k → k ≤ length ds → IsPartitionPoint (λ d. d.0 < i) (λ d. i ≤ d.0) ds k → IsInside ds i ↔ (i < (get_or ds (k - 1) d).0 + (get_or ds (k - 1) d).1)
+  pub inside_last : (i k : ℕ) (d : ℕ × ℕ) → 0 < k → k ≤ length ds → IsPartitionPoint (λ d. d.0 < i) (λ d. i ≤ d.0) ds k → IsInsideDeletion ds i ↔ (i < (get_or ds (k - 1) d).0 + (get_or ds (k - 1) d).1)
   inside_last i k d positive within parted = (into, λ inside. (k - 1, get_or ds (k - 1) d, omega arith, get_or_default ds (k - 1) _ d (omega arith), (parted.0 (k - 1) d (omega arith) (omega arith), inside)))
     where
-      into : IsInside ds i → i < (get_or ds (k - 1) d).0 + (get_or ds (k - 1) d).1
+      into : IsInsideDeletion ds i → i < (get_or ds (k - 1) d).0 + (get_or ds (k - 1) d).1
       into (j, e, low, is, (below, above)) = elim (cases_order j (k - 1)) [
         | inl same ↦ rw (← same, get_or_default ds j d e low, is) above
         | inr (inl lower) ↦
@@ -101,8 +90,54 @@ module _ (ds : List (ℕ × ℕ)) (valid : IsValid ds) where
         | inr (inr higher) ↦ absurd (omega (arith, rw is at (parted.1 j e (omega arith) low)))
       ]
 
-  pub rank_from_search : (i k : ℕ) → k ≤ length ds → IsPartitionPoint (λ d. d.0 < i) (λ d. i ≤ d.0) ds k → (IsInside ds i → ⊥) → rank ds i + bytes_of (take k ds) ≡ i
-  rank_from_search i k within parted outside = rank-parted ds k i (apart_from_ascending ds valid.ascending) within parted.0 parted.1 outside
+  -- an offset at or above the end of the last deletion that begins below it parts the list there
+  parted_past : (i k : ℕ) → k ≤ length ds → ((d : ℕ × ℕ) → 0 < k → (get_or ds (k - 1) d).0 + (get_or ds (k - 1) d).1 ≤ i) → ((j : ℕ) (d : ℕ × ℕ) → k ≤ j → j < length ds → i ≤ (get_or ds j d).0) → AreParted ds k i
+  parted_past i k within past ahead = record {
+    passed = λ j d from below. elim (cases_lt j (k - 1)) [
+      | inl lower ↦
+          let before = valid.ascending j (k - 1) d lower (omega arith) in
+          omega (arith, before.0, before.1, past d (omega arith))
+      | inr last ↦
+          let here : j ≡ k - 1 = omega arith in
+          rw here (past d (omega arith))
+    ];
+    ahead = ahead;
+  }
+
+  -- the rank and the bytes deleted up to there are the greater of the offset and that end
+  pub rank_from_search : (i k end : ℕ) → k ≤ length ds → IsPartitionPoint (λ d. d.0 < i) (λ d. i ≤ d.0) ds k → IsEndOf ds k end → rank ds i + bytes_of (take k ds) ≡ max i end
+  rank_from_search i k end within parted ends =
+      let apart = apart_from_ascending ds valid.ascending in
+      elim (cases_lt i end) [
+        | inr past ↦
+            let all : rank ds i + bytes_of (take k ds) ≡ i = rank-parted ds k i apart (parted_past i k within (λ d some. omega (arith, ends.last d some)) (λ j d from low. parted.1 j d from low)) in
+            omega arith
+        | inl inside ↦ elim (cases_lt 0 k) [
+          | inr none ↦
+              let zero_end : end ≡ 0 = ends.none (omega arith) in
+              absurd (omega arith)
+          | inl some ↦
+              let last = get_or ds (k - 1) (0, 0) in
+              let here : last.0 + last.1 ≡ end = ends.last (0, 0) some in
+              let low : last.0 < i = parted.0 (k - 1) (0, 0) (omega arith) (omega arith) in
+              let more : bytes_of (take (k - 1 + 1) ds) ≡ bytes_of (take (k - 1) ds) + last.1 = sum_by_more (λ (e : ℕ × ℕ). e.1) ds (k - 1) (0, 0) (omega arith) in
+              let back : k - 1 + 1 ≡ k = omega arith in
+              let bytes : bytes_of (take k ds) ≡ bytes_of (take (k - 1) ds) + last.1 = rw back at more in
+              let begin : rank ds last.0 + bytes_of (take (k - 1) ds) ≡ last.0 = rank-parted ds (k - 1) last.0 apart (record {
+                passed = λ j d from below. rw (get_or_default ds (k - 1) (0, 0) d (omega arith)) ((valid.ascending j (k - 1) d below (omega arith)).1);
+                ahead = λ j d from below. elim (cases_lt (k - 1) j) [
+                  | inl later ↦ rw (get_or_default ds (k - 1) (0, 0) d (omega arith)) (omega (arith, (valid.ascending (k - 1) j d later below).0))
+                  | inr same ↦
+                      let at : j ≡ k - 1 = omega arith in
+                      rw (at, get_or_default ds (k - 1) (0, 0) d (omega arith)) (omega arith)
+                ];
+              }) in
+              let finish : rank ds end + bytes_of (take k ds) ≡ end = rank-parted ds k end apart (parted_past end k within (λ d positive. omega (arith, ends.last d positive)) (λ j d from below.
+              let next = valid.ascending (k - 1) j d (omega arith) below in
+              omega (arith, next.1, ends.last d some))) in
+              omega (arith, rank-mono ds last.0 i (omega arith), rank-mono ds i end (omega arith))
+        ]
+      ]
 
   pub selected_from_search : (y k : ℕ) → k ≤ length ds → ArePlaced ds y k → IsSelected ds y (y + bytes_of (take k ds))
   selected_from_search y k within placed = selected-place ds k y (apart_from_ascending ds valid.ascending) within placed.before placed.after
@@ -130,3 +165,54 @@ module _ (ds : List (ℕ × ℕ)) (valid : IsValid ds) where
         | inr (inl lower) ↦ omega (arith, at, parted.0 j d (omega arith) lower)
         | inr (inr higher) ↦ omega (arith, at, (valid.ascending k j d higher inside).0, parted.1 k d (omega arith) (omega arith))
       ]
+
+-- what the last delta that begins below an offset tells of the offset's rank
+pub rank_at_last : (deltas : List RelaxDelta) → AreValidDeltas deltas → (i last : ℕ) → last < length deltas → IsPartitionPoint (λ d. d.0 < i) (λ d. i ≤ d.0) (map deletion_of deltas) (last + 1)
+    → ((get_or deltas last blank).input_offset + (get_or deltas last blank).bytes_deleted < 2 ^ 64)
+    × (rank (map deletion_of deltas) i + (get_or deltas last blank).cumulative_deleted ≡ max i ((get_or deltas last blank).input_offset + (get_or deltas last blank).bytes_deleted))
+rank_at_last deltas listed i last within parted =
+    let ds = map deletion_of deltas in
+    let inside : last < length ds = omega (arith, length-map deltas deletion_of) in
+    let here = deletion_at deltas last blank (0, 0) within in
+    let back : last + 1 - 1 ≡ last = omega arith in
+    let ranked = rank_from_search ds listed.valid i (last + 1) ((get_or deltas last blank).input_offset + (get_or deltas last blank).bytes_deleted) (omega (arith, length-map deltas deletion_of)) parted (record {
+      none = λ none. absurd (omega arith);
+      last = λ d some. rw (back, deletion_at deltas last blank d within) refl;
+    }) in
+    (rw here at (listed.valid.ends last (0, 0) inside), rw (listed.listing.sums last blank within) ranked)
+
+pub rank_at_none : (deltas : List RelaxDelta) → AreValidDeltas deltas → (i : ℕ) → IsPartitionPoint (λ d. d.0 < i) (λ d. i ≤ d.0) (map deletion_of deltas) 0 → i ≡ rank (map deletion_of deltas) i
+rank_at_none deltas listed i parted =
+    let ranked : rank (map deletion_of deltas) i + 0 ≡ max i 0 = rank_from_search (map deletion_of deltas) listed.valid i 0 0 (omega arith) parted (record { none = λ none. refl; last = λ d some. absurd (omega arith) }) in
+    omega (arith, ranked)
+
+-- ---- searches by index
+
+pub begins_partitioned : (deltas : List RelaxDelta) → IsValid (map deletion_of deltas) → (i : ℕ) → IsPartitioned (λ at. ltb (get_or deltas at blank).input_offset i) (length deltas)
+begins_partitioned deltas valid i j k le within passes = let rise = offsets_rise deltas valid j k blank le within in grind (arith, nat_tests)
+
+pub places_partitioned : (deltas : List RelaxDelta) → AreValidDeltas deltas → (y : ℕ) → IsPartitioned (λ at. is_placed y (get_or deltas at blank)) (length deltas)
+places_partitioned deltas listed y j k le within passes = placed_first deltas listed y j k blank le within passes
+
+pub parted_from_point : (deltas : List RelaxDelta) (i k : ℕ) → k ≤ length deltas → IsPointOf (λ at. ltb (get_or deltas at blank).input_offset i) (length deltas) k → IsPartitionPoint (λ d. d.0 < i) (λ d. i ≤ d.0) (map deletion_of deltas) k
+parted_from_point deltas i k within found = (
+  λ j d low high. rw (deletion_at deltas j blank d (omega arith)) (grind (arith, nat_tests, found.before j high)),
+  λ j d low high. let inside : j < length deltas = omega (arith, length-map deltas deletion_of) in rw (deletion_at deltas j blank d inside) (grind (arith, nat_tests, found.after j low inside)),
+)
+
+pub placed_from_point : (deltas : List RelaxDelta) → AreValidDeltas deltas → (y k : ℕ) → k ≤ length deltas → IsPointOf (λ at. is_placed y (get_or deltas at blank)) (length deltas) k → ArePlaced (map deletion_of deltas) y k
+placed_from_point deltas listed y k within found = record {
+  before = λ j d below. (placed_at deltas listed y j blank d (omega arith)).0 (found.before j below);
+  after = λ j d from below.
+      let inside : j < length deltas = omega (arith, length-map deltas deletion_of) in
+      (placed_at deltas listed y j blank d inside).2 (found.after j from inside);
+}
+
+-- ---- searches by heads
+
+-- heads that belong to the deltas pass where the first deltas of their blocks do
+pub heads_begin : (deltas : List RelaxDelta) (heads : List BlockHead) (i : ℕ) → AreHeads deltas heads → HeadsAgree (λ b. ltb (get_or heads b no_head).input_offset i) (λ at. ltb (get_or deltas at blank).input_offset i) (length heads) (length deltas)
+heads_begin deltas heads i are = record { same = λ b low. ap (λ (h : BlockHead). ltb h.input_offset i) (are.each b no_head blank low); all = omega (arith, are.count) }
+
+pub heads_placed : (deltas : List RelaxDelta) (heads : List BlockHead) (y : ℕ) → AreHeads deltas heads → HeadsAgree (λ b. leb (get_or heads b no_head).output_place y) (λ at. is_placed y (get_or deltas at blank)) (length heads) (length deltas)
+heads_placed deltas heads y are = record { same = λ b low. ap (λ (h : BlockHead). leb h.output_place y) (are.each b no_head blank low); all = omega (arith, are.count) }

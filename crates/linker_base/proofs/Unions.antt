@@ -8,7 +8,7 @@ use Rattle.std.proofs.lemmas.List.{append_assoc, get_or_append_left, length-appe
 use Rattle.std.proofs.lemmas.List.Elements.{All-contains}
 use Rattle.std.proofs.lemmas.List.Sorted.{All-permutation, Contains-permutation, IsPermutation-sym, IsPermutation-trans, IsPermutation-append_left, IsPermutation-append_right, IsPermutation-append_comm, list_any-IsPermutation}
 use Rattle.std.proofs.lemmas.Map.Keys.{IsDistinct-IsPermutation, IsDistinct-from_apart, apart_from_distinct}
-use Rattle.linker_base.specs.Deletions.{IsBefore, IsApart, EndFits, AreDisjoint, IsValid, IsSortedUnion, holds, is_kept, rank}
+use Rattle.linker_base.specs.Deletions.{IsBefore, DoNotOverlap, EndFits, AreDisjoint, IsValid, IsSortedUnion, covers, is_kept, rank}
 use Rattle.linker_base.proofs.Rank.{all_pairs_tail, all_pairs_head}
 
 -- the test of IsBefore, and of two deletions of which none is before the other
@@ -27,18 +27,18 @@ touch_flips a b = both (not (is_before a b)) (not (is_before b a))
     both false true = refl
     both false false = refl
 
-touch_not : (a b : ℕ × ℕ) → IsApart a b → touch a b ≡ false
+touch_not : (a b : ℕ × ℕ) → DoNotOverlap a b → touch a b ≡ false
 touch_not a b (inl below) = grind (arith, nat_tests, below.0, below.1)
 touch_not a b (inr above) = grind (arith, nat_tests, above.0, above.1)
 
-apart_from_touch : (a b : ℕ × ℕ) → touch a b ≡ false → IsApart a b
+apart_from_touch : (a b : ℕ × ℕ) → touch a b ≡ false → DoNotOverlap a b
 apart_from_touch a b none = ⊎_elim
     (λ (below : a.0 < b.0). inl (below, grind (arith, nat_tests)))
     (λ (from : b.0 ≤ a.0). inr (grind (arith, nat_tests), grind (arith, nat_tests)))
     (cases_lt a.0 b.0)
 
 -- deletions that are apart stay so in any order
-pub apart_permutation : (xs ys : List (ℕ × ℕ)) → IsPermutation xs ys → AllPairs IsApart xs → AllPairs IsApart ys
+pub apart_permutation : (xs ys : List (ℕ × ℕ)) → IsPermutation xs ys → AllPairs DoNotOverlap xs → AllPairs DoNotOverlap ys
 apart_permutation xs ys same apart i j d below within =
     let distinct = IsDistinct-from_apart touch xs (λ i j d lt in'. touch_not _ _ (apart i j d lt in')) in
     apart_from_touch _ _ (apart_from_distinct touch ys i j d (IsDistinct-IsPermutation touch touch_flips xs ys same distinct) below within)
@@ -50,7 +50,7 @@ disjoint_permutation xs ys same disjoint = record {
 }
 
 -- deletions in order are apart
-pub apart_from_ascending : (ds : List (ℕ × ℕ)) → AllPairs IsBefore ds → AllPairs IsApart ds
+pub apart_from_ascending : (ds : List (ℕ × ℕ)) → AllPairs IsBefore ds → AllPairs DoNotOverlap ds
 apart_from_ascending ds ascending i j d below within = inl (ascending i j d below within)
 
 pub disjoint_from_valid : (ds : List (ℕ × ℕ)) → IsValid ds → AreDisjoint ds
@@ -130,7 +130,7 @@ disjoint_left xs ys disjoint = record {
 
 -- the order of the deletions doesn't matter to which positions are kept
 pub kept_permutation : (xs ys : List (ℕ × ℕ)) (p : ℕ) → IsPermutation xs ys → is_kept xs p ≡ is_kept ys p
-kept_permutation xs ys p same = ap not (list_any-IsPermutation (λ d. holds d p) xs ys same)
+kept_permutation xs ys p same = ap not (list_any-IsPermutation (λ d. covers d p) xs ys same)
 
 -- nor to the rank
 pub rank-permutation : (xs ys : List (ℕ × ℕ)) (i : ℕ) → IsPermutation xs ys → rank xs i ≡ rank ys i

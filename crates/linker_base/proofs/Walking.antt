@@ -1,14 +1,16 @@
 -- How far a cursor's walk goes at a query.
-use Rattle.std.proofs.Common.{◌≡◌, ℕ, ◌+◌, ◌-◌, ◌<◌, ◌≤◌, List, length, map, get_or, take, ap, inl, inr, arith}
-use Rattle.std.specs.Prelude.{◌↔◌, max, nat_lt, All, AllPairs}
+use Rattle.std.proofs.Common.{◌≡◌, ℕ, ◌+◌, ◌-◌, ◌<◌, ◌≤◌, List, length, map, get_or, take, ap, ◌∙◌, inl, inr, arith}
+use Rattle.std.specs.Prelude.{◌↔◌, ◌%◌, ◌^◌, max, nat_lt, All, AllPairs}
 use Rattle.std.specs.List.Sorted.{IsPartitionPoint}
 use Rattle.std.proofs.lemmas.Bool.{cases_lt}
 use Rattle.std.proofs.lemmas.List.{length-map, length-take, get_or-take, get_or_default}
 use Rattle.std.proofs.lemmas.List.Sums.{count_by-le-length}
 use Rattle.linker_base.specs.declared.relaxation.RelaxDelta.{RelaxDelta}
-use Rattle.linker_base.specs.Deletions.{IsBefore, IsValid, IsInside, bytes_of, rank}
+use Rattle.linker_base.specs.Deletions.{IsBefore, IsValid, rank}
 use Rattle.linker_base.specs.Deltas.{deletion_of}
-use Rattle.linker_base.specs.Listed.{AreListed}
+use Rattle.linker_base.specs.Listed.{AreValidDeltas}
+use Rattle.linker_base.specs.Inner.Listed.{IsWalked}
+use Rattle.linker_base.specs.declared.relaxation.walk.Reached.{Reached}
 use Rattle.linker_base.specs.Deletions.{begun_below}
 use Rattle.linker_base.proofs.Laws.{begun_parted}
 use Rattle.linker_base.proofs.Search.{blank, deletion_at, rank_from_search}
@@ -28,7 +30,7 @@ begun_from_parted ds ascending i k within parted =
     ]
 
 -- a walk from start that stops at the first delta that doesn't begin below i
-pub walked_to : (deltas : List RelaxDelta) → AreListed deltas → (i start k : ℕ) → start ≤ k → k ≤ length deltas → ((j : ℕ) (d : RelaxDelta) → start ≤ j → j < k → (get_or deltas j d).input_offset < i) → (k < length deltas → i ≤ (get_or deltas k blank).input_offset) → k ≡ max start (begun_below (map deletion_of deltas) i)
+pub walked_to : (deltas : List RelaxDelta) → AreValidDeltas deltas → (i start k : ℕ) → start ≤ k → k ≤ length deltas → ((j : ℕ) (d : RelaxDelta) → start ≤ j → j < k → (get_or deltas j d).input_offset < i) → (k < length deltas → i ≤ (get_or deltas k blank).input_offset) → k ≡ max start (begun_below (map deletion_of deltas) i)
 walked_to deltas listed i start k from within begun stop =
     let ds = map deletion_of deltas in
     let b = begun_below ds i in
@@ -54,23 +56,24 @@ walked_to deltas listed i start k from within begun stop =
       | inr stayed ↦ omega arith
     ]
 
--- what a query leaves, where all that was passed begins below it, and it isn't inside a deletion
-pub record StepsTo (ds : List (ℕ × ℕ)) (passed i : ℕ) : Type 0 where
-  pub begun : passed ≡ begun_below ds i
-  pub ranked : rank ds i + bytes_of (take passed ds) ≡ i
-
-pub steps_to : (ds : List (ℕ × ℕ)) → IsValid ds → (before after i : ℕ) → after ≡ max before (begun_below ds i) → after ≤ length ds → All (λ d. d.0 < i) (take before ds) → (IsInside ds i → ⊥) → StepsTo ds after i
-steps_to ds valid before after i moved within below outside =
+-- a query that is no step back passes just what begins below it
+pub begun_ahead : (ds : List (ℕ × ℕ)) → IsValid ds → (before i : ℕ) → before ≤ length ds → All (λ d. d.0 < i) (take before ds) → max before (begun_below ds i) ≡ begun_below ds i
+begun_ahead ds valid before i within below =
     let b = begun_below ds i in
     let parted = begun_parted ds i valid.ascending in
-    let enough : before ≤ b = elim (cases_lt b before) [
+    elim (cases_lt b before) [
       | inl short ↦
           let inside : b < length (take before ds) = omega (arith, length-take before ds) in
           absurd (omega (arith, rw (get_or-take before ds b (0, 0) short) at (below b (0, 0) inside), parted.1 b (0, 0) (omega arith) (omega arith)))
-      | inr le ↦ le
-    ] in
-    let begun : after ≡ b = omega arith in
-    record { begun = begun; ranked = rw begun (rank_from_search ds valid i b (omega arith) parted outside) }
+      | inr le ↦ omega arith
+    ]
+
+-- and its rank follows from how far the walk has come
+pub rank_walked : (ds : List (ℕ × ℕ)) → IsValid ds → (reached : Reached) (i : ℕ) → reached.passed ≡ begun_below ds i → IsWalked ds reached → rank ds i + reached.deleted ≡ max i reached.end
+rank_walked ds valid reached i begun walked =
+    let parted = begun_parted ds i valid.ascending in
+    let within : reached.passed ≤ length ds = omega (arith, count_by-le-length (λ (d : ℕ × ℕ). nat_lt d.0 i) ds) in
+    omega (arith, rank_from_search ds valid i reached.passed reached.end within (rw begun parted) walked.end, walked.sum)
 
 -- what is passed at a query begins below each later one
 pub begun_later : (ds : List (ℕ × ℕ)) → IsValid ds → (passed i j : ℕ) → passed ≡ begun_below ds i → i ≤ j → All (λ d. d.0 < j) (take passed ds)
@@ -79,14 +82,44 @@ begun_later ds valid passed i j begun le k d within =
     let low : k < passed = omega (arith, length-take passed ds) in
     rw (get_or-take passed ds k d low) (omega (arith, parted.0 k d (omega arith) (omega arith)))
 
--- the last of an ascending list decides whether all begin below an offset
-pub all_begin_below : (ds : List (ℕ × ℕ)) → AllPairs IsBefore ds → (i : ℕ) → 0 < length ds → ((get_or ds (length ds - 1) (0, 0)).0 < i) ↔ All (λ d. d.0 < i) ds
-all_begin_below ds ascending i some = (
-  λ last k d within. elim (cases_lt k (length ds - 1)) [
-    | inl lower ↦ omega (arith, last, (ascending k (length ds - 1) d lower (omega arith)).0, ap (λ (e : ℕ × ℕ). e.0) (get_or_default ds (length ds - 1) d (0, 0) (omega arith)))
-    | inr end ↦
-        let here : k ≡ length ds - 1 = omega arith in
-        rw (here, get_or_default ds (length ds - 1) d (0, 0) (omega arith)) last
-  ],
-  λ all. all (length ds - 1) (0, 0) (omega arith),
+-- the last of the first deletions decides whether all of them begin below an offset
+pub taken_begin_below : (ds : List (ℕ × ℕ)) → AllPairs IsBefore ds → (i k : ℕ) → 0 < k → k ≤ length ds → ((get_or ds (k - 1) (0, 0)).0 < i) ↔ All (λ d. d.0 < i) (take k ds)
+taken_begin_below ds ascending i k some bound = (
+  λ last j d within.
+      let low : j < k = omega (arith, length-take k ds) in
+      rw (get_or-take k ds j d low) (elim (cases_lt j (k - 1)) [
+        | inl lower ↦ omega (arith, last, (ascending j (k - 1) d lower (omega arith)).0, ap (λ (e : ℕ × ℕ). e.0) (get_or_default ds (k - 1) d (0, 0) (omega arith)))
+        | inr end ↦
+            let here : j ≡ k - 1 = omega arith in
+            rw (here, get_or_default ds (k - 1) d (0, 0) (omega arith)) last
+      ]),
+  λ all.
+      let low : k - 1 < k = omega arith in
+      rw (get_or-take k ds (k - 1) (0, 0) low) at (all (k - 1) (0, 0) (omega (arith, length-take k ds))),
 )
+
+-- a query that is a step back passes nothing
+pub step_back_stays : (ds : List (ℕ × ℕ)) → IsValid ds → (passed i : ℕ) → passed ≤ length ds → (All (λ d. d.0 < i) (take passed ds) → ⊥) → max passed (begun_below ds i) ≡ passed
+step_back_stays ds valid passed i within back = elim (cases_lt passed (begun_below ds i)) [
+  | inr le ↦ omega arith
+  | inl less ↦
+      let parted = begun_parted ds i valid.ascending in
+      absurd (back (λ k d inside.
+      let low : k < passed = omega (arith, length-take passed ds) in
+      rw (get_or-take passed ds k d low) (parted.0 k d (omega arith) (omega arith))))
+]
+
+-- a delta that is passed leaves its sum and its end
+pub walked_over : (deltas : List RelaxDelta) → AreValidDeltas deltas → (k : ℕ) → k < length deltas → (deleted end : ℕ) → deleted ≡ (get_or deltas k blank).cumulative_deleted → end ≡ ((get_or deltas k blank).input_offset + (get_or deltas k blank).bytes_deleted) % 2 ^ 64
+    → IsWalked (map deletion_of deltas) (record { passed = k + 1; deleted = deleted; end = end })
+walked_over deltas listed k within deleted end sum wrapped =
+    let inside : k < length (map deletion_of deltas) = omega (arith, length-map deltas deletion_of) in
+    let back : k + 1 - 1 ≡ k = omega arith in
+    let fits = rw (deletion_at deltas k blank (0, 0) within) at (listed.valid.ends k (0, 0) inside) in
+    record {
+      sum = sum ∙ listed.listing.sums k blank within;
+      end = record {
+        none = λ none. absurd (omega arith);
+        last = λ d some. rw (back, deletion_at deltas k blank d within) (omega (arith, fits, wrapped));
+      };
+    }

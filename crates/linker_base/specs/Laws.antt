@@ -1,11 +1,11 @@
 -- Laws of deletions, over the definitions alone.
 use Rattle.std.specs.Prelude.{◌≡◌, ℕ, ◌-◌, ◌^◌, ◌<◌, ◌≤◌, List, [], ◌∷◌, ◌++◌, map, ⊤, IsTrue, IsFalse, All, Contains}
-use Rattle.linker_base.specs.Walk.{Walk, passed_bytes, walk_to, AreAhead}
-use Rattle.linker_base.specs.Deletions.{AreDisjoint, IsValid, IsSortedUnion, is_kept, IsInside, rank, IsSelected, HasInput}
+use Rattle.linker_base.specs.Walk.{Walk, walk_to, CanTranslate, IsTranslation, AreAhead}
+use Rattle.linker_base.specs.Deletions.{AreDisjoint, IsValid, IsSortedUnion, is_kept, IsInsideDeletion, rank, IsSelected, HasInput}
 
 -- the input offset of y isn't strictly inside a deletion, and its output offset is y
 abbrev pub InAfterOutReturns : Type 0
-InAfterOutReturns = (deletions : List (ℕ × ℕ)) (y p : ℕ) → IsSelected deletions y p → (¬ (IsInside deletions p)) × (rank deletions p ≡ y)
+InAfterOutReturns = (deletions : List (ℕ × ℕ)) (y p : ℕ) → IsSelected deletions y p → (¬ (IsInsideDeletion deletions p)) × (rank deletions p ≡ y)
 
 -- p is the first kept position at or after i
 pub record IsFirstKept (deletions : List (ℕ × ℕ)) (i p : ℕ) : Type 0 where
@@ -25,30 +25,32 @@ OutAfterInReturnsKept = (deletions : List (ℕ × ℕ)) (i : ℕ) → i < 2 ^ 64
 abbrev pub RankNeverDecreases : Type 0
 RankNeverDecreases = (deletions : List (ℕ × ℕ)) (a b : ℕ) → a ≤ b → rank deletions a ≤ rank deletions b
 
--- `second` may be merged before `first`, and the last list is `both` then too, as it is where all are sorted at once
+-- `second` may be merged before `first`, and both at once, and the last list is `both` then too
 pub record MergesInAnyOrder (old first second both : List (ℕ × ℕ)) : Type 0 where
   pub second_at_first : AreDisjoint (old ++ second)
   pub then_first : (two : List (ℕ × ℕ)) → IsSortedUnion (old ++ second) two → AreDisjoint (two ++ first)
   pub same : (two swapped : List (ℕ × ℕ)) → IsSortedUnion (old ++ second) two → IsSortedUnion (two ++ first) swapped → swapped ≡ both
-  pub at_once : (sorted : List (ℕ × ℕ)) → IsSortedUnion (old ++ (first ++ second)) sorted → sorted ≡ both
+  pub at_once : AreDisjoint (old ++ (first ++ second))
+  pub same_at_once : (sorted : List (ℕ × ℕ)) → IsSortedUnion (old ++ (first ++ second)) sorted → sorted ≡ both
 
 -- where `first` is merged and then `second`, the order doesn't matter
 abbrev pub MergeOrderIsFree : Type 0
 MergeOrderIsFree = (old first second one both : List (ℕ × ℕ)) → IsSortedUnion (old ++ first) one → IsSortedUnion (one ++ second) both → MergesInAnyOrder old first second both
 
--- a cursor may be asked each query, one after the other
-abbrev pub MayAsk : Walk → List ℕ → Type 0
-MayAsk walk [] = ⊤
-MayAsk walk (i ∷ queries) = (passed_bytes (walk_to walk i) ≤ i) × MayAsk (walk_to walk i) queries
+-- a cursor can translate each query, one after the other
+abbrev pub CanTranslateEach : Walk → List ℕ → Type 0
+CanTranslateEach walk [] = ⊤
+CanTranslateEach walk (i ∷ queries) = CanTranslate walk i × CanTranslateEach (walk_to walk i) queries
 
--- what it answers: each query minus the bytes of all that is passed by then
-abbrev pub answers : Walk → List ℕ → List ℕ
-answers walk [] = []
-answers walk (i ∷ queries) = (i - passed_bytes (walk_to walk i)) ∷ answers (walk_to walk i) queries
+-- what it gives for each
+abbrev pub AreTranslations : Walk → List ℕ → List ℕ → Type 0
+AreTranslations walk [] outputs = outputs ≡ []
+AreTranslations walk (i ∷ queries) [] = ⊥
+AreTranslations walk (i ∷ queries) (output ∷ outputs) = IsTranslation walk i output × AreTranslations (walk_to walk i) queries outputs
 
--- a cursor answers the ranks to queries that lie ahead of it
+-- a cursor gives the output offsets of queries that don't decrease and begin ahead of it
 abbrev pub CursorGivesRanks : Type 0
-CursorGivesRanks = (walk : Walk) (queries : List ℕ) → IsValid walk.deletions → AreAhead walk queries → MayAsk walk queries × (answers walk queries ≡ map (rank walk.deletions) queries)
+CursorGivesRanks = (walk : Walk) (queries : List ℕ) → IsValid walk.deletions → AreAhead walk queries → CanTranslateEach walk queries × ((outputs : List ℕ) → AreTranslations walk queries outputs → outputs ≡ map (rank walk.deletions) queries)
 
 -- where `more` has all of `deletions`, two offsets are no farther apart after it; a rank never decreases, so no difference is cut off at 0
 abbrev pub MergesShortenDistances : Type 0

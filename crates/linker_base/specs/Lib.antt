@@ -1,9 +1,10 @@
 pub mod Bits
-pub mod Counting
+pub mod Blocks
 pub mod Deletions
 pub mod Deltas
-pub mod Faults
+pub mod ErrorTexts
 pub mod Form
+pub mod Inner
 pub mod Laws
 pub mod Listed
 pub mod Rewrite

@@ -19,14 +19,14 @@ pub record Rewrite : Type 0 where
 abbrev pub replaces : ℕ → ℕ → (List ℕ → List ℕ) → Rewrite
 replaces back len bytes = record { back = back; len = len; admits = λ _. true; bytes = bytes; offset = λ o. o; addend = λ a. a }
 
-abbrev pub window_at : Rewrite → List ℕ → ℕ → List ℕ
-window_at r section o = take r.len (drop (o - r.back) section)
+abbrev pub rewrite_window : Rewrite → List ℕ → ℕ → List ℕ
+rewrite_window r section o = take r.len (drop (o - r.back) section)
 
 -- the window lies in the section and is one that the rewrite takes
 pub record IsRewritable (r : Rewrite) (section : List ℕ) (o : ℕ) : Type 0 where
   pub starts : r.back ≤ o
   pub ends : o - r.back + r.len ≤ length section
-  pub admitted : IsTrue (r.admits (window_at r section o))
+  pub admitted : IsTrue (r.admits (rewrite_window r section o))
 
 -- a rewrite of none changes nothing, at any offset
 abbrev pub CanRewrite : Option Rewrite → List ℕ → ℕ → Type 0
@@ -36,7 +36,7 @@ CanRewrite (Some r) section o = IsRewritable r section o
 -- the section after
 abbrev pub rewritten : Option Rewrite → List ℕ → ℕ → List ℕ
 rewritten None section o = section
-rewritten (Some r) section o = take (o - r.back) section ++ r.bytes (window_at r section o) ++ drop (o - r.back + r.len) section
+rewritten (Some r) section o = take (o - r.back) section ++ r.bytes (rewrite_window r section o) ++ drop (o - r.back + r.len) section
 
 abbrev pub offset_after : Option Rewrite → ℕ → ℕ
 offset_after None o = o

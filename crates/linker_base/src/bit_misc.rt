@@ -1,28 +1,35 @@
-//! Bits and runs of bits of a 64-bit number. Bit 0 is the lowest.
+//! Bits and bit ranges of a 64-bit number. Bit 0 is the least significant one.
 ghost use Rattle.std.specs.Prelude.{◌≡◌, ℕ, ◌+◌, ◌-◌, ◌%◌, ◌^◌, ◌<◌, ◌≤◌};
 ghost use Rattle.std.specs.Int.{bit_at, cast_unsigned, w64};
 ghost use Rattle.linker_base.specs.Bits.{field, signed};
 
 use std::ops::Range;
 
-/// A half-open run of bits: bit `start` and up, below bit `end`.
+/// A half-open bit range: bits `start` up to, and not including, `end`.
 #[derive(Debug, Clone, Copy, PartialEq, Eq)]
 pub struct BitRange {
     pub start: u8,
     pub end: u8,
 }
 
-/// Reads bits of a number of 64 bits. Positions and counts are in bits.
+/// Reads bits of a 64-bit number. Positions and counts are in bits.
+///
+/// ```
+/// use linker_utils::bit_misc::BitExtraction;
+///
+/// assert_eq!(0b1100_0000u64.extract_bit_range(3..8), 0b11000);
+/// assert_eq!(0xffeu64.low_bits_signed(12), 2u64.wrapping_neg());
+/// ```
 pub trait BitExtraction {
     // the number whose bits are read
     ghost number: { Self → ℕ };
 
-    /// The bit at `position`, which is 0 or 1.
+    /// The bit at `position`: 0 or 1.
     fn extract_bit(self, position: u32) -> u64
         requires { position < 64 }
         ensures { result ≡ bit_at (number self) position };
 
-    /// The bits from `range.start` up, below `range.end`, moved down to bit 0.
+    /// Bits `range.start` up to, and not including, `range.end`, shifted down to bit 0.
     fn extract_bit_range(self, range: Range<u32>) -> u64
         requires not_empty { range.start < range.end }
         requires in_word { range.end ≤ 64 }
@@ -33,14 +40,14 @@ pub trait BitExtraction {
         requires { num_bits < 64 }
         ensures { result ≡ number self % 2 ^ num_bits };
 
-    /// The lowest `num_bits` bits, read in two's complement, as a number modulo 2^64.
+    /// The lowest `num_bits` bits in two's complement, modulo 2^64.
     fn low_bits_signed(self, num_bits: u32) -> u64
         requires not_empty { 0 < num_bits }
         requires in_word { num_bits < 64 }
         ensures { result ≡ cast_unsigned w64 (signed num_bits (number self % 2 ^ num_bits)) };
 
-    /// The number with every bit above `sign_bit` set, if bit `sign_bit` is set. Where it is clear
-    /// the number stays as it is, also where higher bits are set.
+    /// If bit `sign_bit` is set, the number with every bit above it set too. If it is clear, the
+    /// number itself, even if higher bits are set.
     fn sign_extend(self, sign_bit: u32) -> u64
         requires { sign_bit < 64 }
         ensures clear { bit_at (number self) sign_bit ≡ 0 → result ≡ number self }

@@ -1,5 +1,4 @@
-//! The base of the linker core: bits of numbers, words and texts of bytes, and the deletions of
-//! relaxation.
+//! The base of the linker core: bits of numbers, readers of bytes, and the deletions of relaxation.
 #![tactic(auto)]
 
 pub mod bit_misc;

@@ -1,26 +1,38 @@
 //! Deletions that relaxation makes in a section, and the offsets of what they leave.
 
-ghost use Rattle.std.specs.Prelude.{◌≡◌, ◌↔◌, ◌+◌, ◌++◌, IsTrue, IsOk, IfOk, OnOk, OnErr, IfSome, IfNone, All, Any, []};
-ghost use Rattle.std.specs.Option.{ForSome};
-ghost use Rattle.linker_base.specs.Deletions.{AreDisjoint, IsValid, IsSortedUnion, bytes_of, rank, IsInside, IsSelected, HasInput};
-ghost use Rattle.linker_base.specs.Deltas.{IsListing, pairs_of};
+ghost use Rattle.std.specs.Prelude.{◌≡◌, ◌↔◌, ◌+◌, ◌<◌, ◌^◌, ◌++◌, IsTrue, IsOk, IfOk, OnOk, OnErr, IfSome, IfNone, MatchOption, All, Any, []};
+ghost use Rattle.linker_base.specs.Deletions.{AreDisjoint, IsValid, IsSortedUnion, bytes_of, rank, AreKept, IsInsideDeletion, IsSelected, HasInput};
+ghost use Rattle.linker_base.specs.Blocks.{place_of};
+ghost use Rattle.linker_base.specs.Deltas.{RecordsDeletions, deletions_of, pairs_of};
+ghost use Rattle.linker_base.specs.Listed.{AreValidDeltas};
 
 use std::alloc::{AllocError, AllocFailed, Global};
 use std::marker::Model;
 
-mod apart;
-pub mod counting;
+mod arrays;
+mod blocked_slice;
+mod blocks;
 mod cursor;
+mod delta_slice;
 pub mod laws;
 mod map;
 mod merge;
+mod overlap;
+mod partition_point;
 mod search;
+mod walk;
 
-use apart::{are_disjoint, are_disjoint_batches, are_free, are_free_batches, valid_len};
+pub use blocked_slice::BlockedSlice;
+use blocks::{count_blocks, fill_heads};
+pub use blocks::{
+    BLOCK_LEN, BlockHead, Counted, Looks, input_to_output_counted, output_to_input_counted,
+};
 pub use cursor::RelaxCursor;
+pub use delta_slice::DeltaSlice;
 pub use map::RelaxDeltaMap;
 use merge::{append, append_all, count_pairs, sort_and_sum};
-use search::{bytes_of_first, count_below, count_placed, delta_at, is_inside_one};
+use overlap::{are_beside_deltas_batches, are_disjoint_batches, first_overlapping};
+pub use overlap::{AsDeletion, first_invalid};
 
 /// What a linker does with the relocation that follows a rewritten one.
 #[derive(Debug, Clone, Copy, PartialEq, Eq)]
@@ -31,7 +43,7 @@ pub enum RelocationModifier {
     SkipNextRelocation,
 }
 
-/// A growth was refused for want of memory. The call that answers it has changed nothing.
+/// Out of memory. The call that returns it has changed nothing.
 #[derive(Debug, Clone, Copy, PartialEq, Eq)]
 pub struct OutOfMemory;
 
@@ -59,6 +71,19 @@ pub struct RelaxDelta {
     pub bytes_deleted: u32,
 }
 
+impl RelaxDelta {
+    // The input offset less the bytes deleted before.
+    #[inline(always)]
+    fn output_place(&self) -> u64
+        ensures { result ≡ place_of self.now }
+    {
+        let end = self
+            .input_offset
+            .wrapping_add(u64::from(self.bytes_deleted));
+        end.wrapping_sub(self.cumulative_deleted)
+    }
+}
+
 /// The deletions in one input section, by ascending offset.
 ///
 /// Two deletions have different offsets, none reaches past the offset of the next, and each ends
@@ -66,30 +91,32 @@ pub struct RelaxDelta {
 #[derive(Debug, Drop)]
 pub struct SectionRelaxDeltas {
     deltas: Vec<RelaxDelta>,
+    heads: Vec<BlockHead>,
 }
 
 impl Model for SectionRelaxDeltas {
     ghost use Rattle.std.specs.Prelude.{ℕ, List, map};
     ghost use Rattle.linker_base.specs.Deltas.{deletion_of};
-    ghost use Rattle.linker_base.specs.Listed.{IsSound};
+    ghost use Rattle.linker_base.specs.Inner.Listed.{IsSound};
 
     ghost Value = { List (ℕ × ℕ) };
 
     ghost view = { λ section. map deletion_of section.deltas.items };
 
-    ghost invariant = { λ section. IsSound section.deltas.items };
+    ghost invariant = { λ section. IsSound section.deltas.items section.heads.items };
 }
 
 impl SectionRelaxDeltas {
     /// The deletions that `raw` lists, each as an offset and a count of bytes.
     ///
-    /// It takes memory once, and none where `raw` is empty. `is_valid` tests what it asks.
+    /// It takes memory twice, and none where `raw` is empty. `is_valid` tests what it requires.
     pub fn new(alloc: Global, raw: &[(u64, u32)]) -> Result<Self, OutOfMemory>
         requires { IsValid raw.now }
         ensures ok { IfOk result (λ section. section ≡ raw.now) }
         ensures empty_succeeds { raw.now ≡ [] → IsOk result }
     {
         let mut deltas = Vec::with_capacity(alloc, raw.len())?;
+        let mut heads = Vec::with_capacity(alloc, count_blocks(raw.len()))?;
         let mut cumulative_deleted = 0;
         for &(input_offset, bytes_deleted) in raw {
             cumulative_deleted += u64::from(bytes_deleted);
@@ -99,7 +126,8 @@ impl SectionRelaxDeltas {
                 bytes_deleted,
             });
         }
-        Ok(SectionRelaxDeltas { deltas })
+        fill_heads(&deltas, &mut heads);
+        Ok(SectionRelaxDeltas { deltas, heads })
     }
 
     /// Whether `raw` may be given to `new`: its offsets strictly ascend, no pair reaches past the
@@ -107,14 +135,15 @@ impl SectionRelaxDeltas {
     pub fn is_valid(raw: &[(u64, u32)]) -> bool
         ensures { IsTrue result ↔ IsValid raw.now }
     {
-        valid_len(raw) == raw.len()
+        first_invalid(raw).is_none()
     }
 
     /// Adds deletions, each an offset and a count of bytes, in any order.
     ///
     /// What is listed is then as `new` makes it of the old and the additional pairs, sorted. The
-    /// list grows once, before anything changes, and not at all where `additional` is empty. The
-    /// work is O((n + k) log(n + k)) for k pairs beside n deltas. `is_mergeable` tests what it asks.
+    /// list and its heads grow once, before anything changes, and not at all where `additional` is
+    /// empty. The work is O((n + k) log(n + k)) for k pairs beside n deltas. `is_mergeable` tests
+    /// what it requires.
     pub fn merge_additional(&mut self, additional: &[(u64, u32)]) -> Result<(), OutOfMemory>
         requires { AreDisjoint (self.old ++ additional.now) }
         ensures ok { OnOk result (IsSortedUnion (self.old ++ additional.now) self.new) }
@@ -123,12 +152,16 @@ impl SectionRelaxDeltas {
         ensures empty_stays { additional.now ≡ [] → self.new ≡ self.old }
     {
         let deltas = &mut self.deltas;
+        let heads = &mut self.heads;
         if additional.is_empty() {
             return Ok(());
         }
         deltas.reserve(additional.len())?;
+        heads.reserve(count_blocks(additional.len()))?;
         append(deltas, additional);
         sort_and_sum(deltas);
+        heads.clear();
+        fill_heads(deltas, heads);
         Ok(())
     }
 
@@ -140,15 +173,15 @@ impl SectionRelaxDeltas {
     pub fn is_mergeable(&self, additional: &[(u64, u32)]) -> bool
         ensures { IsTrue result ↔ AreDisjoint (self.now ++ additional.now) }
     {
-        are_disjoint(additional) && are_free(&self.deltas, additional)
+        first_overlapping(&self.deltas, additional).is_none()
     }
 
-    /// Adds the deletions of all batches, or of none where memory is wanting.
+    /// Adds the deletions of all batches, or of none where it runs out of memory.
     ///
     /// What is listed is then as `new` makes it of the old and all additional pairs, sorted. The
-    /// list grows once, before anything changes, and not at all where no batch has a pair. The work
-    /// is O((n + k) log(n + k)) for k pairs in all batches beside n deltas. `are_mergeable` tests
-    /// what it asks.
+    /// list and its heads grow once, before anything changes, and not at all where no batch has a
+    /// pair. The work is O((n + k) log(n + k)) for k pairs in all batches beside n deltas.
+    /// `are_mergeable` tests what it requires.
     pub fn merge_all(&mut self, batches: &[Vec<(u64, u32)>]) -> Result<(), OutOfMemory>
         requires { AreDisjoint (self.old ++ pairs_of batches.now) }
         ensures ok { OnOk result (IsSortedUnion (self.old ++ pairs_of batches.now) self.new) }
@@ -156,9 +189,14 @@ impl SectionRelaxDeltas {
         ensures empty_succeeds { pairs_of batches.now ≡ [] → IsOk result }
     {
         let deltas = &mut self.deltas;
-        deltas.reserve(count_pairs(batches))?;
+        let heads = &mut self.heads;
+        let count = count_pairs(batches);
+        deltas.reserve(count)?;
+        heads.reserve(count_blocks(count))?;
         append_all(deltas, batches);
         sort_and_sum(deltas);
+        heads.clear();
+        fill_heads(deltas, heads);
         Ok(())
     }
 
@@ -169,32 +207,43 @@ impl SectionRelaxDeltas {
     pub fn are_mergeable(&self, batches: &[Vec<(u64, u32)>]) -> bool
         ensures { IsTrue result ↔ AreDisjoint (self.now ++ pairs_of batches.now) }
     {
-        are_disjoint_batches(batches) && are_free_batches(&self.deltas, batches)
+        are_disjoint_batches(batches) && are_beside_deltas_batches(&self.deltas, batches)
     }
 
-    /// A copy of the deltas. It takes memory once, and none where there are none.
+    /// A copy of the deltas. It takes memory twice, and none where there are none.
     pub fn clone(&self) -> Result<Self, OutOfMemory>
         ensures ok { IfOk result (λ section. section ≡ self.now) }
         ensures empty_succeeds { self.now ≡ [] → IsOk result }
     {
         let mut deltas = Vec::with_capacity(*self.deltas.allocator(), self.deltas.len())?;
+        let mut heads = Vec::with_capacity(*self.heads.allocator(), self.heads.len())?;
         deltas.extend_from_slice(&self.deltas)?;
-        Ok(SectionRelaxDeltas { deltas })
+        heads.extend_from_slice(&self.heads)?;
+        Ok(SectionRelaxDeltas { deltas, heads })
     }
 
     /// The deletions by ascending offset, each with the sum of the bytes up to it.
     pub fn deltas(&self) -> &[RelaxDelta]
         ensures valid { IsValid self.now }
-        ensures listing { IsListing self.now result.now }
+        ensures listing { RecordsDeletions self.now result.now }
     {
         &self.deltas[..]
+    }
+
+    /// The deltas as a slice that translates offsets too.
+    #[inline]
+    pub fn as_delta_slice(&self) -> DeltaSlice<'_>
+        ensures valid { AreValidDeltas result }
+        ensures same { deletions_of result ≡ self.now }
+    {
+        DeltaSlice::new(&self.deltas)
     }
 
     /// Whether a deletion is listed at the offset, be it one of no bytes.
     pub fn has_delta_at(&self, offset: u64) -> bool
         ensures { IsTrue result ↔ Any (λ d. d.0 ≡ offset) self.now }
     {
-        delta_at(&self.deltas, offset).is_some()
+        search::delta_at(&self.deltas, offset).is_some()
     }
 
     /// The bytes that are deleted at the offset: 0 where no deletion is listed there.
@@ -202,7 +251,7 @@ impl SectionRelaxDeltas {
         ensures listed { All (λ d. d.0 ≡ offset → result ≡ d.1) self.now }
         ensures none { ¬ (Any (λ d. d.0 ≡ offset) self.now) → result ≡ 0 }
     {
-        match delta_at(&self.deltas, offset) {
+        match search::delta_at(&self.deltas, offset) {
             Some(delta) => delta.bytes_deleted,
             None => 0,
         }
@@ -219,49 +268,61 @@ impl SectionRelaxDeltas {
     pub fn total_deleted(&self) -> u64
         ensures { result ≡ bytes_of self.now }
     {
-        bytes_of_first(&self.deltas, self.deltas.len())
+        search::bytes_of_first(&self.deltas, self.deltas.len())
     }
 
-    /// The offset in the output section of what stands at `input_offset`: that offset less the
-    /// bytes of all deletions at lower offsets, or how many kept bytes lie below it.
-    ///
-    /// It asks an offset that `is_inside` denies. The search takes O(log n).
+    /// How many kept bytes lie below `input_offset`, which is the offset in the output section of
+    /// what stands there. Of an offset inside a deletion it is that of what follows the deletion.
+    /// The search takes O(log n).
+    #[inline]
     pub fn input_to_output_offset(&self, input_offset: u64) -> u64
-        requires { ¬ IsInside self.now input_offset }
         ensures { result ≡ rank self.now input_offset }
     {
-        let deltas = self.deltas.as_slice();
-        let below = count_below(deltas, input_offset);
-        input_offset - bytes_of_first(deltas, below)
+        input_to_output_counted(&mut self.counted(), input_offset)
     }
 
     /// Whether the offset lies above the first byte of a deletion and below its end.
     pub fn is_inside(&self, input_offset: u64) -> bool
-        ensures { IsTrue result ↔ IsInside self.now input_offset }
+        ensures { IsTrue result ↔ IsInsideDeletion self.now input_offset }
     {
-        is_inside_one(&self.deltas, input_offset)
+        search::is_inside(&self.deltas, input_offset)
+    }
+
+    /// The output offset of the `len` bytes from `input_offset` on, or none where one of them is
+    /// deleted. Two searches, O(log n).
+    pub fn kept_output_offset(&self, input_offset: u64, len: u64) -> Option<u64>
+        requires { input_offset + len < 2 ^ 64 }
+        ensures { MatchOption result (¬ (AreKept self.now input_offset len)) (λ output. AreKept self.now input_offset len × (output ≡ rank self.now input_offset)) }
+    {
+        search::rank_of_kept(&self.deltas, input_offset, len)
     }
 
     /// The offset in the input section of the kept byte at `output_offset`: that offset and the
     /// bytes of all deletions whose output place is at most that.
     ///
-    /// It asks an offset that `output_fits` accepts. The search takes O(log n).
+    /// Requires an offset that `output_fits` accepts. The search takes O(log n).
+    #[inline]
     pub fn output_to_input_offset(&self, output_offset: u64) -> u64
         requires { HasInput self.now output_offset }
         ensures { IsSelected self.now output_offset result }
     {
-        let deltas = self.deltas.as_slice();
-        let passed = count_placed(deltas, output_offset);
-        output_offset + bytes_of_first(deltas, passed)
+        output_to_input_counted(&mut self.counted(), output_offset)
     }
 
     /// Whether the input offset of the kept byte at `output_offset` is at most `u64::MAX`.
     pub fn output_fits(&self, output_offset: u64) -> bool
         ensures { IsTrue result ↔ HasInput self.now output_offset }
     {
-        let deltas = self.deltas.as_slice();
-        let added = bytes_of_first(deltas, count_placed(deltas, output_offset));
-        added <= u64::MAX - output_offset
+        search::bytes_before(&self.deltas, output_offset) <= u64::MAX - output_offset
+    }
+
+    /// The deltas, with a count of the looks at them, 0 so far.
+    #[inline(always)]
+    pub fn counted(&self) -> Counted<'_>
+        ensures deletions { deletions_of result.listed ≡ self.now }
+        ensures count { result.looked ≡ 0 }
+    {
+        Counted::new(&self.deltas, &self.heads)
     }
 
     /// A cursor before the first deletion.
@@ -273,8 +334,8 @@ impl SectionRelaxDeltas {
 }
 
 /// `input_to_output_offset` of the deltas, or `input_offset` itself where there are none.
+#[inline]
 pub fn opt_input_to_output(deltas: Option<&SectionRelaxDeltas>, input_offset: u64) -> u64
-    requires { ForSome deltas (λ section. ¬ IsInside section.now input_offset) }
     ensures some { IfSome deltas.entry (λ section. result ≡ rank section.now input_offset) }
     ensures none { IfNone deltas.entry (result ≡ input_offset) }
 {

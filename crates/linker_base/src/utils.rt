@@ -1,10 +1,10 @@
-//! Words, masks and readers of bytes.
+//! Little-endian words, byte masks, and readers of words, strings and ULEB128 numbers.
 ghost use Rattle.std.specs.Prelude.{◌≡◌, ℕ, ◌<◌, ◌≤◌, ◌==◌, ◌⊎◌, List, length, drop, slice_index, EachIndex, bit_and, bit_or, codes, Contains, IsErr, IfOk, OnOk, OnErr};
 ghost use Rattle.std.specs.Int.{from_le_bytes, w32, w64};
 ghost use Rattle.std.specs.Str.{encode_utf8_all};
 ghost use Rattle.std.specs.String.{string_bytes};
 ghost use Rattle.bstr.specs.Utf8.{lossy_chars};
-ghost use Rattle.linker_base.specs.Faults.{FailsExactly};
+ghost use Rattle.linker_base.specs.ErrorTexts.{FailsExactly};
 ghost use Rattle.linker_base.specs.Text.{text_before_nul, after_nul};
 ghost use Rattle.linker_base.specs.Uleb.{Uleb, UlebEnded, UlebTooLarge, HasOneReading};
 
@@ -12,7 +12,8 @@ use anyhow::{Result, bail, ensure};
 use bstr::ByteSlice;
 use std::alloc::{AllocError, Global};
 
-/// The little-endian number of the first four bytes.
+/// The first four bytes as a little-endian number.
+#[inline]
 pub fn u32_from_slice(bytes: &[u8]) -> u32
     requires { 4 ≤ length bytes.now }
     ensures { result ≡ from_le_bytes w32 bytes.now }
@@ -20,7 +21,8 @@ pub fn u32_from_slice(bytes: &[u8]) -> u32
     u32::from_le_bytes([bytes[0], bytes[1], bytes[2], bytes[3]])
 }
 
-/// The little-endian number of the first eight bytes.
+/// The first eight bytes as a little-endian number.
+#[inline]
 pub fn u64_from_slice(bytes: &[u8]) -> u64
     requires { 8 ≤ length bytes.now }
     ensures { result ≡ from_le_bytes w64 bytes.now }
@@ -30,7 +32,7 @@ pub fn u64_from_slice(bytes: &[u8]) -> u64
     ])
 }
 
-/// Sets in `dest` each bit that is set in the mask. The bytes past the mask's length stay.
+/// ORs the mask into the first bytes of `dest`. The bytes past the mask's length stay.
 pub fn or_from_slice(dest: &mut [u8], mask_bytes: &[u8])
     requires { length mask_bytes.now ≤ length dest.old }
     ensures masked { EachIndex mask_bytes.now (λ k.
@@ -42,7 +44,7 @@ pub fn or_from_slice(dest: &mut [u8], mask_bytes: &[u8])
     }
 }
 
-/// Clears in `dest` each bit that is clear in the mask. The bytes past the mask's length stay.
+/// ANDs the mask into the first bytes of `dest`. The bytes past the mask's length stay.
 pub fn and_from_slice(dest: &mut [u8], mask_bytes: &[u8])
     requires { length mask_bytes.now ≤ length dest.old }
     ensures masked { EachIndex mask_bytes.now (λ k.
@@ -54,14 +56,18 @@ pub fn and_from_slice(dest: &mut [u8], mask_bytes: &[u8])
     }
 }
 
-/// Takes a little-endian number of four bytes off the front of the content. With fewer than four
-/// bytes it fails, and the content stays.
+/// Reads a little-endian number of four bytes, and advances the content past it.
+///
+/// # Errors
+///
+/// "Not enough bytes to read u32" with fewer than four bytes. The content is then unchanged.
+#[inline]
 pub fn read_u32(content: &mut &[u8]) -> Result<u32>
     ensures value { IfOk result (λ n. n ≡ from_le_bytes w32 content.old.now) }
     ensures rest { OnOk result (content.new.now ≡ drop 4 content.old.now) }
     ensures short { FailsExactly (codes "Not enough bytes to read u32")
         (length content.old.now < 4) result }
-    ensures refused { OnErr result (length content.old.now < 4) }
+    ensures errors { OnErr result (length content.old.now < 4) }
     ensures unchanged { OnErr result (content.new.now ≡ content.old.now) }
 {
     let bytes: &[u8] = *content;
@@ -70,16 +76,19 @@ pub fn read_u32(content: &mut &[u8]) -> Result<u32>
     Ok(u32_from_slice(bytes))
 }
 
-/// Takes the bytes up to the first NUL off the front of the content, and the NUL, and makes text of
-/// those before it: U+FFFD stands for each piece that is not UTF-8. With no NUL it fails, and so it
-/// does where memory runs out. The content then stays.
+/// Reads a NUL-terminated string, and advances the content past the NUL. Each sequence of bytes
+/// that is not UTF-8 becomes U+FFFD.
+///
+/// # Errors
+///
+/// "No null terminator found in string", and "Out of memory". The content is then unchanged.
 pub fn read_string(alloc: Global, content: &mut &[u8]) -> Result<String>
     ensures text { IfOk result (λ text. string_bytes text ≡ text_before_nul content.old.now) }
     ensures rest { OnOk result (content.new.now ≡ after_nul content.old.now) }
 
     ensures no_nul { FailsExactly (codes "No null terminator found in string")
         (¬ Contains content.old.now 0) result }
-    // where there is a NUL, it fails only for want of memory
+    // with a NUL the only error is out of memory
     ensures memory { FailsExactly (codes "Out of memory")
         (Contains content.old.now 0 × IsErr result) result }
     ensures unchanged { OnErr result (content.new.now ≡ content.old.now) }
@@ -101,10 +110,20 @@ fn lossy_text(alloc: Global, bytes: &[u8]) -> Result<String, AllocError>
     bytes.to_str_lossy(alloc)?.into_owned(alloc)
 }
 
-/// Takes a ULEB128 number off the front of the content: seven bits a byte, the lowest first, and
-/// each byte but the last is at least 0x80. It takes ten bytes at most, and the tenth is 0 or 1;
-/// zeros that only pad are accepted. It fails with "ended" where the content ends first, and with
-/// "too large" where the tenth byte isn't 0 or 1. The content then stays.
+/// Reads a ULEB128 number, and advances the content past it. A number has at most ten bytes: seven
+/// bits a byte, the lowest first, and each byte but the last is at least 0x80. The tenth is 0 or 1.
+/// Padding zeros are accepted.
+///
+/// ```
+/// let mut content: &[u8] = &[0xe5, 0x8e, 0x26, 0x07];
+/// assert_eq!(linker_utils::utils::read_uleb128(&mut content).unwrap(), 624485);
+/// assert_eq!(content, &[0x07]);
+/// ```
+///
+/// # Errors
+///
+/// "Failed to read ULEB128 value: ended" if the content ends first, and ".. too large" if the tenth
+/// byte is neither 0 nor 1. The content is then unchanged.
 pub fn read_uleb128(content: &mut &[u8]) -> Result<u64>
     ensures number { IfOk result (λ n. Uleb content.old.now n content.new.now) }
     ensures accepted { (n : ℕ) (rest : List ℕ) → Uleb content.old.now n rest
@@ -114,7 +133,7 @@ pub fn read_uleb128(content: &mut &[u8]) -> Result<u64>
         (UlebEnded content.old.now) result }
     ensures too_large { FailsExactly (codes "Failed to read ULEB128 value: too large")
         (UlebTooLarge content.old.now) result }
-    ensures refused { OnErr result (UlebEnded content.old.now ⊎ UlebTooLarge content.old.now) }
+    ensures errors { OnErr result (UlebEnded content.old.now ⊎ UlebTooLarge content.old.now) }
     ensures unchanged { OnErr result (content.new.now ≡ content.old.now) }
 {
     let bytes: &[u8] = *content;
@@ -132,7 +151,7 @@ pub fn read_uleb128(content: &mut &[u8]) -> Result<u64>
     bail!("Failed to read ULEB128 value: ended");
 }
 
-/// Bytes begin with one ULEB128 number at most, and one rest follows it.
+/// Bytes begin with at most one ULEB128 number, and the rest after it is determined.
 pub fn uleb128_has_one_reading()
     ensures { HasOneReading }
 {}
@@ -144,9 +163,9 @@ mod tests {
     use std::fmt::InlineText;
     use std::test::Fail;
 
-    // what the fault prints, by no allocation
-    fn printed(fault: Error) -> InlineText<120> {
-        InlineText::of(fault)
+    // the error's text, without allocation
+    fn printed(error: Error) -> InlineText<120> {
+        InlineText::of(error)
     }
 
     #[test]
@@ -160,8 +179,8 @@ mod tests {
         assert_eq!(rt; content, [5].as_slice());
 
         let mut short: &[u8] = &[1, 2, 3];
-        let fault = read_u32(&mut short).expect_err(&rt, "three bytes");
-        assert_eq!(rt; printed(fault).as_str(), "Not enough bytes to read u32");
+        let error = read_u32(&mut short).expect_err(&rt, "three bytes");
+        assert_eq!(rt; printed(error).as_str(), "Not enough bytes to read u32");
         assert_eq!(rt; short, [1, 2, 3].as_slice());
         Ok(())
     }
@@ -197,17 +216,17 @@ mod tests {
 
         let ended = "Failed to read ULEB128 value: ended";
         let too_large = "Failed to read ULEB128 value: too large";
-        let refused: [(&[u8], &str); 5] = [
+        let rejected: [(&[u8], &str); 5] = [
             (b"", ended),
             (b"\x80", ended),
             (b"\x80\x80\x80\x80\x80\x80\x80\x80\x80", ended),
             (b"\x80\x80\x80\x80\x80\x80\x80\x80\x80\x80", too_large),
             (b"\xff\xff\xff\xff\xff\xff\xff\xff\xff\x02", too_large),
         ];
-        for (bytes, text) in refused {
+        for (bytes, text) in rejected {
             let mut content = bytes;
-            let fault = read_uleb128(&mut content).expect_err(&rt, "no number");
-            assert_eq!(rt; printed(fault).as_str(), text, "of {bytes:?}");
+            let error = read_uleb128(&mut content).expect_err(&rt, "no number");
+            assert_eq!(rt; printed(error).as_str(), text, "of {bytes:?}");
             assert_eq!(rt; content, bytes);
         }
         Ok(())
@@ -228,20 +247,20 @@ mod tests {
         Ok(())
     }
 
-    // A run in which one allocation fails meets the want of memory.
+    // `rt try --test --fail-alloc N` makes one allocation fail.
     #[test]
-    fn a_fault_leaves_the_text_unread(rt: HostRuntime) -> Result<(), Fail> {
+    fn an_error_leaves_the_text_unread(rt: HostRuntime) -> Result<(), Fail> {
         let mut endless: &[u8] = b"ab";
-        let fault = read_string(rt.alloc(), &mut endless).expect_err(&rt, "no NUL");
+        let error = read_string(rt.alloc(), &mut endless).expect_err(&rt, "no NUL");
         assert_eq!(rt;
-            printed(fault).as_str(),
+            printed(error).as_str(),
             "No null terminator found in string"
         );
         assert_eq!(rt; endless, b"ab".as_slice());
 
         let mut content: &[u8] = b"a\0b";
-        if let Err(fault) = read_string(rt.alloc(), &mut content) {
-            assert_eq!(rt; printed(fault).as_str(), "Out of memory");
+        if let Err(error) = read_string(rt.alloc(), &mut content) {
+            assert_eq!(rt; printed(error).as_str(), "Out of memory");
             assert_eq!(rt; content, b"a\0b".as_slice());
             assert_eq!(rt; read_string(rt.alloc(), &mut content)?.as_str(), "a");
         }

@@ -1,6 +1,6 @@
 -- A field within its range is read as the value: from comparisons of a row's bits, range and alignment.
-use Rattle.std.proofs.Common.{◌≡◌, ℕ, ◌+◌, ◌-◌, ◌*◌, ◌/◌, ◌%◌, ◌^◌, ◌<◌, ◌≤◌, Bool, true, ◌&&◌, ◌||◌, ltb, leb, eqb, refl, sym, ◌∙◌, ap, subst, arith, inl, inr, cond, ℤ, pos, negsuc, ◌-ℤ◌, neg_ℤ, ◌≤ℤ◌, ◌<ℤ◌, Option, Some, None, unsigned_abs, List, int_lt}
-use Rattle.std.specs.Int.{Width, int_rem_euclid}
+use Rattle.std.proofs.Common.{◌≡◌, ℕ, ◌+◌, ◌-◌, ◌*◌, ◌/◌, ◌%◌, ◌^◌, ◌<◌, ◌≤◌, Bool, true, ◌&&◌, ◌||◌, ltb, leb, eqb, refl, sym, ◌∙◌, ap, subst, arith, inl, inr, cond, ℤ, pos, negsuc, ◌-ℤ◌, neg_ℤ, ◌≤ℤ◌, ◌<ℤ◌, Option, Some, None, unsigned_abs, int_lt, false}
+use Rattle.std.specs.Int.{int_rem_euclid}
 use Rattle.std.proofs.lemmas.Bool.{and_parts, or_cases, leb-true, eqb-true, lt-ltb, le-ltb}
 use Rattle.std.proofs.lemmas.Int.{ints, int_rem_euclid_is}
 use Rattle.std.proofs.lemmas.Nat.{pow_pos, pow-add, mod_below, div-add-mod'}
@@ -8,9 +8,9 @@ use Rattle.std.proofs.Math.Nat.{mod-eq_of_lt, div-lt_iff_lt-mul}
 use Rattle.std.proofs.lemmas.Float.{T_from_true}
 use Rattle.std.specs.Int.Signed.{le_z, le_z_yes}
 use Rattle.linker_base.specs.Bits.{signed}
-use Rattle.linker_base.specs.Form.{Sign, unsigned, twos_complement, number_of, IsSameModulo, Claim, Place, IsClear, Written, field_form, place_sum}
+use Rattle.linker_base.specs.Form.{Sign, unsigned, twos_complement, number_of, IsSameModulo, IsClear, Written, place_sum, Layout, one_field, own_form, form_of}
 use Rattle.linker_base.proofs.Fields.{mod_mod}
-use Rattle.linker_base.proofs.Immediates.{subst_below, number_rem, IsSoundField, laid_field}
+use Rattle.linker_base.proofs.Immediates.{subst_below, number_rem, sound_field, laid_field, is_sound_layout}
 use Rattle.linker_utils.specs.Agrees.{bits_from, IsFieldOf, IsSameIn}
 use Rattle.linker_utils.specs.Elf.{IsWithin}
 
@@ -153,7 +153,7 @@ whole_field low s k a h v f z e =
 
 -- ---- the law of a form of one field
 
--- what the law asks: of the bits from s up, below e, of the bounds and the alignment
+-- what the law requires of the bits from s up, below e, of the bounds and the alignment
 abbrev pub is_agreeing : Sign → ℕ → ℕ → ℕ → ℕ → Option (ℤ × ℤ) → ℕ → Bool
 is_agreeing sign n low s e bounds a = leb (e - s) 64 && (is_aligned low s (e - s) a && reaches sign n s (e - s) bounds)
 
@@ -168,10 +168,15 @@ sum_agrees sign n low s e bounds a h v f sum within z is_field is =
     let same : sum ≡ f % 2 ^ n = is small ∙ ap (λ y. y % 2 ^ n) (whole_field low s (e - s) a rest.0 v f z is_field) in
     subst (λ y. IsSameIn bounds (e - s) (number_of sign n y) (bits_from s v)) (sym same) (number_agrees sign n s (e - s) bounds rest.1 v f within is_field)
 
-pub field_agrees : (w : Width) (width n low : ℕ) (read : Sign) (flags : Bool) (machine : Sign) (claim : Claim) (ps : List Place) → IsSoundField width n low ps
-    → (s e : ℕ) (bounds : Option (ℤ × ℤ)) (a : ℕ) → is_agreeing machine n low s e bounds a ≡ true
+-- a row of a form of one field
+abbrev pub layout_check : Layout → ℕ → ℕ → Option (ℤ × ℤ) → ℕ → Bool
+layout_check (one_field d) s e bounds a = is_agreeing d.machine d.bits d.low s e bounds a
+layout_check (own_form form) s e bounds a = false
+
+pub layout_agrees : (l : Layout) → is_sound_layout l ≡ true → (s e : ℕ) (bounds : Option (ℤ × ℤ)) (a : ℕ) → layout_check l s e bounds a ≡ true
     → (v : ℤ) (f before after : ℕ) → IsWithin bounds v → int_rem_euclid v (pos a) ≡ pos 0 → IsFieldOf v s e f
-    → IsClear ps before → Written (field_form w width n low read flags machine claim ps) f (int_lt v (pos 0)) before after
-    → IsSameIn bounds (e - s) ((field_form w width n low read flags machine claim ps).machine after) (bits_from s v)
-field_agrees w width n low read flags machine claim ps sound s e bounds a h v f before after within z is_field clear laid =
-    sum_agrees machine n low s e bounds a h v f (place_sum ps after) within z is_field (λ small. laid_field w width n low read flags machine ps sound f before after small laid clear)
+    → IsClear ((form_of l).places before) before → Written (form_of l) f (int_lt v (pos 0)) before after
+    → IsSameIn bounds (e - s) ((form_of l).machine after) (bits_from s v)
+layout_agrees (one_field d) sound s e bounds a h v f before after within z is_field clear laid =
+    sum_agrees d.machine d.bits d.low s e bounds a h v f (place_sum d.places after) within z is_field (λ small. laid_field d (sound_field d sound) f before after small laid clear)
+layout_agrees (own_form form) sound s e bounds a h v f before after within z is_field clear laid = cc

@@ -2,7 +2,7 @@
 use Rattle.std.proofs.Common.{◌≡◌, ℕ, suc, ◌+◌, ◌-◌, ◌*◌, ◌/◌, ◌%◌, ◌^◌, ◌<◌, ◌≤◌, false, List, [], ◌∷◌, ◌++◌, length, take, drop, refl, sym, ◌∙◌, ap, arith, ℤ, pos, negsuc, ◌-ℤ◌, ltb, Some}
 use Rattle.std.specs.Int.{w32, w64, from_le_bytes, to_le_bytes, cast_unsigned, int_rem_euclid, bit_at}
 use Rattle.std.proofs.lemmas.Bool.{agree_below_at, cond_both, ltb-true, ltb-false}
-use Rattle.std.proofs.lemmas.List.{append-nil, append_assoc, take_at, drop_at, drop_all, take_rest, length-take, length-append, length-drop, drop-drop}
+use Rattle.std.proofs.lemmas.List.{append-nil, append_assoc, take_at, drop_at, drop_all, take_rest, length-take, length-drop, drop-drop}
 use Rattle.std.proofs.lemmas.Int.{ints}
 use Rattle.std.proofs.lemmas.Nat.{from_le_bytes-to_le_bytes_4, mod_below, and_mask, or_comm, or_shifted}
 use Rattle.std.specs.Int.RustNames.{bit_or}
@@ -12,10 +12,9 @@ use Rattle.linker_base.specs.Bits.{field, signed}
 use Rattle.linker_base.specs.Form.{is_placed, Written, MachineReads, place_sum}
 use Rattle.linker_base.specs.Rewrite.{Rewrite, rewritten}
 use Rattle.linker_base.proofs.Fields.{same_fields, signed_rem}
-use Rattle.linker_utils.specs.RiscV.{riscv_form, riscv_rewrite, call_to_jal, word_at, JumpsAt, IsEven, IsJalDistance}
+use Rattle.linker_utils.specs.RiscV.{riscv_form, riscv_rewrite, call_to_jal, word_at, JumpsAndLinks, IsEven, IsJalDistance}
 use Rattle.linker_utils.specs.declared.elf.RiscVInstruction.TheVariants.{JType}
-use Rattle.linker_utils.specs.declared.riscv64.RelaxationKind.{RelaxationKind}
-use Rattle.linker_utils.specs.declared.riscv64.RelaxationKind.TheVariants.{CallToJal}
+use Rattle.linker_utils.specs.declared.riscv64.rewrites.RelaxationKind.{RelaxationKind}
 use Rattle.linker_base.proofs.Immediates.{always_clear}
 use Rattle.linker_utils.proofs.RiscV.{jtype_places, jtype_below}
 
@@ -59,19 +58,22 @@ jal_distance s d l e j h =
 
 -- ---- the word at the site
 
--- `jal` of distance 0 keeps the register
-register_kept : (x r : ℕ) → r ≡ field x 7 12 → field (0x6f + r * 128) 7 12 ≡ field x 7 12
-register_kept x r e = let small : r < 32 = rw e (mod_below (x / 2 ^ 7) (2 ^ 5) (omega arith)) in omega arith
+-- the register's bits, as the code takes them
+pub destination_bits : (x : ℕ) → bit_and (x / 128) 31 ≡ field x 7 12
+destination_bits x = and_mask (x / 128) 5
 
--- the word as the code makes it
+-- `jal` of distance 0, as the code makes it
+jal_of : (r : ℕ) → r < 32 → bit_or 111 (r * 128 % 4294967296) ≡ 0x6f + r * 128
+jal_of r small =
+    ap (bit_or 111) (let same : r * 128 % 4294967296 ≡ r * 128 = omega arith in same)
+    ∙ or_comm 111 (r * 128)
+    ∙ or_shifted r 7 111 (omega arith)
+    ∙ omega arith
+
 jal_code : (x : ℕ) → bit_or 111 (bit_and (x / 128) 31 * 128 % 4294967296) ≡ 0x6f + field x 7 12 * 128
 jal_code x =
-    let register : bit_and (x / 128) 31 ≡ x / 128 % 32 = and_mask (x / 128) 5 in
-    ap (λ r. bit_or 111 (r * 128 % 4294967296)) register
-    ∙ ap (bit_or 111) (let small : x / 128 % 32 * 128 % 4294967296 ≡ x / 128 % 32 * 128 = omega arith in small)
-    ∙ or_comm 111 (x / 128 % 32 * 128)
-    ∙ or_shifted (x / 128 % 32) 7 111 (omega arith)
-    ∙ omega arith
+    ap (λ r. bit_or 111 (r * 128 % 4294967296)) (destination_bits x)
+    ∙ jal_of (field x 7 12) (mod_below (x / 2 ^ 7) (2 ^ 5) (omega arith))
 
 pub call_made : (s ys : List ℕ) (o x : ℕ) → x ≡ from_le_bytes w32 (take (length s - o) (drop o s))
     → ys ≡ to_le_bytes w32 (bit_or 111 (bit_and (x / 128) 31 * 128 % 4294967296))
@@ -85,43 +87,38 @@ call_made s ys o x e y =
 pub rewritten_as : (kind known : RelaxationKind) (r : Rewrite) (s after : List ℕ) (o : ℕ) → kind ≡ known → riscv_rewrite known ≡ Some r → after ≡ rewritten (Some r) s o → after ≡ rewritten (riscv_rewrite kind) s o
 rewritten_as kind known r s after o e k h = h ∙ ap (λ t. rewritten t s o) (sym k ∙ ap riscv_rewrite (sym e))
 
-module _ (s s1 sub : List ℕ) (site v : ℕ) (d : ℤ)
+module _ (s s1 ys sub : List ℕ) (site r v : ℕ) (d : ℤ)
     (inside : site + 4 ≤ length s)
-    (call : s1 ≡ rewritten (riscv_rewrite CallToJal) s site)
+    (small : r < 32)
+    (made : ys ≡ to_le_bytes w32 (bit_or 111 (r * 128 % 4294967296)))
+    (put : s1 ≡ take site s ++ ys ++ drop (site + length ys) s)
     (same_length : length sub ≡ length s1 - site) where
   jal_word : ℕ
-  jal_word = 0x6f + field (from_le_bytes w32 (take 4 (drop (site - 0) s))) 7 12 * 128
+  jal_word = 0x6f + r * 128
 
-  bytes : List ℕ
+  is_jal_word : ys ≡ to_le_bytes w32 jal_word
   unfolding jal_word
-  bytes = to_le_bytes w32 jal_word
+  is_jal_word = made ∙ ap (to_le_bytes w32) (jal_of r small)
 
-  front_length : length (take (site - 0) s) ≡ site
-  front_length = length-take (site - 0) s ∙ omega arith
+  front_length : length (take site s) ≡ site
+  front_length = length-take site s ∙ omega arith
 
-  parted : s1 ≡ take (site - 0) s ++ (to_le_bytes w32 jal_word ++ drop (site - 0 + 4) s)
-  unfolding jal_word
-  parted = call ∙ append_assoc (take (site - 0) s) (to_le_bytes w32 jal_word) (drop (site - 0 + 4) s)
+  parted : s1 ≡ take site s ++ (to_le_bytes w32 jal_word ++ drop (site + 4) s)
+  parted = put ∙ append_assoc (take site s) ys (drop (site + length ys) s) ∙ ap (λ bytes. take site s ++ (bytes ++ drop (site + length bytes) s)) is_jal_word
 
-  rewritten_at : drop site s1 ≡ to_le_bytes w32 jal_word ++ drop (site - 0 + 4) s
-  rewritten_at = ap (drop site) parted ∙ drop_at (take (site - 0) s) (to_le_bytes w32 jal_word ++ drop (site - 0 + 4) s) site front_length
+  put_at : drop site s1 ≡ to_le_bytes w32 jal_word ++ drop (site + 4) s
+  put_at = ap (drop site) parted ∙ drop_at (take site s) (to_le_bytes w32 jal_word ++ drop (site + 4) s) site front_length
 
   front_same : take site s1 ≡ take site s
-  front_same = ap (take site) parted ∙ take_at (take (site - 0) s) (to_le_bytes w32 jal_word ++ drop (site - 0 + 4) s) site front_length ∙ ap (λ k. take k s) (omega arith)
+  front_same = ap (take site) parted ∙ take_at (take site s) (to_le_bytes w32 jal_word ++ drop (site + 4) s) site front_length
 
   after : put_mid site (length s1 - site) s1 sub ≡ take site s1 ++ sub
   after =
-      ap (λ ys. take site s1 ++ (sub ++ ys)) (drop_all (length s1 - site) (drop site s1) (omega (arith, length-drop site s1)))
-      ∙ ap (λ ys. take site s1 ++ ys) (append-nil sub)
-
-  long : length s1 ≡ length s
-  long =
-      ap length parted
-      ∙ length-append (take (site - 0) s) (to_le_bytes w32 jal_word ++ drop (site - 0 + 4) s)
-      ∙ omega (arith, front_length, length-drop (site - 0 + 4) s)
+      ap (λ zs. take site s1 ++ (sub ++ zs)) (drop_all (length s1 - site) (drop site s1) (omega (arith, length-drop site s1)))
+      ∙ ap (λ zs. take site s1 ++ zs) (append-nil sub)
 
   front_length_after : length (take site s1) ≡ site
-  front_length_after = ap length front_same ∙ length-take site s ∙ omega arith
+  front_length_after = ap length front_same ∙ front_length
 
   at_site : drop site (put_mid site (length s1 - site) s1 sub) ≡ sub
   at_site = ap (drop site) after ∙ drop_at (take site s1) sub site front_length_after
@@ -135,10 +132,7 @@ module _ (s s1 sub : List ℕ) (site v : ℕ) (d : ℤ)
 
   -- the window that the J-immediate was written to
   before : from_le_bytes w32 (take (length s1 - site) (drop site s1)) ≡ jal_word
-  before = ap (from_le_bytes w32) (whole ∙ rewritten_at) ∙ word_of_bytes jal_word (drop (site - 0 + 4) s) word_small
-
-  old_word : from_le_bytes w32 (take 4 (drop (site - 0) s)) ≡ word_at s site
-  old_word = word_of_front (drop (site - 0) s) ∙ ap (λ k. from_le_bytes w32 (drop k s)) (omega arith)
+  before = ap (from_le_bytes w32) (whole ∙ put_at) ∙ word_of_bytes jal_word (drop (site + 4) s) word_small
 
   -- bits 0 to 11 are no places
   low_kept : Written (riscv_form JType) v false (from_le_bytes w32 (take (length s1 - site) (drop site s1))) (from_le_bytes w32 sub)
@@ -151,17 +145,17 @@ module _ (s s1 sub : List ℕ) (site v : ℕ) (d : ℤ)
       → MachineReads (riscv_form JType) v false (from_le_bytes w32 (take (length s1 - site) (drop site s1))) (from_le_bytes w32 sub)
       → drop 4 sub ≡ drop 4 (take (length s1 - site) (drop site s1))
       → v ≡ cast_unsigned w64 d → IsEven d → IsJalDistance d
-      → JumpsAt s (put_mid site (length s1 - site) s1 sub) site d
+      → JumpsAndLinks s (put_mid site (length s1 - site) s1 sub) site r d
   unfolding jal_word
   jumped laid reads rest bits even jal =
       let word : word_at (put_mid site (length s1 - site) s1 sub) site ≡ from_le_bytes w32 sub = ap (from_le_bytes w32) at_site in
       record {
-        opcode = ap (λ x. field x 0 7) word ∙ same_fields (from_le_bytes w32 sub) jal_word 0 7 (λ w a b. low_kept laid w (omega arith)) ∙ omega arith;
-        register = ap (λ x. field x 7 12) word ∙ same_fields (from_le_bytes w32 sub) jal_word 7 12 (λ w a b. low_kept laid w (omega arith))
-            ∙ register_kept (from_le_bytes w32 (take 4 (drop (site - 0) s))) (field (from_le_bytes w32 (take 4 (drop (site - 0) s))) 7 12) refl
-            ∙ ap (λ x. field x 7 12) old_word;
-        reads = ap (λ x. (riscv_form JType).machine x) word ∙ jal_distance (place_sum jtype_places (from_le_bytes w32 sub)) d (jtype_below (from_le_bytes w32 sub)) even jal
-            (reads (always_clear jtype_places (from_le_bytes w32 (take (length s1 - site) (drop site s1))) refl) ∙ ap (λ y. int_rem_euclid (pos (y - y % 2 ^ 1)) (pos (2 ^ 21))) bits);
+        jal = record {
+          opcode = ap (λ x. field x 0 7) word ∙ same_fields (from_le_bytes w32 sub) jal_word 0 7 (λ w a b. low_kept laid w (omega arith)) ∙ omega arith;
+          register_bits = ap (λ x. field x 7 12) word ∙ same_fields (from_le_bytes w32 sub) jal_word 7 12 (λ w a b. low_kept laid w (omega arith)) ∙ omega arith;
+          reads = ap (λ x. (riscv_form JType).machine x) word ∙ jal_distance (place_sum jtype_places (from_le_bytes w32 sub)) d (jtype_below (from_le_bytes w32 sub)) even jal
+              (reads (always_clear jtype_places (from_le_bytes w32 (take (length s1 - site) (drop site s1))) refl) ∙ ap (λ y. int_rem_euclid (pos (y - y % 2 ^ 1)) (pos (2 ^ 21))) bits);
+        };
         front = ap (take site) after ∙ take_at (take site s1) sub site front_length_after ∙ front_same;
-        rest = sym (drop-drop 4 site (put_mid site (length s1 - site) s1 sub)) ∙ ap (drop 4) at_site ∙ rest ∙ ap (drop 4) (whole ∙ rewritten_at) ∙ ap (λ k. drop k s) (omega arith);
+        rest = sym (drop-drop 4 site (put_mid site (length s1 - site) s1 sub)) ∙ ap (drop 4) at_site ∙ rest ∙ ap (drop 4) (whole ∙ put_at);
       }

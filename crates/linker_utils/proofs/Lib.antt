@@ -9,10 +9,12 @@ pub mod LoongArch
 pub mod LoongArchAddresses
 pub mod LoongArchNumbers
 pub mod LoongArchSequences
-pub mod PowerPcForms
-pub mod PowerPcPairs
+pub mod Packed
+pub mod Ppc64Forms
+pub mod Ppc64Pairs
 pub mod RiscV
 pub mod RiscVRewrites
 pub mod RowsAgree
+pub mod RowsFit
 pub mod Runs
 pub mod X86Bytes

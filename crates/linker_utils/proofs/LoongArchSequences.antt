@@ -7,7 +7,7 @@ use Rattle.std.proofs.lemmas.List.Elements.{All-drop}
 use Rattle.std.proofs.lemmas.Slice.{between-put_mid, take-put_mid_below, drop-put_mid}
 use borrow.Rule.Slice.PartMut.{put_mid}
 use Rattle.linker_base.specs.Bits.{field}
-use Rattle.linker_base.specs.Form.{Place, IsLaid, is_placed, or_bits_to, bit_for, placed_bit}
+use Rattle.linker_base.specs.Form.{ImmediateBit, BitsWritten, is_placed, or_bits_to, bit_for, placed_bit}
 use Rattle.linker_base.proofs.Fields.{same_fields}
 use Rattle.linker_base.proofs.Immediates.{bit_looked_up}
 use Rattle.linker_base.proofs.Parts.{ored_kept}
@@ -67,10 +67,10 @@ module _ (s e at v : ℕ) (before sub : List ℕ) (inside : at + 4 ≤ length be
 shift5_outside : (w : ℕ) → w < 32 → is_placed shift5_places w ≡ (leb 5 w && ltb w 25)
 shift5_outside w h = agree_below_at (is_placed shift5_places) (λ i. leb 5 i && ltb i 25) 32 w refl h
 
-shift5_kept : (v before after w : ℕ) → IsLaid shift5_places v before after → w < 32 → (leb 5 w && ltb w 25) ≡ false → bit_at after w ≡ bit_at before w
+shift5_kept : (v before after w : ℕ) → BitsWritten shift5_places v before after → w < 32 → (leb 5 w && ltb w 25) ≡ false → bit_at after w ≡ bit_at before w
 shift5_kept v old new w laid h o = laid.kept w (shift5_outside w h ∙ o)
 
-pub shift5_keeps : (v before after : ℕ) → IsLaid shift5_places v before after → IsKeptOutside 5 25 before after
+pub shift5_keeps : (v before after : ℕ) → BitsWritten shift5_places v before after → IsKeptOutside 5 25 before after
 shift5_keeps v before after laid =
     record {
       below = same_fields after before 0 5 (λ w a b. shift5_kept v before after w laid (omega arith) (below_all w b));
@@ -89,14 +89,14 @@ ored_inside w a b =
     ∙ rw (le-leb 22 w a, lt-ltb w 26 b) refl
 
 -- a value of 12 bits leaves the bits that are only ORed
-pub shift10_keeps : (v before after : ℕ) → v < 2 ^ 12 → IsLaid shift10_places v before after → IsKeptOutside 10 22 before after
+pub shift10_keeps : (v before after : ℕ) → v < 2 ^ 12 → BitsWritten shift10_places v before after → IsKeptOutside 10 22 before after
 shift10_keeps v before after small laid =
     record {
       below = same_fields after before 0 10 (λ w a b. laid.kept w (shift10_outside w (omega arith) ∙ below_all w b));
       above = same_fields after before 22 32 (λ w a b. elim (cases_lt w 26) [
         | inl inside ↦ bit_looked_up (or_bits_to 12 15 22) w before after
             (ored_kept 12 (or_bits_to 12 15 22) v before after small (omega arith) refl
-            (All-drop (λ (p : Place). bit_at after p.word ≡ placed_bit p.mark (bit_for p v) (bit_at before p.word)) 12 shift10_places laid.placed))
+            (All-drop (λ (p : ImmediateBit). bit_at after p.insn_bit ≡ placed_bit p.mark (bit_for p v) (bit_at before p.insn_bit)) 12 shift10_places laid.placed))
             (ored_inside w a inside)
         | inr over ↦ laid.kept w (shift10_outside w b ∙ and_right (leb 10 w) (ltb w 26) (le-ltb w 26 over))
       ]);

@@ -5,43 +5,22 @@ use Rattle.std.specs.List.{All}
 use Rattle.std.proofs.lemmas.Bool.{cases_lt}
 use Rattle.std.proofs.lemmas.Int.{ints, int_rem_euclid_is}
 use Rattle.linker_base.specs.Bits.{signed}
-use Rattle.linker_base.specs.Form.{window_of, Place, IsLaid, bits_to, placed_bit, bit_for, Written, MachineReads, place_sum, twos_complement}
-use Rattle.linker_base.proofs.Immediates.{IsSoundField, sound_field, field_machine, laid_field, place_sum_placed, place_sum_below, always_clear}
+use Rattle.linker_base.specs.Form.{window_of, ImmediateBit, BitsWritten, placed_bit, bit_for, Written, MachineReads, place_sum}
+use Rattle.linker_base.proofs.Immediates.{layout_laid, layout_machine, place_sum_placed, place_sum_below, always_clear}
 use Rattle.linker_base.proofs.Pairs.{signed_cases, added, all_left, all_right}
 use Rattle.linker_base.proofs.Rounded.{IsSoundPart, sound_part, rounded_machine}
-use Rattle.linker_utils.specs.RiscV.{riscv_form, riscv_places, ui_sum, IsPairRange, IsPairOf, PairReads}
+use Rattle.linker_utils.specs.RiscV.{riscv_form, riscv_layout, riscv_places, ui_high, ui_low, ui_sum, IsPairRange, IsPairOf, PairReads}
 use Rattle.linker_utils.specs.declared.elf.RiscVInstruction.{RiscVInstruction}
-use Rattle.linker_utils.specs.declared.elf.RiscVInstruction.TheVariants.{UType, IType, SType, BType, JType, CbType, CjType, CluiType, UiType}
+use Rattle.linker_utils.specs.declared.elf.RiscVInstruction.TheVariants.{UType, IType, SType, JType, CluiType, UiType}
 
-abbrev pub jtype_places : List Place
+abbrev pub jtype_places : List ImmediateBit
 jtype_places = riscv_places JType
 
-u_sound : IsSoundPart 12 32 0x800 (riscv_places UType)
-u_sound = sound_part 12 32 0x800 (riscv_places UType) refl
-
-i_sound : IsSoundField 64 12 0 (riscv_places IType)
-i_sound = sound_field 64 12 0 (riscv_places IType) refl
-
-s_sound : IsSoundField 64 12 0 (riscv_places SType)
-s_sound = sound_field 64 12 0 (riscv_places SType) refl
-
-b_sound : IsSoundField 64 13 1 (riscv_places BType)
-b_sound = sound_field 64 13 1 (riscv_places BType) refl
-
-j_sound : IsSoundField 64 21 1 jtype_places
-j_sound = sound_field 64 21 1 jtype_places refl
-
-cb_sound : IsSoundField 64 9 1 (riscv_places CbType)
-cb_sound = sound_field 64 9 1 (riscv_places CbType) refl
-
-cj_sound : IsSoundField 64 12 1 (riscv_places CjType)
-cj_sound = sound_field 64 12 1 (riscv_places CjType) refl
+u_sound : IsSoundPart 12 32 0x800 ui_high
+u_sound = sound_part 12 32 0x800 ui_high refl
 
 clui_sound : IsSoundPart 12 18 0x800 (riscv_places CluiType)
 clui_sound = sound_part 12 18 0x800 (riscv_places CluiType) refl
-
-abbrev ui_low : List Place
-ui_low = bits_to 0 11 52
 
 ui_low_sound : IsSoundPart 0 12 0 ui_low
 ui_low_sound = sound_part 0 12 0 ui_low refl
@@ -96,10 +75,10 @@ module _ (v h l : ℕ) (wide : v < 2 ^ 64) (high : h ≡ (v + 0x800) % 2 ^ 64 / 
 
 -- ---- both words of `UiType`
 
-abbrev Placed : ℕ → ℕ → ℕ → Place → Type 0
-Placed v before after p = bit_at after p.word ≡ placed_bit p.mark (bit_for p v) (bit_at before p.word)
+abbrev Placed : ℕ → ℕ → ℕ → ImmediateBit → Type 0
+Placed v before after p = bit_at after p.insn_bit ≡ placed_bit p.mark (bit_for p v) (bit_at before p.insn_bit)
 
-module _ (v before after : ℕ) (wide : v < 2 ^ 64) (laid : IsLaid (riscv_places UiType) v before after) where
+module _ (v before after : ℕ) (wide : v < 2 ^ 64) (laid : BitsWritten (riscv_places UiType) v before after) where
   placed_high : All (Placed v before after) (riscv_places UType)
   placed_high = all_left (Placed v before after) (riscv_places UType) ui_low laid.placed
 
@@ -116,77 +95,47 @@ module _ (v before after : ℕ) (wide : v < 2 ^ 64) (laid : IsLaid (riscv_places
 
 -- ---- the laws
 
-pub riscv_written : (f : RiscVInstruction) (v : ℕ) (neg : Bool) (before after : ℕ) → IsLaid (riscv_places f) v before after → Written (riscv_form f) v neg before after
-riscv_written UType v neg before after h = h
-riscv_written IType v neg before after h = h
-riscv_written SType v neg before after h = h
-riscv_written BType v neg before after h = h
-riscv_written JType v neg before after h = h
-riscv_written CbType v neg before after h = h
-riscv_written CjType v neg before after h = h
-riscv_written CluiType v neg before after h = h
-riscv_written UiType v neg before after h = h
-
 pub riscv_machine : (f : RiscVInstruction) (v : ℕ) (neg : Bool) (before after : ℕ) → v < 2 ^ 64
     → Written (riscv_form f) v neg before after → MachineReads (riscv_form f) v neg before after
-riscv_machine UType v neg before after h laid = rounded_machine w32 32 12 0x800 false (riscv_places UType) u_sound v neg before after laid
-riscv_machine IType v neg before after h laid = field_machine w32 64 12 0 twos_complement true twos_complement (riscv_places IType) i_sound v neg before after h laid
-riscv_machine SType v neg before after h laid = field_machine w32 64 12 0 twos_complement true twos_complement (riscv_places SType) s_sound v neg before after h laid
-riscv_machine BType v neg before after h laid = field_machine w32 64 13 1 twos_complement true twos_complement (riscv_places BType) b_sound v neg before after h laid
-riscv_machine JType v neg before after h laid = field_machine w32 64 21 1 twos_complement true twos_complement jtype_places j_sound v neg before after h laid
-riscv_machine CbType v neg before after h laid = field_machine w16 64 9 1 twos_complement true twos_complement (riscv_places CbType) cb_sound v neg before after h laid
-riscv_machine CjType v neg before after h laid = field_machine w16 64 12 1 twos_complement true twos_complement (riscv_places CjType) cj_sound v neg before after h laid
+riscv_machine UType v neg before after h laid = rounded_machine w32 32 12 0x800 false ui_high u_sound v neg before after laid
 riscv_machine CluiType v neg before after h laid = rounded_machine w16 18 12 0x800 true (riscv_places CluiType) clui_sound v neg before after laid
 riscv_machine UiType v neg before after h laid = λ clear. (ui_pair v before after h laid).same
+riscv_machine f v neg before after h laid = layout_machine (riscv_layout f) refl v neg before after h h laid
 
 -- what stands in the high part of a pair
-pub u_laid : (v before high : ℕ) → IsLaid (riscv_places UType) v before high → place_sum (riscv_places UType) high ≡ (v + 0x800) % 2 ^ 64 / 4096 % 1048576 * 4096
+pub u_laid : (v before high : ℕ) → BitsWritten (riscv_places UType) v before high → place_sum (riscv_places UType) high ≡ (v + 0x800) % 2 ^ 64 / 4096 % 1048576 * 4096
 u_laid v before high laid =
     place_sum_placed 12 32 0x800 (riscv_places UType) v before high (omega arith) u_sound.filled u_sound.added laid.placed (always_clear (riscv_places UType) before refl)
 
-pub clui_laid : (v before after : ℕ) → IsLaid (riscv_places CluiType) v before after → place_sum (riscv_places CluiType) after ≡ (v + 0x800) % 2 ^ 64 / 4096 % 64 * 4096
+pub clui_laid : (v before after : ℕ) → BitsWritten (riscv_places CluiType) v before after → place_sum (riscv_places CluiType) after ≡ (v + 0x800) % 2 ^ 64 / 4096 % 64 * 4096
 clui_laid v before after laid =
     place_sum_placed 12 18 0x800 (riscv_places CluiType) v before after (omega arith) clui_sound.filled clui_sound.added laid.placed (always_clear (riscv_places CluiType) before refl)
 
-completed : (v before high l : ℕ) → v < 2 ^ 64 → IsLaid (riscv_places UType) v before high → l ≡ (v - v % 1) % 4096
+completed : (v before high l : ℕ) → v < 2 ^ 64 → BitsWritten (riscv_places UType) v before high → l ≡ (v - v % 1) % 4096
     → IsPairOf v (signed 32 (place_sum (riscv_places UType) high) +ℤ signed 12 l)
 completed v before high l wide laid low =
     pair_of v (place_sum (riscv_places UType) high) l wide (u_laid v before high laid) (low ∙ omega arith)
 
 pub riscv_pair : (f : RiscVInstruction) (v : ℕ) (neg : Bool) (before after : ℕ) → v < 2 ^ 64
     → Written (riscv_form f) v neg before after → PairReads f v after
-riscv_pair UType v neg before after h laid = tt
 riscv_pair IType v neg before after h laid = λ n b high high_laid.
     completed v b high (place_sum (riscv_places IType) after) h high_laid
-    (laid_field w32 64 12 0 twos_complement true twos_complement (riscv_places IType) i_sound v before after h laid (always_clear (riscv_places IType) before refl))
+    (layout_laid (riscv_layout IType) refl v neg before after h laid (always_clear (riscv_places IType) before refl))
 riscv_pair SType v neg before after h laid = λ n b high high_laid.
     completed v b high (place_sum (riscv_places SType) after) h high_laid
-    (laid_field w32 64 12 0 twos_complement true twos_complement (riscv_places SType) s_sound v before after h laid (always_clear (riscv_places SType) before refl))
-riscv_pair BType v neg before after h laid = tt
-riscv_pair JType v neg before after h laid = tt
-riscv_pair CbType v neg before after h laid = tt
-riscv_pair CjType v neg before after h laid = tt
-riscv_pair CluiType v neg before after h laid = tt
+    (layout_laid (riscv_layout SType) refl v neg before after h laid (always_clear (riscv_places SType) before refl))
 riscv_pair UiType v neg before after h laid = ui_pair v before after h laid
+riscv_pair f v neg before after h laid = tt
 
 pub jtype_below : (x : ℕ) → place_sum jtype_places x < 2 ^ 21
 jtype_below x = place_sum_below jtype_places 21 x refl refl
 
 -- ---- a form that is known
 
-pub laid_as : (f known : RiscVInstruction) (v : ℕ) (before after : List ℕ) → f ≡ known
-    → IsLaid (riscv_places known) v (window_of (riscv_form known) before) (window_of (riscv_form known) after)
-    → IsLaid (riscv_places f) v (window_of (riscv_form f) before) (window_of (riscv_form f) after)
-laid_as f known v before after e = subst (λ g. IsLaid (riscv_places g) v (window_of (riscv_form g) before) (window_of (riscv_form g) after)) (sym e)
-
 pub number_as : (f known : RiscVInstruction) (number : ℕ) (bytes : List ℕ) → f ≡ known
     → number ≡ cast_unsigned w64 ((riscv_form known).reading (window_of (riscv_form known) bytes))
     → number ≡ cast_unsigned w64 ((riscv_form f).reading (window_of (riscv_form f) bytes))
 number_as f known number bytes e = subst (λ g. number ≡ cast_unsigned w64 ((riscv_form g).reading (window_of (riscv_form g) bytes))) (sym e)
-
-pub flag_as : (f known : RiscVInstruction) (flag : Bool) (bytes : List ℕ) → f ≡ known
-    → flag ≡ (riscv_form known).flag (window_of (riscv_form known) bytes) → flag ≡ (riscv_form f).flag (window_of (riscv_form f) bytes)
-flag_as f known flag bytes e = subst (λ g. flag ≡ (riscv_form g).flag (window_of (riscv_form g) bytes)) (sym e)
 
 -- ---- sums at 64 bits
 
@@ -253,14 +202,14 @@ clui_read bytes number e =
     less_0x800 18 (place_sum (riscv_places CluiType) x) number (place_sum_below (riscv_places CluiType) 18 x refl refl) (omega arith) e
 
 pub ui_read : (bytes : List ℕ) (high low : ℕ) → high ≡ cast_unsigned w64 (signed 32 (place_sum (riscv_places UType) (from_le_bytes w64 bytes)))
-    → low ≡ cast_unsigned w64 (signed 12 (place_sum (bits_to 0 11 52) (from_le_bytes w64 bytes)))
+    → low ≡ cast_unsigned w64 (signed 12 (place_sum ui_low (from_le_bytes w64 bytes)))
     → (high + low) % 2 ^ 64 ≡ cast_unsigned w64 ((riscv_form UiType).reading (window_of (riscv_form UiType) bytes))
 ui_read bytes high low e f =
     let x = from_le_bytes w64 bytes in
     let h = place_sum (riscv_places UType) x in
-    let l = place_sum (bits_to 0 11 52) x in
+    let l = place_sum ui_low x in
     ap (λ y. (y + low) % 2 ^ 64) e
     ∙ ap (λ y. (cast_unsigned w64 (signed 32 h) + y) % 2 ^ 64) f
     ∙ cast_add (signed 32 h) (signed 12 l)
     (signed_short 32 h (place_sum_below (riscv_places UType) 32 x refl refl) (omega arith))
-    (signed_short 12 l (place_sum_below (bits_to 0 11 52) 12 x refl refl) (omega arith))
+    (signed_short 12 l (place_sum_below ui_low 12 x refl refl) (omega arith))

@@ -1,5 +1,5 @@
 -- What the RISC-V rewrites put, and the high parts that are 0 or fit `c.lui`.
-use Rattle.std.proofs.Common.{◌≡◌, ℕ, suc, ◌+◌, ◌-◌, ◌*◌, ◌/◌, ◌%◌, ◌^◌, ◌<◌, ◌≤◌, Bool, true, eqb, refl, ap, sym, subst, ◌∙◌, arith, List, [], ◌∷◌, length, take, drop, inl, inr, ℤ, pos, negsuc, ◌+ℤ◌, ◌-ℤ◌, ◌≤ℤ◌, ◌↔◌, IsTrue}
+use Rattle.std.proofs.Common.{◌≡◌, ℕ, suc, ◌+◌, ◌-◌, ◌*◌, ◌/◌, ◌%◌, ◌^◌, ◌<◌, ◌≤◌, true, eqb, refl, ap, sym, subst, ◌∙◌, arith, List, [], ◌∷◌, length, take, drop, inl, inr, ℤ, pos, negsuc, ◌+ℤ◌, ◌-ℤ◌, ◌≤ℤ◌}
 use Rattle.std.specs.Int.{w16, w32, w64, from_le_bytes, to_le_bytes, cast_signed, int_div_euclid}
 use Rattle.std.specs.Int.RustNames.{bit_or}
 use lib.Bits.{bit_and}
@@ -10,7 +10,7 @@ use Rattle.std.proofs.lemmas.List.{take_rest}
 use Rattle.std.proofs.lemmas.Nat.{and_mask, or_shifted}
 use Rattle.linker_base.specs.Bits.{field, signed}
 use Rattle.linker_base.specs.Form.{place_sum}
-use Rattle.linker_utils.specs.RiscV.{riscv_places, hi20_to_clui, rs1_to_zero, FitsClui, HoldsHigh, IsPairRange, IsCallPair, IsPlainCall, word_at}
+use Rattle.linker_utils.specs.RiscV.{riscv_places, hi20_to_clui, rs1_to_zero, FitsClui, HoldsHigh, IsPairRange}
 use Rattle.linker_utils.specs.declared.elf.RiscVInstruction.TheVariants.{UType, CluiType}
 use Rattle.linker_utils.proofs.Jumps.{word_of_front}
 use Rattle.linker_base.proofs.Pairs.{signed_cases}
@@ -135,20 +135,3 @@ clui_holds v wide fits = λ neg before after laid.
 pub u_holds : (v : ℕ) → v < 2 ^ 64 → FitsClui v → HoldsHigh UType v
 u_holds v wide fits = λ neg before after laid.
     (pair_of v (place_sum (riscv_places UType) after) (v % 2 ^ 12) wide (u_laid v before after laid) refl).exact (in_range v wide fits)
-
--- ---- calls
-
-words_moved : (a b x y : ℕ) → a ≡ x → b ≡ y → IsCallPair a b → IsCallPair x y
-words_moved a b x y e f h = subst (λ w. IsCallPair x w) f (subst (λ w. IsCallPair w b) e h)
-
--- both words of a call, as the code takes them
-pub plain_call : (s : List ℕ) (site a b : ℕ) (r : Bool) → site + 8 ≤ length s
-    → a ≡ from_le_bytes w32 (take (length s - site) (drop site s))
-    → b ≡ from_le_bytes w32 (take (length s - (site + 4)) (drop (site + 4) s))
-    → (IsTrue r ↔ IsCallPair a b) → (IsTrue r ↔ IsPlainCall s site)
-plain_call s site a b r room e f both =
-    let first : a ≡ word_at s site = e ∙ ap (from_le_bytes w32) (take_rest s site) in
-    let second : b ≡ word_at s (site + 4) = f ∙ ap (from_le_bytes w32) (take_rest s (site + 4)) in (
-      λ t. (room, words_moved a b (word_at s site) (word_at s (site + 4)) first second (both.0 t)),
-      λ p. both.1 (words_moved (word_at s site) (word_at s (site + 4)) a b (sym first) (sym second) p.1),
-    )

@@ -1,47 +1,49 @@
 -- The rows of the relocation tables agree with the machines: one law a form, and comparisons of each row's numbers.
-use Rattle.std.proofs.Common.{◌≡◌, ℕ, ◌+◌, ◌-◌, ◌/◌, ◌%◌, ◌^◌, ◌<◌, Bool, true, false, ◌&&◌, eqb, refl, sym, ◌∙◌, ap, subst, arith, ℤ, pos, negsuc, neg_ℤ, ◌≤ℤ◌, ◌<ℤ◌, Option, Some, None, unsigned_abs, ◌++◌, int_lt, IfSome}
-use Rattle.std.specs.Int.{w16, w32, int_rem_euclid}
+use Rattle.std.proofs.Common.{◌≡◌, ℕ, ◌+◌, ◌-◌, ◌/◌, ◌%◌, ◌^◌, ◌<◌, Bool, true, false, ◌&&◌, ◌||◌, eqb, refl, sym, ◌∙◌, ap, subst, arith, ℤ, pos, negsuc, neg_ℤ, ◌≤ℤ◌, ◌<ℤ◌, Option, Some, None, unsigned_abs, int_lt, IfSome}
+use Rattle.std.specs.Int.{int_rem_euclid}
 use Rattle.std.specs.Int.Signed.{le_z}
 use Rattle.std.proofs.lemmas.Bool.{and_parts, eqb-true, le-ltb}
 use Rattle.std.proofs.lemmas.Int.{ints}
 use Rattle.std.proofs.lemmas.Nat.{shl-shr}
 use Rattle.linker_base.specs.Bits.{field}
-use Rattle.linker_base.specs.Form.{Written, bits_to, or_bits_to, place_sum, unsigned, twos_complement, exactly, modulo, replaced}
+use Rattle.linker_base.specs.Form.{Written, place_sum, unsigned, replaced, one_field}
 use Rattle.linker_base.specs.declared.bit_misc.BitRange.{BitRange}
-use Rattle.linker_base.proofs.Immediates.{sound_field, laid_field, always_clear}
+use Rattle.linker_base.proofs.Immediates.{layout_laid, high_of, always_clear}
 use Rattle.linker_utils.specs.Elf.{IsWithin}
-use Rattle.linker_utils.specs.Agrees.{bits_from, IsFieldOf, IsSameIn, InstructionAgrees, SizeAgrees, AgreesBy, RowAgrees, LoongArchRowAgrees, reads_signed}
-use Rattle.linker_utils.specs.AArch64.{movnz, imm16_places, moved_bits, moved_value, shift_of}
+use Rattle.linker_utils.specs.Agrees.{bits_from, IsFieldOf, IsSameIn, InstructionAgrees, SizeAgrees, AgreesBy, RowAgrees, LoongArchRowAgrees, reads_signed, is_of_halves, is_of_words}
+use Rattle.linker_utils.specs.AArch64.{aarch64_layout, movnz, imm16_places, moved_bits, moved_value, shift_of}
 use Rattle.linker_utils.specs.AArch64Rows.{aarch64_row}
 use Rattle.linker_utils.specs.LoongArchRows.{loongarch_row}
-use Rattle.linker_utils.specs.PowerPcRows.{ppc64_row}
-use Rattle.linker_utils.specs.RiscV.{riscv_places}
+use Rattle.linker_utils.specs.Ppc64Rows.{ppc64_row}
+use Rattle.linker_utils.specs.RiscV.{riscv_form, riscv_layout}
+use Rattle.linker_utils.specs.LoongArch.{loongarch_form, loongarch_layout, shift10_imm16}
+use Rattle.linker_utils.specs.Ppc64.{ppc64_form, ppc64_layout}
 use Rattle.linker_utils.specs.RiscVRows.{riscv_row}
 use Rattle.linker_utils.specs.declared.elf.AArch64Instruction.{AArch64Instruction}
-use Rattle.linker_utils.specs.declared.elf.AArch64Instruction.TheVariants.{Adr, Movkz, Movnz, Ldr, LdrRegister, Add, LdSt, TstBr, Bcond, JumpCall, MachOLow12}
+use Rattle.linker_utils.specs.declared.elf.AArch64Instruction.TheVariants.{Movnz, MachOLow12}
 use Rattle.linker_utils.specs.declared.elf.LoongArch64Instruction.{LoongArch64Instruction}
-use Rattle.linker_utils.specs.declared.elf.LoongArch64Instruction.TheVariants.{Shift5, Shift10, Branch26, Branch21, Call30, Call36}
+use Rattle.linker_utils.specs.declared.elf.LoongArch64Instruction.TheVariants.{Shift5, Shift10, Call30, Call36}
 use Rattle.linker_utils.specs.declared.elf.Ppc64Instruction.{Ppc64Instruction}
-use Rattle.linker_utils.specs.declared.elf.Ppc64Instruction.TheVariants.{D, Ds, Branch14, Branch24}
+use Rattle.linker_utils.specs.declared.elf.Ppc64Instruction.TheVariants.{D}
 use Rattle.linker_utils.specs.declared.elf.RelocationInstruction.{RelocationInstruction}
 use Rattle.linker_utils.specs.declared.elf.RelocationInstruction.TheVariants.{RiscV, Ppc64, LoongArch64, AArch64}
 use Rattle.linker_utils.specs.declared.elf.RelocationKindInfo.{RelocationKindInfo}
 use Rattle.linker_utils.specs.declared.elf.RelocationSize.{RelocationSize}
 use Rattle.linker_utils.specs.declared.elf.RelocationSize.TheVariants.{ByteSize, BitMasking}
 use Rattle.linker_utils.specs.declared.elf.RiscVInstruction.{RiscVInstruction}
-use Rattle.linker_utils.specs.declared.elf.RiscVInstruction.TheVariants.{UType, IType, SType, BType, JType, CbType, CjType, CluiType, UiType}
+use Rattle.linker_utils.specs.declared.elf.RiscVInstruction.TheVariants.{UType, IType, SType, CluiType, UiType}
 use Rattle.linker_utils.specs.declared.aarch64.relocations.AArch64Relocation.{AArch64Relocation}
 use Rattle.linker_utils.specs.declared.aarch64.relocations.AArch64Relocation.TheVariants.{R_AARCH64_NONE}
-use Rattle.linker_utils.specs.declared.loongarch64.LoongArch64Relocation.{LoongArch64Relocation}
-use Rattle.linker_utils.specs.declared.loongarch64.LoongArch64Relocation.TheVariants.{R_LARCH_NONE}
-use Rattle.linker_utils.specs.declared.ppc64.Ppc64Relocation.{Ppc64Relocation}
-use Rattle.linker_utils.specs.declared.ppc64.Ppc64Relocation.TheVariants.{R_PPC64_TLS}
-use Rattle.linker_utils.specs.declared.riscv64.RiscVRelocation.{RiscVRelocation}
-use Rattle.linker_utils.specs.declared.riscv64.RiscVRelocation.TheVariants.{R_RISCV_NONE}
+use Rattle.linker_utils.specs.declared.loongarch64.relocations.LoongArch64Relocation.{LoongArch64Relocation}
+use Rattle.linker_utils.specs.declared.loongarch64.relocations.LoongArch64Relocation.TheVariants.{R_LARCH_NONE}
+use Rattle.linker_utils.specs.declared.ppc64.relocations.Ppc64Relocation.{Ppc64Relocation}
+use Rattle.linker_utils.specs.declared.ppc64.relocations.Ppc64Relocation.TheVariants.{R_PPC64_TLS}
+use Rattle.linker_utils.specs.declared.riscv64.relocations.RiscVRelocation.{RiscVRelocation}
+use Rattle.linker_utils.specs.declared.riscv64.relocations.RiscVRelocation.TheVariants.{R_RISCV_NONE}
 use Rattle.linker_utils.proofs.AArch64Forms.{movnz_machine}
-use Rattle.linker_utils.proofs.Agreement.{is_agreeing, field_agrees, sum_agrees, le_yes, quotient_low, quotient_high, rem_below}
-use Rattle.linker_utils.proofs.LoongArch.{shift5_places, shift10_places, branch26_places, branch21_places, shift10_low_sum, shift10_low_field}
-use Rattle.linker_base.proofs.Rows.{row_sum}
+use Rattle.linker_utils.proofs.Agreement.{is_agreeing, layout_check, layout_agrees, sum_agrees, le_yes, quotient_low, quotient_high, rem_below}
+use Rattle.linker_utils.proofs.LoongArch.{shift5_places, shift10_low_sum, shift10_low_field}
+use Rattle.linker_base.proofs.ConsecutiveBits.{consecutive_bits_sum}
 
 -- ---- MOVN and MOVZ
 
@@ -107,115 +109,65 @@ moved_agrees s e bounds h v f before after within is_field shift laid =
 -- ---- AArch64
 
 abbrev pub aarch64_check : AArch64Instruction → ℕ → ℕ → Option (ℤ × ℤ) → ℕ → Bool
-aarch64_check Adr s e b a = is_agreeing twos_complement 21 0 s e b a
-aarch64_check Movkz s e b a = is_agreeing unsigned 16 0 s e b a
 aarch64_check Movnz s e b a = is_moved s e b
-aarch64_check Ldr s e b a = is_agreeing twos_complement 19 0 s e b a
-aarch64_check LdrRegister s e b a = is_agreeing unsigned 12 0 s e b a
-aarch64_check Add s e b a = is_agreeing unsigned 12 0 s e b a
-aarch64_check LdSt s e b a = is_agreeing unsigned 12 0 s e b a
-aarch64_check TstBr s e b a = is_agreeing twos_complement 14 0 s e b a
-aarch64_check Bcond s e b a = is_agreeing twos_complement 19 0 s e b a
-aarch64_check JumpCall s e b a = is_agreeing twos_complement 26 0 s e b a
-aarch64_check MachOLow12 s e b a = false
+aarch64_check f s e b a = layout_check (aarch64_layout f) s e b a
 
 aarch64_agrees : (f : AArch64Instruction) (bits : BitRange) (b : Option (ℤ × ℤ)) (a : ℕ) → aarch64_check f bits.start bits.end b a ≡ true → InstructionAgrees false (AArch64 f) bits b a
-aarch64_agrees Adr bits b a h v f before after within z is_field ready laid =
-    field_agrees w32 21 21 0 twos_complement false twos_complement (modulo 21) (or_bits_to 0 1 29 ++ or_bits_to 2 20 5) (sound_field 21 21 0 (or_bits_to 0 1 29 ++ or_bits_to 2 20 5) refl) bits.start bits.end b a h v f before after within z is_field ready.0 laid
-aarch64_agrees Movkz bits b a h v f before after within z is_field ready laid =
-    field_agrees w32 16 16 0 twos_complement false unsigned exactly (or_bits_to 0 15 5) (sound_field 16 16 0 (or_bits_to 0 15 5) refl) bits.start bits.end b a h v f before after within z is_field ready.0 laid
 aarch64_agrees Movnz bits b a h v f before after within z is_field ready laid = moved_agrees bits.start bits.end b h v f before after within is_field (ready.1 refl) laid
-aarch64_agrees Ldr bits b a h v f before after within z is_field ready laid =
-    field_agrees w32 19 19 0 twos_complement false twos_complement (modulo 19) (or_bits_to 0 18 5) (sound_field 19 19 0 (or_bits_to 0 18 5) refl) bits.start bits.end b a h v f before after within z is_field ready.0 laid
-aarch64_agrees LdrRegister bits b a h v f before after within z is_field ready laid =
-    field_agrees w32 12 12 0 unsigned false unsigned exactly (or_bits_to 0 11 10) (sound_field 12 12 0 (or_bits_to 0 11 10) refl) bits.start bits.end b a h v f before after within z is_field ready.0 laid
-aarch64_agrees Add bits b a h v f before after within z is_field ready laid =
-    field_agrees w32 12 12 0 unsigned false unsigned exactly (or_bits_to 0 11 10) (sound_field 12 12 0 (or_bits_to 0 11 10) refl) bits.start bits.end b a h v f before after within z is_field ready.0 laid
-aarch64_agrees LdSt bits b a h v f before after within z is_field ready laid =
-    field_agrees w32 12 12 0 twos_complement false unsigned exactly (or_bits_to 0 11 10) (sound_field 12 12 0 (or_bits_to 0 11 10) refl) bits.start bits.end b a h v f before after within z is_field ready.0 laid
-aarch64_agrees TstBr bits b a h v f before after within z is_field ready laid =
-    field_agrees w32 14 14 0 twos_complement false twos_complement (modulo 14) (or_bits_to 0 13 5) (sound_field 14 14 0 (or_bits_to 0 13 5) refl) bits.start bits.end b a h v f before after within z is_field ready.0 laid
-aarch64_agrees Bcond bits b a h v f before after within z is_field ready laid =
-    field_agrees w32 19 19 0 twos_complement false twos_complement (modulo 19) (or_bits_to 0 18 5) (sound_field 19 19 0 (or_bits_to 0 18 5) refl) bits.start bits.end b a h v f before after within z is_field ready.0 laid
-aarch64_agrees JumpCall bits b a h v f before after within z is_field ready laid =
-    field_agrees w32 26 26 0 twos_complement false twos_complement (modulo 26) (or_bits_to 0 25 0) (sound_field 26 26 0 (or_bits_to 0 25 0) refl) bits.start bits.end b a h v f before after within z is_field ready.0 laid
 aarch64_agrees MachOLow12 bits b a h v f before after within z is_field ready laid = cc
+aarch64_agrees insn bits b a h v f before after within z is_field ready laid =
+    layout_agrees (aarch64_layout insn) refl bits.start bits.end b a h v f before after within z is_field ready.0 laid
 
 -- ---- RISC-V
 
 abbrev pub riscv_check : RiscVInstruction → ℕ → ℕ → Option (ℤ × ℤ) → ℕ → Bool
-riscv_check BType s e b a = is_agreeing twos_complement 13 1 s e b a
-riscv_check JType s e b a = is_agreeing twos_complement 21 1 s e b a
-riscv_check CbType s e b a = is_agreeing twos_complement 9 1 s e b a
-riscv_check CjType s e b a = is_agreeing twos_complement 12 1 s e b a
-riscv_check f s e b a = true
+riscv_check insn s e b a = is_of_halves insn || layout_check (riscv_layout insn) s e b a
 
 riscv_agrees : (f : RiscVInstruction) (bits : BitRange) (b : Option (ℤ × ℤ)) (a : ℕ) → riscv_check f bits.start bits.end b a ≡ true → InstructionAgrees false (RiscV f) bits b a
-riscv_agrees BType bits b a h whole v f before after within z is_field ready laid =
-    field_agrees w32 64 13 1 twos_complement true twos_complement (modulo 13) (riscv_places BType) (sound_field 64 13 1 (riscv_places BType) refl) bits.start bits.end b a h v f before after within z is_field (always_clear (riscv_places BType) before refl) laid
-riscv_agrees JType bits b a h whole v f before after within z is_field ready laid =
-    field_agrees w32 64 21 1 twos_complement true twos_complement (modulo 21) (riscv_places JType) (sound_field 64 21 1 (riscv_places JType) refl) bits.start bits.end b a h v f before after within z is_field (always_clear (riscv_places JType) before refl) laid
-riscv_agrees CbType bits b a h whole v f before after within z is_field ready laid =
-    field_agrees w16 64 9 1 twos_complement true twos_complement (modulo 9) (riscv_places CbType) (sound_field 64 9 1 (riscv_places CbType) refl) bits.start bits.end b a h v f before after within z is_field (always_clear (riscv_places CbType) before refl) laid
-riscv_agrees CjType bits b a h whole v f before after within z is_field ready laid =
-    field_agrees w16 64 12 1 twos_complement true twos_complement (modulo 12) (riscv_places CjType) (sound_field 64 12 1 (riscv_places CjType) refl) bits.start bits.end b a h v f before after within z is_field (always_clear (riscv_places CjType) before refl) laid
 riscv_agrees UType bits b a h whole v f before after within z is_field ready laid = cc
 riscv_agrees IType bits b a h whole v f before after within z is_field ready laid = cc
 riscv_agrees SType bits b a h whole v f before after within z is_field ready laid = cc
 riscv_agrees CluiType bits b a h whole v f before after within z is_field ready laid = cc
 riscv_agrees UiType bits b a h whole v f before after within z is_field ready laid = cc
+riscv_agrees insn bits b a h whole v f before after within z is_field ready laid =
+    layout_agrees (riscv_layout insn) refl bits.start bits.end b a h v f before after within z is_field (always_clear ((riscv_form insn).places before) before refl) laid
 
 -- ---- PowerPC64
 
 abbrev pub ppc64_check : Ppc64Instruction → ℕ → ℕ → Option (ℤ × ℤ) → ℕ → Bool
-ppc64_check D s e b a = is_agreeing twos_complement 16 0 s e b a
-ppc64_check Ds s e b a = is_agreeing twos_complement 16 2 s e b a
-ppc64_check Branch14 s e b a = is_agreeing twos_complement 16 2 s e b a
-ppc64_check Branch24 s e b a = is_agreeing twos_complement 26 2 s e b a
+ppc64_check f s e b a = layout_check (ppc64_layout f) s e b a
 
 ppc64_agrees : (f : Ppc64Instruction) (bits : BitRange) (b : Option (ℤ × ℤ)) (a : ℕ) → ppc64_check f bits.start bits.end b a ≡ true → InstructionAgrees false (Ppc64 f) bits b a
 ppc64_agrees D bits b a h v f before after within z is_field ready laid =
-    field_agrees w32 64 16 0 unsigned false twos_complement (modulo 16) (bits_to 0 15 0) (sound_field 64 16 0 (bits_to 0 15 0) refl) bits.start bits.end b a h v f before after within z is_field (always_clear (bits_to 0 15 0) before refl) laid
-ppc64_agrees Ds bits b a h v f before after within z is_field ready laid =
-    field_agrees w32 64 16 2 unsigned false twos_complement (modulo 16) (bits_to 2 15 2) (sound_field 64 16 2 (bits_to 2 15 2) refl) bits.start bits.end b a h v f before after within z is_field (always_clear (bits_to 2 15 2) before refl) laid
-ppc64_agrees Branch14 bits b a h v f before after within z is_field ready laid =
-    field_agrees w32 64 16 2 unsigned false twos_complement (modulo 16) (bits_to 2 15 2) (sound_field 64 16 2 (bits_to 2 15 2) refl) bits.start bits.end b a h v f before after within z is_field (always_clear (bits_to 2 15 2) before refl) laid
-ppc64_agrees Branch24 bits b a h v f before after within z is_field ready laid =
-    field_agrees w32 64 26 2 unsigned false twos_complement (modulo 26) (bits_to 2 25 2) (sound_field 64 26 2 (bits_to 2 25 2) refl) bits.start bits.end b a h v f before after within z is_field (always_clear (bits_to 2 25 2) before refl) laid
+    layout_agrees (ppc64_layout D) refl bits.start bits.end b a h v f before after within z is_field (always_clear ((ppc64_form D).places before) before refl) laid
+ppc64_agrees insn bits b a h v f before after within z is_field ready laid =
+    layout_agrees (ppc64_layout insn) refl bits.start bits.end b a h v f before after within z is_field (always_clear ((ppc64_form insn).places before) before refl) laid
 
 -- ---- LoongArch
 
 abbrev pub loongarch_check : LoongArch64Instruction → Bool → ℕ → ℕ → Option (ℤ × ℤ) → ℕ → Bool
-loongarch_check Shift5 true s e b a = is_agreeing twos_complement 20 0 s e b a
-loongarch_check Shift5 false s e b a = is_agreeing unsigned 20 0 s e b a
-loongarch_check Shift10 true s e b a = is_agreeing twos_complement 16 0 s e b a
+loongarch_check Shift5 false s e b a = is_agreeing unsigned (high_of (loongarch_layout Shift5)) 0 s e b a
+loongarch_check Shift10 true s e b a = layout_check (one_field shift10_imm16) s e b a
 loongarch_check Shift10 false s e b a = is_agreeing unsigned 12 0 s e b a
-loongarch_check Branch26 is_signed s e b a = is_agreeing twos_complement 26 0 s e b a
-loongarch_check Branch21 is_signed s e b a = is_agreeing twos_complement 21 0 s e b a
-loongarch_check f is_signed s e b a = true
+loongarch_check f is_signed s e b a = is_of_words f || layout_check (loongarch_layout f) s e b a
 
 shift5_sum : (x : ℕ) → place_sum shift5_places x ≡ field x 5 25
-shift5_sum x = row_sum replaced 20 0 5 0 x refl ∙ omega arith
+shift5_sum x = consecutive_bits_sum replaced 20 0 5 0 x refl ∙ omega arith
 
 loongarch_agrees : (f : LoongArch64Instruction) (is_signed : Bool) (bits : BitRange) (b : Option (ℤ × ℤ)) (a : ℕ) → loongarch_check f is_signed bits.start bits.end b a ≡ true
     → InstructionAgrees is_signed (LoongArch64 f) bits b a
-loongarch_agrees Shift5 true bits b a h whole v f before after within z is_field ready laid =
-    field_agrees w32 20 20 0 unsigned false twos_complement (modulo 20) shift5_places (sound_field 20 20 0 shift5_places refl) bits.start bits.end b a h v f before after within z is_field (ready refl) laid
 loongarch_agrees Shift5 false bits b a h whole v f before after within z is_field ready laid =
-    sum_agrees unsigned 20 0 bits.start bits.end b a h v f (field after 5 25) within z is_field (λ small.
-    sym (shift5_sum after)
-    ∙ laid_field w32 20 20 0 unsigned false twos_complement shift5_places (sound_field 20 20 0 shift5_places refl) f before after small laid (always_clear shift5_places before refl))
+    sum_agrees unsigned (high_of (loongarch_layout Shift5)) 0 bits.start bits.end b a h v f (field after 5 25) within z is_field (λ small.
+    sym (shift5_sum after) ∙ layout_laid (loongarch_layout Shift5) refl f (int_lt v (pos 0)) before after small laid (always_clear shift5_places before refl))
 loongarch_agrees Shift10 true bits b a h whole v f before after within z is_field ready laid =
-    field_agrees w32 16 16 0 unsigned false twos_complement (modulo 16) shift10_places (sound_field 16 16 0 shift10_places refl) bits.start bits.end b a h v f before after within z is_field (ready refl) laid
+    layout_agrees (one_field shift10_imm16) refl bits.start bits.end b a h v f before after within z is_field (ready refl) laid
 loongarch_agrees Shift10 false bits b a h whole v f before after within z is_field ready laid =
     sum_agrees unsigned 12 0 bits.start bits.end b a h v f (field after 10 22) within z is_field (λ small.
     sym (shift10_low_field after) ∙ shift10_low_sum f before after small laid ∙ omega arith)
-loongarch_agrees Branch26 is_signed bits b a h whole v f before after within z is_field ready laid =
-    field_agrees w32 26 26 0 twos_complement true twos_complement (modulo 26) branch26_places (sound_field 26 26 0 branch26_places refl) bits.start bits.end b a h v f before after within z is_field (always_clear branch26_places before refl) laid
-loongarch_agrees Branch21 is_signed bits b a h whole v f before after within z is_field ready laid =
-    field_agrees w32 21 21 0 twos_complement true twos_complement (modulo 21) branch21_places (sound_field 21 21 0 branch21_places refl) bits.start bits.end b a h v f before after within z is_field (always_clear branch21_places before refl) laid
 loongarch_agrees Call30 is_signed bits b a h whole v f before after within z is_field ready laid = cc
 loongarch_agrees Call36 is_signed bits b a h whole v f before after within z is_field ready laid = cc
+loongarch_agrees insn is_signed bits b a h whole v f before after within z is_field ready laid =
+    layout_agrees (loongarch_layout insn) refl bits.start bits.end b a h v f before after within z is_field (always_clear ((loongarch_form insn).places before) before refl) laid
 
 -- ---- rows
 
@@ -229,7 +181,7 @@ abbrev pub size_check : Bool → RelocationSize → Option (ℤ × ℤ) → ℕ 
 size_check is_signed (ByteSize n) b a = true
 size_check is_signed (BitMasking bits insn) b a = instruction_check is_signed insn bits.start bits.end b a
 
--- what the laws ask of a row, if there is one
+-- what the laws require of a row, if there is one
 abbrev pub row_check : Bool → Option RelocationKindInfo → Bool
 row_check is_signed None = true
 row_check is_signed (Some row) = size_check is_signed row.size row.range.bounds row.alignment

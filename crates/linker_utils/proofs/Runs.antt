@@ -1,47 +1,48 @@
 -- Runs of bits placed in a window and taken out of it, bit by bit.
-use Rattle.std.proofs.Common.{◌≡◌, ℕ, zero, suc, ◌+◌, ◌-◌, ◌*◌, ◌/◌, ◌%◌, ◌^◌, ◌<◌, ◌≤◌, true, false, ◌&&◌, ◌||◌, ltb, leb, eqb, List, [], ◌∷◌, ◌++◌, get_or, length, take, drop, refl, sym, ◌∙◌, ap, subst, arith, ◌⊎◌, inl, inr}
-use Rattle.std.specs.Int.{bit_at, w64}
+use Rattle.std.proofs.Common.{◌≡◌, ℕ, zero, suc, ◌+◌, ◌-◌, ◌*◌, ◌/◌, ◌%◌, ◌^◌, ◌<◌, ◌≤◌, true, false, ◌&&◌, ◌||◌, ltb, leb, eqb, List, [], ◌∷◌, ◌++◌, get_or, length, take, drop, refl, sym, ◌∙◌, ap, subst, arith, ◌⊎◌, inl, inr, Bool, not, ℤ, pos, int_lt}
+use Rattle.std.specs.Int.{Width, bit_at, w64, cast_unsigned, from_le_bytes}
 use Rattle.std.specs.Int.RustNames.{bit_or}
 use lib.Bits.{bit_and}
 use Rattle.std.specs.List.{All, list_all}
-use Rattle.std.proofs.lemmas.Bool.{and_parts, or_parts, or_left, or_right, or_from, or_cases, and_from, ne_eqb, ltb-true, leb-true, cases_lt, eq-eqb, both_ways}
+use Rattle.std.proofs.lemmas.Bool.{and_parts, or_parts, or_left, or_right, or_from, or_cases, and_from, ne_eqb, ltb-true, leb-true, cases_lt, eq-eqb, both_ways, eqb-true, not-true}
 use Rattle.std.proofs.lemmas.List.Elements.{All-nil, All-append}
 use Rattle.std.proofs.lemmas.List.{take_more, flat_map_more, take-append-drop}
 use Rattle.std.proofs.lemmas.List.Concat.{flat_map-append}
 use Rattle.linker_base.proofs.Immediates.{place_sum_below}
 use Rattle.linker_base.proofs.Places.{values_apart_left, place_sum-append}
-use Rattle.linker_base.proofs.Rows.{row_all, row_sum, row_sum_cleared}
+use Rattle.linker_base.proofs.ConsecutiveBits.{consecutive_bits_all, consecutive_bits_sum, consecutive_bits_sum_cleared}
 use Rattle.std.proofs.lemmas.List.Sums.{AllPass-from_list_all}
 use Rattle.std.proofs.lemmas.Nat.{pow_pos, and_mask, one_shl, shl_whole, mod_below, shl_below, pow_below}
 use Rattle.std.proofs.lemmas.Nat.Bits.{bit_at-lt, bit_at_and, bit_at_or, bit_at_not, bit_at_ones, bit_at_ones_above, bit_at_above, same_from_bits}
-use Rattle.linker_base.specs.Form.{holds, values_below, values_apart, Mark, replaced, ored, cleared, Place, row, IsLaid, is_placed, placed_bit, bit_for, place_sum}
+use Rattle.linker_base.specs.Bits.{signed}
+use Rattle.linker_base.specs.Form.{holds_value_bit, values_below, values_apart, Mark, replaced, ored, cleared, ImmediateBit, consecutive_bits, BitsWritten, is_placed, placed_bit, bit_for, place_sum, window_of, Sign, unsigned, twos_complement, number_of, Field, Layout, one_field, own_form, form_of}
 use Rattle.linker_utils.specs.declared.elf.engine.Run.{Run}
-use Rattle.linker_utils.specs.Runs.{run_fits, runs_fit, runs_read, words_below, mark_of, run_places, spread, is_apart, are_apart}
+use Rattle.linker_utils.specs.Inner.Runs.{run_fits, runs_fit, runs_read, words_below, mark_of, run_places, spread, is_apart, are_apart, is_unsigned, reads_unsigned, reads_signed, reads_flagged}
 use Rattle.linker_base.proofs.Fields.{bit_at_mod, bit_at_run, bit_at_shl, bit_at_shl_below, bit_at_mod_above}
 
--- ---- a row of places
+-- ---- consecutive places
 
 -- the window's bits of a row are its places
-row_inside : (n k w r : ℕ) (m : Mark) (i : ℕ) → w ≤ i → i < w + n → is_placed (row n k w r m) i ≡ true
-row_inside zero k w r m i h l = absurd (omega arith)
-row_inside (suc n) k w r m i h l =
+consecutive_bits_inside : (n k w r : ℕ) (m : Mark) (i : ℕ) → w ≤ i → i < w + n → is_placed (consecutive_bits n k w r m) i ≡ true
+consecutive_bits_inside zero k w r m i h l = absurd (omega arith)
+consecutive_bits_inside (suc n) k w r m i h l =
     elim (cases_lt w i) [
-      | inl above ↦ or_right (eqb w i) (is_placed (row n (k + 1) (w + 1) r m) i) (row_inside n (k + 1) (w + 1) r m i (omega arith) (omega arith))
-      | inr at ↦ or_left (eqb w i) (is_placed (row n (k + 1) (w + 1) r m) i) (eq-eqb w i (omega arith))
+      | inl above ↦ or_right (eqb w i) (is_placed (consecutive_bits n (k + 1) (w + 1) r m) i) (consecutive_bits_inside n (k + 1) (w + 1) r m i (omega arith) (omega arith))
+      | inr at ↦ or_left (eqb w i) (is_placed (consecutive_bits n (k + 1) (w + 1) r m) i) (eq-eqb w i (omega arith))
     ]
 
--- what is laid by one run: its bits inside, the old ones outside
+-- what one run writes: its bits inside, the old ones outside
 pub row_laid : (n k w r : ℕ) (m : Mark) (v before after : ℕ)
     → ((j : ℕ) → j < n → bit_at after (w + j) ≡ placed_bit m (bit_at ((v + r) % 2 ^ 64) (k + j)) (bit_at before (w + j)))
     → ((i : ℕ) → (i < w) ⊎ (w + n ≤ i) → bit_at after i ≡ bit_at before i)
-    → IsLaid (row n k w r m) v before after
+    → BitsWritten (consecutive_bits n k w r m) v before after
 row_laid n k w r m v before after inside outside =
     record {
-      placed = row_all (λ (p : Place). bit_at after p.word ≡ placed_bit p.mark (bit_for p v) (bit_at before p.word)) n k w r m inside;
+      placed = consecutive_bits_all (λ (p : ImmediateBit). bit_at after p.insn_bit ≡ placed_bit p.mark (bit_for p v) (bit_at before p.insn_bit)) n k w r m inside;
       kept = λ i f. elim (cases_lt i w) [
         | inl below ↦ outside i (inl below)
         | inr from ↦ elim (cases_lt i (w + n)) [
-          | inl in_it ↦ absurd (both_ways (is_placed (row n k w r m) i) f (row_inside n k w r m i from in_it))
+          | inl in_it ↦ absurd (both_ways (is_placed (consecutive_bits n k w r m) i) f (consecutive_bits_inside n k w r m i from in_it))
           | inr above ↦ outside i (inr above)
         ]
       ];
@@ -98,19 +99,19 @@ module _ (n k w r v x : ℕ) (len : n < 64) (inside : w + n ≤ 64) (small : x <
   unfolding run
   run_bit j h = bit_at_run ((v + r) % 2 ^ 64) k n j h
 
-  replaced_laid : IsLaid (row n k w r replaced) v x (bit_or (bit_and x (2 ^ 64 - 1 - (2 ^ n - 1) * 2 ^ w)) (run * 2 ^ w))
+  replaced_laid : BitsWritten (consecutive_bits n k w r replaced) v x (bit_or (bit_and x (2 ^ 64 - 1 - (2 ^ n - 1) * 2 ^ w)) (run * 2 ^ w))
   replaced_laid = row_laid n k w r replaced v x (bit_or (bit_and x (2 ^ 64 - 1 - (2 ^ n - 1) * 2 ^ w)) (run * 2 ^ w))
       (λ j h. bit_at_or (bit_and x (2 ^ 64 - 1 - (2 ^ n - 1) * 2 ^ w)) (run * 2 ^ w) (w + j)
       ∙ omega (arith, cleared_inside x n w j h inside, field_inside run w j, run_bit j h))
       (λ i o. bit_at_or (bit_and x (2 ^ 64 - 1 - (2 ^ n - 1) * 2 ^ w)) (run * 2 ^ w) i
       ∙ omega (arith, cleared_outside x n w i small inside o, field_outside run n w i run_below o))
 
-  ored_laid : IsLaid (row n k w r ored) v x (bit_or x (run * 2 ^ w))
+  ored_laid : BitsWritten (consecutive_bits n k w r ored) v x (bit_or x (run * 2 ^ w))
   ored_laid = row_laid n k w r ored v x (bit_or x (run * 2 ^ w))
       (λ j h. bit_at_or x (run * 2 ^ w) (w + j) ∙ omega (arith, field_inside run w j, run_bit j h))
       (λ i o. bit_at_or x (run * 2 ^ w) i ∙ omega (arith, field_outside run n w i run_below o))
 
-  cleared_laid : IsLaid (row n k w r cleared) v x (bit_and x (2 ^ 64 - 1 - (2 ^ n - 1) * 2 ^ w))
+  cleared_laid : BitsWritten (consecutive_bits n k w r cleared) v x (bit_and x (2 ^ 64 - 1 - (2 ^ n - 1) * 2 ^ w))
   cleared_laid = row_laid n k w r cleared v x (bit_and x (2 ^ 64 - 1 - (2 ^ n - 1) * 2 ^ w))
       (λ j h. cleared_inside x n w j h inside)
       (λ i o. cleared_outside x n w i small inside o)
@@ -129,13 +130,13 @@ module _ (n k w r v x : ℕ) (len : n < 64) (inside : w + n ≤ 64) (small : x <
       ∙ ap (λ y. y * 2 ^ w % 2 ^ 64) (and_mask ((v + r) % 2 ^ 64 / 2 ^ k) n)
       ∙ shl_whole ((v + r) % 2 ^ 64 / 2 ^ k % 2 ^ n) n w 64 (mod_below ((v + r) % 2 ^ 64 / 2 ^ k) (2 ^ n) (pow_pos n)) (omega arith)
 
-  pub put_replaced : IsLaid (row n k w r replaced) v x (bit_or (bit_and x (2 ^ 64 - 1 - (1 * 2 ^ n % 2 ^ 64 - 1) * 2 ^ w % 2 ^ 64)) (bit_and ((v + r) % 2 ^ 64 / 2 ^ k) (1 * 2 ^ n % 2 ^ 64 - 1) * 2 ^ w % 2 ^ 64))
+  pub put_replaced : BitsWritten (consecutive_bits n k w r replaced) v x (bit_or (bit_and x (2 ^ 64 - 1 - (1 * 2 ^ n % 2 ^ 64 - 1) * 2 ^ w % 2 ^ 64)) (bit_and ((v + r) % 2 ^ 64 / 2 ^ k) (1 * 2 ^ n % 2 ^ 64 - 1) * 2 ^ w % 2 ^ 64))
   put_replaced = rw (mask_is, run_is) replaced_laid
 
-  pub put_ored : IsLaid (row n k w r ored) v x (bit_or x (bit_and ((v + r) % 2 ^ 64 / 2 ^ k) (1 * 2 ^ n % 2 ^ 64 - 1) * 2 ^ w % 2 ^ 64))
+  pub put_ored : BitsWritten (consecutive_bits n k w r ored) v x (bit_or x (bit_and ((v + r) % 2 ^ 64 / 2 ^ k) (1 * 2 ^ n % 2 ^ 64 - 1) * 2 ^ w % 2 ^ 64))
   put_ored = rw run_is ored_laid
 
-  pub put_cleared : IsLaid (row n k w r cleared) v x (bit_and x (2 ^ 64 - 1 - (1 * 2 ^ n % 2 ^ 64 - 1) * 2 ^ w % 2 ^ 64))
+  pub put_cleared : BitsWritten (consecutive_bits n k w r cleared) v x (bit_and x (2 ^ 64 - 1 - (1 * 2 ^ n % 2 ^ 64 - 1) * 2 ^ w % 2 ^ 64))
   put_cleared = rw mask_is cleared_laid
 
 -- ---- what fits
@@ -144,47 +145,47 @@ pub record RunFits (r : Run) : Type 0 where
   pub some : 0 < r.len
   pub short : r.len < 64
   pub value : r.value + r.len ≤ 64
-  pub word : r.word + r.len ≤ 64
+  pub insn_bit : r.insn_bit + r.len ≤ 64
 
 pub run_fits_parts : (r : Run) → run_fits r ≡ true → RunFits r
 run_fits_parts r h =
-    let a = and_parts (ltb 0 r.len) (ltb r.len 64 && (leb (r.value + r.len) 64 && leb (r.word + r.len) 64)) h in
-    let b = and_parts (ltb r.len 64) (leb (r.value + r.len) 64 && leb (r.word + r.len) 64) a.1 in
-    let c = and_parts (leb (r.value + r.len) 64) (leb (r.word + r.len) 64) b.1 in
-    record { some = ltb-true 0 r.len a.0; short = ltb-true r.len 64 b.0; value = leb-true (r.value + r.len) 64 c.0; word = leb-true (r.word + r.len) 64 c.1 }
+    let a = and_parts (ltb 0 r.len) (ltb r.len 64 && (leb (r.value + r.len) 64 && leb (r.insn_bit + r.len) 64)) h in
+    let b = and_parts (ltb r.len 64) (leb (r.value + r.len) 64 && leb (r.insn_bit + r.len) 64) a.1 in
+    let c = and_parts (leb (r.value + r.len) 64) (leb (r.insn_bit + r.len) 64) b.1 in
+    record { some = ltb-true 0 r.len a.0; short = ltb-true r.len 64 b.0; value = leb-true (r.value + r.len) 64 c.0; insn_bit = leb-true (r.insn_bit + r.len) 64 c.1 }
 
-pub put_of : (r : Run) (m : Mark) (v x y : ℕ) → mark_of r.mark ≡ m → IsLaid (row r.len r.value r.word r.added m) v x y → IsLaid (run_places r) v x y
-put_of r m v x y e h = subst (λ t. IsLaid (row r.len r.value r.word r.added t) v x y) (sym e) h
+pub put_of : (r : Run) (m : Mark) (v x y : ℕ) → mark_of r.mark ≡ m → BitsWritten (consecutive_bits r.len r.value r.insn_bit r.added m) v x y → BitsWritten (run_places r) v x y
+put_of r m v x y e h = subst (λ t. BitsWritten (consecutive_bits r.len r.value r.insn_bit r.added t) v x y) (sym e) h
 
 -- ---- all runs, one after the other
 
-is_placed-append : (ps qs : List Place) (w : ℕ) → is_placed (ps ++ qs) w ≡ false → (is_placed ps w || is_placed qs w) ≡ false
+is_placed-append : (ps qs : List ImmediateBit) (w : ℕ) → is_placed (ps ++ qs) w ≡ false → (is_placed ps w || is_placed qs w) ≡ false
 is_placed-append [] qs w h = h
 is_placed-append (p ∷ ps) qs w h =
-    let parts = or_parts (eqb p.word w) (is_placed (ps ++ qs) w) h in
+    let parts = or_parts (eqb p.insn_bit w) (is_placed (ps ++ qs) w) h in
     rw parts.0 (is_placed-append ps qs w parts.1)
 
 -- ps and then qs, which have no bit of the window in common
-pub laid_append : (ps qs : List Place) (v x y z : ℕ)
-    → All (λ (p : Place). is_placed qs p.word ≡ false) ps
-    → All (λ (q : Place). is_placed ps q.word ≡ false) qs
-    → IsLaid ps v x y → IsLaid qs v y z → IsLaid (ps ++ qs) v x z
+pub laid_append : (ps qs : List ImmediateBit) (v x y z : ℕ)
+    → All (λ (p : ImmediateBit). is_placed qs p.insn_bit ≡ false) ps
+    → All (λ (q : ImmediateBit). is_placed ps q.insn_bit ≡ false) qs
+    → BitsWritten ps v x y → BitsWritten qs v y z → BitsWritten (ps ++ qs) v x z
 laid_append ps qs v x y z free_of free_in first second =
     record {
-      placed = All-append (λ (p : Place). bit_at z p.word ≡ placed_bit p.mark (bit_for p v) (bit_at x p.word)) ps qs
-          (λ k d l. second.kept (get_or ps k d).word (free_of k d l) ∙ first.placed k d l)
-          (λ k d l. second.placed k d l ∙ ap (placed_bit (get_or qs k d).mark (bit_for (get_or qs k d) v)) (first.kept (get_or qs k d).word (free_in k d l)));
+      placed = All-append (λ (p : ImmediateBit). bit_at z p.insn_bit ≡ placed_bit p.mark (bit_for p v) (bit_at x p.insn_bit)) ps qs
+          (λ k d l. second.kept (get_or ps k d).insn_bit (free_of k d l) ∙ first.placed k d l)
+          (λ k d l. second.placed k d l ∙ ap (placed_bit (get_or qs k d).mark (bit_for (get_or qs k d) v)) (first.kept (get_or qs k d).insn_bit (free_in k d l)));
       kept = λ w f.
           let parts = or_parts (is_placed ps w) (is_placed qs w) (is_placed-append ps qs w f) in
           second.kept w parts.1 ∙ first.kept w parts.0;
     }
 
-row_outside : (n k w r : ℕ) (m : Mark) (i : ℕ) → (i < w) ⊎ (w + n ≤ i) → is_placed (row n k w r m) i ≡ false
-row_outside zero k w r m i o = refl
-row_outside (suc n) k w r m i (inl below) =
-    or_from (eqb w i) (is_placed (row n (k + 1) (w + 1) r m) i) (ne_eqb w i (λ e. absurd (omega arith))) (row_outside n (k + 1) (w + 1) r m i (inl (omega arith)))
-row_outside (suc n) k w r m i (inr above) =
-    or_from (eqb w i) (is_placed (row n (k + 1) (w + 1) r m) i) (ne_eqb w i (λ e. absurd (omega arith))) (row_outside n (k + 1) (w + 1) r m i (inr (omega arith)))
+consecutive_bits_outside : (n k w r : ℕ) (m : Mark) (i : ℕ) → (i < w) ⊎ (w + n ≤ i) → is_placed (consecutive_bits n k w r m) i ≡ false
+consecutive_bits_outside zero k w r m i o = refl
+consecutive_bits_outside (suc n) k w r m i (inl below) =
+    or_from (eqb w i) (is_placed (consecutive_bits n (k + 1) (w + 1) r m) i) (ne_eqb w i (λ e. absurd (omega arith))) (consecutive_bits_outside n (k + 1) (w + 1) r m i (inl (omega arith)))
+consecutive_bits_outside (suc n) k w r m i (inr above) =
+    or_from (eqb w i) (is_placed (consecutive_bits n (k + 1) (w + 1) r m) i) (ne_eqb w i (λ e. absurd (omega arith))) (consecutive_bits_outside n (k + 1) (w + 1) r m i (inr (omega arith)))
 
 pub apart_cases : (a n b m : ℕ) → is_apart a n b m ≡ true → (a + n ≤ b) ⊎ (b + m ≤ a)
 apart_cases a n b m h =
@@ -194,40 +195,40 @@ apart_cases a n b m h =
     ]
 
 -- one place of the run b, seen from the run a
-word_outside : (a b : Run) (j : ℕ) → are_apart a b ≡ true → j < b.len → is_placed (run_places a) (b.word + j) ≡ false
+word_outside : (a b : Run) (j : ℕ) → are_apart a b ≡ true → j < b.len → is_placed (run_places a) (b.insn_bit + j) ≡ false
 word_outside a b j h l =
-    elim (apart_cases a.word a.len b.word b.len h) [
-      | inl before ↦ row_outside a.len a.value a.word a.added (mark_of a.mark) (b.word + j) (inr (omega arith))
-      | inr after ↦ row_outside a.len a.value a.word a.added (mark_of a.mark) (b.word + j) (inl (omega arith))
+    elim (apart_cases a.insn_bit a.len b.insn_bit b.len h) [
+      | inl before ↦ consecutive_bits_outside a.len a.value a.insn_bit a.added (mark_of a.mark) (b.insn_bit + j) (inr (omega arith))
+      | inr after ↦ consecutive_bits_outside a.len a.value a.insn_bit a.added (mark_of a.mark) (b.insn_bit + j) (inl (omega arith))
     ]
 
-word_outside_back : (a b : Run) (j : ℕ) → are_apart a b ≡ true → j < a.len → is_placed (run_places b) (a.word + j) ≡ false
+word_outside_back : (a b : Run) (j : ℕ) → are_apart a b ≡ true → j < a.len → is_placed (run_places b) (a.insn_bit + j) ≡ false
 word_outside_back a b j h l =
-    elim (apart_cases a.word a.len b.word b.len h) [
-      | inl before ↦ row_outside b.len b.value b.word b.added (mark_of b.mark) (a.word + j) (inl (omega arith))
-      | inr after ↦ row_outside b.len b.value b.word b.added (mark_of b.mark) (a.word + j) (inr (omega arith))
+    elim (apart_cases a.insn_bit a.len b.insn_bit b.len h) [
+      | inl before ↦ consecutive_bits_outside b.len b.value b.insn_bit b.added (mark_of b.mark) (a.insn_bit + j) (inl (omega arith))
+      | inr after ↦ consecutive_bits_outside b.len b.value b.insn_bit b.added (mark_of b.mark) (a.insn_bit + j) (inr (omega arith))
     ]
 
 -- no place of the runs is one of the run r
-spread_free_of : (rs : List Run) (r : Run) → list_all (λ (a : Run). are_apart a r) rs ≡ true → All (λ (p : Place). is_placed (run_places r) p.word ≡ false) (spread rs)
-spread_free_of [] r h = All-nil (λ (p : Place). is_placed (run_places r) p.word ≡ false)
+spread_free_of : (rs : List Run) (r : Run) → list_all (λ (a : Run). are_apart a r) rs ≡ true → All (λ (p : ImmediateBit). is_placed (run_places r) p.insn_bit ≡ false) (spread rs)
+spread_free_of [] r h = All-nil (λ (p : ImmediateBit). is_placed (run_places r) p.insn_bit ≡ false)
 spread_free_of (a ∷ rs) r h =
     let parts = and_parts (are_apart a r) (list_all (λ (b : Run). are_apart b r) rs) h in
-    All-append (λ (p : Place). is_placed (run_places r) p.word ≡ false) (run_places a) (spread rs)
-    (row_all (λ (p : Place). is_placed (run_places r) p.word ≡ false) a.len a.value a.word a.added (mark_of a.mark) (λ j l. word_outside_back a r j parts.0 l))
+    All-append (λ (p : ImmediateBit). is_placed (run_places r) p.insn_bit ≡ false) (run_places a) (spread rs)
+    (consecutive_bits_all (λ (p : ImmediateBit). is_placed (run_places r) p.insn_bit ≡ false) a.len a.value a.insn_bit a.added (mark_of a.mark) (λ j l. word_outside_back a r j parts.0 l))
     (spread_free_of rs r parts.1)
 
-is_placed-append_false : (ps qs : List Place) (w : ℕ) → is_placed ps w ≡ false → is_placed qs w ≡ false → is_placed (ps ++ qs) w ≡ false
+is_placed-append_false : (ps qs : List ImmediateBit) (w : ℕ) → is_placed ps w ≡ false → is_placed qs w ≡ false → is_placed (ps ++ qs) w ≡ false
 is_placed-append_false [] qs w h g = g
 is_placed-append_false (p ∷ ps) qs w h g =
-    let parts = or_parts (eqb p.word w) (is_placed ps w) h in
-    or_from (eqb p.word w) (is_placed (ps ++ qs) w) parts.0 (is_placed-append_false ps qs w parts.1 g)
+    let parts = or_parts (eqb p.insn_bit w) (is_placed ps w) h in
+    or_from (eqb p.insn_bit w) (is_placed (ps ++ qs) w) parts.0 (is_placed-append_false ps qs w parts.1 g)
 
-word_free : (rs : List Run) (r : Run) (j : ℕ) → list_all (λ (a : Run). are_apart a r) rs ≡ true → j < r.len → is_placed (spread rs) (r.word + j) ≡ false
+word_free : (rs : List Run) (r : Run) (j : ℕ) → list_all (λ (a : Run). are_apart a r) rs ≡ true → j < r.len → is_placed (spread rs) (r.insn_bit + j) ≡ false
 word_free [] r j h l = refl
 word_free (a ∷ rs) r j h l =
     let parts = and_parts (are_apart a r) (list_all (λ (b : Run). are_apart b r) rs) h in
-    is_placed-append_false (run_places a) (spread rs) (r.word + j) (word_outside a r j parts.0 l) (word_free rs r j parts.1 l)
+    is_placed-append_false (run_places a) (spread rs) (r.insn_bit + j) (word_outside a r j parts.0 l) (word_free rs r j parts.1 l)
 
 -- the runs before the i-th, which is apart from each
 pub apart_before : (rs : List Run) (i : ℕ) (d : Run) → runs_fit rs ≡ true → i < length rs → list_all (λ (a : Run). are_apart a (get_or rs i d)) (take i rs) ≡ true
@@ -249,32 +250,32 @@ fits_at (a ∷ rs) (suc i) d h l =
 spread_more : (rs : List Run) (i : ℕ) (d : Run) → i < length rs → spread (take (i + 1) rs) ≡ spread (take i rs) ++ run_places (get_or rs i d)
 spread_more rs i d l = ap spread (take_more rs i d l) ∙ sym (flat_map_more run_places [] (take i rs) (get_or rs i d))
 
--- one more run laid
+-- one more run written
 pub laid_more : (rs : List Run) (i : ℕ) (d : Run) (v x y z : ℕ) → runs_fit rs ≡ true → i < length rs
-    → IsLaid (spread (take i rs)) v x y → IsLaid (run_places (get_or rs i d)) v y z → IsLaid (spread (take (i + 1) rs)) v x z
+    → BitsWritten (spread (take i rs)) v x y → BitsWritten (run_places (get_or rs i d)) v y z → BitsWritten (spread (take (i + 1) rs)) v x z
 laid_more rs i d v x y z h l first second =
     let r = get_or rs i d in
     let apart = apart_before rs i d h l in
-    let both : IsLaid (spread (take i rs) ++ run_places r) v x z =
+    let both : BitsWritten (spread (take i rs) ++ run_places r) v x z =
     laid_append (spread (take i rs)) (run_places r) v x y z
     (spread_free_of (take i rs) r apart)
-    (row_all (λ (p : Place). is_placed (spread (take i rs)) p.word ≡ false) r.len r.value r.word r.added (mark_of r.mark) (λ j b. word_free (take i rs) r j apart b))
+    (consecutive_bits_all (λ (p : ImmediateBit). is_placed (spread (take i rs)) p.insn_bit ≡ false) r.len r.value r.insn_bit r.added (mark_of r.mark) (λ j b. word_free (take i rs) r j apart b))
     first second in
-    subst (λ ps. IsLaid ps v x z) (sym (spread_more rs i d l)) both
+    subst (λ ps. BitsWritten ps v x z) (sym (spread_more rs i d l)) both
 
 -- ---- taken out
 
 pub taken_none : (r : Run) (x : ℕ) → mark_of r.mark ≡ cleared → place_sum (run_places r) x ≡ 0
-taken_none r x e = ap (λ m. place_sum (row r.len r.value r.word r.added m) x) e ∙ row_sum_cleared r.len r.value r.word r.added x
+taken_none r x e = ap (λ m. place_sum (consecutive_bits r.len r.value r.insn_bit r.added m) x) e ∙ consecutive_bits_sum_cleared r.len r.value r.insn_bit r.added x
 
 -- as the code has it
-pub taken_held : (r : Run) (x : ℕ) → RunFits r → holds (mark_of r.mark) ≡ true
-    → bit_and (x / 2 ^ r.word) (1 * 2 ^ r.len % 2 ^ 64 - 1) * 2 ^ r.value % 2 ^ 64 ≡ place_sum (run_places r) x
+pub taken_held : (r : Run) (x : ℕ) → RunFits r → holds_value_bit (mark_of r.mark) ≡ true
+    → bit_and (x / 2 ^ r.insn_bit) (1 * 2 ^ r.len % 2 ^ 64 - 1) * 2 ^ r.value % 2 ^ 64 ≡ place_sum (run_places r) x
 taken_held r x fit h =
-    ap (λ y. bit_and (x / 2 ^ r.word) (y - 1) * 2 ^ r.value % 2 ^ 64) (one_shl r.len 64 fit.short)
-    ∙ ap (λ y. y * 2 ^ r.value % 2 ^ 64) (and_mask (x / 2 ^ r.word) r.len)
-    ∙ shl_whole (x / 2 ^ r.word % 2 ^ r.len) r.len r.value 64 (mod_below (x / 2 ^ r.word) (2 ^ r.len) (pow_pos r.len)) (let f = fit.value in omega arith)
-    ∙ sym (row_sum (mark_of r.mark) r.len r.value r.word r.added x h)
+    ap (λ y. bit_and (x / 2 ^ r.insn_bit) (y - 1) * 2 ^ r.value % 2 ^ 64) (one_shl r.len 64 fit.short)
+    ∙ ap (λ y. y * 2 ^ r.value % 2 ^ 64) (and_mask (x / 2 ^ r.insn_bit) r.len)
+    ∙ shl_whole (x / 2 ^ r.insn_bit % 2 ^ r.len) r.len r.value 64 (mod_below (x / 2 ^ r.insn_bit) (2 ^ r.len) (pow_pos r.len)) (let f = fit.value in omega arith)
+    ∙ sym (consecutive_bits_sum (mark_of r.mark) r.len r.value r.insn_bit r.added x h)
 
 spread_split : (rs : List Run) (i : ℕ) → spread (take i rs) ++ spread (drop i rs) ≡ spread rs
 spread_split rs i = sym (flat_map-append run_places (take i rs) (drop i rs)) ∙ ap spread (take-append-drop i rs)
@@ -298,14 +299,14 @@ taken_nothing x = refl
 
 -- ---- the window keeps its length
 
-pub not_placed_above : (ps : List Place) (n i : ℕ) → words_below n ps ≡ true → n ≤ i → is_placed ps i ≡ false
+pub not_placed_above : (ps : List ImmediateBit) (n i : ℕ) → words_below n ps ≡ true → n ≤ i → is_placed ps i ≡ false
 not_placed_above [] n i h l = refl
 not_placed_above (p ∷ ps) n i h l =
-    let parts = and_parts (ltb p.word n) (words_below n ps) h in
-    let below = ltb-true p.word n parts.0 in
-    or_from (eqb p.word i) (is_placed ps i) (ne_eqb p.word i (λ e. absurd (omega arith))) (not_placed_above ps n i parts.1 l)
+    let parts = and_parts (ltb p.insn_bit n) (words_below n ps) h in
+    let below = ltb-true p.insn_bit n parts.0 in
+    or_from (eqb p.insn_bit i) (is_placed ps i) (ne_eqb p.insn_bit i (λ e. absurd (omega arith))) (not_placed_above ps n i parts.1 l)
 
-pub laid_below : (ps : List Place) (n v x y : ℕ) → words_below n ps ≡ true → IsLaid ps v x y → x < 2 ^ n → y < 2 ^ n
+pub laid_below : (ps : List ImmediateBit) (n v x y : ℕ) → words_below n ps ≡ true → BitsWritten ps v x y → x < 2 ^ n → y < 2 ^ n
 laid_below ps n v x y h laid small =
     let same : y ≡ y % 2 ^ n =
     same_from_bits y (y % 2 ^ n) (λ i. elim (cases_lt i n) [
@@ -318,3 +319,74 @@ laid_below ps n v x y h laid small =
 pub read_below : (rs : List Run) (n x number : ℕ) → runs_read rs ≡ true → values_below n (spread rs) ≡ true → number ≡ place_sum (spread rs) x → number < 2 ^ n
 read_below rs n x number h b e =
     subst (λ y. y < 2 ^ n) (sym e) (place_sum_below (spread rs) n x (and_parts (list_all run_fits rs) (values_apart (spread rs)) h).1 b)
+
+-- ---- what `read_value` returns of a form of one field, from the number in its runs
+
+number_unsigned : (s : Sign) (flags : Bool) (n f : ℕ) → (is_unsigned s && not flags) ≡ true → number_of s n f ≡ pos f
+number_unsigned unsigned flags n f h = refl
+number_unsigned twos_complement flags n f h = cc
+
+number_signed : (s : Sign) (flag : Bool) (n m f : ℕ) → (not (is_unsigned s) && (flag && eqb n m)) ≡ true → number_of s n f ≡ signed m f
+number_signed unsigned flag n m f h = cc
+number_signed twos_complement flag n m f h = ap (λ k. signed k f) (eqb-true n m (and_parts flag (eqb n m) h).1)
+
+flag_of : (a flags b : Bool) → (a && (flags && b)) ≡ true → flags ≡ true
+flag_of a flags b h = (and_parts flags b (and_parts a (flags && b) h).1).0
+
+none_of : (a flags : Bool) → (a && not flags) ≡ true → flags ≡ false
+none_of a flags h = not-true flags (and_parts a (not flags) h).1
+
+no_flag_of : (a flags b : Bool) → (a && (not flags && b)) ≡ true → flags ≡ false
+no_flag_of a flags b h = not-true flags (flag_of a (not flags) b h)
+
+below_zero : (flags : Bool) (z : ℤ) → flags ≡ false → false ≡ (flags && int_lt z (pos 0))
+below_zero true z h = cc
+below_zero false z h = refl
+
+module _ (w : Width) (rs : List Run) (bytes : List ℕ) where
+  here : ℕ
+  here = place_sum (spread rs) (from_le_bytes w bytes)
+
+  here_is : (d : Field) → d.window ≡ w → d.places ≡ spread rs → here ≡ place_sum d.places (from_le_bytes d.window bytes)
+  unfolding here
+  here_is d a b = ap (λ ps. place_sum ps (from_le_bytes w bytes)) (sym b) ∙ ap (λ v. place_sum d.places (from_le_bytes v bytes)) (sym a)
+
+  pub read_unsigned : (l : Layout) (number : ℕ) → (form_of l).window ≡ w → (form_of l).places 0 ≡ spread rs → reads_unsigned l ≡ true
+      → number ≡ place_sum (spread rs) (from_le_bytes w bytes) → number ≡ cast_unsigned w64 ((form_of l).reading (window_of (form_of l) bytes))
+  unfolding here
+  read_unsigned (one_field d) number a b h e =
+      e ∙ here_is d a b ∙ ap (cast_unsigned w64) (sym (number_unsigned d.read d.flags d.bits (place_sum d.places (from_le_bytes d.window bytes)) h))
+  read_unsigned (own_form form) number a b h e = cc
+
+  signed_here : (d : Field) (flags : Bool) (n : ℕ) → d.window ≡ w → d.places ≡ spread rs → (not (is_unsigned d.read) && (flags && eqb d.bits n)) ≡ true
+      → signed n here ≡ number_of d.read d.bits (place_sum d.places (from_le_bytes d.window bytes))
+  signed_here d flags n a b h =
+      ap (signed n) (here_is d a b) ∙ sym (number_signed d.read flags d.bits n (place_sum d.places (from_le_bytes d.window bytes)) h)
+
+  pub read_in_two : (l : Layout) (n number : ℕ) → (form_of l).window ≡ w → (form_of l).places 0 ≡ spread rs → (reads_signed n l || reads_flagged n l) ≡ true
+      → number ≡ cast_unsigned w64 (signed n (place_sum (spread rs) (from_le_bytes w bytes))) → number ≡ cast_unsigned w64 ((form_of l).reading (window_of (form_of l) bytes))
+  unfolding here
+  read_in_two (one_field d) n number a b h e =
+      e ∙ ap (cast_unsigned w64) (elim (or_cases (reads_signed n (one_field d)) (reads_flagged n (one_field d)) h) [
+        | inl s ↦ signed_here d (not d.flags) n a b s
+        | inr f ↦ signed_here d d.flags n a b f
+      ])
+  read_in_two (own_form form) n number a b h e = cc
+
+  pub flag_unsigned : (l : Layout) → reads_unsigned l ≡ true → false ≡ (form_of l).flag (window_of (form_of l) bytes)
+  flag_unsigned (one_field d) h =
+      below_zero d.flags (number_of d.read d.bits (place_sum d.places (from_le_bytes d.window bytes))) (none_of (is_unsigned d.read) d.flags h)
+  flag_unsigned (own_form form) h = cc
+
+  pub flag_signed : (l : Layout) (n : ℕ) → reads_signed n l ≡ true → false ≡ (form_of l).flag (window_of (form_of l) bytes)
+  flag_signed (one_field d) n h =
+      below_zero d.flags (number_of d.read d.bits (place_sum d.places (from_le_bytes d.window bytes))) (no_flag_of (not (is_unsigned d.read)) d.flags (eqb d.bits n) h)
+  flag_signed (own_form form) n h = cc
+
+  pub flag_flagged : (l : Layout) (n : ℕ) (flag : Bool) → (form_of l).window ≡ w → (form_of l).places 0 ≡ spread rs → reads_flagged n l ≡ true
+      → flag ≡ int_lt (signed n (place_sum (spread rs) (from_le_bytes w bytes))) (pos 0) → flag ≡ (form_of l).flag (window_of (form_of l) bytes)
+  unfolding here
+  flag_flagged (one_field d) n flag a b h e =
+      e ∙ ap (λ z. int_lt z (pos 0)) (signed_here d d.flags n a b h)
+      ∙ ap (λ t. t && int_lt (number_of d.read d.bits (place_sum d.places (from_le_bytes d.window bytes))) (pos 0)) (sym (flag_of (not (is_unsigned d.read)) d.flags (eqb d.bits n) h))
+  flag_flagged (own_form form) n flag a b h e = cc

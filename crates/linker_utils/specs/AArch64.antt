@@ -3,7 +3,7 @@
 use Rattle.std.specs.Prelude.{ℕ, ◌+◌, ◌-◌, ◌*◌, ◌/◌, ◌%◌, ◌^◌, Bool, true, false, not, ◌&&◌, ◌||◌, ◌==◌, if◌then◌else◌, List, ◌++◌, drop, Option, None, Some, ℤ, pos, negsuc, nat_lt, bit_and}
 use Rattle.std.specs.Int.{w32, w64, bit_at, from_le_bytes, to_le_bytes}
 use Rattle.linker_base.specs.Bits.{field}
-use Rattle.linker_base.specs.Form.{Form, Place, bits_to, or_bits_to, place_sum, field_form, unsigned, twos_complement, exactly, modulo}
+use Rattle.linker_base.specs.Form.{Form, ImmediateBit, bits_to, or_bits_to, place_sum, Layout, one_field, own_form, form_of, Sign, unsigned, twos_complement, exactly, modulo}
 use Rattle.linker_base.specs.Rewrite.{Rewrite, replaces}
 use Rattle.linker_base.specs.declared.relaxation.RelocationModifier.{RelocationModifier}
 use Rattle.linker_base.specs.declared.relaxation.RelocationModifier.TheVariants.{Normal}
@@ -31,7 +31,7 @@ opcode_of word = word / 2 ^ 23
 abbrev pub shift_of : ℕ → ℕ
 shift_of word = 16 * field word 21 23
 
-abbrev pub imm16_places : List Place
+abbrev pub imm16_places : List ImmediateBit
 imm16_places = bits_to 0 15 5
 
 -- the 16 bits, for a negative value complemented
@@ -74,7 +74,7 @@ is_of_16_bytes word = field word 30 32 == 0 && (bit_at word 26 == 1 && bit_at wo
 abbrev pub access_scale : ℕ → ℕ
 access_scale word = if has_scaled_offset word then (if is_of_16_bytes word then 4 else field word 30 32) else 0
 
-abbrev pub low12_places : ℕ → List Place
+abbrev pub low12_places : ℕ → List ImmediateBit
 low12_places scale = bits_to scale (scale + 11) 10
 
 abbrev pub macho_low12 : Form
@@ -94,18 +94,43 @@ macho_low12 =
       claim = exactly;
     }
 
+-- ---- immediates that are ORed to the old word
+
+-- n bits, which the machine reads in two's complement
+abbrev pub signed_immediate : ℕ → List ImmediateBit → Layout
+signed_immediate n ps =
+    one_field (record {
+      window = w32;
+      width = n;
+      bits = n;
+      low = 0;
+      read = twos_complement;
+      flags = false;
+      machine = twos_complement;
+      claim = modulo n;
+      places = ps;
+    })
+
+-- n bits, which the machine reads without a sign; `read_value` reads them by one
+abbrev pub unsigned_immediate : Sign → ℕ → List ImmediateBit → Layout
+unsigned_immediate read n ps =
+    one_field (record { window = w32; width = n; bits = n; low = 0; read = read; flags = false; machine = unsigned; claim = exactly; places = ps })
+
+abbrev pub aarch64_layout : AArch64Instruction → Layout
+aarch64_layout Adr = signed_immediate 21 (or_bits_to 0 1 29 ++ or_bits_to 2 20 5)
+aarch64_layout Movkz = unsigned_immediate twos_complement 16 (or_bits_to 0 15 5)
+aarch64_layout Movnz = own_form movnz
+aarch64_layout Ldr = signed_immediate 19 (or_bits_to 0 18 5)
+aarch64_layout LdrRegister = unsigned_immediate unsigned 12 (or_bits_to 0 11 10)
+aarch64_layout Add = unsigned_immediate unsigned 12 (or_bits_to 0 11 10)
+aarch64_layout LdSt = unsigned_immediate twos_complement 12 (or_bits_to 0 11 10)
+aarch64_layout TstBr = signed_immediate 14 (or_bits_to 0 13 5)
+aarch64_layout Bcond = signed_immediate 19 (or_bits_to 0 18 5)
+aarch64_layout JumpCall = signed_immediate 26 (or_bits_to 0 25 0)
+aarch64_layout MachOLow12 = own_form macho_low12
+
 abbrev pub aarch64_form : AArch64Instruction → Form
-aarch64_form Adr = field_form w32 21 21 0 twos_complement false twos_complement (modulo 21) (or_bits_to 0 1 29 ++ or_bits_to 2 20 5)
-aarch64_form Movkz = field_form w32 16 16 0 twos_complement false unsigned exactly (or_bits_to 0 15 5)
-aarch64_form Movnz = movnz
-aarch64_form Ldr = field_form w32 19 19 0 twos_complement false twos_complement (modulo 19) (or_bits_to 0 18 5)
-aarch64_form LdrRegister = field_form w32 12 12 0 unsigned false unsigned exactly (or_bits_to 0 11 10)
-aarch64_form Add = field_form w32 12 12 0 unsigned false unsigned exactly (or_bits_to 0 11 10)
-aarch64_form LdSt = field_form w32 12 12 0 twos_complement false unsigned exactly (or_bits_to 0 11 10)
-aarch64_form TstBr = field_form w32 14 14 0 twos_complement false twos_complement (modulo 14) (or_bits_to 0 13 5)
-aarch64_form Bcond = field_form w32 19 19 0 twos_complement false twos_complement (modulo 19) (or_bits_to 0 18 5)
-aarch64_form JumpCall = field_form w32 26 26 0 twos_complement false twos_complement (modulo 26) (or_bits_to 0 25 0)
-aarch64_form MachOLow12 = macho_low12
+aarch64_form f = form_of (aarch64_layout f)
 
 -- ---- rewrites
 

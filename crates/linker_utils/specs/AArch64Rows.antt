@@ -1,8 +1,10 @@
 -- What the relocations of AArch64 mean (ELF for the Arm 64-bit Architecture, "Relocation").
-use Rattle.std.specs.Prelude.{ℕ, ◌-◌, ◌^◌, ℤ, pos, neg_ℤ, true, false, Option, Some, None}
+use Rattle.std.specs.Prelude.{ℕ, ℤ, true, false, Option, Some, None}
+use Rattle.linker_utils.specs.Elf.{bit_bounds, signed_or_unsigned}
+use Rattle.linker_utils.specs.declared.elf.Sign.TheVariants.{Signed, Unsigned}
 use Rattle.linker_utils.specs.declared.elf.RelocationKind.{RelocationKind}
 use Rattle.linker_utils.specs.declared.elf.RelocationKind.TheVariants.{Absolute, AbsoluteLowPart, DtpOff, Got, GotRelGotBase, GotRelative, GotTpOff, GotTpOffGot, GotTpOffGotBase, PltRelative, Relative, SymRelGotBase, TlsDesc, TlsDescCall, TlsDescGot, TlsDescGotBase, TlsGd, TlsGdGot, TlsGdGotBase, TlsLd, TlsLdGot, TlsLdGotBase, TpOff}
-use Rattle.linker_utils.specs.declared.elf.RelocationKind.TheVariants.{None as Nothing}
+use Rattle.linker_utils.specs.declared.elf.RelocationKind.TheVariants.{None as NoValue}
 use Rattle.linker_utils.specs.declared.elf.RelocationSize.{RelocationSize}
 use Rattle.linker_utils.specs.declared.elf.RelocationSize.TheVariants.{ByteSize, BitMasking}
 use Rattle.linker_utils.specs.declared.elf.RelocationInstruction.TheVariants.{AArch64}
@@ -28,36 +30,33 @@ bytes_row kind count = of_size_row kind (ByteSize count)
 abbrev pub bits_row : RelocationKind → ℕ → ℕ → AArch64Instruction → RelocationKindInfo
 bits_row kind start end form = of_size_row kind (BitMasking (record { start = start; end = end }) (AArch64 form))
 
-abbrev pub within_row : ℤ → ℤ → RelocationKindInfo → RelocationKindInfo
-within_row min max r =
-    record { kind = r.kind; size = r.size; mask = r.mask; range = record { bounds = Some (min, max) }; alignment = r.alignment; bias = r.bias; thunkable = r.thunkable; implicit_addend = r.implicit_addend }
+-- values from the first bound up, below the second
+abbrev pub within_row : ℤ × ℤ → RelocationKindInfo → RelocationKindInfo
+within_row bounds r = record r { range = record { bounds = Some bounds } }
 
 -- numbers of n bits, in two's complement
 abbrev pub signed_row : ℕ → RelocationKindInfo → RelocationKindInfo
-signed_row n r = within_row (neg_ℤ (pos (2 ^ (n - 1)))) (pos (2 ^ (n - 1))) r
+signed_row n = within_row (bit_bounds n Signed)
 
 -- numbers of n bits, unsigned
 abbrev pub unsigned_row : ℕ → RelocationKindInfo → RelocationKindInfo
-unsigned_row n r = within_row (pos 0) (pos (2 ^ n)) r
+unsigned_row n = within_row (bit_bounds n Unsigned)
 
 -- numbers of n bits, in two's complement or unsigned
-abbrev pub either_row : ℕ → RelocationKindInfo → RelocationKindInfo
-either_row n r = within_row (neg_ℤ (pos (2 ^ (n - 1)))) (pos (2 ^ n)) r
+abbrev pub signed_or_unsigned_row : ℕ → RelocationKindInfo → RelocationKindInfo
+signed_or_unsigned_row n = within_row (signed_or_unsigned n)
 
 -- multiples of a number
 abbrev pub aligned_row : ℕ → RelocationKindInfo → RelocationKindInfo
-aligned_row n r =
-    record { kind = r.kind; size = r.size; mask = r.mask; range = r.range; alignment = n; bias = r.bias; thunkable = r.thunkable; implicit_addend = r.implicit_addend }
+aligned_row n r = record r { alignment = n }
 
 -- addresses cut to their page
 abbrev pub paged_row : PageMask → RelocationKindInfo → RelocationKindInfo
-paged_row mask r =
-    record { kind = r.kind; size = r.size; mask = Some mask; range = r.range; alignment = r.alignment; bias = r.bias; thunkable = r.thunkable; implicit_addend = r.implicit_addend }
+paged_row mask r = record r { mask = Some mask }
 
 -- a thunk may stand in for a target out of range
 abbrev pub thunkable_row : RelocationKindInfo → RelocationKindInfo
-thunkable_row r =
-    record { kind = r.kind; size = r.size; mask = r.mask; range = r.range; alignment = r.alignment; bias = r.bias; thunkable = true; implicit_addend = r.implicit_addend }
+thunkable_row r = record r { thunkable = true }
 
 abbrev pub place_pages : PageMask
 place_pages = SymbolPlusAddendAndPosition Size4KB
@@ -69,13 +68,13 @@ abbrev pub got_page : PageMask
 got_page = GotBase Size4KB
 
 abbrev pub aarch64_row : AArch64Relocation → Option RelocationKindInfo
-aarch64_row R_AARCH64_NONE = Some (bytes_row Nothing 0)
+aarch64_row R_AARCH64_NONE = Some (bytes_row NoValue 0)
 aarch64_row R_AARCH64_ABS64 = Some (bytes_row Absolute 8)
-aarch64_row R_AARCH64_ABS32 = Some (either_row 32 (bytes_row Absolute 4))
-aarch64_row R_AARCH64_ABS16 = Some (either_row 16 (bytes_row Absolute 2))
+aarch64_row R_AARCH64_ABS32 = Some (signed_or_unsigned_row 32 (bytes_row Absolute 4))
+aarch64_row R_AARCH64_ABS16 = Some (signed_or_unsigned_row 16 (bytes_row Absolute 2))
 aarch64_row R_AARCH64_PREL64 = Some (bytes_row Relative 8)
-aarch64_row R_AARCH64_PREL32 = Some (either_row 32 (bytes_row Relative 4))
-aarch64_row R_AARCH64_PREL16 = Some (either_row 16 (bytes_row Relative 2))
+aarch64_row R_AARCH64_PREL32 = Some (signed_or_unsigned_row 32 (bytes_row Relative 4))
+aarch64_row R_AARCH64_PREL16 = Some (signed_or_unsigned_row 16 (bytes_row Relative 2))
 aarch64_row R_AARCH64_PLT32 = Some (signed_row 32 (bytes_row PltRelative 4))
 aarch64_row R_AARCH64_MOVW_UABS_G0 = Some (unsigned_row 16 (bits_row Absolute 0 16 Movkz))
 aarch64_row R_AARCH64_MOVW_UABS_G0_NC = Some (bits_row Absolute 0 16 Movkz)

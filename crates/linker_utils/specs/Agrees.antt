@@ -1,15 +1,15 @@
 -- When the row of a relocation agrees with the machine: the bits of a value that the row names, once written into its
 -- instruction, are read as those bits of the value. Rows of whole bytes have no instruction; those of a half or of the whole
--- of an instruction pair agree together, as the contracts of the writes of pairs say.
-use Rattle.std.specs.Prelude.{◌≡◌, ℕ, ◌-◌, ◌^◌, Bool, true, false, Option, Some, None, ℤ, pos, int_lt, ⊤}
+-- of an instruction pair agree together, as the contracts of the writes of pairs say. And when a row's bits fit its form.
+use Rattle.std.specs.Prelude.{◌≡◌, ℕ, ◌-◌, ◌^◌, ◌<◌, ◌≤◌, Bool, true, false, Option, Some, None, ℤ, pos, int_lt, ⊤}
 use Rattle.std.specs.Int.{int_div_euclid, int_rem_euclid}
 use Rattle.linker_base.specs.Bits.{field}
-use Rattle.linker_base.specs.Form.{Form, Written, IsClear, IsSameModulo}
+use Rattle.linker_base.specs.Form.{Form, Fits, Written, IsClear, IsSameModulo}
 use Rattle.linker_base.specs.declared.bit_misc.BitRange.{BitRange}
 use Rattle.linker_utils.specs.AArch64.{aarch64_form, shift_of}
-use Rattle.linker_utils.specs.Elf.{IsWithin}
+use Rattle.linker_utils.specs.Elf.{IsWithin, relocation_form}
 use Rattle.linker_utils.specs.LoongArch.{loongarch_form}
-use Rattle.linker_utils.specs.PowerPc.{ppc64_form}
+use Rattle.linker_utils.specs.Ppc64.{ppc64_form}
 use Rattle.linker_utils.specs.RiscV.{riscv_form}
 use Rattle.linker_utils.specs.declared.elf.AArch64Instruction.{AArch64Instruction}
 use Rattle.linker_utils.specs.declared.elf.AArch64Instruction.TheVariants.{Movnz}
@@ -22,8 +22,8 @@ use Rattle.linker_utils.specs.declared.elf.RelocationSize.{RelocationSize}
 use Rattle.linker_utils.specs.declared.elf.RelocationSize.TheVariants.{ByteSize, BitMasking}
 use Rattle.linker_utils.specs.declared.elf.RiscVInstruction.{RiscVInstruction}
 use Rattle.linker_utils.specs.declared.elf.RiscVInstruction.TheVariants.{UType, IType, SType, CluiType, UiType}
-use Rattle.linker_utils.specs.declared.loongarch64.LoongArch64Relocation.{LoongArch64Relocation}
-use Rattle.linker_utils.specs.declared.loongarch64.LoongArch64Relocation.TheVariants.{R_LARCH_PCREL20_S2, R_LARCH_B16}
+use Rattle.linker_utils.specs.declared.loongarch64.relocations.LoongArch64Relocation.{LoongArch64Relocation}
+use Rattle.linker_utils.specs.declared.loongarch64.relocations.LoongArch64Relocation.TheVariants.{R_LARCH_PCREL20_S2, R_LARCH_B16}
 
 -- the bits of v from bit s up; of a negative v, those of its two's complement
 abbrev pub bits_from : ℕ → ℤ → ℤ
@@ -118,3 +118,20 @@ RowAgrees row = AgreesBy false row
 -- the row of a LoongArch relocation
 abbrev pub LoongArchRowAgrees : LoongArch64Relocation → RelocationKindInfo → Type 0
 LoongArchRowAgrees name row = AgreesBy (reads_signed name) row
+
+-- ---- fields
+
+-- Bits `start` up, below `end`, are some of a value's 64, and the form takes them of every value, whatever its window holds.
+pub record TakesBits (form : Form) (bits : BitRange) : Type 0 where
+  pub some : bits.start < bits.end
+  pub inside : bits.end ≤ 64
+  pub narrow : (before : ℕ) → bits.end - bits.start ≤ form.width before
+  pub fits : (v before : ℕ) → Fits form (field v bits.start bits.end) before
+
+abbrev pub SizeFits : RelocationSize → Type 0
+SizeFits (ByteSize n) = ⊤
+SizeFits (BitMasking bits insn) = TakesBits (relocation_form insn) bits
+
+-- the bits that a row names fit its form
+abbrev pub RowFits : RelocationKindInfo → Type 0
+RowFits row = SizeFits row.size

@@ -1,20 +1,44 @@
--- The vocabulary of relocations: the ranges of values, and the forms of all architectures.
-use Rattle.std.specs.Prelude.{ℕ, ◌-◌, ◌^◌, ℤ, pos, neg_ℤ, ◌≤ℤ◌, ◌<ℤ◌, Option, Some, None, ⊤}
-use Rattle.linker_base.specs.Form.{Form}
+-- The vocabulary of relocations: machines, the ranges of values, and the forms of all architectures.
+use Rattle.std.specs.Prelude.{ℕ, ◌-◌, ◌^◌, ◌==◌, if◌then◌else◌, ℤ, pos, neg_ℤ, ◌≤ℤ◌, ◌<ℤ◌, Option, Some, None, ⊤}
+use Rattle.linker_base.specs.Form.{Form, Layout, form_of}
+use Rattle.linker_utils.specs.declared.elf.Architecture.{Architecture}
+use Rattle.linker_utils.specs.declared.elf.Architecture.TheVariants as architectures
 use Rattle.linker_utils.specs.declared.elf.Sign.{Sign}
 use Rattle.linker_utils.specs.declared.elf.Sign.TheVariants.{Signed, Unsigned}
 use Rattle.linker_utils.specs.declared.elf.AllowedRange.{AllowedRange}
 use Rattle.linker_utils.specs.declared.elf.RelocationInstruction.{RelocationInstruction}
 use Rattle.linker_utils.specs.declared.elf.RelocationInstruction.TheVariants.{RiscV, Ppc64, LoongArch64, AArch64}
-use Rattle.linker_utils.specs.PowerPc.{ppc64_form}
-use Rattle.linker_utils.specs.AArch64.{aarch64_form}
-use Rattle.linker_utils.specs.RiscV.{riscv_form}
-use Rattle.linker_utils.specs.LoongArch.{loongarch_form}
+use Rattle.linker_utils.specs.Ppc64.{ppc64_layout}
+use Rattle.linker_utils.specs.AArch64.{aarch64_layout}
+use Rattle.linker_utils.specs.RiscV.{riscv_layout}
+use Rattle.linker_utils.specs.LoongArch.{loongarch_layout}
+
+-- e_machine in the ELF header of an architecture's files (EM_AARCH64 and so on)
+abbrev pub machine_of : Architecture → ℕ
+machine_of architectures.AArch64 = 183
+machine_of architectures.RiscV = 243
+machine_of architectures.LoongArch64 = 258
+machine_of architectures.Ppc64 = 21
+machine_of architectures.X86_64 = 62
+
+-- the architecture whose files have this e_machine
+abbrev pub architecture_of : ℕ → Option Architecture
+architecture_of e_machine =
+    if e_machine == machine_of architectures.AArch64 then Some architectures.AArch64
+    else (if e_machine == machine_of architectures.RiscV then Some architectures.RiscV
+    else (if e_machine == machine_of architectures.LoongArch64 then Some architectures.LoongArch64
+    else (if e_machine == machine_of architectures.Ppc64 then Some architectures.Ppc64
+    else (if e_machine == machine_of architectures.X86_64 then Some architectures.X86_64
+    else None))))
 
 -- the least number of n bits, and the first above them
 abbrev pub bit_bounds : ℕ → Sign → ℤ × ℤ
 bit_bounds n Signed = (neg_ℤ (pos (2 ^ (n - 1))), pos (2 ^ (n - 1)))
 bit_bounds n Unsigned = (pos 0, pos (2 ^ n))
+
+-- the numbers of n bits, signed or unsigned
+abbrev pub signed_or_unsigned : ℕ → ℤ × ℤ
+signed_or_unsigned n = ((bit_bounds n Signed).0, (bit_bounds n Unsigned).1)
 
 abbrev pub IsWithin : Option (ℤ × ℤ) → ℤ → Type 0
 IsWithin None v = ⊤
@@ -23,9 +47,12 @@ IsWithin (Some b) v = (b.0 ≤ℤ v) × (v <ℤ b.1)
 abbrev pub IsAllowed : AllowedRange → ℤ → Type 0
 IsAllowed range v = IsWithin range.bounds v
 
--- the form of an instruction of any architecture
+-- the layout and the form of an instruction of any architecture
+abbrev pub relocation_layout : RelocationInstruction → Layout
+relocation_layout (AArch64 f) = aarch64_layout f
+relocation_layout (RiscV f) = riscv_layout f
+relocation_layout (Ppc64 f) = ppc64_layout f
+relocation_layout (LoongArch64 f) = loongarch_layout f
+
 abbrev pub relocation_form : RelocationInstruction → Form
-relocation_form (AArch64 f) = aarch64_form f
-relocation_form (RiscV f) = riscv_form f
-relocation_form (Ppc64 f) = ppc64_form f
-relocation_form (LoongArch64 f) = loongarch_form f
+relocation_form f = form_of (relocation_layout f)

@@ -1,9 +1,9 @@
 -- The rows of LoongArch relocations (LoongArch ELF psABI, "Relocation Types").
-use Rattle.std.specs.Prelude.{ℕ, ◌^◌, false, Option, None, Some, ℤ, pos, neg_ℤ}
-use Rattle.linker_utils.specs.Elf.{bit_bounds}
+use Rattle.std.specs.Prelude.{ℕ, false, Option, None, Some, ℤ}
+use Rattle.linker_utils.specs.Elf.{bit_bounds, signed_or_unsigned}
 use Rattle.linker_utils.specs.declared.elf.Sign.TheVariants.{Signed}
 use Rattle.linker_utils.specs.declared.elf.RelocationKind.{RelocationKind}
-use Rattle.linker_utils.specs.declared.elf.RelocationKind.TheVariants.{None as nothing, Absolute, AbsoluteAdditionWord6, AbsoluteSubtractionWord6, AbsoluteAddition, AbsoluteSubtraction, Relative, PairSubtractionULEB128LoongArch, AbsoluteLowPart, RelativeLoongArchHigh, PltRelative, GotRelative, Got, GotRelativeLoongArch64, TpOff, GotTpOff, GotTpOffGot, GotTpOffLoongArch64, TlsGd, TlsGdGot, TlsDesc, TlsDescGot, TlsDescLoongArch64, TlsDescCall, DtpOff}
+use Rattle.linker_utils.specs.declared.elf.RelocationKind.TheVariants.{None as NoValue, Absolute, AbsoluteAdditionWord6, AbsoluteSubtractionWord6, AbsoluteAddition, AbsoluteSubtraction, Relative, PairSubtractionULEB128LoongArch, AbsoluteLowPart, RelativeLoongArchHigh, PltRelative, GotRelative, Got, GotRelativeLoongArch64, TpOff, GotTpOff, GotTpOffGot, GotTpOffLoongArch64, TlsGd, TlsGdGot, TlsDesc, TlsDescGot, TlsDescLoongArch64, TlsDescCall, DtpOff}
 use Rattle.linker_utils.specs.declared.elf.RelocationSize.{RelocationSize}
 use Rattle.linker_utils.specs.declared.elf.RelocationSize.TheVariants.{ByteSize, BitMasking}
 use Rattle.linker_utils.specs.declared.elf.RelocationInstruction.TheVariants.{LoongArch64}
@@ -13,8 +13,8 @@ use Rattle.linker_utils.specs.declared.elf.PageMaskPattern.TheVariants.{Size4KB}
 use Rattle.linker_utils.specs.declared.elf.PageMask.{PageMask}
 use Rattle.linker_utils.specs.declared.elf.PageMask.TheVariants.{SymbolPlusAddendAndPosition, GotEntryAndPosition}
 use Rattle.linker_utils.specs.declared.elf.RelocationKindInfo.{RelocationKindInfo}
-use Rattle.linker_utils.specs.declared.loongarch64.LoongArch64Relocation.{LoongArch64Relocation}
-use Rattle.linker_utils.specs.declared.loongarch64.LoongArch64Relocation.TheVariants.{R_LARCH_NONE, R_LARCH_32, R_LARCH_64, R_LARCH_ADD6, R_LARCH_ADD8, R_LARCH_ADD16, R_LARCH_ADD24, R_LARCH_ADD32, R_LARCH_ADD64, R_LARCH_SUB6, R_LARCH_SUB8, R_LARCH_SUB16, R_LARCH_SUB24, R_LARCH_SUB32, R_LARCH_SUB64, R_LARCH_ADD_ULEB128, R_LARCH_SUB_ULEB128, R_LARCH_ABS_HI20, R_LARCH_ABS_LO12, R_LARCH_ABS64_HI12, R_LARCH_ABS64_LO20, R_LARCH_PCALA_HI20, R_LARCH_PCALA_LO12, R_LARCH_PCALA64_HI12, R_LARCH_PCALA64_LO20, R_LARCH_32_PCREL, R_LARCH_PCREL20_S2, R_LARCH_64_PCREL, R_LARCH_PCADD_HI20, R_LARCH_GOT_PC_HI20, R_LARCH_GOT_PC_LO12, R_LARCH_GOT64_PC_HI12, R_LARCH_GOT64_PC_LO20, R_LARCH_B16, R_LARCH_B21, R_LARCH_B26, R_LARCH_CALL36, R_LARCH_CALL30, R_LARCH_TLS_LE_HI20, R_LARCH_TLS_LE_LO12, R_LARCH_TLS_LE64_LO20, R_LARCH_TLS_LE64_HI12, R_LARCH_TLS_LE_HI20_R, R_LARCH_TLS_LE_LO12_R, R_LARCH_TLS_IE_PC_HI20, R_LARCH_TLS_IE_PC_LO12, R_LARCH_TLS_IE64_PC_LO20, R_LARCH_TLS_IE64_PC_HI12, R_LARCH_TLS_IE_HI20, R_LARCH_TLS_IE_LO12, R_LARCH_TLS_IE64_HI12, R_LARCH_TLS_IE64_LO20, R_LARCH_TLS_LD_PC_HI20, R_LARCH_TLS_LD_HI20, R_LARCH_TLS_GD_PC_HI20, R_LARCH_TLS_GD_HI20, R_LARCH_TLS_DESC_PC_HI20, R_LARCH_TLS_DESC_PC_LO12, R_LARCH_TLS_DESC64_PC_HI12, R_LARCH_TLS_DESC64_PC_LO20, R_LARCH_TLS_DESC_LD, R_LARCH_TLS_DESC_CALL, R_LARCH_TLS_DTPREL32, R_LARCH_TLS_DTPREL64, R_LARCH_TLS_LD_PCREL20_S2, R_LARCH_TLS_GD_PCREL20_S2, R_LARCH_TLS_DESC_PCREL20_S2, R_LARCH_RELAX, R_LARCH_TLS_LE_ADD_R, R_LARCH_ALIGN, Other}
+use Rattle.linker_utils.specs.declared.loongarch64.relocations.LoongArch64Relocation.{LoongArch64Relocation}
+use Rattle.linker_utils.specs.declared.loongarch64.relocations.LoongArch64Relocation.TheVariants.{R_LARCH_NONE, R_LARCH_32, R_LARCH_64, R_LARCH_ADD6, R_LARCH_ADD8, R_LARCH_ADD16, R_LARCH_ADD24, R_LARCH_ADD32, R_LARCH_ADD64, R_LARCH_SUB6, R_LARCH_SUB8, R_LARCH_SUB16, R_LARCH_SUB24, R_LARCH_SUB32, R_LARCH_SUB64, R_LARCH_ADD_ULEB128, R_LARCH_SUB_ULEB128, R_LARCH_ABS_HI20, R_LARCH_ABS_LO12, R_LARCH_ABS64_HI12, R_LARCH_ABS64_LO20, R_LARCH_PCALA_HI20, R_LARCH_PCALA_LO12, R_LARCH_PCALA64_HI12, R_LARCH_PCALA64_LO20, R_LARCH_32_PCREL, R_LARCH_PCREL20_S2, R_LARCH_64_PCREL, R_LARCH_PCADD_HI20, R_LARCH_GOT_PC_HI20, R_LARCH_GOT_PC_LO12, R_LARCH_GOT64_PC_HI12, R_LARCH_GOT64_PC_LO20, R_LARCH_B16, R_LARCH_B21, R_LARCH_B26, R_LARCH_CALL36, R_LARCH_CALL30, R_LARCH_TLS_LE_HI20, R_LARCH_TLS_LE_LO12, R_LARCH_TLS_LE64_LO20, R_LARCH_TLS_LE64_HI12, R_LARCH_TLS_LE_HI20_R, R_LARCH_TLS_LE_LO12_R, R_LARCH_TLS_IE_PC_HI20, R_LARCH_TLS_IE_PC_LO12, R_LARCH_TLS_IE64_PC_LO20, R_LARCH_TLS_IE64_PC_HI12, R_LARCH_TLS_IE_HI20, R_LARCH_TLS_IE_LO12, R_LARCH_TLS_IE64_HI12, R_LARCH_TLS_IE64_LO20, R_LARCH_TLS_LD_PC_HI20, R_LARCH_TLS_LD_HI20, R_LARCH_TLS_GD_PC_HI20, R_LARCH_TLS_GD_HI20, R_LARCH_TLS_DESC_PC_HI20, R_LARCH_TLS_DESC_PC_LO12, R_LARCH_TLS_DESC64_PC_HI12, R_LARCH_TLS_DESC64_PC_LO20, R_LARCH_TLS_DESC_LD, R_LARCH_TLS_DESC_CALL, R_LARCH_TLS_DTPREL32, R_LARCH_TLS_DTPREL64, R_LARCH_TLS_LD_PCREL20_S2, R_LARCH_TLS_GD_PCREL20_S2, R_LARCH_TLS_DESC_PCREL20_S2, R_LARCH_RELAX, R_LARCH_TLS_LE_ADD_R, R_LARCH_ALIGN, Other}
 
 -- any value, of any alignment
 abbrev pub plain : RelocationKind → RelocationSize → RelocationKindInfo
@@ -66,12 +66,12 @@ abbrev pub paged : RelocationKind → PageMask → RelocationKindInfo
 paged kind mask = record (biased kind) { mask = Some mask }
 
 abbrev pub loongarch_row : LoongArch64Relocation → Option RelocationKindInfo
-loongarch_row R_LARCH_NONE = Some (bytes nothing 0)
-loongarch_row R_LARCH_TLS_DESC_LD = Some (bytes nothing 0)
-loongarch_row R_LARCH_RELAX = Some (bytes nothing 0)
-loongarch_row R_LARCH_TLS_LE_ADD_R = Some (bytes nothing 0)
-loongarch_row R_LARCH_ALIGN = Some (bytes nothing 0)
-loongarch_row R_LARCH_32 = Some (bytes_checked Absolute 4 (neg_ℤ (pos (2 ^ 31)), pos (2 ^ 32)))
+loongarch_row R_LARCH_NONE = Some (bytes NoValue 0)
+loongarch_row R_LARCH_TLS_DESC_LD = Some (bytes NoValue 0)
+loongarch_row R_LARCH_RELAX = Some (bytes NoValue 0)
+loongarch_row R_LARCH_TLS_LE_ADD_R = Some (bytes NoValue 0)
+loongarch_row R_LARCH_ALIGN = Some (bytes NoValue 0)
+loongarch_row R_LARCH_32 = Some (bytes_checked Absolute 4 (signed_or_unsigned 32))
 loongarch_row R_LARCH_64 = Some (bytes Absolute 8)
 loongarch_row R_LARCH_ABS_HI20 = Some (high Absolute)
 loongarch_row R_LARCH_ABS_LO12 = Some (low Absolute)

@@ -2,40 +2,37 @@
 -- ELF psABI, "Function Call Relaxation").
 use Rattle.std.specs.Prelude.{◌≡◌, ℕ, ◌+◌, ◌*◌, List, ◌++◌, take, drop, Option, None, Some, ℤ, pos, negsuc, ◌≤ℤ◌, ◌-ℤ◌, ◌≤◌, ◌<◌, length, IsTrue, ◌≢◌, ◌-◌, ◌%◌, ◌^◌, Bool, true, false, [], ◌∷◌, ◌<ℤ◌, ◌+ℤ◌, ⊤}
 use Rattle.linker_base.specs.Deletions.{is_kept, rank}
-use Rattle.std.specs.Int.{w32, from_le_bytes, to_le_bytes, int_rem_euclid, w16, w64, int_div_euclid, cast_signed}
+use Rattle.std.specs.Int.{Width, w32, from_le_bytes, to_le_bytes, int_rem_euclid, w16, w64, int_div_euclid, cast_signed}
 use Rattle.linker_base.specs.Bits.{field, signed}
-use Rattle.linker_base.specs.Form.{Form, bits_to, signed_immediate, Place, sum_bits_to, place_sum, modulo, Written, IsSameModulo}
+use Rattle.linker_base.specs.Form.{Form, Layout, one_field, own_form, form_of, bits_to, signed_field, ImmediateBit, sum_bits_to, place_sum, modulo, Written, IsSameModulo}
 use Rattle.linker_base.specs.Rounded.{rounded_immediate}
 use Rattle.linker_base.specs.Rewrite.{Rewrite, replaces}
 use Rattle.linker_base.specs.declared.relaxation.RelocationModifier.{RelocationModifier}
 use Rattle.linker_base.specs.declared.relaxation.RelocationModifier.TheVariants.{Normal, SkipNextRelocation}
 use Rattle.linker_utils.specs.declared.elf.RiscVInstruction.{RiscVInstruction}
 use Rattle.linker_utils.specs.declared.elf.RiscVInstruction.TheVariants.{UType, IType, SType, BType, JType, CbType, CjType, CluiType, UiType}
-use Rattle.linker_utils.specs.declared.riscv64.RelaxationKind.{RelaxationKind}
-use Rattle.linker_utils.specs.declared.riscv64.RelaxationKind.TheVariants.{NoOp, ReplaceWithNop, CallToJal, Hi20ToCLui, Hi20Delete, Lo12Rs1ToZero}
+use Rattle.linker_utils.specs.declared.riscv64.calls.LinkRegister.{LinkRegister}
+use Rattle.linker_utils.specs.declared.riscv64.calls.LinkRegister.TheVariants.{OfAuipc, OfJalr}
+use Rattle.linker_utils.specs.declared.riscv64.rewrites.RelaxationKind.{RelaxationKind}
+use Rattle.linker_utils.specs.declared.riscv64.rewrites.RelaxationKind.TheVariants.{NoOp, ReplaceWithNop, CallToJal, Hi20ToCLui, Hi20Delete, Lo12Rs1ToZero}
 
--- the places of a form's bits
-abbrev pub riscv_places : RiscVInstruction → List Place
-riscv_places UType = sum_bits_to 0x800 12 31 12
-riscv_places IType = bits_to 0 11 20
-riscv_places SType = bits_to 0 4 7 ++ bits_to 5 11 25
-riscv_places BType = bits_to 11 11 7 ++ bits_to 1 4 8 ++ bits_to 5 10 25 ++ bits_to 12 12 31
-riscv_places JType = bits_to 12 19 12 ++ bits_to 11 11 20 ++ bits_to 1 10 21 ++ bits_to 20 20 31
-riscv_places CbType = bits_to 5 5 2 ++ bits_to 1 2 3 ++ bits_to 6 7 5 ++ bits_to 3 4 10 ++ bits_to 8 8 12
-riscv_places CjType = bits_to 5 5 2 ++ bits_to 1 3 3 ++ bits_to 7 7 6 ++ bits_to 6 6 7 ++ bits_to 10 10 8 ++ bits_to 8 9 9 ++ bits_to 4 4 11 ++ bits_to 11 11 12
-riscv_places CluiType = sum_bits_to 0x800 12 16 2 ++ sum_bits_to 0x800 17 17 12
-riscv_places UiType = sum_bits_to 0x800 12 31 12 ++ bits_to 0 11 52
+-- the places of a high part and of the low part in the second word
+abbrev pub ui_high : List ImmediateBit
+ui_high = sum_bits_to 0x800 12 31 12
+
+abbrev pub ui_low : List ImmediateBit
+ui_low = bits_to 0 11 52
 
 -- the sum of the immediates of `UType` in the window's first word and `IType` in its second
 abbrev pub ui_sum : ℕ → ℤ
-ui_sum x = signed 32 (place_sum (sum_bits_to 0x800 12 31 12) x) +ℤ signed 12 (place_sum (bits_to 0 11 52) x)
+ui_sum x = signed 32 (place_sum ui_high x) +ℤ signed 12 (place_sum ui_low x)
 
 abbrev pub ui_form : Form
 ui_form =
     record {
       window = w64;
       width = λ _. 64;
-      places = λ _. riscv_places UiType;
+      places = λ _. ui_high ++ ui_low;
       number = λ _ v. v;
       base = λ _ x. x;
       opcode = λ _. false;
@@ -47,16 +44,29 @@ ui_form =
       claim = modulo 32;
     }
 
+-- a signed immediate of n bits, those of the value from bit `low` up
+abbrev pub signed_immediate : Width → ℕ → ℕ → List ImmediateBit → Layout
+signed_immediate w n low ps = one_field (signed_field w n low ps)
+
+abbrev pub riscv_layout : RiscVInstruction → Layout
+riscv_layout UType = own_form (rounded_immediate w32 32 12 0x800 false ui_high)
+riscv_layout IType = signed_immediate w32 12 0 (bits_to 0 11 20)
+riscv_layout SType = signed_immediate w32 12 0 (bits_to 0 4 7 ++ bits_to 5 11 25)
+riscv_layout BType = signed_immediate w32 13 1 (bits_to 11 11 7 ++ bits_to 1 4 8 ++ bits_to 5 10 25 ++ bits_to 12 12 31)
+riscv_layout JType = signed_immediate w32 21 1 (bits_to 12 19 12 ++ bits_to 11 11 20 ++ bits_to 1 10 21 ++ bits_to 20 20 31)
+riscv_layout CbType = signed_immediate w16 9 1 (bits_to 5 5 2 ++ bits_to 1 2 3 ++ bits_to 6 7 5 ++ bits_to 3 4 10 ++ bits_to 8 8 12)
+riscv_layout CjType =
+    signed_immediate w16 12 1
+    (bits_to 5 5 2 ++ bits_to 1 3 3 ++ bits_to 7 7 6 ++ bits_to 6 6 7 ++ bits_to 10 10 8 ++ bits_to 8 9 9 ++ bits_to 4 4 11 ++ bits_to 11 11 12)
+riscv_layout CluiType = own_form (rounded_immediate w16 18 12 0x800 true (sum_bits_to 0x800 12 16 2 ++ sum_bits_to 0x800 17 17 12))
+riscv_layout UiType = own_form ui_form
+
 abbrev pub riscv_form : RiscVInstruction → Form
-riscv_form UType = rounded_immediate w32 32 12 0x800 false (riscv_places UType)
-riscv_form IType = signed_immediate w32 12 0 (riscv_places IType)
-riscv_form SType = signed_immediate w32 12 0 (riscv_places SType)
-riscv_form BType = signed_immediate w32 13 1 (riscv_places BType)
-riscv_form JType = signed_immediate w32 21 1 (riscv_places JType)
-riscv_form CbType = signed_immediate w16 9 1 (riscv_places CbType)
-riscv_form CjType = signed_immediate w16 12 1 (riscv_places CjType)
-riscv_form CluiType = rounded_immediate w16 18 12 0x800 true (riscv_places CluiType)
-riscv_form UiType = ui_form
+riscv_form f = form_of (riscv_layout f)
+
+-- the places of a form's bits, the same in every window
+abbrev pub riscv_places : RiscVInstruction → List ImmediateBit
+riscv_places f = (riscv_form f).places 0
 
 -- from -2 ^ 31 - 0x800 up, below 2 ^ 31 - 0x800
 abbrev pub IsPairRange : ℤ → Type 0
@@ -74,15 +84,10 @@ Completes low v after =
 
 -- what a written instruction and its pair read as
 abbrev pub PairReads : RiscVInstruction → ℕ → ℕ → Type 0
-PairReads UType v after = ⊤
 PairReads IType v after = Completes IType v after
 PairReads SType v after = Completes SType v after
-PairReads BType v after = ⊤
-PairReads JType v after = ⊤
-PairReads CbType v after = ⊤
-PairReads CjType v after = ⊤
-PairReads CluiType v after = ⊤
 PairReads UiType v after = IsPairOf v ((riscv_form UiType).machine after)
+PairReads f v after = ⊤
 
 -- `jal` of distance 0, with the destination register of the word before: bits 7 to 11
 abbrev pub call_to_jal : List ℕ → List ℕ
@@ -117,12 +122,12 @@ riscv_modifier Hi20Delete = SkipNextRelocation
 riscv_modifier Lo12Rs1ToZero = Normal
 
 -- bits 12 to 31 of the value plus 0x800
-abbrev pub high_20 : ℕ → ℕ
-high_20 v = field ((v + 0x800) % 2 ^ 64) 12 32
+abbrev pub hi20 : ℕ → ℕ
+hi20 v = field ((v + 0x800) % 2 ^ 64) 12 32
 
 -- the low 12 bits, in two's complement
-abbrev pub low_12 : ℕ → ℤ
-low_12 v = signed 12 (v % 2 ^ 12)
+abbrev pub lo12 : ℕ → ℤ
+lo12 v = signed 12 (v % 2 ^ 12)
 
 -- from -2 ^ 31 up, below 2 ^ 31
 abbrev pub IsSigned32 : ℤ → Type 0
@@ -138,15 +143,14 @@ FitsClui v = (negsuc 31 ≤ℤ rounded_high v) × (rounded_high v ≤ℤ pos 31)
 
 -- the form's immediate, once written, and the signed low 12 bits make the value, in two's complement
 abbrev pub HoldsHigh : RiscVInstruction → ℕ → Type 0
-HoldsHigh form v = (neg : Bool) (before after : ℕ) → Written (riscv_form form) v neg before after → (riscv_form form).machine after +ℤ low_12 v ≡ signed 64 v
+HoldsHigh form v = (neg : Bool) (before after : ℕ) → Written (riscv_form form) v neg before after → (riscv_form form).machine after +ℤ lo12 v ≡ signed 64 v
 
--- `auipc rd` and `jalr rd, _(rd)`
+-- `auipc` and a `jalr` whose base is the register of the `auipc`
 pub record IsCallPair (auipc jalr : ℕ) : Type 0 where
   pub auipc_opcode : field auipc 0 7 ≡ 0x17
   pub jalr_opcode : field jalr 0 7 ≡ 0x67
   pub jalr_function : field jalr 12 15 ≡ 0
-  pub links : field jalr 7 12 ≡ field auipc 7 12
-  pub source : field jalr 15 20 ≡ field auipc 7 12
+  pub base : field jalr 15 20 ≡ field auipc 7 12
 
 abbrev pub IsEven : ℤ → Type 0
 IsEven d = int_rem_euclid d (pos 2) ≡ pos 0
@@ -159,17 +163,43 @@ IsJalDistance d = (negsuc 1048575 ≤ℤ d) × (d ≤ℤ pos 1048575)
 abbrev pub word_at : List ℕ → ℕ → ℕ
 word_at section site = from_le_bytes w32 (drop site section)
 
--- eight bytes are there, and are such a pair
+-- eight bytes are there, and are such a pair whose `jalr` links the register of the `auipc`
 abbrev pub IsPlainCall : List ℕ → ℕ → Type 0
-IsPlainCall section site = (site + 8 ≤ length section) × IsCallPair (word_at section site) (word_at section (site + 4))
+IsPlainCall section site =
+    (site + 8 ≤ length section)
+    × IsCallPair (word_at section site) (word_at section (site + 4))
+    × (field (word_at section (site + 4)) 7 12 ≡ field (word_at section site) 7 12)
 
--- At the site stands `jal` by the distance with the old destination register, and no other byte has changed.
-pub record JumpsAt (before after : List ℕ) (site : ℕ) (distance : ℤ) : Type 0 where
-  pub opcode : field (word_at after site) 0 7 ≡ 0x6f
-  pub register : field (word_at after site) 7 12 ≡ field (word_at before site) 7 12
-  pub reads : (riscv_form JType).machine (word_at after site) ≡ distance
+-- how many bytes of a call say which register its jump links
+abbrev pub call_len : LinkRegister → ℕ
+call_len OfAuipc = 4
+call_len OfJalr = 8
+
+-- whether those bytes say it: any `auipc` does, a `jalr` only in a call
+abbrev pub NamesRegister : LinkRegister → List ℕ → ℕ → Type 0
+NamesRegister OfAuipc section site = ⊤
+NamesRegister OfJalr section site = IsCallPair (word_at section site) (word_at section (site + 4))
+
+-- the register that the jump links: the destination, bits 7 to 11, of the `auipc` or of the `jalr`
+abbrev pub link_register : LinkRegister → List ℕ → ℕ → ℕ
+link_register OfAuipc section site = field (word_at section site) 7 12
+link_register OfJalr section site = field (word_at section (site + 4)) 7 12
+
+-- The word is `jal` by the distance, and links the register.
+pub record IsJal (word register : ℕ) (distance : ℤ) : Type 0 where
+  pub opcode : field word 0 7 ≡ 0x6f
+  pub register_bits : field word 7 12 ≡ register
+  pub reads : (riscv_form JType).machine word ≡ distance
+
+-- At the site stands such a `jal`, and no other byte has changed.
+pub record JumpsAndLinks (before after : List ℕ) (site register : ℕ) (distance : ℤ) : Type 0 where
+  pub jal : IsJal (word_at after site) register distance
   pub front : take site after ≡ take site before
   pub rest : drop (site + 4) after ≡ drop (site + 4) before
+
+-- the same with the destination register of the word before
+abbrev pub JumpsAt : List ℕ → List ℕ → ℕ → ℤ → Type 0
+JumpsAt before after site distance = JumpsAndLinks before after site (field (word_at before site) 7 12) distance
 
 -- the four bytes at the site lie in the section, and the target isn't past its end
 abbrev pub IsInSection : List ℕ → ℕ → ℕ → Type 0

@@ -1,14 +1,15 @@
 -- What the relocations of RISC-V mean (RISC-V ELF psABI, "Relocations").
 use Rattle.std.specs.Prelude.{ℕ, false, Option, Some, None, ℤ, pos, negsuc}
+use Rattle.linker_utils.specs.Elf.{signed_or_unsigned}
 use Rattle.linker_utils.specs.declared.elf.RelocationKind.{RelocationKind}
-use Rattle.linker_utils.specs.declared.elf.RelocationKind.TheVariants.{None as Nothing, Absolute, Relative, PltRelative, GotRelative, GotTpOff, TlsGd, RelativeRiscVLow12, TpOff, AbsoluteAddition, AbsoluteSubtraction, AbsoluteSubtractionWord6, AbsoluteSetWord6, AbsoluteSet, Alignment, PairSubtractionULEB128RiscV}
+use Rattle.linker_utils.specs.declared.elf.RelocationKind.TheVariants.{None as NoValue, Absolute, Relative, PltRelative, GotRelative, GotTpOff, TlsGd, RelativeRiscVLow12, TpOff, AbsoluteAddition, AbsoluteSubtraction, AbsoluteSubtractionWord6, AbsoluteSetWord6, AbsoluteSet, Alignment, PairSubtractionULEB128RiscV}
 use Rattle.linker_utils.specs.declared.elf.RelocationInstruction.TheVariants.{RiscV}
 use Rattle.linker_utils.specs.declared.elf.RelocationKindInfo.{RelocationKindInfo}
 use Rattle.linker_utils.specs.declared.elf.RelocationSize.TheVariants.{ByteSize, BitMasking}
 use Rattle.linker_utils.specs.declared.elf.RiscVInstruction.{RiscVInstruction}
 use Rattle.linker_utils.specs.declared.elf.RiscVInstruction.TheVariants.{UType, IType, SType, BType, JType, CbType, CjType, CluiType, UiType}
-use Rattle.linker_utils.specs.declared.riscv64.RiscVRelocation.{RiscVRelocation}
-use Rattle.linker_utils.specs.declared.riscv64.RiscVRelocation.TheVariants.{R_RISCV_NONE, R_RISCV_32, R_RISCV_64, R_RISCV_BRANCH, R_RISCV_JAL, R_RISCV_CALL, R_RISCV_CALL_PLT, R_RISCV_GOT_HI20, R_RISCV_TLS_GOT_HI20, R_RISCV_TLS_GD_HI20, R_RISCV_PCREL_HI20, R_RISCV_PCREL_LO12_I, R_RISCV_PCREL_LO12_S, R_RISCV_HI20, R_RISCV_LO12_I, R_RISCV_LO12_S, R_RISCV_TPREL_HI20, R_RISCV_TPREL_LO12_I, R_RISCV_TPREL_LO12_S, R_RISCV_TPREL_ADD, R_RISCV_ADD8, R_RISCV_ADD16, R_RISCV_ADD32, R_RISCV_ADD64, R_RISCV_SUB8, R_RISCV_SUB16, R_RISCV_SUB32, R_RISCV_SUB64, R_RISCV_GOT32_PCREL, R_RISCV_ALIGN, R_RISCV_RVC_BRANCH, R_RISCV_RVC_JUMP, R_RISCV_RELAX, R_RISCV_SUB6, R_RISCV_SET6, R_RISCV_SET8, R_RISCV_SET16, R_RISCV_SET32, R_RISCV_32_PCREL, R_RISCV_PLT32, R_RISCV_SET_ULEB128, R_RISCV_SUB_ULEB128, R_RISCV_TLSDESC_HI20, R_RISCV_TLSDESC_LOAD_LO12, R_RISCV_TLSDESC_ADD_LO12, R_RISCV_TLSDESC_CALL, Other}
+use Rattle.linker_utils.specs.declared.riscv64.relocations.RiscVRelocation.{RiscVRelocation}
+use Rattle.linker_utils.specs.declared.riscv64.relocations.RiscVRelocation.TheVariants.{R_RISCV_NONE, R_RISCV_32, R_RISCV_64, R_RISCV_BRANCH, R_RISCV_JAL, R_RISCV_CALL, R_RISCV_CALL_PLT, R_RISCV_GOT_HI20, R_RISCV_TLS_GOT_HI20, R_RISCV_TLS_GD_HI20, R_RISCV_PCREL_HI20, R_RISCV_PCREL_LO12_I, R_RISCV_PCREL_LO12_S, R_RISCV_HI20, R_RISCV_LO12_I, R_RISCV_LO12_S, R_RISCV_TPREL_HI20, R_RISCV_TPREL_LO12_I, R_RISCV_TPREL_LO12_S, R_RISCV_TPREL_ADD, R_RISCV_ADD8, R_RISCV_ADD16, R_RISCV_ADD32, R_RISCV_ADD64, R_RISCV_SUB8, R_RISCV_SUB16, R_RISCV_SUB32, R_RISCV_SUB64, R_RISCV_GOT32_PCREL, R_RISCV_ALIGN, R_RISCV_RVC_BRANCH, R_RISCV_RVC_JUMP, R_RISCV_RELAX, R_RISCV_SUB6, R_RISCV_SET6, R_RISCV_SET8, R_RISCV_SET16, R_RISCV_SET32, R_RISCV_32_PCREL, R_RISCV_PLT32, R_RISCV_SET_ULEB128, R_RISCV_SUB_ULEB128, R_RISCV_TLSDESC_HI20, R_RISCV_TLSDESC_LOAD_LO12, R_RISCV_TLSDESC_ADD_LO12, R_RISCV_TLSDESC_CALL, Other}
 
 -- the bounds of values: from the first up, below the second, or none
 abbrev pub Bounds : Type 0
@@ -18,8 +19,8 @@ abbrev pub unchecked : Bounds
 unchecked = None
 
 -- signed or unsigned 32 bits
-abbrev pub mixed_32 : Bounds
-mixed_32 = Some (negsuc 2147483647, pos 4294967296)
+abbrev pub signed_or_unsigned_32 : Bounds
+signed_or_unsigned_32 = Some (signed_or_unsigned 32)
 
 -- n whole bytes
 abbrev pub in_bytes : RelocationKind → ℕ → Bounds → RelocationKindInfo
@@ -33,33 +34,33 @@ in_form kind end form bounds a =
 
 -- what a relocation means, and none where it isn't known
 abbrev pub riscv_row : RiscVRelocation → Option RelocationKindInfo
-riscv_row R_RISCV_NONE = Some (in_bytes Nothing 0 unchecked)
-riscv_row R_RISCV_TPREL_ADD = Some (in_bytes Nothing 0 unchecked)
-riscv_row R_RISCV_RELAX = Some (in_bytes Nothing 0 unchecked)
-riscv_row R_RISCV_32 = Some (in_bytes Absolute 4 mixed_32)
+riscv_row R_RISCV_NONE = Some (in_bytes NoValue 0 unchecked)
+riscv_row R_RISCV_TPREL_ADD = Some (in_bytes NoValue 0 unchecked)
+riscv_row R_RISCV_RELAX = Some (in_bytes NoValue 0 unchecked)
+riscv_row R_RISCV_32 = Some (in_bytes Absolute 4 signed_or_unsigned_32)
 riscv_row R_RISCV_64 = Some (in_bytes Absolute 8 unchecked)
-riscv_row R_RISCV_HI20 = Some (in_form Absolute 32 UType mixed_32 1)
-riscv_row R_RISCV_LO12_I = Some (in_form Absolute 32 IType mixed_32 1)
-riscv_row R_RISCV_LO12_S = Some (in_form Absolute 32 SType mixed_32 1)
+riscv_row R_RISCV_HI20 = Some (in_form Absolute 32 UType signed_or_unsigned_32 1)
+riscv_row R_RISCV_LO12_I = Some (in_form Absolute 32 IType signed_or_unsigned_32 1)
+riscv_row R_RISCV_LO12_S = Some (in_form Absolute 32 SType signed_or_unsigned_32 1)
 riscv_row R_RISCV_BRANCH = Some (in_form Relative 32 BType (Some (negsuc 4095, pos 4095)) 2)
 riscv_row R_RISCV_JAL = Some (in_form Relative 32 JType (Some (negsuc 1048575, pos 1048575)) 2)
-riscv_row R_RISCV_PCREL_HI20 = Some (in_form Relative 32 UType mixed_32 1)
+riscv_row R_RISCV_PCREL_HI20 = Some (in_form Relative 32 UType signed_or_unsigned_32 1)
 riscv_row R_RISCV_RVC_BRANCH = Some (in_form Relative 16 CbType (Some (negsuc 255, pos 255)) 2)
 riscv_row R_RISCV_RVC_JUMP = Some (in_form Relative 16 CjType (Some (negsuc 2047, pos 2047)) 2)
-riscv_row R_RISCV_32_PCREL = Some (in_bytes Relative 4 mixed_32)
+riscv_row R_RISCV_32_PCREL = Some (in_bytes Relative 4 signed_or_unsigned_32)
 riscv_row R_RISCV_SET_ULEB128 = Some (in_bytes Relative 0 unchecked)
-riscv_row R_RISCV_CALL = Some (in_form PltRelative 64 UiType mixed_32 1)
-riscv_row R_RISCV_CALL_PLT = Some (in_form PltRelative 64 UiType mixed_32 1)
-riscv_row R_RISCV_PLT32 = Some (in_bytes PltRelative 4 mixed_32)
-riscv_row R_RISCV_GOT_HI20 = Some (in_form GotRelative 32 UType mixed_32 1)
-riscv_row R_RISCV_GOT32_PCREL = Some (in_bytes GotRelative 4 mixed_32)
-riscv_row R_RISCV_TLS_GOT_HI20 = Some (in_form GotTpOff 32 UType mixed_32 1)
-riscv_row R_RISCV_TLS_GD_HI20 = Some (in_form TlsGd 32 UType mixed_32 1)
-riscv_row R_RISCV_PCREL_LO12_I = Some (in_form RelativeRiscVLow12 32 IType mixed_32 1)
-riscv_row R_RISCV_PCREL_LO12_S = Some (in_form RelativeRiscVLow12 32 SType mixed_32 1)
-riscv_row R_RISCV_TPREL_HI20 = Some (in_form TpOff 32 UType mixed_32 1)
-riscv_row R_RISCV_TPREL_LO12_I = Some (in_form TpOff 32 IType mixed_32 1)
-riscv_row R_RISCV_TPREL_LO12_S = Some (in_form TpOff 32 SType mixed_32 1)
+riscv_row R_RISCV_CALL = Some (in_form PltRelative 64 UiType signed_or_unsigned_32 1)
+riscv_row R_RISCV_CALL_PLT = Some (in_form PltRelative 64 UiType signed_or_unsigned_32 1)
+riscv_row R_RISCV_PLT32 = Some (in_bytes PltRelative 4 signed_or_unsigned_32)
+riscv_row R_RISCV_GOT_HI20 = Some (in_form GotRelative 32 UType signed_or_unsigned_32 1)
+riscv_row R_RISCV_GOT32_PCREL = Some (in_bytes GotRelative 4 signed_or_unsigned_32)
+riscv_row R_RISCV_TLS_GOT_HI20 = Some (in_form GotTpOff 32 UType signed_or_unsigned_32 1)
+riscv_row R_RISCV_TLS_GD_HI20 = Some (in_form TlsGd 32 UType signed_or_unsigned_32 1)
+riscv_row R_RISCV_PCREL_LO12_I = Some (in_form RelativeRiscVLow12 32 IType signed_or_unsigned_32 1)
+riscv_row R_RISCV_PCREL_LO12_S = Some (in_form RelativeRiscVLow12 32 SType signed_or_unsigned_32 1)
+riscv_row R_RISCV_TPREL_HI20 = Some (in_form TpOff 32 UType signed_or_unsigned_32 1)
+riscv_row R_RISCV_TPREL_LO12_I = Some (in_form TpOff 32 IType signed_or_unsigned_32 1)
+riscv_row R_RISCV_TPREL_LO12_S = Some (in_form TpOff 32 SType signed_or_unsigned_32 1)
 riscv_row R_RISCV_ADD8 = Some (in_bytes AbsoluteAddition 1 unchecked)
 riscv_row R_RISCV_ADD16 = Some (in_bytes AbsoluteAddition 2 unchecked)
 riscv_row R_RISCV_ADD32 = Some (in_bytes AbsoluteAddition 4 unchecked)
@@ -83,4 +84,4 @@ riscv_row (Other n) = None
 
 -- the high part of a value that `c.lui` holds
 abbrev pub clui_row : RelocationKindInfo
-clui_row = in_form Absolute 32 CluiType mixed_32 1
+clui_row = in_form Absolute 32 CluiType signed_or_unsigned_32 1

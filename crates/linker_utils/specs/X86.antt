@@ -18,30 +18,30 @@ abbrev pub rex2 : ℕ → ℕ
 rex2 r = bit_or (bit_and r 0xbb) (bit_and r 0x44 / 4)
 
 -- the prefix byte of an instruction whose relocated field follows n bytes
-abbrev pub prefix : ℕ → ℕ → ℕ
-prefix n r = if n == 3 then rex r else (if n == 4 then rex2 r else r)
+abbrev pub rex_reg_to_rm : ℕ → ℕ → ℕ
+rex_reg_to_rm n r = if n == 3 then rex r else (if n == 4 then rex2 r else r)
 
 -- In an EVEX byte a clear bit 7 is set, and bit 5 is then cleared; then where bit 4 is clear, bits 4 and 3 are set.
 abbrev pub evex_high : ℕ → ℕ
 evex_high p = if bit_at p 7 == 0 then bit_and (bit_or p 0x80) 0xdf else p
 
-abbrev pub evex : ℕ → ℕ
-evex p = if bit_at p 4 == 0 then bit_or (evex_high p) 0x18 else evex_high p
+abbrev pub evex_reg_to_rm : ℕ → ℕ
+evex_reg_to_rm p = if bit_at p 4 == 0 then bit_or (evex_high p) 0x18 else evex_high p
 
 -- a ModRM byte whose rm field is the reg field of m; k holds the other bits
-abbrev pub modrm : ℕ → ℕ → ℕ
-modrm k m = k + field m 3 6
+abbrev pub modrm_reg_to_rm : ℕ → ℕ → ℕ
+modrm_reg_to_rm k m = k + field m 3 6
 
 -- an opcode and a ModRM byte, after a prefix byte, and after an EVEX byte and two more
 abbrev pub operand : ℕ → ℕ → List ℕ → List ℕ
-operand opcode k window = opcode ∷ modrm k (slice_index window 1) ∷ []
+operand opcode k window = opcode ∷ modrm_reg_to_rm k (slice_index window 1) ∷ []
 
 abbrev pub prefixed_operand : ℕ → ℕ → ℕ → List ℕ → List ℕ
-prefixed_operand n opcode k window = prefix n (slice_index window 0) ∷ opcode ∷ modrm k (slice_index window 2) ∷ []
+prefixed_operand n opcode k window = rex_reg_to_rm n (slice_index window 0) ∷ opcode ∷ modrm_reg_to_rm k (slice_index window 2) ∷ []
 
 abbrev pub evex_operand : ℕ → ℕ → List ℕ → List ℕ
 evex_operand opcode k window =
-    evex (slice_index window 0) ∷ slice_index window 1 ∷ slice_index window 2 ∷ opcode ∷ modrm k (slice_index window 4) ∷ []
+    evex_reg_to_rm (slice_index window 0) ∷ slice_index window 1 ∷ slice_index window 2 ∷ opcode ∷ modrm_reg_to_rm k (slice_index window 4) ∷ []
 
 -- the `back` bytes before the offset are rewritten, and the addend becomes 0
 abbrev pub absolute : ℕ → (List ℕ → List ℕ) → Rewrite
@@ -56,8 +56,8 @@ puts back len bytes offset addend =
 abbrev pub rex_mov : ℕ → Rewrite
 rex_mov n = absolute 3 (prefixed_operand n 0xc7 0xc0)
 
-abbrev pub rex_add : ℕ → Rewrite
-rex_add n =
+abbrev pub rex_add_rewrite : ℕ → Rewrite
+rex_add_rewrite n =
     if n == 3 then absolute 3 (prefixed_operand 3 0x81 0xc0)
     else (if n == 4 then absolute 3 (prefixed_operand 4 0x81 0xc0)
     else (if n == 6 then absolute 5 (evex_operand 0x81 0xc0)
@@ -67,7 +67,7 @@ abbrev pub x86_64_rewrite : RelaxationKind → Option Rewrite
 x86_64_rewrite MovIndirectToLea = Some (replaces 2 1 (λ _. 0x8d ∷ []))
 x86_64_rewrite MovIndirectToAbsolute = Some (absolute 2 (operand 0xc7 0xc0))
 x86_64_rewrite (RexMovIndirectToAbsolute n) = Some (rex_mov n)
-x86_64_rewrite (RexAddIndirectToAbsolute n) = Some (rex_add n)
+x86_64_rewrite (RexAddIndirectToAbsolute n) = Some (rex_add_rewrite n)
 x86_64_rewrite (RexSubIndirectToAbsolute n) = Some (absolute 3 (prefixed_operand n 0x81 0xe8))
 x86_64_rewrite (RexCmpIndirectToAbsolute n) = Some (absolute 3 (prefixed_operand n 0x81 0xf8))
 x86_64_rewrite CallIndirectToRelative = Some (replaces 2 2 (λ _. 0x67 ∷ 0xe8 ∷ []))

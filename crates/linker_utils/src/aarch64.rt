@@ -6,53 +6,67 @@ ghost use Rattle.std.specs.Prelude.{◌++◌, Some, take, ◌≡◌, ◌≤◌, 
 ghost use Rattle.std.specs.Int.{byte_len, cast_unsigned, w32, w64, from_le_bytes, to_le_bytes};
 ghost use Rattle.linker_base.specs.Form.{window_of, Fits, Written, MachineReads, IsReadBack};
 ghost use Rattle.linker_base.specs.Rewrite.{CanRewrite, rewritten, offset_after, addend_after};
-ghost use Rattle.linker_utils.specs.FormLaws.{aarch64_keeps, aarch64_restored};
+ghost use Rattle.linker_utils.specs.Inner.FormLaws.{aarch64_keeps, aarch64_restored};
 ghost use Rattle.linker_utils.specs.AArch64.{aarch64_form, aarch64_rewrite, aarch64_modifier, access_scale, rd_of, rn_of, mov_word, mov_words, mov4};
 
 use crate::bit_misc::BitExtraction;
 use crate::elf::engine::{self, Mark, Run, Window, run};
-use crate::elf::{AArch64Instruction, InstructionForm};
+use crate::elf::{AArch64Instruction, InstructionForm, InstructionRewrite, RelocationInstruction};
 use crate::relaxation::RelocationModifier;
 use crate::rewrite::{has_window, overwrite};
 use crate::utils::u32_from_slice;
 pub use relocations::{AArch64Relocation, relocation_type_from_raw};
 
-/// The bytes between the thread pointer and the first TLS block: the two words that the thread's
-/// control block has there (System V ABI for the Arm 64-bit Architecture, "Thread-local storage").
+/// The distance in bytes from the thread pointer to the first TLS block: the thread control block's
+/// two words (System V ABI for the Arm 64-bit Architecture, "Thread-local storage").
 pub const TLS_TCB_SIZE: u64 = 16;
 
 /// A rewrite of one instruction, or of a pair (ELF for the Arm 64-bit Architecture, "Relocation
-/// optimization"). All are of 4 bytes, and their offset is that of the instruction, but for
-/// `AdrpAddToNopAdr`. The register of an instruction is its bits 0 to 4.
+/// optimization"). Except for `AdrpAddToNopAdr` the window is the instruction's 4 bytes, which
+/// begin at the offset. The destination register of an instruction is its bits 0 to 4.
+///
+/// ```
+/// use linker_utils::aarch64::RelaxationKind;
+///
+/// let (mut adrp, mut offset, mut addend) = (0xb000_0003u32.to_le_bytes(), 0, 0);
+/// assert!(RelaxationKind::AdrpToAdr.can_apply(&adrp, offset));
+/// RelaxationKind::AdrpToAdr.apply(&mut adrp, &mut offset, &mut addend);
+/// assert_eq!(u32::from_le_bytes(adrp), 0x3000_0003);
+/// ```
 #[derive(Debug, Clone, Copy, PartialEq, Eq)]
 pub enum RelaxationKind {
-    /// Leaves the instruction as it is, where only the kind of its relocation changes.
+    /// Leaves the instruction as it is; only the kind of its relocation changes.
     NoOp,
-    /// `nop`.
+    /// Writes `nop`.
     ReplaceWithNop,
-    /// `movz x0, #0, lsl #16`.
+    /// Writes `movz x0, #0, lsl #16`.
     MovzX0Lsl16,
-    /// `movk x0, #0`.
+    /// Writes `movk x0, #0`.
     MovkX0,
-    /// `movz`, with a shift by 16, of 0 into the old instruction's register.
+    /// Writes `movz xN, #0, lsl #16`, with the old instruction's destination register.
     MovzXnLsl16,
-    /// `movk` of 0 into the old instruction's register, which must be its source, bits 5 to 9, too.
+    /// Writes `movk xN, #0`, with the old instruction's destination register. Requires that this is
+    /// also its source register, bits 5 to 9.
     MovkXn,
-    /// Turns `adrp` into `adr`: bit 31 is cleared.
+    /// Turns `adrp` into `adr`: clears bit 31.
     AdrpToAdr,
-    /// `adrp x0` of distance 0.
+    /// Writes `adrp x0` of distance 0.
     AdrpX0,
-    /// `ldr x0, [x0]`.
+    /// Writes `ldr x0, [x0]`.
     LdrX0,
-    /// Turns `add` into `adr`: bits 24, 27 and 31 are cleared.
+    /// Turns `add` into `adr`: clears bits 24, 27 and 31. The immediate's old bits stay, and
+    /// `AArch64Instruction::Adr` only ORs a value into them: the caller clears bits 5 to 23, 29 and
+    /// 30 before that write.
     AddToAdr,
-    /// The same of `ldr`.
+    /// Turns `ldr` with an unsigned offset into `adr`: clears bits 24, 27 and 31. The immediate's
+    /// old bits stay, and so do bits 22, 29 and 30 of the old opcode, which are immediate bits of
+    /// `adr`: the caller clears bits 5 to 23, 29 and 30 before it writes `AArch64Instruction::Adr`.
     LdrToAdr,
-    /// Turns `ldr` of 64 bits with an unsigned offset into `add`, with bits 0 to 20 as they were. Any
-    /// other instruction is refused.
+    /// Turns LDR (immediate), 64 bits with an unsigned offset, into ADD (immediate). Bits 0 to 20
+    /// stay. Requires such an instruction.
     LdrToAdd,
-    /// Turns the pair of `adrp`, 4 bytes before the offset, and `add` into `nop` and `adr` of
-    /// distance 0 with the `adrp`'s register.
+    /// Turns `adrp`, 4 bytes before the offset, and `add` into `nop` and `adr` of distance 0, with
+    /// the `adrp`'s destination register.
     AdrpAddToNopAdr,
 }
 
@@ -65,11 +79,12 @@ fn word_at(section: &[u8], offset: u64) -> u32
     u32_from_slice(&section[offset as usize..])
 }
 
-/// Puts an instruction at an offset of the section.
+/// Writes an instruction at an offset of the section.
 #[inline(always)]
 fn put_word(section: &mut [u8], offset: u64, word: u32)
     requires { offset + 4 ≤ length section.old }
-    ensures { section.new ≡ take offset section.old ++ to_le_bytes w32 word ++ drop (offset + 4) section.old }
+    ensures { section.new
+        ≡ take offset section.old ++ to_le_bytes w32 word ++ drop (offset + 4) section.old }
 {
     overwrite(section, offset, &word.to_le_bytes());
 }
@@ -98,8 +113,10 @@ impl RelaxationKind {
     #[inline]
     pub fn apply(self, section_bytes: &mut [u8], offset_in_section: &mut u64, addend: &mut i64)
         requires { CanRewrite (aarch64_rewrite self) section_bytes.old offset_in_section.old }
-        ensures bytes { section_bytes.new ≡ rewritten (aarch64_rewrite self) section_bytes.old offset_in_section.old }
-        ensures offset { offset_in_section.new ≡ offset_after (aarch64_rewrite self) offset_in_section.old }
+        ensures bytes { section_bytes.new
+            ≡ rewritten (aarch64_rewrite self) section_bytes.old offset_in_section.old }
+        ensures offset { offset_in_section.new
+            ≡ offset_after (aarch64_rewrite self) offset_in_section.old }
         ensures addend { addend.new ≡ addend_after (aarch64_rewrite self) addend.old }
     {
         let _ = addend;
@@ -139,8 +156,9 @@ impl RelaxationKind {
         }
     }
 
-    /// Whether `apply` may be called at an offset of a section: the bytes that it rewrites lie in
-    /// the section, and the instruction is one that `MovkXn` and `LdrToAdd` take.
+    /// Whether `apply` may be called at an offset of a section: the window lies in the section,
+    /// and, for `MovkXn` and `LdrToAdd`, the instruction meets their requirement. For the other
+    /// kinds the instruction is not tested.
     #[inline]
     pub fn can_apply(self, section: &[u8], offset: u64) -> bool
         ensures { IsTrue result ↔ CanRewrite (aarch64_rewrite self) section.now offset }
@@ -173,12 +191,33 @@ impl RelaxationKind {
         }
     }
 
-    /// What becomes of the relocation after the rewritten one: it is applied as usual.
+    /// What happens to the next relocation: it is applied as usual.
     #[inline]
     pub fn next_modifier(&self) -> RelocationModifier
         ensures { result ≡ aarch64_modifier self.now }
     {
         RelocationModifier::Normal
+    }
+}
+
+impl InstructionRewrite for RelaxationKind {
+    ghost rewrite = { aarch64_rewrite };
+
+    ghost modifier = { aarch64_modifier };
+
+    #[inline(always)]
+    fn apply(self, section: &mut [u8], offset: &mut u64, addend: &mut i64) {
+        RelaxationKind::apply(self, section, offset, addend);
+    }
+
+    #[inline(always)]
+    fn can_apply(self, section: &[u8], offset: u64) -> bool {
+        RelaxationKind::can_apply(self, section, offset)
+    }
+
+    #[inline(always)]
+    fn next_modifier(&self) -> RelocationModifier {
+        RelaxationKind::next_modifier(self)
     }
 }
 
@@ -193,9 +232,9 @@ fn mov(opcode: u32, rd: u32, bits: u64) -> u32
     opcode + ((bits as u32) << 5) + rd
 }
 
-/// Writes the four instructions that load a number into register `rd`: `movz` of its lowest 16 bits,
-/// and `movk` of the next, lowest first (DDI 0487, "MOVZ" and "MOVK"). The bytes after the first
-/// 16 stay.
+/// Writes the four instructions that load a number into register `rd`: `movz` of bits 0 to 15, and
+/// `movk` of bits 16 to 31, 32 to 47 and 48 to 63 (DDI 0487, "MOVZ" and "MOVK"). Requires 16 bytes
+/// and a register from 0 to 30. The bytes after the first 16 stay.
 #[inline]
 pub fn write_mov_sequence(dest: &mut [u8], rd: u32, value: u64)
     requires room { 16 ≤ length dest.old }
@@ -239,7 +278,7 @@ const IMM12: [Run; 1] = [run!(ored 0, 10, 12)];
 
 const MOVED: [Run; 1] = [run!(0, 5, 16)];
 
-/// How far up the offset of a load or store goes: log2 of its access size in bytes, and 0 for other
+/// The scale of the offset of a load or store: log2 of its access size in bytes. 0 for other
 /// instructions (DDI 0487, "Load/store register (unsigned immediate)").
 #[inline(always)]
 fn scale_of(word: u64) -> u32
@@ -257,14 +296,15 @@ fn scale_of(word: u64) -> u32
     }
 }
 
-/// The 12 bits of an offset from its scale up.
+/// The run of the 12 bits of an offset from its scale up.
 #[inline(always)]
 fn scaled(scale: u32) -> [Run; 1]
-    ensures { result ≡ record { value = scale; word = 10; len = 12; added = 0; mark = Mark.Replaced } ∷ [] }
+    ensures { result
+        ≡ record { value = scale; insn_bit = 10; len = 12; added = 0; mark = Mark.Replaced } ∷ [] }
 {
     [Run {
         value: scale,
-        word: 10,
+        insn_bit: 10,
         len: 12,
         added: 0,
         mark: Mark::Replaced,
@@ -272,27 +312,31 @@ fn scaled(scale: u32) -> [Run; 1]
 }
 
 impl AArch64Instruction {
-    /// Writes a value into the instruction that `dest` begins with, and changes no other bit; `Movnz`
-    /// sets the opcode too, by `negative`, which plays no part elsewhere.
-    #[inline]
-    pub fn write_to_value(self, extracted_value: u64, negative: bool, dest: &mut [u8])
-        requires room { byte_len (aarch64_form self).window ≤ length dest.old }
-        requires fits { Fits (aarch64_form self) extracted_value (window_of (aarch64_form self) dest.old) }
-        ensures written { Written (aarch64_form self) extracted_value negative (window_of (aarch64_form self) dest.old) (window_of (aarch64_form self) dest.new) }
-        ensures rest { drop (byte_len (aarch64_form self).window) dest.new ≡ drop (byte_len (aarch64_form self).window) dest.old }
-        ensures machine { MachineReads (aarch64_form self) extracted_value negative (window_of (aarch64_form self) dest.old) (window_of (aarch64_form self) dest.new) }
-        ensures restored { IsReadBack (aarch64_form self) extracted_value negative (window_of (aarch64_form self) dest.old) → dest.new ≡ dest.old }
+    /// Writes the bits of a value.
+    #[inline(always)]
+    fn place(self, value: u64, negative: bool, dest: &mut [u8])
+        requires { byte_len (aarch64_form self).window ≤ length dest.old }
+        ensures written { Written (aarch64_form self) value negative (window_of (aarch64_form self) dest.old) (window_of (aarch64_form self) dest.new) }
+        ensures rest { drop (byte_len (aarch64_form self).window) dest.new
+            ≡ drop (byte_len (aarch64_form self).window) dest.old }
+        ensures same { window_of (aarch64_form self) dest.new ≡ window_of (aarch64_form self) dest.old
+            → dest.new ≡ dest.old }
     {
+        let insn = RelocationInstruction::AArch64(self);
         match self {
-            AArch64Instruction::Adr => engine::write(Window::Four, &ADR, extracted_value, dest),
-            AArch64Instruction::Movkz => engine::write(Window::Four, &IMM16, extracted_value, dest),
+            AArch64Instruction::Adr => {
+                engine::write_form(insn, Window::Four, &ADR, value, negative, dest);
+            }
+            AArch64Instruction::Movkz => {
+                engine::write_form(insn, Window::Four, &IMM16, value, negative, dest);
+            }
             AArch64Instruction::Movnz => {
                 let word = Window::Four.load(dest) & 0x007f_ffff;
                 if negative {
                     engine::write_over(
                         Window::Four,
                         &MOVED,
-                        !extracted_value & 0xffff,
+                        !value & 0xffff,
                         word | 0x9280_0000,
                         dest,
                     );
@@ -300,47 +344,64 @@ impl AArch64Instruction {
                     engine::write_over(
                         Window::Four,
                         &MOVED,
-                        extracted_value & 0xffff,
+                        value & 0xffff,
                         word | 0xd280_0000,
                         dest,
                     );
                 }
             }
             AArch64Instruction::Ldr | AArch64Instruction::Bcond => {
-                engine::write(Window::Four, &IMM19, extracted_value, dest)
+                engine::write_form(insn, Window::Four, &IMM19, value, negative, dest);
             }
             AArch64Instruction::LdrRegister | AArch64Instruction::Add | AArch64Instruction::LdSt =>
-                engine::write(Window::Four, &IMM12, extracted_value, dest),
-            AArch64Instruction::TstBr => engine::write(Window::Four, &IMM14, extracted_value, dest),
+                engine::write_form(insn, Window::Four, &IMM12, value, negative, dest),
+            AArch64Instruction::TstBr => {
+                engine::write_form(insn, Window::Four, &IMM14, value, negative, dest);
+            }
             AArch64Instruction::JumpCall => {
-                engine::write(Window::Four, &IMM26, extracted_value, dest)
+                engine::write_form(insn, Window::Four, &IMM26, value, negative, dest);
             }
             AArch64Instruction::MachOLow12 => {
                 let scale = scale_of(Window::Four.load(dest));
-                engine::write(Window::Four, &scaled(scale), extracted_value, dest);
+                engine::write(Window::Four, &scaled(scale), value, dest);
             }
         }
     }
 
-    /// The value in the instruction that `bytes` begins with, modulo 2^64. The flag is false, but for
-    /// `Movnz`, where it says that the instruction is a `movn`, bit 30 being clear, and the value the
-    /// complement of the 16 bits.
+    /// Writes a value into the instruction that `dest` begins with. Only the form's bits change;
+    /// for `Movnz` the opcode too, by `negative`. The other forms ignore `negative`.
+    #[inline]
+    pub fn write_to_value(self, extracted_value: u64, negative: bool, dest: &mut [u8])
+        requires room { byte_len (aarch64_form self).window ≤ length dest.old }
+        requires fits { Fits (aarch64_form self) extracted_value (window_of (aarch64_form self) dest.old) }
+        ensures written { Written (aarch64_form self) extracted_value negative (window_of (aarch64_form self) dest.old) (window_of (aarch64_form self) dest.new) }
+        ensures rest { drop (byte_len (aarch64_form self).window) dest.new
+            ≡ drop (byte_len (aarch64_form self).window) dest.old }
+        ensures machine { MachineReads (aarch64_form self) extracted_value negative (window_of (aarch64_form self) dest.old) (window_of (aarch64_form self) dest.new) }
+        ensures restored { IsReadBack (aarch64_form self) extracted_value negative (window_of (aarch64_form self) dest.old)
+            → dest.new ≡ dest.old }
+    {
+        self.place(extracted_value, negative, dest);
+    }
+
+    /// The value in the instruction that `bytes` begins with, modulo 2^64, and a flag. The flag is
+    /// true only for `Movnz` on a `movn`, whose bit 30 is clear: the value is then the complement
+    /// of the 16 bits.
     #[inline]
     pub fn read_value(self, bytes: &[u8]) -> (u64, bool)
         requires { byte_len (aarch64_form self).window ≤ length bytes.now }
-        ensures number { result.0 ≡ cast_unsigned w64 ((aarch64_form self).reading (window_of (aarch64_form self) bytes.now)) }
-        ensures flag { result.1 ≡ (aarch64_form self).flag (window_of (aarch64_form self) bytes.now) }
+        ensures number { result.0
+            ≡ cast_unsigned w64 ((aarch64_form self).reading (window_of (aarch64_form self) bytes.now)) }
+        ensures flag { result.1
+            ≡ (aarch64_form self).flag (window_of (aarch64_form self) bytes.now) }
     {
+        let insn = RelocationInstruction::AArch64(self);
         match self {
-            AArch64Instruction::Adr => (
-                engine::read_signed(Window::Four, &ADR, 21, bytes).0,
-                false,
-            ),
+            AArch64Instruction::Adr => {
+                engine::read_signed_form(insn, Window::Four, &ADR, 21, bytes)
+            }
             AArch64Instruction::Movkz => {
-                (
-                    engine::read_signed(Window::Four, &IMM16, 16, bytes).0,
-                    false,
-                )
+                engine::read_signed_form(insn, Window::Four, &IMM16, 16, bytes)
             }
             AArch64Instruction::Movnz => {
                 let moved = engine::read(Window::Four, &MOVED, bytes);
@@ -351,31 +412,19 @@ impl AArch64Instruction {
                 }
             }
             AArch64Instruction::Ldr | AArch64Instruction::Bcond => {
-                (
-                    engine::read_signed(Window::Four, &IMM19, 19, bytes).0,
-                    false,
-                )
+                engine::read_signed_form(insn, Window::Four, &IMM19, 19, bytes)
             }
             AArch64Instruction::LdrRegister | AArch64Instruction::Add => {
-                (engine::read(Window::Four, &IMM12, bytes), false)
+                engine::read_form(insn, Window::Four, &IMM12, bytes)
             }
             AArch64Instruction::LdSt => {
-                (
-                    engine::read_signed(Window::Four, &IMM12, 12, bytes).0,
-                    false,
-                )
+                engine::read_signed_form(insn, Window::Four, &IMM12, 12, bytes)
             }
             AArch64Instruction::TstBr => {
-                (
-                    engine::read_signed(Window::Four, &IMM14, 14, bytes).0,
-                    false,
-                )
+                engine::read_signed_form(insn, Window::Four, &IMM14, 14, bytes)
             }
             AArch64Instruction::JumpCall => {
-                (
-                    engine::read_signed(Window::Four, &IMM26, 26, bytes).0,
-                    false,
-                )
+                engine::read_signed_form(insn, Window::Four, &IMM26, 26, bytes)
             }
             AArch64Instruction::MachOLow12 => {
                 let scale = scale_of(Window::Four.load(bytes));
@@ -394,19 +443,7 @@ impl InstructionForm for AArch64Instruction {
 
     #[inline]
     fn window(self) -> usize {
-        match self {
-            AArch64Instruction::Adr
-            | AArch64Instruction::Movkz
-            | AArch64Instruction::Movnz
-            | AArch64Instruction::Ldr
-            | AArch64Instruction::LdrRegister
-            | AArch64Instruction::Add
-            | AArch64Instruction::LdSt
-            | AArch64Instruction::TstBr
-            | AArch64Instruction::Bcond
-            | AArch64Instruction::JumpCall
-            | AArch64Instruction::MachOLow12 => 4,
-        }
+        4
     }
 
     #[inline]

@@ -1,14 +1,18 @@
-//! The vocabulary of relocations, and the forms of instructions that hold a value.
+//! The vocabulary of relocations, the forms of instructions that hold a value, and the interfaces of
+//! forms and of rewrites.
 
 pub(crate) mod engine;
 
-ghost use Rattle.std.specs.Prelude.{◌≡◌, ◌≤◌, ◌<◌, ◌+◌, ◌*◌, ◌-◌, ◌^◌, ◌↔◌, ◌==◌, IsTrue, Some, None, if◌then◌else◌, length, drop, ℕ};
+ghost use Rattle.std.specs.Prelude.{◌≡◌, ◌≤◌, ◌<◌, ◌+◌, ◌*◌, ◌-◌, ◌^◌, ◌↔◌, ◌==◌, IsTrue, Option, Some, None, if◌then◌else◌, length, drop, ℕ};
 ghost use Rattle.std.specs.Int.{byte_len, cast_unsigned, w64};
-ghost use Rattle.linker_base.specs.Form.{Form, window_of, Fits, Written, MachineReads, IsReadBack, KeepsOthers, RestoresRead};
-ghost use Rattle.linker_utils.specs.Elf.{relocation_form, bit_bounds, IsAllowed};
-ghost use Rattle.linker_utils.specs.FormLaws.{relocation_keeps, relocation_restored};
+ghost use Rattle.linker_base.specs.Form.{Form, window_of, Fits, Written, MachineReads, IsReadBack, WriteKeepsOtherBits, WriteBackChangesNothing};
+ghost use Rattle.linker_base.specs.Rewrite.{Rewrite, CanRewrite, rewritten, offset_after, addend_after};
+ghost use Rattle.linker_base.specs.declared.relaxation.RelocationModifier.{RelocationModifier};
+ghost use Rattle.linker_utils.specs.Elf.{architecture_of, machine_of, relocation_form, bit_bounds, IsAllowed};
+ghost use Rattle.linker_utils.specs.Inner.FormLaws.{relocation_keeps, relocation_restored};
 
 use crate::bit_misc::BitRange;
+use crate::relaxation::RelocationModifier;
 use std::marker::Model;
 
 /// 2 KiB: half a page.
@@ -23,37 +27,86 @@ pub const SIZE_2GB: u64 = 1 << 31;
 /// 4 GiB.
 pub const SIZE_4GB: u64 = 1 << 32;
 
-/// The bits of an address below its page of 4 KiB.
+/// The bits of an address within its page of 4 KiB.
 pub const PAGE_MASK_4KB: u64 = 0xfff;
 
-/// What a relocation's value is computed from.
+/// The architectures whose relocations and instructions the library knows.
+#[derive(Debug, Clone, Copy, PartialEq, Eq)]
+pub enum Architecture {
+    /// AArch64, little-endian.
+    AArch64,
+    /// RV64, with or without the C extension.
+    RiscV,
+    /// LoongArch64.
+    LoongArch64,
+    /// 64-bit Power, little-endian (ELFv2).
+    Ppc64,
+    /// x86-64.
+    X86_64,
+}
+
+impl Architecture {
+    /// The architecture of a file by `e_machine` of its ELF header. `None` for any other machine.
+    pub fn from_machine(e_machine: u16) -> Option<Architecture>
+        ensures { result ≡ architecture_of e_machine }
+    {
+        match e_machine {
+            183 => Some(Architecture::AArch64),
+            243 => Some(Architecture::RiscV),
+            258 => Some(Architecture::LoongArch64),
+            21 => Some(Architecture::Ppc64),
+            62 => Some(Architecture::X86_64),
+            _ => None,
+        }
+    }
+
+    /// `e_machine` in the ELF header of the architecture's files: `EM_AARCH64` 183, `EM_RISCV` 243,
+    /// `EM_LOONGARCH` 258, `EM_PPC64` 21 or `EM_X86_64` 62.
+    pub fn machine(self) -> u16
+        ensures { result ≡ machine_of self }
+    {
+        match self {
+            Architecture::AArch64 => 183,
+            Architecture::RiscV => 243,
+            Architecture::LoongArch64 => 258,
+            Architecture::Ppc64 => 21,
+            Architecture::X86_64 => 62,
+        }
+    }
+}
+
+/// The formula of a relocation's value. The letters are those of the psABIs: S is the symbol's
+/// address, A the addend, P the place (the address of the field), V the number in the field, and Z
+/// the symbol's size.
 #[derive(Debug, Clone, Copy, PartialEq, Eq)]
 pub enum RelocationKind {
-    /// Nothing: the relocation asks for no value.
+    /// No value; nothing is written.
     None,
-    /// The symbol's address plus the addend.
+    /// S + A.
     Absolute,
-    /// The low part of the symbol's address plus the addend.
+    /// S + A, of which bits of the offset in a page are taken.
     AbsoluteLowPart,
-    /// The symbol's address plus the addend, set in place of what is there.
+    /// S + A, in place of V.
     AbsoluteSet,
-    /// The same, in the low 6 bits of a byte.
+    /// S + A, in the low 6 bits of a byte.
     AbsoluteSetWord6,
-    /// The symbol's address plus the addend, added to what is there.
+    /// V + S + A.
     AbsoluteAddition,
-    /// The same, in the low 6 bits of a byte.
+    /// V + S + A, in the low 6 bits of a byte.
     AbsoluteAdditionWord6,
-    /// The symbol's address plus the addend, subtracted from what is there.
+    /// V - S - A.
     AbsoluteSubtraction,
-    /// The same, in the low 6 bits of a byte.
+    /// V - S - A, in the low 6 bits of a byte.
     AbsoluteSubtractionWord6,
-    /// The second of a pair of RISC-V relocations that set a ULEB128 number to a difference of symbols.
+    /// The second of a pair of RISC-V relocations that set a ULEB128 number to a difference of
+    /// symbols.
     PairSubtractionULEB128RiscV,
-    /// The same pair of LoongArch.
+    /// The second of a pair of LoongArch relocations that add a difference of symbols to a ULEB128
+    /// number.
     PairSubtractionULEB128LoongArch,
-    /// The symbol's address plus the addend, relative to the place.
+    /// S + A - P.
     Relative,
-    /// The low 12 bits of the value of the high part that the symbol names.
+    /// The low 12 bits of the value of the high part that the symbol labels.
     RelativeRiscVLow12,
     /// The high 32 bits of a LoongArch address relative to the place.
     RelativeLoongArchHigh,
@@ -71,9 +124,9 @@ pub enum RelocationKind {
     PltRelGotBase,
     /// The PLT entry's address relative to the place.
     PltRelative,
-    /// The symbol's size plus the addend.
+    /// Z + A.
     SymbolSize,
-    /// Bytes that keep what follows aligned.
+    /// Padding that aligns what follows; no value.
     Alignment,
     /// The address of the pair of GOT entries of general-dynamic TLS, relative to the place.
     TlsGd,
@@ -107,23 +160,23 @@ pub enum RelocationKind {
     TlsDescGotBase,
     /// The high 32 bits of the descriptor's address relative to the place, of LoongArch.
     TlsDescLoongArch64,
-    /// The call through a TLS descriptor, which holds no value.
+    /// The call through a TLS descriptor; no value.
     TlsDescCall,
 }
 
-/// Whether a number of bits is read in two's complement.
+/// Whether a bit field is read in two's complement.
 #[derive(Debug, Clone, Copy, PartialEq, Eq)]
 pub enum Sign {
     Signed,
     Unsigned,
 }
 
-/// Where a relocation's value goes.
+/// Where a relocation's value is written.
 #[derive(Debug, Clone, Copy, PartialEq, Eq)]
 pub enum RelocationSize {
-    /// Whole bytes, as many as said.
+    /// This number of whole bytes.
     ByteSize(u8),
-    /// A run of the value's bits into an instruction of a form.
+    /// A bit range of the value into an instruction of a form.
     BitMasking {
         range: BitRange,
         insn: RelocationInstruction,
@@ -133,7 +186,8 @@ pub enum RelocationSize {
 impl RelocationSize {
     /// Bits `start` and up, below `end`, into an AArch64 instruction.
     pub fn bit_mask_aarch64(start: u8, end: u8, insn: AArch64Instruction) -> RelocationSize
-        ensures { result ≡ RelocationSize.BitMasking (record { start = start; end = end }) (RelocationInstruction.AArch64 insn) }
+        ensures { result
+            ≡ RelocationSize.BitMasking (record { start = start; end = end }) (RelocationInstruction.AArch64 insn) }
     {
         RelocationSize::BitMasking {
             range: BitRange { start, end },
@@ -143,7 +197,8 @@ impl RelocationSize {
 
     /// Bits `start` and up, below `end`, into a RISC-V instruction.
     pub fn bit_mask_riscv(start: u8, end: u8, insn: RiscVInstruction) -> RelocationSize
-        ensures { result ≡ RelocationSize.BitMasking (record { start = start; end = end }) (RelocationInstruction.RiscV insn) }
+        ensures { result
+            ≡ RelocationSize.BitMasking (record { start = start; end = end }) (RelocationInstruction.RiscV insn) }
     {
         RelocationSize::BitMasking {
             range: BitRange { start, end },
@@ -153,7 +208,8 @@ impl RelocationSize {
 
     /// Bits `start` and up, below `end`, into a PowerPC64 instruction.
     pub fn bit_mask_ppc64(start: u8, end: u8, insn: Ppc64Instruction) -> RelocationSize
-        ensures { result ≡ RelocationSize.BitMasking (record { start = start; end = end }) (RelocationInstruction.Ppc64 insn) }
+        ensures { result
+            ≡ RelocationSize.BitMasking (record { start = start; end = end }) (RelocationInstruction.Ppc64 insn) }
     {
         RelocationSize::BitMasking {
             range: BitRange { start, end },
@@ -163,7 +219,8 @@ impl RelocationSize {
 
     /// Bits `start` and up, below `end`, into a LoongArch instruction.
     pub fn bit_mask_loongarch64(start: u8, end: u8, insn: LoongArch64Instruction) -> RelocationSize
-        ensures { result ≡ RelocationSize.BitMasking (record { start = start; end = end }) (RelocationInstruction.LoongArch64 insn) }
+        ensures { result
+            ≡ RelocationSize.BitMasking (record { start = start; end = end }) (RelocationInstruction.LoongArch64 insn) }
     {
         RelocationSize::BitMasking {
             range: BitRange { start, end },
@@ -181,13 +238,13 @@ pub enum RelocationInstruction {
     LoongArch64(LoongArch64Instruction),
 }
 
-/// The size of the pages that a mask cuts addresses to.
+/// The size of the pages of a page mask.
 #[derive(Debug, Clone, Copy, PartialEq, Eq)]
 pub enum PageMaskPattern {
     Size4KB,
 }
 
-/// Which addresses are cut to their page before a difference is taken.
+/// The addresses whose offset in the page is cleared before a difference is taken.
 #[derive(Debug, Clone, Copy, PartialEq, Eq)]
 pub enum PageMask {
     /// The symbol's address plus the addend, and the place.
@@ -198,8 +255,8 @@ pub enum PageMask {
     GotBase(PageMaskPattern),
 }
 
-/// A number, not 0, that is added to the symbol's or the entry's value before a page mask is applied
-/// and before the bit range is taken.
+/// A number, not 0, that is added to the symbol's address or the GOT entry's address. It is added
+/// before the page mask is applied, and before the bit range is taken.
 #[derive(Debug, Clone, Copy, PartialEq, Eq)]
 pub struct Bias {
     value: u64,
@@ -214,7 +271,7 @@ impl Model for Bias {
 }
 
 impl Bias {
-    /// The bias of a number, and none of 0.
+    /// A bias of `value`; `None` for 0.
     pub fn from_value(value: u64) -> Option<Bias>
         ensures { result ≡ (if value == 0 then None else Some value) }
     {
@@ -233,14 +290,23 @@ impl Bias {
     }
 }
 
-/// The values that a relocation may have: from the first bound up, below the second, or all.
+/// The allowed values of a relocation: from the first bound up to, and not including, the second;
+/// or every value.
+///
+/// ```
+/// use linker_utils::elf::{AllowedRange, Sign};
+///
+/// let branch = AllowedRange::from_bit_size(28, Sign::Signed);
+/// assert!(branch.contains(-(1 << 27)));
+/// assert!(!branch.contains(1 << 27));
+/// ```
 #[derive(Debug, Clone, Copy, PartialEq, Eq)]
 pub struct AllowedRange {
     pub bounds: Option<(i64, i64)>,
 }
 
 impl AllowedRange {
-    /// From `min` up, below `max`.
+    /// From `min` up to, and not including, `max`.
     pub fn new(min: i64, max: i64) -> AllowedRange
         ensures { result.bounds ≡ Some (min, max) }
     {
@@ -249,14 +315,14 @@ impl AllowedRange {
         }
     }
 
-    /// All values.
+    /// Every value.
     pub fn no_check() -> AllowedRange
         ensures { result.bounds ≡ None }
     {
         AllowedRange { bounds: None }
     }
 
-    /// The numbers of `n` bits: signed from -2^(n-1) up, below 2^(n-1), or unsigned below 2^n.
+    /// The numbers of `n` bits: signed from -2^(n-1) to 2^(n-1) - 1, or unsigned below 2^n.
     pub fn from_bit_size(n: u32, sign: Sign) -> AllowedRange
         requires some { 1 ≤ n }
         requires short { n ≤ 62 }
@@ -268,7 +334,7 @@ impl AllowedRange {
         }
     }
 
-    /// The numbers of `k` bytes; of eight bytes, all values.
+    /// The numbers of `k` bytes; for eight bytes, every value.
     pub fn from_byte_size(k: u32, sign: Sign) -> AllowedRange
         requires some { 1 ≤ k }
         requires short { k ≤ 8 }
@@ -281,7 +347,8 @@ impl AllowedRange {
         }
     }
 
-    /// Whether a value is allowed.
+    /// Whether a value is in the range. Where two instructions hold the value, the range may be
+    /// wider than what they reach: see `relocation_type_from_raw` of each architecture.
     pub fn contains(self, v: i64) -> bool
         ensures { IsTrue result ↔ IsAllowed self v }
     {
@@ -295,25 +362,35 @@ impl AllowedRange {
 /// What a relocation means.
 #[derive(Debug, Clone, Copy, PartialEq, Eq)]
 pub struct RelocationKindInfo {
-    /// What its value is computed from.
+    /// The formula of its value.
     pub kind: RelocationKind,
-    /// Where its value goes.
+    /// Where its value is written.
     pub size: RelocationSize,
-    /// Which addresses are cut to their page.
+    /// The addresses whose offset in the page is cleared.
     pub mask: Option<PageMask>,
-    /// The values that it may have.
+    /// The allowed values.
     pub range: AllowedRange,
-    /// What its value has to be a multiple of.
+    /// The value is a multiple of this.
     pub alignment: u64,
-    /// What is added first.
+    /// Added before the page mask is applied.
     pub bias: Option<Bias>,
     /// Whether a thunk may stand in for a target that is out of range.
     pub thunkable: bool,
-    /// Whether the addend stands in the section.
+    /// Whether the addend is in the section, and not in the relocation.
     pub implicit_addend: bool,
 }
 
-/// A form of instructions that hold a value: where its bits stand, and which number they are.
+/// An instruction form: where the bits of an immediate stand in an instruction, and which number
+/// they are.
+///
+/// ```
+/// use linker_utils::elf::{InstructionForm, RiscVInstruction};
+///
+/// let mut jal = 0x0000_00efu32.to_le_bytes();
+/// RiscVInstruction::JType.write(8, false, &mut jal);
+/// assert_eq!(u32::from_le_bytes(jal), 0x0080_00ef);
+/// assert_eq!(RiscVInstruction::JType.read(&jal), (8, false));
+/// ```
 pub trait InstructionForm: Copy {
     // what defines the form
     ghost form: { Self → Form };
@@ -327,27 +404,56 @@ pub trait InstructionForm: Copy {
         requires { byte_len (form self).window ≤ length bytes.now }
         ensures { IsTrue result ↔ Fits (form self) value (window_of (form self) bytes.now) };
 
-    /// Writes a value and its sign into the instruction that `dest` begins with, and changes no bit
-    /// but the form's.
+    /// Writes a value and its sign into the instruction that `dest` begins with. Only the form's
+    /// bits change.
     fn write(self, value: u64, negative: bool, dest: &mut [u8])
         requires room { byte_len (form self).window ≤ length dest.old }
         requires fits { Fits (form self) value (window_of (form self) dest.old) }
         ensures written { Written (form self) value negative (window_of (form self) dest.old) (window_of (form self) dest.new) }
-        ensures rest { drop (byte_len (form self).window) dest.new ≡ drop (byte_len (form self).window) dest.old }
+        ensures rest { drop (byte_len (form self).window) dest.new
+            ≡ drop (byte_len (form self).window) dest.old }
         ensures machine { MachineReads (form self) value negative (window_of (form self) dest.old) (window_of (form self) dest.new) }
-        ensures restored { IsReadBack (form self) value negative (window_of (form self) dest.old) → dest.new ≡ dest.old };
+        ensures restored { IsReadBack (form self) value negative (window_of (form self) dest.old)
+            → dest.new ≡ dest.old };
 
     /// The value in the instruction that `bytes` begins with, modulo 2^64, and the form's flag.
     fn read(self, bytes: &[u8]) -> (u64, bool)
         requires { byte_len (form self).window ≤ length bytes.now }
-        ensures number { result.0 ≡ cast_unsigned w64 ((form self).reading (window_of (form self) bytes.now)) }
+        ensures number { result.0
+            ≡ cast_unsigned w64 ((form self).reading (window_of (form self) bytes.now)) }
         ensures flag { result.1 ≡ (form self).flag (window_of (form self) bytes.now) };
 
     // a write keeps each bit that is neither at a place nor in an opcode that the form sets
-    ghost keeps: { (f : Self) → KeepsOthers (form f) };
+    ghost keeps: { (f : Self) → WriteKeepsOtherBits (form f) };
 
     // writing back what was read changes nothing
-    ghost restores: { (f : Self) → RestoresRead (form f) };
+    ghost restores: { (f : Self) → WriteBackChangesNothing (form f) };
+}
+
+/// A rewrite of the instruction at an offset of a section, as relaxations apply it: which bytes it
+/// changes, and what becomes of the relocation there and of the next one.
+pub trait InstructionRewrite: Copy {
+    // what the rewrite does; none changes nothing
+    ghost rewrite: { Self → Option Rewrite };
+
+    // what becomes of the next relocation
+    ghost modifier: { Self → RelocationModifier };
+
+    /// Rewrites the instruction at an offset of a section. The offset and the addend become those of
+    /// the relocation after it; all other bytes stay.
+    fn apply(self, section: &mut [u8], offset: &mut u64, addend: &mut i64)
+        requires { CanRewrite (rewrite self) section.old offset.old }
+        ensures bytes { section.new ≡ rewritten (rewrite self) section.old offset.old }
+        ensures offset { offset.new ≡ offset_after (rewrite self) offset.old }
+        ensures addend { addend.new ≡ addend_after (rewrite self) addend.old };
+
+    /// Whether `apply` may be called at an offset of a section.
+    fn can_apply(self, section: &[u8], offset: u64) -> bool
+        ensures { IsTrue result ↔ CanRewrite (rewrite self) section.now offset };
+
+    /// What becomes of the relocation after the rewritten one.
+    fn next_modifier(&self) -> RelocationModifier
+        ensures { result ≡ modifier self.now };
 }
 
 impl InstructionForm for RelocationInstruction {
@@ -398,29 +504,29 @@ impl InstructionForm for RelocationInstruction {
     }
 }
 
-/// RISC-V instructions that hold an immediate value (RISC-V unprivileged ISA, "Immediate Encoding
-/// Variants" and "Compressed Instruction Formats"). Every value fits. The window is 4 bytes if
-/// nothing else is said. `a..b to c` places value bits a to b, both included, from window bit c up.
+/// RISC-V instructions with an immediate (RISC-V unprivileged ISA, "Immediate Encoding Variants"
+/// and "Compressed Instruction Formats"). Every value fits. The window is 4 bytes unless said
+/// otherwise. `a..b to c` means: value bits a to b, both included, are at window bits c and up.
 #[derive(Debug, Clone, Copy, PartialEq, Eq)]
 pub enum RiscVInstruction {
-    /// The U-immediate, of `lui` and `auipc`: 12..31 to 12 of the value plus 0x800, so that a signed
-    /// low part of 12 bits completes it.
+    /// The U-immediate, of `lui` and `auipc`: 12..31 to 12 of the value plus 0x800, because the low
+    /// part is signed.
     UType,
     /// The I-immediate, of `addi`, loads and `jalr`: 0..11 to 20, signed.
     IType,
     /// The S-immediate, of stores: 0..4 to 7, 5..11 to 25, signed.
     SType,
-    /// The B-immediate, of conditional branches: 11 to 7, 1..4 to 8, 5..10 to 25, 12 to 31. A signed
-    /// distance of 13 bits, whose lowest is 0.
+    /// The B-immediate, of conditional branches: 11 to 7, 1..4 to 8, 5..10 to 25, 12 to 31. A
+    /// signed distance of 13 bits, whose lowest is 0.
     BType,
     /// The J-immediate, of `jal`: 12..19 to 12, 11 to 20, 1..10 to 21, 20 to 31. A signed distance
     /// of 21 bits, whose lowest is 0.
     JType,
-    /// The distance of `c.beqz` and `c.bnez`, in 2 bytes: 5 to 2, 1..2 to 3, 6..7 to 5, 3..4 to 10, 8
-    /// to 12. Signed, of 9 bits, whose lowest is 0.
+    /// The distance of `c.beqz` and `c.bnez`, in 2 bytes: 5 to 2, 1..2 to 3, 6..7 to 5, 3..4 to 10,
+    /// 8 to 12. Signed, of 9 bits, whose lowest is 0.
     CbType,
-    /// The distance of `c.j`, in 2 bytes: 5 to 2, 1..3 to 3, 7 to 6, 6 to 7, 10 to 8, 8..9 to 9, 4 to
-    /// 11, 11 to 12. Signed, of 12 bits, whose lowest is 0.
+    /// The distance of `c.j`, in 2 bytes: 5 to 2, 1..3 to 3, 7 to 6, 6 to 7, 10 to 8, 8..9 to 9, 4
+    /// to 11, 11 to 12. Signed, of 12 bits, whose lowest is 0.
     CjType,
     /// The immediate of `c.lui`, in 2 bytes: of the value plus 0x800, 12..16 to 2 and 17 to 12.
     CluiType,
@@ -448,16 +554,15 @@ pub enum Ppc64Instruction {
     Branch24,
 }
 
-/// LoongArch instructions that hold an immediate value, and the pairs that a long call is. The
-/// window is 4 bytes, and 8 for a pair. The names of fields are those of the LoongArch Reference
-/// Manual, volume 1, "Instruction Encoding".
+/// LoongArch instructions with an immediate, and the pairs of long calls (LoongArch Reference
+/// Manual, volume 1, "Instruction Encoding"). The window is 4 bytes, and 8 for a pair.
 #[derive(Debug, Clone, Copy, PartialEq, Eq)]
 pub enum LoongArch64Instruction {
     /// An immediate of 20 bits: value bits 0 to 19 at bit 5 and up. Values below 2^20 fit.
     Shift5,
     /// An immediate of 12 bits at bit 10 and up, or of 16 there: value bits 0 to 11 are replaced,
     /// and 12 to 15 are only ORed at bit 22 and up, where an immediate of 12 bits has its opcode.
-    /// Values below 2^16 fit. Reading answers bits 0 to 11.
+    /// Values below 2^16 fit. A read returns bits 0 to 11.
     Shift10,
     /// The offset of `b` and `bl` in units of 4 bytes: value bits 0 to 15 at bit 10 and up, 16 to
     /// 25 at bit 0 and up. Signed, of 26 bits. Values below 2^26 fit.
@@ -469,48 +574,48 @@ pub enum LoongArch64Instruction {
     /// whose bits 5 to 13 become 0, and 0 to 8 at bit 10 and up of word two. Values below 2^20 fit.
     Call30,
     /// `pcaddu18i` and `jirl`, in units of 4 bytes: bits 16 to 35 of the value plus 0x8000 at bit 5
-    /// and up of word one, value bits 0 to 15 at bit 10 and up of word two. `jirl` reads the low
-    /// part signed, so that 0x8000 is added for the high part; a carry out of it is dropped. Values
-    /// below 2^36 fit. Reading answers the high part and the signed low part together, modulo 2^36.
+    /// and up of word one, value bits 0 to 15 at bit 10 and up of word two. 0x8000 is added for the
+    /// high part because `jirl` reads the low part signed; a carry out of it is dropped. Values
+    /// below 2^36 fit. A read returns the high part times 2^16 plus the signed low part, modulo
+    /// 2^36.
     Call36,
 }
 
-/// AArch64 instructions that hold an immediate value (Arm Architecture Reference Manual for
-/// A-profile, DDI 0487, C6.2 and C7.2). The window is one instruction of 4 bytes. The value's bits
-/// are only ORed into it, but for `Movnz` and `MachOLow12`, so that they have to be 0 before.
+/// AArch64 instructions with an immediate (Arm Architecture Reference Manual for A-profile, DDI
+/// 0487, C6.2 and C7.2). The window is one instruction of 4 bytes. Except for `Movnz` and
+/// `MachOLow12` the value's bits are only ORed into it: the immediate has to be 0 before.
 #[derive(Debug, Clone, Copy, PartialEq, Eq)]
 pub enum AArch64Instruction {
     /// `adr` and `adrp`: value bits 0 and 1 at bit 29 and up, 2 to 20 at bit 5 and up. Signed 21
     /// bits, in bytes for `adr` and in pages of 4 KiB for `adrp`. Values below 2^21 fit.
     Adr,
-    /// `movk` and `movz`: 16 bits at bit 5 and up. The machine takes them unsigned and moves them up
-    /// by the instruction's shift; reading sign-extends them. Values below 2^16 fit.
+    /// `movk` and `movz`: 16 bits at bit 5 and up. The machine reads them unsigned and shifts them
+    /// left by the instruction's shift; a read sign-extends them. Values below 2^16 fit.
     Movkz,
-    /// `movn` and `movz` of 64 bits: the low 16 bits of the value at bit 5 and up, for a negative
-    /// value complemented. It sets the opcode by the sign and keeps the register, bits 0 to 4, and
-    /// the shift, bits 21 and 22. Every value fits.
+    /// `movn` and `movz` of 64 bits: the low 16 bits of the value at bit 5 and up, complemented for
+    /// a negative value. The sign sets the opcode. The register, bits 0 to 4, and the shift, bits
+    /// 21 and 22, stay. Every value fits.
     Movnz,
-    /// `ldr` of a literal: signed 19 bits at bit 5 and up, in words of 4 bytes. Values below 2^19
-    /// fit.
+    /// LDR (literal): signed 19 bits at bit 5 and up, in units of 4 bytes. Values below 2^19 fit.
     Ldr,
-    /// `ldr` of a register with an unsigned offset: unsigned 12 bits at bit 10 and up, in units of
-    /// the access size. Values below 2^12 fit.
+    /// LDR (immediate), unsigned offset: unsigned 12 bits at bit 10 and up, in units of the access
+    /// size. Values below 2^12 fit.
     LdrRegister,
-    /// `add` of an immediate: unsigned 12 bits at bit 10 and up. Values below 2^12 fit.
+    /// ADD (immediate): unsigned 12 bits at bit 10 and up. Values below 2^12 fit.
     Add,
     /// Loads and stores with an unsigned offset: 12 bits at bit 10 and up, in units of the access
-    /// size. The machine takes them unsigned; reading sign-extends them. Values below 2^12 fit.
+    /// size. The machine reads them unsigned; a read sign-extends them. Values below 2^12 fit.
     LdSt,
-    /// `tbz` and `tbnz`: signed 14 bits at bit 5 and up, in words of 4 bytes. Values below 2^14 fit.
-    TstBr,
-    /// `b.cond`, `cbz` and `cbnz`: signed 19 bits at bit 5 and up, in words of 4 bytes. Values below
-    /// 2^19 fit.
-    Bcond,
-    /// `b` and `bl`: signed 26 bits at bit 0 and up, in words of 4 bytes. Values below 2^26 fit.
-    JumpCall,
-    /// The offset in a page, in bytes, of `add`, of loads and of stores: its 12 bits from the access
-    /// scale up, at bit 10 and up. The bits below the scale are dropped. The scale is 0 for `add`
-    /// and by the old instruction's size, up to 4, for a load or store. Values below 2^(12 + scale)
+    /// `tbz` and `tbnz`: signed 14 bits at bit 5 and up, in units of 4 bytes. Values below 2^14
     /// fit.
+    TstBr,
+    /// `b.cond`, `cbz` and `cbnz`: signed 19 bits at bit 5 and up, in units of 4 bytes. Values
+    /// below 2^19 fit.
+    Bcond,
+    /// `b` and `bl`: signed 26 bits at bit 0 and up, in units of 4 bytes. Values below 2^26 fit.
+    JumpCall,
+    /// The offset in a page, in bytes, of `add`, loads and stores: value bits scale to scale + 11
+    /// at bit 10 and up. The bits below the scale are dropped. The scale is log2 of the access size
+    /// of the old instruction, 0 to 4, and 0 for `add`. Values below 2^(12 + scale) fit.
     MachOLow12,
 }

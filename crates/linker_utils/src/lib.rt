@@ -1,13 +1,14 @@
-//! The core of a linker: what relocations mean, how instructions are rewritten, and where values
-//! stand in them.
+//! The core of a linker: what relocations mean, how instructions are rewritten, and how values are
+//! written into them.
 #![tactic(auto)]
 
 pub mod aarch64;
 pub mod elf;
 pub mod loongarch64;
 pub mod ppc64;
+pub mod relaxation;
 mod rewrite;
 pub mod riscv64;
 pub mod x86_64;
 
-pub use linker_base::{bit_misc, relaxation, utils};
+pub use linker_base::{bit_misc, utils};

@@ -2,7 +2,7 @@
 
 ghost use Rattle.std.specs.Prelude.{◌≡◌, ◌≤◌, ◌+◌, ◌-◌, ◌++◌, ◌↔◌, IsTrue, length, take, drop};
 
-/// Whether the `len` bytes from `back` below `offset` lie in the section.
+/// Whether the `len` bytes that begin `back` bytes below `offset` lie in the section.
 #[inline(always)]
 pub(crate) fn has_window(section: &[u8], offset: u64, back: u64, len: u64) -> bool
     ensures { IsTrue result ↔ ((back ≤ offset) × (offset - back + len ≤ length section.now)) }
@@ -11,11 +11,12 @@ pub(crate) fn has_window(section: &[u8], offset: u64, back: u64, len: u64) -> bo
     back <= offset && len <= section_len && offset - back <= section_len - len
 }
 
-/// Puts bytes at an offset of the section, in place of as many.
+/// Overwrites bytes at an offset of the section.
 #[inline(always)]
 pub(crate) fn overwrite(section: &mut [u8], at: u64, bytes: &[u8])
     requires { at + length bytes.now ≤ length section.old }
-    ensures { section.new ≡ take at section.old ++ bytes.now ++ drop (at + length bytes.now) section.old }
+    ensures { section.new
+        ≡ take at section.old ++ bytes.now ++ drop (at + length bytes.now) section.old }
 {
     let start = at as usize;
     section[start..start + bytes.len()].copy_from_slice(bytes);

@@ -1,18 +1,30 @@
-//! x86-64: relaxation rewrites.
+//! x86-64: relaxation rewrites, and what relocations mean.
+
+mod relocations;
 
 ghost use Rattle.std.specs.Prelude.{◌≡◌, ◌≤◌, ◌↔◌, IsTrue, Some};
 ghost use Rattle.linker_base.specs.Rewrite.{IsRewritable, CanRewrite, rewritten, offset_after, addend_after};
-ghost use Rattle.linker_utils.specs.X86.{prefix, evex, modrm, operand, prefixed_operand, evex_operand, absolute, rex_add, x86_64_rewrite, x86_64_modifier, KeepsRegister};
-ghost use Rattle.linker_utils.specs.X86Rows as rows;
-ghost use Rattle.linker_utils.specs.X86Rows.{x86_64_row};
+ghost use Rattle.linker_utils.specs.X86.{rex_reg_to_rm, evex_reg_to_rm, modrm_reg_to_rm, operand, prefixed_operand, evex_operand, absolute, rex_add_rewrite, x86_64_rewrite, x86_64_modifier, KeepsRegister};
 
-use crate::elf::{AllowedRange, RelocationKind, RelocationKindInfo, RelocationSize, Sign};
+use crate::elf::InstructionRewrite;
 use crate::relaxation::RelocationModifier;
 use crate::rewrite::{has_window, overwrite};
+pub use relocations::{X86_64Relocation, relocation_from_raw};
 
-/// A rewrite of the instructions round a relocated field of 4 or 8 bytes. The number of a variant
-/// is that of the instruction's bytes before the field: 3 after a REX prefix, 4 after a REX2
-/// prefix, 6 after an EVEX prefix; at every other number the prefix stays as it is.
+/// A rewrite of the instructions around a relocated field of 4 or 8 bytes, whose offset is the
+/// field's (x86-64 psABI, "Optimize GOTPCRELX Relocations", and "ELF Handling For Thread-Local
+/// Storage"). A variant's number is the count of the instruction's bytes before the field: 3 with a
+/// REX prefix, 4 with a REX2 prefix, 6 with an EVEX prefix. With any other number the prefix stays.
+///
+/// ```
+/// use linker_utils::x86_64::RelaxationKind;
+///
+/// // jmp *x@GOTPCREL(%rip) becomes jmp x; nop
+/// let (mut section, mut offset, mut addend) = ([0xff, 0x25, 0, 0, 0, 0], 2, -4);
+/// RelaxationKind::JmpIndirectToRelative.apply(&mut section, &mut offset, &mut addend);
+/// assert_eq!(section, [0xe9, 0, 0, 0, 0, 0x90]);
+/// assert_eq!((offset, addend), (1, -4));
+/// ```
 #[derive(Debug, Clone, Copy, PartialEq, Eq)]
 pub enum RelaxationKind {
     /// Turns `mov x@GOTPCREL(%rip), %reg` into `lea x(%rip), %reg`.
@@ -29,19 +41,19 @@ pub enum RelaxationKind {
     RexCmpIndirectToAbsolute(u8),
     /// Turns `call *x@GOTPCREL(%rip)` into `addr32 call x`.
     CallIndirectToRelative,
-    /// Turns `jmp *x@GOTPCREL(%rip)` into `jmp x` and `nop`. The field moves one byte down.
+    /// Turns `jmp *x@GOTPCREL(%rip)` into `jmp x; nop`. The offset becomes 1 less.
     JmpIndirectToRelative,
-    /// Leaves the instruction as it is, where only the kind of its relocation changes.
+    /// Leaves the instruction as it is; only the kind of its relocation changes.
     NoOp,
     /// Turns a general-dynamic TLS sequence into a local-exec one.
     TlsGdToLocalExec,
-    /// The same of the large code model's sequence.
+    /// Turns the large code model's general-dynamic TLS sequence into a local-exec one.
     TlsGdToLocalExecLarge,
     /// Turns a local-dynamic TLS sequence into a local-exec one.
     TlsLdToLocalExec,
-    /// The same of a sequence whose call is indirect, through the GOT.
+    /// Turns a local-dynamic TLS sequence whose call goes through the GOT into a local-exec one.
     TlsLdToLocalExecNoPlt,
-    /// The same of the large code model's sequence.
+    /// Turns the large code model's local-dynamic TLS sequence into a local-exec one.
     TlsLdToLocalExec64,
     /// Turns a general-dynamic TLS sequence into an initial-exec one.
     TlsGdToInitialExec,
@@ -53,10 +65,10 @@ pub enum RelaxationKind {
     SkipTlsDescCall,
 }
 
-/// The prefix byte of an instruction whose reg field becomes its rm field.
+/// The prefix byte after the register moves from the reg field to the rm field: R moves to B.
 #[inline(always)]
 fn moved_prefix(n: u8, byte: u8) -> u8
-    ensures { result ≡ prefix n byte }
+    ensures { result ≡ rex_reg_to_rm n byte }
 {
     match n {
         3 => byte & !0x04 | (byte & 0x04) >> 2,
@@ -65,10 +77,10 @@ fn moved_prefix(n: u8, byte: u8) -> u8
     }
 }
 
-/// The EVEX byte of an instruction whose reg field becomes its rm field.
+/// The EVEX byte after the register moves from the reg field to the rm field.
 #[inline(always)]
 fn moved_evex(byte: u8) -> u8
-    ensures { result ≡ evex byte }
+    ensures { result ≡ evex_reg_to_rm byte }
 {
     let high = if byte & 0x80 == 0 {
         (byte | 0x80) & !0x20
@@ -78,11 +90,11 @@ fn moved_evex(byte: u8) -> u8
     if byte & 0x10 == 0 { high | 0x18 } else { high }
 }
 
-/// A ModRM byte with the reg field of another as its rm field.
+/// A ModRM byte whose rm field is the reg field of `byte`, and whose other bits are `others`.
 #[inline(always)]
 fn moved_modrm(others: u8, byte: u8) -> u8
     requires { others ≤ 0xf8 }
-    ensures { result ≡ modrm others byte }
+    ensures { result ≡ modrm_reg_to_rm others byte }
 {
     others + (byte >> 3 & 7)
 }
@@ -92,7 +104,8 @@ fn moved_modrm(others: u8, byte: u8) -> u8
 fn put_operand(section: &mut [u8], offset: u64, opcode: u8, others: u8)
     requires inside { IsRewritable (absolute 2 (operand opcode others)) section.old offset }
     requires room { others ≤ 0xf8 }
-    ensures { section.new ≡ rewritten (Some (absolute 2 (operand opcode others))) section.old offset }
+    ensures { section.new
+        ≡ rewritten (Some (absolute 2 (operand opcode others))) section.old offset }
 {
     let byte = section[(offset - 1) as usize];
     overwrite(section, offset - 2, &[opcode, moved_modrm(others, byte)]);
@@ -103,7 +116,8 @@ fn put_operand(section: &mut [u8], offset: u64, opcode: u8, others: u8)
 fn put_prefixed(section: &mut [u8], offset: u64, n: u8, opcode: u8, others: u8)
     requires inside { IsRewritable (absolute 3 (prefixed_operand n opcode others)) section.old offset }
     requires room { others ≤ 0xf8 }
-    ensures { section.new ≡ rewritten (Some (absolute 3 (prefixed_operand n opcode others))) section.old offset }
+    ensures { section.new
+        ≡ rewritten (Some (absolute 3 (prefixed_operand n opcode others))) section.old offset }
 {
     let start = (offset - 3) as usize;
     let front = moved_prefix(n, section[start]);
@@ -111,12 +125,13 @@ fn put_prefixed(section: &mut [u8], offset: u64, n: u8, opcode: u8, others: u8)
     overwrite(section, offset - 3, &[front, opcode, last]);
 }
 
-/// Rewrites an EVEX byte and the opcode and ModRM byte three bytes on.
+/// Rewrites an EVEX byte, and the opcode and ModRM byte that begin three bytes after it.
 #[inline(always)]
 fn put_evex(section: &mut [u8], offset: u64, opcode: u8, others: u8)
     requires inside { IsRewritable (absolute 5 (evex_operand opcode others)) section.old offset }
     requires room { others ≤ 0xf8 }
-    ensures { section.new ≡ rewritten (Some (absolute 5 (evex_operand opcode others))) section.old offset }
+    ensures { section.new
+        ≡ rewritten (Some (absolute 5 (evex_operand opcode others))) section.old offset }
 {
     let start = (offset - 5) as usize;
     let front = moved_evex(section[start]);
@@ -129,8 +144,8 @@ fn put_evex(section: &mut [u8], offset: u64, opcode: u8, others: u8)
 /// Rewrites an `add` with any prefix or none.
 #[inline(always)]
 fn put_add(section: &mut [u8], offset: u64, n: u8)
-    requires { IsRewritable (rex_add n) section.old offset }
-    ensures { section.new ≡ rewritten (Some (rex_add n)) section.old offset }
+    requires { IsRewritable (rex_add_rewrite n) section.old offset }
+    ensures { section.new ≡ rewritten (Some (rex_add_rewrite n)) section.old offset }
 {
     match n {
         3 => put_prefixed(section, offset, 3, 0x81, 0xc0),
@@ -144,8 +159,10 @@ impl RelaxationKind {
     #[inline(always)]
     fn rewrite(self, section: &mut [u8], offset_in_section: &mut u64, addend: &mut i64)
         requires { CanRewrite (x86_64_rewrite self) section.old offset_in_section.old }
-        ensures bytes { section.new ≡ rewritten (x86_64_rewrite self) section.old offset_in_section.old }
-        ensures offset { offset_in_section.new ≡ offset_after (x86_64_rewrite self) offset_in_section.old }
+        ensures bytes { section.new
+            ≡ rewritten (x86_64_rewrite self) section.old offset_in_section.old }
+        ensures offset { offset_in_section.new
+            ≡ offset_after (x86_64_rewrite self) offset_in_section.old }
         ensures addend { addend.new ≡ addend_after (x86_64_rewrite self) addend.old }
     {
         let offset = *offset_in_section;
@@ -252,17 +269,19 @@ impl RelaxationKind {
         }
     }
 
-    /// Rewrites the instructions round the field at an offset of a section. The offset becomes that
-    /// of the field after it, and the addend 0 where the field becomes absolute or an offset from
-    /// the thread pointer; all other bytes stay.
+    /// Rewrites the instructions around the field at an offset of a section. The offset becomes
+    /// that of the field afterwards. The addend becomes 0 where the field becomes absolute or an
+    /// offset from the thread pointer. All other bytes stay.
     ///
-    /// Where the operand of `mov` becomes absolute, and bit 0 of its REX byte was clear, the register
-    /// that it names stays the same.
+    /// `RexMovIndirectToAbsolute(3)` keeps the register that `mov` names, if bit 0 of the REX byte
+    /// was clear.
     #[inline(always)]
     pub fn apply(self, section_bytes: &mut [u8], offset_in_section: &mut u64, addend: &mut i64)
         requires { CanRewrite (x86_64_rewrite self) section_bytes.old offset_in_section.old }
-        ensures bytes { section_bytes.new ≡ rewritten (x86_64_rewrite self) section_bytes.old offset_in_section.old }
-        ensures offset { offset_in_section.new ≡ offset_after (x86_64_rewrite self) offset_in_section.old }
+        ensures bytes { section_bytes.new
+            ≡ rewritten (x86_64_rewrite self) section_bytes.old offset_in_section.old }
+        ensures offset { offset_in_section.new
+            ≡ offset_after (x86_64_rewrite self) offset_in_section.old }
         ensures addend { addend.new ≡ addend_after (x86_64_rewrite self) addend.old }
         ensures register { self ≡ RelaxationKind.RexMovIndirectToAbsolute 3
             → KeepsRegister section_bytes.old section_bytes.new offset_in_section.old }
@@ -271,7 +290,7 @@ impl RelaxationKind {
     }
 
     /// Whether `apply` may be called at an offset of a section: the bytes that it rewrites lie in
-    /// the section.
+    /// the section. The instruction is not tested.
     #[inline(always)]
     pub fn can_apply(self, section: &[u8], offset: u64) -> bool
         ensures { IsTrue result ↔ CanRewrite (x86_64_rewrite self) section.now offset }
@@ -309,7 +328,7 @@ impl RelaxationKind {
         }
     }
 
-    /// What becomes of the relocation after the rewritten one.
+    /// What happens to the next relocation: the TLS sequences skip that of their call.
     #[inline]
     pub fn next_modifier(&self) -> RelocationModifier
         ensures { result ≡ x86_64_modifier self.now }
@@ -337,224 +356,23 @@ impl RelaxationKind {
     }
 }
 
-/// A relocation of x86-64 by its name (x86-64 psABI, "Relocation Types").
-#[allow(non_camel_case_types)]
-#[derive(Debug, Clone, Copy, PartialEq, Eq)]
-pub enum X86_64Relocation {
-    R_X86_64_NONE,
-    R_X86_64_TLSDESC_CALL,
-    R_X86_64_64,
-    R_X86_64_32,
-    R_X86_64_32S,
-    R_X86_64_16,
-    R_X86_64_8,
-    R_X86_64_PC64,
-    R_X86_64_GOTPC64,
-    R_X86_64_PC32,
-    R_X86_64_GOTPC32,
-    R_X86_64_PC16,
-    R_X86_64_PC8,
-    R_X86_64_GOT32,
-    R_X86_64_GOT64,
-    R_X86_64_GOTOFF64,
-    R_X86_64_PLT32,
-    R_X86_64_PLTOFF64,
-    R_X86_64_GOTPCREL,
-    R_X86_64_GOTPCRELX,
-    R_X86_64_REX_GOTPCRELX,
-    R_X86_64_CODE_4_GOTPCRELX,
-    R_X86_64_CODE_5_GOTPCRELX,
-    R_X86_64_CODE_6_GOTPCRELX,
-    R_X86_64_SIZE32,
-    R_X86_64_SIZE64,
-    R_X86_64_TLSGD,
-    R_X86_64_TLSLD,
-    R_X86_64_DTPOFF32,
-    R_X86_64_DTPOFF64,
-    R_X86_64_GOTTPOFF,
-    R_X86_64_CODE_4_GOTTPOFF,
-    R_X86_64_CODE_5_GOTTPOFF,
-    R_X86_64_CODE_6_GOTTPOFF,
-    R_X86_64_TPOFF32,
-    R_X86_64_GOTPC32_TLSDESC,
-    R_X86_64_CODE_4_GOTPC32_TLSDESC,
-    R_X86_64_CODE_5_GOTPC32_TLSDESC,
-    R_X86_64_CODE_6_GOTPC32_TLSDESC,
-    /// A relocation without a name here, by its number.
-    Other(u32),
-}
+impl InstructionRewrite for RelaxationKind {
+    ghost rewrite = { x86_64_rewrite };
 
-#[inline(always)]
-fn described(kind: RelocationKind, size: RelocationSize, range: AllowedRange) -> RelocationKindInfo
-    ensures { result ≡ rows.described kind size range }
-{
-    RelocationKindInfo {
-        kind,
-        size,
-        mask: None,
-        range,
-        alignment: 1,
-        bias: None,
-        thunkable: false,
-        implicit_addend: false,
+    ghost modifier = { x86_64_modifier };
+
+    #[inline(always)]
+    fn apply(self, section: &mut [u8], offset: &mut u64, addend: &mut i64) {
+        RelaxationKind::apply(self, section, offset, addend);
     }
-}
 
-/// A number of whole bytes.
-#[inline(always)]
-fn bytes(kind: RelocationKind, count: u8, range: AllowedRange) -> RelocationKindInfo
-    ensures { result ≡ rows.bytes kind count range }
-{
-    described(kind, RelocationSize::ByteSize(count), range)
-}
+    #[inline(always)]
+    fn can_apply(self, section: &[u8], offset: u64) -> bool {
+        RelaxationKind::can_apply(self, section, offset)
+    }
 
-/// What a relocation means, or `None` for one without a name. Fields of 8 bytes are not checked;
-/// those of 16 and 8 bits that hold an address may be of either sign.
-pub fn relocation_from_raw(name: X86_64Relocation) -> Option<RelocationKindInfo>
-    ensures { result ≡ x86_64_row name }
-{
-    match name {
-        X86_64Relocation::R_X86_64_NONE => Some(bytes(
-            RelocationKind::None,
-            0,
-            AllowedRange::no_check(),
-        )),
-        X86_64Relocation::R_X86_64_TLSDESC_CALL => Some(bytes(
-            RelocationKind::TlsDescCall,
-            0,
-            AllowedRange::no_check(),
-        )),
-        X86_64Relocation::R_X86_64_64 => Some(bytes(
-            RelocationKind::Absolute,
-            8,
-            AllowedRange::no_check(),
-        )),
-        X86_64Relocation::R_X86_64_32 => Some(bytes(
-            RelocationKind::Absolute,
-            4,
-            AllowedRange::from_bit_size(32, Sign::Unsigned),
-        )),
-        X86_64Relocation::R_X86_64_32S => Some(bytes(
-            RelocationKind::Absolute,
-            4,
-            AllowedRange::from_bit_size(32, Sign::Signed),
-        )),
-        X86_64Relocation::R_X86_64_16 => Some(bytes(
-            RelocationKind::Absolute,
-            2,
-            AllowedRange::new(-0x8000, 0x10000),
-        )),
-        X86_64Relocation::R_X86_64_8 => Some(bytes(
-            RelocationKind::Absolute,
-            1,
-            AllowedRange::new(-128, 0x100),
-        )),
-        X86_64Relocation::R_X86_64_PC64 | X86_64Relocation::R_X86_64_GOTPC64 => Some(bytes(
-            RelocationKind::Relative,
-            8,
-            AllowedRange::no_check(),
-        )),
-        X86_64Relocation::R_X86_64_PC32 | X86_64Relocation::R_X86_64_GOTPC32 => Some(bytes(
-            RelocationKind::Relative,
-            4,
-            AllowedRange::from_bit_size(32, Sign::Signed),
-        )),
-        X86_64Relocation::R_X86_64_PC16 => Some(bytes(
-            RelocationKind::Relative,
-            2,
-            AllowedRange::from_bit_size(16, Sign::Signed),
-        )),
-        X86_64Relocation::R_X86_64_PC8 => Some(bytes(
-            RelocationKind::Relative,
-            1,
-            AllowedRange::from_bit_size(8, Sign::Signed),
-        )),
-        X86_64Relocation::R_X86_64_GOT32 => Some(bytes(
-            RelocationKind::GotRelGotBase,
-            4,
-            AllowedRange::from_bit_size(32, Sign::Unsigned),
-        )),
-        X86_64Relocation::R_X86_64_GOT64 => Some(bytes(
-            RelocationKind::GotRelGotBase,
-            8,
-            AllowedRange::no_check(),
-        )),
-        X86_64Relocation::R_X86_64_GOTOFF64 => Some(bytes(
-            RelocationKind::SymRelGotBase,
-            8,
-            AllowedRange::no_check(),
-        )),
-        X86_64Relocation::R_X86_64_PLT32 => Some(bytes(
-            RelocationKind::PltRelative,
-            4,
-            AllowedRange::from_bit_size(32, Sign::Signed),
-        )),
-        X86_64Relocation::R_X86_64_PLTOFF64 => Some(bytes(
-            RelocationKind::PltRelGotBase,
-            8,
-            AllowedRange::no_check(),
-        )),
-        X86_64Relocation::R_X86_64_GOTPCREL
-        | X86_64Relocation::R_X86_64_GOTPCRELX
-        | X86_64Relocation::R_X86_64_REX_GOTPCRELX
-        | X86_64Relocation::R_X86_64_CODE_4_GOTPCRELX
-        | X86_64Relocation::R_X86_64_CODE_5_GOTPCRELX
-        | X86_64Relocation::R_X86_64_CODE_6_GOTPCRELX => Some(bytes(
-            RelocationKind::GotRelative,
-            4,
-            AllowedRange::from_bit_size(32, Sign::Signed),
-        )),
-        X86_64Relocation::R_X86_64_SIZE32 => Some(bytes(
-            RelocationKind::SymbolSize,
-            4,
-            AllowedRange::from_bit_size(32, Sign::Unsigned),
-        )),
-        X86_64Relocation::R_X86_64_SIZE64 => Some(bytes(
-            RelocationKind::SymbolSize,
-            8,
-            AllowedRange::no_check(),
-        )),
-        X86_64Relocation::R_X86_64_TLSGD => Some(bytes(
-            RelocationKind::TlsGd,
-            4,
-            AllowedRange::from_bit_size(32, Sign::Signed),
-        )),
-        X86_64Relocation::R_X86_64_TLSLD => Some(bytes(
-            RelocationKind::TlsLd,
-            4,
-            AllowedRange::from_bit_size(32, Sign::Signed),
-        )),
-        X86_64Relocation::R_X86_64_DTPOFF32 => Some(bytes(
-            RelocationKind::DtpOff,
-            4,
-            AllowedRange::from_bit_size(32, Sign::Signed),
-        )),
-        X86_64Relocation::R_X86_64_DTPOFF64 => Some(bytes(
-            RelocationKind::DtpOff,
-            8,
-            AllowedRange::no_check(),
-        )),
-        X86_64Relocation::R_X86_64_GOTTPOFF
-        | X86_64Relocation::R_X86_64_CODE_4_GOTTPOFF
-        | X86_64Relocation::R_X86_64_CODE_5_GOTTPOFF
-        | X86_64Relocation::R_X86_64_CODE_6_GOTTPOFF => Some(bytes(
-            RelocationKind::GotTpOff,
-            4,
-            AllowedRange::from_bit_size(32, Sign::Signed),
-        )),
-        X86_64Relocation::R_X86_64_TPOFF32 => Some(bytes(
-            RelocationKind::TpOff,
-            4,
-            AllowedRange::from_bit_size(32, Sign::Signed),
-        )),
-        X86_64Relocation::R_X86_64_GOTPC32_TLSDESC
-        | X86_64Relocation::R_X86_64_CODE_4_GOTPC32_TLSDESC
-        | X86_64Relocation::R_X86_64_CODE_5_GOTPC32_TLSDESC
-        | X86_64Relocation::R_X86_64_CODE_6_GOTPC32_TLSDESC => Some(bytes(
-            RelocationKind::TlsDesc,
-            4,
-            AllowedRange::from_bit_size(32, Sign::Signed),
-        )),
-        X86_64Relocation::Other(_) => None,
+    #[inline(always)]
+    fn next_modifier(&self) -> RelocationModifier {
+        RelaxationKind::next_modifier(self)
     }
 }

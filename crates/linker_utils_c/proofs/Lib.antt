@@ -1,3 +1,3 @@
 pub mod DeltaLists
-pub mod ListedRows
 pub mod Moved
+pub mod RelocationNames

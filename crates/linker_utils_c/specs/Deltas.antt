@@ -1,10 +1,13 @@
 -- The deletions and deltas that C passes.
-use Rattle.std.specs.Prelude.{◌≡◌, ℕ, List, map}
+use Rattle.std.specs.Prelude.{◌≡◌, ℕ, ◌+◌, ◌<◌, List, length, map, take, ⊤}
+use Rattle.std.specs.List.Sorted.{IsNonDecreasing}
 use Rattle.linker_base.specs.declared.relaxation.RelaxDelta.{RelaxDelta}
 use Rattle.linker_base.specs.Deletions.{IsSortedUnion}
-use Rattle.linker_base.specs.Deltas.{deletion_of}
-use Rattle.linker_base.specs.Listed.{AreListed}
+use Rattle.linker_base.specs.Deltas.{deletions_of}
+use Rattle.linker_base.specs.Listed.{AreValidDeltas, IsFirstOverlapping}
 use Rattle.linker_utils_c.specs.declared.deltas.Deletion.{Deletion}
+use Rattle.linker_utils_c.specs.declared.merges.MergeError.{MergeError}
+use Rattle.linker_utils_c.specs.declared.merges.MergeError.TheVariants.{OutOfMemory, Overlapping}
 
 abbrev pub pair_of : Deletion → ℕ × ℕ
 pair_of deletion = (deletion.offset, deletion.bytes)
@@ -13,16 +16,23 @@ pair_of deletion = (deletion.offset, deletion.bytes)
 abbrev pub pairs_in : List Deletion → List (ℕ × ℕ)
 pairs_in deletions = map pair_of deletions
 
--- the deletions that deltas record, as such pairs
-abbrev pub pairs_under : List RelaxDelta → List (ℕ × ℕ)
-pairs_under deltas = map deletion_of deltas
-
 -- the deltas list these deletions, which are valid
 pub record AreDeltasOf (deletions : List (ℕ × ℕ)) (deltas : List RelaxDelta) : Type 0 where
-  pub same : pairs_under deltas ≡ deletions
-  pub listed : AreListed deltas
+  pub same : deletions_of deltas ≡ deletions
+  pub listed : AreValidDeltas deltas
 
 -- the deltas list the old and the additional deletions, sorted
 pub record AreMerged (all : List (ℕ × ℕ)) (deltas : List RelaxDelta) : Type 0 where
-  pub union : IsSortedUnion all (pairs_under deltas)
-  pub listed : AreListed deltas
+  pub union : IsSortedUnion all (deletions_of deltas)
+  pub listed : AreValidDeltas deltas
+
+-- why the additional deletions aren't merged: out of memory, or the first of them that overlaps others
+abbrev pub IsMergeError : List (ℕ × ℕ) → List (ℕ × ℕ) → MergeError → Type 0
+IsMergeError deletions additional OutOfMemory = ⊤
+IsMergeError deletions additional (Overlapping at) = IsFirstOverlapping deletions additional at
+
+-- the query at the index is the first that is less than the one before it
+pub record IsFirstDecrease (queries : List ℕ) (at : ℕ) : Type 0 where
+  pub within : at < length queries
+  pub before : IsNonDecreasing (take at queries)
+  pub here : ¬ IsNonDecreasing (take (at + 1) queries)

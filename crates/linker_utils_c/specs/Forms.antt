@@ -1,7 +1,10 @@
 -- The numbers by which C names forms of instructions.
-use Rattle.std.specs.Prelude.{◌≡◌, ◌<◌, ◌≤◌, Bool, length, drop, ℕ, ◌==◌, if◌then◌else◌, List, [], ◌∷◌, slice_get, Option, None, Some, Result, Ok, Err}
+use Rattle.std.specs.Prelude.{◌≡◌, ◌<◌, ◌≤◌, Bool, true, false, length, drop, ℕ, List, [], ◌∷◌, slice_get, Option, None, Some, Result, Ok, Err}
 use Rattle.std.specs.Int.{byte_len}
 use Rattle.linker_base.specs.Form.{Form, window_of, Fits, Written, MachineReads, IsReadBack}
+use Rattle.linker_utils.specs.Elf.{architecture_of}
+use Rattle.linker_utils.specs.declared.elf.Architecture.{Architecture}
+use Rattle.linker_utils.specs.declared.elf.Architecture.TheVariants as architectures
 use Rattle.linker_utils.specs.declared.elf.RelocationInstruction.{RelocationInstruction}
 use Rattle.linker_utils.specs.declared.elf.RelocationInstruction.TheVariants.{AArch64, RiscV, LoongArch64, Ppc64}
 use Rattle.linker_utils_c.specs.declared.status.Status.{Status}
@@ -34,14 +37,22 @@ loongarch64_forms = Shift5 ∷ Shift10 ∷ Branch26 ∷ Branch21 ∷ Call30 ∷ 
 abbrev pub ppc64_forms : List Ppc64Instruction
 ppc64_forms = D ∷ Ds ∷ Branch14 ∷ Branch24 ∷ []
 
--- the form of an architecture and a number, or which of the two is unknown
+-- the form of a machine (e_machine) and a number, or which of the two is unknown
+abbrev pub form_among : Option Architecture → ℕ → Result RelocationInstruction Status
+form_among None form = Err UnknownArchitecture
+form_among (Some architectures.AArch64) form = listed_form AArch64 (slice_get aarch64_forms form)
+form_among (Some architectures.RiscV) form = listed_form RiscV (slice_get riscv_forms form)
+form_among (Some architectures.LoongArch64) form = listed_form LoongArch64 (slice_get loongarch64_forms form)
+form_among (Some architectures.Ppc64) form = listed_form Ppc64 (slice_get ppc64_forms form)
+form_among (Some architectures.X86_64) form = Err UnknownArchitecture
+
 abbrev pub named_form : ℕ → ℕ → Result RelocationInstruction Status
-named_form architecture form =
-    if architecture == 0 then listed_form AArch64 (slice_get aarch64_forms form)
-    else (if architecture == 1 then listed_form RiscV (slice_get riscv_forms form)
-    else (if architecture == 2 then listed_form LoongArch64 (slice_get loongarch64_forms form)
-    else (if architecture == 3 then listed_form Ppc64 (slice_get ppc64_forms form)
-    else Err UnknownArchitecture)))
+named_form machine form = form_among (architecture_of machine) form
+
+-- the number that stands for a flag
+abbrev pub flag_number : Bool → ℕ
+flag_number false = 0
+flag_number true = 1
 
 -- the status says whether a value can be written to the instruction that the bytes begin with
 pub record TakesValue (form : Form) (value : ℕ) (bytes : List ℕ) (status : ℕ) : Type 0 where

@@ -1,5 +1,6 @@
 pub mod Deltas
 pub mod Forms
+pub mod Packing
 pub mod Relocations
 pub mod Rewrites
 pub mod Status

@@ -1,14 +1,17 @@
 -- The numbers by which C names rewrites of instructions.
-use Rattle.std.specs.Prelude.{◌≡◌, ℕ, ◌==◌, if◌then◌else◌, List, [], ◌∷◌, slice_get, Option, None, Some, Result, Ok, Err, ℤ}
+use Rattle.std.specs.Prelude.{◌≡◌, ℕ, List, [], ◌∷◌, slice_get, Option, None, Some, Result, Ok, Err, ℤ}
 use Rattle.linker_base.specs.Rewrite.{Rewrite, CanRewrite, rewritten, offset_after, addend_after}
 use Rattle.linker_base.specs.declared.relaxation.RelocationModifier.{RelocationModifier}
 use Rattle.linker_base.specs.declared.relaxation.RelocationModifier.TheVariants.{Normal, SkipNextRelocation}
+use Rattle.linker_utils.specs.Elf.{architecture_of}
+use Rattle.linker_utils.specs.declared.elf.Architecture.{Architecture}
+use Rattle.linker_utils.specs.declared.elf.Architecture.TheVariants as architectures
 use Rattle.linker_utils.specs.declared.aarch64.RelaxationKind.{RelaxationKind as AArch64Kind}
 use Rattle.linker_utils.specs.declared.aarch64.RelaxationKind.TheVariants as aarch64_kinds
-use Rattle.linker_utils.specs.declared.riscv64.RelaxationKind.{RelaxationKind as RiscVKind}
-use Rattle.linker_utils.specs.declared.riscv64.RelaxationKind.TheVariants as riscv_kinds
-use Rattle.linker_utils.specs.declared.loongarch64.RelaxationKind.{RelaxationKind as LoongArch64Kind}
-use Rattle.linker_utils.specs.declared.loongarch64.RelaxationKind.TheVariants as loongarch64_kinds
+use Rattle.linker_utils.specs.declared.riscv64.rewrites.RelaxationKind.{RelaxationKind as RiscVKind}
+use Rattle.linker_utils.specs.declared.riscv64.rewrites.RelaxationKind.TheVariants as riscv_kinds
+use Rattle.linker_utils.specs.declared.loongarch64.rewrites.RelaxationKind.{RelaxationKind as LoongArch64Kind}
+use Rattle.linker_utils.specs.declared.loongarch64.rewrites.RelaxationKind.TheVariants as loongarch64_kinds
 use Rattle.linker_utils.specs.declared.ppc64.RelaxationKind.{RelaxationKind as Ppc64Kind}
 use Rattle.linker_utils.specs.declared.ppc64.RelaxationKind.TheVariants as ppc64_kinds
 use Rattle.linker_utils.specs.declared.x86_64.RelaxationKind.{RelaxationKind as X86_64Kind}
@@ -16,7 +19,7 @@ use Rattle.linker_utils.specs.declared.x86_64.RelaxationKind.TheVariants as x86_
 use Rattle.linker_utils.specs.AArch64.{aarch64_rewrite, aarch64_modifier}
 use Rattle.linker_utils.specs.RiscV.{riscv_rewrite, riscv_modifier}
 use Rattle.linker_utils.specs.LoongArch.{loongarch_rewrite, loongarch_modifier}
-use Rattle.linker_utils.specs.PowerPc.{ppc64_rewrite, ppc64_modifier}
+use Rattle.linker_utils.specs.Ppc64.{ppc64_rewrite, ppc64_modifier}
 use Rattle.linker_utils.specs.X86.{x86_64_rewrite, x86_64_modifier}
 use Rattle.linker_utils_c.specs.declared.status.Status.{Status}
 use Rattle.linker_utils_c.specs.declared.status.Status.TheVariants.{Success, UnknownArchitecture, UnknownRewrite, CannotApply}
@@ -64,15 +67,17 @@ abbrev pub listed_rewrite : {A : Type 0} → (A → Relaxation) → Option A →
 listed_rewrite of None = Err UnknownRewrite
 listed_rewrite of (Some kind) = Ok (of kind)
 
--- the rewrite of an architecture, a number and the bytes before the field, or which of the first two is unknown
+-- the rewrite of a machine (e_machine), a number and the bytes before the field, or which of the first two is unknown
+abbrev pub rewrite_among : Option Architecture → ℕ → ℕ → Result Relaxation Status
+rewrite_among None rewrite n = Err UnknownArchitecture
+rewrite_among (Some architectures.AArch64) rewrite n = listed_rewrite AArch64 (slice_get aarch64_rewrites rewrite)
+rewrite_among (Some architectures.RiscV) rewrite n = listed_rewrite RiscV (slice_get riscv_rewrites rewrite)
+rewrite_among (Some architectures.LoongArch64) rewrite n = listed_rewrite LoongArch64 (slice_get loongarch64_rewrites rewrite)
+rewrite_among (Some architectures.Ppc64) rewrite n = listed_rewrite Ppc64 (slice_get ppc64_rewrites rewrite)
+rewrite_among (Some architectures.X86_64) rewrite n = listed_rewrite X86_64 (slice_get (x86_64_rewrites n) rewrite)
+
 abbrev pub named_rewrite : ℕ → ℕ → ℕ → Result Relaxation Status
-named_rewrite architecture rewrite n =
-    if architecture == 0 then listed_rewrite AArch64 (slice_get aarch64_rewrites rewrite)
-    else (if architecture == 1 then listed_rewrite RiscV (slice_get riscv_rewrites rewrite)
-    else (if architecture == 2 then listed_rewrite LoongArch64 (slice_get loongarch64_rewrites rewrite)
-    else (if architecture == 3 then listed_rewrite Ppc64 (slice_get ppc64_rewrites rewrite)
-    else (if architecture == 4 then listed_rewrite X86_64 (slice_get (x86_64_rewrites n) rewrite)
-    else Err UnknownArchitecture))))
+named_rewrite machine rewrite n = rewrite_among (architecture_of machine) rewrite n
 
 -- what a rewrite of any architecture does
 abbrev pub relaxation_rewrite : Relaxation → Option Rewrite

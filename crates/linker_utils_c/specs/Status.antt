@@ -1,7 +1,7 @@
 -- The statuses that C sees as numbers.
 use Rattle.std.specs.Prelude.{◌≡◌, ℕ, ◌<◌, ◌≤◌, List, length}
 use Rattle.linker_utils_c.specs.declared.status.Status.{Status}
-use Rattle.linker_utils_c.specs.declared.status.Status.TheVariants.{Success, UnknownArchitecture, UnknownForm, UnknownRewrite, UnknownRelocation, TooShort, DoesNotFit, CannotApply, BadRegister, OutOfSection, SiteDeleted, TargetInside, OddDistance, TooFar, InvalidDeletions, NotMergeable, InsideDeletion, TooLarge, NotAscending, DifferentLengths, OutOfMemory, Uleb128Ended, Uleb128TooLarge}
+use Rattle.linker_utils_c.specs.declared.status.Status.TheVariants.{Success, UnknownArchitecture, UnknownForm, UnknownRewrite, UnknownRelocation, TooShort, DoesNotFit, CannotApply, BadRegister, OutOfSection, SiteDeleted, OddDistance, TooFar, InvalidDeletions, NotMergeable, TooLarge, NotAscending, DifferentLengths, OutOfMemory, Uleb128Ended, Uleb128TooLarge, UnknownLinkRegister, CallsNotApart, NotACall}
 
 abbrev pub code : Status → ℕ
 code Success = 0
@@ -15,18 +15,19 @@ code CannotApply = 7
 code BadRegister = 8
 code OutOfSection = 9
 code SiteDeleted = 10
-code TargetInside = 11
 code OddDistance = 12
 code TooFar = 13
 code InvalidDeletions = 14
 code NotMergeable = 15
-code InsideDeletion = 16
 code TooLarge = 17
 code NotAscending = 18
 code DifferentLengths = 19
 code OutOfMemory = 20
 code Uleb128Ended = 21
 code Uleb128TooLarge = 22
+code UnknownLinkRegister = 23
+code CallsNotApart = 24
+code NotACall = 25
 
 -- the status says whether there are as many bytes
 pub record HasRoom (len : ℕ) (bytes : List ℕ) (status : ℕ) : Type 0 where

@@ -1,18 +1,21 @@
 //! RISC-V calls that become jumps, and tests for shorter instructions.
 
-ghost use Rattle.std.specs.Prelude.{◌≡◌, ◌≢◌, ◌↔◌, ◌<◌, ◌≤◌, ◌+◌, IsTrue, length};
+ghost use Rattle.std.specs.Prelude.{◌≡◌, ◌≢◌, ◌↔◌, ◌<◌, ◌≤◌, ◌+◌, IsTrue, IsOk, length};
 ghost use Rattle.linker_base.specs.Bits.{signed};
-ghost use Rattle.linker_utils.specs.RiscV.{IsEven, IsJalDistance, JumpsAt, IsPlainCall, FitsClui, HoldsHigh, IsSigned32, high_20, low_12};
+ghost use Rattle.linker_base.specs.Deltas.{deletions_of};
+ghost use Rattle.linker_base.specs.Listed.{AreValidDeltas};
+ghost use Rattle.linker_utils.specs.RiscV.{IsEven, IsJalDistance, JumpsAt, IsPlainCall, IsInSection, IsSiteKept, output_distance, FitsClui, HoldsHigh, IsSigned32, hi20, lo12};
 ghost use Rattle.linker_utils_c.specs.Status.{code};
 
 use crate::status::Status;
 use linker_utils::elf::RiscVInstruction;
+use linker_utils::relaxation::{DeltaSlice, RelaxDelta};
 use linker_utils::riscv64::{self, CallError, RelaxationKind};
 
 /// Turns the `auipc` at a site of a section into a `jal` by a distance in bytes, with the `auipc`'s
 /// destination register. The first that applies of `OutOfSection`, `OddDistance`, `TooFar`.
 #[unsafe(no_mangle)]
-pub extern "C" fn linker_utils_jal_site(section: &mut [u8], site: u64, distance: i64) -> u32
+pub extern "C" fn linker_utils_jal_site_nonnull(section: &mut [u8], site: u64, distance: i64) -> u32
     ensures jumps { result ≡ code Status.Success → JumpsAt section.old section.new site distance }
     ensures out_of_section { (result ≡ code Status.OutOfSection) ↔ (length section.old < site + 4) }
     ensures odd_distance { (result ≡ code Status.OddDistance) ↔ ((site + 4 ≤ length section.old) × ¬ IsEven distance) }
@@ -20,11 +23,55 @@ pub extern "C" fn linker_utils_jal_site(section: &mut [u8], site: u64, distance:
     ensures accepted { (result ≡ code Status.Success) ↔ ((site + 4 ≤ length section.old) × IsEven distance × IsJalDistance distance) }
     ensures unchanged { result ≢ code Status.Success → section.new ≡ section.old }
 {
-    match riscv64::jal_site(section, site, distance) {
+    call_status(riscv64::jal_site(section, site, distance))
+}
+
+/// Turns the call at a site into a jump to a target, in a section whose bytes stand where they stood
+/// before the deletions. The first that applies of `OutOfSection`, `SiteDeleted`, `OddDistance` and
+/// `TooFar`.
+#[unsafe(no_mangle)]
+pub extern "C" fn linker_utils_relax_call_nonnull(
+    section: &mut [u8],
+    deltas: &[RelaxDelta],
+    site: u64,
+    target: u64,
+) -> u32
+    ensures jumps { AreValidDeltas deltas.now → result ≡ code Status.Success
+        → JumpsAt section.old section.new site
+        (output_distance (deletions_of deltas.now) site target) }
+    ensures out_of_section { (result ≡ code Status.OutOfSection)
+        ↔ ¬ IsInSection section.old site target }
+    ensures site_deleted { AreValidDeltas deltas.now → (result ≡ code Status.SiteDeleted)
+        ↔ (IsInSection section.old site target × ¬ IsSiteKept (deletions_of deltas.now) site) }
+    ensures odd_distance { AreValidDeltas deltas.now → (result ≡ code Status.OddDistance)
+        ↔ (IsInSection section.old site target × IsSiteKept (deletions_of deltas.now) site
+        × ¬ IsEven (output_distance (deletions_of deltas.now) site target)) }
+    ensures too_far { AreValidDeltas deltas.now → (result ≡ code Status.TooFar)
+        ↔ (IsInSection section.old site target × IsSiteKept (deletions_of deltas.now) site
+        × IsEven (output_distance (deletions_of deltas.now) site target)
+        × ¬ IsJalDistance (output_distance (deletions_of deltas.now) site target)) }
+    ensures accepted { AreValidDeltas deltas.now → (result ≡ code Status.Success)
+        ↔ (IsInSection section.old site target × IsSiteKept (deletions_of deltas.now) site
+        × IsEven (output_distance (deletions_of deltas.now) site target)
+        × IsJalDistance (output_distance (deletions_of deltas.now) site target)) }
+    ensures unchanged { result ≢ code Status.Success → section.new ≡ section.old }
+{
+    call_status(riscv64::relax_call_over(section, &DeltaSlice::new(deltas), site, target))
+}
+
+// The status of a call that has become a jump, or of why it hasn't.
+#[inline(always)]
+pub(crate) fn call_status(outcome: Result<(), CallError>) -> u32
+    ensures success { (result ≡ code Status.Success) ↔ IsOk outcome }
+    ensures out_of_section { (result ≡ code Status.OutOfSection) ↔ (outcome ≡ Err CallError.OutOfSection) }
+    ensures site_deleted { (result ≡ code Status.SiteDeleted) ↔ (outcome ≡ Err CallError.SiteDeleted) }
+    ensures odd_distance { (result ≡ code Status.OddDistance) ↔ (outcome ≡ Err CallError.OddDistance) }
+    ensures too_far { (result ≡ code Status.TooFar) ↔ (outcome ≡ Err CallError.TooFar) }
+{
+    match outcome {
         Ok(()) => Status::Success.number(),
         Err(CallError::OutOfSection) => Status::OutOfSection.number(),
         Err(CallError::SiteDeleted) => Status::SiteDeleted.number(),
-        Err(CallError::TargetInside) => Status::TargetInside.number(),
         Err(CallError::OddDistance) => Status::OddDistance.number(),
         Err(CallError::TooFar) => Status::TooFar.number(),
     }
@@ -33,7 +80,7 @@ pub extern "C" fn linker_utils_jal_site(section: &mut [u8], site: u64, distance:
 /// Whether the eight bytes of a plain call stand at the site: `auipc` and then `jalr` with the same
 /// register as source and as both destinations.
 #[unsafe(no_mangle)]
-pub extern "C" fn linker_utils_is_plain_call(section: &[u8], site: u64) -> bool
+pub extern "C" fn linker_utils_is_plain_call_nonnull(section: &[u8], site: u64) -> bool
     ensures { IsTrue result ↔ IsPlainCall section.now site }
 {
     riscv64::is_plain_call(section, site)
@@ -50,8 +97,8 @@ pub extern "C" fn linker_utils_distance_fits_jal(distance: i64) -> bool
 /// Whether the high part of a value is 0.
 #[unsafe(no_mangle)]
 pub extern "C" fn linker_utils_hi20_is_zero(value: u64) -> bool
-    ensures exactly { IsTrue result ↔ (high_20 value ≡ 0) }
-    ensures low { IsTrue result → IsSigned32 (signed 64 value) → signed 64 value ≡ low_12 value }
+    ensures exactly { IsTrue result ↔ (hi20 value ≡ 0) }
+    ensures low { IsTrue result → IsSigned32 (signed 64 value) → signed 64 value ≡ lo12 value }
 {
     RelaxationKind::hi20_is_zero(value)
 }

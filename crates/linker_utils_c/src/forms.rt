@@ -1,15 +1,15 @@
-//! Values in the fields of instructions, by numbers of architectures and forms.
+//! Values in the immediates of instructions, by `e_machine` and a form's number.
 
 ghost use Rattle.std.specs.Prelude.{◌≡◌, ◌≢◌, slice_get, IfOk, IfErr, IfSome, IfNone};
 ghost use Rattle.std.specs.Int.{byte_len, cast_unsigned, w64};
 ghost use Rattle.linker_base.specs.Form.{window_of};
 ghost use Rattle.linker_utils.specs.Elf.{relocation_form};
 ghost use Rattle.linker_utils_c.specs.Status.{code, HasRoom};
-ghost use Rattle.linker_utils_c.specs.Forms.{aarch64_forms, riscv_forms, loongarch64_forms, ppc64_forms, named_form, TakesValue, HasValue};
+ghost use Rattle.linker_utils_c.specs.Forms.{aarch64_forms, riscv_forms, loongarch64_forms, ppc64_forms, named_form, TakesValue, HasValue, flag_number};
 
 use crate::status::Status;
 use linker_utils::elf::{
-    AArch64Instruction, InstructionForm, LoongArch64Instruction, Ppc64Instruction,
+    AArch64Instruction, Architecture, InstructionForm, LoongArch64Instruction, Ppc64Instruction,
     RelocationInstruction, RiscVInstruction,
 };
 
@@ -83,47 +83,58 @@ fn ppc64_form(number: u32) -> Option<Ppc64Instruction>
     Some(form)
 }
 
-/// The form of an architecture and a number, or which of the two is unknown.
+/// The form of a machine and a number, or which of the two is unknown.
 #[inline(always)]
-fn form_of(architecture: u32, form: u32) -> Result<RelocationInstruction, Status>
-    ensures { result ≡ named_form architecture form }
+fn form_of(machine: u16, form: u32) -> Result<RelocationInstruction, Status>
+    ensures { result ≡ named_form machine form }
 {
+    let Some(architecture) = Architecture::from_machine(machine) else {
+        return Err(Status::UnknownArchitecture);
+    };
     let named = match architecture {
-        0 => aarch64_form(form).map(RelocationInstruction::AArch64),
-        1 => riscv_form(form).map(RelocationInstruction::RiscV),
-        2 => loongarch64_form(form).map(RelocationInstruction::LoongArch64),
-        3 => ppc64_form(form).map(RelocationInstruction::Ppc64),
-        _ => return Err(Status::UnknownArchitecture),
+        Architecture::AArch64 => aarch64_form(form).map(RelocationInstruction::AArch64),
+        Architecture::RiscV => riscv_form(form).map(RelocationInstruction::RiscV),
+        Architecture::LoongArch64 => loongarch64_form(form).map(RelocationInstruction::LoongArch64),
+        Architecture::Ppc64 => ppc64_form(form).map(RelocationInstruction::Ppc64),
+        Architecture::X86_64 => return Err(Status::UnknownArchitecture),
     };
     named.ok_or(Status::UnknownForm)
 }
 
-/// The length in bytes of the window that a form reads and writes. `UnknownArchitecture`,
+/// The length in bytes of a form's window, into `window`. The errors are `UnknownArchitecture` and
 /// `UnknownForm`.
 #[unsafe(no_mangle)]
-pub extern "C" fn linker_utils_window(architecture: u32, form: u32, window: &mut usize) -> u32
-    ensures found { IfOk (named_form architecture form) (λ named. (result ≡ code Status.Success) × (window.new ≡ byte_len (relocation_form named).window)) }
-    ensures refused { IfErr (named_form architecture form) (λ refusal. (result ≡ code refusal) × (window.new ≡ window.old)) }
+pub extern "C" fn linker_utils_window(machine: u16, form: u32, window: &mut usize) -> u32
+    ensures found { IfOk (named_form machine form) (λ named. (result ≡ code Status.Success)
+        × (window.new ≡ byte_len (relocation_form named).window)) }
+    ensures unknown { IfErr (named_form machine form)
+        (λ status. (result ≡ code status) × (window.new ≡ window.old)) }
 {
-    match form_of(architecture, form) {
+    match form_of(machine, form) {
         Ok(named) => {
             *window = named.window();
             Status::Success.number()
         }
-        Err(refusal) => refusal.number(),
+        Err(status) => status.number(),
     }
 }
 
-/// Whether `linker_utils_write` of the value to these bytes would answer `Success`: it answers what
-/// that would.
+/// Whether `linker_utils_write` of the value to these bytes would succeed: the status is that of the
+/// write.
 #[unsafe(no_mangle)]
-pub extern "C" fn linker_utils_fits(architecture: u32, form: u32, value: u64, bytes: &[u8]) -> u32
-    ensures known { IfOk (named_form architecture form) (λ named. TakesValue (relocation_form named) value bytes.now result) }
-    ensures refused { IfErr (named_form architecture form) (λ refusal. result ≡ code refusal) }
+pub extern "C" fn linker_utils_fits_nonnull(
+    machine: u16,
+    form: u32,
+    value: u64,
+    bytes: &[u8],
+) -> u32
+    ensures known { IfOk (named_form machine form)
+        (λ named. TakesValue (relocation_form named) value bytes.now result) }
+    ensures unknown { IfErr (named_form machine form) (λ status. result ≡ code status) }
 {
-    match form_of(architecture, form) {
+    match form_of(machine, form) {
         Ok(named) => fit(named, value, bytes).number(),
-        Err(refusal) => refusal.number(),
+        Err(status) => status.number(),
     }
 }
 
@@ -149,7 +160,8 @@ fn write_by<F: InstructionForm>(
     dest: &mut [u8],
 ) -> Status
     ensures known { IfSome form (λ named. TakesValue (F.form named) value dest.old (code result)) }
-    ensures written { IfSome form (λ named. result ≡ Status.Success → HasValue (F.form named) value negative dest.old dest.new) }
+    ensures written { IfSome form (λ named. result ≡ Status.Success
+        → HasValue (F.form named) value negative dest.old dest.new) }
     ensures unknown { IfNone form (result ≡ Status.UnknownForm) }
     ensures unchanged { result ≢ Status.Success → dest.new ≡ dest.old }
 {
@@ -165,27 +177,37 @@ fn write_by<F: InstructionForm>(
 }
 
 /// Writes a value and its sign into the instruction that `dest` begins with, and changes no bit but
-/// the form's. `UnknownArchitecture`, `UnknownForm`, `TooShort` with fewer bytes than the window,
-/// `DoesNotFit`.
+/// the form's. The error is the first that applies of `UnknownArchitecture`, `UnknownForm`, `TooShort`
+/// with fewer bytes than the window, and `DoesNotFit`.
 #[unsafe(no_mangle)]
-pub extern "C" fn linker_utils_write(
-    architecture: u32,
+pub extern "C" fn linker_utils_write_nonnull(
+    machine: u16,
     form: u32,
     value: u64,
     negative: bool,
     dest: &mut [u8],
 ) -> u32
-    ensures known { IfOk (named_form architecture form) (λ named. TakesValue (relocation_form named) value dest.old result) }
-    ensures written { IfOk (named_form architecture form) (λ named. result ≡ code Status.Success → HasValue (relocation_form named) value negative dest.old dest.new) }
-    ensures refused { IfErr (named_form architecture form) (λ refusal. result ≡ code refusal) }
+    ensures known { IfOk (named_form machine form)
+        (λ named. TakesValue (relocation_form named) value dest.old result) }
+    ensures written { IfOk (named_form machine form) (λ named. result ≡ code Status.Success
+        → HasValue (relocation_form named) value negative dest.old dest.new) }
+    ensures unknown { IfErr (named_form machine form) (λ status. result ≡ code status) }
     ensures unchanged { result ≢ code Status.Success → dest.new ≡ dest.old }
 {
+    let Some(architecture) = Architecture::from_machine(machine) else {
+        return Status::UnknownArchitecture.number();
+    };
     match architecture {
-        0 => write_by(aarch64_form(form), value, negative, dest).number(),
-        1 => write_by(riscv_form(form), value, negative, dest).number(),
-        2 => write_by(loongarch64_form(form), value, negative, dest).number(),
-        3 => write_by(ppc64_form(form), value, negative, dest).number(),
-        _ => Status::UnknownArchitecture.number(),
+        Architecture::AArch64 => write_by(aarch64_form(form), value, negative, dest).number(),
+        Architecture::RiscV => write_by(riscv_form(form), value, negative, dest).number(),
+        Architecture::LoongArch64 => write_by(
+            loongarch64_form(form),
+            value,
+            negative,
+            dest,
+        ).number(),
+        Architecture::Ppc64 => write_by(ppc64_form(form), value, negative, dest).number(),
+        Architecture::X86_64 => Status::UnknownArchitecture.number(),
     }
 }
 
@@ -195,11 +217,14 @@ fn read_by<F: InstructionForm>(
     form: Option<F>,
     bytes: &[u8],
     value: &mut u64,
-    negative: &mut bool,
+    negative: &mut u8,
 ) -> Status
-    ensures known { IfSome form (λ named. HasRoom (byte_len (F.form named).window) bytes.now (code result)) }
-    ensures number { IfSome form (λ named. result ≡ Status.Success → value.new ≡ cast_unsigned w64 ((F.form named).reading (window_of (F.form named) bytes.now))) }
-    ensures flag { IfSome form (λ named. result ≡ Status.Success → negative.new ≡ (F.form named).flag (window_of (F.form named) bytes.now)) }
+    ensures known { IfSome form
+        (λ named. HasRoom (byte_len (F.form named).window) bytes.now (code result)) }
+    ensures number { IfSome form (λ named. result ≡ Status.Success
+        → value.new ≡ cast_unsigned w64 ((F.form named).reading (window_of (F.form named) bytes.now))) }
+    ensures flag { IfSome form (λ named. result ≡ Status.Success
+        → negative.new ≡ flag_number ((F.form named).flag (window_of (F.form named) bytes.now))) }
     ensures unknown { IfNone form (result ≡ Status.UnknownForm) }
     ensures value_stays { result ≢ Status.Success → value.new ≡ value.old }
     ensures flag_stays { result ≢ Status.Success → negative.new ≡ negative.old }
@@ -210,32 +235,48 @@ fn read_by<F: InstructionForm>(
     if bytes.len() < named.window() {
         return Status::TooShort;
     }
-    (*value, *negative) = named.read(bytes);
+    let (number, flag) = named.read(bytes);
+    *value = number;
+    *negative = u8::from(flag);
     Status::Success
 }
 
-/// Reads the value in the instruction that `bytes` begins with, modulo 2^64, and the form's flag.
-/// `UnknownArchitecture`, `UnknownForm`, `TooShort` with fewer bytes than the window.
+/// Reads the value in the instruction that `bytes` begins with, modulo 2^64, and the form's flag, 0 or
+/// 1. The error is the first that applies of `UnknownArchitecture`, `UnknownForm`, and `TooShort` with
+/// fewer bytes than the window.
 #[unsafe(no_mangle)]
-pub extern "C" fn linker_utils_read(
-    architecture: u32,
+pub extern "C" fn linker_utils_read_nonnull(
+    machine: u16,
     form: u32,
     bytes: &[u8],
     value: &mut u64,
-    negative: &mut bool,
+    negative: &mut u8,
 ) -> u32
-    ensures known { IfOk (named_form architecture form) (λ named. HasRoom (byte_len (relocation_form named).window) bytes.now result) }
-    ensures number { IfOk (named_form architecture form) (λ named. result ≡ code Status.Success → value.new ≡ cast_unsigned w64 ((relocation_form named).reading (window_of (relocation_form named) bytes.now))) }
-    ensures flag { IfOk (named_form architecture form) (λ named. result ≡ code Status.Success → negative.new ≡ (relocation_form named).flag (window_of (relocation_form named) bytes.now)) }
-    ensures refused { IfErr (named_form architecture form) (λ refusal. result ≡ code refusal) }
+    ensures known { IfOk (named_form machine form)
+        (λ named. HasRoom (byte_len (relocation_form named).window) bytes.now result) }
+    ensures number { IfOk (named_form machine form) (λ named. result ≡ code Status.Success
+        → value.new ≡ cast_unsigned w64 ((relocation_form named).reading
+        (window_of (relocation_form named) bytes.now))) }
+    ensures flag { IfOk (named_form machine form) (λ named. result ≡ code Status.Success
+        → negative.new ≡ flag_number ((relocation_form named).flag
+        (window_of (relocation_form named) bytes.now))) }
+    ensures unknown { IfErr (named_form machine form) (λ status. result ≡ code status) }
     ensures value_stays { result ≢ code Status.Success → value.new ≡ value.old }
     ensures flag_stays { result ≢ code Status.Success → negative.new ≡ negative.old }
 {
+    let Some(architecture) = Architecture::from_machine(machine) else {
+        return Status::UnknownArchitecture.number();
+    };
     match architecture {
-        0 => read_by(aarch64_form(form), bytes, value, negative).number(),
-        1 => read_by(riscv_form(form), bytes, value, negative).number(),
-        2 => read_by(loongarch64_form(form), bytes, value, negative).number(),
-        3 => read_by(ppc64_form(form), bytes, value, negative).number(),
-        _ => Status::UnknownArchitecture.number(),
+        Architecture::AArch64 => read_by(aarch64_form(form), bytes, value, negative).number(),
+        Architecture::RiscV => read_by(riscv_form(form), bytes, value, negative).number(),
+        Architecture::LoongArch64 => read_by(
+            loongarch64_form(form),
+            bytes,
+            value,
+            negative,
+        ).number(),
+        Architecture::Ppc64 => read_by(ppc64_form(form), bytes, value, negative).number(),
+        Architecture::X86_64 => Status::UnknownArchitecture.number(),
     }
 }

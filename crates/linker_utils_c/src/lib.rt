@@ -4,6 +4,9 @@
 mod calls;
 mod deltas;
 mod forms;
+mod heads;
+mod merges;
+mod packing;
 mod readers;
 mod relocations;
 mod rewrites;

@@ -8,9 +8,9 @@ ghost use Rattle.linker_utils_c.specs.Status.{code, HasRoom};
 use crate::status::Status;
 use linker_utils::utils;
 
-/// The little-endian number of the first four bytes. `TooShort`.
+/// The little-endian number of the first four bytes, into `value`. The error is `TooShort`.
 #[unsafe(no_mangle)]
-pub extern "C" fn linker_utils_u32_from_slice(bytes: &[u8], value: &mut u32) -> u32
+pub extern "C" fn linker_utils_u32_from_slice_nonnull(bytes: &[u8], value: &mut u32) -> u32
     ensures room { HasRoom 4 bytes.now result }
     ensures number { result ≡ code Status.Success → value.new ≡ from_le_bytes w32 bytes.now }
     ensures unchanged { result ≢ code Status.Success → value.new ≡ value.old }
@@ -22,9 +22,9 @@ pub extern "C" fn linker_utils_u32_from_slice(bytes: &[u8], value: &mut u32) -> 
     Status::Success.number()
 }
 
-/// The little-endian number of the first eight bytes. `TooShort`.
+/// The little-endian number of the first eight bytes, into `value`. The error is `TooShort`.
 #[unsafe(no_mangle)]
-pub extern "C" fn linker_utils_u64_from_slice(bytes: &[u8], value: &mut u64) -> u32
+pub extern "C" fn linker_utils_u64_from_slice_nonnull(bytes: &[u8], value: &mut u64) -> u32
     ensures room { HasRoom 8 bytes.now result }
     ensures number { result ≡ code Status.Success → value.new ≡ from_le_bytes w64 bytes.now }
     ensures unchanged { result ≢ code Status.Success → value.new ≡ value.old }
@@ -36,9 +36,14 @@ pub extern "C" fn linker_utils_u64_from_slice(bytes: &[u8], value: &mut u64) -> 
     Status::Success.number()
 }
 
-/// The little-endian number of the first four bytes, and how many bytes it took. `TooShort`.
+/// The little-endian number of the first four bytes, into `value`, and how many bytes it took, into
+/// `consumed`. The error is `TooShort`.
 #[unsafe(no_mangle)]
-pub extern "C" fn linker_utils_read_u32(bytes: &[u8], value: &mut u32, consumed: &mut usize) -> u32
+pub extern "C" fn linker_utils_read_u32_nonnull(
+    bytes: &[u8],
+    value: &mut u32,
+    consumed: &mut usize,
+) -> u32
     ensures room { HasRoom 4 bytes.now result }
     ensures number { result ≡ code Status.Success → value.new ≡ from_le_bytes w32 bytes.now }
     ensures taken { result ≡ code Status.Success → consumed.new ≡ 4 }
@@ -56,10 +61,10 @@ pub extern "C" fn linker_utils_read_u32(bytes: &[u8], value: &mut u32, consumed:
     }
 }
 
-/// The ULEB128 number that the bytes begin with, and how many bytes it took. `Uleb128Ended`,
-/// `Uleb128TooLarge`.
+/// The ULEB128 number that the bytes begin with, into `value`, and how many bytes it took, into
+/// `consumed`. The errors are `Uleb128Ended` and `Uleb128TooLarge`.
 #[unsafe(no_mangle)]
-pub extern "C" fn linker_utils_read_uleb128(
+pub extern "C" fn linker_utils_read_uleb128_nonnull(
     bytes: &[u8],
     value: &mut u64,
     consumed: &mut usize,

@@ -1,145 +1,13 @@
-//! Rewrites of instructions, by numbers of architectures and rewrites.
+//! Rewrites of instructions, by `e_machine` and a rewrite's number.
 
-ghost use Rattle.std.specs.Prelude.{◌≡◌, ◌≢◌, ◌↔◌, IsTrue, slice_get, Option, IfOk, IfErr, IfSome, IfNone};
-ghost use Rattle.linker_base.specs.Rewrite.{Rewrite, CanRewrite};
-ghost use Rattle.linker_base.specs.declared.relaxation.RelocationModifier.{RelocationModifier};
-ghost use Rattle.linker_utils.specs.AArch64.{aarch64_rewrite, aarch64_modifier};
-ghost use Rattle.linker_utils.specs.RiscV.{riscv_rewrite, riscv_modifier};
-ghost use Rattle.linker_utils.specs.LoongArch.{loongarch_rewrite, loongarch_modifier};
-ghost use Rattle.linker_utils.specs.PowerPc.{ppc64_rewrite, ppc64_modifier};
-ghost use Rattle.linker_utils.specs.X86.{x86_64_rewrite, x86_64_modifier};
+ghost use Rattle.std.specs.Prelude.{◌≡◌, ◌≢◌, slice_get, IfOk, IfErr, IfSome, IfNone};
 ghost use Rattle.linker_utils_c.specs.Status.{code};
 ghost use Rattle.linker_utils_c.specs.Rewrites.{aarch64_rewrites, riscv_rewrites, loongarch64_rewrites, ppc64_rewrites, x86_64_rewrites, named_rewrite, relaxation_rewrite, relaxation_modifier, modifier_number, TakesRewrite, IsRewritten};
 
 use crate::status::Status;
+use linker_utils::elf::{Architecture, InstructionRewrite};
 use linker_utils::relaxation::RelocationModifier;
 use linker_utils::{aarch64, loongarch64, ppc64, riscv64, x86_64};
-
-/// A rewrite of one architecture.
-trait Rewriting: Copy {
-    // what the rewrite does, and what becomes of the next relocation
-    ghost rewrite: { Self → Option Rewrite };
-
-    ghost modifier: { Self → RelocationModifier };
-
-    /// Rewrites the instruction at an offset of a section.
-    fn rewrite_at(self, section: &mut [u8], offset: &mut u64, addend: &mut i64)
-        requires { CanRewrite (rewrite self) section.old offset.old }
-        ensures { IsRewritten (rewrite self) section.old section.new offset.old offset.new addend.old addend.new };
-
-    /// Whether it may be applied at an offset of a section.
-    fn can_rewrite_at(self, section: &[u8], offset: u64) -> bool
-        ensures { IsTrue result ↔ CanRewrite (rewrite self) section.now offset };
-
-    /// What becomes of the next relocation.
-    fn modifier_after(self) -> RelocationModifier
-        ensures { result ≡ modifier self };
-}
-
-impl Rewriting for aarch64::RelaxationKind {
-    ghost rewrite = { aarch64_rewrite };
-
-    ghost modifier = { aarch64_modifier };
-
-    #[inline(always)]
-    fn rewrite_at(self, section: &mut [u8], offset: &mut u64, addend: &mut i64) {
-        self.apply(section, offset, addend);
-    }
-
-    #[inline(always)]
-    fn can_rewrite_at(self, section: &[u8], offset: u64) -> bool {
-        self.can_apply(section, offset)
-    }
-
-    #[inline(always)]
-    fn modifier_after(self) -> RelocationModifier {
-        self.next_modifier()
-    }
-}
-
-impl Rewriting for riscv64::RelaxationKind {
-    ghost rewrite = { riscv_rewrite };
-
-    ghost modifier = { riscv_modifier };
-
-    #[inline(always)]
-    fn rewrite_at(self, section: &mut [u8], offset: &mut u64, addend: &mut i64) {
-        self.apply(section, offset, addend);
-    }
-
-    #[inline(always)]
-    fn can_rewrite_at(self, section: &[u8], offset: u64) -> bool {
-        self.can_apply(section, offset)
-    }
-
-    #[inline(always)]
-    fn modifier_after(self) -> RelocationModifier {
-        self.next_modifier()
-    }
-}
-
-impl Rewriting for loongarch64::RelaxationKind {
-    ghost rewrite = { loongarch_rewrite };
-
-    ghost modifier = { loongarch_modifier };
-
-    #[inline(always)]
-    fn rewrite_at(self, section: &mut [u8], offset: &mut u64, addend: &mut i64) {
-        self.apply(section, offset, addend);
-    }
-
-    #[inline(always)]
-    fn can_rewrite_at(self, section: &[u8], offset: u64) -> bool {
-        self.can_apply(section, offset)
-    }
-
-    #[inline(always)]
-    fn modifier_after(self) -> RelocationModifier {
-        self.next_modifier()
-    }
-}
-
-impl Rewriting for ppc64::RelaxationKind {
-    ghost rewrite = { ppc64_rewrite };
-
-    ghost modifier = { ppc64_modifier };
-
-    #[inline(always)]
-    fn rewrite_at(self, section: &mut [u8], offset: &mut u64, addend: &mut i64) {
-        self.apply(section, offset, addend);
-    }
-
-    #[inline(always)]
-    fn can_rewrite_at(self, section: &[u8], offset: u64) -> bool {
-        self.can_apply(section, offset)
-    }
-
-    #[inline(always)]
-    fn modifier_after(self) -> RelocationModifier {
-        self.next_modifier()
-    }
-}
-
-impl Rewriting for x86_64::RelaxationKind {
-    ghost rewrite = { x86_64_rewrite };
-
-    ghost modifier = { x86_64_modifier };
-
-    #[inline(always)]
-    fn rewrite_at(self, section: &mut [u8], offset: &mut u64, addend: &mut i64) {
-        self.apply(section, offset, addend);
-    }
-
-    #[inline(always)]
-    fn can_rewrite_at(self, section: &[u8], offset: u64) -> bool {
-        self.can_apply(section, offset)
-    }
-
-    #[inline(always)]
-    fn modifier_after(self) -> RelocationModifier {
-        self.next_modifier()
-    }
-}
 
 #[inline(always)]
 fn aarch64_rewrite(number: u32) -> Option<aarch64::RelaxationKind>
@@ -233,14 +101,14 @@ fn x86_64_rewrite(number: u32, n: u8) -> Option<x86_64::RelaxationKind>
 
 // Whether a rewrite, if there is one, can be applied.
 #[inline(always)]
-fn test_by<R: Rewriting>(rewrite: Option<R>, section: &[u8], offset: u64) -> Status
+fn test_by<R: InstructionRewrite>(rewrite: Option<R>, section: &[u8], offset: u64) -> Status
     ensures known { IfSome rewrite (λ named. TakesRewrite (R.rewrite named) section.now offset (code result)) }
     ensures unknown { IfNone rewrite (result ≡ Status.UnknownRewrite) }
 {
     let Some(named) = rewrite else {
         return Status::UnknownRewrite;
     };
-    if !named.can_rewrite_at(section, offset) {
+    if !named.can_apply(section, offset) {
         return Status::CannotApply;
     }
     Status::Success
@@ -248,7 +116,7 @@ fn test_by<R: Rewriting>(rewrite: Option<R>, section: &[u8], offset: u64) -> Sta
 
 // Applies a rewrite, if there is one.
 #[inline(always)]
-fn apply_by<R: Rewriting>(
+fn apply_by<R: InstructionRewrite>(
     rewrite: Option<R>,
     section: &mut [u8],
     offset: &mut u64,
@@ -265,98 +133,119 @@ fn apply_by<R: Rewriting>(
     let Some(named) = rewrite else {
         return Status::UnknownRewrite;
     };
-    if !named.can_rewrite_at(section, *offset) {
+    if !named.can_apply(section, *offset) {
         return Status::CannotApply;
     }
-    named.rewrite_at(section, offset, addend);
+    named.apply(section, offset, addend);
     Status::Success
 }
 
 // What becomes of the relocation after a rewrite, if there is one.
 #[inline(always)]
-fn modifier_by<R: Rewriting>(rewrite: Option<R>, modifier: &mut u32) -> Status
+fn modifier_by<R: InstructionRewrite>(rewrite: Option<R>, modifier: &mut u32) -> Status
     ensures found { IfSome rewrite (λ named. (result ≡ Status.Success) × (modifier.new ≡ modifier_number (R.modifier named))) }
     ensures unknown { IfNone rewrite ((result ≡ Status.UnknownRewrite) × (modifier.new ≡ modifier.old)) }
 {
     let Some(named) = rewrite else {
         return Status::UnknownRewrite;
     };
-    *modifier = match named.modifier_after() {
+    *modifier = match named.next_modifier() {
         RelocationModifier::Normal => 0,
         RelocationModifier::SkipNextRelocation => 1,
     };
     Status::Success
 }
 
-/// Whether `linker_utils_apply` at this offset would answer `Success`: it answers what that would.
+/// Whether `linker_utils_apply` at this offset would succeed: the status is that of the rewrite.
 #[unsafe(no_mangle)]
-pub extern "C" fn linker_utils_can_apply(
-    architecture: u32,
+pub extern "C" fn linker_utils_can_apply_nonnull(
+    machine: u16,
     rewrite: u32,
     n: u8,
     section: &[u8],
     offset: u64,
 ) -> u32
-    ensures known { IfOk (named_rewrite architecture rewrite n) (λ named. TakesRewrite (relaxation_rewrite named) section.now offset result) }
-    ensures refused { IfErr (named_rewrite architecture rewrite n) (λ refusal. result ≡ code refusal) }
+    ensures known { IfOk (named_rewrite machine rewrite n)
+        (λ named. TakesRewrite (relaxation_rewrite named) section.now offset result) }
+    ensures unknown { IfErr (named_rewrite machine rewrite n) (λ status. result ≡ code status) }
 {
-    match architecture {
-        0 => test_by(aarch64_rewrite(rewrite), section, offset).number(),
-        1 => test_by(riscv_rewrite(rewrite), section, offset).number(),
-        2 => test_by(loongarch64_rewrite(rewrite), section, offset).number(),
-        3 => test_by(ppc64_rewrite(rewrite), section, offset).number(),
-        4 => test_by(x86_64_rewrite(rewrite, n), section, offset).number(),
-        _ => Status::UnknownArchitecture.number(),
-    }
+    let Some(architecture) = Architecture::from_machine(machine) else {
+        return Status::UnknownArchitecture.number();
+    };
+    let status = match architecture {
+        Architecture::AArch64 => test_by(aarch64_rewrite(rewrite), section, offset),
+        Architecture::RiscV => test_by(riscv_rewrite(rewrite), section, offset),
+        Architecture::LoongArch64 => test_by(loongarch64_rewrite(rewrite), section, offset),
+        Architecture::Ppc64 => test_by(ppc64_rewrite(rewrite), section, offset),
+        Architecture::X86_64 => test_by(x86_64_rewrite(rewrite, n), section, offset),
+    };
+    status.number()
 }
 
 /// Rewrites the instruction at an offset of a section, and sets the offset and the addend to those of
-/// the relocation after it. `UnknownArchitecture`, `UnknownRewrite`, `CannotApply`.
+/// the relocation that is left. The error is the first that applies of `UnknownArchitecture`,
+/// `UnknownRewrite` and `CannotApply`.
 #[unsafe(no_mangle)]
-pub extern "C" fn linker_utils_apply(
-    architecture: u32,
+pub extern "C" fn linker_utils_apply_nonnull(
+    machine: u16,
     rewrite: u32,
     n: u8,
     section: &mut [u8],
     offset: &mut u64,
     addend: &mut i64,
 ) -> u32
-    ensures known { IfOk (named_rewrite architecture rewrite n) (λ named. TakesRewrite (relaxation_rewrite named) section.old offset.old result) }
-    ensures rewritten { IfOk (named_rewrite architecture rewrite n) (λ named. result ≡ code Status.Success
-        → IsRewritten (relaxation_rewrite named) section.old section.new offset.old offset.new addend.old addend.new) }
-    ensures refused { IfErr (named_rewrite architecture rewrite n) (λ refusal. result ≡ code refusal) }
+    ensures known { IfOk (named_rewrite machine rewrite n)
+        (λ named. TakesRewrite (relaxation_rewrite named) section.old offset.old result) }
+    ensures rewritten { IfOk (named_rewrite machine rewrite n) (λ named. result ≡ code Status.Success
+        → IsRewritten (relaxation_rewrite named) section.old section.new
+        offset.old offset.new addend.old addend.new) }
+    ensures unknown { IfErr (named_rewrite machine rewrite n) (λ status. result ≡ code status) }
     ensures section_stays { result ≢ code Status.Success → section.new ≡ section.old }
     ensures offset_stays { result ≢ code Status.Success → offset.new ≡ offset.old }
     ensures addend_stays { result ≢ code Status.Success → addend.new ≡ addend.old }
 {
-    match architecture {
-        0 => apply_by(aarch64_rewrite(rewrite), section, offset, addend).number(),
-        1 => apply_by(riscv_rewrite(rewrite), section, offset, addend).number(),
-        2 => apply_by(loongarch64_rewrite(rewrite), section, offset, addend).number(),
-        3 => apply_by(ppc64_rewrite(rewrite), section, offset, addend).number(),
-        4 => apply_by(x86_64_rewrite(rewrite, n), section, offset, addend).number(),
-        _ => Status::UnknownArchitecture.number(),
-    }
+    let Some(architecture) = Architecture::from_machine(machine) else {
+        return Status::UnknownArchitecture.number();
+    };
+    let status = match architecture {
+        Architecture::AArch64 => apply_by(aarch64_rewrite(rewrite), section, offset, addend),
+        Architecture::RiscV => apply_by(riscv_rewrite(rewrite), section, offset, addend),
+        Architecture::LoongArch64 => apply_by(
+            loongarch64_rewrite(rewrite),
+            section,
+            offset,
+            addend,
+        ),
+        Architecture::Ppc64 => apply_by(ppc64_rewrite(rewrite), section, offset, addend),
+        Architecture::X86_64 => apply_by(x86_64_rewrite(rewrite, n), section, offset, addend),
+    };
+    status.number()
 }
 
-/// What becomes of the relocation after the rewritten one: 0 where it is applied as usual, 1 where it
-/// is skipped. `UnknownArchitecture`, `UnknownRewrite`.
+/// What becomes of the relocation after that of the rewritten instruction, into `modifier`: 0 where it
+/// is applied as usual, 1 where it is skipped. The errors are `UnknownArchitecture` and
+/// `UnknownRewrite`.
 #[unsafe(no_mangle)]
 pub extern "C" fn linker_utils_next_modifier(
-    architecture: u32,
+    machine: u16,
     rewrite: u32,
     n: u8,
     modifier: &mut u32,
 ) -> u32
-    ensures found { IfOk (named_rewrite architecture rewrite n) (λ named. (result ≡ code Status.Success) × (modifier.new ≡ modifier_number (relaxation_modifier named))) }
-    ensures refused { IfErr (named_rewrite architecture rewrite n) (λ refusal. (result ≡ code refusal) × (modifier.new ≡ modifier.old)) }
+    ensures found { IfOk (named_rewrite machine rewrite n) (λ named. (result ≡ code Status.Success)
+        × (modifier.new ≡ modifier_number (relaxation_modifier named))) }
+    ensures unknown { IfErr (named_rewrite machine rewrite n)
+        (λ status. (result ≡ code status) × (modifier.new ≡ modifier.old)) }
 {
-    match architecture {
-        0 => modifier_by(aarch64_rewrite(rewrite), modifier).number(),
-        1 => modifier_by(riscv_rewrite(rewrite), modifier).number(),
-        2 => modifier_by(loongarch64_rewrite(rewrite), modifier).number(),
-        3 => modifier_by(ppc64_rewrite(rewrite), modifier).number(),
-        4 => modifier_by(x86_64_rewrite(rewrite, n), modifier).number(),
-        _ => Status::UnknownArchitecture.number(),
-    }
+    let Some(architecture) = Architecture::from_machine(machine) else {
+        return Status::UnknownArchitecture.number();
+    };
+    let status = match architecture {
+        Architecture::AArch64 => modifier_by(aarch64_rewrite(rewrite), modifier),
+        Architecture::RiscV => modifier_by(riscv_rewrite(rewrite), modifier),
+        Architecture::LoongArch64 => modifier_by(loongarch64_rewrite(rewrite), modifier),
+        Architecture::Ppc64 => modifier_by(ppc64_rewrite(rewrite), modifier),
+        Architecture::X86_64 => modifier_by(x86_64_rewrite(rewrite, n), modifier),
+    };
+    status.number()
 }

@@ -4,16 +4,20 @@ ghost use Rattle.std.specs.Prelude.{◌≡◌, ◌≢◌, ◌<◌, ◌≤◌, �
 ghost use Rattle.std.specs.Int.{from_le_bytes, w32};
 ghost use Rattle.linker_utils.specs.AArch64.{mov_words, mov4};
 ghost use Rattle.linker_utils.specs.LoongArch.{MakesAddress, high_distance};
-ghost use Rattle.linker_utils.specs.PowerPc.{PairHolds, KeepsHigh};
+ghost use Rattle.linker_utils.specs.Ppc64.{PairHolds, KeepsHigh};
 ghost use Rattle.linker_utils_c.specs.Status.{code, HasRoom};
 
 use crate::status::Status;
 use linker_utils::{aarch64, loongarch64, ppc64};
 
-/// AArch64: writes the four instructions that load a number into register `rd`. `TooShort` with fewer
-/// than 16 bytes, then `BadRegister`.
+/// AArch64: writes the four instructions that load a number into register `rd`. The error is the first
+/// that applies of `TooShort` with fewer than 16 bytes, and `BadRegister` for one above 30.
 #[unsafe(no_mangle)]
-pub extern "C" fn linker_utils_write_mov_sequence(dest: &mut [u8], rd: u32, value: u64) -> u32
+pub extern "C" fn linker_utils_write_mov_sequence_nonnull(
+    dest: &mut [u8],
+    rd: u32,
+    value: u64,
+) -> u32
     ensures short { length dest.old < 16 → result ≡ code Status.TooShort }
     ensures bad_register { 16 ≤ length dest.old → 30 < rd → result ≡ code Status.BadRegister }
     ensures written { 16 ≤ length dest.old → rd ≤ 30 → (result ≡ code Status.Success) × (dest.new ≡ mov_words rd value ++ drop 16 dest.old) }
@@ -31,9 +35,13 @@ pub extern "C" fn linker_utils_write_mov_sequence(dest: &mut [u8], rd: u32, valu
 }
 
 /// LoongArch: makes the five instructions compute the address `target` where the first stands at `pc`.
-/// `TooShort` with fewer than 20 bytes.
+/// The error is `TooShort` with fewer than 20 bytes.
 #[unsafe(no_mangle)]
-pub extern "C" fn linker_utils_write_address_sequence(dest: &mut [u8], pc: u64, target: u64) -> u32
+pub extern "C" fn linker_utils_write_address_sequence_nonnull(
+    dest: &mut [u8],
+    pc: u64,
+    target: u64,
+) -> u32
     ensures room { HasRoom 20 dest.old result }
     ensures makes { result ≡ code Status.Success → MakesAddress dest.old dest.new pc target }
     ensures unchanged { result ≢ code Status.Success → dest.new ≡ dest.old }
@@ -54,9 +62,9 @@ pub extern "C" fn linker_utils_highest_relocation_with_bias(s: u64, pc: u64) -> 
 }
 
 /// PowerPC64: writes a value into a pair of D-form instructions, its adjusted high half into `ha` and
-/// its low half into `lo`. `TooShort` where one has fewer than 4 bytes.
+/// its low half into `lo`. The error is `TooShort` where one has fewer than 4 bytes.
 #[unsafe(no_mangle)]
-pub extern "C" fn linker_utils_write_ha_lo(ha: &mut [u8], lo: &mut [u8], value: u64) -> u32
+pub extern "C" fn linker_utils_write_ha_lo_nonnull(ha: &mut [u8], lo: &mut [u8], value: u64) -> u32
     ensures short { (length ha.old < 4) ⊎ (length lo.old < 4) → result ≡ code Status.TooShort }
     ensures room { 4 ≤ length ha.old → 4 ≤ length lo.old → result ≡ code Status.Success }
     ensures pair { result ≡ code Status.Success → PairHolds (from_le_bytes w32 ha.new) (from_le_bytes w32 lo.new) value }

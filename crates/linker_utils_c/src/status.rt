@@ -28,20 +28,16 @@ pub enum Status {
     OutOfSection,
     /// One of the four bytes at the site is deleted.
     SiteDeleted,
-    /// The target lies strictly inside a deletion.
-    TargetInside,
-    /// The distance is odd.
-    OddDistance,
+    /// The distance is odd. (11 is no status.)
+    OddDistance = 12,
     /// The distance is out of the range of `jal`.
     TooFar,
     /// The deletions do not strictly ascend, one reaches past the next, or one ends past 2^64 - 1.
     InvalidDeletions,
     /// Two deletions overlap or begin at one offset, or one ends past 2^64 - 1.
     NotMergeable,
-    /// The offset lies strictly inside a deletion.
-    InsideDeletion,
-    /// The input offset would be past 2^64 - 1.
-    TooLarge,
+    /// The input offset would be past 2^64 - 1. (16 is no status.)
+    TooLarge = 17,
     /// The queries decrease somewhere.
     NotAscending,
     /// The array that is to be written has not as many places as are written.
@@ -52,6 +48,13 @@ pub enum Status {
     Uleb128Ended,
     /// The tenth byte of the ULEB128 number is neither 0 nor 1.
     Uleb128TooLarge,
+    /// No register of a call has this number.
+    UnknownLinkRegister,
+    /// The site of a call is less than 4 above that of the call before it.
+    CallsNotApart,
+    /// The eight bytes at the site are not an `auipc` and a `jalr`, with 0 in its bits 12 to 14, whose
+    /// base is the register of the `auipc`.
+    NotACall,
 }
 
 impl Status {

@@ -1,4 +1,4 @@
 mod Digits
 mod LineLemmas
-mod Running
+mod Execution
 mod WordLemmas

@@ -6,6 +6,7 @@ use Rattle.std.proofs.lemmas.List.Elements.{All-append}
 use Rattle.std.proofs.BufReadLemmas.{take_through-append, drop_through-append}
 use Rattle.std.specs.Io.BufRead.{take_through, drop_through, ends_with_byte, strip_last, first_line}
 use Rattle.std.specs.Io.KnownBytes.{Consumes, prepend_known}
+use Rattle.linkfix.specs.RemainingInput.{IsNextLine}
 
 -- no LF among the bytes
 abbrev pub IsOneLine : List ℕ → Type 0
@@ -71,17 +72,13 @@ not_empty : (front rest : List ℕ) → front ++ 10 ∷ rest ≡ [] → ⊥
 not_empty [] rest e = cc e
 not_empty (c ∷ cs) rest e = cc e
 
--- what is said of a line that was found, or of what an input ends with
-abbrev pub IsCut : Option (List ℕ) → Option (List ℕ) → List ℕ → Bool → Type 0
-IsCut known left line found = IfSome known (λ xs. (line ≡ first_line xs) × (left ≡ Some (drop_through 10 xs)) × (IsTrue found ↔ (xs ≢ [])))
-
 -- the line ends at an LF in the part that comes after its front
-pub cut_at_lf : (known rest : Option (List ℕ)) (front part line after : List ℕ) (i : ℕ) → IsOneLine front → Consumes known (prepend_known part rest) front
+pub next_line_at_lf : (known rest : Option (List ℕ)) (front part line after : List ℕ) (i : ℕ) → IsOneLine front → Consumes known (prepend_known part rest) front
     → i < length part → slice_index part i ≡ 10 → IsOneLine (take i part) → line ≡ strip_last 13 (front ++ take i part) → after ≡ drop (i + 1) part
-    → IsCut known (prepend_known after rest) line true
-cut_at_lf None rest front part line after i one kept low lf more is left = tt
-cut_at_lf (Some xs) None front part line after i one kept low lf more is left = absurd kept
-cut_at_lf (Some xs) (Some zs) front part line after i one kept low lf more is left =
+    → IsNextLine known (prepend_known after rest) line true
+next_line_at_lf None rest front part line after i one kept low lf more is left = tt
+next_line_at_lf (Some xs) None front part line after i one kept low lf more is left = absurd kept
+next_line_at_lf (Some xs) (Some zs) front part line after i one kept low lf more is left =
     let before = front ++ take i part in
     let behind = drop (i + 1) part ++ zs in
     let all : xs ≡ before ++ 10 ∷ behind = kept ∙ ap (λ l. front ++ (l ++ zs)) (split_at_lf part i low lf)
@@ -101,13 +98,13 @@ kept_on Q (Some xs) (Some zs) left front part line gap kept is none refilled =
     rw refilled.0 (kept ∙ sym (append_assoc front part zs) ∙ ap (λ l. l ++ zs) (sym is) ∙ ap (λ l. line ++ (l ++ zs)) (sym none))
 
 -- the input ends with the line
-pub cut_at_end : (known rest left : Option (List ℕ)) (front part line gap : List ℕ) (more found : Bool) → IsOneLine front → IsOneLine part
+pub next_line_at_end : (known rest left : Option (List ℕ)) (front part line gap : List ℕ) (more found : Bool) → IsOneLine front → IsOneLine part
     → Consumes known (prepend_known part rest) front → line ≡ front ++ part → gap ≡ []
     → IfSome (prepend_known gap rest) (λ ys. (left ≡ Some ys) × (IsTrue more ⊎ (ys ≡ []))) → more ≡ false
-    → (IsTrue found ↔ (line ≢ [])) → IsCut known left line found
-cut_at_end None rest left front part line gap more found one two kept is none refilled last some = tt
-cut_at_end (Some xs) None left front part line gap more found one two kept is none refilled last some = absurd kept
-cut_at_end (Some xs) (Some zs) left front part line gap more found one two kept is none refilled last some =
+    → (IsTrue found ↔ (line ≢ [])) → IsNextLine known left line found
+next_line_at_end None rest left front part line gap more found one two kept is none refilled last some = tt
+next_line_at_end (Some xs) None left front part line gap more found one two kept is none refilled last some = absurd kept
+next_line_at_end (Some xs) (Some zs) left front part line gap more found one two kept is none refilled last some =
     let ys_end : gap ++ zs ≡ [] = elim refilled.1 [
       | inl some_more ↦ absurd (false≢true (sym last ∙ some_more))
       | inr end ↦ end

@@ -2,18 +2,18 @@
 use Rattle.std.proofs.Common.{◌≡◌, ℕ, ◌<◌, true, false, inl, inr, List, [], ◌∷◌, length, take, drop, refl, sym, ◌∙◌, arith, one-add}
 use Rattle.std.proofs.lemmas.Bool.{cases_Bool}
 use Rattle.std.specs.List.{position_or_len, prefix_len}
-use Rattle.linkfix.specs.Words.{begins_word, is_space, with_front, words_of}
+use Rattle.linkfix.specs.Words.{begins_word, is_space, prepend_to_first, words_of}
 
 -- what is left behind the spaces in front
-abbrev pub behind_spaces : List ℕ → List ℕ
-behind_spaces line = drop (prefix_len is_space line) line
+abbrev pub after_spaces : List ℕ → List ℕ
+after_spaces line = drop (prefix_len is_space line) line
 
 -- the front of a line up to the first space, and what is left from there on
 abbrev pub front_word : List ℕ → List ℕ
 front_word line = take (position_or_len is_space line) line
 
-abbrev pub behind_word : List ℕ → List ℕ
-behind_word line = drop (position_or_len is_space line) line
+abbrev pub after_word : List ℕ → List ℕ
+after_word line = drop (position_or_len is_space line) line
 
 -- ---- one byte in front
 
@@ -21,7 +21,7 @@ words_of-space : (c : ℕ) (cs : List ℕ) → is_space c ≡ true → words_of 
 unfolding words_of
 words_of-space c cs space = rw space refl
 
-words_of-letter : (c : ℕ) (cs : List ℕ) → is_space c ≡ false → words_of (c ∷ cs) ≡ with_front c (begins_word cs) (words_of cs)
+words_of-letter : (c : ℕ) (cs : List ℕ) → is_space c ≡ false → words_of (c ∷ cs) ≡ prepend_to_first c (begins_word cs) (words_of cs)
 unfolding words_of
 words_of-letter c cs letter = rw letter refl
 
@@ -32,7 +32,7 @@ words_of-end = refl
 -- ---- the first word
 
 -- a line with nothing behind its spaces has no word
-pub words_of-none : (line : List ℕ) → behind_spaces line ≡ [] → words_of line ≡ []
+pub words_of-none : (line : List ℕ) → after_spaces line ≡ [] → words_of line ≡ []
 words_of-none [] h = words_of-end
 words_of-none (c ∷ cs) h =
     elim (cases_Bool (is_space c)) [
@@ -41,7 +41,7 @@ words_of-none (c ∷ cs) h =
     ]
 
 -- a line that begins with a word has it first
-words_of-word : (c : ℕ) (cs : List ℕ) → is_space c ≡ false → words_of (c ∷ cs) ≡ front_word (c ∷ cs) ∷ words_of (behind_word (c ∷ cs))
+words_of-word : (c : ℕ) (cs : List ℕ) → is_space c ≡ false → words_of (c ∷ cs) ≡ front_word (c ∷ cs) ∷ words_of (after_word (c ∷ cs))
 words_of-word c [] letter = words_of-letter c [] letter ∙ rw (words_of-end, letter) (rw words_of-end refl)
 words_of-word c (d ∷ ds) letter =
     elim (cases_Bool (is_space d)) [
@@ -50,8 +50,8 @@ words_of-word c (d ∷ ds) letter =
     ]
 
 -- the first word goes up to the next space, and the other words stand behind it
-pub words_of-first : (line : List ℕ) → 0 < length (behind_spaces line)
-    → words_of line ≡ front_word (behind_spaces line) ∷ words_of (behind_word (behind_spaces line))
+pub words_of-first : (line : List ℕ) → 0 < length (after_spaces line)
+    → words_of line ≡ front_word (after_spaces line) ∷ words_of (after_word (after_spaces line))
 words_of-first [] h = absurd (omega arith)
 words_of-first (c ∷ cs) h =
     elim (cases_Bool (is_space c)) [
@@ -72,5 +72,5 @@ module _ (line rest : List ℕ) (spaces : ℕ) (counted : spaces ≡ prefix_len 
   pub word_left : (word after : List ℕ) (n : ℕ) → 0 < length rest → n ≡ position_or_len is_space rest → word ≡ take n rest
       → after ≡ drop n rest → words_of line ≡ word ∷ words_of after
   word_left word after n h len front back =
-      let e : rest ≡ behind_spaces line = rw counted at cut in
+      let e : rest ≡ after_spaces line = rw counted at cut in
       rw (front, back, len, e) (words_of-first line (rw e at h))

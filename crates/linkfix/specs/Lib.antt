@@ -1,5 +1,5 @@
-pub mod Hexed
-pub mod Obeying
-pub mod Spelling
-pub mod Unread
+pub mod DecodedHex
+pub mod Execution
+pub mod CommandSyntax
+pub mod RemainingInput
 pub mod Words

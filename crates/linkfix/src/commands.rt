@@ -5,38 +5,42 @@ ghost use Rattle.std.specs.List.{position_or_len, prefix_len};
 ghost use Rattle.std.specs.Option.{SomeIff};
 ghost use Rattle.std.specs.Str.Parse.{IsNumeral, digits_value};
 ghost use Rattle.linkfix.specs.Words.{is_space, words_of};
-ghost use Rattle.linkfix.specs.Spelling.{BeginsWithCount, BeginsWithNumber, IsCount, IsNumber, Spells};
+ghost use Rattle.linkfix.specs.CommandSyntax.{BeginsWithCount, BeginsWithNumber, IsCount, IsNumber, IsWrittenAs};
 ghost use Rattle.linkfix.specs.declared.commands.Command.{Command};
 
-/// The greatest number that a command takes.
+/// The greatest number in a command.
 const MAX_NUMBER: u64 = i64::MAX as u64;
 
-/// What a command line asks for.
+/// A command line.
 #[derive(Debug, Clone, Copy, PartialEq, Eq)]
 pub enum Command {
-    /// `del o b`: `bytes` bytes from `offset` on are deleted.
+    /// `del o b`: deletes `bytes` bytes at the input offset `offset`.
     Delete { offset: u64, bytes: u32 },
-    /// `in i`: the output offset of an input offset.
+    /// `in i`: prints the output offset of an input offset.
     ToOutput { input_offset: u64 },
-    /// `out y`: the input offset of an output offset.
+    /// `out y`: prints the input offset of an output offset.
     ToInput { output_offset: u64 },
-    /// `call site target`: the call at `site` becomes one jump to `target`.
+    /// `call site target`: replaces the call at `site` by one jump to `target`.
     Call { site: u64, target: u64 },
-    /// `show`: the bytes of the section.
+    /// `show`: prints the bytes of the section.
     Show,
 }
 
-/// The fault of a line that is no command.
+/// The error of a line that is no command.
 #[derive(Debug, Clone, Copy, PartialEq, Eq)]
 pub struct BadLine;
 
-/// The command that a line writes, and none where it has no word.
+/// Parses a command line. Words are separated by spaces. A line with no word gives `None`.
+///
+/// # Errors
+///
+/// `BadLine` if the words are no command.
 pub fn parse_command(line: &[u8]) -> Result<Option<Command>, BadLine>
     ensures ok { IfOk result (λ found. MatchOption found
         (words_of line.now ≡ [])
-        (λ command. Spells command (words_of line.now))) }
+        (λ command. IsWrittenAs command (words_of line.now))) }
     ensures bad { OnErr result ((words_of line.now ≢ [])
-        × ((command : Command) → ¬ Spells command (words_of line.now))) }
+        × ((command : Command) → ¬ IsWrittenAs command (words_of line.now))) }
 {
     let mut words = Words { rest: line };
     let Some(name) = words.next() else {
@@ -66,7 +70,7 @@ pub fn parse_command(line: &[u8]) -> Result<Option<Command>, BadLine>
     }
 }
 
-/// Takes the next word, which has to be a number.
+/// Parses the next word as a number.
 fn take_number(words: &mut Words<'_>) -> Result<u64, BadLine>
     ensures ok { IfOk result (λ n. (word : List ℕ)
         × (words_of words.old.rest.now ≡ word ∷ words_of words.new.rest.now) × IsNumber word n) }
@@ -75,7 +79,7 @@ fn take_number(words: &mut Words<'_>) -> Result<u64, BadLine>
     words.next().and_then(parse_number).ok_or(BadLine)
 }
 
-/// Takes the next word, which has to be a number of 32 bits.
+/// Parses the next word as a number below 2^32.
 fn take_count(words: &mut Words<'_>) -> Result<u32, BadLine>
     ensures ok { IfOk result (λ n. (word : List ℕ)
         × (words_of words.old.rest.now ≡ word ∷ words_of words.new.rest.now) × IsCount word n) }
@@ -84,8 +88,7 @@ fn take_count(words: &mut Words<'_>) -> Result<u32, BadLine>
     u32::try_from(take_number(words)?).map_err(|_| BadLine)
 }
 
-/// The number that a word writes in decimal digits, up to 2^63 - 1. Leading zeros are accepted, a
-/// sign isn't.
+/// Parses decimal digits as a number up to 2^63 - 1. Accepts leading zeros, and no sign.
 fn parse_number(word: &[u8]) -> Option<u64>
     ensures { SomeIff result (IsNumeral 10 word.now × (digits_value 10 word.now < 2 ^ 63))
         (digits_value 10 word.now) }
@@ -107,7 +110,7 @@ fn parse_number(word: &[u8]) -> Option<u64>
     Some(value)
 }
 
-/// What is left of a line, whose words are parted by spaces.
+/// The rest of a line, as an iterator over its words.
 #[derive(Drop)]
 struct Words<'a> {
     rest: &'a [u8],
@@ -131,7 +134,7 @@ impl<'a> Iterator for Words<'a> {
     }
 }
 
-/// How many spaces stand in front.
+/// The number of spaces at the front.
 fn spaces_len(line: &[u8]) -> usize
     ensures value { result ≡ prefix_len is_space line.now }
     ensures within { result ≤ length line.now }
@@ -139,7 +142,7 @@ fn spaces_len(line: &[u8]) -> usize
     line.iter().take_while(|byte| **byte == b' ').count()
 }
 
-/// How many bytes stand before the first space.
+/// The number of bytes before the first space.
 fn word_len(line: &[u8]) -> usize
     ensures value { result ≡ position_or_len is_space line.now }
     ensures within { result ≤ length line.now }

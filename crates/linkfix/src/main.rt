@@ -1,5 +1,5 @@
-//! Reads the bytes of a section and commands on it from the standard input, obeys each command and
-//! answers it on the standard output.
+//! Reads the bytes of a section and then commands on it from the standard input, executes the
+//! commands and prints one line for each.
 #![tactic(auto)]
 
 mod commands;

@@ -1,26 +1,30 @@
-//! The bytes of a section as a line of hexadecimal digits.
+//! Sections as lines of hexadecimal digits.
 ghost use Rattle.std.specs.Prelude.{◌≡◌, ◌%◌, length, IfOk};
 ghost use Rattle.std.specs.String.{string_bytes};
 ghost use Rattle.hex.specs.Hex.{encode_lower};
-ghost use Rattle.linkfix.specs.Hexed.{hexed};
+ghost use Rattle.linkfix.specs.DecodedHex.{decoded_hex};
 
 use hex::FromHexError;
 use std::alloc::{AllocError, Global};
 
-/// Why a line gives no section.
+/// An error of `read_section`.
 #[derive(Debug, Clone, Copy, PartialEq, Eq)]
 pub enum LineFault {
-    /// The line isn't an even number of hexadecimal digits.
+    /// The line is not an even number of hexadecimal digits.
     BadSection,
-    /// There was no memory for the bytes.
+    /// Out of memory for the bytes.
     OutOfMemory,
 }
 
-/// The bytes that a line of hexadecimal digits of either case writes, two digits a byte, the digit
-/// of the upper four bits first. An empty line writes no byte.
+/// Decodes a line of hexadecimal digits of either case: two digits a byte, the upper four bits
+/// first. An empty line gives no bytes.
+///
+/// # Errors
+///
+/// `BadSection` if the length is odd or a byte of the line is no hexadecimal digit; `OutOfMemory`.
 pub fn read_section(alloc: Global, line: &[u8]) -> Result<Vec<u8>, LineFault>
-    ensures ok { IfOk result (λ section. hexed line.now ≡ Some section.items) }
-    ensures bad { result ≡ Err LineFault.BadSection → hexed line.now ≡ None }
+    ensures ok { IfOk result (λ section. decoded_hex line.now ≡ Some section.items) }
+    ensures bad { result ≡ Err LineFault.BadSection → decoded_hex line.now ≡ None }
     ensures odd { length line.now % 2 ≡ 1 → result ≡ Err LineFault.BadSection }
 {
     match hex::decode(alloc, line) {
@@ -30,11 +34,15 @@ pub fn read_section(alloc: Global, line: &[u8]) -> Result<Vec<u8>, LineFault>
     }
 }
 
-/// The bytes of a section as hexadecimal digits in lower case, two a byte, the digit of the upper
-/// four bits first. It fails only where memory does.
+/// Encodes the bytes of a section as hexadecimal digits in lower case: two digits a byte, the upper
+/// four bits first.
+///
+/// # Errors
+///
+/// Out of memory.
 pub fn show_section(alloc: Global, section: &[u8]) -> Result<String, AllocError>
     ensures lower_case { IfOk result (λ text. string_bytes text ≡ encode_lower section.now) }
-    ensures read_back { IfOk result (λ text. hexed (string_bytes text) ≡ Some section.now) }
+    ensures read_back { IfOk result (λ text. decoded_hex (string_bytes text) ≡ Some section.now) }
 {
     hex::encode(alloc, section)
 }

@@ -1,4 +1,5 @@
-//! Runs over memory. The expected lines are worked by hand from the RISC-V unprivileged ISA's `jal`.
+//! Runs over readers and writers in memory. The expected words are worked by hand from the encoding
+//! of `jal` in the RISC-V unprivileged ISA.
 use crate::program::run;
 use std::alloc::Global;
 use std::io;
@@ -6,13 +7,13 @@ use std::io::{ErrorKind, Read, Write};
 use std::process::Abort;
 use std::test::Fail;
 
-/// A writer into fixed memory, which fails once `writes_left` calls of `write` were made.
+/// A writer into a fixed buffer, whose `write` fails after `writes_left` calls.
 #[derive(Drop)]
 struct Page {
     bytes: [u8; 64],
     len: usize,
     writes_left: u32,
-    faults: u32,
+    failed_writes: u32,
 }
 
 impl Page {
@@ -21,7 +22,7 @@ impl Page {
             bytes: [0; 64],
             len: 0,
             writes_left,
-            faults: 0,
+            failed_writes: 0,
         }
     }
 
@@ -36,7 +37,7 @@ impl Page {
 impl Write for Page {
     fn write(&mut self, buf: &[u8]) -> io::Result<usize> {
         if self.writes_left == 0 {
-            self.faults = self.faults.saturating_add(1);
+            self.failed_writes = self.failed_writes.saturating_add(1);
             return Err(io::Error::from(ErrorKind::Other));
         }
         self.writes_left -= 1;
@@ -55,17 +56,17 @@ impl Write for Page {
     }
 }
 
-/// A reader that gives `piece` bytes a time at most, and notes the least room that it was given.
+/// A reader that gives at most `piece` bytes a read, and records the smallest buffer it was given.
 #[derive(Drop)]
 struct Pieces<'a> {
     bytes: &'a [u8],
     piece: usize,
-    least_room: usize,
+    smallest_buffer: usize,
 }
 
 impl Read for Pieces<'_> {
     fn read(&mut self, buf: &mut [u8]) -> io::Result<usize> {
-        self.least_room = self.least_room.min(buf.len());
+        self.smallest_buffer = self.smallest_buffer.min(buf.len());
         let most = self.piece.min(buf.len());
         let piece = self.piece;
         let mut front = self.bytes.get(..piece).unwrap_or(self.bytes);
@@ -117,7 +118,7 @@ impl Read for Broken<'_> {
 #[derive(Clone, Copy)]
 struct Row {
     input: &'static [u8],
-    answers: &'static str,
+    printed: &'static str,
     status: u8,
 }
 
@@ -125,8 +126,8 @@ fn compare(rt: &impl Abort, alloc: Global, rows: &[Row]) {
     for row in rows {
         let mut page = Page::new(9);
         let status = run(alloc, row.input, &mut page);
-        assert_eq!(rt; page.written(), row.answers, "answers to {:?}", row.input);
-        assert_eq!(rt; status, row.status, "status of {:?}", row.input);
+        assert_eq!(rt; page.written(), row.printed, "output for {:?}", row.input);
+        assert_eq!(rt; status, row.status, "status for {:?}", row.input);
     }
 }
 
@@ -135,17 +136,17 @@ fn calls_become_jumps(rt: HostRuntime) {
     let rows = [
         Row {
             input: b"97000000e780000013000000\ncall 0 8\nshow\n",
-            answers: "ok\nef008000e780000013000000\n",
+            printed: "ok\nef008000e780000013000000\n",
             status: 0,
         },
         Row {
             input: b"97000000e780000013000000\ncall 8 0\nshow\n",
-            answers: "ok\n97000000e78000006ff09fff\n",
+            printed: "ok\n97000000e78000006ff09fff\n",
             status: 0,
         },
         Row {
             input: b"97000000e780000013000000\ncall 8 0\ncall 0 8\nshow\nshow\n",
-            answers: "ok\nok\nef008000e78000006ff09fff\nef008000e78000006ff09fff\n",
+            printed: "ok\nok\nef008000e78000006ff09fff\nef008000e78000006ff09fff\n",
             status: 0,
         },
     ];
@@ -153,26 +154,26 @@ fn calls_become_jumps(rt: HostRuntime) {
 }
 
 #[test]
-fn refused_calls_end_the_run(rt: HostRuntime) {
+fn rejected_calls_end_the_run(rt: HostRuntime) {
     let rows = [
         Row {
             input: b"97000000e780000013000000\ncall 10 0\nshow\n",
-            answers: "OutOfSection\n",
+            printed: "OutOfSection\n",
             status: 1,
         },
         Row {
             input: b"97000000e780000013000000\nshow\ncall 0 3\nshow\n",
-            answers: "97000000e780000013000000\nOddDistance\n",
+            printed: "97000000e780000013000000\nOddDistance\n",
             status: 1,
         },
         Row {
             input: b"97000000e780000013000000\ncall 0 1048576\n",
-            answers: "OutOfSection\n",
+            printed: "OutOfSection\n",
             status: 1,
         },
         Row {
             input: b"\ncall 0 0\n",
-            answers: "OutOfSection\n",
+            printed: "OutOfSection\n",
             status: 1,
         },
     ];
@@ -184,47 +185,47 @@ fn calls_go_through_deletions(rt: HostRuntime) {
     let rows = [
         Row {
             input: b"97000000e780000013000000\ndel 4 4\ncall 0 8\nshow\n",
-            answers: "ok\nok\nef004000e780000013000000\n",
+            printed: "ok\nok\nef004000e780000013000000\n",
             status: 0,
         },
         Row {
             input: b"97000000e780000013000000\ndel 4 4\ncall 0 12\nshow\n",
-            answers: "ok\nok\nef008000e780000013000000\n",
+            printed: "ok\nok\nef008000e780000013000000\n",
             status: 0,
         },
         Row {
             input: b"97000000e780000013000000\ndel 2 0\ncall 0 8\nshow\n",
-            answers: "ok\nok\nef008000e780000013000000\n",
+            printed: "ok\nok\nef008000e780000013000000\n",
             status: 0,
         },
         Row {
             input: b"97000000e780000013000000\ndel 0 4\ncall 0 8\n",
-            answers: "ok\nSiteDeleted\n",
+            printed: "ok\nSiteDeleted\n",
             status: 1,
         },
         Row {
             input: b"97000000e780000013000000\ndel 4 4\ncall 3 8\n",
-            answers: "ok\nSiteDeleted\n",
+            printed: "ok\nSiteDeleted\n",
             status: 1,
         },
         Row {
-            input: b"97000000e780000013000000\ndel 4 4\ncall 0 6\n",
-            answers: "ok\nTargetInside\n",
-            status: 1,
+            input: b"97000000e780000013000000\ndel 4 4\ncall 0 6\nshow\n",
+            printed: "ok\nok\nef004000e780000013000000\n",
+            status: 0,
         },
         Row {
             input: b"97000000e780000013000000\ndel 4 1\ncall 0 8\n",
-            answers: "ok\nOddDistance\n",
+            printed: "ok\nOddDistance\n",
             status: 1,
         },
         Row {
-            input: b"97000000e780000013000000\ndel 10 4\ncall 0 12\n",
-            answers: "ok\nTargetInside\n",
-            status: 1,
+            input: b"97000000e780000013000000\ndel 10 4\ncall 0 12\nshow\n",
+            printed: "ok\nok\nef00a000e780000013000000\n",
+            status: 0,
         },
         Row {
             input: b"97000000e780000013000000\ncall 0 13\n",
-            answers: "OutOfSection\n",
+            printed: "OutOfSection\n",
             status: 1,
         },
     ];
@@ -236,42 +237,42 @@ fn offsets_are_translated_both_ways(rt: HostRuntime) {
     let rows = [
         Row {
             input: b"\ndel 4 4\nin 0\nin 4\nin 8\nout 3\nout 4\n",
-            answers: "ok\n0\n4\n4\n3\n8\n",
+            printed: "ok\n0\n4\n4\n3\n8\n",
             status: 0,
         },
         Row {
             input: b"\ndel 8 4\ndel 16 4\ndel 0 2\nin 20\nout 0\n",
-            answers: "ok\nok\nok\n10\n2\n",
+            printed: "ok\nok\nok\n10\n2\n",
             status: 0,
         },
         Row {
             input: b"97000000e780000013000000\ndel 4 4\nin 6\n",
-            answers: "ok\ninside\n",
-            status: 1,
+            printed: "ok\n4\n",
+            status: 0,
         },
         Row {
             input: b"\ndel 4 4\ndel 6 1\n",
-            answers: "ok\nbad deletion\n",
+            printed: "ok\nbad deletion\n",
             status: 1,
         },
         Row {
             input: b"\ndel 4 4\ndel 4 0\n",
-            answers: "ok\nbad deletion\n",
+            printed: "ok\nbad deletion\n",
             status: 1,
         },
         Row {
             input: b"\ndel 0 4294967296\n",
-            answers: "bad line\n",
+            printed: "bad line\n",
             status: 1,
         },
         Row {
             input: b"\ndel 9223372036854775807 4294967295\nin 9223372036854775807\n",
-            answers: "ok\n9223372036854775807\n",
+            printed: "ok\n9223372036854775807\n",
             status: 0,
         },
         Row {
             input: b"\ndel 9223372036854775807 4294967295\nout 9223372036854775807\n",
-            answers: "ok\n9223372041149743102\n",
+            printed: "ok\n9223372041149743102\n",
             status: 0,
         },
     ];
@@ -283,52 +284,52 @@ fn the_first_line_is_the_section(rt: HostRuntime) {
     let rows = [
         Row {
             input: b"",
-            answers: "",
+            printed: "",
             status: 0,
         },
         Row {
             input: b"\n",
-            answers: "",
+            printed: "",
             status: 0,
         },
         Row {
             input: b"\nshow\n",
-            answers: "\n",
+            printed: "\n",
             status: 0,
         },
         Row {
             input: b"aBcDeF09\r\nshow",
-            answers: "abcdef09\n",
+            printed: "abcdef09\n",
             status: 0,
         },
         Row {
             input: b"9",
-            answers: "bad section\n",
+            printed: "bad section\n",
             status: 1,
         },
         Row {
             input: b"9g\nshow\n",
-            answers: "bad section\n",
+            printed: "bad section\n",
             status: 1,
         },
         Row {
             input: b" 97\nshow\n",
-            answers: "bad section\n",
+            printed: "bad section\n",
             status: 1,
         },
         Row {
             input: b"97 \nshow\n",
-            answers: "bad section\n",
+            printed: "bad section\n",
             status: 1,
         },
         Row {
             input: b"97\r\r\nshow\n",
-            answers: "bad section\n",
+            printed: "bad section\n",
             status: 1,
         },
         Row {
             input: b"97\r",
-            answers: "bad section\n",
+            printed: "bad section\n",
             status: 1,
         },
     ];
@@ -340,62 +341,62 @@ fn lines_are_words_parted_by_spaces(rt: HostRuntime) {
     let rows = [
         Row {
             input: b"97\r\nshow\r\n",
-            answers: "97\n",
+            printed: "97\n",
             status: 0,
         },
         Row {
             input: b"97\n\n  \n\r\n \r\n  show  \n",
-            answers: "97\n",
+            printed: "97\n",
             status: 0,
         },
         Row {
             input: b"97\nshow",
-            answers: "97\n",
+            printed: "97\n",
             status: 0,
         },
         Row {
             input: b"97000000\n  call   0  0 \nshow\n",
-            answers: "ok\nef000000\n",
+            printed: "ok\nef000000\n",
             status: 0,
         },
         Row {
             input: b"97\nshow\r\r\n",
-            answers: "bad line\n",
+            printed: "bad line\n",
             status: 1,
         },
         Row {
             input: b"97\nshow\r",
-            answers: "bad line\n",
+            printed: "bad line\n",
             status: 1,
         },
         Row {
             input: b"97\n\tshow\n",
-            answers: "bad line\n",
+            printed: "bad line\n",
             status: 1,
         },
         Row {
             input: b"97\nshow\xc3\xa9\n",
-            answers: "bad line\n",
+            printed: "bad line\n",
             status: 1,
         },
         Row {
             input: b"97\n\xa0\n",
-            answers: "bad line\n",
+            printed: "bad line\n",
             status: 1,
         },
         Row {
             input: b"97\nSHOW\n",
-            answers: "bad line\n",
+            printed: "bad line\n",
             status: 1,
         },
         Row {
             input: b"97\nshow show\n",
-            answers: "bad line\n",
+            printed: "bad line\n",
             status: 1,
         },
         Row {
             input: b"97\nhide\n",
-            answers: "bad line\n",
+            printed: "bad line\n",
             status: 1,
         },
     ];
@@ -407,62 +408,62 @@ fn numbers_are_decimal_and_below_two_to_the_63(rt: HostRuntime) {
     let rows = [
         Row {
             input: b"97000000\ncall 000 0000000000000000000000000\n",
-            answers: "ok\n",
+            printed: "ok\n",
             status: 0,
         },
         Row {
             input: b"97000000\ncall 9223372036854775807 0\n",
-            answers: "OutOfSection\n",
+            printed: "OutOfSection\n",
             status: 1,
         },
         Row {
             input: b"97000000\ncall 0 9223372036854775807\n",
-            answers: "OutOfSection\n",
+            printed: "OutOfSection\n",
             status: 1,
         },
         Row {
             input: b"97000000\ncall 0 9223372036854775808\n",
-            answers: "bad line\n",
+            printed: "bad line\n",
             status: 1,
         },
         Row {
             input: b"97000000\ncall 18446744073709551616 0\n",
-            answers: "bad line\n",
+            printed: "bad line\n",
             status: 1,
         },
         Row {
             input: b"97000000\ncall 0\n",
-            answers: "bad line\n",
+            printed: "bad line\n",
             status: 1,
         },
         Row {
             input: b"97000000\ncall\n",
-            answers: "bad line\n",
+            printed: "bad line\n",
             status: 1,
         },
         Row {
             input: b"97000000\ncall 0 0 0\n",
-            answers: "bad line\n",
+            printed: "bad line\n",
             status: 1,
         },
         Row {
             input: b"97000000\ncall +0 0\n",
-            answers: "bad line\n",
+            printed: "bad line\n",
             status: 1,
         },
         Row {
             input: b"97000000\ncall 0 -0\n",
-            answers: "bad line\n",
+            printed: "bad line\n",
             status: 1,
         },
         Row {
             input: b"97000000\ncall 0x0 0\n",
-            answers: "bad line\n",
+            printed: "bad line\n",
             status: 1,
         },
         Row {
             input: b"97000000\ncall 0 a\n",
-            answers: "bad line\n",
+            printed: "bad line\n",
             status: 1,
         },
     ];
@@ -475,7 +476,7 @@ fn input_may_come_in_pieces(rt: HostRuntime) {
         let mut pieces = Pieces {
             bytes: b"97000000e780000013000000\r\ncall 0 8\r\n\r\nshow",
             piece,
-            least_room: usize::MAX,
+            smallest_buffer: usize::MAX,
         };
         let mut page = Page::new(9);
         let status = run(rt.alloc(), &mut pieces, &mut page);
@@ -485,7 +486,7 @@ fn input_may_come_in_pieces(rt: HostRuntime) {
             "{piece} a time"
         );
         assert_eq!(rt; status, 0);
-        assert!(rt; pieces.least_room >= 4096);
+        assert!(rt; pieces.smallest_buffer >= 4096);
     }
 }
 
@@ -541,34 +542,34 @@ fn an_input_is_read_1048576_times_at_most(rt: HostRuntime) {
 
 #[test]
 fn a_failed_write_is_the_last_one(rt: HostRuntime) {
-    for (writes, answers) in [(0, ""), (1, "ok\n")] {
+    for (writes, printed) in [(0, ""), (1, "ok\n")] {
         for input in [
             b"97000000\ncall 0 0\nshow\nshow\n".as_slice(),
             b"97000000\ncall 0 0\nhide\n".as_slice(),
         ] {
             let mut page = Page::new(writes);
             assert_eq!(rt; run(rt.alloc(), input, &mut page), 1);
-            assert_eq!(rt; page.written(), answers);
-            assert_eq!(rt; page.faults, 1);
+            assert_eq!(rt; page.written(), printed);
+            assert_eq!(rt; page.failed_writes, 1);
         }
     }
 }
 
-/// With every growth granted this is the first row of the calls through deletions. With one of them refused, as by
-/// `rt try --test --fail-alloc N`, the run says so behind the answers so far.
+/// `rt try --test --fail-alloc N` makes one allocation fail. The run then reports it after the
+/// lines printed so far.
 #[test]
-fn a_refused_growth_is_told(rt: HostRuntime) {
+fn out_of_memory_is_reported(rt: HostRuntime) {
     let mut page = Page::new(9);
     let status = run(
         rt.alloc(),
         b"97000000e780000013000000\ndel 4 4\ncall 0 8\nshow\n".as_slice(),
         &mut page,
     );
-    let answers = page.written();
+    let printed = page.written();
     if status == 0 {
-        assert_eq!(rt; answers, "ok\nok\nef004000e780000013000000\n");
+        assert_eq!(rt; printed, "ok\nok\nef004000e780000013000000\n");
     } else {
         assert_eq!(rt; status, 1);
-        assert!(rt; answers == "out of memory\n" || answers == "ok\nok\nout of memory\n");
+        assert!(rt; printed == "out of memory\n" || printed == "ok\nok\nout of memory\n");
     }
 }

@@ -1,2 +1,2 @@
-pub mod Poking
-pub mod Touching
+pub mod PokedSection
+pub mod WriteBack

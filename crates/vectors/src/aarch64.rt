@@ -17,7 +17,7 @@ use linker_utils::elf::{
 use linker_utils::relaxation::RelocationModifier;
 use linker_utils::utils::u32_from_slice;
 
-/// The word that a form leaves, and none of a value that does not fit.
+/// The word after a write, or `None` if the value does not fit.
 fn written(form: AArch64Instruction, value: u64, negative: bool, before: u32) -> Option<u32> {
     let mut bytes = before.to_le_bytes();
     if form.window() != 4 || !form.fits(value, &bytes) {
@@ -34,50 +34,92 @@ fn read(form: AArch64Instruction, word: u32) -> Option<(u64, bool)> {
     Some(form.read_value(&word.to_le_bytes()))
 }
 
-/// Whether a form writes the words of a table and reads its numbers back, in the bits of a mask.
-fn agrees(form: AArch64Instruction, mask: u64, rows: &[(u32, u64, u32, i64)]) -> bool {
-    for &(before, value, after, machine) in rows {
+/// The first row of a table that a form does not write as listed, or whose number it does not read
+/// back in the bits of `mask`.
+fn first_mismatch(
+    form: AArch64Instruction,
+    mask: u64,
+    rows: &[(u32, u64, u32, i64)],
+) -> Option<(u32, u64, u32, i64)> {
+    for &row in rows {
+        let (before, value, after, machine) = row;
         if written(form, value, false, before) != Some(after) {
-            return false;
+            return Some(row);
         }
         let Some((number, negative)) = read(form, after) else {
-            return false;
+            return Some(row);
         };
         if negative || number & mask != machine.cast_unsigned() & mask {
-            return false;
+            return Some(row);
         }
     }
-    true
+    None
 }
 
 #[test]
-fn writes_what_assemblers_write(rt: HostRuntime) {
-    assert!(rt; agrees(AArch64Instruction::Adr, u64::MAX, &fields::ADR));
-    assert!(rt; agrees(AArch64Instruction::Movkz, 0xffff, &fields::MOVKZ));
-    assert!(rt; agrees(AArch64Instruction::Ldr, u64::MAX, &fields::LDR));
-    assert!(rt;
-        agrees(
+fn words_match_assemblers(rt: HostRuntime) {
+    assert_eq!(rt;
+        first_mismatch(AArch64Instruction::Adr, u64::MAX, &fields::ADR),
+        None,
+        "Adr"
+    );
+    assert_eq!(rt;
+        first_mismatch(AArch64Instruction::Movkz, 0xffff, &fields::MOVKZ),
+        None,
+        "Movkz"
+    );
+    assert_eq!(rt;
+        first_mismatch(AArch64Instruction::Ldr, u64::MAX, &fields::LDR),
+        None,
+        "Ldr"
+    );
+    assert_eq!(rt;
+        first_mismatch(
             AArch64Instruction::LdrRegister,
             u64::MAX,
             &fields::LDR_REGISTER
-        )
+        ),
+        None,
+        "LdrRegister"
     );
-    assert!(rt; agrees(AArch64Instruction::Add, u64::MAX, &fields::ADD));
-    assert!(rt; agrees(AArch64Instruction::TstBr, u64::MAX, &fields::TST_BR));
-    assert!(rt; agrees(AArch64Instruction::Bcond, u64::MAX, &fields::BCOND));
-    assert!(rt; agrees(AArch64Instruction::JumpCall, u64::MAX, &fields::JUMP_CALL));
-    assert!(rt; agrees(AArch64Instruction::LdSt, 0xfff, &offsets::LD_ST));
-    assert!(rt;
-        agrees(
+    assert_eq!(rt;
+        first_mismatch(AArch64Instruction::Add, u64::MAX, &fields::ADD),
+        None,
+        "Add"
+    );
+    assert_eq!(rt;
+        first_mismatch(AArch64Instruction::TstBr, u64::MAX, &fields::TST_BR),
+        None,
+        "TstBr"
+    );
+    assert_eq!(rt;
+        first_mismatch(AArch64Instruction::Bcond, u64::MAX, &fields::BCOND),
+        None,
+        "Bcond"
+    );
+    assert_eq!(rt;
+        first_mismatch(AArch64Instruction::JumpCall, u64::MAX, &fields::JUMP_CALL),
+        None,
+        "JumpCall"
+    );
+    assert_eq!(rt;
+        first_mismatch(AArch64Instruction::LdSt, 0xfff, &offsets::LD_ST),
+        None,
+        "LdSt"
+    );
+    assert_eq!(rt;
+        first_mismatch(
             AArch64Instruction::MachOLow12,
             u64::MAX,
             &offsets::MACHO_LOW12
-        )
+        ),
+        None,
+        "MachOLow12"
     );
 }
 
 #[test]
-fn moves_by_the_sign(rt: HostRuntime) {
+fn movnz_words_match_assemblers(rt: HostRuntime) {
     for &(before, value, negative, after) in &moves::MOVNZ {
         assert_eq!(rt;
             written(AArch64Instruction::Movnz, value, negative, before),
@@ -101,7 +143,7 @@ fn moves_by_the_sign(rt: HostRuntime) {
 }
 
 #[test]
-fn writes_and_reads_only_the_field(rt: HostRuntime) {
+fn writes_change_the_field_alone(rt: HostRuntime) {
     assert_eq!(rt;
         written(AArch64Instruction::LdSt, 0xfff, false, 0),
         Some(0x003f_fc00)
@@ -129,7 +171,7 @@ fn writes_and_reads_only_the_field(rt: HostRuntime) {
 }
 
 #[test]
-fn refuses_values_past_the_field(rt: HostRuntime) {
+fn values_past_the_field_are_rejected(rt: HostRuntime) {
     let word = 0x3dc0_0000u32.to_le_bytes();
     assert!(rt; !AArch64Instruction::Movkz.fits(0x10000, &word));
     assert!(rt; !AArch64Instruction::MachOLow12.fits(0x10000, &word));
@@ -137,7 +179,7 @@ fn refuses_values_past_the_field(rt: HostRuntime) {
 }
 
 #[test]
-fn loads_numbers_by_four_moves(rt: HostRuntime) {
+fn mov_sequences_match_assemblers(rt: HostRuntime) {
     for &(rd, value, words) in &moves::MOV_SEQUENCES {
         assert!(rt; rd <= 30, "{rd}");
         let mut bytes = [0u8; 16];
@@ -155,7 +197,7 @@ fn loads_numbers_by_four_moves(rt: HostRuntime) {
     assert_eq!(rt; u32_from_slice(&bytes[12..]), 0xf2e0_2465);
 }
 
-/// The field of an `adrp` at `pc`: how many pages its target's page is away.
+/// The immediate of an `adrp` at `pc`: the distance to its target's page, in pages.
 fn page_field(pc: u64, target: u64) -> u64 {
     (target & !0xfff)
         .wrapping_sub(pc & !0xfff)
@@ -163,7 +205,7 @@ fn page_field(pc: u64, target: u64) -> u64 {
 }
 
 #[test]
-fn reaches_targets_by_page_and_offset(rt: HostRuntime) {
+fn page_and_offset_pairs_match_linkers(rt: HostRuntime) {
     for &(pc, target, before, after) in &pairs::ADRP_ADD {
         assert_eq!(rt;
             written(
@@ -205,8 +247,8 @@ fn reaches_targets_by_page_and_offset(rt: HostRuntime) {
     }
 }
 
-/// Rewrites at an offset, and then writes a value there. It tells whether both can be done and the
-/// offset and the addend stay.
+/// Rewrites at an offset, and then writes a value there. Returns `false` if either is impossible, or
+/// if the offset or the addend changes.
 fn rewritten(
     section: &mut [u8],
     at: u64,
@@ -236,7 +278,7 @@ fn rewritten(
 }
 
 #[test]
-fn rewrites_as_linkers_do(rt: HostRuntime) {
+fn rewrites_match_linkers(rt: HostRuntime) {
     for &(before, value, after) in &NOP_ADR {
         let mut section = before;
         assert!(rt;
@@ -246,9 +288,10 @@ fn rewrites_as_linkers_do(rt: HostRuntime) {
                 RelaxationKind::AdrpAddToNopAdr,
                 AArch64Instruction::Adr,
                 value
-            )
+            ),
+            "{value}"
         );
-        assert_eq!(rt; section, after);
+        assert_eq!(rt; section, after, "{value}");
     }
     for &(before, page, low, after) in &ADRP_TO_ADD {
         let mut section = before;
@@ -259,7 +302,8 @@ fn rewrites_as_linkers_do(rt: HostRuntime) {
                 RelaxationKind::NoOp,
                 AArch64Instruction::Adr,
                 page
-            )
+            ),
+            "{page} and {low}"
         );
         assert!(rt;
             rewritten(
@@ -268,9 +312,10 @@ fn rewrites_as_linkers_do(rt: HostRuntime) {
                 RelaxationKind::LdrToAdd,
                 AArch64Instruction::Add,
                 low
-            )
+            ),
+            "{page} and {low}"
         );
-        assert_eq!(rt; section, after);
+        assert_eq!(rt; section, after, "{page} and {low}");
     }
     for &(before, high, low, after) in &TO_MOVES {
         let mut section = before;
@@ -281,7 +326,8 @@ fn rewrites_as_linkers_do(rt: HostRuntime) {
                 RelaxationKind::MovzXnLsl16,
                 AArch64Instruction::Movkz,
                 high
-            )
+            ),
+            "{high} and {low}"
         );
         assert!(rt;
             rewritten(
@@ -290,9 +336,10 @@ fn rewrites_as_linkers_do(rt: HostRuntime) {
                 RelaxationKind::MovkXn,
                 AArch64Instruction::Movkz,
                 low
-            )
+            ),
+            "{high} and {low}"
         );
-        assert_eq!(rt; section, after);
+        assert_eq!(rt; section, after, "{high} and {low}");
     }
     let mut section = [
         0, 0, 0, 0x90, 1, 0, 0x40, 0xf9, 0, 0, 0, 0x91, 0x20, 0, 0x3f, 0xd6,
@@ -318,7 +365,10 @@ fn rewrites_as_linkers_do(rt: HostRuntime) {
     let mut addend = 0;
     for at in [8u64, 12] {
         let mut offset = at;
-        assert!(rt; RelaxationKind::ReplaceWithNop.can_apply(&section, offset));
+        assert!(rt;
+            RelaxationKind::ReplaceWithNop.can_apply(&section, offset),
+            "at {at}"
+        );
         RelaxationKind::ReplaceWithNop.apply(&mut section, &mut offset, &mut addend);
     }
     assert_eq!(rt;
@@ -329,7 +379,7 @@ fn rewrites_as_linkers_do(rt: HostRuntime) {
     );
 }
 
-/// The word that a rewrite leaves, and none where it may not be applied.
+/// The word after a rewrite, or `None` if it may not be applied.
 fn rewritten_word(kind: RelaxationKind, word: u32) -> Option<u32> {
     let mut section = word.to_le_bytes();
     if !kind.can_apply(&section, 0) {
@@ -342,7 +392,7 @@ fn rewritten_word(kind: RelaxationKind, word: u32) -> Option<u32> {
 }
 
 #[test]
-fn rewrites_one_instruction(rt: HostRuntime) {
+fn rewrites_of_one_instruction_match_worked_words(rt: HostRuntime) {
     let table: [(RelaxationKind, u32, Option<u32>); 11] = [
         (RelaxationKind::NoOp, 0xf940_0421, Some(0xf940_0421)),
         (RelaxationKind::LdrToAdd, 0xf940_0421, Some(0x9100_0421)),
@@ -365,7 +415,7 @@ fn rewrites_one_instruction(rt: HostRuntime) {
     assert!(rt; !RelaxationKind::ReplaceWithNop.can_apply(&section, u64::MAX));
 }
 
-/// A row without a page mask.
+/// A relocation's meaning without a page mask.
 fn row(
     kind: RelocationKind,
     size: RelocationSize,
@@ -385,7 +435,7 @@ fn row(
 }
 
 #[test]
-fn tells_what_relocations_mean(rt: HostRuntime) {
+fn relocations_have_their_meaning(rt: HostRuntime) {
     assert_eq!(rt; TLS_TCB_SIZE, 16);
     assert_eq!(rt; relocation_type_from_raw(AArch64Relocation::Other(7)), None);
     let all = AllowedRange::no_check();

@@ -1,7 +1,8 @@
 //! Deletions and offsets, worked by hand: an offset's place is the count of kept bytes below it.
 
 use linker_utils::relaxation::{
-    OutOfMemory, RelaxDelta, RelaxDeltaMap, SectionRelaxDeltas, opt_input_to_output,
+    DeltaSlice, OutOfMemory, RelaxDelta, RelaxDeltaMap, SectionRelaxDeltas, first_invalid,
+    opt_input_to_output,
 };
 use std::alloc::Global;
 use std::process::Abort;
@@ -14,14 +15,6 @@ fn deltas_of(
 ) -> Result<SectionRelaxDeltas, OutOfMemory> {
     assert!(rt; SectionRelaxDeltas::is_valid(raw), "{raw:?} is valid");
     SectionRelaxDeltas::new(alloc, raw)
-}
-
-fn output(rt: &impl Abort, deltas: &SectionRelaxDeltas, input_offset: u64) -> u64 {
-    assert!(rt;
-        !deltas.is_inside(input_offset),
-        "{input_offset} is outside"
-    );
-    deltas.input_to_output_offset(input_offset)
 }
 
 fn input(rt: &impl Abort, deltas: &SectionRelaxDeltas, output_offset: u64) -> u64 {
@@ -43,7 +36,7 @@ fn offsets_are_translated_both_ways(rt: HostRuntime) -> Result<(), Fail> {
     let rows = [
         Row {
             raw: &[(4, 4)],
-            outputs: &[(0, 0), (4, 4), (8, 4)],
+            outputs: &[(0, 0), (4, 4), (5, 4), (7, 4), (8, 4)],
             inputs: &[(3, 3), (4, 8)],
         },
         Row {
@@ -57,8 +50,18 @@ fn offsets_are_translated_both_ways(rt: HostRuntime) -> Result<(), Fail> {
             inputs: &[(4, 4), (6, 8)],
         },
         Row {
+            raw: &[(0, 4)],
+            outputs: &[(2, 0)],
+            inputs: &[(0, 4)],
+        },
+        Row {
+            raw: &[(4, 4), (12, 2)],
+            outputs: &[(13, 8)],
+            inputs: &[(8, 14)],
+        },
+        Row {
             raw: &[(u64::MAX - 3, 3)],
-            outputs: &[(u64::MAX, u64::MAX - 3)],
+            outputs: &[(u64::MAX - 1, u64::MAX - 3), (u64::MAX, u64::MAX - 3)],
             inputs: &[(u64::MAX - 3, u64::MAX)],
         },
         Row {
@@ -71,7 +74,7 @@ fn offsets_are_translated_both_ways(rt: HostRuntime) -> Result<(), Fail> {
         let deltas = deltas_of(&rt, rt.alloc(), row.raw)?;
         for (from, to) in row.outputs {
             assert_eq!(rt;
-                output(&rt, &deltas, *from),
+                deltas.input_to_output_offset(*from),
                 *to,
                 "in {from} of {:?}",
                 row.raw
@@ -119,7 +122,7 @@ fn merges_sort_and_sum(rt: HostRuntime) -> Result<(), Fail> {
     merged.merge_additional(&more)?;
     assert_eq!(rt; sums(&merged), [Some(2), Some(6), Some(10), None]);
     assert_eq!(rt; merged.total_deleted(), 10);
-    assert_eq!(rt; output(&rt, &merged, 20), 10);
+    assert_eq!(rt; merged.input_to_output_offset(20), 10);
     assert_eq!(rt; input(&rt, &merged, 0), 2);
 
     let mut batched = deltas_of(&rt, rt.alloc(), &[(8, 4)])?;
@@ -132,7 +135,7 @@ fn merges_sort_and_sum(rt: HostRuntime) -> Result<(), Fail> {
 }
 
 #[test]
-fn only_valid_deletions_are_taken(rt: HostRuntime) -> Result<(), Fail> {
+fn invalid_deletions_are_rejected(rt: HostRuntime) -> Result<(), Fail> {
     let valid: [&[(u64, u32)]; 4] = [
         &[],
         &[(0, 4), (4, 1)],
@@ -185,7 +188,49 @@ fn only_valid_deletions_are_taken(rt: HostRuntime) -> Result<(), Fail> {
 }
 
 #[test]
-fn a_cursor_passes_each_deletion_once(rt: HostRuntime) -> Result<(), Fail> {
+fn first_faulty_deletions_are_named(rt: HostRuntime) -> Result<(), Fail> {
+    assert_eq!(rt; first_invalid(&[(0, 4), (4, 1)]), None);
+    assert_eq!(rt; first_invalid(&[(0, 4), (3, 1), (2, 1)]), Some(1));
+    assert_eq!(rt; first_invalid(&[(0, 4), (u64::MAX, 1)]), Some(1));
+
+    let deltas = deltas_of(&rt, rt.alloc(), &[(4, 4), (12, 2)])?;
+    assert_eq!(rt; first_invalid(deltas.deltas()), None);
+    let listed = DeltaSlice::new(deltas.deltas());
+    assert_eq!(rt; listed.first_overlapping(&[(8, 4), (0, 4)]), None);
+    assert_eq!(rt;
+        listed.first_overlapping(&[(8, 4), (13, 1), (0, 5)]),
+        Some(1)
+    );
+    assert_eq!(rt;
+        listed.first_overlapping(&[(20, 1), (16, 4), (20, 1)]),
+        Some(2)
+    );
+    Ok(())
+}
+
+#[test]
+fn kept_bytes_have_an_output_offset(rt: HostRuntime) -> Result<(), Fail> {
+    let deltas = deltas_of(&rt, rt.alloc(), &[(2, 0), (4, 4), (12, 2)])?;
+    for (start, len, output) in [
+        (0, 4, Some(0)),
+        (1, 4, None),
+        (5, 1, None),
+        (8, 4, Some(4)),
+        (8, 5, None),
+        (14, 4, Some(8)),
+        (5, 0, Some(4)),
+    ] {
+        assert_eq!(rt;
+            deltas.kept_output_offset(start, len),
+            output,
+            "{len} bytes from {start} on"
+        );
+    }
+    Ok(())
+}
+
+#[test]
+fn cursors_pass_each_deletion_once(rt: HostRuntime) -> Result<(), Fail> {
     let deltas = deltas_of(&rt, rt.alloc(), &[(4, 4), (12, 2)])?;
     let mut cursor = deltas.cursor();
     for (query, answer) in [(4, 4), (8, 4), (8, 4), (14, 8), (20, 14)] {
@@ -199,6 +244,16 @@ fn a_cursor_passes_each_deletion_once(rt: HostRuntime) -> Result<(), Fail> {
     assert!(rt; !cursor.can_translate(5));
     assert!(rt; cursor.can_translate(6));
 
+    let mut inside = deltas.cursor();
+    for (query, answer) in [(5, 4), (7, 4), (13, 8), (13, 8), (20, 14)] {
+        assert!(rt; inside.can_translate(query), "{query}");
+        assert_eq!(rt; inside.translate(query), answer, "{query}");
+    }
+    assert_eq!(rt; inside.turns(), 2);
+    assert!(rt; inside.can_translate(12));
+    assert_eq!(rt; inside.translate(12), 6);
+    assert!(rt; !inside.can_translate(5));
+
     let mut walker = deltas.cursor();
     let queries = [4, 8, 8, 14, 20];
     let mut answers = [0; 5];
@@ -206,20 +261,31 @@ fn a_cursor_passes_each_deletion_once(rt: HostRuntime) -> Result<(), Fail> {
     walker.translate_all(&queries, &mut answers);
     assert_eq!(rt; answers, [4, 4, 4, 8, 14]);
     assert_eq!(rt; walker.turns(), 2);
+
+    let queries = [5, 7, 13, 13, 20];
+    let mut walker = deltas.cursor();
+    assert!(rt; walker.can_translate_all(&queries));
+    walker.translate_all(&queries, &mut answers);
+    assert_eq!(rt; answers, [4, 4, 8, 8, 14]);
+    assert!(rt; !walker.can_translate_all(&[12, 15]));
+    assert!(rt; DeltaSlice::can_translate_all(&queries));
+    DeltaSlice::new(deltas.deltas()).translate_all(&queries, &mut answers);
+    assert_eq!(rt; answers, [4, 4, 8, 8, 14]);
+    assert!(rt; !DeltaSlice::can_translate_all(&[5, 4]));
     Ok(())
 }
 
 #[test]
-fn no_deltas_leave_offsets(rt: HostRuntime) -> Result<(), Fail> {
+fn offsets_without_deltas_are_unchanged(rt: HostRuntime) -> Result<(), Fail> {
     assert_eq!(rt; opt_input_to_output(None, 9), 9);
     let deltas = deltas_of(&rt, rt.alloc(), &[(4, 4)])?;
-    assert!(rt; !deltas.is_inside(9));
     assert_eq!(rt; opt_input_to_output(Some(&deltas), 9), 5);
+    assert_eq!(rt; opt_input_to_output(Some(&deltas), 5), 4);
     Ok(())
 }
 
 #[test]
-fn a_map_keeps_each_section(rt: HostRuntime) -> Result<(), Fail> {
+fn maps_keep_each_section(rt: HostRuntime) -> Result<(), Fail> {
     let mut map = RelaxDeltaMap::new(rt.alloc());
     assert!(rt; map.is_empty());
     assert_eq!(rt; map.last_index(), None);

@@ -9,6 +9,8 @@ mod deltas;
 mod jumps;
 #[cfg(test)]
 mod loongarch64;
+#[cfg(test)]
+mod packing;
 pub mod poke;
 #[cfg(test)]
 mod ppc64;

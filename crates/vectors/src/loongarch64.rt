@@ -28,7 +28,7 @@ fn read(rt: &impl Abort, form: LoongArch64Instruction, word: u64) -> (u64, bool)
     form.read_value(&bytes)
 }
 
-/// The word after the bits of the value that a relocation asks for are written to it.
+/// The word after a relocation's bits of the value are written to it.
 fn relocated(rt: &impl Abort, name: LoongArch64Relocation, before: u32, value: u64) -> u32 {
     let info = relocation_type_from_raw(name).expect(rt, "a row");
     let mut bytes = before.to_le_bytes();
@@ -46,56 +46,63 @@ fn relocated(rt: &impl Abort, name: LoongArch64Relocation, before: u32, value: u
 }
 
 #[test]
-fn immediates_as_assemblers_write_them(rt: HostRuntime) {
+fn immediates_match_assemblers(rt: HostRuntime) {
     for (before, value, after) in SHIFT_5 {
         assert_eq!(rt;
             written(&rt, LoongArch64Instruction::Shift5, before, value),
-            after
+            after,
+            "{value} in {before}"
         );
         assert_eq!(rt;
             read(&rt, LoongArch64Instruction::Shift5, after),
-            (value, false)
+            (value, false),
+            "{value} in {before}"
         );
     }
     for (before, value, after) in SHIFT_10 {
         assert_eq!(rt;
             written(&rt, LoongArch64Instruction::Shift10, before, value),
-            after
+            after,
+            "{value} in {before}"
         );
         let (low, negative) = read(&rt, LoongArch64Instruction::Shift10, after);
-        assert_eq!(rt; low, value.low_bits(12));
-        assert!(rt; !negative);
+        assert_eq!(rt; low, value.low_bits(12), "{value} in {before}");
+        assert!(rt; !negative, "{value} in {before}");
     }
 }
 
 #[test]
-fn branches_as_assemblers_write_them(rt: HostRuntime) {
+fn branches_match_assemblers(rt: HostRuntime) {
     for (before, value, after, distance) in BRANCH_26 {
         assert_eq!(rt;
             written(&rt, LoongArch64Instruction::Branch26, before, value),
-            after
+            after,
+            "{value} in {before}"
         );
         assert_eq!(rt;
             read(&rt, LoongArch64Instruction::Branch26, after),
-            (distance.cast_unsigned(), distance < 0)
+            (distance.cast_unsigned(), distance < 0),
+            "{value} in {before}"
         );
     }
     for (before, value, after, distance) in BRANCH_21 {
         assert_eq!(rt;
             written(&rt, LoongArch64Instruction::Branch21, before, value),
-            after
+            after,
+            "{value} in {before}"
         );
         assert_eq!(rt;
             read(&rt, LoongArch64Instruction::Branch21, after),
-            (distance.cast_unsigned(), distance < 0)
+            (distance.cast_unsigned(), distance < 0),
+            "{value} in {before}"
         );
     }
 }
 
 #[test]
-fn calls_as_linkers_write_them(rt: HostRuntime) {
+fn calls_match_linkers(rt: HostRuntime) {
     for (value, after, distance) in CALL_36 {
-        assert_eq!(rt; distance.cast_unsigned().low_bits(36), value);
+        assert_eq!(rt; distance.cast_unsigned().low_bits(36), value, "{value}");
         assert_eq!(rt;
             written(
                 &rt,
@@ -103,17 +110,19 @@ fn calls_as_linkers_write_them(rt: HostRuntime) {
                 0x4c00_0021_1e00_0001,
                 value
             ),
-            after
+            after,
+            "{value}"
         );
         assert_eq!(rt;
             read(&rt, LoongArch64Instruction::Call36, after),
-            (value, false)
+            (value, false),
+            "{value}"
         );
     }
 }
 
 #[test]
-fn addresses_as_linkers_write_them(rt: HostRuntime) {
+fn absolute_and_page_addresses_match_linkers(rt: HostRuntime) {
     for (address, high, low, middle, upper) in ABSOLUTE {
         assert_eq!(rt;
             relocated(
@@ -122,7 +131,8 @@ fn addresses_as_linkers_write_them(rt: HostRuntime) {
                 0x1400_0004,
                 address
             ),
-            high
+            high,
+            "{address}"
         );
         assert_eq!(rt;
             relocated(
@@ -131,7 +141,8 @@ fn addresses_as_linkers_write_them(rt: HostRuntime) {
                 0x0380_0084,
                 address
             ),
-            low
+            low,
+            "{address}"
         );
         assert_eq!(rt;
             relocated(
@@ -140,7 +151,8 @@ fn addresses_as_linkers_write_them(rt: HostRuntime) {
                 0x1600_0004,
                 address
             ),
-            middle
+            middle,
+            "{address}"
         );
         assert_eq!(rt;
             relocated(
@@ -149,7 +161,8 @@ fn addresses_as_linkers_write_them(rt: HostRuntime) {
                 0x0300_0084,
                 address
             ),
-            upper
+            upper,
+            "{address}"
         );
     }
     for (pc, target, high, low) in PAGE_PAIR {
@@ -161,7 +174,8 @@ fn addresses_as_linkers_write_them(rt: HostRuntime) {
                 0x1a00_0004,
                 distance
             ),
-            high
+            high,
+            "{target} from {pc}"
         );
         assert_eq!(rt;
             relocated(
@@ -170,7 +184,8 @@ fn addresses_as_linkers_write_them(rt: HostRuntime) {
                 0x02c0_0084,
                 target
             ),
-            low
+            low,
+            "{target} from {pc}"
         );
     }
 }
@@ -189,7 +204,7 @@ fn addressed(before: [u8; 20], pc: u64, target: u64) -> [u32; 5] {
 }
 
 #[test]
-fn five_instructions_as_linkers_write_them(rt: HostRuntime) {
+fn address_sequences_match_linkers(rt: HostRuntime) {
     let before = [
         0x04, 0x00, 0x00, 0x1a, 0x05, 0x00, 0xc0, 0x02, 0x05, 0x00, 0x00, 0x16, 0xa5, 0x00, 0x00,
         0x03, 0x84, 0x94, 0x10, 0x00,
@@ -198,9 +213,10 @@ fn five_instructions_as_linkers_write_them(rt: HostRuntime) {
         let [a, b, c, d, e] = addressed(before, pc, target);
         assert_eq!(rt;
             (a as u64 | (b as u64) << 32, c as u64 | (d as u64) << 32),
-            (first, second)
+            (first, second),
+            "{target} from {pc}"
         );
-        assert_eq!(rt; e, 0x0010_9484);
+        assert_eq!(rt; e, 0x0010_9484, "{target} from {pc}");
     }
     assert_eq!(rt;
         highest_relocation_with_bias(0x800, 8),
@@ -221,7 +237,7 @@ fn five_instructions_as_linkers_write_them(rt: HostRuntime) {
 }
 
 #[test]
-fn calls_at_the_ends_of_their_ranges(rt: HostRuntime) {
+fn calls_wrap_at_the_ends_of_their_range(rt: HostRuntime) {
     let form = LoongArch64Instruction::Call36;
     let last: u64 = (1 << 37) - (1 << 17) - 4;
     assert_eq!(rt;
@@ -251,7 +267,7 @@ fn calls_at_the_ends_of_their_ranges(rt: HostRuntime) {
 }
 
 #[test]
-fn a_branch_and_an_immediate_of_ones(rt: HostRuntime) {
+fn fields_of_ones_are_written_and_read(rt: HostRuntime) {
     assert_eq!(rt;
         written(
             &rt,
@@ -276,7 +292,7 @@ fn a_branch_and_an_immediate_of_ones(rt: HostRuntime) {
 }
 
 #[test]
-fn nop_and_other_types(rt: HostRuntime) {
+fn nops_are_written_and_other_names_have_no_meaning(rt: HostRuntime) {
     let mut section = [0xff; 6];
     let mut offset = 1;
     let mut addend = 7;

@@ -457,7 +457,7 @@ fn pair_written(ha: u32, lo: u32, value: u64) -> (u32, u32) {
 }
 
 #[test]
-fn writes_d_words(rt: HostRuntime) {
+fn d_words_match_assemblers(rt: HostRuntime) {
     for &(before, value, after, machine) in &D_WORDS {
         assert_eq!(rt;
             written(Ppc64Instruction::D, value, before),
@@ -477,7 +477,7 @@ fn writes_d_words(rt: HostRuntime) {
 }
 
 #[test]
-fn writes_ds_words(rt: HostRuntime) {
+fn ds_words_match_assemblers(rt: HostRuntime) {
     for &(before, value, after, machine) in &DS_WORDS {
         assert_eq!(rt;
             written(Ppc64Instruction::Ds, value, before),
@@ -497,7 +497,7 @@ fn writes_ds_words(rt: HostRuntime) {
 }
 
 #[test]
-fn writes_branch14_words(rt: HostRuntime) {
+fn branch14_words_match_assemblers(rt: HostRuntime) {
     for &(before, value, after, machine) in &BRANCH14_WORDS {
         assert_eq!(rt;
             written(Ppc64Instruction::Branch14, value, before),
@@ -519,7 +519,7 @@ fn writes_branch14_words(rt: HostRuntime) {
 }
 
 #[test]
-fn writes_branch24_words(rt: HostRuntime) {
+fn branch24_words_match_assemblers(rt: HostRuntime) {
     for &(before, value, after, machine) in &BRANCH24_WORDS {
         assert_eq!(rt;
             written(Ppc64Instruction::Branch24, value, before),
@@ -541,7 +541,7 @@ fn writes_branch24_words(rt: HostRuntime) {
 }
 
 #[test]
-fn writes_only_the_field(rt: HostRuntime) {
+fn writes_change_the_field_alone(rt: HostRuntime) {
     assert_eq!(rt;
         written(Ppc64Instruction::D, 0x12345, 0xabcd_0000),
         0xabcd_2345
@@ -553,7 +553,7 @@ fn writes_only_the_field(rt: HostRuntime) {
 }
 
 #[test]
-fn writes_pairs(rt: HostRuntime) {
+fn ha_lo_pairs_match_linkers(rt: HostRuntime) {
     for &(ha, lo, value, high, low) in &ADDI_PAIRS {
         assert_eq!(rt; pair_written(ha, lo, value), (high, low), "{value}");
     }
@@ -568,7 +568,7 @@ fn writes_pairs(rt: HostRuntime) {
 }
 
 #[test]
-fn writes_pairs_with_a_ds_form(rt: HostRuntime) {
+fn ha_lo_ds_pairs_match_linkers(rt: HostRuntime) {
     for &(ha, lo, value, high, low) in &LD_PAIRS {
         let adjusted = value.wrapping_add(0x8000).extract_bit_range(16..32);
         assert_eq!(rt; written(Ppc64Instruction::D, adjusted, ha), high, "{value}");
@@ -581,7 +581,7 @@ fn writes_pairs_with_a_ds_form(rt: HostRuntime) {
 }
 
 #[test]
-fn no_op_changes_nothing(rt: HostRuntime) {
+fn no_ops_change_nothing(rt: HostRuntime) {
     let mut section = [1, 2, 3, 4];
     let mut offset = u64::MAX;
     let mut addend = 7;
@@ -615,7 +615,7 @@ fn info(
 }
 
 #[test]
-fn tells_what_relocations_mean(rt: HostRuntime) {
+fn relocations_have_their_meaning(rt: HostRuntime) {
     let word = RelocationSize::ByteSize(4);
     let branch = RelocationSize::bit_mask_ppc64(0, 26, Ppc64Instruction::Branch24);
     let high = RelocationSize::bit_mask_ppc64(16, 32, Ppc64Instruction::D);

@@ -13,7 +13,7 @@ use linker_utils::riscv64::{
     relocation_type_from_raw,
 };
 
-/// What `read_value` answers where the machine reads `machine`.
+/// What `read_value` returns where the machine reads `machine`.
 fn reading(form: RiscVInstruction, machine: i64) -> (u64, bool) {
     match form {
         RiscVInstruction::UType => (machine.cast_unsigned().wrapping_sub(0x800), false),
@@ -24,7 +24,7 @@ fn reading(form: RiscVInstruction, machine: i64) -> (u64, bool) {
 }
 
 #[test]
-fn writes_and_reads_the_words_of_assemblers(rt: HostRuntime) {
+fn words_match_assemblers(rt: HostRuntime) {
     let forms: [(RiscVInstruction, &[words::Word]); 8] = [
         (RiscVInstruction::UType, &words::U_TYPE),
         (RiscVInstruction::IType, &words::I_TYPE),
@@ -50,7 +50,7 @@ fn writes_and_reads_the_words_of_assemblers(rt: HostRuntime) {
 }
 
 #[test]
-fn writes_and_reads_pairs_that_add(rt: HostRuntime) {
+fn hi20_lo12_i_pairs_match_linkers(rt: HostRuntime) {
     for (before, value, after) in &pairs::U_WITH_I {
         let mut high = before[0].to_le_bytes();
         let mut low = before[1].to_le_bytes();
@@ -69,12 +69,12 @@ fn writes_and_reads_pairs_that_add(rt: HostRuntime) {
         let (rounded, _) = RiscVInstruction::UType.read_value(&high);
         let (rest, _) = RiscVInstruction::IType.read_value(&low);
         let sum = rounded.wrapping_add(0x800).wrapping_add(rest);
-        assert_eq!(rt; sum, value.cast_unsigned());
+        assert_eq!(rt; sum, value.cast_unsigned(), "the sum of {value}");
     }
 }
 
 #[test]
-fn writes_and_reads_pairs_that_store(rt: HostRuntime) {
+fn hi20_lo12_s_pairs_match_linkers(rt: HostRuntime) {
     for (before, value, after) in &pairs::U_WITH_S {
         let mut high = before[0].to_le_bytes();
         let mut low = before[1].to_le_bytes();
@@ -93,18 +93,18 @@ fn writes_and_reads_pairs_that_store(rt: HostRuntime) {
         let (rounded, _) = RiscVInstruction::UType.read_value(&high);
         let (rest, _) = RiscVInstruction::SType.read_value(&low);
         let sum = rounded.wrapping_add(0x800).wrapping_add(rest);
-        assert_eq!(rt; sum, value.cast_unsigned());
+        assert_eq!(rt; sum, value.cast_unsigned(), "the sum of {value}");
     }
 }
 
 #[test]
-fn writes_and_reads_calls(rt: HostRuntime) {
+fn call_pairs_match_linkers(rt: HostRuntime) {
     for (before, value, after) in &pairs::UI {
         let mut bytes = both(*before);
         RiscVInstruction::UiType.write_to_value(value.cast_unsigned(), false, &mut bytes);
         assert_eq!(rt; bytes, both(*after), "{value}");
         let read = RiscVInstruction::UiType.read_value(&bytes);
-        assert_eq!(rt; read, (value.cast_unsigned(), false));
+        assert_eq!(rt; read, (value.cast_unsigned(), false), "{value}");
     }
 }
 
@@ -114,7 +114,7 @@ fn both(words: [u32; 2]) -> [u8; 8] {
 }
 
 #[test]
-fn shortens_lui_as_gnu_ld_does(rt: HostRuntime) {
+fn shortened_lui_match_gnu_ld(rt: HostRuntime) {
     let table: [([u8; 8], i64, [u8; 6]); 11] = [
         (
             [0xb7, 0x04, 0x00, 0x00, 0x93, 0x84, 0x04, 0x00],
@@ -174,7 +174,7 @@ fn shortens_lui_as_gnu_ld_does(rt: HostRuntime) {
     ];
     for (before, value, after) in table {
         let value = value.cast_unsigned();
-        assert!(rt; RelaxationKind::hi20_fits_clui(value));
+        assert!(rt; RelaxationKind::hi20_fits_clui(value), "{value}");
         let mut section = before;
         let mut offset = 0;
         let mut addend = 0;
@@ -182,12 +182,12 @@ fn shortens_lui_as_gnu_ld_does(rt: HostRuntime) {
         RiscVInstruction::CluiType.write_to_value(value, false, &mut section);
         RiscVInstruction::IType.write_to_value(value, false, &mut section[4..]);
         let [a, b, _, _, c, d, e, f] = section;
-        assert_eq!(rt; [a, b, c, d, e, f], after);
+        assert_eq!(rt; [a, b, c, d, e, f], after, "{value}");
     }
 }
 
 #[test]
-fn deletes_lui_as_gnu_ld_does(rt: HostRuntime) {
+fn deleted_lui_match_gnu_ld(rt: HostRuntime) {
     let table: [([u8; 8], u64, [u8; 4]); 2] = [
         (
             [0x37, 0x05, 0x00, 0x00, 0x13, 0x05, 0x05, 0x00],
@@ -201,22 +201,22 @@ fn deletes_lui_as_gnu_ld_does(rt: HostRuntime) {
         ),
     ];
     for (before, value, after) in table {
-        assert!(rt; RelaxationKind::hi20_is_zero(value));
+        assert!(rt; RelaxationKind::hi20_is_zero(value), "{value}");
         let mut section = before;
         let mut addend = 0;
         let mut high = 0;
         RelaxationKind::Hi20Delete.apply(&mut section, &mut high, &mut addend);
-        assert_eq!(rt; section, before);
+        assert_eq!(rt; section, before, "{value}");
         let mut low = 4;
         RelaxationKind::Lo12Rs1ToZero.apply(&mut section, &mut low, &mut addend);
         RiscVInstruction::IType.write_to_value(value, false, &mut section[4..]);
         let [_, _, _, _, a, b, c, d] = section;
-        assert_eq!(rt; [a, b, c, d], after);
+        assert_eq!(rt; [a, b, c, d], after, "{value}");
     }
 }
 
 #[test]
-fn places_immediates_where_the_manual_has_them(rt: HostRuntime) {
+fn immediates_match_the_manual(rt: HostRuntime) {
     let table: [(RiscVInstruction, u32, i64, u32, i64, bool); 19] = [
         (
             RiscVInstruction::UType,
@@ -310,7 +310,7 @@ fn places_immediates_where_the_manual_has_them(rt: HostRuntime) {
     ];
     for (form, before, value, after, read, negative) in table {
         let mut bytes = before.to_le_bytes();
-        assert!(rt; form.window() <= bytes.len());
+        assert!(rt; form.window() <= bytes.len(), "{form:?} of {value}");
         form.write_to_value(value.cast_unsigned(), negative, &mut bytes);
         assert_eq!(rt; u32::from_le_bytes(bytes), after, "{form:?} of {value}");
         assert_eq!(rt;
@@ -326,7 +326,7 @@ fn places_immediates_where_the_manual_has_them(rt: HostRuntime) {
 }
 
 #[test]
-fn one_interface_serves_all_forms(rt: HostRuntime) {
+fn trait_calls_match_calls_of_the_form(rt: HostRuntime) {
     let insn = RelocationInstruction::RiscV(RiscVInstruction::UiType);
     let mut call = both([0x0000_0097, 0x0000_80e7]);
     assert_eq!(rt; insn.window(), 8);
@@ -337,7 +337,7 @@ fn one_interface_serves_all_forms(rt: HostRuntime) {
 }
 
 #[test]
-fn rewrites_single_instructions(rt: HostRuntime) {
+fn rewrites_of_one_instruction_match_worked_words(rt: HostRuntime) {
     let table: [(RelaxationKind, u32, u32); 4] = [
         (RelaxationKind::Hi20ToCLui, 0x0000_0537, 0x0000_6501),
         (RelaxationKind::Lo12Rs1ToZero, 0x0005_0513, 0x0000_0513),
@@ -346,14 +346,14 @@ fn rewrites_single_instructions(rt: HostRuntime) {
     ];
     for (kind, before, after) in table {
         let mut section = before.to_le_bytes();
-        assert!(rt; kind.can_apply(&section, 0));
-        assert!(rt; !kind.can_apply(&section, 3));
-        assert!(rt; !kind.can_apply(&section, 1 << 32));
+        assert!(rt; kind.can_apply(&section, 0), "{kind:?}");
+        assert!(rt; !kind.can_apply(&section, 3), "{kind:?}");
+        assert!(rt; !kind.can_apply(&section, 1 << 32), "{kind:?}");
         let mut offset = 0;
         let mut addend = 5;
         kind.apply(&mut section, &mut offset, &mut addend);
         assert_eq!(rt; u32::from_le_bytes(section), after, "{kind:?}");
-        assert_eq!(rt; (offset, addend), (0, 5));
+        assert_eq!(rt; (offset, addend), (0, 5), "{kind:?}");
     }
     let mut half = 0x0000_0537u32.to_le_bytes();
     RelaxationKind::Hi20ToCLui.apply(&mut half, &mut 0, &mut 0);
@@ -362,7 +362,7 @@ fn rewrites_single_instructions(rt: HostRuntime) {
 }
 
 #[test]
-fn tells_which_high_parts_are_zero_or_fit(rt: HostRuntime) {
+fn high_parts_are_zero_or_fit_clui(rt: HostRuntime) {
     for (value, want) in [(0x7ff, true), (1u64 << 32, true), (0x800, false)] {
         assert_eq!(rt; RelaxationKind::hi20_is_zero(value), want, "{value}");
     }
@@ -385,12 +385,16 @@ fn tells_which_high_parts_are_zero_or_fit(rt: HostRuntime) {
         );
     }
     for (register, want) in [(0, false), (1, true), (2, false), (3, true), (31, true)] {
-        assert_eq!(rt; RelaxationKind::rd_valid_for_clui(register), want);
+        assert_eq!(rt;
+            RelaxationKind::rd_valid_for_clui(register),
+            want,
+            "x{register}"
+        );
     }
 }
 
 #[test]
-fn tells_plain_calls_from_tail_calls(rt: HostRuntime) {
+fn tail_calls_are_not_plain_calls(rt: HostRuntime) {
     let plain = both([0x0000_0097, 0x0000_80e7]);
     assert!(rt; is_plain_call(&plain, 0));
     assert!(rt; !is_plain_call(&plain, 1));
@@ -403,9 +407,9 @@ fn tells_plain_calls_from_tail_calls(rt: HostRuntime) {
 }
 
 #[test]
-fn refuses_distances_that_jal_cannot_hold(rt: HostRuntime) {
+fn distances_that_jal_cannot_hold_are_rejected(rt: HostRuntime) {
     for (distance, want) in [(-1048576, true), (1048575, true), (1048576, false)] {
-        assert_eq!(rt; distance_fits_jal(distance), want);
+        assert_eq!(rt; distance_fits_jal(distance), want, "{distance}");
     }
     let mut section = 0x0000_0097u32.to_le_bytes();
     assert_eq!(rt; jal_site(&mut section, 0, 1048576), Err(CallError::TooFar));
@@ -417,7 +421,7 @@ fn refuses_distances_that_jal_cannot_hold(rt: HostRuntime) {
 }
 
 #[test]
-fn relocations_say_where_values_go(rt: HostRuntime) {
+fn relocations_have_their_meaning(rt: HostRuntime) {
     assert!(rt; relocation_type_from_raw(RiscVRelocation::Other(7)).is_none());
     assert!(rt; relocation_type_from_raw(RiscVRelocation::R_RISCV_TLSDESC_CALL).is_none());
     let clui = RelaxationKind::clui_rel_info();

@@ -463,7 +463,7 @@ fn linked(kind: RelaxationKind, at: u64, before: [u8; 10], field: Option<u32>) -
 }
 
 #[test]
-fn rewrites_as_linkers_do(rt: HostRuntime) {
+fn rewrites_match_linkers(rt: HostRuntime) {
     for rewrite in &REWRITES {
         let after = linked(rewrite.kind, rewrite.offset, rewrite.before, rewrite.field);
         assert_eq!(rt; after, Some(rewrite.after), "{:?}", rewrite.kind);
@@ -471,7 +471,7 @@ fn rewrites_as_linkers_do(rt: HostRuntime) {
 }
 
 #[test]
-fn moves_the_register_of_every_prefix(rt: HostRuntime) {
+fn registers_move_under_every_prefix(rt: HostRuntime) {
     for (kind, before, offset, after) in [
         (
             RelaxationKind::RexAddIndirectToAbsolute(6),
@@ -509,7 +509,7 @@ fn moves_the_register_of_every_prefix(rt: HostRuntime) {
 }
 
 #[test]
-fn turns_a_call_of_a_tls_address_into_its_offset(rt: HostRuntime) {
+fn tls_calls_become_offsets(rt: HostRuntime) {
     let mut section = [0; 12];
     let mut offset = 4;
     let mut addend = 7;
@@ -530,7 +530,7 @@ fn turns_a_call_of_a_tls_address_into_its_offset(rt: HostRuntime) {
 }
 
 #[test]
-fn shortens_a_jump(rt: HostRuntime) {
+fn indirect_jumps_become_direct(rt: HostRuntime) {
     let mut section = [0xff, 0x25, 0, 0, 0, 0];
     let mut offset = 2;
     let mut addend = -4;
@@ -568,10 +568,10 @@ static WINDOWS: [(RelaxationKind, u64, usize); 21] = [
 ];
 
 #[test]
-fn rewrites_inside_the_section_alone(rt: HostRuntime) {
+fn rewrites_require_their_window(rt: HostRuntime) {
     let bytes = [0; 22];
     for &(kind, offset, len) in &WINDOWS {
-        assert!(rt; 0 < len && len <= 22 && offset < 6);
+        assert!(rt; 0 < len && len <= 22 && offset < 6, "{kind:?}");
         let section = &bytes[..len];
         assert!(rt; kind.can_apply(section, offset), "{kind:?}");
         assert!(rt; !kind.can_apply(&section[1..], offset), "{kind:?}");
@@ -599,7 +599,7 @@ fn info(kind: RelocationKind, bytes: u8, range: AllowedRange) -> Option<Relocati
 }
 
 #[test]
-fn tells_what_relocations_mean(rt: HostRuntime) {
+fn relocations_have_their_meaning(rt: HostRuntime) {
     let mixed = AllowedRange::new(-32768, 65536);
     let words = AllowedRange::new(-2147483648, 2147483648);
     let all = AllowedRange::no_check();

@@ -8,7 +8,8 @@ pub fn in_after_out_returns()
 {}
 
 /// Back to the input: the input offset of the output offset of `i` is the first kept position at
-/// or after `i`, wherever `i` lies. So it is `i` where `i` is kept, and then it is always there.
+/// or after `i`, where `i` lies inside a deletion too. So it is `i` where `i` is kept, and then it
+/// is always there.
 pub fn out_after_in_returns()
     ensures first_kept { OutAfterInIsFirstKept }
     ensures kept { OutAfterInReturnsKept }
@@ -20,13 +21,12 @@ pub fn output_offsets_never_decrease()
 {}
 
 /// Two batches of deletions may be merged in either order, and also at once: where one order is
-/// allowed so is the other, and the lists that are left are equal.
+/// allowed so are the other and both at once, and the lists that are left are equal.
 pub fn merge_order_is_free()
     ensures { MergeOrderIsFree }
 {}
 
-/// A cursor that is asked in an order that doesn't decrease, never strictly inside a deletion,
-/// answers as a translation of each query by itself.
+/// A cursor translates queries that don't decrease as each by itself is translated.
 pub fn cursor_gives_ranks()
     ensures { CursorGivesRanks }
 {}

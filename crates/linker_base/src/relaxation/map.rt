@@ -35,7 +35,7 @@ impl Model for RelaxDeltaMap {
 }
 
 impl RelaxDeltaMap {
-    /// A map with no section. It takes no memory.
+    /// An empty map. It does not allocate.
     pub fn new(alloc: Global) -> Self
         ensures { result ≡ finite.empty }
     {
@@ -44,8 +44,11 @@ impl RelaxDeltaMap {
         }
     }
 
-    /// Adds a section above all that are there, which `last_index` tells. The deltas come back
-    /// where memory is wanting, and the map is then as it was.
+    /// Adds a section. Requires that its index is above `last_index`.
+    ///
+    /// # Errors
+    ///
+    /// Out of memory: the deltas come back, and the map is unchanged.
     pub fn insert(
         &mut self,
         section_index: usize,
@@ -61,10 +64,12 @@ impl RelaxDeltaMap {
             .map_err(|refused| refused.value.1)
     }
 
-    /// Adds a section wherever its place is. It asks that the section isn't there yet, which `get`
-    /// tells. The deltas come back where memory is wanting, and the map is then as it was.
+    /// Adds a section in order. Requires that `get` finds no such section. The sections above it
+    /// move up by one entry, so it takes O(n) where `insert` takes O(1).
     ///
-    /// The sections above it move up by one entry, so it takes O(n) where `insert` takes O(1).
+    /// # Errors
+    ///
+    /// Out of memory: the deltas come back, and the map is unchanged.
     pub fn insert_sorted(
         &mut self,
         section_index: usize,
@@ -95,7 +100,8 @@ impl RelaxDeltaMap {
     /// takes O(log n).
     pub fn get_mut(&mut self, section_index: usize) -> Option<&mut SectionRelaxDeltas>
         ensures* lends { sem 𝓛 (LendsIf the_row deltas_row self.entry result (λ left. finite.insert self.old section_index left) self.old) }
-        ensures value { option_map (λ deltas. deltas.now) result ≡ finite.get self.old section_index }
+        ensures value { option_map (λ deltas. deltas.now) result
+            ≡ finite.get self.old section_index }
     {
         match search(&self.entries, section_index) {
             Ok(at) => Some(&mut self.entries[at].1),
@@ -113,13 +119,14 @@ impl RelaxDeltaMap {
     /// The highest section index that is there. Any index above it may be given to `insert`.
     pub fn last_index(&self) -> Option<usize>
         ensures last { MatchOption result (self.now ≡ finite.empty) (IsLast self.now) }
-        ensures above { (index : ℕ) → IfSome result (λ last. last < index) → IsAboveAll self.now index }
+        ensures above { (index : ℕ) → IfSome result (λ last. last < index)
+            → IsAboveAll self.now index }
     {
         self.entries.last().map(|entry| entry.0)
     }
 
-    /// A copy of the map and of the deltas of each section. It takes memory once for the entries
-    /// and once for each section that has any, and none where the map is empty.
+    /// A copy of the map and of the deltas of each section. It allocates once for the entries and
+    /// once for each section that has any deltas, and not at all for an empty map.
     pub fn clone(&self) -> Result<Self, OutOfMemory>
         ensures ok { IfOk result (λ sections. sections ≡ self.now) }
         ensures empty_succeeds { self.now ≡ finite.empty → IsOk result }
@@ -181,9 +188,9 @@ mod tests {
         Ok(())
     }
 
-    // An ordinary run refuses nothing. `rt try --test --fail-alloc N` refuses the Nth growth.
+    // `rt try --test --fail-alloc N` makes the Nth allocation fail.
     #[test]
-    fn a_refused_growth_hands_the_deltas_back(rt: HostRuntime) {
+    fn a_failed_growth_hands_the_deltas_back(rt: HostRuntime) {
         let pairs = [(8, 4)];
         assert!(rt; SectionRelaxDeltas::is_valid(&pairs));
         let mut sections = RelaxDeltaMap::new(rt.alloc());

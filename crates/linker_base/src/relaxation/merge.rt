@@ -3,7 +3,7 @@
 ghost use Rattle.std.specs.Prelude.{◌≡◌, ◌≤◌, ◌+◌, ◌-◌, ◌^◌, ◌++◌, map, min, length, vec_len, vec_capacity};
 ghost use Rattle.linker_base.specs.Deletions.{AreDisjoint, IsSortedUnion};
 ghost use Rattle.linker_base.specs.Deltas.{deletion_of, pairs_of};
-ghost use Rattle.linker_base.specs.Listed.{AreListed};
+ghost use Rattle.linker_base.specs.Listed.{AreValidDeltas};
 
 use super::RelaxDelta;
 
@@ -21,7 +21,8 @@ pub(super) fn count_pairs(batches: &[Vec<(u64, u32)>]) -> usize
 // Puts the pairs behind the deltas, with no sum yet.
 pub(super) fn append(deltas: &mut Vec<RelaxDelta>, pairs: &[(u64, u32)])
     requires { vec_len deltas.old + length pairs.now ≤ vec_capacity deltas.old }
-    ensures appended { map deletion_of deltas.new.items ≡ map deletion_of deltas.old.items ++ pairs.now }
+    ensures appended { map deletion_of deltas.new.items
+        ≡ map deletion_of deltas.old.items ++ pairs.now }
     ensures len { vec_len deltas.new ≡ vec_len deltas.old + length pairs.now }
     ensures capacity { vec_capacity deltas.new ≡ vec_capacity deltas.old }
 {
@@ -37,7 +38,8 @@ pub(super) fn append(deltas: &mut Vec<RelaxDelta>, pairs: &[(u64, u32)])
 // Puts the pairs of all batches behind the deltas, with no sums yet.
 pub(super) fn append_all(deltas: &mut Vec<RelaxDelta>, batches: &[Vec<(u64, u32)>])
     requires { vec_len deltas.old + length (pairs_of batches.now) ≤ vec_capacity deltas.old }
-    ensures { map deletion_of deltas.new.items ≡ map deletion_of deltas.old.items ++ pairs_of batches.now }
+    ensures { map deletion_of deltas.new.items
+        ≡ map deletion_of deltas.old.items ++ pairs_of batches.now }
 {
     for batch in batches {
         append(deltas, batch);
@@ -48,7 +50,7 @@ pub(super) fn append_all(deltas: &mut Vec<RelaxDelta>, batches: &[Vec<(u64, u32)
 pub(super) fn sort_and_sum(deltas: &mut [RelaxDelta])
     requires { AreDisjoint (map deletion_of deltas.old) }
     ensures sorted { IsSortedUnion (map deletion_of deltas.old) (map deletion_of deltas.new) }
-    ensures listed { AreListed deltas.new }
+    ensures listed { AreValidDeltas deltas.new }
 {
     deltas.sort_unstable_by_key(|delta| delta.input_offset);
     let mut sum = 0;

@@ -1,18 +1,25 @@
-//! Searches in the deltas of a section.
+//! Searches among deltas. Each is safe for any deltas, and promises its result where they are
+//! valid.
 
-ghost use Rattle.std.specs.Prelude.{◌≡◌, ◌<◌, ◌≤◌, ◌↔◌, IsTrue, MatchOption, Any, map, length, take};
+ghost use Rattle.std.specs.Prelude.{◌≡◌, ◌<◌, ◌≤◌, ◌+◌, ◌-◌, ◌*◌, ◌%◌, ◌^◌, ◌↔◌, max, IsTrue, MatchOption, Any, map, length, take};
 ghost use Rattle.std.specs.List.Sorted.{IsPartitionPoint};
-ghost use Rattle.linker_base.specs.Deletions.{bytes_of, IsInside};
+ghost use Rattle.linker_base.specs.Blocks.{AreHeads};
+ghost use Rattle.linker_base.specs.Deletions.{AreKept, IsValid, bytes_of, rank, IsInsideDeletion, IsSelected, HasInput};
 ghost use Rattle.linker_base.specs.Deltas.{deletion_of};
-ghost use Rattle.linker_base.specs.Listed.{AreListed, ArePlaced, IsOnlyAt};
+ghost use Rattle.linker_base.specs.Listed.{AreValidDeltas};
+ghost use Rattle.linker_base.specs.Inner.Listed.{ArePlaced, IsOnlyAt};
 
-use super::{RelaxDelta, counting};
+use super::RelaxDelta;
+use super::arrays::Arrays;
+use super::blocks::BlockHead;
+use super::partition_point::{Test, search_blocks, search_deltas};
 
 // The bytes that the first `count` deltas delete.
+#[inline(always)]
 pub(super) fn bytes_of_first(deltas: &[RelaxDelta], count: usize) -> u64
-    requires within { count ≤ length deltas.now }
-    requires listed { AreListed deltas.now }
-    ensures { result ≡ bytes_of (take count (map deletion_of deltas.now)) }
+    requires { count ≤ length deltas.now }
+    ensures { AreValidDeltas deltas.now
+        → result ≡ bytes_of (take count (map deletion_of deltas.now)) }
 {
     match count.checked_sub(1) {
         Some(last) => deltas[last].cumulative_deleted,
@@ -21,39 +28,97 @@ pub(super) fn bytes_of_first(deltas: &[RelaxDelta], count: usize) -> u64
 }
 
 // How many deltas lie at offsets strictly below `offset`.
+#[inline(always)]
 pub(super) fn count_below(deltas: &[RelaxDelta], offset: u64) -> usize
-    requires { AreListed deltas.now }
     ensures within { result ≤ length deltas.now }
-    ensures below { IsPartitionPoint (λ d. d.0 < offset) (λ d. offset ≤ d.0) (map deletion_of deltas.now) result }
+    ensures below { IsValid (map deletion_of deltas.now)
+        → IsPartitionPoint (λ d. d.0 < offset) (λ d. offset ≤ d.0) (map deletion_of deltas.now) result }
 {
-    counting::count_below(deltas, offset)
+    search_deltas(&mut Arrays::new(deltas), Test::Begins(offset))
 }
 
 // How many deltas have an output place, their offset less the bytes deleted before, of at most
 // `offset`.
+#[inline(always)]
 pub(super) fn count_placed(deltas: &[RelaxDelta], offset: u64) -> usize
-    requires { AreListed deltas.now }
     ensures within { result ≤ length deltas.now }
-    ensures placed { ArePlaced (map deletion_of deltas.now) offset result }
+    ensures placed { AreValidDeltas deltas.now
+        → ArePlaced (map deletion_of deltas.now) offset result }
 {
-    counting::count_placed(deltas, offset)
+    search_deltas(&mut Arrays::new(deltas), Test::IsPlaced(offset))
+}
+
+// How many kept bytes lie below the offset: the greater of the offset and the end of the last
+// delta that begins below it, less all bytes that are deleted up to there.
+#[inline(always)]
+pub(super) fn rank(deltas: &[RelaxDelta], offset: u64) -> u64
+    ensures { AreValidDeltas deltas.now → result ≡ rank (map deletion_of deltas.now) offset }
+{
+    match count_below(deltas, offset).checked_sub(1) {
+        Some(last) => rank_after(deltas[last], offset),
+        None => offset,
+    }
+}
+
+// The rank of an offset by the last delta that begins below it.
+#[inline(always)]
+pub(super) fn rank_after(last: RelaxDelta, offset: u64) -> u64
+    ensures { result
+        ≡ (max offset ((last.input_offset + last.bytes_deleted) % 2 ^ 64) + (2 ^ 64 - last.cumulative_deleted)) % 2 ^ 64 }
+{
+    let end = last
+        .input_offset
+        .wrapping_add(u64::from(last.bytes_deleted));
+    offset.max(end).wrapping_sub(last.cumulative_deleted)
+}
+
+// The rank of the first of some bytes, or none where one of them is deleted.
+#[inline(always)]
+pub(super) fn rank_of_kept(deltas: &[RelaxDelta], start: u64, len: u64) -> Option<u64>
+    requires { start + len < 2 ^ 64 }
+    ensures { AreValidDeltas deltas.now
+        → MatchOption result (¬ (AreKept (map deletion_of deltas.now) start len)) (λ output. AreKept (map deletion_of deltas.now) start len × (output ≡ rank (map deletion_of deltas.now) start)) }
+{
+    let first = rank(deltas, start);
+    let past = rank(deltas, start + len);
+    if past.wrapping_sub(first) == len {
+        Some(first)
+    } else {
+        None
+    }
+}
+
+// The bytes that are deleted before the kept byte at an output offset.
+#[inline(always)]
+pub(super) fn bytes_before(deltas: &[RelaxDelta], output_offset: u64) -> u64
+    ensures selected { AreValidDeltas deltas.now
+        → IsSelected (map deletion_of deltas.now) output_offset (output_offset + result) }
+    ensures fits { AreValidDeltas deltas.now
+        → (HasInput (map deletion_of deltas.now) output_offset ↔ (output_offset + result < 2 ^ 64)) }
+{
+    bytes_of_first(deltas, count_placed(deltas, output_offset))
 }
 
 // Whether a delta begins below the offset and ends above it.
-pub(super) fn is_inside_one(deltas: &[RelaxDelta], offset: u64) -> bool
-    requires { AreListed deltas.now }
-    ensures { IsTrue result ↔ IsInside (map deletion_of deltas.now) offset }
+#[inline(always)]
+pub(super) fn is_inside(deltas: &[RelaxDelta], offset: u64) -> bool
+    ensures { AreValidDeltas deltas.now
+        → (IsTrue result ↔ IsInsideDeletion (map deletion_of deltas.now) offset) }
 {
     match count_below(deltas, offset).checked_sub(1) {
-        Some(last) => offset - deltas[last].input_offset < u64::from(deltas[last].bytes_deleted),
+        Some(last) => {
+            let delta = deltas[last];
+            offset.wrapping_sub(delta.input_offset) < u64::from(delta.bytes_deleted)
+        }
         None => false,
     }
 }
 
 // The delta at the offset, if one is listed there.
+#[inline(always)]
 pub(super) fn delta_at(deltas: &[RelaxDelta], offset: u64) -> Option<RelaxDelta>
-    requires { AreListed deltas.now }
-    ensures { MatchOption result (¬ (Any (λ d. d.0 ≡ offset) (map deletion_of deltas.now))) (λ delta. IsOnlyAt (map deletion_of deltas.now) offset delta.bytes_deleted) }
+    ensures { AreValidDeltas deltas.now
+        → MatchOption result (¬ (Any (λ d. d.0 ≡ offset) (map deletion_of deltas.now))) (λ delta. IsOnlyAt (map deletion_of deltas.now) offset delta.bytes_deleted) }
 {
     let below = count_below(deltas, offset);
     if below < deltas.len() && deltas[below].input_offset == offset {
@@ -61,4 +126,36 @@ pub(super) fn delta_at(deltas: &[RelaxDelta], offset: u64) -> Option<RelaxDelta>
     } else {
         None
     }
+}
+
+// The rank of an offset, by the heads of blocks first. They are no more than the blocks.
+#[inline(always)]
+pub(super) fn rank_by_heads(deltas: &[RelaxDelta], heads: &[BlockHead], offset: u64) -> u64
+    requires { 64 * length heads.now < length deltas.now + 64 }
+    ensures { AreValidDeltas deltas.now → AreHeads deltas.now heads.now
+        → result ≡ rank (map deletion_of deltas.now) offset }
+{
+    let below = search_blocks(&mut Arrays { deltas, heads }, Test::Begins(offset));
+    match below.checked_sub(1) {
+        Some(last) => rank_after(deltas[last], offset),
+        None => offset,
+    }
+}
+
+// The bytes that are deleted before the kept byte at an output offset, by the heads of blocks
+// first.
+#[inline(always)]
+pub(super) fn bytes_before_by_heads(
+    deltas: &[RelaxDelta],
+    heads: &[BlockHead],
+    output_offset: u64,
+) -> u64
+    requires { 64 * length heads.now < length deltas.now + 64 }
+    ensures selected { AreValidDeltas deltas.now → AreHeads deltas.now heads.now
+        → IsSelected (map deletion_of deltas.now) output_offset (output_offset + result) }
+    ensures fits { AreValidDeltas deltas.now → AreHeads deltas.now heads.now
+        → (HasInput (map deletion_of deltas.now) output_offset ↔ (output_offset + result < 2 ^ 64)) }
+{
+    let placed = search_blocks(&mut Arrays { deltas, heads }, Test::IsPlaced(output_offset));
+    bytes_of_first(deltas, placed)
 }

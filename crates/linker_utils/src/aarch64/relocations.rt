@@ -1,8 +1,10 @@
 //! What the relocations of AArch64 mean.
 
 ghost use Rattle.std.specs.Prelude.{◌≡◌, ◌≤◌, IfSome};
-ghost use Rattle.linker_utils.specs.Agrees.{RowAgrees};
+ghost use Rattle.linker_utils.specs.Agrees.{RowAgrees, RowFits};
 ghost use Rattle.linker_utils.specs.AArch64Rows.{aarch64_row, bytes_row, bits_row, of_size_row, signed_row, unsigned_row, within_row, aligned_row, paged_row, thunkable_row};
+ghost use Rattle.linker_utils.specs.ElfNames.{IsNameOf, code_of, text_of};
+ghost use Rattle.linker_utils.specs.AArch64Names.{aarch64_name};
 
 use self::AArch64Relocation as Name;
 use crate::elf::{
@@ -10,8 +12,8 @@ use crate::elf::{
     RelocationKindInfo, RelocationSize, Sign,
 };
 
-/// The relocations of AArch64 by their names (ELF for the Arm 64-bit Architecture, "Relocation"),
-/// and any other by its number.
+/// The relocations of AArch64, by their names in ELF for the Arm 64-bit Architecture, "Relocation".
+/// `from_elf` takes the code that an ELF file has.
 #[derive(Debug, Clone, Copy, PartialEq, Eq)]
 pub enum AArch64Relocation {
     R_AARCH64_NONE,
@@ -128,8 +130,382 @@ pub enum AArch64Relocation {
     R_AARCH64_TLSDESC_OFF_G1,
     R_AARCH64_TLSDESC_OFF_G0_NC,
     R_AARCH64_TLSDESC_CALL,
-    /// One that this table does not have.
+    /// A code without a name here.
     Other(u32),
+}
+
+impl AArch64Relocation {
+    /// The relocation with a code, `r_type` in ELF files; `Other(code)` for a code without a name.
+    #[inline(always)]
+    pub fn from_elf(code: u32) -> AArch64Relocation
+        ensures { IsNameOf aarch64_name code result }
+    {
+        match code {
+            0 => Name::R_AARCH64_NONE,
+            257 => Name::R_AARCH64_ABS64,
+            258 => Name::R_AARCH64_ABS32,
+            259 => Name::R_AARCH64_ABS16,
+            260 => Name::R_AARCH64_PREL64,
+            261 => Name::R_AARCH64_PREL32,
+            262 => Name::R_AARCH64_PREL16,
+            263 => Name::R_AARCH64_MOVW_UABS_G0,
+            264 => Name::R_AARCH64_MOVW_UABS_G0_NC,
+            265 => Name::R_AARCH64_MOVW_UABS_G1,
+            266 => Name::R_AARCH64_MOVW_UABS_G1_NC,
+            267 => Name::R_AARCH64_MOVW_UABS_G2,
+            268 => Name::R_AARCH64_MOVW_UABS_G2_NC,
+            269 => Name::R_AARCH64_MOVW_UABS_G3,
+            270 => Name::R_AARCH64_MOVW_SABS_G0,
+            271 => Name::R_AARCH64_MOVW_SABS_G1,
+            272 => Name::R_AARCH64_MOVW_SABS_G2,
+            273 => Name::R_AARCH64_LD_PREL_LO19,
+            274 => Name::R_AARCH64_ADR_PREL_LO21,
+            275 => Name::R_AARCH64_ADR_PREL_PG_HI21,
+            276 => Name::R_AARCH64_ADR_PREL_PG_HI21_NC,
+            277 => Name::R_AARCH64_ADD_ABS_LO12_NC,
+            278 => Name::R_AARCH64_LDST8_ABS_LO12_NC,
+            279 => Name::R_AARCH64_TSTBR14,
+            280 => Name::R_AARCH64_CONDBR19,
+            282 => Name::R_AARCH64_JUMP26,
+            283 => Name::R_AARCH64_CALL26,
+            284 => Name::R_AARCH64_LDST16_ABS_LO12_NC,
+            285 => Name::R_AARCH64_LDST32_ABS_LO12_NC,
+            286 => Name::R_AARCH64_LDST64_ABS_LO12_NC,
+            287 => Name::R_AARCH64_MOVW_PREL_G0,
+            288 => Name::R_AARCH64_MOVW_PREL_G0_NC,
+            289 => Name::R_AARCH64_MOVW_PREL_G1,
+            290 => Name::R_AARCH64_MOVW_PREL_G1_NC,
+            291 => Name::R_AARCH64_MOVW_PREL_G2,
+            292 => Name::R_AARCH64_MOVW_PREL_G2_NC,
+            293 => Name::R_AARCH64_MOVW_PREL_G3,
+            299 => Name::R_AARCH64_LDST128_ABS_LO12_NC,
+            300 => Name::R_AARCH64_MOVW_GOTOFF_G0,
+            301 => Name::R_AARCH64_MOVW_GOTOFF_G0_NC,
+            302 => Name::R_AARCH64_MOVW_GOTOFF_G1,
+            303 => Name::R_AARCH64_MOVW_GOTOFF_G1_NC,
+            304 => Name::R_AARCH64_MOVW_GOTOFF_G2,
+            305 => Name::R_AARCH64_MOVW_GOTOFF_G2_NC,
+            306 => Name::R_AARCH64_MOVW_GOTOFF_G3,
+            307 => Name::R_AARCH64_GOTREL64,
+            308 => Name::R_AARCH64_GOTREL32,
+            309 => Name::R_AARCH64_GOT_LD_PREL19,
+            310 => Name::R_AARCH64_LD64_GOTOFF_LO15,
+            311 => Name::R_AARCH64_ADR_GOT_PAGE,
+            312 => Name::R_AARCH64_LD64_GOT_LO12_NC,
+            313 => Name::R_AARCH64_LD64_GOTPAGE_LO15,
+            314 => Name::R_AARCH64_PLT32,
+            315 => Name::R_AARCH64_GOTPCREL32,
+            512 => Name::R_AARCH64_TLSGD_ADR_PREL21,
+            513 => Name::R_AARCH64_TLSGD_ADR_PAGE21,
+            514 => Name::R_AARCH64_TLSGD_ADD_LO12_NC,
+            515 => Name::R_AARCH64_TLSGD_MOVW_G1,
+            516 => Name::R_AARCH64_TLSGD_MOVW_G0_NC,
+            517 => Name::R_AARCH64_TLSLD_ADR_PREL21,
+            518 => Name::R_AARCH64_TLSLD_ADR_PAGE21,
+            519 => Name::R_AARCH64_TLSLD_ADD_LO12_NC,
+            520 => Name::R_AARCH64_TLSLD_MOVW_G1,
+            521 => Name::R_AARCH64_TLSLD_MOVW_G0_NC,
+            522 => Name::R_AARCH64_TLSLD_LD_PREL19,
+            523 => Name::R_AARCH64_TLSLD_MOVW_DTPREL_G2,
+            524 => Name::R_AARCH64_TLSLD_MOVW_DTPREL_G1,
+            525 => Name::R_AARCH64_TLSLD_MOVW_DTPREL_G1_NC,
+            526 => Name::R_AARCH64_TLSLD_MOVW_DTPREL_G0,
+            527 => Name::R_AARCH64_TLSLD_MOVW_DTPREL_G0_NC,
+            528 => Name::R_AARCH64_TLSLD_ADD_DTPREL_HI12,
+            529 => Name::R_AARCH64_TLSLD_ADD_DTPREL_LO12,
+            530 => Name::R_AARCH64_TLSLD_ADD_DTPREL_LO12_NC,
+            531 => Name::R_AARCH64_TLSLD_LDST8_DTPREL_LO12,
+            532 => Name::R_AARCH64_TLSLD_LDST8_DTPREL_LO12_NC,
+            533 => Name::R_AARCH64_TLSLD_LDST16_DTPREL_LO12,
+            534 => Name::R_AARCH64_TLSLD_LDST16_DTPREL_LO12_NC,
+            535 => Name::R_AARCH64_TLSLD_LDST32_DTPREL_LO12,
+            536 => Name::R_AARCH64_TLSLD_LDST32_DTPREL_LO12_NC,
+            537 => Name::R_AARCH64_TLSLD_LDST64_DTPREL_LO12,
+            538 => Name::R_AARCH64_TLSLD_LDST64_DTPREL_LO12_NC,
+            539 => Name::R_AARCH64_TLSIE_MOVW_GOTTPREL_G1,
+            540 => Name::R_AARCH64_TLSIE_MOVW_GOTTPREL_G0_NC,
+            541 => Name::R_AARCH64_TLSIE_ADR_GOTTPREL_PAGE21,
+            542 => Name::R_AARCH64_TLSIE_LD64_GOTTPREL_LO12_NC,
+            543 => Name::R_AARCH64_TLSIE_LD_GOTTPREL_PREL19,
+            544 => Name::R_AARCH64_TLSLE_MOVW_TPREL_G2,
+            545 => Name::R_AARCH64_TLSLE_MOVW_TPREL_G1,
+            546 => Name::R_AARCH64_TLSLE_MOVW_TPREL_G1_NC,
+            547 => Name::R_AARCH64_TLSLE_MOVW_TPREL_G0,
+            548 => Name::R_AARCH64_TLSLE_MOVW_TPREL_G0_NC,
+            549 => Name::R_AARCH64_TLSLE_ADD_TPREL_HI12,
+            550 => Name::R_AARCH64_TLSLE_ADD_TPREL_LO12,
+            551 => Name::R_AARCH64_TLSLE_ADD_TPREL_LO12_NC,
+            552 => Name::R_AARCH64_TLSLE_LDST8_TPREL_LO12,
+            553 => Name::R_AARCH64_TLSLE_LDST8_TPREL_LO12_NC,
+            554 => Name::R_AARCH64_TLSLE_LDST16_TPREL_LO12,
+            555 => Name::R_AARCH64_TLSLE_LDST16_TPREL_LO12_NC,
+            556 => Name::R_AARCH64_TLSLE_LDST32_TPREL_LO12,
+            557 => Name::R_AARCH64_TLSLE_LDST32_TPREL_LO12_NC,
+            558 => Name::R_AARCH64_TLSLE_LDST64_TPREL_LO12,
+            559 => Name::R_AARCH64_TLSLE_LDST64_TPREL_LO12_NC,
+            560 => Name::R_AARCH64_TLSDESC_LD_PREL19,
+            561 => Name::R_AARCH64_TLSDESC_ADR_PREL21,
+            562 => Name::R_AARCH64_TLSDESC_ADR_PAGE21,
+            563 => Name::R_AARCH64_TLSDESC_LD64_LO12,
+            564 => Name::R_AARCH64_TLSDESC_ADD_LO12,
+            565 => Name::R_AARCH64_TLSDESC_OFF_G1,
+            566 => Name::R_AARCH64_TLSDESC_OFF_G0_NC,
+            569 => Name::R_AARCH64_TLSDESC_CALL,
+            570 => Name::R_AARCH64_TLSLE_LDST128_TPREL_LO12,
+            571 => Name::R_AARCH64_TLSLE_LDST128_TPREL_LO12_NC,
+            572 => Name::R_AARCH64_TLSLD_LDST128_DTPREL_LO12,
+            573 => Name::R_AARCH64_TLSLD_LDST128_DTPREL_LO12_NC,
+            _ => Name::Other(code),
+        }
+    }
+
+    /// The code, `r_type` in ELF files.
+    #[inline]
+    pub fn elf_code(self) -> u32
+        ensures { result ≡ code_of (aarch64_name self) }
+    {
+        match self {
+            Name::R_AARCH64_NONE => 0,
+            Name::R_AARCH64_ABS64 => 257,
+            Name::R_AARCH64_ABS32 => 258,
+            Name::R_AARCH64_ABS16 => 259,
+            Name::R_AARCH64_PREL64 => 260,
+            Name::R_AARCH64_PREL32 => 261,
+            Name::R_AARCH64_PREL16 => 262,
+            Name::R_AARCH64_MOVW_UABS_G0 => 263,
+            Name::R_AARCH64_MOVW_UABS_G0_NC => 264,
+            Name::R_AARCH64_MOVW_UABS_G1 => 265,
+            Name::R_AARCH64_MOVW_UABS_G1_NC => 266,
+            Name::R_AARCH64_MOVW_UABS_G2 => 267,
+            Name::R_AARCH64_MOVW_UABS_G2_NC => 268,
+            Name::R_AARCH64_MOVW_UABS_G3 => 269,
+            Name::R_AARCH64_MOVW_SABS_G0 => 270,
+            Name::R_AARCH64_MOVW_SABS_G1 => 271,
+            Name::R_AARCH64_MOVW_SABS_G2 => 272,
+            Name::R_AARCH64_LD_PREL_LO19 => 273,
+            Name::R_AARCH64_ADR_PREL_LO21 => 274,
+            Name::R_AARCH64_ADR_PREL_PG_HI21 => 275,
+            Name::R_AARCH64_ADR_PREL_PG_HI21_NC => 276,
+            Name::R_AARCH64_ADD_ABS_LO12_NC => 277,
+            Name::R_AARCH64_LDST8_ABS_LO12_NC => 278,
+            Name::R_AARCH64_TSTBR14 => 279,
+            Name::R_AARCH64_CONDBR19 => 280,
+            Name::R_AARCH64_JUMP26 => 282,
+            Name::R_AARCH64_CALL26 => 283,
+            Name::R_AARCH64_LDST16_ABS_LO12_NC => 284,
+            Name::R_AARCH64_LDST32_ABS_LO12_NC => 285,
+            Name::R_AARCH64_LDST64_ABS_LO12_NC => 286,
+            Name::R_AARCH64_MOVW_PREL_G0 => 287,
+            Name::R_AARCH64_MOVW_PREL_G0_NC => 288,
+            Name::R_AARCH64_MOVW_PREL_G1 => 289,
+            Name::R_AARCH64_MOVW_PREL_G1_NC => 290,
+            Name::R_AARCH64_MOVW_PREL_G2 => 291,
+            Name::R_AARCH64_MOVW_PREL_G2_NC => 292,
+            Name::R_AARCH64_MOVW_PREL_G3 => 293,
+            Name::R_AARCH64_LDST128_ABS_LO12_NC => 299,
+            Name::R_AARCH64_MOVW_GOTOFF_G0 => 300,
+            Name::R_AARCH64_MOVW_GOTOFF_G0_NC => 301,
+            Name::R_AARCH64_MOVW_GOTOFF_G1 => 302,
+            Name::R_AARCH64_MOVW_GOTOFF_G1_NC => 303,
+            Name::R_AARCH64_MOVW_GOTOFF_G2 => 304,
+            Name::R_AARCH64_MOVW_GOTOFF_G2_NC => 305,
+            Name::R_AARCH64_MOVW_GOTOFF_G3 => 306,
+            Name::R_AARCH64_GOTREL64 => 307,
+            Name::R_AARCH64_GOTREL32 => 308,
+            Name::R_AARCH64_GOT_LD_PREL19 => 309,
+            Name::R_AARCH64_LD64_GOTOFF_LO15 => 310,
+            Name::R_AARCH64_ADR_GOT_PAGE => 311,
+            Name::R_AARCH64_LD64_GOT_LO12_NC => 312,
+            Name::R_AARCH64_LD64_GOTPAGE_LO15 => 313,
+            Name::R_AARCH64_PLT32 => 314,
+            Name::R_AARCH64_GOTPCREL32 => 315,
+            Name::R_AARCH64_TLSGD_ADR_PREL21 => 512,
+            Name::R_AARCH64_TLSGD_ADR_PAGE21 => 513,
+            Name::R_AARCH64_TLSGD_ADD_LO12_NC => 514,
+            Name::R_AARCH64_TLSGD_MOVW_G1 => 515,
+            Name::R_AARCH64_TLSGD_MOVW_G0_NC => 516,
+            Name::R_AARCH64_TLSLD_ADR_PREL21 => 517,
+            Name::R_AARCH64_TLSLD_ADR_PAGE21 => 518,
+            Name::R_AARCH64_TLSLD_ADD_LO12_NC => 519,
+            Name::R_AARCH64_TLSLD_MOVW_G1 => 520,
+            Name::R_AARCH64_TLSLD_MOVW_G0_NC => 521,
+            Name::R_AARCH64_TLSLD_LD_PREL19 => 522,
+            Name::R_AARCH64_TLSLD_MOVW_DTPREL_G2 => 523,
+            Name::R_AARCH64_TLSLD_MOVW_DTPREL_G1 => 524,
+            Name::R_AARCH64_TLSLD_MOVW_DTPREL_G1_NC => 525,
+            Name::R_AARCH64_TLSLD_MOVW_DTPREL_G0 => 526,
+            Name::R_AARCH64_TLSLD_MOVW_DTPREL_G0_NC => 527,
+            Name::R_AARCH64_TLSLD_ADD_DTPREL_HI12 => 528,
+            Name::R_AARCH64_TLSLD_ADD_DTPREL_LO12 => 529,
+            Name::R_AARCH64_TLSLD_ADD_DTPREL_LO12_NC => 530,
+            Name::R_AARCH64_TLSLD_LDST8_DTPREL_LO12 => 531,
+            Name::R_AARCH64_TLSLD_LDST8_DTPREL_LO12_NC => 532,
+            Name::R_AARCH64_TLSLD_LDST16_DTPREL_LO12 => 533,
+            Name::R_AARCH64_TLSLD_LDST16_DTPREL_LO12_NC => 534,
+            Name::R_AARCH64_TLSLD_LDST32_DTPREL_LO12 => 535,
+            Name::R_AARCH64_TLSLD_LDST32_DTPREL_LO12_NC => 536,
+            Name::R_AARCH64_TLSLD_LDST64_DTPREL_LO12 => 537,
+            Name::R_AARCH64_TLSLD_LDST64_DTPREL_LO12_NC => 538,
+            Name::R_AARCH64_TLSIE_MOVW_GOTTPREL_G1 => 539,
+            Name::R_AARCH64_TLSIE_MOVW_GOTTPREL_G0_NC => 540,
+            Name::R_AARCH64_TLSIE_ADR_GOTTPREL_PAGE21 => 541,
+            Name::R_AARCH64_TLSIE_LD64_GOTTPREL_LO12_NC => 542,
+            Name::R_AARCH64_TLSIE_LD_GOTTPREL_PREL19 => 543,
+            Name::R_AARCH64_TLSLE_MOVW_TPREL_G2 => 544,
+            Name::R_AARCH64_TLSLE_MOVW_TPREL_G1 => 545,
+            Name::R_AARCH64_TLSLE_MOVW_TPREL_G1_NC => 546,
+            Name::R_AARCH64_TLSLE_MOVW_TPREL_G0 => 547,
+            Name::R_AARCH64_TLSLE_MOVW_TPREL_G0_NC => 548,
+            Name::R_AARCH64_TLSLE_ADD_TPREL_HI12 => 549,
+            Name::R_AARCH64_TLSLE_ADD_TPREL_LO12 => 550,
+            Name::R_AARCH64_TLSLE_ADD_TPREL_LO12_NC => 551,
+            Name::R_AARCH64_TLSLE_LDST8_TPREL_LO12 => 552,
+            Name::R_AARCH64_TLSLE_LDST8_TPREL_LO12_NC => 553,
+            Name::R_AARCH64_TLSLE_LDST16_TPREL_LO12 => 554,
+            Name::R_AARCH64_TLSLE_LDST16_TPREL_LO12_NC => 555,
+            Name::R_AARCH64_TLSLE_LDST32_TPREL_LO12 => 556,
+            Name::R_AARCH64_TLSLE_LDST32_TPREL_LO12_NC => 557,
+            Name::R_AARCH64_TLSLE_LDST64_TPREL_LO12 => 558,
+            Name::R_AARCH64_TLSLE_LDST64_TPREL_LO12_NC => 559,
+            Name::R_AARCH64_TLSDESC_LD_PREL19 => 560,
+            Name::R_AARCH64_TLSDESC_ADR_PREL21 => 561,
+            Name::R_AARCH64_TLSDESC_ADR_PAGE21 => 562,
+            Name::R_AARCH64_TLSDESC_LD64_LO12 => 563,
+            Name::R_AARCH64_TLSDESC_ADD_LO12 => 564,
+            Name::R_AARCH64_TLSDESC_OFF_G1 => 565,
+            Name::R_AARCH64_TLSDESC_OFF_G0_NC => 566,
+            Name::R_AARCH64_TLSDESC_CALL => 569,
+            Name::R_AARCH64_TLSLE_LDST128_TPREL_LO12 => 570,
+            Name::R_AARCH64_TLSLE_LDST128_TPREL_LO12_NC => 571,
+            Name::R_AARCH64_TLSLD_LDST128_DTPREL_LO12 => 572,
+            Name::R_AARCH64_TLSLD_LDST128_DTPREL_LO12_NC => 573,
+            Name::Other(code) => code,
+        }
+    }
+
+    /// The name, as "R_AARCH64_CALL26"; "unknown relocation" for `Other`.
+    pub fn name(self) -> &'static str
+        ensures { result.now ≡ text_of (aarch64_name self) }
+    {
+        match self {
+            Name::R_AARCH64_NONE => "R_AARCH64_NONE",
+            Name::R_AARCH64_ABS64 => "R_AARCH64_ABS64",
+            Name::R_AARCH64_ABS32 => "R_AARCH64_ABS32",
+            Name::R_AARCH64_ABS16 => "R_AARCH64_ABS16",
+            Name::R_AARCH64_PREL64 => "R_AARCH64_PREL64",
+            Name::R_AARCH64_PREL32 => "R_AARCH64_PREL32",
+            Name::R_AARCH64_PREL16 => "R_AARCH64_PREL16",
+            Name::R_AARCH64_MOVW_UABS_G0 => "R_AARCH64_MOVW_UABS_G0",
+            Name::R_AARCH64_MOVW_UABS_G0_NC => "R_AARCH64_MOVW_UABS_G0_NC",
+            Name::R_AARCH64_MOVW_UABS_G1 => "R_AARCH64_MOVW_UABS_G1",
+            Name::R_AARCH64_MOVW_UABS_G1_NC => "R_AARCH64_MOVW_UABS_G1_NC",
+            Name::R_AARCH64_MOVW_UABS_G2 => "R_AARCH64_MOVW_UABS_G2",
+            Name::R_AARCH64_MOVW_UABS_G2_NC => "R_AARCH64_MOVW_UABS_G2_NC",
+            Name::R_AARCH64_MOVW_UABS_G3 => "R_AARCH64_MOVW_UABS_G3",
+            Name::R_AARCH64_MOVW_SABS_G0 => "R_AARCH64_MOVW_SABS_G0",
+            Name::R_AARCH64_MOVW_SABS_G1 => "R_AARCH64_MOVW_SABS_G1",
+            Name::R_AARCH64_MOVW_SABS_G2 => "R_AARCH64_MOVW_SABS_G2",
+            Name::R_AARCH64_LD_PREL_LO19 => "R_AARCH64_LD_PREL_LO19",
+            Name::R_AARCH64_ADR_PREL_LO21 => "R_AARCH64_ADR_PREL_LO21",
+            Name::R_AARCH64_ADR_PREL_PG_HI21 => "R_AARCH64_ADR_PREL_PG_HI21",
+            Name::R_AARCH64_ADR_PREL_PG_HI21_NC => "R_AARCH64_ADR_PREL_PG_HI21_NC",
+            Name::R_AARCH64_ADD_ABS_LO12_NC => "R_AARCH64_ADD_ABS_LO12_NC",
+            Name::R_AARCH64_LDST8_ABS_LO12_NC => "R_AARCH64_LDST8_ABS_LO12_NC",
+            Name::R_AARCH64_TSTBR14 => "R_AARCH64_TSTBR14",
+            Name::R_AARCH64_CONDBR19 => "R_AARCH64_CONDBR19",
+            Name::R_AARCH64_JUMP26 => "R_AARCH64_JUMP26",
+            Name::R_AARCH64_CALL26 => "R_AARCH64_CALL26",
+            Name::R_AARCH64_LDST16_ABS_LO12_NC => "R_AARCH64_LDST16_ABS_LO12_NC",
+            Name::R_AARCH64_LDST32_ABS_LO12_NC => "R_AARCH64_LDST32_ABS_LO12_NC",
+            Name::R_AARCH64_LDST64_ABS_LO12_NC => "R_AARCH64_LDST64_ABS_LO12_NC",
+            Name::R_AARCH64_MOVW_PREL_G0 => "R_AARCH64_MOVW_PREL_G0",
+            Name::R_AARCH64_MOVW_PREL_G0_NC => "R_AARCH64_MOVW_PREL_G0_NC",
+            Name::R_AARCH64_MOVW_PREL_G1 => "R_AARCH64_MOVW_PREL_G1",
+            Name::R_AARCH64_MOVW_PREL_G1_NC => "R_AARCH64_MOVW_PREL_G1_NC",
+            Name::R_AARCH64_MOVW_PREL_G2 => "R_AARCH64_MOVW_PREL_G2",
+            Name::R_AARCH64_MOVW_PREL_G2_NC => "R_AARCH64_MOVW_PREL_G2_NC",
+            Name::R_AARCH64_MOVW_PREL_G3 => "R_AARCH64_MOVW_PREL_G3",
+            Name::R_AARCH64_LDST128_ABS_LO12_NC => "R_AARCH64_LDST128_ABS_LO12_NC",
+            Name::R_AARCH64_MOVW_GOTOFF_G0 => "R_AARCH64_MOVW_GOTOFF_G0",
+            Name::R_AARCH64_MOVW_GOTOFF_G0_NC => "R_AARCH64_MOVW_GOTOFF_G0_NC",
+            Name::R_AARCH64_MOVW_GOTOFF_G1 => "R_AARCH64_MOVW_GOTOFF_G1",
+            Name::R_AARCH64_MOVW_GOTOFF_G1_NC => "R_AARCH64_MOVW_GOTOFF_G1_NC",
+            Name::R_AARCH64_MOVW_GOTOFF_G2 => "R_AARCH64_MOVW_GOTOFF_G2",
+            Name::R_AARCH64_MOVW_GOTOFF_G2_NC => "R_AARCH64_MOVW_GOTOFF_G2_NC",
+            Name::R_AARCH64_MOVW_GOTOFF_G3 => "R_AARCH64_MOVW_GOTOFF_G3",
+            Name::R_AARCH64_GOTREL64 => "R_AARCH64_GOTREL64",
+            Name::R_AARCH64_GOTREL32 => "R_AARCH64_GOTREL32",
+            Name::R_AARCH64_GOT_LD_PREL19 => "R_AARCH64_GOT_LD_PREL19",
+            Name::R_AARCH64_LD64_GOTOFF_LO15 => "R_AARCH64_LD64_GOTOFF_LO15",
+            Name::R_AARCH64_ADR_GOT_PAGE => "R_AARCH64_ADR_GOT_PAGE",
+            Name::R_AARCH64_LD64_GOT_LO12_NC => "R_AARCH64_LD64_GOT_LO12_NC",
+            Name::R_AARCH64_LD64_GOTPAGE_LO15 => "R_AARCH64_LD64_GOTPAGE_LO15",
+            Name::R_AARCH64_PLT32 => "R_AARCH64_PLT32",
+            Name::R_AARCH64_GOTPCREL32 => "R_AARCH64_GOTPCREL32",
+            Name::R_AARCH64_TLSGD_ADR_PREL21 => "R_AARCH64_TLSGD_ADR_PREL21",
+            Name::R_AARCH64_TLSGD_ADR_PAGE21 => "R_AARCH64_TLSGD_ADR_PAGE21",
+            Name::R_AARCH64_TLSGD_ADD_LO12_NC => "R_AARCH64_TLSGD_ADD_LO12_NC",
+            Name::R_AARCH64_TLSGD_MOVW_G1 => "R_AARCH64_TLSGD_MOVW_G1",
+            Name::R_AARCH64_TLSGD_MOVW_G0_NC => "R_AARCH64_TLSGD_MOVW_G0_NC",
+            Name::R_AARCH64_TLSLD_ADR_PREL21 => "R_AARCH64_TLSLD_ADR_PREL21",
+            Name::R_AARCH64_TLSLD_ADR_PAGE21 => "R_AARCH64_TLSLD_ADR_PAGE21",
+            Name::R_AARCH64_TLSLD_ADD_LO12_NC => "R_AARCH64_TLSLD_ADD_LO12_NC",
+            Name::R_AARCH64_TLSLD_MOVW_G1 => "R_AARCH64_TLSLD_MOVW_G1",
+            Name::R_AARCH64_TLSLD_MOVW_G0_NC => "R_AARCH64_TLSLD_MOVW_G0_NC",
+            Name::R_AARCH64_TLSLD_LD_PREL19 => "R_AARCH64_TLSLD_LD_PREL19",
+            Name::R_AARCH64_TLSLD_MOVW_DTPREL_G2 => "R_AARCH64_TLSLD_MOVW_DTPREL_G2",
+            Name::R_AARCH64_TLSLD_MOVW_DTPREL_G1 => "R_AARCH64_TLSLD_MOVW_DTPREL_G1",
+            Name::R_AARCH64_TLSLD_MOVW_DTPREL_G1_NC => "R_AARCH64_TLSLD_MOVW_DTPREL_G1_NC",
+            Name::R_AARCH64_TLSLD_MOVW_DTPREL_G0 => "R_AARCH64_TLSLD_MOVW_DTPREL_G0",
+            Name::R_AARCH64_TLSLD_MOVW_DTPREL_G0_NC => "R_AARCH64_TLSLD_MOVW_DTPREL_G0_NC",
+            Name::R_AARCH64_TLSLD_ADD_DTPREL_HI12 => "R_AARCH64_TLSLD_ADD_DTPREL_HI12",
+            Name::R_AARCH64_TLSLD_ADD_DTPREL_LO12 => "R_AARCH64_TLSLD_ADD_DTPREL_LO12",
+            Name::R_AARCH64_TLSLD_ADD_DTPREL_LO12_NC => "R_AARCH64_TLSLD_ADD_DTPREL_LO12_NC",
+            Name::R_AARCH64_TLSLD_LDST8_DTPREL_LO12 => "R_AARCH64_TLSLD_LDST8_DTPREL_LO12",
+            Name::R_AARCH64_TLSLD_LDST8_DTPREL_LO12_NC => "R_AARCH64_TLSLD_LDST8_DTPREL_LO12_NC",
+            Name::R_AARCH64_TLSLD_LDST16_DTPREL_LO12 => "R_AARCH64_TLSLD_LDST16_DTPREL_LO12",
+            Name::R_AARCH64_TLSLD_LDST16_DTPREL_LO12_NC => "R_AARCH64_TLSLD_LDST16_DTPREL_LO12_NC",
+            Name::R_AARCH64_TLSLD_LDST32_DTPREL_LO12 => "R_AARCH64_TLSLD_LDST32_DTPREL_LO12",
+            Name::R_AARCH64_TLSLD_LDST32_DTPREL_LO12_NC => "R_AARCH64_TLSLD_LDST32_DTPREL_LO12_NC",
+            Name::R_AARCH64_TLSLD_LDST64_DTPREL_LO12 => "R_AARCH64_TLSLD_LDST64_DTPREL_LO12",
+            Name::R_AARCH64_TLSLD_LDST64_DTPREL_LO12_NC => "R_AARCH64_TLSLD_LDST64_DTPREL_LO12_NC",
+            Name::R_AARCH64_TLSIE_MOVW_GOTTPREL_G1 => "R_AARCH64_TLSIE_MOVW_GOTTPREL_G1",
+            Name::R_AARCH64_TLSIE_MOVW_GOTTPREL_G0_NC => "R_AARCH64_TLSIE_MOVW_GOTTPREL_G0_NC",
+            Name::R_AARCH64_TLSIE_ADR_GOTTPREL_PAGE21 => "R_AARCH64_TLSIE_ADR_GOTTPREL_PAGE21",
+            Name::R_AARCH64_TLSIE_LD64_GOTTPREL_LO12_NC => "R_AARCH64_TLSIE_LD64_GOTTPREL_LO12_NC",
+            Name::R_AARCH64_TLSIE_LD_GOTTPREL_PREL19 => "R_AARCH64_TLSIE_LD_GOTTPREL_PREL19",
+            Name::R_AARCH64_TLSLE_MOVW_TPREL_G2 => "R_AARCH64_TLSLE_MOVW_TPREL_G2",
+            Name::R_AARCH64_TLSLE_MOVW_TPREL_G1 => "R_AARCH64_TLSLE_MOVW_TPREL_G1",
+            Name::R_AARCH64_TLSLE_MOVW_TPREL_G1_NC => "R_AARCH64_TLSLE_MOVW_TPREL_G1_NC",
+            Name::R_AARCH64_TLSLE_MOVW_TPREL_G0 => "R_AARCH64_TLSLE_MOVW_TPREL_G0",
+            Name::R_AARCH64_TLSLE_MOVW_TPREL_G0_NC => "R_AARCH64_TLSLE_MOVW_TPREL_G0_NC",
+            Name::R_AARCH64_TLSLE_ADD_TPREL_HI12 => "R_AARCH64_TLSLE_ADD_TPREL_HI12",
+            Name::R_AARCH64_TLSLE_ADD_TPREL_LO12 => "R_AARCH64_TLSLE_ADD_TPREL_LO12",
+            Name::R_AARCH64_TLSLE_ADD_TPREL_LO12_NC => "R_AARCH64_TLSLE_ADD_TPREL_LO12_NC",
+            Name::R_AARCH64_TLSLE_LDST8_TPREL_LO12 => "R_AARCH64_TLSLE_LDST8_TPREL_LO12",
+            Name::R_AARCH64_TLSLE_LDST8_TPREL_LO12_NC => "R_AARCH64_TLSLE_LDST8_TPREL_LO12_NC",
+            Name::R_AARCH64_TLSLE_LDST16_TPREL_LO12 => "R_AARCH64_TLSLE_LDST16_TPREL_LO12",
+            Name::R_AARCH64_TLSLE_LDST16_TPREL_LO12_NC => "R_AARCH64_TLSLE_LDST16_TPREL_LO12_NC",
+            Name::R_AARCH64_TLSLE_LDST32_TPREL_LO12 => "R_AARCH64_TLSLE_LDST32_TPREL_LO12",
+            Name::R_AARCH64_TLSLE_LDST32_TPREL_LO12_NC => "R_AARCH64_TLSLE_LDST32_TPREL_LO12_NC",
+            Name::R_AARCH64_TLSLE_LDST64_TPREL_LO12 => "R_AARCH64_TLSLE_LDST64_TPREL_LO12",
+            Name::R_AARCH64_TLSLE_LDST64_TPREL_LO12_NC => "R_AARCH64_TLSLE_LDST64_TPREL_LO12_NC",
+            Name::R_AARCH64_TLSDESC_LD_PREL19 => "R_AARCH64_TLSDESC_LD_PREL19",
+            Name::R_AARCH64_TLSDESC_ADR_PREL21 => "R_AARCH64_TLSDESC_ADR_PREL21",
+            Name::R_AARCH64_TLSDESC_ADR_PAGE21 => "R_AARCH64_TLSDESC_ADR_PAGE21",
+            Name::R_AARCH64_TLSDESC_LD64_LO12 => "R_AARCH64_TLSDESC_LD64_LO12",
+            Name::R_AARCH64_TLSDESC_ADD_LO12 => "R_AARCH64_TLSDESC_ADD_LO12",
+            Name::R_AARCH64_TLSDESC_OFF_G1 => "R_AARCH64_TLSDESC_OFF_G1",
+            Name::R_AARCH64_TLSDESC_OFF_G0_NC => "R_AARCH64_TLSDESC_OFF_G0_NC",
+            Name::R_AARCH64_TLSDESC_CALL => "R_AARCH64_TLSDESC_CALL",
+            Name::R_AARCH64_TLSLE_LDST128_TPREL_LO12 => "R_AARCH64_TLSLE_LDST128_TPREL_LO12",
+            Name::R_AARCH64_TLSLE_LDST128_TPREL_LO12_NC => "R_AARCH64_TLSLE_LDST128_TPREL_LO12_NC",
+            Name::R_AARCH64_TLSLD_LDST128_DTPREL_LO12 => "R_AARCH64_TLSLD_LDST128_DTPREL_LO12",
+            Name::R_AARCH64_TLSLD_LDST128_DTPREL_LO12_NC =>
+                "R_AARCH64_TLSLD_LDST128_DTPREL_LO12_NC",
+            Name::Other(_) => "unknown relocation",
+        }
+    }
 }
 
 const PLACE_PAGES: PageMask = PageMask::SymbolPlusAddendAndPosition(PageMaskPattern::Size4KB);
@@ -188,7 +564,7 @@ fn unsigned(n: u32, info: RelocationKindInfo) -> RelocationKindInfo
 }
 
 fn within(min: i64, max: i64, info: RelocationKindInfo) -> RelocationKindInfo
-    ensures { result ≡ within_row min max info }
+    ensures { result ≡ within_row (min, max) info }
 {
     RelocationKindInfo {
         range: AllowedRange::new(min, max),
@@ -220,16 +596,27 @@ fn thunkable(info: RelocationKindInfo) -> RelocationKindInfo
     }
 }
 
-/// What a relocation means, and none for `Other`. Bits go by the value after the bias and the page
-/// mask.
+/// What a relocation means. It takes a name; `AArch64Relocation::from_elf` gives the name of a
+/// code. Returns `None` for `Other`. The bias is added before the page mask is applied, and both
+/// before the bits are taken.
+///
+/// ```
+/// use linker_utils::aarch64::{AArch64Relocation, relocation_type_from_raw};
+///
+/// let call26 = relocation_type_from_raw(AArch64Relocation::from_elf(283)).unwrap();
+/// assert_eq!(call26.alignment, 4);
+/// assert!(call26.range.contains(-(1 << 27)));
+/// assert!(!call26.range.contains(1 << 27));
+/// ```
+#[inline]
 pub fn relocation_type_from_raw(name: AArch64Relocation) -> Option<RelocationKindInfo>
     ensures row { result ≡ aarch64_row name }
     ensures agrees { IfSome result RowAgrees }
+    ensures fits { IfSome result RowFits }
 {
     described(name)
 }
 
-// The table.
 #[inline(always)]
 fn described(name: AArch64Relocation) -> Option<RelocationKindInfo>
     ensures { result ≡ aarch64_row name }

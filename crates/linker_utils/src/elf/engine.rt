@@ -1,51 +1,55 @@
-//! Places runs of a value's bits into the window of an instruction, and takes them out.
+//! Writes runs of a value's bits into the window of an instruction, and reads them.
 
 ghost use Rattle.std.specs.Prelude.{◌≡◌, ◌<◌, ◌≤◌, ◌^◌, IsTrue, length, drop, pos, int_lt};
 ghost use Rattle.std.specs.Int.{from_le_bytes, byte_len, cast_unsigned, w64};
 ghost use Rattle.linker_base.specs.Bits.{signed};
-ghost use Rattle.linker_base.specs.Form.{IsLaid, place_sum, values_below};
-ghost use Rattle.linker_utils.specs.Runs.{run_places, spread, run_fits, runs_fit, runs_read, words_below, width_of, bits_of};
+ghost use Rattle.linker_base.specs.Form.{BitsWritten, Written, window_of, place_sum, values_below};
+ghost use Rattle.linker_utils.specs.Elf.{relocation_form, relocation_layout};
+ghost use Rattle.linker_utils.specs.Inner.Runs.{run_places, spread, run_fits, runs_fit, runs_read, words_below, width_of, bits_of, reads_unsigned, reads_signed, reads_flagged};
 
-/// What becomes of a window's bits under a run.
+use crate::elf::RelocationInstruction;
+
+/// What a write makes of the window's bits of a run.
 #[derive(Clone, Copy)]
 pub(crate) enum Mark {
-    /// The value's bits stand there.
+    /// They become the value's bits.
     Replaced,
-    /// The value's bits are ORed to what stands there.
+    /// The value's bits are ORed to them.
     Ored,
-    /// They become 0, and stand for no bit of the value.
+    /// They become 0, and are no bits of the value.
     Cleared,
 }
 
-/// `len` bits, from bit `value` of the value plus `added` up, belong to the window's bits from `word` up.
+/// `len` bits, from bit `value` of the value plus `added` up, belong to the window's bits from
+/// `insn_bit` up.
 #[derive(Clone, Copy)]
 pub(crate) struct Run {
     pub(crate) value: u32,
-    pub(crate) word: u32,
+    pub(crate) insn_bit: u32,
     pub(crate) len: u32,
     pub(crate) added: u64,
     pub(crate) mark: Mark,
 }
 
-/// A run of bits: value bit, window bit and length, of replaced bits if nothing else is said, or
-/// window bit and length of one that is only cleared.
+/// A run of bits, replaced unless said otherwise: value bit, window bit and length; or window bit
+/// and length of a run that is only cleared.
 macro_rules! run {
-    ($value:literal, $word:literal, $len:literal) => {
-        $crate::elf::engine::run!($value, $word, $len, 0, Replaced)
+    ($value:literal, $insn_bit:literal, $len:literal) => {
+        $crate::elf::engine::run!($value, $insn_bit, $len, 0, Replaced)
     };
-    (ored $value:literal, $word:literal, $len:literal) => {
-        $crate::elf::engine::run!($value, $word, $len, 0, Ored)
+    (ored $value:literal, $insn_bit:literal, $len:literal) => {
+        $crate::elf::engine::run!($value, $insn_bit, $len, 0, Ored)
     };
-    (added $added:literal: $value:literal, $word:literal, $len:literal) => {
-        $crate::elf::engine::run!($value, $word, $len, $added, Replaced)
+    (added $added:literal: $value:literal, $insn_bit:literal, $len:literal) => {
+        $crate::elf::engine::run!($value, $insn_bit, $len, $added, Replaced)
     };
-    (cleared $word:literal, $len:literal) => {
-        $crate::elf::engine::run!(0, $word, $len, 0, Cleared)
+    (cleared $insn_bit:literal, $len:literal) => {
+        $crate::elf::engine::run!(0, $insn_bit, $len, 0, Cleared)
     };
-    ($value:literal, $word:literal, $len:literal, $added:literal, $mark:ident) => {
+    ($value:literal, $insn_bit:literal, $len:literal, $added:literal, $mark:ident) => {
         $crate::elf::engine::Run {
             value: $value,
-            word: $word,
+            insn_bit: $insn_bit,
             len: $len,
             added: $added,
             mark: $crate::elf::engine::Mark::$mark,
@@ -86,7 +90,8 @@ impl Window {
         requires room { byte_len (width_of self) ≤ length bytes.old }
         requires fits { window < 2 ^ bits_of self }
         ensures stored { from_le_bytes (width_of self) bytes.new ≡ window }
-        ensures rest { drop (byte_len (width_of self)) bytes.new ≡ drop (byte_len (width_of self)) bytes.old }
+        ensures rest { drop (byte_len (width_of self)) bytes.new
+            ≡ drop (byte_len (width_of self)) bytes.old }
         ensures same { window ≡ from_le_bytes (width_of self) bytes.old → bytes.new ≡ bytes.old }
     {
         match self {
@@ -97,22 +102,22 @@ impl Window {
     }
 }
 
-/// The window with one run of the value in it.
+/// The window after one run of the value is written.
 #[inline(always)]
 fn put(run: &Run, value: u64, window: u64) -> u64
     requires { IsTrue (run_fits run.now) }
-    ensures { IsLaid (run_places run.now) value window result }
+    ensures { BitsWritten (run_places run.now) value window result }
 {
     let ones = (1u64 << run.len) - 1;
-    let bits = ((value.wrapping_add(run.added) >> run.value) & ones) << run.word;
+    let bits = ((value.wrapping_add(run.added) >> run.value) & ones) << run.insn_bit;
     match run.mark {
-        Mark::Replaced => window & !(ones << run.word) | bits,
+        Mark::Replaced => window & !(ones << run.insn_bit) | bits,
         Mark::Ored => window | bits,
-        Mark::Cleared => window & !(ones << run.word),
+        Mark::Cleared => window & !(ones << run.insn_bit),
     }
 }
 
-/// The value's bits that stand in one run.
+/// The value's bits in one run.
 #[inline(always)]
 fn take(run: &Run, window: u64) -> u64
     requires { IsTrue (run_fits run.now) }
@@ -120,16 +125,16 @@ fn take(run: &Run, window: u64) -> u64
 {
     let ones = (1u64 << run.len) - 1;
     match run.mark {
-        Mark::Replaced | Mark::Ored => ((window >> run.word) & ones) << run.value,
+        Mark::Replaced | Mark::Ored => ((window >> run.insn_bit) & ones) << run.value,
         Mark::Cleared => 0,
     }
 }
 
-/// The window with all runs of the value in it.
+/// The window after all runs of the value are written.
 #[inline(always)]
 fn insert(runs: &[Run], value: u64, window: u64) -> u64
     requires { IsTrue (runs_fit runs.now) }
-    ensures { IsLaid (spread runs.now) value window result }
+    ensures { BitsWritten (spread runs.now) value window result }
 {
     let mut laid = window;
     for run in runs {
@@ -138,7 +143,7 @@ fn insert(runs: &[Run], value: u64, window: u64) -> u64
     laid
 }
 
-/// The number that stands in the runs of a window.
+/// The number in the runs of a window.
 #[inline(always)]
 fn extract(runs: &[Run], window: u64) -> u64
     requires { IsTrue (runs_read runs.now) }
@@ -174,13 +179,44 @@ pub(crate) fn write(window: Window, runs: &[Run], value: u64, dest: &mut [u8])
     requires room { byte_len (width_of window) ≤ length dest.old }
     requires sound { IsTrue (runs_fit runs.now) }
     requires inside { IsTrue (words_below (bits_of window) (spread runs.now)) }
-    ensures written { IsLaid (spread runs.now) value (from_le_bytes (width_of window) dest.old) (from_le_bytes (width_of window) dest.new) }
-    ensures rest { drop (byte_len (width_of window)) dest.new ≡ drop (byte_len (width_of window)) dest.old }
-    ensures same { from_le_bytes (width_of window) dest.new ≡ from_le_bytes (width_of window) dest.old → dest.new ≡ dest.old }
+    ensures written { BitsWritten (spread runs.now) value (from_le_bytes (width_of window) dest.old) (from_le_bytes (width_of window) dest.new) }
+    ensures rest { drop (byte_len (width_of window)) dest.new
+        ≡ drop (byte_len (width_of window)) dest.old }
+    ensures same { from_le_bytes (width_of window) dest.new ≡ from_le_bytes (width_of window) dest.old
+        → dest.new ≡ dest.old }
 {
     let before = window.load(dest);
     let after = insert(runs, value, before);
     window.store(after, dest);
+}
+
+/// Writes a value into the instruction that `dest` begins with. The runs are those of its form;
+/// `_insn` and `_negative` are for the contract alone.
+#[inline(always)]
+pub(crate) fn write_form(
+    _insn: RelocationInstruction,
+    window: Window,
+    runs: &[Run],
+    value: u64,
+    _negative: bool,
+    dest: &mut [u8],
+)
+    requires room { byte_len (width_of window) ≤ length dest.old }
+    requires sound { IsTrue (runs_fit runs.now) }
+    requires inside { IsTrue (words_below (bits_of window) (spread runs.now)) }
+    requires width { (relocation_form _insn).window ≡ width_of window }
+    requires places { (relocation_form _insn).places (from_le_bytes (width_of window) dest.old)
+        ≡ spread runs.now }
+    requires number { (relocation_form _insn).number _negative value ≡ value }
+    requires base { (relocation_form _insn).base _negative (from_le_bytes (width_of window) dest.old)
+        ≡ from_le_bytes (width_of window) dest.old }
+    ensures written { Written (relocation_form _insn) value _negative (window_of (relocation_form _insn) dest.old) (window_of (relocation_form _insn) dest.new) }
+    ensures rest { drop (byte_len (relocation_form _insn).window) dest.new
+        ≡ drop (byte_len (relocation_form _insn).window) dest.old }
+    ensures same { window_of (relocation_form _insn) dest.new ≡ window_of (relocation_form _insn) dest.old
+        → dest.new ≡ dest.old }
+{
+    write(window, runs, value, dest);
 }
 
 /// Writes the runs of a value over a number, and that to the window that `dest` begins with.
@@ -190,9 +226,11 @@ pub(crate) fn write_over(window: Window, runs: &[Run], value: u64, number: u64, 
     requires sound { IsTrue (runs_fit runs.now) }
     requires inside { IsTrue (words_below (bits_of window) (spread runs.now)) }
     requires fits { number < 2 ^ bits_of window }
-    ensures written { IsLaid (spread runs.now) value number (from_le_bytes (width_of window) dest.new) }
-    ensures rest { drop (byte_len (width_of window)) dest.new ≡ drop (byte_len (width_of window)) dest.old }
-    ensures same { from_le_bytes (width_of window) dest.new ≡ from_le_bytes (width_of window) dest.old → dest.new ≡ dest.old }
+    ensures written { BitsWritten (spread runs.now) value number (from_le_bytes (width_of window) dest.new) }
+    ensures rest { drop (byte_len (width_of window)) dest.new
+        ≡ drop (byte_len (width_of window)) dest.old }
+    ensures same { from_le_bytes (width_of window) dest.new ≡ from_le_bytes (width_of window) dest.old
+        → dest.new ≡ dest.old }
 {
     let after = insert(runs, value, number);
     window.store(after, dest);
@@ -208,6 +246,78 @@ pub(crate) fn read(window: Window, runs: &[Run], bytes: &[u8]) -> u64
     extract(runs, window.load(bytes))
 }
 
+/// Reads the value in the instruction that `bytes` begins with, of a form that is read without a
+/// sign. The runs are the form's.
+#[inline(always)]
+pub(crate) fn read_form(
+    _insn: RelocationInstruction,
+    window: Window,
+    runs: &[Run],
+    bytes: &[u8],
+) -> (u64, bool)
+    requires room { byte_len (width_of window) ≤ length bytes.now }
+    requires sound { IsTrue (runs_read runs.now) }
+    requires width { (relocation_form _insn).window ≡ width_of window }
+    requires places { (relocation_form _insn).places 0 ≡ spread runs.now }
+    requires reading { IsTrue (reads_unsigned (relocation_layout _insn)) }
+    ensures number { result.0
+        ≡ cast_unsigned w64 ((relocation_form _insn).reading (window_of (relocation_form _insn) bytes.now)) }
+    ensures flag { result.1
+        ≡ (relocation_form _insn).flag (window_of (relocation_form _insn) bytes.now) }
+{
+    (read(window, runs, bytes), false)
+}
+
+/// The same, of a form that is read in two's complement and flags nothing.
+#[inline(always)]
+pub(crate) fn read_signed_form(
+    _insn: RelocationInstruction,
+    window: Window,
+    runs: &[Run],
+    bits: u32,
+    bytes: &[u8],
+) -> (u64, bool)
+    requires room { byte_len (width_of window) ≤ length bytes.now }
+    requires sound { IsTrue (runs_read runs.now) }
+    requires some { 0 < bits }
+    requires short { bits < 64 }
+    requires fits { IsTrue (values_below bits (spread runs.now)) }
+    requires width { (relocation_form _insn).window ≡ width_of window }
+    requires places { (relocation_form _insn).places 0 ≡ spread runs.now }
+    requires reading { IsTrue (reads_signed bits (relocation_layout _insn)) }
+    ensures number { result.0
+        ≡ cast_unsigned w64 ((relocation_form _insn).reading (window_of (relocation_form _insn) bytes.now)) }
+    ensures flag { result.1
+        ≡ (relocation_form _insn).flag (window_of (relocation_form _insn) bytes.now) }
+{
+    (read_signed(window, runs, bits, bytes).0, false)
+}
+
+/// The same, of a form that is read in two's complement and flags a number below 0.
+#[inline(always)]
+pub(crate) fn read_flagged_form(
+    _insn: RelocationInstruction,
+    window: Window,
+    runs: &[Run],
+    bits: u32,
+    bytes: &[u8],
+) -> (u64, bool)
+    requires room { byte_len (width_of window) ≤ length bytes.now }
+    requires sound { IsTrue (runs_read runs.now) }
+    requires some { 0 < bits }
+    requires short { bits < 64 }
+    requires fits { IsTrue (values_below bits (spread runs.now)) }
+    requires width { (relocation_form _insn).window ≡ width_of window }
+    requires places { (relocation_form _insn).places 0 ≡ spread runs.now }
+    requires reading { IsTrue (reads_flagged bits (relocation_layout _insn)) }
+    ensures number { result.0
+        ≡ cast_unsigned w64 ((relocation_form _insn).reading (window_of (relocation_form _insn) bytes.now)) }
+    ensures flag { result.1
+        ≡ (relocation_form _insn).flag (window_of (relocation_form _insn) bytes.now) }
+{
+    read_signed(window, runs, bits, bytes)
+}
+
 /// Reads the number of `bits` bits in the runs of the window that `bytes` begins with, in two's
 /// complement at 64 bits, and whether it is below 0.
 #[inline(always)]
@@ -217,8 +327,10 @@ pub(crate) fn read_signed(window: Window, runs: &[Run], bits: u32, bytes: &[u8])
     requires some { 0 < bits }
     requires short { bits < 64 }
     requires fits { IsTrue (values_below bits (spread runs.now)) }
-    ensures number { result.0 ≡ cast_unsigned w64 (signed bits (place_sum (spread runs.now) (from_le_bytes (width_of window) bytes.now))) }
-    ensures flag { result.1 ≡ int_lt (signed bits (place_sum (spread runs.now) (from_le_bytes (width_of window) bytes.now))) (pos 0) }
+    ensures number { result.0
+        ≡ cast_unsigned w64 (signed bits (place_sum (spread runs.now) (from_le_bytes (width_of window) bytes.now))) }
+    ensures flag { result.1
+        ≡ int_lt (signed bits (place_sum (spread runs.now) (from_le_bytes (width_of window) bytes.now))) (pos 0) }
 {
     signed_number(read(window, runs, bytes), bits)
 }

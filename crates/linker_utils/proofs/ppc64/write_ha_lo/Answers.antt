@@ -1,7 +1,7 @@
 use Rattle.std.proofs.Common.{rules, ap, ◌∙◌}
 use Rattle.std.specs.Int.{from_le_bytes, w32}
 use Rattle.linker_base.specs.Bits.{field}
-use Rattle.linker_utils.proofs.PowerPcPairs.{d_kept, pair_holds}
+use Rattle.linker_utils.proofs.Ppc64Pairs.{d_kept, pair_holds}
 use Rattle.linker_utils.proofs.ppc64.write_ha_lo.Goals as goal
 
 pub returns-clause-ha_kept : goal.returns-clause-ha_kept

@@ -2,7 +2,7 @@ use Rattle.std.proofs.Common.{◌<◌, length, sym, arith}
 use Rattle.std.proofs.lemmas.List.{length-map, length-set}
 use Rattle.linker_base.proofs.Listed.{taken_up_to}
 use Rattle.linker_utils_c.specs.Deltas.{pair_of, pairs_in}
-use Rattle.linker_utils_c.proofs.DeltaLists.{pair_at, IsListing-set}
+use Rattle.linker_utils_c.proofs.DeltaLists.{pair_at, RecordsDeletions-set}
 use Rattle.linker_utils_c.proofs.deltas.fill.Goals as goal
 
 -- the sum is below the deletion's end
@@ -24,6 +24,6 @@ loop-at-preserved c =
     let place : k < length c.loop-at.deltas = omega arith in
     record {
       room = simp length-set (omega arith);
-      listing = IsListing-set (pairs_in ds) c.loop-at.deltas _ k inside place c.loop-at.invariant.listing (sym here) (omega (arith, up_to));
+      listing = RecordsDeletions-set (pairs_in ds) c.loop-at.deltas _ k inside place c.loop-at.invariant.listing (sym here) (omega (arith, up_to));
       sum = omega (arith, up_to);
     }

@@ -1,5 +1,5 @@
 use Rattle.std.proofs.Common.{rules}
-use Rattle.vectors.proofs.Poking.{poked}
+use Rattle.vectors.proofs.PokedSection.{poked}
 use Rattle.vectors.proofs.poke.poke.Goals as goal
 
 pub returns-then-fits-clause-poked : goal.returns-then-fits-clause-poked

@@ -1,5 +1,5 @@
 use Rattle.std.proofs.Common.{refl, arith}
-use Rattle.linker_base.proofs.Listed.{taken_up_to, IsListing-more}
+use Rattle.linker_base.proofs.Listed.{taken_up_to, RecordsDeletions-more}
 use Rattle.linker_base.proofs.relaxation.SectionRelaxDeltas.new.Goals as goal
 
 -- the sum is below the deletion's end
@@ -14,6 +14,6 @@ loop-input_offset-preserved c =
     record {
       room = omega arith;
       pushed = omega arith;
-      listing = rw c.push_reserved.ensures.items (IsListing-more c.args.raw.now _ _ c.loop-input_offset.input_offset-index c.loop-input_offset-test.true c.loop-input_offset.invariant.listing refl (omega arith));
+      listing = rw c.push_reserved.ensures.items (RecordsDeletions-more c.args.raw.now _ _ c.loop-input_offset.input_offset-index c.loop-input_offset-test.true c.loop-input_offset.invariant.listing refl (omega arith));
       sum = omega arith;
     }

@@ -6,18 +6,18 @@ use Rattle.linker_base.proofs.relaxation.search.delta_at.Goals as goal
 use Rattle.linker_base.proofs.relaxation.search.delta_at.Goals.{else-below-deltas-via-then-below-deltas+else-deltas-below, else-below-deltas-via-else-below-deltas}
 
 pub returns-then-deltas-below : goal.returns-then-deltas-below
-returns-then-deltas-below c =
+returns-then-deltas-below c listed =
     let deltas = c.args.deltas.now in
     let k = c.count_below-below.result in
     let here = deletion_at deltas k blank (0, 0) c.if-below-deltas.true in
-    rw here at (only_at (map deletion_of deltas) c.requires.valid c.args.offset k (0, 0) (omega (arith, length-map deltas deletion_of)) (ap (λ (d : ℕ × ℕ). d.0) here ∙ c.if-deltas-below.true))
+    rw here at (only_at (map deletion_of deltas) listed.valid c.args.offset k (0, 0) (omega (arith, length-map deltas deletion_of)) (ap (λ (d : ℕ × ℕ). d.0) here ∙ c.if-deltas-below.true))
 
 -- the first delta that does not begin below the offset begins above it, or there is none
 pub returns-else-below-deltas : goal.returns-else-below-deltas
-returns-else-below-deltas c =
+returns-else-below-deltas c listed =
     let deltas = c.args.deltas.now in
     let k = c.count_below-below.result in
-    none_at (map deletion_of deltas) c.requires.valid c.args.offset k c.count_below-below.ensures.below (λ e within at. elim c.else-below-deltas.branch [
+    none_at (map deletion_of deltas) listed.valid c.args.offset k (c.count_below-below.ensures.below listed.valid) (λ e within at. elim c.else-below-deltas.branch [
       | else-below-deltas-via-then-below-deltas+else-deltas-below w ↦ w.if-deltas-below.false (ap (λ (d : ℕ × ℕ). d.0) (sym (deletion_at deltas k blank e w.if-below-deltas.true)) ∙ at)
       | else-below-deltas-via-else-below-deltas w ↦ omega (arith, length-map deltas deletion_of)
     ])

@@ -1,6 +1,6 @@
 use Rattle.std.proofs.Common.{take, ◌≡◌}
 use Rattle.linker_base.specs.Form.{place_sum}
-use Rattle.linker_utils.specs.Runs.{spread}
+use Rattle.linker_utils.specs.Inner.Runs.{spread}
 use Rattle.linker_utils.proofs.elf.engine.extract.Given as goal
 
 abbrev pub invariant-loop-run : goal.invariant-loop-run

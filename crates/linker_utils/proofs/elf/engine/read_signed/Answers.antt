@@ -1,5 +1,5 @@
 use Rattle.std.specs.Int.{from_le_bytes}
-use Rattle.linker_utils.specs.Runs.{width_of}
+use Rattle.linker_utils.specs.Inner.Runs.{width_of}
 use Rattle.linker_utils.proofs.Runs.{read_below}
 use Rattle.linker_utils.proofs.elf.engine.read_signed.Goals as goal
 

@@ -1,4 +1,4 @@
-use Rattle.linker_utils.specs.Runs.{bits_of, spread}
+use Rattle.linker_utils.specs.Inner.Runs.{bits_of, spread}
 use Rattle.linker_utils.proofs.Runs.{laid_below}
 use Rattle.linker_utils.proofs.elf.engine.write.Goals as goal
 

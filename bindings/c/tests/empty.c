@@ -1,0 +1,56 @@
+/* Passes null with a count of 0 for each slice of each call, and outputs that are not initialised. */
+#include <stdio.h>
+
+#include "linker_utils.h"
+
+static int failures;
+
+static void expect(const char *call, uint32_t status, uint32_t expected) {
+    if (status == expected) return;
+    failures++;
+    printf("%s: %s\n", call, linker_utils_status_text(status));
+}
+
+#define EXPECT(status, call) expect(#call, linker_utils_##call, LINKER_UTILS_##status)
+
+int main(void) {
+    const uint16_t machine = LINKER_UTILS_AARCH64;
+    uint64_t value, offset = 0;
+    int64_t addend = 0;
+    uint32_t word;
+    uint8_t flag;
+    size_t count;
+
+    EXPECT(TOO_SHORT, fits(machine, 0, 0, NULL, 0));
+    EXPECT(TOO_SHORT, write(machine, 0, 0, false, NULL, 0));
+    EXPECT(TOO_SHORT, read(machine, 0, NULL, 0, &value, &flag));
+    EXPECT(OK, can_apply(machine, LINKER_UTILS_AARCH64_REWRITE_NO_OP, 0, NULL, 0, 0));
+    EXPECT(OK, apply(machine, LINKER_UTILS_AARCH64_REWRITE_NO_OP, 0, NULL, 0, &offset, &addend));
+    EXPECT(TOO_SHORT, relocation_name(machine, 0, NULL, 0, &count));
+    EXPECT(OUT_OF_SECTION, jal_site(NULL, 0, 0, 0));
+    EXPECT(OUT_OF_SECTION, relax_call(NULL, 0, NULL, 0, 0, 0));
+    if (linker_utils_is_plain_call(NULL, 0, 0)) failures++;
+    EXPECT(TOO_SHORT, write_mov_sequence(NULL, 0, 0, 0));
+    EXPECT(TOO_SHORT, write_address_sequence(NULL, 0, 0, 0));
+    EXPECT(TOO_SHORT, write_ha_lo(NULL, 0, NULL, 0, 0));
+    EXPECT(TOO_SHORT, u32_from_slice(NULL, 0, &word));
+    EXPECT(TOO_SHORT, u64_from_slice(NULL, 0, &value));
+    EXPECT(TOO_SHORT, read_u32(NULL, 0, &word, &count));
+    EXPECT(ULEB128_ENDED, read_uleb128(NULL, 0, &value, &count));
+    EXPECT(OK, deltas_is_valid(NULL, 0, NULL));
+    EXPECT(OK, deltas_create(NULL, 0, NULL, 0, NULL));
+    EXPECT(OK, deltas_is_mergeable(NULL, 0, NULL, 0));
+    EXPECT(OK, deltas_merge(NULL, 0, NULL, 0, NULL, 0, NULL));
+    if (linker_utils_deltas_total_deleted(NULL, 0) != 0) failures++;
+    if (linker_utils_deltas_input_to_output(NULL, 0, 5) != 5) failures++;
+    EXPECT(OK, deltas_output_to_input(NULL, 0, 5, &value));
+    EXPECT(OK, deltas_translate_all(NULL, 0, NULL, 0, NULL, 0, NULL));
+    if (linker_utils_deltas_block_count(NULL, 0) != 0) failures++;
+    EXPECT(OK, deltas_heads(NULL, 0, NULL, 0));
+    if (linker_utils_deltas_input_to_output_by_heads(NULL, 0, NULL, 0, 5) != 5) failures++;
+    EXPECT(OK, deltas_output_to_input_by_heads(NULL, 0, NULL, 0, 5, &value));
+    if (linker_utils_packed_len(NULL, 0, NULL, 0) != 0) failures++;
+    EXPECT(OK, pack(NULL, 0, NULL, 0, NULL, 0, LINKER_UTILS_LINK_OF_JALR, NULL, 0, NULL));
+    EXPECT(UNKNOWN_LINK_REGISTER, pack(NULL, 0, NULL, 0, NULL, 0, 2, NULL, 0, NULL));
+    return failures != 0;
+}

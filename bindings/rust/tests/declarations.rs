@@ -1,0 +1,640 @@
+//! The header, this crate's declarations, the archive and the proved library's sources say the same:
+//! each function, each enum constant, each struct's size and offsets, each status's sentence.
+
+use sathunne::*;
+use std::collections::{BTreeMap, BTreeSet};
+use std::fmt::Debug;
+use std::mem::{offset_of, size_of};
+use std::path::Path;
+use std::process::Command;
+use std::sync::OnceLock;
+use std::{env, fs};
+
+fn repository(file: &str) -> String {
+    let path = Path::new(env!("CARGO_MANIFEST_DIR"))
+        .join("../..")
+        .join(file);
+    fs::read_to_string(&path).unwrap_or_else(|error| panic!("{}: {error}", path.display()))
+}
+
+// ---- what the texts declare
+
+/// A function's parameters, by name and type, and the type of its result, as `u32` and `*const u8`.
+#[derive(Debug, PartialEq, Eq)]
+struct Function {
+    parameters: Vec<(String, String)>,
+    result: String,
+}
+
+type Functions = BTreeMap<String, Function>;
+
+/// The text between an opening bracket, at the beginning, and the one that closes it, and the rest.
+fn bracketed(text: &str) -> (&str, &str) {
+    let mut depth = 0;
+    for (at, letter) in text.char_indices() {
+        match letter {
+            '(' | '{' => depth += 1,
+            ')' | '}' => depth -= 1,
+            _ => {}
+        }
+        if depth == 0 {
+            return (&text[1..at], &text[at + 1..]);
+        }
+    }
+    panic!("no bracket closes {text:.40}");
+}
+
+fn list(text: &str) -> impl Iterator<Item = String> + '_ {
+    let words = |part: &str| part.split_whitespace().collect::<Vec<_>>().join(" ");
+    text.split(',').map(words).filter(|part| !part.is_empty())
+}
+
+/// The header without comments and directives.
+fn header() -> String {
+    let whole = repository("include/linker_utils.h").replace("\\\n", " ");
+    let mut code = String::new();
+    let mut rest = whole.as_str();
+    while let Some((before, comment)) = rest.split_once("/*") {
+        code += before;
+        rest = comment.split_once("*/").expect("a comment ends").1;
+    }
+    code += rest;
+    let lines = code.lines().filter(|line| !line.starts_with('#'));
+    lines.collect::<Vec<_>>().join("\n")
+}
+
+fn type_of_c(text: &str) -> String {
+    let (words, pointer) = match text.trim().strip_suffix('*') {
+        Some(words) => (words.trim(), true),
+        None => (text.trim(), false),
+    };
+    let (name, kind) = match words.strip_prefix("const ") {
+        Some(name) => (name, "*const "),
+        None => (words, "*mut "),
+    };
+    let name = match name {
+        "uint8_t" => "u8",
+        "uint16_t" => "u16",
+        "uint32_t" => "u32",
+        "uint64_t" => "u64",
+        "int64_t" => "i64",
+        "size_t" => "usize",
+        "void" => "()",
+        "bool" => "bool",
+        "struct linker_utils_deletion" => "Deletion",
+        "struct linker_utils_delta" => "Delta",
+        "struct linker_utils_call" => "Call",
+        "struct linker_utils_block_head" => "BlockHead",
+        "struct linker_utils_relocation_info" => "RelocationInfo",
+        other => panic!("the header has a type {other}"),
+    };
+    format!("{}{name}", if pointer { kind } else { "" })
+}
+
+fn parameter_of_c(text: String) -> (String, String) {
+    let at = text.rfind(|letter: char| !letter.is_alphanumeric() && letter != '_');
+    let (kind, name) = text.split_at(at.expect("a type and a name") + 1);
+    (name.to_string(), type_of_c(kind))
+}
+
+/// The header's functions: those of the archive, and those that the header defines, with what the
+/// latter do.
+fn functions_of_c() -> (Functions, BTreeMap<String, (Function, String)>) {
+    let header = header();
+    let (mut exports, mut wrappers) = (Functions::new(), BTreeMap::new());
+    for (at, _) in header.match_indices("linker_utils_") {
+        let begin = header[..at].rfind(['\n', ';', '}']).map_or(0, |at| at + 1);
+        let name_len = header[at..].find(|letter: char| !letter.is_alphanumeric() && letter != '_');
+        let (name, rest) = header[at..].split_at(name_len.expect("no end of file"));
+        let result = header[begin..at].trim();
+        let is_declared = rest.starts_with('(') && !header[begin..].starts_with(' ');
+        if !is_declared || result.is_empty() || result == "return" {
+            continue;
+        }
+        let (parameters, rest) = bracketed(rest);
+        let inline = result.strip_prefix("static inline ");
+        if inline == Some("const char *") {
+            continue;
+        }
+        let function = Function {
+            parameters: list(parameters).map(parameter_of_c).collect(),
+            result: type_of_c(inline.unwrap_or(result)),
+        };
+        if inline.is_some() {
+            let (body, _) = bracketed(rest.trim_start());
+            wrappers.insert(name.to_string(), (function, body.to_string()));
+        } else {
+            assert!(rest.starts_with(';'), "{name} is declared");
+            exports.insert(name.to_string(), function);
+        }
+    }
+    (exports, wrappers)
+}
+
+/// The functions of Rust's and Rattle's texts that begin by these words.
+fn functions_of_rust(source: &str, begin: &str) -> Functions {
+    let mut functions = Functions::new();
+    for (at, _) in source.match_indices(begin) {
+        let text = &source[at + begin.len()..];
+        let (name, rest) = text.split_at(text.find('(').expect("parameters"));
+        let (parameters, rest) = bracketed(rest);
+        let result = rest.trim_start().strip_prefix("-> ").map_or("()", |rest| {
+            rest.split([';', '\n', ' ']).next().expect("a type")
+        });
+        let mut given = Vec::new();
+        for parameter in list(parameters) {
+            let (name, kind) = parameter.split_once(": ").expect("a name and a type");
+            match as_passed(kind) {
+                Passed::Nothing => {}
+                Passed::One(kind) => given.push((name.to_string(), kind)),
+                Passed::Slice(kind) => {
+                    given.push((name.to_string(), kind));
+                    given.push((format!("{name}_len"), "usize".to_string()));
+                }
+            }
+        }
+        let function = Function {
+            parameters: given,
+            result: result.to_string(),
+        };
+        functions.insert(name.to_string(), function);
+    }
+    functions
+}
+
+enum Passed {
+    Nothing,
+    One(String),
+    Slice(String),
+}
+
+fn as_passed(kind: &str) -> Passed {
+    let element = |kind: &str| match kind.trim() {
+        "RelaxDelta" => "Delta".to_string(),
+        other => other.to_string(),
+    };
+    if kind == "Global" {
+        return Passed::Nothing;
+    }
+    let Some(pointed) = kind.strip_prefix('&') else {
+        return Passed::One(kind.to_string());
+    };
+    let (pointed, pointer) = match pointed.strip_prefix("mut ") {
+        Some(pointed) => (pointed, "*mut "),
+        None => (pointed, "*const "),
+    };
+    match pointed.strip_prefix('[') {
+        Some(slice) => Passed::Slice(format!("{pointer}{}", element(slice.trim_end_matches(']')))),
+        None => Passed::One(format!("{pointer}{}", element(pointed))),
+    }
+}
+
+/// The sources of the proved static library.
+fn exporting_sources() -> String {
+    let folder = Path::new(env!("CARGO_MANIFEST_DIR")).join("../../crates/linker_utils_c/src");
+    let files = fs::read_dir(folder).expect("the sources are there");
+    let texts = files.map(|file| fs::read_to_string(file.expect("a file").path()));
+    texts.map(|text| text.expect("a text")).collect()
+}
+
+fn assert_same(declared: &Functions, exports: &Functions, by: &str) {
+    for (name, function) in exports {
+        assert_eq!(
+            declared.get(name),
+            Some(function),
+            "{name}, declared by {by}"
+        );
+    }
+    let beyond = declared.keys().find(|name| !exports.contains_key(*name));
+    assert_eq!(beyond, None, "declared by {by}, and not exported");
+}
+
+#[test]
+fn the_functions_are_those_of_the_library() {
+    let exports = functions_of_rust(&exporting_sources(), "pub extern \"C\" fn ");
+    assert!(exports.len() > 30, "the sources are read");
+    let (of_header, wrappers) = functions_of_c();
+    assert_same(&of_header, &exports, "the header");
+    let of_crate = functions_of_rust(&repository("bindings/rust/src/raw.rs"), "pub fn ");
+    assert_same(&of_crate, &exports, "this crate");
+
+    let archive = format!("{}/liblinker_utils.a", env!("LINKER_UTILS_FOLDER"));
+    let listed = Command::new("nm")
+        .args([
+            "--defined-only",
+            "--extern-only",
+            "--format=posix",
+            &archive,
+        ])
+        .output()
+        .expect("`nm` runs");
+    let listed = String::from_utf8(listed.stdout).expect("names");
+    let symbols: BTreeSet<&str> = listed
+        .lines()
+        .filter_map(|line| line.split_whitespace().next())
+        .filter(|name| name.starts_with("linker_utils_"))
+        .filter(|name| !name.ends_with(".o]:"))
+        .collect();
+    assert_eq!(symbols, exports.keys().map(String::as_str).collect());
+
+    // each wrapper has the parameters of what it calls, and passes them in their order
+    let called: BTreeSet<&str> = exports
+        .keys()
+        .filter_map(|name| name.strip_suffix("_nonnull"))
+        .collect();
+    assert_eq!(called, wrappers.keys().map(String::as_str).collect());
+    for (name, (wrapper, body)) in &wrappers {
+        let export = format!("{name}_nonnull");
+        assert_eq!(*wrapper, exports[&export], "{name}");
+        let at = body.find(&export).expect("it calls the export") + export.len();
+        let (arguments, _) = bracketed(&body[at..]);
+        assert_eq!(passed(arguments), names(wrapper), "{name}");
+        for (parameter, kind) in &wrapper.parameters {
+            let is_slice = names(wrapper).contains(&format!("{parameter}_len"));
+            let element = kind.replace("*const ", "").replace("*mut ", "");
+            let guard = format!("LINKER_UTILS_SLICE({}", c_element(kind, &element));
+            assert!(
+                !is_slice || arguments.contains(&format!("{guard}, {parameter})")),
+                "{name}"
+            );
+        }
+    }
+}
+
+fn names(function: &Function) -> Vec<String> {
+    let names = function.parameters.iter().map(|(name, _)| name.clone());
+    names.collect()
+}
+
+/// The parameters that the arguments of a wrapper's call are made of.
+fn passed(arguments: &str) -> Vec<String> {
+    let mut text = arguments.to_string();
+    while let Some(at) = text.find("LINKER_UTILS_SLICE(") {
+        let (inner, _) = bracketed(&text[at + "LINKER_UTILS_SLICE".len()..]);
+        let slice = inner
+            .split(',')
+            .next_back()
+            .expect("a slice")
+            .trim()
+            .to_string();
+        text.replace_range(at..at + "LINKER_UTILS_SLICE()".len() + inner.len(), &slice);
+    }
+    let arguments = list(&text).map(|argument| match argument.split_once(" ? ") {
+        Some((pointer, rest)) if rest == format!("{pointer} : &ignored") => pointer.to_string(),
+        _ => argument,
+    });
+    arguments.collect()
+}
+
+fn c_element(kind: &str, element: &str) -> String {
+    let name = match element {
+        "Delta" => "struct linker_utils_delta".to_string(),
+        "Deletion" => "struct linker_utils_deletion".to_string(),
+        "Call" => "struct linker_utils_call".to_string(),
+        "BlockHead" => "struct linker_utils_block_head".to_string(),
+        number => format!("{}_t", number.replace('u', "uint")),
+    };
+    let is_const = kind.starts_with("*const");
+    format!("{}{name}", if is_const { "const " } else { "" })
+}
+
+// ---- what a C compiler makes of the header
+
+/// The names of the header's enum constants, by enums.
+fn enums_of_c() -> BTreeMap<String, Vec<String>> {
+    let header = header();
+    let mut enums = BTreeMap::new();
+    for part in header.split("\nenum ").skip(1) {
+        let (name, rest) = part.split_at(part.find(' ').expect("a name"));
+        let (body, _) = bracketed(rest.trim_start());
+        let constants = list(body).map(|it| it.split(' ').next().expect("a name").to_string());
+        enums.insert(name.to_string(), constants.collect());
+    }
+    enums
+}
+
+/// The fields of the header's structs, with their types.
+fn structs_of_c() -> BTreeMap<String, Vec<(String, String)>> {
+    let header = header();
+    let mut structs = BTreeMap::new();
+    for part in header.split("\nstruct ").skip(1) {
+        let (name, rest) = part.split_at(part.find(' ').expect("a name"));
+        let (body, _) = bracketed(rest.trim_start());
+        let fields = body.split(';').map(str::trim).filter(|it| !it.is_empty());
+        let fields = fields.map(|it| parameter_of_c(it.to_string())).collect();
+        structs.insert(name.to_string(), fields);
+    }
+    structs
+}
+
+/// What a C program prints of the header: the numbers of its constants, the sizes of its structs and
+/// their fields' offsets, and the sentences of its statuses.
+fn printed_by_c() -> &'static BTreeMap<String, String> {
+    static PRINTED: OnceLock<BTreeMap<String, String>> = OnceLock::new();
+    PRINTED.get_or_init(print_by_c)
+}
+
+fn print_by_c() -> BTreeMap<String, String> {
+    let mut program =
+        String::from("#include <stdio.h>\n#include \"linker_utils.h\"\nint main(void) {\n");
+    for constant in enums_of_c().values().flatten() {
+        program += &format!("printf(\"{constant}=%u\\n\", (unsigned){constant});\n");
+    }
+    for (name, fields) in structs_of_c() {
+        program += &format!("printf(\"{name}=%zu\\n\", sizeof(struct {name}));\n");
+        for (field, _) in fields {
+            program += &format!(
+                "printf(\"{name}.{field}=%zu+%zu\\n\", offsetof(struct {name}, {field}), \
+                 sizeof ((struct {name} *)0)->{field});\n"
+            );
+        }
+    }
+    program += "for (unsigned i = 0; i < 30; i++) ";
+    program += "printf(\"%u=%s\\n\", i, linker_utils_status_text(i));\nreturn 0;\n}\n";
+
+    let folder = Path::new(env!("CARGO_TARGET_TMPDIR"));
+    let (source, binary) = (folder.join("header.c"), folder.join("header"));
+    fs::write(&source, program).expect("a folder for it");
+    let include = Path::new(env!("CARGO_MANIFEST_DIR")).join("../../include");
+    let compiled = Command::new("cc")
+        .args(["-std=c11", "-Wall", "-Wextra", "-Werror", "-I"])
+        .arg(include)
+        .arg(&source)
+        .arg("-o")
+        .arg(&binary)
+        .status();
+    assert!(compiled.expect("`cc` runs").success());
+    let printed = Command::new(&binary).output().expect("it runs").stdout;
+    let printed = String::from_utf8(printed).expect("text");
+    let pair = |line: &str| {
+        let (name, number) = line.split_once('=').expect("an equation");
+        (name.to_string(), number.to_string())
+    };
+    printed.lines().map(pair).collect()
+}
+
+/// The letters and digits of a name, so that `PageMask::GotBase` and `MASK_GOT_BASE` are the same.
+fn letters(name: &str) -> String {
+    let letters = name.chars().filter(|letter| letter.is_alphanumeric());
+    letters.collect::<String>().to_lowercase()
+}
+
+type Numbers = BTreeMap<String, u64>;
+
+/// The constants of one of the header's enums, without their prefix, and their numbers.
+fn constants(enums: &str, prefix: &str) -> Numbers {
+    let printed = printed_by_c();
+    let constants = &enums_of_c()[&format!("linker_utils_{enums}")];
+    let numbered = constants.iter().map(|constant| {
+        let name = constant.strip_prefix(&format!("LINKER_UTILS_{prefix}"));
+        (
+            letters(name.expect("the enum's prefix")),
+            printed[constant].parse().expect("a number"),
+        )
+    });
+    numbered.collect()
+}
+
+fn numbers<T: Debug + Copy>(all: &[T], number: impl Fn(T) -> u64) -> Numbers {
+    let name = |it: T| letters(&format!("{it:?}"));
+    all.iter().map(|&it| (name(it), number(it))).collect()
+}
+
+/// The arms `NUMBER => ..::NAME` of the proved library's sources whose path ends by these words.
+fn arms(source: &str, path: &str) -> Numbers {
+    let mut found = Numbers::new();
+    for line in source.lines() {
+        let Some((number, named)) = line.trim().split_once(" => ") else {
+            continue;
+        };
+        let (Ok(number), Some(name)) = (number.parse(), named.strip_prefix(path)) else {
+            continue;
+        };
+        let name = name.trim_end_matches(',').trim_end_matches("(n)");
+        assert_eq!(found.insert(letters(name), number), None, "{line}");
+    }
+    found
+}
+
+/// The lines `NAME = NUMBER` of a definition in the proved library's specifications.
+fn equations(specs: &str, defined: &str) -> Numbers {
+    let mut found = Numbers::new();
+    for line in specs.lines() {
+        let Some(equation) = line.strip_prefix(&format!("{defined} ")) else {
+            continue;
+        };
+        let Some((name, number)) = equation.split_once(" = ") else {
+            continue;
+        };
+        let name = name.rsplit('.').next().expect("a name");
+        found.insert(letters(name), number.parse().expect("a number"));
+    }
+    found
+}
+
+/// The variants of an enum of the proved library's, by their order.
+fn variants(source: &str, name: &str) -> Numbers {
+    let body = source
+        .split(&format!("pub enum {name} {{"))
+        .nth(1)
+        .expect("the enum");
+    let body = body.split("\n}").next().expect("its end");
+    let lines = body
+        .lines()
+        .map(str::trim)
+        .filter(|line| !line.is_empty() && !line.starts_with("//"));
+    lines
+        .enumerate()
+        .map(|(at, line)| (letters(line), at as u64))
+        .collect()
+}
+
+#[test]
+fn the_numbers_are_those_of_the_library() {
+    let code = equations(
+        &repository("crates/linker_utils_c/specs/Status.antt"),
+        "code",
+    );
+    let mut of_header = constants("status", "");
+    assert_eq!(of_header.remove("ok"), Some(0));
+    let mut statuses = code.clone();
+    assert_eq!(statuses.remove("success"), Some(0));
+    assert_eq!(of_header, statuses, "the header's statuses");
+    assert_eq!(
+        numbers(Status::ALL, |it| it.number().into()),
+        statuses,
+        "this crate's statuses"
+    );
+
+    let elf = repository("crates/linker_utils/specs/Elf.antt");
+    let machines = equations(&elf, "machine_of");
+    assert_eq!(machines.len(), 5);
+    assert_eq!(constants("architecture", ""), machines);
+    assert_eq!(
+        numbers(Architecture::ALL, |it| it.machine().into()),
+        machines
+    );
+
+    let forms = repository("crates/linker_utils_c/src/forms.rt");
+    let aarch64 = arms(&forms, "AArch64Instruction::");
+    assert_eq!(constants("aarch64_form", "AARCH64_FORM_"), aarch64);
+    assert_eq!(numbers(AArch64Form::ALL, |it| it.number().into()), aarch64);
+    let riscv = arms(&forms, "RiscVInstruction::");
+    assert_eq!(constants("riscv_form", "RISCV_FORM_"), riscv);
+    assert_eq!(numbers(RiscVForm::ALL, |it| it.number().into()), riscv);
+    let loongarch64 = arms(&forms, "LoongArch64Instruction::");
+    assert_eq!(
+        constants("loongarch64_form", "LOONGARCH64_FORM_"),
+        loongarch64
+    );
+    assert_eq!(
+        numbers(LoongArch64Form::ALL, |it| it.number().into()),
+        loongarch64
+    );
+    let ppc64 = arms(&forms, "Ppc64Instruction::");
+    assert_eq!(constants("ppc64_form", "PPC64_FORM_"), ppc64);
+    assert_eq!(numbers(Ppc64Form::ALL, |it| it.number().into()), ppc64);
+
+    let rewrites = repository("crates/linker_utils_c/src/rewrites.rt");
+    let aarch64 = arms(&rewrites, "aarch64::RelaxationKind::");
+    assert_eq!(constants("aarch64_rewrite", "AARCH64_REWRITE_"), aarch64);
+    assert_eq!(
+        numbers(AArch64Rewrite::ALL, |it| it.number().into()),
+        aarch64
+    );
+    let riscv = arms(&rewrites, "riscv64::RelaxationKind::");
+    assert_eq!(constants("riscv_rewrite", "RISCV_REWRITE_"), riscv);
+    assert_eq!(numbers(RiscVRewrite::ALL, |it| it.number().into()), riscv);
+    let loongarch64 = arms(&rewrites, "loongarch64::RelaxationKind::");
+    assert_eq!(
+        constants("loongarch64_rewrite", "LOONGARCH64_REWRITE_"),
+        loongarch64
+    );
+    assert_eq!(
+        numbers(LoongArch64Rewrite::ALL, |it| it.number().into()),
+        loongarch64
+    );
+    let ppc64 = arms(&rewrites, "ppc64::RelaxationKind::");
+    assert_eq!(constants("ppc64_rewrite", "PPC64_REWRITE_"), ppc64);
+    assert_eq!(numbers(Ppc64Rewrite::ALL, |it| it.number().into()), ppc64);
+    let x86_64 = arms(&rewrites, "x86_64::RelaxationKind::");
+    assert_eq!(constants("x86_64_rewrite", "X86_64_REWRITE_"), x86_64);
+    let of_crate = (0..100).filter_map(|number| {
+        let rewrite = X86_64Rewrite::from_numbers(number, 3)?;
+        assert_eq!(rewrite.numbers().0, number);
+        let name = format!("{rewrite:?}");
+        Some((letters(name.trim_end_matches("(3)")), number.into()))
+    });
+    assert_eq!(of_crate.collect::<Numbers>(), x86_64);
+
+    let modifiers = variants(
+        &repository("crates/linker_base/src/relaxation.rt"),
+        "RelocationModifier",
+    );
+    assert_eq!(constants("modifier", "MODIFIER_"), modifiers);
+    assert_eq!(numbers(Modifier::ALL, |it| it.number().into()), modifiers);
+    let packing = repository("crates/linker_utils_c/src/packing.rt");
+    let links = arms(&packing, "Some(LinkRegister::");
+    assert_eq!(links.len(), 2);
+    assert_eq!(constants("link_register", "LINK_"), links);
+    assert_eq!(numbers(LinkRegister::ALL, |it| it.number().into()), links);
+    let kinds = variants(
+        &repository("crates/linker_utils/src/elf.rt"),
+        "RelocationKind",
+    );
+    assert_eq!(kinds.len(), 40);
+    assert_eq!(constants("relocation_kind", "KIND_"), kinds);
+    assert_eq!(numbers(RelocationKind::ALL, |it| it.number().into()), kinds);
+    let mut masks = constants("mask", "MASK_");
+    assert_eq!(masks.remove("none"), Some(0));
+    assert_eq!(numbers(PageMask::ALL, |it| it.number().into()), masks);
+}
+
+#[test]
+fn the_statuses_say_the_same() {
+    let printed = printed_by_c();
+    for number in 1..30 {
+        let text = match Status::from_number(number) {
+            Some(status) => status.to_string(),
+            None => "No status has this number.".to_string(),
+        };
+        assert_eq!(printed[&number.to_string()], text);
+    }
+}
+
+/// Each struct's name, its size, and its fields with their offsets and sizes.
+type Layout = BTreeMap<String, (usize, Vec<(String, usize, usize)>)>;
+
+macro_rules! layout {
+    ($($name:literal: $of:ty { $($field:ident,)* })*) => {
+        Layout::from([$(($name.to_string(), (size_of::<$of>(), vec![$((
+            stringify!($field).to_string(),
+            offset_of!($of, $field),
+            field_size(|it: &$of| size_of_val(&it.$field)),
+        ),)*])),)*])
+    };
+}
+
+fn field_size<T: Default>(size: impl Fn(&T) -> usize) -> usize {
+    size(&T::default())
+}
+
+#[test]
+fn the_structs_are_those_of_the_library() {
+    let printed = printed_by_c();
+    let structs = structs_of_c();
+    let of_header = structs.iter().map(|(name, fields)| {
+        let placed = fields.iter().map(|(field, _)| {
+            let (offset, size) = printed[&format!("{name}.{field}")]
+                .split_once('+')
+                .expect("both");
+            (
+                field.clone(),
+                offset.parse().expect("a number"),
+                size.parse().expect("a number"),
+            )
+        });
+        (
+            name.clone(),
+            (printed[name].parse().expect("a number"), placed.collect()),
+        )
+    });
+    let of_crate = layout! {
+        "linker_utils_deletion": Deletion { offset, bytes, }
+        "linker_utils_call": Call { site, target, }
+        "linker_utils_block_head": BlockHead { input_offset, output_place, }
+        "linker_utils_delta": Delta { input_offset, cumulative_deleted, bytes_deleted, }
+        "linker_utils_relocation_info": raw::RelocationInfo {
+            kind, form, mask, machine, is_bits, byte_size, first_bit, end_bit, has_range, thunkable,
+            implicit_addend, min, max, alignment, bias,
+        }
+    };
+    assert_eq!(of_header.collect::<Layout>(), of_crate);
+
+    // the library's own, which are `repr(C)`, have the same fields of the same types in their order
+    let library = exporting_sources()
+        + &repository("crates/linker_base/src/relaxation.rt")
+        + &repository("crates/linker_base/src/relaxation/blocks.rt");
+    for (name, of_library) in [
+        ("linker_utils_deletion", "Deletion"),
+        ("linker_utils_call", "Call"),
+        ("linker_utils_block_head", "BlockHead"),
+        ("linker_utils_delta", "RelaxDelta"),
+        ("linker_utils_relocation_info", "RelocationInfo"),
+    ] {
+        let (before, rest) = library
+            .split_once(&format!("\npub struct {of_library} {{"))
+            .unwrap_or_else(|| panic!("{of_library} is there"));
+        let attributes = before.rsplit("\n\n").next().expect("a part");
+        assert!(attributes.contains("#[repr(C)]"), "{of_library}");
+        let body = rest.split("\n}").next().expect("its end");
+        let fields = body
+            .lines()
+            .filter_map(|line| line.trim().strip_prefix("pub "));
+        let fields = fields.filter_map(|field| field.trim_end_matches(',').split_once(": "));
+        let fields: Vec<_> = fields
+            .map(|(name, kind)| (name.to_string(), kind.to_string()))
+            .collect();
+        assert_eq!(fields, structs[name], "{of_library}");
+    }
+}

@@ -1,0 +1,19 @@
+use Rattle.std.proofs.Common.{◌≡◌, ◌-◌, ◌<◌, length, map, arith}
+use Rattle.std.proofs.lemmas.Bool.Decides.{nat_tests}
+use Rattle.std.proofs.lemmas.List.{length-map}
+use Rattle.linker_base.specs.Deltas.{deletion_of}
+use Rattle.linker_base.proofs.Search.{blank, deletion_at}
+use Rattle.linker_base.proofs.Walking.{taken_begin_below}
+use Rattle.linker_base.proofs.relaxation.cursor.RelaxCursor.is_ahead.Goals as goal
+
+-- the last delta that is passed decides
+pub returns-in-Some : goal.returns-in-Some
+returns-in-Some c =
+    let deltas = c.self.inside.deltas.now in
+    let ds = map deletion_of deltas in
+    let passed = c.self.inside.reached.passed in
+    let at : passed - 1 ≡ c.in-Some.last = omega (arith, c.in-Some.ensures.1) in
+    let within : c.in-Some.last < length deltas = omega (arith, c.in-Some.ensures.0, c.self.invariant.within) in
+    let all = taken_begin_below ds c.self.invariant.listed.valid.ascending c.args.input_offset passed (omega (arith, c.in-Some.ensures.0)) (omega (arith, length-map deltas deletion_of, c.self.invariant.within)) in
+    let here = rw (at, deletion_at deltas c.in-Some.last blank (0, 0) within) at all in
+    rw (← c.self.view_is) (λ low. here.0 (grind (arith, nat_tests)), λ below. let low = here.1 below in grind (arith, nat_tests))

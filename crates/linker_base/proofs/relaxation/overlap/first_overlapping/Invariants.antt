@@ -1,0 +1,7 @@
+use Rattle.std.proofs.Common.{◌++◌, map, take}
+use Rattle.linker_base.specs.Deletions.{AreDisjoint, IsValid}
+use Rattle.linker_base.specs.Deltas.{deletion_of}
+use Rattle.linker_base.proofs.relaxation.overlap.first_overlapping.Given as goal
+
+abbrev pub invariant-loop-at : goal.invariant-loop-at
+invariant-loop-at g l = IsValid (map deletion_of l.deltas) → AreDisjoint (map deletion_of l.deltas ++ take l.at (map g.D.AsDeletion.deletion l.additional))

@@ -1,0 +1,32 @@
+use Rattle.std.proofs.Common.{◌≡◌, map, refl, inl, inr, arith}
+use Rattle.std.proofs.lemmas.Bool.{cases_lt}
+use Rattle.std.proofs.lemmas.List.{get_or_default}
+use Rattle.linker_base.specs.Deltas.{deletion_of}
+use Rattle.linker_base.proofs.Search.{blank}
+use Rattle.linker_base.proofs.Walking.{walked_to, walked_over}
+use Rattle.linker_base.proofs.relaxation.walk.pass.Goals as goal
+
+-- the next delta doesn't begin below the offset, or there is none
+pub returns-else-deltas-reached-clause-passed : goal.returns-else-deltas-reached-clause-passed
+returns-else-deltas-reached-clause-passed c listed =
+    walked_to c.args.deltas.now listed c.args.offset c.args.from.passed c.loop-reached.reached.passed c.loop-reached.invariant.from c.loop-reached.invariant.within c.loop-reached.invariant.begun (λ _. c.if-deltas-reached.false)
+
+pub returns-after-loop-reached-clause-passed : goal.returns-after-loop-reached-clause-passed
+returns-after-loop-reached-clause-passed c listed =
+    walked_to c.args.deltas.now listed c.args.offset c.args.from.passed c.loop-reached.reached.passed c.loop-reached.invariant.from c.loop-reached.invariant.within c.loop-reached.invariant.begun (λ inside. absurd (omega arith))
+
+pub loop-reached-preserved : goal.loop-reached-preserved
+loop-reached-preserved c =
+    let deltas = c.args.deltas.now in
+    let k = c.loop-reached.reached.passed in
+    record {
+      within = omega arith;
+      from = omega (arith, c.loop-reached.invariant.from);
+      begun = λ j d low high. elim (cases_lt j k) [
+        | inl earlier ↦ c.loop-reached.invariant.begun j d low earlier
+        | inr last ↦
+            let here : j ≡ k = omega arith in
+            rw (here, get_or_default deltas k d blank c.loop-reached-test.true) c.if-deltas-reached.true
+      ];
+      walked = λ listed _. walked_over deltas listed k c.loop-reached-test.true _ _ refl (omega arith);
+    }

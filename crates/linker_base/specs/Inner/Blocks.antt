@@ -1,0 +1,33 @@
+-- What a search in deltas and the heads of their blocks reads.
+use Rattle.std.specs.Prelude.{ℕ, ◌*◌, Bool, List, length, slice_index_or}
+use Rattle.linker_base.specs.declared.relaxation.RelaxDelta.{RelaxDelta}
+use Rattle.linker_base.specs.declared.relaxation.blocks.BlockHead.{BlockHead}
+use Rattle.linker_base.specs.declared.relaxation.partition_point.Level.{Level}
+use Rattle.linker_base.specs.declared.relaxation.partition_point.Level.TheVariants.{Heads, Deltas}
+use Rattle.linker_base.specs.declared.relaxation.partition_point.Test.{Test}
+use Rattle.linker_base.specs.Blocks.{blocks_of, head_of}
+use Rattle.linker_base.specs.Inner.PartitionPoint.{passes, head_passes}
+
+abbrev pub no_delta : RelaxDelta
+no_delta = record { input_offset = 0; cumulative_deleted = 0; bytes_deleted = 0 }
+
+abbrev pub no_head : BlockHead
+no_head = record { input_offset = 0; output_place = 0 }
+
+-- how many there are in arrays, and which of them pass a test
+abbrev pub size_in : List RelaxDelta → List BlockHead → Level → ℕ
+size_in deltas heads Heads = length heads
+size_in deltas heads Deltas = length deltas
+
+abbrev pub passing_in : List RelaxDelta → List BlockHead → Level → Test → ℕ → Bool
+passing_in deltas heads Heads test at = head_passes test (slice_index_or heads at no_head)
+passing_in deltas heads Deltas test at = passes test (slice_index_or deltas at no_delta)
+
+-- and in a list with the heads that belong to it
+abbrev pub size_of : List RelaxDelta → Level → ℕ
+size_of deltas Heads = blocks_of (length deltas)
+size_of deltas Deltas = length deltas
+
+abbrev pub passing_of : List RelaxDelta → Level → Test → ℕ → Bool
+passing_of deltas Heads test at = head_passes test (head_of (slice_index_or deltas (64 * at) no_delta))
+passing_of deltas Deltas test at = passes test (slice_index_or deltas at no_delta)

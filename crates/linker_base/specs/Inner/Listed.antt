@@ -1,0 +1,48 @@
+-- What holds of the fields of deltas and of a cursor, and of what searches and tests in them find.
+use Rattle.std.specs.Prelude.{◌≡◌, ℕ, ◌+◌, ◌-◌, ◌<◌, ◌≤◌, List, length, map, take, slice_index_or, All, Any}
+use Rattle.linker_base.specs.declared.relaxation.RelaxDelta.{RelaxDelta}
+use Rattle.linker_base.specs.declared.relaxation.blocks.BlockHead.{BlockHead}
+use Rattle.linker_base.specs.declared.relaxation.walk.Reached.{Reached}
+use Rattle.linker_base.specs.Blocks.{AreHeads}
+use Rattle.linker_base.specs.Deletions.{IsValid, bytes_of}
+use Rattle.linker_base.specs.Deltas.{deletion_of}
+use Rattle.linker_base.specs.Listed.{AreValidDeltas}
+
+-- what holds of the fields of a section's deltas
+pub record IsSound (list : List RelaxDelta) (blocks : List BlockHead) : Type 0 where
+  pub deltas : AreValidDeltas list
+  pub heads : AreHeads list blocks
+
+-- the first `passed` deletions are those whose output place, the offset less the bytes deleted before, is at most y
+pub record ArePlaced (deletions : List (ℕ × ℕ)) (y passed : ℕ) : Type 0 where
+  pub before : (k : ℕ) (d : ℕ × ℕ) → k < passed → (slice_index_or deletions k d).0 ≤ y + bytes_of (take k deletions)
+  pub after : (k : ℕ) (d : ℕ × ℕ) → passed ≤ k → k < length deletions → y + bytes_of (take k deletions) < (slice_index_or deletions k d).0
+
+-- a valid list of deletions from an offset on, and the least offset that the next may have
+pub record IsRun (from next : ℕ) (deletions : List (ℕ × ℕ)) : Type 0 where
+  pub valid : IsValid deletions
+  pub rise : from ≤ next
+  pub begin : All (λ d. from ≤ d.0) deletions
+  pub end : All (λ d. (d.0 < next) × (d.0 + d.1 ≤ next)) deletions
+  pub least : (i : ℕ) → from ≤ i → All (λ d. (d.0 < i) × (d.0 + d.1 ≤ i)) deletions → next ≤ i
+
+-- some deletion stands at the offset, and each that does has these bytes
+pub record IsOnlyAt (deletions : List (ℕ × ℕ)) (offset bytes : ℕ) : Type 0 where
+  pub some : Any (λ d. d.0 ≡ offset) deletions
+  pub only : All (λ d. d.0 ≡ offset → bytes ≡ d.1) deletions
+
+-- a delta ends there: the last of the first `passed`, or 0 is the end of none
+pub record IsEndOf (deletions : List (ℕ × ℕ)) (passed end : ℕ) : Type 0 where
+  pub none : passed ≡ 0 → end ≡ 0
+  pub last : (d : ℕ × ℕ) → 0 < passed → (slice_index_or deletions (passed - 1) d).0 + (slice_index_or deletions (passed - 1) d).1 ≡ end
+
+-- what holds of how far a walk has come
+pub record IsWalked (deletions : List (ℕ × ℕ)) (reached : Reached) : Type 0 where
+  pub sum : reached.deleted ≡ bytes_of (take reached.passed deletions)
+  pub end : IsEndOf deletions reached.passed reached.end
+
+-- what holds of a cursor's fields
+pub record IsWalking (deltas : List RelaxDelta) (reached : Reached) : Type 0 where
+  pub listed : AreValidDeltas deltas
+  pub within : reached.passed ≤ length deltas
+  pub walked : IsWalked (map deletion_of deltas) reached

@@ -1,0 +1,310 @@
+//! Branchless binary search among deltas, and among the heads of their blocks.
+
+ghost use Rattle.std.specs.Prelude.{◌≡◌, ◌<◌, ◌≤◌, ◌+◌, ◌-◌, ◌*◌, ◌^◌, ℕ, Bool, List, true, false};
+ghost use Rattle.linker_base.specs.declared.relaxation.RelaxDelta.{RelaxDelta};
+ghost use Rattle.linker_base.specs.declared.relaxation.partition_point.Level.TheVariants.{Heads, Deltas};
+ghost use Rattle.linker_base.specs.declared.relaxation.partition_point.Level.{Level};
+ghost use Rattle.linker_base.specs.declared.relaxation.partition_point.Test.{Test};
+ghost use Rattle.linker_base.specs.Inner.PartitionPoint.{passes, head_passes, IsRangeOf, IsPartitioned, IsPointOf, IsNarrowed, HeadsAgree, Narrows};
+
+use super::RelaxDelta;
+use super::blocks::{BLOCK_LEN, BlockHead};
+
+/// A test that the first deltas of a valid list pass, and the others fail.
+#[derive(Clone, Copy)]
+pub(super) enum Test {
+    /// Whether it begins strictly below an offset.
+    Begins(u64),
+    /// Whether its output place, its offset less the bytes deleted before, is at most an offset.
+    IsPlaced(u64),
+}
+
+impl Test {
+    #[inline(always)]
+    pub(super) fn passes(self, delta: &RelaxDelta) -> bool
+        ensures { result ≡ passes self delta.now }
+    {
+        match self {
+            Test::Begins(offset) => delta.input_offset < offset,
+            Test::IsPlaced(offset) => delta.output_place() <= offset,
+        }
+    }
+
+    #[inline(always)]
+    pub(super) fn head_passes(self, head: &BlockHead) -> bool
+        ensures { result ≡ head_passes self head.now }
+    {
+        match self {
+            Test::Begins(offset) => head.input_offset < offset,
+            Test::IsPlaced(offset) => head.output_place <= offset,
+        }
+    }
+}
+
+/// What is searched: the heads of blocks, or the deltas.
+#[derive(Clone, Copy)]
+pub(super) enum Level {
+    Heads,
+    Deltas,
+}
+
+/// Deltas and heads that are read one at a time. Nothing is promised of their contents.
+pub(super) trait Probe {
+    /// The deltas.
+    ghost deltas: { Self → List RelaxDelta };
+
+    /// How many deltas or heads there are.
+    ghost size: { Self → Level → ℕ };
+
+    /// Which of them pass a test.
+    ghost passing: { Self → Level → Test → ℕ → Bool };
+
+    /// How many were read.
+    ghost probes: { Self → ℕ };
+
+    fn len(&self, level: Level) -> usize
+        ensures size { result ≡ size self.now level }
+        ensures blocks { 64 * size self.now Heads < size self.now Deltas + 64 }
+        ensures few { size self.now Heads < 2 ^ 59 };
+
+    fn passes(&mut self, level: Level, test: Test, at: usize) -> bool
+        requires within { at < size self.old level }
+        requires room { probes self.old < 2 ^ 63 }
+        ensures value { result ≡ passing self.old level test at }
+        ensures same_size { size self.new ≡ size self.old }
+        ensures same { passing self.new ≡ passing self.old }
+        ensures same_deltas { deltas self.new ≡ deltas self.old }
+        ensures counted { probes self.new ≤ probes self.old + 1 };
+}
+
+/// `len` elements from `start` on. All before them pass, and all after them fail.
+#[derive(Clone, Copy)]
+pub(super) struct SearchRange {
+    start: usize,
+    len: usize,
+}
+
+/// The half of the range, rounded up, in which the partition point lies.
+#[inline(always)]
+fn halve<P: Probe>(probe: &mut P, level: Level, test: Test, range: SearchRange) -> SearchRange
+    requires within { IsRangeOf range (P.size probe.old level) }
+    requires room { P.probes probe.old < 2 ^ 63 }
+    ensures same_size { P.size probe.new ≡ P.size probe.old }
+    ensures same { P.passing probe.new ≡ P.passing probe.old }
+    ensures same_deltas { P.deltas probe.new ≡ P.deltas probe.old }
+    ensures narrows { Narrows (P.passing probe.old level test) (P.size probe.old level) range (P.probes probe.old) result (P.probes probe.new) }
+    ensures half { 2 * result.len ≤ range.len + 1 }
+    ensures counted { P.probes probe.new ≤ P.probes probe.old + 1 }
+{
+    if range.len <= 1 {
+        return range;
+    }
+    let half = range.len / 2;
+    let middle = range.start + half;
+    let start = if probe.passes(level, test, middle) {
+        middle
+    } else {
+        range.start
+    };
+    SearchRange {
+        start,
+        len: range.len - half,
+    }
+}
+
+/// The part of the range in which the partition point lies, after five halvings.
+#[inline(always)]
+fn halve_five_times<P: Probe>(
+    probe: &mut P,
+    level: Level,
+    test: Test,
+    range: SearchRange,
+) -> SearchRange
+    requires within { IsRangeOf range (P.size probe.old level) }
+    requires room { P.probes probe.old < 2 ^ 62 }
+    ensures same_size { P.size probe.new ≡ P.size probe.old }
+    ensures same { P.passing probe.new ≡ P.passing probe.old }
+    ensures same_deltas { P.deltas probe.new ≡ P.deltas probe.old }
+    ensures narrows { Narrows (P.passing probe.old level test) (P.size probe.old level) range (P.probes probe.old) result (P.probes probe.new) }
+    ensures part { 32 * result.len ≤ range.len + 31 }
+    ensures counted { P.probes probe.new ≤ P.probes probe.old + 5 }
+{
+    let half = halve(probe, level, test, range);
+    let quarter = halve(probe, level, test, half);
+    let eighth = halve(probe, level, test, quarter);
+    let sixteenth = halve(probe, level, test, eighth);
+    halve(probe, level, test, sixteenth)
+}
+
+/// The quarter of the range in which the partition point lies, and up to three elements more. The
+/// three elements are read side by side, so that a long list waits for memory half as often.
+#[inline(always)]
+fn quarter<P: Probe>(probe: &mut P, level: Level, test: Test, range: SearchRange) -> SearchRange
+    requires within { IsRangeOf range (P.size probe.old level) }
+    requires long { 4 ≤ range.len }
+    requires room { P.probes probe.old < 2 ^ 62 }
+    ensures same_size { P.size probe.new ≡ P.size probe.old }
+    ensures same { P.passing probe.new ≡ P.passing probe.old }
+    ensures same_deltas { P.deltas probe.new ≡ P.deltas probe.old }
+    ensures within { IsRangeOf result (P.size probe.old level) }
+    ensures shorter { 4 * result.len ≤ range.len + 12 }
+    ensures narrowed { IsPartitioned (P.passing probe.old level test) (P.size probe.old level)
+        → IsNarrowed (P.passing probe.old level test) (P.size probe.old level) range
+        → IsNarrowed (P.passing probe.old level test) (P.size probe.old level) result }
+    ensures counted { P.probes probe.new ≤ P.probes probe.old + 3 }
+{
+    let quarter = range.len / 4;
+    let first = probe.passes(level, test, range.start + quarter) as usize;
+    let second = probe.passes(level, test, range.start + 2 * quarter) as usize;
+    let third = probe.passes(level, test, range.start + 3 * quarter) as usize;
+    SearchRange {
+        start: range.start + (first + second + third) * quarter,
+        len: range.len - 3 * quarter,
+    }
+}
+
+/// The range after five halvings, if it is longer than `limit`.
+#[inline(always)]
+fn halve_above<P: Probe>(
+    probe: &mut P,
+    level: Level,
+    test: Test,
+    range: SearchRange,
+    limit: usize,
+) -> SearchRange
+    requires within { IsRangeOf range (P.size probe.old level) }
+    requires room { P.probes probe.old < 2 ^ 62 }
+    ensures same_size { P.size probe.new ≡ P.size probe.old }
+    ensures same { P.passing probe.new ≡ P.passing probe.old }
+    ensures same_deltas { P.deltas probe.new ≡ P.deltas probe.old }
+    ensures narrows { Narrows (P.passing probe.old level test) (P.size probe.old level) range (P.probes probe.old) result (P.probes probe.new) }
+    ensures part { limit < range.len → 32 * result.len ≤ range.len + 31 }
+    ensures short { range.len ≤ limit → result.len ≤ limit }
+    ensures counted { P.probes probe.new ≤ P.probes probe.old + 5 }
+{
+    if range.len <= limit {
+        return range;
+    }
+    halve_five_times(probe, level, test, range)
+}
+
+/// The part of the range, of 1,024 elements at most, in which the partition point lies. The steps
+/// are written out, as LLVM makes a branch of what a loop selects, and that is guessed wrong half
+/// the time.
+#[inline(always)]
+fn shorten<P: Probe>(probe: &mut P, level: Level, test: Test, range: SearchRange) -> SearchRange
+    requires within { IsRangeOf range (P.size probe.old level) }
+    requires room { P.probes probe.old + range.len < 2 ^ 61 }
+    ensures same_size { P.size probe.new ≡ P.size probe.old }
+    ensures same { P.passing probe.new ≡ P.passing probe.old }
+    ensures same_deltas { P.deltas probe.new ≡ P.deltas probe.old }
+    ensures narrows { Narrows (P.passing probe.old level test) (P.size probe.old level) range (P.probes probe.old) result (P.probes probe.new) }
+    ensures short { result.len ≤ 1024 }
+    ensures room { P.probes probe.new < 2 ^ 61 + 10 }
+{
+    let mut part = range;
+    while part.len > 1048576 {
+        part = halve(probe, level, test, part);
+    }
+    let less = halve_above(probe, level, test, part, 32768);
+    halve_above(probe, level, test, less, 1024)
+}
+
+/// How many heads pass.
+#[inline(always)]
+fn search_heads<P: Probe>(probe: &mut P, test: Test) -> usize
+    requires room { P.probes probe.old < 2 ^ 33 }
+    ensures same_size { P.size probe.new ≡ P.size probe.old }
+    ensures same { P.passing probe.new ≡ P.passing probe.old }
+    ensures same_deltas { P.deltas probe.new ≡ P.deltas probe.old }
+    ensures within { result ≤ P.size probe.old Heads }
+    ensures point { IsPartitioned (P.passing probe.old Heads test) (P.size probe.old Heads)
+        → IsPointOf (P.passing probe.old Heads test) (P.size probe.old Heads) result }
+    ensures spent { (digits : ℕ) → P.size probe.old Heads < 2 ^ digits
+        → P.probes probe.new ≤ P.probes probe.old + digits + 1 }
+    ensures room { P.probes probe.new < 2 ^ 61 + 21 }
+    ensures blocks { 64 * P.size probe.old Heads < P.size probe.old Deltas + 64 }
+{
+    let all = SearchRange {
+        start: 0,
+        len: probe.len(Level::Heads),
+    };
+    let short = shorten(probe, Level::Heads, test, all);
+    let some = halve_five_times(probe, Level::Heads, test, short);
+    let last = halve_five_times(probe, Level::Heads, test, some);
+    if last.len == 0 {
+        return last.start;
+    }
+    last.start + probe.passes(Level::Heads, test, last.start) as usize
+}
+
+/// How many deltas pass, where the first of the block does and none after the block.
+#[inline(always)]
+fn search_block<P: Probe>(probe: &mut P, test: Test, block: usize) -> usize
+    requires begins { 64 * block < P.size probe.old Deltas }
+    requires room { P.probes probe.old < 2 ^ 62 - 6 }
+    ensures same_size { P.size probe.new ≡ P.size probe.old }
+    ensures same { P.passing probe.new ≡ P.passing probe.old }
+    ensures same_deltas { P.deltas probe.new ≡ P.deltas probe.old }
+    ensures within { 0 < result × (result ≤ P.size probe.old Deltas) }
+    ensures point { IsPartitioned (P.passing probe.old Deltas test) (P.size probe.old Deltas) → P.passing probe.old Deltas test (64 * block) ≡ true
+        → ((k : ℕ) → 64 * block + 64 ≤ k → k < P.size probe.old Deltas → P.passing probe.old Deltas test k ≡ false)
+        → IsPointOf (P.passing probe.old Deltas test) (P.size probe.old Deltas) result }
+    ensures spent { P.probes probe.new ≤ P.probes probe.old + 6 }
+{
+    let len = probe.len(Level::Deltas);
+    let start = BLOCK_LEN * block;
+    let all = SearchRange {
+        start,
+        len: (len - start).min(BLOCK_LEN),
+    };
+    let some = halve_five_times(probe, Level::Deltas, test, all);
+    let last = halve(probe, Level::Deltas, test, some);
+    last.start + 1
+}
+
+/// How many deltas pass, by the heads of their blocks.
+#[inline(always)]
+pub(super) fn search_blocks<P: Probe>(probe: &mut P, test: Test) -> usize
+    requires room { P.probes probe.old < 2 ^ 33 }
+    ensures same_size { P.size probe.new ≡ P.size probe.old }
+    ensures same { P.passing probe.new ≡ P.passing probe.old }
+    ensures same_deltas { P.deltas probe.new ≡ P.deltas probe.old }
+    ensures within { result ≤ P.size probe.old Deltas }
+    ensures point { IsPartitioned (P.passing probe.old Deltas test) (P.size probe.old Deltas) → HeadsAgree (P.passing probe.old Heads test) (P.passing probe.old Deltas test) (P.size probe.old Heads) (P.size probe.old Deltas)
+        → IsPointOf (P.passing probe.old Deltas test) (P.size probe.old Deltas) result }
+    ensures spent { (digits : ℕ) → P.size probe.old Heads < 2 ^ digits
+        → P.probes probe.new ≤ P.probes probe.old + digits + 7 }
+    ensures room { P.probes probe.new < 2 ^ 62 }
+{
+    match search_heads(probe, test).checked_sub(1) {
+        Some(block) => search_block(probe, test, block),
+        None => 0,
+    }
+}
+
+/// How many deltas pass, by the deltas alone.
+#[inline(always)]
+pub(super) fn search_deltas<P: Probe>(probe: &mut P, test: Test) -> usize
+    requires room { P.probes probe.old + P.size probe.old Deltas < 2 ^ 61 }
+    ensures same_size { P.size probe.new ≡ P.size probe.old }
+    ensures same { P.passing probe.new ≡ P.passing probe.old }
+    ensures same_deltas { P.deltas probe.new ≡ P.deltas probe.old }
+    ensures within { result ≤ P.size probe.old Deltas }
+    ensures point { IsPartitioned (P.passing probe.old Deltas test) (P.size probe.old Deltas)
+        → IsPointOf (P.passing probe.old Deltas test) (P.size probe.old Deltas) result }
+{
+    let mut range = SearchRange {
+        start: 0,
+        len: probe.len(Level::Deltas),
+    };
+    while range.len > 1024 {
+        range = quarter(probe, Level::Deltas, test, range);
+    }
+    let some = halve_five_times(probe, Level::Deltas, test, range);
+    let last = halve_five_times(probe, Level::Deltas, test, some);
+    if last.len == 0 {
+        return last.start;
+    }
+    last.start + probe.passes(Level::Deltas, test, last.start) as usize
+}

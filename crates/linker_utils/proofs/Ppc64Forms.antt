@@ -1,0 +1,12 @@
+-- The PowerPC64 forms keep the laws of forms.
+use Rattle.std.proofs.Common.{ℕ, ◌^◌, ◌<◌, Bool, refl}
+use Rattle.linker_base.specs.Form.{Written, MachineReads}
+use Rattle.linker_base.proofs.Immediates.{layout_machine}
+use Rattle.linker_utils.specs.Ppc64.{ppc64_form, ppc64_layout}
+use Rattle.linker_utils.specs.declared.elf.Ppc64Instruction.{Ppc64Instruction}
+use Rattle.linker_utils.specs.declared.elf.Ppc64Instruction.TheVariants.{D}
+
+pub ppc64_machine : (f : Ppc64Instruction) (v : ℕ) (neg : Bool) (before after : ℕ) → v < 2 ^ 64
+    → Written (ppc64_form f) v neg before after → MachineReads (ppc64_form f) v neg before after
+ppc64_machine D v neg before after h laid = layout_machine (ppc64_layout D) refl v neg before after h h laid
+ppc64_machine f v neg before after h laid = layout_machine (ppc64_layout f) refl v neg before after h h laid

@@ -1,0 +1,3 @@
+pub mod FormLaws
+pub mod Packing
+pub mod Runs

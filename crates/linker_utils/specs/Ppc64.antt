@@ -1,0 +1,62 @@
+-- PowerPC64: its instruction forms (Power ISA, "Instruction Formats"), and addresses in two halves (64-bit ELF V2 ABI for
+-- Power, "@ha" and "@l").
+use Rattle.std.specs.Prelude.{◌≡◌, ℕ, List, drop, Option, None, ℤ, pos, negsuc, false, ◌+ℤ◌, ◌*ℤ◌, ◌≤ℤ◌, ◌<ℤ◌, ◌^◌, ◌-◌, ◌+◌}
+use Rattle.std.specs.Int.{w32, from_le_bytes}
+use Rattle.linker_base.specs.Bits.{field, signed}
+use Rattle.linker_base.specs.Form.{Form, Layout, one_field, form_of, bits_to, unsigned, twos_complement, modulo, IsSameModulo}
+use Rattle.linker_base.specs.Rewrite.{Rewrite}
+use Rattle.linker_base.specs.declared.relaxation.RelocationModifier.{RelocationModifier}
+use Rattle.linker_base.specs.declared.relaxation.RelocationModifier.TheVariants.{Normal}
+use Rattle.linker_utils.specs.declared.elf.Ppc64Instruction.{Ppc64Instruction}
+use Rattle.linker_utils.specs.declared.elf.Ppc64Instruction.TheVariants.{D, Ds, Branch14, Branch24}
+use Rattle.linker_utils.specs.declared.ppc64.RelaxationKind.{RelaxationKind}
+use Rattle.linker_utils.specs.declared.ppc64.RelaxationKind.TheVariants.{NoOp}
+
+-- a displacement of n bits, of which those from bit `low` up stand in the word where they stand in the value
+abbrev pub displacement : ℕ → ℕ → Layout
+displacement n low =
+    one_field (record {
+      window = w32;
+      width = 64;
+      bits = n;
+      low = low;
+      read = unsigned;
+      flags = false;
+      machine = twos_complement;
+      claim = modulo n;
+      places = bits_to low (n - 1) low;
+    })
+
+abbrev pub ppc64_layout : Ppc64Instruction → Layout
+ppc64_layout D = displacement 16 0
+ppc64_layout Ds = displacement 16 2
+ppc64_layout Branch14 = displacement 16 2
+ppc64_layout Branch24 = displacement 26 2
+
+abbrev pub ppc64_form : Ppc64Instruction → Form
+ppc64_form f = form_of (ppc64_layout f)
+
+-- no rewrite of PowerPC64 changes an instruction
+abbrev pub ppc64_rewrite : RelaxationKind → Option Rewrite
+ppc64_rewrite NoOp = None
+
+abbrev pub ppc64_modifier : RelaxationKind → RelocationModifier
+ppc64_modifier NoOp = Normal
+
+-- what `addis` by the high half and `addi` by the low half add, by the words of both
+abbrev pub pair : ℕ → ℕ → ℤ
+pair ha lo = (ppc64_form D).machine ha *ℤ pos (2 ^ 16) +ℤ (ppc64_form D).machine lo
+
+-- from -2^31 - 0x8000 up, below 2^31 - 0x8000
+abbrev pub IsPairDistance : ℤ → Type 0
+IsPairDistance v = (negsuc (2 ^ 31 + 0x8000 - 1) ≤ℤ v) × (v <ℤ pos (2 ^ 31 - 0x8000))
+
+-- The pair of the words is v modulo 2^32, and v itself where the pair reaches it.
+pub record PairHolds (ha lo v : ℕ) : Type 0 where
+  pub same : IsSameModulo 32 (pair ha lo) (pos v)
+  pub exact : IsPairDistance (signed 64 v) → pair ha lo ≡ signed 64 v
+
+-- Only bits 0 to 15 of the word that bytes begin with have changed.
+pub record KeepsHigh (before after : List ℕ) : Type 0 where
+  pub high : field (from_le_bytes w32 after) 16 32 ≡ field (from_le_bytes w32 before) 16 32
+  pub rest : drop 4 after ≡ drop 4 before

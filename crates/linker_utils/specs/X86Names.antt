@@ -1,0 +1,47 @@
+-- Names and codes of the relocations of x86-64 (x86-64 psABI, "Relocation Types").
+use Rattle.std.specs.Prelude.{codes}
+use Rattle.linker_utils.specs.ElfNames.{ElfName, named, unnamed}
+use Rattle.linker_utils.specs.declared.x86_64.relocations.X86_64Relocation.{X86_64Relocation}
+use Rattle.linker_utils.specs.declared.x86_64.relocations.X86_64Relocation.TheVariants.{R_X86_64_NONE, R_X86_64_TLSDESC_CALL, R_X86_64_64, R_X86_64_32, R_X86_64_32S, R_X86_64_16, R_X86_64_8, R_X86_64_PC64, R_X86_64_GOTPC64, R_X86_64_PC32, R_X86_64_GOTPC32, R_X86_64_PC16, R_X86_64_PC8, R_X86_64_GOT32, R_X86_64_GOT64, R_X86_64_GOTOFF64, R_X86_64_PLT32, R_X86_64_PLTOFF64, R_X86_64_GOTPCREL, R_X86_64_GOTPCRELX, R_X86_64_REX_GOTPCRELX, R_X86_64_CODE_4_GOTPCRELX, R_X86_64_CODE_5_GOTPCRELX, R_X86_64_CODE_6_GOTPCRELX, R_X86_64_SIZE32, R_X86_64_SIZE64, R_X86_64_TLSGD, R_X86_64_TLSLD, R_X86_64_DTPOFF32, R_X86_64_DTPOFF64, R_X86_64_GOTTPOFF, R_X86_64_CODE_4_GOTTPOFF, R_X86_64_CODE_5_GOTTPOFF, R_X86_64_CODE_6_GOTTPOFF, R_X86_64_TPOFF32, R_X86_64_GOTPC32_TLSDESC, R_X86_64_CODE_4_GOTPC32_TLSDESC, R_X86_64_CODE_5_GOTPC32_TLSDESC, R_X86_64_CODE_6_GOTPC32_TLSDESC, Other}
+
+abbrev pub x86_64_name : X86_64Relocation → ElfName
+x86_64_name R_X86_64_NONE = named 0 (codes "R_X86_64_NONE")
+x86_64_name R_X86_64_64 = named 1 (codes "R_X86_64_64")
+x86_64_name R_X86_64_PC32 = named 2 (codes "R_X86_64_PC32")
+x86_64_name R_X86_64_GOT32 = named 3 (codes "R_X86_64_GOT32")
+x86_64_name R_X86_64_PLT32 = named 4 (codes "R_X86_64_PLT32")
+x86_64_name R_X86_64_GOTPCREL = named 9 (codes "R_X86_64_GOTPCREL")
+x86_64_name R_X86_64_32 = named 10 (codes "R_X86_64_32")
+x86_64_name R_X86_64_32S = named 11 (codes "R_X86_64_32S")
+x86_64_name R_X86_64_16 = named 12 (codes "R_X86_64_16")
+x86_64_name R_X86_64_PC16 = named 13 (codes "R_X86_64_PC16")
+x86_64_name R_X86_64_8 = named 14 (codes "R_X86_64_8")
+x86_64_name R_X86_64_PC8 = named 15 (codes "R_X86_64_PC8")
+x86_64_name R_X86_64_DTPOFF64 = named 17 (codes "R_X86_64_DTPOFF64")
+x86_64_name R_X86_64_TLSGD = named 19 (codes "R_X86_64_TLSGD")
+x86_64_name R_X86_64_TLSLD = named 20 (codes "R_X86_64_TLSLD")
+x86_64_name R_X86_64_DTPOFF32 = named 21 (codes "R_X86_64_DTPOFF32")
+x86_64_name R_X86_64_GOTTPOFF = named 22 (codes "R_X86_64_GOTTPOFF")
+x86_64_name R_X86_64_TPOFF32 = named 23 (codes "R_X86_64_TPOFF32")
+x86_64_name R_X86_64_PC64 = named 24 (codes "R_X86_64_PC64")
+x86_64_name R_X86_64_GOTOFF64 = named 25 (codes "R_X86_64_GOTOFF64")
+x86_64_name R_X86_64_GOTPC32 = named 26 (codes "R_X86_64_GOTPC32")
+x86_64_name R_X86_64_GOT64 = named 27 (codes "R_X86_64_GOT64")
+x86_64_name R_X86_64_GOTPC64 = named 29 (codes "R_X86_64_GOTPC64")
+x86_64_name R_X86_64_PLTOFF64 = named 31 (codes "R_X86_64_PLTOFF64")
+x86_64_name R_X86_64_SIZE32 = named 32 (codes "R_X86_64_SIZE32")
+x86_64_name R_X86_64_SIZE64 = named 33 (codes "R_X86_64_SIZE64")
+x86_64_name R_X86_64_GOTPC32_TLSDESC = named 34 (codes "R_X86_64_GOTPC32_TLSDESC")
+x86_64_name R_X86_64_TLSDESC_CALL = named 35 (codes "R_X86_64_TLSDESC_CALL")
+x86_64_name R_X86_64_GOTPCRELX = named 41 (codes "R_X86_64_GOTPCRELX")
+x86_64_name R_X86_64_REX_GOTPCRELX = named 42 (codes "R_X86_64_REX_GOTPCRELX")
+x86_64_name R_X86_64_CODE_4_GOTPCRELX = named 43 (codes "R_X86_64_CODE_4_GOTPCRELX")
+x86_64_name R_X86_64_CODE_4_GOTTPOFF = named 44 (codes "R_X86_64_CODE_4_GOTTPOFF")
+x86_64_name R_X86_64_CODE_4_GOTPC32_TLSDESC = named 45 (codes "R_X86_64_CODE_4_GOTPC32_TLSDESC")
+x86_64_name R_X86_64_CODE_5_GOTPCRELX = named 46 (codes "R_X86_64_CODE_5_GOTPCRELX")
+x86_64_name R_X86_64_CODE_5_GOTTPOFF = named 47 (codes "R_X86_64_CODE_5_GOTTPOFF")
+x86_64_name R_X86_64_CODE_5_GOTPC32_TLSDESC = named 48 (codes "R_X86_64_CODE_5_GOTPC32_TLSDESC")
+x86_64_name R_X86_64_CODE_6_GOTPCRELX = named 49 (codes "R_X86_64_CODE_6_GOTPCRELX")
+x86_64_name R_X86_64_CODE_6_GOTTPOFF = named 50 (codes "R_X86_64_CODE_6_GOTTPOFF")
+x86_64_name R_X86_64_CODE_6_GOTPC32_TLSDESC = named 51 (codes "R_X86_64_CODE_6_GOTPC32_TLSDESC")
+x86_64_name (Other code) = unnamed code

@@ -1,0 +1,433 @@
+//! What the relocations of PowerPC64 mean.
+
+ghost use Rattle.std.specs.Prelude.{IfSome, ◌≡◌, ◌≤◌, ◌==◌, if◌then◌else◌, Some, None};
+ghost use Rattle.linker_utils.specs.Agrees.{RowAgrees, RowFits};
+ghost use Rattle.linker_utils.specs.Ppc64Rows as rows;
+ghost use Rattle.linker_utils.specs.Ppc64Rows.{ppc64_row};
+ghost use Rattle.linker_utils.specs.ElfNames.{IsNameOf, code_of, text_of};
+ghost use Rattle.linker_utils.specs.Ppc64Names.{ppc64_name};
+
+use crate::elf::{
+    AllowedRange, Bias, Ppc64Instruction, RelocationKind, RelocationKindInfo, RelocationSize, Sign,
+};
+
+/// The relocations of PowerPC64, by their names in the 64-bit ELF V2 ABI for Power, "Relocation
+/// Types". `from_elf` takes the code that an ELF file has.
+#[allow(non_camel_case_types)]
+#[derive(Debug, Clone, Copy, PartialEq, Eq)]
+pub enum Ppc64Relocation {
+    R_PPC64_TLS,
+    R_PPC64_TLSGD,
+    R_PPC64_TLSLD,
+    R_PPC64_ADDR64,
+    R_PPC64_ADDR32,
+    R_PPC64_REL64,
+    R_PPC64_REL32,
+    R_PPC64_REL24,
+    R_PPC64_REL14,
+    R_PPC64_REL16_HA,
+    R_PPC64_REL16_LO,
+    R_PPC64_TOC16_HA,
+    R_PPC64_TOC16_LO,
+    R_PPC64_TOC16_LO_DS,
+    R_PPC64_TPREL64,
+    R_PPC64_TPREL16,
+    R_PPC64_TPREL16_LO,
+    R_PPC64_TPREL16_HI,
+    R_PPC64_TPREL16_HA,
+    R_PPC64_TPREL16_DS,
+    R_PPC64_TPREL16_LO_DS,
+    R_PPC64_DTPREL64,
+    R_PPC64_DTPREL16,
+    R_PPC64_DTPREL16_LO,
+    R_PPC64_DTPREL16_HI,
+    R_PPC64_DTPREL16_HA,
+    R_PPC64_DTPREL16_DS,
+    R_PPC64_DTPREL16_LO_DS,
+    R_PPC64_GOT_TPREL16_HA,
+    R_PPC64_GOT_TPREL16_HI,
+    R_PPC64_GOT_TPREL16_DS,
+    R_PPC64_GOT_TPREL16_LO_DS,
+    R_PPC64_GOT_TLSGD16,
+    R_PPC64_GOT_TLSGD16_LO,
+    R_PPC64_GOT_TLSGD16_HI,
+    R_PPC64_GOT_TLSGD16_HA,
+    R_PPC64_GOT_TLSLD16,
+    R_PPC64_GOT_TLSLD16_LO,
+    R_PPC64_GOT_TLSLD16_HI,
+    R_PPC64_GOT_TLSLD16_HA,
+    /// A code without a name here.
+    Other(u32),
+}
+
+impl Ppc64Relocation {
+    /// The relocation with a code, `r_type` in ELF files; `Other(code)` for a code without a name.
+    #[inline(always)]
+    pub fn from_elf(code: u32) -> Ppc64Relocation
+        ensures { IsNameOf ppc64_name code result }
+    {
+        match code {
+            1 => Ppc64Relocation::R_PPC64_ADDR32,
+            10 => Ppc64Relocation::R_PPC64_REL24,
+            11 => Ppc64Relocation::R_PPC64_REL14,
+            26 => Ppc64Relocation::R_PPC64_REL32,
+            38 => Ppc64Relocation::R_PPC64_ADDR64,
+            44 => Ppc64Relocation::R_PPC64_REL64,
+            48 => Ppc64Relocation::R_PPC64_TOC16_LO,
+            50 => Ppc64Relocation::R_PPC64_TOC16_HA,
+            64 => Ppc64Relocation::R_PPC64_TOC16_LO_DS,
+            67 => Ppc64Relocation::R_PPC64_TLS,
+            69 => Ppc64Relocation::R_PPC64_TPREL16,
+            70 => Ppc64Relocation::R_PPC64_TPREL16_LO,
+            71 => Ppc64Relocation::R_PPC64_TPREL16_HI,
+            72 => Ppc64Relocation::R_PPC64_TPREL16_HA,
+            73 => Ppc64Relocation::R_PPC64_TPREL64,
+            74 => Ppc64Relocation::R_PPC64_DTPREL16,
+            75 => Ppc64Relocation::R_PPC64_DTPREL16_LO,
+            76 => Ppc64Relocation::R_PPC64_DTPREL16_HI,
+            77 => Ppc64Relocation::R_PPC64_DTPREL16_HA,
+            78 => Ppc64Relocation::R_PPC64_DTPREL64,
+            79 => Ppc64Relocation::R_PPC64_GOT_TLSGD16,
+            80 => Ppc64Relocation::R_PPC64_GOT_TLSGD16_LO,
+            81 => Ppc64Relocation::R_PPC64_GOT_TLSGD16_HI,
+            82 => Ppc64Relocation::R_PPC64_GOT_TLSGD16_HA,
+            83 => Ppc64Relocation::R_PPC64_GOT_TLSLD16,
+            84 => Ppc64Relocation::R_PPC64_GOT_TLSLD16_LO,
+            85 => Ppc64Relocation::R_PPC64_GOT_TLSLD16_HI,
+            86 => Ppc64Relocation::R_PPC64_GOT_TLSLD16_HA,
+            87 => Ppc64Relocation::R_PPC64_GOT_TPREL16_DS,
+            88 => Ppc64Relocation::R_PPC64_GOT_TPREL16_LO_DS,
+            89 => Ppc64Relocation::R_PPC64_GOT_TPREL16_HI,
+            90 => Ppc64Relocation::R_PPC64_GOT_TPREL16_HA,
+            95 => Ppc64Relocation::R_PPC64_TPREL16_DS,
+            96 => Ppc64Relocation::R_PPC64_TPREL16_LO_DS,
+            101 => Ppc64Relocation::R_PPC64_DTPREL16_DS,
+            102 => Ppc64Relocation::R_PPC64_DTPREL16_LO_DS,
+            107 => Ppc64Relocation::R_PPC64_TLSGD,
+            108 => Ppc64Relocation::R_PPC64_TLSLD,
+            250 => Ppc64Relocation::R_PPC64_REL16_LO,
+            252 => Ppc64Relocation::R_PPC64_REL16_HA,
+            _ => Ppc64Relocation::Other(code),
+        }
+    }
+
+    /// The code, `r_type` in ELF files.
+    #[inline]
+    pub fn elf_code(self) -> u32
+        ensures { result ≡ code_of (ppc64_name self) }
+    {
+        match self {
+            Ppc64Relocation::R_PPC64_ADDR32 => 1,
+            Ppc64Relocation::R_PPC64_REL24 => 10,
+            Ppc64Relocation::R_PPC64_REL14 => 11,
+            Ppc64Relocation::R_PPC64_REL32 => 26,
+            Ppc64Relocation::R_PPC64_ADDR64 => 38,
+            Ppc64Relocation::R_PPC64_REL64 => 44,
+            Ppc64Relocation::R_PPC64_TOC16_LO => 48,
+            Ppc64Relocation::R_PPC64_TOC16_HA => 50,
+            Ppc64Relocation::R_PPC64_TOC16_LO_DS => 64,
+            Ppc64Relocation::R_PPC64_TLS => 67,
+            Ppc64Relocation::R_PPC64_TPREL16 => 69,
+            Ppc64Relocation::R_PPC64_TPREL16_LO => 70,
+            Ppc64Relocation::R_PPC64_TPREL16_HI => 71,
+            Ppc64Relocation::R_PPC64_TPREL16_HA => 72,
+            Ppc64Relocation::R_PPC64_TPREL64 => 73,
+            Ppc64Relocation::R_PPC64_DTPREL16 => 74,
+            Ppc64Relocation::R_PPC64_DTPREL16_LO => 75,
+            Ppc64Relocation::R_PPC64_DTPREL16_HI => 76,
+            Ppc64Relocation::R_PPC64_DTPREL16_HA => 77,
+            Ppc64Relocation::R_PPC64_DTPREL64 => 78,
+            Ppc64Relocation::R_PPC64_GOT_TLSGD16 => 79,
+            Ppc64Relocation::R_PPC64_GOT_TLSGD16_LO => 80,
+            Ppc64Relocation::R_PPC64_GOT_TLSGD16_HI => 81,
+            Ppc64Relocation::R_PPC64_GOT_TLSGD16_HA => 82,
+            Ppc64Relocation::R_PPC64_GOT_TLSLD16 => 83,
+            Ppc64Relocation::R_PPC64_GOT_TLSLD16_LO => 84,
+            Ppc64Relocation::R_PPC64_GOT_TLSLD16_HI => 85,
+            Ppc64Relocation::R_PPC64_GOT_TLSLD16_HA => 86,
+            Ppc64Relocation::R_PPC64_GOT_TPREL16_DS => 87,
+            Ppc64Relocation::R_PPC64_GOT_TPREL16_LO_DS => 88,
+            Ppc64Relocation::R_PPC64_GOT_TPREL16_HI => 89,
+            Ppc64Relocation::R_PPC64_GOT_TPREL16_HA => 90,
+            Ppc64Relocation::R_PPC64_TPREL16_DS => 95,
+            Ppc64Relocation::R_PPC64_TPREL16_LO_DS => 96,
+            Ppc64Relocation::R_PPC64_DTPREL16_DS => 101,
+            Ppc64Relocation::R_PPC64_DTPREL16_LO_DS => 102,
+            Ppc64Relocation::R_PPC64_TLSGD => 107,
+            Ppc64Relocation::R_PPC64_TLSLD => 108,
+            Ppc64Relocation::R_PPC64_REL16_LO => 250,
+            Ppc64Relocation::R_PPC64_REL16_HA => 252,
+            Ppc64Relocation::Other(code) => code,
+        }
+    }
+
+    /// The name, as "R_PPC64_REL24"; "unknown relocation" for `Other`.
+    pub fn name(self) -> &'static str
+        ensures { result.now ≡ text_of (ppc64_name self) }
+    {
+        match self {
+            Ppc64Relocation::R_PPC64_ADDR32 => "R_PPC64_ADDR32",
+            Ppc64Relocation::R_PPC64_REL24 => "R_PPC64_REL24",
+            Ppc64Relocation::R_PPC64_REL14 => "R_PPC64_REL14",
+            Ppc64Relocation::R_PPC64_REL32 => "R_PPC64_REL32",
+            Ppc64Relocation::R_PPC64_ADDR64 => "R_PPC64_ADDR64",
+            Ppc64Relocation::R_PPC64_REL64 => "R_PPC64_REL64",
+            Ppc64Relocation::R_PPC64_TOC16_LO => "R_PPC64_TOC16_LO",
+            Ppc64Relocation::R_PPC64_TOC16_HA => "R_PPC64_TOC16_HA",
+            Ppc64Relocation::R_PPC64_TOC16_LO_DS => "R_PPC64_TOC16_LO_DS",
+            Ppc64Relocation::R_PPC64_TLS => "R_PPC64_TLS",
+            Ppc64Relocation::R_PPC64_TPREL16 => "R_PPC64_TPREL16",
+            Ppc64Relocation::R_PPC64_TPREL16_LO => "R_PPC64_TPREL16_LO",
+            Ppc64Relocation::R_PPC64_TPREL16_HI => "R_PPC64_TPREL16_HI",
+            Ppc64Relocation::R_PPC64_TPREL16_HA => "R_PPC64_TPREL16_HA",
+            Ppc64Relocation::R_PPC64_TPREL64 => "R_PPC64_TPREL64",
+            Ppc64Relocation::R_PPC64_DTPREL16 => "R_PPC64_DTPREL16",
+            Ppc64Relocation::R_PPC64_DTPREL16_LO => "R_PPC64_DTPREL16_LO",
+            Ppc64Relocation::R_PPC64_DTPREL16_HI => "R_PPC64_DTPREL16_HI",
+            Ppc64Relocation::R_PPC64_DTPREL16_HA => "R_PPC64_DTPREL16_HA",
+            Ppc64Relocation::R_PPC64_DTPREL64 => "R_PPC64_DTPREL64",
+            Ppc64Relocation::R_PPC64_GOT_TLSGD16 => "R_PPC64_GOT_TLSGD16",
+            Ppc64Relocation::R_PPC64_GOT_TLSGD16_LO => "R_PPC64_GOT_TLSGD16_LO",
+            Ppc64Relocation::R_PPC64_GOT_TLSGD16_HI => "R_PPC64_GOT_TLSGD16_HI",
+            Ppc64Relocation::R_PPC64_GOT_TLSGD16_HA => "R_PPC64_GOT_TLSGD16_HA",
+            Ppc64Relocation::R_PPC64_GOT_TLSLD16 => "R_PPC64_GOT_TLSLD16",
+            Ppc64Relocation::R_PPC64_GOT_TLSLD16_LO => "R_PPC64_GOT_TLSLD16_LO",
+            Ppc64Relocation::R_PPC64_GOT_TLSLD16_HI => "R_PPC64_GOT_TLSLD16_HI",
+            Ppc64Relocation::R_PPC64_GOT_TLSLD16_HA => "R_PPC64_GOT_TLSLD16_HA",
+            Ppc64Relocation::R_PPC64_GOT_TPREL16_DS => "R_PPC64_GOT_TPREL16_DS",
+            Ppc64Relocation::R_PPC64_GOT_TPREL16_LO_DS => "R_PPC64_GOT_TPREL16_LO_DS",
+            Ppc64Relocation::R_PPC64_GOT_TPREL16_HI => "R_PPC64_GOT_TPREL16_HI",
+            Ppc64Relocation::R_PPC64_GOT_TPREL16_HA => "R_PPC64_GOT_TPREL16_HA",
+            Ppc64Relocation::R_PPC64_TPREL16_DS => "R_PPC64_TPREL16_DS",
+            Ppc64Relocation::R_PPC64_TPREL16_LO_DS => "R_PPC64_TPREL16_LO_DS",
+            Ppc64Relocation::R_PPC64_DTPREL16_DS => "R_PPC64_DTPREL16_DS",
+            Ppc64Relocation::R_PPC64_DTPREL16_LO_DS => "R_PPC64_DTPREL16_LO_DS",
+            Ppc64Relocation::R_PPC64_TLSGD => "R_PPC64_TLSGD",
+            Ppc64Relocation::R_PPC64_TLSLD => "R_PPC64_TLSLD",
+            Ppc64Relocation::R_PPC64_REL16_LO => "R_PPC64_REL16_LO",
+            Ppc64Relocation::R_PPC64_REL16_HA => "R_PPC64_REL16_HA",
+            Ppc64Relocation::Other(_) => "unknown relocation",
+        }
+    }
+}
+
+#[inline(always)]
+fn described(
+    kind: RelocationKind,
+    size: RelocationSize,
+    range: AllowedRange,
+    alignment: u64,
+    bias: u64,
+) -> RelocationKindInfo
+    ensures { result
+        ≡ rows.described kind size range alignment (if bias == 0 then None else Some bias) }
+{
+    RelocationKindInfo {
+        kind,
+        size,
+        mask: None,
+        range,
+        alignment,
+        bias: Bias::from_value(bias),
+        thunkable: false,
+        implicit_addend: false,
+    }
+}
+
+/// Whole bytes.
+#[inline(always)]
+fn bytes(kind: RelocationKind, count: u8, range: AllowedRange) -> RelocationKindInfo
+    ensures { result ≡ rows.bytes kind count range }
+{
+    described(kind, RelocationSize::ByteSize(count), range, 1, 0)
+}
+
+/// Bits 16 to 31 of the value plus 0x8000, since the low half is read signed.
+#[inline(always)]
+fn high_adjusted(kind: RelocationKind) -> RelocationKindInfo
+    ensures { result ≡ rows.high_adjusted kind }
+{
+    let size = RelocationSize::bit_mask_ppc64(16, 32, Ppc64Instruction::D);
+    described(kind, size, AllowedRange::no_check(), 1, 0x8000)
+}
+
+/// Bits 16 to 31.
+#[inline(always)]
+fn high(kind: RelocationKind) -> RelocationKindInfo
+    ensures { result ≡ rows.high kind }
+{
+    let size = RelocationSize::bit_mask_ppc64(16, 32, Ppc64Instruction::D);
+    described(kind, size, AllowedRange::no_check(), 1, 0)
+}
+
+/// Bits 0 to 15.
+#[inline(always)]
+fn low(kind: RelocationKind, range: AllowedRange) -> RelocationKindInfo
+    ensures { result ≡ rows.low kind range }
+{
+    let size = RelocationSize::bit_mask_ppc64(0, 16, Ppc64Instruction::D);
+    described(kind, size, range, 1, 0)
+}
+
+/// Bits 0 to 15 of a multiple of 4.
+#[inline(always)]
+fn low_ds(kind: RelocationKind, range: AllowedRange) -> RelocationKindInfo
+    ensures { result ≡ rows.low_ds kind range }
+{
+    let size = RelocationSize::bit_mask_ppc64(0, 16, Ppc64Instruction::Ds);
+    described(kind, size, range, 4, 0)
+}
+
+/// A signed distance of this many bits, a multiple of 4.
+#[inline(always)]
+fn branch(bits: u8, insn: Ppc64Instruction) -> RelocationKindInfo
+    requires some { 1 ≤ bits }
+    requires short { bits ≤ 62 }
+    ensures { result ≡ rows.branch bits insn }
+{
+    let range = AllowedRange::from_bit_size(bits.into(), Sign::Signed);
+    described(
+        RelocationKind::Relative,
+        RelocationSize::bit_mask_ppc64(0, bits, insn),
+        range,
+        4,
+        0,
+    )
+}
+
+/// What a relocation means. It takes a name; `Ppc64Relocation::from_elf` gives the name of a code.
+/// Returns `None` for `Other`. The adjusted high halves (`_HA`) have a bias of 0x8000. Checked
+/// halves have a range of 16 signed bits.
+///
+/// # Ranges of pairs
+///
+/// The halves `_HA`, `_HI` and `_LO`, as `R_PPC64_TOC16_HA` and `R_PPC64_REL16_HA`, allow every
+/// value. A `_HA` half with its signed low half is the value itself only from -2^31 - 0x8000 to
+/// 2^31 - 0x8001. Elsewhere it is the value modulo 2^32.
+#[inline]
+pub fn relocation_type_from_raw(name: Ppc64Relocation) -> Option<RelocationKindInfo>
+    ensures row { result ≡ ppc64_row name }
+    ensures agrees { IfSome result RowAgrees }
+    ensures fits { IfSome result RowFits }
+{
+    let info = match name {
+        Ppc64Relocation::R_PPC64_TLS
+        | Ppc64Relocation::R_PPC64_TLSGD
+        | Ppc64Relocation::R_PPC64_TLSLD => bytes(
+            RelocationKind::None,
+            0,
+            AllowedRange::no_check(),
+        ),
+        Ppc64Relocation::R_PPC64_ADDR64 => bytes(
+            RelocationKind::Absolute,
+            8,
+            AllowedRange::no_check(),
+        ),
+        Ppc64Relocation::R_PPC64_ADDR32 => bytes(
+            RelocationKind::Absolute,
+            4,
+            AllowedRange::new(-0x80000000, 0x100000000),
+        ),
+        Ppc64Relocation::R_PPC64_REL64 => bytes(
+            RelocationKind::Relative,
+            8,
+            AllowedRange::no_check(),
+        ),
+        Ppc64Relocation::R_PPC64_REL32 => bytes(
+            RelocationKind::Relative,
+            4,
+            AllowedRange::from_bit_size(32, Sign::Signed),
+        ),
+        Ppc64Relocation::R_PPC64_REL24 => branch(26, Ppc64Instruction::Branch24),
+        Ppc64Relocation::R_PPC64_REL14 => branch(16, Ppc64Instruction::Branch14),
+        Ppc64Relocation::R_PPC64_REL16_HA => high_adjusted(RelocationKind::Relative),
+        Ppc64Relocation::R_PPC64_REL16_LO => low(
+            RelocationKind::Relative,
+            AllowedRange::no_check(),
+        ),
+        Ppc64Relocation::R_PPC64_TOC16_HA => high_adjusted(RelocationKind::SymRelGotBase),
+        Ppc64Relocation::R_PPC64_TOC16_LO => low(
+            RelocationKind::SymRelGotBase,
+            AllowedRange::no_check(),
+        ),
+        Ppc64Relocation::R_PPC64_TOC16_LO_DS => low_ds(
+            RelocationKind::SymRelGotBase,
+            AllowedRange::no_check(),
+        ),
+        Ppc64Relocation::R_PPC64_TPREL64 => bytes(
+            RelocationKind::TpOff,
+            8,
+            AllowedRange::no_check(),
+        ),
+        Ppc64Relocation::R_PPC64_TPREL16 => low(
+            RelocationKind::TpOff,
+            AllowedRange::from_bit_size(16, Sign::Signed),
+        ),
+        Ppc64Relocation::R_PPC64_TPREL16_LO => low(RelocationKind::TpOff, AllowedRange::no_check()),
+        Ppc64Relocation::R_PPC64_TPREL16_HI => high(RelocationKind::TpOff),
+        Ppc64Relocation::R_PPC64_TPREL16_HA => high_adjusted(RelocationKind::TpOff),
+        Ppc64Relocation::R_PPC64_TPREL16_DS => low_ds(
+            RelocationKind::TpOff,
+            AllowedRange::from_bit_size(16, Sign::Signed),
+        ),
+        Ppc64Relocation::R_PPC64_TPREL16_LO_DS => low_ds(
+            RelocationKind::TpOff,
+            AllowedRange::no_check(),
+        ),
+        Ppc64Relocation::R_PPC64_DTPREL64 => bytes(
+            RelocationKind::DtpOff,
+            8,
+            AllowedRange::no_check(),
+        ),
+        Ppc64Relocation::R_PPC64_DTPREL16 => low(
+            RelocationKind::DtpOff,
+            AllowedRange::from_bit_size(16, Sign::Signed),
+        ),
+        Ppc64Relocation::R_PPC64_DTPREL16_LO => low(
+            RelocationKind::DtpOff,
+            AllowedRange::no_check(),
+        ),
+        Ppc64Relocation::R_PPC64_DTPREL16_HI => high(RelocationKind::DtpOff),
+        Ppc64Relocation::R_PPC64_DTPREL16_HA => high_adjusted(RelocationKind::DtpOff),
+        Ppc64Relocation::R_PPC64_DTPREL16_DS => low_ds(
+            RelocationKind::DtpOff,
+            AllowedRange::from_bit_size(16, Sign::Signed),
+        ),
+        Ppc64Relocation::R_PPC64_DTPREL16_LO_DS => low_ds(
+            RelocationKind::DtpOff,
+            AllowedRange::no_check(),
+        ),
+        Ppc64Relocation::R_PPC64_GOT_TPREL16_HA => high_adjusted(RelocationKind::GotTpOffGotBase),
+        Ppc64Relocation::R_PPC64_GOT_TPREL16_HI => high(RelocationKind::GotTpOffGotBase),
+        Ppc64Relocation::R_PPC64_GOT_TPREL16_DS => low_ds(
+            RelocationKind::GotTpOffGotBase,
+            AllowedRange::from_bit_size(16, Sign::Signed),
+        ),
+        Ppc64Relocation::R_PPC64_GOT_TPREL16_LO_DS => low_ds(
+            RelocationKind::GotTpOffGotBase,
+            AllowedRange::no_check(),
+        ),
+        Ppc64Relocation::R_PPC64_GOT_TLSGD16 => low(
+            RelocationKind::TlsGdGotBase,
+            AllowedRange::from_bit_size(16, Sign::Signed),
+        ),
+        Ppc64Relocation::R_PPC64_GOT_TLSGD16_LO => low(
+            RelocationKind::TlsGdGotBase,
+            AllowedRange::no_check(),
+        ),
+        Ppc64Relocation::R_PPC64_GOT_TLSGD16_HI => high(RelocationKind::TlsGdGotBase),
+        Ppc64Relocation::R_PPC64_GOT_TLSGD16_HA => high_adjusted(RelocationKind::TlsGdGotBase),
+        Ppc64Relocation::R_PPC64_GOT_TLSLD16 => low(
+            RelocationKind::TlsLdGotBase,
+            AllowedRange::from_bit_size(16, Sign::Signed),
+        ),
+        Ppc64Relocation::R_PPC64_GOT_TLSLD16_LO => low(
+            RelocationKind::TlsLdGotBase,
+            AllowedRange::no_check(),
+        ),
+        Ppc64Relocation::R_PPC64_GOT_TLSLD16_HI => high(RelocationKind::TlsLdGotBase),
+        Ppc64Relocation::R_PPC64_GOT_TLSLD16_HA => high_adjusted(RelocationKind::TlsLdGotBase),
+        Ppc64Relocation::Other(_) => return None,
+    };
+    Some(info)
+}

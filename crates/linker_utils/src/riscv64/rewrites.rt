@@ -1,0 +1,185 @@
+//! RISC-V: relaxation rewrites.
+
+ghost use Rattle.std.specs.Prelude.{◌≡◌, ◌≤◌, ◌↔◌, IsTrue, length, ◌≢◌};
+ghost use Rattle.std.specs.Int.{from_le_bytes, w16};
+ghost use Rattle.linker_base.specs.Rewrite.{CanRewrite, rewritten, offset_after, addend_after};
+ghost use Rattle.linker_base.specs.Bits.{signed};
+ghost use Rattle.linker_utils.specs.RiscV.{riscv_rewrite, riscv_modifier, hi20, lo12, IsSigned32, FitsClui, HoldsHigh};
+ghost use Rattle.linker_utils.specs.Agrees.{RowFits};
+ghost use Rattle.linker_utils.specs.RiscVRows.{clui_row};
+
+use super::relocations;
+use crate::bit_misc::BitExtraction;
+use crate::elf::{InstructionRewrite, RelocationKindInfo, RiscVInstruction};
+use crate::relaxation::RelocationModifier;
+use crate::rewrite::{has_window, overwrite};
+use crate::utils::u32_from_slice;
+
+/// A rewrite of one instruction, or of a pair whose second instruction is then deleted.
+#[derive(Debug, Clone, Copy, PartialEq, Eq)]
+pub enum RelaxationKind {
+    /// Leaves the instruction as it is; only the kind of its relocation changes.
+    NoOp,
+    /// Writes two `c.nop` in place of four bytes. Requires the C extension.
+    ReplaceWithNop,
+    /// Turns the `auipc` of an `auipc` and `jalr` pair into a `jal` of distance 0 with the
+    /// `auipc`'s destination register (RISC-V ELF psABI, "Function Call Relaxation"). The caller
+    /// deletes the `jalr` after it. If the `jalr` links another register than the `auipc`'s, as in
+    /// `tail f`, that is not the call's jump: `is_plain_call` is the test.
+    CallToJal,
+    /// Turns the first two bytes of a `lui` into a `c.lui` of immediate 0 with the `lui`'s
+    /// destination register. The caller deletes the two bytes after it.
+    Hi20ToCLui,
+    /// Leaves a `lui` whose immediate is 0 as it is; the caller deletes it.
+    Hi20Delete,
+    /// Clears bits 15 to 19: the source register of the instruction that adds the low part becomes
+    /// x0.
+    Lo12Rs1ToZero,
+}
+
+impl RelaxationKind {
+    /// Rewrites the instruction at an offset of a section. All other bytes, the offset and the
+    /// addend stay.
+    #[inline]
+    pub fn apply(self, section_bytes: &mut [u8], offset_in_section: &mut u64, addend: &mut i64)
+        requires { CanRewrite (riscv_rewrite self) section_bytes.old offset_in_section.old }
+        ensures bytes { section_bytes.new
+            ≡ rewritten (riscv_rewrite self) section_bytes.old offset_in_section.old }
+        ensures offset { offset_in_section.new
+            ≡ offset_after (riscv_rewrite self) offset_in_section.old }
+        ensures addend { addend.new ≡ addend_after (riscv_rewrite self) addend.old }
+    {
+        let _ = addend;
+        let offset = *offset_in_section;
+        match self {
+            RelaxationKind::NoOp | RelaxationKind::Hi20Delete => {}
+            RelaxationKind::ReplaceWithNop => {
+                overwrite(section_bytes, offset, &[0x01, 0x00, 0x01, 0x00]);
+            }
+            RelaxationKind::CallToJal => {
+                let auipc = u32_from_slice(&section_bytes[offset as usize..]);
+                let jal = 0x6f | (auipc >> 7 & 0x1f) << 7;
+                overwrite(section_bytes, offset, &jal.to_le_bytes());
+            }
+            RelaxationKind::Hi20ToCLui => {
+                let lui = u16_from_slice(&section_bytes[offset as usize..]);
+                let c_lui = 0x6001 | (lui >> 7 & 0x1f) << 7;
+                overwrite(section_bytes, offset, &c_lui.to_le_bytes());
+            }
+            RelaxationKind::Lo12Rs1ToZero => {
+                let word = u32_from_slice(&section_bytes[offset as usize..]);
+                let from_x0 = word >> 20 << 20 | word & 0x7fff;
+                overwrite(section_bytes, offset, &from_x0.to_le_bytes());
+            }
+        }
+    }
+
+    /// Whether `apply` may be called at an offset of a section: the bytes that it rewrites lie in
+    /// the section.
+    #[inline]
+    pub fn can_apply(self, section: &[u8], offset: u64) -> bool
+        ensures { IsTrue result ↔ CanRewrite (riscv_rewrite self) section.now offset }
+    {
+        match self {
+            RelaxationKind::NoOp | RelaxationKind::Hi20Delete => true,
+            RelaxationKind::ReplaceWithNop
+            | RelaxationKind::CallToJal
+            | RelaxationKind::Lo12Rs1ToZero => has_window(section, offset, 0, 4),
+            RelaxationKind::Hi20ToCLui => has_window(section, offset, 0, 2),
+        }
+    }
+
+    /// What happens to the next relocation: `CallToJal` and `Hi20Delete` skip it.
+    #[inline]
+    pub fn next_modifier(&self) -> RelocationModifier
+        ensures { result ≡ riscv_modifier self.now }
+    {
+        match self {
+            RelaxationKind::CallToJal | RelaxationKind::Hi20Delete => {
+                RelocationModifier::SkipNextRelocation
+            }
+            RelaxationKind::NoOp
+            | RelaxationKind::ReplaceWithNop
+            | RelaxationKind::Hi20ToCLui
+            | RelaxationKind::Lo12Rs1ToZero => RelocationModifier::Normal,
+        }
+    }
+
+    /// Whether the high part of a value is 0: bits 12 to 31 of the value plus 0x800, modulo 2^64.
+    /// If so, a value of 32 signed bits equals its signed low 12 bits, and `Hi20Delete` with
+    /// `Lo12Rs1ToZero` computes it.
+    #[inline]
+    pub fn hi20_is_zero(value: u64) -> bool
+        ensures exactly { IsTrue result ↔ (hi20 value ≡ 0) }
+        ensures low { IsTrue result → IsSigned32 (signed 64 value) → signed 64 value ≡ lo12 value }
+    {
+        value.wrapping_add(0x800).extract_bit_range(12..32) == 0
+    }
+
+    /// Whether `c.lui` holds the high part of a value: the value plus 0x800, modulo 2^64 and read
+    /// signed, divided by 4096 and rounded down, is from -32 to 31 and is not 0. If so, the
+    /// immediate of `CluiType`, and also that of `UType`, makes the value with its signed low 12
+    /// bits.
+    #[inline]
+    pub fn hi20_fits_clui(value: u64) -> bool
+        ensures exactly { IsTrue result ↔ FitsClui value }
+        ensures compressed { IsTrue result → HoldsHigh RiscVInstruction.CluiType value }
+        ensures whole { IsTrue result → HoldsHigh RiscVInstruction.UType value }
+    {
+        has_clui_high(value)
+    }
+
+    /// Whether a register can be the destination of `c.lui`: neither x0 nor x2, the stack pointer.
+    #[inline]
+    pub fn rd_valid_for_clui(rd: u32) -> bool
+        ensures { IsTrue result ↔ ((rd ≢ 0) × (rd ≢ 2)) }
+    {
+        rd != 0 && rd != 2
+    }
+
+    /// What `R_RISCV_HI20` means once its `lui` has become a `c.lui` (`Hi20ToCLui`). Its range is
+    /// wider than what `c.lui` holds: `hi20_fits_clui` is the test.
+    pub fn clui_rel_info() -> RelocationKindInfo
+        ensures row { result ≡ clui_row }
+        ensures fits { RowFits result }
+    {
+        relocations::clui_info()
+    }
+}
+
+impl InstructionRewrite for RelaxationKind {
+    ghost rewrite = { riscv_rewrite };
+
+    ghost modifier = { riscv_modifier };
+
+    #[inline(always)]
+    fn apply(self, section: &mut [u8], offset: &mut u64, addend: &mut i64) {
+        RelaxationKind::apply(self, section, offset, addend);
+    }
+
+    #[inline(always)]
+    fn can_apply(self, section: &[u8], offset: u64) -> bool {
+        RelaxationKind::can_apply(self, section, offset)
+    }
+
+    #[inline(always)]
+    fn next_modifier(&self) -> RelocationModifier {
+        RelaxationKind::next_modifier(self)
+    }
+}
+
+#[inline(always)]
+fn has_clui_high(value: u64) -> bool
+    ensures { IsTrue result ↔ FitsClui value }
+{
+    let high = value.wrapping_add(0x800).cast_signed() >> 12;
+    -32 <= high && high <= 31 && high != 0
+}
+
+#[inline(always)]
+fn u16_from_slice(bytes: &[u8]) -> u16
+    requires { 2 ≤ length bytes.now }
+    ensures { result ≡ from_le_bytes w16 bytes.now }
+{
+    u16::from_le_bytes([bytes[0], bytes[1]])
+}

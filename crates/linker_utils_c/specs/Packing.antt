@@ -1,0 +1,49 @@
+-- Packing by the numbers that C sees.
+use Rattle.std.specs.Prelude.{◌≡◌, ◌⊎◌, ℕ, zero, suc, List, Option, None, Some, map, All}
+use Rattle.linker_utils.specs.Packing.{CanJump, IsFirstRejected, IsPacked}
+use Rattle.linker_utils.specs.declared.riscv64.calls.LinkRegister.{LinkRegister}
+use Rattle.linker_utils.specs.declared.riscv64.calls.LinkRegister.TheVariants.{OfAuipc, OfJalr}
+use Rattle.linker_utils.specs.declared.riscv64.calls.CallError.TheVariants as call_errors
+use Rattle.linker_utils.specs.declared.riscv64.calls.JumpError.{JumpError}
+use Rattle.linker_utils.specs.declared.riscv64.calls.JumpError.TheVariants as jump_errors
+use Rattle.linker_utils_c.specs.declared.packing.Call.{Call}
+use Rattle.linker_utils_c.specs.declared.status.Status.{Status}
+use Rattle.linker_utils_c.specs.declared.status.Status.TheVariants.{Success, OutOfSection, SiteDeleted, OddDistance, TooFar, NotACall}
+use Rattle.linker_utils_c.specs.Status.{code}
+
+abbrev pub call_of : Call → ℕ × ℕ
+call_of call = (call.site, call.target)
+
+-- the calls as pairs of a site and a target
+abbrev pub calls_in : List Call → List (ℕ × ℕ)
+calls_in calls = map call_of calls
+
+-- the register that a number chooses
+abbrev pub named_link : ℕ → Option LinkRegister
+named_link zero = Some OfAuipc
+named_link (suc zero) = Some OfJalr
+named_link (suc (suc n)) = None
+
+-- the status of why a call can't become a jump
+abbrev pub error_status : JumpError → Status
+error_status (jump_errors.Call call_errors.OutOfSection) = OutOfSection
+error_status (jump_errors.Call call_errors.SiteDeleted) = SiteDeleted
+error_status jump_errors.NotACall = NotACall
+error_status (jump_errors.Call call_errors.OddDistance) = OddDistance
+error_status (jump_errors.Call call_errors.TooFar) = TooFar
+
+-- the section was packed, and each call can become a jump
+pub record IsPackedWhole (link : LinkRegister) (deletions : List (ℕ × ℕ)) (section : List ℕ) (calls : List (ℕ × ℕ)) (packed : List ℕ) (status : ℕ) : Type 0 where
+  pub success : status ≡ code Success
+  pub made : IsPacked link deletions section calls packed
+  pub accepted : All (CanJump link deletions section) calls
+
+-- the status says why the call at the index can't become a jump, and it is the first that can't
+pub record IsCallRejected (link : LinkRegister) (deletions : List (ℕ × ℕ)) (section : List ℕ) (calls : List (ℕ × ℕ)) (at status : ℕ) : Type 0 where
+  pub error : JumpError
+  pub says : status ≡ code (error_status error)
+  pub first : IsFirstRejected link deletions section calls at error
+
+abbrev pub IsPackedOrRejected : LinkRegister → List (ℕ × ℕ) → List ℕ → List (ℕ × ℕ) → List ℕ → ℕ → ℕ → Type 0
+IsPackedOrRejected link deletions section calls packed faulty status =
+    IsPackedWhole link deletions section calls packed status ⊎ IsCallRejected link deletions section calls faulty status

@@ -1,0 +1,101 @@
+//! Heads of the blocks of deltas, in arrays of the caller's. Searches in many deltas are faster with
+//! them.
+//!
+//! Each call is safe for any heads, and what it returns is promised of those that
+//! `linker_utils_deltas_heads` wrote of the same deltas.
+
+ghost use Rattle.std.specs.Prelude.{◌≡◌, ◌≢◌, MatchOption, length};
+ghost use Rattle.linker_base.specs.Blocks.{AreHeads, blocks_of};
+ghost use Rattle.linker_base.specs.Deletions.{IsSelected, HasInput, rank};
+ghost use Rattle.linker_base.specs.Deltas.{deletions_of};
+ghost use Rattle.linker_base.specs.Listed.{AreValidDeltas};
+ghost use Rattle.linker_utils_c.specs.Status.{code};
+
+use crate::status::Status;
+use linker_utils::relaxation::{BlockHead, DeltaSlice, RelaxDelta};
+
+/// How many blocks of 64 the deltas have; the last may be shorter.
+#[unsafe(no_mangle)]
+pub extern "C" fn linker_utils_deltas_block_count_nonnull(deltas: &[RelaxDelta]) -> usize
+    ensures { result ≡ blocks_of (length deltas.now) }
+{
+    DeltaSlice::new(deltas).block_count()
+}
+
+/// Writes the heads of the deltas' blocks, as many as `linker_utils_deltas_block_count` returns. The
+/// error is `DifferentLengths`.
+#[unsafe(no_mangle)]
+pub extern "C" fn linker_utils_deltas_heads_nonnull(
+    deltas: &[RelaxDelta],
+    heads: &mut [BlockHead],
+) -> u32
+    ensures written { length heads.old ≡ blocks_of (length deltas.now)
+        → (result ≡ code Status.Success) × AreHeads deltas.now heads.new }
+    ensures different_lengths { length heads.old ≢ blocks_of (length deltas.now)
+        → result ≡ code Status.DifferentLengths }
+    ensures unchanged { result ≢ code Status.Success → heads.new ≡ heads.old }
+{
+    let deltas = DeltaSlice::new(deltas);
+    if heads.len() != deltas.block_count() {
+        return Status::DifferentLengths.number();
+    }
+    deltas.write_heads(heads);
+    Status::Success.number()
+}
+
+/// `linker_utils_deltas_input_to_output` of deltas with the heads of their blocks. Where the heads
+/// aren't as many as blocks, it searches the deltas alone. O(log n).
+#[unsafe(no_mangle)]
+pub extern "C" fn linker_utils_deltas_input_to_output_by_heads_nonnull(
+    deltas: &[RelaxDelta],
+    heads: &[BlockHead],
+    input_offset: u64,
+) -> u64
+    ensures { AreValidDeltas deltas.now → AreHeads deltas.now heads.now
+        → result ≡ rank (deletions_of deltas.now) input_offset }
+{
+    let deltas = DeltaSlice::new(deltas);
+    match deltas.with_heads(heads) {
+        Some(blocked) => blocked.input_to_output_offset(input_offset),
+        None => deltas.input_to_output_offset(input_offset),
+    }
+}
+
+/// `linker_utils_deltas_output_to_input` of deltas with the heads of their blocks. The error is
+/// `TooLarge`. Where the heads aren't as many as blocks, it searches the deltas alone. O(log n).
+#[unsafe(no_mangle)]
+pub extern "C" fn linker_utils_deltas_output_to_input_by_heads_nonnull(
+    deltas: &[RelaxDelta],
+    heads: &[BlockHead],
+    output_offset: u64,
+    input_offset: &mut u64,
+) -> u32
+    ensures kept { AreValidDeltas deltas.now → AreHeads deltas.now heads.now
+        → HasInput (deletions_of deltas.now) output_offset
+        → (result ≡ code Status.Success)
+        × IsSelected (deletions_of deltas.now) output_offset input_offset.new }
+    ensures too_large { AreValidDeltas deltas.now → AreHeads deltas.now heads.now
+        → ¬ HasInput (deletions_of deltas.now) output_offset → result ≡ code Status.TooLarge }
+    ensures unchanged { result ≢ code Status.Success → input_offset.new ≡ input_offset.old }
+{
+    match input_by_heads(deltas, heads, output_offset) {
+        None => Status::TooLarge.number(),
+        Some(offset) => {
+            *input_offset = offset;
+            Status::Success.number()
+        }
+    }
+}
+
+#[inline(always)]
+fn input_by_heads(deltas: &[RelaxDelta], heads: &[BlockHead], output_offset: u64) -> Option<u64>
+    ensures { AreValidDeltas deltas.now → AreHeads deltas.now heads.now → MatchOption result
+        (¬ HasInput (deletions_of deltas.now) output_offset)
+        (IsSelected (deletions_of deltas.now) output_offset) }
+{
+    let deltas = DeltaSlice::new(deltas);
+    match deltas.with_heads(heads) {
+        Some(blocked) => blocked.output_to_input_offset(output_offset),
+        None => deltas.output_to_input_offset(output_offset),
+    }
+}

@@ -1,0 +1,146 @@
+//! Deletions that are merged into deltas.
+
+ghost use Rattle.std.specs.Prelude.{◌≡◌, ◌≢◌, ◌+◌, ◌++◌, ◌↔◌, ◌⊎◌, IfOk, MatchResult, length, map};
+ghost use Rattle.linker_base.specs.Deletions.{AreDisjoint, IsValid, IsSortedUnion};
+ghost use Rattle.linker_base.specs.Deltas.{deletions_of};
+ghost use Rattle.linker_base.specs.Listed.{IsFirstInvalid, IsFirstOverlapping};
+ghost use Rattle.linker_utils_c.specs.Status.{code};
+ghost use Rattle.linker_utils_c.specs.Deltas.{pairs_in, AreMerged, IsMergeError};
+
+use crate::deltas::Deletion;
+use crate::status::Status;
+use linker_utils::relaxation::{
+    AsDeletion, DeltaSlice, OutOfMemory, RelaxDelta, SectionRelaxDeltas, first_invalid,
+};
+use std::alloc::Global;
+
+/// Whether `linker_utils_deltas_merge` accepts the additional deletions, in any order. The first that
+/// applies of `InvalidDeletions`, which the deltas' own are, and `NotMergeable`. It takes no memory.
+/// For k additional deletions beside n deltas the work is O(n + k log n + k) where they ascend, and
+/// else O(n + k log n + k²).
+#[unsafe(no_mangle)]
+pub extern "C" fn linker_utils_deltas_is_mergeable_nonnull(
+    deltas: &[RelaxDelta],
+    additional: &[Deletion],
+) -> u32
+    ensures mergeable { IsValid (deletions_of deltas.now)
+        → AreDisjoint (deletions_of deltas.now ++ pairs_in additional.now)
+        → result ≡ code Status.Success }
+    ensures overlapping { IsValid (deletions_of deltas.now)
+        → ¬ AreDisjoint (deletions_of deltas.now ++ pairs_in additional.now)
+        → result ≡ code Status.NotMergeable }
+    ensures invalid { (result ≡ code Status.InvalidDeletions)
+        ↔ ¬ IsValid (deletions_of deltas.now) }
+{
+    if let Some(_) = first_invalid(deltas) {
+        return Status::InvalidDeletions.number();
+    }
+    match DeltaSlice::new(deltas).first_overlapping(additional) {
+        None => Status::Success.number(),
+        Some(_) => Status::NotMergeable.number(),
+    }
+}
+
+/// Writes the deltas of the old and the additional deletions, sorted, as many as both. The additional
+/// ones may come in any order. The first that applies of `DifferentLengths`; `InvalidDeletions`, of the
+/// delta at `faulty`; `NotMergeable`, of the additional deletion at `faulty`, which overlaps a delta or
+/// an earlier one, or ends above 2^64 - 1; and `OutOfMemory`.
+#[unsafe(no_mangle)]
+pub extern "C" fn linker_utils_deltas_merge_nonnull(
+    alloc: Global,
+    deltas: &[RelaxDelta],
+    additional: &[Deletion],
+    merged: &mut [RelaxDelta],
+    faulty: &mut usize,
+) -> u32
+    ensures merged { result ≡ code Status.Success
+        → AreMerged (deletions_of deltas.now ++ pairs_in additional.now) merged.new }
+    ensures different_lengths { (result ≡ code Status.DifferentLengths)
+        ↔ (length merged.old ≢ length deltas.now + length additional.now) }
+    ensures invalid { (result ≡ code Status.InvalidDeletions)
+        ↔ ((length merged.old ≡ length deltas.now + length additional.now)
+        × ¬ IsValid (deletions_of deltas.now)) }
+    ensures accepted { length merged.old ≡ length deltas.now + length additional.now
+        → IsValid (deletions_of deltas.now)
+        → AreDisjoint (deletions_of deltas.now ++ pairs_in additional.now)
+        → (result ≡ code Status.Success) ⊎ (result ≡ code Status.OutOfMemory) }
+    ensures overlapping { length merged.old ≡ length deltas.now + length additional.now
+        → IsValid (deletions_of deltas.now)
+        → ¬ AreDisjoint (deletions_of deltas.now ++ pairs_in additional.now)
+        → (result ≡ code Status.NotMergeable) ⊎ (result ≡ code Status.OutOfMemory) }
+    ensures unchanged { result ≢ code Status.Success → merged.new ≡ merged.old }
+    ensures faulty_delta { result ≡ code Status.InvalidDeletions
+        → IsFirstInvalid (deletions_of deltas.now) faulty.new }
+    ensures faulty_deletion { result ≡ code Status.NotMergeable
+        → IsFirstOverlapping (deletions_of deltas.now) (pairs_in additional.now) faulty.new }
+    ensures faulty_stays { result ≢ code Status.InvalidDeletions
+        → result ≢ code Status.NotMergeable → faulty.new ≡ faulty.old }
+{
+    if merged.len() < deltas.len() || merged.len() - deltas.len() != additional.len() {
+        return Status::DifferentLengths.number();
+    }
+    if let Some(at) = first_invalid(deltas) {
+        *faulty = at;
+        return Status::InvalidDeletions.number();
+    }
+    match merge(alloc, deltas, additional) {
+        Ok(section) => {
+            merged.copy_from_slice(section.deltas());
+            Status::Success.number()
+        }
+        Err(MergeError::Overlapping(at)) => {
+            *faulty = at;
+            Status::NotMergeable.number()
+        }
+        Err(MergeError::OutOfMemory) => Status::OutOfMemory.number(),
+    }
+}
+
+// Why additional deletions aren't merged.
+enum MergeError {
+    OutOfMemory,
+    // The index of the first that can't be merged.
+    Overlapping(usize),
+}
+
+impl From<OutOfMemory> for MergeError {
+    ghost use Rattle.linker_utils_c.specs.declared.merges.MergeError.TheVariants.{OutOfMemory};
+
+    ghost from_gives = { λ error e. e ≡ OutOfMemory };
+
+    fn from(_error: OutOfMemory) -> MergeError {
+        MergeError::OutOfMemory
+    }
+}
+
+fn merge(
+    alloc: Global,
+    deltas: &[RelaxDelta],
+    additional: &[Deletion],
+) -> Result<SectionRelaxDeltas, MergeError>
+    requires { IsValid (deletions_of deltas.now) }
+    ensures { MatchResult result (IsSortedUnion (deletions_of deltas.now ++ pairs_in additional.now))
+        (IsMergeError (deletions_of deltas.now) (pairs_in additional.now)) }
+{
+    let mut section = SectionRelaxDeltas::new(alloc, &pairs(alloc, deltas)?)?;
+    // Sorted, they are tested in the fewest steps.
+    let mut sorted = pairs(alloc, additional)?;
+    sorted.sort_unstable_by_key(|pair| pair.0);
+    if !section.is_mergeable(&sorted) {
+        if let Some(at) = section.as_delta_slice().first_overlapping(additional) {
+            return Err(MergeError::Overlapping(at));
+        }
+    }
+    section.merge_additional(&sorted)?;
+    Ok(section)
+}
+
+fn pairs<D: AsDeletion>(alloc: Global, deletions: &[D]) -> Result<Vec<(u64, u32)>, OutOfMemory>
+    ensures { IfOk result (λ pairs. pairs.items ≡ map D.deletion deletions.now) }
+{
+    let mut pairs = Vec::with_capacity(alloc, deletions.len())?;
+    for deletion in deletions {
+        pairs.push_reserved(deletion.as_deletion());
+    }
+    Ok(pairs)
+}

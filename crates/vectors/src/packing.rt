@@ -1,0 +1,184 @@
+//! Sections that are packed, worked by hand: the kept bytes in order, and `jal` by the RISC-V
+//! unprivileged ISA.
+
+use linker_utils::relaxation::{
+    PackError, RejectedCall, SectionRelaxDeltas, calls_apart, pack_into, pack_section, packed_len,
+};
+use linker_utils::riscv64::{CallError, JumpError, LinkRegister};
+use std::test::Fail;
+
+/// `auipc ra, 0` and `jalr ra, 0(ra)`, and `nop`.
+const CALL: [u8; 12] = [
+    0x97, 0x00, 0x00, 0x00, 0xe7, 0x80, 0x00, 0x00, 0x13, 0x00, 0x00, 0x00,
+];
+
+/// Two such calls, and `nop`.
+const TWO_CALLS: [u8; 20] = [
+    0x97, 0x00, 0x00, 0x00, 0xe7, 0x80, 0x00, 0x00, 0x97, 0x00, 0x00, 0x00, 0xe7, 0x80, 0x00, 0x00,
+    0x13, 0x00, 0x00, 0x00,
+];
+
+/// `auipc t1, 0` and `jalr zero, 0(t1)`, which is `tail`, and `nop`.
+const TAIL: [u8; 12] = [
+    0x17, 0x03, 0x00, 0x00, 0x67, 0x00, 0x03, 0x00, 0x13, 0x00, 0x00, 0x00,
+];
+
+#[derive(Clone, Copy)]
+struct Row {
+    section: &'static [u8],
+    deletions: &'static [(u64, u32)],
+    calls: &'static [(u64, u64)],
+    packed: Result<&'static [u8], PackError>,
+}
+
+// Holds whichever growth is refused: `rt try --test --fail-alloc N` refuses the Nth.
+#[test]
+fn sections_are_packed(rt: HostRuntime) -> Result<(), Fail> {
+    let rows = [
+        Row {
+            section: &CALL,
+            deletions: &[(4, 4)],
+            calls: &[(0, 8)],
+            packed: Ok(&[0xef, 0x00, 0x40, 0x00, 0x13, 0x00, 0x00, 0x00]),
+        },
+        Row {
+            section: &CALL,
+            deletions: &[(4, 4)],
+            calls: &[(0, 6)],
+            packed: Ok(&[0xef, 0x00, 0x40, 0x00, 0x13, 0x00, 0x00, 0x00]),
+        },
+        Row {
+            section: &CALL,
+            deletions: &[(4, 4)],
+            calls: &[(0, 8), (4, 0)],
+            packed: Err(PackError::Call {
+                index: 1,
+                error: CallError::SiteDeleted,
+            }),
+        },
+        Row {
+            section: &CALL,
+            deletions: &[(4, 4)],
+            calls: &[(0, 13), (4, 0)],
+            packed: Err(PackError::Call {
+                index: 0,
+                error: CallError::OutOfSection,
+            }),
+        },
+        Row {
+            section: &CALL,
+            deletions: &[(10, 4)],
+            calls: &[],
+            packed: Ok(&[0x97, 0x00, 0x00, 0x00, 0xe7, 0x80, 0x00, 0x00, 0x13, 0x00]),
+        },
+        Row {
+            section: &CALL,
+            deletions: &[(12, 4)],
+            calls: &[],
+            packed: Ok(&CALL),
+        },
+        Row {
+            section: &TWO_CALLS,
+            deletions: &[(4, 4), (12, 4)],
+            calls: &[(0, 16), (8, 0)],
+            packed: Ok(&[
+                0xef, 0x00, 0x80, 0x00, 0xef, 0xf0, 0xdf, 0xff, 0x13, 0x00, 0x00, 0x00,
+            ]),
+        },
+        Row {
+            section: &[],
+            deletions: &[],
+            calls: &[],
+            packed: Ok(&[]),
+        },
+    ];
+    for row in rows {
+        assert!(rt; SectionRelaxDeltas::is_valid(row.deletions));
+        assert!(rt; calls_apart(row.calls));
+        let Ok(deltas) = SectionRelaxDeltas::new(rt.alloc(), row.deletions) else {
+            return Ok(());
+        };
+        let packed = pack_section(rt.alloc(), row.section, &deltas, row.calls);
+        match (packed, row.packed) {
+            (Err(PackError::OutOfMemory), _) => return Ok(()),
+            (Ok(packed), Ok(want)) => assert_eq!(rt; packed.as_slice(), want),
+            (Err(error), Err(want)) => assert_eq!(rt; error, want),
+            (Ok(_), Err(_)) | (Err(_), Ok(_)) => assert!(rt; false, "{:?}", row.calls),
+        }
+    }
+    Ok(())
+}
+
+#[test]
+fn sites_ascend_by_four(rt: HostRuntime) {
+    let top = u64::MAX;
+    assert!(rt; calls_apart(&[]));
+    assert!(rt; calls_apart(&[(0, 8), (4, 0)]));
+    assert!(rt; calls_apart(&[(top - 4, 0), (top, 0)]));
+    assert!(rt; !calls_apart(&[(0, 8), (3, 0)]));
+    assert!(rt; !calls_apart(&[(4, 0), (0, 8)]));
+    assert!(rt; !calls_apart(&[(top - 1, 0), (top, 0)]));
+}
+
+#[test]
+fn packed_jumps_link_the_register_that_is_chosen(rt: HostRuntime) -> Result<(), Fail> {
+    let deletions = [(4, 4)];
+    assert!(rt; SectionRelaxDeltas::is_valid(&deletions));
+    let listed = SectionRelaxDeltas::new(rt.alloc(), &deletions)?;
+    let deltas = listed.deltas();
+    let calls = [(0u64, 8u64)];
+    assert!(rt; calls_apart(&calls));
+    for (link, jal) in [
+        (LinkRegister::OfJalr, [0x6f, 0x00, 0x40, 0x00]),
+        (LinkRegister::OfAuipc, [0x6f, 0x03, 0x40, 0x00]),
+    ] {
+        let mut out = [0; 8];
+        assert_eq!(rt; packed_len(&TAIL, deltas), out.len());
+        let packed = pack_into(&TAIL, deltas, &calls, link, &mut out);
+        assert_eq!(rt; packed, Ok(()));
+        assert_eq!(rt; &out[..4], jal.as_slice());
+        assert_eq!(rt; &out[4..], &TAIL[8..]);
+    }
+    Ok(())
+}
+
+#[test]
+fn rejected_calls_leave_the_output(rt: HostRuntime) -> Result<(), Fail> {
+    let deletions = [(4, 4)];
+    assert!(rt; SectionRelaxDeltas::is_valid(&deletions));
+    let listed = SectionRelaxDeltas::new(rt.alloc(), &deletions)?;
+    let deltas = listed.deltas();
+    // Of the second call only `nop` lies in the section.
+    for (calls, index, error) in [
+        (
+            [(0u64, 8u64), (8, 0)],
+            1,
+            JumpError::Call(CallError::OutOfSection),
+        ),
+        ([(0, 9), (8, 0)], 0, JumpError::Call(CallError::OddDistance)),
+    ] {
+        let mut out = [0xaa; 8];
+        assert!(rt; calls_apart(&calls));
+        assert_eq!(rt; packed_len(&TAIL, deltas), out.len());
+        let packed = pack_into(&TAIL, deltas, &calls, LinkRegister::OfJalr, &mut out);
+        assert_eq!(rt; packed, Err(RejectedCall { index, error }));
+        assert_eq!(rt; out, [0xaa; 8]);
+    }
+    let mut out = [0xaa; 16];
+    let calls = [(8u64, 16u64)];
+    assert!(rt; calls_apart(&calls));
+    assert_eq!(rt; packed_len(&TWO_CALLS, deltas), out.len());
+    let packed = pack_into(&TWO_CALLS, deltas, &calls, LinkRegister::OfJalr, &mut out);
+    assert_eq!(rt; packed, Ok(()));
+    let calls = [(12u64, 16u64)];
+    assert!(rt; calls_apart(&calls));
+    let packed = pack_into(&TWO_CALLS, deltas, &calls, LinkRegister::OfJalr, &mut out);
+    assert_eq!(rt;
+        packed,
+        Err(RejectedCall {
+            index: 0,
+            error: JumpError::NotACall,
+        })
+    );
+    Ok(())
+}

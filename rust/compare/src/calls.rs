@@ -1,0 +1,63 @@
+// Made by tools/erase of crates/linker_utils_c/src/calls.rt.
+//! RISC-V calls that become jumps, and tests for shorter instructions.
+
+use crate::status::Status;
+use linker_utils::elf::RiscVInstruction;
+use linker_utils::relaxation::{DeltaSlice, RelaxDelta};
+use linker_utils::riscv64::{self, CallError, RelaxationKind};
+
+/// Turns the `auipc` at a site of a section into a `jal` by a distance in bytes, with the `auipc`'s
+/// destination register. The first that applies of `OutOfSection`, `OddDistance`, `TooFar`.
+pub fn linker_utils_jal_site_nonnull(section: &mut [u8], site: u64, distance: i64) -> u32 {
+    call_status(riscv64::jal_site(section, site, distance))
+}
+
+/// Turns the call at a site into a jump to a target, in a section whose bytes stand where they stood
+/// before the deletions. The first that applies of `OutOfSection`, `SiteDeleted`, `OddDistance` and
+/// `TooFar`.
+pub fn linker_utils_relax_call_nonnull(
+    section: &mut [u8],
+    deltas: &[RelaxDelta],
+    site: u64,
+    target: u64,
+) -> u32 {
+    call_status(riscv64::relax_call_over(section, &DeltaSlice::new(deltas), site, target))
+}
+
+// The status of a call that has become a jump, or of why it hasn't.
+#[inline(always)]
+pub(crate) fn call_status(outcome: Result<(), CallError>) -> u32 {
+    match outcome {
+        Ok(()) => Status::Success.number(),
+        Err(CallError::OutOfSection) => Status::OutOfSection.number(),
+        Err(CallError::SiteDeleted) => Status::SiteDeleted.number(),
+        Err(CallError::OddDistance) => Status::OddDistance.number(),
+        Err(CallError::TooFar) => Status::TooFar.number(),
+    }
+}
+
+/// Whether the eight bytes of a plain call stand at the site: `auipc` and then `jalr` with the same
+/// register as source and as both destinations.
+pub fn linker_utils_is_plain_call_nonnull(section: &[u8], site: u64) -> bool {
+    riscv64::is_plain_call(section, site)
+}
+
+/// Whether a distance in bytes lies in the range of `jal`.
+pub fn linker_utils_distance_fits_jal(distance: i64) -> bool {
+    riscv64::distance_fits_jal(distance)
+}
+
+/// Whether the high part of a value is 0.
+pub fn linker_utils_hi20_is_zero(value: u64) -> bool {
+    RelaxationKind::hi20_is_zero(value)
+}
+
+/// Whether `c.lui` holds the high part of a value.
+pub fn linker_utils_hi20_fits_clui(value: u64) -> bool {
+    RelaxationKind::hi20_fits_clui(value)
+}
+
+/// Whether a register can be the destination of `c.lui`.
+pub fn linker_utils_rd_valid_for_clui(rd: u32) -> bool {
+    RelaxationKind::rd_valid_for_clui(rd)
+}

@@ -1,0 +1,247 @@
+//! Each export with random arguments: the static library's and the one of ordinary Rust return the
+//! same and leave the same behind.
+
+use crate::*;
+use linker_utils::relaxation::{BlockHead, RelaxDelta};
+// It links the static library.
+use sathunne as _;
+
+/// How often each export is called.
+const CALLS: usize = 100_000;
+
+/// An argument for each side.
+struct Pair<T> {
+    ours: T,
+    theirs: T,
+}
+
+/// What a value prints, field by field.
+trait Seen {
+    fn seen(&self) -> String;
+}
+
+impl<T: Seen> Pair<T> {
+    fn seen(&self) -> (String, String) {
+        (self.ours.seen(), self.theirs.seen())
+    }
+}
+
+struct Random {
+    state: u64,
+    /// While deletions are listed, the offset after the last and the bytes of all.
+    listed: Option<(u64, u64)>,
+}
+
+impl Random {
+    /// Marsaglia's xorshift.
+    fn word(&mut self) -> u64 {
+        self.state ^= self.state << 13;
+        self.state ^= self.state >> 7;
+        self.state ^= self.state << 17;
+        self.state
+    }
+
+    fn below(&mut self, bound: u64) -> u64 {
+        self.word() % bound
+    }
+
+    /// Numbers of all sizes: below 64, at powers of two and one off, at the ends, and any.
+    fn number(&mut self) -> u64 {
+        let power = 1u64 << self.below(64);
+        match self.below(8) {
+            0..3 => self.below(64),
+            3 => power,
+            4 => power.wrapping_sub(1 + self.below(2)),
+            5 => 0u64.wrapping_sub(power),
+            6 => self.below(power),
+            _ => self.word(),
+        }
+    }
+
+    /// A number for a field of a list of deletions, mostly such as a section may have.
+    fn listed(&mut self, (next, sum): (u64, u64), name: &str) -> u64 {
+        let number = match name {
+            _ if self.below(60) == 0 => self.number(),
+            "offset" | "input_offset" => next + self.below(9),
+            "bytes" | "bytes_deleted" => self.below(5),
+            "cumulative_deleted" => sum,
+            "site" => next + 4 * self.below(3),
+            "target" => self.below(48),
+            _ => self.number(),
+        };
+        self.listed = Some(match name {
+            "bytes" | "bytes_deleted" => (next + (number & 7), sum.wrapping_add(number)),
+            "offset" | "input_offset" => ((number & 0xff) + self.below(2), sum),
+            "site" => ((number & 0xff) + 4, sum),
+            _ => (next, sum),
+        });
+        number
+    }
+
+    fn value<T: Made>(&mut self, name: &str) -> Pair<T> {
+        let state = self.state;
+        let ours = T::made(self, name);
+        self.state = state;
+        let theirs = T::made(self, name);
+        Pair { ours, theirs }
+    }
+
+    fn slice<T: Made>(&mut self, name: &str) -> Pair<Vec<T>> {
+        let state = self.state;
+        let ours = T::several(self, name);
+        self.state = state;
+        let theirs = T::several(self, name);
+        Pair { ours, theirs }
+    }
+}
+
+/// A random argument, by its type and its name.
+trait Made: Sized {
+    fn made(random: &mut Random, name: &str) -> Self;
+
+    fn several(random: &mut Random, name: &str) -> Vec<Self> {
+        let len = random.below(5);
+        (0..len).map(|_| Self::made(random, name)).collect()
+    }
+}
+
+macro_rules! made {
+    ($($kind:ty),*) => {
+        $(
+            impl Made for $kind {
+                fn made(random: &mut Random, name: &str) -> $kind {
+                    if let Some(listed) = random.listed {
+                        return random.listed(listed, name) as $kind;
+                    }
+                    let number = match name {
+                        "machine" => [183, 243, 258, 21, 62, 3][random.below(6) as usize],
+                        "architecture" => random.below(6),
+                        "form" => random.below(12),
+                        "rewrite" => random.below(24),
+                        "relocation" | "r_type" => random.below(1200),
+                        "rd" => random.below(34),
+                        "link" => random.below(3),
+                        _ => random.number(),
+                    };
+                    number as $kind
+                }
+            }
+
+            impl Seen for $kind {
+                fn seen(&self) -> String {
+                    format!("{self:?}")
+                }
+            }
+        )*
+    };
+}
+
+made!(u16, u32, u64, usize, i32, i64);
+
+impl Made for bool {
+    fn made(random: &mut Random, _name: &str) -> bool {
+        random.below(2) == 1
+    }
+}
+
+impl Seen for bool {
+    fn seen(&self) -> String {
+        format!("{self:?}")
+    }
+}
+
+impl Made for u8 {
+    fn made(random: &mut Random, name: &str) -> u8 {
+        if name == "n" { random.below(8) as u8 } else { random.word() as u8 }
+    }
+
+    /// Instructions that some call takes, and any bytes.
+    fn several(random: &mut Random, _name: &str) -> Vec<u8> {
+        const WORDS: [u32; 6] = [0x97, 0x80e7, 0xf940_0000, 0xf280_0021, 0x0080_8080, 0x0001_0537];
+        let len = random.below(40) as usize;
+        let mut bytes: Vec<u8> = (0..len).map(|_| random.word() as u8).collect();
+        if random.below(2) == 0 {
+            for word in bytes.chunks_exact_mut(4) {
+                word.copy_from_slice(&WORDS[random.below(6) as usize].to_le_bytes());
+            }
+        }
+        bytes
+    }
+}
+
+impl Seen for u8 {
+    fn seen(&self) -> String {
+        format!("{self:02x}")
+    }
+}
+
+impl<T: Seen> Seen for Vec<T> {
+    fn seen(&self) -> String {
+        self.iter().map(|item| item.seen() + " ").collect()
+    }
+}
+
+macro_rules! fields {
+    ($name:ident: $($field:ident,)*) => {
+        impl Made for $name {
+            fn made(random: &mut Random, _name: &str) -> $name {
+                $name { $($field: Made::made(random, stringify!($field))),* }
+            }
+
+            fn several(random: &mut Random, name: &str) -> Vec<$name> {
+                random.listed = Some(if name == "additional" { (3, 0) } else { (0, 0) });
+                let items = (0..random.below(5)).map(|_| Made::made(random, "")).collect();
+                random.listed = None;
+                items
+            }
+        }
+
+        impl Seen for $name {
+            fn seen(&self) -> String {
+                [$(format!("{:?} ", self.$field)),*].concat()
+            }
+        }
+    };
+}
+
+fields! { RelaxDelta: input_offset, bytes_deleted, cumulative_deleted, }
+fields! { BlockHead: input_offset, output_place, }
+
+macro_rules! compare {
+    ($module:ident, $name:ident, [$($c:tt)*] -> $result:ty, |$random:ident| { $($made:tt)* },
+     [$($ours:tt)*], [$($theirs:tt)*], [$($after:tt)*]) => {
+        #[test]
+        #[allow(unused_mut)]
+        fn $name() {
+            unsafe extern "C" {
+                fn $name($($c)*) -> $result;
+            }
+            let mut $random = Random { state: 0x9e37_79b9_7f4a_7c15, listed: None };
+            let mut returned = Vec::new();
+            for _ in 0..CALLS {
+                $($made)*
+                #[allow(clippy::unit_arg)]
+                let ours: $result = $module::$name($($ours)*);
+                // SAFETY: a slice's pointer and length are its own, a reference is of one value, and
+                // the declaration is made of the export's own head.
+                let theirs = unsafe { $name($($theirs)*) };
+                let after: &[(String, String)] = &[$($after)*];
+                assert_eq!(ours, theirs, "{after:?}");
+                for (ours, theirs) in after {
+                    assert_eq!(ours, theirs, "{after:?}");
+                }
+                returned.push(ours);
+            }
+            is_met(stringify!($name), &returned);
+        }
+    };
+}
+
+/// The arguments were such that the call does not always return the same, and its 0 is met.
+fn is_met<T: PartialEq + Default>(name: &str, returned: &[T]) {
+    assert!(returned.contains(&T::default()), "{name} never returns 0");
+    let is_varied = returned.iter().any(|other| *other != returned[0]);
+    assert!(is_varied || size_of::<T>() == 0, "{name} always returns the same");
+}
+
+include!(concat!(env!("OUT_DIR"), "/exports.rs"));

@@ -1,0 +1,129 @@
+// Made by tools/erase of crates/linker_utils_c/src/deltas.rt.
+//! Deletions in a section, in arrays of the caller's.
+//!
+//! Deltas that `linker_utils_deltas_create` or `linker_utils_deltas_merge` wrote are valid: they list
+//! deletions. Each call is safe for any deltas, and what it returns is promised of valid ones.
+
+use crate::status::Status;
+use linker_utils::relaxation::{AsDeletion, DeltaSlice, RelaxDelta, first_invalid};
+
+/// Some bytes of an input section that are deleted.
+#[repr(C)]
+#[derive(Clone, Copy)]
+pub struct Deletion {
+    /// The offset in the input section of the first deleted byte.
+    pub offset: u64,
+    /// How many bytes are deleted.
+    pub bytes: u32,
+}
+
+impl AsDeletion for Deletion {
+    #[inline(always)]
+    fn as_deletion(self) -> (u64, u32) {
+        (self.offset, self.bytes)
+    }
+}
+
+/// Whether `linker_utils_deltas_create` accepts the deletions. The error is `InvalidDeletions`, and
+/// `faulty` the index of the first that ends above 2^64 - 1 or does not lie past the one before it.
+pub fn linker_utils_deltas_is_valid_nonnull(
+    deletions: &[Deletion],
+    faulty: &mut usize,
+) -> u32 {
+    match first_invalid(deletions) {
+        None => Status::Success.number(),
+        Some(at) => {
+            *faulty = at;
+            Status::InvalidDeletions.number()
+        }
+    }
+}
+
+/// Writes the deltas of the deletions, as many as these. The first that applies of
+/// `InvalidDeletions`, of the deletion at `faulty`, and `DifferentLengths`.
+pub fn linker_utils_deltas_create_nonnull(
+    deletions: &[Deletion],
+    deltas: &mut [RelaxDelta],
+    faulty: &mut usize,
+) -> u32 {
+    if let Some(at) = first_invalid(deletions) {
+        *faulty = at;
+        return Status::InvalidDeletions.number();
+    }
+    if deltas.len() != deletions.len() {
+        return Status::DifferentLengths.number();
+    }
+    fill(deletions, deltas);
+    Status::Success.number()
+}
+
+fn fill(deletions: &[Deletion], deltas: &mut [RelaxDelta]) {
+    let mut cumulative_deleted = 0;
+    for (at, &deletion) in deletions.iter().enumerate() {
+        cumulative_deleted += u64::from(deletion.bytes);
+        deltas[at] = RelaxDelta {
+            input_offset: deletion.offset,
+            cumulative_deleted,
+            bytes_deleted: deletion.bytes,
+        };
+    }
+}
+
+/// The offset in the output section of what stands at an input offset, or, inside a deletion, of
+/// what follows that. O(log n).
+pub fn linker_utils_deltas_input_to_output_nonnull(
+    deltas: &[RelaxDelta],
+    input_offset: u64,
+) -> u64 {
+    DeltaSlice::new(deltas).input_to_output_offset(input_offset)
+}
+
+/// The offset in the input section of the kept byte at an output offset. The error is `TooLarge`.
+/// O(log n).
+pub fn linker_utils_deltas_output_to_input_nonnull(
+    deltas: &[RelaxDelta],
+    output_offset: u64,
+    input_offset: &mut u64,
+) -> u32 {
+    match DeltaSlice::new(deltas).output_to_input_offset(output_offset) {
+        None => Status::TooLarge.number(),
+        Some(offset) => {
+            *input_offset = offset;
+            Status::Success.number()
+        }
+    }
+}
+
+/// The bytes that all deletions take together.
+pub fn linker_utils_deltas_total_deleted_nonnull(deltas: &[RelaxDelta]) -> u64 {
+    DeltaSlice::new(deltas).total_deleted()
+}
+
+/// Writes the output offset of each of the queries, which may not decrease, in one walk through the
+/// deltas: O(n + q). The first that applies of `DifferentLengths` and `NotAscending`, where `faulty`
+/// is the index of the first query that is less than the one before it.
+pub fn linker_utils_deltas_translate_all_nonnull(
+    deltas: &[RelaxDelta],
+    queries: &[u64],
+    outputs: &mut [u64],
+    faulty: &mut usize,
+) -> u32 {
+    if outputs.len() != queries.len() {
+        return Status::DifferentLengths.number();
+    }
+    if !DeltaSlice::can_translate_all(queries) {
+        *faulty = first_decrease(queries);
+        return Status::NotAscending.number();
+    }
+    DeltaSlice::new(deltas).translate_all(queries, outputs);
+    Status::Success.number()
+}
+
+// The index of the first query that is less than the one before it.
+fn first_decrease(queries: &[u64]) -> usize {
+    let mut at = 1;
+    while queries[at - 1] <= queries[at] {
+        at += 1;
+    }
+    at
+}

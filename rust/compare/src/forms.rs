@@ -1,0 +1,216 @@
+// Made by tools/erase of crates/linker_utils_c/src/forms.rt.
+//! Values in the immediates of instructions, by `e_machine` and a form's number.
+
+use crate::status::Status;
+use linker_utils::elf::{
+    AArch64Instruction, Architecture, InstructionForm, LoongArch64Instruction, Ppc64Instruction,
+    RelocationInstruction, RiscVInstruction,
+};
+
+#[inline(always)]
+fn aarch64_form(number: u32) -> Option<AArch64Instruction> {
+    let form = match number {
+        0 => AArch64Instruction::Adr,
+        1 => AArch64Instruction::Movkz,
+        2 => AArch64Instruction::Movnz,
+        3 => AArch64Instruction::Ldr,
+        4 => AArch64Instruction::LdrRegister,
+        5 => AArch64Instruction::Add,
+        6 => AArch64Instruction::LdSt,
+        7 => AArch64Instruction::TstBr,
+        8 => AArch64Instruction::Bcond,
+        9 => AArch64Instruction::JumpCall,
+        10 => AArch64Instruction::MachOLow12,
+        _ => return None,
+    };
+    Some(form)
+}
+
+#[inline(always)]
+fn riscv_form(number: u32) -> Option<RiscVInstruction> {
+    let form = match number {
+        0 => RiscVInstruction::UType,
+        1 => RiscVInstruction::IType,
+        2 => RiscVInstruction::SType,
+        3 => RiscVInstruction::BType,
+        4 => RiscVInstruction::JType,
+        5 => RiscVInstruction::CbType,
+        6 => RiscVInstruction::CjType,
+        7 => RiscVInstruction::CluiType,
+        8 => RiscVInstruction::UiType,
+        _ => return None,
+    };
+    Some(form)
+}
+
+#[inline(always)]
+fn loongarch64_form(number: u32) -> Option<LoongArch64Instruction> {
+    let form = match number {
+        0 => LoongArch64Instruction::Shift5,
+        1 => LoongArch64Instruction::Shift10,
+        2 => LoongArch64Instruction::Branch26,
+        3 => LoongArch64Instruction::Branch21,
+        4 => LoongArch64Instruction::Call30,
+        5 => LoongArch64Instruction::Call36,
+        _ => return None,
+    };
+    Some(form)
+}
+
+#[inline(always)]
+fn ppc64_form(number: u32) -> Option<Ppc64Instruction> {
+    let form = match number {
+        0 => Ppc64Instruction::D,
+        1 => Ppc64Instruction::Ds,
+        2 => Ppc64Instruction::Branch14,
+        3 => Ppc64Instruction::Branch24,
+        _ => return None,
+    };
+    Some(form)
+}
+
+/// The form of a machine and a number, or which of the two is unknown.
+#[inline(always)]
+fn form_of(machine: u16, form: u32) -> Result<RelocationInstruction, Status> {
+    let Some(architecture) = Architecture::from_machine(machine) else {
+        return Err(Status::UnknownArchitecture);
+    };
+    let named = match architecture {
+        Architecture::AArch64 => aarch64_form(form).map(RelocationInstruction::AArch64),
+        Architecture::RiscV => riscv_form(form).map(RelocationInstruction::RiscV),
+        Architecture::LoongArch64 => loongarch64_form(form).map(RelocationInstruction::LoongArch64),
+        Architecture::Ppc64 => ppc64_form(form).map(RelocationInstruction::Ppc64),
+        Architecture::X86_64 => return Err(Status::UnknownArchitecture),
+    };
+    named.ok_or(Status::UnknownForm)
+}
+
+/// The length in bytes of a form's window, into `window`. The errors are `UnknownArchitecture` and
+/// `UnknownForm`.
+pub fn linker_utils_window(machine: u16, form: u32, window: &mut usize) -> u32 {
+    match form_of(machine, form) {
+        Ok(named) => {
+            *window = named.window();
+            Status::Success.number()
+        }
+        Err(status) => status.number(),
+    }
+}
+
+/// Whether `linker_utils_write` of the value to these bytes would succeed: the status is that of the
+/// write.
+pub fn linker_utils_fits_nonnull(
+    machine: u16,
+    form: u32,
+    value: u64,
+    bytes: &[u8],
+) -> u32 {
+    match form_of(machine, form) {
+        Ok(named) => fit(named, value, bytes).number(),
+        Err(status) => status.number(),
+    }
+}
+
+#[inline(always)]
+fn fit<F: InstructionForm>(form: F, value: u64, bytes: &[u8]) -> Status {
+    if bytes.len() < form.window() {
+        return Status::TooShort;
+    }
+    if !form.fits(value, bytes) {
+        return Status::DoesNotFit;
+    }
+    Status::Success
+}
+
+// Writes a value by a form, if there is one.
+#[inline(always)]
+fn write_by<F: InstructionForm>(
+    form: Option<F>,
+    value: u64,
+    negative: bool,
+    dest: &mut [u8],
+) -> Status {
+    let Some(named) = form else {
+        return Status::UnknownForm;
+    };
+    let status = fit(named, value, dest);
+    if status != Status::Success {
+        return status;
+    }
+    named.write(value, negative, dest);
+    Status::Success
+}
+
+/// Writes a value and its sign into the instruction that `dest` begins with, and changes no bit but
+/// the form's. The error is the first that applies of `UnknownArchitecture`, `UnknownForm`, `TooShort`
+/// with fewer bytes than the window, and `DoesNotFit`.
+pub fn linker_utils_write_nonnull(
+    machine: u16,
+    form: u32,
+    value: u64,
+    negative: bool,
+    dest: &mut [u8],
+) -> u32 {
+    let Some(architecture) = Architecture::from_machine(machine) else {
+        return Status::UnknownArchitecture.number();
+    };
+    match architecture {
+        Architecture::AArch64 => write_by(aarch64_form(form), value, negative, dest).number(),
+        Architecture::RiscV => write_by(riscv_form(form), value, negative, dest).number(),
+        Architecture::LoongArch64 => write_by(
+            loongarch64_form(form),
+            value,
+            negative,
+            dest,
+        ).number(),
+        Architecture::Ppc64 => write_by(ppc64_form(form), value, negative, dest).number(),
+        Architecture::X86_64 => Status::UnknownArchitecture.number(),
+    }
+}
+
+// Reads a value by a form, if there is one.
+#[inline(always)]
+fn read_by<F: InstructionForm>(
+    form: Option<F>,
+    bytes: &[u8],
+    value: &mut u64,
+    negative: &mut u8,
+) -> Status {
+    let Some(named) = form else {
+        return Status::UnknownForm;
+    };
+    if bytes.len() < named.window() {
+        return Status::TooShort;
+    }
+    let (number, flag) = named.read(bytes);
+    *value = number;
+    *negative = u8::from(flag);
+    Status::Success
+}
+
+/// Reads the value in the instruction that `bytes` begins with, modulo 2^64, and the form's flag, 0 or
+/// 1. The error is the first that applies of `UnknownArchitecture`, `UnknownForm`, and `TooShort` with
+/// fewer bytes than the window.
+pub fn linker_utils_read_nonnull(
+    machine: u16,
+    form: u32,
+    bytes: &[u8],
+    value: &mut u64,
+    negative: &mut u8,
+) -> u32 {
+    let Some(architecture) = Architecture::from_machine(machine) else {
+        return Status::UnknownArchitecture.number();
+    };
+    match architecture {
+        Architecture::AArch64 => read_by(aarch64_form(form), bytes, value, negative).number(),
+        Architecture::RiscV => read_by(riscv_form(form), bytes, value, negative).number(),
+        Architecture::LoongArch64 => read_by(
+            loongarch64_form(form),
+            bytes,
+            value,
+            negative,
+        ).number(),
+        Architecture::Ppc64 => read_by(ppc64_form(form), bytes, value, negative).number(),
+        Architecture::X86_64 => Status::UnknownArchitecture.number(),
+    }
+}

@@ -1,0 +1,68 @@
+// Made by tools/erase of crates/linker_utils_c/src/heads.rt.
+//! Heads of the blocks of deltas, in arrays of the caller's. Searches in many deltas are faster with
+//! them.
+//!
+//! Each call is safe for any heads, and what it returns is promised of those that
+//! `linker_utils_deltas_heads` wrote of the same deltas.
+
+use crate::status::Status;
+use linker_utils::relaxation::{BlockHead, DeltaSlice, RelaxDelta};
+
+/// How many blocks of 64 the deltas have; the last may be shorter.
+pub fn linker_utils_deltas_block_count_nonnull(deltas: &[RelaxDelta]) -> usize {
+    DeltaSlice::new(deltas).block_count()
+}
+
+/// Writes the heads of the deltas' blocks, as many as `linker_utils_deltas_block_count` returns. The
+/// error is `DifferentLengths`.
+pub fn linker_utils_deltas_heads_nonnull(
+    deltas: &[RelaxDelta],
+    heads: &mut [BlockHead],
+) -> u32 {
+    let deltas = DeltaSlice::new(deltas);
+    if heads.len() != deltas.block_count() {
+        return Status::DifferentLengths.number();
+    }
+    deltas.write_heads(heads);
+    Status::Success.number()
+}
+
+/// `linker_utils_deltas_input_to_output` of deltas with the heads of their blocks. Where the heads
+/// aren't as many as blocks, it searches the deltas alone. O(log n).
+pub fn linker_utils_deltas_input_to_output_by_heads_nonnull(
+    deltas: &[RelaxDelta],
+    heads: &[BlockHead],
+    input_offset: u64,
+) -> u64 {
+    let deltas = DeltaSlice::new(deltas);
+    match deltas.with_heads(heads) {
+        Some(blocked) => blocked.input_to_output_offset(input_offset),
+        None => deltas.input_to_output_offset(input_offset),
+    }
+}
+
+/// `linker_utils_deltas_output_to_input` of deltas with the heads of their blocks. The error is
+/// `TooLarge`. Where the heads aren't as many as blocks, it searches the deltas alone. O(log n).
+pub fn linker_utils_deltas_output_to_input_by_heads_nonnull(
+    deltas: &[RelaxDelta],
+    heads: &[BlockHead],
+    output_offset: u64,
+    input_offset: &mut u64,
+) -> u32 {
+    match input_by_heads(deltas, heads, output_offset) {
+        None => Status::TooLarge.number(),
+        Some(offset) => {
+            *input_offset = offset;
+            Status::Success.number()
+        }
+    }
+}
+
+#[inline(always)]
+fn input_by_heads(deltas: &[RelaxDelta], heads: &[BlockHead], output_offset: u64) -> Option<u64> {
+    let deltas = DeltaSlice::new(deltas);
+    match deltas.with_heads(heads) {
+        Some(blocked) => blocked.output_to_input_offset(output_offset),
+        None => deltas.output_to_input_offset(output_offset),
+    }
+}

@@ -1,0 +1,27 @@
+// Made by tools/erase of crates/linker_utils_c/src/lib.rt.
+//! The core of a linker for programs in C and C++: numbers and slices of bytes in, a status out.
+
+#![allow(dead_code, reason = "only tests call the exports")]
+#![allow(unused_imports, reason = "some are there for contracts alone")]
+#![allow(clippy::complexity, clippy::style, reason = "the text is that of the proved source")]
+
+extern crate alloc;
+
+#[macro_use]
+#[path = "../../src/support.rs"]
+mod support;
+
+#[cfg(test)]
+mod compare;
+
+mod calls;
+mod deltas;
+mod forms;
+mod heads;
+mod merges;
+mod packing;
+mod readers;
+mod relocations;
+mod rewrites;
+mod sequences;
+mod status;

@@ -1,0 +1,94 @@
+// Made by tools/erase of crates/linker_utils_c/src/merges.rt.
+//! Deletions that are merged into deltas.
+
+use crate::support::*;
+use crate::deltas::Deletion;
+use crate::status::Status;
+use linker_utils::relaxation::{
+    AsDeletion, DeltaSlice, OutOfMemory, RelaxDelta, SectionRelaxDeltas, first_invalid,
+};
+
+/// Whether `linker_utils_deltas_merge` accepts the additional deletions, in any order. The first that
+/// applies of `InvalidDeletions`, which the deltas' own are, and `NotMergeable`. It takes no memory.
+/// For k additional deletions beside n deltas the work is O(n + k log n + k) where they ascend, and
+/// else O(n + k log n + k²).
+pub fn linker_utils_deltas_is_mergeable_nonnull(
+    deltas: &[RelaxDelta],
+    additional: &[Deletion],
+) -> u32 {
+    if let Some(_) = first_invalid(deltas) {
+        return Status::InvalidDeletions.number();
+    }
+    match DeltaSlice::new(deltas).first_overlapping(additional) {
+        None => Status::Success.number(),
+        Some(_) => Status::NotMergeable.number(),
+    }
+}
+
+/// Writes the deltas of the old and the additional deletions, sorted, as many as both. The additional
+/// ones may come in any order. The first that applies of `DifferentLengths`; `InvalidDeletions`, of the
+/// delta at `faulty`; `NotMergeable`, of the additional deletion at `faulty`, which overlaps a delta or
+/// an earlier one, or ends above 2^64 - 1; and `OutOfMemory`.
+pub fn linker_utils_deltas_merge_nonnull(
+    deltas: &[RelaxDelta],
+    additional: &[Deletion],
+    merged: &mut [RelaxDelta],
+    faulty: &mut usize,
+) -> u32 {
+    if merged.len() < deltas.len() || merged.len() - deltas.len() != additional.len() {
+        return Status::DifferentLengths.number();
+    }
+    if let Some(at) = first_invalid(deltas) {
+        *faulty = at;
+        return Status::InvalidDeletions.number();
+    }
+    match merge(deltas, additional) {
+        Ok(section) => {
+            merged.copy_from_slice(section.deltas());
+            Status::Success.number()
+        }
+        Err(MergeError::Overlapping(at)) => {
+            *faulty = at;
+            Status::NotMergeable.number()
+        }
+        Err(MergeError::OutOfMemory) => Status::OutOfMemory.number(),
+    }
+}
+
+// Why additional deletions aren't merged.
+enum MergeError {
+    OutOfMemory,
+    // The index of the first that can't be merged.
+    Overlapping(usize),
+}
+
+impl From<OutOfMemory> for MergeError {
+    fn from(_error: OutOfMemory) -> MergeError {
+        MergeError::OutOfMemory
+    }
+}
+
+fn merge(
+    deltas: &[RelaxDelta],
+    additional: &[Deletion],
+) -> Result<SectionRelaxDeltas, MergeError> {
+    let mut section = SectionRelaxDeltas::new(&pairs(deltas)?)?;
+    // Sorted, they are tested in the fewest steps.
+    let mut sorted = pairs(additional)?;
+    sorted.sort_unstable_by_key(|pair| pair.0);
+    if !section.is_mergeable(&sorted) {
+        if let Some(at) = section.as_delta_slice().first_overlapping(additional) {
+            return Err(MergeError::Overlapping(at));
+        }
+    }
+    section.merge_additional(&sorted)?;
+    Ok(section)
+}
+
+fn pairs<D: AsDeletion>(deletions: &[D]) -> Result<Vec<(u64, u32)>, OutOfMemory> {
+    let mut pairs = Vec::fallible_with_capacity(deletions.len())?;
+    for deletion in deletions {
+        pairs.push(deletion.as_deletion());
+    }
+    Ok(pairs)
+}

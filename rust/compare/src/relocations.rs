@@ -1,0 +1,203 @@
+// Made by tools/erase of crates/linker_utils_c/src/relocations.rt.
+//! What relocations mean, and their names, by `e_machine` and `r_type` of ELF files.
+
+use crate::status::Status;
+use linker_utils::aarch64::{self, AArch64Relocation};
+use linker_utils::elf::{
+    Architecture, PageMask, RelocationInstruction, RelocationKindInfo, RelocationSize,
+};
+use linker_utils::loongarch64::{self, LoongArch64Relocation};
+use linker_utils::ppc64::{self, Ppc64Relocation};
+use linker_utils::riscv64::{self, RelaxationKind, RiscVRelocation};
+use linker_utils::x86_64::{self, X86_64Relocation};
+
+/// What a relocation means, in numbers.
+#[repr(C)]
+pub struct RelocationInfo {
+    /// What its value is computed from: the place of the kind in the enum `RelocationKind`.
+    pub kind: u32,
+    /// The number of the instruction's form; 0 for bytes.
+    pub form: u32,
+    /// Which addresses are cut to their page: 0 for none, else the place in the enum `PageMask` and 1.
+    pub mask: u32,
+    /// `e_machine` of the form's architecture; 0 for bytes.
+    pub machine: u16,
+    /// 1 if its value goes into bits of an instruction, 0 if into whole bytes.
+    pub is_bits: u8,
+    /// How many bytes; 0 for bits.
+    pub byte_size: u8,
+    /// The value's bits, from the first up, below the end; both 0 for bytes.
+    pub first_bit: u8,
+    pub end_bit: u8,
+    /// 1 if only values from `min` up, below `max`, are allowed; else 0, and both are 0.
+    pub has_range: u8,
+    /// 1 if a thunk may stand in for a target that is out of range, else 0.
+    pub thunkable: u8,
+    /// 1 if the addend stands in the section, else 0.
+    pub implicit_addend: u8,
+    pub min: i64,
+    pub max: i64,
+    /// What the value has to be a multiple of.
+    pub alignment: u64,
+    /// What is added to the value first; 0 if nothing is.
+    pub bias: u64,
+}
+
+/// What the relocation of an architecture and a code means.
+#[inline(always)]
+fn info_of(architecture: Architecture, r_type: u32) -> Option<RelocationKindInfo> {
+    match architecture {
+        Architecture::AArch64 => {
+            aarch64::relocation_type_from_raw(AArch64Relocation::from_elf(r_type))
+        }
+        Architecture::RiscV => riscv64::relocation_type_from_raw(RiscVRelocation::from_elf(r_type)),
+        Architecture::LoongArch64 => {
+            loongarch64::relocation_type_from_raw(LoongArch64Relocation::from_elf(r_type))
+        }
+        Architecture::Ppc64 => ppc64::relocation_type_from_raw(Ppc64Relocation::from_elf(r_type)),
+        Architecture::X86_64 => x86_64::relocation_from_raw(X86_64Relocation::from_elf(r_type)),
+    }
+}
+
+/// `e_machine` and the number of an instruction form.
+#[inline(always)]
+fn form_number(form: RelocationInstruction) -> (u16, u32) {
+    match form {
+        RelocationInstruction::AArch64(insn) => (Architecture::AArch64.machine(), insn as u32),
+        RelocationInstruction::RiscV(insn) => (Architecture::RiscV.machine(), insn as u32),
+        RelocationInstruction::LoongArch64(insn) => {
+            (Architecture::LoongArch64.machine(), insn as u32)
+        }
+        RelocationInstruction::Ppc64(insn) => (Architecture::Ppc64.machine(), insn as u32),
+    }
+}
+
+#[inline(always)]
+fn mask_of(mask: Option<PageMask>) -> u32 {
+    match mask {
+        None => 0,
+        Some(PageMask::SymbolPlusAddendAndPosition(_)) => 1,
+        Some(PageMask::GotEntryAndPosition(_)) => 2,
+        Some(PageMask::GotBase(_)) => 3,
+    }
+}
+
+#[inline(always)]
+fn in_numbers(info: RelocationKindInfo) -> RelocationInfo {
+    let (has_range, (min, max)) = match info.range.bounds {
+        Some(bounds) => (1, bounds),
+        None => (0, (0, 0)),
+    };
+    let bias = match info.bias {
+        Some(bias) => bias.value(),
+        None => 0,
+    };
+    let numbers = RelocationInfo {
+        kind: info.kind as u32,
+        form: 0,
+        mask: mask_of(info.mask),
+        machine: 0,
+        is_bits: 0,
+        byte_size: 0,
+        first_bit: 0,
+        end_bit: 0,
+        has_range,
+        thunkable: info.thunkable as u8,
+        implicit_addend: info.implicit_addend as u8,
+        min,
+        max,
+        alignment: info.alignment,
+        bias,
+    };
+    match info.size {
+        RelocationSize::ByteSize(byte_size) => RelocationInfo {
+            byte_size,
+            ..numbers
+        },
+        RelocationSize::BitMasking { range, insn } => {
+            let (machine, form) = form_number(insn);
+            RelocationInfo {
+                form,
+                machine,
+                is_bits: 1,
+                first_bit: range.start,
+                end_bit: range.end,
+                ..numbers
+            }
+        }
+    }
+}
+
+/// What the relocation with `r_type` means in files with `e_machine` `machine`. `UnknownArchitecture`;
+/// `UnknownRelocation` where the library knows no meaning.
+pub fn linker_utils_relocation(
+    machine: u16,
+    r_type: u32,
+    info: &mut RelocationInfo,
+) -> u32 {
+    let Some(architecture) = Architecture::from_machine(machine) else {
+        return Status::UnknownArchitecture.number();
+    };
+    match info_of(architecture, r_type) {
+        Some(meaning) => {
+            *info = in_numbers(meaning);
+            Status::Success.number()
+        }
+        None => Status::UnknownRelocation.number(),
+    }
+}
+
+/// What a relocation of the high part of a value means once its `lui` has become a `c.lui`.
+pub fn linker_utils_clui_rel_info(info: &mut RelocationInfo) {
+    *info = in_numbers(RelaxationKind::clui_rel_info());
+}
+
+/// The ELF name of the relocation of an architecture and a code. `None` of a code without a name.
+fn name_of(architecture: Architecture, r_type: u32) -> Option<&'static str> {
+    match architecture {
+        Architecture::AArch64 => match AArch64Relocation::from_elf(r_type) {
+            AArch64Relocation::Other(_) => None,
+            name => Some(name.name()),
+        },
+        Architecture::RiscV => match RiscVRelocation::from_elf(r_type) {
+            RiscVRelocation::Other(_) => None,
+            name => Some(name.name()),
+        },
+        Architecture::LoongArch64 => match LoongArch64Relocation::from_elf(r_type) {
+            LoongArch64Relocation::Other(_) => None,
+            name => Some(name.name()),
+        },
+        Architecture::Ppc64 => match Ppc64Relocation::from_elf(r_type) {
+            Ppc64Relocation::Other(_) => None,
+            name => Some(name.name()),
+        },
+        Architecture::X86_64 => match X86_64Relocation::from_elf(r_type) {
+            X86_64Relocation::Other(_) => None,
+            name => Some(name.name()),
+        },
+    }
+}
+
+/// Writes the ELF name of a relocation, as "R_AARCH64_CALL26", to the beginning of `name`, without a
+/// NUL after it, and its length to `name_used`. No name is longer than 64 bytes. `UnknownArchitecture`;
+/// `UnknownRelocation` of a code without a name; `TooShort` where `name` has too few bytes.
+pub fn linker_utils_relocation_name_nonnull(
+    machine: u16,
+    r_type: u32,
+    name: &mut [u8],
+    name_used: &mut usize,
+) -> u32 {
+    let Some(architecture) = Architecture::from_machine(machine) else {
+        return Status::UnknownArchitecture.number();
+    };
+    let Some(text) = name_of(architecture, r_type) else {
+        return Status::UnknownRelocation.number();
+    };
+    let len = text.len();
+    if name.len() < len {
+        return Status::TooShort.number();
+    }
+    name[..len].copy_from_slice(text.as_bytes());
+    *name_used = len;
+    Status::Success.number()
+}

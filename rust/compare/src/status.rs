@@ -1,0 +1,64 @@
+// Made by tools/erase of crates/linker_utils_c/src/status.rt.
+//! What a call answers.
+
+/// What a call answers, and why it refuses.
+#[derive(Debug, Clone, Copy, PartialEq, Eq)]
+pub enum Status {
+    /// The call did what it says.
+    Success,
+    /// No architecture has this number, or it has no forms of instructions.
+    UnknownArchitecture,
+    /// The architecture has no form with this number.
+    UnknownForm,
+    /// The architecture has no rewrite with this number.
+    UnknownRewrite,
+    /// The architecture has no relocation with this number, or its meaning is not known.
+    UnknownRelocation,
+    /// Fewer bytes than the call reads or writes.
+    TooShort,
+    /// The form does not hold the value.
+    DoesNotFit,
+    /// The rewrite may not be applied there.
+    CannotApply,
+    /// The register is not one from 0 to 30.
+    BadRegister,
+    /// The four bytes at the site do not lie in the section, or the target is past its end.
+    OutOfSection,
+    /// One of the four bytes at the site is deleted.
+    SiteDeleted,
+    /// The distance is odd. (11 is no status.)
+    OddDistance = 12,
+    /// The distance is out of the range of `jal`.
+    TooFar,
+    /// The deletions do not strictly ascend, one reaches past the next, or one ends past 2^64 - 1.
+    InvalidDeletions,
+    /// Two deletions overlap or begin at one offset, or one ends past 2^64 - 1.
+    NotMergeable,
+    /// The input offset would be past 2^64 - 1. (16 is no status.)
+    TooLarge = 17,
+    /// The queries decrease somewhere.
+    NotAscending,
+    /// The array that is to be written has not as many places as are written.
+    DifferentLengths,
+    /// `malloc` or `realloc` refused.
+    OutOfMemory,
+    /// The bytes end before the ULEB128 number does.
+    Uleb128Ended,
+    /// The tenth byte of the ULEB128 number is neither 0 nor 1.
+    Uleb128TooLarge,
+    /// No register of a call has this number.
+    UnknownLinkRegister,
+    /// The site of a call is less than 4 above that of the call before it.
+    CallsNotApart,
+    /// The eight bytes at the site are not an `auipc` and a `jalr`, with 0 in its bits 12 to 14, whose
+    /// base is the register of the `auipc`.
+    NotACall,
+}
+
+impl Status {
+    /// The number that C sees.
+    #[inline]
+    pub fn number(self) -> u32 {
+        self as u32
+    }
+}

@@ -1,0 +1,12 @@
+#![allow(dead_code, reason = "only tests call the exports")]
+#![allow(unused_imports, reason = "some are there for contracts alone")]
+#![allow(clippy::complexity, clippy::style, reason = "the text is that of the proved source")]
+
+extern crate alloc;
+
+#[macro_use]
+#[path = "../../src/support.rs"]
+mod support;
+
+#[cfg(test)]
+mod compare;

@@ -1,0 +1,7 @@
+#![allow(clippy::complexity, clippy::style, reason = "the text is that of the proved source")]
+
+extern crate alloc;
+
+#[macro_use]
+#[path = "../../src/support.rs"]
+mod support;

@@ -1,0 +1,566 @@
+// Made by tools/erase of crates/linker_utils/src/elf.rt.
+//! The vocabulary of relocations, the forms of instructions that hold a value, and the interfaces of
+//! forms and of rewrites.
+#![doc = include_str!("../doc/elf.md")]
+
+pub(crate) mod engine;
+
+use crate::bit_misc::BitRange;
+use crate::relaxation::RelocationModifier;
+
+/// 2 KiB: half a page.
+pub const SIZE_2KB: u64 = 0x800;
+
+/// 4 KiB: a page.
+pub const SIZE_4KB: u64 = 0x1000;
+
+/// 2 GiB.
+pub const SIZE_2GB: u64 = 1 << 31;
+
+/// 4 GiB.
+pub const SIZE_4GB: u64 = 1 << 32;
+
+/// The bits of an address within its page of 4 KiB.
+pub const PAGE_MASK_4KB: u64 = 0xfff;
+
+/// The architectures whose relocations and instructions the library knows.
+#[derive(Debug, Clone, Copy, PartialEq, Eq)]
+pub enum Architecture {
+    /// AArch64, little-endian.
+    AArch64,
+    /// RV64, with or without the C extension.
+    RiscV,
+    /// LoongArch64.
+    LoongArch64,
+    /// 64-bit Power, little-endian (ELFv2).
+    Ppc64,
+    /// x86-64.
+    X86_64,
+}
+
+impl Architecture {
+    /// The architecture of a file by `e_machine` of its ELF header. `None` for any other machine.
+    pub fn from_machine(e_machine: u16) -> Option<Architecture> {
+        match e_machine {
+            183 => Some(Architecture::AArch64),
+            243 => Some(Architecture::RiscV),
+            258 => Some(Architecture::LoongArch64),
+            21 => Some(Architecture::Ppc64),
+            62 => Some(Architecture::X86_64),
+            _ => None,
+        }
+    }
+
+    /// `e_machine` in the ELF header of the architecture's files: `EM_AARCH64` 183, `EM_RISCV` 243,
+    /// `EM_LOONGARCH` 258, `EM_PPC64` 21 or `EM_X86_64` 62.
+    pub fn machine(self) -> u16 {
+        match self {
+            Architecture::AArch64 => 183,
+            Architecture::RiscV => 243,
+            Architecture::LoongArch64 => 258,
+            Architecture::Ppc64 => 21,
+            Architecture::X86_64 => 62,
+        }
+    }
+}
+
+/// The formula of a relocation's value. The letters are those of the psABIs: S is the symbol's
+/// address, A the addend, P the place (the address of the field), V the number in the field, and Z
+/// the symbol's size.
+#[derive(Debug, Clone, Copy, PartialEq, Eq)]
+pub enum RelocationKind {
+    /// No value; nothing is written.
+    None,
+    /// S + A.
+    Absolute,
+    /// S + A, of which bits of the offset in a page are taken.
+    AbsoluteLowPart,
+    /// S + A, in place of V.
+    AbsoluteSet,
+    /// S + A, in the low 6 bits of a byte.
+    AbsoluteSetWord6,
+    /// V + S + A.
+    AbsoluteAddition,
+    /// V + S + A, in the low 6 bits of a byte.
+    AbsoluteAdditionWord6,
+    /// V - S - A.
+    AbsoluteSubtraction,
+    /// V - S - A, in the low 6 bits of a byte.
+    AbsoluteSubtractionWord6,
+    /// The second of a pair of RISC-V relocations that set a ULEB128 number to a difference of
+    /// symbols.
+    PairSubtractionULEB128RiscV,
+    /// The second of a pair of LoongArch relocations that add a difference of symbols to a ULEB128
+    /// number.
+    PairSubtractionULEB128LoongArch,
+    /// S + A - P.
+    Relative,
+    /// The low 12 bits of the value of the high part that the symbol labels.
+    RelativeRiscVLow12,
+    /// The high 32 bits of a LoongArch address relative to the place.
+    RelativeLoongArchHigh,
+    /// The GOT entry's address relative to the place.
+    GotRelative,
+    /// The high 32 bits of that, of LoongArch.
+    GotRelativeLoongArch64,
+    /// The GOT entry's address relative to the GOT.
+    GotRelGotBase,
+    /// The GOT entry's address.
+    Got,
+    /// The symbol's address relative to the GOT.
+    SymRelGotBase,
+    /// The PLT entry's address relative to the GOT.
+    PltRelGotBase,
+    /// The PLT entry's address relative to the place.
+    PltRelative,
+    /// Z + A.
+    SymbolSize,
+    /// Padding that aligns what follows; no value.
+    Alignment,
+    /// The address of the pair of GOT entries of general-dynamic TLS, relative to the place.
+    TlsGd,
+    /// The address of that pair.
+    TlsGdGot,
+    /// The address of that pair relative to the GOT.
+    TlsGdGotBase,
+    /// The address of the pair of GOT entries of local-dynamic TLS, relative to the place.
+    TlsLd,
+    /// The address of that pair.
+    TlsLdGot,
+    /// The address of that pair relative to the GOT.
+    TlsLdGotBase,
+    /// The offset in the module's TLS block.
+    DtpOff,
+    /// The address of the GOT entry of the offset from the thread pointer, relative to the place.
+    GotTpOff,
+    /// The address of that entry.
+    GotTpOffGot,
+    /// The address of that entry relative to the GOT.
+    GotTpOffGotBase,
+    /// The high 32 bits of that entry's address relative to the place, of LoongArch.
+    GotTpOffLoongArch64,
+    /// The offset from the thread pointer.
+    TpOff,
+    /// The address of the TLS descriptor, relative to the place.
+    TlsDesc,
+    /// The address of the TLS descriptor.
+    TlsDescGot,
+    /// The address of the TLS descriptor relative to the GOT.
+    TlsDescGotBase,
+    /// The high 32 bits of the descriptor's address relative to the place, of LoongArch.
+    TlsDescLoongArch64,
+    /// The call through a TLS descriptor; no value.
+    TlsDescCall,
+}
+
+/// Whether a bit field is read in two's complement.
+#[derive(Debug, Clone, Copy, PartialEq, Eq)]
+pub enum Sign {
+    Signed,
+    Unsigned,
+}
+
+/// Where a relocation's value is written.
+#[derive(Debug, Clone, Copy, PartialEq, Eq)]
+pub enum RelocationSize {
+    /// This number of whole bytes.
+    ByteSize(u8),
+    /// A bit range of the value into an instruction of a form.
+    BitMasking {
+        range: BitRange,
+        insn: RelocationInstruction,
+    },
+}
+
+impl RelocationSize {
+    /// Bits `start` and up, below `end`, into an AArch64 instruction.
+    pub fn bit_mask_aarch64(start: u8, end: u8, insn: AArch64Instruction) -> RelocationSize {
+        RelocationSize::BitMasking {
+            range: BitRange { start, end },
+            insn: RelocationInstruction::AArch64(insn),
+        }
+    }
+
+    /// Bits `start` and up, below `end`, into a RISC-V instruction.
+    pub fn bit_mask_riscv(start: u8, end: u8, insn: RiscVInstruction) -> RelocationSize {
+        RelocationSize::BitMasking {
+            range: BitRange { start, end },
+            insn: RelocationInstruction::RiscV(insn),
+        }
+    }
+
+    /// Bits `start` and up, below `end`, into a PowerPC64 instruction.
+    pub fn bit_mask_ppc64(start: u8, end: u8, insn: Ppc64Instruction) -> RelocationSize {
+        RelocationSize::BitMasking {
+            range: BitRange { start, end },
+            insn: RelocationInstruction::Ppc64(insn),
+        }
+    }
+
+    /// Bits `start` and up, below `end`, into a LoongArch instruction.
+    pub fn bit_mask_loongarch64(start: u8, end: u8, insn: LoongArch64Instruction) -> RelocationSize {
+        RelocationSize::BitMasking {
+            range: BitRange { start, end },
+            insn: RelocationInstruction::LoongArch64(insn),
+        }
+    }
+}
+
+/// An instruction form of one of the architectures.
+#[derive(Debug, Clone, Copy, PartialEq, Eq)]
+pub enum RelocationInstruction {
+    AArch64(AArch64Instruction),
+    RiscV(RiscVInstruction),
+    Ppc64(Ppc64Instruction),
+    LoongArch64(LoongArch64Instruction),
+}
+
+/// The size of the pages of a page mask.
+#[derive(Debug, Clone, Copy, PartialEq, Eq)]
+pub enum PageMaskPattern {
+    Size4KB,
+}
+
+/// The addresses whose offset in the page is cleared before a difference is taken.
+#[derive(Debug, Clone, Copy, PartialEq, Eq)]
+pub enum PageMask {
+    /// The symbol's address plus the addend, and the place.
+    SymbolPlusAddendAndPosition(PageMaskPattern),
+    /// The GOT entry's address, and the place.
+    GotEntryAndPosition(PageMaskPattern),
+    /// The GOT's address.
+    GotBase(PageMaskPattern),
+}
+
+/// A number, not 0, that is added to the symbol's address or the GOT entry's address. It is added
+/// before the page mask is applied, and before the bit range is taken.
+#[derive(Debug, Clone, Copy, PartialEq, Eq)]
+pub struct Bias {
+    value: u64,
+}
+
+impl Bias {
+    /// A bias of `value`; `None` for 0.
+    pub fn from_value(value: u64) -> Option<Bias> {
+        if value == 0 {
+            None
+        } else {
+            Some(Bias { value })
+        }
+    }
+
+    /// The number.
+    pub fn value(self) -> u64 {
+        self.value
+    }
+}
+
+/// The allowed values of a relocation: from the first bound up to, and not including, the second;
+/// or every value.
+///
+/// ```
+/// use linker_utils::elf::{AllowedRange, Sign};
+///
+/// let branch = AllowedRange::from_bit_size(28, Sign::Signed);
+/// assert!(branch.contains(-(1 << 27)));
+/// assert!(!branch.contains(1 << 27));
+/// ```
+#[derive(Debug, Clone, Copy, PartialEq, Eq)]
+pub struct AllowedRange {
+    pub bounds: Option<(i64, i64)>,
+}
+
+impl AllowedRange {
+    /// From `min` up to, and not including, `max`.
+    pub fn new(min: i64, max: i64) -> AllowedRange {
+        AllowedRange {
+            bounds: Some((min, max)),
+        }
+    }
+
+    /// Every value.
+    pub fn no_check() -> AllowedRange {
+        AllowedRange { bounds: None }
+    }
+
+    /// The numbers of `n` bits: signed from -2^(n-1) to 2^(n-1) - 1, or unsigned below 2^n.
+    ///
+    /// # Requires
+    ///
+    /// - some: `1 <= n`
+    /// - short: `n <= 62`
+    pub fn from_bit_size(n: u32, sign: Sign) -> AllowedRange {
+        debug_assert!(1 <= n);
+        debug_assert!(n <= 62);
+        match sign {
+            Sign::Signed => AllowedRange::new(-(1i64 << (n - 1)), 1i64 << (n - 1)),
+            Sign::Unsigned => AllowedRange::new(0, 1i64 << n),
+        }
+    }
+
+    /// The numbers of `k` bytes; for eight bytes, every value.
+    ///
+    /// # Requires
+    ///
+    /// - some: `1 <= k`
+    /// - short: `k <= 8`
+    pub fn from_byte_size(k: u32, sign: Sign) -> AllowedRange {
+        debug_assert!(1 <= k);
+        debug_assert!(k <= 8);
+        if k == 8 {
+            AllowedRange::no_check()
+        } else {
+            AllowedRange::from_bit_size(8 * k, sign)
+        }
+    }
+
+    /// Whether a value is in the range. Where two instructions hold the value, the range may be
+    /// wider than what they reach: see `relocation_type_from_raw` of each architecture.
+    pub fn contains(self, v: i64) -> bool {
+        match self.bounds {
+            Some((min, max)) => min <= v && v < max,
+            None => true,
+        }
+    }
+}
+
+/// What a relocation means.
+#[derive(Debug, Clone, Copy, PartialEq, Eq)]
+pub struct RelocationKindInfo {
+    /// The formula of its value.
+    pub kind: RelocationKind,
+    /// Where its value is written.
+    pub size: RelocationSize,
+    /// The addresses whose offset in the page is cleared.
+    pub mask: Option<PageMask>,
+    /// The allowed values.
+    pub range: AllowedRange,
+    /// The value is a multiple of this.
+    pub alignment: u64,
+    /// Added before the page mask is applied.
+    pub bias: Option<Bias>,
+    /// Whether a thunk may stand in for a target that is out of range.
+    pub thunkable: bool,
+    /// Whether the addend is in the section, and not in the relocation.
+    pub implicit_addend: bool,
+}
+
+/// An instruction form: where the bits of an immediate stand in an instruction, and which number
+/// they are.
+///
+/// ```
+/// use linker_utils::elf::{InstructionForm, RiscVInstruction};
+///
+/// let mut jal = 0x0000_00efu32.to_le_bytes();
+/// RiscVInstruction::JType.write(8, false, &mut jal);
+/// assert_eq!(u32::from_le_bytes(jal), 0x0080_00ef);
+/// assert_eq!(RiscVInstruction::JType.read(&jal), (8, false));
+/// ```
+pub trait InstructionForm: Copy {
+    /// The length in bytes of the window that the form reads and writes.
+    fn window(self) -> usize;
+
+    /// Whether a value can be written to the instruction that `bytes` begins with.
+    ///
+    /// # Requires
+    ///
+    /// - `self.window() <= bytes.len()`
+    fn fits(self, value: u64, bytes: &[u8]) -> bool;
+
+    /// Writes a value and its sign into the instruction that `dest` begins with. Only the form's
+    /// bits change.
+    ///
+    /// # Requires
+    ///
+    /// - room: `self.window() <= dest.len()`
+    /// - fits: `self.fits(value, dest)`
+    fn write(self, value: u64, negative: bool, dest: &mut [u8]);
+
+    /// The value in the instruction that `bytes` begins with, modulo 2^64, and the form's flag.
+    ///
+    /// # Requires
+    ///
+    /// - `self.window() <= bytes.len()`
+    fn read(self, bytes: &[u8]) -> (u64, bool);
+
+}
+
+/// A rewrite of the instruction at an offset of a section, as relaxations apply it: which bytes it
+/// changes, and what becomes of the relocation there and of the next one.
+pub trait InstructionRewrite: Copy {
+    /// Rewrites the instruction at an offset of a section. The offset and the addend become those of
+    /// the relocation after it; all other bytes stay.
+    ///
+    /// # Requires
+    ///
+    /// - `self.can_apply(section, *offset)`
+    fn apply(self, section: &mut [u8], offset: &mut u64, addend: &mut i64);
+
+    /// Whether `apply` may be called at an offset of a section.
+    fn can_apply(self, section: &[u8], offset: u64) -> bool;
+
+    /// What becomes of the relocation after the rewritten one.
+    fn next_modifier(&self) -> RelocationModifier;
+}
+
+impl InstructionForm for RelocationInstruction {
+    #[inline]
+    fn window(self) -> usize {
+        match self {
+            RelocationInstruction::AArch64(insn) => insn.window(),
+            RelocationInstruction::RiscV(insn) => insn.window(),
+            RelocationInstruction::Ppc64(insn) => insn.window(),
+            RelocationInstruction::LoongArch64(insn) => insn.window(),
+        }
+    }
+
+    #[inline]
+    fn fits(self, value: u64, bytes: &[u8]) -> bool {
+        debug_assert!(self.window() <= bytes.len());
+        match self {
+            RelocationInstruction::AArch64(insn) => insn.fits(value, bytes),
+            RelocationInstruction::RiscV(insn) => insn.fits(value, bytes),
+            RelocationInstruction::Ppc64(insn) => insn.fits(value, bytes),
+            RelocationInstruction::LoongArch64(insn) => insn.fits(value, bytes),
+        }
+    }
+
+    #[inline]
+    fn write(self, value: u64, negative: bool, dest: &mut [u8]) {
+        debug_assert!(self.window() <= dest.len());
+        debug_assert!(self.fits(value, dest));
+        match self {
+            RelocationInstruction::AArch64(insn) => insn.write(value, negative, dest),
+            RelocationInstruction::RiscV(insn) => insn.write(value, negative, dest),
+            RelocationInstruction::Ppc64(insn) => insn.write(value, negative, dest),
+            RelocationInstruction::LoongArch64(insn) => insn.write(value, negative, dest),
+        }
+    }
+
+    #[inline]
+    fn read(self, bytes: &[u8]) -> (u64, bool) {
+        debug_assert!(self.window() <= bytes.len());
+        match self {
+            RelocationInstruction::AArch64(insn) => insn.read(bytes),
+            RelocationInstruction::RiscV(insn) => insn.read(bytes),
+            RelocationInstruction::Ppc64(insn) => insn.read(bytes),
+            RelocationInstruction::LoongArch64(insn) => insn.read(bytes),
+        }
+    }
+}
+
+/// RISC-V instructions with an immediate (RISC-V unprivileged ISA, "Immediate Encoding Variants"
+/// and "Compressed Instruction Formats"). Every value fits. The window is 4 bytes unless said
+/// otherwise. `a..b to c` means: value bits a to b, both included, are at window bits c and up.
+#[derive(Debug, Clone, Copy, PartialEq, Eq)]
+pub enum RiscVInstruction {
+    /// The U-immediate, of `lui` and `auipc`: 12..31 to 12 of the value plus 0x800, because the low
+    /// part is signed.
+    UType,
+    /// The I-immediate, of `addi`, loads and `jalr`: 0..11 to 20, signed.
+    IType,
+    /// The S-immediate, of stores: 0..4 to 7, 5..11 to 25, signed.
+    SType,
+    /// The B-immediate, of conditional branches: 11 to 7, 1..4 to 8, 5..10 to 25, 12 to 31. A
+    /// signed distance of 13 bits, whose lowest is 0.
+    BType,
+    /// The J-immediate, of `jal`: 12..19 to 12, 11 to 20, 1..10 to 21, 20 to 31. A signed distance
+    /// of 21 bits, whose lowest is 0.
+    JType,
+    /// The distance of `c.beqz` and `c.bnez`, in 2 bytes: 5 to 2, 1..2 to 3, 6..7 to 5, 3..4 to 10,
+    /// 8 to 12. Signed, of 9 bits, whose lowest is 0.
+    CbType,
+    /// The distance of `c.j`, in 2 bytes: 5 to 2, 1..3 to 3, 7 to 6, 6 to 7, 10 to 8, 8..9 to 9, 4
+    /// to 11, 11 to 12. Signed, of 12 bits, whose lowest is 0.
+    CjType,
+    /// The immediate of `c.lui`, in 2 bytes: of the value plus 0x800, 12..16 to 2 and 17 to 12.
+    CluiType,
+    /// A `UType` instruction and the `IType` instruction after it, in 8 bytes, as `auipc` with
+    /// `jalr`: both parts of one value.
+    UiType,
+}
+
+/// PowerPC64 instructions that hold a displacement. The window is 4 bytes, and every value fits:
+/// its bits stand in the word where they stand in the value, and the word's other bits stay.
+/// Bits are numbered from the least significant one.
+#[derive(Debug, Clone, Copy, PartialEq, Eq)]
+pub enum Ppc64Instruction {
+    /// D-form, as `addi`: value bits 0 to 15 at bit 0 and up. A signed number of 16 bits (Power
+    /// ISA, "D-Form").
+    D,
+    /// DS-form, as `ld`: value bits 2 to 15 at bit 2 and up. A signed number of 16 bits, whose
+    /// lowest two are 0 (Power ISA, "DS-Form").
+    Ds,
+    /// B-form, as `bc`: value bits 2 to 15 at bit 2 and up. A signed distance of 16 bits, whose
+    /// lowest two are 0 (Power ISA, "B-Form").
+    Branch14,
+    /// I-form, as `b`: value bits 2 to 25 at bit 2 and up. A signed distance of 26 bits, whose
+    /// lowest two are 0 (Power ISA, "I-Form").
+    Branch24,
+}
+
+/// LoongArch instructions with an immediate, and the pairs of long calls (LoongArch Reference
+/// Manual, volume 1, "Instruction Encoding"). The window is 4 bytes, and 8 for a pair.
+#[derive(Debug, Clone, Copy, PartialEq, Eq)]
+pub enum LoongArch64Instruction {
+    /// An immediate of 20 bits: value bits 0 to 19 at bit 5 and up. Values below 2^20 fit.
+    Shift5,
+    /// An immediate of 12 bits at bit 10 and up, or of 16 there: value bits 0 to 11 are replaced,
+    /// and 12 to 15 are only ORed at bit 22 and up, where an immediate of 12 bits has its opcode.
+    /// Values below 2^16 fit. A read returns bits 0 to 11.
+    Shift10,
+    /// The offset of `b` and `bl` in units of 4 bytes: value bits 0 to 15 at bit 10 and up, 16 to
+    /// 25 at bit 0 and up. Signed, of 26 bits. Values below 2^26 fit.
+    Branch26,
+    /// The offset of `beqz` and `bnez` in units of 4 bytes: value bits 0 to 15 at bit 10 and up, 16
+    /// to 20 at bit 0 and up. Signed, of 21 bits. Values below 2^21 fit.
+    Branch21,
+    /// The pair of a call of `R_LARCH_CALL30`: value bits 9 to 19 at bit 14 and up of word one,
+    /// whose bits 5 to 13 become 0, and 0 to 8 at bit 10 and up of word two. Values below 2^20 fit.
+    Call30,
+    /// `pcaddu18i` and `jirl`, in units of 4 bytes: bits 16 to 35 of the value plus 0x8000 at bit 5
+    /// and up of word one, value bits 0 to 15 at bit 10 and up of word two. 0x8000 is added for the
+    /// high part because `jirl` reads the low part signed; a carry out of it is dropped. Values
+    /// below 2^36 fit. A read returns the high part times 2^16 plus the signed low part, modulo
+    /// 2^36.
+    Call36,
+}
+
+/// AArch64 instructions with an immediate (Arm Architecture Reference Manual for A-profile, DDI
+/// 0487, C6.2 and C7.2). The window is one instruction of 4 bytes. Except for `Movnz` and
+/// `MachOLow12` the value's bits are only ORed into it: the immediate has to be 0 before.
+#[derive(Debug, Clone, Copy, PartialEq, Eq)]
+pub enum AArch64Instruction {
+    /// `adr` and `adrp`: value bits 0 and 1 at bit 29 and up, 2 to 20 at bit 5 and up. Signed 21
+    /// bits, in bytes for `adr` and in pages of 4 KiB for `adrp`. Values below 2^21 fit.
+    Adr,
+    /// `movk` and `movz`: 16 bits at bit 5 and up. The machine reads them unsigned and shifts them
+    /// left by the instruction's shift; a read sign-extends them. Values below 2^16 fit.
+    Movkz,
+    /// `movn` and `movz` of 64 bits: the low 16 bits of the value at bit 5 and up, complemented for
+    /// a negative value. The sign sets the opcode. The register, bits 0 to 4, and the shift, bits
+    /// 21 and 22, stay. Every value fits.
+    Movnz,
+    /// LDR (literal): signed 19 bits at bit 5 and up, in units of 4 bytes. Values below 2^19 fit.
+    Ldr,
+    /// LDR (immediate), unsigned offset: unsigned 12 bits at bit 10 and up, in units of the access
+    /// size. Values below 2^12 fit.
+    LdrRegister,
+    /// ADD (immediate): unsigned 12 bits at bit 10 and up. Values below 2^12 fit.
+    Add,
+    /// Loads and stores with an unsigned offset: 12 bits at bit 10 and up, in units of the access
+    /// size. The machine reads them unsigned; a read sign-extends them. Values below 2^12 fit.
+    LdSt,
+    /// `tbz` and `tbnz`: signed 14 bits at bit 5 and up, in units of 4 bytes. Values below 2^14
+    /// fit.
+    TstBr,
+    /// `b.cond`, `cbz` and `cbnz`: signed 19 bits at bit 5 and up, in units of 4 bytes. Values
+    /// below 2^19 fit.
+    Bcond,
+    /// `b` and `bl`: signed 26 bits at bit 0 and up, in units of 4 bytes. Values below 2^26 fit.
+    JumpCall,
+    /// The offset in a page, in bytes, of `add`, loads and stores: value bits scale to scale + 11
+    /// at bit 10 and up. The bits below the scale are dropped. The scale is log2 of the access size
+    /// of the old instruction, 0 to 4, and 0 for `add`. Values below 2^(12 + scale) fit.
+    MachOLow12,
+}

@@ -1,0 +1,31 @@
+// Made by tools/erase of crates/linker_utils/src/lib.rt.
+//! The core of a linker: what relocations mean, how instructions are rewritten, and how values are
+//! written into them.
+#![doc = include_str!("../doc/lib.md")]
+
+#![no_std]
+#![forbid(unsafe_code)]
+#![allow(non_camel_case_types, reason = "a relocation has the name that its psABI gives it")]
+#![allow(unused_imports, unused_variables, reason = "some are there for contracts alone")]
+#![allow(clippy::complexity, clippy::style, reason = "the text is that of the proved source")]
+
+extern crate alloc;
+#[cfg(test)]
+extern crate std;
+
+#[macro_use]
+mod support;
+
+mod errors;
+mod linker_base;
+
+pub mod aarch64;
+pub mod elf;
+pub mod loongarch64;
+pub mod ppc64;
+pub mod relaxation;
+mod rewrite;
+pub mod riscv64;
+pub mod x86_64;
+
+pub use crate::linker_base::{bit_misc, utils};

@@ -1,0 +1,6 @@
+// Made by tools/erase of crates/linker_base/src/lib.rt.
+//! The base of the linker core: bits of numbers, readers of bytes, and the deletions of relaxation.
+
+pub mod bit_misc;
+pub mod relaxation;
+pub mod utils;

@@ -1,0 +1,121 @@
+// Made by tools/erase of crates/linker_base/src/bit_misc.rt.
+#![doc = include_str!("../../doc/bit_misc.md")]
+
+use core::ops::Range;
+
+/// A half-open bit range: bits `start` up to, and not including, `end`.
+#[derive(Debug, Clone, Copy, PartialEq, Eq)]
+pub struct BitRange {
+    pub start: u8,
+    pub end: u8,
+}
+
+/// Reads bits of a 64-bit number. Positions and counts are in bits.
+///
+/// ```
+/// use linker_utils::bit_misc::BitExtraction;
+///
+/// assert_eq!(0b1100_0000u64.extract_bit_range(3..8), 0b11000);
+/// assert_eq!(0xffeu64.low_bits_signed(12), 2u64.wrapping_neg());
+/// ```
+pub trait BitExtraction {
+    /// The bit at `position`: 0 or 1.
+    ///
+    /// # Requires
+    ///
+    /// - `position < 64`
+    fn extract_bit(self, position: u32) -> u64;
+
+    /// Bits `range.start` up to, and not including, `range.end`, shifted down to bit 0.
+    ///
+    /// # Requires
+    ///
+    /// - not_empty: `range.start < range.end`
+    /// - in_word: `range.end <= 64`
+    fn extract_bit_range(self, range: Range<u32>) -> u64;
+
+    /// The lowest `num_bits` bits.
+    ///
+    /// # Requires
+    ///
+    /// - `num_bits < 64`
+    fn low_bits(self, num_bits: u32) -> u64;
+
+    /// The lowest `num_bits` bits in two's complement, modulo 2^64.
+    ///
+    /// # Requires
+    ///
+    /// - not_empty: `0 < num_bits`
+    /// - in_word: `num_bits < 64`
+    fn low_bits_signed(self, num_bits: u32) -> u64;
+
+    /// If bit `sign_bit` is set, the number with every bit above it set too. If it is clear, the
+    /// number itself, even if higher bits are set.
+    ///
+    /// # Requires
+    ///
+    /// - `sign_bit < 64`
+    fn sign_extend(self, sign_bit: u32) -> u64;
+}
+
+impl BitExtraction for u64 {
+    fn extract_bit(self, position: u32) -> u64 {
+        debug_assert!(position < 64);
+        (self >> position) & 1
+    }
+
+    fn extract_bit_range(self, range: Range<u32>) -> u64 {
+        debug_assert!(range.start < range.end);
+        debug_assert!(range.end <= 64);
+        (self >> range.start) & (u64::MAX >> (64 - (range.end - range.start)))
+    }
+
+    fn low_bits(self, num_bits: u32) -> u64 {
+        debug_assert!(num_bits < 64);
+        self & ((1 << num_bits) - 1)
+    }
+
+    fn low_bits_signed(self, num_bits: u32) -> u64 {
+        debug_assert!(0 < num_bits);
+        debug_assert!(num_bits < 64);
+        self.low_bits(num_bits).sign_extend(num_bits - 1)
+    }
+
+    fn sign_extend(self, sign_bit: u32) -> u64 {
+        debug_assert!(sign_bit < 64);
+        if self & (1 << sign_bit) != 0 {
+            self | (u64::MAX << sign_bit)
+        } else {
+            self
+        }
+    }
+}
+
+#[cfg(test)]
+mod tests {
+    use super::*;
+
+    #[test]
+    fn reads_runs_of_bits() {
+        assert_eq!(0b11000000u64.extract_bit_range(3..8), 0b11000);
+        assert_eq!(
+            0b1010101000001111u64.extract_bit_range(4..16),
+            0b101010100000
+        );
+        assert_eq!(u64::MAX.extract_bit_range(0..32), 0xffff_ffff);
+        assert_eq!(u64::MAX.extract_bit_range(0..64), u64::MAX);
+        assert_eq!(0b100u64.extract_bit(2), 1);
+        assert_eq!(0b100u64.extract_bit(3), 0);
+        assert_eq!(0b1110u64.low_bits(3), 0b110);
+        assert_eq!(0b1110u64.low_bits_signed(3), 0u64.wrapping_sub(2));
+    }
+
+    #[test]
+    fn extends_the_sign_above_a_set_bit() {
+        let table: [(u64, i64); 6] = [(0, 0), (31, 31), (32, -32), (33, -31), (63, -1), (64, 64)];
+        for (number, want) in table {
+            assert_eq!(number.sign_extend(5), want.cast_unsigned(), "of {number}");
+        }
+        assert_eq!((1u64 << 63).sign_extend(63), 1 << 63);
+    }
+}

@@ -1,0 +1,357 @@
+// Made by tools/erase of crates/linker_base/src/relaxation.rt.
+//! Deletions that relaxation makes in a section, and the offsets of what they leave.
+
+mod arrays;
+mod blocked_slice;
+mod blocks;
+mod cursor;
+mod delta_slice;
+pub mod laws;
+mod map;
+mod merge;
+mod overlap;
+mod partition_point;
+mod search;
+mod walk;
+
+use alloc::vec::Vec;
+use crate::support::*;
+pub use blocked_slice::BlockedSlice;
+use blocks::{count_blocks, fill_heads};
+pub use blocks::{
+    BLOCK_LEN, BlockHead, Counted, Looks, input_to_output_counted, output_to_input_counted,
+};
+pub use cursor::RelaxCursor;
+pub use delta_slice::DeltaSlice;
+pub use map::RelaxDeltaMap;
+use merge::{append, append_all, count_pairs, sort_and_sum};
+use overlap::{are_beside_deltas_batches, are_disjoint_batches, first_overlapping};
+pub use overlap::{AsDeletion, first_invalid};
+
+/// What a linker does with the relocation that follows a rewritten one.
+#[derive(Debug, Clone, Copy, PartialEq, Eq)]
+pub enum RelocationModifier {
+    /// It is applied as usual.
+    Normal,
+    /// It is skipped: the rewrite did its work too.
+    SkipNextRelocation,
+}
+
+/// Out of memory. The call that returns it has changed nothing.
+#[derive(Debug, Clone, Copy, PartialEq, Eq)]
+pub struct OutOfMemory;
+
+impl From<AllocError> for OutOfMemory {
+    fn from(_error: AllocError) -> OutOfMemory {
+        OutOfMemory
+    }
+}
+
+impl<T> From<AllocFailed<T>> for OutOfMemory {
+    fn from(_error: AllocFailed<T>) -> OutOfMemory {
+        OutOfMemory
+    }
+}
+
+/// One deletion in an input section, with the sum of the deletions up to it.
+#[repr(C)]
+#[derive(Debug, Clone, Copy, PartialEq, Eq)]
+pub struct RelaxDelta {
+    /// The offset in the input section of the first deleted byte.
+    pub input_offset: u64,
+    /// The bytes that this deletion and all at lower offsets delete.
+    pub cumulative_deleted: u64,
+    /// How many bytes are deleted here. A deletion of no bytes is listed all the same.
+    pub bytes_deleted: u32,
+}
+
+impl RelaxDelta {
+    // The input offset less the bytes deleted before.
+    #[inline(always)]
+    fn output_place(&self) -> u64 {
+        let end = self
+            .input_offset
+            .wrapping_add(u64::from(self.bytes_deleted));
+        end.wrapping_sub(self.cumulative_deleted)
+    }
+}
+
+/// The deletions in one input section, by ascending offset.
+///
+/// Two deletions have different offsets, none reaches past the offset of the next, and each ends
+/// at `u64::MAX` or below. Contracts see the list of their offsets and bytes.
+#[derive(Debug)]
+pub struct SectionRelaxDeltas {
+    deltas: Vec<RelaxDelta>,
+    heads: Vec<BlockHead>,
+}
+
+impl SectionRelaxDeltas {
+    /// The deletions that `raw` lists, each as an offset and a count of bytes.
+    ///
+    /// It takes memory twice, and none where `raw` is empty. `is_valid` tests what it requires.
+    ///
+    /// # Requires
+    ///
+    /// - `SectionRelaxDeltas::is_valid(raw)`
+    pub fn new(raw: &[(u64, u32)]) -> Result<Self, OutOfMemory> {
+        debug_assert!(SectionRelaxDeltas::is_valid(raw));
+        let mut deltas = Vec::fallible_with_capacity(raw.len())?;
+        let mut heads = Vec::fallible_with_capacity(count_blocks(raw.len()))?;
+        let mut cumulative_deleted = 0;
+        for &(input_offset, bytes_deleted) in raw {
+            cumulative_deleted += u64::from(bytes_deleted);
+            deltas.push(RelaxDelta {
+                input_offset,
+                cumulative_deleted,
+                bytes_deleted,
+            });
+        }
+        fill_heads(&deltas, &mut heads);
+        Ok(SectionRelaxDeltas { deltas, heads })
+    }
+
+    /// Whether `raw` may be given to `new`: its offsets strictly ascend, no pair reaches past the
+    /// offset of the next, and each ends at `u64::MAX` or below.
+    pub fn is_valid(raw: &[(u64, u32)]) -> bool {
+        first_invalid(raw).is_none()
+    }
+
+    /// Adds deletions, each an offset and a count of bytes, in any order.
+    ///
+    /// What is listed is then as `new` makes it of the old and the additional pairs, sorted. The
+    /// list and its heads grow once, before anything changes, and not at all where `additional` is
+    /// empty. The work is O((n + k) log(n + k)) for k pairs beside n deltas. `is_mergeable` tests
+    /// what it requires.
+    ///
+    /// # Requires
+    ///
+    /// - `self.is_mergeable(additional)`
+    pub fn merge_additional(&mut self, additional: &[(u64, u32)]) -> Result<(), OutOfMemory> {
+        debug_assert!(self.is_mergeable(additional));
+        let deltas = &mut self.deltas;
+        let heads = &mut self.heads;
+        if additional.is_empty() {
+            return Ok(());
+        }
+        deltas.try_reserve(additional.len())?;
+        heads.try_reserve(count_blocks(additional.len()))?;
+        append(deltas, additional);
+        sort_and_sum(deltas);
+        heads.clear();
+        fill_heads(deltas, heads);
+        Ok(())
+    }
+
+    /// Whether the pairs may be merged: their ends are at most `u64::MAX`, and of any two
+    /// deletions, old or additional, one has the lower offset and does not reach past the other's.
+    ///
+    /// It takes no memory. For k pairs beside n deltas the work is O(k log n + k) where the pairs
+    /// ascend, as a pass over a section makes them, and else O(k log n + k²).
+    pub fn is_mergeable(&self, additional: &[(u64, u32)]) -> bool {
+        first_overlapping(&self.deltas, additional).is_none()
+    }
+
+    /// Adds the deletions of all batches, or of none where it runs out of memory.
+    ///
+    /// What is listed is then as `new` makes it of the old and all additional pairs, sorted. The
+    /// list and its heads grow once, before anything changes, and not at all where no batch has a
+    /// pair. The work is O((n + k) log(n + k)) for k pairs in all batches beside n deltas.
+    /// `are_mergeable` tests what it requires.
+    ///
+    /// # Requires
+    ///
+    /// - `self.are_mergeable(batches)`
+    pub fn merge_all(&mut self, batches: &[Vec<(u64, u32)>]) -> Result<(), OutOfMemory> {
+        debug_assert!(self.are_mergeable(batches));
+        let deltas = &mut self.deltas;
+        let heads = &mut self.heads;
+        let count = count_pairs(batches);
+        deltas.try_reserve(count)?;
+        heads.try_reserve(count_blocks(count))?;
+        append_all(deltas, batches);
+        sort_and_sum(deltas);
+        heads.clear();
+        fill_heads(deltas, heads);
+        Ok(())
+    }
+
+    /// Whether all batches together may be merged, as `is_mergeable` says of their pairs.
+    ///
+    /// It takes no memory. For k pairs in all batches beside n deltas the work is O(k log n + k)
+    /// where the pairs ascend, from each batch to the next too, and else O(k log n + k²).
+    pub fn are_mergeable(&self, batches: &[Vec<(u64, u32)>]) -> bool {
+        are_disjoint_batches(batches) && are_beside_deltas_batches(&self.deltas, batches)
+    }
+
+    /// A copy of the deltas. It takes memory twice, and none where there are none.
+    pub fn clone(&self) -> Result<Self, OutOfMemory> {
+        let mut deltas = Vec::fallible_with_capacity(self.deltas.len())?;
+        let mut heads = Vec::fallible_with_capacity(self.heads.len())?;
+        deltas.fallible_extend_from_slice(&self.deltas)?;
+        heads.fallible_extend_from_slice(&self.heads)?;
+        Ok(SectionRelaxDeltas { deltas, heads })
+    }
+
+    /// The deletions by ascending offset, each with the sum of the bytes up to it.
+    pub fn deltas(&self) -> &[RelaxDelta] {
+        &self.deltas[..]
+    }
+
+    /// The deltas as a slice that translates offsets too.
+    #[inline]
+    pub fn as_delta_slice(&self) -> DeltaSlice<'_> {
+        DeltaSlice::new(&self.deltas)
+    }
+
+    /// Whether a deletion is listed at the offset, be it one of no bytes.
+    pub fn has_delta_at(&self, offset: u64) -> bool {
+        search::delta_at(&self.deltas, offset).is_some()
+    }
+
+    /// The bytes that are deleted at the offset: 0 where no deletion is listed there.
+    pub fn delta_bytes_at(&self, offset: u64) -> u32 {
+        match search::delta_at(&self.deltas, offset) {
+            Some(delta) => delta.bytes_deleted,
+            None => 0,
+        }
+    }
+
+    /// Whether nothing is listed. A deletion of no bytes counts as listed.
+    pub fn is_empty(&self) -> bool {
+        self.deltas.is_empty()
+    }
+
+    /// The bytes that all deletions take together.
+    pub fn total_deleted(&self) -> u64 {
+        search::bytes_of_first(&self.deltas, self.deltas.len())
+    }
+
+    /// How many kept bytes lie below `input_offset`, which is the offset in the output section of
+    /// what stands there. Of an offset inside a deletion it is that of what follows the deletion.
+    /// The search takes O(log n).
+    #[inline]
+    pub fn input_to_output_offset(&self, input_offset: u64) -> u64 {
+        input_to_output_counted(&mut self.counted(), input_offset)
+    }
+
+    /// Whether the offset lies above the first byte of a deletion and below its end.
+    pub fn is_inside(&self, input_offset: u64) -> bool {
+        search::is_inside(&self.deltas, input_offset)
+    }
+
+    /// The output offset of the `len` bytes from `input_offset` on, or none where one of them is
+    /// deleted. Two searches, O(log n).
+    ///
+    /// # Requires
+    ///
+    /// - `(input_offset as u128) + (len as u128) < 1 << 64`
+    pub fn kept_output_offset(&self, input_offset: u64, len: u64) -> Option<u64> {
+        debug_assert!((input_offset as u128) + (len as u128) < 1 << 64);
+        search::rank_of_kept(&self.deltas, input_offset, len)
+    }
+
+    /// The offset in the input section of the kept byte at `output_offset`: that offset and the
+    /// bytes of all deletions whose output place is at most that.
+    ///
+    /// Requires an offset that `output_fits` accepts. The search takes O(log n).
+    ///
+    /// # Requires
+    ///
+    /// - `self.output_fits(output_offset)`
+    #[inline]
+    pub fn output_to_input_offset(&self, output_offset: u64) -> u64 {
+        debug_assert!(self.output_fits(output_offset));
+        output_to_input_counted(&mut self.counted(), output_offset)
+    }
+
+    /// Whether the input offset of the kept byte at `output_offset` is at most `u64::MAX`.
+    pub fn output_fits(&self, output_offset: u64) -> bool {
+        search::bytes_before(&self.deltas, output_offset) <= u64::MAX - output_offset
+    }
+
+    /// The deltas, with a count of the looks at them, 0 so far.
+    #[inline(always)]
+    pub fn counted(&self) -> Counted<'_> {
+        Counted::new(&self.deltas, &self.heads)
+    }
+
+    /// A cursor before the first deletion.
+    pub fn cursor(&self) -> RelaxCursor<'_> {
+        RelaxCursor::new(&self.deltas)
+    }
+}
+
+/// `input_to_output_offset` of the deltas, or `input_offset` itself where there are none.
+#[inline]
+pub fn opt_input_to_output(deltas: Option<&SectionRelaxDeltas>, input_offset: u64) -> u64 {
+    match deltas {
+        Some(section) => section.input_to_output_offset(input_offset),
+        None => input_offset,
+    }
+}
+
+#[cfg(test)]
+mod tests {
+    use crate::support::*;
+    use super::*;
+
+    // Each test holds whichever growth is refused: `rt try --test --fail-alloc N` refuses the Nth.
+
+    #[test]
+    fn a_refused_merge_leaves_the_deltas() -> Result<(), Fail> {
+        let (old, more) = ([(4, 4)], [(8, 4)]);
+        assert!(SectionRelaxDeltas::is_valid(&old));
+        let Ok(mut deltas) = SectionRelaxDeltas::new(&old) else {
+            return Ok(());
+        };
+        assert!(deltas.is_mergeable(&more));
+        let (count, total) = match deltas.merge_additional(&more) {
+            Ok(()) => (2, 8),
+            Err(OutOfMemory) => (1, 4),
+        };
+        assert_eq!(deltas.deltas().len(), count);
+        assert_eq!(deltas.total_deleted(), total);
+        assert_eq!(deltas.has_delta_at(8), count == 2);
+        Ok(())
+    }
+
+    #[test]
+    fn a_refused_copy_leaves_the_deltas() -> Result<(), Fail> {
+        let raw = [(4, 4), (12, 2)];
+        assert!(SectionRelaxDeltas::is_valid(&raw));
+        let Ok(deltas) = SectionRelaxDeltas::new(&raw) else {
+            return Ok(());
+        };
+        if let Ok(copy) = deltas.clone() {
+            assert_eq!(copy.deltas(), deltas.deltas());
+        }
+        assert_eq!(deltas.deltas().len(), 2);
+        assert_eq!(deltas.total_deleted(), 6);
+        Ok(())
+    }
+
+    #[test]
+    fn refused_batches_leave_the_deltas() -> Result<(), Fail> {
+        let old = [(4, 4)];
+        assert!(SectionRelaxDeltas::is_valid(&old));
+        let (Ok(mut deltas), Ok(first), Ok(second)) = (
+            SectionRelaxDeltas::new(&old),
+            [(8, 4)].fallible_to_vec(),
+            [(16, 4)].fallible_to_vec(),
+        ) else {
+            return Ok(());
+        };
+        let Ok(batches) = try_vec![first, second] else {
+            return Ok(());
+        };
+        assert!(deltas.are_mergeable(&batches));
+        let (count, total) = match deltas.merge_all(&batches) {
+            Ok(()) => (3, 12),
+            Err(OutOfMemory) => (1, 4),
+        };
+        assert_eq!(deltas.deltas().len(), count);
+        assert_eq!(deltas.total_deleted(), total);
+        Ok(())
+    }
+}

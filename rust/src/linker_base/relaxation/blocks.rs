@@ -1,0 +1,189 @@
+// Made by tools/erase of crates/linker_base/src/relaxation/blocks.rt.
+//! Deltas in blocks of 64, and translations that look at the head of each block first.
+
+use alloc::vec::Vec;
+use super::RelaxDelta;
+use super::partition_point::{Level, Probe, Test, search_blocks};
+use super::search::rank_after;
+
+/// How many deltas a block has. The last block may have fewer.
+pub const BLOCK_LEN: usize = 64;
+
+/// The first delta of a block, as far as a search reads it.
+#[repr(C)]
+#[derive(Debug, Clone, Copy, PartialEq, Eq)]
+pub struct BlockHead {
+    /// The input offset of the block's first delta.
+    pub input_offset: u64,
+    /// Its output place: that offset less the bytes of all deletions before.
+    pub output_place: u64,
+}
+
+impl BlockHead {
+    /// The head of a block that begins with the delta.
+    #[inline(always)]
+    fn of(delta: &RelaxDelta) -> BlockHead {
+        BlockHead {
+            input_offset: delta.input_offset,
+            output_place: delta.output_place(),
+        }
+    }
+}
+
+/// A valid list of deltas of which each look is counted.
+pub trait Looks {
+    /// How many deltas are listed.
+    fn len(&self) -> usize;
+
+    /// How many looks were taken.
+    fn count(&self) -> u64;
+
+    /// The input offset and the output place of the first delta of block `block`, delta
+    /// `64 * block`. One look.
+    ///
+    /// Requires that there is such a delta, and a count below `u64::MAX`.
+    ///
+    /// # Requires
+    ///
+    /// - within: `64 * (block as u128) < (Looks::len(self) as u128)`
+    /// - room: `looked self < 2 ^ 64 - 1`
+    fn head(&mut self, block: usize) -> (u64, u64);
+
+    /// Delta `index`. One look.
+    ///
+    /// Requires that there is such a delta, and a count below `u64::MAX`.
+    ///
+    /// # Requires
+    ///
+    /// - within: `index < Looks::len(self)`
+    /// - room: `looked self < 2 ^ 64 - 1`
+    fn delta(&mut self, index: usize) -> RelaxDelta;
+}
+
+impl<K: Looks> Probe for K {
+    #[inline(always)]
+    fn len(&self, level: Level) -> usize {
+        let len = Looks::len(self);
+        match level {
+            Level::Heads => count_blocks(len),
+            Level::Deltas => len,
+        }
+    }
+
+    #[inline(always)]
+    fn passes(&mut self, level: Level, test: Test, at: usize) -> bool {
+        match level {
+            Level::Heads => {
+                let (input_offset, output_place) = self.head(at);
+                test.head_passes(&BlockHead {
+                    input_offset,
+                    output_place,
+                })
+            }
+            Level::Deltas => test.passes(&self.delta(at)),
+        }
+    }
+}
+
+/// The deltas of a section, with a count of the looks at them. Contracts see the list and the count.
+pub struct Counted<'a> {
+    deltas: &'a [RelaxDelta],
+    heads: &'a [BlockHead],
+    count: u64,
+}
+
+impl<'a> Counted<'a> {
+    #[inline(always)]
+    pub(super) fn new(deltas: &'a [RelaxDelta], heads: &'a [BlockHead]) -> Counted<'a> {
+        Counted {
+            deltas,
+            heads,
+            count: 0,
+        }
+    }
+}
+
+impl<'a> Looks for Counted<'a> {
+    #[inline(always)]
+    fn len(&self) -> usize {
+        self.deltas.len()
+    }
+
+    #[inline(always)]
+    fn count(&self) -> u64 {
+        self.count
+    }
+
+    #[inline(always)]
+    fn head(&mut self, block: usize) -> (u64, u64) {
+        debug_assert!(64 * (block as u128) < (Looks::len(self) as u128));
+        self.count += 1;
+        let head = self.heads[block];
+        (head.input_offset, head.output_place)
+    }
+
+    #[inline(always)]
+    fn delta(&mut self, index: usize) -> RelaxDelta {
+        debug_assert!(index < Looks::len(self));
+        self.count += 1;
+        self.deltas[index]
+    }
+}
+
+/// Puts the head of each block behind no heads.
+pub(super) fn fill_heads(deltas: &[RelaxDelta], heads: &mut Vec<BlockHead>) {
+    for block in 0..count_blocks(deltas.len()) {
+        heads.push(BlockHead::of(&deltas[BLOCK_LEN * block]));
+    }
+}
+
+/// Writes the head of each block.
+pub(super) fn write_heads(deltas: &[RelaxDelta], heads: &mut [BlockHead]) {
+    for block in 0..heads.len() {
+        heads[block] = BlockHead::of(&deltas[BLOCK_LEN * block]);
+    }
+}
+
+/// How many blocks so many deltas take.
+#[inline(always)]
+pub(super) fn count_blocks(len: usize) -> usize {
+    len / BLOCK_LEN + usize::from(len % BLOCK_LEN > 0)
+}
+
+/// The output offset of `input_offset`, as `SectionRelaxDeltas::input_to_output_offset` returns it.
+///
+/// Requires a count of at most `u32::MAX`. With B blocks it takes at most as many looks as B has
+/// binary digits, and eight.
+///
+/// # Requires
+///
+/// - room: `K.looked looks < 2 ^ 32`
+#[inline(always)]
+pub fn input_to_output_counted<K: Looks>(looks: &mut K, input_offset: u64) -> u64 {
+    // What it ensures is that the list is valid.
+    let _len = looks.len();
+    match search_blocks(looks, Test::Begins(input_offset)).checked_sub(1) {
+        Some(last) => rank_after(looks.delta(last), input_offset),
+        None => input_offset,
+    }
+}
+
+/// The input offset of the kept byte at `output_offset`, as
+/// `SectionRelaxDeltas::output_to_input_offset` returns it.
+///
+/// Requires an offset that `output_fits` accepts, and a count of at most `u32::MAX`. With B blocks
+/// it takes at most as many looks as B has binary digits, and eight.
+///
+/// # Requires
+///
+/// - fits: `HasInput (deletions_of (K.listed looks)) output_offset`
+/// - room: `K.looked looks < 2 ^ 32`
+#[inline(always)]
+pub fn output_to_input_counted<K: Looks>(looks: &mut K, output_offset: u64) -> u64 {
+    // What it ensures is that the list is valid.
+    let _len = looks.len();
+    match search_blocks(looks, Test::IsPlaced(output_offset)).checked_sub(1) {
+        Some(last) => output_offset + looks.delta(last).cumulative_deleted,
+        None => output_offset,
+    }
+}

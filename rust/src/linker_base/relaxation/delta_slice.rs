@@ -1,0 +1,139 @@
+// Made by tools/erase of crates/linker_base/src/relaxation/delta_slice.rt.
+//! Deltas that anyone owns.
+
+use super::blocked_slice::BlockedSlice;
+use super::blocks::{BlockHead, count_blocks, write_heads};
+use super::overlap::{self, AsDeletion};
+use super::walk::{Reached, ascend, walk};
+use super::{RelaxDelta, search};
+
+/// A borrowed list of deltas, of any contents.
+///
+/// Each call is safe for any deltas. What it returns is promised where the deltas are valid: they
+/// list deletions as `SectionRelaxDeltas::new` requires them, each with the sum of the bytes up to
+/// it. Contracts see the list of deltas.
+pub struct DeltaSlice<'a> {
+    deltas: &'a [RelaxDelta],
+}
+
+impl<'a> DeltaSlice<'a> {
+    /// The deltas as a slice that translates offsets.
+    #[inline(always)]
+    pub fn new(deltas: &'a [RelaxDelta]) -> DeltaSlice<'a> {
+        DeltaSlice { deltas }
+    }
+
+    /// How many blocks of `BLOCK_LEN` deltas there are; the last may be shorter.
+    #[inline]
+    pub fn block_count(&self) -> usize {
+        count_blocks(self.deltas.len())
+    }
+
+    /// Writes the head of each block, in order. Requires as many places as blocks.
+    ///
+    /// # Requires
+    ///
+    /// - `heads.len() == self.block_count()`
+    pub fn write_heads(&self, heads: &mut [BlockHead]) {
+        debug_assert!(heads.len() == self.block_count());
+        write_heads(self.deltas, heads);
+    }
+
+    /// The deltas with heads of their blocks, or none where they aren't as many as blocks.
+    #[inline(always)]
+    pub fn with_heads(&self, heads: &'a [BlockHead]) -> Option<BlockedSlice<'a>> {
+        if heads.len() != self.block_count() {
+            return None;
+        }
+        Some(BlockedSlice::new(self.deltas, heads))
+    }
+
+    /// Whether nothing is listed. A deletion of no bytes counts as listed.
+    #[inline]
+    pub fn is_empty(&self) -> bool {
+        self.deltas.is_empty()
+    }
+
+    /// The bytes that all deletions take together.
+    #[inline]
+    pub fn total_deleted(&self) -> u64 {
+        search::bytes_of_first(self.deltas, self.deltas.len())
+    }
+
+    /// Whether a deletion is listed at the offset, be it one of no bytes. O(log n).
+    #[inline]
+    pub fn has_delta_at(&self, offset: u64) -> bool {
+        search::delta_at(self.deltas, offset).is_some()
+    }
+
+    /// The bytes that are deleted at the offset: 0 where no deletion is listed there. O(log n).
+    #[inline]
+    pub fn delta_bytes_at(&self, offset: u64) -> u32 {
+        match search::delta_at(self.deltas, offset) {
+            Some(delta) => delta.bytes_deleted,
+            None => 0,
+        }
+    }
+
+    /// How many kept bytes lie below `input_offset`, which is the offset in the output section of
+    /// what stands there. Of an offset inside a deletion it is that of what follows the deletion.
+    /// O(log n).
+    #[inline(always)]
+    pub fn input_to_output_offset(&self, input_offset: u64) -> u64 {
+        search::rank(self.deltas, input_offset)
+    }
+
+    /// The output offset of the `len` bytes from `input_offset` on, or none where one of them is
+    /// deleted. Two searches, O(log n).
+    ///
+    /// # Requires
+    ///
+    /// - `(input_offset as u128) + (len as u128) < 1 << 64`
+    #[inline]
+    pub fn kept_output_offset(&self, input_offset: u64, len: u64) -> Option<u64> {
+        debug_assert!((input_offset as u128) + (len as u128) < 1 << 64);
+        search::rank_of_kept(self.deltas, input_offset, len)
+    }
+
+    /// Whether the offset lies above the first byte of a deletion and below its end. O(log n).
+    #[inline]
+    pub fn is_inside(&self, input_offset: u64) -> bool {
+        search::is_inside(self.deltas, input_offset)
+    }
+
+    /// The offset in the input section of the kept byte at `output_offset`, or none where that is
+    /// above `u64::MAX`. O(log n).
+    #[inline(always)]
+    pub fn output_to_input_offset(&self, output_offset: u64) -> Option<u64> {
+        output_offset.checked_add(search::bytes_before(self.deltas, output_offset))
+    }
+
+    /// Writes the output offset of each of the queries, in order, in one walk through the deltas:
+    /// O(n + q). Promised where `can_translate_all` accepts the queries.
+    ///
+    /// # Requires
+    ///
+    /// - `queries.len() == out.len()`
+    #[inline]
+    pub fn translate_all(&self, queries: &[u64], out: &mut [u64]) {
+        debug_assert!(queries.len() == out.len());
+        let _end = walk(self.deltas, Reached::START, queries, out);
+    }
+
+    /// Whether the queries don't decrease.
+    #[inline]
+    pub fn can_translate_all(queries: &[u64]) -> bool {
+        ascend(queries)
+    }
+
+    /// The index of the first of the additional deletions, in any order, that can't be merged: it
+    /// ends above `u64::MAX`, or overlaps a deletion of the list or an earlier additional one. Of
+    /// two deletions that don't overlap one has the lower offset and does not reach past the
+    /// other's. None where all can be merged.
+    ///
+    /// It takes no memory. For k deletions beside n deltas the work is O(k log n + k) where they
+    /// ascend, as a pass over a section makes them, and else O(k log n + k²).
+    pub fn first_overlapping<D: AsDeletion>(&self, additional: &[D]) -> Option<usize> {
+        overlap::first_overlapping(self.deltas, additional)
+    }
+}

@@ -1,0 +1,181 @@
+// Made by tools/erase of crates/linker_base/src/relaxation/overlap.rt.
+//! Tests of lists of deletions. None takes memory.
+
+use alloc::vec::Vec;
+use super::RelaxDelta;
+use super::search::count_below;
+
+/// What records one deletion: a pair of its offset and its bytes, a delta, a caller's own struct.
+pub trait AsDeletion: Copy {
+    /// The offset of the first deleted byte, and how many bytes are deleted.
+    fn as_deletion(self) -> (u64, u32);
+}
+
+impl AsDeletion for (u64, u32) {
+    #[inline(always)]
+    fn as_deletion(self) -> (u64, u32) {
+        self
+    }
+}
+
+impl AsDeletion for RelaxDelta {
+    #[inline(always)]
+    fn as_deletion(self) -> (u64, u32) {
+        (self.input_offset, self.bytes_deleted)
+    }
+}
+
+// Whether the first pair lies below the second: it has a lower offset and does not reach past it.
+#[inline(always)]
+fn is_before(first: (u64, u32), second: (u64, u32)) -> bool {
+    first.0 < second.0 && u64::from(first.1) <= second.0 - first.0
+}
+
+// Whether the pair ends at `u64::MAX` or below.
+#[inline(always)]
+fn end_fits(pair: (u64, u32)) -> bool {
+    u64::from(pair.1) <= u64::MAX - pair.0
+}
+
+/// The index of the first deletion that is not valid after those before it: its offset isn't above
+/// that of the one before, that one reaches past it, or it ends above `u64::MAX`. None where the
+/// list is valid.
+#[inline]
+pub fn first_invalid<D: AsDeletion>(deletions: &[D]) -> Option<usize> {
+    for at in 0..deletions.len() {
+        let here = deletions[at].as_deletion();
+        if !end_fits(here) || at > 0 && !is_before(deletions[at - 1].as_deletion(), here) {
+            return Some(at);
+        }
+    }
+    None
+}
+
+// The index of the first of the additional deletions that overlaps a delta or an earlier one of
+// them, or doesn't fit. Deletions that ascend overlap no earlier one.
+pub(super) fn first_overlapping<D: AsDeletion>(
+    deltas: &[RelaxDelta],
+    additional: &[D],
+) -> Option<usize> {
+    let ascending = valid_len(additional);
+    for at in 0..additional.len() {
+        let here = additional[at].as_deletion();
+        if !end_fits(here)
+            || !is_beside_deltas(deltas, here)
+            || at >= ascending && !is_beside(&additional[..at], here)
+        {
+            return Some(at);
+        }
+    }
+    None
+}
+
+// How many of the first deletions make a valid list.
+#[inline(always)]
+fn valid_len<D: AsDeletion>(deletions: &[D]) -> usize {
+    match first_invalid(deletions) {
+        Some(at) => at,
+        None => deletions.len(),
+    }
+}
+
+// Whether the deletion overlaps none of the others.
+fn is_beside<D: AsDeletion>(others: &[D], deletion: (u64, u32)) -> bool {
+    for at in 0..others.len() {
+        let other = others[at].as_deletion();
+        if !is_before(other, deletion) && !is_before(deletion, other) {
+            return false;
+        }
+    }
+    true
+}
+
+// Whether the deletion overlaps none of the deltas: the nearest two decide.
+fn is_beside_deltas(deltas: &[RelaxDelta], deletion: (u64, u32)) -> bool {
+    let below = count_below(deltas, deletion.0);
+    (below == 0 || is_before(deltas[below - 1].as_deletion(), deletion))
+        && (below == deltas.len() || is_before(deletion, deltas[below].as_deletion()))
+}
+
+// Whether the pairs of all batches, in any order, make a valid list once sorted. Pairs that
+// ascend, from each batch to the next too, take one pass.
+pub(super) fn are_disjoint_batches(batches: &[Vec<(u64, u32)>]) -> bool {
+    for at in count_ascending(batches)..batches.len() {
+        let batch = &batches[at];
+        if !are_disjoint(batch) || !are_beside_batches(&batches[..at], batch) {
+            return false;
+        }
+    }
+    true
+}
+
+// Whether the pairs, in any order, make a valid list once sorted.
+fn are_disjoint(pairs: &[(u64, u32)]) -> bool {
+    first_overlapping(&[], pairs).is_none()
+}
+
+// How many of the first batches make a valid list, one after the other.
+fn count_ascending(batches: &[Vec<(u64, u32)>]) -> usize {
+    let mut next = 0;
+    for (at, batch) in batches.iter().enumerate() {
+        match next_after(next, batch) {
+            Some(after) => next = after,
+            None => return at,
+        }
+    }
+    batches.len()
+}
+
+// The lowest offset that may follow the pairs, where they are a valid list that begins at `from`
+// or above. It may be one past the 64 bits of an offset.
+fn next_after(from: u128, pairs: &[(u64, u32)]) -> Option<u128> {
+    let mut next = from;
+    for &pair in pairs {
+        let begin = u128::from(pair.0);
+        if begin < next || !end_fits(pair) {
+            return None;
+        }
+        next = begin + u128::from(pair.1).max(1);
+    }
+    Some(next)
+}
+
+// Whether none of the pairs overlaps a pair of the batches.
+fn are_beside_batches(batches: &[Vec<(u64, u32)>], pairs: &[(u64, u32)]) -> bool {
+    for &pair in pairs {
+        if !is_beside_batches(batches, pair) {
+            return false;
+        }
+    }
+    true
+}
+
+// Whether the pair overlaps no pair of the batches.
+fn is_beside_batches(batches: &[Vec<(u64, u32)>], pair: (u64, u32)) -> bool {
+    for batch in batches {
+        if !is_beside(batch.as_slice(), pair) {
+            return false;
+        }
+    }
+    true
+}
+
+// Whether no pair of the batches overlaps a delta.
+pub(super) fn are_beside_deltas_batches(deltas: &[RelaxDelta], batches: &[Vec<(u64, u32)>]) -> bool {
+    for batch in batches {
+        if !are_beside_deltas(deltas, batch) {
+            return false;
+        }
+    }
+    true
+}
+
+// Whether none of the pairs overlaps a delta.
+fn are_beside_deltas(deltas: &[RelaxDelta], pairs: &[(u64, u32)]) -> bool {
+    for &pair in pairs {
+        if !is_beside_deltas(deltas, pair) {
+            return false;
+        }
+    }
+    true
+}

@@ -1,0 +1,63 @@
+// Made by tools/erase of crates/linker_base/src/relaxation/walk.rt.
+//! A walk through deltas, for offsets that don't decrease.
+
+use super::RelaxDelta;
+
+// How far a walk has come: the deltas that it has passed, their bytes, and the end of the last.
+#[derive(Clone, Copy)]
+pub(super) struct Reached {
+    pub passed: usize,
+    pub deleted: u64,
+    pub end: u64,
+}
+
+impl Reached {
+    pub(super) const START: Reached = Reached {
+        passed: 0,
+        deleted: 0,
+        end: 0,
+    };
+}
+
+// Passes the deltas that begin strictly below the offset.
+#[inline(always)]
+pub(super) fn pass(deltas: &[RelaxDelta], from: Reached, offset: u64) -> Reached {
+    let mut reached = from;
+    while reached.passed < deltas.len() && deltas[reached.passed].input_offset < offset {
+        let delta = deltas[reached.passed];
+        reached = Reached {
+            passed: reached.passed + 1,
+            deleted: delta.cumulative_deleted,
+            end: delta
+                .input_offset
+                .wrapping_add(u64::from(delta.bytes_deleted)),
+        };
+    }
+    reached
+}
+
+// Writes the output offset of each query, and passes the deltas that begin below it.
+#[inline]
+pub(super) fn walk(
+    deltas: &[RelaxDelta],
+    from: Reached,
+    queries: &[u64],
+    out: &mut [u64],
+) -> Reached {
+    let mut reached = from;
+    for (at, &query) in queries.iter().enumerate() {
+        reached = pass(deltas, reached, query);
+        out[at] = query.max(reached.end).wrapping_sub(reached.deleted);
+    }
+    reached
+}
+
+// Whether the offsets don't decrease. No early return, so that several are compared at a time.
+#[inline]
+pub(super) fn ascend(offsets: &[u64]) -> bool {
+    let mut falls = false;
+    for at in 1..offsets.len() {
+        falls |= offsets[at] < offsets[at - 1];
+    }
+    !falls
+}

@@ -1,0 +1,244 @@
+// Made by tools/erase of crates/linker_base/src/utils.rt.
+#![doc = include_str!("../../doc/utils.md")]
+
+#[cfg(feature = "readers")]
+use alloc::string::String;
+#[cfg(feature = "readers")]
+use crate::support::*;
+#[cfg(feature = "readers")]
+use anyhow::{Result, bail, ensure};
+#[cfg(feature = "readers")]
+use bstr::ByteSlice;
+
+/// The first four bytes as a little-endian number.
+///
+/// # Requires
+///
+/// - `4 <= bytes.len()`
+#[inline]
+pub fn u32_from_slice(bytes: &[u8]) -> u32 {
+    debug_assert!(4 <= bytes.len());
+    u32::from_le_bytes([bytes[0], bytes[1], bytes[2], bytes[3]])
+}
+
+/// The first eight bytes as a little-endian number.
+///
+/// # Requires
+///
+/// - `8 <= bytes.len()`
+#[inline]
+pub fn u64_from_slice(bytes: &[u8]) -> u64 {
+    debug_assert!(8 <= bytes.len());
+    u64::from_le_bytes([
+        bytes[0], bytes[1], bytes[2], bytes[3], bytes[4], bytes[5], bytes[6], bytes[7],
+    ])
+}
+
+/// ORs the mask into the first bytes of `dest`. The bytes past the mask's length stay.
+///
+/// # Requires
+///
+/// - `mask_bytes.len() <= dest.len()`
+pub fn or_from_slice(dest: &mut [u8], mask_bytes: &[u8]) {
+    debug_assert!(mask_bytes.len() <= dest.len());
+    for (i, mask) in mask_bytes.iter().enumerate() {
+        dest[i] |= *mask;
+    }
+}
+
+/// ANDs the mask into the first bytes of `dest`. The bytes past the mask's length stay.
+///
+/// # Requires
+///
+/// - `mask_bytes.len() <= dest.len()`
+pub fn and_from_slice(dest: &mut [u8], mask_bytes: &[u8]) {
+    debug_assert!(mask_bytes.len() <= dest.len());
+    for (i, mask) in mask_bytes.iter().enumerate() {
+        dest[i] &= *mask;
+    }
+}
+
+/// Reads a little-endian number of four bytes, and advances the content past it.
+///
+/// # Errors
+///
+/// "Not enough bytes to read u32" with fewer than four bytes. The content is then unchanged.
+#[cfg(feature = "readers")]
+#[inline]
+pub fn read_u32(content: &mut &[u8]) -> Result<u32> {
+    let bytes: &[u8] = *content;
+    ensure!(bytes.len() >= 4, "Not enough bytes to read u32");
+    *content = &bytes[4..];
+    Ok(u32_from_slice(bytes))
+}
+
+/// Reads a NUL-terminated string, and advances the content past the NUL. Each sequence of bytes
+/// that is not UTF-8 becomes U+FFFD.
+///
+/// # Errors
+///
+/// "No null terminator found in string", and "Out of memory". The content is then unchanged.
+#[cfg(feature = "readers")]
+pub fn read_string(content: &mut &[u8]) -> Result<String> {
+    let bytes: &[u8] = *content;
+    let Some(end) = bytes.find_byte(0) else {
+        bail!("No null terminator found in string");
+    };
+    let Ok(text) = lossy_text(&bytes[..end]) else {
+        bail!("Out of memory");
+    };
+    *content = &bytes[end + 1..];
+    Ok(text)
+}
+
+#[cfg(feature = "readers")]
+fn lossy_text(bytes: &[u8]) -> Result<String, AllocError> {
+    bytes.fallible_to_str_lossy()?.fallible_into_owned()
+}
+
+/// Reads a ULEB128 number, and advances the content past it. A number has at most ten bytes: seven
+/// bits a byte, the lowest first, and each byte but the last is at least 0x80. The tenth is 0 or 1.
+/// Padding zeros are accepted.
+///
+/// ```
+/// let mut content: &[u8] = &[0xe5, 0x8e, 0x26, 0x07];
+/// assert_eq!(linker_utils::utils::read_uleb128(&mut content).unwrap(), 624485);
+/// assert_eq!(content, &[0x07]);
+/// ```
+///
+/// # Errors
+///
+/// "Failed to read ULEB128 value: ended" if the content ends first, and ".. too large" if the tenth
+/// byte is neither 0 nor 1. The content is then unchanged.
+#[cfg(feature = "readers")]
+pub fn read_uleb128(content: &mut &[u8]) -> Result<u64> {
+    let bytes: &[u8] = *content;
+    let mut value = 0;
+    for (i, byte) in bytes.iter().enumerate() {
+        if i == 9 && *byte > 1 {
+            bail!("Failed to read ULEB128 value: too large");
+        }
+        value |= u64::from(*byte & 0x7f) << (7 * i as u64);
+        if *byte < 0x80 {
+            *content = &bytes[i + 1..];
+            return Ok(value);
+        }
+    }
+    bail!("Failed to read ULEB128 value: ended");
+}
+
+/// Bytes begin with at most one ULEB128 number, and the rest after it is determined.
+pub fn uleb128_has_one_reading() {}
+
+#[cfg(feature = "readers")]
+#[cfg(test)]
+mod tests {
+    use crate::support::*;
+    use super::*;
+    use anyhow::Error;
+
+    // the error's text, without allocation
+    fn printed(error: Error) -> InlineText<120> {
+        InlineText::of(error)
+    }
+
+    #[test]
+    fn takes_words_lowest_byte_first() -> Result<(), Fail> {
+        let bytes = [1, 2, 3, 4, 5, 6, 7, 0x88, 9];
+        assert_eq!(u32_from_slice(&bytes), 0x0403_0201);
+        assert_eq!(u64_from_slice(&bytes), 0x8807_0605_0403_0201);
+
+        let mut content: &[u8] = &[1, 2, 3, 4, 5];
+        assert_eq!(read_u32(&mut content)?, 0x0403_0201);
+        assert_eq!(content, [5].as_slice());
+
+        let mut short: &[u8] = &[1, 2, 3];
+        let error = read_u32(&mut short).expect_err("three bytes");
+        assert_eq!(printed(error).as_str(), "Not enough bytes to read u32");
+        assert_eq!(short, [1, 2, 3].as_slice());
+        Ok(())
+    }
+
+    #[test]
+    fn masks_the_bytes_below_the_length_of_the_mask() {
+        let mut dest = [0x0f, 0x30, 0x55];
+        or_from_slice(&mut dest, &[0x81, 0x02]);
+        assert_eq!(dest, [0x8f, 0x32, 0x55]);
+        and_from_slice(&mut dest, &[0x7f, 0xf0]);
+        assert_eq!(dest, [0x0f, 0x30, 0x55]);
+    }
+
+    #[test]
+    fn reads_uleb128_of_ten_bytes_at_most() -> Result<(), Fail> {
+        let read: [(&[u8], u64, &[u8]); 6] = [
+            (b"\xe5\x8e\x26", 624485, b""),
+            (b"\xe5\x8e\x26\x07", 624485, b"\x07"),
+            (b"\x80\x00", 0, b""),
+            (b"\x80\x80\x80\x80\x80\x80\x80\x80\x80\x00", 0, b""),
+            (b"\x80\x80\x80\x80\x80\x80\x80\x80\x80\x01", 1 << 63, b""),
+            (
+                b"\xff\xff\xff\xff\xff\xff\xff\xff\xff\x01\x80",
+                u64::MAX,
+                b"\x80",
+            ),
+        ];
+        for (bytes, number, rest) in read {
+            let mut content = bytes;
+            assert_eq!(read_uleb128(&mut content)?, number, "of {bytes:?}");
+            assert_eq!(content, rest, "after {bytes:?}");
+        }
+
+        let ended = "Failed to read ULEB128 value: ended";
+        let too_large = "Failed to read ULEB128 value: too large";
+        let rejected: [(&[u8], &str); 5] = [
+            (b"", ended),
+            (b"\x80", ended),
+            (b"\x80\x80\x80\x80\x80\x80\x80\x80\x80", ended),
+            (b"\x80\x80\x80\x80\x80\x80\x80\x80\x80\x80", too_large),
+            (b"\xff\xff\xff\xff\xff\xff\xff\xff\xff\x02", too_large),
+        ];
+        for (bytes, text) in rejected {
+            let mut content = bytes;
+            let error = read_uleb128(&mut content).expect_err("no number");
+            assert_eq!(printed(error).as_str(), text, "of {bytes:?}");
+            assert_eq!(content, bytes);
+        }
+        Ok(())
+    }
+
+    #[test]
+    fn reads_the_text_before_a_nul() -> Result<(), Fail> {
+        let read: [(&[u8], &str, &[u8]); 3] = [
+            (b"a\0b", "a", b"b"),
+            (b"a\xffb\0c", "a\u{fffd}b", b"c"),
+            (b"\0", "", b""),
+        ];
+        for (bytes, text, rest) in read {
+            let mut content = bytes;
+            assert_eq!(read_string(&mut content)?.as_str(), text);
+            assert_eq!(content, rest);
+        }
+        Ok(())
+    }
+
+    // `rt try --test --fail-alloc N` makes one allocation fail.
+    #[test]
+    fn an_error_leaves_the_text_unread() -> Result<(), Fail> {
+        let mut endless: &[u8] = b"ab";
+        let error = read_string(&mut endless).expect_err("no NUL");
+        assert_eq!(
+            printed(error).as_str(),
+            "No null terminator found in string"
+        );
+        assert_eq!(endless, b"ab".as_slice());
+
+        let mut content: &[u8] = b"a\0b";
+        if let Err(error) = read_string(&mut content) {
+            assert_eq!(printed(error).as_str(), "Out of memory");
+            assert_eq!(content, b"a\0b".as_slice());
+            assert_eq!(read_string(&mut content)?.as_str(), "a");
+        }
+        assert_eq!(content, b"b".as_slice());
+        Ok(())
+    }
+}

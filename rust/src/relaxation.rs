@@ -1,0 +1,16 @@
+// Made by tools/erase of crates/linker_utils/src/relaxation.rt.
+//! Deletions that relaxation makes in a section, the offsets of what they leave, and sections that
+//! are packed.
+#![doc = include_str!("../doc/relaxation.md")]
+
+mod packing;
+
+pub use crate::linker_base::relaxation::{
+    AsDeletion, BLOCK_LEN, BlockHead, Counted, DeltaSlice, Looks, OutOfMemory, RelaxCursor,
+    RelaxDelta, RelaxDeltaMap, RelocationModifier, SectionRelaxDeltas, first_invalid,
+    input_to_output_counted, laws, opt_input_to_output, output_to_input_counted,
+};
+pub use packing::{
+    AsCall, PackError, RejectedCall, calls_apart, first_not_apart, pack_into, pack_section,
+    packed_calls_reach_targets, packed_len,
+};

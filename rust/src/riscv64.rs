@@ -1,0 +1,17 @@
+// Made by tools/erase of crates/linker_utils/src/riscv64.rt.
+//! RISC-V: instruction forms, relaxation rewrites, what relocations mean, and calls that become
+//! jumps.
+#![doc = include_str!("../doc/riscv64.md")]
+
+mod calls;
+mod forms;
+mod relocations;
+mod rewrites;
+
+pub(crate) use calls::{distance_between, is_even};
+pub use calls::{
+    CallError, JAL_MAX, JAL_MIN, JumpError, LinkRegister, distance_fits_jal, is_plain_call,
+    jal_site, jal_site_with, relax_call, relax_call_over,
+};
+pub use relocations::{RiscVRelocation, relocation_type_from_raw};
+pub use rewrites::RelaxationKind;

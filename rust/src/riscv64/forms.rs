@@ -1,0 +1,184 @@
+// Made by tools/erase of crates/linker_utils/src/riscv64/forms.rt.
+//! RISC-V: the immediates of instructions.
+
+use crate::elf::engine::{self, Run, Window, run};
+use crate::elf::{InstructionForm, RelocationInstruction, RiscVInstruction};
+
+const U_TYPE: [Run; 1] = [run!(added 0x800: 12, 12, 20)];
+
+const I_TYPE: [Run; 1] = [run!(0, 20, 12)];
+
+const S_TYPE: [Run; 2] = [run!(0, 7, 5), run!(5, 25, 7)];
+
+const B_TYPE: [Run; 4] = [
+    run!(11, 7, 1),
+    run!(1, 8, 4),
+    run!(5, 25, 6),
+    run!(12, 31, 1),
+];
+
+const J_TYPE: [Run; 4] = [
+    run!(12, 12, 8),
+    run!(11, 20, 1),
+    run!(1, 21, 10),
+    run!(20, 31, 1),
+];
+
+const CB_TYPE: [Run; 5] = [
+    run!(5, 2, 1),
+    run!(1, 3, 2),
+    run!(6, 5, 2),
+    run!(3, 10, 2),
+    run!(8, 12, 1),
+];
+
+const CJ_TYPE: [Run; 8] = [
+    run!(5, 2, 1),
+    run!(1, 3, 3),
+    run!(7, 6, 1),
+    run!(6, 7, 1),
+    run!(10, 8, 1),
+    run!(8, 9, 2),
+    run!(4, 11, 1),
+    run!(11, 12, 1),
+];
+
+const CLUI_TYPE: [Run; 2] = [run!(added 0x800: 12, 2, 5), run!(added 0x800: 17, 12, 1)];
+
+const UI_TYPE: [Run; 2] = [run!(added 0x800: 12, 12, 20), run!(0, 52, 12)];
+
+const UI_LOW: [Run; 1] = [run!(0, 52, 12)];
+
+impl RiscVInstruction {
+    /// Writes the bits of a value.
+    #[inline(always)]
+    fn place(self, value: u64, negative: bool, dest: &mut [u8]) {
+        let insn = RelocationInstruction::RiscV(self);
+        match self {
+            RiscVInstruction::UType => {
+                engine::write_form(insn, Window::Four, &U_TYPE, value, negative, dest);
+            }
+            RiscVInstruction::IType => {
+                engine::write_form(insn, Window::Four, &I_TYPE, value, negative, dest);
+            }
+            RiscVInstruction::SType => {
+                engine::write_form(insn, Window::Four, &S_TYPE, value, negative, dest);
+            }
+            RiscVInstruction::BType => {
+                engine::write_form(insn, Window::Four, &B_TYPE, value, negative, dest);
+            }
+            RiscVInstruction::JType => {
+                engine::write_form(insn, Window::Four, &J_TYPE, value, negative, dest);
+            }
+            RiscVInstruction::CbType => {
+                engine::write_form(insn, Window::Two, &CB_TYPE, value, negative, dest);
+            }
+            RiscVInstruction::CjType => {
+                engine::write_form(insn, Window::Two, &CJ_TYPE, value, negative, dest);
+            }
+            RiscVInstruction::CluiType => {
+                engine::write_form(insn, Window::Two, &CLUI_TYPE, value, negative, dest);
+            }
+            RiscVInstruction::UiType => {
+                engine::write_form(insn, Window::Eight, &UI_TYPE, value, negative, dest);
+            }
+        }
+    }
+
+    /// Writes a value into the instruction that `dest` begins with. Only the form's bits change.
+    /// `negative` is ignored.
+    ///
+    /// `UType`, and `IType` or `SType`, of one value make a pair; `UiType` is both (RISC-V ELF
+    /// psABI, "Absolute Addresses" and "PC-Relative Symbol Addresses"). The two instructions add up
+    /// to the value modulo 2^32, and to the value itself from -2^31 - 0x800 to 2^31 - 0x801.
+    ///
+    /// # Requires
+    ///
+    /// - `self.window() <= dest.len()`
+    #[inline]
+    pub fn write_to_value(self, extracted_value: u64, negative: bool, dest: &mut [u8]) {
+        debug_assert!(self.window() <= dest.len());
+        self.place(extracted_value, negative, dest);
+    }
+
+    /// The value in the instruction that `bytes` begins with, sign-extended to 64 bits, and whether
+    /// it is below 0. For `UType` and `CluiType` it is the least value that gives those bits. For
+    /// `CluiType` the flag is whether the immediate itself is below 0; for `UType` and `UiType` it
+    /// is false.
+    ///
+    /// # Requires
+    ///
+    /// - `self.window() <= bytes.len()`
+    #[inline]
+    pub fn read_value(self, bytes: &[u8]) -> (u64, bool) {
+        debug_assert!(self.window() <= bytes.len());
+        let insn = RelocationInstruction::RiscV(self);
+        match self {
+            RiscVInstruction::UType => {
+                let (high, _) = engine::read_signed(Window::Four, &U_TYPE, 32, bytes);
+                (high.wrapping_sub(0x800), false)
+            }
+            RiscVInstruction::IType => {
+                engine::read_flagged_form(insn, Window::Four, &I_TYPE, 12, bytes)
+            }
+            RiscVInstruction::SType => {
+                engine::read_flagged_form(insn, Window::Four, &S_TYPE, 12, bytes)
+            }
+            RiscVInstruction::BType => {
+                engine::read_flagged_form(insn, Window::Four, &B_TYPE, 13, bytes)
+            }
+            RiscVInstruction::JType => {
+                engine::read_flagged_form(insn, Window::Four, &J_TYPE, 21, bytes)
+            }
+            RiscVInstruction::CbType => {
+                engine::read_flagged_form(insn, Window::Two, &CB_TYPE, 9, bytes)
+            }
+            RiscVInstruction::CjType => {
+                engine::read_flagged_form(insn, Window::Two, &CJ_TYPE, 12, bytes)
+            }
+            RiscVInstruction::CluiType => {
+                let (high, negative) = engine::read_signed(Window::Two, &CLUI_TYPE, 18, bytes);
+                (high.wrapping_sub(0x800), negative)
+            }
+            RiscVInstruction::UiType => {
+                let (high, _) = engine::read_signed(Window::Eight, &U_TYPE, 32, bytes);
+                let (low, _) = engine::read_signed(Window::Eight, &UI_LOW, 12, bytes);
+                (high.wrapping_add(low), false)
+            }
+        }
+    }
+}
+
+impl InstructionForm for RiscVInstruction {
+    #[inline]
+    fn window(self) -> usize {
+        match self {
+            RiscVInstruction::UType
+            | RiscVInstruction::IType
+            | RiscVInstruction::SType
+            | RiscVInstruction::BType
+            | RiscVInstruction::JType => 4,
+            RiscVInstruction::CbType | RiscVInstruction::CjType | RiscVInstruction::CluiType => 2,
+            RiscVInstruction::UiType => 8,
+        }
+    }
+
+    #[inline]
+    fn fits(self, _value: u64, _bytes: &[u8]) -> bool {
+        debug_assert!(self.window() <= _bytes.len());
+        true
+    }
+
+    #[inline]
+    fn write(self, value: u64, negative: bool, dest: &mut [u8]) {
+        debug_assert!(self.window() <= dest.len());
+        debug_assert!(self.fits(value, dest));
+        self.write_to_value(value, negative, dest);
+    }
+
+    #[inline]
+    fn read(self, bytes: &[u8]) -> (u64, bool) {
+        debug_assert!(self.window() <= bytes.len());
+        self.read_value(bytes)
+    }
+}

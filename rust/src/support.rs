@@ -1,0 +1,159 @@
+//! What the proved source has of its standard library and Rust's `alloc` has not: calls that take
+//! memory and return an error where there is none, and what tests name.
+#![allow(dead_code, unused_macros, reason = "each of three crates uses a part")]
+
+use alloc::borrow::Cow;
+use alloc::boxed::Box;
+pub(crate) use alloc::collections::TryReserveError as AllocError;
+use alloc::string::{String, ToString};
+use alloc::vec::Vec;
+use core::error::Error;
+use core::fmt::{Debug, Display, Formatter};
+
+/// A value for which there was no memory.
+pub(crate) struct AllocFailed<T> {
+    pub(crate) value: T,
+}
+
+impl<T> Debug for AllocFailed<T> {
+    fn fmt(&self, f: &mut Formatter<'_>) -> core::fmt::Result {
+        f.write_str("no memory for a value")
+    }
+}
+
+impl<T> Display for AllocFailed<T> {
+    fn fmt(&self, f: &mut Formatter<'_>) -> core::fmt::Result {
+        write!(f, "{self:?}")
+    }
+}
+
+impl<T> Error for AllocFailed<T> {}
+
+/// Calls that take memory.
+pub(crate) trait Fallible<T>: Sized {
+    fn fallible_with_capacity(capacity: usize) -> Result<Self, AllocError>;
+    fn fallible_extend_from_slice(&mut self, items: &[T]) -> Result<(), AllocError>
+    where
+        T: Copy;
+    fn fallible_push(&mut self, value: T) -> Result<(), AllocFailed<T>>;
+    fn fallible_insert(&mut self, at: usize, value: T) -> Result<(), AllocFailed<T>>;
+}
+
+/// A copy of a slice.
+pub(crate) trait FallibleCopy<T> {
+    fn fallible_to_vec(&self) -> Result<Vec<T>, AllocError>;
+}
+
+impl<T: Copy> FallibleCopy<T> for [T] {
+    fn fallible_to_vec(&self) -> Result<Vec<T>, AllocError> {
+        let mut items = Vec::new();
+        items.fallible_extend_from_slice(self)?;
+        Ok(items)
+    }
+}
+
+/// A vector of the items, or of one item as often as said.
+macro_rules! try_vec {
+    ($item:expr; $n:expr) => {
+        $crate::support::repeated($item, $n)
+    };
+    ($($item:expr),* $(,)?) => {
+        Ok::<_, $crate::support::AllocError>(alloc::vec::Vec::from([$($item),*]))
+    };
+}
+
+impl<T> Fallible<T> for Vec<T> {
+    #[inline]
+    fn fallible_with_capacity(capacity: usize) -> Result<Vec<T>, AllocError> {
+        let mut items = Vec::new();
+        items.try_reserve_exact(capacity)?;
+        Ok(items)
+    }
+
+    #[inline]
+    fn fallible_extend_from_slice(&mut self, items: &[T]) -> Result<(), AllocError>
+    where
+        T: Copy,
+    {
+        self.try_reserve(items.len())?;
+        self.extend_from_slice(items);
+        Ok(())
+    }
+
+    #[inline]
+    fn fallible_push(&mut self, value: T) -> Result<(), AllocFailed<T>> {
+        self.fallible_insert(self.len(), value)
+    }
+
+    #[inline]
+    fn fallible_insert(&mut self, at: usize, value: T) -> Result<(), AllocFailed<T>> {
+        if self.try_reserve(1).is_err() {
+            return Err(AllocFailed { value });
+        }
+        self.insert(at, value);
+        Ok(())
+    }
+}
+
+pub(crate) fn repeated<T: Copy>(item: T, len: usize) -> Result<Vec<T>, AllocError> {
+    let mut items = Vec::fallible_with_capacity(len)?;
+    items.resize(len, item);
+    Ok(items)
+}
+
+/// Texts that take memory.
+pub(crate) trait FallibleText {
+    fn fallible_to_str_lossy(&self) -> Result<Cow<'_, str>, AllocError>;
+}
+
+impl FallibleText for [u8] {
+    fn fallible_to_str_lossy(&self) -> Result<Cow<'_, str>, AllocError> {
+        if let Ok(text) = core::str::from_utf8(self) {
+            return Ok(Cow::Borrowed(text));
+        }
+        let mut text = String::new();
+        for chunk in self.utf8_chunks() {
+            text.try_reserve(chunk.valid().len() + char::REPLACEMENT_CHARACTER.len_utf8())?;
+            text.push_str(chunk.valid());
+            if !chunk.invalid().is_empty() {
+                text.push(char::REPLACEMENT_CHARACTER);
+            }
+        }
+        Ok(Cow::Owned(text))
+    }
+}
+
+/// A text that becomes the caller's.
+pub(crate) trait FallibleOwned {
+    fn fallible_into_owned(self) -> Result<String, AllocError>;
+}
+
+impl FallibleOwned for Cow<'_, str> {
+    fn fallible_into_owned(self) -> Result<String, AllocError> {
+        match self {
+            Cow::Owned(text) => Ok(text),
+            Cow::Borrowed(text) => {
+                let mut owned = String::new();
+                owned.try_reserve_exact(text.len())?;
+                owned.push_str(text);
+                Ok(owned)
+            }
+        }
+    }
+}
+
+/// Why a test fails.
+pub(crate) type Fail = Box<dyn Error>;
+
+/// What a value prints.
+pub(crate) struct InlineText<const N: usize>(String);
+
+impl<const N: usize> InlineText<N> {
+    pub(crate) fn of(value: impl Display) -> InlineText<N> {
+        InlineText(value.to_string())
+    }
+
+    pub(crate) fn as_str(&self) -> &str {
+        &self.0
+    }
+}

@@ -1,0 +1,28 @@
+// Made by tools/erase of crates/vectors/src/lib.rt.
+//! Test vectors that cross crates, and `poke`, a user of the interface of instruction forms alone.
+
+#![allow(clippy::complexity, clippy::style, reason = "the text is that of the proved source")]
+
+extern crate alloc;
+
+#[macro_use]
+#[path = "../../src/support.rs"]
+mod support;
+
+#[cfg(test)]
+mod aarch64;
+#[cfg(test)]
+mod deltas;
+#[cfg(test)]
+mod jumps;
+#[cfg(test)]
+mod loongarch64;
+#[cfg(test)]
+mod packing;
+pub mod poke;
+#[cfg(test)]
+mod ppc64;
+#[cfg(test)]
+mod riscv64;
+#[cfg(test)]
+mod x86_64;
