@@ -22,6 +22,10 @@ can_end limit spent len (left, long, room) = omega arith
 pub can_begin : (spent len digits : ℕ) → len ≤ 2 ^ digits → CanHalve (spent + digits) spent len
 can_begin spent len digits fits = (digits, fits, omega arith)
 
+-- the deltas of some blocks: six digits more
+pub can_begin_blocks : (spent size blocks digits : ℕ) → size ≤ 64 * blocks → blocks < 2 ^ digits → CanHalve (spent + digits + 6) spent size
+can_begin_blocks spent size blocks digits few fits = (suc (suc (suc (suc (suc (suc digits))))), omega arith, omega arith)
+
 module _ (p : ℕ → Bool) (n : ℕ) where
   -- ---- parts of parts
 

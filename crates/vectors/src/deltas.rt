@@ -1,8 +1,8 @@
 //! Deletions and offsets, worked by hand: an offset's place is the count of kept bytes below it.
 
 use linker_utils::relaxation::{
-    DeltaSlice, OutOfMemory, RelaxDelta, RelaxDeltaMap, SectionRelaxDeltas, first_invalid,
-    opt_input_to_output,
+    DeltaSlice, Looks, OutOfMemory, RelaxDelta, RelaxDeltaMap, SectionRelaxDeltas, first_invalid,
+    input_to_output_counted, opt_input_to_output, output_to_input_counted,
 };
 use std::alloc::Global;
 use std::process::Abort;
@@ -226,6 +226,48 @@ fn kept_bytes_have_an_output_offset(rt: HostRuntime) -> Result<(), Fail> {
             "{len} bytes from {start} on"
         );
     }
+    Ok(())
+}
+
+// The output offset of an input offset, and the looks that it took.
+fn output_by_looks(deltas: &SectionRelaxDeltas, input_offset: u64) -> (u64, u64) {
+    let mut looks = deltas.counted();
+    let output = input_to_output_counted(&mut looks, input_offset);
+    (output, looks.count())
+}
+
+// The input offset of an output offset, and the looks that it took.
+fn input_by_looks(rt: &impl Abort, deltas: &SectionRelaxDeltas, output_offset: u64) -> (u64, u64) {
+    assert!(rt; deltas.output_fits(output_offset));
+    let mut looks = deltas.counted();
+    let input = output_to_input_counted(&mut looks, output_offset);
+    (input, looks.count())
+}
+
+#[test]
+fn long_lists_are_searched_by_blocks(rt: HostRuntime) -> Result<(), Fail> {
+    let mut raw = Vec::new(rt.alloc());
+    for k in 0..65u64 {
+        raw.push((8 * k, 4))?;
+    }
+    let deltas = deltas_of(&rt, rt.alloc(), &raw)?;
+    assert_eq!(rt; deltas.total_deleted(), 260);
+    for (from, to) in [(512, 256), (520, 260)] {
+        let (output, looks) = output_by_looks(&deltas, from);
+        assert_eq!(rt; output, to);
+        assert!(rt; looks <= 10);
+    }
+    for (from, to) in [(255, 511), (256, 516)] {
+        let (input, looks) = input_by_looks(&rt, &deltas, from);
+        assert_eq!(rt; input, to);
+        assert!(rt; looks <= 10);
+    }
+
+    assert!(rt; raw.len() >= 64);
+    let one_block = deltas_of(&rt, rt.alloc(), &raw[..64])?;
+    let (output, looks) = output_by_looks(&one_block, 512);
+    assert_eq!(rt; output, 256);
+    assert!(rt; looks <= 9);
     Ok(())
 }
 

@@ -3,8 +3,8 @@
 
 use crate::support::*;
 use linker_utils::relaxation::{
-    DeltaSlice, OutOfMemory, RelaxDelta, RelaxDeltaMap, SectionRelaxDeltas, first_invalid,
-    opt_input_to_output,
+    DeltaSlice, Looks, OutOfMemory, RelaxDelta, RelaxDeltaMap, SectionRelaxDeltas, first_invalid,
+    input_to_output_counted, opt_input_to_output, output_to_input_counted,
 };
 
 fn deltas_of(
@@ -223,6 +223,48 @@ fn kept_bytes_have_an_output_offset() -> Result<(), Fail> {
             "{len} bytes from {start} on"
         );
     }
+    Ok(())
+}
+
+// The output offset of an input offset, and the looks that it took.
+fn output_by_looks(deltas: &SectionRelaxDeltas, input_offset: u64) -> (u64, u64) {
+    let mut looks = deltas.counted();
+    let output = input_to_output_counted(&mut looks, input_offset);
+    (output, looks.count())
+}
+
+// The input offset of an output offset, and the looks that it took.
+fn input_by_looks(deltas: &SectionRelaxDeltas, output_offset: u64) -> (u64, u64) {
+    assert!(deltas.output_fits(output_offset));
+    let mut looks = deltas.counted();
+    let input = output_to_input_counted(&mut looks, output_offset);
+    (input, looks.count())
+}
+
+#[test]
+fn long_lists_are_searched_by_blocks() -> Result<(), Fail> {
+    let mut raw = Vec::new();
+    for k in 0..65u64 {
+        raw.fallible_push((8 * k, 4))?;
+    }
+    let deltas = deltas_of(&raw)?;
+    assert_eq!(deltas.total_deleted(), 260);
+    for (from, to) in [(512, 256), (520, 260)] {
+        let (output, looks) = output_by_looks(&deltas, from);
+        assert_eq!(output, to);
+        assert!(looks <= 10);
+    }
+    for (from, to) in [(255, 511), (256, 516)] {
+        let (input, looks) = input_by_looks(&deltas, from);
+        assert_eq!(input, to);
+        assert!(looks <= 10);
+    }
+
+    assert!(raw.len() >= 64);
+    let one_block = deltas_of(&raw[..64])?;
+    let (output, looks) = output_by_looks(&one_block, 512);
+    assert_eq!(output, 256);
+    assert!(looks <= 9);
     Ok(())
 }
 

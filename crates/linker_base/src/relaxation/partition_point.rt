@@ -5,7 +5,7 @@ ghost use Rattle.linker_base.specs.declared.relaxation.RelaxDelta.{RelaxDelta};
 ghost use Rattle.linker_base.specs.declared.relaxation.partition_point.Level.TheVariants.{Heads, Deltas};
 ghost use Rattle.linker_base.specs.declared.relaxation.partition_point.Level.{Level};
 ghost use Rattle.linker_base.specs.declared.relaxation.partition_point.Test.{Test};
-ghost use Rattle.linker_base.specs.Inner.PartitionPoint.{passes, head_passes, IsRangeOf, IsPartitioned, IsPointOf, IsNarrowed, HeadsAgree, Narrows};
+ghost use Rattle.linker_base.specs.Inner.PartitionPoint.{passes, head_passes, IsRangeOf, IsPartitioned, IsPointOf, IsNarrowed, CanHalve, HeadsAgree, Narrows};
 
 use super::RelaxDelta;
 use super::blocks::{BLOCK_LEN, BlockHead};
@@ -210,6 +210,31 @@ fn shorten<P: Probe>(probe: &mut P, level: Level, test: Test, range: SearchRange
     halve_above(probe, level, test, less, 1024)
 }
 
+/// How many pass, where the partition point lies in a range of 1,024 elements at most.
+#[inline(always)]
+fn point_in<P: Probe>(probe: &mut P, level: Level, test: Test, range: SearchRange) -> usize
+    requires within { IsRangeOf range (P.size probe.old level) }
+    requires short { range.len ≤ 1024 }
+    requires room { P.probes probe.old < 2 ^ 61 + 10 }
+    ensures same_size { P.size probe.new ≡ P.size probe.old }
+    ensures same { P.passing probe.new ≡ P.passing probe.old }
+    ensures same_deltas { P.deltas probe.new ≡ P.deltas probe.old }
+    ensures within { result ≤ P.size probe.old level }
+    ensures point { IsPartitioned (P.passing probe.old level test) (P.size probe.old level)
+        → IsNarrowed (P.passing probe.old level test) (P.size probe.old level) range
+        → IsPointOf (P.passing probe.old level test) (P.size probe.old level) result }
+    ensures spent { (limit : ℕ) → CanHalve limit (P.probes probe.old) range.len
+        → P.probes probe.new ≤ limit + 1 }
+    ensures counted { P.probes probe.new ≤ P.probes probe.old + 11 }
+{
+    let some = halve_five_times(probe, level, test, range);
+    let last = halve_five_times(probe, level, test, some);
+    if last.len == 0 {
+        return last.start;
+    }
+    last.start + probe.passes(level, test, last.start) as usize
+}
+
 /// How many heads pass.
 #[inline(always)]
 fn search_heads<P: Probe>(probe: &mut P, test: Test) -> usize
@@ -230,12 +255,7 @@ fn search_heads<P: Probe>(probe: &mut P, test: Test) -> usize
         len: probe.len(Level::Heads),
     };
     let short = shorten(probe, Level::Heads, test, all);
-    let some = halve_five_times(probe, Level::Heads, test, short);
-    let last = halve_five_times(probe, Level::Heads, test, some);
-    if last.len == 0 {
-        return last.start;
-    }
-    last.start + probe.passes(Level::Heads, test, last.start) as usize
+    point_in(probe, Level::Heads, test, short)
 }
 
 /// How many deltas pass, where the first of the block does and none after the block.
@@ -263,7 +283,8 @@ fn search_block<P: Probe>(probe: &mut P, test: Test, block: usize) -> usize
     last.start + 1
 }
 
-/// How many deltas pass, by the heads of their blocks.
+/// How many deltas pass, by the heads of their blocks. The few deltas of a short list are searched
+/// at once, as they lie in the processor's cache.
 #[inline(always)]
 pub(super) fn search_blocks<P: Probe>(probe: &mut P, test: Test) -> usize
     requires room { P.probes probe.old < 2 ^ 33 }
@@ -273,10 +294,15 @@ pub(super) fn search_blocks<P: Probe>(probe: &mut P, test: Test) -> usize
     ensures within { result ≤ P.size probe.old Deltas }
     ensures point { IsPartitioned (P.passing probe.old Deltas test) (P.size probe.old Deltas) → HeadsAgree (P.passing probe.old Heads test) (P.passing probe.old Deltas test) (P.size probe.old Heads) (P.size probe.old Deltas)
         → IsPointOf (P.passing probe.old Deltas test) (P.size probe.old Deltas) result }
-    ensures spent { (digits : ℕ) → P.size probe.old Heads < 2 ^ digits
+    ensures spent { P.size probe.old Deltas ≤ 64 * P.size probe.old Heads
+        → (digits : ℕ) → P.size probe.old Heads < 2 ^ digits
         → P.probes probe.new ≤ P.probes probe.old + digits + 7 }
     ensures room { P.probes probe.new < 2 ^ 62 }
 {
+    let len = probe.len(Level::Deltas);
+    if len <= 1024 {
+        return point_in(probe, Level::Deltas, test, SearchRange { start: 0, len });
+    }
     match search_heads(probe, test).checked_sub(1) {
         Some(block) => search_block(probe, test, block),
         None => 0,
@@ -301,10 +327,5 @@ pub(super) fn search_deltas<P: Probe>(probe: &mut P, test: Test) -> usize
     while range.len > 1024 {
         range = quarter(probe, Level::Deltas, test, range);
     }
-    let some = halve_five_times(probe, Level::Deltas, test, range);
-    let last = halve_five_times(probe, Level::Deltas, test, some);
-    if last.len == 0 {
-        return last.start;
-    }
-    last.start + probe.passes(Level::Deltas, test, last.start) as usize
+    point_in(probe, Level::Deltas, test, range)
 }

@@ -128,6 +128,17 @@ fn shorten<P: Probe>(probe: &mut P, level: Level, test: Test, range: SearchRange
     halve_above(probe, level, test, less, 1024)
 }
 
+/// How many pass, where the partition point lies in a range of 1,024 elements at most.
+#[inline(always)]
+fn point_in<P: Probe>(probe: &mut P, level: Level, test: Test, range: SearchRange) -> usize {
+    let some = halve_five_times(probe, level, test, range);
+    let last = halve_five_times(probe, level, test, some);
+    if last.len == 0 {
+        return last.start;
+    }
+    last.start + probe.passes(level, test, last.start) as usize
+}
+
 /// How many heads pass.
 #[inline(always)]
 fn search_heads<P: Probe>(probe: &mut P, test: Test) -> usize {
@@ -136,12 +147,7 @@ fn search_heads<P: Probe>(probe: &mut P, test: Test) -> usize {
         len: probe.len(Level::Heads),
     };
     let short = shorten(probe, Level::Heads, test, all);
-    let some = halve_five_times(probe, Level::Heads, test, short);
-    let last = halve_five_times(probe, Level::Heads, test, some);
-    if last.len == 0 {
-        return last.start;
-    }
-    last.start + probe.passes(Level::Heads, test, last.start) as usize
+    point_in(probe, Level::Heads, test, short)
 }
 
 /// How many deltas pass, where the first of the block does and none after the block.
@@ -158,9 +164,14 @@ fn search_block<P: Probe>(probe: &mut P, test: Test, block: usize) -> usize {
     last.start + 1
 }
 
-/// How many deltas pass, by the heads of their blocks.
+/// How many deltas pass, by the heads of their blocks. The few deltas of a short list are searched
+/// at once, as they lie in the processor's cache.
 #[inline(always)]
 pub(super) fn search_blocks<P: Probe>(probe: &mut P, test: Test) -> usize {
+    let len = probe.len(Level::Deltas);
+    if len <= 1024 {
+        return point_in(probe, Level::Deltas, test, SearchRange { start: 0, len });
+    }
     match search_heads(probe, test).checked_sub(1) {
         Some(block) => search_block(probe, test, block),
         None => 0,
@@ -177,10 +188,5 @@ pub(super) fn search_deltas<P: Probe>(probe: &mut P, test: Test) -> usize {
     while range.len > 1024 {
         range = quarter(probe, Level::Deltas, test, range);
     }
-    let some = halve_five_times(probe, Level::Deltas, test, range);
-    let last = halve_five_times(probe, Level::Deltas, test, some);
-    if last.len == 0 {
-        return last.start;
-    }
-    last.start + probe.passes(Level::Deltas, test, last.start) as usize
+    point_in(probe, Level::Deltas, test, range)
 }

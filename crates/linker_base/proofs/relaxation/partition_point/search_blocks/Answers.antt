@@ -1,6 +1,6 @@
 use Rattle.std.proofs.Common.{◌≡◌, ◌+◌, ◌-◌, ◌*◌, arith}
 use Rattle.linker_base.specs.declared.relaxation.partition_point.Level.TheVariants.{Heads, Deltas}
-use Rattle.linker_base.proofs.PartitionPoint.{heads_partitioned, block_begins, block_ends, none_passes}
+use Rattle.linker_base.proofs.PartitionPoint.{heads_partitioned, block_begins, block_ends, none_passes, can_begin_blocks}
 use Rattle.linker_base.proofs.relaxation.partition_point.search_blocks.Goals as goal
 
 pub search_block-requires-clause-begins : goal.search_block-requires-clause-begins
@@ -26,3 +26,10 @@ returns-in-None-clause-point g c parted agree =
     let point = c.search_heads.ensures.point (heads_partitioned heads deltas blocks size c.search_heads.ensures.blocks parted agree) in
     let none : c.search_heads.result ≡ 0 = omega (arith, c.in-None.ensures) in
     none_passes heads deltas blocks size parted agree (rw none at point)
+
+pub returns-then-len-le1024-clause-spent : goal.returns-then-len-le1024-clause-spent
+returns-then-len-le1024-clause-spent g c few digits fits =
+    let probes = g.P.Probe.probes c.args.probe.now in
+    let blocks = g.P.Probe.size c.args.probe.now Heads in
+    let can = can_begin_blocks probes c.len-len.result blocks digits (omega (arith, few, c.len-len.ensures.size)) fits in
+    omega (arith, c.point_in.ensures.spent (probes + digits + 6) can)
