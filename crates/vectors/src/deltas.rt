@@ -244,12 +244,18 @@ fn input_by_looks(rt: &impl Abort, deltas: &SectionRelaxDeltas, output_offset: u
     (input, looks.count())
 }
 
+// So many deletions of four bytes, one each eight bytes.
+fn half_deleted(alloc: Global, count: u32) -> Result<Vec<(u64, u32)>, OutOfMemory> {
+    let mut raw = Vec::new(alloc);
+    for k in 0..count {
+        raw.push((8 * u64::from(k), 4))?;
+    }
+    Ok(raw)
+}
+
 #[test]
 fn long_lists_are_searched_by_blocks(rt: HostRuntime) -> Result<(), Fail> {
-    let mut raw = Vec::new(rt.alloc());
-    for k in 0..65u64 {
-        raw.push((8 * k, 4))?;
-    }
+    let raw = half_deleted(rt.alloc(), 65)?;
     let deltas = deltas_of(&rt, rt.alloc(), &raw)?;
     assert_eq!(rt; deltas.total_deleted(), 260);
     for (from, to) in [(512, 256), (520, 260)] {
@@ -263,8 +269,8 @@ fn long_lists_are_searched_by_blocks(rt: HostRuntime) -> Result<(), Fail> {
         assert!(rt; looks <= 10);
     }
 
-    assert!(rt; raw.len() >= 64);
-    let one_block = deltas_of(&rt, rt.alloc(), &raw[..64])?;
+    let raw = half_deleted(rt.alloc(), 64)?;
+    let one_block = deltas_of(&rt, rt.alloc(), &raw)?;
     let (output, looks) = output_by_looks(&one_block, 512);
     assert_eq!(rt; output, 256);
     assert!(rt; looks <= 9);
