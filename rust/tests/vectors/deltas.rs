@@ -241,12 +241,18 @@ fn input_by_looks(deltas: &SectionRelaxDeltas, output_offset: u64) -> (u64, u64)
     (input, looks.count())
 }
 
+// So many deletions of four bytes, one each eight bytes.
+fn half_deleted(count: u32) -> Result<Vec<(u64, u32)>, OutOfMemory> {
+    let mut raw = Vec::new();
+    for k in 0..count {
+        raw.fallible_push((8 * u64::from(k), 4))?;
+    }
+    Ok(raw)
+}
+
 #[test]
 fn long_lists_are_searched_by_blocks() -> Result<(), Fail> {
-    let mut raw = Vec::new();
-    for k in 0..65u64 {
-        raw.fallible_push((8 * k, 4))?;
-    }
+    let raw = half_deleted(65)?;
     let deltas = deltas_of(&raw)?;
     assert_eq!(deltas.total_deleted(), 260);
     for (from, to) in [(512, 256), (520, 260)] {
@@ -260,8 +266,8 @@ fn long_lists_are_searched_by_blocks() -> Result<(), Fail> {
         assert!(looks <= 10);
     }
 
-    assert!(raw.len() >= 64);
-    let one_block = deltas_of(&raw[..64])?;
+    let raw = half_deleted(64)?;
+    let one_block = deltas_of(&raw)?;
     let (output, looks) = output_by_looks(&one_block, 512);
     assert_eq!(output, 256);
     assert!(looks <= 9);
