@@ -557,8 +557,18 @@ struct linker_utils_delta {
     uint32_t bytes_deleted;
 };
 
+/* Which register the jump that is made of a call links. */
+enum linker_utils_link_register {
+    /* that of the `auipc`, as `linker_utils_relax_call` */
+    LINKER_UTILS_LINK_OF_AUIPC = 0,
+    /* that of the `jalr`, as linkers do */
+    LINKER_UTILS_LINK_OF_JALR = 1
+};
+
 uint32_t linker_utils_jal_site_nonnull(uint8_t *section, size_t section_len, uint64_t site,
                                        int64_t distance);
+uint32_t linker_utils_jal_site_with_nonnull(uint8_t *section, size_t section_len, uint64_t site,
+                                            int64_t distance, uint32_t link);
 uint32_t linker_utils_relax_call_nonnull(uint8_t *section, size_t section_len,
                                          const struct linker_utils_delta *deltas,
                                          size_t deltas_len, uint64_t site, uint64_t target);
@@ -573,9 +583,21 @@ static inline uint32_t linker_utils_jal_site(uint8_t *section, size_t section_le
                                          distance);
 }
 
-/* The same in a section whose bytes stand where they stood before the deletions: the distance is
- * that from the site's output offset to the target's. The target may be the section's end, and
- * inside a deletion it is what follows that. LINKER_UTILS_OUT_OF_SECTION,
+/* Turns the call at a site of a section into a `jal` by a distance in bytes, which links the
+ * register that `link` chooses of `enum linker_utils_link_register`. The `jalr`'s is right for
+ * every call, as for `tail f` and `call t0, f`; the eight bytes at the site then have to be an
+ * `auipc` and a `jalr` over its register. LINKER_UTILS_UNKNOWN_LINK_REGISTER,
+ * LINKER_UTILS_OUT_OF_SECTION, LINKER_UTILS_NOT_A_CALL, LINKER_UTILS_ODD_DISTANCE,
+ * LINKER_UTILS_TOO_FAR. */
+static inline uint32_t linker_utils_jal_site_with(uint8_t *section, size_t section_len,
+                                                  uint64_t site, int64_t distance, uint32_t link) {
+    return linker_utils_jal_site_with_nonnull(LINKER_UTILS_SLICE(uint8_t, section), section_len,
+                                              site, distance, link);
+}
+
+/* As `linker_utils_jal_site`, in a section whose bytes stand where they stood before the
+ * deletions: the distance is that from the site's output offset to the target's. The target may be
+ * the section's end, and inside a deletion it is what follows that. LINKER_UTILS_OUT_OF_SECTION,
  * LINKER_UTILS_SITE_DELETED, LINKER_UTILS_ODD_DISTANCE, LINKER_UTILS_TOO_FAR. */
 static inline uint32_t linker_utils_relax_call(uint8_t *section, size_t section_len,
                                                const struct linker_utils_delta *deltas,
@@ -883,14 +905,6 @@ static inline uint32_t linker_utils_deltas_output_to_input_by_heads(
 struct linker_utils_call {
     uint64_t site;
     uint64_t target;
-};
-
-/* Which register the jump that is made of a call links. */
-enum linker_utils_link_register {
-    /* that of the `auipc`, as `linker_utils_relax_call` */
-    LINKER_UTILS_LINK_OF_AUIPC = 0,
-    /* that of the `jalr`, as linkers do */
-    LINKER_UTILS_LINK_OF_JALR = 1
 };
 
 size_t linker_utils_packed_len_nonnull(const uint8_t *section, size_t section_len,

@@ -274,6 +274,18 @@ pub fn jal_site(section: &mut [u8], site: u64, distance: i64) -> Result<(), Stat
     result_of(status, ())
 }
 
+/// Turns the call at a site of a section into a `jal` by a distance, which links the chosen register.
+pub fn jal_site_with(
+    section: &mut [u8],
+    site: u64,
+    distance: i64,
+    link: LinkRegister,
+) -> Result<(), Status> {
+    let (at, len, link) = (section.as_mut_ptr(), section.len(), link.number());
+    let status = unsafe { raw::linker_utils_jal_site_with_nonnull(at, len, site, distance, link) };
+    result_of(status, ())
+}
+
 /// Turns the call at a site into a jump to a target, once the deleted bytes are gone.
 pub fn relax_call(
     section: &mut [u8],

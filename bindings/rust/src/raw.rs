@@ -83,6 +83,13 @@ extern "C" {
         site: u64,
         distance: i64,
     ) -> u32;
+    pub fn linker_utils_jal_site_with_nonnull(
+        section: *mut u8,
+        section_len: usize,
+        site: u64,
+        distance: i64,
+        link: u32,
+    ) -> u32;
     pub fn linker_utils_relax_call_nonnull(
         section: *mut u8,
         section_len: usize,

@@ -636,6 +636,35 @@ fn rejects_relocations() {
 }
 
 #[test]
+fn jumps_link_the_register_that_gnu_ld_takes() {
+    let rows = [
+        ([0x0000_0317, 0x0003_0067], 8194, 0x0020_206f),
+        ([0x0000_0317, 0x0003_02e7], 4098, 0x0020_12ef),
+    ];
+    for ([auipc, jalr], distance, jump) in rows {
+        let mut section = bytes_of(&[auipc, jalr]);
+        assert_eq!(jal_site_with(&mut section, 0, distance, LinkRegister::OfJalr), Ok(()));
+        assert_eq!(section, bytes_of(&[jump, jalr]));
+    }
+    let before = bytes_of(&[0x0000_0317, 0x0002_0067]);
+    for (site, distance, status) in [
+        (1, 9, Status::OutOfSection),
+        (0, 9, Status::NotACall),
+    ] {
+        let mut section = before.clone();
+        let error = jal_site_with(&mut section, site, distance, LinkRegister::OfJalr);
+        assert_eq!(error, Err(status));
+        assert_eq!(section, before);
+    }
+    for (distance, status) in [(9, Status::OddDistance), (1 << 20, Status::TooFar)] {
+        let mut section = before.clone();
+        let error = jal_site_with(&mut section, 0, distance, LinkRegister::OfAuipc);
+        assert_eq!(error, Err(status));
+        assert_eq!(section, before);
+    }
+}
+
+#[test]
 fn turns_calls_into_jumps() {
     let mut section = CALL;
     assert_eq!(jal_site(&mut section, 0, 8), Ok(()));

@@ -533,8 +533,8 @@ fn the_numbers_are_those_of_the_library() {
     );
     assert_eq!(constants("modifier", "MODIFIER_"), modifiers);
     assert_eq!(numbers(Modifier::ALL, |it| it.number().into()), modifiers);
-    let packing = repository("crates/linker_utils_c/src/packing.rt");
-    let links = arms(&packing, "Some(LinkRegister::");
+    let calls = repository("crates/linker_utils_c/src/calls.rt");
+    let links = arms(&calls, "Some(LinkRegister::");
     assert_eq!(links.len(), 2);
     assert_eq!(constants("link_register", "LINK_"), links);
     assert_eq!(numbers(LinkRegister::ALL, |it| it.number().into()), links);

@@ -1,16 +1,18 @@
 //! RISC-V calls that become jumps, and tests for shorter instructions.
 
-ghost use Rattle.std.specs.Prelude.{◌≡◌, ◌≢◌, ◌↔◌, ◌<◌, ◌≤◌, ◌+◌, IsTrue, IsOk, length};
+ghost use Rattle.std.specs.Prelude.{◌≡◌, ◌≢◌, ◌↔◌, ◌<◌, ◌≤◌, ◌+◌, IsTrue, IsOk, IsNone, IfSome, length};
 ghost use Rattle.linker_base.specs.Bits.{signed};
 ghost use Rattle.linker_base.specs.Deltas.{deletions_of};
 ghost use Rattle.linker_base.specs.Listed.{AreValidDeltas};
-ghost use Rattle.linker_utils.specs.RiscV.{IsEven, IsJalDistance, JumpsAt, IsPlainCall, IsInSection, IsSiteKept, output_distance, FitsClui, HoldsHigh, IsSigned32, hi20, lo12};
+ghost use Rattle.linker_utils.specs.RiscV.{IsEven, IsJalDistance, JumpsAt, JumpsAndLinks, link_register, call_len, NamesRegister, IsPlainCall, IsInSection, IsSiteKept, output_distance, FitsClui, HoldsHigh, IsSigned32, hi20, lo12};
 ghost use Rattle.linker_utils_c.specs.Status.{code};
+ghost use Rattle.linker_utils_c.specs.Packing.{named_link};
+ghost use Rattle.linker_utils.specs.declared.riscv64.calls.JumpError.{JumpError};
 
 use crate::status::Status;
 use linker_utils::elf::RiscVInstruction;
 use linker_utils::relaxation::{DeltaSlice, RelaxDelta};
-use linker_utils::riscv64::{self, CallError, RelaxationKind};
+use linker_utils::riscv64::{self, CallError, JumpError, LinkRegister, RelaxationKind};
 
 /// Turns the `auipc` at a site of a section into a `jal` by a distance in bytes, with the `auipc`'s
 /// destination register. The first that applies of `OutOfSection`, `OddDistance`, `TooFar`.
@@ -24,6 +26,74 @@ pub extern "C" fn linker_utils_jal_site_nonnull(section: &mut [u8], site: u64, d
     ensures unchanged { result ≢ code Status.Success → section.new ≡ section.old }
 {
     call_status(riscv64::jal_site(section, site, distance))
+}
+
+/// Turns the call at a site of a section into a `jal` by a distance in bytes. It links the register of
+/// the `auipc` (`link` 0) or, as linkers do, of the `jalr` (1), which takes the eight bytes of a call.
+/// The first that applies of `UnknownLinkRegister`, `OutOfSection`, `NotACall`, `OddDistance`,
+/// `TooFar`.
+#[unsafe(no_mangle)]
+pub extern "C" fn linker_utils_jal_site_with_nonnull(
+    section: &mut [u8],
+    site: u64,
+    distance: i64,
+    link: u32,
+) -> u32
+    ensures unknown_link { (result ≡ code Status.UnknownLinkRegister) ↔ IsNone (named_link link) }
+    ensures jumps { IfSome (named_link link) (λ register. result ≡ code Status.Success
+        → JumpsAndLinks section.old section.new site (link_register register section.old site)
+        distance) }
+    ensures out_of_section { IfSome (named_link link) (λ register.
+        (result ≡ code Status.OutOfSection)
+        ↔ (length section.old < site + call_len register)) }
+    ensures not_a_call { IfSome (named_link link) (λ register. (result ≡ code Status.NotACall)
+        ↔ ((site + call_len register ≤ length section.old)
+        × ¬ NamesRegister register section.old site)) }
+    ensures odd_distance { IfSome (named_link link) (λ register. (result ≡ code Status.OddDistance)
+        ↔ ((site + call_len register ≤ length section.old)
+        × NamesRegister register section.old site × ¬ IsEven distance)) }
+    ensures too_far { IfSome (named_link link) (λ register. (result ≡ code Status.TooFar)
+        ↔ ((site + call_len register ≤ length section.old)
+        × NamesRegister register section.old site × IsEven distance × ¬ IsJalDistance distance)) }
+    ensures accepted { IfSome (named_link link) (λ register. (result ≡ code Status.Success)
+        ↔ ((site + call_len register ≤ length section.old)
+        × NamesRegister register section.old site × IsEven distance × IsJalDistance distance)) }
+    ensures unchanged { result ≢ code Status.Success → section.new ≡ section.old }
+{
+    match chosen_register(link) {
+        Some(register) => { jump_status(riscv64::jal_site_with(section, site, distance, register)) }
+        None => Status::UnknownLinkRegister.number(),
+    }
+}
+
+// The register that a number chooses.
+pub(crate) fn chosen_register(link: u32) -> Option<LinkRegister>
+    ensures { result ≡ named_link link }
+{
+    match link {
+        0 => Some(LinkRegister::OfAuipc),
+        1 => Some(LinkRegister::OfJalr),
+        _ => None,
+    }
+}
+
+// The status of a call that has become a jump, or of why it hasn't.
+fn jump_status(outcome: Result<(), JumpError>) -> u32
+    ensures known { result ≢ code Status.UnknownLinkRegister }
+    ensures success { (result ≡ code Status.Success) ↔ IsOk outcome }
+    ensures out_of_section { (result ≡ code Status.OutOfSection) ↔ (outcome ≡ Err (JumpError.Call CallError.OutOfSection)) }
+    ensures not_a_call { (result ≡ code Status.NotACall) ↔ (outcome ≡ Err JumpError.NotACall) }
+    ensures odd_distance { (result ≡ code Status.OddDistance) ↔ (outcome ≡ Err (JumpError.Call CallError.OddDistance)) }
+    ensures too_far { (result ≡ code Status.TooFar) ↔ (outcome ≡ Err (JumpError.Call CallError.TooFar)) }
+{
+    match outcome {
+        Ok(()) => Status::Success.number(),
+        Err(JumpError::NotACall) => Status::NotACall.number(),
+        Err(JumpError::Call(CallError::OutOfSection)) => Status::OutOfSection.number(),
+        Err(JumpError::Call(CallError::SiteDeleted)) => Status::SiteDeleted.number(),
+        Err(JumpError::Call(CallError::OddDistance)) => Status::OddDistance.number(),
+        Err(JumpError::Call(CallError::TooFar)) => Status::TooFar.number(),
+    }
 }
 
 /// Turns the call at a site into a jump to a target, in a section whose bytes stand where they stood

@@ -8,7 +8,7 @@ ghost use Rattle.linker_utils.specs.Packing.{AreApart, IsFirstNotApart};
 ghost use Rattle.linker_utils_c.specs.Status.{code};
 ghost use Rattle.linker_utils_c.specs.Packing.{call_of, calls_in, named_link, error_status, IsPackedOrRejected};
 
-use crate::calls::call_status;
+use crate::calls::{call_status, chosen_register};
 use crate::status::Status;
 use linker_utils::relaxation::{AsCall, RelaxDelta, first_not_apart, pack_into, packed_len};
 use linker_utils::riscv64::{JumpError, LinkRegister};
@@ -75,19 +75,9 @@ pub extern "C" fn linker_utils_pack_nonnull(
     ensures faulty_call { result ≡ code Status.CallsNotApart
         → IsFirstNotApart (calls_in calls.now) faulty.new }
 {
-    match link_register(link) {
+    match chosen_register(link) {
         Some(register) => pack(section, deltas, calls, register, packed, faulty),
         None => Status::UnknownLinkRegister.number(),
-    }
-}
-
-fn link_register(link: u32) -> Option<LinkRegister>
-    ensures { result ≡ named_link link }
-{
-    match link {
-        0 => Some(LinkRegister::OfAuipc),
-        1 => Some(LinkRegister::OfJalr),
-        _ => None,
     }
 }
 

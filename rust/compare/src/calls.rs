@@ -4,12 +4,49 @@
 use crate::status::Status;
 use linker_utils::elf::RiscVInstruction;
 use linker_utils::relaxation::{DeltaSlice, RelaxDelta};
-use linker_utils::riscv64::{self, CallError, RelaxationKind};
+use linker_utils::riscv64::{self, CallError, JumpError, LinkRegister, RelaxationKind};
 
 /// Turns the `auipc` at a site of a section into a `jal` by a distance in bytes, with the `auipc`'s
 /// destination register. The first that applies of `OutOfSection`, `OddDistance`, `TooFar`.
 pub fn linker_utils_jal_site_nonnull(section: &mut [u8], site: u64, distance: i64) -> u32 {
     call_status(riscv64::jal_site(section, site, distance))
+}
+
+/// Turns the call at a site of a section into a `jal` by a distance in bytes. It links the register of
+/// the `auipc` (`link` 0) or, as linkers do, of the `jalr` (1), which takes the eight bytes of a call.
+/// The first that applies of `UnknownLinkRegister`, `OutOfSection`, `NotACall`, `OddDistance`,
+/// `TooFar`.
+pub fn linker_utils_jal_site_with_nonnull(
+    section: &mut [u8],
+    site: u64,
+    distance: i64,
+    link: u32,
+) -> u32 {
+    match chosen_register(link) {
+        Some(register) => { jump_status(riscv64::jal_site_with(section, site, distance, register)) }
+        None => Status::UnknownLinkRegister.number(),
+    }
+}
+
+// The register that a number chooses.
+pub(crate) fn chosen_register(link: u32) -> Option<LinkRegister> {
+    match link {
+        0 => Some(LinkRegister::OfAuipc),
+        1 => Some(LinkRegister::OfJalr),
+        _ => None,
+    }
+}
+
+// The status of a call that has become a jump, or of why it hasn't.
+fn jump_status(outcome: Result<(), JumpError>) -> u32 {
+    match outcome {
+        Ok(()) => Status::Success.number(),
+        Err(JumpError::NotACall) => Status::NotACall.number(),
+        Err(JumpError::Call(CallError::OutOfSection)) => Status::OutOfSection.number(),
+        Err(JumpError::Call(CallError::SiteDeleted)) => Status::SiteDeleted.number(),
+        Err(JumpError::Call(CallError::OddDistance)) => Status::OddDistance.number(),
+        Err(JumpError::Call(CallError::TooFar)) => Status::TooFar.number(),
+    }
 }
 
 /// Turns the call at a site into a jump to a target, in a section whose bytes stand where they stood

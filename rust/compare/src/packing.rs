@@ -1,7 +1,7 @@
 // Made by tools/erase of crates/linker_utils_c/src/packing.rt.
 //! The kept bytes of a section, with its calls made jumps.
 
-use crate::calls::call_status;
+use crate::calls::{call_status, chosen_register};
 use crate::status::Status;
 use linker_utils::relaxation::{AsCall, RelaxDelta, first_not_apart, pack_into, packed_len};
 use linker_utils::riscv64::{JumpError, LinkRegister};
@@ -45,17 +45,9 @@ pub fn linker_utils_pack_nonnull(
     packed: &mut [u8],
     faulty: &mut usize,
 ) -> u32 {
-    match link_register(link) {
+    match chosen_register(link) {
         Some(register) => pack(section, deltas, calls, register, packed, faulty),
         None => Status::UnknownLinkRegister.number(),
-    }
-}
-
-fn link_register(link: u32) -> Option<LinkRegister> {
-    match link {
-        0 => Some(LinkRegister::OfAuipc),
-        1 => Some(LinkRegister::OfJalr),
-        _ => None,
     }
 }
 
