@@ -6,6 +6,7 @@ mod moves;
 mod offsets;
 mod pairs;
 
+use crate::rows::expect_eq;
 use linker_utils::aarch64::{
     AArch64Relocation, RelaxationKind, TLS_TCB_SIZE, relocation_type_from_raw, write_mov_sequence,
 };
@@ -58,79 +59,90 @@ fn first_mismatch(
 
 #[test]
 fn words_match_assemblers(rt: HostRuntime) {
-    assert_eq!(rt;
+    expect_eq(
+        &rt,
+        "Adr",
         first_mismatch(AArch64Instruction::Adr, u64::MAX, &fields::ADR),
         None,
-        "Adr"
     );
-    assert_eq!(rt;
+    expect_eq(
+        &rt,
+        "Movkz",
         first_mismatch(AArch64Instruction::Movkz, 0xffff, &fields::MOVKZ),
         None,
-        "Movkz"
     );
-    assert_eq!(rt;
+    expect_eq(
+        &rt,
+        "Ldr",
         first_mismatch(AArch64Instruction::Ldr, u64::MAX, &fields::LDR),
         None,
-        "Ldr"
     );
-    assert_eq!(rt;
+    expect_eq(
+        &rt,
+        "LdrRegister",
         first_mismatch(
             AArch64Instruction::LdrRegister,
             u64::MAX,
-            &fields::LDR_REGISTER
+            &fields::LDR_REGISTER,
         ),
         None,
-        "LdrRegister"
     );
-    assert_eq!(rt;
+    expect_eq(
+        &rt,
+        "Add",
         first_mismatch(AArch64Instruction::Add, u64::MAX, &fields::ADD),
         None,
-        "Add"
     );
-    assert_eq!(rt;
+    expect_eq(
+        &rt,
+        "TstBr",
         first_mismatch(AArch64Instruction::TstBr, u64::MAX, &fields::TST_BR),
         None,
-        "TstBr"
     );
-    assert_eq!(rt;
+    expect_eq(
+        &rt,
+        "Bcond",
         first_mismatch(AArch64Instruction::Bcond, u64::MAX, &fields::BCOND),
         None,
-        "Bcond"
     );
-    assert_eq!(rt;
+    expect_eq(
+        &rt,
+        "JumpCall",
         first_mismatch(AArch64Instruction::JumpCall, u64::MAX, &fields::JUMP_CALL),
         None,
-        "JumpCall"
     );
-    assert_eq!(rt;
+    expect_eq(
+        &rt,
+        "LdSt",
         first_mismatch(AArch64Instruction::LdSt, 0xfff, &offsets::LD_ST),
         None,
-        "LdSt"
     );
-    assert_eq!(rt;
+    expect_eq(
+        &rt,
+        "MachOLow12",
         first_mismatch(
             AArch64Instruction::MachOLow12,
             u64::MAX,
-            &offsets::MACHO_LOW12
+            &offsets::MACHO_LOW12,
         ),
         None,
-        "MachOLow12"
     );
 }
 
 #[test]
 fn movnz_words_match_assemblers(rt: HostRuntime) {
     for &(before, value, negative, after) in &moves::MOVNZ {
-        assert_eq!(rt;
+        expect_eq(
+            &rt,
+            value,
             written(AArch64Instruction::Movnz, value, negative, before),
             Some(after),
-            "{value}"
         );
         let Some((number, flag)) = read(AArch64Instruction::Movnz, after) else {
             panic!(rt; "no window");
         };
-        assert_eq!(rt; flag, negative, "{value}");
-        assert_eq!(rt; number & 0xffff, value & 0xffff, "{value}");
+        expect_eq(&rt, value, flag, negative);
+        expect_eq(&rt, value, number & 0xffff, value & 0xffff);
     }
     assert_eq!(rt;
         written(AArch64Instruction::Movnz, 0xfffe, true, 0xd2a0_0003),
@@ -186,8 +198,8 @@ fn mov_sequences_match_assemblers(rt: HostRuntime) {
         write_mov_sequence(&mut bytes, rd, value);
         let first = [u32_from_slice(&bytes), u32_from_slice(&bytes[4..])];
         let last = [u32_from_slice(&bytes[8..]), u32_from_slice(&bytes[12..])];
-        assert_eq!(rt; first, [words[0], words[1]], "{value}");
-        assert_eq!(rt; last, [words[2], words[3]], "{value}");
+        expect_eq(&rt, value, first, [words[0], words[1]]);
+        expect_eq(&rt, value, last, [words[2], words[3]]);
     }
     let mut bytes = [0u8; 16];
     write_mov_sequence(&mut bytes, 5, 0x0123_4567_89ab_cdef);
@@ -207,42 +219,46 @@ fn page_field(pc: u64, target: u64) -> u64 {
 #[test]
 fn page_and_offset_pairs_match_linkers(rt: HostRuntime) {
     for &(pc, target, before, after) in &pairs::ADRP_ADD {
-        assert_eq!(rt;
+        expect_eq(
+            &rt,
+            target,
             written(
                 AArch64Instruction::Adr,
                 page_field(pc, target),
                 false,
-                before[0]
+                before[0],
             ),
             Some(after[0]),
-            "{target}"
         );
-        assert_eq!(rt;
+        expect_eq(
+            &rt,
+            target,
             written(AArch64Instruction::Add, target & 0xfff, false, before[1]),
             Some(after[1]),
-            "{target}"
         );
     }
     for &(pc, target, before, after) in &pairs::ADRP_LDR {
-        assert_eq!(rt;
+        expect_eq(
+            &rt,
+            target,
             written(
                 AArch64Instruction::Adr,
                 page_field(pc, target),
                 false,
-                before[0]
+                before[0],
             ),
             Some(after[0]),
-            "{target}"
         );
-        assert_eq!(rt;
+        expect_eq(
+            &rt,
+            target,
             written(
                 AArch64Instruction::LdSt,
                 (target & 0xfff) >> 3,
                 false,
-                before[1]
+                before[1],
             ),
             Some(after[1]),
-            "{target}"
         );
     }
 }
@@ -291,7 +307,7 @@ fn rewrites_match_linkers(rt: HostRuntime) {
             ),
             "{value}"
         );
-        assert_eq!(rt; section, after, "{value}");
+        expect_eq(&rt, value, section, after);
     }
     for &(before, page, low, after) in &ADRP_TO_ADD {
         let mut section = before;
@@ -315,7 +331,7 @@ fn rewrites_match_linkers(rt: HostRuntime) {
             ),
             "{page} and {low}"
         );
-        assert_eq!(rt; section, after, "{page} and {low}");
+        expect_eq(&rt, (page, low), section, after);
     }
     for &(before, high, low, after) in &TO_MOVES {
         let mut section = before;
@@ -339,7 +355,7 @@ fn rewrites_match_linkers(rt: HostRuntime) {
             ),
             "{high} and {low}"
         );
-        assert_eq!(rt; section, after, "{high} and {low}");
+        expect_eq(&rt, (high, low), section, after);
     }
     let mut section = [
         0, 0, 0, 0x90, 1, 0, 0x40, 0xf9, 0, 0, 0, 0x91, 0x20, 0, 0x3f, 0xd6,
@@ -407,7 +423,7 @@ fn rewrites_of_one_instruction_match_worked_words(rt: HostRuntime) {
         (RelaxationKind::AdrpAddToNopAdr, 0x9000_0003, None),
     ];
     for &(kind, before, after) in &table {
-        assert_eq!(rt; rewritten_word(kind, before), after, "{before}");
+        expect_eq(&rt, before, rewritten_word(kind, before), after);
     }
     let section = [0u8; 8];
     assert!(rt; !RelaxationKind::AdrpAddToNopAdr.can_apply(&section, 3));

@@ -1,5 +1,6 @@
 //! Deletions and offsets, worked by hand: an offset's place is the count of kept bytes below it.
 
+use crate::rows::expect_eq;
 use linker_utils::relaxation::{
     DeltaSlice, Looks, OutOfMemory, RelaxDelta, RelaxDeltaMap, SectionRelaxDeltas, first_invalid,
     input_to_output_counted, opt_input_to_output, output_to_input_counted,
@@ -73,20 +74,15 @@ fn offsets_are_translated_both_ways(rt: HostRuntime) -> Result<(), Fail> {
     for row in rows {
         let deltas = deltas_of(&rt, rt.alloc(), row.raw)?;
         for (from, to) in row.outputs {
-            assert_eq!(rt;
+            expect_eq(
+                &rt,
+                (from, row.raw),
                 deltas.input_to_output_offset(*from),
                 *to,
-                "in {from} of {:?}",
-                row.raw
             );
         }
         for (from, to) in row.inputs {
-            assert_eq!(rt;
-                input(&rt, &deltas, *from),
-                *to,
-                "out {from} of {:?}",
-                row.raw
-            );
+            expect_eq(&rt, (from, row.raw), input(&rt, &deltas, *from), *to);
         }
     }
     Ok(())
@@ -180,7 +176,7 @@ fn invalid_deletions_are_rejected(rt: HostRuntime) -> Result<(), Fail> {
 
     let first = deltas_of(&rt, rt.alloc(), &[(0, 4)])?;
     for (offset, inside) in [(0, false), (1, true), (3, true), (4, false)] {
-        assert_eq!(rt; first.is_inside(offset), inside, "{offset}");
+        expect_eq(&rt, offset, first.is_inside(offset), inside);
     }
     let last = deltas_of(&rt, rt.alloc(), &[(u64::MAX - 3, 3)])?;
     assert!(rt; !last.output_fits(u64::MAX - 2));
@@ -220,10 +216,11 @@ fn kept_bytes_have_an_output_offset(rt: HostRuntime) -> Result<(), Fail> {
         (14, 4, Some(8)),
         (5, 0, Some(4)),
     ] {
-        assert_eq!(rt;
+        expect_eq(
+            &rt,
+            (len, start),
             deltas.kept_output_offset(start, len),
             output,
-            "{len} bytes from {start} on"
         );
     }
     Ok(())
@@ -283,7 +280,7 @@ fn cursors_pass_each_deletion_once(rt: HostRuntime) -> Result<(), Fail> {
     let mut cursor = deltas.cursor();
     for (query, answer) in [(4, 4), (8, 4), (8, 4), (14, 8), (20, 14)] {
         assert!(rt; cursor.can_translate(query), "{query}");
-        assert_eq!(rt; cursor.translate(query), answer, "{query}");
+        expect_eq(&rt, query, cursor.translate(query), answer);
     }
     assert_eq!(rt; cursor.turns(), 2);
     // back again: what is passed stays passed
@@ -295,7 +292,7 @@ fn cursors_pass_each_deletion_once(rt: HostRuntime) -> Result<(), Fail> {
     let mut inside = deltas.cursor();
     for (query, answer) in [(5, 4), (7, 4), (13, 8), (13, 8), (20, 14)] {
         assert!(rt; inside.can_translate(query), "{query}");
-        assert_eq!(rt; inside.translate(query), answer, "{query}");
+        expect_eq(&rt, query, inside.translate(query), answer);
     }
     assert_eq!(rt; inside.turns(), 2);
     assert!(rt; inside.can_translate(12));

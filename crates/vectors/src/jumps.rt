@@ -1,5 +1,6 @@
 //! Calls that become jumps, worked by hand from the RISC-V unprivileged ISA's `jal`.
 
+use crate::rows::expect_eq;
 use linker_utils::relaxation::SectionRelaxDeltas;
 use linker_utils::riscv64::{
     CallError, JumpError, LinkRegister, jal_site, jal_site_with, relax_call,
@@ -20,9 +21,9 @@ fn sites_jump_by_the_distance(rt: HostRuntime) {
         (1_048_574, 0x7fff_f0ef),
     ] {
         let mut section = CALL;
-        assert_eq!(rt; jal_site(&mut section, 0, distance), Ok(()), "{distance}");
-        assert_eq!(rt; u32_from_slice(&section), word, "{distance}");
-        assert_eq!(rt; section[4..], CALL[4..], "{distance}");
+        expect_eq(&rt, distance, jal_site(&mut section, 0, distance), Ok(()));
+        expect_eq(&rt, distance, u32_from_slice(&section), word);
+        expect_eq(&rt, distance, &section[4..], &CALL[4..]);
     }
 }
 
@@ -40,12 +41,13 @@ fn rejected_sites_are_unchanged(rt: HostRuntime) {
     ];
     for (site, distance, error) in rows {
         let mut section = CALL;
-        assert_eq!(rt;
+        expect_eq(
+            &rt,
+            (site, distance),
             jal_site(&mut section, site, distance),
             Err(error),
-            "{site}, {distance}"
         );
-        assert_eq!(rt; section, CALL, "{site}, {distance}");
+        expect_eq(&rt, (site, distance), section, CALL);
     }
 }
 
@@ -66,13 +68,14 @@ fn a_jump_links_the_register_that_gnu_ld_takes(rt: HostRuntime) {
         (plain, 8, 0x0080_00ef),
     ] {
         let mut section = call;
-        assert_eq!(rt;
+        expect_eq(
+            &rt,
+            call,
             jal_site_with(&mut section, 0, distance, LinkRegister::OfJalr),
             Ok(()),
-            "{call:?}"
         );
-        assert_eq!(rt; u32_from_slice(&section), word, "{call:?}");
-        assert_eq!(rt; section[4..], call[4..], "{call:?}");
+        expect_eq(&rt, call, u32_from_slice(&section), word);
+        expect_eq(&rt, call, &section[4..], &call[4..]);
     }
     let mut section = TAIL;
     let auipc = LinkRegister::OfAuipc;
@@ -92,7 +95,7 @@ fn only_a_call_has_a_jalr(rt: HostRuntime) {
     for row in rows {
         let mut section = row;
         let result = jal_site_with(&mut section, 0, 1_048_577, LinkRegister::OfJalr);
-        assert_eq!(rt; result, Err(JumpError::NotACall), "{row:?}");
+        expect_eq(&rt, row, result, Err(JumpError::NotACall));
         assert_eq!(rt; section, row);
     }
     let rows = [
@@ -104,7 +107,7 @@ fn only_a_call_has_a_jalr(rt: HostRuntime) {
     for (site, distance, error) in rows {
         let mut section = TAIL;
         let result = jal_site_with(&mut section, site, distance, LinkRegister::OfJalr);
-        assert_eq!(rt; result, Err(JumpError::Call(error)), "{site}, {distance}");
+        expect_eq(&rt, (site, distance), result, Err(JumpError::Call(error)));
         assert_eq!(rt; section, TAIL);
     }
 }
@@ -192,13 +195,11 @@ fn calls_jump_to_their_translated_target(rt: HostRuntime) -> Result<(), Fail> {
         let deltas = SectionRelaxDeltas::new(rt.alloc(), row.raw)?;
         let mut section = CALL;
         let result = relax_call(&mut section, &deltas, row.site, row.target);
-        assert_eq!(rt;
+        expect_eq(
+            &rt,
+            (row.site, row.target, row.raw),
             result.map(|()| u32_from_slice(&section)),
             row.result,
-            "{} to {} over {:?}",
-            row.site,
-            row.target,
-            row.raw
         );
         match row.result {
             Ok(_) => assert_eq!(rt; section[4..], CALL[4..]),

@@ -1,6 +1,7 @@
 //! PowerPC64: words that LLVM 19.1.7's and GNU binutils 2.40's assemblers and linkers wrote, and
 //! worked values.
 
+use crate::rows::expect_eq;
 use linker_utils::bit_misc::BitExtraction;
 use linker_utils::elf::{
     AllowedRange, Bias, Ppc64Instruction, RelocationKind, RelocationKindInfo, RelocationSize,
@@ -459,19 +460,21 @@ fn pair_written(ha: u32, lo: u32, value: u64) -> (u32, u32) {
 #[test]
 fn d_words_match_assemblers(rt: HostRuntime) {
     for &(before, value, after, machine) in &D_WORDS {
-        assert_eq!(rt;
+        expect_eq(
+            &rt,
+            value,
             written(Ppc64Instruction::D, value, before),
             after,
-            "{value}"
         );
         assert!(rt;
             !Ppc64Instruction::D.read_value(&after.to_le_bytes()).1,
             "{value}"
         );
-        assert_eq!(rt;
+        expect_eq(
+            &rt,
+            value,
             machine_number(Ppc64Instruction::D, after),
             machine,
-            "{value}"
         );
     }
 }
@@ -479,19 +482,21 @@ fn d_words_match_assemblers(rt: HostRuntime) {
 #[test]
 fn ds_words_match_assemblers(rt: HostRuntime) {
     for &(before, value, after, machine) in &DS_WORDS {
-        assert_eq!(rt;
+        expect_eq(
+            &rt,
+            value,
             written(Ppc64Instruction::Ds, value, before),
             after,
-            "{value}"
         );
         assert!(rt;
             !Ppc64Instruction::Ds.read_value(&after.to_le_bytes()).1,
             "{value}"
         );
-        assert_eq!(rt;
+        expect_eq(
+            &rt,
+            value,
             machine_number(Ppc64Instruction::Ds, after),
             machine,
-            "{value}"
         );
     }
 }
@@ -499,10 +504,11 @@ fn ds_words_match_assemblers(rt: HostRuntime) {
 #[test]
 fn branch14_words_match_assemblers(rt: HostRuntime) {
     for &(before, value, after, machine) in &BRANCH14_WORDS {
-        assert_eq!(rt;
+        expect_eq(
+            &rt,
+            value,
             written(Ppc64Instruction::Branch14, value, before),
             after,
-            "{value}"
         );
         assert!(rt;
             !Ppc64Instruction::Branch14
@@ -510,10 +516,11 @@ fn branch14_words_match_assemblers(rt: HostRuntime) {
                 .1,
             "{value}"
         );
-        assert_eq!(rt;
+        expect_eq(
+            &rt,
+            value,
             machine_number(Ppc64Instruction::Branch14, after),
             machine,
-            "{value}"
         );
     }
 }
@@ -521,10 +528,11 @@ fn branch14_words_match_assemblers(rt: HostRuntime) {
 #[test]
 fn branch24_words_match_assemblers(rt: HostRuntime) {
     for &(before, value, after, machine) in &BRANCH24_WORDS {
-        assert_eq!(rt;
+        expect_eq(
+            &rt,
+            value,
             written(Ppc64Instruction::Branch24, value, before),
             after,
-            "{value}"
         );
         assert!(rt;
             !Ppc64Instruction::Branch24
@@ -532,10 +540,11 @@ fn branch24_words_match_assemblers(rt: HostRuntime) {
                 .1,
             "{value}"
         );
-        assert_eq!(rt;
+        expect_eq(
+            &rt,
+            value,
             machine_number(Ppc64Instruction::Branch24, after),
             machine,
-            "{value}"
         );
     }
 }
@@ -555,7 +564,7 @@ fn writes_change_the_field_alone(rt: HostRuntime) {
 #[test]
 fn ha_lo_pairs_match_linkers(rt: HostRuntime) {
     for &(ha, lo, value, high, low) in &ADDI_PAIRS {
-        assert_eq!(rt; pair_written(ha, lo, value), (high, low), "{value}");
+        expect_eq(&rt, value, pair_written(ha, lo, value), (high, low));
     }
     assert_eq!(rt;
         pair_written(0x3c00_0000, 0x3800_0000, 0x8000),
@@ -571,11 +580,12 @@ fn ha_lo_pairs_match_linkers(rt: HostRuntime) {
 fn ha_lo_ds_pairs_match_linkers(rt: HostRuntime) {
     for &(ha, lo, value, high, low) in &LD_PAIRS {
         let adjusted = value.wrapping_add(0x8000).extract_bit_range(16..32);
-        assert_eq!(rt; written(Ppc64Instruction::D, adjusted, ha), high, "{value}");
-        assert_eq!(rt;
+        expect_eq(&rt, value, written(Ppc64Instruction::D, adjusted, ha), high);
+        expect_eq(
+            &rt,
+            value,
             written(Ppc64Instruction::Ds, value.low_bits(16), lo),
             low,
-            "{value}"
         );
     }
 }
@@ -637,6 +647,6 @@ fn relocations_have_their_meaning(rt: HostRuntime) {
         ),
         (Ppc64Relocation::Other(7), None),
     ] {
-        assert_eq!(rt; relocation_type_from_raw(name), meaning, "{name:?}");
+        expect_eq(&rt, name, relocation_type_from_raw(name), meaning);
     }
 }

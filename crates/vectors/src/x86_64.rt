@@ -1,6 +1,7 @@
 //! x86-64: rewrites as LLVM 19.1.7's and GNU binutils 2.40's linkers make them, or as its assemblers
 //! write both instructions, and worked values.
 
+use crate::rows::expect_eq;
 use linker_utils::elf::{AllowedRange, RelocationKind, RelocationKindInfo, RelocationSize};
 use linker_utils::relaxation::RelocationModifier;
 use linker_utils::x86_64::{RelaxationKind, X86_64Relocation, relocation_from_raw};
@@ -466,7 +467,7 @@ fn linked(kind: RelaxationKind, at: u64, before: [u8; 10], field: Option<u32>) -
 fn rewrites_match_linkers(rt: HostRuntime) {
     for rewrite in &REWRITES {
         let after = linked(rewrite.kind, rewrite.offset, rewrite.before, rewrite.field);
-        assert_eq!(rt; after, Some(rewrite.after), "{:?}", rewrite.kind);
+        expect_eq(&rt, rewrite.kind, after, Some(rewrite.after));
     }
 }
 
@@ -503,8 +504,8 @@ fn registers_move_under_every_prefix(rt: HostRuntime) {
         let mut addend = -4;
         assert!(rt; kind.can_apply(&section, at));
         kind.apply(&mut section, &mut at, &mut addend);
-        assert_eq!(rt; section, after, "{kind:?}");
-        assert_eq!(rt; (at, addend), (offset, 0), "{kind:?}");
+        expect_eq(&rt, kind, section, after);
+        expect_eq(&rt, kind, (at, addend), (offset, 0));
     }
 }
 
@@ -618,6 +619,6 @@ fn relocations_have_their_meaning(rt: HostRuntime) {
         ),
         (X86_64Relocation::Other(7), None),
     ] {
-        assert_eq!(rt; relocation_from_raw(name), meaning, "{name:?}");
+        expect_eq(&rt, name, relocation_from_raw(name), meaning);
     }
 }

@@ -1,0 +1,14 @@
+//! Comparisons that name the row at fault.
+
+use std::fmt::Debug;
+use std::process::Abort;
+
+/// Requires equal values in the row.
+pub fn expect_eq<R: Debug + Drop, T: PartialEq + Debug + Drop>(
+    rt: &impl Abort,
+    row: R,
+    found: T,
+    expected: T,
+) {
+    assert_eq!(rt; found, expected, "{row:?}");
+}
