@@ -100,6 +100,37 @@ fn deletions_of_no_bytes_are_listed() -> Result<(), Fail> {
     Ok(())
 }
 
+// `==` tells whether all fields are the same.
+fn are_equal(first: RelaxDelta, second: RelaxDelta) -> bool {
+    first == second
+}
+
+#[test]
+fn equal_deltas_have_equal_fields() {
+    let delta = RelaxDelta {
+        input_offset: 4,
+        cumulative_deleted: 6,
+        bytes_deleted: 2,
+    };
+    assert!(are_equal(delta, delta));
+    for other in [
+        RelaxDelta {
+            input_offset: 5,
+            ..delta
+        },
+        RelaxDelta {
+            cumulative_deleted: 2,
+            ..delta
+        },
+        RelaxDelta {
+            bytes_deleted: 1,
+            ..delta
+        },
+    ] {
+        assert!(!are_equal(delta, other));
+    }
+}
+
 fn sums(deltas: &SectionRelaxDeltas) -> [Option<u64>; 4] {
     let listed = deltas.deltas();
     let sum = |delta: &RelaxDelta| delta.cumulative_deleted;
