@@ -1,6 +1,9 @@
-//! Where an allocation fails, the call returns an error and has changed nothing.
+//! Where an allocation fails, the call returns an error and has changed nothing. Each allocation of a
+//! call fails in turn, until none does.
 
-use linker_utils::relaxation::{PackError, RelaxDeltaMap, SectionRelaxDeltas, pack_section};
+use linker_utils::relaxation::{
+    PackError, RelaxDelta, RelaxDeltaMap, SectionRelaxDeltas, pack_section,
+};
 use linker_utils::utils::read_string;
 use std::alloc::{GlobalAlloc, Layout, System};
 use std::cell::Cell;
@@ -12,11 +15,14 @@ struct FailingOnce;
 thread_local! {
     /// How many allocations of this thread succeed before one fails.
     static BEFORE: Cell<Option<usize>> = const { Cell::new(None) };
+    /// Whether it has failed.
+    static HAS_FAILED: Cell<bool> = const { Cell::new(false) };
 }
 
 fn fails() -> bool {
     let before = BEFORE.get();
     BEFORE.set(before.and_then(|count| count.checked_sub(1)));
+    HAS_FAILED.set(HAS_FAILED.get() || before == Some(0));
     before == Some(0)
 }
 
@@ -38,82 +44,210 @@ unsafe impl GlobalAlloc for FailingOnce {
 #[global_allocator]
 static ALLOCATOR: FailingOnce = FailingOnce;
 
-fn failing<T>(before: usize, call: impl FnOnce() -> T) -> T {
+/// What a call returns of which one allocation fails, and whether there was such an allocation.
+fn failing<T>(before: usize, call: impl FnOnce() -> T) -> (T, bool) {
+    HAS_FAILED.set(false);
     BEFORE.set(Some(before));
     let returned = call();
     BEFORE.set(None);
-    returned
+    (returned, HAS_FAILED.get())
 }
 
-/// Calls until no allocation of a call fails, and gives how often one failed.
-fn failures<T, E>(mut call: impl FnMut() -> Result<T, E>) -> (usize, T) {
-    for before in 0.. {
-        if let Ok(returned) = failing(before, &mut call) {
-            return (before, returned);
+/// Calls until no allocation of a call fails, and returns how often one did, and what the last call
+/// returned. A call has to return an error exactly where an allocation failed.
+fn each_fails<T, E>(mut call: impl FnMut() -> Result<T, E>, after: impl Fn(E)) -> (usize, T) {
+    for before in 0..100 {
+        let (returned, has_failed) = failing(before, &mut call);
+        assert_eq!(returned.is_err(), has_failed, "allocation {before}");
+        match returned {
+            Ok(returned) => return (before, returned),
+            Err(error) => after(error),
         }
     }
-    unreachable!("a call takes memory without end")
+    panic!("a call takes memory without end");
 }
 
-fn deltas() -> SectionRelaxDeltas {
-    SectionRelaxDeltas::new(&[(4, 4), (12, 2)]).expect("memory")
+/// The same of calls that change a state, each of a state made anew.
+fn each_fails_of<S, T, E>(
+    state: impl Fn() -> S,
+    call: impl Fn(&mut S) -> Result<T, E>,
+    unchanged: impl Fn(&S),
+) -> (usize, S) {
+    for before in 0..100 {
+        let mut state = state();
+        let (returned, has_failed) = failing(before, || call(&mut state));
+        assert_eq!(returned.is_err(), has_failed, "allocation {before}");
+        match returned {
+            Ok(_) => return (before, state),
+            Err(_) => unchanged(&state),
+        }
+    }
+    panic!("a call takes memory without end");
+}
+
+fn deltas(pairs: &[(u64, u32)]) -> SectionRelaxDeltas {
+    SectionRelaxDeltas::new(pairs).expect("memory")
+}
+
+/// The pairs that are listed.
+fn listed(deltas: &SectionRelaxDeltas) -> Vec<(u64, u32)> {
+    let pair = |delta: &RelaxDelta| (delta.input_offset, delta.bytes_deleted);
+    deltas.deltas().iter().map(pair).collect()
+}
+
+/// Deletions of three blocks of 64.
+fn many() -> Vec<(u64, u32)> {
+    (0..130).map(|i| (8 * i + 4, 4)).collect()
 }
 
 #[test]
 fn deletions_are_not_listed() {
-    let (count, listed) = failures(|| SectionRelaxDeltas::new(&[(4, 4)]));
-    assert!(count > 0 && listed.total_deleted() == 4);
-    assert!(failing(0, || SectionRelaxDeltas::new(&[])).is_ok());
-    let deltas = deltas();
-    let (count, copy) = failures(|| deltas.clone());
-    assert!(count > 0 && copy.deltas() == deltas.deltas());
+    for pairs in [vec![(4, 4), (8, 4)], many()] {
+        // the deltas, and the heads of their blocks
+        let (count, made) = each_fails(|| SectionRelaxDeltas::new(&pairs), |_| {});
+        assert_eq!((count, listed(&made)), (2, pairs));
+    }
+    let (count, none) = each_fails(|| SectionRelaxDeltas::new(&[]), |_| {});
+    assert_eq!((count, listed(&none)), (0, vec![]));
 }
 
 #[test]
 fn merges_change_nothing() {
-    let mut deltas = deltas();
-    let (count, ()) = failures(|| {
-        assert_eq!(deltas.total_deleted(), 6);
-        deltas.merge_additional(&[(20, 2)])
-    });
-    assert!(count > 0 && deltas.total_deleted() == 8);
-    let batches: Vec<Vec<(u64, u32)>> = (0..40).map(|k| vec![(24 + 4 * k, 2)]).collect();
-    let (count, ()) = failures(|| {
-        assert_eq!(deltas.total_deleted(), 8);
-        deltas.merge_all(&batches)
-    });
-    assert!(count > 0 && deltas.total_deleted() == 88);
+    let (old, more) = ([(4, 4)], [(8, 4)]);
+    let (count, merged) = each_fails_of(
+        || deltas(&old),
+        |it| it.merge_additional(&more),
+        |it| {
+            assert_eq!(listed(it), old);
+            assert_eq!(it.input_to_output_offset(12), 8);
+        },
+    );
+    assert!(count > 0);
+    assert_eq!(listed(&merged), [(4, 4), (8, 4)]);
+
+    let (count, merged) = each_fails_of(
+        || deltas(&old),
+        |it| it.merge_additional(&[]),
+        |_| unreachable!("nothing is added"),
+    );
+    assert_eq!((count, listed(&merged)), (0, old.to_vec()));
+
+    // the heads' growth fails too
+    let many = many();
+    let (count, merged) = each_fails_of(
+        || deltas(&old),
+        |it| it.merge_additional(&many[1..]),
+        |it| {
+            assert_eq!(listed(it), old);
+            assert_eq!(it.input_to_output_offset(1000), 996);
+        },
+    );
+    assert!(count > 1);
+    assert_eq!(listed(&merged), many);
+    assert_eq!(merged.input_to_output_offset(1000), 500);
+}
+
+#[test]
+fn no_batch_is_merged() {
+    let old = [(4, 4)];
+    let few = vec![vec![(8, 4)], vec![(16, 4)]];
+    let many: Vec<Vec<(u64, u32)>> = many()[1..].chunks(33).map(<[_]>::to_vec).collect();
+    assert_eq!(many.len(), 4);
+    for batches in [few, many] {
+        let (count, merged) = each_fails_of(
+            || deltas(&old),
+            |it| it.merge_all(&batches),
+            |it| assert_eq!(listed(it), old),
+        );
+        assert!(count > 0);
+        assert_eq!(listed(&merged), [old.to_vec(), batches.concat()].concat());
+    }
+}
+
+#[test]
+fn copies_leave_the_source() {
+    let pairs = [(4, 4), (12, 2)];
+    let source = deltas(&pairs);
+    let (count, copy) = each_fails(|| source.clone(), |_| assert_eq!(listed(&source), pairs));
+    assert_eq!((count, listed(&copy)), (2, pairs.to_vec()));
+
+    let mut sections = RelaxDeltaMap::new();
+    sections.insert(1, deltas(&pairs)).expect("memory");
+    sections.insert(3, deltas(&[(8, 4)])).expect("memory");
+    let is_whole = |map: &RelaxDeltaMap| {
+        assert_eq!(map.get(1).map(listed), Some(pairs.to_vec()));
+        assert_eq!(map.get(3).map(listed), Some(vec![(8, 4)]));
+        assert_eq!(map.last_index(), Some(3));
+    };
+    let (count, copy) = each_fails(|| sections.clone(), |_| is_whole(&sections));
+    assert_eq!(count, 5);
+    is_whole(&copy);
 }
 
 #[test]
 fn insertions_hand_the_deltas_back() {
     let mut sections = RelaxDeltaMap::new();
-    let deltas = deltas();
-    let back = failing(0, || sections.insert(1, deltas)).expect_err("no memory");
-    assert_eq!(back.total_deleted(), 6);
-    let back = failing(0, || sections.insert_sorted(1, back)).expect_err("no memory");
-    assert!(sections.is_empty());
-    assert!(sections.insert(1, back).is_ok());
-    let (count, copy) = failures(|| sections.clone());
-    assert!(count > 1 && copy.last_index() == Some(1));
+    let mut given = Some(deltas(&[(8, 4)]));
+    let (back, has_failed) = failing(0, || sections.insert(3, given.take().expect("deltas")));
+    assert!(has_failed && sections.is_empty());
+    let back = back.expect_err("no memory");
+    assert_eq!(listed(&back), [(8, 4)]);
+    sections.insert(3, back).expect("memory");
+
+    // one of some insertions grows the map
+    let mut failures = 0;
+    for index in [1, 0, 2, 9, 8, 7, 6, 5, 4] {
+        let before = sections.clone().expect("memory");
+        let given = deltas(&[(4, 4), (index as u64 + 10, 0)]);
+        let (mut result, has_failed) = failing(0, || sections.insert_sorted(index, given));
+        assert_eq!(result.is_err(), has_failed);
+        if let Err(back) = result {
+            failures += 1;
+            assert_eq!(listed(&back), [(4, 4), (index as u64 + 10, 0)]);
+            for other in 0..10 {
+                assert_eq!(sections.get(other).map(listed), before.get(other).map(listed));
+            }
+            result = sections.insert_sorted(index, back);
+        }
+        assert!(result.is_ok());
+    }
+    assert!(failures > 0);
+    assert_eq!(sections.get(3).map(listed), Some(vec![(8, 4)]));
 }
 
 #[test]
 fn sections_are_not_packed() {
-    let (section, deltas) = ([0; 16], deltas());
-    let packed = failing(0, || pack_section(&section, &deltas, &[]));
-    assert_eq!(packed, Err(PackError::OutOfMemory));
-    assert_eq!(pack_section(&section, &deltas, &[]), Ok(vec![0; 10]));
+    // `auipc ra, 0` and `jalr ra, 0(ra)`, and `nop`
+    let section = [0x97, 0, 0, 0, 0xe7, 0x80, 0, 0, 0x13, 0, 0, 0];
+    let deltas = deltas(&[(4, 4)]);
+    let (count, packed) = each_fails(
+        || pack_section(&section, &deltas, &[(0, 8)]),
+        |error| assert_eq!(error, PackError::OutOfMemory),
+    );
+    assert_eq!((count, packed), (1, vec![0xef, 0, 0x40, 0, 0x13, 0, 0, 0]));
+    // out of memory comes first
+    let (faulty, has_failed) = failing(0, || pack_section(&section, &deltas, &[(4, 0)]));
+    assert!(has_failed);
+    assert_eq!(faulty, Err(PackError::OutOfMemory));
 }
 
 #[test]
 fn strings_are_not_read() {
-    for bytes in [b"a\0b".as_slice(), b"a\xff\0b"] {
-        let mut content = bytes;
-        let error = failing(0, || read_string(&mut content)).expect_err("no memory");
-        assert_eq!(error.to_string(), "Out of memory");
-        assert_eq!(content, bytes);
-        assert!(read_string(&mut content).is_ok());
-        assert_eq!(content, b"b");
+    for (bytes, text) in [(b"a\0b".as_slice(), "a"), (b"a\xff\0b", "a\u{fffd}")] {
+        let (count, rest) = each_fails(
+            || {
+                let mut content = bytes;
+                match read_string(&mut content) {
+                    Ok(read) => Ok((read, content)),
+                    Err(error) => Err((error, content)),
+                }
+            },
+            |(error, content)| {
+                assert_eq!(error.to_string(), "Out of memory");
+                assert_eq!(content, bytes);
+            },
+        );
+        assert!(count > 0);
+        assert_eq!(rest, (text.to_string(), b"b".as_slice()));
     }
 }

@@ -1091,3 +1091,44 @@ fn translates_offsets_by_heads() {
         let _ = deltas_output_to_input_by_heads(&many, &odd, offset);
     }
 }
+
+#[test]
+fn many_deletions_are_merged_and_translated() {
+    // the last 4 bytes of every 8, so what stands at 8 * k is at 4 * k afterwards
+    let pair = |k: u64| (8 * k + 4, 4);
+    let even: Vec<_> = (0..1000).map(|k| pair(2 * k)).collect();
+    let odd: Vec<_> = (0..1000).rev().map(|k| pair(2 * k + 1)).collect();
+    let (even, odd) = (deltas(&even), deletions(&odd));
+    let mut all = vec![Delta::default(); 2000];
+    assert_eq!(deltas_is_mergeable(&even, &odd), Ok(()));
+    assert_eq!(deltas_merge(&even, &odd, &mut all), Ok(()));
+    assert_eq!(deltas_total_deleted(&all), 8000);
+    let created = deltas(&(0..2000).map(pair).collect::<Vec<_>>());
+    assert_eq!(all, created);
+
+    let mut heads = vec![BlockHead::default(); deltas_block_count(&all)];
+    assert_eq!((heads.len(), deltas_heads(&all, &mut heads)), (32, Ok(())));
+    let inputs: Vec<u64> = (0..=2000).map(|k| 8 * k).collect();
+    let outputs: Vec<u64> = (0..=2000).map(|k| 4 * k).collect();
+    let mut translated = vec![0; 2001];
+    assert_eq!(deltas_translate_all(&all, &inputs, &mut translated), Ok(()));
+    assert_eq!(translated, outputs);
+    for (&input, &output) in inputs.iter().zip(&outputs) {
+        assert_eq!(deltas_input_to_output(&all, input), output);
+        assert_eq!(deltas_output_to_input(&all, output), Ok(input));
+        let found = deltas_input_to_output_by_heads(&all, &heads, input);
+        assert_eq!(found, output);
+        let found = deltas_output_to_input_by_heads(&all, &heads, output);
+        assert_eq!(found, Ok(input));
+    }
+
+    // each calls the one before it, which is 4 bytes before it then: jal ra, -4
+    let section = bytes_of(&[0x0000_0097, 0x0000_80e7]).repeat(2000);
+    let sites = (1..2000).map(|k| (8 * k, 8 * (k - 1)));
+    let calls: Vec<_> = sites.map(|(site, target)| Call { site, target }).collect();
+    let mut packed = vec![0; packed_len(&section, &all)];
+    let link = LinkRegister::OfJalr;
+    assert_eq!(pack(&section, &all, &calls, link, &mut packed), Ok(()));
+    let words = [vec![0x0000_0097], vec![0xffdf_f0ef; 1999]].concat();
+    assert_eq!(packed, bytes_of(&words));
+}

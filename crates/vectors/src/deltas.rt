@@ -1,5 +1,7 @@
 //! Deletions and offsets, worked by hand: an offset's place is the count of kept bytes below it.
 
+ghost use Rattle.std.specs.Prelude.{◌≡◌, ◌↔◌, IsTrue};
+
 use crate::rows::expect_eq;
 use linker_utils::relaxation::{
     DeltaSlice, Looks, OutOfMemory, RelaxDelta, RelaxDeltaMap, SectionRelaxDeltas, first_invalid,
@@ -97,6 +99,39 @@ fn deletions_of_no_bytes_are_listed(rt: HostRuntime) -> Result<(), Fail> {
     assert!(rt; !deltas.has_delta_at(5));
     assert!(rt; !deltas.is_empty());
     Ok(())
+}
+
+// `==` tells whether all fields are the same.
+fn are_equal(first: RelaxDelta, second: RelaxDelta) -> bool
+    ensures { IsTrue result ↔ (first ≡ second) }
+{
+    first == second
+}
+
+#[test]
+fn equal_deltas_have_equal_fields(rt: HostRuntime) {
+    let delta = RelaxDelta {
+        input_offset: 4,
+        cumulative_deleted: 6,
+        bytes_deleted: 2,
+    };
+    assert!(rt; are_equal(delta, delta));
+    for other in [
+        RelaxDelta {
+            input_offset: 5,
+            ..delta
+        },
+        RelaxDelta {
+            cumulative_deleted: 2,
+            ..delta
+        },
+        RelaxDelta {
+            bytes_deleted: 1,
+            ..delta
+        },
+    ] {
+        assert!(rt; !are_equal(delta, other));
+    }
 }
 
 fn sums(deltas: &SectionRelaxDeltas) -> [Option<u64>; 4] {

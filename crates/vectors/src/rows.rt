@@ -4,7 +4,7 @@ use std::fmt::Debug;
 use std::process::Abort;
 
 /// Requires equal values in the row.
-pub fn expect_eq<R: Debug + Drop, T: PartialEq + Debug + Drop>(
+pub fn expect_eq<R: Copy + Debug, T: Copy + PartialEq + Debug>(
     rt: &impl Abort,
     row: R,
     found: T,

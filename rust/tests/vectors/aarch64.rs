@@ -7,6 +7,7 @@ mod moves;
 mod offsets;
 mod pairs;
 
+use crate::rows::expect_eq;
 use linker_utils::aarch64::{
     AArch64Relocation, RelaxationKind, TLS_TCB_SIZE, relocation_type_from_raw, write_mov_sequence,
 };
@@ -59,79 +60,79 @@ fn first_mismatch(
 
 #[test]
 fn words_match_assemblers() {
-    assert_eq!(
+    expect_eq(
+        "Adr",
         first_mismatch(AArch64Instruction::Adr, u64::MAX, &fields::ADR),
         None,
-        "Adr"
     );
-    assert_eq!(
+    expect_eq(
+        "Movkz",
         first_mismatch(AArch64Instruction::Movkz, 0xffff, &fields::MOVKZ),
         None,
-        "Movkz"
     );
-    assert_eq!(
+    expect_eq(
+        "Ldr",
         first_mismatch(AArch64Instruction::Ldr, u64::MAX, &fields::LDR),
         None,
-        "Ldr"
     );
-    assert_eq!(
+    expect_eq(
+        "LdrRegister",
         first_mismatch(
             AArch64Instruction::LdrRegister,
             u64::MAX,
-            &fields::LDR_REGISTER
+            &fields::LDR_REGISTER,
         ),
         None,
-        "LdrRegister"
     );
-    assert_eq!(
+    expect_eq(
+        "Add",
         first_mismatch(AArch64Instruction::Add, u64::MAX, &fields::ADD),
         None,
-        "Add"
     );
-    assert_eq!(
+    expect_eq(
+        "TstBr",
         first_mismatch(AArch64Instruction::TstBr, u64::MAX, &fields::TST_BR),
         None,
-        "TstBr"
     );
-    assert_eq!(
+    expect_eq(
+        "Bcond",
         first_mismatch(AArch64Instruction::Bcond, u64::MAX, &fields::BCOND),
         None,
-        "Bcond"
     );
-    assert_eq!(
+    expect_eq(
+        "JumpCall",
         first_mismatch(AArch64Instruction::JumpCall, u64::MAX, &fields::JUMP_CALL),
         None,
-        "JumpCall"
     );
-    assert_eq!(
+    expect_eq(
+        "LdSt",
         first_mismatch(AArch64Instruction::LdSt, 0xfff, &offsets::LD_ST),
         None,
-        "LdSt"
     );
-    assert_eq!(
+    expect_eq(
+        "MachOLow12",
         first_mismatch(
             AArch64Instruction::MachOLow12,
             u64::MAX,
-            &offsets::MACHO_LOW12
+            &offsets::MACHO_LOW12,
         ),
         None,
-        "MachOLow12"
     );
 }
 
 #[test]
 fn movnz_words_match_assemblers() {
     for &(before, value, negative, after) in &moves::MOVNZ {
-        assert_eq!(
+        expect_eq(
+            value,
             written(AArch64Instruction::Movnz, value, negative, before),
             Some(after),
-            "{value}"
         );
         let Some((number, flag)) = read(AArch64Instruction::Movnz, after) else {
             panic!("no window");
         };
-        assert_eq!(flag, negative, "{value}");
-        assert_eq!(number & 0xffff, value & 0xffff, "{value}");
+        expect_eq(value, flag, negative);
+        expect_eq(value, number & 0xffff, value & 0xffff);
     }
     assert_eq!(
         written(AArch64Instruction::Movnz, 0xfffe, true, 0xd2a0_0003),
@@ -187,8 +188,8 @@ fn mov_sequences_match_assemblers() {
         write_mov_sequence(&mut bytes, rd, value);
         let first = [u32_from_slice(&bytes), u32_from_slice(&bytes[4..])];
         let last = [u32_from_slice(&bytes[8..]), u32_from_slice(&bytes[12..])];
-        assert_eq!(first, [words[0], words[1]], "{value}");
-        assert_eq!(last, [words[2], words[3]], "{value}");
+        expect_eq(value, first, [words[0], words[1]]);
+        expect_eq(value, last, [words[2], words[3]]);
     }
     let mut bytes = [0u8; 16];
     write_mov_sequence(&mut bytes, 5, 0x0123_4567_89ab_cdef);
@@ -208,42 +209,42 @@ fn page_field(pc: u64, target: u64) -> u64 {
 #[test]
 fn page_and_offset_pairs_match_linkers() {
     for &(pc, target, before, after) in &pairs::ADRP_ADD {
-        assert_eq!(
+        expect_eq(
+            target,
             written(
                 AArch64Instruction::Adr,
                 page_field(pc, target),
                 false,
-                before[0]
+                before[0],
             ),
             Some(after[0]),
-            "{target}"
         );
-        assert_eq!(
+        expect_eq(
+            target,
             written(AArch64Instruction::Add, target & 0xfff, false, before[1]),
             Some(after[1]),
-            "{target}"
         );
     }
     for &(pc, target, before, after) in &pairs::ADRP_LDR {
-        assert_eq!(
+        expect_eq(
+            target,
             written(
                 AArch64Instruction::Adr,
                 page_field(pc, target),
                 false,
-                before[0]
+                before[0],
             ),
             Some(after[0]),
-            "{target}"
         );
-        assert_eq!(
+        expect_eq(
+            target,
             written(
                 AArch64Instruction::LdSt,
                 (target & 0xfff) >> 3,
                 false,
-                before[1]
+                before[1],
             ),
             Some(after[1]),
-            "{target}"
         );
     }
 }
@@ -292,7 +293,7 @@ fn rewrites_match_linkers() {
             ),
             "{value}"
         );
-        assert_eq!(section, after, "{value}");
+        expect_eq(value, section, after);
     }
     for &(before, page, low, after) in &ADRP_TO_ADD {
         let mut section = before;
@@ -316,7 +317,7 @@ fn rewrites_match_linkers() {
             ),
             "{page} and {low}"
         );
-        assert_eq!(section, after, "{page} and {low}");
+        expect_eq((page, low), section, after);
     }
     for &(before, high, low, after) in &TO_MOVES {
         let mut section = before;
@@ -340,7 +341,7 @@ fn rewrites_match_linkers() {
             ),
             "{high} and {low}"
         );
-        assert_eq!(section, after, "{high} and {low}");
+        expect_eq((high, low), section, after);
     }
     let mut section = [
         0, 0, 0, 0x90, 1, 0, 0x40, 0xf9, 0, 0, 0, 0x91, 0x20, 0, 0x3f, 0xd6,
@@ -408,7 +409,7 @@ fn rewrites_of_one_instruction_match_worked_words() {
         (RelaxationKind::AdrpAddToNopAdr, 0x9000_0003, None),
     ];
     for &(kind, before, after) in &table {
-        assert_eq!(rewritten_word(kind, before), after, "{before}");
+        expect_eq(before, rewritten_word(kind, before), after);
     }
     let section = [0u8; 8];
     assert!(!RelaxationKind::AdrpAddToNopAdr.can_apply(&section, 3));

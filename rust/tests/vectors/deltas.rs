@@ -2,6 +2,7 @@
 //! Deletions and offsets, worked by hand: an offset's place is the count of kept bytes below it.
 
 use crate::support::*;
+use crate::rows::expect_eq;
 use linker_utils::relaxation::{
     DeltaSlice, Looks, OutOfMemory, RelaxDelta, RelaxDeltaMap, SectionRelaxDeltas, first_invalid,
     input_to_output_counted, opt_input_to_output, output_to_input_counted,
@@ -70,20 +71,14 @@ fn offsets_are_translated_both_ways() -> Result<(), Fail> {
     for row in rows {
         let deltas = deltas_of(row.raw)?;
         for (from, to) in row.outputs {
-            assert_eq!(
+            expect_eq(
+                (from, row.raw),
                 deltas.input_to_output_offset(*from),
                 *to,
-                "in {from} of {:?}",
-                row.raw
             );
         }
         for (from, to) in row.inputs {
-            assert_eq!(
-                input(&deltas, *from),
-                *to,
-                "out {from} of {:?}",
-                row.raw
-            );
+            expect_eq((from, row.raw), input(&deltas, *from), *to);
         }
     }
     Ok(())
@@ -98,6 +93,37 @@ fn deletions_of_no_bytes_are_listed() -> Result<(), Fail> {
     assert!(!deltas.has_delta_at(5));
     assert!(!deltas.is_empty());
     Ok(())
+}
+
+// `==` tells whether all fields are the same.
+fn are_equal(first: RelaxDelta, second: RelaxDelta) -> bool {
+    first == second
+}
+
+#[test]
+fn equal_deltas_have_equal_fields() {
+    let delta = RelaxDelta {
+        input_offset: 4,
+        cumulative_deleted: 6,
+        bytes_deleted: 2,
+    };
+    assert!(are_equal(delta, delta));
+    for other in [
+        RelaxDelta {
+            input_offset: 5,
+            ..delta
+        },
+        RelaxDelta {
+            cumulative_deleted: 2,
+            ..delta
+        },
+        RelaxDelta {
+            bytes_deleted: 1,
+            ..delta
+        },
+    ] {
+        assert!(!are_equal(delta, other));
+    }
 }
 
 fn sums(deltas: &SectionRelaxDeltas) -> [Option<u64>; 4] {
@@ -177,7 +203,7 @@ fn invalid_deletions_are_rejected() -> Result<(), Fail> {
 
     let first = deltas_of(&[(0, 4)])?;
     for (offset, inside) in [(0, false), (1, true), (3, true), (4, false)] {
-        assert_eq!(first.is_inside(offset), inside, "{offset}");
+        expect_eq(offset, first.is_inside(offset), inside);
     }
     let last = deltas_of(&[(u64::MAX - 3, 3)])?;
     assert!(!last.output_fits(u64::MAX - 2));
@@ -217,10 +243,10 @@ fn kept_bytes_have_an_output_offset() -> Result<(), Fail> {
         (14, 4, Some(8)),
         (5, 0, Some(4)),
     ] {
-        assert_eq!(
+        expect_eq(
+            (len, start),
             deltas.kept_output_offset(start, len),
             output,
-            "{len} bytes from {start} on"
         );
     }
     Ok(())
@@ -280,7 +306,7 @@ fn cursors_pass_each_deletion_once() -> Result<(), Fail> {
     let mut cursor = deltas.cursor();
     for (query, answer) in [(4, 4), (8, 4), (8, 4), (14, 8), (20, 14)] {
         assert!(cursor.can_translate(query), "{query}");
-        assert_eq!(cursor.translate(query), answer, "{query}");
+        expect_eq(query, cursor.translate(query), answer);
     }
     assert_eq!(cursor.turns(), 2);
     // back again: what is passed stays passed
@@ -292,7 +318,7 @@ fn cursors_pass_each_deletion_once() -> Result<(), Fail> {
     let mut inside = deltas.cursor();
     for (query, answer) in [(5, 4), (7, 4), (13, 8), (13, 8), (20, 14)] {
         assert!(inside.can_translate(query), "{query}");
-        assert_eq!(inside.translate(query), answer, "{query}");
+        expect_eq(query, inside.translate(query), answer);
     }
     assert_eq!(inside.turns(), 2);
     assert!(inside.can_translate(12));

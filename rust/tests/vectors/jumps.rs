@@ -2,6 +2,7 @@
 //! Calls that become jumps, worked by hand from the RISC-V unprivileged ISA's `jal`.
 
 use crate::support::*;
+use crate::rows::expect_eq;
 use linker_utils::relaxation::SectionRelaxDeltas;
 use linker_utils::riscv64::{
     CallError, JumpError, LinkRegister, jal_site, jal_site_with, relax_call,
@@ -21,9 +22,9 @@ fn sites_jump_by_the_distance() {
         (1_048_574, 0x7fff_f0ef),
     ] {
         let mut section = CALL;
-        assert_eq!(jal_site(&mut section, 0, distance), Ok(()), "{distance}");
-        assert_eq!(u32_from_slice(&section), word, "{distance}");
-        assert_eq!(section[4..], CALL[4..], "{distance}");
+        expect_eq(distance, jal_site(&mut section, 0, distance), Ok(()));
+        expect_eq(distance, u32_from_slice(&section), word);
+        expect_eq(distance, &section[4..], &CALL[4..]);
     }
 }
 
@@ -41,12 +42,12 @@ fn rejected_sites_are_unchanged() {
     ];
     for (site, distance, error) in rows {
         let mut section = CALL;
-        assert_eq!(
+        expect_eq(
+            (site, distance),
             jal_site(&mut section, site, distance),
             Err(error),
-            "{site}, {distance}"
         );
-        assert_eq!(section, CALL, "{site}, {distance}");
+        expect_eq((site, distance), section, CALL);
     }
 }
 
@@ -67,13 +68,13 @@ fn a_jump_links_the_register_that_gnu_ld_takes() {
         (plain, 8, 0x0080_00ef),
     ] {
         let mut section = call;
-        assert_eq!(
+        expect_eq(
+            call,
             jal_site_with(&mut section, 0, distance, LinkRegister::OfJalr),
             Ok(()),
-            "{call:?}"
         );
-        assert_eq!(u32_from_slice(&section), word, "{call:?}");
-        assert_eq!(section[4..], call[4..], "{call:?}");
+        expect_eq(call, u32_from_slice(&section), word);
+        expect_eq(call, &section[4..], &call[4..]);
     }
     let mut section = TAIL;
     let auipc = LinkRegister::OfAuipc;
@@ -93,7 +94,7 @@ fn only_a_call_has_a_jalr() {
     for row in rows {
         let mut section = row;
         let result = jal_site_with(&mut section, 0, 1_048_577, LinkRegister::OfJalr);
-        assert_eq!(result, Err(JumpError::NotACall), "{row:?}");
+        expect_eq(row, result, Err(JumpError::NotACall));
         assert_eq!(section, row);
     }
     let rows = [
@@ -105,7 +106,7 @@ fn only_a_call_has_a_jalr() {
     for (site, distance, error) in rows {
         let mut section = TAIL;
         let result = jal_site_with(&mut section, site, distance, LinkRegister::OfJalr);
-        assert_eq!(result, Err(JumpError::Call(error)), "{site}, {distance}");
+        expect_eq((site, distance), result, Err(JumpError::Call(error)));
         assert_eq!(section, TAIL);
     }
 }
@@ -193,13 +194,10 @@ fn calls_jump_to_their_translated_target() -> Result<(), Fail> {
         let deltas = SectionRelaxDeltas::new(row.raw)?;
         let mut section = CALL;
         let result = relax_call(&mut section, &deltas, row.site, row.target);
-        assert_eq!(
+        expect_eq(
+            (row.site, row.target, row.raw),
             result.map(|()| u32_from_slice(&section)),
             row.result,
-            "{} to {} over {:?}",
-            row.site,
-            row.target,
-            row.raw
         );
         match row.result {
             Ok(_) => assert_eq!(section[4..], CALL[4..]),

@@ -4,6 +4,7 @@
 mod assembled;
 mod linked;
 
+use crate::rows::expect_eq;
 use assembled::{BRANCH_21, BRANCH_26, SHIFT_5, SHIFT_10};
 use linked::{ABSOLUTE, CALL_36, FIVE, PAGE_PAIR};
 use linker_utils::bit_misc::BitExtraction;
@@ -48,25 +49,25 @@ fn relocated(name: LoongArch64Relocation, before: u32, value: u64) -> u32 {
 #[test]
 fn immediates_match_assemblers() {
     for (before, value, after) in SHIFT_5 {
-        assert_eq!(
+        expect_eq(
+            (value, before),
             written(LoongArch64Instruction::Shift5, before, value),
             after,
-            "{value} in {before}"
         );
-        assert_eq!(
+        expect_eq(
+            (value, before),
             read(LoongArch64Instruction::Shift5, after),
             (value, false),
-            "{value} in {before}"
         );
     }
     for (before, value, after) in SHIFT_10 {
-        assert_eq!(
+        expect_eq(
+            (value, before),
             written(LoongArch64Instruction::Shift10, before, value),
             after,
-            "{value} in {before}"
         );
         let (low, negative) = read(LoongArch64Instruction::Shift10, after);
-        assert_eq!(low, value.low_bits(12), "{value} in {before}");
+        expect_eq((value, before), low, value.low_bits(12));
         assert!(!negative, "{value} in {before}");
     }
 }
@@ -74,27 +75,27 @@ fn immediates_match_assemblers() {
 #[test]
 fn branches_match_assemblers() {
     for (before, value, after, distance) in BRANCH_26 {
-        assert_eq!(
+        expect_eq(
+            (value, before),
             written(LoongArch64Instruction::Branch26, before, value),
             after,
-            "{value} in {before}"
         );
-        assert_eq!(
+        expect_eq(
+            (value, before),
             read(LoongArch64Instruction::Branch26, after),
             (distance.cast_unsigned(), distance < 0),
-            "{value} in {before}"
         );
     }
     for (before, value, after, distance) in BRANCH_21 {
-        assert_eq!(
+        expect_eq(
+            (value, before),
             written(LoongArch64Instruction::Branch21, before, value),
             after,
-            "{value} in {before}"
         );
-        assert_eq!(
+        expect_eq(
+            (value, before),
             read(LoongArch64Instruction::Branch21, after),
             (distance.cast_unsigned(), distance < 0),
-            "{value} in {before}"
         );
     }
 }
@@ -102,20 +103,20 @@ fn branches_match_assemblers() {
 #[test]
 fn calls_match_linkers() {
     for (value, after, distance) in CALL_36 {
-        assert_eq!(distance.cast_unsigned().low_bits(36), value, "{value}");
-        assert_eq!(
+        expect_eq(value, distance.cast_unsigned().low_bits(36), value);
+        expect_eq(
+            value,
             written(
                 LoongArch64Instruction::Call36,
                 0x4c00_0021_1e00_0001,
-                value
+                value,
             ),
             after,
-            "{value}"
         );
-        assert_eq!(
+        expect_eq(
+            value,
             read(LoongArch64Instruction::Call36, after),
             (value, false),
-            "{value}"
         );
     }
 }
@@ -123,62 +124,62 @@ fn calls_match_linkers() {
 #[test]
 fn absolute_and_page_addresses_match_linkers() {
     for (address, high, low, middle, upper) in ABSOLUTE {
-        assert_eq!(
+        expect_eq(
+            address,
             relocated(
                 LoongArch64Relocation::R_LARCH_ABS_HI20,
                 0x1400_0004,
-                address
+                address,
             ),
             high,
-            "{address}"
         );
-        assert_eq!(
+        expect_eq(
+            address,
             relocated(
                 LoongArch64Relocation::R_LARCH_ABS_LO12,
                 0x0380_0084,
-                address
+                address,
             ),
             low,
-            "{address}"
         );
-        assert_eq!(
+        expect_eq(
+            address,
             relocated(
                 LoongArch64Relocation::R_LARCH_ABS64_LO20,
                 0x1600_0004,
-                address
+                address,
             ),
             middle,
-            "{address}"
         );
-        assert_eq!(
+        expect_eq(
+            address,
             relocated(
                 LoongArch64Relocation::R_LARCH_ABS64_HI12,
                 0x0300_0084,
-                address
+                address,
             ),
             upper,
-            "{address}"
         );
     }
     for (pc, target, high, low) in PAGE_PAIR {
         let distance = (target.wrapping_add(0x800) & !0xfff).wrapping_sub(pc & !0xfff);
-        assert_eq!(
+        expect_eq(
+            target,
             relocated(
                 LoongArch64Relocation::R_LARCH_PCALA_HI20,
                 0x1a00_0004,
-                distance
+                distance,
             ),
             high,
-            "{target} from {pc}"
         );
-        assert_eq!(
+        expect_eq(
+            target,
             relocated(
                 LoongArch64Relocation::R_LARCH_PCALA_LO12,
                 0x02c0_0084,
-                target
+                target,
             ),
             low,
-            "{target} from {pc}"
         );
     }
 }
@@ -204,12 +205,12 @@ fn address_sequences_match_linkers() {
     ];
     for (pc, target, first, second) in FIVE {
         let [a, b, c, d, e] = addressed(before, pc, target);
-        assert_eq!(
+        expect_eq(
+            (target, pc),
             (a as u64 | (b as u64) << 32, c as u64 | (d as u64) << 32),
             (first, second),
-            "{target} from {pc}"
         );
-        assert_eq!(e, 0x0010_9484, "{target} from {pc}");
+        expect_eq((target, pc), e, 0x0010_9484);
     }
     assert_eq!(
         highest_relocation_with_bias(0x800, 8),

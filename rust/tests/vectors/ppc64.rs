@@ -2,6 +2,7 @@
 //! PowerPC64: words that LLVM 19.1.7's and GNU binutils 2.40's assemblers and linkers wrote, and
 //! worked values.
 
+use crate::rows::expect_eq;
 use linker_utils::bit_misc::BitExtraction;
 use linker_utils::elf::{
     AllowedRange, Bias, Ppc64Instruction, RelocationKind, RelocationKindInfo, RelocationSize,
@@ -460,19 +461,19 @@ fn pair_written(ha: u32, lo: u32, value: u64) -> (u32, u32) {
 #[test]
 fn d_words_match_assemblers() {
     for &(before, value, after, machine) in &D_WORDS {
-        assert_eq!(
+        expect_eq(
+            value,
             written(Ppc64Instruction::D, value, before),
             after,
-            "{value}"
         );
         assert!(
             !Ppc64Instruction::D.read_value(&after.to_le_bytes()).1,
             "{value}"
         );
-        assert_eq!(
+        expect_eq(
+            value,
             machine_number(Ppc64Instruction::D, after),
             machine,
-            "{value}"
         );
     }
 }
@@ -480,19 +481,19 @@ fn d_words_match_assemblers() {
 #[test]
 fn ds_words_match_assemblers() {
     for &(before, value, after, machine) in &DS_WORDS {
-        assert_eq!(
+        expect_eq(
+            value,
             written(Ppc64Instruction::Ds, value, before),
             after,
-            "{value}"
         );
         assert!(
             !Ppc64Instruction::Ds.read_value(&after.to_le_bytes()).1,
             "{value}"
         );
-        assert_eq!(
+        expect_eq(
+            value,
             machine_number(Ppc64Instruction::Ds, after),
             machine,
-            "{value}"
         );
     }
 }
@@ -500,10 +501,10 @@ fn ds_words_match_assemblers() {
 #[test]
 fn branch14_words_match_assemblers() {
     for &(before, value, after, machine) in &BRANCH14_WORDS {
-        assert_eq!(
+        expect_eq(
+            value,
             written(Ppc64Instruction::Branch14, value, before),
             after,
-            "{value}"
         );
         assert!(
             !Ppc64Instruction::Branch14
@@ -511,10 +512,10 @@ fn branch14_words_match_assemblers() {
                 .1,
             "{value}"
         );
-        assert_eq!(
+        expect_eq(
+            value,
             machine_number(Ppc64Instruction::Branch14, after),
             machine,
-            "{value}"
         );
     }
 }
@@ -522,10 +523,10 @@ fn branch14_words_match_assemblers() {
 #[test]
 fn branch24_words_match_assemblers() {
     for &(before, value, after, machine) in &BRANCH24_WORDS {
-        assert_eq!(
+        expect_eq(
+            value,
             written(Ppc64Instruction::Branch24, value, before),
             after,
-            "{value}"
         );
         assert!(
             !Ppc64Instruction::Branch24
@@ -533,10 +534,10 @@ fn branch24_words_match_assemblers() {
                 .1,
             "{value}"
         );
-        assert_eq!(
+        expect_eq(
+            value,
             machine_number(Ppc64Instruction::Branch24, after),
             machine,
-            "{value}"
         );
     }
 }
@@ -556,7 +557,7 @@ fn writes_change_the_field_alone() {
 #[test]
 fn ha_lo_pairs_match_linkers() {
     for &(ha, lo, value, high, low) in &ADDI_PAIRS {
-        assert_eq!(pair_written(ha, lo, value), (high, low), "{value}");
+        expect_eq(value, pair_written(ha, lo, value), (high, low));
     }
     assert_eq!(
         pair_written(0x3c00_0000, 0x3800_0000, 0x8000),
@@ -572,11 +573,11 @@ fn ha_lo_pairs_match_linkers() {
 fn ha_lo_ds_pairs_match_linkers() {
     for &(ha, lo, value, high, low) in &LD_PAIRS {
         let adjusted = value.wrapping_add(0x8000).extract_bit_range(16..32);
-        assert_eq!(written(Ppc64Instruction::D, adjusted, ha), high, "{value}");
-        assert_eq!(
+        expect_eq(value, written(Ppc64Instruction::D, adjusted, ha), high);
+        expect_eq(
+            value,
             written(Ppc64Instruction::Ds, value.low_bits(16), lo),
             low,
-            "{value}"
         );
     }
 }
@@ -638,6 +639,6 @@ fn relocations_have_their_meaning() {
         ),
         (Ppc64Relocation::Other(7), None),
     ] {
-        assert_eq!(relocation_type_from_raw(name), meaning, "{name:?}");
+        expect_eq(name, relocation_type_from_raw(name), meaning);
     }
 }

@@ -5,6 +5,7 @@
 mod pairs;
 mod words;
 
+use crate::rows::expect_eq;
 use linker_utils::elf::{
     AllowedRange, Bias, InstructionForm, RelocationInstruction, RelocationSize, RiscVInstruction,
     Sign,
@@ -40,11 +41,11 @@ fn words_match_assemblers() {
         for (before, value, after, machine) in words {
             let mut bytes = before.to_le_bytes();
             form.write_to_value(value.cast_unsigned(), *value < 0, &mut bytes);
-            assert_eq!(u32::from_le_bytes(bytes), *after, "{form:?} of {value}");
-            assert_eq!(
+            expect_eq((form, value), u32::from_le_bytes(bytes), *after);
+            expect_eq(
+                (form, value),
                 form.read_value(&bytes),
                 reading(form, *machine),
-                "{form:?} of {value}"
             );
         }
     }
@@ -57,20 +58,12 @@ fn hi20_lo12_i_pairs_match_linkers() {
         let mut low = before[1].to_le_bytes();
         RiscVInstruction::UType.write_to_value(value.cast_unsigned(), false, &mut high);
         RiscVInstruction::IType.write_to_value(value.cast_unsigned(), false, &mut low);
-        assert_eq!(
-            u32::from_le_bytes(high),
-            after[0],
-            "the high part of {value}"
-        );
-        assert_eq!(
-            u32::from_le_bytes(low),
-            after[1],
-            "the low part of {value}"
-        );
+        expect_eq(value, u32::from_le_bytes(high), after[0]);
+        expect_eq(value, u32::from_le_bytes(low), after[1]);
         let (rounded, _) = RiscVInstruction::UType.read_value(&high);
         let (rest, _) = RiscVInstruction::IType.read_value(&low);
         let sum = rounded.wrapping_add(0x800).wrapping_add(rest);
-        assert_eq!(sum, value.cast_unsigned(), "the sum of {value}");
+        expect_eq(value, sum, value.cast_unsigned());
     }
 }
 
@@ -81,20 +74,12 @@ fn hi20_lo12_s_pairs_match_linkers() {
         let mut low = before[1].to_le_bytes();
         RiscVInstruction::UType.write_to_value(value.cast_unsigned(), false, &mut high);
         RiscVInstruction::SType.write_to_value(value.cast_unsigned(), false, &mut low);
-        assert_eq!(
-            u32::from_le_bytes(high),
-            after[0],
-            "the high part of {value}"
-        );
-        assert_eq!(
-            u32::from_le_bytes(low),
-            after[1],
-            "the low part of {value}"
-        );
+        expect_eq(value, u32::from_le_bytes(high), after[0]);
+        expect_eq(value, u32::from_le_bytes(low), after[1]);
         let (rounded, _) = RiscVInstruction::UType.read_value(&high);
         let (rest, _) = RiscVInstruction::SType.read_value(&low);
         let sum = rounded.wrapping_add(0x800).wrapping_add(rest);
-        assert_eq!(sum, value.cast_unsigned(), "the sum of {value}");
+        expect_eq(value, sum, value.cast_unsigned());
     }
 }
 
@@ -103,9 +88,9 @@ fn call_pairs_match_linkers() {
     for (before, value, after) in &pairs::UI {
         let mut bytes = both(*before);
         RiscVInstruction::UiType.write_to_value(value.cast_unsigned(), false, &mut bytes);
-        assert_eq!(bytes, both(*after), "{value}");
+        expect_eq(value, bytes, both(*after));
         let read = RiscVInstruction::UiType.read_value(&bytes);
-        assert_eq!(read, (value.cast_unsigned(), false), "{value}");
+        expect_eq(value, read, (value.cast_unsigned(), false));
     }
 }
 
@@ -183,7 +168,7 @@ fn shortened_lui_match_gnu_ld() {
         RiscVInstruction::CluiType.write_to_value(value, false, &mut section);
         RiscVInstruction::IType.write_to_value(value, false, &mut section[4..]);
         let [a, b, _, _, c, d, e, f] = section;
-        assert_eq!([a, b, c, d, e, f], after, "{value}");
+        expect_eq(value, [a, b, c, d, e, f], after);
     }
 }
 
@@ -207,12 +192,12 @@ fn deleted_lui_match_gnu_ld() {
         let mut addend = 0;
         let mut high = 0;
         RelaxationKind::Hi20Delete.apply(&mut section, &mut high, &mut addend);
-        assert_eq!(section, before, "{value}");
+        expect_eq(value, section, before);
         let mut low = 4;
         RelaxationKind::Lo12Rs1ToZero.apply(&mut section, &mut low, &mut addend);
         RiscVInstruction::IType.write_to_value(value, false, &mut section[4..]);
         let [_, _, _, _, a, b, c, d] = section;
-        assert_eq!([a, b, c, d], after, "{value}");
+        expect_eq(value, [a, b, c, d], after);
     }
 }
 
@@ -313,11 +298,11 @@ fn immediates_match_the_manual() {
         let mut bytes = before.to_le_bytes();
         assert!(form.window() <= bytes.len(), "{form:?} of {value}");
         form.write_to_value(value.cast_unsigned(), negative, &mut bytes);
-        assert_eq!(u32::from_le_bytes(bytes), after, "{form:?} of {value}");
-        assert_eq!(
+        expect_eq((form, value), u32::from_le_bytes(bytes), after);
+        expect_eq(
+            (form, value),
             form.read_value(&bytes),
             (read.cast_unsigned(), negative),
-            "{form:?} of {value}"
         );
     }
     let mut call = [0; 8];
@@ -353,8 +338,8 @@ fn rewrites_of_one_instruction_match_worked_words() {
         let mut offset = 0;
         let mut addend = 5;
         kind.apply(&mut section, &mut offset, &mut addend);
-        assert_eq!(u32::from_le_bytes(section), after, "{kind:?}");
-        assert_eq!((offset, addend), (0, 5), "{kind:?}");
+        expect_eq(kind, u32::from_le_bytes(section), after);
+        expect_eq(kind, (offset, addend), (0, 5));
     }
     let mut half = 0x0000_0537u32.to_le_bytes();
     RelaxationKind::Hi20ToCLui.apply(&mut half, &mut 0, &mut 0);
@@ -365,7 +350,7 @@ fn rewrites_of_one_instruction_match_worked_words() {
 #[test]
 fn high_parts_are_zero_or_fit_clui() {
     for (value, want) in [(0x7ff, true), (1u64 << 32, true), (0x800, false)] {
-        assert_eq!(RelaxationKind::hi20_is_zero(value), want, "{value}");
+        expect_eq(value, RelaxationKind::hi20_is_zero(value), want);
     }
     let table: [(i64, bool); 9] = [
         (-0x1000, true),
@@ -379,17 +364,17 @@ fn high_parts_are_zero_or_fit_clui() {
         (0, false),
     ];
     for (value, want) in table {
-        assert_eq!(
+        expect_eq(
+            value,
             RelaxationKind::hi20_fits_clui(value.cast_unsigned()),
             want,
-            "{value}"
         );
     }
     for (register, want) in [(0, false), (1, true), (2, false), (3, true), (31, true)] {
-        assert_eq!(
+        expect_eq(
+            register,
             RelaxationKind::rd_valid_for_clui(register),
             want,
-            "x{register}"
         );
     }
 }
@@ -410,7 +395,7 @@ fn tail_calls_are_not_plain_calls() {
 #[test]
 fn distances_that_jal_cannot_hold_are_rejected() {
     for (distance, want) in [(-1048576, true), (1048575, true), (1048576, false)] {
-        assert_eq!(distance_fits_jal(distance), want, "{distance}");
+        expect_eq(distance, distance_fits_jal(distance), want);
     }
     let mut section = 0x0000_0097u32.to_le_bytes();
     assert_eq!(jal_site(&mut section, 0, 1048576), Err(CallError::TooFar));

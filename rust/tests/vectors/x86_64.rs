@@ -2,6 +2,7 @@
 //! x86-64: rewrites as LLVM 19.1.7's and GNU binutils 2.40's linkers make them, or as its assemblers
 //! write both instructions, and worked values.
 
+use crate::rows::expect_eq;
 use linker_utils::elf::{AllowedRange, RelocationKind, RelocationKindInfo, RelocationSize};
 use linker_utils::relaxation::RelocationModifier;
 use linker_utils::x86_64::{RelaxationKind, X86_64Relocation, relocation_from_raw};
@@ -467,7 +468,7 @@ fn linked(kind: RelaxationKind, at: u64, before: [u8; 10], field: Option<u32>) -
 fn rewrites_match_linkers() {
     for rewrite in &REWRITES {
         let after = linked(rewrite.kind, rewrite.offset, rewrite.before, rewrite.field);
-        assert_eq!(after, Some(rewrite.after), "{:?}", rewrite.kind);
+        expect_eq(rewrite.kind, after, Some(rewrite.after));
     }
 }
 
@@ -504,8 +505,8 @@ fn registers_move_under_every_prefix() {
         let mut addend = -4;
         assert!(kind.can_apply(&section, at));
         kind.apply(&mut section, &mut at, &mut addend);
-        assert_eq!(section, after, "{kind:?}");
-        assert_eq!((at, addend), (offset, 0), "{kind:?}");
+        expect_eq(kind, section, after);
+        expect_eq(kind, (at, addend), (offset, 0));
     }
 }
 
@@ -619,6 +620,6 @@ fn relocations_have_their_meaning() {
         ),
         (X86_64Relocation::Other(7), None),
     ] {
-        assert_eq!(relocation_from_raw(name), meaning, "{name:?}");
+        expect_eq(name, relocation_from_raw(name), meaning);
     }
 }

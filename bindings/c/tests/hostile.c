@@ -1,0 +1,845 @@
+/* Calls every function of the header with random and extreme arguments, and allocations that fail.
+ *
+ * usage: hostile [CALLS [SEED [FIRST]]]
+ * It makes CALLS calls, a million without an argument, and prints the seed. A mistake ends it with
+ * status 1 and the number of the call, which can be made alone: `hostile 1 SEED NUMBER`.
+ *
+ * Each buffer stands right before a page that may not be touched, or right behind one. What a call
+ * only reads stands in pages that may not be written. With any status but LINKER_UTILS_OK every
+ * byte of what the call may write has to stay, but for `faulty`, and with LINKER_UTILS_OK every
+ * byte beyond what the call writes. The bytes around the buffers always stay. Memory that the
+ * archive allocates stands before such a page too, and may not be touched once it is freed.
+ *
+ * That it finds mistakes is tested each time too: `run` links it with the faults of faults.c, and it
+ * has to find each. By hand it was also compiled over three changed copies of the header, in which
+ * `linker_utils_write` passed on `dest_len + 1`, `linker_utils_deltas_translate_all` a `faulty` that
+ * is null, and `linker_utils_pack` the length that `packed` should have: each ended it with status 1
+ * within 5,000 calls.
+ *
+ * The linker has to be given --wrap for malloc, realloc, calloc, posix_memalign, aligned_alloc and
+ * free, so that the archive's allocations are the ones below. */
+#define _GNU_SOURCE
+#include <inttypes.h>
+#include <signal.h>
+#include <stdio.h>
+#include <stdlib.h>
+#include <string.h>
+#include <sys/mman.h>
+#include <unistd.h>
+
+#include "linker_utils.h"
+
+#define PAGE ((size_t)4096)
+#define CANARY 0xa5
+/* How many bytes around a buffer are looked at after each call; all are now and then. */
+#define AROUND ((size_t)256)
+
+static uint64_t seed, number;
+static const char *calling = "setting up";
+
+static _Noreturn void fail(const char *what) {
+    dprintf(2, "seed %" PRIu64 ", call %" PRIu64 ", %s: %s\n", seed, number, calling, what);
+    _exit(1);
+}
+
+static void expect(bool holds, const char *what) {
+    if (!holds) fail(what);
+}
+
+static void on_signal(int cause) {
+    fail(cause == SIGSEGV || cause == SIGBUS ? "touches memory that isn't its own" : "crashes");
+}
+
+/* Pages between two that may not be touched. */
+static uint8_t *between_guards(size_t len, int protection, int file) {
+    uint8_t *all = mmap(NULL, len + 2 * PAGE, PROT_NONE, MAP_PRIVATE | MAP_ANONYMOUS, -1, 0);
+    expect(all != MAP_FAILED, "no pages");
+    int flags = MAP_FIXED | (file < 0 ? MAP_PRIVATE | MAP_ANONYMOUS : MAP_SHARED);
+    expect(mmap(all + PAGE, len, protection, flags, file, 0) != MAP_FAILED, "no pages");
+    return all + PAGE;
+}
+
+/* ---- Random numbers: splitmix64, begun anew for each call. */
+
+static uint64_t state;
+
+static uint64_t any(void) {
+    uint64_t z = state += 0x9e3779b97f4a7c15;
+    z = (z ^ z >> 30) * 0xbf58476d1ce4e5b9;
+    z = (z ^ z >> 27) * 0x94d049bb133111eb;
+    return z ^ z >> 31;
+}
+
+static size_t below(size_t limit) {
+    return any() % limit;
+}
+
+/* Whether one of so many times. */
+static bool once_in(size_t times) {
+    return below(times) == 0;
+}
+
+/* A number with more of those that lie near a limit. */
+static uint64_t any_number(void) {
+    uint64_t near = below(9) - (uint64_t)4;
+    switch (below(6)) {
+    case 0: return below(64);
+    case 1: return near;
+    case 2: return ((uint64_t)1 << below(64)) + near;
+    case 3: return -((uint64_t)1 << below(64)) + near;
+    case 4: return any() >> below(64);
+    default: return any();
+    }
+}
+
+/* An offset, mostly in or near so many bytes. */
+static uint64_t any_offset(size_t len) {
+    return once_in(4) ? any_number() : below(len + 8) - (uint64_t)(once_in(8) ? 4 : 0);
+}
+
+static size_t any_len(size_t usual) {
+    return once_in(4) ? 0 : below(usual + 1);
+}
+
+static uint16_t any_machine(void) {
+    static const uint16_t known[5] = {LINKER_UTILS_PPC64, LINKER_UTILS_X86_64,
+                                      LINKER_UTILS_AARCH64, LINKER_UTILS_RISCV,
+                                      LINKER_UTILS_LOONGARCH64};
+    return once_in(16) ? (uint16_t)any_number() : known[below(5)];
+}
+
+/* The number of a form, a rewrite or a status, which are below 32. */
+static uint32_t any_of_enum(void) {
+    return once_in(16) ? (uint32_t)any_number() : (uint32_t)below(once_in(4) ? 32 : 12);
+}
+
+static uint32_t any_relocation_type(void) {
+    return once_in(8) ? (uint32_t)any_number() : (uint32_t)below(once_in(4) ? 1200 : 128);
+}
+
+/* ---- The allocations of the archive. */
+
+#define BLOCKS 8
+#define BLOCK_LEN ((size_t)1 << 18)
+
+void *__wrap_malloc(size_t size);
+void *__wrap_realloc(void *old, size_t size);
+void *__wrap_calloc(size_t count, size_t size);
+int __wrap_posix_memalign(void **at, size_t alignment, size_t size);
+void *__wrap_aligned_alloc(size_t alignment, size_t size);
+void __wrap_free(void *at);
+
+/* Each block of memory stands at the end of its pages. */
+static struct block {
+    uint8_t *pages, *at;
+    size_t size;
+} blocks[BLOCKS];
+
+static unsigned allocations, live, refused_allocation;
+static bool was_refused;
+
+void *__wrap_malloc(size_t size) {
+    if (++allocations == refused_allocation) {
+        was_refused = true;
+        return NULL;
+    }
+    struct block *block = blocks;
+    while (block < blocks + BLOCKS && block->at) block++;
+    size_t room = (size + 15) / 16 * 16;
+    expect(block < blocks + BLOCKS && size <= BLOCK_LEN && room <= BLOCK_LEN, "takes much memory");
+    block->at = block->pages + BLOCK_LEN - room;
+    block->size = size;
+    expect(mprotect(block->pages, BLOCK_LEN, PROT_READ | PROT_WRITE) == 0, "no pages");
+    memset(block->at, CANARY, room);
+    live++;
+    return block->at;
+}
+
+void __wrap_free(void *at) {
+    if (!at) return;
+    struct block *block = blocks;
+    while (block < blocks + BLOCKS && block->at != at) block++;
+    expect(block < blocks + BLOCKS, "frees what it has not allocated");
+    uint8_t *end = block->pages + BLOCK_LEN;
+    for (uint8_t *past = block->at + block->size; past < end; past++) {
+        expect(*past == CANARY, "writes past the memory that it has allocated");
+    }
+    for (uint8_t *before = block->at; before > block->pages && before > block->at - 64;) {
+        expect(*--before == CANARY, "writes before the memory that it has allocated");
+    }
+    memset(block->at, CANARY, block->size);
+    expect(mprotect(block->pages, BLOCK_LEN, PROT_NONE) == 0, "no pages");
+    block->at = NULL;
+    live--;
+}
+
+void *__wrap_realloc(void *old, size_t size) {
+    void *grown = __wrap_malloc(size);
+    if (!grown || !old) return grown;
+    struct block *block = blocks;
+    while (block < blocks + BLOCKS && block->at != old) block++;
+    expect(block < blocks + BLOCKS, "reallocates what it has not allocated");
+    memcpy(grown, old, block->size < size ? block->size : size);
+    __wrap_free(old);
+    return grown;
+}
+
+void *__wrap_calloc(size_t count, size_t size) {
+    (void)count, (void)size;
+    fail("calls calloc, which the header doesn't name");
+}
+
+int __wrap_posix_memalign(void **at, size_t alignment, size_t size) {
+    (void)at, (void)alignment, (void)size;
+    fail("calls posix_memalign, which the header doesn't name");
+}
+
+void *__wrap_aligned_alloc(size_t alignment, size_t size) {
+    (void)alignment, (void)size;
+    fail("calls aligned_alloc, which the header doesn't name");
+}
+
+/* ---- The buffers of a call. */
+
+#define BUFFERS 8
+#define BUFFER_LEN ((size_t)1 << 17)
+
+enum use { READ, WRITTEN };
+
+/* Pages that stand twice in memory: the call may not write to the second. */
+static struct buffer {
+    uint8_t *pages, *read_only;
+    /* what stood there before the call */
+    uint8_t was[BUFFER_LEN];
+    enum use use;
+    size_t at, len;
+    /* the bytes that a success may write, counted from the buffer's first */
+    size_t changes_from, changes_to;
+    /* what the call was given */
+    void *given;
+} buffers[BUFFERS];
+
+static size_t used;
+
+/* What stands where no call did anything. */
+static uint8_t untouched[BUFFER_LEN];
+
+static void set_up(void) {
+    memset(untouched, CANARY, BUFFER_LEN);
+    for (struct buffer *buffer = buffers; buffer < buffers + BUFFERS; buffer++) {
+        int file = memfd_create("hostile", 0);
+        expect(file >= 0 && ftruncate(file, (off_t)BUFFER_LEN) == 0, "no pages");
+        buffer->pages = between_guards(BUFFER_LEN, PROT_READ | PROT_WRITE, file);
+        buffer->read_only = between_guards(BUFFER_LEN, PROT_READ, file);
+        memset(buffer->pages, CANARY, BUFFER_LEN);
+    }
+}
+
+/* The next buffer, of so many elements. A call gets `given`, of which `pages + at` are the bytes to
+ * fill. */
+static struct buffer *place(enum use use, size_t count, size_t size) {
+    expect(used < BUFFERS && count <= BUFFER_LEN / size, "too many buffers");
+    struct buffer *buffer = &buffers[used++];
+    buffer->use = use;
+    buffer->len = count * size;
+    buffer->at = once_in(4) ? 0 : BUFFER_LEN - buffer->len;
+    buffer->changes_from = 0;
+    buffer->changes_to = buffer->len;
+    uint8_t *pages = use == READ ? buffer->read_only : buffer->pages;
+    buffer->given = count == 0 && once_in(2) ? NULL : pages + buffer->at;
+    return buffer;
+}
+
+static void *filled(struct buffer *buffer) {
+    return buffer->pages + buffer->at;
+}
+
+/* A success writes none but these bytes of the buffer. */
+static void changes(struct buffer *buffer, uint64_t from, uint64_t to) {
+    buffer->changes_from = from < buffer->len ? from : buffer->len;
+    buffer->changes_to = to < buffer->len ? to : buffer->len;
+}
+
+/* One value that a call writes, of any contents. */
+static void *output(size_t size) {
+    struct buffer *buffer = place(WRITTEN, 1, size);
+    uint8_t *bytes = filled(buffer);
+    for (size_t i = 0; i < size; i++) bytes[i] = (uint8_t)any();
+    return buffer->given;
+}
+
+/* Bytes, of which some are the instructions of calls. */
+static struct buffer *bytes(enum use use, size_t len) {
+    static const uint32_t words[8] = {0x00000097, 0x000080e7, 0x00000317, 0x00030067,
+                                      0xf9400421, 0xf9400021, 0x00000013, 0x80808080};
+    struct buffer *buffer = place(use, len, 1);
+    uint8_t *at = filled(buffer);
+    for (size_t i = 0; i < len; i++) at[i] = (uint8_t)(once_in(8) ? 0x80 : any());
+    size_t pairs = once_in(2) ? len / 8 : 0;
+    for (size_t i = 0; i < pairs; i++) {
+        size_t word = once_in(2) ? 2 * below(4) : below(8);
+        for (size_t k = 0; k < 8; k++) {
+            at[8 * i + k] = (uint8_t)(words[(word + k / 4) % 8] >> 8 * (k % 4));
+        }
+    }
+    return buffer;
+}
+
+static size_t any_section_len(void) {
+    return once_in(2) ? 8 * below(8) : any_len(40);
+}
+
+/* `faulty`, which may be null; it is set to no index. */
+static size_t *any_faulty(void) {
+    if (once_in(3)) return NULL;
+    struct buffer *buffer = place(WRITTEN, 1, sizeof(size_t));
+    memset(filled(buffer), 0xff, sizeof(size_t));
+    /* `finish_faulty` looks at it */
+    changes(buffer, 0, 0);
+    return buffer->given;
+}
+
+static size_t any_count(void) {
+    if (once_in(1000)) return 2000 + below(3);
+    if (once_in(16)) return 60 + below(80);
+    return any_len(8);
+}
+
+static uint32_t any_deleted(void) {
+    return once_in(8) ? (uint32_t)any_number() : (uint32_t)below(6);
+}
+
+/* Deletions that mostly ascend, from an offset up. */
+static struct buffer *deletions(size_t count) {
+    struct buffer *buffer = place(READ, count, sizeof(struct linker_utils_deletion));
+    struct linker_utils_deletion *at = filled(buffer);
+    bool is_wild = once_in(4);
+    uint64_t offset = once_in(4) ? any_number() : below(16);
+    for (size_t i = 0; i < count; i++) {
+        at[i].offset = is_wild ? any_number() : offset;
+        at[i].bytes = any_deleted();
+        offset += at[i].bytes + 1 + (once_in(4) ? any() >> (32 + below(32)) : below(8));
+    }
+    if (count > 1 && once_in(8)) {
+        struct linker_utils_deletion *first = &at[below(count)], *second = &at[below(count)];
+        struct linker_utils_deletion held = *first;
+        *first = *second;
+        *second = held;
+    }
+    return buffer;
+}
+
+/* Deltas as the library writes them, some changed, or of any contents. */
+static struct buffer *deltas(size_t count) {
+    struct buffer *buffer = place(READ, count, sizeof(struct linker_utils_delta));
+    struct linker_utils_delta *at = filled(buffer);
+    bool is_wild = once_in(6);
+    uint64_t offset = below(16), sum = 0;
+    for (size_t i = 0; i < count; i++) {
+        uint32_t deleted = once_in(4) ? any_deleted() : 4 * (uint32_t)below(3);
+        sum += deleted;
+        at[i] = (struct linker_utils_delta){offset, sum, deleted};
+        if (is_wild) at[i] = (struct linker_utils_delta){any_number(), any_number(), any_deleted()};
+        offset += deleted + 1 + (once_in(8) ? any() >> (32 + below(32)) : below(12));
+    }
+    if (count > 0 && once_in(8)) at[below(count)].input_offset = any_number();
+    if (count > 0 && once_in(8)) at[below(count)].cumulative_deleted = any_number();
+    if (count > 0 && once_in(8)) at[below(count)].bytes_deleted = any_deleted();
+    return buffer;
+}
+
+#define LEN(buffer, type) ((buffer)->len / sizeof(type))
+#define DELTAS(buffer) (buffer)->given, LEN(buffer, struct linker_utils_delta)
+
+/* Heads of the blocks of deltas, or any others, or not as many as blocks. */
+static struct buffer *heads(const struct buffer *of) {
+    const struct linker_utils_delta *listed = (const void *)(of->pages + of->at);
+    size_t blocks_len = (LEN(of, struct linker_utils_delta) + 63) / 64;
+    size_t count = once_in(8) ? below(blocks_len + 3) : blocks_len;
+    struct buffer *buffer = place(READ, count, sizeof(struct linker_utils_block_head));
+    struct linker_utils_block_head *at = filled(buffer);
+    bool is_wild = once_in(4);
+    for (size_t i = 0; i < count; i++) {
+        if (is_wild || i >= blocks_len) {
+            at[i] = (struct linker_utils_block_head){any_number(), any_number()};
+            continue;
+        }
+        const struct linker_utils_delta *first = &listed[64 * i];
+        uint64_t before = first->cumulative_deleted - first->bytes_deleted;
+        at[i] = (struct linker_utils_block_head){first->input_offset, first->input_offset - before};
+    }
+    return buffer;
+}
+
+/* Before the call: what stands in its buffers, and which of its allocations fails. */
+static void begin(const char *name) {
+    expect(allocations == 0, "takes memory");
+    calling = name;
+    for (size_t i = 0; i < used; i++) {
+        struct buffer *buffer = &buffers[i];
+        memcpy(buffer->was, buffer->pages + buffer->at, buffer->len);
+    }
+    was_refused = false;
+    refused_allocation = once_in(2) ? 1 + (unsigned)below(6) : 0;
+}
+
+#define CALL(name, ...) (begin(#name), linker_utils_##name(__VA_ARGS__))
+
+static void look_around(const struct buffer *buffer, size_t around) {
+    size_t end = buffer->at + buffer->len;
+    size_t before = buffer->at < around ? buffer->at : around;
+    size_t past = BUFFER_LEN - end < around ? BUFFER_LEN - end : around;
+    expect(memcmp(buffer->pages + buffer->at - before, untouched, before) == 0,
+           "writes before a buffer");
+    expect(memcmp(buffer->pages + end, untouched, past) == 0, "writes past a buffer");
+}
+
+/* After the call: looks at the buffers. A call that returns no status has written what it may. */
+static void finish_buffers(bool has_written) {
+    for (size_t i = 0; i < used; i++) {
+        struct buffer *buffer = &buffers[i];
+        const uint8_t *is = buffer->pages + buffer->at;
+        size_t from = has_written ? buffer->changes_from : 0;
+        size_t to = has_written ? buffer->changes_to : 0;
+        if (from > to) from = to = 0;
+        expect(memcmp(is, buffer->was, from) == 0 &&
+                   memcmp(is + to, buffer->was + to, buffer->len - to) == 0,
+               has_written ? "writes more than it says" : "writes, and returns an error");
+        look_around(buffer, once_in(1000) ? BUFFER_LEN : AROUND);
+    }
+    expect(live == 0, "keeps memory");
+    refused_allocation = 0;
+}
+
+static void finish(bool has_written) {
+    finish_buffers(has_written);
+    expect(allocations == 0, "takes memory");
+    for (size_t i = 0; i < used; i++) memset(filled(&buffers[i]), CANARY, buffers[i].len);
+    used = 0;
+}
+
+#define OR(status) | (uint32_t)1 << LINKER_UTILS_##status
+#define NO_FORM OR(UNKNOWN_ARCHITECTURE) OR(UNKNOWN_FORM)
+#define NO_REWRITE OR(UNKNOWN_ARCHITECTURE) OR(UNKNOWN_REWRITE)
+#define NO_RELOCATION OR(UNKNOWN_ARCHITECTURE) OR(UNKNOWN_RELOCATION)
+
+/* How often each status was returned. */
+static uint64_t returned[32];
+
+static void expect_status(uint32_t status, uint32_t allowed) {
+    expect(status < 32 && ((allowed | 1) >> status & 1), "returns a status that it doesn't name");
+    returned[status]++;
+}
+
+static void finish_with(uint32_t status, uint32_t allowed) {
+    expect_status(status, allowed);
+    finish(status == LINKER_UTILS_OK);
+}
+
+/* `faulty` is an index below `limit` with a status that speaks of an entry, and else it stays. */
+static void finish_faulty(size_t *faulty, bool is_set, size_t limit) {
+    if (!faulty) return;
+    struct buffer *buffer = &buffers[used - 1];
+    expect((void *)faulty == buffer->given, "`faulty` is the last buffer");
+    if (is_set) {
+        expect(*faulty < limit, "`faulty` is no index");
+        memcpy(buffer->was, filled(buffer), sizeof(size_t));
+    }
+}
+
+/* ---- A call of each function. */
+
+static void call_status_text(void) {
+    const char *text = CALL(status_text, any_of_enum());
+    expect(text && text[0] && text[strlen(text) - 1] == '.', "no sentence");
+    finish(true);
+}
+
+static void call_window(void) {
+    uint16_t machine = any_machine();
+    uint32_t form = any_of_enum();
+    size_t *window = output(sizeof(size_t));
+    uint32_t status = CALL(window, machine, form, window);
+    expect(status != LINKER_UTILS_OK || (*window >= 2 && *window <= 8), "no length of a window");
+    finish_with(status, 0 NO_FORM);
+}
+
+/* `fits`, and `write` where that says that it will do. */
+static void call_write(void) {
+    uint16_t machine = any_machine();
+    uint32_t form = any_of_enum();
+    uint64_t value = any_number();
+    struct buffer *dest = bytes(WRITTEN, any_len(16));
+    size_t window = 0;
+    (void)linker_utils_window(machine, form, &window);
+    changes(dest, 0, window);
+    uint32_t fits = CALL(fits, machine, form, value, dest->given, dest->len);
+    finish_buffers(false);
+    uint32_t status = CALL(write, machine, form, value, once_in(2), dest->given, dest->len);
+    expect(status == fits, "`fits` and `write` differ");
+    expect(status != LINKER_UTILS_OK || dest->len >= window, "fits in fewer bytes than the window");
+    finish_with(status, 0 NO_FORM OR(TOO_SHORT) OR(DOES_NOT_FIT));
+}
+
+static void call_read(void) {
+    uint16_t machine = any_machine();
+    uint32_t form = any_of_enum();
+    struct buffer *from = bytes(READ, any_len(16));
+    uint64_t *value = output(sizeof(uint64_t));
+    uint8_t *negative = output(1);
+    uint32_t status = CALL(read, machine, form, from->given, from->len, value, negative);
+    expect(status != LINKER_UTILS_OK || *negative <= 1, "a sign that is neither 0 nor 1");
+    finish_with(status, 0 NO_FORM OR(TOO_SHORT));
+}
+
+/* `can_apply`, and `apply` where that says that it will do. No rewrite writes more than 5 bytes
+ * before the offset, nor 19 from it on. */
+static void call_apply(void) {
+    uint16_t machine = any_machine();
+    uint32_t rewrite = any_of_enum();
+    uint8_t n = (uint8_t)(once_in(8) ? any_number() : below(8));
+    struct buffer *section = bytes(WRITTEN, any_section_len());
+    uint64_t offset = any_offset(section->len), before = offset;
+    uint64_t *given_offset = output(sizeof(uint64_t));
+    int64_t *addend = output(sizeof(int64_t));
+    *given_offset = offset;
+    changes(section, offset < 5 ? 0 : offset - 5, offset > 1000 ? 0 : offset + 19);
+    const void *read = section->given ? section->read_only + section->at : NULL;
+    uint32_t can = CALL(can_apply, machine, rewrite, n, read, section->len, offset);
+    finish_buffers(false);
+    uint32_t status = CALL(apply, machine, rewrite, n, section->given, section->len, given_offset,
+                           addend);
+    expect(status == can, "`can_apply` and `apply` differ");
+    expect(status != LINKER_UTILS_OK || *given_offset - before + 1 <= 16, "the offset goes far");
+    finish_with(status, 0 NO_REWRITE OR(CANNOT_APPLY));
+}
+
+static void call_next_modifier(void) {
+    uint16_t machine = any_machine();
+    uint32_t *modifier = output(sizeof(uint32_t));
+    uint32_t status = CALL(next_modifier, machine, any_of_enum(), (uint8_t)any(), modifier);
+    expect(status != LINKER_UTILS_OK || *modifier <= 1, "no modifier");
+    finish_with(status, 0 NO_REWRITE);
+}
+
+static void call_relocation(void) {
+    uint16_t machine = any_machine();
+    struct linker_utils_relocation_info *info = output(sizeof *info);
+    uint32_t status = CALL(relocation, machine, any_relocation_type(), info);
+    if (status == LINKER_UTILS_OK) {
+        expect(info->kind <= LINKER_UTILS_KIND_TLS_DESC_CALL && info->is_bits <= 1 &&
+                   info->has_range <= 1 && info->thunkable <= 1 && info->implicit_addend <= 1 &&
+                   info->alignment > 0 && info->byte_size <= 8 && info->end_bit <= 64,
+               "no relocation's numbers");
+    }
+    finish_with(status, 0 NO_RELOCATION);
+}
+
+static void call_relocation_name(void) {
+    uint16_t machine = any_machine();
+    uint32_t r_type = any_relocation_type();
+    struct buffer *name = bytes(WRITTEN, any_len(LINKER_UTILS_NAME_SIZE));
+    size_t *name_used = output(sizeof(size_t));
+    uint32_t status = CALL(relocation_name, machine, r_type, name->given, name->len, name_used);
+    if (status == LINKER_UTILS_OK) {
+        expect(*name_used <= name->len, "a name that is longer than its place");
+        changes(name, 0, *name_used);
+    }
+    if (name->len == LINKER_UTILS_NAME_SIZE) {
+        expect(status != LINKER_UTILS_TOO_SHORT, "a name is longer than LINKER_UTILS_NAME_SIZE");
+    }
+    finish_with(status, 0 NO_RELOCATION OR(TOO_SHORT));
+}
+
+static void call_clui_rel_info(void) {
+    struct linker_utils_relocation_info *info = output(sizeof *info);
+    CALL(clui_rel_info, info);
+    expect(info->machine == LINKER_UTILS_RISCV, "not of RISC-V");
+    finish(true);
+}
+
+static void call_jal_site(void) {
+    struct buffer *section = bytes(WRITTEN, any_section_len());
+    uint64_t site = any_offset(section->len);
+    changes(section, site, site > 1000 ? 0 : site + 4);
+    int64_t distance = (int64_t)any_number();
+    uint32_t status = CALL(jal_site, section->given, section->len, site, distance);
+    finish_with(status, 0 OR(OUT_OF_SECTION) OR(ODD_DISTANCE) OR(TOO_FAR));
+}
+
+static void call_relax_call(void) {
+    struct buffer *section = bytes(WRITTEN, any_section_len());
+    struct buffer *listed = deltas(any_count());
+    uint64_t site = any_offset(section->len), target = any_offset(section->len);
+    changes(section, site, site > 1000 ? 0 : site + 4);
+    uint32_t status = CALL(relax_call, section->given, section->len, DELTAS(listed), site, target);
+    finish_with(status, 0 OR(OUT_OF_SECTION) OR(SITE_DELETED) OR(ODD_DISTANCE) OR(TOO_FAR));
+}
+
+static void call_tests(void) {
+    struct buffer *section = bytes(READ, any_section_len());
+    uint64_t site = any_offset(section->len);
+    bool is_call = CALL(is_plain_call, section->given, section->len, site);
+    bool has_room = section->len >= 8 && site <= section->len - 8;
+    expect(!is_call || has_room, "a call beyond the section");
+    finish_buffers(true);
+    uint64_t value = any_number();
+    int64_t distance = (int64_t)value;
+    bool fits = CALL(distance_fits_jal, distance);
+    expect(fits == (distance >= -1048576 && distance <= 1048575), "a wrong range of `jal`");
+    bool is_zero = CALL(hi20_is_zero, value);
+    expect(is_zero == ((value + 0x800) << 32 >> 44 == 0), "a wrong high part");
+    bool fits_clui = CALL(hi20_fits_clui, value);
+    expect(!(is_zero && fits_clui), "`c.lui` of 0");
+    bool is_valid = CALL(rd_valid_for_clui, (uint32_t)value);
+    expect(is_valid == ((uint32_t)value != 0 && (uint32_t)value != 2), "a wrong register");
+    uint64_t one = CALL(highest_relocation_with_bias, value, any_number());
+    (void)one;
+    finish(true);
+}
+
+static void call_write_mov_sequence(void) {
+    struct buffer *dest = bytes(WRITTEN, any_len(24));
+    uint32_t rd = once_in(4) ? (uint32_t)any_number() : (uint32_t)below(33);
+    changes(dest, 0, 16);
+    uint32_t status = CALL(write_mov_sequence, dest->given, dest->len, rd, any_number());
+    finish_with(status, 0 OR(TOO_SHORT) OR(BAD_REGISTER));
+}
+
+static void call_write_address_sequence(void) {
+    struct buffer *dest = bytes(WRITTEN, any_len(28));
+    uint64_t pc = any_number();
+    changes(dest, 0, 20);
+    uint32_t status = CALL(write_address_sequence, dest->given, dest->len, pc, any_number());
+    finish_with(status, 0 OR(TOO_SHORT));
+}
+
+static void call_write_ha_lo(void) {
+    struct buffer *ha = bytes(WRITTEN, any_len(8)), *lo = bytes(WRITTEN, any_len(8));
+    changes(ha, 0, 4);
+    changes(lo, 0, 4);
+    uint32_t status = CALL(write_ha_lo, ha->given, ha->len, lo->given, lo->len, any_number());
+    finish_with(status, 0 OR(TOO_SHORT));
+}
+
+static void call_u32_from_slice(void) {
+    struct buffer *from = bytes(READ, any_len(8));
+    uint32_t *value = output(sizeof(uint32_t));
+    uint32_t status = CALL(u32_from_slice, from->given, from->len, value);
+    finish_with(status, 0 OR(TOO_SHORT));
+}
+
+static void call_u64_from_slice(void) {
+    struct buffer *from = bytes(READ, any_len(16));
+    uint64_t *value = output(sizeof(uint64_t));
+    uint32_t status = CALL(u64_from_slice, from->given, from->len, value);
+    finish_with(status, 0 OR(TOO_SHORT));
+}
+
+static void call_read_u32(void) {
+    struct buffer *from = bytes(READ, any_len(8));
+    uint32_t *value = output(sizeof(uint32_t));
+    size_t *consumed = output(sizeof(size_t));
+    uint32_t status = CALL(read_u32, from->given, from->len, value, consumed);
+    expect(status != LINKER_UTILS_OK || *consumed == 4, "not 4 bytes");
+    finish_with(status, 0 OR(TOO_SHORT));
+}
+
+static void call_read_uleb128(void) {
+    struct buffer *from = bytes(READ, any_len(14));
+    if (once_in(2)) memset(filled(from), 0x80 + (int)below(128), from->len);
+    if (from->len > 0 && once_in(2)) from->pages[from->at + from->len - 1] = (uint8_t)below(4);
+    uint64_t *value = output(sizeof(uint64_t));
+    size_t *consumed = output(sizeof(size_t));
+    uint32_t status = CALL(read_uleb128, from->given, from->len, value, consumed);
+    if (status == LINKER_UTILS_OK) {
+        expect(*consumed >= 1 && *consumed <= 10 && *consumed <= from->len, "no number's length");
+    }
+    finish_with(status, 0 OR(ULEB128_ENDED) OR(ULEB128_TOO_LARGE));
+}
+
+#define DELETIONS(buffer) (buffer)->given, LEN(buffer, struct linker_utils_deletion)
+
+/* `deltas_is_valid`, and `deltas_create` where that says that it will do. */
+static void call_deltas_create(void) {
+    size_t count = any_count();
+    struct buffer *raw = deletions(count);
+    size_t deltas_len = once_in(8) ? any_count() : count;
+    struct buffer *made = place(WRITTEN, deltas_len, sizeof(struct linker_utils_delta));
+    size_t *faulty = any_faulty();
+    uint32_t valid = CALL(deltas_is_valid, DELETIONS(raw), faulty);
+    expect_status(valid, 0 OR(INVALID_DELETIONS));
+    finish_faulty(faulty, valid != LINKER_UTILS_OK, count);
+    finish_buffers(false);
+    uint32_t status = CALL(deltas_create, DELETIONS(raw), DELTAS(made), faulty);
+    expect((valid == LINKER_UTILS_OK) == (status != LINKER_UTILS_INVALID_DELETIONS),
+           "`deltas_is_valid` and `deltas_create` differ");
+    expect((status == LINKER_UTILS_OK) == (valid == LINKER_UTILS_OK && deltas_len == count),
+           "a wrong status");
+    finish_faulty(faulty, status == LINKER_UTILS_INVALID_DELETIONS, count);
+    finish_with(status, 0 OR(INVALID_DELETIONS) OR(DIFFERENT_LENGTHS));
+}
+
+/* `deltas_is_mergeable`, and `deltas_merge` where that says that it will do. */
+static void call_deltas_merge(void) {
+    size_t count = any_count(), additional_len = any_count();
+    struct buffer *listed = deltas(count), *additional = deletions(additional_len);
+    if (count > 0 && once_in(2)) {
+        const struct linker_utils_delta *last = filled(listed);
+        struct linker_utils_deletion *first = filled(additional);
+        uint64_t end = last[count - 1].input_offset + last[count - 1].bytes_deleted;
+        for (size_t i = 0; i < additional_len; i++) first[i].offset += end;
+    }
+    size_t merged_len = once_in(8) ? any_count() : count + additional_len;
+    struct buffer *merged = place(WRITTEN, merged_len, sizeof(struct linker_utils_delta));
+    size_t *faulty = any_faulty();
+    uint32_t can = CALL(deltas_is_mergeable, DELTAS(listed), DELETIONS(additional));
+    expect_status(can, 0 OR(INVALID_DELETIONS) OR(NOT_MERGEABLE));
+    expect(allocations == 0, "takes memory");
+    finish_buffers(false);
+    uint32_t status = CALL(deltas_merge, DELTAS(listed), DELETIONS(additional), DELTAS(merged),
+                           faulty);
+    expect((status == LINKER_UTILS_OUT_OF_MEMORY) == was_refused, "takes a refusal otherwise");
+    if (merged_len != count + additional_len) {
+        expect(status == LINKER_UTILS_DIFFERENT_LENGTHS, "writes to another length");
+    } else if (!was_refused) {
+        expect(status == can, "`deltas_is_mergeable` and `deltas_merge` differ");
+    }
+    bool is_of_delta = status == LINKER_UTILS_INVALID_DELETIONS;
+    finish_faulty(faulty, is_of_delta || status == LINKER_UTILS_NOT_MERGEABLE,
+                  is_of_delta ? count : additional_len);
+    expect(live == 0, "keeps memory");
+    allocations = 0;
+    finish_with(status, 0 OR(DIFFERENT_LENGTHS) OR(INVALID_DELETIONS) OR(NOT_MERGEABLE)
+                            OR(OUT_OF_MEMORY));
+}
+
+static void call_deltas_total_deleted(void) {
+    struct buffer *listed = deltas(any_count());
+    uint64_t total = CALL(deltas_total_deleted, DELTAS(listed));
+    expect(listed->len > 0 || total == 0, "no deltas delete");
+    finish(true);
+}
+
+/* Both translations, without heads and with them. */
+static void call_translations(void) {
+    struct buffer *listed = deltas(any_count()), *of_blocks = heads(listed);
+    uint64_t *input = output(sizeof(uint64_t)), *by_heads = output(sizeof(uint64_t));
+    uint64_t offset = any_offset(80);
+    const void *first_head = of_blocks->given;
+    size_t heads_len = LEN(of_blocks, struct linker_utils_block_head);
+    bool is_empty = listed->len == 0;
+    uint64_t output_offset = CALL(deltas_input_to_output, DELTAS(listed), offset);
+    expect(!is_empty || output_offset == offset, "no deltas move an offset");
+    output_offset = CALL(deltas_input_to_output_by_heads, DELTAS(listed), first_head, heads_len,
+                         offset);
+    expect(!is_empty || output_offset == offset, "no deltas move an offset");
+    uint32_t status = CALL(deltas_output_to_input, DELTAS(listed), offset, input);
+    expect_status(status, 0 OR(TOO_LARGE));
+    expect(!is_empty || (status == LINKER_UTILS_OK && *input == offset), "no deltas move one");
+    finish_buffers(status == LINKER_UTILS_OK);
+    status = CALL(deltas_output_to_input_by_heads, DELTAS(listed), first_head, heads_len, offset,
+                  by_heads);
+    expect(!is_empty || (status == LINKER_UTILS_OK && *by_heads == offset), "no deltas move one");
+    finish_with(status, 0 OR(TOO_LARGE));
+}
+
+static void call_deltas_translate_all(void) {
+    struct buffer *listed = deltas(any_count());
+    size_t count = any_count();
+    struct buffer *queries = place(READ, count, sizeof(uint64_t));
+    uint64_t *query = filled(queries), offset = below(8);
+    bool is_wild = once_in(4);
+    for (size_t i = 0; i < count; i++) {
+        query[i] = is_wild ? any_number() : offset;
+        offset += once_in(8) ? any() >> (2 + below(62)) : below(16);
+    }
+    size_t outputs_len = once_in(8) ? any_count() : count;
+    struct buffer *outputs = place(WRITTEN, outputs_len, sizeof(uint64_t));
+    size_t *faulty = any_faulty();
+    uint32_t status = CALL(deltas_translate_all, DELTAS(listed), queries->given, count,
+                           outputs->given, outputs_len, faulty);
+    expect((status == LINKER_UTILS_DIFFERENT_LENGTHS) == (outputs_len != count), "a wrong status");
+    finish_faulty(faulty, status == LINKER_UTILS_NOT_ASCENDING, count);
+    finish_with(status, 0 OR(DIFFERENT_LENGTHS) OR(NOT_ASCENDING));
+}
+
+static void call_deltas_heads(void) {
+    struct buffer *listed = deltas(any_count());
+    size_t count = CALL(deltas_block_count, DELTAS(listed));
+    expect(count == (LEN(listed, struct linker_utils_delta) + 63) / 64, "a wrong count of blocks");
+    finish_buffers(false);
+    size_t heads_len = once_in(8) ? any_len(4) : count;
+    struct buffer *written = place(WRITTEN, heads_len, sizeof(struct linker_utils_block_head));
+    uint32_t status = CALL(deltas_heads, DELTAS(listed), written->given, heads_len);
+    expect((status == LINKER_UTILS_OK) == (heads_len == count), "a wrong status");
+    finish_with(status, 0 OR(DIFFERENT_LENGTHS));
+}
+
+/* `pack`, to as many bytes as `packed_len` says or to others. */
+static void call_pack(void) {
+    struct buffer *section = bytes(READ, once_in(500) ? 5000 : any_section_len());
+    struct buffer *listed = deltas(any_count());
+    size_t calls_len = once_in(100) ? below(600) : any_len(4);
+    struct buffer *calls = place(READ, calls_len, sizeof(struct linker_utils_call));
+    struct linker_utils_call *call = filled(calls);
+    uint64_t site = once_in(8) ? any_number() : 8 * below(3);
+    for (size_t i = 0; i < calls_len; i++) {
+        call[i].site = site;
+        call[i].target = any_offset(section->len);
+        site += once_in(8) ? any_number() : 8;
+    }
+    size_t wanted = CALL(packed_len, section->given, section->len, DELTAS(listed));
+    finish_buffers(false);
+    size_t len = wanted > BUFFER_LEN || once_in(8) ? any_len(40) : wanted;
+    struct buffer *packed = bytes(WRITTEN, len);
+    size_t *faulty = any_faulty();
+    uint32_t link = once_in(8) ? (uint32_t)any_number() : (uint32_t)below(2);
+    uint32_t status = CALL(pack, section->given, section->len, DELTAS(listed), calls->given,
+                           calls_len, link, packed->given, len, faulty);
+    expect(status != LINKER_UTILS_OK || len == wanted, "packs to another length");
+    finish_faulty(faulty,
+                  status != LINKER_UTILS_OK && status != LINKER_UTILS_UNKNOWN_LINK_REGISTER &&
+                      status != LINKER_UTILS_DIFFERENT_LENGTHS,
+                  calls_len);
+    finish_with(status, 0 OR(UNKNOWN_LINK_REGISTER) OR(CALLS_NOT_APART) OR(DIFFERENT_LENGTHS)
+                            OR(OUT_OF_SECTION) OR(SITE_DELETED) OR(NOT_A_CALL) OR(ODD_DISTANCE)
+                            OR(TOO_FAR));
+}
+
+static void (*const all[])(void) = {
+    call_status_text, call_window, call_write, call_read, call_apply, call_next_modifier,
+    call_relocation, call_relocation_name, call_clui_rel_info, call_jal_site, call_relax_call,
+    call_tests, call_write_mov_sequence, call_write_address_sequence, call_write_ha_lo,
+    call_u32_from_slice, call_u64_from_slice, call_read_u32, call_read_uleb128, call_deltas_create,
+    call_deltas_merge, call_deltas_total_deleted, call_translations, call_deltas_translate_all,
+    call_deltas_heads, call_pack,
+};
+
+int main(int count, char **arguments) {
+    uint64_t calls = count > 1 ? strtoull(arguments[1], NULL, 10) : 1000000;
+    seed = count > 2 ? strtoull(arguments[2], NULL, 10) : 1;
+    uint64_t first = count > 3 ? strtoull(arguments[3], NULL, 10) : 0;
+    printf("%" PRIu64 " calls with seed %" PRIu64 "\n", calls, seed);
+    fflush(stdout);
+    set_up();
+    for (size_t i = 0; i < BLOCKS; i++) {
+        blocks[i].pages = between_guards(BLOCK_LEN, PROT_READ | PROT_WRITE, -1);
+        memset(blocks[i].pages, CANARY, BLOCK_LEN);
+        expect(mprotect(blocks[i].pages, BLOCK_LEN, PROT_NONE) == 0, "no pages");
+    }
+    const int signals[] = {SIGSEGV, SIGBUS, SIGILL, SIGFPE, SIGABRT, SIGTRAP};
+    for (size_t i = 0; i < sizeof signals / sizeof *signals; i++) signal(signals[i], on_signal);
+    for (number = first; number - first < calls; number++) {
+        state = seed;
+        state = any() + number;
+        all[below(sizeof all / sizeof *all)]();
+    }
+    /* each status is returned by some call */
+    calling = "all calls";
+    for (uint32_t status = 0; calls >= 1000000 && status <= LINKER_UTILS_NOT_A_CALL; status++) {
+        if (status == 11 || status == 16) continue;
+        if (returned[status] == 0) fail(linker_utils_status_text(status));
+    }
+    return 0;
+}

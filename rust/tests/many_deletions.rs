@@ -1,0 +1,128 @@
+//! Lists, maps and sections that are not small, for which there is memory. Of every 8 bytes of a section
+//! the last 4 are deleted, so what stands at 8 * k is at 4 * k afterwards.
+
+use linker_utils::relaxation::{
+    RelaxDelta, RelaxDeltaMap, SectionRelaxDeltas, calls_apart, pack_section,
+};
+use linker_utils::utils::read_string;
+
+const COUNT: u64 = 2_000;
+
+fn pair(index: u64) -> (u64, u32) {
+    (8 * index + 4, 4)
+}
+
+fn pairs() -> Vec<(u64, u32)> {
+    (0..COUNT).map(pair).collect()
+}
+
+/// The pairs whose index has one of the remainders modulo 5, from the last to the first.
+fn descending(remainders: &[u64]) -> Vec<(u64, u32)> {
+    let indices = (0..COUNT).filter(|i| remainders.contains(&(i % 5)));
+    indices.rev().map(pair).collect()
+}
+
+/// The deltas of those whose index has this remainder.
+fn deltas_of(remainder: u64) -> SectionRelaxDeltas {
+    let mut pairs = descending(&[remainder]);
+    pairs.reverse();
+    SectionRelaxDeltas::new(&pairs).expect("memory")
+}
+
+fn lists_all(deltas: &SectionRelaxDeltas) {
+    let listed = (0..COUNT).map(|i| RelaxDelta {
+        input_offset: 8 * i + 4,
+        cumulative_deleted: 4 * (i + 1),
+        bytes_deleted: 4,
+    });
+    assert!(deltas.deltas().iter().copied().eq(listed));
+    let mut cursor = deltas.cursor();
+    for i in 0..COUNT {
+        for (input, output) in [(8 * i, 4 * i), (8 * i + 3, 4 * i + 3), (8 * i + 6, 4 * i + 4)] {
+            assert_eq!(deltas.input_to_output_offset(input), output);
+            assert_eq!(cursor.translate(input), output);
+        }
+        assert_eq!(deltas.output_to_input_offset(4 * i), 8 * i);
+    }
+    assert_eq!(cursor.turns(), COUNT as usize);
+    assert_eq!(deltas.input_to_output_offset(8 * COUNT), 4 * COUNT);
+}
+
+#[test]
+fn deletions_are_listed_and_copied() {
+    let deltas = SectionRelaxDeltas::new(&pairs()).expect("memory");
+    lists_all(&deltas);
+    lists_all(&deltas.clone().expect("memory"));
+}
+
+#[test]
+fn deletions_are_merged() {
+    let mut deltas = deltas_of(3);
+    let more = descending(&[0, 1, 2, 4]);
+    assert!(deltas.is_mergeable(&more));
+    deltas.merge_additional(&more).expect("memory");
+    lists_all(&deltas);
+
+    let mut deltas = SectionRelaxDeltas::new(&[]).expect("memory");
+    deltas.merge_additional(&descending(&[0, 1, 2, 3, 4])).expect("memory");
+    lists_all(&deltas);
+}
+
+#[test]
+fn deletions_are_merged_in_batches() {
+    let mut deltas = deltas_of(2);
+    let batches = [descending(&[4]), descending(&[0]), descending(&[3]), descending(&[1])];
+    assert!(deltas.are_mergeable(&batches));
+    deltas.merge_all(&batches).expect("memory");
+    lists_all(&deltas);
+}
+
+#[test]
+fn maps_hold_many_sections() {
+    let deltas = |bytes: u32| SectionRelaxDeltas::new(&[(4, bytes)]).expect("memory");
+    let mut sections = RelaxDeltaMap::new();
+    for index in (0..40).step_by(2) {
+        sections.insert(index, deltas(index as u32)).expect("memory");
+    }
+    for index in (1..40).step_by(2).rev() {
+        sections.insert_sorted(index, deltas(index as u32)).expect("memory");
+    }
+    assert_eq!(sections.last_index(), Some(39));
+    for copy in [&sections, &sections.clone().expect("memory")] {
+        for index in 0..40 {
+            let section = copy.get(index).expect("a section of this index");
+            assert_eq!(section.total_deleted(), index as u64);
+        }
+        assert!(copy.get(40).is_none());
+    }
+}
+
+/// `auipc ra, 0` and `jalr ra, 0(ra)`, of which the second goes.
+const CALL: [u8; 8] = [0x97, 0, 0, 0, 0xe7, 0x80, 0, 0];
+
+#[test]
+fn sections_of_many_calls_are_packed() {
+    let section = CALL.repeat(COUNT as usize);
+    let deltas = SectionRelaxDeltas::new(&pairs()).expect("memory");
+    // each calls the one before it, which is 4 bytes before it then
+    let calls: Vec<(u64, u64)> = (1..COUNT).map(|i| (8 * i, 8 * (i - 1))).collect();
+    assert!(calls_apart(&calls));
+    let packed = pack_section(&section, &deltas, &calls).expect("calls, and memory");
+    let mut words = packed.chunks_exact(4).map(|word| u32::from_le_bytes(word.try_into().unwrap()));
+    assert_eq!(words.len(), COUNT as usize);
+    assert_eq!(words.next(), Some(0x0000_0097));
+    // jal ra, -4
+    assert!(words.all(|word| word == 0xffdf_f0ef));
+}
+
+#[test]
+fn texts_are_read() {
+    let valid = [b"x".repeat(5_000), vec![0], b"y".to_vec()].concat();
+    let invalid = [b"\xff".repeat(5_000), vec![0], b"y".to_vec()].concat();
+    for (bytes, letter) in [(valid, "x"), (invalid, "\u{fffd}")] {
+        let mut content = bytes.as_slice();
+        let text = read_string(&mut content).expect("a text, and memory");
+        assert_eq!(text, letter.repeat(5_000));
+        assert_eq!(content, b"y");
+    }
+}
