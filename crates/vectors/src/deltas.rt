@@ -277,7 +277,7 @@ fn input_by_looks(rt: &impl Abort, deltas: &SectionRelaxDeltas, output_offset: u
 }
 
 // So many deletions of four bytes, one each eight bytes.
-fn half_deleted(alloc: Global, count: u32) -> Result<Vec<(u64, u32)>, OutOfMemory> {
+fn half_deleted(alloc: Global, count: u32) -> Result<Vec<(u64, u32)>, Fail> {
     let mut raw = Vec::new(alloc);
     for k in 0..count {
         raw.push((8 * u64::from(k), 4))?;

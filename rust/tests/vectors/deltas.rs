@@ -268,7 +268,7 @@ fn input_by_looks(deltas: &SectionRelaxDeltas, output_offset: u64) -> (u64, u64)
 }
 
 // So many deletions of four bytes, one each eight bytes.
-fn half_deleted(count: u32) -> Result<Vec<(u64, u32)>, OutOfMemory> {
+fn half_deleted(count: u32) -> Result<Vec<(u64, u32)>, Fail> {
     let mut raw = Vec::new();
     for k in 0..count {
         raw.fallible_push((8 * u64::from(k), 4))?;
