@@ -3,6 +3,7 @@ pub mod Bits
 pub mod ConsecutiveBits
 pub mod Fields
 pub mod Immediates
+pub mod InPlace
 pub mod Laws
 pub mod Listed
 pub mod Merging

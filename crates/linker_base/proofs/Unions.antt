@@ -1,6 +1,6 @@
 -- Deletions in any order, and the one valid list that they sort into.
 use Rattle.std.proofs.Common.{◌≡◌, ℕ, zero, suc, ◌+◌, ◌<◌, ◌≤◌, Bool, true, false, List, [], ◌∷◌, ◌++◌, refl, sym, ap, ◌∙◌, inl, inr, ⊎_elim, arith}
-use Rattle.std.specs.Prelude.{◌⊎◌, not, ◌&&◌, nat_le, nat_lt, AllPairs, Contains, IsPermutation}
+use Rattle.std.specs.Prelude.{◌⊎◌, ◌↔◌, not, ◌&&◌, nat_le, nat_lt, AllPairs, Contains, IsPermutation}
 use Rattle.std.specs.List.Sorted.{IsNonDecreasingBy}
 use Rattle.std.proofs.lemmas.Bool.{cases_lt}
 use Rattle.std.proofs.lemmas.Bool.Decides.{nat_tests}
@@ -151,3 +151,14 @@ union_swapped old first second both union = record {
   same = IsPermutation-trans _ (old ++ (second ++ first)) both (IsPermutation-append_right old (first ++ second) (second ++ first) (IsPermutation-append_comm first second)) union.same;
   valid = union.valid;
 }
+
+-- deletions in another order may be merged alike, and give the same list
+module _ (old xs ys : List (ℕ × ℕ)) (same : IsPermutation xs ys) where
+  moved : IsPermutation (old ++ xs) (old ++ ys)
+  moved = IsPermutation-append_right old xs ys same
+
+  pub disjoint_moved : AreDisjoint (old ++ ys) ↔ AreDisjoint (old ++ xs)
+  disjoint_moved = (disjoint_permutation (old ++ ys) (old ++ xs) (IsPermutation-sym (old ++ xs) (old ++ ys) moved), disjoint_permutation (old ++ xs) (old ++ ys) moved)
+
+  pub union_moved : (sorted : List (ℕ × ℕ)) → IsSortedUnion (old ++ ys) sorted → IsSortedUnion (old ++ xs) sorted
+  union_moved sorted union = record { same = IsPermutation-trans (old ++ xs) (old ++ ys) sorted moved union.same; valid = union.valid }

@@ -24,7 +24,7 @@ pub use blocks::{
 pub use cursor::RelaxCursor;
 pub use delta_slice::DeltaSlice;
 pub use map::RelaxDeltaMap;
-use merge::{append, append_all, count_pairs, sort_and_sum};
+use merge::{all_pairs, copy_pairs, count_pairs, insert_ascending, sorted};
 use overlap::{are_beside_deltas_batches, are_disjoint_batches, first_overlapping};
 pub use overlap::{AsDeletion, first_invalid};
 
@@ -119,10 +119,12 @@ impl SectionRelaxDeltas {
 
     /// Adds deletions, each an offset and a count of bytes, in any order.
     ///
-    /// What is listed is then as `new` makes it of the old and the additional pairs, sorted. The
-    /// list and its heads grow once, before anything changes, and not at all where `additional` is
-    /// empty. The work is O((n + k) log(n + k)) for k pairs beside n deltas. `is_mergeable` tests
-    /// what it requires.
+    /// What is listed is then as `new` makes it of the old and the additional pairs, sorted. Before
+    /// anything changes the list and its heads grow, and pairs that don't ascend are copied, to be
+    /// sorted: memory is asked for at most twice where the pairs ascend, else at most three times,
+    /// and not at all where `additional` is empty. But for that growth, which is O(1) for each pair
+    /// of many merges, the work is O(k + m) for k pairs and the m deltas behind the first of them,
+    /// and O(k log k) more where the pairs don't ascend. `is_mergeable` tests what it requires.
     ///
     /// # Requires
     ///
@@ -136,10 +138,12 @@ impl SectionRelaxDeltas {
         }
         deltas.try_reserve(additional.len())?;
         heads.try_reserve(count_blocks(additional.len()))?;
-        append(deltas, additional);
-        sort_and_sum(deltas);
-        heads.clear();
-        fill_heads(deltas, heads);
+        if first_invalid(additional).is_none() {
+            insert_ascending(deltas, heads, additional);
+            return Ok(());
+        }
+        let pairs = sorted(copy_pairs(additional)?);
+        insert_ascending(deltas, heads, &pairs);
         Ok(())
     }
 
@@ -154,9 +158,11 @@ impl SectionRelaxDeltas {
 
     /// Adds the deletions of all batches, or of none where it runs out of memory.
     ///
-    /// What is listed is then as `new` makes it of the old and all additional pairs, sorted. The
-    /// list and its heads grow once, before anything changes, and not at all where no batch has a
-    /// pair. The work is O((n + k) log(n + k)) for k pairs in all batches beside n deltas.
+    /// What is listed is then as `new` makes it of the old and all additional pairs, sorted. Before
+    /// anything changes the list and its heads grow, and all pairs are copied: memory is asked for
+    /// at most three times, and not at all where no batch has a pair. But for that growth the work
+    /// is O(k + m) for k pairs in all batches and the m deltas behind the first of them, and
+    /// O(k log k) more where the pairs don't ascend, from each batch to the next too.
     /// `are_mergeable` tests what it requires.
     ///
     /// # Requires
@@ -167,12 +173,13 @@ impl SectionRelaxDeltas {
         let deltas = &mut self.deltas;
         let heads = &mut self.heads;
         let count = count_pairs(batches);
+        if count == 0 {
+            return Ok(());
+        }
         deltas.try_reserve(count)?;
         heads.try_reserve(count_blocks(count))?;
-        append_all(deltas, batches);
-        sort_and_sum(deltas);
-        heads.clear();
-        fill_heads(deltas, heads);
+        let pairs = sorted(all_pairs(batches)?);
+        insert_ascending(deltas, heads, &pairs);
         Ok(())
     }
 

@@ -2,6 +2,7 @@
 
 ghost use Rattle.std.specs.Prelude.{◌≡◌, ◌<◌, ◌≤◌, ◌+◌, ◌-◌, ◌*◌, ◌^◌, ℕ, List, length, slice_index_or, vec_len, vec_capacity};
 ghost use Rattle.linker_base.specs.declared.relaxation.RelaxDelta.{RelaxDelta};
+ghost use Rattle.linker_base.specs.declared.relaxation.blocks.BlockHead.{BlockHead};
 ghost use Rattle.linker_base.specs.Blocks.{place_of, blocks_of, head_of, AreHeads};
 ghost use Rattle.linker_base.specs.Deletions.{rank, IsSelected, HasInput};
 ghost use Rattle.linker_base.specs.Deltas.{deletions_of};
@@ -177,13 +178,15 @@ impl<'a> Looks for Counted<'a> {
     }
 }
 
-/// Puts the head of each block behind no heads.
+/// Puts the heads of the other blocks behind those of the first blocks.
 pub(super) fn fill_heads(deltas: &[RelaxDelta], heads: &mut Vec<BlockHead>)
-    requires empty { vec_len heads.old ≡ 0 }
+    requires first { (b : ℕ) (h : BlockHead) (d : RelaxDelta) → b < vec_len heads.old
+        → slice_index_or heads.old.items b h ≡ head_of (slice_index_or deltas.now (64 * b) d) }
+    requires within { vec_len heads.old ≤ blocks_of (length deltas.now) }
     requires room { blocks_of (length deltas.now) ≤ vec_capacity heads.old }
     ensures { AreHeads deltas.now heads.new.items }
 {
-    for block in 0..count_blocks(deltas.len()) {
+    for block in heads.len()..count_blocks(deltas.len()) {
         heads.push_reserved(BlockHead::of(&deltas[BLOCK_LEN * block]));
     }
 }

@@ -1,11 +1,17 @@
 //! The growth of the deltas by a merge.
 
-ghost use Rattle.std.specs.Prelude.{◌≡◌, ◌≤◌, ◌+◌, ◌-◌, ◌^◌, ◌++◌, map, min, length, vec_len, vec_capacity};
-ghost use Rattle.linker_base.specs.Deletions.{AreDisjoint, IsSortedUnion};
+ghost use Rattle.std.specs.Prelude.{◌≡◌, ◌≤◌, ◌<◌, ◌+◌, ◌-◌, ◌^◌, ◌++◌, ℕ, IfOk, map, min, length, take, slice_index_or, vec_len, vec_capacity};
+ghost use Rattle.linker_base.specs.declared.relaxation.RelaxDelta.{RelaxDelta};
+ghost use Rattle.linker_base.specs.Blocks.{blocks_of};
+ghost use Rattle.linker_base.specs.Deletions.{AreDisjoint, IsValid, IsSortedUnion, bytes_of};
 ghost use Rattle.linker_base.specs.Deltas.{deletion_of, pairs_of};
 ghost use Rattle.linker_base.specs.Listed.{AreValidDeltas};
+ghost use Rattle.linker_base.specs.Inner.Listed.{IsSound};
 
-use super::RelaxDelta;
+use super::blocks::{BlockHead, count_blocks, fill_heads};
+use super::overlap::{AsDeletion, first_invalid};
+use super::{OutOfMemory, RelaxDelta};
+use std::alloc::Global;
 
 // How many pairs all batches have, or `usize::MAX` where they are more.
 pub(super) fn count_pairs(batches: &[Vec<(u64, u32)>]) -> usize
@@ -18,13 +24,70 @@ pub(super) fn count_pairs(batches: &[Vec<(u64, u32)>]) -> usize
     count
 }
 
+// The pairs of all batches, one batch after the other.
+pub(super) fn all_pairs(
+    alloc: Global,
+    batches: &[Vec<(u64, u32)>],
+) -> Result<Vec<(u64, u32)>, OutOfMemory>
+    ensures { IfOk result (λ pairs. pairs.items ≡ pairs_of batches.now) }
+{
+    let mut pairs = Vec::with_capacity(alloc, count_pairs(batches))?;
+    for batch in batches {
+        pairs.extend_from_slice(batch)?;
+    }
+    Ok(pairs)
+}
+
+// A copy of the pairs.
+pub(super) fn copy_pairs(
+    alloc: Global,
+    pairs: &[(u64, u32)],
+) -> Result<Vec<(u64, u32)>, OutOfMemory>
+    ensures { IfOk result (λ copy. copy.items ≡ pairs.now) }
+{
+    let mut copy = Vec::with_capacity(alloc, pairs.len())?;
+    copy.extend_from_slice(pairs)?;
+    Ok(copy)
+}
+
+// The pairs in order.
+pub(super) fn sorted(pairs: Vec<(u64, u32)>) -> Vec<(u64, u32)>
+    requires { AreDisjoint pairs.items }
+    ensures { IsSortedUnion pairs.items result.items }
+{
+    let mut sorted = pairs;
+    if first_invalid(&sorted).is_some() {
+        sorted.sort_unstable_by_key(|pair| pair.0);
+    }
+    sorted
+}
+
+// Adds pairs that ascend, and writes the heads from the first block on that changes.
+pub(super) fn insert_ascending(
+    deltas: &mut Vec<RelaxDelta>,
+    heads: &mut Vec<BlockHead>,
+    pairs: &[(u64, u32)],
+)
+    requires sound { IsSound deltas.old.items heads.old.items }
+    requires room { vec_len deltas.old + length pairs.now ≤ vec_capacity deltas.old }
+    requires heads_room { blocks_of (vec_len deltas.old + length pairs.now) ≤ vec_capacity heads.old }
+    requires ascending { IsValid pairs.now }
+    requires disjoint { AreDisjoint (map deletion_of deltas.old.items ++ pairs.now) }
+    ensures sound { IsSound deltas.new.items heads.new.items }
+    ensures union { IsSortedUnion (map deletion_of deltas.old.items ++ pairs.now) (map deletion_of deltas.new.items) }
+{
+    let count = deltas.len();
+    append(deltas, pairs);
+    let kept = merge_ascending(deltas, count, pairs);
+    heads.truncate(count_blocks(kept));
+    fill_heads(deltas, heads);
+}
+
 // Puts the pairs behind the deltas, with no sum yet.
-pub(super) fn append(deltas: &mut Vec<RelaxDelta>, pairs: &[(u64, u32)])
+fn append(deltas: &mut Vec<RelaxDelta>, pairs: &[(u64, u32)])
     requires { vec_len deltas.old + length pairs.now ≤ vec_capacity deltas.old }
-    ensures appended { map deletion_of deltas.new.items
-        ≡ map deletion_of deltas.old.items ++ pairs.now }
+    ensures front { take (vec_len deltas.old) deltas.new.items ≡ deltas.old.items }
     ensures len { vec_len deltas.new ≡ vec_len deltas.old + length pairs.now }
-    ensures capacity { vec_capacity deltas.new ≡ vec_capacity deltas.old }
 {
     for &(input_offset, bytes_deleted) in pairs {
         deltas.push_reserved(RelaxDelta {
@@ -35,27 +98,59 @@ pub(super) fn append(deltas: &mut Vec<RelaxDelta>, pairs: &[(u64, u32)])
     }
 }
 
-// Puts the pairs of all batches behind the deltas, with no sums yet.
-pub(super) fn append_all(deltas: &mut Vec<RelaxDelta>, batches: &[Vec<(u64, u32)>])
-    requires { vec_len deltas.old + length (pairs_of batches.now) ≤ vec_capacity deltas.old }
-    ensures { map deletion_of deltas.new.items
-        ≡ map deletion_of deltas.old.items ++ pairs_of batches.now }
-{
-    for batch in batches {
-        append(deltas, batch);
-    }
-}
-
-// Puts the deltas in order, and sums their bytes anew.
-pub(super) fn sort_and_sum(deltas: &mut [RelaxDelta])
-    requires { AreDisjoint (map deletion_of deltas.old) }
-    ensures sorted { IsSortedUnion (map deletion_of deltas.old) (map deletion_of deltas.new) }
+// Merges ascending deletions into the first `count` deltas, from the back. The rest of the slice is
+// room for as many. Returns how many of the first deltas stay as they are.
+pub(super) fn merge_ascending<D: AsDeletion>(
+    deltas: &mut [RelaxDelta],
+    count: usize,
+    additional: &[D],
+) -> usize
+    requires room { count + length additional.now ≡ length deltas.old }
+    requires listed { AreValidDeltas (take count deltas.old) }
+    requires ascending { IsValid (map D.deletion additional.now) }
+    requires disjoint { AreDisjoint (map deletion_of (take count deltas.old) ++ map D.deletion additional.now) }
+    ensures within { result ≤ count }
+    ensures front { (k : ℕ) (d : RelaxDelta) → k < result
+        → slice_index_or deltas.new k d ≡ slice_index_or deltas.old k d }
+    ensures union { IsSortedUnion (map deletion_of (take count deltas.old) ++ map D.deletion additional.now) (map deletion_of deltas.new) }
     ensures listed { AreValidDeltas deltas.new }
 {
-    deltas.sort_unstable_by_key(|delta| delta.input_offset);
-    let mut sum = 0;
-    for delta in deltas.iter_mut() {
-        sum += u64::from(delta.bytes_deleted);
-        delta.cumulative_deleted = sum;
+    let mut old = count;
+    let mut left = additional.len();
+    let mut bytes = bytes_in(additional);
+    while left > 0 {
+        let (input_offset, bytes_deleted) = additional[left - 1].as_deletion();
+        while old > 0 && input_offset < deltas[old - 1].input_offset {
+            let delta = deltas[old - 1];
+            deltas[old + left - 1] = RelaxDelta {
+                cumulative_deleted: delta.cumulative_deleted + bytes,
+                ..delta
+            };
+            old -= 1;
+        }
+        let before = match old.checked_sub(1) {
+            Some(last) => deltas[last].cumulative_deleted,
+            None => 0,
+        };
+        deltas[old + left - 1] = RelaxDelta {
+            input_offset,
+            cumulative_deleted: before + bytes,
+            bytes_deleted,
+        };
+        left -= 1;
+        bytes -= u64::from(bytes_deleted);
     }
+    old
+}
+
+// The bytes that the deletions of a valid list take together.
+fn bytes_in<D: AsDeletion>(deletions: &[D]) -> u64
+    requires { IsValid (map D.deletion deletions.now) }
+    ensures { result ≡ bytes_of (map D.deletion deletions.now) }
+{
+    let mut sum = 0;
+    for deletion in deletions {
+        sum += u64::from(deletion.as_deletion().1);
+    }
+    sum
 }

@@ -130,9 +130,9 @@ impl<'a> Looks for Counted<'a> {
     }
 }
 
-/// Puts the head of each block behind no heads.
+/// Puts the heads of the other blocks behind those of the first blocks.
 pub(super) fn fill_heads(deltas: &[RelaxDelta], heads: &mut Vec<BlockHead>) {
-    for block in 0..count_blocks(deltas.len()) {
+    for block in heads.len()..count_blocks(deltas.len()) {
         heads.push(BlockHead::of(&deltas[BLOCK_LEN * block]));
     }
 }

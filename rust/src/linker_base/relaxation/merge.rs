@@ -2,7 +2,10 @@
 //! The growth of the deltas by a merge.
 
 use alloc::vec::Vec;
-use super::RelaxDelta;
+use crate::support::*;
+use super::blocks::{BlockHead, count_blocks, fill_heads};
+use super::overlap::{AsDeletion, first_invalid};
+use super::{OutOfMemory, RelaxDelta};
 
 // How many pairs all batches have, or `usize::MAX` where they are more.
 pub(super) fn count_pairs(batches: &[Vec<(u64, u32)>]) -> usize {
@@ -13,8 +16,50 @@ pub(super) fn count_pairs(batches: &[Vec<(u64, u32)>]) -> usize {
     count
 }
 
+// The pairs of all batches, one batch after the other.
+pub(super) fn all_pairs(
+    batches: &[Vec<(u64, u32)>],
+) -> Result<Vec<(u64, u32)>, OutOfMemory> {
+    let mut pairs = Vec::fallible_with_capacity(count_pairs(batches))?;
+    for batch in batches {
+        pairs.fallible_extend_from_slice(batch)?;
+    }
+    Ok(pairs)
+}
+
+// A copy of the pairs.
+pub(super) fn copy_pairs(
+    pairs: &[(u64, u32)],
+) -> Result<Vec<(u64, u32)>, OutOfMemory> {
+    let mut copy = Vec::fallible_with_capacity(pairs.len())?;
+    copy.fallible_extend_from_slice(pairs)?;
+    Ok(copy)
+}
+
+// The pairs in order.
+pub(super) fn sorted(pairs: Vec<(u64, u32)>) -> Vec<(u64, u32)> {
+    let mut sorted = pairs;
+    if first_invalid(&sorted).is_some() {
+        sorted.sort_unstable_by_key(|pair| pair.0);
+    }
+    sorted
+}
+
+// Adds pairs that ascend, and writes the heads from the first block on that changes.
+pub(super) fn insert_ascending(
+    deltas: &mut Vec<RelaxDelta>,
+    heads: &mut Vec<BlockHead>,
+    pairs: &[(u64, u32)],
+) {
+    let count = deltas.len();
+    append(deltas, pairs);
+    let kept = merge_ascending(deltas, count, pairs);
+    heads.truncate(count_blocks(kept));
+    fill_heads(deltas, heads);
+}
+
 // Puts the pairs behind the deltas, with no sum yet.
-pub(super) fn append(deltas: &mut Vec<RelaxDelta>, pairs: &[(u64, u32)]) {
+fn append(deltas: &mut Vec<RelaxDelta>, pairs: &[(u64, u32)]) {
     for &(input_offset, bytes_deleted) in pairs {
         deltas.push(RelaxDelta {
             input_offset,
@@ -24,19 +69,46 @@ pub(super) fn append(deltas: &mut Vec<RelaxDelta>, pairs: &[(u64, u32)]) {
     }
 }
 
-// Puts the pairs of all batches behind the deltas, with no sums yet.
-pub(super) fn append_all(deltas: &mut Vec<RelaxDelta>, batches: &[Vec<(u64, u32)>]) {
-    for batch in batches {
-        append(deltas, batch);
+// Merges ascending deletions into the first `count` deltas, from the back. The rest of the slice is
+// room for as many. Returns how many of the first deltas stay as they are.
+pub(super) fn merge_ascending<D: AsDeletion>(
+    deltas: &mut [RelaxDelta],
+    count: usize,
+    additional: &[D],
+) -> usize {
+    let mut old = count;
+    let mut left = additional.len();
+    let mut bytes = bytes_in(additional);
+    while left > 0 {
+        let (input_offset, bytes_deleted) = additional[left - 1].as_deletion();
+        while old > 0 && input_offset < deltas[old - 1].input_offset {
+            let delta = deltas[old - 1];
+            deltas[old + left - 1] = RelaxDelta {
+                cumulative_deleted: delta.cumulative_deleted + bytes,
+                ..delta
+            };
+            old -= 1;
+        }
+        let before = match old.checked_sub(1) {
+            Some(last) => deltas[last].cumulative_deleted,
+            None => 0,
+        };
+        deltas[old + left - 1] = RelaxDelta {
+            input_offset,
+            cumulative_deleted: before + bytes,
+            bytes_deleted,
+        };
+        left -= 1;
+        bytes -= u64::from(bytes_deleted);
     }
+    old
 }
 
-// Puts the deltas in order, and sums their bytes anew.
-pub(super) fn sort_and_sum(deltas: &mut [RelaxDelta]) {
-    deltas.sort_unstable_by_key(|delta| delta.input_offset);
+// The bytes that the deletions of a valid list take together.
+fn bytes_in<D: AsDeletion>(deletions: &[D]) -> u64 {
     let mut sum = 0;
-    for delta in deltas.iter_mut() {
-        sum += u64::from(delta.bytes_deleted);
-        delta.cumulative_deleted = sum;
+    for deletion in deletions {
+        sum += u64::from(deletion.as_deletion().1);
     }
+    sum
 }

@@ -1,0 +1,6 @@
+use Rattle.std.proofs.Common.{◌≡◌, take}
+use Rattle.linker_base.specs.Deltas.{pairs_of}
+use Rattle.linker_base.proofs.relaxation.merge.all_pairs.Given as goal
+
+abbrev pub invariant-loop-batch : goal.invariant-loop-batch
+invariant-loop-batch l = l.pairs.items ≡ pairs_of (take l.batch-index l.batches)
