@@ -17,4 +17,5 @@ pub mod RiscVRewrites
 pub mod RowsAgree
 pub mod RowsFit
 pub mod Runs
+pub mod Shrinking
 pub mod X86Bytes

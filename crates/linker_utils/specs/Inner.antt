@@ -1,3 +1,4 @@
 pub mod FormLaws
 pub mod Packing
 pub mod Runs
+pub mod Shrinking

@@ -2,6 +2,7 @@
 //! are packed.
 
 mod packing;
+mod shrinking;
 
 pub use linker_base::relaxation::{
     AsDeletion, BLOCK_LEN, BlockHead, BlockedSlice, Counted, DeltaSlice, Looks, OutOfMemory,
@@ -11,4 +12,8 @@ pub use linker_base::relaxation::{
 pub use packing::{
     AsCall, PackError, RejectedCall, calls_apart, first_not_apart, pack_into, pack_section,
     packed_calls_reach_targets, packed_len,
+};
+pub use shrinking::{
+    AsChoice, calls_shrinkable, first_not_shrinkable, shrink_calls, shrink_calls_into,
+    shrunk_calls_are_accepted,
 };

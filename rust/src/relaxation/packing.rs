@@ -59,7 +59,7 @@ impl<T> From<AllocFailed<T>> for PackError {
 
 /// The output offset of an input offset.
 #[inline(always)]
-fn output_offset(deltas: &[RelaxDelta], input_offset: u64) -> u64 {
+pub(super) fn output_offset(deltas: &[RelaxDelta], input_offset: u64) -> u64 {
     DeltaSlice::new(deltas).input_to_output_offset(input_offset)
 }
 

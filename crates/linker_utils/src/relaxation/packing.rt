@@ -79,7 +79,7 @@ impl<T: Drop> From<AllocFailed<T>> for PackError {
 
 /// The output offset of an input offset.
 #[inline(always)]
-fn output_offset(deltas: &[RelaxDelta], input_offset: u64) -> u64
+pub(super) fn output_offset(deltas: &[RelaxDelta], input_offset: u64) -> u64
     ensures { AreValidDeltas deltas.now → result ≡ rank (deletions_of deltas.now) input_offset }
 {
     DeltaSlice::new(deltas).input_to_output_offset(input_offset)

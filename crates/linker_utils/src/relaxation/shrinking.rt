@@ -1,0 +1,353 @@
+//! The calls of a section that can become jumps at once.
+
+ghost use Rattle.std.specs.Prelude.{◌≡◌, ◌≤◌, ◌<◌, ◌+◌, ◌-◌, ◌*◌, ◌^◌, ◌++◌, ◌∷◌, [], ◌↔◌, ℕ, Bool, nat_lt, min, map, take, length, pos, ◌-ℤ◌, All, IsTrue, IsFalse, IfOk, IfSome, MatchOption};
+ghost use Rattle.linker_base.specs.Deletions.{AreDisjoint, AreKept};
+ghost use Rattle.linker_base.specs.Deltas.{deletions_of};
+ghost use Rattle.linker_base.specs.Listed.{AreValidDeltas};
+ghost use Rattle.linker_utils.specs.Inner.Shrinking.{chosen_count, chosen_between, AreEightApart, IsSplit, KeepsOthers, IsInReachAt, ArePlaced, AreOutside, IsAround, IsApartAt};
+ghost use Rattle.linker_utils.specs.RiscV.{IsEven, IsJalDistance};
+ghost use Rattle.linker_utils.specs.Shrinking.{IsChosen, AreInReach, IsGreatest, AreShrinkable, IsFirstNotShrinkable, ShrunkCallsAreAccepted};
+
+use super::packing::output_offset;
+use super::{AsCall, DeltaSlice, OutOfMemory, RelaxDelta, SectionRelaxDeltas};
+use crate::riscv64::{distance_fits_jal, is_even};
+use std::alloc::Global;
+
+/// What tells of a call whether it is chosen: a `bool`, or a byte that is 0 or 1.
+pub trait AsChoice: Copy {
+    /// Whether the call is chosen, in a contract.
+    ghost choice: { Self → Bool };
+
+    /// Whether it is one of the two values that are written, in a contract.
+    ghost is_written: { Self → Type 0 };
+
+    /// Whether the call is chosen.
+    fn as_choice(self) -> bool
+        ensures { result ≡ choice self };
+
+    /// The value that tells it.
+    fn from_choice(chosen: bool) -> Self
+        ensures tells { choice result ≡ chosen }
+        ensures written { is_written result };
+}
+
+impl AsChoice for bool {
+    ghost use Rattle.std.specs.Prelude.{⊤};
+
+    ghost choice = { λ chosen. chosen };
+
+    ghost is_written = { λ _. ⊤ };
+
+    #[inline(always)]
+    fn as_choice(self) -> bool {
+        self
+    }
+
+    #[inline(always)]
+    fn from_choice(chosen: bool) -> bool {
+        chosen
+    }
+}
+
+impl AsChoice for u8 {
+    ghost choice = { λ byte. nat_lt 0 byte };
+
+    ghost is_written = { λ byte. byte ≤ 1 };
+
+    #[inline(always)]
+    fn as_choice(self) -> bool {
+        self != 0
+    }
+
+    #[inline(always)]
+    fn from_choice(chosen: bool) -> u8 {
+        u8::from(chosen)
+    }
+}
+
+/// How many of the calls have their second instruction below an offset.
+fn calls_below<C: AsCall>(calls: &[C], offset: u64) -> usize
+    ensures within { result ≤ length calls.now }
+    ensures split { AreEightApart (map C.call calls.now) → IsSplit (map C.call calls.now) offset result }
+{
+    let mut start = 0;
+    let mut len = calls.len();
+    while len > 0 {
+        let half = len / 2;
+        let (site, _) = calls[start + half].as_call();
+        if site.saturating_add(4) < offset {
+            start += half + 1;
+            len -= half + 1;
+        } else {
+            len = half;
+        }
+    }
+    start
+}
+
+/// How many calls are chosen from an index up to another.
+fn count_between<A: AsChoice>(answer: &[A], from: usize, to: usize) -> usize
+    requires ascending { from ≤ to }
+    requires within { to ≤ length answer.now }
+    ensures { result ≡ chosen_between (map A.choice answer.now) from to }
+{
+    let mut count = 0;
+    for choice in &answer[from..to] {
+        count += usize::from(choice.as_choice());
+    }
+    count
+}
+
+/// Whether a `jal` at an output offset reaches another.
+fn reaches(from: u64, to: u64) -> bool
+    ensures { IsTrue result
+        ↔ (IsEven (pos to -ℤ pos from) × IsJalDistance (pos to -ℤ pos from)) }
+{
+    let distance = to.abs_diff(from);
+    if distance >= 1 << 63 {
+        return false;
+    }
+    let distance = if from <= to {
+        distance as i64
+    } else {
+        -(distance as i64)
+    };
+    is_even(distance) && distance_fits_jal(distance)
+}
+
+/// How many bytes the chosen calls give up from an index up to another, or `u64::MAX` where that is
+/// less.
+fn bytes_between<A: AsChoice>(answer: &[A], from: usize, to: usize) -> u64
+    requires ascending { from ≤ to }
+    requires within { to ≤ length answer.now }
+    ensures { result ≡ min (4 * chosen_between (map A.choice answer.now) from to) (2 ^ 64 - 1) }
+{
+    (count_between(answer, from, to) as u64).saturating_mul(4)
+}
+
+/// Whether the call at an index is in reach once the chosen calls have given up their bytes.
+fn is_in_reach<C: AsCall, A: AsChoice>(
+    deltas: &[RelaxDelta],
+    calls: &[C],
+    answer: &[A],
+    index: usize,
+) -> bool
+    requires within { index < length calls.now }
+    requires one_each { length answer.now ≡ length calls.now }
+    ensures { AreValidDeltas deltas.now → AreShrinkable (deletions_of deltas.now) (map C.call calls.now)
+        → (IsTrue result ↔ IsInReachAt (deletions_of deltas.now) (map C.call calls.now) (map A.choice answer.now) index) }
+{
+    let (site, target) = calls[index].as_call();
+    let from = output_offset(deltas, site);
+    let to = output_offset(deltas, target);
+    let split = calls_below(calls, target);
+    if index <= split {
+        let freed = bytes_between(answer, index, split);
+        reaches(from, to.saturating_sub(freed))
+    } else {
+        let freed = bytes_between(answer, split, index);
+        reaches(from.saturating_sub(freed), to)
+    }
+}
+
+/// Drops the call at an index from the choice where it is out of reach. Whether it was dropped.
+fn drop_unreached<C: AsCall, A: AsChoice>(
+    deltas: &[RelaxDelta],
+    calls: &[C],
+    answer: &mut [A],
+    index: usize,
+) -> bool
+    requires within { index < length calls.now }
+    requires one_each { length answer.old ≡ length calls.now }
+    ensures keeps { AreValidDeltas deltas.now → AreShrinkable (deletions_of deltas.now) (map C.call calls.now)
+        → KeepsOthers (deletions_of deltas.now) (map C.call calls.now) (map A.choice answer.old) (map A.choice answer.new) }
+    ensures in_reach { AreValidDeltas deltas.now → AreShrinkable (deletions_of deltas.now) (map C.call calls.now)
+        → IsFalse result → IsChosen (map A.choice answer.new) index
+        → IsInReachAt (deletions_of deltas.now) (map C.call calls.now) (map A.choice answer.new) index }
+    ensures same { IsFalse result → answer.new ≡ answer.old }
+    ensures fewer { IsTrue result
+        → chosen_count (map A.choice answer.new) < chosen_count (map A.choice answer.old) }
+    ensures written { All A.is_written answer.old → All A.is_written answer.new }
+{
+    if !answer[index].as_choice() || is_in_reach(deltas, calls, answer, index) {
+        return false;
+    }
+    answer[index] = A::from_choice(false);
+    true
+}
+
+/// Drops from the choice each call that is out of reach, one after the other. Whether one was
+/// dropped.
+fn sweep<C: AsCall, A: AsChoice>(deltas: &[RelaxDelta], calls: &[C], answer: &mut [A]) -> bool
+    requires one_each { length answer.old ≡ length calls.now }
+    ensures keeps { AreValidDeltas deltas.now → AreShrinkable (deletions_of deltas.now) (map C.call calls.now)
+        → KeepsOthers (deletions_of deltas.now) (map C.call calls.now) (map A.choice answer.old) (map A.choice answer.new) }
+    ensures settled { AreValidDeltas deltas.now → AreShrinkable (deletions_of deltas.now) (map C.call calls.now)
+        → IsFalse result
+        → AreInReach (deletions_of deltas.now) (map C.call calls.now) (map A.choice answer.new) }
+    ensures fewer { IsTrue result
+        → chosen_count (map A.choice answer.new) < chosen_count (map A.choice answer.old) }
+    ensures written { All A.is_written answer.old → All A.is_written answer.new }
+{
+    let mut dropped = false;
+    for index in 0..calls.len() {
+        if drop_unreached(deltas, calls, answer, index) {
+            dropped = true;
+        }
+    }
+    dropped
+}
+
+/// Chooses all calls.
+fn choose_all<A: AsChoice>(answer: &mut [A])
+    ensures chosen { (i : ℕ) → i < length answer.new → IsChosen (map A.choice answer.new) i }
+    ensures written { All A.is_written answer.new }
+{
+    for choice in answer.iter_mut() {
+        *choice = A::from_choice(true);
+    }
+}
+
+/// Whether a call's eight bytes are kept, and the four that it gives up may be deleted.
+fn is_placed(deltas: &[RelaxDelta], site: u64) -> bool
+    ensures { AreValidDeltas deltas.now → (IsTrue result
+        ↔ (AreKept (deletions_of deltas.now) site 8 × AreDisjoint (deletions_of deltas.now ++ (site + 4, 4) ∷ []))) }
+{
+    let deltas = DeltaSlice::new(deltas);
+    site <= u64::MAX - 8
+        && deltas.kept_output_offset(site, 8).is_some()
+        && deltas.first_overlapping(&[(site + 4, 4)]).is_none()
+}
+
+/// Whether the site of the call at an index is at least 8 above the one before it, if there is one.
+fn is_apart<C: AsCall>(calls: &[C], at: usize) -> bool
+    requires { at < length calls.now }
+    ensures { IsTrue result ↔ IsApartAt (map C.call calls.now) at }
+{
+    let Some(before) = at.checked_sub(1) else {
+        return true;
+    };
+    let (site, _) = calls[at].as_call();
+    let (site_before, _) = calls[before].as_call();
+    site.saturating_sub(site_before) >= 8
+}
+
+/// How many of the first calls may be shrunk as far as their sites go.
+fn placed_len<C: AsCall>(deltas: &[RelaxDelta], calls: &[C]) -> usize
+    ensures within { result ≤ length calls.now }
+    ensures placed { AreValidDeltas deltas.now
+        → ArePlaced (deletions_of deltas.now) (take result (map C.call calls.now)) }
+    ensures next { AreValidDeltas deltas.now → result < length calls.now
+        → ¬ ArePlaced (deletions_of deltas.now) (take (result + 1) (map C.call calls.now)) }
+{
+    for at in 0..calls.len() {
+        let (site, _) = calls[at].as_call();
+        if !is_apart(calls, at) || !is_placed(deltas, site) {
+            return at;
+        }
+    }
+    calls.len()
+}
+
+/// The index of the call that gives up the byte before an offset and the byte at it, if one does.
+fn call_around<C: AsCall>(calls: &[C], offset: u64) -> Option<usize>
+    ensures within { IfSome result (λ at. at < length calls.now) }
+    ensures around { AreEightApart (map C.call calls.now)
+        → MatchOption result ((at : ℕ) → at < length calls.now → ¬ IsAround (map C.call calls.now) offset at)
+        (IsAround (map C.call calls.now) offset) }
+{
+    let Some(last) = calls_below(calls, offset).checked_sub(1) else {
+        return None;
+    };
+    let (site, _) = calls[last].as_call();
+    if offset.wrapping_sub(site) < 8 {
+        Some(last)
+    } else {
+        None
+    }
+}
+
+/// How many of the first calls have no target strictly inside what one of them deletes.
+fn outside_len<C: AsCall>(calls: &[C]) -> usize
+    ensures within { result ≤ length calls.now }
+    ensures outside { AreEightApart (map C.call calls.now)
+        → AreOutside (take result (map C.call calls.now)) }
+    ensures next { AreEightApart (map C.call calls.now) → result < length calls.now
+        → ¬ AreOutside (take (result + 1) (map C.call calls.now)) }
+{
+    let mut first = calls.len();
+    for at in 0..calls.len() {
+        let (_, target) = calls[at].as_call();
+        if let Some(other) = call_around(calls, target) {
+            first = first.min(at.max(other));
+        }
+    }
+    first
+}
+
+/// The index of the first call that can't be shrunk beside those before it: its site is less than 8
+/// above the site before it, one of its eight bytes is deleted, the deletion of the last four can't
+/// be merged, or one of these calls has a target strictly inside what another, or itself, deletes.
+/// None where `shrink_calls` accepts the calls.
+///
+/// It takes no memory. For k calls beside n deltas the work is O(k log n + k log k).
+pub fn first_not_shrinkable<C: AsCall>(deltas: &[RelaxDelta], calls: &[C]) -> Option<usize>
+    ensures { AreValidDeltas deltas.now
+        → MatchOption result (AreShrinkable (deletions_of deltas.now) (map C.call calls.now))
+        (IsFirstNotShrinkable (deletions_of deltas.now) (map C.call calls.now)) }
+{
+    let placed = placed_len(deltas, calls);
+    let first = outside_len(&calls[..placed]);
+    if first < calls.len() {
+        Some(first)
+    } else {
+        None
+    }
+}
+
+/// Whether `shrink_calls` accepts the calls: their sites ascend by at least 8, the eight bytes at
+/// each site are kept, the four bytes after each call's first instruction may be deleted all
+/// together, and no target is strictly inside four such bytes.
+pub fn calls_shrinkable(deltas: &SectionRelaxDeltas, calls: &[(u64, u64)]) -> bool
+    ensures { IsTrue result ↔ AreShrinkable deltas.now calls.now }
+{
+    first_not_shrinkable(deltas.deltas(), calls).is_none()
+}
+
+/// `shrink_calls` into memory of the caller's: an element for each call, `bool` or a byte that is 0
+/// or 1.
+pub fn shrink_calls_into<C: AsCall, A: AsChoice>(
+    deltas: &[RelaxDelta],
+    calls: &[C],
+    answer: &mut [A],
+)
+    requires one_each { length answer.old ≡ length calls.now }
+    requires shrinkable { AreValidDeltas deltas.now
+        → AreShrinkable (deletions_of deltas.now) (map C.call calls.now) }
+    ensures greatest { AreValidDeltas deltas.now
+        → IsGreatest (deletions_of deltas.now) (map C.call calls.now) (map A.choice answer.new) }
+    ensures written { All A.is_written answer.new }
+{
+    choose_all(answer);
+    while sweep(deltas, calls, answer) {}
+}
+
+/// Which calls can become jumps at once.
+pub fn shrink_calls(
+    alloc: Global,
+    deltas: &SectionRelaxDeltas,
+    calls: &[(u64, u64)],
+) -> Result<Vec<bool>, OutOfMemory>
+    requires { AreShrinkable deltas.now calls.now }
+    ensures { IfOk result (λ chosen. IsGreatest deltas.now calls.now chosen.items) }
+{
+    let mut chosen = vec![in alloc; false; calls.len()]?;
+    shrink_calls_into(deltas.deltas(), calls, &mut chosen);
+    Ok(chosen)
+}
+
+/// Once the four bytes of each chosen call are deleted too, `pack_section` rejects no chosen call
+/// with `OddDistance` or `TooFar`.
+pub fn shrunk_calls_are_accepted()
+    ensures { ShrunkCallsAreAccepted }
+{}

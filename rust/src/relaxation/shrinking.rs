@@ -1,0 +1,254 @@
+// Made by tools/erase of crates/linker_utils/src/relaxation/shrinking.rt.
+//! The calls of a section that can become jumps at once.
+
+use alloc::vec::Vec;
+use super::packing::output_offset;
+use super::{AsCall, DeltaSlice, OutOfMemory, RelaxDelta, SectionRelaxDeltas};
+use crate::riscv64::{distance_fits_jal, is_even};
+
+/// What tells of a call whether it is chosen: a `bool`, or a byte that is 0 or 1.
+pub trait AsChoice: Copy {
+    /// Whether the call is chosen.
+    fn as_choice(self) -> bool;
+
+    /// The value that tells it.
+    fn from_choice(chosen: bool) -> Self;
+}
+
+impl AsChoice for bool {
+
+    #[inline(always)]
+    fn as_choice(self) -> bool {
+        self
+    }
+
+    #[inline(always)]
+    fn from_choice(chosen: bool) -> bool {
+        chosen
+    }
+}
+
+impl AsChoice for u8 {
+
+    #[inline(always)]
+    fn as_choice(self) -> bool {
+        self != 0
+    }
+
+    #[inline(always)]
+    fn from_choice(chosen: bool) -> u8 {
+        u8::from(chosen)
+    }
+}
+
+/// How many of the calls have their second instruction below an offset.
+fn calls_below<C: AsCall>(calls: &[C], offset: u64) -> usize {
+    let mut start = 0;
+    let mut len = calls.len();
+    while len > 0 {
+        let half = len / 2;
+        let (site, _) = calls[start + half].as_call();
+        if site.saturating_add(4) < offset {
+            start += half + 1;
+            len -= half + 1;
+        } else {
+            len = half;
+        }
+    }
+    start
+}
+
+/// How many calls are chosen from an index up to another.
+fn count_between<A: AsChoice>(answer: &[A], from: usize, to: usize) -> usize {
+    let mut count = 0;
+    for choice in &answer[from..to] {
+        count += usize::from(choice.as_choice());
+    }
+    count
+}
+
+/// Whether a `jal` at an output offset reaches another.
+fn reaches(from: u64, to: u64) -> bool {
+    let distance = to.abs_diff(from);
+    if distance >= 1 << 63 {
+        return false;
+    }
+    let distance = if from <= to {
+        distance as i64
+    } else {
+        -(distance as i64)
+    };
+    is_even(distance) && distance_fits_jal(distance)
+}
+
+/// How many bytes the chosen calls give up from an index up to another, or `u64::MAX` where that is
+/// less.
+fn bytes_between<A: AsChoice>(answer: &[A], from: usize, to: usize) -> u64 {
+    (count_between(answer, from, to) as u64).saturating_mul(4)
+}
+
+/// Whether the call at an index is in reach once the chosen calls have given up their bytes.
+fn is_in_reach<C: AsCall, A: AsChoice>(
+    deltas: &[RelaxDelta],
+    calls: &[C],
+    answer: &[A],
+    index: usize,
+) -> bool {
+    let (site, target) = calls[index].as_call();
+    let from = output_offset(deltas, site);
+    let to = output_offset(deltas, target);
+    let split = calls_below(calls, target);
+    if index <= split {
+        let freed = bytes_between(answer, index, split);
+        reaches(from, to.saturating_sub(freed))
+    } else {
+        let freed = bytes_between(answer, split, index);
+        reaches(from.saturating_sub(freed), to)
+    }
+}
+
+/// Drops the call at an index from the choice where it is out of reach. Whether it was dropped.
+fn drop_unreached<C: AsCall, A: AsChoice>(
+    deltas: &[RelaxDelta],
+    calls: &[C],
+    answer: &mut [A],
+    index: usize,
+) -> bool {
+    if !answer[index].as_choice() || is_in_reach(deltas, calls, answer, index) {
+        return false;
+    }
+    answer[index] = A::from_choice(false);
+    true
+}
+
+/// Drops from the choice each call that is out of reach, one after the other. Whether one was
+/// dropped.
+fn sweep<C: AsCall, A: AsChoice>(deltas: &[RelaxDelta], calls: &[C], answer: &mut [A]) -> bool {
+    let mut dropped = false;
+    for index in 0..calls.len() {
+        if drop_unreached(deltas, calls, answer, index) {
+            dropped = true;
+        }
+    }
+    dropped
+}
+
+/// Chooses all calls.
+fn choose_all<A: AsChoice>(answer: &mut [A]) {
+    for choice in answer.iter_mut() {
+        *choice = A::from_choice(true);
+    }
+}
+
+/// Whether a call's eight bytes are kept, and the four that it gives up may be deleted.
+fn is_placed(deltas: &[RelaxDelta], site: u64) -> bool {
+    let deltas = DeltaSlice::new(deltas);
+    site <= u64::MAX - 8
+        && deltas.kept_output_offset(site, 8).is_some()
+        && deltas.first_overlapping(&[(site + 4, 4)]).is_none()
+}
+
+/// Whether the site of the call at an index is at least 8 above the one before it, if there is one.
+fn is_apart<C: AsCall>(calls: &[C], at: usize) -> bool {
+    let Some(before) = at.checked_sub(1) else {
+        return true;
+    };
+    let (site, _) = calls[at].as_call();
+    let (site_before, _) = calls[before].as_call();
+    site.saturating_sub(site_before) >= 8
+}
+
+/// How many of the first calls may be shrunk as far as their sites go.
+fn placed_len<C: AsCall>(deltas: &[RelaxDelta], calls: &[C]) -> usize {
+    for at in 0..calls.len() {
+        let (site, _) = calls[at].as_call();
+        if !is_apart(calls, at) || !is_placed(deltas, site) {
+            return at;
+        }
+    }
+    calls.len()
+}
+
+/// The index of the call that gives up the byte before an offset and the byte at it, if one does.
+fn call_around<C: AsCall>(calls: &[C], offset: u64) -> Option<usize> {
+    let Some(last) = calls_below(calls, offset).checked_sub(1) else {
+        return None;
+    };
+    let (site, _) = calls[last].as_call();
+    if offset.wrapping_sub(site) < 8 {
+        Some(last)
+    } else {
+        None
+    }
+}
+
+/// How many of the first calls have no target strictly inside what one of them deletes.
+fn outside_len<C: AsCall>(calls: &[C]) -> usize {
+    let mut first = calls.len();
+    for at in 0..calls.len() {
+        let (_, target) = calls[at].as_call();
+        if let Some(other) = call_around(calls, target) {
+            first = first.min(at.max(other));
+        }
+    }
+    first
+}
+
+/// The index of the first call that can't be shrunk beside those before it: its site is less than 8
+/// above the site before it, one of its eight bytes is deleted, the deletion of the last four can't
+/// be merged, or one of these calls has a target strictly inside what another, or itself, deletes.
+/// None where `shrink_calls` accepts the calls.
+///
+/// It takes no memory. For k calls beside n deltas the work is O(k log n + k log k).
+pub fn first_not_shrinkable<C: AsCall>(deltas: &[RelaxDelta], calls: &[C]) -> Option<usize> {
+    let placed = placed_len(deltas, calls);
+    let first = outside_len(&calls[..placed]);
+    if first < calls.len() {
+        Some(first)
+    } else {
+        None
+    }
+}
+
+/// Whether `shrink_calls` accepts the calls: their sites ascend by at least 8, the eight bytes at
+/// each site are kept, the four bytes after each call's first instruction may be deleted all
+/// together, and no target is strictly inside four such bytes.
+pub fn calls_shrinkable(deltas: &SectionRelaxDeltas, calls: &[(u64, u64)]) -> bool {
+    first_not_shrinkable(deltas.deltas(), calls).is_none()
+}
+
+/// `shrink_calls` into memory of the caller's: an element for each call, `bool` or a byte that is 0
+/// or 1.
+///
+/// # Requires
+///
+/// - one_each: `answer.len() == calls.len()`
+/// - shrinkable: `AreValidDeltas deltas → AreShrinkable (deletions_of deltas) (map C.call calls)`
+pub fn shrink_calls_into<C: AsCall, A: AsChoice>(
+    deltas: &[RelaxDelta],
+    calls: &[C],
+    answer: &mut [A],
+) {
+    debug_assert!(answer.len() == calls.len());
+    choose_all(answer);
+    while sweep(deltas, calls, answer) {}
+}
+
+/// Which calls can become jumps at once.
+///
+/// # Requires
+///
+/// - `calls_shrinkable(deltas, calls)`
+pub fn shrink_calls(
+    deltas: &SectionRelaxDeltas,
+    calls: &[(u64, u64)],
+) -> Result<Vec<bool>, OutOfMemory> {
+    debug_assert!(calls_shrinkable(deltas, calls));
+    let mut chosen = try_vec![false; calls.len()]?;
+    shrink_calls_into(deltas.deltas(), calls, &mut chosen);
+    Ok(chosen)
+}
+
+/// Once the four bytes of each chosen call are deleted too, `pack_section` rejects no chosen call
+/// with `OddDistance` or `TooFar`.
+pub fn shrunk_calls_are_accepted() {}

@@ -1,0 +1,135 @@
+//! Which calls can become jumps at once, beside the choices of linkers.
+//!
+//! Each line of `relax/riscv64_calls.txt` is a section that ld.lld 19.1.7 and GNU ld 2.40 relaxed: its
+//! length, its calls as sites and targets, the eight bytes of each, which of them each linker made a
+//! `jal` (`shrunk` and `gnu`), and from ld.lld the length and the words of the relaxed section.
+
+use linker_utils::relaxation::{
+    RelaxDelta, SectionRelaxDeltas, calls_shrinkable, pack_into, packed_len, shrink_calls,
+    shrink_calls_into,
+};
+use linker_utils::riscv64::LinkRegister;
+
+struct Section<'a> {
+    name: &'a str,
+    len: usize,
+    calls: Vec<(u64, u64)>,
+    bytes: Vec<Vec<u8>>,
+    lld: Vec<bool>,
+    lld_len: usize,
+    words: Vec<Vec<u8>>,
+    gnu: Vec<bool>,
+}
+
+fn field<'a>(line: &'a str, name: &str) -> &'a str {
+    line.split(' ').find_map(|word| word.strip_prefix(name)?.strip_prefix('=')).expect(name)
+}
+
+fn number(text: &str) -> u64 {
+    text.parse().expect("a number")
+}
+
+fn call(text: &str) -> (u64, u64) {
+    let (site, target) = text.split_once(':').expect("a site and a target");
+    (number(site), number(target))
+}
+
+fn hex(text: &str) -> Vec<u8> {
+    (0..text.len())
+        .step_by(2)
+        .map(|at| u8::from_str_radix(&text[at..at + 2], 16).expect("hexadecimal digits"))
+        .collect()
+}
+
+fn list<T>(line: &str, name: &str, each: impl Fn(&str) -> T) -> Vec<T> {
+    field(line, name).split(',').map(each).collect()
+}
+
+fn sections() -> impl Iterator<Item = Section<'static>> {
+    include_str!("relax/riscv64_calls.txt").lines().map(|line| Section {
+        name: line.split(' ').next().expect("a name"),
+        len: number(field(line, "len")) as usize,
+        calls: list(line, "calls", call),
+        bytes: list(line, "in", hex),
+        lld: list(line, "shrunk", |text| text == "1"),
+        lld_len: number(field(line, "outlen")) as usize,
+        words: list(line, "words", hex),
+        gnu: list(line, "gnu", |text| text == "1"),
+    })
+}
+
+/// The deltas once the chosen calls have given up the four bytes after their first instruction.
+fn shrunk(calls: &[(u64, u64)], chosen: &[bool]) -> SectionRelaxDeltas {
+    let freed: Vec<(u64, u32)> = calls
+        .iter()
+        .zip(chosen)
+        .filter(|(_, chosen)| **chosen)
+        .map(|(call, _)| (call.0 + 4, 4))
+        .collect();
+    let mut deltas = SectionRelaxDeltas::new(&[]).expect("memory");
+    deltas.merge_additional(&freed).expect("memory");
+    deltas
+}
+
+/// Whether all calls of a part are in the whole.
+fn is_part(part: &[bool], whole: &[bool]) -> bool {
+    part.iter().zip(whole).all(|(part, whole)| *whole || !*part)
+}
+
+#[test]
+fn linkers_choose_a_part() {
+    let none = SectionRelaxDeltas::new(&[]).expect("memory");
+    let (mut count, mut lld_equal, mut gnu_equal) = (0, 0, 0);
+    for section in sections() {
+        assert!(calls_shrinkable(&none, &section.calls), "{}", section.name);
+        let chosen = shrink_calls(&none, &section.calls).expect("memory");
+        assert!(is_part(&section.lld, &chosen), "{}", section.name);
+        assert!(is_part(&section.gnu, &chosen), "{}", section.name);
+        let mut bytes = vec![2u8; chosen.len()];
+        shrink_calls_into(&[] as &[RelaxDelta], &section.calls, &mut bytes);
+        assert!(bytes.iter().map(|byte| *byte == 1).eq(chosen.iter().copied()));
+        assert!(bytes.iter().all(|byte| *byte <= 1));
+        count += 1;
+        lld_equal += usize::from(section.lld == chosen);
+        gnu_equal += usize::from(section.gnu == chosen);
+    }
+    // From the last column of the table: the lines whose choice nobody can enlarge.
+    assert!(count > 0 && lld_equal > 0 && gnu_equal > 0);
+    println!("{count} sections, of which ld.lld chose as many in {lld_equal}, GNU ld in {gnu_equal}");
+}
+
+#[test]
+fn packed_jumps_are_those_of_lld() {
+    let none = SectionRelaxDeltas::new(&[]).expect("memory");
+    let mut count = 0;
+    for section in sections() {
+        let chosen = shrink_calls(&none, &section.calls).expect("memory");
+        if chosen != section.lld {
+            continue;
+        }
+        let mut bytes = vec![0; section.len];
+        for (call, window) in section.calls.iter().zip(&section.bytes) {
+            bytes[call.0 as usize..][..8].copy_from_slice(window);
+        }
+        let deltas = shrunk(&section.calls, &chosen);
+        let jumps: Vec<(u64, u64)> = section
+            .calls
+            .iter()
+            .zip(&chosen)
+            .filter(|(_, chosen)| **chosen)
+            .map(|(call, _)| *call)
+            .collect();
+        let mut packed = vec![0; packed_len(&bytes, deltas.deltas())];
+        assert_eq!(packed.len(), section.lld_len, "{}", section.name);
+        let result = pack_into(&bytes, deltas.deltas(), &jumps, LinkRegister::OfJalr, &mut packed);
+        assert_eq!(result, Ok(()), "{}", section.name);
+        for ((call, is_jump), word) in section.calls.iter().zip(&chosen).zip(&section.words) {
+            if *is_jump {
+                let at = deltas.input_to_output_offset(call.0) as usize;
+                assert_eq!(packed[at..at + 4], word[..], "{} {call:?}", section.name);
+            }
+        }
+        count += 1;
+    }
+    assert!(count > 0);
+}
