@@ -4,9 +4,11 @@
 #![doc = include_str!("../doc/elf.md")]
 
 pub(crate) mod engine;
+mod value;
 
 use crate::bit_misc::BitRange;
 use crate::relaxation::RelocationModifier;
+pub use value::Operands;
 
 /// 2 KiB: half a page.
 pub const SIZE_2KB: u64 = 0x800;

@@ -15,6 +15,7 @@ pub mod Ppc64Rows
 pub mod RiscV
 pub mod RiscVNames
 pub mod RiscVRows
+pub mod Value
 pub mod X86
 pub mod X86Names
 pub mod X86Rows

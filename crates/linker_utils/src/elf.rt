@@ -2,6 +2,7 @@
 //! forms and of rewrites.
 
 pub(crate) mod engine;
+mod value;
 
 ghost use Rattle.std.specs.Prelude.{◌≡◌, ◌≤◌, ◌<◌, ◌+◌, ◌*◌, ◌-◌, ◌^◌, ◌↔◌, ◌==◌, IsTrue, Option, Some, None, if◌then◌else◌, length, drop, ℕ};
 ghost use Rattle.std.specs.Int.{byte_len, cast_unsigned, w64};
@@ -14,6 +15,7 @@ ghost use Rattle.linker_utils.specs.Inner.FormLaws.{relocation_keeps, relocation
 use crate::bit_misc::BitRange;
 use crate::relaxation::RelocationModifier;
 use std::marker::Model;
+pub use value::Operands;
 
 /// 2 KiB: half a page.
 pub const SIZE_2KB: u64 = 0x800;
