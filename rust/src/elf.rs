@@ -4,6 +4,7 @@
 #![doc = include_str!("../doc/elf.md")]
 
 pub(crate) mod engine;
+mod reach;
 mod value;
 
 use crate::bit_misc::BitRange;
@@ -316,8 +317,8 @@ impl AllowedRange {
         }
     }
 
-    /// Whether a value is in the range. Where two instructions hold the value, the range may be
-    /// wider than what they reach: see `relocation_type_from_raw` of each architecture.
+    /// Whether a value is in the range. Where two instructions hold the value, a row's range may be
+    /// wider than what they reach: see `RelocationKindInfo::reach`.
     pub fn contains(self, v: i64) -> bool {
         match self.bounds {
             Some((min, max)) => min <= v && v < max,

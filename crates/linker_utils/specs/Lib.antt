@@ -12,6 +12,7 @@ pub mod Packing
 pub mod Ppc64
 pub mod Ppc64Names
 pub mod Ppc64Rows
+pub mod Reach
 pub mod RiscV
 pub mod RiscVNames
 pub mod RiscVRows

@@ -2,6 +2,7 @@
 //! forms and of rewrites.
 
 pub(crate) mod engine;
+mod reach;
 mod value;
 
 ghost use Rattle.std.specs.Prelude.{◌≡◌, ◌≤◌, ◌<◌, ◌+◌, ◌*◌, ◌-◌, ◌^◌, ◌↔◌, ◌==◌, IsTrue, Option, Some, None, if◌then◌else◌, length, drop, ℕ};
@@ -349,8 +350,8 @@ impl AllowedRange {
         }
     }
 
-    /// Whether a value is in the range. Where two instructions hold the value, the range may be
-    /// wider than what they reach: see `relocation_type_from_raw` of each architecture.
+    /// Whether a value is in the range. Where two instructions hold the value, a row's range may be
+    /// wider than what they reach: see `RelocationKindInfo::reach`.
     pub fn contains(self, v: i64) -> bool
         ensures { IsTrue result ↔ IsAllowed self v }
     {
