@@ -5,10 +5,12 @@
 
 pub(crate) mod engine;
 mod reach;
+mod relocate;
 mod value;
 
 use crate::bit_misc::BitRange;
 use crate::relaxation::RelocationModifier;
+pub use relocate::RelocateError;
 pub use value::Operands;
 
 /// 2 KiB: half a page.

@@ -3,6 +3,7 @@
 
 pub(crate) mod engine;
 mod reach;
+mod relocate;
 mod value;
 
 ghost use Rattle.std.specs.Prelude.{◌≡◌, ◌≤◌, ◌<◌, ◌+◌, ◌*◌, ◌-◌, ◌^◌, ◌↔◌, ◌==◌, IsTrue, Option, Some, None, if◌then◌else◌, length, drop, ℕ};
@@ -15,6 +16,7 @@ ghost use Rattle.linker_utils.specs.Inner.FormLaws.{relocation_keeps, relocation
 
 use crate::bit_misc::BitRange;
 use crate::relaxation::RelocationModifier;
+pub use relocate::RelocateError;
 use std::marker::Model;
 pub use value::Operands;
 
