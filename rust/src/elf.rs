@@ -4,9 +4,14 @@
 #![doc = include_str!("../doc/elf.md")]
 
 pub(crate) mod engine;
+mod reach;
+mod relocate;
+mod value;
 
 use crate::bit_misc::BitRange;
 use crate::relaxation::RelocationModifier;
+pub use relocate::RelocateError;
+pub use value::Operands;
 
 /// 2 KiB: half a page.
 pub const SIZE_2KB: u64 = 0x800;
@@ -314,8 +319,8 @@ impl AllowedRange {
         }
     }
 
-    /// Whether a value is in the range. Where two instructions hold the value, the range may be
-    /// wider than what they reach: see `relocation_type_from_raw` of each architecture.
+    /// Whether a value is in the range. Where two instructions hold the value, a row's range may be
+    /// wider than what they reach: see `RelocationKindInfo::reach`.
     pub fn contains(self, v: i64) -> bool {
         match self.bounds {
             Some((min, max)) => min <= v && v < max,

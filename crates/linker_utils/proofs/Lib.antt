@@ -4,6 +4,7 @@ pub mod AArch64Rewrites
 pub mod Agreement
 pub mod Bounds
 pub mod Calls
+pub mod Clearing
 pub mod Jumps
 pub mod LoongArch
 pub mod LoongArchAddresses
@@ -12,10 +13,12 @@ pub mod LoongArchSequences
 pub mod Packed
 pub mod Ppc64Forms
 pub mod Ppc64Pairs
+pub mod Relocated
 pub mod RiscV
 pub mod RiscVRewrites
 pub mod RowsAgree
 pub mod RowsFit
 pub mod Runs
 pub mod Shrinking
+pub mod Taken
 pub mod X86Bytes

@@ -12,10 +12,13 @@ pub mod Packing
 pub mod Ppc64
 pub mod Ppc64Names
 pub mod Ppc64Rows
+pub mod Reach
+pub mod Relocate
 pub mod RiscV
 pub mod RiscVNames
 pub mod RiscVRows
 pub mod Shrinking
+pub mod Value
 pub mod X86
 pub mod X86Names
 pub mod X86Rows

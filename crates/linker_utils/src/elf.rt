@@ -2,6 +2,9 @@
 //! forms and of rewrites.
 
 pub(crate) mod engine;
+mod reach;
+mod relocate;
+mod value;
 
 ghost use Rattle.std.specs.Prelude.{◌≡◌, ◌≤◌, ◌<◌, ◌+◌, ◌*◌, ◌-◌, ◌^◌, ◌↔◌, ◌==◌, IsTrue, Option, Some, None, if◌then◌else◌, length, drop, ℕ};
 ghost use Rattle.std.specs.Int.{byte_len, cast_unsigned, w64};
@@ -13,7 +16,9 @@ ghost use Rattle.linker_utils.specs.Inner.FormLaws.{relocation_keeps, relocation
 
 use crate::bit_misc::BitRange;
 use crate::relaxation::RelocationModifier;
+pub use relocate::RelocateError;
 use std::marker::Model;
+pub use value::Operands;
 
 /// 2 KiB: half a page.
 pub const SIZE_2KB: u64 = 0x800;
@@ -347,8 +352,8 @@ impl AllowedRange {
         }
     }
 
-    /// Whether a value is in the range. Where two instructions hold the value, the range may be
-    /// wider than what they reach: see `relocation_type_from_raw` of each architecture.
+    /// Whether a value is in the range. Where two instructions hold the value, a row's range may be
+    /// wider than what they reach: see `RelocationKindInfo::reach`.
     pub fn contains(self, v: i64) -> bool
         ensures { IsTrue result ↔ IsAllowed self v }
     {

@@ -1,0 +1,20 @@
+use Rattle.std.proofs.Common.{rules}
+use Rattle.linker_utils.specs.Relocate.{IsAccepted}
+use Rattle.linker_utils.proofs.Relocated.{row_reads}
+use Rattle.linker_utils.proofs.elf.RelocationKindInfo.write.Goals as goal
+
+pub returns-in-BitMasking-clause-ok : goal.returns-in-BitMasking-clause-ok
+returns-in-BitMasking-clause-ok c =
+    let row = c.args.self.now in
+    let accepted : IsAccepted row c.args.value c.args.dest.now = record {
+      supported = search rules;
+      long = search rules;
+      aligned = search rules;
+      reached = search rules;
+    } in
+    (accepted, rw c.in-BitMasking.is (search rules))
+
+pub returns-in-BitMasking-clause-machine : goal.returns-in-BitMasking-clause-machine
+returns-in-BitMasking-clause-machine c = λ is_signed agrees.
+    let done = returns-in-BitMasking-clause-ok c in
+    row_reads is_signed c.args.self.now c.args.value c.args.dest.now c.write_bits.new.dest c.ranges.value done.0 done.1 agrees

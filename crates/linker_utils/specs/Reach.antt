@@ -1,0 +1,64 @@
+-- Which values of a relocation the machine reads back as they are, or the psABI allows: the row's own range, and for halves and
+-- pairs of instructions, and where the psABI checks what the row doesn't, the ranges below.
+use Rattle.std.specs.Prelude.{◌+◌, ◌-◌, ◌^◌, ◌==◌, if◌then◌else◌, Some, None, ℤ, pos, neg_ℤ, nat_lt}
+use Rattle.linker_base.specs.declared.bit_misc.BitRange.{BitRange}
+use Rattle.linker_utils.specs.Elf.{bit_bounds}
+use Rattle.linker_utils.specs.declared.elf.AArch64Instruction.{AArch64Instruction}
+use Rattle.linker_utils.specs.declared.elf.AArch64Instruction.TheVariants.{Movnz}
+use Rattle.linker_utils.specs.declared.elf.LoongArch64Instruction.{LoongArch64Instruction}
+use Rattle.linker_utils.specs.declared.elf.LoongArch64Instruction.TheVariants.{Call36}
+use Rattle.linker_utils.specs.declared.elf.Ppc64Instruction.{Ppc64Instruction}
+use Rattle.linker_utils.specs.declared.elf.Ppc64Instruction.TheVariants.{D}
+use Rattle.linker_utils.specs.declared.elf.RelocationInstruction.TheVariants.{RiscV, Ppc64, LoongArch64, AArch64}
+use Rattle.linker_utils.specs.declared.elf.RelocationKindInfo.{RelocationKindInfo}
+use Rattle.linker_utils.specs.declared.elf.RelocationSize.{RelocationSize}
+use Rattle.linker_utils.specs.declared.elf.RelocationSize.TheVariants.{ByteSize, BitMasking}
+use Rattle.linker_utils.specs.declared.elf.RiscVInstruction.{RiscVInstruction}
+use Rattle.linker_utils.specs.declared.elf.RiscVInstruction.TheVariants.{UType, IType, SType, CluiType, UiType}
+use Rattle.linker_utils.specs.declared.elf.Sign.TheVariants.{Signed}
+use Rattle.linker_utils.specs.RiscVRows.{Bounds}
+
+-- `lui` or `auipc` with a low part of 12 signed bits: 2 ^ 31 on either side, less 0x800
+abbrev pub riscv_pair_bounds : ℤ × ℤ
+riscv_pair_bounds = (neg_ℤ (pos (2 ^ 31 + 0x800)), pos (2 ^ 31 - 0x800))
+
+-- `c.lui`, of 6 signed bits, with that low part
+abbrev pub clui_bounds : ℤ × ℤ
+clui_bounds = (neg_ℤ (pos 0x20800), pos 0x1f800)
+
+-- `pcaddu18i` with a `jirl` of 16 signed bits, in units of 4 bytes
+abbrev pub call36_bounds : ℤ × ℤ
+call36_bounds = (neg_ℤ (pos (2 ^ 37 + 0x20000)), pos (2 ^ 37 - 0x20000))
+
+-- MOVN and MOVZ of bits up to 16, 32 or 48: the value is as short, or its complement is (MOVW_PREL and MOVW_GOTOFF of G0 to G2,
+-- and those of TLS)
+abbrev pub aarch64_reach : AArch64Instruction → BitRange → Bounds → Bounds
+aarch64_reach Movnz bits None = if nat_lt 48 bits.end then None else Some (bit_bounds (bits.end + 1) Signed)
+aarch64_reach insn bits own = own
+
+abbrev pub riscv_reach : RiscVInstruction → Bounds → Bounds
+riscv_reach UType own = Some riscv_pair_bounds
+riscv_reach IType own = Some riscv_pair_bounds
+riscv_reach SType own = Some riscv_pair_bounds
+riscv_reach UiType own = Some riscv_pair_bounds
+riscv_reach CluiType own = Some clui_bounds
+riscv_reach insn own = own
+
+abbrev pub loongarch_reach : LoongArch64Instruction → Bounds → Bounds
+loongarch_reach Call36 own = Some call36_bounds
+loongarch_reach insn own = own
+
+-- the high halves, which the psABI checks: 16 signed bits from bit 16 up
+abbrev pub ppc64_reach : Ppc64Instruction → BitRange → Bounds → Bounds
+ppc64_reach D bits None = if bits.start == 16 then Some (bit_bounds 32 Signed) else None
+ppc64_reach insn bits own = own
+
+abbrev pub reach_of_size : RelocationSize → Bounds → Bounds
+reach_of_size (ByteSize n) own = own
+reach_of_size (BitMasking bits (AArch64 insn)) own = aarch64_reach insn bits own
+reach_of_size (BitMasking bits (RiscV insn)) own = riscv_reach insn own
+reach_of_size (BitMasking bits (Ppc64 insn)) own = ppc64_reach insn bits own
+reach_of_size (BitMasking bits (LoongArch64 insn)) own = loongarch_reach insn own
+
+abbrev pub reach_of : RelocationKindInfo → Bounds
+reach_of row = reach_of_size row.size row.range.bounds

@@ -1,0 +1,156 @@
+-- How a relocation's value is written, and when it isn't.
+use Rattle.std.specs.Prelude.{◌≡◌, ℕ, ◌+◌, ◌-◌, ◌%◌, ◌^◌, ◌<◌, ◌≤◌, ◌==◌, Bool, true, false, not, ◌&&◌, nat_lt, if◌then◌else◌, List, [], ◌∷◌, ◌++◌, length, take, drop, replicate, ℤ, pos, int_lt, Option, ⊤}
+use Rattle.std.specs.Int.{w64, byte_len, cast_unsigned, from_le_bytes, to_le_bytes, int_rem_euclid}
+use Rattle.linker_base.specs.Bits.{field}
+use Rattle.linker_base.specs.Form.{ImmediateBit, Mark, replaced, ored, cleared, BitsWritten, Written, Fits, window_of}
+use Rattle.linker_base.specs.declared.bit_misc.BitRange.{BitRange}
+use Rattle.linker_utils.specs.AArch64.{aarch64_form, shift_of}
+use Rattle.linker_utils.specs.Agrees.{bits_from, IsSameIn, aarch64_reads, loongarch_reads, is_of_halves, is_of_words}
+use Rattle.linker_utils.specs.Elf.{IsWithin, relocation_form}
+use Rattle.linker_utils.specs.LoongArch.{loongarch_form}
+use Rattle.linker_utils.specs.Ppc64.{ppc64_form}
+use Rattle.linker_utils.specs.Reach.{reach_of}
+use Rattle.linker_utils.specs.RiscV.{riscv_form}
+use Rattle.linker_utils.specs.Value.{sum_64, difference_64}
+use Rattle.linker_utils.specs.declared.elf.AArch64Instruction.TheVariants.{Movnz}
+use Rattle.linker_utils.specs.declared.elf.LoongArch64Instruction.TheVariants.{Shift10}
+use Rattle.linker_utils.specs.declared.elf.RelocationInstruction.{RelocationInstruction}
+use Rattle.linker_utils.specs.declared.elf.RelocationInstruction.TheVariants.{RiscV, Ppc64, LoongArch64, AArch64}
+use Rattle.linker_utils.specs.declared.elf.RelocationKind.{RelocationKind}
+use Rattle.linker_utils.specs.declared.elf.RelocationKind.TheVariants.{Relative, AbsoluteSetWord6, AbsoluteAddition, AbsoluteAdditionWord6, AbsoluteSubtraction, AbsoluteSubtractionWord6, PairSubtractionULEB128RiscV, PairSubtractionULEB128LoongArch}
+use Rattle.linker_utils.specs.declared.elf.RelocationKindInfo.{RelocationKindInfo}
+use Rattle.linker_utils.specs.declared.elf.RelocationSize.{RelocationSize}
+use Rattle.linker_utils.specs.declared.elf.RelocationSize.TheVariants.{ByteSize, BitMasking}
+use Rattle.linker_utils.specs.declared.elf.relocate.RelocateError.{RelocateError}
+use Rattle.linker_utils.specs.declared.elf.relocate.RelocateError.TheVariants.{Unsupported, TooShort, Misaligned, OutOfReach}
+
+-- ---- whole bytes
+
+-- the first n bytes, with zeros above them, as a little-endian number
+abbrev pub number_of_bytes : ℕ → List ℕ → ℕ
+number_of_bytes n bytes = from_le_bytes w64 (take n bytes ++ replicate (8 - n) 0)
+
+-- the n lowest bytes of a number, the lowest first
+abbrev pub low_bytes : ℕ → ℕ → List ℕ
+low_bytes n number = take n (to_le_bytes w64 number)
+
+-- the number with its low 6 bits those of another
+abbrev pub with_low_6 : ℕ → ℕ → ℕ
+with_low_6 old new = old - old % 64 + new % 64
+
+-- the number that is written over another, modulo 2 ^ 64: what is added to, what is subtracted from, the value in 6 bits, and
+-- else the value
+abbrev pub number_written : RelocationKind → ℤ → ℕ → ℕ
+number_written AbsoluteAddition v old = sum_64 old (cast_unsigned w64 v)
+number_written AbsoluteSubtraction v old = difference_64 old (cast_unsigned w64 v)
+number_written AbsoluteSetWord6 v old = with_low_6 old (cast_unsigned w64 v)
+number_written AbsoluteAdditionWord6 v old = with_low_6 old (sum_64 old (cast_unsigned w64 v))
+number_written AbsoluteSubtractionWord6 v old = with_low_6 old (difference_64 old (cast_unsigned w64 v))
+number_written kind v old = cast_unsigned w64 v
+
+-- ---- instructions
+
+-- the places that are only ORed, as places that are cleared
+abbrev pub clearing : Mark → ImmediateBit → List ImmediateBit → List ImmediateBit
+clearing ored p rest = record p { mark = cleared } ∷ rest
+clearing replaced p rest = rest
+clearing cleared p rest = rest
+
+abbrev pub ored_cleared : List ImmediateBit → List ImmediateBit
+ored_cleared [] = []
+ored_cleared (p ∷ ps) = clearing p.mark p (ored_cleared ps)
+
+-- The places that are cleared before a write: those that the form only ORs. LoongArch's `Shift10` with an immediate of 12 bits
+-- has a part of its opcode there. No form of RISC-V or PowerPC64 has such places.
+abbrev pub places_cleared : RelocationInstruction → BitRange → ℕ → List ImmediateBit
+places_cleared (AArch64 f) bits x = ored_cleared ((aarch64_form f).places x)
+places_cleared (RiscV f) bits x = []
+places_cleared (Ppc64 f) bits x = []
+places_cleared (LoongArch64 f) bits x = if nat_lt 12 (bits.end - bits.start) then ored_cleared ((loongarch_form f).places x) else []
+
+-- the bits of the value that are written
+abbrev pub bits_taken : BitRange → ℤ → ℕ
+bits_taken bits v = field (cast_unsigned w64 v) bits.start bits.end
+
+-- The instruction's places are cleared, and then the value's bits are written with its sign. All other bytes stay.
+pub record InstructionWritten (insn : RelocationInstruction) (bits : BitRange) (v : ℤ) (before after : List ℕ) : Type 0 where
+  pub clear : ℕ
+  pub clears : BitsWritten (places_cleared insn bits (window_of (relocation_form insn) before)) 0 (window_of (relocation_form insn) before) clear
+  pub written : Written (relocation_form insn) (bits_taken bits v) (int_lt v (pos 0)) clear (window_of (relocation_form insn) after)
+  pub rest : drop (byte_len (relocation_form insn).window) after ≡ drop (byte_len (relocation_form insn).window) before
+
+-- ---- what is written
+
+abbrev pub IsWritten : RelocationSize → RelocationKind → ℤ → List ℕ → List ℕ → Type 0
+IsWritten (ByteSize n) kind v before after = after ≡ low_bytes n (number_written kind v (number_of_bytes n before)) ++ drop n before
+IsWritten (BitMasking bits insn) kind v before after = InstructionWritten insn bits v before after
+
+-- The machine reads the value's bits from the range's start up, modulo the range's size where the row isn't checked. MOVN and
+-- MOVZ shift what they hold, so their shift has to be the range's start. An immediate in two's complement of a LoongArch
+-- `Shift10` is one of 16 bits. What a half or a pair of instructions holds is said elsewhere.
+abbrev pub InstructionReads : Bool → RelocationInstruction → BitRange → Option (ℤ × ℤ) → ℤ → ℕ → ℕ → Type 0
+InstructionReads is_signed (AArch64 f) bits bounds v before after =
+    (f ≡ Movnz → shift_of before ≡ bits.start) → IsSameIn bounds (bits.end - bits.start) (aarch64_reads f bits.start after) (bits_from bits.start v)
+InstructionReads is_signed (RiscV f) bits bounds v before after =
+    is_of_halves f ≡ false → IsSameIn bounds (bits.end - bits.start) ((riscv_form f).machine after) (bits_from bits.start v)
+InstructionReads is_signed (Ppc64 f) bits bounds v before after = IsSameIn bounds (bits.end - bits.start) ((ppc64_form f).machine after) (bits_from bits.start v)
+InstructionReads is_signed (LoongArch64 f) bits bounds v before after =
+    is_of_words f ≡ false → (f ≡ Shift10 → is_signed ≡ true → 12 < bits.end - bits.start)
+    → IsSameIn bounds (bits.end - bits.start) (loongarch_reads f is_signed after) (bits_from bits.start v)
+
+abbrev pub SizeReads : Bool → RelocationSize → Option (ℤ × ℤ) → ℤ → List ℕ → List ℕ → Type 0
+SizeReads is_signed (ByteSize n) bounds v before after = ⊤
+SizeReads is_signed (BitMasking bits insn) bounds v before after =
+    InstructionReads is_signed insn bits bounds v (window_of (relocation_form insn) before) (window_of (relocation_form insn) after)
+
+-- ---- what is rejected
+
+-- the rows of a pair of relocations of a ULEB128 number: those of the first of a pair have kind `Relative` and no bytes
+abbrev pub is_of_uleb128 : RelocationKind → ℕ → Bool
+is_of_uleb128 PairSubtractionULEB128RiscV n = true
+is_of_uleb128 PairSubtractionULEB128LoongArch n = true
+is_of_uleb128 Relative n = n == 0
+is_of_uleb128 kind n = false
+
+-- at most 8 bytes, or some of a value's 64 bits
+abbrev pub takes_size : RelocationKind → RelocationSize → Bool
+takes_size kind (ByteSize n) = nat_lt n 9 && not (is_of_uleb128 kind n)
+takes_size kind (BitMasking bits insn) = nat_lt bits.start bits.end && nat_lt bits.end 65
+
+-- such a row, with an alignment that a value can have
+abbrev pub is_supported : RelocationKindInfo → Bool
+is_supported row = takes_size row.kind row.size && nat_lt 0 row.alignment && nat_lt row.alignment (2 ^ 63)
+
+abbrev pub size_len : RelocationSize → ℕ
+size_len (ByteSize n) = n
+size_len (BitMasking bits insn) = byte_len (relocation_form insn).window
+
+-- how many bytes are written
+abbrev pub window_len : RelocationKindInfo → ℕ
+window_len row = size_len row.size
+
+abbrev pub IsAligned : ℕ → ℤ → Type 0
+IsAligned alignment v = int_rem_euclid v (pos alignment) ≡ pos 0
+
+-- the form holds the bits, as it does of each row of the relocation tables
+abbrev pub HoldsBits : RelocationSize → ℤ → List ℕ → Type 0
+HoldsBits (ByteSize n) v bytes = ⊤
+HoldsBits (BitMasking bits insn) v bytes = Fits (relocation_form insn) (bits_taken bits v) (window_of (relocation_form insn) bytes)
+
+abbrev pub IsReached : RelocationKindInfo → ℤ → List ℕ → Type 0
+IsReached row v bytes = IsWithin (reach_of row) v × HoldsBits row.size v bytes
+
+-- the value is written
+pub record IsAccepted (row : RelocationKindInfo) (v : ℤ) (bytes : List ℕ) : Type 0 where
+  pub supported : is_supported row ≡ true
+  pub long : window_len row ≤ length bytes
+  pub aligned : IsAligned row.alignment v
+  pub reached : IsReached row v bytes
+
+-- why it isn't: the first of these that does not hold
+abbrev pub IsCause : RelocationKindInfo → ℤ → List ℕ → RelocateError → Type 0
+IsCause row v bytes Unsupported = is_supported row ≡ false
+IsCause row v bytes TooShort = (is_supported row ≡ true) × (length bytes < window_len row)
+IsCause row v bytes Misaligned = (is_supported row ≡ true) × (window_len row ≤ length bytes) × ¬ IsAligned row.alignment v
+IsCause row v bytes OutOfReach =
+    (is_supported row ≡ true) × (window_len row ≤ length bytes) × IsAligned row.alignment v × ¬ IsReached row v bytes

@@ -1,0 +1,220 @@
+// Made by tools/erase of crates/linker_utils/src/elf/relocate.rt.
+//! Writes the value of a relocation.
+
+use crate::bit_misc::{BitExtraction, BitRange};
+use crate::elf::engine::{self, Run, Window, run};
+use crate::elf::{
+    AArch64Instruction, InstructionForm, LoongArch64Instruction, RelocationInstruction,
+    RelocationKind, RelocationKindInfo, RelocationSize,
+};
+
+/// Why a relocation's value isn't written.
+#[derive(Debug, Clone, Copy, PartialEq, Eq)]
+pub enum RelocateError {
+    /// The relocation is one of a pair that computes a ULEB128 number: `utils::write_uleb128` writes
+    /// it. Or the row is none that the library returns: it has more than 8 bytes, a bit range that
+    /// isn't within 64 bits, or an alignment that is 0 or above 2^63 - 1.
+    Unsupported,
+    /// There are fewer bytes than the relocation writes.
+    TooShort,
+    /// The value isn't a multiple of the row's alignment.
+    Misaligned,
+    /// The value is outside `reach`. Or the row is none that the library returns, and its bits don't
+    /// fit its instruction.
+    OutOfReach,
+}
+
+/// The number of the first `len` bytes.
+#[inline(always)]
+fn load(len: usize, bytes: &[u8]) -> u64 {
+    let mut word = [0u8; 8];
+    word[..len].copy_from_slice(&bytes[..len]);
+    u64::from_le_bytes(word)
+}
+
+/// Sets the first `len` bytes to the lowest of a number.
+#[inline(always)]
+fn store(len: usize, number: u64, bytes: &mut [u8]) {
+    bytes[..len].copy_from_slice(&number.to_le_bytes()[..len]);
+}
+
+/// The number that a relocation of whole bytes writes over another.
+#[inline(always)]
+fn number_over(kind: RelocationKind, value: i64, old: u64) -> u64 {
+    let number = value.cast_unsigned();
+    match kind {
+        RelocationKind::AbsoluteAddition => old.wrapping_add(number),
+        RelocationKind::AbsoluteSubtraction => old.wrapping_sub(number),
+        RelocationKind::AbsoluteSetWord6 => old - old % 64 + number % 64,
+        RelocationKind::AbsoluteAdditionWord6 => old - old % 64 + old.wrapping_add(number) % 64,
+        RelocationKind::AbsoluteSubtractionWord6 => old - old % 64 + old.wrapping_sub(number) % 64,
+        _ => number,
+    }
+}
+
+/// Writes whole bytes.
+#[inline(always)]
+fn write_bytes(kind: RelocationKind, len: usize, value: i64, dest: &mut [u8]) {
+    let number = number_over(kind, value, load(len, dest));
+    store(len, number, dest);
+}
+
+const CLEARED_ADR: [Run; 2] = [run!(0, 29, 2, 0, Cleared), run!(2, 5, 19, 0, Cleared)];
+
+const CLEARED_IMM12: [Run; 1] = [run!(cleared 10, 12)];
+
+const CLEARED_IMM14: [Run; 1] = [run!(cleared 5, 14)];
+
+const CLEARED_IMM16: [Run; 1] = [run!(cleared 5, 16)];
+
+const CLEARED_IMM19: [Run; 1] = [run!(cleared 5, 19)];
+
+const CLEARED_IMM26: [Run; 1] = [run!(cleared 0, 26)];
+
+const CLEARED_SHIFT_10: [Run; 1] = [run!(12, 22, 4, 0, Cleared)];
+
+/// Clears the bits of an AArch64 instruction that its form only ORs.
+#[inline(always)]
+fn clear_aarch64(insn: AArch64Instruction, dest: &mut [u8]) {
+    match insn {
+        AArch64Instruction::Adr => engine::write(Window::Four, &CLEARED_ADR, 0, dest),
+        AArch64Instruction::Movkz => engine::write(Window::Four, &CLEARED_IMM16, 0, dest),
+        AArch64Instruction::Ldr => engine::write(Window::Four, &CLEARED_IMM19, 0, dest),
+        AArch64Instruction::Bcond => engine::write(Window::Four, &CLEARED_IMM19, 0, dest),
+        AArch64Instruction::LdrRegister => engine::write(Window::Four, &CLEARED_IMM12, 0, dest),
+        AArch64Instruction::Add => engine::write(Window::Four, &CLEARED_IMM12, 0, dest),
+        AArch64Instruction::LdSt => engine::write(Window::Four, &CLEARED_IMM12, 0, dest),
+        AArch64Instruction::TstBr => engine::write(Window::Four, &CLEARED_IMM14, 0, dest),
+        AArch64Instruction::JumpCall => engine::write(Window::Four, &CLEARED_IMM26, 0, dest),
+        AArch64Instruction::Movnz => {}
+        AArch64Instruction::MachOLow12 => {}
+    }
+}
+
+/// Clears the bits of an instruction that its form only ORs.
+#[inline(always)]
+fn clear(insn: RelocationInstruction, bits: BitRange, dest: &mut [u8]) {
+    match insn {
+        RelocationInstruction::AArch64(insn) => clear_aarch64(insn, dest),
+        RelocationInstruction::LoongArch64(LoongArch64Instruction::Shift10) => {
+            if bits.end - bits.start > 12 {
+                engine::write(Window::Four, &CLEARED_SHIFT_10, 0, dest);
+            }
+        }
+        _ => {}
+    }
+}
+
+/// The bits of a number that a relocation takes.
+#[inline(always)]
+fn taken_bits(bits: BitRange, number: u64) -> u64 {
+    number.extract_bit_range(bits.start as u32..bits.end as u32)
+}
+
+/// Writes bits of a value into an instruction.
+#[inline(always)]
+fn write_bits(insn: RelocationInstruction, bits: BitRange, value: i64, dest: &mut [u8]) {
+    let taken = taken_bits(bits, value.cast_unsigned());
+    clear(insn, bits, dest);
+    insn.write(taken, value < 0, dest);
+}
+
+impl RelocationKindInfo {
+    /// Whether `write` writes values of this row, whatever their number.
+    #[inline(always)]
+    fn is_supported(&self) -> bool {
+        let takes_size = match self.size {
+            RelocationSize::ByteSize(len) => {
+                let is_of_uleb128 = match self.kind {
+                    RelocationKind::PairSubtractionULEB128RiscV
+                    | RelocationKind::PairSubtractionULEB128LoongArch => true,
+                    RelocationKind::Relative => len == 0,
+                    _ => false,
+                };
+                len <= 8 && !is_of_uleb128
+            }
+            RelocationSize::BitMasking { range, .. } => range.start < range.end && range.end <= 64,
+        };
+        takes_size && 0 < self.alignment && self.alignment < 1 << 63
+    }
+
+    /// How many bytes `write` writes.
+    #[inline]
+    pub fn window(&self) -> usize {
+        match self.size {
+            RelocationSize::ByteSize(len) => len as usize,
+            RelocationSize::BitMasking { insn, .. } => insn.window(),
+        }
+    }
+
+    /// Whether a value is a multiple of the row's alignment.
+    #[inline(always)]
+    fn is_aligned(&self, value: i64) -> bool {
+        value.rem_euclid(self.alignment as i64) == 0
+    }
+
+    /// Whether the row's instruction holds the bits of a value that it takes.
+    #[inline(always)]
+    fn holds_bits(&self, value: i64, dest: &[u8]) -> bool {
+        match self.size {
+            RelocationSize::ByteSize(_) => true,
+            RelocationSize::BitMasking { range, insn } => {
+                insn.fits(taken_bits(range, value.cast_unsigned()), dest)
+            }
+        }
+    }
+
+    /// Writes a value, as `value` returns it, to the bytes that `dest` begins with. The first that
+    /// applies of `Unsupported`, `TooShort`, `Misaligned` and `OutOfReach` is returned, and then
+    /// nothing is written.
+    ///
+    /// - Whole bytes become the lowest bytes of the value, the lowest first. Relocations that add or
+    ///   subtract take the number that stands there. Relocations of 6 bits keep the upper 2 bits of
+    ///   the byte.
+    /// - Of an instruction, the form's bits become those bits of the value that the relocation
+    ///   takes, and the machine reads them from there; modulo their size if the relocation has no
+    ///   range. The bits that the form only ORs need not be 0 before. All other bits stay, except
+    ///   for the opcode that `Movnz` sets by the value's sign; its shift has to be the first of the
+    ///   relocation's bits.
+    /// - All bytes behind `window` stay. A relocation without a value writes nothing.
+    ///
+    /// ```
+    /// use linker_utils::elf::Operands;
+    /// use linker_utils::riscv64::{RiscVRelocation, relocation_type_from_raw};
+    ///
+    /// // `jal ra, 0` at 0x1000 that calls 0x1008
+    /// let mut jal = 0x0000_00efu32.to_le_bytes();
+    /// let row = relocation_type_from_raw(RiscVRelocation::R_RISCV_JAL).unwrap();
+    /// let operands = Operands {
+    ///     symbol: 0x1008,
+    ///     place: 0x1000,
+    ///     ..Operands::default()
+    /// };
+    /// let value = row.value(&operands).unwrap();
+    /// row.write(value, &mut jal).unwrap();
+    /// assert_eq!(u32::from_le_bytes(jal), 0x0080_00ef);
+    /// ```
+    #[inline]
+    pub fn write(&self, value: i64, dest: &mut [u8]) -> Result<(), RelocateError> {
+        if !self.is_supported() {
+            return Err(RelocateError::Unsupported);
+        }
+        if dest.len() < self.window() {
+            return Err(RelocateError::TooShort);
+        }
+        if !self.is_aligned(value) {
+            return Err(RelocateError::Misaligned);
+        }
+        if !self.reach().contains(value) {
+            return Err(RelocateError::OutOfReach);
+        }
+        if !self.holds_bits(value, dest) {
+            return Err(RelocateError::OutOfReach);
+        }
+        match self.size {
+            RelocationSize::ByteSize(len) => write_bytes(self.kind, len as usize, value, dest),
+            RelocationSize::BitMasking { range, insn } => write_bits(insn, range, value, dest),
+        }
+        Ok(())
+    }
+}
