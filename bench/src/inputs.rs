@@ -22,6 +22,10 @@ impl Random {
         (0..len).map(|_| self.word() as u8).collect()
     }
 
+    pub fn one_of<'a, T>(&mut self, items: &'a [T]) -> &'a T {
+        &items[self.below(items.len() as u128) as usize]
+    }
+
     pub fn shuffle<T>(&mut self, items: &mut [T]) {
         for last in (1..items.len()).rev() {
             let other = self.below(last as u128 + 1) as usize;

@@ -1,518 +1,265 @@
-//! Measures the archive's calls, and beside them those of the original crate where it is built in.
-//! Before anything is timed both get the same input, and have to return the same.
+//! Measures the static library and the crate in `rust/`, and beside each the original crate where
+//! it is built in. Before a line is timed all sides do the same, and have to give the same.
 
-#![cfg_attr(not(feature = "upstream"), allow(dead_code, clippy::let_unit_value))]
-
+#[cfg(feature = "upstream")]
+mod behind;
+mod direct;
+mod exports;
 mod inputs;
+mod library;
 mod measure;
 mod table;
-#[cfg(feature = "upstream")]
-mod theirs;
 
-use inputs::{deletions, is_inside, Random};
-use measure::{Report, Side};
-use sathunne::raw::*;
-use sathunne::Architecture;
-use std::hint::black_box;
+use inputs::{Random, deletions, is_inside};
+use library::*;
+use measure::{Report, Side, Sides};
+use sathunne::{Architecture, RelocationSize};
 use table::*;
-
-type Write = unsafe extern "C" fn(u16, u32, u64, bool, *mut u8, usize) -> u32;
-type Read = unsafe extern "C" fn(u16, u32, *const u8, usize, *mut u64, *mut u8) -> u32;
-type Apply = unsafe extern "C" fn(u16, u32, u8, *mut u8, usize, *mut u64, *mut i64) -> u32;
-type Modifier = unsafe extern "C" fn(u16, u32, u8, *mut u32) -> u32;
-type Uleb = unsafe extern "C" fn(*const u8, usize, *mut u64, *mut usize) -> u32;
-type OfOne = unsafe extern "C" fn(u64) -> bool;
-type OfTwo = unsafe extern "C" fn(u64, u64) -> u64;
 
 /// Calls of a round.
 const CALLS: usize = 2048;
 
-fn done<T>(result: T) {
-    black_box(result);
+/// The four sides, of which the original crate's may be missing.
+const LIBRARIES: [Option<&'static dyn Library>; 4] = [
+    Some(&exports::EXPORTS),
+    #[cfg(feature = "upstream")]
+    Some(&behind::BEHIND),
+    #[cfg(not(feature = "upstream"))]
+    None,
+    Some(&direct::erased::Direct),
+    #[cfg(feature = "upstream")]
+    Some(&direct::original::Direct),
+    #[cfg(not(feature = "upstream"))]
+    None,
+];
+
+fn each<'a>(side: impl Fn(&'static dyn Library) -> Option<Side<'a>>) -> Sides<'a> {
+    LIBRARIES.map(|library| library.and_then(&side))
 }
-
-fn side_if<'a>(make: impl FnOnce() -> Side<'a>) -> Option<Side<'a>> {
-    if cfg!(feature = "upstream") {
-        Some(make())
-    } else {
-        None
-    }
-}
-
-#[cfg(feature = "upstream")]
-const THEIRS: (Write, Read, Apply, Modifier, Uleb, OfOne, OfTwo) = (
-    theirs::write,
-    theirs::read,
-    theirs::apply,
-    theirs::next_modifier,
-    theirs::read_uleb128,
-    theirs::hi20_is_zero,
-    theirs::highest_relocation_with_bias,
-);
-
-// never called: no side is made of them
-#[cfg(not(feature = "upstream"))]
-const THEIRS: (Write, Read, Apply, Modifier, Uleb, OfOne, OfTwo) = OURS;
-
-const OURS: (Write, Read, Apply, Modifier, Uleb, OfOne, OfTwo) = (
-    linker_utils_write_nonnull,
-    linker_utils_read_nonnull,
-    linker_utils_apply_nonnull,
-    linker_utils_next_modifier,
-    linker_utils_read_uleb128_nonnull,
-    linker_utils_hi20_is_zero,
-    linker_utils_highest_relocation_with_bias,
-);
 
 fn main() {
     let args: Vec<String> = std::env::args().skip(1).collect();
     let is_quick = args.iter().any(|arg| arg == "--quick");
-    let parts: Vec<&String> = args.iter().filter(|arg| !arg.starts_with("--")).collect();
-    let wants = |part: &str| parts.is_empty() || parts.iter().any(|arg| *arg == part);
-    let mut report = Report::new(if is_quick { 0.05 } else { 0.3 });
-
-    if cfg!(feature = "upstream") {
-        check_forms();
-        check_rewrites();
-        check_rows();
-        check_uleb128();
-        eprintln!("both return the same");
-    }
-    if wants("forms") {
-        forms(&mut report);
-    }
-    if wants("rewrites") {
-        rewrites(&mut report);
-    }
-    if wants("rows") {
-        rows(&mut report);
-    }
-    if wants("numbers") {
-        numbers(&mut report);
-    }
-    if wants("deltas") {
-        translations(&mut report, is_quick);
-    }
-    if wants("cursor") {
-        cursors(&mut report);
-    }
-    if wants("merges") {
-        lists(&mut report);
+    let picture = args.iter().find_map(|arg| arg.strip_prefix("--picture="));
+    let wants = |part: &str| {
+        let mut parts = args.iter().filter(|arg| !arg.starts_with("--")).peekable();
+        parts.peek().is_none() || parts.any(|arg| arg == part)
+    };
+    let parts: [(&str, fn(&mut Report)); 9] = [
+        ("forms", forms),
+        ("rewrites", rewrites),
+        ("rows", rows),
+        ("stream", streams),
+        ("numbers", numbers),
+        ("deltas", translations),
+        ("cursor", cursors),
+        ("merges", lists),
+        ("packing", packing),
+    ];
+    assert!(
+        args.iter()
+            .all(|arg| arg.starts_with("--") || parts.iter().any(|part| part.0 == arg))
+    );
+    let mut report = Report::new(if is_quick { 0.03 } else { 0.15 });
+    for (name, part) in parts {
+        if wants(name) {
+            part(&mut report);
+        }
     }
     report.summary();
-}
-
-fn line_of(machine: u16, name: &str) -> String {
-    format!("{} {name}", name_of(machine))
+    if let Some(path) = picture {
+        std::fs::write(path, report.picture()).expect("the picture is written");
+    }
 }
 
 // ---- forms
 
-/// One call each: a form and the value that is written.
-#[derive(Clone, Copy)]
-struct Value {
-    machine: u16,
-    form: u32,
-    value: u64,
-    negative: bool,
-}
-
 fn value_of(random: &mut Random, form: &Form) -> Value {
+    let (machine, number) = (form.machine, form.number);
+    let (value, negative) = (random.below(form.values), random.word() % 2 == 1);
     Value {
-        machine: form.machine,
-        form: form.number,
-        value: random.below(form.values),
-        negative: random.word() % 2 == 1,
-    }
-}
-
-fn write_all(write: Write, values: &[Value], words: &mut [u8]) {
-    let write = black_box(write);
-    for (at, value) in values.iter().enumerate() {
-        let dest = &mut words[8 * at..8 * at + 8];
-        let status = unsafe {
-            write(
-                value.machine,
-                value.form,
-                value.value,
-                value.negative,
-                dest.as_mut_ptr(),
-                8,
-            )
-        };
-        debug_assert_eq!(status, 0);
-    }
-}
-
-fn read_all(read: Read, values: &[Value], words: &[u8]) -> u64 {
-    let read = black_box(read);
-    let (mut value, mut negative, mut sum) = (0, 0, 0u64);
-    for (at, form) in values.iter().enumerate() {
-        let bytes = &words[8 * at..8 * at + 8];
-        unsafe {
-            read(
-                form.machine,
-                form.form,
-                bytes.as_ptr(),
-                8,
-                &mut value,
-                &mut negative,
-            );
-        }
-        sum = sum.wrapping_add(value).wrapping_add(u64::from(negative));
-    }
-    sum
-}
-
-fn check_forms() {
-    let mut random = Random::new(1);
-    for form in &FORMS {
-        for _ in 0..20_000 {
-            let value = value_of(&mut random, form);
-            let word = random.bytes(8);
-            let (mut ours, mut theirs) = (word.clone(), word.clone());
-            write_all(OURS.0, &[value], &mut ours);
-            write_all(THEIRS.0, &[value], &mut theirs);
-            assert_eq!(ours, theirs, "write of {} to {word:02x?}", form.name);
-            assert!(value.value != 0 || ours.len() == 8);
-            if form.reads == Reads::Same {
-                let mut results = [(0u64, 0u8); 2];
-                for (read, result) in [OURS.1, THEIRS.1].into_iter().zip(&mut results) {
-                    let status = unsafe {
-                        read(
-                            value.machine,
-                            value.form,
-                            word.as_ptr(),
-                            8,
-                            &mut result.0,
-                            &mut result.1,
-                        )
-                    };
-                    assert_eq!(status, 0);
-                }
-                assert_eq!(
-                    results[0], results[1],
-                    "read of {} from {word:02x?}",
-                    form.name
-                );
-            }
-        }
+        machine,
+        form: number,
+        value,
+        negative,
     }
 }
 
 fn forms(report: &mut Report) {
-    let mut random = Random::new(2);
-    report.heading("Writes of a value");
-    for form in &FORMS {
-        let values: Vec<Value> = (0..CALLS).map(|_| value_of(&mut random, form)).collect();
-        write_line(
-            report,
-            &mut random,
-            &line_of(form.machine, form.name),
-            &values,
-        );
-    }
-    for machine in [AARCH64, RISCV, LOONGARCH64, PPC64] {
-        let values = mixed(&mut random, machine, |_| true);
-        write_line(
-            report,
-            &mut random,
-            &line_of(machine, "forms at random"),
-            &values,
-        );
-    }
-    report.heading("Reads of a value");
-    for form in &FORMS {
-        let values = vec![value_of(&mut random, form); CALLS];
-        let name = match form.reads {
-            Reads::Other => format!("{} (results differ)", form.name),
-            _ => form.name.to_string(),
-        };
-        read_line(
-            report,
-            &mut random,
-            &line_of(form.machine, &name),
-            &values,
-            form.reads != Reads::Missing,
-        );
-    }
-    for machine in [AARCH64, RISCV, LOONGARCH64, PPC64] {
-        let values = mixed(&mut random, machine, |form| form.reads != Reads::Missing);
-        read_line(
-            report,
-            &mut random,
-            &line_of(machine, "forms at random"),
-            &values,
-            true,
-        );
-    }
-}
-
-fn mixed(random: &mut Random, machine: u16, is_wanted: impl Fn(&Form) -> bool) -> Vec<Value> {
-    let forms: Vec<&Form> = FORMS
-        .iter()
-        .filter(|form| form.machine == machine && is_wanted(form))
-        .collect();
-    (0..CALLS)
-        .map(|_| {
-            let form = forms[random.below(forms.len() as u128) as usize];
+    let random = &mut Random::new(1);
+    let names = |form: &Form| format!("{} {}", name_of(form.machine), form.name);
+    let mixed = |random: &mut Random, machine: u16| -> Vec<Value> {
+        let has_both = |form: &&Form| form.machine == machine && form.reads != Reads::Missing;
+        let forms: Vec<&Form> = FORMS.iter().filter(has_both).collect();
+        let one = |_| {
+            let form = *random.one_of(&forms);
             value_of(random, form)
-        })
-        .collect()
-}
+        };
+        (0..CALLS).map(one).collect()
+    };
+    report.heading("Writes of a value", "original");
+    let mut line = |random: &mut Random, name: &str, mix: Mix, values: &[Value]| {
+        let words = random.bytes(WINDOW * CALLS);
+        let side = |library: &'static dyn Library| {
+            Some(Side::writes(words.clone(), move |words| {
+                library.write(mix, values, words)
+            }))
+        };
+        report.line(name, CALLS, true, each(side));
+    };
+    for (at, form) in FORMS.iter().enumerate() {
+        let values: Vec<Value> = (0..CALLS).map(|_| value_of(random, form)).collect();
+        line(random, &names(form), Mix::One(at), &values);
+    }
+    for machine in &MACHINES[..4] {
+        let values = mixed(random, *machine);
+        let name = format!("{} forms at random", name_of(*machine));
+        line(random, &name, Mix::All(*machine), &values);
+    }
 
-fn write_line(report: &mut Report, random: &mut Random, name: &str, values: &[Value]) {
-    let words = random.bytes(8 * CALLS);
-    let (mut ours, mut theirs) = (words.clone(), words);
-    report.line(
-        name,
-        CALLS,
-        1.0,
-        Side::new(|| write_all(OURS.0, values, &mut ours)),
-        side_if(|| Side::new(|| write_all(THEIRS.0, values, &mut theirs))),
-    );
-}
-
-fn read_line(
-    report: &mut Report,
-    random: &mut Random,
-    name: &str,
-    values: &[Value],
-    has_both: bool,
-) {
-    let words = random.bytes(8 * CALLS);
-    let theirs = || Side::new(|| done(read_all(THEIRS.1, values, &words)));
-    report.line(
-        name,
-        CALLS,
-        1.0,
-        Side::new(|| done(read_all(OURS.1, values, &words))),
-        if has_both { side_if(theirs) } else { None },
-    );
+    report.heading("Reads of a value", "original");
+    let mut line = |random: &mut Random, name: &str, mix: Mix, values: &[Value], reads: Reads| {
+        let words = &random.bytes(WINDOW * CALLS);
+        let side = |library: &'static dyn Library| {
+            Some(Side::number(move || library.read(mix, values, words)))
+        };
+        let mut sides = each(side);
+        if reads == Reads::Missing {
+            (sides[1], sides[3]) = (None, None);
+        }
+        report.line(name, CALLS, reads != Reads::Other, sides);
+    };
+    for (at, form) in FORMS.iter().enumerate() {
+        let differ = if form.reads == Reads::Other {
+            " (results differ)"
+        } else {
+            ""
+        };
+        let (name, values) = (names(form) + differ, vec![value_of(random, form); CALLS]);
+        line(random, &name, Mix::One(at), &values, form.reads);
+    }
+    for machine in &MACHINES[..4] {
+        let values = mixed(random, *machine);
+        let has_other = FORMS
+            .iter()
+            .any(|form| form.machine == *machine && form.reads == Reads::Other);
+        let reads = if has_other { Reads::Other } else { Reads::Same };
+        let name = format!("{} forms at random", name_of(*machine));
+        line(random, &name, Mix::All(*machine), &values, reads);
+    }
 }
 
 // ---- rewrites
 
-/// Bytes of a section, in which the rewritten instruction stands at byte 8.
-const SECTION: usize = 32;
-
 fn section_of(random: &mut Random, rewrite: &Rewrite) -> Vec<u8> {
     let mut section = random.bytes(SECTION);
-    if rewrite.machine == AARCH64 {
-        let word = match rewrite.number {
-            // the registers of `MovkXn` are the same, and `LdrToAdd` wants a load of 64 bits
-            5 => {
-                let register = random.below(32) as u32;
-                random.word() as u32 & !0x3ff | register << 5 | register
-            }
-            11 => random.word() as u32 & 0x003f_ffff | 0xf940_0000,
-            _ => return section,
-        };
-        section[8..12].copy_from_slice(&word.to_le_bytes());
-    }
-    section
-}
-
-fn apply_all(apply: Apply, rewrites: &[&Rewrite], sections: &mut [u8]) -> u64 {
-    let apply = black_box(apply);
-    let mut sum = 0u64;
-    for (at, rewrite) in rewrites.iter().enumerate() {
-        let section = &mut sections[SECTION * at..SECTION * at + SECTION];
-        let (mut offset, mut addend) = (8u64, -4i64);
-        let status = unsafe {
-            apply(
-                rewrite.machine,
-                rewrite.number,
-                rewrite.n,
-                section.as_mut_ptr(),
-                SECTION,
-                &mut offset,
-                &mut addend,
-            )
-        };
-        sum = sum
-            .wrapping_add(offset ^ addend as u64)
-            .wrapping_add(u64::from(status) << 32);
-    }
-    sum
-}
-
-fn modifiers(modifier: Modifier, rewrites: &[&Rewrite]) -> u64 {
-    let modifier = black_box(modifier);
-    let (mut next, mut sum) = (0, 0u64);
-    for rewrite in rewrites {
-        unsafe { modifier(rewrite.machine, rewrite.number, rewrite.n, &mut next) };
-        sum += u64::from(next);
-    }
-    sum
-}
-
-fn check_rewrites() {
-    let mut random = Random::new(3);
-    for rewrite in &REWRITES {
-        for _ in 0..2000 {
-            let section = section_of(&mut random, rewrite);
-            let (mut ours, mut theirs) = (section.clone(), section.clone());
-            let after_ours = apply_all(OURS.2, &[rewrite], &mut ours);
-            let after_theirs = apply_all(THEIRS.2, &[rewrite], &mut theirs);
-            if rewrite.is_same {
-                assert_eq!(ours, theirs, "{} of {section:02x?}", rewrite.name);
-            }
-            assert_eq!(after_ours, after_theirs, "{}", rewrite.name);
-            assert!(
-                after_ours < 1 << 32 || after_ours > 1 << 63,
-                "{}",
-                rewrite.name
-            );
+    let word = match (rewrite.machine, rewrite.number) {
+        // the registers of `MovkXn` are the same, and `LdrToAdd` wants a load of 64 bits
+        (AARCH64, 5) => {
+            let register = random.below(32) as u32;
+            random.word() as u32 & !0x3ff | register << 5 | register
         }
-        assert_eq!(
-            modifiers(OURS.3, &[rewrite]),
-            modifiers(THEIRS.3, &[rewrite]),
-            "{}",
-            rewrite.name
-        );
-    }
+        (AARCH64, 11) => random.word() as u32 & 0x003f_ffff | 0xf940_0000,
+        _ => return section,
+    };
+    section[8..12].copy_from_slice(&word.to_le_bytes());
+    section
 }
 
 fn rewrites(report: &mut Report) {
     const COUNT: usize = 512;
-    let mut random = Random::new(4);
-    report.heading("Rewrites");
-    let mut line = |name: &str, list: &[&Rewrite]| {
+    let random = &mut Random::new(4);
+    report.heading("Rewrites", "original");
+    let mut line = |random: &mut Random, name: &str, mix: Mix, list: &[Rewrite]| {
         let fresh: Vec<u8> = list
             .iter()
-            .flat_map(|rewrite| section_of(&mut random, rewrite))
+            .flat_map(|rewrite| section_of(random, rewrite))
             .collect();
-        let ours = std::cell::RefCell::new(fresh.clone());
-        let theirs = std::cell::RefCell::new(fresh.clone());
+        let fresh = &fresh;
+        let side = |library: &'static dyn Library| {
+            Some(Side::over(
+                (fresh.clone(), 0),
+                move |state| state.0.copy_from_slice(fresh),
+                move |state| state.1 = library.apply(mix, list, &mut state.0),
+                |state| state.clone(),
+            ))
+        };
         report.line(
             name,
-            COUNT,
-            1.0,
-            Side::prepared(
-                || ours.borrow_mut().copy_from_slice(&fresh),
-                || done(apply_all(OURS.2, list, &mut ours.borrow_mut())),
-            ),
-            side_if(|| {
-                Side::prepared(
-                    || theirs.borrow_mut().copy_from_slice(&fresh),
-                    || done(apply_all(THEIRS.2, list, &mut theirs.borrow_mut())),
-                )
-            }),
+            list.len(),
+            list.iter().all(Rewrite::is_same),
+            each(side),
         );
     };
-    for rewrite in &REWRITES {
-        let name = if rewrite.is_same {
-            rewrite.name.to_string()
+    for (at, rewrite) in REWRITES.iter().enumerate() {
+        let differ = if rewrite.is_same() {
+            ""
         } else {
-            format!("{} (bytes differ)", rewrite.name)
+            " (bytes differ)"
         };
-        line(&line_of(rewrite.machine, &name), &[rewrite; COUNT]);
+        let name = format!("{} {}{differ}", name_of(rewrite.machine), rewrite.name);
+        line(random, &name, Mix::One(at), &[*rewrite; COUNT]);
     }
-    let mut random = Random::new(5);
     for machine in [AARCH64, RISCV, X86_64] {
-        let kinds: Vec<&Rewrite> = REWRITES
-            .iter()
-            .filter(|rewrite| rewrite.machine == machine)
-            .collect();
-        let list: Vec<&Rewrite> = (0..COUNT)
-            .map(|_| kinds[random.below(kinds.len() as u128) as usize])
-            .collect();
-        line(&line_of(machine, "rewrites at random"), &list);
+        let is_its = |rewrite: &&Rewrite| rewrite.machine == machine;
+        let kinds: Vec<Rewrite> = REWRITES.iter().filter(is_its).copied().collect();
+        let list: Vec<Rewrite> = (0..COUNT).map(|_| *random.one_of(&kinds)).collect();
+        line(
+            random,
+            &format!("{} rewrites at random", name_of(machine)),
+            Mix::All(machine),
+            &list,
+        );
     }
-    let all: Vec<&Rewrite> = (0..CALLS)
-        .map(|_| &REWRITES[random.below(REWRITES.len() as u128) as usize])
-        .collect();
-    report.line(
-        "next modifier, rewrites at random",
-        CALLS,
-        1.0,
-        Side::new(|| done(modifiers(OURS.3, &all))),
-        side_if(|| Side::new(|| done(modifiers(THEIRS.3, &all)))),
-    );
+    let all: Vec<Rewrite> = (0..CALLS).map(|_| *random.one_of(REWRITES)).collect();
+    let side = |library: &'static dyn Library| {
+        library.modifiers(&all)?;
+        Some(Side::number(|| library.modifiers(&all).expect("modifiers")))
+    };
+    report.line("next modifier, rewrites at random", CALLS, true, each(side));
 }
 
 // ---- relocations
 
-/// The types of a machine's relocations: those that the library has a name for.
-fn types_of(machine: u16) -> Vec<u32> {
-    let architecture = Architecture::from_machine(machine).expect("one of five");
-    let is_known = |r_type: &u32| sathunne::relocation_name(architecture, *r_type).is_ok();
-    let types = (0..1 << 16).filter(is_known);
-    types
-        .filter(|r_type| machine != LOONGARCH64 || !OTHER_TYPES.contains(r_type))
-        .collect()
+/// Whether the rows of a type are the same, where both sides have them.
+fn has_same_rows(machine: u16, r_type: u32) -> bool {
+    let mut rows = LIBRARIES
+        .iter()
+        .flatten()
+        .filter_map(|library| library.row(machine, r_type));
+    rows.next().is_none_or(|first| rows.all(|row| row == first))
 }
 
-#[cfg(feature = "upstream")]
-fn check_rows() {
-    for machine in MACHINES {
-        for r_type in types_of(machine) {
-            let mut row = RelocationInfo::default();
-            let mut info = std::mem::MaybeUninit::<theirs::Info>::uninit();
-            let ours = unsafe { linker_utils_relocation(machine, r_type, &mut row) };
-            let theirs = unsafe { theirs::relocation(machine, r_type, info.as_mut_ptr()) };
-            assert_eq!(ours, theirs, "status of {r_type} of {}", name_of(machine));
-            if ours == 0 && !(machine == AARCH64 && OTHER_ROWS.contains(&r_type)) {
-                let known = theirs::flattened(&unsafe { info.assume_init() });
-                assert_eq!(row, known, "row {r_type} of {}", name_of(machine));
-            }
-        }
-    }
-}
-
-#[cfg(not(feature = "upstream"))]
-fn check_rows() {}
-
-fn rows_of_ours(machine: u16, types: &[u32]) -> u64 {
-    let relocation: unsafe extern "C" fn(u16, u32, *mut RelocationInfo) -> u32 =
-        black_box(linker_utils_relocation);
-    let (mut row, mut sum) = (RelocationInfo::default(), 0u64);
-    for &r_type in types {
-        let status = unsafe { relocation(machine, r_type, &mut row) };
-        sum = sum
-            .wrapping_add(row.alignment)
-            .wrapping_add(u64::from(status));
-    }
-    sum
-}
-
-#[cfg(feature = "upstream")]
-fn rows_of_theirs(machine: u16, types: &[u32]) -> u64 {
-    let relocation: unsafe extern "C" fn(u16, u32, *mut theirs::Info) -> u32 =
-        black_box(theirs::relocation);
-    let mut info = std::mem::MaybeUninit::<theirs::Info>::zeroed();
-    let mut sum = 0u64;
-    for &r_type in types {
-        let status = unsafe { relocation(machine, r_type, info.as_mut_ptr()) };
-        let alignment = unsafe { (*info.as_ptr()).alignment };
-        sum = sum.wrapping_add(alignment).wrapping_add(u64::from(status));
-    }
-    sum
-}
-
-#[cfg(not(feature = "upstream"))]
-fn rows_of_theirs(_machine: u16, _types: &[u32]) -> u64 {
-    0
+fn architecture(machine: u16) -> Architecture {
+    Architecture::from_machine(machine).expect("one of five")
 }
 
 fn rows(report: &mut Report) {
-    let mut random = Random::new(6);
-    report.heading("Rows of relocations, by ELF types at random");
+    let random = &mut Random::new(6);
+    report.heading("Rows of relocations, by ELF types at random", "original");
     let mut line = |name: &str, machine: u16, types: &[u32]| {
-        report.line(
-            name,
-            CALLS,
-            1.0,
-            Side::new(|| done(rows_of_ours(machine, types))),
-            side_if(|| Side::new(|| done(rows_of_theirs(machine, types)))),
-        );
+        let side = |library: &'static dyn Library| {
+            Some(Side::number(move || library.rows(machine, types)))
+        };
+        report.line(name, types.len(), true, each(side));
     };
     for machine in MACHINES {
-        let known = types_of(machine);
-        let types: Vec<u32> = (0..CALLS)
-            .map(|_| known[random.below(known.len() as u128) as usize])
+        let is_other = |r_type: &u32| machine == LOONGARCH64 && OTHER_TYPES.contains(r_type);
+        let has_row = |r_type: &u32| sathunne::relocation(architecture(machine), *r_type).is_ok();
+        let known: Vec<u32> = (0..1 << 11)
+            .filter(|r_type| has_row(r_type) && !is_other(r_type))
             .collect();
+        for r_type in &known {
+            let differs = machine == AARCH64 && OTHER_ROWS.contains(r_type);
+            let is_same = !differs || cfg!(not(feature = "upstream"));
+            assert_eq!(
+                has_same_rows(machine, *r_type),
+                is_same,
+                "{r_type} of {}",
+                name_of(machine)
+            );
+        }
+        let types: Vec<u32> = (0..CALLS).map(|_| *random.one_of(&known)).collect();
         line(name_of(machine), machine, &types);
     }
     // `R_AARCH64_TSTBR14` and `R_X86_64_16`
@@ -520,386 +267,246 @@ fn rows(report: &mut Report) {
     line("x86-64, one type", X86_64, &[12; CALLS]);
 }
 
+fn streams(report: &mut Report) {
+    const COUNT: usize = 100_000;
+    let random = &mut Random::new(12);
+    report.heading("Relocations of 4 MiB, one after the other", "original");
+    for (machine, prefix, mix) in MIXES {
+        let named = |name: &str| {
+            let name = Ok(format!("{prefix}{name}"));
+            let is_it =
+                |r_type: &u32| sathunne::relocation_name(architecture(machine), *r_type) == name;
+            (0..1 << 11).find(is_it).expect("a relocation's name")
+        };
+        let parts: Vec<u32> = mix
+            .iter()
+            .flat_map(|(name, n)| vec![named(name); *n])
+            .collect();
+        let one = |random: &mut Random, at: usize| {
+            let r_type = *random.one_of(&parts);
+            let info = sathunne::relocation(architecture(machine), r_type).expect("a row");
+            let whole = if info.size == RelocationSize::Bytes(8) {
+                i64::MAX
+            } else {
+                1 << 30
+            };
+            let range = info.range.unwrap_or(-whole..whole);
+            let (min, max) = (range.start.max(-whole), range.end.min(whole));
+            let steps = (max as i128 - min as i128) as u128 / u128::from(info.alignment);
+            let value = min + (random.below(steps) * info.alignment) as i64;
+            // at most 40 bytes from one to the next
+            Relocation {
+                offset: 40 * at + 4 * random.below(9) as usize,
+                r_type,
+                value,
+            }
+        };
+        let relocations: Vec<Relocation> = (0..COUNT).map(|at| one(random, at)).collect();
+        let is_same = parts.iter().all(|r_type| has_same_rows(machine, *r_type));
+        let name = name_of(machine).to_string() + if is_same { "" } else { " (rows differ)" };
+        let (relocations, section) = (&relocations, &random.bytes(4 << 20));
+        let side = |is_one_call: bool| {
+            move |library: &'static dyn Library| {
+                let all = if is_one_call {
+                    Some(library.relocate_all()?)
+                } else {
+                    None
+                };
+                Some(Side::writes(section.clone(), move |section| {
+                    assert!(match all {
+                        Some(all) => all(machine, relocations, section),
+                        None => library.relocate(machine, relocations, section),
+                    });
+                }))
+            }
+        };
+        report.line(&name, COUNT, is_same, each(side(false)));
+        // the same in one call, beside the original's calls one by one
+        let ([exports, _, erased, _], [_, behind, _, original]) =
+            (each(side(true)), each(side(false)));
+        if exports.is_some() || erased.is_some() {
+            let sides = [exports, behind, erased, original];
+            report.line(&format!("{name}, as one call"), COUNT, is_same, sides);
+        }
+    }
+}
+
 // ---- numbers
 
-fn uleb128(number: u64, into: &mut Vec<u8>) {
-    let mut left = number;
-    while left >= 0x80 {
-        into.push(left as u8 | 0x80);
-        left >>= 7;
-    }
-    into.push(left as u8);
-}
-
-fn read_numbers(read: Uleb, bytes: &[u8], count: usize) -> u64 {
-    let read = black_box(read);
-    let (mut value, mut consumed, mut sum, mut at) = (0, 0, 0u64, 0);
-    for _ in 0..count {
-        unsafe {
-            read(
-                bytes[at..].as_ptr(),
-                bytes.len() - at,
-                &mut value,
-                &mut consumed,
-            )
-        };
-        at += consumed;
-        sum = sum.wrapping_add(value);
-    }
-    sum
-}
-
-fn check_uleb128() {
-    let mut random = Random::new(7);
-    let mut bytes = Vec::new();
-    for _ in 0..20_000 {
-        let number = random.word() >> random.below(64);
-        uleb128(number, &mut bytes);
-    }
-    assert_eq!(
-        read_numbers(OURS.4, &bytes, 20_000),
-        read_numbers(THEIRS.4, &bytes, 20_000)
-    );
-    for _ in 0..20_000 {
-        let (a, b) = (random.word() >> random.below(64), random.word());
-        assert_eq!(unsafe { OURS.5(a) }, unsafe { THEIRS.5(a) });
-        assert_eq!(unsafe { OURS.6(a, b) }, unsafe { THEIRS.6(a, b) });
-    }
-}
-
 fn numbers(report: &mut Report) {
-    let mut random = Random::new(8);
-    report.heading("ULEB128 and other numbers");
+    let random = &mut Random::new(8);
+    report.heading("ULEB128 and other numbers", "original");
     for (name, bits) in [
-        ("below 128", 7u128),
+        ("below 128", 7),
         ("below 2^14", 14),
         ("of 1 to 64 bits", 64),
     ] {
         let mut bytes = Vec::new();
         for _ in 0..CALLS {
             let width = 1 + random.below(bits) as u32;
-            let number = random.word() >> (64 - width);
-            uleb128(number, &mut bytes);
+            let mut left = random.word() >> (64 - width);
+            while left >= 0x80 {
+                bytes.push(left as u8 | 0x80);
+                left >>= 7;
+            }
+            bytes.push(left as u8);
         }
-        report.line(
-            &format!("ULEB128 {name}"),
-            CALLS,
-            1.0,
-            Side::new(|| done(read_numbers(OURS.4, &bytes, CALLS))),
-            side_if(|| Side::new(|| done(read_numbers(THEIRS.4, &bytes, CALLS)))),
-        );
+        let bytes = &bytes;
+        let side = |library: &'static dyn Library| {
+            Some(Side::number(move || library.uleb128(bytes, CALLS)))
+        };
+        report.line(&format!("ULEB128 {name}"), CALLS, true, each(side));
     }
     let values: Vec<u64> = (0..CALLS)
         .map(|_| random.word() >> random.below(64))
         .collect();
-    let tested = |test: OfOne| {
-        let test = black_box(test);
-        values
-            .iter()
-            .filter(|value| unsafe { test(**value) })
-            .count()
-    };
-    report.line(
-        "RISC-V hi20_is_zero",
-        CALLS,
-        1.0,
-        Side::new(|| done(tested(OURS.5))),
-        side_if(|| Side::new(|| done(tested(THEIRS.5)))),
-    );
-    let biased = |bias: OfTwo| {
-        let bias = black_box(bias);
-        values
-            .iter()
-            .fold(0, |sum, value| unsafe { bias(*value, sum) })
+    let side = |library: &'static dyn Library| Some(Side::number(|| library.hi20_is_zero(&values)));
+    report.line("RISC-V hi20_is_zero", CALLS, true, each(side));
+    let side = |library: &'static dyn Library| {
+        Some(Side::number(|| {
+            library.highest_relocation_with_bias(&values)
+        }))
     };
     report.line(
         "LoongArch highest_relocation_with_bias",
         CALLS,
-        1.0,
-        Side::new(|| done(biased(OURS.6))),
-        side_if(|| Side::new(|| done(biased(THEIRS.6)))),
+        true,
+        each(side),
     );
+
+    let words = random.bytes(4 * CALLS);
+    let mut texts = Vec::new();
+    for _ in 0..CALLS {
+        texts.extend((0..random.below(24)).map(|_| b'a' + random.below(26) as u8));
+        texts.push(0);
+    }
+    type Read = fn(&'static dyn Library, &[u8]) -> Option<u64>;
+    let readers: [(&str, &[u8], Read); 2] = [
+        ("read_u32", &words, |library, content| {
+            library.words(content)
+        }),
+        ("read_string", &texts, |library, content| {
+            library.strings(content)
+        }),
+    ];
+    for (name, content, read) in readers {
+        let side = |library: &'static dyn Library| {
+            read(library, content)?;
+            Some(Side::number(move || {
+                read(library, content).expect("a reader")
+            }))
+        };
+        report.line(name, CALLS, true, each(side));
+    }
 }
 
 // ---- deletions
 
-fn ours_of(list: &[(u64, u32)]) -> Vec<Deletion> {
-    list.iter()
-        .map(|&(offset, bytes)| Deletion { offset, bytes })
-        .collect()
-}
-
-const BLANK: Delta = Delta {
-    input_offset: 0,
-    cumulative_deleted: 0,
-    bytes_deleted: 0,
-};
-
-fn created(list: &[Deletion]) -> Vec<Delta> {
-    let mut deltas = vec![BLANK; list.len()];
-    let status = unsafe {
-        linker_utils_deltas_create_nonnull(
-            list.as_ptr(),
-            list.len(),
-            deltas.as_mut_ptr(),
-            list.len(),
-            &mut 0,
-        )
-    };
-    assert_eq!(status, 0);
-    deltas
-}
-
-/// Deltas, and the heads of their blocks.
-struct Ours {
-    deltas: Vec<Delta>,
-    heads: Vec<BlockHead>,
-}
-
-fn inputs_by_ours(ours: &Ours, queries: &[u64]) -> u64 {
-    let translate: unsafe extern "C" fn(*const Delta, usize, u64) -> u64 =
-        black_box(linker_utils_deltas_input_to_output_nonnull);
-    let (deltas, len) = (ours.deltas.as_ptr(), ours.deltas.len());
-    queries.iter().fold(0u64, |sum, &query| {
-        sum.wrapping_add(unsafe { translate(deltas, len, query) })
-    })
-}
-
-fn inputs_by_heads(ours: &Ours, queries: &[u64]) -> u64 {
-    let translate: unsafe extern "C" fn(*const Delta, usize, *const BlockHead, usize, u64) -> u64 =
-        black_box(linker_utils_deltas_input_to_output_by_heads_nonnull);
-    let (deltas, len) = (ours.deltas.as_ptr(), ours.deltas.len());
-    let (heads, blocks) = (ours.heads.as_ptr(), ours.heads.len());
-    queries.iter().fold(0u64, |sum, &query| {
-        sum.wrapping_add(unsafe { translate(deltas, len, heads, blocks, query) })
-    })
-}
-
-fn outputs_by_ours(ours: &Ours, queries: &[u64]) -> u64 {
-    let translate: unsafe extern "C" fn(*const Delta, usize, u64, *mut u64) -> u32 =
-        black_box(linker_utils_deltas_output_to_input_nonnull);
-    let (deltas, len) = (ours.deltas.as_ptr(), ours.deltas.len());
-    let (mut input, mut sum) = (0, 0u64);
-    for &query in queries {
-        let status = unsafe { translate(deltas, len, query, &mut input) };
-        sum = sum
-            .wrapping_add(input)
-            .wrapping_add(u64::from(status) << 48);
-    }
-    sum
-}
-
-type OutputByHeads =
-    unsafe extern "C" fn(*const Delta, usize, *const BlockHead, usize, u64, *mut u64) -> u32;
-
-fn outputs_by_heads(ours: &Ours, queries: &[u64]) -> u64 {
-    let translate: OutputByHeads = black_box(linker_utils_deltas_output_to_input_by_heads_nonnull);
-    let (deltas, len) = (ours.deltas.as_ptr(), ours.deltas.len());
-    let (heads, blocks) = (ours.heads.as_ptr(), ours.heads.len());
-    let (mut input, mut sum) = (0, 0u64);
-    for &query in queries {
-        let status = unsafe { translate(deltas, len, heads, blocks, query, &mut input) };
-        sum = sum
-            .wrapping_add(input)
-            .wrapping_add(u64::from(status) << 48);
-    }
-    sum
-}
-
-#[cfg(feature = "upstream")]
-mod translated {
-    use super::{black_box, theirs};
-
-    pub fn inputs(deltas: &theirs::Deltas, queries: &[u64]) -> u64 {
-        let translate: unsafe extern "C" fn(&theirs::Deltas, u64) -> u64 =
-            black_box(theirs::input_to_output);
-        queries.iter().fold(0u64, |sum, &query| {
-            sum.wrapping_add(unsafe { translate(deltas, query) })
-        })
-    }
-
-    pub fn outputs(deltas: &theirs::Deltas, queries: &[u64]) -> u64 {
-        let translate: unsafe extern "C" fn(&theirs::Deltas, u64, *mut u64) -> u32 =
-            black_box(theirs::output_to_input);
-        let (mut input, mut sum) = (0, 0u64);
-        for &query in queries {
-            let status = unsafe { translate(deltas, query, &mut input) };
-            sum = sum
-                .wrapping_add(input)
-                .wrapping_add(u64::from(status) << 48);
+/// Random offsets that lie in no deletion.
+fn outside(random: &mut Random, list: &[(u64, u32)], len: u64, count: usize) -> Vec<u64> {
+    let mut queries = Vec::with_capacity(count);
+    while queries.len() < count {
+        let query = random.below(u128::from(len));
+        if !is_inside(list, query) {
+            queries.push(query);
         }
-        sum
     }
-
-    pub fn new(list: Vec<(u64, u32)>) -> theirs::Deltas {
-        theirs::new(list)
-    }
-
-    pub fn merge(deltas: &mut theirs::Deltas, additional: Vec<(u64, u32)>) {
-        theirs::merge(deltas, additional);
-    }
-
-    pub fn all(deltas: &theirs::Deltas, queries: &[u64], outputs: &mut [u64]) {
-        theirs::translate_all(deltas, queries, outputs);
-    }
-
-    pub fn listed(deltas: &theirs::Deltas) -> Vec<super::Delta> {
-        let list = deltas.deltas().iter();
-        list.map(|delta| super::Delta {
-            input_offset: delta.input_offset,
-            cumulative_deleted: delta.cumulative_deleted,
-            bytes_deleted: delta.bytes_deleted,
-        })
-        .collect()
-    }
+    queries
 }
 
-#[cfg(not(feature = "upstream"))]
-mod translated {
-    pub fn inputs(_deltas: &(), _queries: &[u64]) -> u64 {
-        0
-    }
+type Translate = fn(&dyn Deltas, &[u64]) -> u64;
 
-    pub fn outputs(_deltas: &(), _queries: &[u64]) -> u64 {
-        0
-    }
-
-    pub fn new(_list: Vec<(u64, u32)>) {}
-
-    pub fn merge(_deltas: &mut (), _additional: Vec<(u64, u32)>) {}
-
-    pub fn all(_deltas: &(), _queries: &[u64], _outputs: &mut [u64]) {}
-
-    pub fn listed(_deltas: &()) -> Vec<super::Delta> {
-        Vec::new()
-    }
+fn translated<'a>(
+    deltas: &'a Option<Box<dyn Deltas>>,
+    translate: Translate,
+    queries: &'a [u64],
+) -> Option<Side<'a>> {
+    let deltas = deltas.as_deref()?;
+    Some(Side::number(move || translate(deltas, queries)))
 }
 
-fn translations(report: &mut Report, is_quick: bool) {
-    let mut random = Random::new(9);
-    report.heading("Translations of an offset");
+fn translations(report: &mut Report) {
+    let random = &mut Random::new(9);
+    report.heading("Translations of an offset", "original");
     for count in [10, 1_000, 100_000, 10_000_000] {
-        let (list, len) = deletions(&mut random, count);
-        let deltas = created(&ours_of(&list));
-        let mut heads = vec![BlockHead::default(); sathunne::deltas_block_count(&deltas)];
-        assert_eq!(sathunne::deltas_heads(&deltas, &mut heads), Ok(()));
-        let ours = Ours { deltas, heads };
-        let theirs = translated::new(list.clone());
+        let (list, len) = deletions(random, count);
+        let deltas = LIBRARIES.map(|library| library.map(|library| library.deltas(&list)));
+        let by_heads = deltas[0].as_ref().and_then(|deltas| deltas.by_heads());
         let queries = if count > 1_000_000 { 5_000 } else { 20_000 };
-        let mut inputs: Vec<u64> = Vec::with_capacity(queries);
-        while inputs.len() < queries {
-            let query = random.below(u128::from(len));
-            if !is_inside(&list, query) {
-                inputs.push(query);
-            }
-        }
-        let kept = len - sathunne::deltas_total_deleted(&ours.deltas);
+        let inputs = outside(random, &list, len, queries);
+        let kept = len - list.iter().map(|(_, bytes)| u64::from(*bytes)).sum::<u64>();
         let outputs: Vec<u64> = (0..queries)
             .map(|_| random.below(u128::from(kept)))
             .collect();
-        let share = if is_quick { 1.0 } else { 3.0 };
-        type ByOurs = fn(&Ours, &[u64]) -> u64;
-        type ByTheirs<T> = fn(&T, &[u64]) -> u64;
-        fn both<T>(_: &T, ours: ByOurs, theirs: ByTheirs<T>) -> (ByOurs, ByTheirs<T>) {
-            (ours, theirs)
-        }
-        for (name, (of_ours, of_theirs), random_queries) in [
+        let directions: [(&str, Translate, Vec<u64>); 2] = [
             (
                 "input to output",
-                both(&theirs, inputs_by_ours, translated::inputs),
-                inputs.clone(),
-            ),
-            (
-                "input to output by heads",
-                both(&theirs, inputs_by_heads, translated::inputs),
+                |deltas, queries| deltas.inputs(queries),
                 inputs,
             ),
             (
                 "output to input",
-                both(&theirs, outputs_by_ours, translated::outputs),
-                outputs.clone(),
-            ),
-            (
-                "output to input by heads",
-                both(&theirs, outputs_by_heads, translated::outputs),
+                |deltas, queries| deltas.outputs(queries),
                 outputs,
             ),
-        ] {
+        ];
+        for (direction, translate, random_queries) in directions {
             let mut ascending = random_queries.clone();
             ascending.sort_unstable();
-            for (order, queries) in [("random", random_queries), ("ascending", ascending)] {
-                if cfg!(feature = "upstream") {
-                    assert_eq!(
-                        of_ours(&ours, &queries),
-                        of_theirs(&theirs, &queries),
-                        "{name} over {count}"
-                    );
-                }
+            for (order, queries) in [("random", &random_queries), ("ascending", &ascending)] {
+                let name = format!("{direction}, {count} deletions, {order}");
                 report.line(
-                    &format!("{name}, {count} deletions, {order}"),
+                    &name,
                     queries.len(),
-                    share,
-                    Side::new(|| done(of_ours(&ours, &queries))),
-                    side_if(|| Side::new(|| done(of_theirs(&theirs, &queries)))),
+                    true,
+                    deltas
+                        .each_ref()
+                        .map(|deltas| translated(deltas, translate, queries)),
                 );
+                let name = format!("{direction} by heads, {count} deletions, {order}");
+                let [heads, behind] =
+                    [&by_heads, &deltas[1]].map(|deltas| translated(deltas, translate, queries));
+                let sides = [heads, behind, None, None];
+                report.line(&name, queries.len(), true, sides);
             }
         }
     }
 }
 
 fn cursors(report: &mut Report) {
-    let mut random = Random::new(10);
-    report.heading("The cursor, a query");
+    let random = &mut Random::new(10);
+    report.heading("The cursor, a query", "original");
     for count in [10, 1_000, 100_000, 1_000_000] {
-        let (list, len) = deletions(&mut random, count);
-        let ours = created(&ours_of(&list));
-        let theirs = translated::new(list.clone());
-        let wanted = 2 * count;
-        let mut queries: Vec<u64> = Vec::with_capacity(wanted);
-        while queries.len() < wanted {
-            let query = random.below(u128::from(len));
-            if !is_inside(&list, query) {
-                queries.push(query);
-            }
-        }
+        let (list, len) = deletions(random, count);
+        let mut queries = outside(random, &list, len, 2 * count);
         queries.sort_unstable();
-        let mut of_ours = vec![0u64; wanted];
-        let mut of_theirs = vec![0u64; wanted];
-        let walk = |outputs: &mut [u64]| {
-            let status = unsafe {
-                linker_utils_deltas_translate_all_nonnull(
-                    ours.as_ptr(),
-                    ours.len(),
-                    queries.as_ptr(),
-                    queries.len(),
-                    outputs.as_mut_ptr(),
-                    outputs.len(),
-                    &mut 0,
-                )
-            };
-            assert_eq!(status, 0);
+        let queries = &queries;
+        let side = |library: &'static dyn Library| {
+            let deltas = library.deltas(&list);
+            Some(Side::writes(vec![0; queries.len()], move |outputs| {
+                deltas.walk(queries, outputs)
+            }))
         };
-        if cfg!(feature = "upstream") {
-            walk(&mut of_ours);
-            translated::all(&theirs, &queries, &mut of_theirs);
-            assert_eq!(of_ours, of_theirs);
-        }
         report.line(
-            &format!("{count} deletions, {wanted} ascending queries"),
-            wanted,
-            1.0,
-            Side::new(|| walk(black_box(&mut of_ours))),
-            side_if(|| Side::new(|| translated::all(&theirs, &queries, black_box(&mut of_theirs)))),
+            &format!("{count} deletions, {} ascending queries", 2 * count),
+            2 * count,
+            true,
+            each(side),
         );
     }
 }
 
 fn lists(report: &mut Report) {
-    let mut random = Random::new(11);
-    report.heading("New lists and merges, a deletion");
+    let random = &mut Random::new(11);
+    report.heading("New lists and merges, a deletion", "original");
     for count in [10, 1_000, 100_000, 1_000_000] {
-        let (list, _) = deletions(&mut random, count);
-        new_line(report, &list);
+        let (list, _) = deletions(random, count);
+        report.line(
+            &format!("new of {count}"),
+            count,
+            true,
+            each(|library| Some(library.new_side(&list))),
+        );
     }
     for (old, more) in [
         (1_000, 10),
@@ -908,7 +515,7 @@ fn lists(report: &mut Report) {
         (100_000, 100_000),
         (1_000_000, 1_000_000),
     ] {
-        let (list, _) = deletions(&mut random, old + more);
+        let (list, _) = deletions(random, old + more);
         let mut is_more = vec![false; old + more];
         is_more[..more].fill(true);
         random.shuffle(&mut is_more);
@@ -919,108 +526,49 @@ fn lists(report: &mut Report) {
                 .collect()
         };
         let (first, mut second) = (part(false), part(true));
-        merge_line(
-            report,
-            &format!("merge of {more} ascending into {old}"),
-            &first,
-            &second,
-        );
-        if old + more <= 200_000 {
-            random.shuffle(&mut second);
-            merge_line(
-                report,
-                &format!("merge of {more} in any order into {old}"),
-                &first,
-                &second,
-            );
+        for order in ["ascending", "in any order"] {
+            if order == "ascending" || old + more <= 200_000 {
+                let name = format!("merge of {more} {order} into {old}");
+                let side =
+                    |library: &'static dyn Library| Some(library.merge_side(&first, &second));
+                report.line(&name, old + more, true, each(side));
+                random.shuffle(&mut second);
+            }
         }
     }
 }
 
-fn new_line(report: &mut Report, list: &[(u64, u32)]) {
-    let raw = ours_of(list);
-    let mut deltas = vec![BLANK; raw.len()];
-    let their_raw = std::cell::RefCell::new(None);
-    let their_deltas = std::cell::RefCell::new(None);
-    if cfg!(feature = "upstream") {
-        let theirs = translated::new(list.to_vec());
-        assert_eq!(created(&raw), translated::listed(&theirs));
-    }
-    report.line(
-        &format!("new of {}", list.len()),
-        list.len(),
-        1.0,
-        Side::new(|| {
-            let deltas = black_box(&mut deltas);
-            let status = unsafe {
-                linker_utils_deltas_create_nonnull(
-                    raw.as_ptr(),
-                    raw.len(),
-                    deltas.as_mut_ptr(),
-                    deltas.len(),
-                    &mut 0,
-                )
-            };
-            assert_eq!(status, 0);
-        }),
-        side_if(|| {
-            Side::prepared(
-                || {
-                    *their_deltas.borrow_mut() = None;
-                    *their_raw.borrow_mut() = Some(list.to_vec());
-                },
-                || {
-                    let raw = their_raw.borrow_mut().take().expect("prepared");
-                    *their_deltas.borrow_mut() = Some(translated::new(raw));
-                },
-            )
-        }),
-    );
-}
+// ---- packing
 
-fn merge_line(report: &mut Report, name: &str, first: &[(u64, u32)], second: &[(u64, u32)]) {
-    let old = created(&ours_of(first));
-    let additional = ours_of(second);
-    let mut merged = vec![BLANK; first.len() + second.len()];
-    let merge = |merged: &mut [Delta]| {
-        let status = unsafe {
-            linker_utils_deltas_merge_nonnull(
-                old.as_ptr(),
-                old.len(),
-                additional.as_ptr(),
-                additional.len(),
-                merged.as_mut_ptr(),
-                merged.len(),
-                &mut 0,
-            )
+fn packing(report: &mut Report) {
+    const LEN: usize = 64 << 20;
+    report.heading("Packing of 64 MiB", "one memcpy");
+    let mut section = Random::new(13).bytes(LEN);
+    for step in [1024, 64] {
+        // `call`, of which the second instruction is deleted
+        let sites = (0..LEN).step_by(step);
+        for site in sites.clone() {
+            section[site..site + 8].copy_from_slice(&0x000080e7_00000097u64.to_le_bytes());
+        }
+        let list: Vec<(u64, u32)> = sites.clone().map(|site| (site as u64 + 4, 4)).collect();
+        let calls: Vec<(u64, u64)> = sites
+            .map(|site| (site as u64, site as u64 & !0x1fff))
+            .collect();
+        let kept = LEN - 4 * list.len();
+        let copy = || {
+            let section = &section[..kept];
+            Some(Side::over(
+                vec![0; kept],
+                |_| (),
+                |packed| packed.copy_from_slice(section),
+                Vec::len,
+            ))
         };
-        assert_eq!(status, 0, "{name}");
-    };
-    if cfg!(feature = "upstream") {
-        let mut theirs = translated::new(first.to_vec());
-        translated::merge(&mut theirs, second.to_vec());
-        merge(&mut merged);
-        assert_eq!(merged, translated::listed(&theirs), "{name}");
+        let [exports, _, erased, _] = each(|library| library.pack_side(&section, &list, &[]));
+        let name = format!("a deletion each {step} bytes, a KiB of the section");
+        report.line(&name, LEN >> 10, false, [exports, copy(), erased, copy()]);
+        let [exports, _, erased, _] = each(|library| library.pack_side(&section, &list, &calls));
+        let name = format!("a call and a deletion each {step} bytes, a call");
+        report.line(&name, calls.len(), true, [exports, None, erased, None]);
     }
-    let theirs = std::cell::RefCell::new(None);
-    let more = std::cell::RefCell::new(None);
-    let merged_place = &mut merged;
-    report.line(
-        name,
-        first.len() + second.len(),
-        1.0,
-        Side::new(|| merge(black_box(merged_place))),
-        side_if(|| {
-            Side::prepared(
-                || {
-                    *theirs.borrow_mut() = Some(translated::new(first.to_vec()));
-                    *more.borrow_mut() = Some(second.to_vec());
-                },
-                || {
-                    let more = more.borrow_mut().take().expect("prepared");
-                    translated::merge(theirs.borrow_mut().as_mut().expect("prepared"), more);
-                },
-            )
-        }),
-    );
 }

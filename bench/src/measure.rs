@@ -1,128 +1,227 @@
-//! Rounds of ours and of the original crate in turn, and the table of what they took.
+//! Rounds of all sides in turn, and the tables of what they took.
 
+use std::hash::{DefaultHasher, Hash, Hasher};
+use std::hint::black_box;
 use std::time::{Duration, Instant};
 
-/// One of the two that are compared: what a round does, and what it does before, which isn't timed.
-pub struct Side<'a> {
-    pub prepare: Box<dyn FnMut() + 'a>,
-    pub round: Box<dyn FnMut() + 'a>,
-}
+/// What is compared, in the order of the table: the exports and the original crate behind functions
+/// of the same arguments, then the erased crate and the original one, both called directly.
+pub type Sides<'a> = [Option<Side<'a>>; 4];
+
+/// One of those: a round, which says what it took in seconds, and what it gave where that is asked.
+pub struct Side<'a>(Box<dyn FnMut(bool) -> (f64, u64) + 'a>);
 
 impl<'a> Side<'a> {
-    pub fn new(round: impl FnMut() + 'a) -> Side<'a> {
-        Side::prepared(|| {}, round)
+    /// Rounds over a state, which is prepared before each, untimed. All sides have to give the
+    /// same.
+    pub fn over<S: 'a, T: Hash>(
+        mut state: S,
+        mut prepare: impl FnMut(&mut S) + 'a,
+        mut round: impl FnMut(&mut S) + 'a,
+        gives: impl Fn(&S) -> T + 'a,
+    ) -> Side<'a> {
+        Side(Box::new(move |is_asked| {
+            prepare(&mut state);
+            let begin = Instant::now();
+            round(black_box(&mut state));
+            let time = begin.elapsed().as_secs_f64();
+            let mut hasher = DefaultHasher::new();
+            if is_asked {
+                gives(&state).hash(&mut hasher);
+            }
+            (time, hasher.finish())
+        }))
     }
 
-    pub fn prepared(prepare: impl FnMut() + 'a, round: impl FnMut() + 'a) -> Side<'a> {
-        Side {
-            prepare: Box::new(prepare),
-            round: Box::new(round),
-        }
+    /// Rounds that give a number.
+    pub fn number(mut round: impl FnMut() -> u64 + 'a) -> Side<'a> {
+        Side::over(0, |_| (), move |number| *number = round(), |number| *number)
     }
 
-    fn time(&mut self) -> f64 {
-        (self.prepare)();
-        let begin = Instant::now();
-        (self.round)();
-        begin.elapsed().as_secs_f64()
+    /// Rounds that write over what they wrote before.
+    pub fn writes<T: Clone + Hash + 'a>(
+        items: Vec<T>,
+        round: impl FnMut(&mut Vec<T>) + 'a,
+    ) -> Side<'a> {
+        Side::over(items, |_| (), round, Vec::clone)
     }
 }
 
-/// Nanoseconds a call.
-struct Times {
-    median: f64,
+/// The ratios of the lines of one table: of the exports, and of the erased crate.
+struct Group {
+    title: String,
+    beside: String,
+    lines: [Vec<Line>; 2],
+}
+
+struct Line {
+    name: String,
+    /// By medians, and by least times.
+    ratio: f64,
     least: f64,
 }
 
-fn times(mut rounds: Vec<f64>, calls: usize) -> Times {
-    rounds.sort_by(f64::total_cmp);
-    let scale = 1e9 / calls as f64;
-    Times {
-        median: rounds[rounds.len() / 2] * scale,
-        least: rounds[0] * scale,
-    }
-}
-
-/// Prints tables in Markdown, and keeps the worst ratios.
+/// Prints tables in Markdown, and keeps the ratios.
 pub struct Report {
-    pub budget: f64,
-    worst: Vec<(f64, String)>,
+    budget: f64,
+    groups: Vec<Group>,
 }
 
 impl Report {
+    /// With so many seconds for each side of a line.
     pub fn new(budget: f64) -> Report {
         Report {
             budget,
-            worst: Vec::new(),
+            groups: Vec::new(),
         }
     }
 
-    pub fn heading(&self, title: &str) {
+    /// Begins a table, whose lines are beside the original crate or something else.
+    pub fn heading(&mut self, title: &str, beside: &str) {
         println!("\n### {title}\n");
-        println!("| | ours, ns | original, ns | ours / original | by least times |");
-        println!("|---|--:|--:|--:|--:|");
+        let columns = |ours: &str| format!("{ours}, ns | {beside}, ns | ratio | least |");
+        println!("| | {} {}", columns("exports"), columns("erased"));
+        println!("|---|--:|--:|--:|--:|--:|--:|--:|--:|");
+        let (title, beside) = (title.to_string(), beside.to_string());
+        self.groups.push(Group {
+            title,
+            beside,
+            lines: Default::default(),
+        });
     }
 
-    /// Measures `calls` calls a round, for about `share` times the budget of a line.
-    pub fn line(
-        &mut self,
-        name: &str,
-        calls: usize,
-        share: f64,
-        mut ours: Side,
-        theirs: Option<Side>,
-    ) {
-        let limit = Duration::from_secs_f64(self.budget * share);
-        let Some(mut theirs) = theirs else {
-            let (mut rounds, begin) = (Vec::new(), Instant::now());
-            ours.time();
-            while rounds.len() < 9 || begin.elapsed() < limit {
-                rounds.push(ours.time());
+    /// Measures rounds of so many calls. Sides have to give the same, unless they differ on
+    /// purpose.
+    pub fn line(&mut self, name: &str, calls: usize, is_same: bool, mut sides: Sides) {
+        let gave: Vec<u64> = sides
+            .iter_mut()
+            .flatten()
+            .map(|side| (side.0)(true).1)
+            .collect();
+        let has_same = gave.windows(2).all(|pair| pair[0] == pair[1]);
+        assert!(!is_same || has_same, "{name}: the sides differ");
+        let limit = Duration::from_secs_f64(self.budget * gave.len() as f64);
+        let (mut rounds, begin) = ([const { Vec::new() }; 4], Instant::now());
+        for round in 0.. {
+            if round >= 9 && begin.elapsed() > limit {
+                break;
             }
-            let ours = times(rounds, calls);
-            println!("| {name} | {:.2} | | | |", ours.median);
-            return;
-        };
-        let (mut of_ours, mut of_theirs) = (Vec::new(), Vec::new());
-        ours.time();
-        theirs.time();
-        let begin = Instant::now();
-        while of_ours.len() < 9 || begin.elapsed() < limit {
-            // each goes first every other time
-            if of_ours.len() % 2 == 0 {
-                of_ours.push(ours.time());
-                of_theirs.push(theirs.time());
-            } else {
-                of_theirs.push(theirs.time());
-                of_ours.push(ours.time());
+            // each goes first in turn
+            for at in (0..4).map(|at| (at + round) % 4) {
+                let time = sides[at].as_mut().map(|side| (side.0)(false).0);
+                rounds[at].extend(time.map(|time| time * 1e9 / calls as f64));
             }
         }
-        let (ours, theirs) = (times(of_ours, calls), times(of_theirs, calls));
-        let ratio = ours.median / theirs.median;
-        let least = ours.least / theirs.least;
-        println!(
-            "| {name} | {:.2} | {:.2} | {ratio:.2} | {least:.2} |",
-            ours.median, theirs.median
-        );
-        self.worst.push((ratio.min(least), name.to_string()));
+        print!("| {name} |");
+        for (pair, which) in rounds.chunks_mut(2).zip(0..) {
+            pair.iter_mut()
+                .for_each(|times| times.sort_by(f64::total_cmp));
+            let median = |side: usize| pair[side].get(pair[side].len() / 2).copied();
+            let text = |time: Option<f64>| time.map_or(String::new(), |time| format!("{time:.2}"));
+            let (Some(ours), Some(theirs)) = (median(0), median(1)) else {
+                print!(" {} | {} | | |", text(median(0)), text(median(1)));
+                continue;
+            };
+            let (ratio, least) = (ours / theirs, pair[0][0] / pair[1][0]);
+            print!(" {ours:.2} | {theirs:.2} | {ratio:.2} | {least:.2} |");
+            let line = Line {
+                name: name.to_string(),
+                ratio,
+                least,
+            };
+            self.groups.last_mut().expect("a heading").lines[which].push(line);
+        }
+        println!();
     }
 
-    /// How many lines have a ratio of at most 1.00, 1.05, 1.25 and above, by the lesser of both.
-    pub fn summary(&mut self) {
-        if self.worst.is_empty() {
-            return;
+    /// How many lines beside the original have a ratio above 1.00, 1.05 and 1.25, by the lesser of
+    /// both.
+    pub fn summary(&self) {
+        for (which, of) in ["exports", "the erased crate"].iter().enumerate() {
+            let groups = self
+                .groups
+                .iter()
+                .filter(|group| group.beside == "original");
+            let mut lines: Vec<(f64, String)> = groups
+                .flat_map(|group| group.lines[which].iter().map(move |line| (group, line)))
+                .map(|(group, line)| {
+                    (
+                        line.ratio.min(line.least),
+                        format!("{}: {}", group.title, line.name),
+                    )
+                })
+                .collect();
+            if lines.is_empty() {
+                continue;
+            }
+            lines.sort_by(|a, b| b.0.total_cmp(&a.0));
+            let above = |bound: f64| lines.iter().filter(|line| line.0 > bound).count();
+            let (one, some, much) = (above(1.005), above(1.05), above(1.25));
+            print!("\nOf {} lines of {of}, by the lesser ratio: ", lines.len());
+            println!("{one} above 1.00, {some} above 1.05, {much} above 1.25.\n");
+            for (ratio, name) in &lines[..one] {
+                println!("- {ratio:.2} {name}");
+            }
         }
-        self.worst.sort_by(|a, b| b.0.total_cmp(&a.0));
-        let above = |bound: f64| self.worst.iter().filter(|line| line.0 > bound).count();
-        println!(
-            "\nOf {} lines, by the lesser of both ratios: {} above 1.00, {} above 1.05, {} above 1.25.\n",
-            self.worst.len(),
-            above(1.005),
-            above(1.05),
-            above(1.25)
+    }
+
+    /// A picture of the tables by least times: the mean ratio as a bar to the left or right of 1.00,
+    /// and from the least to the greatest ratio as a line, on a logarithmic scale. Its colours are
+    /// for light and dark pages.
+    pub fn picture(&self) -> String {
+        const COLOURS: [&str; 2] = ["#3b82c4", "#c9822b"];
+        let place = |ratio: f64| 640.0 + 100.0 * ratio.clamp(0.125, 8.0).log2();
+        let bottom = 44 + 40 * self.groups.len();
+        let mut svg = format!(
+            r##"<svg xmlns="http://www.w3.org/2000/svg" viewBox="0 0 990 {}"
+  font-family="sans-serif" font-size="13" fill="#768390">
+<text x="4" y="20">time / time of the original, means and extremes</text>
+<text x="430" y="20" fill="{}">&#9632; exports of the static library</text>
+<text x="690" y="20" fill="{}">&#9632; the Rust crate, called directly</text>
+"##,
+            bottom + 30,
+            COLOURS[0],
+            COLOURS[1]
         );
-        for (ratio, name) in self.worst.iter().take_while(|line| line.0 > 1.005) {
-            println!("- {ratio:.2} {name}");
+        for tick in [0.125, 0.25, 0.5, 1.0, 2.0, 4.0, 8.0] {
+            let (x, y, width) = (
+                place(tick),
+                bottom + 18,
+                if tick == 1.0 { 2.0 } else { 0.5 },
+            );
+            svg += &format!(r##"<path d="M{x} 34V{bottom}" stroke="#768390" "##);
+            svg += &format!("stroke-width=\"{width}\"/>\n");
+            svg += &format!("<text x=\"{x}\" y=\"{y}\" text-anchor=\"middle\">{tick}</text>\n");
         }
+        for (group, top) in self.groups.iter().zip((44..).step_by(40)) {
+            let beside = match group.beside.as_str() {
+                "original" => String::new(),
+                other => format!(", beside {other}"),
+            };
+            svg += &format!(
+                "<text x=\"4\" y=\"{}\">{}{beside}</text>\n",
+                top + 18,
+                group.title
+            );
+            for (which, y) in [top, top + 15].into_iter().enumerate() {
+                let lines = group.lines[which].iter();
+                let mut ratios: Vec<f64> = lines.map(|line| line.least).collect();
+                ratios.sort_by(f64::total_cmp);
+                let (Some(least), Some(most)) = (ratios.first(), ratios.last()) else {
+                    continue;
+                };
+                let sum: f64 = ratios.iter().map(|ratio| ratio.ln()).sum();
+                let mean = (sum / ratios.len() as f64).exp();
+                let (from, to) = (place(mean.min(1.0)), place(mean.max(1.0)));
+                let (least, most, middle, base) = (place(*least), place(*most), y + 6, y + 10);
+                let (width, end) = ((to - from).max(1.0), to.max(most) + 4.0);
+                svg += &format!(r#"<rect x="{from:.1}" y="{y}" width="{width:.1}" height="12" "#);
+                svg += &format!("fill=\"{}\"/>\n", COLOURS[which]);
+                svg += &format!(r##"<path d="M{least:.1} {middle}H{most:.1}" stroke="#768390"/>"##);
+                svg += &format!("\n<text x=\"{end:.1}\" y=\"{base}\" font-size=\"11\">");
+                svg += &format!("{mean:.2}</text>\n");
+            }
+        }
+        svg + "</svg>\n"
     }
 }

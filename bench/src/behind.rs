@@ -1,15 +1,37 @@
 //! The original crate behind calls of the same shape: numbers in, the same tests of numbers and of
 //! lengths, a status out. No call is inlined.
 
-use crate::table::{AARCH64, LOONGARCH64, PPC64, RISCV, X86_64};
+use crate::direct::original;
+use crate::exports::{Calls, Row};
+use crate::library::{Deltas, Library, added};
+use crate::table::*;
 use linker_utils::elf::{
-    AArch64Instruction, LoongArch64Instruction, PageMask, Ppc64Instruction, RelocationInstruction,
-    RelocationKind, RelocationKindInfo, RelocationSize, RiscVInstruction,
+    AArch64Instruction, LoongArch64Instruction, Ppc64Instruction, RelocationKindInfo,
+    RiscVInstruction,
 };
 use linker_utils::relaxation::{RelocationModifier, SectionRelaxDeltas};
 use linker_utils::{aarch64, loongarch64, ppc64, riscv64, x86_64};
-use sathunne::raw::RelocationInfo;
+use std::hint::black_box;
 use std::slice;
+
+/// Rows, lists and relocations one by one are the crate's own calls.
+pub const BEHIND: Calls = Calls {
+    write,
+    read,
+    apply,
+    next_modifier,
+    relocation,
+    read_uleb128,
+    hi20_is_zero,
+    highest: highest_relocation_with_bias,
+    relocate: |machine, relocations, section| {
+        original::Direct.relocate(machine, relocations, section)
+    },
+    deltas: |list| Box::new(Behind(original::new(list.to_vec()))),
+    new_side: |list| original::Direct.new_side(list),
+    merge_side: |first, second| original::Direct.merge_side(first, second),
+    pack_side: |_, _, _| None,
+};
 
 const OK: u32 = 0;
 const UNKNOWN_FORM: u32 = 2;
@@ -27,54 +49,23 @@ enum Form {
     Ppc64(Ppc64Instruction),
 }
 
-#[inline(always)]
-fn form_of(machine: u16, form: u32) -> Option<Form> {
-    Some(match machine {
-        AARCH64 => Form::AArch64(match form {
-            0 => AArch64Instruction::Adr,
-            1 => AArch64Instruction::Movkz,
-            2 => AArch64Instruction::Movnz,
-            3 => AArch64Instruction::Ldr,
-            4 => AArch64Instruction::LdrRegister,
-            5 => AArch64Instruction::Add,
-            6 => AArch64Instruction::LdSt,
-            7 => AArch64Instruction::TstBr,
-            8 => AArch64Instruction::Bcond,
-            9 => AArch64Instruction::JumpCall,
-            10 => AArch64Instruction::MachOLow12,
-            _ => return None,
-        }),
-        RISCV => Form::RiscV(match form {
-            0 => RiscVInstruction::UType,
-            1 => RiscVInstruction::IType,
-            2 => RiscVInstruction::SType,
-            3 => RiscVInstruction::BType,
-            4 => RiscVInstruction::JType,
-            5 => RiscVInstruction::CbType,
-            6 => RiscVInstruction::CjType,
-            7 => RiscVInstruction::CluiType,
-            8 => RiscVInstruction::UiType,
-            _ => return None,
-        }),
-        LOONGARCH64 => Form::LoongArch64(match form {
-            0 => LoongArch64Instruction::Shift5,
-            1 => LoongArch64Instruction::Shift10,
-            2 => LoongArch64Instruction::Branch26,
-            3 => LoongArch64Instruction::Branch21,
-            4 => LoongArch64Instruction::Call30,
-            5 => LoongArch64Instruction::Call36,
-            _ => return None,
-        }),
-        PPC64 => Form::Ppc64(match form {
-            0 => Ppc64Instruction::D,
-            1 => Ppc64Instruction::Ds,
-            2 => Ppc64Instruction::Branch14,
-            3 => Ppc64Instruction::Branch24,
-            _ => return None,
-        }),
-        _ => return None,
-    })
+macro_rules! form_of {
+    ($($machine:ident $variant:ident $kind:ident {
+        $($number:literal $form:ident $values:tt $reads:ident),*
+    })*) => {
+        #[inline(always)]
+        fn form_of(machine: u16, form: u32) -> Option<Form> {
+            Some(match machine {
+                $($machine => Form::$variant(match form {
+                    $($number => $kind::$form,)*
+                    _ => return None,
+                }),)*
+                _ => return None,
+            })
+        }
+    };
 }
+forms!(form_of);
 
 #[inline(always)]
 fn window(form: Form) -> usize {
@@ -89,7 +80,7 @@ fn window(form: Form) -> usize {
 }
 
 #[inline(never)]
-pub unsafe extern "C" fn write(
+unsafe extern "C" fn write(
     machine: u16,
     form: u32,
     value: u64,
@@ -114,7 +105,7 @@ pub unsafe extern "C" fn write(
 }
 
 #[inline(never)]
-pub unsafe extern "C" fn read(
+unsafe extern "C" fn read(
     machine: u16,
     form: u32,
     bytes: *const u8,
@@ -260,7 +251,7 @@ fn bytes_of(rewrite: Rewrite) -> (u64, u64) {
 }
 
 #[inline(never)]
-pub unsafe extern "C" fn apply(
+unsafe extern "C" fn apply(
     machine: u16,
     rewrite: u32,
     n: u8,
@@ -295,12 +286,7 @@ pub unsafe extern "C" fn apply(
 }
 
 #[inline(never)]
-pub unsafe extern "C" fn next_modifier(
-    machine: u16,
-    rewrite: u32,
-    n: u8,
-    modifier: *mut u32,
-) -> u32 {
+unsafe extern "C" fn next_modifier(machine: u16, rewrite: u32, n: u8, modifier: *mut u32) -> u32 {
     let Some(rewrite) = rewrite_of(machine, rewrite, n) else {
         return UNKNOWN_REWRITE;
     };
@@ -320,13 +306,8 @@ pub unsafe extern "C" fn next_modifier(
     OK
 }
 
-/// What a relocation means, by its number in ELF files, as the crate itself says it.
 #[inline(never)]
-pub unsafe extern "C" fn relocation(
-    machine: u16,
-    r_type: u32,
-    row: *mut RelocationKindInfo,
-) -> u32 {
+unsafe extern "C" fn relocation(machine: u16, r_type: u32, row: *mut Row) -> u32 {
     let info = match machine {
         AARCH64 => aarch64::relocation_type_from_raw(r_type),
         RISCV => riscv64::relocation_type_from_raw(r_type),
@@ -337,76 +318,25 @@ pub unsafe extern "C" fn relocation(
     };
     match info {
         Some(info) => {
-            unsafe { row.write(info) };
+            unsafe { row.cast::<RelocationKindInfo>().write(info) };
             OK
         }
         None => UNKNOWN_RELOCATION,
     }
 }
 
-fn kind_number(kind: RelocationKind) -> u32 {
-    let name = format!("{kind:?}");
-    let ours = sathunne::RelocationKind::ALL.iter();
-    let ours = ours.copied().find(|known| format!("{known:?}") == name);
-    ours.expect("the same names").number()
-}
-
-/// The same as C sees it.
-pub fn flattened(info: &RelocationKindInfo) -> RelocationInfo {
-    let (is_bits, byte_size, first_bit, end_bit, machine, form) = match info.size {
-        RelocationSize::ByteSize(size) => (0, size, 0, 0, 0, 0),
-        RelocationSize::BitMasking { range, insn } => {
-            let (machine, form) = match insn {
-                RelocationInstruction::AArch64(form) => (AARCH64, format!("{form:?}")),
-                RelocationInstruction::RiscV(form) => (RISCV, format!("{form:?}")),
-                RelocationInstruction::LoongArch64(form) => (LOONGARCH64, format!("{form:?}")),
-                RelocationInstruction::Ppc64(form) => (PPC64, format!("{form:?}")),
-            };
-            let form = crate::table::FORMS
-                .iter()
-                .find(|known| known.machine == machine && known.name == form)
-                .expect("form")
-                .number;
-            (1, 0, range.start, range.end, machine, form)
-        }
-    };
-    let (min, max) = info.range.bounds.unwrap_or((0, 0));
-    RelocationInfo {
-        kind: kind_number(info.kind),
-        is_bits,
-        byte_size,
-        first_bit,
-        end_bit,
-        machine,
-        form,
-        mask: match info.mask {
-            None => 0,
-            Some(PageMask::SymbolPlusAddendAndPosition(_)) => 1,
-            Some(PageMask::GotEntryAndPosition(_)) => 2,
-            Some(PageMask::GotBase(_)) => 3,
-        },
-        has_range: u8::from(info.range.bounds.is_some()),
-        min,
-        max,
-        alignment: info.alignment,
-        bias: info.bias.map_or(0, |bias| bias.value()),
-        thunkable: u8::from(info.thunkable),
-        implicit_addend: u8::from(info.implicit_addend),
-    }
-}
-
 #[inline(never)]
-pub unsafe extern "C" fn hi20_is_zero(value: u64) -> bool {
+unsafe extern "C" fn hi20_is_zero(value: u64) -> bool {
     riscv64::RelaxationKind::hi20_is_zero(value)
 }
 
 #[inline(never)]
-pub unsafe extern "C" fn highest_relocation_with_bias(s: u64, pc: u64) -> u64 {
+unsafe extern "C" fn highest_relocation_with_bias(s: u64, pc: u64) -> u64 {
     loongarch64::highest_relocation_with_bias(s, pc)
 }
 
 #[inline(never)]
-pub unsafe extern "C" fn read_uleb128(
+unsafe extern "C" fn read_uleb128(
     bytes: *const u8,
     bytes_len: usize,
     value: *mut u64,
@@ -426,22 +356,12 @@ pub unsafe extern "C" fn read_uleb128(
 }
 
 #[inline(never)]
-pub fn new(raw: Vec<(u64, u32)>) -> SectionRelaxDeltas {
-    SectionRelaxDeltas::new(raw)
-}
-
-#[inline(never)]
-pub fn merge(deltas: &mut SectionRelaxDeltas, additional: Vec<(u64, u32)>) {
-    deltas.merge_additional(additional);
-}
-
-#[inline(never)]
-pub unsafe extern "C" fn input_to_output(deltas: &SectionRelaxDeltas, input_offset: u64) -> u64 {
+unsafe extern "C" fn input_to_output(deltas: &SectionRelaxDeltas, input_offset: u64) -> u64 {
     deltas.input_to_output_offset(input_offset)
 }
 
 #[inline(never)]
-pub unsafe extern "C" fn output_to_input(
+unsafe extern "C" fn output_to_input(
     deltas: &SectionRelaxDeltas,
     output_offset: u64,
     input_offset: *mut u64,
@@ -450,13 +370,28 @@ pub unsafe extern "C" fn output_to_input(
     OK
 }
 
-#[inline(never)]
-pub fn translate_all(deltas: &SectionRelaxDeltas, queries: &[u64], outputs: &mut [u64]) {
-    let mut cursor = deltas.cursor();
-    for (query, output) in queries.iter().zip(outputs) {
-        *output = cursor.translate(*query);
+struct Behind(SectionRelaxDeltas);
+
+impl Deltas for Behind {
+    fn inputs(&self, queries: &[u64]) -> u64 {
+        let translate: unsafe extern "C" fn(&SectionRelaxDeltas, u64) -> u64 =
+            black_box(input_to_output);
+        queries.iter().fold(0, |sum, query| {
+            added(sum, unsafe { translate(&self.0, *query) })
+        })
+    }
+
+    fn outputs(&self, queries: &[u64]) -> u64 {
+        let translate: unsafe extern "C" fn(&SectionRelaxDeltas, u64, *mut u64) -> u32 =
+            black_box(output_to_input);
+        let mut input = 0;
+        queries.iter().fold(0, |sum, query| {
+            unsafe { translate(&self.0, *query, &mut input) };
+            added(sum, input)
+        })
+    }
+
+    fn walk(&self, queries: &[u64], outputs: &mut [u64]) {
+        self.0.walk(queries, outputs);
     }
 }
-
-pub type Deltas = SectionRelaxDeltas;
-pub type Info = RelocationKindInfo;

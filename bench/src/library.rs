@@ -1,0 +1,100 @@
+//! What each of the compared sides does in a round.
+
+use crate::measure::Side;
+use crate::table::Rewrite;
+
+/// A value for a form, which its machine and number name.
+#[derive(Clone, Copy)]
+pub struct Value {
+    pub machine: u16,
+    pub form: u32,
+    pub value: u64,
+    pub negative: bool,
+}
+
+/// Which calls a round makes.
+#[derive(Clone, Copy)]
+pub enum Mix {
+    /// Those of one form or rewrite, by its index in the table.
+    One(usize),
+    /// Those of a machine at random.
+    All(u16),
+}
+
+/// A relocation to be applied.
+#[derive(Clone, Copy)]
+pub struct Relocation {
+    pub offset: usize,
+    pub r_type: u32,
+    pub value: i64,
+}
+
+/// Bytes between instructions: a window has at most eight.
+pub const WINDOW: usize = 8;
+/// Bytes of a section, in which the rewritten instruction stands at `SITE`.
+pub const SECTION: usize = 32;
+pub const SITE: u64 = 8;
+
+/// The next number made of a sum and what a call returned.
+#[inline(always)]
+pub fn added(sum: u64, number: u64) -> u64 {
+    sum.rotate_left(1) ^ number
+}
+
+/// The calls of a round, for each kind of call. Numbers are made of all that they return.
+pub trait Library {
+    fn write(&self, mix: Mix, values: &[Value], words: &mut [u8]);
+    fn read(&self, mix: Mix, values: &[Value], words: &[u8]) -> u64;
+    fn apply(&self, mix: Mix, rewrites: &[Rewrite], sections: &mut [u8]) -> u64;
+    fn rows(&self, machine: u16, r_types: &[u32]) -> u64;
+    /// Looks up each relocation, tests the value, cuts its bits and writes them. Whether all
+    /// succeed.
+    fn relocate(&self, machine: u16, relocations: &[Relocation], section: &mut [u8]) -> bool;
+    fn uleb128(&self, content: &[u8], count: usize) -> u64;
+    fn hi20_is_zero(&self, values: &[u64]) -> u64;
+    fn highest_relocation_with_bias(&self, values: &[u64]) -> u64;
+    fn deltas(&self, list: &[(u64, u32)]) -> Box<dyn Deltas>;
+    fn new_side<'a>(&self, list: &'a [(u64, u32)]) -> Side<'a>;
+    fn merge_side<'a>(&self, first: &'a [(u64, u32)], second: &'a [(u64, u32)]) -> Side<'a>;
+
+    // what not every side has
+
+    /// The whole text of a row.
+    fn row(&self, _machine: u16, _r_type: u32) -> Option<String> {
+        None
+    }
+    /// `relocate` as one call of the library's.
+    fn relocate_all(&self) -> Option<fn(u16, &[Relocation], &mut [u8]) -> bool> {
+        None
+    }
+    fn modifiers(&self, _rewrites: &[Rewrite]) -> Option<u64> {
+        None
+    }
+    fn words(&self, _content: &[u8]) -> Option<u64> {
+        None
+    }
+    fn strings(&self, _content: &[u8]) -> Option<u64> {
+        None
+    }
+    /// A section packed with its calls made jumps, beside a copy of as many bytes.
+    fn pack_side<'a>(
+        &self,
+        _: &'a [u8],
+        _: &[(u64, u32)],
+        _: &'a [(u64, u64)],
+    ) -> Option<Side<'a>> {
+        None
+    }
+}
+
+/// Deletions of a section.
+pub trait Deltas {
+    fn inputs(&self, queries: &[u64]) -> u64;
+    fn outputs(&self, queries: &[u64]) -> u64;
+    /// By a cursor.
+    fn walk(&self, queries: &[u64], outputs: &mut [u64]);
+    /// The same deletions, searched by the heads of their blocks.
+    fn by_heads(&self) -> Option<Box<dyn Deltas>> {
+        None
+    }
+}
