@@ -16,7 +16,6 @@ pub trait AsChoice: Copy {
 }
 
 impl AsChoice for bool {
-
     #[inline(always)]
     fn as_choice(self) -> bool {
         self
@@ -29,7 +28,6 @@ impl AsChoice for bool {
 }
 
 impl AsChoice for u8 {
-
     #[inline(always)]
     fn as_choice(self) -> bool {
         self != 0
