@@ -699,7 +699,7 @@ static void call_deltas_merge(void) {
     finish_buffers(false);
     uint32_t status = CALL(deltas_merge, DELTAS(listed), DELETIONS(additional), DELTAS(merged),
                            faulty);
-    expect((status == LINKER_UTILS_OUT_OF_MEMORY) == was_refused, "takes a refusal otherwise");
+    expect((status == LINKER_UTILS_OUT_OF_MEMORY) == was_refused, "returns out of memory, or not, against its allocations");
     if (merged_len != count + additional_len) {
         expect(status == LINKER_UTILS_DIFFERENT_LENGTHS, "writes to another length");
     } else if (!was_refused) {

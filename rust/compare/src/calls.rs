@@ -12,9 +12,9 @@ pub fn linker_utils_jal_site_nonnull(section: &mut [u8], site: u64, distance: i6
     call_status(riscv64::jal_site(section, site, distance))
 }
 
-/// Turns the call at a site into a jump to a target, in a section whose bytes stand where they stood
-/// before the deletions. The first that applies of `OutOfSection`, `SiteDeleted`, `OddDistance` and
-/// `TooFar`.
+/// Turns the call at a site into a jump to a target, in a section whose bytes stand where they
+/// stood before the deletions. The first that applies of `OutOfSection`, `SiteDeleted`,
+/// `OddDistance` and `TooFar`.
 pub fn linker_utils_relax_call_nonnull(
     section: &mut [u8],
     deltas: &[RelaxDelta],
