@@ -1,5 +1,5 @@
-/* Faults in the archive's functions, which hostile.c has to find. The environment's FAULT says which
- * of them is there. The linker has to be given --wrap for each function of FUNCTION. */
+/* Faults in the archive's functions, which hostile.c has to find. The environment's FAULT says
+ * which of them is there. The linker has to be given --wrap for each function of FUNCTION. */
 #include <stdlib.h>
 
 #include "linker_utils.h"

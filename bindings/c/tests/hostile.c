@@ -10,11 +10,11 @@
  * byte beyond what the call writes. The bytes around the buffers always stay. Memory that the
  * archive allocates stands before such a page too, and may not be touched once it is freed.
  *
- * That it finds mistakes is tested each time too: `run` links it with the faults of faults.c, and it
- * has to find each. By hand it was also compiled over three changed copies of the header, in which
- * `linker_utils_write` passed on `dest_len + 1`, `linker_utils_deltas_translate_all` a `faulty` that
- * is null, and `linker_utils_pack` the length that `packed` should have: each ended it with status 1
- * within 5,000 calls.
+ * That it finds mistakes is tested each time too: `run` links it with the faults of faults.c, and
+ * it has to find each. By hand it was also compiled over three changed copies of the header, in
+ * which `linker_utils_write` passed on `dest_len + 1`, `linker_utils_deltas_translate_all` a
+ * `faulty` that is null, and `linker_utils_pack` the length that `packed` should have: each ended
+ * it with status 1 within 5,000 calls.
  *
  * The linker has to be given --wrap for malloc, realloc, calloc, posix_memalign, aligned_alloc and
  * free, so that the archive's allocations are the ones below. */
@@ -699,7 +699,8 @@ static void call_deltas_merge(void) {
     finish_buffers(false);
     uint32_t status = CALL(deltas_merge, DELTAS(listed), DELETIONS(additional), DELTAS(merged),
                            faulty);
-    expect((status == LINKER_UTILS_OUT_OF_MEMORY) == was_refused, "takes a refusal otherwise");
+    expect((status == LINKER_UTILS_OUT_OF_MEMORY) == was_refused,
+           "returns out of memory, or not, against its allocations");
     if (merged_len != count + additional_len) {
         expect(status == LINKER_UTILS_DIFFERENT_LENGTHS, "writes to another length");
     } else if (!was_refused) {

@@ -17,10 +17,12 @@ const WITHOUT_MEANING: [&str; 7] = [
     "R_LARCH_TLS_DESC_PCREL20_S2",
 ];
 
-/// The names by types: lines `.. = named 283 (codes "R_..")` of a file of specifications.
+/// The names by types: lines `.. = named 283 (codes "R_..")` of a file of specifications, where long
+/// ones are broken after the equals sign.
 fn listed(file: &str) -> BTreeMap<u32, String> {
     let folder = Path::new(env!("CARGO_MANIFEST_DIR")).join("../../crates/linker_utils/specs");
     let specs = fs::read_to_string(folder.join(file)).expect("the list is there");
+    let specs = specs.replace(" =\n    named ", " = named ");
     let lines = specs
         .lines()
         .filter_map(|line| line.split_once(" = named "));

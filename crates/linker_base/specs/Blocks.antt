@@ -1,12 +1,14 @@
 -- Deltas in blocks of 64, and the head of each.
-use Rattle.std.specs.Prelude.{◌≡◌, ℕ, ◌+◌, ◌-◌, ◌*◌, ◌/◌, ◌%◌, ◌^◌, ◌<◌, List, length, slice_index_or}
+use Rattle.std.specs.Prelude.{◌≡◌, ℕ, ◌+◌, ◌-◌, ◌*◌, ◌/◌, ◌%◌, ◌^◌, ◌<◌, List, length}
+use Rattle.std.specs.Prelude.{slice_index_or}
 use Rattle.linker_base.specs.declared.relaxation.RelaxDelta.{RelaxDelta}
 use Rattle.linker_base.specs.declared.relaxation.blocks.BlockHead.{BlockHead}
 use Rattle.linker_base.specs.Listed.{AreValidDeltas}
 
 -- the offset less the bytes deleted before, modulo 2^64
 abbrev pub place_of : RelaxDelta → ℕ
-place_of delta = (delta.input_offset + delta.bytes_deleted + (2 ^ 64 - delta.cumulative_deleted)) % 2 ^ 64
+place_of delta =
+    (delta.input_offset + delta.bytes_deleted + (2 ^ 64 - delta.cumulative_deleted)) % 2 ^ 64
 
 -- how many blocks there are; the last may be shorter
 abbrev pub blocks_of : ℕ → ℕ
@@ -19,7 +21,8 @@ head_of delta = record { input_offset = delta.input_offset; output_place = place
 -- the heads of the blocks of the deltas
 pub record AreHeads (deltas : List RelaxDelta) (heads : List BlockHead) : Type 0 where
   pub count : length heads ≡ blocks_of (length deltas)
-  pub each : (b : ℕ) (h : BlockHead) (d : RelaxDelta) → b < length heads → slice_index_or heads b h ≡ head_of (slice_index_or deltas (64 * b) d)
+  pub each : (b : ℕ) (h : BlockHead) (d : RelaxDelta) → b < length heads
+      → slice_index_or heads b h ≡ head_of (slice_index_or deltas (64 * b) d)
 
 -- a list of deltas, and how many looks at it were counted
 pub record Counts : Type 0 where

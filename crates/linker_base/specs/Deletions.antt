@@ -1,5 +1,8 @@
--- Deletions in a section as pairs of an offset and a count of bytes, the positions that they leave, and how these are counted.
-use Rattle.std.specs.Prelude.{◌≡◌, ℕ, zero, suc, ◌+◌, ◌^◌, ◌<◌, ◌≤◌, List, Bool, not, ◌&&◌, ◌⊎◌, if◌then◌else◌, nat_le, nat_lt, IsTrue, All, Any, AllPairs, sum_by, count_by, IsPermutation}
+-- Deletions in a section as pairs of an offset and a count of bytes, the positions that they leave,
+-- and how these are counted.
+use Rattle.std.specs.Prelude.{◌≡◌, ℕ, zero, suc, ◌+◌, ◌^◌, ◌<◌, ◌≤◌, List, Bool, not, ◌&&◌, ◌⊎◌}
+use Rattle.std.specs.Prelude.{if◌then◌else◌, nat_le, nat_lt, IsTrue, All, Any, AllPairs, sum_by}
+use Rattle.std.specs.Prelude.{count_by, IsPermutation}
 use Rattle.std.specs.List.{list_any}
 
 -- the first deletion lies below the second

@@ -20,4 +20,5 @@ pairs_of batches = flat_map (λ batch. batch.items) batches
 -- the deltas record these deletions in this order, each with the bytes of all deletions up to it
 pub record RecordsDeletions (deletions : List (ℕ × ℕ)) (deltas : List RelaxDelta) : Type 0 where
   pub same : map deletion_of deltas ≡ deletions
-  pub sums : (k : ℕ) (d : RelaxDelta) → k < length deltas → (slice_index_or deltas k d).cumulative_deleted ≡ bytes_of (take (k + 1) deletions)
+  pub sums : (k : ℕ) (d : RelaxDelta) → k < length deltas
+      → (slice_index_or deltas k d).cumulative_deleted ≡ bytes_of (take (k + 1) deletions)

@@ -1,6 +1,9 @@
--- Instruction forms: where the bits of a value stand in the bytes of an instruction, and which number the machine reads
--- there. A form's window is its 2, 4 or 8 bytes as one little-endian number; bit j of its second word is bit 32 + j.
-use Rattle.std.specs.Prelude.{◌≡◌, ℕ, zero, suc, ◌+◌, ◌-◌, ◌*◌, ◌%◌, ◌^◌, ◌<◌, max, Bool, true, false, not, ◌&&◌, ◌||◌, ◌==◌, nat_lt, IsTrue, List, [], ◌∷◌, ⊤, ℤ, pos, int_lt}
+-- Instruction forms: where the bits of a value stand in the bytes of an instruction, and which
+-- number the machine reads there. A form's window is its 2, 4 or 8 bytes as one little-endian
+-- number; bit j of its second word is bit 32 + j.
+use Rattle.std.specs.Prelude.{◌≡◌, ℕ, zero, suc, ◌+◌, ◌-◌, ◌*◌, ◌%◌, ◌^◌, ◌<◌, max, Bool, true}
+use Rattle.std.specs.Prelude.{false, not, ◌&&◌, ◌||◌, ◌==◌, nat_lt, IsTrue, List, [], ◌∷◌, ⊤, ℤ}
+use Rattle.std.specs.Prelude.{pos, int_lt}
 use Rattle.std.specs.List.{All, list_any, sum_by}
 use Rattle.std.specs.Int.{Width, w64, cast_unsigned, bit_at, from_le_bytes, int_rem_euclid}
 use Rattle.linker_base.specs.Bits.{signed}
@@ -22,7 +25,8 @@ pub record ImmediateBit : Type 0 where
 -- n consecutive immediate bits, from value bit k and window bit w up
 abbrev pub consecutive_bits : ℕ → ℕ → ℕ → ℕ → Mark → List ImmediateBit
 consecutive_bits zero k w r m = []
-consecutive_bits (suc n) k w r m = record { value = k; insn_bit = w; added = r; mark = m } ∷ consecutive_bits n (k + 1) (w + 1) r m
+consecutive_bits (suc n) k w r m =
+    record { value = k; insn_bit = w; added = r; mark = m } ∷ consecutive_bits n (k + 1) (w + 1) r m
 
 -- value bits a to b, both included, at window bit c and up
 abbrev pub bits_to : ℕ → ℕ → ℕ → List ImmediateBit
@@ -56,7 +60,8 @@ is_placed places w = list_any (λ (p : ImmediateBit). p.insn_bit == w) places
 
 -- The window after is the window before with the bits of v at the places.
 pub record BitsWritten (places : List ImmediateBit) (v before after : ℕ) : Type 0 where
-  pub placed : All (λ (p : ImmediateBit). bit_at after p.insn_bit ≡ placed_bit p.mark (bit_for p v) (bit_at before p.insn_bit)) places
+  pub placed : All (λ (p : ImmediateBit). bit_at after p.insn_bit
+      ≡ placed_bit p.mark (bit_for p v) (bit_at before p.insn_bit)) places
   pub kept : (w : ℕ) → is_placed places w ≡ false → bit_at after w ≡ bit_at before w
 
 -- a place that holds a bit of the value
@@ -92,7 +97,8 @@ worth replaced k b = 2 ^ k * b
 
 -- the number that stands at the places of the window x
 unfoldable pub place_sum : List ImmediateBit → ℕ → ℕ
-place_sum places x = sum_by (λ (p : ImmediateBit). worth p.mark p.value (bit_at x p.insn_bit)) places
+place_sum places x =
+    sum_by (λ (p : ImmediateBit). worth p.mark p.value (bit_at x p.insn_bit)) places
 
 -- the places that are only ORed hold 0
 abbrev pub is_clear_at : Mark → ℕ → Bool
@@ -101,13 +107,15 @@ is_clear_at replaced b = true
 is_clear_at cleared b = true
 
 abbrev pub IsClear : List ImmediateBit → ℕ → Type 0
-IsClear places x = All (λ (p : ImmediateBit). IsTrue (is_clear_at p.mark (bit_at x p.insn_bit))) places
+IsClear places x =
+    All (λ (p : ImmediateBit). IsTrue (is_clear_at p.mark (bit_at x p.insn_bit))) places
 
 -- a and b leave the same remainder by 2 ^ n
 abbrev pub IsSameModulo : ℕ → ℤ → ℤ → Type 0
 IsSameModulo n a b = int_rem_euclid a (pos (2 ^ n)) ≡ int_rem_euclid b (pos (2 ^ n))
 
--- How near the machine's number has to come: the same number, the same modulo 2 ^ n, or nothing is claimed of it.
+-- How near the machine's number has to come: the same number, the same modulo 2 ^ n, or nothing is
+-- claimed of it.
 pub data Claim : Type 0 where
   exactly : Claim
   modulo : ℕ → Claim
@@ -159,9 +167,11 @@ Written form v neg before after =
 -- the machine reads what it has to, where the places that are only ORed held 0
 abbrev pub MachineReads : Form → ℕ → Bool → ℕ → ℕ → Type 0
 MachineReads form v neg before after =
-    IsClear (form.places before) before → IsSameBy form.claim (form.machine after) (form.wanted neg before v)
+    IsClear (form.places before) before
+    → IsSameBy form.claim (form.machine after) (form.wanted neg before v)
 
--- The value and the flag are those that reading the window returns, the value modulo 2 to the form's width.
+-- The value and the flag are those that reading the window returns, the value modulo 2 to the
+-- form's width.
 pub record IsReadBack (form : Form) (v : ℕ) (neg : Bool) (before : ℕ) : Type 0 where
   pub restores : IsTrue (form.restores before)
   pub value : v ≡ cast_unsigned w64 (form.reading before) % 2 ^ form.width before
@@ -172,16 +182,20 @@ pub record IsReadBack (form : Form) (v : ℕ) (neg : Bool) (before : ℕ) : Type
 -- Each bit that is neither at a place nor in the opcode that the form sets is the old one.
 abbrev pub OtherBitsUnchanged : Form → ℕ → ℕ → Type 0
 OtherBitsUnchanged form before after =
-    (w : ℕ) → is_placed (form.places before) w ≡ false → form.opcode w ≡ false → bit_at after w ≡ bit_at before w
+    (w : ℕ) → is_placed (form.places before) w ≡ false → form.opcode w ≡ false
+    → bit_at after w ≡ bit_at before w
 
 -- A write keeps the other bits.
 abbrev pub WriteKeepsOtherBits : Form → Type 0
-WriteKeepsOtherBits form = (v : ℕ) (neg : Bool) (before after : ℕ) → Written form v neg before after → OtherBitsUnchanged form before after
+WriteKeepsOtherBits form =
+    (v : ℕ) (neg : Bool) (before after : ℕ) → Written form v neg before after
+    → OtherBitsUnchanged form before after
 
 -- Writing back what was read changes nothing.
 abbrev pub WriteBackChangesNothing : Form → Type 0
 WriteBackChangesNothing form =
-    (v : ℕ) (neg : Bool) (before after : ℕ) → v < 2 ^ 64 → Written form v neg before after → IsReadBack form v neg before → after ≡ before
+    (v : ℕ) (neg : Bool) (before after : ℕ) → v < 2 ^ 64 → Written form v neg before after
+    → IsReadBack form v neg before → after ≡ before
 
 -- ---- forms of one field
 
@@ -207,7 +221,8 @@ pub record Field : Type 0 where
   -- how `read_value` reads the number, and whether its flag says that the number is below 0
   pub read : Sign
   pub flags : Bool
-  -- how the machine reads the number, and how near that comes to the value without its bits below bit `low`
+  -- how the machine reads the number, and how near that comes to the value without its bits below
+  -- bit `low`
   pub machine : Sign
   pub claim : Claim
   -- where bits `low` and up, below bit `bits`, stand
@@ -230,10 +245,21 @@ field_form d =
       claim = d.claim;
     }
 
--- Every value is written. The machine reads n bits in two's complement, those of the value from bit `low` up.
+-- Every value is written. The machine reads n bits in two's complement, those of the value from bit
+-- `low` up.
 abbrev pub signed_field : Width → ℕ → ℕ → List ImmediateBit → Field
 signed_field w n low ps =
-    record { window = w; width = 64; bits = n; low = low; read = twos_complement; flags = true; machine = twos_complement; claim = modulo n; places = ps }
+    record {
+      window = w;
+      width = 64;
+      bits = n;
+      low = low;
+      read = twos_complement;
+      flags = true;
+      machine = twos_complement;
+      claim = modulo n;
+      places = ps;
+    }
 
 -- What gives a form: one field, or a definition of its own.
 pub data Layout : Type 0 where

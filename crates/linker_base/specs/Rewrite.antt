@@ -1,5 +1,7 @@
--- Rewrites of instructions: the window of bytes that a rewrite changes, what it needs there, and what it leaves.
-use Rattle.std.specs.Prelude.{ℕ, ◌+◌, ◌-◌, ◌≤◌, Bool, true, IsTrue, List, ◌++◌, length, take, drop, Option, None, Some, ℤ, ⊤}
+-- Rewrites of instructions: the window of bytes that a rewrite changes, what it needs there, and
+-- what it leaves.
+use Rattle.std.specs.Prelude.{ℕ, ◌+◌, ◌-◌, ◌≤◌, Bool, true, IsTrue, List, ◌++◌, length, take, drop}
+use Rattle.std.specs.Prelude.{Option, None, Some, ℤ, ⊤}
 
 -- A rewrite at an offset o of a section.
 pub record Rewrite : Type 0 where
@@ -17,7 +19,15 @@ pub record Rewrite : Type 0 where
 
 -- a rewrite that takes every window, and leaves the offset and the addend as they are
 abbrev pub replaces : ℕ → ℕ → (List ℕ → List ℕ) → Rewrite
-replaces back len bytes = record { back = back; len = len; admits = λ _. true; bytes = bytes; offset = λ o. o; addend = λ a. a }
+replaces back len bytes =
+    record {
+      back = back;
+      len = len;
+      admits = λ _. true;
+      bytes = bytes;
+      offset = λ o. o;
+      addend = λ a. a;
+    }
 
 abbrev pub rewrite_window : Rewrite → List ℕ → ℕ → List ℕ
 rewrite_window r section o = take r.len (drop (o - r.back) section)
@@ -36,7 +46,9 @@ CanRewrite (Some r) section o = IsRewritable r section o
 -- the section after
 abbrev pub rewritten : Option Rewrite → List ℕ → ℕ → List ℕ
 rewritten None section o = section
-rewritten (Some r) section o = take (o - r.back) section ++ r.bytes (rewrite_window r section o) ++ drop (o - r.back + r.len) section
+rewritten (Some r) section o =
+    take (o - r.back) section ++ r.bytes (rewrite_window r section o)
+    ++ drop (o - r.back + r.len) section
 
 abbrev pub offset_after : Option Rewrite → ℕ → ℕ
 offset_after None o = o

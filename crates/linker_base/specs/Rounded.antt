@@ -1,11 +1,13 @@
 -- Forms that hold a rounded value: the bits of the value plus a constant stand at the places.
-use Rattle.std.specs.Prelude.{ℕ, ◌+◌, ◌-◌, ◌%◌, ◌^◌, Bool, true, false, ◌&&◌, List, pos, ◌-ℤ◌, int_lt}
+use Rattle.std.specs.Prelude.{ℕ, ◌+◌, ◌-◌, ◌%◌, ◌^◌, Bool, true, false, ◌&&◌, List, pos, ◌-ℤ◌}
+use Rattle.std.specs.Prelude.{int_lt}
 use Rattle.std.specs.Int.{Width}
 use Rattle.linker_base.specs.Bits.{signed}
 use Rattle.linker_base.specs.Form.{ImmediateBit, Form, place_sum, modulo}
 
--- Every value is written. The machine reads n bits in two's complement, those of the value plus r from bit `low` up.
--- `read_value` takes r off again, and flags a number that the machine reads below 0 where `flags`.
+-- Every value is written. The machine reads n bits in two's complement, those of the value plus r
+-- from bit `low` up. `read_value` takes r off again, and flags a number that the machine reads
+-- below 0 where `flags`.
 abbrev pub rounded_immediate : Width → ℕ → ℕ → ℕ → Bool → List ImmediateBit → Form
 rounded_immediate w n low r flags ps =
     record {

@@ -1,4 +1,5 @@
--- The deletions of several sections, as a finite map from section index to deletions, and as the sorted entries that hold it.
+-- The deletions of several sections, as a finite map from section index to deletions, and as the
+-- sorted entries that hold it.
 use Rattle.std.specs.Prelude.{◌≡◌, ℕ, ◌<◌, ◌≤◌, List, length, IsTrue, AllPairs, HoldsAt}
 use Rattle.std.specs.List.{AllWithin}
 use Rattle.std.specs.Ordering.{nat_cmp}

@@ -1,4 +1,5 @@
--- ULEB128: a number in groups of seven bits, the lowest group first. A byte of 0x80 or more is not the last.
+-- ULEB128: a number in groups of seven bits, the lowest group first. A byte of 0x80 or more is not
+-- the last.
 use Rattle.std.specs.Prelude.{◌≡◌, ℕ, ◌+◌, ◌*◌, ◌%◌, ◌^◌, ◌<◌, ◌≤◌, List, length, drop, slice_index}
 use Rattle.std.specs.Int.{sum_through}
 
@@ -10,7 +11,8 @@ AllContinue k bytes = (j : ℕ) → j < k → 0x80 ≤ slice_index bytes j
 abbrev pub uleb_number : List ℕ → ℕ → ℕ
 uleb_number bytes last = sum_through (λ j. slice_index bytes j % 128 * 128 ^ j) last
 
--- the bytes begin with the number n, and rest follows it. It takes ten bytes at most, the tenth 0 or 1
+-- the bytes begin with the number n, and rest follows it. It takes ten bytes at most, the tenth 0
+-- or 1
 pub record Uleb (bytes : List ℕ) (n : ℕ) (rest : List ℕ) : Type 0 where
   pub last : ℕ
   pub there : last < length bytes
@@ -34,4 +36,5 @@ pub record UlebTooLarge (bytes : List ℕ) : Type 0 where
 
 -- bytes begin with one number at most, and one rest follows it
 abbrev pub HasOneReading : Type 0
-HasOneReading = (bytes : List ℕ) (m n : ℕ) (x y : List ℕ) → Uleb bytes m x → Uleb bytes n y → (m ≡ n) × (x ≡ y)
+HasOneReading =
+    (bytes : List ℕ) (m n : ℕ) (x y : List ℕ) → Uleb bytes m x → Uleb bytes n y → (m ≡ n) × (x ≡ y)

@@ -1,5 +1,6 @@
 -- A cursor's walk through the deletions of a section.
-use Rattle.std.specs.Prelude.{◌≡◌, ◌⊎◌, ℕ, ◌-◌, ◌<◌, ◌≤◌, List, length, slice_index, take, max, fold, All}
+use Rattle.std.specs.Prelude.{◌≡◌, ◌⊎◌, ℕ, ◌-◌, ◌<◌, ◌≤◌, List, length, slice_index, take, max}
+use Rattle.std.specs.Prelude.{fold, All}
 use Rattle.std.specs.List.Sorted.{IsNonDecreasing}
 use Rattle.linker_base.specs.Deletions.{bytes_of, begun_below, rank}
 
@@ -18,7 +19,8 @@ passed_bytes walk = bytes_of (take walk.passed walk.deletions)
 
 -- the walk after a query at i: what begins strictly below i is passed, and what was passed stays so
 abbrev pub walk_to : Walk → ℕ → Walk
-walk_to walk i = record { deletions = walk.deletions; passed = max walk.passed (begun_below walk.deletions i) }
+walk_to walk i =
+    record { deletions = walk.deletions; passed = max walk.passed (begun_below walk.deletions i) }
 
 -- the walk after several queries, one after the other
 abbrev pub walk_through : Walk → List ℕ → Walk

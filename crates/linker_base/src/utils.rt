@@ -1,5 +1,7 @@
 //! Little-endian words, byte masks, and readers of words, strings and ULEB128 numbers.
-ghost use Rattle.std.specs.Prelude.{◌≡◌, ℕ, ◌<◌, ◌≤◌, ◌==◌, ◌⊎◌, List, length, drop, slice_index, EachIndex, bit_and, bit_or, codes, Contains, IsErr, IfOk, OnOk, OnErr};
+ghost use Rattle.std.specs.Prelude.{◌≡◌, ℕ, ◌<◌, ◌≤◌, ◌==◌, ◌⊎◌, List, length, drop, slice_index};
+ghost use Rattle.std.specs.Prelude.{EachIndex, bit_and, bit_or, codes, Contains, IsErr, IfOk, OnOk};
+ghost use Rattle.std.specs.Prelude.{OnErr};
 ghost use Rattle.std.specs.Int.{from_le_bytes, w32, w64};
 ghost use Rattle.std.specs.Str.{encode_utf8_all};
 ghost use Rattle.std.specs.String.{string_bytes};

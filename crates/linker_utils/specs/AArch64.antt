@@ -1,9 +1,13 @@
--- AArch64: its instruction forms (Arm Architecture Reference Manual for A-profile, DDI 0487, C6.2 and C7.2), its rewrites and
--- the moves that load an address.
-use Rattle.std.specs.Prelude.{ℕ, ◌+◌, ◌-◌, ◌*◌, ◌/◌, ◌%◌, ◌^◌, Bool, true, false, not, ◌&&◌, ◌||◌, ◌==◌, if◌then◌else◌, List, ◌++◌, drop, Option, None, Some, ℤ, pos, negsuc, nat_lt, bit_and}
+-- AArch64: its instruction forms (Arm Architecture Reference Manual for A-profile, DDI 0487, C6.2
+-- and C7.2), its rewrites and the moves that load an address.
+use Rattle.std.specs.Prelude.{ℕ, ◌+◌, ◌-◌, ◌*◌, ◌/◌, ◌%◌, ◌^◌, Bool, true, false, not, ◌&&◌, ◌||◌}
+use Rattle.std.specs.Prelude.{◌==◌, if◌then◌else◌, List, ◌++◌, drop, Option, None, Some, ℤ, pos}
+use Rattle.std.specs.Prelude.{negsuc, nat_lt, bit_and}
 use Rattle.std.specs.Int.{w32, w64, bit_at, from_le_bytes, to_le_bytes}
 use Rattle.linker_base.specs.Bits.{field}
-use Rattle.linker_base.specs.Form.{Form, ImmediateBit, bits_to, or_bits_to, place_sum, Layout, one_field, own_form, form_of, Sign, unsigned, twos_complement, exactly, modulo}
+use Rattle.linker_base.specs.Form.{Form, ImmediateBit, bits_to, or_bits_to, place_sum, Layout}
+use Rattle.linker_base.specs.Form.{one_field, own_form, form_of, Sign, unsigned, twos_complement}
+use Rattle.linker_base.specs.Form.{exactly, modulo}
 use Rattle.linker_base.specs.Rewrite.{Rewrite, replaces}
 use Rattle.linker_base.specs.declared.relaxation.RelocationModifier.{RelocationModifier}
 use Rattle.linker_base.specs.declared.relaxation.RelocationModifier.TheVariants.{Normal}
@@ -40,7 +44,8 @@ moved_bits negative v = if negative then 65535 - v % 2 ^ 16 else v % 2 ^ 16
 
 -- what the bits come to after the shift
 abbrev pub moved_value : Bool → ℕ → ℕ → ℤ
-moved_value negative bits shift = if negative then negsuc (bits * 2 ^ shift) else pos (bits * 2 ^ shift)
+moved_value negative bits shift =
+    if negative then negsuc (bits * 2 ^ shift) else pos (bits * 2 ^ shift)
 
 -- The opcode, bits 23 and up, goes by the flag. The machine complements what MOVN holds.
 abbrev pub movnz : Form
@@ -55,7 +60,8 @@ movnz =
       reading = λ x. moved_value (bit_at x 30 == 0) (place_sum imm16_places x) 0;
       flag = λ x. bit_at x 30 == 0;
       restores = λ x. opcode_of x == movn_opcode || opcode_of x == movz_opcode;
-      machine = λ x. moved_value (opcode_of x == movn_opcode) (place_sum imm16_places x) (shift_of x);
+      machine =
+          λ x. moved_value (opcode_of x == movn_opcode) (place_sum imm16_places x) (shift_of x);
       wanted = λ negative before v. moved_value negative (moved_bits negative v) (shift_of before);
       claim = exactly;
     }
@@ -72,7 +78,8 @@ is_of_16_bytes word = field word 30 32 == 0 && (bit_at word 26 == 1 && bit_at wo
 
 -- log2 of the bytes in a unit of the offset
 abbrev pub access_scale : ℕ → ℕ
-access_scale word = if has_scaled_offset word then (if is_of_16_bytes word then 4 else field word 30 32) else 0
+access_scale word =
+    if has_scaled_offset word then (if is_of_16_bytes word then 4 else field word 30 32) else 0
 
 abbrev pub low12_places : ℕ → List ImmediateBit
 low12_places scale = bits_to scale (scale + 11) 10
@@ -114,7 +121,18 @@ signed_immediate n ps =
 -- n bits, which the machine reads without a sign; `read_value` reads them by one
 abbrev pub unsigned_immediate : Sign → ℕ → List ImmediateBit → Layout
 unsigned_immediate read n ps =
-    one_field (record { window = w32; width = n; bits = n; low = 0; read = read; flags = false; machine = unsigned; claim = exactly; places = ps })
+    one_field
+    (record {
+      window = w32;
+      width = n;
+      bits = n;
+      low = 0;
+      read = read;
+      flags = false;
+      machine = unsigned;
+      claim = exactly;
+      places = ps;
+    })
 
 abbrev pub aarch64_layout : AArch64Instruction → Layout
 aarch64_layout Adr = signed_immediate 21 (or_bits_to 0 1 29 ++ or_bits_to 2 20 5)
@@ -174,7 +192,8 @@ aarch64_rewrite ReplaceWithNop = Some (rewrites_word (λ _. nop))
 aarch64_rewrite MovzX0Lsl16 = Some (rewrites_word (λ _. 0xd2a00000))
 aarch64_rewrite MovkX0 = Some (rewrites_word (λ _. 0xf2800000))
 aarch64_rewrite MovzXnLsl16 = Some (rewrites_word (λ word. 0xd2a00000 + rd_of word))
-aarch64_rewrite MovkXn = Some (rewrites_where (λ word. rn_of word == rd_of word) (λ word. 0xf2800000 + rd_of word))
+aarch64_rewrite MovkXn =
+    Some (rewrites_where (λ word. rn_of word == rd_of word) (λ word. 0xf2800000 + rd_of word))
 aarch64_rewrite AdrpToAdr = Some (rewrites_word (λ word. bit_and word 0x7fffffff))
 aarch64_rewrite AdrpX0 = Some (rewrites_word (λ _. 0x90000000))
 aarch64_rewrite LdrX0 = Some (rewrites_word (λ _. 0xf9400000))
@@ -195,8 +214,10 @@ mov_word opcode rd bits = opcode + bits * 2 ^ 5 + rd
 -- MOVZ of the lowest 16 bits of v, then MOVK of the next, of those after them and of the highest
 abbrev pub mov_words : ℕ → ℕ → List ℕ
 mov_words rd v =
-    to_le_bytes w32 (mov_word 0xd2800000 rd (field v 0 16)) ++ to_le_bytes w32 (mov_word 0xf2a00000 rd (field v 16 32))
-    ++ to_le_bytes w32 (mov_word 0xf2c00000 rd (field v 32 48)) ++ to_le_bytes w32 (mov_word 0xf2e00000 rd (field v 48 64))
+    to_le_bytes w32 (mov_word 0xd2800000 rd (field v 0 16))
+    ++ to_le_bytes w32 (mov_word 0xf2a00000 rd (field v 16 32))
+    ++ to_le_bytes w32 (mov_word 0xf2c00000 rd (field v 32 48))
+    ++ to_le_bytes w32 (mov_word 0xf2e00000 rd (field v 48 64))
 
 abbrev pub is_move : ℕ → ℕ → ℕ → Bool
 is_move opcode rd word = opcode_of word == opcode && rd_of word == rd
@@ -216,10 +237,12 @@ movk v word = with_bits v (shift_of word) (imm_of word)
 -- what the four moves leave in register rd, if they are MOVZ and three MOVK into it
 abbrev pub moved4 : ℕ → ℕ → ℕ → ℕ → ℕ → Option ℕ
 moved4 rd a b c d =
-    if is_move movz_opcode rd a && (is_move movk_opcode rd b && (is_move movk_opcode rd c && is_move movk_opcode rd d))
+    if is_move movz_opcode rd a
+    && (is_move movk_opcode rd b && (is_move movk_opcode rd c && is_move movk_opcode rd d))
     then Some (movk (movk (movk (imm_of a * 2 ^ shift_of a) b) c) d) else None
 
 -- the same of the four instructions that the bytes begin with
 abbrev pub mov4 : ℕ → List ℕ → Option ℕ
 mov4 rd bytes =
-    moved4 rd (from_le_bytes w32 bytes) (from_le_bytes w32 (drop 4 bytes)) (from_le_bytes w32 (drop 8 bytes)) (from_le_bytes w32 (drop 12 bytes))
+    moved4 rd (from_le_bytes w32 bytes) (from_le_bytes w32 (drop 4 bytes))
+    (from_le_bytes w32 (drop 8 bytes)) (from_le_bytes w32 (drop 12 bytes))

@@ -1,7 +1,9 @@
--- When the row of a relocation agrees with the machine: the bits of a value that the row names, once written into its
--- instruction, are read as those bits of the value. Rows of whole bytes have no instruction; those of a half or of the whole
--- of an instruction pair agree together, as the contracts of the writes of pairs say. And when a row's bits fit its form.
-use Rattle.std.specs.Prelude.{◌≡◌, ℕ, ◌-◌, ◌^◌, ◌<◌, ◌≤◌, Bool, true, false, Option, Some, None, ℤ, pos, int_lt, ⊤}
+-- When the row of a relocation agrees with the machine: the bits of a value that the row names,
+-- once written into its instruction, are read as those bits of the value. Rows of whole bytes have
+-- no instruction; those of a half or of the whole of an instruction pair agree together, as the
+-- contracts of the writes of pairs say. And when a row's bits fit its form.
+use Rattle.std.specs.Prelude.{◌≡◌, ℕ, ◌-◌, ◌^◌, ◌<◌, ◌≤◌, Bool, true, false, Option, Some, None, ℤ}
+use Rattle.std.specs.Prelude.{pos, int_lt, ⊤}
 use Rattle.std.specs.Int.{int_div_euclid, int_rem_euclid}
 use Rattle.linker_base.specs.Bits.{field}
 use Rattle.linker_base.specs.Form.{Form, Fits, Written, IsClear, IsSameModulo}
@@ -14,14 +16,17 @@ use Rattle.linker_utils.specs.RiscV.{riscv_form}
 use Rattle.linker_utils.specs.declared.elf.AArch64Instruction.{AArch64Instruction}
 use Rattle.linker_utils.specs.declared.elf.AArch64Instruction.TheVariants.{Movnz}
 use Rattle.linker_utils.specs.declared.elf.LoongArch64Instruction.{LoongArch64Instruction}
-use Rattle.linker_utils.specs.declared.elf.LoongArch64Instruction.TheVariants.{Shift5, Shift10, Call30, Call36}
+use Rattle.linker_utils.specs.declared.elf.LoongArch64Instruction.TheVariants.{Shift5, Shift10}
+use Rattle.linker_utils.specs.declared.elf.LoongArch64Instruction.TheVariants.{Call30, Call36}
 use Rattle.linker_utils.specs.declared.elf.RelocationInstruction.{RelocationInstruction}
-use Rattle.linker_utils.specs.declared.elf.RelocationInstruction.TheVariants.{RiscV, Ppc64, LoongArch64, AArch64}
+use Rattle.linker_utils.specs.declared.elf.RelocationInstruction.TheVariants.{RiscV, Ppc64}
+use Rattle.linker_utils.specs.declared.elf.RelocationInstruction.TheVariants.{LoongArch64, AArch64}
 use Rattle.linker_utils.specs.declared.elf.RelocationKindInfo.{RelocationKindInfo}
 use Rattle.linker_utils.specs.declared.elf.RelocationSize.{RelocationSize}
 use Rattle.linker_utils.specs.declared.elf.RelocationSize.TheVariants.{ByteSize, BitMasking}
 use Rattle.linker_utils.specs.declared.elf.RiscVInstruction.{RiscVInstruction}
-use Rattle.linker_utils.specs.declared.elf.RiscVInstruction.TheVariants.{UType, IType, SType, CluiType, UiType}
+use Rattle.linker_utils.specs.declared.elf.RiscVInstruction.TheVariants.{UType, IType, SType}
+use Rattle.linker_utils.specs.declared.elf.RiscVInstruction.TheVariants.{CluiType, UiType}
 use Rattle.linker_utils.specs.declared.loongarch64.relocations.LoongArch64Relocation.{LoongArch64Relocation}
 use Rattle.linker_utils.specs.declared.loongarch64.relocations.LoongArch64Relocation.TheVariants.{R_LARCH_PCREL20_S2, R_LARCH_B16}
 
@@ -38,11 +43,13 @@ abbrev pub IsSameIn : Option (ℤ × ℤ) → ℕ → ℤ → ℤ → Type 0
 IsSameIn (Some bounds) n a b = a ≡ b
 IsSameIn None n a b = IsSameModulo n a b
 
--- Every aligned value within bounds, of which the bits of a range are written with its sign, is read from that range's start
--- up. `Ready` tells of the window before; `reads` is the number read of the window after, in units of the range's start.
+-- Every aligned value within bounds, of which the bits of a range are written with its sign, is
+-- read from that range's start up. `Ready` tells of the window before; `reads` is the number read
+-- of the window after, in units of the range's start.
 abbrev pub Agrees : Form → (ℕ → Type 0) → (ℕ → ℤ) → BitRange → Option (ℤ × ℤ) → ℕ → Type 0
 Agrees form Ready reads bits bounds alignment =
-    (v : ℤ) (f before after : ℕ) → IsWithin bounds v → int_rem_euclid v (pos alignment) ≡ pos 0 → IsFieldOf v bits.start bits.end f
+    (v : ℤ) (f before after : ℕ) → IsWithin bounds v → int_rem_euclid v (pos alignment) ≡ pos 0
+    → IsFieldOf v bits.start bits.end f
     → Ready before → Written form f (int_lt v (pos 0)) before after
     → IsSameIn bounds (bits.end - bits.start) (reads after) (bits_from bits.start v)
 
@@ -70,8 +77,8 @@ is_of_halves f = false
 
 -- ---- LoongArch
 
--- `pcaddi` and the branches with 16 bits read their immediate in two's complement. The other relocations of 20 and of 12
--- bits name a part of a value, which the immediate holds as it stands.
+-- `pcaddi` and the branches with 16 bits read their immediate in two's complement. The other
+-- relocations of 20 and of 12 bits name a part of a value, which the immediate holds as it stands.
 abbrev pub reads_signed : LoongArch64Relocation → Bool
 reads_signed R_LARCH_PCREL20_S2 = true
 reads_signed R_LARCH_B16 = true
@@ -97,15 +104,21 @@ is_of_words f = false
 
 -- an instruction of one architecture, by the sign that LoongArch's relocations give its immediates
 abbrev pub InstructionAgrees : Bool → RelocationInstruction → BitRange → Option (ℤ × ℤ) → ℕ → Type 0
-InstructionAgrees is_signed (AArch64 f) bits bounds a = Agrees (aarch64_form f) (AArch64Ready f bits.start) (aarch64_reads f bits.start) bits bounds a
-InstructionAgrees is_signed (RiscV f) bits bounds a = is_of_halves f ≡ false → Agrees (riscv_form f) (λ x. ⊤) (riscv_form f).machine bits bounds a
-InstructionAgrees is_signed (Ppc64 f) bits bounds a = Agrees (ppc64_form f) (λ x. ⊤) (ppc64_form f).machine bits bounds a
+InstructionAgrees is_signed (AArch64 f) bits bounds a =
+    Agrees (aarch64_form f) (AArch64Ready f bits.start) (aarch64_reads f bits.start) bits bounds a
+InstructionAgrees is_signed (RiscV f) bits bounds a =
+    is_of_halves f ≡ false → Agrees (riscv_form f) (λ x. ⊤) (riscv_form f).machine bits bounds a
+InstructionAgrees is_signed (Ppc64 f) bits bounds a =
+    Agrees (ppc64_form f) (λ x. ⊤) (ppc64_form f).machine bits bounds a
 InstructionAgrees is_signed (LoongArch64 f) bits bounds a =
-    is_of_words f ≡ false → Agrees (loongarch_form f) (LoongArchReady f is_signed) (loongarch_reads f is_signed) bits bounds a
+    is_of_words f ≡ false
+    → Agrees (loongarch_form f) (LoongArchReady f is_signed)
+    (loongarch_reads f is_signed) bits bounds a
 
 abbrev pub SizeAgrees : Bool → RelocationSize → Option (ℤ × ℤ) → ℕ → Type 0
 SizeAgrees is_signed (ByteSize n) bounds a = ⊤
-SizeAgrees is_signed (BitMasking bits insn) bounds a = InstructionAgrees is_signed insn bits bounds a
+SizeAgrees is_signed (BitMasking bits insn) bounds a =
+    InstructionAgrees is_signed insn bits bounds a
 
 -- the row of a relocation whose instruction reads a LoongArch immediate so
 abbrev pub AgreesBy : Bool → RelocationKindInfo → Type 0
@@ -121,7 +134,8 @@ LoongArchRowAgrees name row = AgreesBy (reads_signed name) row
 
 -- ---- fields
 
--- Bits `start` up, below `end`, are some of a value's 64, and the form takes them of every value, whatever its window holds.
+-- Bits `start` up, below `end`, are some of a value's 64, and the form takes them of every value,
+-- whatever its window holds.
 pub record TakesBits (form : Form) (bits : BitRange) : Type 0 where
   pub some : bits.start < bits.end
   pub inside : bits.end ≤ 64

@@ -1,5 +1,7 @@
--- The vocabulary of relocations: machines, the ranges of values, and the forms of all architectures.
-use Rattle.std.specs.Prelude.{ℕ, ◌-◌, ◌^◌, ◌==◌, if◌then◌else◌, ℤ, pos, neg_ℤ, ◌≤ℤ◌, ◌<ℤ◌, Option, Some, None, ⊤}
+-- The vocabulary of relocations: machines, the ranges of values, and the forms of all
+-- architectures.
+use Rattle.std.specs.Prelude.{ℕ, ◌-◌, ◌^◌, ◌==◌, if◌then◌else◌, ℤ, pos, neg_ℤ, ◌≤ℤ◌, ◌<ℤ◌, Option}
+use Rattle.std.specs.Prelude.{Some, None, ⊤}
 use Rattle.linker_base.specs.Form.{Form, Layout, form_of}
 use Rattle.linker_utils.specs.declared.elf.Architecture.{Architecture}
 use Rattle.linker_utils.specs.declared.elf.Architecture.TheVariants as architectures
@@ -7,7 +9,8 @@ use Rattle.linker_utils.specs.declared.elf.Sign.{Sign}
 use Rattle.linker_utils.specs.declared.elf.Sign.TheVariants.{Signed, Unsigned}
 use Rattle.linker_utils.specs.declared.elf.AllowedRange.{AllowedRange}
 use Rattle.linker_utils.specs.declared.elf.RelocationInstruction.{RelocationInstruction}
-use Rattle.linker_utils.specs.declared.elf.RelocationInstruction.TheVariants.{RiscV, Ppc64, LoongArch64, AArch64}
+use Rattle.linker_utils.specs.declared.elf.RelocationInstruction.TheVariants.{RiscV, Ppc64}
+use Rattle.linker_utils.specs.declared.elf.RelocationInstruction.TheVariants.{LoongArch64, AArch64}
 use Rattle.linker_utils.specs.Ppc64.{ppc64_layout}
 use Rattle.linker_utils.specs.AArch64.{aarch64_layout}
 use Rattle.linker_utils.specs.RiscV.{riscv_layout}

@@ -18,7 +18,8 @@ abbrev pub IsNamed : ElfName → Type 0
 IsNamed (named code text) = ⊤
 IsNamed (unnamed code) = ⊥
 
--- the name of a code: it has this code, and has no text (`Other`) only where no name with a text has it
+-- the name of a code: it has this code, and has no text (`Other`) only where no name with a text
+-- has it
 pub record IsNameOf {A : Type 0} (elf : A → ElfName) (code : ℕ) (name : A) : Type 0 where
   pub code_is : code_of (elf name) ≡ code
   pub named : (other : A) → IsNamed (elf other) → code_of (elf other) ≡ code → name ≡ other

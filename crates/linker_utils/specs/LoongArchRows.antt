@@ -11,7 +11,8 @@ use Rattle.linker_utils.specs.declared.elf.LoongArch64Instruction.{LoongArch64In
 use Rattle.linker_utils.specs.declared.elf.LoongArch64Instruction.TheVariants.{Shift5, Shift10, Branch26, Branch21, Call30, Call36}
 use Rattle.linker_utils.specs.declared.elf.PageMaskPattern.TheVariants.{Size4KB}
 use Rattle.linker_utils.specs.declared.elf.PageMask.{PageMask}
-use Rattle.linker_utils.specs.declared.elf.PageMask.TheVariants.{SymbolPlusAddendAndPosition, GotEntryAndPosition}
+use Rattle.linker_utils.specs.declared.elf.PageMask.TheVariants.{SymbolPlusAddendAndPosition}
+use Rattle.linker_utils.specs.declared.elf.PageMask.TheVariants.{GotEntryAndPosition}
 use Rattle.linker_utils.specs.declared.elf.RelocationKindInfo.{RelocationKindInfo}
 use Rattle.linker_utils.specs.declared.loongarch64.relocations.LoongArch64Relocation.{LoongArch64Relocation}
 use Rattle.linker_utils.specs.declared.loongarch64.relocations.LoongArch64Relocation.TheVariants.{R_LARCH_NONE, R_LARCH_32, R_LARCH_64, R_LARCH_ADD6, R_LARCH_ADD8, R_LARCH_ADD16, R_LARCH_ADD24, R_LARCH_ADD32, R_LARCH_ADD64, R_LARCH_SUB6, R_LARCH_SUB8, R_LARCH_SUB16, R_LARCH_SUB24, R_LARCH_SUB32, R_LARCH_SUB64, R_LARCH_ADD_ULEB128, R_LARCH_SUB_ULEB128, R_LARCH_ABS_HI20, R_LARCH_ABS_LO12, R_LARCH_ABS64_HI12, R_LARCH_ABS64_LO20, R_LARCH_PCALA_HI20, R_LARCH_PCALA_LO12, R_LARCH_PCALA64_HI12, R_LARCH_PCALA64_LO20, R_LARCH_32_PCREL, R_LARCH_PCREL20_S2, R_LARCH_64_PCREL, R_LARCH_PCADD_HI20, R_LARCH_GOT_PC_HI20, R_LARCH_GOT_PC_LO12, R_LARCH_GOT64_PC_HI12, R_LARCH_GOT64_PC_LO20, R_LARCH_B16, R_LARCH_B21, R_LARCH_B26, R_LARCH_CALL36, R_LARCH_CALL30, R_LARCH_TLS_LE_HI20, R_LARCH_TLS_LE_LO12, R_LARCH_TLS_LE64_LO20, R_LARCH_TLS_LE64_HI12, R_LARCH_TLS_LE_HI20_R, R_LARCH_TLS_LE_LO12_R, R_LARCH_TLS_IE_PC_HI20, R_LARCH_TLS_IE_PC_LO12, R_LARCH_TLS_IE64_PC_LO20, R_LARCH_TLS_IE64_PC_HI12, R_LARCH_TLS_IE_HI20, R_LARCH_TLS_IE_LO12, R_LARCH_TLS_IE64_HI12, R_LARCH_TLS_IE64_LO20, R_LARCH_TLS_LD_PC_HI20, R_LARCH_TLS_LD_HI20, R_LARCH_TLS_GD_PC_HI20, R_LARCH_TLS_GD_HI20, R_LARCH_TLS_DESC_PC_HI20, R_LARCH_TLS_DESC_PC_LO12, R_LARCH_TLS_DESC64_PC_HI12, R_LARCH_TLS_DESC64_PC_LO20, R_LARCH_TLS_DESC_LD, R_LARCH_TLS_DESC_CALL, R_LARCH_TLS_DTPREL32, R_LARCH_TLS_DTPREL64, R_LARCH_TLS_LD_PCREL20_S2, R_LARCH_TLS_GD_PCREL20_S2, R_LARCH_TLS_DESC_PCREL20_S2, R_LARCH_RELAX, R_LARCH_TLS_LE_ADD_R, R_LARCH_ALIGN, Other}
@@ -43,7 +44,11 @@ bits kind s e form = plain kind (BitMasking (record { start = s; end = e }) (Loo
 
 -- a multiple of 4, of e signed bits
 abbrev pub branch : RelocationKind → ℕ → LoongArch64Instruction → RelocationKindInfo
-branch kind e form = record (bits kind 2 e form) { range = record { bounds = Some (bit_bounds e Signed) }; alignment = 4 }
+branch kind e form =
+    record (bits kind 2 e form) {
+      range = record { bounds = Some (bit_bounds e Signed) };
+      alignment = 4;
+    }
 
 -- the four parts of an address
 abbrev pub high : RelocationKind → RelocationKindInfo

@@ -1,9 +1,11 @@
--- PowerPC64: its instruction forms (Power ISA, "Instruction Formats"), and addresses in two halves (64-bit ELF V2 ABI for
--- Power, "@ha" and "@l").
-use Rattle.std.specs.Prelude.{◌≡◌, ℕ, List, drop, Option, None, ℤ, pos, negsuc, false, ◌+ℤ◌, ◌*ℤ◌, ◌≤ℤ◌, ◌<ℤ◌, ◌^◌, ◌-◌, ◌+◌}
+-- PowerPC64: its instruction forms (Power ISA, "Instruction Formats"), and addresses in two halves
+-- (64-bit ELF V2 ABI for Power, "@ha" and "@l").
+use Rattle.std.specs.Prelude.{◌≡◌, ℕ, List, drop, Option, None, ℤ, pos, negsuc, false, ◌+ℤ◌, ◌*ℤ◌}
+use Rattle.std.specs.Prelude.{◌≤ℤ◌, ◌<ℤ◌, ◌^◌, ◌-◌, ◌+◌}
 use Rattle.std.specs.Int.{w32, from_le_bytes}
 use Rattle.linker_base.specs.Bits.{field, signed}
-use Rattle.linker_base.specs.Form.{Form, Layout, one_field, form_of, bits_to, unsigned, twos_complement, modulo, IsSameModulo}
+use Rattle.linker_base.specs.Form.{Form, Layout, one_field, form_of, bits_to, unsigned}
+use Rattle.linker_base.specs.Form.{twos_complement, modulo, IsSameModulo}
 use Rattle.linker_base.specs.Rewrite.{Rewrite}
 use Rattle.linker_base.specs.declared.relaxation.RelocationModifier.{RelocationModifier}
 use Rattle.linker_base.specs.declared.relaxation.RelocationModifier.TheVariants.{Normal}
@@ -12,7 +14,8 @@ use Rattle.linker_utils.specs.declared.elf.Ppc64Instruction.TheVariants.{D, Ds, 
 use Rattle.linker_utils.specs.declared.ppc64.RelaxationKind.{RelaxationKind}
 use Rattle.linker_utils.specs.declared.ppc64.RelaxationKind.TheVariants.{NoOp}
 
--- a displacement of n bits, of which those from bit `low` up stand in the word where they stand in the value
+-- a displacement of n bits, of which those from bit `low` up stand in the word where they stand in
+-- the value
 abbrev pub displacement : ℕ → ℕ → Layout
 displacement n low =
     one_field (record {

@@ -1,4 +1,5 @@
--- Names and codes of the relocations of PowerPC64 (64-bit ELF V2 ABI for Power, "Relocation Types").
+-- Names and codes of the relocations of PowerPC64 (64-bit ELF V2 ABI for Power, "Relocation
+-- Types").
 use Rattle.std.specs.Prelude.{codes}
 use Rattle.linker_utils.specs.ElfNames.{ElfName, named, unnamed}
 use Rattle.linker_utils.specs.declared.ppc64.relocations.Ppc64Relocation.{Ppc64Relocation}

@@ -16,9 +16,19 @@ use Rattle.linker_utils.specs.declared.ppc64.relocations.Ppc64Relocation.{Ppc64R
 use Rattle.linker_utils.specs.declared.ppc64.relocations.Ppc64Relocation.TheVariants.{R_PPC64_TLS, R_PPC64_TLSGD, R_PPC64_TLSLD, R_PPC64_ADDR64, R_PPC64_ADDR32, R_PPC64_REL64, R_PPC64_REL32, R_PPC64_REL24, R_PPC64_REL14, R_PPC64_REL16_HA, R_PPC64_REL16_LO, R_PPC64_TOC16_HA, R_PPC64_TOC16_LO, R_PPC64_TOC16_LO_DS, R_PPC64_TPREL64, R_PPC64_TPREL16, R_PPC64_TPREL16_LO, R_PPC64_TPREL16_HI, R_PPC64_TPREL16_HA, R_PPC64_TPREL16_DS, R_PPC64_TPREL16_LO_DS, R_PPC64_DTPREL64, R_PPC64_DTPREL16, R_PPC64_DTPREL16_LO, R_PPC64_DTPREL16_HI, R_PPC64_DTPREL16_HA, R_PPC64_DTPREL16_DS, R_PPC64_DTPREL16_LO_DS, R_PPC64_GOT_TPREL16_HA, R_PPC64_GOT_TPREL16_HI, R_PPC64_GOT_TPREL16_DS, R_PPC64_GOT_TPREL16_LO_DS, R_PPC64_GOT_TLSGD16, R_PPC64_GOT_TLSGD16_LO, R_PPC64_GOT_TLSGD16_HI, R_PPC64_GOT_TLSGD16_HA, R_PPC64_GOT_TLSLD16, R_PPC64_GOT_TLSLD16_LO, R_PPC64_GOT_TLSLD16_HI, R_PPC64_GOT_TLSLD16_HA, Other}
 
 -- What all rows of PowerPC64 share: no page mask, no thunk, the addend beside the relocation.
-abbrev pub described : RelocationKind → RelocationSize → AllowedRange → ℕ → Option ℕ → RelocationKindInfo
+abbrev pub described : RelocationKind → RelocationSize → AllowedRange → ℕ → Option ℕ
+    → RelocationKindInfo
 described kind size range alignment bias =
-    record { kind = kind; size = size; mask = None; range = range; alignment = alignment; bias = bias; thunkable = false; implicit_addend = false }
+    record {
+      kind = kind;
+      size = size;
+      mask = None;
+      range = range;
+      alignment = alignment;
+      bias = bias;
+      thunkable = false;
+      implicit_addend = false;
+    }
 
 -- every value; signed numbers of n bits; numbers of n bits, signed or unsigned
 abbrev pub unchecked : AllowedRange
@@ -35,7 +45,8 @@ abbrev pub bytes : RelocationKind → ℕ → AllowedRange → RelocationKindInf
 bytes kind n range = described kind (ByteSize n) range 1 None
 
 -- bits a and up, below b, into an instruction
-abbrev pub field_of : RelocationKind → ℕ → ℕ → Ppc64Instruction → AllowedRange → ℕ → Option ℕ → RelocationKindInfo
+abbrev pub field_of : RelocationKind → ℕ → ℕ → Ppc64Instruction → AllowedRange → ℕ → Option ℕ
+    → RelocationKindInfo
 field_of kind a b insn range alignment bias =
     described kind (BitMasking (record { start = a; end = b }) (Ppc64 insn)) range alignment bias
 

@@ -1,14 +1,20 @@
--- RISC-V: its instruction forms (RISC-V unprivileged ISA, "Immediate Encoding Variants"), its rewrites and its jumps (RISC-V
--- ELF psABI, "Function Call Relaxation").
-use Rattle.std.specs.Prelude.{◌≡◌, ℕ, ◌+◌, ◌*◌, List, ◌++◌, take, drop, Option, None, Some, ℤ, pos, negsuc, ◌≤ℤ◌, ◌-ℤ◌, ◌≤◌, ◌<◌, length, IsTrue, ◌≢◌, ◌-◌, ◌%◌, ◌^◌, Bool, true, false, [], ◌∷◌, ◌<ℤ◌, ◌+ℤ◌, ⊤}
+-- RISC-V: its instruction forms (RISC-V unprivileged ISA, "Immediate Encoding Variants"), its
+-- rewrites and its jumps (RISC-V ELF psABI, "Function Call Relaxation").
+use Rattle.std.specs.Prelude.{◌≡◌, ℕ, ◌+◌, ◌*◌, List, ◌++◌, take, drop, Option, None, Some, ℤ, pos}
+use Rattle.std.specs.Prelude.{negsuc, ◌≤ℤ◌, ◌-ℤ◌, ◌≤◌, ◌<◌, length, IsTrue, ◌≢◌, ◌-◌, ◌%◌, ◌^◌}
+use Rattle.std.specs.Prelude.{Bool, true, false, [], ◌∷◌, ◌<ℤ◌, ◌+ℤ◌, ⊤}
 use Rattle.linker_base.specs.Deletions.{is_kept, rank}
-use Rattle.std.specs.Int.{Width, w32, from_le_bytes, to_le_bytes, int_rem_euclid, w16, w64, int_div_euclid, cast_signed}
+use Rattle.std.specs.Int.{Width, w32, from_le_bytes, to_le_bytes, int_rem_euclid, w16, w64}
+use Rattle.std.specs.Int.{int_div_euclid, cast_signed}
 use Rattle.linker_base.specs.Bits.{field, signed}
-use Rattle.linker_base.specs.Form.{Form, Layout, one_field, own_form, form_of, bits_to, signed_field, ImmediateBit, sum_bits_to, place_sum, modulo, Written, IsSameModulo}
+use Rattle.linker_base.specs.Form.{Form, Layout, one_field, own_form, form_of, bits_to}
+use Rattle.linker_base.specs.Form.{signed_field, ImmediateBit, sum_bits_to, place_sum, modulo}
+use Rattle.linker_base.specs.Form.{Written, IsSameModulo}
 use Rattle.linker_base.specs.Rounded.{rounded_immediate}
 use Rattle.linker_base.specs.Rewrite.{Rewrite, replaces}
 use Rattle.linker_base.specs.declared.relaxation.RelocationModifier.{RelocationModifier}
-use Rattle.linker_base.specs.declared.relaxation.RelocationModifier.TheVariants.{Normal, SkipNextRelocation}
+use Rattle.linker_base.specs.declared.relaxation.RelocationModifier.TheVariants.{Normal}
+use Rattle.linker_base.specs.declared.relaxation.RelocationModifier.TheVariants.{SkipNextRelocation}
 use Rattle.linker_utils.specs.declared.elf.RiscVInstruction.{RiscVInstruction}
 use Rattle.linker_utils.specs.declared.elf.RiscVInstruction.TheVariants.{UType, IType, SType, BType, JType, CbType, CjType, CluiType, UiType}
 use Rattle.linker_utils.specs.declared.riscv64.calls.LinkRegister.{LinkRegister}
@@ -52,13 +58,22 @@ abbrev pub riscv_layout : RiscVInstruction → Layout
 riscv_layout UType = own_form (rounded_immediate w32 32 12 0x800 false ui_high)
 riscv_layout IType = signed_immediate w32 12 0 (bits_to 0 11 20)
 riscv_layout SType = signed_immediate w32 12 0 (bits_to 0 4 7 ++ bits_to 5 11 25)
-riscv_layout BType = signed_immediate w32 13 1 (bits_to 11 11 7 ++ bits_to 1 4 8 ++ bits_to 5 10 25 ++ bits_to 12 12 31)
-riscv_layout JType = signed_immediate w32 21 1 (bits_to 12 19 12 ++ bits_to 11 11 20 ++ bits_to 1 10 21 ++ bits_to 20 20 31)
-riscv_layout CbType = signed_immediate w16 9 1 (bits_to 5 5 2 ++ bits_to 1 2 3 ++ bits_to 6 7 5 ++ bits_to 3 4 10 ++ bits_to 8 8 12)
+riscv_layout BType =
+    signed_immediate w32 13 1 (bits_to 11 11 7 ++ bits_to 1 4 8 ++ bits_to 5 10 25
+    ++ bits_to 12 12 31)
+riscv_layout JType =
+    signed_immediate w32 21 1 (bits_to 12 19 12 ++ bits_to 11 11 20 ++ bits_to 1 10 21
+    ++ bits_to 20 20 31)
+riscv_layout CbType =
+    signed_immediate w16 9 1 (bits_to 5 5 2 ++ bits_to 1 2 3 ++ bits_to 6 7 5 ++ bits_to 3 4 10
+    ++ bits_to 8 8 12)
 riscv_layout CjType =
     signed_immediate w16 12 1
-    (bits_to 5 5 2 ++ bits_to 1 3 3 ++ bits_to 7 7 6 ++ bits_to 6 6 7 ++ bits_to 10 10 8 ++ bits_to 8 9 9 ++ bits_to 4 4 11 ++ bits_to 11 11 12)
-riscv_layout CluiType = own_form (rounded_immediate w16 18 12 0x800 true (sum_bits_to 0x800 12 16 2 ++ sum_bits_to 0x800 17 17 12))
+    (bits_to 5 5 2 ++ bits_to 1 3 3 ++ bits_to 7 7 6 ++ bits_to 6 6 7 ++ bits_to 10 10 8
+    ++ bits_to 8 9 9 ++ bits_to 4 4 11 ++ bits_to 11 11 12)
+riscv_layout CluiType =
+    own_form (rounded_immediate w16 18 12 0x800 true
+    (sum_bits_to 0x800 12 16 2 ++ sum_bits_to 0x800 17 17 12))
 riscv_layout UiType = own_form ui_form
 
 abbrev pub riscv_form : RiscVInstruction → Form
@@ -80,7 +95,8 @@ pub record IsPairOf (v : ℕ) (sum : ℤ) : Type 0 where
 -- the low part completes each high part that was written of the same value
 abbrev pub Completes : RiscVInstruction → ℕ → ℕ → Type 0
 Completes low v after =
-    (neg : Bool) (before high : ℕ) → Written (riscv_form UType) v neg before high → IsPairOf v ((riscv_form UType).machine high +ℤ (riscv_form low).machine after)
+    (neg : Bool) (before high : ℕ) → Written (riscv_form UType) v neg before high
+    → IsPairOf v ((riscv_form UType).machine high +ℤ (riscv_form low).machine after)
 
 -- what a written instruction and its pair read as
 abbrev pub PairReads : RiscVInstruction → ℕ → ℕ → Type 0
@@ -103,7 +119,8 @@ hi20_to_clui window = to_le_bytes w16 (0x6001 + field (from_le_bytes w16 window)
 
 -- the word with bits 15 to 19 cleared
 abbrev pub rs1_to_zero : List ℕ → List ℕ
-rs1_to_zero window = let word = from_le_bytes w32 window in to_le_bytes w32 (word - field word 15 20 * 2 ^ 15)
+rs1_to_zero window =
+    let word = from_le_bytes w32 window in to_le_bytes w32 (word - field word 15 20 * 2 ^ 15)
 
 abbrev pub riscv_rewrite : RelaxationKind → Option Rewrite
 riscv_rewrite NoOp = None
@@ -141,9 +158,12 @@ rounded_high v = int_div_euclid (cast_signed w64 ((v + 0x800) % 2 ^ 64)) (pos 40
 abbrev pub FitsClui : ℕ → Type 0
 FitsClui v = (negsuc 31 ≤ℤ rounded_high v) × (rounded_high v ≤ℤ pos 31) × (rounded_high v ≢ pos 0)
 
--- the form's immediate, once written, and the signed low 12 bits make the value, in two's complement
+-- the form's immediate, once written, and the signed low 12 bits make the value, in two's
+-- complement
 abbrev pub HoldsHigh : RiscVInstruction → ℕ → Type 0
-HoldsHigh form v = (neg : Bool) (before after : ℕ) → Written (riscv_form form) v neg before after → (riscv_form form).machine after +ℤ lo12 v ≡ signed 64 v
+HoldsHigh form v =
+    (neg : Bool) (before after : ℕ) → Written (riscv_form form) v neg before after
+    → (riscv_form form).machine after +ℤ lo12 v ≡ signed 64 v
 
 -- `auipc` and a `jalr` whose base is the register of the `auipc`
 pub record IsCallPair (auipc jalr : ℕ) : Type 0 where
@@ -199,7 +219,8 @@ pub record JumpsAndLinks (before after : List ℕ) (site register : ℕ) (distan
 
 -- the same with the destination register of the word before
 abbrev pub JumpsAt : List ℕ → List ℕ → ℕ → ℤ → Type 0
-JumpsAt before after site distance = JumpsAndLinks before after site (field (word_at before site) 7 12) distance
+JumpsAt before after site distance =
+    JumpsAndLinks before after site (field (word_at before site) 7 12) distance
 
 -- the four bytes at the site lie in the section, and the target isn't past its end
 abbrev pub IsInSection : List ℕ → ℕ → ℕ → Type 0

@@ -25,12 +25,30 @@ signed_or_unsigned_32 = Some (signed_or_unsigned 32)
 -- n whole bytes
 abbrev pub in_bytes : RelocationKind → ℕ → Bounds → RelocationKindInfo
 in_bytes kind n bounds =
-    record { kind = kind; size = ByteSize n; mask = None; range = record { bounds = bounds }; alignment = 1; bias = None; thunkable = false; implicit_addend = false }
+    record {
+      kind = kind;
+      size = ByteSize n;
+      mask = None;
+      range = record { bounds = bounds };
+      alignment = 1;
+      bias = None;
+      thunkable = false;
+      implicit_addend = false;
+    }
 
 -- the value's bits below `end` into an instruction, of values that are multiples of a
 abbrev pub in_form : RelocationKind → ℕ → RiscVInstruction → Bounds → ℕ → RelocationKindInfo
 in_form kind end form bounds a =
-    record { kind = kind; size = BitMasking (record { start = 0; end = end }) (RiscV form); mask = None; range = record { bounds = bounds }; alignment = a; bias = None; thunkable = false; implicit_addend = false }
+    record {
+      kind = kind;
+      size = BitMasking (record { start = 0; end = end }) (RiscV form);
+      mask = None;
+      range = record { bounds = bounds };
+      alignment = a;
+      bias = None;
+      thunkable = false;
+      implicit_addend = false;
+    }
 
 -- what a relocation means, and none where it isn't known
 abbrev pub riscv_row : RiscVRelocation → Option RelocationKindInfo

@@ -12,10 +12,20 @@ use Rattle.linker_utils.specs.Elf.{bit_bounds, signed_or_unsigned}
 use Rattle.linker_utils.specs.declared.x86_64.relocations.X86_64Relocation.{X86_64Relocation}
 use Rattle.linker_utils.specs.declared.x86_64.relocations.X86_64Relocation.TheVariants.{R_X86_64_NONE, R_X86_64_TLSDESC_CALL, R_X86_64_64, R_X86_64_32, R_X86_64_32S, R_X86_64_16, R_X86_64_8, R_X86_64_PC64, R_X86_64_GOTPC64, R_X86_64_PC32, R_X86_64_GOTPC32, R_X86_64_PC16, R_X86_64_PC8, R_X86_64_GOT32, R_X86_64_GOT64, R_X86_64_GOTOFF64, R_X86_64_PLT32, R_X86_64_PLTOFF64, R_X86_64_GOTPCREL, R_X86_64_GOTPCRELX, R_X86_64_REX_GOTPCRELX, R_X86_64_CODE_4_GOTPCRELX, R_X86_64_CODE_5_GOTPCRELX, R_X86_64_CODE_6_GOTPCRELX, R_X86_64_SIZE32, R_X86_64_SIZE64, R_X86_64_TLSGD, R_X86_64_TLSLD, R_X86_64_DTPOFF32, R_X86_64_DTPOFF64, R_X86_64_GOTTPOFF, R_X86_64_CODE_4_GOTTPOFF, R_X86_64_CODE_5_GOTTPOFF, R_X86_64_CODE_6_GOTTPOFF, R_X86_64_TPOFF32, R_X86_64_GOTPC32_TLSDESC, R_X86_64_CODE_4_GOTPC32_TLSDESC, R_X86_64_CODE_5_GOTPC32_TLSDESC, R_X86_64_CODE_6_GOTPC32_TLSDESC, Other}
 
--- What all rows of x86-64 share: no page mask, no alignment, no bias, no thunk, the addend beside the relocation.
+-- What all rows of x86-64 share: no page mask, no alignment, no bias, no thunk, the addend beside
+-- the relocation.
 abbrev pub described : RelocationKind → RelocationSize → AllowedRange → RelocationKindInfo
 described kind size range =
-    record { kind = kind; size = size; mask = None; range = range; alignment = 1; bias = None; thunkable = false; implicit_addend = false }
+    record {
+      kind = kind;
+      size = size;
+      mask = None;
+      range = range;
+      alignment = 1;
+      bias = None;
+      thunkable = false;
+      implicit_addend = false;
+    }
 
 -- every value; numbers of n bits, signed, unsigned, or either
 abbrev pub unchecked : AllowedRange

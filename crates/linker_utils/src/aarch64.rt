@@ -2,12 +2,14 @@
 
 mod relocations;
 
-ghost use Rattle.std.specs.Prelude.{◌++◌, Some, take, ◌≡◌, ◌≤◌, ◌<◌, ◌+◌, ◌↔◌, ◌∷◌, [], IsTrue, length, drop};
+ghost use Rattle.std.specs.Prelude.{◌++◌, Some, take, ◌≡◌, ◌≤◌, ◌<◌, ◌+◌, ◌↔◌, ◌∷◌, [], IsTrue};
+ghost use Rattle.std.specs.Prelude.{length, drop};
 ghost use Rattle.std.specs.Int.{byte_len, cast_unsigned, w32, w64, from_le_bytes, to_le_bytes};
 ghost use Rattle.linker_base.specs.Form.{window_of, Fits, Written, MachineReads, IsReadBack};
 ghost use Rattle.linker_base.specs.Rewrite.{CanRewrite, rewritten, offset_after, addend_after};
 ghost use Rattle.linker_utils.specs.Inner.FormLaws.{aarch64_keeps, aarch64_restored};
-ghost use Rattle.linker_utils.specs.AArch64.{aarch64_form, aarch64_rewrite, aarch64_modifier, access_scale, rd_of, rn_of, mov_word, mov_words, mov4};
+ghost use Rattle.linker_utils.specs.AArch64.{aarch64_form, aarch64_rewrite, aarch64_modifier};
+ghost use Rattle.linker_utils.specs.AArch64.{access_scale, rd_of, rn_of, mov_word, mov_words, mov4};
 
 use crate::bit_misc::BitExtraction;
 use crate::elf::engine::{self, Mark, Run, Window, run};
@@ -318,10 +320,12 @@ impl AArch64Instruction {
     #[inline(always)]
     fn place(self, value: u64, negative: bool, dest: &mut [u8])
         requires { byte_len (aarch64_form self).window ≤ length dest.old }
-        ensures written { Written (aarch64_form self) value negative (window_of (aarch64_form self) dest.old) (window_of (aarch64_form self) dest.new) }
+        ensures written { Written (aarch64_form self) value negative
+            (window_of (aarch64_form self) dest.old) (window_of (aarch64_form self) dest.new) }
         ensures rest { drop (byte_len (aarch64_form self).window) dest.new
             ≡ drop (byte_len (aarch64_form self).window) dest.old }
-        ensures same { window_of (aarch64_form self) dest.new ≡ window_of (aarch64_form self) dest.old
+        ensures same { window_of (aarch64_form self) dest.new
+            ≡ window_of (aarch64_form self) dest.old
             → dest.new ≡ dest.old }
     {
         let insn = RelocationInstruction::AArch64(self);
@@ -375,12 +379,16 @@ impl AArch64Instruction {
     #[inline]
     pub fn write_to_value(self, extracted_value: u64, negative: bool, dest: &mut [u8])
         requires room { byte_len (aarch64_form self).window ≤ length dest.old }
-        requires fits { Fits (aarch64_form self) extracted_value (window_of (aarch64_form self) dest.old) }
-        ensures written { Written (aarch64_form self) extracted_value negative (window_of (aarch64_form self) dest.old) (window_of (aarch64_form self) dest.new) }
+        requires fits { Fits (aarch64_form self) extracted_value
+            (window_of (aarch64_form self) dest.old) }
+        ensures written { Written (aarch64_form self) extracted_value negative
+            (window_of (aarch64_form self) dest.old) (window_of (aarch64_form self) dest.new) }
         ensures rest { drop (byte_len (aarch64_form self).window) dest.new
             ≡ drop (byte_len (aarch64_form self).window) dest.old }
-        ensures machine { MachineReads (aarch64_form self) extracted_value negative (window_of (aarch64_form self) dest.old) (window_of (aarch64_form self) dest.new) }
-        ensures restored { IsReadBack (aarch64_form self) extracted_value negative (window_of (aarch64_form self) dest.old)
+        ensures machine { MachineReads (aarch64_form self) extracted_value negative
+            (window_of (aarch64_form self) dest.old) (window_of (aarch64_form self) dest.new) }
+        ensures restored { IsReadBack (aarch64_form self) extracted_value negative
+            (window_of (aarch64_form self) dest.old)
             → dest.new ≡ dest.old }
     {
         self.place(extracted_value, negative, dest);
@@ -392,8 +400,8 @@ impl AArch64Instruction {
     #[inline]
     pub fn read_value(self, bytes: &[u8]) -> (u64, bool)
         requires { byte_len (aarch64_form self).window ≤ length bytes.now }
-        ensures number { result.0
-            ≡ cast_unsigned w64 ((aarch64_form self).reading (window_of (aarch64_form self) bytes.now)) }
+        ensures number { result.0 ≡ cast_unsigned w64
+            ((aarch64_form self).reading (window_of (aarch64_form self) bytes.now)) }
         ensures flag { result.1
             ≡ (aarch64_form self).flag (window_of (aarch64_form self) bytes.now) }
     {

@@ -3,8 +3,11 @@
 mod relocations;
 
 ghost use Rattle.std.specs.Prelude.{◌≡◌, ◌≤◌, ◌↔◌, IsTrue, Some};
-ghost use Rattle.linker_base.specs.Rewrite.{IsRewritable, CanRewrite, rewritten, offset_after, addend_after};
-ghost use Rattle.linker_utils.specs.X86.{rex_reg_to_rm, evex_reg_to_rm, modrm_reg_to_rm, operand, prefixed_operand, evex_operand, absolute, rex_add_rewrite, x86_64_rewrite, x86_64_modifier, KeepsRegister};
+ghost use Rattle.linker_base.specs.Rewrite.{IsRewritable, CanRewrite, rewritten, offset_after};
+ghost use Rattle.linker_base.specs.Rewrite.{addend_after};
+ghost use Rattle.linker_utils.specs.X86.{rex_reg_to_rm, evex_reg_to_rm, modrm_reg_to_rm, operand};
+ghost use Rattle.linker_utils.specs.X86.{prefixed_operand, evex_operand, absolute, rex_add_rewrite};
+ghost use Rattle.linker_utils.specs.X86.{x86_64_rewrite, x86_64_modifier, KeepsRegister};
 
 use crate::elf::InstructionRewrite;
 use crate::relaxation::RelocationModifier;
@@ -114,7 +117,8 @@ fn put_operand(section: &mut [u8], offset: u64, opcode: u8, others: u8)
 /// Rewrites a prefix byte, an opcode and a ModRM byte.
 #[inline(always)]
 fn put_prefixed(section: &mut [u8], offset: u64, n: u8, opcode: u8, others: u8)
-    requires inside { IsRewritable (absolute 3 (prefixed_operand n opcode others)) section.old offset }
+    requires inside { IsRewritable (absolute 3 (prefixed_operand n opcode others))
+        section.old offset }
     requires room { others ≤ 0xf8 }
     ensures { section.new
         ≡ rewritten (Some (absolute 3 (prefixed_operand n opcode others))) section.old offset }

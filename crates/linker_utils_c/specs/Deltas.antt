@@ -26,7 +26,8 @@ pub record AreMerged (all : List (ℕ × ℕ)) (deltas : List RelaxDelta) : Type
   pub union : IsSortedUnion all (deletions_of deltas)
   pub listed : AreValidDeltas deltas
 
--- why the additional deletions aren't merged: out of memory, or the first of them that overlaps others
+-- why the additional deletions aren't merged: out of memory, or the first of them that overlaps
+-- others
 abbrev pub IsMergeError : List (ℕ × ℕ) → List (ℕ × ℕ) → MergeError → Type 0
 IsMergeError deletions additional OutOfMemory = ⊤
 IsMergeError deletions additional (Overlapping at) = IsFirstOverlapping deletions additional at

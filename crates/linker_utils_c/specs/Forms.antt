@@ -1,12 +1,14 @@
 -- The numbers by which C names forms of instructions.
-use Rattle.std.specs.Prelude.{◌≡◌, ◌<◌, ◌≤◌, Bool, true, false, length, drop, ℕ, List, [], ◌∷◌, slice_get, Option, None, Some, Result, Ok, Err}
+use Rattle.std.specs.Prelude.{◌≡◌, ◌<◌, ◌≤◌, Bool, true, false, length, drop, ℕ, List, [], ◌∷◌}
+use Rattle.std.specs.Prelude.{slice_get, Option, None, Some, Result, Ok, Err}
 use Rattle.std.specs.Int.{byte_len}
 use Rattle.linker_base.specs.Form.{Form, window_of, Fits, Written, MachineReads, IsReadBack}
 use Rattle.linker_utils.specs.Elf.{architecture_of}
 use Rattle.linker_utils.specs.declared.elf.Architecture.{Architecture}
 use Rattle.linker_utils.specs.declared.elf.Architecture.TheVariants as architectures
 use Rattle.linker_utils.specs.declared.elf.RelocationInstruction.{RelocationInstruction}
-use Rattle.linker_utils.specs.declared.elf.RelocationInstruction.TheVariants.{AArch64, RiscV, LoongArch64, Ppc64}
+use Rattle.linker_utils.specs.declared.elf.RelocationInstruction.TheVariants.{AArch64, RiscV}
+use Rattle.linker_utils.specs.declared.elf.RelocationInstruction.TheVariants.{LoongArch64, Ppc64}
 use Rattle.linker_utils_c.specs.declared.status.Status.{Status}
 use Rattle.linker_utils_c.specs.declared.status.Status.TheVariants.{Success, UnknownArchitecture, UnknownForm, TooShort, DoesNotFit}
 use Rattle.linker_utils_c.specs.Status.{code}
@@ -20,13 +22,16 @@ use Rattle.linker_utils.specs.declared.elf.LoongArch64Instruction.TheVariants.{S
 use Rattle.linker_utils.specs.declared.elf.Ppc64Instruction.TheVariants.{D, Ds, Branch14, Branch24}
 
 -- the form at a place of a list
-abbrev pub listed_form : {A : Type 0} → (A → RelocationInstruction) → Option A → Result RelocationInstruction Status
+abbrev pub listed_form : {A : Type 0} → (A → RelocationInstruction) → Option A
+    → Result RelocationInstruction Status
 listed_form of None = Err UnknownForm
 listed_form of (Some form) = Ok (of form)
 
 -- The forms of each architecture, by their numbers from 0 up.
 abbrev pub aarch64_forms : List AArch64Instruction
-aarch64_forms = Adr ∷ Movkz ∷ Movnz ∷ Ldr ∷ LdrRegister ∷ Add ∷ LdSt ∷ TstBr ∷ Bcond ∷ JumpCall ∷ MachOLow12 ∷ []
+aarch64_forms =
+    Adr ∷ Movkz ∷ Movnz ∷ Ldr ∷ LdrRegister ∷ Add ∷ LdSt ∷ TstBr ∷ Bcond ∷ JumpCall ∷ MachOLow12 ∷
+    []
 
 abbrev pub riscv_forms : List RiscVInstruction
 riscv_forms = UType ∷ IType ∷ SType ∷ BType ∷ JType ∷ CbType ∷ CjType ∷ CluiType ∷ UiType ∷ []
@@ -42,7 +47,8 @@ abbrev pub form_among : Option Architecture → ℕ → Result RelocationInstruc
 form_among None form = Err UnknownArchitecture
 form_among (Some architectures.AArch64) form = listed_form AArch64 (slice_get aarch64_forms form)
 form_among (Some architectures.RiscV) form = listed_form RiscV (slice_get riscv_forms form)
-form_among (Some architectures.LoongArch64) form = listed_form LoongArch64 (slice_get loongarch64_forms form)
+form_among (Some architectures.LoongArch64) form =
+    listed_form LoongArch64 (slice_get loongarch64_forms form)
 form_among (Some architectures.Ppc64) form = listed_form Ppc64 (slice_get ppc64_forms form)
 form_among (Some architectures.X86_64) form = Err UnknownArchitecture
 
@@ -57,11 +63,14 @@ flag_number true = 1
 -- the status says whether a value can be written to the instruction that the bytes begin with
 pub record TakesValue (form : Form) (value : ℕ) (bytes : List ℕ) (status : ℕ) : Type 0 where
   pub short : length bytes < byte_len form.window → status ≡ code TooShort
-  pub unfit : byte_len form.window ≤ length bytes → ¬ Fits form value (window_of form bytes) → status ≡ code DoesNotFit
-  pub fits : byte_len form.window ≤ length bytes → Fits form value (window_of form bytes) → status ≡ code Success
+  pub unfit : byte_len form.window ≤ length bytes → ¬ Fits form value (window_of form bytes)
+      → status ≡ code DoesNotFit
+  pub fits : byte_len form.window ≤ length bytes → Fits form value (window_of form bytes)
+      → status ≡ code Success
 
 -- a value was written to the instruction that the bytes begin with, and nothing else has changed
-pub record HasValue (form : Form) (value : ℕ) (negative : Bool) (before after : List ℕ) : Type 0 where
+pub record HasValue (form : Form) (value : ℕ) (negative : Bool)
+    (before after : List ℕ) : Type 0 where
   pub written : Written form value negative (window_of form before) (window_of form after)
   pub rest : drop (byte_len form.window) after ≡ drop (byte_len form.window) before
   pub machine : MachineReads form value negative (window_of form before) (window_of form after)

@@ -33,17 +33,21 @@ error_status (jump_errors.Call call_errors.OddDistance) = OddDistance
 error_status (jump_errors.Call call_errors.TooFar) = TooFar
 
 -- the section was packed, and each call can become a jump
-pub record IsPackedWhole (link : LinkRegister) (deletions : List (ℕ × ℕ)) (section : List ℕ) (calls : List (ℕ × ℕ)) (packed : List ℕ) (status : ℕ) : Type 0 where
+pub record IsPackedWhole (link : LinkRegister) (deletions : List (ℕ × ℕ)) (section : List ℕ)
+    (calls : List (ℕ × ℕ)) (packed : List ℕ) (status : ℕ) : Type 0 where
   pub success : status ≡ code Success
   pub made : IsPacked link deletions section calls packed
   pub accepted : All (CanJump link deletions section) calls
 
 -- the status says why the call at the index can't become a jump, and it is the first that can't
-pub record IsCallRejected (link : LinkRegister) (deletions : List (ℕ × ℕ)) (section : List ℕ) (calls : List (ℕ × ℕ)) (at status : ℕ) : Type 0 where
+pub record IsCallRejected (link : LinkRegister) (deletions : List (ℕ × ℕ)) (section : List ℕ)
+    (calls : List (ℕ × ℕ)) (at status : ℕ) : Type 0 where
   pub error : JumpError
   pub says : status ≡ code (error_status error)
   pub first : IsFirstRejected link deletions section calls at error
 
-abbrev pub IsPackedOrRejected : LinkRegister → List (ℕ × ℕ) → List ℕ → List (ℕ × ℕ) → List ℕ → ℕ → ℕ → Type 0
+abbrev pub IsPackedOrRejected : LinkRegister → List (ℕ × ℕ) → List ℕ → List (ℕ × ℕ) → List ℕ → ℕ → ℕ
+    → Type 0
 IsPackedOrRejected link deletions section calls packed faulty status =
-    IsPackedWhole link deletions section calls packed status ⊎ IsCallRejected link deletions section calls faulty status
+    IsPackedWhole link deletions section calls packed status
+    ⊎ IsCallRejected link deletions section calls faulty status

@@ -1,5 +1,6 @@
 -- What relocations are, by e_machine and r_type of ELF files, and what they mean in numbers.
-use Rattle.std.specs.Prelude.{◌≡◌, ◌<◌, ◌≤◌, ◌++◌, ℕ, List, length, drop, Option, None, Some, Ok, ℤ, pos}
+use Rattle.std.specs.Prelude.{◌≡◌, ◌<◌, ◌≤◌, ◌++◌, ℕ, List, length, drop, Option, None, Some, Ok, ℤ}
+use Rattle.std.specs.Prelude.{pos}
 use Rattle.linker_utils.specs.declared.elf.Architecture.{Architecture}
 use Rattle.linker_utils.specs.declared.elf.Architecture.TheVariants as architectures
 use Rattle.linker_utils.specs.declared.elf.RelocationKind.{RelocationKind}
@@ -8,7 +9,8 @@ use Rattle.linker_utils.specs.declared.elf.RelocationKindInfo.{RelocationKindInf
 use Rattle.linker_utils.specs.declared.elf.RelocationSize.{RelocationSize}
 use Rattle.linker_utils.specs.declared.elf.RelocationSize.TheVariants.{ByteSize, BitMasking}
 use Rattle.linker_utils.specs.declared.elf.PageMask.{PageMask}
-use Rattle.linker_utils.specs.declared.elf.PageMask.TheVariants.{SymbolPlusAddendAndPosition, GotEntryAndPosition, GotBase}
+use Rattle.linker_utils.specs.declared.elf.PageMask.TheVariants.{SymbolPlusAddendAndPosition}
+use Rattle.linker_utils.specs.declared.elf.PageMask.TheVariants.{GotEntryAndPosition, GotBase}
 use Rattle.linker_utils.specs.ElfNames.{ElfName, named, unnamed, IsNameOf}
 use Rattle.linker_utils.specs.AArch64Names.{aarch64_name}
 use Rattle.linker_utils.specs.AArch64Rows.{aarch64_row}
@@ -21,12 +23,14 @@ use Rattle.linker_utils.specs.Ppc64Rows.{ppc64_row}
 use Rattle.linker_utils.specs.X86Names.{x86_64_name}
 use Rattle.linker_utils.specs.X86Rows.{x86_64_row}
 use Rattle.linker_utils_c.specs.declared.relocations.RelocationInfo.{RelocationInfo}
-use Rattle.linker_utils_c.specs.declared.status.Status.TheVariants.{Success, UnknownRelocation, TooShort}
+use Rattle.linker_utils_c.specs.declared.status.Status.TheVariants.{Success, UnknownRelocation}
+use Rattle.linker_utils_c.specs.declared.status.Status.TheVariants.{TooShort}
 use Rattle.linker_utils_c.specs.Forms.{named_form, flag_number}
 use Rattle.linker_utils_c.specs.Status.{code}
 
 -- a value, as the row or the code and text, of the name that a code has among names
-pub record IsOf {Name A : Type 0} (elf : Name → ElfName) (value_of : Name → A) (r_type : ℕ) (value : A) : Type 0 where
+pub record IsOf {Name A : Type 0} (elf : Name → ElfName) (value_of : Name → A) (r_type : ℕ)
+    (value : A) : Type 0 where
   pub name : Name
   pub is_name : IsNameOf elf r_type name
   pub value_is : value ≡ value_of name
@@ -99,16 +103,19 @@ mask_number (Some (GotBase pattern)) = 3
 -- where the value goes
 abbrev pub IsSize : RelocationSize → RelocationInfo → Type 0
 IsSize (ByteSize n) numbers =
-    (numbers.is_bits ≡ 0) × (numbers.byte_size ≡ n) × (numbers.first_bit ≡ 0) × (numbers.end_bit ≡ 0)
+    (numbers.is_bits ≡ 0) × (numbers.byte_size ≡ n) × (numbers.first_bit ≡ 0)
+    × (numbers.end_bit ≡ 0)
     × (numbers.machine ≡ 0) × (numbers.form ≡ 0)
 IsSize (BitMasking range form) numbers =
-    (numbers.is_bits ≡ 1) × (numbers.byte_size ≡ 0) × (numbers.first_bit ≡ range.start) × (numbers.end_bit ≡ range.end)
+    (numbers.is_bits ≡ 1) × (numbers.byte_size ≡ 0) × (numbers.first_bit ≡ range.start)
+    × (numbers.end_bit ≡ range.end)
     × (named_form numbers.machine numbers.form ≡ Ok form)
 
 -- which values are allowed
 abbrev pub IsRange : Option (ℤ × ℤ) → RelocationInfo → Type 0
 IsRange None numbers = (numbers.has_range ≡ 0) × (numbers.min ≡ pos 0) × (numbers.max ≡ pos 0)
-IsRange (Some bounds) numbers = (numbers.has_range ≡ 1) × (numbers.min ≡ bounds.0) × (numbers.max ≡ bounds.1)
+IsRange (Some bounds) numbers =
+    (numbers.has_range ≡ 1) × (numbers.min ≡ bounds.0) × (numbers.max ≡ bounds.1)
 
 abbrev pub number_or_zero : Option ℕ → ℕ
 number_or_zero None = 0
@@ -132,10 +139,13 @@ IsReturned (Some info) status before after = (status ≡ code Success) × InNumb
 
 -- a text is written to the beginning of bytes, with its length, if they have room for it
 pub record IsCopied (text before after : List ℕ) (used_before used status : ℕ) : Type 0 where
-  pub fits : length text ≤ length before → (status ≡ code Success) × (after ≡ text ++ drop (length text) before) × (used ≡ length text)
-  pub short : length before < length text → (status ≡ code TooShort) × (after ≡ before) × (used ≡ used_before)
+  pub fits : length text ≤ length before
+      → (status ≡ code Success) × (after ≡ text ++ drop (length text) before) × (used ≡ length text)
+  pub short : length before < length text
+      → (status ≡ code TooShort) × (after ≡ before) × (used ≡ used_before)
 
 abbrev pub IsNameCopied : ElfName → List ℕ → List ℕ → ℕ → ℕ → ℕ → Type 0
-IsNameCopied (named r_type text) before after used_before used status = IsCopied text before after used_before used status
+IsNameCopied (named r_type text) before after used_before used status =
+    IsCopied text before after used_before used status
 IsNameCopied (unnamed r_type) before after used_before used status =
     (status ≡ code UnknownRelocation) × (after ≡ before) × (used ≡ used_before)

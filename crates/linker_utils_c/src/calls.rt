@@ -4,7 +4,10 @@ ghost use Rattle.std.specs.Prelude.{◌≡◌, ◌≢◌, ◌↔◌, ◌<◌, �
 ghost use Rattle.linker_base.specs.Bits.{signed};
 ghost use Rattle.linker_base.specs.Deltas.{deletions_of};
 ghost use Rattle.linker_base.specs.Listed.{AreValidDeltas};
-ghost use Rattle.linker_utils.specs.RiscV.{IsEven, IsJalDistance, JumpsAt, JumpsAndLinks, link_register, call_len, NamesRegister, IsPlainCall, IsInSection, IsSiteKept, output_distance, FitsClui, HoldsHigh, IsSigned32, hi20, lo12};
+ghost use Rattle.linker_utils.specs.RiscV.{IsEven, IsJalDistance, JumpsAt, JumpsAndLinks};
+ghost use Rattle.linker_utils.specs.RiscV.{link_register, call_len, NamesRegister, IsPlainCall};
+ghost use Rattle.linker_utils.specs.RiscV.{IsInSection, IsSiteKept, output_distance, FitsClui};
+ghost use Rattle.linker_utils.specs.RiscV.{HoldsHigh, IsSigned32, hi20, lo12};
 ghost use Rattle.linker_utils_c.specs.Status.{code};
 ghost use Rattle.linker_utils_c.specs.Packing.{named_link};
 ghost use Rattle.linker_utils.specs.declared.riscv64.calls.JumpError.{JumpError};
@@ -20,17 +23,20 @@ use linker_utils::riscv64::{self, CallError, JumpError, LinkRegister, Relaxation
 pub extern "C" fn linker_utils_jal_site_nonnull(section: &mut [u8], site: u64, distance: i64) -> u32
     ensures jumps { result ≡ code Status.Success → JumpsAt section.old section.new site distance }
     ensures out_of_section { (result ≡ code Status.OutOfSection) ↔ (length section.old < site + 4) }
-    ensures odd_distance { (result ≡ code Status.OddDistance) ↔ ((site + 4 ≤ length section.old) × ¬ IsEven distance) }
-    ensures too_far { (result ≡ code Status.TooFar) ↔ ((site + 4 ≤ length section.old) × IsEven distance × ¬ IsJalDistance distance) }
-    ensures accepted { (result ≡ code Status.Success) ↔ ((site + 4 ≤ length section.old) × IsEven distance × IsJalDistance distance) }
+    ensures odd_distance { (result ≡ code Status.OddDistance)
+        ↔ ((site + 4 ≤ length section.old) × ¬ IsEven distance) }
+    ensures too_far { (result ≡ code Status.TooFar)
+        ↔ ((site + 4 ≤ length section.old) × IsEven distance × ¬ IsJalDistance distance) }
+    ensures accepted { (result ≡ code Status.Success)
+        ↔ ((site + 4 ≤ length section.old) × IsEven distance × IsJalDistance distance) }
     ensures unchanged { result ≢ code Status.Success → section.new ≡ section.old }
 {
     call_status(riscv64::jal_site(section, site, distance))
 }
 
-/// Turns the call at a site of a section into a `jal` by a distance in bytes. It links the register of
-/// the `auipc` (`link` 0) or, as linkers do, of the `jalr` (1), which takes the eight bytes of a call.
-/// The first that applies of `UnknownLinkRegister`, `OutOfSection`, `NotACall`, `OddDistance`,
+/// Turns the call at a site of a section into a `jal` by a distance in bytes. It links the register
+/// of the `auipc` (`link` 0) or, as linkers do, of the `jalr` (1), which takes the eight bytes of a
+/// call. The first that applies of `UnknownLinkRegister`, `OutOfSection`, `NotACall`, `OddDistance`,
 /// `TooFar`.
 #[unsafe(no_mangle)]
 pub extern "C" fn linker_utils_jal_site_with_nonnull(
@@ -81,10 +87,14 @@ pub(crate) fn chosen_register(link: u32) -> Option<LinkRegister>
 fn jump_status(outcome: Result<(), JumpError>) -> u32
     ensures known { result ≢ code Status.UnknownLinkRegister }
     ensures success { (result ≡ code Status.Success) ↔ IsOk outcome }
-    ensures out_of_section { (result ≡ code Status.OutOfSection) ↔ (outcome ≡ Err (JumpError.Call CallError.OutOfSection)) }
-    ensures not_a_call { (result ≡ code Status.NotACall) ↔ (outcome ≡ Err JumpError.NotACall) }
-    ensures odd_distance { (result ≡ code Status.OddDistance) ↔ (outcome ≡ Err (JumpError.Call CallError.OddDistance)) }
-    ensures too_far { (result ≡ code Status.TooFar) ↔ (outcome ≡ Err (JumpError.Call CallError.TooFar)) }
+    ensures out_of_section { (result ≡ code Status.OutOfSection)
+        ↔ (outcome ≡ Err (JumpError.Call CallError.OutOfSection)) }
+    ensures not_a_call { (result ≡ code Status.NotACall)
+        ↔ (outcome ≡ Err JumpError.NotACall) }
+    ensures odd_distance { (result ≡ code Status.OddDistance)
+        ↔ (outcome ≡ Err (JumpError.Call CallError.OddDistance)) }
+    ensures too_far { (result ≡ code Status.TooFar)
+        ↔ (outcome ≡ Err (JumpError.Call CallError.TooFar)) }
 {
     match outcome {
         Ok(()) => Status::Success.number(),
@@ -96,9 +106,9 @@ fn jump_status(outcome: Result<(), JumpError>) -> u32
     }
 }
 
-/// Turns the call at a site into a jump to a target, in a section whose bytes stand where they stood
-/// before the deletions. The first that applies of `OutOfSection`, `SiteDeleted`, `OddDistance` and
-/// `TooFar`.
+/// Turns the call at a site into a jump to a target, in a section whose bytes stand where they
+/// stood before the deletions. The first that applies of `OutOfSection`, `SiteDeleted`,
+/// `OddDistance` and `TooFar`.
 #[unsafe(no_mangle)]
 pub extern "C" fn linker_utils_relax_call_nonnull(
     section: &mut [u8],
@@ -133,9 +143,12 @@ pub extern "C" fn linker_utils_relax_call_nonnull(
 #[inline(always)]
 pub(crate) fn call_status(outcome: Result<(), CallError>) -> u32
     ensures success { (result ≡ code Status.Success) ↔ IsOk outcome }
-    ensures out_of_section { (result ≡ code Status.OutOfSection) ↔ (outcome ≡ Err CallError.OutOfSection) }
-    ensures site_deleted { (result ≡ code Status.SiteDeleted) ↔ (outcome ≡ Err CallError.SiteDeleted) }
-    ensures odd_distance { (result ≡ code Status.OddDistance) ↔ (outcome ≡ Err CallError.OddDistance) }
+    ensures out_of_section { (result ≡ code Status.OutOfSection)
+        ↔ (outcome ≡ Err CallError.OutOfSection) }
+    ensures site_deleted { (result ≡ code Status.SiteDeleted)
+        ↔ (outcome ≡ Err CallError.SiteDeleted) }
+    ensures odd_distance { (result ≡ code Status.OddDistance)
+        ↔ (outcome ≡ Err CallError.OddDistance) }
     ensures too_far { (result ≡ code Status.TooFar) ↔ (outcome ≡ Err CallError.TooFar) }
 {
     match outcome {

@@ -1,7 +1,7 @@
 //! Deletions in a section, in arrays of the caller's.
 //!
-//! Deltas that `linker_utils_deltas_create` or `linker_utils_deltas_merge` wrote are valid: they list
-//! deletions. Each call is safe for any deltas, and what it returns is promised of valid ones.
+//! Deltas that `linker_utils_deltas_create` or `linker_utils_deltas_merge` wrote are valid: they
+//! list deletions. Each call is safe for any deltas, and what it returns is promised of valid ones.
 
 ghost use Rattle.std.specs.Prelude.{◌≡◌, ◌≢◌, ◌↔◌, MatchOption, length, map};
 ghost use Rattle.std.specs.List.Sorted.{IsNonDecreasing};
@@ -145,8 +145,8 @@ pub extern "C" fn linker_utils_deltas_total_deleted_nonnull(deltas: &[RelaxDelta
 }
 
 /// Writes the output offset of each of the queries, which may not decrease, in one walk through the
-/// deltas: O(n + q). The first that applies of `DifferentLengths` and `NotAscending`, where `faulty`
-/// is the index of the first query that is less than the one before it.
+/// deltas: O(n + q). The first that applies of `DifferentLengths` and `NotAscending`, where
+/// `faulty` is the index of the first query that is less than the one before it.
 #[unsafe(no_mangle)]
 pub extern "C" fn linker_utils_deltas_translate_all_nonnull(
     deltas: &[RelaxDelta],

@@ -5,7 +5,9 @@ ghost use Rattle.std.specs.Int.{byte_len, cast_unsigned, w64};
 ghost use Rattle.linker_base.specs.Form.{window_of};
 ghost use Rattle.linker_utils.specs.Elf.{relocation_form};
 ghost use Rattle.linker_utils_c.specs.Status.{code, HasRoom};
-ghost use Rattle.linker_utils_c.specs.Forms.{aarch64_forms, riscv_forms, loongarch64_forms, ppc64_forms, named_form, TakesValue, HasValue, flag_number};
+ghost use Rattle.linker_utils_c.specs.Forms.{aarch64_forms, riscv_forms, loongarch64_forms};
+ghost use Rattle.linker_utils_c.specs.Forms.{ppc64_forms, named_form, TakesValue, HasValue};
+ghost use Rattle.linker_utils_c.specs.Forms.{flag_number};
 
 use crate::status::Status;
 use linker_utils::elf::{
@@ -119,8 +121,8 @@ pub extern "C" fn linker_utils_window(machine: u16, form: u32, window: &mut usiz
     }
 }
 
-/// Whether `linker_utils_write` of the value to these bytes would succeed: the status is that of the
-/// write.
+/// Whether `linker_utils_write` of the value to these bytes would succeed: the status is that of
+/// the write.
 #[unsafe(no_mangle)]
 pub extern "C" fn linker_utils_fits_nonnull(
     machine: u16,
@@ -177,8 +179,8 @@ fn write_by<F: InstructionForm>(
 }
 
 /// Writes a value and its sign into the instruction that `dest` begins with, and changes no bit but
-/// the form's. The error is the first that applies of `UnknownArchitecture`, `UnknownForm`, `TooShort`
-/// with fewer bytes than the window, and `DoesNotFit`.
+/// the form's. The error is the first that applies of `UnknownArchitecture`, `UnknownForm`,
+/// `TooShort` with fewer bytes than the window, and `DoesNotFit`.
 #[unsafe(no_mangle)]
 pub extern "C" fn linker_utils_write_nonnull(
     machine: u16,
@@ -222,7 +224,8 @@ fn read_by<F: InstructionForm>(
     ensures known { IfSome form
         (λ named. HasRoom (byte_len (F.form named).window) bytes.now (code result)) }
     ensures number { IfSome form (λ named. result ≡ Status.Success
-        → value.new ≡ cast_unsigned w64 ((F.form named).reading (window_of (F.form named) bytes.now))) }
+        → value.new ≡ cast_unsigned w64
+        ((F.form named).reading (window_of (F.form named) bytes.now))) }
     ensures flag { IfSome form (λ named. result ≡ Status.Success
         → negative.new ≡ flag_number ((F.form named).flag (window_of (F.form named) bytes.now))) }
     ensures unknown { IfNone form (result ≡ Status.UnknownForm) }
@@ -241,9 +244,9 @@ fn read_by<F: InstructionForm>(
     Status::Success
 }
 
-/// Reads the value in the instruction that `bytes` begins with, modulo 2^64, and the form's flag, 0 or
-/// 1. The error is the first that applies of `UnknownArchitecture`, `UnknownForm`, and `TooShort` with
-/// fewer bytes than the window.
+/// Reads the value in the instruction that `bytes` begins with, modulo 2^64, and the form's flag,
+/// 0 or 1. The error is the first that applies of `UnknownArchitecture`, `UnknownForm`, and
+/// `TooShort` with fewer bytes than the window.
 #[unsafe(no_mangle)]
 pub extern "C" fn linker_utils_read_nonnull(
     machine: u16,

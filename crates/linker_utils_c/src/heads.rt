@@ -1,5 +1,5 @@
-//! Heads of the blocks of deltas, in arrays of the caller's. Searches in many deltas are faster with
-//! them.
+//! Heads of the blocks of deltas, in arrays of the caller's. Searches in many deltas are faster
+//! with them.
 //!
 //! Each call is safe for any heads, and what it returns is promised of those that
 //! `linker_utils_deltas_heads` wrote of the same deltas.
@@ -22,8 +22,8 @@ pub extern "C" fn linker_utils_deltas_block_count_nonnull(deltas: &[RelaxDelta])
     DeltaSlice::new(deltas).block_count()
 }
 
-/// Writes the heads of the deltas' blocks, as many as `linker_utils_deltas_block_count` returns. The
-/// error is `DifferentLengths`.
+/// Writes the heads of the deltas' blocks, as many as `linker_utils_deltas_block_count` returns.
+/// The error is `DifferentLengths`.
 #[unsafe(no_mangle)]
 pub extern "C" fn linker_utils_deltas_heads_nonnull(
     deltas: &[RelaxDelta],

@@ -69,9 +69,11 @@ pub extern "C" fn linker_utils_read_uleb128_nonnull(
     value: &mut u64,
     consumed: &mut usize,
 ) -> u32
-    ensures number { result ≡ code Status.Success → Uleb bytes.now value.new (drop consumed.new bytes.now) }
+    ensures number { result ≡ code Status.Success
+        → Uleb bytes.now value.new (drop consumed.new bytes.now) }
     ensures taken { result ≡ code Status.Success → consumed.new ≤ length bytes.now }
-    ensures accepted { (n : ℕ) (rest : List ℕ) → Uleb bytes.now n rest → (result ≡ code Status.Success) × (value.new ≡ n) × (drop consumed.new bytes.now ≡ rest) }
+    ensures accepted { (n : ℕ) (rest : List ℕ) → Uleb bytes.now n rest
+        → (result ≡ code Status.Success) × (value.new ≡ n) × (drop consumed.new bytes.now ≡ rest) }
     ensures ended { (result ≡ code Status.Uleb128Ended) ↔ UlebEnded bytes.now }
     ensures too_large { (result ≡ code Status.Uleb128TooLarge) ↔ UlebTooLarge bytes.now }
     ensures value_stays { result ≢ code Status.Success → value.new ≡ value.old }

@@ -2,7 +2,11 @@
 
 ghost use Rattle.std.specs.Prelude.{◌≡◌, ◌≢◌, slice_get, IfOk, IfErr, IfSome, IfNone};
 ghost use Rattle.linker_utils_c.specs.Status.{code};
-ghost use Rattle.linker_utils_c.specs.Rewrites.{aarch64_rewrites, riscv_rewrites, loongarch64_rewrites, ppc64_rewrites, x86_64_rewrites, named_rewrite, relaxation_rewrite, relaxation_modifier, modifier_number, TakesRewrite, IsRewritten};
+ghost use Rattle.linker_utils_c.specs.Rewrites.{aarch64_rewrites, riscv_rewrites};
+ghost use Rattle.linker_utils_c.specs.Rewrites.{loongarch64_rewrites, ppc64_rewrites};
+ghost use Rattle.linker_utils_c.specs.Rewrites.{x86_64_rewrites, named_rewrite, relaxation_rewrite};
+ghost use Rattle.linker_utils_c.specs.Rewrites.{relaxation_modifier, modifier_number, TakesRewrite};
+ghost use Rattle.linker_utils_c.specs.Rewrites.{IsRewritten};
 
 use crate::status::Status;
 use linker_utils::elf::{Architecture, InstructionRewrite};
@@ -102,7 +106,8 @@ fn x86_64_rewrite(number: u32, n: u8) -> Option<x86_64::RelaxationKind>
 // Whether a rewrite, if there is one, can be applied.
 #[inline(always)]
 fn test_by<R: InstructionRewrite>(rewrite: Option<R>, section: &[u8], offset: u64) -> Status
-    ensures known { IfSome rewrite (λ named. TakesRewrite (R.rewrite named) section.now offset (code result)) }
+    ensures known { IfSome rewrite (λ named.
+        TakesRewrite (R.rewrite named) section.now offset (code result)) }
     ensures unknown { IfNone rewrite (result ≡ Status.UnknownRewrite) }
 {
     let Some(named) = rewrite else {
@@ -122,9 +127,11 @@ fn apply_by<R: InstructionRewrite>(
     offset: &mut u64,
     addend: &mut i64,
 ) -> Status
-    ensures known { IfSome rewrite (λ named. TakesRewrite (R.rewrite named) section.old offset.old (code result)) }
+    ensures known { IfSome rewrite (λ named.
+        TakesRewrite (R.rewrite named) section.old offset.old (code result)) }
     ensures rewritten { IfSome rewrite (λ named. result ≡ Status.Success
-        → IsRewritten (R.rewrite named) section.old section.new offset.old offset.new addend.old addend.new) }
+        → IsRewritten (R.rewrite named) section.old section.new offset.old offset.new
+        addend.old addend.new) }
     ensures unknown { IfNone rewrite (result ≡ Status.UnknownRewrite) }
     ensures section_stays { result ≢ Status.Success → section.new ≡ section.old }
     ensures offset_stays { result ≢ Status.Success → offset.new ≡ offset.old }
@@ -143,8 +150,10 @@ fn apply_by<R: InstructionRewrite>(
 // What becomes of the relocation after a rewrite, if there is one.
 #[inline(always)]
 fn modifier_by<R: InstructionRewrite>(rewrite: Option<R>, modifier: &mut u32) -> Status
-    ensures found { IfSome rewrite (λ named. (result ≡ Status.Success) × (modifier.new ≡ modifier_number (R.modifier named))) }
-    ensures unknown { IfNone rewrite ((result ≡ Status.UnknownRewrite) × (modifier.new ≡ modifier.old)) }
+    ensures found { IfSome rewrite (λ named. (result ≡ Status.Success)
+        × (modifier.new ≡ modifier_number (R.modifier named))) }
+    ensures unknown { IfNone rewrite ((result ≡ Status.UnknownRewrite)
+        × (modifier.new ≡ modifier.old)) }
 {
     let Some(named) = rewrite else {
         return Status::UnknownRewrite;
@@ -182,8 +191,8 @@ pub extern "C" fn linker_utils_can_apply_nonnull(
     status.number()
 }
 
-/// Rewrites the instruction at an offset of a section, and sets the offset and the addend to those of
-/// the relocation that is left. The error is the first that applies of `UnknownArchitecture`,
+/// Rewrites the instruction at an offset of a section, and sets the offset and the addend to those
+/// of the relocation that is left. The error is the first that applies of `UnknownArchitecture`,
 /// `UnknownRewrite` and `CannotApply`.
 #[unsafe(no_mangle)]
 pub extern "C" fn linker_utils_apply_nonnull(
@@ -196,7 +205,8 @@ pub extern "C" fn linker_utils_apply_nonnull(
 ) -> u32
     ensures known { IfOk (named_rewrite machine rewrite n)
         (λ named. TakesRewrite (relaxation_rewrite named) section.old offset.old result) }
-    ensures rewritten { IfOk (named_rewrite machine rewrite n) (λ named. result ≡ code Status.Success
+    ensures rewritten { IfOk (named_rewrite machine rewrite n)
+        (λ named. result ≡ code Status.Success
         → IsRewritten (relaxation_rewrite named) section.old section.new
         offset.old offset.new addend.old addend.new) }
     ensures unknown { IfErr (named_rewrite machine rewrite n) (λ status. result ≡ code status) }
@@ -222,8 +232,8 @@ pub extern "C" fn linker_utils_apply_nonnull(
     status.number()
 }
 
-/// What becomes of the relocation after that of the rewritten instruction, into `modifier`: 0 where it
-/// is applied as usual, 1 where it is skipped. The errors are `UnknownArchitecture` and
+/// What becomes of the relocation after that of the rewritten instruction, into `modifier`: 0 where
+/// it is applied as usual, 1 where it is skipped. The errors are `UnknownArchitecture` and
 /// `UnknownRewrite`.
 #[unsafe(no_mangle)]
 pub extern "C" fn linker_utils_next_modifier(

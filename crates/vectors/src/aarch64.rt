@@ -1,5 +1,5 @@
-//! AArch64: words that LLVM 19.1.7's and GNU binutils 2.40's assemblers and linkers wrote, and worked
-//! values.
+//! AArch64: words that LLVM 19.1.7's and GNU binutils 2.40's assemblers and linkers wrote, and
+//! worked values.
 
 mod fields;
 mod moves;
@@ -263,8 +263,8 @@ fn page_and_offset_pairs_match_linkers(rt: HostRuntime) {
     }
 }
 
-/// Rewrites at an offset, and then writes a value there. Returns `false` if either is impossible, or
-/// if the offset or the addend changes.
+/// Rewrites at an offset, and then writes a value there. Returns `false` if either is impossible,
+/// or if the offset or the addend changes.
 fn rewritten(
     section: &mut [u8],
     at: u64,
@@ -553,8 +553,8 @@ static NOP_ADR: [([u8; 8], u64, [u8; 8]); 8] = [
     ),
 ];
 
-/// Loads of an address that the linker knows: the bytes before, the pages, the offset, and the bytes
-/// after.
+/// Loads of an address that the linker knows: the bytes before, the pages, the offset, and the
+/// bytes after.
 static ADRP_TO_ADD: [([u8; 8], u64, u64, [u8; 8]); 5] = [
     (
         [0x03, 0x00, 0x00, 0x90, 0x63, 0x00, 0x40, 0xf9],
@@ -588,7 +588,8 @@ static ADRP_TO_ADD: [([u8; 8], u64, u64, [u8; 8]); 5] = [
     ),
 ];
 
-/// Offsets from the thread pointer, by moves: the bytes before, the two halves, and the bytes after.
+/// Offsets from the thread pointer, by moves: the bytes before, the two halves, and the bytes
+/// after.
 static TO_MOVES: [([u8; 8], u64, u64, [u8; 8]); 3] = [
     (
         [0x03, 0x00, 0x00, 0x90, 0x63, 0x00, 0x40, 0xf9],

@@ -68,7 +68,8 @@ fn truncate<F: InstructionForm>(form: F, value: u64, bytes: &[u8]) -> u64
 pub fn write_back<F: InstructionForm>(form: F, section: &mut [u8], offset: usize) -> bool
     ensures inside { IsTrue result ↔ HasWindow (F.form form) section.old offset }
     ensures written { IsTrue result
-        → IsPoked (F.form form) (value_at (F.form form) section.old offset) (flag_at (F.form form) section.old offset) offset section.old section.new }
+        → IsPoked (F.form form) (value_at (F.form form) section.old offset)
+        (flag_at (F.form form) section.old offset) offset section.old section.new }
     ensures restored { IsTrue ((F.form form).restores (window_at (F.form form) section.old offset))
         → section.new ≡ section.old }
     ensures unchanged { result ≡ false → section.new ≡ section.old }

@@ -9,7 +9,8 @@ use linker_utils::elf::{
 use linker_utils::ppc64::{Ppc64Relocation, RelaxationKind, relocation_type_from_raw, write_ha_lo};
 use linker_utils::relaxation::RelocationModifier;
 
-/// `addi` and other D-forms: the word before, the value, the word after, and the number that the machine reads.
+/// `addi` and other D-forms: the word before, the value, the word after, and the number that the
+/// machine reads.
 static D_WORDS: [(u32, u64, u32, i64); 71] = [
     (0x3864_0000, 0x924b, 0x3864_924b, -28085),
     (0x3864_0000, 0xc000, 0x3864_c000, -16384),
@@ -84,7 +85,8 @@ static D_WORDS: [(u32, u64, u32, i64); 71] = [
     (0xc867_0000, 0x7e0f, 0xc867_7e0f, 32271),
 ];
 
-/// `ld` and other DS-forms: the word before, the value, the word after, and the number that the machine reads.
+/// `ld` and other DS-forms: the word before, the value, the word after, and the number that the
+/// machine reads.
 static DS_WORDS: [(u32, u64, u32, i64); 50] = [
     (0xe864_0000, 0x9838, 0xe864_9838, -26568),
     (0xe864_0000, 0xc2b4, 0xe864_c2b4, -15692),

@@ -1,5 +1,5 @@
-//! RISC-V: instructions, pairs and rewrites as assemblers and linkers write them, and values worked by
-//! hand from the manual.
+//! RISC-V: instructions, pairs and rewrites as assemblers and linkers write them, and values worked
+//! by hand from the manual.
 
 mod pairs;
 mod words;

@@ -12,9 +12,9 @@ pub fn linker_utils_jal_site_nonnull(section: &mut [u8], site: u64, distance: i6
     call_status(riscv64::jal_site(section, site, distance))
 }
 
-/// Turns the call at a site of a section into a `jal` by a distance in bytes. It links the register of
-/// the `auipc` (`link` 0) or, as linkers do, of the `jalr` (1), which takes the eight bytes of a call.
-/// The first that applies of `UnknownLinkRegister`, `OutOfSection`, `NotACall`, `OddDistance`,
+/// Turns the call at a site of a section into a `jal` by a distance in bytes. It links the register
+/// of the `auipc` (`link` 0) or, as linkers do, of the `jalr` (1), which takes the eight bytes of a
+/// call. The first that applies of `UnknownLinkRegister`, `OutOfSection`, `NotACall`, `OddDistance`,
 /// `TooFar`.
 pub fn linker_utils_jal_site_with_nonnull(
     section: &mut [u8],
@@ -49,9 +49,9 @@ fn jump_status(outcome: Result<(), JumpError>) -> u32 {
     }
 }
 
-/// Turns the call at a site into a jump to a target, in a section whose bytes stand where they stood
-/// before the deletions. The first that applies of `OutOfSection`, `SiteDeleted`, `OddDistance` and
-/// `TooFar`.
+/// Turns the call at a site into a jump to a target, in a section whose bytes stand where they
+/// stood before the deletions. The first that applies of `OutOfSection`, `SiteDeleted`,
+/// `OddDistance` and `TooFar`.
 pub fn linker_utils_relax_call_nonnull(
     section: &mut [u8],
     deltas: &[RelaxDelta],

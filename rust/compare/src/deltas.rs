@@ -1,8 +1,8 @@
 // Made by tools/erase of crates/linker_utils_c/src/deltas.rt.
 //! Deletions in a section, in arrays of the caller's.
 //!
-//! Deltas that `linker_utils_deltas_create` or `linker_utils_deltas_merge` wrote are valid: they list
-//! deletions. Each call is safe for any deltas, and what it returns is promised of valid ones.
+//! Deltas that `linker_utils_deltas_create` or `linker_utils_deltas_merge` wrote are valid: they
+//! list deletions. Each call is safe for any deltas, and what it returns is promised of valid ones.
 
 use crate::status::Status;
 use linker_utils::relaxation::{AsDeletion, DeltaSlice, RelaxDelta, first_invalid};
@@ -100,8 +100,8 @@ pub fn linker_utils_deltas_total_deleted_nonnull(deltas: &[RelaxDelta]) -> u64 {
 }
 
 /// Writes the output offset of each of the queries, which may not decrease, in one walk through the
-/// deltas: O(n + q). The first that applies of `DifferentLengths` and `NotAscending`, where `faulty`
-/// is the index of the first query that is less than the one before it.
+/// deltas: O(n + q). The first that applies of `DifferentLengths` and `NotAscending`, where
+/// `faulty` is the index of the first query that is less than the one before it.
 pub fn linker_utils_deltas_translate_all_nonnull(
     deltas: &[RelaxDelta],
     queries: &[u64],

@@ -97,8 +97,8 @@ pub fn linker_utils_window(machine: u16, form: u32, window: &mut usize) -> u32 {
     }
 }
 
-/// Whether `linker_utils_write` of the value to these bytes would succeed: the status is that of the
-/// write.
+/// Whether `linker_utils_write` of the value to these bytes would succeed: the status is that of
+/// the write.
 pub fn linker_utils_fits_nonnull(
     machine: u16,
     form: u32,
@@ -142,8 +142,8 @@ fn write_by<F: InstructionForm>(
 }
 
 /// Writes a value and its sign into the instruction that `dest` begins with, and changes no bit but
-/// the form's. The error is the first that applies of `UnknownArchitecture`, `UnknownForm`, `TooShort`
-/// with fewer bytes than the window, and `DoesNotFit`.
+/// the form's. The error is the first that applies of `UnknownArchitecture`, `UnknownForm`,
+/// `TooShort` with fewer bytes than the window, and `DoesNotFit`.
 pub fn linker_utils_write_nonnull(
     machine: u16,
     form: u32,
@@ -188,9 +188,9 @@ fn read_by<F: InstructionForm>(
     Status::Success
 }
 
-/// Reads the value in the instruction that `bytes` begins with, modulo 2^64, and the form's flag, 0 or
-/// 1. The error is the first that applies of `UnknownArchitecture`, `UnknownForm`, and `TooShort` with
-/// fewer bytes than the window.
+/// Reads the value in the instruction that `bytes` begins with, modulo 2^64, and the form's flag,
+/// 0 or 1. The error is the first that applies of `UnknownArchitecture`, `UnknownForm`, and
+/// `TooShort` with fewer bytes than the window.
 pub fn linker_utils_read_nonnull(
     machine: u16,
     form: u32,

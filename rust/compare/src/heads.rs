@@ -1,6 +1,6 @@
 // Made by tools/erase of crates/linker_utils_c/src/heads.rt.
-//! Heads of the blocks of deltas, in arrays of the caller's. Searches in many deltas are faster with
-//! them.
+//! Heads of the blocks of deltas, in arrays of the caller's. Searches in many deltas are faster
+//! with them.
 //!
 //! Each call is safe for any heads, and what it returns is promised of those that
 //! `linker_utils_deltas_heads` wrote of the same deltas.
@@ -13,8 +13,8 @@ pub fn linker_utils_deltas_block_count_nonnull(deltas: &[RelaxDelta]) -> usize {
     DeltaSlice::new(deltas).block_count()
 }
 
-/// Writes the heads of the deltas' blocks, as many as `linker_utils_deltas_block_count` returns. The
-/// error is `DifferentLengths`.
+/// Writes the heads of the deltas' blocks, as many as `linker_utils_deltas_block_count` returns.
+/// The error is `DifferentLengths`.
 pub fn linker_utils_deltas_heads_nonnull(
     deltas: &[RelaxDelta],
     heads: &mut [BlockHead],

@@ -28,15 +28,15 @@ pub fn linker_utils_packed_len_nonnull(section: &[u8], deltas: &[RelaxDelta]) ->
     packed_len(section, deltas)
 }
 
-/// Writes the kept bytes of a section, in order, and at each call's site, in place of the `auipc`, a
-/// `jal` to where the target goes. It links the register of the `auipc` (`link` 0) or, as linkers do,
-/// of the `jalr` (1). A deletion that reaches past the section's end deletes up to there.
+/// Writes the kept bytes of a section, in order, and at each call's site, in place of the `auipc`,
+/// a `jal` to where the target goes. It links the register of the `auipc` (`link` 0) or, as linkers
+/// do, of the `jalr` (1). A deletion that reaches past the section's end deletes up to there.
 ///
-/// The first that applies of `UnknownLinkRegister`; `CallsNotApart`, where `faulty` is the index of the
-/// first call whose site is less than 4 above the one before it; `DifferentLengths`, where `packed` has
-/// not `linker_utils_packed_len` bytes; and of the first call that can't become a jump, whose index is
-/// `faulty`, `OutOfSection`, `SiteDeleted`, `NotACall`, `OddDistance` and `TooFar`. Nothing is written
-/// then.
+/// The first that applies of `UnknownLinkRegister`; `CallsNotApart`, where `faulty` is the index of
+/// the first call whose site is less than 4 above the one before it; `DifferentLengths`, where
+/// `packed` has not `linker_utils_packed_len` bytes; and of the first call that can't become a
+/// jump, whose index is `faulty`, `OutOfSection`, `SiteDeleted`, `NotACall`, `OddDistance` and
+/// `TooFar`. Nothing is written then.
 pub fn linker_utils_pack_nonnull(
     section: &[u8],
     deltas: &[RelaxDelta],

@@ -150,8 +150,8 @@ pub fn linker_utils_can_apply_nonnull(
     status.number()
 }
 
-/// Rewrites the instruction at an offset of a section, and sets the offset and the addend to those of
-/// the relocation that is left. The error is the first that applies of `UnknownArchitecture`,
+/// Rewrites the instruction at an offset of a section, and sets the offset and the addend to those
+/// of the relocation that is left. The error is the first that applies of `UnknownArchitecture`,
 /// `UnknownRewrite` and `CannotApply`.
 pub fn linker_utils_apply_nonnull(
     machine: u16,
@@ -179,8 +179,8 @@ pub fn linker_utils_apply_nonnull(
     status.number()
 }
 
-/// What becomes of the relocation after that of the rewritten instruction, into `modifier`: 0 where it
-/// is applied as usual, 1 where it is skipped. The errors are `UnknownArchitecture` and
+/// What becomes of the relocation after that of the rewritten instruction, into `modifier`: 0 where
+/// it is applied as usual, 1 where it is skipped. The errors are `UnknownArchitecture` and
 /// `UnknownRewrite`.
 pub fn linker_utils_next_modifier(
     machine: u16,

@@ -4,8 +4,8 @@
 use crate::status::Status;
 use linker_utils::{aarch64, loongarch64, ppc64};
 
-/// AArch64: writes the four instructions that load a number into register `rd`. The error is the first
-/// that applies of `TooShort` with fewer than 16 bytes, and `BadRegister` for one above 30.
+/// AArch64: writes the four instructions that load a number into register `rd`. The error is the
+/// first that applies of `TooShort` with fewer than 16 bytes, and `BadRegister` for one above 30.
 pub fn linker_utils_write_mov_sequence_nonnull(
     dest: &mut [u8],
     rd: u32,
@@ -21,8 +21,8 @@ pub fn linker_utils_write_mov_sequence_nonnull(
     Status::Success.number()
 }
 
-/// LoongArch: makes the five instructions compute the address `target` where the first stands at `pc`.
-/// The error is `TooShort` with fewer than 20 bytes.
+/// LoongArch: makes the five instructions compute the address `target` where the first stands at
+/// `pc`. The error is `TooShort` with fewer than 20 bytes.
 pub fn linker_utils_write_address_sequence_nonnull(
     dest: &mut [u8],
     pc: u64,
@@ -35,13 +35,14 @@ pub fn linker_utils_write_address_sequence_nonnull(
     Status::Success.number()
 }
 
-/// LoongArch: the number whose bits 32 to 51 and 52 to 63 complete the address `s`, relative to `pc`.
+/// LoongArch: the number whose bits 32 to 51 and 52 to 63 complete the address `s`, relative to
+/// `pc`.
 pub fn linker_utils_highest_relocation_with_bias(s: u64, pc: u64) -> u64 {
     loongarch64::highest_relocation_with_bias(s, pc)
 }
 
-/// PowerPC64: writes a value into a pair of D-form instructions, its adjusted high half into `ha` and
-/// its low half into `lo`. The error is `TooShort` where one has fewer than 4 bytes.
+/// PowerPC64: writes a value into a pair of D-form instructions, its adjusted high half into `ha`
+/// and its low half into `lo`. The error is `TooShort` where one has fewer than 4 bytes.
 pub fn linker_utils_write_ha_lo_nonnull(ha: &mut [u8], lo: &mut [u8], value: u64) -> u32 {
     if ha.len() < 4 || lo.len() < 4 {
         return Status::TooShort.number();

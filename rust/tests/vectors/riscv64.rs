@@ -1,6 +1,6 @@
 // Made by tools/erase of crates/vectors/src/riscv64.rt.
-//! RISC-V: instructions, pairs and rewrites as assemblers and linkers write them, and values worked by
-//! hand from the manual.
+//! RISC-V: instructions, pairs and rewrites as assemblers and linkers write them, and values worked
+//! by hand from the manual.
 
 mod pairs;
 mod words;

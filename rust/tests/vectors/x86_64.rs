@@ -1,6 +1,6 @@
 // Made by tools/erase of crates/vectors/src/x86_64.rt.
-//! x86-64: rewrites as LLVM 19.1.7's and GNU binutils 2.40's linkers make them, or as its assemblers
-//! write both instructions, and worked values.
+//! x86-64: rewrites as LLVM 19.1.7's and GNU binutils 2.40's linkers make them, or as its
+//! assemblers write both instructions, and worked values.
 
 use crate::rows::expect_eq;
 use linker_utils::elf::{AllowedRange, RelocationKind, RelocationKindInfo, RelocationSize};

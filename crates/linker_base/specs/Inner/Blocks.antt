@@ -29,5 +29,6 @@ size_of deltas Heads = blocks_of (length deltas)
 size_of deltas Deltas = length deltas
 
 abbrev pub passing_of : List RelaxDelta → Level → Test → ℕ → Bool
-passing_of deltas Heads test at = head_passes test (head_of (slice_index_or deltas (64 * at) no_delta))
+passing_of deltas Heads test at =
+    head_passes test (head_of (slice_index_or deltas (64 * at) no_delta))
 passing_of deltas Deltas test at = passes test (slice_index_or deltas at no_delta)

@@ -1,5 +1,6 @@
 -- What holds of the fields of deltas and of a cursor, and of what searches and tests in them find.
-use Rattle.std.specs.Prelude.{◌≡◌, ℕ, ◌+◌, ◌-◌, ◌<◌, ◌≤◌, List, length, map, take, slice_index_or, All, Any}
+use Rattle.std.specs.Prelude.{◌≡◌, ℕ, ◌+◌, ◌-◌, ◌<◌, ◌≤◌, List, length, map, take, slice_index_or}
+use Rattle.std.specs.Prelude.{All, Any}
 use Rattle.linker_base.specs.declared.relaxation.RelaxDelta.{RelaxDelta}
 use Rattle.linker_base.specs.declared.relaxation.blocks.BlockHead.{BlockHead}
 use Rattle.linker_base.specs.declared.relaxation.walk.Reached.{Reached}
@@ -13,10 +14,13 @@ pub record IsSound (list : List RelaxDelta) (blocks : List BlockHead) : Type 0 w
   pub deltas : AreValidDeltas list
   pub heads : AreHeads list blocks
 
--- the first `passed` deletions are those whose output place, the offset less the bytes deleted before, is at most y
+-- the first `passed` deletions are those whose output place, the offset less the bytes deleted
+-- before, is at most y
 pub record ArePlaced (deletions : List (ℕ × ℕ)) (y passed : ℕ) : Type 0 where
-  pub before : (k : ℕ) (d : ℕ × ℕ) → k < passed → (slice_index_or deletions k d).0 ≤ y + bytes_of (take k deletions)
-  pub after : (k : ℕ) (d : ℕ × ℕ) → passed ≤ k → k < length deletions → y + bytes_of (take k deletions) < (slice_index_or deletions k d).0
+  pub before : (k : ℕ) (d : ℕ × ℕ) → k < passed
+      → (slice_index_or deletions k d).0 ≤ y + bytes_of (take k deletions)
+  pub after : (k : ℕ) (d : ℕ × ℕ) → passed ≤ k → k < length deletions
+      → y + bytes_of (take k deletions) < (slice_index_or deletions k d).0
 
 -- a valid list of deletions from an offset on, and the least offset that the next may have
 pub record IsRun (from next : ℕ) (deletions : List (ℕ × ℕ)) : Type 0 where
@@ -34,7 +38,9 @@ pub record IsOnlyAt (deletions : List (ℕ × ℕ)) (offset bytes : ℕ) : Type 
 -- a delta ends there: the last of the first `passed`, or 0 is the end of none
 pub record IsEndOf (deletions : List (ℕ × ℕ)) (passed end : ℕ) : Type 0 where
   pub none : passed ≡ 0 → end ≡ 0
-  pub last : (d : ℕ × ℕ) → 0 < passed → (slice_index_or deletions (passed - 1) d).0 + (slice_index_or deletions (passed - 1) d).1 ≡ end
+  pub last : (d : ℕ × ℕ) → 0 < passed
+      → (slice_index_or deletions (passed - 1) d).0 + (slice_index_or deletions (passed - 1) d).1
+      ≡ end
 
 -- what holds of how far a walk has come
 pub record IsWalked (deletions : List (ℕ × ℕ)) (reached : Reached) : Type 0 where

@@ -46,9 +46,11 @@ abbrev pub CanHalve : ℕ → ℕ → ℕ → Type 0
 CanHalve limit probes len = (left : ℕ) × (len ≤ 2 ^ left) × (probes + left ≤ limit)
 
 -- what halvings leave of a search range, and of the probes
-pub record Narrows (passing : ℕ → Bool) (size : ℕ) (before : SearchRange) (spent : ℕ) (after : SearchRange) (now : ℕ) : Type 0 where
+pub record Narrows (passing : ℕ → Bool) (size : ℕ) (before : SearchRange) (spent : ℕ)
+    (after : SearchRange) (now : ℕ) : Type 0 where
   pub within : IsRangeOf after size
   pub some : 0 < before.len → 0 < after.len
   pub first : passing before.start ≡ true → passing after.start ≡ true
-  pub narrowed : IsPartitioned passing size → IsNarrowed passing size before → IsNarrowed passing size after
+  pub narrowed : IsPartitioned passing size → IsNarrowed passing size before
+      → IsNarrowed passing size after
   pub can : (limit : ℕ) → CanHalve limit spent before.len → CanHalve limit now after.len

@@ -53,7 +53,8 @@ impl<'a> BlockedSlice<'a> {
     #[inline(always)]
     pub fn output_to_input_offset(&self, output_offset: u64) -> Option<u64>
         ensures { HaveHeads self.now
-            → MatchOption result (¬ (HasInput (deletions_of self.now.deltas) output_offset)) (IsSelected (deletions_of self.now.deltas) output_offset) }
+            → MatchOption result (¬ (HasInput (deletions_of self.now.deltas) output_offset))
+            (IsSelected (deletions_of self.now.deltas) output_offset) }
     {
         let added = search::bytes_before_by_heads(self.deltas, self.heads, output_offset);
         output_offset.checked_add(added)

@@ -4,7 +4,8 @@ ghost use Rattle.std.specs.Prelude.{◌≡◌, ◌-◌, ◌≤◌, ◌↔◌, Is
 ghost use Rattle.linker_base.specs.Deletions.{rank};
 ghost use Rattle.linker_base.specs.Deltas.{deletion_of};
 ghost use Rattle.linker_base.specs.Listed.{AreValidDeltas};
-ghost use Rattle.linker_base.specs.Walk.{Walk, passed_bytes, walk_to, walk_through, IsAhead, CanTranslate, AreAhead};
+ghost use Rattle.linker_base.specs.Walk.{Walk, passed_bytes, walk_to, walk_through, IsAhead};
+ghost use Rattle.linker_base.specs.Walk.{CanTranslate, AreAhead};
 
 use super::RelaxDelta;
 use super::walk::{Reached, ascend, pass, walk};

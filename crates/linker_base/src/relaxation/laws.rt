@@ -1,5 +1,8 @@
 //! Laws of deletions: each function does nothing, and its contract is a law.
-ghost use Rattle.linker_base.specs.Laws.{InAfterOutReturns, OutAfterInIsFirstKept, OutAfterInReturnsKept, RankNeverDecreases, MergeOrderIsFree, CursorGivesRanks, MergesShortenDistances};
+ghost use Rattle.linker_base.specs.Laws.{InAfterOutReturns, OutAfterInIsFirstKept};
+ghost use Rattle.linker_base.specs.Laws.{OutAfterInReturnsKept, RankNeverDecreases};
+ghost use Rattle.linker_base.specs.Laws.{MergeOrderIsFree, CursorGivesRanks};
+ghost use Rattle.linker_base.specs.Laws.{MergesShortenDistances};
 
 /// Back to the output: the input offset of an output offset `y` isn't strictly inside a deletion,
 /// and its output offset is `y`.

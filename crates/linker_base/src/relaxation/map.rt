@@ -1,6 +1,7 @@
 //! The deltas of several sections.
 
-ghost use Rattle.std.specs.Prelude.{◌≡◌, ◌<◌, ◌↔◌, ℕ, IsTrue, IsOk, IfSome, IfOk, IfErr, OnOk, OnErr, None, MatchOption, option_map, option_copied};
+ghost use Rattle.std.specs.Prelude.{◌≡◌, ◌<◌, ◌↔◌, ℕ, IsTrue, IsOk, IfSome, IfOk, IfErr, OnOk};
+ghost use Rattle.std.specs.Prelude.{OnErr, None, MatchOption, option_map, option_copied};
 ghost use Rattle.std.specs.Borrow.{LendsIf, sem};
 ghost use Rattle.std.specs.FinMap as finite;
 ghost use Rattle.linker_base.specs.Sections.{IsAboveAll, IsLast, IndicesRise, IsAt, IsGap};
@@ -99,7 +100,8 @@ impl RelaxDeltaMap {
     /// The deltas of the section to change, if it is there. All other sections stay. The search
     /// takes O(log n).
     pub fn get_mut(&mut self, section_index: usize) -> Option<&mut SectionRelaxDeltas>
-        ensures* lends { sem 𝓛 (LendsIf the_row deltas_row self.entry result (λ left. finite.insert self.old section_index left) self.old) }
+        ensures* lends { sem 𝓛 (LendsIf the_row deltas_row self.entry result
+            (λ left. finite.insert self.old section_index left) self.old) }
         ensures value { option_map (λ deltas. deltas.now) result
             ≡ finite.get self.old section_index }
     {

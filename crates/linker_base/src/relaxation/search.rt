@@ -1,10 +1,12 @@
 //! Searches among deltas. Each is safe for any deltas, and promises its result where they are
 //! valid.
 
-ghost use Rattle.std.specs.Prelude.{◌≡◌, ◌<◌, ◌≤◌, ◌+◌, ◌-◌, ◌*◌, ◌%◌, ◌^◌, ◌↔◌, max, IsTrue, MatchOption, Any, map, length, take};
+ghost use Rattle.std.specs.Prelude.{◌≡◌, ◌<◌, ◌≤◌, ◌+◌, ◌-◌, ◌*◌, ◌%◌, ◌^◌, ◌↔◌, max, IsTrue};
+ghost use Rattle.std.specs.Prelude.{MatchOption, Any, map, length, take};
 ghost use Rattle.std.specs.List.Sorted.{IsPartitionPoint};
 ghost use Rattle.linker_base.specs.Blocks.{AreHeads};
-ghost use Rattle.linker_base.specs.Deletions.{AreKept, IsValid, bytes_of, rank, IsInsideDeletion, IsSelected, HasInput};
+ghost use Rattle.linker_base.specs.Deletions.{AreKept, IsValid, bytes_of, rank, IsInsideDeletion};
+ghost use Rattle.linker_base.specs.Deletions.{IsSelected, HasInput};
 ghost use Rattle.linker_base.specs.Deltas.{deletion_of};
 ghost use Rattle.linker_base.specs.Listed.{AreValidDeltas};
 ghost use Rattle.linker_base.specs.Inner.Listed.{ArePlaced, IsOnlyAt};
@@ -32,7 +34,8 @@ pub(super) fn bytes_of_first(deltas: &[RelaxDelta], count: usize) -> u64
 pub(super) fn count_below(deltas: &[RelaxDelta], offset: u64) -> usize
     ensures within { result ≤ length deltas.now }
     ensures below { IsValid (map deletion_of deltas.now)
-        → IsPartitionPoint (λ d. d.0 < offset) (λ d. offset ≤ d.0) (map deletion_of deltas.now) result }
+        → IsPartitionPoint (λ d. d.0 < offset) (λ d. offset ≤ d.0)
+        (map deletion_of deltas.now) result }
 {
     search_deltas(&mut Arrays::new(deltas), Test::Begins(offset))
 }
@@ -64,7 +67,8 @@ pub(super) fn rank(deltas: &[RelaxDelta], offset: u64) -> u64
 #[inline(always)]
 pub(super) fn rank_after(last: RelaxDelta, offset: u64) -> u64
     ensures { result
-        ≡ (max offset ((last.input_offset + last.bytes_deleted) % 2 ^ 64) + (2 ^ 64 - last.cumulative_deleted)) % 2 ^ 64 }
+        ≡ (max offset ((last.input_offset + last.bytes_deleted) % 2 ^ 64)
+        + (2 ^ 64 - last.cumulative_deleted)) % 2 ^ 64 }
 {
     let end = last
         .input_offset
@@ -77,7 +81,9 @@ pub(super) fn rank_after(last: RelaxDelta, offset: u64) -> u64
 pub(super) fn rank_of_kept(deltas: &[RelaxDelta], start: u64, len: u64) -> Option<u64>
     requires { start + len < 2 ^ 64 }
     ensures { AreValidDeltas deltas.now
-        → MatchOption result (¬ (AreKept (map deletion_of deltas.now) start len)) (λ output. AreKept (map deletion_of deltas.now) start len × (output ≡ rank (map deletion_of deltas.now) start)) }
+        → MatchOption result (¬ (AreKept (map deletion_of deltas.now) start len))
+        (λ output. AreKept (map deletion_of deltas.now) start len
+        × (output ≡ rank (map deletion_of deltas.now) start)) }
 {
     let first = rank(deltas, start);
     let past = rank(deltas, start + len);
@@ -94,7 +100,8 @@ pub(super) fn bytes_before(deltas: &[RelaxDelta], output_offset: u64) -> u64
     ensures selected { AreValidDeltas deltas.now
         → IsSelected (map deletion_of deltas.now) output_offset (output_offset + result) }
     ensures fits { AreValidDeltas deltas.now
-        → (HasInput (map deletion_of deltas.now) output_offset ↔ (output_offset + result < 2 ^ 64)) }
+        → (HasInput (map deletion_of deltas.now) output_offset
+        ↔ (output_offset + result < 2 ^ 64)) }
 {
     bytes_of_first(deltas, count_placed(deltas, output_offset))
 }
@@ -118,7 +125,8 @@ pub(super) fn is_inside(deltas: &[RelaxDelta], offset: u64) -> bool
 #[inline(always)]
 pub(super) fn delta_at(deltas: &[RelaxDelta], offset: u64) -> Option<RelaxDelta>
     ensures { AreValidDeltas deltas.now
-        → MatchOption result (¬ (Any (λ d. d.0 ≡ offset) (map deletion_of deltas.now))) (λ delta. IsOnlyAt (map deletion_of deltas.now) offset delta.bytes_deleted) }
+        → MatchOption result (¬ (Any (λ d. d.0 ≡ offset) (map deletion_of deltas.now)))
+        (λ delta. IsOnlyAt (map deletion_of deltas.now) offset delta.bytes_deleted) }
 {
     let below = count_below(deltas, offset);
     if below < deltas.len() && deltas[below].input_offset == offset {
@@ -154,7 +162,8 @@ pub(super) fn bytes_before_by_heads(
     ensures selected { AreValidDeltas deltas.now → AreHeads deltas.now heads.now
         → IsSelected (map deletion_of deltas.now) output_offset (output_offset + result) }
     ensures fits { AreValidDeltas deltas.now → AreHeads deltas.now heads.now
-        → (HasInput (map deletion_of deltas.now) output_offset ↔ (output_offset + result < 2 ^ 64)) }
+        → (HasInput (map deletion_of deltas.now) output_offset
+        ↔ (output_offset + result < 2 ^ 64)) }
 {
     let placed = search_blocks(&mut Arrays { deltas, heads }, Test::IsPlaced(output_offset));
     bytes_of_first(deltas, placed)

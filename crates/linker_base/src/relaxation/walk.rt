@@ -64,7 +64,8 @@ pub(super) fn walk(
     ensures walked { AreValidDeltas deltas.now → IsWalked (map deletion_of deltas.now) from
         → IsWalked (map deletion_of deltas.now) result }
     ensures passed { AreValidDeltas deltas.now
-        → walk_at (map deletion_of deltas.now) result.passed ≡ walk_through (walk_at (map deletion_of deltas.now) from.passed) queries.now }
+        → walk_at (map deletion_of deltas.now) result.passed
+        ≡ walk_through (walk_at (map deletion_of deltas.now) from.passed) queries.now }
     ensures ranks { AreValidDeltas deltas.now → IsWalked (map deletion_of deltas.now) from
         → AreAhead (walk_at (map deletion_of deltas.now) from.passed) queries.now
         → out.new ≡ map (rank (map deletion_of deltas.now)) queries.now }

@@ -1,8 +1,11 @@
 -- Runs of places, as the engine keeps them.
-use Rattle.std.specs.Prelude.{ℕ, ◌+◌, Bool, true, false, not, ◌&&◌, ◌||◌, ◌==◌, nat_le, nat_lt, List, [], ◌∷◌}
+use Rattle.std.specs.Prelude.{ℕ, ◌+◌, Bool, true, false, not, ◌&&◌, ◌||◌, ◌==◌, nat_le, nat_lt}
+use Rattle.std.specs.Prelude.{List, [], ◌∷◌}
 use Rattle.std.specs.List.{list_all, flat_map}
 use Rattle.std.specs.Int.{Width, w16, w32, w64}
-use Rattle.linker_base.specs.Form.{ImmediateBit, consecutive_bits, replaced, ored, cleared, values_apart, Sign, unsigned, twos_complement, Layout, one_field, own_form}
+use Rattle.linker_base.specs.Form.{ImmediateBit, consecutive_bits, replaced, ored, cleared}
+use Rattle.linker_base.specs.Form.{values_apart, Sign, unsigned, twos_complement, Layout, one_field}
+use Rattle.linker_base.specs.Form.{own_form}
 use Rattle.linker_base.specs.Form as form
 use Rattle.linker_utils.specs.declared.elf.engine.Mark.{Mark}
 use Rattle.linker_utils.specs.declared.elf.engine.Mark.TheVariants.{Replaced, Ored, Cleared}
@@ -35,7 +38,9 @@ spread rs = flat_map run_places rs
 
 -- a run of 1 to 63 bits lies in 64 bits of the value and of the window
 abbrev pub run_fits : Run → Bool
-run_fits r = nat_lt 0 r.len && (nat_lt r.len 64 && (nat_le (r.value + r.len) 64 && nat_le (r.insn_bit + r.len) 64))
+run_fits r =
+    nat_lt 0 r.len
+    && (nat_lt r.len 64 && (nat_le (r.value + r.len) 64 && nat_le (r.insn_bit + r.len) 64))
 
 -- the n numbers from a up are none of the m from b up
 abbrev pub is_apart : ℕ → ℕ → ℕ → ℕ → Bool
@@ -57,8 +62,8 @@ runs_read rs = list_all run_fits rs && values_apart (spread rs)
 abbrev pub words_below : ℕ → List ImmediateBit → Bool
 words_below n ps = list_all (λ (p : ImmediateBit). nat_lt p.insn_bit n) ps
 
--- how `read_value` reads a form of one field: without a sign, or n bits in two's complement, where the flag is false or says
--- that the number is below 0
+-- how `read_value` reads a form of one field: without a sign, or n bits in two's complement, where
+-- the flag is false or says that the number is below 0
 abbrev pub is_unsigned : Sign → Bool
 is_unsigned unsigned = true
 is_unsigned twos_complement = false

@@ -2,7 +2,9 @@
 
 ghost use Rattle.std.specs.Prelude.{◌≡◌, ◌≤◌, IfSome};
 ghost use Rattle.linker_utils.specs.Agrees.{RowAgrees, RowFits};
-ghost use Rattle.linker_utils.specs.AArch64Rows.{aarch64_row, bytes_row, bits_row, of_size_row, signed_row, unsigned_row, within_row, aligned_row, paged_row, thunkable_row};
+ghost use Rattle.linker_utils.specs.AArch64Rows.{aarch64_row, bytes_row, bits_row, of_size_row};
+ghost use Rattle.linker_utils.specs.AArch64Rows.{signed_row, unsigned_row, within_row, aligned_row};
+ghost use Rattle.linker_utils.specs.AArch64Rows.{paged_row, thunkable_row};
 ghost use Rattle.linker_utils.specs.ElfNames.{IsNameOf, code_of, text_of};
 ghost use Rattle.linker_utils.specs.AArch64Names.{aarch64_name};
 

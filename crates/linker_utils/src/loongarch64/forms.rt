@@ -33,10 +33,12 @@ impl LoongArch64Instruction {
     #[inline(always)]
     fn place(self, value: u64, negative: bool, dest: &mut [u8])
         requires { byte_len (loongarch_form self).window ≤ length dest.old }
-        ensures written { Written (loongarch_form self) value negative (window_of (loongarch_form self) dest.old) (window_of (loongarch_form self) dest.new) }
+        ensures written { Written (loongarch_form self) value negative
+            (window_of (loongarch_form self) dest.old) (window_of (loongarch_form self) dest.new) }
         ensures rest { drop (byte_len (loongarch_form self).window) dest.new
             ≡ drop (byte_len (loongarch_form self).window) dest.old }
-        ensures same { window_of (loongarch_form self) dest.new ≡ window_of (loongarch_form self) dest.old
+        ensures same { window_of (loongarch_form self) dest.new
+            ≡ window_of (loongarch_form self) dest.old
             → dest.new ≡ dest.old }
     {
         let insn = RelocationInstruction::LoongArch64(self);
@@ -67,14 +69,18 @@ impl LoongArch64Instruction {
     #[inline]
     pub fn write_to_value(self, extracted_value: u64, negative: bool, dest: &mut [u8])
         requires room { byte_len (loongarch_form self).window ≤ length dest.old }
-        requires fits { Fits (loongarch_form self) extracted_value (window_of (loongarch_form self) dest.old) }
-        ensures written { Written (loongarch_form self) extracted_value negative (window_of (loongarch_form self) dest.old) (window_of (loongarch_form self) dest.new) }
+        requires fits { Fits (loongarch_form self) extracted_value
+            (window_of (loongarch_form self) dest.old) }
+        ensures written { Written (loongarch_form self) extracted_value negative
+            (window_of (loongarch_form self) dest.old) (window_of (loongarch_form self) dest.new) }
         ensures rest { drop (byte_len (loongarch_form self).window) dest.new
             ≡ drop (byte_len (loongarch_form self).window) dest.old }
-        ensures machine { MachineReads (loongarch_form self) extracted_value negative (window_of (loongarch_form self) dest.old) (window_of (loongarch_form self) dest.new) }
+        ensures machine { MachineReads (loongarch_form self) extracted_value negative
+            (window_of (loongarch_form self) dest.old) (window_of (loongarch_form self) dest.new) }
         ensures low { ReadsLow self extracted_value (window_of (loongarch_form self) dest.new) }
         ensures reaches { Reaches self extracted_value (window_of (loongarch_form self) dest.new) }
-        ensures restored { IsReadBack (loongarch_form self) extracted_value negative (window_of (loongarch_form self) dest.old)
+        ensures restored { IsReadBack (loongarch_form self) extracted_value negative
+            (window_of (loongarch_form self) dest.old)
             → dest.new ≡ dest.old }
     {
         self.place(extracted_value, negative, dest);
@@ -85,8 +91,8 @@ impl LoongArch64Instruction {
     #[inline]
     pub fn read_value(self, bytes: &[u8]) -> (u64, bool)
         requires { byte_len (loongarch_form self).window ≤ length bytes.now }
-        ensures number { result.0
-            ≡ cast_unsigned w64 ((loongarch_form self).reading (window_of (loongarch_form self) bytes.now)) }
+        ensures number { result.0 ≡ cast_unsigned w64
+            ((loongarch_form self).reading (window_of (loongarch_form self) bytes.now)) }
         ensures flag { result.1
             ≡ (loongarch_form self).flag (window_of (loongarch_form self) bytes.now) }
     {
@@ -116,8 +122,9 @@ impl LoongArch64Instruction {
 #[inline(always)]
 fn read_call_36(bytes: &[u8]) -> u64
     requires { 8 ≤ length bytes.now }
-    ensures { result
-        ≡ cast_unsigned w64 ((loongarch_form LoongArch64Instruction.Call36).reading (window_of (loongarch_form LoongArch64Instruction.Call36) bytes.now)) }
+    ensures { result ≡ cast_unsigned w64
+        ((loongarch_form LoongArch64Instruction.Call36).reading
+        (window_of (loongarch_form LoongArch64Instruction.Call36) bytes.now)) }
 {
     let high = engine::read(Window::Eight, &CALL_36_HIGH, bytes);
     let (low, _) = engine::read_signed(Window::Eight, &CALL_36_LOW, 16, bytes);

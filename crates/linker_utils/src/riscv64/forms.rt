@@ -59,7 +59,8 @@ impl RiscVInstruction {
     #[inline(always)]
     fn place(self, value: u64, negative: bool, dest: &mut [u8])
         requires { byte_len (riscv_form self).window ≤ length dest.old }
-        ensures written { Written (riscv_form self) value negative (window_of (riscv_form self) dest.old) (window_of (riscv_form self) dest.new) }
+        ensures written { Written (riscv_form self) value negative
+            (window_of (riscv_form self) dest.old) (window_of (riscv_form self) dest.new) }
         ensures rest { drop (byte_len (riscv_form self).window) dest.new
             ≡ drop (byte_len (riscv_form self).window) dest.old }
         ensures same { window_of (riscv_form self) dest.new ≡ window_of (riscv_form self) dest.old
@@ -106,11 +107,14 @@ impl RiscVInstruction {
     #[inline]
     pub fn write_to_value(self, extracted_value: u64, negative: bool, dest: &mut [u8])
         requires { byte_len (riscv_form self).window ≤ length dest.old }
-        ensures written { Written (riscv_form self) extracted_value negative (window_of (riscv_form self) dest.old) (window_of (riscv_form self) dest.new) }
+        ensures written { Written (riscv_form self) extracted_value negative
+            (window_of (riscv_form self) dest.old) (window_of (riscv_form self) dest.new) }
         ensures rest { drop (byte_len (riscv_form self).window) dest.new
             ≡ drop (byte_len (riscv_form self).window) dest.old }
-        ensures machine { MachineReads (riscv_form self) extracted_value negative (window_of (riscv_form self) dest.old) (window_of (riscv_form self) dest.new) }
-        ensures restored { IsReadBack (riscv_form self) extracted_value negative (window_of (riscv_form self) dest.old)
+        ensures machine { MachineReads (riscv_form self) extracted_value negative
+            (window_of (riscv_form self) dest.old) (window_of (riscv_form self) dest.new) }
+        ensures restored { IsReadBack (riscv_form self) extracted_value negative
+            (window_of (riscv_form self) dest.old)
             → dest.new ≡ dest.old }
         ensures pair { PairReads self extracted_value (window_of (riscv_form self) dest.new) }
     {
@@ -124,8 +128,8 @@ impl RiscVInstruction {
     #[inline]
     pub fn read_value(self, bytes: &[u8]) -> (u64, bool)
         requires { byte_len (riscv_form self).window ≤ length bytes.now }
-        ensures number { result.0
-            ≡ cast_unsigned w64 ((riscv_form self).reading (window_of (riscv_form self) bytes.now)) }
+        ensures number { result.0 ≡ cast_unsigned w64
+            ((riscv_form self).reading (window_of (riscv_form self) bytes.now)) }
         ensures flag { result.1 ≡ (riscv_form self).flag (window_of (riscv_form self) bytes.now) }
     {
         let insn = RelocationInstruction::RiscV(self);

@@ -4,7 +4,8 @@ ghost use Rattle.std.specs.Prelude.{◌≡◌, ◌≤◌, ◌↔◌, IsTrue, len
 ghost use Rattle.std.specs.Int.{from_le_bytes, w16};
 ghost use Rattle.linker_base.specs.Rewrite.{CanRewrite, rewritten, offset_after, addend_after};
 ghost use Rattle.linker_base.specs.Bits.{signed};
-ghost use Rattle.linker_utils.specs.RiscV.{riscv_rewrite, riscv_modifier, hi20, lo12, IsSigned32, FitsClui, HoldsHigh};
+ghost use Rattle.linker_utils.specs.RiscV.{riscv_rewrite, riscv_modifier, hi20, lo12, IsSigned32};
+ghost use Rattle.linker_utils.specs.RiscV.{FitsClui, HoldsHigh};
 ghost use Rattle.linker_utils.specs.Agrees.{RowFits};
 ghost use Rattle.linker_utils.specs.RiscVRows.{clui_row};
 

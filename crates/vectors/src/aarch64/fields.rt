@@ -1,6 +1,8 @@
-//! Fields that are only ORed: words that LLVM 19.1.7's and GNU binutils 2.40's assemblers and linkers wrote.
+//! Fields that are only ORed: words that LLVM 19.1.7's and GNU binutils 2.40's assemblers and
+//! linkers wrote.
 
-/// `adr` and `adrp`: the word before, the value, the word after, and the number that the machine reads.
+/// `adr` and `adrp`: the word before, the value, the word after, and the number that the machine
+/// reads.
 pub(super) static ADR: [(u32, u64, u32, i64); 71] = [
     (0x1000_0000, 0x12c4ab, 0x7096_2540, -867157),
     (0x1000_0000, 0x17ffff, 0x70bf_ffe0, -524289),
@@ -75,7 +77,8 @@ pub(super) static ADR: [(u32, u64, u32, i64); 71] = [
     (0x9000_0009, 0xfffff, 0xf07f_ffe9, 1048575),
 ];
 
-/// `movk` and `movz`: the word before, the value, the word after, and the number that the machine reads.
+/// `movk` and `movz`: the word before, the value, the word after, and the number that the machine
+/// reads.
 pub(super) static MOVKZ: [(u32, u64, u32, i64); 85] = [
     (0xd280_0001, 0x3, 0xd280_0061, 3),
     (0xd280_0001, 0x11, 0xd280_0221, 17),
@@ -164,7 +167,8 @@ pub(super) static MOVKZ: [(u32, u64, u32, i64); 85] = [
     (0xf2e0_0009, 0xd8aa, 0xf2fb_1549, 55466),
 ];
 
-/// `ldr` of a literal: the word before, the value, the word after, and the number that the machine reads.
+/// `ldr` of a literal: the word before, the value, the word after, and the number that the machine
+/// reads.
 pub(super) static LDR: [(u32, u64, u32, i64); 48] = [
     (0x5800_0003, 0x458e8, 0x588b_1d03, -239384),
     (0x5800_0003, 0x5ddfb, 0x58bb_bf63, -139781),
@@ -216,7 +220,8 @@ pub(super) static LDR: [(u32, u64, u32, i64); 48] = [
     (0x9c00_0005, 0x20001, 0x9c40_0025, 131073),
 ];
 
-/// `ldr` of a register: the word before, the value, the word after, and the number that the machine reads.
+/// `ldr` of a register: the word before, the value, the word after, and the number that the machine
+/// reads.
 pub(super) static LDR_REGISTER: [(u32, u64, u32, i64); 21] = [
     (0xb940_0123, 0x3, 0xb940_0d23, 3),
     (0xb940_0123, 0x11, 0xb940_4523, 17),
@@ -287,7 +292,8 @@ pub(super) static ADD: [(u32, u64, u32, i64); 42] = [
     (0x9140_0083, 0xe0c, 0x9178_3083, 3596),
 ];
 
-/// `tbz` and `tbnz`: the word before, the value, the word after, and the number that the machine reads.
+/// `tbz` and `tbnz`: the word before, the value, the word after, and the number that the machine
+/// reads.
 pub(super) static TST_BR: [(u32, u64, u32, i64); 37] = [
     (0x3628_0003, 0x2a90, 0x362d_5203, -5488),
     (0x3628_0003, 0x3638, 0x362e_c703, -2504),
@@ -328,7 +334,8 @@ pub(super) static TST_BR: [(u32, u64, u32, i64); 37] = [
     (0x36f8_0001, 0x1000, 0x36fa_0001, 4096),
 ];
 
-/// `b.cond`, `cbz` and `cbnz`: the word before, the value, the word after, and the number that the machine reads.
+/// `b.cond`, `cbz` and `cbnz`: the word before, the value, the word after, and the number that the
+/// machine reads.
 pub(super) static BCOND: [(u32, u64, u32, i64); 65] = [
     (0x5400_0000, 0x44a12, 0x5489_4240, -243182),
     (0x5400_0000, 0x60000, 0x54c0_0000, -131072),

@@ -1,7 +1,7 @@
 //! Pairs and sequences that LLVM 19.1.7's linker wrote.
 
-/// The value, the pair after and the distance in units of 4 bytes. The pair before is `pcaddu18i $ra, 0` and
-/// `jirl $ra, $ra, 0`.
+/// The value, the pair after and the distance in units of 4 bytes. The pair before is
+/// `pcaddu18i $ra, 0` and `jirl $ra, $ra, 0`.
 pub(crate) const CALL_36: [(u64, u64, i64); 31] = [
     (0x7_ffff_7ffe, 0x4dff_f821_1eff_ffe1, 34359705598),
     (0xf_ffff_fffb, 0x4fff_ec21_1e00_0001, -5),
@@ -308,7 +308,8 @@ pub(crate) const PAGE_PAIR: [(u64, u64, u32, u32); 30] = [
     (0xff_7ee3_8000, 0xff_1de7_7695, 0x1b3e_07e4, 0x02da_5484),
 ];
 
-/// The place of the first of five instructions, the target, and the first four after, two in a number.
+/// The place of the first of five instructions, the target, and the first four after, two in a
+/// number.
 pub(crate) const FIVE: [(u64, u64, u64, u64); 41] = [
     (
         0xb0_e22a_0ffc,

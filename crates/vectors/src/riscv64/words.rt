@@ -1,6 +1,7 @@
 //! Instructions as assemblers and linkers write them: LLVM 19.1.7's `llvm-mc` and `ld.lld`, and GNU
-//! binutils 2.40's `as` and `ld`. Each word was assembled once with an immediate of 0 or linked from an
-//! instruction that had one, and once with the value: no number here comes from this library.
+//! binutils 2.40's `as` and `ld`. Each word was assembled once with an immediate of 0 or linked
+//! from an instruction that had one, and once with the value: no number here comes from this
+//! library.
 
 /// A form's word before, the value, the word after, and what the machine reads there.
 pub(super) type Word = (u32, i64, u32, i64);

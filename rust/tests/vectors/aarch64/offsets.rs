@@ -1,7 +1,9 @@
 // Made by tools/erase of crates/vectors/src/aarch64/offsets.rt.
-//! Offsets of loads and stores: words that LLVM 19.1.7's and GNU binutils 2.40's assemblers and linkers wrote.
+//! Offsets of loads and stores: words that LLVM 19.1.7's and GNU binutils 2.40's assemblers and
+//! linkers wrote.
 
-/// Offsets in units of the access size: the word before, the value, the word after, and the number that the machine reads.
+/// Offsets in units of the access size: the word before, the value, the word after, and the number
+/// that the machine reads.
 pub(super) static LD_ST: [(u32, u64, u32, i64); 180] = [
     (0x3940_00e3, 0x3, 0x3940_0ce3, 3),
     (0x3940_00e3, 0x11, 0x3940_44e3, 17),
@@ -185,7 +187,8 @@ pub(super) static LD_ST: [(u32, u64, u32, i64); 180] = [
     (0x3d80_00e3, 0xe9c, 0x3dba_70e3, 3740),
 ];
 
-/// Offsets in bytes: the word before, the value, the word after, and the number that the machine reads.
+/// Offsets in bytes: the word before, the value, the word after, and the number that the machine
+/// reads.
 pub(super) static MACHO_LOW12: [(u32, u64, u32, i64); 190] = [
     (0x3966_58e3, 0x3, 0x3940_0ce3, 3),
     (0x396b_0ce3, 0x11, 0x3940_44e3, 17),
