@@ -92,7 +92,9 @@ enum linker_utils_status {
     /* A call's site is less than 4 above that of the call before it. */
     LINKER_UTILS_CALLS_NOT_APART = 24,
     /* The eight bytes at the site are not an `auipc` and a `jalr` over its register. */
-    LINKER_UTILS_NOT_A_CALL = 25
+    LINKER_UTILS_NOT_A_CALL = 25,
+    /* a call that `linker_utils_calls_shrinkable` does not accept */
+    LINKER_UTILS_CALLS_NOT_SHRINKABLE = 26
 };
 
 /* A constant sentence in English for each status, and another for all other numbers. */
@@ -134,6 +136,8 @@ static inline const char *linker_utils_status_text(uint32_t status) {
         return "A call's site is less than 4 above that of the call before it.";
     case LINKER_UTILS_NOT_A_CALL:
         return "The eight bytes at the site are not an `auipc` and a `jalr` over its register.";
+    case LINKER_UTILS_CALLS_NOT_SHRINKABLE:
+        return "`linker_utils_calls_shrinkable` does not accept a call.";
     }
     return "No status has this number.";
 }
@@ -944,6 +948,55 @@ static inline uint32_t linker_utils_pack(const uint8_t *section, size_t section_
         LINKER_UTILS_SLICE(const struct linker_utils_delta, deltas), deltas_len,
         LINKER_UTILS_SLICE(const struct linker_utils_call, calls), calls_len, link,
         LINKER_UTILS_SLICE(uint8_t, packed), packed_len, faulty ? faulty : &ignored);
+}
+
+/* ---- Shrinking: which calls can become jumps at once, each without the four bytes after its
+ * first instruction. */
+
+uint32_t linker_utils_calls_shrinkable_nonnull(const struct linker_utils_delta *deltas,
+                                               size_t deltas_len,
+                                               const struct linker_utils_call *calls,
+                                               size_t calls_len, size_t *faulty);
+uint32_t linker_utils_shrink_calls_nonnull(const struct linker_utils_delta *deltas,
+                                           size_t deltas_len,
+                                           const struct linker_utils_call *calls,
+                                           size_t calls_len, uint8_t *chosen, size_t chosen_len,
+                                           size_t *faulty);
+
+/* Whether `linker_utils_shrink_calls` accepts the calls: their sites ascend by at least 8, the
+ * eight bytes at each site are kept, the deletions (site + 4, 4) may be merged all together, and no
+ * target is strictly inside one of them. LINKER_UTILS_CALLS_NOT_SHRINKABLE, and `faulty` is the
+ * first call that isn't accepted beside those before it. */
+static inline uint32_t linker_utils_calls_shrinkable(const struct linker_utils_delta *deltas,
+                                                     size_t deltas_len,
+                                                     const struct linker_utils_call *calls,
+                                                     size_t calls_len, size_t *faulty) {
+    size_t ignored;
+    return linker_utils_calls_shrinkable_nonnull(
+        LINKER_UTILS_SLICE(const struct linker_utils_delta, deltas), deltas_len,
+        LINKER_UTILS_SLICE(const struct linker_utils_call, calls), calls_len,
+        faulty ? faulty : &ignored);
+}
+
+/* Writes for each call 1 where it is chosen, and else 0. A choice is in reach where, once each of
+ * its calls has given up the four bytes at (site + 4, 4), the distance of each from its site to its
+ * target is even and in the range of `jal`. The one that is written is the greatest: each choice in
+ * reach is part of it. Its deletions are then to be merged, and its calls to be packed.
+ *
+ * LINKER_UTILS_DIFFERENT_LENGTHS where `chosen` has not as many bytes as there are calls.
+ * LINKER_UTILS_CALLS_NOT_SHRINKABLE as `linker_utils_calls_shrinkable`. It takes no memory. For k
+ * calls beside n deltas a sweep takes O(k (log n + log k + k / 1024)); there are mostly less than
+ * ten, and at most k + 1. */
+static inline uint32_t linker_utils_shrink_calls(const struct linker_utils_delta *deltas,
+                                                 size_t deltas_len,
+                                                 const struct linker_utils_call *calls,
+                                                 size_t calls_len, uint8_t *chosen,
+                                                 size_t chosen_len, size_t *faulty) {
+    size_t ignored;
+    return linker_utils_shrink_calls_nonnull(
+        LINKER_UTILS_SLICE(const struct linker_utils_delta, deltas), deltas_len,
+        LINKER_UTILS_SLICE(const struct linker_utils_call, calls), calls_len,
+        LINKER_UTILS_SLICE(uint8_t, chosen), chosen_len, faulty ? faulty : &ignored);
 }
 
 #undef LINKER_UTILS_SLICE

@@ -574,3 +574,35 @@ pub fn pack(
         )
     })
 }
+
+/// Whether `shrink_calls` accepts the calls: their sites ascend by at least 8, the eight bytes at each
+/// site are kept, the deletions (site + 4, 4) may be merged all together, and no target is strictly
+/// inside one of them. The entry at fault is the first call that isn't accepted beside those before it.
+pub fn calls_shrinkable(deltas: &[Delta], calls: &[Call]) -> Result<(), ArrayError> {
+    result_over(|faulty| unsafe {
+        raw::linker_utils_calls_shrinkable_nonnull(
+            deltas.as_ptr(),
+            deltas.len(),
+            calls.as_ptr(),
+            calls.len(),
+            faulty,
+        )
+    })
+}
+
+/// Writes for each call 1 where it is in the greatest choice of calls that can all become jumps at once,
+/// and else 0. Their deletions (site + 4, 4) are then to be merged. The entry at fault is a call, as
+/// with `calls_shrinkable`.
+pub fn shrink_calls(deltas: &[Delta], calls: &[Call], chosen: &mut [u8]) -> Result<(), ArrayError> {
+    result_over(|faulty| unsafe {
+        raw::linker_utils_shrink_calls_nonnull(
+            deltas.as_ptr(),
+            deltas.len(),
+            calls.as_ptr(),
+            calls.len(),
+            chosen.as_mut_ptr(),
+            chosen.len(),
+            faulty,
+        )
+    })
+}

@@ -80,6 +80,8 @@ numbered! {
         CallsNotApart = 24,
         /// The eight bytes at the site are not an `auipc` and a `jalr` over its register.
         NotACall = 25,
+        /// A call that `calls_shrinkable` does not accept.
+        CallsNotShrinkable = 26,
     }
 }
 
@@ -152,6 +154,9 @@ impl fmt::Display for Status {
             }
             Status::NotACall => {
                 "The eight bytes at the site are not an `auipc` and a `jalr` over its register."
+            }
+            Status::CallsNotShrinkable => {
+                "`linker_utils_calls_shrinkable` does not accept a call."
             }
         })
     }

@@ -218,6 +218,22 @@ extern "C" {
         packed_len: usize,
         faulty: *mut usize,
     ) -> u32;
+    pub fn linker_utils_calls_shrinkable_nonnull(
+        deltas: *const Delta,
+        deltas_len: usize,
+        calls: *const Call,
+        calls_len: usize,
+        faulty: *mut usize,
+    ) -> u32;
+    pub fn linker_utils_shrink_calls_nonnull(
+        deltas: *const Delta,
+        deltas_len: usize,
+        calls: *const Call,
+        calls_len: usize,
+        chosen: *mut u8,
+        chosen_len: usize,
+        faulty: *mut usize,
+    ) -> u32;
     pub fn linker_utils_deltas_block_count_nonnull(
         deltas: *const Delta,
         deltas_len: usize,

@@ -1,13 +1,14 @@
 -- What chosen calls delete, how far that moves the ends of a call, and which choices stay in reach.
-use Rattle.std.proofs.Common.{◌≡◌, ◌≢◌, ℕ, zero, suc, ◌+◌, ◌-◌, ◌*◌, ◌%◌, ◌^◌, ◌<◌, ◌≤◌, Bool, true, false, cond, List, [], ◌∷◌, ◌++◌, length, map, get_or, set, take, drop, refl, sym, subst, ◌∙◌, ap, inl, inr, arith, ℤ, pos, negsuc, ◌-ℤ◌}
+use Rattle.std.proofs.Common.{◌≡◌, ◌≢◌, ℕ, zero, suc, ◌+◌, ◌-◌, ◌*◌, ◌/◌, ◌%◌, ◌<◌, ◌≤◌, Bool, true, false, cond, List, [], ◌∷◌, ◌++◌, length, map, get_or, set, take, drop, replicate, leb, refl, sym, subst, ◌∙◌, ap, inl, inr, arith, ℤ, pos, negsuc, ◌-ℤ◌}
 use Rattle.std.specs.Prelude.{◌↔◌, IsTrue, All, AllPairs, Contains, min, max}
-use Rattle.std.proofs.lemmas.Bool.{cases_lt, cases_order, false≢true}
+use Rattle.std.proofs.lemmas.Bool.{cases_lt, cases_order, false≢true, le-leb, lt-leb}
 use Rattle.std.proofs.lemmas.Int.{ints}
-use Rattle.std.proofs.lemmas.List.{length-map, length-take, map-set, get_or-map, get_or-take, get_or_default, get_or-set_other, get_or-set_same, map-append, take-map, take-append-drop, take-take, take_more, take_more_set, append_assoc}
+use Rattle.std.proofs.lemmas.List.{length-map, length-take, map-set, get_or-map, get_or-take, get_or_default, get_or-set_other, get_or-set_same, map-append, take-map, take-append-drop, take-take, take_more, take_more_set, take_all, take-set-le, append_assoc, append-nil, length-replicate, length-set, get_or-replicate, get_or_past}
 use Rattle.std.proofs.lemmas.List.Elements.{All-head, All-tail, All-nil, All-cons, All-append, All-take, All-contains_itself, Contains-append_left, Contains-append_right}
-use Rattle.std.proofs.Math.Seq.{take-nil}
+use Rattle.std.proofs.Math.Seq.{take-nil, take-set-lt}
+use Rattle.std.proofs.Math.Nat.{mul-le-mul_right, div-mul-le_self, lt-div-mul-add}
 use Rattle.std.proofs.lemmas.List.Kept.{AllPairs-cons}
-use Rattle.std.proofs.lemmas.List.Sums.{sum_by-cons, sum_by-append, sum_by-set, count_by_more_yes, count_by_more_no}
+use Rattle.std.proofs.lemmas.List.Sums.{sum_by-cons, sum_by-append, sum_by-set, count_by_more_yes, count_by_more_no, count_by-le-length}
 use mir.Val.{bool_byte}
 use Rattle.linker_base.specs.Deletions.{DoNotOverlap, EndFits, AreDisjoint, AreKept, IsInsideDeletion, IsSortedUnion, rank}
 use Rattle.linker_base.proofs.Rank.{removed, removed_by, rank-removed, rank-mono, all_pairs_head, all_pairs_tail}
@@ -15,7 +16,8 @@ use Rattle.linker_base.proofs.Laws.{merges_shorten}
 use Rattle.linker_base.proofs.Unions.{disjoint_left, rank-permutation}
 use Rattle.linker_base.proofs.Merging.{disjoint_joined, disjoint_back, disjoint_across}
 use Rattle.linker_utils.specs.Shrinking.{shrinking, chosen_deletions, with_chosen, IsInReach, IsChosen, IsPartOf, AreShrinkable, ShrunkCallsAreAccepted}
-use Rattle.linker_utils.specs.Inner.Shrinking.{chosen_count, chosen_between, AreEightApart, IsApartAt, IsSplitBetween, IsSplit, IsInReachAt, KeepsOthers, ArePlaced, AreOutside, IsAround, AreClear, HaveHit}
+use Rattle.linker_utils.specs.Inner.Shrinking.{chosen_count, chosen_between, AreEightApart, IsApartAt, IsSplitBetween, IsSplit, IsInReachAt, KeepsOthers, ArePlaced, AreOutside, IsAround, AreClear, HaveHit, AreRunsOf, distance_over}
+use Rattle.linker_utils.specs.declared.relaxation.shrinking.Runs.{Runs}
 use Rattle.linker_utils.specs.RiscV.{IsEven, IsJalDistance, output_distance}
 
 -- ---- what chosen calls delete
@@ -182,7 +184,7 @@ count_dropped bs k within is =
 
 -- ---- the distance of a call after the chosen calls have given up their bytes
 
-module _ (ds calls : List (ℕ × ℕ)) (chosen : List Bool) (k split site target from to freed after : ℕ)
+module _ (ds calls : List (ℕ × ℕ)) (chosen : List Bool) (k split site target from to : ℕ)
     (shrinkable : AreShrinkable ds calls)
     (same : length chosen ≡ length calls)
     (within : k < length calls)
@@ -200,19 +202,31 @@ module _ (ds calls : List (ℕ × ℕ)) (chosen : List Bool) (k split site targe
       (target_parted calls target split parts (subst (λ (c : ℕ × ℕ). IsInsideDeletion (map shrinking calls) c.1 → ⊥) here (shrinkable.outside k (0, 0) within)))
       ∙ sym to_is
 
-  pub forward_distance : to < 2 ^ 64 → k ≤ split → freed ≡ min (4 * chosen_between chosen k split) (2 ^ 64 - 1) → after ≡ to - freed
-      → pos after -ℤ pos from ≡ output_distance (with_chosen ds calls chosen) site target
-  forward_distance wide le freed_is after_is =
+  forward_distance : (count : ℕ) → k ≤ split → count ≡ chosen_between chosen k split → pos (to - 4 * count) -ℤ pos from ≡ output_distance (with_chosen ds calls chosen) site target
+  forward_distance count le is =
       let between = count_between-split chosen k split le in
-      let moved : after ≡ rank (with_chosen ds calls chosen) target + 4 * chosen_count (take k chosen) = omega (arith, target_rank, between) in
+      let moved : to - 4 * count ≡ rank (with_chosen ds calls chosen) target + 4 * chosen_count (take k chosen) = omega (arith, target_rank, between) in
       omega (arith, ints, site_rank, moved)
 
-  pub backward_distance : from < 2 ^ 64 → split ≤ k → freed ≡ min (4 * chosen_between chosen split k) (2 ^ 64 - 1) → after ≡ from - freed
-      → pos to -ℤ pos after ≡ output_distance (with_chosen ds calls chosen) site target
-  backward_distance wide le freed_is after_is =
+  backward_distance : (count : ℕ) → split ≤ k → count ≡ chosen_between chosen split k → pos to -ℤ pos (from - 4 * count) ≡ output_distance (with_chosen ds calls chosen) site target
+  backward_distance count le is =
       let between = count_between-split chosen split k le in
-      let moved : after ≡ rank (with_chosen ds calls chosen) site + 4 * chosen_count (take split chosen) = omega (arith, site_rank, between) in
+      let moved : from - 4 * count ≡ rank (with_chosen ds calls chosen) site + 4 * chosen_count (take split chosen) = omega (arith, site_rank, between) in
       omega (arith, ints, target_rank, moved)
+
+  pub distance_over-is : (low high count : ℕ) → low ≡ min k split → high ≡ max k split → count ≡ chosen_between chosen low high → distance_over from to k split count ≡ output_distance (with_chosen ds calls chosen) site target
+  distance_over-is low high count low_is high_is is = elim (cases_lt split k) [
+    | inl back ↦
+        let test : leb k split ≡ false = lt-leb k split back in
+        let first : low ≡ split = omega arith in
+        let last : high ≡ k = omega arith in
+        rw test (backward_distance count (omega arith) (rw (first, last) at is))
+    | inr on ↦
+        let test : leb k split ≡ true = le-leb k split on in
+        let first : low ≡ k = omega arith in
+        let last : high ≡ split = omega arith in
+        rw test (forward_distance count on (rw (first, last) at is))
+  ]
 
 -- a test of the distance decides
 pub at_index : (ds calls : List (ℕ × ℕ)) (chosen : List Bool) (k site target : ℕ) (d : ℤ) (r : Bool) → k < length calls → get_or calls k (0, 0) ≡ (site, target)
@@ -287,6 +301,56 @@ in_reach_grows ds calls part whole k shrinkable same_part same_whole inside with
       (part_contained ds calls part whole (omega arith) inside) reach.1,
 )
 
+-- ---- calls that are in reach with none chosen, and out of it with all
+
+none_deleted : (calls : List (ℕ × ℕ)) → chosen_deletions calls (replicate (length calls) false) ≡ []
+none_deleted [] = refl
+none_deleted (c ∷ cs) = none_deleted cs
+
+count_all : (n m : ℕ) → m ≤ n → chosen_count (take m (replicate n true)) ≡ m
+count_all n zero le = refl
+count_all zero (suc m) le = absurd (omega arith)
+count_all (suc n) (suc m) le = omega (arith, count-cons true (take m (replicate n true)), count_all n m (omega arith))
+
+pub near_enough : (ds calls : List (ℕ × ℕ)) (chosen : List Bool) (k site target from to : ℕ) → AreShrinkable ds calls → length chosen ≡ length calls → k < length calls → get_or calls k (0, 0) ≡ (site, target)
+    → from ≡ rank ds site → to ≡ rank ds target → IsEven (pos to -ℤ pos from) × IsJalDistance (pos to -ℤ pos from) → IsInReachAt ds calls chosen k
+near_enough ds calls chosen k site target from to shrinkable same within here from_is to_is near call =
+    let none = replicate (length calls) false in
+    let bare : with_chosen ds calls none ≡ ds = ap (λ xs. ds ++ xs) (none_deleted calls) ∙ append-nil ds in
+    let d : pos to -ℤ pos from ≡ output_distance ds site target = ap (λ n. pos n -ℤ pos from) to_is ∙ ap (λ n. pos (rank ds target) -ℤ pos n) from_is in
+    let first : IsInReach ds (site, target) = subst (λ (z : ℤ). IsEven z × IsJalDistance z) d near in
+    let reach : IsInReach (with_chosen ds calls none) (get_or calls k (0, 0)) = rw (bare, here) first in
+    rw (get_or_default calls k call (0, 0) within)
+    (in_reach_grows ds calls none chosen k shrinkable (length-replicate (length calls) false) same (λ i is. absurd (not_in_none (length calls) i is)) within reach)
+  where
+    not_in_none : (n i : ℕ) → get_or (replicate n false) i false ≡ true → ⊥
+    not_in_none zero i is = false≢true is
+    not_in_none (suc n) zero is = false≢true is
+    not_in_none (suc n) (suc i) is = not_in_none n i is
+
+pub too_far : (ds calls : List (ℕ × ℕ)) (chosen : List Bool) (k split site target from to count : ℕ) → AreShrinkable ds calls → length chosen ≡ length calls → k < length calls → get_or calls k (0, 0) ≡ (site, target)
+    → IsSplit calls target split → from ≡ rank ds site → to ≡ rank ds target → split ≤ length calls → count ≡ max k split - min k split
+    → (IsEven (distance_over from to k split count) × IsJalDistance (distance_over from to k split count) → ⊥) → IsInReachAt ds calls chosen k → ⊥
+too_far ds calls chosen k split site target from to count shrinkable same within here parts from_is to_is bound counted far reach =
+    let all = replicate (length calls) true in
+    let long : length all ≡ length calls = length-replicate (length calls) true in
+    let low = count_all (length calls) (min k split) (omega arith) in
+    let high = count_all (length calls) (max k split) (omega arith) in
+    let between : count ≡ chosen_between all (min k split) (max k split) = omega (arith, low, high, count_between-split all (min k split) (max k split) (omega arith)) in
+    let d = distance_over-is ds calls all k split site target from to shrinkable long within here parts from_is to_is (min k split) (max k split) count refl refl between in
+    let grown : IsInReach (with_chosen ds calls all) (get_or calls k (0, 0)) =
+    in_reach_grows ds calls chosen all k shrinkable same long (λ i is. in_all (length calls) i (inside i is)) within (reach (0, 0)) in
+    far (subst (λ (z : ℤ). IsEven z × IsJalDistance z) (sym d) (rw here at grown))
+  where
+    in_all : (n i : ℕ) → i < n → get_or (replicate n true) i false ≡ true
+    in_all n i low = get_or-replicate n i true false low
+
+    inside : (i : ℕ) → get_or chosen i false ≡ true → i < length calls
+    inside i is = elim (cases_lt i (length calls)) [
+      | inl low ↦ low
+      | inr past ↦ absurd (false≢true (sym (get_or_past chosen i false (omega arith)) ∙ is))
+    ]
+
 -- so a call out of reach is in no choice that is part of this one and in reach
 pub drop_keeps : (ds calls : List (ℕ × ℕ)) (chosen : List Bool) (k : ℕ) → AreShrinkable ds calls → length chosen ≡ length calls → k < length calls
     → (IsInReachAt ds calls chosen k → ⊥) → KeepsOthers ds calls chosen (set chosen k false)
@@ -297,6 +361,101 @@ drop_keeps ds calls chosen k shrinkable same within out other same_other reach p
   | inr (inl below) ↦ let ne : i ≢ k = omega arith in rw (get_or-set_other chosen k i false false ne) (part i is)
   | inr (inr above) ↦ let ne : i ≢ k = omega arith in rw (get_or-set_other chosen k i false false ne) (part i is)
 ]
+
+-- ---- counts of runs
+
+-- what is past the end adds nothing
+count_clamped : (bs : List Bool) (n m : ℕ) → m ≡ min n (length bs) → chosen_count (take m bs) ≡ chosen_count (take n bs)
+count_clamped bs n m is = elim (cases_lt n (length bs)) [
+  | inl low ↦ let e : m ≡ n = omega arith in rw e refl
+  | inr past ↦ let e : m ≡ length bs = omega arith in rw e (ap chosen_count (take_all (length bs) bs (omega arith) ∙ sym (take_all n bs past)))
+]
+
+between_clamped : (bs : List Bool) (a b from to : ℕ) → a ≤ b → from ≡ min a (length bs) → to ≡ min b (length bs) → chosen_between bs from to ≡ chosen_between bs a b
+between_clamped bs a b from to le from_is to_is =
+    omega (arith, count_between-split bs a b le, count_between-split bs from to (omega arith), count_clamped bs a from from_is, count_clamped bs b to to_is)
+
+pub count_bound : (bs : List Bool) (n : ℕ) → chosen_count (take n bs) ≤ length bs
+count_bound bs n = omega (arith, count_by-le-length (λ b. b) (take n bs), length-take n bs)
+
+-- the next run
+pub runs_more : (bs : List Bool) (counts : List ℕ) (len run start next count : ℕ) → run < length counts → start ≡ min (run * len) (length bs) → next ≡ start + min len (length bs - start) → count ≡ chosen_between bs start next
+    → ((r : ℕ) (d : ℕ) → r < run → get_or counts r d ≡ chosen_between bs (r * len) (r * len + len))
+    → (r : ℕ) (d : ℕ) → r < run + 1 → get_or (set counts run count) r d ≡ chosen_between bs (r * len) (r * len + len)
+runs_more bs counts len run start next count within start_is next_is is before r d low = elim (cases_lt r run) [
+  | inl lower ↦ let ne : r ≢ run = omega arith in get_or-set_other counts run r count d ne ∙ before r d lower
+  | inr at ↦
+      let e : r ≡ run = omega arith in
+      rw e (get_or-set_same counts run count d within ∙ is ∙ between_clamped bs (run * len) (run * len + len) start next (omega arith) start_is (omega arith))
+]
+
+-- a run more is summed
+pub run_summed : (runs : Runs) (bs : List Bool) (run count base : ℕ) → AreRunsOf runs bs → run < 1024 → count + base ≡ chosen_count (take (run * runs.len) bs)
+    → (count + get_or runs.counts run 0) + base ≡ chosen_count (take ((run + 1) * runs.len) bs)
+run_summed runs bs run count base counted few before =
+    let next : (run + 1) * runs.len ≡ run * runs.len + runs.len = omega arith in
+    rw next (omega (arith, before, counted.counted run 0 few, count_between-split bs (run * runs.len) (run * runs.len + runs.len) (omega arith)))
+
+-- one call less, behind the first n and among them
+count_behind : (bs : List Bool) (k n : ℕ) → n ≤ k → chosen_count (take n (set bs k false)) ≡ chosen_count (take n bs)
+count_behind bs k n le = ap chosen_count (take-set-le n bs k false le)
+
+count_among : (bs : List Bool) (k n : ℕ) → k < length bs → get_or bs k false ≡ true → k < n → chosen_count (take n (set bs k false)) + 1 ≡ chosen_count (take n bs)
+count_among bs k n within is low =
+    let unit : ℕ = 1 in
+    let one : cond (get_or (take n bs) k false) 1 0 ≡ unit = rw (get_or-take n bs k false low, is) refl in
+    omega (arith, ap chosen_count (take-set-lt n bs k false low), sum_by-set (λ (b : Bool). cond b 1 0) (take n bs) k false false (omega (arith, length-take n bs)), one)
+
+pub runs_dropped : (runs : Runs) (bs : List Bool) (k : ℕ) → AreRunsOf runs bs → k < length bs → get_or bs k false ≡ true
+    → AreRunsOf (record { len = runs.len; counts = set runs.counts (k / runs.len) (get_or runs.counts (k / runs.len) 0 - 1) }) (set bs k false)
+runs_dropped runs bs k counted within is = record {
+  many = length-set runs.counts (k / runs.len) (get_or runs.counts (k / runs.len) 0 - 1) ∙ counted.many;
+  some = counted.some;
+  reach_end = omega (arith, counted.reach_end, length-set bs k false);
+  counted = each;
+}
+  where
+    each : (r : ℕ) (d : ℕ) → r < 1024 → get_or (set runs.counts (k / runs.len) (get_or runs.counts (k / runs.len) 0 - 1)) r d ≡ chosen_between (set bs k false) (r * runs.len) (r * runs.len + runs.len)
+    each r d low =
+        let begins = div-mul-le_self k runs.len in
+        let ends : k < k / runs.len * runs.len + runs.len = lt-div-mul-add counted.some in
+        elim (cases_order r (k / runs.len)) [
+          | inl at ↦
+              let old = counted.counted r 0 low in
+              rw (← at) (get_or-set_same runs.counts r (get_or runs.counts r 0 - 1) d (omega (arith, counted.many))
+              ∙ omega (
+                arith,
+                old,
+                count_between-split bs (r * runs.len) (r * runs.len + runs.len) (omega arith),
+                count_between-split (set bs k false) (r * runs.len) (r * runs.len + runs.len) (omega arith),
+                count_behind bs k (r * runs.len) (rw (← at) at begins),
+                count_among bs k (r * runs.len + runs.len) within is (rw (← at) at ends),
+              ))
+          | inr (inl below) ↦
+              let ne : r ≢ k / runs.len = omega arith in
+              let step : (r + 1) * runs.len ≤ k / runs.len * runs.len = mul-le-mul_right runs.len (omega arith) in
+              get_or-set_other runs.counts (k / runs.len) r (get_or runs.counts (k / runs.len) 0 - 1) d ne
+              ∙ omega (
+                arith,
+                counted.counted r d low,
+                count_between-split bs (r * runs.len) (r * runs.len + runs.len) (omega arith),
+                count_between-split (set bs k false) (r * runs.len) (r * runs.len + runs.len) (omega arith),
+                count_behind bs k (r * runs.len) (omega arith),
+                count_behind bs k (r * runs.len + runs.len) (omega arith),
+              )
+          | inr (inr above) ↦
+              let ne : r ≢ k / runs.len = omega arith in
+              let step : (k / runs.len + 1) * runs.len ≤ r * runs.len = mul-le-mul_right runs.len (omega arith) in
+              get_or-set_other runs.counts (k / runs.len) r (get_or runs.counts (k / runs.len) 0 - 1) d ne
+              ∙ omega (
+                arith,
+                counted.counted r d low,
+                count_between-split bs (r * runs.len) (r * runs.len + runs.len) (omega arith),
+                count_between-split (set bs k false) (r * runs.len) (r * runs.len + runs.len) (omega arith),
+                count_among bs k (r * runs.len) within is (omega arith),
+                count_among bs k (r * runs.len + runs.len) within is (omega arith),
+              )
+        ]
 
 -- ---- the search for a split
 

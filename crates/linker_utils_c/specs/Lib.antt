@@ -3,4 +3,5 @@ pub mod Forms
 pub mod Packing
 pub mod Relocations
 pub mod Rewrites
+pub mod Shrinking
 pub mod Status

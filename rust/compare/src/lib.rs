@@ -24,4 +24,5 @@ mod readers;
 mod relocations;
 mod rewrites;
 mod sequences;
+mod shrinking;
 mod status;

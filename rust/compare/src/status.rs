@@ -53,6 +53,8 @@ pub enum Status {
     /// The eight bytes at the site are not an `auipc` and a `jalr`, with 0 in its bits 12 to 14, whose
     /// base is the register of the `auipc`.
     NotACall,
+    /// A call that `linker_utils_calls_shrinkable` does not accept.
+    CallsNotShrinkable,
 }
 
 impl Status {

@@ -65,6 +65,51 @@ fn count_between<A: AsChoice>(answer: &[A], from: usize, to: usize) -> usize {
     count
 }
 
+/// How many runs of calls are counted.
+const RUNS: usize = 1024;
+
+/// How many calls are chosen in each run of `len` calls, from the first call on. Where the calls end
+/// in or before a run, it has fewer.
+struct Runs {
+    len: usize,
+    counts: [usize; RUNS],
+}
+
+impl Runs {
+    /// The counts of a choice.
+    fn of<A: AsChoice>(answer: &[A]) -> Runs {
+        let len = answer.len() / RUNS + 1;
+        let mut counts = [0; RUNS];
+        let mut start = 0;
+        for run in 0..RUNS {
+            let end = start + len.min(answer.len() - start);
+            counts[run] = count_between(answer, start, end);
+            start = end;
+        }
+        Runs { len, counts }
+    }
+
+    /// How many calls are chosen from an index up to another: whole runs are not counted anew.
+    fn count_between<A: AsChoice>(&self, answer: &[A], from: usize, to: usize) -> usize {
+        let first = from / self.len + 1;
+        let last = to / self.len;
+        if last <= first {
+            return count_between(answer, from, to);
+        }
+        let mut count = count_between(answer, from, first * self.len);
+        for run in first..last {
+            count += self.counts[run];
+        }
+        count + count_between(answer, last * self.len, to)
+    }
+
+    /// Drops the call at an index, which is chosen, from the choice.
+    fn drop_call<A: AsChoice>(&mut self, answer: &mut [A], index: usize) {
+        answer[index] = A::from_choice(false);
+        self.counts[index / self.len] -= 1;
+    }
+}
+
 /// Whether a `jal` at an output offset reaches another.
 fn reaches(from: u64, to: u64) -> bool {
     let distance = to.abs_diff(from);
@@ -79,30 +124,39 @@ fn reaches(from: u64, to: u64) -> bool {
     is_even(distance) && distance_fits_jal(distance)
 }
 
-/// How many bytes the chosen calls give up from an index up to another, or `u64::MAX` where that is
-/// less.
-fn bytes_between<A: AsChoice>(answer: &[A], from: usize, to: usize) -> u64 {
-    (count_between(answer, from, to) as u64).saturating_mul(4)
+/// Whether a `jal` from the output offset of a call's site to that of its target reaches, once so
+/// many calls between the two have given up four bytes each. The site is before `split` where the
+/// index is.
+fn reaches_over(from: u64, to: u64, index: usize, split: usize, count: usize) -> bool {
+    let freed = (count as u64).saturating_mul(4);
+    if index <= split {
+        reaches(from, to.saturating_sub(freed))
+    } else {
+        reaches(from.saturating_sub(freed), to)
+    }
 }
 
-/// Whether the call at an index is in reach once the chosen calls have given up their bytes.
+/// Whether the call at an index is in reach once the chosen calls have given up their bytes. They are
+/// counted only where the call is in reach with all and out of reach with none.
 fn is_in_reach<C: AsCall, A: AsChoice>(
     deltas: &[RelaxDelta],
     calls: &[C],
     answer: &[A],
+    runs: &Runs,
     index: usize,
 ) -> bool {
     let (site, target) = calls[index].as_call();
     let from = output_offset(deltas, site);
     let to = output_offset(deltas, target);
-    let split = calls_below(calls, target);
-    if index <= split {
-        let freed = bytes_between(answer, index, split);
-        reaches(from, to.saturating_sub(freed))
-    } else {
-        let freed = bytes_between(answer, split, index);
-        reaches(from.saturating_sub(freed), to)
+    if reaches(from, to) {
+        return true;
     }
+    let split = calls_below(calls, target);
+    if !reaches_over(from, to, index, split, index.abs_diff(split)) {
+        return false;
+    }
+    let count = runs.count_between(answer, index.min(split), index.max(split));
+    reaches_over(from, to, index, split, count)
 }
 
 /// Drops the call at an index from the choice where it is out of reach. Whether it was dropped.
@@ -110,21 +164,27 @@ fn drop_unreached<C: AsCall, A: AsChoice>(
     deltas: &[RelaxDelta],
     calls: &[C],
     answer: &mut [A],
+    runs: &mut Runs,
     index: usize,
 ) -> bool {
-    if !answer[index].as_choice() || is_in_reach(deltas, calls, answer, index) {
+    if !answer[index].as_choice() || is_in_reach(deltas, calls, answer, runs, index) {
         return false;
     }
-    answer[index] = A::from_choice(false);
+    runs.drop_call(answer, index);
     true
 }
 
 /// Drops from the choice each call that is out of reach, one after the other. Whether one was
 /// dropped.
-fn sweep<C: AsCall, A: AsChoice>(deltas: &[RelaxDelta], calls: &[C], answer: &mut [A]) -> bool {
+fn sweep<C: AsCall, A: AsChoice>(
+    deltas: &[RelaxDelta],
+    calls: &[C],
+    answer: &mut [A],
+    runs: &mut Runs,
+) -> bool {
     let mut dropped = false;
     for index in 0..calls.len() {
-        if drop_unreached(deltas, calls, answer, index) {
+        if drop_unreached(deltas, calls, answer, runs, index) {
             dropped = true;
         }
     }
@@ -229,7 +289,8 @@ pub fn shrink_calls_into<C: AsCall, A: AsChoice>(
 ) {
     debug_assert!(answer.len() == calls.len());
     choose_all(answer);
-    while sweep(deltas, calls, answer) {}
+    let mut runs = Runs::of(answer);
+    while sweep(deltas, calls, answer, &mut runs) {}
 }
 
 /// Which calls can become jumps at once.

@@ -1,6 +1,7 @@
 -- What holds while calls are chosen.
-use Rattle.std.specs.Prelude.{◌≡◌, ℕ, ◌+◌, ◌-◌, ◌<◌, ◌≤◌, ◌++◌, Bool, List, All, AllPairs, count_by, drop, length, map, slice_index_or, take}
+use Rattle.std.specs.Prelude.{◌≡◌, ℕ, ◌+◌, ◌-◌, ◌*◌, ◌<◌, ◌≤◌, ◌++◌, Bool, List, All, AllPairs, count_by, drop, length, map, slice_index_or, take, nat_le, if◌then◌else◌, ℤ, pos, ◌-ℤ◌}
 use Rattle.linker_base.specs.Deletions.{AreDisjoint, AreKept, IsInsideDeletion}
+use Rattle.linker_utils.specs.declared.relaxation.shrinking.Runs.{Runs}
 use Rattle.linker_utils.specs.Shrinking.{shrinking, with_chosen, IsInReach, AreInReach, IsPartOf}
 
 -- how many calls a choice has
@@ -10,6 +11,17 @@ chosen_count chosen = count_by (λ b. b) chosen
 -- and from one index up to another
 abbrev pub chosen_between : List Bool → ℕ → ℕ → ℕ
 chosen_between chosen from to = chosen_count (take (to - from) (drop from chosen))
+
+-- the counts are those of the choice
+pub record AreRunsOf (runs : Runs) (chosen : List Bool) : Type 0 where
+  pub many : length runs.counts ≡ 1024
+  pub some : 0 < runs.len
+  pub reach_end : length chosen < 1024 * runs.len
+  pub counted : (r : ℕ) (d : ℕ) → r < 1024 → slice_index_or runs.counts r d ≡ chosen_between chosen (r * runs.len) (r * runs.len + runs.len)
+
+-- the distance of two output offsets, once so many calls between them have given up four bytes each
+abbrev pub distance_over : ℕ → ℕ → ℕ → ℕ → ℕ → ℤ
+distance_over from to index split count = if nat_le index split then pos (to - 4 * count) -ℤ pos from else pos to -ℤ pos (from - 4 * count)
 
 -- the sites ascend by at least 8
 abbrev pub AreEightApart : List (ℕ × ℕ) → Type 0

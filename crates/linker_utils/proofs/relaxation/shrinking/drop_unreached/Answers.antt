@@ -1,7 +1,7 @@
-use Rattle.std.proofs.Common.{◌≡◌, ◌<◌, ◌∙◌, ap, sym, subst, arith, false, true, length, map, get_or, set, rules}
+use Rattle.std.proofs.Common.{◌≡◌, ◌<◌, ◌∙◌, ap, sym, subst, arith, false, true, length, map, get_or, rules}
 use Rattle.std.specs.Prelude.{Bool, List}
 use Rattle.std.proofs.lemmas.Bool.{both_ways}
-use Rattle.std.proofs.lemmas.List.{get_or-map, length-map, map-set}
+use Rattle.std.proofs.lemmas.List.{get_or-map, length-map}
 use Rattle.linker_base.specs.Deltas.{deletions_of}
 use Rattle.linker_utils.specs.Inner.Shrinking.{chosen_count, KeepsOthers}
 use Rattle.linker_utils.proofs.Shrinking.{drop_keeps, count_dropped}
@@ -17,8 +17,7 @@ returns-clause-keeps g c = λ valid shrinkable.
     let ds = deletions_of c.args.deltas.now in
     let inside : k < length (map f xs) = omega (arith, c.requires.within, length-map xs f) in
     let same : length (map h bs) ≡ length (map f xs) = omega (arith, c.requires.one_each, length-map bs h, length-map xs f) in
-    let now : set (map h bs) k false ≡ map h (set bs k c.from_choice.result) = ap (set (map h bs) k) (sym c.from_choice.ensures.tells) ∙ sym (map-set h bs k c.from_choice.result) in
-    subst (λ (after : List Bool). KeepsOthers ds (map f xs) (map h bs) after) now
+    subst (λ (after : List Bool). KeepsOthers ds (map f xs) (map h bs) after) (sym c.drop_call.ensures.dropped)
     (drop_keeps ds (map f xs) (map h bs) k shrinkable same inside (λ reach. both_ways c.is_in_reach.result c.if-is_in_reach.false ((c.is_in_reach.ensures valid shrinkable).1 reach)))
 
 pub returns-clause-fewer : goal.returns-clause-fewer
@@ -30,5 +29,4 @@ returns-clause-fewer g c = λ _.
     let inside : k < length (map h bs) = omega (arith, length-map bs h) in
     let told : c.as_choice.result ≡ true = search rules in
     let is : get_or (map h bs) k false ≡ true = get_or-map h bs k c.index-answer-index.result false within ∙ ap h (sym c.index-answer-index.is) ∙ sym c.as_choice.ensures ∙ told in
-    let now : set (map h bs) k false ≡ map h (set bs k c.from_choice.result) = ap (set (map h bs) k) (sym c.from_choice.ensures.tells) ∙ sym (map-set h bs k c.from_choice.result) in
-    subst (λ (after : List Bool). chosen_count after < chosen_count (map h bs)) now (count_dropped (map h bs) k inside is)
+    subst (λ (after : List Bool). chosen_count after < chosen_count (map h bs)) (sym c.drop_call.ensures.dropped) (count_dropped (map h bs) k inside is)

@@ -3,11 +3,12 @@ use Rattle.std.specs.Prelude.{All}
 use Rattle.linker_base.specs.Deltas.{deletions_of}
 use Rattle.linker_base.specs.Listed.{AreValidDeltas}
 use Rattle.linker_utils.specs.Shrinking.{AreShrinkable, IsChosen}
-use Rattle.linker_utils.specs.Inner.Shrinking.{chosen_count, IsInReachAt, KeepsOthers}
+use Rattle.linker_utils.specs.Inner.Shrinking.{AreRunsOf, chosen_count, IsInReachAt, KeepsOthers}
 use Rattle.linker_utils.proofs.relaxation.shrinking.sweep.Given as goal
 
 abbrev pub invariant-loop-index : goal.invariant-loop-index
 invariant-loop-index g l = record {
+  runs : AreRunsOf l.runs (map g.A.AsChoice.choice l.answer);
   keeps : AreValidDeltas l.deltas → AreShrinkable (deletions_of l.deltas) (map g.C.AsCall.call l.calls)
       → KeepsOthers (deletions_of l.deltas) (map g.C.AsCall.call l.calls) (map g.A.AsChoice.choice l.initial.answer) (map g.A.AsChoice.choice l.answer);
   in_reach : AreValidDeltas l.deltas → AreShrinkable (deletions_of l.deltas) (map g.C.AsCall.call l.calls) → l.dropped ≡ false

@@ -1,0 +1,11 @@
+use Rattle.std.proofs.Common.{◌+◌, arith}
+use Rattle.linker_base.specs.Deltas.{deletions_of}
+use Rattle.linker_utils.proofs.Shrinking.{shrinkable_taken}
+use Rattle.linker_utils_c.specs.Packing.{calls_in}
+use Rattle.linker_utils_c.proofs.shrinking.linker_utils_calls_shrinkable_nonnull.Goals as goal
+
+pub returns-in-Some-clause-shrinkable : goal.returns-in-Some-clause-shrinkable
+returns-in-Some-clause-shrinkable c valid = (
+  λ zero. absurd (omega (arith, c.number.ensures)),
+  λ all. absurd ((c.in-Some.ensures valid).here (shrinkable_taken (deletions_of c.args.deltas.now) (calls_in c.args.calls.now) (c.in-Some.at + 1) all)),
+)
