@@ -32,7 +32,7 @@ macro_rules! numbered {
 }
 
 numbered! {
-    /// Why a call fails. It has then changed nothing.
+    /// Why a call fails. It has then changed nothing, except for what `relocate_all` wrote before.
     Status: u32 {
         /// No architecture has this machine number, or it has no instruction forms.
         UnknownArchitecture = 1,
@@ -80,6 +80,14 @@ numbered! {
         CallsNotApart = 24,
         /// The eight bytes at the site are not an `auipc` and a `jalr` over its register.
         NotACall = 25,
+        /// The value is not a multiple of the relocation's alignment.
+        Misaligned = 26,
+        /// The value is out of the relocation's reach.
+        OutOfReach = 27,
+        /// A relocation of this type has no value.
+        NoValue = 28,
+        /// The relocation is one of a pair that computes a ULEB128 number.
+        Uleb128Pair = 29,
     }
 }
 
@@ -152,6 +160,12 @@ impl fmt::Display for Status {
             }
             Status::NotACall => {
                 "The eight bytes at the site are not an `auipc` and a `jalr` over its register."
+            }
+            Status::Misaligned => "The value is not a multiple of the relocation's alignment.",
+            Status::OutOfReach => "The value is out of the relocation's reach.",
+            Status::NoValue => "A relocation of this type has no value.",
+            Status::Uleb128Pair => {
+                "The relocation is one of a pair that computes a ULEB128 number."
             }
         })
     }

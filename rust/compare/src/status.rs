@@ -53,6 +53,14 @@ pub enum Status {
     /// The eight bytes at the site are not an `auipc` and a `jalr`, with 0 in its bits 12 to 14, whose
     /// base is the register of the `auipc`.
     NotACall,
+    /// The value is not a multiple of the relocation's alignment.
+    Misaligned,
+    /// The value is out of the relocation's reach.
+    OutOfReach,
+    /// A relocation of this type has no value.
+    NoValue,
+    /// The relocation is one of a pair that computes a ULEB128 number.
+    Uleb128Pair,
 }
 
 impl Status {
