@@ -486,7 +486,8 @@ enum linker_utils_mask {
     LINKER_UTILS_MASK_GOT_BASE = 3
 };
 
-/* What a relocation means. To apply it, with <elf.h>'s names of the relocation's fields:
+/* What a relocation means. `linker_utils_value` and `linker_utils_relocate` apply it in these steps,
+ * with <elf.h>'s names of the relocation's fields:
  * 1. Add `bias` to the address that the formula of `kind` begins with (S + A, or the GOT entry's).
  * 2. Cut the addresses that `mask` names to their page, and compute the value v by the formula.
  * 3. Where `has_range` is 1, v has to be `min` or above, and below `max`. v has to be a multiple of
@@ -648,10 +649,10 @@ static inline uint32_t linker_utils_relocate(uint16_t machine, uint32_t r_type, 
  * `faulty` is its index, the status says why, those before it are written, and it has changed
  * nothing. LINKER_UTILS_UNKNOWN_ARCHITECTURE speaks of no entry: `faulty` is then unchanged. An
  * offset past the section's end is LINKER_UTILS_TOO_SHORT. */
-static inline uint32_t
-linker_utils_relocate_all(uint16_t machine, uint8_t *section, size_t section_len,
-                          const struct linker_utils_relocation_entry *relocations,
-                          size_t relocations_len, size_t *faulty) {
+static inline uint32_t linker_utils_relocate_all(
+    uint16_t machine, uint8_t *section, size_t section_len,
+    const struct linker_utils_relocation_entry *relocations, size_t relocations_len,
+    size_t *faulty) {
     size_t ignored;
     return linker_utils_relocate_all_nonnull(
         machine, LINKER_UTILS_SLICE(uint8_t, section), section_len,
