@@ -14,8 +14,9 @@
  *   reads or writes it while the call runs. Memory that a call only reads may be shared.
  * - With such pointers and counts each call is defined, whatever the numbers and bytes.
  * - A call that returns `uint32_t` returns a status of `enum linker_utils_status`. With any but
- *   `LINKER_UTILS_OK` it has written nothing, but for `faulty`. Where several statuses apply, the
- *   first in the order that the call names is returned.
+ *   `LINKER_UTILS_OK` it has written nothing, but for `faulty`, and for what
+ *   `linker_utils_relocate_all` writes before the relocation that it rejects. Where several
+ *   statuses apply, the first in the order that the call names is returned.
  * - `faulty` may be null. With a status that speaks of one entry of an array, and with no other,
  *   the index of that entry is written there.
  * - These return no status, since they can't fail: `linker_utils_status_text`,
@@ -94,7 +95,15 @@ enum linker_utils_status {
     /* The eight bytes at the site are not an `auipc` and a `jalr` over its register. */
     LINKER_UTILS_NOT_A_CALL = 25,
     /* a call that `linker_utils_calls_shrinkable` does not accept */
-    LINKER_UTILS_CALLS_NOT_SHRINKABLE = 26
+    LINKER_UTILS_CALLS_NOT_SHRINKABLE = 26,
+    /* The value is not a multiple of the relocation's alignment. */
+    LINKER_UTILS_MISALIGNED = 27,
+    /* The value is out of the relocation's reach. */
+    LINKER_UTILS_OUT_OF_REACH = 28,
+    /* A relocation of this type has no value. */
+    LINKER_UTILS_NO_VALUE = 29,
+    /* The relocation is one of a pair that computes a ULEB128 number. */
+    LINKER_UTILS_ULEB128_PAIR = 30
 };
 
 /* A constant sentence in English for each status, and another for all other numbers. */
@@ -138,6 +147,12 @@ static inline const char *linker_utils_status_text(uint32_t status) {
         return "The eight bytes at the site are not an `auipc` and a `jalr` over its register.";
     case LINKER_UTILS_CALLS_NOT_SHRINKABLE:
         return "`linker_utils_calls_shrinkable` does not accept a call.";
+    case LINKER_UTILS_MISALIGNED:
+        return "The value is not a multiple of the relocation's alignment.";
+    case LINKER_UTILS_OUT_OF_REACH: return "The value is out of the relocation's reach.";
+    case LINKER_UTILS_NO_VALUE: return "A relocation of this type has no value.";
+    case LINKER_UTILS_ULEB128_PAIR:
+        return "The relocation is one of a pair that computes a ULEB128 number.";
     }
     return "No status has this number.";
 }
@@ -475,7 +490,8 @@ enum linker_utils_mask {
     LINKER_UTILS_MASK_GOT_BASE = 3
 };
 
-/* What a relocation means. To apply it, with <elf.h>'s names of the relocation's fields:
+/* What a relocation means. `linker_utils_value` and `linker_utils_relocate` apply it in these steps,
+ * with <elf.h>'s names of the relocation's fields:
  * 1. Add `bias` to the address that the formula of `kind` begins with (S + A, or the GOT entry's).
  * 2. Cut the addresses that `mask` names to their page, and compute the value v by the formula.
  * 3. Where `has_range` is 1, v has to be `min` or above, and below `max`. v has to be a multiple of
@@ -540,6 +556,113 @@ static inline uint32_t linker_utils_relocation_name(uint16_t machine, uint32_t r
 
 /* What R_RISCV_HI20 means at a `c.lui`, which LINKER_UTILS_RISCV_REWRITE_HI20_TO_C_LUI leaves. */
 void linker_utils_clui_rel_info(struct linker_utils_relocation_info *info);
+
+/* What the value of a relocation is computed from, in the letters of
+ * `enum linker_utils_relocation_kind`. All but the addend are addresses or sizes in bytes. What the
+ * relocation's formula doesn't name isn't read. */
+struct linker_utils_operands {
+    /* S, and of a TLS symbol its address in the TLS segment's image. Of R_RISCV_PCREL_LO12_* it is
+     * the address that the high part at the label refers to: that of the symbol or, of
+     * R_RISCV_GOT_HI20, R_RISCV_TLS_GOT_HI20 and R_RISCV_TLS_GD_HI20, of the GOT entry. Of
+     * R_X86_64_GOTPC32 and R_X86_64_GOTPC64 it is the GOT's address. */
+    uint64_t symbol;
+    /* A. Of R_RISCV_PCREL_LO12_* it is that of the high part. */
+    int64_t addend;
+    /* P. Of R_RISCV_PCREL_LO12_* it is that of the high part. */
+    uint64_t place;
+    /* GOT + G, GD, LD, IE or DESC: the address of the entry that the relocation asks for. Of an
+     * AArch64 instruction it is the entry of S + A. */
+    uint64_t got_entry;
+    /* GOT */
+    uint64_t got_base;
+    /* L */
+    uint64_t plt_entry;
+    /* Z */
+    uint64_t symbol_size;
+    /* What offsets of TLS symbols count from, as an address in the TLS segment's image. For an
+     * offset from the thread pointer it is where the thread pointer points to; on PowerPC64 that is
+     * the image's address plus 0x7000. For an offset in the module's TLS block it is the image's
+     * address; plus 0x8000 on PowerPC64, and plus 0x800 on RISC-V. */
+    uint64_t tls_base;
+};
+
+/* The value of a relocation: the formula of its kind, with the bias added first and the page mask
+ * applied after that, modulo 2^64 and read in two's complement. LINKER_UTILS_UNKNOWN_ARCHITECTURE;
+ * LINKER_UTILS_UNKNOWN_RELOCATION; LINKER_UTILS_NO_VALUE. Of R_RISCV_SET_ULEB128 and
+ * R_LARCH_ADD_ULEB128, whose kind is LINKER_UTILS_KIND_RELATIVE, it is of no use. */
+uint32_t linker_utils_value(uint16_t machine, uint32_t r_type,
+                            const struct linker_utils_operands *operands, int64_t *value);
+
+/* The values of a relocation that can be written. */
+struct linker_utils_relocation_reach {
+    /* The least value, and the first above all; both 0 where every value can be written. */
+    int64_t min;
+    int64_t max;
+    /* 1 where only values from `min` up, below `max`, can be written; else 0. */
+    uint8_t has_range;
+};
+
+/* The values of a relocation that `linker_utils_relocate` writes: those that the machine reads back
+ * as they are from the instruction, or from the pair that it is a half of, and that pass the
+ * overflow check that the psABI asks for. They are those of the range in
+ * `struct linker_utils_relocation_info`, except for these:
+ * - RISC-V's HI20 and LO12 and calls: from -2^31 - 0x800 up, below 2^31 - 0x800
+ * - R_LARCH_CALL36: from -2^37 - 0x20000 up, below 2^37 - 0x20000
+ * - PowerPC64's _HA, of the biased value, and _HI: from -2^31 up, below 2^31
+ * - AArch64's MOVW relocations of G0, G1 and G2 that set a signed value: from -2^16, -2^32 or -2^48
+ *   up, below 2^16, 2^32 or 2^48
+ * LINKER_UTILS_UNKNOWN_ARCHITECTURE; LINKER_UTILS_UNKNOWN_RELOCATION. */
+uint32_t linker_utils_reach(uint16_t machine, uint32_t r_type,
+                            struct linker_utils_relocation_reach *reach);
+
+/* A relocation of a section. */
+struct linker_utils_relocation_entry {
+    /* The offset in the section of the first byte that is written. */
+    uint64_t offset;
+    /* The value, as `linker_utils_value` returns it. */
+    int64_t value;
+    /* The relocation's type. */
+    uint32_t r_type;
+};
+
+uint32_t linker_utils_relocate_nonnull(uint16_t machine, uint32_t r_type, int64_t value,
+                                       uint8_t *dest, size_t dest_len);
+uint32_t linker_utils_relocate_all_nonnull(uint16_t machine, uint8_t *section, size_t section_len,
+                                           const struct linker_utils_relocation_entry *relocations,
+                                           size_t relocations_len, size_t *faulty);
+
+/* Writes the value of a relocation, as `linker_utils_value` returns it, to the bytes that `dest`
+ * begins with.
+ * - Whole bytes become the lowest bytes of the value, the lowest first. Relocations that add or
+ *   subtract take the number that stands there. Relocations of 6 bits keep the upper 2 bits.
+ * - Of an instruction, the form's bits become the bits of the value that the relocation takes.
+ *   Those that the form only ORs need not be 0 before. All other bits stay, except for the opcode
+ *   that MOVN and MOVZ get by the value's sign; their shift has to be the first of the relocation's
+ *   bits.
+ * - A relocation without a value writes nothing.
+ * LINKER_UTILS_UNKNOWN_ARCHITECTURE; LINKER_UTILS_UNKNOWN_RELOCATION; LINKER_UTILS_ULEB128_PAIR of
+ * R_RISCV_SET_ULEB128, R_RISCV_SUB_ULEB128, R_LARCH_ADD_ULEB128 and R_LARCH_SUB_ULEB128;
+ * LINKER_UTILS_TOO_SHORT; LINKER_UTILS_MISALIGNED; LINKER_UTILS_OUT_OF_REACH. */
+static inline uint32_t linker_utils_relocate(uint16_t machine, uint32_t r_type, int64_t value,
+                                             uint8_t *dest, size_t dest_len) {
+    return linker_utils_relocate_nonnull(machine, r_type, value,
+                                         LINKER_UTILS_SLICE(uint8_t, dest), dest_len);
+}
+
+/* The same of several relocations of a section, in order. It stops at the first that is rejected:
+ * `faulty` is its index, the status says why, those before it are written, and it has changed
+ * nothing. LINKER_UTILS_UNKNOWN_ARCHITECTURE speaks of no entry: `faulty` is then unchanged. An
+ * offset past the section's end is LINKER_UTILS_TOO_SHORT. */
+static inline uint32_t linker_utils_relocate_all(
+    uint16_t machine, uint8_t *section, size_t section_len,
+    const struct linker_utils_relocation_entry *relocations, size_t relocations_len,
+    size_t *faulty) {
+    size_t ignored;
+    return linker_utils_relocate_all_nonnull(
+        machine, LINKER_UTILS_SLICE(uint8_t, section), section_len,
+        LINKER_UTILS_SLICE(const struct linker_utils_relocation_entry, relocations),
+        relocations_len, faulty ? faulty : &ignored);
+}
 
 /* ---- RISC-V calls that become jumps (RISC-V ELF psABI, "Function Call Relaxation"), and the tests
  * for shorter instructions. */

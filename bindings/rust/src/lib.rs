@@ -107,6 +107,30 @@ pub struct Call {
     pub target: u64,
 }
 
+/// What a relocation's value is computed from. Each field is explained at
+/// `struct linker_utils_operands` in `include/linker_utils.h`.
+#[repr(C)]
+#[derive(Debug, Clone, Copy, Default, PartialEq, Eq)]
+pub struct Operands {
+    pub symbol: u64,
+    pub addend: i64,
+    pub place: u64,
+    pub got_entry: u64,
+    pub got_base: u64,
+    pub plt_entry: u64,
+    pub symbol_size: u64,
+    pub tls_base: u64,
+}
+
+/// A relocation of a section: where it writes, its value and its ELF type.
+#[repr(C)]
+#[derive(Debug, Clone, Copy, Default, PartialEq, Eq)]
+pub struct Relocation {
+    pub offset: u64,
+    pub value: i64,
+    pub r_type: u32,
+}
+
 fn result_of<T>(status: u32, value: T) -> Result<T, Status> {
     match status {
         0 => Ok(value),
@@ -144,9 +168,10 @@ impl From<Status> for ArrayError {
 fn result_over(call: impl FnOnce(&mut usize) -> u32) -> Result<(), ArrayError> {
     let mut faulty = 0;
     result_of(call(&mut faulty), ()).map_err(|status| match status {
-        Status::DifferentLengths | Status::OutOfMemory | Status::UnknownLinkRegister => {
-            status.into()
-        }
+        Status::DifferentLengths
+        | Status::OutOfMemory
+        | Status::UnknownArchitecture
+        | Status::UnknownLinkRegister => status.into(),
         _ => ArrayError {
             status,
             index: Some(faulty),
@@ -242,6 +267,59 @@ pub fn relocation(architecture: Architecture, r_type: u32) -> Result<RelocationI
     let status = unsafe { raw::linker_utils_relocation(architecture.machine(), r_type, &mut info) };
     result_of(status, ())?;
     Ok(info.into())
+}
+
+/// The value of a relocation, by the formula of its kind.
+pub fn value(
+    architecture: Architecture,
+    r_type: u32,
+    operands: &Operands,
+) -> Result<i64, Status> {
+    let mut value = 0;
+    let status =
+        unsafe { raw::linker_utils_value(architecture.machine(), r_type, operands, &mut value) };
+    result_of(status, value)
+}
+
+/// The values of a relocation that `relocate` writes, or `None` if it writes all.
+pub fn reach(architecture: Architecture, r_type: u32) -> Result<Option<Range<i64>>, Status> {
+    let mut reach = raw::Reach::default();
+    let status = unsafe { raw::linker_utils_reach(architecture.machine(), r_type, &mut reach) };
+    result_of(
+        status,
+        (reach.has_range != 0).then_some(reach.min..reach.max),
+    )
+}
+
+/// Writes the value of a relocation to the bytes that `dest` begins with.
+pub fn relocate(
+    architecture: Architecture,
+    r_type: u32,
+    value: i64,
+    dest: &mut [u8],
+) -> Result<(), Status> {
+    let (machine, at, len) = (architecture.machine(), dest.as_mut_ptr(), dest.len());
+    let status = unsafe { raw::linker_utils_relocate_nonnull(machine, r_type, value, at, len) };
+    result_of(status, ())
+}
+
+/// Writes the values of relocations of a section, in order, up to the first that is rejected.
+pub fn relocate_all(
+    architecture: Architecture,
+    section: &mut [u8],
+    relocations: &[Relocation],
+) -> Result<(), ArrayError> {
+    let (machine, at, len) = (architecture.machine(), section.as_mut_ptr(), section.len());
+    result_over(|faulty| unsafe {
+        raw::linker_utils_relocate_all_nonnull(
+            machine,
+            at,
+            len,
+            relocations.as_ptr(),
+            relocations.len(),
+            faulty,
+        )
+    })
 }
 
 /// The name of the relocation of an ELF type, as `R_X86_64_PC32`.

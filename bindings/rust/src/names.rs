@@ -32,7 +32,7 @@ macro_rules! numbered {
 }
 
 numbered! {
-    /// Why a call fails. It has then changed nothing.
+    /// Why a call fails. It has then changed nothing, except for what `relocate_all` wrote before.
     Status: u32 {
         /// No architecture has this machine number, or it has no instruction forms.
         UnknownArchitecture = 1,
@@ -82,6 +82,14 @@ numbered! {
         NotACall = 25,
         /// A call that `calls_shrinkable` does not accept.
         CallsNotShrinkable = 26,
+        /// The value is not a multiple of the relocation's alignment.
+        Misaligned = 27,
+        /// The value is out of the relocation's reach.
+        OutOfReach = 28,
+        /// A relocation of this type has no value.
+        NoValue = 29,
+        /// The relocation is one of a pair that computes a ULEB128 number.
+        Uleb128Pair = 30,
     }
 }
 
@@ -157,6 +165,12 @@ impl fmt::Display for Status {
             }
             Status::CallsNotShrinkable => {
                 "`linker_utils_calls_shrinkable` does not accept a call."
+            }
+            Status::Misaligned => "The value is not a multiple of the relocation's alignment.",
+            Status::OutOfReach => "The value is out of the relocation's reach.",
+            Status::NoValue => "A relocation of this type has no value.",
+            Status::Uleb128Pair => {
+                "The relocation is one of a pair that computes a ULEB128 number."
             }
         })
     }

@@ -1,7 +1,7 @@
 //! The static library's own symbols, as `include/linker_utils.h` declares them: what each of them
 //! requires of pointers and counts, and does, is said there. No pointer to a slice may be null.
 
-pub use crate::{BlockHead, Call, Deletion, Delta};
+pub use crate::{BlockHead, Call, Deletion, Delta, Operands, Relocation};
 
 /// `struct linker_utils_relocation_info`.
 #[repr(C)]
@@ -22,6 +22,15 @@ pub struct RelocationInfo {
     pub max: i64,
     pub alignment: u64,
     pub bias: u64,
+}
+
+/// `struct linker_utils_relocation_reach`.
+#[repr(C)]
+#[derive(Debug, Clone, Copy, Default, PartialEq, Eq)]
+pub struct Reach {
+    pub min: i64,
+    pub max: i64,
+    pub has_range: u8,
 }
 
 extern "C" {
@@ -77,6 +86,28 @@ extern "C" {
     ) -> u32;
     pub fn linker_utils_relocation(machine: u16, r_type: u32, info: *mut RelocationInfo) -> u32;
     pub fn linker_utils_clui_rel_info(info: *mut RelocationInfo);
+    pub fn linker_utils_value(
+        machine: u16,
+        r_type: u32,
+        operands: *const Operands,
+        value: *mut i64,
+    ) -> u32;
+    pub fn linker_utils_reach(machine: u16, r_type: u32, reach: *mut Reach) -> u32;
+    pub fn linker_utils_relocate_nonnull(
+        machine: u16,
+        r_type: u32,
+        value: i64,
+        dest: *mut u8,
+        dest_len: usize,
+    ) -> u32;
+    pub fn linker_utils_relocate_all_nonnull(
+        machine: u16,
+        section: *mut u8,
+        section_len: usize,
+        relocations: *const Relocation,
+        relocations_len: usize,
+        faulty: *mut usize,
+    ) -> u32;
     pub fn linker_utils_jal_site_nonnull(
         section: *mut u8,
         section_len: usize,

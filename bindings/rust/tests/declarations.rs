@@ -86,6 +86,9 @@ fn type_of_c(text: &str) -> String {
         "struct linker_utils_call" => "Call",
         "struct linker_utils_block_head" => "BlockHead",
         "struct linker_utils_relocation_info" => "RelocationInfo",
+        "struct linker_utils_operands" => "Operands",
+        "struct linker_utils_relocation_reach" => "Reach",
+        "struct linker_utils_relocation_entry" => "Relocation",
         other => panic!("the header has a type {other}"),
     };
     format!("{}{name}", if pointer { kind } else { "" })
@@ -292,6 +295,7 @@ fn c_element(kind: &str, element: &str) -> String {
         "Deletion" => "struct linker_utils_deletion".to_string(),
         "Call" => "struct linker_utils_call".to_string(),
         "BlockHead" => "struct linker_utils_block_head".to_string(),
+        "Relocation" => "struct linker_utils_relocation_entry".to_string(),
         number => format!("{}_t", number.replace('u', "uint")),
     };
     let is_const = kind.starts_with("*const");
@@ -608,19 +612,28 @@ fn the_structs_are_those_of_the_library() {
             kind, form, mask, machine, is_bits, byte_size, first_bit, end_bit, has_range, thunkable,
             implicit_addend, min, max, alignment, bias,
         }
+        "linker_utils_operands": Operands {
+            symbol, addend, place, got_entry, got_base, plt_entry, symbol_size, tls_base,
+        }
+        "linker_utils_relocation_reach": raw::Reach { min, max, has_range, }
+        "linker_utils_relocation_entry": Relocation { offset, value, r_type, }
     };
     assert_eq!(of_header.collect::<Layout>(), of_crate);
 
     // the library's own, which are `repr(C)`, have the same fields of the same types in their order
     let library = exporting_sources()
         + &repository("crates/linker_base/src/relaxation.rt")
-        + &repository("crates/linker_base/src/relaxation/blocks.rt");
+        + &repository("crates/linker_base/src/relaxation/blocks.rt")
+        + &repository("crates/linker_utils/src/elf/value.rt");
     for (name, of_library) in [
         ("linker_utils_deletion", "Deletion"),
         ("linker_utils_call", "Call"),
         ("linker_utils_block_head", "BlockHead"),
         ("linker_utils_delta", "RelaxDelta"),
         ("linker_utils_relocation_info", "RelocationInfo"),
+        ("linker_utils_operands", "Operands"),
+        ("linker_utils_relocation_reach", "Reach"),
+        ("linker_utils_relocation_entry", "Relocation"),
     ] {
         let (before, rest) = library
             .split_once(&format!("\npub struct {of_library} {{"))

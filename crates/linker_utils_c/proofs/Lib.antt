@@ -1,3 +1,4 @@
 pub mod DeltaLists
 pub mod Moved
+pub mod Relocating
 pub mod RelocationNames

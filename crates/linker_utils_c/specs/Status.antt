@@ -1,7 +1,7 @@
 -- The statuses that C sees as numbers.
 use Rattle.std.specs.Prelude.{◌≡◌, ℕ, ◌<◌, ◌≤◌, List, length}
 use Rattle.linker_utils_c.specs.declared.status.Status.{Status}
-use Rattle.linker_utils_c.specs.declared.status.Status.TheVariants.{Success, UnknownArchitecture, UnknownForm, UnknownRewrite, UnknownRelocation, TooShort, DoesNotFit, CannotApply, BadRegister, OutOfSection, SiteDeleted, OddDistance, TooFar, InvalidDeletions, NotMergeable, TooLarge, NotAscending, DifferentLengths, OutOfMemory, Uleb128Ended, Uleb128TooLarge, UnknownLinkRegister, CallsNotApart, NotACall, CallsNotShrinkable}
+use Rattle.linker_utils_c.specs.declared.status.Status.TheVariants.{Success, UnknownArchitecture, UnknownForm, UnknownRewrite, UnknownRelocation, TooShort, DoesNotFit, CannotApply, BadRegister, OutOfSection, SiteDeleted, OddDistance, TooFar, InvalidDeletions, NotMergeable, TooLarge, NotAscending, DifferentLengths, OutOfMemory, Uleb128Ended, Uleb128TooLarge, UnknownLinkRegister, CallsNotApart, NotACall, CallsNotShrinkable, Misaligned, OutOfReach, NoValue, Uleb128Pair}
 
 abbrev pub code : Status → ℕ
 code Success = 0
@@ -29,6 +29,10 @@ code UnknownLinkRegister = 23
 code CallsNotApart = 24
 code NotACall = 25
 code CallsNotShrinkable = 26
+code Misaligned = 27
+code OutOfReach = 28
+code NoValue = 29
+code Uleb128Pair = 30
 
 -- the status says whether there are as many bytes
 pub record HasRoom (len : ℕ) (bytes : List ℕ) (status : ℕ) : Type 0 where

@@ -8,6 +8,7 @@ mod heads;
 mod merges;
 mod packing;
 mod readers;
+mod relocate;
 mod relocations;
 mod rewrites;
 mod sequences;

@@ -54,7 +54,7 @@ pub struct RelocationInfo {
 
 /// What the relocation of an architecture and a code means.
 #[inline(always)]
-fn info_of(architecture: Architecture, r_type: u32) -> Option<RelocationKindInfo>
+pub(crate) fn info_of(architecture: Architecture, r_type: u32) -> Option<RelocationKindInfo>
     ensures { IsMeaning architecture r_type result }
 {
     match architecture {

@@ -57,6 +57,14 @@ pub enum Status {
     NotACall,
     /// A call that `linker_utils_calls_shrinkable` does not accept.
     CallsNotShrinkable,
+    /// The value is not a multiple of the relocation's alignment.
+    Misaligned,
+    /// The value is out of the relocation's reach.
+    OutOfReach,
+    /// A relocation of this type has no value.
+    NoValue,
+    /// The relocation is one of a pair that computes a ULEB128 number.
+    Uleb128Pair,
 }
 
 impl Status {

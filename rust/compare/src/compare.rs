@@ -2,6 +2,7 @@
 //! same and leave the same behind.
 
 use crate::*;
+use linker_utils::elf::Operands;
 use linker_utils::relaxation::{BlockHead, RelaxDelta};
 // It links the static library.
 use sathunne as _;
@@ -206,6 +207,7 @@ macro_rules! fields {
 
 fields! { RelaxDelta: input_offset, bytes_deleted, cumulative_deleted, }
 fields! { BlockHead: input_offset, output_place, }
+fields! { Operands: symbol, addend, place, got_entry, got_base, plt_entry, symbol_size, tls_base, }
 
 macro_rules! compare {
     ($module:ident, $name:ident, [$($c:tt)*] -> $result:ty, |$random:ident| { $($made:tt)* },

@@ -45,7 +45,7 @@ pub struct RelocationInfo {
 
 /// What the relocation of an architecture and a code means.
 #[inline(always)]
-fn info_of(architecture: Architecture, r_type: u32) -> Option<RelocationKindInfo> {
+pub(crate) fn info_of(architecture: Architecture, r_type: u32) -> Option<RelocationKindInfo> {
     match architecture {
         Architecture::AArch64 => {
             aarch64::relocation_type_from_raw(AArch64Relocation::from_elf(r_type))

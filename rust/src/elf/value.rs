@@ -9,6 +9,7 @@ use crate::loongarch64::highest_relocation_with_bias;
 
 /// What the value of a relocation is computed from. All but the addend are addresses or sizes in
 /// bytes. A value is computed modulo 2^64. What the relocation's formula doesn't name isn't read.
+#[repr(C)]
 #[derive(Debug, Default, Clone, Copy, PartialEq, Eq)]
 pub struct Operands {
     /// S: the symbol's address, and of a TLS symbol its address in the TLS segment's image. Of

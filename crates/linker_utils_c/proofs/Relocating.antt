@@ -1,0 +1,22 @@
+-- A write's outcome, and relocations one after the other.
+use Rattle.std.proofs.Common.{◌≡◌, ℕ, List, [], ◌∷◌, ◌++◌, refl, sym, ℤ, Result, Ok, Err, OnOk, IfErr}
+use Rattle.linker_utils.specs.Relocate.{IsAccepted, IsWritten, IsCause}
+use Rattle.linker_utils.specs.declared.elf.Architecture.{Architecture}
+use Rattle.linker_utils.specs.declared.elf.RelocationKindInfo.{RelocationKindInfo}
+use Rattle.linker_utils.specs.declared.elf.relocate.RelocateError.{RelocateError}
+use Rattle.linker_utils_c.specs.Relocate.{IsOutcome, IsApplied, AreRelocated}
+use Rattle.linker_utils_c.specs.Status.{code}
+use Rattle.linker_utils_c.specs.declared.relocate.Relocation.{Relocation}
+use Rattle.linker_utils_c.specs.declared.status.Status.TheVariants.{Success}
+
+pub outcome_of : (o : Result Unit RelocateError) (row : RelocationKindInfo) (v : ℤ) (before after : List ℕ)
+    → OnOk o (IsAccepted row v before × IsWritten row.size row.kind v before after)
+    → IfErr o (λ error. IsCause row v before error × (after ≡ before)) → IsOutcome o row v before after
+outcome_of (Ok u) row v before after ok err = ok
+outcome_of (Err error) row v before after ok err = err
+
+-- one more after those that succeeded
+pub one_more : (architecture : Architecture) (rs : List Relocation) (r : Relocation) (before middle after : List ℕ)
+    → AreRelocated architecture rs before middle → IsApplied architecture r middle after (code Success) → AreRelocated architecture (rs ++ r ∷ []) before after
+one_more architecture [] r before middle after done last = (after, rw (sym done) last, refl)
+one_more architecture (q ∷ rs) r before middle after done last = (done.0, done.1, one_more architecture rs r done.0 middle after done.2 last)

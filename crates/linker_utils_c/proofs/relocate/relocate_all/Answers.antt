@@ -1,0 +1,43 @@
+use Rattle.std.proofs.Common.{rules, take, get_or, subst, sym, arith, pos, ◌∙◌, FitsSigned}
+use Rattle.std.specs.Int.{w64}
+use Rattle.std.proofs.lemmas.Int.{to_z-of_z}
+use Rattle.std.proofs.lemmas.List.{take_more, get_or_default}
+use Rattle.linker_utils_c.specs.Relocate.{IsRelocatedAt, IsApplied}
+use Rattle.linker_utils_c.specs.declared.relocate.Relocation.{Relocation}
+use Rattle.linker_utils_c.proofs.Relocating.{one_more}
+use Rattle.linker_utils_c.proofs.relocate.relocate_all.Goals as goal
+
+abbrev nothing : Relocation
+nothing = record { offset = 0; value = pos 0; r_type = 0 }
+
+pub returns-then-status-number : goal.returns-then-status-number
+returns-then-status-number c =
+    let rs = c.args.relocations.now in
+    let it = get_or rs c.loop-at.at nothing in
+    let fits : FitsSigned w64 it.value = search rules in
+    let applied : IsApplied c.args.architecture it c.loop-at.section c.relocate_at-status.new.section c.relocate_at-status.result =
+    subst (λ v. IsRelocatedAt c.args.architecture it.offset it.r_type v c.loop-at.section c.relocate_at-status.new.section c.relocate_at-status.result) (to_z-of_z w64 it.value fits) c.relocate_at-status.ensures in
+    record {
+      success = λ h. absurd (c.if-status-number.true (h ∙ sym c.number.ensures));
+      rejected = λ h. record {
+        within = c.loop-at-test.true;
+        middle = c.loop-at.section;
+        done = c.loop-at.invariant.done;
+        rejected = λ r. rw (get_or_default rs c.loop-at.at r nothing c.loop-at-test.true) applied;
+      };
+    }
+
+pub loop-at-preserved : goal.loop-at-preserved
+loop-at-preserved c =
+    let rs = c.args.relocations.now in
+    let it = get_or rs c.loop-at.at nothing in
+    let fits : FitsSigned w64 it.value = search rules in
+    let applied : IsApplied c.args.architecture it c.loop-at.section c.relocate_at-status.new.section 0 =
+    subst (λ s. IsApplied c.args.architecture it c.loop-at.section c.relocate_at-status.new.section s) (c.if-status-number.false ∙ c.number.ensures)
+    (subst (λ v. IsRelocatedAt c.args.architecture it.offset it.r_type v c.loop-at.section c.relocate_at-status.new.section c.relocate_at-status.result) (to_z-of_z w64 it.value fits) c.relocate_at-status.ensures) in
+    record {
+      inside = omega (arith, c.loop-at-test.true);
+      done = rw (take_more rs c.loop-at.at nothing c.loop-at-test.true)
+          (one_more c.args.architecture (take c.loop-at.at rs) it c.args.section.now c.loop-at.section c.relocate_at-status.new.section c.loop-at.invariant.done applied);
+      same = c.loop-at.invariant.same;
+    }

@@ -1,0 +1,166 @@
+// Made by tools/erase of crates/linker_utils_c/src/relocate.rt.
+//! Relocations: their values, their reach, and writing them.
+
+use crate::relocations::info_of;
+use crate::status::Status;
+use linker_utils::elf::{Architecture, Operands, RelocateError, RelocationKindInfo};
+
+/// The value of the relocation with `r_type` in files with `e_machine` `machine`. The first that applies
+/// of `UnknownArchitecture`; `UnknownRelocation`; `NoValue`.
+pub fn linker_utils_value(
+    machine: u16,
+    r_type: u32,
+    operands: &Operands,
+    value: &mut i64,
+) -> u32 {
+    let Some(architecture) = Architecture::from_machine(machine) else {
+        return Status::UnknownArchitecture.number();
+    };
+    match info_of(architecture, r_type) {
+        Some(meaning) => match meaning.value(operands) {
+            Some(number) => {
+                *value = number;
+                Status::Success.number()
+            }
+            None => Status::NoValue.number(),
+        },
+        None => Status::UnknownRelocation.number(),
+    }
+}
+
+/// The values of a relocation that can be written.
+#[repr(C)]
+#[derive(Clone, Copy)]
+pub struct Reach {
+    /// The least value, and the first above all; both 0 if every value can be written.
+    pub min: i64,
+    pub max: i64,
+    /// 1 if only values from `min` up, below `max`, can be written; else 0.
+    pub has_range: u8,
+}
+
+/// The values of a relocation that can be written. The first that applies of `UnknownArchitecture`;
+/// `UnknownRelocation`.
+pub fn linker_utils_reach(machine: u16, r_type: u32, reach: &mut Reach) -> u32 {
+    let Some(architecture) = Architecture::from_machine(machine) else {
+        return Status::UnknownArchitecture.number();
+    };
+    match info_of(architecture, r_type) {
+        Some(meaning) => {
+            *reach = match meaning.reach().bounds {
+                Some((min, max)) => Reach {
+                    min,
+                    max,
+                    has_range: 1,
+                },
+                None => Reach {
+                    min: 0,
+                    max: 0,
+                    has_range: 0,
+                },
+            };
+            Status::Success.number()
+        }
+        None => Status::UnknownRelocation.number(),
+    }
+}
+
+#[inline(always)]
+fn status_of(outcome: Result<(), RelocateError>) -> u32 {
+    match outcome {
+        Ok(()) => Status::Success.number(),
+        Err(RelocateError::Unsupported) => Status::Uleb128Pair.number(),
+        Err(RelocateError::TooShort) => Status::TooShort.number(),
+        Err(RelocateError::Misaligned) => Status::Misaligned.number(),
+        Err(RelocateError::OutOfReach) => Status::OutOfReach.number(),
+    }
+}
+
+fn relocate(architecture: Architecture, r_type: u32, value: i64, dest: &mut [u8]) -> u32 {
+    match info_of(architecture, r_type) {
+        Some(meaning) => status_of(meaning.write(value, dest)),
+        None => Status::UnknownRelocation.number(),
+    }
+}
+
+/// Writes the value of a relocation to the bytes that `dest` begins with. The first that applies of
+/// `UnknownArchitecture`; `UnknownRelocation`; `Uleb128Pair`; `TooShort`; `Misaligned`; `OutOfReach`.
+pub fn linker_utils_relocate_nonnull(
+    machine: u16,
+    r_type: u32,
+    value: i64,
+    dest: &mut [u8],
+) -> u32 {
+    let Some(architecture) = Architecture::from_machine(machine) else {
+        return Status::UnknownArchitecture.number();
+    };
+    relocate(architecture, r_type, value, dest)
+}
+
+/// A relocation of a section.
+#[repr(C)]
+#[derive(Clone, Copy)]
+pub struct Relocation {
+    /// The offset in the section of the first byte that is written.
+    pub offset: u64,
+    /// The value, as `linker_utils_value` returns it.
+    pub value: i64,
+    /// The relocation's type.
+    pub r_type: u32,
+}
+
+/// Relocates the bytes from an offset on.
+#[inline(always)]
+fn relocate_at(
+    architecture: Architecture,
+    offset: u64,
+    r_type: u32,
+    value: i64,
+    section: &mut [u8],
+) -> u32 {
+    if (section.len() as u64) < offset {
+        return Status::TooShort.number();
+    }
+    relocate(architecture, r_type, value, &mut section[offset as usize..])
+}
+
+fn relocate_all(
+    architecture: Architecture,
+    section: &mut [u8],
+    relocations: &[Relocation],
+    faulty: &mut usize,
+) -> u32 {
+    let mut at = 0;
+    while at < relocations.len() {
+        let relocation = relocations[at];
+        let status = relocate_at(
+            architecture,
+            relocation.offset,
+            relocation.r_type,
+            relocation.value,
+            section,
+        );
+        if status != Status::Success.number() {
+            *faulty = at;
+            return status;
+        }
+        at += 1;
+    }
+    Status::Success.number()
+}
+
+/// Writes the values of the relocations of one section, in order. It stops at the first that is
+/// rejected: its index is then `faulty`, the status says why, those before it are written, and it
+/// has changed nothing. `UnknownArchitecture` is first. An offset past the section's end is
+/// `TooShort`.
+pub fn linker_utils_relocate_all_nonnull(
+    machine: u16,
+    section: &mut [u8],
+    relocations: &[Relocation],
+    faulty: &mut usize,
+) -> u32 {
+    let Some(architecture) = Architecture::from_machine(machine) else {
+        return Status::UnknownArchitecture.number();
+    };
+    relocate_all(architecture, section, relocations, faulty)
+}
