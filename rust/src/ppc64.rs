@@ -74,6 +74,17 @@ const DS_FORM: [Run; 1] = [run!(2, 2, 14)];
 const I_FORM: [Run; 1] = [run!(2, 2, 24)];
 
 impl Ppc64Instruction {
+    /// The bits that a form holds: they stand in the word where they stand in the value. A read
+    /// through it is no jump by the form.
+    #[inline(always)]
+    fn mask(self) -> u64 {
+        match self {
+            Ppc64Instruction::D => 0xffff,
+            Ppc64Instruction::Ds | Ppc64Instruction::Branch14 => 0xfffc,
+            Ppc64Instruction::Branch24 => 0x03ff_fffc,
+        }
+    }
+
     /// Writes the bits of a value.
     #[inline(always)]
     fn place(self, value: u64, negative: bool, dest: &mut [u8]) {
@@ -112,14 +123,7 @@ impl Ppc64Instruction {
     #[inline]
     pub fn read_value(self, bytes: &[u8]) -> (u64, bool) {
         debug_assert!(self.window() <= bytes.len());
-        let insn = RelocationInstruction::Ppc64(self);
-        match self {
-            Ppc64Instruction::D => engine::read_form(insn, Window::Four, &D_FORM, bytes),
-            Ppc64Instruction::Ds | Ppc64Instruction::Branch14 => {
-                engine::read_form(insn, Window::Four, &DS_FORM, bytes)
-            }
-            Ppc64Instruction::Branch24 => engine::read_form(insn, Window::Four, &I_FORM, bytes),
-        }
+        (Window::Four.load(bytes) & self.mask(), false)
     }
 }
 

@@ -2,9 +2,9 @@
 
 mod relocations;
 
-ghost use Rattle.std.specs.Prelude.{◌≡◌, ◌≤◌, ◌↔◌, IsTrue, length, drop};
+ghost use Rattle.std.specs.Prelude.{◌≡◌, ◌≤◌, ◌↔◌, ℕ, IsTrue, length, drop, bit_and};
 ghost use Rattle.std.specs.Int.{byte_len, cast_unsigned, from_le_bytes, w32, w64};
-ghost use Rattle.linker_base.specs.Form.{window_of, Written, MachineReads, IsReadBack};
+ghost use Rattle.linker_base.specs.Form.{window_of, Written, MachineReads, IsReadBack, place_sum};
 ghost use Rattle.linker_base.specs.Rewrite.{CanRewrite, rewritten, offset_after, addend_after};
 ghost use Rattle.linker_utils.specs.Inner.FormLaws.{ppc64_keeps, ppc64_restored};
 ghost use Rattle.linker_utils.specs.Ppc64.{ppc64_form, ppc64_rewrite, ppc64_modifier, PairHolds, KeepsHigh};
@@ -88,6 +88,19 @@ const DS_FORM: [Run; 1] = [run!(2, 2, 14)];
 const I_FORM: [Run; 1] = [run!(2, 2, 24)];
 
 impl Ppc64Instruction {
+    /// The bits that a form holds: they stand in the word where they stand in the value. A read
+    /// through it is no jump by the form.
+    #[inline(always)]
+    fn mask(self) -> u64
+        ensures { (x : ℕ) → bit_and x result ≡ place_sum ((ppc64_form self).places 0) x }
+    {
+        match self {
+            Ppc64Instruction::D => 0xffff,
+            Ppc64Instruction::Ds | Ppc64Instruction::Branch14 => 0xfffc,
+            Ppc64Instruction::Branch24 => 0x03ff_fffc,
+        }
+    }
+
     /// Writes the bits of a value.
     #[inline(always)]
     fn place(self, value: u64, negative: bool, dest: &mut [u8])
@@ -136,14 +149,7 @@ impl Ppc64Instruction {
             ≡ cast_unsigned w64 ((ppc64_form self).reading (window_of (ppc64_form self) bytes.now)) }
         ensures flag { result.1 ≡ (ppc64_form self).flag (window_of (ppc64_form self) bytes.now) }
     {
-        let insn = RelocationInstruction::Ppc64(self);
-        match self {
-            Ppc64Instruction::D => engine::read_form(insn, Window::Four, &D_FORM, bytes),
-            Ppc64Instruction::Ds | Ppc64Instruction::Branch14 => {
-                engine::read_form(insn, Window::Four, &DS_FORM, bytes)
-            }
-            Ppc64Instruction::Branch24 => engine::read_form(insn, Window::Four, &I_FORM, bytes),
-        }
+        (Window::Four.load(bytes) & self.mask(), false)
     }
 }
 
