@@ -160,6 +160,15 @@ module _ (n k w r v x : ℕ) (len : n < 64) (inside : w + n ≤ 64) (small : x <
   pub put_cleared : BitsWritten (consecutive_bits n k w r cleared) v x (bit_and x (2 ^ 64 - 1 - (1 * 2 ^ n % 2 ^ 64 - 1) * 2 ^ w % 2 ^ 64))
   put_cleared = rw mask_is cleared_laid
 
+-- what a mask writes: a run that stands there where the value has it
+pub mask_written : (n w v x : ℕ) → n < 64 → w + n ≤ 64 → v < 2 ^ 64 → x < 2 ^ 64
+    → BitsWritten (consecutive_bits n w w 0 replaced) v x (bit_or (bit_and x (2 ^ 64 - 1 - (2 ^ n - 1) * 2 ^ w)) (bit_and v ((2 ^ n - 1) * 2 ^ w)))
+unfolding run
+mask_written n w v x len inside small_v small =
+    let same : (v + 0) % 2 ^ 64 ≡ v = omega arith in
+    subst (λ b. BitsWritten (consecutive_bits n w w 0 replaced) v x (bit_or (bit_and x (2 ^ 64 - 1 - (2 ^ n - 1) * 2 ^ w)) b))
+    (ap (λ y. y / 2 ^ w % 2 ^ n * 2 ^ w) same ∙ sym (masked n w v)) (replaced_laid n w w 0 v x len inside small)
+
 -- ---- what fits
 
 pub record RunFits (r : Run) : Type 0 where
