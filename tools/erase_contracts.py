@@ -8,6 +8,7 @@ IN_OTHER_WORDS = {
 }
 # Numbers and comparisons of a clause, in Rust.
 IN_RUST = {r"length (\w+)": r"\1.len()", r"2 \^ (\d+)": r"1 << \1", "≡": "==", "≤": "<="}
+CLAUSE = re.compile(r"\b(requires|ensures)\b(.*)", re.S)
 TELLS = re.compile(r"(IsTrue result ↔|result ≡|MatchOption result) (.+)")
 TERM = r"([\w.:]+(\(\w*\))?|1 << \d+)"
 COMPARISON = re.compile(rf"{TERM}( [+*] {TERM})* (==|<=|<) {TERM}( [+*] {TERM})*")
@@ -16,37 +17,27 @@ COMPARISON = re.compile(rf"{TERM}( [+*] {TERM})* (==|<=|<) {TERM}( [+*] {TERM})*
 class Function:
     """A function's head: where it stands, its parameters, and its clauses."""
 
-    def __init__(self, source, at, owner, trait):
-        words = source.words
-        self.source, self.at, self.name, self.owner, self.trait = source, at, words[at + 1], owner, trait
-        opening = source.past(at, "(")
+    def __init__(self, source, found, owner, trait):
+        self.source, self.name, self.owner, self.trait = source, found[1], owner, trait
+        opening = source.past(found.end(), "(")
         self.parameters = {}
         for first, past in source.list_of(opening):
-            text = source.text[source.start(first):source.end(past - 1)]
-            name, _, kind = text.removeprefix("mut ").partition(":")
+            name, _, kind = source.text[first:past].removeprefix("mut ").partition(":")
             self.parameters["self" if name.endswith("self") else name] = kind.strip() or name
         self.clauses = {"requires": [], "ensures": []}
-        here = source.pair[opening]
-        while words[here] not in ("{", ";"):
-            if words[here] in self.clauses:
-                brace = source.past(here, "{")
-                label = source.joined(here + 1, brace).lstrip("*")
-                text = source.text[source.end(brace):source.start(source.pair[brace])]
-                text = " ".join(re.sub(r"--.*", "", text).split())
-                text = re.sub(r"\.(now|old|new|entry)\b", "", text)
-                self.clauses[words[here]].append((label, text))
-                here = source.pair[brace]
-            here += 1
-        self.body = here if words[here] == "{" else None
-        # the tokens before `fn`, from the attributes on
-        first = at
-        while words[first - 1] in ("pub", "const", "extern", "unsafe", "final", ")", '"C"') and first:
-            first = source.pair[first - 1] if words[first - 1] == ")" else first - 1
+        here = source.pair[opening] + 1
+        while clause := CLAUSE.search(source.code, here, brace := source.past(here, "{;")):
+            here = source.pair[brace] + 1
+            text = " ".join(re.sub(r"--.*", "", source.text[brace + 1:here - 1]).split())
+            text = re.sub(r"\.(now|old|new|entry)\b", "", text)
+            self.clauses[clause[1]].append((clause[2].strip(" *\n"), text))
+        self.body = brace + 1 if source.code[brace] == "{" else None
+        line = source.line_start(found.start())
+        words = source.text[line:found.start()]
+        self.indent = re.match(" *", words)[0]
+        self.start = source.above(line, "#[")
         self.inherits = trait and owner
-        self.is_public = words[first] == "pub" and words[first + 1] != "(" or trait and not owner
-        while words[first - 1] == "]" and words[source.pair[first - 1] - 1] == "#":
-            first = source.pair[first - 1] - 1
-        self.first = first
+        self.is_public = re.match(" *pub ", words) or trait and not owner
 
     def rules(self):
         """What the function tells: patterns of a condition or of a number, and what follows the call."""
@@ -59,39 +50,40 @@ class Function:
             told = TELLS.fullmatch(text)
             if not told:
                 continue
-            clause = told[2]
-            if told[1][0] == "M":
+            kind, clause = told[1], told[2]
+            if kind == "MatchOption result":
                 clause = re.match(r"\((.*?)\) [({]|", clause)[1] or ""
-            if " " in clause:
-                seen, pattern = set(), ""
-                for word in re.findall(r"\w+|\W", clause):
-                    if word not in variables:
-                        pattern += re.escape(word)
-                    else:
-                        pattern += f"(?P={word})" if word in seen else rf"(?P<{word}>[\w.]+)"
-                        seen.add(word)
-                yield re.compile(pattern), told[1][0] != "r", ".is_none()" if told[1][0] == "M" else ""
+            if " " not in clause:
+                continue
+            seen, pattern = set(), ""
+            for word in re.findall(r"\w+|\W", clause):
+                if word not in variables:
+                    pattern += re.escape(word)
+                else:
+                    pattern += f"(?P={word})" if word in seen else rf"(?P<{word}>[\w.]+)"
+                    seen.add(word)
+            suffix = ".is_none()" if kind == "MatchOption result" else ""
+            yield re.compile(pattern), kind != "result ≡", suffix
 
 
 class Contracts:
     def __init__(self, sources):
         self.functions, self.traits = [], {}
         for source in sources:
-            past, owner, trait = 0, "", ""
-            for at, word in enumerate(source.words):
-                if word in ("impl", "trait") and source.words[at - 1] in ("", "}", ";", "]", "pub", "{"):
-                    body = source.past(at, "{")
-                    past, head = source.pair[body], source.words[at + 1:body]
-                    names = [w for w in head if re.match(r"[A-Z]\w", w)] + [""]
-                    owner, trait = names[0], ""
-                    if word == "trait":
-                        owner, trait = "", names[0]
-                    elif "for" in head:
-                        owner, trait = head[head.index("for") + 1], names[0]
-                        self.traits.setdefault(owner, set()).add(trait)
-                elif word == "fn" and re.match(r"\w", source.words[at + 1]):
-                    place = (owner, trait) if at < past else ("", "")
-                    self.functions.append(Function(source, at, *place))
+            blocks = []
+            for block in source.find(r"^ *(?:pub )?(impl|trait)\b([^{;]*)\{"):
+                head = re.findall(r"\w+", block[2])
+                names = [word for word in head if re.match(r"[A-Z]\w", word)] + [""]
+                owner, trait = names[0], ""
+                if block[1] == "trait":
+                    owner, trait = "", names[0]
+                elif "for" in head:
+                    owner, trait = head[head.index("for") + 1], names[0]
+                    self.traits.setdefault(owner, set()).add(trait)
+                blocks.append((block.end(), source.pair[block.end() - 1], owner, trait))
+            for found in source.find(r"\bfn (\w+)"):
+                inside = [block[2:] for block in blocks if block[0] < found.start() < block[1]]
+                self.functions.append(Function(source, found, *(inside or [("", "")])[-1]))
         self.rules = [(function, *rule) for function in self.functions for rule in function.rules()]
 
     def requirements(self, function):
@@ -154,21 +146,17 @@ class Contracts:
 
 def state_requirements(source, contracts):
     """A section `# Requires` in the docs of each public function, and the tests in its body."""
-    text = source.text
     for function in contracts.functions:
         if function.source is not source or not (function.is_public or function.inherits):
             continue
-        requirements = contracts.requirements(function)
-        start = source.start(function.first)
-        indent = text[text.rfind("\n", 0, start) + 1:start]
+        requirements, indent = contracts.requirements(function), function.indent
         if requirements and not function.inherits:
             lines = ["", "# Requires", ""]
             for label, words, test in requirements:
                 lines.append("- " + (f"{label}: " if label else "") + f"`{test or words}`")
             docs = "".join(f"{indent}/// {line}".rstrip() + "\n" for line in lines)
-            source.replace(start - len(indent), start - len(indent), docs)
+            source.replace(function.start, function.start, docs)
         asserts = "".join(f"\n{indent}    debug_assert!({test});" for _, _, test in requirements if test)
-        if asserts and function.body is not None:
-            past = source.end(function.body)
-            end = "" if text[past] == "\n" else "\n" + indent
-            source.replace(past, past, asserts + end)
+        if asserts and function.body:
+            end = "" if source.text[function.body] == "\n" else "\n" + indent
+            source.replace(function.body, function.body, asserts + end)

@@ -1,114 +1,86 @@
-"""A file of Rust or of the proved source: its tokens, and edits of its text."""
+"""A file of Rust or of the proved source, and edits of its text."""
 import re
 import sys
 
-TOKEN = re.compile(r"""(?P<space>\s+)|(?P<comment>//[^\n]*)
-    |(?P<string>b?r(?P<hash>\#*)".*?"(?P=hash)|b?"(?:\\.|[^"\\])*")
-    |(?P<char>b?'(?:\\(?:x..|u\{[^}]*\}|.)|[^\\'\n])')|(?P<lifetime>'[A-Za-z_]\w*)
-    |(?P<word>\w+)|(?P<mark>->|=>|::|.)""", re.S | re.X)
+COMMENT_OR_TEXT = re.compile(r"""//[^\n]*|b?r(\#*)".*?"\1|b?"(?:\\.|[^"\\])*"
+    |b?'(?:\\(?:x..|u\{[^}]*\}|.)|[^\\'\n])'""", re.S | re.X)
 CLOSES = {"(": ")", "[": "]", "{": "}"}
 
 
+def blank(text, mark=" "):
+    return re.sub(r"[^\n]", mark, text)
+
+
 class Source:
-    """A file of the proved source, its tokens, and the edits that erase it."""
+    """A text, and its code, which is as long: comments are blank, strings are `"`, and what is edited
+    is blank too. In `kept` only what is cut is blank."""
 
     def __init__(self, path, text):
-        self.path, self.text, self.edits, self.wanted = path, text, [], []
-        found = TOKEN.finditer(text)
-        self.index([token for token in found if token.lastgroup not in ("space", "comment")])
-
-    def index(self, tokens):
-        self.tokens = tokens
-        self.words = [token.group() for token in self.tokens]
-        self.kinds = [token.lastgroup for token in self.tokens]
-        self.pair = {}
-        open_at = []
-        for at, word in enumerate(self.words):
-            if self.kinds[at] != "mark":
+        self.path, self.text, self.edits = path, text, []
+        self.code = COMMENT_OR_TEXT.sub(
+            lambda found: blank(found[0], " " if found[0][0] == "/" else '"'), text)
+        self.kept = self.code
+        self.pair, opened = {}, []
+        for mark in self.find(r"[()\[\]{}]"):
+            if mark[0] in CLOSES:
+                opened.append(mark.start())
                 continue
-            if word in CLOSES:
-                open_at.append(at)
-            elif word in CLOSES.values():
-                if not open_at or CLOSES[self.words[open_at[-1]]] != word:
-                    self.stop(at, "a bracket that nothing opens")
-                start = open_at.pop()
-                self.pair[start], self.pair[at] = at, start
+            if not opened or CLOSES[self.code[opened[-1]]] != mark[0]:
+                self.stop(mark.start(), "a bracket that nothing opens")
+            start = opened.pop()
+            self.pair[start], self.pair[mark.start()] = mark.start(), start
+        if opened:
+            self.stop(opened[-1], "a bracket that nothing closes")
 
     def stop(self, at, why):
-        start = self.tokens[at].start() if at < len(self.tokens) else len(self.text)
-        line = self.text.count("\n", 0, start) + 1
+        line = self.text.count("\n", 0, at) + 1
         sys.exit(f"{self.path}:{line}: {why}")
 
-    def start(self, at):
-        return self.tokens[at].start()
-
-    def end(self, at):
-        return self.tokens[at].end()
-
-    def forget_ghosts(self):
-        """Keeps the tokens that no edit removes."""
-        gone = [(start, end) for start, end, new in self.edits if not new.strip()]
-        self.index([token for token in self.tokens
-                    if not any(start <= token.start() < end for start, end in gone)])
-
-    def needs(self, at, path):
-        self.wanted.append((self.start(at), path))
-
-    def import_wanted(self):
-        """Imports what is needed, in the innermost module around it, before its first `use`."""
-        inserted = set()
-        for wanted_at, path in self.wanted:
-            first = 0
-            for at, word in enumerate(self.words):
-                if self.start(at) > wanted_at:
-                    break
-                if word == "{" and self.words[at - 2] == "mod" and self.end(self.pair[at]) > wanted_at:
-                    first = at + 1
-            at = first
-            while self.words[at] != "use" and self.words[at:at + 2] != ["pub", "use"]:
-                stop = self.past(at, ";{")
-                at = self.pair.get(stop, stop) + 1
-                if at >= len(self.words) or self.words[at] == "}":
-                    at = first
-                    break
-            start = self.above(self.text.rfind("\n", 0, self.start(at)) + 1, "///")
-            indent = re.compile(" *").match(self.text, start)[0]
-            inserted.add((start, start, f"{indent}use {path};\n"))
-        self.edits += inserted
-
-    def joined(self, first, past):
-        return "".join(self.words[first:past])
-
-    def replace(self, start, end, new):
-        self.edits.append((start, end, new))
-
-    def rename(self, at, new):
-        self.replace(self.start(at), self.end(at), new)
+    def find(self, pattern):
+        return list(re.finditer(pattern, self.code, re.M))
 
     def past(self, at, stops):
         """The first of the stops from `at` on, outside brackets that open there."""
-        while at < len(self.words):
-            if self.kinds[at] == "mark" and self.words[at] in stops:
-                return at
-            at = self.pair[at] + 1 if self.words[at] in CLOSES and at in self.pair else at + 1
-        self.stop(at - 1, f"none of {stops} follows")
+        while self.code[at:at + 1] not in stops:
+            at = self.pair[at] + 1 if self.code[at] in CLOSES else at + 1
+        if at == len(self.code):
+            self.stop(at, f"none of {stops} follows")
+        return at
+
+    def list_of(self, opening):
+        """The elements between brackets, as ranges without blanks around them."""
+        first, close = opening + 1, self.pair[opening]
+        while self.code[first:close].strip():
+            past = self.past(first, "," + self.code[close])
+            element = self.code[first:past]
+            yield past - len(element.lstrip()), first + len(element.rstrip())
+            first = past + 1
+
+    def replace(self, start, end, new):
+        self.edits.append((start, end, new))
+        self.code = self.code[:start] + blank(self.code[start:end]) + self.code[end:]
+        if not new.strip():
+            self.kept = self.kept[:start] + blank(self.kept[start:end]) + self.kept[end:]
+
+    def sub(self, pattern, new):
+        for found in self.find(pattern):
+            self.replace(*found.span(), found.expand(new))
+
+    def line_start(self, at):
+        return self.text.rfind("\n", 0, at) + 1
 
     def above(self, start, mark):
-        """The start of the comment lines right above a line, or of that line."""
-        while start:
-            above = self.text.rfind("\n", 0, start - 1) + 1
-            if not self.text[above:start].lstrip().startswith(mark):
-                break
-            start = above
+        """The start of the lines right above a line that begin with a mark, or of that line."""
+        while start and self.text[self.line_start(start - 1):start].lstrip().startswith(mark):
+            start = self.line_start(start - 1)
         return start
 
     def lines(self, start, end):
         """The whole lines of a text, which have nothing else."""
-        first = self.text.rfind("\n", 0, start) + 1
+        first = self.line_start(start)
         past = self.text.find("\n", end) + 1 or len(self.text)
         if self.text[first:start].strip() or self.text[end:past].split("//")[0].strip():
-            line = self.text.count("\n", 0, start) + 1
-            sys.exit(f"{self.path}:{line}: more stands on the lines of what goes")
+            self.stop(start, "more stands on the lines of what goes")
         return first, past
 
     def cut_lines(self, start, end):
@@ -122,24 +94,27 @@ class Source:
             start -= 1
         self.replace(start, end, "")
 
-    def list_of(self, opening):
-        """The elements between brackets, as ranges of tokens."""
-        first, close = opening + 1, self.pair[opening]
-        while first < close:
-            past = first
-            while past < close and self.words[past] != ",":
-                past = self.pair[past] + 1 if past in self.pair else past + 1
-            yield first, past
-            first = past + 1
-
-    def drop_element(self, opening, first, past):
-        close = self.pair[opening]
-        if past + 1 < close and self.words[past] == ",":
-            self.replace(self.start(first), self.start(past + 1), "")
-        elif first - 1 > opening:
-            self.replace(self.start(first - 1), self.end(past - 1), "")
+    def cut_element(self, opening, first, past):
+        """Cuts an element of a list with the comma after it, or the one before it."""
+        after = re.compile(r",\s*(?=[^\s)\]}])").match(self.code, past)
+        before = re.search(r",\s*$", self.code[opening + 1:first])
+        if after:
+            self.replace(first, after.end(), "")
+        elif before:
+            self.replace(opening + 1 + before.start(), past, "")
         else:
-            self.replace(self.end(opening), self.start(close), "")
+            self.replace(opening + 1, self.pair[opening], "")
+
+    def needs(self, at, path):
+        """Imports a path in the innermost module around a place, before the first `use` that stays."""
+        modules = [module.end() for module in self.find(r"\bmod \w+ \{")]
+        start = max([start for start in modules if start <= at < self.pair[start - 1]], default=0)
+        first = re.compile(r"^( *)\S", re.M).search(self.kept, start)
+        use = re.compile(rf"^{first[1]}(pub )?use ", re.M).search(self.kept, start)
+        place = self.above((use or first).start(), "///")
+        edit = (place, place, f"{first[1]}use {path};\n")
+        if edit not in self.edits:
+            self.edits.append(edit)
 
     def erased(self):
         text, before, is_cut = self.text, len(self.text), True
@@ -147,7 +122,6 @@ class Source:
             if end > before and is_cut and not new:
                 end = before
             elif end > before:
-                line = self.text.count("\n", 0, start) + 1
-                sys.exit(f"{self.path}:{line}: two edits at one place")
+                self.stop(start, "two edits at one place")
             text, before, is_cut = text[:start] + new + text[end:], start, not new
         return text

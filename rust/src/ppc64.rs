@@ -5,8 +5,8 @@
 mod relocations;
 
 use crate::bit_misc::BitExtraction;
-use crate::elf::engine::{self, Run, Window, run};
-use crate::elf::{InstructionForm, InstructionRewrite, Ppc64Instruction, RelocationInstruction};
+use crate::elf::engine::Window;
+use crate::elf::{InstructionForm, InstructionRewrite, Ppc64Instruction};
 use crate::relaxation::RelocationModifier;
 pub use relocations::{Ppc64Relocation, relocation_type_from_raw};
 
@@ -67,28 +67,24 @@ impl InstructionRewrite for RelaxationKind {
     }
 }
 
-const D_FORM: [Run; 1] = [run!(0, 0, 16)];
-
-const DS_FORM: [Run; 1] = [run!(2, 2, 14)];
-
-const I_FORM: [Run; 1] = [run!(2, 2, 24)];
-
 impl Ppc64Instruction {
+    /// The bits that a form holds: they stand in the word where they stand in the value. LLVM takes
+    /// the mask from a table, where a match of runs would be a jump by the form.
+    #[inline(always)]
+    fn mask(self) -> u64 {
+        match self {
+            Ppc64Instruction::D => 0xffff,
+            Ppc64Instruction::Ds | Ppc64Instruction::Branch14 => 0xfffc,
+            Ppc64Instruction::Branch24 => 0x03ff_fffc,
+        }
+    }
+
     /// Writes the bits of a value.
     #[inline(always)]
-    fn place(self, value: u64, negative: bool, dest: &mut [u8]) {
-        let insn = RelocationInstruction::Ppc64(self);
-        match self {
-            Ppc64Instruction::D => {
-                engine::write_form(insn, Window::Four, &D_FORM, value, negative, dest);
-            }
-            Ppc64Instruction::Ds | Ppc64Instruction::Branch14 => {
-                engine::write_form(insn, Window::Four, &DS_FORM, value, negative, dest);
-            }
-            Ppc64Instruction::Branch24 => {
-                engine::write_form(insn, Window::Four, &I_FORM, value, negative, dest);
-            }
-        }
+    fn place(self, value: u64, _negative: bool, dest: &mut [u8]) {
+        let mask = self.mask();
+        let word = Window::Four.load(dest) & !mask | value & mask;
+        Window::Four.store(word, dest);
     }
 
     /// Writes a value into the instruction that `dest` begins with. Only the form's bits change.
@@ -112,14 +108,7 @@ impl Ppc64Instruction {
     #[inline]
     pub fn read_value(self, bytes: &[u8]) -> (u64, bool) {
         debug_assert!(self.window() <= bytes.len());
-        let insn = RelocationInstruction::Ppc64(self);
-        match self {
-            Ppc64Instruction::D => engine::read_form(insn, Window::Four, &D_FORM, bytes),
-            Ppc64Instruction::Ds | Ppc64Instruction::Branch14 => {
-                engine::read_form(insn, Window::Four, &DS_FORM, bytes)
-            }
-            Ppc64Instruction::Branch24 => engine::read_form(insn, Window::Four, &I_FORM, bytes),
-        }
+        (Window::Four.load(bytes) & self.mask(), false)
     }
 }
 

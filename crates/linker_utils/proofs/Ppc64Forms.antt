@@ -1,12 +1,43 @@
 -- The PowerPC64 forms keep the laws of forms.
-use Rattle.std.proofs.Common.{ℕ, ◌^◌, ◌<◌, Bool, refl}
-use Rattle.linker_base.specs.Form.{Written, MachineReads}
+use Rattle.std.proofs.Common.{◌≡◌, ℕ, List, ◌-◌, ◌^◌, ◌<◌, Bool, refl, sym, ◌∙◌, arith}
+use Rattle.std.specs.Prelude.{bit_and, bit_or}
+use Rattle.std.specs.Int.{w32, from_le_bytes}
+use Rattle.linker_base.specs.Form.{Written, MachineReads, BitsWritten, place_sum, replaced, window_of}
+use Rattle.linker_base.proofs.ConsecutiveBits.{consecutive_bits_sum}
 use Rattle.linker_base.proofs.Immediates.{layout_machine}
 use Rattle.linker_utils.specs.Ppc64.{ppc64_form, ppc64_layout}
 use Rattle.linker_utils.specs.declared.elf.Ppc64Instruction.{Ppc64Instruction}
-use Rattle.linker_utils.specs.declared.elf.Ppc64Instruction.TheVariants.{D}
+use Rattle.linker_utils.specs.declared.elf.Ppc64Instruction.TheVariants.{D, Ds, Branch24}
+use Rattle.linker_utils.proofs.Runs.{masked, mask_written}
 
 pub ppc64_machine : (f : Ppc64Instruction) (v : ℕ) (neg : Bool) (before after : ℕ) → v < 2 ^ 64
     → Written (ppc64_form f) v neg before after → MachineReads (ppc64_form f) v neg before after
 ppc64_machine D v neg before after h laid = layout_machine (ppc64_layout D) refl v neg before after h h laid
 ppc64_machine f v neg before after h laid = layout_machine (ppc64_layout f) refl v neg before after h h laid
+
+-- what a mask leaves of a word is the number in the form's places
+pub d_mask : (x : ℕ) → bit_and x 0xffff ≡ place_sum ((ppc64_form D).places 0) x
+d_mask x = masked 16 0 x ∙ sym (consecutive_bits_sum replaced 16 0 0 0 x refl)
+
+pub ds_mask : (x : ℕ) → bit_and x 0xfffc ≡ place_sum ((ppc64_form Ds).places 0) x
+ds_mask x = masked 14 2 x ∙ sym (consecutive_bits_sum replaced 14 2 2 0 x refl)
+
+pub i_mask : (x : ℕ) → bit_and x 0x3fffffc ≡ place_sum ((ppc64_form Branch24).places 0) x
+i_mask x = masked 24 2 x ∙ sym (consecutive_bits_sum replaced 24 2 2 0 x refl)
+
+-- and the word with the value's bits there is what a write makes of it
+pub d_written : (v x : ℕ) → v < 2 ^ 64 → x < 2 ^ 64 → BitsWritten ((ppc64_form D).places 0) v x (bit_or (bit_and x (2 ^ 64 - 1 - 0xffff)) (bit_and v 0xffff))
+d_written v x = mask_written 16 0 v x (omega arith) (omega arith)
+
+pub ds_written : (v x : ℕ) → v < 2 ^ 64 → x < 2 ^ 64 → BitsWritten ((ppc64_form Ds).places 0) v x (bit_or (bit_and x (2 ^ 64 - 1 - 0xfffc)) (bit_and v 0xfffc))
+ds_written v x = mask_written 14 2 v x (omega arith) (omega arith)
+
+pub i_written : (v x : ℕ) → v < 2 ^ 64 → x < 2 ^ 64
+    → BitsWritten ((ppc64_form Branch24).places 0) v x (bit_or (bit_and x (2 ^ 64 - 1 - 0x3fffffc)) (bit_and v 0x3fffffc))
+i_written v x = mask_written 24 2 v x (omega arith) (omega arith)
+
+pub ppc64_written : (f : Ppc64Instruction) (neg : Bool) (v : ℕ) (old new : List ℕ)
+    → BitsWritten ((ppc64_form f).places 0) v (from_le_bytes w32 old) (from_le_bytes w32 new)
+    → Written (ppc64_form f) v neg (window_of (ppc64_form f) old) (window_of (ppc64_form f) new)
+ppc64_written D neg v old new laid = laid
+ppc64_written f neg v old new laid = laid

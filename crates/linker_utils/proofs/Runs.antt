@@ -64,6 +64,27 @@ field_outside : (f n w i : ℕ) → f < 2 ^ n → (i < w) ⊎ (w + n ≤ i) → 
 field_outside f n w i h (inl below) = bit_at_shl_below f w i below
 field_outside f n w i h (inr above) = bit_at_shl f w i (omega arith) ∙ bit_at_above f n (i - w) h (omega arith)
 
+-- what a mask leaves of a window: a run that stands there where the value has it
+pub masked : (n w x : ℕ) → bit_and x ((2 ^ n - 1) * 2 ^ w) ≡ x / 2 ^ w % 2 ^ n * 2 ^ w
+masked n w x =
+    let m = (2 ^ n - 1) * 2 ^ w in
+    let f = x / 2 ^ w % 2 ^ n in
+    let small : f < 2 ^ n = mod_below (x / 2 ^ w) (2 ^ n) (pow_pos n) in
+    let outside : (i : ℕ) → (i < w) ⊎ (w + n ≤ i) → bit_at (bit_and x m) i ≡ bit_at (f * 2 ^ w) i =
+    λ i o. bit_at_and x m i ∙ omega (arith, mask_outside n w i o, field_outside f n w i small o) in
+    let inside : (j : ℕ) → j < n → bit_at (bit_and x m) (w + j) ≡ bit_at (f * 2 ^ w) (w + j) =
+    λ j h. bit_at_and x m (w + j)
+    ∙ omega (arith, mask_inside n w j h, field_inside f w j, bit_at_run x w n j h, bit_at-lt x (w + j)) in
+    same_from_bits (bit_and x m) (f * 2 ^ w) (λ i. elim (cases_lt i w) [
+      | inl below ↦ outside i (inl below)
+      | inr from ↦ elim (cases_lt i (w + n)) [
+        | inl in_it ↦
+            let at : w + (i - w) ≡ i = omega arith in
+            subst (λ k. bit_at (bit_and x m) k ≡ bit_at (f * 2 ^ w) k) at (inside (i - w) (omega arith))
+        | inr above ↦ outside i (inr above)
+      ]
+    ])
+
 mask_below : (n w : ℕ) → w + n ≤ 64 → (2 ^ n - 1) * 2 ^ w < 2 ^ 64
 mask_below n w h =
     let small : (2 ^ n - 1) * 2 ^ w < 2 ^ (n + w) = shl_below (2 ^ n - 1) n w (omega (arith, pow_pos n)) in
@@ -138,6 +159,15 @@ module _ (n k w r v x : ℕ) (len : n < 64) (inside : w + n ≤ 64) (small : x <
 
   pub put_cleared : BitsWritten (consecutive_bits n k w r cleared) v x (bit_and x (2 ^ 64 - 1 - (1 * 2 ^ n % 2 ^ 64 - 1) * 2 ^ w % 2 ^ 64))
   put_cleared = rw mask_is cleared_laid
+
+-- what a mask writes: a run that stands there where the value has it
+pub mask_written : (n w v x : ℕ) → n < 64 → w + n ≤ 64 → v < 2 ^ 64 → x < 2 ^ 64
+    → BitsWritten (consecutive_bits n w w 0 replaced) v x (bit_or (bit_and x (2 ^ 64 - 1 - (2 ^ n - 1) * 2 ^ w)) (bit_and v ((2 ^ n - 1) * 2 ^ w)))
+unfolding run
+mask_written n w v x len inside small_v small =
+    let same : (v + 0) % 2 ^ 64 ≡ v = omega arith in
+    subst (λ b. BitsWritten (consecutive_bits n w w 0 replaced) v x (bit_or (bit_and x (2 ^ 64 - 1 - (2 ^ n - 1) * 2 ^ w)) b))
+    (ap (λ y. y / 2 ^ w % 2 ^ n * 2 ^ w) same ∙ sym (masked n w v)) (replaced_laid n w w 0 v x len inside small)
 
 -- ---- what fits
 

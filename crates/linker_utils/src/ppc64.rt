@@ -2,16 +2,16 @@
 
 mod relocations;
 
-ghost use Rattle.std.specs.Prelude.{◌≡◌, ◌≤◌, ◌↔◌, IsTrue, length, drop};
+ghost use Rattle.std.specs.Prelude.{◌≡◌, ◌<◌, ◌≤◌, ◌^◌, ◌-◌, ◌↔◌, ℕ, IsTrue, length, drop, bit_and, bit_or};
 ghost use Rattle.std.specs.Int.{byte_len, cast_unsigned, from_le_bytes, w32, w64};
-ghost use Rattle.linker_base.specs.Form.{window_of, Written, MachineReads, IsReadBack};
+ghost use Rattle.linker_base.specs.Form.{window_of, Written, MachineReads, IsReadBack, BitsWritten, place_sum};
 ghost use Rattle.linker_base.specs.Rewrite.{CanRewrite, rewritten, offset_after, addend_after};
 ghost use Rattle.linker_utils.specs.Inner.FormLaws.{ppc64_keeps, ppc64_restored};
 ghost use Rattle.linker_utils.specs.Ppc64.{ppc64_form, ppc64_rewrite, ppc64_modifier, PairHolds, KeepsHigh};
 
 use crate::bit_misc::BitExtraction;
-use crate::elf::engine::{self, Run, Window, run};
-use crate::elf::{InstructionForm, InstructionRewrite, Ppc64Instruction, RelocationInstruction};
+use crate::elf::engine::Window;
+use crate::elf::{InstructionForm, InstructionRewrite, Ppc64Instruction};
 use crate::relaxation::RelocationModifier;
 pub use relocations::{Ppc64Relocation, relocation_type_from_raw};
 
@@ -81,35 +81,35 @@ impl InstructionRewrite for RelaxationKind {
     }
 }
 
-const D_FORM: [Run; 1] = [run!(0, 0, 16)];
-
-const DS_FORM: [Run; 1] = [run!(2, 2, 14)];
-
-const I_FORM: [Run; 1] = [run!(2, 2, 24)];
-
 impl Ppc64Instruction {
+    /// The bits that a form holds: they stand in the word where they stand in the value. LLVM takes
+    /// the mask from a table, where a match of runs would be a jump by the form.
+    #[inline(always)]
+    fn mask(self) -> u64
+        ensures small { result < 2 ^ 32 }
+        ensures read { (x : ℕ) → bit_and x result ≡ place_sum ((ppc64_form self).places 0) x }
+        ensures written { (v x : ℕ) → v < 2 ^ 64 → x < 2 ^ 64 → BitsWritten ((ppc64_form self).places 0) v x (bit_or (bit_and x (2 ^ 64 - 1 - result)) (bit_and v result)) }
+    {
+        match self {
+            Ppc64Instruction::D => 0xffff,
+            Ppc64Instruction::Ds | Ppc64Instruction::Branch14 => 0xfffc,
+            Ppc64Instruction::Branch24 => 0x03ff_fffc,
+        }
+    }
+
     /// Writes the bits of a value.
     #[inline(always)]
-    fn place(self, value: u64, negative: bool, dest: &mut [u8])
+    fn place(self, value: u64, _negative: bool, dest: &mut [u8])
         requires { byte_len (ppc64_form self).window ≤ length dest.old }
-        ensures written { Written (ppc64_form self) value negative (window_of (ppc64_form self) dest.old) (window_of (ppc64_form self) dest.new) }
+        ensures written { Written (ppc64_form self) value _negative (window_of (ppc64_form self) dest.old) (window_of (ppc64_form self) dest.new) }
         ensures rest { drop (byte_len (ppc64_form self).window) dest.new
             ≡ drop (byte_len (ppc64_form self).window) dest.old }
         ensures same { window_of (ppc64_form self) dest.new ≡ window_of (ppc64_form self) dest.old
             → dest.new ≡ dest.old }
     {
-        let insn = RelocationInstruction::Ppc64(self);
-        match self {
-            Ppc64Instruction::D => {
-                engine::write_form(insn, Window::Four, &D_FORM, value, negative, dest);
-            }
-            Ppc64Instruction::Ds | Ppc64Instruction::Branch14 => {
-                engine::write_form(insn, Window::Four, &DS_FORM, value, negative, dest);
-            }
-            Ppc64Instruction::Branch24 => {
-                engine::write_form(insn, Window::Four, &I_FORM, value, negative, dest);
-            }
-        }
+        let mask = self.mask();
+        let word = Window::Four.load(dest) & !mask | value & mask;
+        Window::Four.store(word, dest);
     }
 
     /// Writes a value into the instruction that `dest` begins with. Only the form's bits change.
@@ -136,14 +136,7 @@ impl Ppc64Instruction {
             ≡ cast_unsigned w64 ((ppc64_form self).reading (window_of (ppc64_form self) bytes.now)) }
         ensures flag { result.1 ≡ (ppc64_form self).flag (window_of (ppc64_form self) bytes.now) }
     {
-        let insn = RelocationInstruction::Ppc64(self);
-        match self {
-            Ppc64Instruction::D => engine::read_form(insn, Window::Four, &D_FORM, bytes),
-            Ppc64Instruction::Ds | Ppc64Instruction::Branch14 => {
-                engine::read_form(insn, Window::Four, &DS_FORM, bytes)
-            }
-            Ppc64Instruction::Branch24 => engine::read_form(insn, Window::Four, &I_FORM, bytes),
-        }
+        (Window::Four.load(bytes) & self.mask(), false)
     }
 }
 

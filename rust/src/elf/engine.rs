@@ -76,7 +76,7 @@ impl Window {
 
     /// Sets the window that `bytes` begins with to a number.
     #[inline(always)]
-    fn store(self, window: u64, bytes: &mut [u8]) {
+    pub(crate) fn store(self, window: u64, bytes: &mut [u8]) {
         match self {
             Window::Two => bytes[..2].copy_from_slice(&(window as u16).to_le_bytes()),
             Window::Four => bytes[..4].copy_from_slice(&(window as u32).to_le_bytes()),

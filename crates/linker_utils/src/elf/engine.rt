@@ -86,7 +86,7 @@ impl Window {
 
     /// Sets the window that `bytes` begins with to a number.
     #[inline(always)]
-    fn store(self, window: u64, bytes: &mut [u8])
+    pub(crate) fn store(self, window: u64, bytes: &mut [u8])
         requires room { byte_len (width_of self) ≤ length bytes.old }
         requires fits { window < 2 ^ bits_of self }
         ensures stored { from_le_bytes (width_of self) bytes.new ≡ window }
