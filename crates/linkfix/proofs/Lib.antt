@@ -1,4 +1,6 @@
+mod CallLemmas
 mod Digits
 mod LineLemmas
 mod Execution
+mod Rejected
 mod WordLemmas
