@@ -1,5 +1,6 @@
 -- A run over the lines of an input, line by line.
-use Rattle.std.proofs.Common.{◌≡◌, ◌≢◌, ℕ, List, [], ◌∷◌, ◌++◌, ◌⊎◌, Bool, true, false, IsTrue, Option, None, Some, IfSome, ◌↔◌, inl, inr, refl, sym, ap, subst, ◌∙◌, append_assoc, append-nil}
+use Rattle.std.proofs.Common.{Ok, Err, ◌≡◌, ◌≢◌, ℕ, List, [], ◌∷◌, ◌++◌, ◌⊎◌, Bool, true, false, IsTrue, Option, None, Some, IfSome, ◌↔◌, inl, inr, refl, sym, ap, subst, ◌∙◌, append_assoc, append-nil}
+use Rattle.std.specs.Prelude.{Result}
 use Rattle.std.proofs.lemmas.Bool.{false≢true}
 use Rattle.std.proofs.KnownBytes.{Appends-nil, Appends-trans}
 use Rattle.std.specs.Io.KnownBytes.{Appends}
@@ -141,6 +142,18 @@ pub input_memory : (fault : InputError) (stop : RunError) (error : ReportedError
     → stop ≡ Reported error → error ≡ OutOfMemory
 input_memory ReadFails stop error fails memory is = absurd (cc (fails refl, is))
 input_memory NoMemoryForInput stop error fails memory is = cc (memory refl, is)
+
+-- the result of a command that is executed
+abbrev Succeeded : Result (Unit {0}) RunError
+Succeeded = Ok tt
+
+-- it is not rejected
+pub not_rejected : (P Q : ReportedError → Type 0) → ((error : ReportedError) → P error → (Succeeded ≡ Err (Reported error)) ⊎ (Q error × (Succeeded ≡ Err (Reported OutOfMemory))))
+    → (error : ReportedError) → ¬ P error
+not_rejected P Q causes error rejects = elim (causes error rejects) [
+  | inl failed ↦ cc failed
+  | inr memory ↦ cc (memory.1)
+]
 
 -- an error of a command that is reported: it is rejected, or memory ran out; and nothing was printed for it
 pub reported_silent : (error : ReportedError) (w1 w2 : Option (List ℕ)) → (Reported error ≡ Io) ⊎ (w2 ≡ w1) → w2 ≡ w1

@@ -82,11 +82,12 @@ BeginWithLines [] bytes rest = rest ≡ bytes
 BeginWithLines (line ∷ lines) bytes rest = (bytes ≢ []) × (line ≡ first_line bytes)
     × BeginWithLines lines (drop_through 10 bytes) rest
 
--- the line is blank and prints nothing, or it is a command that is executed and prints its line
+-- the line is blank and prints nothing, or it is a command that isn't rejected, and prints its line
 abbrev pub ExecutesLine : List ℕ → SectionState → SectionState → List ℕ → Type 0
 ExecutesLine line before after printed =
     ((words_of line ≡ []) × (after ≡ before) × (printed ≡ []))
     ⊎ ((command : Command) × IsWrittenAs command (words_of line)
+    × ((error : ReportedError) → ¬ Rejects command before error)
     × (text : List ℕ) × Executes command before after text × (printed ≡ text ++ 10 ∷ []))
 
 -- the lines are executed one after the other, and this is printed

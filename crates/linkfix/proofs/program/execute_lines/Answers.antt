@@ -2,7 +2,7 @@ use Rattle.std.proofs.Common.{◌≡◌, Err, ap, refl, inl, inr}
 use Rattle.std.proofs.lemmas.Result.{err_from_is_err_and}
 use Rattle.linkfix.specs.Execution.{Rejects}
 use Rattle.linkfix.specs.declared.program.RunError.TheVariants.{Reported}
-use Rattle.linkfix.proofs.Execution.{ends_at_line, ends_at_section, ends_without_memory, input_memory, is_begun, next_blank, next_executed, reported_cause, reported_silent, run_begins, run_ends}
+use Rattle.linkfix.proofs.Execution.{ends_at_line, ends_at_section, ends_without_memory, input_memory, is_begun, not_rejected, next_blank, next_executed, reported_cause, reported_silent, run_begins, run_ends}
 use Rattle.linkfix.proofs.program.execute_lines.Goals as goal
 
 pub returns-in_err-read_section-clause-stopped : goal.returns-in_err-read_section-clause-stopped
@@ -35,7 +35,7 @@ loop-state-preserved-in_ok-execute g c =
     let written = rw c.in-Some.is at c.in_ok-command.ensures.ok in
     let executed = c.in_ok-execute.ensures.executed in
     next_executed _ _ _ _ _ _ _ _ _ c.deref-in-loop-state.ensures.value _ c.if-branch.true c.loop-state.invariant c.in_ok-next_line-2.ensures.next
-    _ _ _ (inr (c.in-Some.command, written, executed.0, executed.1, refl)) executed.2
+    _ _ _ (inr (c.in-Some.command, written, not_rejected _ _ c.in_ok-execute.ensures.causes, executed.0, executed.1, refl)) executed.2
 
 pub returns-in_err-execute-clause-stopped : goal.returns-in_err-execute-clause-stopped
 returns-in_err-execute-clause-stopped g c error is =
