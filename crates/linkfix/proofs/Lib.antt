@@ -1,4 +1,5 @@
 mod CallLemmas
+mod Determined
 mod Digits
 mod LineLemmas
 mod Execution

@@ -4,5 +4,6 @@ pub mod CommandSyntax
 pub mod DecodedHex
 pub mod ErrorLines
 pub mod Execution
+pub mod Laws
 pub mod RemainingInput
 pub mod Words

@@ -12,6 +12,7 @@ ghost use Rattle.linker_utils.specs.declared.riscv64.calls.LinkRegister.{LinkReg
 ghost use Rattle.linkfix.specs.AnswerLines.{answer_line};
 ghost use Rattle.linkfix.specs.ErrorLines.{error_line};
 ghost use Rattle.linkfix.specs.Execution.{CallFailsWith, EndsWith, Executes, ExecutesInput, IsMemoryOrIoError, Rejects, TakesMemoryFirst};
+ghost use Rattle.linkfix.specs.Laws.{RejectedInputsAreNotExecuted};
 ghost use Rattle.linkfix.specs.declared.commands.Command.{Command};
 ghost use Rattle.linkfix.specs.declared.input.InputError.{InputError};
 ghost use Rattle.linkfix.specs.declared.program.ReportedError.{ReportedError};
@@ -203,6 +204,11 @@ fn execute_lines<R: Read + Drop, W: Write>(
     }
     Ok(())
 }
+
+/// An input on which a run ends with an error, other than out of memory, can't be executed.
+pub fn rejected_inputs_are_not_executed()
+    ensures { RejectedInputsAreNotExecuted }
+{}
 
 /// What is printed for a command.
 #[derive(Drop)]
