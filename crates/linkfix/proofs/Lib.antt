@@ -1,4 +1,7 @@
+mod CallLemmas
+mod Determined
 mod Digits
 mod LineLemmas
 mod Execution
+mod Rejected
 mod WordLemmas

@@ -2,7 +2,7 @@
 use Rattle.std.specs.Prelude.{◌≡◌, ℕ, ◌<◌, ◌^◌, List, [], ◌∷◌, codes}
 use Rattle.std.specs.Str.Parse.{IsNumeral, digits_value}
 use Rattle.linkfix.specs.declared.commands.Command.{Command}
-use Rattle.linkfix.specs.declared.commands.Command.TheVariants.{Call, Delete, Show, ToInput, ToOutput}
+use Rattle.linkfix.specs.declared.commands.Command.TheVariants.{Call, Delete, Pack, Show, ToInput, ToOutput}
 
 -- the word is n in one decimal digit or more, and n is below 2 ^ 63
 abbrev pub IsNumber : List ℕ → ℕ → Type 0
@@ -31,3 +31,4 @@ IsWrittenAs (ToInput y) ws = (a : List ℕ) × (ws ≡ codes "out" ∷ a ∷ [])
 IsWrittenAs (Call site target) ws = (a : List ℕ) × (b : List ℕ)
     × (ws ≡ codes "call" ∷ a ∷ b ∷ []) × IsNumber a site × IsNumber b target
 IsWrittenAs Show ws = ws ≡ codes "show" ∷ []
+IsWrittenAs Pack ws = ws ≡ codes "pack" ∷ []

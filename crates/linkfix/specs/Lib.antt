@@ -1,5 +1,9 @@
-pub mod DecodedHex
-pub mod Execution
+pub mod AcceptedCalls
+pub mod AnswerLines
 pub mod CommandSyntax
+pub mod DecodedHex
+pub mod ErrorLines
+pub mod Execution
+pub mod Laws
 pub mod RemainingInput
 pub mod Words

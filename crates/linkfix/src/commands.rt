@@ -24,6 +24,9 @@ pub enum Command {
     Call { site: u64, target: u64 },
     /// `show`: prints the bytes of the section.
     Show,
+    /// `pack`: prints the bytes of the section packed, with each replaced call a jump between the
+    /// places that its site and target have there.
+    Pack,
 }
 
 /// The error of a line that is no command.
@@ -62,6 +65,7 @@ pub fn parse_command(line: &[u8]) -> Result<Option<Command>, BadLine>
             target: take_number(&mut words)?,
         },
         b"show" => Command::Show,
+        b"pack" => Command::Pack,
         _ => return Err(BadLine),
     };
     match words.next() {

@@ -2,6 +2,7 @@
 //! commands and prints one line for each.
 #![tactic(auto)]
 
+mod accepted_calls;
 mod commands;
 mod input;
 mod program;

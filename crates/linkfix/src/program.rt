@@ -1,19 +1,29 @@
 //! The program over any reader and writer.
 
-ghost use Rattle.std.specs.Prelude.{◌≡◌, ◌≤◌, ◌↔◌, ◌⊎◌, ◌++◌, ◌∷◌, [], ℕ, List, codes, decimal, IfSome, IfOk, IfErr, OnOk, OnErr};
-ghost use Rattle.linker_utils.specs.RiscV.{JumpsAt, output_distance};
-ghost use Rattle.linker_base.specs.Deletions.{AreDisjoint, IsSortedUnion, IsSelected, HasInput};
+ghost use Rattle.std.specs.Prelude.{◌≡◌, ◌≢◌, ◌≤◌, ◌↔◌, ◌⊎◌, ◌++◌, ◌∷◌, [], ℕ, List, All, codes, decimal, length, IfSome, IfOk, IfErr, OnOk, OnErr};
+ghost use Rattle.std.specs.String.{string_bytes};
 ghost use Rattle.std.specs.Io.KnownBytes.{Appends};
-ghost use Rattle.linkfix.specs.Execution.{CallFailsWith, IsMemoryOrIoError, ExecutesInput, Executes, Rejects};
+ghost use Rattle.hex.specs.Hex.{encode_lower};
+ghost use Rattle.linker_base.specs.Deletions.{AreDisjoint, IsSortedUnion, IsSelected, HasInput};
+ghost use Rattle.linker_utils.specs.Packing.{IsPacked};
+ghost use Rattle.linker_utils.specs.RiscV.{JumpsAt, output_distance};
+ghost use Rattle.linker_utils.specs.declared.riscv64.calls.CallError.{CallError};
+ghost use Rattle.linker_utils.specs.declared.riscv64.calls.LinkRegister.{LinkRegister};
+ghost use Rattle.linkfix.specs.AnswerLines.{answer_line};
+ghost use Rattle.linkfix.specs.ErrorLines.{error_line};
+ghost use Rattle.linkfix.specs.Execution.{CallFailsWith, EndsWith, Executes, ExecutesInput, IsMemoryOrIoError, Rejects, TakesMemoryFirst};
+ghost use Rattle.linkfix.specs.Laws.{RejectedInputsAreNotExecuted};
+ghost use Rattle.linkfix.specs.declared.commands.Command.{Command};
 ghost use Rattle.linkfix.specs.declared.input.InputError.{InputError};
 ghost use Rattle.linkfix.specs.declared.program.ReportedError.{ReportedError};
 ghost use Rattle.linkfix.specs.declared.program.RunError.{RunError};
 ghost use Rattle.linkfix.specs.declared.sections.LineFault.{LineFault};
 
+use crate::accepted_calls::AcceptedCalls;
 use crate::commands::{BadLine, Command, parse_command};
 use crate::input::{InputError, Lines};
 use crate::sections::{LineFault, read_section, show_section};
-use linker_utils::relaxation::{OutOfMemory, SectionRelaxDeltas};
+use linker_utils::relaxation::{OutOfMemory, PackError, SectionRelaxDeltas, pack_section};
 use linker_utils::riscv64::{CallError, relax_call};
 use std::alloc::{AllocError, Global};
 use std::io;
@@ -26,18 +36,22 @@ enum ReportedError {
     BadLine,
     BadDeletion,
     TooLarge,
+    BadCall,
     Call(CallError),
     OutOfMemory,
 }
 
 impl ReportedError {
     /// The line that is printed.
-    fn line(self) -> &'static str {
+    fn line(self) -> &'static str
+        ensures { result.now ≡ error_line self }
+    {
         match self {
             ReportedError::BadSection => "bad section\n",
             ReportedError::BadLine => "bad line\n",
             ReportedError::BadDeletion => "bad deletion\n",
             ReportedError::TooLarge => "too large\n",
+            ReportedError::BadCall => "bad call\n",
             ReportedError::Call(CallError::OutOfSection) => "OutOfSection\n",
             ReportedError::Call(CallError::SiteDeleted) => "SiteDeleted\n",
             ReportedError::Call(CallError::OddDistance) => "OddDistance\n",
@@ -90,11 +104,19 @@ impl From<BadLine> for RunError {
     }
 }
 
-impl From<CallError> for RunError {
-    ghost from_gives = { λ error run_error. run_error ≡ RunError.Reported (ReportedError.Call error) };
+impl From<CallError> for ReportedError {
+    ghost from_gives = { λ error reported. reported ≡ ReportedError.Call error };
 
-    fn from(error: CallError) -> RunError {
-        RunError::Reported(ReportedError::Call(error))
+    fn from(error: CallError) -> ReportedError {
+        ReportedError::Call(error)
+    }
+}
+
+impl From<AllocError> for ReportedError {
+    ghost from_gives = { λ _ reported. reported ≡ ReportedError.OutOfMemory };
+
+    fn from(_e: AllocError) -> ReportedError {
+        ReportedError::OutOfMemory
     }
 }
 
@@ -110,14 +132,6 @@ impl From<OutOfMemory> for RunError {
     ghost from_gives = { λ _ run_error. run_error ≡ RunError.Reported ReportedError.OutOfMemory };
 
     fn from(_e: OutOfMemory) -> RunError {
-        RunError::Reported(ReportedError::OutOfMemory)
-    }
-}
-
-impl From<AllocError> for RunError {
-    ghost from_gives = { λ _ run_error. run_error ≡ RunError.Reported ReportedError.OutOfMemory };
-
-    fn from(_e: AllocError) -> RunError {
         RunError::Reported(ReportedError::OutOfMemory)
     }
 }
@@ -139,13 +153,26 @@ pub fn run<R: Read + Drop, W: Write + Drop>(alloc: Global, input: R, mut output:
     ensures executed { result ≡ 0 → IfSome (R.remaining input) (λ bytes.
         (printed : List ℕ) × ExecutesInput bytes printed) }
 {
-    match execute_lines(alloc, input, &mut output) {
-        Ok(()) => 0,
-        Err(RunError::Reported(error)) => {
-            let _ = output.write_all(error.line().as_bytes());
-            1
-        }
-        Err(RunError::Io) => 1,
+    run_into(alloc, input, &mut output).unwrap_or(1)
+}
+
+/// What `run` does, into a writer that is kept. None if a read or a write fails.
+fn run_into<R: Read + Drop, W: Write>(alloc: Global, input: R, output: &mut W) -> Option<u8>
+    ensures status { IfSome result (λ status. status ≤ 1) }
+    ensures executed { IfSome result (λ status. status ≡ 0 → IfSome (R.remaining input) (λ bytes.
+        (printed : List ℕ) × ExecutesInput bytes printed
+        × Appends (W.contents output.old) (W.contents output.new) printed)) }
+    ensures stopped { IfSome result (λ status. status ≡ 1 → IfSome (R.remaining input) (λ bytes.
+        (printed : List ℕ) × (error : ReportedError) × EndsWith bytes printed error
+        × Appends (W.contents output.old) (W.contents output.new) (printed ++ error_line error))) }
+{
+    match execute_lines(alloc, input, output) {
+        Ok(()) => Some(0),
+        Err(RunError::Reported(error)) => match output.write_all(error.line().as_bytes()) {
+            Ok(()) => Some(1),
+            Err(_) => None,
+        },
+        Err(RunError::Io) => None,
     }
 }
 
@@ -157,6 +184,9 @@ fn execute_lines<R: Read + Drop, W: Write>(
     ensures executed { OnOk result (IfSome (R.remaining input) (λ bytes.
         (printed : List ℕ) × ExecutesInput bytes printed
         × Appends (W.contents output.old) (W.contents output.new) printed)) }
+    ensures stopped { (error : ReportedError) → result ≡ Err (RunError.Reported error)
+        → IfSome (R.remaining input) (λ bytes. (printed : List ℕ) × EndsWith bytes printed error
+        × Appends (W.contents output.old) (W.contents output.new) printed) }
 {
     let mut lines = Lines::new(input);
     let mut line = Vec::new(alloc);
@@ -165,6 +195,7 @@ fn execute_lines<R: Read + Drop, W: Write>(
         alloc,
         section: read_section(alloc, &line)?,
         deltas: SectionRelaxDeltas::new(alloc, &[])?,
+        calls: AcceptedCalls::new(alloc),
     };
     while lines.next_line(&mut line)? {
         if let Some(command) = parse_command(&line)? {
@@ -174,13 +205,41 @@ fn execute_lines<R: Read + Drop, W: Write>(
     Ok(())
 }
 
-/// The section that the commands work on, and its deletions. The bytes that are listed as deleted
-/// are still in `section`, so that each command's offsets are input offsets.
+/// An input on which a run ends with an error, other than out of memory, can't be executed.
+pub fn rejected_inputs_are_not_executed()
+    ensures { RejectedInputsAreNotExecuted }
+{}
+
+/// What is printed for a command.
+#[derive(Drop)]
+enum Answer {
+    /// `ok`.
+    Done,
+    /// A line.
+    Line(String),
+}
+
+impl Answer {
+    /// The line, with its end.
+    fn line(&self) -> &str
+        ensures { result.now ≡ answer_line self.now }
+    {
+        match self {
+            Answer::Done => "ok\n",
+            Answer::Line(line) => line.as_str(),
+        }
+    }
+}
+
+/// The section that the commands work on, its deletions, and its calls that were made jumps. The
+/// bytes that are listed as deleted are still in `section`, so that each command's offsets are input
+/// offsets.
 #[derive(Drop)]
 struct SectionState {
     alloc: Global,
     section: Vec<u8>,
     deltas: SectionRelaxDeltas,
+    calls: AcceptedCalls,
 }
 
 impl SectionState {
@@ -193,42 +252,51 @@ impl SectionState {
             × Rejects command self.old error)
             ⊎ IsMemoryOrIoError run_error) }
         ensures causes { (error : ReportedError) → Rejects command self.old error
-            → result ≡ Err (RunError.Reported error) }
+            → (result ≡ Err (RunError.Reported error))
+            ⊎ (TakesMemoryFirst command error
+            × (result ≡ Err (RunError.Reported ReportedError.OutOfMemory))) }
+        ensures silent { IfErr result (λ run_error. (run_error ≡ RunError.Io)
+            ⊎ (W.contents output.new ≡ W.contents output.old)) }
+    {
+        let answer = self.answer(command)?;
+        output.write_all(answer.line().as_bytes())?;
+        Ok(())
+    }
+
+    /// Executes a command and returns what is printed for it.
+    fn answer(&mut self, command: Command) -> Result<Answer, ReportedError>
+        ensures executed { IfOk result (λ answer. (line : List ℕ)
+            × Executes command self.old self.new line
+            × (answer_line answer ≡ line ++ codes "\n")) }
+        ensures rejected { IfErr result (λ error. Rejects command self.old error
+            ⊎ (error ≡ ReportedError.OutOfMemory)) }
+        ensures causes { (error : ReportedError) → Rejects command self.old error
+            → (result ≡ Err error)
+            ⊎ (TakesMemoryFirst command error × (result ≡ Err ReportedError.OutOfMemory)) }
     {
         match command {
             Command::Delete { offset, bytes } => {
                 self.delete(offset, bytes)?;
-                output.write_all(b"ok\n")?;
+                Ok(Answer::Done)
             }
             Command::ToOutput { input_offset } => {
                 let number = self.deltas.input_to_output_offset(input_offset);
-                self.print_number(number, output)?;
+                Ok(Answer::Line(number_line(self.alloc, number)?))
             }
             Command::ToInput { output_offset } => {
                 let number = self.input_offset(output_offset)?;
-                self.print_number(number, output)?;
+                Ok(Answer::Line(number_line(self.alloc, number)?))
             }
             Command::Call { site, target } => {
                 self.call(site, target)?;
-                output.write_all(b"ok\n")?;
+                Ok(Answer::Done)
             }
-            Command::Show => {
-                let mut text = show_section(self.alloc, &self.section)?;
-                text.push('\n')?;
-                output.write_all(text.as_bytes())?;
+            Command::Show => Ok(Answer::Line(section_line(self.alloc, &self.section)?)),
+            Command::Pack => {
+                let packed = self.packed()?;
+                Ok(Answer::Line(section_line(self.alloc, &packed)?))
             }
         }
-        Ok(())
-    }
-
-    fn print_number<W: Write>(&self, number: u64, output: &mut W) -> Result<(), RunError>
-        ensures written { OnOk result (Appends (W.contents output.old) (W.contents output.new)
-            (decimal number ++ codes "\n")) }
-        ensures errors { IfErr result IsMemoryOrIoError }
-    {
-        let text = format!(in self.alloc; "{number}\n")?;
-        output.write_all(text.as_bytes())?;
-        Ok(())
     }
 
     /// Adds a deletion. `BadDeletion` if it overlaps an earlier one, begins at the same offset, or
@@ -242,6 +310,7 @@ impl SectionState {
             ⊎ (e ≡ ReportedError.OutOfMemory)) }
         ensures unchanged { OnErr result (self.new.deltas ≡ self.old.deltas) }
         ensures section_stays { self.new.section ≡ self.old.section }
+        ensures calls_stay { self.new.calls ≡ self.old.calls }
     {
         let pair = [(offset, bytes)];
         if !self.deltas.is_mergeable(&pair) {
@@ -265,15 +334,79 @@ impl SectionState {
         Ok(self.deltas.output_to_input_offset(output_offset))
     }
 
+    /// Replaces the call at `site` by one jump to `target`, and accepts it. `BadCall` if its site is
+    /// less than 4 from that of an accepted call. Then it takes room for the call, and then come the
+    /// errors of `jump`.
+    fn call(&mut self, site: u64, target: u64) -> Result<(), ReportedError>
+        ensures executed { OnOk result
+            (Executes (Command.Call site target) self.old self.new (codes "ok")) }
+        ensures rejected { IfErr result (λ error.
+            Rejects (Command.Call site target) self.old error
+            ⊎ (error ≡ ReportedError.OutOfMemory)) }
+        ensures causes { (error : ReportedError)
+            → Rejects (Command.Call site target) self.old error → (result ≡ Err error)
+            ⊎ ((error ≢ ReportedError.BadCall) × (result ≡ Err ReportedError.OutOfMemory)) }
+        ensures unchanged { OnErr result ((self.new.section.items ≡ self.old.section.items)
+            × (self.new.calls.by_site ≡ self.old.calls.by_site)) }
+        ensures deltas_stay { self.new.deltas ≡ self.old.deltas }
+    {
+        let Some(at) = self.calls.place_of(site) else {
+            return Err(ReportedError::BadCall);
+        };
+        self.calls.reserve_one()?;
+        self.jump(site, target)?;
+        self.calls.insert(at, site, target);
+        Ok(())
+    }
+
     /// Replaces the call at `site` by one jump to `target`, whose distance counts kept bytes alone.
-    fn call(&mut self, site: u64, target: u64) -> Result<(), CallError>
+    fn jump(&mut self, site: u64, target: u64) -> Result<(), CallError>
         ensures jumps { OnOk result (JumpsAt self.old.section.items self.new.section.items site
             (output_distance self.old.deltas site target)) }
         ensures errors { (error : CallError) → (result ≡ Err error)
             ↔ CallFailsWith error self.old.section.items self.old.deltas site target }
         ensures unchanged { OnErr result (self.new.section.items ≡ self.old.section.items) }
         ensures deltas_stay { self.new.deltas ≡ self.old.deltas }
+        ensures calls_stay { self.new.calls ≡ self.old.calls }
+        ensures len_stays { length self.new.section.items ≡ length self.old.section.items }
     {
         relax_call(self.section.as_mut_slice(), &self.deltas, site, target)
     }
+
+    /// The section packed, with the accepted calls made jumps.
+    fn packed(&self) -> Result<Vec<u8>, ReportedError>
+        ensures packed { IfOk result (λ packed. IsPacked LinkRegister.OfAuipc self.now.deltas
+            self.now.section.items self.now.calls.by_site packed.items) }
+        ensures rejected { IfErr result (λ error. Rejects Command.Pack self.now error
+            ⊎ (error ≡ ReportedError.OutOfMemory)) }
+        ensures causes { (error : ReportedError) → Rejects Command.Pack self.now error
+            → (result ≡ Err error) ⊎ (result ≡ Err ReportedError.OutOfMemory) }
+    {
+        match pack_section(
+            self.alloc,
+            &self.section,
+            &self.deltas,
+            self.calls.as_slice(),
+        ) {
+            Ok(packed) => Ok(packed),
+            Err(PackError::OutOfMemory) => Err(ReportedError::OutOfMemory),
+            Err(PackError::Call { error, .. }) => Err(ReportedError::Call(error)),
+        }
+    }
+}
+
+/// A number as a line.
+fn number_line(alloc: Global, number: u64) -> Result<String, AllocError>
+    ensures { IfOk result (λ line. string_bytes line ≡ decimal number ++ codes "\n") }
+{
+    format!(in alloc; "{number}\n")
+}
+
+/// The bytes of a section as a line.
+fn section_line(alloc: Global, section: &[u8]) -> Result<String, AllocError>
+    ensures { IfOk result (λ line. string_bytes line ≡ encode_lower section.now ++ codes "\n") }
+{
+    let mut line = show_section(alloc, section)?;
+    line.push('\n')?;
+    Ok(line)
 }

@@ -115,6 +115,23 @@ impl Read for Broken<'_> {
     }
 }
 
+/// A reader whose first read is interrupted.
+#[derive(Drop)]
+struct Interrupted<'a> {
+    bytes: &'a [u8],
+    interruptions: u32,
+}
+
+impl Read for Interrupted<'_> {
+    fn read(&mut self, buf: &mut [u8]) -> io::Result<usize> {
+        if self.interruptions == 0 {
+            self.interruptions = 1;
+            return Err(io::Error::from(ErrorKind::Interrupted));
+        }
+        self.bytes.read(buf)
+    }
+}
+
 #[derive(Clone, Copy)]
 struct Row {
     input: &'static [u8],
@@ -226,6 +243,65 @@ fn calls_go_through_deletions(rt: HostRuntime) {
         Row {
             input: b"97000000e780000013000000\ncall 0 13\n",
             printed: "OutOfSection\n",
+            status: 1,
+        },
+    ];
+    compare(&rt, rt.alloc(), &rows);
+}
+
+#[test]
+fn packed_sections_lack_the_deleted_bytes(rt: HostRuntime) {
+    let rows = [
+        Row {
+            input: b"97000000e780000013000000\ncall 0 8\ndel 4 4\nshow\npack\n",
+            printed: "ok\nok\nef008000e780000013000000\nef00400013000000\n",
+            status: 0,
+        },
+        Row {
+            input: b"97000000e780000013000000\ndel 4 4\nin 6\ncall 0 6\npack\n",
+            printed: "ok\n4\nok\nef00400013000000\n",
+            status: 0,
+        },
+        Row {
+            input: b"97000000e780000097000000e780000013000000\ndel 4 4\ncall 8 0\ndel 12 4\ncall 0 16\npack\n",
+            printed: "ok\nok\nok\nok\nef008000eff0dfff13000000\n",
+            status: 0,
+        },
+        Row {
+            input: b"97000000e780000013000000\ndel 10 4\npack\n",
+            printed: "ok\n97000000e78000001300\n",
+            status: 0,
+        },
+        Row {
+            input: b"97000000e780000013000000\ndel 12 4\npack\n",
+            printed: "ok\n97000000e780000013000000\n",
+            status: 0,
+        },
+        Row {
+            input: b"\npack\n",
+            printed: "\n",
+            status: 0,
+        },
+        Row {
+            input: b"97000000e780000013000000\ncall 4 8\ndel 4 4\npack\n",
+            printed: "ok\nok\nSiteDeleted\n",
+            status: 1,
+        },
+    ];
+    compare(&rt, rt.alloc(), &rows);
+}
+
+#[test]
+fn accepted_calls_are_4_apart(rt: HostRuntime) {
+    let rows = [
+        Row {
+            input: b"97000000e780000013000000\ncall 0 8\ncall 2 8\n",
+            printed: "ok\nbad call\n",
+            status: 1,
+        },
+        Row {
+            input: b"97000000e780000013000000\ncall 8 0\ncall 4 0\ncall 11 99\n",
+            printed: "ok\nok\nbad call\n",
             status: 1,
         },
     ];
@@ -491,19 +567,49 @@ fn input_may_come_in_pieces(rt: HostRuntime) {
 }
 
 #[test]
-fn lines_may_be_long(rt: HostRuntime) -> Result<(), Fail> {
-    let mut input = vec![in rt.alloc(); b'0'; 9998]?;
+fn an_interrupted_read_is_made_again(rt: HostRuntime) {
+    let input = Interrupted {
+        bytes: b"97000000\ncall 0 0\nshow",
+        interruptions: 0,
+    };
+    let mut page = Page::new(9);
+    assert_eq!(rt; run(rt.alloc(), input, &mut page), 0);
+    assert_eq!(rt; page.written(), "ok\nef000000\n");
+}
+
+#[test]
+fn lines_and_sections_may_be_long(rt: HostRuntime) -> Result<(), Fail> {
+    let mut input = vec![in rt.alloc(); b'0'; 2_097_150]?;
     input.extend_from_slice(b"97\n")?;
-    for _ in 0..5000 {
+    for _ in 0..200_000 {
         input.push(b' ')?;
     }
-    input.extend_from_slice(b"show\n")?;
+    input.extend_from_slice(b"show\ncall 0 1048576\n")?;
     let mut output = Vec::new(rt.alloc());
     let status = run(rt.alloc(), input.as_slice(), &mut output);
-    assert_eq!(rt; status, 0);
-    assert_eq!(rt; output.len(), 10_001);
-    assert_eq!(rt; output.iter().filter(|byte| **byte == b'0').count(), 9998);
-    assert!(rt; output.ends_with(b"97\n"));
+    assert_eq!(rt; status, 1);
+    assert_eq!(rt; output.len(), 2_097_160);
+    assert!(rt; output.ends_with(b"97\nTooFar\n"));
+    assert_eq!(rt;
+        output.iter().filter(|byte| **byte == b'0').count(),
+        2_097_150
+    );
+    Ok(())
+}
+
+#[test]
+fn deletions_and_calls_may_be_many(rt: HostRuntime) -> Result<(), Fail> {
+    let mut input = vec![in rt.alloc(); b'0'; 1600]?;
+    for at in 0..200u64 {
+        let lines = format!(in rt.alloc(); "\ncall {} 0\ndel {} 1", 4 * at, 1000 + 2 * at)?;
+        input.extend_from_slice(lines.as_bytes())?;
+    }
+    input.extend_from_slice(b"\nin 1400\npack")?;
+    let mut output = Vec::new(rt.alloc());
+    assert_eq!(rt; run(rt.alloc(), input.as_slice(), &mut output), 0);
+    assert_eq!(rt; output.len(), 400 * 3 + 5 + 1601);
+    assert_eq!(rt; output.iter().filter(|byte| **byte == b'k').count(), 400);
+    assert_eq!(rt; output.get(1200..1205), Some(b"1200\n".as_slice()));
     Ok(())
 }
 
@@ -555,21 +661,24 @@ fn a_failed_write_is_the_last_one(rt: HostRuntime) {
     }
 }
 
-/// `rt try --test --fail-alloc N` makes one allocation fail. The run then reports it after the
-/// lines printed so far.
+/// `rt try --test --fail-alloc N` makes the Nth allocation fail. The run then reports it after a
+/// beginning of the lines that it prints with enough memory.
 #[test]
 fn out_of_memory_is_reported(rt: HostRuntime) {
+    let whole = "ok\n8\nok\nef008000e780000013000000\nef00400013000000\n";
     let mut page = Page::new(9);
     let status = run(
         rt.alloc(),
-        b"97000000e780000013000000\ndel 4 4\ncall 0 8\nshow\n".as_slice(),
+        b"97000000e780000013000000\ncall 0 8\nout 8\ndel 4 4\nshow\npack\n".as_slice(),
         &mut page,
     );
     let printed = page.written();
     if status == 0 {
-        assert_eq!(rt; printed, "ok\nok\nef004000e780000013000000\n");
+        assert_eq!(rt; printed, whole);
     } else {
         assert_eq!(rt; status, 1);
-        assert!(rt; printed == "out of memory\n" || printed == "ok\nok\nout of memory\n");
+        let before = printed.strip_suffix("out of memory\n");
+        assert!(rt; before.is_some_and(|lines| whole.starts_with(lines)));
+        assert!(rt; before.is_some_and(|lines| lines.is_empty() || lines.ends_with("\n")));
     }
 }

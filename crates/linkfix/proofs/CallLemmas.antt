@@ -1,0 +1,107 @@
+-- Calls by site, and where one more belongs.
+use Rattle.std.proofs.Common.{◌≡◌, ℕ, ◌+◌, ◌-◌, ◌<◌, ◌≤◌, List, [], ◌∷◌, ◌++◌, length, get_or, take, drop, nat_lt, true, false, refl, inl, inr, arith}
+use Rattle.std.specs.Prelude.{All, insert}
+use Rattle.std.specs.List.Sorted.{IsNonDecreasingBy, IsPartitionPoint}
+use Rattle.std.proofs.lemmas.Bool.{cases_lt, cases_order}
+use Rattle.std.proofs.lemmas.Bool.Decides.{nat_tests}
+use Rattle.std.proofs.lemmas.List.{get_or-take, get_or-drop, get_or_default, get_or_append_left, get_or-append_right, length-append, length-drop, length-take}
+use Rattle.std.proofs.lemmas.List.Elements.{All-cons}
+use Rattle.std.proofs.lemmas.List.Kept.{AllPairs-cons}
+use Rattle.std.proofs.lemmas.List.Sorted.{IsPermutation-insert, IsPermutation-to_front, IsPermutation-trans}
+use Rattle.linker_utils.specs.Packing.{AreApart, IsApart}
+use Rattle.linker_utils.proofs.Packed.{apart_take}
+use Rattle.linker_utils.specs.declared.riscv64.calls.CallError.{CallError}
+use Rattle.linkfix.specs.AcceptedCalls.{AreBySite, IsFarFrom, IsPlace}
+use Rattle.linkfix.specs.Execution.{CallFailsWith, Rejects}
+use Rattle.linkfix.specs.declared.commands.Command.TheVariants.{Call}
+use Rattle.linkfix.specs.declared.program.ReportedError.{ReportedError}
+use Rattle.linkfix.specs.declared.program.ReportedError.TheVariants.{Call as CallFailed}
+use Rattle.linkfix.specs.declared.program.SectionState.{SectionState}
+
+-- sites that ascend don't fall
+pub sites_rise : (calls : List (ℕ × ℕ)) → AreApart calls → IsNonDecreasingBy (λ call. call.0) calls
+sites_rise calls apart i j d le within = elim (cases_order i j) [
+  | inl same ↦ rw same (omega arith)
+  | inr (inl lower) ↦ omega (arith, apart i j d lower within)
+  | inr (inr higher) ↦ absurd (omega arith)
+]
+
+-- what the tests of a search tell of the calls
+pub parted_by_test : (calls : List (ℕ × ℕ)) (site at : ℕ) → IsPartitionPoint (λ call. nat_lt call.0 site ≡ true) (λ call. nat_lt call.0 site ≡ false) calls at
+    → IsPartitionPoint (λ call. call.0 < site) (λ call. site ≤ call.0) calls at
+parted_by_test calls site at parted = (λ k d low high. let test = parted.0 k d low high in grind (arith, nat_tests), λ k d low high. let test = parted.1 k d low high in grind (arith, nat_tests))
+
+-- a site that is far from the last call below it and from the next is far from all
+pub place_between : (calls : List (ℕ × ℕ)) (site at : ℕ) → at ≤ length calls → AreApart calls
+    → (0 < at → 4 ≤ site - (get_or calls (at - 1) (0, 0)).0) → (at < length calls → 4 ≤ (get_or calls at (0, 0)).0 - site) → IsPlace calls site at
+place_between calls site at within apart last next = record { within = within; above = above; below = below }
+  where
+    last_far : (d : ℕ × ℕ) → 0 < at → (get_or calls (at - 1) d).0 + 4 ≤ site
+    last_far d some = rw (get_or_default calls (at - 1) d (0, 0) (omega arith)) (omega (arith, last some))
+
+    next_far : (d : ℕ × ℕ) → at < length calls → site + 4 ≤ (get_or calls at d).0
+    next_far d some = rw (get_or_default calls at d (0, 0) some) (omega (arith, next some))
+
+    above : All (λ call. call.0 + 4 ≤ site) (take at calls)
+    above k d inside =
+        let low : k < at = omega (arith, length-take at calls) in
+        rw (get_or-take at calls k d low) (elim (cases_lt k (at - 1)) [
+          | inl lower ↦ omega (arith, apart k (at - 1) d lower (omega arith), last_far d (omega arith))
+          | inr last_one ↦ let same : k ≡ at - 1 = omega arith in rw same (last_far d (omega arith))
+        ])
+
+    below : All (λ call. site + 4 ≤ call.0) (drop at calls)
+    below k d inside =
+        let high : at + k < length calls = omega (arith, length-drop at calls) in
+        rw (get_or-drop at calls k d) (elim (cases_lt 0 k) [
+          | inl some ↦ omega (arith, apart at (at + k) d (omega arith) high, next_far d (omega arith))
+          | inr none ↦ let same : at + k ≡ at = omega arith in rw same (next_far d (omega arith))
+        ])
+
+-- two parts whose calls are apart
+apart_joined : (xs ys : List (ℕ × ℕ)) → AreApart xs → AreApart ys → All (λ x. All (IsApart x) ys) xs → AreApart (xs ++ ys)
+apart_joined xs ys first second across i j d lt within =
+    let long = length-append xs ys in
+    elim (cases_lt j (length xs)) [
+      | inl low ↦
+          let lower : i < length xs = omega arith in
+          rw (get_or_append_left xs ys d i lower, get_or_append_left xs ys d j low) (first i j d lt low)
+      | inr high ↦ elim (cases_lt i (length xs)) [
+        | inl low ↦ rw (get_or_append_left xs ys d i low, get_or-append_right xs ys (length xs) j d refl high) (across i d low (j - length xs) d (omega arith))
+        | inr from ↦ rw (get_or-append_right xs ys (length xs) i d refl from, get_or-append_right xs ys (length xs) j d refl high) (second (i - length xs) (j - length xs) d (omega arith) (omega arith))
+      ]
+    ]
+
+apart_drop : (calls : List (ℕ × ℕ)) (n : ℕ) → AreApart calls → AreApart (drop n calls)
+apart_drop calls n apart i j d lt within = rw (get_or-drop n calls i d, get_or-drop n calls j d) (apart (n + i) (n + j) d (omega arith) (omega (arith, length-drop n calls)))
+
+-- a call at its place keeps the order
+pub apart_inserted : (calls : List (ℕ × ℕ)) (site target at : ℕ) → AreApart calls → IsPlace calls site at → AreApart (insert calls at (site, target))
+apart_inserted calls site target at apart place =
+    let call : ℕ × ℕ = (site, target) in
+    apart_joined (take at calls) (call ∷ drop at calls) (apart_take calls at apart) (AllPairs-cons IsApart call (drop at calls) place.below (apart_drop calls at apart))
+    (λ k d inside. All-cons (IsApart (get_or (take at calls) k d)) call (drop at calls) (place.above k d inside)
+    (λ j e within. omega (arith, place.above k d inside, place.below j e within)))
+
+pub by_site_inserted : (calls : List (ℕ × ℕ)) (site target at : ℕ) → AreApart calls → IsPlace calls site at → AreBySite (calls ++ (site, target) ∷ []) (insert calls at (site, target))
+by_site_inserted calls site target at apart place =
+    let call : ℕ × ℕ = (site, target) in
+    record {
+      same = IsPermutation-trans (calls ++ call ∷ []) (call ∷ calls) (insert calls at call) (IsPermutation-to_front calls call) (IsPermutation-insert calls at call);
+      apart = apart_inserted calls site target at apart place;
+    }
+
+-- it is far from all calls
+pub far_from_place : (calls : List (ℕ × ℕ)) (site at : ℕ) → IsPlace calls site at → All (IsFarFrom site) calls
+far_from_place calls site at place k d within = elim (cases_lt k at) [
+  | inl low ↦ let above = place.above k d (omega (arith, length-take at calls)) in inl (rw (get_or-take at calls k d low) at above)
+  | inr high ↦
+      let same : at + (k - at) ≡ k = omega arith in
+      let below = place.below (k - at) d (omega (arith, length-drop at calls)) in inr (rw (get_or-drop at calls (k - at) d, same) at below)
+]
+
+-- a call that is far from all and still rejected fails with some cause
+pub call_fails : (site target : ℕ) (state : SectionState) (error : ReportedError) → All (IsFarFrom site) state.calls.by_site → Rejects (Call site target) state error
+    → (cause : CallError) × (error ≡ CallFailed cause) × CallFailsWith cause state.section.items state.deltas site target
+call_fails site target state error far (inl bad) = absurd (bad.1 far)
+call_fails site target state error far (inr fails) = (fails.1, fails.2, fails.3)

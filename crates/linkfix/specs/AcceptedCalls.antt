@@ -1,0 +1,23 @@
+-- The calls that were made jumps.
+use Rattle.std.specs.Prelude.{ℕ, ◌+◌, ◌≤◌, ◌⊎◌, List, All, IsPermutation, length, take, drop}
+use Rattle.linker_utils.specs.Packing.{AreApart}
+
+-- calls, each a site and a target, and for how many more there is room
+pub record CallList : Type 0 where
+  pub by_site : List (ℕ × ℕ)
+  pub room : ℕ
+
+-- the site is at least 4 from that of the call
+abbrev pub IsFarFrom : ℕ → ℕ × ℕ → Type 0
+IsFarFrom site call = (call.0 + 4 ≤ site) ⊎ (site + 4 ≤ call.0)
+
+-- the calls of `all`, sorted by site, which are at least 4 apart
+pub record AreBySite (all calls : List (ℕ × ℕ)) : Type 0 where
+  pub same : IsPermutation all calls
+  pub apart : AreApart calls
+
+-- Where a call at the site belongs: at least 4 above the calls before it, and 4 below those behind.
+pub record IsPlace (calls : List (ℕ × ℕ)) (site at : ℕ) : Type 0 where
+  pub within : at ≤ length calls
+  pub above : All (λ call. call.0 + 4 ≤ site) (take at calls)
+  pub below : All (λ call. site + 4 ≤ call.0) (drop at calls)
