@@ -1,3 +1,2 @@
 pub mod DeltaLists
-pub mod Moved
 pub mod RelocationNames
