@@ -70,6 +70,14 @@ impl<'a> DeltaSlice<'a> {
         Some(BlockedSlice::new(self.deltas, heads))
     }
 
+    /// How many deltas there are.
+    #[inline]
+    pub fn len(&self) -> usize
+        ensures { result ≡ length self.now }
+    {
+        self.deltas.len()
+    }
+
     /// Whether nothing is listed. A deletion of no bytes counts as listed.
     #[inline]
     pub fn is_empty(&self) -> bool

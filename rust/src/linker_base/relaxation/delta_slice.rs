@@ -49,6 +49,12 @@ impl<'a> DeltaSlice<'a> {
         Some(BlockedSlice::new(self.deltas, heads))
     }
 
+    /// How many deltas there are.
+    #[inline]
+    pub fn len(&self) -> usize {
+        self.deltas.len()
+    }
+
     /// Whether nothing is listed. A deletion of no bytes counts as listed.
     #[inline]
     pub fn is_empty(&self) -> bool {
