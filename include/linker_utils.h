@@ -906,7 +906,8 @@ static inline uint32_t linker_utils_deltas_is_mergeable(
  * LINKER_UTILS_DIFFERENT_LENGTHS. LINKER_UTILS_INVALID_DELETIONS where the deltas list no valid
  * deletions, and `faulty` is the first delta at fault, as above. LINKER_UTILS_NOT_MERGEABLE, and
  * `faulty` is the first additional deletion that overlaps an old or an earlier additional one, or
- * ends past 2^64 - 1. LINKER_UTILS_OUT_OF_MEMORY. */
+ * ends past 2^64 - 1. LINKER_UTILS_OUT_OF_MEMORY, but where the additional deletions ascend and can
+ * be merged it takes no memory. */
 static inline uint32_t linker_utils_deltas_merge(const struct linker_utils_delta *deltas,
                                                  size_t deltas_len,
                                                  const struct linker_utils_deletion *additional,

@@ -19,6 +19,7 @@ pub mod Rounded
 pub mod Search
 pub mod Sections
 pub mod TextLemmas
+pub mod Together
 pub mod UlebLemmas
 pub mod Unions
 pub mod Walking

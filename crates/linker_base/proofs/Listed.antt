@@ -1,8 +1,8 @@
 -- Lists of deltas: how one grows, what its sums are, and how a valid list is tested.
-use Rattle.std.proofs.Common.{◌≡◌, ℕ, ◌+◌, ◌-◌, ◌<◌, ◌≤◌, List, [], ◌∷◌, ◌++◌, length, map, get_or, take, sym, ap, ◌∙◌, inl, inr, arith}
+use Rattle.std.proofs.Common.{◌≡◌, ℕ, ◌+◌, ◌-◌, ◌<◌, ◌≤◌, List, [], ◌∷◌, ◌++◌, length, map, get_or, set, take, sym, ap, ◌∙◌, inl, inr, arith}
 use Rattle.std.specs.Prelude.{◌^◌}
 use Rattle.std.proofs.lemmas.Bool.{cases_lt}
-use Rattle.std.proofs.lemmas.List.{length_push, get_or_push, get_or_append_left, get_or-take, length-take, take_more, map_push, length-map, take-append-le, take_all, get_or_default}
+use Rattle.std.proofs.lemmas.List.{length_push, get_or_push, get_or_append_left, get_or-take, length-take, take_more, map_push, length-map, take-append-le, take_all, get_or_default, take_more_set}
 use Rattle.std.proofs.lemmas.List.Elements.{All-push}
 use Rattle.std.proofs.lemmas.List.Quantifiers.{all_pairs_push}
 use Rattle.std.proofs.lemmas.List.Sums.{sum_by_more, sum_by_push}
@@ -85,6 +85,10 @@ pub RecordsDeletions-more : (ds : List (ℕ × ℕ)) (deltas : List RelaxDelta) 
 RecordsDeletions-more ds deltas delta k within listing same sum =
     let more = take_more ds k (0, 0) within in
     rw (more, ← same) (RecordsDeletions-push (take k ds) deltas delta listing (sum ∙ sum_by_more (λ (e : ℕ × ℕ). e.1) ds k (0, 0) within ∙ ap (λ (e : ℕ × ℕ). bytes_of (take k ds) + e.1) (sym same)))
+
+-- one more delta, written behind those that are
+pub RecordsDeletions-set : (ds : List (ℕ × ℕ)) (deltas : List RelaxDelta) (delta : RelaxDelta) (k : ℕ) → k < length ds → k < length deltas → RecordsDeletions (take k ds) (take k deltas) → deletion_of delta ≡ get_or ds k (0, 0) → delta.cumulative_deleted ≡ bytes_of (take (k + 1) ds) → RecordsDeletions (take (k + 1) ds) (take (k + 1) (set deltas k delta))
+RecordsDeletions-set ds deltas delta k within inside listing same sum = rw (take_more_set deltas k delta inside) (RecordsDeletions-more ds (take k deltas) delta k within listing same sum)
 
 pub IsValid-nil : IsValid []
 IsValid-nil = record { ascending = λ i j d lt within. absurd (omega arith); ends = λ i d within. absurd (omega arith) }

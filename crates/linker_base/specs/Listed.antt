@@ -9,6 +9,12 @@ pub record AreValidDeltas (deltas : List RelaxDelta) : Type 0 where
   pub valid : IsValid (map deletion_of deltas)
   pub listing : RecordsDeletions (map deletion_of deltas) deltas
 
+-- both lists are valid, and no deletion of one overlaps one of the other
+pub record AreValidTogether (deletions additional : List (ℕ × ℕ)) : Type 0 where
+  pub old : IsValid deletions
+  pub added : IsValid additional
+  pub disjoint : AreDisjoint (deletions ++ additional)
+
 -- the first of the deletions that is not valid after those before it
 pub record IsFirstInvalid (deletions : List (ℕ × ℕ)) (at : ℕ) : Type 0 where
   pub within : at < length deletions

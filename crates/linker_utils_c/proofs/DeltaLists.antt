@@ -21,7 +21,3 @@ pub take_more_map : {A B : Type 0} (f : A → B) (xs : List A) (i : ℕ) (d : A)
 take_more_map f xs i d within =
     let inside : i < length (map f xs) = omega (arith, length-map xs f) in
     take_more (map f xs) i (f d) inside ∙ ap (λ b. take i (map f xs) ++ b ∷ []) (get_or-map f xs i d (f d) within)
-
--- one more delta, written behind those that are
-pub RecordsDeletions-set : (ds : List (ℕ × ℕ)) (deltas : List RelaxDelta) (delta : RelaxDelta) (k : ℕ) → k < length ds → k < length deltas → RecordsDeletions (take k ds) (take k deltas) → deletion_of delta ≡ get_or ds k (0, 0) → delta.cumulative_deleted ≡ bytes_of (take (k + 1) ds) → RecordsDeletions (take (k + 1) ds) (take (k + 1) (set deltas k delta))
-RecordsDeletions-set ds deltas delta k within inside listing same sum = rw (take_more_set deltas k delta inside) (RecordsDeletions-more ds (take k deltas) delta k within listing same sum)

@@ -1,7 +1,7 @@
 //! Deletions that are merged into deltas.
 
-ghost use Rattle.std.specs.Prelude.{◌≡◌, ◌≢◌, ◌+◌, ◌++◌, ◌↔◌, ◌⊎◌, IfOk, MatchResult, length, map};
-ghost use Rattle.linker_base.specs.Deletions.{AreDisjoint, IsValid, IsSortedUnion};
+ghost use Rattle.std.specs.Prelude.{◌≡◌, ◌≢◌, ◌+◌, ◌++◌, ◌↔◌, ◌⊎◌, IfOk, OnErr, MatchResult, length, map};
+ghost use Rattle.linker_base.specs.Deletions.{AreDisjoint, IsValid};
 ghost use Rattle.linker_base.specs.Deltas.{deletions_of};
 ghost use Rattle.linker_base.specs.Listed.{IsFirstInvalid, IsFirstOverlapping};
 ghost use Rattle.linker_utils_c.specs.Status.{code};
@@ -9,9 +9,7 @@ ghost use Rattle.linker_utils_c.specs.Deltas.{pairs_in, AreMerged, IsMergeError}
 
 use crate::deltas::Deletion;
 use crate::status::Status;
-use linker_utils::relaxation::{
-    AsDeletion, DeltaSlice, OutOfMemory, RelaxDelta, SectionRelaxDeltas, first_invalid,
-};
+use linker_utils::relaxation::{AsDeletion, DeltaSlice, OutOfMemory, RelaxDelta, first_invalid};
 use std::alloc::Global;
 
 /// Whether `linker_utils_deltas_merge` accepts the additional deletions, in any order. The first that
@@ -32,10 +30,14 @@ pub extern "C" fn linker_utils_deltas_is_mergeable_nonnull(
     ensures invalid { (result ≡ code Status.InvalidDeletions)
         ↔ ¬ IsValid (deletions_of deltas.now) }
 {
+    let slice = DeltaSlice::new(deltas);
+    if slice.can_merge_ascending(additional) {
+        return Status::Success.number();
+    }
     if let Some(_) = first_invalid(deltas) {
         return Status::InvalidDeletions.number();
     }
-    match DeltaSlice::new(deltas).first_overlapping(additional) {
+    match slice.first_overlapping(additional) {
         None => Status::Success.number(),
         Some(_) => Status::NotMergeable.number(),
     }
@@ -44,7 +46,8 @@ pub extern "C" fn linker_utils_deltas_is_mergeable_nonnull(
 /// Writes the deltas of the old and the additional deletions, sorted, as many as both. The additional
 /// ones may come in any order. The first that applies of `DifferentLengths`; `InvalidDeletions`, of the
 /// delta at `faulty`; `NotMergeable`, of the additional deletion at `faulty`, which overlaps a delta or
-/// an earlier one, or ends above 2^64 - 1; and `OutOfMemory`.
+/// an earlier one, or ends above 2^64 - 1; and `OutOfMemory`. It takes no memory where the additional
+/// deletions ascend and can be merged, and else memory for one copy of them.
 #[unsafe(no_mangle)]
 pub extern "C" fn linker_utils_deltas_merge_nonnull(
     alloc: Global,
@@ -79,15 +82,17 @@ pub extern "C" fn linker_utils_deltas_merge_nonnull(
     if merged.len() < deltas.len() || merged.len() - deltas.len() != additional.len() {
         return Status::DifferentLengths.number();
     }
+    let slice = DeltaSlice::new(deltas);
+    if slice.can_merge_ascending(additional) {
+        slice.merge_ascending(additional, merged);
+        return Status::Success.number();
+    }
     if let Some(at) = first_invalid(deltas) {
         *faulty = at;
         return Status::InvalidDeletions.number();
     }
-    match merge(alloc, deltas, additional) {
-        Ok(section) => {
-            merged.copy_from_slice(section.deltas());
-            Status::Success.number()
-        }
+    match merge_sorted(alloc, deltas, additional, merged) {
+        Ok(()) => Status::Success.number(),
         Err(MergeError::Overlapping(at)) => {
             *faulty = at;
             Status::NotMergeable.number()
@@ -113,26 +118,29 @@ impl From<OutOfMemory> for MergeError {
     }
 }
 
-fn merge(
+// Merges deletions in any order: sorted, they are tested in the fewest steps.
+fn merge_sorted(
     alloc: Global,
     deltas: &[RelaxDelta],
     additional: &[Deletion],
-) -> Result<SectionRelaxDeltas, MergeError>
-    requires { IsValid (deletions_of deltas.now) }
-    ensures { MatchResult result (IsSortedUnion (deletions_of deltas.now ++ pairs_in additional.now))
+    merged: &mut [RelaxDelta],
+) -> Result<(), MergeError>
+    requires places { length merged.old ≡ length deltas.now + length additional.now }
+    requires valid { IsValid (deletions_of deltas.now) }
+    ensures outcome { MatchResult result (λ _. AreMerged (deletions_of deltas.now ++ pairs_in additional.now) merged.new)
         (IsMergeError (deletions_of deltas.now) (pairs_in additional.now)) }
+    ensures err { OnErr result (merged.new ≡ merged.old) }
 {
-    let mut section = SectionRelaxDeltas::new(alloc, &pairs(alloc, deltas)?)?;
-    // Sorted, they are tested in the fewest steps.
+    let slice = DeltaSlice::new(deltas);
     let mut sorted = pairs(alloc, additional)?;
     sorted.sort_unstable_by_key(|pair| pair.0);
-    if !section.is_mergeable(&sorted) {
-        if let Some(at) = section.as_delta_slice().first_overlapping(additional) {
+    if !slice.can_merge_ascending(&sorted) {
+        if let Some(at) = slice.first_overlapping(additional) {
             return Err(MergeError::Overlapping(at));
         }
     }
-    section.merge_additional(&sorted)?;
-    Ok(section)
+    slice.merge_ascending(&sorted, merged);
+    Ok(())
 }
 
 fn pairs<D: AsDeletion>(alloc: Global, deletions: &[D]) -> Result<Vec<(u64, u32)>, OutOfMemory>

@@ -4,9 +4,7 @@
 use crate::support::*;
 use crate::deltas::Deletion;
 use crate::status::Status;
-use linker_utils::relaxation::{
-    AsDeletion, DeltaSlice, OutOfMemory, RelaxDelta, SectionRelaxDeltas, first_invalid,
-};
+use linker_utils::relaxation::{AsDeletion, DeltaSlice, OutOfMemory, RelaxDelta, first_invalid};
 
 /// Whether `linker_utils_deltas_merge` accepts the additional deletions, in any order. The first that
 /// applies of `InvalidDeletions`, which the deltas' own are, and `NotMergeable`. It takes no memory.
@@ -16,10 +14,14 @@ pub fn linker_utils_deltas_is_mergeable_nonnull(
     deltas: &[RelaxDelta],
     additional: &[Deletion],
 ) -> u32 {
+    let slice = DeltaSlice::new(deltas);
+    if slice.can_merge_ascending(additional) {
+        return Status::Success.number();
+    }
     if let Some(_) = first_invalid(deltas) {
         return Status::InvalidDeletions.number();
     }
-    match DeltaSlice::new(deltas).first_overlapping(additional) {
+    match slice.first_overlapping(additional) {
         None => Status::Success.number(),
         Some(_) => Status::NotMergeable.number(),
     }
@@ -28,7 +30,8 @@ pub fn linker_utils_deltas_is_mergeable_nonnull(
 /// Writes the deltas of the old and the additional deletions, sorted, as many as both. The additional
 /// ones may come in any order. The first that applies of `DifferentLengths`; `InvalidDeletions`, of the
 /// delta at `faulty`; `NotMergeable`, of the additional deletion at `faulty`, which overlaps a delta or
-/// an earlier one, or ends above 2^64 - 1; and `OutOfMemory`.
+/// an earlier one, or ends above 2^64 - 1; and `OutOfMemory`. It takes no memory where the additional
+/// deletions ascend and can be merged, and else memory for one copy of them.
 pub fn linker_utils_deltas_merge_nonnull(
     deltas: &[RelaxDelta],
     additional: &[Deletion],
@@ -38,15 +41,17 @@ pub fn linker_utils_deltas_merge_nonnull(
     if merged.len() < deltas.len() || merged.len() - deltas.len() != additional.len() {
         return Status::DifferentLengths.number();
     }
+    let slice = DeltaSlice::new(deltas);
+    if slice.can_merge_ascending(additional) {
+        slice.merge_ascending(additional, merged);
+        return Status::Success.number();
+    }
     if let Some(at) = first_invalid(deltas) {
         *faulty = at;
         return Status::InvalidDeletions.number();
     }
-    match merge(deltas, additional) {
-        Ok(section) => {
-            merged.copy_from_slice(section.deltas());
-            Status::Success.number()
-        }
+    match merge_sorted(deltas, additional, merged) {
+        Ok(()) => Status::Success.number(),
         Err(MergeError::Overlapping(at)) => {
             *faulty = at;
             Status::NotMergeable.number()
@@ -68,21 +73,22 @@ impl From<OutOfMemory> for MergeError {
     }
 }
 
-fn merge(
+// Merges deletions in any order: sorted, they are tested in the fewest steps.
+fn merge_sorted(
     deltas: &[RelaxDelta],
     additional: &[Deletion],
-) -> Result<SectionRelaxDeltas, MergeError> {
-    let mut section = SectionRelaxDeltas::new(&pairs(deltas)?)?;
-    // Sorted, they are tested in the fewest steps.
+    merged: &mut [RelaxDelta],
+) -> Result<(), MergeError> {
+    let slice = DeltaSlice::new(deltas);
     let mut sorted = pairs(additional)?;
     sorted.sort_unstable_by_key(|pair| pair.0);
-    if !section.is_mergeable(&sorted) {
-        if let Some(at) = section.as_delta_slice().first_overlapping(additional) {
+    if !slice.can_merge_ascending(&sorted) {
+        if let Some(at) = slice.first_overlapping(additional) {
             return Err(MergeError::Overlapping(at));
         }
     }
-    section.merge_additional(&sorted)?;
-    Ok(section)
+    slice.merge_ascending(&sorted, merged);
+    Ok(())
 }
 
 fn pairs<D: AsDeletion>(deletions: &[D]) -> Result<Vec<(u64, u32)>, OutOfMemory> {

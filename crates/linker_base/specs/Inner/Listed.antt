@@ -5,7 +5,7 @@ use Rattle.linker_base.specs.declared.relaxation.RelaxDelta.{RelaxDelta}
 use Rattle.linker_base.specs.declared.relaxation.blocks.BlockHead.{BlockHead}
 use Rattle.linker_base.specs.declared.relaxation.walk.Reached.{Reached}
 use Rattle.linker_base.specs.Blocks.{AreHeads}
-use Rattle.linker_base.specs.Deletions.{IsValid, bytes_of}
+use Rattle.linker_base.specs.Deletions.{EndFits, IsValid, bytes_of}
 use Rattle.linker_base.specs.Deltas.{deletion_of}
 use Rattle.linker_base.specs.Listed.{AreValidDeltas}
 
@@ -29,6 +29,11 @@ pub record IsRun (from next : ℕ) (deletions : List (ℕ × ℕ)) : Type 0 wher
   pub begin : All (λ d. from ≤ d.0) deletions
   pub end : All (λ d. (d.0 < next) × (d.0 + d.1 ≤ next)) deletions
   pub least : (i : ℕ) → from ≤ i → All (λ d. (d.0 < i) × (d.0 + d.1 ≤ i)) deletions → next ≤ i
+
+-- a deletion begins at an offset or above, and fits
+pub record CanFollow (from : ℕ) (deletion : ℕ × ℕ) : Type 0 where
+  pub begin : from ≤ deletion.0
+  pub fits : EndFits deletion
 
 -- some deletion stands at the offset, and each that does has these bytes
 pub record IsOnlyAt (deletions : List (ℕ × ℕ)) (offset bytes : ℕ) : Type 0 where

@@ -2,13 +2,14 @@
 
 ghost use Rattle.std.specs.Prelude.{◌≡◌, ◌≢◌, ◌<◌, ◌+◌, ◌^◌, ◌++◌, ◌↔◌, IsTrue, MatchOption, Any, All, [], map, length};
 ghost use Rattle.std.specs.List.Sorted.{IsNonDecreasing};
-ghost use Rattle.linker_base.specs.Deletions.{AreDisjoint, AreKept, IsValid, bytes_of, rank, IsInsideDeletion, IsSelected, HasInput};
+ghost use Rattle.linker_base.specs.Deletions.{AreDisjoint, AreKept, IsValid, IsSortedUnion, bytes_of, rank, IsInsideDeletion, IsSelected, HasInput};
 ghost use Rattle.linker_base.specs.Blocks.{blocks_of, AreHeads};
 ghost use Rattle.linker_base.specs.Deltas.{deletions_of};
-ghost use Rattle.linker_base.specs.Listed.{AreValidDeltas, IsFirstOverlapping};
+ghost use Rattle.linker_base.specs.Listed.{AreValidDeltas, AreValidTogether, IsFirstOverlapping};
 
 use super::blocked_slice::BlockedSlice;
 use super::blocks::{BlockHead, count_blocks, write_heads};
+use super::merge::{copy_summed, merge_ascending};
 use super::overlap::{self, AsDeletion};
 use super::walk::{Reached, ascend, walk};
 use super::{RelaxDelta, search};
@@ -67,6 +68,14 @@ impl<'a> DeltaSlice<'a> {
             return None;
         }
         Some(BlockedSlice::new(self.deltas, heads))
+    }
+
+    /// How many deltas there are.
+    #[inline]
+    pub fn len(&self) -> usize
+        ensures { result ≡ length self.now }
+    {
+        self.deltas.len()
     }
 
     /// Whether nothing is listed. A deletion of no bytes counts as listed.
@@ -179,5 +188,31 @@ impl<'a> DeltaSlice<'a> {
             → MatchOption result (AreDisjoint (deletions_of self.now ++ map D.deletion additional.now)) (IsFirstOverlapping (deletions_of self.now) (map D.deletion additional.now)) }
     {
         overlap::first_overlapping(self.deltas, additional)
+    }
+
+    /// Whether the list's deletions and the additional ones are two valid lists of which no two
+    /// deletions overlap, as `merge_ascending` requires them.
+    ///
+    /// It takes no memory. For k deletions beside n deltas the work is O(n + k log n).
+    pub fn can_merge_ascending<D: AsDeletion>(&self, additional: &[D]) -> bool
+        ensures { IsTrue result
+            ↔ AreValidTogether (deletions_of self.now) (map D.deletion additional.now) }
+    {
+        overlap::are_valid_together(self.deltas, additional)
+    }
+
+    /// Writes the deltas of the list's deletions and the additional ones, sorted, with sums made
+    /// anew.
+    ///
+    /// It takes no memory. For k deletions beside n deltas the work is O(n + k). Requires
+    /// deletions that `can_merge_ascending` accepts, and as many places as both.
+    pub fn merge_ascending<D: AsDeletion>(&self, additional: &[D], merged: &mut [RelaxDelta])
+        requires places { length merged.old ≡ length self.now + length additional.now }
+        requires valid { AreValidTogether (deletions_of self.now) (map D.deletion additional.now) }
+        ensures union { IsSortedUnion (deletions_of self.now ++ map D.deletion additional.now) (deletions_of merged.new) }
+        ensures listed { AreValidDeltas merged.new }
+    {
+        copy_summed(self.deltas, merged);
+        let _kept = merge_ascending(merged, self.deltas.len(), additional);
     }
 }

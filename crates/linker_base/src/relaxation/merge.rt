@@ -4,7 +4,7 @@ ghost use Rattle.std.specs.Prelude.{◌≡◌, ◌≤◌, ◌<◌, ◌+◌, ◌-
 ghost use Rattle.linker_base.specs.declared.relaxation.RelaxDelta.{RelaxDelta};
 ghost use Rattle.linker_base.specs.Blocks.{blocks_of};
 ghost use Rattle.linker_base.specs.Deletions.{AreDisjoint, IsValid, IsSortedUnion, bytes_of};
-ghost use Rattle.linker_base.specs.Deltas.{deletion_of, pairs_of};
+ghost use Rattle.linker_base.specs.Deltas.{deletion_of, pairs_of, RecordsDeletions};
 ghost use Rattle.linker_base.specs.Listed.{AreValidDeltas};
 ghost use Rattle.linker_base.specs.Inner.Listed.{IsSound};
 
@@ -95,6 +95,22 @@ fn append(deltas: &mut Vec<RelaxDelta>, pairs: &[(u64, u32)])
             cumulative_deleted: 0,
             bytes_deleted,
         });
+    }
+}
+
+// Writes the deltas in front of the others, with sums made anew.
+pub(super) fn copy_summed(deltas: &[RelaxDelta], merged: &mut [RelaxDelta])
+    requires room { length deltas.now ≤ length merged.old }
+    requires valid { IsValid (map deletion_of deltas.now) }
+    ensures { RecordsDeletions (map deletion_of deltas.now) (take (length deltas.now) merged.new) }
+{
+    let mut cumulative_deleted = 0;
+    for (at, &delta) in deltas.iter().enumerate() {
+        cumulative_deleted += u64::from(delta.bytes_deleted);
+        merged[at] = RelaxDelta {
+            cumulative_deleted,
+            ..delta
+        };
     }
 }
 

@@ -1,10 +1,10 @@
 //! Tests of lists of deletions. None takes memory.
 
-ghost use Rattle.std.specs.Prelude.{◌≡◌, ◌≤◌, ◌<◌, ◌+◌, ◌++◌, ◌↔◌, ℕ, IsTrue, MatchOption, All, map, length, take};
+ghost use Rattle.std.specs.Prelude.{◌≡◌, ◌≤◌, ◌<◌, ◌+◌, ◌++◌, ◌↔◌, ℕ, max, IsTrue, MatchOption, All, map, length, take};
 ghost use Rattle.linker_base.specs.Deletions.{IsBefore, DoNotOverlap, EndFits, AreDisjoint, IsValid};
 ghost use Rattle.linker_base.specs.Deltas.{deletion_of, pairs_of};
-ghost use Rattle.linker_base.specs.Listed.{IsFirstInvalid, IsFirstOverlapping};
-ghost use Rattle.linker_base.specs.Inner.Listed.{IsRun};
+ghost use Rattle.linker_base.specs.Listed.{IsFirstInvalid, IsFirstOverlapping, AreValidTogether};
+ghost use Rattle.linker_base.specs.Inner.Listed.{IsRun, CanFollow};
 
 use super::RelaxDelta;
 use super::search::count_below;
@@ -89,6 +89,67 @@ pub(super) fn first_overlapping<D: AsDeletion>(
         }
     }
     None
+}
+
+// Whether both are valid lists, and no deletion of one overlaps one of the other. A few among many
+// are sooner searched for than met in a walk.
+pub(super) fn are_valid_together<D: AsDeletion>(deltas: &[RelaxDelta], additional: &[D]) -> bool
+    ensures { IsTrue result ↔ AreValidTogether (map deletion_of deltas.now) (map D.deletion additional.now) }
+{
+    if additional.len() > deltas.len() / 16 {
+        return rise_together(deltas, additional);
+    }
+    first_invalid(additional).is_none()
+        && first_invalid(deltas).is_none()
+        && first_overlapping(deltas, additional).is_none()
+}
+
+// The same, by a walk through both. Which of both comes next can't be foreseen, and no branch
+// depends on it.
+fn rise_together<D: AsDeletion>(deltas: &[RelaxDelta], additional: &[D]) -> bool
+    ensures { IsTrue result ↔ AreValidTogether (map deletion_of deltas.now) (map D.deletion additional.now) }
+{
+    let (mut passed, mut taken) = (0, 0);
+    let mut next = 0;
+    while passed < deltas.len() && taken < additional.len() {
+        let old = deltas[passed].as_deletion();
+        let added = additional[taken].as_deletion();
+        let is_old = old.0 < added.0;
+        let Some(after) = follow(next, if is_old { old } else { added }) else {
+            return false;
+        };
+        next = after;
+        passed += usize::from(is_old);
+        taken += usize::from(!is_old);
+    }
+    while passed < deltas.len() {
+        let Some(after) = follow(next, deltas[passed].as_deletion()) else {
+            return false;
+        };
+        next = after;
+        passed += 1;
+    }
+    while taken < additional.len() {
+        let Some(after) = follow(next, additional[taken].as_deletion()) else {
+            return false;
+        };
+        next = after;
+        taken += 1;
+    }
+    true
+}
+
+// The lowest offset that may follow the deletion, where that begins at `from` or above and fits. It
+// may be one past the 64 bits of an offset.
+#[inline(always)]
+fn follow(from: u128, deletion: (u64, u32)) -> Option<u128>
+    ensures { MatchOption result (¬ (CanFollow from deletion)) (λ next. CanFollow from deletion × (next ≡ deletion.0 + max deletion.1 1)) }
+{
+    let begin = u128::from(deletion.0);
+    if begin < from || !end_fits(deletion) {
+        return None;
+    }
+    Some(begin + u128::from(deletion.1).max(1))
 }
 
 // How many of the first deletions make a valid list.

@@ -3,6 +3,7 @@
 
 use super::blocked_slice::BlockedSlice;
 use super::blocks::{BlockHead, count_blocks, write_heads};
+use super::merge::{copy_summed, merge_ascending};
 use super::overlap::{self, AsDeletion};
 use super::walk::{Reached, ascend, walk};
 use super::{RelaxDelta, search};
@@ -46,6 +47,12 @@ impl<'a> DeltaSlice<'a> {
             return None;
         }
         Some(BlockedSlice::new(self.deltas, heads))
+    }
+
+    /// How many deltas there are.
+    #[inline]
+    pub fn len(&self) -> usize {
+        self.deltas.len()
     }
 
     /// Whether nothing is listed. A deletion of no bytes counts as listed.
@@ -135,5 +142,30 @@ impl<'a> DeltaSlice<'a> {
     /// ascend, as a pass over a section makes them, and else O(k log n + k²).
     pub fn first_overlapping<D: AsDeletion>(&self, additional: &[D]) -> Option<usize> {
         overlap::first_overlapping(self.deltas, additional)
+    }
+
+    /// Whether the list's deletions and the additional ones are two valid lists of which no two
+    /// deletions overlap, as `merge_ascending` requires them.
+    ///
+    /// It takes no memory. For k deletions beside n deltas the work is O(n + k log n).
+    pub fn can_merge_ascending<D: AsDeletion>(&self, additional: &[D]) -> bool {
+        overlap::are_valid_together(self.deltas, additional)
+    }
+
+    /// Writes the deltas of the list's deletions and the additional ones, sorted, with sums made
+    /// anew.
+    ///
+    /// It takes no memory. For k deletions beside n deltas the work is O(n + k). Requires
+    /// deletions that `can_merge_ascending` accepts, and as many places as both.
+    ///
+    /// # Requires
+    ///
+    /// - places: `(merged.len() as u128) == (self.len() as u128) + (additional.len() as u128)`
+    /// - valid: `self.can_merge_ascending(additional)`
+    pub fn merge_ascending<D: AsDeletion>(&self, additional: &[D], merged: &mut [RelaxDelta]) {
+        debug_assert!((merged.len() as u128) == (self.len() as u128) + (additional.len() as u128));
+        debug_assert!(self.can_merge_ascending(additional));
+        copy_summed(self.deltas, merged);
+        let _kept = merge_ascending(merged, self.deltas.len(), additional);
     }
 }

@@ -69,6 +69,18 @@ fn append(deltas: &mut Vec<RelaxDelta>, pairs: &[(u64, u32)]) {
     }
 }
 
+// Writes the deltas in front of the others, with sums made anew.
+pub(super) fn copy_summed(deltas: &[RelaxDelta], merged: &mut [RelaxDelta]) {
+    let mut cumulative_deleted = 0;
+    for (at, &delta) in deltas.iter().enumerate() {
+        cumulative_deleted += u64::from(delta.bytes_deleted);
+        merged[at] = RelaxDelta {
+            cumulative_deleted,
+            ..delta
+        };
+    }
+}
+
 // Merges ascending deletions into the first `count` deltas, from the back. The rest of the slice is
 // room for as many. Returns how many of the first deltas stay as they are.
 pub(super) fn merge_ascending<D: AsDeletion>(
