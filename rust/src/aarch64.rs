@@ -16,7 +16,7 @@ pub use relocations::{AArch64Relocation, relocation_type_from_raw};
 /// two words (System V ABI for the Arm 64-bit Architecture, "Thread-local storage").
 pub const TLS_TCB_SIZE: u64 = 16;
 
-const _: () = assert!(TLS_TCB_SIZE == 2 * size_of::<u64>() as u64);
+const _: () = debug_assert!(TLS_TCB_SIZE == 2 * size_of::<u64>() as u64);
 
 /// A rewrite of one instruction, or of a pair (ELF for the Arm 64-bit Architecture, "Relocation
 /// optimization"). Except for `AdrpAddToNopAdr` the window is the instruction's 4 bytes, which
