@@ -838,9 +838,10 @@ int main(int count, char **arguments) {
     }
     /* each status is returned by some call */
     calling = "all calls";
-    for (uint32_t status = 0; calls >= 1000000 && status <= LINKER_UTILS_NOT_A_CALL; status++) {
-        if (status == 11 || status == 16) continue;
-        if (returned[status] == 0) fail(linker_utils_status_text(status));
+    const char *unused = linker_utils_status_text(UINT32_MAX);
+    for (uint32_t status = 0; calls >= 1000000 && status < 32; status++) {
+        const char *text = linker_utils_status_text(status);
+        if (strcmp(text, unused) != 0 && returned[status] == 0) fail(text);
     }
     return 0;
 }
