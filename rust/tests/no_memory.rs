@@ -1,6 +1,8 @@
 //! Where an allocation fails, the call returns an error and has changed nothing.
 
-use linker_utils::relaxation::{PackError, RelaxDeltaMap, SectionRelaxDeltas, pack_section};
+use linker_utils::relaxation::{
+    OutOfMemory, PackError, RelaxDeltaMap, SectionRelaxDeltas, pack_section, shrink_calls,
+};
 use linker_utils::utils::read_string;
 use std::alloc::{GlobalAlloc, Layout, System};
 use std::cell::Cell;
@@ -104,6 +106,13 @@ fn sections_are_not_packed() {
     let packed = failing(0, || pack_section(&section, &deltas, &[]));
     assert_eq!(packed, Err(PackError::OutOfMemory));
     assert_eq!(pack_section(&section, &deltas, &[]), Ok(vec![0; 10]));
+}
+
+#[test]
+fn calls_are_not_chosen() {
+    let (deltas, calls) = (deltas(), [(16, 24)]);
+    assert_eq!(failing(0, || shrink_calls(&deltas, &calls)), Err(OutOfMemory));
+    assert_eq!(shrink_calls(&deltas, &calls), Ok(vec![true]));
 }
 
 #[test]

@@ -25,4 +25,6 @@ mod ppc64;
 #[cfg(test)]
 mod riscv64;
 #[cfg(test)]
+mod shrinking;
+#[cfg(test)]
 mod x86_64;
