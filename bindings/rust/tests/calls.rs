@@ -1082,7 +1082,11 @@ fn shrinks_calls() {
         let (deltas, calls) = (deltas(deletions), calls(pairs));
         let mut bytes = vec![0xaa; calls.len()];
         assert_eq!(calls_shrinkable(&deltas, &calls), Ok(()), "{pairs:?}");
-        assert_eq!(shrink_calls(&deltas, &calls, &mut bytes), Ok(()), "{pairs:?}");
+        assert_eq!(
+            shrink_calls(&deltas, &calls, &mut bytes),
+            Ok(()),
+            "{pairs:?}"
+        );
         assert_eq!(bytes, expected, "{pairs:?}");
     }
 
@@ -1100,7 +1104,11 @@ fn shrinks_calls() {
         let mut bytes = vec![0xaa; calls.len()];
         let error = Err(at(index, Status::CallsNotShrinkable));
         assert_eq!(calls_shrinkable(&deltas, &calls), error, "{pairs:?}");
-        assert_eq!(shrink_calls(&deltas, &calls, &mut bytes), error, "{pairs:?}");
+        assert_eq!(
+            shrink_calls(&deltas, &calls, &mut bytes),
+            error,
+            "{pairs:?}"
+        );
         assert_eq!(bytes, vec![0xaa; calls.len()], "{pairs:?}");
     }
     let short = shrink_calls(&[], &calls(&[(0, 8)]), &mut []);

@@ -99,6 +99,9 @@ fn a_pass_chooses_deletes_and_packs() -> Result<(), Fail> {
         assert!(false);
         return Ok(());
     };
-    assert_eq!(packed.as_slice(), [0xef, 0x00, 0x40, 0x00, 0x13, 0x00, 0x00, 0x00].as_slice());
+    assert_eq!(
+        packed.as_slice(),
+        [0xef, 0x00, 0x40, 0x00, 0x13, 0x00, 0x00, 0x00].as_slice()
+    );
     Ok(())
 }
