@@ -66,6 +66,9 @@ fn main() {
             part(&mut report);
         }
     }
+    if wants("calls") {
+        calls(&mut report);
+    }
     report.summary();
     if let Some(path) = picture {
         std::fs::write(path, report.picture()).expect("the picture is written");
@@ -571,4 +574,71 @@ fn packing(report: &mut Report) {
         let name = format!("a call and a deletion each {step} bytes, a call");
         report.line(&name, calls.len(), true, [exports, None, erased, None]);
     }
+}
+
+/// The original crate chooses no calls, so that ours stand alone.
+fn calls(report: &mut Report) {
+    let mut random = Random::new(12);
+    report.heading("The choice of calls, a call");
+    for (count, gap, deleted) in [
+        (100_000, 64, 0),
+        (1_000_000, 1024, 0),
+        (1_000_000, 64, 0),
+        (1_000_000, 8, 0),
+        (1_000_000, 1024, 100_000),
+        (1_000_000, 64, 100_000),
+    ] {
+        let calls = calls_apart(&mut random, count, gap);
+        let between = count as u64 / (deleted as u64).max(1) * gap;
+        let list: Vec<(u64, u32)> = (0..deleted).map(|k| (k as u64 * between + 16, 4)).collect();
+        let deltas = created(&ours_of(&list));
+        let mut chosen = vec![0u8; count];
+        report.line(
+            &format!("{count} calls {gap} bytes apart, {deleted} deletions"),
+            count,
+            1.0,
+            Side::new(|| {
+                let chosen = black_box(&mut chosen);
+                let status = unsafe {
+                    linker_utils_shrink_calls_nonnull(
+                        deltas.as_ptr(),
+                        deltas.len(),
+                        calls.as_ptr(),
+                        calls.len(),
+                        chosen.as_mut_ptr(),
+                        chosen.len(),
+                        &mut 0,
+                    )
+                };
+                assert_eq!(status, 0);
+            }),
+            None,
+        );
+    }
+}
+
+/// Calls of sites so far apart: of the targets, each a site, 60 % are within 200,000 bytes, 30 % from
+/// 1,000,000 to 2,200,000 bytes away, and 10 % anywhere.
+fn calls_apart(random: &mut Random, count: usize, gap: u64) -> Vec<sathunne::Call> {
+    let end = count as u64 * gap;
+    let sites = (0..count as u64).map(|k| k * gap);
+    sites
+        .map(|site| {
+            let kind = random.below(10);
+            let away = if kind < 6 {
+                random.below(200_000)
+            } else {
+                1_000_000 + random.below(1_200_000)
+            };
+            let target = if kind == 9 {
+                random.below(u128::from(end))
+            } else if random.below(2) == 0 {
+                site.saturating_sub(away)
+            } else {
+                (site + away).min(end)
+            };
+            let target = target / gap * gap;
+            sathunne::Call { site, target }
+        })
+        .collect()
 }

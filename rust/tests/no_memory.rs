@@ -2,7 +2,8 @@
 //! call fails in turn, until none does.
 
 use linker_utils::relaxation::{
-    PackError, RelaxDelta, RelaxDeltaMap, SectionRelaxDeltas, pack_section,
+    OutOfMemory, PackError, RelaxDelta, RelaxDeltaMap, SectionRelaxDeltas, pack_section,
+    shrink_calls,
 };
 use linker_utils::utils::read_string;
 use std::alloc::{GlobalAlloc, Layout, System};
@@ -229,6 +230,13 @@ fn sections_are_not_packed() {
     let (faulty, has_failed) = failing(0, || pack_section(&section, &deltas, &[(4, 0)]));
     assert!(has_failed);
     assert_eq!(faulty, Err(PackError::OutOfMemory));
+}
+
+#[test]
+fn calls_are_not_chosen() {
+    let (deltas, calls) = (deltas(), [(16, 24)]);
+    assert_eq!(failing(0, || shrink_calls(&deltas, &calls)), Err(OutOfMemory));
+    assert_eq!(shrink_calls(&deltas, &calls), Ok(vec![true]));
 }
 
 #[test]

@@ -1,8 +1,9 @@
 //! Which calls can become jumps at once, beside the choices of linkers.
 //!
-//! Each line of `relax/riscv64_calls.txt` is a section that ld.lld 19.1.7 and GNU ld 2.40 relaxed: its
-//! length, its calls as sites and targets, the eight bytes of each, which of them each linker made a
-//! `jal` (`shrunk` and `gnu`), and from ld.lld the length and the words of the relaxed section.
+//! Each line of `relax/riscv64_calls.txt` is a section that ld.lld 19.1.7 and GNU ld 2.40 relaxed:
+//! its length, its calls as sites and targets, the eight bytes of each, which of them each linker
+//! made a `jal` (`shrunk` and `gnu`), and from ld.lld the length and the words of the relaxed
+//! section.
 
 use linker_utils::relaxation::{
     RelaxDelta, SectionRelaxDeltas, calls_shrinkable, pack_into, packed_len, shrink_calls,
@@ -93,9 +94,7 @@ fn linkers_choose_a_part() {
         lld_equal += usize::from(section.lld == chosen);
         gnu_equal += usize::from(section.gnu == chosen);
     }
-    // From the last column of the table: the lines whose choice nobody can enlarge.
     assert!(count > 0 && lld_equal > 0 && gnu_equal > 0);
-    println!("{count} sections, of which ld.lld chose as many in {lld_equal}, GNU ld in {gnu_equal}");
 }
 
 #[test]

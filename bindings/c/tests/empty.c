@@ -52,5 +52,7 @@ int main(void) {
     if (linker_utils_packed_len(NULL, 0, NULL, 0) != 0) failures++;
     EXPECT(OK, pack(NULL, 0, NULL, 0, NULL, 0, LINKER_UTILS_LINK_OF_JALR, NULL, 0, NULL));
     EXPECT(UNKNOWN_LINK_REGISTER, pack(NULL, 0, NULL, 0, NULL, 0, 2, NULL, 0, NULL));
+    EXPECT(OK, calls_shrinkable(NULL, 0, NULL, 0, NULL));
+    EXPECT(OK, shrink_calls(NULL, 0, NULL, 0, NULL, 0, NULL));
     return failures != 0;
 }

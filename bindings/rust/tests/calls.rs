@@ -1132,3 +1132,55 @@ fn many_deletions_are_merged_and_translated() {
     let words = [vec![0x0000_0097], vec![0xffdf_f0ef; 1999]].concat();
     assert_eq!(packed, bytes_of(&words));
 }
+
+#[test]
+fn shrinks_calls() {
+    let calls = |pairs: &[(u64, u64)]| -> Vec<Call> {
+        let calls = pairs.iter();
+        calls.map(|&(site, target)| Call { site, target }).collect()
+    };
+    // `jal` reaches even distances from -1048576 to 1048574.
+    let chosen: [(&[(u64, u32)], &[(u64, u64)], &[u8]); 6] = [
+        (&[], &[(0, 1048578)], &[1]),
+        (&[], &[(0, 1048580)], &[0]),
+        (&[], &[(0, 9)], &[0]),
+        (&[(16, 8)], &[(0, 1048586)], &[1]),
+        (&[], &[(100, 1048680), (1048580, 0)], &[1, 1]),
+        (&[], &[(100, 1048688), (1048580, 0)], &[0, 0]),
+    ];
+    for (deletions, pairs, expected) in chosen {
+        let (deltas, calls) = (deltas(deletions), calls(pairs));
+        let mut bytes = vec![0xaa; calls.len()];
+        assert_eq!(calls_shrinkable(&deltas, &calls), Ok(()), "{pairs:?}");
+        assert_eq!(
+            shrink_calls(&deltas, &calls, &mut bytes),
+            Ok(()),
+            "{pairs:?}"
+        );
+        assert_eq!(bytes, expected, "{pairs:?}");
+    }
+
+    let top = u64::MAX;
+    let rejected: [(&[(u64, u32)], &[(u64, u64)], usize); 6] = [
+        (&[], &[(0, 6)], 0),
+        (&[], &[(0, 16), (4, 16)], 1),
+        (&[], &[(top - 7, 0)], 0),
+        (&[(2, 1)], &[(0, 16)], 0),
+        (&[], &[(0, 8), (8, 0), (16, 14)], 2),
+        (&[], &[(0, 22), (8, 0), (16, 0)], 2),
+    ];
+    for (deletions, pairs, index) in rejected {
+        let (deltas, calls) = (deltas(deletions), calls(pairs));
+        let mut bytes = vec![0xaa; calls.len()];
+        let error = Err(at(index, Status::CallsNotShrinkable));
+        assert_eq!(calls_shrinkable(&deltas, &calls), error, "{pairs:?}");
+        assert_eq!(
+            shrink_calls(&deltas, &calls, &mut bytes),
+            error,
+            "{pairs:?}"
+        );
+        assert_eq!(bytes, vec![0xaa; calls.len()], "{pairs:?}");
+    }
+    let short = shrink_calls(&[], &calls(&[(0, 8)]), &mut []);
+    assert_eq!(short, Err(failure(Status::DifferentLengths)));
+}

@@ -27,4 +27,6 @@ mod riscv64;
 #[cfg(test)]
 mod rows;
 #[cfg(test)]
+mod shrinking;
+#[cfg(test)]
 mod x86_64;

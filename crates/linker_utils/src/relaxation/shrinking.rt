@@ -13,7 +13,8 @@ use super::{AsCall, DeltaSlice, OutOfMemory, RelaxDelta, SectionRelaxDeltas};
 use crate::riscv64::{distance_fits_jal, is_even};
 use std::alloc::Global;
 
-/// What tells of a call whether it is chosen: a `bool`, or a byte that is 0 or 1.
+/// An element of an answer, which tells whether a call is chosen: a `bool`, or a byte that is 0 or
+/// 1.
 pub trait AsChoice: Copy {
     /// Whether the call is chosen, in a contract.
     ghost choice: { Self → Bool };
@@ -101,8 +102,8 @@ fn count_between<A: AsChoice>(answer: &[A], from: usize, to: usize) -> usize
 /// How many runs of calls are counted.
 const RUNS: usize = 1024;
 
-/// How many calls are chosen in each run of `len` calls, from the first call on. Where the calls end
-/// in or before a run, it has fewer.
+/// How many calls are chosen in each run of `len` calls, from the first call on. The run in which
+/// the calls end is shorter, and those behind it are empty.
 #[derive(Drop)]
 struct Runs {
     len: usize,
@@ -176,8 +177,8 @@ fn reaches(from: u64, to: u64) -> bool
 }
 
 /// Whether a `jal` from the output offset of a call's site to that of its target reaches, once so
-/// many calls between the two have given up four bytes each. The site is before `split` where the
-/// index is.
+/// many calls between the two have given up four bytes each. The site is that of the call at an
+/// index, and the calls before `split` lie below the target.
 fn reaches_over(from: u64, to: u64, index: usize, split: usize, count: usize) -> bool
     ensures { IsTrue result
         ↔ (IsEven (distance_over from to index split count) × IsJalDistance (distance_over from to index split count)) }
@@ -190,8 +191,8 @@ fn reaches_over(from: u64, to: u64, index: usize, split: usize, count: usize) ->
     }
 }
 
-/// Whether the call at an index is in reach once the chosen calls have given up their bytes. They are
-/// counted only where the call is in reach with all and out of reach with none.
+/// Whether the call at an index is in reach once the chosen calls have given up their bytes. They
+/// are counted only where the call is in reach with all and out of reach with none.
 fn is_in_reach<C: AsCall, A: AsChoice>(
     deltas: &[RelaxDelta],
     calls: &[C],
@@ -328,7 +329,8 @@ fn placed_len<C: AsCall>(deltas: &[RelaxDelta], calls: &[C]) -> usize
     calls.len()
 }
 
-/// The index of the call that gives up the byte before an offset and the byte at it, if one does.
+/// The index of the call with an offset strictly inside the four bytes that it gives up, if there
+/// is one.
 fn call_around<C: AsCall>(calls: &[C], offset: u64) -> Option<usize>
     ensures within { IfSome result (λ at. at < length calls.now) }
     ensures around { AreEightApart (map C.call calls.now)
@@ -393,8 +395,19 @@ pub fn calls_shrinkable(deltas: &SectionRelaxDeltas, calls: &[(u64, u64)]) -> bo
     first_not_shrinkable(deltas.deltas(), calls).is_none()
 }
 
-/// `shrink_calls` into memory of the caller's: an element for each call, `bool` or a byte that is 0
-/// or 1.
+/// `shrink_calls` into memory of the caller's: an element for each call, `true` or 1 where it is
+/// chosen, and else `false` or 0.
+///
+/// Requires calls that `first_not_shrinkable` accepts, and as many elements as calls. The deltas
+/// are as `SectionRelaxDeltas::deltas` lists them; of others nothing is promised but that the call
+/// is safe. It takes no memory but 8 KiB of the stack.
+///
+/// All calls are chosen at first, and sweeps over them drop those out of reach until none is. Their
+/// order doesn't matter, since more deletions never take a call out of reach. For k calls beside n
+/// deltas a sweep takes O(k (log n + log k + k / 1024)): the chosen calls between a site and its
+/// target are counted by runs of k / 1024 calls, and only where the call is in reach with all of
+/// them and out of reach with none. Sections take few sweeps, but each may drop one call alone, so
+/// that there are k + 1 at worst.
 pub fn shrink_calls_into<C: AsCall, A: AsChoice>(
     deltas: &[RelaxDelta],
     calls: &[C],
@@ -412,7 +425,17 @@ pub fn shrink_calls_into<C: AsCall, A: AsChoice>(
     while sweep(deltas, calls, answer, &mut runs) {}
 }
 
-/// Which calls can become jumps at once.
+/// Which calls can become jumps at once: for each call whether it is chosen, so that the four bytes
+/// after its first instruction go (RISC-V ELF psABI, "Function Call Relaxation").
+///
+/// A choice of calls is in reach where, once each of them has given up its four bytes and the
+/// deltas' bytes are gone too, the distance from each one's site to its target is even and in the
+/// range of `jal`. The choice that is returned is the greatest: each choice in reach is part of it.
+/// So it deletes the most bytes, and once its deletions (site + 4, 4) are merged, `pack_section`
+/// rejects none of its calls for its distance (`shrunk_calls_are_accepted`).
+///
+/// Requires calls that `calls_shrinkable` accepts. It takes memory once, for what it returns;
+/// `shrink_calls_into` takes none, and says how long it takes.
 pub fn shrink_calls(
     alloc: Global,
     deltas: &SectionRelaxDeltas,
@@ -426,8 +449,8 @@ pub fn shrink_calls(
     Ok(chosen)
 }
 
-/// Once the four bytes of each chosen call are deleted too, `pack_section` rejects no chosen call
-/// with `OddDistance` or `TooFar`.
+/// Once the four bytes of each chosen call of a choice in reach are deleted too, `pack_section` and
+/// `pack_into` reject no chosen call with `OddDistance` or `TooFar`.
 pub fn shrunk_calls_are_accepted()
     ensures { ShrunkCallsAreAccepted }
 {}

@@ -1,0 +1,106 @@
+//! Calls that can become jumps at once, worked by hand: `jal` reaches even distances from -1048576 to
+//! 1048574 (RISC-V unprivileged ISA, "Unconditional Jumps").
+
+use linker_utils::relaxation::{
+    SectionRelaxDeltas, calls_apart, calls_shrinkable, pack_section, shrink_calls,
+};
+use std::test::Fail;
+
+#[derive(Clone, Copy)]
+struct Row {
+    deletions: &'static [(u64, u32)],
+    calls: &'static [(u64, u64)],
+    chosen: &'static [bool],
+}
+
+// Holds whichever growth is refused: `rt try --test --fail-alloc N` refuses the Nth.
+#[test]
+fn choices_are_the_greatest_in_reach(rt: HostRuntime) -> Result<(), Fail> {
+    let rows = [
+        Row {
+            deletions: &[],
+            calls: &[(0, 1048578)],
+            chosen: &[true],
+        },
+        Row {
+            deletions: &[],
+            calls: &[(0, 1048580)],
+            chosen: &[false],
+        },
+        Row {
+            deletions: &[],
+            calls: &[(0, 9)],
+            chosen: &[false],
+        },
+        Row {
+            deletions: &[(16, 8)],
+            calls: &[(0, 1048586)],
+            chosen: &[true],
+        },
+        // Each of the two needs the other.
+        Row {
+            deletions: &[],
+            calls: &[(100, 1048680), (1048580, 0)],
+            chosen: &[true, true],
+        },
+        Row {
+            deletions: &[],
+            calls: &[(100, 1048688), (1048580, 0)],
+            chosen: &[false, false],
+        },
+    ];
+    for row in rows {
+        assert!(rt; SectionRelaxDeltas::is_valid(row.deletions));
+        let Ok(deltas) = SectionRelaxDeltas::new(rt.alloc(), row.deletions) else {
+            return Ok(());
+        };
+        assert!(rt; calls_shrinkable(&deltas, row.calls));
+        let Ok(chosen) = shrink_calls(rt.alloc(), &deltas, row.calls) else {
+            return Ok(());
+        };
+        assert_eq!(rt; chosen.as_slice(), row.chosen);
+    }
+    Ok(())
+}
+
+#[test]
+fn calls_of_eight_kept_bytes_are_shrinkable(rt: HostRuntime) -> Result<(), Fail> {
+    let top = u64::MAX;
+    let none = SectionRelaxDeltas::new(rt.alloc(), &[])?;
+    assert!(rt; calls_shrinkable(&none, &[(0, 8)]));
+    assert!(rt; calls_shrinkable(&none, &[(top - 8, 0)]));
+    assert!(rt; !calls_shrinkable(&none, &[(0, 6)]));
+    assert!(rt; !calls_shrinkable(&none, &[(0, 16), (4, 16)]));
+    assert!(rt; !calls_shrinkable(&none, &[(top - 7, 0)]));
+    let deletions = [(2, 1)];
+    assert!(rt; SectionRelaxDeltas::is_valid(&deletions));
+    let one = SectionRelaxDeltas::new(rt.alloc(), &deletions)?;
+    assert!(rt; !calls_shrinkable(&one, &[(0, 16)]));
+    Ok(())
+}
+
+#[test]
+fn a_pass_chooses_deletes_and_packs(rt: HostRuntime) -> Result<(), Fail> {
+    // `auipc ra, 0` and `jalr ra, 0(ra)`, and `nop`.
+    let section = [
+        0x97, 0x00, 0x00, 0x00, 0xe7, 0x80, 0x00, 0x00, 0x13, 0x00, 0x00, 0x00,
+    ];
+    let calls = [(0, 8)];
+    let freed = [(4, 4)];
+    let mut deltas = SectionRelaxDeltas::new(rt.alloc(), &[])?;
+    assert!(rt; calls_shrinkable(&deltas, &calls));
+    let chosen = shrink_calls(rt.alloc(), &deltas, &calls)?;
+    assert_eq!(rt; chosen.as_slice(), [true].as_slice());
+    assert!(rt; deltas.is_mergeable(&freed));
+    deltas.merge_additional(&freed)?;
+    assert!(rt; calls_apart(&calls));
+    let Ok(packed) = pack_section(rt.alloc(), &section, &deltas, &calls) else {
+        assert!(rt; false);
+        return Ok(());
+    };
+    assert_eq!(rt;
+        packed.as_slice(),
+        [0xef, 0x00, 0x40, 0x00, 0x13, 0x00, 0x00, 0x00].as_slice()
+    );
+    Ok(())
+}
