@@ -224,10 +224,7 @@ fn relocate(machine: u16, relocations: &[Relocation], section: &mut [u8]) -> boo
             if !is_allowed || value as u64 & (row.alignment - 1) != 0 {
                 return false;
             }
-            let (number, place) = (
-                (value as u64).wrapping_add(row.bias),
-                &mut section[offset..],
-            );
+            let (number, place) = (value as u64, &mut section[offset..]);
             if row.is_bits == 0 {
                 let bytes = usize::from(row.byte_size);
                 place[..bytes].copy_from_slice(&number.to_le_bytes()[..bytes]);

@@ -21,13 +21,16 @@ pub enum Mix {
     All(u16),
 }
 
-/// A relocation to be applied.
+/// A relocation to be applied: the row's bias is already in the value.
 #[derive(Clone, Copy)]
 pub struct Relocation {
     pub offset: usize,
     pub r_type: u32,
     pub value: i64,
 }
+
+/// Applies relocations to a section. Whether all succeed.
+pub type RelocateAll<'a> = Box<dyn Fn(&mut [u8]) -> bool + 'a>;
 
 /// Bytes between instructions: a window has at most eight.
 pub const WINDOW: usize = 8;
@@ -64,7 +67,7 @@ pub trait Library {
         None
     }
     /// `relocate` as one call of the library's.
-    fn relocate_all(&self) -> Option<fn(u16, &[Relocation], &mut [u8]) -> bool> {
+    fn relocate_all<'a>(&self, _machine: u16, _: &'a [Relocation]) -> Option<RelocateAll<'a>> {
         None
     }
     fn modifiers(&self, _rewrites: &[Rewrite]) -> Option<u64> {
