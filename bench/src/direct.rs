@@ -181,7 +181,7 @@ macro_rules! library {
                 fn relocate(
                     &self,
                     machine: u16,
-                    relocations: &[Relocation],
+                    relocations: &[Fixup],
                     section: &mut [u8],
                 ) -> bool {
                     relocations.iter().all(|relocation| {

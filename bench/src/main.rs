@@ -295,13 +295,13 @@ fn streams(report: &mut Report) {
             let steps = (max as i128 - min as i128) as u128 / u128::from(info.alignment);
             let value = min + (random.below(steps) * info.alignment) as i64;
             // at most 40 bytes from one to the next
-            Relocation {
+            Fixup {
                 offset: 40 * at + 4 * random.below(9) as usize,
                 r_type,
                 value,
             }
         };
-        let relocations: Vec<Relocation> = (0..COUNT).map(|at| one(random, at)).collect();
+        let relocations: Vec<Fixup> = (0..COUNT).map(|at| one(random, at)).collect();
         let is_same = parts.iter().all(|r_type| has_same_rows(machine, *r_type));
         let name = name_of(machine).to_string() + if is_same { "" } else { " (rows differ)" };
         let mut section = random.bytes(4 << 20);
@@ -330,14 +330,15 @@ fn streams(report: &mut Report) {
     }
 }
 
-/// Clears the bits of a relocation's field, as assemblers leave it: some forms are only ORed.
-fn clear_field(machine: u16, relocation: &Relocation, section: &mut [u8]) {
-    let info = sathunne::relocation(architecture(machine), relocation.r_type).expect("a row");
-    if let RelocationSize::Bits { range, form } = info.size {
+/// Clears the field of a relocation's form, as assemblers leave it: some forms only OR their bits.
+fn clear_field(machine: u16, fixup: &Fixup, section: &mut [u8]) {
+    let info = sathunne::relocation(architecture(machine), fixup.r_type).expect("a row");
+    if let RelocationSize::Bits { form, .. } = info.size {
         let mut ones = [0; WINDOW];
-        let all = u64::MAX >> (64 - (range.end - range.start));
-        sathunne::write(form, all, false, &mut ones).expect("the form holds so many bits");
-        for (byte, bits) in section[relocation.offset..].iter_mut().zip(ones) {
+        let all = (0..64).map(|shift| u64::MAX >> shift);
+        all.map(|value| sathunne::write(form, value, false, &mut ones))
+            .find(Result::is_ok);
+        for (byte, bits) in section[fixup.offset..].iter_mut().zip(ones) {
             *byte &= !bits;
         }
     }
