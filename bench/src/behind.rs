@@ -14,7 +14,7 @@ use linker_utils::{aarch64, loongarch64, ppc64, riscv64, x86_64};
 use std::hint::black_box;
 use std::slice;
 
-/// Rows, lists and relocations one by one are the crate's own calls.
+/// Lists, the cursor and streams of relocations are the crate's own calls.
 pub const BEHIND: Calls = Calls {
     write,
     read,

@@ -114,7 +114,7 @@ macro_rules! library {
                 if !is_allowed || value as u64 & (row.alignment - 1) != 0 {
                     return false;
                 }
-                let number = (value as u64).wrapping_add(row.bias.map_or(0, |bias| bias.value()));
+                let number = value as u64;
                 match row.size {
                     RelocationSize::ByteSize(bytes) => {
                         let bytes = usize::from(bytes);
@@ -181,7 +181,7 @@ macro_rules! library {
                 fn relocate(
                     &self,
                     machine: u16,
-                    relocations: &[Relocation],
+                    relocations: &[Fixup],
                     section: &mut [u8],
                 ) -> bool {
                     relocations.iter().all(|relocation| {

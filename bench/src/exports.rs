@@ -21,7 +21,7 @@ pub struct Calls {
     pub read_uleb128: unsafe extern "C" fn(*const u8, usize, *mut u64, *mut usize) -> u32,
     pub hi20_is_zero: unsafe extern "C" fn(u64) -> bool,
     pub highest: unsafe extern "C" fn(u64, u64) -> u64,
-    pub relocate: fn(u16, &[Relocation], &mut [u8]) -> bool,
+    pub relocate: fn(u16, &[Fixup], &mut [u8]) -> bool,
     pub deltas: fn(&[(u64, u32)]) -> Box<dyn Deltas>,
     pub new_side: for<'a> fn(&'a [(u64, u32)]) -> Side<'a>,
     pub merge_side: for<'a> fn(&'a [(u64, u32)], &'a [(u64, u32)]) -> Side<'a>,
@@ -156,7 +156,7 @@ impl Library for Calls {
         })
     }
 
-    fn relocate(&self, machine: u16, relocations: &[Relocation], section: &mut [u8]) -> bool {
+    fn relocate(&self, machine: u16, relocations: &[Fixup], section: &mut [u8]) -> bool {
         (self.relocate)(machine, relocations, section)
     }
 
@@ -208,11 +208,11 @@ impl Library for Calls {
 }
 
 /// One by one, as `struct linker_utils_relocation_info` says.
-fn relocate(machine: u16, relocations: &[Relocation], section: &mut [u8]) -> bool {
+fn relocate(machine: u16, relocations: &[Fixup], section: &mut [u8]) -> bool {
     let (relocation, write): (Relocate, _) = black_box((linker_utils_relocation, EXPORTS.write));
     let mut row = RelocationInfo::default();
     relocations.iter().all(
-        |&Relocation {
+        |&Fixup {
              offset,
              r_type,
              value,
@@ -224,10 +224,7 @@ fn relocate(machine: u16, relocations: &[Relocation], section: &mut [u8]) -> boo
             if !is_allowed || value as u64 & (row.alignment - 1) != 0 {
                 return false;
             }
-            let (number, place) = (
-                (value as u64).wrapping_add(row.bias),
-                &mut section[offset..],
-            );
+            let (number, place) = (value as u64, &mut section[offset..]);
             if row.is_bits == 0 {
                 let bytes = usize::from(row.byte_size);
                 place[..bytes].copy_from_slice(&number.to_le_bytes()[..bytes]);

@@ -21,13 +21,16 @@ pub enum Mix {
     All(u16),
 }
 
-/// A relocation to be applied.
+/// A relocation to be applied. The bias of its row is already in the value.
 #[derive(Clone, Copy)]
-pub struct Relocation {
+pub struct Fixup {
     pub offset: usize,
     pub r_type: u32,
     pub value: i64,
 }
+
+/// Applies relocations to a section. Whether all succeed.
+pub type RelocateAll<'a> = Box<dyn Fn(&mut [u8]) -> bool + 'a>;
 
 /// Bytes between instructions: a window has at most eight.
 pub const WINDOW: usize = 8;
@@ -49,7 +52,7 @@ pub trait Library {
     fn rows(&self, machine: u16, r_types: &[u32]) -> u64;
     /// Looks up each relocation, tests the value, cuts its bits and writes them. Whether all
     /// succeed.
-    fn relocate(&self, machine: u16, relocations: &[Relocation], section: &mut [u8]) -> bool;
+    fn relocate(&self, machine: u16, relocations: &[Fixup], section: &mut [u8]) -> bool;
     fn uleb128(&self, content: &[u8], count: usize) -> u64;
     fn hi20_is_zero(&self, values: &[u64]) -> u64;
     fn highest_relocation_with_bias(&self, values: &[u64]) -> u64;
@@ -64,7 +67,7 @@ pub trait Library {
         None
     }
     /// `relocate` as one call of the library's.
-    fn relocate_all(&self) -> Option<fn(u16, &[Relocation], &mut [u8]) -> bool> {
+    fn relocate_all<'a>(&self, _machine: u16, _: &'a [Fixup]) -> Option<RelocateAll<'a>> {
         None
     }
     fn modifiers(&self, _rewrites: &[Rewrite]) -> Option<u64> {
