@@ -490,8 +490,8 @@ enum linker_utils_mask {
     LINKER_UTILS_MASK_GOT_BASE = 3
 };
 
-/* What a relocation means. `linker_utils_value` and `linker_utils_relocate` apply it in these steps,
- * with <elf.h>'s names of the relocation's fields:
+/* What a relocation means. `linker_utils_value` and `linker_utils_relocate` apply it in these
+ * steps, with <elf.h>'s names of the relocation's fields:
  * 1. Add `bias` to the address that the formula of `kind` begins with (S + A, or the GOT entry's).
  * 2. Cut the addresses that `mask` names to their page, and compute the value v by the formula.
  * 3. Where `has_range` is 1, v has to be `min` or above, and below `max`. v has to be a multiple of
@@ -500,10 +500,11 @@ enum linker_utils_mask {
  *    Where it is 1, take the bits of v from `first_bit` up, below `end_bit`, as a number, and
  *    `linker_utils_write` that by the form, with `negative` set where v itself is below 0, to the
  *    window that begins at `r_offset`.
- * The range is that of v alone. A pair of instructions whose low part is signed may not reach the
- * highest values in it: R_RISCV_CALL_PLT allows 0x7ffff800, of which the machine makes -0x80000800,
- * and R_LARCH_CALL36 reaches values below 2^37 - 2^17. PowerPC64's high halves allow every value,
- * and their pairs reach from -2^31 - 0x8000 up, below 2^31 - 0x8000. */
+ * The range is that of v alone; `linker_utils_reach` is what can be written. A pair of instructions
+ * whose low part is signed may not reach the highest values in the range: R_RISCV_CALL_PLT allows
+ * 0x7ffff800, of which the machine makes -0x80000800, and R_LARCH_CALL36 reaches values below
+ * 2^37 - 2^17. PowerPC64's high halves allow every value, and their pairs reach from
+ * -2^31 - 0x8000 up, below 2^31 - 0x8000. */
 struct linker_utils_relocation_info {
     /* `enum linker_utils_relocation_kind` */
     uint32_t kind;

@@ -12,13 +12,14 @@ static void show(uint16_t machine, uint32_t r_type, const struct linker_utils_op
                  uint8_t *bytes, size_t len) {
     uint8_t name[LINKER_UTILS_NAME_SIZE];
     size_t used;
-    if (linker_utils_relocation_name(machine, r_type, name, sizeof name, &used) == LINKER_UTILS_OK) {
+    uint32_t status = linker_utils_relocation_name(machine, r_type, name, sizeof name, &used);
+    if (status == LINKER_UTILS_OK) {
         printf("%.*s: ", (int)used, (const char *)name);
     } else {
         printf("%u: ", (unsigned)r_type);
     }
     int64_t value;
-    uint32_t status = linker_utils_value(machine, r_type, operands, &value);
+    status = linker_utils_value(machine, r_type, operands, &value);
     if (status == LINKER_UTILS_OK) {
         status = linker_utils_relocate(machine, r_type, value, bytes, len);
     }

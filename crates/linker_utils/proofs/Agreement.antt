@@ -18,7 +18,7 @@ turns : (x c d p : ℕ) → p ≡ c * d → (x + 1) * c * d ≡ x * p + p
 turns x c d p e = subst (λ q. (x + 1) * c * d ≡ x * q + q) (sym e) (omega arith)
 
 -- the remainder by a smaller power
-rem_rem : (z : ℤ) (f k n : ℕ) → n ≤ k → pos f ≡ int_rem_euclid z (pos (2 ^ k)) → pos (f % 2 ^ n) ≡ int_rem_euclid z (pos (2 ^ n))
+pub rem_rem : (z : ℤ) (f k n : ℕ) → n ≤ k → pos f ≡ int_rem_euclid z (pos (2 ^ k)) → pos (f % 2 ^ n) ≡ int_rem_euclid z (pos (2 ^ n))
 rem_rem (pos b) f k n l e =
     let same : f ≡ b % 2 ^ k = ap unsigned_abs e in
     ap (λ y. pos (y % 2 ^ n)) same ∙ ap pos (mod_mod b k n l)
@@ -131,7 +131,7 @@ number_agrees twos_complement n s k (Some b) h v f within e =
     signed_of_rem (bits_from s v) (f % 2 ^ n) n (leb-true 1 n all.0) (quotient_low v (n - 1) s from) (quotient_high v (n - 1) s below)
     (rem_rem (bits_from s v) f k n (leb-true n k rest.0) e)
 
-from_zero : (v : ℤ) → bits_from 0 v ≡ v
+pub from_zero : (v : ℤ) → bits_from 0 v ≡ v
 from_zero (pos b) = ap pos (omega arith)
 from_zero (negsuc b) = ap negsuc (omega arith)
 

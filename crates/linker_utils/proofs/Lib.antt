@@ -5,6 +5,7 @@ pub mod Agreement
 pub mod Bounds
 pub mod Calls
 pub mod Clearing
+pub mod Halves
 pub mod Jumps
 pub mod LoongArch
 pub mod LoongArchAddresses

@@ -85,13 +85,17 @@ module _ (v before after : ℕ) (wide : v < 2 ^ 64) (laid : BitsWritten (riscv_p
   placed_low : All (Placed v before after) ui_low
   placed_low = all_right (Placed v before after) (riscv_places UType) ui_low laid.placed
 
-  ui_pair : IsPairOf v (ui_sum after)
-  ui_pair =
-      let high : place_sum (riscv_places UType) after ≡ (v + 0x800) % 2 ^ 64 / 2 ^ 12 % 2 ^ (32 - 12) * 2 ^ 12 =
-      place_sum_placed 12 32 0x800 (riscv_places UType) v before after (omega arith) u_sound.filled u_sound.added placed_high (always_clear (riscv_places UType) before refl) in
+  pub ui_high_laid : place_sum ui_high after ≡ (v + 0x800) % 2 ^ 64 / 4096 % 1048576 * 4096
+  ui_high_laid = place_sum_placed 12 32 0x800 (riscv_places UType) v before after (omega arith) u_sound.filled u_sound.added placed_high (always_clear (riscv_places UType) before refl)
+
+  pub ui_low_laid : place_sum ui_low after ≡ v % 4096
+  ui_low_laid =
       let low : place_sum ui_low after ≡ (v + 0) % 2 ^ 64 / 2 ^ 0 % 2 ^ (12 - 0) * 2 ^ 0 =
       place_sum_placed 0 12 0 ui_low v before after (omega arith) ui_low_sound.filled ui_low_sound.added placed_low (always_clear ui_low before refl) in
-      pair_of v (place_sum (riscv_places UType) after) (place_sum ui_low after) wide high (low ∙ omega arith)
+      low ∙ omega arith
+
+  ui_pair : IsPairOf v (ui_sum after)
+  ui_pair = pair_of v (place_sum (riscv_places UType) after) (place_sum ui_low after) wide ui_high_laid ui_low_laid
 
 -- ---- the laws
 

@@ -1,5 +1,5 @@
 -- How a relocation's value is written, and when it isn't.
-use Rattle.std.specs.Prelude.{◌≡◌, ℕ, ◌+◌, ◌-◌, ◌%◌, ◌^◌, ◌<◌, ◌≤◌, ◌==◌, Bool, true, false, not, ◌&&◌, nat_lt, if◌then◌else◌, List, [], ◌∷◌, ◌++◌, length, take, drop, replicate, ℤ, pos, int_lt, Option, ⊤}
+use Rattle.std.specs.Prelude.{◌≡◌, ℕ, ◌+◌, ◌-◌, ◌%◌, ◌^◌, ◌<◌, ◌≤◌, ◌==◌, Bool, true, false, not, ◌&&◌, nat_lt, if◌then◌else◌, List, [], ◌∷◌, ◌++◌, length, take, drop, replicate, ℤ, pos, ◌+ℤ◌, int_lt, Option, ⊤}
 use Rattle.std.specs.Int.{w64, byte_len, cast_unsigned, from_le_bytes, to_le_bytes, int_rem_euclid}
 use Rattle.linker_base.specs.Bits.{field}
 use Rattle.linker_base.specs.Form.{ImmediateBit, Mark, replaced, ored, cleared, BitsWritten, Written, Fits, window_of}
@@ -7,13 +7,14 @@ use Rattle.linker_base.specs.declared.bit_misc.BitRange.{BitRange}
 use Rattle.linker_utils.specs.AArch64.{aarch64_form, shift_of}
 use Rattle.linker_utils.specs.Agrees.{bits_from, IsSameIn, aarch64_reads, loongarch_reads, is_of_halves, is_of_words}
 use Rattle.linker_utils.specs.Elf.{IsWithin, relocation_form}
-use Rattle.linker_utils.specs.LoongArch.{loongarch_form}
+use Rattle.linker_utils.specs.LoongArch.{loongarch_form, reach}
 use Rattle.linker_utils.specs.Ppc64.{ppc64_form}
 use Rattle.linker_utils.specs.Reach.{reach_of}
 use Rattle.linker_utils.specs.RiscV.{riscv_form}
 use Rattle.linker_utils.specs.Value.{sum_64, difference_64}
 use Rattle.linker_utils.specs.declared.elf.AArch64Instruction.TheVariants.{Movnz}
-use Rattle.linker_utils.specs.declared.elf.LoongArch64Instruction.TheVariants.{Shift10}
+use Rattle.linker_utils.specs.declared.elf.LoongArch64Instruction.{LoongArch64Instruction}
+use Rattle.linker_utils.specs.declared.elf.LoongArch64Instruction.TheVariants.{Shift10, Call36}
 use Rattle.linker_utils.specs.declared.elf.RelocationInstruction.{RelocationInstruction}
 use Rattle.linker_utils.specs.declared.elf.RelocationInstruction.TheVariants.{RiscV, Ppc64, LoongArch64, AArch64}
 use Rattle.linker_utils.specs.declared.elf.RelocationKind.{RelocationKind}
@@ -21,6 +22,8 @@ use Rattle.linker_utils.specs.declared.elf.RelocationKind.TheVariants.{Relative,
 use Rattle.linker_utils.specs.declared.elf.RelocationKindInfo.{RelocationKindInfo}
 use Rattle.linker_utils.specs.declared.elf.RelocationSize.{RelocationSize}
 use Rattle.linker_utils.specs.declared.elf.RelocationSize.TheVariants.{ByteSize, BitMasking}
+use Rattle.linker_utils.specs.declared.elf.RiscVInstruction.{RiscVInstruction}
+use Rattle.linker_utils.specs.declared.elf.RiscVInstruction.TheVariants.{UType, IType, SType, UiType}
 use Rattle.linker_utils.specs.declared.elf.relocate.RelocateError.{RelocateError}
 use Rattle.linker_utils.specs.declared.elf.relocate.RelocateError.TheVariants.{Unsupported, TooShort, Misaligned, OutOfReach}
 
@@ -154,3 +157,32 @@ IsCause row v bytes TooShort = (is_supported row ≡ true) × (length bytes < wi
 IsCause row v bytes Misaligned = (is_supported row ≡ true) × (window_len row ≤ length bytes) × ¬ IsAligned row.alignment v
 IsCause row v bytes OutOfReach =
     (is_supported row ≡ true) × (window_len row ≤ length bytes) × IsAligned row.alignment v × ¬ IsReached row v bytes
+
+-- ---- what the halves and pairs of instructions hold
+
+-- a low half completes each high half that was written of the same value's bits
+abbrev pub CompletesHigh : RiscVInstruction → BitRange → ℤ → ℕ → Type 0
+CompletesHigh low bits v after =
+    (neg : Bool) (before high : ℕ) → Written (riscv_form UType) (bits_taken bits v) neg before high → (riscv_form UType).machine high +ℤ (riscv_form low).machine after ≡ v
+
+abbrev pub RiscVHolds : RiscVInstruction → BitRange → ℤ → ℕ → Type 0
+RiscVHolds IType bits v after = CompletesHigh IType bits v after
+RiscVHolds SType bits v after = CompletesHigh SType bits v after
+RiscVHolds UiType bits v after = (riscv_form UiType).machine after ≡ v
+RiscVHolds f bits v after = ⊤
+
+abbrev pub LoongArchHolds : LoongArch64Instruction → ℤ → ℕ → Type 0
+LoongArchHolds Call36 v after = reach after ≡ v
+LoongArchHolds f v after = ⊤
+
+-- RISC-V's pairs make the value of which the low 32 bits, or more, were taken; LoongArch's `pcaddu18i` and `jirl` go as far as
+-- the multiple of 4 of which bits 2 to 37 were.
+abbrev pub InstructionHolds : RelocationInstruction → BitRange → ℤ → ℕ → Type 0
+InstructionHolds (AArch64 f) bits v after = ⊤
+InstructionHolds (RiscV f) bits v after = bits.start ≡ 0 → 32 ≤ bits.end → RiscVHolds f bits v after
+InstructionHolds (Ppc64 f) bits v after = ⊤
+InstructionHolds (LoongArch64 f) bits v after = bits.start ≡ 2 → bits.end ≡ 38 → IsAligned 4 v → LoongArchHolds f v after
+
+abbrev pub SizeHolds : RelocationSize → ℤ → List ℕ → Type 0
+SizeHolds (ByteSize n) v after = ⊤
+SizeHolds (BitMasking bits insn) v after = InstructionHolds insn bits v (window_of (relocation_form insn) after)

@@ -7,7 +7,7 @@ ghost use Rattle.linker_base.specs.Form.{window_of, BitsWritten, Fits};
 ghost use Rattle.linker_utils.specs.AArch64.{aarch64_form};
 ghost use Rattle.linker_utils.specs.Agrees.{AgreesBy};
 ghost use Rattle.linker_utils.specs.Elf.{relocation_form};
-ghost use Rattle.linker_utils.specs.Relocate.{number_of_bytes, low_bytes, number_written, ored_cleared, places_cleared, bits_taken, InstructionWritten, IsWritten, SizeReads, is_of_uleb128, takes_size, is_supported, window_len, IsAligned, HoldsBits, IsAccepted, IsCause};
+ghost use Rattle.linker_utils.specs.Relocate.{number_of_bytes, low_bytes, number_written, ored_cleared, places_cleared, bits_taken, InstructionWritten, IsWritten, SizeReads, SizeHolds, is_of_uleb128, takes_size, is_supported, window_len, IsAligned, HoldsBits, IsAccepted, IsCause};
 
 use crate::bit_misc::{BitExtraction, BitRange};
 use crate::elf::engine::{self, Run, Window, run};
@@ -230,6 +230,8 @@ impl RelocationKindInfo {
     ///   range. The bits that the form only ORs need not be 0 before. All other bits stay, except
     ///   for the opcode that `Movnz` sets by the value's sign; its shift has to be the first of the
     ///   relocation's bits.
+    /// - RISC-V's `UiType`, or a high half and a low half of one value, make the value itself, and so
+    ///   does LoongArch's `Call36`.
     /// - All bytes behind `window` stay. A relocation without a value writes nothing.
     ///
     /// ```
@@ -252,6 +254,7 @@ impl RelocationKindInfo {
     pub fn write(&self, value: i64, dest: &mut [u8]) -> Result<(), RelocateError>
         ensures ok { OnOk result (IsAccepted self.now value dest.old × IsWritten self.now.size self.now.kind value dest.old dest.new) }
         ensures machine { OnOk result ((is_signed : Bool) → AgreesBy is_signed self.now → SizeReads is_signed self.now.size self.now.range.bounds value dest.old dest.new) }
+        ensures pairs { OnOk result (SizeHolds self.now.size value dest.new) }
         ensures err { IfErr result (λ error. IsCause self.now value dest.old error × (dest.new ≡ dest.old)) }
     {
         if !self.is_supported() {

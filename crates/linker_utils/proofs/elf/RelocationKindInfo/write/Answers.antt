@@ -1,5 +1,6 @@
 use Rattle.std.proofs.Common.{rules}
 use Rattle.linker_utils.specs.Relocate.{IsAccepted}
+use Rattle.linker_utils.proofs.Halves.{row_holds}
 use Rattle.linker_utils.proofs.Relocated.{row_reads}
 use Rattle.linker_utils.proofs.elf.RelocationKindInfo.write.Goals as goal
 
@@ -18,3 +19,8 @@ pub returns-in-BitMasking-clause-machine : goal.returns-in-BitMasking-clause-mac
 returns-in-BitMasking-clause-machine c = λ is_signed agrees.
     let done = returns-in-BitMasking-clause-ok c in
     row_reads is_signed c.args.self.now c.args.value c.args.dest.now c.write_bits.new.dest c.ranges.value done.0 done.1 agrees
+
+pub returns-in-BitMasking-clause-pairs : goal.returns-in-BitMasking-clause-pairs
+returns-in-BitMasking-clause-pairs c =
+    let done = returns-in-BitMasking-clause-ok c in
+    row_holds c.args.self.now c.args.value c.args.dest.now c.write_bits.new.dest c.ranges.value done.0 done.1

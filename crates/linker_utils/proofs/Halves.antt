@@ -1,0 +1,159 @@
+-- Pairs of instructions hold each value within their reach.
+use Rattle.std.proofs.Common.{FitsSigned, ◌≡◌, ℕ, suc, ◌+◌, ◌-◌, ◌*◌, ◌/◌, ◌%◌, ◌^◌, ◌<◌, ◌≤◌, ◌&&◌, ltb, Bool, true, refl, ◌∙◌, ap, arith, List, inl, inr, ℤ, pos, negsuc, ◌+ℤ◌, ◌-ℤ◌, unsigned_abs, int_lt, Some}
+use Rattle.std.specs.Int.{w64, cast_unsigned, int_rem_euclid}
+use Rattle.std.proofs.lemmas.Bool.{cases_lt, and_parts, ltb-true}
+use Rattle.std.proofs.lemmas.Int.{ints}
+use Rattle.std.proofs.lemmas.Nat.{pow_pos, mod_below}
+use Rattle.linker_base.specs.Bits.{field, signed}
+use Rattle.linker_base.specs.Form.{Written, place_sum, window_of}
+use Rattle.linker_base.specs.declared.bit_misc.BitRange.{BitRange}
+use Rattle.linker_base.proofs.Immediates.{layout_laid, always_clear, subst_below}
+use Rattle.linker_base.proofs.Pairs.{signed_cases, added}
+use Rattle.linker_utils.specs.Agrees.{bits_from}
+use Rattle.linker_utils.specs.Elf.{IsWithin, relocation_form}
+use Rattle.linker_utils.specs.LoongArch.{loongarch_form, reach, IsDistanceModulo}
+use Rattle.linker_utils.specs.Reach.{riscv_pair_bounds, call36_bounds, riscv_reach, loongarch_reach, reach_of_size}
+use Rattle.linker_utils.specs.Relocate.{bits_taken, takes_size, InstructionWritten, IsWritten, IsAligned, IsAccepted, CompletesHigh, RiscVHolds, LoongArchHolds, InstructionHolds, SizeHolds}
+use Rattle.linker_utils.specs.RiscV.{riscv_form, riscv_layout, riscv_places, ui_high, ui_low}
+use Rattle.linker_utils.specs.RiscVRows.{Bounds}
+use Rattle.linker_utils.specs.declared.elf.LoongArch64Instruction.{LoongArch64Instruction}
+use Rattle.linker_utils.specs.declared.elf.LoongArch64Instruction.TheVariants.{Call36}
+use Rattle.linker_utils.specs.declared.elf.RelocationInstruction.{RelocationInstruction}
+use Rattle.linker_utils.specs.declared.elf.RelocationInstruction.TheVariants.{AArch64, RiscV, Ppc64, LoongArch64}
+use Rattle.linker_utils.specs.declared.elf.RelocationKind.{RelocationKind}
+use Rattle.linker_utils.specs.declared.elf.RelocationKindInfo.{RelocationKindInfo}
+use Rattle.linker_utils.specs.declared.elf.RelocationSize.{RelocationSize}
+use Rattle.linker_utils.specs.declared.elf.RelocationSize.TheVariants.{ByteSize, BitMasking}
+use Rattle.linker_utils.specs.declared.elf.RiscVInstruction.{RiscVInstruction}
+use Rattle.linker_utils.specs.declared.elf.RiscVInstruction.TheVariants.{UType, IType, SType, UiType}
+use Rattle.linker_utils.proofs.Agreement.{rem_rem, from_zero}
+use Rattle.linker_utils.proofs.LoongArch.{loongarch_reaches}
+use Rattle.linker_utils.proofs.RiscV.{u_laid, ui_high_laid, ui_low_laid}
+use Rattle.linker_utils.proofs.Taken.{taken_is_field}
+
+-- The halves of f, whose low 32 bits are those of v, add up to v.
+module _ (f h l : ℕ) (high : h ≡ (f + 0x800) % 2 ^ 64 / 4096 % 1048576 * 4096) (low : l ≡ f % 4096) where
+  up : (n : ℕ) → f % 2 ^ 32 ≡ n → n < 2 ^ 31 - 0x800 → signed 32 h +ℤ signed 12 l ≡ pos n
+  up n e small =
+      elim (signed_cases 32 h) [
+        | inl a ↦ elim (signed_cases 12 l) [
+          | inl b ↦ added (signed 32 h) (signed 12 l) (pos h) (pos l) a.1 b.1 ∙ (let k = b.0 in let j = a.0 in omega (arith, ints))
+          | inr b ↦ added (signed 32 h) (signed 12 l) (pos h) (pos l -ℤ pos 4096) a.1 b.1 ∙ (let k = b.0 in let j = a.0 in omega (arith, ints))
+        ]
+        | inr a ↦ absurd (let j = a.0 in omega arith)
+      ]
+
+  down : (n : ℕ) → f % 2 ^ 32 ≡ 2 ^ 32 - suc n → n < 2 ^ 31 + 0x800 → signed 32 h +ℤ signed 12 l ≡ negsuc n
+  down n e small =
+      elim (signed_cases 32 h) [
+        | inl a ↦ elim (signed_cases 12 l) [
+          | inl b ↦ added (signed 32 h) (signed 12 l) (pos h) (pos l) a.1 b.1 ∙ (let k = b.0 in let j = a.0 in omega (arith, ints))
+          | inr b ↦ added (signed 32 h) (signed 12 l) (pos h) (pos l -ℤ pos 4096) a.1 b.1 ∙ (let k = b.0 in let j = a.0 in omega (arith, ints))
+        ]
+        | inr a ↦ elim (signed_cases 12 l) [
+          | inl b ↦ added (signed 32 h) (signed 12 l) (pos h -ℤ pos (2 ^ 32)) (pos l) a.1 b.1 ∙ (let k = b.0 in let j = a.0 in omega (arith, ints))
+          | inr b ↦ added (signed 32 h) (signed 12 l) (pos h -ℤ pos (2 ^ 32)) (pos l -ℤ pos 4096) a.1 b.1 ∙ (let k = b.0 in let j = a.0 in omega (arith, ints))
+        ]
+      ]
+
+  pub halves_make : (v : ℤ) → pos (f % 2 ^ 32) ≡ int_rem_euclid v (pos (2 ^ 32)) → IsWithin (Some riscv_pair_bounds) v → signed 32 h +ℤ signed 12 l ≡ v
+  halves_make (pos n) e within =
+      let small : n < 2 ^ 31 - 0x800 = omega (arith, ints, within.1) in
+      let same : f % 2 ^ 32 ≡ n % 2 ^ 32 = ap unsigned_abs e in
+      up n (omega arith) small
+  halves_make (negsuc n) e within =
+      let small : n < 2 ^ 31 + 0x800 = omega (arith, ints, within.0) in
+      let same : f % 2 ^ 32 ≡ 2 ^ 32 - 1 - n % 2 ^ 32 = ap unsigned_abs e in
+      down n (omega arith) small
+
+-- ---- what a written row holds
+
+-- the bits that are taken of a value have its low 32 bits
+taken_low : (bits : BitRange) (v : ℤ) → FitsSigned w64 v → bits.start ≡ 0 → 32 ≤ bits.end → bits.end ≤ 64
+    → pos (bits_taken bits v % 2 ^ 32) ≡ int_rem_euclid v (pos (2 ^ 32))
+taken_low bits v small start long inside =
+    let some : bits.start < bits.end = omega arith in
+    let e : pos (bits_taken bits v) ≡ int_rem_euclid (bits_from bits.start v) (pos (2 ^ (bits.end - bits.start))) = taken_is_field bits v small some inside in
+    let from : bits_from bits.start v ≡ v = ap (λ s. bits_from s v) start ∙ from_zero v in
+    rem_rem v (bits_taken bits v) (bits.end - bits.start) 32 (omega arith) (e ∙ ap (λ z. int_rem_euclid z (pos (2 ^ (bits.end - bits.start)))) from)
+
+taken_below : (bits : BitRange) (v : ℤ) → bits.end ≤ 64 → bits_taken bits v < 2 ^ 64
+taken_below bits v inside =
+    subst_below (bits_taken bits v) (bits.end - bits.start) 64
+    (mod_below (cast_unsigned w64 v / 2 ^ bits.start) (2 ^ (bits.end - bits.start)) (pow_pos (bits.end - bits.start))) (omega arith)
+
+completes : (low : RiscVInstruction) (bits : BitRange) (v : ℤ) (l after : ℕ) → (riscv_form low).machine after ≡ signed 12 l → l ≡ bits_taken bits v % 4096
+    → pos (bits_taken bits v % 2 ^ 32) ≡ int_rem_euclid v (pos (2 ^ 32)) → IsWithin (Some riscv_pair_bounds) v → CompletesHigh low bits v after
+completes low bits v l after reads is same within = λ neg before high laid.
+    let f = bits_taken bits v in
+    let h = place_sum (riscv_places UType) high in
+    added ((riscv_form UType).machine high) ((riscv_form low).machine after) (signed 32 h) (signed 12 l) refl reads
+    ∙ halves_make f h l (u_laid f before high laid) is v same within
+
+riscv_holds : (f : RiscVInstruction) (bits : BitRange) (own : Bounds) (v : ℤ) (neg : Bool) (before after : ℕ) → FitsSigned w64 v → bits.end ≤ 64
+    → IsWithin (riscv_reach f own) v → Written (riscv_form f) (bits_taken bits v) neg before after → bits.start ≡ 0 → 32 ≤ bits.end → RiscVHolds f bits v after
+riscv_holds IType bits own v neg before after small inside within laid start long =
+    let f = bits_taken bits v in
+    let sum = layout_laid (riscv_layout IType) refl f neg before after (taken_below bits v inside) laid (always_clear (riscv_places IType) before refl) in
+    completes IType bits v (place_sum (riscv_places IType) after) after refl (sum ∙ omega arith) (taken_low bits v small start long inside) within
+riscv_holds SType bits own v neg before after small inside within laid start long =
+    let f = bits_taken bits v in
+    let sum = layout_laid (riscv_layout SType) refl f neg before after (taken_below bits v inside) laid (always_clear (riscv_places SType) before refl) in
+    completes SType bits v (place_sum (riscv_places SType) after) after refl (sum ∙ omega arith) (taken_low bits v small start long inside) within
+riscv_holds UiType bits own v neg before after small inside within laid start long =
+    let f = bits_taken bits v in
+    let wide = taken_below bits v inside in
+    halves_make f (place_sum ui_high after) (place_sum ui_low after) (ui_high_laid f before after wide laid) (ui_low_laid f before after wide laid) v
+    (taken_low bits v small start long inside) within
+riscv_holds f bits own v neg before after small inside within laid start long = tt
+
+-- bits 2 to 37 of a distance below -2 ^ 37 are those of one 2 ^ 38 above it
+far_below : (n : ℕ) → 2 ^ 37 ≤ n → n < 2 ^ 37 + 2 ^ 17 → (2 ^ 64 - suc n) / 4 % 2 ^ 36 ≡ (2 ^ 38 - suc n) / 4 % 2 ^ 36
+far_below n low high = omega arith
+
+call36_holds : (f after : ℕ) (v : ℤ) → IsDistanceModulo f after → int_rem_euclid v (pos 4) ≡ pos 0 → f ≡ field (cast_unsigned w64 v) 2 38 → IsWithin (Some call36_bounds) v → reach after ≡ v
+call36_holds f after (pos n) goes aligned is within =
+    goes.near (pos n) (record { aligned = aligned; bits = is }) (omega (arith, ints)) (let u = within.1 in omega (arith, ints))
+call36_holds f after (negsuc n) goes aligned is within =
+    let reached : n < 2 ^ 37 + 2 ^ 17 = omega (arith, ints, within.0) in
+    elim (cases_lt n (2 ^ 37)) [
+      | inl near ↦ goes.near (negsuc n) (record { aligned = aligned; bits = is }) (omega (arith, ints)) (omega (arith, ints))
+      | inr past ↦
+          let d : ℤ = pos (2 ^ 38 - suc n) in
+          let multiple : 3 - n % 4 ≡ 0 = ap unsigned_abs aligned in
+          let even : int_rem_euclid d (pos 4) ≡ pos 0 = ap pos (let t : (2 ^ 38 - suc n) % 4 ≡ 0 = omega arith in t) in
+          let same : f ≡ field (2 ^ 38 - suc n) 2 38 = is ∙ far_below n past reached in
+          goes.far d (record { aligned = even; bits = same }) (omega (arith, ints)) (omega (arith, ints)) ∙ (omega (arith, ints))
+    ]
+
+loongarch_holds : (f : LoongArch64Instruction) (bits : BitRange) (own : Bounds) (v : ℤ) (neg : Bool) (before after : ℕ) → bits.end ≤ 64
+    → IsWithin (loongarch_reach f own) v → Written (loongarch_form f) (bits_taken bits v) neg before after → bits.start ≡ 2 → bits.end ≡ 38 → IsAligned 4 v → LoongArchHolds f v after
+loongarch_holds Call36 bits own v neg before after inside within laid start end aligned =
+    let f = bits_taken bits v in
+    let is : f ≡ field (cast_unsigned w64 v) 2 38 = ap (λ s. field (cast_unsigned w64 v) s bits.end) start ∙ ap (λ e. field (cast_unsigned w64 v) 2 e) end in
+    call36_holds f after v (loongarch_reaches Call36 f neg before after (taken_below bits v inside) laid) aligned is within
+loongarch_holds f bits own v neg before after inside within laid start end aligned = tt
+
+instruction_holds : (insn : RelocationInstruction) (bits : BitRange) (own : Bounds) (v : ℤ) (before after : List ℕ) → FitsSigned w64 v → bits.end ≤ 64
+    → IsWithin (reach_of_size (BitMasking bits insn) own) v → InstructionWritten insn bits v before after → InstructionHolds insn bits v (window_of (relocation_form insn) after)
+instruction_holds (AArch64 f) bits own v before after small inside within w = tt
+instruction_holds (RiscV f) bits own v before after small inside within w =
+    riscv_holds f bits own v (int_lt v (pos 0)) w.clear (window_of (riscv_form f) after) small inside within w.written
+instruction_holds (Ppc64 f) bits own v before after small inside within w = tt
+instruction_holds (LoongArch64 f) bits own v before after small inside within w =
+    loongarch_holds f bits own v (int_lt v (pos 0)) w.clear (window_of (loongarch_form f) after) inside within w.written
+
+size_holds : (size : RelocationSize) (kind : RelocationKind) (own : Bounds) (v : ℤ) (before after : List ℕ) → FitsSigned w64 v → takes_size kind size ≡ true
+    → IsWithin (reach_of_size size own) v → IsWritten size kind v before after → SizeHolds size v after
+size_holds (ByteSize n) kind own v before after small takes within w = tt
+size_holds (BitMasking bits insn) kind own v before after small takes within w =
+    let t = and_parts (ltb bits.start bits.end) (ltb bits.end 65) takes in
+    let below = ltb-true bits.end 65 t.1 in
+    instruction_holds insn bits own v before after small (omega arith) within w
+
+pub row_holds : (row : RelocationKindInfo) (v : ℤ) (before after : List ℕ) → FitsSigned w64 v → IsAccepted row v before → IsWritten row.size row.kind v before after
+    → SizeHolds row.size v after
+row_holds row v before after small accepted w =
+    let parts = and_parts (takes_size row.kind row.size && ltb 0 row.alignment) (ltb row.alignment (2 ^ 63)) accepted.supported in
+    let takes = and_parts (takes_size row.kind row.size) (ltb 0 row.alignment) parts.0 in
+    size_holds row.size row.kind row.range.bounds v before after small takes.0 accepted.reached.0 w
