@@ -551,6 +551,60 @@ static void call_relocation_name(void) {
     finish_with(status, 0 NO_RELOCATION OR(TOO_SHORT));
 }
 
+static void call_value(void) {
+    uint16_t machine = any_machine();
+    struct buffer *given = place(READ, 1, sizeof(struct linker_utils_operands));
+    uint64_t *operand = filled(given);
+    for (size_t i = 0; i < given->len / sizeof *operand; i++) operand[i] = any_number();
+    int64_t *value = output(sizeof(int64_t));
+    uint32_t status = CALL(value, machine, any_relocation_type(), given->given, value);
+    finish_with(status, 0 NO_RELOCATION OR(NO_VALUE));
+}
+
+static void call_reach(void) {
+    uint16_t machine = any_machine();
+    struct linker_utils_relocation_reach *reach = output(sizeof *reach);
+    uint32_t status = CALL(reach, machine, any_relocation_type(), reach);
+    if (status == LINKER_UTILS_OK) {
+        expect(reach->has_range <= 1 && reach->min <= reach->max, "no reach");
+    }
+    finish_with(status, 0 NO_RELOCATION);
+}
+
+#define NOT_RELOCATED \
+    NO_RELOCATION OR(ULEB128_PAIR) OR(TOO_SHORT) OR(MISALIGNED) OR(OUT_OF_REACH)
+
+static void call_relocate(void) {
+    uint16_t machine = any_machine();
+    struct buffer *dest = bytes(WRITTEN, any_len(16));
+    int64_t value = (int64_t)(once_in(2) ? below(4096) : any_number());
+    changes(dest, 0, 8);
+    uint32_t status = CALL(relocate, machine, any_relocation_type(), value, dest->given, dest->len);
+    finish_with(status, 0 NOT_RELOCATED);
+}
+
+/* What stands before the relocation that is rejected is written. */
+static void call_relocate_all(void) {
+    uint16_t machine = any_machine();
+    struct buffer *section = bytes(WRITTEN, any_section_len());
+    size_t count = any_len(6);
+    struct buffer *given =
+        place(READ, count, sizeof(struct linker_utils_relocation_entry));
+    struct linker_utils_relocation_entry *entry = filled(given);
+    for (size_t i = 0; i < count; i++) {
+        int64_t value = (int64_t)(once_in(2) ? 4 * below(64) : any_number());
+        uint32_t r_type = once_in(8) ? any_relocation_type() : (uint32_t)below(60);
+        entry[i] = (struct linker_utils_relocation_entry){any_offset(section->len), value, r_type};
+    }
+    size_t *faulty = any_faulty();
+    uint32_t status = CALL(relocate_all, machine, section->given, section->len, given->given, count,
+                           faulty);
+    expect_status(status, 0 NOT_RELOCATED);
+    bool is_of_entry = status != LINKER_UTILS_OK && status != LINKER_UTILS_UNKNOWN_ARCHITECTURE;
+    finish_faulty(faulty, is_of_entry, count);
+    finish(status == LINKER_UTILS_OK || is_of_entry);
+}
+
 static void call_clui_rel_info(void) {
     struct linker_utils_relocation_info *info = output(sizeof *info);
     CALL(clui_rel_info, info);
@@ -808,13 +862,42 @@ static void call_pack(void) {
                             OR(TOO_FAR));
 }
 
+/* `calls_shrinkable`, and `shrink_calls` where that says that it will do. */
+static void call_shrink_calls(void) {
+    struct buffer *listed = deltas(any_count());
+    size_t count = once_in(100) ? below(600) : any_len(4);
+    struct buffer *given = place(READ, count, sizeof(struct linker_utils_call));
+    struct linker_utils_call *call = filled(given);
+    uint64_t site = once_in(8) ? any_number() : 8 * below(3);
+    for (size_t i = 0; i < count; i++) {
+        call[i] = (struct linker_utils_call){site, once_in(4) ? any_number() : 8 * below(64)};
+        site += once_in(8) ? any_number() : 8 * (1 + below(4));
+    }
+    size_t len = once_in(8) ? any_len(8) : count;
+    struct buffer *chosen = bytes(WRITTEN, len);
+    size_t *faulty = any_faulty();
+    uint32_t can = CALL(calls_shrinkable, DELTAS(listed), given->given, count, faulty);
+    expect_status(can, 0 OR(CALLS_NOT_SHRINKABLE));
+    finish_faulty(faulty, can != LINKER_UTILS_OK, count);
+    finish_buffers(false);
+    uint32_t status = CALL(shrink_calls, DELTAS(listed), given->given, count, chosen->given, len,
+                           faulty);
+    expect(status == (len != count ? LINKER_UTILS_DIFFERENT_LENGTHS : can),
+           "`calls_shrinkable` and `shrink_calls` differ");
+    finish_faulty(faulty, status == LINKER_UTILS_CALLS_NOT_SHRINKABLE, count);
+    const uint8_t *is = filled(chosen);
+    for (size_t i = 0; status == LINKER_UTILS_OK && i < count; i++) expect(is[i] <= 1, "no choice");
+    finish_with(status, 0 OR(DIFFERENT_LENGTHS) OR(CALLS_NOT_SHRINKABLE));
+}
+
 static void (*const all[])(void) = {
     call_status_text, call_window, call_write, call_read, call_apply, call_next_modifier,
-    call_relocation, call_relocation_name, call_clui_rel_info, call_jal_site, call_relax_call,
+    call_relocation, call_relocation_name, call_value, call_reach, call_relocate, call_relocate_all,
+    call_clui_rel_info, call_jal_site, call_relax_call,
     call_tests, call_write_mov_sequence, call_write_address_sequence, call_write_ha_lo,
     call_u32_from_slice, call_u64_from_slice, call_read_u32, call_read_uleb128, call_deltas_create,
     call_deltas_merge, call_deltas_total_deleted, call_translations, call_deltas_translate_all,
-    call_deltas_heads, call_pack,
+    call_deltas_heads, call_pack, call_shrink_calls,
 };
 
 int main(int count, char **arguments) {
