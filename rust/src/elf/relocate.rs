@@ -176,6 +176,8 @@ impl RelocationKindInfo {
     ///   range. The bits that the form only ORs need not be 0 before. All other bits stay, except
     ///   for the opcode that `Movnz` sets by the value's sign; its shift has to be the first of the
     ///   relocation's bits.
+    /// - RISC-V's `UiType`, or a high half and a low half of one value, make the value itself, and so
+    ///   does LoongArch's `Call36`.
     /// - All bytes behind `window` stay. A relocation without a value writes nothing.
     ///
     /// ```
