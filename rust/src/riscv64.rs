@@ -5,6 +5,7 @@
 
 mod calls;
 mod forms;
+pub mod laws;
 mod relocations;
 mod rewrites;
 

@@ -15,6 +15,7 @@ pub mod Packed
 pub mod Ppc64Forms
 pub mod Ppc64Pairs
 pub mod Relocated
+pub mod RelocationLaws
 pub mod RiscV
 pub mod RiscVRewrites
 pub mod RowsAgree

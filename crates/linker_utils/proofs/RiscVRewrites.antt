@@ -68,7 +68,7 @@ high_below x h f =
     let g = subst (λ z. int_div_euclid z (pos 4096) ≤ℤ pos 31) (to_z_pos w64 x h) f in
     omega (arith, ints)
 
-cast_negative : (x : ℕ) → x < 2 ^ 64 → 2 ^ 63 ≤ x → cast_signed w64 x ≡ negsuc (2 ^ 64 - suc x)
+pub cast_negative : (x : ℕ) → x < 2 ^ 64 → 2 ^ 63 ≤ x → cast_signed w64 x ≡ negsuc (2 ^ 64 - suc x)
 cast_negative x h l =
     let e : x ≡ 2 ^ 64 - suc (2 ^ 64 - suc x) = omega arith in
     ap (cast_signed w64) e ∙ to_z-neg w64 (2 ^ 64 - suc x) (omega arith)

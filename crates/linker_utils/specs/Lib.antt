@@ -14,6 +14,7 @@ pub mod Ppc64Names
 pub mod Ppc64Rows
 pub mod Reach
 pub mod Relocate
+pub mod RelocationLaws
 pub mod RiscV
 pub mod RiscVNames
 pub mod RiscVRows

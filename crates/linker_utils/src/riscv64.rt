@@ -3,6 +3,7 @@
 
 mod calls;
 mod forms;
+pub mod laws;
 mod relocations;
 mod rewrites;
 
