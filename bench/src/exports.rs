@@ -22,6 +22,7 @@ pub struct Calls {
     pub hi20_is_zero: unsafe extern "C" fn(u64) -> bool,
     pub highest: unsafe extern "C" fn(u64, u64) -> u64,
     pub relocate: fn(u16, &[Fixup], &mut [u8]) -> bool,
+    pub relocate_all: for<'a> fn(u16, &'a [Fixup]) -> Option<RelocateAll<'a>>,
     pub deltas: fn(&[(u64, u32)]) -> Box<dyn Deltas>,
     pub new_side: for<'a> fn(&'a [(u64, u32)]) -> Side<'a>,
     pub merge_side: for<'a> fn(&'a [(u64, u32)], &'a [(u64, u32)]) -> Side<'a>,
@@ -45,6 +46,18 @@ pub const EXPORTS: Calls = Calls {
     hi20_is_zero: linker_utils_hi20_is_zero,
     highest: linker_utils_highest_relocation_with_bias,
     relocate,
+    relocate_all: |machine, list| {
+        let architecture = sathunne::Architecture::from_machine(machine)?;
+        let entry = |fixup: &Fixup| sathunne::Relocation {
+            offset: fixup.offset as u64,
+            value: fixup.value,
+            r_type: fixup.r_type,
+        };
+        let entries: Vec<sathunne::Relocation> = list.iter().map(entry).collect();
+        Some(Box::new(move |section| {
+            sathunne::relocate_all(architecture, section, &entries).is_ok()
+        }))
+    },
     deltas: |list| Box::new(created(&deletions_of(list))),
     new_side: |list| {
         let list = deletions_of(list);
@@ -89,6 +102,10 @@ pub const EXPORTS: Calls = Calls {
 };
 
 impl Library for Calls {
+    fn relocate_all<'a>(&self, machine: u16, list: &'a [Fixup]) -> Option<RelocateAll<'a>> {
+        (self.relocate_all)(machine, list)
+    }
+
     fn write(&self, _mix: Mix, values: &[Value], words: &mut [u8]) {
         let write = black_box(self.write);
         for (value, word) in values.iter().zip(words.chunks_exact_mut(WINDOW)) {
