@@ -78,8 +78,10 @@ bits_taken bits v = field (cast_unsigned w64 v) bits.start bits.end
 -- The instruction's places are cleared, and then the value's bits are written with its sign. All other bytes stay.
 pub record InstructionWritten (insn : RelocationInstruction) (bits : BitRange) (v : ℤ) (before after : List ℕ) : Type 0 where
   pub clear : ℕ
-  pub clears : BitsWritten (places_cleared insn bits (window_of (relocation_form insn) before)) 0 (window_of (relocation_form insn) before) clear
-  pub written : Written (relocation_form insn) (bits_taken bits v) (int_lt v (pos 0)) clear (window_of (relocation_form insn) after)
+  pub clears : BitsWritten (places_cleared insn bits (window_of (relocation_form insn) before)) 0
+      (window_of (relocation_form insn) before) clear
+  pub written : Written (relocation_form insn) (bits_taken bits v) (int_lt v (pos 0)) clear
+      (window_of (relocation_form insn) after)
   pub rest : drop (byte_len (relocation_form insn).window) after ≡ drop (byte_len (relocation_form insn).window) before
 
 -- ---- what is written
@@ -93,10 +95,12 @@ IsWritten (BitMasking bits insn) kind v before after = InstructionWritten insn b
 -- `Shift10` is one of 16 bits. What a half or a pair of instructions holds is said elsewhere.
 abbrev pub InstructionReads : Bool → RelocationInstruction → BitRange → Option (ℤ × ℤ) → ℤ → ℕ → ℕ → Type 0
 InstructionReads is_signed (AArch64 f) bits bounds v before after =
-    (f ≡ Movnz → shift_of before ≡ bits.start) → IsSameIn bounds (bits.end - bits.start) (aarch64_reads f bits.start after) (bits_from bits.start v)
+    (f ≡ Movnz → shift_of before ≡ bits.start)
+    → IsSameIn bounds (bits.end - bits.start) (aarch64_reads f bits.start after) (bits_from bits.start v)
 InstructionReads is_signed (RiscV f) bits bounds v before after =
     is_of_halves f ≡ false → IsSameIn bounds (bits.end - bits.start) ((riscv_form f).machine after) (bits_from bits.start v)
-InstructionReads is_signed (Ppc64 f) bits bounds v before after = IsSameIn bounds (bits.end - bits.start) ((ppc64_form f).machine after) (bits_from bits.start v)
+InstructionReads is_signed (Ppc64 f) bits bounds v before after =
+    IsSameIn bounds (bits.end - bits.start) ((ppc64_form f).machine after) (bits_from bits.start v)
 InstructionReads is_signed (LoongArch64 f) bits bounds v before after =
     is_of_words f ≡ false → (f ≡ Shift10 → is_signed ≡ true → 12 < bits.end - bits.start)
     → IsSameIn bounds (bits.end - bits.start) (loongarch_reads f is_signed after) (bits_from bits.start v)
@@ -163,7 +167,8 @@ IsCause row v bytes OutOfReach =
 -- a low half completes each high half that was written of the same value's bits
 abbrev pub CompletesHigh : RiscVInstruction → BitRange → ℤ → ℕ → Type 0
 CompletesHigh low bits v after =
-    (neg : Bool) (before high : ℕ) → Written (riscv_form UType) (bits_taken bits v) neg before high → (riscv_form UType).machine high +ℤ (riscv_form low).machine after ≡ v
+    (neg : Bool) (before high : ℕ) → Written (riscv_form UType) (bits_taken bits v) neg before high
+    → (riscv_form UType).machine high +ℤ (riscv_form low).machine after ≡ v
 
 abbrev pub RiscVHolds : RiscVInstruction → BitRange → ℤ → ℕ → Type 0
 RiscVHolds IType bits v after = CompletesHigh IType bits v after

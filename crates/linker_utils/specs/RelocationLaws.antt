@@ -35,5 +35,6 @@ AddressesAreTheSymbols =
     IfSome (riscv_row R_RISCV_PCREL_HI20) (λ high. IfSome (riscv_row R_RISCV_PCREL_LO12_I) (λ low.
     (o : Operands) (auipc auipc_after addi addi_after : List ℕ) → o.place < 2 ^ 64
     → IsApplied high o auipc auipc_after → IsApplied low o addi addi_after
-    → GoesTo o.place ((riscv_form UType).machine (from_le_bytes w32 auipc_after) +ℤ (riscv_form IType).machine (from_le_bytes w32 addi_after))
+    → GoesTo o.place
+    ((riscv_form UType).machine (from_le_bytes w32 auipc_after) +ℤ (riscv_form IType).machine (from_le_bytes w32 addi_after))
     (sum_64 o.symbol (cast_unsigned w64 o.addend))))

@@ -92,6 +92,7 @@ pub record IsFirstRejected (architecture : Architecture) (relocations : List Rel
   pub rejected : (r : Relocation) → IsApplied architecture (slice_index_or relocations at r) middle after status
 
 -- all succeed, or the status is that of the first that doesn't
-pub record AreRelocatedOrRejected (architecture : Architecture) (relocations : List Relocation) (before after : List ℕ) (old_faulty faulty status : ℕ) : Type 0 where
+pub record AreRelocatedOrRejected (architecture : Architecture) (relocations : List Relocation) (before after : List ℕ)
+    (old_faulty faulty status : ℕ) : Type 0 where
   pub success : status ≡ code Success → AreRelocated architecture relocations before after × (faulty ≡ old_faulty)
   pub rejected : (status ≢ code Success) → IsFirstRejected architecture relocations before after faulty status

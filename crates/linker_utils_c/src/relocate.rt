@@ -22,7 +22,8 @@ pub extern "C" fn linker_utils_value(
 ) -> u32
     ensures known { IfSome (architecture_of machine) (λ architecture. (meaning : Option RelocationKindInfo)
         × IsMeaning architecture r_type meaning × IsValueOf meaning operands.now result value.old value.new) }
-    ensures unknown { IfNone (architecture_of machine) ((result ≡ code Status.UnknownArchitecture) × (value.new ≡ value.old)) }
+    ensures unknown { IfNone (architecture_of machine)
+        ((result ≡ code Status.UnknownArchitecture) × (value.new ≡ value.old)) }
 {
     let Some(architecture) = Architecture::from_machine(machine) else {
         return Status::UnknownArchitecture.number();
@@ -56,7 +57,8 @@ pub struct Reach {
 pub extern "C" fn linker_utils_reach(machine: u16, r_type: u32, reach: &mut Reach) -> u32
     ensures known { IfSome (architecture_of machine) (λ architecture. (meaning : Option RelocationKindInfo)
         × IsMeaning architecture r_type meaning × IsReachOf meaning result reach.old reach.new) }
-    ensures unknown { IfNone (architecture_of machine) ((result ≡ code Status.UnknownArchitecture) × (reach.new ≡ reach.old)) }
+    ensures unknown { IfNone (architecture_of machine)
+        ((result ≡ code Status.UnknownArchitecture) × (reach.new ≡ reach.old)) }
 {
     let Some(architecture) = Architecture::from_machine(machine) else {
         return Status::UnknownArchitecture.number();
@@ -112,8 +114,10 @@ pub extern "C" fn linker_utils_relocate_nonnull(
     value: i64,
     dest: &mut [u8],
 ) -> u32
-    ensures known { IfSome (architecture_of machine) (λ architecture. IsRelocated architecture r_type value dest.old dest.new result) }
-    ensures unknown { IfNone (architecture_of machine) ((result ≡ code Status.UnknownArchitecture) × (dest.new ≡ dest.old)) }
+    ensures known { IfSome (architecture_of machine) (λ architecture.
+        IsRelocated architecture r_type value dest.old dest.new result) }
+    ensures unknown { IfNone (architecture_of machine)
+        ((result ≡ code Status.UnknownArchitecture) × (dest.new ≡ dest.old)) }
 {
     let Some(architecture) = Architecture::from_machine(machine) else {
         return Status::UnknownArchitecture.number();
@@ -188,8 +192,11 @@ pub extern "C" fn linker_utils_relocate_all_nonnull(
     relocations: &[Relocation],
     faulty: &mut usize,
 ) -> u32
-    ensures known { IfSome (architecture_of machine) (λ architecture. AreRelocatedOrRejected architecture relocations.now section.old section.new faulty.old faulty.new result) }
-    ensures unknown { IfNone (architecture_of machine) ((result ≡ code Status.UnknownArchitecture) × (section.new ≡ section.old) × (faulty.new ≡ faulty.old)) }
+    ensures known { IfSome (architecture_of machine) (λ architecture.
+        AreRelocatedOrRejected architecture relocations.now section.old section.new
+        faulty.old faulty.new result) }
+    ensures unknown { IfNone (architecture_of machine)
+        ((result ≡ code Status.UnknownArchitecture) × (section.new ≡ section.old) × (faulty.new ≡ faulty.old)) }
 {
     let Some(architecture) = Architecture::from_machine(machine) else {
         return Status::UnknownArchitecture.number();

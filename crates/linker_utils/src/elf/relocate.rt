@@ -252,8 +252,10 @@ impl RelocationKindInfo {
     /// ```
     #[inline]
     pub fn write(&self, value: i64, dest: &mut [u8]) -> Result<(), RelocateError>
-        ensures ok { OnOk result (IsAccepted self.now value dest.old × IsWritten self.now.size self.now.kind value dest.old dest.new) }
-        ensures machine { OnOk result ((is_signed : Bool) → AgreesBy is_signed self.now → SizeReads is_signed self.now.size self.now.range.bounds value dest.old dest.new) }
+        ensures ok { OnOk result (IsAccepted self.now value dest.old
+            × IsWritten self.now.size self.now.kind value dest.old dest.new) }
+        ensures machine { OnOk result ((is_signed : Bool) → AgreesBy is_signed self.now
+            → SizeReads is_signed self.now.size self.now.range.bounds value dest.old dest.new) }
         ensures pairs { OnOk result (SizeHolds self.now.size value dest.new) }
         ensures err { IfErr result (λ error. IsCause self.now value dest.old error × (dest.new ≡ dest.old)) }
     {
