@@ -1,4 +1,4 @@
-//! A call of each group of the static library's exports.
+//! Calls of the static library: a row, a write, a rewrite, deltas and a ULEB128 number.
 
 use sathunne::*;
 
