@@ -1,6 +1,6 @@
 // Made by tools/erase of crates/linker_utils/src/elf.rt.
-//! The vocabulary of relocations, the forms of instructions that hold a value, and the interfaces of
-//! forms and of rewrites.
+//! The vocabulary of relocations, the forms of instructions that hold a value, and the interfaces
+//! of forms and of rewrites.
 #![doc = include_str!("../doc/elf.md")]
 
 pub(crate) mod engine;
@@ -393,8 +393,8 @@ pub trait InstructionForm: Copy {
 /// A rewrite of the instruction at an offset of a section, as relaxations apply it: which bytes it
 /// changes, and what becomes of the relocation there and of the next one.
 pub trait InstructionRewrite: Copy {
-    /// Rewrites the instruction at an offset of a section. The offset and the addend become those of
-    /// the relocation after it; all other bytes stay.
+    /// Rewrites the instruction at an offset of a section. The offset and the addend become those
+    /// of the relocation after it; all other bytes stay.
     ///
     /// # Requires
     ///

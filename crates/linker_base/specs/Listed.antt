@@ -1,4 +1,5 @@
--- Deltas that list valid deletions, and the first faulty one of deletions that are not valid or overlap.
+-- Deltas that list valid deletions, and the first faulty one of deletions that are not valid or
+-- overlap.
 use Rattle.std.specs.Prelude.{ℕ, ◌+◌, ◌++◌, ◌<◌, List, length, map, take}
 use Rattle.linker_base.specs.declared.relaxation.RelaxDelta.{RelaxDelta}
 use Rattle.linker_base.specs.Deletions.{AreDisjoint, IsValid}

@@ -25,7 +25,8 @@ pub record IsFirstNotApart (calls : List (ℕ × ℕ)) (at : ℕ) : Type 0 where
   pub before : AreApart (take at calls)
   pub here : ¬ AreApart (take (at + 1) calls)
 
--- the bytes that say which register the jump links lie in the section, and the target isn't past its end
+-- the bytes that say which register the jump links lie in the section, and the target isn't past
+-- its end
 abbrev pub IsCallInSection : LinkRegister → List ℕ → ℕ × ℕ → Type 0
 IsCallInSection link section call = (call.0 + call_len link ≤ length section) × (call.1 ≤ length section)
 
@@ -67,8 +68,8 @@ IsFirstFailing deletions section calls (RejectedCall at error) = IsFirstRejected
 abbrev pub IsNotAt : ℕ → ℕ × ℕ → Type 0
 IsNotAt p call = (call.0 ≤ p → call.0 + 4 ≤ p)
 
--- The kept bytes of the section, in order, but for the four at each call's site: there stands a `jal` from where the
--- site goes to where the target goes.
+-- The kept bytes of the section, in order, but for the four at each call's site: there stands a
+-- `jal` from where the site goes to where the target goes.
 pub record IsPacked (link : LinkRegister) (deletions : List (ℕ × ℕ)) (section : List ℕ) (calls : List (ℕ × ℕ)) (packed : List ℕ) : Type 0 where
   pub len : length packed ≡ rank deletions (length section)
   pub kept : (y p : ℕ) → p < length section → IsSelected deletions y p → All (IsNotAt p) calls → slice_index packed y ≡ slice_index section p

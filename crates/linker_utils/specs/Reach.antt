@@ -1,5 +1,6 @@
--- Which values of a relocation the machine reads back as they are, or the psABI allows: the row's own range, and for halves and
--- pairs of instructions, and where the psABI checks what the row doesn't, the ranges below.
+-- Which values of a relocation the machine reads back as they are, or the psABI allows: the row's
+-- own range, and for halves and pairs of instructions, and where the psABI checks what the row
+-- doesn't, the ranges below.
 use Rattle.std.specs.Prelude.{◌+◌, ◌-◌, ◌^◌, ◌==◌, if◌then◌else◌, Some, None, ℤ, pos, neg_ℤ, nat_lt}
 use Rattle.linker_base.specs.declared.bit_misc.BitRange.{BitRange}
 use Rattle.linker_utils.specs.Elf.{bit_bounds}
@@ -30,8 +31,8 @@ clui_bounds = (neg_ℤ (pos 0x20800), pos 0x1f800)
 abbrev pub call36_bounds : ℤ × ℤ
 call36_bounds = (neg_ℤ (pos (2 ^ 37 + 0x20000)), pos (2 ^ 37 - 0x20000))
 
--- MOVN and MOVZ of bits up to 16, 32 or 48: the value is as short, or its complement is (MOVW_PREL and MOVW_GOTOFF of G0 to G2,
--- and those of TLS)
+-- MOVN and MOVZ of bits up to 16, 32 or 48: the value is as short, or its complement is (MOVW_PREL
+-- and MOVW_GOTOFF of G0 to G2, and those of TLS)
 abbrev pub aarch64_reach : AArch64Instruction → BitRange → Bounds → Bounds
 aarch64_reach Movnz bits None = if nat_lt 48 bits.end then None else Some (bit_bounds (bits.end + 1) Signed)
 aarch64_reach insn bits own = own

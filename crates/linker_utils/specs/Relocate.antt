@@ -41,8 +41,8 @@ low_bytes n number = take n (to_le_bytes w64 number)
 abbrev pub with_low_6 : ℕ → ℕ → ℕ
 with_low_6 old new = old - old % 64 + new % 64
 
--- the number that is written over another, modulo 2 ^ 64: what is added to, what is subtracted from, the value in 6 bits, and
--- else the value
+-- the number that is written over another, modulo 2 ^ 64: what is added to, what is subtracted
+-- from, the value in 6 bits, and else the value
 abbrev pub number_written : RelocationKind → ℤ → ℕ → ℕ
 number_written AbsoluteAddition v old = sum_64 old (cast_unsigned w64 v)
 number_written AbsoluteSubtraction v old = difference_64 old (cast_unsigned w64 v)
@@ -63,8 +63,9 @@ abbrev pub ored_cleared : List ImmediateBit → List ImmediateBit
 ored_cleared [] = []
 ored_cleared (p ∷ ps) = clearing p.mark p (ored_cleared ps)
 
--- The places that are cleared before a write: those that the form only ORs. LoongArch's `Shift10` with an immediate of 12 bits
--- has a part of its opcode there. No form of RISC-V or PowerPC64 has such places.
+-- The places that are cleared before a write: those that the form only ORs. LoongArch's `Shift10`
+-- with an immediate of 12 bits has a part of its opcode there. No form of RISC-V or PowerPC64 has
+-- such places.
 abbrev pub places_cleared : RelocationInstruction → BitRange → ℕ → List ImmediateBit
 places_cleared (AArch64 f) bits x = ored_cleared ((aarch64_form f).places x)
 places_cleared (RiscV f) bits x = []
@@ -75,7 +76,8 @@ places_cleared (LoongArch64 f) bits x = if nat_lt 12 (bits.end - bits.start) the
 abbrev pub bits_taken : BitRange → ℤ → ℕ
 bits_taken bits v = field (cast_unsigned w64 v) bits.start bits.end
 
--- The instruction's places are cleared, and then the value's bits are written with its sign. All other bytes stay.
+-- The instruction's places are cleared, and then the value's bits are written with its sign. All
+-- other bytes stay.
 pub record InstructionWritten (insn : RelocationInstruction) (bits : BitRange) (v : ℤ) (before after : List ℕ) : Type 0 where
   pub clear : ℕ
   pub clears : BitsWritten (places_cleared insn bits (window_of (relocation_form insn) before)) 0
@@ -90,9 +92,10 @@ abbrev pub IsWritten : RelocationSize → RelocationKind → ℤ → List ℕ �
 IsWritten (ByteSize n) kind v before after = after ≡ low_bytes n (number_written kind v (number_of_bytes n before)) ++ drop n before
 IsWritten (BitMasking bits insn) kind v before after = InstructionWritten insn bits v before after
 
--- The machine reads the value's bits from the range's start up, modulo the range's size where the row isn't checked. MOVN and
--- MOVZ shift what they hold, so their shift has to be the range's start. An immediate in two's complement of a LoongArch
--- `Shift10` is one of 16 bits. What a half or a pair of instructions holds is said elsewhere.
+-- The machine reads the value's bits from the range's start up, modulo the range's size where the
+-- row isn't checked. MOVN and MOVZ shift what they hold, so their shift has to be the range's
+-- start. An immediate in two's complement of a LoongArch `Shift10` is one of 16 bits. What a half
+-- or a pair of instructions holds is said elsewhere.
 abbrev pub InstructionReads : Bool → RelocationInstruction → BitRange → Option (ℤ × ℤ) → ℤ → ℕ → ℕ → Type 0
 InstructionReads is_signed (AArch64 f) bits bounds v before after =
     (f ≡ Movnz → shift_of before ≡ bits.start)
@@ -112,7 +115,8 @@ SizeReads is_signed (BitMasking bits insn) bounds v before after =
 
 -- ---- what is rejected
 
--- the rows of a pair of relocations of a ULEB128 number: those of the first of a pair have kind `Relative` and no bytes
+-- the rows of a pair of relocations of a ULEB128 number: those of the first of a pair have kind
+-- `Relative` and no bytes
 abbrev pub is_of_uleb128 : RelocationKind → ℕ → Bool
 is_of_uleb128 PairSubtractionULEB128RiscV n = true
 is_of_uleb128 PairSubtractionULEB128LoongArch n = true
@@ -180,8 +184,8 @@ abbrev pub LoongArchHolds : LoongArch64Instruction → ℤ → ℕ → Type 0
 LoongArchHolds Call36 v after = reach after ≡ v
 LoongArchHolds f v after = ⊤
 
--- RISC-V's pairs make the value of which the low 32 bits, or more, were taken; LoongArch's `pcaddu18i` and `jirl` go as far as
--- the multiple of 4 of which bits 2 to 37 were.
+-- RISC-V's pairs make the value of which the low 32 bits, or more, were taken; LoongArch's
+-- `pcaddu18i` and `jirl` go as far as the multiple of 4 of which bits 2 to 37 were.
 abbrev pub InstructionHolds : RelocationInstruction → BitRange → ℤ → ℕ → Type 0
 InstructionHolds (AArch64 f) bits v after = ⊤
 InstructionHolds (RiscV f) bits v after = bits.start ≡ 0 → 32 ≤ bits.end → RiscVHolds f bits v after

@@ -1,4 +1,5 @@
--- What RISC-V's relocated pairs compute (RISC-V ELF psABI, "PC-Relative Symbol Addresses" and "Procedure Calls").
+-- What RISC-V's relocated pairs compute (RISC-V ELF psABI, "PC-Relative Symbol Addresses" and
+-- "Procedure Calls").
 use Rattle.std.specs.Prelude.{◌≡◌, ℕ, ◌^◌, ◌<◌, List, Some, IfSome, ℤ, pos, ◌+ℤ◌}
 use Rattle.std.specs.Int.{w32, w64, cast_unsigned, from_le_bytes, int_rem_euclid}
 use Rattle.linker_utils.specs.Relocate.{IsAccepted, IsWritten}
@@ -17,7 +18,8 @@ pub record IsApplied (row : RelocationKindInfo) (o : Operands) (before after : L
   pub accepted : IsAccepted row value before
   pub written : IsWritten row.size row.kind value before after
 
--- The instruction at the place that adds a distance to its own address computes the target, modulo 2 ^ 64.
+-- The instruction at the place that adds a distance to its own address computes the target, modulo
+-- 2 ^ 64.
 abbrev pub GoesTo : ℕ → ℤ → ℕ → Type 0
 GoesTo place distance target = int_rem_euclid (pos place +ℤ distance) (pos (2 ^ 64)) ≡ pos target
 
@@ -28,8 +30,8 @@ CallsReachTheirTarget =
     (o : Operands) (before after : List ℕ) → o.place < 2 ^ 64 → IsApplied row o before after
     → GoesTo o.place ((riscv_form UiType).machine (from_le_bytes w64 after)) (sum_64 o.plt_entry (cast_unsigned w64 o.addend)))
 
--- `auipc`, and an instruction that adds its low half to that, compute the symbol's address plus the addend. The low half is
--- relocated by the operands of the high half.
+-- `auipc`, and an instruction that adds its low half to that, compute the symbol's address plus the
+-- addend. The low half is relocated by the operands of the high half.
 abbrev pub AddressesAreTheSymbols : Type 0
 AddressesAreTheSymbols =
     IfSome (riscv_row R_RISCV_PCREL_HI20) (λ high. IfSome (riscv_row R_RISCV_PCREL_LO12_I) (λ low.

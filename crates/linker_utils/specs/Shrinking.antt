@@ -1,5 +1,6 @@
--- Which calls become jumps when each that does gives up the four bytes after its first instruction (RISC-V ELF psABI,
--- "Function Call Relaxation"). A choice of calls is a list of truth values, one for each call.
+-- Which calls become jumps when each that does gives up the four bytes after its first instruction
+-- (RISC-V ELF psABI, "Function Call Relaxation"). A choice of calls is a list of truth values, one
+-- for each call.
 use Rattle.std.specs.Prelude.{◌≡◌, ℕ, ◌+◌, ◌<◌, ◌≤◌, Bool, true, false, List, [], ◌∷◌, ◌++◌, All, AllPairs, length, map, slice_index_or, take}
 use Rattle.linker_base.specs.Deletions.{AreDisjoint, AreKept, IsInsideDeletion, IsSortedUnion}
 use Rattle.linker_utils.specs.Packing.{IsRejected}
@@ -46,8 +47,8 @@ pub record IsGreatest (deletions calls : List (ℕ × ℕ)) (chosen : List Bool)
   pub in_reach : AreInReach deletions calls chosen
   pub has_others : (other : List Bool) → length other ≡ length calls → AreInReach deletions calls other → IsPartOf other chosen
 
--- Calls of eight kept bytes each, none of which reaches past the next, whose deletions may be merged with the others.
--- No target is strictly inside one of these deletions.
+-- Calls of eight kept bytes each, none of which reaches past the next, whose deletions may be
+-- merged with the others. No target is strictly inside one of these deletions.
 pub record AreShrinkable (deletions calls : List (ℕ × ℕ)) : Type 0 where
   pub apart : AllPairs (λ a b. a.0 + 8 ≤ b.0) calls
   pub kept : All (λ call. AreKept deletions call.0 8) calls

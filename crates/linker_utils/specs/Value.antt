@@ -1,6 +1,7 @@
--- The value of a relocation, one equation a kind (the sections on relocations of the psABIs: "Relocation types" of ELF for the
--- Arm 64-bit Architecture, "Relocations" of the RISC-V ELF psABI, "Relocation Types" of the LoongArch ELF psABI, "Relocation
--- Types" of the 64-bit ELF V2 ABI for Power, "Relocation Types" of the x86-64 psABI). Addresses are modulo 2 ^ 64.
+-- The value of a relocation, one equation a kind (the sections on relocations of the psABIs:
+-- "Relocation types" of ELF for the Arm 64-bit Architecture, "Relocations" of the RISC-V ELF psABI,
+-- "Relocation Types" of the LoongArch ELF psABI, "Relocation Types" of the 64-bit ELF V2 ABI for
+-- Power, "Relocation Types" of the x86-64 psABI). Addresses are modulo 2 ^ 64.
 use Rattle.std.specs.Prelude.{ℕ, ◌+◌, ◌-◌, ◌%◌, ◌^◌, ◌==◌, if◌then◌else◌, Bool, true, false, Option, Some, None, ℤ}
 use Rattle.std.specs.Int.{w64, cast_signed, cast_unsigned}
 use Rattle.linker_utils.specs.LoongArch.{page, high_distance}
@@ -21,7 +22,8 @@ sum_64 a b = (a + b) % 2 ^ 64
 abbrev pub difference_64 : ℕ → ℕ → ℕ
 difference_64 a b = (a + (2 ^ 64 - b)) % 2 ^ 64
 
--- whether the mask clears the offset in the page of S + A, of the GOT entry's address, of P, of the GOT's address
+-- whether the mask clears the offset in the page of S + A, of the GOT entry's address, of P, of the
+-- GOT's address
 abbrev pub masks_symbol : Option PageMask → Bool
 masks_symbol None = false
 masks_symbol (Some (SymbolPlusAddendAndPosition pattern)) = true
@@ -55,7 +57,8 @@ abbrev pub bias_number : Option ℕ → ℕ
 bias_number None = 0
 bias_number (Some n) = n
 
--- the addend that is added to a GOT entry's address: none in AArch64's instructions, whose entry is that of S + A
+-- the addend that is added to a GOT entry's address: none in AArch64's instructions, whose entry is
+-- that of S + A
 abbrev pub entry_addend : RelocationSize → ℤ → ℕ
 entry_addend (ByteSize n) addend = cast_unsigned w64 addend
 entry_addend (BitMasking bits (AArch64 insn)) addend = 0
@@ -63,8 +66,8 @@ entry_addend (BitMasking bits (RiscV insn)) addend = cast_unsigned w64 addend
 entry_addend (BitMasking bits (Ppc64 insn)) addend = cast_unsigned w64 addend
 entry_addend (BitMasking bits (LoongArch64 insn)) addend = cast_unsigned w64 addend
 
--- the address of the first of LoongArch's five instructions plus 8: that of the third, which takes bits 32 to 51, and 4 below
--- that of the fourth, which takes bits 52 to 63
+-- the address of the first of LoongArch's five instructions plus 8: that of the third, which takes
+-- bits 32 to 51, and 4 below that of the fourth, which takes bits 52 to 63
 abbrev pub sequence_pc : RelocationSize → ℕ → ℕ
 sequence_pc (ByteSize n) place = place
 sequence_pc (BitMasking bits insn) place = if bits.start == 52 then difference_64 place 4 else place

@@ -1,5 +1,5 @@
-//! The vocabulary of relocations, the forms of instructions that hold a value, and the interfaces of
-//! forms and of rewrites.
+//! The vocabulary of relocations, the forms of instructions that hold a value, and the interfaces
+//! of forms and of rewrites.
 
 pub(crate) mod engine;
 mod reach;
@@ -444,8 +444,8 @@ pub trait InstructionRewrite: Copy {
     // what becomes of the next relocation
     ghost modifier: { Self → RelocationModifier };
 
-    /// Rewrites the instruction at an offset of a section. The offset and the addend become those of
-    /// the relocation after it; all other bytes stay.
+    /// Rewrites the instruction at an offset of a section. The offset and the addend become those
+    /// of the relocation after it; all other bytes stay.
     fn apply(self, section: &mut [u8], offset: &mut u64, addend: &mut i64)
         requires { CanRewrite (rewrite self) section.old offset.old }
         ensures bytes { section.new ≡ rewritten (rewrite self) section.old offset.old }

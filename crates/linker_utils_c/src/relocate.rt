@@ -11,8 +11,8 @@ use crate::relocations::info_of;
 use crate::status::Status;
 use linker_utils::elf::{Architecture, Operands, RelocateError, RelocationKindInfo};
 
-/// The value of the relocation with `r_type` in files with `e_machine` `machine`. The first that applies
-/// of `UnknownArchitecture`; `UnknownRelocation`; `NoValue`.
+/// The value of the relocation with `r_type` in files with `e_machine` `machine`. The first that
+/// applies of `UnknownArchitecture`; `UnknownRelocation`; `NoValue`.
 #[unsafe(no_mangle)]
 pub extern "C" fn linker_utils_value(
     machine: u16,
@@ -106,7 +106,8 @@ fn relocate(architecture: Architecture, r_type: u32, value: i64, dest: &mut [u8]
 }
 
 /// Writes the value of a relocation to the bytes that `dest` begins with. The first that applies of
-/// `UnknownArchitecture`; `UnknownRelocation`; `Uleb128Pair`; `TooShort`; `Misaligned`; `OutOfReach`.
+/// `UnknownArchitecture`; `UnknownRelocation`; `Uleb128Pair`; `TooShort`; `Misaligned`;
+/// `OutOfReach`.
 #[unsafe(no_mangle)]
 pub extern "C" fn linker_utils_relocate_nonnull(
     machine: u16,

@@ -1,4 +1,5 @@
--- What a command does to the section, which line it prints, which error it gives, and what a run prints.
+-- What a command does to the section, which line it prints, which error it gives, and what a run
+-- prints.
 use Rattle.std.specs.Prelude.{◌≡◌, ℕ, List, [], ◌∷◌, ◌++◌, codes, decimal, ◌⊎◌, ◌≢◌, None, Some, All, length, ⊤}
 use Rattle.std.specs.Io.BufRead.{drop_through, first_line}
 use Rattle.hex.specs.Hex.{encode_lower}
@@ -117,8 +118,8 @@ RunsTo input rest after printed = (before : SectionState)
 abbrev pub ExecutesInput : List ℕ → List ℕ → Type 0
 ExecutesInput input printed = (after : SectionState) × RunsTo input [] after printed
 
--- the run ends with this error: the first line is no section, or one behind it is rejected; or it runs
--- out of memory. What is printed before are the answers to the lines before.
+-- the run ends with this error: the first line is no section, or one behind it is rejected; or it
+-- runs out of memory. What is printed before are the answers to the lines before.
 abbrev pub EndsWith : List ℕ → List ℕ → ReportedError → Type 0
 EndsWith input printed error =
     ((printed ≡ []) × ((error ≡ OutOfMemory)

@@ -232,8 +232,8 @@ impl Answer {
 }
 
 /// The section that the commands work on, its deletions, and its calls that were made jumps. The
-/// bytes that are listed as deleted are still in `section`, so that each command's offsets are input
-/// offsets.
+/// bytes that are listed as deleted are still in `section`, so that each command's offsets are
+/// input offsets.
 #[derive(Drop)]
 struct SectionState {
     alloc: Global,
@@ -334,9 +334,9 @@ impl SectionState {
         Ok(self.deltas.output_to_input_offset(output_offset))
     }
 
-    /// Replaces the call at `site` by one jump to `target`, and accepts it. `BadCall` if its site is
-    /// less than 4 from that of an accepted call. Then it takes room for the call, and then come the
-    /// errors of `jump`.
+    /// Replaces the call at `site` by one jump to `target`, and accepts it. `BadCall` if its site
+    /// is less than 4 from that of an accepted call. Then it takes room for the call, and then come
+    /// the errors of `jump`.
     fn call(&mut self, site: u64, target: u64) -> Result<(), ReportedError>
         ensures executed { OnOk result
             (Executes (Command.Call site target) self.old self.new (codes "ok")) }

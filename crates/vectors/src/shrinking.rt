@@ -1,5 +1,5 @@
-//! Calls that can become jumps at once, worked by hand: `jal` reaches even distances from -1048576 to
-//! 1048574 (RISC-V unprivileged ISA, "Unconditional Jumps").
+//! Calls that can become jumps at once, worked by hand: `jal` reaches even distances from -1048576
+//! to 1048574 (RISC-V unprivileged ISA, "Unconditional Jumps").
 
 use linker_utils::relaxation::{
     SectionRelaxDeltas, calls_apart, calls_shrinkable, pack_section, shrink_calls,

@@ -14,8 +14,8 @@ pub fn linker_utils_jal_site_nonnull(section: &mut [u8], site: u64, distance: i6
 
 /// Turns the call at a site of a section into a `jal` by a distance in bytes. It links the register
 /// of the `auipc` (`link` 0) or, as linkers do, of the `jalr` (1), which takes the eight bytes of a
-/// call. The first that applies of `UnknownLinkRegister`, `OutOfSection`, `NotACall`, `OddDistance`,
-/// `TooFar`.
+/// call. The first that applies of `UnknownLinkRegister`, `OutOfSection`, `NotACall`,
+/// `OddDistance`, `TooFar`.
 pub fn linker_utils_jal_site_with_nonnull(
     section: &mut [u8],
     site: u64,

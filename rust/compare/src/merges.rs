@@ -6,10 +6,10 @@ use crate::deltas::Deletion;
 use crate::status::Status;
 use linker_utils::relaxation::{AsDeletion, DeltaSlice, OutOfMemory, RelaxDelta, first_invalid};
 
-/// Whether `linker_utils_deltas_merge` accepts the additional deletions, in any order. The first that
-/// applies of `InvalidDeletions`, which the deltas' own are, and `NotMergeable`. It takes no memory.
-/// For k additional deletions beside n deltas the work is O(n + k log n + k) where they ascend, and
-/// else O(n + k log n + k²).
+/// Whether `linker_utils_deltas_merge` accepts the additional deletions, in any order. The first
+/// that applies of `InvalidDeletions`, which the deltas' own are, and `NotMergeable`. It takes no
+/// memory. For k additional deletions beside n deltas the work is O(n + k log n + k) where they
+/// ascend, and else O(n + k log n + k²).
 pub fn linker_utils_deltas_is_mergeable_nonnull(
     deltas: &[RelaxDelta],
     additional: &[Deletion],
@@ -27,11 +27,12 @@ pub fn linker_utils_deltas_is_mergeable_nonnull(
     }
 }
 
-/// Writes the deltas of the old and the additional deletions, sorted, as many as both. The additional
-/// ones may come in any order. The first that applies of `DifferentLengths`; `InvalidDeletions`, of the
-/// delta at `faulty`; `NotMergeable`, of the additional deletion at `faulty`, which overlaps a delta or
-/// an earlier one, or ends above 2^64 - 1; and `OutOfMemory`. It takes no memory where the additional
-/// deletions ascend and can be merged, and else memory for one copy of them.
+/// Writes the deltas of the old and the additional deletions, sorted, as many as both. The
+/// additional ones may come in any order. The first that applies of `DifferentLengths`;
+/// `InvalidDeletions`, of the delta at `faulty`; `NotMergeable`, of the additional deletion at
+/// `faulty`, which overlaps a delta or an earlier one, or ends above 2^64 - 1; and `OutOfMemory`.
+/// It takes no memory where the additional deletions ascend and can be merged, and else memory for
+/// one copy of them.
 pub fn linker_utils_deltas_merge_nonnull(
     deltas: &[RelaxDelta],
     additional: &[Deletion],

@@ -18,7 +18,8 @@ pub struct RelocationInfo {
     pub kind: u32,
     /// The number of the instruction's form; 0 for bytes.
     pub form: u32,
-    /// Which addresses are cut to their page: 0 for none, else the place in the enum `PageMask` and 1.
+    /// Which addresses are cut to their page: 0 for none, else the place in the enum `PageMask` and
+    /// 1.
     pub mask: u32,
     /// `e_machine` of the form's architecture; 0 for bytes.
     pub machine: u16,
@@ -128,8 +129,8 @@ fn in_numbers(info: RelocationKindInfo) -> RelocationInfo {
     }
 }
 
-/// What the relocation with `r_type` means in files with `e_machine` `machine`. `UnknownArchitecture`;
-/// `UnknownRelocation` where the library knows no meaning.
+/// What the relocation with `r_type` means in files with `e_machine` `machine`.
+/// `UnknownArchitecture`; `UnknownRelocation` where the library knows no meaning.
 pub fn linker_utils_relocation(
     machine: u16,
     r_type: u32,
@@ -178,9 +179,10 @@ fn name_of(architecture: Architecture, r_type: u32) -> Option<&'static str> {
     }
 }
 
-/// Writes the ELF name of a relocation, as "R_AARCH64_CALL26", to the beginning of `name`, without a
-/// NUL after it, and its length to `name_used`. No name is longer than 64 bytes. `UnknownArchitecture`;
-/// `UnknownRelocation` of a code without a name; `TooShort` where `name` has too few bytes.
+/// Writes the ELF name of a relocation, as "R_AARCH64_CALL26", to the beginning of `name`, without
+/// a NUL after it, and its length to `name_used`. No name is longer than 64 bytes.
+/// `UnknownArchitecture`; `UnknownRelocation` of a code without a name; `TooShort` where `name` has
+/// too few bytes.
 pub fn linker_utils_relocation_name_nonnull(
     machine: u16,
     r_type: u32,

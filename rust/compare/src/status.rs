@@ -50,8 +50,8 @@ pub enum Status {
     UnknownLinkRegister,
     /// The site of a call is less than 4 above that of the call before it.
     CallsNotApart,
-    /// The eight bytes at the site are not an `auipc` and a `jalr`, with 0 in its bits 12 to 14, whose
-    /// base is the register of the `auipc`.
+    /// The eight bytes at the site are not an `auipc` and a `jalr`, with 0 in its bits 12 to 14,
+    /// whose base is the register of the `auipc`.
     NotACall,
     /// A call that `linker_utils_calls_shrinkable` does not accept.
     CallsNotShrinkable,

@@ -23,8 +23,8 @@ pub struct Operands {
     /// high part.
     pub place: u64,
     /// The address of the GOT entry that the relocation asks for: the symbol's (GOT + G), or its
-    /// entries for general-dynamic, local-dynamic and initial-exec TLS, or its TLS descriptor. Of an
-    /// AArch64 instruction it is the entry of S + A.
+    /// entries for general-dynamic, local-dynamic and initial-exec TLS, or its TLS descriptor. Of
+    /// an AArch64 instruction it is the entry of S + A.
     pub got_entry: u64,
     /// The address that offsets from the GOT count from: that of `_GLOBAL_OFFSET_TABLE_`, and on
     /// PowerPC64 that of `.TOC.`, which is the GOT's address plus 0x8000.
@@ -34,9 +34,9 @@ pub struct Operands {
     /// Z: the symbol's size.
     pub symbol_size: u64,
     /// What offsets of TLS symbols count from, as an address in the TLS segment's image. For an
-    /// offset from the thread pointer it is where the thread pointer points to; on PowerPC64 that is
-    /// the image's address plus 0x7000. For an offset in the module's TLS block it is the image's
-    /// address; plus 0x8000 on PowerPC64, and plus 0x800 on RISC-V.
+    /// offset from the thread pointer it is where the thread pointer points to; on PowerPC64 that
+    /// is the image's address plus 0x7000. For an offset in the module's TLS block it is the
+    /// image's address; plus 0x8000 on PowerPC64, and plus 0x800 on RISC-V.
     pub tls_base: u64,
 }
 

@@ -218,14 +218,15 @@ pub fn packed_len(section: &[u8], deltas: &[RelaxDelta]) -> usize {
     output_offset(deltas, section.len() as u64) as usize
 }
 
-/// Packs a section into memory of the caller's: its kept bytes in order, and at each call's site, in
-/// place of the `auipc`, a `jal` to where the target goes, which links the register that is chosen.
-/// A deletion that reaches past the section's end deletes up to there, and one past it nothing.
+/// Packs a section into memory of the caller's: its kept bytes in order, and at each call's site,
+/// in place of the `auipc`, a `jal` to where the target goes, which links the register that is
+/// chosen. A deletion that reaches past the section's end deletes up to there, and one past it
+/// nothing.
 ///
 /// Requires sites that ascend by at least 4 (`calls_apart`), and room for `packed_len` bytes. The
-/// deltas are as `SectionRelaxDeltas::deltas` lists them; of others nothing is promised but that the
-/// call is safe. The error tells the first call that can't become a jump, and nothing is written
-/// then. It takes O(section + deltas + calls log deltas).
+/// deltas are as `SectionRelaxDeltas::deltas` lists them; of others nothing is promised but that
+/// the call is safe. The error tells the first call that can't become a jump, and nothing is
+/// written then. It takes O(section + deltas + calls log deltas).
 ///
 /// # Requires
 ///

@@ -1,6 +1,6 @@
 // Made by tools/erase of crates/vectors/src/shrinking.rt.
-//! Calls that can become jumps at once, worked by hand: `jal` reaches even distances from -1048576 to
-//! 1048574 (RISC-V unprivileged ISA, "Unconditional Jumps").
+//! Calls that can become jumps at once, worked by hand: `jal` reaches even distances from -1048576
+//! to 1048574 (RISC-V unprivileged ISA, "Unconditional Jumps").
 
 use crate::support::*;
 use linker_utils::relaxation::{

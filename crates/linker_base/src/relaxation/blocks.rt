@@ -115,7 +115,8 @@ impl<K: Looks> Probe for K {
     }
 }
 
-/// The deltas of a section, with a count of the looks at them. Contracts see the list and the count.
+/// The deltas of a section, with a count of the looks at them. Contracts see the list and the
+/// count.
 #[derive(Drop)]
 pub struct Counted<'a> {
     deltas: &'a [RelaxDelta],

@@ -31,7 +31,8 @@ AreEightApart calls = AllPairs (λ a b. a.0 + 8 ≤ b.0) calls
 abbrev pub IsApartAt : List (ℕ × ℕ) → ℕ → Type 0
 IsApartAt calls at = (call : ℕ × ℕ) → 0 < at → (slice_index_or calls (at - 1) call).0 + 8 ≤ (slice_index_or calls at call).0
 
--- the calls before one index have their second instruction below the offset, and those from another on don't
+-- the calls before one index have their second instruction below the offset, and those from another
+-- on don't
 pub record IsSplitBetween (calls : List (ℕ × ℕ)) (offset from to : ℕ) : Type 0 where
   pub below : (i : ℕ) (call : ℕ × ℕ) → i < from → i < length calls → (slice_index_or calls i call).0 + 4 < offset
   pub others : (i : ℕ) (call : ℕ × ℕ) → to ≤ i → i < length calls → offset ≤ (slice_index_or calls i call).0 + 4

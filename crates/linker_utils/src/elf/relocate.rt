@@ -19,16 +19,16 @@ use crate::elf::{
 /// Why a relocation's value isn't written.
 #[derive(Debug, Clone, Copy, PartialEq, Eq)]
 pub enum RelocateError {
-    /// The relocation is one of a pair that computes a ULEB128 number, whose length is not the row's
-    /// to know. Or the row is none that the library returns: it has more than 8 bytes, a bit range that
-    /// isn't within 64 bits, or an alignment that is 0 or above 2^63 - 1.
+    /// The relocation is one of a pair that computes a ULEB128 number, whose length is not the
+    /// row's to know. Or the row is none that the library returns: it has more than 8 bytes, a bit
+    /// range that isn't within 64 bits, or an alignment that is 0 or above 2^63 - 1.
     Unsupported,
     /// There are fewer bytes than the relocation writes.
     TooShort,
     /// The value isn't a multiple of the row's alignment.
     Misaligned,
-    /// The value is outside `reach`. Or the row is none that the library returns, and its bits don't
-    /// fit its instruction.
+    /// The value is outside `reach`. Or the row is none that the library returns, and its bits
+    /// don't fit its instruction.
     OutOfReach,
 }
 

@@ -160,8 +160,8 @@ pub(crate) fn distance_between(from: u64, to: u64) -> i64
     to.wrapping_sub(from).cast_signed()
 }
 
-/// Puts a `jal` by a distance in bytes, which links a register, in place of the four bytes at a site.
-/// The errors are `OddDistance` and `TooFar`, the first of them that applies.
+/// Puts a `jal` by a distance in bytes, which links a register, in place of the four bytes at a
+/// site. The errors are `OddDistance` and `TooFar`, the first of them that applies.
 fn put_jal(section: &mut [u8], site: u64, register: u32, distance: i64) -> Result<(), CallError>
     requires inside { site + 4 ≤ length section.old }
     requires register_fits { register < 32 }
@@ -216,9 +216,9 @@ pub fn jal_site(section: &mut [u8], site: u64, distance: i64) -> Result<(), Call
 /// were. Linkers take the register of the `jalr`, which `tail f` and `call t0, f` need (RISC-V ELF
 /// psABI, "Function Call Relaxation").
 ///
-/// On an error the section is unchanged. The errors are `OutOfSection`, `NotACall`, `OddDistance` and
-/// `TooFar`, the first of them that applies. With `OfAuipc` four bytes have to lie in the section,
-/// and any four are taken; with `OfJalr` it is eight, and they have to be a call.
+/// On an error the section is unchanged. The errors are `OutOfSection`, `NotACall`, `OddDistance`
+/// and `TooFar`, the first of them that applies. With `OfAuipc` four bytes have to lie in the
+/// section, and any four are taken; with `OfJalr` it is eight, and they have to be a call.
 pub fn jal_site_with(
     section: &mut [u8],
     site: u64,
@@ -251,12 +251,12 @@ pub fn jal_site_with(
 }
 
 /// Turns a call into a jump as `jal_site` does, in a section whose bytes stand where they stood
-/// before the deletions: the distance is that from the site's output offset to the target's, so that
-/// the jump is right once the deleted bytes are gone. A target inside a deletion is what follows
-/// the deletion. The target may be the section's end.
+/// before the deletions: the distance is that from the site's output offset to the target's, so
+/// that the jump is right once the deleted bytes are gone. A target inside a deletion is what
+/// follows the deletion. The target may be the section's end.
 ///
-/// On an error the section is unchanged. The errors are `OutOfSection`, `SiteDeleted`, `OddDistance`
-/// and `TooFar`, the first of them that applies.
+/// On an error the section is unchanged. The errors are `OutOfSection`, `SiteDeleted`,
+/// `OddDistance` and `TooFar`, the first of them that applies.
 ///
 /// The jump links the register of the `auipc`, which for a plain call is the `jalr`'s too:
 /// `is_plain_call` tells these from others, as `tail f`.

@@ -9,8 +9,8 @@ pub fn calls_reach_their_target()
     ensures { CallsReachTheirTarget }
 {}
 
-/// Whenever the values of `R_RISCV_PCREL_HI20` and, by the same operands, `R_RISCV_PCREL_LO12_I` are
-/// written, the `auipc` and the `addi` compute the symbol's address plus the addend.
+/// Whenever the values of `R_RISCV_PCREL_HI20` and, by the same operands, `R_RISCV_PCREL_LO12_I`
+/// are written, the `auipc` and the `addi` compute the symbol's address plus the addend.
 pub fn addresses_are_the_symbols()
     ensures { AddressesAreTheSymbols }
 {}

@@ -85,7 +85,8 @@ impl<K: Looks> Probe for K {
     }
 }
 
-/// The deltas of a section, with a count of the looks at them. Contracts see the list and the count.
+/// The deltas of a section, with a count of the looks at them. Contracts see the list and the
+/// count.
 pub struct Counted<'a> {
     deltas: &'a [RelaxDelta],
     heads: &'a [BlockHead],
