@@ -1,7 +1,8 @@
 /* The verified core of a linker, for programs in C11 and C++17, or later.
  *
  * Build with `cc $(pkg-config --cflags --libs linker_utils) x.c`: the archive `liblinker_utils.a`
- * needs nothing but the C library's `malloc`, `realloc`, `free` and `memmove`. It is for x86-64-v2
+ * needs nothing but the C library's `malloc`, `realloc`, `free`, `memcpy`, `memmove` and `memset`.
+ * It is for x86-64-v2
  * processors (SSE4.2, 2009 and later). Programs for each group of calls stand in bindings/c.
  *
  * What holds of every call:

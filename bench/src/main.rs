@@ -592,7 +592,7 @@ fn packing(report: &mut Report) {
 /// The original crate chooses no calls, so that ours stand alone.
 fn calls(report: &mut Report) {
     let mut random = Random::new(12);
-    report.heading("The choice of calls, a call");
+    report.heading("The choice of calls, a call", "original");
     for (count, gap, deleted) in [
         (100_000, 64, 0),
         (1_000_000, 1024, 0),
@@ -603,30 +603,18 @@ fn calls(report: &mut Report) {
     ] {
         let calls = calls_apart(&mut random, count, gap);
         let between = count as u64 / (deleted as u64).max(1) * gap;
-        let list: Vec<(u64, u32)> = (0..deleted).map(|k| (k as u64 * between + 16, 4)).collect();
-        let deltas = created(&ours_of(&list));
-        let mut chosen = vec![0u8; count];
-        report.line(
-            &format!("{count} calls {gap} bytes apart, {deleted} deletions"),
-            count,
-            1.0,
-            Side::new(|| {
-                let chosen = black_box(&mut chosen);
-                let status = unsafe {
-                    linker_utils_shrink_calls_nonnull(
-                        deltas.as_ptr(),
-                        deltas.len(),
-                        calls.as_ptr(),
-                        calls.len(),
-                        chosen.as_mut_ptr(),
-                        chosen.len(),
-                        &mut 0,
-                    )
-                };
-                assert_eq!(status, 0);
-            }),
-            None,
-        );
+        let deletion = |k| sathunne::Deletion {
+            offset: k * between + 16,
+            bytes: 4,
+        };
+        let list: Vec<sathunne::Deletion> = (0..deleted).map(deletion).collect();
+        let mut deltas = vec![sathunne::Delta::default(); list.len()];
+        assert_eq!(sathunne::deltas_create(&list, &mut deltas), Ok(()));
+        let choice = Side::writes(vec![0u8; count], |chosen| {
+            assert_eq!(sathunne::shrink_calls(&deltas, &calls, chosen), Ok(()));
+        });
+        let name = format!("{count} calls {gap} bytes apart, {deleted} deletions");
+        report.line(&name, count, true, [Some(choice), None, None, None]);
     }
 }
 

@@ -234,9 +234,12 @@ fn sections_are_not_packed() {
 
 #[test]
 fn calls_are_not_chosen() {
-    let (deltas, calls) = (deltas(), [(16, 24)]);
-    assert_eq!(failing(0, || shrink_calls(&deltas, &calls)), Err(OutOfMemory));
-    assert_eq!(shrink_calls(&deltas, &calls), Ok(vec![true]));
+    let (deltas, calls) = (deltas(&[]), [(16, 24)]);
+    let (count, chosen) = each_fails(
+        || shrink_calls(&deltas, &calls),
+        |error| assert_eq!(error, OutOfMemory),
+    );
+    assert_eq!((count, chosen), (1, vec![true]));
 }
 
 #[test]

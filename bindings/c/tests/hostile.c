@@ -621,6 +621,17 @@ static void call_jal_site(void) {
     finish_with(status, 0 OR(OUT_OF_SECTION) OR(ODD_DISTANCE) OR(TOO_FAR));
 }
 
+static void call_jal_site_with(void) {
+    struct buffer *section = bytes(WRITTEN, any_section_len());
+    uint64_t site = any_offset(section->len);
+    changes(section, site, site > 1000 ? 0 : site + 4);
+    int64_t distance = (int64_t)any_number();
+    uint32_t link = once_in(8) ? (uint32_t)any_number() : (uint32_t)below(2);
+    uint32_t status = CALL(jal_site_with, section->given, section->len, site, distance, link);
+    finish_with(status, 0 OR(UNKNOWN_LINK_REGISTER) OR(OUT_OF_SECTION) OR(NOT_A_CALL)
+                            OR(ODD_DISTANCE) OR(TOO_FAR));
+}
+
 static void call_relax_call(void) {
     struct buffer *section = bytes(WRITTEN, any_section_len());
     struct buffer *listed = deltas(any_count());
@@ -893,7 +904,7 @@ static void call_shrink_calls(void) {
 static void (*const all[])(void) = {
     call_status_text, call_window, call_write, call_read, call_apply, call_next_modifier,
     call_relocation, call_relocation_name, call_value, call_reach, call_relocate, call_relocate_all,
-    call_clui_rel_info, call_jal_site, call_relax_call,
+    call_clui_rel_info, call_jal_site, call_jal_site_with, call_relax_call,
     call_tests, call_write_mov_sequence, call_write_address_sequence, call_write_ha_lo,
     call_u32_from_slice, call_u64_from_slice, call_read_u32, call_read_uleb128, call_deltas_create,
     call_deltas_merge, call_deltas_total_deleted, call_translations, call_deltas_translate_all,
