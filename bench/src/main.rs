@@ -45,7 +45,7 @@ fn main() {
         let mut parts = args.iter().filter(|arg| !arg.starts_with("--")).peekable();
         parts.peek().is_none() || parts.any(|arg| arg == part)
     };
-    let parts: [(&str, fn(&mut Report)); 9] = [
+    let parts: [(&str, fn(&mut Report)); 10] = [
         ("forms", forms),
         ("rewrites", rewrites),
         ("rows", rows),
@@ -54,6 +54,7 @@ fn main() {
         ("deltas", translations),
         ("cursor", cursors),
         ("merges", lists),
+        ("calls", calls),
         ("packing", packing),
     ];
     assert!(
@@ -65,9 +66,6 @@ fn main() {
         if wants(name) {
             part(&mut report);
         }
-    }
-    if wants("calls") {
-        calls(&mut report);
     }
     report.summary();
     if let Some(path) = picture {
