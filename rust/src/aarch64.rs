@@ -252,6 +252,17 @@ const IMM12: [Run; 1] = [run!(ored 0, 10, 12)];
 
 const MOVED: [Run; 1] = [run!(0, 5, 16)];
 
+/// The 16 bits and the opcode that `Movnz` writes, the latter where it stands in the instruction
+/// (DDI 0487, "MOVN" and "MOVZ").
+#[inline(always)]
+fn moved(value: u64, negative: bool) -> (u64, u64) {
+    if negative {
+        (!value & 0xffff, 0x9280_0000)
+    } else {
+        (value & 0xffff, 0xd280_0000)
+    }
+}
+
 /// The scale of the offset of a load or store: log2 of its access size in bytes. 0 for other
 /// instructions (DDI 0487, "Load/store register (unsigned immediate)").
 #[inline(always)]
@@ -292,24 +303,9 @@ impl AArch64Instruction {
                 engine::write_form(insn, Window::Four, &IMM16, value, negative, dest);
             }
             AArch64Instruction::Movnz => {
-                let word = Window::Four.load(dest) & 0x007f_ffff;
-                if negative {
-                    engine::write_over(
-                        Window::Four,
-                        &MOVED,
-                        !value & 0xffff,
-                        word | 0x9280_0000,
-                        dest,
-                    );
-                } else {
-                    engine::write_over(
-                        Window::Four,
-                        &MOVED,
-                        value & 0xffff,
-                        word | 0xd280_0000,
-                        dest,
-                    );
-                }
+                let (bits, opcode) = moved(value, negative);
+                let word = Window::Four.load(dest) & 0x007f_ffff | opcode;
+                engine::write_over(Window::Four, &MOVED, bits, word, dest);
             }
             AArch64Instruction::Ldr | AArch64Instruction::Bcond => {
                 engine::write_form(insn, Window::Four, &IMM19, value, negative, dest);

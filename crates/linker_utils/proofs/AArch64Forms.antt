@@ -1,5 +1,5 @@
 -- The AArch64 forms keep the laws of forms.
-use Rattle.std.proofs.Common.{◌≡◌, ℕ, ◌+◌, ◌-◌, ◌*◌, ◌/◌, ◌%◌, ◌^◌, ◌<◌, Bool, true, false, eqb, refl, ap, sym, ◌∙◌, subst, arith, IsTrue, List, zero, suc, ◌↔◌, ltb, [], ◌∷◌, pos, cond}
+use Rattle.std.proofs.Common.{◌≡◌, ℕ, ◌+◌, ◌-◌, ◌*◌, ◌/◌, ◌%◌, ◌^◌, ◌<◌, Bool, true, false, eqb, refl, ap, sym, ◌∙◌, subst, arith, IsTrue, List, zero, suc, ◌↔◌, ltb, [], ◌∷◌, pos}
 use Rattle.std.specs.Int.{w32, w64, cast_unsigned, from_le_bytes, bit_at}
 use Rattle.std.proofs.lemmas.Bool.{lt-ltb, ltb-true, agree_below_at}
 use Rattle.std.proofs.Math.Nat.{mod-eq_of_lt}
@@ -16,7 +16,7 @@ use Rattle.linker_utils.specs.declared.elf.engine.Mark.TheVariants.{Replaced}
 use Rattle.linker_utils.specs.Inner.Runs.{words_below, spread, runs_read}
 use Rattle.linker_utils.proofs.Runs.{not_placed_above}
 use Rattle.linker_utils.specs.Inner.FormLaws.{scale_small, low12_field, low12_sound}
-use Rattle.linker_utils.specs.AArch64.{aarch64_form, aarch64_layout, movnz, macho_low12, imm16_places, moved_bits, moved_value, opcode_of, shift_of, movn_opcode, movz_opcode, access_scale, low12_places}
+use Rattle.linker_utils.specs.AArch64.{aarch64_form, aarch64_layout, movnz, macho_low12, imm16_places, moved_bits, moved_value, opcode_of, shift_of, movn_opcode, movz_opcode, move_opcode, access_scale, low12_places}
 use Rattle.linker_utils.specs.declared.elf.AArch64Instruction.{AArch64Instruction}
 use Rattle.linker_utils.specs.declared.elf.AArch64Instruction.TheVariants.{Movnz, MachOLow12}
 
@@ -35,9 +35,6 @@ moved_sum neg v base after laid =
     let small = moved_small neg v in
     place_sum_laid 0 16 0 imm16_places (moved_bits neg v) base after (omega arith) refl refl laid (always_clear imm16_places base refl)
     ∙ omega arith
-
-opcode_for : Bool → ℕ → ℕ
-opcode_for neg x = (cond neg movn_opcode movz_opcode) * 2 ^ 23 + x % 2 ^ 23
 
 -- bits 21 and up
 high_kept : (ps : List ImmediateBit) (v base after : ℕ) → BitsWritten ps v base after → (n : ℕ) → words_below n ps ≡ true → after / 2 ^ n ≡ base / 2 ^ n
@@ -105,27 +102,15 @@ opcode_set x opcode =
     ∙ or_comm (x % 2 ^ 23) (opcode * 2 ^ 23)
     ∙ or_shifted opcode 23 (x % 2 ^ 23) (let small : x % 2 ^ 23 < 2 ^ 23 = omega arith in small)
 
-pub movn_written : (f : AArch64Instruction) (v : ℕ) (neg : Bool) (x : ℕ) (before after : List ℕ) → f ≡ Movnz → neg ≡ true → v < 2 ^ 64 → x ≡ from_le_bytes w32 before
-    → BitsWritten imm16_places (bit_and (18446744073709551615 - v) 65535) (bit_or (bit_and x 8388607) 2457862144) (from_le_bytes w32 after)
+pub movnz_written : (f : AArch64Instruction) (v : ℕ) (neg : Bool) (x bits opcode : ℕ) (before after : List ℕ) → f ≡ Movnz → x ≡ from_le_bytes w32 before
+    → bits ≡ moved_bits neg v → opcode ≡ move_opcode neg * 2 ^ 23
+    → BitsWritten imm16_places bits (bit_or (bit_and x 8388607) opcode) (from_le_bytes w32 after)
     → Written (aarch64_form f) v neg (window_of (aarch64_form f) before) (window_of (aarch64_form f) after)
-movn_written f v neg x before after e n h w laid =
-    let bits : bit_and (18446744073709551615 - v) 65535 ≡ moved_bits true v = and_mask (18446744073709551615 - v) 16 ∙ omega arith in
-    let base = opcode_set x movn_opcode ∙ ap (λ y. movn_opcode * 2 ^ 23 + y % 2 ^ 23) w in
+movnz_written f v neg x bits opcode before after e w b o laid =
+    let base = ap (bit_or (bit_and x 8388607)) o ∙ opcode_set x (move_opcode neg) ∙ ap (λ y. move_opcode neg * 2 ^ 23 + y % 2 ^ 23) w in
     written_as f Movnz v neg before after e
-    (subst (λ s. BitsWritten imm16_places (moved_bits s v) (movnz.base s (from_le_bytes w32 before)) (from_le_bytes w32 after)) (sym n)
-    (subst (λ b. BitsWritten imm16_places (moved_bits true v) b (from_le_bytes w32 after)) base
-    (subst (λ m. BitsWritten imm16_places m (bit_or (bit_and x 8388607) 2457862144) (from_le_bytes w32 after)) bits laid)))
-
-pub movz_written : (f : AArch64Instruction) (v : ℕ) (neg : Bool) (x : ℕ) (before after : List ℕ) → f ≡ Movnz → neg ≡ false → x ≡ from_le_bytes w32 before
-    → BitsWritten imm16_places (bit_and v 65535) (bit_or (bit_and x 8388607) 3531603968) (from_le_bytes w32 after)
-    → Written (aarch64_form f) v neg (window_of (aarch64_form f) before) (window_of (aarch64_form f) after)
-movz_written f v neg x before after e n w laid =
-    let bits : bit_and v 65535 ≡ moved_bits false v = and_mask v 16 in
-    let base = opcode_set x movz_opcode ∙ ap (λ y. movz_opcode * 2 ^ 23 + y % 2 ^ 23) w in
-    written_as f Movnz v neg before after e
-    (subst (λ s. BitsWritten imm16_places (moved_bits s v) (movnz.base s (from_le_bytes w32 before)) (from_le_bytes w32 after)) (sym n)
-    (subst (λ b. BitsWritten imm16_places (moved_bits false v) b (from_le_bytes w32 after)) base
-    (subst (λ m. BitsWritten imm16_places m (bit_or (bit_and x 8388607) 3531603968) (from_le_bytes w32 after)) bits laid)))
+    (subst (λ m. BitsWritten imm16_places m (movnz.base neg (from_le_bytes w32 before)) (from_le_bytes w32 after)) b
+    (subst (λ n. BitsWritten imm16_places bits n (from_le_bytes w32 after)) base laid))
 
 abbrev pub low12_run : ℕ → List Run
 low12_run s = record { value = s; insn_bit = 10; len = 12; added = 0; mark = Replaced } ∷ []

@@ -31,6 +31,10 @@ movk_opcode = 0x1e5
 abbrev pub opcode_of : ℕ → ℕ
 opcode_of word = word / 2 ^ 23
 
+-- the opcode of a move of a negative value, and of any other
+abbrev pub move_opcode : Bool → ℕ
+move_opcode negative = if negative then movn_opcode else movz_opcode
+
 -- how far up the 16 bits go
 abbrev pub shift_of : ℕ → ℕ
 shift_of word = 16 * field word 21 23
@@ -55,7 +59,7 @@ movnz =
       width = λ _. 64;
       places = λ _. imm16_places;
       number = moved_bits;
-      base = λ negative x. (if negative then movn_opcode else movz_opcode) * 2 ^ 23 + x % 2 ^ 23;
+      base = λ negative x. move_opcode negative * 2 ^ 23 + x % 2 ^ 23;
       opcode = λ w. not (nat_lt w 23);
       reading = λ x. moved_value (bit_at x 30 == 0) (place_sum imm16_places x) 0;
       flag = λ x. bit_at x 30 == 0;

@@ -3,13 +3,14 @@
 mod relocations;
 
 ghost use Rattle.std.specs.Prelude.{◌++◌, Some, take, ◌≡◌, ◌≤◌, ◌<◌, ◌+◌, ◌↔◌, ◌∷◌, [], IsTrue};
-ghost use Rattle.std.specs.Prelude.{length, drop};
+ghost use Rattle.std.specs.Prelude.{length, drop, ◌*◌, ◌^◌};
 ghost use Rattle.std.specs.Int.{byte_len, cast_unsigned, w32, w64, from_le_bytes, to_le_bytes};
 ghost use Rattle.linker_base.specs.Form.{window_of, Fits, Written, MachineReads, IsReadBack};
 ghost use Rattle.linker_base.specs.Rewrite.{CanRewrite, rewritten, offset_after, addend_after};
 ghost use Rattle.linker_utils.specs.Inner.FormLaws.{aarch64_keeps, aarch64_restored};
 ghost use Rattle.linker_utils.specs.AArch64.{aarch64_form, aarch64_rewrite, aarch64_modifier};
 ghost use Rattle.linker_utils.specs.AArch64.{access_scale, rd_of, rn_of, mov_word, mov_words, mov4};
+ghost use Rattle.linker_utils.specs.AArch64.{moved_bits, move_opcode};
 
 use crate::bit_misc::BitExtraction;
 use crate::elf::engine::{self, Mark, Run, Window, run};
@@ -282,6 +283,20 @@ const IMM12: [Run; 1] = [run!(ored 0, 10, 12)];
 
 const MOVED: [Run; 1] = [run!(0, 5, 16)];
 
+/// The 16 bits and the opcode that `Movnz` writes, the latter where it stands in the instruction
+/// (DDI 0487, "MOVN" and "MOVZ").
+#[inline(always)]
+fn moved(value: u64, negative: bool) -> (u64, u64)
+    ensures bits { result.0 ≡ moved_bits negative value }
+    ensures opcode { result.1 ≡ move_opcode negative * 2 ^ 23 }
+{
+    if negative {
+        (!value & 0xffff, 0x9280_0000)
+    } else {
+        (value & 0xffff, 0xd280_0000)
+    }
+}
+
 /// The scale of the offset of a load or store: log2 of its access size in bytes. 0 for other
 /// instructions (DDI 0487, "Load/store register (unsigned immediate)").
 #[inline(always)]
@@ -337,24 +352,9 @@ impl AArch64Instruction {
                 engine::write_form(insn, Window::Four, &IMM16, value, negative, dest);
             }
             AArch64Instruction::Movnz => {
-                let word = Window::Four.load(dest) & 0x007f_ffff;
-                if negative {
-                    engine::write_over(
-                        Window::Four,
-                        &MOVED,
-                        !value & 0xffff,
-                        word | 0x9280_0000,
-                        dest,
-                    );
-                } else {
-                    engine::write_over(
-                        Window::Four,
-                        &MOVED,
-                        value & 0xffff,
-                        word | 0xd280_0000,
-                        dest,
-                    );
-                }
+                let (bits, opcode) = moved(value, negative);
+                let word = Window::Four.load(dest) & 0x007f_ffff | opcode;
+                engine::write_over(Window::Four, &MOVED, bits, word, dest);
             }
             AArch64Instruction::Ldr | AArch64Instruction::Bcond => {
                 engine::write_form(insn, Window::Four, &IMM19, value, negative, dest);
