@@ -1,24 +1,29 @@
 -- The AArch64 forms keep the laws of forms.
-use Rattle.std.proofs.Common.{◌≡◌, ℕ, ◌+◌, ◌-◌, ◌*◌, ◌/◌, ◌%◌, ◌^◌, ◌<◌, Bool, true, false, eqb, refl, ap, sym, ◌∙◌, subst, arith, IsTrue, List, zero, suc, ◌↔◌, ltb, [], ◌∷◌, pos}
+use Rattle.std.proofs.Common.{◌≡◌, ℕ, ◌+◌, ◌-◌, ◌*◌, ◌/◌, ◌%◌, ◌^◌, ◌<◌, ◌≤◌, Bool, true, false, eqb, refl, ap, sym, ◌∙◌, subst, arith, IsTrue, List, zero, suc, ◌↔◌, ltb, [], ◌∷◌, ◌++◌, pos, ◌-ℤ◌, ◌≢◌, if◌then◌else◌}
 use Rattle.std.specs.Int.{w32, w64, cast_unsigned, from_le_bytes, bit_at}
 use Rattle.std.proofs.lemmas.Bool.{lt-ltb, ltb-true, agree_below_at}
 use Rattle.std.proofs.Math.Nat.{mod-eq_of_lt}
-use Rattle.linker_base.specs.Bits.{field}
-use Rattle.linker_base.specs.Form.{window_of, ImmediateBit, BitsWritten, Written, MachineReads, Fits, place_sum, consecutive_bits, replaced}
+use Rattle.linker_base.specs.Bits.{field, signed}
+use Rattle.linker_base.specs.Form.{window_of, ImmediateBit, BitsWritten, Written, MachineReads, Fits, place_sum, consecutive_bits, replaced, ored}
 use Rattle.std.proofs.lemmas.Nat.Bits.{same_from_bits}
 use Rattle.linker_base.proofs.Fields.{bit_at_shr}
-use Rattle.linker_base.proofs.Immediates.{field_machine, layout_machine, place_sum_laid, always_clear}
+use Rattle.linker_base.proofs.Immediates.{field_machine, layout_machine, place_sum_laid, place_sum_below, always_clear}
+use Rattle.linker_base.proofs.ConsecutiveBits.{consecutive_bits_sum}
+use Rattle.linker_base.proofs.Places.{place_sum-append}
 use Rattle.std.proofs.lemmas.Nat.{and_mask, or_comm, or_shifted}
 use Rattle.std.specs.Int.RustNames.{bit_or}
 use lib.Bits.{bit_and}
+use Rattle.std.specs.Int.Bits.{and_zero_r, or_zero_l, or_zero_r}
 use Rattle.linker_utils.specs.declared.elf.engine.Run.{Run}
-use Rattle.linker_utils.specs.declared.elf.engine.Mark.TheVariants.{Replaced}
+use Rattle.linker_utils.specs.declared.elf.engine.Mark.TheVariants.{Replaced, Ored}
 use Rattle.linker_utils.specs.Inner.Runs.{words_below, spread, runs_read}
-use Rattle.linker_utils.proofs.Runs.{not_placed_above}
+use Rattle.linker_utils.proofs.Runs.{not_placed_above, ored_run, ored_mask, laid_more, laid_below, masked}
+use Rattle.linker_utils.specs.declared.aarch64.Immediate.{Immediate}
+use Rattle.linker_utils.specs.Inner.Immediates.{is_ored_alone, lowest_bits, aarch64_immediate}
 use Rattle.linker_utils.specs.Inner.FormLaws.{scale_small, low12_field, low12_sound}
 use Rattle.linker_utils.specs.AArch64.{aarch64_form, aarch64_layout, movnz, macho_low12, imm16_places, moved_bits, moved_value, opcode_of, shift_of, movn_opcode, movz_opcode, move_opcode, access_scale, low12_places}
 use Rattle.linker_utils.specs.declared.elf.AArch64Instruction.{AArch64Instruction}
-use Rattle.linker_utils.specs.declared.elf.AArch64Instruction.TheVariants.{Movnz, MachOLow12}
+use Rattle.linker_utils.specs.declared.elf.AArch64Instruction.TheVariants.{Adr, Movkz, Movnz, Ldr, LdrRegister, Add, LdSt, TstBr, Bcond, JumpCall, MachOLow12}
 
 -- ---- Movnz
 
@@ -111,6 +116,125 @@ movnz_written f v neg x bits opcode before after e w b o laid =
     written_as f Movnz v neg before after e
     (subst (λ m. BitsWritten imm16_places m (movnz.base neg (from_le_bytes w32 before)) (from_le_bytes w32 after)) b
     (subst (λ n. BitsWritten imm16_places bits n (from_le_bytes w32 after)) base laid))
+
+-- ---- the forms that are only ORed
+
+unfoldable pub OrsBits : Immediate → ℕ → ℕ → List ImmediateBit → Type 0
+OrsBits i v x ps = BitsWritten ps v x (bit_or (bit_or x (bit_and v i.low * 2 ^ 29 % 2 ^ 64)) (bit_and (v * 2 ^ i.shift % 2 ^ 64) i.mask))
+
+lowest_ored : (sign n w v x : ℕ) → n < 64 → w + n ≤ 64 → x < 2 ^ 64 → v * 2 ^ w % 2 ^ 64 / 2 ^ w % 2 ^ n ≡ (v + 0) % 2 ^ 64 / 2 ^ 0 % 2 ^ n
+    → OrsBits (lowest_bits sign n w) v x (consecutive_bits n 0 w 0 ored)
+unfolding OrsBits
+lowest_ored sign n w v x len inside small e =
+    let nothing : bit_or x (bit_and v 0 * 2 ^ 29 % 2 ^ 64) ≡ x = ap (λ b. bit_or x (b * 2 ^ 29 % 2 ^ 64)) (and_zero_r v) ∙ or_zero_r x in
+    subst (λ y. BitsWritten (consecutive_bits n 0 w 0 ored) v x (bit_or y (bit_and (v * 2 ^ w % 2 ^ 64) ((2 ^ n - 1) * 2 ^ w)))) (sym nothing)
+    (ored_mask n 0 w v x (v * 2 ^ w % 2 ^ 64) len inside small e)
+
+adr_runs : List Run
+adr_runs = record { value = 0; insn_bit = 29; len = 2; added = 0; mark = Ored } ∷ record { value = 2; insn_bit = 5; len = 19; added = 0; mark = Ored } ∷ []
+
+adr_ored : (v x : ℕ) → v < 2 ^ 64 → x < 2 ^ 32 → OrsBits (aarch64_immediate Adr) v x ((aarch64_form Adr).places 0)
+unfolding OrsBits adr_runs
+adr_ored v x h small =
+    let low = bit_and v 3 * 2 ^ 29 % 2 ^ 64 in
+    let low_is : low ≡ (v + 0) % 2 ^ 64 / 2 ^ 0 % 2 ^ 2 * 2 ^ 29 = ap (λ b. b * 2 ^ 29 % 2 ^ 64) (and_mask v 2) ∙ omega arith in
+    let first = ored_run 2 0 29 v x low (omega arith) (omega arith) (omega arith) low_is in
+    let below : bit_or x low < 2 ^ 64 = laid_below (consecutive_bits 2 0 29 0 ored) 64 v x (bit_or x low) refl first (omega arith) in
+    laid_more adr_runs 1 (record { value = 0; insn_bit = 0; len = 0; added = 0; mark = Ored }) v x (bit_or x low) (bit_or (bit_or x low) (bit_and (v * 2 ^ 3 % 2 ^ 64) ((2 ^ 19 - 1) * 2 ^ 5))) refl (omega arith)
+    first
+    (ored_mask 19 2 5 v (bit_or x low) (v * 2 ^ 3 % 2 ^ 64) (omega arith) (omega arith) below (omega arith))
+
+pub aarch64_ored : (f : AArch64Instruction) (v x : ℕ) → is_ored_alone f ≡ true → v < 2 ^ 64 → x < 2 ^ 32 → OrsBits (aarch64_immediate f) v x ((aarch64_form f).places 0)
+aarch64_ored Adr v x o h small = adr_ored v x h small
+aarch64_ored Movkz v x o h small = lowest_ored 16 16 5 v x (omega arith) (omega arith) (omega arith) (omega arith)
+aarch64_ored Movnz v x o h small = cc
+aarch64_ored Ldr v x o h small = lowest_ored 19 19 5 v x (omega arith) (omega arith) (omega arith) (omega arith)
+aarch64_ored LdrRegister v x o h small = lowest_ored 63 12 10 v x (omega arith) (omega arith) (omega arith) (omega arith)
+aarch64_ored Add v x o h small = lowest_ored 63 12 10 v x (omega arith) (omega arith) (omega arith) (omega arith)
+aarch64_ored LdSt v x o h small = lowest_ored 12 12 10 v x (omega arith) (omega arith) (omega arith) (omega arith)
+aarch64_ored TstBr v x o h small = lowest_ored 14 14 5 v x (omega arith) (omega arith) (omega arith) (omega arith)
+aarch64_ored Bcond v x o h small = lowest_ored 19 19 5 v x (omega arith) (omega arith) (omega arith) (omega arith)
+aarch64_ored JumpCall v x o h small = lowest_ored 26 26 0 v x (omega arith) (omega arith) (omega arith) (omega arith)
+aarch64_ored MachOLow12 v x o h small = cc
+
+-- the number in the form's bits
+unfoldable pub TakesBits : Immediate → ℕ → List ImmediateBit → Type 0
+TakesBits i x ps =
+    (bit_or (bit_and (x / 2 ^ 29) i.low) (bit_and x i.mask / 2 ^ i.shift) ≡ place_sum ps x)
+    × (bit_or (bit_and (x / 2 ^ 29) i.low) (bit_and x i.mask / 2 ^ i.shift) < 2 ^ i.sign_bits)
+
+taken_below : (i : Immediate) (x : ℕ) (ps : List ImmediateBit) → bit_or (bit_and (x / 2 ^ 29) i.low) (bit_and x i.mask / 2 ^ i.shift) ≡ place_sum ps x
+    → place_sum ps x < 2 ^ i.sign_bits → TakesBits i x ps
+unfolding TakesBits
+taken_below i x ps e b = (e, subst (λ n. n < 2 ^ i.sign_bits) (sym e) b)
+
+lowest_taken : (sign n w x : ℕ) → x / 2 ^ w % 2 ^ n * 2 ^ w / 2 ^ w ≡ x / 2 ^ w % 2 ^ n * 2 ^ 0 → x / 2 ^ w % 2 ^ n * 2 ^ 0 < 2 ^ sign
+    → TakesBits (lowest_bits sign n w) x (consecutive_bits n 0 w 0 ored)
+lowest_taken sign n w x e b =
+    let sum = consecutive_bits_sum ored n 0 w 0 x refl in
+    let nothing = ap (λ y. bit_or y (bit_and x ((2 ^ n - 1) * 2 ^ w) / 2 ^ w)) (and_zero_r (x / 2 ^ 29)) ∙ or_zero_l (bit_and x ((2 ^ n - 1) * 2 ^ w) / 2 ^ w) in
+    taken_below (lowest_bits sign n w) x (consecutive_bits n 0 w 0 ored) (nothing ∙ ap (λ y. y / 2 ^ w) (masked n w x) ∙ e ∙ sym sum)
+    (subst (λ y. y < 2 ^ sign) (sym sum) b)
+
+adr_taken : (x : ℕ) → TakesBits (aarch64_immediate Adr) x ((aarch64_form Adr).places 0)
+adr_taken x =
+    let low = consecutive_bits 2 0 29 0 ored in
+    let high = consecutive_bits 19 2 5 0 ored in
+    let low_sum : bit_and (x / 2 ^ 29) 3 ≡ place_sum low x = and_mask (x / 2 ^ 29) 2 ∙ omega arith ∙ sym (consecutive_bits_sum ored 2 0 29 0 x refl) in
+    let high_sum : bit_and x ((2 ^ 19 - 1) * 2 ^ 5) / 2 ^ 3 ≡ place_sum high x = ap (λ y. y / 2 ^ 3) (masked 19 5 x) ∙ omega arith ∙ sym (consecutive_bits_sum ored 19 2 5 0 x refl) in
+    taken_below (aarch64_immediate Adr) x (low ++ high)
+    (ap (λ y. bit_or y (bit_and x ((2 ^ 19 - 1) * 2 ^ 5) / 2 ^ 3)) low_sum ∙ ap (bit_or (place_sum low x)) high_sum ∙ sym (place_sum-append low high x refl))
+    (place_sum_below (low ++ high) 21 x refl refl)
+
+pub aarch64_taken : (f : AArch64Instruction) (x : ℕ) → is_ored_alone f ≡ true → TakesBits (aarch64_immediate f) x ((aarch64_form f).places 0)
+aarch64_taken Adr x o = adr_taken x
+aarch64_taken Movkz x o = lowest_taken 16 16 5 x (omega arith) (omega arith)
+aarch64_taken Movnz x o = cc
+aarch64_taken Ldr x o = lowest_taken 19 19 5 x (omega arith) (omega arith)
+aarch64_taken LdrRegister x o = lowest_taken 63 12 10 x (omega arith) (omega arith)
+aarch64_taken Add x o = lowest_taken 63 12 10 x (omega arith) (omega arith)
+aarch64_taken LdSt x o = lowest_taken 12 12 10 x (omega arith) (omega arith)
+aarch64_taken TstBr x o = lowest_taken 14 14 5 x (omega arith) (omega arith)
+aarch64_taken Bcond x o = lowest_taken 19 19 5 x (omega arith) (omega arith)
+aarch64_taken JumpCall x o = lowest_taken 26 26 0 x (omega arith) (omega arith)
+aarch64_taken MachOLow12 x o = cc
+
+-- what is read: in two's complement of 63 bits a number of 12 bits is itself
+signed_wide : (n : ℕ) → n < 2 ^ 12 → signed 63 n ≡ pos n
+signed_wide n h = ap (λ b. if b then pos n else pos n -ℤ pos (2 ^ 63)) (lt-ltb n (2 ^ 62) (omega arith))
+
+signed_reading : (f : AArch64Instruction) (x : ℕ) → is_ored_alone f ≡ true → signed (aarch64_immediate f).sign_bits (place_sum ((aarch64_form f).places 0) x) ≡ (aarch64_form f).reading x
+signed_reading Movnz x o = cc
+signed_reading MachOLow12 x o = cc
+signed_reading LdrRegister x o = signed_wide (place_sum ((aarch64_form LdrRegister).places 0) x) (place_sum_below ((aarch64_form LdrRegister).places 0) 12 x refl refl)
+signed_reading Add x o = signed_wide (place_sum ((aarch64_form Add).places 0) x) (place_sum_below ((aarch64_form Add).places 0) 12 x refl refl)
+signed_reading f x o = refl
+
+word_of : (f : AArch64Instruction) (bytes : List ℕ) → window_of (aarch64_form f) bytes ≡ from_le_bytes w32 bytes
+word_of Movnz bytes = refl
+word_of f bytes = refl
+
+unflagged : (f : AArch64Instruction) (x : ℕ) → is_ored_alone f ≡ true → false ≡ (aarch64_form f).flag x
+unflagged Movnz x o = cc
+unflagged MachOLow12 x o = cc
+unflagged f x o = refl
+
+alone : (f : AArch64Instruction) → f ≢ Movnz → f ≢ MachOLow12 → is_ored_alone f ≡ true
+alone Movnz a b = absurd (a refl)
+alone MachOLow12 a b = absurd (b refl)
+alone f a b = refl
+
+pub read_number : (f : AArch64Instruction) (bytes : List ℕ) (x number bits result : ℕ) → f ≢ Movnz → f ≢ MachOLow12 → x ≡ from_le_bytes w32 bytes
+    → number ≡ place_sum ((aarch64_form f).places 0) x → bits ≡ (aarch64_immediate f).sign_bits → result ≡ cast_unsigned w64 (signed bits number)
+    → result ≡ cast_unsigned w64 ((aarch64_form f).reading (window_of (aarch64_form f) bytes))
+read_number f bytes x number bits result a b w n s r =
+    r ∙ ap (λ m. cast_unsigned w64 (signed bits m)) n
+    ∙ ap (λ k. cast_unsigned w64 (signed k (place_sum ((aarch64_form f).places 0) x))) s
+    ∙ ap (cast_unsigned w64) (signed_reading f x (alone f a b))
+    ∙ ap (λ y. cast_unsigned w64 ((aarch64_form f).reading y)) (w ∙ sym (word_of f bytes))
+
+pub read_flag : (f : AArch64Instruction) (bytes : List ℕ) → f ≢ Movnz → f ≢ MachOLow12 → false ≡ (aarch64_form f).flag (window_of (aarch64_form f) bytes)
+read_flag f bytes a b = unflagged f (window_of (aarch64_form f) bytes) (alone f a b)
 
 abbrev pub low12_run : ℕ → List Run
 low12_run s = record { value = s; insn_bit = 10; len = 12; added = 0; mark = Replaced } ∷ []

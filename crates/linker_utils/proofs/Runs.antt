@@ -169,6 +169,19 @@ mask_written n w v x len inside small_v small =
     subst (λ b. BitsWritten (consecutive_bits n w w 0 replaced) v x (bit_or (bit_and x (2 ^ 64 - 1 - (2 ^ n - 1) * 2 ^ w)) b))
     (ap (λ y. y / 2 ^ w % 2 ^ n * 2 ^ w) same ∙ sym (masked n w v)) (replaced_laid n w w 0 v x len inside small)
 
+-- what is ORed for a run from bit k of the value: a number that is the run's, moved up
+pub ored_run : (n k w v x y : ℕ) → n < 64 → w + n ≤ 64 → x < 2 ^ 64 → y ≡ (v + 0) % 2 ^ 64 / 2 ^ k % 2 ^ n * 2 ^ w
+    → BitsWritten (consecutive_bits n k w 0 ored) v x (bit_or x y)
+unfolding run
+ored_run n k w v x y len inside small e =
+    subst (λ b. BitsWritten (consecutive_bits n k w 0 ored) v x (bit_or x b)) (sym e) (ored_laid n k w 0 v x len inside small)
+
+-- and what a mask leaves of a number that has the run's bits where the window has them
+pub ored_mask : (n k w v x y : ℕ) → n < 64 → w + n ≤ 64 → x < 2 ^ 64 → y / 2 ^ w % 2 ^ n ≡ (v + 0) % 2 ^ 64 / 2 ^ k % 2 ^ n
+    → BitsWritten (consecutive_bits n k w 0 ored) v x (bit_or x (bit_and y ((2 ^ n - 1) * 2 ^ w)))
+ored_mask n k w v x y len inside small e =
+    ored_run n k w v x (bit_and y ((2 ^ n - 1) * 2 ^ w)) len inside small (masked n w y ∙ ap (λ r. r * 2 ^ w) e)
+
 -- ---- what fits
 
 pub record RunFits (r : Run) : Type 0 where

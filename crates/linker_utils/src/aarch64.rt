@@ -3,14 +3,15 @@
 mod relocations;
 
 ghost use Rattle.std.specs.Prelude.{◌++◌, Some, take, ◌≡◌, ◌≤◌, ◌<◌, ◌+◌, ◌↔◌, ◌∷◌, [], IsTrue};
-ghost use Rattle.std.specs.Prelude.{length, drop, ◌*◌, ◌^◌};
+ghost use Rattle.std.specs.Prelude.{length, drop, true, ◌*◌, ◌^◌};
 ghost use Rattle.std.specs.Int.{byte_len, cast_unsigned, w32, w64, from_le_bytes, to_le_bytes};
-ghost use Rattle.linker_base.specs.Form.{window_of, Fits, Written, MachineReads, IsReadBack};
+ghost use Rattle.linker_base.specs.Form.{window_of, place_sum, BitsWritten, Fits, Written, MachineReads, IsReadBack};
 ghost use Rattle.linker_base.specs.Rewrite.{CanRewrite, rewritten, offset_after, addend_after};
 ghost use Rattle.linker_utils.specs.Inner.FormLaws.{aarch64_keeps, aarch64_restored};
 ghost use Rattle.linker_utils.specs.AArch64.{aarch64_form, aarch64_rewrite, aarch64_modifier};
 ghost use Rattle.linker_utils.specs.AArch64.{access_scale, rd_of, rn_of, mov_word, mov_words, mov4};
 ghost use Rattle.linker_utils.specs.AArch64.{moved_bits, move_opcode};
+ghost use Rattle.linker_utils.specs.Inner.Immediates.{is_ored_alone, aarch64_immediate};
 
 use crate::bit_misc::BitExtraction;
 use crate::elf::engine::{self, Mark, Run, Window, run};
@@ -269,17 +270,57 @@ pub fn write_mov_sequence(dest: &mut [u8], rd: u32, value: u64)
     );
 }
 
-const ADR: [Run; 2] = [run!(ored 0, 29, 2), run!(ored 2, 5, 19)];
+/// Where a form has its `width` bits that are ORed to the instruction: `mask` takes them from the
+/// value moved up by `shift`, and `low` takes `adr`'s lowest two, which stand from bit 29 up. The
+/// number is read in two's complement of `sign_bits` bits: of 63, if it is read without a sign.
+#[derive(Clone, Copy)]
+struct Immediate {
+    width: u32,
+    sign_bits: u32,
+    low: u64,
+    shift: u32,
+    mask: u64,
+}
 
-const IMM14: [Run; 1] = [run!(ored 0, 5, 14)];
+/// The lowest bits of the value: the instruction's bit that they stand from, and how many.
+macro_rules! immediate {
+    ($insn_bit:literal, $len:literal) => {
+        immediate!($insn_bit, $len, $len)
+    };
+    (unsigned $insn_bit:literal, $len:literal) => {
+        immediate!($insn_bit, $len, 63)
+    };
+    ($insn_bit:literal, $len:literal, $sign_bits:literal) => {
+        Immediate {
+            width: $len,
+            sign_bits: $sign_bits,
+            low: 0,
+            shift: $insn_bit,
+            mask: ((1 << $len) - 1) << $insn_bit,
+        }
+    };
+}
 
-const IMM16: [Run; 1] = [run!(ored 0, 5, 16)];
-
-const IMM19: [Run; 1] = [run!(ored 0, 5, 19)];
-
-const IMM26: [Run; 1] = [run!(ored 0, 0, 26)];
-
-const IMM12: [Run; 1] = [run!(ored 0, 10, 12)];
+/// By the forms' places in their enum. `Movnz` and `MachOLow12` are written otherwise.
+static IMMEDIATES: [Immediate; 11] = [
+    Immediate {
+        width: 21,
+        sign_bits: 21,
+        low: 3,
+        shift: 3,
+        mask: 0x00ff_ffe0,
+    },
+    immediate!(5, 16),
+    immediate!(0, 0),
+    immediate!(5, 19),
+    immediate!(unsigned 10, 12),
+    immediate!(unsigned 10, 12),
+    immediate!(10, 12),
+    immediate!(5, 14),
+    immediate!(5, 19),
+    immediate!(0, 26),
+    immediate!(0, 0),
+];
 
 const MOVED: [Run; 1] = [run!(0, 5, 16)];
 
@@ -331,6 +372,37 @@ fn scaled(scale: u32) -> [Run; 1]
 }
 
 impl AArch64Instruction {
+    /// Where the form has its bits. A table, since a match of runs would be a jump by the form.
+    #[inline(always)]
+    fn immediate(self) -> Immediate
+        ensures { result ≡ aarch64_immediate self }
+    {
+        IMMEDIATES[self as usize]
+    }
+
+    /// An instruction with the bits of a value ORed to it.
+    #[inline(always)]
+    fn ored(self, value: u64, word: u64) -> u64
+        requires plain { is_ored_alone self ≡ true }
+        requires small { word < 2 ^ 32 }
+        ensures small { result < 2 ^ 32 }
+        ensures written { BitsWritten ((aarch64_form self).places 0) value word result }
+    {
+        let immediate = self.immediate();
+        word | (value & immediate.low) << 29 | value << immediate.shift & immediate.mask
+    }
+
+    /// The number in the form's bits.
+    #[inline(always)]
+    fn taken(self, word: u64) -> u64
+        requires { is_ored_alone self ≡ true }
+        ensures number { result ≡ place_sum ((aarch64_form self).places 0) word }
+        ensures small { result < 2 ^ (aarch64_immediate self).sign_bits }
+    {
+        let immediate = self.immediate();
+        word >> 29 & immediate.low | (word & immediate.mask) >> immediate.shift
+    }
+
     /// Writes the bits of a value.
     #[inline(always)]
     fn place(self, value: u64, negative: bool, dest: &mut [u8])
@@ -343,33 +415,19 @@ impl AArch64Instruction {
             ≡ window_of (aarch64_form self) dest.old
             → dest.new ≡ dest.old }
     {
-        let insn = RelocationInstruction::AArch64(self);
         match self {
-            AArch64Instruction::Adr => {
-                engine::write_form(insn, Window::Four, &ADR, value, negative, dest);
-            }
-            AArch64Instruction::Movkz => {
-                engine::write_form(insn, Window::Four, &IMM16, value, negative, dest);
-            }
             AArch64Instruction::Movnz => {
                 let (bits, opcode) = moved(value, negative);
                 let word = Window::Four.load(dest) & 0x007f_ffff | opcode;
                 engine::write_over(Window::Four, &MOVED, bits, word, dest);
             }
-            AArch64Instruction::Ldr | AArch64Instruction::Bcond => {
-                engine::write_form(insn, Window::Four, &IMM19, value, negative, dest);
-            }
-            AArch64Instruction::LdrRegister | AArch64Instruction::Add | AArch64Instruction::LdSt =>
-                engine::write_form(insn, Window::Four, &IMM12, value, negative, dest),
-            AArch64Instruction::TstBr => {
-                engine::write_form(insn, Window::Four, &IMM14, value, negative, dest);
-            }
-            AArch64Instruction::JumpCall => {
-                engine::write_form(insn, Window::Four, &IMM26, value, negative, dest);
-            }
             AArch64Instruction::MachOLow12 => {
                 let scale = scale_of(Window::Four.load(dest));
                 engine::write(Window::Four, &scaled(scale), value, dest);
+            }
+            _ => {
+                let word = self.ored(value, Window::Four.load(dest));
+                Window::Four.store(word, dest);
             }
         }
     }
@@ -405,14 +463,7 @@ impl AArch64Instruction {
         ensures flag { result.1
             ≡ (aarch64_form self).flag (window_of (aarch64_form self) bytes.now) }
     {
-        let insn = RelocationInstruction::AArch64(self);
         match self {
-            AArch64Instruction::Adr => {
-                engine::read_signed_form(insn, Window::Four, &ADR, 21, bytes)
-            }
-            AArch64Instruction::Movkz => {
-                engine::read_signed_form(insn, Window::Four, &IMM16, 16, bytes)
-            }
             AArch64Instruction::Movnz => {
                 let moved = engine::read(Window::Four, &MOVED, bytes);
                 if Window::Four.load(bytes).extract_bit(30) == 0 {
@@ -421,24 +472,16 @@ impl AArch64Instruction {
                     (moved, false)
                 }
             }
-            AArch64Instruction::Ldr | AArch64Instruction::Bcond => {
-                engine::read_signed_form(insn, Window::Four, &IMM19, 19, bytes)
-            }
-            AArch64Instruction::LdrRegister | AArch64Instruction::Add => {
-                engine::read_form(insn, Window::Four, &IMM12, bytes)
-            }
-            AArch64Instruction::LdSt => {
-                engine::read_signed_form(insn, Window::Four, &IMM12, 12, bytes)
-            }
-            AArch64Instruction::TstBr => {
-                engine::read_signed_form(insn, Window::Four, &IMM14, 14, bytes)
-            }
-            AArch64Instruction::JumpCall => {
-                engine::read_signed_form(insn, Window::Four, &IMM26, 26, bytes)
-            }
             AArch64Instruction::MachOLow12 => {
                 let scale = scale_of(Window::Four.load(bytes));
                 (engine::read(Window::Four, &scaled(scale), bytes), false)
+            }
+            _ => {
+                let number = self.taken(Window::Four.load(bytes));
+                (
+                    engine::signed_number(number, self.immediate().sign_bits).0,
+                    false,
+                )
             }
         }
     }
@@ -459,15 +502,9 @@ impl InstructionForm for AArch64Instruction {
     #[inline]
     fn fits(self, value: u64, bytes: &[u8]) -> bool {
         match self {
-            AArch64Instruction::Adr => value < 1 << 21,
-            AArch64Instruction::Movkz => value < 1 << 16,
             AArch64Instruction::Movnz => true,
-            AArch64Instruction::Ldr | AArch64Instruction::Bcond => value < 1 << 19,
-            AArch64Instruction::LdrRegister | AArch64Instruction::Add | AArch64Instruction::LdSt =>
-                value < 1 << 12,
-            AArch64Instruction::TstBr => value < 1 << 14,
-            AArch64Instruction::JumpCall => value < 1 << 26,
             AArch64Instruction::MachOLow12 => value >> scale_of(Window::Four.load(bytes)) < 1 << 12,
+            _ => value >> self.immediate().width == 0,
         }
     }
 

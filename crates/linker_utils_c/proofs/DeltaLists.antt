@@ -1,10 +1,6 @@
 -- Lists of deletions and deltas that are made one by one.
-use Rattle.std.proofs.Common.{◌≡◌, ℕ, ◌+◌, ◌<◌, List, [], ◌∷◌, ◌++◌, length, map, get_or, take, set, ap, ◌∙◌, arith}
-use Rattle.std.proofs.lemmas.List.{get_or-map, length-map, take_more, take_more_set}
-use Rattle.linker_base.specs.declared.relaxation.RelaxDelta.{RelaxDelta}
-use Rattle.linker_base.specs.Deletions.{bytes_of}
-use Rattle.linker_base.specs.Deltas.{deletion_of, RecordsDeletions}
-use Rattle.linker_base.proofs.Listed.{RecordsDeletions-more}
+use Rattle.std.proofs.Common.{◌≡◌, ℕ, ◌+◌, ◌<◌, List, [], ◌∷◌, ◌++◌, length, map, get_or, take, ap, ◌∙◌, arith}
+use Rattle.std.proofs.lemmas.List.{get_or-map, length-map, take_more}
 use Rattle.linker_utils_c.specs.declared.deltas.Deletion.{Deletion}
 use Rattle.linker_utils_c.specs.Deltas.{pair_of, pairs_in}
 

@@ -7,66 +7,67 @@ use linker_utils::elf::{
     RelocationInstruction, RiscVInstruction,
 };
 
+// Tables, since a match becomes a jump by the number where what follows differs by the form.
+static AARCH64_FORMS: [AArch64Instruction; 11] = [
+    AArch64Instruction::Adr,
+    AArch64Instruction::Movkz,
+    AArch64Instruction::Movnz,
+    AArch64Instruction::Ldr,
+    AArch64Instruction::LdrRegister,
+    AArch64Instruction::Add,
+    AArch64Instruction::LdSt,
+    AArch64Instruction::TstBr,
+    AArch64Instruction::Bcond,
+    AArch64Instruction::JumpCall,
+    AArch64Instruction::MachOLow12,
+];
+
 #[inline(always)]
 fn aarch64_form(number: u32) -> Option<AArch64Instruction> {
-    let form = match number {
-        0 => AArch64Instruction::Adr,
-        1 => AArch64Instruction::Movkz,
-        2 => AArch64Instruction::Movnz,
-        3 => AArch64Instruction::Ldr,
-        4 => AArch64Instruction::LdrRegister,
-        5 => AArch64Instruction::Add,
-        6 => AArch64Instruction::LdSt,
-        7 => AArch64Instruction::TstBr,
-        8 => AArch64Instruction::Bcond,
-        9 => AArch64Instruction::JumpCall,
-        10 => AArch64Instruction::MachOLow12,
-        _ => return None,
-    };
-    Some(form)
+    AARCH64_FORMS.get(number as usize).copied()
 }
+
+static RISCV_FORMS: [RiscVInstruction; 9] = [
+    RiscVInstruction::UType,
+    RiscVInstruction::IType,
+    RiscVInstruction::SType,
+    RiscVInstruction::BType,
+    RiscVInstruction::JType,
+    RiscVInstruction::CbType,
+    RiscVInstruction::CjType,
+    RiscVInstruction::CluiType,
+    RiscVInstruction::UiType,
+];
 
 #[inline(always)]
 fn riscv_form(number: u32) -> Option<RiscVInstruction> {
-    let form = match number {
-        0 => RiscVInstruction::UType,
-        1 => RiscVInstruction::IType,
-        2 => RiscVInstruction::SType,
-        3 => RiscVInstruction::BType,
-        4 => RiscVInstruction::JType,
-        5 => RiscVInstruction::CbType,
-        6 => RiscVInstruction::CjType,
-        7 => RiscVInstruction::CluiType,
-        8 => RiscVInstruction::UiType,
-        _ => return None,
-    };
-    Some(form)
+    RISCV_FORMS.get(number as usize).copied()
 }
+
+static LOONGARCH64_FORMS: [LoongArch64Instruction; 6] = [
+    LoongArch64Instruction::Shift5,
+    LoongArch64Instruction::Shift10,
+    LoongArch64Instruction::Branch26,
+    LoongArch64Instruction::Branch21,
+    LoongArch64Instruction::Call30,
+    LoongArch64Instruction::Call36,
+];
 
 #[inline(always)]
 fn loongarch64_form(number: u32) -> Option<LoongArch64Instruction> {
-    let form = match number {
-        0 => LoongArch64Instruction::Shift5,
-        1 => LoongArch64Instruction::Shift10,
-        2 => LoongArch64Instruction::Branch26,
-        3 => LoongArch64Instruction::Branch21,
-        4 => LoongArch64Instruction::Call30,
-        5 => LoongArch64Instruction::Call36,
-        _ => return None,
-    };
-    Some(form)
+    LOONGARCH64_FORMS.get(number as usize).copied()
 }
+
+static PPC64_FORMS: [Ppc64Instruction; 4] = [
+    Ppc64Instruction::D,
+    Ppc64Instruction::Ds,
+    Ppc64Instruction::Branch14,
+    Ppc64Instruction::Branch24,
+];
 
 #[inline(always)]
 fn ppc64_form(number: u32) -> Option<Ppc64Instruction> {
-    let form = match number {
-        0 => Ppc64Instruction::D,
-        1 => Ppc64Instruction::Ds,
-        2 => Ppc64Instruction::Branch14,
-        3 => Ppc64Instruction::Branch24,
-        _ => return None,
-    };
-    Some(form)
+    PPC64_FORMS.get(number as usize).copied()
 }
 
 /// The form of a machine and a number, or which of the two is unknown.

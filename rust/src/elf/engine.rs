@@ -129,7 +129,7 @@ fn extract(runs: &[Run], window: u64) -> u64 {
 
 /// A number of `bits` bits in two's complement, at 64 bits, and whether it is below 0.
 #[inline(always)]
-fn signed_number(number: u64, bits: u32) -> (u64, bool) {
+pub(crate) fn signed_number(number: u64, bits: u32) -> (u64, bool) {
     let sign = 1u64 << (bits - 1);
     if number < sign {
         (number, false)

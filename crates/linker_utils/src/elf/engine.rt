@@ -158,7 +158,7 @@ fn extract(runs: &[Run], window: u64) -> u64
 
 /// A number of `bits` bits in two's complement, at 64 bits, and whether it is below 0.
 #[inline(always)]
-fn signed_number(number: u64, bits: u32) -> (u64, bool)
+pub(crate) fn signed_number(number: u64, bits: u32) -> (u64, bool)
     requires some { 0 < bits }
     requires short { bits < 64 }
     requires fits { number < 2 ^ bits }
