@@ -1,6 +1,6 @@
 -- How a section is packed: its kept runs, and the jumps in it.
 use Rattle.std.proofs.Common.{◌≡◌, ℕ, zero, suc, ◌+◌, ◌-◌, ◌<◌, ◌≤◌, ◌^◌, true, false, not, ltb, leb, List, [], ◌∷◌, ◌++◌, length, get_or, take, drop, refl, sym, subst, ◌∙◌, ap, arith, inl, inr, add-zero, add-suc, ℤ}
-use Rattle.std.specs.Prelude.{min, IsOk, OnOk, IfOk, IfErr, Result, Ok, Err, All}
+use Rattle.std.specs.Prelude.{min, IsOk, OnOk, Result, Ok, Err, All}
 use Rattle.std.specs.List.{list_any}
 use Rattle.std.proofs.lemmas.Bool.{cases_Bool, cases_lt, both_ways, and_from, le-leb, lt-ltb}
 use Rattle.std.proofs.lemmas.Bool.Decides.{nat_tests}
@@ -40,12 +40,6 @@ module _ (xs ys : List ℕ) (at n : ℕ) (room : at + length ys ≤ length xs) (
       get_or_append_left (take at xs ++ ys) (drop n xs) 0 (at + i) (omega (arith, both_length))
       ∙ get_or-append_right (take at xs) ys at (at + i) 0 front_length (omega arith)
       ∙ ap (λ k. get_or ys k 0) (omega arith)
-
-  pub put_above : (j : ℕ) → n ≤ j → get_or (take at xs ++ ys ++ drop n xs) j 0 ≡ get_or xs j 0
-  put_above j h =
-      get_or-append_right (take at xs ++ ys) (drop n xs) n j 0 (both_length ∙ sym behind) h
-      ∙ get_or-drop n xs (j - n) 0
-      ∙ ap (λ k. get_or xs k 0) (omega arith)
 
 -- ---- positions that are kept, and others
 
@@ -287,19 +281,6 @@ four_of OfJalr = omega arith
 pub on_ok : {A E : Type 0} (r : Result A E) (P : Type 0) → IsOk r → OnOk r P → P
 on_ok (Ok a) P is h = h
 on_ok (Err e) P is h = cc
-
--- a result that is no error is a value
-pub ok_of : {A E : Type 0} (r : Result A E) → ((e : E) → r ≡ Err e → ⊥) → IsOk r
-ok_of (Ok a) none = refl
-ok_of (Err e) none = absurd (none e refl)
-
-pub if_ok : {A E : Type 0} (r : Result A E) (P : A → Type 0) (Q : Type 0) → IsOk r → IfOk r P → ((a : A) → P a → Q) → Q
-if_ok (Ok a) P Q is h give = give a h
-if_ok (Err e) P Q is h give = cc
-
-pub if_err : {A E : Type 0} (r : Result A E) (P : E → Type 0) (Q : Type 0) → (IsOk r → ⊥) → IfErr r P → ((e : E) → P e → Q) → Q
-if_err (Ok a) P Q is h give = absurd (is refl)
-if_err (Err e) P Q is h give = give e h
 
 -- ---- calls
 
