@@ -14,7 +14,7 @@ ghost use Rattle.linker_base.specs.Inner.Listed.{ArePlaced, IsOnlyAt};
 use super::RelaxDelta;
 use super::arrays::Arrays;
 use super::blocks::BlockHead;
-use super::partition_point::{Test, search_blocks, search_deltas};
+use super::partition_point::{FEW, Test, search_blocks, search_deltas};
 
 // The bytes that the first `count` deltas delete.
 #[inline(always)]
@@ -143,6 +143,9 @@ pub(super) fn rank_by_heads(deltas: &[RelaxDelta], heads: &[BlockHead], offset: 
     ensures { AreValidDeltas deltas.now → AreHeads deltas.now heads.now
         → result ≡ rank (map deletion_of deltas.now) offset }
 {
+    if deltas.len() <= FEW {
+        return rank(deltas, offset);
+    }
     let below = search_blocks(&mut Arrays { deltas, heads }, Test::Begins(offset));
     match below.checked_sub(1) {
         Some(last) => rank_after(deltas[last], offset),
@@ -165,6 +168,9 @@ pub(super) fn bytes_before_by_heads(
         → (HasInput (map deletion_of deltas.now) output_offset
         ↔ (output_offset + result < 2 ^ 64)) }
 {
+    if deltas.len() <= FEW {
+        return bytes_before(deltas, output_offset);
+    }
     let placed = search_blocks(&mut Arrays { deltas, heads }, Test::IsPlaced(output_offset));
     bytes_of_first(deltas, placed)
 }

@@ -27,8 +27,8 @@ returns-in-None-clause-point g c parted agree =
     let none : c.search_heads.result ≡ 0 = omega (arith, c.in-None.ensures) in
     none_passes heads deltas blocks size parted agree (rw none at point)
 
-pub returns-then-len-le1024-clause-spent : goal.returns-then-len-le1024-clause-spent
-returns-then-len-le1024-clause-spent g c few digits fits =
+pub returns-then-len-le-FEW-clause-spent : goal.returns-then-len-le-FEW-clause-spent
+returns-then-len-le-FEW-clause-spent g c few digits fits =
     let probes = g.P.Probe.probes c.args.probe.now in
     let blocks = g.P.Probe.size c.args.probe.now Heads in
     let can = can_begin_blocks probes c.len-len.result blocks digits (omega (arith, few, c.len-len.ensures.size)) fits in
