@@ -362,6 +362,25 @@ pub(super) fn search_blocks<P: Probe>(probe: &mut P, test: Test) -> usize
         let all = SearchRange { start: 0, len };
         return point_in(probe, Level::Deltas, test, all, all);
     }
+    search_many(probe, test)
+}
+
+/// How many deltas pass, by the heads of their blocks. There is a whole block.
+#[inline(always)]
+pub(super) fn search_many<P: Probe>(probe: &mut P, test: Test) -> usize
+    requires room { P.probes probe.old < 2 ^ 33 }
+    requires long { 64 ≤ P.size probe.old Deltas }
+    ensures same_size { P.size probe.new ≡ P.size probe.old }
+    ensures same { P.passing probe.new ≡ P.passing probe.old }
+    ensures same_deltas { P.deltas probe.new ≡ P.deltas probe.old }
+    ensures within { result ≤ P.size probe.old Deltas }
+    ensures point { IsPartitioned (P.passing probe.old Deltas test) (P.size probe.old Deltas) → HeadsAgree (P.passing probe.old Heads test) (P.passing probe.old Deltas test) (P.size probe.old Heads) (P.size probe.old Deltas)
+        → IsPointOf (P.passing probe.old Deltas test) (P.size probe.old Deltas) result }
+    ensures spent { P.size probe.old Deltas ≤ 64 * P.size probe.old Heads
+        → (digits : ℕ) → P.size probe.old Heads < 2 ^ digits
+        → P.probes probe.new ≤ P.probes probe.old + digits + 7 }
+    ensures room { P.probes probe.new < 2 ^ 62 }
+{
     match search_heads(probe, test).checked_sub(1) {
         Some(block) => search_block(probe, test, block),
         None => 0,

@@ -5,7 +5,7 @@
 use super::RelaxDelta;
 use super::arrays::Arrays;
 use super::blocks::BlockHead;
-use super::partition_point::{FEW, Test, search_blocks, search_deltas};
+use super::partition_point::{Test, search_blocks, search_deltas};
 
 // The bytes that the first `count` deltas delete.
 #[inline(always)]
@@ -89,12 +89,10 @@ pub(super) fn delta_at(deltas: &[RelaxDelta], offset: u64) -> Option<RelaxDelta>
     }
 }
 
-// The rank of an offset, by the heads of blocks first. They are no more than the blocks.
-#[inline(always)]
+// The rank of an offset, by the heads of blocks first. They are no more than the blocks. Not
+// inlined, so that a caller's search of a few deltas stays small.
+#[inline(never)]
 pub(super) fn rank_by_heads(deltas: &[RelaxDelta], heads: &[BlockHead], offset: u64) -> u64 {
-    if deltas.len() <= FEW {
-        return rank(deltas, offset);
-    }
     let below = search_blocks(&mut Arrays { deltas, heads }, Test::Begins(offset));
     match below.checked_sub(1) {
         Some(last) => rank_after(deltas[last], offset),
@@ -104,15 +102,12 @@ pub(super) fn rank_by_heads(deltas: &[RelaxDelta], heads: &[BlockHead], offset: 
 
 // The bytes that are deleted before the kept byte at an output offset, by the heads of blocks
 // first.
-#[inline(always)]
+#[inline(never)]
 pub(super) fn bytes_before_by_heads(
     deltas: &[RelaxDelta],
     heads: &[BlockHead],
     output_offset: u64,
 ) -> u64 {
-    if deltas.len() <= FEW {
-        return bytes_before(deltas, output_offset);
-    }
     let placed = search_blocks(&mut Arrays { deltas, heads }, Test::IsPlaced(output_offset));
     bytes_of_first(deltas, placed)
 }
