@@ -2,9 +2,10 @@
 use Rattle.std.proofs.Common.{◌≡◌, ℕ, zero, suc, ◌+◌, ◌-◌, ◌*◌, ◌/◌, ◌<◌, ◌≤◌, Bool, true, false, sym, ap, ◌∙◌, inl, inr, arith}
 use Rattle.std.specs.Prelude.{◌^◌}
 use Rattle.std.proofs.lemmas.Bool.{cases_Bool, cases_lt, false≢true}
+use Rattle.std.proofs.lemmas.Nat.{pow_pos}
 use mir.Val.{bool_byte}
 use Rattle.linker_base.specs.declared.relaxation.partition_point.SearchRange.{SearchRange}
-use Rattle.linker_base.specs.Inner.PartitionPoint.{IsPartitioned, IsPointOf, HeadsAgree, IsRangeOf, IsNarrowed, CanHalve, Narrows}
+use Rattle.linker_base.specs.Inner.PartitionPoint.{IsPartitioned, IsPointOf, HeadsAgree, IsRangeOf, IsNarrowed, IsPowerOfTwo, CanHalve, Narrows}
 
 -- ---- probes
 
@@ -15,6 +16,20 @@ can_stay limit spent now len shorter le short (left, long, room) = (left, omega 
 pub can_once : (limit spent now len half : ℕ) → now ≤ spent + 1 → 1 < len → 2 * half ≤ len + 1 → CanHalve limit spent len → CanHalve limit now half
 can_once limit spent now len half le long part (zero, fits, room) = absurd (omega arith)
 can_once limit spent now len half le long part (suc left, fits, room) = (left, omega arith, omega arith)
+
+-- a power of two below another is at most its half
+power_below : (m k : ℕ) → 2 ^ m < 2 ^ suc k → 2 ^ m ≤ 2 ^ k
+power_below zero k below = omega (arith, pow_pos k)
+power_below (suc m) zero below = absurd (omega (arith, pow_pos m))
+power_below (suc m) (suc k) below = omega (arith, power_below m k (omega arith))
+
+-- a cut to fewer elements, a power of two, takes one probe
+pub can_cut : (limit spent now len width : ℕ) → now ≤ spent + 1 → IsPowerOfTwo width → width < len → CanHalve limit spent len → CanHalve limit now width
+can_cut limit spent now len width le (m, is) long (zero, fits, room) = absurd (omega (arith, is, pow_pos m))
+can_cut limit spent now len width le (m, is) long (suc left, fits, room) = (left, omega (arith, is, power_below m left (omega (arith, is))), omega arith)
+
+pub power_some : (width : ℕ) → IsPowerOfTwo width → 0 < width
+power_some width (m, is) = omega (arith, is, pow_pos m)
 
 pub can_end : (limit spent len : ℕ) → CanHalve limit spent len → spent ≤ limit
 can_end limit spent len (left, long, room) = omega arith
@@ -77,6 +92,27 @@ module _ (p : ℕ → Bool) (n : ℕ) where
     first = λ f. f;
     narrowed = λ parted known. narrowed_down parted s _ (s.start + half) (omega (arith, within.end)) (omega arith) (omega arith) failing known;
     can = λ limit held. can_once limit spent now s.len (s.len - half) probed long (omega arith) held;
+  }
+
+  -- the same with the last or the first `width` elements
+  pub narrows_last : (s : SearchRange) (middle width spent now : ℕ) → IsRangeOf s n → IsPowerOfTwo width → width < s.len → middle + width ≡ s.start + s.len → p middle ≡ true → now ≤ spent + 1
+      → Narrows p n s spent (record { start = middle; len = width }) now
+  narrows_last s middle width spent now within power long end passing probed = record {
+    within = record { end = omega (arith, within.end); fits = within.fits };
+    some = λ _. power_some width power;
+    first = λ _. passing;
+    narrowed = λ parted known. narrowed_up parted s _ (omega (arith, within.end, power_some width power)) (omega arith) passing known;
+    can = λ limit held. can_cut limit spent now s.len width probed power long held;
+  }
+
+  pub narrows_first : (s : SearchRange) (middle width spent now : ℕ) → IsRangeOf s n → IsPowerOfTwo width → width < s.len → s.len ≤ 2 * width → middle + width ≡ s.start + s.len → p middle ≡ false → now ≤ spent + 1
+      → Narrows p n s spent (record { start = s.start; len = width }) now
+  narrows_first s middle width spent now within power long few end failing probed = record {
+    within = record { end = omega (arith, within.end); fits = within.fits };
+    some = λ _. power_some width power;
+    first = λ f. f;
+    narrowed = λ parted known. narrowed_down parted s _ middle (omega (arith, within.end, power_some width power)) (omega arith) (omega arith) failing known;
+    can = λ limit held. can_cut limit spent now s.len width probed power long held;
   }
 
   -- the tests at the ends of three quarters: the next quarter

@@ -4,7 +4,7 @@
 //! Each call is safe for any heads, and what it returns is promised of those that
 //! `linker_utils_deltas_heads` wrote of the same deltas.
 
-ghost use Rattle.std.specs.Prelude.{◌≡◌, ◌≢◌, MatchOption, length};
+ghost use Rattle.std.specs.Prelude.{◌≡◌, ◌≢◌, length};
 ghost use Rattle.linker_base.specs.Blocks.{AreHeads, blocks_of};
 ghost use Rattle.linker_base.specs.Deletions.{IsSelected, HasInput, rank};
 ghost use Rattle.linker_base.specs.Deltas.{deletions_of};
@@ -54,11 +54,7 @@ pub extern "C" fn linker_utils_deltas_input_to_output_by_heads_nonnull(
     ensures { AreValidDeltas deltas.now → AreHeads deltas.now heads.now
         → result ≡ rank (deletions_of deltas.now) input_offset }
 {
-    let deltas = DeltaSlice::new(deltas);
-    match deltas.with_heads(heads) {
-        Some(blocked) => blocked.input_to_output_offset(input_offset),
-        None => deltas.input_to_output_offset(input_offset),
-    }
+    DeltaSlice::new(deltas).input_to_output_by_heads(heads, input_offset)
 }
 
 /// `linker_utils_deltas_output_to_input` of deltas with the heads of their blocks. The error is
@@ -78,24 +74,11 @@ pub extern "C" fn linker_utils_deltas_output_to_input_by_heads_nonnull(
         → ¬ HasInput (deletions_of deltas.now) output_offset → result ≡ code Status.TooLarge }
     ensures unchanged { result ≢ code Status.Success → input_offset.new ≡ input_offset.old }
 {
-    match input_by_heads(deltas, heads, output_offset) {
+    match DeltaSlice::new(deltas).output_to_input_by_heads(heads, output_offset) {
         None => Status::TooLarge.number(),
         Some(offset) => {
             *input_offset = offset;
             Status::Success.number()
         }
-    }
-}
-
-#[inline(always)]
-fn input_by_heads(deltas: &[RelaxDelta], heads: &[BlockHead], output_offset: u64) -> Option<u64>
-    ensures { AreValidDeltas deltas.now → AreHeads deltas.now heads.now → MatchOption result
-        (¬ HasInput (deletions_of deltas.now) output_offset)
-        (IsSelected (deletions_of deltas.now) output_offset) }
-{
-    let deltas = DeltaSlice::new(deltas);
-    match deltas.with_heads(heads) {
-        Some(blocked) => blocked.output_to_input_offset(output_offset),
-        None => deltas.output_to_input_offset(output_offset),
     }
 }

@@ -34,11 +34,7 @@ pub fn linker_utils_deltas_input_to_output_by_heads_nonnull(
     heads: &[BlockHead],
     input_offset: u64,
 ) -> u64 {
-    let deltas = DeltaSlice::new(deltas);
-    match deltas.with_heads(heads) {
-        Some(blocked) => blocked.input_to_output_offset(input_offset),
-        None => deltas.input_to_output_offset(input_offset),
-    }
+    DeltaSlice::new(deltas).input_to_output_by_heads(heads, input_offset)
 }
 
 /// `linker_utils_deltas_output_to_input` of deltas with the heads of their blocks. The error is
@@ -49,20 +45,11 @@ pub fn linker_utils_deltas_output_to_input_by_heads_nonnull(
     output_offset: u64,
     input_offset: &mut u64,
 ) -> u32 {
-    match input_by_heads(deltas, heads, output_offset) {
+    match DeltaSlice::new(deltas).output_to_input_by_heads(heads, output_offset) {
         None => Status::TooLarge.number(),
         Some(offset) => {
             *input_offset = offset;
             Status::Success.number()
         }
-    }
-}
-
-#[inline(always)]
-fn input_by_heads(deltas: &[RelaxDelta], heads: &[BlockHead], output_offset: u64) -> Option<u64> {
-    let deltas = DeltaSlice::new(deltas);
-    match deltas.with_heads(heads) {
-        Some(blocked) => blocked.output_to_input_offset(output_offset),
-        None => deltas.output_to_input_offset(output_offset),
     }
 }

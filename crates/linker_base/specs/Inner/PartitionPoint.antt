@@ -1,5 +1,5 @@
 -- What a search tests, and what it knows on the way.
-use Rattle.std.specs.Prelude.{◌≡◌, ℕ, ◌+◌, ◌*◌, ◌^◌, ◌<◌, ◌≤◌, Bool, true, false, nat_lt, nat_le}
+use Rattle.std.specs.Prelude.{◌≡◌, ℕ, ◌+◌, ◌*◌, ◌^◌, ◌<◌, ◌≤◌, Bool, true, false, nat_lt, nat_le, min}
 use Rattle.linker_base.specs.declared.relaxation.RelaxDelta.{RelaxDelta}
 use Rattle.linker_base.specs.declared.relaxation.blocks.BlockHead.{BlockHead}
 use Rattle.linker_base.specs.declared.relaxation.partition_point.Test.{Test}
@@ -40,6 +40,15 @@ pub record IsRangeOf (range : SearchRange) (size : ℕ) : Type 0 where
 pub record IsNarrowed (passing : ℕ → Bool) (size : ℕ) (range : SearchRange) : Type 0 where
   pub before : (k : ℕ) → k < range.start → passing k ≡ true
   pub after : (k : ℕ) → range.start + range.len ≤ k → k < size → passing k ≡ false
+
+-- a power of two
+abbrev pub IsPowerOfTwo : ℕ → Type 0
+IsPowerOfTwo n = (exponent : ℕ) × (n ≡ 2 ^ exponent)
+
+-- `width` elements of a range, or all of a shorter one
+pub record IsPartOf (all : SearchRange) (width : ℕ) (part : SearchRange) : Type 0 where
+  pub len : part.len ≡ min all.len width
+  pub whole : all.len ≤ width → part ≡ all
 
 -- with one probe a halving, down to one element, the probes stay within the limit
 abbrev pub CanHalve : ℕ → ℕ → ℕ → Type 0

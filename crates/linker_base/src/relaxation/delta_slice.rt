@@ -1,6 +1,6 @@
 //! Deltas that anyone owns.
 
-ghost use Rattle.std.specs.Prelude.{◌≡◌, ◌≢◌, ◌<◌, ◌+◌, ◌^◌, ◌++◌, ◌↔◌, IsTrue, MatchOption, Any, All, [], map, length};
+ghost use Rattle.std.specs.Prelude.{◌≡◌, ◌≢◌, ◌<◌, ◌+◌, ◌^◌, ◌++◌, ◌↔◌, IsTrue, IfSome, MatchOption, Any, All, [], map, length};
 ghost use Rattle.std.specs.List.Sorted.{IsNonDecreasing};
 ghost use Rattle.linker_base.specs.Deletions.{AreDisjoint, AreKept, IsValid, IsSortedUnion, bytes_of, rank, IsInsideDeletion, IsSelected, HasInput};
 ghost use Rattle.linker_base.specs.Blocks.{blocks_of, AreHeads};
@@ -11,6 +11,7 @@ use super::blocked_slice::BlockedSlice;
 use super::blocks::{BlockHead, count_blocks, write_heads};
 use super::merge::{copy_summed, merge_ascending};
 use super::overlap::{self, AsDeletion};
+use super::partition_point::FEW;
 use super::walk::{Reached, ascend, walk};
 use super::{RelaxDelta, search};
 use std::marker::Model;
@@ -68,6 +69,17 @@ impl<'a> DeltaSlice<'a> {
             return None;
         }
         Some(BlockedSlice::new(self.deltas, heads))
+    }
+
+    // `with_heads` of more than a few deltas.
+    #[inline(always)]
+    fn with_many_heads(&self, heads: &'a [BlockHead]) -> Option<BlockedSlice<'a>>
+        ensures { IfSome result (λ blocked. blocked ≡ record { deltas = self.now; heads = heads.now }) }
+    {
+        if self.deltas.len() <= FEW {
+            return None;
+        }
+        self.with_heads(heads)
     }
 
     /// How many deltas there are.
@@ -155,6 +167,36 @@ impl<'a> DeltaSlice<'a> {
             → MatchOption result (¬ (HasInput (deletions_of self.now) output_offset)) (IsSelected (deletions_of self.now) output_offset) }
     {
         output_offset.checked_add(search::bytes_before(self.deltas, output_offset))
+    }
+
+    /// As `input_to_output_offset`, with the heads of the blocks. It looks at them first where the
+    /// deltas are more than a few, and not at all where they aren't as many as blocks. O(log n).
+    #[inline(always)]
+    pub fn input_to_output_by_heads(&self, heads: &'a [BlockHead], input_offset: u64) -> u64
+        ensures { AreValidDeltas self.now → AreHeads self.now heads.now
+            → result ≡ rank (deletions_of self.now) input_offset }
+    {
+        match self.with_many_heads(heads) {
+            Some(blocked) => blocked.input_to_output_offset(input_offset),
+            None => self.input_to_output_offset(input_offset),
+        }
+    }
+
+    /// As `output_to_input_offset`, with the heads of the blocks. It looks at them first where the
+    /// deltas are more than a few, and not at all where they aren't as many as blocks. O(log n).
+    #[inline(always)]
+    pub fn output_to_input_by_heads(
+        &self,
+        heads: &'a [BlockHead],
+        output_offset: u64,
+    ) -> Option<u64>
+        ensures { AreValidDeltas self.now → AreHeads self.now heads.now
+            → MatchOption result (¬ (HasInput (deletions_of self.now) output_offset)) (IsSelected (deletions_of self.now) output_offset) }
+    {
+        match self.with_many_heads(heads) {
+            Some(blocked) => blocked.output_to_input_offset(output_offset),
+            None => self.output_to_input_offset(output_offset),
+        }
     }
 
     /// Writes the output offset of each of the queries, in order, in one walk through the deltas:

@@ -5,10 +5,13 @@ ghost use Rattle.linker_base.specs.declared.relaxation.RelaxDelta.{RelaxDelta};
 ghost use Rattle.linker_base.specs.declared.relaxation.partition_point.Level.TheVariants.{Heads, Deltas};
 ghost use Rattle.linker_base.specs.declared.relaxation.partition_point.Level.{Level};
 ghost use Rattle.linker_base.specs.declared.relaxation.partition_point.Test.{Test};
-ghost use Rattle.linker_base.specs.Inner.PartitionPoint.{passes, head_passes, IsRangeOf, IsPartitioned, IsPointOf, IsNarrowed, CanHalve, HeadsAgree, Narrows};
+ghost use Rattle.linker_base.specs.Inner.PartitionPoint.{passes, head_passes, IsRangeOf, IsPartitioned, IsPointOf, IsNarrowed, CanHalve, HeadsAgree, Narrows, IsPowerOfTwo, IsPartOf};
 
 use super::RelaxDelta;
 use super::blocks::{BLOCK_LEN, BlockHead};
+
+/// So many deltas are searched at once, without their heads: they lie in the processor's cache.
+pub(super) const FEW: usize = 1024;
 
 /// A test that the first deltas of a valid list pass, and the others fail.
 #[derive(Clone, Copy)]
@@ -112,28 +115,103 @@ fn halve<P: Probe>(probe: &mut P, level: Level, test: Test, range: SearchRange) 
     }
 }
 
-/// The part of the range in which the partition point lies, after five halvings.
+/// The `width` elements from `start` or from `middle` on in which the partition point lies.
 #[inline(always)]
-fn halve_five_times<P: Probe>(
+fn choose<P: Probe>(
     probe: &mut P,
     level: Level,
     test: Test,
     range: SearchRange,
+    middle: usize,
+    width: usize,
 ) -> SearchRange
     requires within { IsRangeOf range (P.size probe.old level) }
-    requires room { P.probes probe.old < 2 ^ 62 }
+    requires power { IsPowerOfTwo width }
+    requires few { (width < range.len) × (range.len ≤ 2 * width) }
+    requires end { middle + width ≡ range.start + range.len }
+    requires room { P.probes probe.old < 2 ^ 63 }
     ensures same_size { P.size probe.new ≡ P.size probe.old }
     ensures same { P.passing probe.new ≡ P.passing probe.old }
     ensures same_deltas { P.deltas probe.new ≡ P.deltas probe.old }
     ensures narrows { Narrows (P.passing probe.old level test) (P.size probe.old level) range (P.probes probe.old) result (P.probes probe.new) }
-    ensures part { 32 * result.len ≤ range.len + 31 }
+    ensures len { result.len ≡ width }
+    ensures counted { P.probes probe.new ≤ P.probes probe.old + 1 }
+{
+    let start = if probe.passes(level, test, middle) {
+        middle
+    } else {
+        range.start
+    };
+    SearchRange { start, len: width }
+}
+
+/// Of a part of at most `2 * width` elements of a range the part of at most `width` in which the
+/// partition point lies. Where the widths are constants, LLVM sees from the length of the whole
+/// range that all steps after the first halve: no length is computed, and nothing compared but one
+/// element.
+#[inline(always)]
+fn narrow<P: Probe>(
+    probe: &mut P,
+    level: Level,
+    test: Test,
+    all: SearchRange,
+    part: SearchRange,
+    width: usize,
+) -> SearchRange
+    requires within { IsRangeOf part (P.size probe.old level) }
+    requires power { IsPowerOfTwo width }
+    requires small { width < 2 ^ 62 }
+    requires part { IsPartOf all (2 * width) part }
+    requires room { P.probes probe.old < 2 ^ 63 }
+    ensures same_size { P.size probe.new ≡ P.size probe.old }
+    ensures same { P.passing probe.new ≡ P.passing probe.old }
+    ensures same_deltas { P.deltas probe.new ≡ P.deltas probe.old }
+    ensures narrows { Narrows (P.passing probe.old level test) (P.size probe.old level) part (P.probes probe.old) result (P.probes probe.new) }
+    ensures part { IsPartOf all width result }
+    ensures counted { P.probes probe.new ≤ P.probes probe.old + 1 }
+{
+    if all.len > 2 * width {
+        return choose(probe, level, test, part, part.start + width, width);
+    }
+    if all.len > width {
+        let middle = all.start + (all.len - width);
+        return choose(probe, level, test, all, middle, width);
+    }
+    part
+}
+
+/// Of a part of at most `32 * width` elements of a range the part of at most `width` in which the
+/// partition point lies. The steps are written out, as LLVM makes a branch of what a loop selects,
+/// and that is guessed wrong half the time.
+#[inline(always)]
+fn narrow_five_times<P: Probe>(
+    probe: &mut P,
+    level: Level,
+    test: Test,
+    all: SearchRange,
+    part: SearchRange,
+    width: usize,
+) -> SearchRange
+    requires within { IsRangeOf part (P.size probe.old level) }
+    requires power { IsPowerOfTwo width }
+    requires small { width < 2 ^ 32 }
+    requires part { IsPartOf all (32 * width) part }
+    requires room { P.probes probe.old < 2 ^ 62 }
+    ensures same_size { P.size probe.new ≡ P.size probe.old }
+    ensures same { P.passing probe.new ≡ P.passing probe.old }
+    ensures same_deltas { P.deltas probe.new ≡ P.deltas probe.old }
+    ensures narrows { Narrows (P.passing probe.old level test) (P.size probe.old level) part (P.probes probe.old) result (P.probes probe.new) }
+    ensures part { IsPartOf all width result }
     ensures counted { P.probes probe.new ≤ P.probes probe.old + 5 }
 {
-    let half = halve(probe, level, test, range);
-    let quarter = halve(probe, level, test, half);
-    let eighth = halve(probe, level, test, quarter);
-    let sixteenth = halve(probe, level, test, eighth);
-    halve(probe, level, test, sixteenth)
+    if all.len <= width {
+        return part;
+    }
+    let half = narrow(probe, level, test, all, part, 16 * width);
+    let quarter = narrow(probe, level, test, all, half, 8 * width);
+    let eighth = narrow(probe, level, test, all, quarter, 4 * width);
+    let sixteenth = narrow(probe, level, test, all, eighth, 2 * width);
+    narrow(probe, level, test, all, sixteenth, width)
 }
 
 /// The quarter of the range in which the partition point lies, and up to three elements more. The
@@ -163,34 +241,7 @@ fn quarter<P: Probe>(probe: &mut P, level: Level, test: Test, range: SearchRange
     }
 }
 
-/// The range after five halvings, if it is longer than `limit`.
-#[inline(always)]
-fn halve_above<P: Probe>(
-    probe: &mut P,
-    level: Level,
-    test: Test,
-    range: SearchRange,
-    limit: usize,
-) -> SearchRange
-    requires within { IsRangeOf range (P.size probe.old level) }
-    requires room { P.probes probe.old < 2 ^ 62 }
-    ensures same_size { P.size probe.new ≡ P.size probe.old }
-    ensures same { P.passing probe.new ≡ P.passing probe.old }
-    ensures same_deltas { P.deltas probe.new ≡ P.deltas probe.old }
-    ensures narrows { Narrows (P.passing probe.old level test) (P.size probe.old level) range (P.probes probe.old) result (P.probes probe.new) }
-    ensures part { limit < range.len → 32 * result.len ≤ range.len + 31 }
-    ensures short { range.len ≤ limit → result.len ≤ limit }
-    ensures counted { P.probes probe.new ≤ P.probes probe.old + 5 }
-{
-    if range.len <= limit {
-        return range;
-    }
-    halve_five_times(probe, level, test, range)
-}
-
-/// The part of the range, of 1,024 elements at most, in which the partition point lies. The steps
-/// are written out, as LLVM makes a branch of what a loop selects, and that is guessed wrong half
-/// the time.
+/// The part of the range, of 2^20 elements at most, in which the partition point lies.
 #[inline(always)]
 fn shorten<P: Probe>(probe: &mut P, level: Level, test: Test, range: SearchRange) -> SearchRange
     requires within { IsRangeOf range (P.size probe.old level) }
@@ -199,37 +250,42 @@ fn shorten<P: Probe>(probe: &mut P, level: Level, test: Test, range: SearchRange
     ensures same { P.passing probe.new ≡ P.passing probe.old }
     ensures same_deltas { P.deltas probe.new ≡ P.deltas probe.old }
     ensures narrows { Narrows (P.passing probe.old level test) (P.size probe.old level) range (P.probes probe.old) result (P.probes probe.new) }
-    ensures short { result.len ≤ 1024 }
-    ensures room { P.probes probe.new < 2 ^ 61 + 10 }
+    ensures short { result.len ≤ 1048576 }
+    ensures room { P.probes probe.new < 2 ^ 61 }
 {
     let mut part = range;
     while part.len > 1048576 {
         part = halve(probe, level, test, part);
     }
-    let less = halve_above(probe, level, test, part, 32768);
-    halve_above(probe, level, test, less, 1024)
+    part
 }
 
-/// How many pass, where the partition point lies in a range of 1,024 elements at most.
+/// How many pass, where the partition point lies in a part of a range, of 1,024 elements at most.
 #[inline(always)]
-fn point_in<P: Probe>(probe: &mut P, level: Level, test: Test, range: SearchRange) -> usize
-    requires within { IsRangeOf range (P.size probe.old level) }
-    requires short { range.len ≤ 1024 }
+fn point_in<P: Probe>(
+    probe: &mut P,
+    level: Level,
+    test: Test,
+    all: SearchRange,
+    part: SearchRange,
+) -> usize
+    requires within { IsRangeOf part (P.size probe.old level) }
+    requires part { IsPartOf all 1024 part }
     requires room { P.probes probe.old < 2 ^ 61 + 10 }
     ensures same_size { P.size probe.new ≡ P.size probe.old }
     ensures same { P.passing probe.new ≡ P.passing probe.old }
     ensures same_deltas { P.deltas probe.new ≡ P.deltas probe.old }
     ensures within { result ≤ P.size probe.old level }
     ensures point { IsPartitioned (P.passing probe.old level test) (P.size probe.old level)
-        → IsNarrowed (P.passing probe.old level test) (P.size probe.old level) range
+        → IsNarrowed (P.passing probe.old level test) (P.size probe.old level) part
         → IsPointOf (P.passing probe.old level test) (P.size probe.old level) result }
-    ensures spent { (limit : ℕ) → CanHalve limit (P.probes probe.old) range.len
+    ensures spent { (limit : ℕ) → CanHalve limit (P.probes probe.old) part.len
         → P.probes probe.new ≤ limit + 1 }
     ensures counted { P.probes probe.new ≤ P.probes probe.old + 11 }
 {
-    let some = halve_five_times(probe, level, test, range);
-    let last = halve_five_times(probe, level, test, some);
-    if last.len == 0 {
+    let some = narrow_five_times(probe, level, test, all, part, 32);
+    let last = narrow_five_times(probe, level, test, all, some, 1);
+    if all.len == 0 {
         return last.start;
     }
     last.start + probe.passes(level, test, last.start) as usize
@@ -250,18 +306,21 @@ fn search_heads<P: Probe>(probe: &mut P, test: Test) -> usize
     ensures room { P.probes probe.new < 2 ^ 61 + 21 }
     ensures blocks { 64 * P.size probe.old Heads < P.size probe.old Deltas + 64 }
 {
-    let all = SearchRange {
+    let range = SearchRange {
         start: 0,
         len: probe.len(Level::Heads),
     };
-    let short = shorten(probe, Level::Heads, test, all);
-    point_in(probe, Level::Heads, test, short)
+    let all = shorten(probe, Level::Heads, test, range);
+    let some = narrow_five_times(probe, Level::Heads, test, all, all, 32768);
+    let less = narrow_five_times(probe, Level::Heads, test, all, some, 1024);
+    point_in(probe, Level::Heads, test, all, less)
 }
 
 /// How many deltas pass, where the first of the block does and none after the block.
 #[inline(always)]
 fn search_block<P: Probe>(probe: &mut P, test: Test, block: usize) -> usize
     requires begins { 64 * block < P.size probe.old Deltas }
+    requires long { 64 ≤ P.size probe.old Deltas }
     requires room { P.probes probe.old < 2 ^ 62 - 6 }
     ensures same_size { P.size probe.new ≡ P.size probe.old }
     ensures same { P.passing probe.new ≡ P.passing probe.old }
@@ -273,18 +332,17 @@ fn search_block<P: Probe>(probe: &mut P, test: Test, block: usize) -> usize
     ensures spent { P.probes probe.new ≤ P.probes probe.old + 6 }
 {
     let len = probe.len(Level::Deltas);
-    let start = BLOCK_LEN * block;
+    // The last block may be shorter. Its search begins in the one before.
     let all = SearchRange {
-        start,
-        len: (len - start).min(BLOCK_LEN),
+        start: (BLOCK_LEN * block).min(len - BLOCK_LEN),
+        len: BLOCK_LEN,
     };
-    let some = halve_five_times(probe, Level::Deltas, test, all);
-    let last = halve(probe, Level::Deltas, test, some);
+    let some = narrow_five_times(probe, Level::Deltas, test, all, all, 2);
+    let last = narrow(probe, Level::Deltas, test, all, some, 1);
     last.start + 1
 }
 
-/// How many deltas pass, by the heads of their blocks. The few deltas of a short list are searched
-/// at once, as they lie in the processor's cache.
+/// How many deltas pass, by the heads of their blocks where they are more than a few.
 #[inline(always)]
 pub(super) fn search_blocks<P: Probe>(probe: &mut P, test: Test) -> usize
     requires room { P.probes probe.old < 2 ^ 33 }
@@ -300,9 +358,29 @@ pub(super) fn search_blocks<P: Probe>(probe: &mut P, test: Test) -> usize
     ensures room { P.probes probe.new < 2 ^ 62 }
 {
     let len = probe.len(Level::Deltas);
-    if len <= 1024 {
-        return point_in(probe, Level::Deltas, test, SearchRange { start: 0, len });
+    if len <= FEW {
+        let all = SearchRange { start: 0, len };
+        return point_in(probe, Level::Deltas, test, all, all);
     }
+    search_many(probe, test)
+}
+
+/// How many deltas pass, by the heads of their blocks. There is a whole block.
+#[inline(always)]
+pub(super) fn search_many<P: Probe>(probe: &mut P, test: Test) -> usize
+    requires room { P.probes probe.old < 2 ^ 33 }
+    requires long { 64 ≤ P.size probe.old Deltas }
+    ensures same_size { P.size probe.new ≡ P.size probe.old }
+    ensures same { P.passing probe.new ≡ P.passing probe.old }
+    ensures same_deltas { P.deltas probe.new ≡ P.deltas probe.old }
+    ensures within { result ≤ P.size probe.old Deltas }
+    ensures point { IsPartitioned (P.passing probe.old Deltas test) (P.size probe.old Deltas) → HeadsAgree (P.passing probe.old Heads test) (P.passing probe.old Deltas test) (P.size probe.old Heads) (P.size probe.old Deltas)
+        → IsPointOf (P.passing probe.old Deltas test) (P.size probe.old Deltas) result }
+    ensures spent { P.size probe.old Deltas ≤ 64 * P.size probe.old Heads
+        → (digits : ℕ) → P.size probe.old Heads < 2 ^ digits
+        → P.probes probe.new ≤ P.probes probe.old + digits + 7 }
+    ensures room { P.probes probe.new < 2 ^ 62 }
+{
     match search_heads(probe, test).checked_sub(1) {
         Some(block) => search_block(probe, test, block),
         None => 0,
@@ -324,8 +402,8 @@ pub(super) fn search_deltas<P: Probe>(probe: &mut P, test: Test) -> usize
         start: 0,
         len: probe.len(Level::Deltas),
     };
-    while range.len > 1024 {
+    while range.len > FEW {
         range = quarter(probe, Level::Deltas, test, range);
     }
-    point_in(probe, Level::Deltas, test, range)
+    point_in(probe, Level::Deltas, test, range, range)
 }

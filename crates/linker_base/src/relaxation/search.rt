@@ -14,7 +14,7 @@ ghost use Rattle.linker_base.specs.Inner.Listed.{ArePlaced, IsOnlyAt};
 use super::RelaxDelta;
 use super::arrays::Arrays;
 use super::blocks::BlockHead;
-use super::partition_point::{Test, search_blocks, search_deltas};
+use super::partition_point::{FEW, Test, search_deltas, search_many};
 
 // The bytes that the first `count` deltas delete.
 #[inline(always)]
@@ -136,15 +136,18 @@ pub(super) fn delta_at(deltas: &[RelaxDelta], offset: u64) -> Option<RelaxDelta>
     }
 }
 
-// The rank of an offset, by the heads of blocks first. They are no more than the blocks.
-#[inline(always)]
+// The rank of an offset, by the heads of blocks first. They are no more than the blocks. Not
+// inlined, so that a caller's search of a few deltas stays small.
+#[inline(never)]
 pub(super) fn rank_by_heads(deltas: &[RelaxDelta], heads: &[BlockHead], offset: u64) -> u64
     requires { 64 * length heads.now < length deltas.now + 64 }
     ensures { AreValidDeltas deltas.now → AreHeads deltas.now heads.now
         → result ≡ rank (map deletion_of deltas.now) offset }
 {
-    let below = search_blocks(&mut Arrays { deltas, heads }, Test::Begins(offset));
-    match below.checked_sub(1) {
+    if deltas.len() <= FEW {
+        return rank(deltas, offset);
+    }
+    match search_many(&mut Arrays { deltas, heads }, Test::Begins(offset)).checked_sub(1) {
         Some(last) => rank_after(deltas[last], offset),
         None => offset,
     }
@@ -152,7 +155,7 @@ pub(super) fn rank_by_heads(deltas: &[RelaxDelta], heads: &[BlockHead], offset: 
 
 // The bytes that are deleted before the kept byte at an output offset, by the heads of blocks
 // first.
-#[inline(always)]
+#[inline(never)]
 pub(super) fn bytes_before_by_heads(
     deltas: &[RelaxDelta],
     heads: &[BlockHead],
@@ -165,6 +168,9 @@ pub(super) fn bytes_before_by_heads(
         → (HasInput (map deletion_of deltas.now) output_offset
         ↔ (output_offset + result < 2 ^ 64)) }
 {
-    let placed = search_blocks(&mut Arrays { deltas, heads }, Test::IsPlaced(output_offset));
+    if deltas.len() <= FEW {
+        return bytes_before(deltas, output_offset);
+    }
+    let placed = search_many(&mut Arrays { deltas, heads }, Test::IsPlaced(output_offset));
     bytes_of_first(deltas, placed)
 }

@@ -5,6 +5,7 @@ use super::blocked_slice::BlockedSlice;
 use super::blocks::{BlockHead, count_blocks, write_heads};
 use super::merge::{copy_summed, merge_ascending};
 use super::overlap::{self, AsDeletion};
+use super::partition_point::FEW;
 use super::walk::{Reached, ascend, walk};
 use super::{RelaxDelta, search};
 
@@ -47,6 +48,15 @@ impl<'a> DeltaSlice<'a> {
             return None;
         }
         Some(BlockedSlice::new(self.deltas, heads))
+    }
+
+    // `with_heads` of more than a few deltas.
+    #[inline(always)]
+    fn with_many_heads(&self, heads: &'a [BlockHead]) -> Option<BlockedSlice<'a>> {
+        if self.deltas.len() <= FEW {
+            return None;
+        }
+        self.with_heads(heads)
     }
 
     /// How many deltas there are.
@@ -113,6 +123,30 @@ impl<'a> DeltaSlice<'a> {
     #[inline(always)]
     pub fn output_to_input_offset(&self, output_offset: u64) -> Option<u64> {
         output_offset.checked_add(search::bytes_before(self.deltas, output_offset))
+    }
+
+    /// As `input_to_output_offset`, with the heads of the blocks. It looks at them first where the
+    /// deltas are more than a few, and not at all where they aren't as many as blocks. O(log n).
+    #[inline(always)]
+    pub fn input_to_output_by_heads(&self, heads: &'a [BlockHead], input_offset: u64) -> u64 {
+        match self.with_many_heads(heads) {
+            Some(blocked) => blocked.input_to_output_offset(input_offset),
+            None => self.input_to_output_offset(input_offset),
+        }
+    }
+
+    /// As `output_to_input_offset`, with the heads of the blocks. It looks at them first where the
+    /// deltas are more than a few, and not at all where they aren't as many as blocks. O(log n).
+    #[inline(always)]
+    pub fn output_to_input_by_heads(
+        &self,
+        heads: &'a [BlockHead],
+        output_offset: u64,
+    ) -> Option<u64> {
+        match self.with_many_heads(heads) {
+            Some(blocked) => blocked.output_to_input_offset(output_offset),
+            None => self.output_to_input_offset(output_offset),
+        }
     }
 
     /// Writes the output offset of each of the queries, in order, in one walk through the deltas:

@@ -4,6 +4,9 @@
 use super::RelaxDelta;
 use super::blocks::{BLOCK_LEN, BlockHead};
 
+/// So many deltas are searched at once, without their heads: they lie in the processor's cache.
+pub(super) const FEW: usize = 1024;
+
 /// A test that the first deltas of a valid list pass, and the others fail.
 #[derive(Clone, Copy)]
 pub(super) enum Test {
@@ -71,19 +74,67 @@ fn halve<P: Probe>(probe: &mut P, level: Level, test: Test, range: SearchRange) 
     }
 }
 
-/// The part of the range in which the partition point lies, after five halvings.
+/// The `width` elements from `start` or from `middle` on in which the partition point lies.
 #[inline(always)]
-fn halve_five_times<P: Probe>(
+fn choose<P: Probe>(
     probe: &mut P,
     level: Level,
     test: Test,
     range: SearchRange,
+    middle: usize,
+    width: usize,
 ) -> SearchRange {
-    let half = halve(probe, level, test, range);
-    let quarter = halve(probe, level, test, half);
-    let eighth = halve(probe, level, test, quarter);
-    let sixteenth = halve(probe, level, test, eighth);
-    halve(probe, level, test, sixteenth)
+    let start = if probe.passes(level, test, middle) {
+        middle
+    } else {
+        range.start
+    };
+    SearchRange { start, len: width }
+}
+
+/// Of a part of at most `2 * width` elements of a range the part of at most `width` in which the
+/// partition point lies. Where the widths are constants, LLVM sees from the length of the whole
+/// range that all steps after the first halve: no length is computed, and nothing compared but one
+/// element.
+#[inline(always)]
+fn narrow<P: Probe>(
+    probe: &mut P,
+    level: Level,
+    test: Test,
+    all: SearchRange,
+    part: SearchRange,
+    width: usize,
+) -> SearchRange {
+    if all.len > 2 * width {
+        return choose(probe, level, test, part, part.start + width, width);
+    }
+    if all.len > width {
+        let middle = all.start + (all.len - width);
+        return choose(probe, level, test, all, middle, width);
+    }
+    part
+}
+
+/// Of a part of at most `32 * width` elements of a range the part of at most `width` in which the
+/// partition point lies. The steps are written out, as LLVM makes a branch of what a loop selects,
+/// and that is guessed wrong half the time.
+#[inline(always)]
+fn narrow_five_times<P: Probe>(
+    probe: &mut P,
+    level: Level,
+    test: Test,
+    all: SearchRange,
+    part: SearchRange,
+    width: usize,
+) -> SearchRange {
+    if all.len <= width {
+        return part;
+    }
+    let half = narrow(probe, level, test, all, part, 16 * width);
+    let quarter = narrow(probe, level, test, all, half, 8 * width);
+    let eighth = narrow(probe, level, test, all, quarter, 4 * width);
+    let sixteenth = narrow(probe, level, test, all, eighth, 2 * width);
+    narrow(probe, level, test, all, sixteenth, width)
 }
 
 /// The quarter of the range in which the partition point lies, and up to three elements more. The
@@ -100,40 +151,28 @@ fn quarter<P: Probe>(probe: &mut P, level: Level, test: Test, range: SearchRange
     }
 }
 
-/// The range after five halvings, if it is longer than `limit`.
-#[inline(always)]
-fn halve_above<P: Probe>(
-    probe: &mut P,
-    level: Level,
-    test: Test,
-    range: SearchRange,
-    limit: usize,
-) -> SearchRange {
-    if range.len <= limit {
-        return range;
-    }
-    halve_five_times(probe, level, test, range)
-}
-
-/// The part of the range, of 1,024 elements at most, in which the partition point lies. The steps
-/// are written out, as LLVM makes a branch of what a loop selects, and that is guessed wrong half
-/// the time.
+/// The part of the range, of 2^20 elements at most, in which the partition point lies.
 #[inline(always)]
 fn shorten<P: Probe>(probe: &mut P, level: Level, test: Test, range: SearchRange) -> SearchRange {
     let mut part = range;
     while part.len > 1048576 {
         part = halve(probe, level, test, part);
     }
-    let less = halve_above(probe, level, test, part, 32768);
-    halve_above(probe, level, test, less, 1024)
+    part
 }
 
-/// How many pass, where the partition point lies in a range of 1,024 elements at most.
+/// How many pass, where the partition point lies in a part of a range, of 1,024 elements at most.
 #[inline(always)]
-fn point_in<P: Probe>(probe: &mut P, level: Level, test: Test, range: SearchRange) -> usize {
-    let some = halve_five_times(probe, level, test, range);
-    let last = halve_five_times(probe, level, test, some);
-    if last.len == 0 {
+fn point_in<P: Probe>(
+    probe: &mut P,
+    level: Level,
+    test: Test,
+    all: SearchRange,
+    part: SearchRange,
+) -> usize {
+    let some = narrow_five_times(probe, level, test, all, part, 32);
+    let last = narrow_five_times(probe, level, test, all, some, 1);
+    if all.len == 0 {
         return last.start;
     }
     last.start + probe.passes(level, test, last.start) as usize
@@ -142,35 +181,37 @@ fn point_in<P: Probe>(probe: &mut P, level: Level, test: Test, range: SearchRang
 /// How many heads pass.
 #[inline(always)]
 fn search_heads<P: Probe>(probe: &mut P, test: Test) -> usize {
-    let all = SearchRange {
+    let range = SearchRange {
         start: 0,
         len: probe.len(Level::Heads),
     };
-    let short = shorten(probe, Level::Heads, test, all);
-    point_in(probe, Level::Heads, test, short)
+    let all = shorten(probe, Level::Heads, test, range);
+    let some = narrow_five_times(probe, Level::Heads, test, all, all, 32768);
+    let less = narrow_five_times(probe, Level::Heads, test, all, some, 1024);
+    point_in(probe, Level::Heads, test, all, less)
 }
 
 /// How many deltas pass, where the first of the block does and none after the block.
 #[inline(always)]
 fn search_block<P: Probe>(probe: &mut P, test: Test, block: usize) -> usize {
     let len = probe.len(Level::Deltas);
-    let start = BLOCK_LEN * block;
+    // The last block may be shorter. Its search begins in the one before.
     let all = SearchRange {
-        start,
-        len: (len - start).min(BLOCK_LEN),
+        start: (BLOCK_LEN * block).min(len - BLOCK_LEN),
+        len: BLOCK_LEN,
     };
-    let some = halve_five_times(probe, Level::Deltas, test, all);
-    let last = halve(probe, Level::Deltas, test, some);
+    let some = narrow_five_times(probe, Level::Deltas, test, all, all, 2);
+    let last = narrow(probe, Level::Deltas, test, all, some, 1);
     last.start + 1
 }
 
-/// How many deltas pass, by the heads of their blocks. The few deltas of a short list are searched
-/// at once, as they lie in the processor's cache.
+/// How many deltas pass, by the heads of their blocks where they are more than a few.
 #[inline(always)]
 pub(super) fn search_blocks<P: Probe>(probe: &mut P, test: Test) -> usize {
     let len = probe.len(Level::Deltas);
-    if len <= 1024 {
-        return point_in(probe, Level::Deltas, test, SearchRange { start: 0, len });
+    if len <= FEW {
+        let all = SearchRange { start: 0, len };
+        return point_in(probe, Level::Deltas, test, all, all);
     }
     match search_heads(probe, test).checked_sub(1) {
         Some(block) => search_block(probe, test, block),
@@ -185,8 +226,8 @@ pub(super) fn search_deltas<P: Probe>(probe: &mut P, test: Test) -> usize {
         start: 0,
         len: probe.len(Level::Deltas),
     };
-    while range.len > 1024 {
+    while range.len > FEW {
         range = quarter(probe, Level::Deltas, test, range);
     }
-    point_in(probe, Level::Deltas, test, range)
+    point_in(probe, Level::Deltas, test, range, range)
 }

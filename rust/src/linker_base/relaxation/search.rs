@@ -89,8 +89,9 @@ pub(super) fn delta_at(deltas: &[RelaxDelta], offset: u64) -> Option<RelaxDelta>
     }
 }
 
-// The rank of an offset, by the heads of blocks first. They are no more than the blocks.
-#[inline(always)]
+// The rank of an offset, by the heads of blocks first. They are no more than the blocks. Not
+// inlined, so that a caller's search of a few deltas stays small.
+#[inline(never)]
 pub(super) fn rank_by_heads(deltas: &[RelaxDelta], heads: &[BlockHead], offset: u64) -> u64 {
     let below = search_blocks(&mut Arrays { deltas, heads }, Test::Begins(offset));
     match below.checked_sub(1) {
@@ -101,7 +102,7 @@ pub(super) fn rank_by_heads(deltas: &[RelaxDelta], heads: &[BlockHead], offset: 
 
 // The bytes that are deleted before the kept byte at an output offset, by the heads of blocks
 // first.
-#[inline(always)]
+#[inline(never)]
 pub(super) fn bytes_before_by_heads(
     deltas: &[RelaxDelta],
     heads: &[BlockHead],
