@@ -1,5 +1,7 @@
 -- Pairs of instructions hold each value within their reach.
-use Rattle.std.proofs.Common.{FitsSigned, ◌≡◌, ℕ, suc, ◌+◌, ◌-◌, ◌*◌, ◌/◌, ◌%◌, ◌^◌, ◌<◌, ◌≤◌, ◌&&◌, ltb, Bool, true, refl, ◌∙◌, ap, arith, List, inl, inr, ℤ, pos, negsuc, ◌+ℤ◌, ◌-ℤ◌, unsigned_abs, int_lt, Some}
+use Rattle.std.proofs.Common.{FitsSigned, ◌≡◌, ℕ, suc, ◌+◌, ◌-◌, ◌*◌, ◌/◌, ◌%◌, ◌^◌, ◌<◌, ◌≤◌, ltb}
+use Rattle.std.proofs.Common.{Bool, true, refl, ◌∙◌, ap, arith, List, inl, inr, ℤ, pos, negsuc}
+use Rattle.std.proofs.Common.{◌+ℤ◌, ◌-ℤ◌, unsigned_abs, int_lt, Some}
 use Rattle.std.specs.Int.{w64, cast_unsigned, int_rem_euclid}
 use Rattle.std.proofs.lemmas.Bool.{cases_lt, and_parts, ltb-true}
 use Rattle.std.proofs.lemmas.Int.{ints}
@@ -28,6 +30,7 @@ use Rattle.linker_utils.specs.declared.elf.RiscVInstruction.{RiscVInstruction}
 use Rattle.linker_utils.specs.declared.elf.RiscVInstruction.TheVariants.{UType, IType, SType, UiType}
 use Rattle.linker_utils.proofs.Agreement.{rem_rem, from_zero}
 use Rattle.linker_utils.proofs.LoongArch.{loongarch_reaches}
+use Rattle.linker_utils.proofs.Relocated.{supported_size}
 use Rattle.linker_utils.proofs.RiscV.{u_laid, ui_high_laid, ui_low_laid}
 use Rattle.linker_utils.proofs.Taken.{taken_is_field}
 
@@ -154,6 +157,5 @@ size_holds (BitMasking bits insn) kind own v before after small takes within w =
 pub row_holds : (row : RelocationKindInfo) (v : ℤ) (before after : List ℕ) → FitsSigned w64 v → IsAccepted row v before → IsWritten row.size row.kind v before after
     → SizeHolds row.size v after
 row_holds row v before after small accepted w =
-    let parts = and_parts (takes_size row.kind row.size && ltb 0 row.alignment) (ltb row.alignment (2 ^ 63)) accepted.supported in
-    let takes = and_parts (takes_size row.kind row.size) (ltb 0 row.alignment) parts.0 in
-    size_holds row.size row.kind row.range.bounds v before after small takes.0 accepted.reached.0 w
+    size_holds row.size row.kind row.range.bounds v before after small
+    (supported_size row accepted.supported) accepted.reached.0 w

@@ -92,8 +92,8 @@ abbrev pub IsWritten : RelocationSize → RelocationKind → ℤ → List ℕ �
 IsWritten (ByteSize n) kind v before after = after ≡ low_bytes n (number_written kind v (number_of_bytes n before)) ++ drop n before
 IsWritten (BitMasking bits insn) kind v before after = InstructionWritten insn bits v before after
 
--- The machine reads the value's bits from the range's start up, modulo the range's size where the
--- row isn't checked. MOVN and MOVZ shift what they hold, so their shift has to be the range's
+-- The machine reads the value's bits from the range's start up, modulo the range's size where
+-- values aren't bounded. MOVN and MOVZ shift what they hold, so their shift has to be the range's
 -- start. An immediate in two's complement of a LoongArch `Shift10` is one of 16 bits. What a half
 -- or a pair of instructions holds is said elsewhere.
 abbrev pub InstructionReads : Bool → RelocationInstruction → BitRange → Option (ℤ × ℤ) → ℤ → ℕ → ℕ → Type 0
