@@ -53,7 +53,7 @@ abbrev pub is_moved : ℕ → ℕ → Option (ℤ × ℤ) → Bool
 is_moved s e None = eqb (e - s) 16
 is_moved s e (Some b) = eqb (e - s) 16 && (le_z (neg_ℤ (pos (2 ^ (16 + s)))) b.0 && le_z b.1 (pos (2 ^ (16 + s))))
 
-moved_from : (neg : Bool) (x s : ℕ) → bits_from s (moved_value neg x s) ≡ moved_value neg x 0
+pub moved_from : (neg : Bool) (x s : ℕ) → bits_from s (moved_value neg x s) ≡ moved_value neg x 0
 moved_from true x s = ap negsuc (shl-shr x s ∙ omega arith)
 moved_from false x s = ap pos (shl-shr x s ∙ omega arith)
 
