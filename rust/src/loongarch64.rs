@@ -4,6 +4,7 @@
 #![doc = include_str!("../doc/loongarch64.md")]
 
 mod forms;
+pub mod laws;
 mod relocations;
 mod rewrites;
 mod sequences;

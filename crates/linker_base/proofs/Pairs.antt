@@ -43,7 +43,8 @@ all_right P [] ys h = h
 all_right P (x ∷ xs) ys h = all_right P xs ys (All-tail P x (xs ++ ys) h)
 
 -- the bits below a part's own are 0
-part_aligned : (low n r : ℕ) (ps : List ImmediateBit) (x : ℕ) → IsSoundPart low n r ps → place_sum ps x % 2 ^ low ≡ 0
+pub part_aligned : (low n r : ℕ) (ps : List ImmediateBit) (x : ℕ) → IsSoundPart low n r ps
+    → place_sum ps x % 2 ^ low ≡ 0
 part_aligned low n r ps x sound =
     same_from_bits (place_sum ps x % 2 ^ low) 0 (λ i. elim (cases_lt i low) [
       | inl inside ↦

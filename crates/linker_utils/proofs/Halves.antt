@@ -1,5 +1,7 @@
 -- Pairs of instructions hold each value within their reach.
-use Rattle.std.proofs.Common.{FitsSigned, ◌≡◌, ℕ, suc, ◌+◌, ◌-◌, ◌*◌, ◌/◌, ◌%◌, ◌^◌, ◌<◌, ◌≤◌, ◌&&◌, ltb, Bool, true, refl, ◌∙◌, ap, arith, List, inl, inr, ℤ, pos, negsuc, ◌+ℤ◌, ◌-ℤ◌, unsigned_abs, int_lt, Some}
+use Rattle.std.proofs.Common.{FitsSigned, ◌≡◌, ℕ, suc, ◌+◌, ◌-◌, ◌*◌, ◌/◌, ◌%◌, ◌^◌, ◌<◌, ◌≤◌, ltb}
+use Rattle.std.proofs.Common.{Bool, true, refl, ◌∙◌, ap, arith, List, inl, inr, ℤ, pos, negsuc}
+use Rattle.std.proofs.Common.{◌+ℤ◌, ◌-ℤ◌, unsigned_abs, int_lt, Some}
 use Rattle.std.specs.Int.{w64, cast_unsigned, int_rem_euclid}
 use Rattle.std.proofs.lemmas.Bool.{cases_lt, and_parts, ltb-true}
 use Rattle.std.proofs.lemmas.Int.{ints}
@@ -12,7 +14,8 @@ use Rattle.linker_base.proofs.Pairs.{signed_cases, added}
 use Rattle.linker_utils.specs.Agrees.{bits_from}
 use Rattle.linker_utils.specs.Elf.{IsWithin, relocation_form}
 use Rattle.linker_utils.specs.LoongArch.{loongarch_form, reach, IsDistanceModulo}
-use Rattle.linker_utils.specs.Reach.{riscv_pair_bounds, call36_bounds, riscv_reach, loongarch_reach, reach_of_size}
+use Rattle.linker_utils.specs.Reach.{riscv_pair_bounds, clui_bounds, call36_bounds, riscv_reach}
+use Rattle.linker_utils.specs.Reach.{loongarch_reach, reach_of_size}
 use Rattle.linker_utils.specs.Relocate.{bits_taken, takes_size, InstructionWritten, IsWritten, IsAligned, IsAccepted, CompletesHigh, RiscVHolds, LoongArchHolds, InstructionHolds, SizeHolds}
 use Rattle.linker_utils.specs.RiscV.{riscv_form, riscv_layout, riscv_places, ui_high, ui_low}
 use Rattle.linker_utils.specs.RiscVRows.{Bounds}
@@ -25,10 +28,12 @@ use Rattle.linker_utils.specs.declared.elf.RelocationKindInfo.{RelocationKindInf
 use Rattle.linker_utils.specs.declared.elf.RelocationSize.{RelocationSize}
 use Rattle.linker_utils.specs.declared.elf.RelocationSize.TheVariants.{ByteSize, BitMasking}
 use Rattle.linker_utils.specs.declared.elf.RiscVInstruction.{RiscVInstruction}
-use Rattle.linker_utils.specs.declared.elf.RiscVInstruction.TheVariants.{UType, IType, SType, UiType}
+use Rattle.linker_utils.specs.declared.elf.RiscVInstruction.TheVariants.{UType, IType, SType}
+use Rattle.linker_utils.specs.declared.elf.RiscVInstruction.TheVariants.{CluiType, UiType}
 use Rattle.linker_utils.proofs.Agreement.{rem_rem, from_zero}
 use Rattle.linker_utils.proofs.LoongArch.{loongarch_reaches}
-use Rattle.linker_utils.proofs.RiscV.{u_laid, ui_high_laid, ui_low_laid}
+use Rattle.linker_utils.proofs.Relocated.{supported_size}
+use Rattle.linker_utils.proofs.RiscV.{u_laid, clui_laid, ui_high_laid, ui_low_laid}
 use Rattle.linker_utils.proofs.Taken.{taken_is_field}
 
 -- The halves of f, whose low 32 bits are those of v, add up to v.
@@ -90,16 +95,87 @@ completes low bits v l after reads is same within = λ neg before high laid.
     added ((riscv_form UType).machine high) ((riscv_form low).machine after) (signed 32 h) (signed 12 l) refl reads
     ∙ halves_make f h l (u_laid f before high laid) is v same within
 
+-- the same of the halves whose high one has 6 bits
+clui_make : (f h l : ℕ) → h ≡ (f + 0x800) % 2 ^ 64 / 4096 % 64 * 4096 → l ≡ f % 4096 → (v : ℤ)
+    → pos (f % 2 ^ 32) ≡ int_rem_euclid v (pos (2 ^ 32)) → IsWithin (Some clui_bounds) v
+    → signed 18 h +ℤ signed 12 l ≡ v
+clui_make f h l high low (pos n) e within =
+    let small : n < 0x1f800 = omega (arith, ints, within.1) in
+    let same : f % 2 ^ 32 ≡ n % 2 ^ 32 = ap unsigned_abs e in
+    elim (signed_cases 18 h) [
+      | inl a ↦ elim (signed_cases 12 l) [
+        | inl b ↦ added (signed 18 h) (signed 12 l) (pos h) (pos l) a.1 b.1
+            ∙ (let k = b.0 in let j = a.0 in omega (arith, ints))
+        | inr b ↦ added (signed 18 h) (signed 12 l) (pos h) (pos l -ℤ pos 4096) a.1 b.1
+            ∙ (let k = b.0 in let j = a.0 in omega (arith, ints))
+      ]
+      | inr a ↦ absurd (let j = a.0 in omega arith)
+    ]
+clui_make f h l high low (negsuc n) e within =
+    let small : n < 0x20800 = omega (arith, ints, within.0) in
+    let same : f % 2 ^ 32 ≡ 2 ^ 32 - 1 - n % 2 ^ 32 = ap unsigned_abs e in
+    elim (signed_cases 18 h) [
+      | inl a ↦ elim (signed_cases 12 l) [
+        | inl b ↦ added (signed 18 h) (signed 12 l) (pos h) (pos l) a.1 b.1
+            ∙ (let k = b.0 in let j = a.0 in omega (arith, ints))
+        | inr b ↦ added (signed 18 h) (signed 12 l) (pos h) (pos l -ℤ pos 4096) a.1 b.1
+            ∙ (let k = b.0 in let j = a.0 in omega (arith, ints))
+      ]
+      | inr a ↦ elim (signed_cases 12 l) [
+        | inl b ↦ added (signed 18 h) (signed 12 l) (pos h -ℤ pos (2 ^ 18)) (pos l) a.1 b.1
+            ∙ (let k = b.0 in let j = a.0 in omega (arith, ints))
+        | inr b ↦ added (signed 18 h) (signed 12 l) (pos h -ℤ pos (2 ^ 18))
+            (pos l -ℤ pos 4096) a.1 b.1 ∙ (let k = b.0 in let j = a.0 in omega (arith, ints))
+      ]
+    ]
+
+-- what stands in the low part of a pair
+i_laid : (f : ℕ) (neg : Bool) (before after : ℕ) → f < 2 ^ 64
+    → Written (riscv_form IType) f neg before after
+    → place_sum (riscv_places IType) after ≡ f % 4096
+i_laid f neg before after wide laid =
+    let sum = layout_laid (riscv_layout IType) refl f neg before after wide laid
+    (always_clear (riscv_places IType) before refl) in
+    sum ∙ omega arith
+
+s_laid : (f : ℕ) (neg : Bool) (before after : ℕ) → f < 2 ^ 64
+    → Written (riscv_form SType) f neg before after
+    → place_sum (riscv_places SType) after ≡ f % 4096
+s_laid f neg before after wide laid =
+    let sum = layout_laid (riscv_layout SType) refl f neg before after wide laid
+    (always_clear (riscv_places SType) before refl) in
+    sum ∙ omega arith
+
 riscv_holds : (f : RiscVInstruction) (bits : BitRange) (own : Bounds) (v : ℤ) (neg : Bool) (before after : ℕ) → FitsSigned w64 v → bits.end ≤ 64
     → IsWithin (riscv_reach f own) v → Written (riscv_form f) (bits_taken bits v) neg before after → bits.start ≡ 0 → 32 ≤ bits.end → RiscVHolds f bits v after
 riscv_holds IType bits own v neg before after small inside within laid start long =
-    let f = bits_taken bits v in
-    let sum = layout_laid (riscv_layout IType) refl f neg before after (taken_below bits v inside) laid (always_clear (riscv_places IType) before refl) in
-    completes IType bits v (place_sum (riscv_places IType) after) after refl (sum ∙ omega arith) (taken_low bits v small start long inside) within
+    completes IType bits v (place_sum (riscv_places IType) after) after refl
+    (i_laid (bits_taken bits v) neg before after (taken_below bits v inside) laid)
+    (taken_low bits v small start long inside) within
 riscv_holds SType bits own v neg before after small inside within laid start long =
+    completes SType bits v (place_sum (riscv_places SType) after) after refl
+    (s_laid (bits_taken bits v) neg before after (taken_below bits v inside) laid)
+    (taken_low bits v small start long inside) within
+riscv_holds UType bits own v neg before after small inside within laid start long =
     let f = bits_taken bits v in
-    let sum = layout_laid (riscv_layout SType) refl f neg before after (taken_below bits v inside) laid (always_clear (riscv_places SType) before refl) in
-    completes SType bits v (place_sum (riscv_places SType) after) after refl (sum ∙ omega arith) (taken_low bits v small start long inside) within
+    let wide = taken_below bits v inside in
+    let high = u_laid f before after laid in
+    let same = taken_low bits v small start long inside in (
+      (λ n x y low. halves_make f (place_sum (riscv_places UType) after)
+          (place_sum (riscv_places IType) y) high (i_laid f n x y wide low) v same within),
+      (λ n x y low. halves_make f (place_sum (riscv_places UType) after)
+          (place_sum (riscv_places SType) y) high (s_laid f n x y wide low) v same within),
+    )
+riscv_holds CluiType bits own v neg before after small inside within laid start long =
+    let f = bits_taken bits v in
+    let wide = taken_below bits v inside in
+    let high = clui_laid f before after laid in
+    let same = taken_low bits v small start long inside in (
+      (λ n x y low. clui_make f (place_sum (riscv_places CluiType) after)
+          (place_sum (riscv_places IType) y) high (i_laid f n x y wide low) v same within),
+      (λ n x y low. clui_make f (place_sum (riscv_places CluiType) after)
+          (place_sum (riscv_places SType) y) high (s_laid f n x y wide low) v same within),
+    )
 riscv_holds UiType bits own v neg before after small inside within laid start long =
     let f = bits_taken bits v in
     let wide = taken_below bits v inside in
@@ -154,6 +230,5 @@ size_holds (BitMasking bits insn) kind own v before after small takes within w =
 pub row_holds : (row : RelocationKindInfo) (v : ℤ) (before after : List ℕ) → FitsSigned w64 v → IsAccepted row v before → IsWritten row.size row.kind v before after
     → SizeHolds row.size v after
 row_holds row v before after small accepted w =
-    let parts = and_parts (takes_size row.kind row.size && ltb 0 row.alignment) (ltb row.alignment (2 ^ 63)) accepted.supported in
-    let takes = and_parts (takes_size row.kind row.size) (ltb 0 row.alignment) parts.0 in
-    size_holds row.size row.kind row.range.bounds v before after small takes.0 accepted.reached.0 w
+    size_holds row.size row.kind row.range.bounds v before after small
+    (supported_size row accepted.supported) accepted.reached.0 w

@@ -14,6 +14,7 @@ pub mod LoongArchSequences
 pub mod Packed
 pub mod Ppc64Forms
 pub mod Ppc64Pairs
+pub mod Readings
 pub mod Relocated
 pub mod RelocationLaws
 pub mod RiscV
@@ -23,4 +24,5 @@ pub mod RowsFit
 pub mod Runs
 pub mod Shrinking
 pub mod Taken
+pub mod WrittenNumbers
 pub mod X86Bytes

@@ -92,6 +92,17 @@ aligned_sum p o f h =
     (λ s. omega (arith, ints))
     (λ s. omega (arith, ints))
 
+pub page_and_distance : (pc f : ℕ)
+    → (pos pc +ℤ (signed 20 f *ℤ pos 4096)) -ℤ int_rem_euclid (pos pc +ℤ (signed 20 f *ℤ pos 4096))
+    (pos 4096) ≡ pos (page pc) +ℤ (signed 20 f *ℤ pos 4096)
+page_and_distance pc f =
+    let split : pc ≡ 4096 * (pc / 4096) + pc % 4096 = omega arith in
+    let start : 4096 * (pc / 4096) ≡ page pc = omega arith in
+    ap (λ y. (pos y +ℤ (signed 20 f *ℤ pos 4096)) -ℤ int_rem_euclid
+    (pos y +ℤ (signed 20 f *ℤ pos 4096)) (pos 4096)) split
+    ∙ aligned_sum (pc / 4096) (pc % 4096) f (omega arith)
+    ∙ ap (λ y. pos y +ℤ (signed 20 f *ℤ pos 4096)) start
+
 -- `addi.d` from zero, cut to 32 bits
 addi_low : (l : ℕ) → l < 2048 → int_rem_euclid (signed 12 l) (pos (2 ^ 32)) ≡ pos l
 addi_low l h =

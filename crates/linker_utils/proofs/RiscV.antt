@@ -16,10 +16,10 @@ use Rattle.linker_utils.specs.declared.elf.RiscVInstruction.TheVariants.{UType, 
 abbrev pub jtype_places : List ImmediateBit
 jtype_places = riscv_places JType
 
-u_sound : IsSoundPart 12 32 0x800 ui_high
+pub u_sound : IsSoundPart 12 32 0x800 ui_high
 u_sound = sound_part 12 32 0x800 ui_high refl
 
-clui_sound : IsSoundPart 12 18 0x800 (riscv_places CluiType)
+pub clui_sound : IsSoundPart 12 18 0x800 (riscv_places CluiType)
 clui_sound = sound_part 12 18 0x800 (riscv_places CluiType) refl
 
 ui_low_sound : IsSoundPart 0 12 0 ui_low

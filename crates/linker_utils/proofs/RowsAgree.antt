@@ -18,6 +18,7 @@ use Rattle.linker_utils.specs.Ppc64Rows.{ppc64_row}
 use Rattle.linker_utils.specs.RiscV.{riscv_form, riscv_layout}
 use Rattle.linker_utils.specs.LoongArch.{loongarch_form, loongarch_layout, shift10_imm16}
 use Rattle.linker_utils.specs.Ppc64.{ppc64_form, ppc64_layout}
+use Rattle.linker_utils.specs.Reach.{reach_of}
 use Rattle.linker_utils.specs.RiscVRows.{riscv_row}
 use Rattle.linker_utils.specs.declared.elf.AArch64Instruction.{AArch64Instruction}
 use Rattle.linker_utils.specs.declared.elf.AArch64Instruction.TheVariants.{Movnz, MachOLow12}
@@ -52,7 +53,7 @@ abbrev pub is_moved : ℕ → ℕ → Option (ℤ × ℤ) → Bool
 is_moved s e None = eqb (e - s) 16
 is_moved s e (Some b) = eqb (e - s) 16 && (le_z (neg_ℤ (pos (2 ^ (16 + s)))) b.0 && le_z b.1 (pos (2 ^ (16 + s))))
 
-moved_from : (neg : Bool) (x s : ℕ) → bits_from s (moved_value neg x s) ≡ moved_value neg x 0
+pub moved_from : (neg : Bool) (x s : ℕ) → bits_from s (moved_value neg x s) ≡ moved_value neg x 0
 moved_from true x s = ap negsuc (shl-shr x s ∙ omega arith)
 moved_from false x s = ap pos (shl-shr x s ∙ omega arith)
 
@@ -184,7 +185,9 @@ size_check is_signed (BitMasking bits insn) b a = instruction_check is_signed in
 -- what the laws require of a row, if there is one
 abbrev pub row_check : Bool → Option RelocationKindInfo → Bool
 row_check is_signed None = true
-row_check is_signed (Some row) = size_check is_signed row.size row.range.bounds row.alignment
+row_check is_signed (Some row) =
+    size_check is_signed row.size row.range.bounds row.alignment && size_check is_signed row.size
+    (reach_of row) row.alignment
 
 instruction_agrees : (is_signed : Bool) (insn : RelocationInstruction) (bits : BitRange) (b : Option (ℤ × ℤ)) (a : ℕ) → instruction_check is_signed insn bits.start bits.end b a ≡ true
     → InstructionAgrees is_signed insn bits b a
@@ -199,7 +202,13 @@ size_agrees is_signed (BitMasking bits insn) b a h = instruction_agrees is_signe
 
 row_agrees : (is_signed : Bool) (row : Option RelocationKindInfo) → row_check is_signed row ≡ true → IfSome row (AgreesBy is_signed)
 row_agrees is_signed None h = tt
-row_agrees is_signed (Some row) h = size_agrees is_signed row.size row.range.bounds row.alignment h
+row_agrees is_signed (Some row) h =
+    let both = and_parts (size_check is_signed row.size row.range.bounds row.alignment)
+    (size_check is_signed row.size (reach_of row) row.alignment) h in (
+      size_agrees is_signed row.size row.range.bounds row.alignment both.0,
+      size_agrees is_signed
+          row.size (reach_of row) row.alignment both.1,
+    )
 
 -- ---- tables
 

@@ -12,6 +12,7 @@ use Rattle.linker_utils.specs.AArch64.{aarch64_form, shift_of}
 use Rattle.linker_utils.specs.Elf.{IsWithin, relocation_form}
 use Rattle.linker_utils.specs.LoongArch.{loongarch_form}
 use Rattle.linker_utils.specs.Ppc64.{ppc64_form}
+use Rattle.linker_utils.specs.Reach.{reach_of}
 use Rattle.linker_utils.specs.RiscV.{riscv_form}
 use Rattle.linker_utils.specs.declared.elf.AArch64Instruction.{AArch64Instruction}
 use Rattle.linker_utils.specs.declared.elf.AArch64Instruction.TheVariants.{Movnz}
@@ -120,9 +121,12 @@ SizeAgrees is_signed (ByteSize n) bounds a = ⊤
 SizeAgrees is_signed (BitMasking bits insn) bounds a =
     InstructionAgrees is_signed insn bits bounds a
 
--- the row of a relocation whose instruction reads a LoongArch immediate so
+-- the row of a relocation whose instruction reads a LoongArch immediate so: of values in its range,
+-- and of those that can be written
 abbrev pub AgreesBy : Bool → RelocationKindInfo → Type 0
-AgreesBy is_signed row = SizeAgrees is_signed row.size row.range.bounds row.alignment
+AgreesBy is_signed row =
+    SizeAgrees is_signed row.size row.range.bounds row.alignment
+    × SizeAgrees is_signed row.size (reach_of row) row.alignment
 
 -- the row of a relocation
 abbrev pub RowAgrees : RelocationKindInfo → Type 0

@@ -13,6 +13,7 @@ pub mod Ppc64
 pub mod Ppc64Names
 pub mod Ppc64Rows
 pub mod Reach
+pub mod Readings
 pub mod Relocate
 pub mod RelocationLaws
 pub mod RiscV

@@ -1,5 +1,7 @@
 -- How a relocation's value is written, and when it isn't.
-use Rattle.std.specs.Prelude.{◌≡◌, ℕ, ◌+◌, ◌-◌, ◌%◌, ◌^◌, ◌<◌, ◌≤◌, ◌==◌, Bool, true, false, not, ◌&&◌, nat_lt, if◌then◌else◌, List, [], ◌∷◌, ◌++◌, length, take, drop, replicate, ℤ, pos, ◌+ℤ◌, int_lt, Option, ⊤}
+use Rattle.std.specs.Prelude.{◌≡◌, ℕ, ◌+◌, ◌-◌, ◌%◌, ◌^◌, ◌<◌, ◌≤◌, ◌==◌, Bool, true, false, not}
+use Rattle.std.specs.Prelude.{◌&&◌, nat_lt, if◌then◌else◌, List, [], ◌∷◌, ◌++◌, length, take, drop}
+use Rattle.std.specs.Prelude.{replicate, ℤ, pos, ◌+ℤ◌, ◌-ℤ◌, ◌*◌, int_lt, Option, ⊤}
 use Rattle.std.specs.Int.{w64, byte_len, cast_unsigned, from_le_bytes, to_le_bytes, int_rem_euclid}
 use Rattle.linker_base.specs.Bits.{field}
 use Rattle.linker_base.specs.Form.{ImmediateBit, Mark, replaced, ored, cleared, BitsWritten, Written, Fits, window_of}
@@ -23,7 +25,8 @@ use Rattle.linker_utils.specs.declared.elf.RelocationKindInfo.{RelocationKindInf
 use Rattle.linker_utils.specs.declared.elf.RelocationSize.{RelocationSize}
 use Rattle.linker_utils.specs.declared.elf.RelocationSize.TheVariants.{ByteSize, BitMasking}
 use Rattle.linker_utils.specs.declared.elf.RiscVInstruction.{RiscVInstruction}
-use Rattle.linker_utils.specs.declared.elf.RiscVInstruction.TheVariants.{UType, IType, SType, UiType}
+use Rattle.linker_utils.specs.declared.elf.RiscVInstruction.TheVariants.{UType, IType, SType}
+use Rattle.linker_utils.specs.declared.elf.RiscVInstruction.TheVariants.{CluiType, UiType}
 use Rattle.linker_utils.specs.declared.elf.relocate.RelocateError.{RelocateError}
 use Rattle.linker_utils.specs.declared.elf.relocate.RelocateError.TheVariants.{Unsupported, TooShort, Misaligned, OutOfReach}
 
@@ -92,8 +95,8 @@ abbrev pub IsWritten : RelocationSize → RelocationKind → ℤ → List ℕ �
 IsWritten (ByteSize n) kind v before after = after ≡ low_bytes n (number_written kind v (number_of_bytes n before)) ++ drop n before
 IsWritten (BitMasking bits insn) kind v before after = InstructionWritten insn bits v before after
 
--- The machine reads the value's bits from the range's start up, modulo the range's size where the
--- row isn't checked. MOVN and MOVZ shift what they hold, so their shift has to be the range's
+-- The machine reads the value's bits from the range's start up, modulo the range's size where
+-- values aren't bounded. MOVN and MOVZ shift what they hold, so their shift has to be the range's
 -- start. An immediate in two's complement of a LoongArch `Shift10` is one of 16 bits. What a half
 -- or a pair of instructions holds is said elsewhere.
 abbrev pub InstructionReads : Bool → RelocationInstruction → BitRange → Option (ℤ × ℤ) → ℤ → ℕ → ℕ → Type 0
@@ -112,6 +115,26 @@ abbrev pub SizeReads : Bool → RelocationSize → Option (ℤ × ℤ) → ℤ �
 SizeReads is_signed (ByteSize n) bounds v before after = ⊤
 SizeReads is_signed (BitMasking bits insn) bounds v before after =
     InstructionReads is_signed insn bits bounds v (window_of (relocation_form insn) before) (window_of (relocation_form insn) after)
+
+-- ---- the number that whole bytes hold
+
+-- the number that is written over another, of which the bytes hold what they can
+abbrev pub whole_number : RelocationKind → ℤ → ℕ → ℤ
+whole_number AbsoluteAddition v old = pos old +ℤ v
+whole_number AbsoluteSubtraction v old = pos old -ℤ v
+whole_number AbsoluteSetWord6 v old = pos (old - old % 64) +ℤ int_rem_euclid v (pos 64)
+whole_number AbsoluteAdditionWord6 v old =
+    pos (old - old % 64) +ℤ int_rem_euclid (pos old +ℤ v) (pos 64)
+whole_number AbsoluteSubtractionWord6 v old =
+    pos (old - old % 64) +ℤ int_rem_euclid (pos old -ℤ v) (pos 64)
+whole_number kind v old = v
+
+-- The little-endian number of n bytes is that, modulo 2 ^ (8 * n).
+abbrev pub SizeNumber : RelocationSize → RelocationKind → ℤ → List ℕ → List ℕ → Type 0
+SizeNumber (ByteSize n) kind v before after =
+    pos (number_of_bytes n after)
+    ≡ int_rem_euclid (whole_number kind v (number_of_bytes n before)) (pos (2 ^ (8 * n)))
+SizeNumber (BitMasking bits insn) kind v before after = ⊤
 
 -- ---- what is rejected
 
@@ -174,9 +197,19 @@ CompletesHigh low bits v after =
     (neg : Bool) (before high : ℕ) → Written (riscv_form UType) (bits_taken bits v) neg before high
     → (riscv_form UType).machine high +ℤ (riscv_form low).machine after ≡ v
 
+-- a high half is completed by each low half that was written of the same value's bits
+abbrev pub IsCompletedBy : RiscVInstruction → RiscVInstruction → BitRange → ℤ → ℕ → Type 0
+IsCompletedBy low high bits v after =
+    (neg : Bool) (before x : ℕ) → Written (riscv_form low) (bits_taken bits v) neg before x
+    → (riscv_form high).machine after +ℤ (riscv_form low).machine x ≡ v
+
 abbrev pub RiscVHolds : RiscVInstruction → BitRange → ℤ → ℕ → Type 0
 RiscVHolds IType bits v after = CompletesHigh IType bits v after
 RiscVHolds SType bits v after = CompletesHigh SType bits v after
+RiscVHolds UType bits v after =
+    IsCompletedBy IType UType bits v after × IsCompletedBy SType UType bits v after
+RiscVHolds CluiType bits v after =
+    IsCompletedBy IType CluiType bits v after × IsCompletedBy SType CluiType bits v after
 RiscVHolds UiType bits v after = (riscv_form UiType).machine after ≡ v
 RiscVHolds f bits v after = ⊤
 

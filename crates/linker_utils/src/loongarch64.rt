@@ -2,6 +2,7 @@
 //! five instructions.
 
 mod forms;
+pub mod laws;
 mod relocations;
 mod rewrites;
 mod sequences;

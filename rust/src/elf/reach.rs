@@ -86,6 +86,11 @@ impl RelocationKindInfo {
     ///
     /// Relocations without a range take a part of every value, which the machine then reads modulo
     /// the part's size.
+    ///
+    /// No other aligned value is what the machine reads from an instruction of a row, or from its
+    /// pair: see `others` of each `relocation_type_from_raw`. The exception is those relocations of
+    /// LDR and STR of 2 to 16 bytes whose offset the psABI limits to 12 bits, as
+    /// `R_AARCH64_TLSLE_LDST16_TPREL_LO12`: the machine reads 12 bits of such units.
     #[inline]
     pub fn reach(&self) -> AllowedRange {
         match self.size {

@@ -170,14 +170,16 @@ impl RelocationKindInfo {
     ///
     /// - Whole bytes become the lowest bytes of the value, the lowest first. Relocations that add or
     ///   subtract take the number that stands there. Relocations of 6 bits keep the upper 2 bits of
-    ///   the byte.
+    ///   the byte. The bytes' little-endian number is then that value, sum or difference, modulo
+    ///   2^8 for each byte.
     /// - Of an instruction, the form's bits become those bits of the value that the relocation
-    ///   takes, and the machine reads them from there; modulo their size if the relocation has no
-    ///   range. The bits that the form only ORs need not be 0 before. All other bits stay, except
+    ///   takes, and the machine reads them from there; modulo their size if `reach` has no bounds.
+    ///   The bits that the form only ORs need not be 0 before. All other bits stay, except
     ///   for the opcode that `Movnz` sets by the value's sign; its shift has to be the first of the
     ///   relocation's bits.
     /// - RISC-V's `UiType`, or a high half and a low half of one value, make the value itself, and so
-    ///   does LoongArch's `Call36`.
+    ///   does LoongArch's `Call36`. A `c.lui` is such a high half too. The ISA reserves its
+    ///   immediate 0: `riscv64::RelaxationKind::hi20_fits_clui` rejects the values that make it.
     /// - All bytes behind `window` stay. A relocation without a value writes nothing.
     ///
     /// ```

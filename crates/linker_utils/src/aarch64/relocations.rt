@@ -2,6 +2,7 @@
 
 ghost use Rattle.std.specs.Prelude.{◌≡◌, ◌≤◌, IfSome};
 ghost use Rattle.linker_utils.specs.Agrees.{RowAgrees, RowFits};
+ghost use Rattle.linker_utils.specs.Readings.{RowReadsNoOther};
 ghost use Rattle.linker_utils.specs.AArch64Rows.{aarch64_row, bytes_row, bits_row, of_size_row};
 ghost use Rattle.linker_utils.specs.AArch64Rows.{signed_row, unsigned_row, within_row, aligned_row};
 ghost use Rattle.linker_utils.specs.AArch64Rows.{paged_row, thunkable_row};
@@ -614,6 +615,7 @@ fn thunkable(info: RelocationKindInfo) -> RelocationKindInfo
 pub fn relocation_type_from_raw(name: AArch64Relocation) -> Option<RelocationKindInfo>
     ensures row { result ≡ aarch64_row name }
     ensures agrees { IfSome result RowAgrees }
+    ensures others { IfSome result RowReadsNoOther }
     ensures fits { IfSome result RowFits }
 {
     described(name)

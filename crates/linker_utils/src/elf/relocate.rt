@@ -7,7 +7,9 @@ ghost use Rattle.linker_base.specs.Form.{window_of, BitsWritten, Fits};
 ghost use Rattle.linker_utils.specs.AArch64.{aarch64_form};
 ghost use Rattle.linker_utils.specs.Agrees.{AgreesBy};
 ghost use Rattle.linker_utils.specs.Elf.{relocation_form};
+ghost use Rattle.linker_utils.specs.Reach.{reach_of};
 ghost use Rattle.linker_utils.specs.Relocate.{number_of_bytes, low_bytes, number_written, ored_cleared, places_cleared, bits_taken, InstructionWritten, IsWritten, SizeReads, SizeHolds, is_of_uleb128, takes_size, is_supported, window_len, IsAligned, HoldsBits, IsAccepted, IsCause};
+ghost use Rattle.linker_utils.specs.Relocate.{SizeNumber};
 
 use crate::bit_misc::{BitExtraction, BitRange};
 use crate::elf::engine::{self, Run, Window, run};
@@ -224,14 +226,16 @@ impl RelocationKindInfo {
     ///
     /// - Whole bytes become the lowest bytes of the value, the lowest first. Relocations that add or
     ///   subtract take the number that stands there. Relocations of 6 bits keep the upper 2 bits of
-    ///   the byte.
+    ///   the byte. The bytes' little-endian number is then that value, sum or difference, modulo
+    ///   2^8 for each byte.
     /// - Of an instruction, the form's bits become those bits of the value that the relocation
-    ///   takes, and the machine reads them from there; modulo their size if the relocation has no
-    ///   range. The bits that the form only ORs need not be 0 before. All other bits stay, except
+    ///   takes, and the machine reads them from there; modulo their size if `reach` has no bounds.
+    ///   The bits that the form only ORs need not be 0 before. All other bits stay, except
     ///   for the opcode that `Movnz` sets by the value's sign; its shift has to be the first of the
     ///   relocation's bits.
     /// - RISC-V's `UiType`, or a high half and a low half of one value, make the value itself, and so
-    ///   does LoongArch's `Call36`.
+    ///   does LoongArch's `Call36`. A `c.lui` is such a high half too. The ISA reserves its
+    ///   immediate 0: `riscv64::RelaxationKind::hi20_fits_clui` rejects the values that make it.
     /// - All bytes behind `window` stay. A relocation without a value writes nothing.
     ///
     /// ```
@@ -254,8 +258,10 @@ impl RelocationKindInfo {
     pub fn write(&self, value: i64, dest: &mut [u8]) -> Result<(), RelocateError>
         ensures ok { OnOk result (IsAccepted self.now value dest.old
             × IsWritten self.now.size self.now.kind value dest.old dest.new) }
+        ensures number { OnOk result
+            (SizeNumber self.now.size self.now.kind value dest.old dest.new) }
         ensures machine { OnOk result ((is_signed : Bool) → AgreesBy is_signed self.now
-            → SizeReads is_signed self.now.size self.now.range.bounds value dest.old dest.new) }
+            → SizeReads is_signed self.now.size (reach_of self.now) value dest.old dest.new) }
         ensures pairs { OnOk result (SizeHolds self.now.size value dest.new) }
         ensures err { IfErr result (λ error. IsCause self.now value dest.old error × (dest.new ≡ dest.old)) }
     {

@@ -2,6 +2,7 @@
 
 ghost use Rattle.std.specs.Prelude.{IfSome, ◌≡◌, ◌≤◌};
 ghost use Rattle.linker_utils.specs.Agrees.{LoongArchRowAgrees, RowFits};
+ghost use Rattle.linker_utils.specs.Readings.{LoongArchRowReadsNoOther};
 ghost use Rattle.linker_utils.specs.LoongArchRows.{loongarch_row};
 ghost use Rattle.linker_utils.specs.LoongArchRows as rows;
 ghost use Rattle.linker_utils.specs.ElfNames.{IsNameOf, code_of, text_of};
@@ -345,6 +346,7 @@ pub fn relocation_type_from_raw(name: LoongArch64Relocation) -> Option<Relocatio
     ensures row { result ≡ loongarch_row name }
     // not of pairs: `reaches` of `write_to_value` says what `Call36` holds
     ensures agrees { IfSome result (LoongArchRowAgrees name) }
+    ensures others { IfSome result (LoongArchRowReadsNoOther name) }
     ensures fits { IfSome result RowFits }
 {
     let info = match name {

@@ -2,6 +2,7 @@
 
 ghost use Rattle.std.specs.Prelude.{IfSome, ◌≡◌, ◌≤◌, ◌==◌, if◌then◌else◌, Some, None};
 ghost use Rattle.linker_utils.specs.Agrees.{RowAgrees, RowFits};
+ghost use Rattle.linker_utils.specs.Readings.{RowReadsNoOther};
 ghost use Rattle.linker_utils.specs.Ppc64Rows as rows;
 ghost use Rattle.linker_utils.specs.Ppc64Rows.{ppc64_row};
 ghost use Rattle.linker_utils.specs.ElfNames.{IsNameOf, code_of, text_of};
@@ -308,6 +309,7 @@ fn branch(bits: u8, insn: Ppc64Instruction) -> RelocationKindInfo
 pub fn relocation_type_from_raw(name: Ppc64Relocation) -> Option<RelocationKindInfo>
     ensures row { result ≡ ppc64_row name }
     ensures agrees { IfSome result RowAgrees }
+    ensures others { IfSome result RowReadsNoOther }
     ensures fits { IfSome result RowFits }
 {
     let info = match name {

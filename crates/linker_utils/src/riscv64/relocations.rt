@@ -2,6 +2,7 @@
 
 ghost use Rattle.std.specs.Prelude.{IfSome, ◌≡◌};
 ghost use Rattle.linker_utils.specs.Agrees.{RowAgrees, RowFits};
+ghost use Rattle.linker_utils.specs.Readings.{RowReadsNoOther};
 ghost use Rattle.linker_utils.specs.RiscVRows.{riscv_row, clui_row};
 ghost use Rattle.linker_utils.specs.RiscVRows as rows;
 ghost use Rattle.linker_utils.specs.ElfNames.{IsNameOf, code_of, text_of};
@@ -301,6 +302,7 @@ pub fn relocation_type_from_raw(name: RiscVRelocation) -> Option<RelocationKindI
     ensures row { result ≡ riscv_row name }
     // only of branches and jumps: `pair` of `write_to_value` says what pairs hold
     ensures agrees { IfSome result RowAgrees }
+    ensures others { IfSome result RowReadsNoOther }
     ensures fits { IfSome result RowFits }
 {
     let info = match name {

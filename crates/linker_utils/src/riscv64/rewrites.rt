@@ -7,6 +7,7 @@ ghost use Rattle.linker_base.specs.Bits.{signed};
 ghost use Rattle.linker_utils.specs.RiscV.{riscv_rewrite, riscv_modifier, hi20, lo12, IsSigned32};
 ghost use Rattle.linker_utils.specs.RiscV.{FitsClui, HoldsHigh};
 ghost use Rattle.linker_utils.specs.Agrees.{RowFits};
+ghost use Rattle.linker_utils.specs.Readings.{RowReadsNoOther};
 ghost use Rattle.linker_utils.specs.RiscVRows.{clui_row};
 
 use super::relocations;
@@ -142,6 +143,7 @@ impl RelaxationKind {
     /// wider than what `c.lui` holds: `hi20_fits_clui` is the test.
     pub fn clui_rel_info() -> RelocationKindInfo
         ensures row { result ≡ clui_row }
+        ensures others { RowReadsNoOther result }
         ensures fits { RowFits result }
     {
         relocations::clui_info()

@@ -1,5 +1,7 @@
 use Rattle.std.proofs.Common.{IfSome, subst, sym}
 use Rattle.linker_utils.specs.Agrees.{RowAgrees, RowFits}
+use Rattle.linker_utils.specs.Readings.{RowReadsNoOther}
+use Rattle.linker_utils.proofs.Readings.{aarch64_reads_no_other}
 use Rattle.linker_utils.proofs.RowsAgree.{aarch64_rows}
 use Rattle.linker_utils.proofs.RowsFit.{aarch64_fits}
 use Rattle.linker_utils.proofs.aarch64.relocations.relocation_type_from_raw.Goals as goal
@@ -9,3 +11,7 @@ returns-clause-agrees c = subst (λ o. IfSome o RowAgrees) (sym c.described.ensu
 
 pub returns-clause-fits : goal.returns-clause-fits
 returns-clause-fits c = subst (λ o. IfSome o RowFits) (sym c.described.ensures) (aarch64_fits c.args.name)
+
+pub returns-clause-others : goal.returns-clause-others
+returns-clause-others c = subst (λ o. IfSome o RowReadsNoOther) (sym c.described.ensures)
+    (aarch64_reads_no_other c.args.name)

@@ -1,7 +1,8 @@
-use Rattle.std.proofs.Common.{rules}
-use Rattle.linker_utils.specs.Relocate.{IsAccepted}
+use Rattle.std.proofs.Common.{rules, ◌≡◌, true}
+use Rattle.linker_utils.specs.Relocate.{is_supported, IsWritten, IsAccepted}
 use Rattle.linker_utils.proofs.Halves.{row_holds}
 use Rattle.linker_utils.proofs.Relocated.{row_reads}
+use Rattle.linker_utils.proofs.WrittenNumbers.{row_number}
 use Rattle.linker_utils.proofs.elf.RelocationKindInfo.write.Goals as goal
 
 pub returns-in-BitMasking-clause-ok : goal.returns-in-BitMasking-clause-ok
@@ -24,3 +25,12 @@ pub returns-in-BitMasking-clause-pairs : goal.returns-in-BitMasking-clause-pairs
 returns-in-BitMasking-clause-pairs c =
     let done = returns-in-BitMasking-clause-ok c in
     row_holds c.args.self.now c.args.value c.args.dest.now c.write_bits.new.dest c.ranges.value done.0 done.1
+
+pub returns-in-ByteSize-clause-number : goal.returns-in-ByteSize-clause-number
+returns-in-ByteSize-clause-number c =
+    let row = c.args.self.now in
+    let supported : is_supported row ≡ true = search rules in
+    let written : IsWritten row.size row.kind c.args.value c.args.dest.now c.write_bytes.new.dest =
+    rw c.in-ByteSize.is (search rules) in
+    row_number row c.args.value c.args.dest.now c.write_bytes.new.dest c.ranges.value supported
+    written

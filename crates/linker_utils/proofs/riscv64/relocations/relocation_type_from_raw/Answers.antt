@@ -1,6 +1,8 @@
 use Rattle.std.proofs.Common.{rules, IfSome, ◌≡◌, Some, subst, sym}
 use Rattle.linker_utils.specs.Agrees.{RowAgrees, RowFits}
+use Rattle.linker_utils.specs.Readings.{RowReadsNoOther}
 use Rattle.linker_utils.specs.RiscVRows.{riscv_row}
+use Rattle.linker_utils.proofs.Readings.{riscv_reads_no_other}
 use Rattle.linker_utils.proofs.RowsAgree.{riscv_rows}
 use Rattle.linker_utils.proofs.RowsFit.{riscv_fits}
 use Rattle.linker_utils.proofs.riscv64.relocations.relocation_type_from_raw.Goals as goal
@@ -14,3 +16,8 @@ pub returns-clause-fits : goal.returns-clause-fits
 returns-clause-fits c =
     let row : Some c.match-name.info ≡ riscv_row c.args.name = search rules in
     subst (λ o. IfSome o RowFits) (sym row) (riscv_fits c.args.name)
+
+pub returns-clause-others : goal.returns-clause-others
+returns-clause-others c =
+    let row : Some c.match-name.info ≡ riscv_row c.args.name = search rules in
+    subst (λ o. IfSome o RowReadsNoOther) (sym row) (riscv_reads_no_other c.args.name)
