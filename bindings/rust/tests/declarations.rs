@@ -420,6 +420,17 @@ fn arms(source: &str, path: &str) -> Numbers {
     found
 }
 
+/// The elements of a table of the proved library's, by their places.
+fn elements(source: &str, path: &str) -> Numbers {
+    let names = source
+        .lines()
+        .filter_map(|line| line.trim().strip_prefix(path)?.strip_suffix(','));
+    names
+        .enumerate()
+        .map(|(at, name)| (letters(name), at as u64))
+        .collect()
+}
+
 /// The lines `NAME = NUMBER` of a definition in the proved library's specifications.
 fn equations(specs: &str, defined: &str) -> Numbers {
     let mut found = Numbers::new();
@@ -480,13 +491,13 @@ fn the_numbers_are_those_of_the_library() {
     );
 
     let forms = repository("crates/linker_utils_c/src/forms.rt");
-    let aarch64 = arms(&forms, "AArch64Instruction::");
+    let aarch64 = elements(&forms, "AArch64Instruction::");
     assert_eq!(constants("aarch64_form", "AARCH64_FORM_"), aarch64);
     assert_eq!(numbers(AArch64Form::ALL, |it| it.number().into()), aarch64);
-    let riscv = arms(&forms, "RiscVInstruction::");
+    let riscv = elements(&forms, "RiscVInstruction::");
     assert_eq!(constants("riscv_form", "RISCV_FORM_"), riscv);
     assert_eq!(numbers(RiscVForm::ALL, |it| it.number().into()), riscv);
-    let loongarch64 = arms(&forms, "LoongArch64Instruction::");
+    let loongarch64 = elements(&forms, "LoongArch64Instruction::");
     assert_eq!(
         constants("loongarch64_form", "LOONGARCH64_FORM_"),
         loongarch64
@@ -495,7 +506,7 @@ fn the_numbers_are_those_of_the_library() {
         numbers(LoongArch64Form::ALL, |it| it.number().into()),
         loongarch64
     );
-    let ppc64 = arms(&forms, "Ppc64Instruction::");
+    let ppc64 = elements(&forms, "Ppc64Instruction::");
     assert_eq!(constants("ppc64_form", "PPC64_FORM_"), ppc64);
     assert_eq!(numbers(Ppc64Form::ALL, |it| it.number().into()), ppc64);
 
