@@ -17,7 +17,7 @@ use Rattle.std.proofs.lemmas.Nat.Bits.{bit_at-lt, bit_at_and, bit_at_or, bit_at_
 use Rattle.linker_base.specs.Bits.{signed}
 use Rattle.linker_base.specs.Form.{holds_value_bit, values_below, values_apart, Mark, replaced, ored, cleared, ImmediateBit, consecutive_bits, BitsWritten, is_placed, placed_bit, bit_for, place_sum, window_of, Sign, unsigned, twos_complement, number_of, Field, Layout, one_field, own_form, form_of}
 use Rattle.linker_utils.specs.declared.elf.engine.Run.{Run}
-use Rattle.linker_utils.specs.Inner.Runs.{run_fits, runs_fit, runs_read, words_below, mark_of, run_places, spread, is_apart, are_apart, is_unsigned, reads_unsigned, reads_signed, reads_flagged}
+use Rattle.linker_utils.specs.Inner.Runs.{run_fits, runs_fit, runs_read, words_below, mark_of, run_places, spread, is_apart, are_apart, is_unsigned, reads_unsigned, reads_flagged}
 use Rattle.linker_base.proofs.Fields.{bit_at_mod, bit_at_run, bit_at_shl, bit_at_shl_below, bit_at_mod_above}
 
 -- ---- consecutive places
@@ -379,9 +379,6 @@ flag_of a flags b h = (and_parts flags b (and_parts a (flags && b) h).1).0
 none_of : (a flags : Bool) → (a && not flags) ≡ true → flags ≡ false
 none_of a flags h = not-true flags (and_parts a (not flags) h).1
 
-no_flag_of : (a flags b : Bool) → (a && (not flags && b)) ≡ true → flags ≡ false
-no_flag_of a flags b h = not-true flags (flag_of a (not flags) b h)
-
 below_zero : (flags : Bool) (z : ℤ) → flags ≡ false → false ≡ (flags && int_lt z (pos 0))
 below_zero true z h = cc
 below_zero false z h = refl
@@ -406,25 +403,16 @@ module _ (w : Width) (rs : List Run) (bytes : List ℕ) where
   signed_here d flags n a b h =
       ap (signed n) (here_is d a b) ∙ sym (number_signed d.read flags d.bits n (place_sum d.places (from_le_bytes d.window bytes)) h)
 
-  pub read_in_two : (l : Layout) (n number : ℕ) → (form_of l).window ≡ w → (form_of l).places 0 ≡ spread rs → (reads_signed n l || reads_flagged n l) ≡ true
+  pub read_in_two : (l : Layout) (n number : ℕ) → (form_of l).window ≡ w → (form_of l).places 0 ≡ spread rs → reads_flagged n l ≡ true
       → number ≡ cast_unsigned w64 (signed n (place_sum (spread rs) (from_le_bytes w bytes))) → number ≡ cast_unsigned w64 ((form_of l).reading (window_of (form_of l) bytes))
   unfolding here
-  read_in_two (one_field d) n number a b h e =
-      e ∙ ap (cast_unsigned w64) (elim (or_cases (reads_signed n (one_field d)) (reads_flagged n (one_field d)) h) [
-        | inl s ↦ signed_here d (not d.flags) n a b s
-        | inr f ↦ signed_here d d.flags n a b f
-      ])
+  read_in_two (one_field d) n number a b h e = e ∙ ap (cast_unsigned w64) (signed_here d d.flags n a b h)
   read_in_two (own_form form) n number a b h e = cc
 
   pub flag_unsigned : (l : Layout) → reads_unsigned l ≡ true → false ≡ (form_of l).flag (window_of (form_of l) bytes)
   flag_unsigned (one_field d) h =
       below_zero d.flags (number_of d.read d.bits (place_sum d.places (from_le_bytes d.window bytes))) (none_of (is_unsigned d.read) d.flags h)
   flag_unsigned (own_form form) h = cc
-
-  pub flag_signed : (l : Layout) (n : ℕ) → reads_signed n l ≡ true → false ≡ (form_of l).flag (window_of (form_of l) bytes)
-  flag_signed (one_field d) n h =
-      below_zero d.flags (number_of d.read d.bits (place_sum d.places (from_le_bytes d.window bytes))) (no_flag_of (not (is_unsigned d.read)) d.flags (eqb d.bits n) h)
-  flag_signed (own_form form) n h = cc
 
   pub flag_flagged : (l : Layout) (n : ℕ) (flag : Bool) → (form_of l).window ≡ w → (form_of l).places 0 ≡ spread rs → reads_flagged n l ≡ true
       → flag ≡ int_lt (signed n (place_sum (spread rs) (from_le_bytes w bytes))) (pos 0) → flag ≡ (form_of l).flag (window_of (form_of l) bytes)

@@ -185,18 +185,6 @@ pub(crate) fn read_form(
     (read(window, runs, bytes), false)
 }
 
-/// The same, of a form that is read in two's complement and flags nothing.
-#[inline(always)]
-pub(crate) fn read_signed_form(
-    _insn: RelocationInstruction,
-    window: Window,
-    runs: &[Run],
-    bits: u32,
-    bytes: &[u8],
-) -> (u64, bool) {
-    (read_signed(window, runs, bits, bytes).0, false)
-}
-
 /// The same, of a form that is read in two's complement and flags a number below 0.
 #[inline(always)]
 pub(crate) fn read_flagged_form(

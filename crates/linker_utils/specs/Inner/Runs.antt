@@ -72,10 +72,6 @@ abbrev pub reads_unsigned : Layout → Bool
 reads_unsigned (one_field d) = is_unsigned d.read && not d.flags
 reads_unsigned (own_form form) = false
 
-abbrev pub reads_signed : ℕ → Layout → Bool
-reads_signed n (one_field d) = not (is_unsigned d.read) && (not d.flags && d.bits == n)
-reads_signed n (own_form form) = false
-
 abbrev pub reads_flagged : ℕ → Layout → Bool
 reads_flagged n (one_field d) = not (is_unsigned d.read) && (d.flags && d.bits == n)
 reads_flagged n (own_form form) = false

@@ -1,5 +1,4 @@
-use Rattle.linker_utils.specs.Inner.Runs.{width_of, reads_signed, reads_flagged}
-use Rattle.std.proofs.lemmas.Bool.{or_right}
+use Rattle.linker_utils.specs.Inner.Runs.{width_of}
 use Rattle.linker_utils.specs.Elf.{relocation_layout}
 use Rattle.linker_utils.proofs.Runs.{read_in_two, flag_flagged}
 use Rattle.linker_utils.proofs.elf.engine.read_flagged_form.Goals as goal
@@ -8,7 +7,7 @@ pub returns-clause-number : goal.returns-clause-number
 returns-clause-number c =
     let l = relocation_layout c.args._insn in
     read_in_two (width_of c.args.window) c.args.runs.now c.args.bytes.now l c.args.bits c.read_signed.result.0
-    c.requires.width c.requires.places (or_right (reads_signed c.args.bits l) (reads_flagged c.args.bits l) c.requires.reading) c.read_signed.ensures.number
+    c.requires.width c.requires.places c.requires.reading c.read_signed.ensures.number
 
 pub returns-clause-flag : goal.returns-clause-flag
 returns-clause-flag c =
