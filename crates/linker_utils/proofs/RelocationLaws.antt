@@ -39,7 +39,7 @@ use Rattle.linker_utils.specs.declared.ppc64.relocations.Ppc64Relocation.TheVari
 use Rattle.linker_utils.proofs.Agreement.{rem_rem, from_zero, number_agrees}
 use Rattle.linker_utils.proofs.Halves.{row_holds}
 use Rattle.linker_utils.proofs.LoongArchAddresses.{page_and_distance}
-use Rattle.linker_utils.proofs.Relocated.{row_reads}
+use Rattle.linker_utils.proofs.Relocated.{row_reads_in_reach}
 use Rattle.linker_utils.proofs.RiscVRewrites.{cast_negative}
 use Rattle.linker_utils.proofs.RowsAgree.{aarch64_rows, loongarch_rows, ppc64_rows}
 
@@ -207,12 +207,12 @@ aarch64_addresses = λ o place adrp adrp_after add add_after small_place high lo
     subst (FitsSigned w64) low_is (small_cast total below) in
     let high_reads : (aarch64_form Adr).machine (from_le_bytes w32 adrp_after)
     ≡ bits_from 12 high.value =
-    row_reads false _ high.value adrp adrp_after high_fits high.accepted high.written
-    (aarch64_rows R_AARCH64_ADR_PREL_PG_HI21) (λ e. cc) in
+    row_reads_in_reach false _ high.value adrp adrp_after high_fits high.accepted high.written
+    (aarch64_rows R_AARCH64_ADR_PREL_PG_HI21).1 (λ e. cc) in
     let f = place_sum ((aarch64_form Add).places 0) (from_le_bytes w32 add_after) in
     let low_reads : IsSameIn None 12 (pos f) (bits_from 0 low.value) =
-    row_reads false _ low.value add add_after low_fits low.accepted low.written
-    (aarch64_rows R_AARCH64_ADD_ABS_LO12_NC) (λ e. cc) in
+    row_reads_in_reach false _ low.value add add_after low_fits low.accepted low.written
+    (aarch64_rows R_AARCH64_ADD_ABS_LO12_NC).1 (λ e. cc) in
     let low_sum : f ≡ total % 2 ^ 12 =
     low_bits 12 f total (omega arith)
     (place_sum_below ((aarch64_form Add).places 0) 12 (from_le_bytes w32 add_after) refl refl) below
@@ -282,11 +282,11 @@ loongarch_addresses =
     let x = from_le_bytes w32 pcalau12i_after in
     let y = from_le_bytes w32 addi_after in
     let high_reads : IsSameIn None 20 (pos (field x 5 25)) (bits_from 12 high.value) =
-    row_reads false _ high.value pcalau12i_before pcalau12i_after high_fits high.accepted
-    high.written (loongarch_rows R_LARCH_PCALA_HI20) refl (λ e. cc) in
+    row_reads_in_reach false _ high.value pcalau12i_before pcalau12i_after high_fits high.accepted
+    high.written (loongarch_rows R_LARCH_PCALA_HI20).1 refl (λ e. cc) in
     let low_reads : IsSameIn None 12 (pos (field y 10 22)) (bits_from 0 low.value) =
-    row_reads false _ low.value addi addi_after low_fits low.accepted low.written
-    (loongarch_rows R_LARCH_PCALA_LO12) refl (λ e n. cc) in
+    row_reads_in_reach false _ low.value addi addi_after low_fits low.accepted low.written
+    (loongarch_rows R_LARCH_PCALA_LO12).1 refl (λ e n. cc) in
     let low_sum : field y 10 22 ≡ s % 2 ^ 12 =
     low_bits 12 (field y 10 22) total (omega arith) (field_below y 10 22) below
     (subst (λ v. IsSameIn None 12 (pos (field y 10 22)) (bits_from 0 v)) (sym low_is) low_reads)
@@ -364,11 +364,11 @@ ppc64_addresses = λ o addis addis_after addi addi_after small_base high low.
     let f = place_sum ((ppc64_form D).places 0) y in
     let f_below : f < 2 ^ 16 = place_sum_below ((ppc64_form D).places 0) 16 y refl refl in
     let high_reads : (ppc64_form D).machine x ≡ bits_from 16 high.value =
-    row_reads false _ high.value addis addis_after high_fits high.accepted high.written
-    (ppc64_rows R_PPC64_TOC16_HA) in
+    row_reads_in_reach false _ high.value addis addis_after high_fits high.accepted high.written
+    (ppc64_rows R_PPC64_TOC16_HA).1 in
     let low_reads : IsSameIn None 16 (signed 16 f) (bits_from 0 low.value) =
-    row_reads false _ low.value addi addi_after low_fits low.accepted low.written
-    (ppc64_rows R_PPC64_TOC16_LO) in
+    row_reads_in_reach false _ low.value addi addi_after low_fits low.accepted low.written
+    (ppc64_rows R_PPC64_TOC16_LO).1 in
     let read : IsSameIn None 16 (pos f) (bits_from 0 low.value) = ap pos (mod-eq_of_lt f_below)
     ∙ sym (signed_rem 16 f f_below) ∙ low_reads in
     let low_sum : f ≡ difference_64 s p % 2 ^ 16 =

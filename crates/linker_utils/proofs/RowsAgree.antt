@@ -10,7 +10,9 @@ use Rattle.linker_base.specs.Form.{Written, place_sum, unsigned, replaced, one_f
 use Rattle.linker_base.specs.declared.bit_misc.BitRange.{BitRange}
 use Rattle.linker_base.proofs.Immediates.{layout_laid, high_of, always_clear}
 use Rattle.linker_utils.specs.Elf.{IsWithin}
-use Rattle.linker_utils.specs.Agrees.{bits_from, IsFieldOf, IsSameIn, InstructionAgrees, SizeAgrees, AgreesBy, RowAgrees, LoongArchRowAgrees, reads_signed, is_of_halves, is_of_words}
+use Rattle.linker_utils.specs.Agrees.{bits_from, IsFieldOf, IsSameIn, InstructionAgrees, SizeAgrees}
+use Rattle.linker_utils.specs.Agrees.{AgreesBy, AgreesInReach, RowAgrees, LoongArchRowAgrees}
+use Rattle.linker_utils.specs.Agrees.{reads_signed, is_of_halves, is_of_words}
 use Rattle.linker_utils.specs.AArch64.{aarch64_layout, movnz, imm16_places, moved_bits, moved_value, shift_of}
 use Rattle.linker_utils.specs.AArch64Rows.{aarch64_row}
 use Rattle.linker_utils.specs.LoongArchRows.{loongarch_row}
@@ -200,7 +202,8 @@ size_agrees : (is_signed : Bool) (size : RelocationSize) (b : Option (ℤ × ℤ
 size_agrees is_signed (ByteSize n) b a h = tt
 size_agrees is_signed (BitMasking bits insn) b a h = instruction_agrees is_signed insn bits b a h
 
-row_agrees : (is_signed : Bool) (row : Option RelocationKindInfo) → row_check is_signed row ≡ true → IfSome row (AgreesBy is_signed)
+row_agrees : (is_signed : Bool) (row : Option RelocationKindInfo) → row_check is_signed row ≡ true
+    → IfSome row (λ r. AgreesBy is_signed r × AgreesInReach is_signed r)
 row_agrees is_signed None h = tt
 row_agrees is_signed (Some row) h =
     let both = and_parts (size_check is_signed row.size row.range.bounds row.alignment)

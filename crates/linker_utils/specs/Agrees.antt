@@ -121,20 +121,22 @@ SizeAgrees is_signed (ByteSize n) bounds a = ⊤
 SizeAgrees is_signed (BitMasking bits insn) bounds a =
     InstructionAgrees is_signed insn bits bounds a
 
--- the row of a relocation whose instruction reads a LoongArch immediate so: of values in its range,
--- and of those that can be written
+-- the row of a relocation whose instruction reads a LoongArch immediate so
 abbrev pub AgreesBy : Bool → RelocationKindInfo → Type 0
-AgreesBy is_signed row =
-    SizeAgrees is_signed row.size row.range.bounds row.alignment
-    × SizeAgrees is_signed row.size (reach_of row) row.alignment
+AgreesBy is_signed row = SizeAgrees is_signed row.size row.range.bounds row.alignment
+
+-- the same of the values that can be written, in place of those in the row's range
+abbrev pub AgreesInReach : Bool → RelocationKindInfo → Type 0
+AgreesInReach is_signed row = SizeAgrees is_signed row.size (reach_of row) row.alignment
 
 -- the row of a relocation
 abbrev pub RowAgrees : RelocationKindInfo → Type 0
-RowAgrees row = AgreesBy false row
+RowAgrees row = AgreesBy false row × AgreesInReach false row
 
 -- the row of a LoongArch relocation
 abbrev pub LoongArchRowAgrees : LoongArch64Relocation → RelocationKindInfo → Type 0
-LoongArchRowAgrees name row = AgreesBy (reads_signed name) row
+LoongArchRowAgrees name row =
+    AgreesBy (reads_signed name) row × AgreesInReach (reads_signed name) row
 
 -- ---- fields
 

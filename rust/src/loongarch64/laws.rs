@@ -1,5 +1,6 @@
 // Made by tools/erase of crates/linker_utils/src/loongarch64/laws.rt.
 //! Laws of relocated pairs: each function does nothing, and its contract is a law.
+#![doc = include_str!("../../doc/loongarch64/laws.md")]
 
 /// Whenever the values of `R_LARCH_PCALA_HI20` and, by the same symbol and addend,
 /// `R_LARCH_PCALA_LO12` are written, the `pcalau12i` and the `addi.d` compute the symbol's address

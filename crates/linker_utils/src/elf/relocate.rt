@@ -5,7 +5,7 @@ ghost use Rattle.std.specs.Int.{byte_len, from_le_bytes, w32};
 ghost use Rattle.linker_base.specs.Bits.{field};
 ghost use Rattle.linker_base.specs.Form.{window_of, BitsWritten, Fits};
 ghost use Rattle.linker_utils.specs.AArch64.{aarch64_form};
-ghost use Rattle.linker_utils.specs.Agrees.{AgreesBy};
+ghost use Rattle.linker_utils.specs.Agrees.{AgreesBy, AgreesInReach};
 ghost use Rattle.linker_utils.specs.Elf.{relocation_form};
 ghost use Rattle.linker_utils.specs.Reach.{reach_of};
 ghost use Rattle.linker_utils.specs.Relocate.{number_of_bytes, low_bytes, number_written, ored_cleared, places_cleared, bits_taken, InstructionWritten, IsWritten, SizeReads, SizeHolds, is_of_uleb128, takes_size, is_supported, window_len, IsAligned, HoldsBits, IsAccepted, IsCause};
@@ -261,6 +261,8 @@ impl RelocationKindInfo {
         ensures number { OnOk result
             (SizeNumber self.now.size self.now.kind value dest.old dest.new) }
         ensures machine { OnOk result ((is_signed : Bool) → AgreesBy is_signed self.now
+            → SizeReads is_signed self.now.size self.now.range.bounds value dest.old dest.new) }
+        ensures reached { OnOk result ((is_signed : Bool) → AgreesInReach is_signed self.now
             → SizeReads is_signed self.now.size (reach_of self.now) value dest.old dest.new) }
         ensures pairs { OnOk result (SizeHolds self.now.size value dest.new) }
         ensures err { IfErr result (λ error. IsCause self.now value dest.old error × (dest.new ≡ dest.old)) }

@@ -1,7 +1,7 @@
 use Rattle.std.proofs.Common.{rules, ◌≡◌, true}
 use Rattle.linker_utils.specs.Relocate.{is_supported, IsWritten, IsAccepted}
 use Rattle.linker_utils.proofs.Halves.{row_holds}
-use Rattle.linker_utils.proofs.Relocated.{row_reads}
+use Rattle.linker_utils.proofs.Relocated.{row_reads, row_reads_in_reach}
 use Rattle.linker_utils.proofs.WrittenNumbers.{row_number}
 use Rattle.linker_utils.proofs.elf.RelocationKindInfo.write.Goals as goal
 
@@ -20,6 +20,12 @@ pub returns-in-BitMasking-clause-machine : goal.returns-in-BitMasking-clause-mac
 returns-in-BitMasking-clause-machine c = λ is_signed agrees.
     let done = returns-in-BitMasking-clause-ok c in
     row_reads is_signed c.args.self.now c.args.value c.args.dest.now c.write_bits.new.dest c.ranges.value done.0 done.1 agrees
+
+pub returns-in-BitMasking-clause-reached : goal.returns-in-BitMasking-clause-reached
+returns-in-BitMasking-clause-reached c = λ is_signed agrees.
+    let done = returns-in-BitMasking-clause-ok c in
+    row_reads_in_reach is_signed c.args.self.now c.args.value c.args.dest.now c.write_bits.new.dest
+    c.ranges.value done.0 done.1 agrees
 
 pub returns-in-BitMasking-clause-pairs : goal.returns-in-BitMasking-clause-pairs
 returns-in-BitMasking-clause-pairs c =
