@@ -21,8 +21,9 @@
  * - `faulty` may be null. With a status that speaks of one entry of an array, and with no other,
  *   the index of that entry is written there.
  * - These return no status, since they can't fail: `linker_utils_status_text`,
- *   `linker_utils_clui_rel_info`, `linker_utils_is_plain_call`, `linker_utils_distance_fits_jal`,
- *   `linker_utils_hi20_is_zero`, `linker_utils_hi20_fits_clui`, `linker_utils_rd_valid_for_clui`,
+ *   `linker_utils_clui_rel_info`, `linker_utils_uleb128_role`, `linker_utils_is_plain_call`,
+ *   `linker_utils_distance_fits_jal`, `linker_utils_hi20_is_zero`, `linker_utils_hi20_fits_clui`,
+ *   `linker_utils_rd_valid_for_clui`,
  *   `linker_utils_highest_relocation_with_bias`, `linker_utils_deltas_total_deleted`,
  *   `linker_utils_deltas_input_to_output`, `linker_utils_deltas_input_to_output_by_heads`,
  *   `linker_utils_deltas_block_count`, `linker_utils_packed_len`.
@@ -58,7 +59,7 @@ enum linker_utils_status {
     LINKER_UTILS_UNKNOWN_RELOCATION = 4,
     /* There are fewer bytes than the call reads or writes. */
     LINKER_UTILS_TOO_SHORT = 5,
-    /* The form does not hold the value. */
+    /* The form, or the ULEB128 number that stands there, does not hold the value. */
     LINKER_UTILS_DOES_NOT_FIT = 6,
     /* The rewrite may not be applied there. */
     LINKER_UTILS_CANNOT_APPLY = 7,
@@ -118,7 +119,8 @@ static inline const char *linker_utils_status_text(uint32_t status) {
     case LINKER_UTILS_UNKNOWN_RELOCATION:
         return "The architecture has no relocation of this type, or its meaning is not known.";
     case LINKER_UTILS_TOO_SHORT: return "There are fewer bytes than the call reads or writes.";
-    case LINKER_UTILS_DOES_NOT_FIT: return "The form does not hold the value.";
+    case LINKER_UTILS_DOES_NOT_FIT:
+        return "The form, or the ULEB128 number that stands there, does not hold the value.";
     case LINKER_UTILS_CANNOT_APPLY: return "The rewrite may not be applied there.";
     case LINKER_UTILS_BAD_REGISTER: return "The register is not one from 0 to 30.";
     case LINKER_UTILS_OUT_OF_SECTION:
@@ -591,7 +593,8 @@ struct linker_utils_operands {
 /* The value of a relocation: the formula of its kind, with the bias added first and the page mask
  * applied after that, modulo 2^64 and read in two's complement. LINKER_UTILS_UNKNOWN_ARCHITECTURE;
  * LINKER_UTILS_UNKNOWN_RELOCATION; LINKER_UTILS_NO_VALUE. Of R_RISCV_SET_ULEB128 and
- * R_LARCH_ADD_ULEB128, whose kind is LINKER_UTILS_KIND_RELATIVE, it is of no use. */
+ * R_LARCH_ADD_ULEB128, whose kind is LINKER_UTILS_KIND_RELATIVE, it is of no use: what
+ * `linker_utils_uleb128_role` speaks of is S + A. */
 uint32_t linker_utils_value(uint16_t machine, uint32_t r_type,
                             const struct linker_utils_operands *operands, int64_t *value);
 
@@ -643,8 +646,9 @@ uint32_t linker_utils_relocate_all_nonnull(uint16_t machine, uint8_t *section, s
  *   bits.
  * - A relocation without a value writes nothing.
  * LINKER_UTILS_UNKNOWN_ARCHITECTURE; LINKER_UTILS_UNKNOWN_RELOCATION; LINKER_UTILS_ULEB128_PAIR of
- * R_RISCV_SET_ULEB128, R_RISCV_SUB_ULEB128, R_LARCH_ADD_ULEB128 and R_LARCH_SUB_ULEB128;
- * LINKER_UTILS_TOO_SHORT; LINKER_UTILS_MISALIGNED; LINKER_UTILS_OUT_OF_REACH. */
+ * R_RISCV_SET_ULEB128, R_RISCV_SUB_ULEB128, R_LARCH_ADD_ULEB128 and R_LARCH_SUB_ULEB128, for which
+ * there is `linker_utils_write_uleb128`; LINKER_UTILS_TOO_SHORT; LINKER_UTILS_MISALIGNED;
+ * LINKER_UTILS_OUT_OF_REACH. */
 static inline uint32_t linker_utils_relocate(uint16_t machine, uint32_t r_type, int64_t value,
                                              uint8_t *dest, size_t dest_len) {
     return linker_utils_relocate_nonnull(machine, r_type, value,
@@ -793,6 +797,33 @@ static inline uint32_t linker_utils_write_ha_lo(uint8_t *ha, size_t ha_len, uint
                                                 size_t lo_len, uint64_t value) {
     return linker_utils_write_ha_lo_nonnull(LINKER_UTILS_SLICE(uint8_t, ha), ha_len,
                                             LINKER_UTILS_SLICE(uint8_t, lo), lo_len, value);
+}
+
+/* What a relocation of a ULEB128 number does with its value, S + A. Two of them stand at one
+ * number. `linker_utils_write_uleb128` writes what both make together: what the first makes alone
+ * may need more bytes than stand there. */
+enum linker_utils_role {
+    /* none: it is no relocation of a ULEB128 number, or its machine or type is unknown */
+    LINKER_UTILS_ROLE_NONE = 0,
+    /* The value is the number that the second subtracts from. */
+    LINKER_UTILS_ROLE_SETS = 1,
+    /* The value is added to the number that stands there. */
+    LINKER_UTILS_ROLE_ADDS = 2,
+    /* The value is subtracted from what the first has made. */
+    LINKER_UTILS_ROLE_SUBTRACTS = 3
+};
+
+/* What the relocation does: an `enum linker_utils_role`. */
+uint32_t linker_utils_uleb128_role(uint16_t machine, uint32_t r_type);
+
+uint32_t linker_utils_write_uleb128_nonnull(uint8_t *dest, size_t dest_len, uint64_t value);
+
+/* Writes a value over the ULEB128 number that `dest` begins with, in as many bytes: all but the
+ * last are at least 0x80, so that a smaller value is padded with zeros. The bytes behind stay.
+ * LINKER_UTILS_ULEB128_ENDED, LINKER_UTILS_ULEB128_TOO_LARGE, both of the number that stands there;
+ * LINKER_UTILS_DOES_NOT_FIT. */
+static inline uint32_t linker_utils_write_uleb128(uint8_t *dest, size_t dest_len, uint64_t value) {
+    return linker_utils_write_uleb128_nonnull(LINKER_UTILS_SLICE(uint8_t, dest), dest_len, value);
 }
 
 /* ---- Readers. */

@@ -1,4 +1,5 @@
-/* Relocations: computes the values of some of <elf.h>'s, and writes them. */
+/* Relocations: computes the values of some of <elf.h>'s, and writes them. Those of a pair at a
+ * ULEB128 number set, add to and subtract from it. */
 #include <elf.h>
 #include <stdio.h>
 
@@ -31,6 +32,33 @@ static void show(uint16_t machine, uint32_t r_type, const struct linker_utils_op
     printf("\n");
 }
 
+/* The number after a relocation at it, which had `number` before. */
+static uint64_t after_role(uint32_t role, uint64_t number, uint64_t value) {
+    switch (role) {
+    case LINKER_UTILS_ROLE_SETS: return value;
+    case LINKER_UTILS_ROLE_ADDS: return number + value;
+    case LINKER_UTILS_ROLE_SUBTRACTS: return number - value;
+    default: return number;
+    }
+}
+
+/* Two relocations at one ULEB128 number: the distance from one symbol to another. */
+static void show_distance(uint16_t machine, uint32_t first, uint32_t second, uint64_t from,
+                          uint64_t to, uint8_t *bytes, size_t len) {
+    uint64_t number;
+    size_t used;
+    uint32_t status = linker_utils_read_uleb128(bytes, len, &number, &used);
+    number = after_role(linker_utils_uleb128_role(machine, first), number, to);
+    number = after_role(linker_utils_uleb128_role(machine, second), number, from);
+    if (status == LINKER_UTILS_OK) status = linker_utils_write_uleb128(bytes, len, number);
+    if (status != LINKER_UTILS_OK) {
+        printf("%s\n", linker_utils_status_text(status));
+        return;
+    }
+    for (size_t i = 0; i < used; i++) printf("%02x", bytes[i]);
+    printf("\n");
+}
+
 int main(void) {
     uint8_t bl[4] = {0x00, 0x00, 0x00, 0x94};
     show(EM_AARCH64, R_AARCH64_CALL26, &near, bl, sizeof bl);
@@ -46,5 +74,11 @@ int main(void) {
     uint8_t field[4] = {0, 0, 0, 0};
     show(EM_X86_64, R_X86_64_PC32, &near, field, sizeof field);
     show(EM_X86_64, 200, &near, field, sizeof field);
+    /* R_RISCV_SET_ULEB128 and R_RISCV_SUB_ULEB128, R_LARCH_ADD_ULEB128 and R_LARCH_SUB_ULEB128 */
+    uint8_t length[2] = {0x80, 0x00};
+    show_distance(EM_RISCV, 60, 61, 0x401000, 0x401150, length, sizeof length);
+    uint8_t sum[2] = {0x81, 0x00};
+    show_distance(LINKER_UTILS_LOONGARCH64, 107, 108, 0x401000, 0x401005, sum, sizeof sum);
+    show_distance(EM_RISCV, 60, 61, 0x401000, 0x406000, length, sizeof length);
     return 0;
 }

@@ -37,6 +37,7 @@ int main(void) {
     EXPECT(TOO_SHORT, u64_from_slice(NULL, 0, &value));
     EXPECT(TOO_SHORT, read_u32(NULL, 0, &word, &count));
     EXPECT(ULEB128_ENDED, read_uleb128(NULL, 0, &value, &count));
+    EXPECT(ULEB128_ENDED, write_uleb128(NULL, 0, 0));
     EXPECT(OK, deltas_is_valid(NULL, 0, NULL));
     EXPECT(OK, deltas_create(NULL, 0, NULL, 0, NULL));
     EXPECT(OK, deltas_is_mergeable(NULL, 0, NULL, 0));

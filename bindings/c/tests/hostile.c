@@ -723,6 +723,25 @@ static void call_read_uleb128(void) {
     finish_with(status, 0 OR(ULEB128_ENDED) OR(ULEB128_TOO_LARGE));
 }
 
+static void call_write_uleb128(void) {
+    struct buffer *dest = bytes(WRITTEN, any_len(14));
+    size_t continued = 0;
+    if (once_in(2)) memset(filled(dest), 0x80 + (int)below(128), dest->len);
+    if (dest->len > 0 && once_in(2)) dest->pages[dest->at + below(dest->len)] = (uint8_t)below(4);
+    uint64_t value = any_number() >> below(64);
+    changes(dest, 0, 10);
+    uint32_t status = CALL(write_uleb128, dest->given, dest->len, value);
+    if (status == LINKER_UTILS_OK) {
+        const uint8_t *number = dest->pages + dest->at;
+        while (number[continued] >= 0x80) continued++;
+        expect(continued < dest->len && continued < 10, "no number's length");
+    }
+    finish_with(status, 0 OR(ULEB128_ENDED) OR(ULEB128_TOO_LARGE) OR(DOES_NOT_FIT));
+    uint32_t role = CALL(uleb128_role, any_machine(), any_relocation_type());
+    expect(role <= LINKER_UTILS_ROLE_SUBTRACTS, "a role without a name");
+    finish(true);
+}
+
 #define DELETIONS(buffer) (buffer)->given, LEN(buffer, struct linker_utils_deletion)
 
 /* `deltas_is_valid`, and `deltas_create` where that says that it will do. */
@@ -906,7 +925,8 @@ static void (*const all[])(void) = {
     call_relocation, call_relocation_name, call_value, call_reach, call_relocate, call_relocate_all,
     call_clui_rel_info, call_jal_site, call_jal_site_with, call_relax_call,
     call_tests, call_write_mov_sequence, call_write_address_sequence, call_write_ha_lo,
-    call_u32_from_slice, call_u64_from_slice, call_read_u32, call_read_uleb128, call_deltas_create,
+    call_u32_from_slice, call_u64_from_slice, call_read_u32, call_read_uleb128, call_write_uleb128,
+    call_deltas_create,
     call_deltas_merge, call_deltas_total_deleted, call_translations, call_deltas_translate_all,
     call_deltas_heads, call_pack, call_shrink_calls,
 };

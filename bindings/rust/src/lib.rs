@@ -474,6 +474,19 @@ pub fn read_uleb128(content: &mut &[u8]) -> Result<u64, Status> {
     Ok(value)
 }
 
+/// What a relocation does with a ULEB128 number; `None` for all others.
+pub fn uleb128_role(architecture: Architecture, r_type: u32) -> Option<Uleb128Role> {
+    let number = unsafe { raw::linker_utils_uleb128_role(architecture.machine(), r_type) };
+    Uleb128Role::from_number(number)
+}
+
+/// Writes a value over the ULEB128 number that `dest` begins with, in as many bytes.
+pub fn write_uleb128(dest: &mut [u8], value: u64) -> Result<(), Status> {
+    let (at, len) = (dest.as_mut_ptr(), dest.len());
+    let status = unsafe { raw::linker_utils_write_uleb128_nonnull(at, len, value) };
+    result_of(status, ())
+}
+
 /// Whether `deltas_create` takes the deletions.
 pub fn deltas_is_valid(deletions: &[Deletion]) -> Result<(), ArrayError> {
     let (at, len) = (deletions.as_ptr(), deletions.len());

@@ -44,7 +44,7 @@ numbered! {
         UnknownRelocation = 4,
         /// There are fewer bytes than the call reads or writes.
         TooShort = 5,
-        /// The form does not hold the value.
+        /// The form, or the ULEB128 number that stands there, does not hold the value.
         DoesNotFit = 6,
         /// The rewrite may not be applied there.
         CannotApply = 7,
@@ -112,7 +112,7 @@ impl fmt::Display for Status {
                 "There are fewer bytes than the call reads or writes."
             }
             Status::DoesNotFit => {
-                "The form does not hold the value."
+                "The form, or the ULEB128 number that stands there, does not hold the value."
             }
             Status::CannotApply => {
                 "The rewrite may not be applied there."
@@ -371,6 +371,18 @@ numbered! {
         OfAuipc = 0,
         /// That of the `jalr`, as linkers do.
         OfJalr = 1,
+    }
+}
+
+numbered! {
+    /// What a relocation of a ULEB128 number does with its value, S + A.
+    Uleb128Role: u32 {
+        /// It is the number that the second of the pair subtracts from.
+        Sets = 1,
+        /// It is added to the number that stands there.
+        Adds = 2,
+        /// It is subtracted from what the first of the pair has made.
+        Subtracts = 3,
     }
 }
 

@@ -7,11 +7,7 @@ use std::fs;
 use std::path::Path;
 
 /// The relocations that have a name, and whose meaning the library doesn't know.
-const WITHOUT_MEANING: [&str; 7] = [
-    "R_RISCV_TLSDESC_HI20",
-    "R_RISCV_TLSDESC_LOAD_LO12",
-    "R_RISCV_TLSDESC_ADD_LO12",
-    "R_RISCV_TLSDESC_CALL",
+const WITHOUT_MEANING: [&str; 3] = [
     "R_LARCH_TLS_LD_PCREL20_S2",
     "R_LARCH_TLS_GD_PCREL20_S2",
     "R_LARCH_TLS_DESC_PCREL20_S2",
@@ -41,7 +37,7 @@ fn each_listed_relocation_is_found() {
         (Architecture::AArch64, "AArch64Names.antt", 114),
         (Architecture::RiscV, "RiscVNames.antt", 46),
         (Architecture::LoongArch64, "LoongArchNames.antt", 70),
-        (Architecture::Ppc64, "Ppc64Names.antt", 40),
+        (Architecture::Ppc64, "Ppc64Names.antt", 49),
         (Architecture::X86_64, "X86Names.antt", 39),
     ];
     let mut without_meaning = Vec::new();

@@ -353,7 +353,7 @@ fn print_by_c() -> BTreeMap<String, String> {
             );
         }
     }
-    program += "for (unsigned i = 0; i < 30; i++) ";
+    program += "for (unsigned i = 0; i < 64; i++) ";
     program += "printf(\"%u=%s\\n\", i, linker_utils_status_text(i));\nreturn 0;\n}\n";
 
     let folder = Path::new(env!("CARGO_TARGET_TMPDIR"));
@@ -549,6 +549,13 @@ fn the_numbers_are_those_of_the_library() {
     assert_eq!(constants("modifier", "MODIFIER_"), modifiers);
     assert_eq!(numbers(Modifier::ALL, |it| it.number().into()), modifiers);
     let calls = repository("crates/linker_utils_c/src/calls.rt");
+    let mut roles = equations(
+        &repository("crates/linker_utils_c/specs/Relocate.antt"),
+        "role_number",
+    );
+    assert_eq!(constants("role", "ROLE_"), roles);
+    assert_eq!(roles.remove("none"), Some(0));
+    assert_eq!(numbers(Uleb128Role::ALL, |it| it.number().into()), roles);
     let links = arms(&calls, "Some(LinkRegister::");
     assert_eq!(links.len(), 2);
     assert_eq!(constants("link_register", "LINK_"), links);
@@ -568,7 +575,7 @@ fn the_numbers_are_those_of_the_library() {
 #[test]
 fn the_statuses_say_the_same() {
     let printed = printed_by_c();
-    for number in 1..30 {
+    for number in 1..64 {
         let text = match Status::from_number(number) {
             Some(status) => status.to_string(),
             None => "No status has this number.".to_string(),

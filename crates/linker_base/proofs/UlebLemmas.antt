@@ -1,9 +1,12 @@
 -- The groups of seven bits of a ULEB128 number.
-use Rattle.std.proofs.Common.{◌≡◌, ℕ, zero, suc, ◌+◌, ◌-◌, ◌*◌, ◌%◌, ◌^◌, ◌<◌, ◌≤◌, ◌⊎◌, inl, inr, List, length, take, drop, slice_index, take_all, length-drop, refl, sym, ◌∙◌, ap, arith, bit_and, bit_or}
-use Rattle.std.proofs.Math.Nat.{pow-suc}
+use Rattle.std.proofs.Common.{◌≡◌, ℕ, zero, suc, ◌+◌, ◌-◌, ◌*◌, ◌/◌, ◌%◌, ◌^◌, ◌<◌, ◌≤◌, ◌⊎◌}
+use Rattle.std.proofs.Common.{inl, inr, List, length, take, drop, slice_index, take_all, length-drop}
+use Rattle.std.proofs.Common.{refl, sym, ◌∙◌, ap, arith, bit_and, bit_or}
+use Rattle.std.proofs.Math.Nat.{pow-suc, mod-eq_of_lt}
 use Rattle.std.proofs.lemmas.Bool.{cases_lt}
-use Rattle.std.proofs.lemmas.Nat.{and_mask, mod_below, mul-le, or_comm, or_shifted, pow-add, shl_whole}
-use Rattle.linker_base.specs.Uleb.{AllContinue, uleb_number, Uleb, HasOneReading}
+use Rattle.std.proofs.lemmas.Nat.{and_mask, div_below, mod_below, mod-pow-add, mul-le, or_comm}
+use Rattle.std.proofs.lemmas.Nat.{or_shifted, pow_pos, pow-add, shl_whole, shr_below, shr_split}
+use Rattle.linker_base.specs.Uleb.{AllContinue, uleb_number, Uleb, HasOneReading, IsUlebWritten}
 
 -- the number that the first i bytes give
 abbrev pub low_groups : List ℕ → ℕ → ℕ
@@ -23,7 +26,7 @@ groups_lt bytes (suc i) =
     let next : 128 ^ suc i ≡ 128 ^ i * 128 = pow-suc 128 i in
     omega (arith, groups_grow bytes i, before, most, next)
 
-pow_128 : (i : ℕ) → 128 ^ i ≡ 2 ^ (7 * i)
+pub pow_128 : (i : ℕ) → 128 ^ i ≡ 2 ^ (7 * i)
 pow_128 zero = refl
 pow_128 (suc i) =
     let more : 7 * suc i ≡ 7 * i + 7 = omega arith in
@@ -74,3 +77,101 @@ one_reading bytes m n x y a b =
       a.number ∙ ap (uleb_number bytes) same ∙ sym b.number,
       a.rest_is ∙ ap (λ k. drop (k + 1) bytes) same ∙ sym b.rest_is,
     )
+
+-- n / 128 ^ k, of which the lowest seven bits are group k of n
+abbrev pub shifted : ℕ → ℕ → ℕ
+shifted n k = n / 2 ^ (7 * k)
+
+-- groups that are those of a number give its lowest bits
+groups_of : (bytes : List ℕ) (n i : ℕ)
+    → ((k : ℕ) → k < i → slice_index bytes k % 128 ≡ shifted n k % 128)
+    → low_groups bytes i ≡ n % 2 ^ (7 * i)
+groups_of bytes n zero each = omega arith
+groups_of bytes n (suc i) each =
+    let low = n % 2 ^ (7 * i) in
+    let before : low_groups bytes i ≡ low = groups_of bytes n i (λ k h. each k (omega arith)) in
+    let group : slice_index bytes i % 128 ≡ shifted n i % 128 = each i (omega arith) in
+    let more : 7 * suc i ≡ 7 + 7 * i = omega arith in
+    let grown : low_groups bytes (suc i) ≡ low + shifted n i % 128 * 2 ^ (7 * i)
+    = groups_grow bytes i ∙ ap (λ m. m + slice_index bytes i % 128 * 128 ^ i) before
+    ∙ ap (λ g. low + g * 128 ^ i) group
+    ∙ ap (λ p. low + shifted n i % 128 * p) (pow_128 i) in
+    rw more (grown ∙ sym (mod-pow-add n 7 (7 * i) ∙ omega arith))
+
+-- a number is below 2 ^ k where nothing of it stands from bit k up
+below_shift : (n k : ℕ) → n / 2 ^ k ≡ 0 → n < 2 ^ k
+below_shift n k none =
+    let low : n % 2 ^ k < 2 ^ k = mod_below n (2 ^ k) (pow_pos k) in
+    let whole : n / 2 ^ k * 2 ^ k + n % 2 ^ k ≡ n = shr_split n k in
+    let same : 0 * 2 ^ k + n % 2 ^ k ≡ n
+    = ap (λ q. q * 2 ^ k + n % 2 ^ k) (sym none) ∙ whole in
+    omega (arith, low, same)
+
+pub above_shift : (n k : ℕ) → ¬ (n / 2 ^ k ≡ 0) → 2 ^ k ≤ n
+above_shift n k some = by_order (cases_lt n (2 ^ k)) where
+  by_order : (n < 2 ^ k) ⊎ (2 ^ k ≤ n) → 2 ^ k ≤ n
+  by_order (inl low) =
+      let none : n / 2 ^ k < 1 = div_below n (2 ^ k) 1 (pow_pos k) (omega (arith, low)) in
+      absurd (some (omega (arith, none)))
+  by_order (inr high) = high
+
+-- a group with the mark that it isn't the last
+marked : (n : ℕ) → (128 ≤ 128 + n % 128) × ((128 + n % 128) % 128 ≡ n % 128)
+marked n =
+    let group : n % 128 < 128 = mod_below n 128 (omega arith) in
+    (omega arith, omega (arith, group))
+
+-- the code has written the groups of a number that fits
+pub is_written : (before after : List ℕ) (last n : ℕ) → last < length before → last < 10
+    → AllContinue last before → slice_index before last < 128
+    → (last ≡ 9 → slice_index before last ≤ 1)
+    → n < 2 ^ 64 → (last < 9 → n / 2 ^ (7 * last + 7) ≡ 0)
+    → ((k : ℕ) → k < last → slice_index after k ≡ 128 + shifted n k % 128)
+    → slice_index after last ≡ shifted n last
+    → drop (last + 1) after ≡ drop (last + 1) before → length after ≡ length before
+    → IsUlebWritten before n after
+is_written before after last n there within continue ends tenth word fits groups end rest same =
+    let most : n < 2 ^ (7 + 7 * last) = below (cases_lt last 9) in
+    let small : shifted n last < 128 = shr_below n 7 (7 * last) most in
+    let more : 7 * suc last ≡ 7 + 7 * last = omega arith in
+    let low : uleb_number after last ≡ n % 2 ^ (7 * suc last)
+    = groups_of after n (suc last) (λ k h. group k (cases_lt k last) h) in
+    record {
+      old = uleb_number before last;
+      rest = drop (last + 1) before;
+      was = record {
+        last = last;
+        there = there;
+        within_ten = within;
+        continue = continue;
+        ends = ends;
+        tenth = tenth;
+        number = refl;
+        rest_is = refl;
+      };
+      is = record {
+        last = last;
+        there = rw same there;
+        within_ten = within;
+        continue = λ k early. rw (groups k early) ((marked (shifted n k)).0);
+        ends = rw end small;
+        tenth = λ at. rw end (late at);
+        number = sym (low ∙ ap (λ k. n % 2 ^ k) more ∙ mod-eq_of_lt most);
+        rest_is = sym rest;
+      };
+      same_length = same;
+    }
+  where
+    below : (last < 9) ⊎ (9 ≤ last) → n < 2 ^ (7 + 7 * last)
+    below (inl early) =
+        let turned : 7 + 7 * last ≡ 7 * last + 7 = omega arith in
+        rw turned (below_shift n (7 * last + 7) (fits early))
+    below (inr late) = let at : last ≡ 9 = omega arith in rw at (omega (arith, word))
+
+    late : last ≡ 9 → shifted n last ≤ 1
+    late at = rw at (omega (arith, shr_below n 1 63 word))
+
+    group : (k : ℕ) → (k < last) ⊎ (last ≤ k) → k < suc last
+        → slice_index after k % 128 ≡ shifted n k % 128
+    group k (inl early) h = rw (groups k early) ((marked (shifted n k)).1)
+    group k (inr late) h = let at : k ≡ last = omega arith in rw (at, end) refl

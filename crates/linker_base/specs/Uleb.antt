@@ -2,6 +2,8 @@
 -- the last.
 use Rattle.std.specs.Prelude.{◌≡◌, ℕ, ◌+◌, ◌*◌, ◌%◌, ◌^◌, ◌<◌, ◌≤◌, List, length, drop, slice_index}
 use Rattle.std.specs.Int.{sum_through}
+use Rattle.linker_base.specs.declared.utils.Uleb128Error.{Uleb128Error}
+use Rattle.linker_base.specs.declared.utils.Uleb128Error.TheVariants.{Ended, TooLarge, DoesNotFit}
 
 -- none of the first k bytes is the last
 abbrev pub AllContinue : ℕ → List ℕ → Type 0
@@ -38,3 +40,25 @@ pub record UlebTooLarge (bytes : List ℕ) : Type 0 where
 abbrev pub HasOneReading : Type 0
 HasOneReading =
     (bytes : List ℕ) (m n : ℕ) (x y : List ℕ) → Uleb bytes m x → Uleb bytes n y → (m ≡ n) × (x ≡ y)
+
+-- the number n stands in place of the one that the bytes began with, in as many bytes, and all
+-- bytes behind it are unchanged
+pub record IsUlebWritten (before : List ℕ) (n : ℕ) (after : List ℕ) : Type 0 where
+  pub old : ℕ
+  pub rest : List ℕ
+  pub was : Uleb before old rest
+  pub is : Uleb after n rest
+  pub same_length : length after ≡ length before
+
+-- the number that the bytes begin with has too few bytes for the number n, each of seven bits
+pub record UlebTooShortFor (bytes : List ℕ) (n : ℕ) : Type 0 where
+  pub old : ℕ
+  pub rest : List ℕ
+  pub there : Uleb bytes old rest
+  pub above : 128 ^ (there.last + 1) ≤ n
+
+-- why no number is written
+abbrev pub IsUlebCause : List ℕ → ℕ → Uleb128Error → Type 0
+IsUlebCause bytes n Ended = UlebEnded bytes
+IsUlebCause bytes n TooLarge = UlebTooLarge bytes
+IsUlebCause bytes n DoesNotFit = UlebTooShortFor bytes n

@@ -1,14 +1,15 @@
 //! Little-endian words, byte masks, and readers of words, strings and ULEB128 numbers.
 ghost use Rattle.std.specs.Prelude.{◌≡◌, ℕ, ◌<◌, ◌≤◌, ◌==◌, ◌⊎◌, List, length, drop, slice_index};
 ghost use Rattle.std.specs.Prelude.{EachIndex, bit_and, bit_or, codes, Contains, IsErr, IfOk, OnOk};
-ghost use Rattle.std.specs.Prelude.{OnErr};
+ghost use Rattle.std.specs.Prelude.{IfErr, OnErr};
 ghost use Rattle.std.specs.Int.{from_le_bytes, w32, w64};
 ghost use Rattle.std.specs.Str.{encode_utf8_all};
 ghost use Rattle.std.specs.String.{string_bytes};
 ghost use Rattle.bstr.specs.Utf8.{lossy_chars};
 ghost use Rattle.linker_base.specs.ErrorTexts.{FailsExactly};
 ghost use Rattle.linker_base.specs.Text.{text_before_nul, after_nul};
-ghost use Rattle.linker_base.specs.Uleb.{Uleb, UlebEnded, UlebTooLarge, HasOneReading};
+ghost use Rattle.linker_base.specs.Uleb.{AllContinue, Uleb, UlebEnded, UlebTooLarge};
+ghost use Rattle.linker_base.specs.Uleb.{HasOneReading, IsUlebWritten, IsUlebCause};
 
 use anyhow::{Result, bail, ensure};
 use bstr::ByteSlice;
@@ -153,6 +154,66 @@ pub fn read_uleb128(content: &mut &[u8]) -> Result<u64>
     bail!("Failed to read ULEB128 value: ended");
 }
 
+/// Why a ULEB128 number isn't written.
+#[derive(Debug, Clone, Copy, PartialEq, Eq)]
+pub enum Uleb128Error {
+    /// The bytes end before the number that stands there does.
+    Ended,
+    /// The tenth byte of the number that stands there is neither 0 nor 1.
+    TooLarge,
+    /// The value needs more bytes than the number that stands there has.
+    DoesNotFit,
+}
+
+/// The index of the last byte of the ULEB128 number that bytes begin with.
+fn last_of_uleb128(bytes: &[u8]) -> Result<usize, Uleb128Error>
+    ensures there { IfOk result (λ last. last < length bytes.now) }
+    ensures within_ten { IfOk result (λ last. last < 10) }
+    ensures before { IfOk result (λ last. AllContinue last bytes.now) }
+    ensures ends { IfOk result (λ last. slice_index bytes.now last < 0x80) }
+    ensures tenth { IfOk result (λ last. last ≡ 9 → slice_index bytes.now last ≤ 1) }
+    ensures err { IfErr result (λ error. IsUlebCause bytes.now 0 error) }
+{
+    for (i, byte) in bytes.iter().enumerate() {
+        if i == 9 && *byte >= 2 {
+            return Err(Uleb128Error::TooLarge);
+        }
+        if *byte < 0x80 {
+            return Ok(i);
+        }
+    }
+    Err(Uleb128Error::Ended)
+}
+
+/// Writes a value over the ULEB128 number that `dest` begins with, in as many bytes: all but the
+/// last are at least 0x80, so that a smaller value is padded with zeros. `read_uleb128` then
+/// returns the value, and the bytes behind stay. Relocations of ULEB128 numbers are written like
+/// this, since what follows the number can't move.
+///
+/// ```
+/// let mut bytes = [0xe5, 0x8e, 0x26, 0x07];
+/// linker_utils::utils::write_uleb128(&mut bytes, 5).unwrap();
+/// assert_eq!(bytes, [0x85, 0x80, 0x00, 0x07]);
+/// ```
+///
+/// # Errors
+///
+/// The first that applies of `Ended`, `TooLarge` and `DoesNotFit`. Nothing is written then.
+pub fn write_uleb128(dest: &mut [u8], value: u64) -> Result<(), Uleb128Error>
+    ensures ok { OnOk result (IsUlebWritten dest.old value dest.new) }
+    ensures err { IfErr result (λ error. IsUlebCause dest.old value error × (dest.new ≡ dest.old)) }
+{
+    let last = last_of_uleb128(dest)?;
+    if last < 9 && value >> (7 * last as u64 + 7) != 0 {
+        return Err(Uleb128Error::DoesNotFit);
+    }
+    for i in 0..last {
+        dest[i] = 0x80 | (value >> (7 * i as u64) & 0x7f) as u8;
+    }
+    dest[last] = (value >> (7 * last as u64)) as u8;
+    Ok(())
+}
+
 /// Bytes begin with at most one ULEB128 number, and the rest after it is determined.
 pub fn uleb128_has_one_reading()
     ensures { HasOneReading }
@@ -232,6 +293,20 @@ mod tests {
             assert_eq!(rt; content, bytes);
         }
         Ok(())
+    }
+
+    // the numbers are those of DWARF 5, "Variable Length Data"
+    #[test]
+    fn writes_uleb128_in_as_many_bytes(rt: HostRuntime) {
+        let mut dest = [0x80, 0x01, 9];
+        assert_eq!(rt; write_uleb128(&mut dest, 12857), Ok(()));
+        assert_eq!(rt; dest, [0xb9, 0x64, 9]);
+        assert_eq!(rt; write_uleb128(&mut dest, 127), Ok(()));
+        assert_eq!(rt; dest, [0xff, 0x00, 9]);
+        let too_short = Err(Uleb128Error::DoesNotFit);
+        assert_eq!(rt; write_uleb128(&mut dest, 1 << 14), too_short);
+        assert_eq!(rt; dest, [0xff, 0x00, 9]);
+        assert_eq!(rt; write_uleb128(&mut dest[..1], 1), Err(Uleb128Error::Ended));
     }
 
     #[test]

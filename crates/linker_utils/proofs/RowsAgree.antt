@@ -21,7 +21,7 @@ use Rattle.linker_utils.specs.RiscV.{riscv_form, riscv_layout}
 use Rattle.linker_utils.specs.LoongArch.{loongarch_form, loongarch_layout, shift10_imm16}
 use Rattle.linker_utils.specs.Ppc64.{ppc64_form, ppc64_layout}
 use Rattle.linker_utils.specs.Reach.{reach_of}
-use Rattle.linker_utils.specs.RiscVRows.{riscv_row}
+use Rattle.linker_utils.specs.RiscVRows.{riscv_row, riscv_tls_descriptor_row}
 use Rattle.linker_utils.specs.declared.elf.AArch64Instruction.{AArch64Instruction}
 use Rattle.linker_utils.specs.declared.elf.AArch64Instruction.TheVariants.{Movnz, MachOLow12}
 use Rattle.linker_utils.specs.declared.elf.LoongArch64Instruction.{LoongArch64Instruction}
@@ -233,6 +233,16 @@ loongarch_checked name = refl
 
 pub aarch64_rows : (name : AArch64Relocation) → IfSome (aarch64_row name) RowAgrees
 aarch64_rows name = row_agrees false (aarch64_row name) (aarch64_checked name)
+
+descriptors_checked : (name : RiscVRelocation)
+    → row_check false (riscv_tls_descriptor_row name) ≡ true
+descriptors_checked R_RISCV_NONE = refl
+descriptors_checked name = refl
+
+pub riscv_descriptor_rows : (name : RiscVRelocation)
+    → IfSome (riscv_tls_descriptor_row name) RowAgrees
+riscv_descriptor_rows name =
+    row_agrees false (riscv_tls_descriptor_row name) (descriptors_checked name)
 
 pub riscv_rows : (name : RiscVRelocation) → IfSome (riscv_row name) RowAgrees
 riscv_rows name = row_agrees false (riscv_row name) (riscv_checked name)

@@ -14,7 +14,7 @@ use Rattle.linker_utils.specs.LoongArchRows.{loongarch_row}
 use Rattle.linker_utils.specs.Ppc64.{ppc64_form}
 use Rattle.linker_utils.specs.Ppc64Rows.{ppc64_row}
 use Rattle.linker_utils.specs.RiscV.{riscv_form}
-use Rattle.linker_utils.specs.RiscVRows.{riscv_row}
+use Rattle.linker_utils.specs.RiscVRows.{riscv_row, riscv_tls_descriptor_row}
 use Rattle.linker_utils.specs.declared.elf.AArch64Instruction.{AArch64Instruction}
 use Rattle.linker_utils.specs.declared.elf.AArch64Instruction.TheVariants.{MachOLow12}
 use Rattle.linker_utils.specs.declared.elf.LoongArch64Instruction.{LoongArch64Instruction}
@@ -117,6 +117,15 @@ loongarch_checked name = refl
 
 pub aarch64_fits : (name : AArch64Relocation) → IfSome (aarch64_row name) RowFits
 aarch64_fits name = row_fits (aarch64_row name) (aarch64_checked name)
+
+descriptors_checked : (name : RiscVRelocation)
+    → row_fits_check (riscv_tls_descriptor_row name) ≡ true
+descriptors_checked R_RISCV_NONE = refl
+descriptors_checked name = refl
+
+pub riscv_descriptors_fit : (name : RiscVRelocation)
+    → IfSome (riscv_tls_descriptor_row name) RowFits
+riscv_descriptors_fit name = row_fits (riscv_tls_descriptor_row name) (descriptors_checked name)
 
 pub riscv_fits : (name : RiscVRelocation) → IfSome (riscv_row name) RowFits
 riscv_fits name = row_fits (riscv_row name) (riscv_checked name)

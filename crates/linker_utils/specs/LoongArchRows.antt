@@ -14,6 +14,8 @@ use Rattle.linker_utils.specs.declared.elf.PageMask.{PageMask}
 use Rattle.linker_utils.specs.declared.elf.PageMask.TheVariants.{SymbolPlusAddendAndPosition}
 use Rattle.linker_utils.specs.declared.elf.PageMask.TheVariants.{GotEntryAndPosition}
 use Rattle.linker_utils.specs.declared.elf.RelocationKindInfo.{RelocationKindInfo}
+use Rattle.linker_utils.specs.declared.elf.Uleb128Role.{Uleb128Role}
+use Rattle.linker_utils.specs.declared.elf.Uleb128Role.TheVariants.{Adds, Subtracts}
 use Rattle.linker_utils.specs.declared.loongarch64.relocations.LoongArch64Relocation.{LoongArch64Relocation}
 use Rattle.linker_utils.specs.declared.loongarch64.relocations.LoongArch64Relocation.TheVariants.{R_LARCH_NONE, R_LARCH_32, R_LARCH_64, R_LARCH_ADD6, R_LARCH_ADD8, R_LARCH_ADD16, R_LARCH_ADD24, R_LARCH_ADD32, R_LARCH_ADD64, R_LARCH_SUB6, R_LARCH_SUB8, R_LARCH_SUB16, R_LARCH_SUB24, R_LARCH_SUB32, R_LARCH_SUB64, R_LARCH_ADD_ULEB128, R_LARCH_SUB_ULEB128, R_LARCH_ABS_HI20, R_LARCH_ABS_LO12, R_LARCH_ABS64_HI12, R_LARCH_ABS64_LO20, R_LARCH_PCALA_HI20, R_LARCH_PCALA_LO12, R_LARCH_PCALA64_HI12, R_LARCH_PCALA64_LO20, R_LARCH_32_PCREL, R_LARCH_PCREL20_S2, R_LARCH_64_PCREL, R_LARCH_PCADD_HI20, R_LARCH_GOT_PC_HI20, R_LARCH_GOT_PC_LO12, R_LARCH_GOT64_PC_HI12, R_LARCH_GOT64_PC_LO20, R_LARCH_B16, R_LARCH_B21, R_LARCH_B26, R_LARCH_CALL36, R_LARCH_CALL30, R_LARCH_TLS_LE_HI20, R_LARCH_TLS_LE_LO12, R_LARCH_TLS_LE64_LO20, R_LARCH_TLS_LE64_HI12, R_LARCH_TLS_LE_HI20_R, R_LARCH_TLS_LE_LO12_R, R_LARCH_TLS_IE_PC_HI20, R_LARCH_TLS_IE_PC_LO12, R_LARCH_TLS_IE64_PC_LO20, R_LARCH_TLS_IE64_PC_HI12, R_LARCH_TLS_IE_HI20, R_LARCH_TLS_IE_LO12, R_LARCH_TLS_IE64_HI12, R_LARCH_TLS_IE64_LO20, R_LARCH_TLS_LD_PC_HI20, R_LARCH_TLS_LD_HI20, R_LARCH_TLS_GD_PC_HI20, R_LARCH_TLS_GD_HI20, R_LARCH_TLS_DESC_PC_HI20, R_LARCH_TLS_DESC_PC_LO12, R_LARCH_TLS_DESC64_PC_HI12, R_LARCH_TLS_DESC64_PC_LO20, R_LARCH_TLS_DESC_LD, R_LARCH_TLS_DESC_CALL, R_LARCH_TLS_DTPREL32, R_LARCH_TLS_DTPREL64, R_LARCH_TLS_LD_PCREL20_S2, R_LARCH_TLS_GD_PCREL20_S2, R_LARCH_TLS_DESC_PCREL20_S2, R_LARCH_RELAX, R_LARCH_TLS_LE_ADD_R, R_LARCH_ALIGN, Other}
 
@@ -142,3 +144,9 @@ loongarch_row R_LARCH_TLS_LD_PCREL20_S2 = None
 loongarch_row R_LARCH_TLS_GD_PCREL20_S2 = None
 loongarch_row R_LARCH_TLS_DESC_PCREL20_S2 = None
 loongarch_row (Other n) = None
+
+-- V + S + A of the first of a pair, and V - S - A of the second
+abbrev pub loongarch_uleb128_role : LoongArch64Relocation → Option Uleb128Role
+loongarch_uleb128_role R_LARCH_ADD_ULEB128 = Some Adds
+loongarch_uleb128_role R_LARCH_SUB_ULEB128 = Some Subtracts
+loongarch_uleb128_role name = None

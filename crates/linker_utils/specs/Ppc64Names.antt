@@ -3,17 +3,26 @@
 use Rattle.std.specs.Prelude.{codes}
 use Rattle.linker_utils.specs.ElfNames.{ElfName, named, unnamed}
 use Rattle.linker_utils.specs.declared.ppc64.relocations.Ppc64Relocation.{Ppc64Relocation}
+use Rattle.linker_utils.specs.declared.ppc64.relocations.Ppc64Relocation.TheVariants as own
 use Rattle.linker_utils.specs.declared.ppc64.relocations.Ppc64Relocation.TheVariants.{R_PPC64_TLS, R_PPC64_TLSGD, R_PPC64_TLSLD, R_PPC64_ADDR64, R_PPC64_ADDR32, R_PPC64_REL64, R_PPC64_REL32, R_PPC64_REL24, R_PPC64_REL14, R_PPC64_REL16_HA, R_PPC64_REL16_LO, R_PPC64_TOC16_HA, R_PPC64_TOC16_LO, R_PPC64_TOC16_LO_DS, R_PPC64_TPREL64, R_PPC64_TPREL16, R_PPC64_TPREL16_LO, R_PPC64_TPREL16_HI, R_PPC64_TPREL16_HA, R_PPC64_TPREL16_DS, R_PPC64_TPREL16_LO_DS, R_PPC64_DTPREL64, R_PPC64_DTPREL16, R_PPC64_DTPREL16_LO, R_PPC64_DTPREL16_HI, R_PPC64_DTPREL16_HA, R_PPC64_DTPREL16_DS, R_PPC64_DTPREL16_LO_DS, R_PPC64_GOT_TPREL16_HA, R_PPC64_GOT_TPREL16_HI, R_PPC64_GOT_TPREL16_DS, R_PPC64_GOT_TPREL16_LO_DS, R_PPC64_GOT_TLSGD16, R_PPC64_GOT_TLSGD16_LO, R_PPC64_GOT_TLSGD16_HI, R_PPC64_GOT_TLSGD16_HA, R_PPC64_GOT_TLSLD16, R_PPC64_GOT_TLSLD16_LO, R_PPC64_GOT_TLSLD16_HI, R_PPC64_GOT_TLSLD16_HA, Other}
 
 abbrev pub ppc64_name : Ppc64Relocation → ElfName
+ppc64_name own.R_PPC64_NONE = named 0 (codes "R_PPC64_NONE")
 ppc64_name R_PPC64_ADDR32 = named 1 (codes "R_PPC64_ADDR32")
+ppc64_name own.R_PPC64_ADDR16_LO = named 4 (codes "R_PPC64_ADDR16_LO")
+ppc64_name own.R_PPC64_ADDR16_HI = named 5 (codes "R_PPC64_ADDR16_HI")
+ppc64_name own.R_PPC64_ADDR16_HA = named 6 (codes "R_PPC64_ADDR16_HA")
 ppc64_name R_PPC64_REL24 = named 10 (codes "R_PPC64_REL24")
 ppc64_name R_PPC64_REL14 = named 11 (codes "R_PPC64_REL14")
 ppc64_name R_PPC64_REL32 = named 26 (codes "R_PPC64_REL32")
 ppc64_name R_PPC64_ADDR64 = named 38 (codes "R_PPC64_ADDR64")
 ppc64_name R_PPC64_REL64 = named 44 (codes "R_PPC64_REL64")
+ppc64_name own.R_PPC64_TOC16 = named 47 (codes "R_PPC64_TOC16")
 ppc64_name R_PPC64_TOC16_LO = named 48 (codes "R_PPC64_TOC16_LO")
 ppc64_name R_PPC64_TOC16_HA = named 50 (codes "R_PPC64_TOC16_HA")
+ppc64_name own.R_PPC64_ADDR16_DS = named 56 (codes "R_PPC64_ADDR16_DS")
+ppc64_name own.R_PPC64_ADDR16_LO_DS = named 57 (codes "R_PPC64_ADDR16_LO_DS")
+ppc64_name own.R_PPC64_TOC16_DS = named 63 (codes "R_PPC64_TOC16_DS")
 ppc64_name R_PPC64_TOC16_LO_DS = named 64 (codes "R_PPC64_TOC16_LO_DS")
 ppc64_name R_PPC64_TLS = named 67 (codes "R_PPC64_TLS")
 ppc64_name R_PPC64_TPREL16 = named 69 (codes "R_PPC64_TPREL16")
@@ -44,6 +53,7 @@ ppc64_name R_PPC64_DTPREL16_DS = named 101 (codes "R_PPC64_DTPREL16_DS")
 ppc64_name R_PPC64_DTPREL16_LO_DS = named 102 (codes "R_PPC64_DTPREL16_LO_DS")
 ppc64_name R_PPC64_TLSGD = named 107 (codes "R_PPC64_TLSGD")
 ppc64_name R_PPC64_TLSLD = named 108 (codes "R_PPC64_TLSLD")
+ppc64_name own.R_PPC64_REL24_NOTOC = named 116 (codes "R_PPC64_REL24_NOTOC")
 ppc64_name R_PPC64_REL16_LO = named 250 (codes "R_PPC64_REL16_LO")
 ppc64_name R_PPC64_REL16_HA = named 252 (codes "R_PPC64_REL16_HA")
 ppc64_name (Other code) = unnamed code

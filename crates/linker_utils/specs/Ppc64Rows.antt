@@ -13,6 +13,7 @@ use Rattle.linker_utils.specs.declared.elf.RelocationInstruction.TheVariants.{Pp
 use Rattle.linker_utils.specs.declared.elf.Ppc64Instruction.{Ppc64Instruction}
 use Rattle.linker_utils.specs.declared.elf.Ppc64Instruction.TheVariants.{D, Ds, Branch14, Branch24}
 use Rattle.linker_utils.specs.declared.ppc64.relocations.Ppc64Relocation.{Ppc64Relocation}
+use Rattle.linker_utils.specs.declared.ppc64.relocations.Ppc64Relocation.TheVariants as own
 use Rattle.linker_utils.specs.declared.ppc64.relocations.Ppc64Relocation.TheVariants.{R_PPC64_TLS, R_PPC64_TLSGD, R_PPC64_TLSLD, R_PPC64_ADDR64, R_PPC64_ADDR32, R_PPC64_REL64, R_PPC64_REL32, R_PPC64_REL24, R_PPC64_REL14, R_PPC64_REL16_HA, R_PPC64_REL16_LO, R_PPC64_TOC16_HA, R_PPC64_TOC16_LO, R_PPC64_TOC16_LO_DS, R_PPC64_TPREL64, R_PPC64_TPREL16, R_PPC64_TPREL16_LO, R_PPC64_TPREL16_HI, R_PPC64_TPREL16_HA, R_PPC64_TPREL16_DS, R_PPC64_TPREL16_LO_DS, R_PPC64_DTPREL64, R_PPC64_DTPREL16, R_PPC64_DTPREL16_LO, R_PPC64_DTPREL16_HI, R_PPC64_DTPREL16_HA, R_PPC64_DTPREL16_DS, R_PPC64_DTPREL16_LO_DS, R_PPC64_GOT_TPREL16_HA, R_PPC64_GOT_TPREL16_HI, R_PPC64_GOT_TPREL16_DS, R_PPC64_GOT_TPREL16_LO_DS, R_PPC64_GOT_TLSGD16, R_PPC64_GOT_TLSGD16_LO, R_PPC64_GOT_TLSGD16_HI, R_PPC64_GOT_TLSGD16_HA, R_PPC64_GOT_TLSLD16, R_PPC64_GOT_TLSLD16_LO, R_PPC64_GOT_TLSLD16_HI, R_PPC64_GOT_TLSLD16_HA, Other}
 
 -- What all rows of PowerPC64 share: no page mask, no thunk, the addend beside the relocation.
@@ -68,18 +69,28 @@ low_ds kind range = field_of kind 0 16 Ds range 4 None
 abbrev pub branch : ℕ → Ppc64Instruction → RelocationKindInfo
 branch n insn = field_of Relative 0 n insn (signed_range n) 4 None
 
+-- `own` marks the relocations of which the original library has no row
 abbrev pub ppc64_row : Ppc64Relocation → Option RelocationKindInfo
+ppc64_row own.R_PPC64_NONE = Some (bytes NoValue 0 unchecked)
 ppc64_row R_PPC64_TLS = Some (bytes NoValue 0 unchecked)
 ppc64_row R_PPC64_TLSGD = Some (bytes NoValue 0 unchecked)
 ppc64_row R_PPC64_TLSLD = Some (bytes NoValue 0 unchecked)
 ppc64_row R_PPC64_ADDR64 = Some (bytes Absolute 8 unchecked)
 ppc64_row R_PPC64_ADDR32 = Some (bytes Absolute 4 (signed_or_unsigned_range 32))
+ppc64_row own.R_PPC64_ADDR16_LO = Some (low Absolute unchecked)
+ppc64_row own.R_PPC64_ADDR16_HI = Some (high Absolute)
+ppc64_row own.R_PPC64_ADDR16_HA = Some (high_adjusted Absolute)
+ppc64_row own.R_PPC64_ADDR16_DS = Some (low_ds Absolute (signed_range 16))
+ppc64_row own.R_PPC64_ADDR16_LO_DS = Some (low_ds Absolute unchecked)
 ppc64_row R_PPC64_REL64 = Some (bytes Relative 8 unchecked)
 ppc64_row R_PPC64_REL32 = Some (bytes Relative 4 (signed_range 32))
 ppc64_row R_PPC64_REL24 = Some (branch 26 Branch24)
+ppc64_row own.R_PPC64_REL24_NOTOC = Some (branch 26 Branch24)
 ppc64_row R_PPC64_REL14 = Some (branch 16 Branch14)
 ppc64_row R_PPC64_REL16_HA = Some (high_adjusted Relative)
 ppc64_row R_PPC64_REL16_LO = Some (low Relative unchecked)
+ppc64_row own.R_PPC64_TOC16 = Some (low SymRelGotBase (signed_range 16))
+ppc64_row own.R_PPC64_TOC16_DS = Some (low_ds SymRelGotBase (signed_range 16))
 ppc64_row R_PPC64_TOC16_HA = Some (high_adjusted SymRelGotBase)
 ppc64_row R_PPC64_TOC16_LO = Some (low SymRelGotBase unchecked)
 ppc64_row R_PPC64_TOC16_LO_DS = Some (low_ds SymRelGotBase unchecked)

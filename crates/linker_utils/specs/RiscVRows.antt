@@ -6,8 +6,11 @@ use Rattle.linker_utils.specs.declared.elf.RelocationKind.TheVariants.{None as N
 use Rattle.linker_utils.specs.declared.elf.RelocationInstruction.TheVariants.{RiscV}
 use Rattle.linker_utils.specs.declared.elf.RelocationKindInfo.{RelocationKindInfo}
 use Rattle.linker_utils.specs.declared.elf.RelocationSize.TheVariants.{ByteSize, BitMasking}
+use Rattle.linker_utils.specs.declared.elf.RelocationKind.TheVariants.{TlsDesc, TlsDescCall}
 use Rattle.linker_utils.specs.declared.elf.RiscVInstruction.{RiscVInstruction}
 use Rattle.linker_utils.specs.declared.elf.RiscVInstruction.TheVariants.{UType, IType, SType, BType, JType, CbType, CjType, CluiType, UiType}
+use Rattle.linker_utils.specs.declared.elf.Uleb128Role.{Uleb128Role}
+use Rattle.linker_utils.specs.declared.elf.Uleb128Role.TheVariants.{Sets, Subtracts}
 use Rattle.linker_utils.specs.declared.riscv64.relocations.RiscVRelocation.{RiscVRelocation}
 use Rattle.linker_utils.specs.declared.riscv64.relocations.RiscVRelocation.TheVariants.{R_RISCV_NONE, R_RISCV_32, R_RISCV_64, R_RISCV_BRANCH, R_RISCV_JAL, R_RISCV_CALL, R_RISCV_CALL_PLT, R_RISCV_GOT_HI20, R_RISCV_TLS_GOT_HI20, R_RISCV_TLS_GD_HI20, R_RISCV_PCREL_HI20, R_RISCV_PCREL_LO12_I, R_RISCV_PCREL_LO12_S, R_RISCV_HI20, R_RISCV_LO12_I, R_RISCV_LO12_S, R_RISCV_TPREL_HI20, R_RISCV_TPREL_LO12_I, R_RISCV_TPREL_LO12_S, R_RISCV_TPREL_ADD, R_RISCV_ADD8, R_RISCV_ADD16, R_RISCV_ADD32, R_RISCV_ADD64, R_RISCV_SUB8, R_RISCV_SUB16, R_RISCV_SUB32, R_RISCV_SUB64, R_RISCV_GOT32_PCREL, R_RISCV_ALIGN, R_RISCV_RVC_BRANCH, R_RISCV_RVC_JUMP, R_RISCV_RELAX, R_RISCV_SUB6, R_RISCV_SET6, R_RISCV_SET8, R_RISCV_SET16, R_RISCV_SET32, R_RISCV_32_PCREL, R_RISCV_PLT32, R_RISCV_SET_ULEB128, R_RISCV_SUB_ULEB128, R_RISCV_TLSDESC_HI20, R_RISCV_TLSDESC_LOAD_LO12, R_RISCV_TLSDESC_ADD_LO12, R_RISCV_TLSDESC_CALL, Other}
 
@@ -99,6 +102,23 @@ riscv_row R_RISCV_TLSDESC_LOAD_LO12 = None
 riscv_row R_RISCV_TLSDESC_ADD_LO12 = None
 riscv_row R_RISCV_TLSDESC_CALL = None
 riscv_row (Other n) = None
+
+-- what the relocations of TLS descriptors mean ("TLS Descriptors"), which have no row above
+abbrev pub riscv_tls_descriptor_row : RiscVRelocation → Option RelocationKindInfo
+riscv_tls_descriptor_row R_RISCV_TLSDESC_HI20 =
+    Some (in_form TlsDesc 32 UType signed_or_unsigned_32 1)
+riscv_tls_descriptor_row R_RISCV_TLSDESC_LOAD_LO12 =
+    Some (in_form TlsDesc 32 IType signed_or_unsigned_32 1)
+riscv_tls_descriptor_row R_RISCV_TLSDESC_ADD_LO12 =
+    Some (in_form TlsDesc 32 IType signed_or_unsigned_32 1)
+riscv_tls_descriptor_row R_RISCV_TLSDESC_CALL = Some (in_bytes TlsDescCall 0 unchecked)
+riscv_tls_descriptor_row name = None
+
+-- V = S + A of the first of a pair, and V - S - A of the second
+abbrev pub riscv_uleb128_role : RiscVRelocation → Option Uleb128Role
+riscv_uleb128_role R_RISCV_SET_ULEB128 = Some Sets
+riscv_uleb128_role R_RISCV_SUB_ULEB128 = Some Subtracts
+riscv_uleb128_role name = None
 
 -- the high part of a value that `c.lui` holds
 abbrev pub clui_row : RelocationKindInfo

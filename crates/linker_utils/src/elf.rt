@@ -169,6 +169,19 @@ pub enum RelocationKind {
     TlsDescCall,
 }
 
+/// What a relocation of a ULEB128 number does with its value, S + A. Two of them stand at one
+/// number. `utils::write_uleb128` writes what both make together: what the first makes alone may
+/// need more bytes than stand there.
+#[derive(Debug, Clone, Copy, PartialEq, Eq)]
+pub enum Uleb128Role {
+    /// The value is the number that the next one subtracts from.
+    Sets,
+    /// The value is added to the number that stands there.
+    Adds,
+    /// The value is subtracted from what the one before it has made.
+    Subtracts,
+}
+
 /// Whether a bit field is read in two's complement.
 #[derive(Debug, Clone, Copy, PartialEq, Eq)]
 pub enum Sign {

@@ -1,19 +1,31 @@
 -- The value, the reach and the write of a relocation that is named by numbers.
 use Rattle.std.specs.Prelude.{◌≡◌, ◌≢◌, ℕ, ◌<◌, ◌≤◌, List, [], ◌∷◌, ◌++◌, length, take, drop, slice_index_or, Option, None, Some, Result, Ok, Err, ℤ, pos}
+use Rattle.linker_base.specs.Uleb.{IsUlebWritten, IsUlebCause}
+use Rattle.linker_base.specs.declared.utils.Uleb128Error.{Uleb128Error}
+use Rattle.linker_base.specs.declared.utils.Uleb128Error.TheVariants as uleb_errors
+use Rattle.linker_utils.specs.LoongArchNames.{loongarch_name}
+use Rattle.linker_utils.specs.LoongArchRows.{loongarch_uleb128_role}
+use Rattle.linker_utils.specs.RiscVNames.{riscv_name}
+use Rattle.linker_utils.specs.RiscVRows.{riscv_uleb128_role}
 use Rattle.linker_utils.specs.Reach.{reach_of}
 use Rattle.linker_utils.specs.Relocate.{IsAccepted, IsWritten, IsCause}
 use Rattle.linker_utils.specs.Value.{value_of}
 use Rattle.linker_utils.specs.declared.elf.Architecture.{Architecture}
+use Rattle.linker_utils.specs.declared.elf.Architecture.TheVariants as architectures
 use Rattle.linker_utils.specs.declared.elf.RelocationKindInfo.{RelocationKindInfo}
+use Rattle.linker_utils.specs.declared.elf.Uleb128Role.{Uleb128Role}
+use Rattle.linker_utils.specs.declared.elf.Uleb128Role.TheVariants as roles
 use Rattle.linker_utils.specs.declared.elf.relocate.RelocateError.{RelocateError}
 use Rattle.linker_utils.specs.declared.elf.relocate.RelocateError.TheVariants as errors
 use Rattle.linker_utils.specs.declared.elf.value.Operands.{Operands}
-use Rattle.linker_utils_c.specs.Relocations.{IsMeaning}
+use Rattle.linker_utils_c.specs.Relocations.{IsMeaning, IsOf}
 use Rattle.linker_utils_c.specs.Status.{code}
 use Rattle.linker_utils_c.specs.declared.relocate.Reach.{Reach}
 use Rattle.linker_utils_c.specs.declared.relocate.Relocation.{Relocation}
 use Rattle.linker_utils_c.specs.declared.status.Status.{Status}
 use Rattle.linker_utils_c.specs.declared.status.Status.TheVariants.{Success, UnknownRelocation, TooShort, Misaligned, OutOfReach, NoValue, Uleb128Pair}
+use Rattle.linker_utils_c.specs.declared.status.Status.TheVariants.{Uleb128Ended, DoesNotFit}
+use Rattle.linker_utils_c.specs.declared.status.Status.TheVariants.{Uleb128TooLarge}
 
 -- ---- the value
 
@@ -96,3 +108,35 @@ pub record AreRelocatedOrRejected (architecture : Architecture) (relocations : L
     (old_faulty faulty status : ℕ) : Type 0 where
   pub success : status ≡ code Success → AreRelocated architecture relocations before after × (faulty ≡ old_faulty)
   pub rejected : (status ≢ code Success) → IsFirstRejected architecture relocations before after faulty status
+
+-- ---- ULEB128 numbers
+
+-- 1, 2 or 3, and 0 of a relocation of no ULEB128 number
+abbrev pub role_number : Option Uleb128Role → ℕ
+role_number None = 0
+role_number (Some roles.Sets) = 1
+role_number (Some roles.Adds) = 2
+role_number (Some roles.Subtracts) = 3
+
+-- what the relocation of an architecture and a code does with a ULEB128 number
+abbrev pub IsRole : Architecture → ℕ → Option Uleb128Role → Type 0
+IsRole architectures.RiscV = IsOf riscv_name riscv_uleb128_role
+IsRole architectures.LoongArch64 = IsOf loongarch_name loongarch_uleb128_role
+IsRole architecture = λ r_type role. role ≡ None
+
+-- the status of a write or of why there is none
+abbrev pub uleb_status : Result Unit Uleb128Error → Status
+uleb_status (Ok u) = Success
+uleb_status (Err uleb_errors.Ended) = Uleb128Ended
+uleb_status (Err uleb_errors.TooLarge) = Uleb128TooLarge
+uleb_status (Err uleb_errors.DoesNotFit) = DoesNotFit
+
+-- the bytes after a write, or why there is none
+abbrev pub IsUlebOutcome : Result Unit Uleb128Error → ℕ → List ℕ → List ℕ → Type 0
+IsUlebOutcome (Ok u) n before after = IsUlebWritten before n after
+IsUlebOutcome (Err error) n before after = IsUlebCause before n error × (after ≡ before)
+
+pub record IsUlebReturned (before : List ℕ) (n : ℕ) (after : List ℕ) (status : ℕ) : Type 0 where
+  pub outcome : Result Unit Uleb128Error
+  pub says : status ≡ code (uleb_status outcome)
+  pub holds : IsUlebOutcome outcome n before after

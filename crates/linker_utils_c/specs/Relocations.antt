@@ -15,13 +15,14 @@ use Rattle.linker_utils.specs.ElfNames.{ElfName, named, unnamed, IsNameOf}
 use Rattle.linker_utils.specs.AArch64Names.{aarch64_name}
 use Rattle.linker_utils.specs.AArch64Rows.{aarch64_row}
 use Rattle.linker_utils.specs.RiscVNames.{riscv_name}
-use Rattle.linker_utils.specs.RiscVRows.{riscv_row}
+use Rattle.linker_utils.specs.RiscVRows.{riscv_row, riscv_tls_descriptor_row}
 use Rattle.linker_utils.specs.LoongArchNames.{loongarch_name}
 use Rattle.linker_utils.specs.LoongArchRows.{loongarch_row}
 use Rattle.linker_utils.specs.Ppc64Names.{ppc64_name}
 use Rattle.linker_utils.specs.Ppc64Rows.{ppc64_row}
 use Rattle.linker_utils.specs.X86Names.{x86_64_name}
 use Rattle.linker_utils.specs.X86Rows.{x86_64_row}
+use Rattle.linker_utils.specs.declared.riscv64.relocations.RiscVRelocation.{RiscVRelocation}
 use Rattle.linker_utils_c.specs.declared.relocations.RelocationInfo.{RelocationInfo}
 use Rattle.linker_utils_c.specs.declared.status.Status.TheVariants.{Success, UnknownRelocation}
 use Rattle.linker_utils_c.specs.declared.status.Status.TheVariants.{TooShort}
@@ -35,10 +36,20 @@ pub record IsOf {Name A : Type 0} (elf : Name → ElfName) (value_of : Name → 
   pub is_name : IsNameOf elf r_type name
   pub value_is : value ≡ value_of name
 
+-- the first meaning, and without one the second
+abbrev pub or_else : Option RelocationKindInfo → Option RelocationKindInfo
+    → Option RelocationKindInfo
+or_else None second = second
+or_else (Some row) second = Some row
+
+-- the row of a name, or that of a TLS descriptor's
+abbrev pub riscv_meaning : RiscVRelocation → Option RelocationKindInfo
+riscv_meaning name = or_else (riscv_row name) (riscv_tls_descriptor_row name)
+
 -- what the relocation of an architecture and a code means
 abbrev pub IsMeaning : Architecture → ℕ → Option RelocationKindInfo → Type 0
 IsMeaning architectures.AArch64 = IsOf aarch64_name aarch64_row
-IsMeaning architectures.RiscV = IsOf riscv_name riscv_row
+IsMeaning architectures.RiscV = IsOf riscv_name riscv_meaning
 IsMeaning architectures.LoongArch64 = IsOf loongarch_name loongarch_row
 IsMeaning architectures.Ppc64 = IsOf ppc64_name ppc64_row
 IsMeaning architectures.X86_64 = IsOf x86_64_name x86_64_row

@@ -1,15 +1,20 @@
 //! Relocations: their values, their reach, and writing them.
 
 ghost use Rattle.std.specs.Prelude.{◌≡◌, IfSome, IfNone, Option};
+ghost use Rattle.linker_utils.specs.declared.elf.Uleb128Role.{Uleb128Role};
 ghost use Rattle.linker_utils.specs.declared.elf.RelocationKindInfo.{RelocationKindInfo};
 ghost use Rattle.linker_utils.specs.Elf.{architecture_of};
 ghost use Rattle.linker_utils_c.specs.Status.{code};
 ghost use Rattle.linker_utils_c.specs.Relocations.{IsMeaning};
+ghost use Rattle.linker_utils_c.specs.Relocate.{role_number, IsRole, uleb_status, IsUlebReturned};
 ghost use Rattle.linker_utils_c.specs.Relocate.{IsValueOf, IsReachOf, write_status, IsRelocated, IsRelocatedAt, AreRelocatedOrRejected};
 
 use crate::relocations::info_of;
 use crate::status::Status;
-use linker_utils::elf::{Architecture, Operands, RelocateError, RelocationKindInfo};
+use linker_utils::elf::{Architecture, Operands, RelocateError, RelocationKindInfo, Uleb128Role};
+use linker_utils::loongarch64::LoongArch64Relocation;
+use linker_utils::riscv64::RiscVRelocation;
+use linker_utils::utils::{self, Uleb128Error};
 
 /// The value of the relocation with `r_type` in files with `e_machine` `machine`. The first that
 /// applies of `UnknownArchitecture`; `UnknownRelocation`; `NoValue`.
@@ -203,4 +208,55 @@ pub extern "C" fn linker_utils_relocate_all_nonnull(
         return Status::UnknownArchitecture.number();
     };
     relocate_all(architecture, section, relocations, faulty)
+}
+
+/// What the relocation of an architecture and a code does with a ULEB128 number.
+fn role_of(architecture: Architecture, r_type: u32) -> Option<Uleb128Role>
+    ensures { IsRole architecture r_type result }
+{
+    match architecture {
+        Architecture::RiscV => RiscVRelocation::from_elf(r_type).uleb128_role(),
+        Architecture::LoongArch64 => LoongArch64Relocation::from_elf(r_type).uleb128_role(),
+        _ => None,
+    }
+}
+
+/// What a relocation of a ULEB128 number does with its value: 1 sets, 2 adds, 3 subtracts; 0 of
+/// every other number of an architecture or a relocation.
+#[unsafe(no_mangle)]
+pub extern "C" fn linker_utils_uleb128_role(machine: u16, r_type: u32) -> u32
+    ensures known { IfSome (architecture_of machine) (λ architecture. (role : Option Uleb128Role)
+        × IsRole architecture r_type role × (result ≡ role_number role)) }
+    ensures unknown { IfNone (architecture_of machine) (result ≡ 0) }
+{
+    let Some(architecture) = Architecture::from_machine(machine) else {
+        return 0;
+    };
+    match role_of(architecture, r_type) {
+        None => 0,
+        Some(Uleb128Role::Sets) => 1,
+        Some(Uleb128Role::Adds) => 2,
+        Some(Uleb128Role::Subtracts) => 3,
+    }
+}
+
+#[inline(always)]
+fn uleb_status_of(outcome: Result<(), Uleb128Error>) -> u32
+    ensures { result ≡ code (uleb_status outcome) }
+{
+    match outcome {
+        Ok(()) => Status::Success.number(),
+        Err(Uleb128Error::Ended) => Status::Uleb128Ended.number(),
+        Err(Uleb128Error::TooLarge) => Status::Uleb128TooLarge.number(),
+        Err(Uleb128Error::DoesNotFit) => Status::DoesNotFit.number(),
+    }
+}
+
+/// Writes a value over the ULEB128 number that `dest` begins with, in as many bytes. The first that
+/// applies of `Uleb128Ended`; `Uleb128TooLarge`; `DoesNotFit`.
+#[unsafe(no_mangle)]
+pub extern "C" fn linker_utils_write_uleb128_nonnull(dest: &mut [u8], value: u64) -> u32
+    ensures { IsUlebReturned dest.old value dest.new result }
+{
+    uleb_status_of(utils::write_uleb128(dest, value))
 }

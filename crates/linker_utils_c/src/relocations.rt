@@ -7,6 +7,7 @@ ghost use Rattle.linker_utils.specs.ElfNames.{ElfName, named, unnamed};
 ghost use Rattle.linker_utils.specs.RiscVRows.{clui_row};
 ghost use Rattle.linker_utils_c.specs.Status.{code};
 ghost use Rattle.linker_utils_c.specs.Forms.{named_form};
+ghost use Rattle.linker_utils_c.specs.Relocations.{riscv_meaning};
 ghost use Rattle.linker_utils_c.specs.Relocations.{IsMeaning, IsElfName, mask_number, InNumbers, IsReturned, IsNameCopied};
 
 use crate::status::Status;
@@ -53,6 +54,17 @@ pub struct RelocationInfo {
     pub bias: u64,
 }
 
+/// What a relocation of RISC-V means, those of TLS descriptors among them.
+#[inline(always)]
+fn riscv_info(name: RiscVRelocation) -> Option<RelocationKindInfo>
+    ensures { result ≡ riscv_meaning name }
+{
+    match riscv64::relocation_type_from_raw(name) {
+        Some(info) => Some(info),
+        None => riscv64::tls_descriptor_relocation(name),
+    }
+}
+
 /// What the relocation of an architecture and a code means.
 #[inline(always)]
 pub(crate) fn info_of(architecture: Architecture, r_type: u32) -> Option<RelocationKindInfo>
@@ -62,7 +74,7 @@ pub(crate) fn info_of(architecture: Architecture, r_type: u32) -> Option<Relocat
         Architecture::AArch64 => {
             aarch64::relocation_type_from_raw(AArch64Relocation::from_elf(r_type))
         }
-        Architecture::RiscV => riscv64::relocation_type_from_raw(RiscVRelocation::from_elf(r_type)),
+        Architecture::RiscV => riscv_info(RiscVRelocation::from_elf(r_type)),
         Architecture::LoongArch64 => {
             loongarch64::relocation_type_from_raw(LoongArch64Relocation::from_elf(r_type))
         }

@@ -18,7 +18,7 @@ pub enum Status {
     UnknownRelocation,
     /// Fewer bytes than the call reads or writes.
     TooShort,
-    /// The form does not hold the value.
+    /// The form, or the ULEB128 number that stands there, does not hold the value.
     DoesNotFit,
     /// The rewrite may not be applied there.
     CannotApply,

@@ -127,6 +127,58 @@ pub fn read_uleb128(content: &mut &[u8]) -> Result<u64> {
     bail!("Failed to read ULEB128 value: ended");
 }
 
+/// Why a ULEB128 number isn't written.
+#[derive(Debug, Clone, Copy, PartialEq, Eq)]
+pub enum Uleb128Error {
+    /// The bytes end before the number that stands there does.
+    Ended,
+    /// The tenth byte of the number that stands there is neither 0 nor 1.
+    TooLarge,
+    /// The value needs more bytes than the number that stands there has.
+    DoesNotFit,
+}
+
+/// The index of the last byte of the ULEB128 number that bytes begin with.
+#[cfg(feature = "readers")]
+fn last_of_uleb128(bytes: &[u8]) -> Result<usize, Uleb128Error> {
+    for (i, byte) in bytes.iter().enumerate() {
+        if i == 9 && *byte >= 2 {
+            return Err(Uleb128Error::TooLarge);
+        }
+        if *byte < 0x80 {
+            return Ok(i);
+        }
+    }
+    Err(Uleb128Error::Ended)
+}
+
+/// Writes a value over the ULEB128 number that `dest` begins with, in as many bytes: all but the
+/// last are at least 0x80, so that a smaller value is padded with zeros. `read_uleb128` then
+/// returns the value, and the bytes behind stay. Relocations of ULEB128 numbers are written like
+/// this, since what follows the number can't move.
+///
+/// ```
+/// let mut bytes = [0xe5, 0x8e, 0x26, 0x07];
+/// linker_utils::utils::write_uleb128(&mut bytes, 5).unwrap();
+/// assert_eq!(bytes, [0x85, 0x80, 0x00, 0x07]);
+/// ```
+///
+/// # Errors
+///
+/// The first that applies of `Ended`, `TooLarge` and `DoesNotFit`. Nothing is written then.
+#[cfg(feature = "readers")]
+pub fn write_uleb128(dest: &mut [u8], value: u64) -> Result<(), Uleb128Error> {
+    let last = last_of_uleb128(dest)?;
+    if last < 9 && value >> (7 * last as u64 + 7) != 0 {
+        return Err(Uleb128Error::DoesNotFit);
+    }
+    for i in 0..last {
+        dest[i] = 0x80 | (value >> (7 * i as u64) & 0x7f) as u8;
+    }
+    dest[last] = (value >> (7 * last as u64)) as u8;
+    Ok(())
+}
+
 /// Bytes begin with at most one ULEB128 number, and the rest after it is determined.
 pub fn uleb128_has_one_reading() {}
 
@@ -204,6 +256,20 @@ mod tests {
             assert_eq!(content, bytes);
         }
         Ok(())
+    }
+
+    // the numbers are those of DWARF 5, "Variable Length Data"
+    #[test]
+    fn writes_uleb128_in_as_many_bytes() {
+        let mut dest = [0x80, 0x01, 9];
+        assert_eq!(write_uleb128(&mut dest, 12857), Ok(()));
+        assert_eq!(dest, [0xb9, 0x64, 9]);
+        assert_eq!(write_uleb128(&mut dest, 127), Ok(()));
+        assert_eq!(dest, [0xff, 0x00, 9]);
+        let too_short = Err(Uleb128Error::DoesNotFit);
+        assert_eq!(write_uleb128(&mut dest, 1 << 14), too_short);
+        assert_eq!(dest, [0xff, 0x00, 9]);
+        assert_eq!(write_uleb128(&mut dest[..1], 1), Err(Uleb128Error::Ended));
     }
 
     #[test]

@@ -3,7 +3,7 @@
 
 use crate::elf::{
     AllowedRange, Bias, LoongArch64Instruction, PageMask, PageMaskPattern, RelocationKind,
-    RelocationKindInfo, RelocationSize, SIZE_2KB, Sign,
+    RelocationKindInfo, RelocationSize, SIZE_2KB, Sign, Uleb128Role,
 };
 
 /// The relocations of LoongArch, by their names in the LoongArch ELF psABI, "Relocation Types".
@@ -26,7 +26,10 @@ pub enum LoongArch64Relocation {
     R_LARCH_SUB24,
     R_LARCH_SUB32,
     R_LARCH_SUB64,
+    /// The first of a pair at a ULEB128 number. Its row is `Relative` of 0 bytes, though the value
+    /// isn't relative to the place, and `write` rejects it: `uleb128_role` tells what it does.
     R_LARCH_ADD_ULEB128,
+    /// The second of that pair.
     R_LARCH_SUB_ULEB128,
     R_LARCH_ABS_HI20,
     R_LARCH_ABS_LO12,
@@ -80,6 +83,9 @@ pub enum LoongArch64Relocation {
     R_LARCH_TLS_DESC_PCREL20_S2,
     R_LARCH_RELAX,
     R_LARCH_TLS_LE_ADD_R,
+    /// Its row is `None` of 0 bytes, since it writes nothing. But a linker that deletes bytes has
+    /// to keep the alignment that the addend names, as for `R_RISCV_ALIGN`, whose row is
+    /// `Alignment`.
     R_LARCH_ALIGN,
     /// A code without a name here.
     Other(u32),
@@ -316,6 +322,15 @@ impl LoongArch64Relocation {
             LoongArch64Relocation::R_LARCH_CALL30 => "R_LARCH_CALL30",
             LoongArch64Relocation::R_LARCH_PCADD_HI20 => "R_LARCH_PCADD_HI20",
             LoongArch64Relocation::Other(_) => "unknown relocation",
+        }
+    }
+
+    /// What a relocation of a ULEB128 number does; `None` for all others.
+    pub fn uleb128_role(self) -> Option<Uleb128Role> {
+        match self {
+            LoongArch64Relocation::R_LARCH_ADD_ULEB128 => Some(Uleb128Role::Adds),
+            LoongArch64Relocation::R_LARCH_SUB_ULEB128 => Some(Uleb128Role::Subtracts),
+            _ => None,
         }
     }
 }

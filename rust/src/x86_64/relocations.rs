@@ -18,6 +18,8 @@ pub enum X86_64Relocation {
     R_X86_64_PC64,
     R_X86_64_GOTPC64,
     R_X86_64_PC32,
+    /// Its row is `Relative`, as that of `R_X86_64_PC32`: its formula is GOT + A - P, so the GOT's
+    /// address is the symbol's. The same holds of `R_X86_64_GOTPC64`.
     R_X86_64_GOTPC32,
     R_X86_64_PC16,
     R_X86_64_PC8,

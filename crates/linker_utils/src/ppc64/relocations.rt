@@ -17,17 +17,26 @@ use crate::elf::{
 #[allow(non_camel_case_types)]
 #[derive(Debug, Clone, Copy, PartialEq, Eq)]
 pub enum Ppc64Relocation {
+    R_PPC64_NONE,
     R_PPC64_TLS,
     R_PPC64_TLSGD,
     R_PPC64_TLSLD,
     R_PPC64_ADDR64,
     R_PPC64_ADDR32,
+    R_PPC64_ADDR16_LO,
+    R_PPC64_ADDR16_HI,
+    R_PPC64_ADDR16_HA,
+    R_PPC64_ADDR16_DS,
+    R_PPC64_ADDR16_LO_DS,
     R_PPC64_REL64,
     R_PPC64_REL32,
     R_PPC64_REL24,
+    R_PPC64_REL24_NOTOC,
     R_PPC64_REL14,
     R_PPC64_REL16_HA,
     R_PPC64_REL16_LO,
+    R_PPC64_TOC16,
+    R_PPC64_TOC16_DS,
     R_PPC64_TOC16_HA,
     R_PPC64_TOC16_LO,
     R_PPC64_TOC16_LO_DS,
@@ -68,14 +77,22 @@ impl Ppc64Relocation {
         ensures { IsNameOf ppc64_name code result }
     {
         match code {
+            0 => Ppc64Relocation::R_PPC64_NONE,
             1 => Ppc64Relocation::R_PPC64_ADDR32,
+            4 => Ppc64Relocation::R_PPC64_ADDR16_LO,
+            5 => Ppc64Relocation::R_PPC64_ADDR16_HI,
+            6 => Ppc64Relocation::R_PPC64_ADDR16_HA,
             10 => Ppc64Relocation::R_PPC64_REL24,
             11 => Ppc64Relocation::R_PPC64_REL14,
             26 => Ppc64Relocation::R_PPC64_REL32,
             38 => Ppc64Relocation::R_PPC64_ADDR64,
             44 => Ppc64Relocation::R_PPC64_REL64,
+            47 => Ppc64Relocation::R_PPC64_TOC16,
             48 => Ppc64Relocation::R_PPC64_TOC16_LO,
             50 => Ppc64Relocation::R_PPC64_TOC16_HA,
+            56 => Ppc64Relocation::R_PPC64_ADDR16_DS,
+            57 => Ppc64Relocation::R_PPC64_ADDR16_LO_DS,
+            63 => Ppc64Relocation::R_PPC64_TOC16_DS,
             64 => Ppc64Relocation::R_PPC64_TOC16_LO_DS,
             67 => Ppc64Relocation::R_PPC64_TLS,
             69 => Ppc64Relocation::R_PPC64_TPREL16,
@@ -106,6 +123,7 @@ impl Ppc64Relocation {
             102 => Ppc64Relocation::R_PPC64_DTPREL16_LO_DS,
             107 => Ppc64Relocation::R_PPC64_TLSGD,
             108 => Ppc64Relocation::R_PPC64_TLSLD,
+            116 => Ppc64Relocation::R_PPC64_REL24_NOTOC,
             250 => Ppc64Relocation::R_PPC64_REL16_LO,
             252 => Ppc64Relocation::R_PPC64_REL16_HA,
             _ => Ppc64Relocation::Other(code),
@@ -118,14 +136,22 @@ impl Ppc64Relocation {
         ensures { result ≡ code_of (ppc64_name self) }
     {
         match self {
+            Ppc64Relocation::R_PPC64_NONE => 0,
             Ppc64Relocation::R_PPC64_ADDR32 => 1,
+            Ppc64Relocation::R_PPC64_ADDR16_LO => 4,
+            Ppc64Relocation::R_PPC64_ADDR16_HI => 5,
+            Ppc64Relocation::R_PPC64_ADDR16_HA => 6,
             Ppc64Relocation::R_PPC64_REL24 => 10,
             Ppc64Relocation::R_PPC64_REL14 => 11,
             Ppc64Relocation::R_PPC64_REL32 => 26,
             Ppc64Relocation::R_PPC64_ADDR64 => 38,
             Ppc64Relocation::R_PPC64_REL64 => 44,
+            Ppc64Relocation::R_PPC64_TOC16 => 47,
             Ppc64Relocation::R_PPC64_TOC16_LO => 48,
             Ppc64Relocation::R_PPC64_TOC16_HA => 50,
+            Ppc64Relocation::R_PPC64_ADDR16_DS => 56,
+            Ppc64Relocation::R_PPC64_ADDR16_LO_DS => 57,
+            Ppc64Relocation::R_PPC64_TOC16_DS => 63,
             Ppc64Relocation::R_PPC64_TOC16_LO_DS => 64,
             Ppc64Relocation::R_PPC64_TLS => 67,
             Ppc64Relocation::R_PPC64_TPREL16 => 69,
@@ -156,6 +182,7 @@ impl Ppc64Relocation {
             Ppc64Relocation::R_PPC64_DTPREL16_LO_DS => 102,
             Ppc64Relocation::R_PPC64_TLSGD => 107,
             Ppc64Relocation::R_PPC64_TLSLD => 108,
+            Ppc64Relocation::R_PPC64_REL24_NOTOC => 116,
             Ppc64Relocation::R_PPC64_REL16_LO => 250,
             Ppc64Relocation::R_PPC64_REL16_HA => 252,
             Ppc64Relocation::Other(code) => code,
@@ -167,14 +194,22 @@ impl Ppc64Relocation {
         ensures { result.now ≡ text_of (ppc64_name self) }
     {
         match self {
+            Ppc64Relocation::R_PPC64_NONE => "R_PPC64_NONE",
             Ppc64Relocation::R_PPC64_ADDR32 => "R_PPC64_ADDR32",
+            Ppc64Relocation::R_PPC64_ADDR16_LO => "R_PPC64_ADDR16_LO",
+            Ppc64Relocation::R_PPC64_ADDR16_HI => "R_PPC64_ADDR16_HI",
+            Ppc64Relocation::R_PPC64_ADDR16_HA => "R_PPC64_ADDR16_HA",
             Ppc64Relocation::R_PPC64_REL24 => "R_PPC64_REL24",
             Ppc64Relocation::R_PPC64_REL14 => "R_PPC64_REL14",
             Ppc64Relocation::R_PPC64_REL32 => "R_PPC64_REL32",
             Ppc64Relocation::R_PPC64_ADDR64 => "R_PPC64_ADDR64",
             Ppc64Relocation::R_PPC64_REL64 => "R_PPC64_REL64",
+            Ppc64Relocation::R_PPC64_TOC16 => "R_PPC64_TOC16",
             Ppc64Relocation::R_PPC64_TOC16_LO => "R_PPC64_TOC16_LO",
             Ppc64Relocation::R_PPC64_TOC16_HA => "R_PPC64_TOC16_HA",
+            Ppc64Relocation::R_PPC64_ADDR16_DS => "R_PPC64_ADDR16_DS",
+            Ppc64Relocation::R_PPC64_ADDR16_LO_DS => "R_PPC64_ADDR16_LO_DS",
+            Ppc64Relocation::R_PPC64_TOC16_DS => "R_PPC64_TOC16_DS",
             Ppc64Relocation::R_PPC64_TOC16_LO_DS => "R_PPC64_TOC16_LO_DS",
             Ppc64Relocation::R_PPC64_TLS => "R_PPC64_TLS",
             Ppc64Relocation::R_PPC64_TPREL16 => "R_PPC64_TPREL16",
@@ -205,6 +240,7 @@ impl Ppc64Relocation {
             Ppc64Relocation::R_PPC64_DTPREL16_LO_DS => "R_PPC64_DTPREL16_LO_DS",
             Ppc64Relocation::R_PPC64_TLSGD => "R_PPC64_TLSGD",
             Ppc64Relocation::R_PPC64_TLSLD => "R_PPC64_TLSLD",
+            Ppc64Relocation::R_PPC64_REL24_NOTOC => "R_PPC64_REL24_NOTOC",
             Ppc64Relocation::R_PPC64_REL16_LO => "R_PPC64_REL16_LO",
             Ppc64Relocation::R_PPC64_REL16_HA => "R_PPC64_REL16_HA",
             Ppc64Relocation::Other(_) => "unknown relocation",
@@ -313,7 +349,8 @@ pub fn relocation_type_from_raw(name: Ppc64Relocation) -> Option<RelocationKindI
     ensures fits { IfSome result RowFits }
 {
     let info = match name {
-        Ppc64Relocation::R_PPC64_TLS
+        Ppc64Relocation::R_PPC64_NONE
+        | Ppc64Relocation::R_PPC64_TLS
         | Ppc64Relocation::R_PPC64_TLSGD
         | Ppc64Relocation::R_PPC64_TLSLD => bytes(
             RelocationKind::None,
@@ -330,6 +367,20 @@ pub fn relocation_type_from_raw(name: Ppc64Relocation) -> Option<RelocationKindI
             4,
             AllowedRange::new(-0x80000000, 0x100000000),
         ),
+        Ppc64Relocation::R_PPC64_ADDR16_LO => low(
+            RelocationKind::Absolute,
+            AllowedRange::no_check(),
+        ),
+        Ppc64Relocation::R_PPC64_ADDR16_HI => high(RelocationKind::Absolute),
+        Ppc64Relocation::R_PPC64_ADDR16_HA => high_adjusted(RelocationKind::Absolute),
+        Ppc64Relocation::R_PPC64_ADDR16_DS => low_ds(
+            RelocationKind::Absolute,
+            AllowedRange::from_bit_size(16, Sign::Signed),
+        ),
+        Ppc64Relocation::R_PPC64_ADDR16_LO_DS => low_ds(
+            RelocationKind::Absolute,
+            AllowedRange::no_check(),
+        ),
         Ppc64Relocation::R_PPC64_REL64 => bytes(
             RelocationKind::Relative,
             8,
@@ -340,12 +391,22 @@ pub fn relocation_type_from_raw(name: Ppc64Relocation) -> Option<RelocationKindI
             4,
             AllowedRange::from_bit_size(32, Sign::Signed),
         ),
-        Ppc64Relocation::R_PPC64_REL24 => branch(26, Ppc64Instruction::Branch24),
+        Ppc64Relocation::R_PPC64_REL24 | Ppc64Relocation::R_PPC64_REL24_NOTOC => {
+            branch(26, Ppc64Instruction::Branch24)
+        }
         Ppc64Relocation::R_PPC64_REL14 => branch(16, Ppc64Instruction::Branch14),
         Ppc64Relocation::R_PPC64_REL16_HA => high_adjusted(RelocationKind::Relative),
         Ppc64Relocation::R_PPC64_REL16_LO => low(
             RelocationKind::Relative,
             AllowedRange::no_check(),
+        ),
+        Ppc64Relocation::R_PPC64_TOC16 => low(
+            RelocationKind::SymRelGotBase,
+            AllowedRange::from_bit_size(16, Sign::Signed),
+        ),
+        Ppc64Relocation::R_PPC64_TOC16_DS => low_ds(
+            RelocationKind::SymRelGotBase,
+            AllowedRange::from_bit_size(16, Sign::Signed),
         ),
         Ppc64Relocation::R_PPC64_TOC16_HA => high_adjusted(RelocationKind::SymRelGotBase),
         Ppc64Relocation::R_PPC64_TOC16_LO => low(

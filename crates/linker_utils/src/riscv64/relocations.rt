@@ -3,13 +3,14 @@
 ghost use Rattle.std.specs.Prelude.{IfSome, ◌≡◌};
 ghost use Rattle.linker_utils.specs.Agrees.{RowAgrees, RowFits};
 ghost use Rattle.linker_utils.specs.Readings.{RowReadsNoOther};
-ghost use Rattle.linker_utils.specs.RiscVRows.{riscv_row, clui_row};
+ghost use Rattle.linker_utils.specs.RiscVRows.{riscv_row, clui_row, riscv_uleb128_role};
+ghost use Rattle.linker_utils.specs.RiscVRows.{riscv_tls_descriptor_row};
 ghost use Rattle.linker_utils.specs.RiscVRows as rows;
 ghost use Rattle.linker_utils.specs.ElfNames.{IsNameOf, code_of, text_of};
 ghost use Rattle.linker_utils.specs.RiscVNames.{riscv_name};
 
 use crate::elf::{
-    AllowedRange, RelocationKind, RelocationKindInfo, RelocationSize, RiscVInstruction,
+    AllowedRange, RelocationKind, RelocationKindInfo, RelocationSize, RiscVInstruction, Uleb128Role,
 };
 
 /// The relocations of RISC-V, by their names in the RISC-V ELF psABI, "Relocations". `from_elf`
@@ -56,7 +57,10 @@ pub enum RiscVRelocation {
     R_RISCV_SET32,
     R_RISCV_32_PCREL,
     R_RISCV_PLT32,
+    /// The first of a pair at a ULEB128 number. Its row is `Relative` of 0 bytes, though the value
+    /// isn't relative to the place, and `write` rejects it: `uleb128_role` tells what it does.
     R_RISCV_SET_ULEB128,
+    /// The second of that pair.
     R_RISCV_SUB_ULEB128,
     R_RISCV_TLSDESC_HI20,
     R_RISCV_TLSDESC_LOAD_LO12,
@@ -233,6 +237,17 @@ impl RiscVRelocation {
             RiscVRelocation::Other(_) => "unknown relocation",
         }
     }
+
+    /// What a relocation of a ULEB128 number does; `None` for all others.
+    pub fn uleb128_role(self) -> Option<Uleb128Role>
+        ensures { result ≡ riscv_uleb128_role self }
+    {
+        match self {
+            RiscVRelocation::R_RISCV_SET_ULEB128 => Some(Uleb128Role::Sets),
+            RiscVRelocation::R_RISCV_SUB_ULEB128 => Some(Uleb128Role::Subtracts),
+            _ => None,
+        }
+    }
 }
 
 /// The bounds of 32 bits, signed or unsigned.
@@ -288,7 +303,8 @@ pub(super) fn clui_info() -> RelocationKindInfo
 }
 
 /// What a relocation means. It takes a name; `RiscVRelocation::from_elf` gives the name of a code.
-/// Returns `None` for `Other`, and for the four of TLS descriptors, which are not supported.
+/// Returns `None` for `Other`, and for the four of TLS descriptors, of which
+/// `tls_descriptor_relocation` returns the meaning.
 ///
 /// # Ranges of pairs
 ///
@@ -474,6 +490,40 @@ pub fn relocation_type_from_raw(name: RiscVRelocation) -> Option<RelocationKindI
         | RiscVRelocation::R_RISCV_TLSDESC_ADD_LO12
         | RiscVRelocation::R_RISCV_TLSDESC_CALL
         | RiscVRelocation::Other(_) => return None,
+    };
+    Some(info)
+}
+
+/// What a relocation of TLS descriptors means (RISC-V ELF psABI, "TLS Descriptors"). Returns `None`
+/// for all others. The rows are this library's own, beside those of `relocation_type_from_raw`.
+///
+/// The value is the distance from the place to the descriptor's GOT entry. The place of
+/// `R_RISCV_TLSDESC_LOAD_LO12` and `R_RISCV_TLSDESC_ADD_LO12` is that of their
+/// `R_RISCV_TLSDESC_HI20`, which their symbol names. `R_RISCV_TLSDESC_CALL` has no value.
+pub fn tls_descriptor_relocation(name: RiscVRelocation) -> Option<RelocationKindInfo>
+    ensures row { result ≡ riscv_tls_descriptor_row name }
+    ensures agrees { IfSome result RowAgrees }
+    ensures fits { IfSome result RowFits }
+{
+    let info = match name {
+        RiscVRelocation::R_RISCV_TLSDESC_HI20 => in_form(
+            RelocationKind::TlsDesc,
+            32,
+            RiscVInstruction::UType,
+            SIGNED_OR_UNSIGNED_32,
+            1,
+        ),
+        RiscVRelocation::R_RISCV_TLSDESC_LOAD_LO12 | RiscVRelocation::R_RISCV_TLSDESC_ADD_LO12 => {
+            in_form(
+                RelocationKind::TlsDesc,
+                32,
+                RiscVInstruction::IType,
+                SIGNED_OR_UNSIGNED_32,
+                1,
+            )
+        }
+        RiscVRelocation::R_RISCV_TLSDESC_CALL => in_bytes(RelocationKind::TlsDescCall, 0, None),
+        _ => return None,
     };
     Some(info)
 }

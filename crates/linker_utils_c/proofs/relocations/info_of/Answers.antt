@@ -4,7 +4,12 @@ pub returns-in-AArch64 : goal.returns-in-AArch64
 returns-in-AArch64 c = rw c.in-AArch64.is (record { name = c.from_elf.result; is_name = c.from_elf.ensures; value_is = c.relocation_type_from_raw.ensures.row })
 
 pub returns-in-RiscV : goal.returns-in-RiscV
-returns-in-RiscV c = rw c.in-RiscV.is (record { name = c.from_elf-in-RiscV.result; is_name = c.from_elf-in-RiscV.ensures; value_is = c.relocation_type_from_raw-in-RiscV.ensures.row })
+returns-in-RiscV c =
+    rw c.in-RiscV.is (record {
+      name = c.from_elf-in-RiscV.result;
+      is_name = c.from_elf-in-RiscV.ensures;
+      value_is = c.riscv_info.ensures;
+    })
 
 pub returns-in-LoongArch64 : goal.returns-in-LoongArch64
 returns-in-LoongArch64 c = rw c.in-LoongArch64.is (record { name = c.from_elf-in-LoongArch64.result; is_name = c.from_elf-in-LoongArch64.ensures; value_is = c.relocation_type_from_raw-in-LoongArch64.ensures.row })

@@ -1,0 +1,16 @@
+use Rattle.std.proofs.Common.{rules, IfSome, ◌≡◌, Some, subst, sym}
+use Rattle.linker_utils.specs.Agrees.{RowAgrees, RowFits}
+use Rattle.linker_utils.specs.RiscVRows.{riscv_tls_descriptor_row}
+use Rattle.linker_utils.proofs.RowsAgree.{riscv_descriptor_rows}
+use Rattle.linker_utils.proofs.RowsFit.{riscv_descriptors_fit}
+use Rattle.linker_utils.proofs.riscv64.relocations.tls_descriptor_relocation.Goals as goal
+
+pub returns-clause-agrees : goal.returns-clause-agrees
+returns-clause-agrees c =
+    let row : Some c.match-name.info ≡ riscv_tls_descriptor_row c.args.name = search rules in
+    subst (λ o. IfSome o RowAgrees) (sym row) (riscv_descriptor_rows c.args.name)
+
+pub returns-clause-fits : goal.returns-clause-fits
+returns-clause-fits c =
+    let row : Some c.match-name.info ≡ riscv_tls_descriptor_row c.args.name = search rules in
+    subst (λ o. IfSome o RowFits) (sym row) (riscv_descriptors_fit c.args.name)
