@@ -37,7 +37,7 @@ use Rattle.linker_utils.specs.declared.loongarch64.relocations.LoongArch64Reloca
 use Rattle.linker_utils.specs.declared.ppc64.relocations.Ppc64Relocation.TheVariants.{R_PPC64_TOC16_HA}
 use Rattle.linker_utils.specs.declared.ppc64.relocations.Ppc64Relocation.TheVariants.{R_PPC64_TOC16_LO}
 use Rattle.linker_utils.proofs.Agreement.{rem_rem, from_zero, number_agrees}
-use Rattle.linker_utils.proofs.Halves.{row_holds}
+use Rattle.linker_utils.proofs.Halves.{rounded_halves, row_holds}
 use Rattle.linker_utils.proofs.LoongArchAddresses.{page_and_distance}
 use Rattle.linker_utils.proofs.Relocated.{row_reads_in_reach}
 use Rattle.linker_utils.proofs.RiscVRewrites.{cast_negative}
@@ -301,27 +301,6 @@ loongarch_addresses =
     ∙ ap (bits_from 12) (sym high_is))
 
 -- ---- PowerPC64
-
--- a high half that was rounded, and the low half in two's complement
-rounded_halves : (v : ℤ) (l : ℕ) → l < 65536
-    → int_rem_euclid v (pos (2 ^ 16)) ≡ pos ((l + 0x8000) % 65536)
-    → (bits_from 16 v *ℤ pos (2 ^ 16)) +ℤ signed 16 l ≡ v +ℤ negsuc 0x7fff
-rounded_halves (pos b) l small h =
-    let rest : b % 65536 ≡ (l + 0x8000) % 65536 = ap unsigned_abs h in
-    elim (signed_cases 16 l) [
-      | inl a ↦ let low = a.0 in ap (λ z. (bits_from 16 (pos b) *ℤ pos (2 ^ 16)) +ℤ z) a.1
-          ∙ omega (arith, ints)
-      | inr a ↦ let high = a.0 in ap (λ z. (bits_from 16 (pos b) *ℤ pos (2 ^ 16)) +ℤ z) a.1
-          ∙ omega (arith, ints)
-    ]
-rounded_halves (negsuc b) l small h =
-    let rest : 65536 - 1 - b % 65536 ≡ (l + 0x8000) % 65536 = ap unsigned_abs h in
-    elim (signed_cases 16 l) [
-      | inl a ↦ let low = a.0 in ap (λ z. (bits_from 16 (negsuc b) *ℤ pos (2 ^ 16)) +ℤ z) a.1
-          ∙ omega (arith, ints)
-      | inr a ↦ let high = a.0 in ap (λ z. (bits_from 16 (negsuc b) *ℤ pos (2 ^ 16)) +ℤ z) a.1
-          ∙ omega (arith, ints)
-    ]
 
 shifted : (p : ℕ) (v : ℤ) → pos p +ℤ (v +ℤ negsuc 0x7fff) ≡ (pos p +ℤ v) +ℤ negsuc 0x7fff
 shifted p v = omega (arith, ints)
