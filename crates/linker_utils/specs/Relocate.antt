@@ -234,8 +234,8 @@ LoongArchHolds Call36 v after = reach after ≡ v
 LoongArchHolds f v after = ⊤
 
 -- RISC-V's pairs make the value of which the low 32 bits, or more, were taken, and PowerPC64's low
--- halves that of which the low 16 were; LoongArch's `pcaddu18i` and `jirl` go as far as the multiple
--- of 4 of which bits 2 to 37 were.
+-- halves that of which the low 16 were; LoongArch's `pcaddu18i` and `jirl` go as far as the
+-- multiple of 4 of which bits 2 to 37 were.
 abbrev pub InstructionHolds : RelocationInstruction → BitRange → ℤ → ℕ → Type 0
 InstructionHolds (AArch64 f) bits v after = ⊤
 InstructionHolds (RiscV f) bits v after = bits.start ≡ 0 → 32 ≤ bits.end → RiscVHolds f bits v after
