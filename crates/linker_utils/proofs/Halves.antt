@@ -1,26 +1,32 @@
 -- Pairs of instructions hold each value within their reach.
 use Rattle.std.proofs.Common.{FitsSigned, ◌≡◌, ℕ, suc, ◌+◌, ◌-◌, ◌*◌, ◌/◌, ◌%◌, ◌^◌, ◌<◌, ◌≤◌, ltb}
 use Rattle.std.proofs.Common.{Bool, true, refl, ◌∙◌, ap, arith, List, inl, inr, ℤ, pos, negsuc}
-use Rattle.std.proofs.Common.{◌+ℤ◌, ◌-ℤ◌, unsigned_abs, int_lt, Some}
+use Rattle.std.proofs.Common.{◌+ℤ◌, ◌-ℤ◌, ◌*ℤ◌, unsigned_abs, int_lt, sym, Some}
 use Rattle.std.specs.Int.{w64, cast_unsigned, int_rem_euclid}
 use Rattle.std.proofs.lemmas.Bool.{cases_lt, and_parts, ltb-true}
-use Rattle.std.proofs.lemmas.Int.{ints}
+use Rattle.std.proofs.lemmas.Int.{ints, int_rem_euclid_is}
 use Rattle.std.proofs.lemmas.Nat.{pow_pos, mod_below}
 use Rattle.linker_base.specs.Bits.{field, signed}
-use Rattle.linker_base.specs.Form.{Written, place_sum, window_of}
+use Rattle.linker_base.specs.Form.{Written, place_sum, window_of, twos_complement}
 use Rattle.linker_base.specs.declared.bit_misc.BitRange.{BitRange}
 use Rattle.linker_base.proofs.Immediates.{layout_laid, always_clear, subst_below}
 use Rattle.linker_base.proofs.Pairs.{signed_cases, added}
 use Rattle.linker_utils.specs.Agrees.{bits_from}
-use Rattle.linker_utils.specs.Elf.{IsWithin, relocation_form}
+use Rattle.linker_utils.specs.Elf.{IsWithin, bit_bounds, relocation_form}
 use Rattle.linker_utils.specs.LoongArch.{loongarch_form, reach, IsDistanceModulo}
+use Rattle.linker_utils.specs.Ppc64.{ppc64_form, ppc64_layout}
 use Rattle.linker_utils.specs.Reach.{riscv_pair_bounds, clui_bounds, call36_bounds, riscv_reach}
 use Rattle.linker_utils.specs.Reach.{loongarch_reach, reach_of_size}
-use Rattle.linker_utils.specs.Relocate.{bits_taken, takes_size, InstructionWritten, IsWritten, IsAligned, IsAccepted, CompletesHigh, RiscVHolds, LoongArchHolds, InstructionHolds, SizeHolds}
+use Rattle.linker_utils.specs.Relocate.{bits_taken, takes_size, InstructionWritten, IsWritten}
+use Rattle.linker_utils.specs.Relocate.{IsAligned, IsAccepted, CompletesHigh, RiscVHolds}
+use Rattle.linker_utils.specs.Relocate.{LoongArchHolds, Ppc64Holds, InstructionHolds, SizeHolds}
 use Rattle.linker_utils.specs.RiscV.{riscv_form, riscv_layout, riscv_places, ui_high, ui_low}
 use Rattle.linker_utils.specs.RiscVRows.{Bounds}
 use Rattle.linker_utils.specs.declared.elf.LoongArch64Instruction.{LoongArch64Instruction}
 use Rattle.linker_utils.specs.declared.elf.LoongArch64Instruction.TheVariants.{Call36}
+use Rattle.linker_utils.specs.declared.elf.Ppc64Instruction.{Ppc64Instruction}
+use Rattle.linker_utils.specs.declared.elf.Ppc64Instruction.TheVariants.{D, Ds}
+use Rattle.linker_utils.specs.declared.elf.Sign.TheVariants.{Signed}
 use Rattle.linker_utils.specs.declared.elf.RelocationInstruction.{RelocationInstruction}
 use Rattle.linker_utils.specs.declared.elf.RelocationInstruction.TheVariants.{AArch64, RiscV, Ppc64, LoongArch64}
 use Rattle.linker_utils.specs.declared.elf.RelocationKind.{RelocationKind}
@@ -30,7 +36,7 @@ use Rattle.linker_utils.specs.declared.elf.RelocationSize.TheVariants.{ByteSize,
 use Rattle.linker_utils.specs.declared.elf.RiscVInstruction.{RiscVInstruction}
 use Rattle.linker_utils.specs.declared.elf.RiscVInstruction.TheVariants.{UType, IType, SType}
 use Rattle.linker_utils.specs.declared.elf.RiscVInstruction.TheVariants.{CluiType, UiType}
-use Rattle.linker_utils.proofs.Agreement.{rem_rem, from_zero}
+use Rattle.linker_utils.proofs.Agreement.{rem_rem, from_zero, number_agrees}
 use Rattle.linker_utils.proofs.LoongArch.{loongarch_reaches}
 use Rattle.linker_utils.proofs.Relocated.{supported_size}
 use Rattle.linker_utils.proofs.RiscV.{u_laid, clui_laid, ui_high_laid, ui_low_laid}
@@ -73,14 +79,15 @@ module _ (f h l : ℕ) (high : h ≡ (f + 0x800) % 2 ^ 64 / 4096 % 1048576 * 409
 
 -- ---- what a written row holds
 
--- the bits that are taken of a value have its low 32 bits
-taken_low : (bits : BitRange) (v : ℤ) → FitsSigned w64 v → bits.start ≡ 0 → 32 ≤ bits.end → bits.end ≤ 64
-    → pos (bits_taken bits v % 2 ^ 32) ≡ int_rem_euclid v (pos (2 ^ 32))
-taken_low bits v small start long inside =
-    let some : bits.start < bits.end = omega arith in
+-- the bits that are taken of a value have its low n bits
+taken_low : (n : ℕ) (bits : BitRange) (v : ℤ) → FitsSigned w64 v → bits.start ≡ 0 → n ≤ bits.end
+    → bits.end ≤ 64 → bits.start < bits.end
+    → pos (bits_taken bits v % 2 ^ n) ≡ int_rem_euclid v (pos (2 ^ n))
+taken_low n bits v small start long inside some =
     let e : pos (bits_taken bits v) ≡ int_rem_euclid (bits_from bits.start v) (pos (2 ^ (bits.end - bits.start))) = taken_is_field bits v small some inside in
     let from : bits_from bits.start v ≡ v = ap (λ s. bits_from s v) start ∙ from_zero v in
-    rem_rem v (bits_taken bits v) (bits.end - bits.start) 32 (omega arith) (e ∙ ap (λ z. int_rem_euclid z (pos (2 ^ (bits.end - bits.start)))) from)
+    rem_rem v (bits_taken bits v) (bits.end - bits.start) n (omega arith) (e
+    ∙ ap (λ z. int_rem_euclid z (pos (2 ^ (bits.end - bits.start)))) from)
 
 taken_below : (bits : BitRange) (v : ℤ) → bits.end ≤ 64 → bits_taken bits v < 2 ^ 64
 taken_below bits v inside =
@@ -151,16 +158,16 @@ riscv_holds : (f : RiscVInstruction) (bits : BitRange) (own : Bounds) (v : ℤ) 
 riscv_holds IType bits own v neg before after small inside within laid start long =
     completes IType bits v (place_sum (riscv_places IType) after) after refl
     (i_laid (bits_taken bits v) neg before after (taken_below bits v inside) laid)
-    (taken_low bits v small start long inside) within
+    (taken_low 32 bits v small start long inside (omega arith)) within
 riscv_holds SType bits own v neg before after small inside within laid start long =
     completes SType bits v (place_sum (riscv_places SType) after) after refl
     (s_laid (bits_taken bits v) neg before after (taken_below bits v inside) laid)
-    (taken_low bits v small start long inside) within
+    (taken_low 32 bits v small start long inside (omega arith)) within
 riscv_holds UType bits own v neg before after small inside within laid start long =
     let f = bits_taken bits v in
     let wide = taken_below bits v inside in
     let high = u_laid f before after laid in
-    let same = taken_low bits v small start long inside in (
+    let same = taken_low 32 bits v small start long inside (omega arith) in (
       (λ n x y low. halves_make f (place_sum (riscv_places UType) after)
           (place_sum (riscv_places IType) y) high (i_laid f n x y wide low) v same within),
       (λ n x y low. halves_make f (place_sum (riscv_places UType) after)
@@ -170,7 +177,7 @@ riscv_holds CluiType bits own v neg before after small inside within laid start 
     let f = bits_taken bits v in
     let wide = taken_below bits v inside in
     let high = clui_laid f before after laid in
-    let same = taken_low bits v small start long inside in (
+    let same = taken_low 32 bits v small start long inside (omega arith) in (
       (λ n x y low. clui_make f (place_sum (riscv_places CluiType) after)
           (place_sum (riscv_places IType) y) high (i_laid f n x y wide low) v same within),
       (λ n x y low. clui_make f (place_sum (riscv_places CluiType) after)
@@ -180,7 +187,7 @@ riscv_holds UiType bits own v neg before after small inside within laid start lo
     let f = bits_taken bits v in
     let wide = taken_below bits v inside in
     halves_make f (place_sum ui_high after) (place_sum ui_low after) (ui_high_laid f before after wide laid) (ui_low_laid f before after wide laid) v
-    (taken_low bits v small start long inside) within
+    (taken_low 32 bits v small start long inside (omega arith)) within
 riscv_holds f bits own v neg before after small inside within laid start long = tt
 
 -- bits 2 to 37 of a distance below -2 ^ 37 are those of one 2 ^ 38 above it
@@ -210,12 +217,103 @@ loongarch_holds Call36 bits own v neg before after inside within laid start end 
     call36_holds f after v (loongarch_reaches Call36 f neg before after (taken_below bits v inside) laid) aligned is within
 loongarch_holds f bits own v neg before after inside within laid start end aligned = tt
 
+-- ---- PowerPC64
+
+-- a high half that was rounded, and the low half in two's complement
+pub rounded_halves : (v : ℤ) (l : ℕ) → l < 65536
+    → int_rem_euclid v (pos (2 ^ 16)) ≡ pos ((l + 0x8000) % 65536)
+    → (bits_from 16 v *ℤ pos (2 ^ 16)) +ℤ signed 16 l ≡ v +ℤ negsuc 0x7fff
+rounded_halves (pos b) l small h =
+    let rest : b % 65536 ≡ (l + 0x8000) % 65536 = ap unsigned_abs h in
+    elim (signed_cases 16 l) [
+      | inl a ↦ let low = a.0 in ap (λ z. (bits_from 16 (pos b) *ℤ pos (2 ^ 16)) +ℤ z) a.1
+          ∙ omega (arith, ints)
+      | inr a ↦ let high = a.0 in ap (λ z. (bits_from 16 (pos b) *ℤ pos (2 ^ 16)) +ℤ z) a.1
+          ∙ omega (arith, ints)
+    ]
+rounded_halves (negsuc b) l small h =
+    let rest : 65536 - 1 - b % 65536 ≡ (l + 0x8000) % 65536 = ap unsigned_abs h in
+    elim (signed_cases 16 l) [
+      | inl a ↦ let low = a.0 in ap (λ z. (bits_from 16 (negsuc b) *ℤ pos (2 ^ 16)) +ℤ z) a.1
+          ∙ omega (arith, ints)
+      | inr a ↦ let high = a.0 in ap (λ z. (bits_from 16 (negsuc b) *ℤ pos (2 ^ 16)) +ℤ z) a.1
+          ∙ omega (arith, ints)
+    ]
+
+fits_64 : (w : ℤ) → IsWithin (Some (bit_bounds 32 Signed)) w → FitsSigned w64 w
+fits_64 (pos n) within = record { sfits = (let high = within.1 in omega (arith, ints)) }
+fits_64 (negsuc n) within = record { sfits = (let low = within.0 in omega (arith, ints)) }
+
+adjusted_rest : (v : ℤ) (l : ℕ) → int_rem_euclid v (pos (2 ^ 16)) ≡ pos l
+    → int_rem_euclid (v +ℤ pos 0x8000) (pos (2 ^ 16)) ≡ pos ((l + 0x8000) % 65536)
+adjusted_rest (pos n) l e = let low : n % 65536 ≡ l = ap unsigned_abs e in
+    ap pos (let same : (n + 0x8000) % 65536 ≡ (l + 0x8000) % 65536 = omega arith in same)
+adjusted_rest (negsuc n) l e =
+    let low : 65536 - 1 - n % 65536 ≡ l = ap unsigned_abs e in
+    let k = n / 65536 + 1 in
+    int_rem_euclid_is (negsuc n +ℤ pos 0x8000) (pos (2 ^ 16)) (2 ^ 16) k
+    (k * 65536 - suc n + 0x8000) (omega arith) refl (omega (arith, ints)) ∙ ap pos (omega arith)
+
+taken_back : (v : ℤ) → (v +ℤ pos 0x8000) +ℤ negsuc 0x7fff ≡ v
+taken_back v = omega (arith, ints)
+
+d_laid : (f : ℕ) (neg : Bool) (before after : ℕ) → f < 2 ^ 64
+    → Written (ppc64_form D) f neg before after
+    → place_sum ((ppc64_form D).places 0) after ≡ f % 65536
+d_laid f neg before after wide laid =
+    let sum = layout_laid (ppc64_layout D) refl f neg before after wide laid
+    (always_clear ((ppc64_form D).places 0) before refl) in
+    sum ∙ omega arith
+
+completes_adjusted : (v : ℤ) (l : ℕ) → l < 65536 → int_rem_euclid v (pos (2 ^ 16)) ≡ pos l
+    → (neg : Bool) (before high : ℕ) → IsWithin (Some (bit_bounds 32 Signed)) (v +ℤ pos 0x8000)
+    → Written (ppc64_form D) (bits_taken (record { start = 16; end = 32 }) (v +ℤ pos 0x8000)) neg
+    before high
+    → ((ppc64_form D).machine high *ℤ pos (2 ^ 16)) +ℤ signed 16 l ≡ v
+completes_adjusted v l small low neg before high within laid =
+    let w = v +ℤ pos 0x8000 in
+    let bits : BitRange = record { start = 16; end = 32 } in
+    let g = bits_taken bits w in
+    let sum = d_laid g neg before high (taken_below bits w (omega arith)) laid in
+    let reads : signed 16 (g % 65536) ≡ bits_from 16 w =
+    number_agrees twos_complement 16 16 16 (Some (bit_bounds 32 Signed)) refl w g within
+    (taken_is_field bits w (fits_64 w within) (omega arith) (omega arith)) in
+    ap (λ x. (signed 16 x *ℤ pos (2 ^ 16)) +ℤ signed 16 l) sum
+    ∙ ap (λ z. (z *ℤ pos (2 ^ 16)) +ℤ signed 16 l) reads
+    ∙ rounded_halves w l small (adjusted_rest v l low) ∙ taken_back v
+
+ppc64_holds : (f : Ppc64Instruction) (bits : BitRange) (v : ℤ) (neg : Bool) (before after : ℕ)
+    → FitsSigned w64 v → bits.end ≤ 64
+    → Written (ppc64_form f) (bits_taken bits v) neg before after → bits.start ≡ 0 → 16 ≤ bits.end
+    → Ppc64Holds f v after
+ppc64_holds D bits v neg before after small inside laid start long = λ n x high within high_laid.
+    let f = bits_taken bits v in
+    let sum = d_laid f neg before after (taken_below bits v inside) laid in
+    ap (λ y. ((ppc64_form D).machine high *ℤ pos (2 ^ 16)) +ℤ signed 16 y) sum
+    ∙ completes_adjusted v (f % 65536) (omega arith)
+    (sym (taken_low 16 bits v small start long inside (omega arith))) n x high within high_laid
+ppc64_holds Ds bits v neg before after small inside laid start long =
+    λ aligned n x high within high_laid.
+    let f = bits_taken bits v in
+    let wide = taken_below bits v inside in
+    let low = layout_laid (ppc64_layout Ds) refl f neg before after wide laid
+    (always_clear ((ppc64_form Ds).places 0) before refl) in
+    let none : f % 2 ^ 2 ≡ 0 =
+    ap unsigned_abs (taken_low 2 bits v small start (omega arith) inside (omega arith) ∙ aligned) in
+    let sum : place_sum ((ppc64_form Ds).places 0) after ≡ f % 65536 = low ∙ omega arith in
+    ap (λ y. ((ppc64_form D).machine high *ℤ pos (2 ^ 16)) +ℤ signed 16 y) sum
+    ∙ completes_adjusted v (f % 65536) (omega arith)
+    (sym (taken_low 16 bits v small start long inside (omega arith))) n x high within high_laid
+ppc64_holds f bits v neg before after small inside laid start long = tt
+
 instruction_holds : (insn : RelocationInstruction) (bits : BitRange) (own : Bounds) (v : ℤ) (before after : List ℕ) → FitsSigned w64 v → bits.end ≤ 64
     → IsWithin (reach_of_size (BitMasking bits insn) own) v → InstructionWritten insn bits v before after → InstructionHolds insn bits v (window_of (relocation_form insn) after)
 instruction_holds (AArch64 f) bits own v before after small inside within w = tt
 instruction_holds (RiscV f) bits own v before after small inside within w =
     riscv_holds f bits own v (int_lt v (pos 0)) w.clear (window_of (riscv_form f) after) small inside within w.written
-instruction_holds (Ppc64 f) bits own v before after small inside within w = tt
+instruction_holds (Ppc64 f) bits own v before after small inside within w =
+    ppc64_holds f bits v (int_lt v (pos 0)) w.clear
+    (window_of (ppc64_form f) after) small inside w.written
 instruction_holds (LoongArch64 f) bits own v before after small inside within w =
     loongarch_holds f bits own v (int_lt v (pos 0)) w.clear (window_of (loongarch_form f) after) inside within w.written
 

@@ -9,6 +9,7 @@ use Rattle.std.proofs.lemmas.Nat.{mod_below, pow_pos}
 use Rattle.std.proofs.Math.Facts.{sfits_to_z}
 use Rattle.std.proofs.Math.Nat.{mod-eq_of_lt}
 use Rattle.linker_base.specs.Bits.{field, signed}
+use Rattle.linker_base.specs.declared.bit_misc.BitRange.{BitRange}
 use Rattle.linker_base.specs.Form.{place_sum, twos_complement}
 use Rattle.linker_base.proofs.Fields.{signed_rem}
 use Rattle.linker_base.proofs.Immediates.{place_sum_below}
@@ -18,6 +19,7 @@ use Rattle.linker_utils.specs.Agrees.{bits_from, IsSameIn}
 use Rattle.linker_utils.specs.Elf.{IsWithin, bit_bounds}
 use Rattle.linker_utils.specs.LoongArch.{page}
 use Rattle.linker_utils.specs.Ppc64.{ppc64_form}
+use Rattle.linker_utils.specs.RelocationLaws.{LoongArchCallsReachTheirTarget}
 use Rattle.linker_utils.specs.RelocationLaws.{IsAddress, GoesTo, symbol_address}
 use Rattle.linker_utils.specs.RelocationLaws.{CallsReachTheirTarget, AddressesAreTheSymbols}
 use Rattle.linker_utils.specs.RelocationLaws.{AArch64AddressesAreTheSymbols}
@@ -37,7 +39,7 @@ use Rattle.linker_utils.specs.declared.loongarch64.relocations.LoongArch64Reloca
 use Rattle.linker_utils.specs.declared.ppc64.relocations.Ppc64Relocation.TheVariants.{R_PPC64_TOC16_HA}
 use Rattle.linker_utils.specs.declared.ppc64.relocations.Ppc64Relocation.TheVariants.{R_PPC64_TOC16_LO}
 use Rattle.linker_utils.proofs.Agreement.{rem_rem, from_zero, number_agrees}
-use Rattle.linker_utils.proofs.Halves.{row_holds}
+use Rattle.linker_utils.proofs.Halves.{rounded_halves, row_holds}
 use Rattle.linker_utils.proofs.LoongArchAddresses.{page_and_distance}
 use Rattle.linker_utils.proofs.Relocated.{row_reads_in_reach}
 use Rattle.linker_utils.proofs.RiscVRewrites.{cast_negative}
@@ -123,29 +125,43 @@ module _ (t s : ℕ) where
 
 -- ---- RISC-V
 
+-- an instruction that goes as far as a relative value goes to the address
+goes_by : (s p : ℕ) (v distance : ℤ) → s < 2 ^ 64 → p < 2 ^ 64
+    → cast_signed w64 (difference_64 (sum_64 s 0) p) ≡ v → distance ≡ v → GoesTo p distance s
+goes_by s p v distance small place is reads =
+    let same : sum_64 s 0 ≡ s = omega arith in
+    ap (λ z. int_rem_euclid (pos p +ℤ z) (pos (2 ^ 64))) (reads ∙ sym is)
+    ∙ goes (sum_64 s 0) p (omega arith) place ∙ ap pos same
+
 pub calls_reach : CallsReachTheirTarget
 calls_reach = λ o before after place applied.
     let s = sum_64 o.plt_entry (cast_unsigned w64 o.addend) in
-    let total = sum_64 s 0 in
-    let small : s < 2 ^ 64 = mod_below (o.plt_entry + cast_unsigned w64 o.addend) (2 ^ 64) (omega arith) in
-    let is : cast_signed w64 (difference_64 total o.place) ≡ applied.value = ap number_or_zero applied.value_is in
-    let fits : FitsSigned w64 applied.value = subst (FitsSigned w64) is (small_value total o.place) in
-    let holds = row_holds _ applied.value before after fits applied.accepted applied.written refl (omega arith) in
-    let same : total ≡ s = omega arith in
-    ap (λ z. int_rem_euclid (pos o.place +ℤ z) (pos (2 ^ 64))) (holds ∙ sym is) ∙ goes total o.place (omega arith) place ∙ ap pos same
+    let small : s < 2 ^ 64 = mod_below (o.plt_entry + cast_unsigned w64 o.addend) (2 ^ 64)
+    (omega arith) in
+    let is : cast_signed w64 (difference_64 (sum_64 s 0) o.place) ≡ applied.value =
+    ap number_or_zero applied.value_is in
+    let fits : FitsSigned w64 applied.value =
+    subst (FitsSigned w64) is (small_value (sum_64 s 0) o.place) in
+    goes_by s o.place applied.value _ small place is
+    (row_holds _ applied.value before after fits applied.accepted applied.written refl
+    (omega arith))
 
 pub addresses_are : AddressesAreTheSymbols
 addresses_are = λ o auipc auipc_after addi addi_after place high low.
     let s = symbol_address o in
-    let total = sum_64 s 0 in
-    let small : s < 2 ^ 64 = mod_below (o.symbol + cast_unsigned w64 o.addend) (2 ^ 64) (omega arith) in
-    let is : cast_signed w64 (difference_64 total o.place) ≡ low.value = ap number_or_zero low.value_is in
+    let small : s < 2 ^ 64 = mod_below (o.symbol + cast_unsigned w64 o.addend) (2 ^ 64)
+    (omega arith) in
+    let is : cast_signed w64 (difference_64 (sum_64 s 0) o.place) ≡ low.value =
+    ap number_or_zero low.value_is in
     let one : high.value ≡ low.value = sym (ap number_or_zero high.value_is) ∙ is in
-    let fits : FitsSigned w64 low.value = subst (FitsSigned w64) is (small_value total o.place) in
+    let fits : FitsSigned w64 low.value =
+    subst (FitsSigned w64) is (small_value (sum_64 s 0) o.place) in
     let holds = row_holds _ low.value addi addi_after fits low.accepted low.written refl (omega arith) in
-    let written : InstructionWritten (RiscV UType) (record { start = 0; end = 32 }) low.value auipc auipc_after = subst (λ v. InstructionWritten (RiscV UType) (record { start = 0; end = 32 }) v auipc auipc_after) one high.written in
-    let same : total ≡ s = omega arith in
-    ap (λ z. int_rem_euclid (pos o.place +ℤ z) (pos (2 ^ 64))) (holds (int_lt low.value (pos 0)) written.clear (from_le_bytes w32 auipc_after) written.written ∙ sym is) ∙ goes total o.place (omega arith) place ∙ ap pos same
+    let bits : BitRange = record { start = 0; end = 32 } in
+    let written : InstructionWritten (RiscV UType) bits low.value auipc auipc_after =
+    subst (λ v. InstructionWritten (RiscV UType) bits v auipc auipc_after) one high.written in
+    goes_by s o.place low.value _ small place is
+    (holds (int_lt low.value (pos 0)) written.clear (from_le_bytes w32 auipc_after) written.written)
 
 -- ---- AArch64
 
@@ -262,6 +278,19 @@ high_reading f v small within same =
 field_below : (x s e : ℕ) → field x s e < 2 ^ (e - s)
 field_below x s e = mod_below (x / 2 ^ s) (2 ^ (e - s)) (pow_pos (e - s))
 
+pub loongarch_calls_reach : LoongArchCallsReachTheirTarget
+loongarch_calls_reach = λ o before after place applied.
+    let s = sum_64 o.plt_entry (cast_unsigned w64 o.addend) in
+    let small : s < 2 ^ 64 = mod_below (o.plt_entry + cast_unsigned w64 o.addend) (2 ^ 64)
+    (omega arith) in
+    let is : cast_signed w64 (difference_64 (sum_64 s 0) o.place) ≡ applied.value =
+    ap number_or_zero applied.value_is in
+    let fits : FitsSigned w64 applied.value =
+    subst (FitsSigned w64) is (small_value (sum_64 s 0) o.place) in
+    goes_by s o.place applied.value _ small place is
+    (row_holds _ applied.value before after fits applied.accepted applied.written refl refl
+    applied.accepted.aligned)
+
 pub loongarch_addresses : LoongArchAddressesAreTheSymbols
 loongarch_addresses =
     λ o place pcalau12i_before pcalau12i_after addi addi_after small_place high low within.
@@ -301,27 +330,6 @@ loongarch_addresses =
     ∙ ap (bits_from 12) (sym high_is))
 
 -- ---- PowerPC64
-
--- a high half that was rounded, and the low half in two's complement
-rounded_halves : (v : ℤ) (l : ℕ) → l < 65536
-    → int_rem_euclid v (pos (2 ^ 16)) ≡ pos ((l + 0x8000) % 65536)
-    → (bits_from 16 v *ℤ pos (2 ^ 16)) +ℤ signed 16 l ≡ v +ℤ negsuc 0x7fff
-rounded_halves (pos b) l small h =
-    let rest : b % 65536 ≡ (l + 0x8000) % 65536 = ap unsigned_abs h in
-    elim (signed_cases 16 l) [
-      | inl a ↦ let low = a.0 in ap (λ z. (bits_from 16 (pos b) *ℤ pos (2 ^ 16)) +ℤ z) a.1
-          ∙ omega (arith, ints)
-      | inr a ↦ let high = a.0 in ap (λ z. (bits_from 16 (pos b) *ℤ pos (2 ^ 16)) +ℤ z) a.1
-          ∙ omega (arith, ints)
-    ]
-rounded_halves (negsuc b) l small h =
-    let rest : 65536 - 1 - b % 65536 ≡ (l + 0x8000) % 65536 = ap unsigned_abs h in
-    elim (signed_cases 16 l) [
-      | inl a ↦ let low = a.0 in ap (λ z. (bits_from 16 (negsuc b) *ℤ pos (2 ^ 16)) +ℤ z) a.1
-          ∙ omega (arith, ints)
-      | inr a ↦ let high = a.0 in ap (λ z. (bits_from 16 (negsuc b) *ℤ pos (2 ^ 16)) +ℤ z) a.1
-          ∙ omega (arith, ints)
-    ]
 
 shifted : (p : ℕ) (v : ℤ) → pos p +ℤ (v +ℤ negsuc 0x7fff) ≡ (pos p +ℤ v) +ℤ negsuc 0x7fff
 shifted p v = omega (arith, ints)

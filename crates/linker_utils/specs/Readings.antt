@@ -54,8 +54,8 @@ abbrev pub InstructionReadsAs : Bool → RelocationInstruction → BitRange → 
 InstructionReadsAs is_signed (AArch64 f) bits x y v =
     (f ≡ Movnz → shift_of x ≡ bits.start) × (aarch64_reads f bits.start x ≡ bits_from bits.start v)
 InstructionReadsAs is_signed (RiscV f) bits x y v = RiscVReads f bits.start x y v
-InstructionReadsAs is_signed (Ppc64 f) bits x y v = (ppc64_form f).machine x
-    ≡ bits_from bits.start v
+InstructionReadsAs is_signed (Ppc64 f) bits x y v =
+    (ppc64_form f).machine x ≡ bits_from bits.start v
 InstructionReadsAs is_signed (LoongArch64 f) bits x y v = LoongArchReads is_signed f bits.start x v
 
 -- The machine reads no aligned value out of the bounds: from no instruction of the row, and from no

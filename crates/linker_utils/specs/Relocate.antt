@@ -1,14 +1,14 @@
 -- How a relocation's value is written, and when it isn't.
 use Rattle.std.specs.Prelude.{◌≡◌, ℕ, ◌+◌, ◌-◌, ◌%◌, ◌^◌, ◌<◌, ◌≤◌, ◌==◌, Bool, true, false, not}
 use Rattle.std.specs.Prelude.{◌&&◌, nat_lt, if◌then◌else◌, List, [], ◌∷◌, ◌++◌, length, take, drop}
-use Rattle.std.specs.Prelude.{replicate, ℤ, pos, ◌+ℤ◌, ◌-ℤ◌, ◌*◌, int_lt, Option, ⊤}
+use Rattle.std.specs.Prelude.{replicate, ℤ, pos, ◌+ℤ◌, ◌-ℤ◌, ◌*◌, int_lt, Option, Some, ◌*ℤ◌, ⊤}
 use Rattle.std.specs.Int.{w64, byte_len, cast_unsigned, from_le_bytes, to_le_bytes, int_rem_euclid}
 use Rattle.linker_base.specs.Bits.{field}
 use Rattle.linker_base.specs.Form.{ImmediateBit, Mark, replaced, ored, cleared, BitsWritten, Written, Fits, window_of}
 use Rattle.linker_base.specs.declared.bit_misc.BitRange.{BitRange}
 use Rattle.linker_utils.specs.AArch64.{aarch64_form, shift_of}
 use Rattle.linker_utils.specs.Agrees.{bits_from, IsSameIn, aarch64_reads, loongarch_reads, is_of_halves, is_of_words}
-use Rattle.linker_utils.specs.Elf.{IsWithin, relocation_form}
+use Rattle.linker_utils.specs.Elf.{IsWithin, bit_bounds, relocation_form}
 use Rattle.linker_utils.specs.LoongArch.{loongarch_form, reach}
 use Rattle.linker_utils.specs.Ppc64.{ppc64_form}
 use Rattle.linker_utils.specs.Reach.{reach_of}
@@ -17,6 +17,9 @@ use Rattle.linker_utils.specs.Value.{sum_64, difference_64}
 use Rattle.linker_utils.specs.declared.elf.AArch64Instruction.TheVariants.{Movnz}
 use Rattle.linker_utils.specs.declared.elf.LoongArch64Instruction.{LoongArch64Instruction}
 use Rattle.linker_utils.specs.declared.elf.LoongArch64Instruction.TheVariants.{Shift10, Call36}
+use Rattle.linker_utils.specs.declared.elf.Ppc64Instruction.{Ppc64Instruction}
+use Rattle.linker_utils.specs.declared.elf.Ppc64Instruction.TheVariants.{D, Ds}
+use Rattle.linker_utils.specs.declared.elf.Sign.TheVariants.{Signed}
 use Rattle.linker_utils.specs.declared.elf.RelocationInstruction.{RelocationInstruction}
 use Rattle.linker_utils.specs.declared.elf.RelocationInstruction.TheVariants.{RiscV, Ppc64, LoongArch64, AArch64}
 use Rattle.linker_utils.specs.declared.elf.RelocationKind.{RelocationKind}
@@ -213,16 +216,30 @@ RiscVHolds CluiType bits v after =
 RiscVHolds UiType bits v after = (riscv_form UiType).machine after ≡ v
 RiscVHolds f bits v after = ⊤
 
+-- A low half completes each high half of the value plus 0x8000, which is a number of 32 bits.
+abbrev pub CompletesAdjusted : Ppc64Instruction → ℤ → ℕ → Type 0
+CompletesAdjusted low v after =
+    (neg : Bool) (before high : ℕ) → IsWithin (Some (bit_bounds 32 Signed)) (v +ℤ pos 0x8000)
+    → Written (ppc64_form D) (bits_taken (record { start = 16; end = 32 }) (v +ℤ pos 0x8000)) neg
+    before high
+    → ((ppc64_form D).machine high *ℤ pos (2 ^ 16)) +ℤ (ppc64_form low).machine after ≡ v
+
+abbrev pub Ppc64Holds : Ppc64Instruction → ℤ → ℕ → Type 0
+Ppc64Holds D v after = CompletesAdjusted D v after
+Ppc64Holds Ds v after = IsAligned 4 v → CompletesAdjusted Ds v after
+Ppc64Holds f v after = ⊤
+
 abbrev pub LoongArchHolds : LoongArch64Instruction → ℤ → ℕ → Type 0
 LoongArchHolds Call36 v after = reach after ≡ v
 LoongArchHolds f v after = ⊤
 
--- RISC-V's pairs make the value of which the low 32 bits, or more, were taken; LoongArch's
--- `pcaddu18i` and `jirl` go as far as the multiple of 4 of which bits 2 to 37 were.
+-- RISC-V's pairs make the value of which the low 32 bits, or more, were taken, and PowerPC64's low
+-- halves that of which the low 16 were; LoongArch's `pcaddu18i` and `jirl` go as far as the
+-- multiple of 4 of which bits 2 to 37 were.
 abbrev pub InstructionHolds : RelocationInstruction → BitRange → ℤ → ℕ → Type 0
 InstructionHolds (AArch64 f) bits v after = ⊤
 InstructionHolds (RiscV f) bits v after = bits.start ≡ 0 → 32 ≤ bits.end → RiscVHolds f bits v after
-InstructionHolds (Ppc64 f) bits v after = ⊤
+InstructionHolds (Ppc64 f) bits v after = bits.start ≡ 0 → 16 ≤ bits.end → Ppc64Holds f v after
 InstructionHolds (LoongArch64 f) bits v after = bits.start ≡ 2 → bits.end ≡ 38 → IsAligned 4 v → LoongArchHolds f v after
 
 abbrev pub SizeHolds : RelocationSize → ℤ → List ℕ → Type 0

@@ -5,7 +5,7 @@ use Rattle.linker_base.specs.Bits.{field, signed}
 use Rattle.linker_utils.specs.AArch64.{aarch64_form}
 use Rattle.linker_utils.specs.AArch64Rows.{aarch64_row}
 use Rattle.linker_utils.specs.Elf.{IsWithin, bit_bounds}
-use Rattle.linker_utils.specs.LoongArch.{page, pcalau12i}
+use Rattle.linker_utils.specs.LoongArch.{page, pcalau12i, reach}
 use Rattle.linker_utils.specs.LoongArchRows.{loongarch_row}
 use Rattle.linker_utils.specs.Ppc64.{pair}
 use Rattle.linker_utils.specs.Ppc64Rows.{ppc64_row}
@@ -22,6 +22,7 @@ use Rattle.linker_utils.specs.declared.aarch64.relocations.AArch64Relocation.The
 use Rattle.linker_utils.specs.declared.aarch64.relocations.AArch64Relocation.TheVariants.{R_AARCH64_ADD_ABS_LO12_NC}
 use Rattle.linker_utils.specs.declared.loongarch64.relocations.LoongArch64Relocation.TheVariants.{R_LARCH_PCALA_HI20}
 use Rattle.linker_utils.specs.declared.loongarch64.relocations.LoongArch64Relocation.TheVariants.{R_LARCH_PCALA_LO12}
+use Rattle.linker_utils.specs.declared.loongarch64.relocations.LoongArch64Relocation.TheVariants.{R_LARCH_CALL36}
 use Rattle.linker_utils.specs.declared.ppc64.relocations.Ppc64Relocation.TheVariants.{R_PPC64_TOC16_HA}
 use Rattle.linker_utils.specs.declared.ppc64.relocations.Ppc64Relocation.TheVariants.{R_PPC64_TOC16_LO}
 use Rattle.linker_utils.specs.declared.riscv64.relocations.RiscVRelocation.TheVariants.{R_RISCV_CALL_PLT, R_RISCV_PCREL_HI20, R_RISCV_PCREL_LO12_I}
@@ -83,7 +84,15 @@ AArch64AddressesAreTheSymbols =
     → IsAddress (adrp_and_add o.place (from_le_bytes w32 adrp_after) (from_le_bytes w32 add_after))
     (symbol_address o)))
 
--- ---- LoongArch (LoongArch Reference Manual, volume 1, "PCALAU12I" and "ADDI.D")
+-- ---- LoongArch (LoongArch Reference Manual, volume 1, "PCALAU12I", "ADDI.D", "PCADDU18I", "JIRL")
+
+-- `pcaddu18i` and `jirl` of a call jump to the PLT entry's address plus the addend.
+abbrev pub LoongArchCallsReachTheirTarget : Type 0
+LoongArchCallsReachTheirTarget =
+    IfSome (loongarch_row R_LARCH_CALL36) (λ row.
+    (o : Operands) (before after : List ℕ) → o.place < 2 ^ 64 → IsApplied row o before after
+    → GoesTo o.place (reach (from_le_bytes w64 after))
+    (sum_64 o.plt_entry (cast_unsigned w64 o.addend)))
 
 -- `pcalau12i`, and `addi.d` that adds its immediate in two's complement to that, compute the
 -- symbol's address plus the addend, wherever the `addi.d` stands. The value of `pcalau12i`, which

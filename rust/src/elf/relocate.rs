@@ -180,6 +180,7 @@ impl RelocationKindInfo {
     /// - RISC-V's `UiType`, or a high half and a low half of one value, make the value itself, and so
     ///   does LoongArch's `Call36`. A `c.lui` is such a high half too. The ISA reserves its
     ///   immediate 0: `riscv64::RelaxationKind::hi20_fits_clui` rejects the values that make it.
+    /// - PowerPC64's low half and the high half of the value plus 0x8000 make the value itself.
     /// - All bytes behind `window` stay. A relocation without a value writes nothing.
     ///
     /// ```

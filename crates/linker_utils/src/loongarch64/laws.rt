@@ -1,6 +1,14 @@
 //! Laws of relocated pairs: each function does nothing, and its contract is a law.
 
 ghost use Rattle.linker_utils.specs.RelocationLaws.{LoongArchAddressesAreTheSymbols};
+ghost use Rattle.linker_utils.specs.RelocationLaws.{LoongArchCallsReachTheirTarget};
+
+/// Whenever `RelocationKindInfo::value` of `R_LARCH_CALL36` is written by
+/// `RelocationKindInfo::write`, the `pcaddu18i` and the `jirl` jump to the PLT entry's address plus
+/// the addend, modulo 2^64.
+pub fn calls_reach_their_target()
+    ensures { LoongArchCallsReachTheirTarget }
+{}
 
 /// Whenever the values of `R_LARCH_PCALA_HI20` and, by the same symbol and addend,
 /// `R_LARCH_PCALA_LO12` are written, the `pcalau12i` and the `addi.d` compute the symbol's address
