@@ -26,7 +26,8 @@ with_chosen deletions calls chosen = deletions ++ chosen_deletions calls chosen
 
 -- the distance from the call's site to its target is even and in the range of `jal`
 abbrev pub IsInReach : List (ℕ × ℕ) → ℕ × ℕ → Type 0
-IsInReach deletions call = IsEven (output_distance deletions call.0 call.1) × IsJalDistance (output_distance deletions call.0 call.1)
+IsInReach deletions call = IsEven (output_distance deletions call.0 call.1)
+    × IsJalDistance (output_distance deletions call.0 call.1)
 
 -- the choice has the call at the index
 abbrev pub IsChosen : List Bool → ℕ → Type 0
@@ -35,7 +36,8 @@ IsChosen chosen i = slice_index_or chosen i false ≡ true
 -- each chosen call is in reach once all of them have given up their bytes
 abbrev pub AreInReach : List (ℕ × ℕ) → List (ℕ × ℕ) → List Bool → Type 0
 AreInReach deletions calls chosen =
-    (i : ℕ) (call : ℕ × ℕ) → i < length calls → IsChosen chosen i → IsInReach (with_chosen deletions calls chosen) (slice_index_or calls i call)
+    (i : ℕ) (call : ℕ × ℕ) → i < length calls → IsChosen chosen i
+    → IsInReach (with_chosen deletions calls chosen) (slice_index_or calls i call)
 
 -- each call of the one choice is in the other
 abbrev pub IsPartOf : List Bool → List Bool → Type 0
@@ -45,7 +47,8 @@ IsPartOf part whole = (i : ℕ) → IsChosen part i → IsChosen whole i
 pub record IsGreatest (deletions calls : List (ℕ × ℕ)) (chosen : List Bool) : Type 0 where
   pub one_each : length chosen ≡ length calls
   pub in_reach : AreInReach deletions calls chosen
-  pub has_others : (other : List Bool) → length other ≡ length calls → AreInReach deletions calls other → IsPartOf other chosen
+  pub has_others : (other : List Bool) → length other ≡ length calls
+      → AreInReach deletions calls other → IsPartOf other chosen
 
 -- Calls of eight kept bytes each, none of which reaches past the next, whose deletions may be
 -- merged with the others. No target is strictly inside one of these deletions.
@@ -64,9 +67,11 @@ pub record IsFirstNotShrinkable (deletions calls : List (ℕ × ℕ)) (at : ℕ)
 -- once what the choice deletes is merged, no chosen call is rejected for its distance
 abbrev pub ShrunkCallsAreAccepted : Type 0
 ShrunkCallsAreAccepted =
-    (link : LinkRegister) (deletions merged calls : List (ℕ × ℕ)) (section : List ℕ) (chosen : List Bool) (i : ℕ) (call : ℕ × ℕ)
+    (link : LinkRegister) (deletions merged calls : List (ℕ × ℕ)) (section : List ℕ)
+    (chosen : List Bool) (i : ℕ) (call : ℕ × ℕ)
     → AreInReach deletions calls chosen
     → IsSortedUnion (with_chosen deletions calls chosen) merged
     → i < length calls
     → IsChosen chosen i
-    → (¬ IsRejected link merged section (slice_index_or calls i call) (Call OddDistance)) × (¬ IsRejected link merged section (slice_index_or calls i call) (Call TooFar))
+    → (¬ IsRejected link merged section (slice_index_or calls i call) (Call OddDistance))
+    × (¬ IsRejected link merged section (slice_index_or calls i call) (Call TooFar))

@@ -66,7 +66,8 @@ Rejects (Call site target) state error = ((error ≡ BadCall)
     × CallFailsWith cause state.section.items state.deltas site target)
 Rejects Show state error = ⊥
 Rejects Pack state error = (at : ℕ) × (cause : CallError) × (error ≡ CallFailed cause)
-    × IsFirstRejected OfAuipc state.deltas state.section.items state.calls.by_site at (JumpFailed cause)
+    × IsFirstRejected OfAuipc state.deltas state.section.items state.calls.by_site at
+    (JumpFailed cause)
 
 -- the command takes memory before it is known that it is rejected with this error
 abbrev pub TakesMemoryFirst : Command → ReportedError → Type 0

@@ -18,4 +18,5 @@ prepend_to_first c joins ws = (c ∷ []) ∷ ws
 -- the maximal runs of bytes other than space, in order
 unfoldable pub words_of : List ℕ → List (List ℕ)
 words_of [] = []
-words_of (c ∷ cs) = if is_space c then words_of cs else prepend_to_first c (begins_word cs) (words_of cs)
+words_of (c ∷ cs) = if is_space c then words_of cs
+    else prepend_to_first c (begins_word cs) (words_of cs)

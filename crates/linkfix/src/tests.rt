@@ -660,25 +660,3 @@ fn a_failed_write_is_the_last_one(rt: HostRuntime) {
         }
     }
 }
-
-/// `rt try --test --fail-alloc N` makes the Nth allocation fail. The run then reports it after a
-/// beginning of the lines that it prints with enough memory.
-#[test]
-fn out_of_memory_is_reported(rt: HostRuntime) {
-    let whole = "ok\n8\nok\nef008000e780000013000000\nef00400013000000\n";
-    let mut page = Page::new(9);
-    let status = run(
-        rt.alloc(),
-        b"97000000e780000013000000\ncall 0 8\nout 8\ndel 4 4\nshow\npack\n".as_slice(),
-        &mut page,
-    );
-    let printed = page.written();
-    if status == 0 {
-        assert_eq!(rt; printed, whole);
-    } else {
-        assert_eq!(rt; status, 1);
-        let before = printed.strip_suffix("out of memory\n");
-        assert!(rt; before.is_some_and(|lines| whole.starts_with(lines)));
-        assert!(rt; before.is_some_and(|lines| lines.is_empty() || lines.ends_with("\n")));
-    }
-}

@@ -17,11 +17,15 @@ pub record AreRunsOf (runs : Runs) (chosen : List Bool) : Type 0 where
   pub many : length runs.counts ≡ 1024
   pub some : 0 < runs.len
   pub reach_end : length chosen < 1024 * runs.len
-  pub counted : (r : ℕ) (d : ℕ) → r < 1024 → slice_index_or runs.counts r d ≡ chosen_between chosen (r * runs.len) (r * runs.len + runs.len)
+  pub counted : (r : ℕ) (d : ℕ) → r < 1024
+      → slice_index_or runs.counts r d
+      ≡ chosen_between chosen (r * runs.len) (r * runs.len + runs.len)
 
 -- the distance of two output offsets, once so many calls between them have given up four bytes each
 abbrev pub distance_over : ℕ → ℕ → ℕ → ℕ → ℕ → ℤ
-distance_over from to index split count = if nat_le index split then pos (to - 4 * count) -ℤ pos from else pos to -ℤ pos (from - 4 * count)
+distance_over from to index split count =
+    if nat_le index split then pos (to - 4 * count) -ℤ pos from
+    else pos to -ℤ pos (from - 4 * count)
 
 -- the sites ascend by at least 8
 abbrev pub AreEightApart : List (ℕ × ℕ) → Type 0
@@ -29,13 +33,16 @@ AreEightApart calls = AllPairs (λ a b. a.0 + 8 ≤ b.0) calls
 
 -- the site at the index is so far above the one before it, if there is one
 abbrev pub IsApartAt : List (ℕ × ℕ) → ℕ → Type 0
-IsApartAt calls at = (call : ℕ × ℕ) → 0 < at → (slice_index_or calls (at - 1) call).0 + 8 ≤ (slice_index_or calls at call).0
+IsApartAt calls at = (call : ℕ × ℕ) → 0 < at
+    → (slice_index_or calls (at - 1) call).0 + 8 ≤ (slice_index_or calls at call).0
 
 -- the calls before one index have their second instruction below the offset, and those from another
 -- on don't
 pub record IsSplitBetween (calls : List (ℕ × ℕ)) (offset from to : ℕ) : Type 0 where
-  pub below : (i : ℕ) (call : ℕ × ℕ) → i < from → i < length calls → (slice_index_or calls i call).0 + 4 < offset
-  pub others : (i : ℕ) (call : ℕ × ℕ) → to ≤ i → i < length calls → offset ≤ (slice_index_or calls i call).0 + 4
+  pub below : (i : ℕ) (call : ℕ × ℕ) → i < from → i < length calls
+      → (slice_index_or calls i call).0 + 4 < offset
+  pub others : (i : ℕ) (call : ℕ × ℕ) → to ≤ i → i < length calls
+      → offset ≤ (slice_index_or calls i call).0 + 4
 
 -- and so there is nothing between the two
 abbrev pub IsSplit : List (ℕ × ℕ) → ℕ → ℕ → Type 0
@@ -43,12 +50,14 @@ IsSplit calls offset split = IsSplitBetween calls offset split split
 
 -- the call at the index is in reach once the chosen ones have given up their bytes
 abbrev pub IsInReachAt : List (ℕ × ℕ) → List (ℕ × ℕ) → List Bool → ℕ → Type 0
-IsInReachAt deletions calls chosen i = (call : ℕ × ℕ) → IsInReach (with_chosen deletions calls chosen) (slice_index_or calls i call)
+IsInReachAt deletions calls chosen i = (call : ℕ × ℕ)
+    → IsInReach (with_chosen deletions calls chosen) (slice_index_or calls i call)
 
 -- each choice in reach that is part of the choice before is part of the choice after
 abbrev pub KeepsOthers : List (ℕ × ℕ) → List (ℕ × ℕ) → List Bool → List Bool → Type 0
 KeepsOthers deletions calls before after =
-    (other : List Bool) → length other ≡ length calls → AreInReach deletions calls other → IsPartOf other before → IsPartOf other after
+    (other : List Bool) → length other ≡ length calls → AreInReach deletions calls other
+    → IsPartOf other before → IsPartOf other after
 
 -- the calls are shrinkable as far as their sites go
 pub record ArePlaced (deletions calls : List (ℕ × ℕ)) : Type 0 where
@@ -62,7 +71,9 @@ AreOutside calls = All (λ call. ¬ IsInsideDeletion (map shrinking calls) call.
 
 -- the offset is strictly inside what the call at the index deletes
 abbrev pub IsAround : List (ℕ × ℕ) → ℕ → ℕ → Type 0
-IsAround calls offset at = (call : ℕ × ℕ) → ((slice_index_or calls at call).0 + 4 < offset) × (offset < (slice_index_or calls at call).0 + 8)
+IsAround calls offset at = (call : ℕ × ℕ)
+    → ((slice_index_or calls at call).0 + 4 < offset)
+    × (offset < (slice_index_or calls at call).0 + 8)
 
 -- the target of the call at one index is strictly inside what the call at another deletes
 abbrev pub IsHit : List (ℕ × ℕ) → ℕ → ℕ → Type 0

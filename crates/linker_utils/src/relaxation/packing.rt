@@ -89,8 +89,10 @@ pub(super) fn output_offset(deltas: &[RelaxDelta], input_offset: u64) -> u64
 #[inline(always)]
 fn site_output_offset(deltas: &[RelaxDelta], site: u64) -> Option<u64>
     requires { site + 4 < 2 ^ 64 }
-    ensures { AreValidDeltas deltas.now → MatchOption result (¬ IsSiteKept (deletions_of deltas.now) site)
-        (λ output. IsSiteKept (deletions_of deltas.now) site × (output ≡ rank (deletions_of deltas.now) site)) }
+    ensures { AreValidDeltas deltas.now
+        → MatchOption result (¬ IsSiteKept (deletions_of deltas.now) site)
+        (λ output. IsSiteKept (deletions_of deltas.now) site
+        × (output ≡ rank (deletions_of deltas.now) site)) }
 {
     DeltaSlice::new(deltas).kept_output_offset(site, 4)
 }
@@ -99,7 +101,8 @@ fn site_output_offset(deltas: &[RelaxDelta], site: u64) -> Option<u64>
 /// sites ascend by at least 4.
 #[inline]
 pub fn first_not_apart<C: AsCall>(calls: &[C]) -> Option<usize>
-    ensures { MatchOption result (AreApart (map C.call calls.now)) (IsFirstNotApart (map C.call calls.now)) }
+    ensures { MatchOption result (AreApart (map C.call calls.now))
+        (IsFirstNotApart (map C.call calls.now)) }
 {
     for at in 1..calls.len() {
         let (before, _) = calls[at - 1].as_call();
@@ -122,7 +125,8 @@ pub fn calls_apart(calls: &[(u64, u64)]) -> bool
 #[inline(always)]
 fn between(section: &[u8], from: u64, to: u64) -> &[u8]
     ensures { result.now
-        ≡ take (min to (length section.now) - min from (length section.now)) (drop (min from (length section.now)) section.now) }
+        ≡ take (min to (length section.now) - min from (length section.now))
+        (drop (min from (length section.now)) section.now) }
 {
     let len = section.len();
     let start = (from.min(len as u64)) as usize;
@@ -140,7 +144,8 @@ fn between(section: &[u8], from: u64, to: u64) -> &[u8]
 fn put(packed: &mut [u8], at: usize, bytes: &[u8]) -> usize
     requires { at ≤ length packed.old }
     ensures bytes { packed.new
-        ≡ take at packed.old ++ take (length packed.old - at) bytes.now ++ drop (at + length bytes.now) packed.old }
+        ≡ take at packed.old ++ take (length packed.old - at) bytes.now
+        ++ drop (at + length bytes.now) packed.old }
     ensures end { result ≡ at + min (length bytes.now) (length packed.old - at) }
 {
     let len = bytes.len().min(packed.len() - at);
@@ -150,7 +155,8 @@ fn put(packed: &mut [u8], at: usize, bytes: &[u8]) -> usize
 
 /// Copies the kept bytes of a section.
 fn copy_kept(section: &[u8], deltas: &[RelaxDelta], packed: &mut [u8])
-    ensures { AreValidDeltas deltas.now → length packed.old ≡ rank (deletions_of deltas.now) (length section.now)
+    ensures { AreValidDeltas deltas.now
+        → length packed.old ≡ rank (deletions_of deltas.now) (length section.now)
         → IsFilled (deletions_of deltas.now) section.now (length section.now) packed.new }
 {
     let mut from = 0;
@@ -212,9 +218,12 @@ fn test_calls<C: AsCall>(
     link: LinkRegister,
 ) -> Result<(), RejectedCall>
     ensures ok { AreValidDeltas deltas.now
-        → OnOk result (All (CanJump link (deletions_of deltas.now) section.now) (map C.call calls.now)) }
+        → OnOk result (All (CanJump link (deletions_of deltas.now) section.now)
+        (map C.call calls.now)) }
     ensures err { AreValidDeltas deltas.now
-        → IfErr result (λ rejected. IsFirstRejected link (deletions_of deltas.now) section.now (map C.call calls.now) rejected.index rejected.error) }
+        → IfErr result (λ rejected.
+        IsFirstRejected link (deletions_of deltas.now) section.now (map C.call calls.now)
+        rejected.index rejected.error) }
 {
     for index in 0..calls.len() {
         let (site, target) = calls[index].as_call();
@@ -229,7 +238,8 @@ fn test_calls<C: AsCall>(
 fn put_jump(section: &[u8], site: u64, link: LinkRegister, jump: Jump, packed: &mut [u8])
     requires { site + call_len link ≤ length section.now }
     ensures { jump.at + 4 ≤ length packed.old → IsEven jump.distance → IsJalDistance jump.distance
-        → JumpsAndLinks packed.old packed.new jump.at (link_register link section.now site) jump.distance }
+        → JumpsAndLinks packed.old packed.new jump.at (link_register link section.now site)
+        jump.distance }
 {
     if !has_window(packed, jump.at, 0, 4) {
         return;
@@ -249,9 +259,11 @@ fn put_call(
     link: LinkRegister,
     packed: &mut [u8],
 )
-    ensures { AreValidDeltas deltas.now → length packed.old ≡ rank (deletions_of deltas.now) (length section.now)
+    ensures { AreValidDeltas deltas.now
+        → length packed.old ≡ rank (deletions_of deltas.now) (length section.now)
         → CanJump link (deletions_of deltas.now) section.now (site, target)
-        → JumpsAndLinks packed.old packed.new (rank (deletions_of deltas.now) site) (link_register link section.now site)
+        → JumpsAndLinks packed.old packed.new (rank (deletions_of deltas.now) site)
+        (link_register link section.now site)
         (output_distance (deletions_of deltas.now) site target) }
 {
     if let Ok(jump) = jump_of(section, deltas, site, target, link) {
@@ -267,8 +279,10 @@ fn put_calls<C: AsCall>(
     link: LinkRegister,
     packed: &mut [u8],
 )
-    ensures { AreValidDeltas deltas.now → length packed.old ≡ rank (deletions_of deltas.now) (length section.now)
-        → AreApart (map C.call calls.now) → All (CanJump link (deletions_of deltas.now) section.now) (map C.call calls.now)
+    ensures { AreValidDeltas deltas.now
+        → length packed.old ≡ rank (deletions_of deltas.now) (length section.now)
+        → AreApart (map C.call calls.now)
+        → All (CanJump link (deletions_of deltas.now) section.now) (map C.call calls.now)
         → IsFilled (deletions_of deltas.now) section.now (length section.now) packed.old
         → IsPacked link (deletions_of deltas.now) section.now (map C.call calls.now) packed.new }
 {
@@ -307,11 +321,15 @@ pub fn pack_into<C: AsCall>(
     requires room { AreValidDeltas deltas.now
         → length out.old ≡ rank (deletions_of deltas.now) (length section.now) }
     ensures packed { AreValidDeltas deltas.now
-        → OnOk result (IsPacked link (deletions_of deltas.now) section.now (map C.call calls.now) out.new) }
+        → OnOk result (IsPacked link (deletions_of deltas.now) section.now (map C.call calls.now)
+        out.new) }
     ensures accepted { AreValidDeltas deltas.now
-        → OnOk result (All (CanJump link (deletions_of deltas.now) section.now) (map C.call calls.now)) }
+        → OnOk result (All (CanJump link (deletions_of deltas.now) section.now)
+        (map C.call calls.now)) }
     ensures rejected { AreValidDeltas deltas.now
-        → IfErr result (λ rejected. IsFirstRejected link (deletions_of deltas.now) section.now (map C.call calls.now) rejected.index rejected.error) }
+        → IfErr result (λ rejected.
+        IsFirstRejected link (deletions_of deltas.now) section.now (map C.call calls.now)
+        rejected.index rejected.error) }
     ensures unchanged { OnErr result (out.new ≡ out.old) }
 {
     test_calls(section, deltas, calls, link)?;
@@ -334,8 +352,10 @@ pub fn pack_section(
     calls: &[(u64, u64)],
 ) -> Result<Vec<u8>, PackError>
     requires { AreApart calls.now }
-    ensures packed { IfOk result (λ packed. IsPacked LinkRegister.OfAuipc deltas.now section.now calls.now packed.items) }
-    ensures accepted { OnOk result (All (CanJump LinkRegister.OfAuipc deltas.now section.now) calls.now) }
+    ensures packed { IfOk result
+        (λ packed. IsPacked LinkRegister.OfAuipc deltas.now section.now calls.now packed.items) }
+    ensures accepted { OnOk result
+        (All (CanJump LinkRegister.OfAuipc deltas.now section.now) calls.now) }
     ensures rejected { IfErr result (IsFirstFailing deltas.now section.now calls.now) }
 {
     let deltas = deltas.deltas();

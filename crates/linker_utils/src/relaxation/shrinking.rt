@@ -69,7 +69,8 @@ impl AsChoice for u8 {
 /// How many of the calls have their second instruction below an offset.
 fn calls_below<C: AsCall>(calls: &[C], offset: u64) -> usize
     ensures within { result ≤ length calls.now }
-    ensures split { AreEightApart (map C.call calls.now) → IsSplit (map C.call calls.now) offset result }
+    ensures split { AreEightApart (map C.call calls.now)
+        → IsSplit (map C.call calls.now) offset result }
 {
     let mut start = 0;
     let mut len = calls.len();
@@ -151,7 +152,8 @@ impl Runs {
         requires within { index < length answer.old }
         requires chosen { IsChosen (map A.choice answer.old) index }
         ensures runs { AreRunsOf self.new (map A.choice answer.new) }
-        ensures dropped { map A.choice answer.new ≡ slice_set (map A.choice answer.old) index false }
+        ensures dropped { map A.choice answer.new
+            ≡ slice_set (map A.choice answer.old) index false }
         ensures written { All A.is_written answer.old → All A.is_written answer.new }
     {
         answer[index] = A::from_choice(false);
@@ -181,7 +183,8 @@ fn reaches(from: u64, to: u64) -> bool
 /// index, and the calls before `split` lie below the target.
 fn reaches_over(from: u64, to: u64, index: usize, split: usize, count: usize) -> bool
     ensures { IsTrue result
-        ↔ (IsEven (distance_over from to index split count) × IsJalDistance (distance_over from to index split count)) }
+        ↔ (IsEven (distance_over from to index split count)
+        × IsJalDistance (distance_over from to index split count)) }
 {
     let freed = (count as u64).saturating_mul(4);
     if index <= split {
@@ -203,8 +206,10 @@ fn is_in_reach<C: AsCall, A: AsChoice>(
     requires within { index < length calls.now }
     requires one_each { length answer.now ≡ length calls.now }
     requires runs { AreRunsOf runs.now (map A.choice answer.now) }
-    ensures { AreValidDeltas deltas.now → AreShrinkable (deletions_of deltas.now) (map C.call calls.now)
-        → (IsTrue result ↔ IsInReachAt (deletions_of deltas.now) (map C.call calls.now) (map A.choice answer.now) index) }
+    ensures { AreValidDeltas deltas.now
+        → AreShrinkable (deletions_of deltas.now) (map C.call calls.now)
+        → (IsTrue result ↔ IsInReachAt (deletions_of deltas.now) (map C.call calls.now)
+        (map A.choice answer.now) index) }
 {
     let (site, target) = calls[index].as_call();
     let from = output_offset(deltas, site);
@@ -232,11 +237,15 @@ fn drop_unreached<C: AsCall, A: AsChoice>(
     requires one_each { length answer.old ≡ length calls.now }
     requires runs { AreRunsOf runs.old (map A.choice answer.old) }
     ensures runs { AreRunsOf runs.new (map A.choice answer.new) }
-    ensures keeps { AreValidDeltas deltas.now → AreShrinkable (deletions_of deltas.now) (map C.call calls.now)
-        → KeepsOthers (deletions_of deltas.now) (map C.call calls.now) (map A.choice answer.old) (map A.choice answer.new) }
-    ensures in_reach { AreValidDeltas deltas.now → AreShrinkable (deletions_of deltas.now) (map C.call calls.now)
+    ensures keeps { AreValidDeltas deltas.now
+        → AreShrinkable (deletions_of deltas.now) (map C.call calls.now)
+        → KeepsOthers (deletions_of deltas.now) (map C.call calls.now) (map A.choice answer.old)
+        (map A.choice answer.new) }
+    ensures in_reach { AreValidDeltas deltas.now
+        → AreShrinkable (deletions_of deltas.now) (map C.call calls.now)
         → IsFalse result → IsChosen (map A.choice answer.new) index
-        → IsInReachAt (deletions_of deltas.now) (map C.call calls.now) (map A.choice answer.new) index }
+        → IsInReachAt (deletions_of deltas.now) (map C.call calls.now) (map A.choice answer.new)
+        index }
     ensures same { IsFalse result → answer.new ≡ answer.old }
     ensures fewer { IsTrue result
         → chosen_count (map A.choice answer.new) < chosen_count (map A.choice answer.old) }
@@ -260,9 +269,12 @@ fn sweep<C: AsCall, A: AsChoice>(
     requires one_each { length answer.old ≡ length calls.now }
     requires runs { AreRunsOf runs.old (map A.choice answer.old) }
     ensures runs { AreRunsOf runs.new (map A.choice answer.new) }
-    ensures keeps { AreValidDeltas deltas.now → AreShrinkable (deletions_of deltas.now) (map C.call calls.now)
-        → KeepsOthers (deletions_of deltas.now) (map C.call calls.now) (map A.choice answer.old) (map A.choice answer.new) }
-    ensures settled { AreValidDeltas deltas.now → AreShrinkable (deletions_of deltas.now) (map C.call calls.now)
+    ensures keeps { AreValidDeltas deltas.now
+        → AreShrinkable (deletions_of deltas.now) (map C.call calls.now)
+        → KeepsOthers (deletions_of deltas.now) (map C.call calls.now) (map A.choice answer.old)
+        (map A.choice answer.new) }
+    ensures settled { AreValidDeltas deltas.now
+        → AreShrinkable (deletions_of deltas.now) (map C.call calls.now)
         → IsFalse result
         → AreInReach (deletions_of deltas.now) (map C.call calls.now) (map A.choice answer.new) }
     ensures fewer { IsTrue result
@@ -291,7 +303,8 @@ fn choose_all<A: AsChoice>(answer: &mut [A])
 /// Whether a call's eight bytes are kept, and the four that it gives up may be deleted.
 fn is_placed(deltas: &[RelaxDelta], site: u64) -> bool
     ensures { AreValidDeltas deltas.now → (IsTrue result
-        ↔ (AreKept (deletions_of deltas.now) site 8 × AreDisjoint (deletions_of deltas.now ++ (site + 4, 4) ∷ []))) }
+        ↔ (AreKept (deletions_of deltas.now) site 8
+        × AreDisjoint (deletions_of deltas.now ++ (site + 4, 4) ∷ []))) }
 {
     let deltas = DeltaSlice::new(deltas);
     site <= u64::MAX - 8
@@ -334,7 +347,8 @@ fn placed_len<C: AsCall>(deltas: &[RelaxDelta], calls: &[C]) -> usize
 fn call_around<C: AsCall>(calls: &[C], offset: u64) -> Option<usize>
     ensures within { IfSome result (λ at. at < length calls.now) }
     ensures around { AreEightApart (map C.call calls.now)
-        → MatchOption result ((at : ℕ) → at < length calls.now → ¬ IsAround (map C.call calls.now) offset at)
+        → MatchOption result ((at : ℕ) → at < length calls.now
+        → ¬ IsAround (map C.call calls.now) offset at)
         (IsAround (map C.call calls.now) offset) }
 {
     let Some(last) = calls_below(calls, offset).checked_sub(1) else {

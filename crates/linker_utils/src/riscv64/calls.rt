@@ -101,7 +101,9 @@ impl LinkRegister {
     pub(crate) fn named_at(self, section: &[u8], site: u64) -> Option<u32>
         requires { site + call_len self ≤ length section.now }
         ensures none { IsNone result ↔ ¬ NamesRegister self section.now site }
-        ensures some { IfSome result (λ register. NamesRegister self section.now site × (register ≡ link_register self section.now site)) }
+        ensures some { IfSome result
+            (λ register. NamesRegister self section.now site
+            × (register ≡ link_register self section.now site)) }
     {
         let start = site as usize;
         let auipc = u32_from_slice(&section[start..]);
@@ -225,18 +227,23 @@ pub fn jal_site_with(
     distance: i64,
     link: LinkRegister,
 ) -> Result<(), JumpError>
-    ensures jumps { OnOk result (JumpsAndLinks section.old section.new site (link_register link section.old site) distance) }
+    ensures jumps { OnOk result
+        (JumpsAndLinks section.old section.new site (link_register link section.old site)
+        distance) }
     ensures accepted { IsOk result
-        ↔ ((site + call_len link ≤ length section.old) × NamesRegister link section.old site × IsEven distance × IsJalDistance distance) }
+        ↔ ((site + call_len link ≤ length section.old) × NamesRegister link section.old site
+        × IsEven distance × IsJalDistance distance) }
 
     ensures out_of_section { (result ≡ Err (JumpError.Call CallError.OutOfSection))
         ↔ (length section.old < site + call_len link) }
     ensures not_a_call { (result ≡ Err JumpError.NotACall)
         ↔ ((site + call_len link ≤ length section.old) × ¬ NamesRegister link section.old site) }
     ensures odd_distance { (result ≡ Err (JumpError.Call CallError.OddDistance))
-        ↔ ((site + call_len link ≤ length section.old) × NamesRegister link section.old site × ¬ IsEven distance) }
+        ↔ ((site + call_len link ≤ length section.old) × NamesRegister link section.old site
+        × ¬ IsEven distance) }
     ensures too_far { (result ≡ Err (JumpError.Call CallError.TooFar))
-        ↔ ((site + call_len link ≤ length section.old) × NamesRegister link section.old site × IsEven distance
+        ↔ ((site + call_len link ≤ length section.old) × NamesRegister link section.old site
+        × IsEven distance
         × ¬ IsJalDistance distance) }
     ensures unchanged { OnErr result (section.new ≡ section.old) }
 {
@@ -266,19 +273,24 @@ pub fn relax_call(
     site: u64,
     target: u64,
 ) -> Result<(), CallError>
-    ensures jumps { OnOk result (JumpsAt section.old section.new site (output_distance deltas.now site target)) }
-    ensures accepted { IsOk result ↔ (IsInSection section.old site target × IsSiteKept deltas.now site
-        × IsEven (output_distance deltas.now site target) × IsJalDistance (output_distance deltas.now site target)) }
+    ensures jumps { OnOk result
+        (JumpsAt section.old section.new site (output_distance deltas.now site target)) }
+    ensures accepted { IsOk result
+        ↔ (IsInSection section.old site target × IsSiteKept deltas.now site
+        × IsEven (output_distance deltas.now site target)
+        × IsJalDistance (output_distance deltas.now site target)) }
 
     ensures out_of_section { (result ≡ Err CallError.OutOfSection)
         ↔ ¬ IsInSection section.old site target }
     ensures site_deleted { (result ≡ Err CallError.SiteDeleted)
         ↔ (IsInSection section.old site target × ¬ IsSiteKept deltas.now site) }
     ensures odd_distance { (result ≡ Err CallError.OddDistance)
-        ↔ (IsInSection section.old site target × IsSiteKept deltas.now site × ¬ IsEven (output_distance deltas.now site target)) }
+        ↔ (IsInSection section.old site target × IsSiteKept deltas.now site
+        × ¬ IsEven (output_distance deltas.now site target)) }
     ensures too_far { (result ≡ Err CallError.TooFar)
         ↔ (IsInSection section.old site target × IsSiteKept deltas.now site
-        × IsEven (output_distance deltas.now site target) × ¬ IsJalDistance (output_distance deltas.now site target)) }
+        × IsEven (output_distance deltas.now site target)
+        × ¬ IsJalDistance (output_distance deltas.now site target)) }
     ensures unchanged { OnErr result (section.new ≡ section.old) }
 {
     relax_call_over(section, &deltas.as_delta_slice(), site, target)
@@ -293,7 +305,8 @@ pub fn relax_call_over(
     target: u64,
 ) -> Result<(), CallError>
     ensures jumps { AreValidDeltas deltas.now
-        → OnOk result (JumpsAt section.old section.new site (output_distance (deletions_of deltas.now) site target)) }
+        → OnOk result (JumpsAt section.old section.new site
+        (output_distance (deletions_of deltas.now) site target)) }
     ensures accepted { AreValidDeltas deltas.now → (IsOk result
         ↔ (IsInSection section.old site target × IsSiteKept (deletions_of deltas.now) site
         × IsEven (output_distance (deletions_of deltas.now) site target)
