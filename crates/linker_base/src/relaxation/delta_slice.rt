@@ -9,7 +9,7 @@ ghost use Rattle.linker_base.specs.Listed.{AreValidDeltas, AreValidTogether, IsF
 
 use super::blocked_slice::BlockedSlice;
 use super::blocks::{BlockHead, count_blocks, write_heads};
-use super::merge::{copy_summed, merge_ascending};
+use super::merge::merge_into;
 use super::overlap::{self, AsDeletion};
 use super::partition_point::FEW;
 use super::walk::{Reached, ascend, walk};
@@ -254,7 +254,6 @@ impl<'a> DeltaSlice<'a> {
         ensures union { IsSortedUnion (deletions_of self.now ++ map D.deletion additional.now) (deletions_of merged.new) }
         ensures listed { AreValidDeltas merged.new }
     {
-        copy_summed(self.deltas, merged);
-        let _kept = merge_ascending(merged, self.deltas.len(), additional);
+        merge_into(self.deltas, additional, merged);
     }
 }

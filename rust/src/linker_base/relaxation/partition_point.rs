@@ -213,6 +213,12 @@ pub(super) fn search_blocks<P: Probe>(probe: &mut P, test: Test) -> usize {
         let all = SearchRange { start: 0, len };
         return point_in(probe, Level::Deltas, test, all, all);
     }
+    search_many(probe, test)
+}
+
+/// How many deltas pass, by the heads of their blocks. There is a whole block.
+#[inline(always)]
+pub(super) fn search_many<P: Probe>(probe: &mut P, test: Test) -> usize {
     match search_heads(probe, test).checked_sub(1) {
         Some(block) => search_block(probe, test, block),
         None => 0,

@@ -5,7 +5,7 @@
 use super::RelaxDelta;
 use super::arrays::Arrays;
 use super::blocks::BlockHead;
-use super::partition_point::{Test, search_blocks, search_deltas};
+use super::partition_point::{FEW, Test, search_deltas, search_many};
 
 // The bytes that the first `count` deltas delete.
 #[inline(always)]
@@ -93,8 +93,10 @@ pub(super) fn delta_at(deltas: &[RelaxDelta], offset: u64) -> Option<RelaxDelta>
 // inlined, so that a caller's search of a few deltas stays small.
 #[inline(never)]
 pub(super) fn rank_by_heads(deltas: &[RelaxDelta], heads: &[BlockHead], offset: u64) -> u64 {
-    let below = search_blocks(&mut Arrays { deltas, heads }, Test::Begins(offset));
-    match below.checked_sub(1) {
+    if deltas.len() <= FEW {
+        return rank(deltas, offset);
+    }
+    match search_many(&mut Arrays { deltas, heads }, Test::Begins(offset)).checked_sub(1) {
         Some(last) => rank_after(deltas[last], offset),
         None => offset,
     }
@@ -108,6 +110,9 @@ pub(super) fn bytes_before_by_heads(
     heads: &[BlockHead],
     output_offset: u64,
 ) -> u64 {
-    let placed = search_blocks(&mut Arrays { deltas, heads }, Test::IsPlaced(output_offset));
+    if deltas.len() <= FEW {
+        return bytes_before(deltas, output_offset);
+    }
+    let placed = search_many(&mut Arrays { deltas, heads }, Test::IsPlaced(output_offset));
     bytes_of_first(deltas, placed)
 }
