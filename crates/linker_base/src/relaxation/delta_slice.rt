@@ -1,6 +1,7 @@
 //! Deltas that anyone owns.
 
-ghost use Rattle.std.specs.Prelude.{◌≡◌, ◌≢◌, ◌<◌, ◌+◌, ◌^◌, ◌++◌, ◌↔◌, IsTrue, IfSome, MatchOption, Any, All, [], map, length};
+ghost use Rattle.std.specs.Prelude.{◌≡◌, ◌≢◌, ◌<◌, ◌+◌, ◌^◌, ◌++◌, ◌↔◌, IsTrue, IfSome};
+ghost use Rattle.std.specs.Prelude.{MatchOption, Any, All, [], map, length};
 ghost use Rattle.std.specs.List.Sorted.{IsNonDecreasing};
 ghost use Rattle.linker_base.specs.Deletions.{AreDisjoint, AreKept, IsValid, IsSortedUnion, bytes_of, rank, IsInsideDeletion, IsSelected, HasInput};
 ghost use Rattle.linker_base.specs.Blocks.{blocks_of, AreHeads};
@@ -74,7 +75,8 @@ impl<'a> DeltaSlice<'a> {
     // `with_heads` of more than a few deltas.
     #[inline(always)]
     fn with_many_heads(&self, heads: &'a [BlockHead]) -> Option<BlockedSlice<'a>>
-        ensures { IfSome result (λ blocked. blocked ≡ record { deltas = self.now; heads = heads.now }) }
+        ensures { IfSome result (λ blocked.
+            blocked ≡ record { deltas = self.now; heads = heads.now }) }
     {
         if self.deltas.len() <= FEW {
             return None;
@@ -191,7 +193,8 @@ impl<'a> DeltaSlice<'a> {
         output_offset: u64,
     ) -> Option<u64>
         ensures { AreValidDeltas self.now → AreHeads self.now heads.now
-            → MatchOption result (¬ (HasInput (deletions_of self.now) output_offset)) (IsSelected (deletions_of self.now) output_offset) }
+            → MatchOption result (¬ (HasInput (deletions_of self.now) output_offset))
+            (IsSelected (deletions_of self.now) output_offset) }
     {
         match self.with_many_heads(heads) {
             Some(blocked) => blocked.output_to_input_offset(output_offset),

@@ -106,7 +106,8 @@ pub(super) fn merge_into<D: AsDeletion>(
 )
     requires room { length merged.old ≡ length deltas.now + length additional.now }
     requires valid { AreValidTogether (map deletion_of deltas.now) (map D.deletion additional.now) }
-    ensures union { IsSortedUnion (map deletion_of deltas.now ++ map D.deletion additional.now) (map deletion_of merged.new) }
+    ensures union { IsSortedUnion (map deletion_of deltas.now ++ map D.deletion additional.now)
+        (map deletion_of merged.new) }
     ensures listed { AreValidDeltas merged.new }
 {
     let mut old = deltas.len();

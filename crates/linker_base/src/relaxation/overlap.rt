@@ -1,6 +1,7 @@
 //! Tests of lists of deletions. None takes memory.
 
-ghost use Rattle.std.specs.Prelude.{◌≡◌, ◌≤◌, ◌<◌, ◌+◌, ◌-◌, ◌++◌, ◌↔◌, ℕ, slice_index_or, max, IsTrue, MatchOption, All, map, length, take};
+ghost use Rattle.std.specs.Prelude.{◌≡◌, ◌≤◌, ◌<◌, ◌+◌, ◌-◌, ◌++◌, ◌↔◌, ℕ, max, IsTrue};
+ghost use Rattle.std.specs.Prelude.{MatchOption, All, map, length, take, slice_index_or};
 ghost use Rattle.linker_base.specs.Deletions.{IsBefore, DoNotOverlap, EndFits, AreDisjoint, IsValid};
 ghost use Rattle.linker_base.specs.Deltas.{deletion_of, pairs_of};
 ghost use Rattle.linker_base.specs.Listed.{IsFirstInvalid, IsFirstOverlapping, AreValidTogether};
@@ -75,8 +76,12 @@ pub fn first_invalid<D: AsDeletion>(deletions: &[D]) -> Option<usize>
 #[inline]
 fn count_rising<D: AsDeletion>(deletions: &[D]) -> usize
     ensures within { result ≤ length deletions.now }
-    ensures rising { (k : ℕ) → k + 1 < result → IsBefore (slice_index_or (map D.deletion deletions.now) k (0, 0)) (slice_index_or (map D.deletion deletions.now) (k + 1) (0, 0)) }
-    ensures whole { result < length deletions.now → (0 < result) × ¬ (IsBefore (slice_index_or (map D.deletion deletions.now) (result - 1) (0, 0)) (slice_index_or (map D.deletion deletions.now) result (0, 0))) }
+    ensures rising { (k : ℕ) → k + 1 < result
+        → IsBefore (slice_index_or (map D.deletion deletions.now) k (0, 0))
+        (slice_index_or (map D.deletion deletions.now) (k + 1) (0, 0)) }
+    ensures whole { result < length deletions.now → (0 < result)
+        × ¬ (IsBefore (slice_index_or (map D.deletion deletions.now) (result - 1) (0, 0))
+        (slice_index_or (map D.deletion deletions.now) result (0, 0))) }
 {
     if deletions.is_empty() {
         return 0;
