@@ -143,6 +143,23 @@ IsTail-left ds ps i j tail delta valid rises within inside merged is above sum =
           rw before merged.sums);
     }
 
+-- the last of the old deletions goes in front, where no additional one is left
+IsTail-rest : (ds ps : List (ℕ × ℕ)) (i : ℕ) (tail : List RelaxDelta) (delta : RelaxDelta) → IsValid ds → i < length ds → IsTail ds ps (i + 1) 0 tail
+    → deletion_of delta ≡ get_or ds i (0, 0) → delta.cumulative_deleted ≡ bytes_of (take (i + 1) ds) + bytes_of (take 0 ps) → IsTail ds ps i 0 (delta ∷ tail)
+IsTail-rest ds ps i tail delta valid within merged is sum =
+    let offset : delta.input_offset ≡ (get_or ds i (0, 0)).0 = ap (λ (e : ℕ × ℕ). e.0) is in
+    let bytes : delta.bytes_deleted ≡ (get_or ds i (0, 0)).1 = ap (λ (e : ℕ × ℕ). e.1) is in
+    let more = sum_by_more (λ (e : ℕ × ℕ). e.1) ds i (0, 0) within in
+    record {
+      same = rw (drop_more ds i (0, 0) within, ← is) (IsPermutation-cons (deletion_of delta) (drop (i + 1) ds ++ drop 0 ps) (map deletion_of tail) merged.same);
+      rise = rise-cons (deletion_of delta) (map deletion_of tail) (rw (← is) at (merged.above_old i (omega arith))) merged.rise;
+      above_old = λ k low. All-cons (λ d. (get_or ds k (0, 0)).0 ≤ d.0) (deletion_of delta) (map deletion_of tail) (omega (arith, offset, valid_rises ds valid k i (0, 0) (omega arith) within)) (merged.above_old k (omega arith));
+      above_left = λ k low. absurd (omega arith);
+      sums = HaveSums-cons (bytes_of (take i ds) + bytes_of (take 0 ps)) delta tail (omega (arith, more, bytes, sum)) (
+          let before : bytes_of (take i ds) + bytes_of (take 0 ps) + delta.bytes_deleted ≡ bytes_of (take (i + 1) ds) + bytes_of (take 0 ps) = omega (arith, more, bytes) in
+          rw before merged.sums);
+    }
+
 -- the first i deltas stand where they stood, and what isn't free behind them is merged
 pub record IsMerging (start : List RelaxDelta) (ps : List (ℕ × ℕ)) (i j : ℕ) (deltas : List RelaxDelta) : Type 0 where
   pub old_within : i ≤ length start
@@ -277,3 +294,97 @@ merging_last start ps i deltas listed disjoint merging = (union, record { valid 
     sums = rw whole (HaveSums-append 0 (take i start) tail front (
         let before : 0 + bytes_of (map deletion_of (take i start)) ≡ bytes_of (take i ds) + bytes_of (take 0 ps) = omega (arith, ap bytes_of (take-map deletion_of i start)) in
         rw before merged.sums))
+
+-- ---- into room of its own
+
+-- what is not free is merged, and so many bytes are left
+pub record IsWriting (ds ps : List (ℕ × ℕ)) (i j : ℕ) (merged : List RelaxDelta) (bytes : ℕ) : Type 0 where
+  pub old_within : i ≤ length ds
+  pub left_within : j ≤ length ps
+  pub size : length merged ≡ length ds + length ps
+  pub tail : IsTail ds ps i j (drop (i + j) merged)
+  pub sum : bytes ≡ bytes_of (take i ds) + bytes_of (take j ps)
+
+pub writing_first : (ds ps : List (ℕ × ℕ)) (merged : List RelaxDelta) (i j bytes : ℕ) → length merged ≡ i + j → i ≡ length ds → j ≡ length ps → bytes ≡ bytes_of ds + bytes_of ps → IsWriting ds ps i j merged bytes
+writing_first ds ps merged i j bytes room old left sum = record {
+  old_within = omega (arith, old);
+  left_within = omega (arith, left);
+  size = omega (arith, room, old, left);
+  tail = rw (drop_all (i + j) merged (omega (arith, room)), old, left) (IsTail-nil ds ps);
+  sum = rw (old, left, take_all (length ds) ds (omega arith), take_all (length ps) ps (omega arith)) sum;
+}
+
+-- an old deletion is written
+pub writing_old : (ds ps : List (ℕ × ℕ)) (old left at : ℕ) (merged : List RelaxDelta) (delta : RelaxDelta) (bytes : ℕ) → IsValid ds → IsValid ps → 0 < old → 0 < left → at ≡ old + left - 1 → IsWriting ds ps old left merged bytes
+    → deletion_of delta ≡ get_or ds (old - 1) (0, 0) → (get_or ps (left - 1) (0, 0)).0 ≤ (get_or ds (old - 1) (0, 0)).0 → delta.cumulative_deleted ≡ bytes → IsWriting ds ps (old - 1) left (set merged at delta) (bytes - delta.bytes_deleted)
+writing_old ds ps old left at merged delta bytes valid rises some more place writing is above sum =
+    let one : old ≡ old - 1 + 1 = omega arith in
+    let other : left ≡ left - 1 + 1 = omega arith in
+    let inside : old - 1 < length ds = omega (arith, writing.old_within) in
+    let free : at < length merged = omega (arith, writing.size, writing.old_within, writing.left_within) in
+    let here : old - 1 + left ≡ at = omega arith in
+    let next : at + 1 ≡ old + left = omega arith in
+    let tail : IsTail ds ps (old - 1 + 1) (left - 1 + 1) (drop (old + left) merged) = rw (← one, ← other) writing.tail in
+    let written : IsTail ds ps (old - 1) (left - 1 + 1) (delta ∷ drop (old + left) merged) = IsTail-old ds ps (old - 1) (left - 1) (drop (old + left) merged) delta valid rises inside (omega (arith, writing.left_within)) tail is above (rw (← one, ← other) (sum ∙ writing.sum)) in
+    record {
+      old_within = omega (arith, writing.old_within);
+      left_within = writing.left_within;
+      size = omega (arith, writing.size, length-set merged at delta);
+      tail = rw (here, drop-set merged at delta free, next) (rw (← other) at written);
+      sum = omega (arith, writing.sum, rw (← one) at (sum_by_more (λ (e : ℕ × ℕ). e.1) ds (old - 1) (0, 0) inside), ap (λ (e : ℕ × ℕ). e.1) is);
+    }
+
+-- the same, where no additional deletion is left
+pub writing_rest : (ds ps : List (ℕ × ℕ)) (old at : ℕ) (merged : List RelaxDelta) (delta : RelaxDelta) (bytes : ℕ) → IsValid ds → 0 < old → at ≡ old - 1 → IsWriting ds ps old 0 merged bytes
+    → deletion_of delta ≡ get_or ds (old - 1) (0, 0) → delta.cumulative_deleted ≡ bytes → IsWriting ds ps (old - 1) 0 (set merged at delta) (bytes - delta.bytes_deleted)
+writing_rest ds ps old at merged delta bytes valid some place writing is sum =
+    let one : old ≡ old - 1 + 1 = omega arith in
+    let inside : old - 1 < length ds = omega (arith, writing.old_within) in
+    let free : at < length merged = omega (arith, writing.size, writing.old_within) in
+    let here : old - 1 + 0 ≡ at = omega arith in
+    let next : at + 1 ≡ old + 0 = omega arith in
+    let tail : IsTail ds ps (old - 1 + 1) 0 (drop (old + 0) merged) = rw (← one) writing.tail in
+    let written : IsTail ds ps (old - 1) 0 (delta ∷ drop (old + 0) merged) = IsTail-rest ds ps (old - 1) (drop (old + 0) merged) delta valid inside tail is (rw (← one) (sum ∙ writing.sum)) in
+    record {
+      old_within = omega (arith, writing.old_within);
+      left_within = writing.left_within;
+      size = omega (arith, writing.size, length-set merged at delta);
+      tail = rw (here, drop-set merged at delta free, next) written;
+      sum = omega (arith, writing.sum, rw (← one) at (sum_by_more (λ (e : ℕ × ℕ). e.1) ds (old - 1) (0, 0) inside), ap (λ (e : ℕ × ℕ). e.1) is);
+    }
+
+-- an additional deletion is written
+pub writing_left : (ds ps : List (ℕ × ℕ)) (old left at : ℕ) (merged : List RelaxDelta) (delta : RelaxDelta) (bytes : ℕ) → IsValid ds → IsValid ps → 0 < left → at ≡ old + left - 1 → IsWriting ds ps old left merged bytes
+    → deletion_of delta ≡ get_or ps (left - 1) (0, 0) → (0 < old → (get_or ds (old - 1) (0, 0)).0 ≤ (get_or ps (left - 1) (0, 0)).0) → delta.cumulative_deleted ≡ bytes → IsWriting ds ps old (left - 1) (set merged at delta) (bytes - delta.bytes_deleted)
+writing_left ds ps old left at merged delta bytes valid rises more place writing is above sum =
+    let other : left ≡ left - 1 + 1 = omega arith in
+    let inside : left - 1 < length ps = omega (arith, writing.left_within) in
+    let free : at < length merged = omega (arith, writing.size, writing.old_within, writing.left_within) in
+    let here : old + (left - 1) ≡ at = omega arith in
+    let next : at + 1 ≡ old + left = omega arith in
+    let tail : IsTail ds ps old (left - 1 + 1) (drop (old + left) merged) = rw (← other) writing.tail in
+    let written : IsTail ds ps old (left - 1) (delta ∷ drop (old + left) merged) = IsTail-left ds ps old (left - 1) (drop (old + left) merged) delta valid rises writing.old_within inside tail is above (rw (← other) (sum ∙ writing.sum)) in
+    record {
+      old_within = writing.old_within;
+      left_within = omega (arith, writing.left_within);
+      size = omega (arith, writing.size, length-set merged at delta);
+      tail = rw (here, drop-set merged at delta free, next) written;
+      sum = omega (arith, writing.sum, rw (← other) at (sum_by_more (λ (e : ℕ × ℕ). e.1) ps (left - 1) (0, 0) inside), ap (λ (e : ℕ × ℕ). e.1) is);
+    }
+
+-- the bytes of the next deletion are among those left
+pub spends_old : (ds ps : List (ℕ × ℕ)) (old left : ℕ) (merged : List RelaxDelta) (bytes : ℕ) → 0 < old → IsWriting ds ps old left merged bytes → (get_or ds (old - 1) (0, 0)).1 ≤ bytes
+spends_old ds ps old left merged bytes some writing =
+    let one : old - 1 + 1 ≡ old = omega arith in
+    omega (arith, writing.sum, rw one at (sum_by_more (λ (e : ℕ × ℕ). e.1) ds (old - 1) (0, 0) (omega (arith, writing.old_within))))
+
+pub spends_left : (ds ps : List (ℕ × ℕ)) (old left : ℕ) (merged : List RelaxDelta) (bytes : ℕ) → 0 < left → IsWriting ds ps old left merged bytes → (get_or ps (left - 1) (0, 0)).1 ≤ bytes
+spends_left ds ps old left merged bytes some writing =
+    let one : left - 1 + 1 ≡ left = omega arith in
+    omega (arith, writing.sum, rw one at (sum_by_more (λ (e : ℕ × ℕ). e.1) ps (left - 1) (0, 0) (omega (arith, writing.left_within))))
+
+-- at last all are written
+pub writing_last : (ds ps : List (ℕ × ℕ)) (merged : List RelaxDelta) (bytes : ℕ) → AreDisjoint (ds ++ ps) → IsWriting ds ps 0 0 merged bytes → IsSortedUnion (ds ++ ps) (map deletion_of merged) × AreValidDeltas merged
+writing_last ds ps merged bytes disjoint writing =
+    let union : IsSortedUnion (ds ++ ps) (map deletion_of merged) = union_from_sort (ds ++ ps) (map deletion_of merged) writing.tail.same disjoint writing.tail.rise in
+    (union, record { valid = union.valid; listing = record { same = refl; sums = λ k d within. omega (arith, writing.tail.sums.each k d within) } })

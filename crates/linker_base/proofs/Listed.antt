@@ -1,5 +1,5 @@
 -- Lists of deltas: how one grows, what its sums are, and how a valid list is tested.
-use Rattle.std.proofs.Common.{◌≡◌, ℕ, ◌+◌, ◌-◌, ◌<◌, ◌≤◌, List, [], ◌∷◌, ◌++◌, length, map, get_or, set, take, sym, ap, ◌∙◌, inl, inr, arith}
+use Rattle.std.proofs.Common.{◌≡◌, ℕ, zero, suc, ◌+◌, ◌-◌, ◌<◌, ◌≤◌, List, [], ◌∷◌, ◌++◌, length, map, get_or, set, take, sym, ap, ◌∙◌, inl, inr, arith}
 use Rattle.std.specs.Prelude.{◌^◌}
 use Rattle.std.proofs.lemmas.Bool.{cases_lt}
 use Rattle.std.proofs.lemmas.List.{length_push, get_or_push, get_or_append_left, get_or-take, length-take, take_more, map_push, length-map, take-append-le, take_all, get_or_default, take_more_set}
@@ -105,3 +105,26 @@ first_invalid_at ds k within valid faulty = record {
       let earlier : k - 1 < k + 1 = omega arith in
       rw (get_or-take (k + 1) ds (k - 1) (0, 0) earlier, get_or-take (k + 1) ds k (0, 0) last) at (more.ascending (k - 1) k (0, 0) (omega arith) (omega arith)));
 }
+
+-- deletions of which each lies below the next make a valid list, where the last fits
+pub valid_from_rising : (ds : List (ℕ × ℕ)) (count : ℕ) → count ≤ length ds → ((k : ℕ) → k + 1 < count → IsBefore (get_or ds k (0, 0)) (get_or ds (k + 1) (0, 0))) → (0 < count → EndFits (get_or ds (count - 1) (0, 0))) → IsValid (take count ds)
+valid_from_rising ds zero within rising fits = IsValid-nil
+valid_from_rising ds (suc k) within rising fits =
+    let inside : k < length ds = omega arith in
+    let same : suc k - 1 ≡ k = omega arith in
+    let last : EndFits (get_or ds k (0, 0)) = rw same at (fits (omega arith)) in
+    let below : 0 < k → IsBefore (get_or ds (k - 1) (0, 0)) (get_or ds k (0, 0)) = λ some.
+    let one : k - 1 + 1 ≡ k = omega arith in
+    rw one at (rising (k - 1) (omega arith)) in
+    let next : k + 1 ≡ suc k = omega arith in
+    rw next at (IsValid-more ds k inside (valid_from_rising ds k (omega arith) (λ j low. rising j (omega arith)) (λ some. omega (arith, (below some).1, last))) last below)
+
+-- each of the first deletions lies below the next, and so does the last of them
+pub rising_more : (ds : List (ℕ × ℕ)) (count : ℕ) → 0 < count → ((k : ℕ) → k + 1 < count → IsBefore (get_or ds k (0, 0)) (get_or ds (k + 1) (0, 0))) → IsBefore (get_or ds (count - 1) (0, 0)) (get_or ds count (0, 0)) → (k : ℕ) → k + 1 < count + 1 → IsBefore (get_or ds k (0, 0)) (get_or ds (k + 1) (0, 0))
+rising_more ds count some rising last k low = elim (cases_lt (k + 1) count) [
+  | inl earlier ↦ rising k earlier
+  | inr end ↦
+      let here : k ≡ count - 1 = omega arith in
+      let next : count - 1 + 1 ≡ count = omega arith in
+      rw (here, next) last
+]

@@ -106,11 +106,15 @@ impl<'a> RelaxCursor<'a> {
         self.reached.passed
     }
 
-    // Whether all deltas that are passed begin strictly below the offset: the last one decides.
+    // Whether all deltas that are passed begin strictly below the offset: the last one decides, and
+    // its end where the offset lies past that.
     #[inline]
     fn is_ahead(&self, input_offset: u64) -> bool
         ensures { IsTrue result ↔ IsAhead self.now input_offset }
     {
+        if self.reached.end < input_offset {
+            return true;
+        }
         match self.reached.passed.checked_sub(1) {
             Some(last) => self.deltas[last].input_offset < input_offset,
             None => true,

@@ -1,6 +1,7 @@
 //! Deltas that anyone owns.
 
-ghost use Rattle.std.specs.Prelude.{◌≡◌, ◌≢◌, ◌<◌, ◌+◌, ◌^◌, ◌++◌, ◌↔◌, IsTrue, IfSome, MatchOption, Any, All, [], map, length};
+ghost use Rattle.std.specs.Prelude.{◌≡◌, ◌≢◌, ◌<◌, ◌+◌, ◌^◌, ◌++◌, ◌↔◌, IsTrue, IfSome};
+ghost use Rattle.std.specs.Prelude.{MatchOption, Any, All, [], map, length};
 ghost use Rattle.std.specs.List.Sorted.{IsNonDecreasing};
 ghost use Rattle.linker_base.specs.Deletions.{AreDisjoint, AreKept, IsValid, IsSortedUnion, bytes_of, rank, IsInsideDeletion, IsSelected, HasInput};
 ghost use Rattle.linker_base.specs.Blocks.{blocks_of, AreHeads};
@@ -9,7 +10,7 @@ ghost use Rattle.linker_base.specs.Listed.{AreValidDeltas, AreValidTogether, IsF
 
 use super::blocked_slice::BlockedSlice;
 use super::blocks::{BlockHead, count_blocks, write_heads};
-use super::merge::{copy_summed, merge_ascending};
+use super::merge::merge_into;
 use super::overlap::{self, AsDeletion};
 use super::partition_point::FEW;
 use super::walk::{Reached, ascend, walk};
@@ -74,7 +75,8 @@ impl<'a> DeltaSlice<'a> {
     // `with_heads` of more than a few deltas.
     #[inline(always)]
     fn with_many_heads(&self, heads: &'a [BlockHead]) -> Option<BlockedSlice<'a>>
-        ensures { IfSome result (λ blocked. blocked ≡ record { deltas = self.now; heads = heads.now }) }
+        ensures { IfSome result (λ blocked.
+            blocked ≡ record { deltas = self.now; heads = heads.now }) }
     {
         if self.deltas.len() <= FEW {
             return None;
@@ -191,7 +193,8 @@ impl<'a> DeltaSlice<'a> {
         output_offset: u64,
     ) -> Option<u64>
         ensures { AreValidDeltas self.now → AreHeads self.now heads.now
-            → MatchOption result (¬ (HasInput (deletions_of self.now) output_offset)) (IsSelected (deletions_of self.now) output_offset) }
+            → MatchOption result (¬ (HasInput (deletions_of self.now) output_offset))
+            (IsSelected (deletions_of self.now) output_offset) }
     {
         match self.with_many_heads(heads) {
             Some(blocked) => blocked.output_to_input_offset(output_offset),
@@ -254,7 +257,6 @@ impl<'a> DeltaSlice<'a> {
         ensures union { IsSortedUnion (deletions_of self.now ++ map D.deletion additional.now) (deletions_of merged.new) }
         ensures listed { AreValidDeltas merged.new }
     {
-        copy_summed(self.deltas, merged);
-        let _kept = merge_ascending(merged, self.deltas.len(), additional);
+        merge_into(self.deltas, additional, merged);
     }
 }

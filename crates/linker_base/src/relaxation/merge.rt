@@ -4,8 +4,8 @@ ghost use Rattle.std.specs.Prelude.{◌≡◌, ◌≤◌, ◌<◌, ◌+◌, ◌-
 ghost use Rattle.linker_base.specs.declared.relaxation.RelaxDelta.{RelaxDelta};
 ghost use Rattle.linker_base.specs.Blocks.{blocks_of};
 ghost use Rattle.linker_base.specs.Deletions.{AreDisjoint, IsValid, IsSortedUnion, bytes_of};
-ghost use Rattle.linker_base.specs.Deltas.{deletion_of, pairs_of, RecordsDeletions};
-ghost use Rattle.linker_base.specs.Listed.{AreValidDeltas};
+ghost use Rattle.linker_base.specs.Deltas.{deletion_of, pairs_of};
+ghost use Rattle.linker_base.specs.Listed.{AreValidDeltas, AreValidTogether};
 ghost use Rattle.linker_base.specs.Inner.Listed.{IsSound};
 
 use super::blocks::{BlockHead, count_blocks, fill_heads};
@@ -98,19 +98,48 @@ fn append(deltas: &mut Vec<RelaxDelta>, pairs: &[(u64, u32)])
     }
 }
 
-// Writes the deltas in front of the others, with sums made anew.
-pub(super) fn copy_summed(deltas: &[RelaxDelta], merged: &mut [RelaxDelta])
-    requires room { length deltas.now ≤ length merged.old }
-    requires valid { IsValid (map deletion_of deltas.now) }
-    ensures { RecordsDeletions (map deletion_of deltas.now) (take (length deltas.now) merged.new) }
+// Writes the deltas of the deletions of both lists, from the back, with sums made anew.
+pub(super) fn merge_into<D: AsDeletion>(
+    deltas: &[RelaxDelta],
+    additional: &[D],
+    merged: &mut [RelaxDelta],
+)
+    requires room { length merged.old ≡ length deltas.now + length additional.now }
+    requires valid { AreValidTogether (map deletion_of deltas.now) (map D.deletion additional.now) }
+    ensures union { IsSortedUnion (map deletion_of deltas.now ++ map D.deletion additional.now)
+        (map deletion_of merged.new) }
+    ensures listed { AreValidDeltas merged.new }
 {
-    let mut cumulative_deleted = 0;
-    for (at, &delta) in deltas.iter().enumerate() {
-        cumulative_deleted += u64::from(delta.bytes_deleted);
-        merged[at] = RelaxDelta {
-            cumulative_deleted,
+    let mut old = deltas.len();
+    let mut left = additional.len();
+    let mut bytes = bytes_in(deltas) + bytes_in(additional);
+    while left > 0 {
+        let (input_offset, bytes_deleted) = additional[left - 1].as_deletion();
+        while old > 0 && input_offset < deltas[old - 1].input_offset {
+            let delta = deltas[old - 1];
+            merged[old + left - 1] = RelaxDelta {
+                cumulative_deleted: bytes,
+                ..delta
+            };
+            bytes -= u64::from(delta.bytes_deleted);
+            old -= 1;
+        }
+        merged[old + left - 1] = RelaxDelta {
+            input_offset,
+            cumulative_deleted: bytes,
+            bytes_deleted,
+        };
+        bytes -= u64::from(bytes_deleted);
+        left -= 1;
+    }
+    while old > 0 {
+        let delta = deltas[old - 1];
+        merged[old - 1] = RelaxDelta {
+            cumulative_deleted: bytes,
             ..delta
         };
+        bytes -= u64::from(delta.bytes_deleted);
+        old -= 1;
     }
 }
 

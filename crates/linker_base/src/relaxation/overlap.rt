@@ -1,6 +1,7 @@
 //! Tests of lists of deletions. None takes memory.
 
-ghost use Rattle.std.specs.Prelude.{◌≡◌, ◌≤◌, ◌<◌, ◌+◌, ◌++◌, ◌↔◌, ℕ, max, IsTrue, MatchOption, All, map, length, take};
+ghost use Rattle.std.specs.Prelude.{◌≡◌, ◌≤◌, ◌<◌, ◌+◌, ◌-◌, ◌++◌, ◌↔◌, ℕ, max, IsTrue};
+ghost use Rattle.std.specs.Prelude.{MatchOption, All, map, length, take, slice_index_or};
 ghost use Rattle.linker_base.specs.Deletions.{IsBefore, DoNotOverlap, EndFits, AreDisjoint, IsValid};
 ghost use Rattle.linker_base.specs.Deltas.{deletion_of, pairs_of};
 ghost use Rattle.linker_base.specs.Listed.{IsFirstInvalid, IsFirstOverlapping, AreValidTogether};
@@ -60,13 +61,44 @@ fn end_fits(pair: (u64, u32)) -> bool
 pub fn first_invalid<D: AsDeletion>(deletions: &[D]) -> Option<usize>
     ensures { MatchOption result (IsValid (map D.deletion deletions.now)) (IsFirstInvalid (map D.deletion deletions.now)) }
 {
-    for at in 0..deletions.len() {
-        let here = deletions[at].as_deletion();
-        if !end_fits(here) || at > 0 && !is_before(deletions[at - 1].as_deletion(), here) {
-            return Some(at);
-        }
+    let rising = count_rising(deletions);
+    if rising > 0 && !end_fits(deletions[rising - 1].as_deletion()) {
+        return Some(rising - 1);
+    }
+    if rising < deletions.len() {
+        return Some(rising);
     }
     None
+}
+
+// How many of the first deletions lie each below the next. So all of them but the last fit. Two are
+// tested in a turn.
+#[inline]
+fn count_rising<D: AsDeletion>(deletions: &[D]) -> usize
+    ensures within { result ≤ length deletions.now }
+    ensures rising { (k : ℕ) → k + 1 < result
+        → IsBefore (slice_index_or (map D.deletion deletions.now) k (0, 0))
+        (slice_index_or (map D.deletion deletions.now) (k + 1) (0, 0)) }
+    ensures whole { result < length deletions.now → (0 < result)
+        × ¬ (IsBefore (slice_index_or (map D.deletion deletions.now) (result - 1) (0, 0))
+        (slice_index_or (map D.deletion deletions.now) result (0, 0))) }
+{
+    if deletions.is_empty() {
+        return 0;
+    }
+    let mut at = 1;
+    while at < deletions.len() - 1
+        && is_before(deletions[at - 1].as_deletion(), deletions[at].as_deletion())
+        && is_before(deletions[at].as_deletion(), deletions[at + 1].as_deletion())
+    {
+        at += 2;
+    }
+    while at < deletions.len()
+        && is_before(deletions[at - 1].as_deletion(), deletions[at].as_deletion())
+    {
+        at += 1;
+    }
+    at
 }
 
 // The index of the first of the additional deletions that overlaps a delta or an earlier one of

@@ -5,7 +5,10 @@ ghost use Rattle.linker_base.specs.declared.relaxation.RelaxDelta.{RelaxDelta};
 ghost use Rattle.linker_base.specs.declared.relaxation.partition_point.Level.TheVariants.{Heads, Deltas};
 ghost use Rattle.linker_base.specs.declared.relaxation.partition_point.Level.{Level};
 ghost use Rattle.linker_base.specs.declared.relaxation.partition_point.Test.{Test};
-ghost use Rattle.linker_base.specs.Inner.PartitionPoint.{passes, head_passes, IsRangeOf, IsPartitioned, IsPointOf, IsNarrowed, CanHalve, HeadsAgree, Narrows, IsPowerOfTwo, IsPartOf};
+ghost use Rattle.linker_base.specs.Inner.PartitionPoint.{passes, head_passes, IsRangeOf, IsPartOf};
+ghost use Rattle.linker_base.specs.Inner.PartitionPoint.{IsPartitioned, IsPointOf, IsNarrowed};
+ghost use Rattle.linker_base.specs.Inner.PartitionPoint.{CanHalve, HeadsAgree, IsPowerOfTwo};
+ghost use Rattle.linker_base.specs.Inner.PartitionPoint.{Narrows};
 
 use super::RelaxDelta;
 use super::blocks::{BLOCK_LEN, BlockHead};
@@ -95,7 +98,8 @@ fn halve<P: Probe>(probe: &mut P, level: Level, test: Test, range: SearchRange) 
     ensures same_size { P.size probe.new ≡ P.size probe.old }
     ensures same { P.passing probe.new ≡ P.passing probe.old }
     ensures same_deltas { P.deltas probe.new ≡ P.deltas probe.old }
-    ensures narrows { Narrows (P.passing probe.old level test) (P.size probe.old level) range (P.probes probe.old) result (P.probes probe.new) }
+    ensures narrows { Narrows (P.passing probe.old level test) (P.size probe.old level) range
+        (P.probes probe.old) result (P.probes probe.new) }
     ensures half { 2 * result.len ≤ range.len + 1 }
     ensures counted { P.probes probe.new ≤ P.probes probe.old + 1 }
 {
@@ -133,7 +137,8 @@ fn choose<P: Probe>(
     ensures same_size { P.size probe.new ≡ P.size probe.old }
     ensures same { P.passing probe.new ≡ P.passing probe.old }
     ensures same_deltas { P.deltas probe.new ≡ P.deltas probe.old }
-    ensures narrows { Narrows (P.passing probe.old level test) (P.size probe.old level) range (P.probes probe.old) result (P.probes probe.new) }
+    ensures narrows { Narrows (P.passing probe.old level test) (P.size probe.old level) range
+        (P.probes probe.old) result (P.probes probe.new) }
     ensures len { result.len ≡ width }
     ensures counted { P.probes probe.new ≤ P.probes probe.old + 1 }
 {
@@ -166,7 +171,8 @@ fn narrow<P: Probe>(
     ensures same_size { P.size probe.new ≡ P.size probe.old }
     ensures same { P.passing probe.new ≡ P.passing probe.old }
     ensures same_deltas { P.deltas probe.new ≡ P.deltas probe.old }
-    ensures narrows { Narrows (P.passing probe.old level test) (P.size probe.old level) part (P.probes probe.old) result (P.probes probe.new) }
+    ensures narrows { Narrows (P.passing probe.old level test) (P.size probe.old level) part
+        (P.probes probe.old) result (P.probes probe.new) }
     ensures part { IsPartOf all width result }
     ensures counted { P.probes probe.new ≤ P.probes probe.old + 1 }
 {
@@ -200,7 +206,8 @@ fn narrow_five_times<P: Probe>(
     ensures same_size { P.size probe.new ≡ P.size probe.old }
     ensures same { P.passing probe.new ≡ P.passing probe.old }
     ensures same_deltas { P.deltas probe.new ≡ P.deltas probe.old }
-    ensures narrows { Narrows (P.passing probe.old level test) (P.size probe.old level) part (P.probes probe.old) result (P.probes probe.new) }
+    ensures narrows { Narrows (P.passing probe.old level test) (P.size probe.old level) part
+        (P.probes probe.old) result (P.probes probe.new) }
     ensures part { IsPartOf all width result }
     ensures counted { P.probes probe.new ≤ P.probes probe.old + 5 }
 {
@@ -249,7 +256,8 @@ fn shorten<P: Probe>(probe: &mut P, level: Level, test: Test, range: SearchRange
     ensures same_size { P.size probe.new ≡ P.size probe.old }
     ensures same { P.passing probe.new ≡ P.passing probe.old }
     ensures same_deltas { P.deltas probe.new ≡ P.deltas probe.old }
-    ensures narrows { Narrows (P.passing probe.old level test) (P.size probe.old level) range (P.probes probe.old) result (P.probes probe.new) }
+    ensures narrows { Narrows (P.passing probe.old level test) (P.size probe.old level) range
+        (P.probes probe.old) result (P.probes probe.new) }
     ensures short { result.len ≤ 1048576 }
     ensures room { P.probes probe.new < 2 ^ 61 }
 {
@@ -374,7 +382,9 @@ pub(super) fn search_many<P: Probe>(probe: &mut P, test: Test) -> usize
     ensures same { P.passing probe.new ≡ P.passing probe.old }
     ensures same_deltas { P.deltas probe.new ≡ P.deltas probe.old }
     ensures within { result ≤ P.size probe.old Deltas }
-    ensures point { IsPartitioned (P.passing probe.old Deltas test) (P.size probe.old Deltas) → HeadsAgree (P.passing probe.old Heads test) (P.passing probe.old Deltas test) (P.size probe.old Heads) (P.size probe.old Deltas)
+    ensures point { IsPartitioned (P.passing probe.old Deltas test) (P.size probe.old Deltas)
+        → HeadsAgree (P.passing probe.old Heads test) (P.passing probe.old Deltas test)
+        (P.size probe.old Heads) (P.size probe.old Deltas)
         → IsPointOf (P.passing probe.old Deltas test) (P.size probe.old Deltas) result }
     ensures spent { P.size probe.old Deltas ≤ 64 * P.size probe.old Heads
         → (digits : ℕ) → P.size probe.old Heads < 2 ^ digits

@@ -3,7 +3,7 @@
 
 use super::blocked_slice::BlockedSlice;
 use super::blocks::{BlockHead, count_blocks, write_heads};
-use super::merge::{copy_summed, merge_ascending};
+use super::merge::merge_into;
 use super::overlap::{self, AsDeletion};
 use super::partition_point::FEW;
 use super::walk::{Reached, ascend, walk};
@@ -199,7 +199,6 @@ impl<'a> DeltaSlice<'a> {
     pub fn merge_ascending<D: AsDeletion>(&self, additional: &[D], merged: &mut [RelaxDelta]) {
         debug_assert!((merged.len() as u128) == (self.len() as u128) + (additional.len() as u128));
         debug_assert!(self.can_merge_ascending(additional));
-        copy_summed(self.deltas, merged);
-        let _kept = merge_ascending(merged, self.deltas.len(), additional);
+        merge_into(self.deltas, additional, merged);
     }
 }

@@ -69,15 +69,42 @@ fn append(deltas: &mut Vec<RelaxDelta>, pairs: &[(u64, u32)]) {
     }
 }
 
-// Writes the deltas in front of the others, with sums made anew.
-pub(super) fn copy_summed(deltas: &[RelaxDelta], merged: &mut [RelaxDelta]) {
-    let mut cumulative_deleted = 0;
-    for (at, &delta) in deltas.iter().enumerate() {
-        cumulative_deleted += u64::from(delta.bytes_deleted);
-        merged[at] = RelaxDelta {
-            cumulative_deleted,
+// Writes the deltas of the deletions of both lists, from the back, with sums made anew.
+pub(super) fn merge_into<D: AsDeletion>(
+    deltas: &[RelaxDelta],
+    additional: &[D],
+    merged: &mut [RelaxDelta],
+) {
+    let mut old = deltas.len();
+    let mut left = additional.len();
+    let mut bytes = bytes_in(deltas) + bytes_in(additional);
+    while left > 0 {
+        let (input_offset, bytes_deleted) = additional[left - 1].as_deletion();
+        while old > 0 && input_offset < deltas[old - 1].input_offset {
+            let delta = deltas[old - 1];
+            merged[old + left - 1] = RelaxDelta {
+                cumulative_deleted: bytes,
+                ..delta
+            };
+            bytes -= u64::from(delta.bytes_deleted);
+            old -= 1;
+        }
+        merged[old + left - 1] = RelaxDelta {
+            input_offset,
+            cumulative_deleted: bytes,
+            bytes_deleted,
+        };
+        bytes -= u64::from(bytes_deleted);
+        left -= 1;
+    }
+    while old > 0 {
+        let delta = deltas[old - 1];
+        merged[old - 1] = RelaxDelta {
+            cumulative_deleted: bytes,
             ..delta
         };
+        bytes -= u64::from(delta.bytes_deleted);
+        old -= 1;
     }
 }
 

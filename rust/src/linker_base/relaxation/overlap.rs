@@ -42,13 +42,36 @@ fn end_fits(pair: (u64, u32)) -> bool {
 /// list is valid.
 #[inline]
 pub fn first_invalid<D: AsDeletion>(deletions: &[D]) -> Option<usize> {
-    for at in 0..deletions.len() {
-        let here = deletions[at].as_deletion();
-        if !end_fits(here) || at > 0 && !is_before(deletions[at - 1].as_deletion(), here) {
-            return Some(at);
-        }
+    let rising = count_rising(deletions);
+    if rising > 0 && !end_fits(deletions[rising - 1].as_deletion()) {
+        return Some(rising - 1);
+    }
+    if rising < deletions.len() {
+        return Some(rising);
     }
     None
+}
+
+// How many of the first deletions lie each below the next. So all of them but the last fit. Two are
+// tested in a turn.
+#[inline]
+fn count_rising<D: AsDeletion>(deletions: &[D]) -> usize {
+    if deletions.is_empty() {
+        return 0;
+    }
+    let mut at = 1;
+    while at < deletions.len() - 1
+        && is_before(deletions[at - 1].as_deletion(), deletions[at].as_deletion())
+        && is_before(deletions[at].as_deletion(), deletions[at + 1].as_deletion())
+    {
+        at += 2;
+    }
+    while at < deletions.len()
+        && is_before(deletions[at - 1].as_deletion(), deletions[at].as_deletion())
+    {
+        at += 1;
+    }
+    at
 }
 
 // The index of the first of the additional deletions that overlaps a delta or an earlier one of

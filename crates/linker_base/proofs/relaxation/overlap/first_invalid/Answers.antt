@@ -1,46 +1,59 @@
-use Rattle.std.proofs.Common.{◌≡◌, ℕ, ◌+◌, ◌-◌, ◌*◌, ◌<◌, length, map, get_or, true, sym, ◌∙◌, arith}
-use Rattle.std.proofs.lemmas.Bool.{false≢true, not-true, not-false, ltb-true}
-use Rattle.std.proofs.lemmas.List.{get_or-map, length-map}
-use Rattle.linker_base.proofs.Listed.{IsValid-more, first_invalid_at}
+use Rattle.std.proofs.Common.{◌≡◌, ◌+◌, ◌-◌, ◌<◌, ◌≤◌, length, map, get_or, sym, ◌∙◌, arith}
+use Rattle.std.proofs.lemmas.Bool.{false≢true}
+use Rattle.std.proofs.lemmas.List.{get_or-map, length-map, take_all}
+use Rattle.linker_base.specs.Deletions.{EndFits}
+use Rattle.linker_base.proofs.Listed.{valid_from_rising, first_invalid_at}
 use Rattle.linker_base.proofs.relaxation.overlap.first_invalid.Goals as goal
-use Rattle.linker_base.proofs.relaxation.overlap.first_invalid.Goals.{then-not-end_fits-via-then-not-end_fits, then-not-end_fits-via-else-not-end_fits+then-not-is_before, then-at-gt0, else-at-gt0}
+use Rattle.linker_base.proofs.relaxation.overlap.first_invalid.Goals.{else-rising-gt0-via-then-rising-gt0+else-not-end_fits, else-rising-gt0-via-else-rising-gt0}
 
--- a deletion that doesn't fit, or doesn't lie past the one before it
+-- the last that lies past the one before doesn't fit
 pub returns-then-not-end_fits : goal.returns-then-not-end_fits
 returns-then-not-end_fits g c =
     let f = g.D.AsDeletion.deletion in
     let xs = c.args.deletions.now in
-    let k = c.loop-at.at in
-    let within = c.loop-at-test.true in
-    let inside : k < length (map f xs) = omega (arith, length-map xs f) in
-    let here : get_or (map f xs) k (0, 0) ≡ c.as_deletion-here.result = get_or-map f xs k c.index-deletions-at.result (0, 0) within ∙ rw (← c.index-deletions-at.is) (sym c.as_deletion-here.ensures) in
-    first_invalid_at (map f xs) k inside c.loop-at.invariant (rw here (λ fits before. elim c.then-not-end_fits.branch [
-      | then-not-end_fits-via-then-not-end_fits w ↦ false≢true (sym w.if-not-end_fits.true ∙ c.end_fits.ensures.1 fits)
-      | then-not-end_fits-via-else-not-end_fits+then-not-is_before w ↦ elim w.if-at-gt0.branch [
-        | then-at-gt0 v ↦
-            let earlier : k - 1 < length xs = omega arith in
-            let last : get_or (map f xs) (k - 1) (0, 0) ≡ v.as_deletion.result = get_or-map f xs (k - 1) v.index-deletions-at-then-at-gt0.result (0, 0) earlier ∙ rw (← v.index-deletions-at-then-at-gt0.is) (sym v.as_deletion.ensures) in
-            let not_before = not-true v.is_before.result (sym v.value-is ∙ w.if-not-is_before.true) in
-            false≢true (sym not_before ∙ v.is_before.ensures.1 (rw last at (before (omega arith))))
-        | else-at-gt0 v ↦
-            let positive : 0 < k = ltb-true 0 k (sym v.value-is ∙ w.if-not-is_before.true) in
-            omega (arith, positive, v.if-at-gt0.false)
-      ]
-    ]))
+    let ds = map f xs in
+    let count = c.count_rising-rising.result in
+    let rising = c.count_rising-rising.ensures.rising in
+    let low : count - 1 < length xs = omega (arith, c.count_rising-rising.ensures.within, c.if-rising-gt0.true) in
+    let inside : count - 1 < length ds = omega (arith, low, length-map xs f) in
+    let here : get_or ds (count - 1) (0, 0) ≡ c.as_deletion.result = get_or-map f xs (count - 1) c.index-deletions-rising.result (0, 0) low ∙ rw (← c.index-deletions-rising.is) (sym c.as_deletion.ensures) in
+    first_invalid_at ds (count - 1) inside
+    (valid_from_rising ds (count - 1) (omega arith) (λ k below. rising k (omega arith)) (λ some.
+    let one : count - 1 - 1 + 1 ≡ count - 1 = omega arith in
+    let before = rw (one, here) at (rising (count - 1 - 1) (omega arith)) in
+    omega (arith, before.1)))
+    (λ fits before. false≢true (sym c.if-not-end_fits.true ∙ c.end_fits.ensures.1 (rw here at fits)))
 
-pub loop-at-preserved : goal.loop-at-preserved
-loop-at-preserved g c =
+-- the last of the rising ones fits
+pub returns-then-rising-deletions : goal.returns-then-rising-deletions
+returns-then-rising-deletions g c =
     let f = g.D.AsDeletion.deletion in
     let xs = c.args.deletions.now in
-    let k = c.loop-at.at in
-    let within = c.loop-at-test.true in
-    let inside : k < length (map f xs) = omega (arith, length-map xs f) in
-    let here : get_or (map f xs) k (0, 0) ≡ c.as_deletion-here.result = get_or-map f xs k c.index-deletions-at.result (0, 0) within ∙ rw (← c.index-deletions-at.is) (sym c.as_deletion-here.ensures) in
-    let fits = c.end_fits.ensures.0 c.if-not-end_fits.false in
-    IsValid-more (map f xs) k inside c.loop-at.invariant (rw here fits) (rw here (λ positive. elim c.if-at-gt0.branch [
-      | then-at-gt0 w ↦
-          let before : k - 1 < length xs = omega arith in
-          let last : get_or (map f xs) (k - 1) (0, 0) ≡ w.as_deletion.result = get_or-map f xs (k - 1) w.index-deletions-at-then-at-gt0.result (0, 0) before ∙ rw (← w.index-deletions-at-then-at-gt0.is) (sym w.as_deletion.ensures) in
-          rw last (w.is_before.ensures.0 (not-false w.is_before.result (sym w.value-is ∙ c.if-not-is_before.false)))
-      | else-at-gt0 w ↦ absurd (omega arith)
-    ]))
+    let ds = map f xs in
+    let count = c.count_rising-rising.result in
+    let rising = c.count_rising-rising.ensures.rising in
+    let next = c.count_rising-rising.ensures.whole c.if-rising-deletions.true in
+    let last : 0 < count → EndFits (get_or ds (count - 1) (0, 0)) = λ some. elim c.else-rising-gt0.branch [
+      | else-rising-gt0-via-then-rising-gt0+else-not-end_fits w ↦
+          let low : count - 1 < length xs = omega (arith, c.count_rising-rising.ensures.within, some) in
+          let here : get_or ds (count - 1) (0, 0) ≡ w.as_deletion.result = get_or-map f xs (count - 1) w.index-deletions-rising.result (0, 0) low ∙ rw (← w.index-deletions-rising.is) (sym w.as_deletion.ensures) in
+          rw here (w.end_fits.ensures.0 w.if-not-end_fits.false)
+      | else-rising-gt0-via-else-rising-gt0 w ↦ absurd (omega (arith, some, w.if-rising-gt0.false))
+    ] in
+    first_invalid_at ds count (omega (arith, c.if-rising-deletions.true, length-map xs f)) (valid_from_rising ds count (omega (arith, c.if-rising-deletions.true, length-map xs f)) rising last) (λ fits before. next.1 (before next.0))
+
+pub returns : goal.returns
+returns g c =
+    let f = g.D.AsDeletion.deletion in
+    let xs = c.args.deletions.now in
+    let ds = map f xs in
+    let count = c.count_rising-rising.result in
+    let last : 0 < count → EndFits (get_or ds (count - 1) (0, 0)) = λ some. elim c.else-rising-gt0.branch [
+      | else-rising-gt0-via-then-rising-gt0+else-not-end_fits w ↦
+          let low : count - 1 < length xs = omega (arith, c.count_rising-rising.ensures.within, some) in
+          let here : get_or ds (count - 1) (0, 0) ≡ w.as_deletion.result = get_or-map f xs (count - 1) w.index-deletions-rising.result (0, 0) low ∙ rw (← w.index-deletions-rising.is) (sym w.as_deletion.ensures) in
+          rw here (w.end_fits.ensures.0 w.if-not-end_fits.false)
+      | else-rising-gt0-via-else-rising-gt0 w ↦ absurd (omega (arith, some, w.if-rising-gt0.false))
+    ] in
+    let whole : length ds ≤ count = omega (arith, c.if-rising-deletions.false, length-map xs f) in
+    rw (take_all count ds whole) at (valid_from_rising ds count (omega (arith, c.count_rising-rising.ensures.within, length-map xs f)) c.count_rising-rising.ensures.rising last)

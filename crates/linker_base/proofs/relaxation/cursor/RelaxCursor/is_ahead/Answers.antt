@@ -1,6 +1,7 @@
-use Rattle.std.proofs.Common.{◌≡◌, ◌-◌, ◌<◌, length, map, arith}
+use Rattle.std.proofs.Common.{◌≡◌, ◌-◌, ◌<◌, length, map, refl, inl, inr, arith}
+use Rattle.std.proofs.lemmas.Bool.{cases_lt}
 use Rattle.std.proofs.lemmas.Bool.Decides.{nat_tests}
-use Rattle.std.proofs.lemmas.List.{length-map}
+use Rattle.std.proofs.lemmas.List.{length-map, length-take}
 use Rattle.linker_base.specs.Deltas.{deletion_of}
 use Rattle.linker_base.proofs.Search.{blank, deletion_at}
 use Rattle.linker_base.proofs.Walking.{taken_begin_below}
@@ -17,3 +18,19 @@ returns-in-Some c =
     let all = taken_begin_below ds c.self.invariant.listed.valid.ascending c.args.input_offset passed (omega (arith, c.in-Some.ensures.0)) (omega (arith, length-map deltas deletion_of, c.self.invariant.within)) in
     let here = rw (at, deletion_at deltas c.in-Some.last blank (0, 0) within) at all in
     rw (← c.self.view_is) (λ low. here.0 (grind (arith, nat_tests)), λ below. let low = here.1 below in grind (arith, nat_tests))
+
+-- the last one's end lies below the offset, or none is passed
+pub returns-then-self-input_offset : goal.returns-then-self-input_offset
+returns-then-self-input_offset c =
+    let deltas = c.self.inside.deltas.now in
+    let ds = map deletion_of deltas in
+    let passed = c.self.inside.reached.passed in
+    rw (← c.self.view_is) (
+      λ _. elim (cases_lt 0 passed) [
+        | inl some ↦
+            let end = c.self.invariant.walked.end.last (0, 0) some in
+            (taken_begin_below ds c.self.invariant.listed.valid.ascending c.args.input_offset passed some (omega (arith, length-map deltas deletion_of, c.self.invariant.within))).0 (omega (arith, end, c.if-self-input_offset.true))
+        | inr none ↦ λ k d inside. absurd (omega (arith, none, inside, length-take passed ds))
+      ],
+      λ _. refl,
+    )

@@ -1,0 +1,22 @@
+use Rattle.std.proofs.Common.{map}
+use Rattle.linker_base.specs.Deltas.{deletion_of}
+use Rattle.linker_base.proofs.InPlace.{IsWriting}
+use Rattle.linker_base.proofs.relaxation.merge.merge_into.Given as goal
+
+abbrev pub invariant-loop-left : goal.invariant-loop-left
+invariant-loop-left g l = IsWriting (map deletion_of l.deltas) (map g.D.AsDeletion.deletion l.additional) l.old l.left l.merged l.bytes
+
+abbrev pub decreases-loop-left : goal.decreases-loop-left
+decreases-loop-left g l = l.left
+
+abbrev pub invariant-loop-old : goal.invariant-loop-old
+invariant-loop-old g l = IsWriting (map deletion_of l.deltas) (map g.D.AsDeletion.deletion l.additional) l.old l.left l.merged l.bytes
+
+abbrev pub decreases-loop-old : goal.decreases-loop-old
+decreases-loop-old g l = l.old
+
+abbrev pub invariant-loop-old-2 : goal.invariant-loop-old-2
+invariant-loop-old-2 g l = IsWriting (map deletion_of l.deltas) (map g.D.AsDeletion.deletion l.additional) l.old 0 l.merged l.bytes
+
+abbrev pub decreases-loop-old-2 : goal.decreases-loop-old-2
+decreases-loop-old-2 g l = l.old
