@@ -1,0 +1,116 @@
+/* Links objects of which one is damaged, and fails where the linker then does anything but write a
+ * file or end with an error.
+ *
+ * usage: damaged CASES SEED OUTPUT OBJECT...
+ * Half of the cases set a field of the header or of a section's header to an extreme number, the
+ * others change some random bytes. With -DGUARDED each block of memory stands right before a page
+ * that may not be touched, so that what the archive reads and writes is seen too. */
+#define _GNU_SOURCE
+#include <elf.h>
+#include <stdint.h>
+#include <stdio.h>
+#include <stdlib.h>
+#include <string.h>
+#include <sys/mman.h>
+#include <sys/wait.h>
+#include <unistd.h>
+
+#define main link_main
+#ifdef GUARDED
+#define GUARD ((size_t)4096)
+static struct {
+    void *block;
+    size_t len;
+} blocks[100000];
+static size_t blocks_len;
+
+static void *guarded_calloc(size_t count, size_t size) {
+    if (size && count > ((size_t)1 << 40) / size) return NULL;
+    size_t len = count * size, room = (len + GUARD - 1) / GUARD * GUARD;
+    char *pages = mmap(NULL, room + GUARD, PROT_READ | PROT_WRITE,
+                       MAP_PRIVATE | MAP_ANONYMOUS | MAP_NORESERVE, -1, 0);
+    if (pages == MAP_FAILED || mprotect(pages + room, GUARD, PROT_NONE)) return NULL;
+    blocks[blocks_len].block = pages + room - len;
+    blocks[blocks_len].len = len;
+    return blocks[blocks_len++].block;
+}
+
+static void *guarded_realloc(void *old, size_t size) {
+    void *block = guarded_calloc(size, 1);
+    for (size_t i = 0; block && i < blocks_len; i++)
+        if (old && blocks[i].block == old)
+            memcpy(block, old, blocks[i].len < size ? blocks[i].len : size);
+    return block;
+}
+#define calloc guarded_calloc
+#define realloc guarded_realloc
+#endif
+#include "../link.c"
+#undef main
+#undef calloc
+#undef realloc
+
+#define MOST ((size_t)1 << 20)
+
+static uint64_t state;
+
+static uint64_t below(uint64_t bound) { /* xorshift64 */
+    state ^= state << 13;
+    state ^= state >> 7;
+    state ^= state << 17;
+    return state % bound;
+}
+
+static void set_field(uint8_t *bytes, size_t len) {
+    static const uint64_t extremes[] = {
+        0, 1, 0x7f, 0xff, 0xffff, 0x7fffffff, 0xffffffff, INT64_MAX, UINT64_MAX - 63, UINT64_MAX};
+    static const uint8_t sizes[] = {2, 4, 8, 8, 8};
+    uint64_t value = extremes[below(10)];
+    size_t size = sizes[below(5)], at = below(sizeof(Elf64_Ehdr) / 2) * 2;
+    Elf64_Ehdr head;
+    memcpy(&head, bytes, sizeof head);
+    if (below(8)) at = head.e_shoff + below(head.e_shnum * sizeof(Elf64_Shdr) / size) * size;
+    if (at + size <= len) memcpy(bytes + at, &value, size);
+}
+
+static void change_bytes(uint8_t *bytes, size_t len) {
+    for (uint64_t i = below(8) + 1; i; i--) bytes[below(len)] = (uint8_t)below(256);
+}
+
+int main(int argc, char **argv) {
+    static uint8_t bytes[MOST];
+    static char damaged[4096];
+    if (argc < 5) return 2;
+    state = strtoull(argv[2], NULL, 0) * 2654435761 + 88172645463325252;
+    snprintf(damaged, sizeof damaged, "%s.damaged", argv[3]);
+    unsigned long linked = 0, cases = strtoul(argv[1], NULL, 0);
+    for (unsigned long i = 0; i < cases; i++) {
+        char **object = &argv[4 + below((uint64_t)argc - 4)], *path = *object;
+        FILE *file = fopen(path, "rb");
+        size_t len = file ? fread(bytes, 1, MOST, file) : 0;
+        if (!len || fclose(file)) return 2;
+        (i % 2 ? set_field : change_bytes)(bytes, len);
+        if (!below(16)) len = below(len);
+        file = fopen(damaged, "wb");
+        if (!file || fwrite(bytes, 1, len, file) != len || fclose(file)) return 2;
+        pid_t child = fork();
+        if (!child) {
+            char *arguments[64] = {argv[0], (char[]){"-o"}, argv[3]};
+            int count = 3;
+            for (int j = 4; j < argc && count < 63; j++)
+                arguments[count++] = &argv[j] == object ? damaged : argv[j];
+            alarm(20);
+            if (!freopen("/dev/null", "w", stderr)) exit(2);
+            exit(link_main(count, arguments));
+        }
+        int status;
+        if (child < 0 || waitpid(child, &status, 0) != child) return 2;
+        if (!WIFEXITED(status) || WEXITSTATUS(status) > 1) {
+            printf("%s, damaged as %s: status 0x%x\n", path, damaged, (unsigned)status);
+            return 1;
+        }
+        linked += !WEXITSTATUS(status);
+    }
+    printf("%lu damaged, %lu of them linked all the same\n", cases, linked);
+    return 0;
+}
