@@ -420,6 +420,19 @@ fn arms(source: &str, path: &str) -> Numbers {
     found
 }
 
+/// The elements `..::NAME` of a constant array of the proved library's sources, by their places.
+fn listed(source: &str, array: &str, path: &str) -> Numbers {
+    let (_, rest) = source
+        .split_once(&format!("const {array}: "))
+        .expect("the array");
+    let (elements, _) = rest
+        .split_once(" = [")
+        .and_then(|(_, rest)| rest.split_once(']'))
+        .expect("its elements");
+    let name = |element: String| letters(element.strip_prefix(path).expect("the path"));
+    list(elements).map(name).zip(0..).collect()
+}
+
 /// The lines `NAME = NUMBER` of a definition in the proved library's specifications.
 fn equations(specs: &str, defined: &str) -> Numbers {
     let mut found = Numbers::new();
@@ -495,7 +508,7 @@ fn the_numbers_are_those_of_the_library() {
         numbers(LoongArch64Form::ALL, |it| it.number().into()),
         loongarch64
     );
-    let ppc64 = arms(&forms, "Ppc64Instruction::");
+    let ppc64 = listed(&forms, "PPC64_FORMS", "Ppc64Instruction::");
     assert_eq!(constants("ppc64_form", "PPC64_FORM_"), ppc64);
     assert_eq!(numbers(Ppc64Form::ALL, |it| it.number().into()), ppc64);
 

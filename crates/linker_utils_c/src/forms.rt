@@ -71,18 +71,21 @@ fn loongarch64_form(number: u32) -> Option<LoongArch64Instruction>
     Some(form)
 }
 
+/// In order of their numbers. A match would be merged with those of the calls, which tell
+/// `Prefixed` from the others, into a jump by the number.
+const PPC64_FORMS: [Ppc64Instruction; 5] = [
+    Ppc64Instruction::D,
+    Ppc64Instruction::Ds,
+    Ppc64Instruction::Branch14,
+    Ppc64Instruction::Branch24,
+    Ppc64Instruction::Prefixed,
+];
+
 #[inline(always)]
 fn ppc64_form(number: u32) -> Option<Ppc64Instruction>
     ensures { result ≡ slice_get ppc64_forms number }
 {
-    let form = match number {
-        0 => Ppc64Instruction::D,
-        1 => Ppc64Instruction::Ds,
-        2 => Ppc64Instruction::Branch14,
-        3 => Ppc64Instruction::Branch24,
-        _ => return None,
-    };
-    Some(form)
+    PPC64_FORMS.get(number as usize).copied()
 }
 
 /// The form of a machine and a number, or which of the two is unknown.
