@@ -4,12 +4,14 @@
 use sathunne::*;
 
 /// What both differ in: a type, and why. docs/DIFFERENCES.md says more of each.
-const DIFFERENT: [(&str, usize, &str); 10] = [
+const DIFFERENT: [(&str, usize, &str); 12] = [
     ("R_AARCH64_MOVW_PREL_G3", 1, "lld leaves MOVZ where it is"),
     ("R_AARCH64_TSTBR14", 2, "lld drops the two lowest bits"),
     ("R_RISCV_32", 2, "lld has no check"),
     ("R_RISCV_LO12_I", 2, "lld checks the high half alone"),
     ("R_RISCV_LO12_S", 2, "lld checks the high half alone"),
+    ("R_RISCV_TPREL_LO12_I", 2, "lld checks the high half alone"),
+    ("R_RISCV_TPREL_LO12_S", 2, "lld checks the high half alone"),
     ("R_RISCV_SET32", 1, "lld asks for 32 signed bits"),
     ("R_RISCV_32_PCREL", 1, "lld asks for 32 signed bits"),
     ("R_RISCV_PLT32", 1, "lld asks for 32 signed bits"),
