@@ -228,7 +228,8 @@ enum linker_utils_ppc64_form {
     LINKER_UTILS_PPC64_FORM_D = 0, /* bits 0 to 15 */
     LINKER_UTILS_PPC64_FORM_DS = 1, /* bits 2 to 15, in bytes */
     LINKER_UTILS_PPC64_FORM_BRANCH14 = 2, /* bc: bits 2 to 15, in bytes */
-    LINKER_UTILS_PPC64_FORM_BRANCH24 = 3 /* b, bl: bits 2 to 25, in bytes */
+    LINKER_UTILS_PPC64_FORM_BRANCH24 = 3, /* b, bl: bits 2 to 25, in bytes */
+    LINKER_UTILS_PPC64_FORM_PREFIXED = 4 /* paddi, pld, 8 bytes: bits 16 to 33, then 0 to 15 */
 };
 
 /* The archive's own symbols for these calls: null is not allowed there. Programs call the functions

@@ -6,8 +6,8 @@ pub mod laws;
 mod relocations;
 
 use crate::bit_misc::BitExtraction;
-use crate::elf::engine::Window;
-use crate::elf::{InstructionForm, InstructionRewrite, Ppc64Instruction};
+use crate::elf::engine::{self, Run, Window, run};
+use crate::elf::{InstructionForm, InstructionRewrite, Ppc64Instruction, RelocationInstruction};
 use crate::relaxation::RelocationModifier;
 pub use relocations::{Ppc64Relocation, relocation_type_from_raw};
 
@@ -68,24 +68,34 @@ impl InstructionRewrite for RelaxationKind {
     }
 }
 
+/// The bits that each form holds in its word. A match of them would be merged with that of `place`,
+/// into a jump by the form.
+const MASKS: [u64; 5] = [0xffff, 0xfffc, 0xfffc, 0x03ff_fffc, 0];
+
+const PREFIXED: [Run; 2] = [run!(0, 32, 16), run!(16, 0, 18)];
+
 impl Ppc64Instruction {
-    /// The bits that a form holds: they stand in the word where they stand in the value. LLVM takes
-    /// the mask from a table, where a match of runs would be a jump by the form.
+    /// The bits of the word that a form of one word holds: they stand there where they stand in the
+    /// value.
     #[inline(always)]
     fn mask(self) -> u64 {
-        match self {
-            Ppc64Instruction::D => 0xffff,
-            Ppc64Instruction::Ds | Ppc64Instruction::Branch14 => 0xfffc,
-            Ppc64Instruction::Branch24 => 0x03ff_fffc,
-        }
+        MASKS[self as usize]
     }
 
     /// Writes the bits of a value.
     #[inline(always)]
     fn place(self, value: u64, _negative: bool, dest: &mut [u8]) {
-        let mask = self.mask();
-        let word = Window::Four.load(dest) & !mask | value & mask;
-        Window::Four.store(word, dest);
+        match self {
+            Ppc64Instruction::Prefixed => {
+                let insn = RelocationInstruction::Ppc64(self);
+                engine::write_form(insn, Window::Eight, &PREFIXED, value, _negative, dest);
+            }
+            _ => {
+                let mask = self.mask();
+                let word = Window::Four.load(dest) & !mask | value & mask;
+                Window::Four.store(word, dest);
+            }
+        }
     }
 
     /// Writes a value into the instruction that `dest` begins with. Only the form's bits change.
@@ -109,14 +119,23 @@ impl Ppc64Instruction {
     #[inline]
     pub fn read_value(self, bytes: &[u8]) -> (u64, bool) {
         debug_assert!(self.window() <= bytes.len());
-        (Window::Four.load(bytes) & self.mask(), false)
+        match self {
+            Ppc64Instruction::Prefixed => {
+                let insn = RelocationInstruction::Ppc64(self);
+                engine::read_form(insn, Window::Eight, &PREFIXED, bytes)
+            }
+            _ => (Window::Four.load(bytes) & self.mask(), false),
+        }
     }
 }
 
 impl InstructionForm for Ppc64Instruction {
     #[inline]
     fn window(self) -> usize {
-        4
+        match self {
+            Ppc64Instruction::Prefixed => 8,
+            _ => 4,
+        }
     }
 
     #[inline]

@@ -255,6 +255,7 @@ numbered! {
         Ds = 1,
         Branch14 = 2,
         Branch24 = 3,
+        Prefixed = 4,
     }
 }
 

@@ -240,7 +240,7 @@ fn rejects_forms_and_values() {
     let (at, unknown) = (bytes.as_ptr(), Status::UnknownArchitecture.number());
     // SAFETY: the slice is `bytes`, and the references are of one value.
     unsafe {
-        for (machine, forms) in [(183, 11), (243, 9), (258, 6), (21, 4)] {
+        for (machine, forms) in [(183, 11), (243, 9), (258, 6), (21, 5)] {
             let status = raw::linker_utils_window(machine, forms, &mut len);
             assert_eq!((status, len), (Status::UnknownForm.number(), 9));
         }

@@ -37,7 +37,7 @@ fn each_listed_relocation_is_found() {
         (Architecture::AArch64, "AArch64Names.antt", 114),
         (Architecture::RiscV, "RiscVNames.antt", 46),
         (Architecture::LoongArch64, "LoongArchNames.antt", 70),
-        (Architecture::Ppc64, "Ppc64Names.antt", 49),
+        (Architecture::Ppc64, "Ppc64Names.antt", 51),
         (Architecture::X86_64, "X86Names.antt", 39),
     ];
     let mut without_meaning = Vec::new();

@@ -4,12 +4,14 @@
 use sathunne::*;
 
 /// What both differ in: a type, and why. docs/DIFFERENCES.md says more of each.
-const DIFFERENT: [(&str, usize, &str); 10] = [
+const DIFFERENT: [(&str, usize, &str); 12] = [
     ("R_AARCH64_MOVW_PREL_G3", 1, "lld leaves MOVZ where it is"),
     ("R_AARCH64_TSTBR14", 2, "lld drops the two lowest bits"),
     ("R_RISCV_32", 2, "lld has no check"),
     ("R_RISCV_LO12_I", 2, "lld checks the high half alone"),
     ("R_RISCV_LO12_S", 2, "lld checks the high half alone"),
+    ("R_RISCV_TPREL_LO12_I", 2, "lld checks the high half alone"),
+    ("R_RISCV_TPREL_LO12_S", 2, "lld checks the high half alone"),
     ("R_RISCV_SET32", 1, "lld asks for 32 signed bits"),
     ("R_RISCV_32_PCREL", 1, "lld asks for 32 signed bits"),
     ("R_RISCV_PLT32", 1, "lld asks for 32 signed bits"),
@@ -122,4 +124,63 @@ fn bounds_are_those_of_lld() {
         .iter()
         .find(|&&name| DIFFERENT.iter().all(|listed| listed.0 != name));
     assert_eq!(unlisted, None);
+}
+
+/// GOT entries of relocations that the original library has no rows of, by ld.lld: the TLS
+/// descriptors of RISC-V, and the entry of a symbol of PowerPC64.
+#[test]
+fn words_of_got_entries_are_those_of_lld() {
+    // R_RISCV_TLSDESC_HI20, R_RISCV_TLSDESC_LOAD_LO12, R_RISCV_TLSDESC_ADD_LO12
+    let descriptor: &[(usize, u32)] = &[(0, 62), (4, 63), (8, 64)];
+    // R_PPC64_GOT_PCREL34
+    let entry: &[(usize, u32)] = &[(0, 133)];
+    let (auipc, pld) = ("170500008335050013050500", "00001004000060e4");
+    #[rustfmt::skip]
+    let rows = [
+        (Architecture::RiscV, descriptor, 0x100b0, 0x20008, auipc, "17050100833585f5130585f5"),
+        (Architecture::RiscV, descriptor, 0x100b0, 0x12808, auipc, "172500008335857513058575"),
+        (Architecture::RiscV, descriptor, 0x100b0, 0x7fff8008, auipc, "1785fe7f833585f5130585f5"),
+        (Architecture::Ppc64, entry, 0x100101c8, 0x100201d8, pld, "01001004100060e4"),
+    ];
+    for (architecture, relocations, place, got_entry, before, after) in rows {
+        let operands = Operands {
+            place,
+            got_entry,
+            ..Operands::default()
+        };
+        let mut section = bytes_of(before);
+        for &(offset, r_type) in relocations {
+            let value = value(architecture, r_type, &operands).expect("it has a value");
+            let done = relocate(architecture, r_type, value, &mut section[offset..]);
+            assert_eq!(done, Ok(()), "{r_type} at {place:#x}");
+        }
+        assert_eq!(section, bytes_of(after), "{place:#x}");
+    }
+    // R_RISCV_TLSDESC_CALL
+    let none = value(Architecture::RiscV, 65, &Operands::default());
+    assert_eq!(none, Err(Status::NoValue));
+}
+
+/// `paddi 3, 4, VALUE, 0` and `pld 3, VALUE(4), 0` by llvm-mc 19.
+#[test]
+fn prefixed_words_are_those_of_llvm() {
+    let rows: [(i64, &str, &str); 8] = [
+        (1, "0000000601006438", "00000004010064e4"),
+        (-1, "ffff0306ffff6438", "ffff0304ffff64e4"),
+        (8589934591, "ffff0106ffff6438", "ffff0104ffff64e4"),
+        (-8589934592, "0000020600006438", "00000204000064e4"),
+        (305419896, "3412000678566438", "34120004785664e4"),
+        (-65536, "ffff030600006438", "ffff0304000064e4"),
+        (32768, "0000000600806438", "00000004008064e4"),
+        (-32769, "ffff0306ff7f6438", "ffff0304ff7f64e4"),
+    ];
+    for (number, paddi, pld) in rows {
+        for (before, after) in [("0000000600006438", paddi), ("00000004000064e4", pld)] {
+            let mut pair = bytes_of(before);
+            let value = number as u64 & 0x3_ffff_ffff;
+            assert_eq!(write(Ppc64Form::Prefixed, value, false, &mut pair), Ok(()));
+            assert_eq!(pair, bytes_of(after), "{number}");
+            assert_eq!(read(Ppc64Form::Prefixed, &pair), Ok((value, false)));
+        }
+    }
 }

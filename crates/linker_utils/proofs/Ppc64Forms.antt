@@ -1,13 +1,15 @@
 -- The PowerPC64 forms keep the laws of forms.
-use Rattle.std.proofs.Common.{◌≡◌, ℕ, List, ◌-◌, ◌^◌, ◌<◌, Bool, refl, sym, ◌∙◌, arith}
+use Rattle.std.proofs.Common.{◌≡◌, ℕ, List, ◌-◌, ◌^◌, ◌<◌, Bool, false, refl, sym, ◌∙◌, arith}
 use Rattle.std.specs.Prelude.{bit_and, bit_or}
-use Rattle.std.specs.Int.{w32, from_le_bytes}
+use Rattle.std.specs.Int.{w32, w64, cast_unsigned, from_le_bytes}
 use Rattle.linker_base.specs.Form.{Written, MachineReads, BitsWritten, place_sum, replaced, window_of}
 use Rattle.linker_base.proofs.ConsecutiveBits.{consecutive_bits_sum}
 use Rattle.linker_base.proofs.Immediates.{layout_machine}
+use Rattle.linker_utils.specs.Inner.Masks.{word_mask}
 use Rattle.linker_utils.specs.Ppc64.{ppc64_form, ppc64_layout}
 use Rattle.linker_utils.specs.declared.elf.Ppc64Instruction.{Ppc64Instruction}
-use Rattle.linker_utils.specs.declared.elf.Ppc64Instruction.TheVariants.{D, Ds, Branch24}
+use Rattle.linker_utils.specs.declared.elf.Ppc64Instruction.TheVariants.{D, Ds, Branch14, Branch24}
+use Rattle.linker_utils.specs.declared.elf.Ppc64Instruction.TheVariants.{Prefixed}
 use Rattle.linker_utils.proofs.Runs.{masked, mask_written}
 
 pub ppc64_machine : (f : Ppc64Instruction) (v : ℕ) (neg : Bool) (before after : ℕ) → v < 2 ^ 64
@@ -36,8 +38,44 @@ pub i_written : (v x : ℕ) → v < 2 ^ 64 → x < 2 ^ 64
     → BitsWritten ((ppc64_form Branch24).places 0) v x (bit_or (bit_and x (2 ^ 64 - 1 - 0x3fffffc)) (bit_and v 0x3fffffc))
 i_written v x = mask_written 24 2 v x (omega arith) (omega arith)
 
+-- both, of each form of one word
+pub mask_reads : (f : Ppc64Instruction) → ¬ (f ≡ Prefixed) → (x : ℕ)
+    → bit_and x (word_mask f) ≡ place_sum ((ppc64_form f).places 0) x
+mask_reads D isnt = d_mask
+mask_reads Ds isnt = ds_mask
+mask_reads Branch14 isnt = ds_mask
+mask_reads Branch24 isnt = i_mask
+mask_reads Prefixed isnt = absurd (isnt refl)
+
+pub mask_writes : (f : Ppc64Instruction) → ¬ (f ≡ Prefixed) → (v x : ℕ) → v < 2 ^ 64 → x < 2 ^ 64
+    → BitsWritten ((ppc64_form f).places 0) v x
+    (bit_or (bit_and x (2 ^ 64 - 1 - word_mask f)) (bit_and v (word_mask f)))
+mask_writes D isnt = d_written
+mask_writes Ds isnt = ds_written
+mask_writes Branch14 isnt = ds_written
+mask_writes Branch24 isnt = i_written
+mask_writes Prefixed isnt = absurd (isnt refl)
+
 pub ppc64_written : (f : Ppc64Instruction) (neg : Bool) (v : ℕ) (old new : List ℕ)
+    → ¬ (f ≡ Prefixed)
     → BitsWritten ((ppc64_form f).places 0) v (from_le_bytes w32 old) (from_le_bytes w32 new)
     → Written (ppc64_form f) v neg (window_of (ppc64_form f) old) (window_of (ppc64_form f) new)
-ppc64_written D neg v old new laid = laid
-ppc64_written f neg v old new laid = laid
+ppc64_written Prefixed neg v old new isnt laid = absurd (isnt refl)
+ppc64_written f neg v old new isnt laid = laid
+
+-- all but one have a window of 4 bytes
+pub is_word : (f : Ppc64Instruction) → ¬ (f ≡ Prefixed) → (ppc64_form f).window ≡ w32
+is_word Prefixed isnt = absurd (isnt refl)
+is_word f isnt = refl
+
+-- what a read returns of them
+pub word_reads : (f : Ppc64Instruction) → ¬ (f ≡ Prefixed) → (n : ℕ) (bytes : List ℕ)
+    → n ≡ place_sum ((ppc64_form f).places 0) (from_le_bytes w32 bytes)
+    → n ≡ cast_unsigned w64 ((ppc64_form f).reading (window_of (ppc64_form f) bytes))
+word_reads Prefixed isnt n bytes is = absurd (isnt refl)
+word_reads f isnt n bytes is = is
+
+pub word_flags : (f : Ppc64Instruction) → ¬ (f ≡ Prefixed) → (bytes : List ℕ)
+    → false ≡ (ppc64_form f).flag (window_of (ppc64_form f) bytes)
+word_flags Prefixed isnt bytes = absurd (isnt refl)
+word_flags f isnt bytes = refl

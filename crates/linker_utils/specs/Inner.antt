@@ -1,5 +1,6 @@
 pub mod FormLaws
 pub mod Immediates
+pub mod Masks
 pub mod Packing
 pub mod Runs
 pub mod Shrinking

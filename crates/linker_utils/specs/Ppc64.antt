@@ -1,25 +1,25 @@
 -- PowerPC64: its instruction forms (Power ISA, "Instruction Formats"), and addresses in two halves
 -- (64-bit ELF V2 ABI for Power, "@ha" and "@l").
 use Rattle.std.specs.Prelude.{◌≡◌, ℕ, List, drop, Option, None, ℤ, pos, negsuc, false, ◌+ℤ◌, ◌*ℤ◌}
-use Rattle.std.specs.Prelude.{◌≤ℤ◌, ◌<ℤ◌, ◌^◌, ◌-◌, ◌+◌}
-use Rattle.std.specs.Int.{w32, from_le_bytes}
+use Rattle.std.specs.Prelude.{◌≤ℤ◌, ◌<ℤ◌, ◌^◌, ◌-◌, ◌+◌, ◌++◌}
+use Rattle.std.specs.Int.{Width, w32, w64, from_le_bytes}
 use Rattle.linker_base.specs.Bits.{field, signed}
-use Rattle.linker_base.specs.Form.{Form, Layout, one_field, form_of, bits_to, unsigned}
-use Rattle.linker_base.specs.Form.{twos_complement, modulo, IsSameModulo}
+use Rattle.linker_base.specs.Form.{ImmediateBit, Form, Layout, one_field, form_of, bits_to}
+use Rattle.linker_base.specs.Form.{unsigned, twos_complement, modulo, IsSameModulo}
 use Rattle.linker_base.specs.Rewrite.{Rewrite}
 use Rattle.linker_base.specs.declared.relaxation.RelocationModifier.{RelocationModifier}
 use Rattle.linker_base.specs.declared.relaxation.RelocationModifier.TheVariants.{Normal}
 use Rattle.linker_utils.specs.declared.elf.Ppc64Instruction.{Ppc64Instruction}
 use Rattle.linker_utils.specs.declared.elf.Ppc64Instruction.TheVariants.{D, Ds, Branch14, Branch24}
+use Rattle.linker_utils.specs.declared.elf.Ppc64Instruction.TheVariants.{Prefixed}
 use Rattle.linker_utils.specs.declared.ppc64.RelaxationKind.{RelaxationKind}
 use Rattle.linker_utils.specs.declared.ppc64.RelaxationKind.TheVariants.{NoOp}
 
--- a displacement of n bits, of which those from bit `low` up stand in the word where they stand in
--- the value
-abbrev pub displacement : ℕ → ℕ → Layout
-displacement n low =
+-- a displacement of n bits, of which those from bit `low` up stand at places
+abbrev pub displacement_at : Width → ℕ → ℕ → List ImmediateBit → Layout
+displacement_at w n low ps =
     one_field (record {
-      window = w32;
+      window = w;
       width = 64;
       bits = n;
       low = low;
@@ -27,14 +27,19 @@ displacement n low =
       flags = false;
       machine = twos_complement;
       claim = modulo n;
-      places = bits_to low (n - 1) low;
+      places = ps;
     })
+
+-- one whose bits stand in the word where they stand in the value
+abbrev pub displacement : ℕ → ℕ → Layout
+displacement n low = displacement_at w32 n low (bits_to low (n - 1) low)
 
 abbrev pub ppc64_layout : Ppc64Instruction → Layout
 ppc64_layout D = displacement 16 0
 ppc64_layout Ds = displacement 16 2
 ppc64_layout Branch14 = displacement 16 2
 ppc64_layout Branch24 = displacement 26 2
+ppc64_layout Prefixed = displacement_at w64 34 0 (bits_to 0 15 32 ++ bits_to 16 33 0)
 
 abbrev pub ppc64_form : Ppc64Instruction → Form
 ppc64_form f = form_of (ppc64_layout f)

@@ -12,6 +12,8 @@ use Rattle.linker_utils.specs.Elf.{bit_bounds, signed_or_unsigned}
 use Rattle.linker_utils.specs.declared.elf.RelocationInstruction.TheVariants.{Ppc64}
 use Rattle.linker_utils.specs.declared.elf.Ppc64Instruction.{Ppc64Instruction}
 use Rattle.linker_utils.specs.declared.elf.Ppc64Instruction.TheVariants.{D, Ds, Branch14, Branch24}
+use Rattle.linker_utils.specs.declared.elf.Ppc64Instruction.TheVariants.{Prefixed}
+use Rattle.linker_utils.specs.declared.elf.RelocationKind.TheVariants.{GotRelative}
 use Rattle.linker_utils.specs.declared.ppc64.relocations.Ppc64Relocation.{Ppc64Relocation}
 use Rattle.linker_utils.specs.declared.ppc64.relocations.Ppc64Relocation.TheVariants as own
 use Rattle.linker_utils.specs.declared.ppc64.relocations.Ppc64Relocation.TheVariants.{R_PPC64_TLS, R_PPC64_TLSGD, R_PPC64_TLSLD, R_PPC64_ADDR64, R_PPC64_ADDR32, R_PPC64_REL64, R_PPC64_REL32, R_PPC64_REL24, R_PPC64_REL14, R_PPC64_REL16_HA, R_PPC64_REL16_LO, R_PPC64_TOC16_HA, R_PPC64_TOC16_LO, R_PPC64_TOC16_LO_DS, R_PPC64_TPREL64, R_PPC64_TPREL16, R_PPC64_TPREL16_LO, R_PPC64_TPREL16_HI, R_PPC64_TPREL16_HA, R_PPC64_TPREL16_DS, R_PPC64_TPREL16_LO_DS, R_PPC64_DTPREL64, R_PPC64_DTPREL16, R_PPC64_DTPREL16_LO, R_PPC64_DTPREL16_HI, R_PPC64_DTPREL16_HA, R_PPC64_DTPREL16_DS, R_PPC64_DTPREL16_LO_DS, R_PPC64_GOT_TPREL16_HA, R_PPC64_GOT_TPREL16_HI, R_PPC64_GOT_TPREL16_DS, R_PPC64_GOT_TPREL16_LO_DS, R_PPC64_GOT_TLSGD16, R_PPC64_GOT_TLSGD16_LO, R_PPC64_GOT_TLSGD16_HI, R_PPC64_GOT_TLSGD16_HA, R_PPC64_GOT_TLSLD16, R_PPC64_GOT_TLSLD16_LO, R_PPC64_GOT_TLSLD16_HI, R_PPC64_GOT_TLSLD16_HA, Other}
@@ -69,6 +71,10 @@ low_ds kind range = field_of kind 0 16 Ds range 4 None
 abbrev pub branch : ℕ → Ppc64Instruction → RelocationKindInfo
 branch n insn = field_of Relative 0 n insn (signed_range n) 4 None
 
+-- 34 signed bits into a prefixed instruction
+abbrev pub prefixed : RelocationKind → RelocationKindInfo
+prefixed kind = field_of kind 0 34 Prefixed (signed_range 34) 1 None
+
 -- `own` marks the relocations of which the original library has no row
 abbrev pub ppc64_row : Ppc64Relocation → Option RelocationKindInfo
 ppc64_row own.R_PPC64_NONE = Some (bytes NoValue 0 unchecked)
@@ -91,6 +97,8 @@ ppc64_row R_PPC64_REL16_HA = Some (high_adjusted Relative)
 ppc64_row R_PPC64_REL16_LO = Some (low Relative unchecked)
 ppc64_row own.R_PPC64_TOC16 = Some (low SymRelGotBase (signed_range 16))
 ppc64_row own.R_PPC64_TOC16_DS = Some (low_ds SymRelGotBase (signed_range 16))
+ppc64_row own.R_PPC64_PCREL34 = Some (prefixed Relative)
+ppc64_row own.R_PPC64_GOT_PCREL34 = Some (prefixed GotRelative)
 ppc64_row R_PPC64_TOC16_HA = Some (high_adjusted SymRelGotBase)
 ppc64_row R_PPC64_TOC16_LO = Some (low SymRelGotBase unchecked)
 ppc64_row R_PPC64_TOC16_LO_DS = Some (low_ds SymRelGotBase unchecked)

@@ -553,8 +553,9 @@ pub enum RiscVInstruction {
     UiType,
 }
 
-/// PowerPC64 instructions that hold a displacement. The window is 4 bytes, and every value fits:
-/// its bits stand in the word where they stand in the value, and the word's other bits stay.
+/// PowerPC64 instructions that hold a displacement. The window is 4 bytes, and 8 for `Prefixed`.
+/// Every value fits: but for `Prefixed` its bits stand in the word where they stand in the value,
+/// and all other bits stay.
 /// Bits are numbered from the least significant one.
 #[derive(Debug, Clone, Copy, PartialEq, Eq)]
 pub enum Ppc64Instruction {
@@ -570,6 +571,10 @@ pub enum Ppc64Instruction {
     /// I-form, as `b`: value bits 2 to 25 at bit 2 and up. A signed distance of 26 bits, whose
     /// lowest two are 0 (Power ISA, "I-Form").
     Branch24,
+    /// A prefixed instruction, as `paddi` and `pld`: value bits 16 to 33 at bit 0 and up of word
+    /// one, the prefix, and 0 to 15 at bit 0 and up of word two. A signed number of 34 bits (Power
+    /// ISA 3.1, "8LS:D-Form" and "MLS:D-Form").
+    Prefixed,
 }
 
 /// LoongArch instructions with an immediate, and the pairs of long calls (LoongArch Reference

@@ -8,11 +8,12 @@ ghost use Rattle.std.specs.Int.{byte_len, cast_unsigned, from_le_bytes, w32, w64
 ghost use Rattle.linker_base.specs.Form.{window_of, Written, MachineReads, IsReadBack, BitsWritten, place_sum};
 ghost use Rattle.linker_base.specs.Rewrite.{CanRewrite, rewritten, offset_after, addend_after};
 ghost use Rattle.linker_utils.specs.Inner.FormLaws.{ppc64_keeps, ppc64_restored};
+ghost use Rattle.linker_utils.specs.Inner.Masks.{word_mask};
 ghost use Rattle.linker_utils.specs.Ppc64.{ppc64_form, ppc64_rewrite, ppc64_modifier, PairHolds, KeepsHigh};
 
 use crate::bit_misc::BitExtraction;
-use crate::elf::engine::Window;
-use crate::elf::{InstructionForm, InstructionRewrite, Ppc64Instruction};
+use crate::elf::engine::{self, Run, Window, run};
+use crate::elf::{InstructionForm, InstructionRewrite, Ppc64Instruction, RelocationInstruction};
 use crate::relaxation::RelocationModifier;
 pub use relocations::{Ppc64Relocation, relocation_type_from_raw};
 
@@ -82,20 +83,21 @@ impl InstructionRewrite for RelaxationKind {
     }
 }
 
+/// The bits that each form holds in its word. A match of them would be merged with that of `place`,
+/// into a jump by the form.
+const MASKS: [u64; 5] = [0xffff, 0xfffc, 0xfffc, 0x03ff_fffc, 0];
+
+const PREFIXED: [Run; 2] = [run!(0, 32, 16), run!(16, 0, 18)];
+
 impl Ppc64Instruction {
-    /// The bits that a form holds: they stand in the word where they stand in the value. LLVM takes
-    /// the mask from a table, where a match of runs would be a jump by the form.
+    /// The bits of the word that a form of one word holds: they stand there where they stand in the
+    /// value.
     #[inline(always)]
     fn mask(self) -> u64
+        ensures is { result ≡ word_mask self }
         ensures small { result < 2 ^ 32 }
-        ensures read { (x : ℕ) → bit_and x result ≡ place_sum ((ppc64_form self).places 0) x }
-        ensures written { (v x : ℕ) → v < 2 ^ 64 → x < 2 ^ 64 → BitsWritten ((ppc64_form self).places 0) v x (bit_or (bit_and x (2 ^ 64 - 1 - result)) (bit_and v result)) }
     {
-        match self {
-            Ppc64Instruction::D => 0xffff,
-            Ppc64Instruction::Ds | Ppc64Instruction::Branch14 => 0xfffc,
-            Ppc64Instruction::Branch24 => 0x03ff_fffc,
-        }
+        MASKS[self as usize]
     }
 
     /// Writes the bits of a value.
@@ -108,9 +110,17 @@ impl Ppc64Instruction {
         ensures same { window_of (ppc64_form self) dest.new ≡ window_of (ppc64_form self) dest.old
             → dest.new ≡ dest.old }
     {
-        let mask = self.mask();
-        let word = Window::Four.load(dest) & !mask | value & mask;
-        Window::Four.store(word, dest);
+        match self {
+            Ppc64Instruction::Prefixed => {
+                let insn = RelocationInstruction::Ppc64(self);
+                engine::write_form(insn, Window::Eight, &PREFIXED, value, _negative, dest);
+            }
+            _ => {
+                let mask = self.mask();
+                let word = Window::Four.load(dest) & !mask | value & mask;
+                Window::Four.store(word, dest);
+            }
+        }
     }
 
     /// Writes a value into the instruction that `dest` begins with. Only the form's bits change.
@@ -137,7 +147,13 @@ impl Ppc64Instruction {
             ≡ cast_unsigned w64 ((ppc64_form self).reading (window_of (ppc64_form self) bytes.now)) }
         ensures flag { result.1 ≡ (ppc64_form self).flag (window_of (ppc64_form self) bytes.now) }
     {
-        (Window::Four.load(bytes) & self.mask(), false)
+        match self {
+            Ppc64Instruction::Prefixed => {
+                let insn = RelocationInstruction::Ppc64(self);
+                engine::read_form(insn, Window::Eight, &PREFIXED, bytes)
+            }
+            _ => (Window::Four.load(bytes) & self.mask(), false),
+        }
     }
 }
 
@@ -150,7 +166,10 @@ impl InstructionForm for Ppc64Instruction {
 
     #[inline]
     fn window(self) -> usize {
-        4
+        match self {
+            Ppc64Instruction::Prefixed => 8,
+            _ => 4,
+        }
     }
 
     #[inline]

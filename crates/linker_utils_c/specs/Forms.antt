@@ -20,6 +20,7 @@ use Rattle.linker_utils.specs.declared.elf.AArch64Instruction.TheVariants.{Adr, 
 use Rattle.linker_utils.specs.declared.elf.RiscVInstruction.TheVariants.{UType, IType, SType, BType, JType, CbType, CjType, CluiType, UiType}
 use Rattle.linker_utils.specs.declared.elf.LoongArch64Instruction.TheVariants.{Shift5, Shift10, Branch26, Branch21, Call30, Call36}
 use Rattle.linker_utils.specs.declared.elf.Ppc64Instruction.TheVariants.{D, Ds, Branch14, Branch24}
+use Rattle.linker_utils.specs.declared.elf.Ppc64Instruction.TheVariants.{Prefixed}
 
 -- the form at a place of a list
 abbrev pub listed_form : {A : Type 0} → (A → RelocationInstruction) → Option A
@@ -40,7 +41,7 @@ abbrev pub loongarch64_forms : List LoongArch64Instruction
 loongarch64_forms = Shift5 ∷ Shift10 ∷ Branch26 ∷ Branch21 ∷ Call30 ∷ Call36 ∷ []
 
 abbrev pub ppc64_forms : List Ppc64Instruction
-ppc64_forms = D ∷ Ds ∷ Branch14 ∷ Branch24 ∷ []
+ppc64_forms = D ∷ Ds ∷ Branch14 ∷ Branch24 ∷ Prefixed ∷ []
 
 -- the form of a machine (e_machine) and a number, or which of the two is unknown
 abbrev pub form_among : Option Architecture → ℕ → Result RelocationInstruction Status

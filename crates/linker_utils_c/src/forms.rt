@@ -72,11 +72,12 @@ fn loongarch64_form(number: u32) -> Option<LoongArch64Instruction>
     LOONGARCH64_FORMS.get(number as usize).copied()
 }
 
-static PPC64_FORMS: [Ppc64Instruction; 4] = [
+static PPC64_FORMS: [Ppc64Instruction; 5] = [
     Ppc64Instruction::D,
     Ppc64Instruction::Ds,
     Ppc64Instruction::Branch14,
     Ppc64Instruction::Branch24,
+    Ppc64Instruction::Prefixed,
 ];
 
 #[inline(always)]

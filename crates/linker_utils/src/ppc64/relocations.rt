@@ -35,6 +35,8 @@ pub enum Ppc64Relocation {
     R_PPC64_REL14,
     R_PPC64_REL16_HA,
     R_PPC64_REL16_LO,
+    R_PPC64_PCREL34,
+    R_PPC64_GOT_PCREL34,
     R_PPC64_TOC16,
     R_PPC64_TOC16_DS,
     R_PPC64_TOC16_HA,
@@ -124,6 +126,8 @@ impl Ppc64Relocation {
             107 => Ppc64Relocation::R_PPC64_TLSGD,
             108 => Ppc64Relocation::R_PPC64_TLSLD,
             116 => Ppc64Relocation::R_PPC64_REL24_NOTOC,
+            132 => Ppc64Relocation::R_PPC64_PCREL34,
+            133 => Ppc64Relocation::R_PPC64_GOT_PCREL34,
             250 => Ppc64Relocation::R_PPC64_REL16_LO,
             252 => Ppc64Relocation::R_PPC64_REL16_HA,
             _ => Ppc64Relocation::Other(code),
@@ -183,6 +187,8 @@ impl Ppc64Relocation {
             Ppc64Relocation::R_PPC64_TLSGD => 107,
             Ppc64Relocation::R_PPC64_TLSLD => 108,
             Ppc64Relocation::R_PPC64_REL24_NOTOC => 116,
+            Ppc64Relocation::R_PPC64_PCREL34 => 132,
+            Ppc64Relocation::R_PPC64_GOT_PCREL34 => 133,
             Ppc64Relocation::R_PPC64_REL16_LO => 250,
             Ppc64Relocation::R_PPC64_REL16_HA => 252,
             Ppc64Relocation::Other(code) => code,
@@ -241,6 +247,8 @@ impl Ppc64Relocation {
             Ppc64Relocation::R_PPC64_TLSGD => "R_PPC64_TLSGD",
             Ppc64Relocation::R_PPC64_TLSLD => "R_PPC64_TLSLD",
             Ppc64Relocation::R_PPC64_REL24_NOTOC => "R_PPC64_REL24_NOTOC",
+            Ppc64Relocation::R_PPC64_PCREL34 => "R_PPC64_PCREL34",
+            Ppc64Relocation::R_PPC64_GOT_PCREL34 => "R_PPC64_GOT_PCREL34",
             Ppc64Relocation::R_PPC64_REL16_LO => "R_PPC64_REL16_LO",
             Ppc64Relocation::R_PPC64_REL16_HA => "R_PPC64_REL16_HA",
             Ppc64Relocation::Other(_) => "unknown relocation",
@@ -313,6 +321,16 @@ fn low_ds(kind: RelocationKind, range: AllowedRange) -> RelocationKindInfo
 {
     let size = RelocationSize::bit_mask_ppc64(0, 16, Ppc64Instruction::Ds);
     described(kind, size, range, 4, 0)
+}
+
+/// 34 signed bits of a prefixed instruction.
+#[inline(always)]
+fn prefixed(kind: RelocationKind) -> RelocationKindInfo
+    ensures { result ≡ rows.prefixed kind }
+{
+    let size = RelocationSize::bit_mask_ppc64(0, 34, Ppc64Instruction::Prefixed);
+    let range = AllowedRange::from_bit_size(34, Sign::Signed);
+    described(kind, size, range, 1, 0)
 }
 
 /// A signed distance of this many bits, a multiple of 4.
@@ -400,6 +418,8 @@ pub fn relocation_type_from_raw(name: Ppc64Relocation) -> Option<RelocationKindI
             RelocationKind::Relative,
             AllowedRange::no_check(),
         ),
+        Ppc64Relocation::R_PPC64_PCREL34 => prefixed(RelocationKind::Relative),
+        Ppc64Relocation::R_PPC64_GOT_PCREL34 => prefixed(RelocationKind::GotRelative),
         Ppc64Relocation::R_PPC64_TOC16 => low(
             RelocationKind::SymRelGotBase,
             AllowedRange::from_bit_size(16, Sign::Signed),
