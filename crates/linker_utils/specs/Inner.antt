@@ -1,4 +1,5 @@
 pub mod FormLaws
+pub mod PackedRows
 pub mod Packing
 pub mod Runs
 pub mod Shrinking

@@ -96,6 +96,7 @@ fn status_of(outcome: Result<(), RelocateError>) -> u32
     }
 }
 
+#[inline(always)]
 fn relocate(architecture: Architecture, r_type: u32, value: i64, dest: &mut [u8]) -> u32
     ensures { IsRelocated architecture r_type value dest.old dest.new result }
 {

@@ -76,6 +76,7 @@ fn status_of(outcome: Result<(), RelocateError>) -> u32 {
     }
 }
 
+#[inline(always)]
 fn relocate(architecture: Architecture, r_type: u32, value: i64, dest: &mut [u8]) -> u32 {
     match info_of(architecture, r_type) {
         Some(meaning) => status_of(meaning.write(value, dest)),

@@ -86,7 +86,7 @@ impl RelocationKindInfo {
     ///
     /// Relocations without a range take a part of every value, which the machine then reads modulo
     /// the part's size.
-    #[inline]
+    #[inline(always)]
     pub fn reach(&self) -> AllowedRange {
         match self.size {
             RelocationSize::ByteSize(_) => self.range,

@@ -1,16 +1,13 @@
-use Rattle.std.proofs.Common.{rules, IfSome, ◌≡◌, Some, subst, sym}
+use Rattle.std.proofs.Common.{IfSome, subst, sym}
 use Rattle.linker_utils.specs.Agrees.{RowAgrees, RowFits}
-use Rattle.linker_utils.specs.Ppc64Rows.{ppc64_row}
 use Rattle.linker_utils.proofs.RowsAgree.{ppc64_rows}
 use Rattle.linker_utils.proofs.RowsFit.{ppc64_fits}
 use Rattle.linker_utils.proofs.ppc64.relocations.relocation_type_from_raw.Goals as goal
 
 pub returns-clause-agrees : goal.returns-clause-agrees
 returns-clause-agrees c =
-    let row : Some c.match-name.info ≡ ppc64_row c.args.name = search rules in
-    subst (λ o. IfSome o RowAgrees) (sym row) (ppc64_rows c.args.name)
+    subst (λ o. IfSome o RowAgrees) (sym c.row.ensures) (ppc64_rows c.args.name)
 
 pub returns-clause-fits : goal.returns-clause-fits
 returns-clause-fits c =
-    let row : Some c.match-name.info ≡ ppc64_row c.args.name = search rules in
-    subst (λ o. IfSome o RowFits) (sym row) (ppc64_fits c.args.name)
+    subst (λ o. IfSome o RowFits) (sym c.row.ensures) (ppc64_fits c.args.name)

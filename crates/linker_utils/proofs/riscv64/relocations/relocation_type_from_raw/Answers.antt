@@ -1,16 +1,13 @@
-use Rattle.std.proofs.Common.{rules, IfSome, ◌≡◌, Some, subst, sym}
+use Rattle.std.proofs.Common.{IfSome, subst, sym}
 use Rattle.linker_utils.specs.Agrees.{RowAgrees, RowFits}
-use Rattle.linker_utils.specs.RiscVRows.{riscv_row}
 use Rattle.linker_utils.proofs.RowsAgree.{riscv_rows}
 use Rattle.linker_utils.proofs.RowsFit.{riscv_fits}
 use Rattle.linker_utils.proofs.riscv64.relocations.relocation_type_from_raw.Goals as goal
 
 pub returns-clause-agrees : goal.returns-clause-agrees
 returns-clause-agrees c =
-    let row : Some c.match-name.info ≡ riscv_row c.args.name = search rules in
-    subst (λ o. IfSome o RowAgrees) (sym row) (riscv_rows c.args.name)
+    subst (λ o. IfSome o RowAgrees) (sym c.row.ensures) (riscv_rows c.args.name)
 
 pub returns-clause-fits : goal.returns-clause-fits
 returns-clause-fits c =
-    let row : Some c.match-name.info ≡ riscv_row c.args.name = search rules in
-    subst (λ o. IfSome o RowFits) (sym row) (riscv_fits c.args.name)
+    subst (λ o. IfSome o RowFits) (sym c.row.ensures) (riscv_fits c.args.name)
