@@ -546,6 +546,13 @@ uint32_t linker_utils_relocation_name_nonnull(uint16_t machine, uint32_t r_type,
 uint32_t linker_utils_relocation(uint16_t machine, uint32_t r_type,
                                  struct linker_utils_relocation_info *info);
 
+/* What a relocation of RISC-V's TLS descriptors means: R_RISCV_TLSDESC_HI20, _LOAD_LO12, _ADD_LO12
+ * and _CALL. `linker_utils_relocation` has no meaning for these; `linker_utils_value`,
+ * `linker_utils_reach`, `linker_utils_relocate` and `linker_utils_relocate_all` take them as any
+ * others. LINKER_UTILS_UNKNOWN_RELOCATION of all other types. */
+uint32_t linker_utils_tls_descriptor_relocation(uint32_t r_type,
+                                                struct linker_utils_relocation_info *info);
+
 /* Bytes that hold the name of any relocation. */
 #define LINKER_UTILS_NAME_SIZE 64
 

@@ -6,6 +6,7 @@
 pub(crate) mod engine;
 mod reach;
 mod relocate;
+pub(crate) mod rows;
 mod value;
 
 use crate::bit_misc::BitRange;

@@ -6,8 +6,12 @@ use std::collections::BTreeMap;
 use std::fs;
 use std::path::Path;
 
-/// The relocations that have a name, and whose meaning the library doesn't know.
-const WITHOUT_MEANING: [&str; 3] = [
+/// The relocations that have a name, and of which `relocation` knows no meaning.
+const WITHOUT_MEANING: [&str; 7] = [
+    "R_RISCV_TLSDESC_HI20",
+    "R_RISCV_TLSDESC_LOAD_LO12",
+    "R_RISCV_TLSDESC_ADD_LO12",
+    "R_RISCV_TLSDESC_CALL",
     "R_LARCH_TLS_LD_PCREL20_S2",
     "R_LARCH_TLS_GD_PCREL20_S2",
     "R_LARCH_TLS_DESC_PCREL20_S2",
@@ -73,4 +77,14 @@ fn each_listed_relocation_is_found() {
         }
     }
     assert_eq!(without_meaning, WITHOUT_MEANING);
+}
+
+#[test]
+fn tls_descriptors_have_a_meaning_of_their_own() {
+    for r_type in 0..1 << 16 {
+        let is_found = tls_descriptor_relocation(r_type).is_ok();
+        assert_eq!(is_found, (62..=65).contains(&r_type), "{r_type}");
+    }
+    let hi20 = tls_descriptor_relocation(62).expect("its meaning");
+    assert_eq!(hi20.kind, RelocationKind::TlsDesc);
 }

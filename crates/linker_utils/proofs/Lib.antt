@@ -12,6 +12,7 @@ pub mod LoongArchAddresses
 pub mod LoongArchNumbers
 pub mod LoongArchSequences
 pub mod Packed
+pub mod PackedRows
 pub mod Ppc64Forms
 pub mod Ppc64Pairs
 pub mod Readings

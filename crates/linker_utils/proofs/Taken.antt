@@ -1,12 +1,16 @@
 -- The bits of a value that are written are bits of the whole number.
+use Rattle.std.proofs.Common.{IsTrue, nat_eq, bit_and, unsigned_abs}
 use Rattle.std.proofs.Common.{FitsSigned, ◌≡◌, ℕ, suc, ◌+◌, ◌-◌, ◌*◌, ◌/◌, ◌%◌, ◌^◌, ◌<◌, ◌≤◌, ◌+ℤ◌, refl, sym, ◌∙◌, ap, subst, arith, ℤ, pos, negsuc}
-use Rattle.std.specs.Int.{w64, int_rem_euclid}
+use Rattle.std.specs.Int.{w64, cast_unsigned, int_rem_euclid}
+use Rattle.std.proofs.lemmas.Bool.{eqb-true}
 use Rattle.std.proofs.lemmas.Int.{ints, int_rem_euclid_is}
 use Rattle.std.proofs.lemmas.Nat.{pow_pos, pow-add, mod_below, div-add-mod', div-mul-add}
+use Rattle.std.proofs.lemmas.Nat.{one_shl}
 use Rattle.std.proofs.Math.Nat.{div-lt_iff_lt-mul}
 use Rattle.linker_base.specs.declared.bit_misc.BitRange.{BitRange}
+use Rattle.linker_base.proofs.Bits.{low_mask_keeps}
 use Rattle.linker_utils.specs.Agrees.{IsFieldOf}
-use Rattle.linker_utils.specs.Relocate.{bits_taken}
+use Rattle.linker_utils.specs.Relocate.{bits_taken, IsAligned}
 
 -- the quotient of a complement is the complement of the quotient
 complement : (n m d q r : ℕ) → n ≡ q * d + r → r < d → q < m → m * d - suc n ≡ (m - suc q) * d + (d - suc r)
@@ -46,3 +50,37 @@ taken_is_field bits (pos n) h some inside = refl
 taken_is_field bits (negsuc n) h some inside =
     let small : n < 2 ^ 63 = h.sfits in
     negative n bits.start (bits.end - bits.start) (64 - bits.end) (omega arith) (omega arith)
+
+-- ---- multiples of powers of two
+
+low_bits_are_rest : (v : ℤ) (k : ℕ) → FitsSigned w64 v → k ≤ 64
+    → pos (cast_unsigned w64 v % 2 ^ k) ≡ int_rem_euclid v (pos (2 ^ k))
+low_bits_are_rest (pos n) k h most = refl
+low_bits_are_rest (negsuc n) k h most =
+    let small : n < 2 ^ 63 = h.sfits in
+    let one : n / 2 ^ 0 ≡ n = omega arith in
+    let whole : (2 ^ 64 - suc n) / 2 ^ 0 ≡ 2 ^ 64 - suc n = omega arith in
+    let from_bit_0 = negative n 0 k (64 - k) (omega arith) (omega arith) in
+    subst (λ x. pos (x % 2 ^ k) ≡ int_rem_euclid (negsuc n) (pos (2 ^ k))) whole
+    (subst (λ x. pos ((2 ^ 64 - suc n) / 2 ^ 0 % 2 ^ k) ≡ int_rem_euclid (negsuc x) (pos (2 ^ k)))
+    one from_bit_0)
+
+zero_is : (n : ℕ) → n ≡ 0 → IsTrue (nat_eq n 0)
+zero_is n h = rw h refl
+
+-- the code's test of a power of two's multiples
+abbrev pub HasNoLowBits : ℕ → ℕ → Type 0
+HasNoLowBits n k = IsTrue (nat_eq (bit_and n (1 * 2 ^ k % 18446744073709551616 - 1)) 0)
+
+pub is_multiple : (v : ℤ) (n a k : ℕ) → FitsSigned w64 v → n ≡ cast_unsigned w64 v → k < 64
+    → a ≡ 1 * 2 ^ k % 18446744073709551616
+    → (HasNoLowBits n k → IsAligned a v) × (IsAligned a v → HasNoLowBits n k)
+is_multiple v n a k h is most e =
+    let unit : a ≡ 2 ^ k = e ∙ one_shl k 64 most in
+    let low : pos (n % 2 ^ k) ≡ int_rem_euclid v (pos (2 ^ k)) =
+    ap (λ x. pos (x % 2 ^ k)) is ∙ low_bits_are_rest v k h (omega arith) in
+    let there : IsTrue (nat_eq (n % 2 ^ k) 0) → IsAligned (2 ^ k) v =
+    λ yes. sym low ∙ ap pos (eqb-true (n % 2 ^ k) 0 yes) in
+    let back : IsAligned (2 ^ k) v → IsTrue (nat_eq (n % 2 ^ k) 0) =
+    λ z. zero_is (n % 2 ^ k) (ap unsigned_abs (low ∙ z)) in
+    rw (low_mask_keeps n k most, unit) (there, back)

@@ -1,6 +1,7 @@
 pub mod FormLaws
 pub mod Immediates
 pub mod Masks
+pub mod PackedRows
 pub mod Packing
 pub mod Runs
 pub mod Shrinking

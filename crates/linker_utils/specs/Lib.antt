@@ -8,6 +8,7 @@ pub mod Inner
 pub mod LoongArch
 pub mod LoongArchNames
 pub mod LoongArchRows
+pub mod Numbers
 pub mod Packing
 pub mod Ppc64
 pub mod Ppc64Names

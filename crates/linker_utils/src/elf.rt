@@ -4,6 +4,7 @@
 pub(crate) mod engine;
 mod reach;
 mod relocate;
+pub(crate) mod rows;
 mod value;
 
 ghost use Rattle.std.specs.Prelude.{◌≡◌, ◌≤◌, ◌<◌, ◌+◌, ◌*◌, ◌-◌, ◌^◌, ◌↔◌, ◌==◌, IsTrue, Option, Some, None, if◌then◌else◌, length, drop, ℕ};

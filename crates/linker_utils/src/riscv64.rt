@@ -12,5 +12,8 @@ pub use calls::{
     CallError, JAL_MAX, JAL_MIN, JumpError, LinkRegister, distance_fits_jal, is_plain_call,
     jal_site, jal_site_with, relax_call, relax_call_over,
 };
-pub use relocations::{RiscVRelocation, relocation_type_from_raw, tls_descriptor_relocation};
+pub use relocations::{
+    RiscVRelocation, relocation_type_from_raw, relocation_type_from_table,
+    tls_descriptor_relocation,
+};
 pub use rewrites::RelaxationKind;

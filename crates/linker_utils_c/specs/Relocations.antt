@@ -3,8 +3,7 @@ use Rattle.std.specs.Prelude.{◌≡◌, ◌<◌, ◌≤◌, ◌++◌, ℕ, List
 use Rattle.std.specs.Prelude.{pos}
 use Rattle.linker_utils.specs.declared.elf.Architecture.{Architecture}
 use Rattle.linker_utils.specs.declared.elf.Architecture.TheVariants as architectures
-use Rattle.linker_utils.specs.declared.elf.RelocationKind.{RelocationKind}
-use Rattle.linker_utils.specs.declared.elf.RelocationKind.TheVariants as kinds
+use Rattle.linker_utils.specs.Numbers.{kind_number}
 use Rattle.linker_utils.specs.declared.elf.RelocationKindInfo.{RelocationKindInfo}
 use Rattle.linker_utils.specs.declared.elf.RelocationSize.{RelocationSize}
 use Rattle.linker_utils.specs.declared.elf.RelocationSize.TheVariants.{ByteSize, BitMasking}
@@ -46,13 +45,18 @@ or_else (Some row) second = Some row
 abbrev pub riscv_meaning : RiscVRelocation → Option RelocationKindInfo
 riscv_meaning name = or_else (riscv_row name) (riscv_tls_descriptor_row name)
 
--- what the relocation of an architecture and a code means
+-- the row of the relocation of an architecture and a code
+abbrev pub IsRow : Architecture → ℕ → Option RelocationKindInfo → Type 0
+IsRow architectures.AArch64 = IsOf aarch64_name aarch64_row
+IsRow architectures.RiscV = IsOf riscv_name riscv_row
+IsRow architectures.LoongArch64 = IsOf loongarch_name loongarch_row
+IsRow architectures.Ppc64 = IsOf ppc64_name ppc64_row
+IsRow architectures.X86_64 = IsOf x86_64_name x86_64_row
+
+-- what it means: its row, or that of a TLS descriptor's
 abbrev pub IsMeaning : Architecture → ℕ → Option RelocationKindInfo → Type 0
-IsMeaning architectures.AArch64 = IsOf aarch64_name aarch64_row
 IsMeaning architectures.RiscV = IsOf riscv_name riscv_meaning
-IsMeaning architectures.LoongArch64 = IsOf loongarch_name loongarch_row
-IsMeaning architectures.Ppc64 = IsOf ppc64_name ppc64_row
-IsMeaning architectures.X86_64 = IsOf x86_64_name x86_64_row
+IsMeaning architecture = IsRow architecture
 
 -- how ELF names it
 abbrev pub IsElfName : Architecture → ℕ → ElfName → Type 0
@@ -62,49 +66,7 @@ IsElfName architectures.LoongArch64 = IsOf loongarch_name loongarch_name
 IsElfName architectures.Ppc64 = IsOf ppc64_name ppc64_name
 IsElfName architectures.X86_64 = IsOf x86_64_name x86_64_name
 
--- the places in the enums
-abbrev pub kind_number : RelocationKind → ℕ
-kind_number kinds.None = 0
-kind_number kinds.Absolute = 1
-kind_number kinds.AbsoluteLowPart = 2
-kind_number kinds.AbsoluteSet = 3
-kind_number kinds.AbsoluteSetWord6 = 4
-kind_number kinds.AbsoluteAddition = 5
-kind_number kinds.AbsoluteAdditionWord6 = 6
-kind_number kinds.AbsoluteSubtraction = 7
-kind_number kinds.AbsoluteSubtractionWord6 = 8
-kind_number kinds.PairSubtractionULEB128RiscV = 9
-kind_number kinds.PairSubtractionULEB128LoongArch = 10
-kind_number kinds.Relative = 11
-kind_number kinds.RelativeRiscVLow12 = 12
-kind_number kinds.RelativeLoongArchHigh = 13
-kind_number kinds.GotRelative = 14
-kind_number kinds.GotRelativeLoongArch64 = 15
-kind_number kinds.GotRelGotBase = 16
-kind_number kinds.Got = 17
-kind_number kinds.SymRelGotBase = 18
-kind_number kinds.PltRelGotBase = 19
-kind_number kinds.PltRelative = 20
-kind_number kinds.SymbolSize = 21
-kind_number kinds.Alignment = 22
-kind_number kinds.TlsGd = 23
-kind_number kinds.TlsGdGot = 24
-kind_number kinds.TlsGdGotBase = 25
-kind_number kinds.TlsLd = 26
-kind_number kinds.TlsLdGot = 27
-kind_number kinds.TlsLdGotBase = 28
-kind_number kinds.DtpOff = 29
-kind_number kinds.GotTpOff = 30
-kind_number kinds.GotTpOffGot = 31
-kind_number kinds.GotTpOffGotBase = 32
-kind_number kinds.GotTpOffLoongArch64 = 33
-kind_number kinds.TpOff = 34
-kind_number kinds.TlsDesc = 35
-kind_number kinds.TlsDescGot = 36
-kind_number kinds.TlsDescGotBase = 37
-kind_number kinds.TlsDescLoongArch64 = 38
-kind_number kinds.TlsDescCall = 39
-
+-- the place in the enum, and 1
 abbrev pub mask_number : Option PageMask → ℕ
 mask_number None = 0
 mask_number (Some (SymbolPlusAddendAndPosition pattern)) = 1

@@ -5,8 +5,9 @@ ghost use Rattle.std.specs.Int.{byte_len, cast_unsigned, w64};
 ghost use Rattle.linker_base.specs.Form.{window_of};
 ghost use Rattle.linker_utils.specs.Elf.{relocation_form};
 ghost use Rattle.linker_utils_c.specs.Status.{code, HasRoom};
-ghost use Rattle.linker_utils_c.specs.Forms.{aarch64_forms, riscv_forms, loongarch64_forms};
-ghost use Rattle.linker_utils_c.specs.Forms.{ppc64_forms, named_form, TakesValue, HasValue};
+ghost use Rattle.linker_utils.specs.Numbers.{aarch64_forms, riscv_forms, loongarch64_forms};
+ghost use Rattle.linker_utils.specs.Numbers.{ppc64_forms};
+ghost use Rattle.linker_utils_c.specs.Forms.{named_form, TakesValue, HasValue};
 ghost use Rattle.linker_utils_c.specs.Forms.{flag_number};
 
 use crate::status::Status;

@@ -9,7 +9,7 @@ ghost use Rattle.linker_utils_c.specs.Relocations.{IsMeaning};
 ghost use Rattle.linker_utils_c.specs.Relocate.{role_number, IsRole, uleb_status, IsUlebReturned};
 ghost use Rattle.linker_utils_c.specs.Relocate.{IsValueOf, IsReachOf, write_status, IsRelocated, IsRelocatedAt, AreRelocatedOrRejected};
 
-use crate::relocations::info_of;
+use crate::relocations::meaning_of;
 use crate::status::Status;
 use linker_utils::elf::{Architecture, Operands, RelocateError, RelocationKindInfo, Uleb128Role};
 use linker_utils::loongarch64::LoongArch64Relocation;
@@ -33,7 +33,7 @@ pub extern "C" fn linker_utils_value(
     let Some(architecture) = Architecture::from_machine(machine) else {
         return Status::UnknownArchitecture.number();
     };
-    match info_of(architecture, r_type) {
+    match meaning_of(architecture, r_type) {
         Some(meaning) => match meaning.value(operands) {
             Some(number) => {
                 *value = number;
@@ -68,7 +68,7 @@ pub extern "C" fn linker_utils_reach(machine: u16, r_type: u32, reach: &mut Reac
     let Some(architecture) = Architecture::from_machine(machine) else {
         return Status::UnknownArchitecture.number();
     };
-    match info_of(architecture, r_type) {
+    match meaning_of(architecture, r_type) {
         Some(meaning) => {
             *reach = match meaning.reach().bounds {
                 Some((min, max)) => Reach {
@@ -101,10 +101,11 @@ fn status_of(outcome: Result<(), RelocateError>) -> u32
     }
 }
 
+#[inline(always)]
 fn relocate(architecture: Architecture, r_type: u32, value: i64, dest: &mut [u8]) -> u32
     ensures { IsRelocated architecture r_type value dest.old dest.new result }
 {
-    match info_of(architecture, r_type) {
+    match meaning_of(architecture, r_type) {
         Some(meaning) => status_of(meaning.write(value, dest)),
         None => Status::UnknownRelocation.number(),
     }

@@ -4,11 +4,12 @@ ghost use Rattle.std.specs.Prelude.{◌≡◌, ◌≢◌, ◌≤◌, Option, IfS
 ghost use Rattle.linker_utils.specs.declared.elf.RelocationKindInfo.{RelocationKindInfo};
 ghost use Rattle.linker_utils.specs.Elf.{architecture_of};
 ghost use Rattle.linker_utils.specs.ElfNames.{ElfName, named, unnamed};
-ghost use Rattle.linker_utils.specs.RiscVRows.{clui_row};
+ghost use Rattle.linker_utils.specs.RiscVNames.{riscv_name};
+ghost use Rattle.linker_utils.specs.RiscVRows.{clui_row, riscv_tls_descriptor_row};
 ghost use Rattle.linker_utils_c.specs.Status.{code};
 ghost use Rattle.linker_utils_c.specs.Forms.{named_form};
-ghost use Rattle.linker_utils_c.specs.Relocations.{riscv_meaning};
-ghost use Rattle.linker_utils_c.specs.Relocations.{IsMeaning, IsElfName, mask_number, InNumbers, IsReturned, IsNameCopied};
+ghost use Rattle.linker_utils_c.specs.Relocations.{riscv_meaning, IsRow};
+ghost use Rattle.linker_utils_c.specs.Relocations.{IsMeaning, IsOf, IsElfName, mask_number, InNumbers, IsReturned, IsNameCopied};
 
 use crate::status::Status;
 use linker_utils::aarch64::{self, AArch64Relocation};
@@ -54,32 +55,45 @@ pub struct RelocationInfo {
     pub bias: u64,
 }
 
-/// What a relocation of RISC-V means, those of TLS descriptors among them.
+/// The row of the relocation of an architecture and a code.
 #[inline(always)]
-fn riscv_info(name: RiscVRelocation) -> Option<RelocationKindInfo>
+fn row_of(architecture: Architecture, r_type: u32) -> Option<RelocationKindInfo>
+    ensures { IsRow architecture r_type result }
+{
+    match architecture {
+        Architecture::AArch64 => {
+            aarch64::relocation_type_from_table(AArch64Relocation::from_elf(r_type))
+        }
+        Architecture::RiscV => riscv64::relocation_type_from_table(RiscVRelocation::from_elf(
+            r_type,
+        )),
+        Architecture::LoongArch64 => {
+            loongarch64::relocation_type_from_table(LoongArch64Relocation::from_elf(r_type))
+        }
+        Architecture::Ppc64 => ppc64::relocation_type_from_table(Ppc64Relocation::from_elf(r_type)),
+        Architecture::X86_64 => x86_64::relocation_from_table(X86_64Relocation::from_elf(r_type)),
+    }
+}
+
+/// The row of a relocation of RISC-V, or that of a TLS descriptor's.
+#[inline(always)]
+fn riscv_meaning_of(name: RiscVRelocation) -> Option<RelocationKindInfo>
     ensures { result ≡ riscv_meaning name }
 {
-    match riscv64::relocation_type_from_raw(name) {
+    match riscv64::relocation_type_from_table(name) {
         Some(info) => Some(info),
         None => riscv64::tls_descriptor_relocation(name),
     }
 }
 
-/// What the relocation of an architecture and a code means.
+/// What the relocation of an architecture and a code means: its row, or that of a TLS descriptor's.
 #[inline(always)]
-pub(crate) fn info_of(architecture: Architecture, r_type: u32) -> Option<RelocationKindInfo>
+pub(crate) fn meaning_of(architecture: Architecture, r_type: u32) -> Option<RelocationKindInfo>
     ensures { IsMeaning architecture r_type result }
 {
     match architecture {
-        Architecture::AArch64 => {
-            aarch64::relocation_type_from_raw(AArch64Relocation::from_elf(r_type))
-        }
-        Architecture::RiscV => riscv_info(RiscVRelocation::from_elf(r_type)),
-        Architecture::LoongArch64 => {
-            loongarch64::relocation_type_from_raw(LoongArch64Relocation::from_elf(r_type))
-        }
-        Architecture::Ppc64 => ppc64::relocation_type_from_raw(Ppc64Relocation::from_elf(r_type)),
-        Architecture::X86_64 => x86_64::relocation_from_raw(X86_64Relocation::from_elf(r_type)),
+        Architecture::RiscV => riscv_meaning_of(RiscVRelocation::from_elf(r_type)),
+        _ => row_of(architecture, r_type),
     }
 }
 
@@ -167,13 +181,33 @@ pub extern "C" fn linker_utils_relocation(
     info: &mut RelocationInfo,
 ) -> u32
     ensures known { IfSome (architecture_of machine) (λ architecture. (meaning : Option RelocationKindInfo)
-        × IsMeaning architecture r_type meaning × IsReturned meaning result info.old info.new) }
+        × IsRow architecture r_type meaning × IsReturned meaning result info.old info.new) }
     ensures unknown { IfNone (architecture_of machine) ((result ≡ code Status.UnknownArchitecture) × (info.new ≡ info.old)) }
 {
     let Some(architecture) = Architecture::from_machine(machine) else {
         return Status::UnknownArchitecture.number();
     };
-    match info_of(architecture, r_type) {
+    match row_of(architecture, r_type) {
+        Some(meaning) => {
+            *info = in_numbers(meaning);
+            Status::Success.number()
+        }
+        None => Status::UnknownRelocation.number(),
+    }
+}
+
+/// What the relocation of RISC-V's TLS descriptors with `r_type` means. `UnknownRelocation` of all
+/// others.
+#[unsafe(no_mangle)]
+pub extern "C" fn linker_utils_tls_descriptor_relocation(
+    r_type: u32,
+    info: &mut RelocationInfo,
+) -> u32
+    ensures { (meaning : Option RelocationKindInfo)
+        × IsOf riscv_name riscv_tls_descriptor_row r_type meaning
+        × IsReturned meaning result info.old info.new }
+{
+    match riscv64::tls_descriptor_relocation(RiscVRelocation::from_elf(r_type)) {
         Some(meaning) => {
             *info = in_numbers(meaning);
             Status::Success.number()

@@ -1,7 +1,7 @@
 // Made by tools/erase of crates/linker_utils_c/src/relocate.rt.
 //! Relocations: their values, their reach, and writing them.
 
-use crate::relocations::info_of;
+use crate::relocations::meaning_of;
 use crate::status::Status;
 use linker_utils::elf::{Architecture, Operands, RelocateError, RelocationKindInfo, Uleb128Role};
 use linker_utils::loongarch64::LoongArch64Relocation;
@@ -19,7 +19,7 @@ pub fn linker_utils_value(
     let Some(architecture) = Architecture::from_machine(machine) else {
         return Status::UnknownArchitecture.number();
     };
-    match info_of(architecture, r_type) {
+    match meaning_of(architecture, r_type) {
         Some(meaning) => match meaning.value(operands) {
             Some(number) => {
                 *value = number;
@@ -48,7 +48,7 @@ pub fn linker_utils_reach(machine: u16, r_type: u32, reach: &mut Reach) -> u32 {
     let Some(architecture) = Architecture::from_machine(machine) else {
         return Status::UnknownArchitecture.number();
     };
-    match info_of(architecture, r_type) {
+    match meaning_of(architecture, r_type) {
         Some(meaning) => {
             *reach = match meaning.reach().bounds {
                 Some((min, max)) => Reach {
@@ -79,8 +79,9 @@ fn status_of(outcome: Result<(), RelocateError>) -> u32 {
     }
 }
 
+#[inline(always)]
 fn relocate(architecture: Architecture, r_type: u32, value: i64, dest: &mut [u8]) -> u32 {
-    match info_of(architecture, r_type) {
+    match meaning_of(architecture, r_type) {
         Some(meaning) => status_of(meaning.write(value, dest)),
         None => Status::UnknownRelocation.number(),
     }

@@ -44,28 +44,39 @@ pub struct RelocationInfo {
     pub bias: u64,
 }
 
-/// What a relocation of RISC-V means, those of TLS descriptors among them.
+/// The row of the relocation of an architecture and a code.
 #[inline(always)]
-fn riscv_info(name: RiscVRelocation) -> Option<RelocationKindInfo> {
-    match riscv64::relocation_type_from_raw(name) {
+fn row_of(architecture: Architecture, r_type: u32) -> Option<RelocationKindInfo> {
+    match architecture {
+        Architecture::AArch64 => {
+            aarch64::relocation_type_from_table(AArch64Relocation::from_elf(r_type))
+        }
+        Architecture::RiscV => riscv64::relocation_type_from_table(RiscVRelocation::from_elf(
+            r_type,
+        )),
+        Architecture::LoongArch64 => {
+            loongarch64::relocation_type_from_table(LoongArch64Relocation::from_elf(r_type))
+        }
+        Architecture::Ppc64 => ppc64::relocation_type_from_table(Ppc64Relocation::from_elf(r_type)),
+        Architecture::X86_64 => x86_64::relocation_from_table(X86_64Relocation::from_elf(r_type)),
+    }
+}
+
+/// The row of a relocation of RISC-V, or that of a TLS descriptor's.
+#[inline(always)]
+fn riscv_meaning_of(name: RiscVRelocation) -> Option<RelocationKindInfo> {
+    match riscv64::relocation_type_from_table(name) {
         Some(info) => Some(info),
         None => riscv64::tls_descriptor_relocation(name),
     }
 }
 
-/// What the relocation of an architecture and a code means.
+/// What the relocation of an architecture and a code means: its row, or that of a TLS descriptor's.
 #[inline(always)]
-pub(crate) fn info_of(architecture: Architecture, r_type: u32) -> Option<RelocationKindInfo> {
+pub(crate) fn meaning_of(architecture: Architecture, r_type: u32) -> Option<RelocationKindInfo> {
     match architecture {
-        Architecture::AArch64 => {
-            aarch64::relocation_type_from_raw(AArch64Relocation::from_elf(r_type))
-        }
-        Architecture::RiscV => riscv_info(RiscVRelocation::from_elf(r_type)),
-        Architecture::LoongArch64 => {
-            loongarch64::relocation_type_from_raw(LoongArch64Relocation::from_elf(r_type))
-        }
-        Architecture::Ppc64 => ppc64::relocation_type_from_raw(Ppc64Relocation::from_elf(r_type)),
-        Architecture::X86_64 => x86_64::relocation_from_raw(X86_64Relocation::from_elf(r_type)),
+        Architecture::RiscV => riscv_meaning_of(RiscVRelocation::from_elf(r_type)),
+        _ => row_of(architecture, r_type),
     }
 }
 
@@ -148,7 +159,22 @@ pub fn linker_utils_relocation(
     let Some(architecture) = Architecture::from_machine(machine) else {
         return Status::UnknownArchitecture.number();
     };
-    match info_of(architecture, r_type) {
+    match row_of(architecture, r_type) {
+        Some(meaning) => {
+            *info = in_numbers(meaning);
+            Status::Success.number()
+        }
+        None => Status::UnknownRelocation.number(),
+    }
+}
+
+/// What the relocation of RISC-V's TLS descriptors with `r_type` means. `UnknownRelocation` of all
+/// others.
+pub fn linker_utils_tls_descriptor_relocation(
+    r_type: u32,
+    info: &mut RelocationInfo,
+) -> u32 {
+    match riscv64::tls_descriptor_relocation(RiscVRelocation::from_elf(r_type)) {
         Some(meaning) => {
             *info = in_numbers(meaning);
             Status::Success.number()

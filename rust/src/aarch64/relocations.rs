@@ -2,6 +2,7 @@
 //! What the relocations of AArch64 mean.
 
 use self::AArch64Relocation as Name;
+use crate::elf::rows::{aarch64_size, pack, unpack};
 use crate::elf::{
     AArch64Instruction as Form, AllowedRange, PageMask, PageMaskPattern, RelocationKind as Kind,
     RelocationKindInfo, RelocationSize, Sign,
@@ -133,122 +134,133 @@ impl AArch64Relocation {
     /// The relocation with a code, `r_type` in ELF files; `Other(code)` for a code without a name.
     #[inline(always)]
     pub fn from_elf(code: u32) -> AArch64Relocation {
-        match code {
-            0 => Name::R_AARCH64_NONE,
-            257 => Name::R_AARCH64_ABS64,
-            258 => Name::R_AARCH64_ABS32,
-            259 => Name::R_AARCH64_ABS16,
-            260 => Name::R_AARCH64_PREL64,
-            261 => Name::R_AARCH64_PREL32,
-            262 => Name::R_AARCH64_PREL16,
-            263 => Name::R_AARCH64_MOVW_UABS_G0,
-            264 => Name::R_AARCH64_MOVW_UABS_G0_NC,
-            265 => Name::R_AARCH64_MOVW_UABS_G1,
-            266 => Name::R_AARCH64_MOVW_UABS_G1_NC,
-            267 => Name::R_AARCH64_MOVW_UABS_G2,
-            268 => Name::R_AARCH64_MOVW_UABS_G2_NC,
-            269 => Name::R_AARCH64_MOVW_UABS_G3,
-            270 => Name::R_AARCH64_MOVW_SABS_G0,
-            271 => Name::R_AARCH64_MOVW_SABS_G1,
-            272 => Name::R_AARCH64_MOVW_SABS_G2,
-            273 => Name::R_AARCH64_LD_PREL_LO19,
-            274 => Name::R_AARCH64_ADR_PREL_LO21,
-            275 => Name::R_AARCH64_ADR_PREL_PG_HI21,
-            276 => Name::R_AARCH64_ADR_PREL_PG_HI21_NC,
-            277 => Name::R_AARCH64_ADD_ABS_LO12_NC,
-            278 => Name::R_AARCH64_LDST8_ABS_LO12_NC,
-            279 => Name::R_AARCH64_TSTBR14,
-            280 => Name::R_AARCH64_CONDBR19,
-            282 => Name::R_AARCH64_JUMP26,
-            283 => Name::R_AARCH64_CALL26,
-            284 => Name::R_AARCH64_LDST16_ABS_LO12_NC,
-            285 => Name::R_AARCH64_LDST32_ABS_LO12_NC,
-            286 => Name::R_AARCH64_LDST64_ABS_LO12_NC,
-            287 => Name::R_AARCH64_MOVW_PREL_G0,
-            288 => Name::R_AARCH64_MOVW_PREL_G0_NC,
-            289 => Name::R_AARCH64_MOVW_PREL_G1,
-            290 => Name::R_AARCH64_MOVW_PREL_G1_NC,
-            291 => Name::R_AARCH64_MOVW_PREL_G2,
-            292 => Name::R_AARCH64_MOVW_PREL_G2_NC,
-            293 => Name::R_AARCH64_MOVW_PREL_G3,
-            299 => Name::R_AARCH64_LDST128_ABS_LO12_NC,
-            300 => Name::R_AARCH64_MOVW_GOTOFF_G0,
-            301 => Name::R_AARCH64_MOVW_GOTOFF_G0_NC,
-            302 => Name::R_AARCH64_MOVW_GOTOFF_G1,
-            303 => Name::R_AARCH64_MOVW_GOTOFF_G1_NC,
-            304 => Name::R_AARCH64_MOVW_GOTOFF_G2,
-            305 => Name::R_AARCH64_MOVW_GOTOFF_G2_NC,
-            306 => Name::R_AARCH64_MOVW_GOTOFF_G3,
-            307 => Name::R_AARCH64_GOTREL64,
-            308 => Name::R_AARCH64_GOTREL32,
-            309 => Name::R_AARCH64_GOT_LD_PREL19,
-            310 => Name::R_AARCH64_LD64_GOTOFF_LO15,
-            311 => Name::R_AARCH64_ADR_GOT_PAGE,
-            312 => Name::R_AARCH64_LD64_GOT_LO12_NC,
-            313 => Name::R_AARCH64_LD64_GOTPAGE_LO15,
-            314 => Name::R_AARCH64_PLT32,
-            315 => Name::R_AARCH64_GOTPCREL32,
-            512 => Name::R_AARCH64_TLSGD_ADR_PREL21,
-            513 => Name::R_AARCH64_TLSGD_ADR_PAGE21,
-            514 => Name::R_AARCH64_TLSGD_ADD_LO12_NC,
-            515 => Name::R_AARCH64_TLSGD_MOVW_G1,
-            516 => Name::R_AARCH64_TLSGD_MOVW_G0_NC,
-            517 => Name::R_AARCH64_TLSLD_ADR_PREL21,
-            518 => Name::R_AARCH64_TLSLD_ADR_PAGE21,
-            519 => Name::R_AARCH64_TLSLD_ADD_LO12_NC,
-            520 => Name::R_AARCH64_TLSLD_MOVW_G1,
-            521 => Name::R_AARCH64_TLSLD_MOVW_G0_NC,
-            522 => Name::R_AARCH64_TLSLD_LD_PREL19,
-            523 => Name::R_AARCH64_TLSLD_MOVW_DTPREL_G2,
-            524 => Name::R_AARCH64_TLSLD_MOVW_DTPREL_G1,
-            525 => Name::R_AARCH64_TLSLD_MOVW_DTPREL_G1_NC,
-            526 => Name::R_AARCH64_TLSLD_MOVW_DTPREL_G0,
-            527 => Name::R_AARCH64_TLSLD_MOVW_DTPREL_G0_NC,
-            528 => Name::R_AARCH64_TLSLD_ADD_DTPREL_HI12,
-            529 => Name::R_AARCH64_TLSLD_ADD_DTPREL_LO12,
-            530 => Name::R_AARCH64_TLSLD_ADD_DTPREL_LO12_NC,
-            531 => Name::R_AARCH64_TLSLD_LDST8_DTPREL_LO12,
-            532 => Name::R_AARCH64_TLSLD_LDST8_DTPREL_LO12_NC,
-            533 => Name::R_AARCH64_TLSLD_LDST16_DTPREL_LO12,
-            534 => Name::R_AARCH64_TLSLD_LDST16_DTPREL_LO12_NC,
-            535 => Name::R_AARCH64_TLSLD_LDST32_DTPREL_LO12,
-            536 => Name::R_AARCH64_TLSLD_LDST32_DTPREL_LO12_NC,
-            537 => Name::R_AARCH64_TLSLD_LDST64_DTPREL_LO12,
-            538 => Name::R_AARCH64_TLSLD_LDST64_DTPREL_LO12_NC,
-            539 => Name::R_AARCH64_TLSIE_MOVW_GOTTPREL_G1,
-            540 => Name::R_AARCH64_TLSIE_MOVW_GOTTPREL_G0_NC,
-            541 => Name::R_AARCH64_TLSIE_ADR_GOTTPREL_PAGE21,
-            542 => Name::R_AARCH64_TLSIE_LD64_GOTTPREL_LO12_NC,
-            543 => Name::R_AARCH64_TLSIE_LD_GOTTPREL_PREL19,
-            544 => Name::R_AARCH64_TLSLE_MOVW_TPREL_G2,
-            545 => Name::R_AARCH64_TLSLE_MOVW_TPREL_G1,
-            546 => Name::R_AARCH64_TLSLE_MOVW_TPREL_G1_NC,
-            547 => Name::R_AARCH64_TLSLE_MOVW_TPREL_G0,
-            548 => Name::R_AARCH64_TLSLE_MOVW_TPREL_G0_NC,
-            549 => Name::R_AARCH64_TLSLE_ADD_TPREL_HI12,
-            550 => Name::R_AARCH64_TLSLE_ADD_TPREL_LO12,
-            551 => Name::R_AARCH64_TLSLE_ADD_TPREL_LO12_NC,
-            552 => Name::R_AARCH64_TLSLE_LDST8_TPREL_LO12,
-            553 => Name::R_AARCH64_TLSLE_LDST8_TPREL_LO12_NC,
-            554 => Name::R_AARCH64_TLSLE_LDST16_TPREL_LO12,
-            555 => Name::R_AARCH64_TLSLE_LDST16_TPREL_LO12_NC,
-            556 => Name::R_AARCH64_TLSLE_LDST32_TPREL_LO12,
-            557 => Name::R_AARCH64_TLSLE_LDST32_TPREL_LO12_NC,
-            558 => Name::R_AARCH64_TLSLE_LDST64_TPREL_LO12,
-            559 => Name::R_AARCH64_TLSLE_LDST64_TPREL_LO12_NC,
-            560 => Name::R_AARCH64_TLSDESC_LD_PREL19,
-            561 => Name::R_AARCH64_TLSDESC_ADR_PREL21,
-            562 => Name::R_AARCH64_TLSDESC_ADR_PAGE21,
-            563 => Name::R_AARCH64_TLSDESC_LD64_LO12,
-            564 => Name::R_AARCH64_TLSDESC_ADD_LO12,
-            565 => Name::R_AARCH64_TLSDESC_OFF_G1,
-            566 => Name::R_AARCH64_TLSDESC_OFF_G0_NC,
-            569 => Name::R_AARCH64_TLSDESC_CALL,
-            570 => Name::R_AARCH64_TLSLE_LDST128_TPREL_LO12,
-            571 => Name::R_AARCH64_TLSLE_LDST128_TPREL_LO12_NC,
-            572 => Name::R_AARCH64_TLSLD_LDST128_DTPREL_LO12,
-            573 => Name::R_AARCH64_TLSLD_LDST128_DTPREL_LO12_NC,
-            _ => Name::Other(code),
+        // the static and the TLS relocations are each dense enough for a table
+        if code < 257 {
+            match code {
+                0 => Name::R_AARCH64_NONE,
+                _ => Name::Other(code),
+            }
+        } else if code < 512 {
+            match code {
+                257 => Name::R_AARCH64_ABS64,
+                258 => Name::R_AARCH64_ABS32,
+                259 => Name::R_AARCH64_ABS16,
+                260 => Name::R_AARCH64_PREL64,
+                261 => Name::R_AARCH64_PREL32,
+                262 => Name::R_AARCH64_PREL16,
+                263 => Name::R_AARCH64_MOVW_UABS_G0,
+                264 => Name::R_AARCH64_MOVW_UABS_G0_NC,
+                265 => Name::R_AARCH64_MOVW_UABS_G1,
+                266 => Name::R_AARCH64_MOVW_UABS_G1_NC,
+                267 => Name::R_AARCH64_MOVW_UABS_G2,
+                268 => Name::R_AARCH64_MOVW_UABS_G2_NC,
+                269 => Name::R_AARCH64_MOVW_UABS_G3,
+                270 => Name::R_AARCH64_MOVW_SABS_G0,
+                271 => Name::R_AARCH64_MOVW_SABS_G1,
+                272 => Name::R_AARCH64_MOVW_SABS_G2,
+                273 => Name::R_AARCH64_LD_PREL_LO19,
+                274 => Name::R_AARCH64_ADR_PREL_LO21,
+                275 => Name::R_AARCH64_ADR_PREL_PG_HI21,
+                276 => Name::R_AARCH64_ADR_PREL_PG_HI21_NC,
+                277 => Name::R_AARCH64_ADD_ABS_LO12_NC,
+                278 => Name::R_AARCH64_LDST8_ABS_LO12_NC,
+                279 => Name::R_AARCH64_TSTBR14,
+                280 => Name::R_AARCH64_CONDBR19,
+                282 => Name::R_AARCH64_JUMP26,
+                283 => Name::R_AARCH64_CALL26,
+                284 => Name::R_AARCH64_LDST16_ABS_LO12_NC,
+                285 => Name::R_AARCH64_LDST32_ABS_LO12_NC,
+                286 => Name::R_AARCH64_LDST64_ABS_LO12_NC,
+                287 => Name::R_AARCH64_MOVW_PREL_G0,
+                288 => Name::R_AARCH64_MOVW_PREL_G0_NC,
+                289 => Name::R_AARCH64_MOVW_PREL_G1,
+                290 => Name::R_AARCH64_MOVW_PREL_G1_NC,
+                291 => Name::R_AARCH64_MOVW_PREL_G2,
+                292 => Name::R_AARCH64_MOVW_PREL_G2_NC,
+                293 => Name::R_AARCH64_MOVW_PREL_G3,
+                299 => Name::R_AARCH64_LDST128_ABS_LO12_NC,
+                300 => Name::R_AARCH64_MOVW_GOTOFF_G0,
+                301 => Name::R_AARCH64_MOVW_GOTOFF_G0_NC,
+                302 => Name::R_AARCH64_MOVW_GOTOFF_G1,
+                303 => Name::R_AARCH64_MOVW_GOTOFF_G1_NC,
+                304 => Name::R_AARCH64_MOVW_GOTOFF_G2,
+                305 => Name::R_AARCH64_MOVW_GOTOFF_G2_NC,
+                306 => Name::R_AARCH64_MOVW_GOTOFF_G3,
+                307 => Name::R_AARCH64_GOTREL64,
+                308 => Name::R_AARCH64_GOTREL32,
+                309 => Name::R_AARCH64_GOT_LD_PREL19,
+                310 => Name::R_AARCH64_LD64_GOTOFF_LO15,
+                311 => Name::R_AARCH64_ADR_GOT_PAGE,
+                312 => Name::R_AARCH64_LD64_GOT_LO12_NC,
+                313 => Name::R_AARCH64_LD64_GOTPAGE_LO15,
+                314 => Name::R_AARCH64_PLT32,
+                315 => Name::R_AARCH64_GOTPCREL32,
+                _ => Name::Other(code),
+            }
+        } else {
+            match code {
+                512 => Name::R_AARCH64_TLSGD_ADR_PREL21,
+                513 => Name::R_AARCH64_TLSGD_ADR_PAGE21,
+                514 => Name::R_AARCH64_TLSGD_ADD_LO12_NC,
+                515 => Name::R_AARCH64_TLSGD_MOVW_G1,
+                516 => Name::R_AARCH64_TLSGD_MOVW_G0_NC,
+                517 => Name::R_AARCH64_TLSLD_ADR_PREL21,
+                518 => Name::R_AARCH64_TLSLD_ADR_PAGE21,
+                519 => Name::R_AARCH64_TLSLD_ADD_LO12_NC,
+                520 => Name::R_AARCH64_TLSLD_MOVW_G1,
+                521 => Name::R_AARCH64_TLSLD_MOVW_G0_NC,
+                522 => Name::R_AARCH64_TLSLD_LD_PREL19,
+                523 => Name::R_AARCH64_TLSLD_MOVW_DTPREL_G2,
+                524 => Name::R_AARCH64_TLSLD_MOVW_DTPREL_G1,
+                525 => Name::R_AARCH64_TLSLD_MOVW_DTPREL_G1_NC,
+                526 => Name::R_AARCH64_TLSLD_MOVW_DTPREL_G0,
+                527 => Name::R_AARCH64_TLSLD_MOVW_DTPREL_G0_NC,
+                528 => Name::R_AARCH64_TLSLD_ADD_DTPREL_HI12,
+                529 => Name::R_AARCH64_TLSLD_ADD_DTPREL_LO12,
+                530 => Name::R_AARCH64_TLSLD_ADD_DTPREL_LO12_NC,
+                531 => Name::R_AARCH64_TLSLD_LDST8_DTPREL_LO12,
+                532 => Name::R_AARCH64_TLSLD_LDST8_DTPREL_LO12_NC,
+                533 => Name::R_AARCH64_TLSLD_LDST16_DTPREL_LO12,
+                534 => Name::R_AARCH64_TLSLD_LDST16_DTPREL_LO12_NC,
+                535 => Name::R_AARCH64_TLSLD_LDST32_DTPREL_LO12,
+                536 => Name::R_AARCH64_TLSLD_LDST32_DTPREL_LO12_NC,
+                537 => Name::R_AARCH64_TLSLD_LDST64_DTPREL_LO12,
+                538 => Name::R_AARCH64_TLSLD_LDST64_DTPREL_LO12_NC,
+                539 => Name::R_AARCH64_TLSIE_MOVW_GOTTPREL_G1,
+                540 => Name::R_AARCH64_TLSIE_MOVW_GOTTPREL_G0_NC,
+                541 => Name::R_AARCH64_TLSIE_ADR_GOTTPREL_PAGE21,
+                542 => Name::R_AARCH64_TLSIE_LD64_GOTTPREL_LO12_NC,
+                543 => Name::R_AARCH64_TLSIE_LD_GOTTPREL_PREL19,
+                544 => Name::R_AARCH64_TLSLE_MOVW_TPREL_G2,
+                545 => Name::R_AARCH64_TLSLE_MOVW_TPREL_G1,
+                546 => Name::R_AARCH64_TLSLE_MOVW_TPREL_G1_NC,
+                547 => Name::R_AARCH64_TLSLE_MOVW_TPREL_G0,
+                548 => Name::R_AARCH64_TLSLE_MOVW_TPREL_G0_NC,
+                549 => Name::R_AARCH64_TLSLE_ADD_TPREL_HI12,
+                550 => Name::R_AARCH64_TLSLE_ADD_TPREL_LO12,
+                551 => Name::R_AARCH64_TLSLE_ADD_TPREL_LO12_NC,
+                552 => Name::R_AARCH64_TLSLE_LDST8_TPREL_LO12,
+                553 => Name::R_AARCH64_TLSLE_LDST8_TPREL_LO12_NC,
+                554 => Name::R_AARCH64_TLSLE_LDST16_TPREL_LO12,
+                555 => Name::R_AARCH64_TLSLE_LDST16_TPREL_LO12_NC,
+                556 => Name::R_AARCH64_TLSLE_LDST32_TPREL_LO12,
+                557 => Name::R_AARCH64_TLSLE_LDST32_TPREL_LO12_NC,
+                558 => Name::R_AARCH64_TLSLE_LDST64_TPREL_LO12,
+                559 => Name::R_AARCH64_TLSLE_LDST64_TPREL_LO12_NC,
+                560 => Name::R_AARCH64_TLSDESC_LD_PREL19,
+                561 => Name::R_AARCH64_TLSDESC_ADR_PREL21,
+                562 => Name::R_AARCH64_TLSDESC_ADR_PAGE21,
+                563 => Name::R_AARCH64_TLSDESC_LD64_LO12,
+                564 => Name::R_AARCH64_TLSDESC_ADD_LO12,
+                565 => Name::R_AARCH64_TLSDESC_OFF_G1,
+                566 => Name::R_AARCH64_TLSDESC_OFF_G0_NC,
+                569 => Name::R_AARCH64_TLSDESC_CALL,
+                570 => Name::R_AARCH64_TLSLE_LDST128_TPREL_LO12,
+                571 => Name::R_AARCH64_TLSLE_LDST128_TPREL_LO12_NC,
+                572 => Name::R_AARCH64_TLSLD_LDST128_DTPREL_LO12,
+                573 => Name::R_AARCH64_TLSLD_LDST128_DTPREL_LO12_NC,
+                _ => Name::Other(code),
+            }
         }
     }
 
@@ -503,6 +515,7 @@ const ENTRY_PAGES: PageMask = PageMask::GotEntryAndPosition(PageMaskPattern::Siz
 
 const GOT_PAGE: PageMask = PageMask::GotBase(PageMaskPattern::Size4KB);
 
+#[inline(always)]
 fn of_size(kind: Kind, size: RelocationSize) -> RelocationKindInfo {
     RelocationKindInfo {
         kind,
@@ -516,14 +529,17 @@ fn of_size(kind: Kind, size: RelocationSize) -> RelocationKindInfo {
     }
 }
 
+#[inline(always)]
 fn bytes(kind: Kind, count: u8) -> RelocationKindInfo {
     of_size(kind, RelocationSize::ByteSize(count))
 }
 
+#[inline(always)]
 fn bits(kind: Kind, start: u8, end: u8, form: Form) -> RelocationKindInfo {
     of_size(kind, RelocationSize::bit_mask_aarch64(start, end, form))
 }
 
+#[inline(always)]
 fn signed(n: u32, info: RelocationKindInfo) -> RelocationKindInfo {
     RelocationKindInfo {
         range: AllowedRange::from_bit_size(n, Sign::Signed),
@@ -531,6 +547,7 @@ fn signed(n: u32, info: RelocationKindInfo) -> RelocationKindInfo {
     }
 }
 
+#[inline(always)]
 fn unsigned(n: u32, info: RelocationKindInfo) -> RelocationKindInfo {
     RelocationKindInfo {
         range: AllowedRange::from_bit_size(n, Sign::Unsigned),
@@ -538,6 +555,7 @@ fn unsigned(n: u32, info: RelocationKindInfo) -> RelocationKindInfo {
     }
 }
 
+#[inline(always)]
 fn within(min: i64, max: i64, info: RelocationKindInfo) -> RelocationKindInfo {
     RelocationKindInfo {
         range: AllowedRange::new(min, max),
@@ -545,10 +563,12 @@ fn within(min: i64, max: i64, info: RelocationKindInfo) -> RelocationKindInfo {
     }
 }
 
+#[inline(always)]
 fn aligned(alignment: u64, info: RelocationKindInfo) -> RelocationKindInfo {
     RelocationKindInfo { alignment, ..info }
 }
 
+#[inline(always)]
 fn paged(mask: PageMask, info: RelocationKindInfo) -> RelocationKindInfo {
     RelocationKindInfo {
         mask: Some(mask),
@@ -556,11 +576,359 @@ fn paged(mask: PageMask, info: RelocationKindInfo) -> RelocationKindInfo {
     }
 }
 
+#[inline(always)]
 fn thunkable(info: RelocationKindInfo) -> RelocationKindInfo {
     RelocationKindInfo {
         thunkable: true,
         ..info
     }
+}
+
+/// The rows, each by `$row`; `$none` where there is no row.
+macro_rules! rows {
+    ($name:expr, $row:ident, $none:expr) => {
+        match $name {
+            Name::R_AARCH64_NONE => $row(bytes(Kind::None, 0)),
+            Name::R_AARCH64_ABS64 => $row(bytes(Kind::Absolute, 8)),
+            Name::R_AARCH64_ABS32 => $row(within(
+                -0x80000000,
+                0x100000000,
+                bytes(Kind::Absolute, 4),
+            )),
+            Name::R_AARCH64_ABS16 => $row(within(-0x8000, 0x10000, bytes(Kind::Absolute, 2))),
+            Name::R_AARCH64_PREL64 => $row(bytes(Kind::Relative, 8)),
+            Name::R_AARCH64_PREL32 => $row(within(
+                -0x80000000,
+                0x100000000,
+                bytes(Kind::Relative, 4),
+            )),
+            Name::R_AARCH64_PREL16 => $row(within(-0x8000, 0x10000, bytes(Kind::Relative, 2))),
+            Name::R_AARCH64_PLT32 => $row(signed(32, bytes(Kind::PltRelative, 4))),
+            Name::R_AARCH64_MOVW_UABS_G0 => $row(unsigned(
+                16,
+                bits(Kind::Absolute, 0, 16, Form::Movkz),
+            )),
+            Name::R_AARCH64_MOVW_UABS_G0_NC => $row(bits(Kind::Absolute, 0, 16, Form::Movkz)),
+            Name::R_AARCH64_MOVW_UABS_G1 => $row(unsigned(
+                32,
+                bits(Kind::Absolute, 16, 32, Form::Movkz),
+            )),
+            Name::R_AARCH64_MOVW_UABS_G1_NC => $row(bits(Kind::Absolute, 16, 32, Form::Movkz)),
+            Name::R_AARCH64_MOVW_UABS_G2 => $row(unsigned(
+                48,
+                bits(Kind::Absolute, 32, 48, Form::Movkz),
+            )),
+            Name::R_AARCH64_MOVW_UABS_G2_NC => $row(bits(Kind::Absolute, 32, 48, Form::Movkz)),
+            Name::R_AARCH64_MOVW_UABS_G3 => $row(bits(Kind::Absolute, 48, 64, Form::Movkz)),
+            Name::R_AARCH64_MOVW_SABS_G0 => $row(signed(
+                17,
+                bits(Kind::Absolute, 0, 16, Form::Movnz),
+            )),
+            Name::R_AARCH64_MOVW_SABS_G1 => $row(signed(
+                33,
+                bits(Kind::Absolute, 16, 32, Form::Movnz),
+            )),
+            Name::R_AARCH64_MOVW_SABS_G2 => $row(signed(
+                49,
+                bits(Kind::Absolute, 32, 48, Form::Movnz),
+            )),
+            Name::R_AARCH64_LD_PREL_LO19 => $row(aligned(
+                4,
+                signed(21, bits(Kind::Relative, 2, 21, Form::Ldr)),
+            )),
+            Name::R_AARCH64_ADR_PREL_LO21 => $row(signed(
+                21,
+                bits(Kind::Relative, 0, 21, Form::Adr),
+            )),
+            Name::R_AARCH64_ADR_PREL_PG_HI21 => $row(paged(
+                PLACE_PAGES,
+                signed(33, bits(Kind::Relative, 12, 33, Form::Adr)),
+            )),
+            Name::R_AARCH64_ADR_PREL_PG_HI21_NC => $row(paged(
+                PLACE_PAGES,
+                bits(Kind::Relative, 12, 33, Form::Adr),
+            )),
+            Name::R_AARCH64_ADD_ABS_LO12_NC => $row(bits(Kind::AbsoluteLowPart, 0, 12, Form::Add)),
+            Name::R_AARCH64_LDST8_ABS_LO12_NC => $row(bits(
+                Kind::AbsoluteLowPart,
+                0,
+                12,
+                Form::LdSt,
+            )),
+            Name::R_AARCH64_LDST16_ABS_LO12_NC => $row(aligned(
+                2,
+                bits(Kind::AbsoluteLowPart, 1, 12, Form::LdSt),
+            )),
+            Name::R_AARCH64_LDST32_ABS_LO12_NC => $row(aligned(
+                4,
+                bits(Kind::AbsoluteLowPart, 2, 12, Form::LdSt),
+            )),
+            Name::R_AARCH64_LDST64_ABS_LO12_NC => $row(aligned(
+                8,
+                bits(Kind::AbsoluteLowPart, 3, 12, Form::LdSt),
+            )),
+            Name::R_AARCH64_LDST128_ABS_LO12_NC => $row(aligned(
+                16,
+                bits(Kind::AbsoluteLowPart, 4, 12, Form::LdSt),
+            )),
+            Name::R_AARCH64_TSTBR14 => $row(aligned(
+                4,
+                signed(16, bits(Kind::Relative, 2, 16, Form::TstBr)),
+            )),
+            Name::R_AARCH64_CONDBR19 => $row(aligned(
+                4,
+                signed(21, bits(Kind::Relative, 2, 21, Form::Bcond)),
+            )),
+            Name::R_AARCH64_JUMP26
+            | Name::R_AARCH64_CALL26 => $row(thunkable(aligned(
+                4,
+                signed(28, bits(Kind::PltRelative, 2, 28, Form::JumpCall)),
+            ))),
+            Name::R_AARCH64_MOVW_PREL_G0 => $row(bits(Kind::Relative, 0, 16, Form::Movnz)),
+            Name::R_AARCH64_MOVW_PREL_G0_NC => $row(bits(Kind::Relative, 0, 16, Form::Movkz)),
+            Name::R_AARCH64_MOVW_PREL_G1 => $row(bits(Kind::Relative, 16, 32, Form::Movnz)),
+            Name::R_AARCH64_MOVW_PREL_G1_NC => $row(bits(Kind::Relative, 16, 32, Form::Movkz)),
+            Name::R_AARCH64_MOVW_PREL_G2 => $row(bits(Kind::Relative, 32, 48, Form::Movnz)),
+            Name::R_AARCH64_MOVW_PREL_G2_NC => $row(bits(Kind::Relative, 32, 48, Form::Movkz)),
+            Name::R_AARCH64_MOVW_PREL_G3 => $row(bits(Kind::Relative, 48, 64, Form::Movnz)),
+            Name::R_AARCH64_MOVW_GOTOFF_G0 => $row(bits(Kind::GotRelGotBase, 0, 16, Form::Movnz)),
+            Name::R_AARCH64_MOVW_GOTOFF_G0_NC => $row(bits(
+                Kind::GotRelGotBase,
+                0,
+                16,
+                Form::Movkz,
+            )),
+            Name::R_AARCH64_MOVW_GOTOFF_G1 => $row(bits(Kind::GotRelGotBase, 16, 32, Form::Movnz)),
+            Name::R_AARCH64_MOVW_GOTOFF_G1_NC => $row(bits(
+                Kind::GotRelGotBase,
+                16,
+                32,
+                Form::Movkz,
+            )),
+            Name::R_AARCH64_MOVW_GOTOFF_G2 => $row(bits(Kind::GotRelGotBase, 32, 48, Form::Movnz)),
+            Name::R_AARCH64_MOVW_GOTOFF_G2_NC => $row(bits(
+                Kind::GotRelGotBase,
+                32,
+                48,
+                Form::Movkz,
+            )),
+            Name::R_AARCH64_MOVW_GOTOFF_G3 => $row(bits(Kind::GotRelGotBase, 48, 64, Form::Movnz)),
+            Name::R_AARCH64_GOTREL64 => $row(bytes(Kind::SymRelGotBase, 8)),
+            Name::R_AARCH64_GOTREL32 => $row(signed(32, bytes(Kind::SymRelGotBase, 4))),
+            Name::R_AARCH64_GOTPCREL32 => $row(signed(32, bytes(Kind::GotRelative, 4))),
+            Name::R_AARCH64_GOT_LD_PREL19 => $row(aligned(
+                4,
+                signed(21, bits(Kind::GotRelative, 2, 21, Form::Ldr)),
+            )),
+            Name::R_AARCH64_LD64_GOTOFF_LO15 => $row(aligned(
+                8,
+                unsigned(15, bits(Kind::GotRelGotBase, 3, 15, Form::LdSt)),
+            )),
+            Name::R_AARCH64_ADR_GOT_PAGE => $row(paged(
+                ENTRY_PAGES,
+                signed(33, bits(Kind::GotRelative, 12, 33, Form::Adr)),
+            )),
+            Name::R_AARCH64_LD64_GOT_LO12_NC => $row(aligned(
+                8,
+                bits(Kind::Got, 3, 12, Form::LdSt),
+            )),
+            Name::R_AARCH64_LD64_GOTPAGE_LO15 => $row(paged(
+                GOT_PAGE,
+                aligned(8, unsigned(15, bits(Kind::GotRelGotBase, 3, 15, Form::LdSt))),
+            )),
+            Name::R_AARCH64_TLSGD_ADR_PREL21 => $row(signed(
+                21,
+                bits(Kind::TlsGd, 0, 21, Form::Adr),
+            )),
+            Name::R_AARCH64_TLSGD_ADR_PAGE21 => $row(paged(
+                ENTRY_PAGES,
+                signed(33, bits(Kind::TlsGd, 12, 33, Form::Adr)),
+            )),
+            Name::R_AARCH64_TLSGD_ADD_LO12_NC => $row(bits(Kind::TlsGdGot, 0, 12, Form::Add)),
+            Name::R_AARCH64_TLSGD_MOVW_G1 => $row(bits(Kind::TlsGdGotBase, 16, 32, Form::Movnz)),
+            Name::R_AARCH64_TLSGD_MOVW_G0_NC => $row(bits(Kind::TlsGdGotBase, 0, 16, Form::Movkz)),
+            Name::R_AARCH64_TLSLD_ADR_PREL21 => $row(signed(
+                21,
+                bits(Kind::TlsLd, 0, 21, Form::Adr),
+            )),
+            Name::R_AARCH64_TLSLD_ADR_PAGE21 => $row(paged(
+                ENTRY_PAGES,
+                signed(33, bits(Kind::TlsLd, 12, 33, Form::Adr)),
+            )),
+            Name::R_AARCH64_TLSLD_ADD_LO12_NC => $row(bits(Kind::TlsLdGot, 0, 12, Form::Add)),
+            Name::R_AARCH64_TLSLD_MOVW_G1 => $row(bits(Kind::TlsLdGotBase, 16, 32, Form::Movnz)),
+            Name::R_AARCH64_TLSLD_MOVW_G0_NC => $row(bits(Kind::TlsLdGotBase, 0, 16, Form::Movkz)),
+            Name::R_AARCH64_TLSLD_LD_PREL19 => $row(aligned(
+                4,
+                signed(21, bits(Kind::TlsLd, 2, 21, Form::Ldr)),
+            )),
+            Name::R_AARCH64_TLSLD_MOVW_DTPREL_G2 => $row(bits(Kind::DtpOff, 32, 48, Form::Movnz)),
+            Name::R_AARCH64_TLSLD_MOVW_DTPREL_G1 => $row(bits(Kind::DtpOff, 16, 32, Form::Movnz)),
+            Name::R_AARCH64_TLSLD_MOVW_DTPREL_G1_NC => $row(bits(
+                Kind::DtpOff,
+                16,
+                32,
+                Form::Movkz,
+            )),
+            Name::R_AARCH64_TLSLD_MOVW_DTPREL_G0 => $row(bits(Kind::DtpOff, 0, 16, Form::Movnz)),
+            Name::R_AARCH64_TLSLD_MOVW_DTPREL_G0_NC => $row(bits(Kind::DtpOff, 0, 16, Form::Movkz)),
+            Name::R_AARCH64_TLSLD_ADD_DTPREL_HI12 => $row(unsigned(
+                24,
+                bits(Kind::DtpOff, 12, 24, Form::Add),
+            )),
+            Name::R_AARCH64_TLSLD_ADD_DTPREL_LO12 => $row(unsigned(
+                12,
+                bits(Kind::DtpOff, 0, 12, Form::Add),
+            )),
+            Name::R_AARCH64_TLSLD_ADD_DTPREL_LO12_NC => $row(bits(Kind::DtpOff, 0, 12, Form::Add)),
+            Name::R_AARCH64_TLSLD_LDST8_DTPREL_LO12 => $row(unsigned(
+                12,
+                bits(Kind::DtpOff, 0, 12, Form::LdSt),
+            )),
+            Name::R_AARCH64_TLSLD_LDST8_DTPREL_LO12_NC => $row(bits(
+                Kind::DtpOff,
+                0,
+                12,
+                Form::LdSt,
+            )),
+            Name::R_AARCH64_TLSLD_LDST16_DTPREL_LO12 => $row(aligned(
+                2,
+                unsigned(12, bits(Kind::DtpOff, 1, 12, Form::LdSt)),
+            )),
+            Name::R_AARCH64_TLSLD_LDST16_DTPREL_LO12_NC => $row(aligned(
+                2,
+                bits(Kind::DtpOff, 1, 12, Form::LdSt),
+            )),
+            Name::R_AARCH64_TLSLD_LDST32_DTPREL_LO12 => $row(aligned(
+                4,
+                unsigned(12, bits(Kind::DtpOff, 2, 12, Form::LdSt)),
+            )),
+            Name::R_AARCH64_TLSLD_LDST32_DTPREL_LO12_NC => $row(aligned(
+                4,
+                bits(Kind::DtpOff, 2, 12, Form::LdSt),
+            )),
+            Name::R_AARCH64_TLSLD_LDST64_DTPREL_LO12 => $row(aligned(
+                8,
+                unsigned(12, bits(Kind::DtpOff, 3, 12, Form::LdSt)),
+            )),
+            Name::R_AARCH64_TLSLD_LDST64_DTPREL_LO12_NC => $row(aligned(
+                8,
+                bits(Kind::DtpOff, 3, 12, Form::LdSt),
+            )),
+            Name::R_AARCH64_TLSLD_LDST128_DTPREL_LO12 => $row(aligned(
+                16,
+                unsigned(12, bits(Kind::DtpOff, 4, 12, Form::LdSt)),
+            )),
+            Name::R_AARCH64_TLSLD_LDST128_DTPREL_LO12_NC => $row(aligned(
+                16,
+                bits(Kind::DtpOff, 4, 12, Form::LdSt),
+            )),
+            Name::R_AARCH64_TLSIE_MOVW_GOTTPREL_G1 => $row(bits(
+                Kind::GotTpOffGotBase,
+                16,
+                32,
+                Form::Movnz,
+            )),
+            Name::R_AARCH64_TLSIE_MOVW_GOTTPREL_G0_NC => $row(bits(
+                Kind::GotTpOffGotBase,
+                0,
+                16,
+                Form::Movkz,
+            )),
+            Name::R_AARCH64_TLSIE_ADR_GOTTPREL_PAGE21 => $row(paged(
+                ENTRY_PAGES,
+                signed(33, bits(Kind::GotTpOff, 12, 33, Form::Adr)),
+            )),
+            Name::R_AARCH64_TLSIE_LD64_GOTTPREL_LO12_NC => $row(aligned(
+                8,
+                bits(Kind::GotTpOffGot, 3, 12, Form::LdrRegister),
+            )),
+            Name::R_AARCH64_TLSIE_LD_GOTTPREL_PREL19 => $row(aligned(
+                4,
+                signed(21, bits(Kind::GotTpOff, 2, 21, Form::Ldr)),
+            )),
+            Name::R_AARCH64_TLSLE_MOVW_TPREL_G2 => $row(bits(Kind::TpOff, 32, 48, Form::Movnz)),
+            Name::R_AARCH64_TLSLE_MOVW_TPREL_G1 => $row(bits(Kind::TpOff, 16, 32, Form::Movnz)),
+            Name::R_AARCH64_TLSLE_MOVW_TPREL_G1_NC => $row(bits(Kind::TpOff, 16, 32, Form::Movkz)),
+            Name::R_AARCH64_TLSLE_MOVW_TPREL_G0 => $row(bits(Kind::TpOff, 0, 16, Form::Movnz)),
+            Name::R_AARCH64_TLSLE_MOVW_TPREL_G0_NC => $row(bits(Kind::TpOff, 0, 16, Form::Movkz)),
+            Name::R_AARCH64_TLSLE_ADD_TPREL_HI12 => $row(unsigned(
+                24,
+                bits(Kind::TpOff, 12, 24, Form::Add),
+            )),
+            Name::R_AARCH64_TLSLE_ADD_TPREL_LO12 => $row(unsigned(
+                12,
+                bits(Kind::TpOff, 0, 12, Form::Add),
+            )),
+            Name::R_AARCH64_TLSLE_ADD_TPREL_LO12_NC => $row(bits(Kind::TpOff, 0, 12, Form::Add)),
+            Name::R_AARCH64_TLSLE_LDST8_TPREL_LO12 => $row(unsigned(
+                12,
+                bits(Kind::TpOff, 0, 12, Form::LdSt),
+            )),
+            Name::R_AARCH64_TLSLE_LDST8_TPREL_LO12_NC => $row(bits(Kind::TpOff, 0, 12, Form::LdSt)),
+            Name::R_AARCH64_TLSLE_LDST16_TPREL_LO12 => $row(aligned(
+                2,
+                unsigned(12, bits(Kind::TpOff, 1, 12, Form::LdSt)),
+            )),
+            Name::R_AARCH64_TLSLE_LDST16_TPREL_LO12_NC => $row(aligned(
+                2,
+                bits(Kind::TpOff, 1, 12, Form::LdSt),
+            )),
+            Name::R_AARCH64_TLSLE_LDST32_TPREL_LO12 => $row(aligned(
+                4,
+                unsigned(12, bits(Kind::TpOff, 2, 12, Form::LdSt)),
+            )),
+            Name::R_AARCH64_TLSLE_LDST32_TPREL_LO12_NC => $row(aligned(
+                4,
+                bits(Kind::TpOff, 2, 12, Form::LdSt),
+            )),
+            Name::R_AARCH64_TLSLE_LDST64_TPREL_LO12 => $row(aligned(
+                8,
+                unsigned(12, bits(Kind::TpOff, 3, 12, Form::LdSt)),
+            )),
+            Name::R_AARCH64_TLSLE_LDST64_TPREL_LO12_NC => $row(aligned(
+                8,
+                bits(Kind::TpOff, 3, 12, Form::LdSt),
+            )),
+            Name::R_AARCH64_TLSLE_LDST128_TPREL_LO12 => $row(aligned(
+                16,
+                unsigned(12, bits(Kind::TpOff, 4, 12, Form::LdSt)),
+            )),
+            Name::R_AARCH64_TLSLE_LDST128_TPREL_LO12_NC => $row(aligned(
+                16,
+                bits(Kind::TpOff, 4, 12, Form::LdSt),
+            )),
+            Name::R_AARCH64_TLSDESC_LD_PREL19 => $row(aligned(
+                4,
+                signed(21, bits(Kind::TlsDesc, 2, 21, Form::Ldr)),
+            )),
+            Name::R_AARCH64_TLSDESC_ADR_PREL21 => $row(signed(
+                21,
+                bits(Kind::TlsDesc, 0, 21, Form::Adr),
+            )),
+            Name::R_AARCH64_TLSDESC_ADR_PAGE21 => $row(paged(
+                ENTRY_PAGES,
+                signed(33, bits(Kind::TlsDesc, 12, 33, Form::Adr)),
+            )),
+            Name::R_AARCH64_TLSDESC_LD64_LO12 => $row(aligned(
+                8,
+                bits(Kind::TlsDescGot, 3, 12, Form::LdrRegister),
+            )),
+            Name::R_AARCH64_TLSDESC_ADD_LO12 => $row(bits(Kind::TlsDescGot, 0, 12, Form::Add)),
+            Name::R_AARCH64_TLSDESC_OFF_G1 => $row(signed(
+                33,
+                bits(Kind::TlsDescGotBase, 16, 32, Form::Movnz),
+            )),
+            Name::R_AARCH64_TLSDESC_OFF_G0_NC => $row(bits(
+                Kind::TlsDescGotBase,
+                0,
+                16,
+                Form::Movkz,
+            )),
+            Name::R_AARCH64_TLSDESC_CALL => $row(bytes(Kind::TlsDescCall, 0)),
+            Name::Other(_) => $none,
+        }
+    };
 }
 
 /// What a relocation means. It takes a name; `AArch64Relocation::from_elf` gives the name of a
@@ -577,260 +945,25 @@ fn thunkable(info: RelocationKindInfo) -> RelocationKindInfo {
 /// ```
 #[inline]
 pub fn relocation_type_from_raw(name: AArch64Relocation) -> Option<RelocationKindInfo> {
-    described(name)
+    row(name)
 }
 
 #[inline(always)]
-fn described(name: AArch64Relocation) -> Option<RelocationKindInfo> {
-    let info = match name {
-        Name::R_AARCH64_NONE => bytes(Kind::None, 0),
-        Name::R_AARCH64_ABS64 => bytes(Kind::Absolute, 8),
-        Name::R_AARCH64_ABS32 => within(-0x80000000, 0x100000000, bytes(Kind::Absolute, 4)),
-        Name::R_AARCH64_ABS16 => within(-0x8000, 0x10000, bytes(Kind::Absolute, 2)),
-        Name::R_AARCH64_PREL64 => bytes(Kind::Relative, 8),
-        Name::R_AARCH64_PREL32 => within(-0x80000000, 0x100000000, bytes(Kind::Relative, 4)),
-        Name::R_AARCH64_PREL16 => within(-0x8000, 0x10000, bytes(Kind::Relative, 2)),
-        Name::R_AARCH64_PLT32 => signed(32, bytes(Kind::PltRelative, 4)),
-        Name::R_AARCH64_MOVW_UABS_G0 => unsigned(16, bits(Kind::Absolute, 0, 16, Form::Movkz)),
-        Name::R_AARCH64_MOVW_UABS_G0_NC => bits(Kind::Absolute, 0, 16, Form::Movkz),
-        Name::R_AARCH64_MOVW_UABS_G1 => unsigned(32, bits(Kind::Absolute, 16, 32, Form::Movkz)),
-        Name::R_AARCH64_MOVW_UABS_G1_NC => bits(Kind::Absolute, 16, 32, Form::Movkz),
-        Name::R_AARCH64_MOVW_UABS_G2 => unsigned(48, bits(Kind::Absolute, 32, 48, Form::Movkz)),
-        Name::R_AARCH64_MOVW_UABS_G2_NC => bits(Kind::Absolute, 32, 48, Form::Movkz),
-        Name::R_AARCH64_MOVW_UABS_G3 => bits(Kind::Absolute, 48, 64, Form::Movkz),
-        Name::R_AARCH64_MOVW_SABS_G0 => signed(17, bits(Kind::Absolute, 0, 16, Form::Movnz)),
-        Name::R_AARCH64_MOVW_SABS_G1 => signed(33, bits(Kind::Absolute, 16, 32, Form::Movnz)),
-        Name::R_AARCH64_MOVW_SABS_G2 => signed(49, bits(Kind::Absolute, 32, 48, Form::Movnz)),
-        Name::R_AARCH64_LD_PREL_LO19 => aligned(
-            4,
-            signed(21, bits(Kind::Relative, 2, 21, Form::Ldr)),
-        ),
-        Name::R_AARCH64_ADR_PREL_LO21 => signed(21, bits(Kind::Relative, 0, 21, Form::Adr)),
-        Name::R_AARCH64_ADR_PREL_PG_HI21 => paged(
-            PLACE_PAGES,
-            signed(33, bits(Kind::Relative, 12, 33, Form::Adr)),
-        ),
-        Name::R_AARCH64_ADR_PREL_PG_HI21_NC => paged(
-            PLACE_PAGES,
-            bits(Kind::Relative, 12, 33, Form::Adr),
-        ),
-        Name::R_AARCH64_ADD_ABS_LO12_NC => bits(Kind::AbsoluteLowPart, 0, 12, Form::Add),
-        Name::R_AARCH64_LDST8_ABS_LO12_NC => bits(Kind::AbsoluteLowPart, 0, 12, Form::LdSt),
-        Name::R_AARCH64_LDST16_ABS_LO12_NC => aligned(
-            2,
-            bits(Kind::AbsoluteLowPart, 1, 12, Form::LdSt),
-        ),
-        Name::R_AARCH64_LDST32_ABS_LO12_NC => aligned(
-            4,
-            bits(Kind::AbsoluteLowPart, 2, 12, Form::LdSt),
-        ),
-        Name::R_AARCH64_LDST64_ABS_LO12_NC => aligned(
-            8,
-            bits(Kind::AbsoluteLowPart, 3, 12, Form::LdSt),
-        ),
-        Name::R_AARCH64_LDST128_ABS_LO12_NC => aligned(
-            16,
-            bits(Kind::AbsoluteLowPart, 4, 12, Form::LdSt),
-        ),
-        Name::R_AARCH64_TSTBR14 => aligned(4, signed(16, bits(Kind::Relative, 2, 16, Form::TstBr))),
-        Name::R_AARCH64_CONDBR19 => aligned(
-            4,
-            signed(21, bits(Kind::Relative, 2, 21, Form::Bcond)),
-        ),
-        Name::R_AARCH64_JUMP26 | Name::R_AARCH64_CALL26 => thunkable(aligned(
-            4,
-            signed(28, bits(Kind::PltRelative, 2, 28, Form::JumpCall)),
-        )),
-        Name::R_AARCH64_MOVW_PREL_G0 => bits(Kind::Relative, 0, 16, Form::Movnz),
-        Name::R_AARCH64_MOVW_PREL_G0_NC => bits(Kind::Relative, 0, 16, Form::Movkz),
-        Name::R_AARCH64_MOVW_PREL_G1 => bits(Kind::Relative, 16, 32, Form::Movnz),
-        Name::R_AARCH64_MOVW_PREL_G1_NC => bits(Kind::Relative, 16, 32, Form::Movkz),
-        Name::R_AARCH64_MOVW_PREL_G2 => bits(Kind::Relative, 32, 48, Form::Movnz),
-        Name::R_AARCH64_MOVW_PREL_G2_NC => bits(Kind::Relative, 32, 48, Form::Movkz),
-        Name::R_AARCH64_MOVW_PREL_G3 => bits(Kind::Relative, 48, 64, Form::Movnz),
-        Name::R_AARCH64_MOVW_GOTOFF_G0 => bits(Kind::GotRelGotBase, 0, 16, Form::Movnz),
-        Name::R_AARCH64_MOVW_GOTOFF_G0_NC => bits(Kind::GotRelGotBase, 0, 16, Form::Movkz),
-        Name::R_AARCH64_MOVW_GOTOFF_G1 => bits(Kind::GotRelGotBase, 16, 32, Form::Movnz),
-        Name::R_AARCH64_MOVW_GOTOFF_G1_NC => bits(Kind::GotRelGotBase, 16, 32, Form::Movkz),
-        Name::R_AARCH64_MOVW_GOTOFF_G2 => bits(Kind::GotRelGotBase, 32, 48, Form::Movnz),
-        Name::R_AARCH64_MOVW_GOTOFF_G2_NC => bits(Kind::GotRelGotBase, 32, 48, Form::Movkz),
-        Name::R_AARCH64_MOVW_GOTOFF_G3 => bits(Kind::GotRelGotBase, 48, 64, Form::Movnz),
-        Name::R_AARCH64_GOTREL64 => bytes(Kind::SymRelGotBase, 8),
-        Name::R_AARCH64_GOTREL32 => signed(32, bytes(Kind::SymRelGotBase, 4)),
-        Name::R_AARCH64_GOTPCREL32 => signed(32, bytes(Kind::GotRelative, 4)),
-        Name::R_AARCH64_GOT_LD_PREL19 => aligned(
-            4,
-            signed(21, bits(Kind::GotRelative, 2, 21, Form::Ldr)),
-        ),
-        Name::R_AARCH64_LD64_GOTOFF_LO15 => aligned(
-            8,
-            unsigned(15, bits(Kind::GotRelGotBase, 3, 15, Form::LdSt)),
-        ),
-        Name::R_AARCH64_ADR_GOT_PAGE => paged(
-            ENTRY_PAGES,
-            signed(33, bits(Kind::GotRelative, 12, 33, Form::Adr)),
-        ),
-        Name::R_AARCH64_LD64_GOT_LO12_NC => aligned(8, bits(Kind::Got, 3, 12, Form::LdSt)),
-        Name::R_AARCH64_LD64_GOTPAGE_LO15 => paged(
-            GOT_PAGE,
-            aligned(
-                8,
-                unsigned(15, bits(Kind::GotRelGotBase, 3, 15, Form::LdSt)),
-            ),
-        ),
-        Name::R_AARCH64_TLSGD_ADR_PREL21 => signed(21, bits(Kind::TlsGd, 0, 21, Form::Adr)),
-        Name::R_AARCH64_TLSGD_ADR_PAGE21 => paged(
-            ENTRY_PAGES,
-            signed(33, bits(Kind::TlsGd, 12, 33, Form::Adr)),
-        ),
-        Name::R_AARCH64_TLSGD_ADD_LO12_NC => bits(Kind::TlsGdGot, 0, 12, Form::Add),
-        Name::R_AARCH64_TLSGD_MOVW_G1 => bits(Kind::TlsGdGotBase, 16, 32, Form::Movnz),
-        Name::R_AARCH64_TLSGD_MOVW_G0_NC => bits(Kind::TlsGdGotBase, 0, 16, Form::Movkz),
-        Name::R_AARCH64_TLSLD_ADR_PREL21 => signed(21, bits(Kind::TlsLd, 0, 21, Form::Adr)),
-        Name::R_AARCH64_TLSLD_ADR_PAGE21 => paged(
-            ENTRY_PAGES,
-            signed(33, bits(Kind::TlsLd, 12, 33, Form::Adr)),
-        ),
-        Name::R_AARCH64_TLSLD_ADD_LO12_NC => bits(Kind::TlsLdGot, 0, 12, Form::Add),
-        Name::R_AARCH64_TLSLD_MOVW_G1 => bits(Kind::TlsLdGotBase, 16, 32, Form::Movnz),
-        Name::R_AARCH64_TLSLD_MOVW_G0_NC => bits(Kind::TlsLdGotBase, 0, 16, Form::Movkz),
-        Name::R_AARCH64_TLSLD_LD_PREL19 => aligned(
-            4,
-            signed(21, bits(Kind::TlsLd, 2, 21, Form::Ldr)),
-        ),
-        Name::R_AARCH64_TLSLD_MOVW_DTPREL_G2 => bits(Kind::DtpOff, 32, 48, Form::Movnz),
-        Name::R_AARCH64_TLSLD_MOVW_DTPREL_G1 => bits(Kind::DtpOff, 16, 32, Form::Movnz),
-        Name::R_AARCH64_TLSLD_MOVW_DTPREL_G1_NC => bits(Kind::DtpOff, 16, 32, Form::Movkz),
-        Name::R_AARCH64_TLSLD_MOVW_DTPREL_G0 => bits(Kind::DtpOff, 0, 16, Form::Movnz),
-        Name::R_AARCH64_TLSLD_MOVW_DTPREL_G0_NC => bits(Kind::DtpOff, 0, 16, Form::Movkz),
-        Name::R_AARCH64_TLSLD_ADD_DTPREL_HI12 => unsigned(
-            24,
-            bits(Kind::DtpOff, 12, 24, Form::Add),
-        ),
-        Name::R_AARCH64_TLSLD_ADD_DTPREL_LO12 => unsigned(12, bits(Kind::DtpOff, 0, 12, Form::Add)),
-        Name::R_AARCH64_TLSLD_ADD_DTPREL_LO12_NC => bits(Kind::DtpOff, 0, 12, Form::Add),
-        Name::R_AARCH64_TLSLD_LDST8_DTPREL_LO12 => unsigned(
-            12,
-            bits(Kind::DtpOff, 0, 12, Form::LdSt),
-        ),
-        Name::R_AARCH64_TLSLD_LDST8_DTPREL_LO12_NC => bits(Kind::DtpOff, 0, 12, Form::LdSt),
-        Name::R_AARCH64_TLSLD_LDST16_DTPREL_LO12 => aligned(
-            2,
-            unsigned(12, bits(Kind::DtpOff, 1, 12, Form::LdSt)),
-        ),
-        Name::R_AARCH64_TLSLD_LDST16_DTPREL_LO12_NC => aligned(
-            2,
-            bits(Kind::DtpOff, 1, 12, Form::LdSt),
-        ),
-        Name::R_AARCH64_TLSLD_LDST32_DTPREL_LO12 => aligned(
-            4,
-            unsigned(12, bits(Kind::DtpOff, 2, 12, Form::LdSt)),
-        ),
-        Name::R_AARCH64_TLSLD_LDST32_DTPREL_LO12_NC => aligned(
-            4,
-            bits(Kind::DtpOff, 2, 12, Form::LdSt),
-        ),
-        Name::R_AARCH64_TLSLD_LDST64_DTPREL_LO12 => aligned(
-            8,
-            unsigned(12, bits(Kind::DtpOff, 3, 12, Form::LdSt)),
-        ),
-        Name::R_AARCH64_TLSLD_LDST64_DTPREL_LO12_NC => aligned(
-            8,
-            bits(Kind::DtpOff, 3, 12, Form::LdSt),
-        ),
-        Name::R_AARCH64_TLSLD_LDST128_DTPREL_LO12 => aligned(
-            16,
-            unsigned(12, bits(Kind::DtpOff, 4, 12, Form::LdSt)),
-        ),
-        Name::R_AARCH64_TLSLD_LDST128_DTPREL_LO12_NC => aligned(
-            16,
-            bits(Kind::DtpOff, 4, 12, Form::LdSt),
-        ),
-        Name::R_AARCH64_TLSIE_MOVW_GOTTPREL_G1 => bits(Kind::GotTpOffGotBase, 16, 32, Form::Movnz),
-        Name::R_AARCH64_TLSIE_MOVW_GOTTPREL_G0_NC => bits(
-            Kind::GotTpOffGotBase,
-            0,
-            16,
-            Form::Movkz,
-        ),
-        Name::R_AARCH64_TLSIE_ADR_GOTTPREL_PAGE21 => paged(
-            ENTRY_PAGES,
-            signed(33, bits(Kind::GotTpOff, 12, 33, Form::Adr)),
-        ),
-        Name::R_AARCH64_TLSIE_LD64_GOTTPREL_LO12_NC => aligned(
-            8,
-            bits(Kind::GotTpOffGot, 3, 12, Form::LdrRegister),
-        ),
-        Name::R_AARCH64_TLSIE_LD_GOTTPREL_PREL19 => aligned(
-            4,
-            signed(21, bits(Kind::GotTpOff, 2, 21, Form::Ldr)),
-        ),
-        Name::R_AARCH64_TLSLE_MOVW_TPREL_G2 => bits(Kind::TpOff, 32, 48, Form::Movnz),
-        Name::R_AARCH64_TLSLE_MOVW_TPREL_G1 => bits(Kind::TpOff, 16, 32, Form::Movnz),
-        Name::R_AARCH64_TLSLE_MOVW_TPREL_G1_NC => bits(Kind::TpOff, 16, 32, Form::Movkz),
-        Name::R_AARCH64_TLSLE_MOVW_TPREL_G0 => bits(Kind::TpOff, 0, 16, Form::Movnz),
-        Name::R_AARCH64_TLSLE_MOVW_TPREL_G0_NC => bits(Kind::TpOff, 0, 16, Form::Movkz),
-        Name::R_AARCH64_TLSLE_ADD_TPREL_HI12 => unsigned(24, bits(Kind::TpOff, 12, 24, Form::Add)),
-        Name::R_AARCH64_TLSLE_ADD_TPREL_LO12 => unsigned(12, bits(Kind::TpOff, 0, 12, Form::Add)),
-        Name::R_AARCH64_TLSLE_ADD_TPREL_LO12_NC => bits(Kind::TpOff, 0, 12, Form::Add),
-        Name::R_AARCH64_TLSLE_LDST8_TPREL_LO12 => unsigned(
-            12,
-            bits(Kind::TpOff, 0, 12, Form::LdSt),
-        ),
-        Name::R_AARCH64_TLSLE_LDST8_TPREL_LO12_NC => bits(Kind::TpOff, 0, 12, Form::LdSt),
-        Name::R_AARCH64_TLSLE_LDST16_TPREL_LO12 => aligned(
-            2,
-            unsigned(12, bits(Kind::TpOff, 1, 12, Form::LdSt)),
-        ),
-        Name::R_AARCH64_TLSLE_LDST16_TPREL_LO12_NC => aligned(
-            2,
-            bits(Kind::TpOff, 1, 12, Form::LdSt),
-        ),
-        Name::R_AARCH64_TLSLE_LDST32_TPREL_LO12 => aligned(
-            4,
-            unsigned(12, bits(Kind::TpOff, 2, 12, Form::LdSt)),
-        ),
-        Name::R_AARCH64_TLSLE_LDST32_TPREL_LO12_NC => aligned(
-            4,
-            bits(Kind::TpOff, 2, 12, Form::LdSt),
-        ),
-        Name::R_AARCH64_TLSLE_LDST64_TPREL_LO12 => aligned(
-            8,
-            unsigned(12, bits(Kind::TpOff, 3, 12, Form::LdSt)),
-        ),
-        Name::R_AARCH64_TLSLE_LDST64_TPREL_LO12_NC => aligned(
-            8,
-            bits(Kind::TpOff, 3, 12, Form::LdSt),
-        ),
-        Name::R_AARCH64_TLSLE_LDST128_TPREL_LO12 => aligned(
-            16,
-            unsigned(12, bits(Kind::TpOff, 4, 12, Form::LdSt)),
-        ),
-        Name::R_AARCH64_TLSLE_LDST128_TPREL_LO12_NC => aligned(
-            16,
-            bits(Kind::TpOff, 4, 12, Form::LdSt),
-        ),
-        Name::R_AARCH64_TLSDESC_LD_PREL19 => aligned(
-            4,
-            signed(21, bits(Kind::TlsDesc, 2, 21, Form::Ldr)),
-        ),
-        Name::R_AARCH64_TLSDESC_ADR_PREL21 => signed(21, bits(Kind::TlsDesc, 0, 21, Form::Adr)),
-        Name::R_AARCH64_TLSDESC_ADR_PAGE21 => paged(
-            ENTRY_PAGES,
-            signed(33, bits(Kind::TlsDesc, 12, 33, Form::Adr)),
-        ),
-        Name::R_AARCH64_TLSDESC_LD64_LO12 => aligned(
-            8,
-            bits(Kind::TlsDescGot, 3, 12, Form::LdrRegister),
-        ),
-        Name::R_AARCH64_TLSDESC_ADD_LO12 => bits(Kind::TlsDescGot, 0, 12, Form::Add),
-        Name::R_AARCH64_TLSDESC_OFF_G1 => signed(
-            33,
-            bits(Kind::TlsDescGotBase, 16, 32, Form::Movnz),
-        ),
-        Name::R_AARCH64_TLSDESC_OFF_G0_NC => bits(Kind::TlsDescGotBase, 0, 16, Form::Movkz),
-        Name::R_AARCH64_TLSDESC_CALL => bytes(Kind::TlsDescCall, 0),
-        Name::Other(_) => return None,
-    };
-    Some(info)
+fn row(name: AArch64Relocation) -> Option<RelocationKindInfo> {
+    rows!(name, Some, None)
+}
+
+/// `relocation_type_from_raw`, by a table in place of a match. It takes less time where a processor
+/// can't foresee the name, and more where it can.
+#[inline]
+pub fn relocation_type_from_table(name: AArch64Relocation) -> Option<RelocationKindInfo> {
+    let row = row_number(name);
+    unpack(row, aarch64_size(row))
+}
+
+/// The row of a name as a number; 0 where there is none. Inlined, the match would be joined with
+/// what reads the row, into a jump that a processor can't foresee.
+#[inline(never)]
+fn row_number(name: AArch64Relocation) -> u64 {
+    rows!(name, pack, 0)
 }

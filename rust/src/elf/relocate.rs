@@ -35,19 +35,33 @@ fn load(len: usize, bytes: &[u8]) -> u64 {
 /// Sets the first `len` bytes to the lowest of a number.
 #[inline(always)]
 fn store(len: usize, number: u64, bytes: &mut [u8]) {
-    bytes[..len].copy_from_slice(&number.to_le_bytes()[..len]);
+    // a copy of a known length is one store
+    match len {
+        8 => bytes[..8].copy_from_slice(&number.to_le_bytes()[..8]),
+        4 => bytes[..4].copy_from_slice(&number.to_le_bytes()[..4]),
+        _ => bytes[..len].copy_from_slice(&number.to_le_bytes()[..len]),
+    }
 }
 
-/// The number that a relocation of whole bytes writes over another.
+/// The number that a relocation of whole bytes writes over those that stand there.
 #[inline(always)]
-fn number_over(kind: RelocationKind, value: i64, old: u64) -> u64 {
+fn number_over(kind: RelocationKind, len: usize, value: i64, dest: &[u8]) -> u64 {
     let number = value.cast_unsigned();
     match kind {
-        RelocationKind::AbsoluteAddition => old.wrapping_add(number),
-        RelocationKind::AbsoluteSubtraction => old.wrapping_sub(number),
-        RelocationKind::AbsoluteSetWord6 => old - old % 64 + number % 64,
-        RelocationKind::AbsoluteAdditionWord6 => old - old % 64 + old.wrapping_add(number) % 64,
-        RelocationKind::AbsoluteSubtractionWord6 => old - old % 64 + old.wrapping_sub(number) % 64,
+        RelocationKind::AbsoluteAddition => load(len, dest).wrapping_add(number),
+        RelocationKind::AbsoluteSubtraction => load(len, dest).wrapping_sub(number),
+        RelocationKind::AbsoluteSetWord6 => {
+            let old = load(len, dest);
+            old - old % 64 + number % 64
+        }
+        RelocationKind::AbsoluteAdditionWord6 => {
+            let old = load(len, dest);
+            old - old % 64 + old.wrapping_add(number) % 64
+        }
+        RelocationKind::AbsoluteSubtractionWord6 => {
+            let old = load(len, dest);
+            old - old % 64 + old.wrapping_sub(number) % 64
+        }
         _ => number,
     }
 }
@@ -55,7 +69,7 @@ fn number_over(kind: RelocationKind, value: i64, old: u64) -> u64 {
 /// Writes whole bytes.
 #[inline(always)]
 fn write_bytes(kind: RelocationKind, len: usize, value: i64, dest: &mut [u8]) {
-    let number = number_over(kind, value, load(len, dest));
+    let number = number_over(kind, len, value, dest);
     store(len, number, dest);
 }
 
@@ -111,8 +125,8 @@ fn taken_bits(bits: BitRange, number: u64) -> u64 {
     number.extract_bit_range(bits.start as u32..bits.end as u32)
 }
 
-/// Writes bits of a value into an instruction.
-#[inline(always)]
+/// Writes bits of a value into an instruction. By itself, so that `write` is small enough to be
+/// inlined, and its row never stands in memory.
 fn write_bits(insn: RelocationInstruction, bits: BitRange, value: i64, dest: &mut [u8]) {
     let taken = taken_bits(bits, value.cast_unsigned());
     clear(insn, bits, dest);
@@ -139,7 +153,7 @@ impl RelocationKindInfo {
     }
 
     /// How many bytes `write` writes.
-    #[inline]
+    #[inline(always)]
     pub fn window(&self) -> usize {
         match self.size {
             RelocationSize::ByteSize(len) => len as usize,
@@ -150,7 +164,14 @@ impl RelocationKindInfo {
     /// Whether a value is a multiple of the row's alignment.
     #[inline(always)]
     fn is_aligned(&self, value: i64) -> bool {
-        value.rem_euclid(self.alignment as i64) == 0
+        // no division where the alignment is a power of two
+        let exponent = self.alignment.trailing_zeros() % 64;
+        let unit = 1u64 << exponent;
+        if self.alignment == unit {
+            value.cast_unsigned() & (unit - 1) == 0
+        } else {
+            value.rem_euclid(self.alignment as i64) == 0
+        }
     }
 
     /// Whether the row's instruction holds the bits of a value that it takes.
@@ -199,7 +220,7 @@ impl RelocationKindInfo {
     /// row.write(value, &mut jal).unwrap();
     /// assert_eq!(u32::from_le_bytes(jal), 0x0080_00ef);
     /// ```
-    #[inline]
+    #[inline(always)]
     pub fn write(&self, value: i64, dest: &mut [u8]) -> Result<(), RelocateError> {
         if !self.is_supported() {
             return Err(RelocateError::Unsupported);

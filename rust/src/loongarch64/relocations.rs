@@ -1,6 +1,7 @@
 // Made by tools/erase of crates/linker_utils/src/loongarch64/relocations.rt.
 //! What the relocations of LoongArch mean.
 
+use crate::elf::rows::{loongarch64_size, pack, unpack};
 use crate::elf::{
     AllowedRange, Bias, LoongArch64Instruction, PageMask, PageMaskPattern, RelocationKind,
     RelocationKindInfo, RelocationSize, SIZE_2KB, Sign, Uleb128Role,
@@ -335,6 +336,194 @@ impl LoongArch64Relocation {
     }
 }
 
+/// The rows, each by `$row`; `$none` where there is no row.
+macro_rules! rows {
+    ($name:expr, $row:ident, $none:expr) => {
+        match $name {
+            LoongArch64Relocation::R_LARCH_NONE
+            | LoongArch64Relocation::R_LARCH_TLS_DESC_LD
+            | LoongArch64Relocation::R_LARCH_RELAX
+            | LoongArch64Relocation::R_LARCH_TLS_LE_ADD_R
+            | LoongArch64Relocation::R_LARCH_ALIGN => $row(bytes(RelocationKind::None, 0)),
+            LoongArch64Relocation::R_LARCH_32 => $row(bytes_within(
+                RelocationKind::Absolute,
+                4,
+                AllowedRange::new(-(1 << 31), 1 << 32),
+            )),
+            LoongArch64Relocation::R_LARCH_64 => $row(bytes(RelocationKind::Absolute, 8)),
+            LoongArch64Relocation::R_LARCH_ABS_HI20 => $row(high(RelocationKind::Absolute)),
+            LoongArch64Relocation::R_LARCH_ABS_LO12 => $row(low(RelocationKind::Absolute)),
+            LoongArch64Relocation::R_LARCH_ABS64_LO20 => $row(middle(RelocationKind::Absolute)),
+            LoongArch64Relocation::R_LARCH_ABS64_HI12 => $row(upper(RelocationKind::Absolute)),
+            LoongArch64Relocation::R_LARCH_ADD6 => $row(bytes(
+                RelocationKind::AbsoluteAdditionWord6,
+                1,
+            )),
+            LoongArch64Relocation::R_LARCH_SUB6 => $row(bytes(
+                RelocationKind::AbsoluteSubtractionWord6,
+                1,
+            )),
+            LoongArch64Relocation::R_LARCH_ADD8 => $row(bytes(RelocationKind::AbsoluteAddition, 1)),
+            LoongArch64Relocation::R_LARCH_ADD16 => $row(bytes(
+                RelocationKind::AbsoluteAddition,
+                2,
+            )),
+            LoongArch64Relocation::R_LARCH_ADD24 => $row(bytes(
+                RelocationKind::AbsoluteAddition,
+                3,
+            )),
+            LoongArch64Relocation::R_LARCH_ADD32 => $row(bytes(
+                RelocationKind::AbsoluteAddition,
+                4,
+            )),
+            LoongArch64Relocation::R_LARCH_ADD64 => $row(bytes(
+                RelocationKind::AbsoluteAddition,
+                8,
+            )),
+            LoongArch64Relocation::R_LARCH_SUB8 => $row(bytes(
+                RelocationKind::AbsoluteSubtraction,
+                1,
+            )),
+            LoongArch64Relocation::R_LARCH_SUB16 => $row(bytes(
+                RelocationKind::AbsoluteSubtraction,
+                2,
+            )),
+            LoongArch64Relocation::R_LARCH_SUB24 => $row(bytes(
+                RelocationKind::AbsoluteSubtraction,
+                3,
+            )),
+            LoongArch64Relocation::R_LARCH_SUB32 => $row(bytes(
+                RelocationKind::AbsoluteSubtraction,
+                4,
+            )),
+            LoongArch64Relocation::R_LARCH_SUB64 => $row(bytes(
+                RelocationKind::AbsoluteSubtraction,
+                8,
+            )),
+            LoongArch64Relocation::R_LARCH_ADD_ULEB128 => $row(bytes(RelocationKind::Relative, 0)),
+            LoongArch64Relocation::R_LARCH_PCALA_HI20 => $row(paged(
+                RelocationKind::Relative,
+                PageMask::SymbolPlusAddendAndPosition(PageMaskPattern::Size4KB),
+            )),
+            LoongArch64Relocation::R_LARCH_32_PCREL => $row(bytes_within(
+                RelocationKind::Relative,
+                4,
+                AllowedRange::from_bit_size(32, Sign::Signed),
+            )),
+            LoongArch64Relocation::R_LARCH_PCREL20_S2 => $row(branch(
+                RelocationKind::Relative,
+                22,
+                LoongArch64Instruction::Shift5,
+            )),
+            LoongArch64Relocation::R_LARCH_64_PCREL => $row(bytes(RelocationKind::Relative, 8)),
+            LoongArch64Relocation::R_LARCH_PCADD_HI20 => $row(biased(RelocationKind::Relative)),
+            LoongArch64Relocation::R_LARCH_B16 => $row(branch(
+                RelocationKind::Relative,
+                18,
+                LoongArch64Instruction::Shift10,
+            )),
+            LoongArch64Relocation::R_LARCH_B21 => $row(branch(
+                RelocationKind::Relative,
+                23,
+                LoongArch64Instruction::Branch21,
+            )),
+            LoongArch64Relocation::R_LARCH_CALL30 => $row(bits(
+                RelocationKind::Relative,
+                2,
+                19,
+                LoongArch64Instruction::Call30,
+            )),
+            LoongArch64Relocation::R_LARCH_SUB_ULEB128 => $row(bytes(
+                RelocationKind::PairSubtractionULEB128LoongArch,
+                8,
+            )),
+            LoongArch64Relocation::R_LARCH_PCALA_LO12 => $row(low(RelocationKind::AbsoluteLowPart)),
+            LoongArch64Relocation::R_LARCH_PCALA64_LO20 => $row(middle(
+                RelocationKind::RelativeLoongArchHigh,
+            )),
+            LoongArch64Relocation::R_LARCH_PCALA64_HI12 => $row(upper(
+                RelocationKind::RelativeLoongArchHigh,
+            )),
+            LoongArch64Relocation::R_LARCH_B26 => $row(branch(
+                RelocationKind::PltRelative,
+                28,
+                LoongArch64Instruction::Branch26,
+            )),
+            LoongArch64Relocation::R_LARCH_CALL36 => $row(branch(
+                RelocationKind::PltRelative,
+                38,
+                LoongArch64Instruction::Call36,
+            )),
+            LoongArch64Relocation::R_LARCH_GOT_PC_HI20 => $row(paged(
+                RelocationKind::GotRelative,
+                PageMask::GotEntryAndPosition(PageMaskPattern::Size4KB),
+            )),
+            LoongArch64Relocation::R_LARCH_GOT_PC_LO12 => $row(low(RelocationKind::Got)),
+            LoongArch64Relocation::R_LARCH_GOT64_PC_LO20 => $row(middle(
+                RelocationKind::GotRelativeLoongArch64,
+            )),
+            LoongArch64Relocation::R_LARCH_GOT64_PC_HI12 => $row(upper(
+                RelocationKind::GotRelativeLoongArch64,
+            )),
+            LoongArch64Relocation::R_LARCH_TLS_LE_HI20 => $row(high(RelocationKind::TpOff)),
+            LoongArch64Relocation::R_LARCH_TLS_LE_LO12
+            | LoongArch64Relocation::R_LARCH_TLS_LE_LO12_R => $row(low(RelocationKind::TpOff)),
+            LoongArch64Relocation::R_LARCH_TLS_LE64_LO20 => $row(middle(RelocationKind::TpOff)),
+            LoongArch64Relocation::R_LARCH_TLS_LE64_HI12 => $row(upper(RelocationKind::TpOff)),
+            LoongArch64Relocation::R_LARCH_TLS_LE_HI20_R => $row(biased(RelocationKind::TpOff)),
+            LoongArch64Relocation::R_LARCH_TLS_IE_PC_HI20 => $row(paged(
+                RelocationKind::GotTpOff,
+                PageMask::GotEntryAndPosition(PageMaskPattern::Size4KB),
+            )),
+            LoongArch64Relocation::R_LARCH_TLS_IE_PC_LO12
+            | LoongArch64Relocation::R_LARCH_TLS_IE_LO12 => $row(low(RelocationKind::GotTpOffGot)),
+            LoongArch64Relocation::R_LARCH_TLS_IE_HI20 => $row(high(RelocationKind::GotTpOffGot)),
+            LoongArch64Relocation::R_LARCH_TLS_IE64_LO20 => $row(middle(
+                RelocationKind::GotTpOffGot,
+            )),
+            LoongArch64Relocation::R_LARCH_TLS_IE64_HI12 => $row(upper(
+                RelocationKind::GotTpOffGot,
+            )),
+            LoongArch64Relocation::R_LARCH_TLS_IE64_PC_LO20 => $row(middle(
+                RelocationKind::GotTpOffLoongArch64,
+            )),
+            LoongArch64Relocation::R_LARCH_TLS_IE64_PC_HI12 => $row(upper(
+                RelocationKind::GotTpOffLoongArch64,
+            )),
+            LoongArch64Relocation::R_LARCH_TLS_LD_PC_HI20
+            | LoongArch64Relocation::R_LARCH_TLS_GD_PC_HI20 => $row(paged(
+                RelocationKind::TlsGd,
+                PageMask::GotEntryAndPosition(PageMaskPattern::Size4KB),
+            )),
+            LoongArch64Relocation::R_LARCH_TLS_LD_HI20
+            | LoongArch64Relocation::R_LARCH_TLS_GD_HI20 => $row(high(RelocationKind::TlsGdGot)),
+            LoongArch64Relocation::R_LARCH_TLS_DESC_PC_HI20 => $row(paged(
+                RelocationKind::TlsDesc,
+                PageMask::GotEntryAndPosition(PageMaskPattern::Size4KB),
+            )),
+            LoongArch64Relocation::R_LARCH_TLS_DESC_PC_LO12 => $row(low(
+                RelocationKind::TlsDescGot,
+            )),
+            LoongArch64Relocation::R_LARCH_TLS_DESC64_PC_LO20 => $row(middle(
+                RelocationKind::TlsDescLoongArch64,
+            )),
+            LoongArch64Relocation::R_LARCH_TLS_DESC64_PC_HI12 => $row(upper(
+                RelocationKind::TlsDescLoongArch64,
+            )),
+            LoongArch64Relocation::R_LARCH_TLS_DESC_CALL => $row(bytes(
+                RelocationKind::TlsDescCall,
+                0,
+            )),
+            LoongArch64Relocation::R_LARCH_TLS_DTPREL32 => $row(bytes(RelocationKind::DtpOff, 4)),
+            LoongArch64Relocation::R_LARCH_TLS_DTPREL64 => $row(bytes(RelocationKind::DtpOff, 8)),
+            LoongArch64Relocation::R_LARCH_TLS_LD_PCREL20_S2
+            | LoongArch64Relocation::R_LARCH_TLS_GD_PCREL20_S2
+            | LoongArch64Relocation::R_LARCH_TLS_DESC_PCREL20_S2
+            | LoongArch64Relocation::Other(_) => $none,
+        }
+    };
+}
+
 /// What a relocation means. It takes a name; `LoongArch64Relocation::from_elf` gives the name of a
 /// code. Returns `None` for `Other`, and for the three `TLS_*_PCREL20_S2`, which are not supported.
 ///
@@ -345,145 +534,27 @@ impl LoongArch64Relocation {
 /// makes of `R_LARCH_CALL30`'s pair.
 #[inline]
 pub fn relocation_type_from_raw(name: LoongArch64Relocation) -> Option<RelocationKindInfo> {
-    let info = match name {
-        LoongArch64Relocation::R_LARCH_NONE
-        | LoongArch64Relocation::R_LARCH_TLS_DESC_LD
-        | LoongArch64Relocation::R_LARCH_RELAX
-        | LoongArch64Relocation::R_LARCH_TLS_LE_ADD_R
-        | LoongArch64Relocation::R_LARCH_ALIGN => bytes(RelocationKind::None, 0),
-        LoongArch64Relocation::R_LARCH_32 => bytes_within(
-            RelocationKind::Absolute,
-            4,
-            AllowedRange::new(-(1 << 31), 1 << 32),
-        ),
-        LoongArch64Relocation::R_LARCH_64 => bytes(RelocationKind::Absolute, 8),
-        LoongArch64Relocation::R_LARCH_ABS_HI20 => high(RelocationKind::Absolute),
-        LoongArch64Relocation::R_LARCH_ABS_LO12 => low(RelocationKind::Absolute),
-        LoongArch64Relocation::R_LARCH_ABS64_LO20 => middle(RelocationKind::Absolute),
-        LoongArch64Relocation::R_LARCH_ABS64_HI12 => upper(RelocationKind::Absolute),
-        LoongArch64Relocation::R_LARCH_ADD6 => bytes(RelocationKind::AbsoluteAdditionWord6, 1),
-        LoongArch64Relocation::R_LARCH_SUB6 => bytes(RelocationKind::AbsoluteSubtractionWord6, 1),
-        LoongArch64Relocation::R_LARCH_ADD8 => bytes(RelocationKind::AbsoluteAddition, 1),
-        LoongArch64Relocation::R_LARCH_ADD16 => bytes(RelocationKind::AbsoluteAddition, 2),
-        LoongArch64Relocation::R_LARCH_ADD24 => bytes(RelocationKind::AbsoluteAddition, 3),
-        LoongArch64Relocation::R_LARCH_ADD32 => bytes(RelocationKind::AbsoluteAddition, 4),
-        LoongArch64Relocation::R_LARCH_ADD64 => bytes(RelocationKind::AbsoluteAddition, 8),
-        LoongArch64Relocation::R_LARCH_SUB8 => bytes(RelocationKind::AbsoluteSubtraction, 1),
-        LoongArch64Relocation::R_LARCH_SUB16 => bytes(RelocationKind::AbsoluteSubtraction, 2),
-        LoongArch64Relocation::R_LARCH_SUB24 => bytes(RelocationKind::AbsoluteSubtraction, 3),
-        LoongArch64Relocation::R_LARCH_SUB32 => bytes(RelocationKind::AbsoluteSubtraction, 4),
-        LoongArch64Relocation::R_LARCH_SUB64 => bytes(RelocationKind::AbsoluteSubtraction, 8),
-        LoongArch64Relocation::R_LARCH_ADD_ULEB128 => bytes(RelocationKind::Relative, 0),
-        LoongArch64Relocation::R_LARCH_PCALA_HI20 => paged(
-            RelocationKind::Relative,
-            PageMask::SymbolPlusAddendAndPosition(PageMaskPattern::Size4KB),
-        ),
-        LoongArch64Relocation::R_LARCH_32_PCREL => bytes_within(
-            RelocationKind::Relative,
-            4,
-            AllowedRange::from_bit_size(32, Sign::Signed),
-        ),
-        LoongArch64Relocation::R_LARCH_PCREL20_S2 => branch(
-            RelocationKind::Relative,
-            22,
-            LoongArch64Instruction::Shift5,
-        ),
-        LoongArch64Relocation::R_LARCH_64_PCREL => bytes(RelocationKind::Relative, 8),
-        LoongArch64Relocation::R_LARCH_PCADD_HI20 => biased(RelocationKind::Relative),
-        LoongArch64Relocation::R_LARCH_B16 => branch(
-            RelocationKind::Relative,
-            18,
-            LoongArch64Instruction::Shift10,
-        ),
-        LoongArch64Relocation::R_LARCH_B21 => branch(
-            RelocationKind::Relative,
-            23,
-            LoongArch64Instruction::Branch21,
-        ),
-        LoongArch64Relocation::R_LARCH_CALL30 => bits(
-            RelocationKind::Relative,
-            2,
-            19,
-            LoongArch64Instruction::Call30,
-        ),
-        LoongArch64Relocation::R_LARCH_SUB_ULEB128 => bytes(
-            RelocationKind::PairSubtractionULEB128LoongArch,
-            8,
-        ),
-        LoongArch64Relocation::R_LARCH_PCALA_LO12 => low(RelocationKind::AbsoluteLowPart),
-        LoongArch64Relocation::R_LARCH_PCALA64_LO20 => middle(
-            RelocationKind::RelativeLoongArchHigh,
-        ),
-        LoongArch64Relocation::R_LARCH_PCALA64_HI12 => upper(RelocationKind::RelativeLoongArchHigh),
-        LoongArch64Relocation::R_LARCH_B26 => branch(
-            RelocationKind::PltRelative,
-            28,
-            LoongArch64Instruction::Branch26,
-        ),
-        LoongArch64Relocation::R_LARCH_CALL36 => branch(
-            RelocationKind::PltRelative,
-            38,
-            LoongArch64Instruction::Call36,
-        ),
-        LoongArch64Relocation::R_LARCH_GOT_PC_HI20 => paged(
-            RelocationKind::GotRelative,
-            PageMask::GotEntryAndPosition(PageMaskPattern::Size4KB),
-        ),
-        LoongArch64Relocation::R_LARCH_GOT_PC_LO12 => low(RelocationKind::Got),
-        LoongArch64Relocation::R_LARCH_GOT64_PC_LO20 => middle(
-            RelocationKind::GotRelativeLoongArch64,
-        ),
-        LoongArch64Relocation::R_LARCH_GOT64_PC_HI12 => upper(
-            RelocationKind::GotRelativeLoongArch64,
-        ),
-        LoongArch64Relocation::R_LARCH_TLS_LE_HI20 => high(RelocationKind::TpOff),
-        LoongArch64Relocation::R_LARCH_TLS_LE_LO12 | LoongArch64Relocation::R_LARCH_TLS_LE_LO12_R =>
-            low(RelocationKind::TpOff),
-        LoongArch64Relocation::R_LARCH_TLS_LE64_LO20 => middle(RelocationKind::TpOff),
-        LoongArch64Relocation::R_LARCH_TLS_LE64_HI12 => upper(RelocationKind::TpOff),
-        LoongArch64Relocation::R_LARCH_TLS_LE_HI20_R => biased(RelocationKind::TpOff),
-        LoongArch64Relocation::R_LARCH_TLS_IE_PC_HI20 => paged(
-            RelocationKind::GotTpOff,
-            PageMask::GotEntryAndPosition(PageMaskPattern::Size4KB),
-        ),
-        LoongArch64Relocation::R_LARCH_TLS_IE_PC_LO12
-        | LoongArch64Relocation::R_LARCH_TLS_IE_LO12 => low(RelocationKind::GotTpOffGot),
-        LoongArch64Relocation::R_LARCH_TLS_IE_HI20 => high(RelocationKind::GotTpOffGot),
-        LoongArch64Relocation::R_LARCH_TLS_IE64_LO20 => middle(RelocationKind::GotTpOffGot),
-        LoongArch64Relocation::R_LARCH_TLS_IE64_HI12 => upper(RelocationKind::GotTpOffGot),
-        LoongArch64Relocation::R_LARCH_TLS_IE64_PC_LO20 => middle(
-            RelocationKind::GotTpOffLoongArch64,
-        ),
-        LoongArch64Relocation::R_LARCH_TLS_IE64_PC_HI12 => upper(
-            RelocationKind::GotTpOffLoongArch64,
-        ),
-        LoongArch64Relocation::R_LARCH_TLS_LD_PC_HI20
-        | LoongArch64Relocation::R_LARCH_TLS_GD_PC_HI20 => paged(
-            RelocationKind::TlsGd,
-            PageMask::GotEntryAndPosition(PageMaskPattern::Size4KB),
-        ),
-        LoongArch64Relocation::R_LARCH_TLS_LD_HI20 | LoongArch64Relocation::R_LARCH_TLS_GD_HI20 =>
-            high(RelocationKind::TlsGdGot),
-        LoongArch64Relocation::R_LARCH_TLS_DESC_PC_HI20 => paged(
-            RelocationKind::TlsDesc,
-            PageMask::GotEntryAndPosition(PageMaskPattern::Size4KB),
-        ),
-        LoongArch64Relocation::R_LARCH_TLS_DESC_PC_LO12 => low(RelocationKind::TlsDescGot),
-        LoongArch64Relocation::R_LARCH_TLS_DESC64_PC_LO20 => middle(
-            RelocationKind::TlsDescLoongArch64,
-        ),
-        LoongArch64Relocation::R_LARCH_TLS_DESC64_PC_HI12 => upper(
-            RelocationKind::TlsDescLoongArch64,
-        ),
-        LoongArch64Relocation::R_LARCH_TLS_DESC_CALL => bytes(RelocationKind::TlsDescCall, 0),
-        LoongArch64Relocation::R_LARCH_TLS_DTPREL32 => bytes(RelocationKind::DtpOff, 4),
-        LoongArch64Relocation::R_LARCH_TLS_DTPREL64 => bytes(RelocationKind::DtpOff, 8),
-        LoongArch64Relocation::R_LARCH_TLS_LD_PCREL20_S2
-        | LoongArch64Relocation::R_LARCH_TLS_GD_PCREL20_S2
-        | LoongArch64Relocation::R_LARCH_TLS_DESC_PCREL20_S2
-        | LoongArch64Relocation::Other(_) => return None,
-    };
-    Some(info)
+    row(name)
+}
+
+#[inline(always)]
+fn row(name: LoongArch64Relocation) -> Option<RelocationKindInfo> {
+    rows!(name, Some, None)
+}
+
+/// `relocation_type_from_raw`, by a table in place of a match. It takes less time where a processor
+/// can't foresee the name, and more where it can.
+#[inline]
+pub fn relocation_type_from_table(name: LoongArch64Relocation) -> Option<RelocationKindInfo> {
+    let row = row_number(name);
+    unpack(row, loongarch64_size(row))
+}
+
+/// The row of a name as a number; 0 where there is none. Inlined, the match would be joined with
+/// what reads the row, into a jump that a processor can't foresee.
+#[inline(never)]
+fn row_number(name: LoongArch64Relocation) -> u64 {
+    rows!(name, pack, 0)
 }
 
 /// A meaning without page mask, range, alignment and bias.

@@ -1,6 +1,7 @@
 // Made by tools/erase of crates/linker_utils/src/ppc64/relocations.rt.
 //! What the relocations of PowerPC64 mean.
 
+use crate::elf::rows::{pack, ppc64_size, unpack};
 use crate::elf::{
     AllowedRange, Bias, Ppc64Instruction, RelocationKind, RelocationKindInfo, RelocationSize, Sign,
 };
@@ -69,59 +70,70 @@ impl Ppc64Relocation {
     /// The relocation with a code, `r_type` in ELF files; `Other(code)` for a code without a name.
     #[inline(always)]
     pub fn from_elf(code: u32) -> Ppc64Relocation {
-        match code {
-            0 => Ppc64Relocation::R_PPC64_NONE,
-            1 => Ppc64Relocation::R_PPC64_ADDR32,
-            4 => Ppc64Relocation::R_PPC64_ADDR16_LO,
-            5 => Ppc64Relocation::R_PPC64_ADDR16_HI,
-            6 => Ppc64Relocation::R_PPC64_ADDR16_HA,
-            10 => Ppc64Relocation::R_PPC64_REL24,
-            11 => Ppc64Relocation::R_PPC64_REL14,
-            26 => Ppc64Relocation::R_PPC64_REL32,
-            38 => Ppc64Relocation::R_PPC64_ADDR64,
-            44 => Ppc64Relocation::R_PPC64_REL64,
-            47 => Ppc64Relocation::R_PPC64_TOC16,
-            48 => Ppc64Relocation::R_PPC64_TOC16_LO,
-            50 => Ppc64Relocation::R_PPC64_TOC16_HA,
-            56 => Ppc64Relocation::R_PPC64_ADDR16_DS,
-            57 => Ppc64Relocation::R_PPC64_ADDR16_LO_DS,
-            63 => Ppc64Relocation::R_PPC64_TOC16_DS,
-            64 => Ppc64Relocation::R_PPC64_TOC16_LO_DS,
-            67 => Ppc64Relocation::R_PPC64_TLS,
-            69 => Ppc64Relocation::R_PPC64_TPREL16,
-            70 => Ppc64Relocation::R_PPC64_TPREL16_LO,
-            71 => Ppc64Relocation::R_PPC64_TPREL16_HI,
-            72 => Ppc64Relocation::R_PPC64_TPREL16_HA,
-            73 => Ppc64Relocation::R_PPC64_TPREL64,
-            74 => Ppc64Relocation::R_PPC64_DTPREL16,
-            75 => Ppc64Relocation::R_PPC64_DTPREL16_LO,
-            76 => Ppc64Relocation::R_PPC64_DTPREL16_HI,
-            77 => Ppc64Relocation::R_PPC64_DTPREL16_HA,
-            78 => Ppc64Relocation::R_PPC64_DTPREL64,
-            79 => Ppc64Relocation::R_PPC64_GOT_TLSGD16,
-            80 => Ppc64Relocation::R_PPC64_GOT_TLSGD16_LO,
-            81 => Ppc64Relocation::R_PPC64_GOT_TLSGD16_HI,
-            82 => Ppc64Relocation::R_PPC64_GOT_TLSGD16_HA,
-            83 => Ppc64Relocation::R_PPC64_GOT_TLSLD16,
-            84 => Ppc64Relocation::R_PPC64_GOT_TLSLD16_LO,
-            85 => Ppc64Relocation::R_PPC64_GOT_TLSLD16_HI,
-            86 => Ppc64Relocation::R_PPC64_GOT_TLSLD16_HA,
-            87 => Ppc64Relocation::R_PPC64_GOT_TPREL16_DS,
-            88 => Ppc64Relocation::R_PPC64_GOT_TPREL16_LO_DS,
-            89 => Ppc64Relocation::R_PPC64_GOT_TPREL16_HI,
-            90 => Ppc64Relocation::R_PPC64_GOT_TPREL16_HA,
-            95 => Ppc64Relocation::R_PPC64_TPREL16_DS,
-            96 => Ppc64Relocation::R_PPC64_TPREL16_LO_DS,
-            101 => Ppc64Relocation::R_PPC64_DTPREL16_DS,
-            102 => Ppc64Relocation::R_PPC64_DTPREL16_LO_DS,
-            107 => Ppc64Relocation::R_PPC64_TLSGD,
-            108 => Ppc64Relocation::R_PPC64_TLSLD,
-            116 => Ppc64Relocation::R_PPC64_REL24_NOTOC,
-            132 => Ppc64Relocation::R_PPC64_PCREL34,
-            133 => Ppc64Relocation::R_PPC64_GOT_PCREL34,
-            250 => Ppc64Relocation::R_PPC64_REL16_LO,
-            252 => Ppc64Relocation::R_PPC64_REL16_HA,
-            _ => Ppc64Relocation::Other(code),
+        // each part is dense enough for a table
+        if code < 16 {
+            match code {
+                0 => Ppc64Relocation::R_PPC64_NONE,
+                1 => Ppc64Relocation::R_PPC64_ADDR32,
+                4 => Ppc64Relocation::R_PPC64_ADDR16_LO,
+                5 => Ppc64Relocation::R_PPC64_ADDR16_HI,
+                6 => Ppc64Relocation::R_PPC64_ADDR16_HA,
+                10 => Ppc64Relocation::R_PPC64_REL24,
+                11 => Ppc64Relocation::R_PPC64_REL14,
+                _ => Ppc64Relocation::Other(code),
+            }
+        } else if code < 128 {
+            match code {
+                26 => Ppc64Relocation::R_PPC64_REL32,
+                38 => Ppc64Relocation::R_PPC64_ADDR64,
+                44 => Ppc64Relocation::R_PPC64_REL64,
+                47 => Ppc64Relocation::R_PPC64_TOC16,
+                48 => Ppc64Relocation::R_PPC64_TOC16_LO,
+                50 => Ppc64Relocation::R_PPC64_TOC16_HA,
+                56 => Ppc64Relocation::R_PPC64_ADDR16_DS,
+                57 => Ppc64Relocation::R_PPC64_ADDR16_LO_DS,
+                63 => Ppc64Relocation::R_PPC64_TOC16_DS,
+                64 => Ppc64Relocation::R_PPC64_TOC16_LO_DS,
+                67 => Ppc64Relocation::R_PPC64_TLS,
+                69 => Ppc64Relocation::R_PPC64_TPREL16,
+                70 => Ppc64Relocation::R_PPC64_TPREL16_LO,
+                71 => Ppc64Relocation::R_PPC64_TPREL16_HI,
+                72 => Ppc64Relocation::R_PPC64_TPREL16_HA,
+                73 => Ppc64Relocation::R_PPC64_TPREL64,
+                74 => Ppc64Relocation::R_PPC64_DTPREL16,
+                75 => Ppc64Relocation::R_PPC64_DTPREL16_LO,
+                76 => Ppc64Relocation::R_PPC64_DTPREL16_HI,
+                77 => Ppc64Relocation::R_PPC64_DTPREL16_HA,
+                78 => Ppc64Relocation::R_PPC64_DTPREL64,
+                79 => Ppc64Relocation::R_PPC64_GOT_TLSGD16,
+                80 => Ppc64Relocation::R_PPC64_GOT_TLSGD16_LO,
+                81 => Ppc64Relocation::R_PPC64_GOT_TLSGD16_HI,
+                82 => Ppc64Relocation::R_PPC64_GOT_TLSGD16_HA,
+                83 => Ppc64Relocation::R_PPC64_GOT_TLSLD16,
+                84 => Ppc64Relocation::R_PPC64_GOT_TLSLD16_LO,
+                85 => Ppc64Relocation::R_PPC64_GOT_TLSLD16_HI,
+                86 => Ppc64Relocation::R_PPC64_GOT_TLSLD16_HA,
+                87 => Ppc64Relocation::R_PPC64_GOT_TPREL16_DS,
+                88 => Ppc64Relocation::R_PPC64_GOT_TPREL16_LO_DS,
+                89 => Ppc64Relocation::R_PPC64_GOT_TPREL16_HI,
+                90 => Ppc64Relocation::R_PPC64_GOT_TPREL16_HA,
+                95 => Ppc64Relocation::R_PPC64_TPREL16_DS,
+                96 => Ppc64Relocation::R_PPC64_TPREL16_LO_DS,
+                101 => Ppc64Relocation::R_PPC64_DTPREL16_DS,
+                102 => Ppc64Relocation::R_PPC64_DTPREL16_LO_DS,
+                107 => Ppc64Relocation::R_PPC64_TLSGD,
+                108 => Ppc64Relocation::R_PPC64_TLSLD,
+                116 => Ppc64Relocation::R_PPC64_REL24_NOTOC,
+                _ => Ppc64Relocation::Other(code),
+            }
+        } else {
+            match code {
+                132 => Ppc64Relocation::R_PPC64_PCREL34,
+                133 => Ppc64Relocation::R_PPC64_GOT_PCREL34,
+                250 => Ppc64Relocation::R_PPC64_REL16_LO,
+                252 => Ppc64Relocation::R_PPC64_REL16_HA,
+                _ => Ppc64Relocation::Other(code),
+            }
         }
     }
 
@@ -318,6 +330,166 @@ fn branch(bits: u8, insn: Ppc64Instruction) -> RelocationKindInfo {
     )
 }
 
+/// The rows, each by `$row`; `$none` where there is no row.
+macro_rules! rows {
+    ($name:expr, $row:ident, $none:expr) => {
+        match $name {
+            Ppc64Relocation::R_PPC64_NONE
+            | Ppc64Relocation::R_PPC64_TLS
+            | Ppc64Relocation::R_PPC64_TLSGD
+            | Ppc64Relocation::R_PPC64_TLSLD => $row(bytes(
+                RelocationKind::None,
+                0,
+                AllowedRange::no_check(),
+            )),
+            Ppc64Relocation::R_PPC64_ADDR64 => $row(bytes(
+                RelocationKind::Absolute,
+                8,
+                AllowedRange::no_check(),
+            )),
+            Ppc64Relocation::R_PPC64_ADDR32 => $row(bytes(
+                RelocationKind::Absolute,
+                4,
+                AllowedRange::new(-0x80000000, 0x100000000),
+            )),
+            Ppc64Relocation::R_PPC64_ADDR16_LO => $row(low(
+                RelocationKind::Absolute,
+                AllowedRange::no_check(),
+            )),
+            Ppc64Relocation::R_PPC64_ADDR16_HI => $row(high(RelocationKind::Absolute)),
+            Ppc64Relocation::R_PPC64_ADDR16_HA => $row(high_adjusted(RelocationKind::Absolute)),
+            Ppc64Relocation::R_PPC64_ADDR16_DS => $row(low_ds(
+                RelocationKind::Absolute,
+                AllowedRange::from_bit_size(16, Sign::Signed),
+            )),
+            Ppc64Relocation::R_PPC64_ADDR16_LO_DS => $row(low_ds(
+                RelocationKind::Absolute,
+                AllowedRange::no_check(),
+            )),
+            Ppc64Relocation::R_PPC64_REL64 => $row(bytes(
+                RelocationKind::Relative,
+                8,
+                AllowedRange::no_check(),
+            )),
+            Ppc64Relocation::R_PPC64_REL32 => $row(bytes(
+                RelocationKind::Relative,
+                4,
+                AllowedRange::from_bit_size(32, Sign::Signed),
+            )),
+            Ppc64Relocation::R_PPC64_REL24
+            | Ppc64Relocation::R_PPC64_REL24_NOTOC => $row(branch(26, Ppc64Instruction::Branch24)),
+            Ppc64Relocation::R_PPC64_REL14 => $row(branch(16, Ppc64Instruction::Branch14)),
+            Ppc64Relocation::R_PPC64_REL16_HA => $row(high_adjusted(RelocationKind::Relative)),
+            Ppc64Relocation::R_PPC64_REL16_LO => $row(low(
+                RelocationKind::Relative,
+                AllowedRange::no_check(),
+            )),
+            Ppc64Relocation::R_PPC64_PCREL34 => $row(prefixed(RelocationKind::Relative)),
+            Ppc64Relocation::R_PPC64_GOT_PCREL34 => $row(prefixed(RelocationKind::GotRelative)),
+            Ppc64Relocation::R_PPC64_TOC16 => $row(low(
+                RelocationKind::SymRelGotBase,
+                AllowedRange::from_bit_size(16, Sign::Signed),
+            )),
+            Ppc64Relocation::R_PPC64_TOC16_DS => $row(low_ds(
+                RelocationKind::SymRelGotBase,
+                AllowedRange::from_bit_size(16, Sign::Signed),
+            )),
+            Ppc64Relocation::R_PPC64_TOC16_HA => $row(high_adjusted(RelocationKind::SymRelGotBase)),
+            Ppc64Relocation::R_PPC64_TOC16_LO => $row(low(
+                RelocationKind::SymRelGotBase,
+                AllowedRange::no_check(),
+            )),
+            Ppc64Relocation::R_PPC64_TOC16_LO_DS => $row(low_ds(
+                RelocationKind::SymRelGotBase,
+                AllowedRange::no_check(),
+            )),
+            Ppc64Relocation::R_PPC64_TPREL64 => $row(bytes(
+                RelocationKind::TpOff,
+                8,
+                AllowedRange::no_check(),
+            )),
+            Ppc64Relocation::R_PPC64_TPREL16 => $row(low(
+                RelocationKind::TpOff,
+                AllowedRange::from_bit_size(16, Sign::Signed),
+            )),
+            Ppc64Relocation::R_PPC64_TPREL16_LO => $row(low(
+                RelocationKind::TpOff,
+                AllowedRange::no_check(),
+            )),
+            Ppc64Relocation::R_PPC64_TPREL16_HI => $row(high(RelocationKind::TpOff)),
+            Ppc64Relocation::R_PPC64_TPREL16_HA => $row(high_adjusted(RelocationKind::TpOff)),
+            Ppc64Relocation::R_PPC64_TPREL16_DS => $row(low_ds(
+                RelocationKind::TpOff,
+                AllowedRange::from_bit_size(16, Sign::Signed),
+            )),
+            Ppc64Relocation::R_PPC64_TPREL16_LO_DS => $row(low_ds(
+                RelocationKind::TpOff,
+                AllowedRange::no_check(),
+            )),
+            Ppc64Relocation::R_PPC64_DTPREL64 => $row(bytes(
+                RelocationKind::DtpOff,
+                8,
+                AllowedRange::no_check(),
+            )),
+            Ppc64Relocation::R_PPC64_DTPREL16 => $row(low(
+                RelocationKind::DtpOff,
+                AllowedRange::from_bit_size(16, Sign::Signed),
+            )),
+            Ppc64Relocation::R_PPC64_DTPREL16_LO => $row(low(
+                RelocationKind::DtpOff,
+                AllowedRange::no_check(),
+            )),
+            Ppc64Relocation::R_PPC64_DTPREL16_HI => $row(high(RelocationKind::DtpOff)),
+            Ppc64Relocation::R_PPC64_DTPREL16_HA => $row(high_adjusted(RelocationKind::DtpOff)),
+            Ppc64Relocation::R_PPC64_DTPREL16_DS => $row(low_ds(
+                RelocationKind::DtpOff,
+                AllowedRange::from_bit_size(16, Sign::Signed),
+            )),
+            Ppc64Relocation::R_PPC64_DTPREL16_LO_DS => $row(low_ds(
+                RelocationKind::DtpOff,
+                AllowedRange::no_check(),
+            )),
+            Ppc64Relocation::R_PPC64_GOT_TPREL16_HA => $row(high_adjusted(
+                RelocationKind::GotTpOffGotBase,
+            )),
+            Ppc64Relocation::R_PPC64_GOT_TPREL16_HI => $row(high(RelocationKind::GotTpOffGotBase)),
+            Ppc64Relocation::R_PPC64_GOT_TPREL16_DS => $row(low_ds(
+                RelocationKind::GotTpOffGotBase,
+                AllowedRange::from_bit_size(16, Sign::Signed),
+            )),
+            Ppc64Relocation::R_PPC64_GOT_TPREL16_LO_DS => $row(low_ds(
+                RelocationKind::GotTpOffGotBase,
+                AllowedRange::no_check(),
+            )),
+            Ppc64Relocation::R_PPC64_GOT_TLSGD16 => $row(low(
+                RelocationKind::TlsGdGotBase,
+                AllowedRange::from_bit_size(16, Sign::Signed),
+            )),
+            Ppc64Relocation::R_PPC64_GOT_TLSGD16_LO => $row(low(
+                RelocationKind::TlsGdGotBase,
+                AllowedRange::no_check(),
+            )),
+            Ppc64Relocation::R_PPC64_GOT_TLSGD16_HI => $row(high(RelocationKind::TlsGdGotBase)),
+            Ppc64Relocation::R_PPC64_GOT_TLSGD16_HA => $row(high_adjusted(
+                RelocationKind::TlsGdGotBase,
+            )),
+            Ppc64Relocation::R_PPC64_GOT_TLSLD16 => $row(low(
+                RelocationKind::TlsLdGotBase,
+                AllowedRange::from_bit_size(16, Sign::Signed),
+            )),
+            Ppc64Relocation::R_PPC64_GOT_TLSLD16_LO => $row(low(
+                RelocationKind::TlsLdGotBase,
+                AllowedRange::no_check(),
+            )),
+            Ppc64Relocation::R_PPC64_GOT_TLSLD16_HI => $row(high(RelocationKind::TlsLdGotBase)),
+            Ppc64Relocation::R_PPC64_GOT_TLSLD16_HA => $row(high_adjusted(
+                RelocationKind::TlsLdGotBase,
+            )),
+            Ppc64Relocation::Other(_) => $none,
+        }
+    };
+}
+
 /// What a relocation means. It takes a name; `Ppc64Relocation::from_elf` gives the name of a code.
 /// Returns `None` for `Other`. The adjusted high halves (`_HA`) have a bias of 0x8000. Checked
 /// halves have a range of 16 signed bits.
@@ -329,151 +501,25 @@ fn branch(bits: u8, insn: Ppc64Instruction) -> RelocationKindInfo {
 /// 2^31 - 0x8001. Elsewhere it is the value modulo 2^32.
 #[inline]
 pub fn relocation_type_from_raw(name: Ppc64Relocation) -> Option<RelocationKindInfo> {
-    let info = match name {
-        Ppc64Relocation::R_PPC64_NONE
-        | Ppc64Relocation::R_PPC64_TLS
-        | Ppc64Relocation::R_PPC64_TLSGD
-        | Ppc64Relocation::R_PPC64_TLSLD => bytes(
-            RelocationKind::None,
-            0,
-            AllowedRange::no_check(),
-        ),
-        Ppc64Relocation::R_PPC64_ADDR64 => bytes(
-            RelocationKind::Absolute,
-            8,
-            AllowedRange::no_check(),
-        ),
-        Ppc64Relocation::R_PPC64_ADDR32 => bytes(
-            RelocationKind::Absolute,
-            4,
-            AllowedRange::new(-0x80000000, 0x100000000),
-        ),
-        Ppc64Relocation::R_PPC64_ADDR16_LO => low(
-            RelocationKind::Absolute,
-            AllowedRange::no_check(),
-        ),
-        Ppc64Relocation::R_PPC64_ADDR16_HI => high(RelocationKind::Absolute),
-        Ppc64Relocation::R_PPC64_ADDR16_HA => high_adjusted(RelocationKind::Absolute),
-        Ppc64Relocation::R_PPC64_ADDR16_DS => low_ds(
-            RelocationKind::Absolute,
-            AllowedRange::from_bit_size(16, Sign::Signed),
-        ),
-        Ppc64Relocation::R_PPC64_ADDR16_LO_DS => low_ds(
-            RelocationKind::Absolute,
-            AllowedRange::no_check(),
-        ),
-        Ppc64Relocation::R_PPC64_REL64 => bytes(
-            RelocationKind::Relative,
-            8,
-            AllowedRange::no_check(),
-        ),
-        Ppc64Relocation::R_PPC64_REL32 => bytes(
-            RelocationKind::Relative,
-            4,
-            AllowedRange::from_bit_size(32, Sign::Signed),
-        ),
-        Ppc64Relocation::R_PPC64_REL24 | Ppc64Relocation::R_PPC64_REL24_NOTOC => {
-            branch(26, Ppc64Instruction::Branch24)
-        }
-        Ppc64Relocation::R_PPC64_REL14 => branch(16, Ppc64Instruction::Branch14),
-        Ppc64Relocation::R_PPC64_REL16_HA => high_adjusted(RelocationKind::Relative),
-        Ppc64Relocation::R_PPC64_REL16_LO => low(
-            RelocationKind::Relative,
-            AllowedRange::no_check(),
-        ),
-        Ppc64Relocation::R_PPC64_PCREL34 => prefixed(RelocationKind::Relative),
-        Ppc64Relocation::R_PPC64_GOT_PCREL34 => prefixed(RelocationKind::GotRelative),
-        Ppc64Relocation::R_PPC64_TOC16 => low(
-            RelocationKind::SymRelGotBase,
-            AllowedRange::from_bit_size(16, Sign::Signed),
-        ),
-        Ppc64Relocation::R_PPC64_TOC16_DS => low_ds(
-            RelocationKind::SymRelGotBase,
-            AllowedRange::from_bit_size(16, Sign::Signed),
-        ),
-        Ppc64Relocation::R_PPC64_TOC16_HA => high_adjusted(RelocationKind::SymRelGotBase),
-        Ppc64Relocation::R_PPC64_TOC16_LO => low(
-            RelocationKind::SymRelGotBase,
-            AllowedRange::no_check(),
-        ),
-        Ppc64Relocation::R_PPC64_TOC16_LO_DS => low_ds(
-            RelocationKind::SymRelGotBase,
-            AllowedRange::no_check(),
-        ),
-        Ppc64Relocation::R_PPC64_TPREL64 => bytes(
-            RelocationKind::TpOff,
-            8,
-            AllowedRange::no_check(),
-        ),
-        Ppc64Relocation::R_PPC64_TPREL16 => low(
-            RelocationKind::TpOff,
-            AllowedRange::from_bit_size(16, Sign::Signed),
-        ),
-        Ppc64Relocation::R_PPC64_TPREL16_LO => low(RelocationKind::TpOff, AllowedRange::no_check()),
-        Ppc64Relocation::R_PPC64_TPREL16_HI => high(RelocationKind::TpOff),
-        Ppc64Relocation::R_PPC64_TPREL16_HA => high_adjusted(RelocationKind::TpOff),
-        Ppc64Relocation::R_PPC64_TPREL16_DS => low_ds(
-            RelocationKind::TpOff,
-            AllowedRange::from_bit_size(16, Sign::Signed),
-        ),
-        Ppc64Relocation::R_PPC64_TPREL16_LO_DS => low_ds(
-            RelocationKind::TpOff,
-            AllowedRange::no_check(),
-        ),
-        Ppc64Relocation::R_PPC64_DTPREL64 => bytes(
-            RelocationKind::DtpOff,
-            8,
-            AllowedRange::no_check(),
-        ),
-        Ppc64Relocation::R_PPC64_DTPREL16 => low(
-            RelocationKind::DtpOff,
-            AllowedRange::from_bit_size(16, Sign::Signed),
-        ),
-        Ppc64Relocation::R_PPC64_DTPREL16_LO => low(
-            RelocationKind::DtpOff,
-            AllowedRange::no_check(),
-        ),
-        Ppc64Relocation::R_PPC64_DTPREL16_HI => high(RelocationKind::DtpOff),
-        Ppc64Relocation::R_PPC64_DTPREL16_HA => high_adjusted(RelocationKind::DtpOff),
-        Ppc64Relocation::R_PPC64_DTPREL16_DS => low_ds(
-            RelocationKind::DtpOff,
-            AllowedRange::from_bit_size(16, Sign::Signed),
-        ),
-        Ppc64Relocation::R_PPC64_DTPREL16_LO_DS => low_ds(
-            RelocationKind::DtpOff,
-            AllowedRange::no_check(),
-        ),
-        Ppc64Relocation::R_PPC64_GOT_TPREL16_HA => high_adjusted(RelocationKind::GotTpOffGotBase),
-        Ppc64Relocation::R_PPC64_GOT_TPREL16_HI => high(RelocationKind::GotTpOffGotBase),
-        Ppc64Relocation::R_PPC64_GOT_TPREL16_DS => low_ds(
-            RelocationKind::GotTpOffGotBase,
-            AllowedRange::from_bit_size(16, Sign::Signed),
-        ),
-        Ppc64Relocation::R_PPC64_GOT_TPREL16_LO_DS => low_ds(
-            RelocationKind::GotTpOffGotBase,
-            AllowedRange::no_check(),
-        ),
-        Ppc64Relocation::R_PPC64_GOT_TLSGD16 => low(
-            RelocationKind::TlsGdGotBase,
-            AllowedRange::from_bit_size(16, Sign::Signed),
-        ),
-        Ppc64Relocation::R_PPC64_GOT_TLSGD16_LO => low(
-            RelocationKind::TlsGdGotBase,
-            AllowedRange::no_check(),
-        ),
-        Ppc64Relocation::R_PPC64_GOT_TLSGD16_HI => high(RelocationKind::TlsGdGotBase),
-        Ppc64Relocation::R_PPC64_GOT_TLSGD16_HA => high_adjusted(RelocationKind::TlsGdGotBase),
-        Ppc64Relocation::R_PPC64_GOT_TLSLD16 => low(
-            RelocationKind::TlsLdGotBase,
-            AllowedRange::from_bit_size(16, Sign::Signed),
-        ),
-        Ppc64Relocation::R_PPC64_GOT_TLSLD16_LO => low(
-            RelocationKind::TlsLdGotBase,
-            AllowedRange::no_check(),
-        ),
-        Ppc64Relocation::R_PPC64_GOT_TLSLD16_HI => high(RelocationKind::TlsLdGotBase),
-        Ppc64Relocation::R_PPC64_GOT_TLSLD16_HA => high_adjusted(RelocationKind::TlsLdGotBase),
-        Ppc64Relocation::Other(_) => return None,
-    };
-    Some(info)
+    row(name)
+}
+
+#[inline(always)]
+fn row(name: Ppc64Relocation) -> Option<RelocationKindInfo> {
+    rows!(name, Some, None)
+}
+
+/// `relocation_type_from_raw`, by a table in place of a match. It takes less time where a processor
+/// can't foresee the name, and more where it can.
+#[inline]
+pub fn relocation_type_from_table(name: Ppc64Relocation) -> Option<RelocationKindInfo> {
+    let row = row_number(name);
+    unpack(row, ppc64_size(row))
+}
+
+/// The row of a name as a number; 0 where there is none. Inlined, the match would be joined with
+/// what reads the row, into a jump that a processor can't foresee.
+#[inline(never)]
+fn row_number(name: Ppc64Relocation) -> u64 {
+    rows!(name, pack, 0)
 }

@@ -8,7 +8,9 @@ ghost use Rattle.linker_utils.specs.RiscVRows.{riscv_tls_descriptor_row};
 ghost use Rattle.linker_utils.specs.RiscVRows as rows;
 ghost use Rattle.linker_utils.specs.ElfNames.{IsNameOf, code_of, text_of};
 ghost use Rattle.linker_utils.specs.RiscVNames.{riscv_name};
+ghost use Rattle.linker_utils.specs.Inner.PackedRows.{packed_row};
 
+use crate::elf::rows::{pack, riscv_size, unpack};
 use crate::elf::{
     AllowedRange, RelocationKind, RelocationKindInfo, RelocationSize, RiscVInstruction, Uleb128Role,
 };
@@ -302,6 +304,227 @@ pub(super) fn clui_info() -> RelocationKindInfo
     )
 }
 
+/// The rows, each by `$row`; `$none` where there is no row.
+macro_rules! rows {
+    ($name:expr, $row:ident, $none:expr) => {
+        match $name {
+            RiscVRelocation::R_RISCV_NONE
+            | RiscVRelocation::R_RISCV_TPREL_ADD
+            | RiscVRelocation::R_RISCV_RELAX => $row(in_bytes(RelocationKind::None, 0, None)),
+            RiscVRelocation::R_RISCV_32 => $row(in_bytes(
+                RelocationKind::Absolute,
+                4,
+                SIGNED_OR_UNSIGNED_32,
+            )),
+            RiscVRelocation::R_RISCV_64 => $row(in_bytes(RelocationKind::Absolute, 8, None)),
+            RiscVRelocation::R_RISCV_HI20 => $row(in_form(
+                RelocationKind::Absolute,
+                32,
+                RiscVInstruction::UType,
+                SIGNED_OR_UNSIGNED_32,
+                1,
+            )),
+            RiscVRelocation::R_RISCV_LO12_I => $row(in_form(
+                RelocationKind::Absolute,
+                32,
+                RiscVInstruction::IType,
+                SIGNED_OR_UNSIGNED_32,
+                1,
+            )),
+            RiscVRelocation::R_RISCV_LO12_S => $row(in_form(
+                RelocationKind::Absolute,
+                32,
+                RiscVInstruction::SType,
+                SIGNED_OR_UNSIGNED_32,
+                1,
+            )),
+            RiscVRelocation::R_RISCV_BRANCH => $row(in_form(
+                RelocationKind::Relative,
+                32,
+                RiscVInstruction::BType,
+                Some((-4096, 4095)),
+                2,
+            )),
+            RiscVRelocation::R_RISCV_JAL => $row(in_form(
+                RelocationKind::Relative,
+                32,
+                RiscVInstruction::JType,
+                Some((-1048576, 1048575)),
+                2,
+            )),
+            RiscVRelocation::R_RISCV_PCREL_HI20 => $row(in_form(
+                RelocationKind::Relative,
+                32,
+                RiscVInstruction::UType,
+                SIGNED_OR_UNSIGNED_32,
+                1,
+            )),
+            RiscVRelocation::R_RISCV_RVC_BRANCH => $row(in_form(
+                RelocationKind::Relative,
+                16,
+                RiscVInstruction::CbType,
+                Some((-256, 255)),
+                2,
+            )),
+            RiscVRelocation::R_RISCV_RVC_JUMP => $row(in_form(
+                RelocationKind::Relative,
+                16,
+                RiscVInstruction::CjType,
+                Some((-2048, 2047)),
+                2,
+            )),
+            RiscVRelocation::R_RISCV_32_PCREL => $row(in_bytes(
+                RelocationKind::Relative,
+                4,
+                SIGNED_OR_UNSIGNED_32,
+            )),
+            RiscVRelocation::R_RISCV_SET_ULEB128 => $row(in_bytes(
+                RelocationKind::Relative,
+                0,
+                None,
+            )),
+            RiscVRelocation::R_RISCV_CALL
+            | RiscVRelocation::R_RISCV_CALL_PLT => $row(in_form(
+                RelocationKind::PltRelative,
+                64,
+                RiscVInstruction::UiType,
+                SIGNED_OR_UNSIGNED_32,
+                1,
+            )),
+            RiscVRelocation::R_RISCV_PLT32 => $row(in_bytes(
+                RelocationKind::PltRelative,
+                4,
+                SIGNED_OR_UNSIGNED_32,
+            )),
+            RiscVRelocation::R_RISCV_GOT_HI20 => $row(in_form(
+                RelocationKind::GotRelative,
+                32,
+                RiscVInstruction::UType,
+                SIGNED_OR_UNSIGNED_32,
+                1,
+            )),
+            RiscVRelocation::R_RISCV_GOT32_PCREL => $row(in_bytes(
+                RelocationKind::GotRelative,
+                4,
+                SIGNED_OR_UNSIGNED_32,
+            )),
+            RiscVRelocation::R_RISCV_TLS_GOT_HI20 => $row(in_form(
+                RelocationKind::GotTpOff,
+                32,
+                RiscVInstruction::UType,
+                SIGNED_OR_UNSIGNED_32,
+                1,
+            )),
+            RiscVRelocation::R_RISCV_TLS_GD_HI20 => $row(in_form(
+                RelocationKind::TlsGd,
+                32,
+                RiscVInstruction::UType,
+                SIGNED_OR_UNSIGNED_32,
+                1,
+            )),
+            RiscVRelocation::R_RISCV_PCREL_LO12_I => $row(in_form(
+                RelocationKind::RelativeRiscVLow12,
+                32,
+                RiscVInstruction::IType,
+                SIGNED_OR_UNSIGNED_32,
+                1,
+            )),
+            RiscVRelocation::R_RISCV_PCREL_LO12_S => $row(in_form(
+                RelocationKind::RelativeRiscVLow12,
+                32,
+                RiscVInstruction::SType,
+                SIGNED_OR_UNSIGNED_32,
+                1,
+            )),
+            RiscVRelocation::R_RISCV_TPREL_HI20 => $row(in_form(
+                RelocationKind::TpOff,
+                32,
+                RiscVInstruction::UType,
+                SIGNED_OR_UNSIGNED_32,
+                1,
+            )),
+            RiscVRelocation::R_RISCV_TPREL_LO12_I => $row(in_form(
+                RelocationKind::TpOff,
+                32,
+                RiscVInstruction::IType,
+                SIGNED_OR_UNSIGNED_32,
+                1,
+            )),
+            RiscVRelocation::R_RISCV_TPREL_LO12_S => $row(in_form(
+                RelocationKind::TpOff,
+                32,
+                RiscVInstruction::SType,
+                SIGNED_OR_UNSIGNED_32,
+                1,
+            )),
+            RiscVRelocation::R_RISCV_ADD8 => $row(in_bytes(
+                RelocationKind::AbsoluteAddition,
+                1,
+                None,
+            )),
+            RiscVRelocation::R_RISCV_ADD16 => $row(in_bytes(
+                RelocationKind::AbsoluteAddition,
+                2,
+                None,
+            )),
+            RiscVRelocation::R_RISCV_ADD32 => $row(in_bytes(
+                RelocationKind::AbsoluteAddition,
+                4,
+                None,
+            )),
+            RiscVRelocation::R_RISCV_ADD64 => $row(in_bytes(
+                RelocationKind::AbsoluteAddition,
+                8,
+                None,
+            )),
+            RiscVRelocation::R_RISCV_SUB8 => $row(in_bytes(
+                RelocationKind::AbsoluteSubtraction,
+                1,
+                None,
+            )),
+            RiscVRelocation::R_RISCV_SUB16 => $row(in_bytes(
+                RelocationKind::AbsoluteSubtraction,
+                2,
+                None,
+            )),
+            RiscVRelocation::R_RISCV_SUB32 => $row(in_bytes(
+                RelocationKind::AbsoluteSubtraction,
+                4,
+                None,
+            )),
+            RiscVRelocation::R_RISCV_SUB64 => $row(in_bytes(
+                RelocationKind::AbsoluteSubtraction,
+                8,
+                None,
+            )),
+            RiscVRelocation::R_RISCV_SUB6 => $row(in_bytes(
+                RelocationKind::AbsoluteSubtractionWord6,
+                1,
+                None,
+            )),
+            RiscVRelocation::R_RISCV_SET6 => $row(in_bytes(
+                RelocationKind::AbsoluteSetWord6,
+                1,
+                None,
+            )),
+            RiscVRelocation::R_RISCV_SET8 => $row(in_bytes(RelocationKind::AbsoluteSet, 1, None)),
+            RiscVRelocation::R_RISCV_SET16 => $row(in_bytes(RelocationKind::AbsoluteSet, 2, None)),
+            RiscVRelocation::R_RISCV_SET32 => $row(in_bytes(RelocationKind::AbsoluteSet, 4, None)),
+            RiscVRelocation::R_RISCV_ALIGN => $row(in_bytes(RelocationKind::Alignment, 0, None)),
+            RiscVRelocation::R_RISCV_SUB_ULEB128 => $row(in_bytes(
+                RelocationKind::PairSubtractionULEB128RiscV,
+                8,
+                None,
+            )),
+            RiscVRelocation::R_RISCV_TLSDESC_HI20
+            | RiscVRelocation::R_RISCV_TLSDESC_LOAD_LO12
+            | RiscVRelocation::R_RISCV_TLSDESC_ADD_LO12
+            | RiscVRelocation::R_RISCV_TLSDESC_CALL
+            | RiscVRelocation::Other(_) => $none,
+        }
+    };
+}
+
 /// What a relocation means. It takes a name; `RiscVRelocation::from_elf` gives the name of a code.
 /// Returns `None` for `Other`, and for the four of TLS descriptors, of which
 /// `tls_descriptor_relocation` returns the meaning.
@@ -321,177 +544,45 @@ pub fn relocation_type_from_raw(name: RiscVRelocation) -> Option<RelocationKindI
     ensures others { IfSome result RowReadsNoOther }
     ensures fits { IfSome result RowFits }
 {
-    let info = match name {
-        RiscVRelocation::R_RISCV_NONE
-        | RiscVRelocation::R_RISCV_TPREL_ADD
-        | RiscVRelocation::R_RISCV_RELAX => in_bytes(RelocationKind::None, 0, None),
-        RiscVRelocation::R_RISCV_32 => in_bytes(RelocationKind::Absolute, 4, SIGNED_OR_UNSIGNED_32),
-        RiscVRelocation::R_RISCV_64 => in_bytes(RelocationKind::Absolute, 8, None),
-        RiscVRelocation::R_RISCV_HI20 => in_form(
-            RelocationKind::Absolute,
-            32,
-            RiscVInstruction::UType,
-            SIGNED_OR_UNSIGNED_32,
-            1,
-        ),
-        RiscVRelocation::R_RISCV_LO12_I => in_form(
-            RelocationKind::Absolute,
-            32,
-            RiscVInstruction::IType,
-            SIGNED_OR_UNSIGNED_32,
-            1,
-        ),
-        RiscVRelocation::R_RISCV_LO12_S => in_form(
-            RelocationKind::Absolute,
-            32,
-            RiscVInstruction::SType,
-            SIGNED_OR_UNSIGNED_32,
-            1,
-        ),
-        RiscVRelocation::R_RISCV_BRANCH => in_form(
-            RelocationKind::Relative,
-            32,
-            RiscVInstruction::BType,
-            Some((-4096, 4095)),
-            2,
-        ),
-        RiscVRelocation::R_RISCV_JAL => in_form(
-            RelocationKind::Relative,
-            32,
-            RiscVInstruction::JType,
-            Some((-1048576, 1048575)),
-            2,
-        ),
-        RiscVRelocation::R_RISCV_PCREL_HI20 => in_form(
-            RelocationKind::Relative,
-            32,
-            RiscVInstruction::UType,
-            SIGNED_OR_UNSIGNED_32,
-            1,
-        ),
-        RiscVRelocation::R_RISCV_RVC_BRANCH => in_form(
-            RelocationKind::Relative,
-            16,
-            RiscVInstruction::CbType,
-            Some((-256, 255)),
-            2,
-        ),
-        RiscVRelocation::R_RISCV_RVC_JUMP => in_form(
-            RelocationKind::Relative,
-            16,
-            RiscVInstruction::CjType,
-            Some((-2048, 2047)),
-            2,
-        ),
-        RiscVRelocation::R_RISCV_32_PCREL => in_bytes(
-            RelocationKind::Relative,
-            4,
-            SIGNED_OR_UNSIGNED_32,
-        ),
-        RiscVRelocation::R_RISCV_SET_ULEB128 => in_bytes(RelocationKind::Relative, 0, None),
-        RiscVRelocation::R_RISCV_CALL | RiscVRelocation::R_RISCV_CALL_PLT => in_form(
-            RelocationKind::PltRelative,
-            64,
-            RiscVInstruction::UiType,
-            SIGNED_OR_UNSIGNED_32,
-            1,
-        ),
-        RiscVRelocation::R_RISCV_PLT32 => in_bytes(
-            RelocationKind::PltRelative,
-            4,
-            SIGNED_OR_UNSIGNED_32,
-        ),
-        RiscVRelocation::R_RISCV_GOT_HI20 => in_form(
-            RelocationKind::GotRelative,
-            32,
-            RiscVInstruction::UType,
-            SIGNED_OR_UNSIGNED_32,
-            1,
-        ),
-        RiscVRelocation::R_RISCV_GOT32_PCREL => in_bytes(
-            RelocationKind::GotRelative,
-            4,
-            SIGNED_OR_UNSIGNED_32,
-        ),
-        RiscVRelocation::R_RISCV_TLS_GOT_HI20 => in_form(
-            RelocationKind::GotTpOff,
-            32,
-            RiscVInstruction::UType,
-            SIGNED_OR_UNSIGNED_32,
-            1,
-        ),
-        RiscVRelocation::R_RISCV_TLS_GD_HI20 => in_form(
-            RelocationKind::TlsGd,
-            32,
-            RiscVInstruction::UType,
-            SIGNED_OR_UNSIGNED_32,
-            1,
-        ),
-        RiscVRelocation::R_RISCV_PCREL_LO12_I => in_form(
-            RelocationKind::RelativeRiscVLow12,
-            32,
-            RiscVInstruction::IType,
-            SIGNED_OR_UNSIGNED_32,
-            1,
-        ),
-        RiscVRelocation::R_RISCV_PCREL_LO12_S => in_form(
-            RelocationKind::RelativeRiscVLow12,
-            32,
-            RiscVInstruction::SType,
-            SIGNED_OR_UNSIGNED_32,
-            1,
-        ),
-        RiscVRelocation::R_RISCV_TPREL_HI20 => in_form(
-            RelocationKind::TpOff,
-            32,
-            RiscVInstruction::UType,
-            SIGNED_OR_UNSIGNED_32,
-            1,
-        ),
-        RiscVRelocation::R_RISCV_TPREL_LO12_I => in_form(
-            RelocationKind::TpOff,
-            32,
-            RiscVInstruction::IType,
-            SIGNED_OR_UNSIGNED_32,
-            1,
-        ),
-        RiscVRelocation::R_RISCV_TPREL_LO12_S => in_form(
-            RelocationKind::TpOff,
-            32,
-            RiscVInstruction::SType,
-            SIGNED_OR_UNSIGNED_32,
-            1,
-        ),
-        RiscVRelocation::R_RISCV_ADD8 => in_bytes(RelocationKind::AbsoluteAddition, 1, None),
-        RiscVRelocation::R_RISCV_ADD16 => in_bytes(RelocationKind::AbsoluteAddition, 2, None),
-        RiscVRelocation::R_RISCV_ADD32 => in_bytes(RelocationKind::AbsoluteAddition, 4, None),
-        RiscVRelocation::R_RISCV_ADD64 => in_bytes(RelocationKind::AbsoluteAddition, 8, None),
-        RiscVRelocation::R_RISCV_SUB8 => in_bytes(RelocationKind::AbsoluteSubtraction, 1, None),
-        RiscVRelocation::R_RISCV_SUB16 => in_bytes(RelocationKind::AbsoluteSubtraction, 2, None),
-        RiscVRelocation::R_RISCV_SUB32 => in_bytes(RelocationKind::AbsoluteSubtraction, 4, None),
-        RiscVRelocation::R_RISCV_SUB64 => in_bytes(RelocationKind::AbsoluteSubtraction, 8, None),
-        RiscVRelocation::R_RISCV_SUB6 => in_bytes(
-            RelocationKind::AbsoluteSubtractionWord6,
-            1,
-            None,
-        ),
-        RiscVRelocation::R_RISCV_SET6 => in_bytes(RelocationKind::AbsoluteSetWord6, 1, None),
-        RiscVRelocation::R_RISCV_SET8 => in_bytes(RelocationKind::AbsoluteSet, 1, None),
-        RiscVRelocation::R_RISCV_SET16 => in_bytes(RelocationKind::AbsoluteSet, 2, None),
-        RiscVRelocation::R_RISCV_SET32 => in_bytes(RelocationKind::AbsoluteSet, 4, None),
-        RiscVRelocation::R_RISCV_ALIGN => in_bytes(RelocationKind::Alignment, 0, None),
-        RiscVRelocation::R_RISCV_SUB_ULEB128 => in_bytes(
-            RelocationKind::PairSubtractionULEB128RiscV,
-            8,
-            None,
-        ),
-        RiscVRelocation::R_RISCV_TLSDESC_HI20
-        | RiscVRelocation::R_RISCV_TLSDESC_LOAD_LO12
-        | RiscVRelocation::R_RISCV_TLSDESC_ADD_LO12
-        | RiscVRelocation::R_RISCV_TLSDESC_CALL
-        | RiscVRelocation::Other(_) => return None,
-    };
+    row(name)
+}
+
+#[inline(always)]
+fn same(info: RelocationKindInfo) -> RelocationKindInfo
+    ensures { result ≡ info }
+{
+    info
+}
+
+/// `Some` stands behind the match: in each arm it took rustc's code a third more time.
+#[inline(always)]
+fn row(name: RiscVRelocation) -> Option<RelocationKindInfo>
+    ensures { result ≡ riscv_row name }
+{
+    let info = rows!(name, same, return None);
     Some(info)
+}
+
+/// `relocation_type_from_raw`, by a table in place of a match. It takes less time where a processor
+/// can't foresee the name, and more where it can.
+#[inline]
+pub fn relocation_type_from_table(name: RiscVRelocation) -> Option<RelocationKindInfo>
+    ensures row { result ≡ riscv_row name }
+    // only of branches and jumps: `pair` of `write_to_value` says what pairs hold
+    ensures agrees { IfSome result RowAgrees }
+    ensures fits { IfSome result RowFits }
+{
+    let row = row_number(name);
+    unpack(row, riscv_size(row))
+}
+
+/// The row of a name as a number; 0 where there is none. Inlined, the match would be joined with
+/// what reads the row, into a jump that a processor can't foresee.
+#[inline(never)]
+fn row_number(name: RiscVRelocation) -> u64
+    ensures { result ≡ packed_row (riscv_row name) }
+{
+    rows!(name, pack, 0)
 }
 
 /// What a relocation of TLS descriptors means (RISC-V ELF psABI, "TLS Descriptors"). Returns `None`

@@ -7,11 +7,13 @@ use Rattle.linker_utils.proofs.RowsFit.{aarch64_fits}
 use Rattle.linker_utils.proofs.aarch64.relocations.relocation_type_from_raw.Goals as goal
 
 pub returns-clause-agrees : goal.returns-clause-agrees
-returns-clause-agrees c = subst (λ o. IfSome o RowAgrees) (sym c.described.ensures) (aarch64_rows c.args.name)
+returns-clause-agrees c =
+    subst (λ o. IfSome o RowAgrees) (sym c.row.ensures) (aarch64_rows c.args.name)
 
 pub returns-clause-fits : goal.returns-clause-fits
-returns-clause-fits c = subst (λ o. IfSome o RowFits) (sym c.described.ensures) (aarch64_fits c.args.name)
+returns-clause-fits c =
+    subst (λ o. IfSome o RowFits) (sym c.row.ensures) (aarch64_fits c.args.name)
 
 pub returns-clause-others : goal.returns-clause-others
-returns-clause-others c = subst (λ o. IfSome o RowReadsNoOther) (sym c.described.ensures)
-    (aarch64_reads_no_other c.args.name)
+returns-clause-others c =
+    subst (λ o. IfSome o RowReadsNoOther) (sym c.row.ensures) (aarch64_reads_no_other c.args.name)

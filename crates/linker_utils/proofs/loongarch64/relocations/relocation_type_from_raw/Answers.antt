@@ -1,7 +1,6 @@
-use Rattle.std.proofs.Common.{rules, IfSome, ◌≡◌, Some, subst, sym}
+use Rattle.std.proofs.Common.{IfSome, subst, sym}
 use Rattle.linker_utils.specs.Agrees.{LoongArchRowAgrees, RowFits}
 use Rattle.linker_utils.specs.Readings.{LoongArchRowReadsNoOther}
-use Rattle.linker_utils.specs.LoongArchRows.{loongarch_row}
 use Rattle.linker_utils.proofs.Readings.{loongarch_reads_no_other}
 use Rattle.linker_utils.proofs.RowsAgree.{loongarch_rows}
 use Rattle.linker_utils.proofs.RowsFit.{loongarch_fits}
@@ -9,16 +8,13 @@ use Rattle.linker_utils.proofs.loongarch64.relocations.relocation_type_from_raw.
 
 pub returns-clause-agrees : goal.returns-clause-agrees
 returns-clause-agrees c =
-    let row : Some c.match-name.info ≡ loongarch_row c.args.name = search rules in
-    subst (λ o. IfSome o (LoongArchRowAgrees c.args.name)) (sym row) (loongarch_rows c.args.name)
+    subst (λ o. IfSome o (LoongArchRowAgrees c.args.name)) (sym c.row.ensures)
+    (loongarch_rows c.args.name)
 
 pub returns-clause-fits : goal.returns-clause-fits
 returns-clause-fits c =
-    let row : Some c.match-name.info ≡ loongarch_row c.args.name = search rules in
-    subst (λ o. IfSome o RowFits) (sym row) (loongarch_fits c.args.name)
+    subst (λ o. IfSome o RowFits) (sym c.row.ensures) (loongarch_fits c.args.name)
 
 pub returns-clause-others : goal.returns-clause-others
 returns-clause-others c =
-    let row : Some c.match-name.info ≡ loongarch_row c.args.name = search rules in
-    subst (λ o. IfSome o (LoongArchRowReadsNoOther c.args.name)) (sym row)
-    (loongarch_reads_no_other c.args.name)
+    subst (λ o. IfSome o (LoongArchRowReadsNoOther c.args.name)) (sym c.row.ensures) (loongarch_reads_no_other c.args.name)

@@ -1,7 +1,6 @@
-use Rattle.std.proofs.Common.{rules, IfSome, ◌≡◌, Some, subst, sym}
+use Rattle.std.proofs.Common.{IfSome, subst, sym}
 use Rattle.linker_utils.specs.Agrees.{RowAgrees, RowFits}
 use Rattle.linker_utils.specs.Readings.{RowReadsNoOther}
-use Rattle.linker_utils.specs.Ppc64Rows.{ppc64_row}
 use Rattle.linker_utils.proofs.Readings.{ppc64_reads_no_other}
 use Rattle.linker_utils.proofs.RowsAgree.{ppc64_rows}
 use Rattle.linker_utils.proofs.RowsFit.{ppc64_fits}
@@ -9,15 +8,12 @@ use Rattle.linker_utils.proofs.ppc64.relocations.relocation_type_from_raw.Goals 
 
 pub returns-clause-agrees : goal.returns-clause-agrees
 returns-clause-agrees c =
-    let row : Some c.match-name.info ≡ ppc64_row c.args.name = search rules in
-    subst (λ o. IfSome o RowAgrees) (sym row) (ppc64_rows c.args.name)
+    subst (λ o. IfSome o RowAgrees) (sym c.row.ensures) (ppc64_rows c.args.name)
 
 pub returns-clause-fits : goal.returns-clause-fits
 returns-clause-fits c =
-    let row : Some c.match-name.info ≡ ppc64_row c.args.name = search rules in
-    subst (λ o. IfSome o RowFits) (sym row) (ppc64_fits c.args.name)
+    subst (λ o. IfSome o RowFits) (sym c.row.ensures) (ppc64_fits c.args.name)
 
 pub returns-clause-others : goal.returns-clause-others
 returns-clause-others c =
-    let row : Some c.match-name.info ≡ ppc64_row c.args.name = search rules in
-    subst (λ o. IfSome o RowReadsNoOther) (sym row) (ppc64_reads_no_other c.args.name)
+    subst (λ o. IfSome o RowReadsNoOther) (sym c.row.ensures) (ppc64_reads_no_other c.args.name)

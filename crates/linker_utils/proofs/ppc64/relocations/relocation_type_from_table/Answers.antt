@@ -1,0 +1,22 @@
+use Rattle.std.proofs.Common.{rules, IfSome, subst, sym}
+use Rattle.linker_utils.specs.Agrees.{RowAgrees, RowFits}
+use Rattle.linker_utils.proofs.PackedRows as packed
+use Rattle.linker_utils.proofs.RowsAgree.{ppc64_rows}
+use Rattle.linker_utils.proofs.RowsFit.{ppc64_fits}
+use Rattle.linker_utils.proofs.ppc64.relocations.relocation_type_from_table.Goals as goal
+
+pub returns-clause-row : goal.returns-clause-row
+returns-clause-row c = rw (c.unpack.ensures, c.ppc64_size.ensures, c.row_number-row.ensures)
+    (packed.ppc64_rows c.args.name)
+
+pub returns-clause-agrees : goal.returns-clause-agrees
+returns-clause-agrees c =
+    let is = packed.ppc64_rows c.args.name in
+    rw (c.unpack.ensures, c.ppc64_size.ensures, c.row_number-row.ensures)
+    (subst (λ o. IfSome o RowAgrees) (sym is) (ppc64_rows c.args.name))
+
+pub returns-clause-fits : goal.returns-clause-fits
+returns-clause-fits c =
+    let is = packed.ppc64_rows c.args.name in
+    rw (c.unpack.ensures, c.ppc64_size.ensures, c.row_number-row.ensures)
+    (subst (λ o. IfSome o RowFits) (sym is) (ppc64_fits c.args.name))
