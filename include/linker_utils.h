@@ -580,7 +580,8 @@ struct linker_utils_operands {
     uint64_t symbol;
     /* A. Of R_RISCV_PCREL_LO12_* it is that of the high part. */
     int64_t addend;
-    /* P. Of R_RISCV_PCREL_LO12_* it is that of the high part. */
+    /* P. Of R_RISCV_PCREL_LO12_*, R_RISCV_TLSDESC_LOAD_LO12 and R_RISCV_TLSDESC_ADD_LO12 it is that
+     * of the high part. */
     uint64_t place;
     /* GOT + G, GD, LD, IE or DESC: the address of the entry that the relocation asks for. Of an
      * AArch64 instruction it is the entry of S + A. */

@@ -19,8 +19,8 @@ pub struct Operands {
     pub symbol: u64,
     /// A: the addend. Of `R_RISCV_PCREL_LO12_*` it is that of the high part.
     pub addend: i64,
-    /// P: the place, which is the address of the field. Of `R_RISCV_PCREL_LO12_*` it is that of the
-    /// high part.
+    /// P: the place, which is the address of the field. Of `R_RISCV_PCREL_LO12_*`,
+    /// `R_RISCV_TLSDESC_LOAD_LO12` and `R_RISCV_TLSDESC_ADD_LO12` it is that of the high part.
     pub place: u64,
     /// The address of the GOT entry that the relocation asks for: the symbol's (GOT + G), or its
     /// entries for general-dynamic, local-dynamic and initial-exec TLS, or its TLS descriptor. Of

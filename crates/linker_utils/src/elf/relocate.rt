@@ -22,8 +22,9 @@ use crate::elf::{
 #[derive(Debug, Clone, Copy, PartialEq, Eq)]
 pub enum RelocateError {
     /// The relocation is one of a pair that computes a ULEB128 number, whose length is not the
-    /// row's to know. Or the row is none that the library returns: it has more than 8 bytes, a bit
-    /// range that isn't within 64 bits, or an alignment that is 0 or above 2^63 - 1.
+    /// row's to know: `utils::write_uleb128` writes it. Or the row is none that the library
+    /// returns: it has more than 8 bytes, a bit range that isn't within 64 bits, or an alignment
+    /// that is 0 or above 2^63 - 1.
     Unsupported,
     /// There are fewer bytes than the relocation writes.
     TooShort,
