@@ -245,7 +245,10 @@ fn rows(report: &mut Report) {
         report.line(name, types.len(), true, each(side));
     };
     for machine in MACHINES {
-        let is_other = |r_type: &u32| machine == LOONGARCH64 && OTHER_TYPES.contains(r_type);
+        let is_other = |r_type: &u32| {
+            machine == LOONGARCH64 && OTHER_TYPES.contains(r_type)
+                || machine == PPC64 && OWN_TYPES.contains(r_type)
+        };
         let has_row = |r_type: &u32| sathunne::relocation(architecture(machine), *r_type).is_ok();
         let known: Vec<u32> = (0..1 << 11)
             .filter(|r_type| has_row(r_type) && !is_other(r_type))
