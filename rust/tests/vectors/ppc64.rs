@@ -435,10 +435,11 @@ static LD_PAIRS: [(u32, u32, u64, u32, u32); 27] = [
     ),
 ];
 
+// The words stand in windows of 8 bytes, which is room for each form.
 fn written(insn: Ppc64Instruction, value: u64, word: u32) -> u32 {
-    let mut bytes = word.to_le_bytes();
+    let mut bytes = u64::from(word).to_le_bytes();
     insn.write_to_value(value, false, &mut bytes);
-    u32::from_le_bytes(bytes)
+    u32::from_le_bytes([bytes[0], bytes[1], bytes[2], bytes[3]])
 }
 
 fn machine_number(insn: Ppc64Instruction, word: u32) -> i64 {
@@ -447,7 +448,7 @@ fn machine_number(insn: Ppc64Instruction, word: u32) -> i64 {
     } else {
         16
     };
-    insn.read_value(&word.to_le_bytes())
+    insn.read_value(&u64::from(word).to_le_bytes())
         .0
         .low_bits_signed(bits)
         .cast_signed()
