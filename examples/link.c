@@ -30,10 +30,10 @@ struct output {
 };
 
 struct object {
-    struct object *next;
     const char *path;
     uint8_t *bytes;
-    struct section *sections;
+    const Elf64_Shdr *heads;
+    struct section *sections; /* one for each head */
     struct symbol **symbols;
     size_t len, sections_len, symbols_len;
 };
@@ -48,13 +48,13 @@ struct section {
 };
 
 struct symbol {
-    struct symbol *next; /* in its bucket */
     const struct object *object;
     const char *name;
     Elf64_Sym elf;
+    struct symbol *next, *later; /* in its bucket; in the order of the objects */
     struct output *output; /* null where the address is absolute, and where nothing defines it */
     uint64_t offset, got_entry; /* in the output and in the GOT */
-    bool needs_got, has_got;
+    bool needs_got;
 };
 
 struct relocation {
@@ -70,9 +70,8 @@ static uint16_t machine;
 static uint32_t machine_flags;
 static struct object *objects;
 static struct output *outputs[256], *got;
-static size_t outputs_len;
-static struct symbol *buckets[1 << 16];
-static bool needs_got;
+static size_t objects_len, outputs_len;
+static struct symbol *buckets[1 << 16], *symbols, **last_symbol = &symbols;
 
 /* Where a relocation is, and its name, as "b.o: .text+0x1c: R_RISCV_JAL". */
 static const char *place_of(const struct relocation *r) {
@@ -103,8 +102,6 @@ static void *take(uint64_t count, size_t size) {
 
 static uint64_t round_up(uint64_t at, uint64_t align) { return (at + align - 1) & ~(align - 1); }
 
-static bool is_alignment(uint64_t align) { return !(align & (align - 1)) && align <= PAGE; }
-
 static const uint8_t *bytes_at(const struct object *o, uint64_t offset, uint64_t len) {
     demand(o, offset <= o->len && len <= o->len - offset, "it ends too early");
     return o->bytes + offset;
@@ -118,36 +115,11 @@ static void *copy_table(const struct object *o, const Elf64_Shdr *head, size_t s
 }
 
 static const char *text_at(const struct object *o, uint64_t table, uint64_t at) {
-    const Elf64_Shdr *head = o->sections[table < o->sections_len ? table : 0].head;
+    const Elf64_Shdr *head = &o->heads[table < o->sections_len ? table : 0];
     demand(o, head->sh_type == SHT_STRTAB && at < head->sh_size, "a name that is not there");
     const char *text = (const char *)bytes_at(o, head->sh_offset, head->sh_size) + at;
     demand(o, memchr(text, 0, head->sh_size - at), "a name that does not end");
     return text;
-}
-
-static void read_sections(struct object *o) {
-    Elf64_Ehdr head;
-    struct linker_utils_relocation_reach reach;
-    memcpy(&head, bytes_at(o, 0, sizeof head), sizeof head);
-    demand(o, !memcmp(head.e_ident, ELFMAG "\2\1", 6) && head.e_type == ET_REL && head.e_shnum,
-           "not a relocatable object of little-endian ELF64");
-    demand(o,
-           linker_utils_reach(head.e_machine, 0, &reach) != LINKER_UTILS_UNKNOWN_ARCHITECTURE &&
-               (!machine || machine == head.e_machine),
-           "of another architecture");
-    machine = head.e_machine;
-    machine_flags |= head.e_flags;
-    Elf64_Shdr table = {.sh_offset = head.e_shoff, .sh_entsize = head.e_shentsize};
-    table.sh_size = head.e_shnum * sizeof table;
-    Elf64_Shdr *s = copy_table(o, &table, sizeof table, &o->sections_len);
-    o->sections = take(o->sections_len, sizeof *o->sections);
-    for (size_t i = 0; i < o->sections_len; i++, s++) {
-        o->sections[i] = (struct section){.object = o, .head = s};
-        if (s->sh_type != SHT_NOBITS) bytes_at(o, s->sh_offset, s->sh_size);
-        demand(o, is_alignment(s->sh_addralign), "a section can't be aligned so");
-    }
-    for (size_t i = 0; i < o->sections_len; i++)
-        o->sections[i].name = text_at(o, head.e_shstrndx, o->sections[i].head->sh_name);
 }
 
 /* Where the global symbol of a name is, or is to be put. */
@@ -159,12 +131,11 @@ static struct symbol **global(const char *name) {
     return at;
 }
 
-static bool is_weak(const Elf64_Sym *s) { return ELF64_ST_BIND(s->st_info) == STB_WEAK; }
-
 /* Which of two mentions of a symbol counts: the higher, and else the first. */
 static int rank(const Elf64_Sym *s) {
-    if (s->st_shndx == SHN_UNDEF) return !is_weak(s);
-    return s->st_shndx == SHN_COMMON ? 3 : is_weak(s) ? 2 : 4;
+    bool is_weak = ELF64_ST_BIND(s->st_info) == STB_WEAK;
+    if (s->st_shndx == SHN_UNDEF) return !is_weak;
+    return s->st_shndx == SHN_COMMON ? 3 : is_weak ? 2 : 4;
 }
 
 /* The global symbol of a name, after what one more object says of it. */
@@ -179,10 +150,9 @@ static struct symbol *resolve(struct symbol *s) {
         old->elf.st_value = s->elf.st_value = a > b ? a : b;
         after += s->elf.st_size > old->elf.st_size;
     }
-    if (after > before) {
-        old->elf = s->elf;
-        old->object = s->object;
-    }
+    if (after <= before) return old;
+    old->elf = s->elf;
+    old->object = s->object;
     return old;
 }
 
@@ -194,80 +164,91 @@ static void read_symbols(struct object *o, const Elf64_Shdr *head) {
     for (size_t i = 0; i < o->symbols_len; i++, elf++, s++) {
         uint16_t at = elf->st_shndx;
         unsigned type = ELF64_ST_TYPE(elf->st_info), bind = ELF64_ST_BIND(elf->st_info);
-        *s = (struct symbol){.object = o, .elf = *elf};
-        s->name = text_at(o, head->sh_link, elf->st_name);
+        *s = (struct symbol){o, text_at(o, head->sh_link, elf->st_name), .elf = *elf};
         if (type == STT_TLS || type == STT_GNU_IFUNC ||
             (at >= o->sections_len && at != SHN_ABS && at != SHN_COMMON) ||
-            (bind == STB_LOCAL) != (i < head->sh_info) ||
-            (at == SHN_COMMON && (bind == STB_LOCAL || !is_alignment(elf->st_value))))
+            (bind == STB_LOCAL) != (i < head->sh_info) || (at == SHN_COMMON && bind == STB_LOCAL))
             fail("%s: symbol %zu, '%s', is of a kind that is not supported", o->path, i, s->name);
         if (type == STT_SECTION && at < o->sections_len) s->name = o->sections[at].name;
         o->symbols[i] = bind == STB_LOCAL ? s : resolve(s);
+        if (o->symbols[i] != s) continue;
+        *last_symbol = s;
+        last_symbol = &s->later;
     }
 }
 
-static struct object *read_object(const char *path) {
-    struct object *o = take(1, sizeof *o);
+static void read_object(struct object *o, const char *path) {
     FILE *file = fopen(path, "rb");
     long len = file && !fseek(file, 0, SEEK_END) ? ftell(file) : -1;
     if (len < 0 || (uint64_t)len > MOST_BYTES) fail("%s: can't be read", path);
     rewind(file);
-    o->path = path;
-    o->bytes = take((uint64_t)len, 1);
+    *o = (struct object){.path = path, .bytes = take((uint64_t)len, 1)};
     o->len = fread(o->bytes, 1, (size_t)len, file);
     fclose(file);
-    read_sections(o);
+    Elf64_Ehdr head;
+    memcpy(&head, bytes_at(o, 0, sizeof head), sizeof head);
+    demand(o, !memcmp(head.e_ident, ELFMAG "\2\1", 6) && head.e_type == ET_REL && head.e_shnum,
+           "not a relocatable object of little-endian ELF64");
+    if (!machine) machine = head.e_machine;
+    demand(o, machine == head.e_machine && !linker_utils_relocate(machine, 0, 0, NULL, 0),
+           "of another architecture");
+    machine_flags |= head.e_flags;
+    Elf64_Shdr table = {.sh_offset = head.e_shoff, .sh_entsize = head.e_shentsize};
+    table.sh_size = head.e_shnum * sizeof table;
+    o->heads = copy_table(o, &table, sizeof table, &o->sections_len);
+    o->sections = take(o->sections_len, sizeof *o->sections);
     for (size_t i = 0; i < o->sections_len; i++) {
-        const Elf64_Shdr *head = o->sections[i].head;
-        if (head->sh_type == SHT_SYMTAB) read_symbols(o, head);
-        if (head->sh_type != SHT_RELA && head->sh_type != SHT_REL) continue;
-        if (head->sh_info >= o->sections_len || o->sections[head->sh_info].relocations)
-            fail("%s: relocations of no section, or twice of one", path);
-        o->sections[head->sh_info].relocations = head;
+        const Elf64_Shdr *s = &o->heads[i];
+        if (s->sh_type != SHT_NOBITS) bytes_at(o, s->sh_offset, s->sh_size);
+        o->sections[i] = (struct section){o, text_at(o, head.e_shstrndx, s->sh_name), .head = s};
     }
-    return o;
+    for (const Elf64_Shdr *s = o->heads; s < o->heads + o->sections_len; s++) {
+        if (s->sh_type == SHT_SYMTAB) read_symbols(o, s);
+        if (s->sh_type != SHT_RELA && s->sh_type != SHT_REL) continue;
+        if (s->sh_info >= o->sections_len || o->sections[s->sh_info].relocations)
+            fail("%s: relocations of no section, or twice of one", path);
+        o->sections[s->sh_info].relocations = s;
+    }
 }
 
 /* The section of the linked file that a section of an object goes into. */
 static struct output *output_of(const char *name) {
-    static const char *const kinds[] = {".text", ".rodata", ".data.rel.ro", ".data",
-                                        ".bss",  ".sdata",  ".sbss",        ".init_array"};
+    static const char *const kinds[] = {".text", ".rodata", ".data", ".data.rel.ro",
+                                        ".bss",  ".sdata",  ".sbss", ".init_array"};
+    const char *kind = name; /* the last that matches */
     for (size_t i = 0, len; i < sizeof kinds / sizeof *kinds; i++)
-        if (!strncmp(name, kinds[i], len = strlen(kinds[i])) && (!name[len] || name[len] == '.')) {
-            name = kinds[i];
-            break;
-        }
+        if (!strncmp(name, kinds[i], len = strlen(kinds[i])) && (!name[len] || name[len] == '.'))
+            kind = kinds[i];
     for (size_t i = 0; i < outputs_len; i++)
-        if (!strcmp(outputs[i]->name, name)) return outputs[i];
+        if (!strcmp(outputs[i]->name, kind)) return outputs[i];
     if (outputs_len == sizeof outputs / sizeof *outputs) fail("too many sections");
     struct output *o = outputs[outputs_len++] = take(1, sizeof *o);
-    *o = (struct output){.name = name, .align = 1};
+    *o = (struct output){.name = kind, .align = 1};
     return o;
 }
 
 static struct relocation *add_relocations(struct output *o, size_t len) {
-    size_t old_len = o->relocations_len, size = sizeof *o->relocations;
     o->relocations_len += len;
-    o->relocations = realloc(o->relocations, (o->relocations_len + 1) * size);
+    o->relocations = realloc(o->relocations, (o->relocations_len + 1) * sizeof *o->relocations);
     if (!o->relocations) fail("out of memory");
-    return memset(o->relocations + old_len, 0, len * size);
+    return o->relocations + o->relocations_len - len;
 }
 
-/* Room at the end of a section, and its offset. In gaps of code stand instructions that trap, or
- * zeros, as ld.lld has it. Where bytes are going to be deleted, a gap is as large as any alignment
- * may need, and has the relocation that deletes what it doesn't. */
+/* The offset of new room at a section's end. Gaps in code have instructions that trap, or zeros, as
+ * ld.lld's; where code shrinks they are as long as may be needed, and a relocation cuts them. */
 static uint64_t make_room(struct output *o, uint64_t align, uint64_t len) {
     uint64_t start = o->len, offset = align ? round_up(start, align) : start;
     uint32_t trap = machine == EM_X86_64 ? 0xcccccccc : machine == EM_PPC64 ? 0x7fe00008 : 0;
     if (machine == EM_LOONGARCH) trap = 0x002a0000;
     if (o->shrinks && start && align > 1) {
-        struct relocation *gap = add_relocations(o, 1);
-        *gap = (struct relocation){.type = R_RISCV_ALIGN, .kind = LINKER_UTILS_KIND_ALIGNMENT};
-        gap->offset = round_up(start, 2);
-        gap->addend = (int64_t)align - 2;
-        offset = gap->offset + align - 2;
+        offset = round_up(start, 2);
+        *add_relocations(o, 1) = (struct relocation){
+            NULL, NULL, offset, (int64_t)align - 2, R_RISCV_ALIGN, LINKER_UTILS_KIND_ALIGNMENT,
+            false};
+        offset += align - 2;
     }
     if (len > MOST_BYTES || offset + len > MOST_BYTES) fail("section %s is too large", o->name);
+    if (align & (align - 1) || align > PAGE) fail("section %s can't be aligned so", o->name);
     if (align > o->align) o->align = align;
     o->len = offset + len;
     if (!o->has_bytes) return offset;
@@ -282,17 +263,16 @@ static uint64_t make_room(struct output *o, uint64_t align, uint64_t len) {
 
 /* x86-64: a load from the GOT becomes the address, a call or a jump through it a direct one. */
 static void rewrite_x86_64(uint8_t *bytes, uint64_t len, Elf64_Rela *r, const Elf64_Sym *symbol) {
-    uint32_t type = ELF64_R_TYPE(r->r_info), rewrite = LINKER_UTILS_X86_64_REWRITE_NO_OP;
+    uint32_t type = ELF64_R_TYPE(r->r_info);
     if ((type != R_X86_64_REX_GOTPCRELX && type != R_X86_64_GOTPCRELX) || r->r_addend != -4 ||
         symbol->st_shndx == SHN_UNDEF || symbol->st_shndx == SHN_ABS || r->r_offset < 2)
         return;
     uint8_t opcode = bytes[r->r_offset - 2], operand = bytes[r->r_offset - 1];
-    if (opcode == 0x8b && (operand & 0xc7) == 5)
-        rewrite = LINKER_UTILS_X86_64_REWRITE_MOV_INDIRECT_TO_LEA;
-    if (opcode == 0xff && operand == 0x15)
-        rewrite = LINKER_UTILS_X86_64_REWRITE_CALL_INDIRECT_TO_RELATIVE;
-    if (opcode == 0xff && operand == 0x25)
-        rewrite = LINKER_UTILS_X86_64_REWRITE_JMP_INDIRECT_TO_RELATIVE;
+    uint32_t rewrite =
+        opcode == 0x8b && (operand & 0xc7) == 5 ? LINKER_UTILS_X86_64_REWRITE_MOV_INDIRECT_TO_LEA
+        : opcode == 0xff && operand == 0x15 ? LINKER_UTILS_X86_64_REWRITE_CALL_INDIRECT_TO_RELATIVE
+        : opcode == 0xff && operand == 0x25 ? LINKER_UTILS_X86_64_REWRITE_JMP_INDIRECT_TO_RELATIVE
+                                            : LINKER_UTILS_X86_64_REWRITE_NO_OP;
     if (rewrite != LINKER_UTILS_X86_64_REWRITE_NO_OP &&
         !linker_utils_apply(machine, rewrite, 0, bytes, len, &r->r_offset, &r->r_addend))
         r->r_info = ELF64_R_INFO(ELF64_R_SYM(r->r_info), R_X86_64_PC32);
@@ -304,26 +284,27 @@ static void read_relocations(struct section *s, uint8_t *bytes) {
     size_t len;
     Elf64_Rela *elf = copy_table(o, s->relocations, sizeof *elf, &len);
     struct relocation *first = add_relocations(s->output, len);
-    if (s->head->sh_type == SHT_NOBITS) fail("%s: %s has relocations", o->path, s->name);
     for (struct relocation *r = first; r < first + len; r++, elf++) {
         if (elf->r_offset > s->head->sh_size || ELF64_R_SYM(elf->r_info) >= o->symbols_len)
             fail("%s: %s: a relocation is of no byte or no symbol", o->path, s->name);
-        r->symbol = o->symbols[ELF64_R_SYM(elf->r_info)];
-        if (machine == EM_X86_64) rewrite_x86_64(bytes, s->head->sh_size, elf, &r->symbol->elf);
-        r->section = s;
-        r->offset = s->offset + elf->r_offset;
-        r->addend = elf->r_addend;
-        r->type = ELF64_R_TYPE(elf->r_info);
-        if (r->symbol != *o->symbols && rank(&r->symbol->elf) == 1)
-            fail("%s: undefined symbol '%s'", place_of(r), r->symbol->name);
+        struct symbol *symbol = o->symbols[ELF64_R_SYM(elf->r_info)];
+        if (machine == EM_X86_64) rewrite_x86_64(bytes, s->head->sh_size, elf, &symbol->elf);
+        *r = (struct relocation){s, symbol, s->offset + elf->r_offset, elf->r_addend,
+                                 .type = ELF64_R_TYPE(elf->r_info)};
+        if (symbol != *o->symbols && rank(&symbol->elf) == 1)
+            fail("%s: undefined symbol '%s'", place_of(r), symbol->name);
         check(r, linker_utils_relocation(machine, r->type, &info));
-        r->kind = info.kind;
+        bool is_rel24 = machine == EM_PPC64 && r->type == R_PPC64_REL24;
+        bool is_notoc = machine == EM_PPC64 && r->type == 116 /* R_PPC64_REL24_NOTOC */;
+        unsigned toc = symbol->elf.st_other >> 5; /* PowerPC64: 1 may lose r2, above 1 needs it */
+        r->kind = is_rel24 || is_notoc ? LINKER_UTILS_KIND_PLT_RELATIVE : info.kind;
         bool in_got = r->kind >= LINKER_UTILS_KIND_GOT_RELATIVE && r->kind <= LINKER_UTILS_KIND_GOT;
-        needs_got |= in_got;
-        r->symbol->needs_got |= in_got;
+        got->has_bytes |= in_got;
+        symbol->needs_got |= in_got;
         if (r->kind >= LINKER_UTILS_KIND_TLS_GD ||
             (r->kind == LINKER_UTILS_KIND_ALIGNMENT && !s->output->shrinks) ||
             (machine == EM_LOONGARCH && r->type == 102 /* R_LARCH_ALIGN */) ||
+            (is_rel24 && toc == 1) || (is_notoc && toc > 1) || /* calls that need thunks */
             (in_got && machine == EM_AARCH64 && r->addend))
             fail("%s is not supported", place_of(r));
         bool after_page = r > first && r[-1].type == R_AARCH64_ADR_GOT_PAGE;
@@ -336,7 +317,7 @@ static void add_section(struct section *s) {
     bool has_bytes = s->head->sh_type != SHT_NOBITS;
     uint8_t *bytes = s->object->bytes + (has_bytes ? s->head->sh_offset : 0);
     s->output = output_of(s->name);
-    if (s->head->sh_flags & SHF_TLS || s->output == got)
+    if (s->head->sh_flags & SHF_TLS || s->output == got || (s->relocations && !has_bytes))
         fail("%s: a section %s is not supported", s->object->path, s->name);
     s->output->flags |= s->head->sh_flags;
     s->output->has_bytes |= has_bytes;
@@ -355,9 +336,7 @@ static void place_symbol(struct symbol *s, bool locals) {
         s->output = s->object->sections[s->elf.st_shndx].output;
         s->offset += s->object->sections[s->elf.st_shndx].offset;
     }
-    if (!s->needs_got || s->has_got || is_local != locals) return;
-    s->got_entry = make_room(got, 8, 8);
-    s->has_got = true;
+    if (s->needs_got && is_local == locals) s->got_entry = make_room(got, 8, 8);
 }
 
 /* A symbol at an offset of the GOT, if an object asks for it. */
@@ -367,11 +346,10 @@ static void define(const char *name, uint64_t offset) {
     s->elf.st_shndx = SHN_ABS;
     s->output = got;
     s->offset = offset;
-    needs_got = true;
+    got->has_bytes = true;
 }
 
-/* Sections follow each other, each on pages of its own. It returns by how much the distance of two
- * addresses can change when code shrinks. */
+/* Places the sections. It returns by how much a distance of two can change when code shrinks. */
 static uint64_t place_sections(void) {
     uint64_t at = 0x400000, slack = 0;
     for (size_t i = 0; i < outputs_len; i++) {
@@ -386,7 +364,7 @@ static uint64_t place_sections(void) {
 }
 
 /* How many bytes an alignment deletes, after others before it. The rest become nops. */
-static uint64_t surplus(struct output *o, const struct relocation *r, uint64_t deleted) {
+static uint32_t surplus(struct output *o, const struct relocation *r, uint64_t deleted) {
     uint64_t bytes = (uint64_t)r->addend, align = 1, here = r->offset - deleted;
     while (align < bytes + 2 && align < PAGE) align *= 2;
     uint64_t kept = round_up(here, align) - here;
@@ -402,54 +380,49 @@ static uint64_t surplus(struct output *o, const struct relocation *r, uint64_t d
 /* Chooses the calls that become jumps, and deletes their `jalr` and what alignment doesn't need.
  * The distance of two sections changes by at most `slack` from here on. */
 static void shrink(struct output *o, uint64_t slack) {
-    size_t len = o->relocations_len, calls_len = 0, jumps_len = 0, deltas_len = 0, at = 0;
+    size_t len = o->relocations_len, calls_len = 0, at = 0;
     struct linker_utils_call *calls = take(len, sizeof *calls);
     struct linker_utils_deletion *deletions = take(len, sizeof *deletions);
     struct relocation **of_call = take(len, sizeof *of_call), *end = o->relocations + len;
     uint8_t *chosen = take(len, 1);
     for (struct relocation *r = o->relocations; r + 1 < end; r++) {
         if ((r->type != R_RISCV_CALL && r->type != R_RISCV_CALL_PLT) || !r->symbol->output ||
-            r[1].type != R_RISCV_RELAX || r[1].offset != r->offset ||
-            r->section->end - r->offset < 8)
+            r[1].type != R_RISCV_RELAX || r[1].offset != r->offset)
             continue;
         uint64_t target = r->symbol->offset + (uint64_t)r->addend;
         uint64_t distance = r->symbol->output->address + target - o->address - r->offset;
         if (r->symbol->output == o && target <= o->len) {
             calls[calls_len] = (struct linker_utils_call){r->offset, target};
             of_call[calls_len++] = r;
-        } else if (linker_utils_distance_fits_jal((int64_t)(distance - slack)) &&
-                   linker_utils_distance_fits_jal((int64_t)(distance + slack))) {
-            check(r, linker_utils_jal_site_with(o->bytes, o->len, r->offset, 0,
-                                                LINKER_UTILS_LINK_OF_JALR));
-            r->type = R_RISCV_JAL;
-            r->is_jump = true;
+        } else {
+            r->is_jump = linker_utils_distance_fits_jal((int64_t)(distance - slack)) &&
+                         linker_utils_distance_fits_jal((int64_t)(distance + slack));
         }
     }
     uint32_t status = linker_utils_shrink_calls(NULL, 0, calls, calls_len, chosen, calls_len, &at);
     if (status) check(of_call[at], status);
-    for (size_t i = 0; i < calls_len; i++) {
-        if (!chosen[i]) continue;
-        of_call[i]->is_jump = true;
-        of_call[i]->kind = LINKER_UTILS_KIND_NONE;
-        of_call[jumps_len] = of_call[i];
-        calls[jumps_len++] = calls[i];
-    }
+    for (size_t i = 0; i < calls_len; i++) of_call[i]->is_jump = chosen[i];
     uint64_t deleted = 0;
     for (struct relocation *r = o->relocations; r < end; r++) {
-        uint64_t bytes = r->is_jump ? 4 : r->type == R_RISCV_ALIGN ? surplus(o, r, deleted) : 0;
-        uint64_t from = r->offset + (r->is_jump ? 4 : 0);
-        if (bytes) deletions[deltas_len++] = (struct linker_utils_deletion){from, (uint32_t)bytes};
+        uint32_t bytes = r->type == R_RISCV_ALIGN ? surplus(o, r, deleted) : 0;
+        uint64_t from = r->offset;
+        if (r->is_jump) {
+            check(r, linker_utils_jal_site_with(o->bytes, r->section->end, from, 0,
+                                                LINKER_UTILS_LINK_OF_JALR));
+            r->type = R_RISCV_JAL;
+            from += bytes = 4;
+        }
+        if (bytes) deletions[o->deltas_len++] = (struct linker_utils_deletion){from, bytes};
         deleted += bytes;
     }
-    o->deltas = take(deltas_len, sizeof *o->deltas);
-    o->deltas_len = deltas_len;
-    if (linker_utils_deltas_create(deletions, deltas_len, o->deltas, deltas_len, &at))
+    o->deltas = take(o->deltas_len, sizeof *o->deltas);
+    if (linker_utils_deltas_create(deletions, o->deltas_len, o->deltas, o->deltas_len, &at))
         fail("section %s: what is to be deleted overlaps", o->name);
-    uint64_t packed_len = linker_utils_packed_len(o->bytes, o->len, o->deltas, deltas_len);
+    uint64_t packed_len = linker_utils_packed_len(o->bytes, o->len, o->deltas, o->deltas_len);
     uint8_t *packed = take(packed_len, 1);
-    status = linker_utils_pack(o->bytes, o->len, o->deltas, deltas_len, calls, jumps_len,
-                               LINKER_UTILS_LINK_OF_JALR, packed, packed_len, &at);
-    if (status) check(of_call[at], status);
+    if (linker_utils_pack(o->bytes, o->len, o->deltas, o->deltas_len, NULL, 0,
+                          LINKER_UTILS_LINK_OF_JALR, packed, packed_len, NULL))
+        fail("section %s can't be packed", o->name);
     o->bytes = packed;
     o->len = packed_len;
 }
@@ -459,40 +432,34 @@ static uint64_t address_of(const struct output *o, uint64_t offset) {
     return o->address + linker_utils_deltas_input_to_output(o->deltas, o->deltas_len, offset);
 }
 
-static void write_got_entry(const struct symbol *s) {
-    uint64_t address = address_of(s->output, s->offset);
-    if (s->has_got) memcpy(got->bytes + s->got_entry, &address, sizeof address);
-}
-
 /* AArch64: `adrp` and `ldr` of a GOT entry become `adrp` and `add`, and `adrp` and `add` become
  * `nop` and `adr` where that reaches. */
 static void rewrite_aarch64(struct output *o, struct relocation *page, struct relocation *low) {
-    uint8_t *bytes = o->bytes + page->section->offset;
-    uint64_t len = page->section->head->sh_size, at = low->offset - page->section->offset;
-    uint32_t adrp, next;
-    if (low->section != page->section || low->offset != page->offset + 4 || page->addend ||
-        low->symbol != page->symbol || low->addend || !page->symbol->output || at > len ||
-        linker_utils_u32_from_slice(bytes + at - 4, len - at + 4, &adrp) ||
-        linker_utils_u32_from_slice(bytes + at, len - at, &next) ||
-        (adrp & 0x9f000000) != 0x90000000 || (next & 0x3ff) != (adrp & 0x1f) * 0x21)
+    const struct section *s = page->section;
+    uint8_t *bytes = o->bytes + s->offset;
+    uint64_t len = s->head->sh_size, at = low->offset - s->offset, both;
+    if (low->section != s || low->offset != page->offset + 4 || page->addend ||
+        low->symbol != page->symbol || low->addend || !page->symbol->output ||
+        linker_utils_u64_from_slice(bytes + at - 4, len + 4 - at, &both))
         return;
+    uint32_t adrp = (uint32_t)both, next = (uint32_t)(both >> 32);
+    if ((adrp & 0x9f000000) != 0x90000000 || (next & 0x3ff) != (adrp & 0x1f) * 0x21) return;
     if (page->type == R_AARCH64_ADR_GOT_PAGE && low->type == R_AARCH64_LD64_GOT_LO12_NC &&
-        !page->section->has_lone_got_halves &&
+        !s->has_lone_got_halves &&
         !linker_utils_apply(machine, LINKER_UTILS_AARCH64_REWRITE_LDR_TO_ADD, 0, bytes, len, &at,
                             &low->addend)) {
         page->type = R_AARCH64_ADR_PREL_PG_HI21;
         low->type = R_AARCH64_ADD_ABS_LO12_NC;
         next = 0x91000000;
     }
-    struct linker_utils_relocation_reach reach;
-    check(low, linker_utils_reach(machine, R_AARCH64_ADR_PREL_LO21, &reach));
     uint64_t symbol = address_of(low->symbol->output, low->symbol->offset);
     int64_t distance = (int64_t)(symbol - address_of(o, low->offset));
     if (page->type != R_AARCH64_ADR_PREL_PG_HI21 || low->type != R_AARCH64_ADD_ABS_LO12_NC ||
-        (next & 0xffc00000) != 0x91000000 || distance < reach.min || distance >= reach.max)
+        (next & 0xffc00000) != 0x91000000 ||
+        linker_utils_relocate(machine, R_AARCH64_ADR_PREL_LO21, distance, (uint8_t[4]){0}, 4) ||
+        linker_utils_apply(machine, LINKER_UTILS_AARCH64_REWRITE_ADRP_ADD_TO_NOP_ADR, 0, bytes, len,
+                           &at, &low->addend))
         return;
-    check(low, linker_utils_apply(machine, LINKER_UTILS_AARCH64_REWRITE_ADRP_ADD_TO_NOP_ADR, 0,
-                                  bytes, len, &at, &low->addend));
     page->kind = LINKER_UTILS_KIND_NONE;
     low->type = R_AARCH64_ADR_PREL_LO21;
 }
@@ -508,20 +475,21 @@ static const struct relocation *high_part(const struct output *o, const struct r
     fail("%s: no high part at '%s'", place_of(low), low->symbol->name);
 }
 
+/* The value of a relocation. Where its symbol has an entry in the GOT, that is written. */
 static int64_t value_of(const struct output *o, const struct relocation *r) {
-    bool is_low = r->kind == LINKER_UTILS_KIND_RELATIVE_RISC_V_LOW12;
-    const struct relocation *of = is_low ? high_part(o, r) : r;
+    const struct relocation *of =
+        r->kind == LINKER_UTILS_KIND_RELATIVE_RISC_V_LOW12 ? high_part(o, r) : r;
     const struct symbol *s = of->symbol;
     if (!s->output && s->elf.st_shndx && s->elf.st_shndx < SHN_LORESERVE)
         fail("%s: '%s' is in a section that is left out", place_of(r), s->name);
     uint64_t symbol = address_of(s->output, s->offset), place = address_of(o, of->offset);
+    if (s->needs_got) memcpy(got->bytes + s->got_entry, &symbol, sizeof symbol);
     uint64_t entry = got->address + s->got_entry, toc = machine == EM_PPC64 ? 0x8000 : 0;
-    bool is_ppc64_call = machine == EM_PPC64 && r->type == R_PPC64_REL24;
-    if (is_ppc64_call) symbol += PPC64_LOCAL_ENTRY_OFFSET(s->elf.st_other);
-    if (is_low && of->kind == LINKER_UTILS_KIND_GOT_RELATIVE) symbol = entry;
+    bool is_call = r->kind == LINKER_UTILS_KIND_PLT_RELATIVE;
+    if (is_call && machine == EM_PPC64) symbol += PPC64_LOCAL_ENTRY_OFFSET(s->elf.st_other);
+    if (of != r && of->kind == LINKER_UTILS_KIND_GOT_RELATIVE) symbol = entry;
     /* a call of a weak symbol that nothing defines goes where ld.lld lets it go */
-    if ((is_ppc64_call || r->kind == LINKER_UTILS_KIND_PLT_RELATIVE) &&
-        s->elf.st_shndx == SHN_UNDEF && machine != EM_X86_64 && machine != EM_LOONGARCH)
+    if (is_call && s->elf.st_shndx == SHN_UNDEF && machine != EM_X86_64 && machine != EM_LOONGARCH)
         symbol = place + (machine == EM_AARCH64 ? 4 : 0);
     struct linker_utils_operands operands = {
         symbol, of->addend, place, entry, got->address + toc, symbol, s->elf.st_size, 0};
@@ -530,23 +498,20 @@ static int64_t value_of(const struct output *o, const struct relocation *r) {
     return value;
 }
 
-static void apply(struct output *o, const struct relocation *r) {
-    int64_t value = value_of(o, r);
-    uint64_t at = address_of(o, r->offset), end = address_of(o, r->section->end);
-    uint8_t *bytes = o->bytes + (at - o->address);
-    uint32_t status = linker_utils_relocate(machine, r->type, value, bytes, end - at);
-    struct linker_utils_relocation_reach reach;
-    if (status == LINKER_UTILS_OUT_OF_REACH && !linker_utils_reach(machine, r->type, &reach))
-        fail("%s out of reach: %" PRId64 " is not in [%" PRId64 ", %" PRId64 "), to '%s'",
-             place_of(r), value, reach.min, reach.max, r->symbol->name);
-    check(r, status);
-}
-
 static void relocate(struct output *o) {
     struct relocation *end = o->relocations + o->relocations_len;
     for (struct relocation *r = o->relocations; r < end; r++) {
         if (machine == EM_AARCH64 && r + 1 < end) rewrite_aarch64(o, r, r + 1);
-        if (r->kind && r->kind != LINKER_UTILS_KIND_ALIGNMENT) apply(o, r);
+        if (!r->kind || r->kind == LINKER_UTILS_KIND_ALIGNMENT) continue;
+        int64_t value = value_of(o, r);
+        uint64_t at = address_of(o, r->offset), len = address_of(o, r->section->end) - at;
+        uint8_t *bytes = o->bytes + (at - o->address);
+        uint32_t status = linker_utils_relocate(machine, r->type, value, bytes, len);
+        struct linker_utils_relocation_reach reach;
+        if (status == LINKER_UTILS_OUT_OF_REACH && !linker_utils_reach(machine, r->type, &reach))
+            fail("%s out of reach: %" PRId64 " is not in [%" PRId64 ", %" PRId64 "), to '%s'",
+                 place_of(r), value, reach.min, reach.max, r->symbol->name);
+        check(r, status);
     }
 }
 
@@ -569,10 +534,8 @@ static void write_file(const char *path, uint64_t entry) {
     for (size_t i = 0; i < outputs_len; i++) {
         const struct output *o = outputs[i];
         if (!o->len) continue;
-        if (o->address < end) {
-            remove(path);
-            fail("section %s overlaps the one before it", o->name);
-        }
+        if (o->address < end) remove(path);
+        if (o->address < end) fail("section %s overlaps the one before it", o->name);
         uint64_t gap = o->address - end, bytes = o->has_bytes ? o->len : 0;
         offset = gap < PAGE ? offset + gap : round_up(offset, PAGE) + o->address % PAGE;
         Elf64_Phdr load = {PT_LOAD, PF_R, offset, o->address, o->address, bytes, o->len, PAGE};
@@ -591,8 +554,8 @@ static void write_file(const char *path, uint64_t entry) {
 
 int main(int argc, char **argv) {
     const char *path = NULL;
-    struct object **last = &objects, *o;
     uint64_t address;
+    objects = take((uint64_t)argc, sizeof *objects);
     for (int i = 1, end = 0; i < argc; i++) {
         if (sscanf(argv[i], "--section-start=%*[^=]%n=%" SCNx64, &end, &address) == 1) {
             argv[i][end] = 0;
@@ -602,38 +565,31 @@ int main(int argc, char **argv) {
         } else if (!strcmp(argv[i], "-o") && argv[i + 1]) {
             path = argv[++i];
         } else {
-            *last = read_object(argv[i]);
-            last = &(*last)->next;
+            read_object(&objects[objects_len++], argv[i]);
         }
     }
-    if (!path || !objects)
+    if (!path || !objects_len)
         fail("usage: link -o OUTPUT [--section-start=NAME=ADDRESS]... OBJECT...");
     got = output_of(".got");
     got->flags = SHF_WRITE;
-    got->has_bytes = true;
     define("_GLOBAL_OFFSET_TABLE_", 0);
     define(".TOC.", 0x8000);
-    for (o = objects; o; o = o->next) /* common symbols, first of all in `.bss` as ld.lld has it */
-        for (size_t i = 0; i < o->symbols_len; i++) {
-            struct symbol *s = o->symbols[i];
-            if (s->elf.st_shndx != SHN_COMMON || s->object != o || s->output) continue;
-            s->output = output_of(".bss");
-            s->output->flags |= SHF_WRITE;
-            s->offset = make_room(s->output, s->elf.st_value, s->elf.st_size);
-        }
-    for (o = objects; o; o = o->next)
+    for (struct symbol *s = symbols; s; s = s->later) {
+        if (s->elf.st_shndx != SHN_COMMON) continue; /* these are first in `.bss`, as in ld.lld */
+        s->output = output_of(".bss");
+        s->output->flags |= SHF_WRITE;
+        s->offset = make_room(s->output, s->elf.st_value, s->elf.st_size);
+    }
+    for (struct object *o = objects; o < objects + objects_len; o++)
         for (size_t i = 0; i < o->sections_len; i++) add_section(&o->sections[i]);
     /* first stands the address of the dynamic section, which is none, or of the TOC */
-    if (needs_got && (machine == EM_RISCV || machine == EM_PPC64)) make_room(got, 8, 8);
+    if (got->has_bytes && (machine == EM_RISCV || machine == EM_PPC64)) make_room(got, 8, 8);
     for (int locals = 0; locals < 2; locals++)
-        for (o = objects; o; o = o->next)
-            for (size_t i = 0; i < o->symbols_len; i++) place_symbol(o->symbols[i], locals);
+        for (struct symbol *s = symbols; s; s = s->later) place_symbol(s, locals);
     uint64_t slack = place_sections();
     for (size_t i = 0; i < outputs_len; i++)
         if (outputs[i]->shrinks) shrink(outputs[i], slack);
     place_sections();
-    for (o = objects; o; o = o->next)
-        for (size_t i = 0; i < o->symbols_len; i++) write_got_entry(o->symbols[i]);
     uint64_t toc = got->address + 0x8000;
     if (got->len && machine == EM_PPC64) memcpy(got->bytes, &toc, sizeof toc);
     for (size_t i = 0; i < outputs_len; i++) relocate(outputs[i]);
