@@ -270,7 +270,7 @@ macro_rules! immediate {
     };
 }
 
-/// By the forms' places in their enum. `Movnz` and `MachOLow12` are written otherwise.
+/// By the forms' places in their enum. `Movnz` and `MachOLow12` OR nothing.
 static IMMEDIATES: [Immediate; 11] = [
     Immediate {
         width: 21,
@@ -343,6 +343,13 @@ impl AArch64Instruction {
     fn ored(self, value: u64, word: u64) -> u64 {
         let immediate = self.immediate();
         word | (value & immediate.low) << 29 | value << immediate.shift & immediate.mask
+    }
+
+    /// An instruction with the bits cleared that the form only ORs.
+    #[inline(always)]
+    pub(crate) fn cleared(self, word: u64) -> u64 {
+        let immediate = self.immediate();
+        word & !(immediate.low << 29) & !immediate.mask
     }
 
     /// The number in the form's bits.

@@ -4,7 +4,7 @@ use Rattle.std.specs.Int.{w32, w64, cast_unsigned, from_le_bytes, bit_at}
 use Rattle.std.proofs.lemmas.Bool.{lt-ltb, ltb-true, agree_below_at}
 use Rattle.std.proofs.Math.Nat.{mod-eq_of_lt}
 use Rattle.linker_base.specs.Bits.{field, signed}
-use Rattle.linker_base.specs.Form.{window_of, ImmediateBit, BitsWritten, Written, MachineReads, Fits, place_sum, consecutive_bits, replaced, ored}
+use Rattle.linker_base.specs.Form.{window_of, ImmediateBit, BitsWritten, Written, MachineReads, Fits, place_sum, consecutive_bits, replaced, ored, cleared}
 use Rattle.std.proofs.lemmas.Nat.Bits.{same_from_bits}
 use Rattle.linker_base.proofs.Fields.{bit_at_shr}
 use Rattle.linker_base.proofs.Immediates.{field_machine, layout_machine, place_sum_laid, place_sum_below, always_clear}
@@ -15,9 +15,11 @@ use Rattle.std.specs.Int.RustNames.{bit_or}
 use lib.Bits.{bit_and}
 use Rattle.std.specs.Int.Bits.{and_zero_r, or_zero_l, or_zero_r}
 use Rattle.linker_utils.specs.declared.elf.engine.Run.{Run}
-use Rattle.linker_utils.specs.declared.elf.engine.Mark.TheVariants.{Replaced, Ored}
+use Rattle.linker_utils.specs.declared.elf.engine.Mark.TheVariants.{Replaced, Ored, Cleared}
 use Rattle.linker_utils.specs.Inner.Runs.{words_below, spread, runs_read}
-use Rattle.linker_utils.proofs.Runs.{not_placed_above, ored_run, ored_mask, laid_more, laid_below, masked}
+use Rattle.linker_utils.proofs.Runs.{not_placed_above, ored_run, ored_mask, laid_more, laid_below, masked, mask_cleared}
+use Rattle.linker_utils.proofs.Clearing.{nothing_written, none_ored}
+use Rattle.linker_utils.specs.Relocate.{ored_cleared}
 use Rattle.linker_utils.specs.declared.aarch64.Immediate.{Immediate}
 use Rattle.linker_utils.specs.Inner.Immediates.{is_ored_alone, lowest_bits, aarch64_immediate}
 use Rattle.linker_utils.specs.Inner.FormLaws.{scale_small, low12_field, low12_sound}
@@ -156,6 +158,53 @@ aarch64_ored TstBr v x o h small = lowest_ored 14 14 5 v x (omega arith) (omega 
 aarch64_ored Bcond v x o h small = lowest_ored 19 19 5 v x (omega arith) (omega arith) (omega arith) (omega arith)
 aarch64_ored JumpCall v x o h small = lowest_ored 26 26 0 v x (omega arith) (omega arith) (omega arith) (omega arith)
 aarch64_ored MachOLow12 v x o h small = cc
+
+-- the bits cleared that the form only ORs
+unfoldable pub ClearsBits : Immediate → ℕ → List ImmediateBit → Type 0
+ClearsBits i x ps = BitsWritten ps 0 x (bit_and (bit_and x (2 ^ 64 - 1 - i.low * 2 ^ 29 % 2 ^ 64)) (2 ^ 64 - 1 - i.mask))
+
+-- where there is nothing at bit 29
+nothing_low : (x : ℕ) → x < 2 ^ 32 → bit_and x (2 ^ 64 - 1 - 0 * 2 ^ 29 % 2 ^ 64) ≡ x
+nothing_low x small = and_mask x 64 ∙ omega arith
+
+lowest_cleared : (sign n w x : ℕ) → n < 64 → w + n ≤ 64 → x < 2 ^ 32 → ClearsBits (lowest_bits sign n w) x (consecutive_bits n 0 w 0 cleared)
+unfolding ClearsBits
+lowest_cleared sign n w x len inside small =
+    subst (λ y. BitsWritten (consecutive_bits n 0 w 0 cleared) 0 x (bit_and y (2 ^ 64 - 1 - (2 ^ n - 1) * 2 ^ w))) (sym (nothing_low x small))
+    (mask_cleared n 0 w 0 x len inside (omega arith))
+
+cleared_runs : List Run
+cleared_runs = record { value = 0; insn_bit = 29; len = 2; added = 0; mark = Cleared } ∷ record { value = 2; insn_bit = 5; len = 19; added = 0; mark = Cleared } ∷ []
+
+adr_cleared : (x : ℕ) → x < 2 ^ 32 → ClearsBits (aarch64_immediate Adr) x (ored_cleared ((aarch64_form Adr).places x))
+unfolding ClearsBits cleared_runs
+adr_cleared x small =
+    let y = bit_and x (2 ^ 64 - 1 - (2 ^ 2 - 1) * 2 ^ 29) in
+    let first = mask_cleared 2 0 29 0 x (omega arith) (omega arith) (omega arith) in
+    let below : y < 2 ^ 64 = laid_below (consecutive_bits 2 0 29 0 cleared) 64 0 x y refl first (omega arith) in
+    laid_more cleared_runs 1 (record { value = 0; insn_bit = 0; len = 0; added = 0; mark = Cleared }) 0 x y (bit_and y (2 ^ 64 - 1 - (2 ^ 19 - 1) * 2 ^ 5)) refl (omega arith)
+    first (mask_cleared 19 2 5 0 y (omega arith) (omega arith) below)
+
+-- no bit is ORed
+none_cleared : (x : ℕ) (ps : List ImmediateBit) → x < 2 ^ 32 → ps ≡ [] → ClearsBits (lowest_bits 0 0 0) x ps
+unfolding ClearsBits
+none_cleared x ps small e =
+    let same : bit_and (bit_and x (2 ^ 64 - 1 - 0 * 2 ^ 29 % 2 ^ 64)) (2 ^ 64 - 1 - (2 ^ 0 - 1) * 2 ^ 0) ≡ x =
+    ap (λ y. bit_and y (2 ^ 64 - 1)) (nothing_low x small) ∙ and_mask x 64 ∙ omega arith in
+    subst (λ y. BitsWritten ps 0 x y) (sym same) (subst (λ qs. BitsWritten qs 0 x x) (sym e) (nothing_written 0 x))
+
+pub aarch64_cleared : (f : AArch64Instruction) (x : ℕ) → x < 2 ^ 32 → ClearsBits (aarch64_immediate f) x (ored_cleared ((aarch64_form f).places x))
+aarch64_cleared Adr x small = adr_cleared x small
+aarch64_cleared Movkz x small = lowest_cleared 16 16 5 x (omega arith) (omega arith) small
+aarch64_cleared Movnz x small = none_cleared x (ored_cleared ((aarch64_form Movnz).places x)) small refl
+aarch64_cleared Ldr x small = lowest_cleared 19 19 5 x (omega arith) (omega arith) small
+aarch64_cleared LdrRegister x small = lowest_cleared 63 12 10 x (omega arith) (omega arith) small
+aarch64_cleared Add x small = lowest_cleared 63 12 10 x (omega arith) (omega arith) small
+aarch64_cleared LdSt x small = lowest_cleared 12 12 10 x (omega arith) (omega arith) small
+aarch64_cleared TstBr x small = lowest_cleared 14 14 5 x (omega arith) (omega arith) small
+aarch64_cleared Bcond x small = lowest_cleared 19 19 5 x (omega arith) (omega arith) small
+aarch64_cleared JumpCall x small = lowest_cleared 26 26 0 x (omega arith) (omega arith) small
+aarch64_cleared MachOLow12 x small = none_cleared x (ored_cleared ((aarch64_form MachOLow12).places x)) small (let s = access_scale x in none_ored (s + 11 + 1 - s) s 10 0)
 
 -- the number in the form's bits
 unfoldable pub TakesBits : Immediate → ℕ → List ImmediateBit → Type 0

@@ -49,7 +49,7 @@ clear_after (p ∷ ps) before after h =
     All-cons (λ (q : ImmediateBit). IsTrue (is_clear_at q.mark (bit_at after q.insn_bit))) p ps s.0 (clear_after ps before after s.1)
 
 -- no place that is replaced is cleared
-none_ored : (n k w r : ℕ) → ored_cleared (consecutive_bits n k w r replaced) ≡ []
+pub none_ored : (n k w r : ℕ) → ored_cleared (consecutive_bits n k w r replaced) ≡ []
 none_ored zero k w r = refl
 none_ored (suc n) k w r = none_ored n (k + 1) (w + 1) r
 

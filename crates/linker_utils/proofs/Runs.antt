@@ -169,6 +169,11 @@ mask_written n w v x len inside small_v small =
     subst (λ b. BitsWritten (consecutive_bits n w w 0 replaced) v x (bit_or (bit_and x (2 ^ 64 - 1 - (2 ^ n - 1) * 2 ^ w)) b))
     (ap (λ y. y / 2 ^ w % 2 ^ n * 2 ^ w) same ∙ sym (masked n w v)) (replaced_laid n w w 0 v x len inside small)
 
+-- what a mask clears
+pub mask_cleared : (n k w v x : ℕ) → n < 64 → w + n ≤ 64 → x < 2 ^ 64
+    → BitsWritten (consecutive_bits n k w 0 cleared) v x (bit_and x (2 ^ 64 - 1 - (2 ^ n - 1) * 2 ^ w))
+mask_cleared n k w v x len inside small = cleared_laid n k w 0 v x len inside small
+
 -- what is ORed for a run from bit k of the value: a number that is the run's, moved up
 pub ored_run : (n k w v x y : ℕ) → n < 64 → w + n ≤ 64 → x < 2 ^ 64 → y ≡ (v + 0) % 2 ^ 64 / 2 ^ k % 2 ^ n * 2 ^ w
     → BitsWritten (consecutive_bits n k w 0 ored) v x (bit_or x y)

@@ -12,6 +12,7 @@ ghost use Rattle.linker_utils.specs.Inner.FormLaws.{aarch64_keeps, aarch64_resto
 ghost use Rattle.linker_utils.specs.AArch64.{aarch64_form, aarch64_rewrite, aarch64_modifier};
 ghost use Rattle.linker_utils.specs.AArch64.{access_scale, rd_of, rn_of, mov_word, mov_words, mov4};
 ghost use Rattle.linker_utils.specs.AArch64.{moved_bits, move_opcode};
+ghost use Rattle.linker_utils.specs.Relocate.{ored_cleared};
 ghost use Rattle.linker_utils.specs.Inner.Immediates.{is_ored_alone, aarch64_immediate};
 
 use crate::bit_misc::BitExtraction;
@@ -302,7 +303,7 @@ macro_rules! immediate {
     };
 }
 
-/// By the forms' places in their enum. `Movnz` and `MachOLow12` are written otherwise.
+/// By the forms' places in their enum. `Movnz` and `MachOLow12` OR nothing.
 static IMMEDIATES: [Immediate; 11] = [
     Immediate {
         width: 21,
@@ -391,6 +392,17 @@ impl AArch64Instruction {
     {
         let immediate = self.immediate();
         word | (value & immediate.low) << 29 | value << immediate.shift & immediate.mask
+    }
+
+    /// An instruction with the bits cleared that the form only ORs.
+    #[inline(always)]
+    pub(crate) fn cleared(self, word: u64) -> u64
+        requires { word < 2 ^ 32 }
+        ensures small { result < 2 ^ 32 }
+        ensures clears { BitsWritten (ored_cleared ((aarch64_form self).places word)) 0 word result }
+    {
+        let immediate = self.immediate();
+        word & !(immediate.low << 29) & !immediate.mask
     }
 
     /// The number in the form's bits.

@@ -74,36 +74,13 @@ fn write_bytes(kind: RelocationKind, len: usize, value: i64, dest: &mut [u8]) {
     store(len, number, dest);
 }
 
-const CLEARED_ADR: [Run; 2] = [run!(0, 29, 2, 0, Cleared), run!(2, 5, 19, 0, Cleared)];
-
-const CLEARED_IMM12: [Run; 1] = [run!(cleared 10, 12)];
-
-const CLEARED_IMM14: [Run; 1] = [run!(cleared 5, 14)];
-
-const CLEARED_IMM16: [Run; 1] = [run!(cleared 5, 16)];
-
-const CLEARED_IMM19: [Run; 1] = [run!(cleared 5, 19)];
-
-const CLEARED_IMM26: [Run; 1] = [run!(cleared 0, 26)];
-
 const CLEARED_SHIFT_10: [Run; 1] = [run!(12, 22, 4, 0, Cleared)];
 
 /// Clears the bits of an AArch64 instruction that its form only ORs.
 #[inline(always)]
 fn clear_aarch64(insn: AArch64Instruction, dest: &mut [u8]) {
-    match insn {
-        AArch64Instruction::Adr => engine::write(Window::Four, &CLEARED_ADR, 0, dest),
-        AArch64Instruction::Movkz => engine::write(Window::Four, &CLEARED_IMM16, 0, dest),
-        AArch64Instruction::Ldr => engine::write(Window::Four, &CLEARED_IMM19, 0, dest),
-        AArch64Instruction::Bcond => engine::write(Window::Four, &CLEARED_IMM19, 0, dest),
-        AArch64Instruction::LdrRegister => engine::write(Window::Four, &CLEARED_IMM12, 0, dest),
-        AArch64Instruction::Add => engine::write(Window::Four, &CLEARED_IMM12, 0, dest),
-        AArch64Instruction::LdSt => engine::write(Window::Four, &CLEARED_IMM12, 0, dest),
-        AArch64Instruction::TstBr => engine::write(Window::Four, &CLEARED_IMM14, 0, dest),
-        AArch64Instruction::JumpCall => engine::write(Window::Four, &CLEARED_IMM26, 0, dest),
-        AArch64Instruction::Movnz => {}
-        AArch64Instruction::MachOLow12 => {}
-    }
+    let word = insn.cleared(Window::Four.load(dest));
+    Window::Four.store(word, dest);
 }
 
 /// Clears the bits of an instruction that its form only ORs.
