@@ -32,7 +32,7 @@ use Rattle.linker_utils.specs.Readings.{SizeReadsNoOther, ReadsNoOther, RowReads
 use Rattle.linker_utils.specs.Readings.{LoongArchRowReadsNoOther}
 use Rattle.linker_utils.specs.Relocate.{IsAligned}
 use Rattle.linker_utils.specs.RiscV.{riscv_layout, riscv_places, ui_high, ui_low}
-use Rattle.linker_utils.specs.RiscVRows.{Bounds, riscv_row, clui_row}
+use Rattle.linker_utils.specs.RiscVRows.{Bounds, riscv_row, clui_row, riscv_tls_descriptor_row}
 use Rattle.linker_utils.specs.declared.elf.AArch64Instruction.{AArch64Instruction}
 use Rattle.linker_utils.specs.declared.elf.AArch64Instruction.TheVariants.{Movnz, MachOLow12}
 use Rattle.linker_utils.specs.declared.elf.LoongArch64Instruction.{LoongArch64Instruction}
@@ -444,6 +444,11 @@ riscv_covered : (name : RiscVRelocation) → row_covers false (riscv_row name) �
 riscv_covered R_RISCV_NONE = refl
 riscv_covered name = refl
 
+descriptors_covered : (name : RiscVRelocation)
+    → row_covers false (riscv_tls_descriptor_row name) ≡ true
+descriptors_covered R_RISCV_NONE = refl
+descriptors_covered name = refl
+
 ppc64_covered : (name : Ppc64Relocation) → row_covers false (ppc64_row name) ≡ true
 ppc64_covered R_PPC64_TLS = refl
 ppc64_covered name = refl
@@ -458,6 +463,11 @@ aarch64_reads_no_other name = row_read false (aarch64_row name) (aarch64_covered
 
 pub riscv_reads_no_other : (name : RiscVRelocation) → IfSome (riscv_row name) RowReadsNoOther
 riscv_reads_no_other name = row_read false (riscv_row name) (riscv_covered name)
+
+pub riscv_descriptors_read_no_other : (name : RiscVRelocation)
+    → IfSome (riscv_tls_descriptor_row name) RowReadsNoOther
+riscv_descriptors_read_no_other name =
+    row_read false (riscv_tls_descriptor_row name) (descriptors_covered name)
 
 pub ppc64_reads_no_other : (name : Ppc64Relocation) → IfSome (ppc64_row name) RowReadsNoOther
 ppc64_reads_no_other name = row_read false (ppc64_row name) (ppc64_covered name)

@@ -594,6 +594,7 @@ fn row_number(name: RiscVRelocation) -> u64
 pub fn tls_descriptor_relocation(name: RiscVRelocation) -> Option<RelocationKindInfo>
     ensures row { result ≡ riscv_tls_descriptor_row name }
     ensures agrees { IfSome result RowAgrees }
+    ensures others { IfSome result RowReadsNoOther }
     ensures fits { IfSome result RowFits }
 {
     let info = match name {

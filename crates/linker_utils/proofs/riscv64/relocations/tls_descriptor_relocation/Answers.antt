@@ -1,6 +1,8 @@
 use Rattle.std.proofs.Common.{rules, IfSome, ◌≡◌, Some, subst, sym}
 use Rattle.linker_utils.specs.Agrees.{RowAgrees, RowFits}
+use Rattle.linker_utils.specs.Readings.{RowReadsNoOther}
 use Rattle.linker_utils.specs.RiscVRows.{riscv_tls_descriptor_row}
+use Rattle.linker_utils.proofs.Readings.{riscv_descriptors_read_no_other}
 use Rattle.linker_utils.proofs.RowsAgree.{riscv_descriptor_rows}
 use Rattle.linker_utils.proofs.RowsFit.{riscv_descriptors_fit}
 use Rattle.linker_utils.proofs.riscv64.relocations.tls_descriptor_relocation.Goals as goal
@@ -14,3 +16,8 @@ pub returns-clause-fits : goal.returns-clause-fits
 returns-clause-fits c =
     let row : Some c.match-name.info ≡ riscv_tls_descriptor_row c.args.name = search rules in
     subst (λ o. IfSome o RowFits) (sym row) (riscv_descriptors_fit c.args.name)
+
+pub returns-clause-others : goal.returns-clause-others
+returns-clause-others c =
+    let row : Some c.match-name.info ≡ riscv_tls_descriptor_row c.args.name = search rules in
+    subst (λ o. IfSome o RowReadsNoOther) (sym row) (riscv_descriptors_read_no_other c.args.name)
