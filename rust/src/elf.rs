@@ -12,6 +12,7 @@ mod value;
 use crate::bit_misc::BitRange;
 use crate::relaxation::RelocationModifier;
 pub use relocate::RelocateError;
+pub use rows::mask_number;
 pub use value::Operands;
 
 /// 2 KiB: half a page.

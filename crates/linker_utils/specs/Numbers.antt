@@ -1,5 +1,9 @@
--- The numbers of kinds of relocations and of forms of instructions: their places in the enums.
-use Rattle.std.specs.Prelude.{ℕ, List, [], ◌∷◌}
+-- The numbers of kinds of relocations and of forms of instructions: their places in the enums. The
+-- numbers of page masks: their places and 1.
+use Rattle.std.specs.Prelude.{ℕ, List, [], ◌∷◌, Option, None, Some}
+use Rattle.linker_utils.specs.declared.elf.PageMask.{PageMask}
+use Rattle.linker_utils.specs.declared.elf.PageMask.TheVariants.{SymbolPlusAddendAndPosition}
+use Rattle.linker_utils.specs.declared.elf.PageMask.TheVariants.{GotEntryAndPosition, GotBase}
 use Rattle.linker_utils.specs.declared.elf.RelocationKind.{RelocationKind}
 use Rattle.linker_utils.specs.declared.elf.RelocationKind.TheVariants as kinds
 use Rattle.linker_utils.specs.declared.elf.AArch64Instruction.{AArch64Instruction}
@@ -60,6 +64,13 @@ kind_number kinds.TlsDescGot = 36
 kind_number kinds.TlsDescGotBase = 37
 kind_number kinds.TlsDescLoongArch64 = 38
 kind_number kinds.TlsDescCall = 39
+
+-- 0 of none
+abbrev pub mask_number : Option PageMask → ℕ
+mask_number None = 0
+mask_number (Some (SymbolPlusAddendAndPosition pattern)) = 1
+mask_number (Some (GotEntryAndPosition pattern)) = 2
+mask_number (Some (GotBase pattern)) = 3
 
 -- The forms of each architecture, by their numbers from 0 up.
 abbrev pub aarch64_forms : List AArch64Instruction

@@ -18,6 +18,7 @@ ghost use Rattle.linker_utils.specs.Inner.FormLaws.{relocation_keeps, relocation
 use crate::bit_misc::BitRange;
 use crate::relaxation::RelocationModifier;
 pub use relocate::RelocateError;
+pub use rows::mask_number;
 use std::marker::Model;
 pub use value::Operands;
 

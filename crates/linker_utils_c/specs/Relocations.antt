@@ -3,13 +3,10 @@ use Rattle.std.specs.Prelude.{◌≡◌, ◌<◌, ◌≤◌, ◌++◌, ℕ, List
 use Rattle.std.specs.Prelude.{pos}
 use Rattle.linker_utils.specs.declared.elf.Architecture.{Architecture}
 use Rattle.linker_utils.specs.declared.elf.Architecture.TheVariants as architectures
-use Rattle.linker_utils.specs.Numbers.{kind_number}
+use Rattle.linker_utils.specs.Numbers.{kind_number, mask_number}
 use Rattle.linker_utils.specs.declared.elf.RelocationKindInfo.{RelocationKindInfo}
 use Rattle.linker_utils.specs.declared.elf.RelocationSize.{RelocationSize}
 use Rattle.linker_utils.specs.declared.elf.RelocationSize.TheVariants.{ByteSize, BitMasking}
-use Rattle.linker_utils.specs.declared.elf.PageMask.{PageMask}
-use Rattle.linker_utils.specs.declared.elf.PageMask.TheVariants.{SymbolPlusAddendAndPosition}
-use Rattle.linker_utils.specs.declared.elf.PageMask.TheVariants.{GotEntryAndPosition, GotBase}
 use Rattle.linker_utils.specs.ElfNames.{ElfName, named, unnamed, IsNameOf}
 use Rattle.linker_utils.specs.AArch64Names.{aarch64_name}
 use Rattle.linker_utils.specs.AArch64Rows.{aarch64_row}
@@ -65,13 +62,6 @@ IsElfName architectures.RiscV = IsOf riscv_name riscv_name
 IsElfName architectures.LoongArch64 = IsOf loongarch_name loongarch_name
 IsElfName architectures.Ppc64 = IsOf ppc64_name ppc64_name
 IsElfName architectures.X86_64 = IsOf x86_64_name x86_64_name
-
--- the place in the enum, and 1
-abbrev pub mask_number : Option PageMask → ℕ
-mask_number None = 0
-mask_number (Some (SymbolPlusAddendAndPosition pattern)) = 1
-mask_number (Some (GotEntryAndPosition pattern)) = 2
-mask_number (Some (GotBase pattern)) = 3
 
 -- where the value goes
 abbrev pub IsSize : RelocationSize → RelocationInfo → Type 0

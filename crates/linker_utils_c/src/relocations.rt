@@ -9,12 +9,12 @@ ghost use Rattle.linker_utils.specs.RiscVRows.{clui_row, riscv_tls_descriptor_ro
 ghost use Rattle.linker_utils_c.specs.Status.{code};
 ghost use Rattle.linker_utils_c.specs.Forms.{named_form};
 ghost use Rattle.linker_utils_c.specs.Relocations.{riscv_meaning, IsRow};
-ghost use Rattle.linker_utils_c.specs.Relocations.{IsMeaning, IsOf, IsElfName, mask_number, InNumbers, IsReturned, IsNameCopied};
+ghost use Rattle.linker_utils_c.specs.Relocations.{IsMeaning, IsOf, IsElfName, InNumbers, IsReturned, IsNameCopied};
 
 use crate::status::Status;
 use linker_utils::aarch64::{self, AArch64Relocation};
 use linker_utils::elf::{
-    Architecture, PageMask, RelocationInstruction, RelocationKindInfo, RelocationSize,
+    Architecture, RelocationInstruction, RelocationKindInfo, RelocationSize, mask_number,
 };
 use linker_utils::loongarch64::{self, LoongArch64Relocation};
 use linker_utils::ppc64::{self, Ppc64Relocation};
@@ -113,18 +113,6 @@ fn form_number(form: RelocationInstruction) -> (u16, u32)
 }
 
 #[inline(always)]
-fn mask_of(mask: Option<PageMask>) -> u32
-    ensures { result ≡ mask_number mask }
-{
-    match mask {
-        None => 0,
-        Some(PageMask::SymbolPlusAddendAndPosition(_)) => 1,
-        Some(PageMask::GotEntryAndPosition(_)) => 2,
-        Some(PageMask::GotBase(_)) => 3,
-    }
-}
-
-#[inline(always)]
 fn in_numbers(info: RelocationKindInfo) -> RelocationInfo
     ensures { InNumbers info result }
 {
@@ -139,7 +127,7 @@ fn in_numbers(info: RelocationKindInfo) -> RelocationInfo
     let numbers = RelocationInfo {
         kind: info.kind as u32,
         form: 0,
-        mask: mask_of(info.mask),
+        mask: mask_number(info.mask) as u32,
         machine: 0,
         is_bits: 0,
         byte_size: 0,

@@ -4,7 +4,7 @@
 use crate::status::Status;
 use linker_utils::aarch64::{self, AArch64Relocation};
 use linker_utils::elf::{
-    Architecture, PageMask, RelocationInstruction, RelocationKindInfo, RelocationSize,
+    Architecture, RelocationInstruction, RelocationKindInfo, RelocationSize, mask_number,
 };
 use linker_utils::loongarch64::{self, LoongArch64Relocation};
 use linker_utils::ppc64::{self, Ppc64Relocation};
@@ -94,16 +94,6 @@ fn form_number(form: RelocationInstruction) -> (u16, u32) {
 }
 
 #[inline(always)]
-fn mask_of(mask: Option<PageMask>) -> u32 {
-    match mask {
-        None => 0,
-        Some(PageMask::SymbolPlusAddendAndPosition(_)) => 1,
-        Some(PageMask::GotEntryAndPosition(_)) => 2,
-        Some(PageMask::GotBase(_)) => 3,
-    }
-}
-
-#[inline(always)]
 fn in_numbers(info: RelocationKindInfo) -> RelocationInfo {
     let (has_range, (min, max)) = match info.range.bounds {
         Some(bounds) => (1, bounds),
@@ -116,7 +106,7 @@ fn in_numbers(info: RelocationKindInfo) -> RelocationInfo {
     let numbers = RelocationInfo {
         kind: info.kind as u32,
         form: 0,
-        mask: mask_of(info.mask),
+        mask: mask_number(info.mask) as u32,
         machine: 0,
         is_bits: 0,
         byte_size: 0,

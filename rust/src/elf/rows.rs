@@ -49,8 +49,9 @@ fn range_bytes(range: AllowedRange) -> (u8, u8) {
     }
 }
 
+/// The number of a page mask: its place in the enum `PageMask` and 1; 0 of none.
 #[inline(always)]
-fn mask_number(mask: Option<PageMask>) -> u8 {
+pub fn mask_number(mask: Option<PageMask>) -> u8 {
     match mask {
         None => 0,
         Some(PageMask::SymbolPlusAddendAndPosition(_)) => 1,

@@ -6,7 +6,12 @@ use Rattle.std.specs.Prelude.{ℤ}
 use Rattle.std.specs.Prelude.{Option, Some, None, Bool, true, false, get_or, slice_index}
 use Rattle.std.specs.Int.{w64, from_le_bytes, to_le_bytes, trailing_zeros, cast_signed}
 use Rattle.std.specs.Int.{cast_unsigned}
-use Rattle.linker_utils.specs.Numbers.{kind_number, aarch64_forms, riscv_forms}
+use denote.Enum.Declared.{tag_of}
+use Rattle.linker_utils.specs.contracts.elf.AArch64Instruction as aarch64
+use Rattle.linker_utils.specs.contracts.elf.RiscVInstruction as riscv
+use Rattle.linker_utils.specs.contracts.elf.LoongArch64Instruction as loongarch64
+use Rattle.linker_utils.specs.contracts.elf.Ppc64Instruction as ppc64
+use Rattle.linker_utils.specs.Numbers.{kind_number, mask_number, aarch64_forms, riscv_forms}
 use Rattle.linker_utils.specs.Numbers.{loongarch64_forms, ppc64_forms}
 use Rattle.linker_utils.specs.declared.elf.PageMask.{PageMask}
 use Rattle.linker_utils.specs.declared.elf.PageMask.TheVariants.{SymbolPlusAddendAndPosition}
@@ -20,69 +25,18 @@ use Rattle.linker_utils.specs.declared.elf.RelocationSize.TheVariants.{ByteSize,
 use Rattle.linker_utils.specs.declared.elf.RelocationInstruction.{RelocationInstruction}
 use Rattle.linker_utils.specs.declared.elf.RelocationInstruction.TheVariants.{AArch64, RiscV}
 use Rattle.linker_utils.specs.declared.elf.RelocationInstruction.TheVariants.{LoongArch64, Ppc64}
-use Rattle.linker_utils.specs.declared.elf.AArch64Instruction.{AArch64Instruction}
-use Rattle.linker_utils.specs.declared.elf.RiscVInstruction.{RiscVInstruction}
-use Rattle.linker_utils.specs.declared.elf.LoongArch64Instruction.{LoongArch64Instruction}
-use Rattle.linker_utils.specs.declared.elf.Ppc64Instruction.{Ppc64Instruction}
-use Rattle.linker_utils.specs.declared.elf.AArch64Instruction.TheVariants.{Adr, Movkz, Movnz, Ldr}
-use Rattle.linker_utils.specs.declared.elf.AArch64Instruction.TheVariants.{LdrRegister, Add, LdSt}
-use Rattle.linker_utils.specs.declared.elf.AArch64Instruction.TheVariants.{TstBr, Bcond, JumpCall}
-use Rattle.linker_utils.specs.declared.elf.AArch64Instruction.TheVariants.{MachOLow12}
-use Rattle.linker_utils.specs.declared.elf.RiscVInstruction.TheVariants.{UType, IType, SType, BType}
-use Rattle.linker_utils.specs.declared.elf.RiscVInstruction.TheVariants.{JType, CbType, CjType}
-use Rattle.linker_utils.specs.declared.elf.RiscVInstruction.TheVariants.{CluiType, UiType}
-use Rattle.linker_utils.specs.declared.elf.LoongArch64Instruction.TheVariants.{Shift5, Shift10}
-use Rattle.linker_utils.specs.declared.elf.LoongArch64Instruction.TheVariants.{Branch26, Branch21}
-use Rattle.linker_utils.specs.declared.elf.LoongArch64Instruction.TheVariants.{Call30, Call36}
-use Rattle.linker_utils.specs.declared.elf.Ppc64Instruction.TheVariants.{D, Ds, Branch14, Branch24}
-use Rattle.linker_utils.specs.declared.elf.Ppc64Instruction.TheVariants.{Prefixed}
+use Rattle.linker_utils.specs.declared.elf.AArch64Instruction.TheVariants.{Adr}
+use Rattle.linker_utils.specs.declared.elf.RiscVInstruction.TheVariants.{UType}
+use Rattle.linker_utils.specs.declared.elf.LoongArch64Instruction.TheVariants.{Shift5}
+use Rattle.linker_utils.specs.declared.elf.Ppc64Instruction.TheVariants.{D}
 
 -- ---- packing
 
-abbrev pub aarch64_number : AArch64Instruction → ℕ
-aarch64_number Adr = 0
-aarch64_number Movkz = 1
-aarch64_number Movnz = 2
-aarch64_number Ldr = 3
-aarch64_number LdrRegister = 4
-aarch64_number Add = 5
-aarch64_number LdSt = 6
-aarch64_number TstBr = 7
-aarch64_number Bcond = 8
-aarch64_number JumpCall = 9
-aarch64_number MachOLow12 = 10
-
-abbrev pub riscv_number : RiscVInstruction → ℕ
-riscv_number UType = 0
-riscv_number IType = 1
-riscv_number SType = 2
-riscv_number BType = 3
-riscv_number JType = 4
-riscv_number CbType = 5
-riscv_number CjType = 6
-riscv_number CluiType = 7
-riscv_number UiType = 8
-
-abbrev pub loongarch64_number : LoongArch64Instruction → ℕ
-loongarch64_number Shift5 = 0
-loongarch64_number Shift10 = 1
-loongarch64_number Branch26 = 2
-loongarch64_number Branch21 = 3
-loongarch64_number Call30 = 4
-loongarch64_number Call36 = 5
-
-abbrev pub ppc64_number : Ppc64Instruction → ℕ
-ppc64_number D = 0
-ppc64_number Ds = 1
-ppc64_number Branch14 = 2
-ppc64_number Branch24 = 3
-ppc64_number Prefixed = 4
-
 abbrev pub insn_number : RelocationInstruction → ℕ
-insn_number (AArch64 f) = aarch64_number f
-insn_number (RiscV f) = riscv_number f
-insn_number (LoongArch64 f) = loongarch64_number f
-insn_number (Ppc64 f) = ppc64_number f
+insn_number (AArch64 f) = tag_of aarch64.the_type f
+insn_number (RiscV f) = tag_of riscv.the_type f
+insn_number (LoongArch64 f) = tag_of loongarch64.the_type f
+insn_number (Ppc64 f) = tag_of ppc64.the_type f
 
 abbrev pub form_byte : RelocationSize → ℕ
 form_byte (ByteSize n) = 0
@@ -112,12 +66,6 @@ max_byte (Some b) =
     exponent ((cast_unsigned w64 b.1 + cast_unsigned w64 b.1 % 2) % 2 ^ 64)
     + 64 * (cast_unsigned w64 b.1 % 2)
 
-abbrev pub mask_part : Option PageMask → ℕ
-mask_part None = 0
-mask_part (Some (SymbolPlusAddendAndPosition pattern)) = 1
-mask_part (Some (GotEntryAndPosition pattern)) = 2
-mask_part (Some (GotBase pattern)) = 3
-
 abbrev pub bias_part : Option ℕ → ℕ
 bias_part None = 0
 bias_part (Some n) = exponent n
@@ -128,7 +76,7 @@ flag_part true = 1
 
 abbrev pub rest_byte : RelocationKindInfo → ℕ
 rest_byte info =
-    mask_part info.mask + 4 * flag_part info.thunkable + 8 * flag_part info.implicit_addend
+    mask_number info.mask + 4 * flag_part info.thunkable + 8 * flag_part info.implicit_addend
     + 16 * (bias_part info.bias % 16)
 
 abbrev pub packed : RelocationKindInfo → ℕ

@@ -3,11 +3,12 @@
 
 ghost use Rattle.std.specs.Prelude.{◌≡◌, ◌<◌, ◌-◌, ◌%◌, get_or};
 ghost use Rattle.linker_utils.specs.Inner.PackedRows.{insn_number, form_byte, start_byte, end_byte};
-ghost use Rattle.linker_utils.specs.Inner.PackedRows.{min_byte, max_byte, mask_part, bias_part};
+ghost use Rattle.linker_utils.specs.Inner.PackedRows.{min_byte, max_byte, bias_part};
 ghost use Rattle.linker_utils.specs.Inner.PackedRows.{packed, kind_list, size_at, min_at, max_at};
 ghost use Rattle.linker_utils.specs.Inner.PackedRows.{bounds_at, mask_at, bias_at, unpacked_row};
 ghost use Rattle.linker_utils.specs.Inner.PackedRows.{power, exponent, bytes_at, aarch64_at};
 ghost use Rattle.linker_utils.specs.Inner.PackedRows.{riscv_at, loongarch64_at, ppc64_at};
+ghost use Rattle.linker_utils.specs.Numbers.{mask_number};
 ghost use Rattle.linker_utils.specs.declared.elf.RelocationKind.TheVariants as kinds;
 
 use crate::bit_misc::BitRange;
@@ -70,9 +71,10 @@ fn range_bytes(range: AllowedRange) -> (u8, u8)
     }
 }
 
+/// The number of a page mask: its place in the enum `PageMask` and 1; 0 of none.
 #[inline(always)]
-fn mask_number(mask: Option<PageMask>) -> u8
-    ensures part { result ≡ mask_part mask }
+pub fn mask_number(mask: Option<PageMask>) -> u8
+    ensures number { result ≡ mask_number mask }
     ensures small { result < 4 }
 {
     match mask {
