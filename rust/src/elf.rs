@@ -238,6 +238,7 @@ pub enum RelocationInstruction {
 /// The size of the pages of a page mask.
 #[derive(Debug, Clone, Copy, PartialEq, Eq)]
 pub enum PageMaskPattern {
+    /// 4 KiB.
     Size4KB,
 }
 
@@ -287,6 +288,7 @@ impl Bias {
 /// ```
 #[derive(Debug, Clone, Copy, PartialEq, Eq)]
 pub struct AllowedRange {
+    /// The least allowed value, and the first above all; `None` if every value is allowed.
     pub bounds: Option<(i64, i64)>,
 }
 

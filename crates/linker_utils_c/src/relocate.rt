@@ -49,8 +49,9 @@ pub extern "C" fn linker_utils_value(
 #[repr(C)]
 #[derive(Clone, Copy)]
 pub struct Reach {
-    /// The least value, and the first above all; both 0 if every value can be written.
+    /// The least value; 0 if every value can be written.
     pub min: i64,
+    /// The first above all values; 0 if every value can be written.
     pub max: i64,
     /// 1 if only values from `min` up, below `max`, can be written; else 0.
     pub has_range: u8,

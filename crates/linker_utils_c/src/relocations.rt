@@ -38,16 +38,19 @@ pub struct RelocationInfo {
     pub is_bits: u8,
     /// How many bytes; 0 for bits.
     pub byte_size: u8,
-    /// The value's bits, from the first up, below the end; both 0 for bytes.
+    /// The first bit of the value that is taken; 0 for bytes.
     pub first_bit: u8,
+    /// The first bit of the value above those that are taken; 0 for bytes.
     pub end_bit: u8,
-    /// 1 if only values from `min` up, below `max`, are allowed; else 0, and both are 0.
+    /// 1 if only values from `min` up, below `max`, are allowed; else 0.
     pub has_range: u8,
     /// 1 if a thunk may stand in for a target that is out of range, else 0.
     pub thunkable: u8,
     /// 1 if the addend stands in the section, else 0.
     pub implicit_addend: u8,
+    /// The least allowed value; 0 if every value is allowed.
     pub min: i64,
+    /// The first value above the allowed ones; 0 if every value is allowed.
     pub max: i64,
     /// What the value has to be a multiple of.
     pub alignment: u64,

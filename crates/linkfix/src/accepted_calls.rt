@@ -34,6 +34,7 @@ impl Model for AcceptedCalls {
 }
 
 impl AcceptedCalls {
+    /// No calls. It takes no memory.
     pub fn new(alloc: Global) -> AcceptedCalls
         ensures { result.by_site ≡ [] }
     {

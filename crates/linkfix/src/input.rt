@@ -47,6 +47,7 @@ pub struct Lines<R> {
 impl<R: Read> Lines<R> {
     ghost use Rattle.linkfix.specs.RemainingInput.{IsNextLine, max_remaining, remaining_bytes};
 
+    /// The lines of `input`. Nothing is read yet.
     pub fn new(input: R) -> Lines<R>
         ensures bound { max_remaining result ≡ 1048576 * 4096 }
         ensures known { remaining_bytes (R.remaining result.input) result ≡ R.remaining input }

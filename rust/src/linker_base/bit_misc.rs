@@ -6,7 +6,9 @@ use core::ops::Range;
 /// A half-open bit range: bits `start` up to, and not including, `end`.
 #[derive(Debug, Clone, Copy, PartialEq, Eq)]
 pub struct BitRange {
+    /// The first bit.
     pub start: u8,
+    /// The first bit above the range.
     pub end: u8,
 }
 
