@@ -299,7 +299,8 @@ impl SectionRelaxDeltas {
     /// deleted. Two searches, O(log n).
     pub fn kept_output_offset(&self, input_offset: u64, len: u64) -> Option<u64>
         requires { input_offset + len < 2 ^ 64 }
-        ensures { MatchOption result (¬ (AreKept self.now input_offset len)) (λ output. AreKept self.now input_offset len × (output ≡ rank self.now input_offset)) }
+        ensures { MatchOption result (¬ (AreKept self.now input_offset len))
+            (λ output. AreKept self.now input_offset len × (output ≡ rank self.now input_offset)) }
     {
         search::rank_of_kept(&self.deltas, input_offset, len)
     }

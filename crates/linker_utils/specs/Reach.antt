@@ -34,7 +34,8 @@ call36_bounds = (neg_ℤ (pos (2 ^ 37 + 0x20000)), pos (2 ^ 37 - 0x20000))
 -- MOVN and MOVZ of bits up to 16, 32 or 48: the value is as short, or its complement is (MOVW_PREL
 -- and MOVW_GOTOFF of G0 to G2, and those of TLS)
 abbrev pub aarch64_reach : AArch64Instruction → BitRange → Bounds → Bounds
-aarch64_reach Movnz bits None = if nat_lt 48 bits.end then None else Some (bit_bounds (bits.end + 1) Signed)
+aarch64_reach Movnz bits None =
+    if nat_lt 48 bits.end then None else Some (bit_bounds (bits.end + 1) Signed)
 aarch64_reach insn bits own = own
 
 abbrev pub riscv_reach : RiscVInstruction → Bounds → Bounds

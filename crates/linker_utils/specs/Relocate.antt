@@ -54,7 +54,8 @@ number_written AbsoluteAddition v old = sum_64 old (cast_unsigned w64 v)
 number_written AbsoluteSubtraction v old = difference_64 old (cast_unsigned w64 v)
 number_written AbsoluteSetWord6 v old = with_low_6 old (cast_unsigned w64 v)
 number_written AbsoluteAdditionWord6 v old = with_low_6 old (sum_64 old (cast_unsigned w64 v))
-number_written AbsoluteSubtractionWord6 v old = with_low_6 old (difference_64 old (cast_unsigned w64 v))
+number_written AbsoluteSubtractionWord6 v old =
+    with_low_6 old (difference_64 old (cast_unsigned w64 v))
 number_written kind v old = cast_unsigned w64 v
 
 -- ---- instructions
@@ -76,7 +77,8 @@ abbrev pub places_cleared : RelocationInstruction → BitRange → ℕ → List 
 places_cleared (AArch64 f) bits x = ored_cleared ((aarch64_form f).places x)
 places_cleared (RiscV f) bits x = []
 places_cleared (Ppc64 f) bits x = []
-places_cleared (LoongArch64 f) bits x = if nat_lt 12 (bits.end - bits.start) then ored_cleared ((loongarch_form f).places x) else []
+places_cleared (LoongArch64 f) bits x =
+    if nat_lt 12 (bits.end - bits.start) then ored_cleared ((loongarch_form f).places x) else []
 
 -- the bits of the value that are written
 abbrev pub bits_taken : BitRange → ℤ → ℕ
@@ -84,40 +86,49 @@ bits_taken bits v = field (cast_unsigned w64 v) bits.start bits.end
 
 -- The instruction's places are cleared, and then the value's bits are written with its sign. All
 -- other bytes stay.
-pub record InstructionWritten (insn : RelocationInstruction) (bits : BitRange) (v : ℤ) (before after : List ℕ) : Type 0 where
+pub record InstructionWritten (insn : RelocationInstruction) (bits : BitRange) (v : ℤ)
+    (before after : List ℕ) : Type 0 where
   pub clear : ℕ
   pub clears : BitsWritten (places_cleared insn bits (window_of (relocation_form insn) before)) 0
       (window_of (relocation_form insn) before) clear
   pub written : Written (relocation_form insn) (bits_taken bits v) (int_lt v (pos 0)) clear
       (window_of (relocation_form insn) after)
-  pub rest : drop (byte_len (relocation_form insn).window) after ≡ drop (byte_len (relocation_form insn).window) before
+  pub rest : drop (byte_len (relocation_form insn).window) after
+      ≡ drop (byte_len (relocation_form insn).window) before
 
 -- ---- what is written
 
 abbrev pub IsWritten : RelocationSize → RelocationKind → ℤ → List ℕ → List ℕ → Type 0
-IsWritten (ByteSize n) kind v before after = after ≡ low_bytes n (number_written kind v (number_of_bytes n before)) ++ drop n before
+IsWritten (ByteSize n) kind v before after =
+    after ≡ low_bytes n (number_written kind v (number_of_bytes n before)) ++ drop n before
 IsWritten (BitMasking bits insn) kind v before after = InstructionWritten insn bits v before after
 
 -- The machine reads the value's bits from the range's start up, modulo the range's size where
 -- values aren't bounded. MOVN and MOVZ shift what they hold, so their shift has to be the range's
 -- start. An immediate in two's complement of a LoongArch `Shift10` is one of 16 bits. What a half
 -- or a pair of instructions holds is said elsewhere.
-abbrev pub InstructionReads : Bool → RelocationInstruction → BitRange → Option (ℤ × ℤ) → ℤ → ℕ → ℕ → Type 0
+abbrev pub InstructionReads : Bool → RelocationInstruction → BitRange → Option (ℤ × ℤ) → ℤ → ℕ → ℕ
+    → Type 0
 InstructionReads is_signed (AArch64 f) bits bounds v before after =
     (f ≡ Movnz → shift_of before ≡ bits.start)
-    → IsSameIn bounds (bits.end - bits.start) (aarch64_reads f bits.start after) (bits_from bits.start v)
+    → IsSameIn bounds (bits.end - bits.start) (aarch64_reads f bits.start after)
+    (bits_from bits.start v)
 InstructionReads is_signed (RiscV f) bits bounds v before after =
-    is_of_halves f ≡ false → IsSameIn bounds (bits.end - bits.start) ((riscv_form f).machine after) (bits_from bits.start v)
+    is_of_halves f ≡ false
+    → IsSameIn bounds (bits.end - bits.start) ((riscv_form f).machine after)
+    (bits_from bits.start v)
 InstructionReads is_signed (Ppc64 f) bits bounds v before after =
     IsSameIn bounds (bits.end - bits.start) ((ppc64_form f).machine after) (bits_from bits.start v)
 InstructionReads is_signed (LoongArch64 f) bits bounds v before after =
     is_of_words f ≡ false → (f ≡ Shift10 → is_signed ≡ true → 12 < bits.end - bits.start)
-    → IsSameIn bounds (bits.end - bits.start) (loongarch_reads f is_signed after) (bits_from bits.start v)
+    → IsSameIn bounds (bits.end - bits.start) (loongarch_reads f is_signed after)
+    (bits_from bits.start v)
 
 abbrev pub SizeReads : Bool → RelocationSize → Option (ℤ × ℤ) → ℤ → List ℕ → List ℕ → Type 0
 SizeReads is_signed (ByteSize n) bounds v before after = ⊤
 SizeReads is_signed (BitMasking bits insn) bounds v before after =
-    InstructionReads is_signed insn bits bounds v (window_of (relocation_form insn) before) (window_of (relocation_form insn) after)
+    InstructionReads is_signed insn bits bounds v (window_of (relocation_form insn) before)
+    (window_of (relocation_form insn) after)
 
 -- ---- the number that whole bytes hold
 
@@ -156,7 +167,8 @@ takes_size kind (BitMasking bits insn) = nat_lt bits.start bits.end && nat_lt bi
 
 -- such a row, with an alignment that a value can have
 abbrev pub is_supported : RelocationKindInfo → Bool
-is_supported row = takes_size row.kind row.size && nat_lt 0 row.alignment && nat_lt row.alignment (2 ^ 63)
+is_supported row =
+    takes_size row.kind row.size && nat_lt 0 row.alignment && nat_lt row.alignment (2 ^ 63)
 
 abbrev pub size_len : RelocationSize → ℕ
 size_len (ByteSize n) = n
@@ -172,7 +184,8 @@ IsAligned alignment v = int_rem_euclid v (pos alignment) ≡ pos 0
 -- the form holds the bits, as it does of each row of the relocation tables
 abbrev pub HoldsBits : RelocationSize → ℤ → List ℕ → Type 0
 HoldsBits (ByteSize n) v bytes = ⊤
-HoldsBits (BitMasking bits insn) v bytes = Fits (relocation_form insn) (bits_taken bits v) (window_of (relocation_form insn) bytes)
+HoldsBits (BitMasking bits insn) v bytes =
+    Fits (relocation_form insn) (bits_taken bits v) (window_of (relocation_form insn) bytes)
 
 abbrev pub IsReached : RelocationKindInfo → ℤ → List ℕ → Type 0
 IsReached row v bytes = IsWithin (reach_of row) v × HoldsBits row.size v bytes
@@ -188,9 +201,11 @@ pub record IsAccepted (row : RelocationKindInfo) (v : ℤ) (bytes : List ℕ) : 
 abbrev pub IsCause : RelocationKindInfo → ℤ → List ℕ → RelocateError → Type 0
 IsCause row v bytes Unsupported = is_supported row ≡ false
 IsCause row v bytes TooShort = (is_supported row ≡ true) × (length bytes < window_len row)
-IsCause row v bytes Misaligned = (is_supported row ≡ true) × (window_len row ≤ length bytes) × ¬ IsAligned row.alignment v
+IsCause row v bytes Misaligned =
+    (is_supported row ≡ true) × (window_len row ≤ length bytes) × ¬ IsAligned row.alignment v
 IsCause row v bytes OutOfReach =
-    (is_supported row ≡ true) × (window_len row ≤ length bytes) × IsAligned row.alignment v × ¬ IsReached row v bytes
+    (is_supported row ≡ true) × (window_len row ≤ length bytes) × IsAligned row.alignment v
+    × ¬ IsReached row v bytes
 
 -- ---- what the halves and pairs of instructions hold
 
@@ -240,8 +255,10 @@ abbrev pub InstructionHolds : RelocationInstruction → BitRange → ℤ → ℕ
 InstructionHolds (AArch64 f) bits v after = ⊤
 InstructionHolds (RiscV f) bits v after = bits.start ≡ 0 → 32 ≤ bits.end → RiscVHolds f bits v after
 InstructionHolds (Ppc64 f) bits v after = bits.start ≡ 0 → 16 ≤ bits.end → Ppc64Holds f v after
-InstructionHolds (LoongArch64 f) bits v after = bits.start ≡ 2 → bits.end ≡ 38 → IsAligned 4 v → LoongArchHolds f v after
+InstructionHolds (LoongArch64 f) bits v after =
+    bits.start ≡ 2 → bits.end ≡ 38 → IsAligned 4 v → LoongArchHolds f v after
 
 abbrev pub SizeHolds : RelocationSize → ℤ → List ℕ → Type 0
 SizeHolds (ByteSize n) v after = ⊤
-SizeHolds (BitMasking bits insn) v after = InstructionHolds insn bits v (window_of (relocation_form insn) after)
+SizeHolds (BitMasking bits insn) v after =
+    InstructionHolds insn bits v (window_of (relocation_form insn) after)

@@ -28,7 +28,8 @@ use Rattle.linker_utils.specs.declared.ppc64.relocations.Ppc64Relocation.TheVari
 use Rattle.linker_utils.specs.declared.riscv64.relocations.RiscVRelocation.TheVariants.{R_RISCV_CALL_PLT, R_RISCV_PCREL_HI20, R_RISCV_PCREL_LO12_I}
 
 -- The relocation has a value, which is written.
-pub record IsApplied (row : RelocationKindInfo) (o : Operands) (before after : List ℕ) : Type 0 where
+pub record IsApplied (row : RelocationKindInfo) (o : Operands)
+    (before after : List ℕ) : Type 0 where
   pub value : ℤ
   pub value_is : value_of row o ≡ Some value
   pub accepted : IsAccepted row value before
@@ -53,7 +54,8 @@ abbrev pub CallsReachTheirTarget : Type 0
 CallsReachTheirTarget =
     IfSome (riscv_row R_RISCV_CALL_PLT) (λ row.
     (o : Operands) (before after : List ℕ) → o.place < 2 ^ 64 → IsApplied row o before after
-    → GoesTo o.place ((riscv_form UiType).machine (from_le_bytes w64 after)) (sum_64 o.plt_entry (cast_unsigned w64 o.addend)))
+    → GoesTo o.place ((riscv_form UiType).machine (from_le_bytes w64 after))
+    (sum_64 o.plt_entry (cast_unsigned w64 o.addend)))
 
 -- `auipc`, and an instruction that adds its low half to that, compute the symbol's address plus the
 -- addend. The low half is relocated by the operands of the high half.
@@ -63,7 +65,8 @@ AddressesAreTheSymbols =
     (o : Operands) (auipc auipc_after addi addi_after : List ℕ) → o.place < 2 ^ 64
     → IsApplied high o auipc auipc_after → IsApplied low o addi addi_after
     → GoesTo o.place
-    ((riscv_form UType).machine (from_le_bytes w32 auipc_after) +ℤ (riscv_form IType).machine (from_le_bytes w32 addi_after))
+    ((riscv_form UType).machine (from_le_bytes w32 auipc_after)
+    +ℤ (riscv_form IType).machine (from_le_bytes w32 addi_after))
     (symbol_address o)))
 
 -- ---- AArch64 (Arm Architecture Reference Manual, DDI 0487, C6.2: ADRP, ADD (immediate))

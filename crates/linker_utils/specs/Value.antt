@@ -76,11 +76,15 @@ sequence_pc (BitMasking bits insn) place = if bits.start == 52 then difference_6
 
 -- S + A
 abbrev pub symbol_term : RelocationKindInfo → Operands → ℕ
-symbol_term row o = page_if (masks_symbol row.mask) (sum_64 (sum_64 o.symbol (cast_unsigned w64 o.addend)) (bias_number row.bias))
+symbol_term row o =
+    page_if (masks_symbol row.mask)
+    (sum_64 (sum_64 o.symbol (cast_unsigned w64 o.addend)) (bias_number row.bias))
 
 -- GOT + G + A, or the same of an entry of TLS
 abbrev pub entry_term : RelocationKindInfo → Operands → ℕ
-entry_term row o = page_if (masks_entry row.mask) (sum_64 (sum_64 o.got_entry (entry_addend row.size o.addend)) (bias_number row.bias))
+entry_term row o =
+    page_if (masks_entry row.mask)
+    (sum_64 (sum_64 o.got_entry (entry_addend row.size o.addend)) (bias_number row.bias))
 
 -- L + A
 abbrev pub plt_term : RelocationKindInfo → Operands → ℕ
@@ -115,9 +119,11 @@ formula kinds.PairSubtractionULEB128RiscV row o = Some (symbol_term row o)
 formula kinds.PairSubtractionULEB128LoongArch row o = Some (symbol_term row o)
 formula kinds.Relative row o = Some (difference_64 (symbol_term row o) (place_term row o))
 formula kinds.RelativeRiscVLow12 row o = Some (difference_64 (symbol_term row o) (place_term row o))
-formula kinds.RelativeLoongArchHigh row o = Some (high_distance (symbol_term row o) (sequence_pc row.size o.place))
+formula kinds.RelativeLoongArchHigh row o =
+    Some (high_distance (symbol_term row o) (sequence_pc row.size o.place))
 formula kinds.GotRelative row o = Some (difference_64 (entry_term row o) (place_term row o))
-formula kinds.GotRelativeLoongArch64 row o = Some (high_distance (entry_term row o) (sequence_pc row.size o.place))
+formula kinds.GotRelativeLoongArch64 row o =
+    Some (high_distance (entry_term row o) (sequence_pc row.size o.place))
 formula kinds.GotRelGotBase row o = Some (difference_64 (entry_term row o) (got_term row o))
 formula kinds.Got row o = Some (entry_term row o)
 formula kinds.SymRelGotBase row o = Some (difference_64 (symbol_term row o) (got_term row o))
@@ -135,12 +141,14 @@ formula kinds.DtpOff row o = Some (difference_64 (symbol_term row o) o.tls_base)
 formula kinds.GotTpOff row o = Some (difference_64 (entry_term row o) (place_term row o))
 formula kinds.GotTpOffGot row o = Some (entry_term row o)
 formula kinds.GotTpOffGotBase row o = Some (difference_64 (entry_term row o) (got_term row o))
-formula kinds.GotTpOffLoongArch64 row o = Some (high_distance (entry_term row o) (sequence_pc row.size o.place))
+formula kinds.GotTpOffLoongArch64 row o =
+    Some (high_distance (entry_term row o) (sequence_pc row.size o.place))
 formula kinds.TpOff row o = Some (difference_64 (symbol_term row o) o.tls_base)
 formula kinds.TlsDesc row o = Some (difference_64 (entry_term row o) (place_term row o))
 formula kinds.TlsDescGot row o = Some (entry_term row o)
 formula kinds.TlsDescGotBase row o = Some (difference_64 (entry_term row o) (got_term row o))
-formula kinds.TlsDescLoongArch64 row o = Some (high_distance (entry_term row o) (sequence_pc row.size o.place))
+formula kinds.TlsDescLoongArch64 row o =
+    Some (high_distance (entry_term row o) (sequence_pc row.size o.place))
 formula kinds.TlsDescCall row o = None
 
 abbrev pub read_signed : Option ℕ → Option ℤ

@@ -399,7 +399,8 @@ impl AArch64Instruction {
     pub(crate) fn cleared(self, word: u64) -> u64
         requires { word < 2 ^ 32 }
         ensures small { result < 2 ^ 32 }
-        ensures clears { BitsWritten (ored_cleared ((aarch64_form self).places word)) 0 word result }
+        ensures clears { BitsWritten (ored_cleared ((aarch64_form self).places word))
+            0 word result }
     {
         let immediate = self.immediate();
         word & !(immediate.low << 29) & !immediate.mask

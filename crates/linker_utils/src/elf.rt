@@ -207,7 +207,8 @@ impl RelocationSize {
     /// Bits `start` and up, below `end`, into an AArch64 instruction.
     pub fn bit_mask_aarch64(start: u8, end: u8, insn: AArch64Instruction) -> RelocationSize
         ensures { result
-            ≡ RelocationSize.BitMasking (record { start = start; end = end }) (RelocationInstruction.AArch64 insn) }
+            ≡ RelocationSize.BitMasking (record { start = start; end = end })
+            (RelocationInstruction.AArch64 insn) }
     {
         RelocationSize::BitMasking {
             range: BitRange { start, end },
@@ -218,7 +219,8 @@ impl RelocationSize {
     /// Bits `start` and up, below `end`, into a RISC-V instruction.
     pub fn bit_mask_riscv(start: u8, end: u8, insn: RiscVInstruction) -> RelocationSize
         ensures { result
-            ≡ RelocationSize.BitMasking (record { start = start; end = end }) (RelocationInstruction.RiscV insn) }
+            ≡ RelocationSize.BitMasking (record { start = start; end = end })
+            (RelocationInstruction.RiscV insn) }
     {
         RelocationSize::BitMasking {
             range: BitRange { start, end },
@@ -229,7 +231,8 @@ impl RelocationSize {
     /// Bits `start` and up, below `end`, into a PowerPC64 instruction.
     pub fn bit_mask_ppc64(start: u8, end: u8, insn: Ppc64Instruction) -> RelocationSize
         ensures { result
-            ≡ RelocationSize.BitMasking (record { start = start; end = end }) (RelocationInstruction.Ppc64 insn) }
+            ≡ RelocationSize.BitMasking (record { start = start; end = end })
+            (RelocationInstruction.Ppc64 insn) }
     {
         RelocationSize::BitMasking {
             range: BitRange { start, end },
@@ -240,7 +243,8 @@ impl RelocationSize {
     /// Bits `start` and up, below `end`, into a LoongArch instruction.
     pub fn bit_mask_loongarch64(start: u8, end: u8, insn: LoongArch64Instruction) -> RelocationSize
         ensures { result
-            ≡ RelocationSize.BitMasking (record { start = start; end = end }) (RelocationInstruction.LoongArch64 insn) }
+            ≡ RelocationSize.BitMasking (record { start = start; end = end })
+            (RelocationInstruction.LoongArch64 insn) }
     {
         RelocationSize::BitMasking {
             range: BitRange { start, end },
@@ -431,10 +435,12 @@ pub trait InstructionForm: Copy {
     fn write(self, value: u64, negative: bool, dest: &mut [u8])
         requires room { byte_len (form self).window ≤ length dest.old }
         requires fits { Fits (form self) value (window_of (form self) dest.old) }
-        ensures written { Written (form self) value negative (window_of (form self) dest.old) (window_of (form self) dest.new) }
+        ensures written { Written (form self) value negative (window_of (form self) dest.old)
+            (window_of (form self) dest.new) }
         ensures rest { drop (byte_len (form self).window) dest.new
             ≡ drop (byte_len (form self).window) dest.old }
-        ensures machine { MachineReads (form self) value negative (window_of (form self) dest.old) (window_of (form self) dest.new) }
+        ensures machine { MachineReads (form self) value negative (window_of (form self) dest.old)
+            (window_of (form self) dest.new) }
         ensures restored { IsReadBack (form self) value negative (window_of (form self) dest.old)
             → dest.new ≡ dest.old };
 

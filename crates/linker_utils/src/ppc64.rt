@@ -104,7 +104,8 @@ impl Ppc64Instruction {
     #[inline(always)]
     fn place(self, value: u64, _negative: bool, dest: &mut [u8])
         requires { byte_len (ppc64_form self).window ≤ length dest.old }
-        ensures written { Written (ppc64_form self) value _negative (window_of (ppc64_form self) dest.old) (window_of (ppc64_form self) dest.new) }
+        ensures written { Written (ppc64_form self) value _negative
+            (window_of (ppc64_form self) dest.old) (window_of (ppc64_form self) dest.new) }
         ensures rest { drop (byte_len (ppc64_form self).window) dest.new
             ≡ drop (byte_len (ppc64_form self).window) dest.old }
         ensures same { window_of (ppc64_form self) dest.new ≡ window_of (ppc64_form self) dest.old
@@ -128,11 +129,14 @@ impl Ppc64Instruction {
     #[inline]
     pub fn write_to_value(self, extracted_value: u64, negative: bool, dest: &mut [u8])
         requires { byte_len (ppc64_form self).window ≤ length dest.old }
-        ensures written { Written (ppc64_form self) extracted_value negative (window_of (ppc64_form self) dest.old) (window_of (ppc64_form self) dest.new) }
+        ensures written { Written (ppc64_form self) extracted_value negative
+            (window_of (ppc64_form self) dest.old) (window_of (ppc64_form self) dest.new) }
         ensures rest { drop (byte_len (ppc64_form self).window) dest.new
             ≡ drop (byte_len (ppc64_form self).window) dest.old }
-        ensures machine { MachineReads (ppc64_form self) extracted_value negative (window_of (ppc64_form self) dest.old) (window_of (ppc64_form self) dest.new) }
-        ensures restored { IsReadBack (ppc64_form self) extracted_value negative (window_of (ppc64_form self) dest.old)
+        ensures machine { MachineReads (ppc64_form self) extracted_value negative
+            (window_of (ppc64_form self) dest.old) (window_of (ppc64_form self) dest.new) }
+        ensures restored { IsReadBack (ppc64_form self) extracted_value negative
+            (window_of (ppc64_form self) dest.old)
             → dest.new ≡ dest.old }
     {
         self.place(extracted_value, negative, dest);
@@ -144,7 +148,8 @@ impl Ppc64Instruction {
     pub fn read_value(self, bytes: &[u8]) -> (u64, bool)
         requires { byte_len (ppc64_form self).window ≤ length bytes.now }
         ensures number { result.0
-            ≡ cast_unsigned w64 ((ppc64_form self).reading (window_of (ppc64_form self) bytes.now)) }
+            ≡ cast_unsigned w64
+            ((ppc64_form self).reading (window_of (ppc64_form self) bytes.now)) }
         ensures flag { result.1 ≡ (ppc64_form self).flag (window_of (ppc64_form self) bytes.now) }
     {
         match self {

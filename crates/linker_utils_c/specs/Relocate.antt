@@ -43,7 +43,8 @@ IsValueOf (Some row) operands status old new = IsValue (value_of row operands) s
 -- 1 and the bounds, or 0 and twice 0 where every value can be written
 abbrev pub AreBounds : Option (ℤ × ℤ) → Reach → Type 0
 AreBounds None reach = (reach.has_range ≡ 0) × (reach.min ≡ pos 0) × (reach.max ≡ pos 0)
-AreBounds (Some bounds) reach = (reach.has_range ≡ 1) × (reach.min ≡ bounds.0) × (reach.max ≡ bounds.1)
+AreBounds (Some bounds) reach =
+    (reach.has_range ≡ 1) × (reach.min ≡ bounds.0) × (reach.max ≡ bounds.1)
 
 abbrev pub IsReachOf : Option RelocationKindInfo → ℕ → Reach → Reach → Type 0
 IsReachOf None status old new = (status ≡ code UnknownRelocation) × (new ≡ old)
@@ -61,10 +62,12 @@ write_status (Err errors.OutOfReach) = OutOfReach
 
 -- the bytes after a write, or why there is none
 abbrev pub IsOutcome : Result Unit RelocateError → RelocationKindInfo → ℤ → List ℕ → List ℕ → Type 0
-IsOutcome (Ok u) row v before after = IsAccepted row v before × IsWritten row.size row.kind v before after
+IsOutcome (Ok u) row v before after =
+    IsAccepted row v before × IsWritten row.size row.kind v before after
 IsOutcome (Err error) row v before after = IsCause row v before error × (after ≡ before)
 
-pub record IsRelocatedBy (row : RelocationKindInfo) (v : ℤ) (before after : List ℕ) (status : ℕ) : Type 0 where
+pub record IsRelocatedBy (row : RelocationKindInfo) (v : ℤ) (before after : List ℕ)
+    (status : ℕ) : Type 0 where
   pub outcome : Result Unit RelocateError
   pub says : status ≡ code (write_status outcome)
   pub holds : IsOutcome outcome row v before after
@@ -74,7 +77,8 @@ IsRelocatedAs None v before after status = (status ≡ code UnknownRelocation) �
 IsRelocatedAs (Some row) v before after status = IsRelocatedBy row v before after status
 
 -- a relocation of a type, by what the type means
-pub record IsRelocated (architecture : Architecture) (r_type : ℕ) (v : ℤ) (before after : List ℕ) (status : ℕ) : Type 0 where
+pub record IsRelocated (architecture : Architecture) (r_type : ℕ) (v : ℤ) (before after : List ℕ)
+    (status : ℕ) : Type 0 where
   pub meaning : Option RelocationKindInfo
   pub means : IsMeaning architecture r_type meaning
   pub relocated : IsRelocatedAs meaning v before after status
@@ -82,32 +86,41 @@ pub record IsRelocated (architecture : Architecture) (r_type : ℕ) (v : ℤ) (b
 -- ---- many relocations
 
 -- The bytes from an offset on are relocated, if the offset isn't past the end.
-pub record IsRelocatedAt (architecture : Architecture) (offset r_type : ℕ) (v : ℤ) (before after : List ℕ) (status : ℕ) : Type 0 where
+pub record IsRelocatedAt (architecture : Architecture) (offset r_type : ℕ) (v : ℤ)
+    (before after : List ℕ) (status : ℕ) : Type 0 where
   pub outside : length before < offset → (status ≡ code TooShort) × (after ≡ before)
   pub inside : offset ≤ length before → (rest : List ℕ)
-      × (after ≡ take offset before ++ rest) × IsRelocated architecture r_type v (drop offset before) rest status
+      × (after ≡ take offset before ++ rest)
+      × IsRelocated architecture r_type v (drop offset before) rest status
 
 abbrev pub IsApplied : Architecture → Relocation → List ℕ → List ℕ → ℕ → Type 0
-IsApplied architecture r before after status = IsRelocatedAt architecture r.offset r.r_type r.value before after status
+IsApplied architecture r before after status =
+    IsRelocatedAt architecture r.offset r.r_type r.value before after status
 
 -- all of them succeed, one after the other
 abbrev pub AreRelocated : Architecture → List Relocation → List ℕ → List ℕ → Type 0
 AreRelocated architecture [] before after = after ≡ before
 AreRelocated architecture (r ∷ rs) before after =
-    (next : List ℕ) × IsApplied architecture r before next (code Success) × AreRelocated architecture rs next after
+    (next : List ℕ) × IsApplied architecture r before next (code Success)
+    × AreRelocated architecture rs next after
 
 -- Those before the index succeed. That at the index is rejected with the status.
-pub record IsFirstRejected (architecture : Architecture) (relocations : List Relocation) (before after : List ℕ) (at status : ℕ) : Type 0 where
+pub record IsFirstRejected (architecture : Architecture) (relocations : List Relocation)
+    (before after : List ℕ) (at status : ℕ) : Type 0 where
   pub within : at < length relocations
   pub middle : List ℕ
   pub done : AreRelocated architecture (take at relocations) before middle
-  pub rejected : (r : Relocation) → IsApplied architecture (slice_index_or relocations at r) middle after status
+  pub rejected : (r : Relocation)
+      → IsApplied architecture (slice_index_or relocations at r) middle after status
 
 -- all succeed, or the status is that of the first that doesn't
-pub record AreRelocatedOrRejected (architecture : Architecture) (relocations : List Relocation) (before after : List ℕ)
+pub record AreRelocatedOrRejected (architecture : Architecture) (relocations : List Relocation)
+    (before after : List ℕ)
     (old_faulty faulty status : ℕ) : Type 0 where
-  pub success : status ≡ code Success → AreRelocated architecture relocations before after × (faulty ≡ old_faulty)
-  pub rejected : (status ≢ code Success) → IsFirstRejected architecture relocations before after faulty status
+  pub success : status ≡ code Success → AreRelocated architecture relocations before after
+      × (faulty ≡ old_faulty)
+  pub rejected : (status ≢ code Success)
+      → IsFirstRejected architecture relocations before after faulty status
 
 -- ---- ULEB128 numbers
 

@@ -171,9 +171,11 @@ pub extern "C" fn linker_utils_relocation(
     r_type: u32,
     info: &mut RelocationInfo,
 ) -> u32
-    ensures known { IfSome (architecture_of machine) (λ architecture. (meaning : Option RelocationKindInfo)
+    ensures known { IfSome (architecture_of machine)
+        (λ architecture. (meaning : Option RelocationKindInfo)
         × IsRow architecture r_type meaning × IsReturned meaning result info.old info.new) }
-    ensures unknown { IfNone (architecture_of machine) ((result ≡ code Status.UnknownArchitecture) × (info.new ≡ info.old)) }
+    ensures unknown { IfNone (architecture_of machine)
+        ((result ≡ code Status.UnknownArchitecture) × (info.new ≡ info.old)) }
 {
     let Some(architecture) = Architecture::from_machine(machine) else {
         return Status::UnknownArchitecture.number();
@@ -257,9 +259,11 @@ pub extern "C" fn linker_utils_relocation_name_nonnull(
     name_used: &mut usize,
 ) -> u32
     ensures known { IfSome (architecture_of machine) (λ architecture. (elf : ElfName)
-        × IsElfName architecture r_type elf × IsNameCopied elf name.old name.new name_used.old name_used.new result) }
+        × IsElfName architecture r_type elf
+        × IsNameCopied elf name.old name.new name_used.old name_used.new result) }
     ensures unknown { IfNone (architecture_of machine)
-        ((result ≡ code Status.UnknownArchitecture) × (name.new ≡ name.old) × (name_used.new ≡ name_used.old)) }
+        ((result ≡ code Status.UnknownArchitecture) × (name.new ≡ name.old)
+        × (name_used.new ≡ name_used.old)) }
     ensures room { 64 ≤ length name.old → result ≢ code Status.TooShort }
 {
     let Some(architecture) = Architecture::from_machine(machine) else {

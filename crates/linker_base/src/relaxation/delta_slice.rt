@@ -64,7 +64,8 @@ impl<'a> DeltaSlice<'a> {
     /// The deltas with heads of their blocks, or none where they aren't as many as blocks.
     #[inline(always)]
     pub fn with_heads(&self, heads: &'a [BlockHead]) -> Option<BlockedSlice<'a>>
-        ensures { MatchOption result (length heads.now ≢ blocks_of (length self.now)) (λ blocked. blocked ≡ record { deltas = self.now; heads = heads.now }) }
+        ensures { MatchOption result (length heads.now ≢ blocks_of (length self.now))
+            (λ blocked. blocked ≡ record { deltas = self.now; heads = heads.now }) }
     {
         if heads.len() != self.block_count() {
             return None;
@@ -147,7 +148,9 @@ impl<'a> DeltaSlice<'a> {
     pub fn kept_output_offset(&self, input_offset: u64, len: u64) -> Option<u64>
         requires { input_offset + len < 2 ^ 64 }
         ensures { AreValidDeltas self.now
-            → MatchOption result (¬ (AreKept (deletions_of self.now) input_offset len)) (λ output. AreKept (deletions_of self.now) input_offset len × (output ≡ rank (deletions_of self.now) input_offset)) }
+            → MatchOption result (¬ (AreKept (deletions_of self.now) input_offset len))
+            (λ output. AreKept (deletions_of self.now) input_offset len
+            × (output ≡ rank (deletions_of self.now) input_offset)) }
     {
         search::rank_of_kept(self.deltas, input_offset, len)
     }
@@ -166,7 +169,8 @@ impl<'a> DeltaSlice<'a> {
     #[inline(always)]
     pub fn output_to_input_offset(&self, output_offset: u64) -> Option<u64>
         ensures { AreValidDeltas self.now
-            → MatchOption result (¬ (HasInput (deletions_of self.now) output_offset)) (IsSelected (deletions_of self.now) output_offset) }
+            → MatchOption result (¬ (HasInput (deletions_of self.now) output_offset))
+            (IsSelected (deletions_of self.now) output_offset) }
     {
         output_offset.checked_add(search::bytes_before(self.deltas, output_offset))
     }
@@ -230,7 +234,9 @@ impl<'a> DeltaSlice<'a> {
     /// ascend, as a pass over a section makes them, and else O(k log n + k²).
     pub fn first_overlapping<D: AsDeletion>(&self, additional: &[D]) -> Option<usize>
         ensures { IsValid (deletions_of self.now)
-            → MatchOption result (AreDisjoint (deletions_of self.now ++ map D.deletion additional.now)) (IsFirstOverlapping (deletions_of self.now) (map D.deletion additional.now)) }
+            → MatchOption result
+            (AreDisjoint (deletions_of self.now ++ map D.deletion additional.now))
+            (IsFirstOverlapping (deletions_of self.now) (map D.deletion additional.now)) }
     {
         overlap::first_overlapping(self.deltas, additional)
     }
@@ -254,7 +260,8 @@ impl<'a> DeltaSlice<'a> {
     pub fn merge_ascending<D: AsDeletion>(&self, additional: &[D], merged: &mut [RelaxDelta])
         requires places { length merged.old ≡ length self.now + length additional.now }
         requires valid { AreValidTogether (deletions_of self.now) (map D.deletion additional.now) }
-        ensures union { IsSortedUnion (deletions_of self.now ++ map D.deletion additional.now) (deletions_of merged.new) }
+        ensures union { IsSortedUnion (deletions_of self.now ++ map D.deletion additional.now)
+            (deletions_of merged.new) }
         ensures listed { AreValidDeltas merged.new }
     {
         merge_into(self.deltas, additional, merged);

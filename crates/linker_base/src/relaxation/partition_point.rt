@@ -334,8 +334,10 @@ fn search_block<P: Probe>(probe: &mut P, test: Test, block: usize) -> usize
     ensures same { P.passing probe.new ≡ P.passing probe.old }
     ensures same_deltas { P.deltas probe.new ≡ P.deltas probe.old }
     ensures within { 0 < result × (result ≤ P.size probe.old Deltas) }
-    ensures point { IsPartitioned (P.passing probe.old Deltas test) (P.size probe.old Deltas) → P.passing probe.old Deltas test (64 * block) ≡ true
-        → ((k : ℕ) → 64 * block + 64 ≤ k → k < P.size probe.old Deltas → P.passing probe.old Deltas test k ≡ false)
+    ensures point { IsPartitioned (P.passing probe.old Deltas test) (P.size probe.old Deltas)
+        → P.passing probe.old Deltas test (64 * block) ≡ true
+        → ((k : ℕ) → 64 * block + 64 ≤ k → k < P.size probe.old Deltas
+        → P.passing probe.old Deltas test k ≡ false)
         → IsPointOf (P.passing probe.old Deltas test) (P.size probe.old Deltas) result }
     ensures spent { P.probes probe.new ≤ P.probes probe.old + 6 }
 {
@@ -358,7 +360,9 @@ pub(super) fn search_blocks<P: Probe>(probe: &mut P, test: Test) -> usize
     ensures same { P.passing probe.new ≡ P.passing probe.old }
     ensures same_deltas { P.deltas probe.new ≡ P.deltas probe.old }
     ensures within { result ≤ P.size probe.old Deltas }
-    ensures point { IsPartitioned (P.passing probe.old Deltas test) (P.size probe.old Deltas) → HeadsAgree (P.passing probe.old Heads test) (P.passing probe.old Deltas test) (P.size probe.old Heads) (P.size probe.old Deltas)
+    ensures point { IsPartitioned (P.passing probe.old Deltas test) (P.size probe.old Deltas)
+        → HeadsAgree (P.passing probe.old Heads test) (P.passing probe.old Deltas test)
+        (P.size probe.old Heads) (P.size probe.old Deltas)
         → IsPointOf (P.passing probe.old Deltas test) (P.size probe.old Deltas) result }
     ensures spent { P.size probe.old Deltas ≤ 64 * P.size probe.old Heads
         → (digits : ℕ) → P.size probe.old Heads < 2 ^ digits

@@ -13,10 +13,12 @@ is_ored_alone f = true
 
 -- the lowest n bits of the value, from bit w of the instruction up
 abbrev pub lowest_bits : ℕ → ℕ → ℕ → Immediate
-lowest_bits sign n w = record { width = n; sign_bits = sign; low = 0; shift = w; mask = (2 ^ n - 1) * 2 ^ w }
+lowest_bits sign n w =
+    record { width = n; sign_bits = sign; low = 0; shift = w; mask = (2 ^ n - 1) * 2 ^ w }
 
 abbrev pub aarch64_immediate : AArch64Instruction → Immediate
-aarch64_immediate Adr = record { width = 21; sign_bits = 21; low = 3; shift = 3; mask = (2 ^ 19 - 1) * 2 ^ 5 }
+aarch64_immediate Adr =
+    record { width = 21; sign_bits = 21; low = 3; shift = 3; mask = (2 ^ 19 - 1) * 2 ^ 5 }
 aarch64_immediate Movkz = lowest_bits 16 16 5
 aarch64_immediate Movnz = lowest_bits 0 0 0
 aarch64_immediate Ldr = lowest_bits 19 19 5

@@ -179,10 +179,12 @@ pub(crate) fn write(window: Window, runs: &[Run], value: u64, dest: &mut [u8])
     requires room { byte_len (width_of window) ≤ length dest.old }
     requires sound { IsTrue (runs_fit runs.now) }
     requires inside { IsTrue (words_below (bits_of window) (spread runs.now)) }
-    ensures written { BitsWritten (spread runs.now) value (from_le_bytes (width_of window) dest.old) (from_le_bytes (width_of window) dest.new) }
+    ensures written { BitsWritten (spread runs.now) value (from_le_bytes (width_of window) dest.old)
+        (from_le_bytes (width_of window) dest.new) }
     ensures rest { drop (byte_len (width_of window)) dest.new
         ≡ drop (byte_len (width_of window)) dest.old }
-    ensures same { from_le_bytes (width_of window) dest.new ≡ from_le_bytes (width_of window) dest.old
+    ensures same { from_le_bytes (width_of window) dest.new
+        ≡ from_le_bytes (width_of window) dest.old
         → dest.new ≡ dest.old }
 {
     let before = window.load(dest);
@@ -208,12 +210,15 @@ pub(crate) fn write_form(
     requires places { (relocation_form _insn).places (from_le_bytes (width_of window) dest.old)
         ≡ spread runs.now }
     requires number { (relocation_form _insn).number _negative value ≡ value }
-    requires base { (relocation_form _insn).base _negative (from_le_bytes (width_of window) dest.old)
+    requires base { (relocation_form _insn).base _negative
+        (from_le_bytes (width_of window) dest.old)
         ≡ from_le_bytes (width_of window) dest.old }
-    ensures written { Written (relocation_form _insn) value _negative (window_of (relocation_form _insn) dest.old) (window_of (relocation_form _insn) dest.new) }
+    ensures written { Written (relocation_form _insn) value _negative
+        (window_of (relocation_form _insn) dest.old) (window_of (relocation_form _insn) dest.new) }
     ensures rest { drop (byte_len (relocation_form _insn).window) dest.new
         ≡ drop (byte_len (relocation_form _insn).window) dest.old }
-    ensures same { window_of (relocation_form _insn) dest.new ≡ window_of (relocation_form _insn) dest.old
+    ensures same { window_of (relocation_form _insn) dest.new
+        ≡ window_of (relocation_form _insn) dest.old
         → dest.new ≡ dest.old }
 {
     write(window, runs, value, dest);
@@ -226,10 +231,12 @@ pub(crate) fn write_over(window: Window, runs: &[Run], value: u64, number: u64, 
     requires sound { IsTrue (runs_fit runs.now) }
     requires inside { IsTrue (words_below (bits_of window) (spread runs.now)) }
     requires fits { number < 2 ^ bits_of window }
-    ensures written { BitsWritten (spread runs.now) value number (from_le_bytes (width_of window) dest.new) }
+    ensures written { BitsWritten (spread runs.now) value number
+        (from_le_bytes (width_of window) dest.new) }
     ensures rest { drop (byte_len (width_of window)) dest.new
         ≡ drop (byte_len (width_of window)) dest.old }
-    ensures same { from_le_bytes (width_of window) dest.new ≡ from_le_bytes (width_of window) dest.old
+    ensures same { from_le_bytes (width_of window) dest.new
+        ≡ from_le_bytes (width_of window) dest.old
         → dest.new ≡ dest.old }
 {
     let after = insert(runs, value, number);
@@ -261,7 +268,8 @@ pub(crate) fn read_form(
     requires places { (relocation_form _insn).places 0 ≡ spread runs.now }
     requires reading { IsTrue (reads_unsigned (relocation_layout _insn)) }
     ensures number { result.0
-        ≡ cast_unsigned w64 ((relocation_form _insn).reading (window_of (relocation_form _insn) bytes.now)) }
+        ≡ cast_unsigned w64
+        ((relocation_form _insn).reading (window_of (relocation_form _insn) bytes.now)) }
     ensures flag { result.1
         ≡ (relocation_form _insn).flag (window_of (relocation_form _insn) bytes.now) }
 {
@@ -286,7 +294,8 @@ pub(crate) fn read_flagged_form(
     requires places { (relocation_form _insn).places 0 ≡ spread runs.now }
     requires reading { IsTrue (reads_flagged bits (relocation_layout _insn)) }
     ensures number { result.0
-        ≡ cast_unsigned w64 ((relocation_form _insn).reading (window_of (relocation_form _insn) bytes.now)) }
+        ≡ cast_unsigned w64
+        ((relocation_form _insn).reading (window_of (relocation_form _insn) bytes.now)) }
     ensures flag { result.1
         ≡ (relocation_form _insn).flag (window_of (relocation_form _insn) bytes.now) }
 {
@@ -303,9 +312,11 @@ pub(crate) fn read_signed(window: Window, runs: &[Run], bits: u32, bytes: &[u8])
     requires short { bits < 64 }
     requires fits { IsTrue (values_below bits (spread runs.now)) }
     ensures number { result.0
-        ≡ cast_unsigned w64 (signed bits (place_sum (spread runs.now) (from_le_bytes (width_of window) bytes.now))) }
+        ≡ cast_unsigned w64
+        (signed bits (place_sum (spread runs.now) (from_le_bytes (width_of window) bytes.now))) }
     ensures flag { result.1
-        ≡ int_lt (signed bits (place_sum (spread runs.now) (from_le_bytes (width_of window) bytes.now))) (pos 0) }
+        ≡ int_lt (signed bits
+        (place_sum (spread runs.now) (from_le_bytes (width_of window) bytes.now))) (pos 0) }
 {
     signed_number(read(window, runs, bytes), bits)
 }
