@@ -2,8 +2,8 @@
  *
  * Build with `cc $(pkg-config --cflags --libs linker_utils) x.c`: the archive `liblinker_utils.a`
  * needs nothing but the C library's `malloc`, `realloc`, `free`, `memcpy`, `memmove` and `memset`.
- * It is for x86-64-v2
- * processors (SSE4.2, 2009 and later). Programs for each group of calls stand in bindings/c.
+ * It is for x86-64-v2 processors (SSE4.2, 2009 and later). `bindings/c` has a program for each
+ * group of calls.
  *
  * What holds of every call:
  * - A slice is a pointer and then a count of elements. Its pointer may be null where the count is
@@ -18,8 +18,8 @@
  *   `LINKER_UTILS_OK` it has written nothing, but for `faulty`, and for what
  *   `linker_utils_relocate_all` writes before the relocation that it rejects. Where several
  *   statuses apply, the first in the order that the call names is returned.
- * - `faulty` may be null. With a status that speaks of one entry of an array, and with no other,
- *   the index of that entry is written there.
+ * - `faulty` may be null. If the status is about one entry of an array, the index of that entry is
+ *   written there; with any other status nothing is.
  * - These return no status, since they can't fail: `linker_utils_status_text`,
  *   `linker_utils_clui_rel_info`, `linker_utils_uleb128_role`, `linker_utils_is_plain_call`,
  *   `linker_utils_distance_fits_jal`, `linker_utils_hi20_is_zero`, `linker_utils_hi20_fits_clui`,
@@ -96,7 +96,7 @@ enum linker_utils_status {
     LINKER_UTILS_CALLS_NOT_APART = 24,
     /* The eight bytes at the site are not an `auipc` and a `jalr` over its register. */
     LINKER_UTILS_NOT_A_CALL = 25,
-    /* a call that `linker_utils_calls_shrinkable` does not accept */
+    /* `linker_utils_calls_shrinkable` does not accept a call. */
     LINKER_UTILS_CALLS_NOT_SHRINKABLE = 26,
     /* The value is not a multiple of the relocation's alignment. */
     LINKER_UTILS_MISALIGNED = 27,
@@ -177,9 +177,9 @@ static uint64_t linker_utils_no_elements[1];
 /* ---- Forms: values in the immediates of instructions.
  *
  * A machine and a number of one of its enum of forms name a form. A form has a window: the bytes of
- * the instruction, or of the pair, little-endian. Its value is a number of so many bits, in the
- * instruction's own unit: for `bl` a distance in words of 4 bytes. How a relocation's value becomes
- * the form's is said at `struct linker_utils_relocation_info`.
+ * the instruction, or of the pair, little-endian. Its value is a number of as many bits as the
+ * enums below say, in the instruction's own unit: for `bl` a distance in words of 4 bytes.
+ * `struct linker_utils_relocation_info` tells how a relocation's value becomes the form's value.
  * The statuses LINKER_UTILS_UNKNOWN_ARCHITECTURE and LINKER_UTILS_UNKNOWN_FORM come first. */
 
 /* AArch64 (Arm Architecture Reference Manual for A-profile, DDI 0487). All windows are of 4 bytes.
@@ -295,9 +295,9 @@ enum linker_utils_aarch64_rewrite {
 enum linker_utils_riscv_rewrite {
     LINKER_UTILS_RISCV_REWRITE_NO_OP = 0,
     LINKER_UTILS_RISCV_REWRITE_REPLACE_WITH_NOP = 1, /* two c.nop, of the C extension */
-    LINKER_UTILS_RISCV_REWRITE_CALL_TO_JAL = 2, /* auipc of a call; its jalr is for you to delete */
-    LINKER_UTILS_RISCV_REWRITE_HI20_TO_C_LUI = 3, /* lui; its last two bytes are yours to delete */
-    LINKER_UTILS_RISCV_REWRITE_HI20_DELETE = 4, /* nothing: the lui is for you to delete */
+    LINKER_UTILS_RISCV_REWRITE_CALL_TO_JAL = 2, /* auipc of a call; the caller deletes the jalr */
+    LINKER_UTILS_RISCV_REWRITE_HI20_TO_C_LUI = 3, /* lui; the caller deletes its last two bytes */
+    LINKER_UTILS_RISCV_REWRITE_HI20_DELETE = 4, /* nothing: the caller deletes the lui */
     LINKER_UTILS_RISCV_REWRITE_LO12_RS1_TO_ZERO = 5
 };
 
@@ -352,8 +352,8 @@ uint32_t linker_utils_apply_nonnull(uint16_t machine, uint32_t rewrite, uint8_t 
  * LINKER_UTILS_AARCH64_REWRITE_MOVK_XN and LINKER_UTILS_AARCH64_REWRITE_LDR_TO_ADD the word there.
  * It does not test whether the instruction is one that the rewrite is meant for: it takes a `ret`
  * for LINKER_UTILS_RISCV_REWRITE_CALL_TO_JAL, and `lui sp` for
- * LINKER_UTILS_RISCV_REWRITE_HI20_TO_C_LUI. That stays the caller's to know, by the relocation and
- * by `linker_utils_is_plain_call`, `linker_utils_hi20_fits_clui` and
+ * LINKER_UTILS_RISCV_REWRITE_HI20_TO_C_LUI. The caller tests that, by the relocation's type and by
+ * `linker_utils_is_plain_call`, `linker_utils_hi20_fits_clui` and
  * `linker_utils_rd_valid_for_clui`. */
 static inline uint32_t linker_utils_can_apply(uint16_t machine, uint32_t rewrite, uint8_t n,
                                               const uint8_t *section, size_t section_len,
@@ -402,7 +402,7 @@ enum linker_utils_relocation_kind {
     LINKER_UTILS_KIND_NONE = 0,
     /* S + A */
     LINKER_UTILS_KIND_ABSOLUTE = 1,
-    /* S + A, of which bits of the offset in a page are taken */
+    /* S + A, of which the instruction takes bits of the offset in the page */
     LINKER_UTILS_KIND_ABSOLUTE_LOW_PART = 2,
     /* S + A */
     LINKER_UTILS_KIND_ABSOLUTE_SET = 3,
@@ -424,8 +424,8 @@ enum linker_utils_relocation_kind {
     LINKER_UTILS_KIND_PAIR_SUBTRACTION_ULEB128_LOONG_ARCH = 10,
     /* S + A - P */
     LINKER_UTILS_KIND_RELATIVE = 11,
-    /* the value of the relocation at address S, that of the auipc which the symbol labels: computed
-     * with that one's S, A and P, and low because of the form */
+    /* the value of another relocation: that of the auipc at address S, which the symbol labels. It
+     * is computed with that relocation's S, A and P; the form takes its low 12 bits. */
     LINKER_UTILS_KIND_RELATIVE_RISC_V_LOW12 = 12,
     /* HIGHEST(S + A, PC) */
     LINKER_UTILS_KIND_RELATIVE_LOONG_ARCH_HIGH = 13,
@@ -445,7 +445,7 @@ enum linker_utils_relocation_kind {
     LINKER_UTILS_KIND_PLT_RELATIVE = 20,
     /* Z + A */
     LINKER_UTILS_KIND_SYMBOL_SIZE = 21,
-    /* no value: A bytes of nops stand there, of which as many stay as the alignment takes */
+    /* no value: A bytes of nops stand there; the linker keeps those that the alignment needs */
     LINKER_UTILS_KIND_ALIGNMENT = 22,
     /* GD + A - P */
     LINKER_UTILS_KIND_TLS_GD = 23,
@@ -525,7 +525,8 @@ struct linker_utils_relocation_info {
     /* The value's bits that are taken: `first_bit` and up, below `end_bit`. 0 for bytes. */
     uint8_t first_bit;
     uint8_t end_bit;
-    /* 1 where only values from `min` up, below `max`, are allowed; 0, and both 0, where all are. */
+    /* 1 where only values from `min` up, below `max`, are allowed. 0 where all values are; `min`
+     * and `max` are 0 then. */
     uint8_t has_range;
     /* 1 where a thunk may stand in for a target that is out of range, else 0. */
     uint8_t thunkable;
@@ -547,17 +548,17 @@ uint32_t linker_utils_relocation(uint16_t machine, uint32_t r_type,
                                  struct linker_utils_relocation_info *info);
 
 /* What a relocation of RISC-V's TLS descriptors means: R_RISCV_TLSDESC_HI20, _LOAD_LO12, _ADD_LO12
- * and _CALL. `linker_utils_relocation` has no meaning for these; `linker_utils_value`,
- * `linker_utils_reach`, `linker_utils_relocate` and `linker_utils_relocate_all` take them as any
- * others. LINKER_UTILS_UNKNOWN_RELOCATION of all other types. */
+ * and _CALL. `linker_utils_relocation` returns LINKER_UTILS_UNKNOWN_RELOCATION for these;
+ * `linker_utils_value`, `linker_utils_reach`, `linker_utils_relocate` and
+ * `linker_utils_relocate_all` accept them. LINKER_UTILS_UNKNOWN_RELOCATION of all other types. */
 uint32_t linker_utils_tls_descriptor_relocation(uint32_t r_type,
                                                 struct linker_utils_relocation_info *info);
 
 /* Bytes that hold the name of any relocation. */
 #define LINKER_UTILS_NAME_SIZE 64
 
-/* The relocation's name in its psABI, as "R_X86_64_PC32", into the first bytes of `name`, with no
- * NUL after it, and the count of these bytes into `name_used`. LINKER_UTILS_TOO_SHORT where `name`
+/* Writes the relocation's name in its psABI, as "R_X86_64_PC32", to the first bytes of `name`, with
+ * no NUL after it, and the count of these bytes to `name_used`. LINKER_UTILS_TOO_SHORT where `name`
  * has fewer bytes. */
 static inline uint32_t linker_utils_relocation_name(uint16_t machine, uint32_t r_type,
                                                     uint8_t *name, size_t name_len,
@@ -601,9 +602,9 @@ struct linker_utils_operands {
 
 /* The value of a relocation: the formula of its kind, with the bias added first and the page mask
  * applied after that, modulo 2^64 and read in two's complement. LINKER_UTILS_UNKNOWN_ARCHITECTURE;
- * LINKER_UTILS_UNKNOWN_RELOCATION; LINKER_UTILS_NO_VALUE. Of R_RISCV_SET_ULEB128 and
- * R_LARCH_ADD_ULEB128, whose kind is LINKER_UTILS_KIND_RELATIVE, it is of no use: what
- * `linker_utils_uleb128_role` speaks of is S + A. */
+ * LINKER_UTILS_UNKNOWN_RELOCATION; LINKER_UTILS_NO_VALUE. It does not give the value of
+ * R_RISCV_SET_ULEB128 and R_LARCH_ADD_ULEB128, whose kind is LINKER_UTILS_KIND_RELATIVE: that is
+ * S + A (`linker_utils_uleb128_role`). */
 uint32_t linker_utils_value(uint16_t machine, uint32_t r_type,
                             const struct linker_utils_operands *operands, int64_t *value);
 
@@ -665,9 +666,9 @@ static inline uint32_t linker_utils_relocate(uint16_t machine, uint32_t r_type, 
 }
 
 /* The same of several relocations of a section, in order. It stops at the first that is rejected:
- * `faulty` is its index, the status says why, those before it are written, and it has changed
- * nothing. LINKER_UTILS_UNKNOWN_ARCHITECTURE speaks of no entry: `faulty` is then unchanged. An
- * offset past the section's end is LINKER_UTILS_TOO_SHORT. */
+ * `faulty` is its index, and the status says why. Those before it are written; it and those after
+ * it are not. With LINKER_UTILS_UNKNOWN_ARCHITECTURE `faulty` is unchanged. An offset past the
+ * section's end is LINKER_UTILS_TOO_SHORT. */
 static inline uint32_t linker_utils_relocate_all(
     uint16_t machine, uint8_t *section, size_t section_len,
     const struct linker_utils_relocation_entry *relocations, size_t relocations_len,
@@ -688,11 +689,11 @@ struct linker_utils_deletion {
     uint32_t bytes;
 };
 
-/* The same with the sum of the bytes that it and all deletions at lower offsets delete. An array of
- * these, as `linker_utils_deltas_create` and `linker_utils_deltas_merge` write it, is what the
- * calls below name deltas. It is the caller's own memory, and any number of threads may read it. Of
- * an array that was written otherwise the calls are still defined, but nothing is said of their
- * results. */
+/* A deletion, with the sum of the bytes that it and all deletions at lower offsets delete. The
+ * deltas that the calls below take are an array of these, as `linker_utils_deltas_create` and
+ * `linker_utils_deltas_merge` write it. It is the caller's own memory, and any number of threads
+ * may read it. With an array that was written otherwise the calls are still defined, but their
+ * results are not specified. */
 struct linker_utils_delta {
     uint64_t input_offset;
     uint64_t cumulative_deleted;
@@ -737,9 +738,9 @@ static inline uint32_t linker_utils_jal_site_with(uint8_t *section, size_t secti
                                               site, distance, link);
 }
 
-/* As `linker_utils_jal_site`, in a section whose bytes stand where they stood before the
- * deletions: the distance is that from the site's output offset to the target's. The target may be
- * the section's end, and inside a deletion it is what follows that. LINKER_UTILS_OUT_OF_SECTION,
+/* As `linker_utils_jal_site`, in a section from which no byte has been removed yet: the distance is
+ * that from the site's output offset to the target's. The target may be the section's end. A target
+ * inside a deletion counts as what follows the deletion. LINKER_UTILS_OUT_OF_SECTION,
  * LINKER_UTILS_SITE_DELETED, LINKER_UTILS_ODD_DISTANCE, LINKER_UTILS_TOO_FAR. */
 static inline uint32_t linker_utils_relax_call(uint8_t *section, size_t section_len,
                                                const struct linker_utils_delta *deltas,
@@ -749,8 +750,9 @@ static inline uint32_t linker_utils_relax_call(uint8_t *section, size_t section_
         LINKER_UTILS_SLICE(const struct linker_utils_delta, deltas), deltas_len, site, target);
 }
 
-/* Whether `auipc` and then `jalr` stand at the site, with the same register as source and as both
- * destinations: then the jump links the register that the call did. */
+/* Whether the instructions at the site are `auipc` and `jalr` with one register as both
+ * destinations and as the source of the `jalr`. Then a jump that links the `auipc`'s register links
+ * the same one as the call. */
 static inline bool linker_utils_is_plain_call(const uint8_t *section, size_t section_len,
                                               uint64_t site) {
     return linker_utils_is_plain_call_nonnull(LINKER_UTILS_SLICE(const uint8_t, section),
@@ -808,9 +810,9 @@ static inline uint32_t linker_utils_write_ha_lo(uint8_t *ha, size_t ha_len, uint
                                             LINKER_UTILS_SLICE(uint8_t, lo), lo_len, value);
 }
 
-/* What a relocation of a ULEB128 number does with its value, S + A. Two of them stand at one
- * number. `linker_utils_write_uleb128` writes what both make together: what the first makes alone
- * may need more bytes than stand there. */
+/* What a relocation of a ULEB128 number does with its value, S + A. There are two relocations for
+ * one number. `linker_utils_write_uleb128` writes the result of both: that of the first alone may
+ * need more bytes than the number has. */
 enum linker_utils_role {
     /* none: it is no relocation of a ULEB128 number, or its machine or type is unknown */
     LINKER_UTILS_ROLE_NONE = 0,
@@ -918,8 +920,8 @@ static inline uint32_t linker_utils_deltas_is_valid(const struct linker_utils_de
         faulty ? faulty : &ignored);
 }
 
-/* Writes the deltas of the deletions, as many as these. LINKER_UTILS_INVALID_DELETIONS, with
- * `faulty` as above; LINKER_UTILS_DIFFERENT_LENGTHS. */
+/* Writes the deltas of the deletions, one for each. LINKER_UTILS_INVALID_DELETIONS, with `faulty`
+ * as above; LINKER_UTILS_DIFFERENT_LENGTHS where `deltas_len` is not `deletions_len`. */
 static inline uint32_t linker_utils_deltas_create(const struct linker_utils_deletion *deletions,
                                                   size_t deletions_len,
                                                   struct linker_utils_delta *deltas,
@@ -944,12 +946,13 @@ static inline uint32_t linker_utils_deltas_is_mergeable(
         LINKER_UTILS_SLICE(const struct linker_utils_deletion, additional), additional_len);
 }
 
-/* Writes the deltas of the old and the additional deletions, sorted, as many as both.
- * LINKER_UTILS_DIFFERENT_LENGTHS. LINKER_UTILS_INVALID_DELETIONS where the deltas list no valid
- * deletions, and `faulty` is the first delta at fault, as above. LINKER_UTILS_NOT_MERGEABLE, and
- * `faulty` is the first additional deletion that overlaps an old or an earlier additional one, or
- * ends past 2^64 - 1. LINKER_UTILS_OUT_OF_MEMORY, but where the additional deletions ascend and can
- * be merged it takes no memory. */
+/* Writes the deltas of the old and the additional deletions, sorted, one for each.
+ * LINKER_UTILS_DIFFERENT_LENGTHS where `merged_len` is not the count of both.
+ * LINKER_UTILS_INVALID_DELETIONS where the deltas list no valid deletions, and `faulty` is the
+ * first delta at fault, as above. LINKER_UTILS_NOT_MERGEABLE, and `faulty` is the first additional
+ * deletion that overlaps an old or an earlier additional one, or ends past 2^64 - 1.
+ * LINKER_UTILS_OUT_OF_MEMORY. It takes no memory where the additional deletions ascend and can be
+ * merged. */
 static inline uint32_t linker_utils_deltas_merge(const struct linker_utils_delta *deltas,
                                                  size_t deltas_len,
                                                  const struct linker_utils_deletion *additional,
@@ -971,8 +974,9 @@ static inline uint64_t linker_utils_deltas_total_deleted(const struct linker_uti
         LINKER_UTILS_SLICE(const struct linker_utils_delta, deltas), deltas_len);
 }
 
-/* The offset in the output section of what stands at an input offset: how many kept bytes lie below
- * it. Inside a deletion that is the offset of what follows it. The search takes O(log n). */
+/* The offset in the output section of what is at an input offset: how many kept bytes lie below it.
+ * Of an offset inside a deletion it is that of what follows the deletion. The search takes
+ * O(log n). */
 static inline uint64_t linker_utils_deltas_input_to_output(const struct linker_utils_delta *deltas,
                                                            size_t deltas_len,
                                                            uint64_t input_offset) {
@@ -1010,8 +1014,8 @@ static inline uint32_t linker_utils_deltas_translate_all(const struct linker_uti
  * the deltas. Each call is defined for any heads; its result is promised of those that
  * `linker_utils_deltas_heads` wrote of the same deltas. */
 
-/* The first delta of a block of 64, as far as a search reads it: its input offset, and that less
- * the bytes of all deletions before. */
+/* The first delta of a block of 64: its input offset, and its output offset, which is that less the
+ * bytes of all deletions before it. */
 struct linker_utils_block_head {
     uint64_t input_offset;
     uint64_t output_place;
@@ -1038,7 +1042,8 @@ static inline size_t linker_utils_deltas_block_count(const struct linker_utils_d
         LINKER_UTILS_SLICE(const struct linker_utils_delta, deltas), deltas_len);
 }
 
-/* Writes the heads of the deltas' blocks, as many as these. LINKER_UTILS_DIFFERENT_LENGTHS. */
+/* Writes the heads of the deltas' blocks, one for each. LINKER_UTILS_DIFFERENT_LENGTHS where
+ * `heads_len` is not `linker_utils_deltas_block_count`. */
 static inline uint32_t linker_utils_deltas_heads(const struct linker_utils_delta *deltas,
                                                  size_t deltas_len,
                                                  struct linker_utils_block_head *heads,
@@ -1048,8 +1053,8 @@ static inline uint32_t linker_utils_deltas_heads(const struct linker_utils_delta
         LINKER_UTILS_SLICE(struct linker_utils_block_head, heads), heads_len);
 }
 
-/* `linker_utils_deltas_input_to_output` with the heads of the deltas' blocks. Of heads that are not
- * as many as blocks it makes no use. The search takes O(log n). */
+/* `linker_utils_deltas_input_to_output` with the heads of the deltas' blocks. If there are not as
+ * many heads as blocks, it ignores them. The search takes O(log n). */
 static inline uint64_t linker_utils_deltas_input_to_output_by_heads(
     const struct linker_utils_delta *deltas, size_t deltas_len,
     const struct linker_utils_block_head *heads, size_t heads_len, uint64_t input_offset) {
@@ -1099,10 +1104,10 @@ static inline size_t linker_utils_packed_len(const uint8_t *section, size_t sect
  * `enum linker_utils_link_register`. A deletion that reaches past the section's end deletes up to
  * there. LINKER_UTILS_UNKNOWN_LINK_REGISTER. LINKER_UTILS_CALLS_NOT_APART, and `faulty` is the
  * first call whose site is less than 4 above that of the one before it.
- * LINKER_UTILS_DIFFERENT_LENGTHS where `packed` has not `linker_utils_packed_len` bytes. Then, and
- * `faulty` is the first call that can't become a jump: LINKER_UTILS_OUT_OF_SECTION,
- * LINKER_UTILS_SITE_DELETED, LINKER_UTILS_NOT_A_CALL, LINKER_UTILS_ODD_DISTANCE,
- * LINKER_UTILS_TOO_FAR. */
+ * LINKER_UTILS_DIFFERENT_LENGTHS where `packed_len` is not `linker_utils_packed_len`. If a call
+ * can't become a jump, `faulty` is the first such call, and the status is that of its cause:
+ * LINKER_UTILS_OUT_OF_SECTION, LINKER_UTILS_SITE_DELETED, LINKER_UTILS_NOT_A_CALL,
+ * LINKER_UTILS_ODD_DISTANCE, LINKER_UTILS_TOO_FAR. */
 static inline uint32_t linker_utils_pack(const uint8_t *section, size_t section_len,
                                          const struct linker_utils_delta *deltas,
                                          size_t deltas_len, const struct linker_utils_call *calls,
@@ -1144,15 +1149,16 @@ static inline uint32_t linker_utils_calls_shrinkable(const struct linker_utils_d
         faulty ? faulty : &ignored);
 }
 
-/* Writes for each call 1 where it is chosen, and else 0. A choice is in reach where, once each of
- * its calls has given up the four bytes at (site + 4, 4), the distance of each from its site to its
- * target is even and in the range of `jal`. The one that is written is the greatest: each choice in
- * reach is part of it. Its deletions are then to be merged, and its calls to be packed.
+/* Writes 1 for each call that is chosen, and 0 for the others. A choice is in reach if, once the
+ * four bytes (site + 4, 4) of each of its calls are deleted, the distance of each from its site to
+ * its target is even and in the range of `jal`. The choice that is written is the greatest: every
+ * choice in reach is part of it. The caller then merges its deletions, and packs the section with
+ * its calls.
  *
- * LINKER_UTILS_DIFFERENT_LENGTHS where `chosen` has not as many bytes as there are calls.
- * LINKER_UTILS_CALLS_NOT_SHRINKABLE as `linker_utils_calls_shrinkable`. It takes no memory. For k
- * calls beside n deltas a sweep takes O(k (log n + log k + k / 1024)); there are mostly less than
- * ten, and at most k + 1. */
+ * LINKER_UTILS_DIFFERENT_LENGTHS where `chosen_len` is not `calls_len`.
+ * LINKER_UTILS_CALLS_NOT_SHRINKABLE as `linker_utils_calls_shrinkable`. It takes no memory. A sweep
+ * over k calls beside n deltas takes O(k (log n + log k + k / 1024)). There are mostly less than
+ * ten sweeps, and at most k + 1. */
 static inline uint32_t linker_utils_shrink_calls(const struct linker_utils_delta *deltas,
                                                  size_t deltas_len,
                                                  const struct linker_utils_call *calls,
