@@ -12,9 +12,18 @@ use Rattle.linker_base.specs.Rewrite.{Rewrite, replaces}
 use Rattle.linker_base.specs.declared.relaxation.RelocationModifier.{RelocationModifier}
 use Rattle.linker_base.specs.declared.relaxation.RelocationModifier.TheVariants.{Normal}
 use Rattle.linker_utils.specs.declared.aarch64.RelaxationKind.{RelaxationKind}
-use Rattle.linker_utils.specs.declared.aarch64.RelaxationKind.TheVariants.{NoOp, ReplaceWithNop, MovzX0Lsl16, MovkX0, MovzXnLsl16, MovkXn, AdrpToAdr, AdrpX0, LdrX0, AddToAdr, LdrToAdr, LdrToAdd, AdrpAddToNopAdr}
+use Rattle.linker_utils.specs.declared.aarch64.RelaxationKind.TheVariants.{NoOp, ReplaceWithNop}
+use Rattle.linker_utils.specs.declared.aarch64.RelaxationKind.TheVariants.{MovzX0Lsl16, MovkX0}
+use Rattle.linker_utils.specs.declared.aarch64.RelaxationKind.TheVariants.{MovzXnLsl16, MovkXn}
+use Rattle.linker_utils.specs.declared.aarch64.RelaxationKind.TheVariants.{AdrpToAdr, AdrpX0, LdrX0}
+use Rattle.linker_utils.specs.declared.aarch64.RelaxationKind.TheVariants.{AddToAdr, LdrToAdr}
+use Rattle.linker_utils.specs.declared.aarch64.RelaxationKind.TheVariants.{LdrToAdd}
+use Rattle.linker_utils.specs.declared.aarch64.RelaxationKind.TheVariants.{AdrpAddToNopAdr}
 use Rattle.linker_utils.specs.declared.elf.AArch64Instruction.{AArch64Instruction}
-use Rattle.linker_utils.specs.declared.elf.AArch64Instruction.TheVariants.{Adr, Movkz, Movnz, Ldr, LdrRegister, Add, LdSt, TstBr, Bcond, JumpCall, MachOLow12}
+use Rattle.linker_utils.specs.declared.elf.AArch64Instruction.TheVariants.{Adr, Movkz, Movnz, Ldr}
+use Rattle.linker_utils.specs.declared.elf.AArch64Instruction.TheVariants.{LdrRegister, Add, LdSt}
+use Rattle.linker_utils.specs.declared.elf.AArch64Instruction.TheVariants.{TstBr, Bcond, JumpCall}
+use Rattle.linker_utils.specs.declared.elf.AArch64Instruction.TheVariants.{MachOLow12}
 
 -- ---- moves of 16 bits
 

@@ -3,13 +3,26 @@ use Rattle.std.specs.Prelude.{ℕ, ℤ, true, false, Option, Some, None}
 use Rattle.linker_utils.specs.Elf.{bit_bounds, signed_or_unsigned}
 use Rattle.linker_utils.specs.declared.elf.Sign.TheVariants.{Signed, Unsigned}
 use Rattle.linker_utils.specs.declared.elf.RelocationKind.{RelocationKind}
-use Rattle.linker_utils.specs.declared.elf.RelocationKind.TheVariants.{Absolute, AbsoluteLowPart, DtpOff, Got, GotRelGotBase, GotRelative, GotTpOff, GotTpOffGot, GotTpOffGotBase, PltRelative, Relative, SymRelGotBase, TlsDesc, TlsDescCall, TlsDescGot, TlsDescGotBase, TlsGd, TlsGdGot, TlsGdGotBase, TlsLd, TlsLdGot, TlsLdGotBase, TpOff}
+use Rattle.linker_utils.specs.declared.elf.RelocationKind.TheVariants.{Absolute, AbsoluteLowPart}
+use Rattle.linker_utils.specs.declared.elf.RelocationKind.TheVariants.{DtpOff, Got, GotRelGotBase}
+use Rattle.linker_utils.specs.declared.elf.RelocationKind.TheVariants.{GotRelative, GotTpOff}
+use Rattle.linker_utils.specs.declared.elf.RelocationKind.TheVariants.{GotTpOffGot, GotTpOffGotBase}
+use Rattle.linker_utils.specs.declared.elf.RelocationKind.TheVariants.{PltRelative, Relative}
+use Rattle.linker_utils.specs.declared.elf.RelocationKind.TheVariants.{SymRelGotBase, TlsDesc}
+use Rattle.linker_utils.specs.declared.elf.RelocationKind.TheVariants.{TlsDescCall, TlsDescGot}
+use Rattle.linker_utils.specs.declared.elf.RelocationKind.TheVariants.{TlsDescGotBase, TlsGd}
+use Rattle.linker_utils.specs.declared.elf.RelocationKind.TheVariants.{TlsGdGot, TlsGdGotBase}
+use Rattle.linker_utils.specs.declared.elf.RelocationKind.TheVariants.{TlsLd, TlsLdGot}
+use Rattle.linker_utils.specs.declared.elf.RelocationKind.TheVariants.{TlsLdGotBase, TpOff}
 use Rattle.linker_utils.specs.declared.elf.RelocationKind.TheVariants.{None as NoValue}
 use Rattle.linker_utils.specs.declared.elf.RelocationSize.{RelocationSize}
 use Rattle.linker_utils.specs.declared.elf.RelocationSize.TheVariants.{ByteSize, BitMasking}
 use Rattle.linker_utils.specs.declared.elf.RelocationInstruction.TheVariants.{AArch64}
 use Rattle.linker_utils.specs.declared.elf.AArch64Instruction.{AArch64Instruction}
-use Rattle.linker_utils.specs.declared.elf.AArch64Instruction.TheVariants.{Add, Adr, Bcond, JumpCall, LdSt, Ldr, LdrRegister, Movkz, Movnz, TstBr}
+use Rattle.linker_utils.specs.declared.elf.AArch64Instruction.TheVariants.{Add, Adr, Bcond}
+use Rattle.linker_utils.specs.declared.elf.AArch64Instruction.TheVariants.{JumpCall, LdSt, Ldr}
+use Rattle.linker_utils.specs.declared.elf.AArch64Instruction.TheVariants.{LdrRegister, Movkz}
+use Rattle.linker_utils.specs.declared.elf.AArch64Instruction.TheVariants.{Movnz, TstBr}
 use Rattle.linker_utils.specs.declared.elf.PageMask.{PageMask}
 use Rattle.linker_utils.specs.declared.elf.PageMask.TheVariants.{SymbolPlusAddendAndPosition}
 use Rattle.linker_utils.specs.declared.elf.PageMask.TheVariants.{GotEntryAndPosition, GotBase}

@@ -12,7 +12,9 @@ use Rattle.linker_base.specs.Rewrite.{Rewrite, replaces}
 use Rattle.linker_base.specs.declared.relaxation.RelocationModifier.{RelocationModifier}
 use Rattle.linker_base.specs.declared.relaxation.RelocationModifier.TheVariants.{Normal}
 use Rattle.linker_utils.specs.declared.elf.LoongArch64Instruction.{LoongArch64Instruction}
-use Rattle.linker_utils.specs.declared.elf.LoongArch64Instruction.TheVariants.{Shift5, Shift10, Branch26, Branch21, Call30, Call36}
+use Rattle.linker_utils.specs.declared.elf.LoongArch64Instruction.TheVariants.{Shift5, Shift10}
+use Rattle.linker_utils.specs.declared.elf.LoongArch64Instruction.TheVariants.{Branch26, Branch21}
+use Rattle.linker_utils.specs.declared.elf.LoongArch64Instruction.TheVariants.{Call30, Call36}
 use Rattle.linker_utils.specs.declared.loongarch64.rewrites.RelaxationKind.{RelaxationKind}
 use Rattle.linker_utils.specs.declared.loongarch64.rewrites.RelaxationKind.TheVariants.{NoOp, ReplaceWithNop}
 

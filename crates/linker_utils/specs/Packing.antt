@@ -1,13 +1,17 @@
 -- The kept bytes of a section, in order, with its calls made jumps.
-use Rattle.std.specs.Prelude.{◌≡◌, ℕ, ◌+◌, ◌<◌, ◌≤◌, List, All, AllPairs, length, slice_index, slice_index_or, take, pos, ◌+ℤ◌, ⊤}
+use Rattle.std.specs.Prelude.{◌≡◌, ℕ, ◌+◌, ◌<◌, ◌≤◌, List, All, AllPairs, length, slice_index}
+use Rattle.std.specs.Prelude.{slice_index_or, take, pos, ◌+ℤ◌, ⊤}
 use Rattle.linker_base.specs.Deletions.{IsSelected, rank}
-use Rattle.linker_utils.specs.RiscV.{riscv_form, word_at, IsEven, IsJalDistance, IsSiteKept, output_distance, call_len, NamesRegister, link_register, IsJal}
+use Rattle.linker_utils.specs.RiscV.{riscv_form, word_at, IsEven, IsJalDistance, IsSiteKept}
+use Rattle.linker_utils.specs.RiscV.{output_distance, call_len, NamesRegister, link_register, IsJal}
 use Rattle.linker_utils.specs.declared.elf.RiscVInstruction.TheVariants.{JType}
 use Rattle.linker_utils.specs.declared.relaxation.packing.PackError.{PackError}
 use Rattle.linker_utils.specs.declared.relaxation.packing.PackError.TheVariants.{OutOfMemory, Call as RejectedCall}
 use Rattle.linker_utils.specs.declared.riscv64.calls.LinkRegister.{LinkRegister}
 use Rattle.linker_utils.specs.declared.riscv64.calls.LinkRegister.TheVariants.{OfAuipc}
-use Rattle.linker_utils.specs.declared.riscv64.calls.CallError.TheVariants.{OutOfSection, SiteDeleted, OddDistance, TooFar}
+use Rattle.linker_utils.specs.declared.riscv64.calls.CallError.TheVariants.{OutOfSection}
+use Rattle.linker_utils.specs.declared.riscv64.calls.CallError.TheVariants.{SiteDeleted}
+use Rattle.linker_utils.specs.declared.riscv64.calls.CallError.TheVariants.{OddDistance, TooFar}
 use Rattle.linker_utils.specs.declared.riscv64.calls.JumpError.{JumpError}
 use Rattle.linker_utils.specs.declared.riscv64.calls.JumpError.TheVariants.{Call, NotACall}
 

@@ -2,7 +2,10 @@
 use Rattle.std.specs.Prelude.{ℕ, false, Option, Some, None}
 use Rattle.linker_utils.specs.declared.elf.AllowedRange.{AllowedRange}
 use Rattle.linker_utils.specs.declared.elf.RelocationKind.{RelocationKind}
-use Rattle.linker_utils.specs.declared.elf.RelocationKind.TheVariants.{Absolute, Relative, SymRelGotBase, TpOff, DtpOff, GotTpOffGotBase, TlsGdGotBase, TlsLdGotBase}
+use Rattle.linker_utils.specs.declared.elf.RelocationKind.TheVariants.{Absolute, Relative}
+use Rattle.linker_utils.specs.declared.elf.RelocationKind.TheVariants.{SymRelGotBase, TpOff, DtpOff}
+use Rattle.linker_utils.specs.declared.elf.RelocationKind.TheVariants.{GotTpOffGotBase}
+use Rattle.linker_utils.specs.declared.elf.RelocationKind.TheVariants.{TlsGdGotBase, TlsLdGotBase}
 use Rattle.linker_utils.specs.declared.elf.RelocationKind.TheVariants.{None as NoValue}
 use Rattle.linker_utils.specs.declared.elf.RelocationKindInfo.{RelocationKindInfo}
 use Rattle.linker_utils.specs.declared.elf.RelocationSize.{RelocationSize}

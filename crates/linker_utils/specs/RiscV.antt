@@ -16,11 +16,18 @@ use Rattle.linker_base.specs.declared.relaxation.RelocationModifier.{RelocationM
 use Rattle.linker_base.specs.declared.relaxation.RelocationModifier.TheVariants.{Normal}
 use Rattle.linker_base.specs.declared.relaxation.RelocationModifier.TheVariants.{SkipNextRelocation}
 use Rattle.linker_utils.specs.declared.elf.RiscVInstruction.{RiscVInstruction}
-use Rattle.linker_utils.specs.declared.elf.RiscVInstruction.TheVariants.{UType, IType, SType, BType, JType, CbType, CjType, CluiType, UiType}
+use Rattle.linker_utils.specs.declared.elf.RiscVInstruction.TheVariants.{UType, IType, SType, BType}
+use Rattle.linker_utils.specs.declared.elf.RiscVInstruction.TheVariants.{JType, CbType, CjType}
+use Rattle.linker_utils.specs.declared.elf.RiscVInstruction.TheVariants.{CluiType, UiType}
 use Rattle.linker_utils.specs.declared.riscv64.calls.LinkRegister.{LinkRegister}
 use Rattle.linker_utils.specs.declared.riscv64.calls.LinkRegister.TheVariants.{OfAuipc, OfJalr}
 use Rattle.linker_utils.specs.declared.riscv64.rewrites.RelaxationKind.{RelaxationKind}
-use Rattle.linker_utils.specs.declared.riscv64.rewrites.RelaxationKind.TheVariants.{NoOp, ReplaceWithNop, CallToJal, Hi20ToCLui, Hi20Delete, Lo12Rs1ToZero}
+use Rattle.linker_utils.specs.declared.riscv64.rewrites.RelaxationKind.TheVariants.{NoOp}
+use Rattle.linker_utils.specs.declared.riscv64.rewrites.RelaxationKind.TheVariants.{ReplaceWithNop}
+use Rattle.linker_utils.specs.declared.riscv64.rewrites.RelaxationKind.TheVariants.{CallToJal}
+use Rattle.linker_utils.specs.declared.riscv64.rewrites.RelaxationKind.TheVariants.{Hi20ToCLui}
+use Rattle.linker_utils.specs.declared.riscv64.rewrites.RelaxationKind.TheVariants.{Hi20Delete}
+use Rattle.linker_utils.specs.declared.riscv64.rewrites.RelaxationKind.TheVariants.{Lo12Rs1ToZero}
 
 -- the places of a high part and of the low part in the second word
 abbrev pub ui_high : List ImmediateBit

@@ -2,13 +2,24 @@
 use Rattle.std.specs.Prelude.{ℕ, false, Option, Some, None, ℤ, pos, negsuc}
 use Rattle.linker_utils.specs.Elf.{signed_or_unsigned}
 use Rattle.linker_utils.specs.declared.elf.RelocationKind.{RelocationKind}
-use Rattle.linker_utils.specs.declared.elf.RelocationKind.TheVariants.{None as NoValue, Absolute, Relative, PltRelative, GotRelative, GotTpOff, TlsGd, RelativeRiscVLow12, TpOff, AbsoluteAddition, AbsoluteSubtraction, AbsoluteSubtractionWord6, AbsoluteSetWord6, AbsoluteSet, Alignment, PairSubtractionULEB128RiscV}
+use Rattle.linker_utils.specs.declared.elf.RelocationKind.TheVariants.{None as NoValue, Absolute}
+use Rattle.linker_utils.specs.declared.elf.RelocationKind.TheVariants.{Relative, PltRelative}
+use Rattle.linker_utils.specs.declared.elf.RelocationKind.TheVariants.{GotRelative, GotTpOff, TlsGd}
+use Rattle.linker_utils.specs.declared.elf.RelocationKind.TheVariants.{RelativeRiscVLow12, TpOff}
+use Rattle.linker_utils.specs.declared.elf.RelocationKind.TheVariants.{AbsoluteAddition}
+use Rattle.linker_utils.specs.declared.elf.RelocationKind.TheVariants.{AbsoluteSubtraction}
+use Rattle.linker_utils.specs.declared.elf.RelocationKind.TheVariants.{AbsoluteSubtractionWord6}
+use Rattle.linker_utils.specs.declared.elf.RelocationKind.TheVariants.{AbsoluteSetWord6}
+use Rattle.linker_utils.specs.declared.elf.RelocationKind.TheVariants.{AbsoluteSet, Alignment}
+use Rattle.linker_utils.specs.declared.elf.RelocationKind.TheVariants.{PairSubtractionULEB128RiscV}
 use Rattle.linker_utils.specs.declared.elf.RelocationInstruction.TheVariants.{RiscV}
 use Rattle.linker_utils.specs.declared.elf.RelocationKindInfo.{RelocationKindInfo}
 use Rattle.linker_utils.specs.declared.elf.RelocationSize.TheVariants.{ByteSize, BitMasking}
 use Rattle.linker_utils.specs.declared.elf.RelocationKind.TheVariants.{TlsDesc, TlsDescCall}
 use Rattle.linker_utils.specs.declared.elf.RiscVInstruction.{RiscVInstruction}
-use Rattle.linker_utils.specs.declared.elf.RiscVInstruction.TheVariants.{UType, IType, SType, BType, JType, CbType, CjType, CluiType, UiType}
+use Rattle.linker_utils.specs.declared.elf.RiscVInstruction.TheVariants.{UType, IType, SType, BType}
+use Rattle.linker_utils.specs.declared.elf.RiscVInstruction.TheVariants.{JType, CbType, CjType}
+use Rattle.linker_utils.specs.declared.elf.RiscVInstruction.TheVariants.{CluiType, UiType}
 use Rattle.linker_utils.specs.declared.elf.Uleb128Role.{Uleb128Role}
 use Rattle.linker_utils.specs.declared.elf.Uleb128Role.TheVariants.{Sets, Subtracts}
 use Rattle.linker_utils.specs.declared.riscv64.relocations.RiscVRelocation.{RiscVRelocation}

@@ -1,7 +1,8 @@
 -- Which calls become jumps when each that does gives up the four bytes after its first instruction
 -- (RISC-V ELF psABI, "Function Call Relaxation"). A choice of calls is a list of truth values, one
 -- for each call.
-use Rattle.std.specs.Prelude.{◌≡◌, ℕ, ◌+◌, ◌<◌, ◌≤◌, Bool, true, false, List, [], ◌∷◌, ◌++◌, All, AllPairs, length, map, slice_index_or, take}
+use Rattle.std.specs.Prelude.{◌≡◌, ℕ, ◌+◌, ◌<◌, ◌≤◌, Bool, true, false, List, [], ◌∷◌, ◌++◌, All}
+use Rattle.std.specs.Prelude.{AllPairs, length, map, slice_index_or, take}
 use Rattle.linker_base.specs.Deletions.{AreDisjoint, AreKept, IsInsideDeletion, IsSortedUnion}
 use Rattle.linker_utils.specs.Packing.{IsRejected}
 use Rattle.linker_utils.specs.RiscV.{IsEven, IsJalDistance, output_distance}

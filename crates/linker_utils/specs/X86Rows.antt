@@ -2,7 +2,13 @@
 use Rattle.std.specs.Prelude.{ℕ, false, Option, Some, None}
 use Rattle.linker_utils.specs.declared.elf.AllowedRange.{AllowedRange}
 use Rattle.linker_utils.specs.declared.elf.RelocationKind.{RelocationKind}
-use Rattle.linker_utils.specs.declared.elf.RelocationKind.TheVariants.{TlsDescCall, Absolute, Relative, GotRelGotBase, SymRelGotBase, PltRelative, PltRelGotBase, GotRelative, SymbolSize, TlsGd, TlsLd, DtpOff, GotTpOff, TpOff, TlsDesc}
+use Rattle.linker_utils.specs.declared.elf.RelocationKind.TheVariants.{TlsDescCall, Absolute}
+use Rattle.linker_utils.specs.declared.elf.RelocationKind.TheVariants.{Relative, GotRelGotBase}
+use Rattle.linker_utils.specs.declared.elf.RelocationKind.TheVariants.{SymRelGotBase, PltRelative}
+use Rattle.linker_utils.specs.declared.elf.RelocationKind.TheVariants.{PltRelGotBase, GotRelative}
+use Rattle.linker_utils.specs.declared.elf.RelocationKind.TheVariants.{SymbolSize, TlsGd, TlsLd}
+use Rattle.linker_utils.specs.declared.elf.RelocationKind.TheVariants.{DtpOff, GotTpOff, TpOff}
+use Rattle.linker_utils.specs.declared.elf.RelocationKind.TheVariants.{TlsDesc}
 use Rattle.linker_utils.specs.declared.elf.RelocationKind.TheVariants.{None as NoValue}
 use Rattle.linker_utils.specs.declared.elf.RelocationKindInfo.{RelocationKindInfo}
 use Rattle.linker_utils.specs.declared.elf.RelocationSize.{RelocationSize}

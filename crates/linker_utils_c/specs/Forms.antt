@@ -12,7 +12,9 @@ use Rattle.linker_utils.specs.declared.elf.RelocationInstruction.{RelocationInst
 use Rattle.linker_utils.specs.declared.elf.RelocationInstruction.TheVariants.{AArch64, RiscV}
 use Rattle.linker_utils.specs.declared.elf.RelocationInstruction.TheVariants.{LoongArch64, Ppc64}
 use Rattle.linker_utils_c.specs.declared.status.Status.{Status}
-use Rattle.linker_utils_c.specs.declared.status.Status.TheVariants.{Success, UnknownArchitecture, UnknownForm, TooShort, DoesNotFit}
+use Rattle.linker_utils_c.specs.declared.status.Status.TheVariants.{Success, UnknownArchitecture}
+use Rattle.linker_utils_c.specs.declared.status.Status.TheVariants.{UnknownForm, TooShort}
+use Rattle.linker_utils_c.specs.declared.status.Status.TheVariants.{DoesNotFit}
 use Rattle.linker_utils_c.specs.Status.{code}
 
 -- the form at a place of a list

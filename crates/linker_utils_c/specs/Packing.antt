@@ -8,7 +8,9 @@ use Rattle.linker_utils.specs.declared.riscv64.calls.JumpError.{JumpError}
 use Rattle.linker_utils.specs.declared.riscv64.calls.JumpError.TheVariants as jump_errors
 use Rattle.linker_utils_c.specs.declared.packing.Call.{Call}
 use Rattle.linker_utils_c.specs.declared.status.Status.{Status}
-use Rattle.linker_utils_c.specs.declared.status.Status.TheVariants.{Success, OutOfSection, SiteDeleted, OddDistance, TooFar, NotACall}
+use Rattle.linker_utils_c.specs.declared.status.Status.TheVariants.{Success, OutOfSection}
+use Rattle.linker_utils_c.specs.declared.status.Status.TheVariants.{SiteDeleted, OddDistance}
+use Rattle.linker_utils_c.specs.declared.status.Status.TheVariants.{TooFar, NotACall}
 use Rattle.linker_utils_c.specs.Status.{code}
 
 abbrev pub call_of : Call → ℕ × ℕ

@@ -1,5 +1,6 @@
 -- The value, the reach and the write of a relocation that is named by numbers.
-use Rattle.std.specs.Prelude.{◌≡◌, ◌≢◌, ℕ, ◌<◌, ◌≤◌, List, [], ◌∷◌, ◌++◌, length, take, drop, slice_index_or, Option, None, Some, Result, Ok, Err, ℤ, pos}
+use Rattle.std.specs.Prelude.{◌≡◌, ◌≢◌, ℕ, ◌<◌, ◌≤◌, List, [], ◌∷◌, ◌++◌, length, take, drop}
+use Rattle.std.specs.Prelude.{slice_index_or, Option, None, Some, Result, Ok, Err, ℤ, pos}
 use Rattle.linker_base.specs.Uleb.{IsUlebWritten, IsUlebCause}
 use Rattle.linker_base.specs.declared.utils.Uleb128Error.{Uleb128Error}
 use Rattle.linker_base.specs.declared.utils.Uleb128Error.TheVariants as uleb_errors
@@ -23,7 +24,10 @@ use Rattle.linker_utils_c.specs.Status.{code}
 use Rattle.linker_utils_c.specs.declared.relocate.Reach.{Reach}
 use Rattle.linker_utils_c.specs.declared.relocate.Relocation.{Relocation}
 use Rattle.linker_utils_c.specs.declared.status.Status.{Status}
-use Rattle.linker_utils_c.specs.declared.status.Status.TheVariants.{Success, UnknownRelocation, TooShort, Misaligned, OutOfReach, NoValue, Uleb128Pair}
+use Rattle.linker_utils_c.specs.declared.status.Status.TheVariants.{Success, UnknownRelocation}
+use Rattle.linker_utils_c.specs.declared.status.Status.TheVariants.{TooShort, Misaligned}
+use Rattle.linker_utils_c.specs.declared.status.Status.TheVariants.{OutOfReach, NoValue}
+use Rattle.linker_utils_c.specs.declared.status.Status.TheVariants.{Uleb128Pair}
 use Rattle.linker_utils_c.specs.declared.status.Status.TheVariants.{Uleb128Ended, DoesNotFit}
 use Rattle.linker_utils_c.specs.declared.status.Status.TheVariants.{Uleb128TooLarge}
 

@@ -1,7 +1,22 @@
 -- The statuses that C sees as numbers.
 use Rattle.std.specs.Prelude.{◌≡◌, ℕ, ◌<◌, ◌≤◌, List, length}
 use Rattle.linker_utils_c.specs.declared.status.Status.{Status}
-use Rattle.linker_utils_c.specs.declared.status.Status.TheVariants.{Success, UnknownArchitecture, UnknownForm, UnknownRewrite, UnknownRelocation, TooShort, DoesNotFit, CannotApply, BadRegister, OutOfSection, SiteDeleted, OddDistance, TooFar, InvalidDeletions, NotMergeable, TooLarge, NotAscending, DifferentLengths, OutOfMemory, Uleb128Ended, Uleb128TooLarge, UnknownLinkRegister, CallsNotApart, NotACall, CallsNotShrinkable, Misaligned, OutOfReach, NoValue, Uleb128Pair}
+use Rattle.linker_utils_c.specs.declared.status.Status.TheVariants.{Success, UnknownArchitecture}
+use Rattle.linker_utils_c.specs.declared.status.Status.TheVariants.{UnknownForm, UnknownRewrite}
+use Rattle.linker_utils_c.specs.declared.status.Status.TheVariants.{UnknownRelocation, TooShort}
+use Rattle.linker_utils_c.specs.declared.status.Status.TheVariants.{DoesNotFit, CannotApply}
+use Rattle.linker_utils_c.specs.declared.status.Status.TheVariants.{BadRegister, OutOfSection}
+use Rattle.linker_utils_c.specs.declared.status.Status.TheVariants.{SiteDeleted, OddDistance}
+use Rattle.linker_utils_c.specs.declared.status.Status.TheVariants.{TooFar, InvalidDeletions}
+use Rattle.linker_utils_c.specs.declared.status.Status.TheVariants.{NotMergeable, TooLarge}
+use Rattle.linker_utils_c.specs.declared.status.Status.TheVariants.{NotAscending, DifferentLengths}
+use Rattle.linker_utils_c.specs.declared.status.Status.TheVariants.{OutOfMemory, Uleb128Ended}
+use Rattle.linker_utils_c.specs.declared.status.Status.TheVariants.{Uleb128TooLarge}
+use Rattle.linker_utils_c.specs.declared.status.Status.TheVariants.{UnknownLinkRegister}
+use Rattle.linker_utils_c.specs.declared.status.Status.TheVariants.{CallsNotApart, NotACall}
+use Rattle.linker_utils_c.specs.declared.status.Status.TheVariants.{CallsNotShrinkable, Misaligned}
+use Rattle.linker_utils_c.specs.declared.status.Status.TheVariants.{OutOfReach, NoValue}
+use Rattle.linker_utils_c.specs.declared.status.Status.TheVariants.{Uleb128Pair}
 
 abbrev pub code : Status → ℕ
 code Success = 0

@@ -2,7 +2,8 @@
 use Rattle.std.specs.Prelude.{◌≡◌, ℕ, ◌<◌, ◌^◌, List, [], ◌∷◌, codes}
 use Rattle.std.specs.Str.Parse.{IsNumeral, digits_value}
 use Rattle.linkfix.specs.declared.commands.Command.{Command}
-use Rattle.linkfix.specs.declared.commands.Command.TheVariants.{Call, Delete, Pack, Show, ToInput, ToOutput}
+use Rattle.linkfix.specs.declared.commands.Command.TheVariants.{Call, Delete, Pack, Show, ToInput}
+use Rattle.linkfix.specs.declared.commands.Command.TheVariants.{ToOutput}
 
 -- the word is n in one decimal digit or more, and n is below 2 ^ 63
 abbrev pub IsNumber : List ℕ → ℕ → Type 0

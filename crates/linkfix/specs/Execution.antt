@@ -1,13 +1,17 @@
 -- What a command does to the section, which line it prints, which error it gives, and what a run
 -- prints.
-use Rattle.std.specs.Prelude.{◌≡◌, ℕ, List, [], ◌∷◌, ◌++◌, codes, decimal, ◌⊎◌, ◌≢◌, None, Some, All, length, ⊤}
+use Rattle.std.specs.Prelude.{◌≡◌, ℕ, List, [], ◌∷◌, ◌++◌, codes, decimal, ◌⊎◌, ◌≢◌, None, Some}
+use Rattle.std.specs.Prelude.{All, length, ⊤}
 use Rattle.std.specs.Io.BufRead.{drop_through, first_line}
 use Rattle.hex.specs.Hex.{encode_lower}
 use Rattle.linker_base.specs.Deletions.{AreDisjoint, HasInput, IsSelected, IsSortedUnion, rank}
 use Rattle.linker_utils.specs.Packing.{IsFirstRejected, IsPacked}
-use Rattle.linker_utils.specs.RiscV.{IsEven, IsInSection, IsJalDistance, IsSiteKept, JumpsAt, output_distance}
+use Rattle.linker_utils.specs.RiscV.{IsEven, IsInSection, IsJalDistance, IsSiteKept, JumpsAt}
+use Rattle.linker_utils.specs.RiscV.{output_distance}
 use Rattle.linker_utils.specs.declared.riscv64.calls.CallError.{CallError}
-use Rattle.linker_utils.specs.declared.riscv64.calls.CallError.TheVariants.{OutOfSection, SiteDeleted, OddDistance, TooFar}
+use Rattle.linker_utils.specs.declared.riscv64.calls.CallError.TheVariants.{OutOfSection}
+use Rattle.linker_utils.specs.declared.riscv64.calls.CallError.TheVariants.{SiteDeleted}
+use Rattle.linker_utils.specs.declared.riscv64.calls.CallError.TheVariants.{OddDistance, TooFar}
 use Rattle.linker_utils.specs.declared.riscv64.calls.JumpError.TheVariants.{Call as JumpFailed}
 use Rattle.linker_utils.specs.declared.riscv64.calls.LinkRegister.TheVariants.{OfAuipc}
 use Rattle.linkfix.specs.AcceptedCalls.{AreBySite, IsFarFrom}
@@ -15,9 +19,13 @@ use Rattle.linkfix.specs.DecodedHex.{decoded_hex}
 use Rattle.linkfix.specs.CommandSyntax.{IsWrittenAs}
 use Rattle.linkfix.specs.Words.{words_of}
 use Rattle.linkfix.specs.declared.commands.Command.{Command}
-use Rattle.linkfix.specs.declared.commands.Command.TheVariants.{Call, Delete, Pack, Show, ToInput, ToOutput}
+use Rattle.linkfix.specs.declared.commands.Command.TheVariants.{Call, Delete, Pack, Show, ToInput}
+use Rattle.linkfix.specs.declared.commands.Command.TheVariants.{ToOutput}
 use Rattle.linkfix.specs.declared.program.ReportedError.{ReportedError}
-use Rattle.linkfix.specs.declared.program.ReportedError.TheVariants.{BadSection, BadLine, BadDeletion, TooLarge, BadCall, Call as CallFailed, OutOfMemory}
+use Rattle.linkfix.specs.declared.program.ReportedError.TheVariants.{BadSection, BadLine}
+use Rattle.linkfix.specs.declared.program.ReportedError.TheVariants.{BadDeletion, TooLarge, BadCall}
+use Rattle.linkfix.specs.declared.program.ReportedError.TheVariants.{Call as CallFailed}
+use Rattle.linkfix.specs.declared.program.ReportedError.TheVariants.{OutOfMemory}
 use Rattle.linkfix.specs.declared.program.RunError.{RunError}
 use Rattle.linkfix.specs.declared.program.RunError.TheVariants.{Reported, Io}
 use Rattle.linkfix.specs.declared.program.SectionState.{SectionState}

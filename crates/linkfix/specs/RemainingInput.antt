@@ -1,5 +1,6 @@
 -- The part of an input that no line has been taken from yet.
-use Rattle.std.specs.Prelude.{◌≡◌, ◌≢◌, ◌↔◌, ℕ, ◌+◌, ◌-◌, ◌*◌, Bool, IsTrue, List, [], Option, Some, IfSome, slice_range, if◌then◌else◌}
+use Rattle.std.specs.Prelude.{◌≡◌, ◌≢◌, ◌↔◌, ℕ, ◌+◌, ◌-◌, ◌*◌, Bool, IsTrue, List, [], Option, Some}
+use Rattle.std.specs.Prelude.{IfSome, slice_range, if◌then◌else◌}
 use Rattle.std.specs.Io.BufRead.{drop_through, first_line}
 use Rattle.std.specs.Io.KnownBytes.{prepend_known}
 use Rattle.linkfix.specs.declared.input.Lines.{Lines}

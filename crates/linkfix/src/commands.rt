@@ -1,11 +1,13 @@
 //! Command lines.
-ghost use Rattle.std.specs.Prelude.{◌≡◌, ◌≢◌, ℕ, ◌<◌, ◌^◌, List, [], ◌∷◌, ◌≤◌, length, IfOk, OnErr, MatchOption};
+ghost use Rattle.std.specs.Prelude.{◌≡◌, ◌≢◌, ℕ, ◌<◌, ◌^◌, List, [], ◌∷◌, ◌≤◌, length, IfOk, OnErr};
+ghost use Rattle.std.specs.Prelude.{MatchOption};
 ghost use Rattle.std.specs.Iterator.{YieldsFirstBy, item_count};
 ghost use Rattle.std.specs.List.{position_or_len, prefix_len};
 ghost use Rattle.std.specs.Option.{SomeIff};
 ghost use Rattle.std.specs.Str.Parse.{IsNumeral, digits_value};
 ghost use Rattle.linkfix.specs.Words.{is_space, words_of};
-ghost use Rattle.linkfix.specs.CommandSyntax.{BeginsWithCount, BeginsWithNumber, IsCount, IsNumber, IsWrittenAs};
+ghost use Rattle.linkfix.specs.CommandSyntax.{BeginsWithCount, BeginsWithNumber, IsCount, IsNumber};
+ghost use Rattle.linkfix.specs.CommandSyntax.{IsWrittenAs};
 ghost use Rattle.linkfix.specs.declared.commands.Command.{Command};
 
 /// The greatest number in a command.

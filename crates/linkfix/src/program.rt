@@ -1,6 +1,7 @@
 //! The program over any reader and writer.
 
-ghost use Rattle.std.specs.Prelude.{◌≡◌, ◌≢◌, ◌≤◌, ◌↔◌, ◌⊎◌, ◌++◌, ◌∷◌, [], ℕ, List, All, codes, decimal, length, IfSome, IfOk, IfErr, OnOk, OnErr};
+ghost use Rattle.std.specs.Prelude.{◌≡◌, ◌≢◌, ◌≤◌, ◌↔◌, ◌⊎◌, ◌++◌, ◌∷◌, [], ℕ, List, All, codes};
+ghost use Rattle.std.specs.Prelude.{decimal, length, IfSome, IfOk, IfErr, OnOk, OnErr};
 ghost use Rattle.std.specs.String.{string_bytes};
 ghost use Rattle.std.specs.Io.KnownBytes.{Appends};
 ghost use Rattle.hex.specs.Hex.{encode_lower};
@@ -11,7 +12,8 @@ ghost use Rattle.linker_utils.specs.declared.riscv64.calls.CallError.{CallError}
 ghost use Rattle.linker_utils.specs.declared.riscv64.calls.LinkRegister.{LinkRegister};
 ghost use Rattle.linkfix.specs.AnswerLines.{answer_line};
 ghost use Rattle.linkfix.specs.ErrorLines.{error_line};
-ghost use Rattle.linkfix.specs.Execution.{CallFailsWith, EndsWith, Executes, ExecutesInput, IsMemoryOrIoError, Rejects, TakesMemoryFirst};
+ghost use Rattle.linkfix.specs.Execution.{CallFailsWith, EndsWith, Executes, ExecutesInput};
+ghost use Rattle.linkfix.specs.Execution.{IsMemoryOrIoError, Rejects, TakesMemoryFirst};
 ghost use Rattle.linkfix.specs.Laws.{RejectedInputsAreNotExecuted};
 ghost use Rattle.linkfix.specs.declared.commands.Command.{Command};
 ghost use Rattle.linkfix.specs.declared.input.InputError.{InputError};

@@ -2,7 +2,8 @@
 
 ghost use Rattle.std.specs.Prelude.{◌≡◌, ◌<◌, ◌≤◌, ◌+◌, ◌-◌, ◌*◌, ◌^◌, ℕ, Bool, List, true, false};
 ghost use Rattle.linker_base.specs.declared.relaxation.RelaxDelta.{RelaxDelta};
-ghost use Rattle.linker_base.specs.declared.relaxation.partition_point.Level.TheVariants.{Heads, Deltas};
+ghost use Rattle.linker_base.specs.declared.relaxation.partition_point.Level.TheVariants.{Heads};
+ghost use Rattle.linker_base.specs.declared.relaxation.partition_point.Level.TheVariants.{Deltas};
 ghost use Rattle.linker_base.specs.declared.relaxation.partition_point.Level.{Level};
 ghost use Rattle.linker_base.specs.declared.relaxation.partition_point.Test.{Test};
 ghost use Rattle.linker_base.specs.Inner.PartitionPoint.{passes, head_passes, IsRangeOf, IsPartOf};

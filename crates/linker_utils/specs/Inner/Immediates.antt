@@ -2,8 +2,10 @@
 use Rattle.std.specs.Prelude.{ℕ, ◌-◌, ◌*◌, ◌^◌, Bool, true, false}
 use Rattle.linker_utils.specs.declared.aarch64.Immediate.{Immediate}
 use Rattle.linker_utils.specs.declared.elf.AArch64Instruction.{AArch64Instruction}
-use Rattle.linker_utils.specs.declared.elf.AArch64Instruction.TheVariants.{Adr, Movkz, Movnz, Ldr, LdrRegister}
-use Rattle.linker_utils.specs.declared.elf.AArch64Instruction.TheVariants.{Add, LdSt, TstBr, Bcond, JumpCall, MachOLow12}
+use Rattle.linker_utils.specs.declared.elf.AArch64Instruction.TheVariants.{Adr, Movkz, Movnz, Ldr}
+use Rattle.linker_utils.specs.declared.elf.AArch64Instruction.TheVariants.{LdrRegister}
+use Rattle.linker_utils.specs.declared.elf.AArch64Instruction.TheVariants.{Add, LdSt, TstBr, Bcond}
+use Rattle.linker_utils.specs.declared.elf.AArch64Instruction.TheVariants.{JumpCall, MachOLow12}
 
 -- the value's bits are ORed to the instruction, and nothing else is written
 abbrev pub is_ored_alone : AArch64Instruction → Bool

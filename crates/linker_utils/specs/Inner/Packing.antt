@@ -1,5 +1,6 @@
 -- What holds while a section is packed.
-use Rattle.std.specs.Prelude.{◌≡◌, ℕ, ◌+◌, ◌<◌, ◌≤◌, List, min, length, IsTrue, slice_index, slice_index_or}
+use Rattle.std.specs.Prelude.{◌≡◌, ℕ, ◌+◌, ◌<◌, ◌≤◌, List, min, length, IsTrue, slice_index}
+use Rattle.std.specs.Prelude.{slice_index_or}
 use Rattle.linker_base.specs.Deletions.{is_kept, rank}
 use Rattle.linker_utils.specs.RiscV.{word_at, output_distance, link_register, IsJal}
 use Rattle.linker_utils.specs.Packing.{IsApart, CanJump, IsNotAt}

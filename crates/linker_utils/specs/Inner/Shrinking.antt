@@ -1,5 +1,7 @@
 -- What holds while calls are chosen.
-use Rattle.std.specs.Prelude.{◌≡◌, ℕ, ◌+◌, ◌-◌, ◌*◌, ◌<◌, ◌≤◌, ◌++◌, Bool, List, All, AllPairs, count_by, drop, length, map, slice_index_or, take, nat_le, if◌then◌else◌, ℤ, pos, ◌-ℤ◌}
+use Rattle.std.specs.Prelude.{◌≡◌, ℕ, ◌+◌, ◌-◌, ◌*◌, ◌<◌, ◌≤◌, ◌++◌, Bool, List, All, AllPairs}
+use Rattle.std.specs.Prelude.{count_by, drop, length, map, slice_index_or, take, nat_le}
+use Rattle.std.specs.Prelude.{if◌then◌else◌, ℤ, pos, ◌-ℤ◌}
 use Rattle.linker_base.specs.Deletions.{AreDisjoint, AreKept, IsInsideDeletion}
 use Rattle.linker_utils.specs.declared.relaxation.shrinking.Runs.{Runs}
 use Rattle.linker_utils.specs.Shrinking.{shrinking, with_chosen, IsInReach, AreInReach, IsPartOf}

@@ -1,12 +1,17 @@
 //! The kept bytes of a section, with its calls made jumps.
 
-ghost use Rattle.std.specs.Prelude.{◌≡◌, ◌≤◌, ◌<◌, ◌+◌, ◌-◌, ◌^◌, ◌++◌, ◌↔◌, ℕ, min, map, take, drop, length, All, IsTrue, IsOk, IfOk, IfErr, OnOk, OnErr, MatchOption};
+ghost use Rattle.std.specs.Prelude.{◌≡◌, ◌≤◌, ◌<◌, ◌+◌, ◌-◌, ◌^◌, ◌++◌, ◌↔◌, ℕ, min, map, take};
+ghost use Rattle.std.specs.Prelude.{drop, length, All, IsTrue, IsOk, IfOk, IfErr, OnOk, OnErr};
+ghost use Rattle.std.specs.Prelude.{MatchOption};
 ghost use Rattle.linker_base.specs.Deletions.{rank};
 ghost use Rattle.linker_base.specs.Deltas.{deletions_of};
 ghost use Rattle.linker_base.specs.Listed.{AreValidDeltas};
 ghost use Rattle.linker_utils.specs.Inner.Packing.{IsFilled, IsPackedTo, IsJumpOf};
-ghost use Rattle.linker_utils.specs.Packing.{AreApart, IsFirstNotApart, CanJump, IsRejected, IsFirstRejected, IsFirstFailing, IsPacked, PackedCallsReachTargets};
-ghost use Rattle.linker_utils.specs.RiscV.{IsEven, IsJalDistance, IsSiteKept, JumpsAndLinks, call_len, link_register, output_distance};
+ghost use Rattle.linker_utils.specs.Packing.{AreApart, IsFirstNotApart, CanJump, IsRejected};
+ghost use Rattle.linker_utils.specs.Packing.{IsFirstRejected, IsFirstFailing, IsPacked};
+ghost use Rattle.linker_utils.specs.Packing.{PackedCallsReachTargets};
+ghost use Rattle.linker_utils.specs.RiscV.{IsEven, IsJalDistance, IsSiteKept, JumpsAndLinks};
+ghost use Rattle.linker_utils.specs.RiscV.{call_len, link_register, output_distance};
 
 use super::{DeltaSlice, RelaxDelta, SectionRelaxDeltas};
 use crate::rewrite::{has_window, overwrite};

@@ -1,12 +1,18 @@
 //! The calls of a section that can become jumps at once.
 
-ghost use Rattle.std.specs.Prelude.{◌≡◌, ◌≤◌, ◌<◌, ◌+◌, ◌-◌, ◌*◌, ◌^◌, ◌++◌, ◌∷◌, [], ◌↔◌, ℕ, Bool, false, nat_lt, slice_set, map, take, length, pos, ◌-ℤ◌, All, IsTrue, IsFalse, IfOk, IfSome, MatchOption};
+ghost use Rattle.std.specs.Prelude.{◌≡◌, ◌≤◌, ◌<◌, ◌+◌, ◌-◌, ◌*◌, ◌^◌, ◌++◌, ◌∷◌, [], ◌↔◌, ℕ, Bool};
+ghost use Rattle.std.specs.Prelude.{false, nat_lt, slice_set, map, take, length, pos, ◌-ℤ◌, All};
+ghost use Rattle.std.specs.Prelude.{IsTrue, IsFalse, IfOk, IfSome, MatchOption};
 ghost use Rattle.linker_base.specs.Deletions.{AreDisjoint, AreKept};
 ghost use Rattle.linker_base.specs.Deltas.{deletions_of};
 ghost use Rattle.linker_base.specs.Listed.{AreValidDeltas};
-ghost use Rattle.linker_utils.specs.Inner.Shrinking.{chosen_count, chosen_between, AreEightApart, IsSplit, KeepsOthers, IsInReachAt, ArePlaced, AreOutside, IsAround, IsApartAt, AreRunsOf, distance_over};
+ghost use Rattle.linker_utils.specs.Inner.Shrinking.{chosen_count, chosen_between, AreEightApart};
+ghost use Rattle.linker_utils.specs.Inner.Shrinking.{IsSplit, KeepsOthers, IsInReachAt, ArePlaced};
+ghost use Rattle.linker_utils.specs.Inner.Shrinking.{AreOutside, IsAround, IsApartAt, AreRunsOf};
+ghost use Rattle.linker_utils.specs.Inner.Shrinking.{distance_over};
 ghost use Rattle.linker_utils.specs.RiscV.{IsEven, IsJalDistance};
-ghost use Rattle.linker_utils.specs.Shrinking.{IsChosen, AreInReach, IsGreatest, AreShrinkable, IsFirstNotShrinkable, ShrunkCallsAreAccepted};
+ghost use Rattle.linker_utils.specs.Shrinking.{IsChosen, AreInReach, IsGreatest, AreShrinkable};
+ghost use Rattle.linker_utils.specs.Shrinking.{IsFirstNotShrinkable, ShrunkCallsAreAccepted};
 
 use super::packing::output_offset;
 use super::{AsCall, DeltaSlice, OutOfMemory, RelaxDelta, SectionRelaxDeltas};

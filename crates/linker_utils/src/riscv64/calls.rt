@@ -1,10 +1,13 @@
 //! RISC-V: calls that become jumps.
 
-ghost use Rattle.std.specs.Prelude.{◌≡◌, ◌≤◌, ◌<◌, ◌+◌, ◌^◌, ◌↔◌, IsTrue, IsOk, OnOk, OnErr, IsNone, IfSome, length, pos, ◌-ℤ◌};
+ghost use Rattle.std.specs.Prelude.{◌≡◌, ◌≤◌, ◌<◌, ◌+◌, ◌^◌, ◌↔◌, IsTrue, IsOk, OnOk, OnErr};
+ghost use Rattle.std.specs.Prelude.{IsNone, IfSome, length, pos, ◌-ℤ◌};
 ghost use Rattle.linker_base.specs.Bits.{field};
 ghost use Rattle.linker_base.specs.Deltas.{deletions_of};
 ghost use Rattle.linker_base.specs.Listed.{AreValidDeltas};
-ghost use Rattle.linker_utils.specs.RiscV.{IsEven, IsJalDistance, JumpsAndLinks, JumpsAt, IsInSection, IsSiteKept, output_distance, IsCallPair, IsPlainCall, call_len, NamesRegister, link_register};
+ghost use Rattle.linker_utils.specs.RiscV.{IsEven, IsJalDistance, JumpsAndLinks, JumpsAt};
+ghost use Rattle.linker_utils.specs.RiscV.{IsInSection, IsSiteKept, output_distance, IsCallPair};
+ghost use Rattle.linker_utils.specs.RiscV.{IsPlainCall, call_len, NamesRegister, link_register};
 
 use crate::bit_misc::BitExtraction;
 use crate::elf::RiscVInstruction;
