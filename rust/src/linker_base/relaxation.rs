@@ -102,7 +102,7 @@ impl SectionRelaxDeltas {
         let mut cumulative_deleted = 0;
         for &(input_offset, bytes_deleted) in raw {
             cumulative_deleted += u64::from(bytes_deleted);
-            deltas.push(RelaxDelta {
+            deltas.push_reserved(RelaxDelta {
                 input_offset,
                 cumulative_deleted,
                 bytes_deleted,

@@ -154,7 +154,7 @@ pub(super) fn reserve_heads(heads: &mut Vec<BlockHead>, len: usize) -> Result<()
 /// Puts the heads of the other blocks behind those of the first blocks, where heads are kept.
 pub(super) fn fill_heads(deltas: &[RelaxDelta], heads: &mut Vec<BlockHead>) {
     for block in heads.len()..count_heads(deltas.len()) {
-        heads.push(BlockHead::of(&deltas[BLOCK_LEN * block]));
+        heads.push_reserved(BlockHead::of(&deltas[BLOCK_LEN * block]));
     }
 }
 

@@ -98,7 +98,7 @@ impl RelaxDeltaMap {
         let sections = self.entries.as_slice();
         let mut entries = Vec::fallible_with_capacity(sections.len())?;
         for (section_index, deltas) in sections {
-            entries.push((*section_index, deltas.clone()?));
+            entries.push_reserved((*section_index, deltas.clone()?));
         }
         Ok(RelaxDeltaMap { entries })
     }
