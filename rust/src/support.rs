@@ -1,5 +1,5 @@
 //! What the proved source has of its standard library and Rust's `alloc` has not: calls that take
-//! memory and return an error where there is none, and what tests name.
+//! memory and return an error where there is none, a push that takes none, and what tests name.
 #![allow(dead_code, unused_macros, reason = "each of three crates uses a part")]
 
 use alloc::borrow::Cow;
@@ -29,7 +29,7 @@ impl<T> Display for AllocFailed<T> {
 
 impl<T> Error for AllocFailed<T> {}
 
-/// Calls that take memory.
+/// Calls that take memory, and one that takes none.
 pub(crate) trait Fallible<T>: Sized {
     fn fallible_with_capacity(capacity: usize) -> Result<Self, AllocError>;
     fn fallible_extend_from_slice(&mut self, items: &[T]) -> Result<(), AllocError>
@@ -37,6 +37,8 @@ pub(crate) trait Fallible<T>: Sized {
         T: Copy;
     fn fallible_push(&mut self, value: T) -> Result<(), AllocFailed<T>>;
     fn fallible_insert(&mut self, at: usize, value: T) -> Result<(), AllocFailed<T>>;
+    /// Pushes a value for which there is room, as the prover has checked.
+    fn push_reserved(&mut self, value: T);
 }
 
 /// A copy of a slice.
@@ -92,6 +94,13 @@ impl<T> Fallible<T> for Vec<T> {
         }
         self.insert(at, value);
         Ok(())
+    }
+
+    // With no call that might grow the vector, a loop keeps its fields in registers.
+    #[inline(always)]
+    fn push_reserved(&mut self, value: T) {
+        assert!(self.len() < self.capacity(), "no room");
+        self.push(value);
     }
 }
 

@@ -23,7 +23,7 @@ mod search;
 mod walk;
 
 pub use blocked_slice::BlockedSlice;
-use blocks::{count_blocks, fill_heads};
+use blocks::{count_heads, fill_heads, reserve_heads};
 pub use blocks::{
     BLOCK_LEN, BlockHead, Counted, Looks, input_to_output_counted, output_to_input_counted,
 };
@@ -109,14 +109,15 @@ impl Model for SectionRelaxDeltas {
 impl SectionRelaxDeltas {
     /// The deletions that `raw` lists, each as an offset and a count of bytes.
     ///
-    /// It takes memory twice, and none where `raw` is empty. `is_valid` tests what it requires.
+    /// It takes memory once, a second time for more than 1,024 deletions, and none where `raw` is
+    /// empty. `is_valid` tests what it requires.
     pub fn new(alloc: Global, raw: &[(u64, u32)]) -> Result<Self, OutOfMemory>
         requires { IsValid raw.now }
         ensures ok { IfOk result (λ section. section ≡ raw.now) }
         ensures empty_succeeds { raw.now ≡ [] → IsOk result }
     {
         let mut deltas = Vec::with_capacity(alloc, raw.len())?;
-        let mut heads = Vec::with_capacity(alloc, count_blocks(raw.len()))?;
+        let mut heads = Vec::with_capacity(alloc, count_heads(raw.len()))?;
         let mut cumulative_deleted = 0;
         for &(input_offset, bytes_deleted) in raw {
             cumulative_deleted += u64::from(bytes_deleted);
@@ -141,8 +142,8 @@ impl SectionRelaxDeltas {
     /// Adds deletions, each an offset and a count of bytes, in any order.
     ///
     /// What is listed is then as `new` makes it of the old and the additional pairs, sorted. Before
-    /// anything changes the list and its heads grow, and pairs that don't ascend are copied, to be
-    /// sorted: memory is asked for at most twice where the pairs ascend, else at most three times,
+    /// anything changes the list grows, and its heads where it has more than 1,024 deltas then, and
+    /// pairs that don't ascend are copied, to be sorted: memory is asked for at most once for each,
     /// and not at all where `additional` is empty. But for that growth, which is O(1) for each pair
     /// of many merges, the work is O(k + m) for k pairs and the m deltas behind the first of them,
     /// and O(k log k) more where the pairs don't ascend. `is_mergeable` tests what it requires.
@@ -159,7 +160,7 @@ impl SectionRelaxDeltas {
             return Ok(());
         }
         deltas.reserve(additional.len())?;
-        heads.reserve(count_blocks(additional.len()))?;
+        reserve_heads(heads, deltas.len() + additional.len())?;
         if first_invalid(additional).is_none() {
             insert_ascending(deltas, heads, additional);
             return Ok(());
@@ -183,11 +184,11 @@ impl SectionRelaxDeltas {
     /// Adds the deletions of all batches, or of none where it runs out of memory.
     ///
     /// What is listed is then as `new` makes it of the old and all additional pairs, sorted. Before
-    /// anything changes the list and its heads grow, and all pairs are copied: memory is asked for
-    /// at most three times, and not at all where no batch has a pair. But for that growth the work
-    /// is O(k + m) for k pairs in all batches and the m deltas behind the first of them, and
-    /// O(k log k) more where the pairs don't ascend, from each batch to the next too.
-    /// `are_mergeable` tests what it requires.
+    /// anything changes the list grows, and its heads where it has more than 1,024 deltas then, and
+    /// all pairs are copied: memory is asked for at most once for each, and not at all where no
+    /// batch has a pair. But for that growth the work is O(k + m) for k pairs in all batches and the
+    /// m deltas behind the first of them, and O(k log k) more where the pairs don't ascend, from
+    /// each batch to the next too. `are_mergeable` tests what it requires.
     pub fn merge_all(&mut self, batches: &[Vec<(u64, u32)>]) -> Result<(), OutOfMemory>
         requires { AreDisjoint (self.old ++ pairs_of batches.now) }
         ensures ok { OnOk result (IsSortedUnion (self.old ++ pairs_of batches.now) self.new) }
@@ -201,7 +202,7 @@ impl SectionRelaxDeltas {
             return Ok(());
         }
         deltas.reserve(count)?;
-        heads.reserve(count_blocks(count))?;
+        reserve_heads(heads, deltas.len() + count)?;
         let pairs = sorted(all_pairs(*deltas.allocator(), batches)?);
         insert_ascending(deltas, heads, &pairs);
         Ok(())
@@ -217,7 +218,8 @@ impl SectionRelaxDeltas {
         are_disjoint_batches(batches) && are_beside_deltas_batches(&self.deltas, batches)
     }
 
-    /// A copy of the deltas. It takes memory twice, and none where there are none.
+    /// A copy of the deltas. It takes memory once, a second time for more than 1,024, and none where
+    /// there are none.
     pub fn clone(&self) -> Result<Self, OutOfMemory>
         ensures ok { IfOk result (λ section. section ≡ self.now) }
         ensures empty_succeeds { self.now ≡ [] → IsOk result }

@@ -95,7 +95,7 @@ fn merge_sorted(
 fn pairs<D: AsDeletion>(deletions: &[D]) -> Result<Vec<(u64, u32)>, OutOfMemory> {
     let mut pairs = Vec::fallible_with_capacity(deletions.len())?;
     for deletion in deletions {
-        pairs.push(deletion.as_deletion());
+        pairs.push_reserved(deletion.as_deletion());
     }
     Ok(pairs)
 }

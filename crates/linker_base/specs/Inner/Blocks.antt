@@ -1,5 +1,6 @@
 -- What a search in deltas and the heads of their blocks reads.
-use Rattle.std.specs.Prelude.{ℕ, ◌*◌, Bool, List, length, slice_index_or}
+use Rattle.std.specs.Prelude.{◌≡◌, ℕ, ◌*◌, ◌<◌, Bool, List, length, slice_index_or}
+use Rattle.std.specs.Prelude.{if◌then◌else◌, nat_le}
 use Rattle.linker_base.specs.declared.relaxation.RelaxDelta.{RelaxDelta}
 use Rattle.linker_base.specs.declared.relaxation.blocks.BlockHead.{BlockHead}
 use Rattle.linker_base.specs.declared.relaxation.partition_point.Level.{Level}
@@ -32,3 +33,13 @@ abbrev pub passing_of : List RelaxDelta → Level → Test → ℕ → Bool
 passing_of deltas Heads test at =
     head_passes test (head_of (slice_index_or deltas (64 * at) no_delta))
 passing_of deltas Deltas test at = passes test (slice_index_or deltas at no_delta)
+
+-- how many heads a section keeps with so many deltas: none with a few
+abbrev pub heads_kept : ℕ → ℕ
+heads_kept len = (if nat_le len 1024 then 0 else blocks_of len)
+
+-- the heads that a section keeps with its deltas
+pub record AreKeptHeads (deltas : List RelaxDelta) (heads : List BlockHead) : Type 0 where
+  pub count : length heads ≡ heads_kept (length deltas)
+  pub each : (b : ℕ) (h : BlockHead) (d : RelaxDelta) → b < length heads
+      → slice_index_or heads b h ≡ head_of (slice_index_or deltas (64 * b) d)

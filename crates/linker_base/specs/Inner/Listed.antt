@@ -4,15 +4,15 @@ use Rattle.std.specs.Prelude.{All, Any}
 use Rattle.linker_base.specs.declared.relaxation.RelaxDelta.{RelaxDelta}
 use Rattle.linker_base.specs.declared.relaxation.blocks.BlockHead.{BlockHead}
 use Rattle.linker_base.specs.declared.relaxation.walk.Reached.{Reached}
-use Rattle.linker_base.specs.Blocks.{AreHeads}
 use Rattle.linker_base.specs.Deletions.{EndFits, IsValid, bytes_of}
 use Rattle.linker_base.specs.Deltas.{deletion_of}
 use Rattle.linker_base.specs.Listed.{AreValidDeltas}
+use Rattle.linker_base.specs.Inner.Blocks.{AreKeptHeads}
 
 -- what holds of the fields of a section's deltas
 pub record IsSound (list : List RelaxDelta) (blocks : List BlockHead) : Type 0 where
   pub deltas : AreValidDeltas list
-  pub heads : AreHeads list blocks
+  pub heads : AreKeptHeads list blocks
 
 -- the first `passed` deletions are those whose output place, the offset less the bytes deleted
 -- before, is at most y

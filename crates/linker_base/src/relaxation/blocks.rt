@@ -1,17 +1,17 @@
 //! Deltas in blocks of 64, and translations that look at the head of each block first.
 
-ghost use Rattle.std.specs.Prelude.{◌≡◌, ◌<◌, ◌≤◌, ◌+◌, ◌-◌, ◌*◌, ◌^◌, ℕ, List, length, slice_index_or, vec_len, vec_capacity};
+ghost use Rattle.std.specs.Prelude.{◌≡◌, ◌<◌, ◌≤◌, ◌+◌, ◌-◌, ◌*◌, ◌^◌, ℕ, List, OnOk, length, slice_index_or, vec_len, vec_capacity};
 ghost use Rattle.linker_base.specs.declared.relaxation.RelaxDelta.{RelaxDelta};
 ghost use Rattle.linker_base.specs.declared.relaxation.blocks.BlockHead.{BlockHead};
 ghost use Rattle.linker_base.specs.Blocks.{place_of, blocks_of, head_of, AreHeads};
 ghost use Rattle.linker_base.specs.Deletions.{rank, IsSelected, HasInput};
 ghost use Rattle.linker_base.specs.Deltas.{deletions_of};
 ghost use Rattle.linker_base.specs.Listed.{AreValidDeltas};
-ghost use Rattle.linker_base.specs.Inner.Blocks.{size_of, passing_of};
+ghost use Rattle.linker_base.specs.Inner.Blocks.{size_of, passing_of, heads_kept, AreKeptHeads};
 
-use super::RelaxDelta;
-use super::partition_point::{Level, Probe, Test, search_blocks};
+use super::partition_point::{FEW, Level, Probe, Test, search_blocks};
 use super::search::rank_after;
+use super::{OutOfMemory, RelaxDelta};
 use std::marker::Model;
 
 /// How many deltas a block has. The last block may have fewer.
@@ -115,8 +115,8 @@ impl<K: Looks> Probe for K {
     }
 }
 
-/// The deltas of a section, with a count of the looks at them. Contracts see the list and the
-/// count.
+/// The deltas of a section and the heads that it keeps, with a count of the looks at them.
+/// Contracts see the list and the count.
 #[derive(Drop)]
 pub struct Counted<'a> {
     deltas: &'a [RelaxDelta],
@@ -125,21 +125,22 @@ pub struct Counted<'a> {
 }
 
 impl<'a> Model for Counted<'a> {
-    ghost use Rattle.linker_base.specs.Blocks.{Counts, AreHeads};
+    ghost use Rattle.linker_base.specs.Blocks.{Counts};
     ghost use Rattle.linker_base.specs.Listed.{AreValidDeltas};
+    ghost use Rattle.linker_base.specs.Inner.Blocks.{AreKeptHeads};
 
     ghost Value = { Counts };
 
     ghost view = { λ counted. record { listed = counted.deltas.now; looked = counted.count } };
 
-    ghost invariant = { λ counted. AreValidDeltas counted.deltas.now × AreHeads counted.deltas.now counted.heads.now };
+    ghost invariant = { λ counted. AreValidDeltas counted.deltas.now × AreKeptHeads counted.deltas.now counted.heads.now };
 }
 
 impl<'a> Counted<'a> {
     #[inline(always)]
     pub(super) fn new(deltas: &'a [RelaxDelta], heads: &'a [BlockHead]) -> Counted<'a>
         requires valid { AreValidDeltas deltas.now }
-        requires heads { AreHeads deltas.now heads.now }
+        requires heads { AreKeptHeads deltas.now heads.now }
         ensures { result ≡ record { listed = deltas.now; looked = 0 } }
     {
         Counted {
@@ -168,6 +169,10 @@ impl<'a> Looks for Counted<'a> {
     #[inline(always)]
     fn head(&mut self, block: usize) -> (u64, u64) {
         self.count += 1;
+        if self.deltas.len() <= FEW {
+            let first = BlockHead::of(&self.deltas[BLOCK_LEN * block]);
+            return (first.input_offset, first.output_place);
+        }
         let head = self.heads[block];
         (head.input_offset, head.output_place)
     }
@@ -179,15 +184,35 @@ impl<'a> Looks for Counted<'a> {
     }
 }
 
-/// Puts the heads of the other blocks behind those of the first blocks.
+/// How many heads a section keeps with so many deltas: none with a few, which are searched alone.
+#[inline(always)]
+pub(super) fn count_heads(len: usize) -> usize
+    ensures { result ≡ heads_kept len }
+{
+    if len <= FEW {
+        return 0;
+    }
+    count_blocks(len)
+}
+
+/// Makes room for the heads that a section keeps with so many deltas.
+pub(super) fn reserve_heads(heads: &mut Vec<BlockHead>, len: usize) -> Result<(), OutOfMemory>
+    ensures same { heads.new.items ≡ heads.old.items }
+    ensures room { OnOk result (heads_kept len ≤ vec_capacity heads.new) }
+{
+    heads.reserve(count_heads(len).saturating_sub(heads.len()))?;
+    Ok(())
+}
+
+/// Puts the heads of the other blocks behind those of the first blocks, where heads are kept.
 pub(super) fn fill_heads(deltas: &[RelaxDelta], heads: &mut Vec<BlockHead>)
     requires first { (b : ℕ) (h : BlockHead) (d : RelaxDelta) → b < vec_len heads.old
         → slice_index_or heads.old.items b h ≡ head_of (slice_index_or deltas.now (64 * b) d) }
-    requires within { vec_len heads.old ≤ blocks_of (length deltas.now) }
-    requires room { blocks_of (length deltas.now) ≤ vec_capacity heads.old }
-    ensures { AreHeads deltas.now heads.new.items }
+    requires within { vec_len heads.old ≤ heads_kept (length deltas.now) }
+    requires room { heads_kept (length deltas.now) ≤ vec_capacity heads.old }
+    ensures { AreKeptHeads deltas.now heads.new.items }
 {
-    for block in heads.len()..count_blocks(deltas.len()) {
+    for block in heads.len()..count_heads(deltas.len()) {
         heads.push_reserved(BlockHead::of(&deltas[BLOCK_LEN * block]));
     }
 }

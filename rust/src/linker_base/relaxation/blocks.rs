@@ -2,9 +2,10 @@
 //! Deltas in blocks of 64, and translations that look at the head of each block first.
 
 use alloc::vec::Vec;
-use super::RelaxDelta;
-use super::partition_point::{Level, Probe, Test, search_blocks};
+use crate::support::*;
+use super::partition_point::{FEW, Level, Probe, Test, search_blocks};
 use super::search::rank_after;
+use super::{OutOfMemory, RelaxDelta};
 
 /// How many deltas a block has. The last block may have fewer.
 pub const BLOCK_LEN: usize = 64;
@@ -85,8 +86,8 @@ impl<K: Looks> Probe for K {
     }
 }
 
-/// The deltas of a section, with a count of the looks at them. Contracts see the list and the
-/// count.
+/// The deltas of a section and the heads that it keeps, with a count of the looks at them.
+/// Contracts see the list and the count.
 pub struct Counted<'a> {
     deltas: &'a [RelaxDelta],
     heads: &'a [BlockHead],
@@ -119,6 +120,10 @@ impl<'a> Looks for Counted<'a> {
     fn head(&mut self, block: usize) -> (u64, u64) {
         debug_assert!(64 * (block as u128) < (Looks::len(self) as u128));
         self.count += 1;
+        if self.deltas.len() <= FEW {
+            let first = BlockHead::of(&self.deltas[BLOCK_LEN * block]);
+            return (first.input_offset, first.output_place);
+        }
         let head = self.heads[block];
         (head.input_offset, head.output_place)
     }
@@ -131,10 +136,25 @@ impl<'a> Looks for Counted<'a> {
     }
 }
 
-/// Puts the heads of the other blocks behind those of the first blocks.
+/// How many heads a section keeps with so many deltas: none with a few, which are searched alone.
+#[inline(always)]
+pub(super) fn count_heads(len: usize) -> usize {
+    if len <= FEW {
+        return 0;
+    }
+    count_blocks(len)
+}
+
+/// Makes room for the heads that a section keeps with so many deltas.
+pub(super) fn reserve_heads(heads: &mut Vec<BlockHead>, len: usize) -> Result<(), OutOfMemory> {
+    heads.try_reserve(count_heads(len).saturating_sub(heads.len()))?;
+    Ok(())
+}
+
+/// Puts the heads of the other blocks behind those of the first blocks, where heads are kept.
 pub(super) fn fill_heads(deltas: &[RelaxDelta], heads: &mut Vec<BlockHead>) {
-    for block in heads.len()..count_blocks(deltas.len()) {
-        heads.push(BlockHead::of(&deltas[BLOCK_LEN * block]));
+    for block in heads.len()..count_heads(deltas.len()) {
+        heads.push_reserved(BlockHead::of(&deltas[BLOCK_LEN * block]));
     }
 }
 

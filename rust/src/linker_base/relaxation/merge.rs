@@ -45,7 +45,7 @@ pub(super) fn sorted(pairs: Vec<(u64, u32)>) -> Vec<(u64, u32)> {
     sorted
 }
 
-// Adds pairs that ascend, and writes the heads from the first block on that changes.
+// Adds pairs that ascend, and writes the heads that are kept from the first block on that changes.
 pub(super) fn insert_ascending(
     deltas: &mut Vec<RelaxDelta>,
     heads: &mut Vec<BlockHead>,
@@ -61,7 +61,7 @@ pub(super) fn insert_ascending(
 // Puts the pairs behind the deltas, with no sum yet.
 fn append(deltas: &mut Vec<RelaxDelta>, pairs: &[(u64, u32)]) {
     for &(input_offset, bytes_deleted) in pairs {
-        deltas.push(RelaxDelta {
+        deltas.push_reserved(RelaxDelta {
             input_offset,
             cumulative_deleted: 0,
             bytes_deleted,

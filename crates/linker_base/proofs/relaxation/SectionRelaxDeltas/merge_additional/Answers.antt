@@ -23,7 +23,7 @@ insert_ascending-requires-2-clause-heads_room c =
     let pairs = c.sorted-pairs.result.items in
     let same : IsPermutation more pairs = rw c.in_ok-copy_pairs.ensures at c.sorted-pairs.ensures.same in
     let long : length c.deref.result.now ≡ length more = ap length c.deref.ensures.value ∙ length_permutation more pairs same in
-    omega (arith, long, c.in_ok-reserve-2.ensures.ok)
+    rw (long, ← c.len.ensures) c.in_ok-reserve_heads.ensures.room
 
 pub insert_ascending-requires-2-clause-disjoint : goal.insert_ascending-requires-2-clause-disjoint
 insert_ascending-requires-2-clause-disjoint c =

@@ -23,7 +23,8 @@ insert_ascending-requires-clause-heads_room c =
     let pairs = c.sorted-pairs.result.items in
     let same : IsPermutation more pairs = rw c.in_ok-all_pairs.ensures at c.sorted-pairs.ensures.same in
     let long : length c.deref.result.now ≡ length more = ap length c.deref.ensures.value ∙ length_permutation more pairs same in
-    omega (arith, long, c.in_ok-reserve-2.ensures.ok)
+    let count : c.count_pairs-count.result ≡ length c.deref.result.now = omega (arith, long) in
+    rw (← count, ← c.len.ensures) c.in_ok-reserve_heads.ensures.room
 
 pub insert_ascending-requires-clause-disjoint : goal.insert_ascending-requires-clause-disjoint
 insert_ascending-requires-clause-disjoint c =
