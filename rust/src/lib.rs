@@ -10,8 +10,6 @@
 #![allow(clippy::complexity, clippy::style, reason = "the text is that of the proved source")]
 
 extern crate alloc;
-#[cfg(test)]
-extern crate std;
 
 #[macro_use]
 mod support;

@@ -4,6 +4,8 @@
 #[cfg(test)]
 mod aarch64;
 #[cfg(test)]
+mod bits;
+#[cfg(test)]
 mod deltas;
 #[cfg(test)]
 mod jumps;
@@ -14,6 +16,10 @@ mod packing;
 pub mod poke;
 #[cfg(test)]
 mod ppc64;
+#[cfg(test)]
+mod readers;
+#[cfg(test)]
+mod refused_growth;
 #[cfg(test)]
 mod riscv64;
 #[cfg(test)]

@@ -382,3 +382,36 @@ fn maps_keep_each_section() -> Result<(), Fail> {
     assert_eq!(map.clone()?.get(1).map(|d| d.total_deleted()), Some(6));
     Ok(())
 }
+
+#[test]
+fn a_merge_through_get_mut_leaves_the_other_section() -> Result<(), Fail> {
+    let (third, first) = ([(8, 4)], [(4, 4)]);
+    assert!(SectionRelaxDeltas::is_valid(&third) && SectionRelaxDeltas::is_valid(&first));
+    let mut sections = RelaxDeltaMap::new();
+    assert_eq!(sections.last_index(), None);
+    assert!(
+        sections
+            .insert(3, SectionRelaxDeltas::new(&third)?)
+            .is_ok()
+    );
+    assert!(sections.get(1).is_none());
+    assert!(
+        sections
+            .insert_sorted(1, SectionRelaxDeltas::new(&first)?)
+            .is_ok()
+    );
+    assert_eq!(sections.last_index(), Some(3));
+
+    let more = [(0, 2)];
+    if let Some(deltas) = sections.get_mut(1) {
+        assert!(deltas.is_mergeable(&more));
+        deltas.merge_additional(&more)?;
+    }
+    assert!(sections.get(2).is_none());
+    let copy = sections.clone()?;
+    for (section_index, want) in [(1, 6), (3, 4)] {
+        let deltas = copy.get(section_index).expect("the section is there");
+        assert_eq!(deltas.total_deleted(), want, "section {section_index}");
+    }
+    Ok(())
+}

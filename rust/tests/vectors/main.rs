@@ -12,6 +12,8 @@ mod support;
 #[cfg(test)]
 mod aarch64;
 #[cfg(test)]
+mod bits;
+#[cfg(test)]
 mod deltas;
 #[cfg(test)]
 mod jumps;
@@ -22,6 +24,10 @@ mod packing;
 pub mod poke;
 #[cfg(test)]
 mod ppc64;
+#[cfg(test)]
+mod readers;
+#[cfg(test)]
+mod refused_growth;
 #[cfg(test)]
 mod riscv64;
 #[cfg(test)]
