@@ -5,11 +5,12 @@ use crate::elf::rows::{pack, ppc64_size, unpack};
 use crate::elf::{
     AllowedRange, Bias, Ppc64Instruction, RelocationKind, RelocationKindInfo, RelocationSize, Sign,
 };
+use core::fmt;
 
 /// The relocations of PowerPC64, by their names in the 64-bit ELF V2 ABI for Power, "Relocation
 /// Types". `from_elf` takes the code that an ELF file has.
 #[allow(non_camel_case_types)]
-#[derive(Debug, Clone, Copy, PartialEq, Eq)]
+#[derive(Clone, Copy, PartialEq, Eq)]
 pub enum Ppc64Relocation {
     R_PPC64_NONE,
     R_PPC64_TLS,
@@ -64,6 +65,15 @@ pub enum Ppc64Relocation {
     R_PPC64_GOT_TLSLD16_HA,
     /// A code without a name here.
     Other(u32),
+}
+
+impl fmt::Debug for Ppc64Relocation {
+    fn fmt(&self, f: &mut fmt::Formatter<'_>) -> fmt::Result {
+        match self {
+            Ppc64Relocation::Other(code) => f.debug_tuple("Other").field(code).finish(),
+            _ => f.write_str(self.name()),
+        }
+    }
 }
 
 impl Ppc64Relocation {

@@ -16,10 +16,11 @@ use crate::elf::{
     AArch64Instruction as Form, AllowedRange, PageMask, PageMaskPattern, RelocationKind as Kind,
     RelocationKindInfo, RelocationSize, Sign,
 };
+use std::fmt;
 
 /// The relocations of AArch64, by their names in ELF for the Arm 64-bit Architecture, "Relocation".
 /// `from_elf` takes the code that an ELF file has.
-#[derive(Debug, Clone, Copy, PartialEq, Eq)]
+#[derive(Clone, Copy, PartialEq, Eq)]
 pub enum AArch64Relocation {
     R_AARCH64_NONE,
     R_AARCH64_ABS64,
@@ -137,6 +138,15 @@ pub enum AArch64Relocation {
     R_AARCH64_TLSDESC_CALL,
     /// A code without a name here.
     Other(u32),
+}
+
+impl fmt::Debug for AArch64Relocation {
+    fn fmt<W: fmt::Write>(&self, f: &mut fmt::Formatter<W>) -> fmt::Result {
+        match self {
+            AArch64Relocation::Other(code) => f.debug_tuple("Other").field(code).finish(),
+            _ => f.write_str(self.name()),
+        }
+    }
 }
 
 impl AArch64Relocation {

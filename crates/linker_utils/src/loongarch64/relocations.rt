@@ -14,10 +14,11 @@ use crate::elf::{
     AllowedRange, Bias, LoongArch64Instruction, PageMask, PageMaskPattern, RelocationKind,
     RelocationKindInfo, RelocationSize, SIZE_2KB, Sign, Uleb128Role,
 };
+use std::fmt;
 
 /// The relocations of LoongArch, by their names in the LoongArch ELF psABI, "Relocation Types".
 /// `from_elf` takes the code that an ELF file has.
-#[derive(Debug, Clone, Copy, PartialEq, Eq)]
+#[derive(Clone, Copy, PartialEq, Eq)]
 #[allow(non_camel_case_types)]
 pub enum LoongArch64Relocation {
     R_LARCH_NONE,
@@ -98,6 +99,15 @@ pub enum LoongArch64Relocation {
     R_LARCH_ALIGN,
     /// A code without a name here.
     Other(u32),
+}
+
+impl fmt::Debug for LoongArch64Relocation {
+    fn fmt<W: fmt::Write>(&self, f: &mut fmt::Formatter<W>) -> fmt::Result {
+        match self {
+            LoongArch64Relocation::Other(code) => f.debug_tuple("Other").field(code).finish(),
+            _ => f.write_str(self.name()),
+        }
+    }
 }
 
 impl LoongArch64Relocation {

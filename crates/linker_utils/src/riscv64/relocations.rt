@@ -14,10 +14,11 @@ use crate::elf::rows::{pack, riscv_size, unpack};
 use crate::elf::{
     AllowedRange, RelocationKind, RelocationKindInfo, RelocationSize, RiscVInstruction, Uleb128Role,
 };
+use std::fmt;
 
 /// The relocations of RISC-V, by their names in the RISC-V ELF psABI, "Relocations". `from_elf`
 /// takes the code that an ELF file has.
-#[derive(Debug, Clone, Copy, PartialEq, Eq)]
+#[derive(Clone, Copy, PartialEq, Eq)]
 pub enum RiscVRelocation {
     R_RISCV_NONE,
     R_RISCV_32,
@@ -70,6 +71,15 @@ pub enum RiscVRelocation {
     R_RISCV_TLSDESC_CALL,
     /// A code without a name here.
     Other(u32),
+}
+
+impl fmt::Debug for RiscVRelocation {
+    fn fmt<W: fmt::Write>(&self, f: &mut fmt::Formatter<W>) -> fmt::Result {
+        match self {
+            RiscVRelocation::Other(code) => f.debug_tuple("Other").field(code).finish(),
+            _ => f.write_str(self.name()),
+        }
+    }
 }
 
 impl RiscVRelocation {

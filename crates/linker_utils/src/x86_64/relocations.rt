@@ -9,11 +9,12 @@ ghost use Rattle.linker_utils.specs.Inner.PackedRows.{packed_row};
 
 use crate::elf::rows::{pack, unpack, whole_bytes};
 use crate::elf::{AllowedRange, RelocationKind, RelocationKindInfo, RelocationSize, Sign};
+use std::fmt;
 
 /// The relocations of x86-64, by their names in the x86-64 psABI, "Relocation Types". `from_elf`
 /// takes the code that an ELF file has.
 #[allow(non_camel_case_types)]
-#[derive(Debug, Clone, Copy, PartialEq, Eq)]
+#[derive(Clone, Copy, PartialEq, Eq)]
 pub enum X86_64Relocation {
     R_X86_64_NONE,
     R_X86_64_TLSDESC_CALL,
@@ -58,6 +59,15 @@ pub enum X86_64Relocation {
     R_X86_64_CODE_6_GOTPC32_TLSDESC,
     /// A code without a name here.
     Other(u32),
+}
+
+impl fmt::Debug for X86_64Relocation {
+    fn fmt<W: fmt::Write>(&self, f: &mut fmt::Formatter<W>) -> fmt::Result {
+        match self {
+            X86_64Relocation::Other(code) => f.debug_tuple("Other").field(code).finish(),
+            _ => f.write_str(self.name()),
+        }
+    }
 }
 
 impl X86_64Relocation {
