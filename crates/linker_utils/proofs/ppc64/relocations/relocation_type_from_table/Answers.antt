@@ -1,4 +1,4 @@
-use Rattle.std.proofs.Common.{rules, IfSome, subst, sym}
+use Rattle.std.proofs.Common.{IfSome, subst, sym}
 use Rattle.linker_utils.specs.Agrees.{RowAgrees, RowFits}
 use Rattle.linker_utils.proofs.PackedRows as packed
 use Rattle.linker_utils.proofs.RowsAgree.{ppc64_rows}
