@@ -1,5 +1,5 @@
 -- The AArch64 forms keep the laws of forms.
-use Rattle.std.proofs.Common.{◌≡◌, ℕ, ◌+◌, ◌-◌, ◌*◌, ◌/◌, ◌%◌, ◌^◌, ◌<◌, ◌≤◌, Bool, true, false, eqb, refl, ap, sym, ◌∙◌, subst, arith, IsTrue, List, zero, suc, ◌↔◌, ltb, [], ◌∷◌, ◌++◌, pos, ◌-ℤ◌, ◌≢◌, if◌then◌else◌}
+use Rattle.std.proofs.Common.{◌≡◌, ℕ, ◌+◌, ◌-◌, ◌*◌, ◌/◌, ◌%◌, ◌^◌, ◌<◌, ◌≤◌, Bool, true, false, eqb, refl, ap, sym, ◌∙◌, subst, arith, IsTrue, List, zero, suc, ◌↔◌, ltb, [], ◌∷◌, ◌++◌, pos, ◌≢◌}
 use Rattle.std.specs.Int.{w32, w64, cast_unsigned, from_le_bytes, bit_at}
 use Rattle.std.proofs.lemmas.Bool.{lt-ltb, ltb-true, agree_below_at}
 use Rattle.std.proofs.Math.Nat.{mod-eq_of_lt}
@@ -17,6 +17,7 @@ use Rattle.std.specs.Int.Bits.{and_zero_r, or_zero_l, or_zero_r}
 use Rattle.linker_utils.specs.declared.elf.engine.Run.{Run}
 use Rattle.linker_utils.specs.declared.elf.engine.Mark.TheVariants.{Replaced, Ored, Cleared}
 use Rattle.linker_utils.specs.Inner.Runs.{words_below, spread, runs_read}
+use Rattle.linker_utils.proofs.MovedBits.{signed_wide}
 use Rattle.linker_utils.proofs.Runs.{not_placed_above, ored_run, ored_mask, laid_more, laid_below, masked, mask_cleared}
 use Rattle.linker_utils.proofs.Clearing.{nothing_written, none_ored}
 use Rattle.linker_utils.specs.Relocate.{ored_cleared}
@@ -248,15 +249,12 @@ aarch64_taken Bcond x o = lowest_taken 19 19 5 x (omega arith) (omega arith)
 aarch64_taken JumpCall x o = lowest_taken 26 26 0 x (omega arith) (omega arith)
 aarch64_taken MachOLow12 x o = cc
 
--- what is read: in two's complement of 63 bits a number of 12 bits is itself
-signed_wide : (n : ℕ) → n < 2 ^ 12 → signed 63 n ≡ pos n
-signed_wide n h = ap (λ b. if b then pos n else pos n -ℤ pos (2 ^ 63)) (lt-ltb n (2 ^ 62) (omega arith))
-
+-- what is read
 signed_reading : (f : AArch64Instruction) (x : ℕ) → is_ored_alone f ≡ true → signed (aarch64_immediate f).sign_bits (place_sum ((aarch64_form f).places 0) x) ≡ (aarch64_form f).reading x
 signed_reading Movnz x o = cc
 signed_reading MachOLow12 x o = cc
-signed_reading LdrRegister x o = signed_wide (place_sum ((aarch64_form LdrRegister).places 0) x) (place_sum_below ((aarch64_form LdrRegister).places 0) 12 x refl refl)
-signed_reading Add x o = signed_wide (place_sum ((aarch64_form Add).places 0) x) (place_sum_below ((aarch64_form Add).places 0) 12 x refl refl)
+signed_reading LdrRegister x o = signed_wide (place_sum ((aarch64_form LdrRegister).places 0) x) (place_sum_below ((aarch64_form LdrRegister).places 0) 20 x refl refl)
+signed_reading Add x o = signed_wide (place_sum ((aarch64_form Add).places 0) x) (place_sum_below ((aarch64_form Add).places 0) 20 x refl refl)
 signed_reading f x o = refl
 
 word_of : (f : AArch64Instruction) (bytes : List ℕ) → window_of (aarch64_form f) bytes ≡ from_le_bytes w32 bytes

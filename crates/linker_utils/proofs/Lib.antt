@@ -11,6 +11,7 @@ pub mod LoongArch
 pub mod LoongArchAddresses
 pub mod LoongArchNumbers
 pub mod LoongArchSequences
+pub mod MovedBits
 pub mod Packed
 pub mod PackedRows
 pub mod Ppc64Forms

@@ -1,17 +1,26 @@
 -- The LoongArch forms keep the laws of forms.
-use Rattle.std.proofs.Common.{◌≡◌, ℕ, ◌+◌, ◌-◌, ◌*◌, ◌/◌, ◌%◌, ◌^◌, ◌<◌, ◌≤◌, Bool, true, refl, sym, ◌∙◌, subst, arith, List, ◌++◌, pos, ◌+ℤ◌, ◌*ℤ◌}
-use Rattle.std.specs.Int.{w64, bit_at, cast_unsigned, int_rem_euclid}
+use Rattle.std.proofs.Common.{◌≡◌, ℕ, ◌+◌, ◌-◌, ◌*◌, ◌/◌, ◌%◌, ◌^◌, ◌<◌, ◌≤◌, Bool, true, false, refl, sym, ap, ◌∙◌, subst, arith, List, [], ◌∷◌, ◌++◌, ◌≢◌, int_lt, pos, ◌+ℤ◌, ◌*ℤ◌}
+use Rattle.std.specs.Int.{w32, w64, from_le_bytes, bit_at, cast_unsigned, int_rem_euclid}
+use Rattle.std.proofs.lemmas.Bool.{le-ltb}
 use Rattle.std.proofs.lemmas.List.Elements.{All-take, All-drop}
-use Rattle.linker_base.specs.Bits.{field}
+use Rattle.linker_base.specs.Bits.{field, signed}
 use Rattle.linker_base.specs.Form.{window_of, ImmediateBit, BitsWritten, bit_for, placed_bit, Fits, Written, MachineReads, place_sum, replaced, one_field}
-use Rattle.linker_base.proofs.Immediates.{layout_machine, fills, none_ored, place_sum_laid, always_clear}
+use Rattle.linker_base.proofs.Immediates.{layout_machine, place_sum_below, fills, none_ored, place_sum_laid, always_clear}
 use Rattle.linker_base.proofs.Places.{adds}
 use Rattle.linker_base.proofs.Parts.{ArePlaced, all_replaced, part_laid}
 use Rattle.linker_base.proofs.ConsecutiveBits.{consecutive_bits_sum}
 use Rattle.linker_utils.proofs.LoongArchNumbers.{pair_number, near_pair, far_pair}
 use Rattle.linker_utils.specs.LoongArch.{loongarch_form, loongarch_layout, shift10_low, shift10_imm16, call36_high, call36_low, pcaddu18i_imm, jirl_imm, ReadsLow, Reaches, IsDistanceModulo}
 use Rattle.linker_utils.specs.declared.elf.LoongArch64Instruction.{LoongArch64Instruction}
-use Rattle.linker_utils.specs.declared.elf.LoongArch64Instruction.TheVariants.{Shift5, Shift10, Call30, Call36}
+use Rattle.linker_utils.specs.declared.elf.LoongArch64Instruction.TheVariants.{Shift5, Shift10, Branch26, Branch21, Call30, Call36}
+use Rattle.linker_utils.specs.declared.loongarch64.forms.WordBits.{WordBits}
+use Rattle.linker_utils.specs.Inner.Immediates.{is_one_word, loongarch_bits, loongarch_read}
+use Rattle.linker_utils.specs.Inner.Runs.{words_below}
+use Rattle.linker_utils.proofs.MovedBits.{signed_wide, Moved, up, down, laid, masks_write, masks_read, written_by_masks, read_by_masks}
+use Rattle.linker_utils.proofs.Runs.{laid_below}
+use Rattle.std.specs.Int.RustNames.{bit_or}
+use lib.Bits.{bit_and}
+use Rattle.std.specs.Int.Bits.{or_zero_l}
 
 abbrev pub shift5_places : List ImmediateBit
 shift5_places = (loongarch_form Shift5).places 0
@@ -111,3 +120,112 @@ pub number_of : (f known : LoongArch64Instruction) (number : ℕ) (bytes : List 
     → number ≡ cast_unsigned w64 ((loongarch_form known).reading (window_of (loongarch_form known) bytes))
     → number ≡ cast_unsigned w64 ((loongarch_form f).reading (window_of (loongarch_form f) bytes))
 number_of f known number bytes e h = subst (λ (g : LoongArch64Instruction). number ≡ cast_unsigned w64 ((loongarch_form g).reading (window_of (loongarch_form g) bytes))) (sym e) h
+
+-- ---- the forms of one word, by a table of masks
+
+abbrev pub laid_bits : WordBits → List Moved
+laid_bits b =
+    record { way = up 5; mask = b.up_5 } ∷ record { way = up 10; mask = b.up_10 }
+    ∷ record { way = up 10; mask = b.ored_10 } ∷ record { way = down 16; mask = b.down_16 } ∷ []
+
+abbrev pub taken_bits : WordBits → List Moved
+taken_bits b =
+    record { way = up 5; mask = b.up_5 } ∷ record { way = up 10; mask = b.up_10 } ∷ record { way = down 16; mask = b.down_16 } ∷ []
+
+unfoldable pub WritesWord : WordBits → ℕ → ℕ → List ImmediateBit → Type 0
+WritesWord b v x ps =
+    BitsWritten ps v x (laid (laid_bits b) v (bit_and x b.kept)) × (laid (laid_bits b) v (bit_and x b.kept) < 2 ^ 32)
+
+written_word : (b : WordBits) (v x : ℕ) (ps : List ImmediateBit) → v < 2 ^ 64 → x < 2 ^ 32 → masks_write 32 0 b.kept (laid_bits b) ps ≡ true → words_below 32 ps ≡ true
+    → WritesWord b v x ps
+unfolding WritesWord
+written_word b v x ps wide small h inside =
+    let whole : (v + 0) % 2 ^ 64 ≡ v = omega arith in
+    let bits = subst (λ n. BitsWritten ps v x (laid (laid_bits b) n (bit_and x b.kept))) whole
+    (written_by_masks 0 b.kept (laid_bits b) v x 32 ps h small) in
+    (bits, laid_below ps 32 v x (laid (laid_bits b) v (bit_and x b.kept)) inside bits small)
+
+pub writes_word : (f : LoongArch64Instruction) (v x : ℕ) → is_one_word f ≡ true → v < 2 ^ 64 → x < 2 ^ 32
+    → WritesWord (loongarch_bits f) v x ((loongarch_form f).places 0)
+writes_word Shift5 v x o h small = written_word (loongarch_bits Shift5) v x ((loongarch_form Shift5).places 0) h small refl refl
+writes_word Shift10 v x o h small = written_word (loongarch_bits Shift10) v x ((loongarch_form Shift10).places 0) h small refl refl
+writes_word Branch26 v x o h small = written_word (loongarch_bits Branch26) v x ((loongarch_form Branch26).places 0) h small refl refl
+writes_word Branch21 v x o h small = written_word (loongarch_bits Branch21) v x ((loongarch_form Branch21).places 0) h small refl refl
+writes_word Call30 v x o h small = cc
+writes_word Call36 v x o h small = cc
+
+unfoldable pub ReadsWord : WordBits → ℕ → List ImmediateBit → Type 0
+ReadsWord b x ps =
+    bit_or (bit_or (bit_and x b.up_5 / 2 ^ 5) (bit_and x b.up_10 / 2 ^ 10)) (bit_and x b.down_16 * 2 ^ 16 % 2 ^ 64) ≡ place_sum ps x
+
+read_word : (b : WordBits) (x : ℕ) (ps : List ImmediateBit) → x < 2 ^ 32 → masks_read (taken_bits b) ps ≡ true → ReadsWord b x ps
+unfolding ReadsWord
+read_word b x ps small h =
+    ap (λ y. bit_or (bit_or y (bit_and x b.up_10 / 2 ^ 10)) (bit_and x b.down_16 * 2 ^ 16 % 2 ^ 64)) (sym (or_zero_l (bit_and x b.up_5 / 2 ^ 5)))
+    ∙ read_by_masks (taken_bits b) ps x h (omega arith)
+
+pub reads_word : (f : LoongArch64Instruction) (x : ℕ) → is_one_word f ≡ true → x < 2 ^ 32 → ReadsWord (loongarch_bits f) x (loongarch_read f)
+reads_word Shift5 x o small = read_word (loongarch_bits Shift5) x (loongarch_read Shift5) small refl
+reads_word Shift10 x o small = read_word (loongarch_bits Shift10) x (loongarch_read Shift10) small refl
+reads_word Branch26 x o small = read_word (loongarch_bits Branch26) x (loongarch_read Branch26) small refl
+reads_word Branch21 x o small = read_word (loongarch_bits Branch21) x (loongarch_read Branch21) small refl
+reads_word Call30 x o small = cc
+reads_word Call36 x o small = cc
+
+-- what is read
+word_reading : (f : LoongArch64Instruction) (x : ℕ) → is_one_word f ≡ true
+    → signed (loongarch_bits f).sign_bits (place_sum (loongarch_read f) x) ≡ (loongarch_form f).reading x
+word_reading Shift5 x o = signed_wide (place_sum (loongarch_read Shift5) x) (place_sum_below (loongarch_read Shift5) 20 x refl refl)
+word_reading Shift10 x o = signed_wide (place_sum (loongarch_read Shift10) x) (place_sum_below (loongarch_read Shift10) 20 x refl refl)
+word_reading Branch26 x o = refl
+word_reading Branch21 x o = refl
+word_reading Call30 x o = cc
+word_reading Call36 x o = cc
+
+not_below : (n : ℕ) → int_lt (pos n) (pos 0) ≡ false
+not_below n = le-ltb n 0 (omega arith)
+
+word_flag : (f : LoongArch64Instruction) (x : ℕ) → is_one_word f ≡ true
+    → int_lt (signed (loongarch_bits f).sign_bits (place_sum (loongarch_read f) x)) (pos 0) ≡ (loongarch_form f).flag x
+word_flag Shift5 x o = ap (λ z. int_lt z (pos 0)) (word_reading Shift5 x o) ∙ not_below (place_sum (loongarch_read Shift5) x)
+word_flag Shift10 x o = ap (λ z. int_lt z (pos 0)) (word_reading Shift10 x o) ∙ not_below (place_sum (loongarch_read Shift10) x)
+word_flag Branch26 x o = refl
+word_flag Branch21 x o = refl
+word_flag Call30 x o = cc
+word_flag Call36 x o = cc
+
+word_of : (f : LoongArch64Instruction) (bytes : List ℕ) → is_one_word f ≡ true → window_of (loongarch_form f) bytes ≡ from_le_bytes w32 bytes
+word_of Call30 bytes o = cc
+word_of Call36 bytes o = cc
+word_of f bytes o = refl
+
+one_word : (f : LoongArch64Instruction) → f ≢ Call30 → f ≢ Call36 → is_one_word f ≡ true
+one_word Call30 a b = absurd (a refl)
+one_word Call36 a b = absurd (b refl)
+one_word f a b = refl
+
+-- what the code returns of the number in the bits, which it reads as one of so many bits
+pub read_of_word : (f : LoongArch64Instruction) (bytes : List ℕ) (x number bits value : ℕ) (flag : Bool) → f ≢ Call30 → f ≢ Call36 → x ≡ from_le_bytes w32 bytes
+    → number ≡ place_sum (loongarch_read f) x → bits ≡ (loongarch_bits f).sign_bits
+    → value ≡ cast_unsigned w64 (signed bits number) → flag ≡ int_lt (signed bits number) (pos 0)
+    → (value ≡ cast_unsigned w64 ((loongarch_form f).reading (window_of (loongarch_form f) bytes)))
+    × (flag ≡ (loongarch_form f).flag (window_of (loongarch_form f) bytes))
+read_of_word f bytes x number bits value flag a b w n s v g =
+    let o = one_word f a b in
+    let at : x ≡ window_of (loongarch_form f) bytes = w ∙ sym (word_of f bytes o) in
+    let same : signed bits number ≡ signed (loongarch_bits f).sign_bits (place_sum (loongarch_read f) x) =
+    ap (signed bits) n ∙ ap (λ k. signed k (place_sum (loongarch_read f) x)) s in (
+      v ∙ ap (cast_unsigned w64) (same ∙ word_reading f x o) ∙ ap (λ y. cast_unsigned w64 ((loongarch_form f).reading y)) at,
+      g ∙ ap (λ z. int_lt z (pos 0)) same ∙ word_flag f x o ∙ ap (loongarch_form f).flag at,
+    )
+
+pub sign_is : (f : LoongArch64Instruction) (b : WordBits) → b ≡ loongarch_bits f → b.sign ≡ 2 ^ (b.sign_bits - 1)
+sign_is f b e = subst (λ c. c.sign ≡ 2 ^ (c.sign_bits - 1)) (sym e) (known f)
+  where
+    known : (g : LoongArch64Instruction) → (loongarch_bits g).sign ≡ 2 ^ ((loongarch_bits g).sign_bits - 1)
+    known Shift5 = refl
+    known Shift10 = refl
+    known Branch26 = refl
+    known Branch21 = refl
+    known Call30 = refl
+    known Call36 = refl

@@ -1,5 +1,5 @@
 -- What the machine reads of the RISC-V forms, and pairs make their value.
-use Rattle.std.proofs.Common.{◌≡◌, ℕ, suc, ◌+◌, ◌-◌, ◌*◌, ◌/◌, ◌%◌, ◌^◌, ◌<◌, ◌≤◌, Bool, true, false, refl, ap, sym, subst, ◌∙◌, arith, List, ◌⊎◌, inl, inr, ℤ, pos, negsuc, ◌+ℤ◌, ◌-ℤ◌, ◌≤ℤ◌, ◌<ℤ◌}
+use Rattle.std.proofs.Common.{◌≡◌, ℕ, suc, ◌+◌, ◌-◌, ◌*◌, ◌/◌, ◌%◌, ◌^◌, ◌<◌, ◌≤◌, Bool, true, false, refl, ap, sym, subst, ◌∙◌, arith, List, [], ◌∷◌, ◌⊎◌, inl, inr, ℤ, pos, negsuc, ◌+ℤ◌, ◌-ℤ◌, ◌≤ℤ◌, ◌<ℤ◌}
 use Rattle.std.specs.Int.{w16, w32, w64, cast_unsigned, from_le_bytes, bit_at, int_rem_euclid}
 use Rattle.std.specs.List.{All}
 use Rattle.std.proofs.lemmas.Bool.{cases_lt}
@@ -11,7 +11,14 @@ use Rattle.linker_base.proofs.Pairs.{signed_cases, added, all_left, all_right}
 use Rattle.linker_base.proofs.Rounded.{IsSoundPart, sound_part, rounded_machine}
 use Rattle.linker_utils.specs.RiscV.{riscv_form, riscv_layout, riscv_places, ui_high, ui_low, ui_sum, IsPairRange, IsPairOf, PairReads}
 use Rattle.linker_utils.specs.declared.elf.RiscVInstruction.{RiscVInstruction}
-use Rattle.linker_utils.specs.declared.elf.RiscVInstruction.TheVariants.{UType, IType, SType, JType, CluiType, UiType}
+use Rattle.linker_utils.specs.declared.riscv64.forms.WordBits.{WordBits}
+use Rattle.linker_utils.specs.Inner.Immediates.{is_by_masks, riscv_bits}
+use Rattle.linker_utils.specs.Inner.Runs.{words_below}
+use Rattle.linker_utils.proofs.MovedBits.{Moved, up, laid, masks_write, written_by_masks}
+use Rattle.linker_utils.proofs.Runs.{laid_below}
+use Rattle.std.specs.Int.RustNames.{bit_or}
+use lib.Bits.{bit_and}
+use Rattle.linker_utils.specs.declared.elf.RiscVInstruction.TheVariants.{UType, IType, SType, BType, JType, CbType, CjType, CluiType, UiType}
 
 abbrev pub jtype_places : List ImmediateBit
 jtype_places = riscv_places JType
@@ -217,3 +224,36 @@ ui_read bytes high low e f =
     ∙ cast_add (signed 32 h) (signed 12 l)
     (signed_short 32 h (place_sum_below (riscv_places UType) 32 x refl refl) (omega arith))
     (signed_short 12 l (place_sum_below ui_low 12 x refl refl) (omega arith))
+
+-- ---- the forms of one word that a table of masks writes
+
+abbrev pub moved_bits : WordBits → List Moved
+moved_bits b =
+    record { way = up 0; mask = b.up_0 } ∷ record { way = up 7; mask = b.up_7 } ∷ record { way = up 20; mask = b.up_20 } ∷ []
+
+unfoldable pub WritesWord : WordBits → ℕ → ℕ → List ImmediateBit → Type 0
+WritesWord b v x ps =
+    let sum = (v + b.added) % 2 ^ 64 in
+    let after = bit_or (bit_or (bit_or (bit_and x b.kept) (bit_and sum b.up_0)) (bit_and (sum * 2 ^ 7 % 2 ^ 64) b.up_7)) (bit_and (sum * 2 ^ 20 % 2 ^ 64) b.up_20) in
+    BitsWritten ps v x after × (after < 2 ^ 32)
+
+written_word : (b : WordBits) (v x : ℕ) (ps : List ImmediateBit) → x < 2 ^ 32 → masks_write 32 b.added b.kept (moved_bits b) ps ≡ true → words_below 32 ps ≡ true
+    → WritesWord b v x ps
+unfolding WritesWord
+written_word b v x ps small h inside =
+    let sum = (v + b.added) % 2 ^ 64 in
+    let same : sum * 2 ^ 0 % 2 ^ 64 ≡ sum = omega arith in
+    let bits = subst (λ s. BitsWritten ps v x (bit_or (bit_or (bit_or (bit_and x b.kept) (bit_and s b.up_0)) (bit_and (sum * 2 ^ 7 % 2 ^ 64) b.up_7)) (bit_and (sum * 2 ^ 20 % 2 ^ 64) b.up_20))) same
+    (written_by_masks b.added b.kept (moved_bits b) v x 32 ps h small) in
+    (bits, laid_below ps 32 v x (bit_or (bit_or (bit_or (bit_and x b.kept) (bit_and sum b.up_0)) (bit_and (sum * 2 ^ 7 % 2 ^ 64) b.up_7)) (bit_and (sum * 2 ^ 20 % 2 ^ 64) b.up_20)) inside bits small)
+
+pub writes_word : (f : RiscVInstruction) (v x : ℕ) → is_by_masks f ≡ true → x < 2 ^ 32 → WritesWord (riscv_bits f) v x ((riscv_form f).places 0)
+writes_word UType v x o small = written_word (riscv_bits UType) v x (riscv_places UType) small refl refl
+writes_word IType v x o small = written_word (riscv_bits IType) v x (riscv_places IType) small refl refl
+writes_word SType v x o small = written_word (riscv_bits SType) v x (riscv_places SType) small refl refl
+writes_word BType v x o small = cc
+writes_word JType v x o small = cc
+writes_word CbType v x o small = cc
+writes_word CjType v x o small = cc
+writes_word CluiType v x o small = cc
+writes_word UiType v x o small = cc

@@ -66,11 +66,21 @@ impl Window {
     #[inline(always)]
     pub(crate) fn load(self, bytes: &[u8]) -> u64 {
         match self {
-            Window::Two => u16::from_le_bytes([bytes[0], bytes[1]]) as u64,
-            Window::Four => u32::from_le_bytes([bytes[0], bytes[1], bytes[2], bytes[3]]) as u64,
-            Window::Eight => u64::from_le_bytes([
-                bytes[0], bytes[1], bytes[2], bytes[3], bytes[4], bytes[5], bytes[6], bytes[7],
-            ]),
+            Window::Two => {
+                let mut half = [0u8; 2];
+                half.copy_from_slice(&bytes[..2]);
+                u16::from_le_bytes(half) as u64
+            }
+            Window::Four => {
+                let mut word = [0u8; 4];
+                word.copy_from_slice(&bytes[..4]);
+                u32::from_le_bytes(word) as u64
+            }
+            Window::Eight => {
+                let mut pair = [0u8; 8];
+                pair.copy_from_slice(&bytes[..8]);
+                u64::from_le_bytes(pair)
+            }
         }
     }
 
@@ -127,15 +137,18 @@ fn extract(runs: &[Run], window: u64) -> u64 {
     number
 }
 
-/// A number of `bits` bits in two's complement, at 64 bits, and whether it is below 0.
+/// A number of `_bits` bits in two's complement, at 64 bits, and whether it is below 0. `sign` is
+/// its highest bit; `_bits` is for the contract alone.
+#[inline(always)]
+pub(crate) fn signed_by(number: u64, _bits: u32, sign: u64) -> (u64, bool) {
+    // no branch, since the sign of what is read can seldom be foreseen
+    (number.wrapping_sub((number & sign) << 1), number >= sign)
+}
+
+/// The same, where the highest bit isn't known yet.
 #[inline(always)]
 pub(crate) fn signed_number(number: u64, bits: u32) -> (u64, bool) {
-    let sign = 1u64 << (bits - 1);
-    if number < sign {
-        (number, false)
-    } else {
-        (number.wrapping_sub(sign << 1), true)
-    }
+    signed_by(number, bits, 1 << (bits - 1))
 }
 
 /// Writes the runs of a value to the window that `dest` begins with.

@@ -49,21 +49,74 @@ const UI_TYPE: [Run; 2] = [run!(added 0x800: 12, 12, 20), run!(0, 52, 12)];
 
 const UI_LOW: [Run; 1] = [run!(0, 52, 12)];
 
+/// Where `UType`, `IType` and `SType` have the bits of the value plus `added`. The masks are of the
+/// word's bits: `kept` of those that a write leaves, the others of those that stand so many bits
+/// further up than in the sum.
+#[derive(Clone, Copy)]
+struct WordBits {
+    added: u64,
+    kept: u64,
+    up_0: u64,
+    up_7: u64,
+    up_20: u64,
+}
+
+const OTHER: WordBits = WordBits {
+    added: 0,
+    kept: 0xffff_ffff,
+    up_0: 0,
+    up_7: 0,
+    up_20: 0,
+};
+
+/// By the forms' places in their enum: a match of runs would be a jump by the form. With the bits of
+/// `BType` and `JType`, or for reads, a single form would take longer.
+static WORD_BITS: [WordBits; 9] = [
+    WordBits {
+        added: 0x800,
+        kept: 0x0fff,
+        up_0: 0xffff_f000,
+        ..OTHER
+    },
+    WordBits {
+        kept: 0x000f_ffff,
+        up_20: 0xfff0_0000,
+        ..OTHER
+    },
+    WordBits {
+        kept: 0x01ff_f07f,
+        up_7: 0x0f80,
+        up_20: 0xfe00_0000,
+        ..OTHER
+    },
+    OTHER,
+    OTHER,
+    OTHER,
+    OTHER,
+    OTHER,
+    OTHER,
+];
+
 impl RiscVInstruction {
+    /// Where the form has its bits.
+    #[inline(always)]
+    fn bits(self) -> WordBits {
+        WORD_BITS[self as usize]
+    }
+
+    /// An instruction with the bits of a value.
+    #[inline(always)]
+    fn laid(self, value: u64, word: u64) -> u64 {
+        let bits = self.bits();
+        let sum = value.wrapping_add(bits.added);
+        word & bits.kept | sum & bits.up_0 | sum << 7 & bits.up_7 | sum << 20 & bits.up_20
+    }
+
     /// Writes the bits of a value.
     #[inline(always)]
     fn place(self, value: u64, negative: bool, dest: &mut [u8]) {
         let insn = RelocationInstruction::RiscV(self);
         match self {
-            RiscVInstruction::UType => {
-                engine::write_form(insn, Window::Four, &U_TYPE, value, negative, dest);
-            }
-            RiscVInstruction::IType => {
-                engine::write_form(insn, Window::Four, &I_TYPE, value, negative, dest);
-            }
-            RiscVInstruction::SType => {
-                engine::write_form(insn, Window::Four, &S_TYPE, value, negative, dest);
-            }
             RiscVInstruction::BType => {
                 engine::write_form(insn, Window::Four, &B_TYPE, value, negative, dest);
             }
@@ -81,6 +134,10 @@ impl RiscVInstruction {
             }
             RiscVInstruction::UiType => {
                 engine::write_form(insn, Window::Eight, &UI_TYPE, value, negative, dest);
+            }
+            _ => {
+                let word = self.laid(value, Window::Four.load(dest));
+                Window::Four.store(word, dest);
             }
         }
     }

@@ -1,6 +1,14 @@
 -- Forms that are written by a table of masks.
-use Rattle.std.specs.Prelude.{ℕ, ◌-◌, ◌*◌, ◌^◌, Bool, true, false}
+use Rattle.std.specs.Prelude.{ℕ, ◌-◌, ◌*◌, ◌^◌, Bool, true, false, List}
+use Rattle.linker_base.specs.Form.{ImmediateBit}
+use Rattle.linker_utils.specs.LoongArch.{loongarch_form, shift10_low}
 use Rattle.linker_utils.specs.declared.aarch64.Immediate.{Immediate}
+use Rattle.linker_utils.specs.declared.loongarch64.forms.WordBits.{WordBits}
+use Rattle.linker_utils.specs.declared.riscv64.forms.WordBits as riscv
+use Rattle.linker_utils.specs.declared.elf.RiscVInstruction.{RiscVInstruction}
+use Rattle.linker_utils.specs.declared.elf.RiscVInstruction.TheVariants.{UType, IType, SType}
+use Rattle.linker_utils.specs.declared.elf.LoongArch64Instruction.{LoongArch64Instruction}
+use Rattle.linker_utils.specs.declared.elf.LoongArch64Instruction.TheVariants.{Shift5, Shift10, Branch26, Branch21, Call30, Call36}
 use Rattle.linker_utils.specs.declared.elf.AArch64Instruction.{AArch64Instruction}
 use Rattle.linker_utils.specs.declared.elf.AArch64Instruction.TheVariants.{Adr, Movkz, Movnz, Ldr}
 use Rattle.linker_utils.specs.declared.elf.AArch64Instruction.TheVariants.{LdrRegister}
@@ -31,3 +39,44 @@ aarch64_immediate TstBr = lowest_bits 14 14 5
 aarch64_immediate Bcond = lowest_bits 19 19 5
 aarch64_immediate JumpCall = lowest_bits 26 26 0
 aarch64_immediate MachOLow12 = lowest_bits 0 0 0
+
+-- ---- LoongArch
+
+-- the window is one word
+abbrev pub is_one_word : LoongArch64Instruction → Bool
+is_one_word Call30 = false
+is_one_word Call36 = false
+is_one_word f = true
+
+abbrev pub pair_bits : WordBits
+pair_bits = record { end = 0; sign_bits = 63; sign = 2 ^ 62; kept = 0xffffffff; up_5 = 0; up_10 = 0; ored_10 = 0; down_16 = 0 }
+
+abbrev pub loongarch_bits : LoongArch64Instruction → WordBits
+loongarch_bits Shift5 = record pair_bits { end = 2 ^ 20; kept = 0xfe00001f; up_5 = 0x1ffffe0 }
+loongarch_bits Shift10 = record pair_bits { end = 2 ^ 16; kept = 0xffc003ff; up_10 = 0x3ffc00; ored_10 = 0x3c00000 }
+loongarch_bits Branch26 = record pair_bits { end = 2 ^ 26; sign_bits = 26; sign = 2 ^ 25; kept = 0xfc000000; up_10 = 0x3fffc00; down_16 = 0x3ff }
+loongarch_bits Branch21 = record pair_bits { end = 2 ^ 21; sign_bits = 21; sign = 2 ^ 20; kept = 0xfc0003e0; up_10 = 0x3fffc00; down_16 = 0x1f }
+loongarch_bits Call30 = record pair_bits { end = 2 ^ 20 }
+loongarch_bits Call36 = record pair_bits { end = 2 ^ 36 }
+
+-- the places that a read takes
+abbrev pub loongarch_read : LoongArch64Instruction → List ImmediateBit
+loongarch_read Shift10 = shift10_low
+loongarch_read f = (loongarch_form f).places 0
+
+-- ---- RISC-V
+
+abbrev pub is_by_masks : RiscVInstruction → Bool
+is_by_masks UType = true
+is_by_masks IType = true
+is_by_masks SType = true
+is_by_masks f = false
+
+abbrev pub other_bits : riscv.WordBits
+other_bits = record { added = 0; kept = 0xffffffff; up_0 = 0; up_7 = 0; up_20 = 0 }
+
+abbrev pub riscv_bits : RiscVInstruction → riscv.WordBits
+riscv_bits UType = record other_bits { added = 0x800; kept = 0xfff; up_0 = 0xfffff000 }
+riscv_bits IType = record other_bits { kept = 0xfffff; up_20 = 0xfff00000 }
+riscv_bits SType = record other_bits { kept = 0x1fff07f; up_7 = 0xf80; up_20 = 0xfe000000 }
+riscv_bits f = other_bits

@@ -1,24 +1,86 @@
 //! LoongArch: the immediates of instructions.
 
-ghost use Rattle.std.specs.Prelude.{◌≡◌, ◌≤◌, length, drop};
+ghost use Rattle.std.specs.Prelude.{◌≡◌, ◌≤◌, ◌<◌, ◌^◌, true, length, drop};
 ghost use Rattle.std.specs.Int.{byte_len, cast_unsigned, w64};
-ghost use Rattle.linker_base.specs.Form.{window_of, Fits, Written, MachineReads, IsReadBack};
+ghost use Rattle.linker_base.specs.Form.{window_of, BitsWritten, Fits, Written, MachineReads, IsReadBack, place_sum};
 ghost use Rattle.linker_utils.specs.Inner.FormLaws.{loongarch_keeps, loongarch_restored};
+ghost use Rattle.linker_utils.specs.Inner.Immediates.{is_one_word, loongarch_bits, loongarch_read};
 ghost use Rattle.linker_utils.specs.LoongArch.{loongarch_form, ReadsLow, Reaches};
 
 use crate::bit_misc::BitExtraction;
 use crate::elf::engine::{self, Run, Window, run};
 use crate::elf::{InstructionForm, LoongArch64Instruction, RelocationInstruction};
 
-const SHIFT_5: [Run; 1] = [run!(0, 5, 20)];
+/// Where a form of one word has its bits. The masks are of the word's bits: `kept` of those that a
+/// write leaves, the others of those that stand so many bits further up or down than in the value.
+/// The bits of `ored_10` are only ORed, and not read. The number is read in two's complement of
+/// `sign_bits` bits, of which `sign` is the highest: of 63, if it is read without a sign. Values
+/// below `end` fit.
+#[derive(Clone, Copy)]
+struct WordBits {
+    end: u64,
+    sign_bits: u32,
+    sign: u64,
+    kept: u64,
+    up_5: u64,
+    up_10: u64,
+    ored_10: u64,
+    down_16: u64,
+}
 
-const SHIFT_10: [Run; 2] = [run!(0, 10, 12), run!(ored 12, 22, 4)];
+const PAIR: WordBits = WordBits {
+    end: 0,
+    sign_bits: 63,
+    sign: 1 << 62,
+    kept: 0xffff_ffff,
+    up_5: 0,
+    up_10: 0,
+    ored_10: 0,
+    down_16: 0,
+};
 
-const SHIFT_10_LOW: [Run; 1] = [run!(0, 10, 12)];
-
-const BRANCH_26: [Run; 2] = [run!(0, 10, 16), run!(16, 0, 10)];
-
-const BRANCH_21: [Run; 2] = [run!(0, 10, 16), run!(16, 0, 5)];
+/// By the forms' places in their enum: a match of runs would be a jump by the form.
+static WORD_BITS: [WordBits; 6] = [
+    WordBits {
+        end: 1 << 20,
+        kept: 0xfe00_001f,
+        up_5: 0x01ff_ffe0,
+        ..PAIR
+    },
+    WordBits {
+        end: 1 << 16,
+        kept: 0xffc0_03ff,
+        up_10: 0x003f_fc00,
+        ored_10: 0x03c0_0000,
+        ..PAIR
+    },
+    WordBits {
+        end: 1 << 26,
+        sign_bits: 26,
+        sign: 1 << 25,
+        kept: 0xfc00_0000,
+        up_10: 0x03ff_fc00,
+        down_16: 0x03ff,
+        ..PAIR
+    },
+    WordBits {
+        end: 1 << 21,
+        sign_bits: 21,
+        sign: 1 << 20,
+        kept: 0xfc00_03e0,
+        up_10: 0x03ff_fc00,
+        down_16: 0x001f,
+        ..PAIR
+    },
+    WordBits {
+        end: 1 << 20,
+        ..PAIR
+    },
+    WordBits {
+        end: 1 << 36,
+        ..PAIR
+    },
+];
 
 const CALL_30: [Run; 3] = [run!(9, 14, 11), run!(0, 42, 9), run!(cleared 5, 9)];
 
@@ -29,6 +91,42 @@ const CALL_36_HIGH: [Run; 1] = [run!(added 0x8000: 16, 5, 20)];
 const CALL_36_LOW: [Run; 1] = [run!(0, 42, 16)];
 
 impl LoongArch64Instruction {
+    /// Where the form has its bits.
+    #[inline(always)]
+    fn bits(self) -> WordBits
+        ensures { result ≡ loongarch_bits self }
+    {
+        WORD_BITS[self as usize]
+    }
+
+    /// An instruction with the bits of a value.
+    #[inline(always)]
+    fn laid(self, value: u64, word: u64) -> u64
+        requires plain { is_one_word self ≡ true }
+        requires small { word < 2 ^ 32 }
+        ensures small { result < 2 ^ 32 }
+        ensures written { BitsWritten ((loongarch_form self).places 0) value word result }
+    {
+        let bits = self.bits();
+        word & bits.kept
+            | value << 5 & bits.up_5
+            | value << 10 & bits.up_10
+            | value << 10 & bits.ored_10
+            | value >> 16 & bits.down_16
+    }
+
+    /// The number in the bits that are read.
+    #[inline(always)]
+    fn taken(self, word: u64) -> u64
+        requires plain { is_one_word self ≡ true }
+        requires small { word < 2 ^ 32 }
+        ensures number { result ≡ place_sum (loongarch_read self) word }
+        ensures small { result < 2 ^ (loongarch_bits self).sign_bits }
+    {
+        let bits = self.bits();
+        (word & bits.up_5) >> 5 | (word & bits.up_10) >> 10 | (word & bits.down_16) << 16
+    }
+
     /// Writes the bits of a value.
     #[inline(always)]
     fn place(self, value: u64, negative: bool, dest: &mut [u8])
@@ -43,23 +141,15 @@ impl LoongArch64Instruction {
     {
         let insn = RelocationInstruction::LoongArch64(self);
         match self {
-            LoongArch64Instruction::Shift5 => {
-                engine::write_form(insn, Window::Four, &SHIFT_5, value, negative, dest);
-            }
-            LoongArch64Instruction::Shift10 => {
-                engine::write_form(insn, Window::Four, &SHIFT_10, value, negative, dest);
-            }
-            LoongArch64Instruction::Branch26 => {
-                engine::write_form(insn, Window::Four, &BRANCH_26, value, negative, dest);
-            }
-            LoongArch64Instruction::Branch21 => {
-                engine::write_form(insn, Window::Four, &BRANCH_21, value, negative, dest);
-            }
             LoongArch64Instruction::Call30 => {
                 engine::write_form(insn, Window::Eight, &CALL_30, value, negative, dest);
             }
             LoongArch64Instruction::Call36 => {
                 engine::write_form(insn, Window::Eight, &CALL_36, value, negative, dest);
+            }
+            _ => {
+                let word = self.laid(value, Window::Four.load(dest));
+                Window::Four.store(word, dest);
             }
         }
     }
@@ -96,24 +186,16 @@ impl LoongArch64Instruction {
         ensures flag { result.1
             ≡ (loongarch_form self).flag (window_of (loongarch_form self) bytes.now) }
     {
-        let insn = RelocationInstruction::LoongArch64(self);
         match self {
-            LoongArch64Instruction::Shift5 => {
-                engine::read_form(insn, Window::Four, &SHIFT_5, bytes)
-            }
-            LoongArch64Instruction::Shift10 => {
-                (engine::read(Window::Four, &SHIFT_10_LOW, bytes), false)
-            }
-            LoongArch64Instruction::Branch26 => {
-                engine::read_flagged_form(insn, Window::Four, &BRANCH_26, 26, bytes)
-            }
-            LoongArch64Instruction::Branch21 => {
-                engine::read_flagged_form(insn, Window::Four, &BRANCH_21, 21, bytes)
-            }
             LoongArch64Instruction::Call30 => {
                 (engine::read(Window::Eight, &CALL_30, bytes), false)
             }
             LoongArch64Instruction::Call36 => (read_call_36(bytes), false),
+            _ => {
+                let number = self.taken(Window::Four.load(bytes));
+                let bits = self.bits();
+                engine::signed_by(number, bits.sign_bits, bits.sign)
+            }
         }
     }
 }
@@ -148,13 +230,7 @@ impl InstructionForm for LoongArch64Instruction {
 
     #[inline]
     fn fits(self, value: u64, _bytes: &[u8]) -> bool {
-        match self {
-            LoongArch64Instruction::Shift5 | LoongArch64Instruction::Call30 => value < 1 << 20,
-            LoongArch64Instruction::Shift10 => value < 1 << 16,
-            LoongArch64Instruction::Branch26 => value < 1 << 26,
-            LoongArch64Instruction::Branch21 => value < 1 << 21,
-            LoongArch64Instruction::Call36 => value < 1 << 36,
-        }
+        value < self.bits().end
     }
 
     #[inline]

@@ -1,9 +1,10 @@
 //! RISC-V: the immediates of instructions.
 
-ghost use Rattle.std.specs.Prelude.{◌≡◌, ◌≤◌, length, drop};
+ghost use Rattle.std.specs.Prelude.{◌≡◌, ◌≤◌, ◌<◌, ◌^◌, true, length, drop};
 ghost use Rattle.std.specs.Int.{byte_len, cast_unsigned, w64};
-ghost use Rattle.linker_base.specs.Form.{window_of, Written, MachineReads, IsReadBack};
+ghost use Rattle.linker_base.specs.Form.{window_of, BitsWritten, Written, MachineReads, IsReadBack};
 ghost use Rattle.linker_utils.specs.Inner.FormLaws.{riscv_keeps, riscv_restored};
+ghost use Rattle.linker_utils.specs.Inner.Immediates.{is_by_masks, riscv_bits};
 ghost use Rattle.linker_utils.specs.RiscV.{riscv_form, PairReads};
 
 use crate::elf::engine::{self, Run, Window, run};
@@ -54,7 +55,76 @@ const UI_TYPE: [Run; 2] = [run!(added 0x800: 12, 12, 20), run!(0, 52, 12)];
 
 const UI_LOW: [Run; 1] = [run!(0, 52, 12)];
 
+/// Where `UType`, `IType` and `SType` have the bits of the value plus `added`. The masks are of the
+/// word's bits: `kept` of those that a write leaves, the others of those that stand so many bits
+/// further up than in the sum.
+#[derive(Clone, Copy)]
+struct WordBits {
+    added: u64,
+    kept: u64,
+    up_0: u64,
+    up_7: u64,
+    up_20: u64,
+}
+
+const OTHER: WordBits = WordBits {
+    added: 0,
+    kept: 0xffff_ffff,
+    up_0: 0,
+    up_7: 0,
+    up_20: 0,
+};
+
+/// By the forms' places in their enum: a match of runs would be a jump by the form. With the bits of
+/// `BType` and `JType`, or for reads, a single form would take longer.
+static WORD_BITS: [WordBits; 9] = [
+    WordBits {
+        added: 0x800,
+        kept: 0x0fff,
+        up_0: 0xffff_f000,
+        ..OTHER
+    },
+    WordBits {
+        kept: 0x000f_ffff,
+        up_20: 0xfff0_0000,
+        ..OTHER
+    },
+    WordBits {
+        kept: 0x01ff_f07f,
+        up_7: 0x0f80,
+        up_20: 0xfe00_0000,
+        ..OTHER
+    },
+    OTHER,
+    OTHER,
+    OTHER,
+    OTHER,
+    OTHER,
+    OTHER,
+];
+
 impl RiscVInstruction {
+    /// Where the form has its bits.
+    #[inline(always)]
+    fn bits(self) -> WordBits
+        ensures { result ≡ riscv_bits self }
+    {
+        WORD_BITS[self as usize]
+    }
+
+    /// An instruction with the bits of a value.
+    #[inline(always)]
+    fn laid(self, value: u64, word: u64) -> u64
+        requires plain { is_by_masks self ≡ true }
+        requires small { word < 2 ^ 32 }
+        ensures small { result < 2 ^ 32 }
+        ensures written { BitsWritten ((riscv_form self).places 0) value word result }
+    {
+        let bits = self.bits();
+        let sum = value.wrapping_add(bits.added);
+        word & bits.kept | sum & bits.up_0 | sum << 7 & bits.up_7 | sum << 20 & bits.up_20
+    }
+
     /// Writes the bits of a value.
     #[inline(always)]
     fn place(self, value: u64, negative: bool, dest: &mut [u8])
@@ -68,15 +138,6 @@ impl RiscVInstruction {
     {
         let insn = RelocationInstruction::RiscV(self);
         match self {
-            RiscVInstruction::UType => {
-                engine::write_form(insn, Window::Four, &U_TYPE, value, negative, dest);
-            }
-            RiscVInstruction::IType => {
-                engine::write_form(insn, Window::Four, &I_TYPE, value, negative, dest);
-            }
-            RiscVInstruction::SType => {
-                engine::write_form(insn, Window::Four, &S_TYPE, value, negative, dest);
-            }
             RiscVInstruction::BType => {
                 engine::write_form(insn, Window::Four, &B_TYPE, value, negative, dest);
             }
@@ -94,6 +155,10 @@ impl RiscVInstruction {
             }
             RiscVInstruction::UiType => {
                 engine::write_form(insn, Window::Eight, &UI_TYPE, value, negative, dest);
+            }
+            _ => {
+                let word = self.laid(value, Window::Four.load(dest));
+                Window::Four.store(word, dest);
             }
         }
     }
