@@ -4,6 +4,7 @@
 #![doc = include_str!("../doc/elf.md")]
 
 pub(crate) mod engine;
+pub(crate) mod prepared;
 mod reach;
 mod relocate;
 pub(crate) mod rows;
@@ -11,6 +12,7 @@ mod value;
 
 use crate::bit_misc::BitRange;
 use crate::relaxation::RelocationModifier;
+pub use prepared::PreparedRow;
 pub use relocate::RelocateError;
 pub use value::Operands;
 

@@ -2,6 +2,7 @@
 //! of forms and of rewrites.
 
 pub(crate) mod engine;
+pub(crate) mod prepared;
 mod reach;
 mod relocate;
 pub(crate) mod rows;
@@ -17,6 +18,7 @@ ghost use Rattle.linker_utils.specs.Inner.FormLaws.{relocation_keeps, relocation
 
 use crate::bit_misc::BitRange;
 use crate::relaxation::RelocationModifier;
+pub use prepared::PreparedRow;
 pub use relocate::RelocateError;
 use std::marker::Model;
 pub use value::Operands;
