@@ -28,6 +28,7 @@ pub const BEHIND: Calls = Calls {
         original::Direct.relocate(machine, relocations, section)
     },
     relocate_all: |_, _| None,
+    relocate_each: |_, _, _| None,
     deltas: |list| Box::new(Behind(original::new(list.to_vec()))),
     new_side: |list| original::Direct.new_side(list),
     merge_side: |first, second| original::Direct.merge_side(first, second),

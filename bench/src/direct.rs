@@ -322,6 +322,20 @@ library!(
         deltas.merge_additional(&more).expect("memory")
     },
     {
+        fn relocate_each(
+            &self,
+            machine: u16,
+            relocations: &[Fixup],
+            section: &mut [u8],
+        ) -> Option<bool> {
+            let written = |fixup: &Fixup| {
+                let place = &mut section[fixup.offset..];
+                let row = row_of(machine, fixup.r_type);
+                row.is_some_and(|row| row.write(fixup.value, place).is_ok())
+            };
+            Some(relocations.iter().all(written))
+        }
+
         fn pack_side<'a>(
             &self,
             section: &'a [u8],

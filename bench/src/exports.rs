@@ -23,6 +23,7 @@ pub struct Calls {
     pub highest: unsafe extern "C" fn(u64, u64) -> u64,
     pub relocate: fn(u16, &[Fixup], &mut [u8]) -> bool,
     pub relocate_all: for<'a> fn(u16, &'a [Fixup]) -> Option<RelocateAll<'a>>,
+    pub relocate_each: fn(u16, &[Fixup], &mut [u8]) -> Option<bool>,
     pub deltas: fn(&[(u64, u32)]) -> Box<dyn Deltas>,
     pub new_side: for<'a> fn(&'a [(u64, u32)]) -> Side<'a>,
     pub merge_side: for<'a> fn(&'a [(u64, u32)], &'a [(u64, u32)]) -> Side<'a>,
@@ -56,6 +57,15 @@ pub const EXPORTS: Calls = Calls {
         let entries: Vec<sathunne::Relocation> = list.iter().map(entry).collect();
         Some(Box::new(move |section| {
             sathunne::relocate_all(architecture, section, &entries).is_ok()
+        }))
+    },
+    relocate_each: |machine, relocations, section| {
+        let relocate: unsafe extern "C" fn(u16, u32, i64, *mut u8, usize) -> u32 =
+            black_box(linker_utils_relocate_nonnull);
+        Some(relocations.iter().all(|fixup| {
+            let place = &mut section[fixup.offset..];
+            let (place, len) = (place.as_mut_ptr(), place.len());
+            unsafe { relocate(machine, fixup.r_type, fixup.value, place, len) == 0 }
         }))
     },
     deltas: |list| Box::new(created(&deletions_of(list))),
@@ -104,6 +114,15 @@ pub const EXPORTS: Calls = Calls {
 impl Library for Calls {
     fn relocate_all<'a>(&self, machine: u16, list: &'a [Fixup]) -> Option<RelocateAll<'a>> {
         (self.relocate_all)(machine, list)
+    }
+
+    fn relocate_each(
+        &self,
+        machine: u16,
+        relocations: &[Fixup],
+        section: &mut [u8],
+    ) -> Option<bool> {
+        (self.relocate_each)(machine, relocations, section)
     }
 
     fn write(&self, _mix: Mix, values: &[Value], words: &mut [u8]) {

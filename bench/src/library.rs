@@ -70,6 +70,10 @@ pub trait Library {
     fn relocate_all<'a>(&self, _machine: u16, _: &'a [Fixup]) -> Option<RelocateAll<'a>> {
         None
     }
+    /// `relocate`, each relocation by the library's call that looks it up, tests and writes.
+    fn relocate_each(&self, _machine: u16, _: &[Fixup], _section: &mut [u8]) -> Option<bool> {
+        None
+    }
     fn modifiers(&self, _rewrites: &[Rewrite]) -> Option<u64> {
         None
     }

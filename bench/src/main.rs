@@ -331,6 +331,19 @@ fn streams(report: &mut Report) {
             let sides = [exports, behind, erased, original];
             report.line(&format!("{name}, as one call"), COUNT, is_same, sides);
         }
+        // one by one, by `linker_utils_relocate` and `RelocationKindInfo::write`
+        let [exports, _, erased, _] = each(|library| {
+            library.relocate_each(machine, &[], &mut [])?;
+            Some(Side::writes(section.clone(), move |section| {
+                assert_eq!(
+                    library.relocate_each(machine, relocations, section),
+                    Some(true)
+                );
+            }))
+        });
+        let [_, behind, _, original] = each(one_by_one);
+        let sides = [exports, behind, erased, original];
+        report.line(&format!("{name}, by one call each"), COUNT, is_same, sides);
     }
 }
 

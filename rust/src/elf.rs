@@ -4,6 +4,7 @@
 #![doc = include_str!("../doc/elf.md")]
 
 pub(crate) mod engine;
+pub(crate) mod prepared;
 mod reach;
 mod relocate;
 pub(crate) mod rows;
@@ -11,6 +12,7 @@ mod value;
 
 use crate::bit_misc::BitRange;
 use crate::relaxation::RelocationModifier;
+pub use prepared::PreparedRow;
 pub use relocate::RelocateError;
 pub use rows::mask_number;
 pub use value::Operands;
@@ -425,12 +427,22 @@ pub trait InstructionRewrite: Copy {
     fn next_modifier(&self) -> RelocationModifier;
 }
 
+/// The lengths of RISC-V's windows, by the forms' places in their enum.
+static RISCV_WINDOWS: [usize; 9] = [4, 4, 4, 4, 4, 2, 2, 2, 8];
+
+/// What the form's `window` returns, where a processor can't foresee the form: LLVM makes branches
+/// of a match.
+#[inline(always)]
+fn riscv_window(insn: RiscVInstruction) -> usize {
+    RISCV_WINDOWS[insn as usize]
+}
+
 impl InstructionForm for RelocationInstruction {
     #[inline]
     fn window(self) -> usize {
         match self {
             RelocationInstruction::AArch64(insn) => insn.window(),
-            RelocationInstruction::RiscV(insn) => insn.window(),
+            RelocationInstruction::RiscV(insn) => riscv_window(insn),
             RelocationInstruction::Ppc64(insn) => insn.window(),
             RelocationInstruction::LoongArch64(insn) => insn.window(),
         }

@@ -15,7 +15,7 @@ pub use calls::{
     jal_site, jal_site_with, relax_call, relax_call_over,
 };
 pub use relocations::{
-    RiscVRelocation, relocation_type_from_raw, relocation_type_from_table,
+    RiscVRelocation, prepared_row, relocation_type_from_raw, relocation_type_from_table,
     tls_descriptor_relocation,
 };
 pub use rewrites::RelaxationKind;

@@ -16,6 +16,7 @@ pub mod Packed
 pub mod PackedRows
 pub mod Ppc64Forms
 pub mod Ppc64Pairs
+pub mod Prepared
 pub mod Readings
 pub mod Relocated
 pub mod RelocationLaws

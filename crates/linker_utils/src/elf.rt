@@ -2,6 +2,7 @@
 //! of forms and of rewrites.
 
 pub(crate) mod engine;
+pub(crate) mod prepared;
 mod reach;
 mod relocate;
 pub(crate) mod rows;
@@ -14,9 +15,11 @@ ghost use Rattle.linker_base.specs.Rewrite.{Rewrite, CanRewrite, rewritten, offs
 ghost use Rattle.linker_base.specs.declared.relaxation.RelocationModifier.{RelocationModifier};
 ghost use Rattle.linker_utils.specs.Elf.{architecture_of, machine_of, relocation_form, bit_bounds, IsAllowed};
 ghost use Rattle.linker_utils.specs.Inner.FormLaws.{relocation_keeps, relocation_restored};
+ghost use Rattle.linker_utils.specs.RiscV.{riscv_form};
 
 use crate::bit_misc::BitRange;
 use crate::relaxation::RelocationModifier;
+pub use prepared::PreparedRow;
 pub use relocate::RelocateError;
 pub use rows::mask_number;
 use std::marker::Model;
@@ -484,6 +487,18 @@ pub trait InstructionRewrite: Copy {
         ensures { result ≡ modifier self.now };
 }
 
+/// The lengths of RISC-V's windows, by the forms' places in their enum.
+static RISCV_WINDOWS: [usize; 9] = [4, 4, 4, 4, 4, 2, 2, 2, 8];
+
+/// What the form's `window` returns, where a processor can't foresee the form: LLVM makes branches
+/// of a match.
+#[inline(always)]
+fn riscv_window(insn: RiscVInstruction) -> usize
+    ensures { result ≡ byte_len (riscv_form insn).window }
+{
+    RISCV_WINDOWS[insn as usize]
+}
+
 impl InstructionForm for RelocationInstruction {
     ghost form = { relocation_form };
 
@@ -495,7 +510,7 @@ impl InstructionForm for RelocationInstruction {
     fn window(self) -> usize {
         match self {
             RelocationInstruction::AArch64(insn) => insn.window(),
-            RelocationInstruction::RiscV(insn) => insn.window(),
+            RelocationInstruction::RiscV(insn) => riscv_window(insn),
             RelocationInstruction::Ppc64(insn) => insn.window(),
             RelocationInstruction::LoongArch64(insn) => insn.window(),
         }

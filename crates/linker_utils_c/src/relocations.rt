@@ -5,6 +5,7 @@ ghost use Rattle.linker_utils.specs.declared.elf.RelocationKindInfo.{RelocationK
 ghost use Rattle.linker_utils.specs.Elf.{architecture_of};
 ghost use Rattle.linker_utils.specs.ElfNames.{ElfName, named, unnamed};
 ghost use Rattle.linker_utils.specs.RiscVNames.{riscv_name};
+ghost use Rattle.linker_utils.specs.Inner.Prepared.{row_in, IsPrepared};
 ghost use Rattle.linker_utils.specs.RiscVRows.{clui_row, riscv_tls_descriptor_row};
 ghost use Rattle.linker_utils_c.specs.Status.{code};
 ghost use Rattle.linker_utils_c.specs.Forms.{named_form};
@@ -14,7 +15,8 @@ ghost use Rattle.linker_utils_c.specs.Relocations.{IsMeaning, IsOf, IsElfName, I
 use crate::status::Status;
 use linker_utils::aarch64::{self, AArch64Relocation};
 use linker_utils::elf::{
-    Architecture, RelocationInstruction, RelocationKindInfo, RelocationSize, mask_number,
+    Architecture, PreparedRow, RelocationInstruction, RelocationKindInfo, RelocationSize,
+    mask_number,
 };
 use linker_utils::loongarch64::{self, LoongArch64Relocation};
 use linker_utils::ppc64::{self, Ppc64Relocation};
@@ -86,6 +88,21 @@ fn riscv_meaning_of(name: RiscVRelocation) -> Option<RelocationKindInfo>
     match riscv64::relocation_type_from_table(name) {
         Some(info) => Some(info),
         None => riscv64::tls_descriptor_relocation(name),
+    }
+}
+
+/// `riscv_meaning_of`, with the bounds of its reach.
+#[inline(always)]
+pub(crate) fn prepared_riscv_meaning_of(name: RiscVRelocation) -> Option<PreparedRow>
+    ensures row { row_in result ≡ riscv_meaning name }
+    ensures prepared { IfSome result IsPrepared }
+{
+    match riscv64::prepared_row(name) {
+        Some(row) => Some(row),
+        None => match riscv64::tls_descriptor_relocation(name) {
+            Some(row) => Some(PreparedRow::of(row)),
+            None => None,
+        },
     }
 }
 

@@ -1,12 +1,17 @@
 // Made by tools/erase of crates/linker_utils_c/src/relocate.rt.
 //! Relocations: their values, their reach, and writing them.
 
-use crate::relocations::meaning_of;
+use crate::relocations::{meaning_of, prepared_riscv_meaning_of};
 use crate::status::Status;
-use linker_utils::elf::{Architecture, Operands, RelocateError, RelocationKindInfo, Uleb128Role};
-use linker_utils::loongarch64::LoongArch64Relocation;
+use linker_utils::aarch64::{self, AArch64Relocation};
+use linker_utils::elf::{
+    Architecture, Operands, PreparedRow, RelocateError, RelocationKindInfo, Uleb128Role,
+};
+use linker_utils::loongarch64::{self, LoongArch64Relocation};
+use linker_utils::ppc64::{self, Ppc64Relocation};
 use linker_utils::riscv64::RiscVRelocation;
 use linker_utils::utils::{self, Uleb128Error};
+use linker_utils::x86_64::{self, X86_64Relocation};
 
 /// The value of the relocation with `r_type` in files with `e_machine` `machine`. The first that
 /// applies of `UnknownArchitecture`; `UnknownRelocation`; `NoValue`.
@@ -80,11 +85,39 @@ fn status_of(outcome: Result<(), RelocateError>) -> u32 {
     }
 }
 
+/// Writes a value as its row says, if it has one.
+#[inline(always)]
+fn written(row: Option<PreparedRow>, value: i64, dest: &mut [u8]) -> u32 {
+    match row {
+        Some(row) => status_of(row.write(value, dest)),
+        None => Status::UnknownRelocation.number(),
+    }
+}
+
+/// Each architecture has a write of its own, which asks for no other's forms.
 #[inline(always)]
 fn relocate(architecture: Architecture, r_type: u32, value: i64, dest: &mut [u8]) -> u32 {
-    match meaning_of(architecture, r_type) {
-        Some(meaning) => status_of(meaning.write(value, dest)),
-        None => Status::UnknownRelocation.number(),
+    match architecture {
+        Architecture::AArch64 => {
+            let row = aarch64::prepared_row(AArch64Relocation::from_elf(r_type));
+            written(row, value, dest)
+        }
+        Architecture::RiscV => {
+            let row = prepared_riscv_meaning_of(RiscVRelocation::from_elf(r_type));
+            written(row, value, dest)
+        }
+        Architecture::LoongArch64 => {
+            let row = loongarch64::prepared_row(LoongArch64Relocation::from_elf(r_type));
+            written(row, value, dest)
+        }
+        Architecture::Ppc64 => {
+            let row = ppc64::prepared_row(Ppc64Relocation::from_elf(r_type));
+            written(row, value, dest)
+        }
+        Architecture::X86_64 => {
+            let row = x86_64::prepared_row(X86_64Relocation::from_elf(r_type));
+            written(row, value, dest)
+        }
     }
 }
 

@@ -4,7 +4,8 @@
 use crate::status::Status;
 use linker_utils::aarch64::{self, AArch64Relocation};
 use linker_utils::elf::{
-    Architecture, RelocationInstruction, RelocationKindInfo, RelocationSize, mask_number,
+    Architecture, PreparedRow, RelocationInstruction, RelocationKindInfo, RelocationSize,
+    mask_number,
 };
 use linker_utils::loongarch64::{self, LoongArch64Relocation};
 use linker_utils::ppc64::{self, Ppc64Relocation};
@@ -71,6 +72,18 @@ fn riscv_meaning_of(name: RiscVRelocation) -> Option<RelocationKindInfo> {
     match riscv64::relocation_type_from_table(name) {
         Some(info) => Some(info),
         None => riscv64::tls_descriptor_relocation(name),
+    }
+}
+
+/// `riscv_meaning_of`, with the bounds of its reach.
+#[inline(always)]
+pub(crate) fn prepared_riscv_meaning_of(name: RiscVRelocation) -> Option<PreparedRow> {
+    match riscv64::prepared_row(name) {
+        Some(row) => Some(row),
+        None => match riscv64::tls_descriptor_relocation(name) {
+            Some(row) => Some(PreparedRow::of(row)),
+            None => None,
+        },
     }
 }
 

@@ -69,7 +69,7 @@ fn number_over(kind: RelocationKind, len: usize, value: i64, dest: &[u8]) -> u64
 
 /// Writes whole bytes.
 #[inline(always)]
-fn write_bytes(kind: RelocationKind, len: usize, value: i64, dest: &mut [u8]) {
+pub(crate) fn write_bytes(kind: RelocationKind, len: usize, value: i64, dest: &mut [u8]) {
     let number = number_over(kind, len, value, dest);
     store(len, number, dest);
 }
@@ -105,7 +105,7 @@ fn taken_bits(bits: BitRange, number: u64) -> u64 {
 
 /// Writes bits of a value into an instruction. By itself, so that `write` is small enough to be
 /// inlined, and its row never stands in memory.
-fn write_bits(insn: RelocationInstruction, bits: BitRange, value: i64, dest: &mut [u8]) {
+pub(crate) fn write_bits(insn: RelocationInstruction, bits: BitRange, value: i64, dest: &mut [u8]) {
     let taken = taken_bits(bits, value.cast_unsigned());
     clear(insn, bits, dest);
     insn.write(taken, value < 0, dest);
@@ -114,14 +114,14 @@ fn write_bits(insn: RelocationInstruction, bits: BitRange, value: i64, dest: &mu
 impl RelocationKindInfo {
     /// Whether `write` writes values of this row, whatever their number.
     #[inline(always)]
-    fn is_supported(&self) -> bool {
+    pub(crate) fn is_supported(&self) -> bool {
         let takes_size = match self.size {
             RelocationSize::ByteSize(len) => {
+                // the length is asked first: a processor foresees its answer
                 let is_of_uleb128 = match self.kind {
                     RelocationKind::PairSubtractionULEB128RiscV
                     | RelocationKind::PairSubtractionULEB128LoongArch => true,
-                    RelocationKind::Relative => len == 0,
-                    _ => false,
+                    kind => len == 0 && kind == RelocationKind::Relative,
                 };
                 len <= 8 && !is_of_uleb128
             }
@@ -141,7 +141,7 @@ impl RelocationKindInfo {
 
     /// Whether a value is a multiple of the row's alignment.
     #[inline(always)]
-    fn is_aligned(&self, value: i64) -> bool {
+    pub(crate) fn is_aligned(&self, value: i64) -> bool {
         // no division where the alignment is a power of two
         let exponent = self.alignment.trailing_zeros() % 64;
         let unit = 1u64 << exponent;

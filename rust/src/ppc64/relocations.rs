@@ -1,9 +1,11 @@
 // Made by tools/erase of crates/linker_utils/src/ppc64/relocations.rt.
 //! What the relocations of PowerPC64 mean.
 
+use crate::elf::prepared::{last_value, least_value};
 use crate::elf::rows::{pack, ppc64_size, unpack};
 use crate::elf::{
-    AllowedRange, Bias, Ppc64Instruction, RelocationKind, RelocationKindInfo, RelocationSize, Sign,
+    AllowedRange, Bias, Ppc64Instruction, PreparedRow, RelocationKind, RelocationKindInfo,
+    RelocationSize, Sign,
 };
 use core::fmt;
 
@@ -80,8 +82,8 @@ impl Ppc64Relocation {
     /// The relocation with a code, `r_type` in ELF files; `Other(code)` for a code without a name.
     #[inline(always)]
     pub fn from_elf(code: u32) -> Ppc64Relocation {
-        // each part is dense enough for a table
-        if code < 16 {
+        // the first part is dense enough for a table
+        if code < 128 {
             match code {
                 0 => Ppc64Relocation::R_PPC64_NONE,
                 1 => Ppc64Relocation::R_PPC64_ADDR32,
@@ -90,10 +92,6 @@ impl Ppc64Relocation {
                 6 => Ppc64Relocation::R_PPC64_ADDR16_HA,
                 10 => Ppc64Relocation::R_PPC64_REL24,
                 11 => Ppc64Relocation::R_PPC64_REL14,
-                _ => Ppc64Relocation::Other(code),
-            }
-        } else if code < 128 {
-            match code {
                 26 => Ppc64Relocation::R_PPC64_REL32,
                 38 => Ppc64Relocation::R_PPC64_ADDR64,
                 44 => Ppc64Relocation::R_PPC64_REL64,
@@ -532,4 +530,27 @@ pub fn relocation_type_from_table(name: Ppc64Relocation) -> Option<RelocationKin
 #[inline(never)]
 fn row_number(name: Ppc64Relocation) -> u64 {
     rows!(name, pack, 0)
+}
+
+/// `relocation_type_from_table`, with the bounds of the row's reach. They come from tables too.
+#[inline(always)]
+pub fn prepared_row(name: Ppc64Relocation) -> Option<PreparedRow> {
+    match relocation_type_from_table(name) {
+        Some(row) => Some(PreparedRow {
+            row,
+            least: least_number(name),
+            last: last_number(name),
+        }),
+        None => None,
+    }
+}
+
+#[inline(never)]
+fn least_number(name: Ppc64Relocation) -> i64 {
+    rows!(name, least_value, 0)
+}
+
+#[inline(never)]
+fn last_number(name: Ppc64Relocation) -> i64 {
+    rows!(name, last_value, 0)
 }

@@ -91,7 +91,7 @@ fn number_over(kind: RelocationKind, len: usize, value: i64, dest: &[u8]) -> u64
 
 /// Writes whole bytes.
 #[inline(always)]
-fn write_bytes(kind: RelocationKind, len: usize, value: i64, dest: &mut [u8])
+pub(crate) fn write_bytes(kind: RelocationKind, len: usize, value: i64, dest: &mut [u8])
     requires short { len ≤ 8 }
     requires room { len ≤ length dest.old }
     ensures { dest.new ≡ low_bytes len (number_written kind value (number_of_bytes len dest.old)) ++ drop len dest.old }
@@ -145,7 +145,7 @@ fn taken_bits(bits: BitRange, number: u64) -> u64
 
 /// Writes bits of a value into an instruction. By itself, so that `write` is small enough to be
 /// inlined, and its row never stands in memory.
-fn write_bits(insn: RelocationInstruction, bits: BitRange, value: i64, dest: &mut [u8])
+pub(crate) fn write_bits(insn: RelocationInstruction, bits: BitRange, value: i64, dest: &mut [u8])
     requires room { byte_len (relocation_form insn).window ≤ length dest.old }
     requires some { bits.start < bits.end }
     requires inside { bits.end ≤ 64 }
@@ -160,16 +160,16 @@ fn write_bits(insn: RelocationInstruction, bits: BitRange, value: i64, dest: &mu
 impl RelocationKindInfo {
     /// Whether `write` writes values of this row, whatever their number.
     #[inline(always)]
-    fn is_supported(&self) -> bool
+    pub(crate) fn is_supported(&self) -> bool
         ensures { result ≡ is_supported self.now }
     {
         let takes_size = match self.size {
             RelocationSize::ByteSize(len) => {
+                // the length is asked first: a processor foresees its answer
                 let is_of_uleb128 = match self.kind {
                     RelocationKind::PairSubtractionULEB128RiscV
                     | RelocationKind::PairSubtractionULEB128LoongArch => true,
-                    RelocationKind::Relative => len == 0,
-                    _ => false,
+                    kind => len == 0 && kind == RelocationKind::Relative,
                 };
                 len <= 8 && !is_of_uleb128
             }
@@ -191,7 +191,7 @@ impl RelocationKindInfo {
 
     /// Whether a value is a multiple of the row's alignment.
     #[inline(always)]
-    fn is_aligned(&self, value: i64) -> bool
+    pub(crate) fn is_aligned(&self, value: i64) -> bool
         requires some { 0 < self.now.alignment }
         requires short { self.now.alignment < 2 ^ 63 }
         ensures { IsTrue result ↔ IsAligned self.now.alignment value }

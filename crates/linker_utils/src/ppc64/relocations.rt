@@ -8,10 +8,13 @@ ghost use Rattle.linker_utils.specs.Ppc64Rows.{ppc64_row};
 ghost use Rattle.linker_utils.specs.ElfNames.{IsNameOf, code_of, text_of};
 ghost use Rattle.linker_utils.specs.Ppc64Names.{ppc64_name};
 ghost use Rattle.linker_utils.specs.Inner.PackedRows.{packed_row};
+ghost use Rattle.linker_utils.specs.Inner.Prepared.{least_of_row, last_of_row, row_in, IsPrepared};
 
+use crate::elf::prepared::{last_value, least_value};
 use crate::elf::rows::{pack, ppc64_size, unpack};
 use crate::elf::{
-    AllowedRange, Bias, Ppc64Instruction, RelocationKind, RelocationKindInfo, RelocationSize, Sign,
+    AllowedRange, Bias, Ppc64Instruction, PreparedRow, RelocationKind, RelocationKindInfo,
+    RelocationSize, Sign,
 };
 use std::fmt;
 
@@ -90,8 +93,8 @@ impl Ppc64Relocation {
     pub fn from_elf(code: u32) -> Ppc64Relocation
         ensures { IsNameOf ppc64_name code result }
     {
-        // each part is dense enough for a table
-        if code < 16 {
+        // the first part is dense enough for a table
+        if code < 128 {
             match code {
                 0 => Ppc64Relocation::R_PPC64_NONE,
                 1 => Ppc64Relocation::R_PPC64_ADDR32,
@@ -100,10 +103,6 @@ impl Ppc64Relocation {
                 6 => Ppc64Relocation::R_PPC64_ADDR16_HA,
                 10 => Ppc64Relocation::R_PPC64_REL24,
                 11 => Ppc64Relocation::R_PPC64_REL14,
-                _ => Ppc64Relocation::Other(code),
-            }
-        } else if code < 128 {
-            match code {
                 26 => Ppc64Relocation::R_PPC64_REL32,
                 38 => Ppc64Relocation::R_PPC64_ADDR64,
                 44 => Ppc64Relocation::R_PPC64_REL64,
@@ -578,4 +577,34 @@ fn row_number(name: Ppc64Relocation) -> u64
     ensures { result ≡ packed_row (ppc64_row name) }
 {
     rows!(name, pack, 0)
+}
+
+/// `relocation_type_from_table`, with the bounds of the row's reach. They come from tables too.
+#[inline(always)]
+pub fn prepared_row(name: Ppc64Relocation) -> Option<PreparedRow>
+    ensures row { row_in result ≡ ppc64_row name }
+    ensures prepared { IfSome result IsPrepared }
+{
+    match relocation_type_from_table(name) {
+        Some(row) => Some(PreparedRow {
+            row,
+            least: least_number(name),
+            last: last_number(name),
+        }),
+        None => None,
+    }
+}
+
+#[inline(never)]
+fn least_number(name: Ppc64Relocation) -> i64
+    ensures { result ≡ least_of_row (ppc64_row name) }
+{
+    rows!(name, least_value, 0)
+}
+
+#[inline(never)]
+fn last_number(name: Ppc64Relocation) -> i64
+    ensures { result ≡ last_of_row (ppc64_row name) }
+{
+    rows!(name, last_value, 0)
 }

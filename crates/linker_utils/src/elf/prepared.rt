@@ -1,0 +1,115 @@
+//! Rows with the bounds of their reach, which a write tests without a branch on the row's form.
+
+ghost use Rattle.std.specs.Prelude.{◌≡◌, ◌^◌, ◌<◌, IfErr, OnOk, Bool};
+ghost use Rattle.linker_utils.specs.Agrees.{AgreesBy, AgreesInReach, RowFits};
+ghost use Rattle.linker_utils.specs.Reach.{reach_of};
+ghost use Rattle.linker_utils.specs.Relocate.{IsAccepted, IsWritten, IsCause};
+ghost use Rattle.linker_utils.specs.Relocate.{SizeReads, SizeHolds, SizeNumber};
+ghost use Rattle.linker_utils.specs.Inner.Prepared.{least_within, last_within, IsPrepared};
+
+use crate::elf::relocate::{write_bits, write_bytes};
+use crate::elf::{AllowedRange, RelocateError, RelocationKindInfo, RelocationSize};
+
+/// A row of the relocation tables, with the least and the last value within its `reach`. Each
+/// architecture's `prepared_row` returns it for a name, and `of` for a row.
+#[derive(Clone, Copy)]
+pub struct PreparedRow {
+    /// What the relocation means.
+    pub row: RelocationKindInfo,
+    /// The least value within reach; `i64::MAX` if there is none.
+    pub least: i64,
+    /// The last value within reach; `i64::MIN` if there is none.
+    pub last: i64,
+}
+
+impl AllowedRange {
+    /// The least allowed value; `i64::MAX` if there is none.
+    #[inline(always)]
+    fn least(self) -> i64
+        ensures { result ≡ least_within self.bounds }
+    {
+        match self.bounds {
+            None => i64::MIN,
+            Some((min, max)) => { if min < max { min } else { i64::MAX } }
+        }
+    }
+
+    /// The last allowed value; `i64::MIN` if there is none.
+    #[inline(always)]
+    fn last(self) -> i64
+        ensures { result ≡ last_within self.bounds }
+    {
+        match self.bounds {
+            None => i64::MAX,
+            Some((min, max)) => { if min < max { max - 1 } else { i64::MIN } }
+        }
+    }
+}
+
+/// The least value within the reach of a row; `i64::MAX` if there is none.
+#[inline(always)]
+pub(crate) fn least_value(row: RelocationKindInfo) -> i64
+    ensures { result ≡ least_within (reach_of row) }
+{
+    row.reach().least()
+}
+
+/// The last value within the reach of a row; `i64::MIN` if there is none.
+#[inline(always)]
+pub(crate) fn last_value(row: RelocationKindInfo) -> i64
+    ensures { result ≡ last_within (reach_of row) }
+{
+    row.reach().last()
+}
+
+impl PreparedRow {
+    /// A row whose bits fit its instruction, as those of the relocation tables do.
+    #[inline(always)]
+    pub fn of(row: RelocationKindInfo) -> PreparedRow
+        requires fits { RowFits row }
+        ensures same { result.row ≡ row }
+        ensures prepared { IsPrepared result }
+    {
+        let reach = row.reach();
+        PreparedRow {
+            row,
+            least: reach.least(),
+            last: reach.last(),
+        }
+    }
+
+    /// What `RelocationKindInfo::write` of the row does.
+    #[inline(always)]
+    pub fn write(&self, value: i64, dest: &mut [u8]) -> Result<(), RelocateError>
+        requires prepared { IsPrepared self.now }
+        ensures ok { OnOk result (IsAccepted self.now.row value dest.old
+            × IsWritten self.now.row.size self.now.row.kind value dest.old dest.new) }
+        ensures number { OnOk result
+            (SizeNumber self.now.row.size self.now.row.kind value dest.old dest.new) }
+        ensures machine { OnOk result ((is_signed : Bool) → AgreesBy is_signed self.now.row
+            → SizeReads is_signed self.now.row.size self.now.row.range.bounds value dest.old dest.new) }
+        ensures reached { OnOk result ((is_signed : Bool) → AgreesInReach is_signed self.now.row
+            → SizeReads is_signed self.now.row.size (reach_of self.now.row) value dest.old dest.new) }
+        ensures pairs { OnOk result (SizeHolds self.now.row.size value dest.new) }
+        ensures err { IfErr result (λ error. IsCause self.now.row value dest.old error × (dest.new ≡ dest.old)) }
+    {
+        let row = self.row;
+        if !row.is_supported() {
+            return Err(RelocateError::Unsupported);
+        }
+        if dest.len() < row.window() {
+            return Err(RelocateError::TooShort);
+        }
+        if !row.is_aligned(value) {
+            return Err(RelocateError::Misaligned);
+        }
+        if value < self.least || self.last < value {
+            return Err(RelocateError::OutOfReach);
+        }
+        match row.size {
+            RelocationSize::ByteSize(len) => write_bytes(row.kind, len as usize, value, dest),
+            RelocationSize::BitMasking { range, insn } => write_bits(insn, range, value, dest),
+        }
+        Ok(())
+    }
+}

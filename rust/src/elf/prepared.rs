@@ -1,0 +1,93 @@
+// Made by tools/erase of crates/linker_utils/src/elf/prepared.rt.
+//! Rows with the bounds of their reach, which a write tests without a branch on the row's form.
+
+use crate::elf::relocate::{write_bits, write_bytes};
+use crate::elf::{AllowedRange, RelocateError, RelocationKindInfo, RelocationSize};
+
+/// A row of the relocation tables, with the least and the last value within its `reach`. Each
+/// architecture's `prepared_row` returns it for a name, and `of` for a row.
+#[derive(Clone, Copy)]
+pub struct PreparedRow {
+    /// What the relocation means.
+    pub row: RelocationKindInfo,
+    /// The least value within reach; `i64::MAX` if there is none.
+    pub least: i64,
+    /// The last value within reach; `i64::MIN` if there is none.
+    pub last: i64,
+}
+
+impl AllowedRange {
+    /// The least allowed value; `i64::MAX` if there is none.
+    #[inline(always)]
+    fn least(self) -> i64 {
+        match self.bounds {
+            None => i64::MIN,
+            Some((min, max)) => { if min < max { min } else { i64::MAX } }
+        }
+    }
+
+    /// The last allowed value; `i64::MIN` if there is none.
+    #[inline(always)]
+    fn last(self) -> i64 {
+        match self.bounds {
+            None => i64::MAX,
+            Some((min, max)) => { if min < max { max - 1 } else { i64::MIN } }
+        }
+    }
+}
+
+/// The least value within the reach of a row; `i64::MAX` if there is none.
+#[inline(always)]
+pub(crate) fn least_value(row: RelocationKindInfo) -> i64 {
+    row.reach().least()
+}
+
+/// The last value within the reach of a row; `i64::MIN` if there is none.
+#[inline(always)]
+pub(crate) fn last_value(row: RelocationKindInfo) -> i64 {
+    row.reach().last()
+}
+
+impl PreparedRow {
+    /// A row whose bits fit its instruction, as those of the relocation tables do.
+    ///
+    /// # Requires
+    ///
+    /// - fits: `RowFits row`
+    #[inline(always)]
+    pub fn of(row: RelocationKindInfo) -> PreparedRow {
+        let reach = row.reach();
+        PreparedRow {
+            row,
+            least: reach.least(),
+            last: reach.last(),
+        }
+    }
+
+    /// What `RelocationKindInfo::write` of the row does.
+    ///
+    /// # Requires
+    ///
+    /// - prepared: `IsPrepared self`
+    #[inline(always)]
+    pub fn write(&self, value: i64, dest: &mut [u8]) -> Result<(), RelocateError> {
+        let row = self.row;
+        if !row.is_supported() {
+            return Err(RelocateError::Unsupported);
+        }
+        if dest.len() < row.window() {
+            return Err(RelocateError::TooShort);
+        }
+        if !row.is_aligned(value) {
+            return Err(RelocateError::Misaligned);
+        }
+        if value < self.least || self.last < value {
+            return Err(RelocateError::OutOfReach);
+        }
+        match row.size {
+            RelocationSize::ByteSize(len) => write_bytes(row.kind, len as usize, value, dest),
+            RelocationSize::BitMasking { range, insn } => write_bits(insn, range, value, dest),
+        }
+        Ok(())
+    }
+}
