@@ -13,6 +13,8 @@ use Rattle.linker_base.specs.Inner.Listed.{IsWalked}
 use Rattle.linker_base.specs.declared.relaxation.walk.Reached.{Reached}
 use Rattle.linker_base.specs.Deletions.{begun_below}
 use Rattle.linker_base.proofs.Laws.{begun_parted}
+use Rattle.linker_base.proofs.Listed.{taken_up_to}
+use Rattle.linker_base.proofs.OutputPlaces.{bytes-le-offset}
 use Rattle.linker_base.proofs.Search.{blank, deletion_at, rank_from_search}
 
 -- a place that parts the deletions at i counts those that begin below it
@@ -107,6 +109,21 @@ step_back_stays ds valid passed i within back = elim (cases_lt passed (begun_bel
       absurd (back (λ k d inside.
       let low : k < passed = omega (arith, length-take passed ds) in
       rw (get_or-take passed ds k d low) (parted.0 k d (omega arith) (omega arith))))
+]
+
+-- the bytes that are passed end at the end of the last deletion or below
+pub walked_below_end : (ds : List (ℕ × ℕ)) → IsValid ds → (reached : Reached) → reached.passed ≤ length ds → IsWalked ds reached → reached.deleted ≤ reached.end
+walked_below_end ds valid reached within walked = elim (cases_lt 0 reached.passed) [
+  | inl some ↦
+      let last = reached.passed - 1 in
+      let inside : last < length ds = omega arith in
+      let one : last + 1 ≡ reached.passed = omega arith in
+      let bytes = rw one at (taken_up_to ds valid last (0, 0) inside).0 in
+      omega (arith, bytes, bytes-le-offset ds last (0, 0) valid.ascending inside, walked.end.last (0, 0) some, walked.sum)
+  | inr none ↦
+      let zero : reached.passed ≡ 0 = omega arith in
+      let sum : reached.deleted ≡ 0 = rw zero at walked.sum in
+      omega (arith, sum)
 ]
 
 -- a delta that is passed leaves its sum and its end

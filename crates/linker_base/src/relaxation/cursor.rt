@@ -61,11 +61,12 @@ impl<'a> RelaxCursor<'a> {
         ensures step_back { ¬ (IsAhead self.old input_offset)
             → result ≡ input_offset - passed_bytes self.new }
     {
-        if !self.is_ahead(input_offset) {
-            return input_offset - self.reached.deleted;
-        }
         self.reached = pass(self.deltas, self.reached, input_offset);
-        input_offset.max(self.reached.end) - self.reached.deleted
+        // A step back passes none.
+        if input_offset < self.reached.end && self.is_ahead(input_offset) {
+            return self.reached.end - self.reached.deleted;
+        }
+        input_offset - self.reached.deleted
     }
 
     /// Whether `input_offset` may be given to `translate`.
