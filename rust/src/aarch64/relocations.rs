@@ -2,7 +2,6 @@
 //! What the relocations of AArch64 mean.
 
 use self::AArch64Relocation as Name;
-use crate::elf::prepared::{last_value, least_value};
 use crate::elf::rows::{aarch64_size, pack, unpack};
 use crate::elf::{
     AArch64Instruction as Form, AllowedRange, PageMask, PageMaskPattern, PreparedRow,
@@ -979,25 +978,11 @@ fn row_number(name: AArch64Relocation) -> u64 {
     rows!(name, pack, 0)
 }
 
-/// `relocation_type_from_table`, with the bounds of the row's reach. They come from tables too.
+/// `relocation_type_from_table`, with the bounds of the row's reach.
 #[inline(always)]
 pub fn prepared_row(name: AArch64Relocation) -> Option<PreparedRow> {
     match relocation_type_from_table(name) {
-        Some(row) => Some(PreparedRow {
-            row,
-            least: least_number(name),
-            last: last_number(name),
-        }),
+        Some(row) => Some(PreparedRow::of(row)),
         None => None,
     }
-}
-
-#[inline(never)]
-fn least_number(name: AArch64Relocation) -> i64 {
-    rows!(name, least_value, 0)
-}
-
-#[inline(never)]
-fn last_number(name: AArch64Relocation) -> i64 {
-    rows!(name, last_value, 0)
 }

@@ -1,7 +1,6 @@
 // Made by tools/erase of crates/linker_utils/src/loongarch64/relocations.rt.
 //! What the relocations of LoongArch mean.
 
-use crate::elf::prepared::{last_value, least_value};
 use crate::elf::rows::{loongarch64_size, pack, unpack};
 use crate::elf::{
     AllowedRange, Bias, LoongArch64Instruction, PageMask, PageMaskPattern, PreparedRow,
@@ -568,27 +567,13 @@ fn row_number(name: LoongArch64Relocation) -> u64 {
     rows!(name, pack, 0)
 }
 
-/// `relocation_type_from_table`, with the bounds of the row's reach. They come from tables too.
+/// `relocation_type_from_table`, with the bounds of the row's reach.
 #[inline(always)]
 pub fn prepared_row(name: LoongArch64Relocation) -> Option<PreparedRow> {
     match relocation_type_from_table(name) {
-        Some(row) => Some(PreparedRow {
-            row,
-            least: least_number(name),
-            last: last_number(name),
-        }),
+        Some(row) => Some(PreparedRow::of(row)),
         None => None,
     }
-}
-
-#[inline(never)]
-fn least_number(name: LoongArch64Relocation) -> i64 {
-    rows!(name, least_value, 0)
-}
-
-#[inline(never)]
-fn last_number(name: LoongArch64Relocation) -> i64 {
-    rows!(name, last_value, 0)
 }
 
 /// A meaning without page mask, range, alignment and bias.

@@ -1,7 +1,6 @@
 // Made by tools/erase of crates/linker_utils/src/riscv64/relocations.rt.
 //! What the relocations of RISC-V mean.
 
-use crate::elf::prepared::{last_value, least_value};
 use crate::elf::rows::{pack, riscv_size, unpack};
 use crate::elf::{
     AllowedRange, PreparedRow, RelocationKind, RelocationKindInfo, RelocationSize,
@@ -557,27 +556,13 @@ fn row_number(name: RiscVRelocation) -> u64 {
     rows!(name, pack, 0)
 }
 
-/// `relocation_type_from_table`, with the bounds of the row's reach. They come from tables too.
+/// `relocation_type_from_table`, with the bounds of the row's reach.
 #[inline(always)]
 pub fn prepared_row(name: RiscVRelocation) -> Option<PreparedRow> {
     match relocation_type_from_table(name) {
-        Some(row) => Some(PreparedRow {
-            row,
-            least: least_number(name),
-            last: last_number(name),
-        }),
+        Some(row) => Some(PreparedRow::of(row)),
         None => None,
     }
-}
-
-#[inline(never)]
-fn least_number(name: RiscVRelocation) -> i64 {
-    rows!(name, least_value, 0)
-}
-
-#[inline(never)]
-fn last_number(name: RiscVRelocation) -> i64 {
-    rows!(name, last_value, 0)
 }
 
 /// What a relocation of TLS descriptors means (RISC-V ELF psABI, "TLS Descriptors"). Returns `None`

@@ -16,15 +16,6 @@ abbrev pub last_within : Bounds → ℤ
 last_within None = pos (2 ^ 63 - 1)
 last_within (Some b) = if int_lt b.0 b.1 then b.1 -ℤ pos 1 else neg_ℤ (pos (2 ^ 63))
 
--- of the row of a name, or 0
-abbrev pub least_of_row : Option RelocationKindInfo → ℤ
-least_of_row None = pos 0
-least_of_row (Some row) = least_within (reach_of row)
-
-abbrev pub last_of_row : Option RelocationKindInfo → ℤ
-last_of_row None = pos 0
-last_of_row (Some row) = last_within (reach_of row)
-
 -- what a write of the row rests on
 pub record IsPrepared (prepared : PreparedRow) : Type 0 where
   pub least : prepared.least ≡ least_within (reach_of prepared.row)

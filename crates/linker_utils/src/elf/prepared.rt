@@ -46,22 +46,6 @@ impl AllowedRange {
     }
 }
 
-/// The least value within the reach of a row; `i64::MAX` if there is none.
-#[inline(always)]
-pub(crate) fn least_value(row: RelocationKindInfo) -> i64
-    ensures { result ≡ least_within (reach_of row) }
-{
-    row.reach().least()
-}
-
-/// The last value within the reach of a row; `i64::MIN` if there is none.
-#[inline(always)]
-pub(crate) fn last_value(row: RelocationKindInfo) -> i64
-    ensures { result ≡ last_within (reach_of row) }
-{
-    row.reach().last()
-}
-
 impl PreparedRow {
     /// A row whose bits fit its instruction, as those of the relocation tables do.
     #[inline(always)]

@@ -8,9 +8,8 @@ ghost use Rattle.linker_utils.specs.LoongArchRows as rows;
 ghost use Rattle.linker_utils.specs.ElfNames.{IsNameOf, code_of, text_of};
 ghost use Rattle.linker_utils.specs.LoongArchNames.{loongarch_name};
 ghost use Rattle.linker_utils.specs.Inner.PackedRows.{packed_row};
-ghost use Rattle.linker_utils.specs.Inner.Prepared.{least_of_row, last_of_row, row_in, IsPrepared};
+ghost use Rattle.linker_utils.specs.Inner.Prepared.{row_in, IsPrepared};
 
-use crate::elf::prepared::{last_value, least_value};
 use crate::elf::rows::{loongarch64_size, pack, unpack};
 use crate::elf::{
     AllowedRange, Bias, LoongArch64Instruction, PageMask, PageMaskPattern, PreparedRow,
@@ -600,34 +599,16 @@ fn row_number(name: LoongArch64Relocation) -> u64
     rows!(name, pack, 0)
 }
 
-/// `relocation_type_from_table`, with the bounds of the row's reach. They come from tables too.
+/// `relocation_type_from_table`, with the bounds of the row's reach.
 #[inline(always)]
 pub fn prepared_row(name: LoongArch64Relocation) -> Option<PreparedRow>
     ensures row { row_in result ≡ loongarch_row name }
     ensures prepared { IfSome result IsPrepared }
 {
     match relocation_type_from_table(name) {
-        Some(row) => Some(PreparedRow {
-            row,
-            least: least_number(name),
-            last: last_number(name),
-        }),
+        Some(row) => Some(PreparedRow::of(row)),
         None => None,
     }
-}
-
-#[inline(never)]
-fn least_number(name: LoongArch64Relocation) -> i64
-    ensures { result ≡ least_of_row (loongarch_row name) }
-{
-    rows!(name, least_value, 0)
-}
-
-#[inline(never)]
-fn last_number(name: LoongArch64Relocation) -> i64
-    ensures { result ≡ last_of_row (loongarch_row name) }
-{
-    rows!(name, last_value, 0)
 }
 
 /// A meaning without page mask, range, alignment and bias.

@@ -8,9 +8,8 @@ ghost use Rattle.linker_utils.specs.Ppc64Rows.{ppc64_row};
 ghost use Rattle.linker_utils.specs.ElfNames.{IsNameOf, code_of, text_of};
 ghost use Rattle.linker_utils.specs.Ppc64Names.{ppc64_name};
 ghost use Rattle.linker_utils.specs.Inner.PackedRows.{packed_row};
-ghost use Rattle.linker_utils.specs.Inner.Prepared.{least_of_row, last_of_row, row_in, IsPrepared};
+ghost use Rattle.linker_utils.specs.Inner.Prepared.{row_in, IsPrepared};
 
-use crate::elf::prepared::{last_value, least_value};
 use crate::elf::rows::{pack, ppc64_size, unpack};
 use crate::elf::{
     AllowedRange, Bias, Ppc64Instruction, PreparedRow, RelocationKind, RelocationKindInfo,
@@ -579,32 +578,14 @@ fn row_number(name: Ppc64Relocation) -> u64
     rows!(name, pack, 0)
 }
 
-/// `relocation_type_from_table`, with the bounds of the row's reach. They come from tables too.
+/// `relocation_type_from_table`, with the bounds of the row's reach.
 #[inline(always)]
 pub fn prepared_row(name: Ppc64Relocation) -> Option<PreparedRow>
     ensures row { row_in result ≡ ppc64_row name }
     ensures prepared { IfSome result IsPrepared }
 {
     match relocation_type_from_table(name) {
-        Some(row) => Some(PreparedRow {
-            row,
-            least: least_number(name),
-            last: last_number(name),
-        }),
+        Some(row) => Some(PreparedRow::of(row)),
         None => None,
     }
-}
-
-#[inline(never)]
-fn least_number(name: Ppc64Relocation) -> i64
-    ensures { result ≡ least_of_row (ppc64_row name) }
-{
-    rows!(name, least_value, 0)
-}
-
-#[inline(never)]
-fn last_number(name: Ppc64Relocation) -> i64
-    ensures { result ≡ last_of_row (ppc64_row name) }
-{
-    rows!(name, last_value, 0)
 }

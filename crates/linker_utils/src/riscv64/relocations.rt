@@ -9,9 +9,8 @@ ghost use Rattle.linker_utils.specs.RiscVRows as rows;
 ghost use Rattle.linker_utils.specs.ElfNames.{IsNameOf, code_of, text_of};
 ghost use Rattle.linker_utils.specs.RiscVNames.{riscv_name};
 ghost use Rattle.linker_utils.specs.Inner.PackedRows.{packed_row};
-ghost use Rattle.linker_utils.specs.Inner.Prepared.{least_of_row, last_of_row, row_in, IsPrepared};
+ghost use Rattle.linker_utils.specs.Inner.Prepared.{row_in, IsPrepared};
 
-use crate::elf::prepared::{last_value, least_value};
 use crate::elf::rows::{pack, riscv_size, unpack};
 use crate::elf::{
     AllowedRange, PreparedRow, RelocationKind, RelocationKindInfo, RelocationSize,
@@ -598,34 +597,16 @@ fn row_number(name: RiscVRelocation) -> u64
     rows!(name, pack, 0)
 }
 
-/// `relocation_type_from_table`, with the bounds of the row's reach. They come from tables too.
+/// `relocation_type_from_table`, with the bounds of the row's reach.
 #[inline(always)]
 pub fn prepared_row(name: RiscVRelocation) -> Option<PreparedRow>
     ensures row { row_in result ≡ riscv_row name }
     ensures prepared { IfSome result IsPrepared }
 {
     match relocation_type_from_table(name) {
-        Some(row) => Some(PreparedRow {
-            row,
-            least: least_number(name),
-            last: last_number(name),
-        }),
+        Some(row) => Some(PreparedRow::of(row)),
         None => None,
     }
-}
-
-#[inline(never)]
-fn least_number(name: RiscVRelocation) -> i64
-    ensures { result ≡ least_of_row (riscv_row name) }
-{
-    rows!(name, least_value, 0)
-}
-
-#[inline(never)]
-fn last_number(name: RiscVRelocation) -> i64
-    ensures { result ≡ last_of_row (riscv_row name) }
-{
-    rows!(name, last_value, 0)
 }
 
 /// What a relocation of TLS descriptors means (RISC-V ELF psABI, "TLS Descriptors"). Returns `None`

@@ -6,9 +6,8 @@ ghost use Rattle.linker_utils.specs.X86Rows.{x86_64_row};
 ghost use Rattle.linker_utils.specs.ElfNames.{IsNameOf, code_of, text_of};
 ghost use Rattle.linker_utils.specs.X86Names.{x86_64_name};
 ghost use Rattle.linker_utils.specs.Inner.PackedRows.{packed_row};
-ghost use Rattle.linker_utils.specs.Inner.Prepared.{least_of_row, last_of_row, row_in, IsPrepared};
+ghost use Rattle.linker_utils.specs.Inner.Prepared.{row_in, IsPrepared};
 
-use crate::elf::prepared::{last_value, least_value};
 use crate::elf::rows::{pack, unpack, whole_bytes};
 use crate::elf::{
     AllowedRange, PreparedRow, RelocationKind, RelocationKindInfo, RelocationSize, Sign,
@@ -427,32 +426,14 @@ fn row_number(name: X86_64Relocation) -> u64
     rows!(name, pack, 0)
 }
 
-/// `relocation_from_table`, with the bounds of the row's reach. They come from tables too.
+/// `relocation_from_table`, with the bounds of the row's reach.
 #[inline(always)]
 pub fn prepared_row(name: X86_64Relocation) -> Option<PreparedRow>
     ensures row { row_in result ≡ x86_64_row name }
     ensures prepared { IfSome result IsPrepared }
 {
     match relocation_from_table(name) {
-        Some(row) => Some(PreparedRow {
-            row,
-            least: least_number(name),
-            last: last_number(name),
-        }),
+        Some(row) => Some(PreparedRow::of(row)),
         None => None,
     }
-}
-
-#[inline(never)]
-fn least_number(name: X86_64Relocation) -> i64
-    ensures { result ≡ least_of_row (x86_64_row name) }
-{
-    rows!(name, least_value, 0)
-}
-
-#[inline(never)]
-fn last_number(name: X86_64Relocation) -> i64
-    ensures { result ≡ last_of_row (x86_64_row name) }
-{
-    rows!(name, last_value, 0)
 }
