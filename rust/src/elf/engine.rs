@@ -4,11 +4,13 @@
 use crate::elf::RelocationInstruction;
 
 /// What a write makes of the window's bits of a run.
+#[allow(dead_code)]
 #[derive(Clone, Copy)]
 pub(crate) enum Mark {
     /// They become the value's bits.
     Replaced,
-    /// The value's bits are ORed to them.
+    /// The value's bits are ORed to them. Forms with such bits are written by tables, and only the
+    /// proofs of these name it.
     Ored,
     /// They become 0, and are no bits of the value.
     Cleared,
@@ -30,9 +32,6 @@ pub(crate) struct Run {
 macro_rules! run {
     ($value:literal, $insn_bit:literal, $len:literal) => {
         $crate::elf::engine::run!($value, $insn_bit, $len, 0, Replaced)
-    };
-    (ored $value:literal, $insn_bit:literal, $len:literal) => {
-        $crate::elf::engine::run!($value, $insn_bit, $len, 0, Ored)
     };
     (added $added:literal: $value:literal, $insn_bit:literal, $len:literal) => {
         $crate::elf::engine::run!($value, $insn_bit, $len, $added, Replaced)
