@@ -1,5 +1,5 @@
 // Made by tools/erase of crates/linker_utils/src/elf/prepared.rt.
-//! Rows with the bounds of their reach, which a write tests without a branch on the row's form.
+//! Rows with the bounds of their reach.
 
 use crate::elf::relocate::{write_bits, write_bytes};
 use crate::elf::{AllowedRange, RelocateError, RelocationKindInfo, RelocationSize};
@@ -52,7 +52,9 @@ impl PreparedRow {
         }
     }
 
-    /// What `RelocationKindInfo::write` of the row does.
+    /// What `RelocationKindInfo::write` of the row does, with its errors. Requires that `least` and
+    /// `last` are the bounds of the row's `reach`, and that its bits fit its instruction: `prepared_row`
+    /// and `of` return such rows.
     ///
     /// # Requires
     ///

@@ -1,4 +1,4 @@
-//! Rows with the bounds of their reach, which a write tests without a branch on the row's form.
+//! Rows with the bounds of their reach.
 
 ghost use Rattle.std.specs.Prelude.{◌≡◌, ◌^◌, ◌<◌, IfErr, OnOk, Bool};
 ghost use Rattle.linker_utils.specs.Agrees.{AgreesBy, AgreesInReach, RowFits};
@@ -62,7 +62,9 @@ impl PreparedRow {
         }
     }
 
-    /// What `RelocationKindInfo::write` of the row does.
+    /// What `RelocationKindInfo::write` of the row does, with its errors. Requires that `least` and
+    /// `last` are the bounds of the row's `reach`, and that its bits fit its instruction: `prepared_row`
+    /// and `of` return such rows.
     #[inline(always)]
     pub fn write(&self, value: i64, dest: &mut [u8]) -> Result<(), RelocateError>
         requires prepared { IsPrepared self.now }
