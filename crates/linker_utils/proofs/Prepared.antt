@@ -5,7 +5,7 @@ use Rattle.std.proofs.lemmas.Bool.{cases_Bool}
 use Rattle.std.proofs.lemmas.Int.{ints}
 use Rattle.linker_utils.specs.Agrees.{SizeFits}
 use Rattle.linker_utils.specs.Elf.{IsWithin}
-use Rattle.linker_utils.specs.Inner.Prepared.{least_within, last_within, IsPrepared}
+use Rattle.linker_utils.specs.Prepared.{least_within, last_within, IsPrepared}
 use Rattle.linker_utils.specs.Reach.{reach_of}
 use Rattle.linker_utils.specs.Relocate.{HoldsBits, IsReached}
 use Rattle.linker_utils.specs.RiscVRows.{Bounds}

@@ -36,6 +36,9 @@ use Rattle.linker_utils.specs.declared.ppc64.relocations.Ppc64Relocation.{Ppc64R
 use Rattle.linker_utils.specs.declared.ppc64.relocations.Ppc64Relocation.TheVariants.{R_PPC64_TLS}
 use Rattle.linker_utils.specs.declared.riscv64.relocations.RiscVRelocation.{RiscVRelocation}
 use Rattle.linker_utils.specs.declared.riscv64.relocations.RiscVRelocation.TheVariants.{R_RISCV_NONE}
+use Rattle.linker_utils.specs.X86Rows.{x86_64_row}
+use Rattle.linker_utils.specs.declared.x86_64.relocations.X86_64Relocation.{X86_64Relocation}
+use Rattle.linker_utils.specs.declared.x86_64.relocations.X86_64Relocation.TheVariants.{R_X86_64_NONE}
 
 -- ---- the width of a form is least where the window is 0
 
@@ -135,3 +138,7 @@ ppc64_fits name = row_fits (ppc64_row name) (ppc64_checked name)
 
 pub loongarch_fits : (name : LoongArch64Relocation) → IfSome (loongarch_row name) RowFits
 loongarch_fits name = row_fits (loongarch_row name) (loongarch_checked name)
+
+pub x86_64_fits : (name : X86_64Relocation) → IfSome (x86_64_row name) RowFits
+x86_64_fits R_X86_64_NONE = tt
+x86_64_fits name = tt

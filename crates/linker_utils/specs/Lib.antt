@@ -13,6 +13,7 @@ pub mod Packing
 pub mod Ppc64
 pub mod Ppc64Names
 pub mod Ppc64Rows
+pub mod Prepared
 pub mod Reach
 pub mod Readings
 pub mod Relocate

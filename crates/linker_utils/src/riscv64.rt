@@ -13,7 +13,6 @@ pub use calls::{
     jal_site, jal_site_with, relax_call, relax_call_over,
 };
 pub use relocations::{
-    RiscVRelocation, prepared_row, relocation_type_from_raw, relocation_type_from_table,
-    tls_descriptor_relocation,
+    RiscVRelocation, prepared_row, relocation_type_from_raw, tls_descriptor_relocation,
 };
 pub use rewrites::RelaxationKind;

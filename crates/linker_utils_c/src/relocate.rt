@@ -4,7 +4,7 @@ ghost use Rattle.std.specs.Prelude.{◌≡◌, IfSome, IfNone, Option};
 ghost use Rattle.linker_utils.specs.declared.elf.Uleb128Role.{Uleb128Role};
 ghost use Rattle.linker_utils.specs.declared.elf.RelocationKindInfo.{RelocationKindInfo};
 ghost use Rattle.linker_utils.specs.Elf.{architecture_of};
-ghost use Rattle.linker_utils.specs.Inner.Prepared.{row_in, IsPrepared};
+ghost use Rattle.linker_utils.specs.Prepared.{row_in, IsPrepared};
 ghost use Rattle.linker_utils_c.specs.Status.{code};
 ghost use Rattle.linker_utils_c.specs.Relocations.{IsMeaning};
 ghost use Rattle.linker_utils_c.specs.Relocate.{role_number, IsRole, uleb_status, IsUlebReturned};

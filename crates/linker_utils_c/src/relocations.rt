@@ -5,7 +5,7 @@ ghost use Rattle.linker_utils.specs.declared.elf.RelocationKindInfo.{RelocationK
 ghost use Rattle.linker_utils.specs.Elf.{architecture_of};
 ghost use Rattle.linker_utils.specs.ElfNames.{ElfName, named, unnamed};
 ghost use Rattle.linker_utils.specs.RiscVNames.{riscv_name};
-ghost use Rattle.linker_utils.specs.Inner.Prepared.{row_in, IsPrepared};
+ghost use Rattle.linker_utils.specs.Prepared.{row_in, IsPrepared};
 ghost use Rattle.linker_utils.specs.RiscVRows.{clui_row, riscv_tls_descriptor_row};
 ghost use Rattle.linker_utils_c.specs.Status.{code};
 ghost use Rattle.linker_utils_c.specs.Forms.{named_form};
@@ -67,16 +67,14 @@ fn row_of(architecture: Architecture, r_type: u32) -> Option<RelocationKindInfo>
 {
     match architecture {
         Architecture::AArch64 => {
-            aarch64::relocation_type_from_table(AArch64Relocation::from_elf(r_type))
+            aarch64::relocation_type_from_raw(AArch64Relocation::from_elf(r_type))
         }
-        Architecture::RiscV => riscv64::relocation_type_from_table(RiscVRelocation::from_elf(
-            r_type,
-        )),
+        Architecture::RiscV => riscv64::relocation_type_from_raw(RiscVRelocation::from_elf(r_type)),
         Architecture::LoongArch64 => {
-            loongarch64::relocation_type_from_table(LoongArch64Relocation::from_elf(r_type))
+            loongarch64::relocation_type_from_raw(LoongArch64Relocation::from_elf(r_type))
         }
-        Architecture::Ppc64 => ppc64::relocation_type_from_table(Ppc64Relocation::from_elf(r_type)),
-        Architecture::X86_64 => x86_64::relocation_from_table(X86_64Relocation::from_elf(r_type)),
+        Architecture::Ppc64 => ppc64::relocation_type_from_raw(Ppc64Relocation::from_elf(r_type)),
+        Architecture::X86_64 => x86_64::relocation_from_raw(X86_64Relocation::from_elf(r_type)),
     }
 }
 
@@ -85,7 +83,7 @@ fn row_of(architecture: Architecture, r_type: u32) -> Option<RelocationKindInfo>
 fn riscv_meaning_of(name: RiscVRelocation) -> Option<RelocationKindInfo>
     ensures { result ≡ riscv_meaning name }
 {
-    match riscv64::relocation_type_from_table(name) {
+    match riscv64::relocation_type_from_raw(name) {
         Some(info) => Some(info),
         None => riscv64::tls_descriptor_relocation(name),
     }

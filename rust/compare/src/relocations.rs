@@ -53,23 +53,21 @@ pub struct RelocationInfo {
 fn row_of(architecture: Architecture, r_type: u32) -> Option<RelocationKindInfo> {
     match architecture {
         Architecture::AArch64 => {
-            aarch64::relocation_type_from_table(AArch64Relocation::from_elf(r_type))
+            aarch64::relocation_type_from_raw(AArch64Relocation::from_elf(r_type))
         }
-        Architecture::RiscV => riscv64::relocation_type_from_table(RiscVRelocation::from_elf(
-            r_type,
-        )),
+        Architecture::RiscV => riscv64::relocation_type_from_raw(RiscVRelocation::from_elf(r_type)),
         Architecture::LoongArch64 => {
-            loongarch64::relocation_type_from_table(LoongArch64Relocation::from_elf(r_type))
+            loongarch64::relocation_type_from_raw(LoongArch64Relocation::from_elf(r_type))
         }
-        Architecture::Ppc64 => ppc64::relocation_type_from_table(Ppc64Relocation::from_elf(r_type)),
-        Architecture::X86_64 => x86_64::relocation_from_table(X86_64Relocation::from_elf(r_type)),
+        Architecture::Ppc64 => ppc64::relocation_type_from_raw(Ppc64Relocation::from_elf(r_type)),
+        Architecture::X86_64 => x86_64::relocation_from_raw(X86_64Relocation::from_elf(r_type)),
     }
 }
 
 /// The row of a relocation of RISC-V, or that of a TLS descriptor's.
 #[inline(always)]
 fn riscv_meaning_of(name: RiscVRelocation) -> Option<RelocationKindInfo> {
-    match riscv64::relocation_type_from_table(name) {
+    match riscv64::relocation_type_from_raw(name) {
         Some(info) => Some(info),
         None => riscv64::tls_descriptor_relocation(name),
     }

@@ -2,10 +2,11 @@
 //! What the relocations of AArch64 mean.
 
 use self::AArch64Relocation as Name;
-use crate::elf::rows::{aarch64_size, pack, unpack};
+use crate::bit_misc::BitRange;
+use crate::elf::rows::{TableRow, bytes, prepared, row};
 use crate::elf::{
-    AArch64Instruction as Form, AllowedRange, PageMask, PageMaskPattern, PreparedRow,
-    RelocationKind as Kind, RelocationKindInfo, RelocationSize, Sign,
+    AArch64Instruction, PageMask, PageMaskPattern, PreparedRow, RelocationInstruction,
+    RelocationKindInfo, RelocationSize,
 };
 use core::fmt;
 
@@ -525,420 +526,373 @@ const ENTRY_PAGES: PageMask = PageMask::GotEntryAndPosition(PageMaskPattern::Siz
 
 const GOT_PAGE: PageMask = PageMask::GotBase(PageMaskPattern::Size4KB);
 
-#[inline(always)]
-fn of_size(kind: Kind, size: RelocationSize) -> RelocationKindInfo {
-    RelocationKindInfo {
-        kind,
-        size,
-        mask: None,
-        range: AllowedRange::no_check(),
-        alignment: 1,
-        bias: None,
-        thunkable: false,
-        implicit_addend: false,
-    }
-}
-
-#[inline(always)]
-fn bytes(kind: Kind, count: u8) -> RelocationKindInfo {
-    of_size(kind, RelocationSize::ByteSize(count))
-}
-
-#[inline(always)]
-fn bits(kind: Kind, start: u8, end: u8, form: Form) -> RelocationKindInfo {
-    of_size(kind, RelocationSize::bit_mask_aarch64(start, end, form))
-}
-
-#[inline(always)]
-fn signed(n: u32, info: RelocationKindInfo) -> RelocationKindInfo {
-    RelocationKindInfo {
-        range: AllowedRange::from_bit_size(n, Sign::Signed),
-        ..info
-    }
-}
-
-#[inline(always)]
-fn unsigned(n: u32, info: RelocationKindInfo) -> RelocationKindInfo {
-    RelocationKindInfo {
-        range: AllowedRange::from_bit_size(n, Sign::Unsigned),
-        ..info
-    }
-}
-
-#[inline(always)]
-fn within(min: i64, max: i64, info: RelocationKindInfo) -> RelocationKindInfo {
-    RelocationKindInfo {
-        range: AllowedRange::new(min, max),
-        ..info
-    }
-}
-
-#[inline(always)]
-fn aligned(alignment: u64, info: RelocationKindInfo) -> RelocationKindInfo {
-    RelocationKindInfo { alignment, ..info }
-}
-
-#[inline(always)]
-fn paged(mask: PageMask, info: RelocationKindInfo) -> RelocationKindInfo {
-    RelocationKindInfo {
-        mask: Some(mask),
-        ..info
-    }
-}
-
-#[inline(always)]
-fn thunkable(info: RelocationKindInfo) -> RelocationKindInfo {
-    RelocationKindInfo {
-        thunkable: true,
-        ..info
-    }
-}
-
-/// The rows, each by `$row`; `$none` where there is no row.
-macro_rules! rows {
-    ($name:expr, $row:ident, $none:expr) => {
-        match $name {
-            Name::R_AARCH64_NONE => $row(bytes(Kind::None, 0)),
-            Name::R_AARCH64_ABS64 => $row(bytes(Kind::Absolute, 8)),
-            Name::R_AARCH64_ABS32 => $row(within(
-                -0x80000000,
-                0x100000000,
-                bytes(Kind::Absolute, 4),
-            )),
-            Name::R_AARCH64_ABS16 => $row(within(-0x8000, 0x10000, bytes(Kind::Absolute, 2))),
-            Name::R_AARCH64_PREL64 => $row(bytes(Kind::Relative, 8)),
-            Name::R_AARCH64_PREL32 => $row(within(
-                -0x80000000,
-                0x100000000,
-                bytes(Kind::Relative, 4),
-            )),
-            Name::R_AARCH64_PREL16 => $row(within(-0x8000, 0x10000, bytes(Kind::Relative, 2))),
-            Name::R_AARCH64_PLT32 => $row(signed(32, bytes(Kind::PltRelative, 4))),
-            Name::R_AARCH64_MOVW_UABS_G0 => $row(unsigned(
-                16,
-                bits(Kind::Absolute, 0, 16, Form::Movkz),
-            )),
-            Name::R_AARCH64_MOVW_UABS_G0_NC => $row(bits(Kind::Absolute, 0, 16, Form::Movkz)),
-            Name::R_AARCH64_MOVW_UABS_G1 => $row(unsigned(
-                32,
-                bits(Kind::Absolute, 16, 32, Form::Movkz),
-            )),
-            Name::R_AARCH64_MOVW_UABS_G1_NC => $row(bits(Kind::Absolute, 16, 32, Form::Movkz)),
-            Name::R_AARCH64_MOVW_UABS_G2 => $row(unsigned(
-                48,
-                bits(Kind::Absolute, 32, 48, Form::Movkz),
-            )),
-            Name::R_AARCH64_MOVW_UABS_G2_NC => $row(bits(Kind::Absolute, 32, 48, Form::Movkz)),
-            Name::R_AARCH64_MOVW_UABS_G3 => $row(bits(Kind::Absolute, 48, 64, Form::Movkz)),
-            Name::R_AARCH64_MOVW_SABS_G0 => $row(signed(
-                17,
-                bits(Kind::Absolute, 0, 16, Form::Movnz),
-            )),
-            Name::R_AARCH64_MOVW_SABS_G1 => $row(signed(
-                33,
-                bits(Kind::Absolute, 16, 32, Form::Movnz),
-            )),
-            Name::R_AARCH64_MOVW_SABS_G2 => $row(signed(
-                49,
-                bits(Kind::Absolute, 32, 48, Form::Movnz),
-            )),
-            Name::R_AARCH64_LD_PREL_LO19 => $row(aligned(
-                4,
-                signed(21, bits(Kind::Relative, 2, 21, Form::Ldr)),
-            )),
-            Name::R_AARCH64_ADR_PREL_LO21 => $row(signed(
-                21,
-                bits(Kind::Relative, 0, 21, Form::Adr),
-            )),
-            Name::R_AARCH64_ADR_PREL_PG_HI21 => $row(paged(
-                PLACE_PAGES,
-                signed(33, bits(Kind::Relative, 12, 33, Form::Adr)),
-            )),
-            Name::R_AARCH64_ADR_PREL_PG_HI21_NC => $row(paged(
-                PLACE_PAGES,
-                bits(Kind::Relative, 12, 33, Form::Adr),
-            )),
-            Name::R_AARCH64_ADD_ABS_LO12_NC => $row(bits(Kind::AbsoluteLowPart, 0, 12, Form::Add)),
-            Name::R_AARCH64_LDST8_ABS_LO12_NC => $row(bits(
-                Kind::AbsoluteLowPart,
-                0,
-                12,
-                Form::LdSt,
-            )),
-            Name::R_AARCH64_LDST16_ABS_LO12_NC => $row(aligned(
-                2,
-                bits(Kind::AbsoluteLowPart, 1, 12, Form::LdSt),
-            )),
-            Name::R_AARCH64_LDST32_ABS_LO12_NC => $row(aligned(
-                4,
-                bits(Kind::AbsoluteLowPart, 2, 12, Form::LdSt),
-            )),
-            Name::R_AARCH64_LDST64_ABS_LO12_NC => $row(aligned(
-                8,
-                bits(Kind::AbsoluteLowPart, 3, 12, Form::LdSt),
-            )),
-            Name::R_AARCH64_LDST128_ABS_LO12_NC => $row(aligned(
-                16,
-                bits(Kind::AbsoluteLowPart, 4, 12, Form::LdSt),
-            )),
-            Name::R_AARCH64_TSTBR14 => $row(aligned(
-                4,
-                signed(16, bits(Kind::Relative, 2, 16, Form::TstBr)),
-            )),
-            Name::R_AARCH64_CONDBR19 => $row(aligned(
-                4,
-                signed(21, bits(Kind::Relative, 2, 21, Form::Bcond)),
-            )),
-            Name::R_AARCH64_JUMP26
-            | Name::R_AARCH64_CALL26 => $row(thunkable(aligned(
-                4,
-                signed(28, bits(Kind::PltRelative, 2, 28, Form::JumpCall)),
-            ))),
-            Name::R_AARCH64_MOVW_PREL_G0 => $row(bits(Kind::Relative, 0, 16, Form::Movnz)),
-            Name::R_AARCH64_MOVW_PREL_G0_NC => $row(bits(Kind::Relative, 0, 16, Form::Movkz)),
-            Name::R_AARCH64_MOVW_PREL_G1 => $row(bits(Kind::Relative, 16, 32, Form::Movnz)),
-            Name::R_AARCH64_MOVW_PREL_G1_NC => $row(bits(Kind::Relative, 16, 32, Form::Movkz)),
-            Name::R_AARCH64_MOVW_PREL_G2 => $row(bits(Kind::Relative, 32, 48, Form::Movnz)),
-            Name::R_AARCH64_MOVW_PREL_G2_NC => $row(bits(Kind::Relative, 32, 48, Form::Movkz)),
-            Name::R_AARCH64_MOVW_PREL_G3 => $row(bits(Kind::Relative, 48, 64, Form::Movnz)),
-            Name::R_AARCH64_MOVW_GOTOFF_G0 => $row(bits(Kind::GotRelGotBase, 0, 16, Form::Movnz)),
-            Name::R_AARCH64_MOVW_GOTOFF_G0_NC => $row(bits(
-                Kind::GotRelGotBase,
-                0,
-                16,
-                Form::Movkz,
-            )),
-            Name::R_AARCH64_MOVW_GOTOFF_G1 => $row(bits(Kind::GotRelGotBase, 16, 32, Form::Movnz)),
-            Name::R_AARCH64_MOVW_GOTOFF_G1_NC => $row(bits(
-                Kind::GotRelGotBase,
-                16,
-                32,
-                Form::Movkz,
-            )),
-            Name::R_AARCH64_MOVW_GOTOFF_G2 => $row(bits(Kind::GotRelGotBase, 32, 48, Form::Movnz)),
-            Name::R_AARCH64_MOVW_GOTOFF_G2_NC => $row(bits(
-                Kind::GotRelGotBase,
-                32,
-                48,
-                Form::Movkz,
-            )),
-            Name::R_AARCH64_MOVW_GOTOFF_G3 => $row(bits(Kind::GotRelGotBase, 48, 64, Form::Movnz)),
-            Name::R_AARCH64_GOTREL64 => $row(bytes(Kind::SymRelGotBase, 8)),
-            Name::R_AARCH64_GOTREL32 => $row(signed(32, bytes(Kind::SymRelGotBase, 4))),
-            Name::R_AARCH64_GOTPCREL32 => $row(signed(32, bytes(Kind::GotRelative, 4))),
-            Name::R_AARCH64_GOT_LD_PREL19 => $row(aligned(
-                4,
-                signed(21, bits(Kind::GotRelative, 2, 21, Form::Ldr)),
-            )),
-            Name::R_AARCH64_LD64_GOTOFF_LO15 => $row(aligned(
-                8,
-                unsigned(15, bits(Kind::GotRelGotBase, 3, 15, Form::LdSt)),
-            )),
-            Name::R_AARCH64_ADR_GOT_PAGE => $row(paged(
-                ENTRY_PAGES,
-                signed(33, bits(Kind::GotRelative, 12, 33, Form::Adr)),
-            )),
-            Name::R_AARCH64_LD64_GOT_LO12_NC => $row(aligned(
-                8,
-                bits(Kind::Got, 3, 12, Form::LdSt),
-            )),
-            Name::R_AARCH64_LD64_GOTPAGE_LO15 => $row(paged(
-                GOT_PAGE,
-                aligned(8, unsigned(15, bits(Kind::GotRelGotBase, 3, 15, Form::LdSt))),
-            )),
-            Name::R_AARCH64_TLSGD_ADR_PREL21 => $row(signed(
-                21,
-                bits(Kind::TlsGd, 0, 21, Form::Adr),
-            )),
-            Name::R_AARCH64_TLSGD_ADR_PAGE21 => $row(paged(
-                ENTRY_PAGES,
-                signed(33, bits(Kind::TlsGd, 12, 33, Form::Adr)),
-            )),
-            Name::R_AARCH64_TLSGD_ADD_LO12_NC => $row(bits(Kind::TlsGdGot, 0, 12, Form::Add)),
-            Name::R_AARCH64_TLSGD_MOVW_G1 => $row(bits(Kind::TlsGdGotBase, 16, 32, Form::Movnz)),
-            Name::R_AARCH64_TLSGD_MOVW_G0_NC => $row(bits(Kind::TlsGdGotBase, 0, 16, Form::Movkz)),
-            Name::R_AARCH64_TLSLD_ADR_PREL21 => $row(signed(
-                21,
-                bits(Kind::TlsLd, 0, 21, Form::Adr),
-            )),
-            Name::R_AARCH64_TLSLD_ADR_PAGE21 => $row(paged(
-                ENTRY_PAGES,
-                signed(33, bits(Kind::TlsLd, 12, 33, Form::Adr)),
-            )),
-            Name::R_AARCH64_TLSLD_ADD_LO12_NC => $row(bits(Kind::TlsLdGot, 0, 12, Form::Add)),
-            Name::R_AARCH64_TLSLD_MOVW_G1 => $row(bits(Kind::TlsLdGotBase, 16, 32, Form::Movnz)),
-            Name::R_AARCH64_TLSLD_MOVW_G0_NC => $row(bits(Kind::TlsLdGotBase, 0, 16, Form::Movkz)),
-            Name::R_AARCH64_TLSLD_LD_PREL19 => $row(aligned(
-                4,
-                signed(21, bits(Kind::TlsLd, 2, 21, Form::Ldr)),
-            )),
-            Name::R_AARCH64_TLSLD_MOVW_DTPREL_G2 => $row(bits(Kind::DtpOff, 32, 48, Form::Movnz)),
-            Name::R_AARCH64_TLSLD_MOVW_DTPREL_G1 => $row(bits(Kind::DtpOff, 16, 32, Form::Movnz)),
-            Name::R_AARCH64_TLSLD_MOVW_DTPREL_G1_NC => $row(bits(
-                Kind::DtpOff,
-                16,
-                32,
-                Form::Movkz,
-            )),
-            Name::R_AARCH64_TLSLD_MOVW_DTPREL_G0 => $row(bits(Kind::DtpOff, 0, 16, Form::Movnz)),
-            Name::R_AARCH64_TLSLD_MOVW_DTPREL_G0_NC => $row(bits(Kind::DtpOff, 0, 16, Form::Movkz)),
-            Name::R_AARCH64_TLSLD_ADD_DTPREL_HI12 => $row(unsigned(
-                24,
-                bits(Kind::DtpOff, 12, 24, Form::Add),
-            )),
-            Name::R_AARCH64_TLSLD_ADD_DTPREL_LO12 => $row(unsigned(
-                12,
-                bits(Kind::DtpOff, 0, 12, Form::Add),
-            )),
-            Name::R_AARCH64_TLSLD_ADD_DTPREL_LO12_NC => $row(bits(Kind::DtpOff, 0, 12, Form::Add)),
-            Name::R_AARCH64_TLSLD_LDST8_DTPREL_LO12 => $row(unsigned(
-                12,
-                bits(Kind::DtpOff, 0, 12, Form::LdSt),
-            )),
-            Name::R_AARCH64_TLSLD_LDST8_DTPREL_LO12_NC => $row(bits(
-                Kind::DtpOff,
-                0,
-                12,
-                Form::LdSt,
-            )),
-            Name::R_AARCH64_TLSLD_LDST16_DTPREL_LO12 => $row(aligned(
-                2,
-                unsigned(12, bits(Kind::DtpOff, 1, 12, Form::LdSt)),
-            )),
-            Name::R_AARCH64_TLSLD_LDST16_DTPREL_LO12_NC => $row(aligned(
-                2,
-                bits(Kind::DtpOff, 1, 12, Form::LdSt),
-            )),
-            Name::R_AARCH64_TLSLD_LDST32_DTPREL_LO12 => $row(aligned(
-                4,
-                unsigned(12, bits(Kind::DtpOff, 2, 12, Form::LdSt)),
-            )),
-            Name::R_AARCH64_TLSLD_LDST32_DTPREL_LO12_NC => $row(aligned(
-                4,
-                bits(Kind::DtpOff, 2, 12, Form::LdSt),
-            )),
-            Name::R_AARCH64_TLSLD_LDST64_DTPREL_LO12 => $row(aligned(
-                8,
-                unsigned(12, bits(Kind::DtpOff, 3, 12, Form::LdSt)),
-            )),
-            Name::R_AARCH64_TLSLD_LDST64_DTPREL_LO12_NC => $row(aligned(
-                8,
-                bits(Kind::DtpOff, 3, 12, Form::LdSt),
-            )),
-            Name::R_AARCH64_TLSLD_LDST128_DTPREL_LO12 => $row(aligned(
-                16,
-                unsigned(12, bits(Kind::DtpOff, 4, 12, Form::LdSt)),
-            )),
-            Name::R_AARCH64_TLSLD_LDST128_DTPREL_LO12_NC => $row(aligned(
-                16,
-                bits(Kind::DtpOff, 4, 12, Form::LdSt),
-            )),
-            Name::R_AARCH64_TLSIE_MOVW_GOTTPREL_G1 => $row(bits(
-                Kind::GotTpOffGotBase,
-                16,
-                32,
-                Form::Movnz,
-            )),
-            Name::R_AARCH64_TLSIE_MOVW_GOTTPREL_G0_NC => $row(bits(
-                Kind::GotTpOffGotBase,
-                0,
-                16,
-                Form::Movkz,
-            )),
-            Name::R_AARCH64_TLSIE_ADR_GOTTPREL_PAGE21 => $row(paged(
-                ENTRY_PAGES,
-                signed(33, bits(Kind::GotTpOff, 12, 33, Form::Adr)),
-            )),
-            Name::R_AARCH64_TLSIE_LD64_GOTTPREL_LO12_NC => $row(aligned(
-                8,
-                bits(Kind::GotTpOffGot, 3, 12, Form::LdrRegister),
-            )),
-            Name::R_AARCH64_TLSIE_LD_GOTTPREL_PREL19 => $row(aligned(
-                4,
-                signed(21, bits(Kind::GotTpOff, 2, 21, Form::Ldr)),
-            )),
-            Name::R_AARCH64_TLSLE_MOVW_TPREL_G2 => $row(bits(Kind::TpOff, 32, 48, Form::Movnz)),
-            Name::R_AARCH64_TLSLE_MOVW_TPREL_G1 => $row(bits(Kind::TpOff, 16, 32, Form::Movnz)),
-            Name::R_AARCH64_TLSLE_MOVW_TPREL_G1_NC => $row(bits(Kind::TpOff, 16, 32, Form::Movkz)),
-            Name::R_AARCH64_TLSLE_MOVW_TPREL_G0 => $row(bits(Kind::TpOff, 0, 16, Form::Movnz)),
-            Name::R_AARCH64_TLSLE_MOVW_TPREL_G0_NC => $row(bits(Kind::TpOff, 0, 16, Form::Movkz)),
-            Name::R_AARCH64_TLSLE_ADD_TPREL_HI12 => $row(unsigned(
-                24,
-                bits(Kind::TpOff, 12, 24, Form::Add),
-            )),
-            Name::R_AARCH64_TLSLE_ADD_TPREL_LO12 => $row(unsigned(
-                12,
-                bits(Kind::TpOff, 0, 12, Form::Add),
-            )),
-            Name::R_AARCH64_TLSLE_ADD_TPREL_LO12_NC => $row(bits(Kind::TpOff, 0, 12, Form::Add)),
-            Name::R_AARCH64_TLSLE_LDST8_TPREL_LO12 => $row(unsigned(
-                12,
-                bits(Kind::TpOff, 0, 12, Form::LdSt),
-            )),
-            Name::R_AARCH64_TLSLE_LDST8_TPREL_LO12_NC => $row(bits(Kind::TpOff, 0, 12, Form::LdSt)),
-            Name::R_AARCH64_TLSLE_LDST16_TPREL_LO12 => $row(aligned(
-                2,
-                unsigned(12, bits(Kind::TpOff, 1, 12, Form::LdSt)),
-            )),
-            Name::R_AARCH64_TLSLE_LDST16_TPREL_LO12_NC => $row(aligned(
-                2,
-                bits(Kind::TpOff, 1, 12, Form::LdSt),
-            )),
-            Name::R_AARCH64_TLSLE_LDST32_TPREL_LO12 => $row(aligned(
-                4,
-                unsigned(12, bits(Kind::TpOff, 2, 12, Form::LdSt)),
-            )),
-            Name::R_AARCH64_TLSLE_LDST32_TPREL_LO12_NC => $row(aligned(
-                4,
-                bits(Kind::TpOff, 2, 12, Form::LdSt),
-            )),
-            Name::R_AARCH64_TLSLE_LDST64_TPREL_LO12 => $row(aligned(
-                8,
-                unsigned(12, bits(Kind::TpOff, 3, 12, Form::LdSt)),
-            )),
-            Name::R_AARCH64_TLSLE_LDST64_TPREL_LO12_NC => $row(aligned(
-                8,
-                bits(Kind::TpOff, 3, 12, Form::LdSt),
-            )),
-            Name::R_AARCH64_TLSLE_LDST128_TPREL_LO12 => $row(aligned(
-                16,
-                unsigned(12, bits(Kind::TpOff, 4, 12, Form::LdSt)),
-            )),
-            Name::R_AARCH64_TLSLE_LDST128_TPREL_LO12_NC => $row(aligned(
-                16,
-                bits(Kind::TpOff, 4, 12, Form::LdSt),
-            )),
-            Name::R_AARCH64_TLSDESC_LD_PREL19 => $row(aligned(
-                4,
-                signed(21, bits(Kind::TlsDesc, 2, 21, Form::Ldr)),
-            )),
-            Name::R_AARCH64_TLSDESC_ADR_PREL21 => $row(signed(
-                21,
-                bits(Kind::TlsDesc, 0, 21, Form::Adr),
-            )),
-            Name::R_AARCH64_TLSDESC_ADR_PAGE21 => $row(paged(
-                ENTRY_PAGES,
-                signed(33, bits(Kind::TlsDesc, 12, 33, Form::Adr)),
-            )),
-            Name::R_AARCH64_TLSDESC_LD64_LO12 => $row(aligned(
-                8,
-                bits(Kind::TlsDescGot, 3, 12, Form::LdrRegister),
-            )),
-            Name::R_AARCH64_TLSDESC_ADD_LO12 => $row(bits(Kind::TlsDescGot, 0, 12, Form::Add)),
-            Name::R_AARCH64_TLSDESC_OFF_G1 => $row(signed(
-                33,
-                bits(Kind::TlsDescGotBase, 16, 32, Form::Movnz),
-            )),
-            Name::R_AARCH64_TLSDESC_OFF_G0_NC => $row(bits(
-                Kind::TlsDescGotBase,
-                0,
-                16,
-                Form::Movkz,
-            )),
-            Name::R_AARCH64_TLSDESC_CALL => $row(bytes(Kind::TlsDescCall, 0)),
-            Name::Other(_) => $none,
+/// Bits of the value, from the first up, below the end, into an instruction.
+macro_rules! bits {
+    ($start:literal, $end:literal, $form:ident) => {
+        RelocationSize::BitMasking {
+            range: BitRange {
+                start: $start,
+                end: $end,
+            },
+            insn: RelocationInstruction::AArch64(AArch64Instruction::$form),
         }
     };
+}
+
+/// By the names' places in their enum. The last one is that of `Other`.
+static ROWS: [Option<TableRow>; 115] = [
+    // R_AARCH64_NONE
+    Some(row!(None, bytes!(0), any)),
+    // R_AARCH64_ABS64
+    Some(row!(Absolute, bytes!(8), any)),
+    // R_AARCH64_ABS32
+    Some(row!(Absolute, bytes!(4), signed_or_unsigned 32)),
+    // R_AARCH64_ABS16
+    Some(row!(Absolute, bytes!(2), signed_or_unsigned 16)),
+    // R_AARCH64_PREL64
+    Some(row!(Relative, bytes!(8), any)),
+    // R_AARCH64_PREL32
+    Some(row!(Relative, bytes!(4), signed_or_unsigned 32)),
+    // R_AARCH64_PREL16
+    Some(row!(Relative, bytes!(2), signed_or_unsigned 16)),
+    // R_AARCH64_PLT32
+    Some(row!(PltRelative, bytes!(4), signed 32)),
+    // R_AARCH64_MOVW_UABS_G0
+    Some(row!(Absolute, bits!(0, 16, Movkz), unsigned 16)),
+    // R_AARCH64_MOVW_UABS_G0_NC
+    Some(row!(Absolute, bits!(0, 16, Movkz), any)),
+    // R_AARCH64_MOVW_UABS_G1
+    Some(row!(Absolute, bits!(16, 32, Movkz), unsigned 32)),
+    // R_AARCH64_MOVW_UABS_G1_NC
+    Some(row!(Absolute, bits!(16, 32, Movkz), any)),
+    // R_AARCH64_MOVW_UABS_G2
+    Some(row!(Absolute, bits!(32, 48, Movkz), unsigned 48)),
+    // R_AARCH64_MOVW_UABS_G2_NC
+    Some(row!(Absolute, bits!(32, 48, Movkz), any)),
+    // R_AARCH64_MOVW_UABS_G3
+    Some(row!(Absolute, bits!(48, 64, Movkz), any)),
+    // R_AARCH64_MOVW_SABS_G0
+    Some(row!(Absolute, bits!(0, 16, Movnz), signed 17)),
+    // R_AARCH64_MOVW_SABS_G1
+    Some(row!(Absolute, bits!(16, 32, Movnz), signed 33)),
+    // R_AARCH64_MOVW_SABS_G2
+    Some(row!(Absolute, bits!(32, 48, Movnz), signed 49)),
+    // R_AARCH64_LD_PREL_LO19
+    Some(row!(Relative, bits!(2, 21, Ldr), signed 21, alignment: 4)),
+    // R_AARCH64_ADR_PREL_LO21
+    Some(row!(Relative, bits!(0, 21, Adr), signed 21)),
+    // R_AARCH64_ADR_PREL_PG_HI21
+    Some(row!(Relative, bits!(12, 33, Adr), signed 33, mask: Some(PLACE_PAGES))),
+    // R_AARCH64_ADR_PREL_PG_HI21_NC
+    Some(row!(Relative, bits!(12, 33, Adr), any, mask: Some(PLACE_PAGES))),
+    // R_AARCH64_ADD_ABS_LO12_NC
+    Some(row!(AbsoluteLowPart, bits!(0, 12, Add), any)),
+    // R_AARCH64_LDST8_ABS_LO12_NC
+    Some(row!(AbsoluteLowPart, bits!(0, 12, LdSt), any)),
+    // R_AARCH64_LDST16_ABS_LO12_NC
+    Some(row!(AbsoluteLowPart, bits!(1, 12, LdSt), any, alignment: 2)),
+    // R_AARCH64_LDST32_ABS_LO12_NC
+    Some(row!(AbsoluteLowPart, bits!(2, 12, LdSt), any, alignment: 4)),
+    // R_AARCH64_LDST64_ABS_LO12_NC
+    Some(row!(AbsoluteLowPart, bits!(3, 12, LdSt), any, alignment: 8)),
+    // R_AARCH64_LDST128_ABS_LO12_NC
+    Some(row!(AbsoluteLowPart, bits!(4, 12, LdSt), any, alignment: 16)),
+    // R_AARCH64_TSTBR14
+    Some(row!(Relative, bits!(2, 16, TstBr), signed 16, alignment: 4)),
+    // R_AARCH64_CONDBR19
+    Some(row!(Relative, bits!(2, 21, Bcond), signed 21, alignment: 4)),
+    // R_AARCH64_JUMP26
+    Some(row!(PltRelative, bits!(2, 28, JumpCall), signed 28, alignment: 4, thunkable: true)),
+    // R_AARCH64_CALL26
+    Some(row!(PltRelative, bits!(2, 28, JumpCall), signed 28, alignment: 4, thunkable: true)),
+    // R_AARCH64_MOVW_PREL_G0
+    Some(row!(Relative, bits!(0, 16, Movnz), any reach signed 17)),
+    // R_AARCH64_MOVW_PREL_G0_NC
+    Some(row!(Relative, bits!(0, 16, Movkz), any)),
+    // R_AARCH64_MOVW_PREL_G1
+    Some(row!(Relative, bits!(16, 32, Movnz), any reach signed 33)),
+    // R_AARCH64_MOVW_PREL_G1_NC
+    Some(row!(Relative, bits!(16, 32, Movkz), any)),
+    // R_AARCH64_MOVW_PREL_G2
+    Some(row!(Relative, bits!(32, 48, Movnz), any reach signed 49)),
+    // R_AARCH64_MOVW_PREL_G2_NC
+    Some(row!(Relative, bits!(32, 48, Movkz), any)),
+    // R_AARCH64_MOVW_PREL_G3
+    Some(row!(Relative, bits!(48, 64, Movnz), any)),
+    // R_AARCH64_MOVW_GOTOFF_G0
+    Some(row!(GotRelGotBase, bits!(0, 16, Movnz), any reach signed 17)),
+    // R_AARCH64_MOVW_GOTOFF_G0_NC
+    Some(row!(GotRelGotBase, bits!(0, 16, Movkz), any)),
+    // R_AARCH64_MOVW_GOTOFF_G1
+    Some(row!(GotRelGotBase, bits!(16, 32, Movnz), any reach signed 33)),
+    // R_AARCH64_MOVW_GOTOFF_G1_NC
+    Some(row!(GotRelGotBase, bits!(16, 32, Movkz), any)),
+    // R_AARCH64_MOVW_GOTOFF_G2
+    Some(row!(GotRelGotBase, bits!(32, 48, Movnz), any reach signed 49)),
+    // R_AARCH64_MOVW_GOTOFF_G2_NC
+    Some(row!(GotRelGotBase, bits!(32, 48, Movkz), any)),
+    // R_AARCH64_MOVW_GOTOFF_G3
+    Some(row!(GotRelGotBase, bits!(48, 64, Movnz), any)),
+    // R_AARCH64_GOTREL64
+    Some(row!(SymRelGotBase, bytes!(8), any)),
+    // R_AARCH64_GOTREL32
+    Some(row!(SymRelGotBase, bytes!(4), signed 32)),
+    // R_AARCH64_GOTPCREL32
+    Some(row!(GotRelative, bytes!(4), signed 32)),
+    // R_AARCH64_GOT_LD_PREL19
+    Some(row!(GotRelative, bits!(2, 21, Ldr), signed 21, alignment: 4)),
+    // R_AARCH64_LD64_GOTOFF_LO15
+    Some(row!(GotRelGotBase, bits!(3, 15, LdSt), unsigned 15, alignment: 8)),
+    // R_AARCH64_ADR_GOT_PAGE
+    Some(row!(GotRelative, bits!(12, 33, Adr), signed 33, mask: Some(ENTRY_PAGES))),
+    // R_AARCH64_LD64_GOT_LO12_NC
+    Some(row!(Got, bits!(3, 12, LdSt), any, alignment: 8)),
+    // R_AARCH64_LD64_GOTPAGE_LO15
+    Some(row!(GotRelGotBase, bits!(3, 15, LdSt), unsigned 15, alignment: 8, mask: Some(GOT_PAGE))),
+    // R_AARCH64_TLSGD_ADR_PREL21
+    Some(row!(TlsGd, bits!(0, 21, Adr), signed 21)),
+    // R_AARCH64_TLSGD_ADR_PAGE21
+    Some(row!(TlsGd, bits!(12, 33, Adr), signed 33, mask: Some(ENTRY_PAGES))),
+    // R_AARCH64_TLSGD_ADD_LO12_NC
+    Some(row!(TlsGdGot, bits!(0, 12, Add), any)),
+    // R_AARCH64_TLSGD_MOVW_G1
+    Some(row!(TlsGdGotBase, bits!(16, 32, Movnz), any reach signed 33)),
+    // R_AARCH64_TLSGD_MOVW_G0_NC
+    Some(row!(TlsGdGotBase, bits!(0, 16, Movkz), any)),
+    // R_AARCH64_TLSLD_ADR_PREL21
+    Some(row!(TlsLd, bits!(0, 21, Adr), signed 21)),
+    // R_AARCH64_TLSLD_ADR_PAGE21
+    Some(row!(TlsLd, bits!(12, 33, Adr), signed 33, mask: Some(ENTRY_PAGES))),
+    // R_AARCH64_TLSLD_ADD_LO12_NC
+    Some(row!(TlsLdGot, bits!(0, 12, Add), any)),
+    // R_AARCH64_TLSLD_MOVW_G1
+    Some(row!(TlsLdGotBase, bits!(16, 32, Movnz), any reach signed 33)),
+    // R_AARCH64_TLSLD_MOVW_G0_NC
+    Some(row!(TlsLdGotBase, bits!(0, 16, Movkz), any)),
+    // R_AARCH64_TLSLD_LD_PREL19
+    Some(row!(TlsLd, bits!(2, 21, Ldr), signed 21, alignment: 4)),
+    // R_AARCH64_TLSLD_MOVW_DTPREL_G2
+    Some(row!(DtpOff, bits!(32, 48, Movnz), any reach signed 49)),
+    // R_AARCH64_TLSLD_MOVW_DTPREL_G1
+    Some(row!(DtpOff, bits!(16, 32, Movnz), any reach signed 33)),
+    // R_AARCH64_TLSLD_MOVW_DTPREL_G1_NC
+    Some(row!(DtpOff, bits!(16, 32, Movkz), any)),
+    // R_AARCH64_TLSLD_MOVW_DTPREL_G0
+    Some(row!(DtpOff, bits!(0, 16, Movnz), any reach signed 17)),
+    // R_AARCH64_TLSLD_MOVW_DTPREL_G0_NC
+    Some(row!(DtpOff, bits!(0, 16, Movkz), any)),
+    // R_AARCH64_TLSLD_ADD_DTPREL_HI12
+    Some(row!(DtpOff, bits!(12, 24, Add), unsigned 24)),
+    // R_AARCH64_TLSLD_ADD_DTPREL_LO12
+    Some(row!(DtpOff, bits!(0, 12, Add), unsigned 12)),
+    // R_AARCH64_TLSLD_ADD_DTPREL_LO12_NC
+    Some(row!(DtpOff, bits!(0, 12, Add), any)),
+    // R_AARCH64_TLSLD_LDST8_DTPREL_LO12
+    Some(row!(DtpOff, bits!(0, 12, LdSt), unsigned 12)),
+    // R_AARCH64_TLSLD_LDST8_DTPREL_LO12_NC
+    Some(row!(DtpOff, bits!(0, 12, LdSt), any)),
+    // R_AARCH64_TLSLD_LDST16_DTPREL_LO12
+    Some(row!(DtpOff, bits!(1, 12, LdSt), unsigned 12, alignment: 2)),
+    // R_AARCH64_TLSLD_LDST16_DTPREL_LO12_NC
+    Some(row!(DtpOff, bits!(1, 12, LdSt), any, alignment: 2)),
+    // R_AARCH64_TLSLD_LDST32_DTPREL_LO12
+    Some(row!(DtpOff, bits!(2, 12, LdSt), unsigned 12, alignment: 4)),
+    // R_AARCH64_TLSLD_LDST32_DTPREL_LO12_NC
+    Some(row!(DtpOff, bits!(2, 12, LdSt), any, alignment: 4)),
+    // R_AARCH64_TLSLD_LDST64_DTPREL_LO12
+    Some(row!(DtpOff, bits!(3, 12, LdSt), unsigned 12, alignment: 8)),
+    // R_AARCH64_TLSLD_LDST64_DTPREL_LO12_NC
+    Some(row!(DtpOff, bits!(3, 12, LdSt), any, alignment: 8)),
+    // R_AARCH64_TLSLD_LDST128_DTPREL_LO12
+    Some(row!(DtpOff, bits!(4, 12, LdSt), unsigned 12, alignment: 16)),
+    // R_AARCH64_TLSLD_LDST128_DTPREL_LO12_NC
+    Some(row!(DtpOff, bits!(4, 12, LdSt), any, alignment: 16)),
+    // R_AARCH64_TLSIE_MOVW_GOTTPREL_G1
+    Some(row!(GotTpOffGotBase, bits!(16, 32, Movnz), any reach signed 33)),
+    // R_AARCH64_TLSIE_MOVW_GOTTPREL_G0_NC
+    Some(row!(GotTpOffGotBase, bits!(0, 16, Movkz), any)),
+    // R_AARCH64_TLSIE_ADR_GOTTPREL_PAGE21
+    Some(row!(GotTpOff, bits!(12, 33, Adr), signed 33, mask: Some(ENTRY_PAGES))),
+    // R_AARCH64_TLSIE_LD64_GOTTPREL_LO12_NC
+    Some(row!(GotTpOffGot, bits!(3, 12, LdrRegister), any, alignment: 8)),
+    // R_AARCH64_TLSIE_LD_GOTTPREL_PREL19
+    Some(row!(GotTpOff, bits!(2, 21, Ldr), signed 21, alignment: 4)),
+    // R_AARCH64_TLSLE_MOVW_TPREL_G2
+    Some(row!(TpOff, bits!(32, 48, Movnz), any reach signed 49)),
+    // R_AARCH64_TLSLE_MOVW_TPREL_G1
+    Some(row!(TpOff, bits!(16, 32, Movnz), any reach signed 33)),
+    // R_AARCH64_TLSLE_MOVW_TPREL_G1_NC
+    Some(row!(TpOff, bits!(16, 32, Movkz), any)),
+    // R_AARCH64_TLSLE_MOVW_TPREL_G0
+    Some(row!(TpOff, bits!(0, 16, Movnz), any reach signed 17)),
+    // R_AARCH64_TLSLE_MOVW_TPREL_G0_NC
+    Some(row!(TpOff, bits!(0, 16, Movkz), any)),
+    // R_AARCH64_TLSLE_ADD_TPREL_HI12
+    Some(row!(TpOff, bits!(12, 24, Add), unsigned 24)),
+    // R_AARCH64_TLSLE_ADD_TPREL_LO12
+    Some(row!(TpOff, bits!(0, 12, Add), unsigned 12)),
+    // R_AARCH64_TLSLE_ADD_TPREL_LO12_NC
+    Some(row!(TpOff, bits!(0, 12, Add), any)),
+    // R_AARCH64_TLSLE_LDST8_TPREL_LO12
+    Some(row!(TpOff, bits!(0, 12, LdSt), unsigned 12)),
+    // R_AARCH64_TLSLE_LDST8_TPREL_LO12_NC
+    Some(row!(TpOff, bits!(0, 12, LdSt), any)),
+    // R_AARCH64_TLSLE_LDST16_TPREL_LO12
+    Some(row!(TpOff, bits!(1, 12, LdSt), unsigned 12, alignment: 2)),
+    // R_AARCH64_TLSLE_LDST16_TPREL_LO12_NC
+    Some(row!(TpOff, bits!(1, 12, LdSt), any, alignment: 2)),
+    // R_AARCH64_TLSLE_LDST32_TPREL_LO12
+    Some(row!(TpOff, bits!(2, 12, LdSt), unsigned 12, alignment: 4)),
+    // R_AARCH64_TLSLE_LDST32_TPREL_LO12_NC
+    Some(row!(TpOff, bits!(2, 12, LdSt), any, alignment: 4)),
+    // R_AARCH64_TLSLE_LDST64_TPREL_LO12
+    Some(row!(TpOff, bits!(3, 12, LdSt), unsigned 12, alignment: 8)),
+    // R_AARCH64_TLSLE_LDST64_TPREL_LO12_NC
+    Some(row!(TpOff, bits!(3, 12, LdSt), any, alignment: 8)),
+    // R_AARCH64_TLSLE_LDST128_TPREL_LO12
+    Some(row!(TpOff, bits!(4, 12, LdSt), unsigned 12, alignment: 16)),
+    // R_AARCH64_TLSLE_LDST128_TPREL_LO12_NC
+    Some(row!(TpOff, bits!(4, 12, LdSt), any, alignment: 16)),
+    // R_AARCH64_TLSDESC_LD_PREL19
+    Some(row!(TlsDesc, bits!(2, 21, Ldr), signed 21, alignment: 4)),
+    // R_AARCH64_TLSDESC_ADR_PREL21
+    Some(row!(TlsDesc, bits!(0, 21, Adr), signed 21)),
+    // R_AARCH64_TLSDESC_ADR_PAGE21
+    Some(row!(TlsDesc, bits!(12, 33, Adr), signed 33, mask: Some(ENTRY_PAGES))),
+    // R_AARCH64_TLSDESC_LD64_LO12
+    Some(row!(TlsDescGot, bits!(3, 12, LdrRegister), any, alignment: 8)),
+    // R_AARCH64_TLSDESC_ADD_LO12
+    Some(row!(TlsDescGot, bits!(0, 12, Add), any)),
+    // R_AARCH64_TLSDESC_OFF_G1
+    Some(row!(TlsDescGotBase, bits!(16, 32, Movnz), signed 33)),
+    // R_AARCH64_TLSDESC_OFF_G0_NC
+    Some(row!(TlsDescGotBase, bits!(0, 16, Movkz), any)),
+    // R_AARCH64_TLSDESC_CALL
+    Some(row!(TlsDescCall, bytes!(0), any)),
+    // Other
+    None,
+];
+
+/// The name's place in its enum.
+#[inline(always)]
+fn place(name: AArch64Relocation) -> usize {
+    match name {
+        Name::R_AARCH64_NONE => 0,
+        Name::R_AARCH64_ABS64 => 1,
+        Name::R_AARCH64_ABS32 => 2,
+        Name::R_AARCH64_ABS16 => 3,
+        Name::R_AARCH64_PREL64 => 4,
+        Name::R_AARCH64_PREL32 => 5,
+        Name::R_AARCH64_PREL16 => 6,
+        Name::R_AARCH64_PLT32 => 7,
+        Name::R_AARCH64_MOVW_UABS_G0 => 8,
+        Name::R_AARCH64_MOVW_UABS_G0_NC => 9,
+        Name::R_AARCH64_MOVW_UABS_G1 => 10,
+        Name::R_AARCH64_MOVW_UABS_G1_NC => 11,
+        Name::R_AARCH64_MOVW_UABS_G2 => 12,
+        Name::R_AARCH64_MOVW_UABS_G2_NC => 13,
+        Name::R_AARCH64_MOVW_UABS_G3 => 14,
+        Name::R_AARCH64_MOVW_SABS_G0 => 15,
+        Name::R_AARCH64_MOVW_SABS_G1 => 16,
+        Name::R_AARCH64_MOVW_SABS_G2 => 17,
+        Name::R_AARCH64_LD_PREL_LO19 => 18,
+        Name::R_AARCH64_ADR_PREL_LO21 => 19,
+        Name::R_AARCH64_ADR_PREL_PG_HI21 => 20,
+        Name::R_AARCH64_ADR_PREL_PG_HI21_NC => 21,
+        Name::R_AARCH64_ADD_ABS_LO12_NC => 22,
+        Name::R_AARCH64_LDST8_ABS_LO12_NC => 23,
+        Name::R_AARCH64_LDST16_ABS_LO12_NC => 24,
+        Name::R_AARCH64_LDST32_ABS_LO12_NC => 25,
+        Name::R_AARCH64_LDST64_ABS_LO12_NC => 26,
+        Name::R_AARCH64_LDST128_ABS_LO12_NC => 27,
+        Name::R_AARCH64_TSTBR14 => 28,
+        Name::R_AARCH64_CONDBR19 => 29,
+        Name::R_AARCH64_JUMP26 => 30,
+        Name::R_AARCH64_CALL26 => 31,
+        Name::R_AARCH64_MOVW_PREL_G0 => 32,
+        Name::R_AARCH64_MOVW_PREL_G0_NC => 33,
+        Name::R_AARCH64_MOVW_PREL_G1 => 34,
+        Name::R_AARCH64_MOVW_PREL_G1_NC => 35,
+        Name::R_AARCH64_MOVW_PREL_G2 => 36,
+        Name::R_AARCH64_MOVW_PREL_G2_NC => 37,
+        Name::R_AARCH64_MOVW_PREL_G3 => 38,
+        Name::R_AARCH64_MOVW_GOTOFF_G0 => 39,
+        Name::R_AARCH64_MOVW_GOTOFF_G0_NC => 40,
+        Name::R_AARCH64_MOVW_GOTOFF_G1 => 41,
+        Name::R_AARCH64_MOVW_GOTOFF_G1_NC => 42,
+        Name::R_AARCH64_MOVW_GOTOFF_G2 => 43,
+        Name::R_AARCH64_MOVW_GOTOFF_G2_NC => 44,
+        Name::R_AARCH64_MOVW_GOTOFF_G3 => 45,
+        Name::R_AARCH64_GOTREL64 => 46,
+        Name::R_AARCH64_GOTREL32 => 47,
+        Name::R_AARCH64_GOTPCREL32 => 48,
+        Name::R_AARCH64_GOT_LD_PREL19 => 49,
+        Name::R_AARCH64_LD64_GOTOFF_LO15 => 50,
+        Name::R_AARCH64_ADR_GOT_PAGE => 51,
+        Name::R_AARCH64_LD64_GOT_LO12_NC => 52,
+        Name::R_AARCH64_LD64_GOTPAGE_LO15 => 53,
+        Name::R_AARCH64_TLSGD_ADR_PREL21 => 54,
+        Name::R_AARCH64_TLSGD_ADR_PAGE21 => 55,
+        Name::R_AARCH64_TLSGD_ADD_LO12_NC => 56,
+        Name::R_AARCH64_TLSGD_MOVW_G1 => 57,
+        Name::R_AARCH64_TLSGD_MOVW_G0_NC => 58,
+        Name::R_AARCH64_TLSLD_ADR_PREL21 => 59,
+        Name::R_AARCH64_TLSLD_ADR_PAGE21 => 60,
+        Name::R_AARCH64_TLSLD_ADD_LO12_NC => 61,
+        Name::R_AARCH64_TLSLD_MOVW_G1 => 62,
+        Name::R_AARCH64_TLSLD_MOVW_G0_NC => 63,
+        Name::R_AARCH64_TLSLD_LD_PREL19 => 64,
+        Name::R_AARCH64_TLSLD_MOVW_DTPREL_G2 => 65,
+        Name::R_AARCH64_TLSLD_MOVW_DTPREL_G1 => 66,
+        Name::R_AARCH64_TLSLD_MOVW_DTPREL_G1_NC => 67,
+        Name::R_AARCH64_TLSLD_MOVW_DTPREL_G0 => 68,
+        Name::R_AARCH64_TLSLD_MOVW_DTPREL_G0_NC => 69,
+        Name::R_AARCH64_TLSLD_ADD_DTPREL_HI12 => 70,
+        Name::R_AARCH64_TLSLD_ADD_DTPREL_LO12 => 71,
+        Name::R_AARCH64_TLSLD_ADD_DTPREL_LO12_NC => 72,
+        Name::R_AARCH64_TLSLD_LDST8_DTPREL_LO12 => 73,
+        Name::R_AARCH64_TLSLD_LDST8_DTPREL_LO12_NC => 74,
+        Name::R_AARCH64_TLSLD_LDST16_DTPREL_LO12 => 75,
+        Name::R_AARCH64_TLSLD_LDST16_DTPREL_LO12_NC => 76,
+        Name::R_AARCH64_TLSLD_LDST32_DTPREL_LO12 => 77,
+        Name::R_AARCH64_TLSLD_LDST32_DTPREL_LO12_NC => 78,
+        Name::R_AARCH64_TLSLD_LDST64_DTPREL_LO12 => 79,
+        Name::R_AARCH64_TLSLD_LDST64_DTPREL_LO12_NC => 80,
+        Name::R_AARCH64_TLSLD_LDST128_DTPREL_LO12 => 81,
+        Name::R_AARCH64_TLSLD_LDST128_DTPREL_LO12_NC => 82,
+        Name::R_AARCH64_TLSIE_MOVW_GOTTPREL_G1 => 83,
+        Name::R_AARCH64_TLSIE_MOVW_GOTTPREL_G0_NC => 84,
+        Name::R_AARCH64_TLSIE_ADR_GOTTPREL_PAGE21 => 85,
+        Name::R_AARCH64_TLSIE_LD64_GOTTPREL_LO12_NC => 86,
+        Name::R_AARCH64_TLSIE_LD_GOTTPREL_PREL19 => 87,
+        Name::R_AARCH64_TLSLE_MOVW_TPREL_G2 => 88,
+        Name::R_AARCH64_TLSLE_MOVW_TPREL_G1 => 89,
+        Name::R_AARCH64_TLSLE_MOVW_TPREL_G1_NC => 90,
+        Name::R_AARCH64_TLSLE_MOVW_TPREL_G0 => 91,
+        Name::R_AARCH64_TLSLE_MOVW_TPREL_G0_NC => 92,
+        Name::R_AARCH64_TLSLE_ADD_TPREL_HI12 => 93,
+        Name::R_AARCH64_TLSLE_ADD_TPREL_LO12 => 94,
+        Name::R_AARCH64_TLSLE_ADD_TPREL_LO12_NC => 95,
+        Name::R_AARCH64_TLSLE_LDST8_TPREL_LO12 => 96,
+        Name::R_AARCH64_TLSLE_LDST8_TPREL_LO12_NC => 97,
+        Name::R_AARCH64_TLSLE_LDST16_TPREL_LO12 => 98,
+        Name::R_AARCH64_TLSLE_LDST16_TPREL_LO12_NC => 99,
+        Name::R_AARCH64_TLSLE_LDST32_TPREL_LO12 => 100,
+        Name::R_AARCH64_TLSLE_LDST32_TPREL_LO12_NC => 101,
+        Name::R_AARCH64_TLSLE_LDST64_TPREL_LO12 => 102,
+        Name::R_AARCH64_TLSLE_LDST64_TPREL_LO12_NC => 103,
+        Name::R_AARCH64_TLSLE_LDST128_TPREL_LO12 => 104,
+        Name::R_AARCH64_TLSLE_LDST128_TPREL_LO12_NC => 105,
+        Name::R_AARCH64_TLSDESC_LD_PREL19 => 106,
+        Name::R_AARCH64_TLSDESC_ADR_PREL21 => 107,
+        Name::R_AARCH64_TLSDESC_ADR_PAGE21 => 108,
+        Name::R_AARCH64_TLSDESC_LD64_LO12 => 109,
+        Name::R_AARCH64_TLSDESC_ADD_LO12 => 110,
+        Name::R_AARCH64_TLSDESC_OFF_G1 => 111,
+        Name::R_AARCH64_TLSDESC_OFF_G0_NC => 112,
+        Name::R_AARCH64_TLSDESC_CALL => 113,
+        Name::Other(_) => 114,
+    }
 }
 
 /// What a relocation means. It takes a name; `AArch64Relocation::from_elf` gives the name of a
@@ -958,31 +912,16 @@ pub fn relocation_type_from_raw(name: AArch64Relocation) -> Option<RelocationKin
     row(name)
 }
 
-#[inline(always)]
-fn row(name: AArch64Relocation) -> Option<RelocationKindInfo> {
-    rows!(name, Some, None)
-}
-
-/// `relocation_type_from_raw`, by a table in place of a match. It takes less time where a processor
-/// can't foresee the name, and more where it can.
-#[inline]
-pub fn relocation_type_from_table(name: AArch64Relocation) -> Option<RelocationKindInfo> {
-    let row = row_number(name);
-    unpack(row, aarch64_size(row))
-}
-
-/// The row of a name as a number; 0 where there is none. Inlined, the match would be joined with
-/// what reads the row, into a jump that a processor can't foresee.
-#[inline(never)]
-fn row_number(name: AArch64Relocation) -> u64 {
-    rows!(name, pack, 0)
-}
-
-/// `relocation_type_from_table`, with the bounds of the row's reach.
+/// What a relocation means, with the bounds of its reach.
 #[inline(always)]
 pub fn prepared_row(name: AArch64Relocation) -> Option<PreparedRow> {
-    match relocation_type_from_table(name) {
-        Some(row) => Some(PreparedRow::of(row)),
+    prepared(ROWS[place(name)])
+}
+
+#[inline(always)]
+fn row(name: AArch64Relocation) -> Option<RelocationKindInfo> {
+    match prepared_row(name) {
+        Some(prepared) => Some(prepared.row),
         None => None,
     }
 }

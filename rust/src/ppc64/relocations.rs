@@ -1,10 +1,10 @@
 // Made by tools/erase of crates/linker_utils/src/ppc64/relocations.rt.
 //! What the relocations of PowerPC64 mean.
 
-use crate::elf::rows::{pack, ppc64_size, unpack};
+use crate::bit_misc::BitRange;
+use crate::elf::rows::{TableRow, bytes, prepared, row};
 use crate::elf::{
-    AllowedRange, Bias, Ppc64Instruction, PreparedRow, RelocationKind, RelocationKindInfo,
-    RelocationSize, Sign,
+    Ppc64Instruction, PreparedRow, RelocationInstruction, RelocationKindInfo, RelocationSize,
 };
 use core::fmt;
 
@@ -262,239 +262,184 @@ impl Ppc64Relocation {
     }
 }
 
-#[inline(always)]
-fn described(
-    kind: RelocationKind,
-    size: RelocationSize,
-    range: AllowedRange,
-    alignment: u64,
-    bias: u64,
-) -> RelocationKindInfo {
-    RelocationKindInfo {
-        kind,
-        size,
-        mask: None,
-        range,
-        alignment,
-        bias: Bias::from_value(bias),
-        thunkable: false,
-        implicit_addend: false,
-    }
-}
-
-/// Whole bytes.
-#[inline(always)]
-fn bytes(kind: RelocationKind, count: u8, range: AllowedRange) -> RelocationKindInfo {
-    described(kind, RelocationSize::ByteSize(count), range, 1, 0)
-}
-
-/// Bits 16 to 31 of the value plus 0x8000, since the low half is read signed.
-#[inline(always)]
-fn high_adjusted(kind: RelocationKind) -> RelocationKindInfo {
-    let size = RelocationSize::bit_mask_ppc64(16, 32, Ppc64Instruction::D);
-    described(kind, size, AllowedRange::no_check(), 1, 0x8000)
-}
-
-/// Bits 16 to 31.
-#[inline(always)]
-fn high(kind: RelocationKind) -> RelocationKindInfo {
-    let size = RelocationSize::bit_mask_ppc64(16, 32, Ppc64Instruction::D);
-    described(kind, size, AllowedRange::no_check(), 1, 0)
-}
-
-/// Bits 0 to 15.
-#[inline(always)]
-fn low(kind: RelocationKind, range: AllowedRange) -> RelocationKindInfo {
-    let size = RelocationSize::bit_mask_ppc64(0, 16, Ppc64Instruction::D);
-    described(kind, size, range, 1, 0)
-}
-
-/// Bits 0 to 15 of a multiple of 4.
-#[inline(always)]
-fn low_ds(kind: RelocationKind, range: AllowedRange) -> RelocationKindInfo {
-    let size = RelocationSize::bit_mask_ppc64(0, 16, Ppc64Instruction::Ds);
-    described(kind, size, range, 4, 0)
-}
-
-/// 34 signed bits of a prefixed instruction.
-#[inline(always)]
-fn prefixed(kind: RelocationKind) -> RelocationKindInfo {
-    let size = RelocationSize::bit_mask_ppc64(0, 34, Ppc64Instruction::Prefixed);
-    let range = AllowedRange::from_bit_size(34, Sign::Signed);
-    described(kind, size, range, 1, 0)
-}
-
-/// A signed distance of this many bits, a multiple of 4.
-#[inline(always)]
-fn branch(bits: u8, insn: Ppc64Instruction) -> RelocationKindInfo {
-    let range = AllowedRange::from_bit_size(bits.into(), Sign::Signed);
-    described(
-        RelocationKind::Relative,
-        RelocationSize::bit_mask_ppc64(0, bits, insn),
-        range,
-        4,
-        0,
-    )
-}
-
-/// The rows, each by `$row`; `$none` where there is no row.
-macro_rules! rows {
-    ($name:expr, $row:ident, $none:expr) => {
-        match $name {
-            Ppc64Relocation::R_PPC64_NONE
-            | Ppc64Relocation::R_PPC64_TLS
-            | Ppc64Relocation::R_PPC64_TLSGD
-            | Ppc64Relocation::R_PPC64_TLSLD => $row(bytes(
-                RelocationKind::None,
-                0,
-                AllowedRange::no_check(),
-            )),
-            Ppc64Relocation::R_PPC64_ADDR64 => $row(bytes(
-                RelocationKind::Absolute,
-                8,
-                AllowedRange::no_check(),
-            )),
-            Ppc64Relocation::R_PPC64_ADDR32 => $row(bytes(
-                RelocationKind::Absolute,
-                4,
-                AllowedRange::new(-0x80000000, 0x100000000),
-            )),
-            Ppc64Relocation::R_PPC64_ADDR16_LO => $row(low(
-                RelocationKind::Absolute,
-                AllowedRange::no_check(),
-            )),
-            Ppc64Relocation::R_PPC64_ADDR16_HI => $row(high(RelocationKind::Absolute)),
-            Ppc64Relocation::R_PPC64_ADDR16_HA => $row(high_adjusted(RelocationKind::Absolute)),
-            Ppc64Relocation::R_PPC64_ADDR16_DS => $row(low_ds(
-                RelocationKind::Absolute,
-                AllowedRange::from_bit_size(16, Sign::Signed),
-            )),
-            Ppc64Relocation::R_PPC64_ADDR16_LO_DS => $row(low_ds(
-                RelocationKind::Absolute,
-                AllowedRange::no_check(),
-            )),
-            Ppc64Relocation::R_PPC64_REL64 => $row(bytes(
-                RelocationKind::Relative,
-                8,
-                AllowedRange::no_check(),
-            )),
-            Ppc64Relocation::R_PPC64_REL32 => $row(bytes(
-                RelocationKind::Relative,
-                4,
-                AllowedRange::from_bit_size(32, Sign::Signed),
-            )),
-            Ppc64Relocation::R_PPC64_REL24
-            | Ppc64Relocation::R_PPC64_REL24_NOTOC => $row(branch(26, Ppc64Instruction::Branch24)),
-            Ppc64Relocation::R_PPC64_REL14 => $row(branch(16, Ppc64Instruction::Branch14)),
-            Ppc64Relocation::R_PPC64_REL16_HA => $row(high_adjusted(RelocationKind::Relative)),
-            Ppc64Relocation::R_PPC64_REL16_LO => $row(low(
-                RelocationKind::Relative,
-                AllowedRange::no_check(),
-            )),
-            Ppc64Relocation::R_PPC64_PCREL34 => $row(prefixed(RelocationKind::Relative)),
-            Ppc64Relocation::R_PPC64_GOT_PCREL34 => $row(prefixed(RelocationKind::GotRelative)),
-            Ppc64Relocation::R_PPC64_TOC16 => $row(low(
-                RelocationKind::SymRelGotBase,
-                AllowedRange::from_bit_size(16, Sign::Signed),
-            )),
-            Ppc64Relocation::R_PPC64_TOC16_DS => $row(low_ds(
-                RelocationKind::SymRelGotBase,
-                AllowedRange::from_bit_size(16, Sign::Signed),
-            )),
-            Ppc64Relocation::R_PPC64_TOC16_HA => $row(high_adjusted(RelocationKind::SymRelGotBase)),
-            Ppc64Relocation::R_PPC64_TOC16_LO => $row(low(
-                RelocationKind::SymRelGotBase,
-                AllowedRange::no_check(),
-            )),
-            Ppc64Relocation::R_PPC64_TOC16_LO_DS => $row(low_ds(
-                RelocationKind::SymRelGotBase,
-                AllowedRange::no_check(),
-            )),
-            Ppc64Relocation::R_PPC64_TPREL64 => $row(bytes(
-                RelocationKind::TpOff,
-                8,
-                AllowedRange::no_check(),
-            )),
-            Ppc64Relocation::R_PPC64_TPREL16 => $row(low(
-                RelocationKind::TpOff,
-                AllowedRange::from_bit_size(16, Sign::Signed),
-            )),
-            Ppc64Relocation::R_PPC64_TPREL16_LO => $row(low(
-                RelocationKind::TpOff,
-                AllowedRange::no_check(),
-            )),
-            Ppc64Relocation::R_PPC64_TPREL16_HI => $row(high(RelocationKind::TpOff)),
-            Ppc64Relocation::R_PPC64_TPREL16_HA => $row(high_adjusted(RelocationKind::TpOff)),
-            Ppc64Relocation::R_PPC64_TPREL16_DS => $row(low_ds(
-                RelocationKind::TpOff,
-                AllowedRange::from_bit_size(16, Sign::Signed),
-            )),
-            Ppc64Relocation::R_PPC64_TPREL16_LO_DS => $row(low_ds(
-                RelocationKind::TpOff,
-                AllowedRange::no_check(),
-            )),
-            Ppc64Relocation::R_PPC64_DTPREL64 => $row(bytes(
-                RelocationKind::DtpOff,
-                8,
-                AllowedRange::no_check(),
-            )),
-            Ppc64Relocation::R_PPC64_DTPREL16 => $row(low(
-                RelocationKind::DtpOff,
-                AllowedRange::from_bit_size(16, Sign::Signed),
-            )),
-            Ppc64Relocation::R_PPC64_DTPREL16_LO => $row(low(
-                RelocationKind::DtpOff,
-                AllowedRange::no_check(),
-            )),
-            Ppc64Relocation::R_PPC64_DTPREL16_HI => $row(high(RelocationKind::DtpOff)),
-            Ppc64Relocation::R_PPC64_DTPREL16_HA => $row(high_adjusted(RelocationKind::DtpOff)),
-            Ppc64Relocation::R_PPC64_DTPREL16_DS => $row(low_ds(
-                RelocationKind::DtpOff,
-                AllowedRange::from_bit_size(16, Sign::Signed),
-            )),
-            Ppc64Relocation::R_PPC64_DTPREL16_LO_DS => $row(low_ds(
-                RelocationKind::DtpOff,
-                AllowedRange::no_check(),
-            )),
-            Ppc64Relocation::R_PPC64_GOT_TPREL16_HA => $row(high_adjusted(
-                RelocationKind::GotTpOffGotBase,
-            )),
-            Ppc64Relocation::R_PPC64_GOT_TPREL16_HI => $row(high(RelocationKind::GotTpOffGotBase)),
-            Ppc64Relocation::R_PPC64_GOT_TPREL16_DS => $row(low_ds(
-                RelocationKind::GotTpOffGotBase,
-                AllowedRange::from_bit_size(16, Sign::Signed),
-            )),
-            Ppc64Relocation::R_PPC64_GOT_TPREL16_LO_DS => $row(low_ds(
-                RelocationKind::GotTpOffGotBase,
-                AllowedRange::no_check(),
-            )),
-            Ppc64Relocation::R_PPC64_GOT_TLSGD16 => $row(low(
-                RelocationKind::TlsGdGotBase,
-                AllowedRange::from_bit_size(16, Sign::Signed),
-            )),
-            Ppc64Relocation::R_PPC64_GOT_TLSGD16_LO => $row(low(
-                RelocationKind::TlsGdGotBase,
-                AllowedRange::no_check(),
-            )),
-            Ppc64Relocation::R_PPC64_GOT_TLSGD16_HI => $row(high(RelocationKind::TlsGdGotBase)),
-            Ppc64Relocation::R_PPC64_GOT_TLSGD16_HA => $row(high_adjusted(
-                RelocationKind::TlsGdGotBase,
-            )),
-            Ppc64Relocation::R_PPC64_GOT_TLSLD16 => $row(low(
-                RelocationKind::TlsLdGotBase,
-                AllowedRange::from_bit_size(16, Sign::Signed),
-            )),
-            Ppc64Relocation::R_PPC64_GOT_TLSLD16_LO => $row(low(
-                RelocationKind::TlsLdGotBase,
-                AllowedRange::no_check(),
-            )),
-            Ppc64Relocation::R_PPC64_GOT_TLSLD16_HI => $row(high(RelocationKind::TlsLdGotBase)),
-            Ppc64Relocation::R_PPC64_GOT_TLSLD16_HA => $row(high_adjusted(
-                RelocationKind::TlsLdGotBase,
-            )),
-            Ppc64Relocation::Other(_) => $none,
+/// Bits of the value, from the first up, below the end, into an instruction.
+macro_rules! bits {
+    ($start:literal, $end:literal, $form:ident) => {
+        RelocationSize::BitMasking {
+            range: BitRange {
+                start: $start,
+                end: $end,
+            },
+            insn: RelocationInstruction::Ppc64(Ppc64Instruction::$form),
         }
     };
+}
+
+/// By the names' places in their enum. The last one is that of `Other`.
+static ROWS: [Option<TableRow>; 52] = [
+    // R_PPC64_NONE
+    Some(row!(None, bytes!(0), any)),
+    // R_PPC64_TLS
+    Some(row!(None, bytes!(0), any)),
+    // R_PPC64_TLSGD
+    Some(row!(None, bytes!(0), any)),
+    // R_PPC64_TLSLD
+    Some(row!(None, bytes!(0), any)),
+    // R_PPC64_ADDR64
+    Some(row!(Absolute, bytes!(8), any)),
+    // R_PPC64_ADDR32
+    Some(row!(Absolute, bytes!(4), signed_or_unsigned 32)),
+    // R_PPC64_ADDR16_LO
+    Some(row!(Absolute, bits!(0, 16, D), any)),
+    // R_PPC64_ADDR16_HI
+    Some(row!(Absolute, bits!(16, 32, D), any reach signed 32)),
+    // R_PPC64_ADDR16_HA
+    Some(row!(Absolute, bits!(16, 32, D), any reach signed 32, bias: 0x8000)),
+    // R_PPC64_ADDR16_DS
+    Some(row!(Absolute, bits!(0, 16, Ds), signed 16, alignment: 4)),
+    // R_PPC64_ADDR16_LO_DS
+    Some(row!(Absolute, bits!(0, 16, Ds), any, alignment: 4)),
+    // R_PPC64_REL64
+    Some(row!(Relative, bytes!(8), any)),
+    // R_PPC64_REL32
+    Some(row!(Relative, bytes!(4), signed 32)),
+    // R_PPC64_REL24
+    Some(row!(Relative, bits!(0, 26, Branch24), signed 26, alignment: 4)),
+    // R_PPC64_REL24_NOTOC
+    Some(row!(Relative, bits!(0, 26, Branch24), signed 26, alignment: 4)),
+    // R_PPC64_REL14
+    Some(row!(Relative, bits!(0, 16, Branch14), signed 16, alignment: 4)),
+    // R_PPC64_REL16_HA
+    Some(row!(Relative, bits!(16, 32, D), any reach signed 32, bias: 0x8000)),
+    // R_PPC64_REL16_LO
+    Some(row!(Relative, bits!(0, 16, D), any)),
+    // R_PPC64_PCREL34
+    Some(row!(Relative, bits!(0, 34, Prefixed), signed 34)),
+    // R_PPC64_GOT_PCREL34
+    Some(row!(GotRelative, bits!(0, 34, Prefixed), signed 34)),
+    // R_PPC64_TOC16
+    Some(row!(SymRelGotBase, bits!(0, 16, D), signed 16)),
+    // R_PPC64_TOC16_DS
+    Some(row!(SymRelGotBase, bits!(0, 16, Ds), signed 16, alignment: 4)),
+    // R_PPC64_TOC16_HA
+    Some(row!(SymRelGotBase, bits!(16, 32, D), any reach signed 32, bias: 0x8000)),
+    // R_PPC64_TOC16_LO
+    Some(row!(SymRelGotBase, bits!(0, 16, D), any)),
+    // R_PPC64_TOC16_LO_DS
+    Some(row!(SymRelGotBase, bits!(0, 16, Ds), any, alignment: 4)),
+    // R_PPC64_TPREL64
+    Some(row!(TpOff, bytes!(8), any)),
+    // R_PPC64_TPREL16
+    Some(row!(TpOff, bits!(0, 16, D), signed 16)),
+    // R_PPC64_TPREL16_LO
+    Some(row!(TpOff, bits!(0, 16, D), any)),
+    // R_PPC64_TPREL16_HI
+    Some(row!(TpOff, bits!(16, 32, D), any reach signed 32)),
+    // R_PPC64_TPREL16_HA
+    Some(row!(TpOff, bits!(16, 32, D), any reach signed 32, bias: 0x8000)),
+    // R_PPC64_TPREL16_DS
+    Some(row!(TpOff, bits!(0, 16, Ds), signed 16, alignment: 4)),
+    // R_PPC64_TPREL16_LO_DS
+    Some(row!(TpOff, bits!(0, 16, Ds), any, alignment: 4)),
+    // R_PPC64_DTPREL64
+    Some(row!(DtpOff, bytes!(8), any)),
+    // R_PPC64_DTPREL16
+    Some(row!(DtpOff, bits!(0, 16, D), signed 16)),
+    // R_PPC64_DTPREL16_LO
+    Some(row!(DtpOff, bits!(0, 16, D), any)),
+    // R_PPC64_DTPREL16_HI
+    Some(row!(DtpOff, bits!(16, 32, D), any reach signed 32)),
+    // R_PPC64_DTPREL16_HA
+    Some(row!(DtpOff, bits!(16, 32, D), any reach signed 32, bias: 0x8000)),
+    // R_PPC64_DTPREL16_DS
+    Some(row!(DtpOff, bits!(0, 16, Ds), signed 16, alignment: 4)),
+    // R_PPC64_DTPREL16_LO_DS
+    Some(row!(DtpOff, bits!(0, 16, Ds), any, alignment: 4)),
+    // R_PPC64_GOT_TPREL16_HA
+    Some(row!(GotTpOffGotBase, bits!(16, 32, D), any reach signed 32, bias: 0x8000)),
+    // R_PPC64_GOT_TPREL16_HI
+    Some(row!(GotTpOffGotBase, bits!(16, 32, D), any reach signed 32)),
+    // R_PPC64_GOT_TPREL16_DS
+    Some(row!(GotTpOffGotBase, bits!(0, 16, Ds), signed 16, alignment: 4)),
+    // R_PPC64_GOT_TPREL16_LO_DS
+    Some(row!(GotTpOffGotBase, bits!(0, 16, Ds), any, alignment: 4)),
+    // R_PPC64_GOT_TLSGD16
+    Some(row!(TlsGdGotBase, bits!(0, 16, D), signed 16)),
+    // R_PPC64_GOT_TLSGD16_LO
+    Some(row!(TlsGdGotBase, bits!(0, 16, D), any)),
+    // R_PPC64_GOT_TLSGD16_HI
+    Some(row!(TlsGdGotBase, bits!(16, 32, D), any reach signed 32)),
+    // R_PPC64_GOT_TLSGD16_HA
+    Some(row!(TlsGdGotBase, bits!(16, 32, D), any reach signed 32, bias: 0x8000)),
+    // R_PPC64_GOT_TLSLD16
+    Some(row!(TlsLdGotBase, bits!(0, 16, D), signed 16)),
+    // R_PPC64_GOT_TLSLD16_LO
+    Some(row!(TlsLdGotBase, bits!(0, 16, D), any)),
+    // R_PPC64_GOT_TLSLD16_HI
+    Some(row!(TlsLdGotBase, bits!(16, 32, D), any reach signed 32)),
+    // R_PPC64_GOT_TLSLD16_HA
+    Some(row!(TlsLdGotBase, bits!(16, 32, D), any reach signed 32, bias: 0x8000)),
+    // Other
+    None,
+];
+
+/// The name's place in its enum.
+#[inline(always)]
+fn place(name: Ppc64Relocation) -> usize {
+    match name {
+        Ppc64Relocation::R_PPC64_NONE => 0,
+        Ppc64Relocation::R_PPC64_TLS => 1,
+        Ppc64Relocation::R_PPC64_TLSGD => 2,
+        Ppc64Relocation::R_PPC64_TLSLD => 3,
+        Ppc64Relocation::R_PPC64_ADDR64 => 4,
+        Ppc64Relocation::R_PPC64_ADDR32 => 5,
+        Ppc64Relocation::R_PPC64_ADDR16_LO => 6,
+        Ppc64Relocation::R_PPC64_ADDR16_HI => 7,
+        Ppc64Relocation::R_PPC64_ADDR16_HA => 8,
+        Ppc64Relocation::R_PPC64_ADDR16_DS => 9,
+        Ppc64Relocation::R_PPC64_ADDR16_LO_DS => 10,
+        Ppc64Relocation::R_PPC64_REL64 => 11,
+        Ppc64Relocation::R_PPC64_REL32 => 12,
+        Ppc64Relocation::R_PPC64_REL24 => 13,
+        Ppc64Relocation::R_PPC64_REL24_NOTOC => 14,
+        Ppc64Relocation::R_PPC64_REL14 => 15,
+        Ppc64Relocation::R_PPC64_REL16_HA => 16,
+        Ppc64Relocation::R_PPC64_REL16_LO => 17,
+        Ppc64Relocation::R_PPC64_PCREL34 => 18,
+        Ppc64Relocation::R_PPC64_GOT_PCREL34 => 19,
+        Ppc64Relocation::R_PPC64_TOC16 => 20,
+        Ppc64Relocation::R_PPC64_TOC16_DS => 21,
+        Ppc64Relocation::R_PPC64_TOC16_HA => 22,
+        Ppc64Relocation::R_PPC64_TOC16_LO => 23,
+        Ppc64Relocation::R_PPC64_TOC16_LO_DS => 24,
+        Ppc64Relocation::R_PPC64_TPREL64 => 25,
+        Ppc64Relocation::R_PPC64_TPREL16 => 26,
+        Ppc64Relocation::R_PPC64_TPREL16_LO => 27,
+        Ppc64Relocation::R_PPC64_TPREL16_HI => 28,
+        Ppc64Relocation::R_PPC64_TPREL16_HA => 29,
+        Ppc64Relocation::R_PPC64_TPREL16_DS => 30,
+        Ppc64Relocation::R_PPC64_TPREL16_LO_DS => 31,
+        Ppc64Relocation::R_PPC64_DTPREL64 => 32,
+        Ppc64Relocation::R_PPC64_DTPREL16 => 33,
+        Ppc64Relocation::R_PPC64_DTPREL16_LO => 34,
+        Ppc64Relocation::R_PPC64_DTPREL16_HI => 35,
+        Ppc64Relocation::R_PPC64_DTPREL16_HA => 36,
+        Ppc64Relocation::R_PPC64_DTPREL16_DS => 37,
+        Ppc64Relocation::R_PPC64_DTPREL16_LO_DS => 38,
+        Ppc64Relocation::R_PPC64_GOT_TPREL16_HA => 39,
+        Ppc64Relocation::R_PPC64_GOT_TPREL16_HI => 40,
+        Ppc64Relocation::R_PPC64_GOT_TPREL16_DS => 41,
+        Ppc64Relocation::R_PPC64_GOT_TPREL16_LO_DS => 42,
+        Ppc64Relocation::R_PPC64_GOT_TLSGD16 => 43,
+        Ppc64Relocation::R_PPC64_GOT_TLSGD16_LO => 44,
+        Ppc64Relocation::R_PPC64_GOT_TLSGD16_HI => 45,
+        Ppc64Relocation::R_PPC64_GOT_TLSGD16_HA => 46,
+        Ppc64Relocation::R_PPC64_GOT_TLSLD16 => 47,
+        Ppc64Relocation::R_PPC64_GOT_TLSLD16_LO => 48,
+        Ppc64Relocation::R_PPC64_GOT_TLSLD16_HI => 49,
+        Ppc64Relocation::R_PPC64_GOT_TLSLD16_HA => 50,
+        Ppc64Relocation::Other(_) => 51,
+    }
 }
 
 /// What a relocation means. It takes a name; `Ppc64Relocation::from_elf` gives the name of a code.
@@ -511,31 +456,16 @@ pub fn relocation_type_from_raw(name: Ppc64Relocation) -> Option<RelocationKindI
     row(name)
 }
 
-#[inline(always)]
-fn row(name: Ppc64Relocation) -> Option<RelocationKindInfo> {
-    rows!(name, Some, None)
-}
-
-/// `relocation_type_from_raw`, by a table in place of a match. It takes less time where a processor
-/// can't foresee the name, and more where it can.
-#[inline]
-pub fn relocation_type_from_table(name: Ppc64Relocation) -> Option<RelocationKindInfo> {
-    let row = row_number(name);
-    unpack(row, ppc64_size(row))
-}
-
-/// The row of a name as a number; 0 where there is none. Inlined, the match would be joined with
-/// what reads the row, into a jump that a processor can't foresee.
-#[inline(never)]
-fn row_number(name: Ppc64Relocation) -> u64 {
-    rows!(name, pack, 0)
-}
-
-/// `relocation_type_from_table`, with the bounds of the row's reach.
+/// What a relocation means, with the bounds of its reach.
 #[inline(always)]
 pub fn prepared_row(name: Ppc64Relocation) -> Option<PreparedRow> {
-    match relocation_type_from_table(name) {
-        Some(row) => Some(PreparedRow::of(row)),
+    prepared(ROWS[place(name)])
+}
+
+#[inline(always)]
+fn row(name: Ppc64Relocation) -> Option<RelocationKindInfo> {
+    match prepared_row(name) {
+        Some(prepared) => Some(prepared.row),
         None => None,
     }
 }

@@ -1,10 +1,8 @@
 // Made by tools/erase of crates/linker_utils/src/x86_64/relocations.rt.
 //! What the relocations of x86-64 mean.
 
-use crate::elf::rows::{pack, unpack, whole_bytes};
-use crate::elf::{
-    AllowedRange, PreparedRow, RelocationKind, RelocationKindInfo, RelocationSize, Sign,
-};
+use crate::elf::rows::{TableRow, bytes, prepared, row};
+use crate::elf::{PreparedRow, RelocationKindInfo};
 use core::fmt;
 
 /// The relocations of x86-64, by their names in the x86-64 psABI, "Relocation Types". `from_elf`
@@ -208,176 +206,135 @@ impl X86_64Relocation {
     }
 }
 
+/// By the names' places in their enum. The last one is that of `Other`.
+static ROWS: [Option<TableRow>; 40] = [
+    // R_X86_64_NONE
+    Some(row!(None, bytes!(0), any)),
+    // R_X86_64_TLSDESC_CALL
+    Some(row!(TlsDescCall, bytes!(0), any)),
+    // R_X86_64_64
+    Some(row!(Absolute, bytes!(8), any)),
+    // R_X86_64_32
+    Some(row!(Absolute, bytes!(4), unsigned 32)),
+    // R_X86_64_32S
+    Some(row!(Absolute, bytes!(4), signed 32)),
+    // R_X86_64_16
+    Some(row!(Absolute, bytes!(2), signed_or_unsigned 16)),
+    // R_X86_64_8
+    Some(row!(Absolute, bytes!(1), signed_or_unsigned 8)),
+    // R_X86_64_PC64
+    Some(row!(Relative, bytes!(8), any)),
+    // R_X86_64_GOTPC64
+    Some(row!(Relative, bytes!(8), any)),
+    // R_X86_64_PC32
+    Some(row!(Relative, bytes!(4), signed 32)),
+    // R_X86_64_GOTPC32
+    Some(row!(Relative, bytes!(4), signed 32)),
+    // R_X86_64_PC16
+    Some(row!(Relative, bytes!(2), signed 16)),
+    // R_X86_64_PC8
+    Some(row!(Relative, bytes!(1), signed 8)),
+    // R_X86_64_GOT32
+    Some(row!(GotRelGotBase, bytes!(4), unsigned 32)),
+    // R_X86_64_GOT64
+    Some(row!(GotRelGotBase, bytes!(8), any)),
+    // R_X86_64_GOTOFF64
+    Some(row!(SymRelGotBase, bytes!(8), any)),
+    // R_X86_64_PLT32
+    Some(row!(PltRelative, bytes!(4), signed 32)),
+    // R_X86_64_PLTOFF64
+    Some(row!(PltRelGotBase, bytes!(8), any)),
+    // R_X86_64_GOTPCREL
+    Some(row!(GotRelative, bytes!(4), signed 32)),
+    // R_X86_64_GOTPCRELX
+    Some(row!(GotRelative, bytes!(4), signed 32)),
+    // R_X86_64_REX_GOTPCRELX
+    Some(row!(GotRelative, bytes!(4), signed 32)),
+    // R_X86_64_CODE_4_GOTPCRELX
+    Some(row!(GotRelative, bytes!(4), signed 32)),
+    // R_X86_64_CODE_5_GOTPCRELX
+    Some(row!(GotRelative, bytes!(4), signed 32)),
+    // R_X86_64_CODE_6_GOTPCRELX
+    Some(row!(GotRelative, bytes!(4), signed 32)),
+    // R_X86_64_SIZE32
+    Some(row!(SymbolSize, bytes!(4), unsigned 32)),
+    // R_X86_64_SIZE64
+    Some(row!(SymbolSize, bytes!(8), any)),
+    // R_X86_64_TLSGD
+    Some(row!(TlsGd, bytes!(4), signed 32)),
+    // R_X86_64_TLSLD
+    Some(row!(TlsLd, bytes!(4), signed 32)),
+    // R_X86_64_DTPOFF32
+    Some(row!(DtpOff, bytes!(4), signed 32)),
+    // R_X86_64_DTPOFF64
+    Some(row!(DtpOff, bytes!(8), any)),
+    // R_X86_64_GOTTPOFF
+    Some(row!(GotTpOff, bytes!(4), signed 32)),
+    // R_X86_64_CODE_4_GOTTPOFF
+    Some(row!(GotTpOff, bytes!(4), signed 32)),
+    // R_X86_64_CODE_5_GOTTPOFF
+    Some(row!(GotTpOff, bytes!(4), signed 32)),
+    // R_X86_64_CODE_6_GOTTPOFF
+    Some(row!(GotTpOff, bytes!(4), signed 32)),
+    // R_X86_64_TPOFF32
+    Some(row!(TpOff, bytes!(4), signed 32)),
+    // R_X86_64_GOTPC32_TLSDESC
+    Some(row!(TlsDesc, bytes!(4), signed 32)),
+    // R_X86_64_CODE_4_GOTPC32_TLSDESC
+    Some(row!(TlsDesc, bytes!(4), signed 32)),
+    // R_X86_64_CODE_5_GOTPC32_TLSDESC
+    Some(row!(TlsDesc, bytes!(4), signed 32)),
+    // R_X86_64_CODE_6_GOTPC32_TLSDESC
+    Some(row!(TlsDesc, bytes!(4), signed 32)),
+    // Other
+    None,
+];
+
+/// The name's place in its enum.
 #[inline(always)]
-fn described(kind: RelocationKind, size: RelocationSize, range: AllowedRange) -> RelocationKindInfo {
-    RelocationKindInfo {
-        kind,
-        size,
-        mask: None,
-        range,
-        alignment: 1,
-        bias: None,
-        thunkable: false,
-        implicit_addend: false,
+fn place(name: X86_64Relocation) -> usize {
+    match name {
+        X86_64Relocation::R_X86_64_NONE => 0,
+        X86_64Relocation::R_X86_64_TLSDESC_CALL => 1,
+        X86_64Relocation::R_X86_64_64 => 2,
+        X86_64Relocation::R_X86_64_32 => 3,
+        X86_64Relocation::R_X86_64_32S => 4,
+        X86_64Relocation::R_X86_64_16 => 5,
+        X86_64Relocation::R_X86_64_8 => 6,
+        X86_64Relocation::R_X86_64_PC64 => 7,
+        X86_64Relocation::R_X86_64_GOTPC64 => 8,
+        X86_64Relocation::R_X86_64_PC32 => 9,
+        X86_64Relocation::R_X86_64_GOTPC32 => 10,
+        X86_64Relocation::R_X86_64_PC16 => 11,
+        X86_64Relocation::R_X86_64_PC8 => 12,
+        X86_64Relocation::R_X86_64_GOT32 => 13,
+        X86_64Relocation::R_X86_64_GOT64 => 14,
+        X86_64Relocation::R_X86_64_GOTOFF64 => 15,
+        X86_64Relocation::R_X86_64_PLT32 => 16,
+        X86_64Relocation::R_X86_64_PLTOFF64 => 17,
+        X86_64Relocation::R_X86_64_GOTPCREL => 18,
+        X86_64Relocation::R_X86_64_GOTPCRELX => 19,
+        X86_64Relocation::R_X86_64_REX_GOTPCRELX => 20,
+        X86_64Relocation::R_X86_64_CODE_4_GOTPCRELX => 21,
+        X86_64Relocation::R_X86_64_CODE_5_GOTPCRELX => 22,
+        X86_64Relocation::R_X86_64_CODE_6_GOTPCRELX => 23,
+        X86_64Relocation::R_X86_64_SIZE32 => 24,
+        X86_64Relocation::R_X86_64_SIZE64 => 25,
+        X86_64Relocation::R_X86_64_TLSGD => 26,
+        X86_64Relocation::R_X86_64_TLSLD => 27,
+        X86_64Relocation::R_X86_64_DTPOFF32 => 28,
+        X86_64Relocation::R_X86_64_DTPOFF64 => 29,
+        X86_64Relocation::R_X86_64_GOTTPOFF => 30,
+        X86_64Relocation::R_X86_64_CODE_4_GOTTPOFF => 31,
+        X86_64Relocation::R_X86_64_CODE_5_GOTTPOFF => 32,
+        X86_64Relocation::R_X86_64_CODE_6_GOTTPOFF => 33,
+        X86_64Relocation::R_X86_64_TPOFF32 => 34,
+        X86_64Relocation::R_X86_64_GOTPC32_TLSDESC => 35,
+        X86_64Relocation::R_X86_64_CODE_4_GOTPC32_TLSDESC => 36,
+        X86_64Relocation::R_X86_64_CODE_5_GOTPC32_TLSDESC => 37,
+        X86_64Relocation::R_X86_64_CODE_6_GOTPC32_TLSDESC => 38,
+        X86_64Relocation::Other(_) => 39,
     }
-}
-
-/// Whole bytes.
-#[inline(always)]
-fn bytes(kind: RelocationKind, count: u8, range: AllowedRange) -> RelocationKindInfo {
-    described(kind, RelocationSize::ByteSize(count), range)
-}
-
-/// The rows, each by `$row`; `$none` where there is no row.
-macro_rules! rows {
-    ($name:expr, $row:ident, $none:expr) => {
-        match $name {
-            X86_64Relocation::R_X86_64_NONE => $row(bytes(
-                RelocationKind::None,
-                0,
-                AllowedRange::no_check(),
-            )),
-            X86_64Relocation::R_X86_64_TLSDESC_CALL => $row(bytes(
-                RelocationKind::TlsDescCall,
-                0,
-                AllowedRange::no_check(),
-            )),
-            X86_64Relocation::R_X86_64_64 => $row(bytes(
-                RelocationKind::Absolute,
-                8,
-                AllowedRange::no_check(),
-            )),
-            X86_64Relocation::R_X86_64_32 => $row(bytes(
-                RelocationKind::Absolute,
-                4,
-                AllowedRange::from_bit_size(32, Sign::Unsigned),
-            )),
-            X86_64Relocation::R_X86_64_32S => $row(bytes(
-                RelocationKind::Absolute,
-                4,
-                AllowedRange::from_bit_size(32, Sign::Signed),
-            )),
-            X86_64Relocation::R_X86_64_16 => $row(bytes(
-                RelocationKind::Absolute,
-                2,
-                AllowedRange::new(-0x8000, 0x10000),
-            )),
-            X86_64Relocation::R_X86_64_8 => $row(bytes(
-                RelocationKind::Absolute,
-                1,
-                AllowedRange::new(-128, 0x100),
-            )),
-            X86_64Relocation::R_X86_64_PC64
-            | X86_64Relocation::R_X86_64_GOTPC64 => $row(bytes(
-                RelocationKind::Relative,
-                8,
-                AllowedRange::no_check(),
-            )),
-            X86_64Relocation::R_X86_64_PC32
-            | X86_64Relocation::R_X86_64_GOTPC32 => $row(bytes(
-                RelocationKind::Relative,
-                4,
-                AllowedRange::from_bit_size(32, Sign::Signed),
-            )),
-            X86_64Relocation::R_X86_64_PC16 => $row(bytes(
-                RelocationKind::Relative,
-                2,
-                AllowedRange::from_bit_size(16, Sign::Signed),
-            )),
-            X86_64Relocation::R_X86_64_PC8 => $row(bytes(
-                RelocationKind::Relative,
-                1,
-                AllowedRange::from_bit_size(8, Sign::Signed),
-            )),
-            X86_64Relocation::R_X86_64_GOT32 => $row(bytes(
-                RelocationKind::GotRelGotBase,
-                4,
-                AllowedRange::from_bit_size(32, Sign::Unsigned),
-            )),
-            X86_64Relocation::R_X86_64_GOT64 => $row(bytes(
-                RelocationKind::GotRelGotBase,
-                8,
-                AllowedRange::no_check(),
-            )),
-            X86_64Relocation::R_X86_64_GOTOFF64 => $row(bytes(
-                RelocationKind::SymRelGotBase,
-                8,
-                AllowedRange::no_check(),
-            )),
-            X86_64Relocation::R_X86_64_PLT32 => $row(bytes(
-                RelocationKind::PltRelative,
-                4,
-                AllowedRange::from_bit_size(32, Sign::Signed),
-            )),
-            X86_64Relocation::R_X86_64_PLTOFF64 => $row(bytes(
-                RelocationKind::PltRelGotBase,
-                8,
-                AllowedRange::no_check(),
-            )),
-            X86_64Relocation::R_X86_64_GOTPCREL
-            | X86_64Relocation::R_X86_64_GOTPCRELX
-            | X86_64Relocation::R_X86_64_REX_GOTPCRELX
-            | X86_64Relocation::R_X86_64_CODE_4_GOTPCRELX
-            | X86_64Relocation::R_X86_64_CODE_5_GOTPCRELX
-            | X86_64Relocation::R_X86_64_CODE_6_GOTPCRELX => $row(bytes(
-                RelocationKind::GotRelative,
-                4,
-                AllowedRange::from_bit_size(32, Sign::Signed),
-            )),
-            X86_64Relocation::R_X86_64_SIZE32 => $row(bytes(
-                RelocationKind::SymbolSize,
-                4,
-                AllowedRange::from_bit_size(32, Sign::Unsigned),
-            )),
-            X86_64Relocation::R_X86_64_SIZE64 => $row(bytes(
-                RelocationKind::SymbolSize,
-                8,
-                AllowedRange::no_check(),
-            )),
-            X86_64Relocation::R_X86_64_TLSGD => $row(bytes(
-                RelocationKind::TlsGd,
-                4,
-                AllowedRange::from_bit_size(32, Sign::Signed),
-            )),
-            X86_64Relocation::R_X86_64_TLSLD => $row(bytes(
-                RelocationKind::TlsLd,
-                4,
-                AllowedRange::from_bit_size(32, Sign::Signed),
-            )),
-            X86_64Relocation::R_X86_64_DTPOFF32 => $row(bytes(
-                RelocationKind::DtpOff,
-                4,
-                AllowedRange::from_bit_size(32, Sign::Signed),
-            )),
-            X86_64Relocation::R_X86_64_DTPOFF64 => $row(bytes(
-                RelocationKind::DtpOff,
-                8,
-                AllowedRange::no_check(),
-            )),
-            X86_64Relocation::R_X86_64_GOTTPOFF
-            | X86_64Relocation::R_X86_64_CODE_4_GOTTPOFF
-            | X86_64Relocation::R_X86_64_CODE_5_GOTTPOFF
-            | X86_64Relocation::R_X86_64_CODE_6_GOTTPOFF => $row(bytes(
-                RelocationKind::GotTpOff,
-                4,
-                AllowedRange::from_bit_size(32, Sign::Signed),
-            )),
-            X86_64Relocation::R_X86_64_TPOFF32 => $row(bytes(
-                RelocationKind::TpOff,
-                4,
-                AllowedRange::from_bit_size(32, Sign::Signed),
-            )),
-            X86_64Relocation::R_X86_64_GOTPC32_TLSDESC
-            | X86_64Relocation::R_X86_64_CODE_4_GOTPC32_TLSDESC
-            | X86_64Relocation::R_X86_64_CODE_5_GOTPC32_TLSDESC
-            | X86_64Relocation::R_X86_64_CODE_6_GOTPC32_TLSDESC => $row(bytes(
-                RelocationKind::TlsDesc,
-                4,
-                AllowedRange::from_bit_size(32, Sign::Signed),
-            )),
-            X86_64Relocation::Other(_) => $none,
-        }
-    };
 }
 
 /// What a relocation means. It takes a name; `X86_64Relocation::from_elf` gives the name of a code.
@@ -385,29 +342,19 @@ macro_rules! rows {
 /// signed or unsigned.
 #[inline]
 pub fn relocation_from_raw(name: X86_64Relocation) -> Option<RelocationKindInfo> {
-    rows!(name, Some, None)
+    row(name)
 }
 
-/// `relocation_from_raw`, by a table in place of a match. It takes less time where a processor
-/// can't foresee the name, and more where it can.
-#[inline]
-pub fn relocation_from_table(name: X86_64Relocation) -> Option<RelocationKindInfo> {
-    let row = row_number(name);
-    unpack(row, whole_bytes(row))
-}
-
-/// The row of a name as a number; 0 where there is none. Inlined, the match would be joined with
-/// what reads the row, into a jump that a processor can't foresee.
-#[inline(never)]
-fn row_number(name: X86_64Relocation) -> u64 {
-    rows!(name, pack, 0)
-}
-
-/// `relocation_from_table`, with the bounds of the row's reach.
+/// What a relocation means, with the bounds of its reach.
 #[inline(always)]
 pub fn prepared_row(name: X86_64Relocation) -> Option<PreparedRow> {
-    match relocation_from_table(name) {
-        Some(row) => Some(PreparedRow::of(row)),
+    prepared(ROWS[place(name)])
+}
+
+#[inline(always)]
+fn row(name: X86_64Relocation) -> Option<RelocationKindInfo> {
+    match prepared_row(name) {
+        Some(prepared) => Some(prepared.row),
         None => None,
     }
 }

@@ -5,7 +5,7 @@ ghost use Rattle.linker_utils.specs.Agrees.{AgreesBy, AgreesInReach, RowFits};
 ghost use Rattle.linker_utils.specs.Reach.{reach_of};
 ghost use Rattle.linker_utils.specs.Relocate.{IsAccepted, IsWritten, IsCause};
 ghost use Rattle.linker_utils.specs.Relocate.{SizeReads, SizeHolds, SizeNumber};
-ghost use Rattle.linker_utils.specs.Inner.Prepared.{least_within, last_within, IsPrepared};
+ghost use Rattle.linker_utils.specs.Prepared.{least_within, last_within, IsPrepared};
 
 use crate::elf::relocate::{write_bits, write_bytes};
 use crate::elf::{AllowedRange, RelocateError, RelocationKindInfo, RelocationSize};

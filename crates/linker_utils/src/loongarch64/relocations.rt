@@ -1,19 +1,20 @@
 //! What the relocations of LoongArch mean.
 
-ghost use Rattle.std.specs.Prelude.{IfSome, ◌≡◌, ◌≤◌};
+ghost use Rattle.std.specs.Prelude.{◌≡◌, ◌<◌, IfSome};
 ghost use Rattle.linker_utils.specs.Agrees.{LoongArchRowAgrees, RowFits};
 ghost use Rattle.linker_utils.specs.Readings.{LoongArchRowReadsNoOther};
 ghost use Rattle.linker_utils.specs.LoongArchRows.{loongarch_row, loongarch_uleb128_role};
-ghost use Rattle.linker_utils.specs.LoongArchRows as rows;
 ghost use Rattle.linker_utils.specs.ElfNames.{IsNameOf, code_of, text_of};
 ghost use Rattle.linker_utils.specs.LoongArchNames.{loongarch_name};
-ghost use Rattle.linker_utils.specs.Inner.PackedRows.{packed_row};
-ghost use Rattle.linker_utils.specs.Inner.Prepared.{row_in, IsPrepared};
+ghost use denote.Enum.Declared.{tag_of};
+ghost use Rattle.linker_utils.specs.contracts.loongarch64.relocations.LoongArch64Relocation as names;
+ghost use Rattle.linker_utils.specs.Prepared.{row_in, IsPrepared};
 
-use crate::elf::rows::{loongarch64_size, pack, unpack};
+use crate::bit_misc::BitRange;
+use crate::elf::rows::{TableRow, bytes, prepared, row};
 use crate::elf::{
-    AllowedRange, Bias, LoongArch64Instruction, PageMask, PageMaskPattern, PreparedRow,
-    RelocationKind, RelocationKindInfo, RelocationSize, SIZE_2KB, Sign, Uleb128Role,
+    LoongArch64Instruction, PageMask, PageMaskPattern, PreparedRow, RelocationInstruction,
+    RelocationKindInfo, RelocationSize, SIZE_2KB, Uleb128Role,
 };
 use std::fmt;
 
@@ -363,192 +364,250 @@ impl LoongArch64Relocation {
     }
 }
 
-/// The rows, each by `$row`; `$none` where there is no row.
-macro_rules! rows {
-    ($name:expr, $row:ident, $none:expr) => {
-        match $name {
-            LoongArch64Relocation::R_LARCH_NONE
-            | LoongArch64Relocation::R_LARCH_TLS_DESC_LD
-            | LoongArch64Relocation::R_LARCH_RELAX
-            | LoongArch64Relocation::R_LARCH_TLS_LE_ADD_R
-            | LoongArch64Relocation::R_LARCH_ALIGN => $row(bytes(RelocationKind::None, 0)),
-            LoongArch64Relocation::R_LARCH_32 => $row(bytes_within(
-                RelocationKind::Absolute,
-                4,
-                AllowedRange::new(-(1 << 31), 1 << 32),
-            )),
-            LoongArch64Relocation::R_LARCH_64 => $row(bytes(RelocationKind::Absolute, 8)),
-            LoongArch64Relocation::R_LARCH_ABS_HI20 => $row(high(RelocationKind::Absolute)),
-            LoongArch64Relocation::R_LARCH_ABS_LO12 => $row(low(RelocationKind::Absolute)),
-            LoongArch64Relocation::R_LARCH_ABS64_LO20 => $row(middle(RelocationKind::Absolute)),
-            LoongArch64Relocation::R_LARCH_ABS64_HI12 => $row(upper(RelocationKind::Absolute)),
-            LoongArch64Relocation::R_LARCH_ADD6 => $row(bytes(
-                RelocationKind::AbsoluteAdditionWord6,
-                1,
-            )),
-            LoongArch64Relocation::R_LARCH_SUB6 => $row(bytes(
-                RelocationKind::AbsoluteSubtractionWord6,
-                1,
-            )),
-            LoongArch64Relocation::R_LARCH_ADD8 => $row(bytes(RelocationKind::AbsoluteAddition, 1)),
-            LoongArch64Relocation::R_LARCH_ADD16 => $row(bytes(
-                RelocationKind::AbsoluteAddition,
-                2,
-            )),
-            LoongArch64Relocation::R_LARCH_ADD24 => $row(bytes(
-                RelocationKind::AbsoluteAddition,
-                3,
-            )),
-            LoongArch64Relocation::R_LARCH_ADD32 => $row(bytes(
-                RelocationKind::AbsoluteAddition,
-                4,
-            )),
-            LoongArch64Relocation::R_LARCH_ADD64 => $row(bytes(
-                RelocationKind::AbsoluteAddition,
-                8,
-            )),
-            LoongArch64Relocation::R_LARCH_SUB8 => $row(bytes(
-                RelocationKind::AbsoluteSubtraction,
-                1,
-            )),
-            LoongArch64Relocation::R_LARCH_SUB16 => $row(bytes(
-                RelocationKind::AbsoluteSubtraction,
-                2,
-            )),
-            LoongArch64Relocation::R_LARCH_SUB24 => $row(bytes(
-                RelocationKind::AbsoluteSubtraction,
-                3,
-            )),
-            LoongArch64Relocation::R_LARCH_SUB32 => $row(bytes(
-                RelocationKind::AbsoluteSubtraction,
-                4,
-            )),
-            LoongArch64Relocation::R_LARCH_SUB64 => $row(bytes(
-                RelocationKind::AbsoluteSubtraction,
-                8,
-            )),
-            LoongArch64Relocation::R_LARCH_ADD_ULEB128 => $row(bytes(RelocationKind::Relative, 0)),
-            LoongArch64Relocation::R_LARCH_PCALA_HI20 => $row(paged(
-                RelocationKind::Relative,
-                PageMask::SymbolPlusAddendAndPosition(PageMaskPattern::Size4KB),
-            )),
-            LoongArch64Relocation::R_LARCH_32_PCREL => $row(bytes_within(
-                RelocationKind::Relative,
-                4,
-                AllowedRange::from_bit_size(32, Sign::Signed),
-            )),
-            LoongArch64Relocation::R_LARCH_PCREL20_S2 => $row(branch(
-                RelocationKind::Relative,
-                22,
-                LoongArch64Instruction::Shift5,
-            )),
-            LoongArch64Relocation::R_LARCH_64_PCREL => $row(bytes(RelocationKind::Relative, 8)),
-            LoongArch64Relocation::R_LARCH_PCADD_HI20 => $row(biased(RelocationKind::Relative)),
-            LoongArch64Relocation::R_LARCH_B16 => $row(branch(
-                RelocationKind::Relative,
-                18,
-                LoongArch64Instruction::Shift10,
-            )),
-            LoongArch64Relocation::R_LARCH_B21 => $row(branch(
-                RelocationKind::Relative,
-                23,
-                LoongArch64Instruction::Branch21,
-            )),
-            LoongArch64Relocation::R_LARCH_CALL30 => $row(bits(
-                RelocationKind::Relative,
-                2,
-                19,
-                LoongArch64Instruction::Call30,
-            )),
-            LoongArch64Relocation::R_LARCH_SUB_ULEB128 => $row(bytes(
-                RelocationKind::PairSubtractionULEB128LoongArch,
-                8,
-            )),
-            LoongArch64Relocation::R_LARCH_PCALA_LO12 => $row(low(RelocationKind::AbsoluteLowPart)),
-            LoongArch64Relocation::R_LARCH_PCALA64_LO20 => $row(middle(
-                RelocationKind::RelativeLoongArchHigh,
-            )),
-            LoongArch64Relocation::R_LARCH_PCALA64_HI12 => $row(upper(
-                RelocationKind::RelativeLoongArchHigh,
-            )),
-            LoongArch64Relocation::R_LARCH_B26 => $row(branch(
-                RelocationKind::PltRelative,
-                28,
-                LoongArch64Instruction::Branch26,
-            )),
-            LoongArch64Relocation::R_LARCH_CALL36 => $row(branch(
-                RelocationKind::PltRelative,
-                38,
-                LoongArch64Instruction::Call36,
-            )),
-            LoongArch64Relocation::R_LARCH_GOT_PC_HI20 => $row(paged(
-                RelocationKind::GotRelative,
-                PageMask::GotEntryAndPosition(PageMaskPattern::Size4KB),
-            )),
-            LoongArch64Relocation::R_LARCH_GOT_PC_LO12 => $row(low(RelocationKind::Got)),
-            LoongArch64Relocation::R_LARCH_GOT64_PC_LO20 => $row(middle(
-                RelocationKind::GotRelativeLoongArch64,
-            )),
-            LoongArch64Relocation::R_LARCH_GOT64_PC_HI12 => $row(upper(
-                RelocationKind::GotRelativeLoongArch64,
-            )),
-            LoongArch64Relocation::R_LARCH_TLS_LE_HI20 => $row(high(RelocationKind::TpOff)),
-            LoongArch64Relocation::R_LARCH_TLS_LE_LO12
-            | LoongArch64Relocation::R_LARCH_TLS_LE_LO12_R => $row(low(RelocationKind::TpOff)),
-            LoongArch64Relocation::R_LARCH_TLS_LE64_LO20 => $row(middle(RelocationKind::TpOff)),
-            LoongArch64Relocation::R_LARCH_TLS_LE64_HI12 => $row(upper(RelocationKind::TpOff)),
-            LoongArch64Relocation::R_LARCH_TLS_LE_HI20_R => $row(biased(RelocationKind::TpOff)),
-            LoongArch64Relocation::R_LARCH_TLS_IE_PC_HI20 => $row(paged(
-                RelocationKind::GotTpOff,
-                PageMask::GotEntryAndPosition(PageMaskPattern::Size4KB),
-            )),
-            LoongArch64Relocation::R_LARCH_TLS_IE_PC_LO12
-            | LoongArch64Relocation::R_LARCH_TLS_IE_LO12 => $row(low(RelocationKind::GotTpOffGot)),
-            LoongArch64Relocation::R_LARCH_TLS_IE_HI20 => $row(high(RelocationKind::GotTpOffGot)),
-            LoongArch64Relocation::R_LARCH_TLS_IE64_LO20 => $row(middle(
-                RelocationKind::GotTpOffGot,
-            )),
-            LoongArch64Relocation::R_LARCH_TLS_IE64_HI12 => $row(upper(
-                RelocationKind::GotTpOffGot,
-            )),
-            LoongArch64Relocation::R_LARCH_TLS_IE64_PC_LO20 => $row(middle(
-                RelocationKind::GotTpOffLoongArch64,
-            )),
-            LoongArch64Relocation::R_LARCH_TLS_IE64_PC_HI12 => $row(upper(
-                RelocationKind::GotTpOffLoongArch64,
-            )),
-            LoongArch64Relocation::R_LARCH_TLS_LD_PC_HI20
-            | LoongArch64Relocation::R_LARCH_TLS_GD_PC_HI20 => $row(paged(
-                RelocationKind::TlsGd,
-                PageMask::GotEntryAndPosition(PageMaskPattern::Size4KB),
-            )),
-            LoongArch64Relocation::R_LARCH_TLS_LD_HI20
-            | LoongArch64Relocation::R_LARCH_TLS_GD_HI20 => $row(high(RelocationKind::TlsGdGot)),
-            LoongArch64Relocation::R_LARCH_TLS_DESC_PC_HI20 => $row(paged(
-                RelocationKind::TlsDesc,
-                PageMask::GotEntryAndPosition(PageMaskPattern::Size4KB),
-            )),
-            LoongArch64Relocation::R_LARCH_TLS_DESC_PC_LO12 => $row(low(
-                RelocationKind::TlsDescGot,
-            )),
-            LoongArch64Relocation::R_LARCH_TLS_DESC64_PC_LO20 => $row(middle(
-                RelocationKind::TlsDescLoongArch64,
-            )),
-            LoongArch64Relocation::R_LARCH_TLS_DESC64_PC_HI12 => $row(upper(
-                RelocationKind::TlsDescLoongArch64,
-            )),
-            LoongArch64Relocation::R_LARCH_TLS_DESC_CALL => $row(bytes(
-                RelocationKind::TlsDescCall,
-                0,
-            )),
-            LoongArch64Relocation::R_LARCH_TLS_DTPREL32 => $row(bytes(RelocationKind::DtpOff, 4)),
-            LoongArch64Relocation::R_LARCH_TLS_DTPREL64 => $row(bytes(RelocationKind::DtpOff, 8)),
-            LoongArch64Relocation::R_LARCH_TLS_LD_PCREL20_S2
-            | LoongArch64Relocation::R_LARCH_TLS_GD_PCREL20_S2
-            | LoongArch64Relocation::R_LARCH_TLS_DESC_PCREL20_S2
-            | LoongArch64Relocation::Other(_) => $none,
+const PLACE_PAGES: PageMask = PageMask::SymbolPlusAddendAndPosition(PageMaskPattern::Size4KB);
+
+const ENTRY_PAGES: PageMask = PageMask::GotEntryAndPosition(PageMaskPattern::Size4KB);
+
+/// Bits of the value, from the first up, below the end, into an instruction.
+macro_rules! bits {
+    ($start:literal, $end:literal, $form:ident) => {
+        RelocationSize::BitMasking {
+            range: BitRange {
+                start: $start,
+                end: $end,
+            },
+            insn: RelocationInstruction::LoongArch64(LoongArch64Instruction::$form),
         }
     };
+}
+
+/// By the names' places in their enum. The last one is that of `Other`.
+static ROWS: [Option<TableRow>; 71] = [
+    // R_LARCH_NONE
+    Some(row!(None, bytes!(0), any)),
+    // R_LARCH_32
+    Some(row!(Absolute, bytes!(4), signed_or_unsigned 32)),
+    // R_LARCH_64
+    Some(row!(Absolute, bytes!(8), any)),
+    // R_LARCH_ADD6
+    Some(row!(AbsoluteAdditionWord6, bytes!(1), any)),
+    // R_LARCH_ADD8
+    Some(row!(AbsoluteAddition, bytes!(1), any)),
+    // R_LARCH_ADD16
+    Some(row!(AbsoluteAddition, bytes!(2), any)),
+    // R_LARCH_ADD24
+    Some(row!(AbsoluteAddition, bytes!(3), any)),
+    // R_LARCH_ADD32
+    Some(row!(AbsoluteAddition, bytes!(4), any)),
+    // R_LARCH_ADD64
+    Some(row!(AbsoluteAddition, bytes!(8), any)),
+    // R_LARCH_SUB6
+    Some(row!(AbsoluteSubtractionWord6, bytes!(1), any)),
+    // R_LARCH_SUB8
+    Some(row!(AbsoluteSubtraction, bytes!(1), any)),
+    // R_LARCH_SUB16
+    Some(row!(AbsoluteSubtraction, bytes!(2), any)),
+    // R_LARCH_SUB24
+    Some(row!(AbsoluteSubtraction, bytes!(3), any)),
+    // R_LARCH_SUB32
+    Some(row!(AbsoluteSubtraction, bytes!(4), any)),
+    // R_LARCH_SUB64
+    Some(row!(AbsoluteSubtraction, bytes!(8), any)),
+    // R_LARCH_ADD_ULEB128
+    Some(row!(Relative, bytes!(0), any)),
+    // R_LARCH_SUB_ULEB128
+    Some(row!(PairSubtractionULEB128LoongArch, bytes!(8), any)),
+    // R_LARCH_ABS_HI20
+    Some(row!(Absolute, bits!(12, 32, Shift5), any)),
+    // R_LARCH_ABS_LO12
+    Some(row!(Absolute, bits!(0, 12, Shift10), any)),
+    // R_LARCH_ABS64_HI12
+    Some(row!(Absolute, bits!(52, 64, Shift10), any)),
+    // R_LARCH_ABS64_LO20
+    Some(row!(Absolute, bits!(32, 52, Shift5), any)),
+    // R_LARCH_PCALA_HI20
+    Some(row!(Relative, bits!(12, 32, Shift5), any, mask: Some(PLACE_PAGES), bias: SIZE_2KB)),
+    // R_LARCH_PCALA_LO12
+    Some(row!(AbsoluteLowPart, bits!(0, 12, Shift10), any)),
+    // R_LARCH_PCALA64_HI12
+    Some(row!(RelativeLoongArchHigh, bits!(52, 64, Shift10), any)),
+    // R_LARCH_PCALA64_LO20
+    Some(row!(RelativeLoongArchHigh, bits!(32, 52, Shift5), any)),
+    // R_LARCH_32_PCREL
+    Some(row!(Relative, bytes!(4), signed 32)),
+    // R_LARCH_PCREL20_S2
+    Some(row!(Relative, bits!(2, 22, Shift5), signed 22, alignment: 4)),
+    // R_LARCH_64_PCREL
+    Some(row!(Relative, bytes!(8), any)),
+    // R_LARCH_PCADD_HI20
+    Some(row!(Relative, bits!(12, 32, Shift5), any, bias: SIZE_2KB)),
+    // R_LARCH_GOT_PC_HI20
+    Some(row!(GotRelative, bits!(12, 32, Shift5), any, mask: Some(ENTRY_PAGES), bias: SIZE_2KB)),
+    // R_LARCH_GOT_PC_LO12
+    Some(row!(Got, bits!(0, 12, Shift10), any)),
+    // R_LARCH_GOT64_PC_HI12
+    Some(row!(GotRelativeLoongArch64, bits!(52, 64, Shift10), any)),
+    // R_LARCH_GOT64_PC_LO20
+    Some(row!(GotRelativeLoongArch64, bits!(32, 52, Shift5), any)),
+    // R_LARCH_B16
+    Some(row!(Relative, bits!(2, 18, Shift10), signed 18, alignment: 4)),
+    // R_LARCH_B21
+    Some(row!(Relative, bits!(2, 23, Branch21), signed 23, alignment: 4)),
+    // R_LARCH_B26
+    Some(row!(PltRelative, bits!(2, 28, Branch26), signed 28, alignment: 4)),
+    // R_LARCH_CALL36
+    Some(
+        row!(PltRelative, bits!(2, 38, Call36), signed 38 reach -0x2000020000, 0x1ffffe0000, alignment: 4),
+    ),
+    // R_LARCH_CALL30
+    Some(row!(Relative, bits!(2, 19, Call30), any)),
+    // R_LARCH_TLS_LE_HI20
+    Some(row!(TpOff, bits!(12, 32, Shift5), any)),
+    // R_LARCH_TLS_LE_LO12
+    Some(row!(TpOff, bits!(0, 12, Shift10), any)),
+    // R_LARCH_TLS_LE64_LO20
+    Some(row!(TpOff, bits!(32, 52, Shift5), any)),
+    // R_LARCH_TLS_LE64_HI12
+    Some(row!(TpOff, bits!(52, 64, Shift10), any)),
+    // R_LARCH_TLS_LE_HI20_R
+    Some(row!(TpOff, bits!(12, 32, Shift5), any, bias: SIZE_2KB)),
+    // R_LARCH_TLS_LE_LO12_R
+    Some(row!(TpOff, bits!(0, 12, Shift10), any)),
+    // R_LARCH_TLS_IE_PC_HI20
+    Some(row!(GotTpOff, bits!(12, 32, Shift5), any, mask: Some(ENTRY_PAGES), bias: SIZE_2KB)),
+    // R_LARCH_TLS_IE_PC_LO12
+    Some(row!(GotTpOffGot, bits!(0, 12, Shift10), any)),
+    // R_LARCH_TLS_IE64_PC_LO20
+    Some(row!(GotTpOffLoongArch64, bits!(32, 52, Shift5), any)),
+    // R_LARCH_TLS_IE64_PC_HI12
+    Some(row!(GotTpOffLoongArch64, bits!(52, 64, Shift10), any)),
+    // R_LARCH_TLS_IE_HI20
+    Some(row!(GotTpOffGot, bits!(12, 32, Shift5), any)),
+    // R_LARCH_TLS_IE_LO12
+    Some(row!(GotTpOffGot, bits!(0, 12, Shift10), any)),
+    // R_LARCH_TLS_IE64_HI12
+    Some(row!(GotTpOffGot, bits!(52, 64, Shift10), any)),
+    // R_LARCH_TLS_IE64_LO20
+    Some(row!(GotTpOffGot, bits!(32, 52, Shift5), any)),
+    // R_LARCH_TLS_LD_PC_HI20
+    Some(row!(TlsGd, bits!(12, 32, Shift5), any, mask: Some(ENTRY_PAGES), bias: SIZE_2KB)),
+    // R_LARCH_TLS_LD_HI20
+    Some(row!(TlsGdGot, bits!(12, 32, Shift5), any)),
+    // R_LARCH_TLS_GD_PC_HI20
+    Some(row!(TlsGd, bits!(12, 32, Shift5), any, mask: Some(ENTRY_PAGES), bias: SIZE_2KB)),
+    // R_LARCH_TLS_GD_HI20
+    Some(row!(TlsGdGot, bits!(12, 32, Shift5), any)),
+    // R_LARCH_TLS_DESC_PC_HI20
+    Some(row!(TlsDesc, bits!(12, 32, Shift5), any, mask: Some(ENTRY_PAGES), bias: SIZE_2KB)),
+    // R_LARCH_TLS_DESC_PC_LO12
+    Some(row!(TlsDescGot, bits!(0, 12, Shift10), any)),
+    // R_LARCH_TLS_DESC64_PC_HI12
+    Some(row!(TlsDescLoongArch64, bits!(52, 64, Shift10), any)),
+    // R_LARCH_TLS_DESC64_PC_LO20
+    Some(row!(TlsDescLoongArch64, bits!(32, 52, Shift5), any)),
+    // R_LARCH_TLS_DESC_LD
+    Some(row!(None, bytes!(0), any)),
+    // R_LARCH_TLS_DESC_CALL
+    Some(row!(TlsDescCall, bytes!(0), any)),
+    // R_LARCH_TLS_DTPREL32
+    Some(row!(DtpOff, bytes!(4), any)),
+    // R_LARCH_TLS_DTPREL64
+    Some(row!(DtpOff, bytes!(8), any)),
+    // R_LARCH_TLS_LD_PCREL20_S2
+    None,
+    // R_LARCH_TLS_GD_PCREL20_S2
+    None,
+    // R_LARCH_TLS_DESC_PCREL20_S2
+    None,
+    // R_LARCH_RELAX
+    Some(row!(None, bytes!(0), any)),
+    // R_LARCH_TLS_LE_ADD_R
+    Some(row!(None, bytes!(0), any)),
+    // R_LARCH_ALIGN
+    Some(row!(None, bytes!(0), any)),
+    // Other
+    None,
+];
+
+/// The name's place in its enum.
+#[inline(always)]
+fn place(name: LoongArch64Relocation) -> usize
+    ensures place { result ≡ tag_of names.the_type name }
+    ensures small { result < 71 }
+{
+    match name {
+        LoongArch64Relocation::R_LARCH_NONE => 0,
+        LoongArch64Relocation::R_LARCH_32 => 1,
+        LoongArch64Relocation::R_LARCH_64 => 2,
+        LoongArch64Relocation::R_LARCH_ADD6 => 3,
+        LoongArch64Relocation::R_LARCH_ADD8 => 4,
+        LoongArch64Relocation::R_LARCH_ADD16 => 5,
+        LoongArch64Relocation::R_LARCH_ADD24 => 6,
+        LoongArch64Relocation::R_LARCH_ADD32 => 7,
+        LoongArch64Relocation::R_LARCH_ADD64 => 8,
+        LoongArch64Relocation::R_LARCH_SUB6 => 9,
+        LoongArch64Relocation::R_LARCH_SUB8 => 10,
+        LoongArch64Relocation::R_LARCH_SUB16 => 11,
+        LoongArch64Relocation::R_LARCH_SUB24 => 12,
+        LoongArch64Relocation::R_LARCH_SUB32 => 13,
+        LoongArch64Relocation::R_LARCH_SUB64 => 14,
+        LoongArch64Relocation::R_LARCH_ADD_ULEB128 => 15,
+        LoongArch64Relocation::R_LARCH_SUB_ULEB128 => 16,
+        LoongArch64Relocation::R_LARCH_ABS_HI20 => 17,
+        LoongArch64Relocation::R_LARCH_ABS_LO12 => 18,
+        LoongArch64Relocation::R_LARCH_ABS64_HI12 => 19,
+        LoongArch64Relocation::R_LARCH_ABS64_LO20 => 20,
+        LoongArch64Relocation::R_LARCH_PCALA_HI20 => 21,
+        LoongArch64Relocation::R_LARCH_PCALA_LO12 => 22,
+        LoongArch64Relocation::R_LARCH_PCALA64_HI12 => 23,
+        LoongArch64Relocation::R_LARCH_PCALA64_LO20 => 24,
+        LoongArch64Relocation::R_LARCH_32_PCREL => 25,
+        LoongArch64Relocation::R_LARCH_PCREL20_S2 => 26,
+        LoongArch64Relocation::R_LARCH_64_PCREL => 27,
+        LoongArch64Relocation::R_LARCH_PCADD_HI20 => 28,
+        LoongArch64Relocation::R_LARCH_GOT_PC_HI20 => 29,
+        LoongArch64Relocation::R_LARCH_GOT_PC_LO12 => 30,
+        LoongArch64Relocation::R_LARCH_GOT64_PC_HI12 => 31,
+        LoongArch64Relocation::R_LARCH_GOT64_PC_LO20 => 32,
+        LoongArch64Relocation::R_LARCH_B16 => 33,
+        LoongArch64Relocation::R_LARCH_B21 => 34,
+        LoongArch64Relocation::R_LARCH_B26 => 35,
+        LoongArch64Relocation::R_LARCH_CALL36 => 36,
+        LoongArch64Relocation::R_LARCH_CALL30 => 37,
+        LoongArch64Relocation::R_LARCH_TLS_LE_HI20 => 38,
+        LoongArch64Relocation::R_LARCH_TLS_LE_LO12 => 39,
+        LoongArch64Relocation::R_LARCH_TLS_LE64_LO20 => 40,
+        LoongArch64Relocation::R_LARCH_TLS_LE64_HI12 => 41,
+        LoongArch64Relocation::R_LARCH_TLS_LE_HI20_R => 42,
+        LoongArch64Relocation::R_LARCH_TLS_LE_LO12_R => 43,
+        LoongArch64Relocation::R_LARCH_TLS_IE_PC_HI20 => 44,
+        LoongArch64Relocation::R_LARCH_TLS_IE_PC_LO12 => 45,
+        LoongArch64Relocation::R_LARCH_TLS_IE64_PC_LO20 => 46,
+        LoongArch64Relocation::R_LARCH_TLS_IE64_PC_HI12 => 47,
+        LoongArch64Relocation::R_LARCH_TLS_IE_HI20 => 48,
+        LoongArch64Relocation::R_LARCH_TLS_IE_LO12 => 49,
+        LoongArch64Relocation::R_LARCH_TLS_IE64_HI12 => 50,
+        LoongArch64Relocation::R_LARCH_TLS_IE64_LO20 => 51,
+        LoongArch64Relocation::R_LARCH_TLS_LD_PC_HI20 => 52,
+        LoongArch64Relocation::R_LARCH_TLS_LD_HI20 => 53,
+        LoongArch64Relocation::R_LARCH_TLS_GD_PC_HI20 => 54,
+        LoongArch64Relocation::R_LARCH_TLS_GD_HI20 => 55,
+        LoongArch64Relocation::R_LARCH_TLS_DESC_PC_HI20 => 56,
+        LoongArch64Relocation::R_LARCH_TLS_DESC_PC_LO12 => 57,
+        LoongArch64Relocation::R_LARCH_TLS_DESC64_PC_HI12 => 58,
+        LoongArch64Relocation::R_LARCH_TLS_DESC64_PC_LO20 => 59,
+        LoongArch64Relocation::R_LARCH_TLS_DESC_LD => 60,
+        LoongArch64Relocation::R_LARCH_TLS_DESC_CALL => 61,
+        LoongArch64Relocation::R_LARCH_TLS_DTPREL32 => 62,
+        LoongArch64Relocation::R_LARCH_TLS_DTPREL64 => 63,
+        LoongArch64Relocation::R_LARCH_TLS_LD_PCREL20_S2 => 64,
+        LoongArch64Relocation::R_LARCH_TLS_GD_PCREL20_S2 => 65,
+        LoongArch64Relocation::R_LARCH_TLS_DESC_PCREL20_S2 => 66,
+        LoongArch64Relocation::R_LARCH_RELAX => 67,
+        LoongArch64Relocation::R_LARCH_TLS_LE_ADD_R => 68,
+        LoongArch64Relocation::R_LARCH_ALIGN => 69,
+        LoongArch64Relocation::Other(_) => 70,
+    }
 }
 
 /// What a relocation means. It takes a name; `LoongArch64Relocation::from_elf` gives the name of a
@@ -570,157 +629,21 @@ pub fn relocation_type_from_raw(name: LoongArch64Relocation) -> Option<Relocatio
     row(name)
 }
 
-#[inline(always)]
-fn row(name: LoongArch64Relocation) -> Option<RelocationKindInfo>
-    ensures { result ≡ loongarch_row name }
-{
-    rows!(name, Some, None)
-}
-
-/// `relocation_type_from_raw`, by a table in place of a match. It takes less time where a processor
-/// can't foresee the name, and more where it can.
-#[inline]
-pub fn relocation_type_from_table(name: LoongArch64Relocation) -> Option<RelocationKindInfo>
-    ensures row { result ≡ loongarch_row name }
-    // not of pairs: `reaches` of `write_to_value` says what `Call36` holds
-    ensures agrees { IfSome result (LoongArchRowAgrees name) }
-    ensures fits { IfSome result RowFits }
-{
-    let row = row_number(name);
-    unpack(row, loongarch64_size(row))
-}
-
-/// The row of a name as a number; 0 where there is none. Inlined, the match would be joined with
-/// what reads the row, into a jump that a processor can't foresee.
-#[inline(never)]
-fn row_number(name: LoongArch64Relocation) -> u64
-    ensures { result ≡ packed_row (loongarch_row name) }
-{
-    rows!(name, pack, 0)
-}
-
-/// `relocation_type_from_table`, with the bounds of the row's reach.
+/// What a relocation means, with the bounds of its reach.
 #[inline(always)]
 pub fn prepared_row(name: LoongArch64Relocation) -> Option<PreparedRow>
     ensures row { row_in result ≡ loongarch_row name }
     ensures prepared { IfSome result IsPrepared }
 {
-    match relocation_type_from_table(name) {
-        Some(row) => Some(PreparedRow::of(row)),
+    prepared(ROWS[place(name)])
+}
+
+#[inline(always)]
+fn row(name: LoongArch64Relocation) -> Option<RelocationKindInfo>
+    ensures { result ≡ loongarch_row name }
+{
+    match prepared_row(name) {
+        Some(prepared) => Some(prepared.row),
         None => None,
-    }
-}
-
-/// A meaning without page mask, range, alignment and bias.
-#[inline(always)]
-fn plain(kind: RelocationKind, size: RelocationSize) -> RelocationKindInfo
-    ensures { result ≡ rows.plain kind size }
-{
-    RelocationKindInfo {
-        kind,
-        size,
-        mask: None,
-        range: AllowedRange::no_check(),
-        alignment: 1,
-        bias: None,
-        thunkable: false,
-        implicit_addend: false,
-    }
-}
-
-#[inline(always)]
-fn bytes(kind: RelocationKind, count: u8) -> RelocationKindInfo
-    ensures { result ≡ rows.bytes kind count }
-{
-    plain(kind, RelocationSize::ByteSize(count))
-}
-
-#[inline(always)]
-fn bytes_within(kind: RelocationKind, count: u8, range: AllowedRange) -> RelocationKindInfo
-    ensures { result ≡ record (rows.bytes kind count) { range = range } }
-{
-    RelocationKindInfo {
-        range,
-        ..bytes(kind, count)
-    }
-}
-
-#[inline(always)]
-fn bits(
-    kind: RelocationKind,
-    start: u8,
-    end: u8,
-    insn: LoongArch64Instruction,
-) -> RelocationKindInfo
-    ensures { result ≡ rows.bits kind start end insn }
-{
-    plain(kind, RelocationSize::bit_mask_loongarch64(start, end, insn))
-}
-
-/// A distance in units of 4 bytes: a signed number of `end` bits, whose lowest two are 0.
-#[inline(always)]
-fn branch(kind: RelocationKind, end: u8, insn: LoongArch64Instruction) -> RelocationKindInfo
-    requires some { 1 ≤ end }
-    requires short { end ≤ 62 }
-    ensures { result ≡ rows.branch kind end insn }
-{
-    RelocationKindInfo {
-        range: AllowedRange::from_bit_size(end as u32, Sign::Signed),
-        alignment: 4,
-        ..bits(kind, 2, end, insn)
-    }
-}
-
-/// Bits 12 to 31.
-#[inline(always)]
-fn high(kind: RelocationKind) -> RelocationKindInfo
-    ensures { result ≡ rows.high kind }
-{
-    bits(kind, 12, 32, LoongArch64Instruction::Shift5)
-}
-
-/// Bits 0 to 11.
-#[inline(always)]
-fn low(kind: RelocationKind) -> RelocationKindInfo
-    ensures { result ≡ rows.low kind }
-{
-    bits(kind, 0, 12, LoongArch64Instruction::Shift10)
-}
-
-/// Bits 32 to 51.
-#[inline(always)]
-fn middle(kind: RelocationKind) -> RelocationKindInfo
-    ensures { result ≡ rows.middle kind }
-{
-    bits(kind, 32, 52, LoongArch64Instruction::Shift5)
-}
-
-/// Bits 52 to 63.
-#[inline(always)]
-fn upper(kind: RelocationKind) -> RelocationKindInfo
-    ensures { result ≡ rows.upper kind }
-{
-    bits(kind, 52, 64, LoongArch64Instruction::Shift10)
-}
-
-/// Bits 12 to 31, rounded because the low 12 bits are read signed.
-#[inline(always)]
-fn biased(kind: RelocationKind) -> RelocationKindInfo
-    ensures { result ≡ rows.biased kind }
-{
-    RelocationKindInfo {
-        bias: Bias::from_value(SIZE_2KB),
-        ..high(kind)
-    }
-}
-
-/// The same, of addresses whose offset in the page is cleared.
-#[inline(always)]
-fn paged(kind: RelocationKind, mask: PageMask) -> RelocationKindInfo
-    ensures { result ≡ rows.paged kind mask }
-{
-    RelocationKindInfo {
-        mask: Some(mask),
-        ..biased(kind)
     }
 }

@@ -1,20 +1,21 @@
 //! What the relocations of RISC-V mean.
 
-ghost use Rattle.std.specs.Prelude.{IfSome, ◌≡◌};
+ghost use Rattle.std.specs.Prelude.{◌≡◌, ◌<◌, IfSome};
 ghost use Rattle.linker_utils.specs.Agrees.{RowAgrees, RowFits};
 ghost use Rattle.linker_utils.specs.Readings.{RowReadsNoOther};
 ghost use Rattle.linker_utils.specs.RiscVRows.{riscv_row, clui_row, riscv_uleb128_role};
 ghost use Rattle.linker_utils.specs.RiscVRows.{riscv_tls_descriptor_row};
-ghost use Rattle.linker_utils.specs.RiscVRows as rows;
 ghost use Rattle.linker_utils.specs.ElfNames.{IsNameOf, code_of, text_of};
 ghost use Rattle.linker_utils.specs.RiscVNames.{riscv_name};
-ghost use Rattle.linker_utils.specs.Inner.PackedRows.{packed_row};
-ghost use Rattle.linker_utils.specs.Inner.Prepared.{row_in, IsPrepared};
+ghost use denote.Enum.Declared.{tag_of};
+ghost use Rattle.linker_utils.specs.contracts.riscv64.relocations.RiscVRelocation as names;
+ghost use Rattle.linker_utils.specs.Prepared.{row_in, IsPrepared};
 
-use crate::elf::rows::{pack, riscv_size, unpack};
+use crate::bit_misc::BitRange;
+use crate::elf::rows::{TableRow, bytes, prepared, row};
 use crate::elf::{
-    AllowedRange, PreparedRow, RelocationKind, RelocationKindInfo, RelocationSize,
-    RiscVInstruction, Uleb128Role,
+    PreparedRow, RelocationInstruction, RelocationKindInfo, RelocationSize, RiscVInstruction,
+    Uleb128Role,
 };
 use std::fmt;
 
@@ -264,277 +265,191 @@ impl RiscVRelocation {
     }
 }
 
-/// The bounds of 32 bits, signed or unsigned.
-const SIGNED_OR_UNSIGNED_32: Option<(i64, i64)> = Some((-0x8000_0000, 0x1_0000_0000));
-
-fn in_bytes(kind: RelocationKind, size: u8, bounds: Option<(i64, i64)>) -> RelocationKindInfo
-    ensures { result ≡ rows.in_bytes kind size bounds }
-{
-    RelocationKindInfo {
-        kind,
-        size: RelocationSize::ByteSize(size),
-        mask: None,
-        range: AllowedRange { bounds },
-        alignment: 1,
-        bias: None,
-        thunkable: false,
-        implicit_addend: false,
-    }
+/// Bits of the value, from the first up, below the end, into an instruction.
+macro_rules! bits {
+    ($start:literal, $end:literal, $form:ident) => {
+        RelocationSize::BitMasking {
+            range: BitRange {
+                start: $start,
+                end: $end,
+            },
+            insn: RelocationInstruction::RiscV(RiscVInstruction::$form),
+        }
+    };
 }
 
-fn in_form(
-    kind: RelocationKind,
-    end: u8,
-    form: RiscVInstruction,
-    bounds: Option<(i64, i64)>,
-    alignment: u64,
-) -> RelocationKindInfo
-    ensures { result ≡ rows.in_form kind end form bounds alignment }
-{
-    RelocationKindInfo {
-        kind,
-        size: RelocationSize::bit_mask_riscv(0, end, form),
-        mask: None,
-        range: AllowedRange { bounds },
-        alignment,
-        bias: None,
-        thunkable: false,
-        implicit_addend: false,
-    }
+/// A part of a value, or both, of a pair: `row!` of the value's first bits. The low part is signed,
+/// so the pair reaches 0x800 less than 32 signed bits.
+macro_rules! pair {
+    ($kind:ident, $end:literal, $form:ident) => {
+        row!(
+            $kind, bits!(0, $end, $form), signed_or_unsigned 32 reach -0x80000800, 0x7ffff800
+        )
+    };
 }
 
 /// What `R_RISCV_HI20` means once its `lui` has become a `c.lui`.
 pub(super) fn clui_info() -> RelocationKindInfo
     ensures { result ≡ clui_row }
 {
-    in_form(
-        RelocationKind::Absolute,
-        32,
-        RiscVInstruction::CluiType,
-        SIGNED_OR_UNSIGNED_32,
-        1,
-    )
+    row!(Absolute, bits!(0, 32, CluiType), signed_or_unsigned 32 reach -0x20800, 0x1f800)
+        .prepared()
+        .row
 }
 
-/// The rows, each by `$row`; `$none` where there is no row.
-macro_rules! rows {
-    ($name:expr, $row:ident, $none:expr) => {
-        match $name {
-            RiscVRelocation::R_RISCV_NONE
-            | RiscVRelocation::R_RISCV_TPREL_ADD
-            | RiscVRelocation::R_RISCV_RELAX => $row(in_bytes(RelocationKind::None, 0, None)),
-            RiscVRelocation::R_RISCV_32 => $row(in_bytes(
-                RelocationKind::Absolute,
-                4,
-                SIGNED_OR_UNSIGNED_32,
-            )),
-            RiscVRelocation::R_RISCV_64 => $row(in_bytes(RelocationKind::Absolute, 8, None)),
-            RiscVRelocation::R_RISCV_HI20 => $row(in_form(
-                RelocationKind::Absolute,
-                32,
-                RiscVInstruction::UType,
-                SIGNED_OR_UNSIGNED_32,
-                1,
-            )),
-            RiscVRelocation::R_RISCV_LO12_I => $row(in_form(
-                RelocationKind::Absolute,
-                32,
-                RiscVInstruction::IType,
-                SIGNED_OR_UNSIGNED_32,
-                1,
-            )),
-            RiscVRelocation::R_RISCV_LO12_S => $row(in_form(
-                RelocationKind::Absolute,
-                32,
-                RiscVInstruction::SType,
-                SIGNED_OR_UNSIGNED_32,
-                1,
-            )),
-            RiscVRelocation::R_RISCV_BRANCH => $row(in_form(
-                RelocationKind::Relative,
-                32,
-                RiscVInstruction::BType,
-                Some((-4096, 4095)),
-                2,
-            )),
-            RiscVRelocation::R_RISCV_JAL => $row(in_form(
-                RelocationKind::Relative,
-                32,
-                RiscVInstruction::JType,
-                Some((-1048576, 1048575)),
-                2,
-            )),
-            RiscVRelocation::R_RISCV_PCREL_HI20 => $row(in_form(
-                RelocationKind::Relative,
-                32,
-                RiscVInstruction::UType,
-                SIGNED_OR_UNSIGNED_32,
-                1,
-            )),
-            RiscVRelocation::R_RISCV_RVC_BRANCH => $row(in_form(
-                RelocationKind::Relative,
-                16,
-                RiscVInstruction::CbType,
-                Some((-256, 255)),
-                2,
-            )),
-            RiscVRelocation::R_RISCV_RVC_JUMP => $row(in_form(
-                RelocationKind::Relative,
-                16,
-                RiscVInstruction::CjType,
-                Some((-2048, 2047)),
-                2,
-            )),
-            RiscVRelocation::R_RISCV_32_PCREL => $row(in_bytes(
-                RelocationKind::Relative,
-                4,
-                SIGNED_OR_UNSIGNED_32,
-            )),
-            RiscVRelocation::R_RISCV_SET_ULEB128 => $row(in_bytes(
-                RelocationKind::Relative,
-                0,
-                None,
-            )),
-            RiscVRelocation::R_RISCV_CALL
-            | RiscVRelocation::R_RISCV_CALL_PLT => $row(in_form(
-                RelocationKind::PltRelative,
-                64,
-                RiscVInstruction::UiType,
-                SIGNED_OR_UNSIGNED_32,
-                1,
-            )),
-            RiscVRelocation::R_RISCV_PLT32 => $row(in_bytes(
-                RelocationKind::PltRelative,
-                4,
-                SIGNED_OR_UNSIGNED_32,
-            )),
-            RiscVRelocation::R_RISCV_GOT_HI20 => $row(in_form(
-                RelocationKind::GotRelative,
-                32,
-                RiscVInstruction::UType,
-                SIGNED_OR_UNSIGNED_32,
-                1,
-            )),
-            RiscVRelocation::R_RISCV_GOT32_PCREL => $row(in_bytes(
-                RelocationKind::GotRelative,
-                4,
-                SIGNED_OR_UNSIGNED_32,
-            )),
-            RiscVRelocation::R_RISCV_TLS_GOT_HI20 => $row(in_form(
-                RelocationKind::GotTpOff,
-                32,
-                RiscVInstruction::UType,
-                SIGNED_OR_UNSIGNED_32,
-                1,
-            )),
-            RiscVRelocation::R_RISCV_TLS_GD_HI20 => $row(in_form(
-                RelocationKind::TlsGd,
-                32,
-                RiscVInstruction::UType,
-                SIGNED_OR_UNSIGNED_32,
-                1,
-            )),
-            RiscVRelocation::R_RISCV_PCREL_LO12_I => $row(in_form(
-                RelocationKind::RelativeRiscVLow12,
-                32,
-                RiscVInstruction::IType,
-                SIGNED_OR_UNSIGNED_32,
-                1,
-            )),
-            RiscVRelocation::R_RISCV_PCREL_LO12_S => $row(in_form(
-                RelocationKind::RelativeRiscVLow12,
-                32,
-                RiscVInstruction::SType,
-                SIGNED_OR_UNSIGNED_32,
-                1,
-            )),
-            RiscVRelocation::R_RISCV_TPREL_HI20 => $row(in_form(
-                RelocationKind::TpOff,
-                32,
-                RiscVInstruction::UType,
-                SIGNED_OR_UNSIGNED_32,
-                1,
-            )),
-            RiscVRelocation::R_RISCV_TPREL_LO12_I => $row(in_form(
-                RelocationKind::TpOff,
-                32,
-                RiscVInstruction::IType,
-                SIGNED_OR_UNSIGNED_32,
-                1,
-            )),
-            RiscVRelocation::R_RISCV_TPREL_LO12_S => $row(in_form(
-                RelocationKind::TpOff,
-                32,
-                RiscVInstruction::SType,
-                SIGNED_OR_UNSIGNED_32,
-                1,
-            )),
-            RiscVRelocation::R_RISCV_ADD8 => $row(in_bytes(
-                RelocationKind::AbsoluteAddition,
-                1,
-                None,
-            )),
-            RiscVRelocation::R_RISCV_ADD16 => $row(in_bytes(
-                RelocationKind::AbsoluteAddition,
-                2,
-                None,
-            )),
-            RiscVRelocation::R_RISCV_ADD32 => $row(in_bytes(
-                RelocationKind::AbsoluteAddition,
-                4,
-                None,
-            )),
-            RiscVRelocation::R_RISCV_ADD64 => $row(in_bytes(
-                RelocationKind::AbsoluteAddition,
-                8,
-                None,
-            )),
-            RiscVRelocation::R_RISCV_SUB8 => $row(in_bytes(
-                RelocationKind::AbsoluteSubtraction,
-                1,
-                None,
-            )),
-            RiscVRelocation::R_RISCV_SUB16 => $row(in_bytes(
-                RelocationKind::AbsoluteSubtraction,
-                2,
-                None,
-            )),
-            RiscVRelocation::R_RISCV_SUB32 => $row(in_bytes(
-                RelocationKind::AbsoluteSubtraction,
-                4,
-                None,
-            )),
-            RiscVRelocation::R_RISCV_SUB64 => $row(in_bytes(
-                RelocationKind::AbsoluteSubtraction,
-                8,
-                None,
-            )),
-            RiscVRelocation::R_RISCV_SUB6 => $row(in_bytes(
-                RelocationKind::AbsoluteSubtractionWord6,
-                1,
-                None,
-            )),
-            RiscVRelocation::R_RISCV_SET6 => $row(in_bytes(
-                RelocationKind::AbsoluteSetWord6,
-                1,
-                None,
-            )),
-            RiscVRelocation::R_RISCV_SET8 => $row(in_bytes(RelocationKind::AbsoluteSet, 1, None)),
-            RiscVRelocation::R_RISCV_SET16 => $row(in_bytes(RelocationKind::AbsoluteSet, 2, None)),
-            RiscVRelocation::R_RISCV_SET32 => $row(in_bytes(RelocationKind::AbsoluteSet, 4, None)),
-            RiscVRelocation::R_RISCV_ALIGN => $row(in_bytes(RelocationKind::Alignment, 0, None)),
-            RiscVRelocation::R_RISCV_SUB_ULEB128 => $row(in_bytes(
-                RelocationKind::PairSubtractionULEB128RiscV,
-                8,
-                None,
-            )),
-            RiscVRelocation::R_RISCV_TLSDESC_HI20
-            | RiscVRelocation::R_RISCV_TLSDESC_LOAD_LO12
-            | RiscVRelocation::R_RISCV_TLSDESC_ADD_LO12
-            | RiscVRelocation::R_RISCV_TLSDESC_CALL
-            | RiscVRelocation::Other(_) => $none,
-        }
-    };
+/// By the names' places in their enum. The last one is that of `Other`.
+static ROWS: [Option<TableRow>; 47] = [
+    // R_RISCV_NONE
+    Some(row!(None, bytes!(0), any)),
+    // R_RISCV_32
+    Some(row!(Absolute, bytes!(4), signed_or_unsigned 32)),
+    // R_RISCV_64
+    Some(row!(Absolute, bytes!(8), any)),
+    // R_RISCV_BRANCH
+    Some(row!(Relative, bits!(0, 32, BType), within -4096, 4095, alignment: 2)),
+    // R_RISCV_JAL
+    Some(row!(Relative, bits!(0, 32, JType), within -1048576, 1048575, alignment: 2)),
+    // R_RISCV_CALL
+    Some(pair!(PltRelative, 64, UiType)),
+    // R_RISCV_CALL_PLT
+    Some(pair!(PltRelative, 64, UiType)),
+    // R_RISCV_GOT_HI20
+    Some(pair!(GotRelative, 32, UType)),
+    // R_RISCV_TLS_GOT_HI20
+    Some(pair!(GotTpOff, 32, UType)),
+    // R_RISCV_TLS_GD_HI20
+    Some(pair!(TlsGd, 32, UType)),
+    // R_RISCV_PCREL_HI20
+    Some(pair!(Relative, 32, UType)),
+    // R_RISCV_PCREL_LO12_I
+    Some(pair!(RelativeRiscVLow12, 32, IType)),
+    // R_RISCV_PCREL_LO12_S
+    Some(pair!(RelativeRiscVLow12, 32, SType)),
+    // R_RISCV_HI20
+    Some(pair!(Absolute, 32, UType)),
+    // R_RISCV_LO12_I
+    Some(pair!(Absolute, 32, IType)),
+    // R_RISCV_LO12_S
+    Some(pair!(Absolute, 32, SType)),
+    // R_RISCV_TPREL_HI20
+    Some(pair!(TpOff, 32, UType)),
+    // R_RISCV_TPREL_LO12_I
+    Some(pair!(TpOff, 32, IType)),
+    // R_RISCV_TPREL_LO12_S
+    Some(pair!(TpOff, 32, SType)),
+    // R_RISCV_TPREL_ADD
+    Some(row!(None, bytes!(0), any)),
+    // R_RISCV_ADD8
+    Some(row!(AbsoluteAddition, bytes!(1), any)),
+    // R_RISCV_ADD16
+    Some(row!(AbsoluteAddition, bytes!(2), any)),
+    // R_RISCV_ADD32
+    Some(row!(AbsoluteAddition, bytes!(4), any)),
+    // R_RISCV_ADD64
+    Some(row!(AbsoluteAddition, bytes!(8), any)),
+    // R_RISCV_SUB8
+    Some(row!(AbsoluteSubtraction, bytes!(1), any)),
+    // R_RISCV_SUB16
+    Some(row!(AbsoluteSubtraction, bytes!(2), any)),
+    // R_RISCV_SUB32
+    Some(row!(AbsoluteSubtraction, bytes!(4), any)),
+    // R_RISCV_SUB64
+    Some(row!(AbsoluteSubtraction, bytes!(8), any)),
+    // R_RISCV_GOT32_PCREL
+    Some(row!(GotRelative, bytes!(4), signed_or_unsigned 32)),
+    // R_RISCV_ALIGN
+    Some(row!(Alignment, bytes!(0), any)),
+    // R_RISCV_RVC_BRANCH
+    Some(row!(Relative, bits!(0, 16, CbType), within -256, 255, alignment: 2)),
+    // R_RISCV_RVC_JUMP
+    Some(row!(Relative, bits!(0, 16, CjType), within -2048, 2047, alignment: 2)),
+    // R_RISCV_RELAX
+    Some(row!(None, bytes!(0), any)),
+    // R_RISCV_SUB6
+    Some(row!(AbsoluteSubtractionWord6, bytes!(1), any)),
+    // R_RISCV_SET6
+    Some(row!(AbsoluteSetWord6, bytes!(1), any)),
+    // R_RISCV_SET8
+    Some(row!(AbsoluteSet, bytes!(1), any)),
+    // R_RISCV_SET16
+    Some(row!(AbsoluteSet, bytes!(2), any)),
+    // R_RISCV_SET32
+    Some(row!(AbsoluteSet, bytes!(4), any)),
+    // R_RISCV_32_PCREL
+    Some(row!(Relative, bytes!(4), signed_or_unsigned 32)),
+    // R_RISCV_PLT32
+    Some(row!(PltRelative, bytes!(4), signed_or_unsigned 32)),
+    // R_RISCV_SET_ULEB128
+    Some(row!(Relative, bytes!(0), any)),
+    // R_RISCV_SUB_ULEB128
+    Some(row!(PairSubtractionULEB128RiscV, bytes!(8), any)),
+    // R_RISCV_TLSDESC_HI20
+    None,
+    // R_RISCV_TLSDESC_LOAD_LO12
+    None,
+    // R_RISCV_TLSDESC_ADD_LO12
+    None,
+    // R_RISCV_TLSDESC_CALL
+    None,
+    // Other
+    None,
+];
+
+/// The name's place in its enum.
+#[inline(always)]
+fn place(name: RiscVRelocation) -> usize
+    ensures place { result ≡ tag_of names.the_type name }
+    ensures small { result < 47 }
+{
+    match name {
+        RiscVRelocation::R_RISCV_NONE => 0,
+        RiscVRelocation::R_RISCV_32 => 1,
+        RiscVRelocation::R_RISCV_64 => 2,
+        RiscVRelocation::R_RISCV_BRANCH => 3,
+        RiscVRelocation::R_RISCV_JAL => 4,
+        RiscVRelocation::R_RISCV_CALL => 5,
+        RiscVRelocation::R_RISCV_CALL_PLT => 6,
+        RiscVRelocation::R_RISCV_GOT_HI20 => 7,
+        RiscVRelocation::R_RISCV_TLS_GOT_HI20 => 8,
+        RiscVRelocation::R_RISCV_TLS_GD_HI20 => 9,
+        RiscVRelocation::R_RISCV_PCREL_HI20 => 10,
+        RiscVRelocation::R_RISCV_PCREL_LO12_I => 11,
+        RiscVRelocation::R_RISCV_PCREL_LO12_S => 12,
+        RiscVRelocation::R_RISCV_HI20 => 13,
+        RiscVRelocation::R_RISCV_LO12_I => 14,
+        RiscVRelocation::R_RISCV_LO12_S => 15,
+        RiscVRelocation::R_RISCV_TPREL_HI20 => 16,
+        RiscVRelocation::R_RISCV_TPREL_LO12_I => 17,
+        RiscVRelocation::R_RISCV_TPREL_LO12_S => 18,
+        RiscVRelocation::R_RISCV_TPREL_ADD => 19,
+        RiscVRelocation::R_RISCV_ADD8 => 20,
+        RiscVRelocation::R_RISCV_ADD16 => 21,
+        RiscVRelocation::R_RISCV_ADD32 => 22,
+        RiscVRelocation::R_RISCV_ADD64 => 23,
+        RiscVRelocation::R_RISCV_SUB8 => 24,
+        RiscVRelocation::R_RISCV_SUB16 => 25,
+        RiscVRelocation::R_RISCV_SUB32 => 26,
+        RiscVRelocation::R_RISCV_SUB64 => 27,
+        RiscVRelocation::R_RISCV_GOT32_PCREL => 28,
+        RiscVRelocation::R_RISCV_ALIGN => 29,
+        RiscVRelocation::R_RISCV_RVC_BRANCH => 30,
+        RiscVRelocation::R_RISCV_RVC_JUMP => 31,
+        RiscVRelocation::R_RISCV_RELAX => 32,
+        RiscVRelocation::R_RISCV_SUB6 => 33,
+        RiscVRelocation::R_RISCV_SET6 => 34,
+        RiscVRelocation::R_RISCV_SET8 => 35,
+        RiscVRelocation::R_RISCV_SET16 => 36,
+        RiscVRelocation::R_RISCV_SET32 => 37,
+        RiscVRelocation::R_RISCV_32_PCREL => 38,
+        RiscVRelocation::R_RISCV_PLT32 => 39,
+        RiscVRelocation::R_RISCV_SET_ULEB128 => 40,
+        RiscVRelocation::R_RISCV_SUB_ULEB128 => 41,
+        RiscVRelocation::R_RISCV_TLSDESC_HI20 => 42,
+        RiscVRelocation::R_RISCV_TLSDESC_LOAD_LO12 => 43,
+        RiscVRelocation::R_RISCV_TLSDESC_ADD_LO12 => 44,
+        RiscVRelocation::R_RISCV_TLSDESC_CALL => 45,
+        RiscVRelocation::Other(_) => 46,
+    }
 }
 
 /// What a relocation means. It takes a name; `RiscVRelocation::from_elf` gives the name of a code.
@@ -559,52 +474,21 @@ pub fn relocation_type_from_raw(name: RiscVRelocation) -> Option<RelocationKindI
     row(name)
 }
 
-#[inline(always)]
-fn same(info: RelocationKindInfo) -> RelocationKindInfo
-    ensures { result ≡ info }
-{
-    info
-}
-
-/// `Some` stands behind the match: in each arm it took rustc's code a third more time.
-#[inline(always)]
-fn row(name: RiscVRelocation) -> Option<RelocationKindInfo>
-    ensures { result ≡ riscv_row name }
-{
-    let info = rows!(name, same, return None);
-    Some(info)
-}
-
-/// `relocation_type_from_raw`, by a table in place of a match. It takes less time where a processor
-/// can't foresee the name, and more where it can.
-#[inline]
-pub fn relocation_type_from_table(name: RiscVRelocation) -> Option<RelocationKindInfo>
-    ensures row { result ≡ riscv_row name }
-    // only of branches and jumps: `pair` of `write_to_value` says what pairs hold
-    ensures agrees { IfSome result RowAgrees }
-    ensures fits { IfSome result RowFits }
-{
-    let row = row_number(name);
-    unpack(row, riscv_size(row))
-}
-
-/// The row of a name as a number; 0 where there is none. Inlined, the match would be joined with
-/// what reads the row, into a jump that a processor can't foresee.
-#[inline(never)]
-fn row_number(name: RiscVRelocation) -> u64
-    ensures { result ≡ packed_row (riscv_row name) }
-{
-    rows!(name, pack, 0)
-}
-
-/// `relocation_type_from_table`, with the bounds of the row's reach.
+/// What a relocation means, with the bounds of its reach.
 #[inline(always)]
 pub fn prepared_row(name: RiscVRelocation) -> Option<PreparedRow>
     ensures row { row_in result ≡ riscv_row name }
     ensures prepared { IfSome result IsPrepared }
 {
-    match relocation_type_from_table(name) {
-        Some(row) => Some(PreparedRow::of(row)),
+    prepared(ROWS[place(name)])
+}
+
+#[inline(always)]
+fn row(name: RiscVRelocation) -> Option<RelocationKindInfo>
+    ensures { result ≡ riscv_row name }
+{
+    match prepared_row(name) {
+        Some(prepared) => Some(prepared.row),
         None => None,
     }
 }
@@ -621,25 +505,19 @@ pub fn tls_descriptor_relocation(name: RiscVRelocation) -> Option<RelocationKind
     ensures others { IfSome result RowReadsNoOther }
     ensures fits { IfSome result RowFits }
 {
-    let info = match name {
-        RiscVRelocation::R_RISCV_TLSDESC_HI20 => in_form(
-            RelocationKind::TlsDesc,
-            32,
-            RiscVInstruction::UType,
-            SIGNED_OR_UNSIGNED_32,
-            1,
-        ),
+    descriptor_row(name)
+}
+
+fn descriptor_row(name: RiscVRelocation) -> Option<RelocationKindInfo>
+    ensures { result ≡ riscv_tls_descriptor_row name }
+{
+    let row = match name {
+        RiscVRelocation::R_RISCV_TLSDESC_HI20 => pair!(TlsDesc, 32, UType),
         RiscVRelocation::R_RISCV_TLSDESC_LOAD_LO12 | RiscVRelocation::R_RISCV_TLSDESC_ADD_LO12 => {
-            in_form(
-                RelocationKind::TlsDesc,
-                32,
-                RiscVInstruction::IType,
-                SIGNED_OR_UNSIGNED_32,
-                1,
-            )
+            pair!(TlsDesc, 32, IType)
         }
-        RiscVRelocation::R_RISCV_TLSDESC_CALL => in_bytes(RelocationKind::TlsDescCall, 0, None),
+        RiscVRelocation::R_RISCV_TLSDESC_CALL => row!(TlsDescCall, bytes!(0), any),
         _ => return None,
     };
-    Some(info)
+    Some(row.prepared().row)
 }

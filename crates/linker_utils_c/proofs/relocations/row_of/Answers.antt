@@ -5,7 +5,7 @@ returns-in-AArch64 c =
     rw c.in-AArch64.is (record {
       name = c.from_elf.result;
       is_name = c.from_elf.ensures;
-      value_is = c.relocation_type_from_table.ensures.row;
+      value_is = c.relocation_type_from_raw.ensures.row;
     })
 
 pub returns-in-RiscV : goal.returns-in-RiscV
@@ -13,7 +13,7 @@ returns-in-RiscV c =
     rw c.in-RiscV.is (record {
       name = c.from_elf-in-RiscV.result;
       is_name = c.from_elf-in-RiscV.ensures;
-      value_is = c.relocation_type_from_table-in-RiscV.ensures.row;
+      value_is = c.relocation_type_from_raw-in-RiscV.ensures.row;
     })
 
 pub returns-in-LoongArch64 : goal.returns-in-LoongArch64
@@ -21,7 +21,7 @@ returns-in-LoongArch64 c =
     rw c.in-LoongArch64.is (record {
       name = c.from_elf-in-LoongArch64.result;
       is_name = c.from_elf-in-LoongArch64.ensures;
-      value_is = c.relocation_type_from_table-in-LoongArch64.ensures.row;
+      value_is = c.relocation_type_from_raw-in-LoongArch64.ensures.row;
     })
 
 pub returns-in-Ppc64 : goal.returns-in-Ppc64
@@ -29,7 +29,7 @@ returns-in-Ppc64 c =
     rw c.in-Ppc64.is (record {
       name = c.from_elf-in-Ppc64.result;
       is_name = c.from_elf-in-Ppc64.ensures;
-      value_is = c.relocation_type_from_table-in-Ppc64.ensures.row;
+      value_is = c.relocation_type_from_raw-in-Ppc64.ensures.row;
     })
 
 pub returns-in-X86_64 : goal.returns-in-X86_64
@@ -37,5 +37,5 @@ returns-in-X86_64 c =
     rw c.in-X86_64.is (record {
       name = c.from_elf-in-X86_64.result;
       is_name = c.from_elf-in-X86_64.ensures;
-      value_is = c.relocation_from_table.ensures;
+      value_is = c.relocation_from_raw.ensures;
     })
