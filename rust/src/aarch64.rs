@@ -11,7 +11,9 @@ use crate::elf::{AArch64Instruction, InstructionForm, InstructionRewrite, Reloca
 use crate::relaxation::RelocationModifier;
 use crate::rewrite::{has_window, overwrite};
 use crate::utils::u32_from_slice;
-pub use relocations::{AArch64Relocation, prepared_row, relocation_type_from_raw};
+pub use relocations::{
+    AArch64Relocation, prepared_row, relocation_numbers, relocation_type_from_raw,
+};
 
 /// The distance in bytes from the thread pointer to the first TLS block: the thread control block's
 /// two words (System V ABI for the Arm 64-bit Architecture, "Thread-local storage").

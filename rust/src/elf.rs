@@ -4,6 +4,7 @@
 #![doc = include_str!("../doc/elf.md")]
 
 pub(crate) mod engine;
+mod numbers;
 pub(crate) mod prepared;
 mod reach;
 mod relocate;
@@ -12,9 +13,9 @@ mod value;
 
 use crate::bit_misc::BitRange;
 use crate::relaxation::RelocationModifier;
+pub use numbers::RelocationNumbers;
 pub use prepared::PreparedRow;
 pub use relocate::RelocateError;
-pub use rows::mask_number;
 pub use value::Operands;
 
 /// 2 KiB: half a page.

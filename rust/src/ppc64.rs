@@ -9,7 +9,9 @@ use crate::bit_misc::BitExtraction;
 use crate::elf::engine::{self, Run, Window, run};
 use crate::elf::{InstructionForm, InstructionRewrite, Ppc64Instruction, RelocationInstruction};
 use crate::relaxation::RelocationModifier;
-pub use relocations::{Ppc64Relocation, prepared_row, relocation_type_from_raw};
+pub use relocations::{
+    Ppc64Relocation, prepared_row, relocation_numbers, relocation_type_from_raw,
+};
 
 /// A rewrite of one instruction.
 #[derive(Debug, Clone, Copy, PartialEq, Eq)]

@@ -7,7 +7,7 @@ mod relocations;
 use crate::elf::InstructionRewrite;
 use crate::relaxation::RelocationModifier;
 use crate::rewrite::{has_window, overwrite};
-pub use relocations::{X86_64Relocation, prepared_row, relocation_from_raw};
+pub use relocations::{X86_64Relocation, prepared_row, relocation_from_raw, relocation_numbers};
 
 /// A rewrite of the instructions around a relocated field of 4 or 8 bytes, whose offset is the
 /// field's (x86-64 psABI, "Optimize GOTPCRELX Relocations", and "ELF Handling For Thread-Local

@@ -1,5 +1,5 @@
 -- The least and the last value within reach bound the values within reach.
-use Rattle.std.proofs.Common.{◌≡◌, ℕ, List, ℤ, ◌≤ℤ◌, FitsSigned, Some, None, arith, inl, inr, int_lt, subst}
+use Rattle.std.proofs.Common.{ℕ, List, ℤ, ◌≤ℤ◌, FitsSigned, Some, None, arith, inl, inr, int_lt, subst}
 use Rattle.std.specs.Int.{w64}
 use Rattle.std.proofs.lemmas.Bool.{cases_Bool}
 use Rattle.std.proofs.lemmas.Int.{ints}

@@ -1,6 +1,19 @@
--- The numbers of kinds of relocations and of forms of instructions: their places in the enums. The
--- numbers of page masks: their places and 1.
-use Rattle.std.specs.Prelude.{ℕ, List, [], ◌∷◌, Option, None, Some}
+-- Relocations in numbers. The numbers of kinds of relocations and of forms of instructions are their
+-- places in the enums, those of page masks their places and 1.
+use Rattle.std.specs.Prelude.{ℕ, List, [], ◌∷◌, Option, None, Some, ℤ, pos, Bool, true, false}
+use denote.Enum.Declared.{tag_of}
+use Rattle.linker_utils.specs.contracts.elf.AArch64Instruction as aarch64
+use Rattle.linker_utils.specs.contracts.elf.RiscVInstruction as riscv
+use Rattle.linker_utils.specs.contracts.elf.LoongArch64Instruction as loongarch64
+use Rattle.linker_utils.specs.contracts.elf.Ppc64Instruction as ppc64
+use Rattle.linker_utils.specs.declared.elf.Architecture.TheVariants as architectures
+use Rattle.linker_utils.specs.declared.elf.RelocationInstruction.{RelocationInstruction}
+use Rattle.linker_utils.specs.declared.elf.RelocationInstruction.TheVariants as insns
+use Rattle.linker_utils.specs.declared.elf.RelocationKindInfo.{RelocationKindInfo}
+use Rattle.linker_utils.specs.declared.elf.RelocationSize.{RelocationSize}
+use Rattle.linker_utils.specs.declared.elf.RelocationSize.TheVariants.{ByteSize, BitMasking}
+use Rattle.linker_utils.specs.declared.elf.numbers.RelocationNumbers.{RelocationNumbers}
+use Rattle.linker_utils.specs.Elf.{machine_of}
 use Rattle.linker_utils.specs.declared.elf.PageMask.{PageMask}
 use Rattle.linker_utils.specs.declared.elf.PageMask.TheVariants.{SymbolPlusAddendAndPosition}
 use Rattle.linker_utils.specs.declared.elf.PageMask.TheVariants.{GotEntryAndPosition, GotBase}
@@ -86,3 +99,81 @@ loongarch64_forms = Shift5 ∷ Shift10 ∷ Branch26 ∷ Branch21 ∷ Call30 ∷ 
 
 abbrev pub ppc64_forms : List Ppc64Instruction
 ppc64_forms = D ∷ Ds ∷ Branch14 ∷ Branch24 ∷ Prefixed ∷ []
+
+abbrev pub form_number : RelocationInstruction → ℕ
+form_number (insns.AArch64 form) = tag_of aarch64.the_type form
+form_number (insns.RiscV form) = tag_of riscv.the_type form
+form_number (insns.LoongArch64 form) = tag_of loongarch64.the_type form
+form_number (insns.Ppc64 form) = tag_of ppc64.the_type form
+
+-- e_machine of the files that have such instructions
+abbrev pub form_machine : RelocationInstruction → ℕ
+form_machine (insns.AArch64 form) = machine_of architectures.AArch64
+form_machine (insns.RiscV form) = machine_of architectures.RiscV
+form_machine (insns.LoongArch64 form) = machine_of architectures.LoongArch64
+form_machine (insns.Ppc64 form) = machine_of architectures.Ppc64
+
+-- where the value goes; 0 of what a size doesn't have
+pub record SizeNumbers : Type 0 where
+  pub form : ℕ
+  pub machine : ℕ
+  pub is_bits : ℕ
+  pub byte_size : ℕ
+  pub first_bit : ℕ
+  pub end_bit : ℕ
+
+abbrev pub size_numbers : RelocationSize → SizeNumbers
+size_numbers (ByteSize n) = record {
+  form = 0;
+  machine = 0;
+  is_bits = 0;
+  byte_size = n;
+  first_bit = 0;
+  end_bit = 0;
+}
+size_numbers (BitMasking bits insn) = record {
+  form = form_number insn;
+  machine = form_machine insn;
+  is_bits = 1;
+  byte_size = 0;
+  first_bit = bits.start;
+  end_bit = bits.end;
+}
+
+-- whether there are bounds, and which
+abbrev pub range_numbers : Option (ℤ × ℤ) → ℕ × ℤ × ℤ
+range_numbers None = (0, pos 0, pos 0)
+range_numbers (Some b) = (1, b.0, b.1)
+
+abbrev pub number_or_zero : Option ℕ → ℕ
+number_or_zero None = 0
+number_or_zero (Some n) = n
+
+-- the number that stands for a flag
+abbrev pub flag_number : Bool → ℕ
+flag_number false = 0
+flag_number true = 1
+
+abbrev pub numbers_of : RelocationKindInfo → RelocationNumbers
+numbers_of row = record {
+  kind = kind_number row.kind;
+  form = (size_numbers row.size).form;
+  mask = mask_number row.mask;
+  machine = (size_numbers row.size).machine;
+  is_bits = (size_numbers row.size).is_bits;
+  byte_size = (size_numbers row.size).byte_size;
+  first_bit = (size_numbers row.size).first_bit;
+  end_bit = (size_numbers row.size).end_bit;
+  has_range = (range_numbers row.range.bounds).0;
+  thunkable = flag_number row.thunkable;
+  implicit_addend = flag_number row.implicit_addend;
+  min = (range_numbers row.range.bounds).1;
+  max = (range_numbers row.range.bounds).2;
+  alignment = row.alignment;
+  bias = number_or_zero row.bias;
+}
+
+-- a row in numbers, if there is one
+abbrev pub in_numbers : Option RelocationKindInfo → Option RelocationNumbers
+in_numbers None = None
+in_numbers (Some row) = Some (numbers_of row)

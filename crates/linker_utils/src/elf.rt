@@ -2,6 +2,7 @@
 //! of forms and of rewrites.
 
 pub(crate) mod engine;
+mod numbers;
 pub(crate) mod prepared;
 mod reach;
 mod relocate;
@@ -19,9 +20,9 @@ ghost use Rattle.linker_utils.specs.RiscV.{riscv_form};
 
 use crate::bit_misc::BitRange;
 use crate::relaxation::RelocationModifier;
+pub use numbers::RelocationNumbers;
 pub use prepared::PreparedRow;
 pub use relocate::RelocateError;
-pub use rows::mask_number;
 use std::marker::Model;
 pub use value::Operands;
 

@@ -7,6 +7,8 @@ mod relocations;
 mod rewrites;
 mod sequences;
 
-pub use relocations::{LoongArch64Relocation, prepared_row, relocation_type_from_raw};
+pub use relocations::{
+    LoongArch64Relocation, prepared_row, relocation_numbers, relocation_type_from_raw,
+};
 pub use rewrites::RelaxationKind;
 pub use sequences::{highest_relocation_with_bias, write_address_sequence};

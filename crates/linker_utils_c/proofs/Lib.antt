@@ -1,3 +1,4 @@
 pub mod DeltaLists
 pub mod Relocating
 pub mod RelocationNames
+pub mod RelocationNumbers

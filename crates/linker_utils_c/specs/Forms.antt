@@ -1,5 +1,5 @@
 -- The numbers by which C names forms of instructions.
-use Rattle.std.specs.Prelude.{◌≡◌, ◌<◌, ◌≤◌, Bool, true, false, length, drop, ℕ, List}
+use Rattle.std.specs.Prelude.{◌≡◌, ◌<◌, ◌≤◌, Bool, length, drop, ℕ, List}
 use Rattle.std.specs.Prelude.{slice_get, Option, None, Some, Result, Ok, Err}
 use Rattle.std.specs.Int.{byte_len}
 use Rattle.linker_base.specs.Form.{Form, window_of, Fits, Written, MachineReads, IsReadBack}
@@ -35,11 +35,6 @@ form_among (Some architectures.X86_64) form = Err UnknownArchitecture
 
 abbrev pub named_form : ℕ → ℕ → Result RelocationInstruction Status
 named_form machine form = form_among (architecture_of machine) form
-
--- the number that stands for a flag
-abbrev pub flag_number : Bool → ℕ
-flag_number false = 0
-flag_number true = 1
 
 -- the status says whether a value can be written to the instruction that the bytes begin with
 pub record TakesValue (form : Form) (value : ℕ) (bytes : List ℕ) (status : ℕ) : Type 0 where

@@ -3,7 +3,7 @@ use Rattle.std.specs.Prelude.{◌≡◌, ◌<◌, ◌≤◌, ◌++◌, ℕ, List
 use Rattle.std.specs.Prelude.{pos}
 use Rattle.linker_utils.specs.declared.elf.Architecture.{Architecture}
 use Rattle.linker_utils.specs.declared.elf.Architecture.TheVariants as architectures
-use Rattle.linker_utils.specs.Numbers.{kind_number, mask_number}
+use Rattle.linker_utils.specs.Numbers.{kind_number, mask_number, flag_number, number_or_zero}
 use Rattle.linker_utils.specs.declared.elf.RelocationKindInfo.{RelocationKindInfo}
 use Rattle.linker_utils.specs.declared.elf.RelocationSize.{RelocationSize}
 use Rattle.linker_utils.specs.declared.elf.RelocationSize.TheVariants.{ByteSize, BitMasking}
@@ -19,10 +19,10 @@ use Rattle.linker_utils.specs.Ppc64Rows.{ppc64_row}
 use Rattle.linker_utils.specs.X86Names.{x86_64_name}
 use Rattle.linker_utils.specs.X86Rows.{x86_64_row}
 use Rattle.linker_utils.specs.declared.riscv64.relocations.RiscVRelocation.{RiscVRelocation}
-use Rattle.linker_utils_c.specs.declared.relocations.RelocationInfo.{RelocationInfo}
+use Rattle.linker_utils.specs.declared.elf.numbers.RelocationNumbers.{RelocationNumbers}
 use Rattle.linker_utils_c.specs.declared.status.Status.TheVariants.{Success, UnknownRelocation}
 use Rattle.linker_utils_c.specs.declared.status.Status.TheVariants.{TooShort}
-use Rattle.linker_utils_c.specs.Forms.{named_form, flag_number}
+use Rattle.linker_utils_c.specs.Forms.{named_form}
 use Rattle.linker_utils_c.specs.Status.{code}
 
 -- a value, as the row or the code and text, of the name that a code has among names
@@ -64,7 +64,7 @@ IsElfName architectures.Ppc64 = IsOf ppc64_name ppc64_name
 IsElfName architectures.X86_64 = IsOf x86_64_name x86_64_name
 
 -- where the value goes
-abbrev pub IsSize : RelocationSize → RelocationInfo → Type 0
+abbrev pub IsSize : RelocationSize → RelocationNumbers → Type 0
 IsSize (ByteSize n) numbers =
     (numbers.is_bits ≡ 0) × (numbers.byte_size ≡ n) × (numbers.first_bit ≡ 0)
     × (numbers.end_bit ≡ 0)
@@ -75,17 +75,13 @@ IsSize (BitMasking range form) numbers =
     × (named_form numbers.machine numbers.form ≡ Ok form)
 
 -- which values are allowed
-abbrev pub IsRange : Option (ℤ × ℤ) → RelocationInfo → Type 0
+abbrev pub IsRange : Option (ℤ × ℤ) → RelocationNumbers → Type 0
 IsRange None numbers = (numbers.has_range ≡ 0) × (numbers.min ≡ pos 0) × (numbers.max ≡ pos 0)
 IsRange (Some bounds) numbers =
     (numbers.has_range ≡ 1) × (numbers.min ≡ bounds.0) × (numbers.max ≡ bounds.1)
 
-abbrev pub number_or_zero : Option ℕ → ℕ
-number_or_zero None = 0
-number_or_zero (Some n) = n
-
 -- what a relocation means, in numbers
-pub record InNumbers (info : RelocationKindInfo) (numbers : RelocationInfo) : Type 0 where
+pub record InNumbers (info : RelocationKindInfo) (numbers : RelocationNumbers) : Type 0 where
   pub kind : numbers.kind ≡ kind_number info.kind
   pub size : IsSize info.size numbers
   pub mask : numbers.mask ≡ mask_number info.mask
@@ -96,7 +92,7 @@ pub record InNumbers (info : RelocationKindInfo) (numbers : RelocationInfo) : Ty
   pub implicit_addend : numbers.implicit_addend ≡ flag_number info.implicit_addend
 
 -- a meaning is returned in numbers with the status, and nothing is written where there is none
-abbrev pub IsReturned : Option RelocationKindInfo → ℕ → RelocationInfo → RelocationInfo → Type 0
+abbrev pub IsReturned : Option RelocationKindInfo → ℕ → RelocationNumbers → RelocationNumbers → Type 0
 IsReturned None status before after = (status ≡ code UnknownRelocation) × (after ≡ before)
 IsReturned (Some info) status before after = (status ≡ code Success) × InNumbers info after
 

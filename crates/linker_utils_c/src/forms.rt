@@ -8,7 +8,7 @@ ghost use Rattle.linker_utils_c.specs.Status.{code, HasRoom};
 ghost use Rattle.linker_utils.specs.Numbers.{aarch64_forms, riscv_forms, loongarch64_forms};
 ghost use Rattle.linker_utils.specs.Numbers.{ppc64_forms};
 ghost use Rattle.linker_utils_c.specs.Forms.{named_form, TakesValue, HasValue};
-ghost use Rattle.linker_utils_c.specs.Forms.{flag_number};
+ghost use Rattle.linker_utils.specs.Numbers.{flag_number};
 
 use crate::status::Status;
 use linker_utils::elf::{

@@ -1,6 +1,6 @@
 //! What relocations mean, and their names, by `e_machine` and `r_type` of ELF files.
 
-ghost use Rattle.std.specs.Prelude.{◌≡◌, ◌≢◌, ◌≤◌, Option, IfSome, IfNone, length};
+ghost use Rattle.std.specs.Prelude.{◌≡◌, ◌≢◌, ◌≤◌, Option, Some, None, IfSome, IfNone, length};
 ghost use Rattle.linker_utils.specs.declared.elf.RelocationKindInfo.{RelocationKindInfo};
 ghost use Rattle.linker_utils.specs.Elf.{architecture_of};
 ghost use Rattle.linker_utils.specs.ElfNames.{ElfName, named, unnamed};
@@ -8,57 +8,17 @@ ghost use Rattle.linker_utils.specs.RiscVNames.{riscv_name};
 ghost use Rattle.linker_utils.specs.Prepared.{row_in, IsPrepared};
 ghost use Rattle.linker_utils.specs.RiscVRows.{clui_row, riscv_tls_descriptor_row};
 ghost use Rattle.linker_utils_c.specs.Status.{code};
-ghost use Rattle.linker_utils_c.specs.Forms.{named_form};
+ghost use Rattle.linker_utils.specs.Numbers.{in_numbers};
 ghost use Rattle.linker_utils_c.specs.Relocations.{riscv_meaning, IsRow};
 ghost use Rattle.linker_utils_c.specs.Relocations.{IsMeaning, IsOf, IsElfName, InNumbers, IsReturned, IsNameCopied};
 
 use crate::status::Status;
 use linker_utils::aarch64::{self, AArch64Relocation};
-use linker_utils::elf::{
-    Architecture, PreparedRow, RelocationInstruction, RelocationKindInfo, RelocationSize,
-    mask_number,
-};
+use linker_utils::elf::{Architecture, PreparedRow, RelocationKindInfo, RelocationNumbers};
 use linker_utils::loongarch64::{self, LoongArch64Relocation};
 use linker_utils::ppc64::{self, Ppc64Relocation};
-use linker_utils::riscv64::{self, RelaxationKind, RiscVRelocation};
+use linker_utils::riscv64::{self, RiscVRelocation};
 use linker_utils::x86_64::{self, X86_64Relocation};
-
-/// What a relocation means, in numbers.
-#[repr(C)]
-#[derive(Drop)]
-pub struct RelocationInfo {
-    /// What its value is computed from: the place of the kind in the enum `RelocationKind`.
-    pub kind: u32,
-    /// The number of the instruction's form; 0 for bytes.
-    pub form: u32,
-    /// Which addresses are cut to their page: 0 for none, else the place in the enum `PageMask` and
-    /// 1.
-    pub mask: u32,
-    /// `e_machine` of the form's architecture; 0 for bytes.
-    pub machine: u16,
-    /// 1 if its value goes into bits of an instruction, 0 if into whole bytes.
-    pub is_bits: u8,
-    /// How many bytes; 0 for bits.
-    pub byte_size: u8,
-    /// The first bit of the value that is taken; 0 for bytes.
-    pub first_bit: u8,
-    /// The first bit of the value above those that are taken; 0 for bytes.
-    pub end_bit: u8,
-    /// 1 if only values from `min` up, below `max`, are allowed; else 0.
-    pub has_range: u8,
-    /// 1 if a thunk may stand in for a target that is out of range, else 0.
-    pub thunkable: u8,
-    /// 1 if the addend stands in the section, else 0.
-    pub implicit_addend: u8,
-    /// The least allowed value; 0 if every value is allowed.
-    pub min: i64,
-    /// The first value above the allowed ones; 0 if every value is allowed.
-    pub max: i64,
-    /// What the value has to be a multiple of.
-    pub alignment: u64,
-    /// What is added to the value first; 0 if nothing is.
-    pub bias: u64,
-}
 
 /// The row of the relocation of an architecture and a code.
 #[inline(always)]
@@ -115,66 +75,21 @@ pub(crate) fn meaning_of(architecture: Architecture, r_type: u32) -> Option<Relo
     }
 }
 
-/// `e_machine` and the number of an instruction form.
+/// The row of the relocation of an architecture and a code, in numbers.
 #[inline(always)]
-fn form_number(form: RelocationInstruction) -> (u16, u32)
-    ensures { named_form result.0 result.1 ≡ Ok form }
+fn numbers_of(architecture: Architecture, r_type: u32) -> Option<&'static RelocationNumbers>
+    ensures { (meaning : Option RelocationKindInfo) × IsRow architecture r_type meaning
+        × IfSome result (λ numbers. Some numbers.now ≡ in_numbers meaning)
+        × IfNone result (in_numbers meaning ≡ None) }
 {
-    match form {
-        RelocationInstruction::AArch64(insn) => (Architecture::AArch64.machine(), insn as u32),
-        RelocationInstruction::RiscV(insn) => (Architecture::RiscV.machine(), insn as u32),
-        RelocationInstruction::LoongArch64(insn) => {
-            (Architecture::LoongArch64.machine(), insn as u32)
+    match architecture {
+        Architecture::AArch64 => aarch64::relocation_numbers(AArch64Relocation::from_elf(r_type)),
+        Architecture::RiscV => riscv64::relocation_numbers(RiscVRelocation::from_elf(r_type)),
+        Architecture::LoongArch64 => {
+            loongarch64::relocation_numbers(LoongArch64Relocation::from_elf(r_type))
         }
-        RelocationInstruction::Ppc64(insn) => (Architecture::Ppc64.machine(), insn as u32),
-    }
-}
-
-#[inline(always)]
-fn in_numbers(info: RelocationKindInfo) -> RelocationInfo
-    ensures { InNumbers info result }
-{
-    let (has_range, (min, max)) = match info.range.bounds {
-        Some(bounds) => (1, bounds),
-        None => (0, (0, 0)),
-    };
-    let bias = match info.bias {
-        Some(bias) => bias.value(),
-        None => 0,
-    };
-    let numbers = RelocationInfo {
-        kind: info.kind as u32,
-        form: 0,
-        mask: mask_number(info.mask) as u32,
-        machine: 0,
-        is_bits: 0,
-        byte_size: 0,
-        first_bit: 0,
-        end_bit: 0,
-        has_range,
-        thunkable: info.thunkable as u8,
-        implicit_addend: info.implicit_addend as u8,
-        min,
-        max,
-        alignment: info.alignment,
-        bias,
-    };
-    match info.size {
-        RelocationSize::ByteSize(byte_size) => RelocationInfo {
-            byte_size,
-            ..numbers
-        },
-        RelocationSize::BitMasking { range, insn } => {
-            let (machine, form) = form_number(insn);
-            RelocationInfo {
-                form,
-                machine,
-                is_bits: 1,
-                first_bit: range.start,
-                end_bit: range.end,
-                ..numbers
-            }
-        }
+        Architecture::Ppc64 => ppc64::relocation_numbers(Ppc64Relocation::from_elf(r_type)),
+        Architecture::X86_64 => x86_64::relocation_numbers(X86_64Relocation::from_elf(r_type)),
     }
 }
 
@@ -184,7 +99,7 @@ fn in_numbers(info: RelocationKindInfo) -> RelocationInfo
 pub extern "C" fn linker_utils_relocation(
     machine: u16,
     r_type: u32,
-    info: &mut RelocationInfo,
+    info: &mut RelocationNumbers,
 ) -> u32
     ensures known { IfSome (architecture_of machine)
         (λ architecture. (meaning : Option RelocationKindInfo)
@@ -195,9 +110,9 @@ pub extern "C" fn linker_utils_relocation(
     let Some(architecture) = Architecture::from_machine(machine) else {
         return Status::UnknownArchitecture.number();
     };
-    match row_of(architecture, r_type) {
-        Some(meaning) => {
-            *info = in_numbers(meaning);
+    match numbers_of(architecture, r_type) {
+        Some(numbers) => {
+            *info = *numbers;
             Status::Success.number()
         }
         None => Status::UnknownRelocation.number(),
@@ -209,15 +124,15 @@ pub extern "C" fn linker_utils_relocation(
 #[unsafe(no_mangle)]
 pub extern "C" fn linker_utils_tls_descriptor_relocation(
     r_type: u32,
-    info: &mut RelocationInfo,
+    info: &mut RelocationNumbers,
 ) -> u32
     ensures { (meaning : Option RelocationKindInfo)
         × IsOf riscv_name riscv_tls_descriptor_row r_type meaning
         × IsReturned meaning result info.old info.new }
 {
-    match riscv64::tls_descriptor_relocation(RiscVRelocation::from_elf(r_type)) {
-        Some(meaning) => {
-            *info = in_numbers(meaning);
+    match riscv64::tls_descriptor_numbers(RiscVRelocation::from_elf(r_type)) {
+        Some(numbers) => {
+            *info = numbers;
             Status::Success.number()
         }
         None => Status::UnknownRelocation.number(),
@@ -226,10 +141,10 @@ pub extern "C" fn linker_utils_tls_descriptor_relocation(
 
 /// What a relocation of the high part of a value means once its `lui` has become a `c.lui`.
 #[unsafe(no_mangle)]
-pub extern "C" fn linker_utils_clui_rel_info(info: &mut RelocationInfo)
+pub extern "C" fn linker_utils_clui_rel_info(info: &mut RelocationNumbers)
     ensures { InNumbers clui_row info.new }
 {
-    *info = in_numbers(RelaxationKind::clui_rel_info());
+    *info = riscv64::clui_numbers();
 }
 
 /// The ELF name of the relocation of an architecture and a code. `None` of a code without a name.

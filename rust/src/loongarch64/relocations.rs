@@ -1,12 +1,8 @@
 // Made by tools/erase of crates/linker_utils/src/loongarch64/relocations.rt.
 //! What the relocations of LoongArch mean.
 
-use crate::bit_misc::BitRange;
-use crate::elf::rows::{TableRow, bytes, prepared, row};
-use crate::elf::{
-    LoongArch64Instruction, PageMask, PageMaskPattern, PreparedRow, RelocationInstruction,
-    RelocationKindInfo, RelocationSize, SIZE_2KB, Uleb128Role,
-};
+use crate::elf::rows::{TableRow, numbers, prepared, row};
+use crate::elf::{PreparedRow, RelocationKindInfo, RelocationNumbers, SIZE_2KB, Uleb128Role};
 use core::fmt;
 
 /// The relocations of LoongArch, by their names in the LoongArch ELF psABI, "Relocation Types".
@@ -347,155 +343,138 @@ impl LoongArch64Relocation {
     }
 }
 
-const PLACE_PAGES: PageMask = PageMask::SymbolPlusAddendAndPosition(PageMaskPattern::Size4KB);
-
-const ENTRY_PAGES: PageMask = PageMask::GotEntryAndPosition(PageMaskPattern::Size4KB);
-
-/// Bits of the value, from the first up, below the end, into an instruction.
-macro_rules! bits {
-    ($start:literal, $end:literal, $form:ident) => {
-        RelocationSize::BitMasking {
-            range: BitRange {
-                start: $start,
-                end: $end,
-            },
-            insn: RelocationInstruction::LoongArch64(LoongArch64Instruction::$form),
-        }
-    };
-}
-
 /// By the names' places in their enum. The last one is that of `Other`.
 static ROWS: [Option<TableRow>; 71] = [
     // R_LARCH_NONE
-    Some(row!(None, bytes!(0), any)),
+    Some(row!(None, (0 bytes), any)),
     // R_LARCH_32
-    Some(row!(Absolute, bytes!(4), signed_or_unsigned 32)),
+    Some(row!(Absolute, (4 bytes), signed_or_unsigned 32)),
     // R_LARCH_64
-    Some(row!(Absolute, bytes!(8), any)),
+    Some(row!(Absolute, (8 bytes), any)),
     // R_LARCH_ADD6
-    Some(row!(AbsoluteAdditionWord6, bytes!(1), any)),
+    Some(row!(AbsoluteAdditionWord6, (1 bytes), any)),
     // R_LARCH_ADD8
-    Some(row!(AbsoluteAddition, bytes!(1), any)),
+    Some(row!(AbsoluteAddition, (1 bytes), any)),
     // R_LARCH_ADD16
-    Some(row!(AbsoluteAddition, bytes!(2), any)),
+    Some(row!(AbsoluteAddition, (2 bytes), any)),
     // R_LARCH_ADD24
-    Some(row!(AbsoluteAddition, bytes!(3), any)),
+    Some(row!(AbsoluteAddition, (3 bytes), any)),
     // R_LARCH_ADD32
-    Some(row!(AbsoluteAddition, bytes!(4), any)),
+    Some(row!(AbsoluteAddition, (4 bytes), any)),
     // R_LARCH_ADD64
-    Some(row!(AbsoluteAddition, bytes!(8), any)),
+    Some(row!(AbsoluteAddition, (8 bytes), any)),
     // R_LARCH_SUB6
-    Some(row!(AbsoluteSubtractionWord6, bytes!(1), any)),
+    Some(row!(AbsoluteSubtractionWord6, (1 bytes), any)),
     // R_LARCH_SUB8
-    Some(row!(AbsoluteSubtraction, bytes!(1), any)),
+    Some(row!(AbsoluteSubtraction, (1 bytes), any)),
     // R_LARCH_SUB16
-    Some(row!(AbsoluteSubtraction, bytes!(2), any)),
+    Some(row!(AbsoluteSubtraction, (2 bytes), any)),
     // R_LARCH_SUB24
-    Some(row!(AbsoluteSubtraction, bytes!(3), any)),
+    Some(row!(AbsoluteSubtraction, (3 bytes), any)),
     // R_LARCH_SUB32
-    Some(row!(AbsoluteSubtraction, bytes!(4), any)),
+    Some(row!(AbsoluteSubtraction, (4 bytes), any)),
     // R_LARCH_SUB64
-    Some(row!(AbsoluteSubtraction, bytes!(8), any)),
+    Some(row!(AbsoluteSubtraction, (8 bytes), any)),
     // R_LARCH_ADD_ULEB128
-    Some(row!(Relative, bytes!(0), any)),
+    Some(row!(Relative, (0 bytes), any)),
     // R_LARCH_SUB_ULEB128
-    Some(row!(PairSubtractionULEB128LoongArch, bytes!(8), any)),
+    Some(row!(PairSubtractionULEB128LoongArch, (8 bytes), any)),
     // R_LARCH_ABS_HI20
-    Some(row!(Absolute, bits!(12, 32, Shift5), any)),
+    Some(row!(Absolute, (12..32 LoongArch64::Shift5), any)),
     // R_LARCH_ABS_LO12
-    Some(row!(Absolute, bits!(0, 12, Shift10), any)),
+    Some(row!(Absolute, (0..12 LoongArch64::Shift10), any)),
     // R_LARCH_ABS64_HI12
-    Some(row!(Absolute, bits!(52, 64, Shift10), any)),
+    Some(row!(Absolute, (52..64 LoongArch64::Shift10), any)),
     // R_LARCH_ABS64_LO20
-    Some(row!(Absolute, bits!(32, 52, Shift5), any)),
+    Some(row!(Absolute, (32..52 LoongArch64::Shift5), any)),
     // R_LARCH_PCALA_HI20
-    Some(row!(Relative, bits!(12, 32, Shift5), any, mask: Some(PLACE_PAGES), bias: SIZE_2KB)),
+    Some(row!(Relative, (12..32 LoongArch64::Shift5), any, mask: PLACE_PAGES, bias: SIZE_2KB)),
     // R_LARCH_PCALA_LO12
-    Some(row!(AbsoluteLowPart, bits!(0, 12, Shift10), any)),
+    Some(row!(AbsoluteLowPart, (0..12 LoongArch64::Shift10), any)),
     // R_LARCH_PCALA64_HI12
-    Some(row!(RelativeLoongArchHigh, bits!(52, 64, Shift10), any)),
+    Some(row!(RelativeLoongArchHigh, (52..64 LoongArch64::Shift10), any)),
     // R_LARCH_PCALA64_LO20
-    Some(row!(RelativeLoongArchHigh, bits!(32, 52, Shift5), any)),
+    Some(row!(RelativeLoongArchHigh, (32..52 LoongArch64::Shift5), any)),
     // R_LARCH_32_PCREL
-    Some(row!(Relative, bytes!(4), signed 32)),
+    Some(row!(Relative, (4 bytes), signed 32)),
     // R_LARCH_PCREL20_S2
-    Some(row!(Relative, bits!(2, 22, Shift5), signed 22, alignment: 4)),
+    Some(row!(Relative, (2..22 LoongArch64::Shift5), signed 22, alignment: 4)),
     // R_LARCH_64_PCREL
-    Some(row!(Relative, bytes!(8), any)),
+    Some(row!(Relative, (8 bytes), any)),
     // R_LARCH_PCADD_HI20
-    Some(row!(Relative, bits!(12, 32, Shift5), any, bias: SIZE_2KB)),
+    Some(row!(Relative, (12..32 LoongArch64::Shift5), any, bias: SIZE_2KB)),
     // R_LARCH_GOT_PC_HI20
-    Some(row!(GotRelative, bits!(12, 32, Shift5), any, mask: Some(ENTRY_PAGES), bias: SIZE_2KB)),
+    Some(row!(GotRelative, (12..32 LoongArch64::Shift5), any, mask: ENTRY_PAGES, bias: SIZE_2KB)),
     // R_LARCH_GOT_PC_LO12
-    Some(row!(Got, bits!(0, 12, Shift10), any)),
+    Some(row!(Got, (0..12 LoongArch64::Shift10), any)),
     // R_LARCH_GOT64_PC_HI12
-    Some(row!(GotRelativeLoongArch64, bits!(52, 64, Shift10), any)),
+    Some(row!(GotRelativeLoongArch64, (52..64 LoongArch64::Shift10), any)),
     // R_LARCH_GOT64_PC_LO20
-    Some(row!(GotRelativeLoongArch64, bits!(32, 52, Shift5), any)),
+    Some(row!(GotRelativeLoongArch64, (32..52 LoongArch64::Shift5), any)),
     // R_LARCH_B16
-    Some(row!(Relative, bits!(2, 18, Shift10), signed 18, alignment: 4)),
+    Some(row!(Relative, (2..18 LoongArch64::Shift10), signed 18, alignment: 4)),
     // R_LARCH_B21
-    Some(row!(Relative, bits!(2, 23, Branch21), signed 23, alignment: 4)),
+    Some(row!(Relative, (2..23 LoongArch64::Branch21), signed 23, alignment: 4)),
     // R_LARCH_B26
-    Some(row!(PltRelative, bits!(2, 28, Branch26), signed 28, alignment: 4)),
+    Some(row!(PltRelative, (2..28 LoongArch64::Branch26), signed 28, alignment: 4)),
     // R_LARCH_CALL36
     Some(
-        row!(PltRelative, bits!(2, 38, Call36), signed 38 reach -0x2000020000, 0x1ffffe0000, alignment: 4),
+        row!(PltRelative, (2..38 LoongArch64::Call36), signed 38 reach -0x2000020000, 0x1ffffe0000, alignment: 4),
     ),
     // R_LARCH_CALL30
-    Some(row!(Relative, bits!(2, 19, Call30), any)),
+    Some(row!(Relative, (2..19 LoongArch64::Call30), any)),
     // R_LARCH_TLS_LE_HI20
-    Some(row!(TpOff, bits!(12, 32, Shift5), any)),
+    Some(row!(TpOff, (12..32 LoongArch64::Shift5), any)),
     // R_LARCH_TLS_LE_LO12
-    Some(row!(TpOff, bits!(0, 12, Shift10), any)),
+    Some(row!(TpOff, (0..12 LoongArch64::Shift10), any)),
     // R_LARCH_TLS_LE64_LO20
-    Some(row!(TpOff, bits!(32, 52, Shift5), any)),
+    Some(row!(TpOff, (32..52 LoongArch64::Shift5), any)),
     // R_LARCH_TLS_LE64_HI12
-    Some(row!(TpOff, bits!(52, 64, Shift10), any)),
+    Some(row!(TpOff, (52..64 LoongArch64::Shift10), any)),
     // R_LARCH_TLS_LE_HI20_R
-    Some(row!(TpOff, bits!(12, 32, Shift5), any, bias: SIZE_2KB)),
+    Some(row!(TpOff, (12..32 LoongArch64::Shift5), any, bias: SIZE_2KB)),
     // R_LARCH_TLS_LE_LO12_R
-    Some(row!(TpOff, bits!(0, 12, Shift10), any)),
+    Some(row!(TpOff, (0..12 LoongArch64::Shift10), any)),
     // R_LARCH_TLS_IE_PC_HI20
-    Some(row!(GotTpOff, bits!(12, 32, Shift5), any, mask: Some(ENTRY_PAGES), bias: SIZE_2KB)),
+    Some(row!(GotTpOff, (12..32 LoongArch64::Shift5), any, mask: ENTRY_PAGES, bias: SIZE_2KB)),
     // R_LARCH_TLS_IE_PC_LO12
-    Some(row!(GotTpOffGot, bits!(0, 12, Shift10), any)),
+    Some(row!(GotTpOffGot, (0..12 LoongArch64::Shift10), any)),
     // R_LARCH_TLS_IE64_PC_LO20
-    Some(row!(GotTpOffLoongArch64, bits!(32, 52, Shift5), any)),
+    Some(row!(GotTpOffLoongArch64, (32..52 LoongArch64::Shift5), any)),
     // R_LARCH_TLS_IE64_PC_HI12
-    Some(row!(GotTpOffLoongArch64, bits!(52, 64, Shift10), any)),
+    Some(row!(GotTpOffLoongArch64, (52..64 LoongArch64::Shift10), any)),
     // R_LARCH_TLS_IE_HI20
-    Some(row!(GotTpOffGot, bits!(12, 32, Shift5), any)),
+    Some(row!(GotTpOffGot, (12..32 LoongArch64::Shift5), any)),
     // R_LARCH_TLS_IE_LO12
-    Some(row!(GotTpOffGot, bits!(0, 12, Shift10), any)),
+    Some(row!(GotTpOffGot, (0..12 LoongArch64::Shift10), any)),
     // R_LARCH_TLS_IE64_HI12
-    Some(row!(GotTpOffGot, bits!(52, 64, Shift10), any)),
+    Some(row!(GotTpOffGot, (52..64 LoongArch64::Shift10), any)),
     // R_LARCH_TLS_IE64_LO20
-    Some(row!(GotTpOffGot, bits!(32, 52, Shift5), any)),
+    Some(row!(GotTpOffGot, (32..52 LoongArch64::Shift5), any)),
     // R_LARCH_TLS_LD_PC_HI20
-    Some(row!(TlsGd, bits!(12, 32, Shift5), any, mask: Some(ENTRY_PAGES), bias: SIZE_2KB)),
+    Some(row!(TlsGd, (12..32 LoongArch64::Shift5), any, mask: ENTRY_PAGES, bias: SIZE_2KB)),
     // R_LARCH_TLS_LD_HI20
-    Some(row!(TlsGdGot, bits!(12, 32, Shift5), any)),
+    Some(row!(TlsGdGot, (12..32 LoongArch64::Shift5), any)),
     // R_LARCH_TLS_GD_PC_HI20
-    Some(row!(TlsGd, bits!(12, 32, Shift5), any, mask: Some(ENTRY_PAGES), bias: SIZE_2KB)),
+    Some(row!(TlsGd, (12..32 LoongArch64::Shift5), any, mask: ENTRY_PAGES, bias: SIZE_2KB)),
     // R_LARCH_TLS_GD_HI20
-    Some(row!(TlsGdGot, bits!(12, 32, Shift5), any)),
+    Some(row!(TlsGdGot, (12..32 LoongArch64::Shift5), any)),
     // R_LARCH_TLS_DESC_PC_HI20
-    Some(row!(TlsDesc, bits!(12, 32, Shift5), any, mask: Some(ENTRY_PAGES), bias: SIZE_2KB)),
+    Some(row!(TlsDesc, (12..32 LoongArch64::Shift5), any, mask: ENTRY_PAGES, bias: SIZE_2KB)),
     // R_LARCH_TLS_DESC_PC_LO12
-    Some(row!(TlsDescGot, bits!(0, 12, Shift10), any)),
+    Some(row!(TlsDescGot, (0..12 LoongArch64::Shift10), any)),
     // R_LARCH_TLS_DESC64_PC_HI12
-    Some(row!(TlsDescLoongArch64, bits!(52, 64, Shift10), any)),
+    Some(row!(TlsDescLoongArch64, (52..64 LoongArch64::Shift10), any)),
     // R_LARCH_TLS_DESC64_PC_LO20
-    Some(row!(TlsDescLoongArch64, bits!(32, 52, Shift5), any)),
+    Some(row!(TlsDescLoongArch64, (32..52 LoongArch64::Shift5), any)),
     // R_LARCH_TLS_DESC_LD
-    Some(row!(None, bytes!(0), any)),
+    Some(row!(None, (0 bytes), any)),
     // R_LARCH_TLS_DESC_CALL
-    Some(row!(TlsDescCall, bytes!(0), any)),
+    Some(row!(TlsDescCall, (0 bytes), any)),
     // R_LARCH_TLS_DTPREL32
-    Some(row!(DtpOff, bytes!(4), any)),
+    Some(row!(DtpOff, (4 bytes), any)),
     // R_LARCH_TLS_DTPREL64
-    Some(row!(DtpOff, bytes!(8), any)),
+    Some(row!(DtpOff, (8 bytes), any)),
     // R_LARCH_TLS_LD_PCREL20_S2
     None,
     // R_LARCH_TLS_GD_PCREL20_S2
@@ -503,11 +482,11 @@ static ROWS: [Option<TableRow>; 71] = [
     // R_LARCH_TLS_DESC_PCREL20_S2
     None,
     // R_LARCH_RELAX
-    Some(row!(None, bytes!(0), any)),
+    Some(row!(None, (0 bytes), any)),
     // R_LARCH_TLS_LE_ADD_R
-    Some(row!(None, bytes!(0), any)),
+    Some(row!(None, (0 bytes), any)),
     // R_LARCH_ALIGN
-    Some(row!(None, bytes!(0), any)),
+    Some(row!(None, (0 bytes), any)),
     // Other
     None,
 ];
@@ -607,6 +586,12 @@ pub fn relocation_type_from_raw(name: LoongArch64Relocation) -> Option<Relocatio
 #[inline(always)]
 pub fn prepared_row(name: LoongArch64Relocation) -> Option<PreparedRow> {
     prepared(ROWS[place(name)])
+}
+
+/// What a relocation means, in numbers.
+#[inline(always)]
+pub fn relocation_numbers(name: LoongArch64Relocation) -> Option<&'static RelocationNumbers> {
+    numbers(&ROWS[place(name)])
 }
 
 #[inline(always)]

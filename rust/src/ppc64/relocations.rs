@@ -1,11 +1,8 @@
 // Made by tools/erase of crates/linker_utils/src/ppc64/relocations.rt.
 //! What the relocations of PowerPC64 mean.
 
-use crate::bit_misc::BitRange;
-use crate::elf::rows::{TableRow, bytes, prepared, row};
-use crate::elf::{
-    Ppc64Instruction, PreparedRow, RelocationInstruction, RelocationKindInfo, RelocationSize,
-};
+use crate::elf::rows::{TableRow, numbers, prepared, row};
+use crate::elf::{PreparedRow, RelocationKindInfo, RelocationNumbers};
 use core::fmt;
 
 /// The relocations of PowerPC64, by their names in the 64-bit ELF V2 ABI for Power, "Relocation
@@ -262,123 +259,110 @@ impl Ppc64Relocation {
     }
 }
 
-/// Bits of the value, from the first up, below the end, into an instruction.
-macro_rules! bits {
-    ($start:literal, $end:literal, $form:ident) => {
-        RelocationSize::BitMasking {
-            range: BitRange {
-                start: $start,
-                end: $end,
-            },
-            insn: RelocationInstruction::Ppc64(Ppc64Instruction::$form),
-        }
-    };
-}
-
 /// By the names' places in their enum. The last one is that of `Other`.
 static ROWS: [Option<TableRow>; 52] = [
     // R_PPC64_NONE
-    Some(row!(None, bytes!(0), any)),
+    Some(row!(None, (0 bytes), any)),
     // R_PPC64_TLS
-    Some(row!(None, bytes!(0), any)),
+    Some(row!(None, (0 bytes), any)),
     // R_PPC64_TLSGD
-    Some(row!(None, bytes!(0), any)),
+    Some(row!(None, (0 bytes), any)),
     // R_PPC64_TLSLD
-    Some(row!(None, bytes!(0), any)),
+    Some(row!(None, (0 bytes), any)),
     // R_PPC64_ADDR64
-    Some(row!(Absolute, bytes!(8), any)),
+    Some(row!(Absolute, (8 bytes), any)),
     // R_PPC64_ADDR32
-    Some(row!(Absolute, bytes!(4), signed_or_unsigned 32)),
+    Some(row!(Absolute, (4 bytes), signed_or_unsigned 32)),
     // R_PPC64_ADDR16_LO
-    Some(row!(Absolute, bits!(0, 16, D), any)),
+    Some(row!(Absolute, (0..16 Ppc64::D), any)),
     // R_PPC64_ADDR16_HI
-    Some(row!(Absolute, bits!(16, 32, D), any reach signed 32)),
+    Some(row!(Absolute, (16..32 Ppc64::D), any reach signed 32)),
     // R_PPC64_ADDR16_HA
-    Some(row!(Absolute, bits!(16, 32, D), any reach signed 32, bias: 0x8000)),
+    Some(row!(Absolute, (16..32 Ppc64::D), any reach signed 32, bias: 0x8000)),
     // R_PPC64_ADDR16_DS
-    Some(row!(Absolute, bits!(0, 16, Ds), signed 16, alignment: 4)),
+    Some(row!(Absolute, (0..16 Ppc64::Ds), signed 16, alignment: 4)),
     // R_PPC64_ADDR16_LO_DS
-    Some(row!(Absolute, bits!(0, 16, Ds), any, alignment: 4)),
+    Some(row!(Absolute, (0..16 Ppc64::Ds), any, alignment: 4)),
     // R_PPC64_REL64
-    Some(row!(Relative, bytes!(8), any)),
+    Some(row!(Relative, (8 bytes), any)),
     // R_PPC64_REL32
-    Some(row!(Relative, bytes!(4), signed 32)),
+    Some(row!(Relative, (4 bytes), signed 32)),
     // R_PPC64_REL24
-    Some(row!(Relative, bits!(0, 26, Branch24), signed 26, alignment: 4)),
+    Some(row!(Relative, (0..26 Ppc64::Branch24), signed 26, alignment: 4)),
     // R_PPC64_REL24_NOTOC
-    Some(row!(Relative, bits!(0, 26, Branch24), signed 26, alignment: 4)),
+    Some(row!(Relative, (0..26 Ppc64::Branch24), signed 26, alignment: 4)),
     // R_PPC64_REL14
-    Some(row!(Relative, bits!(0, 16, Branch14), signed 16, alignment: 4)),
+    Some(row!(Relative, (0..16 Ppc64::Branch14), signed 16, alignment: 4)),
     // R_PPC64_REL16_HA
-    Some(row!(Relative, bits!(16, 32, D), any reach signed 32, bias: 0x8000)),
+    Some(row!(Relative, (16..32 Ppc64::D), any reach signed 32, bias: 0x8000)),
     // R_PPC64_REL16_LO
-    Some(row!(Relative, bits!(0, 16, D), any)),
+    Some(row!(Relative, (0..16 Ppc64::D), any)),
     // R_PPC64_PCREL34
-    Some(row!(Relative, bits!(0, 34, Prefixed), signed 34)),
+    Some(row!(Relative, (0..34 Ppc64::Prefixed), signed 34)),
     // R_PPC64_GOT_PCREL34
-    Some(row!(GotRelative, bits!(0, 34, Prefixed), signed 34)),
+    Some(row!(GotRelative, (0..34 Ppc64::Prefixed), signed 34)),
     // R_PPC64_TOC16
-    Some(row!(SymRelGotBase, bits!(0, 16, D), signed 16)),
+    Some(row!(SymRelGotBase, (0..16 Ppc64::D), signed 16)),
     // R_PPC64_TOC16_DS
-    Some(row!(SymRelGotBase, bits!(0, 16, Ds), signed 16, alignment: 4)),
+    Some(row!(SymRelGotBase, (0..16 Ppc64::Ds), signed 16, alignment: 4)),
     // R_PPC64_TOC16_HA
-    Some(row!(SymRelGotBase, bits!(16, 32, D), any reach signed 32, bias: 0x8000)),
+    Some(row!(SymRelGotBase, (16..32 Ppc64::D), any reach signed 32, bias: 0x8000)),
     // R_PPC64_TOC16_LO
-    Some(row!(SymRelGotBase, bits!(0, 16, D), any)),
+    Some(row!(SymRelGotBase, (0..16 Ppc64::D), any)),
     // R_PPC64_TOC16_LO_DS
-    Some(row!(SymRelGotBase, bits!(0, 16, Ds), any, alignment: 4)),
+    Some(row!(SymRelGotBase, (0..16 Ppc64::Ds), any, alignment: 4)),
     // R_PPC64_TPREL64
-    Some(row!(TpOff, bytes!(8), any)),
+    Some(row!(TpOff, (8 bytes), any)),
     // R_PPC64_TPREL16
-    Some(row!(TpOff, bits!(0, 16, D), signed 16)),
+    Some(row!(TpOff, (0..16 Ppc64::D), signed 16)),
     // R_PPC64_TPREL16_LO
-    Some(row!(TpOff, bits!(0, 16, D), any)),
+    Some(row!(TpOff, (0..16 Ppc64::D), any)),
     // R_PPC64_TPREL16_HI
-    Some(row!(TpOff, bits!(16, 32, D), any reach signed 32)),
+    Some(row!(TpOff, (16..32 Ppc64::D), any reach signed 32)),
     // R_PPC64_TPREL16_HA
-    Some(row!(TpOff, bits!(16, 32, D), any reach signed 32, bias: 0x8000)),
+    Some(row!(TpOff, (16..32 Ppc64::D), any reach signed 32, bias: 0x8000)),
     // R_PPC64_TPREL16_DS
-    Some(row!(TpOff, bits!(0, 16, Ds), signed 16, alignment: 4)),
+    Some(row!(TpOff, (0..16 Ppc64::Ds), signed 16, alignment: 4)),
     // R_PPC64_TPREL16_LO_DS
-    Some(row!(TpOff, bits!(0, 16, Ds), any, alignment: 4)),
+    Some(row!(TpOff, (0..16 Ppc64::Ds), any, alignment: 4)),
     // R_PPC64_DTPREL64
-    Some(row!(DtpOff, bytes!(8), any)),
+    Some(row!(DtpOff, (8 bytes), any)),
     // R_PPC64_DTPREL16
-    Some(row!(DtpOff, bits!(0, 16, D), signed 16)),
+    Some(row!(DtpOff, (0..16 Ppc64::D), signed 16)),
     // R_PPC64_DTPREL16_LO
-    Some(row!(DtpOff, bits!(0, 16, D), any)),
+    Some(row!(DtpOff, (0..16 Ppc64::D), any)),
     // R_PPC64_DTPREL16_HI
-    Some(row!(DtpOff, bits!(16, 32, D), any reach signed 32)),
+    Some(row!(DtpOff, (16..32 Ppc64::D), any reach signed 32)),
     // R_PPC64_DTPREL16_HA
-    Some(row!(DtpOff, bits!(16, 32, D), any reach signed 32, bias: 0x8000)),
+    Some(row!(DtpOff, (16..32 Ppc64::D), any reach signed 32, bias: 0x8000)),
     // R_PPC64_DTPREL16_DS
-    Some(row!(DtpOff, bits!(0, 16, Ds), signed 16, alignment: 4)),
+    Some(row!(DtpOff, (0..16 Ppc64::Ds), signed 16, alignment: 4)),
     // R_PPC64_DTPREL16_LO_DS
-    Some(row!(DtpOff, bits!(0, 16, Ds), any, alignment: 4)),
+    Some(row!(DtpOff, (0..16 Ppc64::Ds), any, alignment: 4)),
     // R_PPC64_GOT_TPREL16_HA
-    Some(row!(GotTpOffGotBase, bits!(16, 32, D), any reach signed 32, bias: 0x8000)),
+    Some(row!(GotTpOffGotBase, (16..32 Ppc64::D), any reach signed 32, bias: 0x8000)),
     // R_PPC64_GOT_TPREL16_HI
-    Some(row!(GotTpOffGotBase, bits!(16, 32, D), any reach signed 32)),
+    Some(row!(GotTpOffGotBase, (16..32 Ppc64::D), any reach signed 32)),
     // R_PPC64_GOT_TPREL16_DS
-    Some(row!(GotTpOffGotBase, bits!(0, 16, Ds), signed 16, alignment: 4)),
+    Some(row!(GotTpOffGotBase, (0..16 Ppc64::Ds), signed 16, alignment: 4)),
     // R_PPC64_GOT_TPREL16_LO_DS
-    Some(row!(GotTpOffGotBase, bits!(0, 16, Ds), any, alignment: 4)),
+    Some(row!(GotTpOffGotBase, (0..16 Ppc64::Ds), any, alignment: 4)),
     // R_PPC64_GOT_TLSGD16
-    Some(row!(TlsGdGotBase, bits!(0, 16, D), signed 16)),
+    Some(row!(TlsGdGotBase, (0..16 Ppc64::D), signed 16)),
     // R_PPC64_GOT_TLSGD16_LO
-    Some(row!(TlsGdGotBase, bits!(0, 16, D), any)),
+    Some(row!(TlsGdGotBase, (0..16 Ppc64::D), any)),
     // R_PPC64_GOT_TLSGD16_HI
-    Some(row!(TlsGdGotBase, bits!(16, 32, D), any reach signed 32)),
+    Some(row!(TlsGdGotBase, (16..32 Ppc64::D), any reach signed 32)),
     // R_PPC64_GOT_TLSGD16_HA
-    Some(row!(TlsGdGotBase, bits!(16, 32, D), any reach signed 32, bias: 0x8000)),
+    Some(row!(TlsGdGotBase, (16..32 Ppc64::D), any reach signed 32, bias: 0x8000)),
     // R_PPC64_GOT_TLSLD16
-    Some(row!(TlsLdGotBase, bits!(0, 16, D), signed 16)),
+    Some(row!(TlsLdGotBase, (0..16 Ppc64::D), signed 16)),
     // R_PPC64_GOT_TLSLD16_LO
-    Some(row!(TlsLdGotBase, bits!(0, 16, D), any)),
+    Some(row!(TlsLdGotBase, (0..16 Ppc64::D), any)),
     // R_PPC64_GOT_TLSLD16_HI
-    Some(row!(TlsLdGotBase, bits!(16, 32, D), any reach signed 32)),
+    Some(row!(TlsLdGotBase, (16..32 Ppc64::D), any reach signed 32)),
     // R_PPC64_GOT_TLSLD16_HA
-    Some(row!(TlsLdGotBase, bits!(16, 32, D), any reach signed 32, bias: 0x8000)),
+    Some(row!(TlsLdGotBase, (16..32 Ppc64::D), any reach signed 32, bias: 0x8000)),
     // Other
     None,
 ];
@@ -460,6 +444,12 @@ pub fn relocation_type_from_raw(name: Ppc64Relocation) -> Option<RelocationKindI
 #[inline(always)]
 pub fn prepared_row(name: Ppc64Relocation) -> Option<PreparedRow> {
     prepared(ROWS[place(name)])
+}
+
+/// What a relocation means, in numbers.
+#[inline(always)]
+pub fn relocation_numbers(name: Ppc64Relocation) -> Option<&'static RelocationNumbers> {
+    numbers(&ROWS[place(name)])
 }
 
 #[inline(always)]

@@ -1,8 +1,8 @@
 // Made by tools/erase of crates/linker_utils/src/x86_64/relocations.rt.
 //! What the relocations of x86-64 mean.
 
-use crate::elf::rows::{TableRow, bytes, prepared, row};
-use crate::elf::{PreparedRow, RelocationKindInfo};
+use crate::elf::rows::{TableRow, numbers, prepared, row};
+use crate::elf::{PreparedRow, RelocationKindInfo, RelocationNumbers};
 use core::fmt;
 
 /// The relocations of x86-64, by their names in the x86-64 psABI, "Relocation Types". `from_elf`
@@ -209,83 +209,83 @@ impl X86_64Relocation {
 /// By the names' places in their enum. The last one is that of `Other`.
 static ROWS: [Option<TableRow>; 40] = [
     // R_X86_64_NONE
-    Some(row!(None, bytes!(0), any)),
+    Some(row!(None, (0 bytes), any)),
     // R_X86_64_TLSDESC_CALL
-    Some(row!(TlsDescCall, bytes!(0), any)),
+    Some(row!(TlsDescCall, (0 bytes), any)),
     // R_X86_64_64
-    Some(row!(Absolute, bytes!(8), any)),
+    Some(row!(Absolute, (8 bytes), any)),
     // R_X86_64_32
-    Some(row!(Absolute, bytes!(4), unsigned 32)),
+    Some(row!(Absolute, (4 bytes), unsigned 32)),
     // R_X86_64_32S
-    Some(row!(Absolute, bytes!(4), signed 32)),
+    Some(row!(Absolute, (4 bytes), signed 32)),
     // R_X86_64_16
-    Some(row!(Absolute, bytes!(2), signed_or_unsigned 16)),
+    Some(row!(Absolute, (2 bytes), signed_or_unsigned 16)),
     // R_X86_64_8
-    Some(row!(Absolute, bytes!(1), signed_or_unsigned 8)),
+    Some(row!(Absolute, (1 bytes), signed_or_unsigned 8)),
     // R_X86_64_PC64
-    Some(row!(Relative, bytes!(8), any)),
+    Some(row!(Relative, (8 bytes), any)),
     // R_X86_64_GOTPC64
-    Some(row!(Relative, bytes!(8), any)),
+    Some(row!(Relative, (8 bytes), any)),
     // R_X86_64_PC32
-    Some(row!(Relative, bytes!(4), signed 32)),
+    Some(row!(Relative, (4 bytes), signed 32)),
     // R_X86_64_GOTPC32
-    Some(row!(Relative, bytes!(4), signed 32)),
+    Some(row!(Relative, (4 bytes), signed 32)),
     // R_X86_64_PC16
-    Some(row!(Relative, bytes!(2), signed 16)),
+    Some(row!(Relative, (2 bytes), signed 16)),
     // R_X86_64_PC8
-    Some(row!(Relative, bytes!(1), signed 8)),
+    Some(row!(Relative, (1 bytes), signed 8)),
     // R_X86_64_GOT32
-    Some(row!(GotRelGotBase, bytes!(4), unsigned 32)),
+    Some(row!(GotRelGotBase, (4 bytes), unsigned 32)),
     // R_X86_64_GOT64
-    Some(row!(GotRelGotBase, bytes!(8), any)),
+    Some(row!(GotRelGotBase, (8 bytes), any)),
     // R_X86_64_GOTOFF64
-    Some(row!(SymRelGotBase, bytes!(8), any)),
+    Some(row!(SymRelGotBase, (8 bytes), any)),
     // R_X86_64_PLT32
-    Some(row!(PltRelative, bytes!(4), signed 32)),
+    Some(row!(PltRelative, (4 bytes), signed 32)),
     // R_X86_64_PLTOFF64
-    Some(row!(PltRelGotBase, bytes!(8), any)),
+    Some(row!(PltRelGotBase, (8 bytes), any)),
     // R_X86_64_GOTPCREL
-    Some(row!(GotRelative, bytes!(4), signed 32)),
+    Some(row!(GotRelative, (4 bytes), signed 32)),
     // R_X86_64_GOTPCRELX
-    Some(row!(GotRelative, bytes!(4), signed 32)),
+    Some(row!(GotRelative, (4 bytes), signed 32)),
     // R_X86_64_REX_GOTPCRELX
-    Some(row!(GotRelative, bytes!(4), signed 32)),
+    Some(row!(GotRelative, (4 bytes), signed 32)),
     // R_X86_64_CODE_4_GOTPCRELX
-    Some(row!(GotRelative, bytes!(4), signed 32)),
+    Some(row!(GotRelative, (4 bytes), signed 32)),
     // R_X86_64_CODE_5_GOTPCRELX
-    Some(row!(GotRelative, bytes!(4), signed 32)),
+    Some(row!(GotRelative, (4 bytes), signed 32)),
     // R_X86_64_CODE_6_GOTPCRELX
-    Some(row!(GotRelative, bytes!(4), signed 32)),
+    Some(row!(GotRelative, (4 bytes), signed 32)),
     // R_X86_64_SIZE32
-    Some(row!(SymbolSize, bytes!(4), unsigned 32)),
+    Some(row!(SymbolSize, (4 bytes), unsigned 32)),
     // R_X86_64_SIZE64
-    Some(row!(SymbolSize, bytes!(8), any)),
+    Some(row!(SymbolSize, (8 bytes), any)),
     // R_X86_64_TLSGD
-    Some(row!(TlsGd, bytes!(4), signed 32)),
+    Some(row!(TlsGd, (4 bytes), signed 32)),
     // R_X86_64_TLSLD
-    Some(row!(TlsLd, bytes!(4), signed 32)),
+    Some(row!(TlsLd, (4 bytes), signed 32)),
     // R_X86_64_DTPOFF32
-    Some(row!(DtpOff, bytes!(4), signed 32)),
+    Some(row!(DtpOff, (4 bytes), signed 32)),
     // R_X86_64_DTPOFF64
-    Some(row!(DtpOff, bytes!(8), any)),
+    Some(row!(DtpOff, (8 bytes), any)),
     // R_X86_64_GOTTPOFF
-    Some(row!(GotTpOff, bytes!(4), signed 32)),
+    Some(row!(GotTpOff, (4 bytes), signed 32)),
     // R_X86_64_CODE_4_GOTTPOFF
-    Some(row!(GotTpOff, bytes!(4), signed 32)),
+    Some(row!(GotTpOff, (4 bytes), signed 32)),
     // R_X86_64_CODE_5_GOTTPOFF
-    Some(row!(GotTpOff, bytes!(4), signed 32)),
+    Some(row!(GotTpOff, (4 bytes), signed 32)),
     // R_X86_64_CODE_6_GOTTPOFF
-    Some(row!(GotTpOff, bytes!(4), signed 32)),
+    Some(row!(GotTpOff, (4 bytes), signed 32)),
     // R_X86_64_TPOFF32
-    Some(row!(TpOff, bytes!(4), signed 32)),
+    Some(row!(TpOff, (4 bytes), signed 32)),
     // R_X86_64_GOTPC32_TLSDESC
-    Some(row!(TlsDesc, bytes!(4), signed 32)),
+    Some(row!(TlsDesc, (4 bytes), signed 32)),
     // R_X86_64_CODE_4_GOTPC32_TLSDESC
-    Some(row!(TlsDesc, bytes!(4), signed 32)),
+    Some(row!(TlsDesc, (4 bytes), signed 32)),
     // R_X86_64_CODE_5_GOTPC32_TLSDESC
-    Some(row!(TlsDesc, bytes!(4), signed 32)),
+    Some(row!(TlsDesc, (4 bytes), signed 32)),
     // R_X86_64_CODE_6_GOTPC32_TLSDESC
-    Some(row!(TlsDesc, bytes!(4), signed 32)),
+    Some(row!(TlsDesc, (4 bytes), signed 32)),
     // Other
     None,
 ];
@@ -349,6 +349,12 @@ pub fn relocation_from_raw(name: X86_64Relocation) -> Option<RelocationKindInfo>
 #[inline(always)]
 pub fn prepared_row(name: X86_64Relocation) -> Option<PreparedRow> {
     prepared(ROWS[place(name)])
+}
+
+/// What a relocation means, in numbers.
+#[inline(always)]
+pub fn relocation_numbers(name: X86_64Relocation) -> Option<&'static RelocationNumbers> {
+    numbers(&ROWS[place(name)])
 }
 
 #[inline(always)]

@@ -1,8 +1,10 @@
 -- Entries of the tables of rows.
 use Rattle.std.specs.Prelude.{◌≡◌, Option, Some, None, ℤ, pos, if◌then◌else◌, ◌==◌, false}
 use Rattle.linker_utils.specs.Prepared.{least_within, last_within, row_in}
+use Rattle.linker_utils.specs.Numbers.{in_numbers}
 use Rattle.linker_utils.specs.Reach.{reach_of}
 use Rattle.linker_utils.specs.declared.elf.RelocationKindInfo.{RelocationKindInfo}
+use Rattle.linker_utils.specs.declared.elf.numbers.RelocationNumbers.{RelocationNumbers}
 use Rattle.linker_utils.specs.declared.elf.prepared.PreparedRow.{PreparedRow}
 use Rattle.linker_utils.specs.declared.elf.rows.TableRow.{TableRow}
 
@@ -22,10 +24,12 @@ prepared_of entry =
         kind = entry.kind;
         size = entry.size;
         mask = entry.mask;
-        range = entry.range;
-        alignment = entry.alignment;
-        bias = if entry.bias == 0 then None else Some entry.bias;
-        thunkable = entry.thunkable;
+        range = record {
+          bounds = if entry.numbers.has_range == 1 then Some (entry.numbers.min, entry.numbers.max) else None;
+        };
+        alignment = entry.numbers.alignment;
+        bias = if entry.numbers.bias == 0 then None else Some entry.numbers.bias;
+        thunkable = entry.numbers.thunkable == 1;
         implicit_addend = false;
       };
       least = entry.least;
@@ -36,7 +40,12 @@ abbrev pub prepared_entry : Option TableRow → Option PreparedRow
 prepared_entry None = None
 prepared_entry (Some entry) = Some (prepared_of entry)
 
--- the entry is the row, with the bounds of its reach
-pub record IsEntryOf (row : Option RelocationKindInfo) (entry : Option PreparedRow) : Type 0 where
-  pub row_is : row_in entry ≡ row
-  pub limits_are : limits_in entry ≡ limits_of row
+abbrev pub numbers_in : Option TableRow → Option RelocationNumbers
+numbers_in None = None
+numbers_in (Some entry) = Some entry.numbers
+
+-- the entry is the row, with the bounds of its reach and its numbers
+pub record IsEntryOf (row : Option RelocationKindInfo) (entry : Option TableRow) : Type 0 where
+  pub row_is : row_in (prepared_entry entry) ≡ row
+  pub limits_are : limits_in (prepared_entry entry) ≡ limits_of row
+  pub numbers_are : numbers_in entry ≡ in_numbers row

@@ -1,6 +1,6 @@
 //! What the relocations of AArch64 mean.
 
-ghost use Rattle.std.specs.Prelude.{◌≡◌, ◌<◌, IfSome};
+ghost use Rattle.std.specs.Prelude.{◌≡◌, ◌<◌, IfSome, IfNone, Some, None};
 ghost use Rattle.linker_utils.specs.Agrees.{RowAgrees, RowFits};
 ghost use Rattle.linker_utils.specs.Readings.{RowReadsNoOther};
 ghost use Rattle.linker_utils.specs.AArch64Rows.{aarch64_row};
@@ -9,14 +9,11 @@ ghost use Rattle.linker_utils.specs.AArch64Names.{aarch64_name};
 ghost use denote.Enum.Declared.{tag_of};
 ghost use Rattle.linker_utils.specs.contracts.aarch64.relocations.AArch64Relocation as names;
 ghost use Rattle.linker_utils.specs.Prepared.{row_in, IsPrepared};
+ghost use Rattle.linker_utils.specs.Numbers.{in_numbers};
 
 use self::AArch64Relocation as Name;
-use crate::bit_misc::BitRange;
-use crate::elf::rows::{TableRow, bytes, prepared, row};
-use crate::elf::{
-    AArch64Instruction, PageMask, PageMaskPattern, PreparedRow, RelocationInstruction,
-    RelocationKindInfo, RelocationSize,
-};
+use crate::elf::rows::{TableRow, numbers, prepared, row};
+use crate::elf::{PreparedRow, RelocationKindInfo, RelocationNumbers};
 use std::fmt;
 
 /// The relocations of AArch64, by their names in ELF for the Arm 64-bit Architecture, "Relocation".
@@ -535,255 +532,236 @@ impl AArch64Relocation {
     }
 }
 
-const PLACE_PAGES: PageMask = PageMask::SymbolPlusAddendAndPosition(PageMaskPattern::Size4KB);
-
-const ENTRY_PAGES: PageMask = PageMask::GotEntryAndPosition(PageMaskPattern::Size4KB);
-
-const GOT_PAGE: PageMask = PageMask::GotBase(PageMaskPattern::Size4KB);
-
-/// Bits of the value, from the first up, below the end, into an instruction.
-macro_rules! bits {
-    ($start:literal, $end:literal, $form:ident) => {
-        RelocationSize::BitMasking {
-            range: BitRange {
-                start: $start,
-                end: $end,
-            },
-            insn: RelocationInstruction::AArch64(AArch64Instruction::$form),
-        }
-    };
-}
-
 /// By the names' places in their enum. The last one is that of `Other`.
 static ROWS: [Option<TableRow>; 115] = [
     // R_AARCH64_NONE
-    Some(row!(None, bytes!(0), any)),
+    Some(row!(None, (0 bytes), any)),
     // R_AARCH64_ABS64
-    Some(row!(Absolute, bytes!(8), any)),
+    Some(row!(Absolute, (8 bytes), any)),
     // R_AARCH64_ABS32
-    Some(row!(Absolute, bytes!(4), signed_or_unsigned 32)),
+    Some(row!(Absolute, (4 bytes), signed_or_unsigned 32)),
     // R_AARCH64_ABS16
-    Some(row!(Absolute, bytes!(2), signed_or_unsigned 16)),
+    Some(row!(Absolute, (2 bytes), signed_or_unsigned 16)),
     // R_AARCH64_PREL64
-    Some(row!(Relative, bytes!(8), any)),
+    Some(row!(Relative, (8 bytes), any)),
     // R_AARCH64_PREL32
-    Some(row!(Relative, bytes!(4), signed_or_unsigned 32)),
+    Some(row!(Relative, (4 bytes), signed_or_unsigned 32)),
     // R_AARCH64_PREL16
-    Some(row!(Relative, bytes!(2), signed_or_unsigned 16)),
+    Some(row!(Relative, (2 bytes), signed_or_unsigned 16)),
     // R_AARCH64_PLT32
-    Some(row!(PltRelative, bytes!(4), signed 32)),
+    Some(row!(PltRelative, (4 bytes), signed 32)),
     // R_AARCH64_MOVW_UABS_G0
-    Some(row!(Absolute, bits!(0, 16, Movkz), unsigned 16)),
+    Some(row!(Absolute, (0..16 AArch64::Movkz), unsigned 16)),
     // R_AARCH64_MOVW_UABS_G0_NC
-    Some(row!(Absolute, bits!(0, 16, Movkz), any)),
+    Some(row!(Absolute, (0..16 AArch64::Movkz), any)),
     // R_AARCH64_MOVW_UABS_G1
-    Some(row!(Absolute, bits!(16, 32, Movkz), unsigned 32)),
+    Some(row!(Absolute, (16..32 AArch64::Movkz), unsigned 32)),
     // R_AARCH64_MOVW_UABS_G1_NC
-    Some(row!(Absolute, bits!(16, 32, Movkz), any)),
+    Some(row!(Absolute, (16..32 AArch64::Movkz), any)),
     // R_AARCH64_MOVW_UABS_G2
-    Some(row!(Absolute, bits!(32, 48, Movkz), unsigned 48)),
+    Some(row!(Absolute, (32..48 AArch64::Movkz), unsigned 48)),
     // R_AARCH64_MOVW_UABS_G2_NC
-    Some(row!(Absolute, bits!(32, 48, Movkz), any)),
+    Some(row!(Absolute, (32..48 AArch64::Movkz), any)),
     // R_AARCH64_MOVW_UABS_G3
-    Some(row!(Absolute, bits!(48, 64, Movkz), any)),
+    Some(row!(Absolute, (48..64 AArch64::Movkz), any)),
     // R_AARCH64_MOVW_SABS_G0
-    Some(row!(Absolute, bits!(0, 16, Movnz), signed 17)),
+    Some(row!(Absolute, (0..16 AArch64::Movnz), signed 17)),
     // R_AARCH64_MOVW_SABS_G1
-    Some(row!(Absolute, bits!(16, 32, Movnz), signed 33)),
+    Some(row!(Absolute, (16..32 AArch64::Movnz), signed 33)),
     // R_AARCH64_MOVW_SABS_G2
-    Some(row!(Absolute, bits!(32, 48, Movnz), signed 49)),
+    Some(row!(Absolute, (32..48 AArch64::Movnz), signed 49)),
     // R_AARCH64_LD_PREL_LO19
-    Some(row!(Relative, bits!(2, 21, Ldr), signed 21, alignment: 4)),
+    Some(row!(Relative, (2..21 AArch64::Ldr), signed 21, alignment: 4)),
     // R_AARCH64_ADR_PREL_LO21
-    Some(row!(Relative, bits!(0, 21, Adr), signed 21)),
+    Some(row!(Relative, (0..21 AArch64::Adr), signed 21)),
     // R_AARCH64_ADR_PREL_PG_HI21
-    Some(row!(Relative, bits!(12, 33, Adr), signed 33, mask: Some(PLACE_PAGES))),
+    Some(row!(Relative, (12..33 AArch64::Adr), signed 33, mask: PLACE_PAGES)),
     // R_AARCH64_ADR_PREL_PG_HI21_NC
-    Some(row!(Relative, bits!(12, 33, Adr), any, mask: Some(PLACE_PAGES))),
+    Some(row!(Relative, (12..33 AArch64::Adr), any, mask: PLACE_PAGES)),
     // R_AARCH64_ADD_ABS_LO12_NC
-    Some(row!(AbsoluteLowPart, bits!(0, 12, Add), any)),
+    Some(row!(AbsoluteLowPart, (0..12 AArch64::Add), any)),
     // R_AARCH64_LDST8_ABS_LO12_NC
-    Some(row!(AbsoluteLowPart, bits!(0, 12, LdSt), any)),
+    Some(row!(AbsoluteLowPart, (0..12 AArch64::LdSt), any)),
     // R_AARCH64_LDST16_ABS_LO12_NC
-    Some(row!(AbsoluteLowPart, bits!(1, 12, LdSt), any, alignment: 2)),
+    Some(row!(AbsoluteLowPart, (1..12 AArch64::LdSt), any, alignment: 2)),
     // R_AARCH64_LDST32_ABS_LO12_NC
-    Some(row!(AbsoluteLowPart, bits!(2, 12, LdSt), any, alignment: 4)),
+    Some(row!(AbsoluteLowPart, (2..12 AArch64::LdSt), any, alignment: 4)),
     // R_AARCH64_LDST64_ABS_LO12_NC
-    Some(row!(AbsoluteLowPart, bits!(3, 12, LdSt), any, alignment: 8)),
+    Some(row!(AbsoluteLowPart, (3..12 AArch64::LdSt), any, alignment: 8)),
     // R_AARCH64_LDST128_ABS_LO12_NC
-    Some(row!(AbsoluteLowPart, bits!(4, 12, LdSt), any, alignment: 16)),
+    Some(row!(AbsoluteLowPart, (4..12 AArch64::LdSt), any, alignment: 16)),
     // R_AARCH64_TSTBR14
-    Some(row!(Relative, bits!(2, 16, TstBr), signed 16, alignment: 4)),
+    Some(row!(Relative, (2..16 AArch64::TstBr), signed 16, alignment: 4)),
     // R_AARCH64_CONDBR19
-    Some(row!(Relative, bits!(2, 21, Bcond), signed 21, alignment: 4)),
+    Some(row!(Relative, (2..21 AArch64::Bcond), signed 21, alignment: 4)),
     // R_AARCH64_JUMP26
-    Some(row!(PltRelative, bits!(2, 28, JumpCall), signed 28, alignment: 4, thunkable: true)),
+    Some(row!(PltRelative, (2..28 AArch64::JumpCall), signed 28, alignment: 4, thunkable: true)),
     // R_AARCH64_CALL26
-    Some(row!(PltRelative, bits!(2, 28, JumpCall), signed 28, alignment: 4, thunkable: true)),
+    Some(row!(PltRelative, (2..28 AArch64::JumpCall), signed 28, alignment: 4, thunkable: true)),
     // R_AARCH64_MOVW_PREL_G0
-    Some(row!(Relative, bits!(0, 16, Movnz), any reach signed 17)),
+    Some(row!(Relative, (0..16 AArch64::Movnz), any reach signed 17)),
     // R_AARCH64_MOVW_PREL_G0_NC
-    Some(row!(Relative, bits!(0, 16, Movkz), any)),
+    Some(row!(Relative, (0..16 AArch64::Movkz), any)),
     // R_AARCH64_MOVW_PREL_G1
-    Some(row!(Relative, bits!(16, 32, Movnz), any reach signed 33)),
+    Some(row!(Relative, (16..32 AArch64::Movnz), any reach signed 33)),
     // R_AARCH64_MOVW_PREL_G1_NC
-    Some(row!(Relative, bits!(16, 32, Movkz), any)),
+    Some(row!(Relative, (16..32 AArch64::Movkz), any)),
     // R_AARCH64_MOVW_PREL_G2
-    Some(row!(Relative, bits!(32, 48, Movnz), any reach signed 49)),
+    Some(row!(Relative, (32..48 AArch64::Movnz), any reach signed 49)),
     // R_AARCH64_MOVW_PREL_G2_NC
-    Some(row!(Relative, bits!(32, 48, Movkz), any)),
+    Some(row!(Relative, (32..48 AArch64::Movkz), any)),
     // R_AARCH64_MOVW_PREL_G3
-    Some(row!(Relative, bits!(48, 64, Movnz), any)),
+    Some(row!(Relative, (48..64 AArch64::Movnz), any)),
     // R_AARCH64_MOVW_GOTOFF_G0
-    Some(row!(GotRelGotBase, bits!(0, 16, Movnz), any reach signed 17)),
+    Some(row!(GotRelGotBase, (0..16 AArch64::Movnz), any reach signed 17)),
     // R_AARCH64_MOVW_GOTOFF_G0_NC
-    Some(row!(GotRelGotBase, bits!(0, 16, Movkz), any)),
+    Some(row!(GotRelGotBase, (0..16 AArch64::Movkz), any)),
     // R_AARCH64_MOVW_GOTOFF_G1
-    Some(row!(GotRelGotBase, bits!(16, 32, Movnz), any reach signed 33)),
+    Some(row!(GotRelGotBase, (16..32 AArch64::Movnz), any reach signed 33)),
     // R_AARCH64_MOVW_GOTOFF_G1_NC
-    Some(row!(GotRelGotBase, bits!(16, 32, Movkz), any)),
+    Some(row!(GotRelGotBase, (16..32 AArch64::Movkz), any)),
     // R_AARCH64_MOVW_GOTOFF_G2
-    Some(row!(GotRelGotBase, bits!(32, 48, Movnz), any reach signed 49)),
+    Some(row!(GotRelGotBase, (32..48 AArch64::Movnz), any reach signed 49)),
     // R_AARCH64_MOVW_GOTOFF_G2_NC
-    Some(row!(GotRelGotBase, bits!(32, 48, Movkz), any)),
+    Some(row!(GotRelGotBase, (32..48 AArch64::Movkz), any)),
     // R_AARCH64_MOVW_GOTOFF_G3
-    Some(row!(GotRelGotBase, bits!(48, 64, Movnz), any)),
+    Some(row!(GotRelGotBase, (48..64 AArch64::Movnz), any)),
     // R_AARCH64_GOTREL64
-    Some(row!(SymRelGotBase, bytes!(8), any)),
+    Some(row!(SymRelGotBase, (8 bytes), any)),
     // R_AARCH64_GOTREL32
-    Some(row!(SymRelGotBase, bytes!(4), signed 32)),
+    Some(row!(SymRelGotBase, (4 bytes), signed 32)),
     // R_AARCH64_GOTPCREL32
-    Some(row!(GotRelative, bytes!(4), signed 32)),
+    Some(row!(GotRelative, (4 bytes), signed 32)),
     // R_AARCH64_GOT_LD_PREL19
-    Some(row!(GotRelative, bits!(2, 21, Ldr), signed 21, alignment: 4)),
+    Some(row!(GotRelative, (2..21 AArch64::Ldr), signed 21, alignment: 4)),
     // R_AARCH64_LD64_GOTOFF_LO15
-    Some(row!(GotRelGotBase, bits!(3, 15, LdSt), unsigned 15, alignment: 8)),
+    Some(row!(GotRelGotBase, (3..15 AArch64::LdSt), unsigned 15, alignment: 8)),
     // R_AARCH64_ADR_GOT_PAGE
-    Some(row!(GotRelative, bits!(12, 33, Adr), signed 33, mask: Some(ENTRY_PAGES))),
+    Some(row!(GotRelative, (12..33 AArch64::Adr), signed 33, mask: ENTRY_PAGES)),
     // R_AARCH64_LD64_GOT_LO12_NC
-    Some(row!(Got, bits!(3, 12, LdSt), any, alignment: 8)),
+    Some(row!(Got, (3..12 AArch64::LdSt), any, alignment: 8)),
     // R_AARCH64_LD64_GOTPAGE_LO15
-    Some(row!(GotRelGotBase, bits!(3, 15, LdSt), unsigned 15, alignment: 8, mask: Some(GOT_PAGE))),
+    Some(row!(GotRelGotBase, (3..15 AArch64::LdSt), unsigned 15, alignment: 8, mask: GOT_PAGE)),
     // R_AARCH64_TLSGD_ADR_PREL21
-    Some(row!(TlsGd, bits!(0, 21, Adr), signed 21)),
+    Some(row!(TlsGd, (0..21 AArch64::Adr), signed 21)),
     // R_AARCH64_TLSGD_ADR_PAGE21
-    Some(row!(TlsGd, bits!(12, 33, Adr), signed 33, mask: Some(ENTRY_PAGES))),
+    Some(row!(TlsGd, (12..33 AArch64::Adr), signed 33, mask: ENTRY_PAGES)),
     // R_AARCH64_TLSGD_ADD_LO12_NC
-    Some(row!(TlsGdGot, bits!(0, 12, Add), any)),
+    Some(row!(TlsGdGot, (0..12 AArch64::Add), any)),
     // R_AARCH64_TLSGD_MOVW_G1
-    Some(row!(TlsGdGotBase, bits!(16, 32, Movnz), any reach signed 33)),
+    Some(row!(TlsGdGotBase, (16..32 AArch64::Movnz), any reach signed 33)),
     // R_AARCH64_TLSGD_MOVW_G0_NC
-    Some(row!(TlsGdGotBase, bits!(0, 16, Movkz), any)),
+    Some(row!(TlsGdGotBase, (0..16 AArch64::Movkz), any)),
     // R_AARCH64_TLSLD_ADR_PREL21
-    Some(row!(TlsLd, bits!(0, 21, Adr), signed 21)),
+    Some(row!(TlsLd, (0..21 AArch64::Adr), signed 21)),
     // R_AARCH64_TLSLD_ADR_PAGE21
-    Some(row!(TlsLd, bits!(12, 33, Adr), signed 33, mask: Some(ENTRY_PAGES))),
+    Some(row!(TlsLd, (12..33 AArch64::Adr), signed 33, mask: ENTRY_PAGES)),
     // R_AARCH64_TLSLD_ADD_LO12_NC
-    Some(row!(TlsLdGot, bits!(0, 12, Add), any)),
+    Some(row!(TlsLdGot, (0..12 AArch64::Add), any)),
     // R_AARCH64_TLSLD_MOVW_G1
-    Some(row!(TlsLdGotBase, bits!(16, 32, Movnz), any reach signed 33)),
+    Some(row!(TlsLdGotBase, (16..32 AArch64::Movnz), any reach signed 33)),
     // R_AARCH64_TLSLD_MOVW_G0_NC
-    Some(row!(TlsLdGotBase, bits!(0, 16, Movkz), any)),
+    Some(row!(TlsLdGotBase, (0..16 AArch64::Movkz), any)),
     // R_AARCH64_TLSLD_LD_PREL19
-    Some(row!(TlsLd, bits!(2, 21, Ldr), signed 21, alignment: 4)),
+    Some(row!(TlsLd, (2..21 AArch64::Ldr), signed 21, alignment: 4)),
     // R_AARCH64_TLSLD_MOVW_DTPREL_G2
-    Some(row!(DtpOff, bits!(32, 48, Movnz), any reach signed 49)),
+    Some(row!(DtpOff, (32..48 AArch64::Movnz), any reach signed 49)),
     // R_AARCH64_TLSLD_MOVW_DTPREL_G1
-    Some(row!(DtpOff, bits!(16, 32, Movnz), any reach signed 33)),
+    Some(row!(DtpOff, (16..32 AArch64::Movnz), any reach signed 33)),
     // R_AARCH64_TLSLD_MOVW_DTPREL_G1_NC
-    Some(row!(DtpOff, bits!(16, 32, Movkz), any)),
+    Some(row!(DtpOff, (16..32 AArch64::Movkz), any)),
     // R_AARCH64_TLSLD_MOVW_DTPREL_G0
-    Some(row!(DtpOff, bits!(0, 16, Movnz), any reach signed 17)),
+    Some(row!(DtpOff, (0..16 AArch64::Movnz), any reach signed 17)),
     // R_AARCH64_TLSLD_MOVW_DTPREL_G0_NC
-    Some(row!(DtpOff, bits!(0, 16, Movkz), any)),
+    Some(row!(DtpOff, (0..16 AArch64::Movkz), any)),
     // R_AARCH64_TLSLD_ADD_DTPREL_HI12
-    Some(row!(DtpOff, bits!(12, 24, Add), unsigned 24)),
+    Some(row!(DtpOff, (12..24 AArch64::Add), unsigned 24)),
     // R_AARCH64_TLSLD_ADD_DTPREL_LO12
-    Some(row!(DtpOff, bits!(0, 12, Add), unsigned 12)),
+    Some(row!(DtpOff, (0..12 AArch64::Add), unsigned 12)),
     // R_AARCH64_TLSLD_ADD_DTPREL_LO12_NC
-    Some(row!(DtpOff, bits!(0, 12, Add), any)),
+    Some(row!(DtpOff, (0..12 AArch64::Add), any)),
     // R_AARCH64_TLSLD_LDST8_DTPREL_LO12
-    Some(row!(DtpOff, bits!(0, 12, LdSt), unsigned 12)),
+    Some(row!(DtpOff, (0..12 AArch64::LdSt), unsigned 12)),
     // R_AARCH64_TLSLD_LDST8_DTPREL_LO12_NC
-    Some(row!(DtpOff, bits!(0, 12, LdSt), any)),
+    Some(row!(DtpOff, (0..12 AArch64::LdSt), any)),
     // R_AARCH64_TLSLD_LDST16_DTPREL_LO12
-    Some(row!(DtpOff, bits!(1, 12, LdSt), unsigned 12, alignment: 2)),
+    Some(row!(DtpOff, (1..12 AArch64::LdSt), unsigned 12, alignment: 2)),
     // R_AARCH64_TLSLD_LDST16_DTPREL_LO12_NC
-    Some(row!(DtpOff, bits!(1, 12, LdSt), any, alignment: 2)),
+    Some(row!(DtpOff, (1..12 AArch64::LdSt), any, alignment: 2)),
     // R_AARCH64_TLSLD_LDST32_DTPREL_LO12
-    Some(row!(DtpOff, bits!(2, 12, LdSt), unsigned 12, alignment: 4)),
+    Some(row!(DtpOff, (2..12 AArch64::LdSt), unsigned 12, alignment: 4)),
     // R_AARCH64_TLSLD_LDST32_DTPREL_LO12_NC
-    Some(row!(DtpOff, bits!(2, 12, LdSt), any, alignment: 4)),
+    Some(row!(DtpOff, (2..12 AArch64::LdSt), any, alignment: 4)),
     // R_AARCH64_TLSLD_LDST64_DTPREL_LO12
-    Some(row!(DtpOff, bits!(3, 12, LdSt), unsigned 12, alignment: 8)),
+    Some(row!(DtpOff, (3..12 AArch64::LdSt), unsigned 12, alignment: 8)),
     // R_AARCH64_TLSLD_LDST64_DTPREL_LO12_NC
-    Some(row!(DtpOff, bits!(3, 12, LdSt), any, alignment: 8)),
+    Some(row!(DtpOff, (3..12 AArch64::LdSt), any, alignment: 8)),
     // R_AARCH64_TLSLD_LDST128_DTPREL_LO12
-    Some(row!(DtpOff, bits!(4, 12, LdSt), unsigned 12, alignment: 16)),
+    Some(row!(DtpOff, (4..12 AArch64::LdSt), unsigned 12, alignment: 16)),
     // R_AARCH64_TLSLD_LDST128_DTPREL_LO12_NC
-    Some(row!(DtpOff, bits!(4, 12, LdSt), any, alignment: 16)),
+    Some(row!(DtpOff, (4..12 AArch64::LdSt), any, alignment: 16)),
     // R_AARCH64_TLSIE_MOVW_GOTTPREL_G1
-    Some(row!(GotTpOffGotBase, bits!(16, 32, Movnz), any reach signed 33)),
+    Some(row!(GotTpOffGotBase, (16..32 AArch64::Movnz), any reach signed 33)),
     // R_AARCH64_TLSIE_MOVW_GOTTPREL_G0_NC
-    Some(row!(GotTpOffGotBase, bits!(0, 16, Movkz), any)),
+    Some(row!(GotTpOffGotBase, (0..16 AArch64::Movkz), any)),
     // R_AARCH64_TLSIE_ADR_GOTTPREL_PAGE21
-    Some(row!(GotTpOff, bits!(12, 33, Adr), signed 33, mask: Some(ENTRY_PAGES))),
+    Some(row!(GotTpOff, (12..33 AArch64::Adr), signed 33, mask: ENTRY_PAGES)),
     // R_AARCH64_TLSIE_LD64_GOTTPREL_LO12_NC
-    Some(row!(GotTpOffGot, bits!(3, 12, LdrRegister), any, alignment: 8)),
+    Some(row!(GotTpOffGot, (3..12 AArch64::LdrRegister), any, alignment: 8)),
     // R_AARCH64_TLSIE_LD_GOTTPREL_PREL19
-    Some(row!(GotTpOff, bits!(2, 21, Ldr), signed 21, alignment: 4)),
+    Some(row!(GotTpOff, (2..21 AArch64::Ldr), signed 21, alignment: 4)),
     // R_AARCH64_TLSLE_MOVW_TPREL_G2
-    Some(row!(TpOff, bits!(32, 48, Movnz), any reach signed 49)),
+    Some(row!(TpOff, (32..48 AArch64::Movnz), any reach signed 49)),
     // R_AARCH64_TLSLE_MOVW_TPREL_G1
-    Some(row!(TpOff, bits!(16, 32, Movnz), any reach signed 33)),
+    Some(row!(TpOff, (16..32 AArch64::Movnz), any reach signed 33)),
     // R_AARCH64_TLSLE_MOVW_TPREL_G1_NC
-    Some(row!(TpOff, bits!(16, 32, Movkz), any)),
+    Some(row!(TpOff, (16..32 AArch64::Movkz), any)),
     // R_AARCH64_TLSLE_MOVW_TPREL_G0
-    Some(row!(TpOff, bits!(0, 16, Movnz), any reach signed 17)),
+    Some(row!(TpOff, (0..16 AArch64::Movnz), any reach signed 17)),
     // R_AARCH64_TLSLE_MOVW_TPREL_G0_NC
-    Some(row!(TpOff, bits!(0, 16, Movkz), any)),
+    Some(row!(TpOff, (0..16 AArch64::Movkz), any)),
     // R_AARCH64_TLSLE_ADD_TPREL_HI12
-    Some(row!(TpOff, bits!(12, 24, Add), unsigned 24)),
+    Some(row!(TpOff, (12..24 AArch64::Add), unsigned 24)),
     // R_AARCH64_TLSLE_ADD_TPREL_LO12
-    Some(row!(TpOff, bits!(0, 12, Add), unsigned 12)),
+    Some(row!(TpOff, (0..12 AArch64::Add), unsigned 12)),
     // R_AARCH64_TLSLE_ADD_TPREL_LO12_NC
-    Some(row!(TpOff, bits!(0, 12, Add), any)),
+    Some(row!(TpOff, (0..12 AArch64::Add), any)),
     // R_AARCH64_TLSLE_LDST8_TPREL_LO12
-    Some(row!(TpOff, bits!(0, 12, LdSt), unsigned 12)),
+    Some(row!(TpOff, (0..12 AArch64::LdSt), unsigned 12)),
     // R_AARCH64_TLSLE_LDST8_TPREL_LO12_NC
-    Some(row!(TpOff, bits!(0, 12, LdSt), any)),
+    Some(row!(TpOff, (0..12 AArch64::LdSt), any)),
     // R_AARCH64_TLSLE_LDST16_TPREL_LO12
-    Some(row!(TpOff, bits!(1, 12, LdSt), unsigned 12, alignment: 2)),
+    Some(row!(TpOff, (1..12 AArch64::LdSt), unsigned 12, alignment: 2)),
     // R_AARCH64_TLSLE_LDST16_TPREL_LO12_NC
-    Some(row!(TpOff, bits!(1, 12, LdSt), any, alignment: 2)),
+    Some(row!(TpOff, (1..12 AArch64::LdSt), any, alignment: 2)),
     // R_AARCH64_TLSLE_LDST32_TPREL_LO12
-    Some(row!(TpOff, bits!(2, 12, LdSt), unsigned 12, alignment: 4)),
+    Some(row!(TpOff, (2..12 AArch64::LdSt), unsigned 12, alignment: 4)),
     // R_AARCH64_TLSLE_LDST32_TPREL_LO12_NC
-    Some(row!(TpOff, bits!(2, 12, LdSt), any, alignment: 4)),
+    Some(row!(TpOff, (2..12 AArch64::LdSt), any, alignment: 4)),
     // R_AARCH64_TLSLE_LDST64_TPREL_LO12
-    Some(row!(TpOff, bits!(3, 12, LdSt), unsigned 12, alignment: 8)),
+    Some(row!(TpOff, (3..12 AArch64::LdSt), unsigned 12, alignment: 8)),
     // R_AARCH64_TLSLE_LDST64_TPREL_LO12_NC
-    Some(row!(TpOff, bits!(3, 12, LdSt), any, alignment: 8)),
+    Some(row!(TpOff, (3..12 AArch64::LdSt), any, alignment: 8)),
     // R_AARCH64_TLSLE_LDST128_TPREL_LO12
-    Some(row!(TpOff, bits!(4, 12, LdSt), unsigned 12, alignment: 16)),
+    Some(row!(TpOff, (4..12 AArch64::LdSt), unsigned 12, alignment: 16)),
     // R_AARCH64_TLSLE_LDST128_TPREL_LO12_NC
-    Some(row!(TpOff, bits!(4, 12, LdSt), any, alignment: 16)),
+    Some(row!(TpOff, (4..12 AArch64::LdSt), any, alignment: 16)),
     // R_AARCH64_TLSDESC_LD_PREL19
-    Some(row!(TlsDesc, bits!(2, 21, Ldr), signed 21, alignment: 4)),
+    Some(row!(TlsDesc, (2..21 AArch64::Ldr), signed 21, alignment: 4)),
     // R_AARCH64_TLSDESC_ADR_PREL21
-    Some(row!(TlsDesc, bits!(0, 21, Adr), signed 21)),
+    Some(row!(TlsDesc, (0..21 AArch64::Adr), signed 21)),
     // R_AARCH64_TLSDESC_ADR_PAGE21
-    Some(row!(TlsDesc, bits!(12, 33, Adr), signed 33, mask: Some(ENTRY_PAGES))),
+    Some(row!(TlsDesc, (12..33 AArch64::Adr), signed 33, mask: ENTRY_PAGES)),
     // R_AARCH64_TLSDESC_LD64_LO12
-    Some(row!(TlsDescGot, bits!(3, 12, LdrRegister), any, alignment: 8)),
+    Some(row!(TlsDescGot, (3..12 AArch64::LdrRegister), any, alignment: 8)),
     // R_AARCH64_TLSDESC_ADD_LO12
-    Some(row!(TlsDescGot, bits!(0, 12, Add), any)),
+    Some(row!(TlsDescGot, (0..12 AArch64::Add), any)),
     // R_AARCH64_TLSDESC_OFF_G1
-    Some(row!(TlsDescGotBase, bits!(16, 32, Movnz), signed 33)),
+    Some(row!(TlsDescGotBase, (16..32 AArch64::Movnz), signed 33)),
     // R_AARCH64_TLSDESC_OFF_G0_NC
-    Some(row!(TlsDescGotBase, bits!(0, 16, Movkz), any)),
+    Some(row!(TlsDescGotBase, (0..16 AArch64::Movkz), any)),
     // R_AARCH64_TLSDESC_CALL
-    Some(row!(TlsDescCall, bytes!(0), any)),
+    Some(row!(TlsDescCall, (0 bytes), any)),
     // Other
     None,
 ];
@@ -942,6 +920,15 @@ pub fn prepared_row(name: AArch64Relocation) -> Option<PreparedRow>
     ensures prepared { IfSome result IsPrepared }
 {
     prepared(ROWS[place(name)])
+}
+
+/// What a relocation means, in numbers.
+#[inline(always)]
+pub fn relocation_numbers(name: AArch64Relocation) -> Option<&'static RelocationNumbers>
+    ensures known { IfSome result (λ numbers. Some numbers.now ≡ in_numbers (aarch64_row name)) }
+    ensures unknown { IfNone result (in_numbers (aarch64_row name) ≡ None) }
+{
+    numbers(&ROWS[place(name)])
 }
 
 #[inline(always)]

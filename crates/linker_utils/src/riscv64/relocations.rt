@@ -1,6 +1,6 @@
 //! What the relocations of RISC-V mean.
 
-ghost use Rattle.std.specs.Prelude.{◌≡◌, ◌<◌, IfSome};
+ghost use Rattle.std.specs.Prelude.{◌≡◌, ◌<◌, IfSome, IfNone, Some, None};
 ghost use Rattle.linker_utils.specs.Agrees.{RowAgrees, RowFits};
 ghost use Rattle.linker_utils.specs.Readings.{RowReadsNoOther};
 ghost use Rattle.linker_utils.specs.RiscVRows.{riscv_row, clui_row, riscv_uleb128_role};
@@ -10,13 +10,11 @@ ghost use Rattle.linker_utils.specs.RiscVNames.{riscv_name};
 ghost use denote.Enum.Declared.{tag_of};
 ghost use Rattle.linker_utils.specs.contracts.riscv64.relocations.RiscVRelocation as names;
 ghost use Rattle.linker_utils.specs.Prepared.{row_in, IsPrepared};
+ghost use Rattle.linker_utils.specs.Numbers.{numbers_of, in_numbers};
+ghost use Rattle.linker_utils.specs.Inner.RowTables.{prepared_of, prepared_entry, numbers_in};
 
-use crate::bit_misc::BitRange;
-use crate::elf::rows::{TableRow, bytes, prepared, row};
-use crate::elf::{
-    PreparedRow, RelocationInstruction, RelocationKindInfo, RelocationSize, RiscVInstruction,
-    Uleb128Role,
-};
+use crate::elf::rows::{TableRow, numbers, prepared, row};
+use crate::elf::{PreparedRow, RelocationKindInfo, RelocationNumbers, Uleb128Role};
 use std::fmt;
 
 /// The relocations of RISC-V, by their names in the RISC-V ELF psABI, "Relocations". `from_elf`
@@ -265,50 +263,49 @@ impl RiscVRelocation {
     }
 }
 
-/// Bits of the value, from the first up, below the end, into an instruction.
-macro_rules! bits {
-    ($start:literal, $end:literal, $form:ident) => {
-        RelocationSize::BitMasking {
-            range: BitRange {
-                start: $start,
-                end: $end,
-            },
-            insn: RelocationInstruction::RiscV(RiscVInstruction::$form),
-        }
-    };
-}
-
 /// A part of a value, or both, of a pair: `row!` of the value's first bits. The low part is signed,
 /// so the pair reaches 0x800 less than 32 signed bits.
 macro_rules! pair {
     ($kind:ident, $end:literal, $form:ident) => {
         row!(
-            $kind, bits!(0, $end, $form), signed_or_unsigned 32 reach -0x80000800, 0x7ffff800
+            $kind, (0..$end RiscV::$form), signed_or_unsigned 32 reach -0x80000800, 0x7ffff800
         )
     };
+}
+
+fn clui_entry() -> TableRow
+    ensures row { (prepared_of result).row ≡ clui_row }
+    ensures numbers { result.numbers ≡ numbers_of clui_row }
+{
+    row!(Absolute, (0..32 RiscV::CluiType), signed_or_unsigned 32 reach -0x20800, 0x1f800)
 }
 
 /// What `R_RISCV_HI20` means once its `lui` has become a `c.lui`.
 pub(super) fn clui_info() -> RelocationKindInfo
     ensures { result ≡ clui_row }
 {
-    row!(Absolute, bits!(0, 32, CluiType), signed_or_unsigned 32 reach -0x20800, 0x1f800)
-        .prepared()
-        .row
+    clui_entry().prepared().row
+}
+
+/// What `R_RISCV_HI20` means once its `lui` has become a `c.lui`, in numbers.
+pub fn clui_numbers() -> RelocationNumbers
+    ensures { result ≡ numbers_of clui_row }
+{
+    clui_entry().numbers
 }
 
 /// By the names' places in their enum. The last one is that of `Other`.
 static ROWS: [Option<TableRow>; 47] = [
     // R_RISCV_NONE
-    Some(row!(None, bytes!(0), any)),
+    Some(row!(None, (0 bytes), any)),
     // R_RISCV_32
-    Some(row!(Absolute, bytes!(4), signed_or_unsigned 32)),
+    Some(row!(Absolute, (4 bytes), signed_or_unsigned 32)),
     // R_RISCV_64
-    Some(row!(Absolute, bytes!(8), any)),
+    Some(row!(Absolute, (8 bytes), any)),
     // R_RISCV_BRANCH
-    Some(row!(Relative, bits!(0, 32, BType), within -4096, 4095, alignment: 2)),
+    Some(row!(Relative, (0..32 RiscV::BType), within -4096, 4095, alignment: 2)),
     // R_RISCV_JAL
-    Some(row!(Relative, bits!(0, 32, JType), within -1048576, 1048575, alignment: 2)),
+    Some(row!(Relative, (0..32 RiscV::JType), within -1048576, 1048575, alignment: 2)),
     // R_RISCV_CALL
     Some(pair!(PltRelative, 64, UiType)),
     // R_RISCV_CALL_PLT
@@ -338,51 +335,51 @@ static ROWS: [Option<TableRow>; 47] = [
     // R_RISCV_TPREL_LO12_S
     Some(pair!(TpOff, 32, SType)),
     // R_RISCV_TPREL_ADD
-    Some(row!(None, bytes!(0), any)),
+    Some(row!(None, (0 bytes), any)),
     // R_RISCV_ADD8
-    Some(row!(AbsoluteAddition, bytes!(1), any)),
+    Some(row!(AbsoluteAddition, (1 bytes), any)),
     // R_RISCV_ADD16
-    Some(row!(AbsoluteAddition, bytes!(2), any)),
+    Some(row!(AbsoluteAddition, (2 bytes), any)),
     // R_RISCV_ADD32
-    Some(row!(AbsoluteAddition, bytes!(4), any)),
+    Some(row!(AbsoluteAddition, (4 bytes), any)),
     // R_RISCV_ADD64
-    Some(row!(AbsoluteAddition, bytes!(8), any)),
+    Some(row!(AbsoluteAddition, (8 bytes), any)),
     // R_RISCV_SUB8
-    Some(row!(AbsoluteSubtraction, bytes!(1), any)),
+    Some(row!(AbsoluteSubtraction, (1 bytes), any)),
     // R_RISCV_SUB16
-    Some(row!(AbsoluteSubtraction, bytes!(2), any)),
+    Some(row!(AbsoluteSubtraction, (2 bytes), any)),
     // R_RISCV_SUB32
-    Some(row!(AbsoluteSubtraction, bytes!(4), any)),
+    Some(row!(AbsoluteSubtraction, (4 bytes), any)),
     // R_RISCV_SUB64
-    Some(row!(AbsoluteSubtraction, bytes!(8), any)),
+    Some(row!(AbsoluteSubtraction, (8 bytes), any)),
     // R_RISCV_GOT32_PCREL
-    Some(row!(GotRelative, bytes!(4), signed_or_unsigned 32)),
+    Some(row!(GotRelative, (4 bytes), signed_or_unsigned 32)),
     // R_RISCV_ALIGN
-    Some(row!(Alignment, bytes!(0), any)),
+    Some(row!(Alignment, (0 bytes), any)),
     // R_RISCV_RVC_BRANCH
-    Some(row!(Relative, bits!(0, 16, CbType), within -256, 255, alignment: 2)),
+    Some(row!(Relative, (0..16 RiscV::CbType), within -256, 255, alignment: 2)),
     // R_RISCV_RVC_JUMP
-    Some(row!(Relative, bits!(0, 16, CjType), within -2048, 2047, alignment: 2)),
+    Some(row!(Relative, (0..16 RiscV::CjType), within -2048, 2047, alignment: 2)),
     // R_RISCV_RELAX
-    Some(row!(None, bytes!(0), any)),
+    Some(row!(None, (0 bytes), any)),
     // R_RISCV_SUB6
-    Some(row!(AbsoluteSubtractionWord6, bytes!(1), any)),
+    Some(row!(AbsoluteSubtractionWord6, (1 bytes), any)),
     // R_RISCV_SET6
-    Some(row!(AbsoluteSetWord6, bytes!(1), any)),
+    Some(row!(AbsoluteSetWord6, (1 bytes), any)),
     // R_RISCV_SET8
-    Some(row!(AbsoluteSet, bytes!(1), any)),
+    Some(row!(AbsoluteSet, (1 bytes), any)),
     // R_RISCV_SET16
-    Some(row!(AbsoluteSet, bytes!(2), any)),
+    Some(row!(AbsoluteSet, (2 bytes), any)),
     // R_RISCV_SET32
-    Some(row!(AbsoluteSet, bytes!(4), any)),
+    Some(row!(AbsoluteSet, (4 bytes), any)),
     // R_RISCV_32_PCREL
-    Some(row!(Relative, bytes!(4), signed_or_unsigned 32)),
+    Some(row!(Relative, (4 bytes), signed_or_unsigned 32)),
     // R_RISCV_PLT32
-    Some(row!(PltRelative, bytes!(4), signed_or_unsigned 32)),
+    Some(row!(PltRelative, (4 bytes), signed_or_unsigned 32)),
     // R_RISCV_SET_ULEB128
-    Some(row!(Relative, bytes!(0), any)),
+    Some(row!(Relative, (0 bytes), any)),
     // R_RISCV_SUB_ULEB128
-    Some(row!(PairSubtractionULEB128RiscV, bytes!(8), any)),
+    Some(row!(PairSubtractionULEB128RiscV, (8 bytes), any)),
     // R_RISCV_TLSDESC_HI20
     None,
     // R_RISCV_TLSDESC_LOAD_LO12
@@ -483,6 +480,15 @@ pub fn prepared_row(name: RiscVRelocation) -> Option<PreparedRow>
     prepared(ROWS[place(name)])
 }
 
+/// What a relocation means, in numbers.
+#[inline(always)]
+pub fn relocation_numbers(name: RiscVRelocation) -> Option<&'static RelocationNumbers>
+    ensures known { IfSome result (λ numbers. Some numbers.now ≡ in_numbers (riscv_row name)) }
+    ensures unknown { IfNone result (in_numbers (riscv_row name) ≡ None) }
+{
+    numbers(&ROWS[place(name)])
+}
+
 #[inline(always)]
 fn row(name: RiscVRelocation) -> Option<RelocationKindInfo>
     ensures { result ≡ riscv_row name }
@@ -508,16 +514,35 @@ pub fn tls_descriptor_relocation(name: RiscVRelocation) -> Option<RelocationKind
     descriptor_row(name)
 }
 
+/// The same in numbers.
+pub fn tls_descriptor_numbers(name: RiscVRelocation) -> Option<RelocationNumbers>
+    ensures { result ≡ in_numbers (riscv_tls_descriptor_row name) }
+{
+    match descriptor_entry(name) {
+        Some(entry) => Some(entry.numbers),
+        None => None,
+    }
+}
+
 fn descriptor_row(name: RiscVRelocation) -> Option<RelocationKindInfo>
     ensures { result ≡ riscv_tls_descriptor_row name }
 {
-    let row = match name {
-        RiscVRelocation::R_RISCV_TLSDESC_HI20 => pair!(TlsDesc, 32, UType),
+    match prepared(descriptor_entry(name)) {
+        Some(prepared) => Some(prepared.row),
+        None => None,
+    }
+}
+
+fn descriptor_entry(name: RiscVRelocation) -> Option<TableRow>
+    ensures row { row_in (prepared_entry result) ≡ riscv_tls_descriptor_row name }
+    ensures numbers { numbers_in result ≡ in_numbers (riscv_tls_descriptor_row name) }
+{
+    match name {
+        RiscVRelocation::R_RISCV_TLSDESC_HI20 => Some(pair!(TlsDesc, 32, UType)),
         RiscVRelocation::R_RISCV_TLSDESC_LOAD_LO12 | RiscVRelocation::R_RISCV_TLSDESC_ADD_LO12 => {
-            pair!(TlsDesc, 32, IType)
+            Some(pair!(TlsDesc, 32, IType))
         }
-        RiscVRelocation::R_RISCV_TLSDESC_CALL => row!(TlsDescCall, bytes!(0), any),
-        _ => return None,
-    };
-    Some(row.prepared().row)
+        RiscVRelocation::R_RISCV_TLSDESC_CALL => Some(row!(TlsDescCall, (0 bytes), any)),
+        _ => None,
+    }
 }

@@ -1,4 +1,3 @@
-use Rattle.std.proofs.Common.{rules}
 use Rattle.linker_utils.proofs.RowTables.{prepared_from, loongarch_rows}
 use Rattle.linker_utils.proofs.RowsFit.{loongarch_fits}
 use Rattle.linker_utils.proofs.loongarch64.relocations.prepared_row.Goals as goal

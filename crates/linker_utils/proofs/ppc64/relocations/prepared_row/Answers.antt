@@ -1,4 +1,3 @@
-use Rattle.std.proofs.Common.{rules}
 use Rattle.linker_utils.proofs.RowTables.{prepared_from, ppc64_rows}
 use Rattle.linker_utils.proofs.RowsFit.{ppc64_fits}
 use Rattle.linker_utils.proofs.ppc64.relocations.prepared_row.Goals as goal

@@ -1,4 +1,3 @@
-use Rattle.std.proofs.Common.{rules}
 use Rattle.linker_utils.proofs.RowTables.{prepared_from, riscv_rows}
 use Rattle.linker_utils.proofs.RowsFit.{riscv_fits}
 use Rattle.linker_utils.proofs.riscv64.relocations.prepared_row.Goals as goal

@@ -17,4 +17,4 @@ returns-clause-fits c =
 pub returns-clause-others : goal.returns-clause-others
 returns-clause-others c =
     subst (λ o. IfSome o RowReadsNoOther) (sym c.descriptor_row.ensures)
-        (riscv_descriptors_read_no_other c.args.name)
+    (riscv_descriptors_read_no_other c.args.name)

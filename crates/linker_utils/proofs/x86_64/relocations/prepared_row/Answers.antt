@@ -1,4 +1,3 @@
-use Rattle.std.proofs.Common.{rules}
 use Rattle.linker_utils.proofs.RowTables.{prepared_from, x86_64_rows}
 use Rattle.linker_utils.proofs.RowsFit.{x86_64_fits}
 use Rattle.linker_utils.proofs.x86_64.relocations.prepared_row.Goals as goal

@@ -1,4 +1,4 @@
-use Rattle.std.proofs.Common.{rules, ◌≡◌, ◌≤ℤ◌, arith}
+use Rattle.std.proofs.Common.{rules, ◌≤ℤ◌, arith}
 use Rattle.std.proofs.lemmas.Int.{ints}
 use Rattle.linker_utils.specs.Relocate.{IsAccepted}
 use Rattle.linker_utils.proofs.Halves.{row_holds}

@@ -1,0 +1,71 @@
+-- A row's numbers are what C is promised of them.
+use Rattle.std.proofs.Common.{◌≡◌, ℕ, ℤ, refl, sym, subst, ap, unwrap_or, Option, Some, None, Ok}
+use Rattle.std.proofs.lemmas.Option.{none-some}
+use Rattle.linker_utils.specs.Numbers.{numbers_of, in_numbers, form_number, form_machine}
+use Rattle.linker_utils.specs.declared.elf.AArch64Instruction.{AArch64Instruction}
+use Rattle.linker_utils.specs.declared.elf.AArch64Instruction.TheVariants.{Adr}
+use Rattle.linker_utils.specs.declared.elf.RiscVInstruction.{RiscVInstruction}
+use Rattle.linker_utils.specs.declared.elf.RiscVInstruction.TheVariants.{UType}
+use Rattle.linker_utils.specs.declared.elf.LoongArch64Instruction.{LoongArch64Instruction}
+use Rattle.linker_utils.specs.declared.elf.LoongArch64Instruction.TheVariants.{Shift5}
+use Rattle.linker_utils.specs.declared.elf.Ppc64Instruction.{Ppc64Instruction}
+use Rattle.linker_utils.specs.declared.elf.Ppc64Instruction.TheVariants.{D}
+use Rattle.linker_utils.specs.declared.elf.RelocationInstruction.{RelocationInstruction}
+use Rattle.linker_utils.specs.declared.elf.RelocationInstruction.TheVariants.{AArch64, RiscV, LoongArch64, Ppc64}
+use Rattle.linker_utils.specs.declared.elf.RelocationKindInfo.{RelocationKindInfo}
+use Rattle.linker_utils.specs.declared.elf.RelocationSize.{RelocationSize}
+use Rattle.linker_utils.specs.declared.elf.RelocationSize.TheVariants.{ByteSize, BitMasking}
+use Rattle.linker_utils.specs.declared.elf.numbers.RelocationNumbers.{RelocationNumbers}
+use Rattle.linker_utils_c.specs.Forms.{named_form}
+use Rattle.linker_utils_c.specs.Relocations.{InNumbers, IsSize, IsRange, IsReturned}
+use Rattle.linker_utils_c.specs.Status.{code}
+use Rattle.linker_utils_c.specs.declared.status.Status.TheVariants.{Success}
+
+aarch64_named : (f : AArch64Instruction) → named_form (form_machine (AArch64 f)) (form_number (AArch64 f)) ≡ Ok (AArch64 f)
+aarch64_named Adr = refl
+aarch64_named f = refl
+
+riscv_named : (f : RiscVInstruction) → named_form (form_machine (RiscV f)) (form_number (RiscV f)) ≡ Ok (RiscV f)
+riscv_named UType = refl
+riscv_named f = refl
+
+loongarch_named : (f : LoongArch64Instruction) → named_form (form_machine (LoongArch64 f)) (form_number (LoongArch64 f)) ≡ Ok (LoongArch64 f)
+loongarch_named Shift5 = refl
+loongarch_named f = refl
+
+ppc64_named : (f : Ppc64Instruction) → named_form (form_machine (Ppc64 f)) (form_number (Ppc64 f)) ≡ Ok (Ppc64 f)
+ppc64_named D = refl
+ppc64_named f = refl
+
+form_named : (f : RelocationInstruction) → named_form (form_machine f) (form_number f) ≡ Ok f
+form_named (AArch64 f) = aarch64_named f
+form_named (RiscV f) = riscv_named f
+form_named (LoongArch64 f) = loongarch_named f
+form_named (Ppc64 f) = ppc64_named f
+
+size_is : (row : RelocationKindInfo) (size : RelocationSize) → row.size ≡ size → IsSize size (numbers_of row)
+size_is row (ByteSize n) is = rw is (refl, refl, refl, refl, refl, refl)
+size_is row (BitMasking bits insn) is = rw is (refl, refl, refl, refl, form_named insn)
+
+range_is : (row : RelocationKindInfo) (bounds : Option (ℤ × ℤ)) → row.range.bounds ≡ bounds → IsRange bounds (numbers_of row)
+range_is row None is = rw is (refl, refl, refl)
+range_is row (Some b) is = rw is (refl, refl, refl)
+
+pub are_numbers : (row : RelocationKindInfo) → InNumbers row (numbers_of row)
+are_numbers row =
+    record {
+      kind = refl;
+      size = size_is row row.size refl;
+      mask = refl;
+      range = range_is row row.range.bounds refl;
+      alignment = refl;
+      bias = refl;
+      thunkable = refl;
+      implicit_addend = refl;
+    }
+
+pub some_returned : (numbers before : RelocationNumbers) (meaning : Option RelocationKindInfo) (status : ℕ)
+    → Some numbers ≡ in_numbers meaning → status ≡ code Success → IsReturned meaning status before numbers
+some_returned numbers before None status is success = absurd (none-some numbers (sym is))
+some_returned numbers before (Some row) status is success =
+    (success, subst (λ n. InNumbers row n) (sym (ap (λ o. unwrap_or o numbers) is)) (are_numbers row))
