@@ -892,7 +892,7 @@ pub fn relocation_type_from_raw(name: AArch64Relocation) -> Option<RelocationKin
 /// What a relocation means, with the bounds of its reach.
 #[inline(always)]
 pub fn prepared_row(name: AArch64Relocation) -> Option<PreparedRow> {
-    prepared(ROWS[place(name)])
+    prepared(&ROWS[place(name)])
 }
 
 /// What a relocation means, in numbers.

@@ -21,8 +21,8 @@ pub(crate) struct TableRow {
 impl TableRow {
     /// The row, with the bounds of its reach.
     #[inline(always)]
-    pub(crate) fn prepared(self) -> PreparedRow {
-        let numbers = self.numbers;
+    pub(crate) fn prepared(&self) -> PreparedRow {
+        let numbers = &self.numbers;
         let bounds = if numbers.has_range == 1 {
             Some((numbers.min, numbers.max))
         } else {
@@ -47,7 +47,7 @@ impl TableRow {
 
 /// The row of a table's entry, if there is one.
 #[inline(always)]
-pub(crate) fn prepared(entry: Option<TableRow>) -> Option<PreparedRow> {
+pub(crate) fn prepared(entry: &Option<TableRow>) -> Option<PreparedRow> {
     match entry {
         Some(row) => Some(row.prepared()),
         None => None,

@@ -438,7 +438,7 @@ pub fn relocation_type_from_raw(name: RiscVRelocation) -> Option<RelocationKindI
 /// What a relocation means, with the bounds of its reach.
 #[inline(always)]
 pub fn prepared_row(name: RiscVRelocation) -> Option<PreparedRow> {
-    prepared(ROWS[place(name)])
+    prepared(&ROWS[place(name)])
 }
 
 /// What a relocation means, in numbers.
@@ -474,7 +474,7 @@ pub fn tls_descriptor_numbers(name: RiscVRelocation) -> Option<RelocationNumbers
 }
 
 fn descriptor_row(name: RiscVRelocation) -> Option<RelocationKindInfo> {
-    match prepared(descriptor_entry(name)) {
+    match prepared(&descriptor_entry(name)) {
         Some(prepared) => Some(prepared.row),
         None => None,
     }

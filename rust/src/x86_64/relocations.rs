@@ -348,7 +348,7 @@ pub fn relocation_from_raw(name: X86_64Relocation) -> Option<RelocationKindInfo>
 /// What a relocation means, with the bounds of its reach.
 #[inline(always)]
 pub fn prepared_row(name: X86_64Relocation) -> Option<PreparedRow> {
-    prepared(ROWS[place(name)])
+    prepared(&ROWS[place(name)])
 }
 
 /// What a relocation means, in numbers.

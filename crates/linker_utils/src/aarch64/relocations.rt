@@ -919,7 +919,7 @@ pub fn prepared_row(name: AArch64Relocation) -> Option<PreparedRow>
     ensures row { row_in result ≡ aarch64_row name }
     ensures prepared { IfSome result IsPrepared }
 {
-    prepared(ROWS[place(name)])
+    prepared(&ROWS[place(name)])
 }
 
 /// What a relocation means, in numbers.

@@ -23,10 +23,10 @@ pub(crate) struct TableRow {
 impl TableRow {
     /// The row, with the bounds of its reach.
     #[inline(always)]
-    pub(crate) fn prepared(self) -> PreparedRow
-        ensures { result ≡ prepared_of self }
+    pub(crate) fn prepared(&self) -> PreparedRow
+        ensures { result ≡ prepared_of self.now }
     {
-        let numbers = self.numbers;
+        let numbers = &self.numbers;
         let bounds = if numbers.has_range == 1 {
             Some((numbers.min, numbers.max))
         } else {
@@ -51,8 +51,8 @@ impl TableRow {
 
 /// The row of a table's entry, if there is one.
 #[inline(always)]
-pub(crate) fn prepared(entry: Option<TableRow>) -> Option<PreparedRow>
-    ensures { result ≡ prepared_entry entry }
+pub(crate) fn prepared(entry: &Option<TableRow>) -> Option<PreparedRow>
+    ensures { result ≡ prepared_entry entry.now }
 {
     match entry {
         Some(row) => Some(row.prepared()),

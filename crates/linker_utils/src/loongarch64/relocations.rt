@@ -615,7 +615,7 @@ pub fn prepared_row(name: LoongArch64Relocation) -> Option<PreparedRow>
     ensures row { row_in result ≡ loongarch_row name }
     ensures prepared { IfSome result IsPrepared }
 {
-    prepared(ROWS[place(name)])
+    prepared(&ROWS[place(name)])
 }
 
 /// What a relocation means, in numbers.

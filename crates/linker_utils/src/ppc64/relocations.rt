@@ -470,7 +470,7 @@ pub fn prepared_row(name: Ppc64Relocation) -> Option<PreparedRow>
     ensures row { row_in result ≡ ppc64_row name }
     ensures prepared { IfSome result IsPrepared }
 {
-    prepared(ROWS[place(name)])
+    prepared(&ROWS[place(name)])
 }
 
 /// What a relocation means, in numbers.

@@ -477,7 +477,7 @@ pub fn prepared_row(name: RiscVRelocation) -> Option<PreparedRow>
     ensures row { row_in result ≡ riscv_row name }
     ensures prepared { IfSome result IsPrepared }
 {
-    prepared(ROWS[place(name)])
+    prepared(&ROWS[place(name)])
 }
 
 /// What a relocation means, in numbers.
@@ -527,7 +527,7 @@ pub fn tls_descriptor_numbers(name: RiscVRelocation) -> Option<RelocationNumbers
 fn descriptor_row(name: RiscVRelocation) -> Option<RelocationKindInfo>
     ensures { result ≡ riscv_tls_descriptor_row name }
 {
-    match prepared(descriptor_entry(name)) {
+    match prepared(&descriptor_entry(name)) {
         Some(prepared) => Some(prepared.row),
         None => None,
     }

@@ -370,7 +370,7 @@ pub fn prepared_row(name: X86_64Relocation) -> Option<PreparedRow>
     ensures row { row_in result ≡ x86_64_row name }
     ensures prepared { IfSome result IsPrepared }
 {
-    prepared(ROWS[place(name)])
+    prepared(&ROWS[place(name)])
 }
 
 /// What a relocation means, in numbers.
