@@ -2,7 +2,7 @@
 //! same and leave the same behind.
 
 use crate::*;
-use linker_utils::elf::Operands;
+use linker_utils::elf::{Operands, RelocationNumbers};
 use linker_utils::relaxation::{BlockHead, RelaxDelta};
 // It links the static library.
 use sathunne as _;
@@ -208,6 +208,10 @@ macro_rules! fields {
 fields! { RelaxDelta: input_offset, bytes_deleted, cumulative_deleted, }
 fields! { BlockHead: input_offset, output_place, }
 fields! { Operands: symbol, addend, place, got_entry, got_base, plt_entry, symbol_size, tls_base, }
+fields! {
+    RelocationNumbers: kind, form, mask, machine, is_bits, byte_size, first_bit, end_bit,
+    has_range, thunkable, implicit_addend, min, max, alignment, bias,
+}
 
 macro_rules! compare {
     ($module:ident, $name:ident, [$($c:tt)*] -> $result:ty, |$random:ident| { $($made:tt)* },
