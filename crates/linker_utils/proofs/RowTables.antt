@@ -4,7 +4,7 @@ use Rattle.std.proofs.Common.{◌≡◌, refl, subst, sym, slice_index_or, Optio
 use denote.Enum.Declared.{tag_of}
 use Rattle.linker_utils.specs.Agrees.{RowFits}
 use Rattle.linker_utils.specs.Prepared.{IsPrepared}
-use Rattle.linker_utils.specs.Inner.RowTables.{IsEntryOf, limits_in, limits_of, prepared_entry}
+use Rattle.linker_utils.specs.Inner.RowTables.{IsEntryOf, tests_in, tests_of, prepared_entry}
 use Rattle.linker_utils.specs.declared.elf.RelocationKindInfo.{RelocationKindInfo}
 use Rattle.linker_utils.specs.declared.elf.rows.TableRow.{TableRow}
 use Rattle.linker_utils.specs.AArch64Rows.{aarch64_row}
@@ -35,36 +35,38 @@ use Rattle.linker_utils.specs.declared.x86_64.relocations.X86_64Relocation.TheVa
 
 pub aarch64_rows : (name : AArch64Relocation)
     → IsEntryOf (aarch64_row name) (slice_index_or aarch64_table.ROWS (tag_of aarch64.the_type name) None)
-aarch64_rows R_AARCH64_NONE = record { row_is = refl; limits_are = refl; numbers_are = refl }
-aarch64_rows name = record { row_is = refl; limits_are = refl; numbers_are = refl }
+aarch64_rows R_AARCH64_NONE = record { row_is = refl; tests_are = refl; numbers_are = refl }
+aarch64_rows name = record { row_is = refl; tests_are = refl; numbers_are = refl }
 
 pub riscv_rows : (name : RiscVRelocation)
     → IsEntryOf (riscv_row name) (slice_index_or riscv64_table.ROWS (tag_of riscv64.the_type name) None)
-riscv_rows R_RISCV_NONE = record { row_is = refl; limits_are = refl; numbers_are = refl }
-riscv_rows name = record { row_is = refl; limits_are = refl; numbers_are = refl }
+riscv_rows R_RISCV_NONE = record { row_is = refl; tests_are = refl; numbers_are = refl }
+riscv_rows name = record { row_is = refl; tests_are = refl; numbers_are = refl }
 
 pub loongarch_rows : (name : LoongArch64Relocation)
     → IsEntryOf (loongarch_row name) (slice_index_or loongarch64_table.ROWS (tag_of loongarch64.the_type name) None)
-loongarch_rows R_LARCH_NONE = record { row_is = refl; limits_are = refl; numbers_are = refl }
-loongarch_rows name = record { row_is = refl; limits_are = refl; numbers_are = refl }
+loongarch_rows R_LARCH_NONE = record { row_is = refl; tests_are = refl; numbers_are = refl }
+loongarch_rows name = record { row_is = refl; tests_are = refl; numbers_are = refl }
 
 pub ppc64_rows : (name : Ppc64Relocation)
     → IsEntryOf (ppc64_row name) (slice_index_or ppc64_table.ROWS (tag_of ppc64.the_type name) None)
-ppc64_rows R_PPC64_TLS = record { row_is = refl; limits_are = refl; numbers_are = refl }
-ppc64_rows name = record { row_is = refl; limits_are = refl; numbers_are = refl }
+ppc64_rows R_PPC64_TLS = record { row_is = refl; tests_are = refl; numbers_are = refl }
+ppc64_rows name = record { row_is = refl; tests_are = refl; numbers_are = refl }
 
 pub x86_64_rows : (name : X86_64Relocation)
     → IsEntryOf (x86_64_row name) (slice_index_or x86_64_table.ROWS (tag_of x86_64.the_type name) None)
-x86_64_rows R_X86_64_NONE = record { row_is = refl; limits_are = refl; numbers_are = refl }
-x86_64_rows name = record { row_is = refl; limits_are = refl; numbers_are = refl }
+x86_64_rows R_X86_64_NONE = record { row_is = refl; tests_are = refl; numbers_are = refl }
+x86_64_rows name = record { row_is = refl; tests_are = refl; numbers_are = refl }
 
 pub prepared_from : (row : Option RelocationKindInfo) (entry : Option TableRow) → IsEntryOf row entry
     → IfSome row RowFits → IfSome (prepared_entry entry) IsPrepared
 prepared_from row None is fits = tt
 prepared_from row (Some entry) is fits =
-    let limits = subst (λ r. limits_in (prepared_entry (Some entry)) ≡ limits_of r) (sym is.row_is) is.limits_are in
+    let tests = subst (λ r. tests_in (prepared_entry (Some entry)) ≡ tests_of r) (sym is.row_is) is.tests_are in
     record {
-      least = subst (λ z. entry.least ≡ z.0) limits refl;
-      last = subst (λ z. entry.last ≡ z.1) limits refl;
+      supported = subst (λ t. entry.is_supported ≡ t.is_supported) tests refl;
+      window = subst (λ t. entry.window ≡ t.window) tests refl;
+      least = subst (λ t. entry.least ≡ t.least) tests refl;
+      last = subst (λ t. entry.last ≡ t.last) tests refl;
       fits = subst (λ r. IfSome r RowFits) (sym is.row_is) fits;
     }

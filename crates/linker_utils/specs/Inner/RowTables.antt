@@ -1,21 +1,38 @@
 -- Entries of the tables of rows.
-use Rattle.std.specs.Prelude.{◌≡◌, Option, Some, None, ℤ, pos, if◌then◌else◌, ◌==◌, false}
+use Rattle.std.specs.Prelude.{◌≡◌, Option, Some, None, Bool, ℕ, ℤ, pos, if◌then◌else◌, ◌==◌, false}
 use Rattle.linker_utils.specs.Prepared.{least_within, last_within, row_in}
 use Rattle.linker_utils.specs.Numbers.{in_numbers}
 use Rattle.linker_utils.specs.Reach.{reach_of}
+use Rattle.linker_utils.specs.Relocate.{is_supported, window_len}
 use Rattle.linker_utils.specs.declared.elf.RelocationKindInfo.{RelocationKindInfo}
 use Rattle.linker_utils.specs.declared.elf.numbers.RelocationNumbers.{RelocationNumbers}
 use Rattle.linker_utils.specs.declared.elf.prepared.PreparedRow.{PreparedRow}
 use Rattle.linker_utils.specs.declared.elf.rows.TableRow.{TableRow}
 
--- the bounds of a row's reach, or 0 and 0
-abbrev pub limits_of : Option RelocationKindInfo → ℤ × ℤ
-limits_of None = (pos 0, pos 0)
-limits_of (Some row) = (least_within (reach_of row), last_within (reach_of row))
+-- what a write of a row tests, or 0 without a row
+pub record Tests : Type 0 where
+  pub is_supported : Bool
+  pub window : ℕ
+  pub least : ℤ
+  pub last : ℤ
 
-abbrev pub limits_in : Option PreparedRow → ℤ × ℤ
-limits_in None = (pos 0, pos 0)
-limits_in (Some prepared) = (prepared.least, prepared.last)
+abbrev pub tests_of : Option RelocationKindInfo → Tests
+tests_of None = record { is_supported = false; window = 0; least = pos 0; last = pos 0 }
+tests_of (Some row) = record {
+  is_supported = is_supported row;
+  window = window_len row;
+  least = least_within (reach_of row);
+  last = last_within (reach_of row);
+}
+
+abbrev pub tests_in : Option PreparedRow → Tests
+tests_in None = record { is_supported = false; window = 0; least = pos 0; last = pos 0 }
+tests_in (Some prepared) = record {
+  is_supported = prepared.is_supported;
+  window = prepared.window;
+  least = prepared.least;
+  last = prepared.last;
+}
 
 abbrev pub prepared_of : TableRow → PreparedRow
 prepared_of entry =
@@ -32,6 +49,8 @@ prepared_of entry =
         thunkable = entry.numbers.thunkable == 1;
         implicit_addend = false;
       };
+      is_supported = entry.is_supported;
+      window = entry.window;
       least = entry.least;
       last = entry.last;
     }
@@ -44,8 +63,8 @@ abbrev pub numbers_in : Option TableRow → Option RelocationNumbers
 numbers_in None = None
 numbers_in (Some entry) = Some entry.numbers
 
--- the entry is the row, with the bounds of its reach and its numbers
+-- the entry is the row, with what a write of it tests and with its numbers
 pub record IsEntryOf (row : Option RelocationKindInfo) (entry : Option TableRow) : Type 0 where
   pub row_is : row_in (prepared_entry entry) ≡ row
-  pub limits_are : limits_in (prepared_entry entry) ≡ limits_of row
+  pub tests_are : tests_in (prepared_entry entry) ≡ tests_of row
   pub numbers_are : numbers_in entry ≡ in_numbers row

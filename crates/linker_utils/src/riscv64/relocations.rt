@@ -471,7 +471,7 @@ pub fn relocation_type_from_raw(name: RiscVRelocation) -> Option<RelocationKindI
     row(name)
 }
 
-/// What a relocation means, with the bounds of its reach.
+/// What a relocation means, with what a write of it tests.
 #[inline(always)]
 pub fn prepared_row(name: RiscVRelocation) -> Option<PreparedRow>
     ensures row { row_in result ≡ riscv_row name }

@@ -364,7 +364,7 @@ pub fn relocation_from_raw(name: X86_64Relocation) -> Option<RelocationKindInfo>
     row(name)
 }
 
-/// What a relocation means, with the bounds of its reach.
+/// What a relocation means, with what a write of it tests.
 #[inline(always)]
 pub fn prepared_row(name: X86_64Relocation) -> Option<PreparedRow>
     ensures row { row_in result ≡ x86_64_row name }
