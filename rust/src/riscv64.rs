@@ -15,7 +15,7 @@ pub use calls::{
     jal_site, jal_site_with, relax_call, relax_call_over,
 };
 pub use relocations::{
-    RiscVRelocation, clui_numbers, prepared_row, relocation_numbers, relocation_type_from_raw,
-    tls_descriptor_numbers, tls_descriptor_relocation,
+    RiscVRelocation, clui_numbers, prepared_row, prepared_tls_descriptor_row, relocation_numbers,
+    relocation_type_from_raw, tls_descriptor_numbers, tls_descriptor_relocation,
 };
 pub use rewrites::RelaxationKind;

@@ -4,7 +4,7 @@ use Rattle.std.proofs.Common.{◌≡◌, refl, subst, sym, slice_index_or, Optio
 use denote.Enum.Declared.{tag_of}
 use Rattle.linker_utils.specs.Agrees.{RowFits}
 use Rattle.linker_utils.specs.Prepared.{IsPrepared}
-use Rattle.linker_utils.specs.Inner.RowTables.{IsEntryOf, tests_in, tests_of, prepared_entry}
+use Rattle.linker_utils.specs.Inner.RowTables.{IsEntryOf, tls_descriptor_place, tests_in, tests_of, prepared_entry}
 use Rattle.linker_utils.specs.declared.elf.RelocationKindInfo.{RelocationKindInfo}
 use Rattle.linker_utils.specs.declared.elf.rows.TableRow.{TableRow}
 use Rattle.linker_utils.specs.AArch64Rows.{aarch64_row}
@@ -12,7 +12,7 @@ use Rattle.linker_utils.specs.contracts.aarch64.relocations.AArch64Relocation as
 use Rattle.linker_utils.specs.declared.aarch64.relocations.TheConstants as aarch64_table
 use Rattle.linker_utils.specs.declared.aarch64.relocations.AArch64Relocation.{AArch64Relocation}
 use Rattle.linker_utils.specs.declared.aarch64.relocations.AArch64Relocation.TheVariants.{R_AARCH64_NONE}
-use Rattle.linker_utils.specs.RiscVRows.{riscv_row}
+use Rattle.linker_utils.specs.RiscVRows.{riscv_row, riscv_tls_descriptor_row}
 use Rattle.linker_utils.specs.contracts.riscv64.relocations.RiscVRelocation as riscv64
 use Rattle.linker_utils.specs.declared.riscv64.relocations.TheConstants as riscv64_table
 use Rattle.linker_utils.specs.declared.riscv64.relocations.RiscVRelocation.{RiscVRelocation}
@@ -42,6 +42,11 @@ pub riscv_rows : (name : RiscVRelocation)
     → IsEntryOf (riscv_row name) (slice_index_or riscv64_table.ROWS (tag_of riscv64.the_type name) None)
 riscv_rows R_RISCV_NONE = record { row_is = refl; tests_are = refl; numbers_are = refl }
 riscv_rows name = record { row_is = refl; tests_are = refl; numbers_are = refl }
+
+pub tls_descriptor_rows : (name : RiscVRelocation)
+    → IsEntryOf (riscv_tls_descriptor_row name) (slice_index_or riscv64_table.TLS_DESCRIPTOR_ROWS (tls_descriptor_place name) None)
+tls_descriptor_rows R_RISCV_NONE = record { row_is = refl; tests_are = refl; numbers_are = refl }
+tls_descriptor_rows name = record { row_is = refl; tests_are = refl; numbers_are = refl }
 
 pub loongarch_rows : (name : LoongArch64Relocation)
     → IsEntryOf (loongarch_row name) (slice_index_or loongarch64_table.ROWS (tag_of loongarch64.the_type name) None)

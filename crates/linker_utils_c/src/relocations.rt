@@ -57,10 +57,7 @@ pub(crate) fn prepared_riscv_meaning_of(name: RiscVRelocation) -> Option<Prepare
 {
     match riscv64::prepared_row(name) {
         Some(row) => Some(row),
-        None => match riscv64::tls_descriptor_relocation(name) {
-            Some(row) => Some(PreparedRow::of(row)),
-            None => None,
-        },
+        None => riscv64::prepared_tls_descriptor_row(name),
     }
 }
 
@@ -132,7 +129,7 @@ pub extern "C" fn linker_utils_tls_descriptor_relocation(
 {
     match riscv64::tls_descriptor_numbers(RiscVRelocation::from_elf(r_type)) {
         Some(numbers) => {
-            *info = numbers;
+            *info = *numbers;
             Status::Success.number()
         }
         None => Status::UnknownRelocation.number(),

@@ -39,10 +39,7 @@ fn riscv_meaning_of(name: RiscVRelocation) -> Option<RelocationKindInfo> {
 pub(crate) fn prepared_riscv_meaning_of(name: RiscVRelocation) -> Option<PreparedRow> {
     match riscv64::prepared_row(name) {
         Some(row) => Some(row),
-        None => match riscv64::tls_descriptor_relocation(name) {
-            Some(row) => Some(PreparedRow::of(row)),
-            None => None,
-        },
+        None => riscv64::prepared_tls_descriptor_row(name),
     }
 }
 
@@ -96,7 +93,7 @@ pub fn linker_utils_tls_descriptor_relocation(
 ) -> u32 {
     match riscv64::tls_descriptor_numbers(RiscVRelocation::from_elf(r_type)) {
         Some(numbers) => {
-            *info = numbers;
+            *info = *numbers;
             Status::Success.number()
         }
         None => Status::UnknownRelocation.number(),

@@ -889,7 +889,7 @@ pub fn relocation_type_from_raw(name: AArch64Relocation) -> Option<RelocationKin
     row(name)
 }
 
-/// What a relocation means, with the bounds of its reach.
+/// What a relocation means, with what a write of it tests.
 #[inline(always)]
 pub fn prepared_row(name: AArch64Relocation) -> Option<PreparedRow> {
     prepared(&ROWS[place(name)])

@@ -3,7 +3,7 @@
 
 /// What a relocation means, in numbers.
 #[repr(C)]
-#[derive(Debug, Clone, Copy, PartialEq, Eq)]
+#[derive(Clone, Copy)]
 pub struct RelocationNumbers {
     /// What its value is computed from: the place of the kind in the enum `RelocationKind`.
     pub kind: u32,

@@ -1,18 +1,22 @@
 // Made by tools/erase of crates/linker_utils/src/elf/prepared.rt.
-//! Rows with the bounds of their reach.
+//! Rows with what a write of them tests.
 
 use crate::elf::relocate::{write_bits, write_bytes};
 use crate::elf::{AllowedRange, RelocateError, RelocationKindInfo, RelocationSize};
 
-/// A row of the relocation tables, with the least and the last value within its `reach`. Each
-/// architecture's `prepared_row` returns it for a name, and `of` for a row.
+/// A row of the relocation tables, with what its `write` tests. Each architecture's `prepared_row`
+/// returns it for a name, and `of` for a row.
 #[derive(Clone, Copy)]
 pub struct PreparedRow {
     /// What the relocation means.
     pub row: RelocationKindInfo,
-    /// The least value within reach; `i64::MAX` if there is none.
+    /// Whether the relocation can be written: not one of a pair that computes a ULEB128 number.
+    pub is_supported: bool,
+    /// How many bytes a write writes.
+    pub window: usize,
+    /// The least value within the row's `reach`; `i64::MAX` if there is none.
     pub least: i64,
-    /// The last value within reach; `i64::MIN` if there is none.
+    /// The last value within the row's `reach`; `i64::MIN` if there is none.
     pub last: i64,
 }
 
@@ -47,14 +51,16 @@ impl PreparedRow {
         let reach = row.reach();
         PreparedRow {
             row,
+            is_supported: row.is_supported(),
+            window: row.window(),
             least: reach.least(),
             last: reach.last(),
         }
     }
 
-    /// What `RelocationKindInfo::write` of the row does, with its errors. Requires that `least` and
-    /// `last` are the bounds of the row's `reach`, and that its bits fit its instruction: `prepared_row`
-    /// and `of` return such rows.
+    /// What `RelocationKindInfo::write` of the row does, with its errors. Requires that the other
+    /// fields are those of the row, and that its bits fit its instruction: `prepared_row` and `of`
+    /// return such rows.
     ///
     /// # Requires
     ///
@@ -62,10 +68,10 @@ impl PreparedRow {
     #[inline(always)]
     pub fn write(&self, value: i64, dest: &mut [u8]) -> Result<(), RelocateError> {
         let row = self.row;
-        if !row.is_supported() {
+        if !self.is_supported {
             return Err(RelocateError::Unsupported);
         }
-        if dest.len() < row.window() {
+        if dest.len() < self.window {
             return Err(RelocateError::TooShort);
         }
         if !row.is_aligned(value) {

@@ -1,6 +1,6 @@
 // Made by tools/erase of crates/linker_utils/src/elf/rows.rt.
-//! Rows of the relocation tables as data, with the bounds of their reach and in numbers. So a row is
-//! a load, and no jump that a processor has to foresee.
+//! Rows of the relocation tables as data, with what a write tests and in numbers. So a row is a load,
+//! and no jump that a processor has to foresee.
 
 use crate::elf::{
     AllowedRange, Bias, PageMask, PreparedRow, RelocationKind, RelocationKindInfo,
@@ -14,12 +14,14 @@ pub(crate) struct TableRow {
     pub(crate) size: RelocationSize,
     pub(crate) mask: Option<PageMask>,
     pub(crate) numbers: RelocationNumbers,
+    pub(crate) is_supported: bool,
+    pub(crate) window: usize,
     pub(crate) least: i64,
     pub(crate) last: i64,
 }
 
 impl TableRow {
-    /// The row, with the bounds of its reach.
+    /// The row, with what a write of it tests.
     #[inline(always)]
     pub(crate) fn prepared(&self) -> PreparedRow {
         let numbers = &self.numbers;
@@ -39,6 +41,8 @@ impl TableRow {
                 thunkable: numbers.thunkable == 1,
                 implicit_addend: false,
             },
+            is_supported: self.is_supported,
+            window: self.window,
             least: self.least,
             last: self.last,
         }
@@ -135,6 +139,27 @@ macro_rules! number {
     (bias $bias:expr) => { $bias };
 }
 
+/// Whether `write` takes rows of a kind and a size: not those of ULEB128 numbers.
+macro_rules! is_supported {
+    (Relative, (0 bytes)) => { false };
+    (PairSubtractionULEB128RiscV, $size:tt) => { false };
+    (PairSubtractionULEB128LoongArch, $size:tt) => { false };
+    ($kind:ident, $size:tt) => { true };
+}
+
+/// How many bytes a row writes.
+macro_rules! window {
+    (($bytes:literal bytes)) => { $bytes };
+    (($start:literal .. $end:literal RiscV :: CbType)) => { 2 };
+    (($start:literal .. $end:literal RiscV :: CjType)) => { 2 };
+    (($start:literal .. $end:literal RiscV :: CluiType)) => { 2 };
+    (($start:literal .. $end:literal RiscV :: UiType)) => { 8 };
+    (($start:literal .. $end:literal LoongArch64 :: Call30)) => { 8 };
+    (($start:literal .. $end:literal LoongArch64 :: Call36)) => { 8 };
+    (($start:literal .. $end:literal Ppc64 :: Prefixed)) => { 8 };
+    (($start:literal .. $end:literal $architecture:ident :: $form:ident)) => { 4 };
+}
+
 /// Which addresses of a row are cut to their pages of 4 KiB.
 macro_rules! mask {
     () => { None };
@@ -225,6 +250,8 @@ macro_rules! row {
                 alignment: $crate::elf::rows::number!(alignment $($alignment)?),
                 bias: $crate::elf::rows::number!(bias $($bias)?),
             },
+            is_supported: $crate::elf::rows::is_supported!($kind, $size),
+            window: $crate::elf::rows::window!($size),
             least: $least,
             last: $last,
         }
@@ -232,7 +259,9 @@ macro_rules! row {
 }
 
 pub(crate) use insn;
+pub(crate) use is_supported;
 pub(crate) use mask;
 pub(crate) use number;
 pub(crate) use row;
 pub(crate) use size;
+pub(crate) use window;

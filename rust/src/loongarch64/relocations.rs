@@ -582,7 +582,7 @@ pub fn relocation_type_from_raw(name: LoongArch64Relocation) -> Option<Relocatio
     row(name)
 }
 
-/// What a relocation means, with the bounds of its reach.
+/// What a relocation means, with what a write of it tests.
 #[inline(always)]
 pub fn prepared_row(name: LoongArch64Relocation) -> Option<PreparedRow> {
     prepared(&ROWS[place(name)])

@@ -440,7 +440,7 @@ pub fn relocation_type_from_raw(name: Ppc64Relocation) -> Option<RelocationKindI
     row(name)
 }
 
-/// What a relocation means, with the bounds of its reach.
+/// What a relocation means, with what a write of it tests.
 #[inline(always)]
 pub fn prepared_row(name: Ppc64Relocation) -> Option<PreparedRow> {
     prepared(&ROWS[place(name)])

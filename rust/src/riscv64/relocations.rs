@@ -435,7 +435,7 @@ pub fn relocation_type_from_raw(name: RiscVRelocation) -> Option<RelocationKindI
     row(name)
 }
 
-/// What a relocation means, with the bounds of its reach.
+/// What a relocation means, with what a write of it tests.
 #[inline(always)]
 pub fn prepared_row(name: RiscVRelocation) -> Option<PreparedRow> {
     prepared(&ROWS[place(name)])
@@ -465,28 +465,39 @@ pub fn tls_descriptor_relocation(name: RiscVRelocation) -> Option<RelocationKind
     descriptor_row(name)
 }
 
+/// The same, with what a write of it tests.
+#[inline(always)]
+pub fn prepared_tls_descriptor_row(name: RiscVRelocation) -> Option<PreparedRow> {
+    prepared(&TLS_DESCRIPTOR_ROWS[tls_descriptor_place(name)])
+}
+
 /// The same in numbers.
-pub fn tls_descriptor_numbers(name: RiscVRelocation) -> Option<RelocationNumbers> {
-    match descriptor_entry(name) {
-        Some(entry) => Some(entry.numbers),
-        None => None,
-    }
+#[inline(always)]
+pub fn tls_descriptor_numbers(name: RiscVRelocation) -> Option<&'static RelocationNumbers> {
+    numbers(&TLS_DESCRIPTOR_ROWS[tls_descriptor_place(name)])
 }
 
 fn descriptor_row(name: RiscVRelocation) -> Option<RelocationKindInfo> {
-    match prepared(&descriptor_entry(name)) {
+    match prepared_tls_descriptor_row(name) {
         Some(prepared) => Some(prepared.row),
         None => None,
     }
 }
 
-fn descriptor_entry(name: RiscVRelocation) -> Option<TableRow> {
+/// By `tls_descriptor_place`. The last one is that of all names without such a row.
+static TLS_DESCRIPTOR_ROWS: [Option<TableRow>; 4] = [
+    Some(pair!(TlsDesc, 32, UType)),
+    Some(pair!(TlsDesc, 32, IType)),
+    Some(row!(TlsDescCall, (0 bytes), any)),
+    None,
+];
+
+#[inline(always)]
+fn tls_descriptor_place(name: RiscVRelocation) -> usize {
     match name {
-        RiscVRelocation::R_RISCV_TLSDESC_HI20 => Some(pair!(TlsDesc, 32, UType)),
-        RiscVRelocation::R_RISCV_TLSDESC_LOAD_LO12 | RiscVRelocation::R_RISCV_TLSDESC_ADD_LO12 => {
-            Some(pair!(TlsDesc, 32, IType))
-        }
-        RiscVRelocation::R_RISCV_TLSDESC_CALL => Some(row!(TlsDescCall, (0 bytes), any)),
-        _ => None,
+        RiscVRelocation::R_RISCV_TLSDESC_HI20 => 0,
+        RiscVRelocation::R_RISCV_TLSDESC_LOAD_LO12 | RiscVRelocation::R_RISCV_TLSDESC_ADD_LO12 => 1,
+        RiscVRelocation::R_RISCV_TLSDESC_CALL => 2,
+        _ => 3,
     }
 }

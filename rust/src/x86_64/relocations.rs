@@ -345,7 +345,7 @@ pub fn relocation_from_raw(name: X86_64Relocation) -> Option<RelocationKindInfo>
     row(name)
 }
 
-/// What a relocation means, with the bounds of its reach.
+/// What a relocation means, with what a write of it tests.
 #[inline(always)]
 pub fn prepared_row(name: X86_64Relocation) -> Option<PreparedRow> {
     prepared(&ROWS[place(name)])

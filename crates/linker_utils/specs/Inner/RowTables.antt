@@ -4,6 +4,9 @@ use Rattle.linker_utils.specs.Prepared.{least_within, last_within, row_in}
 use Rattle.linker_utils.specs.Numbers.{in_numbers}
 use Rattle.linker_utils.specs.Reach.{reach_of}
 use Rattle.linker_utils.specs.Relocate.{is_supported, window_len}
+use Rattle.linker_utils.specs.declared.riscv64.relocations.RiscVRelocation.{RiscVRelocation}
+use Rattle.linker_utils.specs.declared.riscv64.relocations.RiscVRelocation.TheVariants.{R_RISCV_TLSDESC_HI20, R_RISCV_TLSDESC_LOAD_LO12}
+use Rattle.linker_utils.specs.declared.riscv64.relocations.RiscVRelocation.TheVariants.{R_RISCV_TLSDESC_ADD_LO12, R_RISCV_TLSDESC_CALL}
 use Rattle.linker_utils.specs.declared.elf.RelocationKindInfo.{RelocationKindInfo}
 use Rattle.linker_utils.specs.declared.elf.numbers.RelocationNumbers.{RelocationNumbers}
 use Rattle.linker_utils.specs.declared.elf.prepared.PreparedRow.{PreparedRow}
@@ -68,3 +71,11 @@ pub record IsEntryOf (row : Option RelocationKindInfo) (entry : Option TableRow)
   pub row_is : row_in (prepared_entry entry) ≡ row
   pub tests_are : tests_in (prepared_entry entry) ≡ tests_of row
   pub numbers_are : numbers_in entry ≡ in_numbers row
+
+-- the entry of a name in the table of TLS descriptors; the last one has no row
+abbrev pub tls_descriptor_place : RiscVRelocation → ℕ
+tls_descriptor_place R_RISCV_TLSDESC_HI20 = 0
+tls_descriptor_place R_RISCV_TLSDESC_LOAD_LO12 = 1
+tls_descriptor_place R_RISCV_TLSDESC_ADD_LO12 = 1
+tls_descriptor_place R_RISCV_TLSDESC_CALL = 2
+tls_descriptor_place name = 3

@@ -11,7 +11,7 @@ ghost use denote.Enum.Declared.{tag_of};
 ghost use Rattle.linker_utils.specs.contracts.riscv64.relocations.RiscVRelocation as names;
 ghost use Rattle.linker_utils.specs.Prepared.{row_in, IsPrepared};
 ghost use Rattle.linker_utils.specs.Numbers.{numbers_of, in_numbers};
-ghost use Rattle.linker_utils.specs.Inner.RowTables.{prepared_of, prepared_entry, numbers_in};
+ghost use Rattle.linker_utils.specs.Inner.RowTables.{prepared_of, tls_descriptor_place};
 
 use crate::elf::rows::{TableRow, numbers, prepared, row};
 use crate::elf::{PreparedRow, RelocationKindInfo, RelocationNumbers, Uleb128Role};
@@ -514,35 +514,50 @@ pub fn tls_descriptor_relocation(name: RiscVRelocation) -> Option<RelocationKind
     descriptor_row(name)
 }
 
-/// The same in numbers.
-pub fn tls_descriptor_numbers(name: RiscVRelocation) -> Option<RelocationNumbers>
-    ensures { result ≡ in_numbers (riscv_tls_descriptor_row name) }
+/// The same, with what a write of it tests.
+#[inline(always)]
+pub fn prepared_tls_descriptor_row(name: RiscVRelocation) -> Option<PreparedRow>
+    ensures row { row_in result ≡ riscv_tls_descriptor_row name }
+    ensures prepared { IfSome result IsPrepared }
 {
-    match descriptor_entry(name) {
-        Some(entry) => Some(entry.numbers),
-        None => None,
-    }
+    prepared(&TLS_DESCRIPTOR_ROWS[tls_descriptor_place(name)])
+}
+
+/// The same in numbers.
+#[inline(always)]
+pub fn tls_descriptor_numbers(name: RiscVRelocation) -> Option<&'static RelocationNumbers>
+    ensures known { IfSome result (λ numbers. Some numbers.now ≡ in_numbers (riscv_tls_descriptor_row name)) }
+    ensures unknown { IfNone result (in_numbers (riscv_tls_descriptor_row name) ≡ None) }
+{
+    numbers(&TLS_DESCRIPTOR_ROWS[tls_descriptor_place(name)])
 }
 
 fn descriptor_row(name: RiscVRelocation) -> Option<RelocationKindInfo>
     ensures { result ≡ riscv_tls_descriptor_row name }
 {
-    match prepared(&descriptor_entry(name)) {
+    match prepared_tls_descriptor_row(name) {
         Some(prepared) => Some(prepared.row),
         None => None,
     }
 }
 
-fn descriptor_entry(name: RiscVRelocation) -> Option<TableRow>
-    ensures row { row_in (prepared_entry result) ≡ riscv_tls_descriptor_row name }
-    ensures numbers { numbers_in result ≡ in_numbers (riscv_tls_descriptor_row name) }
+/// By `tls_descriptor_place`. The last one is that of all names without such a row.
+static TLS_DESCRIPTOR_ROWS: [Option<TableRow>; 4] = [
+    Some(pair!(TlsDesc, 32, UType)),
+    Some(pair!(TlsDesc, 32, IType)),
+    Some(row!(TlsDescCall, (0 bytes), any)),
+    None,
+];
+
+#[inline(always)]
+fn tls_descriptor_place(name: RiscVRelocation) -> usize
+    ensures place { result ≡ tls_descriptor_place name }
+    ensures small { result < 4 }
 {
     match name {
-        RiscVRelocation::R_RISCV_TLSDESC_HI20 => Some(pair!(TlsDesc, 32, UType)),
-        RiscVRelocation::R_RISCV_TLSDESC_LOAD_LO12 | RiscVRelocation::R_RISCV_TLSDESC_ADD_LO12 => {
-            Some(pair!(TlsDesc, 32, IType))
-        }
-        RiscVRelocation::R_RISCV_TLSDESC_CALL => Some(row!(TlsDescCall, (0 bytes), any)),
-        _ => None,
+        RiscVRelocation::R_RISCV_TLSDESC_HI20 => 0,
+        RiscVRelocation::R_RISCV_TLSDESC_LOAD_LO12 | RiscVRelocation::R_RISCV_TLSDESC_ADD_LO12 => 1,
+        RiscVRelocation::R_RISCV_TLSDESC_CALL => 2,
+        _ => 3,
     }
 }
