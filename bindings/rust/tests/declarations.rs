@@ -174,6 +174,7 @@ enum Passed {
 fn as_passed(kind: &str) -> Passed {
     let element = |kind: &str| match kind.trim() {
         "RelaxDelta" => "Delta".to_string(),
+        "RelocationNumbers" => "RelocationInfo".to_string(),
         other => other.to_string(),
     };
     if kind == "Global" {
@@ -642,13 +643,14 @@ fn the_structs_are_those_of_the_library() {
     let library = exporting_sources()
         + &repository("crates/linker_base/src/relaxation.rt")
         + &repository("crates/linker_base/src/relaxation/blocks.rt")
-        + &repository("crates/linker_utils/src/elf/value.rt");
+        + &repository("crates/linker_utils/src/elf/value.rt")
+        + &repository("crates/linker_utils/src/elf/numbers.rt");
     for (name, of_library) in [
         ("linker_utils_deletion", "Deletion"),
         ("linker_utils_call", "Call"),
         ("linker_utils_block_head", "BlockHead"),
         ("linker_utils_delta", "RelaxDelta"),
-        ("linker_utils_relocation_info", "RelocationInfo"),
+        ("linker_utils_relocation_info", "RelocationNumbers"),
         ("linker_utils_operands", "Operands"),
         ("linker_utils_relocation_reach", "Reach"),
         ("linker_utils_relocation_entry", "Relocation"),
