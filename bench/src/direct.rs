@@ -353,7 +353,7 @@ library!(
     }
 );
 
-/// As `row_of`, with the bounds of the row's reach.
+/// As `row_of`, with what a write of the row tests.
 #[inline(always)]
 fn prepared_row(machine: u16, r_type: u32) -> Option<erased_crate::elf::PreparedRow> {
     use erased_crate::{aarch64, loongarch64, ppc64, riscv64, x86_64};

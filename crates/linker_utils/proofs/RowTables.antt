@@ -1,5 +1,5 @@
--- Each entry of a table of rows is the row of its name, with the bounds of its reach: by computation,
--- name by name.
+-- Each entry of a table of rows is the row of its name, with what a write of it tests and with its
+-- numbers: by computation, name by name.
 use Rattle.std.proofs.Common.{◌≡◌, refl, subst, sym, slice_index_or, Option, Some, None, IfSome}
 use denote.Enum.Declared.{tag_of}
 use Rattle.linker_utils.specs.Agrees.{RowFits}

@@ -889,13 +889,14 @@ pub fn relocation_type_from_raw(name: AArch64Relocation) -> Option<RelocationKin
     row(name)
 }
 
-/// What a relocation means, with what a write of it tests.
+/// What a relocation means, with what a write of it tests. Returns `None` where `relocation_type_from_raw`
+/// does.
 #[inline(always)]
 pub fn prepared_row(name: AArch64Relocation) -> Option<PreparedRow> {
     prepared(&ROWS[place(name)])
 }
 
-/// What a relocation means, in numbers.
+/// What a relocation means, in numbers. Returns `None` where `relocation_type_from_raw` does.
 #[inline(always)]
 pub fn relocation_numbers(name: AArch64Relocation) -> Option<&'static RelocationNumbers> {
     numbers(&ROWS[place(name)])

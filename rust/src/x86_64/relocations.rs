@@ -345,13 +345,14 @@ pub fn relocation_from_raw(name: X86_64Relocation) -> Option<RelocationKindInfo>
     row(name)
 }
 
-/// What a relocation means, with what a write of it tests.
+/// What a relocation means, with what a write of it tests. Returns `None` where `relocation_from_raw`
+/// does.
 #[inline(always)]
 pub fn prepared_row(name: X86_64Relocation) -> Option<PreparedRow> {
     prepared(&ROWS[place(name)])
 }
 
-/// What a relocation means, in numbers.
+/// What a relocation means, in numbers. Returns `None` where `relocation_from_raw` does.
 #[inline(always)]
 pub fn relocation_numbers(name: X86_64Relocation) -> Option<&'static RelocationNumbers> {
     numbers(&ROWS[place(name)])

@@ -609,7 +609,8 @@ pub fn relocation_type_from_raw(name: LoongArch64Relocation) -> Option<Relocatio
     row(name)
 }
 
-/// What a relocation means, with what a write of it tests.
+/// What a relocation means, with what a write of it tests. Returns `None` where `relocation_type_from_raw`
+/// does.
 #[inline(always)]
 pub fn prepared_row(name: LoongArch64Relocation) -> Option<PreparedRow>
     ensures row { row_in result ≡ loongarch_row name }
@@ -618,7 +619,7 @@ pub fn prepared_row(name: LoongArch64Relocation) -> Option<PreparedRow>
     prepared(&ROWS[place(name)])
 }
 
-/// What a relocation means, in numbers.
+/// What a relocation means, in numbers. Returns `None` where `relocation_type_from_raw` does.
 #[inline(always)]
 pub fn relocation_numbers(name: LoongArch64Relocation) -> Option<&'static RelocationNumbers>
     ensures known { IfSome result (λ numbers. Some numbers.now ≡ in_numbers (loongarch_row name)) }

@@ -464,7 +464,8 @@ pub fn relocation_type_from_raw(name: Ppc64Relocation) -> Option<RelocationKindI
     row(name)
 }
 
-/// What a relocation means, with what a write of it tests.
+/// What a relocation means, with what a write of it tests. Returns `None` where `relocation_type_from_raw`
+/// does.
 #[inline(always)]
 pub fn prepared_row(name: Ppc64Relocation) -> Option<PreparedRow>
     ensures row { row_in result ≡ ppc64_row name }
@@ -473,7 +474,7 @@ pub fn prepared_row(name: Ppc64Relocation) -> Option<PreparedRow>
     prepared(&ROWS[place(name)])
 }
 
-/// What a relocation means, in numbers.
+/// What a relocation means, in numbers. Returns `None` where `relocation_type_from_raw` does.
 #[inline(always)]
 pub fn relocation_numbers(name: Ppc64Relocation) -> Option<&'static RelocationNumbers>
     ensures known { IfSome result (λ numbers. Some numbers.now ≡ in_numbers (ppc64_row name)) }

@@ -471,7 +471,8 @@ pub fn relocation_type_from_raw(name: RiscVRelocation) -> Option<RelocationKindI
     row(name)
 }
 
-/// What a relocation means, with what a write of it tests.
+/// What a relocation means, with what a write of it tests. Returns `None` where `relocation_type_from_raw`
+/// does.
 #[inline(always)]
 pub fn prepared_row(name: RiscVRelocation) -> Option<PreparedRow>
     ensures row { row_in result ≡ riscv_row name }
@@ -480,7 +481,7 @@ pub fn prepared_row(name: RiscVRelocation) -> Option<PreparedRow>
     prepared(&ROWS[place(name)])
 }
 
-/// What a relocation means, in numbers.
+/// What a relocation means, in numbers. Returns `None` where `relocation_type_from_raw` does.
 #[inline(always)]
 pub fn relocation_numbers(name: RiscVRelocation) -> Option<&'static RelocationNumbers>
     ensures known { IfSome result (λ numbers. Some numbers.now ≡ in_numbers (riscv_row name)) }
@@ -514,7 +515,7 @@ pub fn tls_descriptor_relocation(name: RiscVRelocation) -> Option<RelocationKind
     descriptor_row(name)
 }
 
-/// The same, with what a write of it tests.
+/// What `tls_descriptor_relocation` returns, with what a write of it tests.
 #[inline(always)]
 pub fn prepared_tls_descriptor_row(name: RiscVRelocation) -> Option<PreparedRow>
     ensures row { row_in result ≡ riscv_tls_descriptor_row name }
@@ -523,7 +524,7 @@ pub fn prepared_tls_descriptor_row(name: RiscVRelocation) -> Option<PreparedRow>
     prepared(&TLS_DESCRIPTOR_ROWS[tls_descriptor_place(name)])
 }
 
-/// The same in numbers.
+/// What `tls_descriptor_relocation` returns, in numbers.
 #[inline(always)]
 pub fn tls_descriptor_numbers(name: RiscVRelocation) -> Option<&'static RelocationNumbers>
     ensures known { IfSome result (λ numbers. Some numbers.now ≡ in_numbers (riscv_tls_descriptor_row name)) }

@@ -364,7 +364,8 @@ pub fn relocation_from_raw(name: X86_64Relocation) -> Option<RelocationKindInfo>
     row(name)
 }
 
-/// What a relocation means, with what a write of it tests.
+/// What a relocation means, with what a write of it tests. Returns `None` where `relocation_from_raw`
+/// does.
 #[inline(always)]
 pub fn prepared_row(name: X86_64Relocation) -> Option<PreparedRow>
     ensures row { row_in result ≡ x86_64_row name }
@@ -373,7 +374,7 @@ pub fn prepared_row(name: X86_64Relocation) -> Option<PreparedRow>
     prepared(&ROWS[place(name)])
 }
 
-/// What a relocation means, in numbers.
+/// What a relocation means, in numbers. Returns `None` where `relocation_from_raw` does.
 #[inline(always)]
 pub fn relocation_numbers(name: X86_64Relocation) -> Option<&'static RelocationNumbers>
     ensures known { IfSome result (λ numbers. Some numbers.now ≡ in_numbers (x86_64_row name)) }
