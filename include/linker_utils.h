@@ -105,7 +105,7 @@ enum linker_utils_status {
     /* A relocation of this type has no value. */
     LINKER_UTILS_NO_VALUE = 29,
     /* The relocation is one of a pair that computes a ULEB128 number. */
-    LINKER_UTILS_ULEB128_PAIR = 30
+    LINKER_UTILS_UNSUPPORTED = 30
 };
 
 /* A constant sentence in English for each status, and another for all other numbers. */
@@ -154,7 +154,7 @@ static inline const char *linker_utils_status_text(uint32_t status) {
         return "The value is not a multiple of the relocation's alignment.";
     case LINKER_UTILS_OUT_OF_REACH: return "The value is out of the relocation's reach.";
     case LINKER_UTILS_NO_VALUE: return "A relocation of this type has no value.";
-    case LINKER_UTILS_ULEB128_PAIR:
+    case LINKER_UTILS_UNSUPPORTED:
         return "The relocation is one of a pair that computes a ULEB128 number.";
     }
     return "No status has this number.";
@@ -655,7 +655,7 @@ uint32_t linker_utils_relocate_all_nonnull(uint16_t machine, uint8_t *section, s
  *   that MOVN and MOVZ get by the value's sign; their shift has to be the first of the relocation's
  *   bits.
  * - A relocation without a value writes nothing.
- * LINKER_UTILS_UNKNOWN_ARCHITECTURE; LINKER_UTILS_UNKNOWN_RELOCATION; LINKER_UTILS_ULEB128_PAIR of
+ * LINKER_UTILS_UNKNOWN_ARCHITECTURE; LINKER_UTILS_UNKNOWN_RELOCATION; LINKER_UTILS_UNSUPPORTED of
  * R_RISCV_SET_ULEB128, R_RISCV_SUB_ULEB128, R_LARCH_ADD_ULEB128 and R_LARCH_SUB_ULEB128, for which
  * there is `linker_utils_write_uleb128`; LINKER_UTILS_TOO_SHORT; LINKER_UTILS_MISALIGNED;
  * LINKER_UTILS_OUT_OF_REACH. */

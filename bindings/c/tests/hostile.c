@@ -572,7 +572,7 @@ static void call_reach(void) {
 }
 
 #define NOT_RELOCATED \
-    NO_RELOCATION OR(ULEB128_PAIR) OR(TOO_SHORT) OR(MISALIGNED) OR(OUT_OF_REACH)
+    NO_RELOCATION OR(UNSUPPORTED) OR(TOO_SHORT) OR(MISALIGNED) OR(OUT_OF_REACH)
 
 static void call_relocate(void) {
     uint16_t machine = any_machine();

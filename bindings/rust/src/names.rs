@@ -89,7 +89,7 @@ numbered! {
         /// A relocation of this type has no value.
         NoValue = 29,
         /// The relocation is one of a pair that computes a ULEB128 number.
-        Uleb128Pair = 30,
+        Unsupported = 30,
     }
 }
 
@@ -169,7 +169,7 @@ impl fmt::Display for Status {
             Status::Misaligned => "The value is not a multiple of the relocation's alignment.",
             Status::OutOfReach => "The value is out of the relocation's reach.",
             Status::NoValue => "A relocation of this type has no value.",
-            Status::Uleb128Pair => {
+            Status::Unsupported => {
                 "The relocation is one of a pair that computes a ULEB128 number."
             }
         })

@@ -186,9 +186,10 @@ aarch64_instruction_reads is_signed Movnz bits reached a v before after small so
     (λ narrow. let end = short (eqb-true (bit_at x 31) 0 narrow) in
     (short_shift x bits.start bits.end shift some end, end))
     (agrees v (bits_taken bits v) w.clear (with_bit_31_if (bit_at x 31 == 0) y) within aligned
-    (taken_is_field bits v small some inside)
-    (aarch64_clear Movnz x w.clear w.clears,
-    shift_kept Movnz bits.start x w.clear w.clears (λ e. shift)) w.written)
+    (taken_is_field bits v small some inside) (
+      aarch64_clear Movnz x w.clear w.clears,
+      shift_kept Movnz bits.start x w.clear w.clears (λ e. shift),
+    ) w.written)
 aarch64_instruction_reads is_signed f bits reached a v before after small some inside within
     aligned w agrees =
     let x = window_of (aarch64_form f) before in

@@ -377,9 +377,10 @@ ppc64_addresses = λ o addis addis_after addi addi_after small_base high low.
     let low_reads : IsSameIn None 16 (signed 16 f) (bits_from 0 low.value) =
     row_reads_in_reach false _ low.value addi addi_after low_fits low.accepted low.written
     (ppc64_rows R_PPC64_TOC16_LO).1 in
-    let read : IsSameIn None 16 (pos f) (bits_from 0 low.value) =
-    (ap pos (mod-eq_of_lt f_below) ∙ sym (signed_rem 16 f f_below) ∙ low_reads.0,
-    omega (arith, ints)) in
+    let read : IsSameIn None 16 (pos f) (bits_from 0 low.value) = (
+      ap pos (mod-eq_of_lt f_below) ∙ sym (signed_rem 16 f f_below) ∙ low_reads.0,
+      omega (arith, ints),
+    ) in
     let low_sum : f ≡ difference_64 s p % 2 ^ 16 =
     low_bits 16 f (difference_64 total p) (omega arith) f_below (omega arith)
     (subst (λ v. IsSameIn None 16 (pos f) (bits_from 0 v)) (sym low_is) read)

@@ -64,7 +64,7 @@ pub enum Status {
     /// A relocation of this type has no value.
     NoValue,
     /// The relocation is one of a pair that computes a ULEB128 number.
-    Uleb128Pair,
+    Unsupported,
 }
 
 impl Status {
