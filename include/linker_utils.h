@@ -104,7 +104,7 @@ enum linker_utils_status {
     LINKER_UTILS_OUT_OF_REACH = 28,
     /* A relocation of this type has no value. */
     LINKER_UTILS_NO_VALUE = 29,
-    /* The relocation is one of a pair that computes a ULEB128 number. */
+    /* The relocation is one of a pair that computes a ULEB128 number, or R_LARCH_CALL30. */
     LINKER_UTILS_UNSUPPORTED = 30
 };
 
@@ -155,7 +155,7 @@ static inline const char *linker_utils_status_text(uint32_t status) {
     case LINKER_UTILS_OUT_OF_REACH: return "The value is out of the relocation's reach.";
     case LINKER_UTILS_NO_VALUE: return "A relocation of this type has no value.";
     case LINKER_UTILS_UNSUPPORTED:
-        return "The relocation is one of a pair that computes a ULEB128 number.";
+        return "The relocation is one of a pair that computes a ULEB128 number, or R_LARCH_CALL30.";
     }
     return "No status has this number.";
 }
@@ -488,7 +488,7 @@ enum linker_utils_mask {
     LINKER_UTILS_MASK_NONE = 0,
     /* S + A, and P */
     LINKER_UTILS_MASK_SYMBOL_PLUS_ADDEND_AND_POSITION = 1,
-    /* the GOT entry's address (GOT + G, GD, LD, IE or DESC), and P */
+    /* the GOT entry's address (GOT + G, GD, LD, IE or DESC) with what is added to it, and P */
     LINKER_UTILS_MASK_GOT_ENTRY_AND_POSITION = 2,
     /* GOT */
     LINKER_UTILS_MASK_GOT_BASE = 3
@@ -496,7 +496,8 @@ enum linker_utils_mask {
 
 /* What a relocation means. `linker_utils_value` and `linker_utils_relocate` apply it in these
  * steps, with <elf.h>'s names of the relocation's fields:
- * 1. Add `bias` to the address that the formula of `kind` begins with (S + A, or the GOT entry's).
+ * 1. Add `bias` to the address that the formula of `kind` begins with: S + A, or the GOT entry's,
+ *    with A where `struct linker_utils_operands` says so.
  * 2. Cut the addresses that `mask` names to their page, and compute the value v by the formula.
  * 3. Where `has_range` is 1, v has to be `min` or above, and below `max`. v has to be a multiple of
  *    `alignment`.
@@ -577,15 +578,21 @@ struct linker_utils_operands {
     /* S, and of a TLS symbol its address in the TLS segment's image. Of R_RISCV_PCREL_LO12_* it is
      * the address that the high part at the label refers to: that of the symbol or, of
      * R_RISCV_GOT_HI20, R_RISCV_TLS_GOT_HI20 and R_RISCV_TLS_GD_HI20, of the GOT entry. Of
-     * R_X86_64_GOTPC32 and R_X86_64_GOTPC64 it is the GOT's address. */
+     * R_X86_64_GOTPC32 and R_X86_64_GOTPC64 it is the GOT's address. Of R_PPC64_REL24 it is the
+     * function's local entry point, or the stub that calls it. */
     uint64_t symbol;
-    /* A. Of R_RISCV_PCREL_LO12_* it is that of the high part. */
-    int64_t addend;
-    /* P. Of R_RISCV_PCREL_LO12_*, R_RISCV_TLSDESC_LOAD_LO12 and R_RISCV_TLSDESC_ADD_LO12 it is that
+    /* A. Of R_RISCV_PCREL_LO12_*, R_RISCV_TLSDESC_LOAD_LO12 and R_RISCV_TLSDESC_ADD_LO12 it is that
      * of the high part. */
+    int64_t addend;
+    /* P: the address of the field. That of LoongArch's halves of 64-bit addresses is the address of
+     * the instruction that is relocated, not that of the `pcalau12i`. Of R_RISCV_PCREL_LO12_*,
+     * R_RISCV_TLSDESC_LOAD_LO12 and R_RISCV_TLSDESC_ADD_LO12 it is that of the high part. */
     uint64_t place;
     /* GOT + G, GD, LD, IE or DESC: the address of the entry that the relocation asks for. Of an
-     * AArch64 instruction it is the entry of S + A. */
+     * instruction of AArch64 or PowerPC64 it is the entry of S + A, and A isn't added to its
+     * address; of R_AARCH64_GOTPCREL32, and on the other architectures, it is the entry of S, and A
+     * is added. R_LARCH_GOT_PC_LO12 of a TLS symbol whose high half is R_LARCH_TLS_GD_PC_HI20 or
+     * R_LARCH_TLS_LD_PC_HI20 takes the entry of that high half. */
     uint64_t got_entry;
     /* GOT */
     uint64_t got_base;
@@ -594,17 +601,19 @@ struct linker_utils_operands {
     /* Z */
     uint64_t symbol_size;
     /* What offsets of TLS symbols count from, as an address in the TLS segment's image. For an
-     * offset from the thread pointer it is where the thread pointer points to; on PowerPC64 that is
-     * the image's address plus 0x7000. For an offset in the module's TLS block it is the image's
+     * offset from the thread pointer it is where the thread pointer points to: on AArch64 the
+     * image's address less 16 rounded up to the segment's alignment, on RISC-V and LoongArch the
+     * image's address, on PowerPC64 that plus 0x7000, and on x86-64 that plus the segment's size
+     * rounded up to its alignment. For an offset in the module's TLS block it is the image's
      * address; plus 0x8000 on PowerPC64, and plus 0x800 on RISC-V. */
     uint64_t tls_base;
 };
 
 /* The value of a relocation: the formula of its kind, with the bias added first and the page mask
- * applied after that, modulo 2^64 and read in two's complement. LINKER_UTILS_UNKNOWN_ARCHITECTURE;
- * LINKER_UTILS_UNKNOWN_RELOCATION; LINKER_UTILS_NO_VALUE. It does not give the value of
- * R_RISCV_SET_ULEB128 and R_LARCH_ADD_ULEB128, whose kind is LINKER_UTILS_KIND_RELATIVE: that is
- * S + A (`linker_utils_uleb128_role`). */
+ * applied after that, modulo 2^64 and read in two's complement. So LoongArch's page of a GOT entry
+ * is that of the entry's address plus A plus 0x800. That of R_RISCV_SET_ULEB128 and
+ * R_LARCH_ADD_ULEB128 is S + A, though their kind is LINKER_UTILS_KIND_RELATIVE.
+ * LINKER_UTILS_UNKNOWN_ARCHITECTURE; LINKER_UTILS_UNKNOWN_RELOCATION; LINKER_UTILS_NO_VALUE. */
 uint32_t linker_utils_value(uint16_t machine, uint32_t r_type,
                             const struct linker_utils_operands *operands, int64_t *value);
 
@@ -626,6 +635,9 @@ struct linker_utils_relocation_reach {
  * - PowerPC64's _HA, of the biased value, and _HI: from -2^31 up, below 2^31
  * - AArch64's MOVW relocations of G0, G1 and G2 that set a signed value: from -2^16, -2^32 or -2^48
  *   up, below 2^16, 2^32 or 2^48
+ * - R_X86_64_GOT32, R_RISCV_PLT32 and R_RISCV_GOT32_PCREL: from -2^31 up, below 2^31
+ * Of a relocation without a range a part of every value is taken: R_AARCH64_ADR_PREL_PG_HI21_NC of
+ * 2^33 writes 0.
  * LINKER_UTILS_UNKNOWN_ARCHITECTURE; LINKER_UTILS_UNKNOWN_RELOCATION. */
 uint32_t linker_utils_reach(uint16_t machine, uint32_t r_type,
                             struct linker_utils_relocation_reach *reach);
@@ -653,12 +665,14 @@ uint32_t linker_utils_relocate_all_nonnull(uint16_t machine, uint8_t *section, s
  * - Of an instruction, the form's bits become the bits of the value that the relocation takes.
  *   Those that the form only ORs need not be 0 before. All other bits stay, except for the opcode
  *   that MOVN and MOVZ get by the value's sign; their shift has to be the first of the relocation's
- *   bits.
+ *   bits. MOVN and MOVZ of 32 bits (bit 31 is 0) stay of 32 bits.
+ * - A PowerPC64 instruction of DQ-form (lq, lxv, stxv, lxvp, stxvp) at a relocation of DS-form
+ *   keeps its low 4 bits, and takes multiples of 16 only.
  * - A relocation without a value writes nothing.
  * LINKER_UTILS_UNKNOWN_ARCHITECTURE; LINKER_UTILS_UNKNOWN_RELOCATION; LINKER_UTILS_UNSUPPORTED of
  * R_RISCV_SET_ULEB128, R_RISCV_SUB_ULEB128, R_LARCH_ADD_ULEB128 and R_LARCH_SUB_ULEB128, for which
- * there is `linker_utils_write_uleb128`; LINKER_UTILS_TOO_SHORT; LINKER_UTILS_MISALIGNED;
- * LINKER_UTILS_OUT_OF_REACH. */
+ * there is `linker_utils_write_uleb128`, and of R_LARCH_CALL30, since no manual says how far its
+ * pair goes; LINKER_UTILS_TOO_SHORT; LINKER_UTILS_MISALIGNED; LINKER_UTILS_OUT_OF_REACH. */
 static inline uint32_t linker_utils_relocate(uint16_t machine, uint32_t r_type, int64_t value,
                                              uint8_t *dest, size_t dest_len) {
     return linker_utils_relocate_nonnull(machine, r_type, value,

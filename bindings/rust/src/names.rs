@@ -88,7 +88,7 @@ numbered! {
         OutOfReach = 28,
         /// A relocation of this type has no value.
         NoValue = 29,
-        /// The relocation is one of a pair that computes a ULEB128 number.
+        /// The relocation is one of a pair that computes a ULEB128 number, or `R_LARCH_CALL30`.
         Unsupported = 30,
     }
 }
@@ -170,7 +170,7 @@ impl fmt::Display for Status {
             Status::OutOfReach => "The value is out of the relocation's reach.",
             Status::NoValue => "A relocation of this type has no value.",
             Status::Unsupported => {
-                "The relocation is one of a pair that computes a ULEB128 number."
+                "The relocation is one of a pair that computes a ULEB128 number, or R_LARCH_CALL30."
             }
         })
     }

@@ -63,7 +63,7 @@ pub enum Status {
     OutOfReach,
     /// A relocation of this type has no value.
     NoValue,
-    /// The relocation is one of a pair that computes a ULEB128 number.
+    /// The relocation is one of a pair that computes a ULEB128 number, or `R_LARCH_CALL30`.
     Unsupported,
 }
 
