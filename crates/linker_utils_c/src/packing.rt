@@ -50,8 +50,7 @@ pub extern "C" fn linker_utils_packed_len_nonnull(section: &[u8], deltas: &[Rela
 /// the first call whose site is less than 4 above the one before it; `DifferentLengths`, where
 /// `packed` has not `linker_utils_packed_len` bytes; and of the first call that can't become a
 /// jump, whose index is `faulty`, `OutOfSection`, `SiteDeleted`, `NotACall`, `OddDistance` and
-/// `TooFar`. `packed` is unchanged then, and `faulty` with any other status than those about a
-/// call.
+/// `TooFar`. `packed` is unchanged then. `faulty` changes only with a status that is about a call.
 #[unsafe(no_mangle)]
 pub extern "C" fn linker_utils_pack_nonnull(
     section: &[u8],
