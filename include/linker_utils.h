@@ -685,7 +685,7 @@ static inline uint32_t linker_utils_relocate(uint16_t machine, uint32_t r_type, 
  * `faulty` is its index, and the status says why. Those before it are written; it and those after
  * it are not. With LINKER_UTILS_UNKNOWN_ARCHITECTURE `faulty` is unchanged. An offset past the
  * section's end is LINKER_UTILS_TOO_SHORT whatever the relocation's type, also where that is one
- * for LINKER_UTILS_UNKNOWN_RELOCATION or LINKER_UTILS_ULEB128_PAIR. */
+ * for LINKER_UTILS_UNKNOWN_RELOCATION or LINKER_UTILS_UNSUPPORTED. */
 static inline uint32_t linker_utils_relocate_all(
     uint16_t machine, uint8_t *section, size_t section_len,
     const struct linker_utils_relocation_entry *relocations, size_t relocations_len,
