@@ -4,8 +4,8 @@
 use crate::support::*;
 use crate::rows::expect_eq;
 use linker_utils::relaxation::{
-    DeltaSlice, Looks, OutOfMemory, RelaxDelta, RelaxDeltaMap, SectionRelaxDeltas, first_invalid,
-    input_to_output_counted, opt_input_to_output, output_to_input_counted,
+    BlockHead, DeltaSlice, Looks, OutOfMemory, RelaxDelta, RelaxDeltaMap, SectionRelaxDeltas,
+    first_invalid, input_to_output_counted, opt_input_to_output, output_to_input_counted,
 };
 
 fn deltas_of(
@@ -149,7 +149,8 @@ fn merges_sort_and_sum() -> Result<(), Fail> {
     assert_eq!(input(&merged, 0), 2);
 
     let mut batched = deltas_of(&[(8, 4)])?;
-    let batches = try_vec![[(16, 4)].fallible_to_vec()?, [(0, 2)].fallible_to_vec()?]?;
+    let (second, third) = ([(16, 4)].fallible_to_vec()?, [(0, 2)].fallible_to_vec()?);
+    let batches = try_vec![Vec::new(), second, third]?;
     assert!(batched.are_mergeable(&batches));
     batched.merge_all(&batches)?;
     assert_eq!(batched.deltas(), merged.deltas());
@@ -276,27 +277,71 @@ fn half_deleted(count: u32) -> Result<Vec<(u64, u32)>, Fail> {
     Ok(raw)
 }
 
+/// Requires that a kept byte's offsets are translated to each other, by at most so many looks, also
+/// with the heads of the blocks, which stand behind one that is none, and with more or fewer.
+fn expect_translated(
+    deltas: &SectionRelaxDeltas,
+    behind_none: &[BlockHead],
+    most: u64,
+    offsets: (u64, u64),
+) {
+    let (from, to) = offsets;
+    expect_eq(from, deltas.input_to_output_offset(from), to);
+    expect_eq(to, input(deltas, to), from);
+    let (output, looks) = output_by_looks(deltas, from);
+    expect_eq(from, (output, looks <= most), (to, true));
+    let (input, looks) = input_by_looks(deltas, to);
+    expect_eq(to, (input, looks <= most), (from, true));
+    let listed = deltas.as_delta_slice();
+    assert!(behind_none.len() >= 2);
+    for heads in [&behind_none[1..], behind_none, &behind_none[2..], &[]] {
+        expect_eq(from, listed.input_to_output_by_heads(heads, from), to);
+        let input = listed.output_to_input_by_heads(heads, to);
+        expect_eq(to, input, Some(from));
+    }
+}
+
 #[test]
 fn long_lists_are_searched_by_blocks() -> Result<(), Fail> {
-    let raw = half_deleted(65)?;
-    let deltas = deltas_of(&raw)?;
-    assert_eq!(deltas.total_deleted(), 260);
-    for (from, to) in [(512, 256), (520, 260)] {
-        let (output, looks) = output_by_looks(&deltas, from);
-        assert_eq!(output, to);
-        assert!(looks <= 10);
+    // of so many deletions, as many looks as their blocks of 64 have binary digits, and eight
+    let lists = [
+        (64, 9),
+        (65, 10),
+        (1024, 13),
+        (1025, 13),
+        (1088, 13),
+        (5000, 15),
+    ];
+    for (count, most) in lists {
+        let raw = half_deleted(count)?;
+        let deltas = deltas_of(&raw)?;
+        let listed = deltas.as_delta_slice();
+        let none = BlockHead {
+            input_offset: 0,
+            output_place: 0,
+        };
+        let mut heads = try_vec![none; listed.block_count()]?;
+        listed.write_heads(&mut heads);
+        let mut behind_none = try_vec![none; 1]?;
+        behind_none.fallible_extend_from_slice(&heads)?;
+        assert!(listed.with_heads(&heads).is_some());
+        assert!(listed.with_heads(&behind_none).is_none());
+        for block in 0..u64::from(count) {
+            for kept in [0, 3] {
+                let offsets = (8 * block + 4 + kept, 4 * block + kept);
+                expect_translated(&deltas, &behind_none, most, offsets);
+            }
+            expect_eq(
+                block,
+                deltas.input_to_output_offset(8 * block + 2),
+                4 * block,
+            );
+        }
+        for past in [0, 9] {
+            let offsets = (8 * u64::from(count) + past, 4 * u64::from(count) + past);
+            expect_translated(&deltas, &behind_none, most, offsets);
+        }
     }
-    for (from, to) in [(255, 511), (256, 516)] {
-        let (input, looks) = input_by_looks(&deltas, from);
-        assert_eq!(input, to);
-        assert!(looks <= 10);
-    }
-
-    let raw = half_deleted(64)?;
-    let one_block = deltas_of(&raw)?;
-    let (output, looks) = output_by_looks(&one_block, 512);
-    assert_eq!(output, 256);
-    assert!(looks <= 9);
     Ok(())
 }
 
