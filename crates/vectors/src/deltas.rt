@@ -175,7 +175,7 @@ fn invalid_deletions_are_rejected(rt: HostRuntime) -> Result<(), Fail> {
         &[(u64::MAX - 1, 1)],
     ];
     for raw in valid {
-        assert!(rt; SectionRelaxDeltas::is_valid(raw), "{raw:?}");
+        expect_eq(&rt, raw, SectionRelaxDeltas::is_valid(raw), true);
     }
     let invalid: [&[(u64, u32)]; 4] = [
         &[(0, 5), (4, 1)],
@@ -184,13 +184,13 @@ fn invalid_deletions_are_rejected(rt: HostRuntime) -> Result<(), Fail> {
         &[(u64::MAX, 1)],
     ];
     for raw in invalid {
-        assert!(rt; !SectionRelaxDeltas::is_valid(raw), "{raw:?}");
+        expect_eq(&rt, raw, SectionRelaxDeltas::is_valid(raw), false);
     }
 
     let deltas = deltas_of(&rt, rt.alloc(), &[(4, 4)])?;
     let mergeable: [&[(u64, u32)]; 3] = [&[], &[(8, 0)], &[(8, 4), (0, 4)]];
     for pairs in mergeable {
-        assert!(rt; deltas.is_mergeable(pairs), "{pairs:?}");
+        expect_eq(&rt, pairs, deltas.is_mergeable(pairs), true);
     }
     let touching: [&[(u64, u32)]; 5] = [
         &[(6, 1)],
@@ -200,7 +200,7 @@ fn invalid_deletions_are_rejected(rt: HostRuntime) -> Result<(), Fail> {
         &[(20, 1), (20, 1)],
     ];
     for pairs in touching {
-        assert!(rt; !deltas.is_mergeable(pairs), "{pairs:?}");
+        expect_eq(&rt, pairs, deltas.is_mergeable(pairs), false);
     }
 
     let none = deltas_of(&rt, rt.alloc(), &[])?;
@@ -436,39 +436,5 @@ fn maps_keep_each_section(rt: HostRuntime) -> Result<(), Fail> {
     assert_eq!(rt; map.get(1).map(|d| d.total_deleted()), Some(6));
     assert_eq!(rt; map.get(3).map(|d| d.total_deleted()), Some(2));
     assert_eq!(rt; map.clone()?.get(1).map(|d| d.total_deleted()), Some(6));
-    Ok(())
-}
-
-#[test]
-fn a_merge_through_get_mut_leaves_the_other_section(rt: HostRuntime) -> Result<(), Fail> {
-    let alloc = rt.alloc();
-    let (third, first) = ([(8, 4)], [(4, 4)]);
-    assert!(rt; SectionRelaxDeltas::is_valid(&third) && SectionRelaxDeltas::is_valid(&first));
-    let mut sections = RelaxDeltaMap::new(alloc);
-    assert_eq!(rt; sections.last_index(), None);
-    assert!(rt;
-        sections
-            .insert(3, SectionRelaxDeltas::new(alloc, &third)?)
-            .is_ok()
-    );
-    assert!(rt; sections.get(1).is_none());
-    assert!(rt;
-        sections
-            .insert_sorted(1, SectionRelaxDeltas::new(alloc, &first)?)
-            .is_ok()
-    );
-    assert_eq!(rt; sections.last_index(), Some(3));
-
-    let more = [(0, 2)];
-    if let Some(deltas) = sections.get_mut(1) {
-        assert!(rt; deltas.is_mergeable(&more));
-        deltas.merge_additional(&more)?;
-    }
-    assert!(rt; sections.get(2).is_none());
-    let copy = sections.clone()?;
-    for (section_index, want) in [(1, 6), (3, 4)] {
-        let deltas = copy.get(section_index).expect(&rt, "the section is there");
-        assert_eq!(rt; deltas.total_deleted(), want, "section {section_index}");
-    }
     Ok(())
 }

@@ -14,22 +14,26 @@ use std::process::Abort;
 
 /// Requires that a rewrite may be applied to a section that is its window alone, of which the bytes
 /// from `back` on are the instruction at the offset, and to none where a byte of it is missing.
-fn requires_window<R: InstructionRewrite + Copy + Debug>(
+pub fn requires_window<R: InstructionRewrite + Copy + Debug>(
     rt: &impl Abort,
     kind: R,
     section: &[u8],
-    back: u32,
+    back: u64,
 ) {
-    let at = u64::from(back);
-    expect_eq(rt, kind, kind.can_apply(section, at), true);
+    expect_eq(rt, kind, kind.can_apply(section, back), true);
     for len in 0..section.len() {
-        expect_eq(rt, (kind, len), kind.can_apply(&section[..len], at), false);
+        expect_eq(
+            rt,
+            (kind, len),
+            kind.can_apply(&section[..len], back),
+            false,
+        );
     }
-    for below in 0..at {
+    for below in 0..back {
         expect_eq(rt, (kind, below), kind.can_apply(section, below), false);
     }
     for far in 0..16 {
-        for offset in [at + 1 + far, (1 << 32) + far, u64::MAX - far] {
+        for offset in [back.wrapping_add(1 + far), (1 << 32) + far, u64::MAX - far] {
             expect_eq(rt, (kind, offset), kind.can_apply(section, offset), false);
         }
     }

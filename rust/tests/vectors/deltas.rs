@@ -167,7 +167,7 @@ fn invalid_deletions_are_rejected() -> Result<(), Fail> {
         &[(u64::MAX - 1, 1)],
     ];
     for raw in valid {
-        assert!(SectionRelaxDeltas::is_valid(raw), "{raw:?}");
+        expect_eq(raw, SectionRelaxDeltas::is_valid(raw), true);
     }
     let invalid: [&[(u64, u32)]; 4] = [
         &[(0, 5), (4, 1)],
@@ -176,13 +176,13 @@ fn invalid_deletions_are_rejected() -> Result<(), Fail> {
         &[(u64::MAX, 1)],
     ];
     for raw in invalid {
-        assert!(!SectionRelaxDeltas::is_valid(raw), "{raw:?}");
+        expect_eq(raw, SectionRelaxDeltas::is_valid(raw), false);
     }
 
     let deltas = deltas_of(&[(4, 4)])?;
     let mergeable: [&[(u64, u32)]; 3] = [&[], &[(8, 0)], &[(8, 4), (0, 4)]];
     for pairs in mergeable {
-        assert!(deltas.is_mergeable(pairs), "{pairs:?}");
+        expect_eq(pairs, deltas.is_mergeable(pairs), true);
     }
     let touching: [&[(u64, u32)]; 5] = [
         &[(6, 1)],
@@ -192,7 +192,7 @@ fn invalid_deletions_are_rejected() -> Result<(), Fail> {
         &[(20, 1), (20, 1)],
     ];
     for pairs in touching {
-        assert!(!deltas.is_mergeable(pairs), "{pairs:?}");
+        expect_eq(pairs, deltas.is_mergeable(pairs), false);
     }
 
     let none = deltas_of(&[])?;
@@ -425,38 +425,5 @@ fn maps_keep_each_section() -> Result<(), Fail> {
     assert_eq!(map.get(1).map(|d| d.total_deleted()), Some(6));
     assert_eq!(map.get(3).map(|d| d.total_deleted()), Some(2));
     assert_eq!(map.clone()?.get(1).map(|d| d.total_deleted()), Some(6));
-    Ok(())
-}
-
-#[test]
-fn a_merge_through_get_mut_leaves_the_other_section() -> Result<(), Fail> {
-    let (third, first) = ([(8, 4)], [(4, 4)]);
-    assert!(SectionRelaxDeltas::is_valid(&third) && SectionRelaxDeltas::is_valid(&first));
-    let mut sections = RelaxDeltaMap::new();
-    assert_eq!(sections.last_index(), None);
-    assert!(
-        sections
-            .insert(3, SectionRelaxDeltas::new(&third)?)
-            .is_ok()
-    );
-    assert!(sections.get(1).is_none());
-    assert!(
-        sections
-            .insert_sorted(1, SectionRelaxDeltas::new(&first)?)
-            .is_ok()
-    );
-    assert_eq!(sections.last_index(), Some(3));
-
-    let more = [(0, 2)];
-    if let Some(deltas) = sections.get_mut(1) {
-        assert!(deltas.is_mergeable(&more));
-        deltas.merge_additional(&more)?;
-    }
-    assert!(sections.get(2).is_none());
-    let copy = sections.clone()?;
-    for (section_index, want) in [(1, 6), (3, 4)] {
-        let deltas = copy.get(section_index).expect("the section is there");
-        assert_eq!(deltas.total_deleted(), want, "section {section_index}");
-    }
     Ok(())
 }
