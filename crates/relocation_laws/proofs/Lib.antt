@@ -1,0 +1,4 @@
+pub mod Applied
+pub mod Sums
+pub mod Instructions
+pub mod RiscV
