@@ -22,7 +22,7 @@ use Rattle.linker_utils.specs.declared.elf.value.Operands.{Operands}
 use Rattle.linker_utils.proofs.Agreement.{layout_check}
 use Rattle.relocation_laws.specs.Schemes.{IsApplied, IsAddress, AreAddresses}
 use Rattle.relocation_laws.specs.Schemes.{symbol_address, plt_address, entry_and_addend, entry_address}
-use Rattle.relocation_laws.specs.Schemes.{place, got_base, tls_base, zero}
+use Rattle.relocation_laws.specs.Schemes.{place, got_base, tls_base, zero, size_and_addend}
 use Rattle.relocation_laws.proofs.Applied.{fits, value_is, reads_within, aligned_low}
 use Rattle.relocation_laws.proofs.Sums.{Leads, difference_leads, itself_leads, sum_below}
 use Rattle.relocation_laws.proofs.Sums.{difference_below, multiple_part}
@@ -220,6 +220,18 @@ plt_from_place = leads_from place plt_address place_small plt_small
 pub entry_and_addend_from_place : IsNumber place entry_and_addend (relative entry_and_addend place)
 entry_and_addend_from_place =
     leads_from place entry_and_addend place_small entry_and_addend_small
+
+pub entry_and_addend_from_got : IsNumber got_base entry_and_addend (relative entry_and_addend got_base)
+entry_and_addend_from_got =
+    leads_from got_base entry_and_addend got_small entry_and_addend_small
+
+pub plt_from_got : IsNumber got_base plt_address (relative plt_address got_base)
+plt_from_got = leads_from got_base plt_address got_small plt_small
+
+pub size_itself : IsNumber zero size_and_addend (absolute size_and_addend)
+size_itself =
+    leads_to size_and_addend
+    (λ o small. sum_below o.symbol_size (cast_unsigned w64 o.addend))
 
 pub symbol_from_tls : IsNumber tls_base symbol_address (relative symbol_address tls_base)
 symbol_from_tls = leads_from tls_base symbol_address tls_small symbol_small

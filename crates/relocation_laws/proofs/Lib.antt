@@ -1,4 +1,5 @@
 pub mod Applied
-pub mod Sums
+pub mod Fields
 pub mod Instructions
 pub mod RiscV
+pub mod Sums

@@ -1,2 +1,3 @@
-pub mod Schemes
 pub mod RiscVLaws
+pub mod Schemes
+pub mod X86Laws

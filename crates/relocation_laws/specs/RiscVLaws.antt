@@ -98,7 +98,7 @@ abbrev pub Calls : Type 0
 Calls = Call names.R_RISCV_CALL × Call names.R_RISCV_CALL_PLT
 
 abbrev pub Jump : RiscVRelocation → RiscVInstruction → Type 0
-Jump name f = Adds (riscv_row name) place (riscv_form f).machine 1 symbol_address
+Jump name f = Adds (here (riscv_row name)) place (riscv_form f).machine 1 symbol_address
 
 abbrev pub Jumps : Type 0
 Jumps =

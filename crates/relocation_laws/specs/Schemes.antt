@@ -10,7 +10,7 @@ use Rattle.linker_utils.specs.Value.{value_of, sum_64}
 use Rattle.linker_utils.specs.declared.elf.RelocationKindInfo.{RelocationKindInfo}
 use Rattle.linker_utils.specs.declared.elf.RelocationSize.{RelocationSize}
 use Rattle.linker_utils.specs.declared.elf.RelocationSize.TheVariants.{ByteSize, BitMasking}
-use Rattle.linker_utils.specs.declared.elf.Sign.TheVariants.{Signed}
+use Rattle.linker_utils.specs.declared.elf.Sign.{Sign}
 use Rattle.linker_utils.specs.declared.elf.value.Operands.{Operands}
 
 -- The relocation has a value, which is written.
@@ -53,6 +53,10 @@ entry_address o = o.got_entry
 abbrev pub entry_and_addend : Operands → ℕ
 entry_and_addend o = sum_64 o.got_entry (cast_unsigned w64 o.addend)
 
+-- Z + A
+abbrev pub size_and_addend : Operands → ℕ
+size_and_addend o = sum_64 o.symbol_size (cast_unsigned w64 o.addend)
+
 -- ---- what instructions begin with
 
 abbrev pub zero : Operands → ℕ
@@ -94,9 +98,9 @@ after n row =
       within = None;
     }
 
--- a value of n bits in two's complement
-abbrev pub of_bits : ℕ → Step → Step
-of_bits n step = record step { within = Some (bit_bounds n Signed) }
+-- a value of n bits, in two's complement or without a sign
+abbrev pub of_bits : ℕ → Sign → Step → Step
+of_bits n sign step = record step { within = Some (bit_bounds n sign) }
 
 -- the little-endian number of a relocation's bytes: an instruction's word, or a field
 abbrev pub number_at : RelocationSize → List ℕ → ℕ
@@ -123,7 +127,6 @@ abbrev pub Law : (steps : List Step) → (Operands → Computed steps) → (Oper
 Law steps computed target = (o : Operands) → AreAddresses o → Reaches steps o (computed o) (target o)
 
 -- An instruction adds the number that it holds, in units of so many bytes, to what it begins with.
-abbrev pub Adds : Option RelocationKindInfo → (Operands → ℕ) → (ℕ → ℤ) → ℕ → (Operands → ℕ)
-    → Type 0
-Adds row begin reads unit target =
-    Law (here row ∷ []) (λ o word. pos (begin o) +ℤ (reads word *ℤ pos unit)) target
+abbrev pub Adds : Step → (Operands → ℕ) → (ℕ → ℤ) → ℕ → (Operands → ℕ) → Type 0
+Adds step begin reads unit target =
+    Law (step ∷ []) (λ o word. pos (begin o) +ℤ (reads word *ℤ pos unit)) target

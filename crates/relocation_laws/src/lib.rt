@@ -3,6 +3,7 @@
 #![tactic(auto)]
 
 ghost use Rattle.relocation_laws.specs.RiscVLaws.{AbsoluteAddresses, RelativeAddresses, EntryAddresses, DescriptorAddresses, ThreadAddresses, Calls, Jumps};
+ghost use Rattle.relocation_laws.specs.X86Laws.{Symbols, Calls as X86Calls, Entries, Absolutes, FromGot, ThreadAddresses as X86Thread};
 
 pub fn riscv64()
     ensures absolute { AbsoluteAddresses }
@@ -12,4 +13,13 @@ pub fn riscv64()
     ensures thread { ThreadAddresses }
     ensures calls { Calls }
     ensures jumps { Jumps }
+{}
+
+pub fn x86_64()
+    ensures symbols { Symbols }
+    ensures calls { X86Calls }
+    ensures entries { Entries }
+    ensures absolutes { Absolutes }
+    ensures from_got { FromGot }
+    ensures thread { X86Thread }
 {}
