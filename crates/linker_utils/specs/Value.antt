@@ -60,13 +60,13 @@ abbrev pub bias_number : Option ℕ → ℕ
 bias_number None = 0
 bias_number (Some n) = n
 
--- the addend that is added to a GOT entry's address: none in AArch64's instructions, whose entry is
--- that of S + A
+-- the addend that is added to a GOT entry's address: none in the instructions of AArch64 and
+-- PowerPC64, whose entry is that of S + A
 abbrev pub entry_addend : RelocationSize → ℤ → ℕ
 entry_addend (ByteSize n) addend = cast_unsigned w64 addend
 entry_addend (BitMasking bits (AArch64 insn)) addend = 0
 entry_addend (BitMasking bits (RiscV insn)) addend = cast_unsigned w64 addend
-entry_addend (BitMasking bits (Ppc64 insn)) addend = cast_unsigned w64 addend
+entry_addend (BitMasking bits (Ppc64 insn)) addend = 0
 entry_addend (BitMasking bits (LoongArch64 insn)) addend = cast_unsigned w64 addend
 
 -- the address of the first of LoongArch's five instructions plus 8: that of the third, which takes

@@ -4,9 +4,10 @@ use Rattle.std.proofs.Common.{sym, ◌∙◌, ap, subst, arith, List, ℤ, pos, 
 use Rattle.std.proofs.Common.{ltb, leb, eqb, ◌||◌, inl, inr}
 use Rattle.std.specs.Int.{w64, cast_signed, cast_unsigned, int_rem_euclid}
 use Rattle.std.proofs.lemmas.Bool.{and_parts, or_cases, ltb-true, leb-true, eqb-true}
-use Rattle.linker_base.specs.Form.{window_of}
+use Rattle.linker_base.specs.Bits.{field}
+use Rattle.linker_base.specs.Form.{window_of, place_sum}
 use Rattle.linker_base.specs.declared.bit_misc.BitRange.{BitRange}
-use Rattle.linker_base.proofs.Immediates.{is_sound_layout}
+use Rattle.linker_base.proofs.Immediates.{is_sound_layout, low_of, high_of}
 use Rattle.linker_utils.specs.Agrees.{bits_from}
 use Rattle.linker_utils.specs.Elf.{IsWithin, relocation_form, relocation_layout}
 use Rattle.linker_utils.specs.Reach.{reach_of}
@@ -23,7 +24,7 @@ use Rattle.linker_utils.proofs.Agreement.{layout_check}
 use Rattle.relocation_laws.specs.Schemes.{IsApplied, IsAddress, AreAddresses}
 use Rattle.relocation_laws.specs.Schemes.{symbol_address, plt_address, entry_and_addend, entry_address}
 use Rattle.relocation_laws.specs.Schemes.{place, got_base, tls_base, zero, size_and_addend}
-use Rattle.relocation_laws.proofs.Applied.{fits, value_is, reads_within, aligned_low}
+use Rattle.relocation_laws.proofs.Applied.{fits, value_is, reads_within, aligned_low, stands, taken_bits}
 use Rattle.relocation_laws.proofs.Sums.{Leads, difference_leads, itself_leads, sum_below}
 use Rattle.relocation_laws.proofs.Sums.{difference_below, multiple_part}
 
@@ -138,6 +139,23 @@ module _ (kind : RelocationKind) (start end : ℕ) (insn : RelocationInstruction
       aligned_low n k applied.value below short
       (value_is row o before after applied (cast_signed w64 n) e)
       (subst (λ m. IsAligned m applied.value) is_power applied.accepted.aligned)
+
+  -- what stands at the places
+  pub field_sum : is_sound_layout (relocation_layout insn) ≡ true → end ≤ 64 → (n : ℕ) → n < 2 ^ 64
+      → value_of (row_of kind start end insn mask range a bias thunkable implicit) o
+      ≡ Some (cast_signed w64 n)
+      → place_sum ((relocation_form insn).places applied.written.clear)
+      (window_of (relocation_form insn) after)
+      ≡ (field n start end - field n start end % 2 ^ low_of (relocation_layout insn))
+      % 2 ^ high_of (relocation_layout insn)
+  field_sum sound inside n below e =
+      let row = row_of kind start end insn mask range a bias thunkable implicit in
+      let bits : BitRange = record { start = start; end = end } in
+      stands insn sound bits applied.value before after applied.written inside
+      ∙ ap (λ f. (f - f % 2 ^ low_of (relocation_layout insn))
+      % 2 ^ high_of (relocation_layout insn))
+      (taken_bits bits n applied.value below
+      (value_is row o before after applied (cast_signed w64 n) e))
 
   -- An instruction that holds the value in units of 2 to the range's start adds it to what it
   -- begins with.

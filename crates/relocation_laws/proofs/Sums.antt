@@ -171,3 +171,58 @@ signed_16 l small =
       | inl a ↦ let low = a.0 in ap (λ z. z +ℤ pos 0x8000) a.1 ∙ omega (arith, ints)
       | inr a ↦ let high = a.0 in ap (λ z. z +ℤ pos 0x8000) a.1 ∙ omega (arith, ints)
     ]
+
+-- ---- a high and a low part
+
+rest_below : (n d : ℕ) → n < 2 ^ 64 → n % d < 2 ^ 64
+rest_below n d below = let parts = div-add-mod' n d in omega arith
+
+-- The high part of a number with rounding, and a low part from which the rounding is taken off.
+pub halves_sum : (k r p s n m : ℕ) (h low : ℤ) → k < 65 → r < 2 ^ 64 → s < 2 ^ 64 → n < 2 ^ 64
+    → Leads p n s → m ≡ sum_64 n r → h ≡ bits_from k (cast_signed w64 m)
+    → low +ℤ pos r ≡ pos (m % 2 ^ k)
+    → IsAddress ((pos p +ℤ (h *ℤ pos (2 ^ k))) +ℤ low) s
+halves_sum k r p s n m h low short rounding small below leads is e f =
+    let l = m % 2 ^ k in
+    let m_below : m < 2 ^ 64 = subst (λ x. x < 2 ^ 64) (sym is) (sum_below n r) in
+    let l_below : l < 2 ^ 64 = rest_below m (2 ^ k) m_below in
+    let t = sum_64 s r in
+    let u = difference_64 t l in
+    let there : Leads p m t = rounded_leads p n s r m leads is in
+    low_part (pos p +ℤ (h *ℤ pos (2 ^ k))) low u r l s
+    (high_part k p m t u h short m_below there e (difference_below t l)
+    (back t l (sum_below s r) l_below)) f small (sym (back t l (sum_below s r) l_below))
+  where
+    rounded_leads : (p n s r m : ℕ) → Leads p n s → m ≡ sum_64 n r → Leads p m (sum_64 s r)
+    rounded_leads p n s r m leads is = omega arith
+
+    back : (t l : ℕ) → t < 2 ^ 64 → l < 2 ^ 64 → (difference_64 t l + l) % 2 ^ 64 ≡ t
+    back t l small below = omega arith
+
+-- The page of a place, the distance to the page of a rounded target, and a low part from which the
+-- rounding is taken off.
+pub page_halves_sum : (r p s m : ℕ) (h low : ℤ) → r < 2 ^ 64 → s < 2 ^ 64 → p < 2 ^ 64
+    → m ≡ difference_64 (page (sum_64 s r)) (page p) → h ≡ bits_from 12 (cast_signed w64 m)
+    → low +ℤ pos r ≡ pos (sum_64 s r % 2 ^ 12)
+    → IsAddress ((pos (page p) +ℤ (h *ℤ pos 4096)) +ℤ low) s
+page_halves_sum r p s m h low rounding small place is e f =
+    let x = sum_64 s r in
+    let x_below : x < 2 ^ 64 = sum_below s r in
+    let m_below : m < 2 ^ 64 = subst (λ y. y < 2 ^ 64) (sym is) (difference_below (page x) (page p)) in
+    low_part (pos (page p) +ℤ (h *ℤ pos 4096)) low (page x) r (x % 2 ^ 12) s
+    (multiple_part 12 (page p) m (page x) h (omega arith) m_below (leads x p m x_below place is) e
+    (pages x p m x_below place is) (below x x_below)) f small (parts x x_below)
+  where
+    leads : (x p m : ℕ) → x < 2 ^ 64 → p < 2 ^ 64 → m ≡ difference_64 (page x) (page p)
+        → Leads (page p) m (page x)
+    leads x p m small place is = omega arith
+
+    pages : (x p m : ℕ) → x < 2 ^ 64 → p < 2 ^ 64 → m ≡ difference_64 (page x) (page p)
+        → m % 2 ^ 12 ≡ 0
+    pages x p m small place is = omega arith
+
+    below : (x : ℕ) → x < 2 ^ 64 → page x < 2 ^ 64
+    below x small = omega arith
+
+    parts : (x : ℕ) → x < 2 ^ 64 → x ≡ (page x + x % 2 ^ 12) % 2 ^ 64
+    parts x small = omega arith

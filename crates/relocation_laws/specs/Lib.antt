@@ -1,3 +1,4 @@
+pub mod Ppc64Laws
 pub mod RiscVLaws
 pub mod Schemes
 pub mod X86Laws

@@ -4,6 +4,7 @@
 
 ghost use Rattle.relocation_laws.specs.RiscVLaws.{AbsoluteAddresses, RelativeAddresses, EntryAddresses, DescriptorAddresses, ThreadAddresses, Calls, Jumps};
 ghost use Rattle.relocation_laws.specs.X86Laws.{Symbols, Calls as X86Calls, Entries, Absolutes, FromGot, ThreadAddresses as X86Thread};
+ghost use Rattle.relocation_laws.specs.Ppc64Laws.{AbsoluteAddresses as Ppc64Absolute, RelativeAddresses as Ppc64Relative, TocAddresses, EntryAddresses as Ppc64Entries, ThreadAddresses as Ppc64Thread, Branches, Prefixes, Displacements};
 
 pub fn riscv64()
     ensures absolute { AbsoluteAddresses }
@@ -22,4 +23,15 @@ pub fn x86_64()
     ensures absolutes { Absolutes }
     ensures from_got { FromGot }
     ensures thread { X86Thread }
+{}
+
+pub fn ppc64()
+    ensures absolute { Ppc64Absolute }
+    ensures relative { Ppc64Relative }
+    ensures toc { TocAddresses }
+    ensures entries { Ppc64Entries }
+    ensures thread { Ppc64Thread }
+    ensures branches { Branches }
+    ensures prefixed { Prefixes }
+    ensures displacements { Displacements }
 {}
