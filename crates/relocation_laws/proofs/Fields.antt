@@ -24,7 +24,7 @@ use Rattle.linker_utils.proofs.WrittenNumbers.{row_number}
 use Rattle.relocation_laws.specs.Schemes.{IsApplied, IsAddress, AreAddresses}
 use Rattle.relocation_laws.proofs.Applied.{fits, value_is}
 use Rattle.relocation_laws.proofs.Instructions.{Number, IsNumber}
-use Rattle.relocation_laws.proofs.Sums.{goes, cast_low, cast_is}
+use Rattle.relocation_laws.proofs.Sums.{goes, cast_low, cast_is, once}
 
 -- so many whole bytes
 abbrev pub bytes_of : RelocationKind → ℕ → Option PageMask → AllowedRange → ℕ → Option ℕ → Bool → Bool
@@ -44,9 +44,6 @@ bytes_of kind n mask range a bias thunkable implicit =
 -- The bytes hold the value itself.
 abbrev pub IsValue : RelocationKind → Type 0
 IsValue kind = (v : ℤ) (old : ℕ) → whole_number kind v old ≡ v
-
-once : (z : ℤ) → z *ℤ pos 1 ≡ z
-once z = omega (arith, ints)
 
 module _ {kind : RelocationKind} {n : ℕ} {mask : Option PageMask} {range : AllowedRange} {a : ℕ}
     {bias : Option ℕ} {thunkable implicit : Bool} (whole : IsValue kind) (o : Operands)

@@ -106,6 +106,9 @@ goes p n s below leads =
     ∙ plus (cast_signed w64 n) n p (cast_is n below)
     ∙ ap pos (let same : (n + p) % 2 ^ 64 ≡ s = omega arith in same)
 
+pub once : (z : ℤ) → z *ℤ pos 1 ≡ z
+once z = omega (arith, ints)
+
 -- ---- parts
 
 -- the bits from k up, and those below

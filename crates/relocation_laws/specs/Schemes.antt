@@ -90,8 +90,8 @@ abbrev pub anywhere : Option RelocationKindInfo → Step
 anywhere row = record { row = row; operands = λ o at. record o { place = at }; within = None }
 
 -- one of an instruction so many bytes after the first
-abbrev pub after : ℕ → Option RelocationKindInfo → Step
-after n row =
+abbrev pub next : ℕ → Option RelocationKindInfo → Step
+next n row =
     record {
       row = row;
       operands = λ o at. record o { place = sum_64 o.place n };

@@ -5,6 +5,7 @@
 ghost use Rattle.relocation_laws.specs.RiscVLaws.{AbsoluteAddresses, RelativeAddresses, EntryAddresses, DescriptorAddresses, ThreadAddresses, Calls, Jumps};
 ghost use Rattle.relocation_laws.specs.X86Laws.{Symbols, Calls as X86Calls, Entries, Absolutes, FromGot, ThreadAddresses as X86Thread};
 ghost use Rattle.relocation_laws.specs.Ppc64Laws.{AbsoluteAddresses as Ppc64Absolute, RelativeAddresses as Ppc64Relative, TocAddresses, EntryAddresses as Ppc64Entries, ThreadAddresses as Ppc64Thread, Branches, Prefixes, Displacements};
+ghost use Rattle.relocation_laws.specs.LoongArchLaws.{RelativeAddresses as LoongArchRelative, FarAddresses, AbsoluteAddresses as LoongArchAbsolute, ThreadAddresses as LoongArchThread, Branches as LoongArchBranches, Calls as LoongArchCalls};
 
 pub fn riscv64()
     ensures absolute { AbsoluteAddresses }
@@ -34,4 +35,13 @@ pub fn ppc64()
     ensures branches { Branches }
     ensures prefixed { Prefixes }
     ensures displacements { Displacements }
+{}
+
+pub fn loongarch64()
+    ensures relative { LoongArchRelative }
+    ensures far { FarAddresses }
+    ensures absolute { LoongArchAbsolute }
+    ensures thread { LoongArchThread }
+    ensures branches { LoongArchBranches }
+    ensures calls { LoongArchCalls }
 {}
