@@ -246,6 +246,9 @@ entry_and_addend_from_got =
 pub plt_from_got : IsNumber got_base plt_address (relative plt_address got_base)
 plt_from_got = leads_from got_base plt_address got_small plt_small
 
+pub entry_and_addend_itself : IsNumber zero entry_and_addend (absolute entry_and_addend)
+entry_and_addend_itself = leads_to entry_and_addend entry_and_addend_small
+
 pub size_itself : IsNumber zero size_and_addend (absolute size_and_addend)
 size_itself =
     leads_to size_and_addend
