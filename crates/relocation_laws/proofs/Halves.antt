@@ -1,7 +1,7 @@
 -- Halves of PowerPC64.
 use Rattle.std.proofs.Common.{◌≡◌, ℕ, ◌+◌, ◌-◌, ◌*◌, ◌/◌, ◌%◌, ◌^◌, ◌<◌, Bool, true, refl, sym, ◌∙◌, ap, subst}
 use Rattle.std.proofs.Common.{arith, List, ℤ, pos, ◌+ℤ◌, ◌*ℤ◌, Option, Some, None}
-use Rattle.std.specs.Int.{w64, cast_signed, cast_unsigned, int_rem_euclid}
+use Rattle.std.specs.Int.{w64, cast_signed, int_rem_euclid}
 use Rattle.linker_base.specs.Bits.{field, signed}
 use Rattle.linker_base.specs.Form.{window_of, place_sum, replaced}
 use Rattle.linker_base.proofs.ConsecutiveBits.{consecutive_bits_sum}
@@ -16,7 +16,7 @@ use Rattle.linker_utils.specs.declared.elf.Ppc64Instruction.TheVariants.{D, Ds}
 use Rattle.linker_utils.specs.declared.elf.RelocationInstruction.TheVariants.{Ppc64}
 use Rattle.linker_utils.specs.declared.elf.RelocationKind.{RelocationKind}
 use Rattle.linker_utils.specs.declared.elf.value.Operands.{Operands}
-use Rattle.relocation_laws.specs.Schemes.{IsApplied, IsAddress, AreAddresses, symbol_address}
+use Rattle.relocation_laws.specs.Schemes.{IsApplied, IsAddress, AreAddresses}
 use Rattle.relocation_laws.proofs.Instructions.{IsNumber, IsSmall, relative, absolute, row_of}
 use Rattle.relocation_laws.proofs.Instructions.{is_read, reads_bits, field_sum, multiple}
 use Rattle.relocation_laws.proofs.Sums.{halves_sum, signed_16, sum_below, difference_below}
@@ -176,15 +176,3 @@ unadjusted_halves {begin} {target} {number} leads rounds operands within ok e e'
     ((ppc64_form D).machine (window_of (ppc64_form D) after)) (pos (field y 0 16)) (omega arith)
     (omega arith) numbers.small numbers.below numbers.leads (rounds o small) h
     (ap (λ x. pos x +ℤ pos 0) l ∙ ap pos (omega arith))
-
--- the next instruction's distance, where S + A is as much more
-pub same_distance : (o : Operands) → AreAddresses o
-    → difference_64 (sum_64 (sum_64 (sum_64 o.symbol 4) (cast_unsigned w64 o.addend)) 0)
-    (sum_64 o.place 4)
-    ≡ difference_64 (sum_64 (symbol_address o) 0) o.place
-same_distance o small = same o.symbol (cast_unsigned w64 o.addend) o.place small.place
-  where
-    same : (s a p : ℕ) → p < 2 ^ 64
-        → difference_64 (sum_64 (sum_64 (sum_64 s 4) a) 0) (sum_64 p 4)
-        ≡ difference_64 (sum_64 (sum_64 s a) 0) p
-    same s a p small = omega arith

@@ -267,6 +267,12 @@ symbol_itself = leads_to symbol_address symbol_small
 abbrev pub entry_sum : Operands → ℕ
 entry_sum o = sum_64 o.got_entry 0
 
+pub entry_sum_small : IsSmall entry_sum
+entry_sum_small o small = sum_below o.got_entry 0
+
+pub entry_is : (o : Operands) → AreAddresses o → entry_sum o ≡ entry_address o
+entry_is o small = unbiased o.got_entry small.got_entry
+
 pub entry_from : (begin : Operands → ℕ) → IsSmall begin
     → IsNumber begin entry_address (relative entry_sum begin)
 entry_from begin from = λ o small.
@@ -279,6 +285,18 @@ entry_from_place = entry_from place place_small
 
 pub entry_from_got : IsNumber got_base entry_address (relative entry_sum got_base)
 entry_from_got = entry_from got_base got_small
+
+-- the same distance from a place n bytes on, where S + A is as much more
+pub same_distance : (n : ℕ) (o : Operands) → AreAddresses o → n < 2 ^ 64
+    → difference_64 (sum_64 (sum_64 (sum_64 o.symbol n) (cast_unsigned w64 o.addend)) 0)
+    (sum_64 o.place n)
+    ≡ relative symbol_address place o
+same_distance n o small few = same o.symbol (cast_unsigned w64 o.addend) o.place small.place
+  where
+    same : (s a p : ℕ) → p < 2 ^ 64
+        → difference_64 (sum_64 (sum_64 (sum_64 s n) a) 0) (sum_64 p n)
+        ≡ difference_64 (sum_64 (sum_64 s a) 0) p
+    same s a p small = omega arith
 
 -- an instruction that adds its number
 pub adds : {begin target number : Operands → ℕ} → IsNumber begin target number

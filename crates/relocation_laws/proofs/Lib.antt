@@ -2,6 +2,8 @@ pub mod Applied
 pub mod Fields
 pub mod Halves
 pub mod Instructions
+pub mod Moves
+pub mod Pages
 pub mod PartsOfAddresses
 pub mod RiscV
 pub mod Sums

@@ -1,3 +1,4 @@
+pub mod AArch64Laws
 pub mod LoongArchLaws
 pub mod Ppc64Laws
 pub mod RiscVLaws

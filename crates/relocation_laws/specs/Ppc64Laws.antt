@@ -1,18 +1,16 @@
 -- PowerPC64: what relocated instructions compute (64-bit ELF V2 ABI for Power, "Relocation Types";
 -- Power ISA, version 3.1, book I).
-use Rattle.std.specs.Prelude.{ℕ, [], ◌∷◌, ℤ, pos, ◌+ℤ◌, ◌*ℤ◌, ◌^◌, Option}
+use Rattle.std.specs.Prelude.{ℕ, [], ◌∷◌, ℤ, pos, ◌+ℤ◌, ◌*ℤ◌, ◌^◌}
 use Rattle.linker_base.specs.Bits.{field}
 use Rattle.linker_utils.specs.Ppc64.{ppc64_form}
 use Rattle.linker_utils.specs.Ppc64Rows.{ppc64_row}
-use Rattle.linker_utils.specs.Value.{sum_64}
 use Rattle.linker_utils.specs.declared.elf.Ppc64Instruction.{Ppc64Instruction}
 use Rattle.linker_utils.specs.declared.elf.Ppc64Instruction.TheVariants.{D, Ds, Branch14, Branch24}
 use Rattle.linker_utils.specs.declared.elf.Ppc64Instruction.TheVariants.{Prefixed}
-use Rattle.linker_utils.specs.declared.elf.RelocationKindInfo.{RelocationKindInfo}
 use Rattle.linker_utils.specs.declared.elf.value.Operands.{Operands}
 use Rattle.linker_utils.specs.declared.ppc64.relocations.Ppc64Relocation.{Ppc64Relocation}
 use Rattle.linker_utils.specs.declared.ppc64.relocations.Ppc64Relocation.TheVariants as names
-use Rattle.relocation_laws.specs.Schemes.{Step, here, anywhere, Law, Adds, symbol_address}
+use Rattle.relocation_laws.specs.Schemes.{here, anywhere, moved_on, Law, Adds, symbol_address}
 use Rattle.relocation_laws.specs.Schemes.{entry_address, zero, place, got_base, tls_base}
 
 -- ---- halves ("addis", "addi", "ori"; ABI, "@ha", "@hi" and "@l")
@@ -66,18 +64,11 @@ ThreadAddresses =
     × Unadjusted tls_base names.R_PPC64_TPREL16_HI names.R_PPC64_TPREL16_LO symbol_address
     × Unadjusted tls_base names.R_PPC64_DTPREL16_HI names.R_PPC64_DTPREL16_LO symbol_address
 
--- the low half of the next instruction, whose addend is 4 more, as its place is, so that S + A is
--- (ABI, "Function Prologue")
-abbrev pub moved_on : Option RelocationKindInfo → Step
-moved_on row =
-    record (here row) {
-      operands = λ o at. record o { place = sum_64 o.place 4; symbol = sum_64 o.symbol 4 };
-    }
-
+-- The low half is that of the next instruction (ABI, "Function Prologue").
 abbrev pub RelativeAddresses : Type 0
 RelativeAddresses =
     Law
-    (here (ppc64_row names.R_PPC64_REL16_HA) ∷ moved_on (ppc64_row names.R_PPC64_REL16_LO) ∷ [])
+    (here (ppc64_row names.R_PPC64_REL16_HA) ∷ moved_on 4 (ppc64_row names.R_PPC64_REL16_LO) ∷ [])
     (adjusted place D) symbol_address
 
 -- ---- one instruction

@@ -1,11 +1,10 @@
 -- What relocated instructions compute, in one scheme for an instruction, a pair and a sequence.
 use Rattle.std.specs.Prelude.{◌≡◌, ℕ, ◌^◌, ◌<◌, List, [], ◌∷◌, Option, Some, None, IfSome, ℤ, pos}
-use Rattle.std.specs.Prelude.{◌+ℤ◌, ◌*ℤ◌}
+use Rattle.std.specs.Prelude.{◌+ℤ◌, ◌*ℤ◌, ⊤, Bool, IsTrue}
 use Rattle.std.specs.Int.{w64, cast_unsigned, int_rem_euclid}
 use Rattle.linker_base.specs.Form.{window_of}
 use Rattle.linker_utils.specs.Elf.{IsWithin, bit_bounds, relocation_form}
 use Rattle.linker_utils.specs.Relocate.{IsAccepted, IsWritten, number_of_bytes}
-use Rattle.linker_utils.specs.RiscVRows.{Bounds}
 use Rattle.linker_utils.specs.Value.{value_of, sum_64}
 use Rattle.linker_utils.specs.declared.elf.RelocationKindInfo.{RelocationKindInfo}
 use Rattle.linker_utils.specs.declared.elf.RelocationSize.{RelocationSize}
@@ -73,21 +72,33 @@ tls_base o = o.tls_base
 
 -- ---- the scheme
 
+-- what a law requires of a relocation beside that it is applied: nothing, that its value, which
+-- nothing else checks, is from the first bound up and below the second, or that its instruction was
+-- one of some words
+pub data Premise : Type 0 where
+  none : Premise
+  of_values : ℤ × ℤ → Premise
+  of_words : (ℕ → Bool) → Premise
+
+abbrev pub Holds : Premise → ℕ → ℤ → Type 0
+Holds none before v = ⊤
+Holds (of_values bounds) before v = IsWithin (Some bounds) v
+Holds (of_words test) before v = IsTrue (test before)
+
 -- One relocation of a sequence of instructions.
 pub record Step : Type 0 where
   pub row : Option RelocationKindInfo
   -- its operands, by those of the sequence and the address of its own instruction
   pub operands : Operands → ℕ → Operands
-  -- for which of its values the law holds, where nothing else checks them
-  pub within : Bounds
+  pub premise : Premise
 
 -- the relocation whose place is the sequence's, and one that has the same operands
 abbrev pub here : Option RelocationKindInfo → Step
-here row = record { row = row; operands = λ o at. o; within = None }
+here row = record { row = row; operands = λ o at. o; premise = none }
 
 -- one of an instruction that may stand anywhere
 abbrev pub anywhere : Option RelocationKindInfo → Step
-anywhere row = record { row = row; operands = λ o at. record o { place = at }; within = None }
+anywhere row = record { row = row; operands = λ o at. record o { place = at }; premise = none }
 
 -- one of an instruction so many bytes after the first
 abbrev pub next : ℕ → Option RelocationKindInfo → Step
@@ -95,12 +106,19 @@ next n row =
     record {
       row = row;
       operands = λ o at. record o { place = sum_64 o.place n };
-      within = None;
+      premise = none;
+    }
+
+-- one so many bytes after the first, with as many more in its addend, so that S + A is more too
+abbrev pub moved_on : ℕ → Option RelocationKindInfo → Step
+moved_on n row =
+    record (here row) {
+      operands = λ o at. record o { place = sum_64 o.place n; symbol = sum_64 o.symbol n };
     }
 
 -- a value of n bits, in two's complement or without a sign
 abbrev pub of_bits : ℕ → Sign → Step → Step
-of_bits n sign step = record step { within = Some (bit_bounds n sign) }
+of_bits n sign step = record step { premise = of_values (bit_bounds n sign) }
 
 -- the little-endian number of a relocation's bytes: an instruction's word, or a field
 abbrev pub number_at : RelocationSize → List ℕ → ℕ
@@ -119,7 +137,7 @@ Reaches [] o sum target = IsAddress sum target
 Reaches (step ∷ steps) o computed target =
     IfSome step.row (λ row.
     (at : ℕ) (before after : List ℕ) (applied : IsApplied row (step.operands o at) before after)
-    → IsWithin step.within applied.value
+    → Holds step.premise (number_at row.size before) applied.value
     → Reaches steps o (computed (number_at row.size after)) target)
 
 -- The same of all operands.

@@ -6,6 +6,7 @@ ghost use Rattle.relocation_laws.specs.RiscVLaws.{AbsoluteAddresses, RelativeAdd
 ghost use Rattle.relocation_laws.specs.X86Laws.{Symbols, Calls as X86Calls, Entries, Absolutes, FromGot, ThreadAddresses as X86Thread};
 ghost use Rattle.relocation_laws.specs.Ppc64Laws.{AbsoluteAddresses as Ppc64Absolute, RelativeAddresses as Ppc64Relative, TocAddresses, EntryAddresses as Ppc64Entries, ThreadAddresses as Ppc64Thread, Branches, Prefixes, Displacements};
 ghost use Rattle.relocation_laws.specs.LoongArchLaws.{RelativeAddresses as LoongArchRelative, FarAddresses, AbsoluteAddresses as LoongArchAbsolute, ThreadAddresses as LoongArchThread, Branches as LoongArchBranches, Calls as LoongArchCalls};
+ghost use Rattle.relocation_laws.specs.AArch64Laws.{RelativeAddresses as AArch64Relative, EntryAddresses as AArch64Entries, ThreadAddresses as AArch64Thread, ModuleAddresses, Branches as AArch64Branches, Literals, GotOffsets, UnsignedMoves, SignedMoves, RelativeMoves, GotMoves, ThreadMoves};
 
 pub fn riscv64()
     ensures absolute { AbsoluteAddresses }
@@ -44,4 +45,19 @@ pub fn loongarch64()
     ensures thread { LoongArchThread }
     ensures branches { LoongArchBranches }
     ensures calls { LoongArchCalls }
+{}
+
+pub fn aarch64()
+    ensures relative { AArch64Relative }
+    ensures entries { AArch64Entries }
+    ensures thread { AArch64Thread }
+    ensures module { ModuleAddresses }
+    ensures branches { AArch64Branches }
+    ensures literals { Literals }
+    ensures from_got { GotOffsets }
+    ensures unsigned_moves { UnsignedMoves }
+    ensures signed_moves { SignedMoves }
+    ensures relative_moves { RelativeMoves }
+    ensures got_moves { GotMoves }
+    ensures thread_moves { ThreadMoves }
 {}

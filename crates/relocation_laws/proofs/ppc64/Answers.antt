@@ -6,9 +6,9 @@ use Rattle.relocation_laws.specs.Schemes.{symbol_address, got_base, tls_base, pl
 use Rattle.relocation_laws.proofs.Instructions.{adds, symbol_from_place, symbol_from_got}
 use Rattle.relocation_laws.proofs.Instructions.{symbol_from_tls, symbol_itself, entry_from_place}
 use Rattle.relocation_laws.proofs.Instructions.{entry_from_got, entry_sum, place_small, got_small}
-use Rattle.relocation_laws.proofs.Instructions.{tls_small}
+use Rattle.relocation_laws.proofs.Instructions.{tls_small, same_distance}
 use Rattle.relocation_laws.proofs.Halves.{adjusted_halves, unadjusted_halves, d_reads, ds_reads}
-use Rattle.relocation_laws.proofs.Halves.{relative_rounds, absolute_rounds, unrounded, same_distance}
+use Rattle.relocation_laws.proofs.Halves.{relative_rounds, absolute_rounds, unrounded}
 use Rattle.relocation_laws.proofs.Sums.{difference_below, sum_below}
 use Rattle.relocation_laws.proofs.ppc64.Goals as goal
 
@@ -25,7 +25,7 @@ returns-clause-absolute c = (
 pub returns-clause-relative : goal.returns-clause-relative
 returns-clause-relative c =
     adjusted_halves symbol_from_place (relative_rounds 0x8000 place symbol_address place_small) D d_reads _ refl refl
-    (λ o. refl) (λ o small at. ap (λ n. Some (cast_signed w64 n)) (same_distance o small))
+    (λ o. refl) (λ o small at. ap (λ n. Some (cast_signed w64 n)) (same_distance 4 o small (omega arith)))
 
 pub returns-clause-toc : goal.returns-clause-toc
 returns-clause-toc c = (
