@@ -8,6 +8,7 @@ use Rattle.linker_base.proofs.ConsecutiveBits.{consecutive_bits_sum}
 use Rattle.linker_utils.specs.Elf.{IsWithin, relocation_form}
 use Rattle.linker_utils.specs.Ppc64.{ppc64_form}
 use Rattle.linker_utils.specs.Reach.{reach_of}
+use Rattle.linker_utils.specs.Relocate.{ppc64_reads}
 use Rattle.linker_utils.specs.Value.{value_of, sum_64, difference_64}
 use Rattle.linker_utils.specs.declared.elf.AllowedRange.{AllowedRange}
 use Rattle.linker_utils.specs.declared.elf.PageMask.{PageMask}
@@ -17,6 +18,7 @@ use Rattle.linker_utils.specs.declared.elf.RelocationInstruction.TheVariants.{Pp
 use Rattle.linker_utils.specs.declared.elf.RelocationKind.{RelocationKind}
 use Rattle.linker_utils.specs.declared.elf.value.Operands.{Operands}
 use Rattle.relocation_laws.specs.Schemes.{IsApplied, IsAddress, AreAddresses}
+use Rattle.relocation_laws.proofs.Applied.{fits, value_is, taken_bits, ds_stands}
 use Rattle.relocation_laws.proofs.Instructions.{IsNumber, IsSmall, relative, absolute, row_of}
 use Rattle.relocation_laws.proofs.Instructions.{is_read, reads_bits, field_sum, multiple}
 use Rattle.relocation_laws.proofs.Sums.{halves_sum, signed_16, sum_below, difference_below}
@@ -32,26 +34,29 @@ ReadsLow f a =
     after) (n : ℕ) → n < 2 ^ 64
     → value_of (row_of kind 0 16 (Ppc64 f) mask range a bias thunkable implicit) o
     ≡ Some (cast_signed w64 n)
-    → (ppc64_form f).machine (window_of (ppc64_form f) after) ≡ signed 16 (n % 2 ^ 16)
+    → ppc64_reads f (window_of (ppc64_form f) after) ≡ signed 16 (n % 2 ^ 16)
 
 pub d_reads : ReadsLow D 1
 d_reads kind mask range bias thunkable implicit o before after applied n below e =
     let sum = field_sum kind 0 16 (Ppc64 D) mask range 1 bias thunkable implicit o before after
-    applied refl (omega arith) n below e in
+    applied refl refl (omega arith) n below e in
     let low : place_sum ((ppc64_form D).places 0) (window_of (ppc64_form D) after) ≡ n % 2 ^ 16 =
     sum ∙ omega arith in
     ap (signed 16) low
 
 pub ds_reads : ReadsLow Ds 4
 ds_reads kind mask range bias thunkable implicit o before after applied n below e =
-    let sum = field_sum kind 0 16 (Ppc64 Ds) mask range 4 bias thunkable implicit o before after
-    applied refl (omega arith) n below e in
+    let row = row_of kind 0 16 (Ppc64 Ds) mask range 4 bias thunkable implicit in
+    let is = value_is row o before after applied (cast_signed w64 n) e in
+    let taken = taken_bits (record { start = 0; end = 16 }) n applied.value below is in
     let none : n % 2 ^ 2 ≡ 0 =
     multiple kind 0 16 (Ppc64 Ds) mask range 4 bias thunkable implicit o before after applied n 2
     below (omega arith) refl e in
-    let low : place_sum ((ppc64_form Ds).places 0) (window_of (ppc64_form Ds) after) ≡ n % 2 ^ 16 =
-    sum ∙ omega arith in
-    ap (signed 16) low
+    ds_stands applied.value before after (fits row o before after applied n below is)
+    applied.accepted.aligned.1 applied.written
+    ∙ ap (λ f. signed 16 ((f - f % 2 ^ 2) % 2 ^ 16)) taken
+    ∙ ap (signed 16) (let low : (field n 0 16 - field n 0 16 % 2 ^ 2) % 2 ^ 16 ≡ n % 2 ^ 16 =
+    omega arith in low)
 
 -- ---- numbers with rounding
 
@@ -117,7 +122,7 @@ pub adjusted_halves : {begin target number rounded : Operands → ℕ} → IsNum
     (operands o at') before' after') → IsWithin None rest.value
     → IsAddress ((pos (begin o)
     +ℤ ((ppc64_form D).machine (window_of (ppc64_form D) after) *ℤ pos (2 ^ 16)))
-    +ℤ (ppc64_form f).machine (window_of (ppc64_form f) after')) (target o)
+    +ℤ ppc64_reads f (window_of (ppc64_form f) after')) (target o)
 adjusted_halves {begin} {target} {number} {rounded} leads rounds f low operands within ok e e' =
     λ o small at before after high any at' before' after' rest any'.
     let n = number o in
@@ -130,7 +135,7 @@ adjusted_halves {begin} {target} {number} {rounded} leads rounds f low operands 
     let l = low _ _ _ _ _ _ _ before' after' rest n numbers.below (e' o small at') in
     halves_sum 16 0x8000 (begin o) (target o) n (rounded o)
     ((ppc64_form D).machine (window_of (ppc64_form D) after))
-    ((ppc64_form f).machine (window_of (ppc64_form f) after')) (omega arith) (omega arith)
+    (ppc64_reads f (window_of (ppc64_form f) after')) (omega arith) (omega arith)
     numbers.small numbers.below numbers.leads is h (adjusted_low n (rounded o) _ l is)
 
 -- the low half without a sign
@@ -169,7 +174,7 @@ unadjusted_halves {begin} {target} {number} leads rounds operands within ok e e'
     (subst (λ b. IsWithin b high.value) within high.accepted.reached.0) ok n numbers.below (e o)
     in
     let y = window_of (ppc64_form D) after' in
-    let sum = field_sum _ 0 16 (Ppc64 D) _ _ 1 _ _ _ _ before' after' rest refl (omega arith) n
+    let sum = field_sum _ 0 16 (Ppc64 D) _ _ 1 _ _ _ _ before' after' rest refl refl (omega arith) n
     numbers.below (e' o small at') in
     let l : field y 0 16 ≡ n % 2 ^ 16 = sym (d_field y) ∙ sum ∙ omega arith in
     halves_sum 16 0 (begin o) (target o) n n

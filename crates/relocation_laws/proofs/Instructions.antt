@@ -24,7 +24,7 @@ use Rattle.linker_utils.proofs.Agreement.{layout_check}
 use Rattle.relocation_laws.specs.Schemes.{IsApplied, IsAddress, AreAddresses}
 use Rattle.relocation_laws.specs.Schemes.{symbol_address, plt_address, entry_and_addend, entry_address}
 use Rattle.relocation_laws.specs.Schemes.{place, got_base, tls_base, zero, size_and_addend}
-use Rattle.relocation_laws.proofs.Applied.{fits, value_is, reads_within, aligned_low, stands, taken_bits}
+use Rattle.relocation_laws.proofs.Applied.{insn_reads, is_plain, begins, fits, value_is, reads_within, aligned_low, stands, taken_bits}
 use Rattle.relocation_laws.proofs.Sums.{Leads, difference_leads, itself_leads, sum_below}
 use Rattle.relocation_laws.proofs.Sums.{difference_below, multiple_part}
 
@@ -80,12 +80,13 @@ pub record IsRead (insn : RelocationInstruction) (start end : ℕ) (b : ℤ × �
   pub check : layout_check (relocation_layout insn) start end (Some b) a ≡ true
   pub some : start < end
   pub inside : end ≤ 64
+  pub from : begins insn start ≡ true
 
 abbrev pub is_read : RelocationInstruction → ℕ → ℕ → ℤ × ℤ → ℕ → Bool
 is_read insn start end b a =
     is_sound_layout (relocation_layout insn)
     && (layout_check (relocation_layout insn) start end (Some b) a
-    && (ltb start end && leb end 64))
+    && (begins insn start && (ltb start end && leb end 64)))
 
 -- the same in units of 2 to the range's start
 abbrev pub is_added : RelocationInstruction → ℕ → ℕ → ℤ × ℤ → ℕ → Bool
@@ -97,15 +98,17 @@ pub read_parts : (insn : RelocationInstruction) (start end : ℕ) (b : ℤ × �
 read_parts insn start end b a h =
     let one = and_parts (is_sound_layout (relocation_layout insn))
     (layout_check (relocation_layout insn) start end (Some b) a
-    && (ltb start end && leb end 64)) h in
+    && (begins insn start && (ltb start end && leb end 64))) h in
     let two = and_parts (layout_check (relocation_layout insn) start end (Some b) a)
-    (ltb start end && leb end 64) one.1 in
-    let three = and_parts (ltb start end) (leb end 64) two.1 in
+    (begins insn start && (ltb start end && leb end 64)) one.1 in
+    let first = and_parts (begins insn start) (ltb start end && leb end 64) two.1 in
+    let three = and_parts (ltb start end) (leb end 64) first.1 in
     record {
       sound = one.0;
       check = two.0;
       some = ltb-true start end three.0;
       inside = leb-true end 64 three.1;
+      from = first.0;
     }
 
 module _ (kind : RelocationKind) (start end : ℕ) (insn : RelocationInstruction)
@@ -118,7 +121,7 @@ module _ (kind : RelocationKind) (start end : ℕ) (insn : RelocationInstruction
       → is_read insn start end b a ≡ true → (n : ℕ) → n < 2 ^ 64
       → value_of (row_of kind start end insn mask range a bias thunkable implicit) o
       ≡ Some (cast_signed w64 n)
-      → (relocation_form insn).machine (window_of (relocation_form insn) after)
+      → insn_reads insn (window_of (relocation_form insn) after)
       ≡ bits_from start (cast_signed w64 n)
   reads_bits b within ok n below e =
       let row = row_of kind start end insn mask range a bias thunkable implicit in
@@ -126,7 +129,8 @@ module _ (kind : RelocationKind) (start end : ℕ) (insn : RelocationInstruction
       let is = value_is row o before after applied (cast_signed w64 n) e in
       reads_within insn parts.sound (record { start = start; end = end }) applied.value before after
       applied.written parts.inside b a parts.check
-      (fits row o before after applied n below is) parts.some within applied.accepted.aligned
+      (fits row o before after applied n below is) parts.some within applied.accepted.aligned.0
+      parts.from applied.accepted.aligned.1
       ∙ ap (bits_from start) (sym is)
 
   -- the value's low bits
@@ -138,20 +142,21 @@ module _ (kind : RelocationKind) (start end : ℕ) (insn : RelocationInstruction
       let row = row_of kind start end insn mask range a bias thunkable implicit in
       aligned_low n k applied.value below short
       (value_is row o before after applied (cast_signed w64 n) e)
-      (subst (λ m. IsAligned m applied.value) is_power applied.accepted.aligned)
+      (subst (λ m. IsAligned m applied.value) is_power applied.accepted.aligned.0)
 
   -- what stands at the places
-  pub field_sum : is_sound_layout (relocation_layout insn) ≡ true → end ≤ 64 → (n : ℕ) → n < 2 ^ 64
+  pub field_sum : is_sound_layout (relocation_layout insn) ≡ true → is_plain insn ≡ true
+      → end ≤ 64 → (n : ℕ) → n < 2 ^ 64
       → value_of (row_of kind start end insn mask range a bias thunkable implicit) o
       ≡ Some (cast_signed w64 n)
       → place_sum ((relocation_form insn).places applied.written.clear)
       (window_of (relocation_form insn) after)
       ≡ (field n start end - field n start end % 2 ^ low_of (relocation_layout insn))
       % 2 ^ high_of (relocation_layout insn)
-  field_sum sound inside n below e =
+  field_sum sound plain inside n below e =
       let row = row_of kind start end insn mask range a bias thunkable implicit in
       let bits : BitRange = record { start = start; end = end } in
-      stands insn sound bits applied.value before after applied.written inside
+      stands insn sound bits applied.value before after applied.written inside plain
       ∙ ap (λ f. (f - f % 2 ^ low_of (relocation_layout insn))
       % 2 ^ high_of (relocation_layout insn))
       (taken_bits bits n applied.value below
@@ -164,8 +169,7 @@ module _ (kind : RelocationKind) (start end : ℕ) (insn : RelocationInstruction
       → value_of (row_of kind start end insn mask range a bias thunkable implicit) o
       ≡ Some (cast_signed w64 n)
       → IsAddress (pos p
-      +ℤ ((relocation_form insn).machine (window_of (relocation_form insn) after)
-      *ℤ pos (2 ^ start))) s
+      +ℤ (insn_reads insn (window_of (relocation_form insn) after) *ℤ pos (2 ^ start))) s
   adds_number b within ok p n s number e =
       let both = and_parts (is_read insn start end b a)
       (ltb start 64 && (eqb start 0 || eqb a (2 ^ start))) ok in
@@ -178,7 +182,7 @@ module _ (kind : RelocationKind) (start end : ℕ) (insn : RelocationInstruction
             multiple n start number.below (omega arith) (eqb-true a (2 ^ start) power) e
       ] in
       multiple_part start p n s
-      ((relocation_form insn).machine (window_of (relocation_form insn) after))
+      (insn_reads insn (window_of (relocation_form insn) after))
       (omega arith) number.below number.leads (reads_bits b within both.0 n number.below e) none
       number.small
 
@@ -311,8 +315,7 @@ pub adds : {begin target number : Operands → ℕ} → IsNumber begin target nu
     (applied : IsApplied (row_of kind start end insn mask range a bias thunkable implicit) o
     before after) → IsWithin None applied.value
     → IsAddress (pos (begin o)
-    +ℤ ((relocation_form insn).machine (window_of (relocation_form insn) after)
-    *ℤ pos (2 ^ start))) (target o)
+    +ℤ (insn_reads insn (window_of (relocation_form insn) after) *ℤ pos (2 ^ start))) (target o)
 adds {begin} {target} {number} leads within ok e = λ o small at before after applied any.
     adds_number _ _ _ _ _ _ _ _ _ _ o before after applied _
     (subst (λ b. IsWithin b applied.value) within applied.accepted.reached.0) ok (begin o)

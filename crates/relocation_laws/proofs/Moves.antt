@@ -1,18 +1,21 @@
 -- Moves of 16 bits of AArch64.
 use Rattle.std.proofs.Common.{◌≡◌, ℕ, ◌+◌, ◌-◌, ◌*◌, ◌/◌, ◌%◌, ◌^◌, ◌<◌, ◌≤◌, Bool, true, false, refl, sym, ◌∙◌, ap, subst}
 use Rattle.std.proofs.Common.{arith, List, ℤ, pos, negsuc, ◌+ℤ◌, ◌-ℤ◌, ◌*ℤ◌, Option, Some, None, suc, unsigned_abs}
-use Rattle.std.specs.Prelude.{◌==◌}
-use Rattle.std.specs.Int.{w32, w64, cast_signed, from_le_bytes, int_rem_euclid}
-use Rattle.std.proofs.lemmas.Bool.{eqb-true}
+use Rattle.std.proofs.Common.{eqb}
+use Rattle.std.specs.Prelude.{◌==◌, ◌&&◌}
+use Rattle.std.specs.Int.{w32, w64, bit_at, cast_signed, from_le_bytes, int_rem_euclid}
+use Rattle.std.proofs.lemmas.Bool.{and_parts, eqb-true}
 use Rattle.std.proofs.lemmas.Int.{ints, int_rem_euclid_is}
 use Rattle.std.proofs.lemmas.Nat.{mod_below, pow_pos, pow-add, div-mul-add, div-add-mod'}
 use Rattle.std.proofs.Math.Nat.{mul-add-mod_self_right}
 use Rattle.linker_base.specs.Bits.{field}
 use Rattle.linker_base.specs.Form.{window_of, place_sum, IsSameModulo}
+use Rattle.linker_base.specs.declared.bit_misc.BitRange.{BitRange}
 use Rattle.linker_utils.specs.AArch64.{aarch64_form, shift_of}
 use Rattle.linker_utils.specs.Agrees.{bits_from, AgreesInReach, IsSameIn, aarch64_reads}
 use Rattle.linker_utils.specs.Elf.{IsWithin, relocation_form}
 use Rattle.linker_utils.specs.Reach.{reach_of}
+use Rattle.linker_utils.specs.Relocate.{MoveReads}
 use Rattle.linker_utils.specs.RiscVRows.{Bounds}
 use Rattle.linker_utils.specs.Value.{value_of, sum_64}
 use Rattle.linker_utils.specs.declared.elf.AArch64Instruction.{AArch64Instruction}
@@ -116,7 +119,7 @@ movk_reads : (kind : RelocationKind) (s : ℕ) (mask : Option PageMask) (range :
     → (aarch64_form Movkz).machine (from_le_bytes w32 after) ≡ pos (field n s (s + 16))
 movk_reads kind s mask range a bias thunkable implicit o before after applied n below inside e =
     let sum = field_sum kind s (s + 16) (AArch64 Movkz) mask range a bias thunkable implicit o
-    before after applied refl (omega arith) n below e in
+    before after applied refl refl (omega arith) n below e in
     let width : s + 16 - s ≡ 16 = omega arith in
     let f = field n s (s + 16) in
     let small : f < 2 ^ 16 =
@@ -442,6 +445,14 @@ movz_first s {begin} {target} {number} leads short within ok e =
     (subst (λ b. IsWithin b applied.value) within applied.accepted.reached.0) ok n below (e o) in
     ap (λ z. bits_from s (z *ℤ pos (2 ^ s))) m ∙ scaled (field n s (s + 16)) s ∙ sym m ∙ r
 
+-- a move of 64 bits
+wide_reads : (bits : BitRange) (b : Option (ℤ × ℤ)) (v : ℤ) (before after : ℕ)
+    → bit_at before 31 ≡ 1 → MoveReads (bit_at before 31 == 0) bits b v after
+    → IsSameIn b (bits.end - bits.start) (aarch64_reads Movnz bits.start after)
+    (bits_from bits.start v)
+wide_reads bits b v before after wide reads =
+    subst (λ k. MoveReads (k == 0) bits b v after) wide reads
+
 pub movn_first : (s : ℕ) {begin target number : Operands → ℕ} → IsNumber begin target number
     → {kind : RelocationKind} {mask : Option PageMask} {range : AllowedRange} {a : ℕ}
     {bias : Option ℕ} {thunkable implicit : Bool} {b : ℤ × ℤ}
@@ -453,13 +464,17 @@ pub movn_first : (s : ℕ) {begin target number : Operands → ℕ} → IsNumber
     thunkable implicit) o ≡ Some (cast_signed w64 (number o)))
     → IsFirst (row_of kind s (s + 16) (AArch64 Movnz) mask range a bias
     thunkable implicit)
-    (of_words (λ x. shift_of x == s)) s movn_or_movz number
+    (of_words (λ x. shift_of x == s && bit_at x 31 == 1)) s movn_or_movz number
 movn_first s {begin} {target} {number} leads within agrees e = λ o small before after applied holds.
     let n = number o in
     let below = (leads o small).below in
     let is = value_is _ o before after applied (cast_signed w64 n) (e o) in
-    let same = reads _ o before after applied n below is false agrees
-    (λ f. eqb-true (shift_of (from_le_bytes w32 before)) s holds) in
+    let x = from_le_bytes w32 before in
+    let both = and_parts (eqb (shift_of x) s) (eqb (bit_at x 31) 1) holds in
+    let wide = eqb-true (bit_at x 31) 1 both.1 in
+    let same = wide_reads _ _ applied.value x (from_le_bytes w32 after) wide
+    (reads _ o before after applied n below is false agrees
+    (eqb-true (shift_of x) s both.0) (λ narrow. absurd (let e : 1 ≡ 0 = sym wide ∙ narrow in omega arith))) in
     subst (λ b. IsSameIn b (s + 16 - s) (aarch64_reads Movnz s (from_le_bytes w32 after))
     (bits_from s applied.value)) within same
     ∙ ap (bits_from s) (sym is)
@@ -475,15 +490,19 @@ pub movn_highest : {begin target number : Operands → ℕ} → IsNumber begin t
     thunkable implicit) o ≡ Some (cast_signed w64 (number o)))
     → IsHighest (row_of kind 48 64 (AArch64 Movnz) mask range a bias
     thunkable implicit)
-    (of_words (λ x. shift_of x == 48)) movn_or_movz number
+    (of_words (λ x. shift_of x == 48 && bit_at x 31 == 1)) movn_or_movz number
 movn_highest {begin} {target} {number} leads within agrees e = λ o small before after applied holds.
     let n = number o in
     let below = (leads o small).below in
     let is = value_is _ o before after applied (cast_signed w64 n) (e o) in
-    let same = reads _ o before after applied n below is false agrees
-    (λ f. eqb-true (shift_of (from_le_bytes w32 before)) 48 holds) in
-    subst (λ b. IsSameIn b 16 (aarch64_reads Movnz 48 (from_le_bytes w32 after))
-    (bits_from 48 applied.value)) within same
+    let x = from_le_bytes w32 before in
+    let both = and_parts (eqb (shift_of x) 48) (eqb (bit_at x 31) 1) holds in
+    let wide = eqb-true (bit_at x 31) 1 both.1 in
+    let same = wide_reads _ _ applied.value x (from_le_bytes w32 after) wide
+    (reads _ o before after applied n below is false agrees
+    (eqb-true (shift_of x) 48 both.0) (λ narrow. absurd (let e : 1 ≡ 0 = sym wide ∙ narrow in omega arith))) in
+    (subst (λ b. IsSameIn b 16 (aarch64_reads Movnz 48 (from_le_bytes w32 after))
+    (bits_from 48 applied.value)) within same).0
     ∙ ap (λ z. int_rem_euclid (bits_from 48 z) (pos (2 ^ 16))) (sym is)
 
 pub movz_highest : {begin target number : Operands → ℕ} → IsNumber begin target number

@@ -60,7 +60,7 @@ pub offset_reads : (f : AArch64Instruction) → IsUnsigned f
 offset_reads f is kind k mask range bias thunkable implicit o before after applied n below short e =
     let x = window_of (aarch64_form f) after in
     let sum = field_sum kind k 12 (AArch64 f) mask range (2 ^ k) bias thunkable implicit o before
-    after applied is.0 (omega arith) n below e in
+    after applied is.0 refl (omega arith) n below e in
     let v = field n k 12 in
     let small : v < 2 ^ 12 =
     subst_below v (12 - k) 12 (mod_below (n / 2 ^ k) (2 ^ (12 - k)) (pow_pos (12 - k)))

@@ -26,7 +26,8 @@ use Rattle.linker_utils.proofs.LoongArchAddresses.{page_and_distance, made, firs
 use Rattle.linker_utils.proofs.LoongArchAddresses.{high_of_five, five_of, five_from}
 use Rattle.relocation_laws.specs.LoongArchLaws.{upper_and_or, four}
 use Rattle.relocation_laws.specs.Schemes.{IsApplied, IsAddress, AreAddresses, place}
-use Rattle.relocation_laws.proofs.Applied.{fits, holds, value_is, taken_bits, taken_below}
+use Rattle.relocation_laws.proofs.Applied.{fits, holds, value_is, taken_bits}
+use Rattle.linker_utils.proofs.Taken.{taken_below}
 use Rattle.relocation_laws.proofs.Halves.{IsRounded, rounded_relative}
 use Rattle.relocation_laws.proofs.Instructions.{IsNumber, IsSmall, relative, absolute, row_of}
 use Rattle.relocation_laws.proofs.Instructions.{is_read, reads_bits, field_sum, multiple, unbiased}
@@ -49,7 +50,7 @@ pub high_field : (kind : RelocationKind) (start : ℕ) (mask : Option PageMask)
     → field (window_of (loongarch_form Shift5) after) 5 25 ≡ field n start (start + 20)
 high_field kind start mask range a bias thunkable implicit o before after applied n below inside e =
     let sum = field_sum kind start (start + 20) (LoongArch64 Shift5) mask range a bias thunkable
-    implicit o before after applied refl (omega arith) n below e in
+    implicit o before after applied refl refl (omega arith) n below e in
     let width : start + 20 - start ≡ 20 = omega arith in
     let small : field n start (start + 20) < 2 ^ 20 =
     subst (λ w. field n start (start + 20) < 2 ^ w) width
@@ -455,6 +456,6 @@ calls_far {target} {number} leads e = λ o small at before after applied any.
     let numbers = leads o small in
     let is = value_is _ o before after applied (cast_signed w64 n) (e o) in
     let sum : reach (window_of (loongarch_form Call36) after) ≡ applied.value =
-    holds _ o before after applied n numbers.below is refl refl applied.accepted.aligned in
+    holds _ o before after applied n numbers.below is refl refl applied.accepted.aligned.0 in
     ap (λ z. int_rem_euclid (pos o.place +ℤ z) (pos (2 ^ 64))) (once _ ∙ sum ∙ sym is)
     ∙ goes o.place n (target o) numbers.below numbers.leads

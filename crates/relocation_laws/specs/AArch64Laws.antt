@@ -1,7 +1,7 @@
 -- AArch64: what relocated instructions compute (ELF for the Arm 64-bit Architecture, "Relocation";
 -- Arm Architecture Reference Manual for A-profile, DDI 0487, C6.2).
-use Rattle.std.specs.Prelude.{ℕ, [], ◌∷◌, ℤ, pos, ◌+◌, ◌+ℤ◌, ◌-ℤ◌, ◌*ℤ◌, ◌^◌, ◌==◌}
-use Rattle.std.specs.Int.{int_rem_euclid}
+use Rattle.std.specs.Prelude.{ℕ, [], ◌∷◌, ℤ, pos, ◌+◌, ◌+ℤ◌, ◌-ℤ◌, ◌*ℤ◌, ◌^◌, ◌==◌, ◌&&◌}
+use Rattle.std.specs.Int.{bit_at, int_rem_euclid}
 use Rattle.linker_utils.specs.AArch64.{aarch64_form, shift_of}
 use Rattle.linker_utils.specs.AArch64Rows.{aarch64_row}
 use Rattle.linker_utils.specs.LoongArch.{page}
@@ -176,9 +176,9 @@ movk shift v word =
     +ℤ ((aarch64_form Movkz).machine word *ℤ pos (2 ^ shift)))
     +ℤ int_rem_euclid v (pos (2 ^ shift))
 
--- The move's shift is that of the 16 bits.
+-- The move is one of 64 bits, and its shift is that of the 16 bits.
 abbrev pub has_shift : ℕ → Premise
-has_shift shift = of_words (λ x. shift_of x == shift)
+has_shift shift = of_words (λ x. shift_of x == shift && bit_at x 31 == 1)
 
 -- the moves of the 16 bits below those that the first one moves, of the same value
 abbrev pub Moves1 : Step → (Operands → ℕ) → (ℕ → ℤ) → (Operands → ℕ) → Type 0

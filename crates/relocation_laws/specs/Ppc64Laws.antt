@@ -4,6 +4,7 @@ use Rattle.std.specs.Prelude.{ℕ, [], ◌∷◌, ℤ, pos, ◌+ℤ◌, ◌*ℤ�
 use Rattle.linker_base.specs.Bits.{field}
 use Rattle.linker_utils.specs.Ppc64.{ppc64_form}
 use Rattle.linker_utils.specs.Ppc64Rows.{ppc64_row}
+use Rattle.linker_utils.specs.Relocate.{ppc64_reads}
 use Rattle.linker_utils.specs.declared.elf.Ppc64Instruction.{Ppc64Instruction}
 use Rattle.linker_utils.specs.declared.elf.Ppc64Instruction.TheVariants.{D, Ds, Branch14, Branch24}
 use Rattle.linker_utils.specs.declared.elf.Ppc64Instruction.TheVariants.{Prefixed}
@@ -19,7 +20,7 @@ use Rattle.relocation_laws.specs.Schemes.{entry_address, zero, place, got_base, 
 -- two's complement, adds that. The register holds what the formula subtracts, or 0.
 abbrev pub adjusted : (Operands → ℕ) → Ppc64Instruction → Operands → ℕ → ℕ → ℤ
 adjusted begin low o x y =
-    (pos (begin o) +ℤ ((ppc64_form D).machine x *ℤ pos (2 ^ 16))) +ℤ (ppc64_form low).machine y
+    (pos (begin o) +ℤ ((ppc64_form D).machine x *ℤ pos (2 ^ 16))) +ℤ ppc64_reads low y
 
 abbrev pub Adjusted : (Operands → ℕ) → Ppc64Relocation → Ppc64Relocation → Ppc64Instruction
     → (Operands → ℕ) → Type 0
@@ -74,7 +75,7 @@ RelativeAddresses =
 -- ---- one instruction
 
 abbrev pub Single : Ppc64Relocation → (Operands → ℕ) → Ppc64Instruction → (Operands → ℕ) → Type 0
-Single name begin f target = Adds (here (ppc64_row name)) begin (ppc64_form f).machine 1 target
+Single name begin f target = Adds (here (ppc64_row name)) begin (ppc64_reads f) 1 target
 
 abbrev pub Branches : Type 0
 Branches =

@@ -74,7 +74,7 @@ Absolutes =
 -- offsets from the GOT
 abbrev pub FromGot : Type 0
 FromGot =
-    Unsigned names.R_X86_64_GOT32 got_base entry_and_addend
+    Signed 32 names.R_X86_64_GOT32 got_base entry_and_addend
     × Unsigned names.R_X86_64_GOT64 got_base entry_and_addend
     × Unsigned names.R_X86_64_GOTOFF64 got_base symbol_address
     × Unsigned names.R_X86_64_PLTOFF64 got_base plt_address

@@ -78,7 +78,7 @@ returns-clause-branches c = (
           (loongarch_rows R_LARCH_B16).1 refl (λ e t. omega arith) in
           multiple_part 2 o.place n (symbol_address o) ((loongarch_form Shift10).machine x)
           (omega arith) numbers.below numbers.leads (r ∙ ap (bits_from 2) (sym is))
-          (aligned_low n 2 applied.value numbers.below (omega arith) is applied.accepted.aligned)
+          (aligned_low n 2 applied.value numbers.below (omega arith) is applied.accepted.aligned.0)
           numbers.small),
       adds symbol_from_place refl refl (λ o. refl),
       adds plt_from_place refl refl (λ o. refl),

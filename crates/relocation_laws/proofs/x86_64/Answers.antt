@@ -57,7 +57,7 @@ returns-clause-absolutes c = (
 
 pub returns-clause-from_got : goal.returns-clause-from_got
 returns-clause-from_got c = (
-      field_adds entry_and_addend_from_got unsigned (λ v old. refl) refl refl (λ o. refl),
+      field_adds entry_and_addend_from_got twos_complement (λ v old. refl) refl refl (λ o. refl),
       whole_field_adds entry_and_addend_from_got (λ v old. refl) (λ o. refl),
       whole_field_adds symbol_from_got (λ v old. refl) (λ o. refl),
       whole_field_adds plt_from_got (λ v old. refl) (λ o. refl),
