@@ -2,11 +2,11 @@
 //! nothing, and its contract has the laws of one architecture.
 #![tactic(auto)]
 
-ghost use Rattle.relocation_laws.specs.RiscVLaws.{AbsoluteAddresses, RelativeAddresses, EntryAddresses, DescriptorAddresses, ThreadAddresses, Calls, Jumps};
+ghost use Rattle.relocation_laws.specs.RiscVLaws.{AbsoluteAddresses, RelativeAddresses, EntryAddresses, DescriptorAddresses, ThreadAddresses, Calls, Jumps, Distances, Fields as RiscVFields};
 ghost use Rattle.relocation_laws.specs.X86Laws.{Symbols, Calls as X86Calls, Entries, Absolutes, FromGot, ThreadAddresses as X86Thread};
-ghost use Rattle.relocation_laws.specs.Ppc64Laws.{AbsoluteAddresses as Ppc64Absolute, RelativeAddresses as Ppc64Relative, TocAddresses, EntryAddresses as Ppc64Entries, ThreadAddresses as Ppc64Thread, Branches, Prefixes, Displacements};
-ghost use Rattle.relocation_laws.specs.LoongArchLaws.{RelativeAddresses as LoongArchRelative, FarAddresses, AbsoluteAddresses as LoongArchAbsolute, ThreadAddresses as LoongArchThread, Branches as LoongArchBranches, Calls as LoongArchCalls};
-ghost use Rattle.relocation_laws.specs.AArch64Laws.{RelativeAddresses as AArch64Relative, EntryAddresses as AArch64Entries, ThreadAddresses as AArch64Thread, ModuleAddresses, Branches as AArch64Branches, Literals, GotOffsets, UnsignedMoves, SignedMoves, RelativeMoves, GotMoves, ThreadMoves};
+ghost use Rattle.relocation_laws.specs.Ppc64Laws.{AbsoluteAddresses as Ppc64Absolute, RelativeAddresses as Ppc64Relative, TocAddresses, EntryAddresses as Ppc64Entries, ThreadAddresses as Ppc64Thread, Branches, Prefixes, Displacements, Fields as Ppc64Fields};
+ghost use Rattle.relocation_laws.specs.LoongArchLaws.{RelativeAddresses as LoongArchRelative, FarAddresses, AbsoluteAddresses as LoongArchAbsolute, ThreadAddresses as LoongArchThread, Branches as LoongArchBranches, Calls as LoongArchCalls, Distances as LoongArchDistances, Fields as LoongArchFields};
+ghost use Rattle.relocation_laws.specs.AArch64Laws.{RelativeAddresses as AArch64Relative, EntryAddresses as AArch64Entries, ThreadAddresses as AArch64Thread, ModuleAddresses, Branches as AArch64Branches, Literals, GotOffsets, UnsignedMoves, SignedMoves, RelativeMoves, GotMoves, ThreadMoves, Fields as AArch64Fields};
 
 pub fn riscv64()
     ensures absolute { AbsoluteAddresses }
@@ -16,6 +16,8 @@ pub fn riscv64()
     ensures thread { ThreadAddresses }
     ensures calls { Calls }
     ensures jumps { Jumps }
+    ensures distances { Distances }
+    ensures fields { RiscVFields }
 {}
 
 pub fn x86_64()
@@ -36,6 +38,7 @@ pub fn ppc64()
     ensures branches { Branches }
     ensures prefixed { Prefixes }
     ensures displacements { Displacements }
+    ensures fields { Ppc64Fields }
 {}
 
 pub fn loongarch64()
@@ -45,6 +48,8 @@ pub fn loongarch64()
     ensures thread { LoongArchThread }
     ensures branches { LoongArchBranches }
     ensures calls { LoongArchCalls }
+    ensures distances { LoongArchDistances }
+    ensures fields { LoongArchFields }
 {}
 
 pub fn aarch64()
@@ -60,4 +65,5 @@ pub fn aarch64()
     ensures relative_moves { RelativeMoves }
     ensures got_moves { GotMoves }
     ensures thread_moves { ThreadMoves }
+    ensures fields { AArch64Fields }
 {}
