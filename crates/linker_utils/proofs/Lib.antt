@@ -19,7 +19,6 @@ pub mod Ppc64Pairs
 pub mod Prepared
 pub mod Readings
 pub mod Relocated
-pub mod RelocationLaws
 pub mod RiscV
 pub mod RiscVRewrites
 pub mod RowsAgree

@@ -24,7 +24,7 @@ pub struct Operands {
     pub place: u64,
     /// The address of the GOT entry that the relocation asks for: the symbol's (GOT + G), or its
     /// entries for general-dynamic, local-dynamic and initial-exec TLS, or its TLS descriptor. Of
-    /// an AArch64 instruction it is the entry of S + A.
+    /// an instruction of AArch64 or PowerPC64 it is the entry of S + A.
     pub got_entry: u64,
     /// The address that offsets from the GOT count from: that of `_GLOBAL_OFFSET_TABLE_`, and on
     /// PowerPC64 that of `.TOC.`, which is the GOT's address plus 0x8000.
@@ -63,7 +63,7 @@ fn bias_or_zero(bias: Option<Bias>) -> u64 {
 fn addend_of_entry(size: RelocationSize, addend: i64) -> u64 {
     match size {
         RelocationSize::BitMasking {
-            insn: RelocationInstruction::AArch64(_),
+            insn: RelocationInstruction::AArch64(_) | RelocationInstruction::Ppc64(_),
             ..
         } => 0,
         _ => addend.cast_unsigned(),
