@@ -1,5 +1,5 @@
 -- The law of a field of whole bytes.
-use Rattle.std.proofs.Common.{◌≡◌, ℕ, ◌+◌, ◌-◌, ◌*◌, ◌%◌, ◌^◌, ◌<◌, ◌≤◌, ◌&&◌, Bool, true, refl, sym}
+use Rattle.std.proofs.Common.{◌≡◌, ℕ, zero, suc, ◌+◌, ◌-◌, ◌*◌, ◌%◌, ◌^◌, ◌<◌, ◌≤◌, ◌&&◌, Bool, true, refl, sym}
 use Rattle.std.proofs.Common.{◌∙◌, ap, subst, arith, List, ℤ, pos, negsuc, ◌+ℤ◌, ◌*ℤ◌, Option, Some, None, ltb}
 use Rattle.std.proofs.Common.{unsigned_abs}
 use Rattle.std.specs.Int.{w64, cast_signed, int_rem_euclid}
@@ -146,3 +146,35 @@ whole_field_adds {begin} {target} {number} leads whole e = λ o small at before 
     ∙ cast_is (number o) numbers.below) in
     ap (λ z. int_rem_euclid (pos (begin o) +ℤ z) (pos (2 ^ 64))) (once _ ∙ ap pos is)
     ∙ ap pos there
+
+-- ---- fields of data
+
+led_low : (n b f s number : ℕ) → n < 9 → (b + number) % 2 ^ 64 ≡ s → f ≡ number % 2 ^ (8 * n)
+    → (b + f) % 2 ^ (8 * n) ≡ s % 2 ^ (8 * n)
+led_low zero b f s number h leads is = omega arith
+led_low (suc zero) b f s number h leads is = omega arith
+led_low (suc (suc zero)) b f s number h leads is = omega arith
+led_low (suc (suc (suc zero))) b f s number h leads is = omega arith
+led_low (suc (suc (suc (suc zero)))) b f s number h leads is = omega arith
+led_low (suc (suc (suc (suc (suc zero))))) b f s number h leads is = omega arith
+led_low (suc (suc (suc (suc (suc (suc zero)))))) b f s number h leads is = omega arith
+led_low (suc (suc (suc (suc (suc (suc (suc zero))))))) b f s number h leads is = omega arith
+led_low (suc (suc (suc (suc (suc (suc (suc (suc zero)))))))) b f s number h leads is = omega arith
+led_low (suc (suc (suc (suc (suc (suc (suc (suc (suc n))))))))) b f s number h leads is =
+    absurd (omega arith)
+
+pub holds_distance : {begin target number : Operands → ℕ} → IsNumber begin target number
+    → {kind : RelocationKind} {n : ℕ} {mask : Option PageMask} {range : AllowedRange}
+    {a : ℕ} {bias : Option ℕ} {thunkable implicit : Bool} → n < 9 → IsValue kind
+    → ((o : Operands) → value_of (bytes_of kind n mask range a bias thunkable implicit) o
+    ≡ Some (cast_signed w64 (number o)))
+    → (o : Operands) → AreAddresses o → (before after : List ℕ)
+    → IsApplied (bytes_of kind n mask range a bias thunkable implicit) o before after
+    → (begin o + number_of_bytes n after) % 2 ^ (8 * n) ≡ target o % 2 ^ (8 * n)
+holds_distance {begin} {target} {number} leads {kind} {n} few whole e =
+    λ o small before after applied.
+    let numbers = leads o small in
+    let is : number_of_bytes n after ≡ number o % 2 ^ (8 * n) =
+    ap unsigned_abs (field_number whole o before after applied (number o) numbers.below (e o)
+    ∙ cast_low (number o) (8 * n) numbers.below (omega arith)) in
+    led_low n (begin o) (number_of_bytes n after) (target o) (number o) few numbers.leads is

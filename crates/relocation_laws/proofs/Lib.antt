@@ -1,4 +1,5 @@
 pub mod Applied
+pub mod Differences
 pub mod Fields
 pub mod Halves
 pub mod Instructions

@@ -13,7 +13,7 @@ use Rattle.linker_utils.specs.declared.elf.Sign.TheVariants.{Signed}
 use Rattle.linker_utils.specs.declared.elf.value.Operands.{Operands}
 use Rattle.linker_utils.specs.declared.aarch64.relocations.AArch64Relocation.{AArch64Relocation}
 use Rattle.linker_utils.specs.declared.aarch64.relocations.AArch64Relocation.TheVariants as names
-use Rattle.relocation_laws.specs.Schemes.{Step, Premise, here, anywhere, moved_on, of_bits, of_words, Law, Adds}
+use Rattle.relocation_laws.specs.Schemes.{entry_and_addend, HoldsDistance, Step, Premise, here, anywhere, moved_on, of_bits, of_words, Law, Adds}
 use Rattle.relocation_laws.specs.Schemes.{symbol_address, plt_address, entry_address, zero, place}
 use Rattle.relocation_laws.specs.Schemes.{got_base, tls_base}
 
@@ -279,3 +279,18 @@ ThreadMoves =
     × OffsetMoves names.R_AARCH64_TLSLD_MOVW_DTPREL_G2 names.R_AARCH64_TLSLD_MOVW_DTPREL_G1
     names.R_AARCH64_TLSLD_MOVW_DTPREL_G1_NC names.R_AARCH64_TLSLD_MOVW_DTPREL_G0
     names.R_AARCH64_TLSLD_MOVW_DTPREL_G0_NC
+
+-- ---- fields of data
+
+abbrev pub Fields : Type 0
+Fields =
+    HoldsDistance 8 (aarch64_row names.R_AARCH64_ABS64) zero symbol_address
+    × HoldsDistance 4 (aarch64_row names.R_AARCH64_ABS32) zero symbol_address
+    × HoldsDistance 2 (aarch64_row names.R_AARCH64_ABS16) zero symbol_address
+    × HoldsDistance 8 (aarch64_row names.R_AARCH64_PREL64) place symbol_address
+    × HoldsDistance 4 (aarch64_row names.R_AARCH64_PREL32) place symbol_address
+    × HoldsDistance 2 (aarch64_row names.R_AARCH64_PREL16) place symbol_address
+    × HoldsDistance 4 (aarch64_row names.R_AARCH64_PLT32) place plt_address
+    × HoldsDistance 8 (aarch64_row names.R_AARCH64_GOTREL64) got_base symbol_address
+    × HoldsDistance 4 (aarch64_row names.R_AARCH64_GOTREL32) got_base symbol_address
+    × HoldsDistance 4 (aarch64_row names.R_AARCH64_GOTPCREL32) place entry_and_addend

@@ -1,4 +1,5 @@
 pub mod AArch64Laws
+pub mod Differences
 pub mod LoongArchLaws
 pub mod Ppc64Laws
 pub mod RiscVLaws

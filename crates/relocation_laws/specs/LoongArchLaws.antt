@@ -12,7 +12,8 @@ use Rattle.linker_utils.specs.declared.elf.Sign.TheVariants.{Signed}
 use Rattle.linker_utils.specs.declared.elf.value.Operands.{Operands}
 use Rattle.linker_utils.specs.declared.loongarch64.relocations.LoongArch64Relocation.{LoongArch64Relocation}
 use Rattle.linker_utils.specs.declared.loongarch64.relocations.LoongArch64Relocation.TheVariants as names
-use Rattle.relocation_laws.specs.Schemes.{Step, here, anywhere, next, of_bits, Law, Adds}
+use Rattle.relocation_laws.specs.Differences.{AddsDistance, AddsDistance6}
+use Rattle.relocation_laws.specs.Schemes.{HoldsDistance, Step, here, anywhere, next, of_bits, Law, Adds}
 use Rattle.relocation_laws.specs.Schemes.{symbol_address, plt_address, entry_and_addend, zero}
 use Rattle.relocation_laws.specs.Schemes.{place, tls_base}
 
@@ -131,3 +132,25 @@ Branches =
 
 abbrev pub Calls : Type 0
 Calls = Adds (row_here names.R_LARCH_CALL36) place reach 1 plt_address
+
+-- ---- differences of labels (psABI, "Relocation Types": ADD, SUB)
+
+abbrev pub Distances : Type 0
+Distances =
+    AddsDistance6 (loongarch_row names.R_LARCH_ADD6) (loongarch_row names.R_LARCH_SUB6)
+    × AddsDistance 1 (loongarch_row names.R_LARCH_ADD8) (loongarch_row names.R_LARCH_SUB8)
+    × AddsDistance 2 (loongarch_row names.R_LARCH_ADD16) (loongarch_row names.R_LARCH_SUB16)
+    × AddsDistance 3 (loongarch_row names.R_LARCH_ADD24) (loongarch_row names.R_LARCH_SUB24)
+    × AddsDistance 4 (loongarch_row names.R_LARCH_ADD32) (loongarch_row names.R_LARCH_SUB32)
+    × AddsDistance 8 (loongarch_row names.R_LARCH_ADD64) (loongarch_row names.R_LARCH_SUB64)
+
+-- ---- fields of data
+
+abbrev pub Fields : Type 0
+Fields =
+    HoldsDistance 4 (loongarch_row names.R_LARCH_32) zero symbol_address
+    × HoldsDistance 8 (loongarch_row names.R_LARCH_64) zero symbol_address
+    × HoldsDistance 4 (loongarch_row names.R_LARCH_32_PCREL) place symbol_address
+    × HoldsDistance 8 (loongarch_row names.R_LARCH_64_PCREL) place symbol_address
+    × HoldsDistance 4 (loongarch_row names.R_LARCH_TLS_DTPREL32) tls_base symbol_address
+    × HoldsDistance 8 (loongarch_row names.R_LARCH_TLS_DTPREL64) tls_base symbol_address

@@ -11,7 +11,7 @@ use Rattle.linker_utils.specs.declared.elf.Ppc64Instruction.TheVariants.{Prefixe
 use Rattle.linker_utils.specs.declared.elf.value.Operands.{Operands}
 use Rattle.linker_utils.specs.declared.ppc64.relocations.Ppc64Relocation.{Ppc64Relocation}
 use Rattle.linker_utils.specs.declared.ppc64.relocations.Ppc64Relocation.TheVariants as names
-use Rattle.relocation_laws.specs.Schemes.{here, anywhere, moved_on, Law, Adds, symbol_address}
+use Rattle.relocation_laws.specs.Schemes.{HoldsDistance, here, anywhere, moved_on, Law, Adds, symbol_address}
 use Rattle.relocation_laws.specs.Schemes.{entry_address, zero, place, got_base, tls_base}
 
 -- ---- halves ("addis", "addi", "ori"; ABI, "@ha", "@hi" and "@l")
@@ -100,3 +100,14 @@ Displacements =
     × Single names.R_PPC64_TPREL16_DS tls_base Ds symbol_address
     × Single names.R_PPC64_DTPREL16 tls_base D symbol_address
     × Single names.R_PPC64_DTPREL16_DS tls_base Ds symbol_address
+
+-- ---- fields of data
+
+abbrev pub Fields : Type 0
+Fields =
+    HoldsDistance 8 (ppc64_row names.R_PPC64_ADDR64) zero symbol_address
+    × HoldsDistance 4 (ppc64_row names.R_PPC64_ADDR32) zero symbol_address
+    × HoldsDistance 8 (ppc64_row names.R_PPC64_REL64) place symbol_address
+    × HoldsDistance 4 (ppc64_row names.R_PPC64_REL32) place symbol_address
+    × HoldsDistance 8 (ppc64_row names.R_PPC64_TPREL64) tls_base symbol_address
+    × HoldsDistance 8 (ppc64_row names.R_PPC64_DTPREL64) tls_base symbol_address

@@ -12,7 +12,8 @@ use Rattle.linker_utils.specs.declared.elf.RiscVInstruction.TheVariants.{CluiTyp
 use Rattle.linker_utils.specs.declared.elf.value.Operands.{Operands}
 use Rattle.linker_utils.specs.declared.riscv64.relocations.RiscVRelocation.{RiscVRelocation}
 use Rattle.linker_utils.specs.declared.riscv64.relocations.RiscVRelocation.TheVariants as names
-use Rattle.relocation_laws.specs.Schemes.{Step, here, Law, Adds, symbol_address, plt_address}
+use Rattle.relocation_laws.specs.Differences.{AddsDistance, SetsDistance, SetsDistance6}
+use Rattle.relocation_laws.specs.Schemes.{HoldsDistance, Step, here, Law, Adds, symbol_address, plt_address}
 use Rattle.relocation_laws.specs.Schemes.{entry_and_addend, zero, place, tls_base}
 
 -- ---- an upper and a low part ("LUI", "AUIPC", "ADDI"; psABI, "Absolute Addresses", "PC-Relative
@@ -104,3 +105,26 @@ abbrev pub Jumps : Type 0
 Jumps =
     Jump names.R_RISCV_JAL JType × Jump names.R_RISCV_BRANCH BType
     × Jump names.R_RISCV_RVC_JUMP CjType × Jump names.R_RISCV_RVC_BRANCH CbType
+
+-- ---- differences of labels (psABI, "Relocation Types": ADD, SUB, SET)
+
+abbrev pub Distances : Type 0
+Distances =
+    AddsDistance 1 (riscv_row names.R_RISCV_ADD8) (riscv_row names.R_RISCV_SUB8)
+    × AddsDistance 2 (riscv_row names.R_RISCV_ADD16) (riscv_row names.R_RISCV_SUB16)
+    × AddsDistance 4 (riscv_row names.R_RISCV_ADD32) (riscv_row names.R_RISCV_SUB32)
+    × AddsDistance 8 (riscv_row names.R_RISCV_ADD64) (riscv_row names.R_RISCV_SUB64)
+    × SetsDistance 1 (riscv_row names.R_RISCV_SET8) (riscv_row names.R_RISCV_SUB8)
+    × SetsDistance 2 (riscv_row names.R_RISCV_SET16) (riscv_row names.R_RISCV_SUB16)
+    × SetsDistance 4 (riscv_row names.R_RISCV_SET32) (riscv_row names.R_RISCV_SUB32)
+    × SetsDistance6 (riscv_row names.R_RISCV_SET6) (riscv_row names.R_RISCV_SUB6)
+
+-- ---- fields of data
+
+abbrev pub Fields : Type 0
+Fields =
+    HoldsDistance 4 (riscv_row names.R_RISCV_32) zero symbol_address
+    × HoldsDistance 8 (riscv_row names.R_RISCV_64) zero symbol_address
+    × HoldsDistance 4 (riscv_row names.R_RISCV_32_PCREL) place symbol_address
+    × HoldsDistance 4 (riscv_row names.R_RISCV_PLT32) place plt_address
+    × HoldsDistance 4 (riscv_row names.R_RISCV_GOT32_PCREL) place entry_and_addend

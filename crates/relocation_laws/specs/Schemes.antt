@@ -1,6 +1,6 @@
 -- What relocated instructions compute, in one scheme for an instruction, a pair and a sequence.
 use Rattle.std.specs.Prelude.{◌≡◌, ℕ, ◌^◌, ◌<◌, List, [], ◌∷◌, Option, Some, None, IfSome, ℤ, pos}
-use Rattle.std.specs.Prelude.{◌+ℤ◌, ◌*ℤ◌, ⊤, Bool, IsTrue}
+use Rattle.std.specs.Prelude.{◌+ℤ◌, ◌*ℤ◌, ◌+◌, ◌*◌, ◌%◌, ⊤, Bool, IsTrue}
 use Rattle.std.specs.Int.{w64, cast_unsigned, int_rem_euclid}
 use Rattle.linker_base.specs.Form.{window_of}
 use Rattle.linker_utils.specs.Elf.{IsWithin, bit_bounds, relocation_form}
@@ -148,3 +148,13 @@ Law steps computed target = (o : Operands) → AreAddresses o → Reaches steps 
 abbrev pub Adds : Step → (Operands → ℕ) → (ℕ → ℤ) → ℕ → (Operands → ℕ) → Type 0
 Adds step begin reads unit target =
     Law (step ∷ []) (λ o word. pos (begin o) +ℤ (reads word *ℤ pos unit)) target
+
+-- ---- fields of data
+
+-- What n bytes hold is the distance from where the formula begins to the target, modulo
+-- 2 ^ (8 * n).
+abbrev pub HoldsDistance : ℕ → Option RelocationKindInfo → (Operands → ℕ) → (Operands → ℕ) → Type 0
+HoldsDistance n row begin target =
+    IfSome row (λ row.
+    (o : Operands) → AreAddresses o → (before after : List ℕ) → IsApplied row o before after
+    → (begin o + number_of_bytes n after) % 2 ^ (8 * n) ≡ target o % 2 ^ (8 * n))

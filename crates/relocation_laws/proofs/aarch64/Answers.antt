@@ -9,6 +9,8 @@ use Rattle.relocation_laws.specs.Schemes.{AreAddresses, none, symbol_address, pl
 use Rattle.linker_utils.specs.Elf.{bit_bounds}
 use Rattle.linker_utils.specs.declared.elf.AArch64Instruction.TheVariants.{Add, LdSt, LdrRegister}
 use Rattle.linker_utils.specs.declared.elf.Sign.TheVariants.{Signed}
+use Rattle.relocation_laws.proofs.Fields.{holds_distance}
+use Rattle.relocation_laws.proofs.Instructions.{entry_and_addend_from_place, symbol_from_got}
 use Rattle.relocation_laws.proofs.Instructions.{adds, symbol_from_place, plt_from_place}
 use Rattle.relocation_laws.proofs.Instructions.{entry_from_place, entry_from_got, entry_from}
 use Rattle.relocation_laws.proofs.Instructions.{symbol_from_tls, symbol_itself, symbol_small}
@@ -224,4 +226,18 @@ returns-clause-thread_moves c = (
       moves3 symbol_from_tls _ (has_shift 32) movn_or_movz (movn_first 32 symbol_from_tls refl (aarch64_rows names.R_AARCH64_TLSLD_MOVW_DTPREL_G2).1 (λ o. refl))
           _ _ (λ o small at. refl) (λ o small at. refl),
     ),
+    )
+
+pub returns-clause-fields : goal.returns-clause-fields
+returns-clause-fields c = (
+      holds_distance symbol_itself (omega arith) (λ v old. refl) (λ o. refl),
+      holds_distance symbol_itself (omega arith) (λ v old. refl) (λ o. refl),
+      holds_distance symbol_itself (omega arith) (λ v old. refl) (λ o. refl),
+      holds_distance symbol_from_place (omega arith) (λ v old. refl) (λ o. refl),
+      holds_distance symbol_from_place (omega arith) (λ v old. refl) (λ o. refl),
+      holds_distance symbol_from_place (omega arith) (λ v old. refl) (λ o. refl),
+      holds_distance plt_from_place (omega arith) (λ v old. refl) (λ o. refl),
+      holds_distance symbol_from_got (omega arith) (λ v old. refl) (λ o. refl),
+      holds_distance symbol_from_got (omega arith) (λ v old. refl) (λ o. refl),
+      holds_distance entry_and_addend_from_place (omega arith) (λ v old. refl) (λ o. refl),
     )

@@ -9,7 +9,9 @@ use Rattle.linker_utils.specs.declared.loongarch64.relocations.LoongArch64Reloca
 use Rattle.linker_utils.proofs.RowsAgree.{loongarch_rows}
 use Rattle.relocation_laws.specs.Schemes.{symbol_address, tls_base, place}
 use Rattle.relocation_laws.proofs.Applied.{reads, value_is, aligned_low}
+use Rattle.relocation_laws.proofs.Differences.{adds_distance, adds_distance_6}
 use Rattle.relocation_laws.proofs.Halves.{relative_rounds, unrounded}
+use Rattle.relocation_laws.proofs.Fields.{holds_distance}
 use Rattle.relocation_laws.proofs.Instructions.{adds, symbol_from_place, plt_from_place}
 use Rattle.relocation_laws.proofs.Instructions.{symbol_itself, symbol_from_tls, symbol_small}
 use Rattle.relocation_laws.proofs.Instructions.{entry_and_addend_small, entry_and_addend_itself}
@@ -87,3 +89,23 @@ returns-clause-branches c = (
 
 pub returns-clause-calls : goal.returns-clause-calls
 returns-clause-calls c = calls_far plt_from_place (λ o. refl)
+
+pub returns-clause-distances : goal.returns-clause-distances
+returns-clause-distances c = (
+      adds_distance_6 (λ o. refl) (λ o. refl),
+      adds_distance 1 (omega arith) (λ o. refl) (λ o. refl),
+      adds_distance 2 (omega arith) (λ o. refl) (λ o. refl),
+      adds_distance 3 (omega arith) (λ o. refl) (λ o. refl),
+      adds_distance 4 (omega arith) (λ o. refl) (λ o. refl),
+      adds_distance 8 (omega arith) (λ o. refl) (λ o. refl),
+    )
+
+pub returns-clause-fields : goal.returns-clause-fields
+returns-clause-fields c = (
+      holds_distance symbol_itself (omega arith) (λ v old. refl) (λ o. refl),
+      holds_distance symbol_itself (omega arith) (λ v old. refl) (λ o. refl),
+      holds_distance symbol_from_place (omega arith) (λ v old. refl) (λ o. refl),
+      holds_distance symbol_from_place (omega arith) (λ v old. refl) (λ o. refl),
+      holds_distance symbol_from_tls (omega arith) (λ v old. refl) (λ o. refl),
+      holds_distance symbol_from_tls (omega arith) (λ v old. refl) (λ o. refl),
+    )

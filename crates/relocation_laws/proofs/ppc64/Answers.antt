@@ -3,6 +3,7 @@ use Rattle.std.proofs.Common.{refl, ap, arith, Some}
 use Rattle.std.specs.Int.{w64, cast_signed}
 use Rattle.linker_utils.specs.declared.elf.Ppc64Instruction.TheVariants.{D, Ds}
 use Rattle.relocation_laws.specs.Schemes.{symbol_address, got_base, tls_base, place}
+use Rattle.relocation_laws.proofs.Fields.{holds_distance}
 use Rattle.relocation_laws.proofs.Instructions.{adds, symbol_from_place, symbol_from_got}
 use Rattle.relocation_laws.proofs.Instructions.{symbol_from_tls, symbol_itself, entry_from_place}
 use Rattle.relocation_laws.proofs.Instructions.{entry_from_got, entry_sum, place_small, got_small}
@@ -90,4 +91,14 @@ returns-clause-displacements c = (
       adds symbol_from_tls refl refl (λ o. refl),
       adds symbol_from_tls refl refl (λ o. refl),
       adds symbol_from_tls refl refl (λ o. refl),
+    )
+
+pub returns-clause-fields : goal.returns-clause-fields
+returns-clause-fields c = (
+      holds_distance symbol_itself (omega arith) (λ v old. refl) (λ o. refl),
+      holds_distance symbol_itself (omega arith) (λ v old. refl) (λ o. refl),
+      holds_distance symbol_from_place (omega arith) (λ v old. refl) (λ o. refl),
+      holds_distance symbol_from_place (omega arith) (λ v old. refl) (λ o. refl),
+      holds_distance symbol_from_tls (omega arith) (λ v old. refl) (λ o. refl),
+      holds_distance symbol_from_tls (omega arith) (λ v old. refl) (λ o. refl),
     )

@@ -1,10 +1,12 @@
 -- The laws of RISC-V.
-use Rattle.std.proofs.Common.{refl}
+use Rattle.std.proofs.Common.{refl, arith}
 use Rattle.linker_utils.specs.declared.elf.RiscVInstruction.TheVariants.{UType, IType, SType}
 use Rattle.linker_utils.specs.declared.elf.RiscVInstruction.TheVariants.{CluiType}
+use Rattle.relocation_laws.proofs.Fields.{holds_distance}
 use Rattle.relocation_laws.proofs.Instructions.{adds, symbol_from_place, plt_from_place}
 use Rattle.relocation_laws.proofs.Instructions.{entry_and_addend_from_place, symbol_from_tls}
 use Rattle.relocation_laws.proofs.Instructions.{symbol_itself}
+use Rattle.relocation_laws.proofs.Differences.{adds_distance, sets_distance, sets_distance_6}
 use Rattle.relocation_laws.proofs.RiscV.{pairs, calls, Completes}
 use Rattle.relocation_laws.proofs.riscv64.Goals as goal
 
@@ -58,3 +60,24 @@ pub returns-clause-jumps : goal.returns-clause-jumps
 returns-clause-jumps c =
     (adds symbol_from_place refl refl (λ o. refl), adds symbol_from_place refl refl (λ o. refl),
     adds symbol_from_place refl refl (λ o. refl), adds symbol_from_place refl refl (λ o. refl))
+
+pub returns-clause-distances : goal.returns-clause-distances
+returns-clause-distances c = (
+      adds_distance 1 (omega arith) (λ o. refl) (λ o. refl),
+      adds_distance 2 (omega arith) (λ o. refl) (λ o. refl),
+      adds_distance 4 (omega arith) (λ o. refl) (λ o. refl),
+      adds_distance 8 (omega arith) (λ o. refl) (λ o. refl),
+      sets_distance 1 (omega arith) (λ o. refl) (λ o. refl),
+      sets_distance 2 (omega arith) (λ o. refl) (λ o. refl),
+      sets_distance 4 (omega arith) (λ o. refl) (λ o. refl),
+      sets_distance_6 (λ o. refl) (λ o. refl),
+    )
+
+pub returns-clause-fields : goal.returns-clause-fields
+returns-clause-fields c = (
+      holds_distance symbol_itself (omega arith) (λ v old. refl) (λ o. refl),
+      holds_distance symbol_itself (omega arith) (λ v old. refl) (λ o. refl),
+      holds_distance symbol_from_place (omega arith) (λ v old. refl) (λ o. refl),
+      holds_distance plt_from_place (omega arith) (λ v old. refl) (λ o. refl),
+      holds_distance entry_and_addend_from_place (omega arith) (λ v old. refl) (λ o. refl),
+    )

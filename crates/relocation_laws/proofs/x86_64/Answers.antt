@@ -42,8 +42,8 @@ returns-clause-entries c = (
       field_adds entry_and_addend_from_place twos_complement (λ v old. refl) refl refl (λ o. refl),
     )
 
-pub returns-clause-absolutes : goal.returns-clause-absolutes
-returns-clause-absolutes c = (
+pub returns-clause-absolute : goal.returns-clause-absolute
+returns-clause-absolute c = (
       whole_field_adds symbol_itself (λ v old. refl) (λ o. refl),
       field_adds symbol_itself unsigned (λ v old. refl) refl refl (λ o. refl),
       field_adds symbol_itself twos_complement (λ v old. refl) refl refl (λ o. refl),
