@@ -2,7 +2,6 @@
 //! AArch64: instruction forms, relaxation rewrites, and the moves that load a number of 64 bits.
 #![doc = include_str!("../doc/aarch64.md")]
 
-pub mod laws;
 mod relocations;
 
 use crate::bit_misc::BitExtraction;

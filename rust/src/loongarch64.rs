@@ -4,7 +4,6 @@
 #![doc = include_str!("../doc/loongarch64.md")]
 
 mod forms;
-pub mod laws;
 mod relocations;
 mod rewrites;
 mod sequences;

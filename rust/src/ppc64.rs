@@ -2,7 +2,6 @@
 //! PowerPC64: instruction forms, what relocations mean, and addresses in two halves.
 #![doc = include_str!("../doc/ppc64.md")]
 
-pub mod laws;
 mod relocations;
 
 use crate::bit_misc::BitExtraction;

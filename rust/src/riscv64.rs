@@ -5,7 +5,6 @@
 
 mod calls;
 mod forms;
-pub mod laws;
 mod relocations;
 mod rewrites;
 
