@@ -15,13 +15,13 @@ use Rattle.relocation_laws.proofs.ppc64.Goals as goal
 
 pub returns-clause-absolute : goal.returns-clause-absolute
 returns-clause-absolute c = (
-      adjusted_halves symbol_itself (absolute_rounds 0x8000 symbol_address) D d_reads _ refl refl
-          (λ o. refl) (λ o small at. refl),
-      adjusted_halves symbol_itself (absolute_rounds 0x8000 symbol_address) Ds ds_reads _ refl refl
-          (λ o. refl) (λ o small at. refl),
-      unadjusted_halves symbol_itself (unrounded _ (λ o. sum_below _ _)) _ refl refl
-          (λ o. refl) (λ o small at. refl),
-    )
+  adjusted_halves symbol_itself (absolute_rounds 0x8000 symbol_address) D d_reads _ refl refl
+      (λ o. refl) (λ o small at. refl),
+  adjusted_halves symbol_itself (absolute_rounds 0x8000 symbol_address) Ds ds_reads _ refl refl
+      (λ o. refl) (λ o small at. refl),
+  unadjusted_halves symbol_itself (unrounded _ (λ o. sum_below _ _)) _ refl refl
+      (λ o. refl) (λ o small at. refl),
+)
 
 pub returns-clause-relative : goal.returns-clause-relative
 returns-clause-relative c =
@@ -30,75 +30,75 @@ returns-clause-relative c =
 
 pub returns-clause-toc : goal.returns-clause-toc
 returns-clause-toc c = (
-      adjusted_halves symbol_from_got (relative_rounds 0x8000 got_base symbol_address got_small) D d_reads _ refl refl
-          (λ o. refl) (λ o small at. refl),
-      adjusted_halves symbol_from_got (relative_rounds 0x8000 got_base symbol_address got_small) Ds ds_reads _ refl refl
-          (λ o. refl) (λ o small at. refl),
-    )
+  adjusted_halves symbol_from_got (relative_rounds 0x8000 got_base symbol_address got_small) D d_reads _ refl refl
+      (λ o. refl) (λ o small at. refl),
+  adjusted_halves symbol_from_got (relative_rounds 0x8000 got_base symbol_address got_small) Ds ds_reads _ refl refl
+      (λ o. refl) (λ o small at. refl),
+)
 
 pub returns-clause-entries : goal.returns-clause-entries
 returns-clause-entries c = (
-      adjusted_halves entry_from_got (relative_rounds 0x8000 got_base entry_sum got_small) Ds ds_reads _ refl refl
-          (λ o. refl) (λ o small at. refl),
-      adjusted_halves entry_from_got (relative_rounds 0x8000 got_base entry_sum got_small) D d_reads _ refl refl
-          (λ o. refl) (λ o small at. refl),
-      adjusted_halves entry_from_got (relative_rounds 0x8000 got_base entry_sum got_small) D d_reads _ refl refl
-          (λ o. refl) (λ o small at. refl),
-      unadjusted_halves entry_from_got (unrounded _ (λ o. difference_below _ _)) _ refl refl
-          (λ o. refl) (λ o small at. refl),
-      unadjusted_halves entry_from_got (unrounded _ (λ o. difference_below _ _)) _ refl refl
-          (λ o. refl) (λ o small at. refl),
-    )
+  adjusted_halves entry_from_got (relative_rounds 0x8000 got_base entry_sum got_small) Ds ds_reads _ refl refl
+      (λ o. refl) (λ o small at. refl),
+  adjusted_halves entry_from_got (relative_rounds 0x8000 got_base entry_sum got_small) D d_reads _ refl refl
+      (λ o. refl) (λ o small at. refl),
+  adjusted_halves entry_from_got (relative_rounds 0x8000 got_base entry_sum got_small) D d_reads _ refl refl
+      (λ o. refl) (λ o small at. refl),
+  unadjusted_halves entry_from_got (unrounded _ (λ o. difference_below _ _)) _ refl refl
+      (λ o. refl) (λ o small at. refl),
+  unadjusted_halves entry_from_got (unrounded _ (λ o. difference_below _ _)) _ refl refl
+      (λ o. refl) (λ o small at. refl),
+)
 
 pub returns-clause-thread : goal.returns-clause-thread
 returns-clause-thread c = (
-      adjusted_halves symbol_from_tls (relative_rounds 0x8000 tls_base symbol_address tls_small) D d_reads _ refl refl
-          (λ o. refl) (λ o small at. refl),
-      adjusted_halves symbol_from_tls (relative_rounds 0x8000 tls_base symbol_address tls_small) Ds ds_reads _ refl refl
-          (λ o. refl) (λ o small at. refl),
-      adjusted_halves symbol_from_tls (relative_rounds 0x8000 tls_base symbol_address tls_small) D d_reads _ refl refl
-          (λ o. refl) (λ o small at. refl),
-      adjusted_halves symbol_from_tls (relative_rounds 0x8000 tls_base symbol_address tls_small) Ds ds_reads _ refl refl
-          (λ o. refl) (λ o small at. refl),
-      unadjusted_halves symbol_from_tls (unrounded _ (λ o. difference_below _ _)) _ refl refl
-          (λ o. refl) (λ o small at. refl),
-      unadjusted_halves symbol_from_tls (unrounded _ (λ o. difference_below _ _)) _ refl refl
-          (λ o. refl) (λ o small at. refl),
-    )
+  adjusted_halves symbol_from_tls (relative_rounds 0x8000 tls_base symbol_address tls_small) D d_reads _ refl refl
+      (λ o. refl) (λ o small at. refl),
+  adjusted_halves symbol_from_tls (relative_rounds 0x8000 tls_base symbol_address tls_small) Ds ds_reads _ refl refl
+      (λ o. refl) (λ o small at. refl),
+  adjusted_halves symbol_from_tls (relative_rounds 0x8000 tls_base symbol_address tls_small) D d_reads _ refl refl
+      (λ o. refl) (λ o small at. refl),
+  adjusted_halves symbol_from_tls (relative_rounds 0x8000 tls_base symbol_address tls_small) Ds ds_reads _ refl refl
+      (λ o. refl) (λ o small at. refl),
+  unadjusted_halves symbol_from_tls (unrounded _ (λ o. difference_below _ _)) _ refl refl
+      (λ o. refl) (λ o small at. refl),
+  unadjusted_halves symbol_from_tls (unrounded _ (λ o. difference_below _ _)) _ refl refl
+      (λ o. refl) (λ o small at. refl),
+)
 
 pub returns-clause-branches : goal.returns-clause-branches
 returns-clause-branches c = (
-      adds symbol_from_place refl refl (λ o. refl),
-      adds symbol_from_place refl refl (λ o. refl),
-      adds symbol_from_place refl refl (λ o. refl),
-    )
+  adds symbol_from_place refl refl (λ o. refl),
+  adds symbol_from_place refl refl (λ o. refl),
+  adds symbol_from_place refl refl (λ o. refl),
+)
 
 pub returns-clause-prefixed : goal.returns-clause-prefixed
 returns-clause-prefixed c = (
-      adds symbol_from_place refl refl (λ o. refl),
-      adds entry_from_place refl refl (λ o. refl),
-    )
+  adds symbol_from_place refl refl (λ o. refl),
+  adds entry_from_place refl refl (λ o. refl),
+)
 
 pub returns-clause-displacements : goal.returns-clause-displacements
 returns-clause-displacements c = (
-      adds symbol_itself refl refl (λ o. refl),
-      adds symbol_from_got refl refl (λ o. refl),
-      adds symbol_from_got refl refl (λ o. refl),
-      adds entry_from_got refl refl (λ o. refl),
-      adds entry_from_got refl refl (λ o. refl),
-      adds entry_from_got refl refl (λ o. refl),
-      adds symbol_from_tls refl refl (λ o. refl),
-      adds symbol_from_tls refl refl (λ o. refl),
-      adds symbol_from_tls refl refl (λ o. refl),
-      adds symbol_from_tls refl refl (λ o. refl),
-    )
+  adds symbol_itself refl refl (λ o. refl),
+  adds symbol_from_got refl refl (λ o. refl),
+  adds symbol_from_got refl refl (λ o. refl),
+  adds entry_from_got refl refl (λ o. refl),
+  adds entry_from_got refl refl (λ o. refl),
+  adds entry_from_got refl refl (λ o. refl),
+  adds symbol_from_tls refl refl (λ o. refl),
+  adds symbol_from_tls refl refl (λ o. refl),
+  adds symbol_from_tls refl refl (λ o. refl),
+  adds symbol_from_tls refl refl (λ o. refl),
+)
 
 pub returns-clause-fields : goal.returns-clause-fields
 returns-clause-fields c = (
-      holds_distance symbol_itself (omega arith) (λ v old. refl) (λ o. refl),
-      holds_distance symbol_itself (omega arith) (λ v old. refl) (λ o. refl),
-      holds_distance symbol_from_place (omega arith) (λ v old. refl) (λ o. refl),
-      holds_distance symbol_from_place (omega arith) (λ v old. refl) (λ o. refl),
-      holds_distance symbol_from_tls (omega arith) (λ v old. refl) (λ o. refl),
-      holds_distance symbol_from_tls (omega arith) (λ v old. refl) (λ o. refl),
-    )
+  holds_distance symbol_itself (omega arith) (λ v old. refl) (λ o. refl),
+  holds_distance symbol_itself (omega arith) (λ v old. refl) (λ o. refl),
+  holds_distance symbol_from_place (omega arith) (λ v old. refl) (λ o. refl),
+  holds_distance symbol_from_place (omega arith) (λ v old. refl) (λ o. refl),
+  holds_distance symbol_from_tls (omega arith) (λ v old. refl) (λ o. refl),
+  holds_distance symbol_from_tls (omega arith) (λ v old. refl) (λ o. refl),
+)
