@@ -1,5 +1,6 @@
 // Made by tools/erase of crates/linker_utils/src/aarch64.rt.
 //! AArch64: instruction forms, relaxation rewrites, and the moves that load a number of 64 bits.
+//!
 #![doc = include_str!("../doc/aarch64.md")]
 
 pub mod laws;

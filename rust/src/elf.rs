@@ -1,6 +1,7 @@
 // Made by tools/erase of crates/linker_utils/src/elf.rt.
 //! The vocabulary of relocations, the forms of instructions that hold a value, and the interfaces
 //! of forms and of rewrites.
+//!
 #![doc = include_str!("../doc/elf.md")]
 
 pub(crate) mod engine;

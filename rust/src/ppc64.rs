@@ -1,5 +1,6 @@
 // Made by tools/erase of crates/linker_utils/src/ppc64.rt.
 //! PowerPC64: instruction forms, what relocations mean, and addresses in two halves.
+//!
 #![doc = include_str!("../doc/ppc64.md")]
 
 pub mod laws;

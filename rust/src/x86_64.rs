@@ -1,5 +1,6 @@
 // Made by tools/erase of crates/linker_utils/src/x86_64.rt.
 //! x86-64: relaxation rewrites, and what relocations mean.
+//!
 #![doc = include_str!("../doc/x86_64.md")]
 
 mod relocations;

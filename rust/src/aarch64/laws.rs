@@ -1,5 +1,6 @@
 // Made by tools/erase of crates/linker_utils/src/aarch64/laws.rt.
 //! Laws of relocated pairs: each function does nothing, and its contract is a law.
+//!
 #![doc = include_str!("../../doc/aarch64/laws.md")]
 
 /// Whenever the values of `R_AARCH64_ADR_PREL_PG_HI21` and, by the same symbol and addend,

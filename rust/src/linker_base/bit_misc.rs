@@ -1,4 +1,6 @@
 // Made by tools/erase of crates/linker_base/src/bit_misc.rt.
+//! Bits and bit ranges of a 64-bit number. Bit 0 is the least significant one.
+//!
 #![doc = include_str!("../../doc/bit_misc.md")]
 
 use core::ops::Range;

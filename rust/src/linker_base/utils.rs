@@ -1,4 +1,6 @@
 // Made by tools/erase of crates/linker_base/src/utils.rt.
+//! Little-endian words, byte masks, and readers of words, strings and ULEB128 numbers.
+//!
 #![doc = include_str!("../../doc/utils.md")]
 
 #[cfg(feature = "readers")]

@@ -1,5 +1,6 @@
 // Made by tools/erase of crates/linker_utils/src/loongarch64/laws.rt.
 //! Laws of relocated pairs: each function does nothing, and its contract is a law.
+//!
 #![doc = include_str!("../../doc/loongarch64/laws.md")]
 
 /// Whenever `RelocationKindInfo::value` of `R_LARCH_CALL36` is written by

@@ -1,5 +1,6 @@
 // Made by tools/erase of crates/linker_utils/src/ppc64/laws.rt.
 //! Laws of relocated pairs: each function does nothing, and its contract is a law.
+//!
 #![doc = include_str!("../../doc/ppc64/laws.md")]
 
 /// Whenever the values of `R_PPC64_TOC16_HA` and, by the same operands, `R_PPC64_TOC16_LO` are
