@@ -12,14 +12,14 @@ IN_OTHER_WORDS = {
 COMPARISONS = {"≡": "==", "≤": "<=", "<": "<"}
 
 
-def split(text, mark):
-    """The parts of a term between marks outside parentheses."""
+def operands(text):
+    """The operands of a term and the marks between them, in turn. Parentheses are an operand's."""
     parts = [""]
-    for piece in re.split(f"( {re.escape(mark)} )", text):
-        if piece.strip() == mark and parts[-1].count("(") == parts[-1].count(")"):
-            parts.append("")
+    for word in text.split():
+        if word in ("+", "*", *COMPARISONS) and parts[-1].count("(") == parts[-1].count(")"):
+            parts += [word, ""]
         else:
-            parts[-1] += piece
+            parts[-1] = f"{parts[-1]} {word}".strip()
     return parts
 
 
@@ -38,28 +38,27 @@ class Contracts:
 
     def pattern(self, function, clause):
         """What tells a clause, by the function's parameters and the members of its trait."""
-        names = {*function.parameters, *self.members.get((function.owner, function.trait), ())}
-        seen, pattern = set(), ""
-        for word in re.findall(r"[\w.]+|[^\w.]", function.source.meant(clause, function.parameters)):
-            name, dot, rest = word.partition(".")
-            if name in names:
-                pattern += f"(?P={name})" if name in seen else rf"(?P<{name}>\w[\w.]*)"
-                word = dot + rest
-                seen.add(name)
-            pattern += re.escape(word)
-        return re.compile(pattern)
+        names, seen = {*function.parameters, *self.members.get((function.owner, function.trait), ())}, set()
+
+        def group(word):
+            name, dot, rest = word[0].partition(".")
+            if name not in names:
+                return re.escape(word[0])
+            is_first = name not in seen and not seen.add(name)
+            return (rf"(?P<{name}>\w[\w.]*)" if is_first else f"(?P={name})") + re.escape(dot + rest)
+
+        return re.compile(re.sub(r"[\w.]+|[^\w.]", group, function.source.meant(clause, function.parameters)))
 
     def requirements(self, function):
         """Each `requires`: its name, its text, and the Rust that tests it or None."""
-        clauses, names, told_by = function.clauses, {}, function
-        if function.inherits and not any(kind == "requires" for kind, *_ in clauses):
-            for declared in self.functions:
-                if (declared.trait, declared.owner, declared.name) == (function.trait, "", function.name):
-                    clauses, told_by = declared.clauses if declared.is_public else [], declared
-                    names = dict(zip(declared.parameters, function.parameters))
-        for kind, label, text in clauses:
+        declared, names = function, {}
+        if function.inherits and not any(kind == "requires" for kind, *_ in function.clauses):
+            declared = next((it for it in self.functions if it.is_public and (it.trait, it.owner, it.name)
+                             == (function.trait, "", function.name)), function)
+            names = dict(zip(declared.parameters, function.parameters))
+        for kind, label, text in declared.clauses:
             if kind == "requires":
-                meant = told_by.source.meant(text, told_by.parameters)
+                meant = declared.source.meant(text, declared.parameters)
                 meant = re.sub(r"(?<![\w.])\w+", lambda word: names.get(word[0], word[0]), meant)
                 yield label, text, self.test(meant, function)
 
@@ -67,46 +66,39 @@ class Contracts:
         for pattern, test in IN_OTHER_WORDS.items():
             if re.fullmatch(pattern, text):
                 return re.sub(pattern, test, text)
-        call, _ = self.told(text, "IsTrue result ↔", function)
-        comparisons = [(split(text, mark), rust) for mark, rust in COMPARISONS.items() if not call]
-        return call or next((self.comparison(sides, rust, function)
-                             for sides, rust in comparisons if len(sides) == 2), None)
+        return self.told(text, "IsTrue result ↔", function)[0] or self.comparison(text, function)
 
-    def comparison(self, sides, mark, function):
-        """A comparison of sums of products. Where it computes, it does so in 128 bits: of at most 16
-        products of a number of 64 bits and another below 10^9."""
-        sums = [[[self.operand(factor, function) for factor in split(term, "*")]
-                 for term in split(side, "+")] for side in sides]
-        products = [product for terms in sums for product in terms]
-        kinds = [kind for product in products for _, kind in product]
-        if not all(kind and re.fullmatch(r"literal|power|[iu](\d\d?|size)", kind) for kind in kinds):
-            return None
-        if len(kinds) == 2 and "power" not in kinds:
-            return f" {mark} ".join(terms[0][0][0] for terms in sums)
-        if len(products) > 16 or any(
-                len([kind for _, kind in product if kind != "literal"]) > 1 for product in products):
+    def comparison(self, text, function):
+        """A comparison of sums. It computes in 128 bits, at most 16 products with literals below 10^9."""
+        parts = operands(text)
+        marks, numbers = parts[1::2], [self.number(part, function) for part in parts[::2]]
+        kinds = [kind for _, kind in numbers]
+        if sum(mark in COMPARISONS for mark in marks) != 1 or None in kinds or len(marks) > 16:
             return None
         wide = "i128" if any(kind[0] == "i" for kind in kinds) else "u128"
-        return f" {mark} ".join(" + ".join(" * ".join(
-            text if kind == "literal" or kind == "power" and len(terms) == 1 else
-            f"({text})" if kind == "power" else f"({text} as {wide})"
-            for text, kind in product) for product in terms) for terms in sums)
+        for at, (number, kind) in enumerate(numbers):
+            around = marks[max(at - 1, 0):at + 1]
+            if around == ["*", "*"] or marks[at:at + 1] == ["*"] and "literal" not in kinds[at:at + 2]:
+                return None
+            is_wide = kind not in ("literal", "power") and (marks[1:] or "power" in kinds)
+            is_part = kind == "power" and set(around) - set(COMPARISONS)
+            parts[2 * at] = f"({number} as {wide})" if is_wide else f"({number})" if is_part else number
+        return " ".join(COMPARISONS.get(part, part) for part in parts)
 
-    def operand(self, text, function):
-        """A number in Rust and its type: Rust's, `literal`, or `power` of two; None if not known."""
-        text = text.strip()
+    def number(self, text, function):
+        """A number in Rust, and its type, `literal` or `power` of two, or None if that isn't known."""
         if re.fullmatch(r"\d{1,9}", text):
             return text, "literal"
         if power := re.fullmatch(r"2 \^ (\d\d?)", text):
             return f"1 << {power[1]}", "power"
-        if length := re.fullmatch(rf"{PRELUDE}\.length (\w+)", text):
-            is_list = re.match(r"&(mut )?\[|&?Vec<", function.parameters.get(length[1], ""))
-            return (f"{length[1]}.len()", "usize") if is_list else self.told(text, "result ≡", function)
+        length = re.fullmatch(rf"{PRELUDE}\.length (\w+)", text)
+        if length and re.match(r"&(mut )?\[|&?Vec<", function.parameters.get(length[1], "")):
+            return f"{length[1]}.len()", "usize"
         name, _, end = text.partition(".")
-        pattern = r"Range<([iu]\w+)>" if end in ("start", "end") else r"([iu](?:\d\d?|size))" if not end else "-"
-        if kind := re.fullmatch(pattern, function.parameters.get(name, "")):
-            return text, kind[1]
-        return self.told(text, "result ≡", function)
+        of = r"Range<(.+)>" if end in ("start", "end") else "(.+)" if not end else "-"
+        kind = re.fullmatch(of, function.parameters.get(name, ""))
+        number, kind = (text, kind[1]) if kind else self.told(text, "result ≡", function)
+        return number, kind if re.fullmatch(r"[iu](8|16|32|64|size)", kind or "") else None
 
     def told(self, text, kind, function):
         """The call of a function that tells a term, and the type of what it returns."""
@@ -119,16 +111,12 @@ class Contracts:
 
     def call(self, teller, found, function):
         """The call of a function with the caller's own arguments, or None."""
-        members = self.members.get((function.owner, teller.trait), {})
-        for name in found.keys() - teller.parameters.keys():
-            if found[name] != members.get(name) and (found[name], function.trait) != (name, teller.trait):
-                return None
+        members, is_near = self.members.get((function.owner, teller.trait), {}), teller.source is function.source
         arguments = [found.get(name, "") for name in teller.parameters]
         kinds = [function.parameters.get(argument.split(".")[0]) for argument in arguments]
-        is_near = teller.source is function.source
-        if None in kinds or not (teller.is_public or is_near):
-            return None
-        if teller.owner and self.defined[teller.owner] > 1 and not is_near:
+        if None in kinds or not is_near and (not teller.is_public or self.defined[teller.owner] > 1) or any(
+                found[name] != members.get(name) and (found[name], function.trait) != (name, teller.trait)
+                for name in found.keys() - teller.parameters.keys()):
             return None
         for at, (name, kind) in enumerate(teller.parameters.items()):
             if kinds[at].startswith("&mut") and not kind.startswith("&") and name != "self":
@@ -138,27 +126,24 @@ class Contracts:
             is_own = teller.owner == function.owner if teller.owner else is_near and not teller.trait
             return f"{teller.owner}::{teller.name}({listed})".removeprefix("::") if is_own else None
         if arguments[0] != "self":
-            is_own = teller.owner and re.fullmatch(rf"(&(mut )?)?{teller.owner}(<.*>)?", kinds[0])
+            is_own = teller.owner == re.sub(r"&(mut )?|<.*", "", kinds[0])
         elif teller.owner:
             is_own = teller.owner == function.owner
         else:
-            is_own = (function.owner, teller.trait) in self.members or function.trait == teller.trait
-        if not is_own:
-            return None
-        if teller.trait and len({it.trait for it in self.functions if it.name == teller.name} - {""}) > 1:
+            is_own = (function.owner, teller.trait) in self.members if function.owner else (
+                function.trait == teller.trait)
+        if is_own and teller.trait and len({it.trait for it in self.functions if it.name == teller.name} - {""}) > 1:
             borrow = "&" if teller.parameters["self"][0] == "&" and kinds[0] == "self" else ""
             return f"{teller.trait}::{teller.name}({borrow}{listed})"
-        return f"{arguments[0]}.{teller.name}({', '.join(arguments[1:])})"
+        return f"{arguments[0]}.{teller.name}({', '.join(arguments[1:])})" if is_own else None
 
 
 def state_requirements(source, contracts):
     """A section `# Requires` in the docs of each public function, and the tests in its body."""
-    for function in contracts.functions:
-        if function.source is not source or not (function.is_public or function.inherits):
-            continue
+    for function in source.functions:
         requirements, start = list(contracts.requirements(function)), source.start(function.first)
-        indent = " " * (start - source.line_start(start))
-        if requirements and not function.inherits:
+        indent = " " * (start - source.text.rfind("\n", 0, start) - 1)
+        if requirements and function.is_public:
             if "///" in source.text[start:source.start(function.fn)]:
                 source.stop(function.first, "docs below an attribute")
             lines = ["", "# Requires", ""]
@@ -166,6 +151,6 @@ def state_requirements(source, contracts):
             docs = "".join(f"{indent}/// {line}".rstrip() + "\n" for line in lines)
             source.replace(start - len(indent), start - len(indent), docs)
         asserts = "".join(f"\n{indent}    debug_assert!({test});" for *_, test in requirements if test)
-        if asserts and source[function.body] == "{":
+        if asserts and source[function.body] == "{" and (function.is_public or function.inherits):
             body = source.end(function.body)
             source.replace(body, body, asserts + ("" if source.text[body] == "\n" else "\n" + indent))

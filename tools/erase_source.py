@@ -8,23 +8,17 @@ TOKEN = re.compile(r"""\s+|//[^\n]*|(?P<text>b?r(\#*)".*?"\2|b?"(?:\\.|[^"\\])*"
 CLOSES = {"(": ")", "[": "]", "{": "}"}
 
 
-def blank(text, mark=" "):
-    return re.sub(r"[^\n]", mark, text)
-
-
 class Source:
-    """A text, its tokens, and its code, which is as long: comments are blank, strings are `"`, and
-    what is edited is blank too. In `kept` only what is cut is blank. A place is a token's index."""
+    """A text and its tokens: a place is a token's index. A string or character is the token `"`."""
 
     def __init__(self, path, text):
-        self.path, self.text, self.edits, self.tokens, self.spans = path, text, [], [], []
-        code, opened, self.close = [], [], {}
+        self.path, self.text, self.tokens, self.spans, opened = path, text, [], [], []
+        # each bracket's partner, the edits, and the tokens that they replace
+        self.close, self.edits, self.gone = {}, [], set()
         for found in TOKEN.finditer(text):
-            token = '"' if found["text"] else found["token"]
-            code.append(found["token"] or blank(found[0], token or " "))
+            token, at = '"' if found["text"] else found["token"], len(self.tokens)
             if not token:
                 continue
-            at = len(self.tokens)
             self.tokens.append(token)
             self.spans.append(found.span())
             if token in CLOSES:
@@ -33,13 +27,13 @@ class Source:
                 if not opened or CLOSES[self[opened[-1]]] != token:
                     self.stop(at, "a bracket that nothing opens")
                 self.close[opened.pop()] = at
-            elif token == "/" and text.startswith("/*", found.start()):
-                self.stop(at, "a comment that `//` doesn't begin")
+            elif "\n\n" in found[0] or token == "/" and text.startswith("/*", found.start()):
+                self.stop(at, "a `/*` or a text with blank lines is not known here")
         if opened:
             self.stop(opened[-1], "a bracket that nothing closes")
-        self.code = self.kept = "".join(code)
-        self.items, self.functions, self.ghosts = [], [], []
+        # what `ghost use` imports, the types, and the ghost members of an `impl` or `trait`
         self.meanings, self.types, self.members = {}, [], {}
+        self.modules, self.items, self.functions, self.ghosts = [], [], [], []
         self.parse(0, len(self.tokens))
 
     def __getitem__(self, at):
@@ -50,8 +44,9 @@ class Source:
 
     def places(self, tokens):
         """Where tokens stand that no edit has replaced."""
-        return [at for at in range(len(self.tokens)) if self.is_at(at, tokens)
-                and self.code[self.start(at)] != " "]
+        first = tokens.split()[0]
+        return [at for at, token in enumerate(self.tokens)
+                if token == first and at not in self.gone and self.is_at(at, tokens)]
 
     def start(self, at):
         return self.spans[at][0]
@@ -59,14 +54,19 @@ class Source:
     def end(self, at):
         return self.spans[at][1]
 
+    def joined(self, first, past):
+        return "".join(self.tokens[first:past])
+
     def slice(self, first, past):
         """The text of some tokens, in one line."""
         text = self.text[self.start(first):self.end(past - 1)] if first < past else ""
         return " ".join(re.sub(r"(--|//).*", "", text).split())
 
+    def line(self, start):
+        return self.text.count("\n", 0, start) + 1
+
     def stop(self, at, why):
-        start = self.start(min(at, len(self.tokens) - 1))
-        sys.exit(f"{self.path}:{self.text.count(chr(10), 0, start) + 1}: {why}")
+        sys.exit(f"{self.path}:{self.line(self.start(min(at, len(self.tokens) - 1)))}: {why}")
 
     def past(self, at, stops, angles=False):
         """The first of the stops from a token on, outside brackets that open there."""
@@ -87,8 +87,9 @@ class Source:
             first = past + 1
 
     def parse(self, at, end, owner="", trait="", is_shown=False):
-        """The items of a file or module, or of a block of `impl` or `trait`."""
-        is_file = end == len(self.tokens)
+        """The items of a file or module, or of an `impl` or `trait`."""
+        block = at, end
+        self.modules += [] if owner or trait else [block]
         while at < end:
             first = at
             while self[at] == "#":
@@ -98,7 +99,8 @@ class Source:
             if at == end:
                 break
             is_public = self[at] == "pub" and self[at + 1] != "("
-            at = at + 1 if is_public else self.close.get(at + 1, at) + 1 if self[at] == "pub" else at
+            at += is_public
+            at = self.close[at + 1] + 1 if self[at] == "pub" else at
             head, word, name = at, self[at], self[at + 1]
             if word == "ghost":
                 at = self.ghost(at, owner or trait)
@@ -120,8 +122,8 @@ class Source:
             else:
                 at = self.function(first, at, is_public or is_shown, owner, trait)
             at += 1
-            if is_file:
-                self.items.append((first, word, name, set(self.tokens[head:at])))
+            self.items.append(SimpleNamespace(block=block, first=first, head=head, word=word, name=name,
+                                              words={token for token in self.tokens[head:at] if token[0].isalpha()}))
 
     def ghost(self, at, in_block):
         """A `ghost use`, or a ghost member of a block. Returns its last token."""
@@ -129,9 +131,9 @@ class Source:
         if self[at + 1] == "use":
             path, _, names = self.slice(at + 2, last).partition(".{")
             for name in names[:-1].split(", "):
-                path_of, _, alias = (f"{path}.{name}" if names else path).partition(" as ")
-                name = alias or path_of.rsplit(".", 1)[-1]
-                if self.meanings.setdefault(name, path_of) != path_of:
+                meaning, _, alias = (f"{path}.{name}" if names else path).partition(" as ")
+                name = alias or meaning.rsplit(".", 1)[-1]
+                if self.meanings.setdefault(name, meaning) != meaning:
                     self.stop(at, f"a second meaning of `{name}`")
         elif not in_block or self[at + 2] not in "=:" or self.close.get(at + 3, 0) + 1 != last:
             self.stop(at, "a ghost item that is not known here")
@@ -146,7 +148,7 @@ class Source:
     def block(self, first, at, is_public):
         """An `impl` or a `trait`. Returns its last token."""
         name = at + 1 if self[at + 1] != "<" else self.past(at + 2, ">", True) + 1
-        brace, names, depth = self.past(name, "{ ;"), [[]], 0
+        brace, names, depth, before = self.past(name, "{ ;"), [[]], 0, len(self.ghosts)
         for token in self.tokens[name:brace]:
             depth -= token in ")]>"
             if not depth:
@@ -157,15 +159,14 @@ class Source:
         owner, trait = names[-1], names[0] if names[1:] else ""
         if self[at] == "trait":
             owner, trait = "", names[0]
-        elif len(names) > 2 or "Drop" in names or "where" in names or self[brace] != "{":
+        elif len(names) > 2 or {"Drop", "where"} & set(names) or self[brace] != "{":
             self.stop(at, "an `impl` that is not known here")
         if trait == "Model":
             self.ghosts.append((first, self.close[brace]))
-            return self.close[brace]
-        before = len(self.ghosts)
-        self.parse(brace + 1, self.close[brace], owner, trait, is_public)
-        self.members[owner, trait] = {
-            self[at + 1]: self.meant(self.slice(at + 4, last - 1)) for at, last in self.ghosts[before:]}
+        else:
+            self.parse(brace + 1, self.close[brace], owner, trait, is_public)
+            self.members[owner, trait] = {self[at + 1]: self.meant(self.slice(at + 4, last - 1))
+                                          for at, last in self.ghosts[before:]}
         return self.close[brace]
 
     def function(self, first, at, is_public, owner, trait):
@@ -174,67 +175,47 @@ class Source:
         opening = fn + 2 if self[fn + 2] != "<" else self.past(fn + 3, ">", True) + 1
         if self[fn] != "fn" or self[opening] != "(":
             self.stop(at, "an item that is not known here")
-        parameters = {}
-        for start, past in self.list_of(opening, True):
-            name, _, kind = self.slice(start, past).removeprefix("mut ").partition(": ")
+        parameters, clauses = {}, []
+        for element in self.list_of(opening, True):
+            name, _, kind = self.slice(*element).removeprefix("mut ").partition(": ")
             parameters["self" if name.endswith("self") else name] = kind or name
         at = self.close[opening] + 1
-        before, clauses = self.past(at, "requires ensures { ;"), []
+        before = self.past(at, "requires ensures { ;")
         result, at = self.slice(at + 1, before), before
-        while self[at] in ("requires", "ensures"):
+        while self[at] not in ("{", ";"):
             brace = self.past(at, "{ ;")
             label = [token for token in self.tokens[at + 1:brace] if token != "*"]
-            if self[brace] != "{" or len(label) > 1:
+            if self[at] not in ("requires", "ensures") or self[brace] != "{" or len(label) > 1:
                 self.stop(at, "a clause that is not known here")
             text = re.sub(r"\.(now|old|entry)\b", "", self.slice(brace + 1, self.close[brace]))
             clauses.append((self[at], "".join(label), text))
             at = self.close[brace] + 1
-        if self[at] not in ("{", ";"):
-            self.stop(at, "a clause that is not known here")
         self.functions.append(SimpleNamespace(
             source=self, first=first, fn=fn, name=self[fn + 1], owner=owner, trait=trait, opening=opening,
             parameters=parameters, result=result, clauses=clauses, before=before, body=at,
             is_public=is_public, inherits=trait and owner))
         return self.close.get(at, at)
 
-    # Edits
-
     def replace(self, start, end, new):
         self.edits.append((start, end, new))
-        self.code = self.code[:start] + blank(self.code[start:end]) + self.code[end:]
-        if not new.strip():
-            self.kept = self.kept[:start] + blank(self.kept[start:end]) + self.kept[end:]
+        self.gone |= {at for at, span in enumerate(self.spans) if start <= span[0] < end}
 
     def replace_tokens(self, first, past, new):
         self.replace(self.start(first), self.end(past - 1), new)
 
-    def line_start(self, start):
-        return self.text.rfind("\n", 0, start) + 1
-
-    def above(self, start, mark):
-        """The start of the lines right above a line that begin with a mark, or of that line."""
-        while start and re.match(mark, self.text[self.line_start(start - 1):start].lstrip()):
-            start = self.line_start(start - 1)
-        return start
-
-    def cut_lines(self, first, last, comments=True):
-        """Cuts tokens with their lines, the comments right above, and one of two blank lines."""
-        text, start = self.text, self.line_start(self.start(first))
+    def cut_lines(self, first, last, new="", comments=False):
+        """Replaces the lines of tokens, and the comments right above."""
+        text, start = self.text, self.text.rfind("\n", 0, self.start(first)) + 1
         end = text.find("\n", self.end(last)) + 1 or len(text)
         if text[start:self.start(first)].strip() or text[self.end(last):end].split("//")[0].strip():
             self.stop(first, "more stands on the lines of what goes")
-        if comments:
-            start = self.above(start, "//(?!!)")
-            if text[max(start - 2, 0):start] in ("", "\n\n", "{\n") and text[end:end + 1] == "\n":
-                end += 1
-            elif text[start - 2:start] == "\n\n" and text[end:].lstrip()[:1] == "}":
-                start -= 1
-        self.replace(start, end, "")
+        above = re.search(r"(^ *//(?!!).*\n)+\Z", text[:start], re.M) if comments else None
+        self.replace(above.start() if above else start, end, new)
 
     def cut_elements(self, opening, is_cut):
         """Cuts elements of a list, each up to the next, or from the last that stays. Whether any."""
         elements, close = list(self.list_of(opening)), self.close[opening]
-        cut = [element for element in elements if is_cut(*element)]
+        cut = [element for element in elements if is_cut(self.joined(*element))]
         kept = [element for element in elements if element not in cut]
         for first, past in cut:
             if not kept:
@@ -245,21 +226,10 @@ class Source:
                 self.replace(self.end(kept[-1][1] - 1), self.end(past - 1), "")
         return bool(cut)
 
-    def needs(self, start, path):
-        """Imports a path in the innermost module around a place, before the first `use` that stays."""
-        modules = [at + 2 for at in range(len(self.tokens)) if self[at] == "mod" and self[at + 2] == "{"]
-        inside = [self.end(at) for at in modules if self.start(at) < start < self.start(self.close[at])]
-        first = re.compile(r"^( *)\S", re.M).search(self.kept, max(inside, default=0))
-        use = re.compile(rf"^{first[1]}(pub )?use ", re.M).search(self.kept, first.start())
-        place = self.above((use or first).start(), "///")
-        edit = (place, place, f"{first[1]}use {path};\n")
-        if edit not in self.edits:
-            self.edits.append(edit)
-
     def erased(self):
         text, at = "", 0
         for start, end, new in sorted(self.edits):
             if start < at and new:
-                sys.exit(f"{self.path}:{self.text.count(chr(10), 0, start) + 1}: two edits at one place")
+                sys.exit(f"{self.path}:{self.line(start)}: two edits at one place")
             text, at = text + self.text[at:max(at, start)] + new, max(at, end)
         return text + self.text[at:]

@@ -408,7 +408,6 @@ pub trait InstructionForm: Copy {
     ///
     /// - `self.window() <= bytes.len()`
     fn read(self, bytes: &[u8]) -> (u64, bool);
-
 }
 
 /// A rewrite of the instruction at an offset of a section, as relaxations apply it: which bytes it
