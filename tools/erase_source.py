@@ -106,17 +106,15 @@ class Source:
                 at = self.ghost(at, owner or trait)
             elif word in ("use", "static", "type") or word == "const" and name != "fn":
                 at = self.past(at, ";")
-            elif word in ("mod", "struct", "enum"):
+            elif word in ("mod", "struct", "enum", "macro_rules"):
                 at = self.past(at, "; {")
-                self.types += [name] if word != "mod" else []
+                self.types += [name] if word in ("struct", "enum") else []
                 if word == "mod" and self[at] == "{":
                     self.parse(at + 1, self.close[at])
-                for start, past in self.list_of(at, True) if word == "struct" and self[at] == "{" else []:
-                    if self[start] == "ghost":
-                        self.ghosts.append((start, past if self[past] == "," else past - 1))
+                elif word == "struct" and self[at] == "{":
+                    self.ghosts += [(start, past - (self[past] != ","))
+                                    for start, past in self.list_of(at, True) if self[start] == "ghost"]
                 at = self.close.get(at, at)
-            elif self.is_at(at, "macro_rules !") and self[at + 3] == "{":
-                at = self.close[at + 3]
             elif word in ("impl", "trait"):
                 at = self.block(first, at, is_public)
             else:
@@ -148,20 +146,21 @@ class Source:
     def block(self, first, at, is_public):
         """An `impl` or a `trait`. Returns its last token."""
         name = at + 1 if self[at + 1] != "<" else self.past(at + 2, ">", True) + 1
-        brace, names, depth, before = self.past(name, "{ ;"), [[]], 0, len(self.ghosts)
-        for token in self.tokens[name:brace]:
-            depth -= token in ")]>"
-            if not depth:
-                names += [[]] if token in ("for", ":") else []
-                names[-1] += [token] if re.match(r"\w", token) else []
-            depth += token in "([<"
-        names = [(words or ["()"])[-1] for words in names]
-        owner, trait = names[-1], names[0] if names[1:] else ""
-        if self[at] == "trait":
-            owner, trait = "", names[0]
-        elif len(names) > 2 or {"Drop", "where"} & set(names) or self[brace] != "{":
-            self.stop(at, "an `impl` that is not known here")
+        brace, before = self.past(name, "{ ;"), len(self.ghosts)
+        head = self.slice(name, brace)
+        while "<" in head and head != re.sub(r"<[^<>]*>", "", head):
+            head = re.sub(r"<[^<>]*>", "", head)
+        known = re.fullmatch(r"()(\w+)(: .*)?" if self[at] == "trait" else
+                             r"(?:(?:\w+::)*(\w+) for )?(?:\w+::)*(\w+|\([\w, ]+\))", head)
+        if self[brace] != "{" or not known or known[1] == "Drop":
+            self.stop(at, f"an `{self[at]}` that is not known here")
+        owner, trait = ("", known[2]) if self[at] == "trait" else (known[2], known[1] or "")
         if trait == "Model":
+            at = brace + 1
+            while self[at] == "ghost":
+                at = self.past(at, ";") + 1
+            if at < self.close[brace] or not self.places("use std :: marker :: Model ;"):
+                self.stop(at, "a `Model` that is not known here")
             self.ghosts.append((first, self.close[brace]))
         else:
             self.parse(brace + 1, self.close[brace], owner, trait, is_public)
