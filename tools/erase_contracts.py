@@ -139,18 +139,22 @@ class Contracts:
 
 
 def state_requirements(source, contracts):
-    """A section `# Requires` in the docs of each public function, and the tests in its body."""
+    """A section `# Requires` in the docs of each public function, the tests in its body, and attributes:
+    what a test names is the caller, and a call that only returns something is for its result."""
     for function in source.functions:
         requirements, start = list(contracts.requirements(function)), source.start(function.first)
         indent = " " * (start - source.text.rfind("\n", 0, start) - 1)
-        if requirements and function.is_public:
-            if "///" in source.text[start:source.start(function.fn)]:
-                source.stop(function.first, "docs below an attribute")
-            lines = ["", "# Requires", ""]
-            lines += ["- " + f"{label}: " * bool(label) + f"`{test or text}`" for label, text, test in requirements]
-            docs = "".join(f"{indent}/// {line}".rstrip() + "\n" for line in lines)
-            source.replace(start - len(indent), start - len(indent), docs)
         asserts = "".join(f"\n{indent}    debug_assert!({test});" for *_, test in requirements if test)
+        lines, body = [], source.end(function.body)
+        if requirements and function.is_public:
+            lines = ["///", "/// # Requires", "///"]
+            lines += ["/// - " + f"{label}: " * bool(label) + f"`{test or text}`" for label, text, test in requirements]
+        if function.is_public and function.result and not function.result.startswith("Result<") and not any(
+                "&mut" in kind for kind in function.parameters.values()):
+            lines.append("#[must_use]")
         if asserts and source[function.body] == "{" and (function.is_public or function.inherits):
-            body = source.end(function.body)
+            lines.append("#[cfg_attr(debug_assertions, track_caller)]")
             source.replace(body, body, asserts + ("" if source.text[body] == "\n" else "\n" + indent))
+        if lines and "///" in source.text[start:source.start(function.fn)]:
+            source.stop(function.first, "docs below an attribute")
+        source.replace(start - len(indent), start - len(indent), "".join(f"{indent}{line}\n" for line in lines))

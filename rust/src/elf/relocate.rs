@@ -131,6 +131,7 @@ impl RelocationKindInfo {
     }
 
     /// How many bytes `write` writes.
+    #[must_use]
     #[inline(always)]
     pub fn window(&self) -> usize {
         match self.size {

@@ -215,6 +215,7 @@ impl RelocationKindInfo {
     /// Of a pair of relocations of a ULEB128 number, the value of the second is what is subtracted.
     /// The rows of the first, `R_RISCV_SET_ULEB128` and `R_LARCH_ADD_ULEB128`, are of kind
     /// `Relative`: compute S + A for them.
+    #[must_use]
     #[inline]
     pub fn value(&self, operands: &Operands) -> Option<i64> {
         match self.value_modulo(operands) {
