@@ -32,9 +32,10 @@ class Contracts:
         for function in self.functions:
             if not any("&mut" in kind for kind in function.parameters.values()):
                 for kind, _, text in function.clauses:
-                    told = re.fullmatch(r"(IsTrue result ↔|result ≡) (.+ .+)", text)
+                    told = re.fullmatch(rf"({PRELUDE}\.IsTrue result ↔|result ≡) (.+ .+)",
+                                        function.source.meant(text, function.parameters))
                     if told and kind == "ensures":
-                        self.tellers.append((function, told[1], self.pattern(function, told[2])))
+                        self.tellers.append((function, told[1][-1], self.pattern(function, told[2])))
 
     def pattern(self, function, clause):
         """What tells a clause, by the function's parameters and the members of its trait."""
@@ -47,7 +48,7 @@ class Contracts:
             is_first = name not in seen and not seen.add(name)
             return (rf"(?P<{name}>\w[\w.]*)" if is_first else f"(?P={name})") + re.escape(dot + rest)
 
-        return re.compile(re.sub(r"[\w.]+|[^\w.]", group, function.source.meant(clause, function.parameters)))
+        return re.compile(re.sub(r"[\w.]+|[^\w.]", group, clause))
 
     def requirements(self, function):
         """Each `requires`: its name, its text, and the Rust that tests it or None."""
@@ -66,7 +67,7 @@ class Contracts:
         for pattern, test in IN_OTHER_WORDS.items():
             if re.fullmatch(pattern, text):
                 return re.sub(pattern, test, text)
-        return self.told(text, "IsTrue result ↔", function)[0] or self.comparison(text, function)
+        return self.told(text, "↔", function)[0] or self.comparison(text, function)
 
     def comparison(self, text, function):
         """A comparison of sums. It computes in 128 bits, at most 16 products with literals below 10^9."""
@@ -92,12 +93,12 @@ class Contracts:
         if power := re.fullmatch(r"2 \^ (\d\d?)", text):
             return f"1 << {power[1]}", "power"
         length = re.fullmatch(rf"{PRELUDE}\.length (\w+)", text)
-        if length and re.match(r"&(mut )?\[|&?Vec<", function.parameters.get(length[1], "")):
+        if length and re.match(r"&(mut)?\[|&?Vec<", function.parameters.get(length[1], "")):
             return f"{length[1]}.len()", "usize"
         name, _, end = text.partition(".")
         of = r"Range<(.+)>" if end in ("start", "end") else "(.+)" if not end else "-"
         kind = re.fullmatch(of, function.parameters.get(name, ""))
-        number, kind = (text, kind[1]) if kind else self.told(text, "result ≡", function)
+        number, kind = (text, kind[1]) if kind else self.told(text, "≡", function)
         return number, kind if re.fullmatch(r"[iu](8|16|32|64|size)", kind or "") else None
 
     def told(self, text, kind, function):
@@ -126,7 +127,7 @@ class Contracts:
             is_own = teller.owner == function.owner if teller.owner else is_near and not teller.trait
             return f"{teller.owner}::{teller.name}({listed})".removeprefix("::") if is_own else None
         if arguments[0] != "self":
-            is_own = teller.owner == re.sub(r"&(mut )?|<.*", "", kinds[0])
+            is_own = teller.owner == re.sub(r"&(mut)?|<.*", "", kinds[0])
         elif teller.owner:
             is_own = teller.owner == function.owner
         else:
@@ -155,6 +156,8 @@ def state_requirements(source, contracts):
         if asserts and source[function.body] == "{" and (function.is_public or function.inherits):
             lines.append("#[cfg_attr(debug_assertions, track_caller)]")
             source.replace(body, body, asserts + ("" if source.text[body] == "\n" else "\n" + indent))
+        if lines and source.text[start - len(indent):start].strip():
+            source.stop(function.first, "an item that is not at the start of its line")
         if lines and "///" in source.text[start:source.start(function.fn)]:
             source.stop(function.first, "docs below an attribute")
         source.replace(start - len(indent), start - len(indent), "".join(f"{indent}{line}\n" for line in lines))
