@@ -9,6 +9,10 @@ IN_OTHER_WORDS = {
     rf"Rattle\.std\.specs\.FinMap\.get self (\w+) ≡ {PRELUDE}\.None": r"self.get(\1).is_none()",
     rf"{SPECS}\.Packing\.AreApart \({PRELUDE}\.map C\.call (\w+)\)": r"first_not_apart(\1).is_none()",
 }
+# Requirements that no test tells, by function and name.
+UNTESTED = {"head.room", "delta.room", "input_to_output_counted.room", "output_to_input_counted.fits",
+            "output_to_input_counted.room", "of.fits", "write.prepared", "pack_into.room",
+            "shrink_calls_into.shrinkable"}
 COMPARISONS = {"≡": "==", "≤": "<=", "<": "<"}
 
 
@@ -147,6 +151,9 @@ def state_requirements(source, contracts):
         indent = " " * (start - source.text.rfind("\n", 0, start) - 1)
         asserts = "".join(f"\n{indent}    debug_assert!({test});" for *_, test in requirements if test)
         lines, body = [], source.end(function.body)
+        for label, text, test in requirements if function.is_public or function.inherits else []:
+            if not test and f"{function.name}.{label}" not in UNTESTED:
+                source.stop(function.fn, f"no test tells `{text}`")
         if requirements and function.is_public:
             lines = ["///", "/// # Requires", "///"]
             lines += ["/// - " + f"{label}: " * bool(label) + f"`{test or text}`" for label, text, test in requirements]
