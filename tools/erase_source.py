@@ -127,8 +127,8 @@ class Source:
         """A `ghost use`, or a ghost member of a block. Returns its last token."""
         last = self.past(at, ";")
         if self[at + 1] == "use":
-            path, _, names = re.sub(r"\s*([.,{}])\s*", r"\1", self.slice(at + 2, last)).partition(".{")
-            for name in names[:-1].split(","):
+            path, _, names = self.slice(at + 2, last).partition(".{")
+            for name in names[:-1].split(", "):
                 meaning, _, alias = (f"{path}.{name}" if names else path).partition(" as ")
                 name = alias or meaning.rsplit(".", 1)[-1]
                 if self.meanings.setdefault(name, meaning) != meaning:
@@ -139,8 +139,7 @@ class Source:
         return last
 
     def meant(self, text, but=()):
-        """A clause with the paths of the names that are imported, and blanks around operators alone."""
-        text = re.sub(r" ?([≡≤↔<+*^]) ?", r" \1 ", re.sub(r"(?<=\() | (?=[).])", "", text))
+        """A clause with the paths of the names that are imported."""
         return re.sub(r"(?<![\w.])[^\W\d]\w*", lambda word: word[0] if word[0] in but
                       else self.meanings.get(word[0], word[0]), text)
 
@@ -187,7 +186,7 @@ class Source:
             label = [token for token in self.tokens[at + 1:brace] if token != "*"]
             if self[at] not in ("requires", "ensures") or self[brace] != "{" or len(label) > 1:
                 self.stop(at, "a clause that is not known here")
-            text = re.sub(r" ?\. ?(now|old|entry)\b", "", self.slice(brace + 1, self.close[brace]))
+            text = re.sub(r"\.(now|old|entry)\b", "", self.slice(brace + 1, self.close[brace]))
             clauses.append((self[at], "".join(label), text))
             at = self.close[brace] + 1
         self.functions.append(SimpleNamespace(
