@@ -94,7 +94,7 @@ class Source:
             first = at
             while self[at] == "#":
                 is_inner = self[at + 1] == "!"
-                at = self.close[at + 1 + is_inner] + 1
+                at = self.close.get(at + 1 + is_inner, at) + 1
                 first = at if is_inner else first
             if at == end:
                 break
@@ -177,7 +177,8 @@ class Source:
         parameters, clauses = {}, []
         for start, past in self.list_of(opening, True):
             colon = next((at for at in range(start, past) if self[at] == ":"), past)
-            parameters[self[colon - 1]] = self.joined(min(colon + 1, past), past) or self.joined(start, past)
+            kind = [token for token in self.tokens[colon + 1:past] or self.tokens[start:past] if token[0] != "'"]
+            parameters[self[colon - 1]] = "".join(kind)
         at = self.close[opening] + 1
         before = self.past(at, "requires ensures { ;")
         result, at = self.joined(at + 1, before), before
