@@ -65,7 +65,8 @@ enum linker_utils_status {
     LINKER_UTILS_CANNOT_APPLY = 7,
     /* The register is not one from 0 to 30. */
     LINKER_UTILS_BAD_REGISTER = 8,
-    /* The four bytes at the site do not lie in the section, or the target is past its end. */
+    /* The four bytes at the site, or the eight where the `jalr`'s register is linked, do not lie in
+     * the section, or the target is past its end. */
     LINKER_UTILS_OUT_OF_SECTION = 9,
     /* One of the four bytes at the site is deleted. */
     LINKER_UTILS_SITE_DELETED = 10,
@@ -104,8 +105,8 @@ enum linker_utils_status {
     LINKER_UTILS_OUT_OF_REACH = 28,
     /* A relocation of this type has no value. */
     LINKER_UTILS_NO_VALUE = 29,
-    /* The relocation is one of a pair that computes a ULEB128 number. */
-    LINKER_UTILS_ULEB128_PAIR = 30
+    /* The relocation is one of a pair that computes a ULEB128 number, or R_LARCH_CALL30. */
+    LINKER_UTILS_UNSUPPORTED = 30
 };
 
 /* A constant sentence in English for each status, and another for all other numbers. */
@@ -124,8 +125,8 @@ static inline const char *linker_utils_status_text(uint32_t status) {
     case LINKER_UTILS_CANNOT_APPLY: return "The rewrite may not be applied there.";
     case LINKER_UTILS_BAD_REGISTER: return "The register is not one from 0 to 30.";
     case LINKER_UTILS_OUT_OF_SECTION:
-        return "The four bytes at the site do not lie in the section, "
-               "or the target is past its end.";
+        return "The four bytes at the site, or the eight where the `jalr`'s register is linked, "
+               "do not lie in the section, or the target is past its end.";
     case LINKER_UTILS_SITE_DELETED: return "One of the four bytes at the site is deleted.";
     case LINKER_UTILS_ODD_DISTANCE: return "The distance is odd.";
     case LINKER_UTILS_TOO_FAR: return "The distance is out of the range of `jal`.";
@@ -154,8 +155,8 @@ static inline const char *linker_utils_status_text(uint32_t status) {
         return "The value is not a multiple of the relocation's alignment.";
     case LINKER_UTILS_OUT_OF_REACH: return "The value is out of the relocation's reach.";
     case LINKER_UTILS_NO_VALUE: return "A relocation of this type has no value.";
-    case LINKER_UTILS_ULEB128_PAIR:
-        return "The relocation is one of a pair that computes a ULEB128 number.";
+    case LINKER_UTILS_UNSUPPORTED:
+        return "The relocation is one of a pair that computes a ULEB128 number, or R_LARCH_CALL30.";
     }
     return "No status has this number.";
 }
@@ -378,7 +379,8 @@ uint32_t linker_utils_next_modifier(uint16_t machine, uint32_t rewrite, uint8_t 
 
 /* ---- Relocations.
  *
- * The statuses LINKER_UTILS_UNKNOWN_ARCHITECTURE and LINKER_UTILS_UNKNOWN_RELOCATION come first. */
+ * The statuses LINKER_UTILS_UNKNOWN_ARCHITECTURE and LINKER_UTILS_UNKNOWN_RELOCATION come first,
+ * except where `linker_utils_relocate_all` says otherwise. */
 
 /* What a relocation's value is computed from. The letters are those of the psABIs:
  *   S    the symbol's address
@@ -488,7 +490,7 @@ enum linker_utils_mask {
     LINKER_UTILS_MASK_NONE = 0,
     /* S + A, and P */
     LINKER_UTILS_MASK_SYMBOL_PLUS_ADDEND_AND_POSITION = 1,
-    /* the GOT entry's address (GOT + G, GD, LD, IE or DESC), and P */
+    /* the GOT entry's address (GOT + G, GD, LD, IE or DESC) with what is added to it, and P */
     LINKER_UTILS_MASK_GOT_ENTRY_AND_POSITION = 2,
     /* GOT */
     LINKER_UTILS_MASK_GOT_BASE = 3
@@ -496,7 +498,8 @@ enum linker_utils_mask {
 
 /* What a relocation means. `linker_utils_value` and `linker_utils_relocate` apply it in these
  * steps, with <elf.h>'s names of the relocation's fields:
- * 1. Add `bias` to the address that the formula of `kind` begins with (S + A, or the GOT entry's).
+ * 1. Add `bias` to the address that the formula of `kind` begins with: S + A, or the GOT entry's,
+ *    with A where `struct linker_utils_operands` says so.
  * 2. Cut the addresses that `mask` names to their page, and compute the value v by the formula.
  * 3. Where `has_range` is 1, v has to be `min` or above, and below `max`. v has to be a multiple of
  *    `alignment`.
@@ -577,15 +580,21 @@ struct linker_utils_operands {
     /* S, and of a TLS symbol its address in the TLS segment's image. Of R_RISCV_PCREL_LO12_* it is
      * the address that the high part at the label refers to: that of the symbol or, of
      * R_RISCV_GOT_HI20, R_RISCV_TLS_GOT_HI20 and R_RISCV_TLS_GD_HI20, of the GOT entry. Of
-     * R_X86_64_GOTPC32 and R_X86_64_GOTPC64 it is the GOT's address. */
+     * R_X86_64_GOTPC32 and R_X86_64_GOTPC64 it is the GOT's address. Of R_PPC64_REL24 it is the
+     * function's local entry point, or the stub that calls it. */
     uint64_t symbol;
-    /* A. Of R_RISCV_PCREL_LO12_* it is that of the high part. */
-    int64_t addend;
-    /* P. Of R_RISCV_PCREL_LO12_*, R_RISCV_TLSDESC_LOAD_LO12 and R_RISCV_TLSDESC_ADD_LO12 it is that
+    /* A. Of R_RISCV_PCREL_LO12_*, R_RISCV_TLSDESC_LOAD_LO12 and R_RISCV_TLSDESC_ADD_LO12 it is that
      * of the high part. */
+    int64_t addend;
+    /* P: the address of the field. That of LoongArch's halves of 64-bit addresses is the address of
+     * the instruction that is relocated, not that of the `pcalau12i`. Of R_RISCV_PCREL_LO12_*,
+     * R_RISCV_TLSDESC_LOAD_LO12 and R_RISCV_TLSDESC_ADD_LO12 it is that of the high part. */
     uint64_t place;
     /* GOT + G, GD, LD, IE or DESC: the address of the entry that the relocation asks for. Of an
-     * AArch64 instruction it is the entry of S + A. */
+     * instruction of AArch64 or PowerPC64 it is the entry of S + A, and A isn't added to its
+     * address; of R_AARCH64_GOTPCREL32, and on the other architectures, it is the entry of S, and A
+     * is added. R_LARCH_GOT_PC_LO12 of a TLS symbol whose high half is R_LARCH_TLS_GD_PC_HI20 or
+     * R_LARCH_TLS_LD_PC_HI20 takes the entry of that high half. */
     uint64_t got_entry;
     /* GOT */
     uint64_t got_base;
@@ -594,17 +603,19 @@ struct linker_utils_operands {
     /* Z */
     uint64_t symbol_size;
     /* What offsets of TLS symbols count from, as an address in the TLS segment's image. For an
-     * offset from the thread pointer it is where the thread pointer points to; on PowerPC64 that is
-     * the image's address plus 0x7000. For an offset in the module's TLS block it is the image's
+     * offset from the thread pointer it is where the thread pointer points to: on AArch64 the
+     * image's address less 16 rounded up to the segment's alignment, on RISC-V and LoongArch the
+     * image's address, on PowerPC64 that plus 0x7000, and on x86-64 that plus the segment's size
+     * rounded up to its alignment. For an offset in the module's TLS block it is the image's
      * address; plus 0x8000 on PowerPC64, and plus 0x800 on RISC-V. */
     uint64_t tls_base;
 };
 
 /* The value of a relocation: the formula of its kind, with the bias added first and the page mask
- * applied after that, modulo 2^64 and read in two's complement. LINKER_UTILS_UNKNOWN_ARCHITECTURE;
- * LINKER_UTILS_UNKNOWN_RELOCATION; LINKER_UTILS_NO_VALUE. It does not give the value of
- * R_RISCV_SET_ULEB128 and R_LARCH_ADD_ULEB128, whose kind is LINKER_UTILS_KIND_RELATIVE: that is
- * S + A (`linker_utils_uleb128_role`). */
+ * applied after that, modulo 2^64 and read in two's complement. So LoongArch's page of a GOT entry
+ * is that of the entry's address plus A plus 0x800. That of R_RISCV_SET_ULEB128 and
+ * R_LARCH_ADD_ULEB128 is S + A, though their kind is LINKER_UTILS_KIND_RELATIVE.
+ * LINKER_UTILS_UNKNOWN_ARCHITECTURE; LINKER_UTILS_UNKNOWN_RELOCATION; LINKER_UTILS_NO_VALUE. */
 uint32_t linker_utils_value(uint16_t machine, uint32_t r_type,
                             const struct linker_utils_operands *operands, int64_t *value);
 
@@ -626,6 +637,9 @@ struct linker_utils_relocation_reach {
  * - PowerPC64's _HA, of the biased value, and _HI: from -2^31 up, below 2^31
  * - AArch64's MOVW relocations of G0, G1 and G2 that set a signed value: from -2^16, -2^32 or -2^48
  *   up, below 2^16, 2^32 or 2^48
+ * - R_X86_64_GOT32, R_RISCV_PLT32 and R_RISCV_GOT32_PCREL: from -2^31 up, below 2^31
+ * Of a relocation without a range a part of every value is taken: R_AARCH64_ADR_PREL_PG_HI21_NC of
+ * 2^33 writes 0.
  * LINKER_UTILS_UNKNOWN_ARCHITECTURE; LINKER_UTILS_UNKNOWN_RELOCATION. */
 uint32_t linker_utils_reach(uint16_t machine, uint32_t r_type,
                             struct linker_utils_relocation_reach *reach);
@@ -653,12 +667,14 @@ uint32_t linker_utils_relocate_all_nonnull(uint16_t machine, uint8_t *section, s
  * - Of an instruction, the form's bits become the bits of the value that the relocation takes.
  *   Those that the form only ORs need not be 0 before. All other bits stay, except for the opcode
  *   that MOVN and MOVZ get by the value's sign; their shift has to be the first of the relocation's
- *   bits.
+ *   bits. MOVN and MOVZ of 32 bits (bit 31 is 0) stay of 32 bits.
+ * - A PowerPC64 instruction of DQ-form (lq, lxv, stxv, lxvp, stxvp) at a relocation of DS-form
+ *   keeps its low 4 bits, and takes multiples of 16 only.
  * - A relocation without a value writes nothing.
- * LINKER_UTILS_UNKNOWN_ARCHITECTURE; LINKER_UTILS_UNKNOWN_RELOCATION; LINKER_UTILS_ULEB128_PAIR of
+ * LINKER_UTILS_UNKNOWN_ARCHITECTURE; LINKER_UTILS_UNKNOWN_RELOCATION; LINKER_UTILS_UNSUPPORTED of
  * R_RISCV_SET_ULEB128, R_RISCV_SUB_ULEB128, R_LARCH_ADD_ULEB128 and R_LARCH_SUB_ULEB128, for which
- * there is `linker_utils_write_uleb128`; LINKER_UTILS_TOO_SHORT; LINKER_UTILS_MISALIGNED;
- * LINKER_UTILS_OUT_OF_REACH. */
+ * there is `linker_utils_write_uleb128`, and of R_LARCH_CALL30, since no manual says how far its
+ * pair goes; LINKER_UTILS_TOO_SHORT; LINKER_UTILS_MISALIGNED; LINKER_UTILS_OUT_OF_REACH. */
 static inline uint32_t linker_utils_relocate(uint16_t machine, uint32_t r_type, int64_t value,
                                              uint8_t *dest, size_t dest_len) {
     return linker_utils_relocate_nonnull(machine, r_type, value,
@@ -668,7 +684,8 @@ static inline uint32_t linker_utils_relocate(uint16_t machine, uint32_t r_type, 
 /* The same of several relocations of a section, in order. It stops at the first that is rejected:
  * `faulty` is its index, and the status says why. Those before it are written; it and those after
  * it are not. With LINKER_UTILS_UNKNOWN_ARCHITECTURE `faulty` is unchanged. An offset past the
- * section's end is LINKER_UTILS_TOO_SHORT. */
+ * section's end is LINKER_UTILS_TOO_SHORT whatever the relocation's type, also where that is one
+ * for LINKER_UTILS_UNKNOWN_RELOCATION or LINKER_UTILS_UNSUPPORTED. */
 static inline uint32_t linker_utils_relocate_all(
     uint16_t machine, uint8_t *section, size_t section_len,
     const struct linker_utils_relocation_entry *relocations, size_t relocations_len,
@@ -692,8 +709,8 @@ struct linker_utils_deletion {
 /* A deletion, with the sum of the bytes that it and all deletions at lower offsets delete. The
  * deltas that the calls below take are an array of these, as `linker_utils_deltas_create` and
  * `linker_utils_deltas_merge` write it. It is the caller's own memory, and any number of threads
- * may read it. With an array that was written otherwise the calls are still defined, but their
- * results are not specified. */
+ * may read it. With an array that was written otherwise the calls are still defined, and a status
+ * is one of those that the call names. What else depends on the array is not specified. */
 struct linker_utils_delta {
     uint64_t input_offset;
     uint64_t cumulative_deleted;
@@ -729,8 +746,9 @@ static inline uint32_t linker_utils_jal_site(uint8_t *section, size_t section_le
 /* Turns the call at a site of a section into a `jal` by a distance in bytes, which links the
  * register that `link` chooses of `enum linker_utils_link_register`. The `jalr`'s is right for
  * every call, as for `tail f` and `call t0, f`; the eight bytes at the site then have to be an
- * `auipc` and a `jalr` over its register. LINKER_UTILS_UNKNOWN_LINK_REGISTER,
- * LINKER_UTILS_OUT_OF_SECTION, LINKER_UTILS_NOT_A_CALL, LINKER_UTILS_ODD_DISTANCE,
+ * `auipc` and a `jalr` over its register. LINKER_UTILS_UNKNOWN_LINK_REGISTER.
+ * LINKER_UTILS_OUT_OF_SECTION where the four bytes at the site do not lie in the section or, with
+ * the `jalr`'s register, the eight do not. LINKER_UTILS_NOT_A_CALL, LINKER_UTILS_ODD_DISTANCE,
  * LINKER_UTILS_TOO_FAR. */
 static inline uint32_t linker_utils_jal_site_with(uint8_t *section, size_t section_len,
                                                   uint64_t site, int64_t distance, uint32_t link) {
@@ -951,8 +969,9 @@ static inline uint32_t linker_utils_deltas_is_mergeable(
  * LINKER_UTILS_INVALID_DELETIONS where the deltas list no valid deletions, and `faulty` is the
  * first delta at fault, as above. LINKER_UTILS_NOT_MERGEABLE, and `faulty` is the first additional
  * deletion that overlaps an old or an earlier additional one, or ends past 2^64 - 1.
- * LINKER_UTILS_OUT_OF_MEMORY. It takes no memory where the additional deletions ascend and can be
- * merged. */
+ * LINKER_UTILS_OUT_OF_MEMORY where they can be merged, but there is no memory for a copy of them.
+ * It takes no memory where the additional deletions ascend and can be merged. Where the copy is
+ * refused it takes up to k^2 steps for k additional deletions. */
 static inline uint32_t linker_utils_deltas_merge(const struct linker_utils_delta *deltas,
                                                  size_t deltas_len,
                                                  const struct linker_utils_deletion *additional,
@@ -1012,7 +1031,8 @@ static inline uint32_t linker_utils_deltas_translate_all(const struct linker_uti
 
 /* ---- Heads: searches among many deltas are faster with the heads of their blocks, an array beside
  * the deltas. Each call is defined for any heads; its result is promised of those that
- * `linker_utils_deltas_heads` wrote of the same deltas. */
+ * `linker_utils_deltas_heads` wrote of the same deltas, and of any that are not as many as
+ * blocks. */
 
 /* The first delta of a block of 64: its input offset, and its output offset, which is that less the
  * bytes of all deletions before it. */
@@ -1106,7 +1126,8 @@ static inline size_t linker_utils_packed_len(const uint8_t *section, size_t sect
  * first call whose site is less than 4 above that of the one before it.
  * LINKER_UTILS_DIFFERENT_LENGTHS where `packed_len` is not `linker_utils_packed_len`. If a call
  * can't become a jump, `faulty` is the first such call, and the status is that of its cause:
- * LINKER_UTILS_OUT_OF_SECTION, LINKER_UTILS_SITE_DELETED, LINKER_UTILS_NOT_A_CALL,
+ * LINKER_UTILS_OUT_OF_SECTION, as `linker_utils_jal_site_with`, also where the target is past the
+ * section's end; LINKER_UTILS_SITE_DELETED, of the four bytes at the site; LINKER_UTILS_NOT_A_CALL,
  * LINKER_UTILS_ODD_DISTANCE, LINKER_UTILS_TOO_FAR. */
 static inline uint32_t linker_utils_pack(const uint8_t *section, size_t section_len,
                                          const struct linker_utils_delta *deltas,

@@ -12,7 +12,7 @@ impl Display for RelocateError {
         f.write_str(match self {
             RelocateError::Unsupported => {
                 "the relocation is one of a pair that computes a ULEB128 number, \
-                 or its row is none that the library returns"
+                 or R_LARCH_CALL30, or its row is none that the library returns"
             }
             RelocateError::TooShort => "there are fewer bytes than the relocation writes",
             RelocateError::Misaligned => "the value is not a multiple of the relocation's alignment",
@@ -41,8 +41,8 @@ impl Display for CallError {
     fn fmt(&self, f: &mut Formatter<'_>) -> Result {
         f.write_str(match self {
             CallError::OutOfSection => {
-                "the four bytes at the site do not lie in the section, \
-                 or the target is past its end"
+                "the four bytes at the site, or the eight where the `jalr`'s register is linked, \
+                 do not lie in the section, or the target is past its end"
             }
             CallError::SiteDeleted => "one of the four bytes at the site is deleted",
             CallError::OddDistance => "the distance is odd",

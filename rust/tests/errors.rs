@@ -26,9 +26,9 @@ fn status(name: &str) -> String {
 #[test]
 fn errors_of_relocations_are_printed() {
     let unsupported = "the relocation is one of a pair that computes a ULEB128 number, \
-                       or its row is none that the library returns";
+                       or R_LARCH_CALL30, or its row is none that the library returns";
     assert_eq!(texts(RelocateError::Unsupported), [unsupported]);
-    assert!(unsupported.starts_with(&(status("Uleb128Pair") + ",")));
+    assert!(unsupported.starts_with(&(status("Unsupported") + ",")));
     let short = "there are fewer bytes than the relocation writes";
     assert_eq!(texts(RelocateError::TooShort), [short]);
     let misaligned = "the value is not a multiple of the relocation's alignment";
@@ -55,7 +55,8 @@ const CALLS: [(CallError, &str, &str); 4] = [
     (
         CallError::OutOfSection,
         "OutOfSection",
-        "the four bytes at the site do not lie in the section, or the target is past its end",
+        "the four bytes at the site, or the eight where the `jalr`'s register is linked, \
+         do not lie in the section, or the target is past its end",
     ),
     (CallError::SiteDeleted, "SiteDeleted", "one of the four bytes at the site is deleted"),
     (CallError::OddDistance, "OddDistance", "the distance is odd"),

@@ -50,7 +50,8 @@ numbered! {
         CannotApply = 7,
         /// The register is not one from 0 to 30.
         BadRegister = 8,
-        /// The four bytes at the site do not lie in the section, or the target is past its end.
+        /// The four bytes at the site, or the eight where the `jalr`'s register is linked, do not lie
+        /// in the section, or the target is past its end.
         OutOfSection = 9,
         /// One of the four bytes at the site is deleted.
         SiteDeleted = 10,
@@ -88,8 +89,8 @@ numbered! {
         OutOfReach = 28,
         /// A relocation of this type has no value.
         NoValue = 29,
-        /// The relocation is one of a pair that computes a ULEB128 number.
-        Uleb128Pair = 30,
+        /// The relocation is one of a pair that computes a ULEB128 number, or `R_LARCH_CALL30`.
+        Unsupported = 30,
     }
 }
 
@@ -121,7 +122,7 @@ impl fmt::Display for Status {
                 "The register is not one from 0 to 30."
             }
             Status::OutOfSection => {
-                "The four bytes at the site do not lie in the section, or the target is past its end."
+                "The four bytes at the site, or the eight where the `jalr`'s register is linked, do not lie in the section, or the target is past its end."
             }
             Status::SiteDeleted => {
                 "One of the four bytes at the site is deleted."
@@ -169,8 +170,8 @@ impl fmt::Display for Status {
             Status::Misaligned => "The value is not a multiple of the relocation's alignment.",
             Status::OutOfReach => "The value is out of the relocation's reach.",
             Status::NoValue => "A relocation of this type has no value.",
-            Status::Uleb128Pair => {
-                "The relocation is one of a pair that computes a ULEB128 number."
+            Status::Unsupported => {
+                "The relocation is one of a pair that computes a ULEB128 number, or R_LARCH_CALL30."
             }
         })
     }

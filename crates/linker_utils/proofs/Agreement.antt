@@ -10,6 +10,7 @@ use Rattle.std.specs.Int.Signed.{le_z, le_z_yes}
 use Rattle.linker_base.specs.Bits.{signed}
 use Rattle.linker_base.specs.Form.{Sign, unsigned, twos_complement, number_of, IsSameModulo, IsClear, Written, place_sum, Layout, one_field, own_form, form_of}
 use Rattle.linker_base.proofs.Fields.{mod_mod}
+use Rattle.linker_base.proofs.Pairs.{signed_cases}
 use Rattle.linker_base.proofs.Immediates.{subst_below, number_rem, sound_field, laid_field, is_sound_layout}
 use Rattle.linker_utils.specs.Agrees.{bits_from, IsFieldOf, IsSameIn}
 use Rattle.linker_utils.specs.Elf.{IsWithin}
@@ -105,11 +106,27 @@ congruent sign n k q f l e =
     ∙ ap pos (mod_mod f n k l ∙ mod-eq_of_lt (rem_below q f k e))
     ∙ e
 
+-- no bit of a number of k bits, read in n, is above them
+part_below : (sign : Sign) (n k f : ℕ) → k ≤ n → f < 2 ^ k → number_of sign n (f % 2 ^ n) <ℤ pos (2 ^ k)
+part_below unsigned n k f l small =
+    subst (λ y. pos y <ℤ pos (2 ^ k)) (sym (mod-eq_of_lt (subst_below f k n small l))) (omega (arith, ints))
+part_below twos_complement n k f l small =
+    subst (λ y. signed n y <ℤ pos (2 ^ k)) (sym (mod-eq_of_lt (subst_below f k n small l)))
+    (elim (signed_cases n f) [
+      | inl a ↦ subst (λ z. z <ℤ pos (2 ^ k)) (sym a.1) (omega (arith, ints))
+      | inr a ↦ let wide = subst_below f k n small l in
+          subst (λ z. z <ℤ pos (2 ^ k)) (sym a.1) (let some = pow_pos k in omega (arith, ints))
+    ])
+
 pub number_agrees : (sign : Sign) (n s k : ℕ) (bounds : Option (ℤ × ℤ)) → reaches sign n s k bounds ≡ true
     → (v : ℤ) (f : ℕ) → IsWithin bounds v → pos f ≡ int_rem_euclid (bits_from s v) (pos (2 ^ k))
     → IsSameIn bounds k (number_of sign n (f % 2 ^ n)) (bits_from s v)
-number_agrees unsigned n s k None h v f within e = congruent unsigned n k (bits_from s v) f (leb-true k n h) e
-number_agrees twos_complement n s k None h v f within e = congruent twos_complement n k (bits_from s v) f (leb-true k n h) e
+number_agrees unsigned n s k None h v f within e =
+    let l = leb-true k n h in
+    (congruent unsigned n k (bits_from s v) f l e, part_below unsigned n k f l (rem_below (bits_from s v) f k e))
+number_agrees twos_complement n s k None h v f within e =
+    let l = leb-true k n h in
+    (congruent twos_complement n k (bits_from s v) f l e, part_below twos_complement n k f l (rem_below (bits_from s v) f k e))
 number_agrees unsigned n s k (Some b) h v f within e =
     let all = and_parts (leb k n) (le_z (pos 0) b.0 && le_z b.1 (pos (2 ^ (k + s)))) h in
     let ends = and_parts (le_z (pos 0) b.0) (le_z b.1 (pos (2 ^ (k + s)))) all.1 in

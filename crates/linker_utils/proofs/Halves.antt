@@ -1,15 +1,14 @@
 -- Pairs of instructions hold each value within their reach.
-use Rattle.std.proofs.Common.{FitsSigned, ◌≡◌, ℕ, suc, ◌+◌, ◌-◌, ◌*◌, ◌/◌, ◌%◌, ◌^◌, ◌<◌, ◌≤◌, ltb}
+use Rattle.std.proofs.Common.{FitsSigned, ◌≡◌, ℕ, suc, ◌+◌, ◌-◌, ◌*◌, ◌/◌, ◌%◌, ◌^◌, ◌<◌, ◌≤◌}
 use Rattle.std.proofs.Common.{Bool, true, refl, ◌∙◌, ap, arith, List, inl, inr, ℤ, pos, negsuc}
 use Rattle.std.proofs.Common.{◌+ℤ◌, ◌-ℤ◌, ◌*ℤ◌, unsigned_abs, int_lt, sym, Some}
 use Rattle.std.specs.Int.{w64, cast_unsigned, int_rem_euclid}
-use Rattle.std.proofs.lemmas.Bool.{cases_lt, and_parts, ltb-true}
+use Rattle.std.proofs.lemmas.Bool.{cases_lt}
 use Rattle.std.proofs.lemmas.Int.{ints, int_rem_euclid_is}
-use Rattle.std.proofs.lemmas.Nat.{pow_pos, mod_below}
 use Rattle.linker_base.specs.Bits.{field, signed}
 use Rattle.linker_base.specs.Form.{Written, place_sum, window_of, twos_complement}
 use Rattle.linker_base.specs.declared.bit_misc.BitRange.{BitRange}
-use Rattle.linker_base.proofs.Immediates.{layout_laid, always_clear, subst_below}
+use Rattle.linker_base.proofs.Immediates.{layout_laid, always_clear}
 use Rattle.linker_base.proofs.Pairs.{signed_cases, added}
 use Rattle.linker_utils.specs.Agrees.{bits_from}
 use Rattle.linker_utils.specs.Elf.{IsWithin, bit_bounds, relocation_form}
@@ -18,6 +17,7 @@ use Rattle.linker_utils.specs.Ppc64.{ppc64_form, ppc64_layout}
 use Rattle.linker_utils.specs.Reach.{riscv_pair_bounds, clui_bounds, call36_bounds, riscv_reach}
 use Rattle.linker_utils.specs.Reach.{loongarch_reach, reach_of_size}
 use Rattle.linker_utils.specs.Relocate.{bits_taken, takes_size, InstructionWritten, IsWritten}
+use Rattle.linker_utils.specs.Relocate.{IsInUnits}
 use Rattle.linker_utils.specs.Relocate.{IsAligned, IsAccepted, CompletesHigh, RiscVHolds}
 use Rattle.linker_utils.specs.Relocate.{LoongArchHolds, Ppc64Holds, InstructionHolds, SizeHolds}
 use Rattle.linker_utils.specs.RiscV.{riscv_form, riscv_layout, riscv_places, ui_high, ui_low}
@@ -36,11 +36,12 @@ use Rattle.linker_utils.specs.declared.elf.RelocationSize.TheVariants.{ByteSize,
 use Rattle.linker_utils.specs.declared.elf.RiscVInstruction.{RiscVInstruction}
 use Rattle.linker_utils.specs.declared.elf.RiscVInstruction.TheVariants.{UType, IType, SType}
 use Rattle.linker_utils.specs.declared.elf.RiscVInstruction.TheVariants.{CluiType, UiType}
-use Rattle.linker_utils.proofs.Agreement.{rem_rem, from_zero, number_agrees}
+use Rattle.linker_utils.proofs.Agreement.{number_agrees}
 use Rattle.linker_utils.proofs.LoongArch.{loongarch_reaches}
-use Rattle.linker_utils.proofs.Relocated.{supported_size}
+use Rattle.linker_utils.proofs.Placed.{reads_as}
+use Rattle.linker_utils.proofs.Relocated.{supported_size, taken_bits_inside}
 use Rattle.linker_utils.proofs.RiscV.{u_laid, clui_laid, ui_high_laid, ui_low_laid}
-use Rattle.linker_utils.proofs.Taken.{taken_is_field}
+use Rattle.linker_utils.proofs.Taken.{taken_is_field, taken_low, taken_below, taken_in_units}
 
 -- The halves of f, whose low 32 bits are those of v, add up to v.
 module _ (f h l : ℕ) (high : h ≡ (f + 0x800) % 2 ^ 64 / 4096 % 1048576 * 4096) (low : l ≡ f % 4096) where
@@ -78,21 +79,6 @@ module _ (f h l : ℕ) (high : h ≡ (f + 0x800) % 2 ^ 64 / 4096 % 1048576 * 409
       down n (omega arith) small
 
 -- ---- what a written row holds
-
--- the bits that are taken of a value have its low n bits
-taken_low : (n : ℕ) (bits : BitRange) (v : ℤ) → FitsSigned w64 v → bits.start ≡ 0 → n ≤ bits.end
-    → bits.end ≤ 64 → bits.start < bits.end
-    → pos (bits_taken bits v % 2 ^ n) ≡ int_rem_euclid v (pos (2 ^ n))
-taken_low n bits v small start long inside some =
-    let e : pos (bits_taken bits v) ≡ int_rem_euclid (bits_from bits.start v) (pos (2 ^ (bits.end - bits.start))) = taken_is_field bits v small some inside in
-    let from : bits_from bits.start v ≡ v = ap (λ s. bits_from s v) start ∙ from_zero v in
-    rem_rem v (bits_taken bits v) (bits.end - bits.start) n (omega arith) (e
-    ∙ ap (λ z. int_rem_euclid z (pos (2 ^ (bits.end - bits.start)))) from)
-
-taken_below : (bits : BitRange) (v : ℤ) → bits.end ≤ 64 → bits_taken bits v < 2 ^ 64
-taken_below bits v inside =
-    subst_below (bits_taken bits v) (bits.end - bits.start) 64
-    (mod_below (cast_unsigned w64 v / 2 ^ bits.start) (2 ^ (bits.end - bits.start)) (pow_pos (bits.end - bits.start))) (omega arith)
 
 completes : (low : RiscVInstruction) (bits : BitRange) (v : ℤ) (l after : ℕ) → (riscv_form low).machine after ≡ signed 12 l → l ≡ bits_taken bits v % 4096
     → pos (bits_taken bits v % 2 ^ 32) ≡ int_rem_euclid v (pos (2 ^ 32)) → IsWithin (Some riscv_pair_bounds) v → CompletesHigh low bits v after
@@ -282,18 +268,14 @@ completes_adjusted v l small low neg before high within laid =
     ∙ ap (λ z. (z *ℤ pos (2 ^ 16)) +ℤ signed 16 l) reads
     ∙ rounded_halves w l small (adjusted_rest v l low) ∙ taken_back v
 
-ppc64_holds : (f : Ppc64Instruction) (bits : BitRange) (v : ℤ) (neg : Bool) (before after : ℕ)
-    → FitsSigned w64 v → bits.end ≤ 64
-    → Written (ppc64_form f) (bits_taken bits v) neg before after → bits.start ≡ 0 → 16 ≤ bits.end
-    → Ppc64Holds f v after
-ppc64_holds D bits v neg before after small inside laid start long = λ n x high within high_laid.
-    let f = bits_taken bits v in
-    let sum = d_laid f neg before after (taken_below bits v inside) laid in
-    ap (λ y. ((ppc64_form D).machine high *ℤ pos (2 ^ 16)) +ℤ signed 16 y) sum
-    ∙ completes_adjusted v (f % 65536) (omega arith)
-    (sym (taken_low 16 bits v small start long inside (omega arith))) n x high within high_laid
-ppc64_holds Ds bits v neg before after small inside laid start long =
-    λ aligned n x high within high_laid.
+ds_holds : (bits : BitRange) (v : ℤ) (neg : Bool) (before after : ℕ) → FitsSigned w64 v
+    → bits.end ≤ 64 → Written (ppc64_form Ds) (bits_taken bits v) neg before after
+    → bits.start ≡ 0 → 16 ≤ bits.end → IsAligned 4 v → (neg : Bool) (x high : ℕ)
+    → IsWithin (Some (bit_bounds 32 Signed)) (v +ℤ pos 0x8000)
+    → Written (ppc64_form D) (bits_taken (record { start = 16; end = 32 }) (v +ℤ pos 0x8000)) neg
+    x high
+    → ((ppc64_form D).machine high *ℤ pos (2 ^ 16)) +ℤ (ppc64_form Ds).machine after ≡ v
+ds_holds bits v neg before after small inside laid start long aligned n x high within high_laid =
     let f = bits_taken bits v in
     let wide = taken_below bits v inside in
     let low = layout_laid (ppc64_layout Ds) refl f neg before after wide laid
@@ -304,29 +286,53 @@ ppc64_holds Ds bits v neg before after small inside laid start long =
     ap (λ y. ((ppc64_form D).machine high *ℤ pos (2 ^ 16)) +ℤ signed 16 y) sum
     ∙ completes_adjusted v (f % 65536) (omega arith)
     (sym (taken_low 16 bits v small start long inside (omega arith))) n x high within high_laid
-ppc64_holds f bits v neg before after small inside laid start long = tt
 
-instruction_holds : (insn : RelocationInstruction) (bits : BitRange) (own : Bounds) (v : ℤ) (before after : List ℕ) → FitsSigned w64 v → bits.end ≤ 64
-    → IsWithin (reach_of_size (BitMasking bits insn) own) v → InstructionWritten insn bits v before after → InstructionHolds insn bits v (window_of (relocation_form insn) after)
-instruction_holds (AArch64 f) bits own v before after small inside within w = tt
-instruction_holds (RiscV f) bits own v before after small inside within w =
+ppc64_holds : (f : Ppc64Instruction) (bits : BitRange) (v : ℤ) (before after : List ℕ)
+    → FitsSigned w64 v → bits.end ≤ 64 → IsInUnits (BitMasking bits (Ppc64 f)) v before
+    → InstructionWritten (Ppc64 f) bits v before after → bits.start ≡ 0 → 16 ≤ bits.end
+    → Ppc64Holds f v (window_of (ppc64_form f) after)
+ppc64_holds D bits v before after small inside units w start long =
+    λ n x high within high_laid.
+    let f = bits_taken bits v in
+    let sum = d_laid f (int_lt v (pos 0)) w.clear (window_of (ppc64_form D) after)
+    (taken_below bits v inside) w.written in
+    ap (λ y. ((ppc64_form D).machine high *ℤ pos (2 ^ 16)) +ℤ signed 16 y) sum
+    ∙ completes_adjusted v (f % 65536) (omega arith)
+    (sym (taken_low 16 bits v small start long inside (omega arith))) n x high within high_laid
+ppc64_holds Ds bits v before after small inside units w start long =
+    λ aligned n x high within high_laid.
+    let r = reads_as (bits_taken bits v) (window_of (ppc64_form Ds) before) w.clear
+    (window_of (ppc64_form Ds) after) (int_lt v (pos 0)) (taken_below bits v inside)
+    (λ is. taken_in_units bits v small start inside (omega arith) (units is)) w.clears w.written in
+    ap (λ z. ((ppc64_form D).machine high *ℤ pos (2 ^ 16)) +ℤ z) r.reads
+    ∙ ds_holds bits v (int_lt v (pos 0)) r.old r.window small inside r.written start long aligned n x
+    high within high_laid
+ppc64_holds f bits v before after small inside units w start long = tt
+
+instruction_holds : (insn : RelocationInstruction) (kind : RelocationKind) (bits : BitRange)
+    (own : Bounds) (v : ℤ) (before after : List ℕ) → FitsSigned w64 v → bits.end ≤ 64
+    → IsWithin (reach_of_size kind (BitMasking bits insn) own) v
+    → IsInUnits (BitMasking bits insn) v before → InstructionWritten insn bits v before after
+    → InstructionHolds insn bits v (window_of (relocation_form insn) after)
+instruction_holds (AArch64 f) kind bits own v before after small inside within units w = tt
+instruction_holds (RiscV f) kind bits own v before after small inside within units w =
     riscv_holds f bits own v (int_lt v (pos 0)) w.clear (window_of (riscv_form f) after) small inside within w.written
-instruction_holds (Ppc64 f) bits own v before after small inside within w =
-    ppc64_holds f bits v (int_lt v (pos 0)) w.clear
-    (window_of (ppc64_form f) after) small inside w.written
-instruction_holds (LoongArch64 f) bits own v before after small inside within w =
+instruction_holds (Ppc64 f) kind bits own v before after small inside within units w =
+    ppc64_holds f bits v before after small inside units w
+instruction_holds (LoongArch64 f) kind bits own v before after small inside within units w =
     loongarch_holds f bits own v (int_lt v (pos 0)) w.clear (window_of (loongarch_form f) after) inside within w.written
 
-size_holds : (size : RelocationSize) (kind : RelocationKind) (own : Bounds) (v : ℤ) (before after : List ℕ) → FitsSigned w64 v → takes_size kind size ≡ true
-    → IsWithin (reach_of_size size own) v → IsWritten size kind v before after → SizeHolds size v after
-size_holds (ByteSize n) kind own v before after small takes within w = tt
-size_holds (BitMasking bits insn) kind own v before after small takes within w =
-    let t = and_parts (ltb bits.start bits.end) (ltb bits.end 65) takes in
-    let below = ltb-true bits.end 65 t.1 in
-    instruction_holds insn bits own v before after small (omega arith) within w
+size_holds : (size : RelocationSize) (kind : RelocationKind) (own : Bounds) (v : ℤ)
+    (before after : List ℕ) → FitsSigned w64 v → takes_size kind size ≡ true
+    → IsWithin (reach_of_size kind size own) v → IsInUnits size v before
+    → IsWritten size kind v before after → SizeHolds size v after
+size_holds (ByteSize n) kind own v before after small takes within units w = tt
+size_holds (BitMasking bits insn) kind own v before after small takes within units w =
+    let t = taken_bits_inside kind bits insn takes in
+    instruction_holds insn kind bits own v before after small t.1 within units w
 
-pub row_holds : (row : RelocationKindInfo) (v : ℤ) (before after : List ℕ) → FitsSigned w64 v → IsAccepted row v before → IsWritten row.size row.kind v before after
-    → SizeHolds row.size v after
+pub row_holds : (row : RelocationKindInfo) (v : ℤ) (before after : List ℕ) → FitsSigned w64 v
+    → IsAccepted row v before → IsWritten row.size row.kind v before after → SizeHolds row.size v after
 row_holds row v before after small accepted w =
     size_holds row.size row.kind row.range.bounds v before after small
-    (supported_size row accepted.supported) accepted.reached.0 w
+    (supported_size row accepted.supported) accepted.reached.0 accepted.aligned.1 w

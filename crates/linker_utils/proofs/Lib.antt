@@ -13,6 +13,7 @@ pub mod LoongArchNumbers
 pub mod LoongArchSequences
 pub mod MovedBits
 pub mod Packed
+pub mod Placed
 pub mod RowTables
 pub mod Ppc64Forms
 pub mod Ppc64Pairs

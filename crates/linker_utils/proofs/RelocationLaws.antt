@@ -186,7 +186,7 @@ page_distance s p small place =
 low_bits : (k f n : ℕ) → k < 65 → f < 2 ^ k → n < 2 ^ 64
     → IsSameIn None k (pos f) (bits_from 0 (cast_signed w64 n)) → f ≡ n % 2 ^ k
 low_bits k f n short small below same =
-    let is : pos (f % 2 ^ k) ≡ pos (n % 2 ^ k) = same
+    let is : pos (f % 2 ^ k) ≡ pos (n % 2 ^ k) = same.0
     ∙ ap (λ z. int_rem_euclid z (pos (2 ^ k))) (from_zero (cast_signed w64 n))
     ∙ cast_low n k below short in
     sym (mod-eq_of_lt small) ∙ ap unsigned_abs is
@@ -224,11 +224,11 @@ aarch64_addresses = λ o place adrp adrp_after add add_after small_place high lo
     let high_reads : (aarch64_form Adr).machine (from_le_bytes w32 adrp_after)
     ≡ bits_from 12 high.value =
     row_reads_in_reach false _ high.value adrp adrp_after high_fits high.accepted high.written
-    (aarch64_rows R_AARCH64_ADR_PREL_PG_HI21).1 (λ e. cc) in
+    (aarch64_rows R_AARCH64_ADR_PREL_PG_HI21).1 in
     let f = place_sum ((aarch64_form Add).places 0) (from_le_bytes w32 add_after) in
     let low_reads : IsSameIn None 12 (pos f) (bits_from 0 low.value) =
     row_reads_in_reach false _ low.value add add_after low_fits low.accepted low.written
-    (aarch64_rows R_AARCH64_ADD_ABS_LO12_NC).1 (λ e. cc) in
+    (aarch64_rows R_AARCH64_ADD_ABS_LO12_NC).1 in
     let low_sum : f ≡ total % 2 ^ 12 =
     low_bits 12 f total (omega arith)
     (place_sum_below ((aarch64_form Add).places 0) 12 (from_le_bytes w32 add_after) refl refl) below
@@ -273,7 +273,7 @@ high_reading f v small within same =
     let is : f % 2 ^ 20 ≡ f = mod-eq_of_lt small in
     ap (signed 20) (sym is)
     ∙ number_agrees twos_complement 20 12 20 (Some (bit_bounds 32 Signed)) refl v f within
-    (ap pos (sym is) ∙ same)
+    (ap pos (sym is) ∙ same.0)
 
 field_below : (x s e : ℕ) → field x s e < 2 ^ (e - s)
 field_below x s e = mod_below (x / 2 ^ s) (2 ^ (e - s)) (pow_pos (e - s))
@@ -289,7 +289,7 @@ loongarch_calls_reach = λ o before after place applied.
     subst (FitsSigned w64) is (small_value (sum_64 s 0) o.place) in
     goes_by s o.place applied.value _ small place is
     (row_holds _ applied.value before after fits applied.accepted applied.written refl refl
-    applied.accepted.aligned)
+    applied.accepted.aligned.0)
 
 pub loongarch_addresses : LoongArchAddressesAreTheSymbols
 loongarch_addresses =
@@ -377,8 +377,10 @@ ppc64_addresses = λ o addis addis_after addi addi_after small_base high low.
     let low_reads : IsSameIn None 16 (signed 16 f) (bits_from 0 low.value) =
     row_reads_in_reach false _ low.value addi addi_after low_fits low.accepted low.written
     (ppc64_rows R_PPC64_TOC16_LO).1 in
-    let read : IsSameIn None 16 (pos f) (bits_from 0 low.value) = ap pos (mod-eq_of_lt f_below)
-    ∙ sym (signed_rem 16 f f_below) ∙ low_reads in
+    let read : IsSameIn None 16 (pos f) (bits_from 0 low.value) = (
+      ap pos (mod-eq_of_lt f_below) ∙ sym (signed_rem 16 f f_below) ∙ low_reads.0,
+      omega (arith, ints),
+    ) in
     let low_sum : f ≡ difference_64 s p % 2 ^ 16 =
     low_bits 16 f (difference_64 total p) (omega arith) f_below (omega arith)
     (subst (λ v. IsSameIn None 16 (pos f) (bits_from 0 v)) (sym low_is) read)

@@ -80,13 +80,19 @@ moved_congruent : (neg : Bool) (f : ℕ) → f < 2 ^ 16 → int_rem_euclid (move
 moved_congruent true f h = ap pos (omega arith)
 moved_congruent false f h = ap pos (omega arith)
 
+moved_below : (neg : Bool) (f : ℕ) → f < 2 ^ 16 → moved_value neg (moved_bits neg f) 0 <ℤ pos (2 ^ 16)
+moved_below true f h = omega (arith, ints)
+moved_below false f h = omega (arith, ints)
+
 sign_of_quotient : (v : ℤ) (s : ℕ) → int_lt v (pos 0) ≡ int_lt (bits_from s v) (pos 0)
 sign_of_quotient (pos b) s = le-ltb b 0 (omega arith) ∙ sym (le-ltb (b / 2 ^ s) 0 (omega arith))
 sign_of_quotient (negsuc b) s = refl
 
 moved_in : (s e : ℕ) (bounds : Option (ℤ × ℤ)) → is_moved s e bounds ≡ true → (v : ℤ) (f : ℕ) → IsWithin bounds v → pos f ≡ int_rem_euclid (bits_from s v) (pos (2 ^ 16))
     → IsSameIn bounds 16 (moved_value (int_lt v (pos 0)) (moved_bits (int_lt v (pos 0)) f) 0) (bits_from s v)
-moved_in s e None h v f within is_field = moved_congruent (int_lt v (pos 0)) f (rem_below (bits_from s v) f 16 is_field) ∙ is_field
+moved_in s e None h v f within is_field =
+    let small = rem_below (bits_from s v) f 16 is_field in
+    (moved_congruent (int_lt v (pos 0)) f small ∙ is_field, moved_below (int_lt v (pos 0)) f small)
 moved_in s e (Some b) h v f within is_field =
     let ends = (and_parts (eqb (e - s) 16) (le_z (neg_ℤ (pos (2 ^ (16 + s)))) b.0 && le_z b.1 (pos (2 ^ (16 + s)))) h).1 in
     let each = and_parts (le_z (neg_ℤ (pos (2 ^ (16 + s)))) b.0) (le_z b.1 (pos (2 ^ (16 + s)))) ends in

@@ -228,7 +228,7 @@ laid_append ps qs v x y z free_of free_in first second =
           second.kept w parts.1 ∙ first.kept w parts.0;
     }
 
-consecutive_bits_outside : (n k w r : ℕ) (m : Mark) (i : ℕ) → (i < w) ⊎ (w + n ≤ i) → is_placed (consecutive_bits n k w r m) i ≡ false
+pub consecutive_bits_outside : (n k w r : ℕ) (m : Mark) (i : ℕ) → (i < w) ⊎ (w + n ≤ i) → is_placed (consecutive_bits n k w r m) i ≡ false
 consecutive_bits_outside zero k w r m i o = refl
 consecutive_bits_outside (suc n) k w r m i (inl below) =
     or_from (eqb w i) (is_placed (consecutive_bits n (k + 1) (w + 1) r m) i) (ne_eqb w i (λ e. absurd (omega arith))) (consecutive_bits_outside n (k + 1) (w + 1) r m i (inl (omega arith)))

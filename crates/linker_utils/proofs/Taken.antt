@@ -2,15 +2,18 @@
 use Rattle.std.proofs.Common.{IsTrue, nat_eq, bit_and, unsigned_abs}
 use Rattle.std.proofs.Common.{FitsSigned, ◌≡◌, ℕ, suc, ◌+◌, ◌-◌, ◌*◌, ◌/◌, ◌%◌, ◌^◌, ◌<◌, ◌≤◌, ◌+ℤ◌, refl, sym, ◌∙◌, ap, subst, arith, ℤ, pos, negsuc}
 use Rattle.std.specs.Int.{w64, cast_unsigned, int_rem_euclid}
-use Rattle.std.proofs.lemmas.Bool.{eqb-true}
+use Rattle.std.proofs.Common.{inl, inr}
+use Rattle.std.proofs.lemmas.Bool.{eqb-true, cases_lt}
 use Rattle.std.proofs.lemmas.Int.{ints, int_rem_euclid_is}
 use Rattle.std.proofs.lemmas.Nat.{pow_pos, pow-add, mod_below, div-add-mod', div-mul-add}
 use Rattle.std.proofs.lemmas.Nat.{one_shl}
-use Rattle.std.proofs.Math.Nat.{div-lt_iff_lt-mul}
+use Rattle.std.proofs.Math.Nat.{div-lt_iff_lt-mul, mod-eq_of_lt}
 use Rattle.linker_base.specs.declared.bit_misc.BitRange.{BitRange}
 use Rattle.linker_base.proofs.Bits.{low_mask_keeps}
-use Rattle.linker_utils.specs.Agrees.{IsFieldOf}
+use Rattle.linker_base.proofs.Immediates.{subst_below}
+use Rattle.linker_utils.specs.Agrees.{IsFieldOf, bits_from}
 use Rattle.linker_utils.specs.Relocate.{bits_taken, IsAligned}
+use Rattle.linker_utils.proofs.Agreement.{rem_rem, from_zero}
 
 -- the quotient of a complement is the complement of the quotient
 complement : (n m d q r : ℕ) → n ≡ q * d + r → r < d → q < m → m * d - suc n ≡ (m - suc q) * d + (d - suc r)
@@ -84,3 +87,43 @@ is_multiple v n a k h is most e =
     let back : IsAligned (2 ^ k) v → IsTrue (nat_eq (n % 2 ^ k) 0) =
     λ z. zero_is (n % 2 ^ k) (ap unsigned_abs (low ∙ z)) in
     rw (low_mask_keeps n k most, unit) (there, back)
+
+-- the bits that are taken of a value have its low n bits
+pub taken_low : (n : ℕ) (bits : BitRange) (v : ℤ) → FitsSigned w64 v → bits.start ≡ 0 → n ≤ bits.end
+    → bits.end ≤ 64 → bits.start < bits.end
+    → pos (bits_taken bits v % 2 ^ n) ≡ int_rem_euclid v (pos (2 ^ n))
+taken_low n bits v small start long inside some =
+    let e : pos (bits_taken bits v) ≡ int_rem_euclid (bits_from bits.start v) (pos (2 ^ (bits.end - bits.start))) = taken_is_field bits v small some inside in
+    let from : bits_from bits.start v ≡ v = ap (λ s. bits_from s v) start ∙ from_zero v in
+    rem_rem v (bits_taken bits v) (bits.end - bits.start) n (omega arith) (e
+    ∙ ap (λ z. int_rem_euclid z (pos (2 ^ (bits.end - bits.start)))) from)
+
+pub taken_below : (bits : BitRange) (v : ℤ) → bits.end ≤ 64 → bits_taken bits v < 2 ^ 64
+taken_below bits v inside =
+    subst_below (bits_taken bits v) (bits.end - bits.start) 64
+    (mod_below (cast_unsigned w64 v / 2 ^ bits.start) (2 ^ (bits.end - bits.start)) (pow_pos (bits.end - bits.start))) (omega arith)
+
+-- those of bits from 0 up
+taken_below_end : (bits : BitRange) (v : ℤ) → bits.start ≡ 0 → bits_taken bits v < 2 ^ bits.end
+taken_below_end bits v start =
+    let width : bits.end - bits.start ≡ bits.end = omega arith in
+    subst (λ n. bits_taken bits v < 2 ^ n) width
+    (mod_below (cast_unsigned w64 v / 2 ^ bits.start) (2 ^ (bits.end - bits.start))
+    (pow_pos (bits.end - bits.start)))
+
+-- the bits that are taken of a multiple of 16 are one too
+pub taken_in_units : (bits : BitRange) (v : ℤ) → FitsSigned w64 v → bits.start ≡ 0
+    → bits.end ≤ 64 → bits.start < bits.end → IsAligned 16 v → bits_taken bits v % 16 ≡ 0
+taken_in_units bits v small start inside some aligned =
+    elim (cases_lt bits.end 4) [
+      | inl short ↦
+          let f = bits_taken bits v in
+          let e : pos (f % 2 ^ bits.end) ≡ int_rem_euclid v (pos (2 ^ bits.end)) =
+          taken_low bits.end bits v small start (omega arith) inside some in
+          let none : int_rem_euclid v (pos (2 ^ bits.end)) ≡ pos (0 % 2 ^ bits.end) =
+          sym (rem_rem v 0 4 bits.end (omega arith) (sym aligned)) in
+          let zero : f % 2 ^ bits.end ≡ 0 % 2 ^ bits.end = ap unsigned_abs (e ∙ none) in
+          let below : f < 2 ^ bits.end = taken_below_end bits v start in
+          ap (λ y. y % 16) (sym (mod-eq_of_lt below) ∙ zero ∙ mod-eq_of_lt (pow_pos bits.end))
+      | inr long ↦ ap unsigned_abs (taken_low 4 bits v small start long inside some ∙ aligned)
+    ]

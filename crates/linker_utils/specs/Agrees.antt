@@ -3,7 +3,7 @@
 -- no instruction; those of a half or of the whole of an instruction pair agree together, as the
 -- contracts of the writes of pairs say. And when a row's bits fit its form.
 use Rattle.std.specs.Prelude.{◌≡◌, ℕ, ◌-◌, ◌^◌, ◌<◌, ◌≤◌, Bool, true, false, Option, Some, None, ℤ}
-use Rattle.std.specs.Prelude.{pos, int_lt, ⊤}
+use Rattle.std.specs.Prelude.{pos, int_lt, ◌<ℤ◌, ⊤}
 use Rattle.std.specs.Int.{int_div_euclid, int_rem_euclid}
 use Rattle.linker_base.specs.Bits.{field}
 use Rattle.linker_base.specs.Form.{Form, Fits, Written, IsClear, IsSameModulo}
@@ -39,10 +39,11 @@ bits_from s v = int_div_euclid v (pos (2 ^ s))
 abbrev pub IsFieldOf : ℤ → ℕ → ℕ → ℕ → Type 0
 IsFieldOf v s e f = pos f ≡ int_rem_euclid (bits_from s v) (pos (2 ^ (e - s)))
 
--- the same number, or the same modulo 2 ^ n where values are not checked
+-- The same number; where values are not checked, the same modulo 2 ^ n, with no bit above those n.
+-- So a number without a sign is those n bits.
 abbrev pub IsSameIn : Option (ℤ × ℤ) → ℕ → ℤ → ℤ → Type 0
 IsSameIn (Some bounds) n a b = a ≡ b
-IsSameIn None n a b = IsSameModulo n a b
+IsSameIn None n a b = IsSameModulo n a b × (a <ℤ pos (2 ^ n))
 
 -- Every aligned value within bounds, of which the bits of a range are written with its sign, is
 -- read from that range's start up. `Ready` tells of the window before; `reads` is the number read

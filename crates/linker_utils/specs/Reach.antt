@@ -1,7 +1,8 @@
 -- Which values of a relocation the machine reads back as they are, or the psABI allows: the row's
 -- own range, and for halves and pairs of instructions, and where the psABI checks what the row
 -- doesn't, the ranges below.
-use Rattle.std.specs.Prelude.{◌+◌, ◌-◌, ◌^◌, ◌==◌, if◌then◌else◌, Some, None, ℤ, pos, neg_ℤ, nat_lt}
+use Rattle.std.specs.Prelude.{ℕ, ◌+◌, ◌-◌, ◌^◌, ◌==◌, if◌then◌else◌, Some, None, ℤ, pos, neg_ℤ}
+use Rattle.std.specs.Prelude.{nat_lt, Bool, true, false, ◌&&◌}
 use Rattle.linker_base.specs.declared.bit_misc.BitRange.{BitRange}
 use Rattle.linker_utils.specs.Elf.{bit_bounds}
 use Rattle.linker_utils.specs.declared.elf.AArch64Instruction.{AArch64Instruction}
@@ -12,6 +13,9 @@ use Rattle.linker_utils.specs.declared.elf.Ppc64Instruction.{Ppc64Instruction}
 use Rattle.linker_utils.specs.declared.elf.Ppc64Instruction.TheVariants.{D}
 use Rattle.linker_utils.specs.declared.elf.RelocationInstruction.TheVariants.{RiscV, Ppc64}
 use Rattle.linker_utils.specs.declared.elf.RelocationInstruction.TheVariants.{LoongArch64, AArch64}
+use Rattle.linker_utils.specs.declared.elf.RelocationKind.{RelocationKind}
+use Rattle.linker_utils.specs.declared.elf.RelocationKind.TheVariants.{GotRelative, GotRelGotBase}
+use Rattle.linker_utils.specs.declared.elf.RelocationKind.TheVariants.{PltRelative}
 use Rattle.linker_utils.specs.declared.elf.RelocationKindInfo.{RelocationKindInfo}
 use Rattle.linker_utils.specs.declared.elf.RelocationSize.{RelocationSize}
 use Rattle.linker_utils.specs.declared.elf.RelocationSize.TheVariants.{ByteSize, BitMasking}
@@ -57,12 +61,24 @@ abbrev pub ppc64_reach : Ppc64Instruction → BitRange → Bounds → Bounds
 ppc64_reach D bits None = if bits.start == 16 then Some (bit_bounds 32 Signed) else None
 ppc64_reach insn bits own = own
 
-abbrev pub reach_of_size : RelocationSize → Bounds → Bounds
-reach_of_size (ByteSize n) own = own
-reach_of_size (BitMasking bits (AArch64 insn)) own = aarch64_reach insn bits own
-reach_of_size (BitMasking bits (RiscV insn)) own = riscv_reach insn own
-reach_of_size (BitMasking bits (Ppc64 insn)) own = ppc64_reach insn bits own
-reach_of_size (BitMasking bits (LoongArch64 insn)) own = loongarch_reach insn own
+-- the distance to a GOT entry or a PLT entry, or the entry's offset in the GOT, in 4 bytes: code
+-- reads them in two's complement
+abbrev pub signed_in_4_bytes : RelocationKind → Bool
+signed_in_4_bytes GotRelative = true
+signed_in_4_bytes GotRelGotBase = true
+signed_in_4_bytes PltRelative = true
+signed_in_4_bytes kind = false
+
+abbrev pub bytes_reach : RelocationKind → ℕ → Bounds → Bounds
+bytes_reach kind n own =
+    if signed_in_4_bytes kind && n == 4 then Some (bit_bounds 32 Signed) else own
+
+abbrev pub reach_of_size : RelocationKind → RelocationSize → Bounds → Bounds
+reach_of_size kind (ByteSize n) own = bytes_reach kind n own
+reach_of_size kind (BitMasking bits (AArch64 insn)) own = aarch64_reach insn bits own
+reach_of_size kind (BitMasking bits (RiscV insn)) own = riscv_reach insn own
+reach_of_size kind (BitMasking bits (Ppc64 insn)) own = ppc64_reach insn bits own
+reach_of_size kind (BitMasking bits (LoongArch64 insn)) own = loongarch_reach insn own
 
 abbrev pub reach_of : RelocationKindInfo → Bounds
-reach_of row = reach_of_size row.size row.range.bounds
+reach_of row = reach_of_size row.kind row.size row.range.bounds

@@ -1,11 +1,13 @@
 -- How a relocation's value is written, and when it isn't.
 use Rattle.std.specs.Prelude.{◌≡◌, ℕ, ◌+◌, ◌-◌, ◌%◌, ◌^◌, ◌<◌, ◌≤◌, ◌==◌, Bool, true, false, not}
-use Rattle.std.specs.Prelude.{◌&&◌, nat_lt, if◌then◌else◌, List, [], ◌∷◌, ◌++◌, length, take, drop}
-use Rattle.std.specs.Prelude.{replicate, ℤ, pos, ◌+ℤ◌, ◌-ℤ◌, ◌*◌, int_lt, Option, Some, ◌*ℤ◌, ⊤}
+use Rattle.std.specs.Prelude.{◌&&◌, ◌||◌, nat_lt, if◌then◌else◌, List, [], ◌∷◌, ◌++◌, length, take, drop}
+use Rattle.std.specs.Prelude.{replicate, ℤ, pos, ◌+ℤ◌, ◌-ℤ◌, ◌*◌, int_lt, Option, Some, None, ◌*ℤ◌}
+use Rattle.std.specs.Prelude.{⊤}
 use Rattle.std.specs.Int.{w64, byte_len, cast_unsigned, from_le_bytes, to_le_bytes, int_rem_euclid}
+use Rattle.std.specs.Int.{bit_at}
 use Rattle.linker_base.specs.Bits.{field}
 use Rattle.linker_base.specs.Form.{ImmediateBit, Mark, replaced, ored, cleared, BitsWritten}
-use Rattle.linker_base.specs.Form.{Written, Fits, window_of}
+use Rattle.linker_base.specs.Form.{Written, Fits, window_of, IsSameModulo}
 use Rattle.linker_base.specs.declared.bit_misc.BitRange.{BitRange}
 use Rattle.linker_utils.specs.AArch64.{aarch64_form, shift_of}
 use Rattle.linker_utils.specs.Agrees.{bits_from, IsSameIn, aarch64_reads, loongarch_reads}
@@ -18,7 +20,8 @@ use Rattle.linker_utils.specs.RiscV.{riscv_form}
 use Rattle.linker_utils.specs.Value.{sum_64, difference_64}
 use Rattle.linker_utils.specs.declared.elf.AArch64Instruction.TheVariants.{Movnz}
 use Rattle.linker_utils.specs.declared.elf.LoongArch64Instruction.{LoongArch64Instruction}
-use Rattle.linker_utils.specs.declared.elf.LoongArch64Instruction.TheVariants.{Shift10, Call36}
+use Rattle.linker_utils.specs.declared.elf.LoongArch64Instruction.TheVariants.{Shift10, Call30}
+use Rattle.linker_utils.specs.declared.elf.LoongArch64Instruction.TheVariants.{Call36}
 use Rattle.linker_utils.specs.declared.elf.Ppc64Instruction.{Ppc64Instruction}
 use Rattle.linker_utils.specs.declared.elf.Ppc64Instruction.TheVariants.{D, Ds}
 use Rattle.linker_utils.specs.declared.elf.Sign.TheVariants.{Signed}
@@ -89,6 +92,34 @@ places_cleared (LoongArch64 f) bits x =
 abbrev pub bits_taken : BitRange → ℤ → ℕ
 bits_taken bits v = field (cast_unsigned w64 v) bits.start bits.end
 
+-- a word of DQ-form, whose displacement is in units of 16, where one of DS-form is expected: `lq` by
+-- primary opcode 56, `lxvp` and `stxvp` by 6, `lxv` and `stxv` by 61 with 01 in the lowest two bits
+-- (Power ISA, "DQ-Form")
+abbrev pub is_dq_form : ℕ → Bool
+is_dq_form word =
+    field word 26 32 == 56
+    || (field word 26 32 == 6 || (field word 26 32 == 61 && field word 0 2 == 1))
+
+-- a number with its low 4 bits those of another
+abbrev pub with_low_4 : ℕ → ℕ → ℕ
+with_low_4 n low = n - n % 16 + low % 16
+
+-- The number whose bits are placed: those of the value. The lowest four of a word of DQ-form stay,
+-- since they aren't its displacement's.
+abbrev pub number_placed : RelocationInstruction → ℕ → ℕ → ℕ
+number_placed (Ppc64 Ds) before taken =
+    if is_dq_form before then with_low_4 taken before else taken
+number_placed insn before taken = taken
+
+-- MOVN and MOVZ of 32 bits are those of 64 but for bit 31, which stays 0.
+abbrev pub is_32_bit_move : RelocationInstruction → ℕ → Bool
+is_32_bit_move (AArch64 Movnz) before = bit_at before 31 == 0
+is_32_bit_move insn before = false
+
+abbrev pub with_bit_31_if : Bool → ℕ → ℕ
+with_bit_31_if true window = window + 2 ^ 31
+with_bit_31_if false window = window
+
 -- The instruction's places are cleared, and then the value's bits are written with its sign. All
 -- other bytes stay.
 pub record InstructionWritten (insn : RelocationInstruction) (bits : BitRange) (v : ℤ)
@@ -96,8 +127,11 @@ pub record InstructionWritten (insn : RelocationInstruction) (bits : BitRange) (
   pub clear : ℕ
   pub clears : BitsWritten (places_cleared insn bits (window_of (relocation_form insn) before)) 0
       (window_of (relocation_form insn) before) clear
-  pub written : Written (relocation_form insn) (bits_taken bits v) (int_lt v (pos 0)) clear
-      (window_of (relocation_form insn) after)
+  pub written : Written (relocation_form insn)
+      (number_placed insn (window_of (relocation_form insn) before) (bits_taken bits v))
+      (int_lt v (pos 0)) clear
+      (with_bit_31_if (is_32_bit_move insn (window_of (relocation_form insn) before))
+      (window_of (relocation_form insn) after))
   pub rest : drop (byte_len (relocation_form insn).window) after
       ≡ drop (byte_len (relocation_form insn).window) before
 
@@ -108,20 +142,51 @@ IsWritten (ByteSize n) kind v before after =
     after ≡ low_bytes n (number_written kind v (number_of_bytes n before)) ++ drop n before
 IsWritten (BitMasking bits insn) kind v before after = InstructionWritten insn bits v before after
 
+-- what MOVN or MOVZ of 32 bits leaves in its register
+abbrev pub moved_32 : ℕ → ℤ
+moved_32 word =
+    int_rem_euclid ((aarch64_form Movnz).machine (word + 2 ^ 31)) (pos (2 ^ 32))
+
+-- What the machine reads after a write of MOVN or MOVZ: of 64 bits the value's bits from the range's
+-- start up; of 32 bits those below bit 32, and where values aren't bounded the range's alone.
+abbrev pub MoveReads : Bool → BitRange → Option (ℤ × ℤ) → ℤ → ℕ → Type 0
+MoveReads false bits bounds v after =
+    IsSameIn bounds (bits.end - bits.start) (aarch64_reads Movnz bits.start after)
+    (bits_from bits.start v)
+MoveReads true bits (Some b) v after =
+    bits_from bits.start (moved_32 after)
+    ≡ int_rem_euclid (bits_from bits.start v) (pos (2 ^ (32 - bits.start)))
+MoveReads true bits None v after =
+    IsSameModulo (bits.end - bits.start) (bits_from bits.start (moved_32 after))
+    (bits_from bits.start v)
+
+-- what an instruction of PowerPC64 reads as its displacement
+abbrev pub ppc64_reads : Ppc64Instruction → ℕ → ℤ
+ppc64_reads Ds word =
+    if is_dq_form word then (ppc64_form Ds).machine (word - word % 16)
+    else (ppc64_form Ds).machine word
+ppc64_reads f word = (ppc64_form f).machine word
+
 -- The machine reads the value's bits from the range's start up, modulo the range's size where
 -- values aren't bounded. MOVN and MOVZ shift what they hold, so their shift has to be the range's
--- start. An immediate in two's complement of a LoongArch `Shift10` is one of 16 bits. What a half
+-- start; those of 32 bits take bits below 32. A displacement of DQ-form begins with the value's bit
+-- 0. An immediate in two's complement of a LoongArch `Shift10` is one of 16 bits. What a half
 -- or a pair of instructions holds is said elsewhere.
 abbrev pub InstructionReads : Bool → RelocationInstruction → BitRange → Option (ℤ × ℤ) → ℤ → ℕ → ℕ
     → Type 0
+InstructionReads is_signed (AArch64 Movnz) bits bounds v before after =
+    shift_of before ≡ bits.start → (bit_at before 31 ≡ 0 → bits.end ≤ 32)
+    → MoveReads (bit_at before 31 == 0) bits bounds v after
 InstructionReads is_signed (AArch64 f) bits bounds v before after =
-    (f ≡ Movnz → shift_of before ≡ bits.start)
-    → IsSameIn bounds (bits.end - bits.start) (aarch64_reads f bits.start after)
+    IsSameIn bounds (bits.end - bits.start) (aarch64_reads f bits.start after)
     (bits_from bits.start v)
 InstructionReads is_signed (RiscV f) bits bounds v before after =
     is_of_halves f ≡ false
     → IsSameIn bounds (bits.end - bits.start) ((riscv_form f).machine after)
     (bits_from bits.start v)
+InstructionReads is_signed (Ppc64 Ds) bits bounds v before after =
+    (is_dq_form before ≡ true → bits.start ≡ 0)
+    → IsSameIn bounds (bits.end - bits.start) (ppc64_reads Ds after) (bits_from bits.start v)
 InstructionReads is_signed (Ppc64 f) bits bounds v before after =
     IsSameIn bounds (bits.end - bits.start) ((ppc64_form f).machine after) (bits_from bits.start v)
 InstructionReads is_signed (LoongArch64 f) bits bounds v before after =
@@ -165,10 +230,16 @@ is_of_uleb128 PairSubtractionULEB128LoongArch n = true
 is_of_uleb128 Relative n = n == 0
 is_of_uleb128 kind n = false
 
+-- the pair of a LoongArch call of which no manual says how far it goes
+abbrev pub is_call30 : RelocationInstruction → Bool
+is_call30 (LoongArch64 Call30) = true
+is_call30 insn = false
+
 -- at most 8 bytes, or some of a value's 64 bits
 abbrev pub takes_size : RelocationKind → RelocationSize → Bool
 takes_size kind (ByteSize n) = nat_lt n 9 && not (is_of_uleb128 kind n)
-takes_size kind (BitMasking bits insn) = nat_lt bits.start bits.end && nat_lt bits.end 65
+takes_size kind (BitMasking bits insn) =
+    (nat_lt bits.start bits.end && nat_lt bits.end 65) && not (is_call30 insn)
 
 -- such a row, with an alignment that a value can have
 abbrev pub is_supported : RelocationKindInfo → Bool
@@ -186,6 +257,16 @@ window_len row = size_len row.size
 abbrev pub IsAligned : ℕ → ℤ → Type 0
 IsAligned alignment v = int_rem_euclid v (pos alignment) ≡ pos 0
 
+-- a multiple of 16, for a word of DQ-form
+abbrev pub IsInUnits : RelocationSize → ℤ → List ℕ → Type 0
+IsInUnits (BitMasking bits (Ppc64 Ds)) v bytes =
+    is_dq_form (window_of (ppc64_form Ds) bytes) ≡ true → IsAligned 16 v
+IsInUnits size v bytes = ⊤
+
+-- a multiple of the alignment of the row and of its instruction
+abbrev pub IsMultiple : RelocationKindInfo → ℤ → List ℕ → Type 0
+IsMultiple row v bytes = IsAligned row.alignment v × IsInUnits row.size v bytes
+
 -- the form holds the bits, as it does of each row of the relocation tables
 abbrev pub HoldsBits : RelocationSize → ℤ → List ℕ → Type 0
 HoldsBits (ByteSize n) v bytes = ⊤
@@ -199,7 +280,7 @@ IsReached row v bytes = IsWithin (reach_of row) v × HoldsBits row.size v bytes
 pub record IsAccepted (row : RelocationKindInfo) (v : ℤ) (bytes : List ℕ) : Type 0 where
   pub supported : is_supported row ≡ true
   pub long : window_len row ≤ length bytes
-  pub aligned : IsAligned row.alignment v
+  pub aligned : IsMultiple row v bytes
   pub reached : IsReached row v bytes
 
 -- why it isn't: the first of these that does not hold
@@ -207,9 +288,9 @@ abbrev pub IsCause : RelocationKindInfo → ℤ → List ℕ → RelocateError �
 IsCause row v bytes Unsupported = is_supported row ≡ false
 IsCause row v bytes TooShort = (is_supported row ≡ true) × (length bytes < window_len row)
 IsCause row v bytes Misaligned =
-    (is_supported row ≡ true) × (window_len row ≤ length bytes) × ¬ IsAligned row.alignment v
+    (is_supported row ≡ true) × (window_len row ≤ length bytes) × ¬ IsMultiple row v bytes
 IsCause row v bytes OutOfReach =
-    (is_supported row ≡ true) × (window_len row ≤ length bytes) × IsAligned row.alignment v
+    (is_supported row ≡ true) × (window_len row ≤ length bytes) × IsMultiple row v bytes
     × ¬ IsReached row v bytes
 
 -- ---- what the halves and pairs of instructions hold
@@ -242,7 +323,7 @@ CompletesAdjusted low v after =
     (neg : Bool) (before high : ℕ) → IsWithin (Some (bit_bounds 32 Signed)) (v +ℤ pos 0x8000)
     → Written (ppc64_form D) (bits_taken (record { start = 16; end = 32 }) (v +ℤ pos 0x8000)) neg
     before high
-    → ((ppc64_form D).machine high *ℤ pos (2 ^ 16)) +ℤ (ppc64_form low).machine after ≡ v
+    → ((ppc64_form D).machine high *ℤ pos (2 ^ 16)) +ℤ ppc64_reads low after ≡ v
 
 abbrev pub Ppc64Holds : Ppc64Instruction → ℤ → ℕ → Type 0
 Ppc64Holds D v after = CompletesAdjusted D v after

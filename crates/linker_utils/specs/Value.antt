@@ -60,13 +60,13 @@ abbrev pub bias_number : Option ℕ → ℕ
 bias_number None = 0
 bias_number (Some n) = n
 
--- the addend that is added to a GOT entry's address: none in AArch64's instructions, whose entry is
--- that of S + A
+-- the addend that is added to a GOT entry's address: none in the instructions of AArch64 and
+-- PowerPC64, whose entry is that of S + A
 abbrev pub entry_addend : RelocationSize → ℤ → ℕ
 entry_addend (ByteSize n) addend = cast_unsigned w64 addend
 entry_addend (BitMasking bits (AArch64 insn)) addend = 0
 entry_addend (BitMasking bits (RiscV insn)) addend = cast_unsigned w64 addend
-entry_addend (BitMasking bits (Ppc64 insn)) addend = cast_unsigned w64 addend
+entry_addend (BitMasking bits (Ppc64 insn)) addend = 0
 entry_addend (BitMasking bits (LoongArch64 insn)) addend = cast_unsigned w64 addend
 
 -- the address of the first of LoongArch's five instructions plus 8: that of the third, which takes
@@ -105,6 +105,13 @@ place_term row o = page_if (masks_place row.mask) o.place
 abbrev pub got_term : RelocationKindInfo → Operands → ℕ
 got_term row o = page_if (masks_got row.mask) o.got_base
 
+-- S + A - P; of no bytes, S + A: so are the rows of the first of a pair at a ULEB128 number, which
+-- isn't relative to the place
+abbrev pub relative_term : RelocationSize → RelocationKindInfo → Operands → ℕ
+relative_term (ByteSize n) row o =
+    if n == 0 then symbol_term row o else difference_64 (symbol_term row o) (place_term row o)
+relative_term (BitMasking bits insn) row o = difference_64 (symbol_term row o) (place_term row o)
+
 -- ---- the formulas
 
 -- the value modulo 2 ^ 64, and none of a kind that has none
@@ -120,7 +127,7 @@ formula kinds.AbsoluteSubtraction row o = Some (symbol_term row o)
 formula kinds.AbsoluteSubtractionWord6 row o = Some (symbol_term row o)
 formula kinds.PairSubtractionULEB128RiscV row o = Some (symbol_term row o)
 formula kinds.PairSubtractionULEB128LoongArch row o = Some (symbol_term row o)
-formula kinds.Relative row o = Some (difference_64 (symbol_term row o) (place_term row o))
+formula kinds.Relative row o = Some (relative_term row.size row o)
 formula kinds.RelativeRiscVLow12 row o = Some (difference_64 (symbol_term row o) (place_term row o))
 formula kinds.RelativeLoongArchHigh row o =
     Some (high_distance (symbol_term row o) (sequence_pc row.size o.place))

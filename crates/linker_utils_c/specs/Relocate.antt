@@ -27,7 +27,7 @@ use Rattle.linker_utils_c.specs.declared.status.Status.{Status}
 use Rattle.linker_utils_c.specs.declared.status.Status.TheVariants.{Success, UnknownRelocation}
 use Rattle.linker_utils_c.specs.declared.status.Status.TheVariants.{TooShort, Misaligned}
 use Rattle.linker_utils_c.specs.declared.status.Status.TheVariants.{OutOfReach, NoValue}
-use Rattle.linker_utils_c.specs.declared.status.Status.TheVariants.{Uleb128Pair}
+use Rattle.linker_utils_c.specs.declared.status.Status.TheVariants.{Unsupported}
 use Rattle.linker_utils_c.specs.declared.status.Status.TheVariants.{Uleb128Ended, DoesNotFit}
 use Rattle.linker_utils_c.specs.declared.status.Status.TheVariants.{Uleb128TooLarge}
 
@@ -59,7 +59,7 @@ IsReachOf (Some row) status old new = (status ≡ code Success) × AreBounds (re
 -- the status of a write or of why there is none
 abbrev pub write_status : Result Unit RelocateError → Status
 write_status (Ok u) = Success
-write_status (Err errors.Unsupported) = Uleb128Pair
+write_status (Err errors.Unsupported) = Unsupported
 write_status (Err errors.TooShort) = TooShort
 write_status (Err errors.Misaligned) = Misaligned
 write_status (Err errors.OutOfReach) = OutOfReach

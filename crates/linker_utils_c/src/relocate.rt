@@ -101,7 +101,7 @@ fn status_of(outcome: Result<(), RelocateError>) -> u32
 {
     match outcome {
         Ok(()) => Status::Success.number(),
-        Err(RelocateError::Unsupported) => Status::Uleb128Pair.number(),
+        Err(RelocateError::Unsupported) => Status::Unsupported.number(),
         Err(RelocateError::TooShort) => Status::TooShort.number(),
         Err(RelocateError::Misaligned) => Status::Misaligned.number(),
         Err(RelocateError::OutOfReach) => Status::OutOfReach.number(),
@@ -150,7 +150,7 @@ fn relocate(architecture: Architecture, r_type: u32, value: i64, dest: &mut [u8]
 }
 
 /// Writes the value of a relocation to the bytes that `dest` begins with. The first that applies of
-/// `UnknownArchitecture`; `UnknownRelocation`; `Uleb128Pair`; `TooShort`; `Misaligned`;
+/// `UnknownArchitecture`; `UnknownRelocation`; `Unsupported`; `TooShort`; `Misaligned`;
 /// `OutOfReach`.
 #[unsafe(no_mangle)]
 pub extern "C" fn linker_utils_relocate_nonnull(

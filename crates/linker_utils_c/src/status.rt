@@ -24,7 +24,8 @@ pub enum Status {
     CannotApply,
     /// The register is not one from 0 to 30.
     BadRegister,
-    /// The four bytes at the site do not lie in the section, or the target is past its end.
+    /// The four bytes at the site, or the eight where the `jalr`'s register is linked, do not lie in
+    /// the section, or the target is past its end.
     OutOfSection,
     /// One of the four bytes at the site is deleted.
     SiteDeleted,
@@ -63,8 +64,8 @@ pub enum Status {
     OutOfReach,
     /// A relocation of this type has no value.
     NoValue,
-    /// The relocation is one of a pair that computes a ULEB128 number.
-    Uleb128Pair,
+    /// The relocation is one of a pair that computes a ULEB128 number, or `R_LARCH_CALL30`.
+    Unsupported,
 }
 
 impl Status {

@@ -21,6 +21,8 @@ mod readers;
 #[cfg(test)]
 mod refused_growth;
 #[cfg(test)]
+mod relocated;
+#[cfg(test)]
 mod riscv64;
 #[cfg(test)]
 mod rows;

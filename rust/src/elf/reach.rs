@@ -4,7 +4,8 @@
 use crate::bit_misc::BitRange;
 use crate::elf::{
     AArch64Instruction, AllowedRange, LoongArch64Instruction, Ppc64Instruction,
-    RelocationInstruction, RelocationKindInfo, RelocationSize, RiscVInstruction, SIZE_2GB, Sign,
+    RelocationInstruction, RelocationKind, RelocationKindInfo, RelocationSize, RiscVInstruction,
+    SIZE_2GB, Sign,
 };
 
 /// What RISC-V's pairs and `c.lui` take off each end of the range of their high part, because the
@@ -70,6 +71,19 @@ fn reach_of_ppc64(insn: Ppc64Instruction, bits: BitRange, range: AllowedRange) -
     }
 }
 
+#[inline(always)]
+fn reach_of_bytes(kind: RelocationKind, len: u8, range: AllowedRange) -> AllowedRange {
+    match (kind, len) {
+        (
+            RelocationKind::GotRelative
+            | RelocationKind::GotRelGotBase
+            | RelocationKind::PltRelative,
+            4,
+        ) => AllowedRange::from_bit_size(32, Sign::Signed),
+        _ => range,
+    }
+}
+
 impl RelocationKindInfo {
     /// Which values, as `value` returns them, can be written. They are those that the machine reads
     /// back as they are from the written instruction, or from the pair that it is a half of. Where
@@ -82,6 +96,7 @@ impl RelocationKindInfo {
     /// | `R_LARCH_CALL36` | -2^37 - 0x20000 | 2^37 - 0x20000 |
     /// | PowerPC64's `_HA`, of the biased value, and `_HI` | -2^31 | 2^31 |
     /// | AArch64's `Movnz` of bits up to 16, 32 or 48 | -2^16, -2^32, -2^48 | 2^16, 2^32, 2^48 |
+    /// | `R_X86_64_GOT32`, `R_RISCV_PLT32`, `R_RISCV_GOT32_PCREL` | -2^31 | 2^31 |
     /// | all others | `range` | |
     ///
     /// Relocations without a range take a part of every value, which the machine then reads modulo
@@ -95,7 +110,7 @@ impl RelocationKindInfo {
     #[inline(always)]
     pub fn reach(&self) -> AllowedRange {
         match self.size {
-            RelocationSize::ByteSize(_) => self.range,
+            RelocationSize::ByteSize(len) => reach_of_bytes(self.kind, len, self.range),
             RelocationSize::BitMasking { range, insn } => match insn {
                 RelocationInstruction::AArch64(insn) => reach_of_aarch64(insn, range, self.range),
                 RelocationInstruction::RiscV(insn) => reach_of_riscv(insn, self.range),

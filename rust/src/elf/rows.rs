@@ -139,11 +139,12 @@ macro_rules! number {
     (bias $bias:expr) => { $bias };
 }
 
-/// Whether `write` takes rows of a kind and a size: not those of ULEB128 numbers.
+/// Whether `write` takes rows of a kind and a size: not those of ULEB128 numbers and of `Call30`.
 macro_rules! is_supported {
     (Relative, (0 bytes)) => { false };
     (PairSubtractionULEB128RiscV, $size:tt) => { false };
     (PairSubtractionULEB128LoongArch, $size:tt) => { false };
+    ($kind:ident, ($start:literal .. $end:literal LoongArch64 :: Call30)) => { false };
     ($kind:ident, $size:tt) => { true };
 }
 
@@ -219,6 +220,14 @@ macro_rules! row {
         $crate::elf::rows::row!(
             @ $kind, $size, (1, -(1 << ($bits - 1)), 1 << $bits, $min, $max - 1)
             $(, $($field)*)?
+        )
+    };
+    (
+        $kind:ident, $size:tt, unsigned $bits:literal reach $min:expr, $max:expr
+        $(, $($field:tt)*)?
+    ) => {
+        $crate::elf::rows::row!(
+            @ $kind, $size, (1, 0, 1 << $bits, $min, $max - 1) $(, $($field)*)?
         )
     };
     (

@@ -23,8 +23,10 @@ pub struct Operands {
     /// `R_RISCV_TLSDESC_LOAD_LO12` and `R_RISCV_TLSDESC_ADD_LO12` it is that of the high part.
     pub place: u64,
     /// The address of the GOT entry that the relocation asks for: the symbol's (GOT + G), or its
-    /// entries for general-dynamic, local-dynamic and initial-exec TLS, or its TLS descriptor. Of
-    /// an AArch64 instruction it is the entry of S + A.
+    /// entries for general-dynamic, local-dynamic and initial-exec TLS, or its TLS descriptor. For
+    /// an instruction of AArch64 or PowerPC64 it is the entry of S + A, and A isn't added to its
+    /// address. `R_LARCH_GOT_PC_LO12` of a TLS symbol whose high half is `R_LARCH_TLS_GD_PC_HI20` or
+    /// `R_LARCH_TLS_LD_PC_HI20` takes the entry of that high half.
     pub got_entry: u64,
     /// The address that offsets from the GOT count from: that of `_GLOBAL_OFFSET_TABLE_`, and on
     /// PowerPC64 that of `.TOC.`, which is the GOT's address plus 0x8000.
@@ -62,11 +64,13 @@ fn bias_or_zero(bias: Option<Bias>) -> u64 {
 #[inline(always)]
 fn addend_of_entry(size: RelocationSize, addend: i64) -> u64 {
     match size {
-        RelocationSize::BitMasking {
-            insn: RelocationInstruction::AArch64(_),
-            ..
-        } => 0,
-        _ => addend.cast_unsigned(),
+        RelocationSize::ByteSize(_) => addend.cast_unsigned(),
+        RelocationSize::BitMasking { insn, .. } => match insn {
+            RelocationInstruction::AArch64(_) | RelocationInstruction::Ppc64(_) => 0,
+            RelocationInstruction::RiscV(_) | RelocationInstruction::LoongArch64(_) => {
+                addend.cast_unsigned()
+            }
+        },
     }
 }
 
@@ -134,6 +138,16 @@ impl RelocationKindInfo {
         )
     }
 
+    /// S + A - P, or S + A of the first of a pair at a ULEB128 number, whose row has no bytes.
+    #[inline(always)]
+    fn relative_part(&self, operands: &Operands) -> u64 {
+        let symbol = self.symbol_part(operands);
+        match self.size {
+            RelocationSize::ByteSize(0) => symbol,
+            _ => symbol.wrapping_sub(self.place_part(operands)),
+        }
+    }
+
     /// The value modulo 2^64.
     #[inline(always)]
     fn value_modulo(&self, operands: &Operands) -> Option<u64> {
@@ -149,7 +163,8 @@ impl RelocationKindInfo {
             | RelocationKind::AbsoluteSubtractionWord6
             | RelocationKind::PairSubtractionULEB128RiscV
             | RelocationKind::PairSubtractionULEB128LoongArch => Some(self.symbol_part(operands)),
-            RelocationKind::Relative | RelocationKind::RelativeRiscVLow12 => {
+            RelocationKind::Relative => Some(self.relative_part(operands)),
+            RelocationKind::RelativeRiscVLow12 => {
                 let symbol = self.symbol_part(operands);
                 Some(symbol.wrapping_sub(self.place_part(operands)))
             }
@@ -213,8 +228,8 @@ impl RelocationKindInfo {
     /// five for bits 32 to 51 and the fourth for bits 52 to 63.
     ///
     /// Of a pair of relocations of a ULEB128 number, the value of the second is what is subtracted.
-    /// The rows of the first, `R_RISCV_SET_ULEB128` and `R_LARCH_ADD_ULEB128`, are of kind
-    /// `Relative`: compute S + A for them.
+    /// That of the first, `R_RISCV_SET_ULEB128` or `R_LARCH_ADD_ULEB128`, is S + A, though its row is
+    /// of kind `Relative`.
     #[must_use]
     #[inline]
     pub fn value(&self, operands: &Operands) -> Option<i64> {

@@ -238,7 +238,7 @@ static ROWS: [Option<TableRow>; 40] = [
     // R_X86_64_PC8
     Some(row!(Relative, (1 bytes), signed 8)),
     // R_X86_64_GOT32
-    Some(row!(GotRelGotBase, (4 bytes), unsigned 32)),
+    Some(row!(GotRelGotBase, (4 bytes), unsigned 32 reach -0x80000000, 0x80000000)),
     // R_X86_64_GOT64
     Some(row!(GotRelGotBase, (8 bytes), any)),
     // R_X86_64_GOTOFF64

@@ -16,7 +16,8 @@ use crate::elf::{AllowedRange, RelocateError, RelocationKindInfo, RelocationSize
 pub struct PreparedRow {
     /// What the relocation means.
     pub row: RelocationKindInfo,
-    /// Whether the relocation can be written: not one of a pair that computes a ULEB128 number.
+    /// Whether the relocation can be written: not one of a pair that computes a ULEB128 number, nor
+    /// `R_LARCH_CALL30`.
     pub is_supported: bool,
     /// How many bytes a write writes.
     pub window: usize,
@@ -92,7 +93,7 @@ impl PreparedRow {
         if dest.len() < self.window {
             return Err(RelocateError::TooShort);
         }
-        if !row.is_aligned(value) {
+        if !row.is_multiple(value, dest) {
             return Err(RelocateError::Misaligned);
         }
         if value < self.least || self.last < value {

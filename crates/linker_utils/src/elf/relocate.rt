@@ -1,6 +1,6 @@
 //! Writes the value of a relocation.
 
-ghost use Rattle.std.specs.Prelude.{◌≡◌, ◌≤◌, ◌<◌, ◌^◌, ◌↔◌, ◌++◌, IsTrue, IfErr, OnOk, OnErr, true, false, length, take, drop, replicate, Bool};
+ghost use Rattle.std.specs.Prelude.{◌≡◌, ◌≤◌, ◌<◌, ◌+◌, ◌^◌, ◌↔◌, ◌++◌, IsTrue, IfErr, OnOk, OnErr, true, false, length, take, drop, replicate, Bool};
 ghost use Rattle.std.specs.Int.{byte_len, from_le_bytes, w32};
 ghost use Rattle.linker_base.specs.Bits.{field};
 ghost use Rattle.linker_base.specs.Form.{window_of, BitsWritten, Fits};
@@ -9,26 +9,30 @@ ghost use Rattle.linker_utils.specs.Agrees.{AgreesBy, AgreesInReach};
 ghost use Rattle.linker_utils.specs.Elf.{relocation_form};
 ghost use Rattle.linker_utils.specs.Reach.{reach_of};
 ghost use Rattle.linker_utils.specs.Relocate.{number_of_bytes, low_bytes, number_written, ored_cleared, places_cleared, bits_taken, InstructionWritten, IsWritten, SizeReads, SizeHolds, is_of_uleb128, takes_size, is_supported, window_len, IsAligned, HoldsBits, IsAccepted, IsCause};
-ghost use Rattle.linker_utils.specs.Relocate.{SizeNumber};
+ghost use Rattle.linker_utils.specs.Relocate.{SizeNumber, IsInUnits, IsMultiple, size_len};
+ghost use Rattle.linker_utils.specs.Relocate.{is_dq_form, number_placed, is_32_bit_move, is_call30};
 
 use crate::bit_misc::{BitExtraction, BitRange};
 use crate::elf::engine::{self, Run, Window, run};
 use crate::elf::{
-    AArch64Instruction, InstructionForm, LoongArch64Instruction, RelocationInstruction,
-    RelocationKind, RelocationKindInfo, RelocationSize,
+    AArch64Instruction, InstructionForm, LoongArch64Instruction, Ppc64Instruction,
+    RelocationInstruction, RelocationKind, RelocationKindInfo, RelocationSize,
 };
 
 /// Why a relocation's value isn't written.
 #[derive(Debug, Clone, Copy, PartialEq, Eq)]
 pub enum RelocateError {
     /// The relocation is one of a pair that computes a ULEB128 number, whose length is not the
-    /// row's to know: `utils::write_uleb128` writes it. Or the row is none that the library
-    /// returns: it has more than 8 bytes, a bit range that isn't within 64 bits, or an alignment
-    /// that is 0 or above 2^63 - 1.
+    /// row's to know: `utils::write_uleb128` writes it. Or it is `R_LARCH_CALL30`: no manual says
+    /// how far its pair of instructions goes. Or the row is none that the library returns: it has
+    /// more than 8 bytes, a bit range that isn't within 64 bits, or an alignment that is 0 or above
+    /// 2^63 - 1.
     Unsupported,
     /// There are fewer bytes than the relocation writes.
     TooShort,
-    /// The value isn't a multiple of the row's alignment.
+    /// The value isn't a multiple of the row's alignment, or not one of 16 where a PowerPC64
+    /// instruction of DQ-form (`lq`, `lxv`, `stxv`, `lxvp`, `stxvp`) stands at a relocation of
+    /// DS-form.
     Misaligned,
     /// The value is outside `reach`. Or the row is none that the library returns, and its bits
     /// don't fit its instruction.
@@ -143,6 +147,64 @@ fn taken_bits(bits: BitRange, number: u64) -> u64
     number.extract_bit_range(bits.start as u32..bits.end as u32)
 }
 
+/// Whether a word is an instruction of DQ-form, whose displacement is in units of 16 (Power ISA,
+/// "DQ-Form"): `lq`, `lxvp`, `stxvp`, `lxv` or `stxv`.
+#[inline(always)]
+fn is_dq_form(word: u64) -> bool
+    requires { word < 2 ^ 32 }
+    ensures { result ≡ is_dq_form word }
+{
+    let opcode = word >> 26;
+    opcode == 56 || opcode == 6 || (opcode == 61 && word % 4 == 1)
+}
+
+/// The number whose bits are placed. The lowest four bits of an instruction of DQ-form stay: they
+/// aren't its displacement's.
+#[inline(always)]
+fn number_placed(insn: RelocationInstruction, taken: u64, dest: &[u8]) -> u64
+    requires room { byte_len (relocation_form insn).window ≤ length dest.now }
+    requires small { taken < 2 ^ 64 }
+    ensures { result ≡ number_placed insn (window_of (relocation_form insn) dest.now) taken }
+{
+    match insn {
+        RelocationInstruction::Ppc64(Ppc64Instruction::Ds) => {
+            let word = Window::Four.load(dest);
+            if is_dq_form(word) {
+                taken - taken % 16 + word % 16
+            } else {
+                taken
+            }
+        }
+        _ => taken,
+    }
+}
+
+/// Whether the instruction is MOVN or MOVZ of 32 bits, which bit 31 tells.
+#[inline(always)]
+fn is_32_bit_move(insn: RelocationInstruction, dest: &[u8]) -> bool
+    requires room { byte_len (relocation_form insn).window ≤ length dest.now }
+    ensures { result ≡ is_32_bit_move insn (window_of (relocation_form insn) dest.now) }
+{
+    match insn {
+        RelocationInstruction::AArch64(AArch64Instruction::Movnz) => {
+            Window::Four.load(dest) >> 31 == 0
+        }
+        _ => false,
+    }
+}
+
+/// Clears bit 31 of a word.
+#[inline(always)]
+fn clear_bit_31(dest: &mut [u8])
+    requires room { 4 ≤ length dest.old }
+    requires set { 2 ^ 31 ≤ from_le_bytes w32 dest.old }
+    ensures cleared { from_le_bytes w32 dest.new + 2 ^ 31 ≡ from_le_bytes w32 dest.old }
+    ensures rest { drop 4 dest.new ≡ drop 4 dest.old }
+{
+    let word = Window::Four.load(dest);
+    Window::Four.store(word - (1 << 31), dest);
+}
+
 /// Writes bits of a value into an instruction. By itself, so that `write` is small enough to be
 /// inlined, and its row never stands in memory.
 pub(crate) fn write_bits(insn: RelocationInstruction, bits: BitRange, value: i64, dest: &mut [u8])
@@ -152,9 +214,28 @@ pub(crate) fn write_bits(insn: RelocationInstruction, bits: BitRange, value: i64
     requires fits { Fits (relocation_form insn) (bits_taken bits value) (window_of (relocation_form insn) dest.old) }
     ensures { InstructionWritten insn bits value dest.old dest.new }
 {
-    let taken = taken_bits(bits, value.cast_unsigned());
+    let number = number_placed(insn, taken_bits(bits, value.cast_unsigned()), dest);
+    let is_of_32_bits = is_32_bit_move(insn, dest);
     clear(insn, bits, dest);
-    insn.write(taken, value < 0, dest);
+    insn.write(number, value < 0, dest);
+    if is_of_32_bits {
+        clear_bit_31(dest);
+    }
+}
+
+/// Whether a value is a multiple of 16, where an instruction of DQ-form stands.
+#[inline(always)]
+fn is_in_units(size: RelocationSize, value: i64, dest: &[u8]) -> bool
+    requires room { size_len size ≤ length dest.now }
+    ensures { IsTrue result ↔ IsInUnits size value dest.now }
+{
+    match size {
+        RelocationSize::BitMasking {
+            insn: RelocationInstruction::Ppc64(Ppc64Instruction::Ds),
+            ..
+        } => !is_dq_form(Window::Four.load(dest)) || value.rem_euclid(16) == 0,
+        _ => true,
+    }
 }
 
 impl RelocationKindInfo {
@@ -173,7 +254,13 @@ impl RelocationKindInfo {
                 };
                 len <= 8 && !is_of_uleb128
             }
-            RelocationSize::BitMasking { range, .. } => range.start < range.end && range.end <= 64,
+            RelocationSize::BitMasking { range, insn } => {
+                let is_call30 = matches!(
+                    insn,
+                    RelocationInstruction::LoongArch64(LoongArch64Instruction::Call30)
+                );
+                range.start < range.end && range.end <= 64 && !is_call30
+            }
         };
         takes_size && 0 < self.alignment && self.alignment < 1 << 63
     }
@@ -206,6 +293,17 @@ impl RelocationKindInfo {
         }
     }
 
+    /// Whether a value is a multiple of the alignment of the row and of its instruction.
+    #[inline(always)]
+    pub(crate) fn is_multiple(&self, value: i64, dest: &[u8]) -> bool
+        requires room { window_len self.now ≤ length dest.now }
+        requires some { 0 < self.now.alignment }
+        requires short { self.now.alignment < 2 ^ 63 }
+        ensures { IsTrue result ↔ IsMultiple self.now value dest.now }
+    {
+        self.is_aligned(value) && is_in_units(self.size, value, dest)
+    }
+
     /// Whether the row's instruction holds the bits of a value that it takes.
     #[inline(always)]
     fn holds_bits(&self, value: i64, dest: &[u8]) -> bool
@@ -233,7 +331,8 @@ impl RelocationKindInfo {
     ///   takes, and the machine reads them from there; modulo their size if `reach` has no bounds.
     ///   The bits that the form only ORs need not be 0 before. All other bits stay, except
     ///   for the opcode that `Movnz` sets by the value's sign; its shift has to be the first of the
-    ///   relocation's bits.
+    ///   relocation's bits. MOVN and MOVZ of 32 bits (bit 31 is 0) stay of 32 bits.
+    /// - A PowerPC64 instruction of DQ-form keeps its low 4 bits at a relocation of DS-form.
     /// - RISC-V's `UiType`, or a high half and a low half of one value, make the value itself, and so
     ///   does LoongArch's `Call36`. A `c.lui` is such a high half too. The ISA reserves its
     ///   immediate 0: `riscv64::RelaxationKind::hi20_fits_clui` rejects the values that make it.
@@ -275,7 +374,7 @@ impl RelocationKindInfo {
         if dest.len() < self.window() {
             return Err(RelocateError::TooShort);
         }
-        if !self.is_aligned(value) {
+        if !self.is_multiple(value, dest) {
             return Err(RelocateError::Misaligned);
         }
         if !self.reach().contains(value) {

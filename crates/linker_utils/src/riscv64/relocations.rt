@@ -353,7 +353,7 @@ static ROWS: [Option<TableRow>; 47] = [
     // R_RISCV_SUB64
     Some(row!(AbsoluteSubtraction, (8 bytes), any)),
     // R_RISCV_GOT32_PCREL
-    Some(row!(GotRelative, (4 bytes), signed_or_unsigned 32)),
+    Some(row!(GotRelative, (4 bytes), signed_or_unsigned 32 reach -0x80000000, 0x80000000)),
     // R_RISCV_ALIGN
     Some(row!(Alignment, (0 bytes), any)),
     // R_RISCV_RVC_BRANCH
@@ -375,7 +375,7 @@ static ROWS: [Option<TableRow>; 47] = [
     // R_RISCV_32_PCREL
     Some(row!(Relative, (4 bytes), signed_or_unsigned 32)),
     // R_RISCV_PLT32
-    Some(row!(PltRelative, (4 bytes), signed_or_unsigned 32)),
+    Some(row!(PltRelative, (4 bytes), signed_or_unsigned 32 reach -0x80000000, 0x80000000)),
     // R_RISCV_SET_ULEB128
     Some(row!(Relative, (0 bytes), any)),
     // R_RISCV_SUB_ULEB128

@@ -1,0 +1,202 @@
+-- The numbers placed in instructions of DQ-form, and moves of 32 bits.
+use Rattle.std.proofs.Common.{◌≡◌, ℕ, ◌+◌, ◌-◌, ◌*◌, ◌/◌, ◌%◌, ◌^◌, ◌<◌, ◌≤◌, Bool, true, false, List}
+use Rattle.std.proofs.Common.{◌==◌, ◌&&◌, ◌||◌, [], inl, inr, drop, if◌then◌else◌, refl, sym, ◌∙◌}
+use Rattle.std.proofs.Common.{ap, subst, arith, ℤ, pos, int_lt}
+use Rattle.std.specs.Int.{byte_len, w32, bit_at, from_le_bytes}
+use Rattle.linker_base.specs.Bits.{field}
+use Rattle.linker_base.specs.Form.{BitsWritten, Written, Fits, window_of, ImmediateBit, bits_to}
+use Rattle.linker_base.specs.Form.{replaced, placed_bit, bit_for, place_sum}
+use Rattle.linker_base.specs.declared.bit_misc.BitRange.{BitRange}
+use Rattle.linker_base.proofs.ConsecutiveBits.{consecutive_bits_all, consecutive_bits_sum}
+use Rattle.linker_base.proofs.Fields.{bit_at_mod, same_fields}
+use Rattle.linker_base.proofs.Immediates.{layout_laid, always_clear}
+use Rattle.linker_utils.specs.AArch64.{movnz, move_opcode}
+use Rattle.linker_utils.specs.Elf.{relocation_form}
+use Rattle.linker_utils.specs.Ppc64.{ppc64_form, ppc64_layout}
+use Rattle.linker_utils.specs.Relocate.{number_placed, with_low_4, is_dq_form, is_32_bit_move}
+use Rattle.linker_utils.specs.Relocate.{with_bit_31_if, places_cleared, bits_taken, ppc64_reads}
+use Rattle.linker_utils.specs.Relocate.{InstructionWritten}
+use Rattle.linker_utils.specs.declared.elf.AArch64Instruction.{AArch64Instruction}
+use Rattle.linker_utils.specs.declared.elf.AArch64Instruction.TheVariants.{Movnz}
+use Rattle.linker_utils.specs.declared.elf.Ppc64Instruction.{Ppc64Instruction}
+use Rattle.linker_utils.specs.declared.elf.Ppc64Instruction.TheVariants.{Ds}
+use Rattle.linker_utils.specs.declared.elf.RelocationInstruction.{RelocationInstruction}
+use Rattle.linker_utils.specs.declared.elf.RelocationInstruction.TheVariants.{RiscV, Ppc64}
+use Rattle.linker_utils.specs.declared.elf.RelocationInstruction.TheVariants.{LoongArch64, AArch64}
+use Rattle.linker_utils.proofs.Clearing.{same_window}
+use Rattle.linker_utils.proofs.Runs.{consecutive_bits_outside}
+
+-- ---- DQ-form
+
+either_below : (b : Bool) (n m k : ℕ) → n < k → m < k → (if b then n else m) < k
+either_below true n m k h i = h
+either_below false n m k h i = i
+
+ppc64_placed_fits : (f : Ppc64Instruction) (x taken y : ℕ) → taken < 2 ^ 64
+    → Fits (ppc64_form f) taken y → Fits (ppc64_form f) (number_placed (Ppc64 f) x taken) y
+ppc64_placed_fits Ds x taken y small h =
+    either_below (is_dq_form x) (with_low_4 taken x) taken (2 ^ 64) (omega arith) small
+ppc64_placed_fits f x taken y small h = h
+
+-- what fits still does with the low bits of the old word
+pub placed_fits : (insn : RelocationInstruction) (x taken y : ℕ) → taken < 2 ^ 64
+    → Fits (relocation_form insn) taken y
+    → Fits (relocation_form insn) (number_placed insn x taken) y
+placed_fits (AArch64 f) x taken y small h = h
+placed_fits (RiscV f) x taken y small h = h
+placed_fits (LoongArch64 f) x taken y small h = h
+placed_fits (Ppc64 f) x taken y small h = ppc64_placed_fits f x taken y small h
+
+-- the bits that DS-form holds
+abbrev ds_places : List ImmediateBit
+ds_places = bits_to 2 15 2
+
+-- What the machine reads of a word is what it reads of another, in which DS-form holds f.
+pub record ReadsAs (f : ℕ) (neg : Bool) (after : ℕ) : Type 0 where
+  pub old : ℕ
+  pub window : ℕ
+  pub written : Written (ppc64_form Ds) f neg old window
+  pub reads : ppc64_reads Ds after ≡ (ppc64_form Ds).machine window
+
+-- a write keeps the opcode and the lowest two bits
+same_dq_form : (f : ℕ) (neg : Bool) (before after : ℕ) → Written (ppc64_form Ds) f neg before after
+    → is_dq_form after ≡ is_dq_form before
+same_dq_form f neg before after laid =
+    let high : field after 26 32 ≡ field before 26 32 =
+    same_fields after before 26 32 (λ w from below.
+    laid.kept w (consecutive_bits_outside 14 2 2 0 replaced w (inr (omega arith)))) in
+    let low : field after 0 2 ≡ field before 0 2 =
+    same_fields after before 0 2 (λ w from below.
+    laid.kept w (consecutive_bits_outside 14 2 2 0 replaced w (inl (omega arith)))) in
+    ap (λ o. o == 56 || (o == 6 || (o == 61 && field after 0 2 == 1))) high
+    ∙ ap (λ q. field before 26 32 == 56
+    || (field before 26 32 == 6 || (field before 26 32 == 61 && q == 1))) low
+
+-- a word that has the low 16 bits of f has those of DS-form
+holds_already : (f x : ℕ) (neg : Bool) → f < 2 ^ 64 → x % 2 ^ 16 ≡ f % 2 ^ 16
+    → Written (ppc64_form Ds) f neg x x
+holds_already f x neg small same =
+    let whole : (f + 0) % 2 ^ 64 ≡ f = omega arith in
+    record {
+      placed = consecutive_bits_all (λ (p : ImmediateBit). bit_at x p.insn_bit
+          ≡ placed_bit p.mark (bit_for p f) (bit_at x p.insn_bit)) 14 2 2 0 replaced
+          (λ j l. sym (bit_at_mod x 16 (2 + j) (omega arith)) ∙ ap (λ n. bit_at n (2 + j)) same
+          ∙ bit_at_mod f 16 (2 + j) (omega arith) ∙ ap (λ n. bit_at n (2 + j)) (sym whole));
+      kept = λ w free. refl;
+    }
+
+-- the displacement of a word of DQ-form, without the four bits that were kept
+low_16 : (f x after : ℕ) → f < 2 ^ 64 → f % 16 ≡ 0
+    → after / 4 % 16384 * 4 ≡ (with_low_4 f x - with_low_4 f x % 4) % 65536
+    → (after - after % 16) % 65536 ≡ f % 65536
+low_16 f x after small none is = omega arith
+
+ds_sum : (x : ℕ) → place_sum ds_places x ≡ x / 4 % 16384 * 4
+ds_sum x = consecutive_bits_sum replaced 14 2 2 0 x refl
+
+either_reads : (b : Bool) (f x after : ℕ) (neg : Bool) → f < 2 ^ 64 → (b ≡ true → f % 16 ≡ 0)
+    → is_dq_form after ≡ b
+    → Written (ppc64_form Ds) (if b then with_low_4 f x else f) neg x after → ReadsAs f neg after
+either_reads false f x after neg small none is laid =
+    record {
+      old = x;
+      window = after;
+      written = laid;
+      reads = ap (λ b. if b then (ppc64_form Ds).machine (after - after % 16)
+          else (ppc64_form Ds).machine after) is;
+    }
+either_reads true f x after neg small none is laid =
+    let y = after - after % 16 in
+    let wide : with_low_4 f x < 2 ^ 64 = omega arith in
+    let sum = sym (ds_sum after)
+    ∙ layout_laid (ppc64_layout Ds) refl (with_low_4 f x) neg x after wide laid
+    (always_clear ds_places x refl) in
+    record {
+      old = y;
+      window = y;
+      written = holds_already f y neg small (low_16 f x after small (none refl) sum);
+      reads = ap (λ b. if b then (ppc64_form Ds).machine y else (ppc64_form Ds).machine after) is;
+    }
+
+pub reads_as : (f x clear after : ℕ) (neg : Bool) → f < 2 ^ 64
+    → (is_dq_form x ≡ true → f % 16 ≡ 0) → BitsWritten [] 0 x clear
+    → Written (ppc64_form Ds) (number_placed (Ppc64 Ds) x f) neg clear after → ReadsAs f neg after
+reads_as f x clear after neg small none clears laid =
+    let whole : Written (ppc64_form Ds) (number_placed (Ppc64 Ds) x f) neg x after =
+    subst (λ c. Written (ppc64_form Ds) (number_placed (Ppc64 Ds) x f) neg c after)
+    (same_window 0 x clear clears) laid in
+    either_reads (is_dq_form x) f x after neg small none
+    (same_dq_form (number_placed (Ppc64 Ds) x f) neg x after whole) whole
+
+-- ---- moves of 32 bits
+
+-- a move that was written is one of 64 bits
+wide_move : (v : ℕ) (neg : Bool) (before after : ℕ) → Written movnz v neg before after
+    → 2 ^ 31 ≤ after
+wide_move v true before after laid =
+    let set : bit_at after 31 ≡ bit_at (move_opcode true * 2 ^ 23 + before % 2 ^ 23) 31 =
+    laid.kept 31 refl in
+    omega arith
+wide_move v false before after laid =
+    let set : bit_at after 31 ≡ bit_at (move_opcode false * 2 ^ 23 + before % 2 ^ 23) 31 =
+    laid.kept 31 refl in
+    omega arith
+
+aarch64_set : (f : AArch64Instruction) (number : ℕ) (neg : Bool) (x clear : ℕ) (after : List ℕ)
+    → is_32_bit_move (AArch64 f) x ≡ true
+    → Written (relocation_form (AArch64 f)) number neg clear
+    (window_of (relocation_form (AArch64 f)) after)
+    → 2 ^ 31 ≤ from_le_bytes w32 after
+aarch64_set Movnz number neg x clear after h laid =
+    wide_move number neg clear (from_le_bytes w32 after) laid
+aarch64_set f number neg x clear after h laid = cc
+
+pub bit_31_is_set : (insn : RelocationInstruction) (number : ℕ) (neg : Bool) (x clear : ℕ)
+    (after : List ℕ) → is_32_bit_move insn x ≡ true
+    → Written (relocation_form insn) number neg clear (window_of (relocation_form insn) after)
+    → 2 ^ 31 ≤ from_le_bytes w32 after
+bit_31_is_set (AArch64 f) number neg x clear after h laid =
+    aarch64_set f number neg x clear after h laid
+bit_31_is_set (RiscV f) number neg x clear after h laid = cc
+bit_31_is_set (LoongArch64 f) number neg x clear after h laid = cc
+bit_31_is_set (Ppc64 Ds) number neg x clear after h laid = cc
+bit_31_is_set (Ppc64 f) number neg x clear after h laid = cc
+
+-- what is written once bit 31 of a move is cleared
+abbrev Narrowed : RelocationInstruction → BitRange → ℤ → List ℕ → ℕ → List ℕ → List ℕ → Type 0
+Narrowed insn bits v before clear middle after =
+    is_32_bit_move insn (window_of (relocation_form insn) before) ≡ true
+    → BitsWritten (places_cleared insn bits (window_of (relocation_form insn) before)) 0
+    (window_of (relocation_form insn) before) clear
+    → Written (relocation_form insn)
+    (number_placed insn (window_of (relocation_form insn) before) (bits_taken bits v))
+    (int_lt v (pos 0)) clear (window_of (relocation_form insn) middle)
+    → from_le_bytes w32 after + 2 ^ 31 ≡ from_le_bytes w32 middle
+    → drop (byte_len (relocation_form insn).window) middle
+    ≡ drop (byte_len (relocation_form insn).window) before
+    → drop 4 after ≡ drop 4 middle → InstructionWritten insn bits v before after
+
+aarch64_narrowed : (f : AArch64Instruction) (bits : BitRange) (v : ℤ) (before : List ℕ) (clear : ℕ)
+    (middle after : List ℕ) → Narrowed (AArch64 f) bits v before clear middle after
+aarch64_narrowed Movnz bits v before clear middle after = λ h clears laid cleared rest behind.
+    let form = relocation_form (AArch64 Movnz) in
+    let wide : Written form (bits_taken bits v) (int_lt v (pos 0)) clear
+    (with_bit_31_if true (from_le_bytes w32 after)) =
+    subst (λ w. Written form (bits_taken bits v) (int_lt v (pos 0)) clear w) (sym cleared) laid in
+    record {
+      clear = clear;
+      clears = clears;
+      written =
+          subst (λ b. Written form (bits_taken bits v) (int_lt v (pos 0)) clear
+          (with_bit_31_if b (from_le_bytes w32 after))) (sym h) wide;
+      rest = behind ∙ rest;
+    }
+aarch64_narrowed f bits v before clear middle after = λ h clears laid cleared rest behind. cc
+
+pub narrowed : (insn : RelocationInstruction) (bits : BitRange) (v : ℤ) (before : List ℕ)
+    (clear : ℕ) (middle after : List ℕ) → Narrowed insn bits v before clear middle after
+narrowed (AArch64 f) bits v before clear middle after =
+    aarch64_narrowed f bits v before clear middle after
+narrowed (RiscV f) bits v before clear middle after = λ h clears laid cleared rest behind. cc
+narrowed (LoongArch64 f) bits v before clear middle after = λ h clears laid cleared rest behind. cc
+narrowed (Ppc64 f) bits v before clear middle after = λ h clears laid cleared rest behind. cc
