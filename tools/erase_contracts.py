@@ -116,7 +116,8 @@ class Contracts:
 
     def call(self, teller, found, function):
         """The call of a function with the caller's own arguments, or None."""
-        members, is_near = self.members.get((function.owner, teller.trait), {}), teller.source is function.source
+        members = self.members.get((function.owner, teller.trait), {})
+        is_near = teller.source is function.source
         arguments = [found.get(name, "") for name in teller.parameters]
         kinds = [function.parameters.get(argument.split(".")[0]) for argument in arguments]
         if None in kinds or not is_near and (not teller.is_public or self.defined[teller.owner] > 1) or any(
@@ -137,7 +138,8 @@ class Contracts:
         else:
             is_own = (function.owner, teller.trait) in self.members if function.owner else (
                 function.trait == teller.trait)
-        if is_own and teller.trait and len({it.trait for it in self.functions if it.name == teller.name} - {""}) > 1:
+        traits = {it.trait for it in self.functions if it.name == teller.name} - {""}
+        if is_own and teller.trait and len(traits) > 1:
             borrow = "&" if teller.parameters["self"][0] == "&" and kinds[0] == "self" else ""
             return f"{teller.trait}::{teller.name}({borrow}{listed})"
         return f"{arguments[0]}.{teller.name}({', '.join(arguments[1:])})" if is_own else None
@@ -156,7 +158,8 @@ def state_requirements(source, contracts):
                 source.stop(function.fn, f"no test tells `{text}`")
         if requirements and function.is_public:
             lines = ["///", "/// # Requires", "///"]
-            lines += ["/// - " + f"{label}: " * bool(label) + f"`{test or text}`" for label, text, test in requirements]
+            lines += ["/// - " + f"{label}: " * bool(label) + f"`{test or text}`"
+                      for label, text, test in requirements]
         if function.is_public and function.result and not function.result.startswith("Result<") and not any(
                 "&mut" in kind for kind in function.parameters.values()):
             lines.append("#[must_use]")
@@ -167,4 +170,5 @@ def state_requirements(source, contracts):
             source.stop(function.first, "an item that is not at the start of its line")
         if lines and "///" in source.text[start:source.start(function.fn)]:
             source.stop(function.first, "docs below an attribute")
-        source.replace(start - len(indent), start - len(indent), "".join(f"{indent}{line}\n" for line in lines))
+        start -= len(indent)
+        source.replace(start, start, "".join(f"{indent}{line}\n" for line in lines))

@@ -120,8 +120,9 @@ class Source:
             else:
                 at = self.function(first, at, is_public or is_shown, owner, trait)
             at += 1
+            words = {token for token in self.tokens[head:at] if token[0].isalpha()}
             self.items.append(SimpleNamespace(block=block, first=first, head=head, word=word, name=name,
-                                              words={token for token in self.tokens[head:at] if token[0].isalpha()}))
+                                              words=words))
 
     def ghost(self, at, in_block):
         """A `ghost use`, or a ghost member of a block. Returns its last token."""
@@ -177,8 +178,8 @@ class Source:
         parameters, clauses = {}, []
         for start, past in self.list_of(opening, True):
             colon = next((at for at in range(start, past) if self[at] == ":"), past)
-            kind = [token for token in self.tokens[colon + 1:past] or self.tokens[start:past] if token[0] != "'"]
-            parameters[self[colon - 1]] = "".join(kind)
+            kind = self.tokens[colon + 1:past] or self.tokens[start:past]
+            parameters[self[colon - 1]] = "".join(token for token in kind if token[0] != "'")
         at = self.close[opening] + 1
         before = self.past(at, "requires ensures { ;")
         result, at = self.joined(at + 1, before), before
