@@ -110,11 +110,22 @@ fn requires_bytes(
 ) -> u64
     requires { IsPrepared prepared.now }
 {
-    // `write_uleb128` writes the numbers of these
-    let error = match row.kind {
+    // `write_uleb128` writes the numbers of these, and no manual says what `Call30` makes
+    let is_unsupported = matches!(
+        row.kind,
         RelocationKind::PairSubtractionULEB128RiscV
-        | RelocationKind::PairSubtractionULEB128LoongArch => RelocateError::Unsupported,
-        _ => RelocateError::TooShort,
+            | RelocationKind::PairSubtractionULEB128LoongArch
+    ) || matches!(
+        row.size,
+        RelocationSize::BitMasking {
+            insn: RelocationInstruction::LoongArch64(LoongArch64Instruction::Call30),
+            ..
+        }
+    );
+    let error = if is_unsupported {
+        RelocateError::Unsupported
+    } else {
+        RelocateError::TooShort
     };
     let mut rejected = 0u64;
     let len = window(row);
