@@ -188,6 +188,9 @@ module _ (kind : RelocationKind) (start end : ℕ) (insn : RelocationInstruction
 abbrev pub IsSmall : (Operands → ℕ) → Type 0
 IsSmall f = (o : Operands) → AreAddresses o → f o < 2 ^ 64
 
+pub zero_small : IsSmall zero
+zero_small o small = omega arith
+
 pub symbol_small : IsSmall symbol_address
 symbol_small o small = sum_below o.symbol (cast_unsigned w64 o.addend)
 

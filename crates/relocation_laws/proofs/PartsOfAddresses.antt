@@ -25,12 +25,12 @@ use Rattle.linker_utils.proofs.LoongArch.{shift5_places, shift10_low_sum, shift1
 use Rattle.linker_utils.proofs.LoongArchAddresses.{page_and_distance, made, first_of_five}
 use Rattle.linker_utils.proofs.LoongArchAddresses.{high_of_five, five_of, five_from}
 use Rattle.relocation_laws.specs.LoongArchLaws.{upper_and_or, four}
-use Rattle.relocation_laws.specs.Schemes.{IsApplied, IsAddress, AreAddresses, place}
+use Rattle.relocation_laws.specs.Schemes.{IsApplied, IsAddress, AreAddresses, place, without_low}
 use Rattle.relocation_laws.proofs.Applied.{fits, holds, value_is, taken_bits, taken_below}
 use Rattle.relocation_laws.proofs.Halves.{IsRounded, rounded_relative}
 use Rattle.relocation_laws.proofs.Instructions.{IsNumber, IsSmall, relative, absolute, row_of}
 use Rattle.relocation_laws.proofs.Instructions.{is_read, reads_bits, field_sum, multiple, unbiased}
-use Rattle.relocation_laws.proofs.Sums.{halves_sum, page_halves_sum, signed_12, sum_below, goes}
+use Rattle.relocation_laws.proofs.Sums.{high_sum, halves_sum, page_halves_sum, signed_12, sum_below, goes}
 use Rattle.relocation_laws.proofs.Sums.{difference_below, once}
 
 -- ---- the immediates
@@ -243,6 +243,31 @@ rounded_parts {begin} {target} {number} {rounded} leads rounds operands e e2 =
     (signed 12 (field y 10 22))
     (omega arith) (omega arith) numbers.small numbers.below numbers.leads is h
     (rounded_remainder n (rounded o) (field y 10 22) l is)
+
+-- a high part alone
+pub high_parts : {begin number : Operands → ℕ} → IsSmall begin
+    → (target : Operands → ℕ) (r : ℕ)
+    → ((o : Operands) → AreAddresses o
+    → number o ≡ difference_64 (sum_64 (target o) r) (begin o))
+    → {kind : RelocationKind} {mask : Option PageMask} {range : AllowedRange} {a : ℕ}
+    {bias : Option ℕ} {thunkable implicit : Bool}
+    → ((o : Operands)
+    → value_of (row_of kind 12 32 (LoongArch64 Shift5) mask range a bias thunkable implicit) o
+    ≡ Some (cast_signed w64 (number o)))
+    → (o : Operands) → AreAddresses o → (at : ℕ) (before after : List ℕ)
+    (high : IsApplied (row_of kind 12 32 (LoongArch64 Shift5) mask range a bias thunkable implicit)
+    o before after) → IsWithin (Some (bit_bounds 32 Signed)) high.value
+    → IsAddress (pos (begin o)
+    +ℤ (signed 20 (field (window_of (loongarch_form Shift5) after) 5 25) *ℤ pos 4096))
+    (without_low 12 r begin target o)
+high_parts {begin} {number} from target r is e = λ o small at before after high within.
+    let same = is o small in
+    let below : number o < 2 ^ 64 =
+    subst (λ x. x < 2 ^ 64) (sym same) (difference_below (sum_64 (target o) r) (begin o)) in
+    let h = high_reads _ _ _ _ _ _ _ o before after high within (number o) below (e o) in
+    high_sum 12 r (begin o) (target o) (number o)
+    (signed 20 (field (window_of (loongarch_form Shift5) after) 5 25)) (omega arith) (from o small)
+    same h
 
 -- ---- four and five instructions
 

@@ -229,3 +229,24 @@ page_halves_sum r p s m h low rounding small place is e f =
 
     parts : (x : ℕ) → x < 2 ^ 64 → x ≡ (page x + x % 2 ^ 12) % 2 ^ 64
     parts x small = omega arith
+
+-- ---- a high part alone
+
+-- what the high part of the distance to a target with rounding comes to
+pub high_sum : (k r p s n : ℕ) (h : ℤ) → k < 65 → p < 2 ^ 64
+    → n ≡ difference_64 (sum_64 s r) p → h ≡ bits_from k (cast_signed w64 n)
+    → IsAddress (pos p +ℤ (h *ℤ pos (2 ^ k)))
+    (difference_64 (sum_64 s r) (difference_64 (sum_64 s r) p % 2 ^ k))
+high_sum k r p s n h short place is e =
+    let t = sum_64 s r in
+    let small : t < 2 ^ 64 = sum_below s r in
+    let below : n < 2 ^ 64 = subst (λ x. x < 2 ^ 64) (sym is) (difference_below t p) in
+    let leads : Leads p n t = subst (λ x. Leads p x t) (sym is) (difference_leads t p small place) in
+    let low = n % 2 ^ k in
+    let back : (difference_64 t low + low) % 2 ^ 64 ≡ t =
+    there t low small (rest_below n (2 ^ k) below) in
+    high_part k p n t (difference_64 t low) h short below leads e (difference_below t low) back
+    ∙ ap (λ x. pos (difference_64 t (x % 2 ^ k))) is
+  where
+    there : (t l : ℕ) → t < 2 ^ 64 → l < 2 ^ 64 → (difference_64 t l + l) % 2 ^ 64 ≡ t
+    there t l small below = omega arith

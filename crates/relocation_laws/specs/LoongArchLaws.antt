@@ -13,7 +13,7 @@ use Rattle.linker_utils.specs.declared.elf.value.Operands.{Operands}
 use Rattle.linker_utils.specs.declared.loongarch64.relocations.LoongArch64Relocation.{LoongArch64Relocation}
 use Rattle.linker_utils.specs.declared.loongarch64.relocations.LoongArch64Relocation.TheVariants as names
 use Rattle.relocation_laws.specs.Differences.{AddsDistance, AddsDistance6}
-use Rattle.relocation_laws.specs.Schemes.{HoldsDistance, Step, here, anywhere, next, of_bits, Law, Adds}
+use Rattle.relocation_laws.specs.Schemes.{HoldsDistance, without_low, Step, here, anywhere, next, of_bits, Law, Adds}
 use Rattle.relocation_laws.specs.Schemes.{symbol_address, plt_address, entry_and_addend, zero}
 use Rattle.relocation_laws.specs.Schemes.{place, tls_base}
 
@@ -118,6 +118,21 @@ ThreadAddresses =
     × Law
     (of_bits 32 Signed (row_here names.R_LARCH_TLS_LE_HI20_R)
     ∷ row_anywhere names.R_LARCH_TLS_LE_LO12_R ∷ []) rounded_offset symbol_address
+
+-- ---- high parts alone ("LU12I.W", "PCADDU12I"). No relocation of their low parts is among the rows.
+
+abbrev pub high_number : ℕ → ℤ
+high_number x = signed 20 (field x 5 25)
+
+abbrev pub HighPart : LoongArch64Relocation → (Operands → ℕ) → (Operands → ℕ) → Type 0
+HighPart name begin target =
+    Adds (of_bits 32 Signed (row_here name)) begin high_number 4096 target
+
+abbrev pub HighParts : Type 0
+HighParts =
+    HighPart names.R_LARCH_PCADD_HI20 place (without_low 12 0x800 place symbol_address)
+    × HighPart names.R_LARCH_TLS_LD_HI20 zero (without_low 12 0 zero entry_and_addend)
+    × HighPart names.R_LARCH_TLS_GD_HI20 zero (without_low 12 0 zero entry_and_addend)
 
 -- ---- one instruction ("B", "BEQZ", "BEQ", "PCADDI"), and a call ("PCADDU18I", "JIRL")
 

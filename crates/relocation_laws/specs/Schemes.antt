@@ -5,7 +5,7 @@ use Rattle.std.specs.Int.{w64, cast_unsigned, int_rem_euclid}
 use Rattle.linker_base.specs.Form.{window_of}
 use Rattle.linker_utils.specs.Elf.{IsWithin, bit_bounds, relocation_form}
 use Rattle.linker_utils.specs.Relocate.{IsAccepted, IsWritten, number_of_bytes}
-use Rattle.linker_utils.specs.Value.{value_of, sum_64}
+use Rattle.linker_utils.specs.Value.{value_of, sum_64, difference_64}
 use Rattle.linker_utils.specs.declared.elf.RelocationKindInfo.{RelocationKindInfo}
 use Rattle.linker_utils.specs.declared.elf.RelocationSize.{RelocationSize}
 use Rattle.linker_utils.specs.declared.elf.RelocationSize.TheVariants.{ByteSize, BitMasking}
@@ -148,6 +148,13 @@ Law steps computed target = (o : Operands) → AreAddresses o → Reaches steps 
 abbrev pub Adds : Step → (Operands → ℕ) → (ℕ → ℤ) → ℕ → (Operands → ℕ) → Type 0
 Adds step begin reads unit target =
     Law (step ∷ []) (λ o word. pos (begin o) +ℤ (reads word *ℤ pos unit)) target
+
+-- The target plus a rounding, less the low k bits of the distance to it: what is left to another
+-- instruction.
+abbrev pub without_low : ℕ → ℕ → (Operands → ℕ) → (Operands → ℕ) → Operands → ℕ
+without_low k rounding begin target o =
+    let end = sum_64 (target o) rounding in
+    difference_64 end (difference_64 end (begin o) % 2 ^ k)
 
 -- ---- fields of data
 

@@ -43,6 +43,7 @@ pub fn loongarch64()
     ensures far { loongarch_laws.FarAddresses }
     ensures absolute { loongarch_laws.AbsoluteAddresses }
     ensures thread { loongarch_laws.ThreadAddresses }
+    ensures high_parts { loongarch_laws.HighParts }
     ensures branches { loongarch_laws.Branches }
     ensures calls { loongarch_laws.Calls }
     ensures distances { loongarch_laws.Distances }
@@ -57,6 +58,7 @@ pub fn ppc64()
     ensures relative { ppc64_laws.RelativeAddresses }
     ensures toc { ppc64_laws.TocAddresses }
     ensures entries { ppc64_laws.EntryAddresses }
+    ensures high_parts { ppc64_laws.HighParts }
     ensures thread { ppc64_laws.ThreadAddresses }
     ensures branches { ppc64_laws.Branches }
     ensures prefixed { ppc64_laws.Prefixes }

@@ -1,14 +1,16 @@
 -- The laws of PowerPC64.
-use Rattle.std.proofs.Common.{refl, ap, arith, Some}
+use Rattle.std.proofs.Common.{◌≡◌, refl, ap, arith, Some}
 use Rattle.std.specs.Int.{w64, cast_signed}
+use Rattle.linker_utils.specs.Value.{sum_64, difference_64}
 use Rattle.linker_utils.specs.declared.elf.Ppc64Instruction.TheVariants.{D, Ds}
-use Rattle.relocation_laws.specs.Schemes.{symbol_address, got_base, tls_base, place}
+use Rattle.linker_utils.specs.declared.elf.value.Operands.{Operands}
+use Rattle.relocation_laws.specs.Schemes.{symbol_address, got_base, tls_base, place, AreAddresses, entry_address}
 use Rattle.relocation_laws.proofs.Fields.{holds_distance}
 use Rattle.relocation_laws.proofs.Instructions.{adds, symbol_from_place, symbol_from_got}
 use Rattle.relocation_laws.proofs.Instructions.{symbol_from_tls, symbol_itself, entry_from_place}
 use Rattle.relocation_laws.proofs.Instructions.{entry_from_got, entry_sum, place_small, got_small}
-use Rattle.relocation_laws.proofs.Instructions.{tls_small, same_distance}
-use Rattle.relocation_laws.proofs.Halves.{adjusted_halves, unadjusted_halves, d_reads, ds_reads}
+use Rattle.relocation_laws.proofs.Instructions.{tls_small, same_distance, relative, entry_is}
+use Rattle.relocation_laws.proofs.Halves.{adjusted_halves, high_half, unadjusted_halves, d_reads, ds_reads}
 use Rattle.relocation_laws.proofs.Halves.{relative_rounds, absolute_rounds, unrounded}
 use Rattle.relocation_laws.proofs.Sums.{difference_below, sum_below}
 use Rattle.relocation_laws.proofs.ppc64.Goals as goal
@@ -102,3 +104,13 @@ returns-clause-fields c = (
       holds_distance symbol_from_tls (omega arith) (λ v old. refl) (λ o. refl),
       holds_distance symbol_from_tls (omega arith) (λ v old. refl) (λ o. refl),
     )
+
+-- the entry's address, where no addend is added
+entry_distance : (o : Operands) → AreAddresses o
+    → relative entry_sum got_base o ≡ difference_64 (sum_64 (entry_address o) 0) (got_base o)
+entry_distance o small =
+    ap (λ e. difference_64 (sum_64 e 0) (got_base o)) (entry_is o small)
+
+pub returns-clause-high_parts : goal.returns-clause-high_parts
+returns-clause-high_parts c =
+    high_half got_small entry_address 0 entry_distance refl refl (λ o. refl)
