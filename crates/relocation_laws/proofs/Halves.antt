@@ -1,11 +1,11 @@
 -- Halves of PowerPC64.
-use Rattle.std.proofs.Common.{◌≡◌, ℕ, ◌+◌, ◌-◌, ◌*◌, ◌/◌, ◌%◌, ◌^◌, ◌<◌, Bool, true, refl, sym, ◌∙◌, ap, subst}
+use Rattle.std.proofs.Common.{◌≡◌, ℕ, ◌+◌, ◌%◌, ◌^◌, ◌<◌, Bool, true, refl, sym, ◌∙◌, ap, subst}
 use Rattle.std.proofs.Common.{arith, List, ℤ, pos, ◌+ℤ◌, ◌*ℤ◌, Option, Some, None}
-use Rattle.std.specs.Int.{w64, cast_signed, int_rem_euclid}
+use Rattle.std.specs.Int.{w64, cast_signed}
 use Rattle.linker_base.specs.Bits.{field, signed}
 use Rattle.linker_base.specs.Form.{window_of, place_sum, replaced}
 use Rattle.linker_base.proofs.ConsecutiveBits.{consecutive_bits_sum}
-use Rattle.linker_utils.specs.Elf.{IsWithin, relocation_form}
+use Rattle.linker_utils.specs.Elf.{IsWithin}
 use Rattle.linker_utils.specs.Ppc64.{ppc64_form}
 use Rattle.linker_utils.specs.Reach.{reach_of}
 use Rattle.linker_utils.specs.Value.{value_of, sum_64, difference_64}
@@ -19,7 +19,8 @@ use Rattle.linker_utils.specs.declared.elf.value.Operands.{Operands}
 use Rattle.relocation_laws.specs.Schemes.{IsApplied, IsAddress, AreAddresses, without_low}
 use Rattle.relocation_laws.proofs.Instructions.{IsNumber, IsSmall, relative, absolute, row_of}
 use Rattle.relocation_laws.proofs.Instructions.{is_read, reads_bits, field_sum, multiple}
-use Rattle.relocation_laws.proofs.Sums.{high_sum, halves_sum, signed_16, sum_below, difference_below}
+use Rattle.relocation_laws.proofs.Sums.{high_sum, halves_sum, signed_16, sum_below}
+use Rattle.relocation_laws.proofs.Sums.{difference_below}
 
 -- ---- low halves
 

@@ -10,7 +10,8 @@ use Rattle.linker_utils.specs.declared.elf.Ppc64Instruction.TheVariants.{Prefixe
 use Rattle.linker_utils.specs.declared.elf.value.Operands.{Operands}
 use Rattle.linker_utils.specs.declared.ppc64.relocations.Ppc64Relocation.{Ppc64Relocation}
 use Rattle.linker_utils.specs.declared.ppc64.relocations.Ppc64Relocation.TheVariants as names
-use Rattle.relocation_laws.specs.Schemes.{HoldsDistance, without_low, here, anywhere, moved_on, Law, Adds, symbol_address}
+use Rattle.relocation_laws.specs.Schemes.{HoldsDistance, without_low, here, anywhere, moved_on, Law}
+use Rattle.relocation_laws.specs.Schemes.{Adds, symbol_address}
 use Rattle.relocation_laws.specs.Schemes.{entry_address, zero, place, got_base, tls_base}
 
 -- ---- halves ("addis", "addi", "ori"; ABI, "@ha", "@hi" and "@l")

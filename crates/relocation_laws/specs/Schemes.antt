@@ -1,5 +1,5 @@
 -- What relocated instructions compute, in one scheme for an instruction, a pair and a sequence.
-use Rattle.std.specs.Prelude.{◌≡◌, ℕ, ◌^◌, ◌<◌, List, [], ◌∷◌, Option, Some, None, IfSome, ℤ, pos}
+use Rattle.std.specs.Prelude.{◌≡◌, ℕ, ◌^◌, ◌<◌, List, [], ◌∷◌, Option, Some, IfSome, ℤ, pos}
 use Rattle.std.specs.Prelude.{◌+ℤ◌, ◌*ℤ◌, ◌+◌, ◌*◌, ◌%◌, ⊤, Bool, IsTrue}
 use Rattle.std.specs.Int.{w64, cast_unsigned, int_rem_euclid}
 use Rattle.linker_base.specs.Form.{window_of}
@@ -130,8 +130,8 @@ abbrev pub Computed : List Step → Type 0
 Computed [] = ℤ
 Computed (step ∷ steps) = ℕ → Computed steps
 
--- If the steps are applied one after the other, the instructions compute the target from their words,
--- whatever the bytes were before.
+-- If the steps are applied one after the other, the instructions compute the target from their
+-- words, whatever the bytes were before.
 abbrev pub Reaches : (steps : List Step) → Operands → Computed steps → ℕ → Type 0
 Reaches [] o sum target = IsAddress sum target
 Reaches (step ∷ steps) o computed target =
@@ -142,7 +142,8 @@ Reaches (step ∷ steps) o computed target =
 
 -- The same of all operands.
 abbrev pub Law : (steps : List Step) → (Operands → Computed steps) → (Operands → ℕ) → Type 0
-Law steps computed target = (o : Operands) → AreAddresses o → Reaches steps o (computed o) (target o)
+Law steps computed target =
+    (o : Operands) → AreAddresses o → Reaches steps o (computed o) (target o)
 
 -- An instruction adds the number that it holds, in units of so many bytes, to what it begins with.
 abbrev pub Adds : Step → (Operands → ℕ) → (ℕ → ℤ) → ℕ → (Operands → ℕ) → Type 0
