@@ -20,6 +20,10 @@ pub record IsApplied (row : RelocationKindInfo) (o : Operands)
   pub accepted : IsAccepted row value before
   pub written : IsWritten row.size row.kind value before after
 
+-- It has no value, or one that isn't accepted.
+abbrev pub IsRejected : RelocationKindInfo → Operands → List ℕ → Type 0
+IsRejected row o before = (v : ℤ) → value_of row o ≡ Some v → ¬ IsAccepted row v before
+
 -- the addresses among operands are numbers of 64 bits
 pub record AreAddresses (o : Operands) : Type 0 where
   pub symbol : o.symbol < 2 ^ 64
