@@ -34,6 +34,7 @@ Pairs begin upper high load store target =
     Law (here high ∷ load ∷ []) (upper_and_low begin upper IType) target
     × Law (here high ∷ store ∷ []) (upper_and_low begin upper SType) target
 
+-- the low part of an `auipc`, which has the operands of the high part
 abbrev pub low_load : Step
 low_load = here (riscv_row names.R_RISCV_PCREL_LO12_I)
 
