@@ -1,5 +1,5 @@
 -- What the machine reads of an instruction to which a relocation was applied.
-use Rattle.std.proofs.Common.{FitsSigned, ◌≡◌, ℕ, ◌-◌, ◌/◌, ◌%◌, ◌^◌, ◌<◌, ◌≤◌, true, false, refl, sym}
+use Rattle.std.proofs.Common.{FitsSigned, ◌≡◌, ℕ, ◌-◌, ◌/◌, ◌%◌, ◌^◌, ◌<◌, ◌≤◌, true, refl, sym}
 use Rattle.std.proofs.Common.{◌∙◌, ap, subst, arith, List, ℤ, pos, Option, Some, None, int_lt}
 use Rattle.std.proofs.Common.{unsigned_abs, Bool, eqb}
 use Rattle.std.proofs.lemmas.Bool.{eqb-true}
@@ -12,7 +12,7 @@ use Rattle.linker_base.specs.Form.{BitsWritten}
 use Rattle.linker_base.specs.declared.bit_misc.BitRange.{BitRange}
 use Rattle.linker_base.proofs.Immediates.{is_sound_layout, layout_laid, low_of, high_of}
 use Rattle.linker_base.proofs.Immediates.{always_clear, subst_below}
-use Rattle.linker_utils.specs.AArch64.{aarch64_form, aarch64_layout}
+use Rattle.linker_utils.specs.AArch64.{aarch64_form}
 use Rattle.linker_utils.specs.Agrees.{bits_from, AgreesInReach}
 use Rattle.linker_utils.specs.Elf.{IsWithin, relocation_form, relocation_layout}
 use Rattle.linker_utils.specs.LoongArch.{loongarch_form}
@@ -30,7 +30,8 @@ use Rattle.linker_utils.specs.declared.elf.LoongArch64Instruction.TheVariants.{S
 use Rattle.linker_utils.specs.declared.elf.Ppc64Instruction.{Ppc64Instruction}
 use Rattle.linker_utils.specs.declared.elf.Ppc64Instruction.TheVariants.{D, Ds}
 use Rattle.linker_utils.specs.declared.elf.RelocationInstruction.{RelocationInstruction}
-use Rattle.linker_utils.specs.declared.elf.RelocationInstruction.TheVariants.{AArch64, RiscV, Ppc64, LoongArch64}
+use Rattle.linker_utils.specs.declared.elf.RelocationInstruction.TheVariants.{AArch64, RiscV, Ppc64}
+use Rattle.linker_utils.specs.declared.elf.RelocationInstruction.TheVariants.{LoongArch64}
 use Rattle.linker_utils.specs.declared.elf.RelocationKindInfo.{RelocationKindInfo}
 use Rattle.linker_utils.specs.declared.elf.RelocationSize.TheVariants.{BitMasking}
 use Rattle.linker_utils.specs.declared.elf.RiscVInstruction.{RiscVInstruction}
