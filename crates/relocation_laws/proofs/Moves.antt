@@ -9,14 +9,13 @@ use Rattle.std.proofs.lemmas.Int.{ints, int_rem_euclid_is}
 use Rattle.std.proofs.lemmas.Nat.{mod_below, pow_pos, pow-add, div-mul-add, div-add-mod'}
 use Rattle.std.proofs.Math.Nat.{mul-add-mod_self_right}
 use Rattle.linker_base.specs.Bits.{field}
-use Rattle.linker_base.specs.Form.{window_of, place_sum, IsSameModulo}
+use Rattle.linker_base.specs.Form.{IsSameModulo}
 use Rattle.linker_base.specs.declared.bit_misc.BitRange.{BitRange}
 use Rattle.linker_utils.specs.AArch64.{aarch64_form, shift_of}
 use Rattle.linker_utils.specs.Agrees.{bits_from, AgreesInReach, IsSameIn, aarch64_reads}
 use Rattle.linker_utils.specs.Elf.{IsWithin}
 use Rattle.linker_utils.specs.Reach.{reach_of}
 use Rattle.linker_utils.specs.Relocate.{MoveReads}
-use Rattle.linker_utils.specs.RiscVRows.{Bounds}
 use Rattle.linker_utils.specs.Value.{value_of, sum_64}
 use Rattle.linker_utils.specs.declared.elf.AArch64Instruction.TheVariants.{Movkz, Movnz}
 use Rattle.linker_utils.specs.declared.elf.AllowedRange.{AllowedRange}

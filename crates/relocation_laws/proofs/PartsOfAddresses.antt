@@ -1,4 +1,6 @@
 -- Addresses of LoongArch in parts.
+use Rattle.relocation_laws.proofs.Sums.{high_sum}
+use Rattle.relocation_laws.specs.Schemes.{without_low}
 use Rattle.std.proofs.Common.{◌≡◌, ℕ, ◌+◌, ◌-◌, ◌*◌, ◌/◌, ◌%◌, ◌^◌, ◌<◌, Bool, refl, sym, ◌∙◌, ap}
 use Rattle.std.proofs.Common.{subst}
 use Rattle.std.proofs.Common.{arith, List, ℤ, pos, ◌+ℤ◌, ◌-ℤ◌, ◌*ℤ◌, inl, inr, Option, Some, None}
@@ -27,11 +29,11 @@ use Rattle.linker_utils.proofs.LoongArchAddresses.{page_and_distance, made, firs
 use Rattle.linker_utils.proofs.LoongArchAddresses.{high_of_five, five_from}
 use Rattle.relocation_laws.specs.LoongArchLaws.{upper_and_or, four}
 use Rattle.relocation_laws.specs.Schemes.{IsApplied, IsAddress, AreAddresses, place}
-use Rattle.relocation_laws.proofs.Applied.{fits, holds, value_is, taken_bits}
+use Rattle.relocation_laws.proofs.Applied.{holds, value_is, taken_bits}
 use Rattle.linker_utils.proofs.Taken.{taken_below}
-use Rattle.relocation_laws.proofs.Halves.{IsRounded, rounded_relative}
-use Rattle.relocation_laws.proofs.Instructions.{IsNumber, IsSmall, relative, absolute, row_of}
-use Rattle.relocation_laws.proofs.Instructions.{is_read, reads_bits, field_sum, multiple, unbiased}
+use Rattle.relocation_laws.proofs.Halves.{IsRounded}
+use Rattle.relocation_laws.proofs.Instructions.{IsNumber, IsSmall, absolute, row_of}
+use Rattle.relocation_laws.proofs.Instructions.{reads_bits, field_sum, unbiased}
 use Rattle.relocation_laws.proofs.Sums.{halves_sum, page_halves_sum, signed_12, sum_below, goes}
 use Rattle.relocation_laws.proofs.Sums.{difference_below, once}
 

@@ -35,7 +35,7 @@ pub fn apply(row: &RelocationKindInfo, operands: &Operands, bytes: &mut [u8]) ->
 /// AArch64: `adrp` with `add`, loads and stores, also through the GOT and for each model of TLS;
 /// offsets from the thread pointer and in a module's block; branches, `adr` and literals; and the
 /// moves of 16 bits. The value of `R_AARCH64_ADR_PREL_PG_HI21_NC`, which nothing else checks, is a
-/// number of 33 bits. A `movn` or `movz` has the shift of its relocation.
+/// number of 33 bits. A `movn` or `movz` is one of 64 bits, and has the shift of its relocation.
 pub fn aarch64()
     ensures relative { aarch64_laws.RelativeAddresses }
     ensures entries { aarch64_laws.EntryAddresses }
@@ -70,7 +70,7 @@ pub fn loongarch64()
 
 /// PowerPC64: `addis` with an instruction that has the low half, from the TOC base, the place, the
 /// thread pointer, a module's block or 0; branches, prefixed instructions and displacements of 16
-/// bits.
+/// bits. A word of DQ-form is read without its low 4 bits.
 pub fn ppc64()
     ensures absolute { ppc64_laws.AbsoluteAddresses }
     ensures relative { ppc64_laws.RelativeAddresses }
