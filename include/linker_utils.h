@@ -65,7 +65,8 @@ enum linker_utils_status {
     LINKER_UTILS_CANNOT_APPLY = 7,
     /* The register is not one from 0 to 30. */
     LINKER_UTILS_BAD_REGISTER = 8,
-    /* The four bytes at the site do not lie in the section, or the target is past its end. */
+    /* The four bytes at the site, or the eight where the `jalr`'s register is linked, do not lie in
+     * the section, or the target is past its end. */
     LINKER_UTILS_OUT_OF_SECTION = 9,
     /* One of the four bytes at the site is deleted. */
     LINKER_UTILS_SITE_DELETED = 10,
@@ -124,8 +125,8 @@ static inline const char *linker_utils_status_text(uint32_t status) {
     case LINKER_UTILS_CANNOT_APPLY: return "The rewrite may not be applied there.";
     case LINKER_UTILS_BAD_REGISTER: return "The register is not one from 0 to 30.";
     case LINKER_UTILS_OUT_OF_SECTION:
-        return "The four bytes at the site do not lie in the section, "
-               "or the target is past its end.";
+        return "The four bytes at the site, or the eight where the `jalr`'s register is linked, "
+               "do not lie in the section, or the target is past its end.";
     case LINKER_UTILS_SITE_DELETED: return "One of the four bytes at the site is deleted.";
     case LINKER_UTILS_ODD_DISTANCE: return "The distance is odd.";
     case LINKER_UTILS_TOO_FAR: return "The distance is out of the range of `jal`.";
@@ -378,7 +379,8 @@ uint32_t linker_utils_next_modifier(uint16_t machine, uint32_t rewrite, uint8_t 
 
 /* ---- Relocations.
  *
- * The statuses LINKER_UTILS_UNKNOWN_ARCHITECTURE and LINKER_UTILS_UNKNOWN_RELOCATION come first. */
+ * The statuses LINKER_UTILS_UNKNOWN_ARCHITECTURE and LINKER_UTILS_UNKNOWN_RELOCATION come first,
+ * except where `linker_utils_relocate_all` says otherwise. */
 
 /* What a relocation's value is computed from. The letters are those of the psABIs:
  *   S    the symbol's address
@@ -682,7 +684,8 @@ static inline uint32_t linker_utils_relocate(uint16_t machine, uint32_t r_type, 
 /* The same of several relocations of a section, in order. It stops at the first that is rejected:
  * `faulty` is its index, and the status says why. Those before it are written; it and those after
  * it are not. With LINKER_UTILS_UNKNOWN_ARCHITECTURE `faulty` is unchanged. An offset past the
- * section's end is LINKER_UTILS_TOO_SHORT. */
+ * section's end is LINKER_UTILS_TOO_SHORT whatever the relocation's type, also where that is one
+ * for LINKER_UTILS_UNKNOWN_RELOCATION or LINKER_UTILS_UNSUPPORTED. */
 static inline uint32_t linker_utils_relocate_all(
     uint16_t machine, uint8_t *section, size_t section_len,
     const struct linker_utils_relocation_entry *relocations, size_t relocations_len,
@@ -706,8 +709,8 @@ struct linker_utils_deletion {
 /* A deletion, with the sum of the bytes that it and all deletions at lower offsets delete. The
  * deltas that the calls below take are an array of these, as `linker_utils_deltas_create` and
  * `linker_utils_deltas_merge` write it. It is the caller's own memory, and any number of threads
- * may read it. With an array that was written otherwise the calls are still defined, but their
- * results are not specified. */
+ * may read it. With an array that was written otherwise the calls are still defined, and a status
+ * is one of those that the call names. What else depends on the array is not specified. */
 struct linker_utils_delta {
     uint64_t input_offset;
     uint64_t cumulative_deleted;
@@ -743,8 +746,9 @@ static inline uint32_t linker_utils_jal_site(uint8_t *section, size_t section_le
 /* Turns the call at a site of a section into a `jal` by a distance in bytes, which links the
  * register that `link` chooses of `enum linker_utils_link_register`. The `jalr`'s is right for
  * every call, as for `tail f` and `call t0, f`; the eight bytes at the site then have to be an
- * `auipc` and a `jalr` over its register. LINKER_UTILS_UNKNOWN_LINK_REGISTER,
- * LINKER_UTILS_OUT_OF_SECTION, LINKER_UTILS_NOT_A_CALL, LINKER_UTILS_ODD_DISTANCE,
+ * `auipc` and a `jalr` over its register. LINKER_UTILS_UNKNOWN_LINK_REGISTER.
+ * LINKER_UTILS_OUT_OF_SECTION where the four bytes at the site do not lie in the section or, with
+ * the `jalr`'s register, the eight do not. LINKER_UTILS_NOT_A_CALL, LINKER_UTILS_ODD_DISTANCE,
  * LINKER_UTILS_TOO_FAR. */
 static inline uint32_t linker_utils_jal_site_with(uint8_t *section, size_t section_len,
                                                   uint64_t site, int64_t distance, uint32_t link) {
@@ -965,8 +969,9 @@ static inline uint32_t linker_utils_deltas_is_mergeable(
  * LINKER_UTILS_INVALID_DELETIONS where the deltas list no valid deletions, and `faulty` is the
  * first delta at fault, as above. LINKER_UTILS_NOT_MERGEABLE, and `faulty` is the first additional
  * deletion that overlaps an old or an earlier additional one, or ends past 2^64 - 1.
- * LINKER_UTILS_OUT_OF_MEMORY. It takes no memory where the additional deletions ascend and can be
- * merged. */
+ * LINKER_UTILS_OUT_OF_MEMORY where they can be merged, but there is no memory for a copy of them.
+ * It takes no memory where the additional deletions ascend and can be merged. Where the copy is
+ * refused it takes up to k^2 steps for k additional deletions. */
 static inline uint32_t linker_utils_deltas_merge(const struct linker_utils_delta *deltas,
                                                  size_t deltas_len,
                                                  const struct linker_utils_deletion *additional,
@@ -1026,7 +1031,8 @@ static inline uint32_t linker_utils_deltas_translate_all(const struct linker_uti
 
 /* ---- Heads: searches among many deltas are faster with the heads of their blocks, an array beside
  * the deltas. Each call is defined for any heads; its result is promised of those that
- * `linker_utils_deltas_heads` wrote of the same deltas. */
+ * `linker_utils_deltas_heads` wrote of the same deltas, and of any that are not as many as
+ * blocks. */
 
 /* The first delta of a block of 64: its input offset, and its output offset, which is that less the
  * bytes of all deletions before it. */
@@ -1120,7 +1126,8 @@ static inline size_t linker_utils_packed_len(const uint8_t *section, size_t sect
  * first call whose site is less than 4 above that of the one before it.
  * LINKER_UTILS_DIFFERENT_LENGTHS where `packed_len` is not `linker_utils_packed_len`. If a call
  * can't become a jump, `faulty` is the first such call, and the status is that of its cause:
- * LINKER_UTILS_OUT_OF_SECTION, LINKER_UTILS_SITE_DELETED, LINKER_UTILS_NOT_A_CALL,
+ * LINKER_UTILS_OUT_OF_SECTION, as `linker_utils_jal_site_with`, also where the target is past the
+ * section's end; LINKER_UTILS_SITE_DELETED, of the four bytes at the site; LINKER_UTILS_NOT_A_CALL,
  * LINKER_UTILS_ODD_DISTANCE, LINKER_UTILS_TOO_FAR. */
 static inline uint32_t linker_utils_pack(const uint8_t *section, size_t section_len,
                                          const struct linker_utils_delta *deltas,

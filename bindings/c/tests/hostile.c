@@ -791,11 +791,12 @@ static void call_deltas_merge(void) {
     finish_buffers(false);
     uint32_t status = CALL(deltas_merge, DELTAS(listed), DELETIONS(additional), DELTAS(merged),
                            faulty);
-    expect((status == LINKER_UTILS_OUT_OF_MEMORY) == was_refused,
-           "returns out of memory, or not, against its allocations");
     if (merged_len != count + additional_len) {
         expect(status == LINKER_UTILS_DIFFERENT_LENGTHS, "writes to another length");
-    } else if (!was_refused) {
+        expect(!was_refused, "takes memory for another length");
+    } else if (was_refused && can == LINKER_UTILS_OK) {
+        expect(status == LINKER_UTILS_OUT_OF_MEMORY, "merges without memory");
+    } else {
         expect(status == can, "`deltas_is_mergeable` and `deltas_merge` differ");
     }
     bool is_of_delta = status == LINKER_UTILS_INVALID_DELETIONS;

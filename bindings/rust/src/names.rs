@@ -50,7 +50,8 @@ numbered! {
         CannotApply = 7,
         /// The register is not one from 0 to 30.
         BadRegister = 8,
-        /// The four bytes at the site do not lie in the section, or the target is past its end.
+        /// The four bytes at the site, or the eight where the `jalr`'s register is linked, do not lie
+        /// in the section, or the target is past its end.
         OutOfSection = 9,
         /// One of the four bytes at the site is deleted.
         SiteDeleted = 10,
@@ -121,7 +122,7 @@ impl fmt::Display for Status {
                 "The register is not one from 0 to 30."
             }
             Status::OutOfSection => {
-                "The four bytes at the site do not lie in the section, or the target is past its end."
+                "The four bytes at the site, or the eight where the `jalr`'s register is linked, do not lie in the section, or the target is past its end."
             }
             Status::SiteDeleted => {
                 "One of the four bytes at the site is deleted."

@@ -1,8 +1,8 @@
 -- The deletions and deltas that C passes.
-use Rattle.std.specs.Prelude.{◌≡◌, ℕ, ◌+◌, ◌<◌, List, length, map, take, ⊤}
+use Rattle.std.specs.Prelude.{◌≡◌, ℕ, ◌+◌, ◌++◌, ◌<◌, List, length, map, take}
 use Rattle.std.specs.List.Sorted.{IsNonDecreasing}
 use Rattle.linker_base.specs.declared.relaxation.RelaxDelta.{RelaxDelta}
-use Rattle.linker_base.specs.Deletions.{IsSortedUnion}
+use Rattle.linker_base.specs.Deletions.{AreDisjoint, IsSortedUnion}
 use Rattle.linker_base.specs.Deltas.{deletions_of}
 use Rattle.linker_base.specs.Listed.{AreValidDeltas, IsFirstOverlapping}
 use Rattle.linker_utils_c.specs.declared.deltas.Deletion.{Deletion}
@@ -26,10 +26,10 @@ pub record AreMerged (all : List (ℕ × ℕ)) (deltas : List RelaxDelta) : Type
   pub union : IsSortedUnion all (deletions_of deltas)
   pub listed : AreValidDeltas deltas
 
--- why the additional deletions aren't merged: out of memory, or the first of them that overlaps
--- others
+-- why the additional deletions aren't merged: out of memory although they can be, or the first of
+-- them that overlaps others
 abbrev pub IsMergeError : List (ℕ × ℕ) → List (ℕ × ℕ) → MergeError → Type 0
-IsMergeError deletions additional OutOfMemory = ⊤
+IsMergeError deletions additional OutOfMemory = AreDisjoint (deletions ++ additional)
 IsMergeError deletions additional (Overlapping at) = IsFirstOverlapping deletions additional at
 
 -- the query at the index is the first that is less than the one before it

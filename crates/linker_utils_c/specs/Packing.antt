@@ -1,5 +1,5 @@
 -- Packing by the numbers that C sees.
-use Rattle.std.specs.Prelude.{◌≡◌, ◌⊎◌, ℕ, zero, suc, List, Option, None, Some, map, All}
+use Rattle.std.specs.Prelude.{◌≡◌, ◌⊎◌, ℕ, zero, suc, List, [], ◌∷◌, Option, None, Some, map, All}
 use Rattle.linker_utils.specs.Packing.{CanJump, IsFirstRejected, IsPacked}
 use Rattle.linker_utils.specs.declared.riscv64.calls.LinkRegister.{LinkRegister}
 use Rattle.linker_utils.specs.declared.riscv64.calls.LinkRegister.TheVariants.{OfAuipc, OfJalr}
@@ -10,7 +10,7 @@ use Rattle.linker_utils_c.specs.declared.packing.Call.{Call}
 use Rattle.linker_utils_c.specs.declared.status.Status.{Status}
 use Rattle.linker_utils_c.specs.declared.status.Status.TheVariants.{Success, OutOfSection}
 use Rattle.linker_utils_c.specs.declared.status.Status.TheVariants.{SiteDeleted, OddDistance}
-use Rattle.linker_utils_c.specs.declared.status.Status.TheVariants.{TooFar, NotACall}
+use Rattle.linker_utils_c.specs.declared.status.Status.TheVariants.{TooFar, NotACall, CallsNotApart}
 use Rattle.linker_utils_c.specs.Status.{code}
 
 abbrev pub call_of : Call → ℕ × ℕ
@@ -33,6 +33,15 @@ error_status (jump_errors.Call call_errors.SiteDeleted) = SiteDeleted
 error_status jump_errors.NotACall = NotACall
 error_status (jump_errors.Call call_errors.OddDistance) = OddDistance
 error_status (jump_errors.Call call_errors.TooFar) = TooFar
+
+-- what a call that becomes a jump in place returns
+abbrev pub relax_statuses : List Status
+relax_statuses = Success ∷ OutOfSection ∷ SiteDeleted ∷ OddDistance ∷ TooFar ∷ []
+
+-- what a pack returns that is about one of its calls
+abbrev pub call_statuses : List Status
+call_statuses =
+    CallsNotApart ∷ OutOfSection ∷ SiteDeleted ∷ NotACall ∷ OddDistance ∷ TooFar ∷ []
 
 -- the section was packed, and each call can become a jump
 pub record IsPackedWhole (link : LinkRegister) (deletions : List (ℕ × ℕ)) (section : List ℕ)

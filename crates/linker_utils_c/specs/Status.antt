@@ -1,5 +1,5 @@
 -- The statuses that C sees as numbers.
-use Rattle.std.specs.Prelude.{◌≡◌, ℕ, ◌<◌, ◌≤◌, List, length}
+use Rattle.std.specs.Prelude.{◌≡◌, ◌⊎◌, ℕ, ◌<◌, ◌≤◌, List, [], ◌∷◌, length}
 use Rattle.linker_utils_c.specs.declared.status.Status.{Status}
 use Rattle.linker_utils_c.specs.declared.status.Status.TheVariants.{Success, UnknownArchitecture}
 use Rattle.linker_utils_c.specs.declared.status.Status.TheVariants.{UnknownForm, UnknownRewrite}
@@ -48,6 +48,11 @@ code Misaligned = 27
 code OutOfReach = 28
 code NoValue = 29
 code Unsupported = 30
+
+-- the status is one of these
+abbrev pub IsOneOf : List Status → ℕ → Type 0
+IsOneOf [] status = ⊥
+IsOneOf (first ∷ others) status = (status ≡ code first) ⊎ IsOneOf others status
 
 -- the status says whether there are as many bytes
 pub record HasRoom (len : ℕ) (bytes : List ℕ) (status : ℕ) : Type 0 where

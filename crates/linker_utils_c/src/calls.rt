@@ -9,8 +9,8 @@ ghost use Rattle.linker_utils.specs.RiscV.{IsEven, IsJalDistance, JumpsAt, Jumps
 ghost use Rattle.linker_utils.specs.RiscV.{link_register, call_len, NamesRegister, IsPlainCall};
 ghost use Rattle.linker_utils.specs.RiscV.{IsInSection, IsSiteKept, output_distance, FitsClui};
 ghost use Rattle.linker_utils.specs.RiscV.{HoldsHigh, IsSigned32, hi20, lo12};
-ghost use Rattle.linker_utils_c.specs.Status.{code};
-ghost use Rattle.linker_utils_c.specs.Packing.{named_link};
+ghost use Rattle.linker_utils_c.specs.Status.{code, IsOneOf};
+ghost use Rattle.linker_utils_c.specs.Packing.{named_link, relax_statuses};
 ghost use Rattle.linker_utils.specs.declared.riscv64.calls.JumpError.{JumpError};
 
 use crate::status::Status;
@@ -117,6 +117,7 @@ pub extern "C" fn linker_utils_relax_call_nonnull(
     site: u64,
     target: u64,
 ) -> u32
+    ensures listed { IsOneOf relax_statuses result }
     ensures jumps { AreValidDeltas deltas.now → result ≡ code Status.Success
         → JumpsAt section.old section.new site
         (output_distance (deletions_of deltas.now) site target) }
@@ -143,6 +144,7 @@ pub extern "C" fn linker_utils_relax_call_nonnull(
 // The status of a call that has become a jump, or of why it hasn't.
 #[inline(always)]
 pub(crate) fn call_status(outcome: Result<(), CallError>) -> u32
+    ensures listed { IsOneOf relax_statuses result }
     ensures success { (result ≡ code Status.Success) ↔ IsOk outcome }
     ensures out_of_section { (result ≡ code Status.OutOfSection)
         ↔ (outcome ≡ Err CallError.OutOfSection) }

@@ -1,9 +1,10 @@
 //! Deletions in a section, in arrays of the caller's.
 //!
 //! Deltas that `linker_utils_deltas_create` or `linker_utils_deltas_merge` wrote are valid: they
-//! list deletions. Each call is safe for any deltas, and what it returns is promised of valid ones.
+//! list deletions. Each call is safe for any deltas, and returns one of the statuses that it names.
+//! What else it returns is promised of valid ones.
 
-ghost use Rattle.std.specs.Prelude.{◌≡◌, ◌≢◌, ◌↔◌, MatchOption, length, map};
+ghost use Rattle.std.specs.Prelude.{◌≡◌, ◌≢◌, ◌↔◌, ◌⊎◌, MatchOption, length, map};
 ghost use Rattle.std.specs.List.Sorted.{IsNonDecreasing};
 ghost use Rattle.linker_base.specs.Deletions.{IsValid, IsSelected, HasInput, bytes_of, rank};
 ghost use Rattle.linker_base.specs.Deltas.{RecordsDeletions, deletions_of};
@@ -120,6 +121,7 @@ pub extern "C" fn linker_utils_deltas_output_to_input_nonnull(
     output_offset: u64,
     input_offset: &mut u64,
 ) -> u32
+    ensures known { (result ≡ code Status.Success) ⊎ (result ≡ code Status.TooLarge) }
     ensures kept { AreValidDeltas deltas.now → HasInput (deletions_of deltas.now) output_offset
         → (result ≡ code Status.Success)
         × IsSelected (deletions_of deltas.now) output_offset input_offset.new }

@@ -2,9 +2,9 @@
 //! with them.
 //!
 //! Each call is safe for any heads, and what it returns is promised of those that
-//! `linker_utils_deltas_heads` wrote of the same deltas.
+//! `linker_utils_deltas_heads` wrote of the same deltas, and of any that aren't as many as blocks.
 
-ghost use Rattle.std.specs.Prelude.{◌≡◌, ◌≢◌, length};
+ghost use Rattle.std.specs.Prelude.{◌≡◌, ◌≢◌, ◌⊎◌, length};
 ghost use Rattle.linker_base.specs.Blocks.{AreHeads, blocks_of};
 ghost use Rattle.linker_base.specs.Deletions.{IsSelected, HasInput, rank};
 ghost use Rattle.linker_base.specs.Deltas.{deletions_of};
@@ -51,7 +51,10 @@ pub extern "C" fn linker_utils_deltas_input_to_output_by_heads_nonnull(
     heads: &[BlockHead],
     input_offset: u64,
 ) -> u64
-    ensures { AreValidDeltas deltas.now → AreHeads deltas.now heads.now
+    ensures by_heads { AreValidDeltas deltas.now → AreHeads deltas.now heads.now
+        → result ≡ rank (deletions_of deltas.now) input_offset }
+    ensures other_count { AreValidDeltas deltas.now
+        → length heads.now ≢ blocks_of (length deltas.now)
         → result ≡ rank (deletions_of deltas.now) input_offset }
 {
     DeltaSlice::new(deltas).input_to_output_by_heads(heads, input_offset)
@@ -66,11 +69,20 @@ pub extern "C" fn linker_utils_deltas_output_to_input_by_heads_nonnull(
     output_offset: u64,
     input_offset: &mut u64,
 ) -> u32
+    ensures known { (result ≡ code Status.Success) ⊎ (result ≡ code Status.TooLarge) }
     ensures kept { AreValidDeltas deltas.now → AreHeads deltas.now heads.now
         → HasInput (deletions_of deltas.now) output_offset
         → (result ≡ code Status.Success)
         × IsSelected (deletions_of deltas.now) output_offset input_offset.new }
     ensures too_large { AreValidDeltas deltas.now → AreHeads deltas.now heads.now
+        → ¬ HasInput (deletions_of deltas.now) output_offset → result ≡ code Status.TooLarge }
+    ensures other_count_kept { AreValidDeltas deltas.now
+        → length heads.now ≢ blocks_of (length deltas.now)
+        → HasInput (deletions_of deltas.now) output_offset
+        → (result ≡ code Status.Success)
+        × IsSelected (deletions_of deltas.now) output_offset input_offset.new }
+    ensures other_count_too_large { AreValidDeltas deltas.now
+        → length heads.now ≢ blocks_of (length deltas.now)
         → ¬ HasInput (deletions_of deltas.now) output_offset → result ≡ code Status.TooLarge }
     ensures unchanged { result ≢ code Status.Success → input_offset.new ≡ input_offset.old }
 {

@@ -3,7 +3,7 @@
 ghost use Rattle.std.specs.Prelude.{◌≡◌, ◌≢◌, ◌+◌, ◌++◌, ◌↔◌, ◌⊎◌, IfOk, OnErr, MatchResult, length, map};
 ghost use Rattle.linker_base.specs.Deletions.{AreDisjoint, IsValid};
 ghost use Rattle.linker_base.specs.Deltas.{deletions_of};
-ghost use Rattle.linker_base.specs.Listed.{IsFirstInvalid, IsFirstOverlapping};
+ghost use Rattle.linker_base.specs.Listed.{AreValidTogether, IsFirstInvalid, IsFirstOverlapping};
 ghost use Rattle.linker_utils_c.specs.Status.{code};
 ghost use Rattle.linker_utils_c.specs.Deltas.{pairs_in, AreMerged, IsMergeError};
 
@@ -48,7 +48,7 @@ pub extern "C" fn linker_utils_deltas_is_mergeable_nonnull(
 /// `InvalidDeletions`, of the delta at `faulty`; `NotMergeable`, of the additional deletion at
 /// `faulty`, which overlaps a delta or an earlier one, or ends above 2^64 - 1; and `OutOfMemory`.
 /// It takes no memory where the additional deletions ascend and can be merged, and else memory for
-/// one copy of them.
+/// one copy of them. Where that is refused the work is as in `linker_utils_deltas_is_mergeable`.
 #[unsafe(no_mangle)]
 pub extern "C" fn linker_utils_deltas_merge_nonnull(
     alloc: Global,
@@ -68,10 +68,13 @@ pub extern "C" fn linker_utils_deltas_merge_nonnull(
         → IsValid (deletions_of deltas.now)
         → AreDisjoint (deletions_of deltas.now ++ pairs_in additional.now)
         → (result ≡ code Status.Success) ⊎ (result ≡ code Status.OutOfMemory) }
-    ensures overlapping { length merged.old ≡ length deltas.now + length additional.now
-        → IsValid (deletions_of deltas.now)
-        → ¬ AreDisjoint (deletions_of deltas.now ++ pairs_in additional.now)
-        → (result ≡ code Status.NotMergeable) ⊎ (result ≡ code Status.OutOfMemory) }
+    ensures ascending { length merged.old ≡ length deltas.now + length additional.now
+        → AreValidTogether (deletions_of deltas.now) (pairs_in additional.now)
+        → result ≡ code Status.Success }
+    ensures overlapping { (result ≡ code Status.NotMergeable)
+        ↔ ((length merged.old ≡ length deltas.now + length additional.now)
+        × IsValid (deletions_of deltas.now)
+        × ¬ AreDisjoint (deletions_of deltas.now ++ pairs_in additional.now)) }
     ensures unchanged { result ≢ code Status.Success → merged.new ≡ merged.old }
     ensures faulty_delta { result ≡ code Status.InvalidDeletions
         → IsFirstInvalid (deletions_of deltas.now) faulty.new }
@@ -104,22 +107,14 @@ pub extern "C" fn linker_utils_deltas_merge_nonnull(
 
 // Why additional deletions aren't merged.
 enum MergeError {
+    // They can be merged.
     OutOfMemory,
     // The index of the first that can't be merged.
     Overlapping(usize),
 }
 
-impl From<OutOfMemory> for MergeError {
-    ghost use Rattle.linker_utils_c.specs.declared.merges.MergeError.TheVariants.{OutOfMemory};
-
-    ghost from_gives = { λ error e. e ≡ OutOfMemory };
-
-    fn from(_error: OutOfMemory) -> MergeError {
-        MergeError::OutOfMemory
-    }
-}
-
-// Merges deletions in any order: sorted, they are tested in the fewest steps.
+// Merges deletions in any order: sorted, they are tested in the fewest steps. Without memory to
+// sort a copy they are tested as they are.
 fn merge_sorted(
     alloc: Global,
     deltas: &[RelaxDelta],
@@ -133,7 +128,12 @@ fn merge_sorted(
     ensures err { OnErr result (merged.new ≡ merged.old) }
 {
     let slice = DeltaSlice::new(deltas);
-    let mut sorted = pairs(alloc, additional)?;
+    let Ok(mut sorted) = pairs(alloc, additional) else {
+        return Err(match slice.first_overlapping(additional) {
+            Some(at) => MergeError::Overlapping(at),
+            None => MergeError::OutOfMemory,
+        });
+    };
     sorted.sort_unstable_by_key(|pair| pair.0);
     if !slice.can_merge_ascending(&sorted) {
         if let Some(at) = slice.first_overlapping(additional) {

@@ -1,12 +1,12 @@
 //! The kept bytes of a section, with its calls made jumps.
 
-ghost use Rattle.std.specs.Prelude.{◌≡◌, ◌≢◌, ◌↔◌, IsNone, IfSome, MatchOption, length, All};
+ghost use Rattle.std.specs.Prelude.{◌≡◌, ◌≢◌, ◌↔◌, ◌∷◌, IsNone, IfSome, MatchOption, length, All};
 ghost use Rattle.linker_base.specs.Deletions.{rank};
 ghost use Rattle.linker_base.specs.Deltas.{deletions_of};
 ghost use Rattle.linker_base.specs.Listed.{AreValidDeltas};
 ghost use Rattle.linker_utils.specs.Packing.{AreApart, IsFirstNotApart};
-ghost use Rattle.linker_utils_c.specs.Status.{code};
-ghost use Rattle.linker_utils_c.specs.Packing.{call_of, calls_in, named_link, error_status};
+ghost use Rattle.linker_utils_c.specs.Status.{code, IsOneOf};
+ghost use Rattle.linker_utils_c.specs.Packing.{call_of, calls_in, named_link, error_status, call_statuses};
 ghost use Rattle.linker_utils_c.specs.Packing.{IsPackedOrRejected};
 
 use crate::calls::{call_status, chosen_register};
@@ -50,7 +50,7 @@ pub extern "C" fn linker_utils_packed_len_nonnull(section: &[u8], deltas: &[Rela
 /// the first call whose site is less than 4 above the one before it; `DifferentLengths`, where
 /// `packed` has not `linker_utils_packed_len` bytes; and of the first call that can't become a
 /// jump, whose index is `faulty`, `OutOfSection`, `SiteDeleted`, `NotACall`, `OddDistance` and
-/// `TooFar`. Nothing is written then.
+/// `TooFar`. `packed` is unchanged then. `faulty` changes only with a status that is about a call.
 #[unsafe(no_mangle)]
 pub extern "C" fn linker_utils_pack_nonnull(
     section: &[u8],
@@ -60,6 +60,8 @@ pub extern "C" fn linker_utils_pack_nonnull(
     packed: &mut [u8],
     faulty: &mut usize,
 ) -> u32
+    ensures listed { IsOneOf (Status.Success ∷ Status.UnknownLinkRegister
+        ∷ Status.DifferentLengths ∷ call_statuses) result }
     ensures unknown_link { (result ≡ code Status.UnknownLinkRegister) ↔ IsNone (named_link link) }
     ensures not_apart { IfSome (named_link link) (λ register.
         (result ≡ code Status.CallsNotApart) ↔ ¬ AreApart (calls_in calls.now)) }
@@ -75,6 +77,7 @@ pub extern "C" fn linker_utils_pack_nonnull(
     ensures unchanged { result ≢ code Status.Success → packed.new ≡ packed.old }
     ensures faulty_call { result ≡ code Status.CallsNotApart
         → IsFirstNotApart (calls_in calls.now) faulty.new }
+    ensures faulty_stays { ¬ IsOneOf call_statuses result → faulty.new ≡ faulty.old }
 {
     match chosen_register(link) {
         Some(register) => pack(section, deltas, calls, register, packed, faulty),
@@ -90,6 +93,7 @@ fn pack(
     packed: &mut [u8],
     faulty: &mut usize,
 ) -> u32
+    ensures listed { IsOneOf (Status.Success ∷ Status.DifferentLengths ∷ call_statuses) result }
     ensures known { result ≢ code Status.UnknownLinkRegister }
     ensures not_apart { (result ≡ code Status.CallsNotApart) ↔ ¬ AreApart (calls_in calls.now) }
     ensures different_lengths { AreValidDeltas deltas.now → AreApart (calls_in calls.now)
@@ -102,6 +106,7 @@ fn pack(
     ensures unchanged { result ≢ code Status.Success → packed.new ≡ packed.old }
     ensures faulty_call { result ≡ code Status.CallsNotApart
         → IsFirstNotApart (calls_in calls.now) faulty.new }
+    ensures faulty_stays { ¬ IsOneOf call_statuses result → faulty.new ≡ faulty.old }
 {
     if let Some(at) = first_not_apart(calls) {
         *faulty = at;

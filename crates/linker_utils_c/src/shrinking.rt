@@ -44,7 +44,7 @@ pub extern "C" fn linker_utils_calls_shrinkable_nonnull(
 /// once all of them have given up the four bytes after their first instruction.
 ///
 /// The first that applies of `DifferentLengths`, where `chosen` has not as many bytes as there are
-/// calls; and `CallsNotShrinkable`, as `linker_utils_calls_shrinkable`. Nothing is written then.
+/// calls; and `CallsNotShrinkable`, as `linker_utils_calls_shrinkable`. `chosen` is unchanged then.
 #[unsafe(no_mangle)]
 pub extern "C" fn linker_utils_shrink_calls_nonnull(
     deltas: &[RelaxDelta],

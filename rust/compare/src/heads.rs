@@ -3,7 +3,7 @@
 //! with them.
 //!
 //! Each call is safe for any heads, and what it returns is promised of those that
-//! `linker_utils_deltas_heads` wrote of the same deltas.
+//! `linker_utils_deltas_heads` wrote of the same deltas, and of any that aren't as many as blocks.
 
 use crate::status::Status;
 use linker_utils::relaxation::{BlockHead, DeltaSlice, RelaxDelta};

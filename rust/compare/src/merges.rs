@@ -32,7 +32,7 @@ pub fn linker_utils_deltas_is_mergeable_nonnull(
 /// `InvalidDeletions`, of the delta at `faulty`; `NotMergeable`, of the additional deletion at
 /// `faulty`, which overlaps a delta or an earlier one, or ends above 2^64 - 1; and `OutOfMemory`.
 /// It takes no memory where the additional deletions ascend and can be merged, and else memory for
-/// one copy of them.
+/// one copy of them. Where that is refused the work is as in `linker_utils_deltas_is_mergeable`.
 pub fn linker_utils_deltas_merge_nonnull(
     deltas: &[RelaxDelta],
     additional: &[Deletion],
@@ -63,25 +63,26 @@ pub fn linker_utils_deltas_merge_nonnull(
 
 // Why additional deletions aren't merged.
 enum MergeError {
+    // They can be merged.
     OutOfMemory,
     // The index of the first that can't be merged.
     Overlapping(usize),
 }
 
-impl From<OutOfMemory> for MergeError {
-    fn from(_error: OutOfMemory) -> MergeError {
-        MergeError::OutOfMemory
-    }
-}
-
-// Merges deletions in any order: sorted, they are tested in the fewest steps.
+// Merges deletions in any order: sorted, they are tested in the fewest steps. Without memory to
+// sort a copy they are tested as they are.
 fn merge_sorted(
     deltas: &[RelaxDelta],
     additional: &[Deletion],
     merged: &mut [RelaxDelta],
 ) -> Result<(), MergeError> {
     let slice = DeltaSlice::new(deltas);
-    let mut sorted = pairs(additional)?;
+    let Ok(mut sorted) = pairs(additional) else {
+        return Err(match slice.first_overlapping(additional) {
+            Some(at) => MergeError::Overlapping(at),
+            None => MergeError::OutOfMemory,
+        });
+    };
     sorted.sort_unstable_by_key(|pair| pair.0);
     if !slice.can_merge_ascending(&sorted) {
         if let Some(at) = slice.first_overlapping(additional) {

@@ -36,7 +36,7 @@ pub fn linker_utils_packed_len_nonnull(section: &[u8], deltas: &[RelaxDelta]) ->
 /// the first call whose site is less than 4 above the one before it; `DifferentLengths`, where
 /// `packed` has not `linker_utils_packed_len` bytes; and of the first call that can't become a
 /// jump, whose index is `faulty`, `OutOfSection`, `SiteDeleted`, `NotACall`, `OddDistance` and
-/// `TooFar`. Nothing is written then.
+/// `TooFar`. `packed` is unchanged then. `faulty` changes only with a status that is about a call.
 pub fn linker_utils_pack_nonnull(
     section: &[u8],
     deltas: &[RelaxDelta],

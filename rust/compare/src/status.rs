@@ -22,7 +22,8 @@ pub enum Status {
     CannotApply,
     /// The register is not one from 0 to 30.
     BadRegister,
-    /// The four bytes at the site do not lie in the section, or the target is past its end.
+    /// The four bytes at the site, or the eight where the `jalr`'s register is linked, do not lie in
+    /// the section, or the target is past its end.
     OutOfSection,
     /// One of the four bytes at the site is deleted.
     SiteDeleted,

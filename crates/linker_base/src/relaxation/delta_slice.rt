@@ -65,7 +65,8 @@ impl<'a> DeltaSlice<'a> {
     #[inline(always)]
     pub fn with_heads(&self, heads: &'a [BlockHead]) -> Option<BlockedSlice<'a>>
         ensures { MatchOption result (length heads.now ≢ blocks_of (length self.now))
-            (λ blocked. blocked ≡ record { deltas = self.now; heads = heads.now }) }
+            (λ blocked. (length heads.now ≡ blocks_of (length self.now))
+            × (blocked ≡ record { deltas = self.now; heads = heads.now })) }
     {
         if heads.len() != self.block_count() {
             return None;
@@ -77,7 +78,8 @@ impl<'a> DeltaSlice<'a> {
     #[inline(always)]
     fn with_many_heads(&self, heads: &'a [BlockHead]) -> Option<BlockedSlice<'a>>
         ensures { IfSome result (λ blocked.
-            blocked ≡ record { deltas = self.now; heads = heads.now }) }
+            (length heads.now ≡ blocks_of (length self.now))
+            × (blocked ≡ record { deltas = self.now; heads = heads.now })) }
     {
         if self.deltas.len() <= FEW {
             return None;
@@ -179,7 +181,10 @@ impl<'a> DeltaSlice<'a> {
     /// deltas are more than a few, and not at all where they aren't as many as blocks. O(log n).
     #[inline(always)]
     pub fn input_to_output_by_heads(&self, heads: &'a [BlockHead], input_offset: u64) -> u64
-        ensures { AreValidDeltas self.now → AreHeads self.now heads.now
+        ensures by_heads { AreValidDeltas self.now → AreHeads self.now heads.now
+            → result ≡ rank (deletions_of self.now) input_offset }
+        ensures other_count { AreValidDeltas self.now
+            → length heads.now ≢ blocks_of (length self.now)
             → result ≡ rank (deletions_of self.now) input_offset }
     {
         match self.with_many_heads(heads) {
@@ -196,7 +201,11 @@ impl<'a> DeltaSlice<'a> {
         heads: &'a [BlockHead],
         output_offset: u64,
     ) -> Option<u64>
-        ensures { AreValidDeltas self.now → AreHeads self.now heads.now
+        ensures by_heads { AreValidDeltas self.now → AreHeads self.now heads.now
+            → MatchOption result (¬ (HasInput (deletions_of self.now) output_offset))
+            (IsSelected (deletions_of self.now) output_offset) }
+        ensures other_count { AreValidDeltas self.now
+            → length heads.now ≢ blocks_of (length self.now)
             → MatchOption result (¬ (HasInput (deletions_of self.now) output_offset))
             (IsSelected (deletions_of self.now) output_offset) }
     {
