@@ -202,8 +202,8 @@ enum linker_utils_aarch64_rewrite {
     LINKER_UTILS_AARCH64_REWRITE_ADRP_TO_ADR = 6,
     LINKER_UTILS_AARCH64_REWRITE_ADRP_X0 = 7, /* adrp x0, of distance 0 */
     LINKER_UTILS_AARCH64_REWRITE_LDR_X0 = 8, /* ldr x0, [x0] */
-    LINKER_UTILS_AARCH64_REWRITE_ADD_TO_ADR = 9, /* the old immediate's bits stay */
-    LINKER_UTILS_AARCH64_REWRITE_LDR_TO_ADR = 10, /* the old immediate's bits stay */
+    LINKER_UTILS_AARCH64_REWRITE_ADD_TO_ADR = 9, /* the old immediate is unchanged */
+    LINKER_UTILS_AARCH64_REWRITE_LDR_TO_ADR = 10, /* the old immediate is unchanged */
     LINKER_UTILS_AARCH64_REWRITE_LDR_TO_ADD = 11, /* from an ldr of 64 bits */
     LINKER_UTILS_AARCH64_REWRITE_ADRP_ADD_TO_NOP_ADR = 12 /* the adrp 4 bytes before, and add */
 };
@@ -307,13 +307,13 @@ enum linker_utils_relocation_kind {
     /* S + A, of which the instruction takes bits of the offset in the page */
     LINKER_UTILS_KIND_ABSOLUTE_LOW_PART = 2,
     LINKER_UTILS_KIND_ABSOLUTE_SET = 3, /* S + A */
-    /* S + A in the low 6 bits of the byte, whose upper 2 bits stay */
+    /* S + A in the low 6 bits of the byte, whose upper 2 bits are unchanged */
     LINKER_UTILS_KIND_ABSOLUTE_SET_WORD6 = 4,
     LINKER_UTILS_KIND_ABSOLUTE_ADDITION = 5, /* V + S + A */
-    /* V + S + A in the low 6 bits of the byte, whose upper 2 bits stay */
+    /* V + S + A in the low 6 bits of the byte, whose upper 2 bits are unchanged */
     LINKER_UTILS_KIND_ABSOLUTE_ADDITION_WORD6 = 6,
     LINKER_UTILS_KIND_ABSOLUTE_SUBTRACTION = 7, /* V - S - A */
-    /* V - S - A in the low 6 bits of the byte, whose upper 2 bits stay */
+    /* V - S - A in the low 6 bits of the byte, whose upper 2 bits are unchanged */
     LINKER_UTILS_KIND_ABSOLUTE_SUBTRACTION_WORD6 = 8,
     /* (S + A of the R_RISCV_SET_ULEB128 before it, at the same offset) - S - A, as a ULEB128 number
      * of the same length; the R_RISCV_SET_ULEB128 itself writes nothing */

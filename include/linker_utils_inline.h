@@ -1,6 +1,6 @@
 /* The inline functions of linker_utils.h, which includes this file and says what they do.
  *
- * The archive's exports take no null pointer to a slice, even where its count is 0. So each function
+ * No export of the archive takes a null pointer to a slice, even where its count is 0. So each of these
  * puts the address of an array in place of null, and calls the export of the same name that ends in
  * `_nonnull`. It puts a variable in place of a null `faulty`. */
 #ifndef LINKER_UTILS_INLINE_H

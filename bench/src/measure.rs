@@ -75,7 +75,7 @@ impl Report {
         }
     }
 
-    /// Begins a table, whose lines are beside the original crate or something else.
+    /// Begins a table, whose lines are compared with the original crate or something else.
     pub fn heading(&mut self, title: &str, beside: &str) {
         println!("\n### {title}\n");
         let columns = |ours: &str| format!("{ours}, ns | {beside}, ns | ratio | spread |");

@@ -295,7 +295,7 @@ numbered! {
     Uleb128Role: u32 {
         /// It is the number that the second of the pair subtracts from.
         Sets = 1,
-        /// It is added to the number that stands there.
+        /// It is added to the existing number.
         Adds = 2,
         /// It is subtracted from what the first of the pair has made.
         Subtracts = 3,
