@@ -5,10 +5,10 @@
  * status 1 and the number of the call, which can be made alone: `hostile 1 SEED NUMBER`.
  *
  * Each buffer lies right before an inaccessible page, or right after one. What a call only reads
- * lies in read-only pages. With any status but LINKER_UTILS_OK every byte of what the call may write
- * is unchanged, except for `faulty`, and with LINKER_UTILS_OK every byte beyond what the call writes.
- * The bytes around the buffers never change. Memory that the archive allocates lies before an
- * inaccessible page too, and is inaccessible once it is freed.
+ * lies in read-only pages. With any status but LINKER_UTILS_OK every byte of what the call may
+ * write is unchanged, except for `faulty`, and with LINKER_UTILS_OK every byte beyond what the call
+ * writes. The bytes around the buffers never change. Memory that the archive allocates lies before
+ * an inaccessible page too, and is inaccessible once it is freed.
  *
  * That it finds mistakes is tested each time too: `run` links it with the faults of faults.c, and
  * it has to find each. By hand it was also compiled over three changed copies of the header, in
