@@ -1,162 +1,174 @@
-"""The contracts of the source's functions: what a `requires` is called, and which test tells it."""
+"""The contracts of the source's functions: what a `requires` is called, and which Rust tests it."""
 import re
+from collections import Counter
 
+PRELUDE, SPECS = r"Rattle\.std\.specs\.Prelude", r"Rattle\.linker_\w+\.specs"
 # Clauses that a test tells in other words than its contract's.
 IN_OTHER_WORDS = {
-    r"IsAboveAll self (\w+)": r"self.last_index().is_none_or(|last| last < \1)",
-    r"finite\.get self (\w+) ≡ None": r"self.get(\1).is_none()",
+    rf"{SPECS}\.Sections\.IsAboveAll self (\w+)": r"self.last_index().is_none_or(|last| last < \1)",
+    rf"Rattle\.std\.specs\.FinMap\.get self (\w+) ≡ {PRELUDE}\.None": r"self.get(\1).is_none()",
+    rf"{SPECS}\.Packing\.AreApart \({PRELUDE}\.map C\.call (\w+)\)": r"first_not_apart(\1).is_none()",
 }
-# Numbers and comparisons of a clause, in Rust.
-IN_RUST = {r"length (\w+)": r"\1.len()", r"2 \^ (\d+)": r"1 << \1", "≡": "==", "≤": "<="}
-CLAUSE = re.compile(r"\b(requires|ensures)\b(.*)", re.S)
-TELLS = re.compile(r"(IsTrue result ↔|result ≡|MatchOption result) (.+)")
-TERM = r"([\w.:]+(\(\w*\))?|1 << \d+)"
-COMPARISON = re.compile(rf"{TERM}( [+*] {TERM})* (==|<=|<) {TERM}( [+*] {TERM})*")
+# Requirements that no test tells, by function and name.
+UNTESTED = {"head.room", "delta.room", "input_to_output_counted.room", "output_to_input_counted.fits",
+            "output_to_input_counted.room", "of.fits", "write.prepared", "pack_into.room",
+            "shrink_calls_into.shrinkable"}
+COMPARISONS = {"≡": "==", "≤": "<=", "<": "<"}
 
 
-class Function:
-    """A function's head: where it stands, its parameters, and its clauses."""
-
-    def __init__(self, source, found, owner, trait):
-        self.source, self.name, self.owner, self.trait = source, found[1], owner, trait
-        opening = source.past(found.end(), "(")
-        self.parameters = {}
-        for first, past in source.list_of(opening):
-            name, _, kind = source.text[first:past].removeprefix("mut ").partition(":")
-            self.parameters["self" if name.endswith("self") else name] = kind.strip() or name
-        self.clauses = {"requires": [], "ensures": []}
-        here = source.pair[opening] + 1
-        while clause := CLAUSE.search(source.code, here, brace := source.past(here, "{;")):
-            here = source.pair[brace] + 1
-            text = " ".join(re.sub(r"--.*", "", source.text[brace + 1:here - 1]).split())
-            text = re.sub(r"\.(now|old|new|entry)\b", "", text)
-            self.clauses[clause[1]].append((clause[2].strip(" *\n"), text))
-        self.body = brace + 1 if source.code[brace] == "{" else None
-        line = source.line_start(found.start())
-        words = source.text[line:found.start()]
-        self.indent = re.match(" *", words)[0]
-        self.start = source.above(line, "#[")
-        self.inherits = trait and owner
-        self.is_public = re.match(" *pub ", words) or trait and not owner
-
-    def rules(self):
-        """What the function tells: patterns of a condition or of a number, and what follows the call."""
-        variables = set(self.parameters)
-        if any("&mut" in kind for kind in self.parameters.values()):
-            return
-        if not self.owner:
-            variables |= set(re.findall(r"\bghost (\w+)", self.source.text))
-        for _, text in self.clauses["ensures"]:
-            told = TELLS.fullmatch(text)
-            if not told:
-                continue
-            kind, clause = told[1], told[2]
-            if kind == "MatchOption result":
-                clause = re.match(r"\((.*?)\) [({]|", clause)[1] or ""
-            if " " not in clause:
-                continue
-            seen, pattern = set(), ""
-            for word in re.findall(r"\w+|\W", clause):
-                if word not in variables:
-                    pattern += re.escape(word)
-                else:
-                    pattern += f"(?P={word})" if word in seen else rf"(?P<{word}>[\w.]+)"
-                    seen.add(word)
-            suffix = ".is_none()" if kind == "MatchOption result" else ""
-            yield re.compile(pattern), kind != "result ≡", suffix
+def operands(text):
+    """The operands of a term and the marks between them, in turn. Parentheses are an operand's."""
+    parts = [""]
+    for word in text.split():
+        if word in ("+", "*", *COMPARISONS) and parts[-1].count("(") == parts[-1].count(")"):
+            parts += [word, ""]
+        else:
+            parts[-1] = f"{parts[-1]} {word}".strip()
+    return parts
 
 
 class Contracts:
     def __init__(self, sources):
-        self.functions, self.traits = [], {}
-        for source in sources:
-            blocks = []
-            for block in source.find(r"^ *(?:pub )?(impl|trait)\b([^{;]*)\{"):
-                head = re.findall(r"\w+", block[2])
-                names = [word for word in head if re.match(r"[A-Z]\w", word)] + [""]
-                owner, trait = names[0], ""
-                if block[1] == "trait":
-                    owner, trait = "", names[0]
-                elif "for" in head:
-                    owner, trait = head[head.index("for") + 1], names[0]
-                    self.traits.setdefault(owner, set()).add(trait)
-                blocks.append((block.end(), source.pair[block.end() - 1], owner, trait))
-            for found in source.find(r"\bfn (\w+)"):
-                inside = [block[2:] for block in blocks if block[0] < found.start() < block[1]]
-                self.functions.append(Function(source, found, *(inside or [("", "")])[-1]))
-        self.rules = [(function, *rule) for function in self.functions for rule in function.rules()]
+        self.functions = [function for source in sources for function in source.functions]
+        self.defined = Counter(name for source in sources for name in source.types)
+        self.members = {block: members for source in sources for block, members in source.members.items()}
+        self.tellers = []
+        for function in self.functions:
+            if not any("&mut" in kind for kind in function.parameters.values()):
+                for kind, _, text in function.clauses:
+                    told = re.fullmatch(rf"({PRELUDE}\.IsTrue result ↔|result ≡) (.+ .+)",
+                                        function.source.meant(text, function.parameters))
+                    if told and kind == "ensures":
+                        self.tellers.append((function, told[1][-1], self.pattern(function, told[2])))
+
+    def pattern(self, function, clause):
+        """What tells a clause, by the function's parameters and the members of its trait."""
+        names, seen = {*function.parameters, *self.members.get((function.owner, function.trait), ())}, set()
+
+        def group(word):
+            name, dot, rest = word[0].partition(".")
+            if name not in names:
+                return re.escape(word[0])
+            is_first = name not in seen and not seen.add(name)
+            return (rf"(?P<{name}>\w[\w.]*)" if is_first else f"(?P={name})") + re.escape(dot + rest)
+
+        return re.compile(re.sub(r"[\w.]+|[^\w.]", group, clause))
 
     def requirements(self, function):
         """Each `requires`: its name, its text, and the Rust that tests it or None."""
-        clauses = function.clauses["requires"]
-        if function.inherits and not clauses:
-            for declared in self.functions:
-                if (declared.trait, declared.owner, declared.name) == (function.trait, "", function.name):
-                    names = dict(zip(declared.parameters, function.parameters))
-                    clauses = [(label, re.sub(r"\w+", lambda word: names.get(word[0], word[0]), text))
-                               for label, text in declared.clauses["requires"]]
-        return [(label, text, self.test(text, function)) for label, text in clauses]
+        declared, names = function, {}
+        if function.inherits and not any(kind == "requires" for kind, *_ in function.clauses):
+            declared = next((it for it in self.functions if it.is_public and (it.trait, it.owner, it.name)
+                             == (function.trait, "", function.name)), function)
+            names = dict(zip(declared.parameters, function.parameters))
+        for kind, label, text in declared.clauses:
+            if kind == "requires":
+                meant = declared.source.meant(text, declared.parameters)
+                meant = re.sub(r"(?<![\w.])\w+", lambda word: names.get(word[0], word[0]), meant)
+                yield label, text, self.test(meant, function)
 
     def test(self, text, function):
         for pattern, test in IN_OTHER_WORDS.items():
             if re.fullmatch(pattern, text):
                 return re.sub(pattern, test, text)
-        for teller, pattern, is_condition, suffix in self.rules:
-            told = pattern.fullmatch(text) if is_condition else pattern.search(text)
-            call = told and teller is not function and self.call(teller, told.groupdict(), function)
-            if call and is_condition:
-                return call + suffix
-            if call:
-                text = text.replace(told[0], call)
-        for pattern, rust in IN_RUST.items():
-            text = re.sub(pattern, rust, text)
-        names = re.findall(r"(?<![\w.:(])[a-z_]\w*", text)
-        if not COMPARISON.fullmatch(text) or not set(names) <= set(function.parameters):
+        return self.told(text, "↔", function)[0] or self.comparison(text, function)
+
+    def comparison(self, text, function):
+        """A comparison of sums. It computes in 128 bits, at most 16 products with literals below 10^9."""
+        parts = operands(text)
+        marks, numbers = parts[1::2], [self.number(part, function) for part in parts[::2]]
+        kinds = [kind for _, kind in numbers]
+        if sum(mark in COMPARISONS for mark in marks) != 1 or None in kinds or len(marks) > 16:
             return None
-        if re.search(" [+*] ", text):
-            text = re.sub(r"(?<![\w.:(])[A-Za-z_][\w.:]*(\(\w*\))?", r"(\g<0> as u128)", text)
-        return text
+        wide = "i128" if any(kind[0] == "i" for kind in kinds) else "u128"
+        for at, (number, kind) in enumerate(numbers):
+            around = marks[max(at - 1, 0):at + 1]
+            if around == ["*", "*"] or marks[at:at + 1] == ["*"] and "literal" not in kinds[at:at + 2]:
+                return None
+            is_wide = kind not in ("literal", "power") and (marks[1:] or "power" in kinds)
+            is_part = kind == "power" and set(around) - set(COMPARISONS)
+            parts[2 * at] = f"({number} as {wide})" if is_wide else f"({number})" if is_part else number
+        return " ".join(COMPARISONS.get(part, part) for part in parts)
+
+    def number(self, text, function):
+        """A number in Rust, and its type, `literal` or `power` of two, or None if that isn't known."""
+        if re.fullmatch(r"\d{1,9}", text):
+            return text, "literal"
+        if power := re.fullmatch(r"2 \^ (\d\d?)", text):
+            return f"1 << {power[1]}", "power"
+        length = re.fullmatch(rf"{PRELUDE}\.length (\w+)", text)
+        if length and re.match(r"&(mut)?\[|&?Vec<", function.parameters.get(length[1], "")):
+            return f"{length[1]}.len()", "usize"
+        name, _, end = text.partition(".")
+        of = r"Range<(.+)>" if end in ("start", "end") else "(.+)" if not end else "-"
+        kind = re.fullmatch(of, function.parameters.get(name, ""))
+        number, kind = (text, kind[1]) if kind else self.told(text, "≡", function)
+        return number, kind if re.fullmatch(r"[iu](8|16|32|64|size)", kind or "") else None
+
+    def told(self, text, kind, function):
+        """The call of a function that tells a term, and the type of what it returns."""
+        for teller, told_kind, pattern in self.tellers:
+            found = told_kind == kind and teller is not function and pattern.fullmatch(text)
+            call = found and self.call(teller, found.groupdict(), function)
+            if call:
+                return call, teller.result
+        return None, None
 
     def call(self, teller, found, function):
-        """The call of a function that tells a clause, with the caller's own arguments."""
-        if not teller.is_public and teller.source is not function.source:
-            return None
-        arguments = [found.get(name, "self") for name in teller.parameters]
+        """The call of a function with the caller's own arguments, or None."""
+        members = self.members.get((function.owner, teller.trait), {})
+        is_near = teller.source is function.source
+        arguments = [found.get(name, "") for name in teller.parameters]
         kinds = [function.parameters.get(argument.split(".")[0]) for argument in arguments]
-        if None in kinds:
+        if None in kinds or not is_near and (not teller.is_public or self.defined[teller.owner] > 1) or any(
+                found[name] != members.get(name) and (found[name], function.trait) != (name, teller.trait)
+                for name in found.keys() - teller.parameters.keys()):
             return None
         for at, (name, kind) in enumerate(teller.parameters.items()):
             if kinds[at].startswith("&mut") and not kind.startswith("&") and name != "self":
                 arguments[at] = "*" + arguments[at]
         listed = ", ".join(arguments)
-        if "self" in teller.parameters:
-            same = teller.owner == function.owner if teller.owner else (
-                teller.trait in self.traits.get(function.owner, {function.trait}))
-            if not (same if arguments[0] == "self" else teller.owner and teller.owner in kinds[0]):
-                return None
-            traits = {other.trait for other in self.functions if other.name == teller.name} - {""}
-            if teller.trait and len(traits) > 1:
-                borrow = "&" if teller.parameters["self"][0] == "&" and kinds[0] == "self" else ""
-                return f"{teller.trait}::{teller.name}({borrow}{listed})"
-            return f"{arguments[0]}.{teller.name}({', '.join(arguments[1:])})"
-        if teller.owner != function.owner if teller.owner else teller.source is not function.source:
-            return None
-        return f"{teller.owner}::{teller.name}({listed})".removeprefix("::")
+        if "self" not in teller.parameters:
+            is_own = teller.owner == function.owner if teller.owner else is_near and not teller.trait
+            return f"{teller.owner}::{teller.name}({listed})".removeprefix("::") if is_own else None
+        if arguments[0] != "self":
+            is_own = teller.owner == re.sub(r"&(mut)?|<.*", "", kinds[0])
+        elif teller.owner:
+            is_own = teller.owner == function.owner
+        else:
+            is_own = (function.owner, teller.trait) in self.members if function.owner else (
+                function.trait == teller.trait)
+        traits = {it.trait for it in self.functions if it.name == teller.name} - {""}
+        if is_own and teller.trait and len(traits) > 1:
+            borrow = "&" if teller.parameters["self"][0] == "&" and kinds[0] == "self" else ""
+            return f"{teller.trait}::{teller.name}({borrow}{listed})"
+        return f"{arguments[0]}.{teller.name}({', '.join(arguments[1:])})" if is_own else None
 
 
 def state_requirements(source, contracts):
-    """A section `# Requires` in the docs of each public function, and the tests in its body."""
-    for function in contracts.functions:
-        if function.source is not source or not (function.is_public or function.inherits):
-            continue
-        requirements, indent = contracts.requirements(function), function.indent
-        if requirements and not function.inherits:
-            lines = ["", "# Requires", ""]
-            for label, words, test in requirements:
-                lines.append("- " + (f"{label}: " if label else "") + f"`{test or words}`")
-            docs = "".join(f"{indent}/// {line}".rstrip() + "\n" for line in lines)
-            source.replace(function.start, function.start, docs)
-        asserts = "".join(f"\n{indent}    debug_assert!({test});" for _, _, test in requirements if test)
-        if asserts and function.body:
-            end = "" if source.text[function.body] == "\n" else "\n" + indent
-            source.replace(function.body, function.body, asserts + end)
+    """A section `# Requires` in the docs of each public function, the tests in its body, and attributes:
+    what a test names is the caller, and a call that only returns something is for its result."""
+    for function in source.functions:
+        requirements, start = list(contracts.requirements(function)), source.start(function.first)
+        indent = " " * (start - source.text.rfind("\n", 0, start) - 1)
+        asserts = "".join(f"\n{indent}    debug_assert!({test});" for *_, test in requirements if test)
+        lines, body = [], source.end(function.body)
+        for label, text, test in requirements if function.is_public or function.inherits else []:
+            if not test and f"{function.name}.{label}" not in UNTESTED:
+                source.stop(function.fn, f"no test tells `{text}`")
+        if requirements and function.is_public:
+            lines = ["///", "/// # Requires", "///"]
+            lines += ["/// - " + f"{label}: " * bool(label) + f"`{test or text}`"
+                      for label, text, test in requirements]
+        if function.is_public and function.result and not function.result.startswith("Result<") and not any(
+                "&mut" in kind for kind in function.parameters.values()):
+            lines.append("#[must_use]")
+        if asserts and source[function.body] == "{" and (function.is_public or function.inherits):
+            lines.append("#[cfg_attr(debug_assertions, track_caller)]")
+            source.replace(body, body, asserts + ("" if source.text[body] == "\n" else "\n" + indent))
+        if lines and source.text[start - len(indent):start].strip():
+            source.stop(function.first, "an item that is not at the start of its line")
+        if lines and "///" in source.text[start:source.start(function.fn)]:
+            source.stop(function.first, "docs below an attribute")
+        start -= len(indent)
+        source.replace(start, start, "".join(f"{indent}{line}\n" for line in lines))

@@ -8,6 +8,8 @@ extern crate alloc;
 
 #[macro_use]
 mod support;
+#[cfg(test)]
+mod tests;
 
 mod errors;
 mod linker_base;

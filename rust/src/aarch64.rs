@@ -1,8 +1,8 @@
 // Made by tools/erase of crates/linker_utils/src/aarch64.rt.
 //! AArch64: instruction forms, relaxation rewrites, and the moves that load a number of 64 bits.
+//!
 #![doc = include_str!("../doc/aarch64.md")]
 
-pub mod laws;
 mod relocations;
 
 use crate::bit_misc::BitExtraction;
@@ -103,6 +103,7 @@ impl RelaxationKind {
     /// # Requires
     ///
     /// - `self.can_apply(section_bytes, *offset_in_section)`
+    #[cfg_attr(debug_assertions, track_caller)]
     #[inline]
     pub fn apply(self, section_bytes: &mut [u8], offset_in_section: &mut u64, addend: &mut i64) {
         debug_assert!(self.can_apply(section_bytes, *offset_in_section));
@@ -146,6 +147,7 @@ impl RelaxationKind {
     /// Whether `apply` may be called at an offset of a section: the window lies in the section,
     /// and, for `MovkXn` and `LdrToAdd`, the instruction meets their requirement. For the other
     /// kinds the instruction is not tested.
+    #[must_use]
     #[inline]
     pub fn can_apply(self, section: &[u8], offset: u64) -> bool {
         match self {
@@ -177,6 +179,7 @@ impl RelaxationKind {
     }
 
     /// What happens to the next relocation: it is applied as usual.
+    #[must_use]
     #[inline]
     pub fn next_modifier(&self) -> RelocationModifier {
         RelocationModifier::Normal
@@ -184,6 +187,7 @@ impl RelaxationKind {
 }
 
 impl InstructionRewrite for RelaxationKind {
+    #[cfg_attr(debug_assertions, track_caller)]
     #[inline(always)]
     fn apply(self, section: &mut [u8], offset: &mut u64, addend: &mut i64) {
         debug_assert!(self.can_apply(section, *offset));
@@ -215,6 +219,7 @@ fn mov(opcode: u32, rd: u32, bits: u64) -> u32 {
 ///
 /// - room: `16 <= dest.len()`
 /// - register: `rd <= 30`
+#[cfg_attr(debug_assertions, track_caller)]
 #[inline]
 pub fn write_mov_sequence(dest: &mut [u8], rd: u32, value: u64) {
     debug_assert!(16 <= dest.len());
@@ -388,6 +393,7 @@ impl AArch64Instruction {
     ///
     /// - room: `self.window() <= dest.len()`
     /// - fits: `self.fits(extracted_value, dest)`
+    #[cfg_attr(debug_assertions, track_caller)]
     #[inline]
     pub fn write_to_value(self, extracted_value: u64, negative: bool, dest: &mut [u8]) {
         debug_assert!(self.window() <= dest.len());
@@ -402,6 +408,8 @@ impl AArch64Instruction {
     /// # Requires
     ///
     /// - `self.window() <= bytes.len()`
+    #[must_use]
+    #[cfg_attr(debug_assertions, track_caller)]
     #[inline]
     pub fn read_value(self, bytes: &[u8]) -> (u64, bool) {
         debug_assert!(self.window() <= bytes.len());
@@ -435,6 +443,7 @@ impl InstructionForm for AArch64Instruction {
         4
     }
 
+    #[cfg_attr(debug_assertions, track_caller)]
     #[inline]
     fn fits(self, value: u64, bytes: &[u8]) -> bool {
         debug_assert!(self.window() <= bytes.len());
@@ -445,6 +454,7 @@ impl InstructionForm for AArch64Instruction {
         }
     }
 
+    #[cfg_attr(debug_assertions, track_caller)]
     #[inline]
     fn write(self, value: u64, negative: bool, dest: &mut [u8]) {
         debug_assert!(self.window() <= dest.len());
@@ -452,6 +462,7 @@ impl InstructionForm for AArch64Instruction {
         self.write_to_value(value, negative, dest);
     }
 
+    #[cfg_attr(debug_assertions, track_caller)]
     #[inline]
     fn read(self, bytes: &[u8]) -> (u64, bool) {
         debug_assert!(self.window() <= bytes.len());

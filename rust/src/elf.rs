@@ -1,6 +1,7 @@
 // Made by tools/erase of crates/linker_utils/src/elf.rt.
 //! The vocabulary of relocations, the forms of instructions that hold a value, and the interfaces
 //! of forms and of rewrites.
+//!
 #![doc = include_str!("../doc/elf.md")]
 
 pub(crate) mod engine;
@@ -50,6 +51,7 @@ pub enum Architecture {
 
 impl Architecture {
     /// The architecture of a file by `e_machine` of its ELF header. `None` for any other machine.
+    #[must_use]
     pub fn from_machine(e_machine: u16) -> Option<Architecture> {
         match e_machine {
             183 => Some(Architecture::AArch64),
@@ -63,6 +65,7 @@ impl Architecture {
 
     /// `e_machine` in the ELF header of the architecture's files: `EM_AARCH64` 183, `EM_RISCV` 243,
     /// `EM_LOONGARCH` 258, `EM_PPC64` 21 or `EM_X86_64` 62.
+    #[must_use]
     pub fn machine(self) -> u16 {
         match self {
             Architecture::AArch64 => 183,
@@ -197,6 +200,7 @@ pub enum RelocationSize {
 
 impl RelocationSize {
     /// Bits `start` and up, below `end`, into an AArch64 instruction.
+    #[must_use]
     pub fn bit_mask_aarch64(start: u8, end: u8, insn: AArch64Instruction) -> RelocationSize {
         RelocationSize::BitMasking {
             range: BitRange { start, end },
@@ -205,6 +209,7 @@ impl RelocationSize {
     }
 
     /// Bits `start` and up, below `end`, into a RISC-V instruction.
+    #[must_use]
     pub fn bit_mask_riscv(start: u8, end: u8, insn: RiscVInstruction) -> RelocationSize {
         RelocationSize::BitMasking {
             range: BitRange { start, end },
@@ -213,6 +218,7 @@ impl RelocationSize {
     }
 
     /// Bits `start` and up, below `end`, into a PowerPC64 instruction.
+    #[must_use]
     pub fn bit_mask_ppc64(start: u8, end: u8, insn: Ppc64Instruction) -> RelocationSize {
         RelocationSize::BitMasking {
             range: BitRange { start, end },
@@ -221,6 +227,7 @@ impl RelocationSize {
     }
 
     /// Bits `start` and up, below `end`, into a LoongArch instruction.
+    #[must_use]
     pub fn bit_mask_loongarch64(start: u8, end: u8, insn: LoongArch64Instruction) -> RelocationSize {
         RelocationSize::BitMasking {
             range: BitRange { start, end },
@@ -265,6 +272,7 @@ pub struct Bias {
 
 impl Bias {
     /// A bias of `value`; `None` for 0.
+    #[must_use]
     pub fn from_value(value: u64) -> Option<Bias> {
         if value == 0 {
             None
@@ -274,6 +282,7 @@ impl Bias {
     }
 
     /// The number.
+    #[must_use]
     pub fn value(self) -> u64 {
         self.value
     }
@@ -297,6 +306,7 @@ pub struct AllowedRange {
 
 impl AllowedRange {
     /// From `min` up to, and not including, `max`.
+    #[must_use]
     pub fn new(min: i64, max: i64) -> AllowedRange {
         AllowedRange {
             bounds: Some((min, max)),
@@ -304,6 +314,7 @@ impl AllowedRange {
     }
 
     /// Every value.
+    #[must_use]
     pub fn no_check() -> AllowedRange {
         AllowedRange { bounds: None }
     }
@@ -314,6 +325,8 @@ impl AllowedRange {
     ///
     /// - some: `1 <= n`
     /// - short: `n <= 62`
+    #[must_use]
+    #[cfg_attr(debug_assertions, track_caller)]
     pub fn from_bit_size(n: u32, sign: Sign) -> AllowedRange {
         debug_assert!(1 <= n);
         debug_assert!(n <= 62);
@@ -329,6 +342,8 @@ impl AllowedRange {
     ///
     /// - some: `1 <= k`
     /// - short: `k <= 8`
+    #[must_use]
+    #[cfg_attr(debug_assertions, track_caller)]
     pub fn from_byte_size(k: u32, sign: Sign) -> AllowedRange {
         debug_assert!(1 <= k);
         debug_assert!(k <= 8);
@@ -341,6 +356,7 @@ impl AllowedRange {
 
     /// Whether a value is in the range. Where two instructions hold the value, a row's range may be
     /// wider than what they reach: see `RelocationKindInfo::reach`.
+    #[must_use]
     pub fn contains(self, v: i64) -> bool {
         match self.bounds {
             Some((min, max)) => min <= v && v < max,
@@ -383,6 +399,7 @@ pub struct RelocationKindInfo {
 /// ```
 pub trait InstructionForm: Copy {
     /// The length in bytes of the window that the form reads and writes.
+    #[must_use]
     fn window(self) -> usize;
 
     /// Whether a value can be written to the instruction that `bytes` begins with.
@@ -390,6 +407,7 @@ pub trait InstructionForm: Copy {
     /// # Requires
     ///
     /// - `self.window() <= bytes.len()`
+    #[must_use]
     fn fits(self, value: u64, bytes: &[u8]) -> bool;
 
     /// Writes a value and its sign into the instruction that `dest` begins with. Only the form's
@@ -406,8 +424,8 @@ pub trait InstructionForm: Copy {
     /// # Requires
     ///
     /// - `self.window() <= bytes.len()`
+    #[must_use]
     fn read(self, bytes: &[u8]) -> (u64, bool);
-
 }
 
 /// A rewrite of the instruction at an offset of a section, as relaxations apply it: which bytes it
@@ -422,9 +440,11 @@ pub trait InstructionRewrite: Copy {
     fn apply(self, section: &mut [u8], offset: &mut u64, addend: &mut i64);
 
     /// Whether `apply` may be called at an offset of a section.
+    #[must_use]
     fn can_apply(self, section: &[u8], offset: u64) -> bool;
 
     /// What becomes of the relocation after the rewritten one.
+    #[must_use]
     fn next_modifier(&self) -> RelocationModifier;
 }
 
@@ -449,6 +469,7 @@ impl InstructionForm for RelocationInstruction {
         }
     }
 
+    #[cfg_attr(debug_assertions, track_caller)]
     #[inline]
     fn fits(self, value: u64, bytes: &[u8]) -> bool {
         debug_assert!(self.window() <= bytes.len());
@@ -460,6 +481,7 @@ impl InstructionForm for RelocationInstruction {
         }
     }
 
+    #[cfg_attr(debug_assertions, track_caller)]
     #[inline]
     fn write(self, value: u64, negative: bool, dest: &mut [u8]) {
         debug_assert!(self.window() <= dest.len());
@@ -472,6 +494,7 @@ impl InstructionForm for RelocationInstruction {
         }
     }
 
+    #[cfg_attr(debug_assertions, track_caller)]
     #[inline]
     fn read(self, bytes: &[u8]) -> (u64, bool) {
         debug_assert!(self.window() <= bytes.len());

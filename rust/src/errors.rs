@@ -1,28 +1,115 @@
-//! `Error` for the errors of the library.
+//! What the library's errors print, and which error is the cause of another.
 
-use crate::relaxation::{OutOfMemory, PackError, RejectedCall};
+use crate::elf::RelocateError;
+use crate::relaxation::{OutOfMemory, PackError, RejectedCall, SectionRelaxDeltas};
 use crate::riscv64::{CallError, JumpError};
+use crate::utils::Uleb128Error;
 use core::error::Error;
 use core::fmt::{Display, Formatter, Result};
 
-macro_rules! errors {
-    ($($kind:ty: $text:literal),* $(,)?) => {
-        $(
-            impl Display for $kind {
-                fn fmt(&self, f: &mut Formatter<'_>) -> Result {
-                    write!(f, $text, self)
-                }
+impl Display for RelocateError {
+    fn fmt(&self, f: &mut Formatter<'_>) -> Result {
+        f.write_str(match self {
+            RelocateError::Unsupported => {
+                "the relocation is one of a pair that computes a ULEB128 number, \
+                 or R_LARCH_CALL30, or its row is none that the library returns"
             }
-
-            impl Error for $kind {}
-        )*
-    };
+            RelocateError::TooShort => "there are fewer bytes than the relocation writes",
+            RelocateError::Misaligned => "the value is not a multiple of the relocation's alignment",
+            RelocateError::OutOfReach => "the value is out of the relocation's reach",
+        })
+    }
 }
 
-errors! {
-    OutOfMemory: "{:?}",
-    CallError: "the call does not become a jump: {:?}",
-    JumpError: "the call does not become a jump: {:?}",
-    RejectedCall: "a call does not become a jump: {:?}",
-    PackError: "the section is not packed: {:?}",
+impl Error for RelocateError {}
+
+impl Display for Uleb128Error {
+    fn fmt(&self, f: &mut Formatter<'_>) -> Result {
+        f.write_str(match self {
+            Uleb128Error::Ended => "the bytes end before the ULEB128 number does",
+            Uleb128Error::TooLarge => "the tenth byte of the ULEB128 number is neither 0 nor 1",
+            Uleb128Error::DoesNotFit => {
+                "the ULEB128 number that stands there does not hold the value"
+            }
+        })
+    }
 }
+
+impl Error for Uleb128Error {}
+
+impl Display for CallError {
+    fn fmt(&self, f: &mut Formatter<'_>) -> Result {
+        f.write_str(match self {
+            CallError::OutOfSection => {
+                "the four bytes at the site, or the eight where the `jalr`'s register is linked, \
+                 do not lie in the section, or the target is past its end"
+            }
+            CallError::SiteDeleted => "one of the four bytes at the site is deleted",
+            CallError::OddDistance => "the distance is odd",
+            CallError::TooFar => "the distance is out of the range of `jal`",
+        })
+    }
+}
+
+impl Error for CallError {}
+
+// The same error where the cause is that of a call, so that it has no cause of its own.
+impl Display for JumpError {
+    fn fmt(&self, f: &mut Formatter<'_>) -> Result {
+        match self {
+            JumpError::Call(error) => error.fmt(f),
+            JumpError::NotACall => f.write_str(
+                "the eight bytes at the site are not an `auipc` and a `jalr` over its register",
+            ),
+        }
+    }
+}
+
+impl Error for JumpError {}
+
+impl Display for RejectedCall {
+    fn fmt(&self, f: &mut Formatter<'_>) -> Result {
+        write!(f, "the call at index {} does not become a jump", self.index)
+    }
+}
+
+impl Error for RejectedCall {
+    fn source(&self) -> Option<&(dyn Error + 'static)> {
+        Some(&self.error)
+    }
+}
+
+impl Display for PackError {
+    fn fmt(&self, f: &mut Formatter<'_>) -> Result {
+        match *self {
+            PackError::OutOfMemory => f.write_str("out of memory for the packed section"),
+            PackError::Call { index, error } => RejectedCall { index, error: error.into() }.fmt(f),
+        }
+    }
+}
+
+impl Error for PackError {
+    fn source(&self) -> Option<&(dyn Error + 'static)> {
+        match self {
+            PackError::OutOfMemory => None,
+            PackError::Call { error, .. } => Some(error),
+        }
+    }
+}
+
+impl Display for OutOfMemory {
+    fn fmt(&self, f: &mut Formatter<'_>) -> Result {
+        f.write_str("out of memory")
+    }
+}
+
+impl Error for OutOfMemory {}
+
+/// What `RelaxDeltaMap` hands back where it has no memory for another section.
+impl Display for SectionRelaxDeltas {
+    fn fmt(&self, f: &mut Formatter<'_>) -> Result {
+        f.write_str("out of memory for the section's entry in the map")
+    }
+}
+
+impl Error for SectionRelaxDeltas {}

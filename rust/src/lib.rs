@@ -1,6 +1,7 @@
 // Made by tools/erase of crates/linker_utils/src/lib.rt.
 //! The core of a linker: what relocations mean, how instructions are rewritten, and how values are
 //! written into them.
+//!
 #![doc = include_str!("../doc/lib.md")]
 
 #![no_std]
@@ -13,6 +14,8 @@ extern crate alloc;
 
 #[macro_use]
 mod support;
+#[cfg(test)]
+mod tests;
 
 mod errors;
 mod linker_base;

@@ -1,10 +1,10 @@
 // Made by tools/erase of crates/linker_utils/src/loongarch64.rt.
 //! LoongArch: instruction forms, relaxation rewrites, what relocations mean, and addresses made by
 //! five instructions.
+//!
 #![doc = include_str!("../doc/loongarch64.md")]
 
 mod forms;
-pub mod laws;
 mod relocations;
 mod rewrites;
 mod sequences;

@@ -1,8 +1,8 @@
 // Made by tools/erase of crates/linker_utils/src/ppc64.rt.
 //! PowerPC64: instruction forms, what relocations mean, and addresses in two halves.
+//!
 #![doc = include_str!("../doc/ppc64.md")]
 
-pub mod laws;
 mod relocations;
 
 use crate::bit_misc::BitExtraction;
@@ -27,6 +27,7 @@ impl RelaxationKind {
     /// # Requires
     ///
     /// - `self.can_apply(_section_bytes, *_offset_in_section)`
+    #[cfg_attr(debug_assertions, track_caller)]
     #[inline]
     pub fn apply(self, _section_bytes: &mut [u8], _offset_in_section: &mut u64, _addend: &mut i64) {
         debug_assert!(self.can_apply(_section_bytes, *_offset_in_section));
@@ -36,6 +37,7 @@ impl RelaxationKind {
     }
 
     /// Whether `apply` may be called at an offset of a section: at every one.
+    #[must_use]
     #[inline]
     pub fn can_apply(self, _section: &[u8], _offset: u64) -> bool {
         match self {
@@ -44,6 +46,7 @@ impl RelaxationKind {
     }
 
     /// What happens to the next relocation: it is applied as usual.
+    #[must_use]
     #[inline]
     pub fn next_modifier(&self) -> RelocationModifier {
         match self {
@@ -53,6 +56,7 @@ impl RelaxationKind {
 }
 
 impl InstructionRewrite for RelaxationKind {
+    #[cfg_attr(debug_assertions, track_caller)]
     #[inline(always)]
     fn apply(self, section: &mut [u8], offset: &mut u64, addend: &mut i64) {
         debug_assert!(self.can_apply(section, *offset));
@@ -106,6 +110,7 @@ impl Ppc64Instruction {
     /// # Requires
     ///
     /// - `self.window() <= dest.len()`
+    #[cfg_attr(debug_assertions, track_caller)]
     #[inline]
     pub fn write_to_value(self, extracted_value: u64, negative: bool, dest: &mut [u8]) {
         debug_assert!(self.window() <= dest.len());
@@ -118,6 +123,8 @@ impl Ppc64Instruction {
     /// # Requires
     ///
     /// - `self.window() <= bytes.len()`
+    #[must_use]
+    #[cfg_attr(debug_assertions, track_caller)]
     #[inline]
     pub fn read_value(self, bytes: &[u8]) -> (u64, bool) {
         debug_assert!(self.window() <= bytes.len());
@@ -140,12 +147,14 @@ impl InstructionForm for Ppc64Instruction {
         }
     }
 
+    #[cfg_attr(debug_assertions, track_caller)]
     #[inline]
     fn fits(self, _value: u64, _bytes: &[u8]) -> bool {
         debug_assert!(self.window() <= _bytes.len());
         true
     }
 
+    #[cfg_attr(debug_assertions, track_caller)]
     #[inline]
     fn write(self, value: u64, negative: bool, dest: &mut [u8]) {
         debug_assert!(self.window() <= dest.len());
@@ -153,6 +162,7 @@ impl InstructionForm for Ppc64Instruction {
         self.write_to_value(value, negative, dest);
     }
 
+    #[cfg_attr(debug_assertions, track_caller)]
     #[inline]
     fn read(self, bytes: &[u8]) -> (u64, bool) {
         debug_assert!(self.window() <= bytes.len());
@@ -176,6 +186,7 @@ impl InstructionForm for Ppc64Instruction {
 ///
 /// - ha_room: `4 <= ha.len()`
 /// - lo_room: `4 <= lo.len()`
+#[cfg_attr(debug_assertions, track_caller)]
 pub fn write_ha_lo(ha: &mut [u8], lo: &mut [u8], value: u64) {
     debug_assert!(4 <= ha.len());
     debug_assert!(4 <= lo.len());

@@ -1,6 +1,7 @@
 // Made by tools/erase of crates/linker_utils/src/relaxation.rt.
 //! Deletions that relaxation makes in a section, the offsets of what they leave, and sections that
 //! are packed.
+//!
 #![doc = include_str!("../doc/relaxation.md")]
 
 mod packing;

@@ -1,11 +1,11 @@
 // Made by tools/erase of crates/linker_utils/src/riscv64.rt.
 //! RISC-V: instruction forms, relaxation rewrites, what relocations mean, and calls that become
 //! jumps.
+//!
 #![doc = include_str!("../doc/riscv64.md")]
 
 mod calls;
 mod forms;
-pub mod laws;
 mod relocations;
 mod rewrites;
 

@@ -8,26 +8,13 @@ pub(crate) use alloc::collections::TryReserveError as AllocError;
 use alloc::string::{String, ToString};
 use alloc::vec::Vec;
 use core::error::Error;
-use core::fmt::{Debug, Display, Formatter};
+use core::fmt::Display;
 
 /// A value for which there was no memory.
+#[derive(Debug)]
 pub(crate) struct AllocFailed<T> {
     pub(crate) value: T,
 }
-
-impl<T> Debug for AllocFailed<T> {
-    fn fmt(&self, f: &mut Formatter<'_>) -> core::fmt::Result {
-        f.write_str("no memory for a value")
-    }
-}
-
-impl<T> Display for AllocFailed<T> {
-    fn fmt(&self, f: &mut Formatter<'_>) -> core::fmt::Result {
-        write!(f, "{self:?}")
-    }
-}
-
-impl<T> Error for AllocFailed<T> {}
 
 /// Calls that take memory, and one that takes none.
 pub(crate) trait Fallible<T>: Sized {
@@ -39,29 +26,6 @@ pub(crate) trait Fallible<T>: Sized {
     fn fallible_insert(&mut self, at: usize, value: T) -> Result<(), AllocFailed<T>>;
     /// Pushes a value for which there is room, as the prover has checked.
     fn push_reserved(&mut self, value: T);
-}
-
-/// A copy of a slice.
-pub(crate) trait FallibleCopy<T> {
-    fn fallible_to_vec(&self) -> Result<Vec<T>, AllocError>;
-}
-
-impl<T: Copy> FallibleCopy<T> for [T] {
-    fn fallible_to_vec(&self) -> Result<Vec<T>, AllocError> {
-        let mut items = Vec::new();
-        items.fallible_extend_from_slice(self)?;
-        Ok(items)
-    }
-}
-
-/// A vector of the items, or of one item as often as said.
-macro_rules! try_vec {
-    ($item:expr; $n:expr) => {
-        $crate::support::repeated($item, $n)
-    };
-    ($($item:expr),* $(,)?) => {
-        Ok::<_, $crate::support::AllocError>(alloc::vec::Vec::from([$($item),*]))
-    };
 }
 
 impl<T> Fallible<T> for Vec<T> {
@@ -104,13 +68,49 @@ impl<T> Fallible<T> for Vec<T> {
     }
 }
 
+/// A vector of the items, or of one item as often as said.
+macro_rules! try_vec {
+    ($item:expr; $n:expr) => {
+        $crate::support::repeated($item, $n)
+    };
+    ($($item:expr),* $(,)?) => {
+        $crate::support::listed([$($item),*])
+    };
+}
+
+pub(crate) fn listed<T, const N: usize>(items: [T; N]) -> Result<Vec<T>, AllocError> {
+    let mut list = Vec::fallible_with_capacity(N)?;
+    list.extend(items);
+    Ok(list)
+}
+
 pub(crate) fn repeated<T: Copy>(item: T, len: usize) -> Result<Vec<T>, AllocError> {
     let mut items = Vec::fallible_with_capacity(len)?;
     items.resize(len, item);
     Ok(items)
 }
 
-/// Texts that take memory.
+/// Copies of slices and texts.
+pub(crate) trait FallibleCopy<T> {
+    fn fallible_to_vec(&self) -> Result<Vec<T>, AllocError>;
+}
+
+impl<T: Copy> FallibleCopy<T> for [T] {
+    fn fallible_to_vec(&self) -> Result<Vec<T>, AllocError> {
+        let mut items = Vec::new();
+        items.fallible_extend_from_slice(self)?;
+        Ok(items)
+    }
+}
+
+fn joined<'a>(texts: impl Iterator<Item = &'a str> + Clone) -> Result<String, AllocError> {
+    let mut text = String::new();
+    text.try_reserve_exact(texts.clone().map(str::len).fold(0, usize::saturating_add))?;
+    text.extend(texts);
+    Ok(text)
+}
+
+/// What `String::from_utf8_lossy` returns.
 pub(crate) trait FallibleText {
     fn fallible_to_str_lossy(&self) -> Result<Cow<'_, str>, AllocError>;
 }
@@ -120,15 +120,10 @@ impl FallibleText for [u8] {
         if let Ok(text) = core::str::from_utf8(self) {
             return Ok(Cow::Borrowed(text));
         }
-        let mut text = String::new();
-        for chunk in self.utf8_chunks() {
-            text.try_reserve(chunk.valid().len() + char::REPLACEMENT_CHARACTER.len_utf8())?;
-            text.push_str(chunk.valid());
-            if !chunk.invalid().is_empty() {
-                text.push(char::REPLACEMENT_CHARACTER);
-            }
-        }
-        Ok(Cow::Owned(text))
+        let texts = self.utf8_chunks().flat_map(|chunk| {
+            [chunk.valid(), if chunk.invalid().is_empty() { "" } else { "\u{fffd}" }]
+        });
+        joined(texts).map(Cow::Owned)
     }
 }
 
@@ -141,18 +136,19 @@ impl FallibleOwned for Cow<'_, str> {
     fn fallible_into_owned(self) -> Result<String, AllocError> {
         match self {
             Cow::Owned(text) => Ok(text),
-            Cow::Borrowed(text) => {
-                let mut owned = String::new();
-                owned.try_reserve_exact(text.len())?;
-                owned.push_str(text);
-                Ok(owned)
-            }
+            Cow::Borrowed(text) => joined([text].into_iter()),
         }
     }
 }
 
 /// Why a test fails.
 pub(crate) type Fail = Box<dyn Error>;
+
+impl<T> From<AllocFailed<T>> for Fail {
+    fn from(_error: AllocFailed<T>) -> Fail {
+        Fail::from("no memory for a value")
+    }
+}
 
 /// What a value prints.
 pub(crate) struct InlineText<const N: usize>(String);

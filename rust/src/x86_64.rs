@@ -1,5 +1,6 @@
 // Made by tools/erase of crates/linker_utils/src/x86_64.rt.
 //! x86-64: relaxation rewrites, and what relocations mean.
+//!
 #![doc = include_str!("../doc/x86_64.md")]
 
 mod relocations;
@@ -245,6 +246,7 @@ impl RelaxationKind {
     /// # Requires
     ///
     /// - `self.can_apply(section_bytes, *offset_in_section)`
+    #[cfg_attr(debug_assertions, track_caller)]
     #[inline(always)]
     pub fn apply(self, section_bytes: &mut [u8], offset_in_section: &mut u64, addend: &mut i64) {
         debug_assert!(self.can_apply(section_bytes, *offset_in_section));
@@ -253,6 +255,7 @@ impl RelaxationKind {
 
     /// Whether `apply` may be called at an offset of a section: the bytes that it rewrites lie in
     /// the section. The instruction is not tested.
+    #[must_use]
     #[inline(always)]
     pub fn can_apply(self, section: &[u8], offset: u64) -> bool {
         match self {
@@ -289,6 +292,7 @@ impl RelaxationKind {
     }
 
     /// What happens to the next relocation: the TLS sequences skip that of their call.
+    #[must_use]
     #[inline]
     pub fn next_modifier(&self) -> RelocationModifier {
         match self {
@@ -315,6 +319,7 @@ impl RelaxationKind {
 }
 
 impl InstructionRewrite for RelaxationKind {
+    #[cfg_attr(debug_assertions, track_caller)]
     #[inline(always)]
     fn apply(self, section: &mut [u8], offset: &mut u64, addend: &mut i64) {
         debug_assert!(self.can_apply(section, *offset));

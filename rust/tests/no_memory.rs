@@ -1,6 +1,12 @@
 //! Where an allocation fails, the call returns an error and has changed nothing. Each allocation of a
 //! call fails in turn, until none does.
 
+extern crate alloc;
+
+#[macro_use]
+#[path = "../src/support.rs"]
+mod support;
+
 use linker_utils::relaxation::{
     OutOfMemory, PackError, RelaxDelta, RelaxDeltaMap, SectionRelaxDeltas, pack_section,
     shrink_calls,
@@ -242,6 +248,30 @@ fn calls_are_not_chosen() {
         |error| assert_eq!(error, OutOfMemory),
     );
     assert_eq!((count, chosen), (1, vec![true]));
+}
+
+#[test]
+fn vectors_and_texts_are_not_made() {
+    use support::*;
+    let (one, items) = ([9u8], [1u8, 2, 3]);
+    assert_eq!(each_fails(|| try_vec![1u8, 2, 3], |_| {}), (1, items.to_vec()));
+    assert_eq!(each_fails(|| try_vec![7u8; 3], |_| {}), (1, vec![7; 3]));
+    assert_eq!(each_fails(|| items.fallible_to_vec(), |_| {}), (1, items.to_vec()));
+    let extend = |it: &mut Vec<u8>| it.fallible_extend_from_slice(&items);
+    let (count, extended) = each_fails_of(|| one.to_vec(), extend, |it| assert_eq!(it, &one));
+    assert_eq!((count, extended), (1, vec![9, 1, 2, 3]));
+    for at in [0, 1] {
+        let insert = |it: &mut Vec<u8>| match at {
+            0 => it.fallible_insert(0, 5).map_err(|refused| assert_eq!(refused.value, 5)),
+            _ => it.fallible_push(5).map_err(|refused| assert_eq!(refused.value, 5)),
+        };
+        let (count, longer) = each_fails_of(|| one.to_vec(), insert, |it| assert_eq!(it, &one));
+        assert_eq!((count, longer), (1, if at == 0 { vec![5, 9] } else { vec![9, 5] }));
+    }
+    let text = || b"a\xe2\x82b".fallible_to_str_lossy();
+    assert_eq!(each_fails(text, |_| {}), (1, "a\u{fffd}b".into()));
+    let owned = || std::borrow::Cow::Borrowed("a").fallible_into_owned();
+    assert_eq!(each_fails(owned, |_| {}), (1, "a".into()));
 }
 
 #[test]

@@ -20,7 +20,6 @@ pub mod Ppc64Pairs
 pub mod Prepared
 pub mod Readings
 pub mod Relocated
-pub mod RelocationLaws
 pub mod RiscV
 pub mod RiscVRewrites
 pub mod RowsAgree

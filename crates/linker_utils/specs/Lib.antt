@@ -17,7 +17,6 @@ pub mod Prepared
 pub mod Reach
 pub mod Readings
 pub mod Relocate
-pub mod RelocationLaws
 pub mod RiscV
 pub mod RiscVNames
 pub mod RiscVRows

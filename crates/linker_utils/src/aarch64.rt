@@ -1,6 +1,5 @@
 //! AArch64: instruction forms, relaxation rewrites, and the moves that load a number of 64 bits.
 
-pub mod laws;
 mod relocations;
 
 ghost use Rattle.std.specs.Prelude.{◌++◌, Some, take, ◌≡◌, ◌≤◌, ◌<◌, ◌+◌, ◌↔◌, ◌∷◌, [], IsTrue};

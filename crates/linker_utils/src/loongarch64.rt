@@ -2,7 +2,6 @@
 //! five instructions.
 
 mod forms;
-pub mod laws;
 mod relocations;
 mod rewrites;
 mod sequences;

@@ -1,6 +1,5 @@
 //! PowerPC64: instruction forms, what relocations mean, and addresses in two halves.
 
-pub mod laws;
 mod relocations;
 
 ghost use Rattle.std.specs.Prelude.{◌≡◌, ◌<◌, ◌≤◌, ◌^◌, ◌-◌, ◌↔◌, ℕ, IsTrue, length, drop, bit_and, bit_or};

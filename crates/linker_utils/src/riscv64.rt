@@ -3,7 +3,6 @@
 
 mod calls;
 mod forms;
-pub mod laws;
 mod relocations;
 mod rewrites;
 

@@ -4,8 +4,8 @@ ghost use Rattle.std.specs.Prelude.{◌≡◌, ◌↔◌, IsTrue};
 
 use crate::rows::expect_eq;
 use linker_utils::relaxation::{
-    DeltaSlice, Looks, OutOfMemory, RelaxDelta, RelaxDeltaMap, SectionRelaxDeltas, first_invalid,
-    input_to_output_counted, opt_input_to_output, output_to_input_counted,
+    BlockHead, DeltaSlice, Looks, OutOfMemory, RelaxDelta, RelaxDeltaMap, SectionRelaxDeltas,
+    first_invalid, input_to_output_counted, opt_input_to_output, output_to_input_counted,
 };
 use std::alloc::Global;
 use std::process::Abort;
@@ -157,7 +157,8 @@ fn merges_sort_and_sum(rt: HostRuntime) -> Result<(), Fail> {
     assert_eq!(rt; input(&rt, &merged, 0), 2);
 
     let mut batched = deltas_of(&rt, rt.alloc(), &[(8, 4)])?;
-    let batches = vec![in rt.alloc(); [(16, 4)].to_vec(rt.alloc())?, [(0, 2)].to_vec(rt.alloc())?]?;
+    let (second, third) = ([(16, 4)].to_vec(rt.alloc())?, [(0, 2)].to_vec(rt.alloc())?);
+    let batches = vec![in rt.alloc(); Vec::new(rt.alloc()), second, third]?;
     assert!(rt; batched.are_mergeable(&batches));
     batched.merge_all(&batches)?;
     assert_eq!(rt; batched.deltas(), merged.deltas());
@@ -174,7 +175,7 @@ fn invalid_deletions_are_rejected(rt: HostRuntime) -> Result<(), Fail> {
         &[(u64::MAX - 1, 1)],
     ];
     for raw in valid {
-        assert!(rt; SectionRelaxDeltas::is_valid(raw), "{raw:?}");
+        expect_eq(&rt, raw, SectionRelaxDeltas::is_valid(raw), true);
     }
     let invalid: [&[(u64, u32)]; 4] = [
         &[(0, 5), (4, 1)],
@@ -183,13 +184,13 @@ fn invalid_deletions_are_rejected(rt: HostRuntime) -> Result<(), Fail> {
         &[(u64::MAX, 1)],
     ];
     for raw in invalid {
-        assert!(rt; !SectionRelaxDeltas::is_valid(raw), "{raw:?}");
+        expect_eq(&rt, raw, SectionRelaxDeltas::is_valid(raw), false);
     }
 
     let deltas = deltas_of(&rt, rt.alloc(), &[(4, 4)])?;
     let mergeable: [&[(u64, u32)]; 3] = [&[], &[(8, 0)], &[(8, 4), (0, 4)]];
     for pairs in mergeable {
-        assert!(rt; deltas.is_mergeable(pairs), "{pairs:?}");
+        expect_eq(&rt, pairs, deltas.is_mergeable(pairs), true);
     }
     let touching: [&[(u64, u32)]; 5] = [
         &[(6, 1)],
@@ -199,7 +200,7 @@ fn invalid_deletions_are_rejected(rt: HostRuntime) -> Result<(), Fail> {
         &[(20, 1), (20, 1)],
     ];
     for pairs in touching {
-        assert!(rt; !deltas.is_mergeable(pairs), "{pairs:?}");
+        expect_eq(&rt, pairs, deltas.is_mergeable(pairs), false);
     }
 
     let none = deltas_of(&rt, rt.alloc(), &[])?;
@@ -285,27 +286,73 @@ fn half_deleted(alloc: Global, count: u32) -> Result<Vec<(u64, u32)>, Fail> {
     Ok(raw)
 }
 
+/// Requires that a kept byte's offsets are translated to each other, by at most so many looks, also
+/// with the heads of the blocks, which stand behind one that is none, and with more or fewer.
+fn expect_translated(
+    rt: &impl Abort,
+    deltas: &SectionRelaxDeltas,
+    behind_none: &[BlockHead],
+    most: u64,
+    offsets: (u64, u64),
+) {
+    let (from, to) = offsets;
+    expect_eq(rt, from, deltas.input_to_output_offset(from), to);
+    expect_eq(rt, to, input(rt, deltas, to), from);
+    let (output, looks) = output_by_looks(deltas, from);
+    expect_eq(rt, from, (output, looks <= most), (to, true));
+    let (input, looks) = input_by_looks(rt, deltas, to);
+    expect_eq(rt, to, (input, looks <= most), (from, true));
+    let listed = deltas.as_delta_slice();
+    assert!(rt; behind_none.len() >= 2);
+    for heads in [&behind_none[1..], behind_none, &behind_none[2..], &[]] {
+        expect_eq(rt, from, listed.input_to_output_by_heads(heads, from), to);
+        let input = listed.output_to_input_by_heads(heads, to);
+        expect_eq(rt, to, input, Some(from));
+    }
+}
+
 #[test]
 fn long_lists_are_searched_by_blocks(rt: HostRuntime) -> Result<(), Fail> {
-    let raw = half_deleted(rt.alloc(), 65)?;
-    let deltas = deltas_of(&rt, rt.alloc(), &raw)?;
-    assert_eq!(rt; deltas.total_deleted(), 260);
-    for (from, to) in [(512, 256), (520, 260)] {
-        let (output, looks) = output_by_looks(&deltas, from);
-        assert_eq!(rt; output, to);
-        assert!(rt; looks <= 10);
+    // of so many deletions, as many looks as their blocks of 64 have binary digits, and eight
+    let lists = [
+        (64, 9),
+        (65, 10),
+        (1024, 13),
+        (1025, 13),
+        (1088, 13),
+        (5000, 15),
+    ];
+    for (count, most) in lists {
+        let raw = half_deleted(rt.alloc(), count)?;
+        let deltas = deltas_of(&rt, rt.alloc(), &raw)?;
+        let listed = deltas.as_delta_slice();
+        let none = BlockHead {
+            input_offset: 0,
+            output_place: 0,
+        };
+        let mut heads = vec![in rt.alloc(); none; listed.block_count()]?;
+        listed.write_heads(&mut heads);
+        let mut behind_none = vec![in rt.alloc(); none; 1]?;
+        behind_none.extend_from_slice(&heads)?;
+        assert!(rt; listed.with_heads(&heads).is_some());
+        assert!(rt; listed.with_heads(&behind_none).is_none());
+        for block in 0..u64::from(count) {
+            for kept in [0, 3] {
+                let offsets = (8 * block + 4 + kept, 4 * block + kept);
+                expect_translated(&rt, &deltas, &behind_none, most, offsets);
+            }
+            expect_eq(
+                &rt,
+                block,
+                deltas.input_to_output_offset(8 * block + 2),
+                4 * block,
+            );
+        }
+        for past in [0, 9] {
+            let offsets = (8 * u64::from(count) + past, 4 * u64::from(count) + past);
+            expect_translated(&rt, &deltas, &behind_none, most, offsets);
+        }
     }
-    for (from, to) in [(255, 511), (256, 516)] {
-        let (input, looks) = input_by_looks(&rt, &deltas, from);
-        assert_eq!(rt; input, to);
-        assert!(rt; looks <= 10);
-    }
-
-    let raw = half_deleted(rt.alloc(), 64)?;
-    let one_block = deltas_of(&rt, rt.alloc(), &raw)?;
-    let (output, looks) = output_by_looks(&one_block, 512);
-    assert_eq!(rt; output, 256);
-    assert!(rt; looks <= 9);
     Ok(())
 }
 
@@ -389,39 +436,5 @@ fn maps_keep_each_section(rt: HostRuntime) -> Result<(), Fail> {
     assert_eq!(rt; map.get(1).map(|d| d.total_deleted()), Some(6));
     assert_eq!(rt; map.get(3).map(|d| d.total_deleted()), Some(2));
     assert_eq!(rt; map.clone()?.get(1).map(|d| d.total_deleted()), Some(6));
-    Ok(())
-}
-
-#[test]
-fn a_merge_through_get_mut_leaves_the_other_section(rt: HostRuntime) -> Result<(), Fail> {
-    let alloc = rt.alloc();
-    let (third, first) = ([(8, 4)], [(4, 4)]);
-    assert!(rt; SectionRelaxDeltas::is_valid(&third) && SectionRelaxDeltas::is_valid(&first));
-    let mut sections = RelaxDeltaMap::new(alloc);
-    assert_eq!(rt; sections.last_index(), None);
-    assert!(rt;
-        sections
-            .insert(3, SectionRelaxDeltas::new(alloc, &third)?)
-            .is_ok()
-    );
-    assert!(rt; sections.get(1).is_none());
-    assert!(rt;
-        sections
-            .insert_sorted(1, SectionRelaxDeltas::new(alloc, &first)?)
-            .is_ok()
-    );
-    assert_eq!(rt; sections.last_index(), Some(3));
-
-    let more = [(0, 2)];
-    if let Some(deltas) = sections.get_mut(1) {
-        assert!(rt; deltas.is_mergeable(&more));
-        deltas.merge_additional(&more)?;
-    }
-    assert!(rt; sections.get(2).is_none());
-    let copy = sections.clone()?;
-    for (section_index, want) in [(1, 6), (3, 4)] {
-        let deltas = copy.get(section_index).expect(&rt, "the section is there");
-        assert_eq!(rt; deltas.total_deleted(), want, "section {section_index}");
-    }
     Ok(())
 }

@@ -29,4 +29,8 @@ mod rows;
 #[cfg(test)]
 mod shrinking;
 #[cfg(test)]
+mod taken_memory;
+#[cfg(test)]
+mod windows;
+#[cfg(test)]
 mod x86_64;

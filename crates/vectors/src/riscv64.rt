@@ -334,8 +334,6 @@ fn rewrites_of_one_instruction_match_worked_words(rt: HostRuntime) {
     for (kind, before, after) in table {
         let mut section = before.to_le_bytes();
         assert!(rt; kind.can_apply(&section, 0), "{kind:?}");
-        assert!(rt; !kind.can_apply(&section, 3), "{kind:?}");
-        assert!(rt; !kind.can_apply(&section, 1 << 32), "{kind:?}");
         let mut offset = 0;
         let mut addend = 5;
         kind.apply(&mut section, &mut offset, &mut addend);

@@ -1,6 +1,7 @@
 //! Calls that can become jumps at once, worked by hand: `jal` reaches even distances from -1048576
 //! to 1048574 (RISC-V unprivileged ISA, "Unconditional Jumps").
 
+use crate::rows::expect_eq;
 use linker_utils::relaxation::{
     SectionRelaxDeltas, calls_apart, calls_shrinkable, pack_section, shrink_calls,
 };
@@ -13,7 +14,6 @@ struct Row {
     chosen: &'static [bool],
 }
 
-// Holds whichever growth is refused: `rt try --test --fail-alloc N` refuses the Nth.
 #[test]
 fn choices_are_the_greatest_in_reach(rt: HostRuntime) -> Result<(), Fail> {
     let rows = [
@@ -51,14 +51,32 @@ fn choices_are_the_greatest_in_reach(rt: HostRuntime) -> Result<(), Fail> {
     ];
     for row in rows {
         assert!(rt; SectionRelaxDeltas::is_valid(row.deletions));
-        let Ok(deltas) = SectionRelaxDeltas::new(rt.alloc(), row.deletions) else {
-            return Ok(());
-        };
+        let deltas = SectionRelaxDeltas::new(rt.alloc(), row.deletions)?;
         assert!(rt; calls_shrinkable(&deltas, row.calls));
-        let Ok(chosen) = shrink_calls(rt.alloc(), &deltas, row.calls) else {
-            return Ok(());
-        };
+        let chosen = shrink_calls(rt.alloc(), &deltas, row.calls)?;
         assert_eq!(rt; chosen.as_slice(), row.chosen);
+    }
+    Ok(())
+}
+
+/// A call at each multiple of 1000 of what is 8 bytes behind, but for the first. Those at 1052000
+/// and below lie before its target: 1053 calls, which give up 4212 bytes.
+#[test]
+fn many_calls_are_chosen_at_once(rt: HostRuntime) -> Result<(), Fail> {
+    let none = SectionRelaxDeltas::new(rt.alloc(), &[])?;
+    let mut calls = [(0, 0); 1100];
+    for at in 0..1100 {
+        let site = 1000 * at as u64;
+        calls[at] = (site, site + 8);
+    }
+    for (target, is_chosen) in [(1048574 + 4212, true), (1048576 + 4212, false)] {
+        calls[0].1 = target;
+        assert!(rt; calls_shrinkable(&none, &calls));
+        let chosen = shrink_calls(rt.alloc(), &none, &calls)?;
+        assert_eq!(rt; chosen.len(), 1100);
+        for (at, &found) in chosen.iter().enumerate() {
+            expect_eq(&rt, (at, target), found, is_chosen || at > 0);
+        }
     }
     Ok(())
 }

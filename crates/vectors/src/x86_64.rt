@@ -2,6 +2,7 @@
 //! assemblers write both instructions, and worked values.
 
 use crate::rows::expect_eq;
+use crate::windows::requires_window;
 use linker_utils::elf::{AllowedRange, RelocationKind, RelocationKindInfo, RelocationSize};
 use linker_utils::relaxation::RelocationModifier;
 use linker_utils::x86_64::{RelaxationKind, X86_64Relocation, relocation_from_raw};
@@ -572,16 +573,8 @@ static WINDOWS: [(RelaxationKind, u64, usize); 21] = [
 fn rewrites_require_their_window(rt: HostRuntime) {
     let bytes = [0; 22];
     for &(kind, offset, len) in &WINDOWS {
-        assert!(rt; 0 < len && len <= 22 && offset < 6, "{kind:?}");
-        let section = &bytes[..len];
-        assert!(rt; kind.can_apply(section, offset), "{kind:?}");
-        assert!(rt; !kind.can_apply(&section[1..], offset), "{kind:?}");
-        assert!(rt;
-            offset == 0 || !kind.can_apply(section, offset - 1),
-            "{kind:?}"
-        );
-        assert!(rt; !kind.can_apply(section, offset + 1), "{kind:?}");
-        assert!(rt; !kind.can_apply(section, u64::MAX), "{kind:?}");
+        assert!(rt; len <= 22);
+        requires_window(&rt, kind, &bytes[..len], offset);
     }
     assert!(rt; RelaxationKind::NoOp.can_apply(&[], u64::MAX));
 }

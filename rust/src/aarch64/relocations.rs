@@ -139,6 +139,7 @@ impl fmt::Debug for AArch64Relocation {
 
 impl AArch64Relocation {
     /// The relocation with a code, `r_type` in ELF files; `Other(code)` for a code without a name.
+    #[must_use]
     #[inline(always)]
     pub fn from_elf(code: u32) -> AArch64Relocation {
         // the static and the TLS relocations are each dense enough for a table
@@ -272,6 +273,7 @@ impl AArch64Relocation {
     }
 
     /// The code, `r_type` in ELF files.
+    #[must_use]
     #[inline]
     pub fn elf_code(self) -> u32 {
         match self {
@@ -394,6 +396,7 @@ impl AArch64Relocation {
     }
 
     /// The name, as "R_AARCH64_CALL26"; "unknown relocation" for `Other`.
+    #[must_use]
     pub fn name(self) -> &'static str {
         match self {
             Name::R_AARCH64_NONE => "R_AARCH64_NONE",
@@ -884,6 +887,7 @@ fn place(name: AArch64Relocation) -> usize {
 /// assert!(call26.range.contains(-(1 << 27)));
 /// assert!(!call26.range.contains(1 << 27));
 /// ```
+#[must_use]
 #[inline]
 pub fn relocation_type_from_raw(name: AArch64Relocation) -> Option<RelocationKindInfo> {
     row(name)
@@ -891,12 +895,14 @@ pub fn relocation_type_from_raw(name: AArch64Relocation) -> Option<RelocationKin
 
 /// What a relocation means, with what a write of it tests. Returns `None` where `relocation_type_from_raw`
 /// does.
+#[must_use]
 #[inline(always)]
 pub fn prepared_row(name: AArch64Relocation) -> Option<PreparedRow> {
     prepared(&ROWS[place(name)])
 }
 
 /// What a relocation means, in numbers. Returns `None` where `relocation_type_from_raw` does.
+#[must_use]
 #[inline(always)]
 pub fn relocation_numbers(name: AArch64Relocation) -> Option<&'static RelocationNumbers> {
     numbers(&ROWS[place(name)])

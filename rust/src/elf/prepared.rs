@@ -47,6 +47,7 @@ impl PreparedRow {
     /// # Requires
     ///
     /// - fits: `RowFits row`
+    #[must_use]
     #[inline(always)]
     pub fn of(row: RelocationKindInfo) -> PreparedRow {
         let reach = row.reach();

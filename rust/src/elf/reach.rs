@@ -106,6 +106,7 @@ impl RelocationKindInfo {
     /// pair: see `others` of each `relocation_type_from_raw`. The exception is those relocations of
     /// LDR and STR of 2 to 16 bytes whose offset the psABI limits to 12 bits, as
     /// `R_AARCH64_TLSLE_LDST16_TPREL_LO12`: the machine reads 12 bits of such units.
+    #[must_use]
     #[inline(always)]
     pub fn reach(&self) -> AllowedRange {
         match self.size {

@@ -199,6 +199,7 @@ impl RelocationKindInfo {
     }
 
     /// How many bytes `write` writes.
+    #[must_use]
     #[inline(always)]
     pub fn window(&self) -> usize {
         match self.size {

@@ -1,4 +1,6 @@
 // Made by tools/erase of crates/linker_base/src/bit_misc.rt.
+//! Bits and bit ranges of a 64-bit number. Bit 0 is the least significant one.
+//!
 #![doc = include_str!("../../doc/bit_misc.md")]
 
 use core::ops::Range;
@@ -26,6 +28,7 @@ pub trait BitExtraction {
     /// # Requires
     ///
     /// - `position < 64`
+    #[must_use]
     fn extract_bit(self, position: u32) -> u64;
 
     /// Bits `range.start` up to, and not including, `range.end`, shifted down to bit 0.
@@ -34,6 +37,7 @@ pub trait BitExtraction {
     ///
     /// - not_empty: `range.start < range.end`
     /// - in_word: `range.end <= 64`
+    #[must_use]
     fn extract_bit_range(self, range: Range<u32>) -> u64;
 
     /// The lowest `num_bits` bits.
@@ -41,6 +45,7 @@ pub trait BitExtraction {
     /// # Requires
     ///
     /// - `num_bits < 64`
+    #[must_use]
     fn low_bits(self, num_bits: u32) -> u64;
 
     /// The lowest `num_bits` bits in two's complement, modulo 2^64.
@@ -49,6 +54,7 @@ pub trait BitExtraction {
     ///
     /// - not_empty: `0 < num_bits`
     /// - in_word: `num_bits < 64`
+    #[must_use]
     fn low_bits_signed(self, num_bits: u32) -> u64;
 
     /// If bit `sign_bit` is set, the number with every bit above it set too. If it is clear, the
@@ -57,32 +63,38 @@ pub trait BitExtraction {
     /// # Requires
     ///
     /// - `sign_bit < 64`
+    #[must_use]
     fn sign_extend(self, sign_bit: u32) -> u64;
 }
 
 impl BitExtraction for u64 {
+    #[cfg_attr(debug_assertions, track_caller)]
     fn extract_bit(self, position: u32) -> u64 {
         debug_assert!(position < 64);
         (self >> position) & 1
     }
 
+    #[cfg_attr(debug_assertions, track_caller)]
     fn extract_bit_range(self, range: Range<u32>) -> u64 {
         debug_assert!(range.start < range.end);
         debug_assert!(range.end <= 64);
         (self >> range.start) & (u64::MAX >> (64 - (range.end - range.start)))
     }
 
+    #[cfg_attr(debug_assertions, track_caller)]
     fn low_bits(self, num_bits: u32) -> u64 {
         debug_assert!(num_bits < 64);
         self & ((1 << num_bits) - 1)
     }
 
+    #[cfg_attr(debug_assertions, track_caller)]
     fn low_bits_signed(self, num_bits: u32) -> u64 {
         debug_assert!(0 < num_bits);
         debug_assert!(num_bits < 64);
         self.low_bits(num_bits).sign_extend(num_bits - 1)
     }
 
+    #[cfg_attr(debug_assertions, track_caller)]
     fn sign_extend(self, sign_bit: u32) -> u64 {
         debug_assert!(sign_bit < 64);
         if self & (1 << sign_bit) != 0 {

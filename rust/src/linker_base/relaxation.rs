@@ -95,6 +95,7 @@ impl SectionRelaxDeltas {
     /// # Requires
     ///
     /// - `SectionRelaxDeltas::is_valid(raw)`
+    #[cfg_attr(debug_assertions, track_caller)]
     pub fn new(raw: &[(u64, u32)]) -> Result<Self, OutOfMemory> {
         debug_assert!(SectionRelaxDeltas::is_valid(raw));
         let mut deltas = Vec::fallible_with_capacity(raw.len())?;
@@ -114,6 +115,7 @@ impl SectionRelaxDeltas {
 
     /// Whether `raw` may be given to `new`: its offsets strictly ascend, no pair reaches past the
     /// offset of the next, and each ends at `u64::MAX` or below.
+    #[must_use]
     pub fn is_valid(raw: &[(u64, u32)]) -> bool {
         first_invalid(raw).is_none()
     }
@@ -130,6 +132,7 @@ impl SectionRelaxDeltas {
     /// # Requires
     ///
     /// - `self.is_mergeable(additional)`
+    #[cfg_attr(debug_assertions, track_caller)]
     pub fn merge_additional(&mut self, additional: &[(u64, u32)]) -> Result<(), OutOfMemory> {
         debug_assert!(self.is_mergeable(additional));
         let deltas = &mut self.deltas;
@@ -153,6 +156,7 @@ impl SectionRelaxDeltas {
     ///
     /// It takes no memory. For k pairs beside n deltas the work is O(k log n + k) where the pairs
     /// ascend, as a pass over a section makes them, and else O(k log n + k²).
+    #[must_use]
     pub fn is_mergeable(&self, additional: &[(u64, u32)]) -> bool {
         first_overlapping(&self.deltas, additional).is_none()
     }
@@ -169,6 +173,7 @@ impl SectionRelaxDeltas {
     /// # Requires
     ///
     /// - `self.are_mergeable(batches)`
+    #[cfg_attr(debug_assertions, track_caller)]
     pub fn merge_all(&mut self, batches: &[Vec<(u64, u32)>]) -> Result<(), OutOfMemory> {
         debug_assert!(self.are_mergeable(batches));
         let deltas = &mut self.deltas;
@@ -188,6 +193,7 @@ impl SectionRelaxDeltas {
     ///
     /// It takes no memory. For k pairs in all batches beside n deltas the work is O(k log n + k)
     /// where the pairs ascend, from each batch to the next too, and else O(k log n + k²).
+    #[must_use]
     pub fn are_mergeable(&self, batches: &[Vec<(u64, u32)>]) -> bool {
         are_disjoint_batches(batches) && are_beside_deltas_batches(&self.deltas, batches)
     }
@@ -203,22 +209,26 @@ impl SectionRelaxDeltas {
     }
 
     /// The deletions by ascending offset, each with the sum of the bytes up to it.
+    #[must_use]
     pub fn deltas(&self) -> &[RelaxDelta] {
         &self.deltas[..]
     }
 
     /// The deltas as a slice that translates offsets too.
+    #[must_use]
     #[inline]
     pub fn as_delta_slice(&self) -> DeltaSlice<'_> {
         DeltaSlice::new(&self.deltas)
     }
 
     /// Whether a deletion is listed at the offset, be it one of no bytes.
+    #[must_use]
     pub fn has_delta_at(&self, offset: u64) -> bool {
         search::delta_at(&self.deltas, offset).is_some()
     }
 
     /// The bytes that are deleted at the offset: 0 where no deletion is listed there.
+    #[must_use]
     pub fn delta_bytes_at(&self, offset: u64) -> u32 {
         match search::delta_at(&self.deltas, offset) {
             Some(delta) => delta.bytes_deleted,
@@ -227,11 +237,13 @@ impl SectionRelaxDeltas {
     }
 
     /// Whether nothing is listed. A deletion of no bytes counts as listed.
+    #[must_use]
     pub fn is_empty(&self) -> bool {
         self.deltas.is_empty()
     }
 
     /// The bytes that all deletions take together.
+    #[must_use]
     pub fn total_deleted(&self) -> u64 {
         search::bytes_of_first(&self.deltas, self.deltas.len())
     }
@@ -239,12 +251,14 @@ impl SectionRelaxDeltas {
     /// How many kept bytes lie below `input_offset`, which is the offset in the output section of
     /// what stands there. Of an offset inside a deletion it is that of what follows the deletion.
     /// The search takes O(log n).
+    #[must_use]
     #[inline]
     pub fn input_to_output_offset(&self, input_offset: u64) -> u64 {
         input_to_output_counted(&mut self.counted(), input_offset)
     }
 
     /// Whether the offset lies above the first byte of a deletion and below its end.
+    #[must_use]
     pub fn is_inside(&self, input_offset: u64) -> bool {
         search::is_inside(&self.deltas, input_offset)
     }
@@ -255,6 +269,8 @@ impl SectionRelaxDeltas {
     /// # Requires
     ///
     /// - `(input_offset as u128) + (len as u128) < 1 << 64`
+    #[must_use]
+    #[cfg_attr(debug_assertions, track_caller)]
     pub fn kept_output_offset(&self, input_offset: u64, len: u64) -> Option<u64> {
         debug_assert!((input_offset as u128) + (len as u128) < 1 << 64);
         search::rank_of_kept(&self.deltas, input_offset, len)
@@ -268,6 +284,8 @@ impl SectionRelaxDeltas {
     /// # Requires
     ///
     /// - `self.output_fits(output_offset)`
+    #[must_use]
+    #[cfg_attr(debug_assertions, track_caller)]
     #[inline]
     pub fn output_to_input_offset(&self, output_offset: u64) -> u64 {
         debug_assert!(self.output_fits(output_offset));
@@ -275,23 +293,27 @@ impl SectionRelaxDeltas {
     }
 
     /// Whether the input offset of the kept byte at `output_offset` is at most `u64::MAX`.
+    #[must_use]
     pub fn output_fits(&self, output_offset: u64) -> bool {
         search::bytes_before(&self.deltas, output_offset) <= u64::MAX - output_offset
     }
 
     /// The deltas, with a count of the looks at them, 0 so far.
+    #[must_use]
     #[inline(always)]
     pub fn counted(&self) -> Counted<'_> {
         Counted::new(&self.deltas, &self.heads)
     }
 
     /// A cursor before the first deletion.
+    #[must_use]
     pub fn cursor(&self) -> RelaxCursor<'_> {
         RelaxCursor::new(&self.deltas)
     }
 }
 
 /// `input_to_output_offset` of the deltas, or `input_offset` itself where there are none.
+#[must_use]
 #[inline]
 pub fn opt_input_to_output(deltas: Option<&SectionRelaxDeltas>, input_offset: u64) -> u64 {
     match deltas {

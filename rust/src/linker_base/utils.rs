@@ -1,4 +1,6 @@
 // Made by tools/erase of crates/linker_base/src/utils.rt.
+//! Little-endian words, byte masks, and readers of words, strings and ULEB128 numbers.
+//!
 #![doc = include_str!("../../doc/utils.md")]
 
 #[cfg(feature = "readers")]
@@ -15,6 +17,8 @@ use bstr::ByteSlice;
 /// # Requires
 ///
 /// - `4 <= bytes.len()`
+#[must_use]
+#[cfg_attr(debug_assertions, track_caller)]
 #[inline]
 pub fn u32_from_slice(bytes: &[u8]) -> u32 {
     debug_assert!(4 <= bytes.len());
@@ -26,6 +30,8 @@ pub fn u32_from_slice(bytes: &[u8]) -> u32 {
 /// # Requires
 ///
 /// - `8 <= bytes.len()`
+#[must_use]
+#[cfg_attr(debug_assertions, track_caller)]
 #[inline]
 pub fn u64_from_slice(bytes: &[u8]) -> u64 {
     debug_assert!(8 <= bytes.len());
@@ -39,6 +45,7 @@ pub fn u64_from_slice(bytes: &[u8]) -> u64 {
 /// # Requires
 ///
 /// - `mask_bytes.len() <= dest.len()`
+#[cfg_attr(debug_assertions, track_caller)]
 pub fn or_from_slice(dest: &mut [u8], mask_bytes: &[u8]) {
     debug_assert!(mask_bytes.len() <= dest.len());
     for (i, mask) in mask_bytes.iter().enumerate() {
@@ -51,6 +58,7 @@ pub fn or_from_slice(dest: &mut [u8], mask_bytes: &[u8]) {
 /// # Requires
 ///
 /// - `mask_bytes.len() <= dest.len()`
+#[cfg_attr(debug_assertions, track_caller)]
 pub fn and_from_slice(dest: &mut [u8], mask_bytes: &[u8]) {
     debug_assert!(mask_bytes.len() <= dest.len());
     for (i, mask) in mask_bytes.iter().enumerate() {

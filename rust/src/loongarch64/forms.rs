@@ -134,6 +134,7 @@ impl LoongArch64Instruction {
     ///
     /// - room: `self.window() <= dest.len()`
     /// - fits: `self.fits(extracted_value, dest)`
+    #[cfg_attr(debug_assertions, track_caller)]
     #[inline]
     pub fn write_to_value(self, extracted_value: u64, negative: bool, dest: &mut [u8]) {
         debug_assert!(self.window() <= dest.len());
@@ -147,6 +148,8 @@ impl LoongArch64Instruction {
     /// # Requires
     ///
     /// - `self.window() <= bytes.len()`
+    #[must_use]
+    #[cfg_attr(debug_assertions, track_caller)]
     #[inline]
     pub fn read_value(self, bytes: &[u8]) -> (u64, bool) {
         debug_assert!(self.window() <= bytes.len());
@@ -181,12 +184,14 @@ impl InstructionForm for LoongArch64Instruction {
         }
     }
 
+    #[cfg_attr(debug_assertions, track_caller)]
     #[inline]
     fn fits(self, value: u64, _bytes: &[u8]) -> bool {
         debug_assert!(self.window() <= _bytes.len());
         value < self.bits().end
     }
 
+    #[cfg_attr(debug_assertions, track_caller)]
     #[inline]
     fn write(self, value: u64, negative: bool, dest: &mut [u8]) {
         debug_assert!(self.window() <= dest.len());
@@ -194,6 +199,7 @@ impl InstructionForm for LoongArch64Instruction {
         self.write_to_value(value, negative, dest);
     }
 
+    #[cfg_attr(debug_assertions, track_caller)]
     #[inline]
     fn read(self, bytes: &[u8]) -> (u64, bool) {
         debug_assert!(self.window() <= bytes.len());

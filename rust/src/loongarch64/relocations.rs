@@ -101,6 +101,7 @@ impl fmt::Debug for LoongArch64Relocation {
 
 impl LoongArch64Relocation {
     /// The relocation with a code, `r_type` in ELF files; `Other(code)` for a code without a name.
+    #[must_use]
     #[inline(always)]
     pub fn from_elf(code: u32) -> LoongArch64Relocation {
         match code {
@@ -179,6 +180,7 @@ impl LoongArch64Relocation {
     }
 
     /// The code, `r_type` in ELF files.
+    #[must_use]
     #[inline]
     pub fn elf_code(self) -> u32 {
         match self {
@@ -257,6 +259,7 @@ impl LoongArch64Relocation {
     }
 
     /// The name, as "R_LARCH_32"; "unknown relocation" for `Other`.
+    #[must_use]
     pub fn name(self) -> &'static str {
         match self {
             LoongArch64Relocation::R_LARCH_NONE => "R_LARCH_NONE",
@@ -334,6 +337,7 @@ impl LoongArch64Relocation {
     }
 
     /// What a relocation of a ULEB128 number does; `None` for all others.
+    #[must_use]
     pub fn uleb128_role(self) -> Option<Uleb128Role> {
         match self {
             LoongArch64Relocation::R_LARCH_ADD_ULEB128 => Some(Uleb128Role::Adds),
@@ -577,6 +581,7 @@ fn place(name: LoongArch64Relocation) -> usize {
 /// `R_LARCH_CALL36` allows -2^37 to 2^37 - 1. `pcaddu18i` with `jirl` reaches the value itself only
 /// up to 2^37 - 2^17 - 4; above, it is the value less 2^38. Nothing is claimed of what the machine
 /// makes of `R_LARCH_CALL30`'s pair.
+#[must_use]
 #[inline]
 pub fn relocation_type_from_raw(name: LoongArch64Relocation) -> Option<RelocationKindInfo> {
     row(name)
@@ -584,12 +589,14 @@ pub fn relocation_type_from_raw(name: LoongArch64Relocation) -> Option<Relocatio
 
 /// What a relocation means, with what a write of it tests. Returns `None` where `relocation_type_from_raw`
 /// does.
+#[must_use]
 #[inline(always)]
 pub fn prepared_row(name: LoongArch64Relocation) -> Option<PreparedRow> {
     prepared(&ROWS[place(name)])
 }
 
 /// What a relocation means, in numbers. Returns `None` where `relocation_type_from_raw` does.
+#[must_use]
 #[inline(always)]
 pub fn relocation_numbers(name: LoongArch64Relocation) -> Option<&'static RelocationNumbers> {
     numbers(&ROWS[place(name)])

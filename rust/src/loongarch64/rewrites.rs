@@ -24,6 +24,7 @@ impl RelaxationKind {
     /// # Requires
     ///
     /// - `self.can_apply(section_bytes, *offset_in_section)`
+    #[cfg_attr(debug_assertions, track_caller)]
     #[inline]
     pub fn apply(self, section_bytes: &mut [u8], offset_in_section: &mut u64, addend: &mut i64) {
         debug_assert!(self.can_apply(section_bytes, *offset_in_section));
@@ -36,6 +37,7 @@ impl RelaxationKind {
 
     /// Whether `apply` may be called at an offset of a section: the bytes that it rewrites lie in
     /// the section.
+    #[must_use]
     #[inline]
     pub fn can_apply(self, section: &[u8], offset: u64) -> bool {
         match self {
@@ -45,6 +47,7 @@ impl RelaxationKind {
     }
 
     /// What happens to the next relocation: it is applied as usual.
+    #[must_use]
     #[inline]
     pub fn next_modifier(&self) -> RelocationModifier {
         RelocationModifier::Normal
@@ -52,6 +55,7 @@ impl RelaxationKind {
 }
 
 impl InstructionRewrite for RelaxationKind {
+    #[cfg_attr(debug_assertions, track_caller)]
     #[inline(always)]
     fn apply(self, section: &mut [u8], offset: &mut u64, addend: &mut i64) {
         debug_assert!(self.can_apply(section, *offset));

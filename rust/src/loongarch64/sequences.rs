@@ -15,6 +15,7 @@ fn page_of(address: u64) -> u64 {
 /// is made relative to `pc`. `s` is the symbol's address plus the addend, and `pc` the address of
 /// the first instruction plus 8. Modulo 2^64 the number is the page of `s + 2^31 + c` less the page
 /// of `pc - 8`, where `c` is `2^12 - 2^32` if bit 11 of `s` is set, and 0 otherwise.
+#[must_use]
 #[inline]
 pub fn highest_relocation_with_bias(s: u64, pc: u64) -> u64 {
     let correction = if s.extract_bit(11) == 1 {
@@ -35,6 +36,7 @@ pub fn highest_relocation_with_bias(s: u64, pc: u64) -> u64 {
 /// # Requires
 ///
 /// - `20 <= dest.len()`
+#[cfg_attr(debug_assertions, track_caller)]
 pub fn write_address_sequence(dest: &mut [u8], pc: u64, target: u64) {
     debug_assert!(20 <= dest.len());
     let distance = page_of(target.wrapping_add(SIZE_2KB)).wrapping_sub(page_of(pc));

@@ -76,6 +76,7 @@ impl fmt::Debug for Ppc64Relocation {
 
 impl Ppc64Relocation {
     /// The relocation with a code, `r_type` in ELF files; `Other(code)` for a code without a name.
+    #[must_use]
     #[inline(always)]
     pub fn from_elf(code: u32) -> Ppc64Relocation {
         // the first part is dense enough for a table
@@ -142,6 +143,7 @@ impl Ppc64Relocation {
     }
 
     /// The code, `r_type` in ELF files.
+    #[must_use]
     #[inline]
     pub fn elf_code(self) -> u32 {
         match self {
@@ -201,6 +203,7 @@ impl Ppc64Relocation {
     }
 
     /// The name, as "R_PPC64_REL24"; "unknown relocation" for `Other`.
+    #[must_use]
     pub fn name(self) -> &'static str {
         match self {
             Ppc64Relocation::R_PPC64_NONE => "R_PPC64_NONE",
@@ -435,6 +438,7 @@ fn place(name: Ppc64Relocation) -> usize {
 /// The halves `_HA`, `_HI` and `_LO`, as `R_PPC64_TOC16_HA` and `R_PPC64_REL16_HA`, allow every
 /// value. A `_HA` half with its signed low half is the value itself only from -2^31 - 0x8000 to
 /// 2^31 - 0x8001. Elsewhere it is the value modulo 2^32.
+#[must_use]
 #[inline]
 pub fn relocation_type_from_raw(name: Ppc64Relocation) -> Option<RelocationKindInfo> {
     row(name)
@@ -442,12 +446,14 @@ pub fn relocation_type_from_raw(name: Ppc64Relocation) -> Option<RelocationKindI
 
 /// What a relocation means, with what a write of it tests. Returns `None` where `relocation_type_from_raw`
 /// does.
+#[must_use]
 #[inline(always)]
 pub fn prepared_row(name: Ppc64Relocation) -> Option<PreparedRow> {
     prepared(&ROWS[place(name)])
 }
 
 /// What a relocation means, in numbers. Returns `None` where `relocation_type_from_raw` does.
+#[must_use]
 #[inline(always)]
 pub fn relocation_numbers(name: Ppc64Relocation) -> Option<&'static RelocationNumbers> {
     numbers(&ROWS[place(name)])

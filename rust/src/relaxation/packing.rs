@@ -12,6 +12,7 @@ use crate::riscv64::{
 /// A call in a section: a pair of its site and its target, or a caller's own struct.
 pub trait AsCall: Copy {
     /// The offsets of the call's first instruction and of what it calls.
+    #[must_use]
     fn as_call(self) -> (u64, u64);
 }
 
@@ -71,6 +72,7 @@ fn site_output_offset(deltas: &[RelaxDelta], site: u64) -> Option<u64> {
 
 /// The index of the first call whose site is less than 4 above the site before it. None where the
 /// sites ascend by at least 4.
+#[must_use]
 #[inline]
 pub fn first_not_apart<C: AsCall>(calls: &[C]) -> Option<usize> {
     for at in 1..calls.len() {
@@ -84,6 +86,7 @@ pub fn first_not_apart<C: AsCall>(calls: &[C]) -> Option<usize> {
 }
 
 /// Whether the sites of calls, each a site and a target, ascend by at least 4.
+#[must_use]
 pub fn calls_apart(calls: &[(u64, u64)]) -> bool {
     first_not_apart(calls).is_none()
 }
@@ -213,6 +216,7 @@ fn put_calls<C: AsCall>(
 }
 
 /// How many bytes of a section are kept: as many as it takes when it is packed.
+#[must_use]
 #[inline]
 pub fn packed_len(section: &[u8], deltas: &[RelaxDelta]) -> usize {
     output_offset(deltas, section.len() as u64) as usize
@@ -232,6 +236,7 @@ pub fn packed_len(section: &[u8], deltas: &[RelaxDelta]) -> usize {
 ///
 /// - apart: `first_not_apart(calls).is_none()`
 /// - room: `AreValidDeltas deltas → length out ≡ rank (deletions_of deltas) (length section)`
+#[cfg_attr(debug_assertions, track_caller)]
 pub fn pack_into<C: AsCall>(
     section: &[u8],
     deltas: &[RelaxDelta],
@@ -257,6 +262,7 @@ pub fn pack_into<C: AsCall>(
 /// # Requires
 ///
 /// - `calls_apart(calls)`
+#[cfg_attr(debug_assertions, track_caller)]
 pub fn pack_section(
     section: &[u8],
     deltas: &SectionRelaxDeltas,

@@ -10,9 +10,11 @@ use crate::riscv64::{distance_fits_jal, is_even};
 /// 1.
 pub trait AsChoice: Copy {
     /// Whether the call is chosen.
+    #[must_use]
     fn as_choice(self) -> bool;
 
     /// The value that tells it.
+    #[must_use]
     fn from_choice(chosen: bool) -> Self;
 }
 
@@ -260,6 +262,7 @@ fn outside_len<C: AsCall>(calls: &[C]) -> usize {
 /// None where `shrink_calls` accepts the calls.
 ///
 /// It takes no memory. For k calls beside n deltas the work is O(k log n + k log k).
+#[must_use]
 pub fn first_not_shrinkable<C: AsCall>(deltas: &[RelaxDelta], calls: &[C]) -> Option<usize> {
     let placed = placed_len(deltas, calls);
     let first = outside_len(&calls[..placed]);
@@ -273,6 +276,7 @@ pub fn first_not_shrinkable<C: AsCall>(deltas: &[RelaxDelta], calls: &[C]) -> Op
 /// Whether `shrink_calls` accepts the calls: their sites ascend by at least 8, the eight bytes at
 /// each site are kept, the four bytes after each call's first instruction may be deleted all
 /// together, and no target is strictly inside four such bytes.
+#[must_use]
 pub fn calls_shrinkable(deltas: &SectionRelaxDeltas, calls: &[(u64, u64)]) -> bool {
     first_not_shrinkable(deltas.deltas(), calls).is_none()
 }
@@ -295,6 +299,7 @@ pub fn calls_shrinkable(deltas: &SectionRelaxDeltas, calls: &[(u64, u64)]) -> bo
 ///
 /// - one_each: `answer.len() == calls.len()`
 /// - shrinkable: `AreValidDeltas deltas → AreShrinkable (deletions_of deltas) (map C.call calls)`
+#[cfg_attr(debug_assertions, track_caller)]
 pub fn shrink_calls_into<C: AsCall, A: AsChoice>(
     deltas: &[RelaxDelta],
     calls: &[C],
@@ -321,6 +326,7 @@ pub fn shrink_calls_into<C: AsCall, A: AsChoice>(
 /// # Requires
 ///
 /// - `calls_shrinkable(deltas, calls)`
+#[cfg_attr(debug_assertions, track_caller)]
 pub fn shrink_calls(
     deltas: &SectionRelaxDeltas,
     calls: &[(u64, u64)],

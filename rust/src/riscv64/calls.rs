@@ -16,6 +16,7 @@ pub const JAL_MAX: i64 = 1048575;
 
 /// Whether a distance in bytes lies in the range of `jal`'s signed 21 bits, both ends included
 /// (RISC-V unprivileged ISA, "Unconditional Jumps").
+#[must_use]
 #[inline]
 pub fn distance_fits_jal(distance: i64) -> bool {
     JAL_MIN <= distance && distance <= JAL_MAX
@@ -36,6 +37,7 @@ fn destination(word: u32) -> u32 {
 /// that links the same register: `auipc` and then `jalr` with the same register as base and as
 /// both destinations. (RISC-V ELF psABI, "Function Call Relaxation"; linkers take the register of
 /// the `jalr`, `CallToJal` that of the `auipc`.)
+#[must_use]
 pub fn is_plain_call(section: &[u8], site: u64) -> bool {
     if !has_window(section, site, 0, 8) {
         return false;
@@ -100,7 +102,8 @@ impl LinkRegister {
 /// Why a call doesn't become a jump.
 #[derive(Debug, Clone, Copy, PartialEq, Eq)]
 pub enum CallError {
-    /// The four bytes at the site don't lie in the section, or the target is past its end.
+    /// The four bytes at the site, or eight where the `jalr` says which register is linked, don't lie
+    /// in the section, or the target is past its end.
     OutOfSection,
     /// One of the four bytes at the site is deleted.
     SiteDeleted,

@@ -152,6 +152,7 @@ impl RiscVInstruction {
     /// # Requires
     ///
     /// - `self.window() <= dest.len()`
+    #[cfg_attr(debug_assertions, track_caller)]
     #[inline]
     pub fn write_to_value(self, extracted_value: u64, negative: bool, dest: &mut [u8]) {
         debug_assert!(self.window() <= dest.len());
@@ -166,6 +167,8 @@ impl RiscVInstruction {
     /// # Requires
     ///
     /// - `self.window() <= bytes.len()`
+    #[must_use]
+    #[cfg_attr(debug_assertions, track_caller)]
     #[inline]
     pub fn read_value(self, bytes: &[u8]) -> (u64, bool) {
         debug_assert!(self.window() <= bytes.len());
@@ -220,12 +223,14 @@ impl InstructionForm for RiscVInstruction {
         }
     }
 
+    #[cfg_attr(debug_assertions, track_caller)]
     #[inline]
     fn fits(self, _value: u64, _bytes: &[u8]) -> bool {
         debug_assert!(self.window() <= _bytes.len());
         true
     }
 
+    #[cfg_attr(debug_assertions, track_caller)]
     #[inline]
     fn write(self, value: u64, negative: bool, dest: &mut [u8]) {
         debug_assert!(self.window() <= dest.len());
@@ -233,6 +238,7 @@ impl InstructionForm for RiscVInstruction {
         self.write_to_value(value, negative, dest);
     }
 
+    #[cfg_attr(debug_assertions, track_caller)]
     #[inline]
     fn read(self, bytes: &[u8]) -> (u64, bool) {
         debug_assert!(self.window() <= bytes.len());

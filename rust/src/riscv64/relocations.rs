@@ -73,6 +73,7 @@ impl fmt::Debug for RiscVRelocation {
 
 impl RiscVRelocation {
     /// The relocation with a code, `r_type` in ELF files; `Other(code)` for a code without a name.
+    #[must_use]
     #[inline(always)]
     pub fn from_elf(code: u32) -> RiscVRelocation {
         match code {
@@ -127,6 +128,7 @@ impl RiscVRelocation {
     }
 
     /// The code, `r_type` in ELF files.
+    #[must_use]
     #[inline]
     pub fn elf_code(self) -> u32 {
         match self {
@@ -181,6 +183,7 @@ impl RiscVRelocation {
     }
 
     /// The name, as "R_RISCV_32"; "unknown relocation" for `Other`.
+    #[must_use]
     pub fn name(self) -> &'static str {
         match self {
             RiscVRelocation::R_RISCV_NONE => "R_RISCV_NONE",
@@ -234,6 +237,7 @@ impl RiscVRelocation {
     }
 
     /// What a relocation of a ULEB128 number does; `None` for all others.
+    #[must_use]
     pub fn uleb128_role(self) -> Option<Uleb128Role> {
         match self {
             RiscVRelocation::R_RISCV_SET_ULEB128 => Some(Uleb128Role::Sets),
@@ -263,6 +267,7 @@ pub(super) fn clui_info() -> RelocationKindInfo {
 }
 
 /// What `R_RISCV_HI20` means once its `lui` has become a `c.lui`, in numbers.
+#[must_use]
 pub fn clui_numbers() -> RelocationNumbers {
     clui_entry().numbers
 }
@@ -430,6 +435,7 @@ fn place(name: RiscVRelocation) -> usize {
 /// signed low part is the value itself only up to 2^31 - 0x801; above, it is the value less 2^32.
 /// `R_RISCV_CALL_PLT` allows 0x7ffff800, which the machine reads as -0x80000800. Where addresses
 /// have 64 bits, test that bound too.
+#[must_use]
 #[inline]
 pub fn relocation_type_from_raw(name: RiscVRelocation) -> Option<RelocationKindInfo> {
     row(name)
@@ -437,12 +443,14 @@ pub fn relocation_type_from_raw(name: RiscVRelocation) -> Option<RelocationKindI
 
 /// What a relocation means, with what a write of it tests. Returns `None` where `relocation_type_from_raw`
 /// does.
+#[must_use]
 #[inline(always)]
 pub fn prepared_row(name: RiscVRelocation) -> Option<PreparedRow> {
     prepared(&ROWS[place(name)])
 }
 
 /// What a relocation means, in numbers. Returns `None` where `relocation_type_from_raw` does.
+#[must_use]
 #[inline(always)]
 pub fn relocation_numbers(name: RiscVRelocation) -> Option<&'static RelocationNumbers> {
     numbers(&ROWS[place(name)])
@@ -462,17 +470,20 @@ fn row(name: RiscVRelocation) -> Option<RelocationKindInfo> {
 /// The value is the distance from the place to the descriptor's GOT entry. The place of
 /// `R_RISCV_TLSDESC_LOAD_LO12` and `R_RISCV_TLSDESC_ADD_LO12` is that of their
 /// `R_RISCV_TLSDESC_HI20`, which their symbol names. `R_RISCV_TLSDESC_CALL` has no value.
+#[must_use]
 pub fn tls_descriptor_relocation(name: RiscVRelocation) -> Option<RelocationKindInfo> {
     descriptor_row(name)
 }
 
 /// What `tls_descriptor_relocation` returns, with what a write of it tests.
+#[must_use]
 #[inline(always)]
 pub fn prepared_tls_descriptor_row(name: RiscVRelocation) -> Option<PreparedRow> {
     prepared(&TLS_DESCRIPTOR_ROWS[tls_descriptor_place(name)])
 }
 
 /// What `tls_descriptor_relocation` returns, in numbers.
+#[must_use]
 #[inline(always)]
 pub fn tls_descriptor_numbers(name: RiscVRelocation) -> Option<&'static RelocationNumbers> {
     numbers(&TLS_DESCRIPTOR_ROWS[tls_descriptor_place(name)])

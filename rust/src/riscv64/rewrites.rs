@@ -37,6 +37,7 @@ impl RelaxationKind {
     /// # Requires
     ///
     /// - `self.can_apply(section_bytes, *offset_in_section)`
+    #[cfg_attr(debug_assertions, track_caller)]
     #[inline]
     pub fn apply(self, section_bytes: &mut [u8], offset_in_section: &mut u64, addend: &mut i64) {
         debug_assert!(self.can_apply(section_bytes, *offset_in_section));
@@ -67,6 +68,7 @@ impl RelaxationKind {
 
     /// Whether `apply` may be called at an offset of a section: the bytes that it rewrites lie in
     /// the section.
+    #[must_use]
     #[inline]
     pub fn can_apply(self, section: &[u8], offset: u64) -> bool {
         match self {
@@ -79,6 +81,7 @@ impl RelaxationKind {
     }
 
     /// What happens to the next relocation: `CallToJal` and `Hi20Delete` skip it.
+    #[must_use]
     #[inline]
     pub fn next_modifier(&self) -> RelocationModifier {
         match self {
@@ -95,6 +98,7 @@ impl RelaxationKind {
     /// Whether the high part of a value is 0: bits 12 to 31 of the value plus 0x800, modulo 2^64.
     /// If so, a value of 32 signed bits equals its signed low 12 bits, and `Hi20Delete` with
     /// `Lo12Rs1ToZero` computes it.
+    #[must_use]
     #[inline]
     pub fn hi20_is_zero(value: u64) -> bool {
         value.wrapping_add(0x800).extract_bit_range(12..32) == 0
@@ -104,12 +108,14 @@ impl RelaxationKind {
     /// signed, divided by 4096 and rounded down, is from -32 to 31 and is not 0. If so, the
     /// immediate of `CluiType`, and also that of `UType`, makes the value with its signed low 12
     /// bits.
+    #[must_use]
     #[inline]
     pub fn hi20_fits_clui(value: u64) -> bool {
         has_clui_high(value)
     }
 
     /// Whether a register can be the destination of `c.lui`: neither x0 nor x2, the stack pointer.
+    #[must_use]
     #[inline]
     pub fn rd_valid_for_clui(rd: u32) -> bool {
         rd != 0 && rd != 2
@@ -117,12 +123,14 @@ impl RelaxationKind {
 
     /// What `R_RISCV_HI20` means once its `lui` has become a `c.lui` (`Hi20ToCLui`). Its range is
     /// wider than what `c.lui` holds: `hi20_fits_clui` is the test.
+    #[must_use]
     pub fn clui_rel_info() -> RelocationKindInfo {
         relocations::clui_info()
     }
 }
 
 impl InstructionRewrite for RelaxationKind {
+    #[cfg_attr(debug_assertions, track_caller)]
     #[inline(always)]
     fn apply(self, section: &mut [u8], offset: &mut u64, addend: &mut i64) {
         debug_assert!(self.can_apply(section, *offset));

@@ -66,6 +66,7 @@ impl fmt::Debug for X86_64Relocation {
 
 impl X86_64Relocation {
     /// The relocation with a code, `r_type` in ELF files; `Other(code)` for a code without a name.
+    #[must_use]
     #[inline(always)]
     pub fn from_elf(code: u32) -> X86_64Relocation {
         match code {
@@ -113,6 +114,7 @@ impl X86_64Relocation {
     }
 
     /// The code, `r_type` in ELF files.
+    #[must_use]
     #[inline]
     pub fn elf_code(self) -> u32 {
         match self {
@@ -160,6 +162,7 @@ impl X86_64Relocation {
     }
 
     /// The name, as "R_X86_64_64"; "unknown relocation" for `Other`.
+    #[must_use]
     pub fn name(self) -> &'static str {
         match self {
             X86_64Relocation::R_X86_64_NONE => "R_X86_64_NONE",
@@ -340,6 +343,7 @@ fn place(name: X86_64Relocation) -> usize {
 /// What a relocation means. It takes a name; `X86_64Relocation::from_elf` gives the name of a code.
 /// Returns `None` for `Other`. Fields of 8 bytes are not checked. An address in 16 or 8 bits may be
 /// signed or unsigned.
+#[must_use]
 #[inline]
 pub fn relocation_from_raw(name: X86_64Relocation) -> Option<RelocationKindInfo> {
     row(name)
@@ -347,12 +351,14 @@ pub fn relocation_from_raw(name: X86_64Relocation) -> Option<RelocationKindInfo>
 
 /// What a relocation means, with what a write of it tests. Returns `None` where `relocation_from_raw`
 /// does.
+#[must_use]
 #[inline(always)]
 pub fn prepared_row(name: X86_64Relocation) -> Option<PreparedRow> {
     prepared(&ROWS[place(name)])
 }
 
 /// What a relocation means, in numbers. Returns `None` where `relocation_from_raw` does.
+#[must_use]
 #[inline(always)]
 pub fn relocation_numbers(name: X86_64Relocation) -> Option<&'static RelocationNumbers> {
     numbers(&ROWS[place(name)])

@@ -411,10 +411,6 @@ fn rewrites_of_one_instruction_match_worked_words() {
     for &(kind, before, after) in &table {
         expect_eq(before, rewritten_word(kind, before), after);
     }
-    let section = [0u8; 8];
-    assert!(!RelaxationKind::AdrpAddToNopAdr.can_apply(&section, 3));
-    assert!(!RelaxationKind::ReplaceWithNop.can_apply(&section, 5));
-    assert!(!RelaxationKind::ReplaceWithNop.can_apply(&section, u64::MAX));
 }
 
 /// A relocation's meaning without a page mask.

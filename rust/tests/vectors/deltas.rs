@@ -4,8 +4,8 @@
 use crate::support::*;
 use crate::rows::expect_eq;
 use linker_utils::relaxation::{
-    DeltaSlice, Looks, OutOfMemory, RelaxDelta, RelaxDeltaMap, SectionRelaxDeltas, first_invalid,
-    input_to_output_counted, opt_input_to_output, output_to_input_counted,
+    BlockHead, DeltaSlice, Looks, OutOfMemory, RelaxDelta, RelaxDeltaMap, SectionRelaxDeltas,
+    first_invalid, input_to_output_counted, opt_input_to_output, output_to_input_counted,
 };
 
 fn deltas_of(
@@ -149,7 +149,8 @@ fn merges_sort_and_sum() -> Result<(), Fail> {
     assert_eq!(input(&merged, 0), 2);
 
     let mut batched = deltas_of(&[(8, 4)])?;
-    let batches = try_vec![[(16, 4)].fallible_to_vec()?, [(0, 2)].fallible_to_vec()?]?;
+    let (second, third) = ([(16, 4)].fallible_to_vec()?, [(0, 2)].fallible_to_vec()?);
+    let batches = try_vec![Vec::new(), second, third]?;
     assert!(batched.are_mergeable(&batches));
     batched.merge_all(&batches)?;
     assert_eq!(batched.deltas(), merged.deltas());
@@ -166,7 +167,7 @@ fn invalid_deletions_are_rejected() -> Result<(), Fail> {
         &[(u64::MAX - 1, 1)],
     ];
     for raw in valid {
-        assert!(SectionRelaxDeltas::is_valid(raw), "{raw:?}");
+        expect_eq(raw, SectionRelaxDeltas::is_valid(raw), true);
     }
     let invalid: [&[(u64, u32)]; 4] = [
         &[(0, 5), (4, 1)],
@@ -175,13 +176,13 @@ fn invalid_deletions_are_rejected() -> Result<(), Fail> {
         &[(u64::MAX, 1)],
     ];
     for raw in invalid {
-        assert!(!SectionRelaxDeltas::is_valid(raw), "{raw:?}");
+        expect_eq(raw, SectionRelaxDeltas::is_valid(raw), false);
     }
 
     let deltas = deltas_of(&[(4, 4)])?;
     let mergeable: [&[(u64, u32)]; 3] = [&[], &[(8, 0)], &[(8, 4), (0, 4)]];
     for pairs in mergeable {
-        assert!(deltas.is_mergeable(pairs), "{pairs:?}");
+        expect_eq(pairs, deltas.is_mergeable(pairs), true);
     }
     let touching: [&[(u64, u32)]; 5] = [
         &[(6, 1)],
@@ -191,7 +192,7 @@ fn invalid_deletions_are_rejected() -> Result<(), Fail> {
         &[(20, 1), (20, 1)],
     ];
     for pairs in touching {
-        assert!(!deltas.is_mergeable(pairs), "{pairs:?}");
+        expect_eq(pairs, deltas.is_mergeable(pairs), false);
     }
 
     let none = deltas_of(&[])?;
@@ -276,27 +277,71 @@ fn half_deleted(count: u32) -> Result<Vec<(u64, u32)>, Fail> {
     Ok(raw)
 }
 
+/// Requires that a kept byte's offsets are translated to each other, by at most so many looks, also
+/// with the heads of the blocks, which stand behind one that is none, and with more or fewer.
+fn expect_translated(
+    deltas: &SectionRelaxDeltas,
+    behind_none: &[BlockHead],
+    most: u64,
+    offsets: (u64, u64),
+) {
+    let (from, to) = offsets;
+    expect_eq(from, deltas.input_to_output_offset(from), to);
+    expect_eq(to, input(deltas, to), from);
+    let (output, looks) = output_by_looks(deltas, from);
+    expect_eq(from, (output, looks <= most), (to, true));
+    let (input, looks) = input_by_looks(deltas, to);
+    expect_eq(to, (input, looks <= most), (from, true));
+    let listed = deltas.as_delta_slice();
+    assert!(behind_none.len() >= 2);
+    for heads in [&behind_none[1..], behind_none, &behind_none[2..], &[]] {
+        expect_eq(from, listed.input_to_output_by_heads(heads, from), to);
+        let input = listed.output_to_input_by_heads(heads, to);
+        expect_eq(to, input, Some(from));
+    }
+}
+
 #[test]
 fn long_lists_are_searched_by_blocks() -> Result<(), Fail> {
-    let raw = half_deleted(65)?;
-    let deltas = deltas_of(&raw)?;
-    assert_eq!(deltas.total_deleted(), 260);
-    for (from, to) in [(512, 256), (520, 260)] {
-        let (output, looks) = output_by_looks(&deltas, from);
-        assert_eq!(output, to);
-        assert!(looks <= 10);
+    // of so many deletions, as many looks as their blocks of 64 have binary digits, and eight
+    let lists = [
+        (64, 9),
+        (65, 10),
+        (1024, 13),
+        (1025, 13),
+        (1088, 13),
+        (5000, 15),
+    ];
+    for (count, most) in lists {
+        let raw = half_deleted(count)?;
+        let deltas = deltas_of(&raw)?;
+        let listed = deltas.as_delta_slice();
+        let none = BlockHead {
+            input_offset: 0,
+            output_place: 0,
+        };
+        let mut heads = try_vec![none; listed.block_count()]?;
+        listed.write_heads(&mut heads);
+        let mut behind_none = try_vec![none; 1]?;
+        behind_none.fallible_extend_from_slice(&heads)?;
+        assert!(listed.with_heads(&heads).is_some());
+        assert!(listed.with_heads(&behind_none).is_none());
+        for block in 0..u64::from(count) {
+            for kept in [0, 3] {
+                let offsets = (8 * block + 4 + kept, 4 * block + kept);
+                expect_translated(&deltas, &behind_none, most, offsets);
+            }
+            expect_eq(
+                block,
+                deltas.input_to_output_offset(8 * block + 2),
+                4 * block,
+            );
+        }
+        for past in [0, 9] {
+            let offsets = (8 * u64::from(count) + past, 4 * u64::from(count) + past);
+            expect_translated(&deltas, &behind_none, most, offsets);
+        }
     }
-    for (from, to) in [(255, 511), (256, 516)] {
-        let (input, looks) = input_by_looks(&deltas, from);
-        assert_eq!(input, to);
-        assert!(looks <= 10);
-    }
-
-    let raw = half_deleted(64)?;
-    let one_block = deltas_of(&raw)?;
-    let (output, looks) = output_by_looks(&one_block, 512);
-    assert_eq!(output, 256);
-    assert!(looks <= 9);
     Ok(())
 }
 
@@ -380,38 +425,5 @@ fn maps_keep_each_section() -> Result<(), Fail> {
     assert_eq!(map.get(1).map(|d| d.total_deleted()), Some(6));
     assert_eq!(map.get(3).map(|d| d.total_deleted()), Some(2));
     assert_eq!(map.clone()?.get(1).map(|d| d.total_deleted()), Some(6));
-    Ok(())
-}
-
-#[test]
-fn a_merge_through_get_mut_leaves_the_other_section() -> Result<(), Fail> {
-    let (third, first) = ([(8, 4)], [(4, 4)]);
-    assert!(SectionRelaxDeltas::is_valid(&third) && SectionRelaxDeltas::is_valid(&first));
-    let mut sections = RelaxDeltaMap::new();
-    assert_eq!(sections.last_index(), None);
-    assert!(
-        sections
-            .insert(3, SectionRelaxDeltas::new(&third)?)
-            .is_ok()
-    );
-    assert!(sections.get(1).is_none());
-    assert!(
-        sections
-            .insert_sorted(1, SectionRelaxDeltas::new(&first)?)
-            .is_ok()
-    );
-    assert_eq!(sections.last_index(), Some(3));
-
-    let more = [(0, 2)];
-    if let Some(deltas) = sections.get_mut(1) {
-        assert!(deltas.is_mergeable(&more));
-        deltas.merge_additional(&more)?;
-    }
-    assert!(sections.get(2).is_none());
-    let copy = sections.clone()?;
-    for (section_index, want) in [(1, 6), (3, 4)] {
-        let deltas = copy.get(section_index).expect("the section is there");
-        assert_eq!(deltas.total_deleted(), want, "section {section_index}");
-    }
     Ok(())
 }

@@ -290,7 +290,6 @@ fn nops_are_written_and_other_names_have_no_meaning() {
     let mut offset = 1;
     let mut addend = 7;
     assert!(RelaxationKind::ReplaceWithNop.can_apply(&section, 1));
-    assert!(!RelaxationKind::ReplaceWithNop.can_apply(&section, 3));
     RelaxationKind::ReplaceWithNop.apply(&mut section, &mut offset, &mut addend);
     assert_eq!(section, [0xff, 0x00, 0x00, 0x40, 0x03, 0xff]);
     assert_eq!((offset, addend), (1, 7));

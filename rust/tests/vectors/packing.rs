@@ -32,7 +32,6 @@ struct Row {
     packed: Result<&'static [u8], PackError>,
 }
 
-// Holds whichever growth is refused: `rt try --test --fail-alloc N` refuses the Nth.
 #[test]
 fn sections_are_packed() -> Result<(), Fail> {
     let rows = [
@@ -96,12 +95,9 @@ fn sections_are_packed() -> Result<(), Fail> {
     for row in rows {
         assert!(SectionRelaxDeltas::is_valid(row.deletions));
         assert!(calls_apart(row.calls));
-        let Ok(deltas) = SectionRelaxDeltas::new(row.deletions) else {
-            return Ok(());
-        };
+        let deltas = SectionRelaxDeltas::new(row.deletions)?;
         let packed = pack_section(row.section, &deltas, row.calls);
         match (packed, row.packed) {
-            (Err(PackError::OutOfMemory), _) => return Ok(()),
             (Ok(packed), Ok(want)) => assert_eq!(packed.as_slice(), want),
             (Err(error), Err(want)) => assert_eq!(error, want),
             (Ok(_), Err(_)) | (Err(_), Ok(_)) => assert!(false, "{:?}", row.calls),

@@ -3,6 +3,7 @@
 //! to 1048574 (RISC-V unprivileged ISA, "Unconditional Jumps").
 
 use crate::support::*;
+use crate::rows::expect_eq;
 use linker_utils::relaxation::{
     SectionRelaxDeltas, calls_apart, calls_shrinkable, pack_section, shrink_calls,
 };
@@ -14,7 +15,6 @@ struct Row {
     chosen: &'static [bool],
 }
 
-// Holds whichever growth is refused: `rt try --test --fail-alloc N` refuses the Nth.
 #[test]
 fn choices_are_the_greatest_in_reach() -> Result<(), Fail> {
     let rows = [
@@ -52,14 +52,32 @@ fn choices_are_the_greatest_in_reach() -> Result<(), Fail> {
     ];
     for row in rows {
         assert!(SectionRelaxDeltas::is_valid(row.deletions));
-        let Ok(deltas) = SectionRelaxDeltas::new(row.deletions) else {
-            return Ok(());
-        };
+        let deltas = SectionRelaxDeltas::new(row.deletions)?;
         assert!(calls_shrinkable(&deltas, row.calls));
-        let Ok(chosen) = shrink_calls(&deltas, row.calls) else {
-            return Ok(());
-        };
+        let chosen = shrink_calls(&deltas, row.calls)?;
         assert_eq!(chosen.as_slice(), row.chosen);
+    }
+    Ok(())
+}
+
+/// A call at each multiple of 1000 of what is 8 bytes behind, but for the first. Those at 1052000
+/// and below lie before its target: 1053 calls, which give up 4212 bytes.
+#[test]
+fn many_calls_are_chosen_at_once() -> Result<(), Fail> {
+    let none = SectionRelaxDeltas::new(&[])?;
+    let mut calls = [(0, 0); 1100];
+    for at in 0..1100 {
+        let site = 1000 * at as u64;
+        calls[at] = (site, site + 8);
+    }
+    for (target, is_chosen) in [(1048574 + 4212, true), (1048576 + 4212, false)] {
+        calls[0].1 = target;
+        assert!(calls_shrinkable(&none, &calls));
+        let chosen = shrink_calls(&none, &calls)?;
+        assert_eq!(chosen.len(), 1100);
+        for (at, &found) in chosen.iter().enumerate() {
+            expect_eq((at, target), found, is_chosen || at > 0);
+        }
     }
     Ok(())
 }

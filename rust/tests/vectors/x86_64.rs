@@ -3,6 +3,7 @@
 //! assemblers write both instructions, and worked values.
 
 use crate::rows::expect_eq;
+use crate::windows::requires_window;
 use linker_utils::elf::{AllowedRange, RelocationKind, RelocationKindInfo, RelocationSize};
 use linker_utils::relaxation::RelocationModifier;
 use linker_utils::x86_64::{RelaxationKind, X86_64Relocation, relocation_from_raw};
@@ -573,16 +574,8 @@ static WINDOWS: [(RelaxationKind, u64, usize); 21] = [
 fn rewrites_require_their_window() {
     let bytes = [0; 22];
     for &(kind, offset, len) in &WINDOWS {
-        assert!(0 < len && len <= 22 && offset < 6, "{kind:?}");
-        let section = &bytes[..len];
-        assert!(kind.can_apply(section, offset), "{kind:?}");
-        assert!(!kind.can_apply(&section[1..], offset), "{kind:?}");
-        assert!(
-            offset == 0 || !kind.can_apply(section, offset - 1),
-            "{kind:?}"
-        );
-        assert!(!kind.can_apply(section, offset + 1), "{kind:?}");
-        assert!(!kind.can_apply(section, u64::MAX), "{kind:?}");
+        assert!(len <= 22);
+        requires_window(kind, &bytes[..len], offset);
     }
     assert!(RelaxationKind::NoOp.can_apply(&[], u64::MAX));
 }

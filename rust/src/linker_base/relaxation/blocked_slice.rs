@@ -22,12 +22,14 @@ impl<'a> BlockedSlice<'a> {
     }
 
     /// As `DeltaSlice::input_to_output_offset`. It looks at the heads first. O(log n).
+    #[must_use]
     #[inline(always)]
     pub fn input_to_output_offset(&self, input_offset: u64) -> u64 {
         search::rank_by_heads(self.deltas, self.heads, input_offset)
     }
 
     /// As `DeltaSlice::output_to_input_offset`. It looks at the heads first. O(log n).
+    #[must_use]
     #[inline(always)]
     pub fn output_to_input_offset(&self, output_offset: u64) -> Option<u64> {
         let added = search::bytes_before_by_heads(self.deltas, self.heads, output_offset);

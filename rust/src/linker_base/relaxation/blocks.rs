@@ -34,9 +34,11 @@ impl BlockHead {
 /// A valid list of deltas of which each look is counted.
 pub trait Looks {
     /// How many deltas are listed.
+    #[must_use]
     fn len(&self) -> usize;
 
     /// How many looks were taken.
+    #[must_use]
     fn count(&self) -> u64;
 
     /// The input offset and the output place of the first delta of block `block`, delta
@@ -116,6 +118,7 @@ impl<'a> Looks for Counted<'a> {
         self.count
     }
 
+    #[cfg_attr(debug_assertions, track_caller)]
     #[inline(always)]
     fn head(&mut self, block: usize) -> (u64, u64) {
         debug_assert!(64 * (block as u128) < (Looks::len(self) as u128));
@@ -128,6 +131,7 @@ impl<'a> Looks for Counted<'a> {
         (head.input_offset, head.output_place)
     }
 
+    #[cfg_attr(debug_assertions, track_caller)]
     #[inline(always)]
     fn delta(&mut self, index: usize) -> RelaxDelta {
         debug_assert!(index < Looks::len(self));

@@ -32,6 +32,7 @@ impl<'a> RelaxCursor<'a> {
     /// # Requires
     ///
     /// - `self.can_translate(input_offset)`
+    #[cfg_attr(debug_assertions, track_caller)]
     #[inline]
     pub fn translate(&mut self, input_offset: u64) -> u64 {
         debug_assert!(self.can_translate(input_offset));
@@ -44,6 +45,7 @@ impl<'a> RelaxCursor<'a> {
     }
 
     /// Whether `input_offset` may be given to `translate`.
+    #[must_use]
     #[inline]
     pub fn can_translate(&self, input_offset: u64) -> bool {
         self.is_ahead(input_offset) || self.reached.deleted <= input_offset
@@ -59,6 +61,7 @@ impl<'a> RelaxCursor<'a> {
     ///
     /// - same_length: `queries.len() == out.len()`
     /// - ahead: `self.can_translate_all(queries)`
+    #[cfg_attr(debug_assertions, track_caller)]
     pub fn translate_all(&mut self, queries: &[u64], out: &mut [u64]) {
         debug_assert!(queries.len() == out.len());
         debug_assert!(self.can_translate_all(queries));
@@ -66,12 +69,14 @@ impl<'a> RelaxCursor<'a> {
     }
 
     /// Whether the queries may be given to `translate_all`, with as many places.
+    #[must_use]
     pub fn can_translate_all(&self, queries: &[u64]) -> bool {
         ascend(queries) && (queries.is_empty() || self.is_ahead(queries[0]))
     }
 
     /// How many deltas were passed since the cursor was made: the turns of the loop that passes
     /// them.
+    #[must_use]
     pub fn turns(&self) -> usize {
         self.reached.passed
     }

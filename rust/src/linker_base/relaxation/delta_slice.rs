@@ -20,12 +20,14 @@ pub struct DeltaSlice<'a> {
 
 impl<'a> DeltaSlice<'a> {
     /// The deltas as a slice that translates offsets.
+    #[must_use]
     #[inline(always)]
     pub fn new(deltas: &'a [RelaxDelta]) -> DeltaSlice<'a> {
         DeltaSlice { deltas }
     }
 
     /// How many blocks of `BLOCK_LEN` deltas there are; the last may be shorter.
+    #[must_use]
     #[inline]
     pub fn block_count(&self) -> usize {
         count_blocks(self.deltas.len())
@@ -36,12 +38,14 @@ impl<'a> DeltaSlice<'a> {
     /// # Requires
     ///
     /// - `heads.len() == self.block_count()`
+    #[cfg_attr(debug_assertions, track_caller)]
     pub fn write_heads(&self, heads: &mut [BlockHead]) {
         debug_assert!(heads.len() == self.block_count());
         write_heads(self.deltas, heads);
     }
 
     /// The deltas with heads of their blocks, or none where they aren't as many as blocks.
+    #[must_use]
     #[inline(always)]
     pub fn with_heads(&self, heads: &'a [BlockHead]) -> Option<BlockedSlice<'a>> {
         if heads.len() != self.block_count() {
@@ -60,30 +64,35 @@ impl<'a> DeltaSlice<'a> {
     }
 
     /// How many deltas there are.
+    #[must_use]
     #[inline]
     pub fn len(&self) -> usize {
         self.deltas.len()
     }
 
     /// Whether nothing is listed. A deletion of no bytes counts as listed.
+    #[must_use]
     #[inline]
     pub fn is_empty(&self) -> bool {
         self.deltas.is_empty()
     }
 
     /// The bytes that all deletions take together.
+    #[must_use]
     #[inline]
     pub fn total_deleted(&self) -> u64 {
         search::bytes_of_first(self.deltas, self.deltas.len())
     }
 
     /// Whether a deletion is listed at the offset, be it one of no bytes. O(log n).
+    #[must_use]
     #[inline]
     pub fn has_delta_at(&self, offset: u64) -> bool {
         search::delta_at(self.deltas, offset).is_some()
     }
 
     /// The bytes that are deleted at the offset: 0 where no deletion is listed there. O(log n).
+    #[must_use]
     #[inline]
     pub fn delta_bytes_at(&self, offset: u64) -> u32 {
         match search::delta_at(self.deltas, offset) {
@@ -95,6 +104,7 @@ impl<'a> DeltaSlice<'a> {
     /// How many kept bytes lie below `input_offset`, which is the offset in the output section of
     /// what stands there. Of an offset inside a deletion it is that of what follows the deletion.
     /// O(log n).
+    #[must_use]
     #[inline(always)]
     pub fn input_to_output_offset(&self, input_offset: u64) -> u64 {
         search::rank(self.deltas, input_offset)
@@ -106,6 +116,8 @@ impl<'a> DeltaSlice<'a> {
     /// # Requires
     ///
     /// - `(input_offset as u128) + (len as u128) < 1 << 64`
+    #[must_use]
+    #[cfg_attr(debug_assertions, track_caller)]
     #[inline]
     pub fn kept_output_offset(&self, input_offset: u64, len: u64) -> Option<u64> {
         debug_assert!((input_offset as u128) + (len as u128) < 1 << 64);
@@ -113,6 +125,7 @@ impl<'a> DeltaSlice<'a> {
     }
 
     /// Whether the offset lies above the first byte of a deletion and below its end. O(log n).
+    #[must_use]
     #[inline]
     pub fn is_inside(&self, input_offset: u64) -> bool {
         search::is_inside(self.deltas, input_offset)
@@ -120,6 +133,7 @@ impl<'a> DeltaSlice<'a> {
 
     /// The offset in the input section of the kept byte at `output_offset`, or none where that is
     /// above `u64::MAX`. O(log n).
+    #[must_use]
     #[inline(always)]
     pub fn output_to_input_offset(&self, output_offset: u64) -> Option<u64> {
         output_offset.checked_add(search::bytes_before(self.deltas, output_offset))
@@ -127,6 +141,7 @@ impl<'a> DeltaSlice<'a> {
 
     /// As `input_to_output_offset`, with the heads of the blocks. It looks at them first where the
     /// deltas are more than a few, and not at all where they aren't as many as blocks. O(log n).
+    #[must_use]
     #[inline(always)]
     pub fn input_to_output_by_heads(&self, heads: &'a [BlockHead], input_offset: u64) -> u64 {
         match self.with_many_heads(heads) {
@@ -137,6 +152,7 @@ impl<'a> DeltaSlice<'a> {
 
     /// As `output_to_input_offset`, with the heads of the blocks. It looks at them first where the
     /// deltas are more than a few, and not at all where they aren't as many as blocks. O(log n).
+    #[must_use]
     #[inline(always)]
     pub fn output_to_input_by_heads(
         &self,
@@ -155,6 +171,7 @@ impl<'a> DeltaSlice<'a> {
     /// # Requires
     ///
     /// - `queries.len() == out.len()`
+    #[cfg_attr(debug_assertions, track_caller)]
     #[inline]
     pub fn translate_all(&self, queries: &[u64], out: &mut [u64]) {
         debug_assert!(queries.len() == out.len());
@@ -162,6 +179,7 @@ impl<'a> DeltaSlice<'a> {
     }
 
     /// Whether the queries don't decrease.
+    #[must_use]
     #[inline]
     pub fn can_translate_all(queries: &[u64]) -> bool {
         ascend(queries)
@@ -174,6 +192,7 @@ impl<'a> DeltaSlice<'a> {
     ///
     /// It takes no memory. For k deletions beside n deltas the work is O(k log n + k) where they
     /// ascend, as a pass over a section makes them, and else O(k log n + k²).
+    #[must_use]
     pub fn first_overlapping<D: AsDeletion>(&self, additional: &[D]) -> Option<usize> {
         overlap::first_overlapping(self.deltas, additional)
     }
@@ -182,6 +201,7 @@ impl<'a> DeltaSlice<'a> {
     /// deletions overlap, as `merge_ascending` requires them.
     ///
     /// It takes no memory. For k deletions beside n deltas the work is O(n + k log n).
+    #[must_use]
     pub fn can_merge_ascending<D: AsDeletion>(&self, additional: &[D]) -> bool {
         overlap::are_valid_together(self.deltas, additional)
     }
@@ -196,6 +216,7 @@ impl<'a> DeltaSlice<'a> {
     ///
     /// - places: `(merged.len() as u128) == (self.len() as u128) + (additional.len() as u128)`
     /// - valid: `self.can_merge_ascending(additional)`
+    #[cfg_attr(debug_assertions, track_caller)]
     pub fn merge_ascending<D: AsDeletion>(&self, additional: &[D], merged: &mut [RelaxDelta]) {
         debug_assert!((merged.len() as u128) == (self.len() as u128) + (additional.len() as u128));
         debug_assert!(self.can_merge_ascending(additional));

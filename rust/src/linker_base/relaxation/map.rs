@@ -16,6 +16,7 @@ pub struct RelaxDeltaMap {
 
 impl RelaxDeltaMap {
     /// An empty map. It does not allocate.
+    #[must_use]
     pub fn new() -> Self {
         RelaxDeltaMap {
             entries: Vec::new(),
@@ -31,6 +32,7 @@ impl RelaxDeltaMap {
     /// # Requires
     ///
     /// - `self.last_index().is_none_or(|last| last < section_index)`
+    #[cfg_attr(debug_assertions, track_caller)]
     pub fn insert(
         &mut self,
         section_index: usize,
@@ -52,6 +54,7 @@ impl RelaxDeltaMap {
     /// # Requires
     ///
     /// - `self.get(section_index).is_none()`
+    #[cfg_attr(debug_assertions, track_caller)]
     pub fn insert_sorted(
         &mut self,
         section_index: usize,
@@ -65,6 +68,7 @@ impl RelaxDeltaMap {
     }
 
     /// The deltas of the section, if it is there. The search takes O(log n).
+    #[must_use]
     pub fn get(&self, section_index: usize) -> Option<&SectionRelaxDeltas> {
         match search(&self.entries, section_index) {
             Ok(at) => Some(&self.entries[at].1),
@@ -82,11 +86,13 @@ impl RelaxDeltaMap {
     }
 
     /// Whether no section is there.
+    #[must_use]
     pub fn is_empty(&self) -> bool {
         self.entries.is_empty()
     }
 
     /// The highest section index that is there. Any index above it may be given to `insert`.
+    #[must_use]
     pub fn last_index(&self) -> Option<usize> {
         self.entries.last().map(|entry| entry.0)
     }

@@ -8,6 +8,7 @@ use super::search::count_below;
 /// What records one deletion: a pair of its offset and its bytes, a delta, a caller's own struct.
 pub trait AsDeletion: Copy {
     /// The offset of the first deleted byte, and how many bytes are deleted.
+    #[must_use]
     fn as_deletion(self) -> (u64, u32);
 }
 
@@ -40,6 +41,7 @@ fn end_fits(pair: (u64, u32)) -> bool {
 /// The index of the first deletion that is not valid after those before it: its offset isn't above
 /// that of the one before, that one reaches past it, or it ends above `u64::MAX`. None where the
 /// list is valid.
+#[must_use]
 #[inline]
 pub fn first_invalid<D: AsDeletion>(deletions: &[D]) -> Option<usize> {
     let rising = count_rising(deletions);

@@ -1,0 +1,10 @@
+pub mod Applied
+pub mod Differences
+pub mod Fields
+pub mod Halves
+pub mod Instructions
+pub mod Moves
+pub mod Pages
+pub mod PartsOfAddresses
+pub mod RiscV
+pub mod Sums

@@ -1,0 +1,88 @@
+//! How often calls take memory. Each test takes it as often as its name says:
+//! `tools/test_refused_growth` counts.
+
+use linker_utils::relaxation::{
+    RelaxDeltaMap, SectionRelaxDeltas, calls_apart, calls_shrinkable, pack_section, shrink_calls,
+};
+use std::test::Fail;
+
+const FEW: [(u64, u32); 2] = [(8, 4), (16, 4)];
+
+/// So many deletions that the heads of their blocks are listed too.
+fn many() -> [(u64, u32); 1025] {
+    let mut deletions = [(0, 4); 1025];
+    for at in 0..1025 {
+        deletions[at] = (8 * at as u64, 4);
+    }
+    deletions
+}
+
+// none of no deletions, the deltas of a few, and the heads of many too
+#[test]
+fn lists_and_their_copies_take_6(rt: HostRuntime) -> Result<(), Fail> {
+    let many = many();
+    for raw in [[].as_slice(), &FEW, &many] {
+        assert!(rt; SectionRelaxDeltas::is_valid(raw));
+        let copy = SectionRelaxDeltas::new(rt.alloc(), raw)?.clone()?;
+        assert_eq!(rt; copy.deltas().len(), raw.len());
+    }
+    Ok(())
+}
+
+// the deltas of a few; a copy of pairs that don't ascend too; and the heads of many
+#[test]
+fn merges_take_5(rt: HostRuntime) -> Result<(), Fail> {
+    let many = many();
+    for more in [[].as_slice(), &FEW, &[(16, 4), (8, 4)], &many] {
+        let mut deltas = SectionRelaxDeltas::new(rt.alloc(), &[])?;
+        assert!(rt; deltas.is_mergeable(more));
+        deltas.merge_additional(more)?;
+        assert_eq!(rt; deltas.deltas().len(), more.len());
+    }
+    Ok(())
+}
+
+// the batches themselves, which are two; then none of empty ones, and the deltas and a copy
+#[test]
+fn batches_take_4(rt: HostRuntime) -> Result<(), Fail> {
+    let batches = vec![in rt.alloc(); Vec::new(rt.alloc()), FEW.to_vec(rt.alloc())?]?;
+    for (first, count) in [(&batches[..1], 0), (&batches[..], 2)] {
+        let mut deltas = SectionRelaxDeltas::new(rt.alloc(), &[])?;
+        assert!(rt; deltas.are_mergeable(first));
+        deltas.merge_all(first)?;
+        assert_eq!(rt; deltas.deltas().len(), count);
+    }
+    Ok(())
+}
+
+// the deltas of a section and the map's entries, and the same of a copy
+#[test]
+fn maps_and_their_copies_take_4(rt: HostRuntime) -> Result<(), Fail> {
+    let mut map = RelaxDeltaMap::new(rt.alloc());
+    assert!(rt; map.clone()?.is_empty());
+    assert!(rt; SectionRelaxDeltas::is_valid(&FEW));
+    let deltas = SectionRelaxDeltas::new(rt.alloc(), &FEW)?;
+    assert_eq!(rt; map.last_index(), None);
+    if map.insert(3, deltas).is_err() {
+        return Err(Fail::from("no memory"));
+    }
+    assert_eq!(rt; map.clone()?.last_index(), Some(3));
+    Ok(())
+}
+
+// what each returns
+#[test]
+fn packing_and_choosing_take_2(rt: HostRuntime) -> Result<(), Fail> {
+    let none = SectionRelaxDeltas::new(rt.alloc(), &[])?;
+    let calls = [(0, 8)];
+    assert!(rt; calls_apart(&calls) && calls_shrinkable(&none, &calls));
+    let packed = pack_section(
+        rt.alloc(),
+        &[0x97, 0, 0, 0, 0xe7, 0x80, 0, 0],
+        &none,
+        &calls,
+    );
+    assert!(rt; packed.is_ok());
+    assert_eq!(rt; shrink_calls(rt.alloc(), &none, &calls)?.len(), 1);
+    Ok(())
+}

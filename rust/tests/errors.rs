@@ -1,0 +1,95 @@
+//! What errors print, and their causes.
+
+use linker_utils::elf::RelocateError;
+use linker_utils::relaxation::{OutOfMemory, PackError, RejectedCall, SectionRelaxDeltas};
+use linker_utils::riscv64::{CallError, JumpError};
+use linker_utils::utils::Uleb128Error;
+use std::error::Error;
+
+/// What an error prints, and each error that caused it.
+fn texts(error: impl Error + Send + Sync + 'static) -> Vec<String> {
+    let error: Box<dyn Error> = Box::new(error);
+    let chain = std::iter::successors(Some(&*error), |error| (*error).source());
+    chain.map(|error| error.to_string()).collect()
+}
+
+/// A status's text in the bindings of the static library, as errors print it: with no capital and
+/// no full stop.
+fn status(name: &str) -> String {
+    let names = include_str!("../../bindings/rust/src/names.rs");
+    let (_, arm) = names.split_once(&format!("Status::{name} =>")).expect(name);
+    let text = arm.split('"').nth(1).expect(name);
+    let (capital, rest) = text.strip_suffix('.').expect(name).split_at(1);
+    capital.to_lowercase() + rest
+}
+
+#[test]
+fn errors_of_relocations_are_printed() {
+    let unsupported = "the relocation is one of a pair that computes a ULEB128 number, \
+                       or R_LARCH_CALL30, or its row is none that the library returns";
+    assert_eq!(texts(RelocateError::Unsupported), [unsupported]);
+    assert!(unsupported.starts_with(&(status("Unsupported") + ",")));
+    let short = "there are fewer bytes than the relocation writes";
+    assert_eq!(texts(RelocateError::TooShort), [short]);
+    let misaligned = "the value is not a multiple of the relocation's alignment";
+    assert_eq!(texts(RelocateError::Misaligned), [misaligned]);
+    assert_eq!(status("Misaligned"), misaligned);
+    let out_of_reach = "the value is out of the relocation's reach";
+    assert_eq!(texts(RelocateError::OutOfReach), [out_of_reach]);
+    assert_eq!(status("OutOfReach"), out_of_reach);
+}
+
+#[test]
+fn errors_of_uleb128_numbers_are_printed() {
+    let ended = "the bytes end before the ULEB128 number does";
+    assert_eq!(texts(Uleb128Error::Ended), [ended]);
+    assert_eq!(status("Uleb128Ended"), ended);
+    let large = "the tenth byte of the ULEB128 number is neither 0 nor 1";
+    assert_eq!(texts(Uleb128Error::TooLarge), [large]);
+    assert_eq!(status("Uleb128TooLarge"), large);
+    let fit = "the ULEB128 number that stands there does not hold the value";
+    assert_eq!(texts(Uleb128Error::DoesNotFit), [fit]);
+}
+
+const CALLS: [(CallError, &str, &str); 4] = [
+    (
+        CallError::OutOfSection,
+        "OutOfSection",
+        "the four bytes at the site, or the eight where the `jalr`'s register is linked, \
+         do not lie in the section, or the target is past its end",
+    ),
+    (CallError::SiteDeleted, "SiteDeleted", "one of the four bytes at the site is deleted"),
+    (CallError::OddDistance, "OddDistance", "the distance is odd"),
+    (CallError::TooFar, "TooFar", "the distance is out of the range of `jal`"),
+];
+
+#[test]
+fn errors_of_calls_are_printed() {
+    for (error, name, text) in CALLS {
+        assert_eq!(status(name), text);
+        assert_eq!(texts(error), [text]);
+        assert_eq!(texts(JumpError::Call(error)), [text]);
+        let at = "the call at index 7 does not become a jump";
+        assert_eq!(texts(RejectedCall { index: 7, error: error.into() }), [at, text]);
+        assert_eq!(texts(PackError::Call { index: 7, error }), [at, text]);
+    }
+    let text = "the eight bytes at the site are not an `auipc` and a `jalr` over its register";
+    assert_eq!(status("NotACall"), text);
+    assert_eq!(texts(JumpError::NotACall), [text]);
+    let rejected = RejectedCall { index: 18_446_744, error: JumpError::NotACall };
+    assert_eq!(texts(rejected), ["the call at index 18446744 does not become a jump", text]);
+    let cause = rejected.source().and_then(|error| error.downcast_ref());
+    assert_eq!(cause, Some(&JumpError::NotACall));
+    let packing = PackError::Call { index: 0, error: CallError::TooFar };
+    let cause = packing.source().and_then(|error| error.downcast_ref());
+    assert_eq!(cause, Some(&CallError::TooFar));
+}
+
+#[test]
+fn errors_of_memory_are_printed() {
+    assert_eq!(texts(OutOfMemory), ["out of memory"]);
+    assert_eq!(texts(PackError::OutOfMemory), ["out of memory for the packed section"]);
+    // what insertions into a map hand back
+    let deltas = SectionRelaxDeltas::new(&[(4, 2)]).expect("memory");
+    assert_eq!(texts(deltas), ["out of memory for the section's entry in the map"]);
+}

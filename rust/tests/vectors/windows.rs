@@ -1,0 +1,174 @@
+// Made by tools/erase of crates/vectors/src/windows.rt.
+//! Rewrites and writes near the end of a section and past it. A window is the bytes of the
+//! instructions that a rewrite or a relocation is of, whose lengths are those of the manuals.
+
+use crate::rows::expect_eq;
+use linker_utils::elf::{
+    InstructionRewrite, LoongArch64Instruction, PreparedRow, RelocateError, RelocationInstruction,
+    RelocationKind, RelocationKindInfo, RelocationSize, RiscVInstruction,
+};
+use linker_utils::{aarch64, loongarch64, riscv64};
+use core::fmt::Debug;
+
+/// Requires that a rewrite may be applied to a section that is its window alone, of which the bytes
+/// from `back` on are the instruction at the offset, and to none where a byte of it is missing.
+pub fn requires_window<R: InstructionRewrite + Copy + Debug>(
+    kind: R,
+    section: &[u8],
+    back: u64,
+) {
+    expect_eq(kind, kind.can_apply(section, back), true);
+    for len in 0..section.len() {
+        expect_eq(
+            (kind, len),
+            kind.can_apply(&section[..len], back),
+            false,
+        );
+    }
+    for below in 0..back {
+        expect_eq((kind, below), kind.can_apply(section, below), false);
+    }
+    for far in 0..16 {
+        for offset in [back.wrapping_add(1 + far), (1 << 32) + far, u64::MAX - far] {
+            expect_eq((kind, offset), kind.can_apply(section, offset), false);
+        }
+    }
+}
+
+/// Requires that a rewrite of no bytes may be applied anywhere.
+fn requires_nothing<R: InstructionRewrite + Copy + Debug>(kind: R) {
+    for offset in [0, 5, u64::MAX] {
+        expect_eq((kind, offset), kind.can_apply(&[], offset), true);
+    }
+}
+
+#[test]
+fn rewrites_require_their_window() {
+    for kind in [
+        aarch64::RelaxationKind::ReplaceWithNop,
+        aarch64::RelaxationKind::MovzX0Lsl16,
+        aarch64::RelaxationKind::MovkX0,
+        aarch64::RelaxationKind::MovzXnLsl16,
+        aarch64::RelaxationKind::AdrpToAdr,
+        aarch64::RelaxationKind::AdrpX0,
+        aarch64::RelaxationKind::LdrX0,
+        aarch64::RelaxationKind::AddToAdr,
+        aarch64::RelaxationKind::LdrToAdr,
+        // `ldr x1, [x1]`
+        aarch64::RelaxationKind::MovkXn,
+        aarch64::RelaxationKind::LdrToAdd,
+    ] {
+        requires_window(kind, &0xf940_0021u32.to_le_bytes(), 0);
+    }
+    let pair = aarch64::RelaxationKind::AdrpAddToNopAdr;
+    requires_window(pair, &[0xff; 8], 4);
+    for kind in [
+        riscv64::RelaxationKind::ReplaceWithNop,
+        riscv64::RelaxationKind::CallToJal,
+        riscv64::RelaxationKind::Lo12Rs1ToZero,
+    ] {
+        requires_window(kind, &[0xff; 4], 0);
+    }
+    let c_lui = riscv64::RelaxationKind::Hi20ToCLui;
+    requires_window(c_lui, &[0xff; 2], 0);
+    let nop = loongarch64::RelaxationKind::ReplaceWithNop;
+    requires_window(nop, &[0xff; 4], 0);
+    requires_nothing(aarch64::RelaxationKind::NoOp);
+    requires_nothing(riscv64::RelaxationKind::NoOp);
+    requires_nothing(riscv64::RelaxationKind::Hi20Delete);
+    requires_nothing(loongarch64::RelaxationKind::NoOp);
+}
+
+/// How many bytes the relocations of a row write.
+fn window(row: &RelocationKindInfo) -> usize {
+    match row.size {
+        RelocationSize::ByteSize(len) => len as usize,
+        RelocationSize::BitMasking { insn, .. } => match insn {
+            RelocationInstruction::RiscV(
+                RiscVInstruction::CbType | RiscVInstruction::CjType | RiscVInstruction::CluiType,
+            ) => 2,
+            RelocationInstruction::RiscV(RiscVInstruction::UiType)
+            | RelocationInstruction::LoongArch64(
+                LoongArch64Instruction::Call30 | LoongArch64Instruction::Call36,
+            ) => 8,
+            _ => 4,
+        },
+    }
+}
+
+/// Requires that a row's writes are rejected, with nothing written, where a byte is missing, be the
+/// value misaligned or out of reach or not, and else not for that. Returns how many were rejected.
+fn requires_bytes(
+    code: u32,
+    row: &RelocationKindInfo,
+    prepared: &PreparedRow,
+) -> u64 {
+    // `write_uleb128` writes the numbers of these, and no manual says what `Call30` makes
+    let is_unsupported = matches!(
+        row.kind,
+        RelocationKind::PairSubtractionULEB128RiscV
+            | RelocationKind::PairSubtractionULEB128LoongArch
+    ) || matches!(
+        row.size,
+        RelocationSize::BitMasking {
+            insn: RelocationInstruction::LoongArch64(LoongArch64Instruction::Call30),
+            ..
+        }
+    );
+    let error = if is_unsupported {
+        RelocateError::Unsupported
+    } else {
+        RelocateError::TooShort
+    };
+    let mut rejected = 0u64;
+    let len = window(row);
+    for value in [0, 1, i64::MIN, i64::MAX] {
+        for short in 0..len.min(8) {
+            let mut bytes = [0xa5; 8];
+            let first = row.write(value, &mut bytes[..short]);
+            expect_eq((code, short), first, Err(error));
+            let second = prepared.write(value, &mut bytes[..short]);
+            expect_eq((code, short), second, Err(error));
+            expect_eq((code, short), bytes, [0xa5; 8]);
+            rejected = rejected.wrapping_add(1);
+        }
+        let mut bytes = [0; 8];
+        let whole = row.write(value, &mut bytes[..len.min(8)]);
+        expect_eq(code, whole == Err(RelocateError::TooShort), false);
+    }
+    rejected
+}
+
+#[test]
+fn rows_require_their_window() {
+    let mut rejected = [0u64; 3];
+    for code in 0..1100 {
+        let name = aarch64::AArch64Relocation::from_elf(code);
+        if let (Some(row), Some(prepared)) = (
+            aarch64::relocation_type_from_raw(name),
+            aarch64::prepared_row(name),
+        ) {
+            let more = requires_bytes(code, &row, &prepared);
+            rejected[0] = rejected[0].wrapping_add(more);
+        }
+        let name = riscv64::RiscVRelocation::from_elf(code);
+        if let (Some(row), Some(prepared)) = (
+            riscv64::relocation_type_from_raw(name),
+            riscv64::prepared_row(name),
+        ) {
+            let more = requires_bytes(code, &row, &prepared);
+            rejected[1] = rejected[1].wrapping_add(more);
+        }
+        let name = loongarch64::LoongArch64Relocation::from_elf(code);
+        if let (Some(row), Some(prepared)) = (
+            loongarch64::relocation_type_from_raw(name),
+            loongarch64::prepared_row(name),
+        ) {
+            let more = requires_bytes(code, &row, &prepared);
+            rejected[2] = rejected[2].wrapping_add(more);
+        }
+    }
+    for some in rejected {
+        assert!(some > 500, "{rejected:?}");
+    }
+}
