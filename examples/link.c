@@ -3,7 +3,7 @@
  * begins at `_start`.
  *
  * usage: link -o OUTPUT [--section-start=NAME=ADDRESS]... OBJECT...
- * The steps stand in `main`. The first error ends it. It gives no memory back. */
+ * The steps are in `main`. The first error ends it. It never frees memory. */
 #include <elf.h>
 #include <inttypes.h>
 #include <stdio.h>
@@ -582,7 +582,7 @@ int main(int argc, char **argv) {
     }
     for (struct object *o = objects; o < objects + objects_len; o++)
         for (size_t i = 0; i < o->sections_len; i++) add_section(&o->sections[i]);
-    /* first stands the address of the dynamic section, which is none, or of the TOC */
+    /* the first entry is the address of the dynamic section, which there isn't, or of the TOC */
     if (got->has_bytes && (machine == EM_RISCV || machine == EM_PPC64)) make_room(got, 8, 8);
     for (int locals = 0; locals < 2; locals++)
         for (struct symbol *s = symbols; s; s = s->later) place_symbol(s, locals);

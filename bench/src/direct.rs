@@ -83,7 +83,7 @@ macro_rules! rewrite_loops {
     };
 }
 
-/// A crate with the original's interface, where it has one: `row_of` and the calls that take memory
+/// A crate with the original's interface, where it has one: `row_of` and the calls that allocate
 /// are not the same.
 macro_rules! library {
     (

@@ -34,7 +34,7 @@ pub type RelocateAll<'a> = Box<dyn Fn(&mut [u8]) -> bool + 'a>;
 
 /// Bytes between instructions: a window has at most eight.
 pub const WINDOW: usize = 8;
-/// Bytes of a section, in which the rewritten instruction stands at `SITE`.
+/// Bytes of a section, in which the rewritten instruction is at `SITE`.
 pub const SECTION: usize = 32;
 pub const SITE: u64 = 8;
 
@@ -83,7 +83,7 @@ pub trait Library {
     fn strings(&self, _content: &[u8]) -> Option<u64> {
         None
     }
-    /// A section packed with its calls made jumps, beside a copy of as many bytes.
+    /// A section packed with jumps in place of its calls, compared with a copy of as many bytes.
     fn pack_side<'a>(
         &self,
         _: &'a [u8],

@@ -1,4 +1,4 @@
-//! Measures the static library and the crate in `rust/`, and beside each the original crate where
+//! Measures the static library and the crate in `rust/`, and compares each with the original crate where
 //! it is built in. Before a line is timed all sides do the same, and have to give the same.
 
 #[cfg(feature = "upstream")]
@@ -319,7 +319,7 @@ fn streams(report: &mut Report) {
             }))
         };
         report.line(&name, COUNT, is_same, each(one_by_one));
-        // the same in one call, beside the original's calls one by one
+        // the same in one call, compared with the original's calls one by one
         let [exports, _, erased, _] = each(|library| {
             let all = library.relocate_all(machine, relocations)?;
             Some(Side::writes(section.clone(), move |section| {
@@ -603,7 +603,7 @@ fn packing(report: &mut Report) {
     }
 }
 
-/// The original crate chooses no calls, so that ours stand alone.
+/// The original crate chooses no calls, so that only ours are measured.
 fn calls(report: &mut Report) {
     let mut random = Random::new(12);
     report.heading("The choice of calls, a call", "original");

@@ -56,9 +56,8 @@ struct Group {
 
 struct Line {
     name: String,
-    /// By medians, and by least times.
+    /// Of the medians.
     ratio: f64,
-    least: f64,
 }
 
 /// Prints tables in Markdown, and keeps the ratios.
@@ -76,10 +75,10 @@ impl Report {
         }
     }
 
-    /// Begins a table, whose lines are beside the original crate or something else.
+    /// Begins a table, whose lines are compared with the original crate or something else.
     pub fn heading(&mut self, title: &str, beside: &str) {
         println!("\n### {title}\n");
-        let columns = |ours: &str| format!("{ours}, ns | {beside}, ns | ratio | least |");
+        let columns = |ours: &str| format!("{ours}, ns | {beside}, ns | ratio | spread |");
         println!("| | {} {}", columns("exports"), columns("erased"));
         println!("|---|--:|--:|--:|--:|--:|--:|--:|--:|");
         let (title, beside) = (title.to_string(), beside.to_string());
@@ -114,28 +113,30 @@ impl Report {
         }
         print!("| {name} |");
         for (pair, which) in rounds.chunks_mut(2).zip(0..) {
-            pair.iter_mut()
-                .for_each(|times| times.sort_by(f64::total_cmp));
+            let each_round = pair[0].iter().zip(&pair[1]);
+            let mut ratios: Vec<f64> = each_round.map(|(ours, theirs)| ours / theirs).collect();
+            for times in pair.iter_mut().chain([&mut ratios]) {
+                times.sort_by(f64::total_cmp);
+            }
             let median = |side: usize| pair[side].get(pair[side].len() / 2).copied();
             let text = |time: Option<f64>| time.map_or(String::new(), |time| format!("{time:.2}"));
             let (Some(ours), Some(theirs)) = (median(0), median(1)) else {
                 print!(" {} | {} | | |", text(median(0)), text(median(1)));
                 continue;
             };
-            let (ratio, least) = (ours / theirs, pair[0][0] / pair[1][0]);
-            print!(" {ours:.2} | {theirs:.2} | {ratio:.2} | {least:.2} |");
+            let ratio = ours / theirs;
+            let (low, high) = (ratios[ratios.len() / 4], ratios[ratios.len() * 3 / 4]);
+            print!(" {ours:.2} | {theirs:.2} | {ratio:.2} | {low:.2} to {high:.2} |");
             let line = Line {
                 name: name.to_string(),
                 ratio,
-                least,
             };
             self.groups.last_mut().expect("a heading").lines[which].push(line);
         }
         println!();
     }
 
-    /// How many lines beside the original have a ratio above 1.00, 1.05 and 1.25, by the lesser of
-    /// both.
+    /// How many lines compared with the original have a ratio of medians above 1.00, 1.05 and 1.25.
     pub fn summary(&self) {
         for (which, of) in ["exports", "the erased crate"].iter().enumerate() {
             let groups = self
@@ -145,10 +146,7 @@ impl Report {
             let mut lines: Vec<(f64, String)> = groups
                 .flat_map(|group| group.lines[which].iter().map(move |line| (group, line)))
                 .map(|(group, line)| {
-                    (
-                        line.ratio.min(line.least),
-                        format!("{}: {}", group.title, line.name),
-                    )
+                    (line.ratio, format!("{}: {}", group.title, line.name))
                 })
                 .collect();
             if lines.is_empty() {
@@ -157,7 +155,7 @@ impl Report {
             lines.sort_by(|a, b| b.0.total_cmp(&a.0));
             let above = |bound: f64| lines.iter().filter(|line| line.0 > bound).count();
             let (one, some, much) = (above(1.005), above(1.05), above(1.25));
-            print!("\nOf {} lines of {of}, by the lesser ratio: ", lines.len());
+            print!("\nOf {} lines of {of}, by the ratio of the medians: ", lines.len());
             println!("{one} above 1.00, {some} above 1.05, {much} above 1.25.\n");
             for (ratio, name) in &lines[..one] {
                 println!("- {ratio:.2} {name}");
@@ -165,9 +163,9 @@ impl Report {
         }
     }
 
-    /// A picture of the tables by least times: the mean ratio as a bar to the left or right of 1.00,
-    /// and from the least to the greatest ratio as a line, on a logarithmic scale. Its colours are
-    /// for light and dark pages.
+    /// A picture of the tables by the ratios of the medians: their mean as a bar to the left or right
+    /// of 1.00, and a line from the least to the greatest, on a logarithmic scale. Its colours are for
+    /// light and dark pages.
     pub fn picture(&self) -> String {
         const COLOURS: [&str; 2] = ["#3b82c4", "#c9822b"];
         let place = |ratio: f64| 640.0 + 100.0 * ratio.clamp(0.125, 8.0).log2();
@@ -196,7 +194,7 @@ impl Report {
         for (group, top) in self.groups.iter().zip((44..).step_by(40)) {
             let beside = match group.beside.as_str() {
                 "original" => String::new(),
-                other => format!(", beside {other}"),
+                other => format!(", compared with {other}"),
             };
             svg += &format!(
                 "<text x=\"4\" y=\"{}\">{}{beside}</text>\n",
@@ -205,7 +203,7 @@ impl Report {
             );
             for (which, y) in [top, top + 15].into_iter().enumerate() {
                 let lines = group.lines[which].iter();
-                let mut ratios: Vec<f64> = lines.map(|line| line.least).collect();
+                let mut ratios: Vec<f64> = lines.map(|line| line.ratio).collect();
                 ratios.sort_by(f64::total_cmp);
                 let (Some(least), Some(most)) = (ratios.first(), ratios.last()) else {
                     continue;

@@ -40,7 +40,7 @@ macro_rules! forms {
             LOONGARCH64 LoongArch64 LoongArch64Instruction {
                 0 Shift5 (1 << 20) Same, 1 Shift10 (1 << 12) Same, 2 Branch26 (1 << 26) Same,
                 3 Branch21 (1 << 21) Same, 4 Call30 (1 << 20) Other,
-                // no carry out of the high part, which the original crate lays beside the field
+                // no carry out of the high part, which the original crate puts next to the field
                 5 Call36 ((1 << 36) - 0x8000) Other
             }
             PPC64 Ppc64 Ppc64Instruction {
@@ -155,7 +155,7 @@ pub const OTHER_ROWS: [u32; 5] = [307, 308, 309, 522, 515];
 /// `R_LARCH_CALL30` and `R_LARCH_PCADD_HI20`.
 pub const OTHER_TYPES: [u32; 2] = [127, 128];
 
-/// The relocations of PowerPC64 whose rows are ours alone.
+/// The relocations of PowerPC64 for which only this library has rows.
 pub const OWN_TYPES: [u32; 11] = [0, 4, 5, 6, 47, 56, 57, 63, 116, 132, 133];
 
 /// How often each relocation comes, in parts, in programs of a machine.

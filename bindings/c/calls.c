@@ -10,7 +10,7 @@ int main(void) {
     if (!linker_utils_is_plain_call(section, sizeof section, 0)) return 1;
     uint32_t status = linker_utils_relax_call(section, sizeof section, NULL, 0, 0, 8);
     if (status != LINKER_UTILS_OK) {
-        fprintf(stderr, "the call stays: %s\n", linker_utils_status_text(status));
+        fprintf(stderr, "the call is kept: %s\n", linker_utils_status_text(status));
         return 1;
     }
     for (size_t i = 0; i < sizeof section; i++) printf("%02x", section[i]);

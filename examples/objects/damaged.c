@@ -3,7 +3,7 @@
  *
  * usage: damaged CASES SEED OUTPUT OBJECT...
  * Half of the cases set a field of the header or of a section's header to an extreme number, the
- * others change some random bytes. With -DGUARDED each block of memory stands right before a page
+ * others change some random bytes. With -DGUARDED each block of memory ends right before a page
  * that may not be touched, so that what the archive reads and writes is seen too. */
 #define _GNU_SOURCE
 #include <elf.h>

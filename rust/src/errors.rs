@@ -12,7 +12,7 @@ impl Display for RelocateError {
         f.write_str(match self {
             RelocateError::Unsupported => {
                 "the relocation is one of a pair that computes a ULEB128 number, \
-                 or R_LARCH_CALL30, or its row is none that the library returns"
+                 or R_LARCH_CALL30, or its row is not one that the library returns"
             }
             RelocateError::TooShort => "there are fewer bytes than the relocation writes",
             RelocateError::Misaligned => "the value is not a multiple of the relocation's alignment",
@@ -29,7 +29,7 @@ impl Display for Uleb128Error {
             Uleb128Error::Ended => "the bytes end before the ULEB128 number does",
             Uleb128Error::TooLarge => "the tenth byte of the ULEB128 number is neither 0 nor 1",
             Uleb128Error::DoesNotFit => {
-                "the ULEB128 number that stands there does not hold the value"
+                "the value does not fit the existing ULEB128 number"
             }
         })
     }
@@ -42,7 +42,7 @@ impl Display for CallError {
         f.write_str(match self {
             CallError::OutOfSection => {
                 "the four bytes at the site, or the eight where the `jalr`'s register is linked, \
-                 do not lie in the section, or the target is past its end"
+                 are not in the section, or the target is past its end"
             }
             CallError::SiteDeleted => "one of the four bytes at the site is deleted",
             CallError::OddDistance => "the distance is odd",
@@ -59,7 +59,8 @@ impl Display for JumpError {
         match self {
             JumpError::Call(error) => error.fmt(f),
             JumpError::NotACall => f.write_str(
-                "the eight bytes at the site are not an `auipc` and a `jalr` over its register",
+                "the eight bytes at the site are not an `auipc` and a `jalr` whose base is its \
+                 register",
             ),
         }
     }

@@ -17,8 +17,9 @@ fn texts(error: impl Error + Send + Sync + 'static) -> Vec<String> {
 /// no full stop.
 fn status(name: &str) -> String {
     let names = include_str!("../../bindings/rust/src/names.rs");
-    let (_, arm) = names.split_once(&format!("Status::{name} =>")).expect(name);
-    let text = arm.split('"').nth(1).expect(name);
+    let (_, entry) = names.split_once(&format!("\n    {name} = ")).expect(name);
+    let text = entry.split('"').nth(1).expect(name);
+    let text: String = text.split("\\\n").map(str::trim_start).collect();
     let (capital, rest) = text.strip_suffix('.').expect(name).split_at(1);
     capital.to_lowercase() + rest
 }
@@ -26,7 +27,7 @@ fn status(name: &str) -> String {
 #[test]
 fn errors_of_relocations_are_printed() {
     let unsupported = "the relocation is one of a pair that computes a ULEB128 number, \
-                       or R_LARCH_CALL30, or its row is none that the library returns";
+                       or R_LARCH_CALL30, or its row is not one that the library returns";
     assert_eq!(texts(RelocateError::Unsupported), [unsupported]);
     assert!(unsupported.starts_with(&(status("Unsupported") + ",")));
     let short = "there are fewer bytes than the relocation writes";
@@ -47,7 +48,7 @@ fn errors_of_uleb128_numbers_are_printed() {
     let large = "the tenth byte of the ULEB128 number is neither 0 nor 1";
     assert_eq!(texts(Uleb128Error::TooLarge), [large]);
     assert_eq!(status("Uleb128TooLarge"), large);
-    let fit = "the ULEB128 number that stands there does not hold the value";
+    let fit = "the value does not fit the existing ULEB128 number";
     assert_eq!(texts(Uleb128Error::DoesNotFit), [fit]);
 }
 
@@ -56,7 +57,7 @@ const CALLS: [(CallError, &str, &str); 4] = [
         CallError::OutOfSection,
         "OutOfSection",
         "the four bytes at the site, or the eight where the `jalr`'s register is linked, \
-         do not lie in the section, or the target is past its end",
+         are not in the section, or the target is past its end",
     ),
     (CallError::SiteDeleted, "SiteDeleted", "one of the four bytes at the site is deleted"),
     (CallError::OddDistance, "OddDistance", "the distance is odd"),
@@ -73,7 +74,8 @@ fn errors_of_calls_are_printed() {
         assert_eq!(texts(RejectedCall { index: 7, error: error.into() }), [at, text]);
         assert_eq!(texts(PackError::Call { index: 7, error }), [at, text]);
     }
-    let text = "the eight bytes at the site are not an `auipc` and a `jalr` over its register";
+    let text =
+        "the eight bytes at the site are not an `auipc` and a `jalr` whose base is its register";
     assert_eq!(status("NotACall"), text);
     assert_eq!(texts(JumpError::NotACall), [text]);
     let rejected = RejectedCall { index: 18_446_744, error: JumpError::NotACall };

@@ -4,11 +4,11 @@
  * It makes CALLS calls, a million without an argument, and prints the seed. A mistake ends it with
  * status 1 and the number of the call, which can be made alone: `hostile 1 SEED NUMBER`.
  *
- * Each buffer stands right before a page that may not be touched, or right behind one. What a call
- * only reads stands in pages that may not be written. With any status but LINKER_UTILS_OK every
- * byte of what the call may write has to stay, but for `faulty`, and with LINKER_UTILS_OK every
- * byte beyond what the call writes. The bytes around the buffers always stay. Memory that the
- * archive allocates stands before such a page too, and may not be touched once it is freed.
+ * Each buffer lies right before an inaccessible page, or right after one. What a call only reads
+ * lies in read-only pages. With any status but LINKER_UTILS_OK every byte of what the call may
+ * write is unchanged, except for `faulty`, and with LINKER_UTILS_OK every byte beyond what the call
+ * writes. The bytes around the buffers never change. Memory that the archive allocates lies before
+ * an inaccessible page too, and is inaccessible once it is freed.
  *
  * That it finds mistakes is tested each time too: `run` links it with the faults of faults.c, and
  * it has to find each. By hand it was also compiled over three changed copies of the header, in
@@ -92,7 +92,7 @@ static uint64_t any_number(void) {
     }
 }
 
-/* An offset, mostly in or near so many bytes. */
+/* An offset, usually in or near so many bytes. */
 static uint64_t any_offset(size_t len) {
     return once_in(4) ? any_number() : below(len + 8) - (uint64_t)(once_in(8) ? 4 : 0);
 }
@@ -129,7 +129,7 @@ int __wrap_posix_memalign(void **at, size_t alignment, size_t size);
 void *__wrap_aligned_alloc(size_t alignment, size_t size);
 void __wrap_free(void *at);
 
-/* Each block of memory stands at the end of its pages. */
+/* Each block of memory is at the end of its pages. */
 static struct block {
     uint8_t *pages, *at;
     size_t size;
@@ -206,7 +206,7 @@ void *__wrap_aligned_alloc(size_t alignment, size_t size) {
 
 enum use { READ, WRITTEN };
 
-/* Pages that stand twice in memory: the call may not write to the second. */
+/* Pages that are mapped twice: the call may not write to the second. */
 static struct buffer {
     uint8_t *pages, *read_only;
     /* what stood there before the call */
@@ -221,7 +221,7 @@ static struct buffer {
 
 static size_t used;
 
-/* What stands where no call did anything. */
+/* The contents before any call. */
 static uint8_t untouched[BUFFER_LEN];
 
 static void set_up(void) {
@@ -309,7 +309,7 @@ static uint32_t any_deleted(void) {
     return once_in(8) ? (uint32_t)any_number() : (uint32_t)below(6);
 }
 
-/* Deletions that mostly ascend, from an offset up. */
+/* Deletions that usually ascend, from an offset up. */
 static struct buffer *deletions(size_t count) {
     struct buffer *buffer = place(READ, count, sizeof(struct linker_utils_deletion));
     struct linker_utils_deletion *at = filled(buffer);
@@ -371,9 +371,9 @@ static struct buffer *heads(const struct buffer *of) {
     return buffer;
 }
 
-/* Before the call: what stands in its buffers, and which of its allocations fails. */
+/* Before the call: what is in its buffers, and which of its allocations fails. */
 static void begin(const char *name) {
-    expect(allocations == 0, "takes memory");
+    expect(allocations == 0, "allocates");
     calling = name;
     for (size_t i = 0; i < used; i++) {
         struct buffer *buffer = &buffers[i];
@@ -413,7 +413,7 @@ static void finish_buffers(bool has_written) {
 
 static void finish(bool has_written) {
     finish_buffers(has_written);
-    expect(allocations == 0, "takes memory");
+    expect(allocations == 0, "allocates");
     for (size_t i = 0; i < used; i++) memset(filled(&buffers[i]), CANARY, buffers[i].len);
     used = 0;
 }
@@ -436,13 +436,13 @@ static void finish_with(uint32_t status, uint32_t allowed) {
     finish(status == LINKER_UTILS_OK);
 }
 
-/* `faulty` is an index below `limit` with a status that speaks of an entry, and else it stays. */
+/* `faulty` is an index below `limit` with a status about an entry, and otherwise unchanged. */
 static void finish_faulty(size_t *faulty, bool is_set, size_t limit) {
     if (!faulty) return;
     struct buffer *buffer = &buffers[used - 1];
     expect((void *)faulty == buffer->given, "`faulty` is the last buffer");
     if (is_set) {
-        expect(*faulty < limit, "`faulty` is no index");
+        expect(*faulty < limit, "`faulty` is not an index");
         memcpy(buffer->was, filled(buffer), sizeof(size_t));
     }
 }
@@ -583,7 +583,7 @@ static void call_relocate(void) {
     finish_with(status, 0 NOT_RELOCATED);
 }
 
-/* What stands before the relocation that is rejected is written. */
+/* What is before the rejected relocation is written. */
 static void call_relocate_all(void) {
     uint16_t machine = any_machine();
     struct buffer *section = bytes(WRITTEN, any_section_len());
@@ -787,13 +787,13 @@ static void call_deltas_merge(void) {
     size_t *faulty = any_faulty();
     uint32_t can = CALL(deltas_is_mergeable, DELTAS(listed), DELETIONS(additional));
     expect_status(can, 0 OR(INVALID_DELETIONS) OR(NOT_MERGEABLE));
-    expect(allocations == 0, "takes memory");
+    expect(allocations == 0, "allocates");
     finish_buffers(false);
     uint32_t status = CALL(deltas_merge, DELTAS(listed), DELETIONS(additional), DELTAS(merged),
                            faulty);
     if (merged_len != count + additional_len) {
         expect(status == LINKER_UTILS_DIFFERENT_LENGTHS, "writes to another length");
-        expect(!was_refused, "takes memory for another length");
+        expect(!was_refused, "allocates for another length");
     } else if (was_refused && can == LINKER_UTILS_OK) {
         expect(status == LINKER_UTILS_OUT_OF_MEMORY, "merges without memory");
     } else {

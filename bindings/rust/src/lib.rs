@@ -46,9 +46,9 @@ pub struct RelocationInfo {
     pub alignment: u64,
     /// What is added first; 0 where nothing is.
     pub bias: u64,
-    /// Whether a thunk may stand in for a target that is out of range.
+    /// Whether a thunk may replace a target that is out of range.
     pub thunkable: bool,
-    /// Whether the addend stands in the section.
+    /// Whether the addend is in the section.
     pub implicit_addend: bool,
 }
 
@@ -392,7 +392,7 @@ pub fn relax_call(
     result_of(status, ())
 }
 
-/// Whether the eight bytes of a plain call stand at the site.
+/// Whether the eight bytes at the site are a plain call.
 pub fn is_plain_call(section: &[u8], site: u64) -> bool {
     unsafe { raw::linker_utils_is_plain_call_nonnull(section.as_ptr(), section.len(), site) }
 }
@@ -424,7 +424,7 @@ pub fn write_mov_sequence(dest: &mut [u8], rd: u32, value: u64) -> Result<(), St
     result_of(status, ())
 }
 
-/// LoongArch: makes five instructions compute the address `target` where the first stands at `pc`.
+/// LoongArch: makes five instructions compute the address `target`, with the first at `pc`.
 pub fn write_address_sequence(dest: &mut [u8], pc: u64, target: u64) -> Result<(), Status> {
     let (at, len) = (dest.as_mut_ptr(), dest.len());
     let status = unsafe { raw::linker_utils_write_address_sequence_nonnull(at, len, pc, target) };
@@ -552,7 +552,7 @@ pub fn deltas_total_deleted(deltas: &[Delta]) -> u64 {
     unsafe { raw::linker_utils_deltas_total_deleted_nonnull(deltas.as_ptr(), deltas.len()) }
 }
 
-/// The offset in the output section of what stands at an input offset, or, inside a deletion, of what
+/// The offset in the output section of what is at an input offset, or, inside a deletion, of what
 /// follows it.
 pub fn deltas_input_to_output(deltas: &[Delta], input_offset: u64) -> u64 {
     let (at, len) = (deltas.as_ptr(), deltas.len());
@@ -676,7 +676,7 @@ pub fn pack(
 
 /// Whether `shrink_calls` accepts the calls: their sites ascend by at least 8, the eight bytes at each
 /// site are kept, the deletions (site + 4, 4) may be merged all together, and no target is strictly
-/// inside one of them. The entry at fault is the first call that isn't accepted beside those before it.
+/// inside one of them. The entry at fault is the first call that isn't accepted together with those before it.
 pub fn calls_shrinkable(deltas: &[Delta], calls: &[Call]) -> Result<(), ArrayError> {
     result_over(|faulty| unsafe {
         raw::linker_utils_calls_shrinkable_nonnull(

@@ -31,150 +31,64 @@ macro_rules! numbered {
     };
 }
 
-numbered! {
-    /// Why a call fails. It has then changed nothing, except for what `relocate_all` wrote before.
-    Status: u32 {
-        /// No architecture has this machine number, or it has no instruction forms.
-        UnknownArchitecture = 1,
-        /// The architecture has no form with this number.
-        UnknownForm = 2,
-        /// The architecture has no rewrite with this number.
-        UnknownRewrite = 3,
-        /// The architecture has no relocation of this type, or its meaning is not known.
-        UnknownRelocation = 4,
-        /// There are fewer bytes than the call reads or writes.
-        TooShort = 5,
-        /// The form, or the ULEB128 number that stands there, does not hold the value.
-        DoesNotFit = 6,
-        /// The rewrite may not be applied there.
-        CannotApply = 7,
-        /// The register is not one from 0 to 30.
-        BadRegister = 8,
-        /// The four bytes at the site, or the eight where the `jalr`'s register is linked, do not lie
-        /// in the section, or the target is past its end.
-        OutOfSection = 9,
-        /// One of the four bytes at the site is deleted.
-        SiteDeleted = 10,
-        /// The distance is odd.
-        OddDistance = 12,
-        /// The distance is out of the range of `jal`.
-        TooFar = 13,
-        /// The deletions do not strictly ascend, one reaches past the next, or one ends past 2^64 - 1.
-        InvalidDeletions = 14,
-        /// Two deletions overlap or begin at one offset, or one ends past 2^64 - 1.
-        NotMergeable = 15,
-        /// The input offset would be past 2^64 - 1.
-        TooLarge = 17,
-        /// The queries decrease somewhere.
-        NotAscending = 18,
-        /// The array to be written has another length than what is written.
-        DifferentLengths = 19,
-        /// `malloc` or `realloc` returned null.
-        OutOfMemory = 20,
-        /// The bytes end before the ULEB128 number does.
-        Uleb128Ended = 21,
-        /// The tenth byte of the ULEB128 number is neither 0 nor 1.
-        Uleb128TooLarge = 22,
-        /// No link register of a call has this number.
-        UnknownLinkRegister = 23,
-        /// A call's site is less than 4 above that of the call before it.
-        CallsNotApart = 24,
-        /// The eight bytes at the site are not an `auipc` and a `jalr` over its register.
-        NotACall = 25,
-        /// A call that `calls_shrinkable` does not accept.
-        CallsNotShrinkable = 26,
-        /// The value is not a multiple of the relocation's alignment.
-        Misaligned = 27,
-        /// The value is out of the relocation's reach.
-        OutOfReach = 28,
-        /// A relocation of this type has no value.
-        NoValue = 29,
-        /// The relocation is one of a pair that computes a ULEB128 number, or `R_LARCH_CALL30`.
-        Unsupported = 30,
-    }
+/// Declares `Status`, whose documentation and text are the header's sentences.
+macro_rules! statuses {
+    ($($variant:ident = $value:literal $text:literal,)*) => {
+        numbered! {
+            /// Why a call fails. It has then changed nothing, except for what `relocate_all` wrote
+            /// before.
+            Status: u32 {
+                $(#[doc = $text] $variant = $value,)*
+            }
+        }
+
+        impl fmt::Display for Status {
+            fn fmt(&self, f: &mut fmt::Formatter<'_>) -> fmt::Result {
+                f.write_str(match self {
+                    $(Status::$variant => $text,)*
+                })
+            }
+        }
+    };
 }
 
-impl fmt::Display for Status {
-    fn fmt(&self, f: &mut fmt::Formatter<'_>) -> fmt::Result {
-        f.write_str(match self {
-            Status::UnknownArchitecture => {
-                "No architecture has this machine number, or it has no instruction forms."
-            }
-            Status::UnknownForm => {
-                "The architecture has no form with this number."
-            }
-            Status::UnknownRewrite => {
-                "The architecture has no rewrite with this number."
-            }
-            Status::UnknownRelocation => {
-                "The architecture has no relocation of this type, or its meaning is not known."
-            }
-            Status::TooShort => {
-                "There are fewer bytes than the call reads or writes."
-            }
-            Status::DoesNotFit => {
-                "The form, or the ULEB128 number that stands there, does not hold the value."
-            }
-            Status::CannotApply => {
-                "The rewrite may not be applied there."
-            }
-            Status::BadRegister => {
-                "The register is not one from 0 to 30."
-            }
-            Status::OutOfSection => {
-                "The four bytes at the site, or the eight where the `jalr`'s register is linked, do not lie in the section, or the target is past its end."
-            }
-            Status::SiteDeleted => {
-                "One of the four bytes at the site is deleted."
-            }
-            Status::OddDistance => {
-                "The distance is odd."
-            }
-            Status::TooFar => {
-                "The distance is out of the range of `jal`."
-            }
-            Status::InvalidDeletions => {
-                "The deletions do not strictly ascend, one reaches past the next, or one ends past 2^64 - 1."
-            }
-            Status::NotMergeable => {
-                "Two deletions overlap or begin at one offset, or one ends past 2^64 - 1."
-            }
-            Status::TooLarge => {
-                "The input offset would be past 2^64 - 1."
-            }
-            Status::NotAscending => {
-                "The queries decrease somewhere."
-            }
-            Status::DifferentLengths => {
-                "The array to be written has another length than what is written."
-            }
-            Status::OutOfMemory => {
-                "`malloc` or `realloc` returned null."
-            }
-            Status::Uleb128Ended => {
-                "The bytes end before the ULEB128 number does."
-            }
-            Status::Uleb128TooLarge => {
-                "The tenth byte of the ULEB128 number is neither 0 nor 1."
-            }
-            Status::UnknownLinkRegister => "No link register of a call has this number.",
-            Status::CallsNotApart => {
-                "A call's site is less than 4 above that of the call before it."
-            }
-            Status::NotACall => {
-                "The eight bytes at the site are not an `auipc` and a `jalr` over its register."
-            }
-            Status::CallsNotShrinkable => {
-                "`linker_utils_calls_shrinkable` does not accept a call."
-            }
-            Status::Misaligned => "The value is not a multiple of the relocation's alignment.",
-            Status::OutOfReach => "The value is out of the relocation's reach.",
-            Status::NoValue => "A relocation of this type has no value.",
-            Status::Unsupported => {
-                "The relocation is one of a pair that computes a ULEB128 number, or R_LARCH_CALL30."
-            }
-        })
-    }
+statuses! {
+    UnknownArchitecture = 1
+        "No architecture has this machine number, or it has no instruction forms.",
+    UnknownForm = 2 "The architecture has no form with this number.",
+    UnknownRewrite = 3 "The architecture has no rewrite with this number.",
+    UnknownRelocation = 4
+        "The architecture has no relocation of this type, or its meaning is not known.",
+    TooShort = 5 "There are fewer bytes than the call reads or writes.",
+    DoesNotFit = 6 "The value does not fit the form, or the existing ULEB128 number.",
+    CannotApply = 7 "The rewrite cannot be applied there.",
+    BadRegister = 8 "The register is not one of 0 to 30.",
+    OutOfSection = 9
+        "The four bytes at the site, or the eight where the `jalr`'s register is linked, are not \
+         in the section, or the target is past its end.",
+    SiteDeleted = 10 "One of the four bytes at the site is deleted.",
+    OddDistance = 12 "The distance is odd.",
+    TooFar = 13 "The distance is out of the range of `jal`.",
+    InvalidDeletions = 14
+        "The deletions do not strictly ascend, one reaches past the next, or one ends past \
+         2^64 - 1.",
+    NotMergeable = 15 "Two deletions overlap or begin at one offset, or one ends past 2^64 - 1.",
+    TooLarge = 17 "The input offset would be past 2^64 - 1.",
+    NotAscending = 18 "The queries decrease somewhere.",
+    DifferentLengths = 19 "The output array does not have the length of the result.",
+    OutOfMemory = 20 "`malloc` or `realloc` returned null.",
+    Uleb128Ended = 21 "The bytes end before the ULEB128 number does.",
+    Uleb128TooLarge = 22 "The tenth byte of the ULEB128 number is neither 0 nor 1.",
+    UnknownLinkRegister = 23 "No link register of a call has this number.",
+    CallsNotApart = 24 "A call's site is less than 4 above that of the call before it.",
+    NotACall = 25
+        "The eight bytes at the site are not an `auipc` and a `jalr` whose base is its register.",
+    CallsNotShrinkable = 26 "`linker_utils_calls_shrinkable` does not accept a call.",
+    Misaligned = 27 "The value is not a multiple of the relocation's alignment.",
+    OutOfReach = 28 "The value is out of the relocation's reach.",
+    NoValue = 29 "A relocation of this type has no value.",
+    Unsupported = 30
+        "The relocation is one of a pair that computes a ULEB128 number, or R_LARCH_CALL30.",
 }
 
 impl std::error::Error for Status {}
@@ -381,7 +295,7 @@ numbered! {
     Uleb128Role: u32 {
         /// It is the number that the second of the pair subtracts from.
         Sets = 1,
-        /// It is added to the number that stands there.
+        /// It is added to the existing number.
         Adds = 2,
         /// It is subtracted from what the first of the pair has made.
         Subtracts = 3,

@@ -1,5 +1,6 @@
-//! The header, this crate's declarations, the archive and the proved library's sources say the same:
-//! each function, each enum constant, each struct's size and offsets, each status's sentence.
+//! The headers, this crate's declarations, the archive and the proved library's sources say the same:
+//! each function, each enum constant, each struct's size and offsets, each status's sentence, and the
+//! version.
 
 use sathunne::*;
 use std::collections::{BTreeMap, BTreeSet};
@@ -49,9 +50,16 @@ fn list(text: &str) -> impl Iterator<Item = String> + '_ {
     text.split(',').map(words).filter(|part| !part.is_empty())
 }
 
-/// The header without comments and directives.
+/// Both headers, each directive in one line: what users read, and then its inline functions.
+fn headers() -> String {
+    let texts = ["linker_utils.h", "linker_utils_inline.h"]
+        .map(|name| repository(&format!("include/{name}")).replace("\\\n", " "));
+    texts.join("\n")
+}
+
+/// The headers without comments and directives.
 fn header() -> String {
-    let whole = repository("include/linker_utils.h").replace("\\\n", " ");
+    let whole = headers();
     let mut code = String::new();
     let mut rest = whole.as_str();
     while let Some((before, comment)) = rest.split_once("/*") {
@@ -81,6 +89,8 @@ fn type_of_c(text: &str) -> String {
         "size_t" => "usize",
         "void" => "()",
         "bool" => "bool",
+        // as wide, since its constants are small
+        "enum linker_utils_role" => "u32",
         "struct linker_utils_deletion" => "Deletion",
         "struct linker_utils_delta" => "Delta",
         "struct linker_utils_call" => "Call",
@@ -100,11 +110,23 @@ fn parameter_of_c(text: String) -> (String, String) {
     (name.to_string(), type_of_c(kind))
 }
 
-/// The header's functions: those of the archive, and those that the header defines, with what the
-/// latter do.
-fn functions_of_c() -> (Functions, BTreeMap<String, (Function, String)>) {
+/// The functions that the headers declare.
+struct FunctionsOfC {
+    /// Those of the archive.
+    exports: Functions,
+    /// The inline ones, as users read them.
+    inline: Functions,
+    /// The same as they are defined, with what they do.
+    wrappers: BTreeMap<String, (Function, String)>,
+}
+
+fn functions_of_c() -> FunctionsOfC {
     let header = header();
-    let (mut exports, mut wrappers) = (Functions::new(), BTreeMap::new());
+    let mut found = FunctionsOfC {
+        exports: Functions::new(),
+        inline: Functions::new(),
+        wrappers: BTreeMap::new(),
+    };
     for (at, _) in header.match_indices("linker_utils_") {
         let begin = header[..at].rfind(['\n', ';', '}']).map_or(0, |at| at + 1);
         let name_len = header[at..].find(|letter: char| !letter.is_alphanumeric() && letter != '_');
@@ -123,15 +145,21 @@ fn functions_of_c() -> (Functions, BTreeMap<String, (Function, String)>) {
             parameters: list(parameters).map(parameter_of_c).collect(),
             result: type_of_c(inline.unwrap_or(result)),
         };
-        if inline.is_some() {
-            let (body, _) = bracketed(rest.trim_start());
-            wrappers.insert(name.to_string(), (function, body.to_string()));
+        let is_first = if rest.starts_with(';') {
+            let declared = match inline {
+                Some(_) => &mut found.inline,
+                None => &mut found.exports,
+            };
+            declared.insert(name.to_string(), function).is_none()
         } else {
-            assert!(rest.starts_with(';'), "{name} is declared");
-            exports.insert(name.to_string(), function);
-        }
+            assert!(inline.is_some(), "{name} is declared");
+            let (body, _) = bracketed(rest.trim_start());
+            let defined = (function, body.to_string());
+            found.wrappers.insert(name.to_string(), defined).is_none()
+        };
+        assert!(is_first, "{name} is there once");
     }
-    (exports, wrappers)
+    found
 }
 
 /// The functions of Rust's and Rattle's texts that begin by these words.
@@ -217,8 +245,8 @@ fn assert_same(declared: &Functions, exports: &Functions, by: &str) {
 fn the_functions_are_those_of_the_library() {
     let exports = functions_of_rust(&exporting_sources(), "pub extern \"C\" fn ");
     assert!(exports.len() > 30, "the sources are read");
-    let (of_header, wrappers) = functions_of_c();
-    assert_same(&of_header, &exports, "the header");
+    let of_header = functions_of_c();
+    assert_same(&of_header.exports, &exports, "the header");
     let of_crate = functions_of_rust(&repository("bindings/rust/src/raw.rs"), "pub fn ");
     assert_same(&of_crate, &exports, "this crate");
 
@@ -241,7 +269,11 @@ fn the_functions_are_those_of_the_library() {
         .collect();
     assert_eq!(symbols, exports.keys().map(String::as_str).collect());
 
-    // each wrapper has the parameters of what it calls, and passes them in their order
+    // users read each wrapper, and each has the parameters of what it calls, and passes them in order
+    let wrappers = of_header.wrappers;
+    let defined = wrappers.iter();
+    let defined: BTreeMap<_, _> = defined.map(|(name, (wrapper, _))| (name, wrapper)).collect();
+    assert_eq!(of_header.inline.iter().collect::<BTreeMap<_, _>>(), defined);
     let called: BTreeSet<&str> = exports
         .keys()
         .filter_map(|name| name.strip_suffix("_nonnull"))
@@ -311,11 +343,28 @@ fn enums_of_c() -> BTreeMap<String, Vec<String>> {
     let mut enums = BTreeMap::new();
     for part in header.split("\nenum ").skip(1) {
         let (name, rest) = part.split_at(part.find(' ').expect("a name"));
+        if !rest.starts_with(" {") {
+            continue; // a function returns it
+        }
         let (body, _) = bracketed(rest.trim_start());
+        if name == "linker_utils_status" {
+            enums.insert(name.to_string(), statuses_of_c());
+            continue;
+        }
         let constants = list(body).map(|it| it.split(' ').next().expect("a name").to_string());
         enums.insert(name.to_string(), constants.collect());
     }
     enums
+}
+
+/// The constants that the list of statuses makes.
+fn statuses_of_c() -> Vec<String> {
+    let headers = headers();
+    let list = headers.split("#define LINKER_UTILS_STATUSES").nth(1);
+    let list = list.and_then(|list| list.lines().next()).expect("the list");
+    let entries = list.split(" STATUS(").skip(1);
+    let names = entries.map(|entry| entry.split(',').next().expect("a name"));
+    names.map(|name| format!("LINKER_UTILS_{name}")).collect()
 }
 
 /// The fields of the header's structs, with their types.
@@ -571,6 +620,13 @@ fn the_numbers_are_those_of_the_library() {
     let mut masks = constants("mask", "MASK_");
     assert_eq!(masks.remove("none"), Some(0));
     assert_eq!(numbers(PageMask::ALL, |it| it.number().into()), masks);
+}
+
+#[test]
+fn the_version_is_the_same() {
+    let version = format!("\"{}\"", env!("CARGO_PKG_VERSION"));
+    assert!(repository("rust/Cargo.toml").contains(&format!("\nversion = {version}\n")));
+    assert!(headers().contains(&format!("\n#define LINKER_UTILS_VERSION {version}\n")));
 }
 
 #[test]

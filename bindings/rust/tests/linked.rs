@@ -8,10 +8,10 @@ const DIFFERENT: [(&str, usize, &str); 11] = [
     ("R_AARCH64_MOVW_PREL_G3", 1, "lld leaves MOVZ where it is"),
     ("R_AARCH64_TSTBR14", 2, "lld drops the two lowest bits"),
     ("R_RISCV_32", 2, "lld has no check"),
-    ("R_RISCV_LO12_I", 2, "lld checks the high half alone"),
-    ("R_RISCV_LO12_S", 2, "lld checks the high half alone"),
-    ("R_RISCV_TPREL_LO12_I", 2, "lld checks the high half alone"),
-    ("R_RISCV_TPREL_LO12_S", 2, "lld checks the high half alone"),
+    ("R_RISCV_LO12_I", 2, "lld checks only the high half"),
+    ("R_RISCV_LO12_S", 2, "lld checks only the high half"),
+    ("R_RISCV_TPREL_LO12_I", 2, "lld checks only the high half"),
+    ("R_RISCV_TPREL_LO12_S", 2, "lld checks only the high half"),
     ("R_RISCV_SET32", 1, "lld asks for 32 signed bits"),
     ("R_RISCV_32_PCREL", 1, "lld asks for 32 signed bits"),
     ("R_LARCH_32", 2, "lld has no check"),
@@ -30,7 +30,7 @@ fn architecture_of(name: &str) -> Architecture {
         "loongarch64" => Architecture::LoongArch64,
         "ppc64" => Architecture::Ppc64,
         "x86_64" => Architecture::X86_64,
-        other => panic!("{other} is no machine"),
+        other => panic!("{other} is not a machine"),
     }
 }
 

@@ -23,7 +23,7 @@ fn merges_without_memory_change_nothing() {
     assert!(status.success());
 }
 
-/// Deletions of 320 MB, of which a merge has to make a copy, beside places of 480 MB.
+/// Deletions of 320 MB, of which a merge has to make a copy, and places of 480 MB.
 fn merge_too_many() {
     const COUNT: usize = 20_000_000;
     let deletions: &mut [Deletion] = zeros(COUNT);
@@ -49,7 +49,7 @@ fn merge_too_many() {
     }
 }
 
-/// Places that are never freed, of a type of numbers alone.
+/// Places that are never freed, of a type that has only numbers.
 fn zeros<T>(count: usize) -> &'static mut [T] {
     let layout = Layout::array::<T>(count).expect("a layout");
     // SAFETY: the layout has a size, and zeros are a value of the type.

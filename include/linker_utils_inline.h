@@ -1,0 +1,377 @@
+/* The inline functions of linker_utils.h, which includes this file and says what they do.
+ *
+ * No export of the archive takes a null pointer to a slice, even with a count of 0. So each function
+ * replaces null by the address of an array, and calls the export of the same name that ends in
+ * `_nonnull`. It replaces a null `faulty` by the address of a variable. */
+#ifndef LINKER_UTILS_INLINE_H
+#define LINKER_UTILS_INLINE_H
+
+static inline const char *linker_utils_status_text(uint32_t status) {
+    switch (status) {
+#define LINKER_UTILS_STATUS(name, number, text) \
+    case LINKER_UTILS_##name: return text;
+        LINKER_UTILS_STATUSES(LINKER_UTILS_STATUS)
+#undef LINKER_UTILS_STATUS
+    }
+    return "No status has this number.";
+}
+
+static uint64_t linker_utils_no_elements[1];
+#define LINKER_UTILS_SLICE(element, slice) \
+    ((slice) ? (slice) : (element *)linker_utils_no_elements)
+
+uint32_t linker_utils_fits_nonnull(uint16_t machine, uint32_t form, uint64_t value,
+                                   const uint8_t *bytes, size_t bytes_len);
+static inline uint32_t linker_utils_fits(uint16_t machine, uint32_t form, uint64_t value,
+                                         const uint8_t *bytes, size_t bytes_len) {
+    return linker_utils_fits_nonnull(machine, form, value,
+                                     LINKER_UTILS_SLICE(const uint8_t, bytes), bytes_len);
+}
+
+uint32_t linker_utils_write_nonnull(uint16_t machine, uint32_t form, uint64_t value, bool negative,
+                                    uint8_t *dest, size_t dest_len);
+static inline uint32_t linker_utils_write(uint16_t machine, uint32_t form, uint64_t value,
+                                          bool negative, uint8_t *dest, size_t dest_len) {
+    return linker_utils_write_nonnull(machine, form, value, negative,
+                                      LINKER_UTILS_SLICE(uint8_t, dest), dest_len);
+}
+
+uint32_t linker_utils_read_nonnull(uint16_t machine, uint32_t form, const uint8_t *bytes,
+                                   size_t bytes_len, uint64_t *value, uint8_t *negative);
+static inline uint32_t linker_utils_read(uint16_t machine, uint32_t form, const uint8_t *bytes,
+                                         size_t bytes_len, uint64_t *value, uint8_t *negative) {
+    return linker_utils_read_nonnull(machine, form, LINKER_UTILS_SLICE(const uint8_t, bytes),
+                                     bytes_len, value, negative);
+}
+
+uint32_t linker_utils_can_apply_nonnull(uint16_t machine, uint32_t rewrite, uint8_t n,
+                                        const uint8_t *section, size_t section_len,
+                                        uint64_t offset);
+static inline uint32_t linker_utils_can_apply(uint16_t machine, uint32_t rewrite, uint8_t n,
+                                              const uint8_t *section, size_t section_len,
+                                              uint64_t offset) {
+    return linker_utils_can_apply_nonnull(machine, rewrite, n,
+                                          LINKER_UTILS_SLICE(const uint8_t, section), section_len,
+                                          offset);
+}
+
+uint32_t linker_utils_apply_nonnull(uint16_t machine, uint32_t rewrite, uint8_t n, uint8_t *section,
+                                    size_t section_len, uint64_t *offset, int64_t *addend);
+static inline uint32_t linker_utils_apply(uint16_t machine, uint32_t rewrite, uint8_t n,
+                                          uint8_t *section, size_t section_len, uint64_t *offset,
+                                          int64_t *addend) {
+    return linker_utils_apply_nonnull(machine, rewrite, n, LINKER_UTILS_SLICE(uint8_t, section),
+                                      section_len, offset, addend);
+}
+
+uint32_t linker_utils_relocation_name_nonnull(uint16_t machine, uint32_t r_type, uint8_t *name,
+                                              size_t name_len, size_t *name_used);
+static inline uint32_t linker_utils_relocation_name(uint16_t machine, uint32_t r_type,
+                                                    uint8_t *name, size_t name_len,
+                                                    size_t *name_used) {
+    return linker_utils_relocation_name_nonnull(machine, r_type, LINKER_UTILS_SLICE(uint8_t, name),
+                                                name_len, name_used);
+}
+
+uint32_t linker_utils_relocate_nonnull(uint16_t machine, uint32_t r_type, int64_t value,
+                                       uint8_t *dest, size_t dest_len);
+static inline uint32_t linker_utils_relocate(uint16_t machine, uint32_t r_type, int64_t value,
+                                             uint8_t *dest, size_t dest_len) {
+    return linker_utils_relocate_nonnull(machine, r_type, value,
+                                         LINKER_UTILS_SLICE(uint8_t, dest), dest_len);
+}
+
+uint32_t linker_utils_relocate_all_nonnull(uint16_t machine, uint8_t *section, size_t section_len,
+                                           const struct linker_utils_relocation_entry *relocations,
+                                           size_t relocations_len, size_t *faulty);
+static inline uint32_t linker_utils_relocate_all(uint16_t machine, uint8_t *section,
+    size_t section_len, const struct linker_utils_relocation_entry *relocations,
+    size_t relocations_len, size_t *faulty) {
+    size_t ignored;
+    return linker_utils_relocate_all_nonnull(
+        machine, LINKER_UTILS_SLICE(uint8_t, section), section_len,
+        LINKER_UTILS_SLICE(const struct linker_utils_relocation_entry, relocations),
+        relocations_len, faulty ? faulty : &ignored);
+}
+
+uint32_t linker_utils_jal_site_nonnull(uint8_t *section, size_t section_len, uint64_t site,
+                                       int64_t distance);
+static inline uint32_t linker_utils_jal_site(uint8_t *section, size_t section_len, uint64_t site,
+                                             int64_t distance) {
+    return linker_utils_jal_site_nonnull(LINKER_UTILS_SLICE(uint8_t, section), section_len, site,
+                                         distance);
+}
+
+uint32_t linker_utils_jal_site_with_nonnull(uint8_t *section, size_t section_len, uint64_t site,
+                                            int64_t distance, uint32_t link);
+static inline uint32_t linker_utils_jal_site_with(uint8_t *section, size_t section_len,
+                                                  uint64_t site, int64_t distance, uint32_t link) {
+    return linker_utils_jal_site_with_nonnull(LINKER_UTILS_SLICE(uint8_t, section), section_len,
+                                              site, distance, link);
+}
+
+uint32_t linker_utils_relax_call_nonnull(uint8_t *section, size_t section_len,
+                                         const struct linker_utils_delta *deltas, size_t deltas_len,
+                                         uint64_t site, uint64_t target);
+static inline uint32_t linker_utils_relax_call(uint8_t *section, size_t section_len,
+                                               const struct linker_utils_delta *deltas,
+                                               size_t deltas_len, uint64_t site, uint64_t target) {
+    return linker_utils_relax_call_nonnull(
+        LINKER_UTILS_SLICE(uint8_t, section), section_len,
+        LINKER_UTILS_SLICE(const struct linker_utils_delta, deltas), deltas_len, site, target);
+}
+
+bool linker_utils_is_plain_call_nonnull(const uint8_t *section, size_t section_len, uint64_t site);
+static inline bool linker_utils_is_plain_call(const uint8_t *section, size_t section_len,
+                                              uint64_t site) {
+    return linker_utils_is_plain_call_nonnull(LINKER_UTILS_SLICE(const uint8_t, section),
+                                              section_len, site);
+}
+
+uint32_t linker_utils_write_mov_sequence_nonnull(uint8_t *dest, size_t dest_len, uint32_t rd,
+                                                 uint64_t value);
+static inline uint32_t linker_utils_write_mov_sequence(uint8_t *dest, size_t dest_len, uint32_t rd,
+                                                       uint64_t value) {
+    return linker_utils_write_mov_sequence_nonnull(LINKER_UTILS_SLICE(uint8_t, dest), dest_len, rd,
+                                                   value);
+}
+
+uint32_t linker_utils_write_address_sequence_nonnull(uint8_t *dest, size_t dest_len, uint64_t pc,
+                                                     uint64_t target);
+static inline uint32_t linker_utils_write_address_sequence(uint8_t *dest, size_t dest_len,
+                                                           uint64_t pc, uint64_t target) {
+    return linker_utils_write_address_sequence_nonnull(LINKER_UTILS_SLICE(uint8_t, dest), dest_len,
+                                                       pc, target);
+}
+
+uint32_t linker_utils_write_ha_lo_nonnull(uint8_t *ha, size_t ha_len, uint8_t *lo, size_t lo_len,
+                                          uint64_t value);
+static inline uint32_t linker_utils_write_ha_lo(uint8_t *ha, size_t ha_len, uint8_t *lo,
+                                                size_t lo_len, uint64_t value) {
+    return linker_utils_write_ha_lo_nonnull(LINKER_UTILS_SLICE(uint8_t, ha), ha_len,
+                                            LINKER_UTILS_SLICE(uint8_t, lo), lo_len, value);
+}
+
+uint32_t linker_utils_write_uleb128_nonnull(uint8_t *dest, size_t dest_len, uint64_t value);
+static inline uint32_t linker_utils_write_uleb128(uint8_t *dest, size_t dest_len, uint64_t value) {
+    return linker_utils_write_uleb128_nonnull(LINKER_UTILS_SLICE(uint8_t, dest), dest_len, value);
+}
+
+uint32_t linker_utils_u32_from_slice_nonnull(const uint8_t *bytes, size_t bytes_len,
+                                             uint32_t *value);
+static inline uint32_t linker_utils_u32_from_slice(const uint8_t *bytes, size_t bytes_len,
+                                                   uint32_t *value) {
+    return linker_utils_u32_from_slice_nonnull(LINKER_UTILS_SLICE(const uint8_t, bytes), bytes_len,
+                                               value);
+}
+
+uint32_t linker_utils_u64_from_slice_nonnull(const uint8_t *bytes, size_t bytes_len,
+                                             uint64_t *value);
+static inline uint32_t linker_utils_u64_from_slice(const uint8_t *bytes, size_t bytes_len,
+                                                   uint64_t *value) {
+    return linker_utils_u64_from_slice_nonnull(LINKER_UTILS_SLICE(const uint8_t, bytes), bytes_len,
+                                               value);
+}
+
+uint32_t linker_utils_read_u32_nonnull(const uint8_t *bytes, size_t bytes_len, uint32_t *value,
+                                       size_t *consumed);
+static inline uint32_t linker_utils_read_u32(const uint8_t *bytes, size_t bytes_len,
+                                             uint32_t *value, size_t *consumed) {
+    return linker_utils_read_u32_nonnull(LINKER_UTILS_SLICE(const uint8_t, bytes), bytes_len,
+                                         value, consumed);
+}
+
+uint32_t linker_utils_read_uleb128_nonnull(const uint8_t *bytes, size_t bytes_len, uint64_t *value,
+                                           size_t *consumed);
+static inline uint32_t linker_utils_read_uleb128(const uint8_t *bytes, size_t bytes_len,
+                                                 uint64_t *value, size_t *consumed) {
+    return linker_utils_read_uleb128_nonnull(LINKER_UTILS_SLICE(const uint8_t, bytes), bytes_len,
+                                             value, consumed);
+}
+
+uint32_t linker_utils_deltas_is_valid_nonnull(const struct linker_utils_deletion *deletions,
+                                              size_t deletions_len, size_t *faulty);
+static inline uint32_t linker_utils_deltas_is_valid(const struct linker_utils_deletion *deletions,
+                                                    size_t deletions_len, size_t *faulty) {
+    size_t ignored;
+    return linker_utils_deltas_is_valid_nonnull(
+        LINKER_UTILS_SLICE(const struct linker_utils_deletion, deletions), deletions_len,
+        faulty ? faulty : &ignored);
+}
+
+uint32_t linker_utils_deltas_create_nonnull(const struct linker_utils_deletion *deletions,
+                                            size_t deletions_len, struct linker_utils_delta *deltas,
+                                            size_t deltas_len, size_t *faulty);
+static inline uint32_t linker_utils_deltas_create(const struct linker_utils_deletion *deletions,
+    size_t deletions_len, struct linker_utils_delta *deltas, size_t deltas_len, size_t *faulty) {
+    size_t ignored;
+    return linker_utils_deltas_create_nonnull(
+        LINKER_UTILS_SLICE(const struct linker_utils_deletion, deletions), deletions_len,
+        LINKER_UTILS_SLICE(struct linker_utils_delta, deltas), deltas_len,
+        faulty ? faulty : &ignored);
+}
+
+uint32_t linker_utils_deltas_is_mergeable_nonnull(const struct linker_utils_delta *deltas,
+    size_t deltas_len, const struct linker_utils_deletion *additional, size_t additional_len);
+static inline uint32_t linker_utils_deltas_is_mergeable(const struct linker_utils_delta *deltas,
+    size_t deltas_len, const struct linker_utils_deletion *additional, size_t additional_len) {
+    return linker_utils_deltas_is_mergeable_nonnull(
+        LINKER_UTILS_SLICE(const struct linker_utils_delta, deltas), deltas_len,
+        LINKER_UTILS_SLICE(const struct linker_utils_deletion, additional), additional_len);
+}
+
+uint32_t linker_utils_deltas_merge_nonnull(const struct linker_utils_delta *deltas,
+    size_t deltas_len, const struct linker_utils_deletion *additional, size_t additional_len,
+    struct linker_utils_delta *merged, size_t merged_len, size_t *faulty);
+static inline uint32_t linker_utils_deltas_merge(const struct linker_utils_delta *deltas,
+    size_t deltas_len, const struct linker_utils_deletion *additional, size_t additional_len,
+    struct linker_utils_delta *merged, size_t merged_len, size_t *faulty) {
+    size_t ignored;
+    return linker_utils_deltas_merge_nonnull(
+        LINKER_UTILS_SLICE(const struct linker_utils_delta, deltas), deltas_len,
+        LINKER_UTILS_SLICE(const struct linker_utils_deletion, additional), additional_len,
+        LINKER_UTILS_SLICE(struct linker_utils_delta, merged), merged_len,
+        faulty ? faulty : &ignored);
+}
+
+uint64_t linker_utils_deltas_total_deleted_nonnull(const struct linker_utils_delta *deltas,
+                                                   size_t deltas_len);
+static inline uint64_t linker_utils_deltas_total_deleted(const struct linker_utils_delta *deltas,
+                                                         size_t deltas_len) {
+    return linker_utils_deltas_total_deleted_nonnull(
+        LINKER_UTILS_SLICE(const struct linker_utils_delta, deltas), deltas_len);
+}
+
+uint64_t linker_utils_deltas_input_to_output_nonnull(const struct linker_utils_delta *deltas,
+                                                     size_t deltas_len, uint64_t input_offset);
+static inline uint64_t linker_utils_deltas_input_to_output(const struct linker_utils_delta *deltas,
+                                                           size_t deltas_len,
+                                                           uint64_t input_offset) {
+    return linker_utils_deltas_input_to_output_nonnull(
+        LINKER_UTILS_SLICE(const struct linker_utils_delta, deltas), deltas_len, input_offset);
+}
+
+uint32_t linker_utils_deltas_output_to_input_nonnull(const struct linker_utils_delta *deltas,
+                                                     size_t deltas_len, uint64_t output_offset,
+                                                     uint64_t *input_offset);
+static inline uint32_t linker_utils_deltas_output_to_input(const struct linker_utils_delta *deltas,
+    size_t deltas_len, uint64_t output_offset, uint64_t *input_offset) {
+    return linker_utils_deltas_output_to_input_nonnull(
+        LINKER_UTILS_SLICE(const struct linker_utils_delta, deltas), deltas_len, output_offset,
+        input_offset);
+}
+
+uint32_t linker_utils_deltas_translate_all_nonnull(const struct linker_utils_delta *deltas,
+                                                   size_t deltas_len, const uint64_t *queries,
+                                                   size_t queries_len, uint64_t *outputs,
+                                                   size_t outputs_len, size_t *faulty);
+static inline uint32_t linker_utils_deltas_translate_all(const struct linker_utils_delta *deltas,
+                                                         size_t deltas_len, const uint64_t *queries,
+                                                         size_t queries_len, uint64_t *outputs,
+                                                         size_t outputs_len, size_t *faulty) {
+    size_t ignored;
+    return linker_utils_deltas_translate_all_nonnull(
+        LINKER_UTILS_SLICE(const struct linker_utils_delta, deltas), deltas_len,
+        LINKER_UTILS_SLICE(const uint64_t, queries), queries_len,
+        LINKER_UTILS_SLICE(uint64_t, outputs), outputs_len, faulty ? faulty : &ignored);
+}
+
+size_t linker_utils_deltas_block_count_nonnull(const struct linker_utils_delta *deltas,
+                                               size_t deltas_len);
+static inline size_t linker_utils_deltas_block_count(const struct linker_utils_delta *deltas,
+                                                     size_t deltas_len) {
+    return linker_utils_deltas_block_count_nonnull(
+        LINKER_UTILS_SLICE(const struct linker_utils_delta, deltas), deltas_len);
+}
+
+uint32_t linker_utils_deltas_heads_nonnull(const struct linker_utils_delta *deltas,
+                                           size_t deltas_len, struct linker_utils_block_head *heads,
+                                           size_t heads_len);
+static inline uint32_t linker_utils_deltas_heads(const struct linker_utils_delta *deltas,
+    size_t deltas_len, struct linker_utils_block_head *heads, size_t heads_len) {
+    return linker_utils_deltas_heads_nonnull(
+        LINKER_UTILS_SLICE(const struct linker_utils_delta, deltas), deltas_len,
+        LINKER_UTILS_SLICE(struct linker_utils_block_head, heads), heads_len);
+}
+
+uint64_t linker_utils_deltas_input_to_output_by_heads_nonnull(
+    const struct linker_utils_delta *deltas, size_t deltas_len,
+    const struct linker_utils_block_head *heads, size_t heads_len, uint64_t input_offset);
+static inline uint64_t linker_utils_deltas_input_to_output_by_heads(
+    const struct linker_utils_delta *deltas, size_t deltas_len,
+    const struct linker_utils_block_head *heads, size_t heads_len, uint64_t input_offset) {
+    return linker_utils_deltas_input_to_output_by_heads_nonnull(
+        LINKER_UTILS_SLICE(const struct linker_utils_delta, deltas), deltas_len,
+        LINKER_UTILS_SLICE(const struct linker_utils_block_head, heads), heads_len, input_offset);
+}
+
+uint32_t linker_utils_deltas_output_to_input_by_heads_nonnull(
+    const struct linker_utils_delta *deltas, size_t deltas_len,
+    const struct linker_utils_block_head *heads, size_t heads_len, uint64_t output_offset,
+    uint64_t *input_offset);
+static inline uint32_t linker_utils_deltas_output_to_input_by_heads(
+    const struct linker_utils_delta *deltas, size_t deltas_len,
+    const struct linker_utils_block_head *heads, size_t heads_len, uint64_t output_offset,
+    uint64_t *input_offset) {
+    return linker_utils_deltas_output_to_input_by_heads_nonnull(
+        LINKER_UTILS_SLICE(const struct linker_utils_delta, deltas), deltas_len,
+        LINKER_UTILS_SLICE(const struct linker_utils_block_head, heads), heads_len, output_offset,
+        input_offset);
+}
+
+size_t linker_utils_packed_len_nonnull(const uint8_t *section, size_t section_len,
+                                       const struct linker_utils_delta *deltas, size_t deltas_len);
+static inline size_t linker_utils_packed_len(const uint8_t *section, size_t section_len,
+                                             const struct linker_utils_delta *deltas,
+                                             size_t deltas_len) {
+    return linker_utils_packed_len_nonnull(
+        LINKER_UTILS_SLICE(const uint8_t, section), section_len,
+        LINKER_UTILS_SLICE(const struct linker_utils_delta, deltas), deltas_len);
+}
+
+uint32_t linker_utils_pack_nonnull(const uint8_t *section, size_t section_len,
+                                   const struct linker_utils_delta *deltas, size_t deltas_len,
+                                   const struct linker_utils_call *calls, size_t calls_len,
+                                   uint32_t link, uint8_t *packed, size_t packed_len,
+                                   size_t *faulty);
+static inline uint32_t linker_utils_pack(const uint8_t *section, size_t section_len,
+                                         const struct linker_utils_delta *deltas, size_t deltas_len,
+                                         const struct linker_utils_call *calls, size_t calls_len,
+                                         uint32_t link, uint8_t *packed, size_t packed_len,
+                                         size_t *faulty) {
+    size_t ignored;
+    return linker_utils_pack_nonnull(
+        LINKER_UTILS_SLICE(const uint8_t, section), section_len,
+        LINKER_UTILS_SLICE(const struct linker_utils_delta, deltas), deltas_len,
+        LINKER_UTILS_SLICE(const struct linker_utils_call, calls), calls_len, link,
+        LINKER_UTILS_SLICE(uint8_t, packed), packed_len, faulty ? faulty : &ignored);
+}
+
+uint32_t linker_utils_calls_shrinkable_nonnull(const struct linker_utils_delta *deltas,
+    size_t deltas_len, const struct linker_utils_call *calls, size_t calls_len, size_t *faulty);
+static inline uint32_t linker_utils_calls_shrinkable(const struct linker_utils_delta *deltas,
+    size_t deltas_len, const struct linker_utils_call *calls, size_t calls_len, size_t *faulty) {
+    size_t ignored;
+    return linker_utils_calls_shrinkable_nonnull(
+        LINKER_UTILS_SLICE(const struct linker_utils_delta, deltas), deltas_len,
+        LINKER_UTILS_SLICE(const struct linker_utils_call, calls), calls_len,
+        faulty ? faulty : &ignored);
+}
+
+uint32_t linker_utils_shrink_calls_nonnull(const struct linker_utils_delta *deltas,
+                                           size_t deltas_len, const struct linker_utils_call *calls,
+                                           size_t calls_len, uint8_t *chosen, size_t chosen_len,
+                                           size_t *faulty);
+static inline uint32_t linker_utils_shrink_calls(const struct linker_utils_delta *deltas,
+    size_t deltas_len, const struct linker_utils_call *calls, size_t calls_len, uint8_t *chosen,
+    size_t chosen_len, size_t *faulty) {
+    size_t ignored;
+    return linker_utils_shrink_calls_nonnull(
+        LINKER_UTILS_SLICE(const struct linker_utils_delta, deltas), deltas_len,
+        LINKER_UTILS_SLICE(const struct linker_utils_call, calls), calls_len,
+        LINKER_UTILS_SLICE(uint8_t, chosen), chosen_len, faulty ? faulty : &ignored);
+}
+
+#undef LINKER_UTILS_SLICE
+
+#endif
