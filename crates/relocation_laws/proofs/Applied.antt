@@ -1,18 +1,19 @@
 -- What the machine reads of an instruction to which a relocation was applied.
-use Rattle.std.proofs.Common.{FitsSigned, ◌≡◌, ℕ, ◌-◌, ◌/◌, ◌%◌, ◌^◌, ◌<◌, ◌≤◌, true, false, refl, sym}
+use Rattle.std.proofs.Common.{false}
+use Rattle.linker_utils.specs.AArch64.{aarch64_layout}
+use Rattle.std.proofs.Common.{FitsSigned, ◌≡◌, ℕ, ◌-◌, ◌%◌, ◌^◌, ◌<◌, ◌≤◌, true, refl, sym}
 use Rattle.std.proofs.Common.{◌∙◌, ap, subst, arith, List, ℤ, pos, Option, Some, None, int_lt}
 use Rattle.std.proofs.Common.{unsigned_abs, Bool, eqb}
 use Rattle.std.proofs.lemmas.Bool.{eqb-true}
 use Rattle.std.specs.Int.{w64, cast_signed, cast_unsigned, int_rem_euclid}
 use Rattle.std.proofs.lemmas.Int.{of_z-to_z}
-use Rattle.std.proofs.lemmas.Nat.{mod_below, pow_pos}
 use Rattle.linker_base.specs.Bits.{field, signed}
-use Rattle.linker_base.specs.Form.{place_sum, window_of, Written, IsClear, form_of, Layout}
+use Rattle.linker_base.specs.Form.{place_sum, window_of, Written, IsClear}
 use Rattle.linker_base.specs.Form.{BitsWritten}
 use Rattle.linker_base.specs.declared.bit_misc.BitRange.{BitRange}
 use Rattle.linker_base.proofs.Immediates.{is_sound_layout, layout_laid, low_of, high_of}
-use Rattle.linker_base.proofs.Immediates.{always_clear, subst_below}
-use Rattle.linker_utils.specs.AArch64.{aarch64_form, aarch64_layout}
+use Rattle.linker_base.proofs.Immediates.{always_clear}
+use Rattle.linker_utils.specs.AArch64.{aarch64_form}
 use Rattle.linker_utils.specs.Agrees.{bits_from, AgreesInReach}
 use Rattle.linker_utils.specs.Elf.{IsWithin, relocation_form, relocation_layout}
 use Rattle.linker_utils.specs.LoongArch.{loongarch_form}
@@ -20,21 +21,18 @@ use Rattle.linker_utils.specs.Ppc64.{ppc64_form}
 use Rattle.linker_utils.specs.Reach.{reach_of}
 use Rattle.linker_utils.specs.Relocate.{InstructionWritten, SizeReads, SizeHolds, bits_taken}
 use Rattle.linker_utils.specs.Relocate.{IsAligned, IsInUnits, ppc64_reads, places_cleared}
-use Rattle.linker_utils.specs.Relocate.{ored_cleared}
 use Rattle.linker_utils.specs.RiscV.{riscv_form}
-use Rattle.linker_utils.specs.Value.{formula, value_of}
+use Rattle.linker_utils.specs.Value.{value_of}
 use Rattle.linker_utils.specs.declared.elf.AArch64Instruction.{AArch64Instruction}
 use Rattle.linker_utils.specs.declared.elf.AArch64Instruction.TheVariants.{Movnz, MachOLow12}
-use Rattle.linker_utils.specs.declared.elf.LoongArch64Instruction.{LoongArch64Instruction}
-use Rattle.linker_utils.specs.declared.elf.LoongArch64Instruction.TheVariants.{Shift10, Call30, Call36}
-use Rattle.linker_utils.specs.declared.elf.Ppc64Instruction.{Ppc64Instruction}
+use Rattle.linker_utils.specs.declared.elf.LoongArch64Instruction.TheVariants.{Shift10}
 use Rattle.linker_utils.specs.declared.elf.Ppc64Instruction.TheVariants.{D, Ds}
 use Rattle.linker_utils.specs.declared.elf.RelocationInstruction.{RelocationInstruction}
-use Rattle.linker_utils.specs.declared.elf.RelocationInstruction.TheVariants.{AArch64, RiscV, Ppc64, LoongArch64}
+use Rattle.linker_utils.specs.declared.elf.RelocationInstruction.TheVariants.{AArch64, RiscV, Ppc64}
+use Rattle.linker_utils.specs.declared.elf.RelocationInstruction.TheVariants.{LoongArch64}
 use Rattle.linker_utils.specs.declared.elf.RelocationKindInfo.{RelocationKindInfo}
 use Rattle.linker_utils.specs.declared.elf.RelocationSize.TheVariants.{BitMasking}
-use Rattle.linker_utils.specs.declared.elf.RiscVInstruction.{RiscVInstruction}
-use Rattle.linker_utils.specs.declared.elf.RiscVInstruction.TheVariants.{UType, UiType, CluiType}
+use Rattle.linker_utils.specs.declared.elf.RiscVInstruction.TheVariants.{UiType}
 use Rattle.linker_utils.specs.declared.elf.value.Operands.{Operands}
 use Rattle.linker_utils.proofs.Agreement.{layout_check, layout_agrees}
 use Rattle.linker_utils.proofs.Clearing.{clear_after}

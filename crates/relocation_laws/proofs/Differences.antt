@@ -1,17 +1,21 @@
 -- What two relocations of one place leave there.
-use Rattle.std.proofs.Common.{FitsSigned, ◌≡◌, ℕ, zero, suc, ◌+◌, ◌-◌, ◌*◌, ◌/◌, ◌%◌, ◌^◌, ◌<◌, ◌≤◌, Bool}
-use Rattle.std.proofs.Common.{refl, sym, ◌∙◌, ap, subst, arith, List, inl, inr, ℤ, pos, negsuc}
-use Rattle.std.proofs.Common.{◌+ℤ◌, ◌-ℤ◌, Option, Some, None, unsigned_abs}
+use Rattle.std.proofs.Common.{◌≡◌, ℕ, zero, suc, ◌+◌, ◌-◌, ◌*◌, ◌%◌, ◌^◌, ◌<◌, ◌≤◌, Bool}
+use Rattle.std.proofs.Common.{refl, sym, ◌∙◌, ap, arith, List, inl, inr, pos, negsuc}
+use Rattle.std.proofs.Common.{◌+ℤ◌, ◌-ℤ◌, Option, Some, unsigned_abs}
 use Rattle.std.specs.Int.{w64, cast_signed, cast_unsigned, int_rem_euclid}
 use Rattle.std.proofs.lemmas.Bool.{cases_lt}
-use Rattle.std.proofs.lemmas.Int.{ints, int_rem_euclid_is, to_z_pos}
+use Rattle.std.proofs.lemmas.Int.{ints, to_z_pos}
 use Rattle.linker_base.specs.Bits.{field}
 use Rattle.linker_utils.specs.Relocate.{number_of_bytes, SizeNumber}
 use Rattle.linker_utils.specs.Value.{value_of, sum_64, difference_64}
 use Rattle.linker_utils.specs.declared.elf.AllowedRange.{AllowedRange}
 use Rattle.linker_utils.specs.declared.elf.PageMask.{PageMask}
-use Rattle.linker_utils.specs.declared.elf.RelocationKind.{RelocationKind}
-use Rattle.linker_utils.specs.declared.elf.RelocationKind.TheVariants.{AbsoluteSet, AbsoluteSetWord6, AbsoluteAddition, AbsoluteAdditionWord6, AbsoluteSubtraction, AbsoluteSubtractionWord6}
+use Rattle.linker_utils.specs.declared.elf.RelocationKind.TheVariants.{AbsoluteSet}
+use Rattle.linker_utils.specs.declared.elf.RelocationKind.TheVariants.{AbsoluteSetWord6}
+use Rattle.linker_utils.specs.declared.elf.RelocationKind.TheVariants.{AbsoluteAddition}
+use Rattle.linker_utils.specs.declared.elf.RelocationKind.TheVariants.{AbsoluteAdditionWord6}
+use Rattle.linker_utils.specs.declared.elf.RelocationKind.TheVariants.{AbsoluteSubtraction}
+use Rattle.linker_utils.specs.declared.elf.RelocationKind.TheVariants.{AbsoluteSubtractionWord6}
 use Rattle.linker_utils.specs.declared.elf.RelocationSize.TheVariants.{ByteSize}
 use Rattle.linker_utils.specs.declared.elf.value.Operands.{Operands}
 use Rattle.linker_utils.proofs.Agreement.{rem_rem}
@@ -23,7 +27,7 @@ use Rattle.relocation_laws.specs.Schemes.{IsApplied, IsAddress, symbol_address}
 use Rattle.relocation_laws.proofs.Applied.{fits, value_is}
 use Rattle.relocation_laws.proofs.Fields.{bytes_of}
 use Rattle.relocation_laws.proofs.Instructions.{absolute}
-use Rattle.relocation_laws.proofs.Sums.{goes, cast_low, lift, lifted_is, sum_below}
+use Rattle.relocation_laws.proofs.Sums.{goes, cast_low, lifted_is, sum_below}
 
 -- ---- sums and differences with a value
 
@@ -296,8 +300,8 @@ pub adds_distance_6 : {mask : Option PageMask} {range : AllowedRange} {a : ℕ} 
     → ((o : Operands) → value_of (bytes_of AbsoluteAdditionWord6 1 mask range a bias thunkable
     implicit) o
     ≡ Some (cast_signed w64 (absolute symbol_address o)))
-    → ((o : Operands) → value_of (bytes_of AbsoluteSubtractionWord6 1 mask2 range2 a2 bias2 thunkable2
-    implicit2) o
+    → ((o : Operands)
+    → value_of (bytes_of AbsoluteSubtractionWord6 1 mask2 range2 a2 bias2 thunkable2 implicit2) o
     ≡ Some (cast_signed w64 (absolute symbol_address o)))
     → (o p : Operands) (before between after : List ℕ)
     → IsApplied (bytes_of AbsoluteAdditionWord6 1 mask range a bias thunkable
@@ -331,8 +335,8 @@ pub sets_distance_6 : {mask : Option PageMask} {range : AllowedRange} {a : ℕ} 
     → ((o : Operands) → value_of (bytes_of AbsoluteSetWord6 1 mask range a bias thunkable
     implicit) o
     ≡ Some (cast_signed w64 (absolute symbol_address o)))
-    → ((o : Operands) → value_of (bytes_of AbsoluteSubtractionWord6 1 mask2 range2 a2 bias2 thunkable2
-    implicit2) o
+    → ((o : Operands)
+    → value_of (bytes_of AbsoluteSubtractionWord6 1 mask2 range2 a2 bias2 thunkable2 implicit2) o
     ≡ Some (cast_signed w64 (absolute symbol_address o)))
     → (o p : Operands) (before between after : List ℕ)
     → IsApplied (bytes_of AbsoluteSetWord6 1 mask range a bias thunkable

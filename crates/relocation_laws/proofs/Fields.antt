@@ -1,12 +1,10 @@
 -- The law of a field of whole bytes.
-use Rattle.std.proofs.Common.{◌≡◌, ℕ, zero, suc, ◌+◌, ◌-◌, ◌*◌, ◌%◌, ◌^◌, ◌<◌, ◌≤◌, ◌&&◌, Bool, true, refl, sym}
-use Rattle.std.proofs.Common.{◌∙◌, ap, subst, arith, List, ℤ, pos, negsuc, ◌+ℤ◌, ◌*ℤ◌, Option, Some, None, ltb}
+use Rattle.std.proofs.Common.{◌≡◌, ℕ, zero, suc, ◌+◌, ◌*◌, ◌%◌, ◌^◌, ◌<◌, Bool, true, sym}
+use Rattle.std.proofs.Common.{◌∙◌, ap, subst, arith, List, ℤ, pos, ◌+ℤ◌, ◌*ℤ◌, Option, Some, None}
 use Rattle.std.proofs.Common.{unsigned_abs}
 use Rattle.std.specs.Int.{w64, cast_signed, int_rem_euclid}
-use Rattle.std.proofs.lemmas.Bool.{and_parts, ltb-true}
-use Rattle.std.proofs.lemmas.Int.{ints}
 use Rattle.std.proofs.Math.Nat.{mod-eq_of_lt}
-use Rattle.linker_base.specs.Form.{Sign, unsigned, twos_complement, number_of}
+use Rattle.linker_base.specs.Form.{Sign, number_of}
 use Rattle.linker_utils.specs.Agrees.{bits_from}
 use Rattle.linker_utils.specs.Elf.{IsWithin}
 use Rattle.linker_utils.specs.Reach.{reach_of}
@@ -23,12 +21,12 @@ use Rattle.linker_utils.proofs.Agreement.{number_agrees, reaches, from_zero, rem
 use Rattle.linker_utils.proofs.WrittenNumbers.{row_number}
 use Rattle.relocation_laws.specs.Schemes.{IsApplied, IsAddress, AreAddresses}
 use Rattle.relocation_laws.proofs.Applied.{fits, value_is}
-use Rattle.relocation_laws.proofs.Instructions.{Number, IsNumber}
+use Rattle.relocation_laws.proofs.Instructions.{IsNumber}
 use Rattle.relocation_laws.proofs.Sums.{goes, cast_low, cast_is, once}
 
 -- so many whole bytes
-abbrev pub bytes_of : RelocationKind → ℕ → Option PageMask → AllowedRange → ℕ → Option ℕ → Bool → Bool
-    → RelocationKindInfo
+abbrev pub bytes_of : RelocationKind → ℕ → Option PageMask → AllowedRange → ℕ → Option ℕ → Bool
+    → Bool → RelocationKindInfo
 bytes_of kind n mask range a bias thunkable implicit =
     record {
       kind = kind;
@@ -63,7 +61,8 @@ module _ {kind : RelocationKind} {n : ℕ} {mask : Option PageMask} {range : All
       (fits row o before after applied number below is) applied.accepted.supported
       applied.written in
       held
-      ∙ ap (λ z. int_rem_euclid z (pos (2 ^ (8 * n)))) (whole applied.value (number_of_bytes n before)
+      ∙ ap (λ z. int_rem_euclid z (pos (2 ^ (8 * n))))
+      (whole applied.value (number_of_bytes n before)
       ∙ sym is)
 
   -- read by a sign, of a value within bounds

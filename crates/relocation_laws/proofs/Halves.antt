@@ -1,11 +1,12 @@
 -- Halves of PowerPC64.
-use Rattle.std.proofs.Common.{◌≡◌, ℕ, ◌+◌, ◌-◌, ◌*◌, ◌/◌, ◌%◌, ◌^◌, ◌<◌, Bool, true, refl, sym, ◌∙◌, ap, subst}
+use Rattle.std.proofs.Common.{◌-◌}
+use Rattle.std.proofs.Common.{◌≡◌, ℕ, ◌+◌, ◌%◌, ◌^◌, ◌<◌, Bool, true, refl, sym, ◌∙◌, ap, subst}
 use Rattle.std.proofs.Common.{arith, List, ℤ, pos, ◌+ℤ◌, ◌*ℤ◌, Option, Some, None}
-use Rattle.std.specs.Int.{w64, cast_signed, int_rem_euclid}
+use Rattle.std.specs.Int.{w64, cast_signed}
 use Rattle.linker_base.specs.Bits.{field, signed}
 use Rattle.linker_base.specs.Form.{window_of, place_sum, replaced}
 use Rattle.linker_base.proofs.ConsecutiveBits.{consecutive_bits_sum}
-use Rattle.linker_utils.specs.Elf.{IsWithin, relocation_form}
+use Rattle.linker_utils.specs.Elf.{IsWithin}
 use Rattle.linker_utils.specs.Ppc64.{ppc64_form}
 use Rattle.linker_utils.specs.Reach.{reach_of}
 use Rattle.linker_utils.specs.Relocate.{ppc64_reads}
@@ -17,11 +18,12 @@ use Rattle.linker_utils.specs.declared.elf.Ppc64Instruction.TheVariants.{D, Ds}
 use Rattle.linker_utils.specs.declared.elf.RelocationInstruction.TheVariants.{Ppc64}
 use Rattle.linker_utils.specs.declared.elf.RelocationKind.{RelocationKind}
 use Rattle.linker_utils.specs.declared.elf.value.Operands.{Operands}
-use Rattle.relocation_laws.specs.Schemes.{IsApplied, IsAddress, AreAddresses}
+use Rattle.relocation_laws.specs.Schemes.{IsApplied, IsAddress, AreAddresses, without_low}
 use Rattle.relocation_laws.proofs.Applied.{fits, value_is, taken_bits, ds_stands}
 use Rattle.relocation_laws.proofs.Instructions.{IsNumber, IsSmall, relative, absolute, row_of}
 use Rattle.relocation_laws.proofs.Instructions.{is_read, reads_bits, field_sum, multiple}
-use Rattle.relocation_laws.proofs.Sums.{halves_sum, signed_16, sum_below, difference_below}
+use Rattle.relocation_laws.proofs.Sums.{high_sum, halves_sum, signed_16, sum_below}
+use Rattle.relocation_laws.proofs.Sums.{difference_below}
 
 -- ---- low halves
 
@@ -181,3 +183,32 @@ unadjusted_halves {begin} {target} {number} leads rounds operands within ok e e'
     ((ppc64_form D).machine (window_of (ppc64_form D) after)) (pos (field y 0 16)) (omega arith)
     (omega arith) numbers.small numbers.below numbers.leads (rounds o small) h
     (ap (λ x. pos x +ℤ pos 0) l ∙ ap pos (omega arith))
+
+-- ---- the high half alone
+
+pub high_half : {begin number : Operands → ℕ} → IsSmall begin
+    → (target : Operands → ℕ) (r : ℕ)
+    → ((o : Operands) → AreAddresses o
+    → number o ≡ difference_64 (sum_64 (target o) r) (begin o))
+    → {kind : RelocationKind} {mask : Option PageMask} {range : AllowedRange} {a : ℕ}
+    {bias : Option ℕ} {thunkable implicit : Bool} {b : ℤ × ℤ}
+    → reach_of (row_of kind 16 32 (Ppc64 D) mask range a bias thunkable implicit) ≡ Some b
+    → is_read (Ppc64 D) 16 32 b a ≡ true
+    → ((o : Operands)
+    → value_of (row_of kind 16 32 (Ppc64 D) mask range a bias thunkable implicit) o
+    ≡ Some (cast_signed w64 (number o)))
+    → (o : Operands) → AreAddresses o → (at : ℕ) (before after : List ℕ)
+    (high : IsApplied (row_of kind 16 32 (Ppc64 D) mask range a bias thunkable implicit) o
+    before after) → IsWithin None high.value
+    → IsAddress (pos (begin o)
+    +ℤ ((ppc64_form D).machine (window_of (ppc64_form D) after) *ℤ pos (2 ^ 16)))
+    (without_low 16 r begin target o)
+high_half {begin} {number} from target r is within ok e = λ o small at before after high any.
+    let same = is o small in
+    let below : number o < 2 ^ 64 =
+    subst (λ x. x < 2 ^ 64) (sym same) (difference_below (sum_64 (target o) r) (begin o)) in
+    let h = reads_bits _ _ _ _ _ _ _ _ _ _ o before after high _
+    (subst (λ b. IsWithin b high.value) within high.accepted.reached.0) ok (number o) below (e o)
+    in
+    high_sum 16 r (begin o) (target o) (number o)
+    ((ppc64_form D).machine (window_of (ppc64_form D) after)) (omega arith) (from o small) same h

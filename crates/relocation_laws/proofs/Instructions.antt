@@ -1,8 +1,9 @@
 -- The law of one instruction, over all rows of one field.
-use Rattle.std.proofs.Common.{◌≡◌, ℕ, ◌+◌, ◌-◌, ◌%◌, ◌^◌, ◌<◌, ◌≤◌, ◌&&◌, Bool, true, false, refl}
-use Rattle.std.proofs.Common.{sym, ◌∙◌, ap, subst, arith, List, ℤ, pos, ◌+ℤ◌, ◌*ℤ◌, Option, Some, None}
+use Rattle.std.proofs.Common.{◌≡◌, ℕ, ◌-◌, ◌%◌, ◌^◌, ◌<◌, ◌≤◌, ◌&&◌, Bool, true}
+use Rattle.std.proofs.Common.{sym, ◌∙◌, ap, subst, arith, List, ℤ, pos, ◌+ℤ◌, ◌*ℤ◌, Option, Some}
+use Rattle.std.proofs.Common.{None}
 use Rattle.std.proofs.Common.{ltb, leb, eqb, ◌||◌, inl, inr}
-use Rattle.std.specs.Int.{w64, cast_signed, cast_unsigned, int_rem_euclid}
+use Rattle.std.specs.Int.{w64, cast_signed, cast_unsigned}
 use Rattle.std.proofs.lemmas.Bool.{and_parts, or_cases, ltb-true, leb-true, eqb-true}
 use Rattle.linker_base.specs.Bits.{field}
 use Rattle.linker_base.specs.Form.{window_of, place_sum}
@@ -22,7 +23,8 @@ use Rattle.linker_utils.specs.declared.elf.RelocationSize.TheVariants.{BitMaskin
 use Rattle.linker_utils.specs.declared.elf.value.Operands.{Operands}
 use Rattle.linker_utils.proofs.Agreement.{layout_check}
 use Rattle.relocation_laws.specs.Schemes.{IsApplied, IsAddress, AreAddresses}
-use Rattle.relocation_laws.specs.Schemes.{symbol_address, plt_address, entry_and_addend, entry_address}
+use Rattle.relocation_laws.specs.Schemes.{symbol_address, plt_address, entry_and_addend}
+use Rattle.relocation_laws.specs.Schemes.{entry_address}
 use Rattle.relocation_laws.specs.Schemes.{place, got_base, tls_base, zero, size_and_addend}
 use Rattle.relocation_laws.proofs.Applied.{insn_reads, is_plain, begins, fits, value_is, reads_within, aligned_low, stands, taken_bits}
 use Rattle.relocation_laws.proofs.Sums.{Leads, difference_leads, itself_leads, sum_below}
@@ -192,6 +194,9 @@ module _ (kind : RelocationKind) (start end : ℕ) (insn : RelocationInstruction
 abbrev pub IsSmall : (Operands → ℕ) → Type 0
 IsSmall f = (o : Operands) → AreAddresses o → f o < 2 ^ 64
 
+pub zero_small : IsSmall zero
+zero_small o small = omega arith
+
 pub symbol_small : IsSmall symbol_address
 symbol_small o small = sum_below o.symbol (cast_unsigned w64 o.addend)
 
@@ -243,7 +248,8 @@ pub entry_and_addend_from_place : IsNumber place entry_and_addend (relative entr
 entry_and_addend_from_place =
     leads_from place entry_and_addend place_small entry_and_addend_small
 
-pub entry_and_addend_from_got : IsNumber got_base entry_and_addend (relative entry_and_addend got_base)
+pub entry_and_addend_from_got : IsNumber got_base entry_and_addend
+    (relative entry_and_addend got_base)
 entry_and_addend_from_got =
     leads_from got_base entry_and_addend got_small entry_and_addend_small
 

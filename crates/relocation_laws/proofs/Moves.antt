@@ -9,23 +9,20 @@ use Rattle.std.proofs.lemmas.Int.{ints, int_rem_euclid_is}
 use Rattle.std.proofs.lemmas.Nat.{mod_below, pow_pos, pow-add, div-mul-add, div-add-mod'}
 use Rattle.std.proofs.Math.Nat.{mul-add-mod_self_right}
 use Rattle.linker_base.specs.Bits.{field}
-use Rattle.linker_base.specs.Form.{window_of, place_sum, IsSameModulo}
+use Rattle.linker_base.specs.Form.{IsSameModulo}
 use Rattle.linker_base.specs.declared.bit_misc.BitRange.{BitRange}
 use Rattle.linker_utils.specs.AArch64.{aarch64_form, shift_of}
 use Rattle.linker_utils.specs.Agrees.{bits_from, AgreesInReach, IsSameIn, aarch64_reads}
-use Rattle.linker_utils.specs.Elf.{IsWithin, relocation_form}
+use Rattle.linker_utils.specs.Elf.{IsWithin}
 use Rattle.linker_utils.specs.Reach.{reach_of}
 use Rattle.linker_utils.specs.Relocate.{MoveReads}
-use Rattle.linker_utils.specs.RiscVRows.{Bounds}
 use Rattle.linker_utils.specs.Value.{value_of, sum_64}
-use Rattle.linker_utils.specs.declared.elf.AArch64Instruction.{AArch64Instruction}
 use Rattle.linker_utils.specs.declared.elf.AArch64Instruction.TheVariants.{Movkz, Movnz}
 use Rattle.linker_utils.specs.declared.elf.AllowedRange.{AllowedRange}
 use Rattle.linker_utils.specs.declared.elf.PageMask.{PageMask}
 use Rattle.linker_utils.specs.declared.elf.RelocationInstruction.TheVariants.{AArch64}
 use Rattle.linker_utils.specs.declared.elf.RelocationKind.{RelocationKind}
 use Rattle.linker_utils.specs.declared.elf.RelocationKindInfo.{RelocationKindInfo}
-use Rattle.linker_utils.specs.declared.elf.RelocationSize.TheVariants.{BitMasking}
 use Rattle.linker_utils.specs.declared.elf.value.Operands.{Operands}
 use Rattle.linker_utils.proofs.Taken.{taken_is_field}
 use Rattle.relocation_laws.specs.AArch64Laws.{movk, movz, movn_or_movz}
@@ -132,7 +129,8 @@ movk_reads kind s mask range a bias thunkable implicit o before after applied n 
 -- The first move has the value's bits from bit s up, by the operands' number.
 abbrev pub IsFirst : RelocationKindInfo → Premise → ℕ → (ℕ → ℤ) → (Operands → ℕ) → Type 0
 IsFirst row premise s move number =
-    (o : Operands) → AreAddresses o → (before after : List ℕ) (applied : IsApplied row o before after)
+    (o : Operands) → AreAddresses o → (before after : List ℕ)
+    (applied : IsApplied row o before after)
     → Holds premise (number_at row.size before) applied.value
     → bits_from s (move (from_le_bytes w32 after)) ≡ bits_from s (cast_signed w64 (number o))
 
@@ -148,7 +146,8 @@ reached s {begin} {target} {number} leads short o small t v e is =
     let below = numbers.below in
     let same : n ≡ sum_64 n 0 = omega arith in
     ap (λ z. int_rem_euclid (pos (begin o) +ℤ z) (pos (2 ^ 64))) is
-    ∙ ap (λ z. int_rem_euclid z (pos (2 ^ 64))) (regroup (begin o) (t *ℤ pos (2 ^ s)) (pos (n % 2 ^ s)))
+    ∙ ap (λ z. int_rem_euclid z (pos (2 ^ 64)))
+    (regroup (begin o) (t *ℤ pos (2 ^ s)) (pos (n % 2 ^ s)))
     ∙ halves_sum s 0 (begin o) (target o) n n t (pos (n % 2 ^ s)) short (omega arith) numbers.small
     below numbers.leads same e (none_added (n % 2 ^ s))
   where
@@ -163,7 +162,8 @@ first_16 : (r n f : ℕ) → r < 2 ^ 16 → f ≡ field n 0 16
 first_16 r n f small e = omega arith
 
 after_32 : (r n f g : ℕ) → r < 2 ^ 32 → g ≡ field n 16 32 → f ≡ field n 0 16
-    → (r - r % 2 ^ 32 + g * 2 ^ 16 + r % 2 ^ 16) - (r - r % 2 ^ 32 + g * 2 ^ 16 + r % 2 ^ 16) % 2 ^ 16
+    → (r - r % 2 ^ 32 + g * 2 ^ 16 + r % 2 ^ 16)
+    - (r - r % 2 ^ 32 + g * 2 ^ 16 + r % 2 ^ 16) % 2 ^ 16
     + f * 2 ^ 0 + (r - r % 2 ^ 32 + g * 2 ^ 16 + r % 2 ^ 16) % 2 ^ 0 ≡ n % 2 ^ 32
 after_32 r n f g small eg ef =
     let low : r % 2 ^ 16 < 2 ^ 16 = omega arith in
@@ -209,8 +209,9 @@ pub moves2 : {begin target number : Operands → ℕ} → IsNumber begin target 
     → (at2 : ℕ) (before2 after2 : List ℕ)
     (step2 : IsApplied (row_of kind2 0 16 (AArch64 Movkz) mask2 range2 a2 bias2
     thunkable2 implicit2)
-    (operands2 o at2) before2 after2) → Holds none (number_at (BitMasking (record { start = 0; end = 16 }) (AArch64 Movkz)) before2) step2.value
-    → IsAddress (pos (begin o) +ℤ movk 0 (move (from_le_bytes w32 after)) (from_le_bytes w32 after2))
+    (operands2 o at2) before2 after2) → Holds none (from_le_bytes w32 before2) step2.value
+    → IsAddress (pos (begin o)
+    +ℤ movk 0 (move (from_le_bytes w32 after)) (from_le_bytes w32 after2))
     (target o)
 moves2 {begin} {target} {number} leads row premise move first operands2 e2 =
     λ o small at before after step holds at2 before2 after2 step2 any2.
@@ -249,16 +250,17 @@ pub moves3 : {begin target number : Operands → ℕ} → IsNumber begin target 
     → (at2 : ℕ) (before2 after2 : List ℕ)
     (step2 : IsApplied (row_of kind2 16 32 (AArch64 Movkz) mask2 range2 a2 bias2
     thunkable2 implicit2)
-    (operands2 o at2) before2 after2) → Holds none (number_at (BitMasking (record { start = 16; end = 32 }) (AArch64 Movkz)) before2) step2.value
+    (operands2 o at2) before2 after2) → Holds none (from_le_bytes w32 before2) step2.value
     → (at3 : ℕ) (before3 after3 : List ℕ)
     (step3 : IsApplied (row_of kind3 0 16 (AArch64 Movkz) mask3 range3 a3 bias3
     thunkable3 implicit3)
-    (operands3 o at3) before3 after3) → Holds none (number_at (BitMasking (record { start = 0; end = 16 }) (AArch64 Movkz)) before3) step3.value
+    (operands3 o at3) before3 after3) → Holds none (from_le_bytes w32 before3) step3.value
     → IsAddress (pos (begin o)
     +ℤ movk 0 (movk 16 (move (from_le_bytes w32 after)) (from_le_bytes w32 after2))
     (from_le_bytes w32 after3)) (target o)
 moves3 {begin} {target} {number} leads row premise move first operands2 operands3 e2 e3 =
-    λ o small at before after step holds at2 before2 after2 step2 any2 at3 before3 after3 step3 any3.
+    λ o small at before after step holds at2 before2 after2 step2 any2 at3 before3 after3 step3
+    any3.
     let n = number o in
     let numbers = leads o small in
     let v = move (from_le_bytes w32 after) in
@@ -284,7 +286,8 @@ moves3 {begin} {target} {number} leads row premise move first operands2 operands
 -- The first move of the highest 16 bits has them modulo 2 ^ 16.
 abbrev pub IsHighest : RelocationKindInfo → Premise → (ℕ → ℤ) → (Operands → ℕ) → Type 0
 IsHighest row premise move number =
-    (o : Operands) → AreAddresses o → (before after : List ℕ) (applied : IsApplied row o before after)
+    (o : Operands) → AreAddresses o → (before after : List ℕ)
+    (applied : IsApplied row o before after)
     → Holds premise (number_at row.size before) applied.value
     → IsSameModulo 16 (bits_from 48 (move (from_le_bytes w32 after)))
     (bits_from 48 (cast_signed w64 (number o)))
@@ -367,15 +370,15 @@ pub moves4 : {begin target number : Operands → ℕ} → IsNumber begin target 
     → (at2 : ℕ) (before2 after2 : List ℕ)
     (step2 : IsApplied (row_of kind2 32 48 (AArch64 Movkz) mask2 range2 a2 bias2
     thunkable2 implicit2)
-    (operands2 o at2) before2 after2) → Holds none (number_at (BitMasking (record { start = 32; end = 48 }) (AArch64 Movkz)) before2) step2.value
+    (operands2 o at2) before2 after2) → Holds none (from_le_bytes w32 before2) step2.value
     → (at3 : ℕ) (before3 after3 : List ℕ)
     (step3 : IsApplied (row_of kind3 16 32 (AArch64 Movkz) mask3 range3 a3 bias3
     thunkable3 implicit3)
-    (operands3 o at3) before3 after3) → Holds none (number_at (BitMasking (record { start = 16; end = 32 }) (AArch64 Movkz)) before3) step3.value
+    (operands3 o at3) before3 after3) → Holds none (from_le_bytes w32 before3) step3.value
     → (at4 : ℕ) (before4 after4 : List ℕ)
     (step4 : IsApplied (row_of kind4 0 16 (AArch64 Movkz) mask4 range4 a4 bias4
     thunkable4 implicit4)
-    (operands4 o at4) before4 after4) → Holds none (number_at (BitMasking (record { start = 0; end = 16 }) (AArch64 Movkz)) before4) step4.value
+    (operands4 o at4) before4 after4) → Holds none (from_le_bytes w32 before4) step4.value
     → IsAddress (pos (begin o)
     +ℤ movk 0 (movk 16 (movk 32 (move (from_le_bytes w32 after)) (from_le_bytes w32 after2))
     (from_le_bytes w32 after3)) (from_le_bytes w32 after4)) (target o)

@@ -1,7 +1,10 @@
 -- Addresses of LoongArch in parts.
-use Rattle.std.proofs.Common.{◌≡◌, ℕ, ◌+◌, ◌-◌, ◌*◌, ◌/◌, ◌%◌, ◌^◌, ◌<◌, Bool, true, false, refl, sym, ◌∙◌, ap, subst}
-use Rattle.std.proofs.Common.{arith, List, ℤ, pos, ◌+ℤ◌, ◌-ℤ◌, ◌*ℤ◌, inl, inr, Option, Some, None, int_lt, unsigned_abs}
-use Rattle.std.specs.Int.{w32, w64, cast_signed, from_le_bytes, int_rem_euclid}
+use Rattle.relocation_laws.proofs.Sums.{high_sum}
+use Rattle.relocation_laws.specs.Schemes.{without_low}
+use Rattle.std.proofs.Common.{◌≡◌, ℕ, ◌+◌, ◌-◌, ◌*◌, ◌/◌, ◌%◌, ◌^◌, ◌<◌, Bool, refl, sym, ◌∙◌, ap}
+use Rattle.std.proofs.Common.{subst}
+use Rattle.std.proofs.Common.{arith, List, ℤ, pos, ◌+ℤ◌, ◌-ℤ◌, ◌*ℤ◌, inl, inr, Option, Some, None}
+use Rattle.std.specs.Int.{w64, cast_signed, int_rem_euclid}
 use Rattle.std.proofs.lemmas.Int.{ints, int_rem_euclid_is}
 use Rattle.std.proofs.lemmas.Nat.{mod_below, pow_pos}
 use Rattle.linker_base.specs.Bits.{field, signed}
@@ -9,7 +12,7 @@ use Rattle.linker_base.specs.Form.{window_of, place_sum, replaced}
 use Rattle.linker_base.proofs.ConsecutiveBits.{consecutive_bits_sum}
 use Rattle.linker_base.proofs.Pairs.{signed_cases}
 use Rattle.linker_utils.specs.Agrees.{bits_from}
-use Rattle.linker_utils.specs.Elf.{IsWithin, bit_bounds, relocation_form}
+use Rattle.linker_utils.specs.Elf.{IsWithin, bit_bounds}
 use Rattle.linker_utils.specs.LoongArch.{loongarch_form, page, pcalau12i, high_distance}
 use Rattle.linker_utils.specs.LoongArch.{upper_and_lower_value, reach}
 use Rattle.linker_utils.specs.Value.{value_of, sum_64, difference_64}
@@ -23,14 +26,14 @@ use Rattle.linker_utils.specs.declared.elf.Sign.TheVariants.{Signed}
 use Rattle.linker_utils.specs.declared.elf.value.Operands.{Operands}
 use Rattle.linker_utils.proofs.LoongArch.{shift5_places, shift10_low_sum, shift10_low_field}
 use Rattle.linker_utils.proofs.LoongArchAddresses.{page_and_distance, made, first_of_five}
-use Rattle.linker_utils.proofs.LoongArchAddresses.{high_of_five, five_of, five_from}
+use Rattle.linker_utils.proofs.LoongArchAddresses.{high_of_five, five_from}
 use Rattle.relocation_laws.specs.LoongArchLaws.{upper_and_or, four}
 use Rattle.relocation_laws.specs.Schemes.{IsApplied, IsAddress, AreAddresses, place}
-use Rattle.relocation_laws.proofs.Applied.{fits, holds, value_is, taken_bits}
+use Rattle.relocation_laws.proofs.Applied.{holds, value_is, taken_bits}
 use Rattle.linker_utils.proofs.Taken.{taken_below}
-use Rattle.relocation_laws.proofs.Halves.{IsRounded, rounded_relative}
-use Rattle.relocation_laws.proofs.Instructions.{IsNumber, IsSmall, relative, absolute, row_of}
-use Rattle.relocation_laws.proofs.Instructions.{is_read, reads_bits, field_sum, multiple, unbiased}
+use Rattle.relocation_laws.proofs.Halves.{IsRounded}
+use Rattle.relocation_laws.proofs.Instructions.{IsNumber, IsSmall, absolute, row_of}
+use Rattle.relocation_laws.proofs.Instructions.{reads_bits, field_sum, unbiased}
 use Rattle.relocation_laws.proofs.Sums.{halves_sum, page_halves_sum, signed_12, sum_below, goes}
 use Rattle.relocation_laws.proofs.Sums.{difference_below, once}
 
@@ -104,7 +107,8 @@ rounded_low : (t l : ℕ) → l ≡ field (sum_64 t 0) 0 12
 rounded_low t l e =
     let is : l ≡ t % 2 ^ 12 = e ∙ omega arith in
     ap (λ k. signed 12 k +ℤ pos 0x800) is ∙ signed_12 (t % 2 ^ 12) (omega arith)
-    ∙ ap pos (let same : (t % 2 ^ 12 + 0x800) % 2 ^ 12 ≡ sum_64 t 0x800 % 2 ^ 12 = omega arith in same)
+    ∙ ap pos
+    (let same : (t % 2 ^ 12 + 0x800) % 2 ^ 12 ≡ sum_64 t 0x800 % 2 ^ 12 = omega arith in same)
 
 -- the distance from the place's page to the rounded target's
 abbrev pub page_distance : (Operands → ℕ) → Operands → ℕ
@@ -141,12 +145,15 @@ page_pairs {target} to operands e e2 =
     let t = target o in
     let below = difference_below (page (sum_64 t 0x800)) (page o.place) in
     let h = high_reads _ _ _ _ _ _ _ o before after step within m below (e o small) in
-    let l = low_field _ 0 _ _ _ _ _ _ _ before2 after2 step2 (sum_64 t 0) (sum_below t 0) (omega arith)
-    (e2 o small at2) in
-    ap (λ z. int_rem_euclid (z +ℤ signed 12 (field (window_of (loongarch_form Shift10) after2) 10 22)) (pos (2 ^ 64)))
+    let l = low_field _ 0 _ _ _ _ _ _ _ before2 after2 step2 (sum_64 t 0) (sum_below t 0)
+    (omega arith) (e2 o small at2) in
+    ap (λ z. int_rem_euclid
+    (z +ℤ signed 12 (field (window_of (loongarch_form Shift10) after2) 10 22)) (pos (2 ^ 64)))
     (page_and_distance o.place (field (window_of (loongarch_form Shift5) after) 5 25))
-    ∙ page_halves_sum 0x800 o.place t m (signed 20 (field (window_of (loongarch_form Shift5) after) 5 25))
-    (signed 12 (field (window_of (loongarch_form Shift10) after2) 10 22)) (omega arith) (to o small) small.place refl h
+    ∙ page_halves_sum 0x800 o.place t m
+    (signed 20 (field (window_of (loongarch_form Shift5) after) 5 25))
+    (signed 12 (field (window_of (loongarch_form Shift10) after2) 10 22)) (omega arith)
+    (to o small) small.place refl h
     (rounded_low t (field (window_of (loongarch_form Shift10) after2) 10 22) l)
 
 regroup : (p : ℕ) (a b : ℤ) → pos p +ℤ (a +ℤ b) ≡ (pos p +ℤ a) +ℤ b
@@ -227,7 +234,8 @@ pub rounded_parts : {begin target number rounded : Operands → ℕ} → IsNumbe
     (step2 : IsApplied (row_of kind2 0 12 (LoongArch64 Shift10) mask2 range2 a2 bias2
     thunkable2 implicit2)
     (operands o at2) before2 after2) → IsWithin (None) step2.value
-    → IsAddress ((pos (begin o) +ℤ (signed 20 (field (window_of (loongarch_form Shift5) after) 5 25) *ℤ pos 4096))
+    → IsAddress ((pos (begin o)
+    +ℤ (signed 20 (field (window_of (loongarch_form Shift5) after) 5 25) *ℤ pos 4096))
     +ℤ signed 12 (field (window_of (loongarch_form Shift10) after2) 10 22)) (target o)
 rounded_parts {begin} {target} {number} {rounded} leads rounds operands e e2 =
     λ o small at before after step within at2 before2 after2 step2 any2.
@@ -244,6 +252,31 @@ rounded_parts {begin} {target} {number} {rounded} leads rounds operands e e2 =
     (signed 12 (field y 10 22))
     (omega arith) (omega arith) numbers.small numbers.below numbers.leads is h
     (rounded_remainder n (rounded o) (field y 10 22) l is)
+
+-- a high part alone
+pub high_parts : {begin number : Operands → ℕ} → IsSmall begin
+    → (target : Operands → ℕ) (r : ℕ)
+    → ((o : Operands) → AreAddresses o
+    → number o ≡ difference_64 (sum_64 (target o) r) (begin o))
+    → {kind : RelocationKind} {mask : Option PageMask} {range : AllowedRange} {a : ℕ}
+    {bias : Option ℕ} {thunkable implicit : Bool}
+    → ((o : Operands)
+    → value_of (row_of kind 12 32 (LoongArch64 Shift5) mask range a bias thunkable implicit) o
+    ≡ Some (cast_signed w64 (number o)))
+    → (o : Operands) → AreAddresses o → (at : ℕ) (before after : List ℕ)
+    (high : IsApplied (row_of kind 12 32 (LoongArch64 Shift5) mask range a bias thunkable implicit)
+    o before after) → IsWithin (Some (bit_bounds 32 Signed)) high.value
+    → IsAddress (pos (begin o)
+    +ℤ (signed 20 (field (window_of (loongarch_form Shift5) after) 5 25) *ℤ pos 4096))
+    (without_low 12 r begin target o)
+high_parts {begin} {number} from target r is e = λ o small at before after high within.
+    let same = is o small in
+    let below : number o < 2 ^ 64 =
+    subst (λ x. x < 2 ^ 64) (sym same) (difference_below (sum_64 (target o) r) (begin o)) in
+    let h = high_reads _ _ _ _ _ _ _ o before after high within (number o) below (e o) in
+    high_sum 12 r (begin o) (target o) (number o)
+    (signed 20 (field (window_of (loongarch_form Shift5) after) 5 25)) (omega arith) (from o small)
+    same h
 
 -- ---- four and five instructions
 

@@ -1,12 +1,12 @@
 -- Upper and low parts of RISC-V, and calls.
-use Rattle.std.proofs.Common.{◌≡◌, ℕ, ◌+◌, ◌-◌, ◌*◌, ◌%◌, ◌^◌, ◌<◌, ◌≤◌, Bool, refl, sym, ◌∙◌, ap, subst}
-use Rattle.std.proofs.Common.{arith, List, ℤ, pos, negsuc, ◌+ℤ◌, ◌-ℤ◌, Option, Some, None, int_lt}
+use Rattle.std.proofs.Common.{◌≡◌, ℕ, ◌-◌, ◌*◌, ◌%◌, ◌^◌, Bool, refl, sym, ◌∙◌, ap, subst}
+use Rattle.std.proofs.Common.{arith, List, ℤ, pos, ◌+ℤ◌, ◌-ℤ◌, Option, Some, None, int_lt}
 use Rattle.std.proofs.Common.{unsigned_abs}
 use Rattle.std.specs.Int.{w64, cast_signed, int_rem_euclid}
 use Rattle.std.proofs.lemmas.Int.{ints, int_rem_euclid_is}
 use Rattle.linker_base.specs.Form.{window_of}
 use Rattle.linker_base.specs.declared.bit_misc.BitRange.{BitRange}
-use Rattle.linker_utils.specs.Elf.{IsWithin, relocation_form}
+use Rattle.linker_utils.specs.Elf.{IsWithin}
 use Rattle.linker_utils.specs.Relocate.{IsCompletedBy, RiscVHolds, SizeHolds, InstructionWritten}
 use Rattle.linker_utils.specs.RiscV.{riscv_form}
 use Rattle.linker_utils.specs.Value.{value_of}
@@ -20,7 +20,7 @@ use Rattle.linker_utils.specs.declared.elf.RiscVInstruction.TheVariants.{UiType}
 use Rattle.linker_utils.specs.declared.elf.value.Operands.{Operands}
 use Rattle.relocation_laws.specs.RiscVLaws.{without_bit_0, even}
 use Rattle.relocation_laws.specs.Schemes.{IsApplied, IsAddress, AreAddresses, place}
-use Rattle.relocation_laws.proofs.Applied.{fits, value_is, holds}
+use Rattle.relocation_laws.proofs.Applied.{value_is, holds}
 use Rattle.relocation_laws.proofs.Instructions.{IsNumber, row_of}
 use Rattle.relocation_laws.proofs.Sums.{goes, lift, lifted_is}
 

@@ -1,8 +1,8 @@
 -- Sums of addresses modulo 2 ^ 64, of numbers in parts.
 use Rattle.std.proofs.Common.{FitsSigned, ◌≡◌, ℕ, suc, ◌+◌, ◌-◌, ◌*◌, ◌/◌, ◌%◌, ◌^◌, ◌<◌, refl, sym}
-use Rattle.std.proofs.Common.{◌∙◌, ap, subst, arith, inl, inr, ℤ, pos, negsuc, ◌+ℤ◌, ◌-ℤ◌, ◌*ℤ◌}
+use Rattle.std.proofs.Common.{◌∙◌, ap, subst, arith, inl, inr, ℤ, pos, negsuc, ◌+ℤ◌, ◌*ℤ◌}
 use Rattle.std.proofs.Common.{unsigned_abs}
-use Rattle.std.specs.Int.{w64, cast_signed, int_rem_euclid, int_div_euclid}
+use Rattle.std.specs.Int.{w64, cast_signed, int_rem_euclid}
 use Rattle.std.proofs.lemmas.Bool.{cases_lt}
 use Rattle.std.proofs.lemmas.Int.{ints, int_rem_euclid_is, to_z_pos}
 use Rattle.std.proofs.lemmas.Nat.{mod_below, pow_pos, div-add-mod'}
@@ -12,7 +12,7 @@ use Rattle.linker_base.proofs.Pairs.{signed_cases}
 use Rattle.linker_utils.specs.Agrees.{bits_from}
 use Rattle.linker_utils.specs.LoongArch.{page}
 use Rattle.linker_utils.specs.Value.{sum_64, difference_64}
-use Rattle.linker_utils.proofs.Agreement.{rem_rem, from_zero}
+use Rattle.linker_utils.proofs.Agreement.{rem_rem}
 use Rattle.linker_utils.proofs.RiscVRewrites.{cast_negative}
 use Rattle.relocation_laws.specs.Schemes.{IsAddress}
 
@@ -211,7 +211,8 @@ pub page_halves_sum : (r p s m : ℕ) (h low : ℤ) → r < 2 ^ 64 → s < 2 ^ 6
 page_halves_sum r p s m h low rounding small place is e f =
     let x = sum_64 s r in
     let x_below : x < 2 ^ 64 = sum_below s r in
-    let m_below : m < 2 ^ 64 = subst (λ y. y < 2 ^ 64) (sym is) (difference_below (page x) (page p)) in
+    let m_below : m < 2 ^ 64 =
+    subst (λ y. y < 2 ^ 64) (sym is) (difference_below (page x) (page p)) in
     low_part (pos (page p) +ℤ (h *ℤ pos 4096)) low (page x) r (x % 2 ^ 12) s
     (multiple_part 12 (page p) m (page x) h (omega arith) m_below (leads x p m x_below place is) e
     (pages x p m x_below place is) (below x x_below)) f small (parts x x_below)
@@ -229,3 +230,25 @@ page_halves_sum r p s m h low rounding small place is e f =
 
     parts : (x : ℕ) → x < 2 ^ 64 → x ≡ (page x + x % 2 ^ 12) % 2 ^ 64
     parts x small = omega arith
+
+-- ---- a high part alone
+
+-- what the high part of the distance to a target with rounding comes to
+pub high_sum : (k r p s n : ℕ) (h : ℤ) → k < 65 → p < 2 ^ 64
+    → n ≡ difference_64 (sum_64 s r) p → h ≡ bits_from k (cast_signed w64 n)
+    → IsAddress (pos p +ℤ (h *ℤ pos (2 ^ k)))
+    (difference_64 (sum_64 s r) (difference_64 (sum_64 s r) p % 2 ^ k))
+high_sum k r p s n h short place is e =
+    let t = sum_64 s r in
+    let small : t < 2 ^ 64 = sum_below s r in
+    let below : n < 2 ^ 64 = subst (λ x. x < 2 ^ 64) (sym is) (difference_below t p) in
+    let leads : Leads p n t =
+    subst (λ x. Leads p x t) (sym is) (difference_leads t p small place) in
+    let low = n % 2 ^ k in
+    let back : (difference_64 t low + low) % 2 ^ 64 ≡ t =
+    there t low small (rest_below n (2 ^ k) below) in
+    high_part k p n t (difference_64 t low) h short below leads e (difference_below t low) back
+    ∙ ap (λ x. pos (difference_64 t (x % 2 ^ k))) is
+  where
+    there : (t l : ℕ) → t < 2 ^ 64 → l < 2 ^ 64 → (difference_64 t l + l) % 2 ^ 64 ≡ t
+    there t l small below = omega arith

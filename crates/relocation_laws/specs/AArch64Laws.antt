@@ -13,7 +13,8 @@ use Rattle.linker_utils.specs.declared.elf.Sign.TheVariants.{Signed}
 use Rattle.linker_utils.specs.declared.elf.value.Operands.{Operands}
 use Rattle.linker_utils.specs.declared.aarch64.relocations.AArch64Relocation.{AArch64Relocation}
 use Rattle.linker_utils.specs.declared.aarch64.relocations.AArch64Relocation.TheVariants as names
-use Rattle.relocation_laws.specs.Schemes.{entry_and_addend, HoldsDistance, Step, Premise, here, anywhere, moved_on, of_bits, of_words, Law, Adds}
+use Rattle.relocation_laws.specs.Schemes.{entry_and_addend, HoldsDistance, Step, Premise, here}
+use Rattle.relocation_laws.specs.Schemes.{anywhere, moved_on, of_bits, of_words, Law, Adds}
 use Rattle.relocation_laws.specs.Schemes.{symbol_address, plt_address, entry_address, zero, place}
 use Rattle.relocation_laws.specs.Schemes.{got_base, tls_base}
 

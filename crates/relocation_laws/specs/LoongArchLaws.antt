@@ -1,6 +1,6 @@
--- LoongArch: what relocated instructions compute (LoongArch ELF psABI, "Relocation Types"; LoongArch
--- Reference Manual, volume 1).
-use Rattle.std.specs.Prelude.{ℕ, [], ◌∷◌, ℤ, pos, ◌+◌, ◌*◌, ◌+ℤ◌, ◌*ℤ◌, ◌^◌, Option, None}
+-- LoongArch: what relocated instructions compute (LoongArch ELF psABI, "Relocation Types";
+-- LoongArch Reference Manual, volume 1).
+use Rattle.std.specs.Prelude.{ℕ, [], ◌∷◌, ℤ, pos, ◌+◌, ◌*◌, ◌+ℤ◌, ◌*ℤ◌, ◌^◌}
 use Rattle.std.specs.Int.{int_rem_euclid}
 use Rattle.linker_base.specs.Bits.{field, signed}
 use Rattle.linker_utils.specs.LoongArch.{pcalau12i, upper_and_lower_value, reach, loongarch_form}
@@ -13,7 +13,8 @@ use Rattle.linker_utils.specs.declared.elf.value.Operands.{Operands}
 use Rattle.linker_utils.specs.declared.loongarch64.relocations.LoongArch64Relocation.{LoongArch64Relocation}
 use Rattle.linker_utils.specs.declared.loongarch64.relocations.LoongArch64Relocation.TheVariants as names
 use Rattle.relocation_laws.specs.Differences.{AddsDistance, AddsDistance6}
-use Rattle.relocation_laws.specs.Schemes.{HoldsDistance, Step, here, anywhere, next, of_bits, Law, Adds}
+use Rattle.relocation_laws.specs.Schemes.{HoldsDistance, without_low, Step, here, anywhere, next}
+use Rattle.relocation_laws.specs.Schemes.{of_bits, Law, Adds}
 use Rattle.relocation_laws.specs.Schemes.{symbol_address, plt_address, entry_and_addend, zero}
 use Rattle.relocation_laws.specs.Schemes.{place, tls_base}
 
@@ -45,8 +46,8 @@ RelativeAddresses =
 
 -- ---- addresses in 64 bits ("LU32I.D", "LU52I.D"; psABI, "Extreme code model")
 
--- `pcalau12i`, and what `addi.d` from zero, `lu32i.d` and `lu52i.d` make, added to that. Each stands
--- 4 bytes after the one before.
+-- `pcalau12i`, and what `addi.d` from zero, `lu32i.d` and `lu52i.d` make, added to that. Each
+-- stands 4 bytes after the one before.
 abbrev pub five : Operands → ℕ → ℕ → ℕ → ℕ → ℤ
 five o x y z u = pcalau12i o.place x +ℤ upper_and_lower_value y z u
 
@@ -119,6 +120,21 @@ ThreadAddresses =
     (of_bits 32 Signed (row_here names.R_LARCH_TLS_LE_HI20_R)
     ∷ row_anywhere names.R_LARCH_TLS_LE_LO12_R ∷ []) rounded_offset symbol_address
 
+-- ---- high parts, of which no row is a low part ("LU12I.W", "PCADDU12I")
+
+abbrev pub high_number : ℕ → ℤ
+high_number x = signed 20 (field x 5 25)
+
+abbrev pub HighPart : LoongArch64Relocation → (Operands → ℕ) → (Operands → ℕ) → Type 0
+HighPart name begin target =
+    Adds (of_bits 32 Signed (row_here name)) begin high_number 4096 target
+
+abbrev pub HighParts : Type 0
+HighParts =
+    HighPart names.R_LARCH_PCADD_HI20 place (without_low 12 0x800 place symbol_address)
+    × HighPart names.R_LARCH_TLS_LD_HI20 zero (without_low 12 0 zero entry_and_addend)
+    × HighPart names.R_LARCH_TLS_GD_HI20 zero (without_low 12 0 zero entry_and_addend)
+
 -- ---- one instruction ("B", "BEQZ", "BEQ", "PCADDI"), and a call ("PCADDU18I", "JIRL")
 
 abbrev pub Branch : LoongArch64Relocation → LoongArch64Instruction → (Operands → ℕ) → Type 0
@@ -126,7 +142,8 @@ Branch name f target = Adds (row_here name) place (loongarch_form f).machine 4 t
 
 abbrev pub Branches : Type 0
 Branches =
-    Branch names.R_LARCH_B16 Shift10 symbol_address × Branch names.R_LARCH_B21 Branch21 symbol_address
+    Branch names.R_LARCH_B16 Shift10 symbol_address
+    × Branch names.R_LARCH_B21 Branch21 symbol_address
     × Branch names.R_LARCH_B26 Branch26 plt_address
     × Branch names.R_LARCH_PCREL20_S2 Shift5 symbol_address
 

@@ -11,7 +11,8 @@ use Rattle.linker_utils.specs.declared.elf.Ppc64Instruction.TheVariants.{Prefixe
 use Rattle.linker_utils.specs.declared.elf.value.Operands.{Operands}
 use Rattle.linker_utils.specs.declared.ppc64.relocations.Ppc64Relocation.{Ppc64Relocation}
 use Rattle.linker_utils.specs.declared.ppc64.relocations.Ppc64Relocation.TheVariants as names
-use Rattle.relocation_laws.specs.Schemes.{HoldsDistance, here, anywhere, moved_on, Law, Adds, symbol_address}
+use Rattle.relocation_laws.specs.Schemes.{HoldsDistance, without_low, here, anywhere, moved_on, Law}
+use Rattle.relocation_laws.specs.Schemes.{Adds, symbol_address}
 use Rattle.relocation_laws.specs.Schemes.{entry_address, zero, place, got_base, tls_base}
 
 -- ---- halves ("addis", "addi", "ori"; ABI, "@ha", "@hi" and "@l")
@@ -55,6 +56,12 @@ EntryAddresses =
     × Adjusted got_base names.R_PPC64_GOT_TLSLD16_HA names.R_PPC64_GOT_TLSLD16_LO D entry_address
     × Unadjusted got_base names.R_PPC64_GOT_TLSGD16_HI names.R_PPC64_GOT_TLSGD16_LO entry_address
     × Unadjusted got_base names.R_PPC64_GOT_TLSLD16_HI names.R_PPC64_GOT_TLSLD16_LO entry_address
+
+-- `addis` alone. No relocation of its low half is among the rows.
+abbrev pub HighParts : Type 0
+HighParts =
+    Adds (here (ppc64_row names.R_PPC64_GOT_TPREL16_HI)) got_base (ppc64_form D).machine (2 ^ 16)
+    (without_low 16 0 got_base entry_address)
 
 abbrev pub ThreadAddresses : Type 0
 ThreadAddresses =

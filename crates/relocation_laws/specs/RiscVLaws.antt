@@ -1,6 +1,6 @@
 -- RISC-V: what relocated instructions compute (RISC-V ELF psABI, "Relocations"; the instructions by
 -- the RISC-V unprivileged ISA).
-use Rattle.std.specs.Prelude.{ℕ, [], ◌∷◌, ℤ, pos, ◌+ℤ◌, ◌-ℤ◌, ◌-◌, ◌%◌, Option, None, Some}
+use Rattle.std.specs.Prelude.{ℕ, [], ◌∷◌, ℤ, pos, ◌+ℤ◌, ◌-ℤ◌, ◌-◌, ◌%◌, Option, Some}
 use Rattle.std.specs.Int.{int_rem_euclid}
 use Rattle.linker_utils.specs.RiscV.{riscv_form}
 use Rattle.linker_utils.specs.RiscVRows.{riscv_row, riscv_tls_descriptor_row, clui_row}
@@ -13,7 +13,8 @@ use Rattle.linker_utils.specs.declared.elf.value.Operands.{Operands}
 use Rattle.linker_utils.specs.declared.riscv64.relocations.RiscVRelocation.{RiscVRelocation}
 use Rattle.linker_utils.specs.declared.riscv64.relocations.RiscVRelocation.TheVariants as names
 use Rattle.relocation_laws.specs.Differences.{AddsDistance, SetsDistance, SetsDistance6}
-use Rattle.relocation_laws.specs.Schemes.{HoldsDistance, Step, here, Law, Adds, symbol_address, plt_address}
+use Rattle.relocation_laws.specs.Schemes.{HoldsDistance, Step, here, Law, Adds, symbol_address}
+use Rattle.relocation_laws.specs.Schemes.{plt_address}
 use Rattle.relocation_laws.specs.Schemes.{entry_and_addend, zero, place, tls_base}
 
 -- ---- an upper and a low part ("LUI", "AUIPC", "ADDI"; psABI, "Absolute Addresses", "PC-Relative
@@ -33,6 +34,7 @@ Pairs begin upper high load store target =
     Law (here high ∷ load ∷ []) (upper_and_low begin upper IType) target
     × Law (here high ∷ store ∷ []) (upper_and_low begin upper SType) target
 
+-- the low part of an `auipc`, which has the operands of the high part
 abbrev pub low_load : Step
 low_load = here (riscv_row names.R_RISCV_PCREL_LO12_I)
 

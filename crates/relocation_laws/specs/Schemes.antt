@@ -1,11 +1,11 @@
 -- What relocated instructions compute, in one scheme for an instruction, a pair and a sequence.
-use Rattle.std.specs.Prelude.{◌≡◌, ℕ, ◌^◌, ◌<◌, List, [], ◌∷◌, Option, Some, None, IfSome, ℤ, pos}
+use Rattle.std.specs.Prelude.{◌≡◌, ℕ, ◌^◌, ◌<◌, List, [], ◌∷◌, Option, Some, IfSome, ℤ, pos}
 use Rattle.std.specs.Prelude.{◌+ℤ◌, ◌*ℤ◌, ◌+◌, ◌*◌, ◌%◌, ⊤, Bool, IsTrue}
 use Rattle.std.specs.Int.{w64, cast_unsigned, int_rem_euclid}
 use Rattle.linker_base.specs.Form.{window_of}
 use Rattle.linker_utils.specs.Elf.{IsWithin, bit_bounds, relocation_form}
 use Rattle.linker_utils.specs.Relocate.{IsAccepted, IsWritten, number_of_bytes}
-use Rattle.linker_utils.specs.Value.{value_of, sum_64}
+use Rattle.linker_utils.specs.Value.{value_of, sum_64, difference_64}
 use Rattle.linker_utils.specs.declared.elf.RelocationKindInfo.{RelocationKindInfo}
 use Rattle.linker_utils.specs.declared.elf.RelocationSize.{RelocationSize}
 use Rattle.linker_utils.specs.declared.elf.RelocationSize.TheVariants.{ByteSize, BitMasking}
@@ -19,6 +19,10 @@ pub record IsApplied (row : RelocationKindInfo) (o : Operands)
   pub value_is : value_of row o ≡ Some value
   pub accepted : IsAccepted row value before
   pub written : IsWritten row.size row.kind value before after
+
+-- It has no value, or one that isn't accepted.
+abbrev pub IsRejected : RelocationKindInfo → Operands → List ℕ → Type 0
+IsRejected row o before = (v : ℤ) → value_of row o ≡ Some v → ¬ IsAccepted row v before
 
 -- the addresses among operands are numbers of 64 bits
 pub record AreAddresses (o : Operands) : Type 0 where
@@ -130,8 +134,8 @@ abbrev pub Computed : List Step → Type 0
 Computed [] = ℤ
 Computed (step ∷ steps) = ℕ → Computed steps
 
--- If the steps are applied one after the other, the instructions compute the target from their words,
--- whatever the bytes were before.
+-- If the steps are applied one after the other, the instructions compute the target from their
+-- words, whatever the bytes were before.
 abbrev pub Reaches : (steps : List Step) → Operands → Computed steps → ℕ → Type 0
 Reaches [] o sum target = IsAddress sum target
 Reaches (step ∷ steps) o computed target =
@@ -142,12 +146,20 @@ Reaches (step ∷ steps) o computed target =
 
 -- The same of all operands.
 abbrev pub Law : (steps : List Step) → (Operands → Computed steps) → (Operands → ℕ) → Type 0
-Law steps computed target = (o : Operands) → AreAddresses o → Reaches steps o (computed o) (target o)
+Law steps computed target =
+    (o : Operands) → AreAddresses o → Reaches steps o (computed o) (target o)
 
 -- An instruction adds the number that it holds, in units of so many bytes, to what it begins with.
 abbrev pub Adds : Step → (Operands → ℕ) → (ℕ → ℤ) → ℕ → (Operands → ℕ) → Type 0
 Adds step begin reads unit target =
     Law (step ∷ []) (λ o word. pos (begin o) +ℤ (reads word *ℤ pos unit)) target
+
+-- The target plus a rounding, less the low k bits of the distance to it: what is left to another
+-- instruction.
+abbrev pub without_low : ℕ → ℕ → (Operands → ℕ) → (Operands → ℕ) → Operands → ℕ
+without_low k rounding begin target o =
+    let end = sum_64 (target o) rounding in
+    difference_64 end (difference_64 end (begin o) % 2 ^ k)
 
 -- ---- fields of data
 

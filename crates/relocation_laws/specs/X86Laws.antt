@@ -1,5 +1,5 @@
--- x86-64: what the fields of relocated instructions come to (x86-64 psABI, "Relocation Types"; Intel
--- 64 and IA-32 Architectures Software Developer's Manual, volume 1, "Operand Addressing", and
+-- x86-64: what the fields of relocated instructions come to (x86-64 psABI, "Relocation Types";
+-- Intel 64 and IA-32 Architectures Software Developer's Manual, volume 1, "Operand Addressing", and
 -- volume 2, "RIP-Relative Addressing"). A field relative to the next instruction's address has an
 -- addend that is less by the bytes from the field to there.
 use Rattle.std.specs.Prelude.{ℕ, pos}
@@ -58,8 +58,8 @@ Entries =
     × Reaches names.R_X86_64_CODE_5_GOTPC32_TLSDESC entry_and_addend
     × Reaches names.R_X86_64_CODE_6_GOTPC32_TLSDESC entry_and_addend
 
--- An operand of 32 bits is zero-extended or, of the relocation with an S, sign-extended. Those of 16
--- and of 8 bits may be either.
+-- An operand of 32 bits is zero-extended or, of the relocation with an S, sign-extended. Those of
+-- 16 and of 8 bits may be either.
 abbrev pub Absolutes : Type 0
 Absolutes =
     Unsigned names.R_X86_64_64 zero symbol_address × Unsigned names.R_X86_64_32 zero symbol_address

@@ -4,20 +4,38 @@
 //! sequence. Whenever their values are computed by `RelocationKindInfo::value` of `linker_utils`,
 //! and `RelocationKindInfo::write` accepts and writes each of them, what the machine computes from
 //! the words is the target, modulo 2^64: the address of the symbol, of the PLT entry or of the GOT
-//! entry, with the addend. Each function does nothing, and its contract has the laws of one
-//! architecture. They stand in `specs/`, over one scheme (`specs/Schemes`).
+//! entry, with the addend. `apply` computes and writes a value. The other functions do nothing, and
+//! the contract of each has the laws of one architecture. They stand in `specs/`, over one scheme
+//! (`specs/Schemes`).
 #![tactic(auto)]
 
+ghost use Rattle.std.specs.Prelude.{◌≡◌, true, false};
+ghost use Rattle.relocation_laws.specs.Schemes.{IsApplied, IsRejected};
 ghost use Rattle.relocation_laws.specs.AArch64Laws as aarch64_laws;
 ghost use Rattle.relocation_laws.specs.LoongArchLaws as loongarch_laws;
 ghost use Rattle.relocation_laws.specs.Ppc64Laws as ppc64_laws;
 ghost use Rattle.relocation_laws.specs.RiscVLaws as riscv_laws;
 ghost use Rattle.relocation_laws.specs.X86Laws as x86_laws;
 
+use linker_utils::elf::{Operands, RelocationKindInfo};
+
+/// Computes the value of a relocation and writes it. Returns `true` if it has one and `write`
+/// accepts it. Then the relocation is applied, as the laws require. Otherwise nothing is written.
+pub fn apply(row: &RelocationKindInfo, operands: &Operands, bytes: &mut [u8]) -> bool
+    ensures applied { result ≡ true → IsApplied row.now operands.now bytes.old bytes.new }
+    ensures rejected { result ≡ false → IsRejected row.now operands.now bytes.old }
+    ensures unchanged { result ≡ false → bytes.new ≡ bytes.old }
+{
+    match row.value(operands) {
+        Some(value) => row.write(value, bytes).is_ok(),
+        None => false,
+    }
+}
+
 /// AArch64: `adrp` with `add`, loads and stores, also through the GOT and for each model of TLS;
 /// offsets from the thread pointer and in a module's block; branches, `adr` and literals; and the
 /// moves of 16 bits. The value of `R_AARCH64_ADR_PREL_PG_HI21_NC`, which nothing else checks, is a
-/// number of 33 bits. A `movn` or `movz` has the shift of its relocation.
+/// number of 33 bits. A `movn` or `movz` is one of 64 bits, and has the shift of its relocation.
 pub fn aarch64()
     ensures relative { aarch64_laws.RelativeAddresses }
     ensures entries { aarch64_laws.EntryAddresses }
@@ -43,6 +61,7 @@ pub fn loongarch64()
     ensures far { loongarch_laws.FarAddresses }
     ensures absolute { loongarch_laws.AbsoluteAddresses }
     ensures thread { loongarch_laws.ThreadAddresses }
+    ensures high_parts { loongarch_laws.HighParts }
     ensures branches { loongarch_laws.Branches }
     ensures calls { loongarch_laws.Calls }
     ensures distances { loongarch_laws.Distances }
@@ -51,12 +70,13 @@ pub fn loongarch64()
 
 /// PowerPC64: `addis` with an instruction that has the low half, from the TOC base, the place, the
 /// thread pointer, a module's block or 0; branches, prefixed instructions and displacements of 16
-/// bits.
+/// bits. A word of DQ-form is read without its low 4 bits.
 pub fn ppc64()
     ensures absolute { ppc64_laws.AbsoluteAddresses }
     ensures relative { ppc64_laws.RelativeAddresses }
     ensures toc { ppc64_laws.TocAddresses }
     ensures entries { ppc64_laws.EntryAddresses }
+    ensures high_parts { ppc64_laws.HighParts }
     ensures thread { ppc64_laws.ThreadAddresses }
     ensures branches { ppc64_laws.Branches }
     ensures prefixed { ppc64_laws.Prefixes }

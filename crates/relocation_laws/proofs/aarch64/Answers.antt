@@ -1,5 +1,5 @@
 -- The laws of AArch64.
-use Rattle.std.proofs.Common.{refl, ap, arith, None, Some, pos, ◌≡◌, ℕ, ◌^◌, ◌<◌}
+use Rattle.std.proofs.Common.{refl, ap, arith, None, Some, ◌≡◌, ℕ, ◌^◌, ◌<◌}
 use Rattle.std.specs.Int.{w64, cast_signed, cast_unsigned}
 use Rattle.linker_utils.specs.Value.{sum_64, difference_64}
 use Rattle.linker_utils.specs.declared.elf.value.Operands.{Operands}
@@ -48,17 +48,23 @@ returns-clause-relative c = (
         (λ v r w. r) refl (λ o small. refl) (λ o small at. refl),
   ),
   (
-    pages symbol_small (λ o small. refl) Add add_is 0 (omega arith) _ (Some (bit_bounds 33 Signed)) (bit_bounds 33 Signed)
+    pages symbol_small (λ o small. refl) Add add_is 0 (omega arith) _
+        (Some (bit_bounds 33 Signed)) (bit_bounds 33 Signed)
         (λ v r w. w) refl (λ o small. refl) (λ o small at. refl),
-    pages symbol_small (λ o small. refl) LdSt ldst_is 0 (omega arith) _ (Some (bit_bounds 33 Signed)) (bit_bounds 33 Signed)
+    pages symbol_small (λ o small. refl) LdSt ldst_is 0 (omega arith) _
+        (Some (bit_bounds 33 Signed)) (bit_bounds 33 Signed)
         (λ v r w. w) refl (λ o small. refl) (λ o small at. refl),
-    pages symbol_small (λ o small. refl) LdSt ldst_is 1 (omega arith) _ (Some (bit_bounds 33 Signed)) (bit_bounds 33 Signed)
+    pages symbol_small (λ o small. refl) LdSt ldst_is 1 (omega arith) _
+        (Some (bit_bounds 33 Signed)) (bit_bounds 33 Signed)
         (λ v r w. w) refl (λ o small. refl) (λ o small at. refl),
-    pages symbol_small (λ o small. refl) LdSt ldst_is 2 (omega arith) _ (Some (bit_bounds 33 Signed)) (bit_bounds 33 Signed)
+    pages symbol_small (λ o small. refl) LdSt ldst_is 2 (omega arith) _
+        (Some (bit_bounds 33 Signed)) (bit_bounds 33 Signed)
         (λ v r w. w) refl (λ o small. refl) (λ o small at. refl),
-    pages symbol_small (λ o small. refl) LdSt ldst_is 3 (omega arith) _ (Some (bit_bounds 33 Signed)) (bit_bounds 33 Signed)
+    pages symbol_small (λ o small. refl) LdSt ldst_is 3 (omega arith) _
+        (Some (bit_bounds 33 Signed)) (bit_bounds 33 Signed)
         (λ v r w. w) refl (λ o small. refl) (λ o small at. refl),
-    pages symbol_small (λ o small. refl) LdSt ldst_is 4 (omega arith) _ (Some (bit_bounds 33 Signed)) (bit_bounds 33 Signed)
+    pages symbol_small (λ o small. refl) LdSt ldst_is 4 (omega arith) _
+        (Some (bit_bounds 33 Signed)) (bit_bounds 33 Signed)
         (λ v r w. w) refl (λ o small. refl) (λ o small at. refl),
   ),
 )
@@ -173,57 +179,99 @@ returns-clause-unsigned_moves c = (
 
 pub returns-clause-signed_moves : goal.returns-clause-signed_moves
 returns-clause-signed_moves c = (
-  moves1 symbol_itself _ (has_shift 0) movn_or_movz (movn_first 0 symbol_itself refl (aarch64_rows names.R_AARCH64_MOVW_SABS_G0).1 (λ o. refl)),
-  moves2 symbol_itself _ (has_shift 16) movn_or_movz (movn_first 16 symbol_itself refl (aarch64_rows names.R_AARCH64_MOVW_SABS_G1).1 (λ o. refl))
+  moves1 symbol_itself _ (has_shift 0) movn_or_movz
+      (movn_first 0 symbol_itself refl (aarch64_rows names.R_AARCH64_MOVW_SABS_G0).1
+      (λ o. refl)),
+  moves2 symbol_itself _ (has_shift 16) movn_or_movz
+      (movn_first 16 symbol_itself refl (aarch64_rows names.R_AARCH64_MOVW_SABS_G1).1
+      (λ o. refl))
       _ (λ o small at. refl),
-  moves3 symbol_itself _ (has_shift 32) movn_or_movz (movn_first 32 symbol_itself refl (aarch64_rows names.R_AARCH64_MOVW_SABS_G2).1 (λ o. refl))
+  moves3 symbol_itself _ (has_shift 32) movn_or_movz
+      (movn_first 32 symbol_itself refl (aarch64_rows names.R_AARCH64_MOVW_SABS_G2).1
+      (λ o. refl))
       _ _ (λ o small at. refl) (λ o small at. refl),
 )
 
 pub returns-clause-relative_moves : goal.returns-clause-relative_moves
 returns-clause-relative_moves c = (
-  moves1 symbol_from_place _ (has_shift 0) movn_or_movz (movn_first 0 symbol_from_place refl (aarch64_rows names.R_AARCH64_MOVW_PREL_G0).1 (λ o. refl)),
-  moves2 symbol_from_place _ (has_shift 16) movn_or_movz (movn_first 16 symbol_from_place refl (aarch64_rows names.R_AARCH64_MOVW_PREL_G1).1 (λ o. refl))
+  moves1 symbol_from_place _ (has_shift 0) movn_or_movz
+      (movn_first 0 symbol_from_place refl (aarch64_rows names.R_AARCH64_MOVW_PREL_G0).1
+      (λ o. refl)),
+  moves2 symbol_from_place _ (has_shift 16) movn_or_movz
+      (movn_first 16 symbol_from_place refl (aarch64_rows names.R_AARCH64_MOVW_PREL_G1).1
+      (λ o. refl))
       _ (moved 4 (omega arith)),
-  moves3 symbol_from_place _ (has_shift 32) movn_or_movz (movn_first 32 symbol_from_place refl (aarch64_rows names.R_AARCH64_MOVW_PREL_G2).1 (λ o. refl))
+  moves3 symbol_from_place _ (has_shift 32) movn_or_movz
+      (movn_first 32 symbol_from_place refl (aarch64_rows names.R_AARCH64_MOVW_PREL_G2).1
+      (λ o. refl))
       _ _ (moved 4 (omega arith)) (moved 8 (omega arith)),
-  moves4 symbol_from_place _ (has_shift 48) movn_or_movz (movn_highest symbol_from_place refl (aarch64_rows names.R_AARCH64_MOVW_PREL_G3).1 (λ o. refl))
+  moves4 symbol_from_place _ (has_shift 48) movn_or_movz
+      (movn_highest symbol_from_place refl (aarch64_rows names.R_AARCH64_MOVW_PREL_G3).1
+      (λ o. refl))
       _ _ _ (moved 4 (omega arith)) (moved 8 (omega arith)) (moved 12 (omega arith)),
 )
 
 pub returns-clause-got_moves : goal.returns-clause-got_moves
 returns-clause-got_moves c = (
-  moves1 entry_from_got _ (has_shift 0) movn_or_movz (movn_first 0 entry_from_got refl (aarch64_rows names.R_AARCH64_MOVW_GOTOFF_G0).1 (λ o. refl)),
-  moves2 entry_from_got _ (has_shift 16) movn_or_movz (movn_first 16 entry_from_got refl (aarch64_rows names.R_AARCH64_MOVW_GOTOFF_G1).1 (λ o. refl))
+  moves1 entry_from_got _ (has_shift 0) movn_or_movz
+      (movn_first 0 entry_from_got refl (aarch64_rows names.R_AARCH64_MOVW_GOTOFF_G0).1
+      (λ o. refl)),
+  moves2 entry_from_got _ (has_shift 16) movn_or_movz
+      (movn_first 16 entry_from_got refl (aarch64_rows names.R_AARCH64_MOVW_GOTOFF_G1).1
+      (λ o. refl))
       _ (λ o small at. refl),
-  moves3 entry_from_got _ (has_shift 32) movn_or_movz (movn_first 32 entry_from_got refl (aarch64_rows names.R_AARCH64_MOVW_GOTOFF_G2).1 (λ o. refl))
+  moves3 entry_from_got _ (has_shift 32) movn_or_movz
+      (movn_first 32 entry_from_got refl (aarch64_rows names.R_AARCH64_MOVW_GOTOFF_G2).1
+      (λ o. refl))
       _ _ (λ o small at. refl) (λ o small at. refl),
-  moves4 entry_from_got _ (has_shift 48) movn_or_movz (movn_highest entry_from_got refl (aarch64_rows names.R_AARCH64_MOVW_GOTOFF_G3).1 (λ o. refl))
+  moves4 entry_from_got _ (has_shift 48) movn_or_movz
+      (movn_highest entry_from_got refl (aarch64_rows names.R_AARCH64_MOVW_GOTOFF_G3).1
+      (λ o. refl))
       _ _ _ (λ o small at. refl) (λ o small at. refl) (λ o small at. refl),
-  moves2 entry_from_got _ (has_shift 16) movn_or_movz (movn_first 16 entry_from_got refl (aarch64_rows names.R_AARCH64_TLSGD_MOVW_G1).1 (λ o. refl))
+  moves2 entry_from_got _ (has_shift 16) movn_or_movz
+      (movn_first 16 entry_from_got refl (aarch64_rows names.R_AARCH64_TLSGD_MOVW_G1).1
+      (λ o. refl))
       _ (λ o small at. refl),
-  moves2 entry_from_got _ (has_shift 16) movn_or_movz (movn_first 16 entry_from_got refl (aarch64_rows names.R_AARCH64_TLSLD_MOVW_G1).1 (λ o. refl))
+  moves2 entry_from_got _ (has_shift 16) movn_or_movz
+      (movn_first 16 entry_from_got refl (aarch64_rows names.R_AARCH64_TLSLD_MOVW_G1).1
+      (λ o. refl))
       _ (λ o small at. refl),
-  moves2 entry_from_got _ (has_shift 16) movn_or_movz (movn_first 16 entry_from_got refl (aarch64_rows names.R_AARCH64_TLSIE_MOVW_GOTTPREL_G1).1 (λ o. refl))
+  moves2 entry_from_got _ (has_shift 16) movn_or_movz
+      (movn_first 16 entry_from_got refl (aarch64_rows names.R_AARCH64_TLSIE_MOVW_GOTTPREL_G1).1
+      (λ o. refl))
       _ (λ o small at. refl),
-  moves2 entry_from_got _ (has_shift 16) movn_or_movz (movn_first 16 entry_from_got refl (aarch64_rows names.R_AARCH64_TLSDESC_OFF_G1).1 (λ o. refl))
+  moves2 entry_from_got _ (has_shift 16) movn_or_movz
+      (movn_first 16 entry_from_got refl (aarch64_rows names.R_AARCH64_TLSDESC_OFF_G1).1
+      (λ o. refl))
       _ (λ o small at. refl),
 )
 
 pub returns-clause-thread_moves : goal.returns-clause-thread_moves
 returns-clause-thread_moves c = (
   (
-    moves1 symbol_from_tls _ (has_shift 0) movn_or_movz (movn_first 0 symbol_from_tls refl (aarch64_rows names.R_AARCH64_TLSLE_MOVW_TPREL_G0).1 (λ o. refl)),
-    moves2 symbol_from_tls _ (has_shift 16) movn_or_movz (movn_first 16 symbol_from_tls refl (aarch64_rows names.R_AARCH64_TLSLE_MOVW_TPREL_G1).1 (λ o. refl))
+    moves1 symbol_from_tls _ (has_shift 0) movn_or_movz
+        (movn_first 0 symbol_from_tls refl (aarch64_rows names.R_AARCH64_TLSLE_MOVW_TPREL_G0).1
+        (λ o. refl)),
+    moves2 symbol_from_tls _ (has_shift 16) movn_or_movz
+        (movn_first 16 symbol_from_tls refl (aarch64_rows names.R_AARCH64_TLSLE_MOVW_TPREL_G1).1
+        (λ o. refl))
         _ (λ o small at. refl),
-    moves3 symbol_from_tls _ (has_shift 32) movn_or_movz (movn_first 32 symbol_from_tls refl (aarch64_rows names.R_AARCH64_TLSLE_MOVW_TPREL_G2).1 (λ o. refl))
+    moves3 symbol_from_tls _ (has_shift 32) movn_or_movz
+        (movn_first 32 symbol_from_tls refl (aarch64_rows names.R_AARCH64_TLSLE_MOVW_TPREL_G2).1
+        (λ o. refl))
         _ _ (λ o small at. refl) (λ o small at. refl),
   ),
   (
-    moves1 symbol_from_tls _ (has_shift 0) movn_or_movz (movn_first 0 symbol_from_tls refl (aarch64_rows names.R_AARCH64_TLSLD_MOVW_DTPREL_G0).1 (λ o. refl)),
-    moves2 symbol_from_tls _ (has_shift 16) movn_or_movz (movn_first 16 symbol_from_tls refl (aarch64_rows names.R_AARCH64_TLSLD_MOVW_DTPREL_G1).1 (λ o. refl))
+    moves1 symbol_from_tls _ (has_shift 0) movn_or_movz
+        (movn_first 0 symbol_from_tls refl (aarch64_rows names.R_AARCH64_TLSLD_MOVW_DTPREL_G0).1
+        (λ o. refl)),
+    moves2 symbol_from_tls _ (has_shift 16) movn_or_movz
+        (movn_first 16 symbol_from_tls refl (aarch64_rows names.R_AARCH64_TLSLD_MOVW_DTPREL_G1).1
+        (λ o. refl))
         _ (λ o small at. refl),
-    moves3 symbol_from_tls _ (has_shift 32) movn_or_movz (movn_first 32 symbol_from_tls refl (aarch64_rows names.R_AARCH64_TLSLD_MOVW_DTPREL_G2).1 (λ o. refl))
+    moves3 symbol_from_tls _ (has_shift 32) movn_or_movz
+        (movn_first 32 symbol_from_tls refl (aarch64_rows names.R_AARCH64_TLSLD_MOVW_DTPREL_G2).1
+        (λ o. refl))
         _ _ (λ o small at. refl) (λ o small at. refl),
   ),
 )

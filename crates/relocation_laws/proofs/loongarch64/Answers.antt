@@ -1,13 +1,16 @@
 -- The laws of LoongArch.
 use Rattle.linker_utils.specs.Agrees.{bits_from}
-use Rattle.std.proofs.Common.{refl, ap, sym, ◌∙◌, arith, true, Some, pos, ◌+ℤ◌, ◌*ℤ◌, ◌≡◌, ◌%◌, ◌^◌}
-use Rattle.std.specs.Int.{w64, cast_signed, int_rem_euclid}
+use Rattle.std.proofs.Common.{refl, ap, sym, ◌∙◌, arith, true, ◌≡◌, ◌^◌, ◌<◌, ℕ}
+use Rattle.std.specs.Int.{w64, cast_signed}
 use Rattle.linker_base.specs.Form.{window_of}
-use Rattle.linker_utils.specs.LoongArch.{high_distance, loongarch_form}
+use Rattle.linker_utils.specs.LoongArch.{loongarch_form}
 use Rattle.linker_utils.specs.declared.elf.LoongArch64Instruction.TheVariants.{Shift10}
 use Rattle.linker_utils.specs.declared.loongarch64.relocations.LoongArch64Relocation.TheVariants.{R_LARCH_B16}
+use Rattle.linker_utils.specs.Value.{sum_64, difference_64}
+use Rattle.linker_utils.specs.declared.elf.value.Operands.{Operands}
 use Rattle.linker_utils.proofs.RowsAgree.{loongarch_rows}
-use Rattle.relocation_laws.specs.Schemes.{symbol_address, tls_base, place}
+use Rattle.relocation_laws.specs.Schemes.{symbol_address, entry_and_addend, tls_base, place, zero}
+use Rattle.relocation_laws.specs.Schemes.{AreAddresses}
 use Rattle.relocation_laws.proofs.Applied.{reads, value_is, aligned_low}
 use Rattle.relocation_laws.proofs.Differences.{adds_distance, adds_distance_6}
 use Rattle.relocation_laws.proofs.Halves.{relative_rounds, unrounded}
@@ -15,9 +18,11 @@ use Rattle.relocation_laws.proofs.Fields.{holds_distance}
 use Rattle.relocation_laws.proofs.Instructions.{adds, symbol_from_place, plt_from_place}
 use Rattle.relocation_laws.proofs.Instructions.{symbol_itself, symbol_from_tls, symbol_small}
 use Rattle.relocation_laws.proofs.Instructions.{entry_and_addend_small, entry_and_addend_itself}
-use Rattle.relocation_laws.proofs.Instructions.{tls_small, relative}
-use Rattle.relocation_laws.proofs.PartsOfAddresses.{page_pairs, two_parts, rounded_parts, four_parts}
-use Rattle.relocation_laws.proofs.PartsOfAddresses.{five_parts, calls_far}
+use Rattle.relocation_laws.proofs.Instructions.{tls_small, place_small, zero_small, relative}
+use Rattle.relocation_laws.proofs.Instructions.{absolute}
+use Rattle.relocation_laws.proofs.PartsOfAddresses.{page_pairs, two_parts, rounded_parts}
+use Rattle.relocation_laws.proofs.PartsOfAddresses.{four_parts}
+use Rattle.relocation_laws.proofs.PartsOfAddresses.{five_parts, calls_far, high_parts}
 use Rattle.relocation_laws.proofs.Sums.{difference_below, sum_below, multiple_part}
 use Rattle.relocation_laws.proofs.loongarch64.Goals as goal
 
@@ -108,4 +113,19 @@ returns-clause-fields c = (
   holds_distance symbol_from_place (omega arith) (λ v old. refl) (λ o. refl),
   holds_distance symbol_from_tls (omega arith) (λ v old. refl) (λ o. refl),
   holds_distance symbol_from_tls (omega arith) (λ v old. refl) (λ o. refl),
+)
+
+-- a number is its distance from 0
+from_zero : (o : Operands) → AreAddresses o
+    → absolute entry_and_addend o ≡ difference_64 (sum_64 (entry_and_addend o) 0) (zero o)
+from_zero o small = distance (sum_64 (entry_and_addend o) 0) (sum_below (entry_and_addend o) 0)
+  where
+    distance : (n : ℕ) → n < 2 ^ 64 → n ≡ difference_64 n 0
+    distance n small = omega arith
+
+pub returns-clause-high_parts : goal.returns-clause-high_parts
+returns-clause-high_parts c = (
+  high_parts place_small symbol_address 0x800 (λ o small. refl) (λ o. refl),
+  high_parts zero_small entry_and_addend 0 from_zero (λ o. refl),
+  high_parts zero_small entry_and_addend 0 from_zero (λ o. refl),
 )
