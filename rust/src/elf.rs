@@ -166,14 +166,14 @@ pub enum RelocationKind {
     TlsDescCall,
 }
 
-/// What a relocation of a ULEB128 number does with its value, S + A. Two of them stand at one
-/// number. `utils::write_uleb128` writes what both make together: what the first makes alone may
-/// need more bytes than stand there.
+/// What a relocation of a ULEB128 number does with its value, S + A. Two of them are at one
+/// number. `utils::write_uleb128` writes the result of both: that of the first may
+/// need more bytes than there are.
 #[derive(Debug, Clone, Copy, PartialEq, Eq)]
 pub enum Uleb128Role {
     /// The value is the number that the next one subtracts from.
     Sets,
-    /// The value is added to the number that stands there.
+    /// The value is added to the existing number.
     Adds,
     /// The value is subtracted from what the one before it has made.
     Subtracts,
@@ -380,13 +380,13 @@ pub struct RelocationKindInfo {
     pub alignment: u64,
     /// Added before the page mask is applied.
     pub bias: Option<Bias>,
-    /// Whether a thunk may stand in for a target that is out of range.
+    /// Whether a thunk may replace a target that is out of range.
     pub thunkable: bool,
     /// Whether the addend is in the section, and not in the relocation.
     pub implicit_addend: bool,
 }
 
-/// An instruction form: where the bits of an immediate stand in an instruction, and which number
+/// An instruction form: where the bits of an immediate are in an instruction, and which number
 /// they are.
 ///
 /// ```
@@ -432,7 +432,7 @@ pub trait InstructionForm: Copy {
 /// changes, and what becomes of the relocation there and of the next one.
 pub trait InstructionRewrite: Copy {
     /// Rewrites the instruction at an offset of a section. The offset and the addend become those
-    /// of the relocation after it; all other bytes stay.
+    /// of the relocation after it; all other bytes are unchanged.
     ///
     /// # Requires
     ///
@@ -451,8 +451,8 @@ pub trait InstructionRewrite: Copy {
 /// The lengths of RISC-V's windows, by the forms' places in their enum.
 static RISCV_WINDOWS: [usize; 9] = [4, 4, 4, 4, 4, 2, 2, 2, 8];
 
-/// What the form's `window` returns, where a processor can't foresee the form: LLVM makes branches
-/// of a match.
+/// What the form's `window` returns, where a processor can't predict the form: LLVM compiles a
+/// match to branches.
 #[inline(always)]
 fn riscv_window(insn: RiscVInstruction) -> usize {
     RISCV_WINDOWS[insn as usize]
@@ -539,8 +539,8 @@ pub enum RiscVInstruction {
 }
 
 /// PowerPC64 instructions that hold a displacement. The window is 4 bytes, and 8 for `Prefixed`.
-/// Every value fits: but for `Prefixed` its bits stand in the word where they stand in the value,
-/// and all other bits stay.
+/// Every value fits: except for `Prefixed` its bits are in the word where they are in the value,
+/// and all other bits are unchanged.
 /// Bits are numbered from the least significant one.
 #[derive(Debug, Clone, Copy, PartialEq, Eq)]
 pub enum Ppc64Instruction {
@@ -602,7 +602,7 @@ pub enum AArch64Instruction {
     Movkz,
     /// `movn` and `movz` of 64 bits: the low 16 bits of the value at bit 5 and up, complemented for
     /// a negative value. The sign sets the opcode. The register, bits 0 to 4, and the shift, bits
-    /// 21 and 22, stay. Every value fits.
+    /// 21 and 22, are unchanged. Every value fits.
     Movnz,
     /// LDR (literal): signed 19 bits at bit 5 and up, in units of 4 bytes. Values below 2^19 fit.
     Ldr,

@@ -22,7 +22,7 @@ pub enum RelaxationKind {
 
 impl RelaxationKind {
     /// Rewrites the instruction at an offset of a section. The section, the offset and the addend
-    /// stay.
+    /// are unchanged.
     ///
     /// # Requires
     ///

@@ -109,7 +109,7 @@ impl Model for SectionRelaxDeltas {
 impl SectionRelaxDeltas {
     /// The deletions that `raw` lists, each as an offset and a count of bytes.
     ///
-    /// It takes memory once, a second time for more than 1,024 deletions, and none where `raw` is
+    /// It allocates once, twice for more than 1,024 deletions, and not at all where `raw` is
     /// empty. `is_valid` tests what it requires.
     pub fn new(alloc: Global, raw: &[(u64, u32)]) -> Result<Self, OutOfMemory>
         requires { IsValid raw.now }
@@ -145,7 +145,7 @@ impl SectionRelaxDeltas {
     /// anything changes the list grows, and its heads where it has more than 1,024 deltas then, and
     /// pairs that don't ascend are copied, to be sorted: memory is asked for at most once for each,
     /// and not at all where `additional` is empty. But for that growth, which is O(1) for each pair
-    /// of many merges, the work is O(k + m) for k pairs and the m deltas behind the first of them,
+    /// of many merges, the work is O(k + m) for k pairs and the m deltas after the first of them,
     /// and O(k log k) more where the pairs don't ascend. `is_mergeable` tests what it requires.
     pub fn merge_additional(&mut self, additional: &[(u64, u32)]) -> Result<(), OutOfMemory>
         requires { AreDisjoint (self.old ++ additional.now) }
@@ -173,7 +173,7 @@ impl SectionRelaxDeltas {
     /// Whether the pairs may be merged: their ends are at most `u64::MAX`, and of any two
     /// deletions, old or additional, one has the lower offset and does not reach past the other's.
     ///
-    /// It takes no memory. For k pairs beside n deltas the work is O(k log n + k) where the pairs
+    /// It doesn't allocate. For k pairs and n deltas the work is O(k log n + k) where the pairs
     /// ascend, as a pass over a section makes them, and else O(k log n + k²).
     pub fn is_mergeable(&self, additional: &[(u64, u32)]) -> bool
         ensures { IsTrue result ↔ AreDisjoint (self.now ++ additional.now) }
@@ -187,7 +187,7 @@ impl SectionRelaxDeltas {
     /// anything changes the list grows, and its heads where it has more than 1,024 deltas then, and
     /// all pairs are copied: memory is asked for at most once for each, and not at all where no
     /// batch has a pair. But for that growth the work is O(k + m) for k pairs in all batches and the
-    /// m deltas behind the first of them, and O(k log k) more where the pairs don't ascend, from
+    /// m deltas after the first of them, and O(k log k) more where the pairs don't ascend, from
     /// each batch to the next too. `are_mergeable` tests what it requires.
     pub fn merge_all(&mut self, batches: &[Vec<(u64, u32)>]) -> Result<(), OutOfMemory>
         requires { AreDisjoint (self.old ++ pairs_of batches.now) }
@@ -210,7 +210,7 @@ impl SectionRelaxDeltas {
 
     /// Whether all batches together may be merged, as `is_mergeable` says of their pairs.
     ///
-    /// It takes no memory. For k pairs in all batches beside n deltas the work is O(k log n + k)
+    /// It doesn't allocate. For k pairs in all batches and n deltas the work is O(k log n + k)
     /// where the pairs ascend, from each batch to the next too, and else O(k log n + k²).
     pub fn are_mergeable(&self, batches: &[Vec<(u64, u32)>]) -> bool
         ensures { IsTrue result ↔ AreDisjoint (self.now ++ pairs_of batches.now) }
@@ -218,7 +218,7 @@ impl SectionRelaxDeltas {
         are_disjoint_batches(batches) && are_beside_deltas_batches(&self.deltas, batches)
     }
 
-    /// A copy of the deltas. It takes memory once, a second time for more than 1,024, and none where
+    /// A copy of the deltas. It allocates once, twice for more than 1,024, and not at all where
     /// there are none.
     pub fn clone(&self) -> Result<Self, OutOfMemory>
         ensures ok { IfOk result (λ section. section ≡ self.now) }
@@ -281,7 +281,7 @@ impl SectionRelaxDeltas {
     }
 
     /// How many kept bytes lie below `input_offset`, which is the offset in the output section of
-    /// what stands there. Of an offset inside a deletion it is that of what follows the deletion.
+    /// what is there. For an offset inside a deletion it is that of what follows the deletion.
     /// The search takes O(log n).
     #[inline]
     pub fn input_to_output_offset(&self, input_offset: u64) -> u64

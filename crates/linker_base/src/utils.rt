@@ -35,7 +35,7 @@ pub fn u64_from_slice(bytes: &[u8]) -> u64
     ])
 }
 
-/// ORs the mask into the first bytes of `dest`. The bytes past the mask's length stay.
+/// ORs the mask into the first bytes of `dest`. The following bytes are unchanged.
 pub fn or_from_slice(dest: &mut [u8], mask_bytes: &[u8])
     requires { length mask_bytes.now ≤ length dest.old }
     ensures masked { EachIndex mask_bytes.now (λ k.
@@ -47,7 +47,7 @@ pub fn or_from_slice(dest: &mut [u8], mask_bytes: &[u8])
     }
 }
 
-/// ANDs the mask into the first bytes of `dest`. The bytes past the mask's length stay.
+/// ANDs the mask into the first bytes of `dest`. The following bytes are unchanged.
 pub fn and_from_slice(dest: &mut [u8], mask_bytes: &[u8])
     requires { length mask_bytes.now ≤ length dest.old }
     ensures masked { EachIndex mask_bytes.now (λ k.
@@ -157,11 +157,11 @@ pub fn read_uleb128(content: &mut &[u8]) -> Result<u64>
 /// Why a ULEB128 number isn't written.
 #[derive(Debug, Clone, Copy, PartialEq, Eq)]
 pub enum Uleb128Error {
-    /// The bytes end before the number that stands there does.
+    /// The bytes end before the existing number does.
     Ended,
-    /// The tenth byte of the number that stands there is neither 0 nor 1.
+    /// The tenth byte of the existing number is neither 0 nor 1.
     TooLarge,
-    /// The value needs more bytes than the number that stands there has.
+    /// The value needs more bytes than the existing number has.
     DoesNotFit,
 }
 
@@ -187,7 +187,7 @@ fn last_of_uleb128(bytes: &[u8]) -> Result<usize, Uleb128Error>
 
 /// Writes a value over the ULEB128 number that `dest` begins with, in as many bytes: all but the
 /// last are at least 0x80, so that a smaller value is padded with zeros. `read_uleb128` then
-/// returns the value, and the bytes behind stay. Relocations of ULEB128 numbers are written like
+/// returns the value; what follows is unchanged. Relocations of ULEB128 numbers are written like
 /// this, since what follows the number can't move.
 ///
 /// ```

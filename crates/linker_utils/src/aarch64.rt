@@ -63,16 +63,16 @@ pub enum RelaxationKind {
     AdrpX0,
     /// Writes `ldr x0, [x0]`.
     LdrX0,
-    /// Turns `add` into `adr`: clears bits 24, 27 and 31. The immediate's old bits stay, and
+    /// Turns `add` into `adr`: clears bits 24, 27 and 31. The immediate is unchanged, and
     /// `AArch64Instruction::Adr` only ORs a value into them: the caller clears bits 5 to 23, 29 and
     /// 30 before that write.
     AddToAdr,
     /// Turns `ldr` with an unsigned offset into `adr`: clears bits 24, 27 and 31. The immediate's
-    /// old bits stay, and so do bits 22, 29 and 30 of the old opcode, which are immediate bits of
+    /// old bits are unchanged, as are bits 22, 29 and 30 of the opcode, which are immediate bits of
     /// `adr`: the caller clears bits 5 to 23, 29 and 30 before it writes `AArch64Instruction::Adr`.
     LdrToAdr,
     /// Turns LDR (immediate), 64 bits with an unsigned offset, into ADD (immediate). Bits 0 to 20
-    /// stay. Requires such an instruction.
+    /// are unchanged. Requires such an instruction.
     LdrToAdd,
     /// Turns `adrp`, 4 bytes before the offset, and `add` into `nop` and `adr` of distance 0, with
     /// the `adrp`'s destination register.
@@ -118,7 +118,7 @@ const ADR_WORD: u32 = 0x1000_0000;
 
 impl RelaxationKind {
     /// Rewrites the instruction at an offset of a section. All other bytes, the offset and the
-    /// addend stay.
+    /// addend are unchanged.
     #[inline]
     pub fn apply(self, section_bytes: &mut [u8], offset_in_section: &mut u64, addend: &mut i64)
         requires { CanRewrite (aarch64_rewrite self) section_bytes.old offset_in_section.old }
@@ -243,7 +243,7 @@ fn mov(opcode: u32, rd: u32, bits: u64) -> u32
 
 /// Writes the four instructions that load a number into register `rd`: `movz` of bits 0 to 15, and
 /// `movk` of bits 16 to 31, 32 to 47 and 48 to 63 (DDI 0487, "MOVZ" and "MOVK"). Requires 16 bytes
-/// and a register from 0 to 30. The bytes after the first 16 stay.
+/// and a register from 0 to 30. The following bytes are unchanged.
 #[inline]
 pub fn write_mov_sequence(dest: &mut [u8], rd: u32, value: u64)
     requires room { 16 ≤ length dest.old }
@@ -274,7 +274,7 @@ pub fn write_mov_sequence(dest: &mut [u8], rd: u32, value: u64)
 }
 
 /// Where a form has its `width` bits that are ORed to the instruction: `mask` takes them from the
-/// value moved up by `shift`, and `low` takes `adr`'s lowest two, which stand from bit 29 up. The
+/// value moved up by `shift`, and `low` takes `adr`'s lowest two, which are at bit 29 and up. The
 /// number is read in two's complement of `sign_bits` bits: of 63, if it is read without a sign.
 #[derive(Clone, Copy)]
 struct Immediate {

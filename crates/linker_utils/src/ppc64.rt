@@ -27,7 +27,7 @@ pub enum RelaxationKind {
 
 impl RelaxationKind {
     /// Rewrites the instruction at an offset of a section. The section, the offset and the addend
-    /// stay.
+    /// are unchanged.
     #[inline]
     pub fn apply(self, _section_bytes: &mut [u8], _offset_in_section: &mut u64, _addend: &mut i64)
         requires { CanRewrite (ppc64_rewrite self) _section_bytes.old _offset_in_section.old }

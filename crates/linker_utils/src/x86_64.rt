@@ -17,7 +17,7 @@ pub use relocations::{X86_64Relocation, prepared_row, relocation_from_raw, reloc
 /// A rewrite of the instructions around a relocated field of 4 or 8 bytes, whose offset is the
 /// field's (x86-64 psABI, "Optimize GOTPCRELX Relocations", and "ELF Handling For Thread-Local
 /// Storage"). A variant's number is the count of the instruction's bytes before the field: 3 with a
-/// REX prefix, 4 with a REX2 prefix, 6 with an EVEX prefix. With any other number the prefix stays.
+/// REX prefix, 4 with a REX2 prefix, 6 with an EVEX prefix. With any other number it is unchanged.
 ///
 /// ```
 /// use linker_utils::x86_64::RelaxationKind;
@@ -275,7 +275,7 @@ impl RelaxationKind {
 
     /// Rewrites the instructions around the field at an offset of a section. The offset becomes
     /// that of the field afterwards. The addend becomes 0 where the field becomes absolute or an
-    /// offset from the thread pointer. All other bytes stay.
+    /// offset from the thread pointer. All other bytes are unchanged.
     ///
     /// `RexMovIndirectToAbsolute(3)` keeps the register that `mov` names, if bit 0 of the REX byte
     /// was clear.

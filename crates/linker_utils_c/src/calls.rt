@@ -107,7 +107,7 @@ fn jump_status(outcome: Result<(), JumpError>) -> u32
     }
 }
 
-/// Turns the call at a site into a jump to a target, in a section whose bytes stand where they
+/// Replaces the call at a site by a jump to a target, in a section whose bytes are where they
 /// stood before the deletions. The first that applies of `OutOfSection`, `SiteDeleted`,
 /// `OddDistance` and `TooFar`.
 #[unsafe(no_mangle)]
@@ -163,7 +163,7 @@ pub(crate) fn call_status(outcome: Result<(), CallError>) -> u32
     }
 }
 
-/// Whether the eight bytes of a plain call stand at the site: `auipc` and then `jalr` with the same
+/// Whether the eight bytes at the site are a plain call: `auipc` and then `jalr` with the same
 /// register as source and as both destinations.
 #[unsafe(no_mangle)]
 pub extern "C" fn linker_utils_is_plain_call_nonnull(section: &[u8], site: u64) -> bool

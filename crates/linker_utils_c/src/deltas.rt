@@ -101,7 +101,7 @@ fn fill(deletions: &[Deletion], deltas: &mut [RelaxDelta])
     }
 }
 
-/// The offset in the output section of what stands at an input offset, or, inside a deletion, of
+/// The offset in the output section of what is at an input offset, or, inside a deletion, of
 /// what follows that. O(log n).
 #[unsafe(no_mangle)]
 pub extern "C" fn linker_utils_deltas_input_to_output_nonnull(

@@ -44,7 +44,7 @@ pub extern "C" fn linker_utils_deltas_heads_nonnull(
 }
 
 /// `linker_utils_deltas_input_to_output` of deltas with the heads of their blocks. Where the heads
-/// aren't as many as blocks, it searches the deltas alone. O(log n).
+/// aren't as many as blocks, it searches only the deltas. O(log n).
 #[unsafe(no_mangle)]
 pub extern "C" fn linker_utils_deltas_input_to_output_by_heads_nonnull(
     deltas: &[RelaxDelta],
@@ -61,7 +61,7 @@ pub extern "C" fn linker_utils_deltas_input_to_output_by_heads_nonnull(
 }
 
 /// `linker_utils_deltas_output_to_input` of deltas with the heads of their blocks. The error is
-/// `TooLarge`. Where the heads aren't as many as blocks, it searches the deltas alone. O(log n).
+/// `TooLarge`. Where the heads aren't as many as blocks, it searches only the deltas. O(log n).
 #[unsafe(no_mangle)]
 pub extern "C" fn linker_utils_deltas_output_to_input_by_heads_nonnull(
     deltas: &[RelaxDelta],

@@ -35,7 +35,7 @@ pub extern "C" fn linker_utils_write_mov_sequence_nonnull(
     Status::Success.number()
 }
 
-/// LoongArch: makes the five instructions compute the address `target` where the first stands at
+/// LoongArch: makes the five instructions compute the address `target`, with the first at
 /// `pc`. The error is `TooShort` with fewer than 20 bytes.
 #[unsafe(no_mangle)]
 pub extern "C" fn linker_utils_write_address_sequence_nonnull(

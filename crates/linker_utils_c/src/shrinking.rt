@@ -15,7 +15,7 @@ use linker_utils::relaxation::{RelaxDelta, first_not_shrinkable, shrink_calls_in
 /// Whether `linker_utils_shrink_calls` accepts the calls: their sites ascend by at least 8, the
 /// eight bytes at each site are kept, the four bytes after each call's first instruction may be
 /// deleted all together, and no target is strictly inside four such bytes. Else
-/// `CallsNotShrinkable`, where `faulty` is the index of the first call that isn't accepted beside
+/// `CallsNotShrinkable`, where `faulty` is the index of the first call that isn't accepted with
 /// those before it.
 #[unsafe(no_mangle)]
 pub extern "C" fn linker_utils_calls_shrinkable_nonnull(
@@ -41,7 +41,7 @@ pub extern "C" fn linker_utils_calls_shrinkable_nonnull(
 
 /// Writes for each call whether it is in the greatest choice of calls that can all become jumps at
 /// once: a byte that is 1 or 0. A choice can where each of its calls reaches its target by `jal`
-/// once all of them have given up the four bytes after their first instruction.
+/// once the four bytes after the first instruction of each are deleted.
 ///
 /// The first that applies of `DifferentLengths`, where `chosen` has not as many bytes as there are
 /// calls; and `CallsNotShrinkable`, as `linker_utils_calls_shrinkable`. `chosen` is unchanged then.

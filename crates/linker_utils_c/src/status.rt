@@ -18,13 +18,13 @@ pub enum Status {
     UnknownRelocation,
     /// Fewer bytes than the call reads or writes.
     TooShort,
-    /// The form, or the ULEB128 number that stands there, does not hold the value.
+    /// The value does not fit the form, or the existing ULEB128 number.
     DoesNotFit,
-    /// The rewrite may not be applied there.
+    /// The rewrite cannot be applied there.
     CannotApply,
-    /// The register is not one from 0 to 30.
+    /// The register is not one of 0 to 30.
     BadRegister,
-    /// The four bytes at the site, or the eight where the `jalr`'s register is linked, do not lie in
+    /// The four bytes at the site, or the eight where the `jalr`'s register is linked, are not in
     /// the section, or the target is past its end.
     OutOfSection,
     /// One of the four bytes at the site is deleted.

@@ -34,7 +34,7 @@ impl Model for AcceptedCalls {
 }
 
 impl AcceptedCalls {
-    /// No calls. It takes no memory.
+    /// No calls. It doesn't allocate.
     pub fn new(alloc: Global) -> AcceptedCalls
         ensures { result.by_site ≡ [] }
     {

@@ -361,7 +361,7 @@ impl SectionState {
         Ok(())
     }
 
-    /// Replaces the call at `site` by one jump to `target`, whose distance counts kept bytes alone.
+    /// Replaces the call at `site` by one jump to `target`, whose distance counts only kept bytes.
     fn jump(&mut self, site: u64, target: u64) -> Result<(), CallError>
         ensures jumps { OnOk result (JumpsAt self.old.section.items self.new.section.items site
             (output_distance self.old.deltas site target)) }

@@ -5,7 +5,7 @@
 //! and `RelocationKindInfo::write` accepts and writes each of them, what the machine computes from
 //! the words is the target, modulo 2^64: the address of the symbol, of the PLT entry or of the GOT
 //! entry, with the addend. `apply` computes and writes a value. The other functions do nothing, and
-//! the contract of each has the laws of one architecture. They stand in `specs/`, over one scheme
+//! the contract of each has the laws of one architecture. They are in `specs/`, over one scheme
 //! (`specs/Schemes`).
 #![tactic(auto)]
 

@@ -1,4 +1,4 @@
-//! Test vectors that cross crates, and `poke`, a user of the interface of instruction forms alone.
+//! Test vectors that cross crates, and `poke`, which uses only the interface of instruction forms.
 #![tactic(auto)]
 
 #[cfg(test)]

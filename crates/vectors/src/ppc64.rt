@@ -434,7 +434,7 @@ static LD_PAIRS: [(u32, u32, u64, u32, u32); 27] = [
     ),
 ];
 
-// The words stand in windows of 8 bytes, which is room for each form.
+// The words are in windows of 8 bytes, which is room for each form.
 fn written(insn: Ppc64Instruction, value: u64, word: u32) -> u32 {
     let mut bytes = u64::from(word).to_le_bytes();
     insn.write_to_value(value, false, &mut bytes);

@@ -59,8 +59,8 @@ fn choices_are_the_greatest_in_reach(rt: HostRuntime) -> Result<(), Fail> {
     Ok(())
 }
 
-/// A call at each multiple of 1000 of what is 8 bytes behind, but for the first. Those at 1052000
-/// and below lie before its target: 1053 calls, which give up 4212 bytes.
+/// A call at each multiple of 1000 of what is 8 bytes on, except the first. Those at 1052000
+/// and below lie before its target: 1053 calls, which lose 4212 bytes.
 #[test]
 fn many_calls_are_chosen_at_once(rt: HostRuntime) -> Result<(), Fail> {
     let none = SectionRelaxDeltas::new(rt.alloc(), &[])?;

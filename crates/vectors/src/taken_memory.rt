@@ -1,4 +1,4 @@
-//! How often calls take memory. Each test takes it as often as its name says:
+//! How often calls allocate. Each test allocates as often as its name says:
 //! `tools/test_refused_growth` counts.
 
 use linker_utils::relaxation::{

@@ -28,7 +28,7 @@ pub fn linker_utils_deltas_heads_nonnull(
 }
 
 /// `linker_utils_deltas_input_to_output` of deltas with the heads of their blocks. Where the heads
-/// aren't as many as blocks, it searches the deltas alone. O(log n).
+/// aren't as many as blocks, it searches only the deltas. O(log n).
 pub fn linker_utils_deltas_input_to_output_by_heads_nonnull(
     deltas: &[RelaxDelta],
     heads: &[BlockHead],
@@ -38,7 +38,7 @@ pub fn linker_utils_deltas_input_to_output_by_heads_nonnull(
 }
 
 /// `linker_utils_deltas_output_to_input` of deltas with the heads of their blocks. The error is
-/// `TooLarge`. Where the heads aren't as many as blocks, it searches the deltas alone. O(log n).
+/// `TooLarge`. Where the heads aren't as many as blocks, it searches only the deltas. O(log n).
 pub fn linker_utils_deltas_output_to_input_by_heads_nonnull(
     deltas: &[RelaxDelta],
     heads: &[BlockHead],

@@ -8,7 +8,7 @@ use linker_utils::relaxation::{AsDeletion, DeltaSlice, OutOfMemory, RelaxDelta, 
 
 /// Whether `linker_utils_deltas_merge` accepts the additional deletions, in any order. The first
 /// that applies of `InvalidDeletions`, which the deltas' own are, and `NotMergeable`. It takes no
-/// memory. For k additional deletions beside n deltas the work is O(n + k log n + k) where they
+/// memory. For k additional deletions and n deltas the work is O(n + k log n + k) where they
 /// ascend, and else O(n + k log n + k²).
 pub fn linker_utils_deltas_is_mergeable_nonnull(
     deltas: &[RelaxDelta],
@@ -31,7 +31,7 @@ pub fn linker_utils_deltas_is_mergeable_nonnull(
 /// additional ones may come in any order. The first that applies of `DifferentLengths`;
 /// `InvalidDeletions`, of the delta at `faulty`; `NotMergeable`, of the additional deletion at
 /// `faulty`, which overlaps a delta or an earlier one, or ends above 2^64 - 1; and `OutOfMemory`.
-/// It takes no memory where the additional deletions ascend and can be merged, and else memory for
+/// Where the additional deletions ascend and can be merged it doesn't allocate, else it allocates
 /// one copy of them. Where that is refused the work is as in `linker_utils_deltas_is_mergeable`.
 pub fn linker_utils_deltas_merge_nonnull(
     deltas: &[RelaxDelta],

@@ -21,7 +21,7 @@ pub fn linker_utils_write_mov_sequence_nonnull(
     Status::Success.number()
 }
 
-/// LoongArch: makes the five instructions compute the address `target` where the first stands at
+/// LoongArch: makes the five instructions compute the address `target`, with the first at
 /// `pc`. The error is `TooShort` with fewer than 20 bytes.
 pub fn linker_utils_write_address_sequence_nonnull(
     dest: &mut [u8],

@@ -20,7 +20,7 @@ pub enum RelocateError {
     /// There are fewer bytes than the relocation writes.
     TooShort,
     /// The value isn't a multiple of the row's alignment, or not one of 16 where a PowerPC64
-    /// instruction of DQ-form (`lq`, `lxv`, `stxv`, `lxvp`, `stxvp`) stands at a relocation of
+    /// instruction of DQ-form (`lq`, `lxv`, `stxv`, `lxvp`, `stxvp`) is at a relocation of
     /// DS-form.
     Misaligned,
     /// The value is outside `reach`. Or the row is none that the library returns, and its bits
@@ -47,7 +47,7 @@ fn store(len: usize, number: u64, bytes: &mut [u8]) {
     }
 }
 
-/// The number that a relocation of whole bytes writes over those that stand there.
+/// The number that a relocation of whole bytes writes over the existing ones.
 #[inline(always)]
 fn number_over(kind: RelocationKind, len: usize, value: i64, dest: &[u8]) -> u64 {
     let number = value.cast_unsigned();
@@ -114,7 +114,7 @@ fn is_dq_form(word: u64) -> bool {
     opcode == 56 || opcode == 6 || (opcode == 61 && word % 4 == 1)
 }
 
-/// The number whose bits are placed. The lowest four bits of an instruction of DQ-form stay: they
+/// The number whose bits are placed. The lowest four bits of a DQ-form instruction are kept: they
 /// aren't its displacement's.
 #[inline(always)]
 fn number_placed(insn: RelocationInstruction, taken: u64, dest: &[u8]) -> u64 {
@@ -150,7 +150,7 @@ fn clear_bit_31(dest: &mut [u8]) {
 }
 
 /// Writes bits of a value into an instruction. By itself, so that `write` is small enough to be
-/// inlined, and its row never stands in memory.
+/// inlined, and its row is never in memory.
 pub(crate) fn write_bits(insn: RelocationInstruction, bits: BitRange, value: i64, dest: &mut [u8]) {
     let number = number_placed(insn, taken_bits(bits, value.cast_unsigned()), dest);
     let is_of_32_bits = is_32_bit_move(insn, dest);
@@ -179,7 +179,7 @@ impl RelocationKindInfo {
     pub(crate) fn is_supported(&self) -> bool {
         let takes_size = match self.size {
             RelocationSize::ByteSize(len) => {
-                // the length is asked first: a processor foresees its answer
+                // the length is tested first: a processor predicts it
                 let is_of_uleb128 = match self.kind {
                     RelocationKind::PairSubtractionULEB128RiscV
                     | RelocationKind::PairSubtractionULEB128LoongArch => true,
@@ -243,20 +243,20 @@ impl RelocationKindInfo {
     /// nothing is written.
     ///
     /// - Whole bytes become the lowest bytes of the value, the lowest first. Relocations that add or
-    ///   subtract take the number that stands there. Relocations of 6 bits keep the upper 2 bits of
+    ///   subtract start from the existing number. Relocations of 6 bits keep the upper 2 bits of
     ///   the byte. The bytes' little-endian number is then that value, sum or difference, modulo
     ///   2^8 for each byte.
     /// - Of an instruction, the form's bits become those bits of the value that the relocation
     ///   takes, and the machine reads them from there; modulo their size if `reach` has no bounds.
-    ///   The bits that the form only ORs need not be 0 before. All other bits stay, except
+    ///   The bits that the form only ORs need not be 0 before. All others are unchanged, except
     ///   for the opcode that `Movnz` sets by the value's sign; its shift has to be the first of the
-    ///   relocation's bits. MOVN and MOVZ of 32 bits (bit 31 is 0) stay of 32 bits.
+    ///   relocation's bits. MOVN and MOVZ of 32 bits (bit 31 is 0) keep their size.
     /// - A PowerPC64 instruction of DQ-form keeps its low 4 bits at a relocation of DS-form.
     /// - RISC-V's `UiType`, or a high half and a low half of one value, make the value itself, and so
     ///   does LoongArch's `Call36`. A `c.lui` is such a high half too. The ISA reserves its
     ///   immediate 0: `riscv64::RelaxationKind::hi20_fits_clui` rejects the values that make it.
     /// - PowerPC64's low half and the high half of the value plus 0x8000 make the value itself.
-    /// - All bytes behind `window` stay. A relocation without a value writes nothing.
+    /// - The bytes after `window` are unchanged. A relocation without a value writes nothing.
     ///
     /// ```
     /// use linker_utils::elf::Operands;

@@ -1,13 +1,13 @@
 // Made by tools/erase of crates/linker_utils/src/elf/rows.rt.
 //! Rows of the relocation tables as data, with what a write tests and in numbers. So a row is a load,
-//! and no jump that a processor has to foresee.
+//! and no jump that a processor has to predict.
 
 use crate::elf::{
     AllowedRange, Bias, PageMask, PreparedRow, RelocationKind, RelocationKindInfo,
     RelocationNumbers, RelocationSize,
 };
 
-/// A row of a table. Its range, alignment and bias stand among the numbers.
+/// A row of a table. Its range, alignment and bias are among the numbers.
 #[derive(Clone, Copy)]
 pub(crate) struct TableRow {
     pub(crate) kind: RelocationKind,

@@ -89,7 +89,7 @@ pub struct SectionRelaxDeltas {
 impl SectionRelaxDeltas {
     /// The deletions that `raw` lists, each as an offset and a count of bytes.
     ///
-    /// It takes memory once, a second time for more than 1,024 deletions, and none where `raw` is
+    /// It allocates once, twice for more than 1,024 deletions, and not at all where `raw` is
     /// empty. `is_valid` tests what it requires.
     ///
     /// # Requires
@@ -126,7 +126,7 @@ impl SectionRelaxDeltas {
     /// anything changes the list grows, and its heads where it has more than 1,024 deltas then, and
     /// pairs that don't ascend are copied, to be sorted: memory is asked for at most once for each,
     /// and not at all where `additional` is empty. But for that growth, which is O(1) for each pair
-    /// of many merges, the work is O(k + m) for k pairs and the m deltas behind the first of them,
+    /// of many merges, the work is O(k + m) for k pairs and the m deltas after the first of them,
     /// and O(k log k) more where the pairs don't ascend. `is_mergeable` tests what it requires.
     ///
     /// # Requires
@@ -154,7 +154,7 @@ impl SectionRelaxDeltas {
     /// Whether the pairs may be merged: their ends are at most `u64::MAX`, and of any two
     /// deletions, old or additional, one has the lower offset and does not reach past the other's.
     ///
-    /// It takes no memory. For k pairs beside n deltas the work is O(k log n + k) where the pairs
+    /// It doesn't allocate. For k pairs and n deltas the work is O(k log n + k) where the pairs
     /// ascend, as a pass over a section makes them, and else O(k log n + k²).
     #[must_use]
     pub fn is_mergeable(&self, additional: &[(u64, u32)]) -> bool {
@@ -167,7 +167,7 @@ impl SectionRelaxDeltas {
     /// anything changes the list grows, and its heads where it has more than 1,024 deltas then, and
     /// all pairs are copied: memory is asked for at most once for each, and not at all where no
     /// batch has a pair. But for that growth the work is O(k + m) for k pairs in all batches and the
-    /// m deltas behind the first of them, and O(k log k) more where the pairs don't ascend, from
+    /// m deltas after the first of them, and O(k log k) more where the pairs don't ascend, from
     /// each batch to the next too. `are_mergeable` tests what it requires.
     ///
     /// # Requires
@@ -191,14 +191,14 @@ impl SectionRelaxDeltas {
 
     /// Whether all batches together may be merged, as `is_mergeable` says of their pairs.
     ///
-    /// It takes no memory. For k pairs in all batches beside n deltas the work is O(k log n + k)
+    /// It doesn't allocate. For k pairs in all batches and n deltas the work is O(k log n + k)
     /// where the pairs ascend, from each batch to the next too, and else O(k log n + k²).
     #[must_use]
     pub fn are_mergeable(&self, batches: &[Vec<(u64, u32)>]) -> bool {
         are_disjoint_batches(batches) && are_beside_deltas_batches(&self.deltas, batches)
     }
 
-    /// A copy of the deltas. It takes memory once, a second time for more than 1,024, and none where
+    /// A copy of the deltas. It allocates once, twice for more than 1,024, and not at all where
     /// there are none.
     pub fn clone(&self) -> Result<Self, OutOfMemory> {
         let mut deltas = Vec::fallible_with_capacity(self.deltas.len())?;
@@ -249,7 +249,7 @@ impl SectionRelaxDeltas {
     }
 
     /// How many kept bytes lie below `input_offset`, which is the offset in the output section of
-    /// what stands there. Of an offset inside a deletion it is that of what follows the deletion.
+    /// what is there. For an offset inside a deletion it is that of what follows the deletion.
     /// The search takes O(log n).
     #[must_use]
     #[inline]

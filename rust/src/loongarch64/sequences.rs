@@ -31,7 +31,7 @@ pub fn highest_relocation_with_bias(s: u64, pc: u64) -> u64 {
 /// (LoongArch ELF psABI): `pcalau12i a`, `addi.d t` from zero, `lu32i.d t`, `lu52i.d t` and `add.d`
 /// of both. With the first instruction at `pc` they compute `target`, for every `pc` and `target`.
 /// Requires 20 bytes. The caller provides the opcodes, the registers and the fifth instruction;
-/// these stay.
+/// these are unchanged.
 ///
 /// # Requires
 ///

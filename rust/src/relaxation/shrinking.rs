@@ -128,7 +128,7 @@ fn reaches(from: u64, to: u64) -> bool {
 }
 
 /// Whether a `jal` from the output offset of a call's site to that of its target reaches, once so
-/// many calls between the two have given up four bytes each. The site is that of the call at an
+/// many calls between the two have lost four bytes each. The site is that of the call at an
 /// index, and the calls before `split` lie below the target.
 fn reaches_over(from: u64, to: u64, index: usize, split: usize, count: usize) -> bool {
     let freed = (count as u64).saturating_mul(4);
@@ -139,7 +139,7 @@ fn reaches_over(from: u64, to: u64, index: usize, split: usize, count: usize) ->
     }
 }
 
-/// Whether the call at an index is in reach once the chosen calls have given up their bytes. They
+/// Whether the call at an index is in reach once the chosen calls have lost their bytes. They
 /// are counted only where the call is in reach with all and out of reach with none.
 fn is_in_reach<C: AsCall, A: AsChoice>(
     deltas: &[RelaxDelta],
@@ -201,7 +201,7 @@ fn choose_all<A: AsChoice>(answer: &mut [A]) {
     }
 }
 
-/// Whether a call's eight bytes are kept, and the four that it gives up may be deleted.
+/// Whether a call's eight bytes are kept, and the four that it loses may be deleted.
 fn is_placed(deltas: &[RelaxDelta], site: u64) -> bool {
     let deltas = DeltaSlice::new(deltas);
     site <= u64::MAX - 8
@@ -230,7 +230,7 @@ fn placed_len<C: AsCall>(deltas: &[RelaxDelta], calls: &[C]) -> usize {
     calls.len()
 }
 
-/// The index of the call with an offset strictly inside the four bytes that it gives up, if there
+/// The index of the call with an offset strictly inside the four bytes that it loses, if there
 /// is one.
 fn call_around<C: AsCall>(calls: &[C], offset: u64) -> Option<usize> {
     let Some(last) = calls_below(calls, offset).checked_sub(1) else {
@@ -256,12 +256,12 @@ fn outside_len<C: AsCall>(calls: &[C]) -> usize {
     first
 }
 
-/// The index of the first call that can't be shrunk beside those before it: its site is less than 8
+/// The index of the first call that can't be shrunk with those before it: its site is less than 8
 /// above the site before it, one of its eight bytes is deleted, the deletion of the last four can't
 /// be merged, or one of these calls has a target strictly inside what another, or itself, deletes.
 /// None where `shrink_calls` accepts the calls.
 ///
-/// It takes no memory. For k calls beside n deltas the work is O(k log n + k log k).
+/// It doesn't allocate. For k calls and n deltas the work is O(k log n + k log k).
 #[must_use]
 pub fn first_not_shrinkable<C: AsCall>(deltas: &[RelaxDelta], calls: &[C]) -> Option<usize> {
     let placed = placed_len(deltas, calls);
@@ -286,13 +286,13 @@ pub fn calls_shrinkable(deltas: &SectionRelaxDeltas, calls: &[(u64, u64)]) -> bo
 ///
 /// Requires calls that `first_not_shrinkable` accepts, and as many elements as calls. The deltas
 /// are as `SectionRelaxDeltas::deltas` lists them; of others nothing is promised but that the call
-/// is safe. It takes no memory but 8 KiB of the stack.
+/// is safe. It takes 8 KiB of the stack and doesn't allocate.
 ///
 /// All calls are chosen at first, and sweeps over them drop those out of reach until none is. Their
-/// order doesn't matter, since more deletions never take a call out of reach. For k calls beside n
+/// order doesn't matter, since more deletions never take a call out of reach. For k calls and n
 /// deltas a sweep takes O(k (log n + log k + k / 1024)): the chosen calls between a site and its
 /// target are counted by runs of k / 1024 calls, and only where the call is in reach with all of
-/// them and out of reach with none. Sections take few sweeps, but each may drop one call alone, so
+/// them and out of reach with none. Sections take few sweeps, but each may drop only one call, so
 /// that there are k + 1 at worst.
 ///
 /// # Requires
@@ -314,13 +314,13 @@ pub fn shrink_calls_into<C: AsCall, A: AsChoice>(
 /// Which calls can become jumps at once: for each call whether it is chosen, so that the four bytes
 /// after its first instruction go (RISC-V ELF psABI, "Function Call Relaxation").
 ///
-/// A choice of calls is in reach where, once each of them has given up its four bytes and the
+/// A choice of calls is in reach where, once each of them has lost its four bytes and the
 /// deltas' bytes are gone too, the distance from each one's site to its target is even and in the
 /// range of `jal`. The choice that is returned is the greatest: each choice in reach is part of it.
 /// So it deletes the most bytes, and once its deletions (site + 4, 4) are merged, `pack_section`
 /// rejects none of its calls for its distance (`shrunk_calls_are_accepted`).
 ///
-/// Requires calls that `calls_shrinkable` accepts. It takes memory once, for what it returns;
+/// Requires calls that `calls_shrinkable` accepts. It allocates once, for what it returns;
 /// `shrink_calls_into` takes none, and says how long it takes.
 ///
 /// # Requires

@@ -11,7 +11,7 @@ use crate::utils::u32_from_slice;
 pub const JAL_MIN: i64 = -1048576;
 
 /// The greatest distance that `distance_fits_jal` accepts, in bytes. The J-immediate holds even
-/// distances alone, so that the greatest that `jal` reaches is one less.
+/// distances, so that the greatest that `jal` reaches is one less.
 pub const JAL_MAX: i64 = 1048575;
 
 /// Whether a distance in bytes lies in the range of `jal`'s signed 21 bits, both ends included
@@ -33,7 +33,7 @@ fn destination(word: u32) -> u32 {
     word >> 7 & 0x1f
 }
 
-/// Whether at a site of a section stand the eight bytes of a call that `CallToJal` makes a jump
+/// Whether the eight bytes at a site of a section are a call that `CallToJal` makes a jump
 /// that links the same register: `auipc` and then `jalr` with the same register as base and as
 /// both destinations. (RISC-V ELF psABI, "Function Call Relaxation"; linkers take the register of
 /// the `jalr`, `CallToJal` that of the `auipc`.)
@@ -129,7 +129,7 @@ impl From<CallError> for JumpError {
     }
 }
 
-/// How far one offset stands from another, where both are below 2^63.
+/// The distance from one offset to another, where both are below 2^63.
 #[inline(always)]
 pub(crate) fn distance_between(from: u64, to: u64) -> i64 {
     to.wrapping_sub(from).cast_signed()
@@ -165,7 +165,7 @@ pub fn jal_site(section: &mut [u8], site: u64, distance: i64) -> Result<(), Call
     put_jal(section, site, destination(auipc), distance)
 }
 
-/// Turns the call at a site of a section into a `jal` by a distance in bytes. The jump stands in
+/// Replaces the call at a site of a section by a `jal` over a distance in bytes. The jump is in
 /// place of the `auipc`, links the register that is chosen, and leaves all other bytes as they
 /// were. Linkers take the register of the `jalr`, which `tail f` and `call t0, f` need (RISC-V ELF
 /// psABI, "Function Call Relaxation").
@@ -189,7 +189,7 @@ pub fn jal_site_with(
     Ok(())
 }
 
-/// Turns a call into a jump as `jal_site` does, in a section whose bytes stand where they stood
+/// Replaces a call by a jump as `jal_site` does, in a section whose bytes are where they were
 /// before the deletions: the distance is that from the site's output offset to the target's, so
 /// that the jump is right once the deleted bytes are gone. A target inside a deletion is what
 /// follows the deletion. The target may be the section's end.

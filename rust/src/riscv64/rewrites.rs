@@ -32,7 +32,7 @@ pub enum RelaxationKind {
 
 impl RelaxationKind {
     /// Rewrites the instruction at an offset of a section. All other bytes, the offset and the
-    /// addend stay.
+    /// addend are unchanged.
     ///
     /// # Requires
     ///

@@ -1,5 +1,5 @@
 // Made by tools/erase of crates/vectors/src/lib.rt.
-//! Test vectors that cross crates, and `poke`, a user of the interface of instruction forms alone.
+//! Test vectors that cross crates, and `poke`, which uses only the interface of instruction forms.
 
 #![allow(clippy::complexity, clippy::style, reason = "the text is that of the proved source")]
 

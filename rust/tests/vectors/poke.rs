@@ -20,7 +20,7 @@ fn has_window<F: InstructionForm>(form: F, section: &[u8], offset: usize) -> boo
 ///
 /// Returns `false`, with the section unchanged, if the form's window does not lie in the section or
 /// the value does not fit. Otherwise the machine reads the value at that offset, provided that bits
-/// which are only ORed were 0. Bytes outside the window stay. So do the bits of the window that are
+/// which are only ORed were 0. Other bytes are unchanged, as are the bits of the window that are
 /// neither immediate bits of the form nor in an opcode that the form sets.
 pub fn poke<F: InstructionForm>(
     form: F,

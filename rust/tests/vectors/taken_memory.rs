@@ -1,5 +1,5 @@
 // Made by tools/erase of crates/vectors/src/taken_memory.rt.
-//! How often calls take memory. Each test takes it as often as its name says:
+//! How often calls allocate. Each test allocates as often as its name says:
 //! `tools/test_refused_growth` counts.
 
 use crate::support::*;

@@ -80,7 +80,7 @@ impl<'a> RelaxCursor<'a> {
     /// Writes the output offset of each of the queries, in order, into its place in `out`.
     ///
     /// Requires as many places as queries, queries that don't decrease, and that each delta already
-    /// passed begins strictly below the first query, as `can_translate_all` tests but for the
+    /// passed begins strictly below the first query, as `can_translate_all` tests except for the
     /// lengths. One pass takes O(n + q).
     pub fn translate_all(&mut self, queries: &[u64], out: &mut [u64])
         requires same_length { length queries.now ≡ length out.old }

@@ -135,7 +135,7 @@ impl<'a> DeltaSlice<'a> {
     }
 
     /// How many kept bytes lie below `input_offset`, which is the offset in the output section of
-    /// what stands there. Of an offset inside a deletion it is that of what follows the deletion.
+    /// what is there. For an offset inside a deletion it is that of what follows the deletion.
     /// O(log n).
     #[inline(always)]
     pub fn input_to_output_offset(&self, input_offset: u64) -> u64
@@ -239,7 +239,7 @@ impl<'a> DeltaSlice<'a> {
     /// two deletions that don't overlap one has the lower offset and does not reach past the
     /// other's. None where all can be merged.
     ///
-    /// It takes no memory. For k deletions beside n deltas the work is O(k log n + k) where they
+    /// It doesn't allocate. For k deletions and n deltas the work is O(k log n + k) where they
     /// ascend, as a pass over a section makes them, and else O(k log n + k²).
     pub fn first_overlapping<D: AsDeletion>(&self, additional: &[D]) -> Option<usize>
         ensures { IsValid (deletions_of self.now)
@@ -253,7 +253,7 @@ impl<'a> DeltaSlice<'a> {
     /// Whether the list's deletions and the additional ones are two valid lists of which no two
     /// deletions overlap, as `merge_ascending` requires them.
     ///
-    /// It takes no memory. For k deletions beside n deltas the work is O(n + k log n).
+    /// It doesn't allocate. For k deletions and n deltas the work is O(n + k log n).
     pub fn can_merge_ascending<D: AsDeletion>(&self, additional: &[D]) -> bool
         ensures { IsTrue result
             ↔ AreValidTogether (deletions_of self.now) (map D.deletion additional.now) }
@@ -264,7 +264,7 @@ impl<'a> DeltaSlice<'a> {
     /// Writes the deltas of the list's deletions and the additional ones, sorted, with sums made
     /// anew.
     ///
-    /// It takes no memory. For k deletions beside n deltas the work is O(n + k). Requires
+    /// It doesn't allocate. For k deletions and n deltas the work is O(n + k). Requires
     /// deletions that `can_merge_ascending` accepts, and as many places as both.
     pub fn merge_ascending<D: AsDeletion>(&self, additional: &[D], merged: &mut [RelaxDelta])
         requires places { length merged.old ≡ length self.now + length additional.now }

@@ -34,7 +34,7 @@ pub fn cursor_gives_ranks()
     ensures { CursorGivesRanks }
 {}
 
-/// More deletions never move two offsets apart: a branch within range of its target stays so under
+/// More deletions never increase a distance: a branch within range of its target remains so under
 /// every merge.
 pub fn merges_shorten_distances()
     ensures { MergesShortenDistances }

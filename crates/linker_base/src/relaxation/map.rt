@@ -14,7 +14,7 @@ use std::marker::Model;
 
 /// The deltas of the sections of a file that have any, by section index.
 ///
-/// It is a vector sorted by index: linkers mostly insert in that order, and look up far more often
+/// It is a vector sorted by index: linkers usually insert in that order, and look up far more often
 /// than they insert. Contracts see the finite map from index to deletions.
 #[derive(Debug, Drop)]
 pub struct RelaxDeltaMap {
@@ -97,7 +97,7 @@ impl RelaxDeltaMap {
         }
     }
 
-    /// The deltas of the section to change, if it is there. All other sections stay. The search
+    /// The deltas of the section to change, if it is there. The others are unchanged. The search
     /// takes O(log n).
     pub fn get_mut(&mut self, section_index: usize) -> Option<&mut SectionRelaxDeltas>
         ensures* lends { sem 𝓛 (LendsIf the_row deltas_row self.entry result

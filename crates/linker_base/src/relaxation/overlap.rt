@@ -1,4 +1,4 @@
-//! Tests of lists of deletions. None takes memory.
+//! Tests of lists of deletions. None allocates.
 
 ghost use Rattle.std.specs.Prelude.{◌≡◌, ◌≤◌, ◌<◌, ◌+◌, ◌-◌, ◌++◌, ◌↔◌, ℕ, max, IsTrue};
 ghost use Rattle.std.specs.Prelude.{MatchOption, All, map, length, take, slice_index_or};
@@ -136,7 +136,7 @@ pub(super) fn are_valid_together<D: AsDeletion>(deltas: &[RelaxDelta], additiona
         && first_overlapping(deltas, additional).is_none()
 }
 
-// The same, by a walk through both. Which of both comes next can't be foreseen, and no branch
+// The same, by a walk through both. Which of both comes next is unpredictable, and no branch
 // depends on it.
 fn rise_together<D: AsDeletion>(deltas: &[RelaxDelta], additional: &[D]) -> bool
     ensures { IsTrue result ↔ AreValidTogether (map deletion_of deltas.now) (map D.deletion additional.now) }

@@ -189,7 +189,7 @@ fn narrow<P: Probe>(
 
 /// Of a part of at most `32 * width` elements of a range the part of at most `width` in which the
 /// partition point lies. The steps are written out, as LLVM makes a branch of what a loop selects,
-/// and that is guessed wrong half the time.
+/// and that is mispredicted half the time.
 #[inline(always)]
 fn narrow_five_times<P: Probe>(
     probe: &mut P,
@@ -402,7 +402,7 @@ pub(super) fn search_many<P: Probe>(probe: &mut P, test: Test) -> usize
     }
 }
 
-/// How many deltas pass, by the deltas alone.
+/// How many deltas pass, by only the deltas.
 #[inline(always)]
 pub(super) fn search_deltas<P: Probe>(probe: &mut P, test: Test) -> usize
     requires room { P.probes probe.old + P.size probe.old Deltas < 2 ^ 61 }

@@ -137,7 +137,7 @@ pub(super) fn delta_at(deltas: &[RelaxDelta], offset: u64) -> Option<RelaxDelta>
 }
 
 // The rank of an offset, by the heads of blocks first. They are no more than the blocks. Not
-// inlined, so that a caller's search of a few deltas stays small.
+// inlined, so that a caller's search of a few deltas remains small.
 #[inline(never)]
 pub(super) fn rank_by_heads(deltas: &[RelaxDelta], heads: &[BlockHead], offset: u64) -> u64
     requires { 64 * length heads.now < length deltas.now + 64 }

@@ -9,7 +9,7 @@ ghost use Rattle.linker_utils.specs.Inner.Runs.{run_places, spread, run_fits, ru
 
 use crate::elf::RelocationInstruction;
 
-/// What a write makes of the window's bits of a run.
+/// What a write does to the window's bits of a run.
 #[allow(dead_code)]
 #[derive(Clone, Copy)]
 pub(crate) enum Mark {
@@ -166,7 +166,7 @@ fn extract(runs: &[Run], window: u64) -> u64
 }
 
 /// A number of `_bits` bits in two's complement, at 64 bits, and whether it is below 0. `sign` is
-/// its highest bit; `_bits` is for the contract alone.
+/// its highest bit; only the contract uses `_bits`.
 #[inline(always)]
 pub(crate) fn signed_by(number: u64, _bits: u32, sign: u64) -> (u64, bool)
     requires some { 0 < _bits }
@@ -176,7 +176,7 @@ pub(crate) fn signed_by(number: u64, _bits: u32, sign: u64) -> (u64, bool)
     ensures number { result.0 ≡ cast_unsigned w64 (signed _bits number) }
     ensures flag { result.1 ≡ int_lt (signed _bits number) (pos 0) }
 {
-    // no branch, since the sign of what is read can seldom be foreseen
+    // no branch, since the sign of what is read is unpredictable
     (number.wrapping_sub((number & sign) << 1), number >= sign)
 }
 
@@ -212,7 +212,7 @@ pub(crate) fn write(window: Window, runs: &[Run], value: u64, dest: &mut [u8])
 }
 
 /// Writes a value into the instruction that `dest` begins with. The runs are those of its form;
-/// `_insn` and `_negative` are for the contract alone.
+/// Only the contract uses `_insn` and `_negative`.
 #[inline(always)]
 pub(crate) fn write_form(
     _insn: RelocationInstruction,

@@ -23,9 +23,9 @@ pub struct RelocationNumbers {
     pub end_bit: u8,
     /// 1 if only values from `min` up, below `max`, are allowed; else 0.
     pub has_range: u8,
-    /// 1 if a thunk may stand in for a target that is out of range, else 0.
+    /// 1 if a thunk may replace a target that is out of range, else 0.
     pub thunkable: u8,
-    /// 1 if the addend stands in the section, else 0.
+    /// 1 if the addend is in the section, else 0.
     pub implicit_addend: u8,
     /// The least allowed value; 0 if every value is allowed.
     pub min: i64,

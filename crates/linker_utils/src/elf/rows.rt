@@ -1,5 +1,5 @@
 //! Rows of the relocation tables as data, with what a write tests and in numbers. So a row is a load,
-//! and no jump that a processor has to foresee.
+//! and no jump that a processor has to predict.
 
 ghost use Rattle.std.specs.Prelude.{◌≡◌, IfSome, IfNone, Some, None};
 ghost use Rattle.linker_utils.specs.Inner.RowTables.{prepared_of, prepared_entry, numbers_in};
@@ -9,7 +9,7 @@ use crate::elf::{
     RelocationNumbers, RelocationSize,
 };
 
-/// A row of a table. Its range, alignment and bias stand among the numbers.
+/// A row of a table. Its range, alignment and bias are among the numbers.
 #[derive(Clone, Copy)]
 pub(crate) struct TableRow {
     pub(crate) kind: RelocationKind,

@@ -347,7 +347,7 @@ pub fn pack_into<C: AsCall>(
 /// `jal` to where the target goes, with the `auipc`'s destination register.
 /// A deletion that reaches past the section's end deletes up to there, and one past it nothing.
 ///
-/// Requires sites that ascend by at least 4 (`calls_apart`). It takes memory once, before it looks
+/// Requires sites that ascend by at least 4 (`calls_apart`). It allocates once, before it looks
 /// at the calls, and O(section + deltas + calls log deltas). `pack_into` links the register of the
 /// `jalr`, which `tail f` and `call t0, f` need.
 pub fn pack_section(

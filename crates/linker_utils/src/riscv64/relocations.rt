@@ -501,7 +501,7 @@ fn row(name: RiscVRelocation) -> Option<RelocationKindInfo>
 }
 
 /// What a relocation of TLS descriptors means (RISC-V ELF psABI, "TLS Descriptors"). Returns `None`
-/// for all others. The rows are this library's own, beside those of `relocation_type_from_raw`.
+/// for all others. The rows are additional to those of `relocation_type_from_raw`.
 ///
 /// The value is the distance from the place to the descriptor's GOT entry. The place of
 /// `R_RISCV_TLSDESC_LOAD_LO12` and `R_RISCV_TLSDESC_ADD_LO12` is that of their

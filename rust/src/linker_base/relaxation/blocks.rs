@@ -140,7 +140,7 @@ impl<'a> Looks for Counted<'a> {
     }
 }
 
-/// How many heads a section keeps with so many deltas: none with a few, which are searched alone.
+/// How many heads a section keeps with so many deltas: none with a few, which are searched without.
 #[inline(always)]
 pub(super) fn count_heads(len: usize) -> usize {
     if len <= FEW {

@@ -102,7 +102,7 @@ impl<'a> DeltaSlice<'a> {
     }
 
     /// How many kept bytes lie below `input_offset`, which is the offset in the output section of
-    /// what stands there. Of an offset inside a deletion it is that of what follows the deletion.
+    /// what is there. For an offset inside a deletion it is that of what follows the deletion.
     /// O(log n).
     #[must_use]
     #[inline(always)]
@@ -190,7 +190,7 @@ impl<'a> DeltaSlice<'a> {
     /// two deletions that don't overlap one has the lower offset and does not reach past the
     /// other's. None where all can be merged.
     ///
-    /// It takes no memory. For k deletions beside n deltas the work is O(k log n + k) where they
+    /// It doesn't allocate. For k deletions and n deltas the work is O(k log n + k) where they
     /// ascend, as a pass over a section makes them, and else O(k log n + k²).
     #[must_use]
     pub fn first_overlapping<D: AsDeletion>(&self, additional: &[D]) -> Option<usize> {
@@ -200,7 +200,7 @@ impl<'a> DeltaSlice<'a> {
     /// Whether the list's deletions and the additional ones are two valid lists of which no two
     /// deletions overlap, as `merge_ascending` requires them.
     ///
-    /// It takes no memory. For k deletions beside n deltas the work is O(n + k log n).
+    /// It doesn't allocate. For k deletions and n deltas the work is O(n + k log n).
     #[must_use]
     pub fn can_merge_ascending<D: AsDeletion>(&self, additional: &[D]) -> bool {
         overlap::are_valid_together(self.deltas, additional)
@@ -209,7 +209,7 @@ impl<'a> DeltaSlice<'a> {
     /// Writes the deltas of the list's deletions and the additional ones, sorted, with sums made
     /// anew.
     ///
-    /// It takes no memory. For k deletions beside n deltas the work is O(n + k). Requires
+    /// It doesn't allocate. For k deletions and n deltas the work is O(n + k). Requires
     /// deletions that `can_merge_ascending` accepts, and as many places as both.
     ///
     /// # Requires

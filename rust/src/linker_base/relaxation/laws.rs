@@ -22,6 +22,6 @@ pub fn merge_order_is_free() {}
 /// A cursor translates queries that don't decrease as each by itself is translated.
 pub fn cursor_gives_ranks() {}
 
-/// More deletions never move two offsets apart: a branch within range of its target stays so under
+/// More deletions never increase a distance: a branch within range of its target remains so under
 /// every merge.
 pub fn merges_shorten_distances() {}

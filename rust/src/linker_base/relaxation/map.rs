@@ -7,7 +7,7 @@ use super::{OutOfMemory, SectionRelaxDeltas};
 
 /// The deltas of the sections of a file that have any, by section index.
 ///
-/// It is a vector sorted by index: linkers mostly insert in that order, and look up far more often
+/// It is a vector sorted by index: linkers usually insert in that order, and look up far more often
 /// than they insert. Contracts see the finite map from index to deletions.
 #[derive(Debug)]
 pub struct RelaxDeltaMap {
@@ -76,7 +76,7 @@ impl RelaxDeltaMap {
         }
     }
 
-    /// The deltas of the section to change, if it is there. All other sections stay. The search
+    /// The deltas of the section to change, if it is there. The others are unchanged. The search
     /// takes O(log n).
     pub fn get_mut(&mut self, section_index: usize) -> Option<&mut SectionRelaxDeltas> {
         match search(&self.entries, section_index) {

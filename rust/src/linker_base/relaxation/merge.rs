@@ -58,7 +58,7 @@ pub(super) fn insert_ascending(
     fill_heads(deltas, heads);
 }
 
-// Puts the pairs behind the deltas, with no sum yet.
+// Appends the pairs to the deltas, with no sum yet.
 fn append(deltas: &mut Vec<RelaxDelta>, pairs: &[(u64, u32)]) {
     for &(input_offset, bytes_deleted) in pairs {
         deltas.push_reserved(RelaxDelta {
@@ -109,7 +109,7 @@ pub(super) fn merge_into<D: AsDeletion>(
 }
 
 // Merges ascending deletions into the first `count` deltas, from the back. The rest of the slice is
-// room for as many. Returns how many of the first deltas stay as they are.
+// room for as many. Returns how many of the first deltas are unchanged.
 pub(super) fn merge_ascending<D: AsDeletion>(
     deltas: &mut [RelaxDelta],
     count: usize,

@@ -1,5 +1,5 @@
 // Made by tools/erase of crates/linker_base/src/relaxation/overlap.rt.
-//! Tests of lists of deletions. None takes memory.
+//! Tests of lists of deletions. None allocates.
 
 use alloc::vec::Vec;
 use super::RelaxDelta;
@@ -106,7 +106,7 @@ pub(super) fn are_valid_together<D: AsDeletion>(deltas: &[RelaxDelta], additiona
         && first_overlapping(deltas, additional).is_none()
 }
 
-// The same, by a walk through both. Which of both comes next can't be foreseen, and no branch
+// The same, by a walk through both. Which of both comes next is unpredictable, and no branch
 // depends on it.
 fn rise_together<D: AsDeletion>(deltas: &[RelaxDelta], additional: &[D]) -> bool {
     let (mut passed, mut taken) = (0, 0);
