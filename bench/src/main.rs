@@ -13,7 +13,7 @@ mod table;
 use inputs::{Random, deletions, is_inside};
 use library::*;
 use measure::{Report, Side, Sides};
-use sathunne::{Architecture, RelocationSize};
+use sathunne::{Architecture, Ppc64Form, RelocationSize};
 use table::*;
 
 /// Calls of a round.
@@ -357,6 +357,11 @@ fn clear_field(machine: u16, fixup: &Fixup, section: &mut [u8]) {
             .find(Result::is_ok);
         for (byte, bits) in section[fixup.offset..].iter_mut().zip(ones) {
             *byte &= !bits;
+        }
+        // `ld`: other words may be of DQ-form, which takes multiples of 16
+        if form == sathunne::Form::Ppc64(Ppc64Form::Ds) {
+            section[fixup.offset] = 0;
+            section[fixup.offset + 3] = 58 << 2;
         }
     }
 }
