@@ -21,8 +21,6 @@ mod readers;
 #[cfg(test)]
 mod refused_growth;
 #[cfg(test)]
-mod relocated;
-#[cfg(test)]
 mod riscv64;
 #[cfg(test)]
 mod rows;

@@ -1,0 +1,130 @@
+//! Relocations at the edges of what can be written, as GNU ld 2.40 and ld.lld 19.1.7 write or reject
+//! them.
+
+use sathunne::*;
+
+/// The bytes after a write, or why there is none.
+fn written(
+    architecture: Architecture,
+    r_type: u32,
+    value: i64,
+    before: &[u8],
+) -> Result<Vec<u8>, Status> {
+    let mut bytes = before.to_vec();
+    let outcome = relocate(architecture, r_type, value, &mut bytes);
+    assert!(outcome.is_ok() || bytes == before, "a rejected write has written");
+    outcome.map(|()| bytes)
+}
+
+fn word(architecture: Architecture, r_type: u32, value: i64, before: u32) -> Result<u32, Status> {
+    written(architecture, r_type, value, &before.to_le_bytes())
+        .map(|bytes| u32::from_le_bytes(bytes.try_into().expect("four bytes")))
+}
+
+#[test]
+fn moves_keep_the_size_of_their_register() {
+    // `R_AARCH64_MOVW_SABS_G0` and `_G1`, and `R_AARCH64_MOVW_PREL_G0`
+    for (r_type, value, before, after) in [
+        (270, -2, 0x5280_0000, 0x1280_0020),
+        (270, 0x1234, 0x1280_0003, 0x5282_4683),
+        (271, -0x1234_5678, 0x52a0_0005, 0x12a2_4685),
+        (271, 0x7654_abcd, 0x12a0_0006, 0x52ae_ca86),
+        (287, -22, 0x5280_0007, 0x1280_02a7),
+        (270, -2, 0xd280_0000, 0x9280_0020),
+    ] {
+        let found = word(Architecture::AArch64, r_type, value, before);
+        assert_eq!(found, Ok(after), "{before:x}");
+    }
+}
+
+#[test]
+fn displacements_of_dq_form_are_in_units_of_16() {
+    // `R_PPC64_TOC16_LO_DS`: `lxv` and `stxv` of vs35, `lxv` of vs3, `lq`, `lxvp` and `stxvp`
+    let dq = [
+        (0xf463_0009, 0xf463_f899),
+        (0xf463_000d, 0xf463_f89d),
+        (0xf463_0001, 0xf463_f891),
+        (0xe083_0000, 0xe083_f890),
+        (0x1863_0000, 0x1863_f890),
+        (0x1863_0001, 0x1863_f891),
+    ];
+    // `stxsd`, `stxssp`, `stq` and `ld`
+    let ds = [
+        (0xf463_0002, 0xf463_f892),
+        (0xf463_0003, 0xf463_f893),
+        (0xf883_0002, 0xf883_f892),
+        (0xe883_0000, 0xe883_f890),
+    ];
+    let at = |value, before| word(Architecture::Ppc64, 64, value, before);
+    for (before, after) in dq.iter().chain(&ds) {
+        assert_eq!(at(-1904, *before), Ok(*after), "{before:x}");
+    }
+    // both linkers reject multiples of 8 and of 4 in DQ-form, and accept them in DS-form
+    for value in [-1896, -1900] {
+        for (before, _) in dq {
+            assert_eq!(at(value, before), Err(Status::Misaligned), "{before:x}");
+        }
+        for (before, _) in ds {
+            assert!(at(value, before).is_ok(), "{before:x}");
+        }
+    }
+}
+
+#[test]
+fn got_entries_of_ppc64_take_no_second_addend() {
+    // `pld 3, y@got@pcrel+8`, whose entry has y + 8
+    let operands = Operands {
+        got_entry: 0x1ff20,
+        addend: 8,
+        place: 0x2c0,
+        ..Operands::default()
+    };
+    assert_eq!(value(Architecture::Ppc64, 133, &operands), Ok(130144));
+    let pair = written(Architecture::Ppc64, 133, 130144, &0xe460_0000_0410_0000u64.to_le_bytes());
+    assert_eq!(pair, Ok(0xe460_fc60_0410_0001u64.to_le_bytes().to_vec()));
+    // `ld 5, x@got@tprel+8(2)`
+    let operands = Operands {
+        got_entry: 0x1ff18,
+        addend: 8,
+        got_base: 0x27f00,
+        ..Operands::default()
+    };
+    assert_eq!(value(Architecture::Ppc64, 87, &operands), Ok(-32744));
+    assert_eq!(word(Architecture::Ppc64, 87, -32744, 0xe8a2_0000), Ok(0xe8a2_8018));
+}
+
+#[test]
+fn got_offsets_of_x86_64_are_signed() {
+    // `R_X86_64_GOT32`
+    for (offset, after) in [
+        (-8, Ok(0xffff_fff8)),
+        (-0x8000_0000, Ok(0x8000_0000)),
+        (0x7fff_fff8, Ok(0x7fff_fff8)),
+        (-0x8000_0008, Err(Status::OutOfReach)),
+        (0x8000_0000, Err(Status::OutOfReach)),
+    ] {
+        assert_eq!(word(Architecture::X86_64, 3, offset, 0), after, "{offset}");
+    }
+}
+
+#[test]
+fn pairs_that_are_not_known_are_rejected() {
+    // `R_LARCH_CALL30`
+    for value in [0, 2, 0x100000, 1 << 40] {
+        let found = written(Architecture::LoongArch64, 127, value, &[0; 8]);
+        assert_eq!(found, Err(Status::Unsupported), "{value}");
+    }
+}
+
+#[test]
+fn the_first_of_a_uleb128_pair_is_not_relative() {
+    let operands = Operands {
+        symbol: 0x11000,
+        addend: 8,
+        place: 0x4000,
+        ..Operands::default()
+    };
+    // `R_RISCV_SET_ULEB128` and `R_LARCH_ADD_ULEB128`
+    assert_eq!(value(Architecture::RiscV, 60, &operands), Ok(0x11008));
+    assert_eq!(value(Architecture::LoongArch64, 107, &operands), Ok(0x11008));
+}
