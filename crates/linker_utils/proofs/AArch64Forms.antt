@@ -21,12 +21,12 @@ use Rattle.linker_utils.proofs.MovedBits.{signed_wide}
 use Rattle.linker_utils.proofs.Runs.{not_placed_above, ored_run, ored_mask, laid_more, laid_below, masked, mask_cleared}
 use Rattle.linker_utils.proofs.Clearing.{nothing_written, none_ored}
 use Rattle.linker_utils.specs.Relocate.{ored_cleared}
-use Rattle.linker_utils.specs.declared.aarch64.Immediate.{Immediate}
+use Rattle.linker_utils.specs.declared.aarch64.forms.Immediate.{Immediate}
 use Rattle.linker_utils.specs.Inner.Immediates.{is_ored_alone, lowest_bits, aarch64_immediate}
 use Rattle.linker_utils.specs.Inner.FormLaws.{scale_small, low12_field, low12_sound}
 use Rattle.linker_utils.specs.AArch64.{aarch64_form, aarch64_layout, movnz, macho_low12, imm16_places, moved_bits, moved_value, opcode_of, shift_of, movn_opcode, movz_opcode, move_opcode, access_scale, low12_places}
-use Rattle.linker_utils.specs.declared.elf.AArch64Instruction.{AArch64Instruction}
-use Rattle.linker_utils.specs.declared.elf.AArch64Instruction.TheVariants.{Adr, Movkz, Movnz, Ldr, LdrRegister, Add, LdSt, TstBr, Bcond, JumpCall, MachOLow12}
+use Rattle.linker_utils.specs.declared.aarch64.forms.AArch64Instruction.{AArch64Instruction}
+use Rattle.linker_utils.specs.declared.aarch64.forms.AArch64Instruction.TheVariants.{Adr, Movkz, Movnz, Ldr, LdrRegister, Add, LdSt, TstBr, Bcond, JumpCall, MachOLow12}
 
 -- ---- Movnz
 

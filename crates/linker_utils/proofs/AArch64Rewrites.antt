@@ -6,8 +6,8 @@ use Rattle.std.proofs.lemmas.Nat.{or_shifted}
 use Rattle.linker_base.specs.Rewrite.{rewritten, replaces}
 use Rattle.linker_base.proofs.Rewrites.{overwritten}
 use Rattle.linker_utils.specs.AArch64.{aarch64_rewrite, nop, nop_adr, rd_of}
-use Rattle.linker_utils.specs.declared.aarch64.RelaxationKind.{RelaxationKind}
-use Rattle.linker_utils.specs.declared.aarch64.RelaxationKind.TheVariants.{AdrpAddToNopAdr}
+use Rattle.linker_utils.specs.declared.aarch64.rewrites.RelaxationKind.{RelaxationKind}
+use Rattle.linker_utils.specs.declared.aarch64.rewrites.RelaxationKind.TheVariants.{AdrpAddToNopAdr}
 
 first_word : (xs : List ℕ) → from_le_bytes w32 (take 4 xs) ≡ from_le_bytes w32 (take 8 xs)
 first_word [] = refl

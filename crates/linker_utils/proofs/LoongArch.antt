@@ -11,8 +11,8 @@ use Rattle.linker_base.proofs.Parts.{ArePlaced, all_replaced, part_laid}
 use Rattle.linker_base.proofs.ConsecutiveBits.{consecutive_bits_sum}
 use Rattle.linker_utils.proofs.LoongArchNumbers.{pair_number, near_pair, far_pair}
 use Rattle.linker_utils.specs.LoongArch.{loongarch_form, loongarch_layout, shift10_low, shift10_imm16, call36_high, call36_low, pcaddu18i_imm, jirl_imm, ReadsLow, Reaches, IsDistanceModulo}
-use Rattle.linker_utils.specs.declared.elf.LoongArch64Instruction.{LoongArch64Instruction}
-use Rattle.linker_utils.specs.declared.elf.LoongArch64Instruction.TheVariants.{Shift5, Shift10, Branch26, Branch21, Call30, Call36}
+use Rattle.linker_utils.specs.declared.loongarch64.forms.LoongArch64Instruction.{LoongArch64Instruction}
+use Rattle.linker_utils.specs.declared.loongarch64.forms.LoongArch64Instruction.TheVariants.{Shift5, Shift10, Branch26, Branch21, Call30, Call36}
 use Rattle.linker_utils.specs.declared.loongarch64.forms.WordBits.{WordBits}
 use Rattle.linker_utils.specs.Inner.Immediates.{is_one_word, loongarch_bits, loongarch_read}
 use Rattle.linker_utils.specs.Inner.Runs.{words_below}

@@ -7,9 +7,9 @@ use Rattle.linker_base.proofs.ConsecutiveBits.{consecutive_bits_sum}
 use Rattle.linker_base.proofs.Immediates.{layout_machine}
 use Rattle.linker_utils.specs.Inner.Masks.{word_mask}
 use Rattle.linker_utils.specs.Ppc64.{ppc64_form, ppc64_layout}
-use Rattle.linker_utils.specs.declared.elf.Ppc64Instruction.{Ppc64Instruction}
-use Rattle.linker_utils.specs.declared.elf.Ppc64Instruction.TheVariants.{D, Ds, Branch14, Branch24}
-use Rattle.linker_utils.specs.declared.elf.Ppc64Instruction.TheVariants.{Prefixed}
+use Rattle.linker_utils.specs.declared.ppc64.forms.Ppc64Instruction.{Ppc64Instruction}
+use Rattle.linker_utils.specs.declared.ppc64.forms.Ppc64Instruction.TheVariants.{D, Ds, Branch14, Branch24}
+use Rattle.linker_utils.specs.declared.ppc64.forms.Ppc64Instruction.TheVariants.{Prefixed}
 use Rattle.linker_utils.proofs.Runs.{masked, mask_written}
 
 pub ppc64_machine : (f : Ppc64Instruction) (v : ℕ) (neg : Bool) (before after : ℕ) → v < 2 ^ 64

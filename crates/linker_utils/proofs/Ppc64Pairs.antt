@@ -10,7 +10,7 @@ use Rattle.linker_base.specs.Form.{ImmediateBit, bits_to, is_placed, place_sum, 
 use Rattle.linker_base.proofs.Fields.{same_fields, signed_rem}
 use Rattle.linker_base.proofs.Immediates.{always_clear, place_sum_below}
 use Rattle.linker_utils.specs.Ppc64.{ppc64_form, pair, IsPairDistance, PairHolds, KeepsHigh}
-use Rattle.linker_utils.specs.declared.elf.Ppc64Instruction.TheVariants.{D}
+use Rattle.linker_utils.specs.declared.ppc64.forms.Ppc64Instruction.TheVariants.{D}
 
 abbrev d_places : List ImmediateBit
 d_places = bits_to 0 15 0

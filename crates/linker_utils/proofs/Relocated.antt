@@ -23,21 +23,21 @@ use Rattle.linker_utils.specs.Relocate.{InstructionWritten, IsWritten, Instructi
 use Rattle.linker_utils.specs.Relocate.{takes_size, is_supported, is_call30, IsAligned, IsAccepted}
 use Rattle.linker_utils.specs.Relocate.{IsInUnits, MoveReads, with_bit_31_if}
 use Rattle.linker_utils.specs.RiscVRows.{Bounds}
-use Rattle.linker_utils.specs.declared.elf.AArch64Instruction.{AArch64Instruction}
-use Rattle.linker_utils.specs.declared.elf.AArch64Instruction.TheVariants.{Movnz, MachOLow12}
-use Rattle.linker_utils.specs.declared.elf.LoongArch64Instruction.{LoongArch64Instruction}
-use Rattle.linker_utils.specs.declared.elf.LoongArch64Instruction.TheVariants.{Shift10, Call36}
-use Rattle.linker_utils.specs.declared.elf.Ppc64Instruction.{Ppc64Instruction}
-use Rattle.linker_utils.specs.declared.elf.Ppc64Instruction.TheVariants.{D, Ds}
+use Rattle.linker_utils.specs.declared.aarch64.forms.AArch64Instruction.{AArch64Instruction}
+use Rattle.linker_utils.specs.declared.aarch64.forms.AArch64Instruction.TheVariants.{Movnz, MachOLow12}
+use Rattle.linker_utils.specs.declared.loongarch64.forms.LoongArch64Instruction.{LoongArch64Instruction}
+use Rattle.linker_utils.specs.declared.loongarch64.forms.LoongArch64Instruction.TheVariants.{Shift10, Call36}
+use Rattle.linker_utils.specs.declared.ppc64.forms.Ppc64Instruction.{Ppc64Instruction}
+use Rattle.linker_utils.specs.declared.ppc64.forms.Ppc64Instruction.TheVariants.{D, Ds}
 use Rattle.linker_utils.specs.declared.elf.RelocationInstruction.{RelocationInstruction}
 use Rattle.linker_utils.specs.declared.elf.RelocationInstruction.TheVariants.{AArch64, RiscV, Ppc64, LoongArch64}
 use Rattle.linker_utils.specs.declared.elf.RelocationKind.{RelocationKind}
 use Rattle.linker_utils.specs.declared.elf.RelocationKindInfo.{RelocationKindInfo}
 use Rattle.linker_utils.specs.declared.elf.RelocationSize.{RelocationSize}
 use Rattle.linker_utils.specs.declared.elf.RelocationSize.TheVariants.{ByteSize, BitMasking}
-use Rattle.linker_utils.specs.declared.elf.RiscVInstruction.{RiscVInstruction}
-use Rattle.linker_utils.specs.declared.elf.RiscVInstruction.TheVariants.{UType, IType, SType}
-use Rattle.linker_utils.specs.declared.elf.RiscVInstruction.TheVariants.{CluiType, UiType}
+use Rattle.linker_utils.specs.declared.riscv64.forms.RiscVInstruction.{RiscVInstruction}
+use Rattle.linker_utils.specs.declared.riscv64.forms.RiscVInstruction.TheVariants.{UType, IType, SType}
+use Rattle.linker_utils.specs.declared.riscv64.forms.RiscVInstruction.TheVariants.{CluiType, UiType}
 use Rattle.linker_utils.proofs.Clearing.{same_window, clear_after}
 use Rattle.linker_utils.proofs.Agreement.{rem_rem, from_zero}
 use Rattle.linker_utils.proofs.Placed.{reads_as}

@@ -10,7 +10,7 @@ use Rattle.linker_base.proofs.Immediates.{layout_laid, layout_machine, place_sum
 use Rattle.linker_base.proofs.Pairs.{signed_cases, added, all_left, all_right}
 use Rattle.linker_base.proofs.Rounded.{IsSoundPart, sound_part, rounded_machine}
 use Rattle.linker_utils.specs.RiscV.{riscv_form, riscv_layout, riscv_places, ui_high, ui_low, ui_sum, IsPairRange, IsPairOf, PairReads}
-use Rattle.linker_utils.specs.declared.elf.RiscVInstruction.{RiscVInstruction}
+use Rattle.linker_utils.specs.declared.riscv64.forms.RiscVInstruction.{RiscVInstruction}
 use Rattle.linker_utils.specs.declared.riscv64.forms.WordBits.{WordBits}
 use Rattle.linker_utils.specs.Inner.Immediates.{is_by_masks, riscv_bits}
 use Rattle.linker_utils.specs.Inner.Runs.{words_below}
@@ -18,7 +18,7 @@ use Rattle.linker_utils.proofs.MovedBits.{Moved, up, laid, masks_write, written_
 use Rattle.linker_utils.proofs.Runs.{laid_below}
 use Rattle.std.specs.Int.RustNames.{bit_or}
 use lib.Bits.{bit_and}
-use Rattle.linker_utils.specs.declared.elf.RiscVInstruction.TheVariants.{UType, IType, SType, BType, JType, CbType, CjType, CluiType, UiType}
+use Rattle.linker_utils.specs.declared.riscv64.forms.RiscVInstruction.TheVariants.{UType, IType, SType, BType, JType, CbType, CjType, CluiType, UiType}
 
 abbrev pub jtype_places : List ImmediateBit
 jtype_places = riscv_places JType

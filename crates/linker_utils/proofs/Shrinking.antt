@@ -17,7 +17,7 @@ use Rattle.linker_base.proofs.Unions.{disjoint_left, rank-permutation}
 use Rattle.linker_base.proofs.Merging.{disjoint_joined, disjoint_back, disjoint_across}
 use Rattle.linker_utils.specs.Shrinking.{shrinking, chosen_deletions, with_chosen, IsInReach, IsChosen, IsPartOf, AreShrinkable, ShrunkCallsAreAccepted}
 use Rattle.linker_utils.specs.Inner.Shrinking.{chosen_count, chosen_between, AreEightApart, IsApartAt, IsSplitBetween, IsSplit, IsInReachAt, KeepsOthers, ArePlaced, AreOutside, IsAround, AreClear, HaveHit, AreRunsOf, distance_over}
-use Rattle.linker_utils.specs.declared.relaxation.shrinking.Runs.{Runs}
+use Rattle.linker_utils.specs.declared.riscv64.shrinking.Runs.{Runs}
 use Rattle.linker_utils.specs.RiscV.{IsEven, IsJalDistance, output_distance}
 
 -- ---- what chosen calls delete

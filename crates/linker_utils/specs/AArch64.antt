@@ -11,19 +11,19 @@ use Rattle.linker_base.specs.Form.{exactly, modulo}
 use Rattle.linker_base.specs.Rewrite.{Rewrite, replaces}
 use Rattle.linker_base.specs.declared.relaxation.RelocationModifier.{RelocationModifier}
 use Rattle.linker_base.specs.declared.relaxation.RelocationModifier.TheVariants.{Normal}
-use Rattle.linker_utils.specs.declared.aarch64.RelaxationKind.{RelaxationKind}
-use Rattle.linker_utils.specs.declared.aarch64.RelaxationKind.TheVariants.{NoOp, ReplaceWithNop}
-use Rattle.linker_utils.specs.declared.aarch64.RelaxationKind.TheVariants.{MovzX0Lsl16, MovkX0}
-use Rattle.linker_utils.specs.declared.aarch64.RelaxationKind.TheVariants.{MovzXnLsl16, MovkXn}
-use Rattle.linker_utils.specs.declared.aarch64.RelaxationKind.TheVariants.{AdrpToAdr, AdrpX0, LdrX0}
-use Rattle.linker_utils.specs.declared.aarch64.RelaxationKind.TheVariants.{AddToAdr, LdrToAdr}
-use Rattle.linker_utils.specs.declared.aarch64.RelaxationKind.TheVariants.{LdrToAdd}
-use Rattle.linker_utils.specs.declared.aarch64.RelaxationKind.TheVariants.{AdrpAddToNopAdr}
-use Rattle.linker_utils.specs.declared.elf.AArch64Instruction.{AArch64Instruction}
-use Rattle.linker_utils.specs.declared.elf.AArch64Instruction.TheVariants.{Adr, Movkz, Movnz, Ldr}
-use Rattle.linker_utils.specs.declared.elf.AArch64Instruction.TheVariants.{LdrRegister, Add, LdSt}
-use Rattle.linker_utils.specs.declared.elf.AArch64Instruction.TheVariants.{TstBr, Bcond, JumpCall}
-use Rattle.linker_utils.specs.declared.elf.AArch64Instruction.TheVariants.{MachOLow12}
+use Rattle.linker_utils.specs.declared.aarch64.rewrites.RelaxationKind.{RelaxationKind}
+use Rattle.linker_utils.specs.declared.aarch64.rewrites.RelaxationKind.TheVariants.{NoOp, ReplaceWithNop}
+use Rattle.linker_utils.specs.declared.aarch64.rewrites.RelaxationKind.TheVariants.{MovzX0Lsl16, MovkX0}
+use Rattle.linker_utils.specs.declared.aarch64.rewrites.RelaxationKind.TheVariants.{MovzXnLsl16, MovkXn}
+use Rattle.linker_utils.specs.declared.aarch64.rewrites.RelaxationKind.TheVariants.{AdrpToAdr, AdrpX0, LdrX0}
+use Rattle.linker_utils.specs.declared.aarch64.rewrites.RelaxationKind.TheVariants.{AddToAdr, LdrToAdr}
+use Rattle.linker_utils.specs.declared.aarch64.rewrites.RelaxationKind.TheVariants.{LdrToAdd}
+use Rattle.linker_utils.specs.declared.aarch64.rewrites.RelaxationKind.TheVariants.{AdrpAddToNopAdr}
+use Rattle.linker_utils.specs.declared.aarch64.forms.AArch64Instruction.{AArch64Instruction}
+use Rattle.linker_utils.specs.declared.aarch64.forms.AArch64Instruction.TheVariants.{Adr, Movkz, Movnz, Ldr}
+use Rattle.linker_utils.specs.declared.aarch64.forms.AArch64Instruction.TheVariants.{LdrRegister, Add, LdSt}
+use Rattle.linker_utils.specs.declared.aarch64.forms.AArch64Instruction.TheVariants.{TstBr, Bcond, JumpCall}
+use Rattle.linker_utils.specs.declared.aarch64.forms.AArch64Instruction.TheVariants.{MachOLow12}
 
 -- ---- moves of 16 bits
 

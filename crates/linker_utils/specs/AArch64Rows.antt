@@ -18,11 +18,11 @@ use Rattle.linker_utils.specs.declared.elf.RelocationKind.TheVariants.{None as N
 use Rattle.linker_utils.specs.declared.elf.RelocationSize.{RelocationSize}
 use Rattle.linker_utils.specs.declared.elf.RelocationSize.TheVariants.{ByteSize, BitMasking}
 use Rattle.linker_utils.specs.declared.elf.RelocationInstruction.TheVariants.{AArch64}
-use Rattle.linker_utils.specs.declared.elf.AArch64Instruction.{AArch64Instruction}
-use Rattle.linker_utils.specs.declared.elf.AArch64Instruction.TheVariants.{Add, Adr, Bcond}
-use Rattle.linker_utils.specs.declared.elf.AArch64Instruction.TheVariants.{JumpCall, LdSt, Ldr}
-use Rattle.linker_utils.specs.declared.elf.AArch64Instruction.TheVariants.{LdrRegister, Movkz}
-use Rattle.linker_utils.specs.declared.elf.AArch64Instruction.TheVariants.{Movnz, TstBr}
+use Rattle.linker_utils.specs.declared.aarch64.forms.AArch64Instruction.{AArch64Instruction}
+use Rattle.linker_utils.specs.declared.aarch64.forms.AArch64Instruction.TheVariants.{Add, Adr, Bcond}
+use Rattle.linker_utils.specs.declared.aarch64.forms.AArch64Instruction.TheVariants.{JumpCall, LdSt, Ldr}
+use Rattle.linker_utils.specs.declared.aarch64.forms.AArch64Instruction.TheVariants.{LdrRegister, Movkz}
+use Rattle.linker_utils.specs.declared.aarch64.forms.AArch64Instruction.TheVariants.{Movnz, TstBr}
 use Rattle.linker_utils.specs.declared.elf.PageMask.{PageMask}
 use Rattle.linker_utils.specs.declared.elf.PageMask.TheVariants.{SymbolPlusAddendAndPosition}
 use Rattle.linker_utils.specs.declared.elf.PageMask.TheVariants.{GotEntryAndPosition, GotBase}

@@ -7,10 +7,10 @@ use Rattle.linker_utils.specs.declared.elf.RelocationKind.TheVariants.{None as N
 use Rattle.linker_utils.specs.declared.elf.RelocationSize.{RelocationSize}
 use Rattle.linker_utils.specs.declared.elf.RelocationSize.TheVariants.{ByteSize, BitMasking}
 use Rattle.linker_utils.specs.declared.elf.RelocationInstruction.TheVariants.{LoongArch64}
-use Rattle.linker_utils.specs.declared.elf.LoongArch64Instruction.{LoongArch64Instruction}
-use Rattle.linker_utils.specs.declared.elf.LoongArch64Instruction.TheVariants.{Shift5, Shift10}
-use Rattle.linker_utils.specs.declared.elf.LoongArch64Instruction.TheVariants.{Branch26, Branch21}
-use Rattle.linker_utils.specs.declared.elf.LoongArch64Instruction.TheVariants.{Call30, Call36}
+use Rattle.linker_utils.specs.declared.loongarch64.forms.LoongArch64Instruction.{LoongArch64Instruction}
+use Rattle.linker_utils.specs.declared.loongarch64.forms.LoongArch64Instruction.TheVariants.{Shift5, Shift10}
+use Rattle.linker_utils.specs.declared.loongarch64.forms.LoongArch64Instruction.TheVariants.{Branch26, Branch21}
+use Rattle.linker_utils.specs.declared.loongarch64.forms.LoongArch64Instruction.TheVariants.{Call30, Call36}
 use Rattle.linker_utils.specs.declared.elf.PageMaskPattern.TheVariants.{Size4KB}
 use Rattle.linker_utils.specs.declared.elf.PageMask.{PageMask}
 use Rattle.linker_utils.specs.declared.elf.PageMask.TheVariants.{SymbolPlusAddendAndPosition}

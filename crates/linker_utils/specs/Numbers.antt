@@ -2,10 +2,10 @@
 -- places in the enums, those of page masks their places and 1.
 use Rattle.std.specs.Prelude.{ℕ, List, [], ◌∷◌, Option, None, Some, ℤ, pos, Bool, true, false}
 use denote.Enum.Declared.{tag_of}
-use Rattle.linker_utils.specs.contracts.elf.AArch64Instruction as aarch64
-use Rattle.linker_utils.specs.contracts.elf.RiscVInstruction as riscv
-use Rattle.linker_utils.specs.contracts.elf.LoongArch64Instruction as loongarch64
-use Rattle.linker_utils.specs.contracts.elf.Ppc64Instruction as ppc64
+use Rattle.linker_utils.specs.contracts.aarch64.forms.AArch64Instruction as aarch64
+use Rattle.linker_utils.specs.contracts.riscv64.forms.RiscVInstruction as riscv
+use Rattle.linker_utils.specs.contracts.loongarch64.forms.LoongArch64Instruction as loongarch64
+use Rattle.linker_utils.specs.contracts.ppc64.forms.Ppc64Instruction as ppc64
 use Rattle.linker_utils.specs.declared.elf.Architecture.TheVariants as architectures
 use Rattle.linker_utils.specs.declared.elf.RelocationInstruction.{RelocationInstruction}
 use Rattle.linker_utils.specs.declared.elf.RelocationInstruction.TheVariants as insns
@@ -19,22 +19,22 @@ use Rattle.linker_utils.specs.declared.elf.PageMask.TheVariants.{SymbolPlusAdden
 use Rattle.linker_utils.specs.declared.elf.PageMask.TheVariants.{GotEntryAndPosition, GotBase}
 use Rattle.linker_utils.specs.declared.elf.RelocationKind.{RelocationKind}
 use Rattle.linker_utils.specs.declared.elf.RelocationKind.TheVariants as kinds
-use Rattle.linker_utils.specs.declared.elf.AArch64Instruction.{AArch64Instruction}
-use Rattle.linker_utils.specs.declared.elf.RiscVInstruction.{RiscVInstruction}
-use Rattle.linker_utils.specs.declared.elf.LoongArch64Instruction.{LoongArch64Instruction}
-use Rattle.linker_utils.specs.declared.elf.Ppc64Instruction.{Ppc64Instruction}
-use Rattle.linker_utils.specs.declared.elf.AArch64Instruction.TheVariants.{Adr, Movkz, Movnz, Ldr}
-use Rattle.linker_utils.specs.declared.elf.AArch64Instruction.TheVariants.{LdrRegister, Add, LdSt}
-use Rattle.linker_utils.specs.declared.elf.AArch64Instruction.TheVariants.{TstBr, Bcond, JumpCall}
-use Rattle.linker_utils.specs.declared.elf.AArch64Instruction.TheVariants.{MachOLow12}
-use Rattle.linker_utils.specs.declared.elf.RiscVInstruction.TheVariants.{UType, IType, SType}
-use Rattle.linker_utils.specs.declared.elf.RiscVInstruction.TheVariants.{BType, JType, CbType}
-use Rattle.linker_utils.specs.declared.elf.RiscVInstruction.TheVariants.{CjType, CluiType, UiType}
-use Rattle.linker_utils.specs.declared.elf.LoongArch64Instruction.TheVariants.{Shift5, Shift10}
-use Rattle.linker_utils.specs.declared.elf.LoongArch64Instruction.TheVariants.{Branch26, Branch21}
-use Rattle.linker_utils.specs.declared.elf.LoongArch64Instruction.TheVariants.{Call30, Call36}
-use Rattle.linker_utils.specs.declared.elf.Ppc64Instruction.TheVariants.{D, Ds, Branch14, Branch24}
-use Rattle.linker_utils.specs.declared.elf.Ppc64Instruction.TheVariants.{Prefixed}
+use Rattle.linker_utils.specs.declared.aarch64.forms.AArch64Instruction.{AArch64Instruction}
+use Rattle.linker_utils.specs.declared.riscv64.forms.RiscVInstruction.{RiscVInstruction}
+use Rattle.linker_utils.specs.declared.loongarch64.forms.LoongArch64Instruction.{LoongArch64Instruction}
+use Rattle.linker_utils.specs.declared.ppc64.forms.Ppc64Instruction.{Ppc64Instruction}
+use Rattle.linker_utils.specs.declared.aarch64.forms.AArch64Instruction.TheVariants.{Adr, Movkz, Movnz, Ldr}
+use Rattle.linker_utils.specs.declared.aarch64.forms.AArch64Instruction.TheVariants.{LdrRegister, Add, LdSt}
+use Rattle.linker_utils.specs.declared.aarch64.forms.AArch64Instruction.TheVariants.{TstBr, Bcond, JumpCall}
+use Rattle.linker_utils.specs.declared.aarch64.forms.AArch64Instruction.TheVariants.{MachOLow12}
+use Rattle.linker_utils.specs.declared.riscv64.forms.RiscVInstruction.TheVariants.{UType, IType, SType}
+use Rattle.linker_utils.specs.declared.riscv64.forms.RiscVInstruction.TheVariants.{BType, JType, CbType}
+use Rattle.linker_utils.specs.declared.riscv64.forms.RiscVInstruction.TheVariants.{CjType, CluiType, UiType}
+use Rattle.linker_utils.specs.declared.loongarch64.forms.LoongArch64Instruction.TheVariants.{Shift5, Shift10}
+use Rattle.linker_utils.specs.declared.loongarch64.forms.LoongArch64Instruction.TheVariants.{Branch26, Branch21}
+use Rattle.linker_utils.specs.declared.loongarch64.forms.LoongArch64Instruction.TheVariants.{Call30, Call36}
+use Rattle.linker_utils.specs.declared.ppc64.forms.Ppc64Instruction.TheVariants.{D, Ds, Branch14, Branch24}
+use Rattle.linker_utils.specs.declared.ppc64.forms.Ppc64Instruction.TheVariants.{Prefixed}
 
 abbrev pub kind_number : RelocationKind → ℕ
 kind_number kinds.None = 0

@@ -4,9 +4,9 @@ use Rattle.std.specs.Prelude.{slice_index_or, take, pos, ◌+ℤ◌, ⊤}
 use Rattle.linker_base.specs.Deletions.{IsSelected, rank}
 use Rattle.linker_utils.specs.RiscV.{riscv_form, word_at, IsEven, IsJalDistance, IsSiteKept}
 use Rattle.linker_utils.specs.RiscV.{output_distance, call_len, NamesRegister, link_register, IsJal}
-use Rattle.linker_utils.specs.declared.elf.RiscVInstruction.TheVariants.{JType}
-use Rattle.linker_utils.specs.declared.relaxation.packing.PackError.{PackError}
-use Rattle.linker_utils.specs.declared.relaxation.packing.PackError.TheVariants.{OutOfMemory, Call as RejectedCall}
+use Rattle.linker_utils.specs.declared.riscv64.forms.RiscVInstruction.TheVariants.{JType}
+use Rattle.linker_utils.specs.declared.riscv64.packing.PackError.{PackError}
+use Rattle.linker_utils.specs.declared.riscv64.packing.PackError.TheVariants.{OutOfMemory, Call as RejectedCall}
 use Rattle.linker_utils.specs.declared.riscv64.calls.LinkRegister.{LinkRegister}
 use Rattle.linker_utils.specs.declared.riscv64.calls.LinkRegister.TheVariants.{OfAuipc}
 use Rattle.linker_utils.specs.declared.riscv64.calls.CallError.TheVariants.{OutOfSection}

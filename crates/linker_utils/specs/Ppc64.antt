@@ -9,11 +9,11 @@ use Rattle.linker_base.specs.Form.{unsigned, twos_complement, modulo, IsSameModu
 use Rattle.linker_base.specs.Rewrite.{Rewrite}
 use Rattle.linker_base.specs.declared.relaxation.RelocationModifier.{RelocationModifier}
 use Rattle.linker_base.specs.declared.relaxation.RelocationModifier.TheVariants.{Normal}
-use Rattle.linker_utils.specs.declared.elf.Ppc64Instruction.{Ppc64Instruction}
-use Rattle.linker_utils.specs.declared.elf.Ppc64Instruction.TheVariants.{D, Ds, Branch14, Branch24}
-use Rattle.linker_utils.specs.declared.elf.Ppc64Instruction.TheVariants.{Prefixed}
-use Rattle.linker_utils.specs.declared.ppc64.RelaxationKind.{RelaxationKind}
-use Rattle.linker_utils.specs.declared.ppc64.RelaxationKind.TheVariants.{NoOp}
+use Rattle.linker_utils.specs.declared.ppc64.forms.Ppc64Instruction.{Ppc64Instruction}
+use Rattle.linker_utils.specs.declared.ppc64.forms.Ppc64Instruction.TheVariants.{D, Ds, Branch14, Branch24}
+use Rattle.linker_utils.specs.declared.ppc64.forms.Ppc64Instruction.TheVariants.{Prefixed}
+use Rattle.linker_utils.specs.declared.ppc64.rewrites.RelaxationKind.{RelaxationKind}
+use Rattle.linker_utils.specs.declared.ppc64.rewrites.RelaxationKind.TheVariants.{NoOp}
 
 -- a displacement of n bits, of which those from bit `low` up stand at places
 abbrev pub displacement_at : Width → ℕ → ℕ → List ImmediateBit → Layout

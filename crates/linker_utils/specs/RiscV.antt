@@ -15,10 +15,10 @@ use Rattle.linker_base.specs.Rewrite.{Rewrite, replaces}
 use Rattle.linker_base.specs.declared.relaxation.RelocationModifier.{RelocationModifier}
 use Rattle.linker_base.specs.declared.relaxation.RelocationModifier.TheVariants.{Normal}
 use Rattle.linker_base.specs.declared.relaxation.RelocationModifier.TheVariants.{SkipNextRelocation}
-use Rattle.linker_utils.specs.declared.elf.RiscVInstruction.{RiscVInstruction}
-use Rattle.linker_utils.specs.declared.elf.RiscVInstruction.TheVariants.{UType, IType, SType, BType}
-use Rattle.linker_utils.specs.declared.elf.RiscVInstruction.TheVariants.{JType, CbType, CjType}
-use Rattle.linker_utils.specs.declared.elf.RiscVInstruction.TheVariants.{CluiType, UiType}
+use Rattle.linker_utils.specs.declared.riscv64.forms.RiscVInstruction.{RiscVInstruction}
+use Rattle.linker_utils.specs.declared.riscv64.forms.RiscVInstruction.TheVariants.{UType, IType, SType, BType}
+use Rattle.linker_utils.specs.declared.riscv64.forms.RiscVInstruction.TheVariants.{JType, CbType, CjType}
+use Rattle.linker_utils.specs.declared.riscv64.forms.RiscVInstruction.TheVariants.{CluiType, UiType}
 use Rattle.linker_utils.specs.declared.riscv64.calls.LinkRegister.{LinkRegister}
 use Rattle.linker_utils.specs.declared.riscv64.calls.LinkRegister.TheVariants.{OfAuipc, OfJalr}
 use Rattle.linker_utils.specs.declared.riscv64.rewrites.RelaxationKind.{RelaxationKind}

@@ -9,24 +9,24 @@ use Rattle.linker_base.specs.Rewrite.{Rewrite, replaces}
 use Rattle.linker_base.specs.declared.relaxation.RelocationModifier.{RelocationModifier}
 use Rattle.linker_base.specs.declared.relaxation.RelocationModifier.TheVariants.{Normal}
 use Rattle.linker_base.specs.declared.relaxation.RelocationModifier.TheVariants.{SkipNextRelocation}
-use Rattle.linker_utils.specs.declared.x86_64.RelaxationKind.{RelaxationKind}
-use Rattle.linker_utils.specs.declared.x86_64.RelaxationKind.TheVariants.{MovIndirectToLea}
-use Rattle.linker_utils.specs.declared.x86_64.RelaxationKind.TheVariants.{MovIndirectToAbsolute}
-use Rattle.linker_utils.specs.declared.x86_64.RelaxationKind.TheVariants.{RexMovIndirectToAbsolute}
-use Rattle.linker_utils.specs.declared.x86_64.RelaxationKind.TheVariants.{RexAddIndirectToAbsolute}
-use Rattle.linker_utils.specs.declared.x86_64.RelaxationKind.TheVariants.{RexSubIndirectToAbsolute}
-use Rattle.linker_utils.specs.declared.x86_64.RelaxationKind.TheVariants.{RexCmpIndirectToAbsolute}
-use Rattle.linker_utils.specs.declared.x86_64.RelaxationKind.TheVariants.{CallIndirectToRelative}
-use Rattle.linker_utils.specs.declared.x86_64.RelaxationKind.TheVariants.{JmpIndirectToRelative}
-use Rattle.linker_utils.specs.declared.x86_64.RelaxationKind.TheVariants.{NoOp, TlsGdToLocalExec}
-use Rattle.linker_utils.specs.declared.x86_64.RelaxationKind.TheVariants.{TlsGdToLocalExecLarge}
-use Rattle.linker_utils.specs.declared.x86_64.RelaxationKind.TheVariants.{TlsLdToLocalExec}
-use Rattle.linker_utils.specs.declared.x86_64.RelaxationKind.TheVariants.{TlsLdToLocalExecNoPlt}
-use Rattle.linker_utils.specs.declared.x86_64.RelaxationKind.TheVariants.{TlsLdToLocalExec64}
-use Rattle.linker_utils.specs.declared.x86_64.RelaxationKind.TheVariants.{TlsGdToInitialExec}
-use Rattle.linker_utils.specs.declared.x86_64.RelaxationKind.TheVariants.{TlsDescToLocalExec}
-use Rattle.linker_utils.specs.declared.x86_64.RelaxationKind.TheVariants.{TlsDescToInitialExec}
-use Rattle.linker_utils.specs.declared.x86_64.RelaxationKind.TheVariants.{SkipTlsDescCall}
+use Rattle.linker_utils.specs.declared.x86_64.rewrites.RelaxationKind.{RelaxationKind}
+use Rattle.linker_utils.specs.declared.x86_64.rewrites.RelaxationKind.TheVariants.{MovIndirectToLea}
+use Rattle.linker_utils.specs.declared.x86_64.rewrites.RelaxationKind.TheVariants.{MovIndirectToAbsolute}
+use Rattle.linker_utils.specs.declared.x86_64.rewrites.RelaxationKind.TheVariants.{RexMovIndirectToAbsolute}
+use Rattle.linker_utils.specs.declared.x86_64.rewrites.RelaxationKind.TheVariants.{RexAddIndirectToAbsolute}
+use Rattle.linker_utils.specs.declared.x86_64.rewrites.RelaxationKind.TheVariants.{RexSubIndirectToAbsolute}
+use Rattle.linker_utils.specs.declared.x86_64.rewrites.RelaxationKind.TheVariants.{RexCmpIndirectToAbsolute}
+use Rattle.linker_utils.specs.declared.x86_64.rewrites.RelaxationKind.TheVariants.{CallIndirectToRelative}
+use Rattle.linker_utils.specs.declared.x86_64.rewrites.RelaxationKind.TheVariants.{JmpIndirectToRelative}
+use Rattle.linker_utils.specs.declared.x86_64.rewrites.RelaxationKind.TheVariants.{NoOp, TlsGdToLocalExec}
+use Rattle.linker_utils.specs.declared.x86_64.rewrites.RelaxationKind.TheVariants.{TlsGdToLocalExecLarge}
+use Rattle.linker_utils.specs.declared.x86_64.rewrites.RelaxationKind.TheVariants.{TlsLdToLocalExec}
+use Rattle.linker_utils.specs.declared.x86_64.rewrites.RelaxationKind.TheVariants.{TlsLdToLocalExecNoPlt}
+use Rattle.linker_utils.specs.declared.x86_64.rewrites.RelaxationKind.TheVariants.{TlsLdToLocalExec64}
+use Rattle.linker_utils.specs.declared.x86_64.rewrites.RelaxationKind.TheVariants.{TlsGdToInitialExec}
+use Rattle.linker_utils.specs.declared.x86_64.rewrites.RelaxationKind.TheVariants.{TlsDescToLocalExec}
+use Rattle.linker_utils.specs.declared.x86_64.rewrites.RelaxationKind.TheVariants.{TlsDescToInitialExec}
+use Rattle.linker_utils.specs.declared.x86_64.rewrites.RelaxationKind.TheVariants.{SkipTlsDescCall}
 
 -- R (bit 2) of a REX byte moves to B (bit 0)
 abbrev pub rex : ℕ → ℕ

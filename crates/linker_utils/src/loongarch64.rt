@@ -6,6 +6,7 @@ mod relocations;
 mod rewrites;
 mod sequences;
 
+pub use forms::LoongArch64Instruction;
 pub use relocations::{
     LoongArch64Relocation, prepared_row, relocation_numbers, relocation_type_from_raw,
 };

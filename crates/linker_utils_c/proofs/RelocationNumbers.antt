@@ -2,14 +2,14 @@
 use Rattle.std.proofs.Common.{◌≡◌, ℕ, ℤ, refl, sym, subst, ap, unwrap_or, Option, Some, None, Ok}
 use Rattle.std.proofs.lemmas.Option.{none-some}
 use Rattle.linker_utils.specs.Numbers.{numbers_of, in_numbers, form_number, form_machine}
-use Rattle.linker_utils.specs.declared.elf.AArch64Instruction.{AArch64Instruction}
-use Rattle.linker_utils.specs.declared.elf.AArch64Instruction.TheVariants.{Adr}
-use Rattle.linker_utils.specs.declared.elf.RiscVInstruction.{RiscVInstruction}
-use Rattle.linker_utils.specs.declared.elf.RiscVInstruction.TheVariants.{UType}
-use Rattle.linker_utils.specs.declared.elf.LoongArch64Instruction.{LoongArch64Instruction}
-use Rattle.linker_utils.specs.declared.elf.LoongArch64Instruction.TheVariants.{Shift5}
-use Rattle.linker_utils.specs.declared.elf.Ppc64Instruction.{Ppc64Instruction}
-use Rattle.linker_utils.specs.declared.elf.Ppc64Instruction.TheVariants.{D}
+use Rattle.linker_utils.specs.declared.aarch64.forms.AArch64Instruction.{AArch64Instruction}
+use Rattle.linker_utils.specs.declared.aarch64.forms.AArch64Instruction.TheVariants.{Adr}
+use Rattle.linker_utils.specs.declared.riscv64.forms.RiscVInstruction.{RiscVInstruction}
+use Rattle.linker_utils.specs.declared.riscv64.forms.RiscVInstruction.TheVariants.{UType}
+use Rattle.linker_utils.specs.declared.loongarch64.forms.LoongArch64Instruction.{LoongArch64Instruction}
+use Rattle.linker_utils.specs.declared.loongarch64.forms.LoongArch64Instruction.TheVariants.{Shift5}
+use Rattle.linker_utils.specs.declared.ppc64.forms.Ppc64Instruction.{Ppc64Instruction}
+use Rattle.linker_utils.specs.declared.ppc64.forms.Ppc64Instruction.TheVariants.{D}
 use Rattle.linker_utils.specs.declared.elf.RelocationInstruction.{RelocationInstruction}
 use Rattle.linker_utils.specs.declared.elf.RelocationInstruction.TheVariants.{AArch64, RiscV, LoongArch64, Ppc64}
 use Rattle.linker_utils.specs.declared.elf.RelocationKindInfo.{RelocationKindInfo}

@@ -8,16 +8,16 @@ use Rattle.linker_base.specs.declared.relaxation.RelocationModifier.TheVariants.
 use Rattle.linker_utils.specs.Elf.{architecture_of}
 use Rattle.linker_utils.specs.declared.elf.Architecture.{Architecture}
 use Rattle.linker_utils.specs.declared.elf.Architecture.TheVariants as architectures
-use Rattle.linker_utils.specs.declared.aarch64.RelaxationKind.{RelaxationKind as AArch64Kind}
-use Rattle.linker_utils.specs.declared.aarch64.RelaxationKind.TheVariants as aarch64_kinds
+use Rattle.linker_utils.specs.declared.aarch64.rewrites.RelaxationKind.{RelaxationKind as AArch64Kind}
+use Rattle.linker_utils.specs.declared.aarch64.rewrites.RelaxationKind.TheVariants as aarch64_kinds
 use Rattle.linker_utils.specs.declared.riscv64.rewrites.RelaxationKind.{RelaxationKind as RiscVKind}
 use Rattle.linker_utils.specs.declared.riscv64.rewrites.RelaxationKind.TheVariants as riscv_kinds
 use Rattle.linker_utils.specs.declared.loongarch64.rewrites.RelaxationKind.{RelaxationKind as LoongArch64Kind}
 use Rattle.linker_utils.specs.declared.loongarch64.rewrites.RelaxationKind.TheVariants as loongarch64_kinds
-use Rattle.linker_utils.specs.declared.ppc64.RelaxationKind.{RelaxationKind as Ppc64Kind}
-use Rattle.linker_utils.specs.declared.ppc64.RelaxationKind.TheVariants as ppc64_kinds
-use Rattle.linker_utils.specs.declared.x86_64.RelaxationKind.{RelaxationKind as X86_64Kind}
-use Rattle.linker_utils.specs.declared.x86_64.RelaxationKind.TheVariants as x86_64_kinds
+use Rattle.linker_utils.specs.declared.ppc64.rewrites.RelaxationKind.{RelaxationKind as Ppc64Kind}
+use Rattle.linker_utils.specs.declared.ppc64.rewrites.RelaxationKind.TheVariants as ppc64_kinds
+use Rattle.linker_utils.specs.declared.x86_64.rewrites.RelaxationKind.{RelaxationKind as X86_64Kind}
+use Rattle.linker_utils.specs.declared.x86_64.rewrites.RelaxationKind.TheVariants as x86_64_kinds
 use Rattle.linker_utils.specs.AArch64.{aarch64_rewrite, aarch64_modifier}
 use Rattle.linker_utils.specs.RiscV.{riscv_rewrite, riscv_modifier}
 use Rattle.linker_utils.specs.LoongArch.{loongarch_rewrite, loongarch_modifier}

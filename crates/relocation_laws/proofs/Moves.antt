@@ -17,7 +17,7 @@ use Rattle.linker_utils.specs.Elf.{IsWithin}
 use Rattle.linker_utils.specs.Reach.{reach_of}
 use Rattle.linker_utils.specs.Relocate.{MoveReads}
 use Rattle.linker_utils.specs.Value.{value_of, sum_64}
-use Rattle.linker_utils.specs.declared.elf.AArch64Instruction.TheVariants.{Movkz, Movnz}
+use Rattle.linker_utils.specs.declared.aarch64.forms.AArch64Instruction.TheVariants.{Movkz, Movnz}
 use Rattle.linker_utils.specs.declared.elf.AllowedRange.{AllowedRange}
 use Rattle.linker_utils.specs.declared.elf.PageMask.{PageMask}
 use Rattle.linker_utils.specs.declared.elf.RelocationInstruction.TheVariants.{AArch64}

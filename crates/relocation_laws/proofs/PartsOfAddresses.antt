@@ -18,8 +18,8 @@ use Rattle.linker_utils.specs.LoongArch.{upper_and_lower_value, reach}
 use Rattle.linker_utils.specs.Value.{value_of, sum_64, difference_64}
 use Rattle.linker_utils.specs.declared.elf.AllowedRange.{AllowedRange}
 use Rattle.linker_utils.specs.declared.elf.PageMask.{PageMask}
-use Rattle.linker_utils.specs.declared.elf.LoongArch64Instruction.TheVariants.{Shift5, Shift10}
-use Rattle.linker_utils.specs.declared.elf.LoongArch64Instruction.TheVariants.{Call36}
+use Rattle.linker_utils.specs.declared.loongarch64.forms.LoongArch64Instruction.TheVariants.{Shift5, Shift10}
+use Rattle.linker_utils.specs.declared.loongarch64.forms.LoongArch64Instruction.TheVariants.{Call36}
 use Rattle.linker_utils.specs.declared.elf.RelocationInstruction.TheVariants.{LoongArch64}
 use Rattle.linker_utils.specs.declared.elf.RelocationKind.{RelocationKind}
 use Rattle.linker_utils.specs.declared.elf.Sign.TheVariants.{Signed}

@@ -15,8 +15,8 @@ use Rattle.linker_utils.specs.declared.elf.PageMask.{PageMask}
 use Rattle.linker_utils.specs.declared.elf.RelocationInstruction.TheVariants.{RiscV}
 use Rattle.linker_utils.specs.declared.elf.RelocationKind.{RelocationKind}
 use Rattle.linker_utils.specs.declared.elf.RelocationSize.TheVariants.{BitMasking}
-use Rattle.linker_utils.specs.declared.elf.RiscVInstruction.{RiscVInstruction}
-use Rattle.linker_utils.specs.declared.elf.RiscVInstruction.TheVariants.{UiType}
+use Rattle.linker_utils.specs.declared.riscv64.forms.RiscVInstruction.{RiscVInstruction}
+use Rattle.linker_utils.specs.declared.riscv64.forms.RiscVInstruction.TheVariants.{UiType}
 use Rattle.linker_utils.specs.declared.elf.value.Operands.{Operands}
 use Rattle.relocation_laws.specs.RiscVLaws.{without_bit_0, even}
 use Rattle.relocation_laws.specs.Schemes.{IsApplied, IsAddress, AreAddresses, place}

@@ -5,10 +5,10 @@ use Rattle.std.specs.Int.{bit_at, int_rem_euclid}
 use Rattle.linker_utils.specs.AArch64.{aarch64_form, shift_of}
 use Rattle.linker_utils.specs.AArch64Rows.{aarch64_row}
 use Rattle.linker_utils.specs.LoongArch.{page}
-use Rattle.linker_utils.specs.declared.elf.AArch64Instruction.{AArch64Instruction}
-use Rattle.linker_utils.specs.declared.elf.AArch64Instruction.TheVariants.{Adr, Ldr, LdrRegister}
-use Rattle.linker_utils.specs.declared.elf.AArch64Instruction.TheVariants.{Add, LdSt, TstBr, Bcond}
-use Rattle.linker_utils.specs.declared.elf.AArch64Instruction.TheVariants.{JumpCall, Movkz, Movnz}
+use Rattle.linker_utils.specs.declared.aarch64.forms.AArch64Instruction.{AArch64Instruction}
+use Rattle.linker_utils.specs.declared.aarch64.forms.AArch64Instruction.TheVariants.{Adr, Ldr, LdrRegister}
+use Rattle.linker_utils.specs.declared.aarch64.forms.AArch64Instruction.TheVariants.{Add, LdSt, TstBr, Bcond}
+use Rattle.linker_utils.specs.declared.aarch64.forms.AArch64Instruction.TheVariants.{JumpCall, Movkz, Movnz}
 use Rattle.linker_utils.specs.declared.elf.Sign.TheVariants.{Signed}
 use Rattle.linker_utils.specs.declared.elf.value.Operands.{Operands}
 use Rattle.linker_utils.specs.declared.aarch64.relocations.AArch64Relocation.{AArch64Relocation}

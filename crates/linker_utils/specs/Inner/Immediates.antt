@@ -2,18 +2,18 @@
 use Rattle.std.specs.Prelude.{ℕ, ◌-◌, ◌*◌, ◌^◌, Bool, true, false, List}
 use Rattle.linker_base.specs.Form.{ImmediateBit}
 use Rattle.linker_utils.specs.LoongArch.{loongarch_form, shift10_low}
-use Rattle.linker_utils.specs.declared.aarch64.Immediate.{Immediate}
+use Rattle.linker_utils.specs.declared.aarch64.forms.Immediate.{Immediate}
 use Rattle.linker_utils.specs.declared.loongarch64.forms.WordBits.{WordBits}
 use Rattle.linker_utils.specs.declared.riscv64.forms.WordBits as riscv
-use Rattle.linker_utils.specs.declared.elf.RiscVInstruction.{RiscVInstruction}
-use Rattle.linker_utils.specs.declared.elf.RiscVInstruction.TheVariants.{UType, IType, SType}
-use Rattle.linker_utils.specs.declared.elf.LoongArch64Instruction.{LoongArch64Instruction}
-use Rattle.linker_utils.specs.declared.elf.LoongArch64Instruction.TheVariants.{Shift5, Shift10, Branch26, Branch21, Call30, Call36}
-use Rattle.linker_utils.specs.declared.elf.AArch64Instruction.{AArch64Instruction}
-use Rattle.linker_utils.specs.declared.elf.AArch64Instruction.TheVariants.{Adr, Movkz, Movnz, Ldr}
-use Rattle.linker_utils.specs.declared.elf.AArch64Instruction.TheVariants.{LdrRegister}
-use Rattle.linker_utils.specs.declared.elf.AArch64Instruction.TheVariants.{Add, LdSt, TstBr, Bcond}
-use Rattle.linker_utils.specs.declared.elf.AArch64Instruction.TheVariants.{JumpCall, MachOLow12}
+use Rattle.linker_utils.specs.declared.riscv64.forms.RiscVInstruction.{RiscVInstruction}
+use Rattle.linker_utils.specs.declared.riscv64.forms.RiscVInstruction.TheVariants.{UType, IType, SType}
+use Rattle.linker_utils.specs.declared.loongarch64.forms.LoongArch64Instruction.{LoongArch64Instruction}
+use Rattle.linker_utils.specs.declared.loongarch64.forms.LoongArch64Instruction.TheVariants.{Shift5, Shift10, Branch26, Branch21, Call30, Call36}
+use Rattle.linker_utils.specs.declared.aarch64.forms.AArch64Instruction.{AArch64Instruction}
+use Rattle.linker_utils.specs.declared.aarch64.forms.AArch64Instruction.TheVariants.{Adr, Movkz, Movnz, Ldr}
+use Rattle.linker_utils.specs.declared.aarch64.forms.AArch64Instruction.TheVariants.{LdrRegister}
+use Rattle.linker_utils.specs.declared.aarch64.forms.AArch64Instruction.TheVariants.{Add, LdSt, TstBr, Bcond}
+use Rattle.linker_utils.specs.declared.aarch64.forms.AArch64Instruction.TheVariants.{JumpCall, MachOLow12}
 
 -- the value's bits are ORed to the instruction, and nothing else is written
 abbrev pub is_ored_alone : AArch64Instruction → Bool

@@ -4,7 +4,7 @@ use Rattle.std.specs.Prelude.{slice_index_or}
 use Rattle.linker_base.specs.Deletions.{is_kept, rank}
 use Rattle.linker_utils.specs.RiscV.{word_at, output_distance, link_register, IsJal}
 use Rattle.linker_utils.specs.Packing.{IsApart, CanJump, IsNotAt}
-use Rattle.linker_utils.specs.declared.relaxation.packing.Jump.{Jump}
+use Rattle.linker_utils.specs.declared.riscv64.packing.Jump.{Jump}
 use Rattle.linker_utils.specs.declared.riscv64.calls.LinkRegister.{LinkRegister}
 
 -- the kept bytes below an offset stand where they go

@@ -3,7 +3,7 @@ use Rattle.std.specs.Prelude.{◌≡◌, ℕ, ◌+◌, ◌-◌, ◌*◌, ◌<◌
 use Rattle.std.specs.Prelude.{count_by, drop, length, map, slice_index_or, take, nat_le}
 use Rattle.std.specs.Prelude.{if◌then◌else◌, ℤ, pos, ◌-ℤ◌}
 use Rattle.linker_base.specs.Deletions.{AreDisjoint, AreKept, IsInsideDeletion}
-use Rattle.linker_utils.specs.declared.relaxation.shrinking.Runs.{Runs}
+use Rattle.linker_utils.specs.declared.riscv64.shrinking.Runs.{Runs}
 use Rattle.linker_utils.specs.Shrinking.{shrinking, with_chosen, IsInReach, AreInReach, IsPartOf}
 
 -- how many calls a choice has

@@ -7,7 +7,7 @@ use Rattle.linker_utils.specs.declared.aarch64.relocations.AArch64Relocation.The
 use Rattle.linker_utils.proofs.RowsAgree.{aarch64_rows}
 use Rattle.relocation_laws.specs.Schemes.{AreAddresses, none, symbol_address, place}
 use Rattle.linker_utils.specs.Elf.{bit_bounds}
-use Rattle.linker_utils.specs.declared.elf.AArch64Instruction.TheVariants.{Add, LdSt, LdrRegister}
+use Rattle.linker_utils.specs.declared.aarch64.forms.AArch64Instruction.TheVariants.{Add, LdSt, LdrRegister}
 use Rattle.linker_utils.specs.declared.elf.Sign.TheVariants.{Signed}
 use Rattle.relocation_laws.proofs.Fields.{holds_distance}
 use Rattle.relocation_laws.proofs.Instructions.{entry_and_addend_from_place, symbol_from_got}

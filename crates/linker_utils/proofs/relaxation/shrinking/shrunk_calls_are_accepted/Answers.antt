@@ -1,5 +1,0 @@
-use Rattle.linker_utils.proofs.Shrinking.{accepted}
-use Rattle.linker_utils.proofs.relaxation.shrinking.shrunk_calls_are_accepted.Goals as goal
-
-pub returns : goal.returns
-returns c = accepted

@@ -1,0 +1,384 @@
+//! The kept bytes of a section, with its calls made jumps.
+
+ghost use Rattle.std.specs.Prelude.{◌≡◌, ◌≤◌, ◌<◌, ◌+◌, ◌-◌, ◌^◌, ◌++◌, ◌↔◌, ℕ, min, map, take};
+ghost use Rattle.std.specs.Prelude.{drop, length, All, IsTrue, IsOk, IfOk, IfErr, OnOk, OnErr};
+ghost use Rattle.std.specs.Prelude.{MatchOption};
+ghost use Rattle.linker_base.specs.Deletions.{rank};
+ghost use Rattle.linker_base.specs.Deltas.{deletions_of};
+ghost use Rattle.linker_base.specs.Listed.{AreValidDeltas};
+ghost use Rattle.linker_utils.specs.Inner.Packing.{IsFilled, IsPackedTo, IsJumpOf};
+ghost use Rattle.linker_utils.specs.Packing.{AreApart, IsFirstNotApart, CanJump, IsRejected};
+ghost use Rattle.linker_utils.specs.Packing.{IsFirstRejected, IsFirstFailing, IsPacked};
+ghost use Rattle.linker_utils.specs.Packing.{PackedCallsReachTargets};
+ghost use Rattle.linker_utils.specs.RiscV.{IsEven, IsJalDistance, IsSiteKept, JumpsAndLinks};
+ghost use Rattle.linker_utils.specs.RiscV.{call_len, link_register, output_distance};
+
+use super::calls::{
+    CallError, JumpError, LinkRegister, distance_between, distance_fits_jal, is_even, jal_site,
+};
+use crate::relaxation::{DeltaSlice, RelaxDelta, SectionRelaxDeltas};
+use crate::rewrite::{has_window, overwrite};
+use std::alloc::{AllocError, AllocFailed, Global};
+
+/// A call in a section: a pair of its site and its target, or a caller's own struct.
+pub trait AsCall: Copy {
+    /// The call as a pair, in a contract.
+    ghost call: { Self → ℕ × ℕ };
+
+    /// The offsets of the call's first instruction and of what it calls.
+    fn as_call(self) -> (u64, u64)
+        ensures { result ≡ call self };
+}
+
+impl AsCall for (u64, u64) {
+    ghost call = { λ c. c };
+
+    #[inline(always)]
+    fn as_call(self) -> (u64, u64) {
+        self
+    }
+}
+
+/// The first of some calls that can't become a jump.
+#[derive(Debug, Clone, Copy, PartialEq, Eq)]
+pub struct RejectedCall {
+    /// Its index among the calls.
+    pub index: usize,
+    /// Why it can't.
+    pub error: JumpError,
+}
+
+/// Why a section isn't packed.
+#[derive(Debug, Clone, Copy, PartialEq, Eq)]
+pub enum PackError {
+    /// Out of memory for the packed section.
+    OutOfMemory,
+    /// The first call that can't become a jump.
+    Call {
+        /// Its index among the calls.
+        index: usize,
+        /// Why it can't.
+        error: CallError,
+    },
+}
+
+impl From<AllocError> for PackError {
+    ghost use Rattle.linker_utils.specs.declared.riscv64.packing.PackError.TheVariants.{OutOfMemory};
+
+    ghost from_gives = { λ _ e. e ≡ OutOfMemory };
+
+    fn from(_error: AllocError) -> PackError {
+        PackError::OutOfMemory
+    }
+}
+
+impl<T: Drop> From<AllocFailed<T>> for PackError {
+    ghost use Rattle.linker_utils.specs.declared.riscv64.packing.PackError.TheVariants.{OutOfMemory};
+
+    ghost from_gives = { λ _ e. e ≡ OutOfMemory };
+
+    fn from(_error: AllocFailed<T>) -> PackError {
+        PackError::OutOfMemory
+    }
+}
+
+/// The output offset of an input offset.
+#[inline(always)]
+pub(super) fn output_offset(deltas: &[RelaxDelta], input_offset: u64) -> u64
+    ensures { AreValidDeltas deltas.now → result ≡ rank (deletions_of deltas.now) input_offset }
+{
+    DeltaSlice::new(deltas).input_to_output_offset(input_offset)
+}
+
+/// The output offset of the four bytes at a site, or none where one of them is deleted.
+#[inline(always)]
+fn site_output_offset(deltas: &[RelaxDelta], site: u64) -> Option<u64>
+    requires { site + 4 < 2 ^ 64 }
+    ensures { AreValidDeltas deltas.now
+        → MatchOption result (¬ IsSiteKept (deletions_of deltas.now) site)
+        (λ output. IsSiteKept (deletions_of deltas.now) site
+        × (output ≡ rank (deletions_of deltas.now) site)) }
+{
+    DeltaSlice::new(deltas).kept_output_offset(site, 4)
+}
+
+/// The index of the first call whose site is less than 4 above the site before it. None where the
+/// sites ascend by at least 4.
+#[inline]
+pub fn first_not_apart<C: AsCall>(calls: &[C]) -> Option<usize>
+    ensures { MatchOption result (AreApart (map C.call calls.now))
+        (IsFirstNotApart (map C.call calls.now)) }
+{
+    for at in 1..calls.len() {
+        let (before, _) = calls[at - 1].as_call();
+        let (site, _) = calls[at].as_call();
+        if site.saturating_sub(before) < 4 {
+            return Some(at);
+        }
+    }
+    None
+}
+
+/// Whether the sites of calls, each a site and a target, ascend by at least 4.
+pub fn calls_apart(calls: &[(u64, u64)]) -> bool
+    ensures { IsTrue result ↔ AreApart calls.now }
+{
+    first_not_apart(calls).is_none()
+}
+
+/// The bytes of a section from an offset up to another, as far as they lie in the section.
+#[inline(always)]
+fn between(section: &[u8], from: u64, to: u64) -> &[u8]
+    ensures { result.now
+        ≡ take (min to (length section.now) - min from (length section.now))
+        (drop (min from (length section.now)) section.now) }
+{
+    let len = section.len();
+    let start = (from.min(len as u64)) as usize;
+    let end = (to.min(len as u64)) as usize;
+    if start < end {
+        &section[start..end]
+    } else {
+        &[]
+    }
+}
+
+/// Puts bytes at an offset of the packed section, as far as they fit there, and returns the offset
+/// behind them.
+#[inline(always)]
+fn put(packed: &mut [u8], at: usize, bytes: &[u8]) -> usize
+    requires { at ≤ length packed.old }
+    ensures bytes { packed.new
+        ≡ take at packed.old ++ take (length packed.old - at) bytes.now
+        ++ drop (at + length bytes.now) packed.old }
+    ensures end { result ≡ at + min (length bytes.now) (length packed.old - at) }
+{
+    let len = bytes.len().min(packed.len() - at);
+    packed[at..at + len].copy_from_slice(&bytes[..len]);
+    at + len
+}
+
+/// Copies the kept bytes of a section.
+fn copy_kept(section: &[u8], deltas: &[RelaxDelta], packed: &mut [u8])
+    ensures { AreValidDeltas deltas.now
+        → length packed.old ≡ rank (deletions_of deltas.now) (length section.now)
+        → IsFilled (deletions_of deltas.now) section.now (length section.now) packed.new }
+{
+    let mut from = 0;
+    let mut at = 0;
+    for delta in deltas {
+        at = put(packed, at, between(section, from, delta.input_offset));
+        from = delta
+            .input_offset
+            .saturating_add(u64::from(delta.bytes_deleted));
+    }
+    let _end = put(packed, at, between(section, from, section.len() as u64));
+}
+
+/// Where the jump of a call goes in the packed section, and how far it jumps.
+#[derive(Clone, Copy)]
+struct Jump {
+    at: u64,
+    distance: i64,
+}
+
+/// The jump that a call becomes, or why it can't.
+fn jump_of(
+    section: &[u8],
+    deltas: &[RelaxDelta],
+    site: u64,
+    target: u64,
+    link: LinkRegister,
+) -> Result<Jump, JumpError>
+    ensures inside { OnOk result (site + call_len link ≤ length section.now) }
+    ensures ok { AreValidDeltas deltas.now
+        → IfOk result (IsJumpOf link (deletions_of deltas.now) section.now (site, target)) }
+    ensures err { AreValidDeltas deltas.now
+        → IfErr result (IsRejected link (deletions_of deltas.now) section.now (site, target)) }
+{
+    if !has_window(section, site, 0, link.call_len()) || target > section.len() as u64 {
+        return Err(JumpError::Call(CallError::OutOfSection));
+    }
+    let Some(at) = site_output_offset(deltas, site) else {
+        return Err(JumpError::Call(CallError::SiteDeleted));
+    };
+    let Some(_register) = link.named_at(section, site) else {
+        return Err(JumpError::NotACall);
+    };
+    let distance = distance_between(at, output_offset(deltas, target));
+    if !is_even(distance) {
+        return Err(JumpError::Call(CallError::OddDistance));
+    }
+    if !distance_fits_jal(distance) {
+        return Err(JumpError::Call(CallError::TooFar));
+    }
+    Ok(Jump { at, distance })
+}
+
+/// Whether each call can become a jump; the error is that of the first that can't.
+fn test_calls<C: AsCall>(
+    section: &[u8],
+    deltas: &[RelaxDelta],
+    calls: &[C],
+    link: LinkRegister,
+) -> Result<(), RejectedCall>
+    ensures ok { AreValidDeltas deltas.now
+        → OnOk result (All (CanJump link (deletions_of deltas.now) section.now)
+        (map C.call calls.now)) }
+    ensures err { AreValidDeltas deltas.now
+        → IfErr result (λ rejected.
+        IsFirstRejected link (deletions_of deltas.now) section.now (map C.call calls.now)
+        rejected.index rejected.error) }
+{
+    for index in 0..calls.len() {
+        let (site, target) = calls[index].as_call();
+        if let Err(error) = jump_of(section, deltas, site, target, link) {
+            return Err(RejectedCall { index, error });
+        }
+    }
+    Ok(())
+}
+
+/// Puts a jump into the packed section, where four bytes are there.
+fn put_jump(section: &[u8], site: u64, link: LinkRegister, jump: Jump, packed: &mut [u8])
+    requires { site + call_len link ≤ length section.now }
+    ensures { jump.at + 4 ≤ length packed.old → IsEven jump.distance → IsJalDistance jump.distance
+        → JumpsAndLinks packed.old packed.new jump.at (link_register link section.now site)
+        jump.distance }
+{
+    if !has_window(packed, jump.at, 0, 4) {
+        return;
+    }
+    // `jal_site` links the register of the instruction that it replaces.
+    let start = (site + link.call_len() - 4) as usize;
+    overwrite(packed, jump.at, &section[start..start + 4]);
+    let _ = jal_site(packed, jump.at, jump.distance);
+}
+
+/// Puts the jump of a call into the packed section, where it can become one.
+fn put_call(
+    section: &[u8],
+    deltas: &[RelaxDelta],
+    site: u64,
+    target: u64,
+    link: LinkRegister,
+    packed: &mut [u8],
+)
+    ensures { AreValidDeltas deltas.now
+        → length packed.old ≡ rank (deletions_of deltas.now) (length section.now)
+        → CanJump link (deletions_of deltas.now) section.now (site, target)
+        → JumpsAndLinks packed.old packed.new (rank (deletions_of deltas.now) site)
+        (link_register link section.now site)
+        (output_distance (deletions_of deltas.now) site target) }
+{
+    if let Ok(jump) = jump_of(section, deltas, site, target, link) {
+        put_jump(section, site, link, jump, packed);
+    }
+}
+
+/// Puts the jumps of all calls into the packed section.
+fn put_calls<C: AsCall>(
+    section: &[u8],
+    deltas: &[RelaxDelta],
+    calls: &[C],
+    link: LinkRegister,
+    packed: &mut [u8],
+)
+    ensures { AreValidDeltas deltas.now
+        → length packed.old ≡ rank (deletions_of deltas.now) (length section.now)
+        → AreApart (map C.call calls.now)
+        → All (CanJump link (deletions_of deltas.now) section.now) (map C.call calls.now)
+        → IsFilled (deletions_of deltas.now) section.now (length section.now) packed.old
+        → IsPacked link (deletions_of deltas.now) section.now (map C.call calls.now) packed.new }
+{
+    for at in 0..calls.len() {
+        let (site, target) = calls[at].as_call();
+        put_call(section, deltas, site, target, link, packed);
+    }
+}
+
+/// How many bytes of a section are kept: as many as it takes when it is packed.
+#[inline]
+pub fn packed_len(section: &[u8], deltas: &[RelaxDelta]) -> usize
+    ensures { AreValidDeltas deltas.now
+        → result ≡ rank (deletions_of deltas.now) (length section.now) }
+{
+    output_offset(deltas, section.len() as u64) as usize
+}
+
+/// Packs a section into memory of the caller's: its kept bytes in order, and at each call's site,
+/// in place of the `auipc`, a `jal` to where the target goes, which links the register that is
+/// chosen. A deletion that reaches past the section's end deletes up to there, and one past it
+/// nothing.
+///
+/// Requires sites that ascend by at least 4 (`calls_apart`), and room for `packed_len` bytes. The
+/// deltas are as `SectionRelaxDeltas::deltas` lists them; of others nothing is promised but that
+/// the call is safe. The error tells the first call that can't become a jump, and nothing is
+/// written then. It takes O(section + deltas + calls log deltas).
+pub fn pack_into<C: AsCall>(
+    section: &[u8],
+    deltas: &[RelaxDelta],
+    calls: &[C],
+    link: LinkRegister,
+    out: &mut [u8],
+) -> Result<(), RejectedCall>
+    requires apart { AreApart (map C.call calls.now) }
+    requires room { AreValidDeltas deltas.now
+        → length out.old ≡ rank (deletions_of deltas.now) (length section.now) }
+    ensures packed { AreValidDeltas deltas.now
+        → OnOk result (IsPacked link (deletions_of deltas.now) section.now (map C.call calls.now)
+        out.new) }
+    ensures accepted { AreValidDeltas deltas.now
+        → OnOk result (All (CanJump link (deletions_of deltas.now) section.now)
+        (map C.call calls.now)) }
+    ensures rejected { AreValidDeltas deltas.now
+        → IfErr result (λ rejected.
+        IsFirstRejected link (deletions_of deltas.now) section.now (map C.call calls.now)
+        rejected.index rejected.error) }
+    ensures unchanged { OnErr result (out.new ≡ out.old) }
+{
+    test_calls(section, deltas, calls, link)?;
+    copy_kept(section, deltas, out);
+    put_calls(section, deltas, calls, link, out);
+    Ok(())
+}
+
+/// A section packed: its kept bytes in order, and at each call's site, in place of the `auipc`, a
+/// `jal` to where the target goes, with the `auipc`'s destination register.
+/// A deletion that reaches past the section's end deletes up to there, and one past it nothing.
+///
+/// Requires sites that ascend by at least 4 (`calls_apart`). It allocates once, before it looks
+/// at the calls, and O(section + deltas + calls log deltas). `pack_into` links the register of the
+/// `jalr`, which `tail f` and `call t0, f` need.
+pub fn pack_section(
+    alloc: Global,
+    section: &[u8],
+    deltas: &SectionRelaxDeltas,
+    calls: &[(u64, u64)],
+) -> Result<Vec<u8>, PackError>
+    requires { AreApart calls.now }
+    ensures packed { IfOk result
+        (λ packed. IsPacked LinkRegister.OfAuipc deltas.now section.now calls.now packed.items) }
+    ensures accepted { OnOk result
+        (All (CanJump LinkRegister.OfAuipc deltas.now section.now) calls.now) }
+    ensures rejected { IfErr result (IsFirstFailing deltas.now section.now calls.now) }
+{
+    let deltas = deltas.deltas();
+    let mut packed = vec![in alloc; 0; packed_len(section, deltas)]?;
+    match pack_into(section, deltas, calls, LinkRegister::OfAuipc, &mut packed) {
+        Ok(()) => Ok(packed),
+        Err(rejected) => match rejected.error {
+            JumpError::Call(error) => Err(PackError::Call {
+                index: rejected.index,
+                error,
+            }),
+            JumpError::NotACall => unreachable!(),
+        },
+    }
+}
+
+/// In a packed section each call that was listed is a jump from where its site goes to where its
+/// target goes.
+pub fn packed_calls_reach_targets()
+    ensures { PackedCallsReachTargets }
+{}
