@@ -21,7 +21,7 @@ use Rattle.linker_utils.specs.Relocate.{IsInUnits}
 use Rattle.linker_utils.specs.Relocate.{IsAligned, IsAccepted, CompletesHigh, RiscVHolds}
 use Rattle.linker_utils.specs.Relocate.{LoongArchHolds, Ppc64Holds, InstructionHolds, SizeHolds}
 use Rattle.linker_utils.specs.RiscV.{riscv_form, riscv_layout, riscv_places, ui_high, ui_low}
-use Rattle.linker_utils.specs.RiscVRows.{Bounds}
+use Rattle.linker_utils.specs.Rows.{Bounds}
 use Rattle.linker_utils.specs.declared.loongarch64.forms.LoongArch64Instruction.{LoongArch64Instruction}
 use Rattle.linker_utils.specs.declared.loongarch64.forms.LoongArch64Instruction.TheVariants.{Call36}
 use Rattle.linker_utils.specs.declared.ppc64.forms.Ppc64Instruction.{Ppc64Instruction}

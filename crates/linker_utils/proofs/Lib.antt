@@ -17,7 +17,7 @@ pub mod Placed
 pub mod RowTables
 pub mod Ppc64Forms
 pub mod Ppc64Pairs
-pub mod Prepared
+pub mod Reached
 pub mod Readings
 pub mod Relocated
 pub mod RiscV
@@ -28,4 +28,5 @@ pub mod Runs
 pub mod Shrinking
 pub mod Taken
 pub mod WrittenNumbers
+pub mod WrittenRows
 pub mod X86Bytes

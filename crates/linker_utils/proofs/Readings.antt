@@ -19,20 +19,21 @@ use Rattle.linker_base.proofs.Immediates.{values_apart_fills}
 use Rattle.linker_base.proofs.Pairs.{signed_cases, added, part_aligned}
 use Rattle.linker_utils.specs.AArch64.{aarch64_layout, imm16_places, moved_value, shift_of}
 use Rattle.linker_utils.specs.AArch64.{opcode_of, movn_opcode}
-use Rattle.linker_utils.specs.AArch64Rows.{aarch64_row}
+use Rattle.linker_utils.specs.AArch64Relocations.{aarch64_row}
 use Rattle.linker_utils.specs.Agrees.{bits_from, reads_signed, aarch64_reads}
 use Rattle.linker_utils.specs.Elf.{IsWithin}
 use Rattle.linker_utils.specs.LoongArch.{loongarch_layout, shift10_imm16}
-use Rattle.linker_utils.specs.LoongArchRows.{loongarch_row}
+use Rattle.linker_utils.specs.LoongArchRelocations.{loongarch_row}
 use Rattle.linker_utils.specs.Ppc64.{ppc64_form, ppc64_layout}
-use Rattle.linker_utils.specs.Ppc64Rows.{ppc64_row}
+use Rattle.linker_utils.specs.Ppc64Relocations.{ppc64_row}
 use Rattle.linker_utils.specs.Reach.{reach_of, riscv_pair_bounds, clui_bounds, call36_bounds}
 use Rattle.linker_utils.specs.Readings.{RiscVReads, LoongArchReads, reads_more, InstructionReadsAs}
 use Rattle.linker_utils.specs.Readings.{SizeReadsNoOther, ReadsNoOther, RowReadsNoOther}
 use Rattle.linker_utils.specs.Readings.{LoongArchRowReadsNoOther}
 use Rattle.linker_utils.specs.Relocate.{IsAligned}
 use Rattle.linker_utils.specs.RiscV.{riscv_layout, riscv_places, ui_high, ui_low}
-use Rattle.linker_utils.specs.RiscVRows.{Bounds, riscv_row, clui_row, riscv_tls_descriptor_row}
+use Rattle.linker_utils.specs.RiscVRelocations.{riscv_relocation, clui_row}
+use Rattle.linker_utils.specs.Rows.{Bounds}
 use Rattle.linker_utils.specs.declared.aarch64.forms.AArch64Instruction.{AArch64Instruction}
 use Rattle.linker_utils.specs.declared.aarch64.forms.AArch64Instruction.TheVariants.{Movnz, MachOLow12}
 use Rattle.linker_utils.specs.declared.loongarch64.forms.LoongArch64Instruction.{LoongArch64Instruction}
@@ -440,14 +441,9 @@ aarch64_covered : (name : AArch64Relocation) → row_covers false (aarch64_row n
 aarch64_covered R_AARCH64_NONE = refl
 aarch64_covered name = refl
 
-riscv_covered : (name : RiscVRelocation) → row_covers false (riscv_row name) ≡ true
+riscv_covered : (name : RiscVRelocation) → row_covers false (riscv_relocation name).row ≡ true
 riscv_covered R_RISCV_NONE = refl
 riscv_covered name = refl
-
-descriptors_covered : (name : RiscVRelocation)
-    → row_covers false (riscv_tls_descriptor_row name) ≡ true
-descriptors_covered R_RISCV_NONE = refl
-descriptors_covered name = refl
 
 ppc64_covered : (name : Ppc64Relocation) → row_covers false (ppc64_row name) ≡ true
 ppc64_covered R_PPC64_TLS = refl
@@ -461,13 +457,8 @@ loongarch_covered name = refl
 pub aarch64_reads_no_other : (name : AArch64Relocation) → IfSome (aarch64_row name) RowReadsNoOther
 aarch64_reads_no_other name = row_read false (aarch64_row name) (aarch64_covered name)
 
-pub riscv_reads_no_other : (name : RiscVRelocation) → IfSome (riscv_row name) RowReadsNoOther
-riscv_reads_no_other name = row_read false (riscv_row name) (riscv_covered name)
-
-pub riscv_descriptors_read_no_other : (name : RiscVRelocation)
-    → IfSome (riscv_tls_descriptor_row name) RowReadsNoOther
-riscv_descriptors_read_no_other name =
-    row_read false (riscv_tls_descriptor_row name) (descriptors_covered name)
+pub riscv_reads_no_other : (name : RiscVRelocation) → IfSome (riscv_relocation name).row RowReadsNoOther
+riscv_reads_no_other name = row_read false (riscv_relocation name).row (riscv_covered name)
 
 pub ppc64_reads_no_other : (name : Ppc64Relocation) → IfSome (ppc64_row name) RowReadsNoOther
 ppc64_reads_no_other name = row_read false (ppc64_row name) (ppc64_covered name)

@@ -22,7 +22,7 @@ use Rattle.linker_utils.specs.Relocate.{places_cleared, ored_cleared, bits_taken
 use Rattle.linker_utils.specs.Relocate.{InstructionWritten, IsWritten, InstructionReads, SizeReads}
 use Rattle.linker_utils.specs.Relocate.{takes_size, is_supported, is_call30, IsAligned, IsAccepted}
 use Rattle.linker_utils.specs.Relocate.{IsInUnits, MoveReads, with_bit_31_if}
-use Rattle.linker_utils.specs.RiscVRows.{Bounds}
+use Rattle.linker_utils.specs.Rows.{Bounds}
 use Rattle.linker_utils.specs.declared.aarch64.forms.AArch64Instruction.{AArch64Instruction}
 use Rattle.linker_utils.specs.declared.aarch64.forms.AArch64Instruction.TheVariants.{Movnz, MachOLow12}
 use Rattle.linker_utils.specs.declared.loongarch64.forms.LoongArch64Instruction.{LoongArch64Instruction}

@@ -14,14 +14,14 @@ use Rattle.linker_utils.specs.Agrees.{bits_from, IsFieldOf, IsSameIn, Instructio
 use Rattle.linker_utils.specs.Agrees.{AgreesBy, AgreesInReach, RowAgrees, LoongArchRowAgrees}
 use Rattle.linker_utils.specs.Agrees.{reads_signed, is_of_halves, is_of_words}
 use Rattle.linker_utils.specs.AArch64.{aarch64_layout, movnz, imm16_places, moved_bits, moved_value, shift_of}
-use Rattle.linker_utils.specs.AArch64Rows.{aarch64_row}
-use Rattle.linker_utils.specs.LoongArchRows.{loongarch_row}
-use Rattle.linker_utils.specs.Ppc64Rows.{ppc64_row}
+use Rattle.linker_utils.specs.AArch64Relocations.{aarch64_row}
+use Rattle.linker_utils.specs.LoongArchRelocations.{loongarch_row}
+use Rattle.linker_utils.specs.Ppc64Relocations.{ppc64_row}
 use Rattle.linker_utils.specs.RiscV.{riscv_form, riscv_layout}
 use Rattle.linker_utils.specs.LoongArch.{loongarch_form, loongarch_layout, shift10_imm16}
 use Rattle.linker_utils.specs.Ppc64.{ppc64_form, ppc64_layout}
 use Rattle.linker_utils.specs.Reach.{reach_of}
-use Rattle.linker_utils.specs.RiscVRows.{riscv_row, riscv_tls_descriptor_row}
+use Rattle.linker_utils.specs.RiscVRelocations.{riscv_relocation}
 use Rattle.linker_utils.specs.declared.aarch64.forms.AArch64Instruction.{AArch64Instruction}
 use Rattle.linker_utils.specs.declared.aarch64.forms.AArch64Instruction.TheVariants.{Movnz, MachOLow12}
 use Rattle.linker_utils.specs.declared.loongarch64.forms.LoongArch64Instruction.{LoongArch64Instruction}
@@ -225,7 +225,7 @@ aarch64_checked : (name : AArch64Relocation) → row_check false (aarch64_row na
 aarch64_checked R_AARCH64_NONE = refl
 aarch64_checked name = refl
 
-riscv_checked : (name : RiscVRelocation) → row_check false (riscv_row name) ≡ true
+riscv_checked : (name : RiscVRelocation) → row_check false (riscv_relocation name).row ≡ true
 riscv_checked R_RISCV_NONE = refl
 riscv_checked name = refl
 
@@ -240,18 +240,8 @@ loongarch_checked name = refl
 pub aarch64_rows : (name : AArch64Relocation) → IfSome (aarch64_row name) RowAgrees
 aarch64_rows name = row_agrees false (aarch64_row name) (aarch64_checked name)
 
-descriptors_checked : (name : RiscVRelocation)
-    → row_check false (riscv_tls_descriptor_row name) ≡ true
-descriptors_checked R_RISCV_NONE = refl
-descriptors_checked name = refl
-
-pub riscv_descriptor_rows : (name : RiscVRelocation)
-    → IfSome (riscv_tls_descriptor_row name) RowAgrees
-riscv_descriptor_rows name =
-    row_agrees false (riscv_tls_descriptor_row name) (descriptors_checked name)
-
-pub riscv_rows : (name : RiscVRelocation) → IfSome (riscv_row name) RowAgrees
-riscv_rows name = row_agrees false (riscv_row name) (riscv_checked name)
+pub riscv_rows : (name : RiscVRelocation) → IfSome (riscv_relocation name).row RowAgrees
+riscv_rows name = row_agrees false (riscv_relocation name).row (riscv_checked name)
 
 pub ppc64_rows : (name : Ppc64Relocation) → IfSome (ppc64_row name) RowAgrees
 ppc64_rows name = row_agrees false (ppc64_row name) (ppc64_checked name)

@@ -6,15 +6,15 @@ use Rattle.linker_base.specs.Bits.{field}
 use Rattle.linker_base.specs.declared.bit_misc.BitRange.{BitRange}
 use Rattle.linker_base.proofs.Immediates.{subst_below}
 use Rattle.linker_utils.specs.AArch64.{aarch64_form}
-use Rattle.linker_utils.specs.AArch64Rows.{aarch64_row}
+use Rattle.linker_utils.specs.AArch64Relocations.{aarch64_row}
 use Rattle.linker_utils.specs.Agrees.{TakesBits, SizeFits, RowFits}
 use Rattle.linker_utils.specs.Elf.{relocation_form}
 use Rattle.linker_utils.specs.LoongArch.{loongarch_form}
-use Rattle.linker_utils.specs.LoongArchRows.{loongarch_row}
+use Rattle.linker_utils.specs.LoongArchRelocations.{loongarch_row}
 use Rattle.linker_utils.specs.Ppc64.{ppc64_form}
-use Rattle.linker_utils.specs.Ppc64Rows.{ppc64_row}
+use Rattle.linker_utils.specs.Ppc64Relocations.{ppc64_row}
 use Rattle.linker_utils.specs.RiscV.{riscv_form}
-use Rattle.linker_utils.specs.RiscVRows.{riscv_row, riscv_tls_descriptor_row}
+use Rattle.linker_utils.specs.RiscVRelocations.{riscv_relocation}
 use Rattle.linker_utils.specs.declared.aarch64.forms.AArch64Instruction.{AArch64Instruction}
 use Rattle.linker_utils.specs.declared.aarch64.forms.AArch64Instruction.TheVariants.{MachOLow12}
 use Rattle.linker_utils.specs.declared.loongarch64.forms.LoongArch64Instruction.{LoongArch64Instruction}
@@ -36,7 +36,7 @@ use Rattle.linker_utils.specs.declared.ppc64.relocations.Ppc64Relocation.{Ppc64R
 use Rattle.linker_utils.specs.declared.ppc64.relocations.Ppc64Relocation.TheVariants.{R_PPC64_TLS}
 use Rattle.linker_utils.specs.declared.riscv64.relocations.RiscVRelocation.{RiscVRelocation}
 use Rattle.linker_utils.specs.declared.riscv64.relocations.RiscVRelocation.TheVariants.{R_RISCV_NONE}
-use Rattle.linker_utils.specs.X86Rows.{x86_64_row}
+use Rattle.linker_utils.specs.X86Relocations.{x86_64_row}
 use Rattle.linker_utils.specs.declared.x86_64.relocations.X86_64Relocation.{X86_64Relocation}
 use Rattle.linker_utils.specs.declared.x86_64.relocations.X86_64Relocation.TheVariants.{R_X86_64_NONE}
 
@@ -106,7 +106,7 @@ aarch64_checked : (name : AArch64Relocation) → row_fits_check (aarch64_row nam
 aarch64_checked R_AARCH64_NONE = refl
 aarch64_checked name = refl
 
-riscv_checked : (name : RiscVRelocation) → row_fits_check (riscv_row name) ≡ true
+riscv_checked : (name : RiscVRelocation) → row_fits_check (riscv_relocation name).row ≡ true
 riscv_checked R_RISCV_NONE = refl
 riscv_checked name = refl
 
@@ -121,17 +121,8 @@ loongarch_checked name = refl
 pub aarch64_fits : (name : AArch64Relocation) → IfSome (aarch64_row name) RowFits
 aarch64_fits name = row_fits (aarch64_row name) (aarch64_checked name)
 
-descriptors_checked : (name : RiscVRelocation)
-    → row_fits_check (riscv_tls_descriptor_row name) ≡ true
-descriptors_checked R_RISCV_NONE = refl
-descriptors_checked name = refl
-
-pub riscv_descriptors_fit : (name : RiscVRelocation)
-    → IfSome (riscv_tls_descriptor_row name) RowFits
-riscv_descriptors_fit name = row_fits (riscv_tls_descriptor_row name) (descriptors_checked name)
-
-pub riscv_fits : (name : RiscVRelocation) → IfSome (riscv_row name) RowFits
-riscv_fits name = row_fits (riscv_row name) (riscv_checked name)
+pub riscv_fits : (name : RiscVRelocation) → IfSome (riscv_relocation name).row RowFits
+riscv_fits name = row_fits (riscv_relocation name).row (riscv_checked name)
 
 pub ppc64_fits : (name : Ppc64Relocation) → IfSome (ppc64_row name) RowFits
 ppc64_fits name = row_fits (ppc64_row name) (ppc64_checked name)

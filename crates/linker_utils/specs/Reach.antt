@@ -23,7 +23,7 @@ use Rattle.linker_utils.specs.declared.riscv64.forms.RiscVInstruction.{RiscVInst
 use Rattle.linker_utils.specs.declared.riscv64.forms.RiscVInstruction.TheVariants.{UType, IType, SType}
 use Rattle.linker_utils.specs.declared.riscv64.forms.RiscVInstruction.TheVariants.{CluiType, UiType}
 use Rattle.linker_utils.specs.declared.elf.Sign.TheVariants.{Signed}
-use Rattle.linker_utils.specs.RiscVRows.{Bounds}
+use Rattle.linker_utils.specs.Rows.{Bounds}
 
 -- `lui` or `auipc` with a low part of 12 signed bits: 2 ^ 31 on either side, less 0x800
 abbrev pub riscv_pair_bounds : ℤ × ℤ

@@ -11,7 +11,7 @@ use Rattle.linker_base.specs.Form.{Written, Fits, window_of, IsSameModulo}
 use Rattle.linker_base.specs.declared.bit_misc.BitRange.{BitRange}
 use Rattle.linker_utils.specs.AArch64.{aarch64_form, shift_of}
 use Rattle.linker_utils.specs.Agrees.{bits_from, IsSameIn, aarch64_reads, loongarch_reads}
-use Rattle.linker_utils.specs.Agrees.{is_of_halves, is_of_words}
+use Rattle.linker_utils.specs.Agrees.{is_of_halves, is_of_words, AgreesBy, AgreesInReach}
 use Rattle.linker_utils.specs.Elf.{IsWithin, bit_bounds, relocation_form}
 use Rattle.linker_utils.specs.LoongArch.{loongarch_form, reach}
 use Rattle.linker_utils.specs.Ppc64.{ppc64_form}
@@ -348,3 +348,17 @@ abbrev pub SizeHolds : RelocationSize → ℤ → List ℕ → Type 0
 SizeHolds (ByteSize n) v after = ⊤
 SizeHolds (BitMasking bits insn) v after =
     InstructionHolds insn bits v (window_of (relocation_form insn) after)
+
+-- ---- what a write of a row does
+
+-- The value is written, and the machine reads it: with the range's bounds and with those of the
+-- reach, where the row agrees with the machine so.
+pub record WritesRow (row : RelocationKindInfo) (v : ℤ) (before after : List ℕ) : Type 0 where
+  pub accepted : IsAccepted row v before
+  pub written : IsWritten row.size row.kind v before after
+  pub number : SizeNumber row.size row.kind v before after
+  pub machine : (is_signed : Bool) → AgreesBy is_signed row
+      → SizeReads is_signed row.size row.range.bounds v before after
+  pub reached : (is_signed : Bool) → AgreesInReach is_signed row
+      → SizeReads is_signed row.size (reach_of row) v before after
+  pub pairs : SizeHolds row.size v after

@@ -6,9 +6,7 @@ mod rewrites;
 mod sequences;
 
 pub use forms::AArch64Instruction;
-pub use relocations::{
-    AArch64Relocation, prepared_row, relocation_numbers, relocation_type_from_raw,
-};
+pub use relocations::{AArch64Relocation, relocation_type_from_raw, row};
 pub use rewrites::RelaxationKind;
 pub use sequences::write_mov_sequence;
 

@@ -3,7 +3,6 @@
 
 pub(crate) mod engine;
 mod numbers;
-pub(crate) mod prepared;
 mod reach;
 mod relocate;
 pub(crate) mod rows;
@@ -25,8 +24,8 @@ pub use crate::ppc64::Ppc64Instruction;
 use crate::relaxation::RelocationModifier;
 pub use crate::riscv64::RiscVInstruction;
 pub use numbers::RelocationNumbers;
-pub use prepared::PreparedRow;
 pub use relocate::RelocateError;
+pub use rows::Row;
 use std::marker::Model;
 pub use value::Operands;
 

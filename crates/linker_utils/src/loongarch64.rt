@@ -7,8 +7,6 @@ mod rewrites;
 mod sequences;
 
 pub use forms::LoongArch64Instruction;
-pub use relocations::{
-    LoongArch64Relocation, prepared_row, relocation_numbers, relocation_type_from_raw,
-};
+pub use relocations::{LoongArch64Relocation, relocation_type_from_raw, row};
 pub use rewrites::RelaxationKind;
 pub use sequences::{highest_relocation_with_bias, write_address_sequence};

@@ -6,8 +6,6 @@ mod rewrites;
 mod sequences;
 
 pub use forms::Ppc64Instruction;
-pub use relocations::{
-    Ppc64Relocation, prepared_row, relocation_numbers, relocation_type_from_raw,
-};
+pub use relocations::{Ppc64Relocation, relocation_type_from_raw, row};
 pub use rewrites::RelaxationKind;
 pub use sequences::write_ha_lo;

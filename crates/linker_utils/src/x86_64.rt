@@ -3,5 +3,5 @@
 mod relocations;
 mod rewrites;
 
-pub use relocations::{X86_64Relocation, prepared_row, relocation_from_raw, relocation_numbers};
+pub use relocations::{X86_64Relocation, relocation_from_raw, row};
 pub use rewrites::RelaxationKind;

@@ -4,10 +4,10 @@ use Rattle.std.specs.Prelude.{slice_index_or, Option, None, Some, Result, Ok, Er
 use Rattle.linker_base.specs.Uleb.{IsUlebWritten, IsUlebCause}
 use Rattle.linker_base.specs.declared.utils.Uleb128Error.{Uleb128Error}
 use Rattle.linker_base.specs.declared.utils.Uleb128Error.TheVariants as uleb_errors
-use Rattle.linker_utils.specs.LoongArchNames.{loongarch_name}
-use Rattle.linker_utils.specs.LoongArchRows.{loongarch_uleb128_role}
-use Rattle.linker_utils.specs.RiscVNames.{riscv_name}
-use Rattle.linker_utils.specs.RiscVRows.{riscv_uleb128_role}
+use Rattle.linker_utils.specs.LoongArchRelocations.{loongarch_name}
+use Rattle.linker_utils.specs.LoongArchRelocations.{loongarch_uleb128_role}
+use Rattle.linker_utils.specs.RiscVRelocations.{riscv_name}
+use Rattle.linker_utils.specs.RiscVRelocations.{riscv_uleb128_role}
 use Rattle.linker_utils.specs.Reach.{reach_of}
 use Rattle.linker_utils.specs.Relocate.{IsAccepted, IsWritten, IsCause}
 use Rattle.linker_utils.specs.Value.{value_of}

@@ -8,16 +8,16 @@ use Rattle.linker_utils.specs.declared.elf.RelocationKindInfo.{RelocationKindInf
 use Rattle.linker_utils.specs.declared.elf.RelocationSize.{RelocationSize}
 use Rattle.linker_utils.specs.declared.elf.RelocationSize.TheVariants.{ByteSize, BitMasking}
 use Rattle.linker_utils.specs.ElfNames.{ElfName, named, unnamed, IsNameOf}
-use Rattle.linker_utils.specs.AArch64Names.{aarch64_name}
-use Rattle.linker_utils.specs.AArch64Rows.{aarch64_row}
-use Rattle.linker_utils.specs.RiscVNames.{riscv_name}
-use Rattle.linker_utils.specs.RiscVRows.{riscv_row, riscv_tls_descriptor_row}
-use Rattle.linker_utils.specs.LoongArchNames.{loongarch_name}
-use Rattle.linker_utils.specs.LoongArchRows.{loongarch_row}
-use Rattle.linker_utils.specs.Ppc64Names.{ppc64_name}
-use Rattle.linker_utils.specs.Ppc64Rows.{ppc64_row}
-use Rattle.linker_utils.specs.X86Names.{x86_64_name}
-use Rattle.linker_utils.specs.X86Rows.{x86_64_row}
+use Rattle.linker_utils.specs.AArch64Relocations.{aarch64_name}
+use Rattle.linker_utils.specs.AArch64Relocations.{aarch64_row}
+use Rattle.linker_utils.specs.RiscVRelocations.{riscv_name}
+use Rattle.linker_utils.specs.RiscVRelocations.{riscv_row, riscv_tls_descriptor_row}
+use Rattle.linker_utils.specs.LoongArchRelocations.{loongarch_name}
+use Rattle.linker_utils.specs.LoongArchRelocations.{loongarch_row}
+use Rattle.linker_utils.specs.Ppc64Relocations.{ppc64_name}
+use Rattle.linker_utils.specs.Ppc64Relocations.{ppc64_row}
+use Rattle.linker_utils.specs.X86Relocations.{x86_64_name}
+use Rattle.linker_utils.specs.X86Relocations.{x86_64_row}
 use Rattle.linker_utils.specs.declared.riscv64.relocations.RiscVRelocation.{RiscVRelocation}
 use Rattle.linker_utils.specs.declared.elf.numbers.RelocationNumbers.{RelocationNumbers}
 use Rattle.linker_utils_c.specs.declared.status.Status.TheVariants.{Success, UnknownRelocation}

@@ -4,9 +4,9 @@ ghost use Rattle.std.specs.Prelude.{◌≡◌, ◌≢◌, ◌≤◌, Option, Som
 ghost use Rattle.linker_utils.specs.declared.elf.RelocationKindInfo.{RelocationKindInfo};
 ghost use Rattle.linker_utils.specs.Elf.{architecture_of};
 ghost use Rattle.linker_utils.specs.ElfNames.{ElfName, named, unnamed};
-ghost use Rattle.linker_utils.specs.RiscVNames.{riscv_name};
+ghost use Rattle.linker_utils.specs.RiscVRelocations.{riscv_name};
 ghost use Rattle.linker_utils.specs.Prepared.{row_in, IsPrepared};
-ghost use Rattle.linker_utils.specs.RiscVRows.{clui_row, riscv_tls_descriptor_row};
+ghost use Rattle.linker_utils.specs.RiscVRelocations.{clui_row, riscv_tls_descriptor_row};
 ghost use Rattle.linker_utils_c.specs.Status.{code};
 ghost use Rattle.linker_utils.specs.Numbers.{in_numbers};
 ghost use Rattle.linker_utils_c.specs.Relocations.{riscv_meaning, IsRow};

@@ -9,7 +9,7 @@ use Rattle.linker_utils.specs.Agrees.{bits_from}
 use Rattle.linker_utils.specs.Elf.{IsWithin}
 use Rattle.linker_utils.specs.Reach.{reach_of}
 use Rattle.linker_utils.specs.Relocate.{number_of_bytes, whole_number, SizeNumber}
-use Rattle.linker_utils.specs.RiscVRows.{Bounds}
+use Rattle.linker_utils.specs.Rows.{Bounds}
 use Rattle.linker_utils.specs.Value.{value_of}
 use Rattle.linker_utils.specs.declared.elf.AllowedRange.{AllowedRange}
 use Rattle.linker_utils.specs.declared.elf.PageMask.{PageMask}

@@ -3,7 +3,7 @@
 use Rattle.std.specs.Prelude.{ℕ, [], ◌∷◌, ℤ, pos, ◌+◌, ◌+ℤ◌, ◌-ℤ◌, ◌*ℤ◌, ◌^◌, ◌==◌, ◌&&◌}
 use Rattle.std.specs.Int.{bit_at, int_rem_euclid}
 use Rattle.linker_utils.specs.AArch64.{aarch64_form, shift_of}
-use Rattle.linker_utils.specs.AArch64Rows.{aarch64_row}
+use Rattle.linker_utils.specs.AArch64Relocations.{aarch64_row}
 use Rattle.linker_utils.specs.LoongArch.{page}
 use Rattle.linker_utils.specs.declared.aarch64.forms.AArch64Instruction.{AArch64Instruction}
 use Rattle.linker_utils.specs.declared.aarch64.forms.AArch64Instruction.TheVariants.{Adr, Ldr, LdrRegister}

@@ -4,7 +4,7 @@ use Rattle.std.specs.Prelude.{ℕ, [], ◌∷◌, ℤ, pos, ◌+◌, ◌*◌, �
 use Rattle.std.specs.Int.{int_rem_euclid}
 use Rattle.linker_base.specs.Bits.{field, signed}
 use Rattle.linker_utils.specs.LoongArch.{pcalau12i, upper_and_lower_value, reach, loongarch_form}
-use Rattle.linker_utils.specs.LoongArchRows.{loongarch_row}
+use Rattle.linker_utils.specs.LoongArchRelocations.{loongarch_row}
 use Rattle.linker_utils.specs.declared.loongarch64.forms.LoongArch64Instruction.{LoongArch64Instruction}
 use Rattle.linker_utils.specs.declared.loongarch64.forms.LoongArch64Instruction.TheVariants.{Shift5, Shift10}
 use Rattle.linker_utils.specs.declared.loongarch64.forms.LoongArch64Instruction.TheVariants.{Branch21, Branch26}

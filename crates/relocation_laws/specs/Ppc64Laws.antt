@@ -3,7 +3,7 @@
 use Rattle.std.specs.Prelude.{ℕ, [], ◌∷◌, ℤ, pos, ◌+ℤ◌, ◌*ℤ◌, ◌^◌}
 use Rattle.linker_base.specs.Bits.{field}
 use Rattle.linker_utils.specs.Ppc64.{ppc64_form}
-use Rattle.linker_utils.specs.Ppc64Rows.{ppc64_row}
+use Rattle.linker_utils.specs.Ppc64Relocations.{ppc64_row}
 use Rattle.linker_utils.specs.Relocate.{ppc64_reads}
 use Rattle.linker_utils.specs.declared.ppc64.forms.Ppc64Instruction.{Ppc64Instruction}
 use Rattle.linker_utils.specs.declared.ppc64.forms.Ppc64Instruction.TheVariants.{D, Ds, Branch14, Branch24}

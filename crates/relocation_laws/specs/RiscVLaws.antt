@@ -3,7 +3,7 @@
 use Rattle.std.specs.Prelude.{ℕ, [], ◌∷◌, ℤ, pos, ◌+ℤ◌, ◌-ℤ◌, ◌-◌, ◌%◌, Option, Some}
 use Rattle.std.specs.Int.{int_rem_euclid}
 use Rattle.linker_utils.specs.RiscV.{riscv_form}
-use Rattle.linker_utils.specs.RiscVRows.{riscv_row, riscv_tls_descriptor_row, clui_row}
+use Rattle.linker_utils.specs.RiscVRelocations.{riscv_row, riscv_tls_descriptor_row, clui_row}
 use Rattle.linker_utils.specs.declared.elf.RelocationKindInfo.{RelocationKindInfo}
 use Rattle.linker_utils.specs.declared.riscv64.forms.RiscVInstruction.{RiscVInstruction}
 use Rattle.linker_utils.specs.declared.riscv64.forms.RiscVInstruction.TheVariants.{UType, IType, SType, BType}

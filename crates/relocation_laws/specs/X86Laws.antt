@@ -4,7 +4,7 @@
 -- addend that is less by the bytes from the field to there.
 use Rattle.std.specs.Prelude.{ℕ, pos}
 use Rattle.linker_base.specs.Bits.{signed}
-use Rattle.linker_utils.specs.X86Rows.{x86_64_row}
+use Rattle.linker_utils.specs.X86Relocations.{x86_64_row}
 use Rattle.linker_utils.specs.declared.elf.Sign.TheVariants as signs
 use Rattle.linker_utils.specs.declared.elf.value.Operands.{Operands}
 use Rattle.linker_utils.specs.declared.x86_64.relocations.X86_64Relocation.{X86_64Relocation}

@@ -9,7 +9,7 @@ ghost use Rattle.linker_utils.specs.Agrees.{AgreesBy, AgreesInReach};
 ghost use Rattle.linker_utils.specs.Elf.{relocation_form};
 ghost use Rattle.linker_utils.specs.Reach.{reach_of};
 ghost use Rattle.linker_utils.specs.Relocate.{number_of_bytes, low_bytes, number_written, ored_cleared, places_cleared, bits_taken, InstructionWritten, IsWritten, SizeReads, SizeHolds, is_of_uleb128, takes_size, is_supported, window_len, IsAligned, HoldsBits, IsAccepted, IsCause};
-ghost use Rattle.linker_utils.specs.Relocate.{SizeNumber, IsInUnits, IsMultiple, size_len};
+ghost use Rattle.linker_utils.specs.Relocate.{SizeNumber, WritesRow, IsInUnits, IsMultiple, size_len};
 ghost use Rattle.linker_utils.specs.Relocate.{is_dq_form, number_placed, is_32_bit_move, is_call30};
 
 use crate::bit_misc::{BitExtraction, BitRange};
@@ -357,15 +357,7 @@ impl RelocationKindInfo {
     /// ```
     #[inline(always)]
     pub fn write(&self, value: i64, dest: &mut [u8]) -> Result<(), RelocateError>
-        ensures ok { OnOk result (IsAccepted self.now value dest.old
-            × IsWritten self.now.size self.now.kind value dest.old dest.new) }
-        ensures number { OnOk result
-            (SizeNumber self.now.size self.now.kind value dest.old dest.new) }
-        ensures machine { OnOk result ((is_signed : Bool) → AgreesBy is_signed self.now
-            → SizeReads is_signed self.now.size self.now.range.bounds value dest.old dest.new) }
-        ensures reached { OnOk result ((is_signed : Bool) → AgreesInReach is_signed self.now
-            → SizeReads is_signed self.now.size (reach_of self.now) value dest.old dest.new) }
-        ensures pairs { OnOk result (SizeHolds self.now.size value dest.new) }
+        ensures ok { OnOk result (WritesRow self.now value dest.old dest.new) }
         ensures err { IfErr result (λ error. IsCause self.now value dest.old error × (dest.new ≡ dest.old)) }
     {
         if !self.is_supported() {

@@ -8,7 +8,7 @@ ghost use Rattle.linker_utils.specs.RiscV.{riscv_rewrite, riscv_modifier, hi20, 
 ghost use Rattle.linker_utils.specs.RiscV.{FitsClui, HoldsHigh};
 ghost use Rattle.linker_utils.specs.Agrees.{RowFits};
 ghost use Rattle.linker_utils.specs.Readings.{RowReadsNoOther};
-ghost use Rattle.linker_utils.specs.RiscVRows.{clui_row};
+ghost use Rattle.linker_utils.specs.RiscVRelocations.{clui_row};
 
 use super::relocations;
 use crate::bit_misc::BitExtraction;
@@ -146,7 +146,7 @@ impl RelaxationKind {
         ensures others { RowReadsNoOther result }
         ensures fits { RowFits result }
     {
-        relocations::clui_info()
+        relocations::clui().info()
     }
 }
 

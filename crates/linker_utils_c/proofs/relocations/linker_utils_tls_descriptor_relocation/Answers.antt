@@ -1,6 +1,6 @@
 use Rattle.std.proofs.Common.{◌≡◌, refl, subst, Some, IfSome}
 use Rattle.linker_utils.specs.Numbers.{in_numbers}
-use Rattle.linker_utils.specs.RiscVRows.{riscv_tls_descriptor_row}
+use Rattle.linker_utils.specs.RiscVRelocations.{riscv_tls_descriptor_row}
 use Rattle.linker_utils_c.proofs.RelocationNumbers.{some_returned}
 use Rattle.linker_utils_c.proofs.relocations.linker_utils_tls_descriptor_relocation.Goals as goal
 

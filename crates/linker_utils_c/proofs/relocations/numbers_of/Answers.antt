@@ -1,9 +1,9 @@
 use Rattle.std.proofs.Common.{refl}
-use Rattle.linker_utils.specs.AArch64Rows.{aarch64_row}
-use Rattle.linker_utils.specs.RiscVRows.{riscv_row}
-use Rattle.linker_utils.specs.LoongArchRows.{loongarch_row}
-use Rattle.linker_utils.specs.Ppc64Rows.{ppc64_row}
-use Rattle.linker_utils.specs.X86Rows.{x86_64_row}
+use Rattle.linker_utils.specs.AArch64Relocations.{aarch64_row}
+use Rattle.linker_utils.specs.RiscVRelocations.{riscv_row}
+use Rattle.linker_utils.specs.LoongArchRelocations.{loongarch_row}
+use Rattle.linker_utils.specs.Ppc64Relocations.{ppc64_row}
+use Rattle.linker_utils.specs.X86Relocations.{x86_64_row}
 use Rattle.linker_utils_c.proofs.relocations.numbers_of.Goals as goal
 
 pub returns-in-AArch64 : goal.returns-in-AArch64

@@ -1,8 +1,6 @@
-use Rattle.std.proofs.Common.{rules, ◌≡◌, true}
-use Rattle.linker_utils.specs.Relocate.{is_supported, IsWritten, IsAccepted}
-use Rattle.linker_utils.proofs.Halves.{row_holds}
-use Rattle.linker_utils.proofs.Relocated.{row_reads, row_reads_in_reach}
-use Rattle.linker_utils.proofs.WrittenNumbers.{row_number}
+use Rattle.std.proofs.Common.{rules}
+use Rattle.linker_utils.specs.Relocate.{IsAccepted}
+use Rattle.linker_utils.proofs.WrittenRows.{writes_row}
 use Rattle.linker_utils.proofs.elf.RelocationKindInfo.write.Goals as goal
 
 pub returns-in-BitMasking-clause-ok : goal.returns-in-BitMasking-clause-ok
@@ -14,29 +12,15 @@ returns-in-BitMasking-clause-ok c =
       aligned = search rules;
       reached = search rules;
     } in
-    (accepted, rw c.in-BitMasking.is (search rules))
+    writes_row row c.args.value c.args.dest.now c.write_bits.new.dest c.ranges.value accepted (rw c.in-BitMasking.is (search rules))
 
-pub returns-in-BitMasking-clause-machine : goal.returns-in-BitMasking-clause-machine
-returns-in-BitMasking-clause-machine c = λ is_signed agrees.
-    let done = returns-in-BitMasking-clause-ok c in
-    row_reads is_signed c.args.self.now c.args.value c.args.dest.now c.write_bits.new.dest c.ranges.value done.0 done.1 agrees
-
-pub returns-in-BitMasking-clause-reached : goal.returns-in-BitMasking-clause-reached
-returns-in-BitMasking-clause-reached c = λ is_signed agrees.
-    let done = returns-in-BitMasking-clause-ok c in
-    row_reads_in_reach is_signed c.args.self.now c.args.value c.args.dest.now c.write_bits.new.dest
-    c.ranges.value done.0 done.1 agrees
-
-pub returns-in-BitMasking-clause-pairs : goal.returns-in-BitMasking-clause-pairs
-returns-in-BitMasking-clause-pairs c =
-    let done = returns-in-BitMasking-clause-ok c in
-    row_holds c.args.self.now c.args.value c.args.dest.now c.write_bits.new.dest c.ranges.value done.0 done.1
-
-pub returns-in-ByteSize-clause-number : goal.returns-in-ByteSize-clause-number
-returns-in-ByteSize-clause-number c =
+pub returns-in-ByteSize-clause-ok : goal.returns-in-ByteSize-clause-ok
+returns-in-ByteSize-clause-ok c =
     let row = c.args.self.now in
-    let supported : is_supported row ≡ true = search rules in
-    let written : IsWritten row.size row.kind c.args.value c.args.dest.now c.write_bytes.new.dest =
-    rw c.in-ByteSize.is (search rules) in
-    row_number row c.args.value c.args.dest.now c.write_bytes.new.dest c.ranges.value supported
-    written
+    let accepted : IsAccepted row c.args.value c.args.dest.now = record {
+      supported = search rules;
+      long = search rules;
+      aligned = search rules;
+      reached = search rules;
+    } in
+    writes_row row c.args.value c.args.dest.now c.write_bytes.new.dest c.ranges.value accepted (rw c.in-ByteSize.is (search rules))

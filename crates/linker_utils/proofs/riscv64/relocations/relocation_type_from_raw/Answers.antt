@@ -1,19 +1,26 @@
-use Rattle.std.proofs.Common.{IfSome, subst, sym}
-use Rattle.linker_utils.specs.Agrees.{RowAgrees, RowFits}
-use Rattle.linker_utils.specs.Readings.{RowReadsNoOther}
-use Rattle.linker_utils.proofs.Readings.{riscv_reads_no_other}
-use Rattle.linker_utils.proofs.RowsAgree.{riscv_rows}
-use Rattle.linker_utils.proofs.RowsFit.{riscv_fits}
+use Rattle.std.proofs.Common.{◌≡◌, ◌∙◌, refl}
+use Rattle.linker_utils.specs.RiscVRelocations.{riscv_relocation, riscv_row}
+use Rattle.linker_utils.specs.declared.riscv64.relocations.RiscVRelocation.{RiscVRelocation}
+use Rattle.linker_utils.specs.declared.riscv64.relocations.RiscVRelocation.TheVariants as r
 use Rattle.linker_utils.proofs.riscv64.relocations.relocation_type_from_raw.Goals as goal
 
-pub returns-clause-agrees : goal.returns-clause-agrees
-returns-clause-agrees c =
-    subst (λ o. IfSome o RowAgrees) (sym c.row.ensures) (riscv_rows c.args.name)
+-- the row of a name that isn't one of TLS descriptors
+known : (name : RiscVRelocation) → ¬ (name ≡ r.R_RISCV_TLSDESC_HI20)
+    → ¬ (name ≡ r.R_RISCV_TLSDESC_LOAD_LO12) → ¬ (name ≡ r.R_RISCV_TLSDESC_ADD_LO12)
+    → ¬ (name ≡ r.R_RISCV_TLSDESC_CALL) → (riscv_relocation name).row ≡ riscv_row name
+known r.R_RISCV_TLSDESC_HI20 hi load add call = absurd (hi refl)
+known r.R_RISCV_TLSDESC_LOAD_LO12 hi load add call = absurd (load refl)
+known r.R_RISCV_TLSDESC_ADD_LO12 hi load add call = absurd (add refl)
+known r.R_RISCV_TLSDESC_CALL hi load add call = absurd (call refl)
+known name hi load add call = refl
 
-pub returns-clause-fits : goal.returns-clause-fits
-returns-clause-fits c =
-    subst (λ o. IfSome o RowFits) (sym c.row.ensures) (riscv_fits c.args.name)
-
-pub returns-clause-others : goal.returns-clause-others
-returns-clause-others c =
-    subst (λ o. IfSome o RowReadsNoOther) (sym c.row.ensures) (riscv_reads_no_other c.args.name)
+pub returns-in_default : goal.returns-in_default
+returns-in_default c =
+    let of = c.in_default in
+    let row = c.info_in.ensures.row in
+    record {
+      row = row ∙ (c.row.ensures.row ∙ known c.args.name of.not-R_RISCV_TLSDESC_HI20 of.not-R_RISCV_TLSDESC_LOAD_LO12 of.not-R_RISCV_TLSDESC_ADD_LO12 of.not-R_RISCV_TLSDESC_CALL);
+      agrees = rw row c.row.ensures.agrees;
+      others = rw row c.row.ensures.others;
+      fits = c.info_in.ensures.fits;
+    }
