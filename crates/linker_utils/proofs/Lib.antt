@@ -20,6 +20,7 @@ pub mod Ppc64Pairs
 pub mod Reached
 pub mod Readings
 pub mod Relocated
+pub mod RelocationNames
 pub mod RiscV
 pub mod RiscVRewrites
 pub mod RowsAgree

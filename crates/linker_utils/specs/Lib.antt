@@ -1,6 +1,7 @@
 pub mod AArch64
 pub mod AArch64Relocations
 pub mod Agrees
+pub mod Architectures
 pub mod Bounds
 pub mod Elf
 pub mod ElfNames

@@ -35,6 +35,16 @@ use Rattle.linker_utils.specs.declared.loongarch64.forms.LoongArch64Instruction.
 use Rattle.linker_utils.specs.declared.loongarch64.forms.LoongArch64Instruction.TheVariants.{Call30, Call36}
 use Rattle.linker_utils.specs.declared.ppc64.forms.Ppc64Instruction.TheVariants.{D, Ds, Branch14, Branch24}
 use Rattle.linker_utils.specs.declared.ppc64.forms.Ppc64Instruction.TheVariants.{Prefixed}
+use Rattle.linker_utils.specs.declared.aarch64.rewrites.RelaxationKind.{RelaxationKind as AArch64Kind}
+use Rattle.linker_utils.specs.declared.aarch64.rewrites.RelaxationKind.TheVariants as aarch64_kinds
+use Rattle.linker_utils.specs.declared.riscv64.rewrites.RelaxationKind.{RelaxationKind as RiscVKind}
+use Rattle.linker_utils.specs.declared.riscv64.rewrites.RelaxationKind.TheVariants as riscv_kinds
+use Rattle.linker_utils.specs.declared.loongarch64.rewrites.RelaxationKind.{RelaxationKind as LoongArch64Kind}
+use Rattle.linker_utils.specs.declared.loongarch64.rewrites.RelaxationKind.TheVariants as loongarch64_kinds
+use Rattle.linker_utils.specs.declared.ppc64.rewrites.RelaxationKind.{RelaxationKind as Ppc64Kind}
+use Rattle.linker_utils.specs.declared.ppc64.rewrites.RelaxationKind.TheVariants as ppc64_kinds
+use Rattle.linker_utils.specs.declared.x86_64.rewrites.RelaxationKind.{RelaxationKind as X86_64Kind}
+use Rattle.linker_utils.specs.declared.x86_64.rewrites.RelaxationKind.TheVariants as x86_64_kinds
 
 abbrev pub kind_number : RelocationKind → ℕ
 kind_number kinds.None = 0
@@ -99,6 +109,37 @@ loongarch64_forms = Shift5 ∷ Shift10 ∷ Branch26 ∷ Branch21 ∷ Call30 ∷ 
 
 abbrev pub ppc64_forms : List Ppc64Instruction
 ppc64_forms = D ∷ Ds ∷ Branch14 ∷ Branch24 ∷ Prefixed ∷ []
+
+-- The rewrites of each architecture, by their numbers from 0 up.
+abbrev pub aarch64_rewrites : List AArch64Kind
+aarch64_rewrites =
+    aarch64_kinds.NoOp ∷ aarch64_kinds.ReplaceWithNop ∷ aarch64_kinds.MovzX0Lsl16 ∷
+    aarch64_kinds.MovkX0 ∷ aarch64_kinds.MovzXnLsl16 ∷ aarch64_kinds.MovkXn ∷
+    aarch64_kinds.AdrpToAdr ∷ aarch64_kinds.AdrpX0 ∷ aarch64_kinds.LdrX0 ∷ aarch64_kinds.AddToAdr ∷
+    aarch64_kinds.LdrToAdr ∷ aarch64_kinds.LdrToAdd ∷ aarch64_kinds.AdrpAddToNopAdr ∷ []
+
+abbrev pub riscv_rewrites : List RiscVKind
+riscv_rewrites =
+    riscv_kinds.NoOp ∷ riscv_kinds.ReplaceWithNop ∷ riscv_kinds.CallToJal ∷ riscv_kinds.Hi20ToCLui ∷
+    riscv_kinds.Hi20Delete ∷ riscv_kinds.Lo12Rs1ToZero ∷ []
+
+abbrev pub loongarch64_rewrites : List LoongArch64Kind
+loongarch64_rewrites = loongarch64_kinds.NoOp ∷ loongarch64_kinds.ReplaceWithNop ∷ []
+
+abbrev pub ppc64_rewrites : List Ppc64Kind
+ppc64_rewrites = ppc64_kinds.NoOp ∷ []
+
+abbrev pub x86_64_rewrites : ℕ → List X86_64Kind
+x86_64_rewrites n =
+    x86_64_kinds.MovIndirectToLea ∷ x86_64_kinds.MovIndirectToAbsolute ∷
+    x86_64_kinds.RexMovIndirectToAbsolute n ∷ x86_64_kinds.RexAddIndirectToAbsolute n ∷
+    x86_64_kinds.RexSubIndirectToAbsolute n ∷ x86_64_kinds.RexCmpIndirectToAbsolute n ∷
+    x86_64_kinds.CallIndirectToRelative ∷ x86_64_kinds.JmpIndirectToRelative ∷ x86_64_kinds.NoOp ∷
+    x86_64_kinds.TlsGdToLocalExec ∷ x86_64_kinds.TlsGdToLocalExecLarge ∷
+    x86_64_kinds.TlsLdToLocalExec ∷ x86_64_kinds.TlsLdToLocalExecNoPlt ∷
+    x86_64_kinds.TlsLdToLocalExec64 ∷ x86_64_kinds.TlsGdToInitialExec ∷
+    x86_64_kinds.TlsDescToLocalExec n ∷ x86_64_kinds.TlsDescToInitialExec ∷
+    x86_64_kinds.SkipTlsDescCall ∷ []
 
 abbrev pub form_number : RelocationInstruction → ℕ
 form_number (insns.AArch64 form) = tag_of aarch64.the_type form

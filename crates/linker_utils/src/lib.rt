@@ -3,6 +3,7 @@
 #![tactic(auto)]
 
 pub mod aarch64;
+pub mod architecture;
 pub mod elf;
 pub mod loongarch64;
 pub mod ppc64;

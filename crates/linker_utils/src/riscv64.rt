@@ -17,7 +17,7 @@ pub use packing::{
     AsCall, PackError, RejectedCall, calls_apart, first_not_apart, pack_into, pack_section,
     packed_calls_reach_targets, packed_len,
 };
-pub use relocations::{RiscVRelocation, relocation_type_from_raw, row};
+pub use relocations::{RiscVRelocation, clui_row, relocation_type_from_raw, row};
 pub use rewrites::RelaxationKind;
 pub use shrinking::{
     AsChoice, calls_shrinkable, first_not_shrinkable, shrink_calls, shrink_calls_into,

@@ -1,4 +1,3 @@
 pub mod DeltaLists
 pub mod Relocating
-pub mod RelocationNames
 pub mod RelocationNumbers

@@ -1,8 +1,9 @@
 //! AArch64 instructions that hold a value.
 
-ghost use Rattle.std.specs.Prelude.{◌++◌, Some, take, ◌≡◌, ◌≤◌, ◌<◌, ◌+◌, ◌↔◌, ◌∷◌, [], IsTrue};
+ghost use Rattle.std.specs.Prelude.{slice_get, ◌++◌, Some, take, ◌≡◌, ◌≤◌, ◌<◌, ◌+◌, ◌↔◌, ◌∷◌, [], IsTrue};
 ghost use Rattle.std.specs.Prelude.{length, drop, true, ◌*◌, ◌^◌};
 ghost use Rattle.std.specs.Int.{byte_len, cast_unsigned, w32, w64, from_le_bytes, to_le_bytes};
+ghost use Rattle.linker_utils.specs.Numbers.{aarch64_forms};
 ghost use Rattle.linker_base.specs.Form.{window_of, place_sum, BitsWritten, Fits, Written, MachineReads, IsReadBack};
 ghost use Rattle.linker_base.specs.Rewrite.{CanRewrite, rewritten, offset_after, addend_after};
 ghost use Rattle.linker_utils.specs.Inner.FormLaws.{aarch64_keeps, aarch64_restored};
@@ -313,5 +314,31 @@ impl InstructionForm for AArch64Instruction {
     #[inline]
     fn read(self, bytes: &[u8]) -> (u64, bool) {
         self.read_value(bytes)
+    }
+}
+
+/// The forms by their numbers. A table, since a match becomes a jump by the number where what follows
+/// differs by the form.
+static FORMS: &[AArch64Instruction] = &[
+    AArch64Instruction::Adr,
+    AArch64Instruction::Movkz,
+    AArch64Instruction::Movnz,
+    AArch64Instruction::Ldr,
+    AArch64Instruction::LdrRegister,
+    AArch64Instruction::Add,
+    AArch64Instruction::LdSt,
+    AArch64Instruction::TstBr,
+    AArch64Instruction::Bcond,
+    AArch64Instruction::JumpCall,
+    AArch64Instruction::MachOLow12,
+];
+
+impl AArch64Instruction {
+    /// The form with a number, its place in the enum. None above the last.
+    #[inline(always)]
+    pub fn from_number(number: u32) -> Option<AArch64Instruction>
+        ensures { result ≡ slice_get aarch64_forms number }
+    {
+        FORMS.get(number as usize).copied()
     }
 }

@@ -1,6 +1,7 @@
 //! Relaxation rewrites of AArch64.
 
-ghost use Rattle.std.specs.Prelude.{◌++◌, Some, take, ◌≡◌, ◌≤◌, ◌<◌, ◌+◌, ◌↔◌, ◌∷◌, [], IsTrue};
+ghost use Rattle.linker_utils.specs.Numbers.{aarch64_rewrites};
+ghost use Rattle.std.specs.Prelude.{slice_get, ◌++◌, Some, take, ◌≡◌, ◌≤◌, ◌<◌, ◌+◌, ◌↔◌, ◌∷◌, [], IsTrue};
 ghost use Rattle.std.specs.Prelude.{length, drop, true, ◌*◌, ◌^◌};
 ghost use Rattle.std.specs.Int.{byte_len, cast_unsigned, w32, w64, from_le_bytes, to_le_bytes};
 ghost use Rattle.linker_base.specs.Form.{window_of, place_sum, BitsWritten, Fits, Written, MachineReads, IsReadBack};
@@ -105,6 +106,30 @@ const NOP: u32 = 0xd503_201f;
 const ADR_WORD: u32 = 0x1000_0000;
 
 impl RelaxationKind {
+    /// The rewrite with a number, its place in the enum. None above the last.
+    #[inline(always)]
+    pub fn from_number(number: u32) -> Option<RelaxationKind>
+        ensures { result ≡ slice_get aarch64_rewrites number }
+    {
+        let kind = match number {
+            0 => RelaxationKind::NoOp,
+            1 => RelaxationKind::ReplaceWithNop,
+            2 => RelaxationKind::MovzX0Lsl16,
+            3 => RelaxationKind::MovkX0,
+            4 => RelaxationKind::MovzXnLsl16,
+            5 => RelaxationKind::MovkXn,
+            6 => RelaxationKind::AdrpToAdr,
+            7 => RelaxationKind::AdrpX0,
+            8 => RelaxationKind::LdrX0,
+            9 => RelaxationKind::AddToAdr,
+            10 => RelaxationKind::LdrToAdr,
+            11 => RelaxationKind::LdrToAdd,
+            12 => RelaxationKind::AdrpAddToNopAdr,
+            _ => return None,
+        };
+        Some(kind)
+    }
+
     /// Rewrites the instruction at an offset of a section. All other bytes, the offset and the
     /// addend are unchanged.
     #[inline]

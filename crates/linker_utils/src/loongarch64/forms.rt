@@ -1,7 +1,8 @@
 //! LoongArch: the immediates of instructions.
 
-ghost use Rattle.std.specs.Prelude.{◌≡◌, ◌≤◌, ◌<◌, ◌^◌, true, length, drop};
+ghost use Rattle.std.specs.Prelude.{slice_get, ◌≡◌, ◌≤◌, ◌<◌, ◌^◌, true, length, drop};
 ghost use Rattle.std.specs.Int.{byte_len, cast_unsigned, w64};
+ghost use Rattle.linker_utils.specs.Numbers.{loongarch64_forms};
 ghost use Rattle.linker_base.specs.Form.{window_of, BitsWritten, Fits, Written, MachineReads, IsReadBack, place_sum};
 ghost use Rattle.linker_utils.specs.Inner.FormLaws.{loongarch_keeps, loongarch_restored};
 ghost use Rattle.linker_utils.specs.Inner.Immediates.{is_one_word, loongarch_bits, loongarch_read};
@@ -268,5 +269,26 @@ impl InstructionForm for LoongArch64Instruction {
     #[inline]
     fn read(self, bytes: &[u8]) -> (u64, bool) {
         self.read_value(bytes)
+    }
+}
+
+/// The forms by their numbers. A table, since a match becomes a jump by the number where what follows
+/// differs by the form.
+static FORMS: &[LoongArch64Instruction] = &[
+    LoongArch64Instruction::Shift5,
+    LoongArch64Instruction::Shift10,
+    LoongArch64Instruction::Branch26,
+    LoongArch64Instruction::Branch21,
+    LoongArch64Instruction::Call30,
+    LoongArch64Instruction::Call36,
+];
+
+impl LoongArch64Instruction {
+    /// The form with a number, its place in the enum. None above the last.
+    #[inline(always)]
+    pub fn from_number(number: u32) -> Option<LoongArch64Instruction>
+        ensures { result ≡ slice_get loongarch64_forms number }
+    {
+        FORMS.get(number as usize).copied()
     }
 }

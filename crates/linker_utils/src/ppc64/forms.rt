@@ -1,7 +1,8 @@
 //! PowerPC64 instructions that hold a value.
 
-ghost use Rattle.std.specs.Prelude.{◌≡◌, ◌<◌, ◌≤◌, ◌^◌, ◌-◌, ◌↔◌, ℕ, IsTrue, length, drop, bit_and, bit_or};
+ghost use Rattle.std.specs.Prelude.{slice_get, ◌≡◌, ◌<◌, ◌≤◌, ◌^◌, ◌-◌, ◌↔◌, ℕ, IsTrue, length, drop, bit_and, bit_or};
 ghost use Rattle.std.specs.Int.{byte_len, cast_unsigned, from_le_bytes, w32, w64};
+ghost use Rattle.linker_utils.specs.Numbers.{ppc64_forms};
 ghost use Rattle.linker_base.specs.Form.{window_of, Written, MachineReads, IsReadBack, BitsWritten, place_sum};
 ghost use Rattle.linker_base.specs.Rewrite.{CanRewrite, rewritten, offset_after, addend_after};
 ghost use Rattle.linker_utils.specs.Inner.FormLaws.{ppc64_keeps, ppc64_restored};
@@ -142,5 +143,25 @@ impl InstructionForm for Ppc64Instruction {
     #[inline]
     fn read(self, bytes: &[u8]) -> (u64, bool) {
         self.read_value(bytes)
+    }
+}
+
+/// The forms by their numbers. A table, since a match becomes a jump by the number where what follows
+/// differs by the form.
+static FORMS: &[Ppc64Instruction] = &[
+    Ppc64Instruction::D,
+    Ppc64Instruction::Ds,
+    Ppc64Instruction::Branch14,
+    Ppc64Instruction::Branch24,
+    Ppc64Instruction::Prefixed,
+];
+
+impl Ppc64Instruction {
+    /// The form with a number, its place in the enum. None above the last.
+    #[inline(always)]
+    pub fn from_number(number: u32) -> Option<Ppc64Instruction>
+        ensures { result ≡ slice_get ppc64_forms number }
+    {
+        FORMS.get(number as usize).copied()
     }
 }

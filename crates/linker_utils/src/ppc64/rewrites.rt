@@ -1,6 +1,7 @@
 //! Relaxation rewrites of PowerPC64.
 
-ghost use Rattle.std.specs.Prelude.{◌≡◌, ◌<◌, ◌≤◌, ◌^◌, ◌-◌, ◌↔◌, ℕ, IsTrue, length, drop, bit_and, bit_or};
+ghost use Rattle.linker_utils.specs.Numbers.{ppc64_rewrites};
+ghost use Rattle.std.specs.Prelude.{slice_get, ◌≡◌, ◌<◌, ◌≤◌, ◌^◌, ◌-◌, ◌↔◌, ℕ, IsTrue, length, drop, bit_and, bit_or};
 ghost use Rattle.std.specs.Int.{byte_len, cast_unsigned, from_le_bytes, w32, w64};
 ghost use Rattle.linker_base.specs.Form.{window_of, Written, MachineReads, IsReadBack, BitsWritten, place_sum};
 ghost use Rattle.linker_base.specs.Rewrite.{CanRewrite, rewritten, offset_after, addend_after};
@@ -19,6 +20,18 @@ pub enum RelaxationKind {
 }
 
 impl RelaxationKind {
+    /// The rewrite with a number, its place in the enum. None above the last.
+    #[inline(always)]
+    pub fn from_number(number: u32) -> Option<RelaxationKind>
+        ensures { result ≡ slice_get ppc64_rewrites number }
+    {
+        let kind = match number {
+            0 => RelaxationKind::NoOp,
+            _ => return None,
+        };
+        Some(kind)
+    }
+
     /// Rewrites the instruction at an offset of a section. The section, the offset and the addend
     /// are unchanged.
     #[inline]

@@ -1,7 +1,8 @@
 //! RISC-V: the immediates of instructions.
 
-ghost use Rattle.std.specs.Prelude.{◌≡◌, ◌≤◌, ◌<◌, ◌^◌, true, length, drop};
+ghost use Rattle.std.specs.Prelude.{slice_get, ◌≡◌, ◌≤◌, ◌<◌, ◌^◌, true, length, drop};
 ghost use Rattle.std.specs.Int.{byte_len, cast_unsigned, w64};
+ghost use Rattle.linker_utils.specs.Numbers.{riscv_forms};
 ghost use Rattle.linker_base.specs.Form.{window_of, BitsWritten, Written, MachineReads, IsReadBack};
 ghost use Rattle.linker_utils.specs.Inner.FormLaws.{riscv_keeps, riscv_restored};
 ghost use Rattle.linker_utils.specs.Inner.Immediates.{is_by_masks, riscv_bits};
@@ -298,5 +299,29 @@ impl InstructionForm for RiscVInstruction {
     #[inline]
     fn read(self, bytes: &[u8]) -> (u64, bool) {
         self.read_value(bytes)
+    }
+}
+
+/// The forms by their numbers. A table, since a match becomes a jump by the number where what follows
+/// differs by the form.
+static FORMS: &[RiscVInstruction] = &[
+    RiscVInstruction::UType,
+    RiscVInstruction::IType,
+    RiscVInstruction::SType,
+    RiscVInstruction::BType,
+    RiscVInstruction::JType,
+    RiscVInstruction::CbType,
+    RiscVInstruction::CjType,
+    RiscVInstruction::CluiType,
+    RiscVInstruction::UiType,
+];
+
+impl RiscVInstruction {
+    /// The form with a number, its place in the enum. None above the last.
+    #[inline(always)]
+    pub fn from_number(number: u32) -> Option<RiscVInstruction>
+        ensures { result ≡ slice_get riscv_forms number }
+    {
+        FORMS.get(number as usize).copied()
     }
 }

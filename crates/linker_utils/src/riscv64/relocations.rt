@@ -195,7 +195,7 @@ static CLUI: TableRow =
     row!(Absolute, (0..32 RiscV::CluiType), signed_or_unsigned 32 reach -0x20800, 0x1f800);
 
 /// What `R_RISCV_HI20` means once its `lui` has become a `c.lui`.
-pub(super) fn clui() -> Row
+pub fn clui_row() -> Row
     ensures { result ≡ clui_row }
 {
     Row::of(&CLUI)

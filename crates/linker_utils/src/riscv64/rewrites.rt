@@ -1,6 +1,7 @@
 //! RISC-V: relaxation rewrites.
 
-ghost use Rattle.std.specs.Prelude.{◌≡◌, ◌≤◌, ◌↔◌, IsTrue, length, ◌≢◌};
+ghost use Rattle.linker_utils.specs.Numbers.{riscv_rewrites};
+ghost use Rattle.std.specs.Prelude.{slice_get, ◌≡◌, ◌≤◌, ◌↔◌, IsTrue, length, ◌≢◌};
 ghost use Rattle.std.specs.Int.{from_le_bytes, w16};
 ghost use Rattle.linker_base.specs.Rewrite.{CanRewrite, rewritten, offset_after, addend_after};
 ghost use Rattle.linker_base.specs.Bits.{signed};
@@ -40,6 +41,23 @@ pub enum RelaxationKind {
 }
 
 impl RelaxationKind {
+    /// The rewrite with a number, its place in the enum. None above the last.
+    #[inline(always)]
+    pub fn from_number(number: u32) -> Option<RelaxationKind>
+        ensures { result ≡ slice_get riscv_rewrites number }
+    {
+        let kind = match number {
+            0 => RelaxationKind::NoOp,
+            1 => RelaxationKind::ReplaceWithNop,
+            2 => RelaxationKind::CallToJal,
+            3 => RelaxationKind::Hi20ToCLui,
+            4 => RelaxationKind::Hi20Delete,
+            5 => RelaxationKind::Lo12Rs1ToZero,
+            _ => return None,
+        };
+        Some(kind)
+    }
+
     /// Rewrites the instruction at an offset of a section. All other bytes, the offset and the
     /// addend are unchanged.
     #[inline]
@@ -146,7 +164,7 @@ impl RelaxationKind {
         ensures others { RowReadsNoOther result }
         ensures fits { RowFits result }
     {
-        relocations::clui().info()
+        relocations::clui_row().info()
     }
 }
 

@@ -1,6 +1,7 @@
 //! Relaxation rewrites of x86-64.
 
-ghost use Rattle.std.specs.Prelude.{◌≡◌, ◌≤◌, ◌↔◌, IsTrue, Some};
+ghost use Rattle.linker_utils.specs.Numbers.{x86_64_rewrites};
+ghost use Rattle.std.specs.Prelude.{slice_get, ◌≡◌, ◌≤◌, ◌↔◌, IsTrue, Some};
 ghost use Rattle.linker_base.specs.Rewrite.{IsRewritable, CanRewrite, rewritten, offset_after};
 ghost use Rattle.linker_base.specs.Rewrite.{addend_after};
 ghost use Rattle.linker_utils.specs.X86.{rex_reg_to_rm, evex_reg_to_rm, modrm_reg_to_rm, operand};
@@ -157,6 +158,36 @@ fn put_add(section: &mut [u8], offset: u64, n: u8)
 }
 
 impl RelaxationKind {
+    /// The rewrite with a number, its place in the enum. None above the last. The rewrites that
+    /// have a number of bytes before the field take `n`.
+    #[inline(always)]
+    pub fn from_number(number: u32, n: u8) -> Option<RelaxationKind>
+        ensures { result ≡ slice_get (x86_64_rewrites n) number }
+    {
+        let kind = match number {
+            0 => RelaxationKind::MovIndirectToLea,
+            1 => RelaxationKind::MovIndirectToAbsolute,
+            2 => RelaxationKind::RexMovIndirectToAbsolute(n),
+            3 => RelaxationKind::RexAddIndirectToAbsolute(n),
+            4 => RelaxationKind::RexSubIndirectToAbsolute(n),
+            5 => RelaxationKind::RexCmpIndirectToAbsolute(n),
+            6 => RelaxationKind::CallIndirectToRelative,
+            7 => RelaxationKind::JmpIndirectToRelative,
+            8 => RelaxationKind::NoOp,
+            9 => RelaxationKind::TlsGdToLocalExec,
+            10 => RelaxationKind::TlsGdToLocalExecLarge,
+            11 => RelaxationKind::TlsLdToLocalExec,
+            12 => RelaxationKind::TlsLdToLocalExecNoPlt,
+            13 => RelaxationKind::TlsLdToLocalExec64,
+            14 => RelaxationKind::TlsGdToInitialExec,
+            15 => RelaxationKind::TlsDescToLocalExec(n),
+            16 => RelaxationKind::TlsDescToInitialExec,
+            17 => RelaxationKind::SkipTlsDescCall,
+            _ => return None,
+        };
+        Some(kind)
+    }
+
     #[inline(always)]
     fn rewrite(self, section: &mut [u8], offset_in_section: &mut u64, addend: &mut i64)
         requires { CanRewrite (x86_64_rewrite self) section.old offset_in_section.old }

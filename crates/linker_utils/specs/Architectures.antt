@@ -1,0 +1,98 @@
+-- What an architecture's codes and numbers name.
+use Rattle.std.specs.Prelude.{◌≡◌, ℕ, slice_get, Option, Some, None}
+use Rattle.linker_base.specs.Rewrite.{Rewrite}
+use Rattle.linker_base.specs.declared.relaxation.RelocationModifier.{RelocationModifier}
+use Rattle.linker_utils.specs.AArch64.{aarch64_rewrite, aarch64_modifier}
+use Rattle.linker_utils.specs.AArch64Relocations.{aarch64_name, aarch64_row}
+use Rattle.linker_utils.specs.ElfNames.{ElfName, IsNameOf}
+use Rattle.linker_utils.specs.LoongArch.{loongarch_rewrite, loongarch_modifier}
+use Rattle.linker_utils.specs.LoongArchRelocations.{loongarch_name, loongarch_row, loongarch_uleb128_role}
+use Rattle.linker_utils.specs.Numbers.{aarch64_forms, riscv_forms, loongarch64_forms, ppc64_forms}
+use Rattle.linker_utils.specs.Numbers.{aarch64_rewrites, riscv_rewrites, loongarch64_rewrites}
+use Rattle.linker_utils.specs.Numbers.{ppc64_rewrites, x86_64_rewrites}
+use Rattle.linker_utils.specs.Ppc64.{ppc64_rewrite, ppc64_modifier}
+use Rattle.linker_utils.specs.Ppc64Relocations.{ppc64_name, ppc64_row}
+use Rattle.linker_utils.specs.RiscV.{riscv_rewrite, riscv_modifier}
+use Rattle.linker_utils.specs.RiscVRelocations.{riscv_relocation, riscv_name, riscv_uleb128_role}
+use Rattle.linker_utils.specs.X86.{x86_64_rewrite, x86_64_modifier}
+use Rattle.linker_utils.specs.X86Relocations.{x86_64_name, x86_64_row}
+use Rattle.linker_utils.specs.declared.architecture.Relaxation.{Relaxation}
+use Rattle.linker_utils.specs.declared.architecture.Relaxation.TheVariants as relaxations
+use Rattle.linker_utils.specs.declared.elf.Architecture.{Architecture}
+use Rattle.linker_utils.specs.declared.elf.Architecture.TheVariants.{AArch64, RiscV, LoongArch64}
+use Rattle.linker_utils.specs.declared.elf.Architecture.TheVariants.{Ppc64, X86_64}
+use Rattle.linker_utils.specs.declared.elf.RelocationInstruction.{RelocationInstruction}
+use Rattle.linker_utils.specs.declared.elf.RelocationInstruction.TheVariants as insns
+use Rattle.linker_utils.specs.declared.elf.RelocationKindInfo.{RelocationKindInfo}
+use Rattle.linker_utils.specs.declared.elf.Uleb128Role.{Uleb128Role}
+
+-- ---- relocations, by their codes
+
+-- a value, as the row or the code and text, of the name that a code has among names
+pub record IsOf {Name A : Type 0} (elf : Name → ElfName) (value_of : Name → A) (code : ℕ)
+    (value : A) : Type 0 where
+  pub name : Name
+  pub is_name : IsNameOf elf code name
+  pub value_is : value ≡ value_of name
+
+-- what the relocation with a code means
+abbrev pub IsRow : Architecture → ℕ → Option RelocationKindInfo → Type 0
+IsRow AArch64 = IsOf aarch64_name aarch64_row
+IsRow RiscV = IsOf riscv_name (λ name. (riscv_relocation name).row)
+IsRow LoongArch64 = IsOf loongarch_name loongarch_row
+IsRow Ppc64 = IsOf ppc64_name ppc64_row
+IsRow X86_64 = IsOf x86_64_name x86_64_row
+
+-- how ELF names it
+abbrev pub IsElfName : Architecture → ℕ → ElfName → Type 0
+IsElfName AArch64 = IsOf aarch64_name aarch64_name
+IsElfName RiscV = IsOf riscv_name riscv_name
+IsElfName LoongArch64 = IsOf loongarch_name loongarch_name
+IsElfName Ppc64 = IsOf ppc64_name ppc64_name
+IsElfName X86_64 = IsOf x86_64_name x86_64_name
+
+-- what it does with a ULEB128 number
+abbrev pub IsRole : Architecture → ℕ → Option Uleb128Role → Type 0
+IsRole RiscV = IsOf riscv_name riscv_uleb128_role
+IsRole LoongArch64 = IsOf loongarch_name loongarch_uleb128_role
+IsRole architecture = λ code role. role ≡ None
+
+-- ---- forms and rewrites, by their numbers
+
+abbrev pub of_some : {A B : Type 0} → (A → B) → Option A → Option B
+of_some of None = None
+of_some of (Some x) = Some (of x)
+
+-- the form with a number
+abbrev pub form_of_number : Architecture → ℕ → Option RelocationInstruction
+form_of_number AArch64 n = of_some insns.AArch64 (slice_get aarch64_forms n)
+form_of_number RiscV n = of_some insns.RiscV (slice_get riscv_forms n)
+form_of_number LoongArch64 n = of_some insns.LoongArch64 (slice_get loongarch64_forms n)
+form_of_number Ppc64 n = of_some insns.Ppc64 (slice_get ppc64_forms n)
+form_of_number X86_64 n = None
+
+-- the rewrite with a number, and with a count of bytes before the field
+abbrev pub rewrite_of_number : Architecture → ℕ → ℕ → Option Relaxation
+rewrite_of_number AArch64 number n = of_some relaxations.AArch64 (slice_get aarch64_rewrites number)
+rewrite_of_number RiscV number n = of_some relaxations.RiscV (slice_get riscv_rewrites number)
+rewrite_of_number LoongArch64 number n =
+    of_some relaxations.LoongArch64 (slice_get loongarch64_rewrites number)
+rewrite_of_number Ppc64 number n = of_some relaxations.Ppc64 (slice_get ppc64_rewrites number)
+rewrite_of_number X86_64 number n =
+    of_some relaxations.X86_64 (slice_get (x86_64_rewrites n) number)
+
+-- what a rewrite of any architecture does
+abbrev pub relaxation_rewrite : Relaxation → Option Rewrite
+relaxation_rewrite (relaxations.AArch64 kind) = aarch64_rewrite kind
+relaxation_rewrite (relaxations.RiscV kind) = riscv_rewrite kind
+relaxation_rewrite (relaxations.LoongArch64 kind) = loongarch_rewrite kind
+relaxation_rewrite (relaxations.Ppc64 kind) = ppc64_rewrite kind
+relaxation_rewrite (relaxations.X86_64 kind) = x86_64_rewrite kind
+
+-- what becomes of the relocation after it
+abbrev pub relaxation_modifier : Relaxation → RelocationModifier
+relaxation_modifier (relaxations.AArch64 kind) = aarch64_modifier kind
+relaxation_modifier (relaxations.RiscV kind) = riscv_modifier kind
+relaxation_modifier (relaxations.LoongArch64 kind) = loongarch_modifier kind
+relaxation_modifier (relaxations.Ppc64 kind) = ppc64_modifier kind
+relaxation_modifier (relaxations.X86_64 kind) = x86_64_modifier kind
