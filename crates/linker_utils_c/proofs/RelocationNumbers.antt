@@ -1,7 +1,6 @@
 -- A row's numbers are what C is promised of them.
-use Rattle.std.proofs.Common.{◌≡◌, ℕ, ℤ, refl, sym, subst, ap, unwrap_or, Option, Some, None, Ok}
-use Rattle.std.proofs.lemmas.Option.{none-some}
-use Rattle.linker_utils.specs.Numbers.{numbers_of, in_numbers, form_number, form_machine}
+use Rattle.std.proofs.Common.{◌≡◌, ℤ, refl, Option, Some, None, Ok}
+use Rattle.linker_utils.specs.Numbers.{numbers_of, form_number, form_machine}
 use Rattle.linker_utils.specs.declared.aarch64.forms.AArch64Instruction.{AArch64Instruction}
 use Rattle.linker_utils.specs.declared.aarch64.forms.AArch64Instruction.TheVariants.{Adr}
 use Rattle.linker_utils.specs.declared.riscv64.forms.RiscVInstruction.{RiscVInstruction}
@@ -15,11 +14,8 @@ use Rattle.linker_utils.specs.declared.elf.RelocationInstruction.TheVariants.{AA
 use Rattle.linker_utils.specs.declared.elf.RelocationKindInfo.{RelocationKindInfo}
 use Rattle.linker_utils.specs.declared.elf.RelocationSize.{RelocationSize}
 use Rattle.linker_utils.specs.declared.elf.RelocationSize.TheVariants.{ByteSize, BitMasking}
-use Rattle.linker_utils.specs.declared.elf.numbers.RelocationNumbers.{RelocationNumbers}
 use Rattle.linker_utils_c.specs.Forms.{named_form}
-use Rattle.linker_utils_c.specs.Relocations.{InNumbers, IsSize, IsRange, IsReturned}
-use Rattle.linker_utils_c.specs.Status.{code}
-use Rattle.linker_utils_c.specs.declared.status.Status.TheVariants.{Success}
+use Rattle.linker_utils_c.specs.Relocations.{InNumbers, IsSize, IsRange}
 
 aarch64_named : (f : AArch64Instruction) → named_form (form_machine (AArch64 f)) (form_number (AArch64 f)) ≡ Ok (AArch64 f)
 aarch64_named Adr = refl
@@ -63,9 +59,3 @@ are_numbers row =
       thunkable = refl;
       implicit_addend = refl;
     }
-
-pub some_returned : (numbers before : RelocationNumbers) (meaning : Option RelocationKindInfo) (status : ℕ)
-    → Some numbers ≡ in_numbers meaning → status ≡ code Success → IsReturned meaning status before numbers
-some_returned numbers before None status is success = absurd (none-some numbers (sym is))
-some_returned numbers before (Some row) status is success =
-    (success, subst (λ n. InNumbers row n) (sym (ap (λ o. unwrap_or o numbers) is)) (are_numbers row))

@@ -1,37 +1,29 @@
 -- The numbers by which C names forms of instructions.
 use Rattle.std.specs.Prelude.{◌≡◌, ◌<◌, ◌≤◌, Bool, length, drop, ℕ, List}
-use Rattle.std.specs.Prelude.{slice_get, Option, None, Some, Result, Ok, Err}
+use Rattle.std.specs.Prelude.{Option, None, Some, Result, Ok, Err}
 use Rattle.std.specs.Int.{byte_len}
 use Rattle.linker_base.specs.Form.{Form, window_of, Fits, Written, MachineReads, IsReadBack}
+use Rattle.linker_utils.specs.Architectures.{form_of_number}
 use Rattle.linker_utils.specs.Elf.{architecture_of}
-use Rattle.linker_utils.specs.Numbers.{aarch64_forms, riscv_forms, loongarch64_forms}
-use Rattle.linker_utils.specs.Numbers.{ppc64_forms}
 use Rattle.linker_utils.specs.declared.elf.Architecture.{Architecture}
-use Rattle.linker_utils.specs.declared.elf.Architecture.TheVariants as architectures
+use Rattle.linker_utils.specs.declared.elf.Architecture.TheVariants.{X86_64}
 use Rattle.linker_utils.specs.declared.elf.RelocationInstruction.{RelocationInstruction}
-use Rattle.linker_utils.specs.declared.elf.RelocationInstruction.TheVariants.{AArch64, RiscV}
-use Rattle.linker_utils.specs.declared.elf.RelocationInstruction.TheVariants.{LoongArch64, Ppc64}
 use Rattle.linker_utils_c.specs.declared.status.Status.{Status}
 use Rattle.linker_utils_c.specs.declared.status.Status.TheVariants.{Success, UnknownArchitecture}
 use Rattle.linker_utils_c.specs.declared.status.Status.TheVariants.{UnknownForm, TooShort}
 use Rattle.linker_utils_c.specs.declared.status.Status.TheVariants.{DoesNotFit}
 use Rattle.linker_utils_c.specs.Status.{code}
 
--- the form at a place of a list
-abbrev pub listed_form : {A : Type 0} → (A → RelocationInstruction) → Option A
-    → Result RelocationInstruction Status
-listed_form of None = Err UnknownForm
-listed_form of (Some form) = Ok (of form)
+-- a form, or that there is none
+abbrev pub form_or_unknown : Option RelocationInstruction → Result RelocationInstruction Status
+form_or_unknown None = Err UnknownForm
+form_or_unknown (Some form) = Ok form
 
 -- the form of a machine (e_machine) and a number, or which of the two is unknown
 abbrev pub form_among : Option Architecture → ℕ → Result RelocationInstruction Status
 form_among None form = Err UnknownArchitecture
-form_among (Some architectures.AArch64) form = listed_form AArch64 (slice_get aarch64_forms form)
-form_among (Some architectures.RiscV) form = listed_form RiscV (slice_get riscv_forms form)
-form_among (Some architectures.LoongArch64) form =
-    listed_form LoongArch64 (slice_get loongarch64_forms form)
-form_among (Some architectures.Ppc64) form = listed_form Ppc64 (slice_get ppc64_forms form)
-form_among (Some architectures.X86_64) form = Err UnknownArchitecture
+form_among (Some X86_64) form = Err UnknownArchitecture
+form_among (Some architecture) form = form_or_unknown (form_of_number architecture form)
 
 abbrev pub named_form : ℕ → ℕ → Result RelocationInstruction Status
 named_form machine form = form_among (architecture_of machine) form

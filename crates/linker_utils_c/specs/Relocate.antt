@@ -4,22 +4,17 @@ use Rattle.std.specs.Prelude.{slice_index_or, Option, None, Some, Result, Ok, Er
 use Rattle.linker_base.specs.Uleb.{IsUlebWritten, IsUlebCause}
 use Rattle.linker_base.specs.declared.utils.Uleb128Error.{Uleb128Error}
 use Rattle.linker_base.specs.declared.utils.Uleb128Error.TheVariants as uleb_errors
-use Rattle.linker_utils.specs.LoongArchRelocations.{loongarch_name}
-use Rattle.linker_utils.specs.LoongArchRelocations.{loongarch_uleb128_role}
-use Rattle.linker_utils.specs.RiscVRelocations.{riscv_name}
-use Rattle.linker_utils.specs.RiscVRelocations.{riscv_uleb128_role}
+use Rattle.linker_utils.specs.Architectures.{IsRow}
 use Rattle.linker_utils.specs.Reach.{reach_of}
-use Rattle.linker_utils.specs.Relocate.{IsAccepted, IsWritten, IsCause}
+use Rattle.linker_utils.specs.Relocate.{IsCause, WritesRow}
 use Rattle.linker_utils.specs.Value.{value_of}
 use Rattle.linker_utils.specs.declared.elf.Architecture.{Architecture}
-use Rattle.linker_utils.specs.declared.elf.Architecture.TheVariants as architectures
 use Rattle.linker_utils.specs.declared.elf.RelocationKindInfo.{RelocationKindInfo}
 use Rattle.linker_utils.specs.declared.elf.Uleb128Role.{Uleb128Role}
 use Rattle.linker_utils.specs.declared.elf.Uleb128Role.TheVariants as roles
 use Rattle.linker_utils.specs.declared.elf.relocate.RelocateError.{RelocateError}
 use Rattle.linker_utils.specs.declared.elf.relocate.RelocateError.TheVariants as errors
 use Rattle.linker_utils.specs.declared.elf.value.Operands.{Operands}
-use Rattle.linker_utils_c.specs.Relocations.{IsMeaning, IsOf}
 use Rattle.linker_utils_c.specs.Status.{code}
 use Rattle.linker_utils_c.specs.declared.relocate.Reach.{Reach}
 use Rattle.linker_utils_c.specs.declared.relocate.Relocation.{Relocation}
@@ -66,8 +61,7 @@ write_status (Err errors.OutOfReach) = OutOfReach
 
 -- the bytes after a write, or why there is none
 abbrev pub IsOutcome : Result Unit RelocateError → RelocationKindInfo → ℤ → List ℕ → List ℕ → Type 0
-IsOutcome (Ok u) row v before after =
-    IsAccepted row v before × IsWritten row.size row.kind v before after
+IsOutcome (Ok u) row v before after = WritesRow row v before after
 IsOutcome (Err error) row v before after = IsCause row v before error × (after ≡ before)
 
 pub record IsRelocatedBy (row : RelocationKindInfo) (v : ℤ) (before after : List ℕ)
@@ -84,7 +78,7 @@ IsRelocatedAs (Some row) v before after status = IsRelocatedBy row v before afte
 pub record IsRelocated (architecture : Architecture) (r_type : ℕ) (v : ℤ) (before after : List ℕ)
     (status : ℕ) : Type 0 where
   pub meaning : Option RelocationKindInfo
-  pub means : IsMeaning architecture r_type meaning
+  pub means : IsRow architecture r_type meaning
   pub relocated : IsRelocatedAs meaning v before after status
 
 -- ---- many relocations
@@ -134,12 +128,6 @@ role_number None = 0
 role_number (Some roles.Sets) = 1
 role_number (Some roles.Adds) = 2
 role_number (Some roles.Subtracts) = 3
-
--- what the relocation of an architecture and a code does with a ULEB128 number
-abbrev pub IsRole : Architecture → ℕ → Option Uleb128Role → Type 0
-IsRole architectures.RiscV = IsOf riscv_name riscv_uleb128_role
-IsRole architectures.LoongArch64 = IsOf loongarch_name loongarch_uleb128_role
-IsRole architecture = λ r_type role. role ≡ None
 
 -- the status of a write or of why there is none
 abbrev pub uleb_status : Result Unit Uleb128Error → Status

@@ -1,168 +1,28 @@
 //! Rewrites of instructions, by `e_machine` and a rewrite's number.
 
-ghost use Rattle.std.specs.Prelude.{◌≡◌, ◌≢◌, slice_get, IfOk, IfErr, IfSome, IfNone};
-ghost use Rattle.linker_utils_c.specs.Status.{code};
-ghost use Rattle.linker_utils_c.specs.Rewrites.{aarch64_rewrites, riscv_rewrites};
-ghost use Rattle.linker_utils_c.specs.Rewrites.{loongarch64_rewrites, ppc64_rewrites};
-ghost use Rattle.linker_utils_c.specs.Rewrites.{x86_64_rewrites, named_rewrite, relaxation_rewrite};
-ghost use Rattle.linker_utils_c.specs.Rewrites.{relaxation_modifier, modifier_number, TakesRewrite};
+ghost use Rattle.std.specs.Prelude.{◌≡◌, ◌≢◌, IfOk, IfErr};
+ghost use Rattle.linker_utils.specs.Architectures.{relaxation_rewrite, relaxation_modifier};
+ghost use Rattle.linker_utils_c.specs.Rewrites.{named_rewrite, modifier_number, TakesRewrite};
 ghost use Rattle.linker_utils_c.specs.Rewrites.{IsRewritten};
+ghost use Rattle.linker_utils_c.specs.Status.{code};
 
 use crate::status::Status;
+use linker_utils::architecture::Relaxation;
 use linker_utils::elf::{Architecture, InstructionRewrite};
 use linker_utils::relaxation::RelocationModifier;
-use linker_utils::{aarch64, loongarch64, ppc64, riscv64, x86_64};
 
+/// The rewrite of a machine and a number, with the bytes before the field, or which of the first two
+/// is unknown.
 #[inline(always)]
-fn aarch64_rewrite(number: u32) -> Option<aarch64::RelaxationKind>
-    ensures { result ≡ slice_get aarch64_rewrites number }
+fn rewrite_of(machine: u16, rewrite: u32, n: u8) -> Result<Relaxation, Status>
+    ensures { result ≡ named_rewrite machine rewrite n }
 {
-    let kind = match number {
-        0 => aarch64::RelaxationKind::NoOp,
-        1 => aarch64::RelaxationKind::ReplaceWithNop,
-        2 => aarch64::RelaxationKind::MovzX0Lsl16,
-        3 => aarch64::RelaxationKind::MovkX0,
-        4 => aarch64::RelaxationKind::MovzXnLsl16,
-        5 => aarch64::RelaxationKind::MovkXn,
-        6 => aarch64::RelaxationKind::AdrpToAdr,
-        7 => aarch64::RelaxationKind::AdrpX0,
-        8 => aarch64::RelaxationKind::LdrX0,
-        9 => aarch64::RelaxationKind::AddToAdr,
-        10 => aarch64::RelaxationKind::LdrToAdr,
-        11 => aarch64::RelaxationKind::LdrToAdd,
-        12 => aarch64::RelaxationKind::AdrpAddToNopAdr,
-        _ => return None,
-    };
-    Some(kind)
-}
-
-#[inline(always)]
-fn riscv_rewrite(number: u32) -> Option<riscv64::RelaxationKind>
-    ensures { result ≡ slice_get riscv_rewrites number }
-{
-    let kind = match number {
-        0 => riscv64::RelaxationKind::NoOp,
-        1 => riscv64::RelaxationKind::ReplaceWithNop,
-        2 => riscv64::RelaxationKind::CallToJal,
-        3 => riscv64::RelaxationKind::Hi20ToCLui,
-        4 => riscv64::RelaxationKind::Hi20Delete,
-        5 => riscv64::RelaxationKind::Lo12Rs1ToZero,
-        _ => return None,
-    };
-    Some(kind)
-}
-
-#[inline(always)]
-fn loongarch64_rewrite(number: u32) -> Option<loongarch64::RelaxationKind>
-    ensures { result ≡ slice_get loongarch64_rewrites number }
-{
-    let kind = match number {
-        0 => loongarch64::RelaxationKind::NoOp,
-        1 => loongarch64::RelaxationKind::ReplaceWithNop,
-        _ => return None,
-    };
-    Some(kind)
-}
-
-#[inline(always)]
-fn ppc64_rewrite(number: u32) -> Option<ppc64::RelaxationKind>
-    ensures { result ≡ slice_get ppc64_rewrites number }
-{
-    let kind = match number {
-        0 => ppc64::RelaxationKind::NoOp,
-        _ => return None,
-    };
-    Some(kind)
-}
-
-#[inline(always)]
-fn x86_64_rewrite(number: u32, n: u8) -> Option<x86_64::RelaxationKind>
-    ensures { result ≡ slice_get (x86_64_rewrites n) number }
-{
-    let kind = match number {
-        0 => x86_64::RelaxationKind::MovIndirectToLea,
-        1 => x86_64::RelaxationKind::MovIndirectToAbsolute,
-        2 => x86_64::RelaxationKind::RexMovIndirectToAbsolute(n),
-        3 => x86_64::RelaxationKind::RexAddIndirectToAbsolute(n),
-        4 => x86_64::RelaxationKind::RexSubIndirectToAbsolute(n),
-        5 => x86_64::RelaxationKind::RexCmpIndirectToAbsolute(n),
-        6 => x86_64::RelaxationKind::CallIndirectToRelative,
-        7 => x86_64::RelaxationKind::JmpIndirectToRelative,
-        8 => x86_64::RelaxationKind::NoOp,
-        9 => x86_64::RelaxationKind::TlsGdToLocalExec,
-        10 => x86_64::RelaxationKind::TlsGdToLocalExecLarge,
-        11 => x86_64::RelaxationKind::TlsLdToLocalExec,
-        12 => x86_64::RelaxationKind::TlsLdToLocalExecNoPlt,
-        13 => x86_64::RelaxationKind::TlsLdToLocalExec64,
-        14 => x86_64::RelaxationKind::TlsGdToInitialExec,
-        15 => x86_64::RelaxationKind::TlsDescToLocalExec(n),
-        16 => x86_64::RelaxationKind::TlsDescToInitialExec,
-        17 => x86_64::RelaxationKind::SkipTlsDescCall,
-        _ => return None,
-    };
-    Some(kind)
-}
-
-// Whether a rewrite, if there is one, can be applied.
-#[inline(always)]
-fn test_by<R: InstructionRewrite>(rewrite: Option<R>, section: &[u8], offset: u64) -> Status
-    ensures known { IfSome rewrite (λ named.
-        TakesRewrite (R.rewrite named) section.now offset (code result)) }
-    ensures unknown { IfNone rewrite (result ≡ Status.UnknownRewrite) }
-{
-    let Some(named) = rewrite else {
-        return Status::UnknownRewrite;
-    };
-    if !named.can_apply(section, offset) {
-        return Status::CannotApply;
+    match Architecture::from_machine(machine) {
+        None => Err(Status::UnknownArchitecture),
+        Some(architecture) => architecture
+            .rewrite(rewrite, n)
+            .ok_or(Status::UnknownRewrite),
     }
-    Status::Success
-}
-
-// Applies a rewrite, if there is one.
-#[inline(always)]
-fn apply_by<R: InstructionRewrite>(
-    rewrite: Option<R>,
-    section: &mut [u8],
-    offset: &mut u64,
-    addend: &mut i64,
-) -> Status
-    ensures known { IfSome rewrite (λ named.
-        TakesRewrite (R.rewrite named) section.old offset.old (code result)) }
-    ensures rewritten { IfSome rewrite (λ named. result ≡ Status.Success
-        → IsRewritten (R.rewrite named) section.old section.new offset.old offset.new
-        addend.old addend.new) }
-    ensures unknown { IfNone rewrite (result ≡ Status.UnknownRewrite) }
-    ensures section_stays { result ≢ Status.Success → section.new ≡ section.old }
-    ensures offset_stays { result ≢ Status.Success → offset.new ≡ offset.old }
-    ensures addend_stays { result ≢ Status.Success → addend.new ≡ addend.old }
-{
-    let Some(named) = rewrite else {
-        return Status::UnknownRewrite;
-    };
-    if !named.can_apply(section, *offset) {
-        return Status::CannotApply;
-    }
-    named.apply(section, offset, addend);
-    Status::Success
-}
-
-// What becomes of the relocation after a rewrite, if there is one.
-#[inline(always)]
-fn modifier_by<R: InstructionRewrite>(rewrite: Option<R>, modifier: &mut u32) -> Status
-    ensures found { IfSome rewrite (λ named. (result ≡ Status.Success)
-        × (modifier.new ≡ modifier_number (R.modifier named))) }
-    ensures unknown { IfNone rewrite ((result ≡ Status.UnknownRewrite)
-        × (modifier.new ≡ modifier.old)) }
-{
-    let Some(named) = rewrite else {
-        return Status::UnknownRewrite;
-    };
-    *modifier = match named.next_modifier() {
-        RelocationModifier::Normal => 0,
-        RelocationModifier::SkipNextRelocation => 1,
-    };
-    Status::Success
 }
 
 /// Whether `linker_utils_apply` at this offset would succeed: the status is that of the rewrite.
@@ -178,17 +38,14 @@ pub extern "C" fn linker_utils_can_apply_nonnull(
         (λ named. TakesRewrite (relaxation_rewrite named) section.now offset result) }
     ensures unknown { IfErr (named_rewrite machine rewrite n) (λ status. result ≡ code status) }
 {
-    let Some(architecture) = Architecture::from_machine(machine) else {
-        return Status::UnknownArchitecture.number();
+    let named = match rewrite_of(machine, rewrite, n) {
+        Ok(named) => named,
+        Err(status) => return status.number(),
     };
-    let status = match architecture {
-        Architecture::AArch64 => test_by(aarch64_rewrite(rewrite), section, offset),
-        Architecture::RiscV => test_by(riscv_rewrite(rewrite), section, offset),
-        Architecture::LoongArch64 => test_by(loongarch64_rewrite(rewrite), section, offset),
-        Architecture::Ppc64 => test_by(ppc64_rewrite(rewrite), section, offset),
-        Architecture::X86_64 => test_by(x86_64_rewrite(rewrite, n), section, offset),
-    };
-    status.number()
+    if !named.can_apply(section, offset) {
+        return Status::CannotApply.number();
+    }
+    Status::Success.number()
 }
 
 /// Rewrites the instruction at an offset of a section, and sets the offset and the addend to those
@@ -214,22 +71,15 @@ pub extern "C" fn linker_utils_apply_nonnull(
     ensures offset_stays { result ≢ code Status.Success → offset.new ≡ offset.old }
     ensures addend_stays { result ≢ code Status.Success → addend.new ≡ addend.old }
 {
-    let Some(architecture) = Architecture::from_machine(machine) else {
-        return Status::UnknownArchitecture.number();
+    let named = match rewrite_of(machine, rewrite, n) {
+        Ok(named) => named,
+        Err(status) => return status.number(),
     };
-    let status = match architecture {
-        Architecture::AArch64 => apply_by(aarch64_rewrite(rewrite), section, offset, addend),
-        Architecture::RiscV => apply_by(riscv_rewrite(rewrite), section, offset, addend),
-        Architecture::LoongArch64 => apply_by(
-            loongarch64_rewrite(rewrite),
-            section,
-            offset,
-            addend,
-        ),
-        Architecture::Ppc64 => apply_by(ppc64_rewrite(rewrite), section, offset, addend),
-        Architecture::X86_64 => apply_by(x86_64_rewrite(rewrite, n), section, offset, addend),
-    };
-    status.number()
+    if !named.can_apply(section, *offset) {
+        return Status::CannotApply.number();
+    }
+    named.apply(section, offset, addend);
+    Status::Success.number()
 }
 
 /// What becomes of the relocation after that of the rewritten instruction, into `modifier`: 0 where
@@ -247,15 +97,13 @@ pub extern "C" fn linker_utils_next_modifier(
     ensures unknown { IfErr (named_rewrite machine rewrite n)
         (λ status. (result ≡ code status) × (modifier.new ≡ modifier.old)) }
 {
-    let Some(architecture) = Architecture::from_machine(machine) else {
-        return Status::UnknownArchitecture.number();
+    let named = match rewrite_of(machine, rewrite, n) {
+        Ok(named) => named,
+        Err(status) => return status.number(),
     };
-    let status = match architecture {
-        Architecture::AArch64 => modifier_by(aarch64_rewrite(rewrite), modifier),
-        Architecture::RiscV => modifier_by(riscv_rewrite(rewrite), modifier),
-        Architecture::LoongArch64 => modifier_by(loongarch64_rewrite(rewrite), modifier),
-        Architecture::Ppc64 => modifier_by(ppc64_rewrite(rewrite), modifier),
-        Architecture::X86_64 => modifier_by(x86_64_rewrite(rewrite, n), modifier),
+    *modifier = match named.next_modifier() {
+        RelocationModifier::Normal => 0,
+        RelocationModifier::SkipNextRelocation => 1,
     };
-    status.number()
+    Status::Success.number()
 }
