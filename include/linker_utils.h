@@ -406,13 +406,6 @@ struct linker_utils_relocation_info {
 uint32_t linker_utils_relocation(uint16_t machine, uint32_t r_type,
                                  struct linker_utils_relocation_info *info);
 
-/* What a relocation of RISC-V's TLS descriptors means: R_RISCV_TLSDESC_HI20, _LOAD_LO12, _ADD_LO12
- * and _CALL. `linker_utils_relocation` returns LINKER_UTILS_UNKNOWN_RELOCATION for these;
- * `linker_utils_value`, `linker_utils_reach`, `linker_utils_relocate` and
- * `linker_utils_relocate_all` accept them. LINKER_UTILS_UNKNOWN_RELOCATION for all other types. */
-uint32_t linker_utils_tls_descriptor_relocation(uint32_t r_type,
-                                                struct linker_utils_relocation_info *info);
-
 /* Bytes that hold the name of any relocation. */
 #define LINKER_UTILS_NAME_SIZE 64
 

@@ -330,7 +330,7 @@ library!(
         ) -> Option<bool> {
             let written = |fixup: &Fixup| {
                 let place = &mut section[fixup.offset..];
-                let row = prepared_row(machine, fixup.r_type);
+                let row = listed_row(machine, fixup.r_type);
                 row.is_some_and(|row| row.write(fixup.value, place).is_ok())
             };
             Some(relocations.iter().all(written))
@@ -353,19 +353,11 @@ library!(
     }
 );
 
-/// As `row_of`, with what a write of the row tests.
+/// As `row_of`, as a `Row`.
 #[inline(always)]
-fn prepared_row(machine: u16, r_type: u32) -> Option<erased_crate::elf::PreparedRow> {
-    use erased_crate::{aarch64, loongarch64, ppc64, riscv64, x86_64};
-    match machine {
-        AARCH64 => aarch64::prepared_row(aarch64::AArch64Relocation::from_elf(r_type)),
-        RISCV => riscv64::prepared_row(riscv64::RiscVRelocation::from_elf(r_type)),
-        LOONGARCH64 => {
-            loongarch64::prepared_row(loongarch64::LoongArch64Relocation::from_elf(r_type))
-        }
-        PPC64 => ppc64::prepared_row(ppc64::Ppc64Relocation::from_elf(r_type)),
-        _ => x86_64::prepared_row(x86_64::X86_64Relocation::from_elf(r_type)),
-    }
+fn listed_row(machine: u16, r_type: u32) -> Option<erased_crate::elf::Row> {
+    use erased_crate::elf::Architecture;
+    Architecture::from_machine(machine)?.row(r_type)
 }
 
 #[cfg(feature = "upstream")]

@@ -331,7 +331,7 @@ fn streams(report: &mut Report) {
             let sides = [exports, behind, erased, original];
             report.line(&format!("{name}, as one call"), COUNT, is_same, sides);
         }
-        // one by one, by `linker_utils_relocate` and `PreparedRow::write`
+        // one by one, by `linker_utils_relocate` and `Row::write`
         let [exports, _, erased, _] = each(|library| {
             library.relocate_each(machine, &[], &mut [])?;
             Some(Side::writes(section.clone(), move |section| {

@@ -6,17 +6,20 @@
 
 pub(crate) mod engine;
 mod numbers;
-pub(crate) mod prepared;
 mod reach;
 mod relocate;
 pub(crate) mod rows;
 mod value;
 
+pub use crate::aarch64::AArch64Instruction;
 use crate::bit_misc::BitRange;
+pub use crate::loongarch64::LoongArch64Instruction;
+pub use crate::ppc64::Ppc64Instruction;
 use crate::relaxation::RelocationModifier;
+pub use crate::riscv64::RiscVInstruction;
 pub use numbers::RelocationNumbers;
-pub use prepared::PreparedRow;
 pub use relocate::RelocateError;
+pub use rows::Row;
 pub use value::Operands;
 
 /// 2 KiB: half a page.
@@ -505,125 +508,4 @@ impl InstructionForm for RelocationInstruction {
             RelocationInstruction::LoongArch64(insn) => insn.read(bytes),
         }
     }
-}
-
-/// RISC-V instructions with an immediate (RISC-V unprivileged ISA, "Immediate Encoding Variants"
-/// and "Compressed Instruction Formats"). Every value fits. The window is 4 bytes unless said
-/// otherwise. `a..b to c` means: value bits a to b, both included, are at window bits c and up.
-#[derive(Debug, Clone, Copy, PartialEq, Eq)]
-pub enum RiscVInstruction {
-    /// The U-immediate, of `lui` and `auipc`: 12..31 to 12 of the value plus 0x800, because the low
-    /// part is signed.
-    UType,
-    /// The I-immediate, of `addi`, loads and `jalr`: 0..11 to 20, signed.
-    IType,
-    /// The S-immediate, of stores: 0..4 to 7, 5..11 to 25, signed.
-    SType,
-    /// The B-immediate, of conditional branches: 11 to 7, 1..4 to 8, 5..10 to 25, 12 to 31. A
-    /// signed distance of 13 bits, whose lowest is 0.
-    BType,
-    /// The J-immediate, of `jal`: 12..19 to 12, 11 to 20, 1..10 to 21, 20 to 31. A signed distance
-    /// of 21 bits, whose lowest is 0.
-    JType,
-    /// The distance of `c.beqz` and `c.bnez`, in 2 bytes: 5 to 2, 1..2 to 3, 6..7 to 5, 3..4 to 10,
-    /// 8 to 12. Signed, of 9 bits, whose lowest is 0.
-    CbType,
-    /// The distance of `c.j`, in 2 bytes: 5 to 2, 1..3 to 3, 7 to 6, 6 to 7, 10 to 8, 8..9 to 9, 4
-    /// to 11, 11 to 12. Signed, of 12 bits, whose lowest is 0.
-    CjType,
-    /// The immediate of `c.lui`, in 2 bytes: of the value plus 0x800, 12..16 to 2 and 17 to 12.
-    CluiType,
-    /// A `UType` instruction and the `IType` instruction after it, in 8 bytes, as `auipc` with
-    /// `jalr`: both parts of one value.
-    UiType,
-}
-
-/// PowerPC64 instructions that hold a displacement. The window is 4 bytes, and 8 for `Prefixed`.
-/// Every value fits: except for `Prefixed` its bits are in the word where they are in the value,
-/// and all other bits are unchanged.
-/// Bits are numbered from the least significant one.
-#[derive(Debug, Clone, Copy, PartialEq, Eq)]
-pub enum Ppc64Instruction {
-    /// D-form, as `addi`: value bits 0 to 15 at bit 0 and up. A signed number of 16 bits (Power
-    /// ISA, "D-Form").
-    D,
-    /// DS-form, as `ld`: value bits 2 to 15 at bit 2 and up. A signed number of 16 bits, whose
-    /// lowest two are 0 (Power ISA, "DS-Form").
-    Ds,
-    /// B-form, as `bc`: value bits 2 to 15 at bit 2 and up. A signed distance of 16 bits, whose
-    /// lowest two are 0 (Power ISA, "B-Form").
-    Branch14,
-    /// I-form, as `b`: value bits 2 to 25 at bit 2 and up. A signed distance of 26 bits, whose
-    /// lowest two are 0 (Power ISA, "I-Form").
-    Branch24,
-    /// A prefixed instruction, as `paddi` and `pld`: value bits 16 to 33 at bit 0 and up of word
-    /// one, the prefix, and 0 to 15 at bit 0 and up of word two. A signed number of 34 bits (Power
-    /// ISA 3.1, "8LS:D-Form" and "MLS:D-Form").
-    Prefixed,
-}
-
-/// LoongArch instructions with an immediate, and the pairs of long calls (LoongArch Reference
-/// Manual, volume 1, "Instruction Encoding"). The window is 4 bytes, and 8 for a pair.
-#[derive(Debug, Clone, Copy, PartialEq, Eq)]
-pub enum LoongArch64Instruction {
-    /// An immediate of 20 bits: value bits 0 to 19 at bit 5 and up. Values below 2^20 fit.
-    Shift5,
-    /// An immediate of 12 bits at bit 10 and up, or of 16 there: value bits 0 to 11 are replaced,
-    /// and 12 to 15 are only ORed at bit 22 and up, where an immediate of 12 bits has its opcode.
-    /// Values below 2^16 fit. A read returns bits 0 to 11.
-    Shift10,
-    /// The offset of `b` and `bl` in units of 4 bytes: value bits 0 to 15 at bit 10 and up, 16 to
-    /// 25 at bit 0 and up. Signed, of 26 bits. Values below 2^26 fit.
-    Branch26,
-    /// The offset of `beqz` and `bnez` in units of 4 bytes: value bits 0 to 15 at bit 10 and up, 16
-    /// to 20 at bit 0 and up. Signed, of 21 bits. Values below 2^21 fit.
-    Branch21,
-    /// The pair of a call of `R_LARCH_CALL30`: value bits 9 to 19 at bit 14 and up of word one,
-    /// whose bits 5 to 13 become 0, and 0 to 8 at bit 10 and up of word two. Values below 2^20 fit.
-    Call30,
-    /// `pcaddu18i` and `jirl`, in units of 4 bytes: bits 16 to 35 of the value plus 0x8000 at bit 5
-    /// and up of word one, value bits 0 to 15 at bit 10 and up of word two. 0x8000 is added for the
-    /// high part because `jirl` reads the low part signed; a carry out of it is dropped. Values
-    /// below 2^36 fit. A read returns the high part times 2^16 plus the signed low part, modulo
-    /// 2^36.
-    Call36,
-}
-
-/// AArch64 instructions with an immediate (Arm Architecture Reference Manual for A-profile, DDI
-/// 0487, C6.2 and C7.2). The window is one instruction of 4 bytes. Except for `Movnz` and
-/// `MachOLow12` the value's bits are only ORed into it: the immediate has to be 0 before.
-#[derive(Debug, Clone, Copy, PartialEq, Eq)]
-pub enum AArch64Instruction {
-    /// `adr` and `adrp`: value bits 0 and 1 at bit 29 and up, 2 to 20 at bit 5 and up. Signed 21
-    /// bits, in bytes for `adr` and in pages of 4 KiB for `adrp`. Values below 2^21 fit.
-    Adr,
-    /// `movk` and `movz`: 16 bits at bit 5 and up. The machine reads them unsigned and shifts them
-    /// left by the instruction's shift; a read sign-extends them. Values below 2^16 fit.
-    Movkz,
-    /// `movn` and `movz` of 64 bits: the low 16 bits of the value at bit 5 and up, complemented for
-    /// a negative value. The sign sets the opcode. The register, bits 0 to 4, and the shift, bits
-    /// 21 and 22, are unchanged. Every value fits.
-    Movnz,
-    /// LDR (literal): signed 19 bits at bit 5 and up, in units of 4 bytes. Values below 2^19 fit.
-    Ldr,
-    /// LDR (immediate), unsigned offset: unsigned 12 bits at bit 10 and up, in units of the access
-    /// size. Values below 2^12 fit.
-    LdrRegister,
-    /// ADD (immediate): unsigned 12 bits at bit 10 and up. Values below 2^12 fit.
-    Add,
-    /// Loads and stores with an unsigned offset: 12 bits at bit 10 and up, in units of the access
-    /// size. The machine reads them unsigned; a read sign-extends them. Values below 2^12 fit.
-    LdSt,
-    /// `tbz` and `tbnz`: signed 14 bits at bit 5 and up, in units of 4 bytes. Values below 2^14
-    /// fit.
-    TstBr,
-    /// `b.cond`, `cbz` and `cbnz`: signed 19 bits at bit 5 and up, in units of 4 bytes. Values
-    /// below 2^19 fit.
-    Bcond,
-    /// `b` and `bl`: signed 26 bits at bit 0 and up, in units of 4 bytes. Values below 2^26 fit.
-    JumpCall,
-    /// The offset in a page, in bytes, of `add`, loads and stores: value bits scale to scale + 11
-    /// at bit 10 and up. The bits below the scale are dropped. The scale is log2 of the access size
-    /// of the old instruction, 0 to 4, and 0 for `add`. Values below 2^(12 + scale) fit.
-    MachOLow12,
 }

@@ -21,6 +21,7 @@ mod errors;
 mod linker_base;
 
 pub mod aarch64;
+pub mod architecture;
 pub mod elf;
 pub mod loongarch64;
 pub mod ppc64;

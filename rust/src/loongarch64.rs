@@ -9,8 +9,7 @@ mod relocations;
 mod rewrites;
 mod sequences;
 
-pub use relocations::{
-    LoongArch64Relocation, prepared_row, relocation_numbers, relocation_type_from_raw,
-};
+pub use forms::LoongArch64Instruction;
+pub use relocations::{LoongArch64Relocation, relocation_type_from_raw, row};
 pub use rewrites::RelaxationKind;
 pub use sequences::{highest_relocation_with_bias, write_address_sequence};

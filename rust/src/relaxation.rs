@@ -4,19 +4,13 @@
 //!
 #![doc = include_str!("../doc/relaxation.md")]
 
-mod packing;
-mod shrinking;
-
+pub use crate::riscv64::{
+    AsCall, AsChoice, PackError, RejectedCall, calls_apart, calls_shrinkable, first_not_apart,
+    first_not_shrinkable, pack_into, pack_section, packed_calls_reach_targets, packed_len,
+    shrink_calls, shrink_calls_into, shrunk_calls_are_accepted,
+};
 pub use crate::linker_base::relaxation::{
     AsDeletion, BLOCK_LEN, BlockHead, BlockedSlice, Counted, DeltaSlice, Looks, OutOfMemory,
     RelaxCursor, RelaxDelta, RelaxDeltaMap, RelocationModifier, SectionRelaxDeltas, first_invalid,
     input_to_output_counted, laws, opt_input_to_output, output_to_input_counted,
-};
-pub use packing::{
-    AsCall, PackError, RejectedCall, calls_apart, first_not_apart, pack_into, pack_section,
-    packed_calls_reach_targets, packed_len,
-};
-pub use shrinking::{
-    AsChoice, calls_shrinkable, first_not_shrinkable, shrink_calls, shrink_calls_into,
-    shrunk_calls_are_accepted,
 };

@@ -6,16 +6,23 @@
 
 mod calls;
 mod forms;
+mod packing;
 mod relocations;
 mod rewrites;
+mod shrinking;
 
-pub(crate) use calls::{distance_between, is_even};
 pub use calls::{
     CallError, JAL_MAX, JAL_MIN, JumpError, LinkRegister, distance_fits_jal, is_plain_call,
     jal_site, jal_site_with, relax_call, relax_call_over,
 };
-pub use relocations::{
-    RiscVRelocation, clui_numbers, prepared_row, prepared_tls_descriptor_row, relocation_numbers,
-    relocation_type_from_raw, tls_descriptor_numbers, tls_descriptor_relocation,
+pub use forms::RiscVInstruction;
+pub use packing::{
+    AsCall, PackError, RejectedCall, calls_apart, first_not_apart, pack_into, pack_section,
+    packed_calls_reach_targets, packed_len,
 };
+pub use relocations::{RiscVRelocation, clui_row, relocation_type_from_raw, row};
 pub use rewrites::RelaxationKind;
+pub use shrinking::{
+    AsChoice, calls_shrinkable, first_not_shrinkable, shrink_calls, shrink_calls_into,
+    shrunk_calls_are_accepted,
+};

@@ -605,14 +605,6 @@ static void call_relocate_all(void) {
     finish(status == LINKER_UTILS_OK || is_of_entry);
 }
 
-static void call_tls_descriptor_relocation(void) {
-    struct linker_utils_relocation_info *info = output(sizeof *info);
-    uint32_t status = CALL(tls_descriptor_relocation, any_relocation_type(), info);
-    expect(status != LINKER_UTILS_OK || info->machine == (info->is_bits ? LINKER_UTILS_RISCV : 0),
-           "not of RISC-V");
-    finish_with(status, 0 OR(UNKNOWN_RELOCATION));
-}
-
 static void call_clui_rel_info(void) {
     struct linker_utils_relocation_info *info = output(sizeof *info);
     CALL(clui_rel_info, info);
@@ -932,7 +924,7 @@ static void call_shrink_calls(void) {
 static void (*const all[])(void) = {
     call_status_text, call_window, call_write, call_read, call_apply, call_next_modifier,
     call_relocation, call_relocation_name, call_value, call_reach, call_relocate, call_relocate_all,
-    call_tls_descriptor_relocation, call_clui_rel_info, call_jal_site, call_jal_site_with, call_relax_call,
+    call_clui_rel_info, call_jal_site, call_jal_site_with, call_relax_call,
     call_tests, call_write_mov_sequence, call_write_address_sequence, call_write_ha_lo,
     call_u32_from_slice, call_u64_from_slice, call_read_u32, call_read_uleb128, call_write_uleb128,
     call_deltas_create,

@@ -338,14 +338,6 @@ pub fn relocation_name(architecture: Architecture, r_type: u32) -> Result<String
     Ok(String::from_utf8_lossy(&name[..used]).into_owned())
 }
 
-/// What a relocation of RISC-V's TLS descriptors means, for which `relocation` has no meaning.
-pub fn tls_descriptor_relocation(r_type: u32) -> Result<RelocationInfo, Status> {
-    let mut info = raw::RelocationInfo::default();
-    let status = unsafe { raw::linker_utils_tls_descriptor_relocation(r_type, &mut info) };
-    result_of(status, ())?;
-    Ok(info.into())
-}
-
 /// What `R_RISCV_HI20` means at a `c.lui`, which `RiscVRewrite::Hi20ToCLui` leaves.
 pub fn clui_rel_info() -> RelocationInfo {
     let mut info = raw::RelocationInfo::default();

@@ -85,7 +85,6 @@ extern "C" {
         name_used: *mut usize,
     ) -> u32;
     pub fn linker_utils_relocation(machine: u16, r_type: u32, info: *mut RelocationInfo) -> u32;
-    pub fn linker_utils_tls_descriptor_relocation(r_type: u32, info: *mut RelocationInfo) -> u32;
     pub fn linker_utils_clui_rel_info(info: *mut RelocationInfo);
     pub fn linker_utils_value(
         machine: u16,

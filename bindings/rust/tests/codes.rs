@@ -80,11 +80,11 @@ fn each_listed_relocation_is_found() {
 }
 
 #[test]
-fn tls_descriptors_have_a_meaning_of_their_own() {
-    for r_type in 0..1 << 16 {
-        let is_found = tls_descriptor_relocation(r_type).is_ok();
-        assert_eq!(is_found, (62..=65).contains(&r_type), "{r_type}");
+fn tls_descriptors_have_a_meaning() {
+    for r_type in 62..=65 {
+        let info = relocation(Architecture::RiscV, r_type).expect("its meaning");
+        let is_call = r_type == 65;
+        let kind = if is_call { RelocationKind::TlsDescCall } else { RelocationKind::TlsDesc };
+        assert_eq!(info.kind, kind, "{r_type}");
     }
-    let hi20 = tls_descriptor_relocation(62).expect("its meaning");
-    assert_eq!(hi20.kind, RelocationKind::TlsDesc);
 }

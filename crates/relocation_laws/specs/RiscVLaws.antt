@@ -3,7 +3,7 @@
 use Rattle.std.specs.Prelude.{ℕ, [], ◌∷◌, ℤ, pos, ◌+ℤ◌, ◌-ℤ◌, ◌-◌, ◌%◌, Option, Some}
 use Rattle.std.specs.Int.{int_rem_euclid}
 use Rattle.linker_utils.specs.RiscV.{riscv_form}
-use Rattle.linker_utils.specs.RiscVRelocations.{riscv_row, riscv_tls_descriptor_row, clui_row}
+use Rattle.linker_utils.specs.RiscVRelocations.{riscv_relocation, riscv_row, clui_row}
 use Rattle.linker_utils.specs.declared.elf.RelocationKindInfo.{RelocationKindInfo}
 use Rattle.linker_utils.specs.declared.riscv64.forms.RiscVInstruction.{RiscVInstruction}
 use Rattle.linker_utils.specs.declared.riscv64.forms.RiscVInstruction.TheVariants.{UType, IType, SType, BType}
@@ -69,8 +69,8 @@ EntryAddresses =
 abbrev pub Descriptor : RiscVRelocation → Type 0
 Descriptor low =
     Law
-    (here (riscv_tls_descriptor_row names.R_RISCV_TLSDESC_HI20)
-    ∷ here (riscv_tls_descriptor_row low) ∷ []) (upper_and_low place UType IType)
+    (here ((riscv_relocation names.R_RISCV_TLSDESC_HI20).row)
+    ∷ here ((riscv_relocation low).row) ∷ []) (upper_and_low place UType IType)
     entry_and_addend
 
 abbrev pub DescriptorAddresses : Type 0

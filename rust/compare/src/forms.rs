@@ -2,89 +2,15 @@
 //! Values in the immediates of instructions, by `e_machine` and a form's number.
 
 use crate::status::Status;
-use linker_utils::elf::{
-    AArch64Instruction, Architecture, InstructionForm, LoongArch64Instruction, Ppc64Instruction,
-    RelocationInstruction, RiscVInstruction,
-};
-
-// Tables, since a match becomes a jump by the number where what follows differs by the form.
-static AARCH64_FORMS: [AArch64Instruction; 11] = [
-    AArch64Instruction::Adr,
-    AArch64Instruction::Movkz,
-    AArch64Instruction::Movnz,
-    AArch64Instruction::Ldr,
-    AArch64Instruction::LdrRegister,
-    AArch64Instruction::Add,
-    AArch64Instruction::LdSt,
-    AArch64Instruction::TstBr,
-    AArch64Instruction::Bcond,
-    AArch64Instruction::JumpCall,
-    AArch64Instruction::MachOLow12,
-];
-
-#[inline(always)]
-fn aarch64_form(number: u32) -> Option<AArch64Instruction> {
-    AARCH64_FORMS.get(number as usize).copied()
-}
-
-static RISCV_FORMS: [RiscVInstruction; 9] = [
-    RiscVInstruction::UType,
-    RiscVInstruction::IType,
-    RiscVInstruction::SType,
-    RiscVInstruction::BType,
-    RiscVInstruction::JType,
-    RiscVInstruction::CbType,
-    RiscVInstruction::CjType,
-    RiscVInstruction::CluiType,
-    RiscVInstruction::UiType,
-];
-
-#[inline(always)]
-fn riscv_form(number: u32) -> Option<RiscVInstruction> {
-    RISCV_FORMS.get(number as usize).copied()
-}
-
-static LOONGARCH64_FORMS: [LoongArch64Instruction; 6] = [
-    LoongArch64Instruction::Shift5,
-    LoongArch64Instruction::Shift10,
-    LoongArch64Instruction::Branch26,
-    LoongArch64Instruction::Branch21,
-    LoongArch64Instruction::Call30,
-    LoongArch64Instruction::Call36,
-];
-
-#[inline(always)]
-fn loongarch64_form(number: u32) -> Option<LoongArch64Instruction> {
-    LOONGARCH64_FORMS.get(number as usize).copied()
-}
-
-static PPC64_FORMS: [Ppc64Instruction; 5] = [
-    Ppc64Instruction::D,
-    Ppc64Instruction::Ds,
-    Ppc64Instruction::Branch14,
-    Ppc64Instruction::Branch24,
-    Ppc64Instruction::Prefixed,
-];
-
-#[inline(always)]
-fn ppc64_form(number: u32) -> Option<Ppc64Instruction> {
-    PPC64_FORMS.get(number as usize).copied()
-}
+use linker_utils::elf::{Architecture, InstructionForm, RelocationInstruction};
 
 /// The form of a machine and a number, or which of the two is unknown.
 #[inline(always)]
 fn form_of(machine: u16, form: u32) -> Result<RelocationInstruction, Status> {
-    let Some(architecture) = Architecture::from_machine(machine) else {
-        return Err(Status::UnknownArchitecture);
-    };
-    let named = match architecture {
-        Architecture::AArch64 => aarch64_form(form).map(RelocationInstruction::AArch64),
-        Architecture::RiscV => riscv_form(form).map(RelocationInstruction::RiscV),
-        Architecture::LoongArch64 => loongarch64_form(form).map(RelocationInstruction::LoongArch64),
-        Architecture::Ppc64 => ppc64_form(form).map(RelocationInstruction::Ppc64),
-        Architecture::X86_64 => return Err(Status::UnknownArchitecture),
-    };
-    named.ok_or(Status::UnknownForm)
+    match Architecture::from_machine(machine) {
+        None | Some(Architecture::X86_64) => Err(Status::UnknownArchitecture),
+        Some(architecture) => architecture.form(form).ok_or(Status::UnknownForm),
+    }
 }
 
 /// The length in bytes of a form's window, into `window`. The errors are `UnknownArchitecture` and
@@ -114,32 +40,13 @@ pub fn linker_utils_fits_nonnull(
 }
 
 #[inline(always)]
-fn fit<F: InstructionForm>(form: F, value: u64, bytes: &[u8]) -> Status {
+fn fit(form: RelocationInstruction, value: u64, bytes: &[u8]) -> Status {
     if bytes.len() < form.window() {
         return Status::TooShort;
     }
     if !form.fits(value, bytes) {
         return Status::DoesNotFit;
     }
-    Status::Success
-}
-
-// Writes a value by a form, if there is one.
-#[inline(always)]
-fn write_by<F: InstructionForm>(
-    form: Option<F>,
-    value: u64,
-    negative: bool,
-    dest: &mut [u8],
-) -> Status {
-    let Some(named) = form else {
-        return Status::UnknownForm;
-    };
-    let status = fit(named, value, dest);
-    if status != Status::Success {
-        return status;
-    }
-    named.write(value, negative, dest);
     Status::Success
 }
 
@@ -153,41 +60,16 @@ pub fn linker_utils_write_nonnull(
     negative: bool,
     dest: &mut [u8],
 ) -> u32 {
-    let Some(architecture) = Architecture::from_machine(machine) else {
-        return Status::UnknownArchitecture.number();
+    let named = match form_of(machine, form) {
+        Ok(named) => named,
+        Err(status) => return status.number(),
     };
-    match architecture {
-        Architecture::AArch64 => write_by(aarch64_form(form), value, negative, dest).number(),
-        Architecture::RiscV => write_by(riscv_form(form), value, negative, dest).number(),
-        Architecture::LoongArch64 => write_by(
-            loongarch64_form(form),
-            value,
-            negative,
-            dest,
-        ).number(),
-        Architecture::Ppc64 => write_by(ppc64_form(form), value, negative, dest).number(),
-        Architecture::X86_64 => Status::UnknownArchitecture.number(),
+    let status = fit(named, value, dest);
+    if status != Status::Success {
+        return status.number();
     }
-}
-
-// Reads a value by a form, if there is one.
-#[inline(always)]
-fn read_by<F: InstructionForm>(
-    form: Option<F>,
-    bytes: &[u8],
-    value: &mut u64,
-    negative: &mut u8,
-) -> Status {
-    let Some(named) = form else {
-        return Status::UnknownForm;
-    };
-    if bytes.len() < named.window() {
-        return Status::TooShort;
-    }
-    let (number, flag) = named.read(bytes);
-    *value = number;
-    *negative = u8::from(flag);
-    Status::Success
+    named.write(value, negative, dest);
+    Status::Success.number()
 }
 
 /// Reads the value in the instruction that `bytes` begins with, modulo 2^64, and the form's flag,
@@ -200,19 +82,15 @@ pub fn linker_utils_read_nonnull(
     value: &mut u64,
     negative: &mut u8,
 ) -> u32 {
-    let Some(architecture) = Architecture::from_machine(machine) else {
-        return Status::UnknownArchitecture.number();
+    let named = match form_of(machine, form) {
+        Ok(named) => named,
+        Err(status) => return status.number(),
     };
-    match architecture {
-        Architecture::AArch64 => read_by(aarch64_form(form), bytes, value, negative).number(),
-        Architecture::RiscV => read_by(riscv_form(form), bytes, value, negative).number(),
-        Architecture::LoongArch64 => read_by(
-            loongarch64_form(form),
-            bytes,
-            value,
-            negative,
-        ).number(),
-        Architecture::Ppc64 => read_by(ppc64_form(form), bytes, value, negative).number(),
-        Architecture::X86_64 => Status::UnknownArchitecture.number(),
+    if bytes.len() < named.window() {
+        return Status::TooShort.number();
     }
+    let (number, flag) = named.read(bytes);
+    *value = number;
+    *negative = u8::from(flag);
+    Status::Success.number()
 }

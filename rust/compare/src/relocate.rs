@@ -1,17 +1,9 @@
 // Made by tools/erase of crates/linker_utils_c/src/relocate.rt.
 //! Relocations: their values, their reach, and writing them.
 
-use crate::relocations::{meaning_of, prepared_riscv_meaning_of};
 use crate::status::Status;
-use linker_utils::aarch64::{self, AArch64Relocation};
-use linker_utils::elf::{
-    Architecture, Operands, PreparedRow, RelocateError, RelocationKindInfo, Uleb128Role,
-};
-use linker_utils::loongarch64::{self, LoongArch64Relocation};
-use linker_utils::ppc64::{self, Ppc64Relocation};
-use linker_utils::riscv64::RiscVRelocation;
+use linker_utils::elf::{Architecture, Operands, RelocateError, Uleb128Role};
 use linker_utils::utils::{self, Uleb128Error};
-use linker_utils::x86_64::{self, X86_64Relocation};
 
 /// The value of the relocation with `r_type` in files with `e_machine` `machine`. The first that
 /// applies of `UnknownArchitecture`; `UnknownRelocation`; `NoValue`.
@@ -24,7 +16,7 @@ pub fn linker_utils_value(
     let Some(architecture) = Architecture::from_machine(machine) else {
         return Status::UnknownArchitecture.number();
     };
-    match meaning_of(architecture, r_type) {
+    match architecture.row(r_type) {
         Some(meaning) => match meaning.value(operands) {
             Some(number) => {
                 *value = number;
@@ -54,7 +46,7 @@ pub fn linker_utils_reach(machine: u16, r_type: u32, reach: &mut Reach) -> u32 {
     let Some(architecture) = Architecture::from_machine(machine) else {
         return Status::UnknownArchitecture.number();
     };
-    match meaning_of(architecture, r_type) {
+    match architecture.row(r_type) {
         Some(meaning) => {
             *reach = match meaning.reach().bounds {
                 Some((min, max)) => Reach {
@@ -85,39 +77,11 @@ fn status_of(outcome: Result<(), RelocateError>) -> u32 {
     }
 }
 
-/// Writes a value as its row says, if it has one.
-#[inline(always)]
-fn written(row: Option<PreparedRow>, value: i64, dest: &mut [u8]) -> u32 {
-    match row {
-        Some(row) => status_of(row.write(value, dest)),
-        None => Status::UnknownRelocation.number(),
-    }
-}
-
-/// Each architecture has a write of its own, which asks for no other's forms.
 #[inline(always)]
 fn relocate(architecture: Architecture, r_type: u32, value: i64, dest: &mut [u8]) -> u32 {
-    match architecture {
-        Architecture::AArch64 => {
-            let row = aarch64::prepared_row(AArch64Relocation::from_elf(r_type));
-            written(row, value, dest)
-        }
-        Architecture::RiscV => {
-            let row = prepared_riscv_meaning_of(RiscVRelocation::from_elf(r_type));
-            written(row, value, dest)
-        }
-        Architecture::LoongArch64 => {
-            let row = loongarch64::prepared_row(LoongArch64Relocation::from_elf(r_type));
-            written(row, value, dest)
-        }
-        Architecture::Ppc64 => {
-            let row = ppc64::prepared_row(Ppc64Relocation::from_elf(r_type));
-            written(row, value, dest)
-        }
-        Architecture::X86_64 => {
-            let row = x86_64::prepared_row(X86_64Relocation::from_elf(r_type));
-            written(row, value, dest)
-        }
+    match architecture.row(r_type) {
+        Some(row) => status_of(row.write(value, dest)),
+        None => Status::UnknownRelocation.number(),
     }
 }
 
@@ -204,22 +168,13 @@ pub fn linker_utils_relocate_all_nonnull(
     relocate_all(architecture, section, relocations, faulty)
 }
 
-/// What the relocation of an architecture and a code does with a ULEB128 number.
-fn role_of(architecture: Architecture, r_type: u32) -> Option<Uleb128Role> {
-    match architecture {
-        Architecture::RiscV => RiscVRelocation::from_elf(r_type).uleb128_role(),
-        Architecture::LoongArch64 => LoongArch64Relocation::from_elf(r_type).uleb128_role(),
-        _ => None,
-    }
-}
-
 /// What a relocation of a ULEB128 number does with its value: 1 sets, 2 adds, 3 subtracts; 0 of
 /// every other number of an architecture or a relocation.
 pub fn linker_utils_uleb128_role(machine: u16, r_type: u32) -> u32 {
     let Some(architecture) = Architecture::from_machine(machine) else {
         return 0;
     };
-    match role_of(architecture, r_type) {
+    match architecture.uleb128_role(r_type) {
         None => 0,
         Some(Uleb128Role::Sets) => 1,
         Some(Uleb128Role::Adds) => 2,

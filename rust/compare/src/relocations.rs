@@ -2,69 +2,8 @@
 //! What relocations mean, and their names, by `e_machine` and `r_type` of ELF files.
 
 use crate::status::Status;
-use linker_utils::aarch64::{self, AArch64Relocation};
-use linker_utils::elf::{Architecture, PreparedRow, RelocationKindInfo, RelocationNumbers};
-use linker_utils::loongarch64::{self, LoongArch64Relocation};
-use linker_utils::ppc64::{self, Ppc64Relocation};
-use linker_utils::riscv64::{self, RiscVRelocation};
-use linker_utils::x86_64::{self, X86_64Relocation};
-
-/// The row of the relocation of an architecture and a code.
-#[inline(always)]
-fn row_of(architecture: Architecture, r_type: u32) -> Option<RelocationKindInfo> {
-    match architecture {
-        Architecture::AArch64 => {
-            aarch64::relocation_type_from_raw(AArch64Relocation::from_elf(r_type))
-        }
-        Architecture::RiscV => riscv64::relocation_type_from_raw(RiscVRelocation::from_elf(r_type)),
-        Architecture::LoongArch64 => {
-            loongarch64::relocation_type_from_raw(LoongArch64Relocation::from_elf(r_type))
-        }
-        Architecture::Ppc64 => ppc64::relocation_type_from_raw(Ppc64Relocation::from_elf(r_type)),
-        Architecture::X86_64 => x86_64::relocation_from_raw(X86_64Relocation::from_elf(r_type)),
-    }
-}
-
-/// The row of a relocation of RISC-V, or that of a TLS descriptor's.
-#[inline(always)]
-fn riscv_meaning_of(name: RiscVRelocation) -> Option<RelocationKindInfo> {
-    match riscv64::relocation_type_from_raw(name) {
-        Some(info) => Some(info),
-        None => riscv64::tls_descriptor_relocation(name),
-    }
-}
-
-/// `riscv_meaning_of`, with the bounds of its reach.
-#[inline(always)]
-pub(crate) fn prepared_riscv_meaning_of(name: RiscVRelocation) -> Option<PreparedRow> {
-    match riscv64::prepared_row(name) {
-        Some(row) => Some(row),
-        None => riscv64::prepared_tls_descriptor_row(name),
-    }
-}
-
-/// What the relocation of an architecture and a code means: its row, or that of a TLS descriptor's.
-#[inline(always)]
-pub(crate) fn meaning_of(architecture: Architecture, r_type: u32) -> Option<RelocationKindInfo> {
-    match architecture {
-        Architecture::RiscV => riscv_meaning_of(RiscVRelocation::from_elf(r_type)),
-        _ => row_of(architecture, r_type),
-    }
-}
-
-/// The row of the relocation of an architecture and a code, in numbers.
-#[inline(always)]
-fn numbers_of(architecture: Architecture, r_type: u32) -> Option<&'static RelocationNumbers> {
-    match architecture {
-        Architecture::AArch64 => aarch64::relocation_numbers(AArch64Relocation::from_elf(r_type)),
-        Architecture::RiscV => riscv64::relocation_numbers(RiscVRelocation::from_elf(r_type)),
-        Architecture::LoongArch64 => {
-            loongarch64::relocation_numbers(LoongArch64Relocation::from_elf(r_type))
-        }
-        Architecture::Ppc64 => ppc64::relocation_numbers(Ppc64Relocation::from_elf(r_type)),
-        Architecture::X86_64 => x86_64::relocation_numbers(X86_64Relocation::from_elf(r_type)),
-    }
-}
+use linker_utils::elf::{Architecture, RelocationNumbers};
+use linker_utils::riscv64;
 
 /// What the relocation with `r_type` means in files with `e_machine` `machine`.
 /// `UnknownArchitecture`; `UnknownRelocation` where the library knows no meaning.
@@ -76,24 +15,9 @@ pub fn linker_utils_relocation(
     let Some(architecture) = Architecture::from_machine(machine) else {
         return Status::UnknownArchitecture.number();
     };
-    match numbers_of(architecture, r_type) {
-        Some(numbers) => {
-            *info = *numbers;
-            Status::Success.number()
-        }
-        None => Status::UnknownRelocation.number(),
-    }
-}
-
-/// What the relocation of RISC-V's TLS descriptors with `r_type` means. `UnknownRelocation` of all
-/// others.
-pub fn linker_utils_tls_descriptor_relocation(
-    r_type: u32,
-    info: &mut RelocationNumbers,
-) -> u32 {
-    match riscv64::tls_descriptor_numbers(RiscVRelocation::from_elf(r_type)) {
-        Some(numbers) => {
-            *info = *numbers;
+    match architecture.row(r_type) {
+        Some(row) => {
+            *info = *row.numbers();
             Status::Success.number()
         }
         None => Status::UnknownRelocation.number(),
@@ -102,33 +26,7 @@ pub fn linker_utils_tls_descriptor_relocation(
 
 /// What a relocation of the high part of a value means once its `lui` has become a `c.lui`.
 pub fn linker_utils_clui_rel_info(info: &mut RelocationNumbers) {
-    *info = riscv64::clui_numbers();
-}
-
-/// The ELF name of the relocation of an architecture and a code. `None` of a code without a name.
-fn name_of(architecture: Architecture, r_type: u32) -> Option<&'static str> {
-    match architecture {
-        Architecture::AArch64 => match AArch64Relocation::from_elf(r_type) {
-            AArch64Relocation::Other(_) => None,
-            name => Some(name.name()),
-        },
-        Architecture::RiscV => match RiscVRelocation::from_elf(r_type) {
-            RiscVRelocation::Other(_) => None,
-            name => Some(name.name()),
-        },
-        Architecture::LoongArch64 => match LoongArch64Relocation::from_elf(r_type) {
-            LoongArch64Relocation::Other(_) => None,
-            name => Some(name.name()),
-        },
-        Architecture::Ppc64 => match Ppc64Relocation::from_elf(r_type) {
-            Ppc64Relocation::Other(_) => None,
-            name => Some(name.name()),
-        },
-        Architecture::X86_64 => match X86_64Relocation::from_elf(r_type) {
-            X86_64Relocation::Other(_) => None,
-            name => Some(name.name()),
-        },
-    }
+    *info = *riscv64::clui_row().numbers();
 }
 
 /// Writes the ELF name of a relocation, as "R_AARCH64_CALL26", to the beginning of `name`, without
@@ -144,7 +42,7 @@ pub fn linker_utils_relocation_name_nonnull(
     let Some(architecture) = Architecture::from_machine(machine) else {
         return Status::UnknownArchitecture.number();
     };
-    let Some(text) = name_of(architecture, r_type) else {
+    let Some(text) = architecture.name(r_type) else {
         return Status::UnknownRelocation.number();
     };
     let len = text.len();

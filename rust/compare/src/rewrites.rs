@@ -2,131 +2,20 @@
 //! Rewrites of instructions, by `e_machine` and a rewrite's number.
 
 use crate::status::Status;
+use linker_utils::architecture::Relaxation;
 use linker_utils::elf::{Architecture, InstructionRewrite};
 use linker_utils::relaxation::RelocationModifier;
-use linker_utils::{aarch64, loongarch64, ppc64, riscv64, x86_64};
 
+/// The rewrite of a machine and a number, with the bytes before the field, or which of the first two
+/// is unknown.
 #[inline(always)]
-fn aarch64_rewrite(number: u32) -> Option<aarch64::RelaxationKind> {
-    let kind = match number {
-        0 => aarch64::RelaxationKind::NoOp,
-        1 => aarch64::RelaxationKind::ReplaceWithNop,
-        2 => aarch64::RelaxationKind::MovzX0Lsl16,
-        3 => aarch64::RelaxationKind::MovkX0,
-        4 => aarch64::RelaxationKind::MovzXnLsl16,
-        5 => aarch64::RelaxationKind::MovkXn,
-        6 => aarch64::RelaxationKind::AdrpToAdr,
-        7 => aarch64::RelaxationKind::AdrpX0,
-        8 => aarch64::RelaxationKind::LdrX0,
-        9 => aarch64::RelaxationKind::AddToAdr,
-        10 => aarch64::RelaxationKind::LdrToAdr,
-        11 => aarch64::RelaxationKind::LdrToAdd,
-        12 => aarch64::RelaxationKind::AdrpAddToNopAdr,
-        _ => return None,
-    };
-    Some(kind)
-}
-
-#[inline(always)]
-fn riscv_rewrite(number: u32) -> Option<riscv64::RelaxationKind> {
-    let kind = match number {
-        0 => riscv64::RelaxationKind::NoOp,
-        1 => riscv64::RelaxationKind::ReplaceWithNop,
-        2 => riscv64::RelaxationKind::CallToJal,
-        3 => riscv64::RelaxationKind::Hi20ToCLui,
-        4 => riscv64::RelaxationKind::Hi20Delete,
-        5 => riscv64::RelaxationKind::Lo12Rs1ToZero,
-        _ => return None,
-    };
-    Some(kind)
-}
-
-#[inline(always)]
-fn loongarch64_rewrite(number: u32) -> Option<loongarch64::RelaxationKind> {
-    let kind = match number {
-        0 => loongarch64::RelaxationKind::NoOp,
-        1 => loongarch64::RelaxationKind::ReplaceWithNop,
-        _ => return None,
-    };
-    Some(kind)
-}
-
-#[inline(always)]
-fn ppc64_rewrite(number: u32) -> Option<ppc64::RelaxationKind> {
-    let kind = match number {
-        0 => ppc64::RelaxationKind::NoOp,
-        _ => return None,
-    };
-    Some(kind)
-}
-
-#[inline(always)]
-fn x86_64_rewrite(number: u32, n: u8) -> Option<x86_64::RelaxationKind> {
-    let kind = match number {
-        0 => x86_64::RelaxationKind::MovIndirectToLea,
-        1 => x86_64::RelaxationKind::MovIndirectToAbsolute,
-        2 => x86_64::RelaxationKind::RexMovIndirectToAbsolute(n),
-        3 => x86_64::RelaxationKind::RexAddIndirectToAbsolute(n),
-        4 => x86_64::RelaxationKind::RexSubIndirectToAbsolute(n),
-        5 => x86_64::RelaxationKind::RexCmpIndirectToAbsolute(n),
-        6 => x86_64::RelaxationKind::CallIndirectToRelative,
-        7 => x86_64::RelaxationKind::JmpIndirectToRelative,
-        8 => x86_64::RelaxationKind::NoOp,
-        9 => x86_64::RelaxationKind::TlsGdToLocalExec,
-        10 => x86_64::RelaxationKind::TlsGdToLocalExecLarge,
-        11 => x86_64::RelaxationKind::TlsLdToLocalExec,
-        12 => x86_64::RelaxationKind::TlsLdToLocalExecNoPlt,
-        13 => x86_64::RelaxationKind::TlsLdToLocalExec64,
-        14 => x86_64::RelaxationKind::TlsGdToInitialExec,
-        15 => x86_64::RelaxationKind::TlsDescToLocalExec(n),
-        16 => x86_64::RelaxationKind::TlsDescToInitialExec,
-        17 => x86_64::RelaxationKind::SkipTlsDescCall,
-        _ => return None,
-    };
-    Some(kind)
-}
-
-// Whether a rewrite, if there is one, can be applied.
-#[inline(always)]
-fn test_by<R: InstructionRewrite>(rewrite: Option<R>, section: &[u8], offset: u64) -> Status {
-    let Some(named) = rewrite else {
-        return Status::UnknownRewrite;
-    };
-    if !named.can_apply(section, offset) {
-        return Status::CannotApply;
+fn rewrite_of(machine: u16, rewrite: u32, n: u8) -> Result<Relaxation, Status> {
+    match Architecture::from_machine(machine) {
+        None => Err(Status::UnknownArchitecture),
+        Some(architecture) => architecture
+            .rewrite(rewrite, n)
+            .ok_or(Status::UnknownRewrite),
     }
-    Status::Success
-}
-
-// Applies a rewrite, if there is one.
-#[inline(always)]
-fn apply_by<R: InstructionRewrite>(
-    rewrite: Option<R>,
-    section: &mut [u8],
-    offset: &mut u64,
-    addend: &mut i64,
-) -> Status {
-    let Some(named) = rewrite else {
-        return Status::UnknownRewrite;
-    };
-    if !named.can_apply(section, *offset) {
-        return Status::CannotApply;
-    }
-    named.apply(section, offset, addend);
-    Status::Success
-}
-
-// What becomes of the relocation after a rewrite, if there is one.
-#[inline(always)]
-fn modifier_by<R: InstructionRewrite>(rewrite: Option<R>, modifier: &mut u32) -> Status {
-    let Some(named) = rewrite else {
-        return Status::UnknownRewrite;
-    };
-    *modifier = match named.next_modifier() {
-        RelocationModifier::Normal => 0,
-        RelocationModifier::SkipNextRelocation => 1,
-    };
-    Status::Success
 }
 
 /// Whether `linker_utils_apply` at this offset would succeed: the status is that of the rewrite.
@@ -137,17 +26,14 @@ pub fn linker_utils_can_apply_nonnull(
     section: &[u8],
     offset: u64,
 ) -> u32 {
-    let Some(architecture) = Architecture::from_machine(machine) else {
-        return Status::UnknownArchitecture.number();
+    let named = match rewrite_of(machine, rewrite, n) {
+        Ok(named) => named,
+        Err(status) => return status.number(),
     };
-    let status = match architecture {
-        Architecture::AArch64 => test_by(aarch64_rewrite(rewrite), section, offset),
-        Architecture::RiscV => test_by(riscv_rewrite(rewrite), section, offset),
-        Architecture::LoongArch64 => test_by(loongarch64_rewrite(rewrite), section, offset),
-        Architecture::Ppc64 => test_by(ppc64_rewrite(rewrite), section, offset),
-        Architecture::X86_64 => test_by(x86_64_rewrite(rewrite, n), section, offset),
-    };
-    status.number()
+    if !named.can_apply(section, offset) {
+        return Status::CannotApply.number();
+    }
+    Status::Success.number()
 }
 
 /// Rewrites the instruction at an offset of a section, and sets the offset and the addend to those
@@ -161,22 +47,15 @@ pub fn linker_utils_apply_nonnull(
     offset: &mut u64,
     addend: &mut i64,
 ) -> u32 {
-    let Some(architecture) = Architecture::from_machine(machine) else {
-        return Status::UnknownArchitecture.number();
+    let named = match rewrite_of(machine, rewrite, n) {
+        Ok(named) => named,
+        Err(status) => return status.number(),
     };
-    let status = match architecture {
-        Architecture::AArch64 => apply_by(aarch64_rewrite(rewrite), section, offset, addend),
-        Architecture::RiscV => apply_by(riscv_rewrite(rewrite), section, offset, addend),
-        Architecture::LoongArch64 => apply_by(
-            loongarch64_rewrite(rewrite),
-            section,
-            offset,
-            addend,
-        ),
-        Architecture::Ppc64 => apply_by(ppc64_rewrite(rewrite), section, offset, addend),
-        Architecture::X86_64 => apply_by(x86_64_rewrite(rewrite, n), section, offset, addend),
-    };
-    status.number()
+    if !named.can_apply(section, *offset) {
+        return Status::CannotApply.number();
+    }
+    named.apply(section, offset, addend);
+    Status::Success.number()
 }
 
 /// What becomes of the relocation after that of the rewritten instruction, into `modifier`: 0 where
@@ -188,15 +67,13 @@ pub fn linker_utils_next_modifier(
     n: u8,
     modifier: &mut u32,
 ) -> u32 {
-    let Some(architecture) = Architecture::from_machine(machine) else {
-        return Status::UnknownArchitecture.number();
+    let named = match rewrite_of(machine, rewrite, n) {
+        Ok(named) => named,
+        Err(status) => return status.number(),
     };
-    let status = match architecture {
-        Architecture::AArch64 => modifier_by(aarch64_rewrite(rewrite), modifier),
-        Architecture::RiscV => modifier_by(riscv_rewrite(rewrite), modifier),
-        Architecture::LoongArch64 => modifier_by(loongarch64_rewrite(rewrite), modifier),
-        Architecture::Ppc64 => modifier_by(ppc64_rewrite(rewrite), modifier),
-        Architecture::X86_64 => modifier_by(x86_64_rewrite(rewrite, n), modifier),
+    *modifier = match named.next_modifier() {
+        RelocationModifier::Normal => 0,
+        RelocationModifier::SkipNextRelocation => 1,
     };
-    status.number()
+    Status::Success.number()
 }

@@ -1,70 +1,293 @@
 // Made by tools/erase of crates/linker_utils/src/elf/rows.rt.
-//! Rows of the relocation tables as data, with what a write tests and in numbers. So a row is a load,
-//! and no jump that a processor has to predict.
+//! Rows of the relocation tables, and the macros that make them from each architecture's list.
 
+use crate::elf::relocate::{write_bits, write_bytes};
 use crate::elf::{
-    AllowedRange, Bias, PageMask, PreparedRow, RelocationKind, RelocationKindInfo,
+    AllowedRange, Bias, Operands, PageMask, RelocateError, RelocationKind, RelocationKindInfo,
     RelocationNumbers, RelocationSize,
 };
 
-/// A row of a table. Its range, alignment and bias are among the numbers.
+/// An entry of a table: a row, the row in numbers, and what a write of it tests. Its range,
+/// alignment and bias are among the numbers.
 #[derive(Clone, Copy)]
 pub(crate) struct TableRow {
     pub(crate) kind: RelocationKind,
     pub(crate) size: RelocationSize,
     pub(crate) mask: Option<PageMask>,
     pub(crate) numbers: RelocationNumbers,
+    pub(crate) tests: WriteTests,
+}
+
+/// What a write of a row tests.
+#[derive(Clone, Copy)]
+pub(crate) struct WriteTests {
+    /// Whether the row can be written.
     pub(crate) is_supported: bool,
+    /// How many bytes a write writes.
     pub(crate) window: usize,
+    /// The least value within the row's reach; `i64::MAX` if there is none.
     pub(crate) least: i64,
+    /// The last value within the row's reach; `i64::MIN` if there is none.
     pub(crate) last: i64,
 }
 
-impl TableRow {
-    /// The row, with what a write of it tests.
+/// What a relocation of the library's tables means. Each architecture's `row` returns it for a
+/// name, and `Architecture::row` for a code.
+///
+/// ```
+/// use linker_utils::elf::Operands;
+/// use linker_utils::riscv64::{self, RiscVRelocation};
+///
+/// // `jal ra, 0` at 0x1000 that calls 0x1008
+/// let mut jal = 0x0000_00efu32.to_le_bytes();
+/// let row = riscv64::row(RiscVRelocation::R_RISCV_JAL).unwrap();
+/// let operands = Operands {
+///     symbol: 0x1008,
+///     place: 0x1000,
+///     ..Operands::default()
+/// };
+/// let value = row.value(&operands).unwrap();
+/// row.write(value, &mut jal).unwrap();
+/// assert_eq!(u32::from_le_bytes(jal), 0x0080_00ef);
+/// ```
+#[derive(Clone, Copy)]
+pub struct Row {
+    entry: TableRow,
+}
+
+/// The row of a table's entry, if there is one.
+#[inline(always)]
+pub(crate) fn row_in(entry: &Option<TableRow>) -> Option<Row> {
+    match entry {
+        Some(entry) => Some(Row::of(entry)),
+        None => None,
+    }
+}
+
+/// What a row means, if there is one.
+#[inline(always)]
+pub(crate) fn info_in(row: Option<Row>) -> Option<RelocationKindInfo> {
+    match row {
+        Some(row) => Some(row.info()),
+        None => None,
+    }
+}
+
+impl Row {
+    /// The row of an entry.
     #[inline(always)]
-    pub(crate) fn prepared(&self) -> PreparedRow {
-        let numbers = &self.numbers;
+    pub(crate) fn of(entry: &TableRow) -> Row {
+        Row { entry: *entry }
+    }
+
+    /// What the relocation means.
+    #[must_use]
+    #[inline(always)]
+    pub fn info(&self) -> RelocationKindInfo {
+        let entry = &self.entry;
+        let numbers = &entry.numbers;
         let bounds = if numbers.has_range == 1 {
             Some((numbers.min, numbers.max))
         } else {
             None
         };
-        PreparedRow {
-            row: RelocationKindInfo {
-                kind: self.kind,
-                size: self.size,
-                mask: self.mask,
-                range: AllowedRange { bounds },
-                alignment: numbers.alignment,
-                bias: Bias::from_value(numbers.bias),
-                thunkable: numbers.thunkable == 1,
-                implicit_addend: false,
-            },
-            is_supported: self.is_supported,
-            window: self.window,
-            least: self.least,
-            last: self.last,
+        RelocationKindInfo {
+            kind: entry.kind,
+            size: entry.size,
+            mask: entry.mask,
+            range: AllowedRange { bounds },
+            alignment: numbers.alignment,
+            bias: Bias::from_value(numbers.bias),
+            thunkable: numbers.thunkable == 1,
+            implicit_addend: numbers.implicit_addend == 1,
         }
     }
-}
 
-/// The row of a table's entry, if there is one.
-#[inline(always)]
-pub(crate) fn prepared(entry: &Option<TableRow>) -> Option<PreparedRow> {
-    match entry {
-        Some(row) => Some(row.prepared()),
-        None => None,
+    /// The same in numbers.
+    #[must_use]
+    #[inline(always)]
+    pub fn numbers(&self) -> &RelocationNumbers {
+        &self.entry.numbers
+    }
+
+    /// How many bytes `write` writes.
+    #[must_use]
+    #[inline(always)]
+    pub fn window(&self) -> usize {
+        self.entry.tests.window
+    }
+
+    /// Which values can be written, as `RelocationKindInfo::reach` says.
+    #[must_use]
+    #[inline(always)]
+    pub fn reach(&self) -> AllowedRange {
+        self.info().reach()
+    }
+
+    /// The relocation's value, as `RelocationKindInfo::value` says.
+    #[must_use]
+    #[inline]
+    pub fn value(&self, operands: &Operands) -> Option<i64> {
+        self.info().value(operands)
+    }
+
+    /// Writes a value, as `RelocationKindInfo::write` says, with its errors.
+    #[inline(always)]
+    pub fn write(&self, value: i64, dest: &mut [u8]) -> Result<(), RelocateError> {
+        self.info().write_tested(&self.entry.tests, value, dest)
     }
 }
 
-/// The row of a table's entry in numbers, if there is one.
-#[inline(always)]
-pub(crate) fn numbers(entry: &Option<TableRow>) -> Option<&RelocationNumbers> {
-    match entry {
-        Some(row) => Some(&row.numbers),
-        None => None,
+impl RelocationKindInfo {
+    /// `write`, of a row whose bits fit its instruction.
+    #[inline(always)]
+    fn write_tested(
+        &self,
+        tests: &WriteTests,
+        value: i64,
+        dest: &mut [u8],
+    ) -> Result<(), RelocateError> {
+        if !tests.is_supported {
+            return Err(RelocateError::Unsupported);
+        }
+        if dest.len() < tests.window {
+            return Err(RelocateError::TooShort);
+        }
+        if !self.is_multiple(value, dest) {
+            return Err(RelocateError::Misaligned);
+        }
+        if value < tests.least || tests.last < value {
+            return Err(RelocateError::OutOfReach);
+        }
+        match self.size {
+            RelocationSize::ByteSize(len) => write_bytes(self.kind, len as usize, value, dest),
+            RelocationSize::BitMasking { range, insn } => write_bits(insn, range, value, dest),
+        }
+        Ok(())
     }
+}
+
+// The macros below are given to an architecture's `relocations!`, which lists each relocation as
+// `code NAME => row,` in the order of the enum of names. Codes are split into parts that are dense
+// enough for a table, each below a number, and the rest.
+
+/// The name with a code.
+macro_rules! name_of_code {
+    (
+        ($names:ident, $code:ident)
+        $(below $end:literal { $($low:literal $low_name:ident => $low_row:expr,)* })*
+        { $($number:literal $name:ident => $row:expr,)* }
+    ) => {
+        $(if $code < $end {
+            match $code {
+                $($low => $names::$low_name,)*
+                _ => $names::Other($code),
+            }
+        } else)* {
+            match $code {
+                $($number => $names::$name,)*
+                _ => $names::Other($code),
+            }
+        }
+    };
+}
+
+/// The code of a name.
+macro_rules! code_of_name {
+    (
+        ($names:ident, $value:expr)
+        $(below $end:literal { $($low:literal $low_name:ident => $low_row:expr,)* })*
+        { $($number:literal $name:ident => $row:expr,)* }
+    ) => {
+        match $value {
+            $($($names::$low_name => $low,)*)*
+            $($names::$name => $number,)*
+            $names::Other(code) => code,
+        }
+    };
+}
+
+/// The text of a name.
+macro_rules! text_of_name {
+    (
+        ($names:ident, $value:expr)
+        $(below $end:literal { $($low:literal $low_name:ident => $low_row:expr,)* })*
+        { $($number:literal $name:ident => $row:expr,)* }
+    ) => {
+        match $value {
+            $($($names::$low_name => stringify!($low_name),)*)*
+            $($names::$name => stringify!($name),)*
+            $names::Other(_) => "unknown relocation",
+        }
+    };
+}
+
+/// The table of rows, by the names' indices. The last entry is that of `Other`.
+macro_rules! table {
+    (
+        ()
+        $(below $end:literal { $($low:literal $low_name:ident => $low_row:expr,)* })*
+        { $($number:literal $name:ident => $row:expr,)* }
+    ) => {
+        [$($($low_row,)*)* $($row,)* None]
+    };
+}
+
+/// The index of a name in its list, and in the table.
+macro_rules! index_of_name {
+    (
+        ($names:ident, $value:expr)
+        $(below $end:literal { $($low:literal $low_name:ident => $low_row:expr,)* })*
+        { $($number:literal $name:ident => $row:expr,)* }
+    ) => {
+        $crate::elf::rows::index_of_name!(
+            @ $names, $value, [$($($low_name)*)* $($name)*] []
+            [0 1 2 3 4 5 6 7] [8 9 10 11 12 13 14 15] [16 17 18 19 20 21 22 23]
+            [24 25 26 27 28 29 30 31] [32 33 34 35 36 37 38 39] [40 41 42 43 44 45 46 47]
+            [48 49 50 51 52 53 54 55] [56 57 58 59 60 61 62 63] [64 65 66 67 68 69 70 71]
+            [72 73 74 75 76 77 78 79] [80 81 82 83 84 85 86 87] [88 89 90 91 92 93 94 95]
+            [96 97 98 99 100 101 102 103] [104 105 106 107 108 109 110 111]
+            [112 113 114 115 116 117 118 119] [120 121 122 123 124 125 126 127]
+        )
+    };
+    (
+        @ $names:ident, $value:expr,
+        [$a:ident $b:ident $c:ident $d:ident $e:ident $f:ident $g:ident $h:ident $($rest:ident)*]
+        [$($arms:tt)*]
+        [$i:literal $j:literal $k:literal $l:literal $m:literal $n:literal $o:literal $p:literal]
+        $($numbers:tt)*
+    ) => {
+        $crate::elf::rows::index_of_name!(
+            @ $names, $value, [$($rest)*]
+            [$($arms)* $a $i $b $j $c $k $d $l $e $m $f $n $g $o $h $p] $($numbers)*
+        )
+    };
+    (
+        @ $names:ident, $value:expr, [$a:ident $($rest:ident)*] [$($arms:tt)*]
+        [$i:literal $($number:literal)*] $($numbers:tt)*
+    ) => {
+        $crate::elf::rows::index_of_name!(
+            @ $names, $value, [$($rest)*] [$($arms)* $a $i] [$($number)*] $($numbers)*
+        )
+    };
+    (
+        @ $names:ident, $value:expr, [] [$($name:ident $number:literal)*]
+        [$i:literal $($unused:literal)*] $($numbers:tt)*
+    ) => {
+        match $value {
+            $($names::$name => $number,)*
+            $names::Other(_) => $i,
+        }
+    };
+    (
+        @ $names:ident, $value:expr, [] [$($name:ident $number:literal)*] []
+        [$i:literal $($unused:literal)*] $($numbers:tt)*
+    ) => {
+        match $value {
+            $($names::$name => $number,)*
+            $names::Other(_) => $i,
+        }
+    };
 }
 
 /// Where a row's value goes: `(4 bytes)`, or as `(12..32 RiscV::UType)` the value's bits from 12 up,
@@ -259,18 +482,25 @@ macro_rules! row {
                 alignment: $crate::elf::rows::number!(alignment $($alignment)?),
                 bias: $crate::elf::rows::number!(bias $($bias)?),
             },
-            is_supported: $crate::elf::rows::is_supported!($kind, $size),
-            window: $crate::elf::rows::window!($size),
-            least: $least,
-            last: $last,
+            tests: $crate::elf::rows::WriteTests {
+                is_supported: $crate::elf::rows::is_supported!($kind, $size),
+                window: $crate::elf::rows::window!($size),
+                least: $least,
+                last: $last,
+            },
         }
     };
 }
 
+pub(crate) use code_of_name;
+pub(crate) use index_of_name;
 pub(crate) use insn;
 pub(crate) use is_supported;
 pub(crate) use mask;
+pub(crate) use name_of_code;
 pub(crate) use number;
 pub(crate) use row;
 pub(crate) use size;
+pub(crate) use table;
+pub(crate) use text_of_name;
 pub(crate) use window;

@@ -3,7 +3,34 @@
 
 use crate::bit_misc::BitExtraction;
 use crate::elf::engine::{self, Run, Window, run};
-use crate::elf::{InstructionForm, LoongArch64Instruction, RelocationInstruction};
+use crate::elf::{InstructionForm, RelocationInstruction};
+
+/// LoongArch instructions with an immediate, and the pairs of long calls (LoongArch Reference
+/// Manual, volume 1, "Instruction Encoding"). The window is 4 bytes, and 8 for a pair.
+#[derive(Debug, Clone, Copy, PartialEq, Eq)]
+pub enum LoongArch64Instruction {
+    /// An immediate of 20 bits: value bits 0 to 19 at bit 5 and up. Values below 2^20 fit.
+    Shift5,
+    /// An immediate of 12 bits at bit 10 and up, or of 16 there: value bits 0 to 11 are replaced,
+    /// and 12 to 15 are only ORed at bit 22 and up, where an immediate of 12 bits has its opcode.
+    /// Values below 2^16 fit. A read returns bits 0 to 11.
+    Shift10,
+    /// The offset of `b` and `bl` in units of 4 bytes: value bits 0 to 15 at bit 10 and up, 16 to
+    /// 25 at bit 0 and up. Signed, of 26 bits. Values below 2^26 fit.
+    Branch26,
+    /// The offset of `beqz` and `bnez` in units of 4 bytes: value bits 0 to 15 at bit 10 and up, 16
+    /// to 20 at bit 0 and up. Signed, of 21 bits. Values below 2^21 fit.
+    Branch21,
+    /// The pair of a call of `R_LARCH_CALL30`: value bits 9 to 19 at bit 14 and up of word one,
+    /// whose bits 5 to 13 become 0, and 0 to 8 at bit 10 and up of word two. Values below 2^20 fit.
+    Call30,
+    /// `pcaddu18i` and `jirl`, in units of 4 bytes: bits 16 to 35 of the value plus 0x8000 at bit 5
+    /// and up of word one, value bits 0 to 15 at bit 10 and up of word two. 0x8000 is added for the
+    /// high part because `jirl` reads the low part signed; a carry out of it is dropped. Values
+    /// below 2^36 fit. A read returns the high part times 2^16 plus the signed low part, modulo
+    /// 2^36.
+    Call36,
+}
 
 /// Where a form of one word has its bits. The masks are of the word's bits: `kept` of those that a
 /// write leaves, the others of those that stand so many bits further up or down than in the value.
@@ -204,5 +231,25 @@ impl InstructionForm for LoongArch64Instruction {
     fn read(self, bytes: &[u8]) -> (u64, bool) {
         debug_assert!(self.window() <= bytes.len());
         self.read_value(bytes)
+    }
+}
+
+/// The forms by their numbers. A table, since a match becomes a jump by the number where what follows
+/// differs by the form.
+static FORMS: &[LoongArch64Instruction] = &[
+    LoongArch64Instruction::Shift5,
+    LoongArch64Instruction::Shift10,
+    LoongArch64Instruction::Branch26,
+    LoongArch64Instruction::Branch21,
+    LoongArch64Instruction::Call30,
+    LoongArch64Instruction::Call36,
+];
+
+impl LoongArch64Instruction {
+    /// The form with a number, its place in the enum. None above the last.
+    #[must_use]
+    #[inline(always)]
+    pub fn from_number(number: u32) -> Option<LoongArch64Instruction> {
+        FORMS.get(number as usize).copied()
     }
 }

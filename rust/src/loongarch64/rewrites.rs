@@ -18,6 +18,18 @@ pub enum RelaxationKind {
 }
 
 impl RelaxationKind {
+    /// The rewrite with a number, its place in the enum. None above the last.
+    #[must_use]
+    #[inline(always)]
+    pub fn from_number(number: u32) -> Option<RelaxationKind> {
+        let kind = match number {
+            0 => RelaxationKind::NoOp,
+            1 => RelaxationKind::ReplaceWithNop,
+            _ => return None,
+        };
+        Some(kind)
+    }
+
     /// Rewrites the instruction at an offset of a section. All other bytes, the offset and the
     /// addend are unchanged.
     ///

@@ -2,7 +2,38 @@
 //! RISC-V: the immediates of instructions.
 
 use crate::elf::engine::{self, Run, Window, run};
-use crate::elf::{InstructionForm, RelocationInstruction, RiscVInstruction};
+use crate::elf::{InstructionForm, RelocationInstruction};
+
+/// RISC-V instructions with an immediate (RISC-V unprivileged ISA, "Immediate Encoding Variants"
+/// and "Compressed Instruction Formats"). Every value fits. The window is 4 bytes unless said
+/// otherwise. `a..b to c` means: value bits a to b, both included, are at window bits c and up.
+#[derive(Debug, Clone, Copy, PartialEq, Eq)]
+pub enum RiscVInstruction {
+    /// The U-immediate, of `lui` and `auipc`: 12..31 to 12 of the value plus 0x800, because the low
+    /// part is signed.
+    UType,
+    /// The I-immediate, of `addi`, loads and `jalr`: 0..11 to 20, signed.
+    IType,
+    /// The S-immediate, of stores: 0..4 to 7, 5..11 to 25, signed.
+    SType,
+    /// The B-immediate, of conditional branches: 11 to 7, 1..4 to 8, 5..10 to 25, 12 to 31. A
+    /// signed distance of 13 bits, whose lowest is 0.
+    BType,
+    /// The J-immediate, of `jal`: 12..19 to 12, 11 to 20, 1..10 to 21, 20 to 31. A signed distance
+    /// of 21 bits, whose lowest is 0.
+    JType,
+    /// The distance of `c.beqz` and `c.bnez`, in 2 bytes: 5 to 2, 1..2 to 3, 6..7 to 5, 3..4 to 10,
+    /// 8 to 12. Signed, of 9 bits, whose lowest is 0.
+    CbType,
+    /// The distance of `c.j`, in 2 bytes: 5 to 2, 1..3 to 3, 7 to 6, 6 to 7, 10 to 8, 8..9 to 9, 4
+    /// to 11, 11 to 12. Signed, of 12 bits, whose lowest is 0.
+    CjType,
+    /// The immediate of `c.lui`, in 2 bytes: of the value plus 0x800, 12..16 to 2 and 17 to 12.
+    CluiType,
+    /// A `UType` instruction and the `IType` instruction after it, in 8 bytes, as `auipc` with
+    /// `jalr`: both parts of one value.
+    UiType,
+}
 
 const U_TYPE: [Run; 1] = [run!(added 0x800: 12, 12, 20)];
 
@@ -243,5 +274,28 @@ impl InstructionForm for RiscVInstruction {
     fn read(self, bytes: &[u8]) -> (u64, bool) {
         debug_assert!(self.window() <= bytes.len());
         self.read_value(bytes)
+    }
+}
+
+/// The forms by their numbers. A table, since a match becomes a jump by the number where what follows
+/// differs by the form.
+static FORMS: &[RiscVInstruction] = &[
+    RiscVInstruction::UType,
+    RiscVInstruction::IType,
+    RiscVInstruction::SType,
+    RiscVInstruction::BType,
+    RiscVInstruction::JType,
+    RiscVInstruction::CbType,
+    RiscVInstruction::CjType,
+    RiscVInstruction::CluiType,
+    RiscVInstruction::UiType,
+];
+
+impl RiscVInstruction {
+    /// The form with a number, its place in the enum. None above the last.
+    #[must_use]
+    #[inline(always)]
+    pub fn from_number(number: u32) -> Option<RiscVInstruction> {
+        FORMS.get(number as usize).copied()
     }
 }

@@ -31,6 +31,22 @@ pub enum RelaxationKind {
 }
 
 impl RelaxationKind {
+    /// The rewrite with a number, its place in the enum. None above the last.
+    #[must_use]
+    #[inline(always)]
+    pub fn from_number(number: u32) -> Option<RelaxationKind> {
+        let kind = match number {
+            0 => RelaxationKind::NoOp,
+            1 => RelaxationKind::ReplaceWithNop,
+            2 => RelaxationKind::CallToJal,
+            3 => RelaxationKind::Hi20ToCLui,
+            4 => RelaxationKind::Hi20Delete,
+            5 => RelaxationKind::Lo12Rs1ToZero,
+            _ => return None,
+        };
+        Some(kind)
+    }
+
     /// Rewrites the instruction at an offset of a section. All other bytes, the offset and the
     /// addend are unchanged.
     ///
@@ -125,7 +141,7 @@ impl RelaxationKind {
     /// wider than what `c.lui` holds: `hi20_fits_clui` is the test.
     #[must_use]
     pub fn clui_rel_info() -> RelocationKindInfo {
-        relocations::clui_info()
+        relocations::clui_row().info()
     }
 }
 

@@ -1,10 +1,10 @@
-// Made by tools/erase of crates/linker_utils/src/relaxation/shrinking.rt.
+// Made by tools/erase of crates/linker_utils/src/riscv64/shrinking.rt.
 //! The calls of a section that can become jumps at once.
 
 use alloc::vec::Vec;
-use super::packing::output_offset;
-use super::{AsCall, DeltaSlice, OutOfMemory, RelaxDelta, SectionRelaxDeltas};
-use crate::riscv64::{distance_fits_jal, is_even};
+use super::calls::{distance_fits_jal, is_even};
+use super::packing::{AsCall, output_offset};
+use crate::relaxation::{DeltaSlice, OutOfMemory, RelaxDelta, SectionRelaxDeltas};
 
 /// An element of an answer, which tells whether a call is chosen: a `bool`, or a byte that is 0 or
 /// 1.

@@ -1,13 +1,13 @@
-// Made by tools/erase of crates/linker_utils/src/relaxation/packing.rt.
+// Made by tools/erase of crates/linker_utils/src/riscv64/packing.rt.
 //! The kept bytes of a section, with its calls made jumps.
 
 use alloc::vec::Vec;
 use crate::support::*;
-use super::{DeltaSlice, RelaxDelta, SectionRelaxDeltas};
-use crate::rewrite::{has_window, overwrite};
-use crate::riscv64::{
+use super::calls::{
     CallError, JumpError, LinkRegister, distance_between, distance_fits_jal, is_even, jal_site,
 };
+use crate::relaxation::{DeltaSlice, RelaxDelta, SectionRelaxDeltas};
+use crate::rewrite::{has_window, overwrite};
 
 /// A call in a section: a pair of its site and its target, or a caller's own struct.
 pub trait AsCall: Copy {

@@ -1,0 +1,215 @@
+// Made by tools/erase of crates/linker_utils/src/aarch64/rewrites.rt.
+//! Relaxation rewrites of AArch64.
+
+use crate::bit_misc::BitExtraction;
+use crate::elf::InstructionRewrite;
+use crate::relaxation::RelocationModifier;
+use crate::rewrite::{has_window, overwrite};
+use crate::utils::u32_from_slice;
+
+/// A rewrite of one instruction, or of a pair (ELF for the Arm 64-bit Architecture, "Relocation
+/// optimization"). Except for `AdrpAddToNopAdr` the window is the instruction's 4 bytes, which
+/// begin at the offset. The destination register of an instruction is its bits 0 to 4.
+///
+/// ```
+/// use linker_utils::aarch64::RelaxationKind;
+///
+/// let (mut adrp, mut offset, mut addend) = (0xb000_0003u32.to_le_bytes(), 0, 0);
+/// assert!(RelaxationKind::AdrpToAdr.can_apply(&adrp, offset));
+/// RelaxationKind::AdrpToAdr.apply(&mut adrp, &mut offset, &mut addend);
+/// assert_eq!(u32::from_le_bytes(adrp), 0x3000_0003);
+/// ```
+#[derive(Debug, Clone, Copy, PartialEq, Eq)]
+pub enum RelaxationKind {
+    /// Leaves the instruction as it is; only the kind of its relocation changes.
+    NoOp,
+    /// Writes `nop`.
+    ReplaceWithNop,
+    /// Writes `movz x0, #0, lsl #16`.
+    MovzX0Lsl16,
+    /// Writes `movk x0, #0`.
+    MovkX0,
+    /// Writes `movz xN, #0, lsl #16`, with the old instruction's destination register.
+    MovzXnLsl16,
+    /// Writes `movk xN, #0`, with the old instruction's destination register. Requires that this is
+    /// also its source register, bits 5 to 9.
+    MovkXn,
+    /// Turns `adrp` into `adr`: clears bit 31.
+    AdrpToAdr,
+    /// Writes `adrp x0` of distance 0.
+    AdrpX0,
+    /// Writes `ldr x0, [x0]`.
+    LdrX0,
+    /// Turns `add` into `adr`: clears bits 24, 27 and 31. The immediate is unchanged, and
+    /// `AArch64Instruction::Adr` only ORs a value into them: the caller clears bits 5 to 23, 29 and
+    /// 30 before that write.
+    AddToAdr,
+    /// Turns `ldr` with an unsigned offset into `adr`: clears bits 24, 27 and 31. The immediate's
+    /// old bits are unchanged, as are bits 22, 29 and 30 of the opcode, which are immediate bits of
+    /// `adr`: the caller clears bits 5 to 23, 29 and 30 before it writes `AArch64Instruction::Adr`.
+    LdrToAdr,
+    /// Turns LDR (immediate), 64 bits with an unsigned offset, into ADD (immediate). Bits 0 to 20
+    /// are unchanged. Requires such an instruction.
+    LdrToAdd,
+    /// Turns `adrp`, 4 bytes before the offset, and `add` into `nop` and `adr` of distance 0, with
+    /// the `adrp`'s destination register.
+    AdrpAddToNopAdr,
+}
+
+/// The instruction at an offset of the section.
+#[inline(always)]
+fn word_at(section: &[u8], offset: u64) -> u32 {
+    u32_from_slice(&section[offset as usize..])
+}
+
+/// Writes an instruction at an offset of the section.
+#[inline(always)]
+pub(super) fn put_word(section: &mut [u8], offset: u64, word: u32) {
+    overwrite(section, offset, &word.to_le_bytes());
+}
+
+#[inline(always)]
+fn destination(word: u32) -> u32 {
+    word & 0x1f
+}
+
+#[inline(always)]
+fn source(word: u32) -> u32 {
+    word >> 5 & 0x1f
+}
+
+const NOP: u32 = 0xd503_201f;
+
+const ADR_WORD: u32 = 0x1000_0000;
+
+impl RelaxationKind {
+    /// The rewrite with a number, its place in the enum. None above the last.
+    #[must_use]
+    #[inline(always)]
+    pub fn from_number(number: u32) -> Option<RelaxationKind> {
+        let kind = match number {
+            0 => RelaxationKind::NoOp,
+            1 => RelaxationKind::ReplaceWithNop,
+            2 => RelaxationKind::MovzX0Lsl16,
+            3 => RelaxationKind::MovkX0,
+            4 => RelaxationKind::MovzXnLsl16,
+            5 => RelaxationKind::MovkXn,
+            6 => RelaxationKind::AdrpToAdr,
+            7 => RelaxationKind::AdrpX0,
+            8 => RelaxationKind::LdrX0,
+            9 => RelaxationKind::AddToAdr,
+            10 => RelaxationKind::LdrToAdr,
+            11 => RelaxationKind::LdrToAdd,
+            12 => RelaxationKind::AdrpAddToNopAdr,
+            _ => return None,
+        };
+        Some(kind)
+    }
+
+    /// Rewrites the instruction at an offset of a section. All other bytes, the offset and the
+    /// addend are unchanged.
+    ///
+    /// # Requires
+    ///
+    /// - `self.can_apply(section_bytes, *offset_in_section)`
+    #[cfg_attr(debug_assertions, track_caller)]
+    #[inline]
+    pub fn apply(self, section_bytes: &mut [u8], offset_in_section: &mut u64, addend: &mut i64) {
+        debug_assert!(self.can_apply(section_bytes, *offset_in_section));
+        let _ = addend;
+        let offset = *offset_in_section;
+        match self {
+            RelaxationKind::NoOp => {}
+            RelaxationKind::ReplaceWithNop => put_word(section_bytes, offset, NOP),
+            RelaxationKind::MovzX0Lsl16 => put_word(section_bytes, offset, 0xd2a0_0000),
+            RelaxationKind::MovkX0 => put_word(section_bytes, offset, 0xf280_0000),
+            RelaxationKind::MovzXnLsl16 => {
+                let rd = destination(word_at(section_bytes, offset));
+                put_word(section_bytes, offset, 0xd2a0_0000 | rd);
+            }
+            RelaxationKind::MovkXn => {
+                let rd = destination(word_at(section_bytes, offset));
+                put_word(section_bytes, offset, 0xf280_0000 | rd);
+            }
+            RelaxationKind::AdrpToAdr => {
+                let adrp = word_at(section_bytes, offset);
+                put_word(section_bytes, offset, adrp & 0x7fff_ffff);
+            }
+            RelaxationKind::AdrpX0 => put_word(section_bytes, offset, 0x9000_0000),
+            RelaxationKind::LdrX0 => put_word(section_bytes, offset, 0xf940_0000),
+            RelaxationKind::AddToAdr | RelaxationKind::LdrToAdr => {
+                let word = word_at(section_bytes, offset);
+                put_word(section_bytes, offset, word & 0x76ff_ffff);
+            }
+            RelaxationKind::LdrToAdd => {
+                let ldr = word_at(section_bytes, offset);
+                put_word(section_bytes, offset, ldr & 0x001f_ffff | 0x9100_0000);
+            }
+            RelaxationKind::AdrpAddToNopAdr => {
+                let rd = destination(word_at(section_bytes, offset - 4));
+                let pair = (((ADR_WORD | rd) as u64) << 32) | NOP as u64;
+                overwrite(section_bytes, offset - 4, &pair.to_le_bytes());
+            }
+        }
+    }
+
+    /// Whether `apply` may be called at an offset of a section: the window lies in the section,
+    /// and, for `MovkXn` and `LdrToAdd`, the instruction meets their requirement. For the other
+    /// kinds the instruction is not tested.
+    #[must_use]
+    #[inline]
+    pub fn can_apply(self, section: &[u8], offset: u64) -> bool {
+        match self {
+            RelaxationKind::NoOp => true,
+            RelaxationKind::MovkXn => {
+                if !has_window(section, offset, 0, 4) {
+                    return false;
+                }
+                let word = word_at(section, offset);
+                source(word) == destination(word)
+            }
+            RelaxationKind::LdrToAdd => {
+                if !has_window(section, offset, 0, 4) {
+                    return false;
+                }
+                word_at(section, offset) >> 22 == 0x3e5
+            }
+            RelaxationKind::AdrpAddToNopAdr => has_window(section, offset, 4, 8),
+            RelaxationKind::ReplaceWithNop
+            | RelaxationKind::MovzX0Lsl16
+            | RelaxationKind::MovkX0
+            | RelaxationKind::MovzXnLsl16
+            | RelaxationKind::AdrpToAdr
+            | RelaxationKind::AdrpX0
+            | RelaxationKind::LdrX0
+            | RelaxationKind::AddToAdr
+            | RelaxationKind::LdrToAdr => has_window(section, offset, 0, 4),
+        }
+    }
+
+    /// What happens to the next relocation: it is applied as usual.
+    #[must_use]
+    #[inline]
+    pub fn next_modifier(&self) -> RelocationModifier {
+        RelocationModifier::Normal
+    }
+}
+
+impl InstructionRewrite for RelaxationKind {
+    #[cfg_attr(debug_assertions, track_caller)]
+    #[inline(always)]
+    fn apply(self, section: &mut [u8], offset: &mut u64, addend: &mut i64) {
+        debug_assert!(self.can_apply(section, *offset));
+        RelaxationKind::apply(self, section, offset, addend);
+    }
+
+    #[inline(always)]
+    fn can_apply(self, section: &[u8], offset: u64) -> bool {
+        RelaxationKind::can_apply(self, section, offset)
+    }
+
+    #[inline(always)]
+    fn next_modifier(&self) -> RelocationModifier {
+        RelaxationKind::next_modifier(self)
+    }
+}

@@ -1,0 +1,168 @@
+// Made by tools/erase of crates/linker_utils/src/architecture.rt.
+//! What the codes and numbers of an ELF file's architecture name: relocations by `r_type`, and forms
+//! and rewrites by their places in their enums.
+
+use crate::aarch64::{self, AArch64Relocation};
+use crate::elf::{
+    AArch64Instruction, Architecture, InstructionRewrite, LoongArch64Instruction, Ppc64Instruction,
+    RelocationInstruction, RiscVInstruction, Row, Uleb128Role,
+};
+use crate::loongarch64::{self, LoongArch64Relocation};
+use crate::ppc64::{self, Ppc64Relocation};
+use crate::relaxation::RelocationModifier;
+use crate::riscv64::{self, RiscVRelocation};
+use crate::x86_64::{self, X86_64Relocation};
+
+/// A rewrite of one of the architectures.
+#[derive(Debug, Clone, Copy, PartialEq, Eq)]
+pub enum Relaxation {
+    AArch64(aarch64::RelaxationKind),
+    RiscV(riscv64::RelaxationKind),
+    LoongArch64(loongarch64::RelaxationKind),
+    Ppc64(ppc64::RelaxationKind),
+    X86_64(x86_64::RelaxationKind),
+}
+
+impl InstructionRewrite for Relaxation {
+    #[cfg_attr(debug_assertions, track_caller)]
+    #[inline(always)]
+    fn apply(self, section: &mut [u8], offset: &mut u64, addend: &mut i64) {
+        debug_assert!(self.can_apply(section, *offset));
+        match self {
+            Relaxation::AArch64(kind) => kind.apply(section, offset, addend),
+            Relaxation::RiscV(kind) => kind.apply(section, offset, addend),
+            Relaxation::LoongArch64(kind) => kind.apply(section, offset, addend),
+            Relaxation::Ppc64(kind) => kind.apply(section, offset, addend),
+            Relaxation::X86_64(kind) => kind.apply(section, offset, addend),
+        }
+    }
+
+    #[inline(always)]
+    fn can_apply(self, section: &[u8], offset: u64) -> bool {
+        match self {
+            Relaxation::AArch64(kind) => kind.can_apply(section, offset),
+            Relaxation::RiscV(kind) => kind.can_apply(section, offset),
+            Relaxation::LoongArch64(kind) => kind.can_apply(section, offset),
+            Relaxation::Ppc64(kind) => kind.can_apply(section, offset),
+            Relaxation::X86_64(kind) => kind.can_apply(section, offset),
+        }
+    }
+
+    #[inline(always)]
+    fn next_modifier(&self) -> RelocationModifier {
+        match self {
+            Relaxation::AArch64(kind) => kind.next_modifier(),
+            Relaxation::RiscV(kind) => kind.next_modifier(),
+            Relaxation::LoongArch64(kind) => kind.next_modifier(),
+            Relaxation::Ppc64(kind) => kind.next_modifier(),
+            Relaxation::X86_64(kind) => kind.next_modifier(),
+        }
+    }
+}
+
+impl Architecture {
+    /// What the relocation with a code, `r_type` in ELF files, means. None of a code without a name,
+    /// and of names without a row.
+    ///
+    /// ```
+    /// use linker_utils::elf::Architecture;
+    ///
+    /// let call26 = Architecture::AArch64.row(283).unwrap();
+    /// assert_eq!(call26.info().alignment, 4);
+    /// ```
+    #[must_use]
+    #[inline(always)]
+    pub fn row(self, code: u32) -> Option<Row> {
+        match self {
+            Architecture::AArch64 => aarch64::row(AArch64Relocation::from_elf(code)),
+            Architecture::RiscV => riscv64::row(RiscVRelocation::from_elf(code)),
+            Architecture::LoongArch64 => loongarch64::row(LoongArch64Relocation::from_elf(code)),
+            Architecture::Ppc64 => ppc64::row(Ppc64Relocation::from_elf(code)),
+            Architecture::X86_64 => x86_64::row(X86_64Relocation::from_elf(code)),
+        }
+    }
+
+    /// The name of a relocation in its psABI, as "R_AARCH64_CALL26", of at most 64 bytes. None of a
+    /// code without a name.
+    #[must_use]
+    pub fn name(self, code: u32) -> Option<&'static str> {
+        match self {
+            Architecture::AArch64 => match AArch64Relocation::from_elf(code) {
+                AArch64Relocation::Other(_) => None,
+                name => Some(name.name()),
+            },
+            Architecture::RiscV => match RiscVRelocation::from_elf(code) {
+                RiscVRelocation::Other(_) => None,
+                name => Some(name.name()),
+            },
+            Architecture::LoongArch64 => match LoongArch64Relocation::from_elf(code) {
+                LoongArch64Relocation::Other(_) => None,
+                name => Some(name.name()),
+            },
+            Architecture::Ppc64 => match Ppc64Relocation::from_elf(code) {
+                Ppc64Relocation::Other(_) => None,
+                name => Some(name.name()),
+            },
+            Architecture::X86_64 => match X86_64Relocation::from_elf(code) {
+                X86_64Relocation::Other(_) => None,
+                name => Some(name.name()),
+            },
+        }
+    }
+
+    /// What a relocation of a ULEB128 number does; `None` for all others.
+    #[must_use]
+    pub fn uleb128_role(self, code: u32) -> Option<Uleb128Role> {
+        match self {
+            Architecture::RiscV => RiscVRelocation::from_elf(code).uleb128_role(),
+            Architecture::LoongArch64 => LoongArch64Relocation::from_elf(code).uleb128_role(),
+            _ => None,
+        }
+    }
+
+    /// The form with a number, its place in the enum of its architecture's forms. None above the
+    /// last, and of x86-64, whose fields are whole bytes.
+    #[must_use]
+    #[inline(always)]
+    pub fn form(self, number: u32) -> Option<RelocationInstruction> {
+        match self {
+            Architecture::AArch64 => {
+                AArch64Instruction::from_number(number).map(RelocationInstruction::AArch64)
+            }
+            Architecture::RiscV => {
+                RiscVInstruction::from_number(number).map(RelocationInstruction::RiscV)
+            }
+            Architecture::LoongArch64 => {
+                LoongArch64Instruction::from_number(number).map(RelocationInstruction::LoongArch64)
+            }
+            Architecture::Ppc64 => {
+                Ppc64Instruction::from_number(number).map(RelocationInstruction::Ppc64)
+            }
+            Architecture::X86_64 => None,
+        }
+    }
+
+    /// The rewrite with a number, its place in the enum of its architecture's rewrites. None above
+    /// the last. Those of x86-64 that have a number of bytes before the field take `n`.
+    #[must_use]
+    #[inline(always)]
+    pub fn rewrite(self, number: u32, n: u8) -> Option<Relaxation> {
+        match self {
+            Architecture::AArch64 => {
+                aarch64::RelaxationKind::from_number(number).map(Relaxation::AArch64)
+            }
+            Architecture::RiscV => {
+                riscv64::RelaxationKind::from_number(number).map(Relaxation::RiscV)
+            }
+            Architecture::LoongArch64 => {
+                loongarch64::RelaxationKind::from_number(number).map(Relaxation::LoongArch64)
+            }
+            Architecture::Ppc64 => {
+                ppc64::RelaxationKind::from_number(number).map(Relaxation::Ppc64)
+            }
+            Architecture::X86_64 => {
+                x86_64::RelaxationKind::from_number(number, n).map(Relaxation::X86_64)
+            }
+        }
+    }
+}
