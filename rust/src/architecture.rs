@@ -1,6 +1,8 @@
 // Made by tools/erase of crates/linker_utils/src/architecture.rt.
 //! What the codes and numbers of an ELF file's architecture name: relocations by `r_type`, and forms
 //! and rewrites by their places in their enums.
+//!
+#![doc = include_str!("../doc/architecture.md")]
 
 use crate::aarch64::{self, AArch64Relocation};
 use crate::elf::{

@@ -272,7 +272,9 @@ fn the_functions_are_those_of_the_library() {
     // users read each wrapper, and each has the parameters of what it calls, and passes them in order
     let wrappers = of_header.wrappers;
     let defined = wrappers.iter();
-    let defined: BTreeMap<_, _> = defined.map(|(name, (wrapper, _))| (name, wrapper)).collect();
+    let defined: BTreeMap<_, _> = defined
+        .map(|(name, (wrapper, _))| (name, wrapper))
+        .collect();
     assert_eq!(of_header.inline.iter().collect::<BTreeMap<_, _>>(), defined);
     let called: BTreeSet<&str> = exports
         .keys()
@@ -470,15 +472,26 @@ fn arms(source: &str, path: &str) -> Numbers {
     found
 }
 
-/// The elements of a table of the proved library's, by their places.
-fn elements(source: &str, path: &str) -> Numbers {
-    let names = source
+/// The forms of an architecture in the proved library's table, by their places.
+fn forms_of(architecture: &str, path: &str) -> Numbers {
+    let source = repository(&format!("crates/linker_utils/src/{architecture}/forms.rt"));
+    let (_, table) = source.split_once("static FORMS").expect("the table");
+    let (table, _) = table.split_once("];").expect("its end");
+    let names = table
         .lines()
         .filter_map(|line| line.trim().strip_prefix(path)?.strip_suffix(','));
     names
         .enumerate()
         .map(|(at, name)| (letters(name), at as u64))
         .collect()
+}
+
+/// The rewrites of an architecture of the proved library's, by their numbers.
+fn rewrites_of(architecture: &str) -> Numbers {
+    let source = repository(&format!(
+        "crates/linker_utils/src/{architecture}/rewrites.rt"
+    ));
+    arms(&source, "RelaxationKind::")
 }
 
 /// The lines `NAME = NUMBER` of a definition in the proved library's specifications.
@@ -540,14 +553,13 @@ fn the_numbers_are_those_of_the_library() {
         machines
     );
 
-    let forms = repository("crates/linker_utils_c/src/forms.rt");
-    let aarch64 = elements(&forms, "AArch64Instruction::");
+    let aarch64 = forms_of("aarch64", "AArch64Instruction::");
     assert_eq!(constants("aarch64_form", "AARCH64_FORM_"), aarch64);
     assert_eq!(numbers(AArch64Form::ALL, |it| it.number().into()), aarch64);
-    let riscv = elements(&forms, "RiscVInstruction::");
+    let riscv = forms_of("riscv64", "RiscVInstruction::");
     assert_eq!(constants("riscv_form", "RISCV_FORM_"), riscv);
     assert_eq!(numbers(RiscVForm::ALL, |it| it.number().into()), riscv);
-    let loongarch64 = elements(&forms, "LoongArch64Instruction::");
+    let loongarch64 = forms_of("loongarch64", "LoongArch64Instruction::");
     assert_eq!(
         constants("loongarch64_form", "LOONGARCH64_FORM_"),
         loongarch64
@@ -556,21 +568,20 @@ fn the_numbers_are_those_of_the_library() {
         numbers(LoongArch64Form::ALL, |it| it.number().into()),
         loongarch64
     );
-    let ppc64 = elements(&forms, "Ppc64Instruction::");
+    let ppc64 = forms_of("ppc64", "Ppc64Instruction::");
     assert_eq!(constants("ppc64_form", "PPC64_FORM_"), ppc64);
     assert_eq!(numbers(Ppc64Form::ALL, |it| it.number().into()), ppc64);
 
-    let rewrites = repository("crates/linker_utils_c/src/rewrites.rt");
-    let aarch64 = arms(&rewrites, "aarch64::RelaxationKind::");
+    let aarch64 = rewrites_of("aarch64");
     assert_eq!(constants("aarch64_rewrite", "AARCH64_REWRITE_"), aarch64);
     assert_eq!(
         numbers(AArch64Rewrite::ALL, |it| it.number().into()),
         aarch64
     );
-    let riscv = arms(&rewrites, "riscv64::RelaxationKind::");
+    let riscv = rewrites_of("riscv64");
     assert_eq!(constants("riscv_rewrite", "RISCV_REWRITE_"), riscv);
     assert_eq!(numbers(RiscVRewrite::ALL, |it| it.number().into()), riscv);
-    let loongarch64 = arms(&rewrites, "loongarch64::RelaxationKind::");
+    let loongarch64 = rewrites_of("loongarch64");
     assert_eq!(
         constants("loongarch64_rewrite", "LOONGARCH64_REWRITE_"),
         loongarch64
@@ -579,10 +590,10 @@ fn the_numbers_are_those_of_the_library() {
         numbers(LoongArch64Rewrite::ALL, |it| it.number().into()),
         loongarch64
     );
-    let ppc64 = arms(&rewrites, "ppc64::RelaxationKind::");
+    let ppc64 = rewrites_of("ppc64");
     assert_eq!(constants("ppc64_rewrite", "PPC64_REWRITE_"), ppc64);
     assert_eq!(numbers(Ppc64Rewrite::ALL, |it| it.number().into()), ppc64);
-    let x86_64 = arms(&rewrites, "x86_64::RelaxationKind::");
+    let x86_64 = rewrites_of("x86_64");
     assert_eq!(constants("x86_64_rewrite", "X86_64_REWRITE_"), x86_64);
     let of_crate = (0..100).filter_map(|number| {
         let rewrite = X86_64Rewrite::from_numbers(number, 3)?;

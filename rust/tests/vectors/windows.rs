@@ -4,8 +4,8 @@
 
 use crate::rows::expect_eq;
 use linker_utils::elf::{
-    InstructionRewrite, LoongArch64Instruction, PreparedRow, RelocateError, RelocationInstruction,
-    RelocationKind, RelocationKindInfo, RelocationSize, RiscVInstruction,
+    Architecture, InstructionRewrite, LoongArch64Instruction, RelocateError, RelocationInstruction,
+    RelocationKind, RelocationKindInfo, RelocationSize, RiscVInstruction, Row,
 };
 use linker_utils::{aarch64, loongarch64, riscv64};
 use core::fmt::Debug;
@@ -98,11 +98,7 @@ fn window(row: &RelocationKindInfo) -> usize {
 
 /// Requires that a row's writes are rejected, with nothing written, where a byte is missing, be the
 /// value misaligned or out of reach or not, and else not for that. Returns how many were rejected.
-fn requires_bytes(
-    code: u32,
-    row: &RelocationKindInfo,
-    prepared: &PreparedRow,
-) -> u64 {
+fn requires_bytes(code: u32, row: &RelocationKindInfo, listed: &Row) -> u64 {
     // `write_uleb128` writes the numbers of these, and no manual says what `Call30` makes
     let is_unsupported = matches!(
         row.kind,
@@ -127,7 +123,7 @@ fn requires_bytes(
             let mut bytes = [0xa5; 8];
             let first = row.write(value, &mut bytes[..short]);
             expect_eq((code, short), first, Err(error));
-            let second = prepared.write(value, &mut bytes[..short]);
+            let second = listed.write(value, &mut bytes[..short]);
             expect_eq((code, short), second, Err(error));
             expect_eq((code, short), bytes, [0xa5; 8]);
             rejected = rejected.wrapping_add(1);
@@ -141,34 +137,18 @@ fn requires_bytes(
 
 #[test]
 fn rows_require_their_window() {
-    let mut rejected = [0u64; 3];
-    for code in 0..1100 {
-        let name = aarch64::AArch64Relocation::from_elf(code);
-        if let (Some(row), Some(prepared)) = (
-            aarch64::relocation_type_from_raw(name),
-            aarch64::prepared_row(name),
-        ) {
-            let more = requires_bytes(code, &row, &prepared);
-            rejected[0] = rejected[0].wrapping_add(more);
+    for architecture in [
+        Architecture::AArch64,
+        Architecture::RiscV,
+        Architecture::LoongArch64,
+    ] {
+        let mut rejected = 0u64;
+        for code in 0..1100 {
+            if let Some(row) = architecture.row(code) {
+                let more = requires_bytes(code, &row.info(), &row);
+                rejected = rejected.wrapping_add(more);
+            }
         }
-        let name = riscv64::RiscVRelocation::from_elf(code);
-        if let (Some(row), Some(prepared)) = (
-            riscv64::relocation_type_from_raw(name),
-            riscv64::prepared_row(name),
-        ) {
-            let more = requires_bytes(code, &row, &prepared);
-            rejected[1] = rejected[1].wrapping_add(more);
-        }
-        let name = loongarch64::LoongArch64Relocation::from_elf(code);
-        if let (Some(row), Some(prepared)) = (
-            loongarch64::relocation_type_from_raw(name),
-            loongarch64::prepared_row(name),
-        ) {
-            let more = requires_bytes(code, &row, &prepared);
-            rejected[2] = rejected[2].wrapping_add(more);
-        }
-    }
-    for some in rejected {
-        assert!(some > 500, "{rejected:?}");
+        assert!(rejected > 500, "{rejected:?}");
     }
 }
