@@ -11,7 +11,7 @@ IN_OTHER_WORDS = {
 }
 # Requirements that no test tells, by function and name.
 UNTESTED = {"head.room", "delta.room", "input_to_output_counted.room", "output_to_input_counted.fits",
-            "output_to_input_counted.room", "of.fits", "write.prepared", "pack_into.room",
+            "output_to_input_counted.room", "pack_into.room",
             "shrink_calls_into.shrinkable"}
 COMPARISONS = {"≡": "==", "≤": "<=", "<": "<"}
 
