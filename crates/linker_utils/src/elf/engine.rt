@@ -141,15 +141,15 @@ fn take(run: &Run, window: u64) -> u64
 
 /// The window after all runs of the value are written.
 #[inline(always)]
-fn insert(runs: &[Run], value: u64, window: u64) -> u64
+pub(crate) fn insert(runs: &[Run], value: u64, window: u64) -> u64
     requires { IsTrue (runs_fit runs.now) }
     ensures { BitsWritten (spread runs.now) value window result }
 {
-    let mut laid = window;
+    let mut written = window;
     for run in runs {
-        laid = put(run, value, laid);
+        written = put(run, value, written);
     }
-    laid
+    written
 }
 
 /// The number in the runs of a window.
@@ -192,29 +192,10 @@ pub(crate) fn signed_number(number: u64, bits: u32) -> (u64, bool)
     signed_by(number, bits, 1 << (bits - 1))
 }
 
-/// Writes the runs of a value to the window that `dest` begins with.
-#[inline(always)]
-pub(crate) fn write(window: Window, runs: &[Run], value: u64, dest: &mut [u8])
-    requires room { byte_len (width_of window) ≤ length dest.old }
-    requires sound { IsTrue (runs_fit runs.now) }
-    requires inside { IsTrue (words_below (bits_of window) (spread runs.now)) }
-    ensures written { BitsWritten (spread runs.now) value (from_le_bytes (width_of window) dest.old)
-        (from_le_bytes (width_of window) dest.new) }
-    ensures rest { drop (byte_len (width_of window)) dest.new
-        ≡ drop (byte_len (width_of window)) dest.old }
-    ensures same { from_le_bytes (width_of window) dest.new
-        ≡ from_le_bytes (width_of window) dest.old
-        → dest.new ≡ dest.old }
-{
-    let before = window.load(dest);
-    let after = insert(runs, value, before);
-    window.store(after, dest);
-}
-
-/// Writes a value into the instruction that `dest` begins with. The runs are those of its form;
+/// Writes a value into the instruction that `dest` begins with. The runs are those of its form.
 /// Only the contract uses `_insn` and `_negative`.
 #[inline(always)]
-pub(crate) fn write_form(
+pub(crate) fn write(
     _insn: RelocationInstruction,
     window: Window,
     runs: &[Run],
@@ -240,26 +221,8 @@ pub(crate) fn write_form(
         ≡ window_of (relocation_form _insn) dest.old
         → dest.new ≡ dest.old }
 {
-    write(window, runs, value, dest);
-}
-
-/// Writes the runs of a value over a number, and that to the window that `dest` begins with.
-#[inline(always)]
-pub(crate) fn write_over(window: Window, runs: &[Run], value: u64, number: u64, dest: &mut [u8])
-    requires room { byte_len (width_of window) ≤ length dest.old }
-    requires sound { IsTrue (runs_fit runs.now) }
-    requires inside { IsTrue (words_below (bits_of window) (spread runs.now)) }
-    requires fits { number < 2 ^ bits_of window }
-    ensures written { BitsWritten (spread runs.now) value number
-        (from_le_bytes (width_of window) dest.new) }
-    ensures rest { drop (byte_len (width_of window)) dest.new
-        ≡ drop (byte_len (width_of window)) dest.old }
-    ensures same { from_le_bytes (width_of window) dest.new
-        ≡ from_le_bytes (width_of window) dest.old
-        → dest.new ≡ dest.old }
-{
-    let after = insert(runs, value, number);
-    window.store(after, dest);
+    let number = insert(runs, value, window.load(dest));
+    window.store(number, dest);
 }
 
 /// Reads the number in the runs of the window that `bytes` begins with.

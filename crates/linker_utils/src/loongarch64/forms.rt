@@ -169,10 +169,10 @@ impl LoongArch64Instruction {
         let insn = RelocationInstruction::LoongArch64(self);
         match self {
             LoongArch64Instruction::Call30 => {
-                engine::write_form(insn, Window::Eight, &CALL_30, value, negative, dest);
+                engine::write(insn, Window::Eight, &CALL_30, value, negative, dest);
             }
             LoongArch64Instruction::Call36 => {
-                engine::write_form(insn, Window::Eight, &CALL_36, value, negative, dest);
+                engine::write(insn, Window::Eight, &CALL_36, value, negative, dest);
             }
             _ => {
                 let word = self.laid(value, Window::Four.load(dest));

@@ -66,7 +66,7 @@ impl Ppc64Instruction {
         match self {
             Ppc64Instruction::Prefixed => {
                 let insn = RelocationInstruction::Ppc64(self);
-                engine::write_form(insn, Window::Eight, &PREFIXED, value, _negative, dest);
+                engine::write(insn, Window::Eight, &PREFIXED, value, _negative, dest);
             }
             _ => {
                 let mask = self.mask();

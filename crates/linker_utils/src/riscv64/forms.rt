@@ -170,22 +170,22 @@ impl RiscVInstruction {
         let insn = RelocationInstruction::RiscV(self);
         match self {
             RiscVInstruction::BType => {
-                engine::write_form(insn, Window::Four, &B_TYPE, value, negative, dest);
+                engine::write(insn, Window::Four, &B_TYPE, value, negative, dest);
             }
             RiscVInstruction::JType => {
-                engine::write_form(insn, Window::Four, &J_TYPE, value, negative, dest);
+                engine::write(insn, Window::Four, &J_TYPE, value, negative, dest);
             }
             RiscVInstruction::CbType => {
-                engine::write_form(insn, Window::Two, &CB_TYPE, value, negative, dest);
+                engine::write(insn, Window::Two, &CB_TYPE, value, negative, dest);
             }
             RiscVInstruction::CjType => {
-                engine::write_form(insn, Window::Two, &CJ_TYPE, value, negative, dest);
+                engine::write(insn, Window::Two, &CJ_TYPE, value, negative, dest);
             }
             RiscVInstruction::CluiType => {
-                engine::write_form(insn, Window::Two, &CLUI_TYPE, value, negative, dest);
+                engine::write(insn, Window::Two, &CLUI_TYPE, value, negative, dest);
             }
             RiscVInstruction::UiType => {
-                engine::write_form(insn, Window::Eight, &UI_TYPE, value, negative, dest);
+                engine::write(insn, Window::Eight, &UI_TYPE, value, negative, dest);
             }
             _ => {
                 let word = self.laid(value, Window::Four.load(dest));
