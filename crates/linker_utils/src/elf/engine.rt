@@ -5,7 +5,7 @@ ghost use Rattle.std.specs.Int.{from_le_bytes, byte_len, cast_unsigned, w64};
 ghost use Rattle.linker_base.specs.Bits.{signed};
 ghost use Rattle.linker_base.specs.Form.{BitsWritten, Written, window_of, place_sum, values_below};
 ghost use Rattle.linker_utils.specs.Elf.{relocation_form, relocation_layout};
-ghost use Rattle.linker_utils.specs.Inner.Runs.{run_places, spread, run_fits, runs_fit, runs_read, words_below, width_of, bits_of, reads_unsigned, reads_flagged};
+ghost use Rattle.linker_utils.specs.Inner.Runs.{run_places, spread, run_fits, runs_fit, runs_read, words_below, width_of, bits_of, reads_flagged};
 
 use crate::elf::RelocationInstruction;
 
@@ -235,30 +235,8 @@ pub(crate) fn read(window: Window, runs: &[Run], bytes: &[u8]) -> u64
     extract(runs, window.load(bytes))
 }
 
-/// Reads the value in the instruction that `bytes` begins with, of a form that is read without a
-/// sign. The runs are the form's.
-#[inline(always)]
-pub(crate) fn read_form(
-    _insn: RelocationInstruction,
-    window: Window,
-    runs: &[Run],
-    bytes: &[u8],
-) -> (u64, bool)
-    requires room { byte_len (width_of window) ≤ length bytes.now }
-    requires sound { IsTrue (runs_read runs.now) }
-    requires width { (relocation_form _insn).window ≡ width_of window }
-    requires places { (relocation_form _insn).places 0 ≡ spread runs.now }
-    requires reading { IsTrue (reads_unsigned (relocation_layout _insn)) }
-    ensures number { result.0
-        ≡ cast_unsigned w64
-        ((relocation_form _insn).reading (window_of (relocation_form _insn) bytes.now)) }
-    ensures flag { result.1
-        ≡ (relocation_form _insn).flag (window_of (relocation_form _insn) bytes.now) }
-{
-    (read(window, runs, bytes), false)
-}
-
-/// The same, of a form that is read in two's complement and flags a number below 0.
+/// Reads the value in the instruction that `bytes` begins with, of a form that is read in two's
+/// complement and flags a number below 0. The runs are the form's.
 #[inline(always)]
 pub(crate) fn read_flagged_form(
     _insn: RelocationInstruction,

@@ -128,7 +128,7 @@ impl LoongArch64Instruction {
 
     /// An instruction with the bits of a value.
     #[inline(always)]
-    fn laid(self, value: u64, word: u64) -> u64
+    fn insert(self, value: u64, word: u64) -> u64
         requires plain { is_one_word self ≡ true }
         requires small { word < 2 ^ 32 }
         ensures small { result < 2 ^ 32 }
@@ -144,7 +144,7 @@ impl LoongArch64Instruction {
 
     /// The number in the bits that are read.
     #[inline(always)]
-    fn taken(self, word: u64) -> u64
+    fn extract(self, word: u64) -> u64
         requires plain { is_one_word self ≡ true }
         requires small { word < 2 ^ 32 }
         ensures number { result ≡ place_sum (loongarch_read self) word }
@@ -156,7 +156,7 @@ impl LoongArch64Instruction {
 
     /// Writes the bits of a value.
     #[inline(always)]
-    fn place(self, value: u64, negative: bool, dest: &mut [u8])
+    fn insert_into(self, value: u64, negative: bool, dest: &mut [u8])
         requires { byte_len (loongarch_form self).window ≤ length dest.old }
         ensures written { Written (loongarch_form self) value negative
             (window_of (loongarch_form self) dest.old) (window_of (loongarch_form self) dest.new) }
@@ -175,7 +175,7 @@ impl LoongArch64Instruction {
                 engine::write(insn, Window::Eight, &CALL_36, value, negative, dest);
             }
             _ => {
-                let word = self.laid(value, Window::Four.load(dest));
+                let word = self.insert(value, Window::Four.load(dest));
                 Window::Four.store(word, dest);
             }
         }
@@ -200,7 +200,7 @@ impl LoongArch64Instruction {
             (window_of (loongarch_form self) dest.old)
             → dest.new ≡ dest.old }
     {
-        self.place(extracted_value, negative, dest);
+        self.insert_into(extracted_value, negative, dest);
     }
 
     /// The value in the instruction or pair that `bytes` begins with, modulo 2^64, and a flag: for
@@ -219,7 +219,7 @@ impl LoongArch64Instruction {
             }
             LoongArch64Instruction::Call36 => (read_call_36(bytes), false),
             _ => {
-                let number = self.taken(Window::Four.load(bytes));
+                let number = self.extract(Window::Four.load(bytes));
                 let bits = self.bits();
                 engine::signed_by(number, bits.sign_bits, bits.sign)
             }

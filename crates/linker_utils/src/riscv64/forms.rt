@@ -145,7 +145,7 @@ impl RiscVInstruction {
 
     /// An instruction with the bits of a value.
     #[inline(always)]
-    fn laid(self, value: u64, word: u64) -> u64
+    fn insert(self, value: u64, word: u64) -> u64
         requires plain { is_by_masks self ≡ true }
         requires small { word < 2 ^ 32 }
         ensures small { result < 2 ^ 32 }
@@ -158,7 +158,7 @@ impl RiscVInstruction {
 
     /// Writes the bits of a value.
     #[inline(always)]
-    fn place(self, value: u64, negative: bool, dest: &mut [u8])
+    fn insert_into(self, value: u64, negative: bool, dest: &mut [u8])
         requires { byte_len (riscv_form self).window ≤ length dest.old }
         ensures written { Written (riscv_form self) value negative
             (window_of (riscv_form self) dest.old) (window_of (riscv_form self) dest.new) }
@@ -188,7 +188,7 @@ impl RiscVInstruction {
                 engine::write(insn, Window::Eight, &UI_TYPE, value, negative, dest);
             }
             _ => {
-                let word = self.laid(value, Window::Four.load(dest));
+                let word = self.insert(value, Window::Four.load(dest));
                 Window::Four.store(word, dest);
             }
         }
@@ -214,7 +214,7 @@ impl RiscVInstruction {
             → dest.new ≡ dest.old }
         ensures pair { PairReads self extracted_value (window_of (riscv_form self) dest.new) }
     {
-        self.place(extracted_value, negative, dest);
+        self.insert_into(extracted_value, negative, dest);
     }
 
     /// The value in the instruction that `bytes` begins with, sign-extended to 64 bits, and whether
@@ -265,6 +265,10 @@ impl RiscVInstruction {
     }
 }
 
+/// The lengths of the windows, by the forms' places in their enum. LLVM compiles a match to
+/// branches, and a processor may not predict the form.
+static WINDOWS: [usize; 9] = [4, 4, 4, 4, 4, 2, 2, 2, 8];
+
 impl InstructionForm for RiscVInstruction {
     ghost form = { riscv_form };
 
@@ -274,15 +278,7 @@ impl InstructionForm for RiscVInstruction {
 
     #[inline]
     fn window(self) -> usize {
-        match self {
-            RiscVInstruction::UType
-            | RiscVInstruction::IType
-            | RiscVInstruction::SType
-            | RiscVInstruction::BType
-            | RiscVInstruction::JType => 4,
-            RiscVInstruction::CbType | RiscVInstruction::CjType | RiscVInstruction::CluiType => 2,
-            RiscVInstruction::UiType => 8,
-        }
+        WINDOWS[self as usize]
     }
 
     #[inline]
