@@ -132,8 +132,7 @@ fn is_dq_form(word: u64) -> bool
 /// they aren't its displacement's.
 #[inline(always)]
 fn displacement(insn: Ppc64Instruction, number: u64, dest: &[u8]) -> u64
-    requires room { byte_len (ppc64_form insn).window ≤ length dest.now }
-    requires small { number < 2 ^ 64 }
+    requires { byte_len (ppc64_form insn).window ≤ length dest.now }
     ensures { result
         ≡ number_placed (RelocationInstruction.Ppc64 insn) (window_of (ppc64_form insn) dest.now) number }
 {
