@@ -96,13 +96,6 @@ aarch64_machine Movnz v neg before after h fit laid = movnz_machine neg v before
 aarch64_machine MachOLow12 v neg before after h fit laid = macho_machine neg v before after fit h laid
 aarch64_machine f v neg before after h fit laid = layout_machine (aarch64_layout f) refl v neg before after h fit laid
 
--- the form of an instruction that is known
-pub written_as : (f known : AArch64Instruction) (v : ℕ) (neg : Bool) (before after : List ℕ) → f ≡ known
-    → Written (aarch64_form known) v neg (window_of (aarch64_form known) before) (window_of (aarch64_form known) after)
-    → Written (aarch64_form f) v neg (window_of (aarch64_form f) before) (window_of (aarch64_form f) after)
-written_as f known v neg before after e h =
-    subst (λ g. Written (aarch64_form g) v neg (window_of (aarch64_form g) before) (window_of (aarch64_form g) after)) (sym e) h
-
 -- the opcode as the code sets it
 opcode_set : (x opcode : ℕ) → bit_or (bit_and x 8388607) (opcode * 2 ^ 23) ≡ opcode * 2 ^ 23 + x % 2 ^ 23
 opcode_set x opcode =
@@ -110,15 +103,15 @@ opcode_set x opcode =
     ∙ or_comm (x % 2 ^ 23) (opcode * 2 ^ 23)
     ∙ or_shifted opcode 23 (x % 2 ^ 23) (let small : x % 2 ^ 23 < 2 ^ 23 = omega arith in small)
 
-pub movnz_written : (f : AArch64Instruction) (v : ℕ) (neg : Bool) (x bits opcode : ℕ) (before after : List ℕ) → f ≡ Movnz → x ≡ from_le_bytes w32 before
-    → bits ≡ moved_bits neg v → opcode ≡ move_opcode neg * 2 ^ 23
-    → BitsWritten imm16_places bits (bit_or (bit_and x 8388607) opcode) (from_le_bytes w32 after)
-    → Written (aarch64_form f) v neg (window_of (aarch64_form f) before) (window_of (aarch64_form f) after)
-movnz_written f v neg x bits opcode before after e w b o laid =
-    let base = ap (bit_or (bit_and x 8388607)) o ∙ opcode_set x (move_opcode neg) ∙ ap (λ y. move_opcode neg * 2 ^ 23 + y % 2 ^ 23) w in
-    written_as f Movnz v neg before after e
-    (subst (λ m. BitsWritten imm16_places m (movnz.base neg (from_le_bytes w32 before)) (from_le_bytes w32 after)) b
-    (subst (λ n. BitsWritten imm16_places bits n (from_le_bytes w32 after)) base laid))
+pub movnz_written : (v : ℕ) (neg : Bool) (x bits opcode after : ℕ) → bits ≡ moved_bits neg v → opcode ≡ move_opcode neg * 2 ^ 23
+    → BitsWritten imm16_places bits (bit_or (bit_and x 8388607) opcode) after → Written movnz v neg x after
+movnz_written v neg x bits opcode after b o laid =
+    subst (λ m. BitsWritten imm16_places m (movnz.base neg x) after) b
+    (subst (λ n. BitsWritten imm16_places bits n after) (ap (bit_or (bit_and x 8388607)) o ∙ opcode_set x (move_opcode neg)) laid)
+
+pub movnz_below : (v : ℕ) (neg : Bool) (before after : ℕ) → Written movnz v neg before after → after < 2 ^ 32
+movnz_below v true before after laid = laid_below imm16_places 32 (moved_bits true v) (movn_opcode * 2 ^ 23 + before % 2 ^ 23) after refl laid (omega arith)
+movnz_below v false before after laid = laid_below imm16_places 32 (moved_bits false v) (movz_opcode * 2 ^ 23 + before % 2 ^ 23) after refl laid (omega arith)
 
 -- ---- the forms that are only ORed
 
@@ -257,9 +250,12 @@ signed_reading LdrRegister x o = signed_wide (place_sum ((aarch64_form LdrRegist
 signed_reading Add x o = signed_wide (place_sum ((aarch64_form Add).places 0) x) (place_sum_below ((aarch64_form Add).places 0) 20 x refl refl)
 signed_reading f x o = refl
 
+pub is_word : (f : AArch64Instruction) → (aarch64_form f).window ≡ w32
+is_word Movnz = refl
+is_word f = refl
+
 word_of : (f : AArch64Instruction) (bytes : List ℕ) → window_of (aarch64_form f) bytes ≡ from_le_bytes w32 bytes
-word_of Movnz bytes = refl
-word_of f bytes = refl
+word_of f bytes = ap (λ w. from_le_bytes w bytes) (is_word f)
 
 unflagged : (f : AArch64Instruction) (x : ℕ) → is_ored_alone f ≡ true → false ≡ (aarch64_form f).flag x
 unflagged Movnz x o = cc
@@ -296,13 +292,14 @@ low12_code runs s n x r e w = ap spread r ∙ low12_spread s ∙ ap low12_places
 pub low12_read : (runs : List Run) (s : ℕ) → runs ≡ low12_run s → s < 5 → runs_read runs ≡ true
 low12_read runs s r h = subst (λ rs. runs_read rs ≡ true) (sym r) (agree_below_at (λ k. runs_read (low12_run k)) (λ _. true) 5 s refl h)
 
-pub macho_written : (f : AArch64Instruction) (v : ℕ) (neg : Bool) (before after : List ℕ) (runs : List Run) (s n : ℕ) → f ≡ MachOLow12
-    → runs ≡ low12_run s → s ≡ access_scale n → n ≡ from_le_bytes w32 before
-    → BitsWritten (spread runs) v (from_le_bytes w32 before) (from_le_bytes w32 after)
-    → Written (aarch64_form f) v neg (window_of (aarch64_form f) before) (window_of (aarch64_form f) after)
-macho_written f v neg before after runs s n e r k w laid =
-    written_as f MachOLow12 v neg before after e
-    (subst (λ ps. BitsWritten ps v (from_le_bytes w32 before) (from_le_bytes w32 after)) (low12_code runs s n (from_le_bytes w32 before) r k w) laid)
+pub macho_written : (v : ℕ) (neg : Bool) (x after : ℕ) (runs : List Run) (s : ℕ) → runs ≡ low12_run s → s ≡ access_scale x → BitsWritten (spread runs) v x after
+    → Written macho_low12 v neg x after
+macho_written v neg x after runs s r k laid = subst (λ ps. BitsWritten ps v x after) (low12_code runs s x x r k refl) laid
+
+pub macho_below : (v : ℕ) (neg : Bool) (x after : ℕ) → Written macho_low12 v neg x after → x < 2 ^ 32 → after < 2 ^ 32
+macho_below v neg x after laid small =
+    laid_below (low12_places (access_scale x)) 32 v x after
+    (agree_below_at (λ k. words_below 32 (low12_places k)) (λ _. true) 5 (access_scale x) refl (scale_small x)) laid small
 
 -- ---- what is read
 

@@ -1,51 +1,30 @@
 -- The numbers placed in instructions of DQ-form, and moves of 32 bits.
 use Rattle.std.proofs.Common.{◌≡◌, ℕ, ◌+◌, ◌-◌, ◌*◌, ◌/◌, ◌%◌, ◌^◌, ◌<◌, ◌≤◌, Bool, true, false, List}
-use Rattle.std.proofs.Common.{◌==◌, ◌&&◌, ◌||◌, [], inl, inr, drop, if◌then◌else◌, refl, sym, ◌∙◌}
+use Rattle.std.proofs.Common.{◌==◌, ◌&&◌, ◌||◌, [], inl, inr, if◌then◌else◌, refl, sym, ◌∙◌}
 use Rattle.std.proofs.Common.{ap, subst, arith, ℤ, pos, int_lt}
-use Rattle.std.specs.Int.{byte_len, w32, bit_at, from_le_bytes}
+use Rattle.std.specs.Int.{bit_at}
 use Rattle.linker_base.specs.Bits.{field}
-use Rattle.linker_base.specs.Form.{BitsWritten, Written, Fits, window_of, ImmediateBit, bits_to}
+use Rattle.linker_base.specs.Form.{BitsWritten, Written, ImmediateBit, bits_to}
 use Rattle.linker_base.specs.Form.{replaced, placed_bit, bit_for, place_sum}
 use Rattle.linker_base.specs.declared.bit_misc.BitRange.{BitRange}
 use Rattle.linker_base.proofs.ConsecutiveBits.{consecutive_bits_all, consecutive_bits_sum}
 use Rattle.linker_base.proofs.Fields.{bit_at_mod, same_fields}
 use Rattle.linker_base.proofs.Immediates.{layout_laid, always_clear}
-use Rattle.linker_utils.specs.AArch64.{movnz, move_opcode}
+use Rattle.linker_utils.specs.AArch64.{movnz, move_opcode, aarch64_form}
 use Rattle.linker_utils.specs.Elf.{relocation_form}
 use Rattle.linker_utils.specs.Ppc64.{ppc64_form, ppc64_layout}
 use Rattle.linker_utils.specs.Relocate.{number_placed, with_low_4, is_dq_form, is_32_bit_move}
-use Rattle.linker_utils.specs.Relocate.{with_bit_31_if, places_cleared, bits_taken, ppc64_reads}
-use Rattle.linker_utils.specs.Relocate.{InstructionWritten}
+use Rattle.linker_utils.specs.Relocate.{bits_taken, ppc64_reads}
 use Rattle.linker_utils.specs.declared.aarch64.forms.AArch64Instruction.{AArch64Instruction}
 use Rattle.linker_utils.specs.declared.aarch64.forms.AArch64Instruction.TheVariants.{Movnz}
-use Rattle.linker_utils.specs.declared.ppc64.forms.Ppc64Instruction.{Ppc64Instruction}
 use Rattle.linker_utils.specs.declared.ppc64.forms.Ppc64Instruction.TheVariants.{Ds}
 use Rattle.linker_utils.specs.declared.elf.RelocationInstruction.{RelocationInstruction}
-use Rattle.linker_utils.specs.declared.elf.RelocationInstruction.TheVariants.{RiscV, Ppc64}
-use Rattle.linker_utils.specs.declared.elf.RelocationInstruction.TheVariants.{LoongArch64, AArch64}
+use Rattle.linker_utils.specs.declared.elf.RelocationInstruction.TheVariants.{Ppc64}
+use Rattle.linker_utils.specs.declared.elf.RelocationInstruction.TheVariants.{AArch64}
 use Rattle.linker_utils.proofs.Clearing.{same_window}
 use Rattle.linker_utils.proofs.Runs.{consecutive_bits_outside}
 
 -- ---- DQ-form
-
-either_below : (b : Bool) (n m k : ℕ) → n < k → m < k → (if b then n else m) < k
-either_below true n m k h i = h
-either_below false n m k h i = i
-
-ppc64_placed_fits : (f : Ppc64Instruction) (x taken y : ℕ) → taken < 2 ^ 64
-    → Fits (ppc64_form f) taken y → Fits (ppc64_form f) (number_placed (Ppc64 f) x taken) y
-ppc64_placed_fits Ds x taken y small h =
-    either_below (is_dq_form x) (with_low_4 taken x) taken (2 ^ 64) (omega arith) small
-ppc64_placed_fits f x taken y small h = h
-
--- what fits still does with the low bits of the old word
-pub placed_fits : (insn : RelocationInstruction) (x taken y : ℕ) → taken < 2 ^ 64
-    → Fits (relocation_form insn) taken y
-    → Fits (relocation_form insn) (number_placed insn x taken) y
-placed_fits (AArch64 f) x taken y small h = h
-placed_fits (RiscV f) x taken y small h = h
-placed_fits (LoongArch64 f) x taken y small h = h
-placed_fits (Ppc64 f) x taken y small h = ppc64_placed_fits f x taken y small h
 
 -- the bits that DS-form holds
 abbrev ds_places : List ImmediateBit
@@ -142,61 +121,22 @@ wide_move v false before after laid =
     laid.kept 31 refl in
     omega arith
 
-aarch64_set : (f : AArch64Instruction) (number : ℕ) (neg : Bool) (x clear : ℕ) (after : List ℕ)
-    → is_32_bit_move (AArch64 f) x ≡ true
-    → Written (relocation_form (AArch64 f)) number neg clear
-    (window_of (relocation_form (AArch64 f)) after)
-    → 2 ^ 31 ≤ from_le_bytes w32 after
-aarch64_set Movnz number neg x clear after h laid =
-    wide_move number neg clear (from_le_bytes w32 after) laid
-aarch64_set f number neg x clear after h laid = cc
+pub bit_31_is_set : (f : AArch64Instruction) (number : ℕ) (neg : Bool) (x clear after : ℕ)
+    → is_32_bit_move (AArch64 f) x ≡ true → Written (aarch64_form f) number neg clear after
+    → 2 ^ 31 ≤ after
+bit_31_is_set Movnz number neg x clear after h laid = wide_move number neg clear after laid
+bit_31_is_set f number neg x clear after h laid = cc
 
-pub bit_31_is_set : (insn : RelocationInstruction) (number : ℕ) (neg : Bool) (x clear : ℕ)
-    (after : List ℕ) → is_32_bit_move insn x ≡ true
-    → Written (relocation_form insn) number neg clear (window_of (relocation_form insn) after)
-    → 2 ^ 31 ≤ from_le_bytes w32 after
-bit_31_is_set (AArch64 f) number neg x clear after h laid =
-    aarch64_set f number neg x clear after h laid
-bit_31_is_set (RiscV f) number neg x clear after h laid = cc
-bit_31_is_set (LoongArch64 f) number neg x clear after h laid = cc
-bit_31_is_set (Ppc64 Ds) number neg x clear after h laid = cc
-bit_31_is_set (Ppc64 f) number neg x clear after h laid = cc
+-- ---- the value
 
--- what is written once bit 31 of a move is cleared
-abbrev Narrowed : RelocationInstruction → BitRange → ℤ → List ℕ → ℕ → List ℕ → List ℕ → Type 0
-Narrowed insn bits v before clear middle after =
-    is_32_bit_move insn (window_of (relocation_form insn) before) ≡ true
-    → BitsWritten (places_cleared insn bits (window_of (relocation_form insn) before)) 0
-    (window_of (relocation_form insn) before) clear
-    → Written (relocation_form insn)
-    (number_placed insn (window_of (relocation_form insn) before) (bits_taken bits v))
-    (int_lt v (pos 0)) clear (window_of (relocation_form insn) middle)
-    → from_le_bytes w32 after + 2 ^ 31 ≡ from_le_bytes w32 middle
-    → drop (byte_len (relocation_form insn).window) middle
-    ≡ drop (byte_len (relocation_form insn).window) before
-    → drop 4 after ≡ drop 4 middle → InstructionWritten insn bits v before after
-
-aarch64_narrowed : (f : AArch64Instruction) (bits : BitRange) (v : ℤ) (before : List ℕ) (clear : ℕ)
-    (middle after : List ℕ) → Narrowed (AArch64 f) bits v before clear middle after
-aarch64_narrowed Movnz bits v before clear middle after = λ h clears laid cleared rest behind.
-    let form = relocation_form (AArch64 Movnz) in
-    let wide : Written form (bits_taken bits v) (int_lt v (pos 0)) clear
-    (with_bit_31_if true (from_le_bytes w32 after)) =
-    subst (λ w. Written form (bits_taken bits v) (int_lt v (pos 0)) clear w) (sym cleared) laid in
-    record {
-      clear = clear;
-      clears = clears;
-      written =
-          subst (λ b. Written form (bits_taken bits v) (int_lt v (pos 0)) clear
-          (with_bit_31_if b (from_le_bytes w32 after))) (sym h) wide;
-      rest = behind ∙ rest;
-    }
-aarch64_narrowed f bits v before clear middle after = λ h clears laid cleared rest behind. cc
-
-pub narrowed : (insn : RelocationInstruction) (bits : BitRange) (v : ℤ) (before : List ℕ)
-    (clear : ℕ) (middle after : List ℕ) → Narrowed insn bits v before clear middle after
-narrowed (AArch64 f) bits v before clear middle after =
-    aarch64_narrowed f bits v before clear middle after
-narrowed (RiscV f) bits v before clear middle after = λ h clears laid cleared rest behind. cc
-narrowed (LoongArch64 f) bits v before clear middle after = λ h clears laid cleared rest behind. cc
-narrowed (Ppc64 f) bits v before clear middle after = λ h clears laid cleared rest behind. cc
+-- the code has a value from its bits
+pub of_value : (insn : RelocationInstruction) (bits : BitRange) (v z : ℤ) (n x clear after : ℕ)
+    → n ≡ bits_taken bits z → z ≡ v
+    → Written (relocation_form insn) (number_placed insn x n) (int_lt z (pos 0)) clear after
+    → Written (relocation_form insn) (number_placed insn x (bits_taken bits v)) (int_lt v (pos 0))
+    clear after
+of_value insn bits v z n x clear after is e laid =
+    subst (λ y. Written (relocation_form insn) (number_placed insn x (bits_taken bits y))
+    (int_lt y (pos 0)) clear after) e
+    (subst (λ m. Written (relocation_form insn) (number_placed insn x m) (int_lt z (pos 0)) clear
+    after) is laid)

@@ -47,21 +47,15 @@ mask_reads Branch14 isnt = ds_mask
 mask_reads Branch24 isnt = i_mask
 mask_reads Prefixed isnt = absurd (isnt refl)
 
-pub mask_writes : (f : Ppc64Instruction) → ¬ (f ≡ Prefixed) → (v x : ℕ) → v < 2 ^ 64 → x < 2 ^ 64
-    → BitsWritten ((ppc64_form f).places 0) v x
+pub mask_writes : (f : Ppc64Instruction) → ¬ (f ≡ Prefixed) → (v : ℕ) (neg : Bool) (x : ℕ)
+    → v < 2 ^ 64 → x < 2 ^ 64
+    → Written (ppc64_form f) v neg x
     (bit_or (bit_and x (2 ^ 64 - 1 - word_mask f)) (bit_and v (word_mask f)))
-mask_writes D isnt = d_written
-mask_writes Ds isnt = ds_written
-mask_writes Branch14 isnt = ds_written
-mask_writes Branch24 isnt = i_written
-mask_writes Prefixed isnt = absurd (isnt refl)
-
-pub ppc64_written : (f : Ppc64Instruction) (neg : Bool) (v : ℕ) (old new : List ℕ)
-    → ¬ (f ≡ Prefixed)
-    → BitsWritten ((ppc64_form f).places 0) v (from_le_bytes w32 old) (from_le_bytes w32 new)
-    → Written (ppc64_form f) v neg (window_of (ppc64_form f) old) (window_of (ppc64_form f) new)
-ppc64_written Prefixed neg v old new isnt laid = absurd (isnt refl)
-ppc64_written f neg v old new isnt laid = laid
+mask_writes D isnt v neg = d_written v
+mask_writes Ds isnt v neg = ds_written v
+mask_writes Branch14 isnt v neg = ds_written v
+mask_writes Branch24 isnt v neg = i_written v
+mask_writes Prefixed isnt v neg = absurd (isnt refl)
 
 -- all but one have a window of 4 bytes
 pub is_word : (f : Ppc64Instruction) → ¬ (f ≡ Prefixed) → (ppc64_form f).window ≡ w32

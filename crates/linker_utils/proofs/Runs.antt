@@ -1,10 +1,10 @@
 -- Runs of bits placed in a window and taken out of it, bit by bit.
-use Rattle.std.proofs.Common.{◌≡◌, ℕ, zero, suc, ◌+◌, ◌-◌, ◌*◌, ◌/◌, ◌%◌, ◌^◌, ◌<◌, ◌≤◌, true, false, ◌&&◌, ◌||◌, ltb, leb, eqb, List, [], ◌∷◌, ◌++◌, get_or, length, take, drop, refl, sym, ◌∙◌, ap, subst, arith, ◌⊎◌, inl, inr, Bool, not, ℤ, pos, int_lt}
+use Rattle.std.proofs.Common.{◌≡◌, ℕ, zero, suc, ◌+◌, ◌-◌, ◌*◌, ◌/◌, ◌%◌, ◌^◌, ◌<◌, ◌≤◌, true, false, ◌&&◌, ◌||◌, ltb, leb, eqb, List, [], ◌∷◌, ◌++◌, get_or, length, take, drop, refl, sym, ◌∙◌, ap, subst, arith, ◌⊎◌, inl, inr, Bool, not, pos, int_lt}
 use Rattle.std.specs.Int.{Width, bit_at, w64, cast_unsigned, from_le_bytes}
 use Rattle.std.specs.Int.RustNames.{bit_or}
 use lib.Bits.{bit_and}
 use Rattle.std.specs.List.{All, list_all}
-use Rattle.std.proofs.lemmas.Bool.{and_parts, or_parts, or_left, or_right, or_from, or_cases, and_from, ne_eqb, ltb-true, leb-true, cases_lt, eq-eqb, both_ways, eqb-true, not-true}
+use Rattle.std.proofs.lemmas.Bool.{and_parts, or_parts, or_left, or_right, or_from, or_cases, and_from, ne_eqb, ltb-true, leb-true, cases_lt, eq-eqb, both_ways, eqb-true}
 use Rattle.std.proofs.lemmas.List.Elements.{All-nil, All-append}
 use Rattle.std.proofs.lemmas.List.{take_more, flat_map_more, take-append-drop}
 use Rattle.std.proofs.lemmas.List.Concat.{flat_map-append}
@@ -17,7 +17,7 @@ use Rattle.std.proofs.lemmas.Nat.Bits.{bit_at-lt, bit_at_and, bit_at_or, bit_at_
 use Rattle.linker_base.specs.Bits.{signed}
 use Rattle.linker_base.specs.Form.{holds_value_bit, values_below, values_apart, Mark, replaced, ored, cleared, ImmediateBit, consecutive_bits, BitsWritten, is_placed, placed_bit, bit_for, place_sum, window_of, Sign, unsigned, twos_complement, number_of, Field, Layout, one_field, own_form, form_of}
 use Rattle.linker_utils.specs.declared.elf.engine.Run.{Run}
-use Rattle.linker_utils.specs.Inner.Runs.{run_fits, runs_fit, runs_read, words_below, mark_of, run_places, spread, is_apart, are_apart, is_unsigned, reads_unsigned, reads_flagged}
+use Rattle.linker_utils.specs.Inner.Runs.{run_fits, runs_fit, runs_read, words_below, mark_of, run_places, spread, is_apart, are_apart, is_unsigned, reads_flagged}
 use Rattle.linker_base.proofs.Fields.{bit_at_mod, bit_at_run, bit_at_shl, bit_at_shl_below, bit_at_mod_above}
 
 -- ---- consecutive places
@@ -370,23 +370,12 @@ read_below rs n x number h b e =
 
 -- ---- what `read_value` returns of a form of one field, from the number in its runs
 
-number_unsigned : (s : Sign) (flags : Bool) (n f : ℕ) → (is_unsigned s && not flags) ≡ true → number_of s n f ≡ pos f
-number_unsigned unsigned flags n f h = refl
-number_unsigned twos_complement flags n f h = cc
-
 number_signed : (s : Sign) (flag : Bool) (n m f : ℕ) → (not (is_unsigned s) && (flag && eqb n m)) ≡ true → number_of s n f ≡ signed m f
 number_signed unsigned flag n m f h = cc
 number_signed twos_complement flag n m f h = ap (λ k. signed k f) (eqb-true n m (and_parts flag (eqb n m) h).1)
 
 flag_of : (a flags b : Bool) → (a && (flags && b)) ≡ true → flags ≡ true
 flag_of a flags b h = (and_parts flags b (and_parts a (flags && b) h).1).0
-
-none_of : (a flags : Bool) → (a && not flags) ≡ true → flags ≡ false
-none_of a flags h = not-true flags (and_parts a (not flags) h).1
-
-below_zero : (flags : Bool) (z : ℤ) → flags ≡ false → false ≡ (flags && int_lt z (pos 0))
-below_zero true z h = cc
-below_zero false z h = refl
 
 module _ (w : Width) (rs : List Run) (bytes : List ℕ) where
   here : ℕ
@@ -395,13 +384,6 @@ module _ (w : Width) (rs : List Run) (bytes : List ℕ) where
   here_is : (d : Field) → d.window ≡ w → d.places ≡ spread rs → here ≡ place_sum d.places (from_le_bytes d.window bytes)
   unfolding here
   here_is d a b = ap (λ ps. place_sum ps (from_le_bytes w bytes)) (sym b) ∙ ap (λ v. place_sum d.places (from_le_bytes v bytes)) (sym a)
-
-  pub read_unsigned : (l : Layout) (number : ℕ) → (form_of l).window ≡ w → (form_of l).places 0 ≡ spread rs → reads_unsigned l ≡ true
-      → number ≡ place_sum (spread rs) (from_le_bytes w bytes) → number ≡ cast_unsigned w64 ((form_of l).reading (window_of (form_of l) bytes))
-  unfolding here
-  read_unsigned (one_field d) number a b h e =
-      e ∙ here_is d a b ∙ ap (cast_unsigned w64) (sym (number_unsigned d.read d.flags d.bits (place_sum d.places (from_le_bytes d.window bytes)) h))
-  read_unsigned (own_form form) number a b h e = cc
 
   signed_here : (d : Field) (flags : Bool) (n : ℕ) → d.window ≡ w → d.places ≡ spread rs → (not (is_unsigned d.read) && (flags && eqb d.bits n)) ≡ true
       → signed n here ≡ number_of d.read d.bits (place_sum d.places (from_le_bytes d.window bytes))
@@ -413,11 +395,6 @@ module _ (w : Width) (rs : List Run) (bytes : List ℕ) where
   unfolding here
   read_in_two (one_field d) n number a b h e = e ∙ ap (cast_unsigned w64) (signed_here d d.flags n a b h)
   read_in_two (own_form form) n number a b h e = cc
-
-  pub flag_unsigned : (l : Layout) → reads_unsigned l ≡ true → false ≡ (form_of l).flag (window_of (form_of l) bytes)
-  flag_unsigned (one_field d) h =
-      below_zero d.flags (number_of d.read d.bits (place_sum d.places (from_le_bytes d.window bytes))) (none_of (is_unsigned d.read) d.flags h)
-  flag_unsigned (own_form form) h = cc
 
   pub flag_flagged : (l : Layout) (n : ℕ) (flag : Bool) → (form_of l).window ≡ w → (form_of l).places 0 ≡ spread rs → reads_flagged n l ≡ true
       → flag ≡ int_lt (signed n (place_sum (spread rs) (from_le_bytes w bytes))) (pos 0) → flag ≡ (form_of l).flag (window_of (form_of l) bytes)

@@ -8,7 +8,7 @@ use Rattle.std.proofs.lemmas.List.Elements.{All-head, All-tail, All-nil, All-con
 use Rattle.std.proofs.Math.Seq.{take-nil, take-set-lt}
 use Rattle.std.proofs.Math.Nat.{mul-le-mul_right, div-mul-le_self, lt-div-mul-add}
 use Rattle.std.proofs.lemmas.List.Kept.{AllPairs-cons}
-use Rattle.std.proofs.lemmas.List.Sums.{sum_by-cons, sum_by-append, sum_by-set, count_by_more_yes, count_by_more_no, count_by-le-length}
+use Rattle.std.proofs.lemmas.List.Sums.{sum_by-cons, sum_by-append, sum_by-set, count_by_more_yes, count_by_more_no}
 use mir.Val.{bool_byte}
 use Rattle.linker_base.specs.Deletions.{DoNotOverlap, EndFits, AreDisjoint, AreKept, IsInsideDeletion, IsSortedUnion, rank}
 use Rattle.linker_base.proofs.Rank.{removed, removed_by, rank-removed, rank-mono, all_pairs_head, all_pairs_tail}
@@ -374,9 +374,6 @@ count_clamped bs n m is = elim (cases_lt n (length bs)) [
 between_clamped : (bs : List Bool) (a b from to : ℕ) → a ≤ b → from ≡ min a (length bs) → to ≡ min b (length bs) → chosen_between bs from to ≡ chosen_between bs a b
 between_clamped bs a b from to le from_is to_is =
     omega (arith, count_between-split bs a b le, count_between-split bs from to (omega arith), count_clamped bs a from from_is, count_clamped bs b to to_is)
-
-pub count_bound : (bs : List Bool) (n : ℕ) → chosen_count (take n bs) ≤ length bs
-count_bound bs n = omega (arith, count_by-le-length (λ b. b) (take n bs), length-take n bs)
 
 -- the next run
 pub runs_more : (bs : List Bool) (counts : List ℕ) (len run start next count : ℕ) → run < length counts → start ≡ min (run * len) (length bs) → next ≡ start + min len (length bs - start) → count ≡ chosen_between bs start next

@@ -15,7 +15,6 @@ ghost use Rattle.linker_base.specs.Rewrite.{Rewrite, CanRewrite, rewritten, offs
 ghost use Rattle.linker_base.specs.declared.relaxation.RelocationModifier.{RelocationModifier};
 ghost use Rattle.linker_utils.specs.Elf.{architecture_of, machine_of, relocation_form, bit_bounds, IsAllowed};
 ghost use Rattle.linker_utils.specs.Inner.FormLaws.{relocation_keeps, relocation_restored};
-ghost use Rattle.linker_utils.specs.RiscV.{riscv_form};
 
 pub use crate::aarch64::AArch64Instruction;
 use crate::bit_misc::BitRange;
@@ -491,18 +490,6 @@ pub trait InstructionRewrite: Copy {
         ensures { result ≡ modifier self.now };
 }
 
-/// The lengths of RISC-V's windows, by the forms' places in their enum.
-static RISCV_WINDOWS: [usize; 9] = [4, 4, 4, 4, 4, 2, 2, 2, 8];
-
-/// What the form's `window` returns, where a processor can't predict the form: LLVM compiles a
-/// match to branches.
-#[inline(always)]
-fn riscv_window(insn: RiscVInstruction) -> usize
-    ensures { result ≡ byte_len (riscv_form insn).window }
-{
-    RISCV_WINDOWS[insn as usize]
-}
-
 impl InstructionForm for RelocationInstruction {
     ghost form = { relocation_form };
 
@@ -514,7 +501,7 @@ impl InstructionForm for RelocationInstruction {
     fn window(self) -> usize {
         match self {
             RelocationInstruction::AArch64(insn) => insn.window(),
-            RelocationInstruction::RiscV(insn) => riscv_window(insn),
+            RelocationInstruction::RiscV(insn) => insn.window(),
             RelocationInstruction::Ppc64(insn) => insn.window(),
             RelocationInstruction::LoongArch64(insn) => insn.window(),
         }

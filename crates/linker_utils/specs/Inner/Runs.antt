@@ -68,10 +68,6 @@ abbrev pub is_unsigned : Sign → Bool
 is_unsigned unsigned = true
 is_unsigned twos_complement = false
 
-abbrev pub reads_unsigned : Layout → Bool
-reads_unsigned (one_field d) = is_unsigned d.read && not d.flags
-reads_unsigned (own_form form) = false
-
 abbrev pub reads_flagged : ℕ → Layout → Bool
 reads_flagged n (one_field d) = not (is_unsigned d.read) && (d.flags && d.bits == n)
 reads_flagged n (own_form form) = false

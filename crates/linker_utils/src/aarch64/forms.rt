@@ -108,12 +108,12 @@ static IMMEDIATES: [Immediate; 11] = [
     immediate!(0, 0),
 ];
 
-const MOVED: [Run; 1] = [run!(0, 5, 16)];
+const MOVE: [Run; 1] = [run!(0, 5, 16)];
 
 /// The 16 bits and the opcode that `Movnz` writes, the latter where it stands in the instruction
 /// (DDI 0487, "MOVN" and "MOVZ").
 #[inline(always)]
-fn moved(value: u64, negative: bool) -> (u64, u64)
+fn move_bits(value: u64, negative: bool) -> (u64, u64)
     ensures bits { result.0 ≡ moved_bits negative value }
     ensures opcode { result.1 ≡ move_opcode negative * 2 ^ 23 }
 {
@@ -144,7 +144,7 @@ fn scale_of(word: u64) -> u32
 
 /// The run of the 12 bits of an offset from its scale up.
 #[inline(always)]
-fn scaled(scale: u32) -> [Run; 1]
+fn offset_run(scale: u32) -> [Run; 1]
     ensures { result
         ≡ record { value = scale; insn_bit = 10; len = 12; added = 0; mark = Mark.Replaced } ∷ [] }
 {
@@ -168,7 +168,7 @@ impl AArch64Instruction {
 
     /// An instruction with the bits of a value ORed to it.
     #[inline(always)]
-    fn ored(self, value: u64, word: u64) -> u64
+    fn or_immediate(self, value: u64, word: u64) -> u64
         requires plain { is_ored_alone self ≡ true }
         requires small { word < 2 ^ 32 }
         ensures small { result < 2 ^ 32 }
@@ -180,7 +180,7 @@ impl AArch64Instruction {
 
     /// An instruction with the bits cleared that the form only ORs.
     #[inline(always)]
-    pub(crate) fn cleared(self, word: u64) -> u64
+    pub(crate) fn clear_immediate(self, word: u64) -> u64
         requires { word < 2 ^ 32 }
         ensures small { result < 2 ^ 32 }
         ensures clears { BitsWritten (ored_cleared ((aarch64_form self).places word))
@@ -192,7 +192,7 @@ impl AArch64Instruction {
 
     /// The number in the form's bits.
     #[inline(always)]
-    fn taken(self, word: u64) -> u64
+    fn extract(self, word: u64) -> u64
         requires { is_ored_alone self ≡ true }
         ensures number { result ≡ place_sum ((aarch64_form self).places 0) word }
         ensures small { result < 2 ^ (aarch64_immediate self).sign_bits }
@@ -201,32 +201,22 @@ impl AArch64Instruction {
         word >> 29 & immediate.low | (word & immediate.mask) >> immediate.shift
     }
 
-    /// Writes the bits of a value.
+    /// An instruction with a value in the form's bits.
     #[inline(always)]
-    fn place(self, value: u64, negative: bool, dest: &mut [u8])
-        requires { byte_len (aarch64_form self).window ≤ length dest.old }
-        ensures written { Written (aarch64_form self) value negative
-            (window_of (aarch64_form self) dest.old) (window_of (aarch64_form self) dest.new) }
-        ensures rest { drop (byte_len (aarch64_form self).window) dest.new
-            ≡ drop (byte_len (aarch64_form self).window) dest.old }
-        ensures same { window_of (aarch64_form self) dest.new
-            ≡ window_of (aarch64_form self) dest.old
-            → dest.new ≡ dest.old }
+    pub(crate) fn insert(self, value: u64, negative: bool, word: u64) -> u64
+        requires { word < 2 ^ 32 }
+        ensures small { result < 2 ^ 32 }
+        ensures written { Written (aarch64_form self) value negative word result }
     {
         match self {
             AArch64Instruction::Movnz => {
-                let (bits, opcode) = moved(value, negative);
-                let word = Window::Four.load(dest) & 0x007f_ffff | opcode;
-                engine::write_over(Window::Four, &MOVED, bits, word, dest);
+                let (bits, opcode) = move_bits(value, negative);
+                engine::insert(&MOVE, bits, word & 0x007f_ffff | opcode)
             }
             AArch64Instruction::MachOLow12 => {
-                let scale = scale_of(Window::Four.load(dest));
-                engine::write(Window::Four, &scaled(scale), value, dest);
+                engine::insert(&offset_run(scale_of(word)), value, word)
             }
-            _ => {
-                let word = self.ored(value, Window::Four.load(dest));
-                Window::Four.store(word, dest);
-            }
+            _ => self.or_immediate(value, word),
         }
     }
 
@@ -247,7 +237,8 @@ impl AArch64Instruction {
             (window_of (aarch64_form self) dest.old)
             → dest.new ≡ dest.old }
     {
-        self.place(extracted_value, negative, dest);
+        let word = self.insert(extracted_value, negative, Window::Four.load(dest));
+        Window::Four.store(word, dest);
     }
 
     /// The value in the instruction that `bytes` begins with, modulo 2^64, and a flag. The flag is
@@ -263,7 +254,7 @@ impl AArch64Instruction {
     {
         match self {
             AArch64Instruction::Movnz => {
-                let moved = engine::read(Window::Four, &MOVED, bytes);
+                let moved = engine::read(Window::Four, &MOVE, bytes);
                 if Window::Four.load(bytes).extract_bit(30) == 0 {
                     (!moved, true)
                 } else {
@@ -272,10 +263,10 @@ impl AArch64Instruction {
             }
             AArch64Instruction::MachOLow12 => {
                 let scale = scale_of(Window::Four.load(bytes));
-                (engine::read(Window::Four, &scaled(scale), bytes), false)
+                (engine::read(Window::Four, &offset_run(scale), bytes), false)
             }
             _ => {
-                let number = self.taken(Window::Four.load(bytes));
+                let number = self.extract(Window::Four.load(bytes));
                 (
                     engine::signed_number(number, self.immediate().sign_bits).0,
                     false,

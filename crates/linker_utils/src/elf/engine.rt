@@ -5,7 +5,7 @@ ghost use Rattle.std.specs.Int.{from_le_bytes, byte_len, cast_unsigned, w64};
 ghost use Rattle.linker_base.specs.Bits.{signed};
 ghost use Rattle.linker_base.specs.Form.{BitsWritten, Written, window_of, place_sum, values_below};
 ghost use Rattle.linker_utils.specs.Elf.{relocation_form, relocation_layout};
-ghost use Rattle.linker_utils.specs.Inner.Runs.{run_places, spread, run_fits, runs_fit, runs_read, words_below, width_of, bits_of, reads_unsigned, reads_flagged};
+ghost use Rattle.linker_utils.specs.Inner.Runs.{run_places, spread, run_fits, runs_fit, runs_read, words_below, width_of, bits_of, reads_flagged};
 
 use crate::elf::RelocationInstruction;
 
@@ -141,15 +141,15 @@ fn take(run: &Run, window: u64) -> u64
 
 /// The window after all runs of the value are written.
 #[inline(always)]
-fn insert(runs: &[Run], value: u64, window: u64) -> u64
+pub(crate) fn insert(runs: &[Run], value: u64, window: u64) -> u64
     requires { IsTrue (runs_fit runs.now) }
     ensures { BitsWritten (spread runs.now) value window result }
 {
-    let mut laid = window;
+    let mut written = window;
     for run in runs {
-        laid = put(run, value, laid);
+        written = put(run, value, written);
     }
-    laid
+    written
 }
 
 /// The number in the runs of a window.
@@ -192,29 +192,10 @@ pub(crate) fn signed_number(number: u64, bits: u32) -> (u64, bool)
     signed_by(number, bits, 1 << (bits - 1))
 }
 
-/// Writes the runs of a value to the window that `dest` begins with.
-#[inline(always)]
-pub(crate) fn write(window: Window, runs: &[Run], value: u64, dest: &mut [u8])
-    requires room { byte_len (width_of window) ≤ length dest.old }
-    requires sound { IsTrue (runs_fit runs.now) }
-    requires inside { IsTrue (words_below (bits_of window) (spread runs.now)) }
-    ensures written { BitsWritten (spread runs.now) value (from_le_bytes (width_of window) dest.old)
-        (from_le_bytes (width_of window) dest.new) }
-    ensures rest { drop (byte_len (width_of window)) dest.new
-        ≡ drop (byte_len (width_of window)) dest.old }
-    ensures same { from_le_bytes (width_of window) dest.new
-        ≡ from_le_bytes (width_of window) dest.old
-        → dest.new ≡ dest.old }
-{
-    let before = window.load(dest);
-    let after = insert(runs, value, before);
-    window.store(after, dest);
-}
-
-/// Writes a value into the instruction that `dest` begins with. The runs are those of its form;
+/// Writes a value into the instruction that `dest` begins with. The runs are those of its form.
 /// Only the contract uses `_insn` and `_negative`.
 #[inline(always)]
-pub(crate) fn write_form(
+pub(crate) fn write(
     _insn: RelocationInstruction,
     window: Window,
     runs: &[Run],
@@ -240,26 +221,8 @@ pub(crate) fn write_form(
         ≡ window_of (relocation_form _insn) dest.old
         → dest.new ≡ dest.old }
 {
-    write(window, runs, value, dest);
-}
-
-/// Writes the runs of a value over a number, and that to the window that `dest` begins with.
-#[inline(always)]
-pub(crate) fn write_over(window: Window, runs: &[Run], value: u64, number: u64, dest: &mut [u8])
-    requires room { byte_len (width_of window) ≤ length dest.old }
-    requires sound { IsTrue (runs_fit runs.now) }
-    requires inside { IsTrue (words_below (bits_of window) (spread runs.now)) }
-    requires fits { number < 2 ^ bits_of window }
-    ensures written { BitsWritten (spread runs.now) value number
-        (from_le_bytes (width_of window) dest.new) }
-    ensures rest { drop (byte_len (width_of window)) dest.new
-        ≡ drop (byte_len (width_of window)) dest.old }
-    ensures same { from_le_bytes (width_of window) dest.new
-        ≡ from_le_bytes (width_of window) dest.old
-        → dest.new ≡ dest.old }
-{
-    let after = insert(runs, value, number);
-    window.store(after, dest);
+    let number = insert(runs, value, window.load(dest));
+    window.store(number, dest);
 }
 
 /// Reads the number in the runs of the window that `bytes` begins with.
@@ -272,30 +235,8 @@ pub(crate) fn read(window: Window, runs: &[Run], bytes: &[u8]) -> u64
     extract(runs, window.load(bytes))
 }
 
-/// Reads the value in the instruction that `bytes` begins with, of a form that is read without a
-/// sign. The runs are the form's.
-#[inline(always)]
-pub(crate) fn read_form(
-    _insn: RelocationInstruction,
-    window: Window,
-    runs: &[Run],
-    bytes: &[u8],
-) -> (u64, bool)
-    requires room { byte_len (width_of window) ≤ length bytes.now }
-    requires sound { IsTrue (runs_read runs.now) }
-    requires width { (relocation_form _insn).window ≡ width_of window }
-    requires places { (relocation_form _insn).places 0 ≡ spread runs.now }
-    requires reading { IsTrue (reads_unsigned (relocation_layout _insn)) }
-    ensures number { result.0
-        ≡ cast_unsigned w64
-        ((relocation_form _insn).reading (window_of (relocation_form _insn) bytes.now)) }
-    ensures flag { result.1
-        ≡ (relocation_form _insn).flag (window_of (relocation_form _insn) bytes.now) }
-{
-    (read(window, runs, bytes), false)
-}
-
-/// The same, of a form that is read in two's complement and flags a number below 0.
+/// Reads the value in the instruction that `bytes` begins with, of a form that is read in two's
+/// complement and flags a number below 0. The runs are the form's.
 #[inline(always)]
 pub(crate) fn read_flagged_form(
     _insn: RelocationInstruction,

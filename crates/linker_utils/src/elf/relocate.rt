@@ -4,9 +4,10 @@ ghost use Rattle.std.specs.Prelude.{◌≡◌, ◌≤◌, ◌<◌, ◌+◌, ◌^
 ghost use Rattle.std.specs.Int.{byte_len, from_le_bytes, w32};
 ghost use Rattle.linker_base.specs.Bits.{field};
 ghost use Rattle.linker_base.specs.Form.{window_of, BitsWritten, Fits};
-ghost use Rattle.linker_utils.specs.AArch64.{aarch64_form};
 ghost use Rattle.linker_utils.specs.Agrees.{AgreesBy, AgreesInReach};
 ghost use Rattle.linker_utils.specs.Elf.{relocation_form};
+ghost use Rattle.linker_utils.specs.LoongArch.{loongarch_form};
+ghost use Rattle.linker_utils.specs.Ppc64.{ppc64_form};
 ghost use Rattle.linker_utils.specs.Reach.{reach_of};
 ghost use Rattle.linker_utils.specs.Relocate.{number_of_bytes, low_bytes, number_written, ored_cleared, places_cleared, bits_taken, InstructionWritten, IsWritten, SizeReads, SizeHolds, is_of_uleb128, takes_size, is_supported, window_len, IsAligned, HoldsBits, IsAccepted, IsCause};
 ghost use Rattle.linker_utils.specs.Relocate.{SizeNumber, WritesRow, IsInUnits, IsMultiple, size_len};
@@ -104,47 +105,16 @@ pub(crate) fn write_bytes(kind: RelocationKind, len: usize, value: i64, dest: &m
     store(len, number, dest);
 }
 
-const CLEARED_SHIFT_10: [Run; 1] = [run!(12, 22, 4, 0, Cleared)];
-
-/// Clears the bits of an AArch64 instruction that its form only ORs.
+/// The bits of a value that a relocation takes.
 #[inline(always)]
-fn clear_aarch64(insn: AArch64Instruction, dest: &mut [u8])
-    requires room { 4 ≤ length dest.old }
-    ensures clears { BitsWritten (ored_cleared ((aarch64_form insn).places (from_le_bytes w32 dest.old))) 0 (from_le_bytes w32 dest.old) (from_le_bytes w32 dest.new) }
-    ensures rest { drop 4 dest.new ≡ drop 4 dest.old }
-{
-    let word = insn.cleared(Window::Four.load(dest));
-    Window::Four.store(word, dest);
-}
-
-/// Clears the bits of an instruction that its form only ORs.
-#[inline(always)]
-fn clear(insn: RelocationInstruction, bits: BitRange, dest: &mut [u8])
-    requires room { byte_len (relocation_form insn).window ≤ length dest.old }
-    requires some { bits.start < bits.end }
-    ensures clears { BitsWritten (places_cleared insn bits (window_of (relocation_form insn) dest.old)) 0 (window_of (relocation_form insn) dest.old) (window_of (relocation_form insn) dest.new) }
-    ensures rest { drop (byte_len (relocation_form insn).window) dest.new
-        ≡ drop (byte_len (relocation_form insn).window) dest.old }
-{
-    match insn {
-        RelocationInstruction::AArch64(insn) => clear_aarch64(insn, dest),
-        RelocationInstruction::LoongArch64(LoongArch64Instruction::Shift10) => {
-            if bits.end - bits.start > 12 {
-                engine::write(Window::Four, &CLEARED_SHIFT_10, 0, dest);
-            }
-        }
-        _ => {}
-    }
-}
-
-/// The bits of a number that a relocation takes.
-#[inline(always)]
-fn taken_bits(bits: BitRange, number: u64) -> u64
+fn taken_bits(bits: BitRange, value: i64) -> u64
     requires some { bits.start < bits.end }
     requires inside { bits.end ≤ 64 }
-    ensures { result ≡ field number bits.start bits.end }
+    ensures { result ≡ bits_taken bits value }
 {
-    number.extract_bit_range(bits.start as u32..bits.end as u32)
+    value
+        .cast_unsigned()
+        .extract_bit_range(bits.start as u32..bits.end as u32)
 }
 
 /// Whether a word is an instruction of DQ-form, whose displacement is in units of 16 (Power ISA,
@@ -158,51 +128,52 @@ fn is_dq_form(word: u64) -> bool
     opcode == 56 || opcode == 6 || (opcode == 61 && word % 4 == 1)
 }
 
-/// The number whose bits are placed. The lowest four bits of a DQ-form instruction are kept: they
-/// aren't its displacement's.
+/// The number that a PowerPC64 instruction gets. The lowest four bits of one of DQ-form are kept:
+/// they aren't its displacement's.
 #[inline(always)]
-fn number_placed(insn: RelocationInstruction, taken: u64, dest: &[u8]) -> u64
-    requires room { byte_len (relocation_form insn).window ≤ length dest.now }
-    requires small { taken < 2 ^ 64 }
-    ensures { result ≡ number_placed insn (window_of (relocation_form insn) dest.now) taken }
+fn displacement(insn: Ppc64Instruction, number: u64, dest: &[u8]) -> u64
+    requires { byte_len (ppc64_form insn).window ≤ length dest.now }
+    ensures { result
+        ≡ number_placed (RelocationInstruction.Ppc64 insn) (window_of (ppc64_form insn) dest.now) number }
 {
-    match insn {
-        RelocationInstruction::Ppc64(Ppc64Instruction::Ds) => {
-            let word = Window::Four.load(dest);
-            if is_dq_form(word) {
-                taken - taken % 16 + word % 16
-            } else {
-                taken
-            }
+    if let Ppc64Instruction::Ds = insn {
+        let word = Window::Four.load(dest);
+        if is_dq_form(word) {
+            return number - number % 16 + word % 16;
         }
-        _ => taken,
     }
+    number
 }
 
-/// Whether the instruction is MOVN or MOVZ of 32 bits, which bit 31 tells.
+/// Whether an instruction is MOVN or MOVZ of 32 bits, which bit 31 tells.
 #[inline(always)]
-fn is_32_bit_move(insn: RelocationInstruction, dest: &[u8]) -> bool
-    requires room { byte_len (relocation_form insn).window ≤ length dest.now }
-    ensures { result ≡ is_32_bit_move insn (window_of (relocation_form insn) dest.now) }
+fn is_32_bit_move(insn: AArch64Instruction, word: u64) -> bool
+    requires { word < 2 ^ 32 }
+    ensures { result ≡ is_32_bit_move (RelocationInstruction.AArch64 insn) word }
 {
-    match insn {
-        RelocationInstruction::AArch64(AArch64Instruction::Movnz) => {
-            Window::Four.load(dest) >> 31 == 0
-        }
-        _ => false,
-    }
+    insn == AArch64Instruction::Movnz && word >> 31 == 0
 }
 
-/// Clears bit 31 of a word.
+const SHIFT_10_ORED: [Run; 1] = [run!(12, 22, 4, 0, Cleared)];
+
+/// Clears the bits of a LoongArch instruction that its form only ORs. An immediate of 12 bits has
+/// its opcode there.
 #[inline(always)]
-fn clear_bit_31(dest: &mut [u8])
-    requires room { 4 ≤ length dest.old }
-    requires set { 2 ^ 31 ≤ from_le_bytes w32 dest.old }
-    ensures cleared { from_le_bytes w32 dest.new + 2 ^ 31 ≡ from_le_bytes w32 dest.old }
-    ensures rest { drop 4 dest.new ≡ drop 4 dest.old }
+fn clear_loongarch(insn: LoongArch64Instruction, bits: BitRange, dest: &mut [u8])
+    requires room { byte_len (loongarch_form insn).window ≤ length dest.old }
+    requires some { bits.start < bits.end }
+    ensures clears { BitsWritten
+        (places_cleared (RelocationInstruction.LoongArch64 insn) bits (window_of (loongarch_form insn) dest.old))
+        0 (window_of (loongarch_form insn) dest.old) (window_of (loongarch_form insn) dest.new) }
+    ensures rest { drop (byte_len (loongarch_form insn).window) dest.new
+        ≡ drop (byte_len (loongarch_form insn).window) dest.old }
 {
-    let word = Window::Four.load(dest);
-    Window::Four.store(word - (1 << 31), dest);
+    if let LoongArch64Instruction::Shift10 = insn {
+        if bits.end - bits.start > 12 {
+            let word = engine::insert(&SHIFT_10_ORED, 0, Window::Four.load(dest));
+            Window::Four.store(word, dest);
+        }
+    }
 }
 
 /// Writes bits of a value into an instruction. By itself, so that `write` is small enough to be
@@ -214,12 +185,29 @@ pub(crate) fn write_bits(insn: RelocationInstruction, bits: BitRange, value: i64
     requires fits { Fits (relocation_form insn) (bits_taken bits value) (window_of (relocation_form insn) dest.old) }
     ensures { InstructionWritten insn bits value dest.old dest.new }
 {
-    let number = number_placed(insn, taken_bits(bits, value.cast_unsigned()), dest);
-    let is_of_32_bits = is_32_bit_move(insn, dest);
-    clear(insn, bits, dest);
-    insn.write(number, value < 0, dest);
-    if is_of_32_bits {
-        clear_bit_31(dest);
+    let number = taken_bits(bits, value);
+    let negative = value < 0;
+    match insn {
+        RelocationInstruction::AArch64(insn) => {
+            let old = Window::Four.load(dest);
+            let word = insn.insert(number, negative, insn.clear_immediate(old));
+            // a move keeps its size
+            let new = if is_32_bit_move(insn, old) {
+                word - (1 << 31)
+            } else {
+                word
+            };
+            Window::Four.store(new, dest);
+        }
+        RelocationInstruction::RiscV(insn) => insn.write_to_value(number, negative, dest),
+        RelocationInstruction::Ppc64(insn) => {
+            let number = displacement(insn, number, dest);
+            insn.write_to_value(number, negative, dest);
+        }
+        RelocationInstruction::LoongArch64(insn) => {
+            clear_loongarch(insn, bits, dest);
+            insn.write_to_value(number, negative, dest);
+        }
     }
 }
 
@@ -314,7 +302,7 @@ impl RelocationKindInfo {
         match self.size {
             RelocationSize::ByteSize(_) => true,
             RelocationSize::BitMasking { range, insn } => {
-                insn.fits(taken_bits(range, value.cast_unsigned()), dest)
+                insn.fits(taken_bits(range, value), dest)
             }
         }
     }

@@ -129,7 +129,7 @@ impl LoongArch64Instruction {
 
     /// An instruction with the bits of a value.
     #[inline(always)]
-    fn laid(self, value: u64, word: u64) -> u64
+    fn insert(self, value: u64, word: u64) -> u64
         requires plain { is_one_word self ≡ true }
         requires small { word < 2 ^ 32 }
         ensures small { result < 2 ^ 32 }
@@ -145,7 +145,7 @@ impl LoongArch64Instruction {
 
     /// The number in the bits that are read.
     #[inline(always)]
-    fn taken(self, word: u64) -> u64
+    fn extract(self, word: u64) -> u64
         requires plain { is_one_word self ≡ true }
         requires small { word < 2 ^ 32 }
         ensures number { result ≡ place_sum (loongarch_read self) word }
@@ -157,7 +157,7 @@ impl LoongArch64Instruction {
 
     /// Writes the bits of a value.
     #[inline(always)]
-    fn place(self, value: u64, negative: bool, dest: &mut [u8])
+    fn insert_into(self, value: u64, negative: bool, dest: &mut [u8])
         requires { byte_len (loongarch_form self).window ≤ length dest.old }
         ensures written { Written (loongarch_form self) value negative
             (window_of (loongarch_form self) dest.old) (window_of (loongarch_form self) dest.new) }
@@ -170,13 +170,13 @@ impl LoongArch64Instruction {
         let insn = RelocationInstruction::LoongArch64(self);
         match self {
             LoongArch64Instruction::Call30 => {
-                engine::write_form(insn, Window::Eight, &CALL_30, value, negative, dest);
+                engine::write(insn, Window::Eight, &CALL_30, value, negative, dest);
             }
             LoongArch64Instruction::Call36 => {
-                engine::write_form(insn, Window::Eight, &CALL_36, value, negative, dest);
+                engine::write(insn, Window::Eight, &CALL_36, value, negative, dest);
             }
             _ => {
-                let word = self.laid(value, Window::Four.load(dest));
+                let word = self.insert(value, Window::Four.load(dest));
                 Window::Four.store(word, dest);
             }
         }
@@ -201,7 +201,7 @@ impl LoongArch64Instruction {
             (window_of (loongarch_form self) dest.old)
             → dest.new ≡ dest.old }
     {
-        self.place(extracted_value, negative, dest);
+        self.insert_into(extracted_value, negative, dest);
     }
 
     /// The value in the instruction or pair that `bytes` begins with, modulo 2^64, and a flag: for
@@ -220,7 +220,7 @@ impl LoongArch64Instruction {
             }
             LoongArch64Instruction::Call36 => (read_call_36(bytes), false),
             _ => {
-                let number = self.taken(Window::Four.load(bytes));
+                let number = self.extract(Window::Four.load(bytes));
                 let bits = self.bits();
                 engine::signed_by(number, bits.sign_bits, bits.sign)
             }

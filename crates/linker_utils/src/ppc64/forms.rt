@@ -36,8 +36,9 @@ pub enum Ppc64Instruction {
     Prefixed,
 }
 
-/// The bits that each form holds in its word. A match of them would be merged with that of `place`,
-/// into a jump by the form, and a constant would be written to the stack at each use.
+/// The bits that each form holds in its word. A match of them would be merged with that of
+/// `write_to_value`, into a jump by the form, and a constant would be written to the stack at each
+/// use.
 static MASKS: [u64; 5] = [0xffff, 0xfffc, 0xfffc, 0x03ff_fffc, 0];
 
 const PREFIXED: [Run; 2] = [run!(0, 32, 16), run!(16, 0, 18)];
@@ -51,30 +52,6 @@ impl Ppc64Instruction {
         ensures small { result < 2 ^ 32 }
     {
         MASKS[self as usize]
-    }
-
-    /// Writes the bits of a value.
-    #[inline(always)]
-    fn place(self, value: u64, _negative: bool, dest: &mut [u8])
-        requires { byte_len (ppc64_form self).window ≤ length dest.old }
-        ensures written { Written (ppc64_form self) value _negative
-            (window_of (ppc64_form self) dest.old) (window_of (ppc64_form self) dest.new) }
-        ensures rest { drop (byte_len (ppc64_form self).window) dest.new
-            ≡ drop (byte_len (ppc64_form self).window) dest.old }
-        ensures same { window_of (ppc64_form self) dest.new ≡ window_of (ppc64_form self) dest.old
-            → dest.new ≡ dest.old }
-    {
-        match self {
-            Ppc64Instruction::Prefixed => {
-                let insn = RelocationInstruction::Ppc64(self);
-                engine::write_form(insn, Window::Eight, &PREFIXED, value, _negative, dest);
-            }
-            _ => {
-                let mask = self.mask();
-                let word = Window::Four.load(dest) & !mask | value & mask;
-                Window::Four.store(word, dest);
-            }
-        }
     }
 
     /// Writes a value into the instruction that `dest` begins with. Only the form's bits change.
@@ -92,7 +69,24 @@ impl Ppc64Instruction {
             (window_of (ppc64_form self) dest.old)
             → dest.new ≡ dest.old }
     {
-        self.place(extracted_value, negative, dest);
+        match self {
+            Ppc64Instruction::Prefixed => {
+                let insn = RelocationInstruction::Ppc64(self);
+                engine::write(
+                    insn,
+                    Window::Eight,
+                    &PREFIXED,
+                    extracted_value,
+                    negative,
+                    dest,
+                );
+            }
+            _ => {
+                let mask = self.mask();
+                let word = Window::Four.load(dest) & !mask | extracted_value & mask;
+                Window::Four.store(word, dest);
+            }
+        }
     }
 
     /// The value in the instruction that `bytes` begins with, unsigned: bits of the value that the
@@ -106,10 +100,7 @@ impl Ppc64Instruction {
         ensures flag { result.1 ≡ (ppc64_form self).flag (window_of (ppc64_form self) bytes.now) }
     {
         match self {
-            Ppc64Instruction::Prefixed => {
-                let insn = RelocationInstruction::Ppc64(self);
-                engine::read_form(insn, Window::Eight, &PREFIXED, bytes)
-            }
+            Ppc64Instruction::Prefixed => { (engine::read(Window::Eight, &PREFIXED, bytes), false) }
             _ => (Window::Four.load(bytes) & self.mask(), false),
         }
     }

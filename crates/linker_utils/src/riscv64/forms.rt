@@ -146,7 +146,7 @@ impl RiscVInstruction {
 
     /// An instruction with the bits of a value.
     #[inline(always)]
-    fn laid(self, value: u64, word: u64) -> u64
+    fn insert(self, value: u64, word: u64) -> u64
         requires plain { is_by_masks self ≡ true }
         requires small { word < 2 ^ 32 }
         ensures small { result < 2 ^ 32 }
@@ -159,7 +159,7 @@ impl RiscVInstruction {
 
     /// Writes the bits of a value.
     #[inline(always)]
-    fn place(self, value: u64, negative: bool, dest: &mut [u8])
+    fn insert_into(self, value: u64, negative: bool, dest: &mut [u8])
         requires { byte_len (riscv_form self).window ≤ length dest.old }
         ensures written { Written (riscv_form self) value negative
             (window_of (riscv_form self) dest.old) (window_of (riscv_form self) dest.new) }
@@ -171,25 +171,25 @@ impl RiscVInstruction {
         let insn = RelocationInstruction::RiscV(self);
         match self {
             RiscVInstruction::BType => {
-                engine::write_form(insn, Window::Four, &B_TYPE, value, negative, dest);
+                engine::write(insn, Window::Four, &B_TYPE, value, negative, dest);
             }
             RiscVInstruction::JType => {
-                engine::write_form(insn, Window::Four, &J_TYPE, value, negative, dest);
+                engine::write(insn, Window::Four, &J_TYPE, value, negative, dest);
             }
             RiscVInstruction::CbType => {
-                engine::write_form(insn, Window::Two, &CB_TYPE, value, negative, dest);
+                engine::write(insn, Window::Two, &CB_TYPE, value, negative, dest);
             }
             RiscVInstruction::CjType => {
-                engine::write_form(insn, Window::Two, &CJ_TYPE, value, negative, dest);
+                engine::write(insn, Window::Two, &CJ_TYPE, value, negative, dest);
             }
             RiscVInstruction::CluiType => {
-                engine::write_form(insn, Window::Two, &CLUI_TYPE, value, negative, dest);
+                engine::write(insn, Window::Two, &CLUI_TYPE, value, negative, dest);
             }
             RiscVInstruction::UiType => {
-                engine::write_form(insn, Window::Eight, &UI_TYPE, value, negative, dest);
+                engine::write(insn, Window::Eight, &UI_TYPE, value, negative, dest);
             }
             _ => {
-                let word = self.laid(value, Window::Four.load(dest));
+                let word = self.insert(value, Window::Four.load(dest));
                 Window::Four.store(word, dest);
             }
         }
@@ -215,7 +215,7 @@ impl RiscVInstruction {
             → dest.new ≡ dest.old }
         ensures pair { PairReads self extracted_value (window_of (riscv_form self) dest.new) }
     {
-        self.place(extracted_value, negative, dest);
+        self.insert_into(extracted_value, negative, dest);
     }
 
     /// The value in the instruction that `bytes` begins with, sign-extended to 64 bits, and whether
@@ -266,6 +266,10 @@ impl RiscVInstruction {
     }
 }
 
+/// The lengths of the windows, by the forms' places in their enum. LLVM compiles a match to
+/// branches, and a processor may not predict the form.
+static WINDOWS: [usize; 9] = [4, 4, 4, 4, 4, 2, 2, 2, 8];
+
 impl InstructionForm for RiscVInstruction {
     ghost form = { riscv_form };
 
@@ -275,15 +279,7 @@ impl InstructionForm for RiscVInstruction {
 
     #[inline]
     fn window(self) -> usize {
-        match self {
-            RiscVInstruction::UType
-            | RiscVInstruction::IType
-            | RiscVInstruction::SType
-            | RiscVInstruction::BType
-            | RiscVInstruction::JType => 4,
-            RiscVInstruction::CbType | RiscVInstruction::CjType | RiscVInstruction::CluiType => 2,
-            RiscVInstruction::UiType => 8,
-        }
+        WINDOWS[self as usize]
     }
 
     #[inline]

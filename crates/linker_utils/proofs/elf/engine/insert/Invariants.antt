@@ -4,4 +4,4 @@ use Rattle.linker_utils.specs.Inner.Runs.{spread}
 use Rattle.linker_utils.proofs.elf.engine.insert.Given as goal
 
 abbrev pub invariant-loop-run : goal.invariant-loop-run
-invariant-loop-run l = BitsWritten (spread (take l.run-index l.runs)) l.value l.window l.laid
+invariant-loop-run l = BitsWritten (spread (take l.run-index l.runs)) l.value l.window l.written

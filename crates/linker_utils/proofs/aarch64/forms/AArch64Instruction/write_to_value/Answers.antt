@@ -1,16 +1,23 @@
-use Rattle.linker_base.specs.Form.{window_of}
+use Rattle.std.proofs.Common.{sym, ◌∙◌, rules, subst}
+use Rattle.linker_base.specs.Form.{IsReadBack}
 use Rattle.linker_utils.specs.AArch64.{aarch64_form}
 use Rattle.linker_utils.specs.Inner.FormLaws.{aarch64_restored}
-use Rattle.linker_utils.proofs.AArch64Forms.{aarch64_machine}
+use Rattle.linker_utils.proofs.AArch64Forms.{aarch64_machine, is_word}
 use Rattle.linker_utils.proofs.aarch64.forms.AArch64Instruction.write_to_value.Goals as goal
 
-pub returns-clause-machine : goal.returns-clause-machine
-returns-clause-machine c =
-    let f = aarch64_form c.args.self in
-    aarch64_machine c.args.self c.args.extracted_value c.args.negative (window_of f c.args.dest.now) (window_of f c.place.new.dest) c.ranges.extracted_value.fits c.requires.fits c.place.ensures.written
-
-pub returns-clause-restored : goal.returns-clause-restored
-returns-clause-restored c = λ back.
-    let f = aarch64_form c.args.self in
-    c.place.ensures.same
-    (aarch64_restored c.args.self c.args.extracted_value c.args.negative (window_of f c.args.dest.now) (window_of f c.place.new.dest) c.ranges.extracted_value.fits c.place.ensures.written back)
+pub returns : goal.returns
+returns c =
+    let f = c.args.self in
+    let v = c.args.extracted_value in
+    let neg = c.args.negative in
+    let laid = c.insert-word.ensures.written in
+    let is = c.load.ensures.loaded in
+    rw (is_word f) (record {
+      written = rw (sym is, c.store.ensures.stored) laid;
+      rest = c.store.ensures.rest;
+      machine = rw (sym is, c.store.ensures.stored)
+          (aarch64_machine f v neg c.load.result c.insert-word.result c.ranges.extracted_value.fits (search rules) laid);
+      restored = λ back. c.store.ensures.same
+          (aarch64_restored f v neg c.load.result c.insert-word.result c.ranges.extracted_value.fits laid
+          (subst (IsReadBack (aarch64_form f) v neg) (sym is) back) ∙ is);
+    })

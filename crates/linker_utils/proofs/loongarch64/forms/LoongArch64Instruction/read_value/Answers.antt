@@ -8,8 +8,8 @@ returns-in-Call30-clause-number c = number_of c.args.self Call30 c.read.result c
 
 pub returns-in_default : goal.returns-in_default
 returns-in_default c =
-    let both = read_of_word c.args.self c.args.bytes.now c.load.result c.taken-number.result c.bits-bits.result.sign_bits c.signed_by.result.0 c.signed_by.result.1
-    c.in_default.not-Call30 c.in_default.not-Call36 c.load.ensures.loaded c.taken-number.ensures.number (ap (λ b. b.sign_bits) c.bits-bits.ensures)
+    let both = read_of_word c.args.self c.args.bytes.now c.load.result c.extract-number.result c.bits-bits.result.sign_bits c.signed_by.result.0 c.signed_by.result.1
+    c.in_default.not-Call30 c.in_default.not-Call36 c.load.ensures.loaded c.extract-number.ensures.number (ap (λ b. b.sign_bits) c.bits-bits.ensures)
     c.signed_by.ensures.number c.signed_by.ensures.flag in
     record { number = both.0; flag = both.1 }
 

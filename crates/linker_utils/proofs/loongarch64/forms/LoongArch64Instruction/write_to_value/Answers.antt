@@ -4,23 +4,20 @@ use Rattle.linker_utils.specs.Inner.FormLaws.{loongarch_restored}
 use Rattle.linker_utils.proofs.LoongArch.{loongarch_machine, loongarch_low, loongarch_reaches}
 use Rattle.linker_utils.proofs.loongarch64.forms.LoongArch64Instruction.write_to_value.Goals as goal
 
-pub returns-clause-machine : goal.returns-clause-machine
-returns-clause-machine c =
-    let f = loongarch_form c.args.self in
-    loongarch_machine c.args.self c.args.extracted_value c.args.negative (window_of f c.args.dest.now) (window_of f c.place.new.dest) c.ranges.extracted_value.fits c.requires.fits c.place.ensures.written
-
-pub returns-clause-restored : goal.returns-clause-restored
-returns-clause-restored c = λ back.
-    let f = loongarch_form c.args.self in
-    c.place.ensures.same
-    (loongarch_restored c.args.self c.args.extracted_value c.args.negative (window_of f c.args.dest.now) (window_of f c.place.new.dest) c.ranges.extracted_value.fits c.place.ensures.written back)
-
-pub returns-clause-low : goal.returns-clause-low
-returns-clause-low c =
-    let f = loongarch_form c.args.self in
-    loongarch_low c.args.self c.args.extracted_value c.args.negative (window_of f c.args.dest.now) (window_of f c.place.new.dest) c.ranges.extracted_value.fits c.place.ensures.written
-
-pub returns-clause-reaches : goal.returns-clause-reaches
-returns-clause-reaches c =
-    let f = loongarch_form c.args.self in
-    loongarch_reaches c.args.self c.args.extracted_value c.args.negative (window_of f c.args.dest.now) (window_of f c.place.new.dest) c.ranges.extracted_value.fits c.place.ensures.written
+pub returns : goal.returns
+returns c =
+    let f = c.args.self in
+    let v = c.args.extracted_value in
+    let neg = c.args.negative in
+    let old = window_of (loongarch_form f) c.args.dest.now in
+    let new = window_of (loongarch_form f) c.insert_into.new.dest in
+    let small = c.ranges.extracted_value.fits in
+    let laid = c.insert_into.ensures.written in
+    record {
+      written = laid;
+      rest = c.insert_into.ensures.rest;
+      machine = loongarch_machine f v neg old new small c.requires.fits laid;
+      low = loongarch_low f v neg old new small laid;
+      reaches = loongarch_reaches f v neg old new small laid;
+      restored = λ back. c.insert_into.ensures.same (loongarch_restored f v neg old new small laid back);
+    }

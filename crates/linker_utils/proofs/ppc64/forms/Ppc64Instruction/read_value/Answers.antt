@@ -4,6 +4,9 @@ use Rattle.linker_utils.specs.Ppc64.{ppc64_form}
 use Rattle.linker_utils.proofs.Ppc64Forms.{mask_reads, word_flags, word_reads}
 use Rattle.linker_utils.proofs.ppc64.forms.Ppc64Instruction.read_value.Goals as goal
 
+pub returns-in-Prefixed-clause-number : goal.returns-in-Prefixed-clause-number
+returns-in-Prefixed-clause-number c = rw c.in-Prefixed.is c.read.ensures
+
 pub returns-in_default : goal.returns-in_default
 returns-in_default c =
     let f = c.args.self in

@@ -4,18 +4,19 @@ use Rattle.linker_utils.specs.Inner.FormLaws.{riscv_restored}
 use Rattle.linker_utils.proofs.RiscV.{riscv_machine, riscv_pair}
 use Rattle.linker_utils.proofs.riscv64.forms.RiscVInstruction.write_to_value.Goals as goal
 
-pub returns-clause-machine : goal.returns-clause-machine
-returns-clause-machine c =
-    let f = riscv_form c.args.self in
-    riscv_machine c.args.self c.args.extracted_value c.args.negative (window_of f c.args.dest.now) (window_of f c.place.new.dest) c.ranges.extracted_value.fits c.place.ensures.written
-
-pub returns-clause-restored : goal.returns-clause-restored
-returns-clause-restored c = λ back.
-    let f = riscv_form c.args.self in
-    c.place.ensures.same
-    (riscv_restored c.args.self c.args.extracted_value c.args.negative (window_of f c.args.dest.now) (window_of f c.place.new.dest) c.ranges.extracted_value.fits c.place.ensures.written back)
-
-pub returns-clause-pair : goal.returns-clause-pair
-returns-clause-pair c =
-    let f = riscv_form c.args.self in
-    riscv_pair c.args.self c.args.extracted_value c.args.negative (window_of f c.args.dest.now) (window_of f c.place.new.dest) c.ranges.extracted_value.fits c.place.ensures.written
+pub returns : goal.returns
+returns c =
+    let f = c.args.self in
+    let v = c.args.extracted_value in
+    let neg = c.args.negative in
+    let old = window_of (riscv_form f) c.args.dest.now in
+    let new = window_of (riscv_form f) c.insert_into.new.dest in
+    let small = c.ranges.extracted_value.fits in
+    let laid = c.insert_into.ensures.written in
+    record {
+      written = laid;
+      rest = c.insert_into.ensures.rest;
+      machine = riscv_machine f v neg old new small laid;
+      pair = riscv_pair f v neg old new small laid;
+      restored = λ back. c.insert_into.ensures.same (riscv_restored f v neg old new small laid back);
+    }

@@ -2,7 +2,7 @@ use Rattle.std.proofs.Common.{ap, ◌∙◌, subst, sym}
 use Rattle.std.specs.Prelude.{bit_and, bit_or, ◌/◌, ◌^◌, ◌<◌}
 use Rattle.linker_utils.specs.Inner.Immediates.{aarch64_immediate}
 use Rattle.linker_utils.proofs.AArch64Forms.{TakesBits, aarch64_taken}
-use Rattle.linker_utils.proofs.aarch64.forms.AArch64Instruction.taken.Goals as goal
+use Rattle.linker_utils.proofs.aarch64.forms.AArch64Instruction.extract.Goals as goal
 
 pub returns-clause-number : goal.returns-clause-number
 unfolding TakesBits

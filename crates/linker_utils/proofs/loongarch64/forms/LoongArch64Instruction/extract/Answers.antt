@@ -1,7 +1,7 @@
 use Rattle.std.proofs.Common.{sym, subst}
 use Rattle.linker_utils.specs.Inner.Immediates.{loongarch_read}
 use Rattle.linker_utils.proofs.LoongArch.{ReadsWord, reads_word}
-use Rattle.linker_utils.proofs.loongarch64.forms.LoongArch64Instruction.taken.Goals as goal
+use Rattle.linker_utils.proofs.loongarch64.forms.LoongArch64Instruction.extract.Goals as goal
 
 pub returns-clause-number : goal.returns-clause-number
 unfolding ReadsWord

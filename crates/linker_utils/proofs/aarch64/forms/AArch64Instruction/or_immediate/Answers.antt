@@ -1,7 +1,7 @@
 use Rattle.std.proofs.Common.{subst, sym}
 use Rattle.linker_utils.specs.AArch64.{aarch64_form}
 use Rattle.linker_utils.proofs.AArch64Forms.{OrsBits, aarch64_ored}
-use Rattle.linker_utils.proofs.aarch64.forms.AArch64Instruction.ored.Goals as goal
+use Rattle.linker_utils.proofs.aarch64.forms.AArch64Instruction.or_immediate.Goals as goal
 
 pub returns-clause-written : goal.returns-clause-written
 unfolding OrsBits

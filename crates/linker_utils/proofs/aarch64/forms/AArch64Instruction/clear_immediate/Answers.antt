@@ -2,7 +2,7 @@ use Rattle.std.proofs.Common.{subst, sym}
 use Rattle.linker_utils.specs.AArch64.{aarch64_form}
 use Rattle.linker_utils.specs.Relocate.{ored_cleared}
 use Rattle.linker_utils.proofs.AArch64Forms.{ClearsBits, aarch64_cleared}
-use Rattle.linker_utils.proofs.aarch64.forms.AArch64Instruction.cleared.Goals as goal
+use Rattle.linker_utils.proofs.aarch64.forms.AArch64Instruction.clear_immediate.Goals as goal
 
 pub returns-clause-clears : goal.returns-clause-clears
 unfolding ClearsBits
