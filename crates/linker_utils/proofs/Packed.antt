@@ -14,9 +14,8 @@ use Rattle.linker_utils.specs.Inner.Packing.{IsFilled, IsRunStart, IsCopied, IsP
 use Rattle.linker_utils.specs.Packing.{AreApart, CanJump, IsCallInSection, IsRejected, IsNotAt, IsPacked}
 use Rattle.linker_utils.specs.RiscV.{word_at, call_len, link_register, output_distance, IsEven, IsJal, IsJalDistance, IsSiteKept, JumpsAt, JumpsAndLinks, NamesRegister}
 use Rattle.linker_utils.specs.declared.riscv64.calls.CallError.{CallError}
-use Rattle.linker_utils.specs.declared.riscv64.calls.CallError.TheVariants.{OutOfSection, SiteDeleted, OddDistance, TooFar}
-use Rattle.linker_utils.specs.declared.riscv64.calls.JumpError.{JumpError}
-use Rattle.linker_utils.specs.declared.riscv64.calls.JumpError.TheVariants.{Call, NotACall}
+use Rattle.linker_utils.specs.declared.riscv64.calls.CallError.TheVariants.{OddDistance, TooFar}
+use Rattle.linker_utils.specs.declared.riscv64.calls.JumpError.TheVariants.{Call}
 use Rattle.linker_utils.specs.declared.riscv64.calls.LinkRegister.{LinkRegister}
 use Rattle.linker_utils.specs.declared.riscv64.calls.LinkRegister.TheVariants.{OfAuipc, OfJalr}
 use Rattle.linker_utils.proofs.Jumps.{word_of_front}
@@ -284,14 +283,6 @@ on_ok (Ok a) P is h = h
 on_ok (Err e) P is h = cc
 
 -- ---- calls
-
--- a call that is rejected can't become a jump
-pub rejected : (link : LinkRegister) (ds : List (ℕ × ℕ)) (s : List ℕ) (call : ℕ × ℕ) (e : JumpError) → IsRejected link ds s call e → CanJump link ds s call → ⊥
-rejected link ds s call (Call OutOfSection) fails can = fails can.inside
-rejected link ds s call (Call SiteDeleted) fails can = fails.1 can.kept
-rejected link ds s call (Call OddDistance) fails can = fails.3 can.even
-rejected link ds s call (Call TooFar) fails can = fails.4 can.near
-rejected link ds s call NotACall fails can = fails.2 can.names
 
 -- a call whose jump's distance is rejected is rejected for that
 pub distance_rejected : (link : LinkRegister) (ds : List (ℕ × ℕ)) (s : List ℕ) (call : ℕ × ℕ) (d : ℤ) (r : Result Unit CallError) (e : CallError)

@@ -10,7 +10,7 @@ use Rattle.std.proofs.lemmas.List.Elements.{All-head, All-tail, All-nil, All-con
 use Rattle.std.proofs.Math.Seq.{take-nil, take-set-lt}
 use Rattle.std.proofs.Math.Nat.{mul-le-mul_right, div-mul-le_self, lt-div-mul-add}
 use Rattle.std.proofs.lemmas.List.Kept.{AllPairs-cons}
-use Rattle.std.proofs.lemmas.List.Sums.{sum_by-cons, sum_by-append, sum_by-set, count_by_more_yes, count_by_more_no, count_by-le-length}
+use Rattle.std.proofs.lemmas.List.Sums.{sum_by-cons, sum_by-append, sum_by-set, count_by_more_yes, count_by_more_no}
 use mir.Val.{bool_byte}
 use Rattle.linker_base.specs.Deletions.{DoNotOverlap, EndFits, AreDisjoint, AreKept, IsInsideDeletion, IsSortedUnion, rank}
 use Rattle.linker_base.proofs.Rank.{removed, removed_by, rank-removed, rank-mono, all_pairs_head, all_pairs_tail}
@@ -377,9 +377,6 @@ between_clamped : (bs : List Bool) (a b from to : ℕ) → a ≤ b → from ≡ 
 between_clamped bs a b from to le from_is to_is =
     omega (arith, count_between-split bs a b le, count_between-split bs from to (omega arith), count_clamped bs a from from_is, count_clamped bs b to to_is)
 
-pub count_bound : (bs : List Bool) (n : ℕ) → chosen_count (take n bs) ≤ length bs
-count_bound bs n = omega (arith, count_by-le-length (λ b. b) (take n bs), length-take n bs)
-
 -- the next run
 pub runs_more : (bs : List Bool) (counts : List ℕ) (len run start next count : ℕ) → run < length counts → start ≡ min (run * len) (length bs) → next ≡ start + min len (length bs - start) → count ≡ chosen_between bs start next
     → ((r : ℕ) (d : ℕ) → r < run → get_or counts r d ≡ chosen_between bs (r * len) (r * len + len))
@@ -733,8 +730,8 @@ pub merged_distance : (all merged : List (ℕ × ℕ)) (site target : ℕ) → I
 merged_distance all merged site target union =
     ap (λ n. pos n -ℤ pos (rank all site)) (rank-permutation all merged target union.same) ∙ ap (λ n. pos (rank merged target) -ℤ pos n) (rank-permutation all merged site union.same)
 
-pub accepted : ShrunkCallsAreAccepted
-accepted link ds merged calls section chosen i call reach union within is =
+pub shrunk_calls_are_accepted : ShrunkCallsAreAccepted
+shrunk_calls_are_accepted link ds merged calls section chosen i call reach union within is =
     let site = (get_or calls i call).0 in
     let target = (get_or calls i call).1 in
     let same = merged_distance (with_chosen ds calls chosen) merged site target union in
