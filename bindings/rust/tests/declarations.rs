@@ -710,6 +710,7 @@ fn the_structs_are_those_of_the_library() {
     let library = exporting_sources()
         + &repository("crates/linker_base/src/relaxation.rt")
         + &repository("crates/linker_base/src/relaxation/blocks.rt")
+        + &repository("crates/linker_utils/src/riscv64/calls.rt")
         + &repository("crates/linker_utils/src/elf/value.rt")
         + &repository("crates/linker_utils/src/elf/numbers.rt");
     for (name, of_library) in [

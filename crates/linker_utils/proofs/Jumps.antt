@@ -140,14 +140,14 @@ module _ (s s1 ys sub : List ℕ) (site r v : ℕ) (d : ℤ)
   low_kept laid w h =
       laid.kept w (agree_below_at (is_placed jtype_places) (λ _. false) 12 w refl h) ∙ ap (λ x. bit_at x w) before
 
-  pub jumped :
+  pub jal_jumps :
       Written (riscv_form JType) v false (from_le_bytes w32 (take (length s1 - site) (drop site s1))) (from_le_bytes w32 sub)
       → MachineReads (riscv_form JType) v false (from_le_bytes w32 (take (length s1 - site) (drop site s1))) (from_le_bytes w32 sub)
       → drop 4 sub ≡ drop 4 (take (length s1 - site) (drop site s1))
       → v ≡ cast_unsigned w64 d → IsEven d → IsJalDistance d
       → JumpsAndLinks s (put_mid site (length s1 - site) s1 sub) site r d
   unfolding jal_word
-  jumped laid reads rest bits even jal =
+  jal_jumps laid reads rest bits even jal =
       let word : word_at (put_mid site (length s1 - site) s1 sub) site ≡ from_le_bytes w32 sub = ap (from_le_bytes w32) at_site in
       record {
         jal = record {

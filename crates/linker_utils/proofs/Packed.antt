@@ -1,6 +1,6 @@
 -- How a section is packed: its kept runs, and the jumps in it.
 use Rattle.std.proofs.Common.{◌≡◌, ℕ, zero, suc, ◌+◌, ◌-◌, ◌<◌, ◌≤◌, ◌^◌, true, false, not, ltb, leb, List, [], ◌∷◌, ◌++◌, length, get_or, take, drop, refl, sym, subst, ◌∙◌, ap, arith, inl, inr, add-zero, add-suc, ℤ}
-use Rattle.std.specs.Prelude.{min, IsOk, OnOk, Result, Ok, Err, All}
+use Rattle.std.specs.Prelude.{◌↔◌, ◌⊎◌, min, IsOk, OnOk, Result, Ok, Err, All}
 use Rattle.std.specs.List.{list_any}
 use Rattle.std.proofs.lemmas.Bool.{cases_Bool, cases_lt, both_ways, and_from, le-leb, lt-ltb}
 use Rattle.std.proofs.lemmas.Bool.Decides.{nat_tests}
@@ -11,11 +11,11 @@ use Rattle.linker_base.proofs.Rank.{rank_kept, rank_gone, rank-mono, rank_all_ke
 use Rattle.std.specs.Int.{w32, from_le_bytes}
 use Rattle.linker_base.specs.Bits.{field}
 use Rattle.linker_utils.specs.Inner.Packing.{IsFilled, IsRunStart, IsCopied, IsPackedTo, AreApartTo}
-use Rattle.linker_utils.specs.Packing.{AreApart, CanJump, IsRejected, IsNotAt, IsPacked}
-use Rattle.linker_utils.specs.RiscV.{word_at, call_len, link_register, output_distance, IsJal, JumpsAt, JumpsAndLinks}
-use Rattle.linker_utils.specs.declared.riscv64.calls.CallError.TheVariants.{OutOfSection, SiteDeleted, OddDistance, TooFar}
-use Rattle.linker_utils.specs.declared.riscv64.calls.JumpError.{JumpError}
-use Rattle.linker_utils.specs.declared.riscv64.calls.JumpError.TheVariants.{Call, NotACall}
+use Rattle.linker_utils.specs.Packing.{AreApart, CanJump, IsCallInSection, IsRejected, IsNotAt, IsPacked}
+use Rattle.linker_utils.specs.RiscV.{word_at, call_len, link_register, output_distance, IsEven, IsJal, IsJalDistance, IsSiteKept, JumpsAt, JumpsAndLinks, NamesRegister}
+use Rattle.linker_utils.specs.declared.riscv64.calls.CallError.{CallError}
+use Rattle.linker_utils.specs.declared.riscv64.calls.CallError.TheVariants.{OddDistance, TooFar}
+use Rattle.linker_utils.specs.declared.riscv64.calls.JumpError.TheVariants.{Call}
 use Rattle.linker_utils.specs.declared.riscv64.calls.LinkRegister.{LinkRegister}
 use Rattle.linker_utils.specs.declared.riscv64.calls.LinkRegister.TheVariants.{OfAuipc, OfJalr}
 use Rattle.linker_utils.proofs.Jumps.{word_of_front}
@@ -178,14 +178,14 @@ module _ (ds : List (ℕ × ℕ)) (s packed bytes new : List ℕ) (k from at nex
   run_rise = omega (arith, rise)
 
   fits : at + length bytes ≤ length packed
-  fits = run_fits ds s packed bytes (min from (length s)) (min (get_or ds k (0, 0)).0 (length s)) at run_rise (omega arith) kept copied.place copied.filled room run
+  fits = run_fits ds s packed bytes (min from (length s)) (min (get_or ds k (0, 0)).0 (length s)) at run_rise (omega arith) kept copied.output_offset_is copied.filled room run
 
   end_is : end ≡ rank ds (min (get_or ds k (0, 0)).0 (length s))
-  end_is = omega (arith, ends, fits, run_end ds s packed bytes (min from (length s)) (min (get_or ds k (0, 0)).0 (length s)) at run_rise (omega arith) kept copied.place copied.filled room run)
+  end_is = omega (arith, ends, fits, run_end ds s packed bytes (min from (length s)) (min (get_or ds k (0, 0)).0 (length s)) at run_rise (omega arith) kept copied.output_offset_is copied.filled room run)
 
   filled : IsFilled ds s (min (get_or ds k (0, 0)).0 (length s)) new
   filled = subst (IsFilled ds s (min (get_or ds k (0, 0)).0 (length s))) (sym (put_whole packed bytes new at fits put))
-      (run_copied ds s packed bytes (min from (length s)) (min (get_or ds k (0, 0)).0 (length s)) at run_rise (omega arith) kept copied.place copied.filled room run)
+      (run_copied ds s packed bytes (min from (length s)) (min (get_or ds k (0, 0)).0 (length s)) at run_rise (omega arith) kept copied.output_offset_is copied.filled room run)
 
   gone : (p : ℕ) → min (get_or ds k (0, 0)).0 (length s) ≤ p → p < min next (length s) → is_kept ds p ≡ false
   gone p low high = deleted_gone ds k p (0, 0) within (omega arith) (omega (arith, next_is))
@@ -206,7 +206,7 @@ module _ (ds : List (ℕ × ℕ)) (s packed bytes new : List ℕ) (k from at nex
       ];
       ahead = λ j d above inside. later j d (omega arith) inside;
     };
-    place = end_is ∙ sym rank_same;
+    output_offset_is = end_is ∙ sym rank_same;
     filled = filled_on ds s new (min (get_or ds k (0, 0)).0 (length s)) (min next (length s)) filled gone;
   }
 
@@ -223,16 +223,16 @@ copy_end ds s packed bytes new k from at past copied room run put =
     let kept : (p : ℕ) → low ≤ p → p < length s → is_kept ds p ≡ true =
     λ p from_low below. run_kept ds k from p copied.start (omega arith) (λ j d above inside. absurd (omega arith)) in
     let whole : bytes ≡ take (length s - low) (drop low s) = run ∙ ap (λ n. take (n - low) (drop low s)) (omega arith) in
-    let fits = run_fits ds s packed bytes low (length s) at rise (omega arith) kept copied.place copied.filled room whole in
+    let fits = run_fits ds s packed bytes low (length s) at rise (omega arith) kept copied.output_offset_is copied.filled room whole in
     subst (IsFilled ds s (length s)) (sym (put_whole packed bytes new at fits put))
-    (run_copied ds s packed bytes low (length s) at rise (omega arith) kept copied.place copied.filled room whole)
+    (run_copied ds s packed bytes low (length s) at rise (omega arith) kept copied.output_offset_is copied.filled room whole)
 
 -- before the first
 pub copy_start : (ds : List (ℕ × ℕ)) (s packed : List ℕ) → IsCopied ds s 0 0 0 packed
 unfolding rank
 copy_start ds s packed = record {
   start = record { ended = λ j d below. absurd (omega arith); ahead = λ j d above inside. omega arith };
-  place = let none : 0 ≡ min 0 (length s) = omega arith in ap (rank ds) none;
+  output_offset_is = let none : 0 ≡ min 0 (length s) = omega arith in ap (rank ds) none;
   filled = λ p below is. absurd (omega arith);
 }
 
@@ -284,13 +284,16 @@ on_ok (Err e) P is h = cc
 
 -- ---- calls
 
--- a call that is rejected can't become a jump
-pub rejected : (link : LinkRegister) (ds : List (ℕ × ℕ)) (s : List ℕ) (call : ℕ × ℕ) (e : JumpError) → IsRejected link ds s call e → CanJump link ds s call → ⊥
-rejected link ds s call (Call OutOfSection) fails can = fails can.inside
-rejected link ds s call (Call SiteDeleted) fails can = fails.1 can.kept
-rejected link ds s call (Call OddDistance) fails can = fails.3 can.even
-rejected link ds s call (Call TooFar) fails can = fails.4 can.near
-rejected link ds s call NotACall fails can = fails.2 can.names
+-- a call whose jump's distance is rejected is rejected for that
+pub distance_rejected : (link : LinkRegister) (ds : List (ℕ × ℕ)) (s : List ℕ) (call : ℕ × ℕ) (d : ℤ) (r : Result Unit CallError) (e : CallError)
+    → d ≡ output_distance ds call.0 call.1 → IsCallInSection link s call → IsSiteKept ds call.0 → NamesRegister link s call.0 → r ≡ Err e
+    → ((r ≡ Err OddDistance) ↔ ¬ IsEven d) → ((r ≡ Err TooFar) ↔ (IsEven d × ¬ IsJalDistance d)) → (e ≡ OddDistance) ⊎ (e ≡ TooFar) → IsRejected link ds s call (Call e)
+distance_rejected link ds s call d r e far inside kept names is odd too_far listed = elim listed [
+  | inl odd_is ↦ rw odd_is (inside, kept, names, subst (λ d. IsEven d → ⊥) far (odd.0 (is ∙ ap Err odd_is)))
+  | inr far_is ↦
+      let fails = too_far.0 (is ∙ ap Err far_is) in
+      rw far_is (inside, kept, names, subst IsEven far fails.0, subst (λ d. IsJalDistance d → ⊥) far fails.1)
+]
 
 -- the first calls with one more
 pub calls_more : (P : ℕ × ℕ → Type 0) (js : List (ℕ × ℕ)) (k : ℕ) (j : ℕ × ℕ) → k < length js → ((i : ℕ) (d : ℕ × ℕ) → i < k → P (get_or js i d)) → get_or js k (0, 0) ≡ j → P j

@@ -1,6 +1,8 @@
 -- What chosen calls delete, how far that moves the ends of a call, and which choices stay in reach.
-use Rattle.std.proofs.Common.{◌≡◌, ◌≢◌, ℕ, zero, suc, ◌+◌, ◌-◌, ◌*◌, ◌/◌, ◌%◌, ◌<◌, ◌≤◌, Bool, true, false, cond, List, [], ◌∷◌, ◌++◌, length, map, get_or, set, take, drop, replicate, leb, refl, sym, subst, ◌∙◌, ap, inl, inr, arith, ℤ, pos, negsuc, ◌-ℤ◌}
+use Rattle.std.proofs.Common.{◌≡◌, ◌≢◌, ℕ, zero, suc, ◌+◌, ◌-◌, ◌*◌, ◌/◌, ◌%◌, ◌<◌, ◌≤◌, Bool, true, false, cond, List, [], ◌∷◌, ◌++◌, length, map, get_or, set, take, drop, replicate, leb, nat_lt, refl, sym, subst, ◌∙◌, ap, inl, inr, arith, ℤ, pos, negsuc, ◌-ℤ◌}
 use Rattle.std.specs.Prelude.{◌↔◌, IsTrue, All, AllPairs, Contains, min, max}
+use Rattle.std.specs.List.Sorted.{IsNonDecreasingBy, IsPartitionPoint}
+use Rattle.std.proofs.lemmas.Bool.Decides.{nat_tests}
 use Rattle.std.proofs.lemmas.Bool.{cases_lt, cases_order, false≢true, le-leb, lt-leb}
 use Rattle.std.proofs.lemmas.Int.{ints}
 use Rattle.std.proofs.lemmas.List.{length-map, length-take, map-set, get_or-map, get_or-take, get_or_default, get_or-set_other, get_or-set_same, map-append, take-map, take-append-drop, take-take, take_more, take_more_set, take_all, take-set-le, append_assoc, append-nil, length-replicate, length-set, get_or-replicate, get_or_past}
@@ -16,7 +18,7 @@ use Rattle.linker_base.proofs.Laws.{merges_shorten}
 use Rattle.linker_base.proofs.Unions.{disjoint_left, rank-permutation}
 use Rattle.linker_base.proofs.Merging.{disjoint_joined, disjoint_back, disjoint_across}
 use Rattle.linker_utils.specs.Shrinking.{shrinking, chosen_deletions, with_chosen, IsInReach, IsChosen, IsPartOf, AreShrinkable, ShrunkCallsAreAccepted}
-use Rattle.linker_utils.specs.Inner.Shrinking.{chosen_count, chosen_between, AreEightApart, IsApartAt, IsSplitBetween, IsSplit, IsInReachAt, KeepsOthers, ArePlaced, AreOutside, IsAround, AreClear, HaveHit, AreRunsOf, distance_over}
+use Rattle.linker_utils.specs.Inner.Shrinking.{chosen_count, chosen_between, AreEightApart, IsApartAt, IsSplit, IsInReachAt, KeepsOthers, HaveShrinkableSites, HaveShrinkableTargets, IsAround, AreClear, HaveHit, AreRunsOf, distance_over}
 use Rattle.linker_utils.specs.declared.riscv64.shrinking.Runs.{Runs}
 use Rattle.linker_utils.specs.RiscV.{IsEven, IsJalDistance, output_distance}
 
@@ -456,25 +458,32 @@ runs_dropped runs bs k counted within is = record {
 
 -- ---- the search for a split
 
-pub split_up : (calls : List (ℕ × ℕ)) (offset from to k site next stop : ℕ) → AreEightApart calls → k < length calls → (get_or calls k (0, 0)).0 ≡ site → site + 4 < offset
-    → next ≡ k + 1 → stop ≡ to → IsSplitBetween calls offset from to → IsSplitBetween calls offset next stop
-split_up calls offset from to k site next stop apart within here low next_is stop_is split = record {
-  below = λ i call lt inside. elim (cases_lt i k) [
-    | inl before ↦ rw (get_or_default calls i call (0, 0) inside) (omega (arith, apart i k (0, 0) before within))
-    | inr at ↦ let e : i ≡ k = omega arith in rw (e, get_or_default calls k call (0, 0) within) (omega arith)
-  ];
-  others = λ i call le inside. split.others i call (omega arith) inside;
-}
+-- sites that ascend by at least 8 don't fall
+pub sites_rise : {X : Type 0} (f : X → ℕ × ℕ) (xs : List X) → AreEightApart (map f xs) → IsNonDecreasingBy (λ x. (f x).0 + 4) xs
+sites_rise f xs apart i j d le within =
+    let same = length-map xs f in
+    let site : (k : ℕ) → k < length xs → (get_or (map f xs) k (f d)).0 ≡ (f (get_or xs k d)).0 = λ k low. ap (λ (c : ℕ × ℕ). c.0) (get_or-map f xs k d (f d) low) in
+    elim (cases_lt i j) [
+      | inl lower ↦ omega (arith, apart i j (f d) lower (omega arith), site i (omega arith), site j within)
+      | inr at ↦ let e : i ≡ j = omega arith in rw e (omega arith)
+    ]
 
-pub split_down : (calls : List (ℕ × ℕ)) (offset from to k site : ℕ) → AreEightApart calls → k < length calls → (get_or calls k (0, 0)).0 ≡ site → offset ≤ site + 4
-    → IsSplitBetween calls offset from to → IsSplitBetween calls offset from k
-split_down calls offset from to k site apart within here high split = record {
-  below = split.below;
-  others = λ i call le inside. elim (cases_lt k i) [
-    | inl behind ↦ rw (get_or_default calls i call (0, 0) inside) (omega (arith, apart k i (0, 0) behind inside))
-    | inr at ↦ let e : i ≡ k = omega arith in rw (e, get_or_default calls k call (0, 0) within) (omega arith)
-  ];
-}
+-- what the tests of the search tell of the calls
+pub split_by_test : {X : Type 0} (f : X → ℕ × ℕ) (xs : List X) (offset at : ℕ)
+    → IsPartitionPoint (λ x. nat_lt ((f x).0 + 4) offset ≡ true) (λ x. nat_lt ((f x).0 + 4) offset ≡ false) xs at → IsSplit (map f xs) offset at
+split_by_test f [] offset at parted = record { below = λ i call low within. absurd (omega arith); others = λ i call high within. absurd (omega arith) }
+split_by_test f (x ∷ xs) offset at parted =
+    let same = length-map (x ∷ xs) f in
+    record {
+      below = λ i call low within.
+          let inside : i < length (x ∷ xs) = omega (arith, within, same) in
+          let test = parted.0 i x (omega arith) low in
+          rw (get_or-map f (x ∷ xs) i x call inside) (grind (arith, nat_tests));
+      others = λ i call high within.
+          let inside : i < length (x ∷ xs) = omega (arith, within, same) in
+          let test = parted.1 i x high inside in
+          rw (get_or-map f (x ∷ xs) i x call inside) (grind (arith, nat_tests));
+    }
 
 -- ---- all calls chosen
 
@@ -535,8 +544,8 @@ module _ (ds calls : List (ℕ × ℕ)) (k site target : ℕ) (within : k < leng
           let lower : i < k = omega arith in
           rw (get_or-take k calls i call lower, get_or-take k calls j call below) at (before i j call low (omega (arith, length-take k calls)))
 
-  pub placed_more : ArePlaced ds (take k calls) → IsApartAt calls k → AreKept ds site 8 → AreDisjoint (ds ++ (site + 4, 4) ∷ []) → ArePlaced ds (take (k + 1) calls)
-  placed_more before apart kept beside =
+  pub sites_more : HaveShrinkableSites ds (take k calls) → IsApartAt calls k → AreKept ds site 8 → AreDisjoint (ds ++ (site + 4, 4) ∷ []) → HaveShrinkableSites ds (take (k + 1) calls)
+  sites_more before apart kept beside =
       let behind = disjoint_back ds (map shrinking (take k calls)) before.mergeable in
       let alone = disjoint_back ds ((site + 4, 4) ∷ []) beside in
       let all_apart = apart_more before.apart apart in
@@ -555,16 +564,16 @@ module _ (ds calls : List (ℕ × ℕ)) (k site target : ℕ) (within : k < leng
   last_shrinking : get_or (map shrinking (take (k + 1) calls)) k (0, 0) ≡ (site + 4, 4)
   last_shrinking = get_or-map shrinking (take (k + 1) calls) k (0, 0) (0, 0) (omega (arith, length-take (k + 1) calls)) ∙ ap shrinking last
 
-  pub apart_there : ArePlaced ds (take (k + 1) calls) → IsApartAt calls k
+  pub apart_there : HaveShrinkableSites ds (take (k + 1) calls) → IsApartAt calls k
   apart_there all call some =
       let before : k - 1 < k + 1 = omega arith in
       let at : k < k + 1 = omega arith in
       rw (get_or-take (k + 1) calls (k - 1) call before, get_or-take (k + 1) calls k call at) at (all.apart (k - 1) k call (omega arith) (omega (arith, length-take (k + 1) calls)))
 
-  pub kept_there : ArePlaced ds (take (k + 1) calls) → AreKept ds site 8
+  pub kept_there : HaveShrinkableSites ds (take (k + 1) calls) → AreKept ds site 8
   kept_there all = subst (λ (c : ℕ × ℕ). AreKept ds c.0 8) last (all.kept k (0, 0) (omega (arith, length-take (k + 1) calls)))
 
-  pub beside_there : ArePlaced ds (take (k + 1) calls) → AreDisjoint (ds ++ (site + 4, 4) ∷ [])
+  pub beside_there : HaveShrinkableSites ds (take (k + 1) calls) → AreDisjoint (ds ++ (site + 4, 4) ∷ [])
   beside_there all =
       let inside : k < length (map shrinking (take (k + 1) calls)) = omega (arith, length-map (take (k + 1) calls) shrinking, length-take (k + 1) calls) in
       let ends = subst EndFits last_shrinking ((disjoint_back ds (map shrinking (take (k + 1) calls)) all.mergeable).ends k (0, 0) inside) in
@@ -573,8 +582,8 @@ module _ (ds calls : List (ℕ × ℕ)) (k site target : ℕ) (within : k < leng
       (record { apart = λ i j d low short. absurd (omega arith); ends = All-cons EndFits (site + 4, 4) [] ends (All-nil EndFits) })
       (All-cons (λ pair. All (λ d. DoNotOverlap d pair) ds) (site + 4, 4) [] across (All-nil (λ pair. All (λ d. DoNotOverlap d pair) ds)))
 
-placed_taken : (ds calls : List (ℕ × ℕ)) (n : ℕ) → ArePlaced ds calls → ArePlaced ds (take n calls)
-placed_taken ds calls n all = record {
+sites_taken : (ds calls : List (ℕ × ℕ)) (n : ℕ) → HaveShrinkableSites ds calls → HaveShrinkableSites ds (take n calls)
+sites_taken ds calls n all = record {
   apart = λ i j call low inside.
       let short : j < n = omega (arith, length-take n calls) in
       let lower : i < n = omega arith in
@@ -638,8 +647,8 @@ hit_more calls at first site target other next within here around is low found =
   | inr old ↦ let same : next ≡ first = omega arith in rw same (found (omega arith))
 ]
 
-pub outside_first : (calls : List (ℕ × ℕ)) (first : ℕ) → first ≤ length calls → AreClear calls (length calls) first → AreOutside (take first calls)
-outside_first calls first bound clear k d within (j, e, there, at, (above, below)) =
+pub targets_first : (calls : List (ℕ × ℕ)) (first : ℕ) → first ≤ length calls → AreClear calls (length calls) first → HaveShrinkableTargets (take first calls)
+targets_first calls first bound clear k d within (j, e, there, at, (above, below)) =
     let long = length-take first calls in
     let mapped = length-map (take first calls) shrinking in
     let low : k < first = omega arith in
@@ -650,8 +659,8 @@ outside_first calls first bound clear k d within (j, e, there, at, (above, below
     let down : (get_or calls k d).1 < (get_or calls j d).0 + 8 = omega (arith, rw (call, own) at below) in
     clear k j (omega arith) low lower (λ c c'. rw (get_or_default calls k c d (omega arith), get_or_default calls j c' d (omega arith)) (up, down))
 
-pub not_outside : (calls : List (ℕ × ℕ)) (first : ℕ) → first < length calls → HaveHit calls first → AreOutside (take (first + 1) calls) → ⊥
-not_outside calls first bound (i, j, low, lower, hit) outside =
+pub not_targets : (calls : List (ℕ × ℕ)) (first : ℕ) → first < length calls → HaveHit calls first → HaveShrinkableTargets (take (first + 1) calls) → ⊥
+not_targets calls first bound (i, j, low, lower, hit) outside =
     let long = length-take (first + 1) calls in
     let mapped = length-map (take (first + 1) calls) shrinking in
     let here = hit (0, 0) (0, 0) in
@@ -665,8 +674,8 @@ not_outside calls first bound (i, j, low, lower, hit) outside =
       (here.0, omega (arith, here.1)),
     ))
 
-outside_taken : (calls : List (ℕ × ℕ)) (n : ℕ) → AreOutside calls → AreOutside (take n calls)
-outside_taken calls n outside k d within (j, e, there, at, (above, below)) =
+targets_taken : (calls : List (ℕ × ℕ)) (n : ℕ) → HaveShrinkableTargets calls → HaveShrinkableTargets (take n calls)
+targets_taken calls n outside k d within (j, e, there, at, (above, below)) =
     let long = length-take n calls in
     let mapped = length-map (take n calls) shrinking in
     let own : get_or (take n calls) k d ≡ get_or calls k d = get_or-take n calls k d (omega arith) in
@@ -676,23 +685,23 @@ outside_taken calls n outside k d within (j, e, there, at, (above, below)) =
 
 -- ---- both
 
-shrinkable_from : (ds calls : List (ℕ × ℕ)) → ArePlaced ds calls → AreOutside calls → AreShrinkable ds calls
+shrinkable_from : (ds calls : List (ℕ × ℕ)) → HaveShrinkableSites ds calls → HaveShrinkableTargets calls → AreShrinkable ds calls
 shrinkable_from ds calls placed outside = record { apart = placed.apart; kept = placed.kept; mergeable = placed.mergeable; outside = outside }
 
-placed_from : (ds calls : List (ℕ × ℕ)) → AreShrinkable ds calls → ArePlaced ds calls
-placed_from ds calls shrinkable = record { apart = shrinkable.apart; kept = shrinkable.kept; mergeable = shrinkable.mergeable }
+sites_from : (ds calls : List (ℕ × ℕ)) → AreShrinkable ds calls → HaveShrinkableSites ds calls
+sites_from ds calls shrinkable = record { apart = shrinkable.apart; kept = shrinkable.kept; mergeable = shrinkable.mergeable }
 
 pub shrinkable_taken : (ds calls : List (ℕ × ℕ)) (n : ℕ) → AreShrinkable ds calls → AreShrinkable ds (take n calls)
-shrinkable_taken ds calls n shrinkable = shrinkable_from ds (take n calls) (placed_taken ds calls n (placed_from ds calls shrinkable)) (outside_taken calls n shrinkable.outside)
+shrinkable_taken ds calls n shrinkable = shrinkable_from ds (take n calls) (sites_taken ds calls n (sites_from ds calls shrinkable)) (targets_taken calls n shrinkable.outside)
 
 module _ (ds calls front : List (ℕ × ℕ)) (placed first : ℕ)
     (front_is : front ≡ take placed calls)
     (within : placed ≤ length calls)
     (before : first ≤ length front)
-    (all_placed : ArePlaced ds (take placed calls))
-    (next_placed : placed < length calls → ArePlaced ds (take (placed + 1) calls) → ⊥)
-    (all_outside : AreOutside (take first front))
-    (next_outside : first < length front → AreOutside (take (first + 1) front) → ⊥) where
+    (all_placed : HaveShrinkableSites ds (take placed calls))
+    (next_placed : placed < length calls → HaveShrinkableSites ds (take (placed + 1) calls) → ⊥)
+    (all_outside : HaveShrinkableTargets (take first front))
+    (next_outside : first < length front → HaveShrinkableTargets (take (first + 1) front) → ⊥) where
   front_length : length front ≡ placed
   front_length = ap length front_is ∙ length-take placed calls ∙ omega arith
 
@@ -703,15 +712,15 @@ module _ (ds calls front : List (ℕ × ℕ)) (placed first : ℕ)
   shrinkable_first =
       let low : first ≤ placed = omega (arith, front_length) in
       shrinkable_from ds (take first calls)
-      (subst (ArePlaced ds) (take-take first placed calls low) (placed_taken ds (take placed calls) first all_placed))
-      (subst AreOutside (front_taken first low) all_outside)
+      (subst (HaveShrinkableSites ds) (take-take first placed calls low) (sites_taken ds (take placed calls) first all_placed))
+      (subst HaveShrinkableTargets (front_taken first low) all_outside)
 
   pub not_shrinkable_next : first < length calls → AreShrinkable ds (take (first + 1) calls) → ⊥
   not_shrinkable_next low shrinkable = elim (cases_lt first placed) [
-    | inl short ↦ next_outside (omega (arith, front_length)) (subst AreOutside (sym (front_taken (first + 1) (omega arith))) shrinkable.outside)
+    | inl short ↦ next_outside (omega (arith, front_length)) (subst HaveShrinkableTargets (sym (front_taken (first + 1) (omega arith))) shrinkable.outside)
     | inr at ↦
         let same : first ≡ placed = omega (arith, front_length) in
-        next_placed (omega arith) (subst (λ n. ArePlaced ds (take (n + 1) calls)) same (placed_from ds (take (first + 1) calls) shrinkable))
+        next_placed (omega arith) (subst (λ n. HaveShrinkableSites ds (take (n + 1) calls)) same (sites_from ds (take (first + 1) calls) shrinkable))
   ]
 
 -- ---- what is merged
@@ -721,8 +730,8 @@ pub merged_distance : (all merged : List (ℕ × ℕ)) (site target : ℕ) → I
 merged_distance all merged site target union =
     ap (λ n. pos n -ℤ pos (rank all site)) (rank-permutation all merged target union.same) ∙ ap (λ n. pos (rank merged target) -ℤ pos n) (rank-permutation all merged site union.same)
 
-pub accepted : ShrunkCallsAreAccepted
-accepted link ds merged calls section chosen i call reach union within is =
+pub shrunk_calls_are_accepted : ShrunkCallsAreAccepted
+shrunk_calls_are_accepted link ds merged calls section chosen i call reach union within is =
     let site = (get_or calls i call).0 in
     let target = (get_or calls i call).1 in
     let same = merged_distance (with_chosen ds calls chosen) merged site target union in

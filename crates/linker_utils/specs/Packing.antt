@@ -7,6 +7,7 @@ use Rattle.linker_utils.specs.RiscV.{output_distance, call_len, NamesRegister, l
 use Rattle.linker_utils.specs.declared.riscv64.forms.RiscVInstruction.TheVariants.{JType}
 use Rattle.linker_utils.specs.declared.riscv64.packing.PackError.{PackError}
 use Rattle.linker_utils.specs.declared.riscv64.packing.PackError.TheVariants.{OutOfMemory, Call as RejectedCall}
+use Rattle.linker_utils.specs.declared.riscv64.calls.Call as calls
 use Rattle.linker_utils.specs.declared.riscv64.calls.LinkRegister.{LinkRegister}
 use Rattle.linker_utils.specs.declared.riscv64.calls.LinkRegister.TheVariants.{OfAuipc}
 use Rattle.linker_utils.specs.declared.riscv64.calls.CallError.TheVariants.{OutOfSection}
@@ -14,6 +15,10 @@ use Rattle.linker_utils.specs.declared.riscv64.calls.CallError.TheVariants.{Site
 use Rattle.linker_utils.specs.declared.riscv64.calls.CallError.TheVariants.{OddDistance, TooFar}
 use Rattle.linker_utils.specs.declared.riscv64.calls.JumpError.{JumpError}
 use Rattle.linker_utils.specs.declared.riscv64.calls.JumpError.TheVariants.{Call, NotACall}
+
+-- the call as a pair of its site and its target
+abbrev pub call_of : calls.Call → ℕ × ℕ
+call_of call = (call.site, call.target)
 
 -- the site of the second call is at least 4 above that of the first
 abbrev pub IsApart : ℕ × ℕ → ℕ × ℕ → Type 0

@@ -2,7 +2,7 @@
 //! are packed.
 
 pub use crate::riscv64::{
-    AsCall, AsChoice, PackError, RejectedCall, calls_apart, calls_shrinkable, first_not_apart,
+    AsChoice, Call, PackError, RejectedCall, calls_apart, calls_shrinkable, first_not_apart,
     first_not_shrinkable, pack_into, pack_section, packed_calls_reach_targets, packed_len,
     shrink_calls, shrink_calls_into, shrunk_calls_are_accepted,
 };

@@ -1,20 +1,17 @@
 -- Packing by the numbers that C sees.
 use Rattle.std.specs.Prelude.{◌≡◌, ◌⊎◌, ℕ, zero, suc, List, [], ◌∷◌, Option, None, Some, map, All}
-use Rattle.linker_utils.specs.Packing.{CanJump, IsFirstRejected, IsPacked}
+use Rattle.linker_utils.specs.Packing.{call_of, CanJump, IsFirstRejected, IsPacked}
+use Rattle.linker_utils.specs.declared.riscv64.calls.Call.{Call}
 use Rattle.linker_utils.specs.declared.riscv64.calls.LinkRegister.{LinkRegister}
 use Rattle.linker_utils.specs.declared.riscv64.calls.LinkRegister.TheVariants.{OfAuipc, OfJalr}
 use Rattle.linker_utils.specs.declared.riscv64.calls.CallError.TheVariants as call_errors
 use Rattle.linker_utils.specs.declared.riscv64.calls.JumpError.{JumpError}
 use Rattle.linker_utils.specs.declared.riscv64.calls.JumpError.TheVariants as jump_errors
-use Rattle.linker_utils_c.specs.declared.packing.Call.{Call}
 use Rattle.linker_utils_c.specs.declared.status.Status.{Status}
 use Rattle.linker_utils_c.specs.declared.status.Status.TheVariants.{Success, OutOfSection}
 use Rattle.linker_utils_c.specs.declared.status.Status.TheVariants.{SiteDeleted, OddDistance}
 use Rattle.linker_utils_c.specs.declared.status.Status.TheVariants.{TooFar, NotACall, CallsNotApart}
 use Rattle.linker_utils_c.specs.Status.{code}
-
-abbrev pub call_of : Call → ℕ × ℕ
-call_of call = (call.site, call.target)
 
 -- the calls as pairs of a site and a target
 abbrev pub calls_in : List Call → List (ℕ × ℕ)

@@ -1,7 +1,7 @@
 //! RISC-V calls that become jumps, and tests for shorter instructions.
 
 ghost use Rattle.std.specs.Prelude.{◌≡◌, ◌≢◌, ◌↔◌, ◌<◌, ◌≤◌, ◌+◌, IsTrue, IsOk, IsNone, IfSome};
-ghost use Rattle.std.specs.Prelude.{length};
+ghost use Rattle.std.specs.Prelude.{IfErr, length};
 ghost use Rattle.linker_base.specs.Bits.{signed};
 ghost use Rattle.linker_base.specs.Deltas.{deletions_of};
 ghost use Rattle.linker_base.specs.Listed.{AreValidDeltas};
@@ -10,7 +10,7 @@ ghost use Rattle.linker_utils.specs.RiscV.{link_register, call_len, NamesRegiste
 ghost use Rattle.linker_utils.specs.RiscV.{IsInSection, IsSiteKept, output_distance, FitsClui};
 ghost use Rattle.linker_utils.specs.RiscV.{HoldsHigh, IsSigned32, hi20, lo12};
 ghost use Rattle.linker_utils_c.specs.Status.{code, IsOneOf};
-ghost use Rattle.linker_utils_c.specs.Packing.{named_link, relax_statuses};
+ghost use Rattle.linker_utils_c.specs.Packing.{error_status, named_link, relax_statuses};
 ghost use Rattle.linker_utils.specs.declared.riscv64.calls.JumpError.{JumpError};
 
 use crate::status::Status;
@@ -85,17 +85,20 @@ pub(crate) fn chosen_register(link: u32) -> Option<LinkRegister>
 }
 
 // The status of a call that has become a jump, or of why it hasn't.
-fn jump_status(outcome: Result<(), JumpError>) -> u32
+pub(crate) fn jump_status(outcome: Result<(), JumpError>) -> u32
     ensures known { result ≢ code Status.UnknownLinkRegister }
     ensures success { (result ≡ code Status.Success) ↔ IsOk outcome }
     ensures out_of_section { (result ≡ code Status.OutOfSection)
         ↔ (outcome ≡ Err (JumpError.Call CallError.OutOfSection)) }
+    ensures site_deleted { (result ≡ code Status.SiteDeleted)
+        ↔ (outcome ≡ Err (JumpError.Call CallError.SiteDeleted)) }
     ensures not_a_call { (result ≡ code Status.NotACall)
         ↔ (outcome ≡ Err JumpError.NotACall) }
     ensures odd_distance { (result ≡ code Status.OddDistance)
         ↔ (outcome ≡ Err (JumpError.Call CallError.OddDistance)) }
     ensures too_far { (result ≡ code Status.TooFar)
         ↔ (outcome ≡ Err (JumpError.Call CallError.TooFar)) }
+    ensures numbered { IfErr outcome (λ error. result ≡ code (error_status error)) }
 {
     match outcome {
         Ok(()) => Status::Success.number(),
@@ -141,9 +144,10 @@ pub extern "C" fn linker_utils_relax_call_nonnull(
     call_status(riscv64::relax_call_over(section, &DeltaSlice::new(deltas), site, target))
 }
 
-// The status of a call that has become a jump, or of why it hasn't.
+// The status of a call that has become a jump, or of why it hasn't for a cause that any choice of
+// the register has.
 #[inline(always)]
-pub(crate) fn call_status(outcome: Result<(), CallError>) -> u32
+fn call_status(outcome: Result<(), CallError>) -> u32
     ensures listed { IsOneOf relax_statuses result }
     ensures success { (result ≡ code Status.Success) ↔ IsOk outcome }
     ensures out_of_section { (result ≡ code Status.OutOfSection)
@@ -156,10 +160,7 @@ pub(crate) fn call_status(outcome: Result<(), CallError>) -> u32
 {
     match outcome {
         Ok(()) => Status::Success.number(),
-        Err(CallError::OutOfSection) => Status::OutOfSection.number(),
-        Err(CallError::SiteDeleted) => Status::SiteDeleted.number(),
-        Err(CallError::OddDistance) => Status::OddDistance.number(),
-        Err(CallError::TooFar) => Status::TooFar.number(),
+        Err(error) => jump_status(Err(JumpError::Call(error))),
     }
 }
 

@@ -6,32 +6,13 @@ ghost use Rattle.linker_base.specs.Deltas.{deletions_of};
 ghost use Rattle.linker_base.specs.Listed.{AreValidDeltas};
 ghost use Rattle.linker_utils.specs.Packing.{AreApart, IsFirstNotApart};
 ghost use Rattle.linker_utils_c.specs.Status.{code, IsOneOf};
-ghost use Rattle.linker_utils_c.specs.Packing.{call_of, calls_in, named_link, error_status, call_statuses};
+ghost use Rattle.linker_utils_c.specs.Packing.{calls_in, named_link, call_statuses};
 ghost use Rattle.linker_utils_c.specs.Packing.{IsPackedOrRejected};
 
-use crate::calls::{call_status, chosen_register};
+use crate::calls::{chosen_register, jump_status};
 use crate::status::Status;
-use linker_utils::relaxation::{AsCall, RelaxDelta, first_not_apart, pack_into, packed_len};
-use linker_utils::riscv64::{JumpError, LinkRegister};
-
-/// A call in a section.
-#[repr(C)]
-#[derive(Clone, Copy)]
-pub struct Call {
-    /// The offset in the input section of the `auipc`.
-    pub site: u64,
-    /// The offset in the input section of what it calls.
-    pub target: u64,
-}
-
-impl AsCall for Call {
-    ghost call = { call_of };
-
-    #[inline(always)]
-    fn as_call(self) -> (u64, u64) {
-        (self.site, self.target)
-    }
-}
+use linker_utils::relaxation::RelaxDelta;
+use linker_utils::riscv64::{Call, LinkRegister, first_not_apart, pack_into, packed_len};
 
 /// How many bytes of a section are kept: as many as `linker_utils_pack` writes.
 #[unsafe(no_mangle)]
@@ -108,8 +89,8 @@ fn pack(
         → IsFirstNotApart (calls_in calls.now) faulty.new }
     ensures faulty_stays { ¬ IsOneOf call_statuses result → faulty.new ≡ faulty.old }
 {
-    if let Some(at) = first_not_apart(calls) {
-        *faulty = at;
+    if let Some(index) = first_not_apart(calls) {
+        *faulty = index;
         return Status::CallsNotApart.number();
     }
     if packed.len() != packed_len(section, deltas) {
@@ -119,17 +100,7 @@ fn pack(
         Ok(()) => Status::Success.number(),
         Err(rejected) => {
             *faulty = rejected.index;
-            error_number(rejected.error)
+            jump_status(Err(rejected.error))
         }
-    }
-}
-
-// The number of why a call can't become a jump.
-fn error_number(error: JumpError) -> u32
-    ensures { result ≡ code (error_status error) }
-{
-    match error {
-        JumpError::Call(error) => call_status(Err(error)),
-        JumpError::NotACall => Status::NotACall.number(),
     }
 }

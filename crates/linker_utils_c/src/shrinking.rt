@@ -8,9 +8,9 @@ ghost use Rattle.linker_utils_c.specs.Status.{code};
 ghost use Rattle.linker_utils_c.specs.Packing.{calls_in};
 ghost use Rattle.linker_utils_c.specs.Shrinking.{choice_in};
 
-use crate::packing::Call;
 use crate::status::Status;
-use linker_utils::relaxation::{RelaxDelta, first_not_shrinkable, shrink_calls_into};
+use linker_utils::relaxation::RelaxDelta;
+use linker_utils::riscv64::{Call, first_not_shrinkable, shrink_calls_into};
 
 /// Whether `linker_utils_shrink_calls` accepts the calls: their sites ascend by at least 8, the
 /// eight bytes at each site are kept, the four bytes after each call's first instruction may be
@@ -31,8 +31,8 @@ pub extern "C" fn linker_utils_calls_shrinkable_nonnull(
     ensures faulty_stays { result ≡ code Status.Success → faulty.new ≡ faulty.old }
 {
     match first_not_shrinkable(deltas, calls) {
-        Some(at) => {
-            *faulty = at;
+        Some(index) => {
+            *faulty = index;
             Status::CallsNotShrinkable.number()
         }
         None => Status::Success.number(),
@@ -70,8 +70,8 @@ pub extern "C" fn linker_utils_shrink_calls_nonnull(
     if chosen.len() != calls.len() {
         return Status::DifferentLengths.number();
     }
-    if let Some(at) = first_not_shrinkable(deltas, calls) {
-        *faulty = at;
+    if let Some(index) = first_not_shrinkable(deltas, calls) {
+        *faulty = index;
         return Status::CallsNotShrinkable.number();
     }
     shrink_calls_into(deltas, calls, chosen);

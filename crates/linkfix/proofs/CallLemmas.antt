@@ -11,7 +11,7 @@ use Rattle.std.proofs.lemmas.List.Sorted.{IsPermutation-insert, IsPermutation-to
 use Rattle.linker_utils.specs.Packing.{AreApart, IsApart}
 use Rattle.linker_utils.proofs.Packed.{apart_take}
 use Rattle.linker_utils.specs.declared.riscv64.calls.CallError.{CallError}
-use Rattle.linkfix.specs.AcceptedCalls.{AreBySite, IsFarFrom, IsPlace}
+use Rattle.linkfix.specs.AcceptedCalls.{AreBySite, IsFarFrom, IsInsertionIndex}
 use Rattle.linkfix.specs.Execution.{CallFailsWith, Rejects}
 use Rattle.linkfix.specs.declared.commands.Command.TheVariants.{Call}
 use Rattle.linkfix.specs.declared.program.ReportedError.{ReportedError}
@@ -32,9 +32,9 @@ pub parted_by_test : (calls : List (ℕ × ℕ)) (site at : ℕ) → IsPartition
 parted_by_test calls site at parted = (λ k d low high. let test = parted.0 k d low high in grind (arith, nat_tests), λ k d low high. let test = parted.1 k d low high in grind (arith, nat_tests))
 
 -- a site that is far from the last call below it and from the next is far from all
-pub place_between : (calls : List (ℕ × ℕ)) (site at : ℕ) → at ≤ length calls → AreApart calls
-    → (0 < at → 4 ≤ site - (get_or calls (at - 1) (0, 0)).0) → (at < length calls → 4 ≤ (get_or calls at (0, 0)).0 - site) → IsPlace calls site at
-place_between calls site at within apart last next = record { within = within; above = above; below = below }
+pub index_between : (calls : List (ℕ × ℕ)) (site at : ℕ) → at ≤ length calls → AreApart calls
+    → (0 < at → 4 ≤ site - (get_or calls (at - 1) (0, 0)).0) → (at < length calls → 4 ≤ (get_or calls at (0, 0)).0 - site) → IsInsertionIndex calls site at
+index_between calls site at within apart last next = record { within = within; above = above; below = below }
   where
     last_far : (d : ℕ × ℕ) → 0 < at → (get_or calls (at - 1) d).0 + 4 ≤ site
     last_far d some = rw (get_or_default calls (at - 1) d (0, 0) (omega arith)) (omega (arith, last some))
@@ -75,29 +75,29 @@ apart_joined xs ys first second across i j d lt within =
 apart_drop : (calls : List (ℕ × ℕ)) (n : ℕ) → AreApart calls → AreApart (drop n calls)
 apart_drop calls n apart i j d lt within = rw (get_or-drop n calls i d, get_or-drop n calls j d) (apart (n + i) (n + j) d (omega arith) (omega (arith, length-drop n calls)))
 
--- a call at its place keeps the order
-pub apart_inserted : (calls : List (ℕ × ℕ)) (site target at : ℕ) → AreApart calls → IsPlace calls site at → AreApart (insert calls at (site, target))
-apart_inserted calls site target at apart place =
+-- a call inserted at its index keeps the order
+pub apart_inserted : (calls : List (ℕ × ℕ)) (site target at : ℕ) → AreApart calls → IsInsertionIndex calls site at → AreApart (insert calls at (site, target))
+apart_inserted calls site target at apart is_index =
     let call : ℕ × ℕ = (site, target) in
-    apart_joined (take at calls) (call ∷ drop at calls) (apart_take calls at apart) (AllPairs-cons IsApart call (drop at calls) place.below (apart_drop calls at apart))
-    (λ k d inside. All-cons (IsApart (get_or (take at calls) k d)) call (drop at calls) (place.above k d inside)
-    (λ j e within. omega (arith, place.above k d inside, place.below j e within)))
+    apart_joined (take at calls) (call ∷ drop at calls) (apart_take calls at apart) (AllPairs-cons IsApart call (drop at calls) is_index.below (apart_drop calls at apart))
+    (λ k d inside. All-cons (IsApart (get_or (take at calls) k d)) call (drop at calls) (is_index.above k d inside)
+    (λ j e within. omega (arith, is_index.above k d inside, is_index.below j e within)))
 
-pub by_site_inserted : (calls : List (ℕ × ℕ)) (site target at : ℕ) → AreApart calls → IsPlace calls site at → AreBySite (calls ++ (site, target) ∷ []) (insert calls at (site, target))
-by_site_inserted calls site target at apart place =
+pub by_site_inserted : (calls : List (ℕ × ℕ)) (site target at : ℕ) → AreApart calls → IsInsertionIndex calls site at → AreBySite (calls ++ (site, target) ∷ []) (insert calls at (site, target))
+by_site_inserted calls site target at apart is_index =
     let call : ℕ × ℕ = (site, target) in
     record {
       same = IsPermutation-trans (calls ++ call ∷ []) (call ∷ calls) (insert calls at call) (IsPermutation-to_front calls call) (IsPermutation-insert calls at call);
-      apart = apart_inserted calls site target at apart place;
+      apart = apart_inserted calls site target at apart is_index;
     }
 
 -- it is far from all calls
-pub far_from_place : (calls : List (ℕ × ℕ)) (site at : ℕ) → IsPlace calls site at → All (IsFarFrom site) calls
-far_from_place calls site at place k d within = elim (cases_lt k at) [
-  | inl low ↦ let above = place.above k d (omega (arith, length-take at calls)) in inl (rw (get_or-take at calls k d low) at above)
+pub far_from_all : (calls : List (ℕ × ℕ)) (site at : ℕ) → IsInsertionIndex calls site at → All (IsFarFrom site) calls
+far_from_all calls site at is_index k d within = elim (cases_lt k at) [
+  | inl low ↦ let above = is_index.above k d (omega (arith, length-take at calls)) in inl (rw (get_or-take at calls k d low) at above)
   | inr high ↦
       let same : at + (k - at) ≡ k = omega arith in
-      let below = place.below (k - at) d (omega (arith, length-drop at calls)) in inr (rw (get_or-drop at calls (k - at) d, same) at below)
+      let below = is_index.below (k - at) d (omega (arith, length-drop at calls)) in inr (rw (get_or-drop at calls (k - at) d, same) at below)
 ]
 
 -- a call that is far from all and still rejected fails with some cause

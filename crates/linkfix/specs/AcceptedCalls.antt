@@ -16,8 +16,9 @@ pub record AreBySite (all calls : List (ℕ × ℕ)) : Type 0 where
   pub same : IsPermutation all calls
   pub apart : AreApart calls
 
--- Where a call at the site belongs: at least 4 above the calls before it, and 4 below those behind.
-pub record IsPlace (calls : List (ℕ × ℕ)) (site at : ℕ) : Type 0 where
-  pub within : at ≤ length calls
-  pub above : All (λ call. call.0 + 4 ≤ site) (take at calls)
-  pub below : All (λ call. site + 4 ≤ call.0) (drop at calls)
+-- A call at the site belongs at the index: the calls before it are at least 4 below, and the others 4
+-- above.
+pub record IsInsertionIndex (calls : List (ℕ × ℕ)) (site index : ℕ) : Type 0 where
+  pub within : index ≤ length calls
+  pub above : All (λ call. call.0 + 4 ≤ site) (take index calls)
+  pub below : All (λ call. site + 4 ≤ call.0) (drop index calls)

@@ -3,7 +3,7 @@
 ghost use Rattle.std.specs.Prelude.{◌≡◌, ◌<◌, ◌≤◌, ◌++◌, ◌∷◌, [], All, OnOk, MatchOption, length};
 ghost use Rattle.std.specs.List.Sorted.{IsPartitionPoint};
 ghost use Rattle.linker_utils.specs.Packing.{AreApart};
-ghost use Rattle.linkfix.specs.AcceptedCalls.{AreBySite, IsFarFrom, IsPlace};
+ghost use Rattle.linkfix.specs.AcceptedCalls.{AreBySite, IsFarFrom, IsInsertionIndex};
 
 use std::alloc::{AllocError, Global};
 use std::marker::Model;
@@ -53,11 +53,11 @@ impl AcceptedCalls {
 
     /// The index at which a call at `site` belongs. None where the site is less than 4 from that of
     /// a call. The search takes O(log n).
-    pub fn place_of(&self, site: u64) -> Option<usize>
+    pub fn insertion_index(&self, site: u64) -> Option<usize>
         ensures { MatchOption result (¬ All (IsFarFrom site) self.now.by_site)
-            (IsPlace self.now.by_site site) }
+            (IsInsertionIndex self.now.by_site site) }
     {
-        place_among(&self.calls, site)
+        insertion_index_among(&self.calls, site)
     }
 
     /// Takes room for one more call.
@@ -69,28 +69,28 @@ impl AcceptedCalls {
     }
 
     /// Puts a call at its index, behind room that was taken.
-    pub fn insert(&mut self, at: usize, site: u64, target: u64)
+    pub fn insert(&mut self, index: usize, site: u64, target: u64)
         requires room { 0 < self.old.room }
-        requires place { IsPlace self.old.by_site site at }
+        requires index { IsInsertionIndex self.old.by_site site index }
         ensures { AreBySite (self.old.by_site ++ (site, target) ∷ []) self.new.by_site }
     {
-        let _ = self.calls.insert(at, (site, target));
+        let _ = self.calls.insert(index, (site, target));
     }
 }
 
-/// The index at which a call at `site` belongs among calls by site, as `place_of` gives it.
-fn place_among(calls: &[(u64, u64)], site: u64) -> Option<usize>
+/// The index at which a call at `site` belongs among calls by site, as `insertion_index` gives it.
+fn insertion_index_among(calls: &[(u64, u64)], site: u64) -> Option<usize>
     requires { AreApart calls.now }
-    ensures { MatchOption result (¬ All (IsFarFrom site) calls.now) (IsPlace calls.now site) }
+    ensures { MatchOption result (¬ All (IsFarFrom site) calls.now) (IsInsertionIndex calls.now site) }
 {
-    let at = count_below(calls, site);
-    if at > 0 && site.saturating_sub(calls[at - 1].0) < JUMP_LEN {
+    let index = count_below(calls, site);
+    if index > 0 && site.saturating_sub(calls[index - 1].0) < JUMP_LEN {
         return None;
     }
-    if at < calls.len() && calls[at].0.saturating_sub(site) < JUMP_LEN {
+    if index < calls.len() && calls[index].0.saturating_sub(site) < JUMP_LEN {
         return None;
     }
-    Some(at)
+    Some(index)
 }
 
 /// How many of the calls have a lower site.

@@ -295,7 +295,7 @@ impl SectionState {
             }
             Command::Show => Ok(Answer::Line(section_line(self.alloc, &self.section)?)),
             Command::Pack => {
-                let packed = self.packed()?;
+                let packed = self.pack()?;
                 Ok(Answer::Line(section_line(self.alloc, &packed)?))
             }
         }
@@ -352,12 +352,12 @@ impl SectionState {
             × (self.new.calls.by_site ≡ self.old.calls.by_site)) }
         ensures deltas_stay { self.new.deltas ≡ self.old.deltas }
     {
-        let Some(at) = self.calls.place_of(site) else {
+        let Some(index) = self.calls.insertion_index(site) else {
             return Err(ReportedError::BadCall);
         };
         self.calls.reserve_one()?;
         self.jump(site, target)?;
-        self.calls.insert(at, site, target);
+        self.calls.insert(index, site, target);
         Ok(())
     }
 
@@ -376,7 +376,7 @@ impl SectionState {
     }
 
     /// The section packed, with the accepted calls made jumps.
-    fn packed(&self) -> Result<Vec<u8>, ReportedError>
+    fn pack(&self) -> Result<Vec<u8>, ReportedError>
         ensures packed { IfOk result (λ packed. IsPacked LinkRegister.OfAuipc self.now.deltas
             self.now.section.items self.now.calls.by_site packed.items) }
         ensures rejected { IfErr result (λ error. Rejects Command.Pack self.now error

@@ -19,18 +19,19 @@ pub record IsRunStart (deletions : List (ℕ × ℕ)) (passed from : ℕ) : Type
   pub ahead : (j : ℕ) (d : ℕ × ℕ) → passed ≤ j → j < length deletions
       → from ≤ (slice_index_or deletions j d).0
 
--- the kept bytes up to the run that begins at an offset are copied, and the next goes to `at`
-pub record IsCopied (deletions : List (ℕ × ℕ)) (section : List ℕ) (passed from at : ℕ)
+-- the kept bytes up to the run that begins at an offset are copied, and the next has the output
+-- offset
+pub record IsCopied (deletions : List (ℕ × ℕ)) (section : List ℕ) (passed from output_offset : ℕ)
     (packed : List ℕ) : Type 0 where
   pub start : IsRunStart deletions passed from
-  pub place : at ≡ rank deletions (min from (length section))
+  pub output_offset_is : output_offset ≡ rank deletions (min from (length section))
   pub filled : IsFilled deletions section (min from (length section)) packed
 
 -- the jump that a call becomes
 pub record IsJumpOf (link : LinkRegister) (deletions : List (ℕ × ℕ)) (section : List ℕ)
     (call : ℕ × ℕ) (jump : Jump) : Type 0 where
   pub can : CanJump link deletions section call
-  pub place : jump.at ≡ rank deletions call.0
+  pub output_offset : jump.output_offset ≡ rank deletions call.0
   pub distance : jump.distance ≡ output_distance deletions call.0 call.1
 
 -- all is packed, and the first calls are jumps

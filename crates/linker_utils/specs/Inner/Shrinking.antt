@@ -38,17 +38,12 @@ abbrev pub IsApartAt : List (ℕ × ℕ) → ℕ → Type 0
 IsApartAt calls at = (call : ℕ × ℕ) → 0 < at
     → (slice_index_or calls (at - 1) call).0 + 8 ≤ (slice_index_or calls at call).0
 
--- the calls before one index have their second instruction below the offset, and those from another
--- on don't
-pub record IsSplitBetween (calls : List (ℕ × ℕ)) (offset from to : ℕ) : Type 0 where
-  pub below : (i : ℕ) (call : ℕ × ℕ) → i < from → i < length calls
+-- the calls before the index have their second instruction below the offset, and the others don't
+pub record IsSplit (calls : List (ℕ × ℕ)) (offset split : ℕ) : Type 0 where
+  pub below : (i : ℕ) (call : ℕ × ℕ) → i < split → i < length calls
       → (slice_index_or calls i call).0 + 4 < offset
-  pub others : (i : ℕ) (call : ℕ × ℕ) → to ≤ i → i < length calls
+  pub others : (i : ℕ) (call : ℕ × ℕ) → split ≤ i → i < length calls
       → offset ≤ (slice_index_or calls i call).0 + 4
-
--- and so there is nothing between the two
-abbrev pub IsSplit : List (ℕ × ℕ) → ℕ → ℕ → Type 0
-IsSplit calls offset split = IsSplitBetween calls offset split split
 
 -- the call at the index is in reach once the chosen ones have given up their bytes
 abbrev pub IsInReachAt : List (ℕ × ℕ) → List (ℕ × ℕ) → List Bool → ℕ → Type 0
@@ -62,14 +57,14 @@ KeepsOthers deletions calls before after =
     → IsPartOf other before → IsPartOf other after
 
 -- the calls are shrinkable as far as their sites go
-pub record ArePlaced (deletions calls : List (ℕ × ℕ)) : Type 0 where
+pub record HaveShrinkableSites (deletions calls : List (ℕ × ℕ)) : Type 0 where
   pub apart : AreEightApart calls
   pub kept : All (λ call. AreKept deletions call.0 8) calls
   pub mergeable : AreDisjoint (deletions ++ map shrinking calls)
 
 -- and as far as their targets go
-abbrev pub AreOutside : List (ℕ × ℕ) → Type 0
-AreOutside calls = All (λ call. ¬ IsInsideDeletion (map shrinking calls) call.1) calls
+abbrev pub HaveShrinkableTargets : List (ℕ × ℕ) → Type 0
+HaveShrinkableTargets calls = All (λ call. ¬ IsInsideDeletion (map shrinking calls) call.1) calls
 
 -- the offset is strictly inside what the call at the index deletes
 abbrev pub IsAround : List (ℕ × ℕ) → ℕ → ℕ → Type 0

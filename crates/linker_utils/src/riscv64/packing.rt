@@ -14,30 +14,11 @@ ghost use Rattle.linker_utils.specs.RiscV.{IsEven, IsJalDistance, IsSiteKept, Ju
 ghost use Rattle.linker_utils.specs.RiscV.{call_len, link_register, output_distance};
 
 use super::calls::{
-    CallError, JumpError, LinkRegister, distance_between, distance_fits_jal, is_even, jal_site,
+    AsCall, CallError, JumpError, LinkRegister, distance_between, jal_site, test_distance,
 };
 use crate::relaxation::{DeltaSlice, RelaxDelta, SectionRelaxDeltas};
 use crate::rewrite::{has_window, overwrite};
 use std::alloc::{AllocError, AllocFailed, Global};
-
-/// A call in a section: a pair of its site and its target, or a caller's own struct.
-pub trait AsCall: Copy {
-    /// The call as a pair, in a contract.
-    ghost call: { Self → ℕ × ℕ };
-
-    /// The offsets of the call's first instruction and of what it calls.
-    fn as_call(self) -> (u64, u64)
-        ensures { result ≡ call self };
-}
-
-impl AsCall for (u64, u64) {
-    ghost call = { λ c. c };
-
-    #[inline(always)]
-    fn as_call(self) -> (u64, u64) {
-        self
-    }
-}
 
 /// The first of some calls that can't become a jump.
 #[derive(Debug, Clone, Copy, PartialEq, Eq)]
@@ -84,7 +65,7 @@ impl<T: Drop> From<AllocFailed<T>> for PackError {
 
 /// The output offset of an input offset.
 #[inline(always)]
-pub(super) fn output_offset(deltas: &[RelaxDelta], input_offset: u64) -> u64
+pub(super) fn to_output_offset(deltas: &[RelaxDelta], input_offset: u64) -> u64
     ensures { AreValidDeltas deltas.now → result ≡ rank (deletions_of deltas.now) input_offset }
 {
     DeltaSlice::new(deltas).input_to_output_offset(input_offset)
@@ -109,11 +90,11 @@ pub fn first_not_apart<C: AsCall>(calls: &[C]) -> Option<usize>
     ensures { MatchOption result (AreApart (map C.call calls.now))
         (IsFirstNotApart (map C.call calls.now)) }
 {
-    for at in 1..calls.len() {
-        let (before, _) = calls[at - 1].as_call();
-        let (site, _) = calls[at].as_call();
+    for index in 1..calls.len() {
+        let (before, _) = calls[index - 1].as_call();
+        let (site, _) = calls[index].as_call();
         if site.saturating_sub(before) < 4 {
-            return Some(at);
+            return Some(index);
         }
     }
     None
@@ -143,19 +124,21 @@ fn between(section: &[u8], from: u64, to: u64) -> &[u8]
     }
 }
 
-/// Puts bytes at an offset of the packed section, as far as they fit there, and returns the offset
-/// behind them.
+/// Puts bytes at an output offset of the packed section, as far as they fit there, and returns the
+/// offset behind them.
 #[inline(always)]
-fn put(packed: &mut [u8], at: usize, bytes: &[u8]) -> usize
-    requires { at ≤ length packed.old }
+fn put(packed: &mut [u8], output_offset: usize, bytes: &[u8]) -> usize
+    requires { output_offset ≤ length packed.old }
     ensures bytes { packed.new
-        ≡ take at packed.old ++ take (length packed.old - at) bytes.now
-        ++ drop (at + length bytes.now) packed.old }
-    ensures end { result ≡ at + min (length bytes.now) (length packed.old - at) }
+        ≡ take output_offset packed.old ++ take (length packed.old - output_offset) bytes.now
+        ++ drop (output_offset + length bytes.now) packed.old }
+    ensures end { result
+        ≡ output_offset + min (length bytes.now) (length packed.old - output_offset) }
 {
-    let len = bytes.len().min(packed.len() - at);
-    packed[at..at + len].copy_from_slice(&bytes[..len]);
-    at + len
+    let len = bytes.len().min(packed.len() - output_offset);
+    let end = output_offset + len;
+    packed[output_offset..end].copy_from_slice(&bytes[..len]);
+    end
 }
 
 /// Copies the kept bytes of a section.
@@ -165,20 +148,22 @@ fn copy_kept(section: &[u8], deltas: &[RelaxDelta], packed: &mut [u8])
         → IsFilled (deletions_of deltas.now) section.now (length section.now) packed.new }
 {
     let mut from = 0;
-    let mut at = 0;
+    let mut output_offset = 0;
     for delta in deltas {
-        at = put(packed, at, between(section, from, delta.input_offset));
+        let run = between(section, from, delta.input_offset);
+        output_offset = put(packed, output_offset, run);
         from = delta
             .input_offset
             .saturating_add(u64::from(delta.bytes_deleted));
     }
-    let _end = put(packed, at, between(section, from, section.len() as u64));
+    let run = between(section, from, section.len() as u64);
+    let _end = put(packed, output_offset, run);
 }
 
 /// Where the jump of a call goes in the packed section, and how far it jumps.
 #[derive(Clone, Copy)]
 struct Jump {
-    at: u64,
+    output_offset: u64,
     distance: i64,
 }
 
@@ -199,20 +184,18 @@ fn jump_of(
     if !has_window(section, site, 0, link.call_len()) || target > section.len() as u64 {
         return Err(JumpError::Call(CallError::OutOfSection));
     }
-    let Some(at) = site_output_offset(deltas, site) else {
+    let Some(output_offset) = site_output_offset(deltas, site) else {
         return Err(JumpError::Call(CallError::SiteDeleted));
     };
     let Some(_register) = link.named_at(section, site) else {
         return Err(JumpError::NotACall);
     };
-    let distance = distance_between(at, output_offset(deltas, target));
-    if !is_even(distance) {
-        return Err(JumpError::Call(CallError::OddDistance));
-    }
-    if !distance_fits_jal(distance) {
-        return Err(JumpError::Call(CallError::TooFar));
-    }
-    Ok(Jump { at, distance })
+    let distance = distance_between(output_offset, to_output_offset(deltas, target));
+    test_distance(distance)?;
+    Ok(Jump {
+        output_offset,
+        distance,
+    })
 }
 
 /// Whether each call can become a jump; the error is that of the first that can't.
@@ -242,17 +225,17 @@ fn test_calls<C: AsCall>(
 /// Puts a jump into the packed section, where four bytes are there.
 fn put_jump(section: &[u8], site: u64, link: LinkRegister, jump: Jump, packed: &mut [u8])
     requires { site + call_len link ≤ length section.now }
-    ensures { jump.at + 4 ≤ length packed.old → IsEven jump.distance → IsJalDistance jump.distance
-        → JumpsAndLinks packed.old packed.new jump.at (link_register link section.now site)
-        jump.distance }
+    ensures { jump.output_offset + 4 ≤ length packed.old → IsEven jump.distance → IsJalDistance jump.distance
+        → JumpsAndLinks packed.old packed.new jump.output_offset
+        (link_register link section.now site) jump.distance }
 {
-    if !has_window(packed, jump.at, 0, 4) {
+    if !has_window(packed, jump.output_offset, 0, 4) {
         return;
     }
     // `jal_site` links the register of the instruction that it replaces.
     let start = (site + link.call_len() - 4) as usize;
-    overwrite(packed, jump.at, &section[start..start + 4]);
-    let _ = jal_site(packed, jump.at, jump.distance);
+    overwrite(packed, jump.output_offset, &section[start..start + 4]);
+    let _ = jal_site(packed, jump.output_offset, jump.distance);
 }
 
 /// Puts the jump of a call into the packed section, where it can become one.
@@ -291,8 +274,8 @@ fn put_calls<C: AsCall>(
         → IsFilled (deletions_of deltas.now) section.now (length section.now) packed.old
         → IsPacked link (deletions_of deltas.now) section.now (map C.call calls.now) packed.new }
 {
-    for at in 0..calls.len() {
-        let (site, target) = calls[at].as_call();
+    for index in 0..calls.len() {
+        let (site, target) = calls[index].as_call();
         put_call(section, deltas, site, target, link, packed);
     }
 }
@@ -303,7 +286,7 @@ pub fn packed_len(section: &[u8], deltas: &[RelaxDelta]) -> usize
     ensures { AreValidDeltas deltas.now
         → result ≡ rank (deletions_of deltas.now) (length section.now) }
 {
-    output_offset(deltas, section.len() as u64) as usize
+    to_output_offset(deltas, section.len() as u64) as usize
 }
 
 /// Packs a section into memory of the caller's: its kept bytes in order, and at each call's site,

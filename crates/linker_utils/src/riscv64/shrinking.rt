@@ -7,15 +7,15 @@ ghost use Rattle.linker_base.specs.Deletions.{AreDisjoint, AreKept};
 ghost use Rattle.linker_base.specs.Deltas.{deletions_of};
 ghost use Rattle.linker_base.specs.Listed.{AreValidDeltas};
 ghost use Rattle.linker_utils.specs.Inner.Shrinking.{chosen_count, chosen_between, AreEightApart};
-ghost use Rattle.linker_utils.specs.Inner.Shrinking.{IsSplit, KeepsOthers, IsInReachAt, ArePlaced};
-ghost use Rattle.linker_utils.specs.Inner.Shrinking.{AreOutside, IsAround, IsApartAt, AreRunsOf};
+ghost use Rattle.linker_utils.specs.Inner.Shrinking.{IsSplit, KeepsOthers, IsInReachAt, HaveShrinkableSites};
+ghost use Rattle.linker_utils.specs.Inner.Shrinking.{HaveShrinkableTargets, IsAround, IsApartAt, AreRunsOf};
 ghost use Rattle.linker_utils.specs.Inner.Shrinking.{distance_over};
 ghost use Rattle.linker_utils.specs.RiscV.{IsEven, IsJalDistance};
 ghost use Rattle.linker_utils.specs.Shrinking.{IsChosen, AreInReach, IsGreatest, AreShrinkable};
 ghost use Rattle.linker_utils.specs.Shrinking.{IsFirstNotShrinkable, ShrunkCallsAreAccepted};
 
-use super::calls::{distance_fits_jal, is_even};
-use super::packing::{AsCall, output_offset};
+use super::calls::{AsCall, test_distance};
+use super::packing::to_output_offset;
 use crate::relaxation::{DeltaSlice, OutOfMemory, RelaxDelta, SectionRelaxDeltas};
 use std::alloc::Global;
 
@@ -78,19 +78,10 @@ fn calls_below<C: AsCall>(calls: &[C], offset: u64) -> usize
     ensures split { AreEightApart (map C.call calls.now)
         → IsSplit (map C.call calls.now) offset result }
 {
-    let mut start = 0;
-    let mut len = calls.len();
-    while len > 0 {
-        let half = len / 2;
-        let (site, _) = calls[start + half].as_call();
-        if site.saturating_add(4) < offset {
-            start += half + 1;
-            len -= half + 1;
-        } else {
-            len = half;
-        }
-    }
-    start
+    calls.partition_point(|call| {
+        let (site, _) = call.as_call();
+        site.saturating_add(4) < offset
+    })
 }
 
 /// How many calls are chosen from an index up to another.
@@ -181,7 +172,7 @@ fn reaches(from: u64, to: u64) -> bool
     } else {
         -(distance as i64)
     };
-    is_even(distance) && distance_fits_jal(distance)
+    test_distance(distance).is_ok()
 }
 
 /// Whether a `jal` from the output offset of a call's site to that of its target reaches, once so
@@ -218,8 +209,8 @@ fn is_in_reach<C: AsCall, A: AsChoice>(
         (map A.choice answer.now) index) }
 {
     let (site, target) = calls[index].as_call();
-    let from = output_offset(deltas, site);
-    let to = output_offset(deltas, target);
+    let from = to_output_offset(deltas, site);
+    let to = to_output_offset(deltas, target);
     if reaches(from, to) {
         return true;
     }
@@ -307,7 +298,7 @@ fn choose_all<A: AsChoice>(answer: &mut [A])
 }
 
 /// Whether a call's eight bytes are kept, and the four that it loses may be deleted.
-fn is_placed(deltas: &[RelaxDelta], site: u64) -> bool
+fn is_shrinkable_site(deltas: &[RelaxDelta], site: u64) -> bool
     ensures { AreValidDeltas deltas.now → (IsTrue result
         ↔ (AreKept (deletions_of deltas.now) site 8
         × AreDisjoint (deletions_of deltas.now ++ (site + 4, 4) ∷ []))) }
@@ -319,30 +310,30 @@ fn is_placed(deltas: &[RelaxDelta], site: u64) -> bool
 }
 
 /// Whether the site of the call at an index is at least 8 above the one before it, if there is one.
-fn is_apart<C: AsCall>(calls: &[C], at: usize) -> bool
-    requires { at < length calls.now }
-    ensures { IsTrue result ↔ IsApartAt (map C.call calls.now) at }
+fn is_apart<C: AsCall>(calls: &[C], index: usize) -> bool
+    requires { index < length calls.now }
+    ensures { IsTrue result ↔ IsApartAt (map C.call calls.now) index }
 {
-    let Some(before) = at.checked_sub(1) else {
+    let Some(before) = index.checked_sub(1) else {
         return true;
     };
-    let (site, _) = calls[at].as_call();
+    let (site, _) = calls[index].as_call();
     let (site_before, _) = calls[before].as_call();
     site.saturating_sub(site_before) >= 8
 }
 
 /// How many of the first calls may be shrunk as far as their sites go.
-fn placed_len<C: AsCall>(deltas: &[RelaxDelta], calls: &[C]) -> usize
+fn shrinkable_sites_len<C: AsCall>(deltas: &[RelaxDelta], calls: &[C]) -> usize
     ensures within { result ≤ length calls.now }
-    ensures placed { AreValidDeltas deltas.now
-        → ArePlaced (deletions_of deltas.now) (take result (map C.call calls.now)) }
+    ensures sites { AreValidDeltas deltas.now
+        → HaveShrinkableSites (deletions_of deltas.now) (take result (map C.call calls.now)) }
     ensures next { AreValidDeltas deltas.now → result < length calls.now
-        → ¬ ArePlaced (deletions_of deltas.now) (take (result + 1) (map C.call calls.now)) }
+        → ¬ HaveShrinkableSites (deletions_of deltas.now) (take (result + 1) (map C.call calls.now)) }
 {
-    for at in 0..calls.len() {
-        let (site, _) = calls[at].as_call();
-        if !is_apart(calls, at) || !is_placed(deltas, site) {
-            return at;
+    for index in 0..calls.len() {
+        let (site, _) = calls[index].as_call();
+        if !is_apart(calls, index) || !is_shrinkable_site(deltas, site) {
+            return index;
         }
     }
     calls.len()
@@ -351,10 +342,10 @@ fn placed_len<C: AsCall>(deltas: &[RelaxDelta], calls: &[C]) -> usize
 /// The index of the call with an offset strictly inside the four bytes that it loses, if there
 /// is one.
 fn call_around<C: AsCall>(calls: &[C], offset: u64) -> Option<usize>
-    ensures within { IfSome result (λ at. at < length calls.now) }
+    ensures within { IfSome result (λ index. index < length calls.now) }
     ensures around { AreEightApart (map C.call calls.now)
-        → MatchOption result ((at : ℕ) → at < length calls.now
-        → ¬ IsAround (map C.call calls.now) offset at)
+        → MatchOption result ((index : ℕ) → index < length calls.now
+        → ¬ IsAround (map C.call calls.now) offset index)
         (IsAround (map C.call calls.now) offset) }
 {
     let Some(last) = calls_below(calls, offset).checked_sub(1) else {
@@ -369,18 +360,18 @@ fn call_around<C: AsCall>(calls: &[C], offset: u64) -> Option<usize>
 }
 
 /// How many of the first calls have no target strictly inside what one of them deletes.
-fn outside_len<C: AsCall>(calls: &[C]) -> usize
+fn shrinkable_targets_len<C: AsCall>(calls: &[C]) -> usize
     ensures within { result ≤ length calls.now }
-    ensures outside { AreEightApart (map C.call calls.now)
-        → AreOutside (take result (map C.call calls.now)) }
+    ensures targets { AreEightApart (map C.call calls.now)
+        → HaveShrinkableTargets (take result (map C.call calls.now)) }
     ensures next { AreEightApart (map C.call calls.now) → result < length calls.now
-        → ¬ AreOutside (take (result + 1) (map C.call calls.now)) }
+        → ¬ HaveShrinkableTargets (take (result + 1) (map C.call calls.now)) }
 {
     let mut first = calls.len();
-    for at in 0..calls.len() {
-        let (_, target) = calls[at].as_call();
+    for index in 0..calls.len() {
+        let (_, target) = calls[index].as_call();
         if let Some(other) = call_around(calls, target) {
-            first = first.min(at.max(other));
+            first = first.min(index.max(other));
         }
     }
     first
@@ -397,8 +388,8 @@ pub fn first_not_shrinkable<C: AsCall>(deltas: &[RelaxDelta], calls: &[C]) -> Op
         → MatchOption result (AreShrinkable (deletions_of deltas.now) (map C.call calls.now))
         (IsFirstNotShrinkable (deletions_of deltas.now) (map C.call calls.now)) }
 {
-    let placed = placed_len(deltas, calls);
-    let first = outside_len(&calls[..placed]);
+    let sites = shrinkable_sites_len(deltas, calls);
+    let first = shrinkable_targets_len(&calls[..sites]);
     if first < calls.len() {
         Some(first)
     } else {

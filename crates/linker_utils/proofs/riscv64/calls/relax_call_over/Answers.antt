@@ -1,5 +1,5 @@
 use Rattle.std.proofs.Common.{◌≡◌, ◌+◌, ◌≤◌, ◌∙◌, ap, subst, arith, length, OnOk, IsOk, Err, ◌↔◌, to_z, of_z, w64, FitsSigned, rules}
-use Rattle.std.proofs.lemmas.Int.{to_z-of_z, ints}
+use Rattle.std.proofs.lemmas.Int.{ints}
 use Rattle.linker_base.specs.Bits.{field}
 use Rattle.linker_base.specs.Deltas.{deletions_of}
 use Rattle.linker_utils.specs.RiscV.{IsEven, IsJalDistance, JumpsAndLinks, word_at}
@@ -13,7 +13,7 @@ returns-clause-jumps c = λ valid.
     let room = (c.has_window.ensures.0 c.if-not-has_window.false).1 in
     let kept = c.in-Some.ensures valid in
     let wide : FitsSigned w64 c.distance_between.result = first_of (search rules, omega (arith, ints)) in
-    let far = to_z-of_z w64 c.distance_between.result wide ∙ distance_is ds c.args.site c.args.target c.in-Some.from c.input_to_output_offset-to.result (length c.args.section.now) c.distance_between.result
+    let far = distance_is ds c.args.site c.args.target c.in-Some.from c.input_to_output_offset-to.result (length c.args.section.now) c.distance_between.result wide
     c.distance_between.ensures (omega (arith, room)) c.if-target-section.false (omega arith) kept.1 (c.input_to_output_offset-to.ensures valid) in
     let register : c.destination.result ≡ field (word_at c.args.section.now c.args.site) 7 12 =
     c.destination.ensures ∙ ap (λ w. field w 7 12) (word_taken c.args.section.now c.args.site c.u32_from_slice-auipc.result c.u32_from_slice-auipc.ensures) in
@@ -26,7 +26,7 @@ returns-clause-accepted c = λ valid.
     let room = (c.has_window.ensures.0 c.if-not-has_window.false).1 in
     let kept = c.in-Some.ensures valid in
     let wide : FitsSigned w64 c.distance_between.result = first_of (search rules, omega (arith, ints)) in
-    let far = to_z-of_z w64 c.distance_between.result wide ∙ distance_is ds c.args.site c.args.target c.in-Some.from c.input_to_output_offset-to.result (length c.args.section.now) c.distance_between.result
+    let far = distance_is ds c.args.site c.args.target c.in-Some.from c.input_to_output_offset-to.result (length c.args.section.now) c.distance_between.result wide
     c.distance_between.ensures (omega (arith, room)) c.if-target-section.false (omega arith) kept.1 (c.input_to_output_offset-to.ensures valid) in
     let both = subst (λ d. IsOk c.put_jal.result ↔ (IsEven d × IsJalDistance d)) far c.put_jal.ensures.accepted in
     let four : c.args.site + 4 ≤ length c.args.section.now = omega (arith, room) in
@@ -38,7 +38,7 @@ returns-clause-odd_distance c = λ valid.
     let room = (c.has_window.ensures.0 c.if-not-has_window.false).1 in
     let kept = c.in-Some.ensures valid in
     let wide : FitsSigned w64 c.distance_between.result = first_of (search rules, omega (arith, ints)) in
-    let far = to_z-of_z w64 c.distance_between.result wide ∙ distance_is ds c.args.site c.args.target c.in-Some.from c.input_to_output_offset-to.result (length c.args.section.now) c.distance_between.result
+    let far = distance_is ds c.args.site c.args.target c.in-Some.from c.input_to_output_offset-to.result (length c.args.section.now) c.distance_between.result wide
     c.distance_between.ensures (omega (arith, room)) c.if-target-section.false (omega arith) kept.1 (c.input_to_output_offset-to.ensures valid) in
     let both = subst (λ d. (c.put_jal.result ≡ Err OddDistance) ↔ ¬ (IsEven d)) far c.put_jal.ensures.odd_distance in
     let four : c.args.site + 4 ≤ length c.args.section.now = omega (arith, room) in
@@ -50,7 +50,7 @@ returns-clause-too_far c = λ valid.
     let room = (c.has_window.ensures.0 c.if-not-has_window.false).1 in
     let kept = c.in-Some.ensures valid in
     let wide : FitsSigned w64 c.distance_between.result = first_of (search rules, omega (arith, ints)) in
-    let far = to_z-of_z w64 c.distance_between.result wide ∙ distance_is ds c.args.site c.args.target c.in-Some.from c.input_to_output_offset-to.result (length c.args.section.now) c.distance_between.result
+    let far = distance_is ds c.args.site c.args.target c.in-Some.from c.input_to_output_offset-to.result (length c.args.section.now) c.distance_between.result wide
     c.distance_between.ensures (omega (arith, room)) c.if-target-section.false (omega arith) kept.1 (c.input_to_output_offset-to.ensures valid) in
     let both = subst (λ d. (c.put_jal.result ≡ Err TooFar) ↔ (IsEven d × ¬ (IsJalDistance d))) far c.put_jal.ensures.too_far in
     let four : c.args.site + 4 ≤ length c.args.section.now = omega (arith, room) in

@@ -19,19 +19,19 @@ loop-delta-preserved c =
     let here : get_or ds at (0, 0) ≡ deletion_of (get_or c.args.deltas.now at (record { input_offset = 0; cumulative_deleted = 0; bytes_deleted = 0 })) =
     get_or-map deletion_of c.args.deltas.now at (record { input_offset = 0; cumulative_deleted = 0; bytes_deleted = 0 }) (0, 0) c.loop-delta-test.true in
     record {
-      within = omega (arith, c.put-at.ensures.end, c.put-at.auto.packed);
+      within = omega (arith, c.put-output_offset.ensures.end, c.put-output_offset.auto.packed);
       copied = λ valid room.
-          let same : length c.loop-delta.packed ≡ length c.put-at.new.packed = sym c.put-at.auto.packed in
-          copy_step ds s c.loop-delta.packed c.between.result.now c.put-at.new.packed at from c.loop-delta.at c.saturating_add-from.result c.put-at.result
+          let same : length c.loop-delta.packed ≡ length c.put-output_offset.new.packed = sym c.put-output_offset.auto.packed in
+          copy_step ds s c.loop-delta.packed c.between-run.result.now c.put-output_offset.new.packed at from c.loop-delta.output_offset c.saturating_add-from.result c.put-output_offset.result
           valid.valid (omega (arith, c.loop-delta-test.true, length-map c.args.deltas.now deletion_of)) (c.loop-delta.invariant.copied valid (same ∙ room)) (same ∙ room)
-          (c.between.ensures ∙ ap (λ n. take (min n (length s) - min from (length s)) (drop (min from (length s)) s)) (ap (λ (d : ℕ × ℕ). d.0) (sym here)))
-          c.put-at.ensures.bytes c.put-at.ensures.end
+          (c.between-run.ensures ∙ ap (λ n. take (min n (length s) - min from (length s)) (drop (min from (length s)) s)) (ap (λ (d : ℕ × ℕ). d.0) (sym here)))
+          c.put-output_offset.ensures.bytes c.put-output_offset.ensures.end
           (omega (arith, c.saturating_add-from.ensures, c.from.ensures, ap (λ (d : ℕ × ℕ). d.0) here, ap (λ (d : ℕ × ℕ). d.1) here));
     }
 
 pub returns : goal.returns
 returns c = λ valid room.
     let same = c.loop-delta.auto.packed in
-    copy_end (map deletion_of c.args.deltas.now) c.args.section.now c.loop-delta.packed c.between-2.result.now c.put-end.new.packed
-    c.loop-delta.delta-index c.loop-delta.from c.loop-delta.at (omega (arith, c.loop-delta-test.false, length-map c.args.deltas.now deletion_of))
-    (c.loop-delta.invariant.copied valid (same ∙ room)) (same ∙ room) c.between-2.ensures c.put-end.ensures.bytes
+    copy_end (map deletion_of c.args.deltas.now) c.args.section.now c.loop-delta.packed c.between-run-2.result.now c.put-end.new.packed
+    c.loop-delta.delta-index c.loop-delta.from c.loop-delta.output_offset (omega (arith, c.loop-delta-test.false, length-map c.args.deltas.now deletion_of))
+    (c.loop-delta.invariant.copied valid (same ∙ room)) (same ∙ room) c.between-run-2.ensures c.put-end.ensures.bytes

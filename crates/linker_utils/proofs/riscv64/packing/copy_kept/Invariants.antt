@@ -7,7 +7,7 @@ use Rattle.linker_utils.proofs.riscv64.packing.copy_kept.Given as goal
 
 abbrev pub invariant-loop-delta : goal.invariant-loop-delta
 invariant-loop-delta l = record {
-  within : l.at ≤ length l.packed;
+  within : l.output_offset ≤ length l.packed;
   copied : AreValidDeltas l.deltas → length l.packed ≡ rank (map deletion_of l.deltas) (length l.section)
-      → IsCopied (map deletion_of l.deltas) l.section l.delta-index l.from l.at l.packed;
+      → IsCopied (map deletion_of l.deltas) l.section l.delta-index l.from l.output_offset l.packed;
 }

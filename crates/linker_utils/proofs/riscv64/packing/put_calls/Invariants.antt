@@ -7,11 +7,11 @@ use Rattle.linker_utils.specs.Packing.{AreApart, CanJump}
 use Rattle.linker_utils.specs.Inner.Packing.{IsFilled, IsPackedTo}
 use Rattle.linker_utils.proofs.riscv64.packing.put_calls.Given as goal
 
-abbrev pub invariant-loop-at : goal.invariant-loop-at
-invariant-loop-at g l =
+abbrev pub invariant-loop-index : goal.invariant-loop-index
+invariant-loop-index g l =
     AreValidDeltas l.deltas
     → length l.packed ≡ rank (deletions_of l.deltas) (length l.section)
     → AreApart (map g.C.AsCall.call l.calls)
     → All (CanJump l.link (deletions_of l.deltas) l.section) (map g.C.AsCall.call l.calls)
     → IsFilled (deletions_of l.deltas) l.section (length l.section) l.initial.packed
-    → IsPackedTo l.link (deletions_of l.deltas) l.section (map g.C.AsCall.call l.calls) l.at l.packed
+    → IsPackedTo l.link (deletions_of l.deltas) l.section (map g.C.AsCall.call l.calls) l.index l.packed

@@ -17,7 +17,7 @@ returns c = λ room even near.
     let four : length bytes ≡ 4 = length-take (start + 4 - start) (drop start s) ∙ omega (arith, length-drop start s, c.call_len.ensures, eight, four_of c.args.link) in
     let wide : FitsSigned w64 c.args.jump.distance = first_of (search rules, omega (arith, ints)) in
     let same : to_z w64 (of_z w64 c.args.jump.distance) ≡ c.args.jump.distance = to_z-of_z w64 c.args.jump.distance wide in
-    let jumps = on_ok c.jal_site.result (JumpsAt c.overwrite.new.section c.jal_site.new.section c.args.jump.at (to_z w64 (of_z w64 c.args.jump.distance)))
+    let jumps = on_ok c.jal_site.result (JumpsAt c.overwrite.new.section c.jal_site.new.section c.args.jump.output_offset (to_z w64 (of_z w64 c.args.jump.distance)))
     (c.jal_site.ensures.accepted.1 (omega (arith, room, c.overwrite.auto.section), subst IsEven (sym same) even, subst IsJalDistance (sym same) near)) c.jal_site.ensures.jumps in
-    jump_put s c.args.packed.now bytes c.overwrite.new.section c.jal_site.new.section c.args.link c.args.site c.args.jump.at c.args.jump.distance
-    four taken room c.overwrite.ensures (subst (λ d. JumpsAt c.overwrite.new.section c.jal_site.new.section c.args.jump.at d) same jumps)
+    jump_put s c.args.packed.now bytes c.overwrite.new.section c.jal_site.new.section c.args.link c.args.site c.args.jump.output_offset c.args.jump.distance
+    four taken room c.overwrite.ensures (subst (λ d. JumpsAt c.overwrite.new.section c.jal_site.new.section c.args.jump.output_offset d) same jumps)

@@ -7,12 +7,12 @@ pub returns : goal.returns
 returns g c =
     let f = g.C.AsCall.call in
     let xs = c.args.calls.now in
-    let k = c.args.at in
+    let k = c.args.index in
     let j = c.in-Some.before in
     let inside : k < length (map f xs) = omega (arith, c.requires, length-map xs f) in
     let lower : j < length (map f xs) = omega (arith, c.in-Some.ensures, length-map xs f) in
     let at : get_or (map f xs) k (0, 0) ≡ c.as_call-site.result =
-    get_or-map f xs k c.index-calls-at.result (0, 0) c.requires ∙ ap f (sym c.index-calls-at.is) ∙ sym c.as_call-site.ensures in
+    get_or-map f xs k c.index-calls-index.result (0, 0) c.requires ∙ ap f (sym c.index-calls-index.is) ∙ sym c.as_call-site.ensures in
     let before : get_or (map f xs) j (0, 0) ≡ c.as_call-site_before.result =
     get_or-map f xs j c.index-calls-before.result (0, 0) (omega (arith, c.requires, c.in-Some.ensures)) ∙ ap f (sym c.index-calls-before.is) ∙ sym c.as_call-site_before.ensures in
     let previous : k - 1 ≡ j = omega (arith, c.in-Some.ensures) in (

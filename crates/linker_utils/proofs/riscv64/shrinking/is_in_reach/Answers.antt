@@ -17,12 +17,12 @@ returns-then-reaches g c = λ valid shrinkable.
     let k = c.args.index in
     let site = c.as_call-site.result.0 in
     let target = c.as_call-site.result.1 in
-    let from = c.output_offset-from.result in
-    let to = c.output_offset-to.result in
+    let from = c.to_output_offset-from.result in
+    let to = c.to_output_offset-to.result in
     let inside : k < length (map f xs) = omega (arith, c.requires.within, length-map xs f) in
     let same : length (map h bs) ≡ length (map f xs) = omega (arith, c.requires.one_each, length-map bs h, length-map xs f) in
     let here : get_or (map f xs) k (0, 0) ≡ (site, target) = get_or-map f xs k c.index-calls-index.result (0, 0) c.requires.within ∙ ap f (sym c.index-calls-index.is) ∙ sym c.as_call-site.ensures in (
-      λ _. near_enough ds (map f xs) (map h bs) k site target from to shrinkable same inside here (c.output_offset-from.ensures valid) (c.output_offset-to.ensures valid) (c.reaches.ensures.0 c.if-reaches.true),
+      λ _. near_enough ds (map f xs) (map h bs) k site target from to shrinkable same inside here (c.to_output_offset-from.ensures valid) (c.to_output_offset-to.ensures valid) (c.reaches.ensures.0 c.if-reaches.true),
       λ _. refl,
     )
 
@@ -36,8 +36,8 @@ returns-then-not-reaches_over g c = λ valid shrinkable.
     let k = c.args.index in
     let site = c.as_call-site.result.0 in
     let target = c.as_call-site.result.1 in
-    let from = c.output_offset-from.result in
-    let to = c.output_offset-to.result in
+    let from = c.to_output_offset-from.result in
+    let to = c.to_output_offset-to.result in
     let inside : k < length (map f xs) = omega (arith, c.requires.within, length-map xs f) in
     let same : length (map h bs) ≡ length (map f xs) = omega (arith, c.requires.one_each, length-map bs h, length-map xs f) in
     let here : get_or (map f xs) k (0, 0) ≡ (site, target) = get_or-map f xs k c.index-calls-index.result (0, 0) c.requires.within ∙ ap f (sym c.index-calls-index.is) ∙ sym c.as_call-site.ensures in
@@ -47,7 +47,7 @@ returns-then-not-reaches_over g c = λ valid shrinkable.
     let far : c.reaches_over.result ≡ false = search rules in (
       λ f. absurd (false≢true f),
       λ reach. absurd (too_far ds (map f xs) (map h bs) k split site target from to c.abs_diff.result shrinkable same inside here (c.calls_below-split.ensures.split shrinkable.apart)
-          (c.output_offset-from.ensures valid) (c.output_offset-to.ensures valid) bound counted (λ near. both_ways c.reaches_over.result far (c.reaches_over.ensures.1 near)) reach),
+          (c.to_output_offset-from.ensures valid) (c.to_output_offset-to.ensures valid) bound counted (λ near. both_ways c.reaches_over.result far (c.reaches_over.ensures.1 near)) reach),
     )
 
 pub returns : goal.returns
@@ -60,8 +60,8 @@ returns g c = λ valid shrinkable.
     let k = c.args.index in
     let site = c.as_call-site.result.0 in
     let target = c.as_call-site.result.1 in
-    let from = c.output_offset-from.result in
-    let to = c.output_offset-to.result in
+    let from = c.to_output_offset-from.result in
+    let to = c.to_output_offset-to.result in
     let inside : k < length (map f xs) = omega (arith, c.requires.within, length-map xs f) in
     let same : length (map h bs) ≡ length (map f xs) = omega (arith, c.requires.one_each, length-map bs h, length-map xs f) in
     let here : get_or (map f xs) k (0, 0) ≡ (site, target) = get_or-map f xs k c.index-calls-index.result (0, 0) c.requires.within ∙ ap f (sym c.index-calls-index.is) ∙ sym c.as_call-site.ensures in
@@ -69,5 +69,5 @@ returns g c = λ valid shrinkable.
     let count = c.count_between-count.result in
     at_index ds (map f xs) (map h bs) k site target (distance_over from to k split count) c.reaches_over-2.result inside here
     (distance_over-is ds (map f xs) (map h bs) k split site target from to shrinkable same inside here (c.calls_below-split.ensures.split shrinkable.apart)
-    (c.output_offset-from.ensures valid) (c.output_offset-to.ensures valid) c.min.result c.max.result count c.min.ensures c.max.ensures c.count_between-count.ensures)
+    (c.to_output_offset-from.ensures valid) (c.to_output_offset-to.ensures valid) c.min.result c.max.result count c.min.ensures c.max.ensures c.count_between-count.ensures)
     c.reaches_over-2.ensures

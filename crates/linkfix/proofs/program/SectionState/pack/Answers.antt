@@ -1,7 +1,7 @@
 use Rattle.std.proofs.Common.{inl}
 use Rattle.linker_utils.specs.declared.riscv64.calls.LinkRegister.TheVariants.{OfAuipc}
 use Rattle.linkfix.proofs.Rejected.{first_rejected_once, none_rejected}
-use Rattle.linkfix.proofs.program.SectionState.packed.Goals as goal
+use Rattle.linkfix.proofs.program.SectionState.pack.Goals as goal
 
 pub returns-in-Ok-clause-causes : goal.returns-in-Ok-clause-causes
 returns-in-Ok-clause-causes c error (at, cause, is, first) =
