@@ -4,7 +4,7 @@ use Rattle.std.specs.Prelude.{◌^◌, not, AllPairs}
 use Rattle.std.specs.List.{list_any, AllWithin}
 use Rattle.std.proofs.lemmas.Bool.{cases_lt}
 use Rattle.std.proofs.lemmas.Bool.Decides.{nat_tests}
-use Rattle.std.proofs.lemmas.List.{get_or_default, take_all}
+use Rattle.std.proofs.lemmas.List.{take_all}
 use Rattle.std.proofs.lemmas.List.Sums.{sum_by-cons, sum_by_more, sum_by-take-le}
 use Rattle.linker_base.specs.Deletions.{IsBefore, DoNotOverlap, IsValid, bytes_of, covers, is_kept, rank, IsSelected}
 use Rattle.linker_base.proofs.Rank.{removed_by, removed, rank-removed}

@@ -10,7 +10,7 @@ use Rattle.linker_base.specs.declared.relaxation.RelaxDelta.{RelaxDelta}
 use Rattle.linker_base.specs.Deletions.{IsValid, IsInsideDeletion, IsSelected, HasInput, bytes_of, rank}
 use Rattle.linker_base.specs.Deltas.{deletion_of}
 use Rattle.linker_base.specs.declared.relaxation.blocks.BlockHead.{BlockHead}
-use Rattle.linker_base.specs.Blocks.{place_of, AreHeads}
+use Rattle.linker_base.specs.Blocks.{output_offset_of, AreHeads}
 use Rattle.linker_base.specs.Inner.Blocks.{no_head}
 use Rattle.linker_base.specs.Inner.PartitionPoint.{IsPartitioned, IsPointOf, HeadsAgree}
 use Rattle.linker_base.specs.Listed.{AreValidDeltas}
@@ -48,7 +48,7 @@ place_from_sum : (offset bytes before : ℕ) → before ≤ offset → offset + 
 place_from_sum offset bytes before low fits = omega arith
 
 -- the output place of a delta and the bytes deleted before it make its offset
-place_at : (deltas : List RelaxDelta) → AreValidDeltas deltas → (k : ℕ) (d : RelaxDelta) → k < length deltas → place_of (get_or deltas k d) + bytes_of (take k (map deletion_of deltas)) ≡ (get_or deltas k d).input_offset
+place_at : (deltas : List RelaxDelta) → AreValidDeltas deltas → (k : ℕ) (d : RelaxDelta) → k < length deltas → output_offset_of (get_or deltas k d) + bytes_of (take k (map deletion_of deltas)) ≡ (get_or deltas k d).input_offset
 place_at deltas listed k d within =
     let ds = map deletion_of deltas in
     let inside : k < length ds = omega (arith, length-map deltas deletion_of) in
@@ -57,7 +57,7 @@ place_at deltas listed k d within =
 
 -- whether the output place of a delta is at most y
 abbrev pub is_placed : ℕ → RelaxDelta → Bool
-is_placed y d = leb (place_of d) y
+is_placed y d = leb (output_offset_of d) y
 
 -- which means the same of its deletion
 placed_at : (deltas : List RelaxDelta) → AreValidDeltas deltas → (y k : ℕ) (d : RelaxDelta) (e : ℕ × ℕ) → k < length deltas → ((is_placed y (get_or deltas k d) ≡ true → (get_or (map deletion_of deltas) k e).0 ≤ y + bytes_of (take k (map deletion_of deltas))) × ((get_or (map deletion_of deltas) k e).0 ≤ y + bytes_of (take k (map deletion_of deltas)) → is_placed y (get_or deltas k d) ≡ true) × (is_placed y (get_or deltas k d) ≡ false → y + bytes_of (take k (map deletion_of deltas)) < (get_or (map deletion_of deltas) k e).0))

@@ -6,12 +6,12 @@ use Rattle.linker_base.specs.declared.relaxation.blocks.BlockHead.{BlockHead}
 use Rattle.linker_base.specs.declared.relaxation.partition_point.Test.{Test}
 use Rattle.linker_base.specs.declared.relaxation.partition_point.Test.TheVariants.{Begins, IsPlaced}
 use Rattle.linker_base.specs.declared.relaxation.partition_point.SearchRange.{SearchRange}
-use Rattle.linker_base.specs.Blocks.{place_of}
+use Rattle.linker_base.specs.Blocks.{output_offset_of}
 
 -- whether a delta passes a test
 abbrev pub passes : Test → RelaxDelta → Bool
 passes (Begins offset) delta = nat_lt delta.input_offset offset
-passes (IsPlaced offset) delta = nat_le (place_of delta) offset
+passes (IsPlaced offset) delta = nat_le (output_offset_of delta) offset
 
 -- whether a head does
 abbrev pub head_passes : Test → BlockHead → Bool
