@@ -1,8 +1,10 @@
--- A merge of two ascending lists in place, from the back.
-use Rattle.std.proofs.Common.{◌≡◌, ℕ, zero, suc, ◌+◌, ◌-◌, ◌<◌, ◌≤◌, List, [], ◌∷◌, ◌++◌, length, map, get_or, set, take, drop, refl, sym, ap, ◌∙◌, inl, inr, arith}
-use Rattle.std.specs.Prelude.{◌^◌, All, IsPermutation}
+-- A merge of two ascending lists, from the back.
+use Rattle.std.proofs.Common.{◌≡◌, ℕ, false, zero, suc, ◌+◌, ◌-◌, ◌<◌, ◌≤◌, List, [], ◌∷◌, ◌++◌, length, map, get_or, set, take, drop, refl, sym, ap, ◌∙◌, inl, inr, arith}
+use Rattle.std.specs.Prelude.{◌^◌, Option, Some, None, All, IsPermutation}
+use Rattle.std.specs.Borrow.{Bor}
+use Rattle.std.specs.Option.{is_some}
 use Rattle.std.specs.List.Sorted.{IsNonDecreasingBy}
-use Rattle.std.proofs.lemmas.Bool.{cases_lt, cases_order}
+use Rattle.std.proofs.lemmas.Bool.{cases_lt, cases_order, false≢true}
 use Rattle.std.proofs.lemmas.List.{append_assoc, take-append-drop, take-append-le, take-take, take-map, take_all, take-set-le, drop_more, drop_all, drop-set, get_or-take, get_or_default, get_or_append_left, get_or-append_right, map-append, length-append, length-map, length-set, length-take}
 use Rattle.std.proofs.Math.Seq.{take-append-add}
 use Rattle.std.proofs.lemmas.List.Elements.{All-cons}
@@ -12,8 +14,9 @@ use Rattle.linker_base.specs.declared.relaxation.RelaxDelta.{RelaxDelta}
 use Rattle.linker_base.specs.Deletions.{AreDisjoint, IsValid, IsSortedUnion, bytes_of}
 use Rattle.linker_base.specs.Deltas.{deletion_of}
 use Rattle.linker_base.specs.Listed.{AreValidDeltas}
+use Rattle.linker_base.specs.Inner.Listed.{read_from}
 use Rattle.linker_base.proofs.OutputPlaces.{AreParted, rank-parted}
-use Rattle.linker_base.proofs.Search.{blank, deletion_at}
+use Rattle.linker_base.proofs.Search.{deletion_at}
 use Rattle.linker_base.proofs.Unions.{union_from_sort}
 
 -- the bytes of disjoint deletions fit 64 bits
@@ -108,19 +111,19 @@ IsTail-nil ds ps = record {
 }
 
 -- the last of the old deletions goes in front
-IsTail-old : (ds ps : List (ℕ × ℕ)) (i j : ℕ) (tail : List RelaxDelta) (delta : RelaxDelta) → IsValid ds → IsValid ps → i < length ds → j < length ps → IsTail ds ps (i + 1) (j + 1) tail
-    → deletion_of delta ≡ get_or ds i (0, 0) → (get_or ps j (0, 0)).0 ≤ (get_or ds i (0, 0)).0 → delta.cumulative_deleted ≡ bytes_of (take (i + 1) ds) + bytes_of (take (j + 1) ps) → IsTail ds ps i (j + 1) (delta ∷ tail)
+IsTail-old : (ds ps : List (ℕ × ℕ)) (i j : ℕ) (tail : List RelaxDelta) (delta : RelaxDelta) → IsValid ds → IsValid ps → i < length ds → j ≤ length ps → IsTail ds ps (i + 1) j tail
+    → deletion_of delta ≡ get_or ds i (0, 0) → (0 < j → (get_or ps (j - 1) (0, 0)).0 ≤ (get_or ds i (0, 0)).0) → delta.cumulative_deleted ≡ bytes_of (take (i + 1) ds) + bytes_of (take j ps) → IsTail ds ps i j (delta ∷ tail)
 IsTail-old ds ps i j tail delta valid rises within inside merged is above sum =
     let offset : delta.input_offset ≡ (get_or ds i (0, 0)).0 = ap (λ (e : ℕ × ℕ). e.0) is in
     let bytes : delta.bytes_deleted ≡ (get_or ds i (0, 0)).1 = ap (λ (e : ℕ × ℕ). e.1) is in
     let more = sum_by_more (λ (e : ℕ × ℕ). e.1) ds i (0, 0) within in
     record {
-      same = rw (drop_more ds i (0, 0) within, ← is) (IsPermutation-cons (deletion_of delta) (drop (i + 1) ds ++ drop (j + 1) ps) (map deletion_of tail) merged.same);
+      same = rw (drop_more ds i (0, 0) within, ← is) (IsPermutation-cons (deletion_of delta) (drop (i + 1) ds ++ drop j ps) (map deletion_of tail) merged.same);
       rise = rise-cons (deletion_of delta) (map deletion_of tail) (rw (← is) at (merged.above_old i (omega arith))) merged.rise;
       above_old = λ k low. All-cons (λ d. (get_or ds k (0, 0)).0 ≤ d.0) (deletion_of delta) (map deletion_of tail) (omega (arith, offset, valid_rises ds valid k i (0, 0) (omega arith) within)) (merged.above_old k (omega arith));
-      above_left = λ k low. All-cons (λ d. (get_or ps k (0, 0)).0 ≤ d.0) (deletion_of delta) (map deletion_of tail) (omega (arith, offset, above, valid_rises ps rises k j (0, 0) (omega arith) inside)) (merged.above_left k low);
-      sums = HaveSums-cons (bytes_of (take i ds) + bytes_of (take (j + 1) ps)) delta tail (omega (arith, more, bytes, sum)) (
-          let before : bytes_of (take i ds) + bytes_of (take (j + 1) ps) + delta.bytes_deleted ≡ bytes_of (take (i + 1) ds) + bytes_of (take (j + 1) ps) = omega (arith, more, bytes) in
+      above_left = λ k low. All-cons (λ d. (get_or ps k (0, 0)).0 ≤ d.0) (deletion_of delta) (map deletion_of tail) (omega (arith, offset, above (omega arith), valid_rises ps rises k (j - 1) (0, 0) (omega arith) (omega arith))) (merged.above_left k low);
+      sums = HaveSums-cons (bytes_of (take i ds) + bytes_of (take j ps)) delta tail (omega (arith, more, bytes, sum)) (
+          let before : bytes_of (take i ds) + bytes_of (take j ps) + delta.bytes_deleted ≡ bytes_of (take (i + 1) ds) + bytes_of (take j ps) = omega (arith, more, bytes) in
           rw before merged.sums);
     }
 
@@ -143,109 +146,110 @@ IsTail-left ds ps i j tail delta valid rises within inside merged is above sum =
           rw before merged.sums);
     }
 
--- the last of the old deletions goes in front, where no additional one is left
-IsTail-rest : (ds ps : List (ℕ × ℕ)) (i : ℕ) (tail : List RelaxDelta) (delta : RelaxDelta) → IsValid ds → i < length ds → IsTail ds ps (i + 1) 0 tail
-    → deletion_of delta ≡ get_or ds i (0, 0) → delta.cumulative_deleted ≡ bytes_of (take (i + 1) ds) + bytes_of (take 0 ps) → IsTail ds ps i 0 (delta ∷ tail)
-IsTail-rest ds ps i tail delta valid within merged is sum =
-    let offset : delta.input_offset ≡ (get_or ds i (0, 0)).0 = ap (λ (e : ℕ × ℕ). e.0) is in
-    let bytes : delta.bytes_deleted ≡ (get_or ds i (0, 0)).1 = ap (λ (e : ℕ × ℕ). e.1) is in
-    let more = sum_by_more (λ (e : ℕ × ℕ). e.1) ds i (0, 0) within in
-    record {
-      same = rw (drop_more ds i (0, 0) within, ← is) (IsPermutation-cons (deletion_of delta) (drop (i + 1) ds ++ drop 0 ps) (map deletion_of tail) merged.same);
-      rise = rise-cons (deletion_of delta) (map deletion_of tail) (rw (← is) at (merged.above_old i (omega arith))) merged.rise;
-      above_old = λ k low. All-cons (λ d. (get_or ds k (0, 0)).0 ≤ d.0) (deletion_of delta) (map deletion_of tail) (omega (arith, offset, valid_rises ds valid k i (0, 0) (omega arith) within)) (merged.above_old k (omega arith));
-      above_left = λ k low. absurd (omega arith);
-      sums = HaveSums-cons (bytes_of (take i ds) + bytes_of (take 0 ps)) delta tail (omega (arith, more, bytes, sum)) (
-          let before : bytes_of (take i ds) + bytes_of (take 0 ps) + delta.bytes_deleted ≡ bytes_of (take (i + 1) ds) + bytes_of (take 0 ps) = omega (arith, more, bytes) in
-          rw before merged.sums);
-    }
+pub in_place : (apart : Option (Bor (List RelaxDelta))) → is_some apart ≡ false → apart ≡ None
+in_place None none = refl
+in_place (Some deltas) none = absurd (false≢true (sym none))
 
--- the first i deltas stand where they stood, and what isn't free behind them is merged
-pub record IsMerging (start : List RelaxDelta) (ps : List (ℕ × ℕ)) (i j : ℕ) (deltas : List RelaxDelta) : Type 0 where
+-- what isn't free is merged, so many bytes are left, and the first i deltas are read as at first
+pub record IsMerging (apart : Option (Bor (List RelaxDelta))) (start : List RelaxDelta) (ps : List (ℕ × ℕ)) (i j : ℕ) (merged : List RelaxDelta) (bytes : ℕ) : Type 0 where
   pub old_within : i ≤ length start
   pub left_within : j ≤ length ps
-  pub size : length deltas ≡ length start + length ps
-  pub front : take i deltas ≡ take i start
-  pub tail : IsTail (map deletion_of start) ps i j (drop (i + j) deltas)
+  pub size : length merged ≡ length start + length ps
+  pub front : take i (read_from apart merged) ≡ take i start
+  pub tail : IsTail (map deletion_of start) ps i j (drop (i + j) merged)
+  pub sum : bytes ≡ bytes_of (take i (map deletion_of start)) + bytes_of (take j ps)
 
 -- at first all room is free
-pub merging_first : (ps : List (ℕ × ℕ)) (count : ℕ) (deltas : List RelaxDelta) → count + length ps ≡ length deltas → IsMerging (take count deltas) ps count (length ps) deltas
-merging_first ps count deltas room =
-    let long : length (take count deltas) ≡ count = omega (arith, length-take count deltas) in
-    let listed : length (map deletion_of (take count deltas)) ≡ count = omega (arith, long, length-map (take count deltas) deletion_of) in
+pub merging_first : (apart : Option (Bor (List RelaxDelta))) (ps : List (ℕ × ℕ)) (count : ℕ) (merged : List RelaxDelta) (j bytes : ℕ) → count ≤ length (read_from apart merged) → count + length ps ≡ length merged → j ≡ length ps
+    → bytes ≡ bytes_of (map deletion_of (take count (read_from apart merged))) + bytes_of ps → IsMerging apart (take count (read_from apart merged)) ps count j merged bytes
+merging_first apart ps count merged j bytes within room left sum =
+    let start = take count (read_from apart merged) in
+    let long : length start ≡ count = omega (arith, length-take count (read_from apart merged)) in
+    let listed : length (map deletion_of start) ≡ count = omega (arith, long, length-map start deletion_of) in
     record {
       old_within = omega (arith, long);
-      left_within = omega arith;
-      size = omega (arith, long);
-      front = sym (take-take count count deltas (omega arith));
-      tail = rw (drop_all (count + length ps) deltas (omega arith)) (rw listed at (IsTail-nil (map deletion_of (take count deltas)) ps));
+      left_within = omega (arith, left);
+      size = omega (arith, long, room);
+      front = sym (take-take count count (read_from apart merged) (omega arith));
+      tail = rw (drop_all (count + j) merged (omega (arith, room, left)), left) (rw listed at (IsTail-nil (map deletion_of start) ps));
+      sum = rw (left, take_all count (map deletion_of start) (omega (arith, listed)), take_all (length ps) ps (omega arith)) sum;
     }
 
--- an old deletion is taken
-pub merging_old : (start : List RelaxDelta) (ps : List (ℕ × ℕ)) (old left at : ℕ) (deltas : List RelaxDelta) (delta : RelaxDelta) → IsValid (map deletion_of start) → IsValid ps → 0 < old → 0 < left → at ≡ old + left - 1 → IsMerging start ps old left deltas
-    → deletion_of delta ≡ get_or (map deletion_of start) (old - 1) (0, 0) → (get_or ps (left - 1) (0, 0)).0 ≤ (get_or (map deletion_of start) (old - 1) (0, 0)).0 → delta.cumulative_deleted ≡ bytes_of (take old (map deletion_of start)) + bytes_of (take left ps) → IsMerging start ps (old - 1) left (set deltas at delta)
-merging_old start ps old left at deltas delta valid rises some more place merging is above sum =
+-- what is written behind the first i deltas changes none of them
+front_kept : (apart : Option (Bor (List RelaxDelta))) (i at : ℕ) (merged : List RelaxDelta) (delta : RelaxDelta) → i ≤ at → take i (read_from apart (set merged at delta)) ≡ take i (read_from apart merged)
+front_kept (Some deltas) i at merged delta low = refl
+front_kept None i at merged delta low = take-set-le i merged at delta low
+
+-- the last of the first i deltas
+pub merging_end : (apart : Option (Bor (List RelaxDelta))) (start : List RelaxDelta) (ps : List (ℕ × ℕ)) (i j bytes : ℕ) (merged : List RelaxDelta) (d : RelaxDelta) → IsMerging apart start ps i j merged bytes → 0 < i → get_or (map deletion_of start) (i - 1) (0, 0) ≡ deletion_of (get_or (read_from apart merged) (i - 1) d)
+merging_end apart start ps i j bytes merged d merging some =
+    let low : i - 1 < i = omega arith in
+    let inside : i - 1 < length start = omega (arith, merging.old_within) in
+    deletion_at start (i - 1) d (0, 0) inside ∙ ap deletion_of (sym (get_or-take i start (i - 1) d low) ∙ ap (λ front. get_or front (i - 1) d) (sym merging.front) ∙ get_or-take i (read_from apart merged) (i - 1) d low)
+
+pub merging_reads : (apart : Option (Bor (List RelaxDelta))) (start : List RelaxDelta) (ps : List (ℕ × ℕ)) (i j bytes : ℕ) (merged : List RelaxDelta) → IsMerging apart start ps i j merged bytes → i ≤ length (read_from apart merged)
+merging_reads apart start ps i j bytes merged merging = omega (arith, merging.old_within, ap length merging.front, length-take i (read_from apart merged), length-take i start)
+
+-- an old deletion is written
+pub merging_old : (apart : Option (Bor (List RelaxDelta))) (start : List RelaxDelta) (ps : List (ℕ × ℕ)) (old left at : ℕ) (merged : List RelaxDelta) (delta : RelaxDelta) (bytes : ℕ) → IsValid (map deletion_of start) → IsValid ps → 0 < old → at ≡ old + left - 1 → IsMerging apart start ps old left merged bytes
+    → deletion_of delta ≡ get_or (map deletion_of start) (old - 1) (0, 0) → (0 < left → (get_or ps (left - 1) (0, 0)).0 ≤ (get_or (map deletion_of start) (old - 1) (0, 0)).0) → delta.cumulative_deleted ≡ bytes → IsMerging apart start ps (old - 1) left (set merged at delta) (bytes - delta.bytes_deleted)
+merging_old apart start ps old left at merged delta bytes valid rises some place merging is above sum =
     let ds = map deletion_of start in
     let long : length ds ≡ length start = length-map start deletion_of in
     let one : old ≡ old - 1 + 1 = omega arith in
-    let other : left ≡ left - 1 + 1 = omega arith in
-    let free : at < length deltas = omega (arith, merging.size, merging.old_within, merging.left_within) in
+    let inside : old - 1 < length ds = omega (arith, long, merging.old_within) in
+    let free : at < length merged = omega (arith, merging.size, merging.old_within, merging.left_within) in
     let here : old - 1 + left ≡ at = omega arith in
     let next : at + 1 ≡ old + left = omega arith in
     let low : old - 1 ≤ at = omega arith in
-    let tail : IsTail ds ps (old - 1 + 1) (left - 1 + 1) (drop (old + left) deltas) = rw (← one, ← other) merging.tail in
-    let merged : IsTail ds ps (old - 1) (left - 1 + 1) (delta ∷ drop (old + left) deltas) = IsTail-old ds ps (old - 1) (left - 1) (drop (old + left) deltas) delta valid rises (omega (arith, long, merging.old_within)) (omega (arith, merging.left_within)) tail is above (rw (← one, ← other) sum) in
+    let tail : IsTail ds ps (old - 1 + 1) left (drop (old + left) merged) = rw (← one) merging.tail in
+    let written : IsTail ds ps (old - 1) left (delta ∷ drop (old + left) merged) = IsTail-old ds ps (old - 1) left (drop (old + left) merged) delta valid rises inside merging.left_within tail is above (rw (← one) (sum ∙ merging.sum)) in
     record {
       old_within = omega (arith, merging.old_within);
       left_within = merging.left_within;
-      size = omega (arith, merging.size, length-set deltas at delta);
-      front = take-set-le (old - 1) deltas at delta low ∙ sym (take-take (old - 1) old deltas (omega arith)) ∙ ap (take (old - 1)) merging.front ∙ take-take (old - 1) old start (omega arith);
-      tail = rw (here, drop-set deltas at delta free, next) (rw (← other) at merged);
+      size = omega (arith, merging.size, length-set merged at delta);
+      front = front_kept apart (old - 1) at merged delta low ∙ sym (take-take (old - 1) old (read_from apart merged) (omega arith)) ∙ ap (take (old - 1)) merging.front ∙ take-take (old - 1) old start (omega arith);
+      tail = rw (here, drop-set merged at delta free, next) written;
+      sum = omega (arith, merging.sum, rw (← one) at (sum_by_more (λ (e : ℕ × ℕ). e.1) ds (old - 1) (0, 0) inside), ap (λ (e : ℕ × ℕ). e.1) is);
     }
 
--- an additional deletion is taken
-pub merging_left : (start : List RelaxDelta) (ps : List (ℕ × ℕ)) (old left at : ℕ) (deltas : List RelaxDelta) (delta : RelaxDelta) → IsValid (map deletion_of start) → IsValid ps → 0 < left → at ≡ old + left - 1 → IsMerging start ps old left deltas
-    → deletion_of delta ≡ get_or ps (left - 1) (0, 0) → (0 < old → (get_or (map deletion_of start) (old - 1) (0, 0)).0 ≤ (get_or ps (left - 1) (0, 0)).0) → delta.cumulative_deleted ≡ bytes_of (take old (map deletion_of start)) + bytes_of (take left ps) → IsMerging start ps old (left - 1) (set deltas at delta)
-merging_left start ps old left at deltas delta valid rises more place merging is above sum =
+-- an additional deletion is written
+pub merging_left : (apart : Option (Bor (List RelaxDelta))) (start : List RelaxDelta) (ps : List (ℕ × ℕ)) (old left at : ℕ) (merged : List RelaxDelta) (delta : RelaxDelta) (bytes : ℕ) → IsValid (map deletion_of start) → IsValid ps → 0 < left → at ≡ old + left - 1 → IsMerging apart start ps old left merged bytes
+    → deletion_of delta ≡ get_or ps (left - 1) (0, 0) → (0 < old → (get_or (map deletion_of start) (old - 1) (0, 0)).0 ≤ (get_or ps (left - 1) (0, 0)).0) → delta.cumulative_deleted ≡ bytes → IsMerging apart start ps old (left - 1) (set merged at delta) (bytes - delta.bytes_deleted)
+merging_left apart start ps old left at merged delta bytes valid rises more place merging is above sum =
     let ds = map deletion_of start in
     let long : length ds ≡ length start = length-map start deletion_of in
     let other : left ≡ left - 1 + 1 = omega arith in
-    let free : at < length deltas = omega (arith, merging.size, merging.old_within, merging.left_within) in
+    let inside : left - 1 < length ps = omega (arith, merging.left_within) in
+    let free : at < length merged = omega (arith, merging.size, merging.old_within, merging.left_within) in
     let here : old + (left - 1) ≡ at = omega arith in
     let next : at + 1 ≡ old + left = omega arith in
     let low : old ≤ at = omega arith in
-    let tail : IsTail ds ps old (left - 1 + 1) (drop (old + left) deltas) = rw (← other) merging.tail in
-    let merged : IsTail ds ps old (left - 1) (delta ∷ drop (old + left) deltas) = IsTail-left ds ps old (left - 1) (drop (old + left) deltas) delta valid rises (omega (arith, long, merging.old_within)) (omega (arith, merging.left_within)) tail is above (rw (← other) sum) in
+    let tail : IsTail ds ps old (left - 1 + 1) (drop (old + left) merged) = rw (← other) merging.tail in
+    let written : IsTail ds ps old (left - 1) (delta ∷ drop (old + left) merged) = IsTail-left ds ps old (left - 1) (drop (old + left) merged) delta valid rises (omega (arith, long, merging.old_within)) inside tail is above (rw (← other) (sum ∙ merging.sum)) in
     record {
       old_within = merging.old_within;
       left_within = omega (arith, merging.left_within);
-      size = omega (arith, merging.size, length-set deltas at delta);
-      front = take-set-le old deltas at delta low ∙ merging.front;
-      tail = rw (here, drop-set deltas at delta free, next) merged;
+      size = omega (arith, merging.size, length-set merged at delta);
+      front = front_kept apart old at merged delta low ∙ merging.front;
+      tail = rw (here, drop-set merged at delta free, next) written;
+      sum = omega (arith, merging.sum, rw (← other) at (sum_by_more (λ (e : ℕ × ℕ). e.1) ps (left - 1) (0, 0) inside), ap (λ (e : ℕ × ℕ). e.1) is);
     }
 
--- the first old deltas stand as they did
-pub merging_at : (start : List RelaxDelta) (ps : List (ℕ × ℕ)) (old left : ℕ) (deltas : List RelaxDelta) → IsMerging start ps old left deltas → (k : ℕ) (d : RelaxDelta) → k < old → get_or deltas k d ≡ get_or start k d
-merging_at start ps old left deltas merging k d low = sym (get_or-take old deltas k d low) ∙ ap (λ front. get_or front k d) merging.front ∙ get_or-take old start k d low
-
--- and so does the last of them
-pub record IsLastOld (start : List RelaxDelta) (old : ℕ) (delta : RelaxDelta) : Type 0 where
-  pub is : deletion_of delta ≡ get_or (map deletion_of start) (old - 1) (0, 0)
-  pub sum : delta.cumulative_deleted ≡ bytes_of (take old (map deletion_of start))
-
-pub merging_end : (start : List RelaxDelta) (ps : List (ℕ × ℕ)) (old left : ℕ) (deltas : List RelaxDelta) → AreValidDeltas start → IsMerging start ps old left deltas → 0 < old → IsLastOld start old (get_or deltas (old - 1) blank)
-merging_end start ps old left deltas listed merging some =
-    let low : old - 1 < old = omega arith in
-    let inside : old - 1 < length start = omega (arith, merging.old_within) in
+-- the bytes of the next deletion are among those left
+pub spends_old : (apart : Option (Bor (List RelaxDelta))) (start : List RelaxDelta) (ps : List (ℕ × ℕ)) (old left : ℕ) (merged : List RelaxDelta) (bytes : ℕ) → 0 < old → IsMerging apart start ps old left merged bytes → (get_or (map deletion_of start) (old - 1) (0, 0)).1 ≤ bytes
+spends_old apart start ps old left merged bytes some merging =
     let one : old - 1 + 1 ≡ old = omega arith in
-    rw (merging_at start ps old left deltas merging (old - 1) blank low) (record {
-      is = sym (deletion_at start (old - 1) blank (0, 0) inside);
-      sum = rw one at (listed.listing.sums (old - 1) blank inside);
-    })
+    omega (arith, merging.sum, rw one at (sum_by_more (λ (e : ℕ × ℕ). e.1) (map deletion_of start) (old - 1) (0, 0) (omega (arith, merging.old_within, length-map start deletion_of))))
 
--- at last all are listed
-pub merging_last : (start : List RelaxDelta) (ps : List (ℕ × ℕ)) (i : ℕ) (deltas : List RelaxDelta) → AreValidDeltas start → AreDisjoint (map deletion_of start ++ ps) → IsMerging start ps i 0 deltas → IsSortedUnion (map deletion_of start ++ ps) (map deletion_of deltas) × AreValidDeltas deltas
-merging_last start ps i deltas listed disjoint merging = (union, record { valid = union.valid; listing = record { same = refl; sums = λ k d within. omega (arith, sums.each k d within) } })
+pub spends_left : (apart : Option (Bor (List RelaxDelta))) (start : List RelaxDelta) (ps : List (ℕ × ℕ)) (old left : ℕ) (merged : List RelaxDelta) (bytes : ℕ) → 0 < left → IsMerging apart start ps old left merged bytes → (get_or ps (left - 1) (0, 0)).1 ≤ bytes
+spends_left apart start ps old left merged bytes some merging =
+    let one : left - 1 + 1 ≡ left = omega arith in
+    omega (arith, merging.sum, rw one at (sum_by_more (λ (e : ℕ × ℕ). e.1) ps (left - 1) (0, 0) (omega (arith, merging.left_within))))
+
+-- the first i deltas, where they stood, and those behind them list all
+pub merging_last : (start : List RelaxDelta) (ps : List (ℕ × ℕ)) (i bytes : ℕ) (deltas : List RelaxDelta) → AreValidDeltas start → AreDisjoint (map deletion_of start ++ ps) → IsMerging None start ps i 0 deltas bytes → IsSortedUnion (map deletion_of start ++ ps) (map deletion_of deltas) × AreValidDeltas deltas
+merging_last start ps i bytes deltas listed disjoint merging = (union, record { valid = union.valid; listing = record { same = refl; sums = λ k d within. omega (arith, sums.each k d within) } })
   where
     ds : List (ℕ × ℕ)
     ds = map deletion_of start
@@ -295,96 +299,8 @@ merging_last start ps i deltas listed disjoint merging = (union, record { valid 
         let before : 0 + bytes_of (map deletion_of (take i start)) ≡ bytes_of (take i ds) + bytes_of (take 0 ps) = omega (arith, ap bytes_of (take-map deletion_of i start)) in
         rw before merged.sums))
 
--- ---- into room of its own
-
--- what is not free is merged, and so many bytes are left
-pub record IsWriting (ds ps : List (ℕ × ℕ)) (i j : ℕ) (merged : List RelaxDelta) (bytes : ℕ) : Type 0 where
-  pub old_within : i ≤ length ds
-  pub left_within : j ≤ length ps
-  pub size : length merged ≡ length ds + length ps
-  pub tail : IsTail ds ps i j (drop (i + j) merged)
-  pub sum : bytes ≡ bytes_of (take i ds) + bytes_of (take j ps)
-
-pub writing_first : (ds ps : List (ℕ × ℕ)) (merged : List RelaxDelta) (i j bytes : ℕ) → length merged ≡ i + j → i ≡ length ds → j ≡ length ps → bytes ≡ bytes_of ds + bytes_of ps → IsWriting ds ps i j merged bytes
-writing_first ds ps merged i j bytes room old left sum = record {
-  old_within = omega (arith, old);
-  left_within = omega (arith, left);
-  size = omega (arith, room, old, left);
-  tail = rw (drop_all (i + j) merged (omega (arith, room)), old, left) (IsTail-nil ds ps);
-  sum = rw (old, left, take_all (length ds) ds (omega arith), take_all (length ps) ps (omega arith)) sum;
-}
-
--- an old deletion is written
-pub writing_old : (ds ps : List (ℕ × ℕ)) (old left at : ℕ) (merged : List RelaxDelta) (delta : RelaxDelta) (bytes : ℕ) → IsValid ds → IsValid ps → 0 < old → 0 < left → at ≡ old + left - 1 → IsWriting ds ps old left merged bytes
-    → deletion_of delta ≡ get_or ds (old - 1) (0, 0) → (get_or ps (left - 1) (0, 0)).0 ≤ (get_or ds (old - 1) (0, 0)).0 → delta.cumulative_deleted ≡ bytes → IsWriting ds ps (old - 1) left (set merged at delta) (bytes - delta.bytes_deleted)
-writing_old ds ps old left at merged delta bytes valid rises some more place writing is above sum =
-    let one : old ≡ old - 1 + 1 = omega arith in
-    let other : left ≡ left - 1 + 1 = omega arith in
-    let inside : old - 1 < length ds = omega (arith, writing.old_within) in
-    let free : at < length merged = omega (arith, writing.size, writing.old_within, writing.left_within) in
-    let here : old - 1 + left ≡ at = omega arith in
-    let next : at + 1 ≡ old + left = omega arith in
-    let tail : IsTail ds ps (old - 1 + 1) (left - 1 + 1) (drop (old + left) merged) = rw (← one, ← other) writing.tail in
-    let written : IsTail ds ps (old - 1) (left - 1 + 1) (delta ∷ drop (old + left) merged) = IsTail-old ds ps (old - 1) (left - 1) (drop (old + left) merged) delta valid rises inside (omega (arith, writing.left_within)) tail is above (rw (← one, ← other) (sum ∙ writing.sum)) in
-    record {
-      old_within = omega (arith, writing.old_within);
-      left_within = writing.left_within;
-      size = omega (arith, writing.size, length-set merged at delta);
-      tail = rw (here, drop-set merged at delta free, next) (rw (← other) at written);
-      sum = omega (arith, writing.sum, rw (← one) at (sum_by_more (λ (e : ℕ × ℕ). e.1) ds (old - 1) (0, 0) inside), ap (λ (e : ℕ × ℕ). e.1) is);
-    }
-
--- the same, where no additional deletion is left
-pub writing_rest : (ds ps : List (ℕ × ℕ)) (old at : ℕ) (merged : List RelaxDelta) (delta : RelaxDelta) (bytes : ℕ) → IsValid ds → 0 < old → at ≡ old - 1 → IsWriting ds ps old 0 merged bytes
-    → deletion_of delta ≡ get_or ds (old - 1) (0, 0) → delta.cumulative_deleted ≡ bytes → IsWriting ds ps (old - 1) 0 (set merged at delta) (bytes - delta.bytes_deleted)
-writing_rest ds ps old at merged delta bytes valid some place writing is sum =
-    let one : old ≡ old - 1 + 1 = omega arith in
-    let inside : old - 1 < length ds = omega (arith, writing.old_within) in
-    let free : at < length merged = omega (arith, writing.size, writing.old_within) in
-    let here : old - 1 + 0 ≡ at = omega arith in
-    let next : at + 1 ≡ old + 0 = omega arith in
-    let tail : IsTail ds ps (old - 1 + 1) 0 (drop (old + 0) merged) = rw (← one) writing.tail in
-    let written : IsTail ds ps (old - 1) 0 (delta ∷ drop (old + 0) merged) = IsTail-rest ds ps (old - 1) (drop (old + 0) merged) delta valid inside tail is (rw (← one) (sum ∙ writing.sum)) in
-    record {
-      old_within = omega (arith, writing.old_within);
-      left_within = writing.left_within;
-      size = omega (arith, writing.size, length-set merged at delta);
-      tail = rw (here, drop-set merged at delta free, next) written;
-      sum = omega (arith, writing.sum, rw (← one) at (sum_by_more (λ (e : ℕ × ℕ). e.1) ds (old - 1) (0, 0) inside), ap (λ (e : ℕ × ℕ). e.1) is);
-    }
-
--- an additional deletion is written
-pub writing_left : (ds ps : List (ℕ × ℕ)) (old left at : ℕ) (merged : List RelaxDelta) (delta : RelaxDelta) (bytes : ℕ) → IsValid ds → IsValid ps → 0 < left → at ≡ old + left - 1 → IsWriting ds ps old left merged bytes
-    → deletion_of delta ≡ get_or ps (left - 1) (0, 0) → (0 < old → (get_or ds (old - 1) (0, 0)).0 ≤ (get_or ps (left - 1) (0, 0)).0) → delta.cumulative_deleted ≡ bytes → IsWriting ds ps old (left - 1) (set merged at delta) (bytes - delta.bytes_deleted)
-writing_left ds ps old left at merged delta bytes valid rises more place writing is above sum =
-    let other : left ≡ left - 1 + 1 = omega arith in
-    let inside : left - 1 < length ps = omega (arith, writing.left_within) in
-    let free : at < length merged = omega (arith, writing.size, writing.old_within, writing.left_within) in
-    let here : old + (left - 1) ≡ at = omega arith in
-    let next : at + 1 ≡ old + left = omega arith in
-    let tail : IsTail ds ps old (left - 1 + 1) (drop (old + left) merged) = rw (← other) writing.tail in
-    let written : IsTail ds ps old (left - 1) (delta ∷ drop (old + left) merged) = IsTail-left ds ps old (left - 1) (drop (old + left) merged) delta valid rises writing.old_within inside tail is above (rw (← other) (sum ∙ writing.sum)) in
-    record {
-      old_within = writing.old_within;
-      left_within = omega (arith, writing.left_within);
-      size = omega (arith, writing.size, length-set merged at delta);
-      tail = rw (here, drop-set merged at delta free, next) written;
-      sum = omega (arith, writing.sum, rw (← other) at (sum_by_more (λ (e : ℕ × ℕ). e.1) ps (left - 1) (0, 0) inside), ap (λ (e : ℕ × ℕ). e.1) is);
-    }
-
--- the bytes of the next deletion are among those left
-pub spends_old : (ds ps : List (ℕ × ℕ)) (old left : ℕ) (merged : List RelaxDelta) (bytes : ℕ) → 0 < old → IsWriting ds ps old left merged bytes → (get_or ds (old - 1) (0, 0)).1 ≤ bytes
-spends_old ds ps old left merged bytes some writing =
-    let one : old - 1 + 1 ≡ old = omega arith in
-    omega (arith, writing.sum, rw one at (sum_by_more (λ (e : ℕ × ℕ). e.1) ds (old - 1) (0, 0) (omega (arith, writing.old_within))))
-
-pub spends_left : (ds ps : List (ℕ × ℕ)) (old left : ℕ) (merged : List RelaxDelta) (bytes : ℕ) → 0 < left → IsWriting ds ps old left merged bytes → (get_or ps (left - 1) (0, 0)).1 ≤ bytes
-spends_left ds ps old left merged bytes some writing =
-    let one : left - 1 + 1 ≡ left = omega arith in
-    omega (arith, writing.sum, rw one at (sum_by_more (λ (e : ℕ × ℕ). e.1) ps (left - 1) (0, 0) (omega (arith, writing.left_within))))
-
--- at last all are written
-pub writing_last : (ds ps : List (ℕ × ℕ)) (merged : List RelaxDelta) (bytes : ℕ) → AreDisjoint (ds ++ ps) → IsWriting ds ps 0 0 merged bytes → IsSortedUnion (ds ++ ps) (map deletion_of merged) × AreValidDeltas merged
-writing_last ds ps merged bytes disjoint writing =
-    let union : IsSortedUnion (ds ++ ps) (map deletion_of merged) = union_from_sort (ds ++ ps) (map deletion_of merged) writing.tail.same disjoint writing.tail.rise in
-    (union, record { valid = union.valid; listing = record { same = refl; sums = λ k d within. omega (arith, writing.tail.sums.each k d within) } })
+-- and so do those that are written alone
+pub merging_written : (apart : Option (Bor (List RelaxDelta))) (start : List RelaxDelta) (ps : List (ℕ × ℕ)) (merged : List RelaxDelta) (bytes : ℕ) → AreDisjoint (map deletion_of start ++ ps) → IsMerging apart start ps 0 0 merged bytes → IsSortedUnion (map deletion_of start ++ ps) (map deletion_of merged) × AreValidDeltas merged
+merging_written apart start ps merged bytes disjoint merging =
+    let union : IsSortedUnion (map deletion_of start ++ ps) (map deletion_of merged) = union_from_sort (map deletion_of start ++ ps) (map deletion_of merged) merging.tail.same disjoint merging.tail.rise in
+    (union, record { valid = union.valid; listing = record { same = refl; sums = λ k d within. omega (arith, merging.tail.sums.each k d within) } })

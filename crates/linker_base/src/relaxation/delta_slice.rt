@@ -12,7 +12,7 @@ ghost use Rattle.linker_base.specs.Inner.Listed.{ArePlaced, IsOnlyAt};
 
 use super::RelaxDelta;
 use super::blocks::{BlockHead, count_blocks, write_heads};
-use super::merge::merge_into;
+use super::merge::merge_ascending;
 use super::overlap::{self, AsDeletion};
 use super::partition_point::{FEW, Level, Probe, Test, search};
 use super::walk::{Reached, ascend, walk};
@@ -394,13 +394,13 @@ impl<'a> DeltaSlice<'a> {
             (deletions_of merged.new) }
         ensures listed { AreValidDeltas merged.new }
     {
-        merge_into(self.deltas(), additional, merged);
+        merge_ascending(Some(self.deltas()), merged, self.len(), additional);
     }
 }
 
 // The bytes that the first `count` deltas delete.
 #[inline(always)]
-fn bytes_of_first(deltas: &[RelaxDelta], count: usize) -> u64
+pub(super) fn bytes_of_first(deltas: &[RelaxDelta], count: usize) -> u64
     requires { count ≤ length deltas.now }
     ensures { AreValidDeltas deltas.now
         → result ≡ bytes_of (take count (deletions_of deltas.now)) }
