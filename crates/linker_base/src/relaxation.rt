@@ -301,7 +301,7 @@ impl SectionRelaxDeltas {
     }
 
     /// The offset in the input section of the kept byte at `output_offset`: that offset and the
-    /// bytes of all deletions whose output place is at most that.
+    /// bytes of all deletions whose output offset is at most that.
     ///
     /// Requires an offset that `output_fits` accepts. The search takes O(log n).
     #[inline]

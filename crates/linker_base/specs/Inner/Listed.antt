@@ -20,7 +20,7 @@ pub record IsSound (list : List RelaxDelta) (blocks : List BlockHead) : Type 0 w
   pub deltas : AreValidDeltas list
   pub heads : AreKeptHeads list blocks
 
--- the first `passed` deletions are those whose output place, the offset less the bytes deleted
+-- the first `passed` deletions are those whose output offset, the offset less the bytes deleted
 -- before, is at most y
 pub record ArePlaced (deletions : List (ℕ × ℕ)) (y passed : ℕ) : Type 0 where
   pub before : (k : ℕ) (d : ℕ × ℕ) → k < passed

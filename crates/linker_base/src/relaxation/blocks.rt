@@ -23,7 +23,7 @@ pub const BLOCK_LEN: usize = 64;
 pub struct BlockHead {
     /// The input offset of the block's first delta.
     pub input_offset: u64,
-    /// Its output place: that offset less the bytes of all deletions before.
+    /// Its output offset: the input offset less the bytes of all deletions before.
     pub output_place: u64,
 }
 
@@ -57,7 +57,7 @@ pub trait Looks {
     fn count(&self) -> u64
         ensures { result ≡ looked self.now };
 
-    /// The input offset and the output place of the first delta of block `block`, delta
+    /// The input offset and the output offset of the first delta of block `block`, delta
     /// `64 * block`. One look.
     ///
     /// Requires that there is such a delta, and a count below `u64::MAX`.
@@ -66,7 +66,7 @@ pub trait Looks {
         requires room { looked self.old < 2 ^ 64 - 1 }
         ensures offset { (d : RelaxDelta)
             → result.0 ≡ (slice_index_or (listed self.old) (64 * block) d).input_offset }
-        ensures place { (d : RelaxDelta)
+        ensures output { (d : RelaxDelta)
             → result.1 ≡ output_offset_of (slice_index_or (listed self.old) (64 * block) d) }
         ensures same { listed self.new ≡ listed self.old }
         ensures counted { looked self.new ≡ looked self.old + 1 };

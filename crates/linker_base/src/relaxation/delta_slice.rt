@@ -113,7 +113,7 @@ impl<'a> DeltaSlice<'a> {
         count_blocks(self.deltas.len())
     }
 
-    /// Writes the head of each block, in order. Requires as many places as blocks.
+    /// Writes the head of each block, in order. Requires as many heads as blocks.
     pub fn write_heads(&self, heads: &mut [BlockHead])
         requires { length heads.old ≡ blocks_of (length self.now.deltas) }
         ensures { AreHeads self.now.deltas heads.new }
@@ -386,7 +386,7 @@ impl<'a> DeltaSlice<'a> {
     /// anew.
     ///
     /// It doesn't allocate. For k deletions and n deltas the work is O(n + k). Requires
-    /// deletions that `can_merge_ascending` accepts, and as many places as both.
+    /// deletions that `can_merge_ascending` accepts, and `merged` as long as both.
     pub fn merge_ascending<D: AsDeletion>(&self, additional: &[D], merged: &mut [RelaxDelta])
         requires places { length merged.old ≡ length self.now.deltas + length additional.now }
         requires valid { AreValidTogether (deletions_of self.now.deltas) (map D.deletion additional.now) }

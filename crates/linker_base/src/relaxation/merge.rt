@@ -103,7 +103,8 @@ fn append(deltas: &mut Vec<RelaxDelta>, pairs: &[(u64, u32)])
 #[inline(always)]
 fn old_delta(apart: Option<&[RelaxDelta]>, merged: &[RelaxDelta], index: usize) -> RelaxDelta
     requires { index < length (read_from apart merged.now) }
-    ensures { (d : RelaxDelta) → result ≡ slice_index_or (read_from apart.entry merged.now) index d }
+    ensures { (d : RelaxDelta)
+        → result ≡ slice_index_or (read_from apart.entry merged.now) index d }
 {
     match apart {
         Some(deltas) => deltas[index],
@@ -111,9 +112,10 @@ fn old_delta(apart: Option<&[RelaxDelta]>, merged: &[RelaxDelta], index: usize) 
     }
 }
 
-// Merges ascending deletions and the first `count` old deltas, from the back. The old ones stand in
-// a list apart, and the sums of all are made anew, or in the slice itself, where the rest is room
-// for as many. Returns how many of the first deltas are unchanged.
+// Merges ascending deletions and the first `count` old deltas, from the back. The old ones are of a
+// list apart, and need no right sums: those of all are made anew. Or they stand in `merged`, where
+// the rest is room for as many as the additional ones. Returns how many of the first deltas are
+// unchanged.
 #[inline(always)]
 pub(super) fn merge_ascending<D: AsDeletion>(
     apart: Option<&[RelaxDelta]>,
@@ -129,8 +131,9 @@ pub(super) fn merge_ascending<D: AsDeletion>(
     ensures within { result ≤ count }
     ensures front { (k : ℕ) (d : RelaxDelta) → k < result
         → slice_index_or merged.new k d ≡ slice_index_or merged.old k d }
-    ensures union { IsSortedUnion (map deletion_of (take count (read_from apart.entry merged.old)) ++ map D.deletion additional.now)
-        (map deletion_of merged.new) }
+    ensures union { IsSortedUnion
+        (map deletion_of (take count (read_from apart.entry merged.old))
+        ++ map D.deletion additional.now) (map deletion_of merged.new) }
     ensures listed { AreValidDeltas merged.new }
 {
     let mut old = count;

@@ -22,7 +22,7 @@ pub(super) const FEW: usize = 1024;
 pub(super) enum Test {
     /// Whether it begins strictly below an offset.
     Begins(u64),
-    /// Whether its output place, its offset less the bytes deleted before, is at most an offset.
+    /// Whether its output offset, its offset less the bytes deleted before, is at most an offset.
     IsPlaced(u64),
 }
 

@@ -5,7 +5,7 @@ use Rattle.linker_base.specs.declared.relaxation.RelaxDelta.{RelaxDelta}
 use Rattle.linker_base.specs.Deletions.{bytes_of}
 use Rattle.linker_base.specs.Deltas.{deletion_of}
 use Rattle.linker_base.specs.Inner.Listed.{read_from}
-use Rattle.linker_base.proofs.InPlace.{in_place, disjoint_fit, merging_first, merging_end, merging_old, merging_left, merging_last, merging_written, spends_old, spends_left}
+use Rattle.linker_base.proofs.Merges.{in_place, disjoint_fit, merging_first, merging_end, merging_old, merging_left, merging_last, merging_written, spends_old, spends_left}
 use Rattle.linker_base.proofs.Search.{blank}
 use Rattle.linker_base.proofs.relaxation.merge.merge_ascending.Goals as goal
 use Rattle.linker_base.proofs.relaxation.merge.merge_ascending.Goals.{then-loop-old-test+else-input_offset-old_delta, else-loop-old-test, in-Some, in-None}

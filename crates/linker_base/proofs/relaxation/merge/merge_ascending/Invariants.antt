@@ -1,6 +1,6 @@
 use Rattle.std.proofs.Common.{map, take}
 use Rattle.linker_base.specs.Inner.Listed.{read_from}
-use Rattle.linker_base.proofs.InPlace.{IsMerging}
+use Rattle.linker_base.proofs.Merges.{IsMerging}
 use Rattle.linker_base.proofs.relaxation.merge.merge_ascending.Given as goal
 
 abbrev pub invariant-loop-left : goal.invariant-loop-left

@@ -9,13 +9,13 @@ use Rattle.std.proofs.lemmas.List.{append_assoc, take-append-drop, take-append-l
 use Rattle.std.proofs.Math.Seq.{take-append-add}
 use Rattle.std.proofs.lemmas.List.Elements.{All-cons}
 use Rattle.std.proofs.lemmas.List.Sorted.{IsNonDecreasingBy-take, IsPermutation-refl, IsPermutation-cons, IsPermutation-middle, IsPermutation-append_right, IsPermutation-trans}
-use Rattle.std.proofs.lemmas.List.Sums.{sum_by-cons, sum_by_more, sum_by-append, sum_by-take-le}
+use Rattle.std.proofs.lemmas.List.Sums.{sum_by-cons, sum_by_more, sum_by-append}
 use Rattle.linker_base.specs.declared.relaxation.RelaxDelta.{RelaxDelta}
 use Rattle.linker_base.specs.Deletions.{AreDisjoint, IsValid, IsSortedUnion, bytes_of}
 use Rattle.linker_base.specs.Deltas.{deletion_of}
 use Rattle.linker_base.specs.Listed.{AreValidDeltas}
 use Rattle.linker_base.specs.Inner.Listed.{read_from}
-use Rattle.linker_base.proofs.OutputPlaces.{AreParted, rank-parted}
+use Rattle.linker_base.proofs.OutputOffsets.{AreParted, rank-parted}
 use Rattle.linker_base.proofs.Search.{deletion_at}
 use Rattle.linker_base.proofs.Unions.{union_from_sort}
 
@@ -28,11 +28,6 @@ disjoint_fit ds disjoint =
     } in
     let whole : take (length ds) ds ≡ ds = take_all (length ds) ds (omega arith) in
     omega (arith, rw whole at (rank-parted ds (length ds) (2 ^ 64 - 1) disjoint.apart parted))
-
--- so do those of the first of two disjoint lists
-pub both_fit : (ds ps : List (ℕ × ℕ)) (i j : ℕ) → AreDisjoint (ds ++ ps) → bytes_of (take i ds) + bytes_of (take j ps) < 2 ^ 64
-both_fit ds ps i j disjoint =
-    omega (arith, disjoint_fit (ds ++ ps) disjoint, sum_by-append (λ (d : ℕ × ℕ). d.1) ds ps, sum_by-take-le (λ (d : ℕ × ℕ). d.1) ds i, sum_by-take-le (λ (d : ℕ × ℕ). d.1) ps j)
 
 -- the offsets of a valid list rise
 pub valid_rises : (ds : List (ℕ × ℕ)) → IsValid ds → IsNonDecreasingBy (λ d. d.0) ds
@@ -85,8 +80,8 @@ HaveSums-append before xs ys first second = record {
         rw (get_or_append_left xs ys d k low, joined, take-append-le (k + 1) (map deletion_of xs) (map deletion_of ys) inner) (first.each k d low)
     | inr high ↦
         let inside : k - length xs < length ys = omega (arith, length-append xs ys) in
-        let place : k + 1 ≡ length (map deletion_of xs) + (k - length xs + 1) = omega (arith, length-map xs deletion_of) in
-        rw (get_or-append_right xs ys (length xs) k d refl high, joined, place, take-append-add (map deletion_of xs) (map deletion_of ys) (k - length xs + 1)) (omega (arith, second.each (k - length xs) d inside, sum_by-append (λ (e : ℕ × ℕ). e.1) (map deletion_of xs) (take (k - length xs + 1) (map deletion_of ys))))
+        let next : k + 1 ≡ length (map deletion_of xs) + (k - length xs + 1) = omega (arith, length-map xs deletion_of) in
+        rw (get_or-append_right xs ys (length xs) k d refl high, joined, next, take-append-add (map deletion_of xs) (map deletion_of ys) (k - length xs + 1)) (omega (arith, second.each (k - length xs) d inside, sum_by-append (λ (e : ℕ × ℕ). e.1) (map deletion_of xs) (take (k - length xs + 1) (map deletion_of ys))))
   ];
 }
   where
@@ -186,9 +181,6 @@ merging_end apart start ps i j bytes merged d merging some =
     let low : i - 1 < i = omega arith in
     let inside : i - 1 < length start = omega (arith, merging.old_within) in
     deletion_at start (i - 1) d (0, 0) inside ∙ ap deletion_of (sym (get_or-take i start (i - 1) d low) ∙ ap (λ front. get_or front (i - 1) d) (sym merging.front) ∙ get_or-take i (read_from apart merged) (i - 1) d low)
-
-pub merging_reads : (apart : Option (Bor (List RelaxDelta))) (start : List RelaxDelta) (ps : List (ℕ × ℕ)) (i j bytes : ℕ) (merged : List RelaxDelta) → IsMerging apart start ps i j merged bytes → i ≤ length (read_from apart merged)
-merging_reads apart start ps i j bytes merged merging = omega (arith, merging.old_within, ap length merging.front, length-take i (read_from apart merged), length-take i start)
 
 -- an old deletion is written
 pub merging_old : (apart : Option (Bor (List RelaxDelta))) (start : List RelaxDelta) (ps : List (ℕ × ℕ)) (old left at : ℕ) (merged : List RelaxDelta) (delta : RelaxDelta) (bytes : ℕ) → IsValid (map deletion_of start) → IsValid ps → 0 < old → at ≡ old + left - 1 → IsMerging apart start ps old left merged bytes
