@@ -7,7 +7,7 @@ ghost use Rattle.linker_base.specs.Blocks.{output_offset_of, blocks_of, head_of,
 ghost use Rattle.linker_base.specs.Deletions.{rank, IsSelected, HasInput};
 ghost use Rattle.linker_base.specs.Deltas.{deletions_of};
 ghost use Rattle.linker_base.specs.Listed.{AreValidDeltas};
-ghost use Rattle.linker_base.specs.Inner.Blocks.{size_of, passing_of, heads_kept, AreKeptHeads};
+ghost use Rattle.linker_base.specs.Inner.Blocks.{no_delta, size_of, passing_of, heads_kept, AreKeptHeads};
 
 use super::delta_slice::rank_after;
 use super::partition_point::{FEW, Level, Probe, Test, search};
@@ -85,9 +85,9 @@ pub trait Looks {
 impl<K: Looks> Probe for K {
     ghost deltas = { K.listed };
 
-    ghost size = { λ looks. size_of (K.listed looks) };
+    ghost size = { λ looks. size_of (blocks_of (length (K.listed looks))) (length (K.listed looks)) };
 
-    ghost passing = { λ looks. passing_of (K.listed looks) };
+    ghost passing = { λ looks. passing_of (λ at. head_of (slice_index_or (K.listed looks) (64 * at) no_delta)) (K.listed looks) };
 
     ghost probes = { K.looked };
 

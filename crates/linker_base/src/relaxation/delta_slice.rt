@@ -1,13 +1,13 @@
 //! Deltas that anyone owns, and the heads of their blocks.
 
 ghost use Rattle.std.specs.Prelude.{◌≡◌, ◌≢◌, ◌<◌, ◌≤◌, ◌+◌, ◌-◌, ◌*◌, ◌%◌, ◌^◌, ◌++◌, ◌↔◌, IsTrue};
-ghost use Rattle.std.specs.Prelude.{MatchOption, Any, All, [], map, length, take, max};
+ghost use Rattle.std.specs.Prelude.{MatchOption, Any, All, [], map, length, take, max, slice_index_or};
 ghost use Rattle.std.specs.List.Sorted.{IsNonDecreasing, IsPartitionPoint};
 ghost use Rattle.linker_base.specs.Deletions.{AreDisjoint, AreKept, IsValid, IsSortedUnion, bytes_of, rank, IsInsideDeletion, IsSelected, HasInput};
 ghost use Rattle.linker_base.specs.Blocks.{blocks_of, AreHeads, IsValidView};
 ghost use Rattle.linker_base.specs.Deltas.{deletions_of};
 ghost use Rattle.linker_base.specs.Listed.{AreValidDeltas, AreValidTogether, IsFirstOverlapping};
-ghost use Rattle.linker_base.specs.Inner.Blocks.{size_in, passing_in};
+ghost use Rattle.linker_base.specs.Inner.Blocks.{no_head, size_of, passing_of};
 ghost use Rattle.linker_base.specs.Inner.Listed.{ArePlaced, IsOnlyAt};
 
 use super::RelaxDelta;
@@ -44,9 +44,9 @@ impl<'a> Model for DeltaSlice<'a> {
 impl<'a> Probe for DeltaSlice<'a> {
     ghost deltas = { λ slice. slice.deltas };
 
-    ghost size = { λ slice. size_in slice.deltas slice.heads };
+    ghost size = { λ slice. size_of (length slice.heads) (length slice.deltas) };
 
-    ghost passing = { λ slice. passing_in slice.deltas slice.heads };
+    ghost passing = { λ slice. passing_of (λ at. slice_index_or slice.heads at no_head) slice.deltas };
 
     ghost probes = { λ slice. 0 };
 
