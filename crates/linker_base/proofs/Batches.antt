@@ -20,10 +20,6 @@ pairs_more batches i batch within is =
 pub pairs_front : (batches : List (Vec (ℕ × ℕ))) (i : ℕ) → pairs_of (take i batches) ++ pairs_of (drop i batches) ≡ pairs_of batches
 pairs_front batches i = sym (flat_map-append (λ (b : Vec (ℕ × ℕ)). b.items) (take i batches) (drop i batches)) ∙ ap pairs_of (take-append-drop i batches)
 
--- so they are no more than all
-pub pairs_fewer : (batches : List (Vec (ℕ × ℕ))) (i : ℕ) → length (pairs_of (take i batches)) ≤ length (pairs_of batches)
-pairs_fewer batches i = omega (arith, length-append (pairs_of (take i batches)) (pairs_of (drop i batches)), ap length (pairs_front batches i))
-
 -- after the last batch they are all
 pub pairs_all : (batches : List (Vec (ℕ × ℕ))) (i : ℕ) → length batches ≤ i → pairs_of (take i batches) ≡ pairs_of batches
 pairs_all batches i past = ap pairs_of (take_all i batches past)

@@ -1,11 +1,11 @@
 -- The laws of deletions, proved.
-use Rattle.std.proofs.Common.{◌≡◌, ℕ, zero, suc, ◌+◌, ◌-◌, ◌<◌, ◌≤◌, true, false, cond, List, [], ◌∷◌, ◌++◌, length, map, get_or, take, refl, ap, inl, inr, ⊎_elim, arith}
+use Rattle.std.proofs.Common.{◌≡◌, ℕ, zero, suc, ◌+◌, ◌<◌, ◌≤◌, true, false, cond, List, [], ◌∷◌, ◌++◌, length, map, get_or, take, refl, ap, inl, inr, ⊎_elim, arith}
 use Rattle.std.specs.Prelude.{max, not, nat_lt, All, AllPairs, Contains, IsPermutation}
 use Rattle.std.specs.List.{list_any, AllWithin}
 use Rattle.std.proofs.lemmas.Bool.{cases_lt, cases_Bool, not-true, false_from_ne_true, both_ways, or_right}
 use Rattle.std.proofs.lemmas.Bool.Decides.{nat_tests}
 use Rattle.std.proofs.lemmas.List.Elements.{All-head, All-tail}
-use Rattle.std.proofs.lemmas.List.Sums.{sum_by-cons, sum_by-le-sum_by, count_by-le-length}
+use Rattle.std.proofs.lemmas.List.Sums.{sum_by-cons}
 use Rattle.std.proofs.lemmas.List.Sorted.{IsPermutation-append_left, IsPermutation-append_right, IsPermutation-append_comm}
 use Rattle.std.proofs.lemmas.List.{append_assoc, take_all, get_or-take, length-take}
 use Rattle.linker_base.specs.Walk.{walk_to, IsAhead}
@@ -91,10 +91,6 @@ begun_parted (e ∷ ds) i ascending = elim (cases_lt e.0 i) [
     from_first : i ≤ e.0 → All (λ d. i ≤ d.0) (e ∷ ds)
     from_first from zero d within = from
     from_first from (suc k) d within = omega (arith, (ascending zero (suc k) d (omega arith) within).0)
-
--- a later query has no fewer deletions below it
-pub begun_below-rise : (ds : List (ℕ × ℕ)) (i j : ℕ) → i ≤ j → begun_below ds i ≤ begun_below ds j
-begun_below-rise ds i j le = sum_by-le-sum_by (λ (d : ℕ × ℕ). cond (nat_lt d.0 i) 1 0) (λ (d : ℕ × ℕ). cond (nat_lt d.0 j) 1 0) ds (λ d. grind (arith, nat_tests))
 
 -- where what is passed begins below i, a query at i leaves just what begins below i as passed
 taken_to : (ds : List (ℕ × ℕ)) (k i : ℕ) → AllPairs IsBefore ds → All (λ d. d.0 < i) (take k ds) → take (max k (begun_below ds i)) ds ≡ take (begun_below ds i) ds

@@ -3,12 +3,12 @@ pub mod Bits
 pub mod ConsecutiveBits
 pub mod Fields
 pub mod Immediates
-pub mod InPlace
 pub mod Laws
 pub mod Listed
+pub mod Merges
 pub mod Merging
 pub mod Moves
-pub mod OutputPlaces
+pub mod OutputOffsets
 pub mod Pairs
 pub mod PartitionPoint
 pub mod Parts

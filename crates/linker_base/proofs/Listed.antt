@@ -10,7 +10,7 @@ use Rattle.linker_base.specs.declared.relaxation.RelaxDelta.{RelaxDelta}
 use Rattle.linker_base.specs.Deletions.{IsBefore, EndFits, IsValid, bytes_of}
 use Rattle.linker_base.specs.Deltas.{deletion_of, RecordsDeletions}
 use Rattle.linker_base.specs.Listed.{IsFirstInvalid}
-use Rattle.linker_base.proofs.OutputPlaces.{bytes_of-take_fit}
+use Rattle.linker_base.proofs.OutputOffsets.{bytes_of-take_fit}
 
 -- up to and including one deletion of a valid list, the bytes are those before it and its own, and 64 bits hold them
 pub taken_up_to : (ds : List (ℕ × ℕ)) → IsValid ds → (k : ℕ) (d : ℕ × ℕ) → k < length ds → (bytes_of (take k ds) + (get_or ds k d).1 ≡ bytes_of (take (k + 1) ds)) × (bytes_of (take (k + 1) ds) < 2 ^ 64)

@@ -1,21 +1,19 @@
 -- Deletions beside those of a section: whether they may be merged, and what a merge leaves.
-use Rattle.std.proofs.Common.{◌≡◌, ◌≢◌, ℕ, ◌+◌, ◌-◌, ◌<◌, ◌≤◌, List, [], ◌∷◌, ◌++◌, length, map, get_or, set, take, drop, true, false, not, refl, sym, ◌∙◌, inl, inr, arith}
-use Rattle.std.specs.Prelude.{◌↔◌, Bool, IsTrue, All, AllPairs, IsPermutation}
-use Rattle.std.specs.List.Sorted.{IsNonDecreasingBy, IsPartitionPoint}
+use Rattle.std.proofs.Common.{◌≡◌, ℕ, ◌+◌, ◌-◌, ◌<◌, ◌≤◌, List, [], ◌∷◌, ◌++◌, length, map, get_or, take, drop, true, false, not, refl, sym, ◌∙◌, inl, inr, arith}
+use Rattle.std.specs.Prelude.{◌↔◌, Bool, IsTrue, All, AllPairs}
+use Rattle.std.specs.List.Sorted.{IsPartitionPoint}
 use Rattle.std.specs.Prelude.{Option, Some, None, MatchOption}
 use Rattle.std.specs.Option.{is_some}
 use Rattle.std.proofs.lemmas.Bool.{cases_lt, cases_order, false≢true}
-use Rattle.std.proofs.lemmas.List.{append_assoc, take-append-drop, take_more, get_or-take, length-take, get_or_append_left, get_or-append_right, get_or-append-add, get_or_default, length-append, length-map, get_or-set_same, get_or-set_other}
+use Rattle.std.proofs.lemmas.List.{append_assoc, take-append-drop, take_more, get_or-take, length-take, get_or_append_left, get_or-append_right, get_or-append-add, get_or_default, length-append, length-map}
 use Rattle.std.proofs.lemmas.List.Elements.{All-nil, All-cons, All-append}
-use Rattle.std.proofs.lemmas.List.Sorted.{IsPermutation-map}
-use Rattle.std.proofs.Math.Seq.{map-set_same}
 use Rattle.linker_base.specs.declared.relaxation.RelaxDelta.{RelaxDelta}
-use Rattle.linker_base.specs.Deletions.{IsBefore, DoNotOverlap, EndFits, AreDisjoint, IsValid, IsSortedUnion, bytes_of}
+use Rattle.linker_base.specs.Deletions.{IsBefore, DoNotOverlap, EndFits, AreDisjoint, IsValid}
 use Rattle.linker_base.specs.Deltas.{deletion_of}
 use Rattle.linker_base.specs.Listed.{IsFirstOverlapping}
 use Rattle.linker_base.proofs.Batches.{All-front, All-back}
 use Rattle.linker_base.proofs.Search.{blank, deletion_at}
-use Rattle.linker_base.proofs.Unions.{disjoint_left, union_from_sort}
+use Rattle.linker_base.proofs.Unions.{disjoint_left}
 
 -- the last of the first k lies below the pair
 abbrev pub IsPastLast : List (ℕ × ℕ) → ℕ → ℕ × ℕ → Type 0
@@ -115,29 +113,6 @@ disjoint_across ds others disjoint j e within i d low =
     let apart = disjoint.apart i (length ds + j) d (omega arith) (omega (arith, length-append ds others)) in
     let same : get_or (ds ++ others) (length ds + j) d ≡ get_or others j e = get_or-append-add ds others j d ∙ get_or_default others j d e within in
     rw (get_or_append_left ds others d i low, same) at apart
-
--- deltas sorted by offset are the sorted union of what they were
-pub union_of_sorted : (old new : List RelaxDelta) → IsPermutation old new → AreDisjoint (map deletion_of old) → IsNonDecreasingBy (λ d. d.input_offset) new → IsSortedUnion (map deletion_of old) (map deletion_of new)
-union_of_sorted old new moved disjoint rise = union_from_sort (map deletion_of old) (map deletion_of new) (IsPermutation-map deletion_of old new moved) disjoint (λ i j d le within.
-    let inside : j < length new = omega (arith, length-map new deletion_of) in
-    rw (deletion_at new i blank d (omega arith), deletion_at new j blank d inside) (rise i j blank le inside))
-
--- a new sum at one place keeps the deletions
-pub same_after_sum : (deltas : List RelaxDelta) (k sum : ℕ) → k < length deltas → map deletion_of (set deltas k (record (get_or deltas k blank) { cumulative_deleted = sum })) ≡ map deletion_of deltas
-same_after_sum deltas k sum within = map-set_same deletion_of deltas k (record (get_or deltas k blank) { cumulative_deleted = sum }) blank refl
-
--- and where the sums before it are right, and it is too, so are all up to it
-pub sums_more : (deltas : List RelaxDelta) (k sum : ℕ) → k < length deltas → sum ≡ bytes_of (take (k + 1) (map deletion_of deltas))
-    → ((j : ℕ) (d : RelaxDelta) → j < k → (get_or deltas j d).cumulative_deleted ≡ bytes_of (take (j + 1) (map deletion_of deltas)))
-    → (j : ℕ) (d : RelaxDelta) → j < k + 1 → (get_or (set deltas k (record (get_or deltas k blank) { cumulative_deleted = sum })) j d).cumulative_deleted ≡ bytes_of (take (j + 1) (map deletion_of deltas))
-sums_more deltas k sum within right before j d below = elim (cases_lt j k) [
-  | inl low ↦
-      let other : j ≢ k = omega arith in
-      rw (get_or-set_other deltas k j (record (get_or deltas k blank) { cumulative_deleted = sum }) d other) (before j d low)
-  | inr high ↦
-      let same : j ≡ k = omega arith in
-      rw (same, get_or-set_same deltas k (record (get_or deltas k blank) { cumulative_deleted = sum }) d within) right
-]
 
 -- where all are disjoint, so are those with the first of the additional ones
 pub disjoint_take : (ds others : List (ℕ × ℕ)) (k : ℕ) → AreDisjoint (ds ++ others) → AreDisjoint (ds ++ take k others)

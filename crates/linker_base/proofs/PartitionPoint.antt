@@ -1,5 +1,5 @@
 -- Parts of a search: what one test says of all other elements, and how many probes a search takes.
-use Rattle.std.proofs.Common.{◌≡◌, ℕ, zero, suc, ◌+◌, ◌-◌, ◌*◌, ◌/◌, ◌<◌, ◌≤◌, Bool, true, false, sym, ap, ◌∙◌, inl, inr, arith}
+use Rattle.std.proofs.Common.{◌≡◌, ℕ, zero, suc, ◌+◌, ◌-◌, ◌*◌, ◌/◌, ◌<◌, ◌≤◌, Bool, true, false, sym, ◌∙◌, inl, inr, arith}
 use Rattle.std.specs.Prelude.{◌^◌}
 use Rattle.std.proofs.lemmas.Bool.{cases_Bool, cases_lt, false≢true}
 use Rattle.std.proofs.lemmas.Nat.{pow_pos}
@@ -8,9 +8,6 @@ use Rattle.linker_base.specs.declared.relaxation.partition_point.SearchRange.{Se
 use Rattle.linker_base.specs.Inner.PartitionPoint.{IsPartitioned, IsPointOf, HeadsAgree, IsRangeOf, IsNarrowed, IsPowerOfTwo, CanHalve, Narrows}
 
 -- ---- probes
-
-pub can_stay : (limit spent now len shorter : ℕ) → now ≤ spent → shorter ≤ len → CanHalve limit spent len → CanHalve limit now shorter
-can_stay limit spent now len shorter le short (left, long, room) = (left, omega arith, omega arith)
 
 -- a halving of more than one element takes one probe
 pub can_once : (limit spent now len half : ℕ) → now ≤ spent + 1 → 1 < len → 2 * half ≤ len + 1 → CanHalve limit spent len → CanHalve limit now half
@@ -43,9 +40,6 @@ can_begin_blocks spent size blocks digits few fits = (suc (suc (suc (suc (suc (s
 
 module _ (p : ℕ → Bool) (n : ℕ) where
   -- ---- parts of parts
-
-  pub narrows_same : (range : SearchRange) (spent : ℕ) → IsRangeOf range n → Narrows p n range spent range spent
-  narrows_same range spent within = record { within = within; some = λ s. s; first = λ f. f; narrowed = λ parted known. known; can = λ limit c. c }
 
   pub narrows_then : (a b c : SearchRange) (x y z : ℕ) → Narrows p n a x b y → Narrows p n b y c z → Narrows p n a x c z
   narrows_then a b c x y z one two = record {
@@ -115,34 +109,10 @@ module _ (p : ℕ → Bool) (n : ℕ) where
     can = λ limit held. can_cut limit spent now s.len width probed power long held;
   }
 
-  -- the tests at the ends of three quarters: the next quarter
-  pub narrowed_quarter : IsPartitioned p n → (s : SearchRange) (q : ℕ) (a b c : Bool) → s.start + s.len ≤ n → 0 < q → 4 * q ≤ s.len
-      → a ≡ p (s.start + q) → b ≡ p (s.start + 2 * q) → c ≡ p (s.start + 3 * q)
-      → IsNarrowed p n s → IsNarrowed p n (record { start = s.start + (bool_byte a + bool_byte b + bool_byte c) * q; len = s.len - 3 * q })
-  narrowed_quarter parted s q true true true inside some long first second third known =
-      narrowed_up parted s _ (omega arith) (omega arith) (sym third) known
-  narrowed_quarter parted s q true true false inside some long first second third known =
-      narrowed_down parted (record { start = s.start + 2 * q; len = s.len - 2 * q }) _ (s.start + 3 * q) (omega arith) (omega arith) (omega arith) (sym third)
-      (narrowed_up parted s _ (omega arith) (omega arith) (sym second) known)
-  narrowed_quarter parted s q true false false inside some long first second third known =
-      narrowed_down parted (record { start = s.start + q; len = s.len - q }) _ (s.start + 2 * q) (omega arith) (omega arith) (omega arith) (sym second)
-      (narrowed_up parted s _ (omega arith) (omega arith) (sym first) known)
-  narrowed_quarter parted s q false false false inside some long first second third known =
-      narrowed_down parted s _ (s.start + q) (omega arith) (omega arith) (omega arith) (sym first) known
-  narrowed_quarter parted s q false true c inside some long first second third known =
-      absurd (false≢true (first ∙ parted (s.start + q) (s.start + 2 * q) (omega arith) (omega arith) (sym second)))
-  narrowed_quarter parted s q true false true inside some long first second third known =
-      absurd (false≢true (second ∙ parted (s.start + 2 * q) (s.start + 3 * q) (omega arith) (omega arith) (sym third)))
-  narrowed_quarter parted s q false false true inside some long first second third known =
-      absurd (false≢true (second ∙ parted (s.start + 2 * q) (s.start + 3 * q) (omega arith) (omega arith) (sym third)))
-
   -- ---- the end of a search
 
   pub narrowed_all : (range : SearchRange) → range.start ≡ 0 → range.len ≡ n → IsNarrowed p n range
   narrowed_all range start len = record { before = λ k low. absurd (omega arith); after = λ k low high. absurd (omega arith) }
-
-  pub point_none : (range : SearchRange) → range.len ≡ 0 → IsNarrowed p n range → IsPointOf p n range.start
-  point_none range empty known = record { before = known.before; after = λ k low high. known.after k (omega arith) high }
 
   -- one element is left, and it passes or fails
   pub point_one : (range : SearchRange) (b : Bool) → range.len ≤ 1 → b ≡ p range.start → IsNarrowed p n range → IsPointOf p n (range.start + bool_byte b)

@@ -10,12 +10,12 @@ use Rattle.linker_base.specs.declared.relaxation.RelaxDelta.{RelaxDelta}
 use Rattle.linker_base.specs.Deletions.{IsValid, IsInsideDeletion, IsSelected, HasInput, bytes_of, rank}
 use Rattle.linker_base.specs.Deltas.{deletion_of}
 use Rattle.linker_base.specs.declared.relaxation.blocks.BlockHead.{BlockHead}
-use Rattle.linker_base.specs.Blocks.{place_of, AreHeads}
+use Rattle.linker_base.specs.Blocks.{output_offset_of, AreHeads}
 use Rattle.linker_base.specs.Inner.Blocks.{no_head}
 use Rattle.linker_base.specs.Inner.PartitionPoint.{IsPartitioned, IsPointOf, HeadsAgree}
 use Rattle.linker_base.specs.Listed.{AreValidDeltas}
 use Rattle.linker_base.specs.Inner.Listed.{ArePlaced, IsOnlyAt, IsEndOf}
-use Rattle.linker_base.proofs.OutputPlaces.{AreParted, rank-parted, selected-place, bytes_between, bytes-le-offset}
+use Rattle.linker_base.proofs.OutputOffsets.{AreParted, rank-parted, selected-output, bytes_between, bytes-le-offset}
 use Rattle.linker_base.proofs.Rank.{rank-mono, input_fits}
 use Rattle.linker_base.proofs.Unions.{apart_from_ascending}
 
@@ -23,11 +23,11 @@ use Rattle.linker_base.proofs.Unions.{apart_from_ascending}
 abbrev pub blank : RelaxDelta
 blank = record { input_offset = 0; cumulative_deleted = 0; bytes_deleted = 0 }
 
--- the deletion at a place is that of the delta there
+-- the deletion at an index is that of the delta there
 pub deletion_at : (deltas : List RelaxDelta) (k : ℕ) (d : RelaxDelta) (e : ℕ × ℕ) → k < length deltas → get_or (map deletion_of deltas) k e ≡ deletion_of (get_or deltas k d)
 deletion_at deltas k d e within = get_or-map deletion_of deltas k d e within
 
--- the sum at a place is that of the deletions before it and its own bytes
+-- the sum at an index is that of the deletions before it and its own bytes
 pub sum_at : (deltas : List RelaxDelta) → AreValidDeltas deltas → (k : ℕ) (d : RelaxDelta) → k < length deltas → (get_or deltas k d).cumulative_deleted ≡ bytes_of (take k (map deletion_of deltas)) + (get_or deltas k d).bytes_deleted
 sum_at deltas listed k d within =
     let inside : k < length (map deletion_of deltas) = omega (arith, length-map deltas deletion_of) in
@@ -44,29 +44,29 @@ offsets_rise deltas valid i j d le within = elim (cases_order i j) [
   | inr (inr above) ↦ absurd (omega arith)
 ]
 
-place_from_sum : (offset bytes before : ℕ) → before ≤ offset → offset + bytes < 2 ^ 64 → (offset + bytes + (2 ^ 64 - (before + bytes))) % 2 ^ 64 + before ≡ offset
-place_from_sum offset bytes before low fits = omega arith
+output_offset_from_sum : (offset bytes before : ℕ) → before ≤ offset → offset + bytes < 2 ^ 64 → (offset + bytes + (2 ^ 64 - (before + bytes))) % 2 ^ 64 + before ≡ offset
+output_offset_from_sum offset bytes before low fits = omega arith
 
--- the output place of a delta and the bytes deleted before it make its offset
-place_at : (deltas : List RelaxDelta) → AreValidDeltas deltas → (k : ℕ) (d : RelaxDelta) → k < length deltas → place_of (get_or deltas k d) + bytes_of (take k (map deletion_of deltas)) ≡ (get_or deltas k d).input_offset
-place_at deltas listed k d within =
+-- the output offset of a delta and the bytes deleted before it make its offset
+output_offset_at : (deltas : List RelaxDelta) → AreValidDeltas deltas → (k : ℕ) (d : RelaxDelta) → k < length deltas → output_offset_of (get_or deltas k d) + bytes_of (take k (map deletion_of deltas)) ≡ (get_or deltas k d).input_offset
+output_offset_at deltas listed k d within =
     let ds = map deletion_of deltas in
     let inside : k < length ds = omega (arith, length-map deltas deletion_of) in
     let at = deletion_at deltas k d (0, 0) within in
-    rw (sum_at deltas listed k d within) (place_from_sum (get_or deltas k d).input_offset (get_or deltas k d).bytes_deleted (bytes_of (take k ds)) (rw at at (bytes-le-offset ds k (0, 0) listed.valid.ascending inside)) (rw at at (listed.valid.ends k (0, 0) inside)))
+    rw (sum_at deltas listed k d within) (output_offset_from_sum (get_or deltas k d).input_offset (get_or deltas k d).bytes_deleted (bytes_of (take k ds)) (rw at at (bytes-le-offset ds k (0, 0) listed.valid.ascending inside)) (rw at at (listed.valid.ends k (0, 0) inside)))
 
--- whether the output place of a delta is at most y
+-- whether the output offset of a delta is at most y
 abbrev pub is_placed : ℕ → RelaxDelta → Bool
-is_placed y d = leb (place_of d) y
+is_placed y d = leb (output_offset_of d) y
 
 -- which means the same of its deletion
 placed_at : (deltas : List RelaxDelta) → AreValidDeltas deltas → (y k : ℕ) (d : RelaxDelta) (e : ℕ × ℕ) → k < length deltas → ((is_placed y (get_or deltas k d) ≡ true → (get_or (map deletion_of deltas) k e).0 ≤ y + bytes_of (take k (map deletion_of deltas))) × ((get_or (map deletion_of deltas) k e).0 ≤ y + bytes_of (take k (map deletion_of deltas)) → is_placed y (get_or deltas k d) ≡ true) × (is_placed y (get_or deltas k d) ≡ false → y + bytes_of (take k (map deletion_of deltas)) < (get_or (map deletion_of deltas) k e).0))
 placed_at deltas listed y k d e within =
-    let place = place_at deltas listed k d within in
+    let output = output_offset_at deltas listed k d within in
     rw (deletion_at deltas k d e within)
     (λ low. grind (arith, nat_tests), λ low. grind (arith, nat_tests), λ high. grind (arith, nat_tests))
 
--- output places don't fall, so a search by them parts the deltas
+-- output offsets don't fall, so a search by them parts the deltas
 pub placed_first : (deltas : List RelaxDelta) → AreValidDeltas deltas → (y : ℕ) → IsPartitionedBy (is_placed y) deltas
 placed_first deltas listed y i j d le within passes =
     let ds = map deletion_of deltas in
@@ -140,7 +140,7 @@ module _ (ds : List (ℕ × ℕ)) (valid : IsValid ds) where
       ]
 
   pub selected_from_search : (y k : ℕ) → k ≤ length ds → ArePlaced ds y k → IsSelected ds y (y + bytes_of (take k ds))
-  selected_from_search y k within placed = selected-place ds k y (apart_from_ascending ds valid.ascending) within placed.before placed.after
+  selected_from_search y k within placed = selected-output ds k y (apart_from_ascending ds valid.ascending) within placed.before placed.after
 
   pub fits_from_search : (y k : ℕ) → k ≤ length ds → ArePlaced ds y k → HasInput ds y ↔ (y + bytes_of (take k ds) < 2 ^ 64)
   fits_from_search y k within placed = input_fits ds y (y + bytes_of (take k ds)) (selected_from_search y k within placed)

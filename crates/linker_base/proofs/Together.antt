@@ -1,10 +1,10 @@
 -- A walk through two lists of deletions, the lower of both first.
-use Rattle.std.proofs.Common.{◌≡◌, ℕ, ◌+◌, ◌-◌, ◌<◌, ◌≤◌, List, [], ◌∷◌, ◌++◌, length, get_or, take, sym, ◌∙◌, inl, inr, arith}
+use Rattle.std.proofs.Common.{◌≡◌, ℕ, ◌+◌, ◌-◌, ◌<◌, ◌≤◌, List, [], ◌∷◌, ◌++◌, length, get_or, take, inl, inr, arith}
 use Rattle.std.specs.Prelude.{max, All, IsPermutation}
 use Rattle.std.proofs.lemmas.List.{append_assoc, take_all, take_more, get_or-take, get_or_default, length-take}
 use Rattle.std.proofs.lemmas.List.Elements.{All-append, All-push}
 use Rattle.std.proofs.lemmas.List.Sorted.{All-permutation, IsPermutation-refl, IsPermutation-sym, IsPermutation-trans, IsPermutation-append_left, IsPermutation-append_right, IsPermutation-append_comm}
-use Rattle.linker_base.specs.Deletions.{IsBefore, DoNotOverlap, EndFits, AreDisjoint, IsValid}
+use Rattle.linker_base.specs.Deletions.{IsValid}
 use Rattle.linker_base.specs.Listed.{AreValidTogether}
 use Rattle.linker_base.specs.Inner.Listed.{IsRun, CanFollow}
 use Rattle.linker_base.proofs.Batches.{All-front, IsRun-nil, IsRun-push}

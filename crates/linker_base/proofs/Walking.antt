@@ -1,7 +1,6 @@
 -- How far a cursor's walk goes at a query.
 use Rattle.std.proofs.Common.{◌≡◌, ℕ, ◌+◌, ◌-◌, ◌<◌, ◌≤◌, List, length, map, get_or, take, ap, ◌∙◌, inl, inr, arith}
 use Rattle.std.specs.Prelude.{◌↔◌, ◌%◌, ◌^◌, max, nat_lt, All, AllPairs}
-use Rattle.std.specs.List.Sorted.{IsPartitionPoint}
 use Rattle.std.proofs.lemmas.Bool.{cases_lt}
 use Rattle.std.proofs.lemmas.List.{length-map, length-take, get_or-take, get_or_default}
 use Rattle.std.proofs.lemmas.List.Sums.{count_by-le-length}
@@ -14,22 +13,8 @@ use Rattle.linker_base.specs.declared.relaxation.walk.Reached.{Reached}
 use Rattle.linker_base.specs.Deletions.{begun_below}
 use Rattle.linker_base.proofs.Laws.{begun_parted}
 use Rattle.linker_base.proofs.Listed.{taken_up_to}
-use Rattle.linker_base.proofs.OutputPlaces.{bytes-le-offset}
+use Rattle.linker_base.proofs.OutputOffsets.{bytes-le-offset}
 use Rattle.linker_base.proofs.Search.{blank, deletion_at, rank_from_search}
-
--- a place that parts the deletions at i counts those that begin below it
-pub begun_from_parted : (ds : List (ℕ × ℕ)) → AllPairs IsBefore ds → (i k : ℕ) → k ≤ length ds → IsPartitionPoint (λ d. d.0 < i) (λ d. i ≤ d.0) ds k → begun_below ds i ≡ k
-begun_from_parted ds ascending i k within parted =
-    let b = begun_below ds i in
-    let bound = count_by-le-length (λ (d : ℕ × ℕ). nat_lt d.0 i) ds in
-    let begun = begun_parted ds i ascending in
-    elim (cases_lt b k) [
-      | inl low ↦ absurd (omega (arith, begun.1 b (0, 0) (omega arith) (omega arith), parted.0 b (0, 0) (omega arith) low))
-      | inr from ↦ elim (cases_lt k b) [
-        | inl high ↦ absurd (omega (arith, begun.0 k (0, 0) (omega arith) high, parted.1 k (0, 0) (omega arith) (omega arith)))
-        | inr same ↦ omega arith
-      ]
-    ]
 
 -- a walk from start that stops at the first delta that doesn't begin below i
 pub walked_to : (deltas : List RelaxDelta) → AreValidDeltas deltas → (i start k : ℕ) → start ≤ k → k ≤ length deltas → ((j : ℕ) (d : RelaxDelta) → start ≤ j → j < k → (get_or deltas j d).input_offset < i) → (k < length deltas → i ≤ (get_or deltas k blank).input_offset) → k ≡ max start (begun_below (map deletion_of deltas) i)

@@ -6,8 +6,8 @@ use Rattle.linker_base.specs.declared.relaxation.blocks.BlockHead.{BlockHead}
 use Rattle.linker_base.specs.Listed.{AreValidDeltas}
 
 -- the offset less the bytes deleted before, modulo 2^64
-abbrev pub place_of : RelaxDelta → ℕ
-place_of delta =
+abbrev pub output_offset_of : RelaxDelta → ℕ
+output_offset_of delta =
     (delta.input_offset + delta.bytes_deleted + (2 ^ 64 - delta.cumulative_deleted)) % 2 ^ 64
 
 -- how many blocks there are; the last may be shorter
@@ -16,7 +16,7 @@ blocks_of len = (len + 63) / 64
 
 -- the head of a block that begins with the delta
 abbrev pub head_of : RelaxDelta → BlockHead
-head_of delta = record { input_offset = delta.input_offset; output_place = place_of delta }
+head_of delta = record { input_offset = delta.input_offset; output_place = output_offset_of delta }
 
 -- the heads of the blocks of the deltas
 pub record AreHeads (deltas : List RelaxDelta) (heads : List BlockHead) : Type 0 where
@@ -29,12 +29,12 @@ pub record Counts : Type 0 where
   pub listed : List RelaxDelta
   pub looked : ℕ
 
--- deltas, and what stands for the heads of their blocks
-pub record Blocked : Type 0 where
+-- deltas, and what stands for the heads of their blocks, or none
+pub record View : Type 0 where
   pub deltas : List RelaxDelta
   pub heads : List BlockHead
 
--- the deltas list valid deletions, and the heads are theirs
-pub record HaveHeads (blocked : Blocked) : Type 0 where
-  pub valid : AreValidDeltas blocked.deltas
-  pub heads : AreHeads blocked.deltas blocked.heads
+-- the deltas list valid deletions, and the heads, if there are any, are theirs
+pub record IsValidView (view : View) : Type 0 where
+  pub valid : AreValidDeltas view.deltas
+  pub heads : 0 < length view.heads → AreHeads view.deltas view.heads

@@ -26,12 +26,12 @@ Entries = List (ℕ × List (ℕ × ℕ))
 abbrev pub IndicesRise : Entries → Type 0
 IndicesRise entries = AllPairs (λ a b. a.0 < b.0) entries
 
--- the entry at the place has the index
+-- the entry `at` has the index
 pub record IsAt (entries : Entries) (index at : ℕ) : Type 0 where
   pub within : at < length entries
   pub same : HoldsAt (λ e. e.0 ≡ index) entries at
 
--- the index would go at the place: lower ones before it, and higher ones from it on
+-- the index would go there: lower ones before it, and higher ones from it on
 pub record IsGap (entries : Entries) (index at : ℕ) : Type 0 where
   pub within : at ≤ length entries
   pub lower : AllWithin (λ e. e.0 < index) entries 0 at

@@ -2,15 +2,12 @@
 
 ghost use Rattle.std.specs.Prelude.{◌≡◌, ◌↔◌, ◌+◌, ◌<◌, ◌^◌, ◌++◌, IsTrue, IsOk, IfOk, OnOk, OnErr, IfSome, IfNone, MatchOption, All, Any, []};
 ghost use Rattle.linker_base.specs.Deletions.{AreDisjoint, IsValid, IsSortedUnion, bytes_of, rank, AreKept, IsInsideDeletion, IsSelected, HasInput};
-ghost use Rattle.linker_base.specs.Blocks.{place_of};
+ghost use Rattle.linker_base.specs.Blocks.{output_offset_of, IsValidView};
 ghost use Rattle.linker_base.specs.Deltas.{RecordsDeletions, deletions_of, pairs_of};
-ghost use Rattle.linker_base.specs.Listed.{AreValidDeltas};
 
 use std::alloc::{AllocError, AllocFailed, Global};
 use std::marker::Model;
 
-mod arrays;
-mod blocked_slice;
 mod blocks;
 mod cursor;
 mod delta_slice;
@@ -19,10 +16,8 @@ mod map;
 mod merge;
 mod overlap;
 mod partition_point;
-mod search;
 mod walk;
 
-pub use blocked_slice::BlockedSlice;
 use blocks::{count_heads, fill_heads, reserve_heads};
 pub use blocks::{
     BLOCK_LEN, BlockHead, Counted, Looks, input_to_output_counted, output_to_input_counted,
@@ -74,8 +69,8 @@ pub struct RelaxDelta {
 impl RelaxDelta {
     // The input offset less the bytes deleted before.
     #[inline(always)]
-    fn output_place(&self) -> u64
-        ensures { result ≡ place_of self.now }
+    fn output_offset(&self) -> u64
+        ensures { result ≡ output_offset_of self.now }
     {
         let end = self
             .input_offset
@@ -239,20 +234,21 @@ impl SectionRelaxDeltas {
         &self.deltas[..]
     }
 
-    /// The deltas as a slice that translates offsets too.
-    #[inline]
+    /// The deltas, and the heads of their blocks where these are kept, as a slice that translates
+    /// offsets too.
+    #[inline(always)]
     pub fn as_delta_slice(&self) -> DeltaSlice<'_>
-        ensures valid { AreValidDeltas result }
-        ensures same { deletions_of result ≡ self.now }
+        ensures valid { IsValidView result }
+        ensures same { deletions_of result.deltas ≡ self.now }
     {
-        DeltaSlice::new(&self.deltas)
+        DeltaSlice::over(&self.deltas, &self.heads)
     }
 
     /// Whether a deletion is listed at the offset, be it one of no bytes.
     pub fn has_delta_at(&self, offset: u64) -> bool
         ensures { IsTrue result ↔ Any (λ d. d.0 ≡ offset) self.now }
     {
-        search::delta_at(&self.deltas, offset).is_some()
+        self.as_delta_slice().has_delta_at(offset)
     }
 
     /// The bytes that are deleted at the offset: 0 where no deletion is listed there.
@@ -260,10 +256,7 @@ impl SectionRelaxDeltas {
         ensures listed { All (λ d. d.0 ≡ offset → result ≡ d.1) self.now }
         ensures none { ¬ (Any (λ d. d.0 ≡ offset) self.now) → result ≡ 0 }
     {
-        match search::delta_at(&self.deltas, offset) {
-            Some(delta) => delta.bytes_deleted,
-            None => 0,
-        }
+        self.as_delta_slice().delta_bytes_at(offset)
     }
 
     /// Whether nothing is listed. A deletion of no bytes counts as listed.
@@ -277,7 +270,7 @@ impl SectionRelaxDeltas {
     pub fn total_deleted(&self) -> u64
         ensures { result ≡ bytes_of self.now }
     {
-        search::bytes_of_first(&self.deltas, self.deltas.len())
+        self.as_delta_slice().total_deleted()
     }
 
     /// How many kept bytes lie below `input_offset`, which is the offset in the output section of
@@ -287,14 +280,14 @@ impl SectionRelaxDeltas {
     pub fn input_to_output_offset(&self, input_offset: u64) -> u64
         ensures { result ≡ rank self.now input_offset }
     {
-        input_to_output_counted(&mut self.counted(), input_offset)
+        self.as_delta_slice().input_to_output_offset(input_offset)
     }
 
     /// Whether the offset lies above the first byte of a deletion and below its end.
     pub fn is_inside(&self, input_offset: u64) -> bool
         ensures { IsTrue result ↔ IsInsideDeletion self.now input_offset }
     {
-        search::is_inside(&self.deltas, input_offset)
+        self.as_delta_slice().is_inside(input_offset)
     }
 
     /// The output offset of the `len` bytes from `input_offset` on, or none where one of them is
@@ -304,11 +297,11 @@ impl SectionRelaxDeltas {
         ensures { MatchOption result (¬ (AreKept self.now input_offset len))
             (λ output. AreKept self.now input_offset len × (output ≡ rank self.now input_offset)) }
     {
-        search::rank_of_kept(&self.deltas, input_offset, len)
+        self.as_delta_slice().kept_output_offset(input_offset, len)
     }
 
     /// The offset in the input section of the kept byte at `output_offset`: that offset and the
-    /// bytes of all deletions whose output place is at most that.
+    /// bytes of all deletions whose output offset is at most that.
     ///
     /// Requires an offset that `output_fits` accepts. The search takes O(log n).
     #[inline]
@@ -316,14 +309,14 @@ impl SectionRelaxDeltas {
         requires { HasInput self.now output_offset }
         ensures { IsSelected self.now output_offset result }
     {
-        output_to_input_counted(&mut self.counted(), output_offset)
+        output_offset + self.as_delta_slice().bytes_before(output_offset)
     }
 
     /// Whether the input offset of the kept byte at `output_offset` is at most `u64::MAX`.
     pub fn output_fits(&self, output_offset: u64) -> bool
         ensures { IsTrue result ↔ HasInput self.now output_offset }
     {
-        search::bytes_before(&self.deltas, output_offset) <= u64::MAX - output_offset
+        self.as_delta_slice().bytes_before(output_offset) <= u64::MAX - output_offset
     }
 
     /// The deltas, with a count of the looks at them, 0 so far.

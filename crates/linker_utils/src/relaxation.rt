@@ -7,7 +7,7 @@ pub use crate::riscv64::{
     shrink_calls, shrink_calls_into, shrunk_calls_are_accepted,
 };
 pub use linker_base::relaxation::{
-    AsDeletion, BLOCK_LEN, BlockHead, BlockedSlice, Counted, DeltaSlice, Looks, OutOfMemory,
-    RelaxCursor, RelaxDelta, RelaxDeltaMap, RelocationModifier, SectionRelaxDeltas, first_invalid,
+    AsDeletion, BLOCK_LEN, BlockHead, Counted, DeltaSlice, Looks, OutOfMemory, RelaxCursor,
+    RelaxDelta, RelaxDeltaMap, RelocationModifier, SectionRelaxDeltas, first_invalid,
     input_to_output_counted, laws, opt_input_to_output, output_to_input_counted,
 };

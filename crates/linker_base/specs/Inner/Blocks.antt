@@ -15,24 +15,14 @@ no_delta = record { input_offset = 0; cumulative_deleted = 0; bytes_deleted = 0 
 abbrev pub no_head : BlockHead
 no_head = record { input_offset = 0; output_place = 0 }
 
--- how many there are in arrays, and which of them pass a test
-abbrev pub size_in : List RelaxDelta → List BlockHead → Level → ℕ
-size_in deltas heads Heads = length heads
-size_in deltas heads Deltas = length deltas
+-- how many heads and deltas there are, and which of them pass a test
+abbrev pub size_of : ℕ → ℕ → Level → ℕ
+size_of heads deltas Heads = heads
+size_of heads deltas Deltas = deltas
 
-abbrev pub passing_in : List RelaxDelta → List BlockHead → Level → Test → ℕ → Bool
-passing_in deltas heads Heads test at = head_passes test (slice_index_or heads at no_head)
-passing_in deltas heads Deltas test at = passes test (slice_index_or deltas at no_delta)
-
--- and in a list with the heads that belong to it
-abbrev pub size_of : List RelaxDelta → Level → ℕ
-size_of deltas Heads = blocks_of (length deltas)
-size_of deltas Deltas = length deltas
-
-abbrev pub passing_of : List RelaxDelta → Level → Test → ℕ → Bool
-passing_of deltas Heads test at =
-    head_passes test (head_of (slice_index_or deltas (64 * at) no_delta))
-passing_of deltas Deltas test at = passes test (slice_index_or deltas at no_delta)
+abbrev pub passing_of : (ℕ → BlockHead) → List RelaxDelta → Level → Test → ℕ → Bool
+passing_of heads deltas Heads test at = head_passes test (heads at)
+passing_of heads deltas Deltas test at = passes test (slice_index_or deltas at no_delta)
 
 -- how many heads a section keeps with so many deltas: none with a few
 abbrev pub heads_kept : ℕ → ℕ

@@ -1,6 +1,7 @@
 -- What holds of the fields of deltas and of a cursor, and of what searches and tests in them find.
 use Rattle.std.specs.Prelude.{◌≡◌, ℕ, ◌+◌, ◌-◌, ◌<◌, ◌≤◌, List, length, map, take, slice_index_or}
-use Rattle.std.specs.Prelude.{All, Any}
+use Rattle.std.specs.Prelude.{Option, Some, None, All, Any}
+use Rattle.std.specs.Borrow.{Bor}
 use Rattle.linker_base.specs.declared.relaxation.RelaxDelta.{RelaxDelta}
 use Rattle.linker_base.specs.declared.relaxation.blocks.BlockHead.{BlockHead}
 use Rattle.linker_base.specs.declared.relaxation.walk.Reached.{Reached}
@@ -9,12 +10,17 @@ use Rattle.linker_base.specs.Deltas.{deletion_of}
 use Rattle.linker_base.specs.Listed.{AreValidDeltas}
 use Rattle.linker_base.specs.Inner.Blocks.{AreKeptHeads}
 
+-- the deltas that a merge reads: a list apart, or what stands where it writes
+abbrev pub read_from : Option (Bor (List RelaxDelta)) → List RelaxDelta → List RelaxDelta
+read_from (Some deltas) merged = deltas.now
+read_from None merged = merged
+
 -- what holds of the fields of a section's deltas
 pub record IsSound (list : List RelaxDelta) (blocks : List BlockHead) : Type 0 where
   pub deltas : AreValidDeltas list
   pub heads : AreKeptHeads list blocks
 
--- the first `passed` deletions are those whose output place, the offset less the bytes deleted
+-- the first `passed` deletions are those whose output offset, the offset less the bytes deleted
 -- before, is at most y
 pub record ArePlaced (deletions : List (ℕ × ℕ)) (y passed : ℕ) : Type 0 where
   pub before : (k : ℕ) (d : ℕ × ℕ) → k < passed

@@ -6,17 +6,16 @@ use Rattle.linker_base.specs.declared.relaxation.blocks.BlockHead.{BlockHead}
 use Rattle.linker_base.specs.declared.relaxation.partition_point.Test.{Test}
 use Rattle.linker_base.specs.declared.relaxation.partition_point.Test.TheVariants.{Begins, IsPlaced}
 use Rattle.linker_base.specs.declared.relaxation.partition_point.SearchRange.{SearchRange}
-use Rattle.linker_base.specs.Blocks.{place_of}
+use Rattle.linker_base.specs.Blocks.{head_of}
 
--- whether a delta passes a test
-abbrev pub passes : Test → RelaxDelta → Bool
-passes (Begins offset) delta = nat_lt delta.input_offset offset
-passes (IsPlaced offset) delta = nat_le (place_of delta) offset
-
--- whether a head does
+-- whether a head passes a test
 abbrev pub head_passes : Test → BlockHead → Bool
 head_passes (Begins offset) head = nat_lt head.input_offset offset
 head_passes (IsPlaced offset) head = nat_le head.output_place offset
+
+-- whether a delta does
+abbrev pub passes : Test → RelaxDelta → Bool
+passes test delta = head_passes test (head_of delta)
 
 -- none that passes comes after one that fails
 abbrev pub IsPartitioned : (ℕ → Bool) → ℕ → Type 0

@@ -3,14 +3,14 @@
 ghost use Rattle.std.specs.Prelude.{◌≡◌, ◌<◌, ◌≤◌, ◌+◌, ◌-◌, ◌*◌, ◌^◌, ℕ, List, OnOk, length, slice_index_or, vec_len, vec_capacity};
 ghost use Rattle.linker_base.specs.declared.relaxation.RelaxDelta.{RelaxDelta};
 ghost use Rattle.linker_base.specs.declared.relaxation.blocks.BlockHead.{BlockHead};
-ghost use Rattle.linker_base.specs.Blocks.{place_of, blocks_of, head_of, AreHeads};
+ghost use Rattle.linker_base.specs.Blocks.{output_offset_of, blocks_of, head_of, AreHeads};
 ghost use Rattle.linker_base.specs.Deletions.{rank, IsSelected, HasInput};
 ghost use Rattle.linker_base.specs.Deltas.{deletions_of};
 ghost use Rattle.linker_base.specs.Listed.{AreValidDeltas};
-ghost use Rattle.linker_base.specs.Inner.Blocks.{size_of, passing_of, heads_kept, AreKeptHeads};
+ghost use Rattle.linker_base.specs.Inner.Blocks.{no_delta, size_of, passing_of, heads_kept, AreKeptHeads};
 
-use super::partition_point::{FEW, Level, Probe, Test, search_blocks};
-use super::search::rank_after;
+use super::delta_slice::rank_after;
+use super::partition_point::{FEW, Level, Probe, Test, search};
 use super::{OutOfMemory, RelaxDelta};
 use std::marker::Model;
 
@@ -23,7 +23,7 @@ pub const BLOCK_LEN: usize = 64;
 pub struct BlockHead {
     /// The input offset of the block's first delta.
     pub input_offset: u64,
-    /// Its output place: that offset less the bytes of all deletions before.
+    /// Its output offset: the input offset less the bytes of all deletions before.
     pub output_place: u64,
 }
 
@@ -35,7 +35,7 @@ impl BlockHead {
     {
         BlockHead {
             input_offset: delta.input_offset,
-            output_place: delta.output_place(),
+            output_place: delta.output_offset(),
         }
     }
 }
@@ -57,7 +57,7 @@ pub trait Looks {
     fn count(&self) -> u64
         ensures { result ≡ looked self.now };
 
-    /// The input offset and the output place of the first delta of block `block`, delta
+    /// The input offset and the output offset of the first delta of block `block`, delta
     /// `64 * block`. One look.
     ///
     /// Requires that there is such a delta, and a count below `u64::MAX`.
@@ -66,8 +66,8 @@ pub trait Looks {
         requires room { looked self.old < 2 ^ 64 - 1 }
         ensures offset { (d : RelaxDelta)
             → result.0 ≡ (slice_index_or (listed self.old) (64 * block) d).input_offset }
-        ensures place { (d : RelaxDelta)
-            → result.1 ≡ place_of (slice_index_or (listed self.old) (64 * block) d) }
+        ensures output { (d : RelaxDelta)
+            → result.1 ≡ output_offset_of (slice_index_or (listed self.old) (64 * block) d) }
         ensures same { listed self.new ≡ listed self.old }
         ensures counted { looked self.new ≡ looked self.old + 1 };
 
@@ -85,9 +85,9 @@ pub trait Looks {
 impl<K: Looks> Probe for K {
     ghost deltas = { K.listed };
 
-    ghost size = { λ looks. size_of (K.listed looks) };
+    ghost size = { λ looks. size_of (blocks_of (length (K.listed looks))) (length (K.listed looks)) };
 
-    ghost passing = { λ looks. passing_of (K.listed looks) };
+    ghost passing = { λ looks. passing_of (λ at. head_of (slice_index_or (K.listed looks) (64 * at) no_delta)) (K.listed looks) };
 
     ghost probes = { K.looked };
 
@@ -249,7 +249,7 @@ pub fn input_to_output_counted<K: Looks>(looks: &mut K, input_offset: u64) -> u6
 {
     // What it ensures is that the list is valid.
     let _len = looks.len();
-    match search_blocks(looks, Test::Begins(input_offset)).checked_sub(1) {
+    match search(looks, Test::Begins(input_offset)).checked_sub(1) {
         Some(last) => rank_after(looks.delta(last), input_offset),
         None => input_offset,
     }
@@ -271,7 +271,7 @@ pub fn output_to_input_counted<K: Looks>(looks: &mut K, output_offset: u64) -> u
 {
     // What it ensures is that the list is valid.
     let _len = looks.len();
-    match search_blocks(looks, Test::IsPlaced(output_offset)).checked_sub(1) {
+    match search(looks, Test::IsPlaced(output_offset)).checked_sub(1) {
         Some(last) => output_offset + looks.delta(last).cumulative_deleted,
         None => output_offset,
     }

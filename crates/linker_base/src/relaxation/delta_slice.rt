@@ -1,96 +1,143 @@
-//! Deltas that anyone owns.
+//! Deltas that anyone owns, and the heads of their blocks.
 
-ghost use Rattle.std.specs.Prelude.{◌≡◌, ◌≢◌, ◌<◌, ◌+◌, ◌^◌, ◌++◌, ◌↔◌, IsTrue, IfSome};
-ghost use Rattle.std.specs.Prelude.{MatchOption, Any, All, [], map, length};
-ghost use Rattle.std.specs.List.Sorted.{IsNonDecreasing};
+ghost use Rattle.std.specs.Prelude.{◌≡◌, ◌≢◌, ◌<◌, ◌≤◌, ◌+◌, ◌-◌, ◌*◌, ◌%◌, ◌^◌, ◌++◌, ◌↔◌, IsTrue};
+ghost use Rattle.std.specs.Prelude.{MatchOption, Any, All, [], map, length, take, max, slice_index_or};
+ghost use Rattle.std.specs.List.Sorted.{IsNonDecreasing, IsPartitionPoint};
 ghost use Rattle.linker_base.specs.Deletions.{AreDisjoint, AreKept, IsValid, IsSortedUnion, bytes_of, rank, IsInsideDeletion, IsSelected, HasInput};
-ghost use Rattle.linker_base.specs.Blocks.{blocks_of, AreHeads};
+ghost use Rattle.linker_base.specs.Blocks.{blocks_of, AreHeads, IsValidView};
 ghost use Rattle.linker_base.specs.Deltas.{deletions_of};
 ghost use Rattle.linker_base.specs.Listed.{AreValidDeltas, AreValidTogether, IsFirstOverlapping};
+ghost use Rattle.linker_base.specs.Inner.Blocks.{no_head, size_of, passing_of};
+ghost use Rattle.linker_base.specs.Inner.Listed.{ArePlaced, IsOnlyAt};
 
-use super::blocked_slice::BlockedSlice;
+use super::RelaxDelta;
 use super::blocks::{BlockHead, count_blocks, write_heads};
-use super::merge::merge_into;
+use super::merge::merge_ascending;
 use super::overlap::{self, AsDeletion};
-use super::partition_point::FEW;
+use super::partition_point::{FEW, Level, Probe, Test, search};
 use super::walk::{Reached, ascend, walk};
-use super::{RelaxDelta, search};
 use std::marker::Model;
 
-/// A borrowed list of deltas, of any contents.
+/// A borrowed list of deltas, of any contents, and the heads of their blocks, or none.
 ///
-/// Each call is safe for any deltas. What it returns is promised where the deltas are valid: they
-/// list deletions as `SectionRelaxDeltas::new` requires them, each with the sum of the bytes up to
-/// it. Contracts see the list of deltas.
+/// Each call is safe for any deltas and heads. What it returns is promised where the deltas are
+/// valid: they list deletions as `SectionRelaxDeltas::new` requires them, each with the sum of the
+/// bytes up to it. Searches also need the heads to be those that `write_heads` writes, if there
+/// are any. Contracts see the lists of deltas and heads.
 #[derive(Drop)]
 pub struct DeltaSlice<'a> {
     deltas: &'a [RelaxDelta],
+    heads: &'a [BlockHead],
 }
 
 impl<'a> Model for DeltaSlice<'a> {
-    ghost use Rattle.std.specs.Prelude.{List};
-    ghost use Rattle.linker_base.specs.declared.relaxation.RelaxDelta.{RelaxDelta};
+    ghost use Rattle.std.specs.Prelude.{◌+◌, ◌*◌, ◌<◌, length};
+    ghost use Rattle.linker_base.specs.Blocks.{View};
 
-    ghost Value = { List RelaxDelta };
+    ghost Value = { View };
 
-    ghost view = { λ slice. slice.deltas.now };
+    ghost view = { λ slice. record { deltas = slice.deltas.now; heads = slice.heads.now } };
+
+    ghost invariant = { λ slice. 64 * length slice.heads.now < length slice.deltas.now + 64 };
+}
+
+impl<'a> Probe for DeltaSlice<'a> {
+    ghost deltas = { λ slice. slice.deltas };
+
+    ghost size = { λ slice. size_of (length slice.heads) (length slice.deltas) };
+
+    ghost passing = { λ slice. passing_of (λ at. slice_index_or slice.heads at no_head) slice.deltas };
+
+    ghost probes = { λ slice. 0 };
+
+    #[inline(always)]
+    fn len(&self, level: Level) -> usize {
+        match level {
+            Level::Heads => self.heads.len(),
+            Level::Deltas => self.deltas.len(),
+        }
+    }
+
+    #[inline(always)]
+    fn passes(&mut self, level: Level, test: Test, at: usize) -> bool {
+        match level {
+            Level::Heads => test.head_passes(&self.heads[at]),
+            Level::Deltas => test.passes(&self.deltas[at]),
+        }
+    }
 }
 
 impl<'a> DeltaSlice<'a> {
     /// The deltas as a slice that translates offsets.
     #[inline(always)]
     pub fn new(deltas: &'a [RelaxDelta]) -> DeltaSlice<'a>
-        ensures { result ≡ deltas.now }
+        ensures same { result ≡ record { deltas = deltas.now; heads = [] } }
+        ensures valid { AreValidDeltas deltas.now → IsValidView result }
     {
-        DeltaSlice { deltas }
+        DeltaSlice { deltas, heads: &[] }
+    }
+
+    // Requires no more heads than blocks.
+    #[inline(always)]
+    pub(super) fn over(deltas: &'a [RelaxDelta], heads: &'a [BlockHead]) -> DeltaSlice<'a>
+        requires { 64 * length heads.now < length deltas.now + 64 }
+        ensures { result ≡ record { deltas = deltas.now; heads = heads.now } }
+    {
+        DeltaSlice { deltas, heads }
+    }
+
+    // The same lists.
+    #[inline(always)]
+    fn copy(&self) -> DeltaSlice<'a>
+        ensures { result ≡ self.now }
+    {
+        DeltaSlice {
+            deltas: self.deltas,
+            heads: self.heads,
+        }
+    }
+
+    /// The deltas.
+    #[inline(always)]
+    pub fn deltas(&self) -> &'a [RelaxDelta]
+        ensures { result.now ≡ self.now.deltas }
+    {
+        self.deltas
     }
 
     /// How many blocks of `BLOCK_LEN` deltas there are; the last may be shorter.
     #[inline]
     pub fn block_count(&self) -> usize
-        ensures { result ≡ blocks_of (length self.now) }
+        ensures { result ≡ blocks_of (length self.now.deltas) }
     {
         count_blocks(self.deltas.len())
     }
 
-    /// Writes the head of each block, in order. Requires as many places as blocks.
+    /// Writes the head of each block, in order. Requires as many heads as blocks.
     pub fn write_heads(&self, heads: &mut [BlockHead])
-        requires { length heads.old ≡ blocks_of (length self.now) }
-        ensures { AreHeads self.now heads.new }
+        requires { length heads.old ≡ blocks_of (length self.now.deltas) }
+        ensures { AreHeads self.now.deltas heads.new }
     {
         write_heads(self.deltas, heads);
     }
 
-    /// The deltas with heads of their blocks, or none where they aren't as many as blocks.
+    /// The deltas with these heads of their blocks, or none where they aren't as many as blocks.
     #[inline(always)]
-    pub fn with_heads(&self, heads: &'a [BlockHead]) -> Option<BlockedSlice<'a>>
-        ensures { MatchOption result (length heads.now ≢ blocks_of (length self.now))
-            (λ blocked. (length heads.now ≡ blocks_of (length self.now))
-            × (blocked ≡ record { deltas = self.now; heads = heads.now })) }
+    pub fn with_heads(&self, heads: &'a [BlockHead]) -> Option<DeltaSlice<'a>>
+        ensures { MatchOption result (length heads.now ≢ blocks_of (length self.now.deltas))
+            (λ slice. (length heads.now ≡ blocks_of (length self.now.deltas))
+            × (slice ≡ record { deltas = self.now.deltas; heads = heads.now })) }
     {
         if heads.len() != self.block_count() {
             return None;
         }
-        Some(BlockedSlice::new(self.deltas, heads))
-    }
-
-    // `with_heads` of more than a few deltas.
-    #[inline(always)]
-    fn with_many_heads(&self, heads: &'a [BlockHead]) -> Option<BlockedSlice<'a>>
-        ensures { IfSome result (λ blocked.
-            (length heads.now ≡ blocks_of (length self.now))
-            × (blocked ≡ record { deltas = self.now; heads = heads.now })) }
-    {
-        if self.deltas.len() <= FEW {
-            return None;
-        }
-        self.with_heads(heads)
+        Some(DeltaSlice::over(self.deltas(), heads))
     }
 
     /// How many deltas there are.
     #[inline]
     pub fn len(&self) -> usize
-        ensures { result ≡ length self.now }
+        ensures { result ≡ length self.now.deltas }
     {
         self.deltas.len()
     }
@@ -98,7 +145,7 @@ impl<'a> DeltaSlice<'a> {
     /// Whether nothing is listed. A deletion of no bytes counts as listed.
     #[inline]
     pub fn is_empty(&self) -> bool
-        ensures { IsTrue result ↔ (self.now ≡ []) }
+        ensures { IsTrue result ↔ (self.now.deltas ≡ []) }
     {
         self.deltas.is_empty()
     }
@@ -106,29 +153,68 @@ impl<'a> DeltaSlice<'a> {
     /// The bytes that all deletions take together.
     #[inline]
     pub fn total_deleted(&self) -> u64
-        ensures { AreValidDeltas self.now → result ≡ bytes_of (deletions_of self.now) }
+        ensures { AreValidDeltas self.now.deltas → result ≡ bytes_of (deletions_of self.now.deltas) }
     {
-        search::bytes_of_first(self.deltas, self.deltas.len())
+        bytes_of_first(self.deltas(), self.len())
+    }
+
+    // How many deltas lie at offsets strictly below `offset`.
+    #[inline(always)]
+    pub(super) fn count_below(&self, offset: u64) -> usize
+        ensures within { result ≤ length self.now.deltas }
+        ensures below { IsValid (deletions_of self.now.deltas)
+            → (0 < length self.now.heads → AreHeads self.now.deltas self.now.heads)
+            → IsPartitionPoint (λ d. d.0 < offset) (λ d. offset ≤ d.0)
+            (deletions_of self.now.deltas) result }
+    {
+        search(&mut self.copy(), Test::Begins(offset))
+    }
+
+    // How many deltas have an output offset, their offset less the bytes deleted before, of at
+    // most `offset`.
+    #[inline(always)]
+    fn count_placed(&self, offset: u64) -> usize
+        ensures within { result ≤ length self.now.deltas }
+        ensures placed { IsValidView self.now
+            → ArePlaced (deletions_of self.now.deltas) offset result }
+    {
+        search(&mut self.copy(), Test::IsPlaced(offset))
+    }
+
+    // The delta at the offset, if one is listed there.
+    #[inline(always)]
+    fn delta_at(&self, offset: u64) -> Option<RelaxDelta>
+        ensures { IsValidView self.now
+            → MatchOption result (¬ (Any (λ d. d.0 ≡ offset) (deletions_of self.now.deltas)))
+            (λ delta. IsOnlyAt (deletions_of self.now.deltas) offset delta.bytes_deleted) }
+    {
+        let below = self.count_below(offset);
+        let deltas = self.deltas();
+        if below < deltas.len() && deltas[below].input_offset == offset {
+            Some(deltas[below])
+        } else {
+            None
+        }
     }
 
     /// Whether a deletion is listed at the offset, be it one of no bytes. O(log n).
     #[inline]
     pub fn has_delta_at(&self, offset: u64) -> bool
-        ensures { AreValidDeltas self.now
-            → (IsTrue result ↔ Any (λ d. d.0 ≡ offset) (deletions_of self.now)) }
+        ensures { IsValidView self.now
+            → (IsTrue result ↔ Any (λ d. d.0 ≡ offset) (deletions_of self.now.deltas)) }
     {
-        search::delta_at(self.deltas, offset).is_some()
+        self.delta_at(offset).is_some()
     }
 
     /// The bytes that are deleted at the offset: 0 where no deletion is listed there. O(log n).
     #[inline]
     pub fn delta_bytes_at(&self, offset: u64) -> u32
-        ensures listed { AreValidDeltas self.now
-            → All (λ d. d.0 ≡ offset → result ≡ d.1) (deletions_of self.now) }
-        ensures none { AreValidDeltas self.now
-            → ¬ (Any (λ d. d.0 ≡ offset) (deletions_of self.now)) → result ≡ 0 }
+        ensures listed { IsValidView self.now
+            → All (λ d. d.0 ≡ offset → result ≡ d.1) (deletions_of self.now.deltas) }
+        ensures none { IsValidView self.now
+            → ¬ (Any (λ d. d.0 ≡ offset) (deletions_of self.now.deltas)) → result ≡ 0 }
     {
-        match search::delta_at(self.deltas, offset) {
+        match self.delta_at(offset) {
             Some(delta) => delta.bytes_deleted,
             None => 0,
         }
@@ -139,9 +225,12 @@ impl<'a> DeltaSlice<'a> {
     /// O(log n).
     #[inline(always)]
     pub fn input_to_output_offset(&self, input_offset: u64) -> u64
-        ensures { AreValidDeltas self.now → result ≡ rank (deletions_of self.now) input_offset }
+        ensures { IsValidView self.now → result ≡ rank (deletions_of self.now.deltas) input_offset }
     {
-        search::rank(self.deltas, input_offset)
+        match self.count_below(input_offset).checked_sub(1) {
+            Some(last) => rank_after(self.deltas()[last], input_offset),
+            None => input_offset,
+        }
     }
 
     /// The output offset of the `len` bytes from `input_offset` on, or none where one of them is
@@ -149,70 +238,102 @@ impl<'a> DeltaSlice<'a> {
     #[inline]
     pub fn kept_output_offset(&self, input_offset: u64, len: u64) -> Option<u64>
         requires { input_offset + len < 2 ^ 64 }
-        ensures { AreValidDeltas self.now
-            → MatchOption result (¬ (AreKept (deletions_of self.now) input_offset len))
-            (λ output. AreKept (deletions_of self.now) input_offset len
-            × (output ≡ rank (deletions_of self.now) input_offset)) }
+        ensures { IsValidView self.now
+            → MatchOption result (¬ (AreKept (deletions_of self.now.deltas) input_offset len))
+            (λ output. AreKept (deletions_of self.now.deltas) input_offset len
+            × (output ≡ rank (deletions_of self.now.deltas) input_offset)) }
     {
-        search::rank_of_kept(self.deltas, input_offset, len)
+        let first = self.input_to_output_offset(input_offset);
+        let past = self.input_to_output_offset(input_offset + len);
+        if past.wrapping_sub(first) == len {
+            Some(first)
+        } else {
+            None
+        }
     }
 
     /// Whether the offset lies above the first byte of a deletion and below its end. O(log n).
     #[inline]
     pub fn is_inside(&self, input_offset: u64) -> bool
-        ensures { AreValidDeltas self.now
-            → (IsTrue result ↔ IsInsideDeletion (deletions_of self.now) input_offset) }
+        ensures { IsValidView self.now
+            → (IsTrue result ↔ IsInsideDeletion (deletions_of self.now.deltas) input_offset) }
     {
-        search::is_inside(self.deltas, input_offset)
+        match self.count_below(input_offset).checked_sub(1) {
+            Some(last) => {
+                let delta = self.deltas()[last];
+                input_offset.wrapping_sub(delta.input_offset) < u64::from(delta.bytes_deleted)
+            }
+            None => false,
+        }
+    }
+
+    // The bytes that are deleted before the kept byte at an output offset.
+    #[inline(always)]
+    pub(super) fn bytes_before(&self, output_offset: u64) -> u64
+        ensures selected { IsValidView self.now
+            → IsSelected (deletions_of self.now.deltas) output_offset (output_offset + result) }
+        ensures fits { IsValidView self.now
+            → (HasInput (deletions_of self.now.deltas) output_offset
+            ↔ (output_offset + result < 2 ^ 64)) }
+    {
+        bytes_of_first(self.deltas(), self.count_placed(output_offset))
     }
 
     /// The offset in the input section of the kept byte at `output_offset`, or none where that is
     /// above `u64::MAX`. O(log n).
     #[inline(always)]
     pub fn output_to_input_offset(&self, output_offset: u64) -> Option<u64>
-        ensures { AreValidDeltas self.now
-            → MatchOption result (¬ (HasInput (deletions_of self.now) output_offset))
-            (IsSelected (deletions_of self.now) output_offset) }
+        ensures { IsValidView self.now
+            → MatchOption result (¬ (HasInput (deletions_of self.now.deltas) output_offset))
+            (IsSelected (deletions_of self.now.deltas) output_offset) }
     {
-        output_offset.checked_add(search::bytes_before(self.deltas, output_offset))
+        output_offset.checked_add(self.bytes_before(output_offset))
     }
 
-    /// As `input_to_output_offset`, with the heads of the blocks. It looks at them first where the
-    /// deltas are more than a few, and not at all where they aren't as many as blocks. O(log n).
+    // Whether the deltas are more than a few, and the heads as many as their blocks.
+    #[inline(always)]
+    fn has_many_heads(&self, heads: &[BlockHead]) -> bool
+        ensures { IsTrue result → length heads.now ≡ blocks_of (length self.now.deltas) }
+    {
+        self.len() > FEW && heads.len() == self.block_count()
+    }
+
+    /// As `input_to_output_offset`, with these heads of the blocks. It looks at them first where
+    /// the deltas are more than a few, and not at all where they aren't as many as blocks. O(log n).
     #[inline(always)]
     pub fn input_to_output_by_heads(&self, heads: &'a [BlockHead], input_offset: u64) -> u64
-        ensures by_heads { AreValidDeltas self.now → AreHeads self.now heads.now
-            → result ≡ rank (deletions_of self.now) input_offset }
-        ensures other_count { AreValidDeltas self.now
-            → length heads.now ≢ blocks_of (length self.now)
-            → result ≡ rank (deletions_of self.now) input_offset }
+        ensures by_heads { IsValidView self.now → AreHeads self.now.deltas heads.now
+            → result ≡ rank (deletions_of self.now.deltas) input_offset }
+        ensures other_count { IsValidView self.now
+            → length heads.now ≢ blocks_of (length self.now.deltas)
+            → result ≡ rank (deletions_of self.now.deltas) input_offset }
     {
-        match self.with_many_heads(heads) {
-            Some(blocked) => blocked.input_to_output_offset(input_offset),
-            None => self.input_to_output_offset(input_offset),
+        if self.has_many_heads(heads) {
+            return rank_by_heads(self.deltas(), heads, input_offset);
         }
+        self.input_to_output_offset(input_offset)
     }
 
-    /// As `output_to_input_offset`, with the heads of the blocks. It looks at them first where the
-    /// deltas are more than a few, and not at all where they aren't as many as blocks. O(log n).
+    /// As `output_to_input_offset`, with these heads of the blocks. It looks at them first where
+    /// the deltas are more than a few, and not at all where they aren't as many as blocks. O(log n).
     #[inline(always)]
     pub fn output_to_input_by_heads(
         &self,
         heads: &'a [BlockHead],
         output_offset: u64,
     ) -> Option<u64>
-        ensures by_heads { AreValidDeltas self.now → AreHeads self.now heads.now
-            → MatchOption result (¬ (HasInput (deletions_of self.now) output_offset))
-            (IsSelected (deletions_of self.now) output_offset) }
-        ensures other_count { AreValidDeltas self.now
-            → length heads.now ≢ blocks_of (length self.now)
-            → MatchOption result (¬ (HasInput (deletions_of self.now) output_offset))
-            (IsSelected (deletions_of self.now) output_offset) }
+        ensures by_heads { IsValidView self.now → AreHeads self.now.deltas heads.now
+            → MatchOption result (¬ (HasInput (deletions_of self.now.deltas) output_offset))
+            (IsSelected (deletions_of self.now.deltas) output_offset) }
+        ensures other_count { IsValidView self.now
+            → length heads.now ≢ blocks_of (length self.now.deltas)
+            → MatchOption result (¬ (HasInput (deletions_of self.now.deltas) output_offset))
+            (IsSelected (deletions_of self.now.deltas) output_offset) }
     {
-        match self.with_many_heads(heads) {
-            Some(blocked) => blocked.output_to_input_offset(output_offset),
-            None => self.output_to_input_offset(output_offset),
+        if self.has_many_heads(heads) {
+            return output_offset.checked_add(bytes_by_heads(self.deltas(), heads, output_offset));
         }
+        self.output_to_input_offset(output_offset)
     }
 
     /// Writes the output offset of each of the queries, in order, in one walk through the deltas:
@@ -220,10 +341,10 @@ impl<'a> DeltaSlice<'a> {
     #[inline]
     pub fn translate_all(&self, queries: &[u64], out: &mut [u64])
         requires { length queries.now ≡ length out.old }
-        ensures { AreValidDeltas self.now → IsNonDecreasing queries.now
-            → out.new ≡ map (rank (deletions_of self.now)) queries.now }
+        ensures { AreValidDeltas self.now.deltas → IsNonDecreasing queries.now
+            → out.new ≡ map (rank (deletions_of self.now.deltas)) queries.now }
     {
-        let _end = walk(self.deltas, Reached::START, queries, out);
+        let _end = walk(self.deltas(), Reached::START, queries, out);
     }
 
     /// Whether the queries don't decrease.
@@ -242,12 +363,12 @@ impl<'a> DeltaSlice<'a> {
     /// It doesn't allocate. For k deletions and n deltas the work is O(k log n + k) where they
     /// ascend, as a pass over a section makes them, and else O(k log n + k²).
     pub fn first_overlapping<D: AsDeletion>(&self, additional: &[D]) -> Option<usize>
-        ensures { IsValid (deletions_of self.now)
+        ensures { IsValid (deletions_of self.now.deltas)
             → MatchOption result
-            (AreDisjoint (deletions_of self.now ++ map D.deletion additional.now))
-            (IsFirstOverlapping (deletions_of self.now) (map D.deletion additional.now)) }
+            (AreDisjoint (deletions_of self.now.deltas ++ map D.deletion additional.now))
+            (IsFirstOverlapping (deletions_of self.now.deltas) (map D.deletion additional.now)) }
     {
-        overlap::first_overlapping(self.deltas, additional)
+        overlap::first_overlapping(self.deltas(), additional)
     }
 
     /// Whether the list's deletions and the additional ones are two valid lists of which no two
@@ -256,23 +377,73 @@ impl<'a> DeltaSlice<'a> {
     /// It doesn't allocate. For k deletions and n deltas the work is O(n + k log n).
     pub fn can_merge_ascending<D: AsDeletion>(&self, additional: &[D]) -> bool
         ensures { IsTrue result
-            ↔ AreValidTogether (deletions_of self.now) (map D.deletion additional.now) }
+            ↔ AreValidTogether (deletions_of self.now.deltas) (map D.deletion additional.now) }
     {
-        overlap::are_valid_together(self.deltas, additional)
+        overlap::are_valid_together(self.deltas(), additional)
     }
 
     /// Writes the deltas of the list's deletions and the additional ones, sorted, with sums made
     /// anew.
     ///
     /// It doesn't allocate. For k deletions and n deltas the work is O(n + k). Requires
-    /// deletions that `can_merge_ascending` accepts, and as many places as both.
+    /// deletions that `can_merge_ascending` accepts, and `merged` as long as both.
     pub fn merge_ascending<D: AsDeletion>(&self, additional: &[D], merged: &mut [RelaxDelta])
-        requires places { length merged.old ≡ length self.now + length additional.now }
-        requires valid { AreValidTogether (deletions_of self.now) (map D.deletion additional.now) }
-        ensures union { IsSortedUnion (deletions_of self.now ++ map D.deletion additional.now)
+        requires places { length merged.old ≡ length self.now.deltas + length additional.now }
+        requires valid { AreValidTogether (deletions_of self.now.deltas) (map D.deletion additional.now) }
+        ensures union { IsSortedUnion (deletions_of self.now.deltas ++ map D.deletion additional.now)
             (deletions_of merged.new) }
         ensures listed { AreValidDeltas merged.new }
     {
-        merge_into(self.deltas, additional, merged);
+        merge_ascending(Some(self.deltas()), merged, self.len(), additional);
     }
+}
+
+// The bytes that the first `count` deltas delete.
+#[inline(always)]
+pub(super) fn bytes_of_first(deltas: &[RelaxDelta], count: usize) -> u64
+    requires { count ≤ length deltas.now }
+    ensures { AreValidDeltas deltas.now
+        → result ≡ bytes_of (take count (deletions_of deltas.now)) }
+{
+    match count.checked_sub(1) {
+        Some(last) => deltas[last].cumulative_deleted,
+        None => 0,
+    }
+}
+
+// The rank of an offset by the last delta that begins below it: the greater of the offset and the
+// end of that delta, less all bytes that are deleted up to there.
+#[inline(always)]
+pub(super) fn rank_after(last: RelaxDelta, offset: u64) -> u64
+    ensures { result
+        ≡ (max offset ((last.input_offset + last.bytes_deleted) % 2 ^ 64)
+        + (2 ^ 64 - last.cumulative_deleted)) % 2 ^ 64 }
+{
+    let end = last
+        .input_offset
+        .wrapping_add(u64::from(last.bytes_deleted));
+    offset.max(end).wrapping_sub(last.cumulative_deleted)
+}
+
+// `input_to_output_offset` by heads. Not inlined, so that a caller's search of a few deltas remains
+// small.
+#[inline(never)]
+fn rank_by_heads(deltas: &[RelaxDelta], heads: &[BlockHead], offset: u64) -> u64
+    requires { 64 * length heads.now < length deltas.now + 64 }
+    ensures { AreValidDeltas deltas.now → AreHeads deltas.now heads.now
+        → result ≡ rank (deletions_of deltas.now) offset }
+{
+    DeltaSlice::over(deltas, heads).input_to_output_offset(offset)
+}
+
+// `bytes_before` by heads.
+#[inline(never)]
+fn bytes_by_heads(deltas: &[RelaxDelta], heads: &[BlockHead], offset: u64) -> u64
+    requires { 64 * length heads.now < length deltas.now + 64 }
+    ensures selected { AreValidDeltas deltas.now → AreHeads deltas.now heads.now
+        → IsSelected (deletions_of deltas.now) offset (offset + result) }
+    ensures fits { AreValidDeltas deltas.now → AreHeads deltas.now heads.now
+        → (HasInput (deletions_of deltas.now) offset ↔ (offset + result < 2 ^ 64)) }
+{
+    DeltaSlice::over(deltas, heads).bytes_before(offset)
 }

@@ -1,14 +1,15 @@
 //! The growth of the deltas by a merge.
 
-ghost use Rattle.std.specs.Prelude.{◌≡◌, ◌≤◌, ◌<◌, ◌+◌, ◌-◌, ◌^◌, ◌++◌, ℕ, IfOk, map, min, length, take, slice_index_or, vec_len, vec_capacity};
+ghost use Rattle.std.specs.Prelude.{◌≡◌, ◌≤◌, ◌<◌, ◌+◌, ◌-◌, ◌^◌, ◌++◌, ℕ, IfOk, IfNone, map, min, length, take, slice_index_or, vec_len, vec_capacity};
 ghost use Rattle.linker_base.specs.declared.relaxation.RelaxDelta.{RelaxDelta};
 ghost use Rattle.linker_base.specs.Deletions.{AreDisjoint, IsValid, IsSortedUnion, bytes_of};
 ghost use Rattle.linker_base.specs.Deltas.{deletion_of, pairs_of};
 ghost use Rattle.linker_base.specs.Listed.{AreValidDeltas, AreValidTogether};
 ghost use Rattle.linker_base.specs.Inner.Blocks.{heads_kept};
-ghost use Rattle.linker_base.specs.Inner.Listed.{IsSound};
+ghost use Rattle.linker_base.specs.Inner.Listed.{IsSound, read_from};
 
 use super::blocks::{BlockHead, count_blocks, fill_heads};
+use super::delta_slice::bytes_of_first;
 use super::overlap::{AsDeletion, first_invalid};
 use super::{OutOfMemory, RelaxDelta};
 use std::alloc::Global;
@@ -78,7 +79,7 @@ pub(super) fn insert_ascending(
 {
     let count = deltas.len();
     append(deltas, pairs);
-    let kept = merge_ascending(deltas, count, pairs);
+    let kept = merge_ascending(None, deltas, count, pairs);
     heads.truncate(count_blocks(kept));
     fill_heads(deltas, heads);
 }
@@ -98,25 +99,54 @@ fn append(deltas: &mut Vec<RelaxDelta>, pairs: &[(u64, u32)])
     }
 }
 
-// Writes the deltas of the deletions of both lists, from the back, with sums made anew.
-pub(super) fn merge_into<D: AsDeletion>(
-    deltas: &[RelaxDelta],
-    additional: &[D],
+// An old delta: of a list apart, or where it stood.
+#[inline(always)]
+fn old_delta(apart: Option<&[RelaxDelta]>, merged: &[RelaxDelta], index: usize) -> RelaxDelta
+    requires { index < length (read_from apart merged.now) }
+    ensures { (d : RelaxDelta)
+        → result ≡ slice_index_or (read_from apart.entry merged.now) index d }
+{
+    match apart {
+        Some(deltas) => deltas[index],
+        None => merged[index],
+    }
+}
+
+// Merges ascending deletions and the first `count` old deltas, from the back. The old ones are of a
+// list apart, and need no right sums: those of all are made anew. Or they stand in `merged`, where
+// the rest is room for as many as the additional ones. Returns how many of the first deltas are
+// unchanged.
+#[inline(always)]
+pub(super) fn merge_ascending<D: AsDeletion>(
+    apart: Option<&[RelaxDelta]>,
     merged: &mut [RelaxDelta],
-)
-    requires room { length merged.old ≡ length deltas.now + length additional.now }
-    requires valid { AreValidTogether (map deletion_of deltas.now) (map D.deletion additional.now) }
-    ensures union { IsSortedUnion (map deletion_of deltas.now ++ map D.deletion additional.now)
-        (map deletion_of merged.new) }
+    count: usize,
+    additional: &[D],
+) -> usize
+    requires room { count + length additional.now ≡ length merged.old }
+    requires within { count ≤ length (read_from apart merged.old) }
+    requires valid { AreValidTogether (map deletion_of (take count (read_from apart merged.old)))
+        (map D.deletion additional.now) }
+    requires listed { IfNone apart (AreValidDeltas (take count merged.old)) }
+    ensures within { result ≤ count }
+    ensures front { (k : ℕ) (d : RelaxDelta) → k < result
+        → slice_index_or merged.new k d ≡ slice_index_or merged.old k d }
+    ensures union { IsSortedUnion
+        (map deletion_of (take count (read_from apart.entry merged.old))
+        ++ map D.deletion additional.now) (map deletion_of merged.new) }
     ensures listed { AreValidDeltas merged.new }
 {
-    let mut old = deltas.len();
+    let mut old = count;
     let mut left = additional.len();
-    let mut bytes = bytes_in(deltas) + bytes_in(additional);
+    let mut bytes = bytes_in(additional)
+        + match apart {
+            Some(deltas) => bytes_in(&deltas[..count]),
+            None => bytes_of_first(&merged[..count], count),
+        };
     while left > 0 {
         let (input_offset, bytes_deleted) = additional[left - 1].as_deletion();
-        while old > 0 && input_offset < deltas[old - 1].input_offset {
-            let delta = deltas[old - 1];
+        while old > 0 && input_offset < old_delta(apart, merged, old - 1).input_offset {
+            let delta = old_delta(apart, merged, old - 1);
             merged[old + left - 1] = RelaxDelta {
                 cumulative_deleted: bytes,
                 ..delta
@@ -132,8 +162,11 @@ pub(super) fn merge_into<D: AsDeletion>(
         bytes -= u64::from(bytes_deleted);
         left -= 1;
     }
+    if apart.is_none() {
+        return old;
+    }
     while old > 0 {
-        let delta = deltas[old - 1];
+        let delta = old_delta(apart, merged, old - 1);
         merged[old - 1] = RelaxDelta {
             cumulative_deleted: bytes,
             ..delta
@@ -141,51 +174,7 @@ pub(super) fn merge_into<D: AsDeletion>(
         bytes -= u64::from(delta.bytes_deleted);
         old -= 1;
     }
-}
-
-// Merges ascending deletions into the first `count` deltas, from the back. The rest of the slice is
-// room for as many. Returns how many of the first deltas are unchanged.
-pub(super) fn merge_ascending<D: AsDeletion>(
-    deltas: &mut [RelaxDelta],
-    count: usize,
-    additional: &[D],
-) -> usize
-    requires room { count + length additional.now ≡ length deltas.old }
-    requires listed { AreValidDeltas (take count deltas.old) }
-    requires ascending { IsValid (map D.deletion additional.now) }
-    requires disjoint { AreDisjoint (map deletion_of (take count deltas.old) ++ map D.deletion additional.now) }
-    ensures within { result ≤ count }
-    ensures front { (k : ℕ) (d : RelaxDelta) → k < result
-        → slice_index_or deltas.new k d ≡ slice_index_or deltas.old k d }
-    ensures union { IsSortedUnion (map deletion_of (take count deltas.old) ++ map D.deletion additional.now) (map deletion_of deltas.new) }
-    ensures listed { AreValidDeltas deltas.new }
-{
-    let mut old = count;
-    let mut left = additional.len();
-    let mut bytes = bytes_in(additional);
-    while left > 0 {
-        let (input_offset, bytes_deleted) = additional[left - 1].as_deletion();
-        while old > 0 && input_offset < deltas[old - 1].input_offset {
-            let delta = deltas[old - 1];
-            deltas[old + left - 1] = RelaxDelta {
-                cumulative_deleted: delta.cumulative_deleted + bytes,
-                ..delta
-            };
-            old -= 1;
-        }
-        let before = match old.checked_sub(1) {
-            Some(last) => deltas[last].cumulative_deleted,
-            None => 0,
-        };
-        deltas[old + left - 1] = RelaxDelta {
-            input_offset,
-            cumulative_deleted: before + bytes,
-            bytes_deleted,
-        };
-        left -= 1;
-        bytes -= u64::from(bytes_deleted);
-    }
-    old
+    0
 }
 
 // The bytes that the deletions of a valid list take together.

@@ -8,7 +8,7 @@ ghost use Rattle.linker_base.specs.Listed.{IsFirstInvalid, IsFirstOverlapping, A
 ghost use Rattle.linker_base.specs.Inner.Listed.{IsRun, CanFollow};
 
 use super::RelaxDelta;
-use super::search::count_below;
+use super::delta_slice::DeltaSlice;
 
 /// What records one deletion: a pair of its offset and its bytes, a delta, a caller's own struct.
 pub trait AsDeletion: Copy {
@@ -215,7 +215,7 @@ fn is_beside_deltas(deltas: &[RelaxDelta], deletion: (u64, u32)) -> bool
     ensures { IsValid (map deletion_of deltas.now)
         → (IsTrue result ↔ All (λ d. DoNotOverlap d deletion) (map deletion_of deltas.now)) }
 {
-    let below = count_below(deltas, deletion.0);
+    let below = DeltaSlice::new(deltas).count_below(deletion.0);
     (below == 0 || is_before(deltas[below - 1].as_deletion(), deletion))
         && (below == deltas.len() || is_before(deletion, deltas[below].as_deletion()))
 }

@@ -22,7 +22,7 @@ pub(super) const FEW: usize = 1024;
 pub(super) enum Test {
     /// Whether it begins strictly below an offset.
     Begins(u64),
-    /// Whether its output place, its offset less the bytes deleted before, is at most an offset.
+    /// Whether its output offset, its offset less the bytes deleted before, is at most an offset.
     IsPlaced(u64),
 }
 
@@ -33,7 +33,7 @@ impl Test {
     {
         match self {
             Test::Begins(offset) => delta.input_offset < offset,
-            Test::IsPlaced(offset) => delta.output_place() <= offset,
+            Test::IsPlaced(offset) => delta.output_offset() <= offset,
         }
     }
 
@@ -72,7 +72,8 @@ pub(super) trait Probe {
     fn len(&self, level: Level) -> usize
         ensures size { result ≡ size self.now level }
         ensures blocks { 64 * size self.now Heads < size self.now Deltas + 64 }
-        ensures few { size self.now Heads < 2 ^ 59 };
+        ensures few { size self.now Heads < 2 ^ 59 }
+        ensures alone { size self.now Heads ≡ 0 → size self.now Deltas < 2 ^ 60 };
 
     fn passes(&mut self, level: Level, test: Test, at: usize) -> bool
         requires within { at < size self.old level }
@@ -353,34 +354,40 @@ fn search_block<P: Probe>(probe: &mut P, test: Test, block: usize) -> usize
     last.start + 1
 }
 
-/// How many deltas pass, by the heads of their blocks where they are more than a few.
+/// How many deltas pass. Where they are more than a few and there are heads, by these first.
 #[inline(always)]
-pub(super) fn search_blocks<P: Probe>(probe: &mut P, test: Test) -> usize
+pub(super) fn search<P: Probe>(probe: &mut P, test: Test) -> usize
     requires room { P.probes probe.old < 2 ^ 33 }
     ensures same_size { P.size probe.new ≡ P.size probe.old }
     ensures same { P.passing probe.new ≡ P.passing probe.old }
     ensures same_deltas { P.deltas probe.new ≡ P.deltas probe.old }
     ensures within { result ≤ P.size probe.old Deltas }
     ensures point { IsPartitioned (P.passing probe.old Deltas test) (P.size probe.old Deltas)
+        → (0 < P.size probe.old Heads
         → HeadsAgree (P.passing probe.old Heads test) (P.passing probe.old Deltas test)
-        (P.size probe.old Heads) (P.size probe.old Deltas)
+        (P.size probe.old Heads) (P.size probe.old Deltas))
         → IsPointOf (P.passing probe.old Deltas test) (P.size probe.old Deltas) result }
     ensures spent { P.size probe.old Deltas ≤ 64 * P.size probe.old Heads
         → (digits : ℕ) → P.size probe.old Heads < 2 ^ digits
         → P.probes probe.new ≤ P.probes probe.old + digits + 7 }
     ensures room { P.probes probe.new < 2 ^ 62 }
 {
-    let len = probe.len(Level::Deltas);
-    if len <= FEW {
-        let all = SearchRange { start: 0, len };
-        return point_in(probe, Level::Deltas, test, all, all);
+    let mut range = SearchRange {
+        start: 0,
+        len: probe.len(Level::Deltas),
+    };
+    if range.len > FEW && probe.len(Level::Heads) > 0 {
+        return search_many(probe, test);
     }
-    search_many(probe, test)
+    while range.len > FEW {
+        range = quarter(probe, Level::Deltas, test, range);
+    }
+    point_in(probe, Level::Deltas, test, range, range)
 }
 
 /// How many deltas pass, by the heads of their blocks. There is a whole block.
 #[inline(always)]
-pub(super) fn search_many<P: Probe>(probe: &mut P, test: Test) -> usize
+fn search_many<P: Probe>(probe: &mut P, test: Test) -> usize
     requires room { P.probes probe.old < 2 ^ 33 }
     requires long { 64 ≤ P.size probe.old Deltas }
     ensures same_size { P.size probe.new ≡ P.size probe.old }
@@ -400,25 +407,4 @@ pub(super) fn search_many<P: Probe>(probe: &mut P, test: Test) -> usize
         Some(block) => search_block(probe, test, block),
         None => 0,
     }
-}
-
-/// How many deltas pass, by only the deltas.
-#[inline(always)]
-pub(super) fn search_deltas<P: Probe>(probe: &mut P, test: Test) -> usize
-    requires room { P.probes probe.old + P.size probe.old Deltas < 2 ^ 61 }
-    ensures same_size { P.size probe.new ≡ P.size probe.old }
-    ensures same { P.passing probe.new ≡ P.passing probe.old }
-    ensures same_deltas { P.deltas probe.new ≡ P.deltas probe.old }
-    ensures within { result ≤ P.size probe.old Deltas }
-    ensures point { IsPartitioned (P.passing probe.old Deltas test) (P.size probe.old Deltas)
-        → IsPointOf (P.passing probe.old Deltas test) (P.size probe.old Deltas) result }
-{
-    let mut range = SearchRange {
-        start: 0,
-        len: probe.len(Level::Deltas),
-    };
-    while range.len > FEW {
-        range = quarter(probe, Level::Deltas, test, range);
-    }
-    point_in(probe, Level::Deltas, test, range, range)
 }

@@ -4,7 +4,7 @@ ghost use Rattle.std.specs.Prelude.{◌≡◌, ◌≤◌, ◌<◌, ◌+◌, ◌^
 ghost use Rattle.std.specs.Prelude.{OnErr, IfErr, IsNone, IfSome, length, pos, ◌-ℤ◌};
 ghost use Rattle.linker_base.specs.Bits.{field};
 ghost use Rattle.linker_base.specs.Deltas.{deletions_of};
-ghost use Rattle.linker_base.specs.Listed.{AreValidDeltas};
+ghost use Rattle.linker_base.specs.Blocks.{IsValidView};
 ghost use Rattle.linker_utils.specs.RiscV.{IsEven, IsJalDistance, JumpsAndLinks, JumpsAt};
 ghost use Rattle.linker_utils.specs.RiscV.{IsInSection, IsSiteKept, output_distance, IsCallPair};
 ghost use Rattle.linker_utils.specs.RiscV.{IsPlainCall, call_len, NamesRegister, link_register};
@@ -363,25 +363,25 @@ pub fn relax_call_over(
     site: u64,
     target: u64,
 ) -> Result<(), CallError>
-    ensures jumps { AreValidDeltas deltas.now
+    ensures jumps { IsValidView deltas.now
         → OnOk result (JumpsAt section.old section.new site
-        (output_distance (deletions_of deltas.now) site target)) }
-    ensures accepted { AreValidDeltas deltas.now → (IsOk result
-        ↔ (IsInSection section.old site target × IsSiteKept (deletions_of deltas.now) site
-        × IsEven (output_distance (deletions_of deltas.now) site target)
-        × IsJalDistance (output_distance (deletions_of deltas.now) site target))) }
+        (output_distance (deletions_of deltas.now.deltas) site target)) }
+    ensures accepted { IsValidView deltas.now → (IsOk result
+        ↔ (IsInSection section.old site target × IsSiteKept (deletions_of deltas.now.deltas) site
+        × IsEven (output_distance (deletions_of deltas.now.deltas) site target)
+        × IsJalDistance (output_distance (deletions_of deltas.now.deltas) site target))) }
 
     ensures out_of_section { (result ≡ Err CallError.OutOfSection)
         ↔ ¬ IsInSection section.old site target }
-    ensures site_deleted { AreValidDeltas deltas.now → ((result ≡ Err CallError.SiteDeleted)
-        ↔ (IsInSection section.old site target × ¬ IsSiteKept (deletions_of deltas.now) site)) }
-    ensures odd_distance { AreValidDeltas deltas.now → ((result ≡ Err CallError.OddDistance)
-        ↔ (IsInSection section.old site target × IsSiteKept (deletions_of deltas.now) site
-        × ¬ IsEven (output_distance (deletions_of deltas.now) site target))) }
-    ensures too_far { AreValidDeltas deltas.now → ((result ≡ Err CallError.TooFar)
-        ↔ (IsInSection section.old site target × IsSiteKept (deletions_of deltas.now) site
-        × IsEven (output_distance (deletions_of deltas.now) site target)
-        × ¬ IsJalDistance (output_distance (deletions_of deltas.now) site target))) }
+    ensures site_deleted { IsValidView deltas.now → ((result ≡ Err CallError.SiteDeleted)
+        ↔ (IsInSection section.old site target × ¬ IsSiteKept (deletions_of deltas.now.deltas) site)) }
+    ensures odd_distance { IsValidView deltas.now → ((result ≡ Err CallError.OddDistance)
+        ↔ (IsInSection section.old site target × IsSiteKept (deletions_of deltas.now.deltas) site
+        × ¬ IsEven (output_distance (deletions_of deltas.now.deltas) site target))) }
+    ensures too_far { IsValidView deltas.now → ((result ≡ Err CallError.TooFar)
+        ↔ (IsInSection section.old site target × IsSiteKept (deletions_of deltas.now.deltas) site
+        × IsEven (output_distance (deletions_of deltas.now.deltas) site target)
+        × ¬ IsJalDistance (output_distance (deletions_of deltas.now.deltas) site target))) }
     ensures unchanged { OnErr result (section.new ≡ section.old) }
 {
     if !has_window(section, site, 0, 4) || target > section.len() as u64 {

@@ -16,5 +16,5 @@ returns-in-Some-clause-invalid c = (λ _ valid. c.in-Some.ensures.here (IsValid-
 
 pub returns-in-Some-first_overlapping-clause-mergeable : goal.returns-in-Some-first_overlapping-clause-mergeable
 returns-in-Some-first_overlapping-clause-mergeable c valid disjoint =
-    let first = rw c.new-slice.ensures at c.in-Some-first_overlapping.ensures in
+    let first = rw c.new-slice.ensures.same at c.in-Some-first_overlapping.ensures in
     absurd (overlapping_denies (deletions_of c.args.deltas.now) (pairs_in c.args.additional.now) c.in-Some-first_overlapping.field-0 (first valid) disjoint)

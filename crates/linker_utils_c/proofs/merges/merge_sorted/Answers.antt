@@ -20,12 +20,12 @@ merge_ascending-requires-clause-valid c =
     let rise : IsNonDecreasingBy (λ d. d.0) sorted = IsNonDecreasingBy-from_sort_by_key (λ d. d.0) sorted c.sort_unstable_by_key.ensures.sorted (λ a r f called. search rules) in
     let together : AreValidTogether old sorted = elim c.if-not-can_merge_ascending.branch [
       | then-not-can_merge_ascending+in_default-first_overlapping w ↦
-          let disjoint : AreDisjoint (old ++ more) = (rw c.new-slice.ensures at w.in_default-first_overlapping.ensures) c.requires.valid in
+          let disjoint : AreDisjoint (old ++ more) = (rw c.new-slice.ensures.same at w.in_default-first_overlapping.ensures) c.requires.valid in
           let both = (disjoint_moved old more sorted same).1 disjoint in
           record { old = c.requires.valid; added = valid_from_disjoint sorted (disjoint_back old sorted both) rise; disjoint = both }
-      | else-not-can_merge_ascending w ↦ subst (AreValidTogether old) (map-id c.deref.result.now ∙ c.deref.ensures.value) (rw c.new-slice.ensures at (c.can_merge_ascending.ensures.0 w.if-not-can_merge_ascending.false))
+      | else-not-can_merge_ascending w ↦ subst (AreValidTogether old) (map-id c.deref.result.now ∙ c.deref.ensures.value) (rw c.new-slice.ensures.same at (c.can_merge_ascending.ensures.0 w.if-not-can_merge_ascending.false))
     ] in
-    rw c.new-slice.ensures (subst (AreValidTogether old) (sym (map-id c.deref-2.result.now ∙ c.deref-2.ensures.value)) together)
+    rw c.new-slice.ensures.same (subst (AreValidTogether old) (sym (map-id c.deref-2.result.now ∙ c.deref-2.ensures.value)) together)
 
 pub returns-clause-outcome : goal.returns-clause-outcome
 returns-clause-outcome c =
@@ -34,5 +34,5 @@ returns-clause-outcome c =
     let sorted = c.sort_unstable_by_key.new.self.items in
     let merged = deletions_of c.merge_ascending.new.merged in
     let same : IsPermutation more sorted = rw c.in-Ok.ensures at c.sort_unstable_by_key.ensures.permutation in
-    let union : IsSortedUnion (old ++ sorted) merged = subst (λ ps. IsSortedUnion (old ++ ps) merged) (map-id c.deref-2.result.now ∙ c.deref-2.ensures.value) (rw c.new-slice.ensures at c.merge_ascending.ensures.union) in
+    let union : IsSortedUnion (old ++ sorted) merged = subst (λ ps. IsSortedUnion (old ++ ps) merged) (map-id c.deref-2.result.now ∙ c.deref-2.ensures.value) (rw c.new-slice.ensures.same at c.merge_ascending.ensures.union) in
     record { union = union_moved old more sorted same merged union; listed = c.merge_ascending.ensures.listed }

@@ -1,30 +1,28 @@
-use Rattle.std.proofs.Common.{◌≡◌, ◌+◌, ◌-◌, ◌<◌, length, map, refl, ap, ◌∙◌, arith}
-use Rattle.std.specs.List.Sorted.{IsPartitionPoint}
-use Rattle.linker_base.specs.Deltas.{deletion_of}
+use Rattle.std.proofs.Common.{◌≡◌, ◌+◌, ◌<◌, length, refl, arith}
 use Rattle.linker_base.proofs.Search.{blank, begins_partitioned, parted_from_point, rank_at_last, rank_at_none}
 use Rattle.linker_base.proofs.relaxation.blocks.input_to_output_counted.Goals as goal
 
 pub delta-requires-clause-within : goal.delta-requires-clause-within
-delta-requires-clause-within g c = rw c.search_blocks.ensures.same_deltas (omega (arith, c.search_blocks.ensures.within, c.in-Some.ensures.0, c.in-Some.ensures.1))
+delta-requires-clause-within g c = rw c.search.ensures.same_deltas (omega (arith, c.search.ensures.within, c.in-Some.ensures.0, c.in-Some.ensures.1))
 
 pub returns-in-Some-clause-output : goal.returns-in-Some-clause-output
 returns-in-Some-clause-output g c =
     let deltas = g.K.Looks.listed c.args.looks.now in
     let listed = c.len-len.ensures.valid in
     let last = c.in-Some.last in
-    let count : c.search_blocks.result ≡ last + 1 = omega (arith, c.in-Some.ensures.0, c.in-Some.ensures.1) in
-    let within : last < length deltas = omega (arith, c.search_blocks.ensures.within) in
-    let point = c.search_blocks.ensures.point (begins_partitioned deltas listed.valid c.args.input_offset) (record { same = λ b low. refl; all = omega arith }) in
-    let parted = parted_from_point deltas c.args.input_offset c.search_blocks.result c.search_blocks.ensures.within point in
+    let count : c.search.result ≡ last + 1 = omega (arith, c.in-Some.ensures.0, c.in-Some.ensures.1) in
+    let within : last < length deltas = omega (arith, c.search.ensures.within) in
+    let point = c.search.ensures.point (begins_partitioned deltas listed.valid c.args.input_offset) (λ _. record { same = λ b low. refl; all = omega arith }) in
+    let parted = parted_from_point deltas c.args.input_offset c.search.result c.search.ensures.within point in
     let ranked = rank_at_last deltas listed c.args.input_offset last within (rw count at parted) in
-    let read = rw c.search_blocks.ensures.same_deltas at (c.delta.ensures.delta blank) in
+    let read = rw c.search.ensures.same_deltas at (c.delta.ensures.delta blank) in
     omega (arith, ranked.0, ranked.1, rw read at c.rank_after.ensures)
 
 pub returns-in-None-clause-output : goal.returns-in-None-clause-output
 returns-in-None-clause-output g c =
     let deltas = g.K.Looks.listed c.args.looks.now in
     let listed = c.len-len.ensures.valid in
-    let count : c.search_blocks.result ≡ 0 = omega (arith, c.in-None.ensures) in
-    let point = c.search_blocks.ensures.point (begins_partitioned deltas listed.valid c.args.input_offset) (record { same = λ b low. refl; all = omega arith }) in
-    let parted = parted_from_point deltas c.args.input_offset c.search_blocks.result c.search_blocks.ensures.within point in
+    let count : c.search.result ≡ 0 = omega (arith, c.in-None.ensures) in
+    let point = c.search.ensures.point (begins_partitioned deltas listed.valid c.args.input_offset) (λ _. record { same = λ b low. refl; all = omega arith }) in
+    let parted = parted_from_point deltas c.args.input_offset c.search.result c.search.ensures.within point in
     rank_at_none deltas listed c.args.input_offset (rw count at parted)

@@ -1,4 +1,4 @@
-use Rattle.std.proofs.Common.{◌++◌, [], map, subst}
+use Rattle.std.proofs.Common.{[], subst}
 use Rattle.std.specs.Prelude.{◌↔◌, IsTrue}
 use Rattle.std.proofs.lemmas.List.{map-id}
 use Rattle.linker_base.specs.Deletions.{AreDisjoint}

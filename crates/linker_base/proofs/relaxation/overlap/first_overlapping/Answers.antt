@@ -1,10 +1,10 @@
-use Rattle.std.proofs.Common.{◌≡◌, ℕ, ◌+◌, ◌<◌, ◌≤◌, length, map, get_or, take, true, sym, ap, ◌∙◌, arith}
-use Rattle.std.specs.Prelude.{◌↔◌, IsTrue, All}
+use Rattle.std.proofs.Common.{◌≡◌, ◌<◌, ◌≤◌, length, map, get_or, take, sym, ◌∙◌, arith}
+use Rattle.std.specs.Prelude.{All}
 use Rattle.std.proofs.lemmas.Bool.{false≢true, not-true, not-false, leb-true}
 use Rattle.std.proofs.lemmas.List.{get_or-map, length-map, take-map}
 use Rattle.linker_base.specs.Deletions.{DoNotOverlap}
 use Rattle.linker_base.specs.Deltas.{deletion_of}
-use Rattle.linker_base.proofs.Merging.{IsBeside, disjoint_more, beside_from_disjoint, earlier_from_valid}
+use Rattle.linker_base.proofs.Merging.{disjoint_more, beside_from_disjoint, earlier_from_valid}
 use Rattle.linker_base.proofs.relaxation.overlap.first_overlapping.Goals as goal
 use Rattle.linker_base.proofs.relaxation.overlap.first_overlapping.Goals.{then-not-end_fits-via-then-not-end_fits, then-not-end_fits-via-else-not-end_fits+then-not-is_beside_deltas, then-not-end_fits-via-else-not-end_fits+else-not-is_beside_deltas+then-not-is_beside, then-at-ascending, else-at-ascending}
 

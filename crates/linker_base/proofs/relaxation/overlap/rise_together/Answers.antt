@@ -1,11 +1,10 @@
-use Rattle.std.proofs.Common.{◌≡◌, ℕ, ◌+◌, ◌<◌, ◌≤◌, length, map, get_or, false, sym, ap, ◌∙◌, refl, arith}
+use Rattle.std.proofs.Common.{◌≡◌, ℕ, ◌+◌, map, get_or, sym, ap, ◌∙◌, refl, arith}
 use Rattle.std.proofs.lemmas.Bool.{false≢true}
 use Rattle.std.proofs.lemmas.Bool.Decides.{nat_tests}
 use Rattle.std.proofs.lemmas.List.{get_or-map, length-map}
 use Rattle.linker_base.specs.Deltas.{deletion_of}
-use Rattle.linker_base.specs.Inner.Listed.{CanFollow}
 use Rattle.linker_base.proofs.Search.{blank, deletion_at}
-use Rattle.linker_base.proofs.Together.{AreWalked, walked_none, walked_swapped, together_swapped, walked_more, must_follow, walked_all}
+use Rattle.linker_base.proofs.Together.{walked_none, walked_swapped, together_swapped, walked_more, must_follow, walked_all}
 use Rattle.linker_base.proofs.relaxation.overlap.rise_together.Goals as goal
 use Rattle.linker_base.proofs.relaxation.overlap.rise_together.Goals.{then-is_old, else-is_old}
 

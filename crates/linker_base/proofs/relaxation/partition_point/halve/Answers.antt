@@ -1,4 +1,4 @@
-use Rattle.std.proofs.Common.{◌≡◌, ◌+◌, ◌/◌, refl, sym, ◌∙◌, arith}
+use Rattle.std.proofs.Common.{◌/◌, refl, sym, ◌∙◌}
 use Rattle.linker_base.proofs.PartitionPoint.{narrows_up, narrows_down}
 use Rattle.linker_base.proofs.relaxation.partition_point.halve.Goals as goal
 use Rattle.linker_base.proofs.relaxation.partition_point.halve.Goals.{then-passes, else-passes}

@@ -1,4 +1,4 @@
-use Rattle.std.proofs.Common.{◌≡◌, ◌+◌, ◌-◌, ◌*◌, arith}
+use Rattle.std.proofs.Common.{◌≡◌, ◌+◌, arith}
 use Rattle.linker_base.specs.declared.relaxation.partition_point.Level.TheVariants.{Heads, Deltas}
 use Rattle.linker_base.proofs.PartitionPoint.{heads_partitioned, block_begins, block_ends, none_passes}
 use Rattle.linker_base.proofs.relaxation.partition_point.search_many.Goals as goal

@@ -1,7 +1,6 @@
-use Rattle.std.proofs.Common.{◌≡◌, map, refl, inl, inr, arith}
+use Rattle.std.proofs.Common.{◌≡◌, refl, inl, inr, arith}
 use Rattle.std.proofs.lemmas.Bool.{cases_lt}
 use Rattle.std.proofs.lemmas.List.{get_or_default}
-use Rattle.linker_base.specs.Deltas.{deletion_of}
 use Rattle.linker_base.proofs.Search.{blank}
 use Rattle.linker_base.proofs.Walking.{walked_to, walked_over}
 use Rattle.linker_base.proofs.relaxation.walk.pass.Goals as goal

@@ -1,5 +1,4 @@
-use Rattle.std.proofs.Common.{◌≡◌, ◌≢◌, ◌+◌, ◌<◌, ℕ, length, map, get_or, take, sym, ap, ◌∙◌, inl, inr, arith}
-use Rattle.std.specs.Prelude.{◌%◌, ◌-◌, ◌^◌}
+use Rattle.std.proofs.Common.{◌≡◌, ◌≢◌, ◌+◌, ◌<◌, length, map, get_or, sym, ap, ◌∙◌, inl, inr, arith}
 use Rattle.std.proofs.lemmas.Bool.{cases_lt}
 use Rattle.std.proofs.lemmas.List.{length-map, get_or-map, get_or-set_same, get_or-set_other}
 use Rattle.std.proofs.lemmas.List.Sums.{fold_more}
@@ -7,7 +6,6 @@ use Rattle.std.proofs.lemmas.Grind.{same_number_lists}
 use Rattle.linker_base.specs.Deletions.{rank, begun_below}
 use Rattle.linker_base.specs.Deltas.{deletion_of}
 use Rattle.linker_base.specs.Listed.{AreValidDeltas}
-use Rattle.linker_base.specs.Inner.Listed.{IsWalked}
 use Rattle.linker_base.specs.Walk.{walk_at, walk_to, AreAhead}
 use Rattle.linker_base.proofs.Walking.{begun_ahead, begun_later, rank_walked}
 use Rattle.linker_base.proofs.relaxation.walk.walk.Goals as goal

@@ -9,7 +9,7 @@ use Rattle.linker_utils.proofs.riscv64.calls.relax_call_over.Goals as goal
 
 pub returns-clause-jumps : goal.returns-clause-jumps
 returns-clause-jumps c = λ valid.
-    let ds = deletions_of c.args.deltas.now in
+    let ds = deletions_of c.args.deltas.now.deltas in
     let room = (c.has_window.ensures.0 c.if-not-has_window.false).1 in
     let kept = c.in-Some.ensures valid in
     let wide : FitsSigned w64 c.distance_between.result = first_of (search rules, omega (arith, ints)) in
@@ -22,7 +22,7 @@ returns-clause-jumps c = λ valid.
 
 pub returns-clause-accepted : goal.returns-clause-accepted
 returns-clause-accepted c = λ valid.
-    let ds = deletions_of c.args.deltas.now in
+    let ds = deletions_of c.args.deltas.now.deltas in
     let room = (c.has_window.ensures.0 c.if-not-has_window.false).1 in
     let kept = c.in-Some.ensures valid in
     let wide : FitsSigned w64 c.distance_between.result = first_of (search rules, omega (arith, ints)) in
@@ -34,7 +34,7 @@ returns-clause-accepted c = λ valid.
 
 pub returns-clause-odd_distance : goal.returns-clause-odd_distance
 returns-clause-odd_distance c = λ valid.
-    let ds = deletions_of c.args.deltas.now in
+    let ds = deletions_of c.args.deltas.now.deltas in
     let room = (c.has_window.ensures.0 c.if-not-has_window.false).1 in
     let kept = c.in-Some.ensures valid in
     let wide : FitsSigned w64 c.distance_between.result = first_of (search rules, omega (arith, ints)) in
@@ -46,7 +46,7 @@ returns-clause-odd_distance c = λ valid.
 
 pub returns-clause-too_far : goal.returns-clause-too_far
 returns-clause-too_far c = λ valid.
-    let ds = deletions_of c.args.deltas.now in
+    let ds = deletions_of c.args.deltas.now.deltas in
     let room = (c.has_window.ensures.0 c.if-not-has_window.false).1 in
     let kept = c.in-Some.ensures valid in
     let wide : FitsSigned w64 c.distance_between.result = first_of (search rules, omega (arith, ints)) in

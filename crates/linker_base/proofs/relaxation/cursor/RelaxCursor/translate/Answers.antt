@@ -2,9 +2,7 @@ use Rattle.std.proofs.Common.{◌≡◌, ◌≤◌, ◌<◌, map, sym, ◌∙◌
 use Rattle.std.specs.Prelude.{All}
 use Rattle.std.proofs.lemmas.Bool.{false≢true}
 use Rattle.std.proofs.lemmas.List.{length-map}
-use Rattle.linker_base.specs.Deletions.{begun_below}
 use Rattle.linker_base.specs.Deltas.{deletion_of}
-use Rattle.linker_base.specs.Walk.{IsAhead}
 use Rattle.linker_base.proofs.Walking.{begun_ahead, begun_later, rank_walked, step_back_stays, walked_below_end}
 use Rattle.linker_base.proofs.relaxation.cursor.RelaxCursor.translate.Goals as goal
 use Rattle.linker_base.proofs.relaxation.cursor.RelaxCursor.translate.Goals.{else-input_offset-self-via-then-input_offset-self+else-is_ahead, else-input_offset-self-via-else-input_offset-self}

@@ -1,10 +1,10 @@
--- Where a list of deletions parts at an offset or at an output place, and what is gone before it.
-use Rattle.std.proofs.Common.{◌≡◌, ℕ, zero, suc, ◌+◌, ◌-◌, ◌<◌, ◌≤◌, true, false, List, [], ◌∷◌, length, get_or, take, refl, ap, ⊎_elim, add-one, arith}
+-- Where a list of deletions parts at an offset or at an output offset, and what is gone before it.
+use Rattle.std.proofs.Common.{◌≡◌, ℕ, zero, suc, ◌+◌, ◌<◌, ◌≤◌, true, false, List, [], ◌∷◌, length, get_or, take, refl, ap, ⊎_elim, add-one, arith}
 use Rattle.std.specs.Prelude.{◌^◌, not, AllPairs}
 use Rattle.std.specs.List.{list_any, AllWithin}
 use Rattle.std.proofs.lemmas.Bool.{cases_lt}
 use Rattle.std.proofs.lemmas.Bool.Decides.{nat_tests}
-use Rattle.std.proofs.lemmas.List.{get_or_default, take_all}
+use Rattle.std.proofs.lemmas.List.{take_all}
 use Rattle.std.proofs.lemmas.List.Sums.{sum_by-cons, sum_by_more, sum_by-take-le}
 use Rattle.linker_base.specs.Deletions.{IsBefore, DoNotOverlap, IsValid, bytes_of, covers, is_kept, rank, IsSelected}
 use Rattle.linker_base.proofs.Rank.{removed_by, removed, rank-removed}
@@ -65,12 +65,12 @@ kept-parted ds k p parted passed = ap not (free ds k parted passed)
         let rest = free ds k (parted_tail d ds k (suc p) parted) (λ j e from below. passed (suc j) e (omega arith) (omega arith)) in
         rw rest (grind (arith, nat_tests))
 
--- where the output places part the list at k, the first k deletions are the bytes to add
-pub selected-place : (ds : List (ℕ × ℕ)) (k y : ℕ) → AllPairs DoNotOverlap ds → k ≤ length ds
+-- where the output offsets part the list at k, the first k deletions are the bytes to add
+pub selected-output : (ds : List (ℕ × ℕ)) (k y : ℕ) → AllPairs DoNotOverlap ds → k ≤ length ds
     → ((j : ℕ) (d : ℕ × ℕ) → j < k → (get_or ds j d).0 ≤ y + bytes_of (take j ds))
     → ((j : ℕ) (d : ℕ × ℕ) → k ≤ j → j < length ds → y + bytes_of (take j ds) < (get_or ds j d).0)
     → IsSelected ds y (y + bytes_of (take k ds))
-selected-place ds k y apart within before after = record {
+selected-output ds k y apart within before after = record {
   kept = kept-parted ds k p (record { passed = λ j d from below. omega (arith, passed j d from below); ahead = ahead }) passed;
   ranked = omega (arith, rank-removed ds p apart, removed-parted ds k p (record { passed = passed; ahead = λ j d from below. omega (arith, ahead j d from below) }));
 }
@@ -100,11 +100,6 @@ bytes_between ds i (suc j) d ascending le within =
 -- the bytes of the earlier deletions fit below a deletion's offset
 pub bytes-le-offset : (ds : List (ℕ × ℕ)) (j : ℕ) (d : ℕ × ℕ) → AllPairs IsBefore ds → j < length ds → bytes_of (take j ds) ≤ (get_or ds j d).0
 bytes-le-offset ds j d ascending within = omega (arith, bytes_between ds 0 j d ascending (omega arith) within)
-
--- the output places of a list by ascending offset don't fall
-pub places_rise : (ds : List (ℕ × ℕ)) (i j : ℕ) (d : ℕ × ℕ) → AllPairs IsBefore ds → i ≤ j → j < length ds → (get_or ds i d).0 - bytes_of (take i ds) ≤ (get_or ds j d).0 - bytes_of (take j ds)
-places_rise ds i j d ascending le within =
-    omega (arith, bytes_between ds i j d ascending le within, bytes-le-offset ds i d ascending (omega arith), bytes-le-offset ds j d ascending within)
 
 -- all bytes of a valid list fit below the end of its last deletion, and so 64 bits
 pub bytes_fit : (ds : List (ℕ × ℕ)) → IsValid ds → bytes_of ds < 2 ^ 64

@@ -1,0 +1,298 @@
+-- A merge of two ascending lists, from the back.
+use Rattle.std.proofs.Common.{◌≡◌, ℕ, false, zero, suc, ◌+◌, ◌-◌, ◌<◌, ◌≤◌, List, [], ◌∷◌, ◌++◌, length, map, get_or, set, take, drop, refl, sym, ap, ◌∙◌, inl, inr, arith}
+use Rattle.std.specs.Prelude.{◌^◌, Option, Some, None, All, IsPermutation}
+use Rattle.std.specs.Borrow.{Bor}
+use Rattle.std.specs.Option.{is_some}
+use Rattle.std.specs.List.Sorted.{IsNonDecreasingBy}
+use Rattle.std.proofs.lemmas.Bool.{cases_lt, cases_order, false≢true}
+use Rattle.std.proofs.lemmas.List.{append_assoc, take-append-drop, take-append-le, take-take, take-map, take_all, take-set-le, drop_more, drop_all, drop-set, get_or-take, get_or_default, get_or_append_left, get_or-append_right, map-append, length-append, length-map, length-set, length-take}
+use Rattle.std.proofs.Math.Seq.{take-append-add}
+use Rattle.std.proofs.lemmas.List.Elements.{All-cons}
+use Rattle.std.proofs.lemmas.List.Sorted.{IsNonDecreasingBy-take, IsPermutation-refl, IsPermutation-cons, IsPermutation-middle, IsPermutation-append_right, IsPermutation-trans}
+use Rattle.std.proofs.lemmas.List.Sums.{sum_by-cons, sum_by_more, sum_by-append}
+use Rattle.linker_base.specs.declared.relaxation.RelaxDelta.{RelaxDelta}
+use Rattle.linker_base.specs.Deletions.{AreDisjoint, IsValid, IsSortedUnion, bytes_of}
+use Rattle.linker_base.specs.Deltas.{deletion_of}
+use Rattle.linker_base.specs.Listed.{AreValidDeltas}
+use Rattle.linker_base.specs.Inner.Listed.{read_from}
+use Rattle.linker_base.proofs.OutputOffsets.{AreParted, rank-parted}
+use Rattle.linker_base.proofs.Search.{deletion_at}
+use Rattle.linker_base.proofs.Unions.{union_from_sort}
+
+-- the bytes of disjoint deletions fit 64 bits
+pub disjoint_fit : (ds : List (ℕ × ℕ)) → AreDisjoint ds → bytes_of ds < 2 ^ 64
+disjoint_fit ds disjoint =
+    let parted : AreParted ds (length ds) (2 ^ 64 - 1) = record {
+      passed = λ j d from below. omega (arith, disjoint.ends j d below);
+      ahead = λ j d from below. absurd (omega arith);
+    } in
+    let whole : take (length ds) ds ≡ ds = take_all (length ds) ds (omega arith) in
+    omega (arith, rw whole at (rank-parted ds (length ds) (2 ^ 64 - 1) disjoint.apart parted))
+
+-- the offsets of a valid list rise
+pub valid_rises : (ds : List (ℕ × ℕ)) → IsValid ds → IsNonDecreasingBy (λ d. d.0) ds
+valid_rises ds valid i j d le within = elim (cases_order i j) [
+  | inl same ↦ rw same (omega arith)
+  | inr (inl lower) ↦ omega (arith, (valid.ascending i j d lower within).0)
+  | inr (inr above) ↦ absurd (omega arith)
+]
+
+rise-cons : (x : ℕ × ℕ) (xs : List (ℕ × ℕ)) → All (λ d. x.0 ≤ d.0) xs → IsNonDecreasingBy (λ d. d.0) xs → IsNonDecreasingBy (λ d. d.0) (x ∷ xs)
+rise-cons x xs least rise zero zero d le within = omega arith
+rise-cons x xs least rise zero (suc j) d le within = least j d (omega arith)
+rise-cons x xs least rise (suc i) zero d le within = absurd (omega arith)
+rise-cons x xs least rise (suc i) (suc j) d le within = rise i j d (omega arith) (omega arith)
+
+rise-append : (xs ys : List (ℕ × ℕ)) → IsNonDecreasingBy (λ d. d.0) xs → IsNonDecreasingBy (λ d. d.0) ys → ((k : ℕ) → k < length xs → All (λ d. (get_or xs k (0, 0)).0 ≤ d.0) ys) → IsNonDecreasingBy (λ d. d.0) (xs ++ ys)
+rise-append xs ys first second above i j d le within = elim (cases_lt j (length xs)) [
+  | inl low ↦
+      let lower : i < length xs = omega arith in
+      rw (get_or_append_left xs ys d i lower, get_or_append_left xs ys d j low) (first i j d le low)
+  | inr high ↦
+      let inside : j - length xs < length ys = omega (arith, length-append xs ys) in
+      elim (cases_lt i (length xs)) [
+        | inl low ↦ rw (get_or_append_left xs ys d i low, get_or-append_right xs ys (length xs) j d refl high, get_or_default xs i d (0, 0) low) (above i low (j - length xs) d inside)
+        | inr from ↦ rw (get_or-append_right xs ys (length xs) i d refl from, get_or-append_right xs ys (length xs) j d refl high) (second (i - length xs) (j - length xs) d (omega arith) inside)
+      ]
+]
+
+-- each delta has the bytes deleted before all, and those up to it
+pub record HaveSums (before : ℕ) (deltas : List RelaxDelta) : Type 0 where
+  pub each : (k : ℕ) (d : RelaxDelta) → k < length deltas → (get_or deltas k d).cumulative_deleted ≡ before + bytes_of (take (k + 1) (map deletion_of deltas))
+
+take_suc : (ds : List (ℕ × ℕ)) (d : ℕ × ℕ) (k : ℕ) → take (suc k + 1) (d ∷ ds) ≡ d ∷ take (k + 1) ds
+take_suc ds d k = let next : suc k + 1 ≡ suc (k + 1) = omega arith in rw next
+
+HaveSums-cons : (before : ℕ) (delta : RelaxDelta) (deltas : List RelaxDelta) → delta.cumulative_deleted ≡ before + delta.bytes_deleted → HaveSums (before + delta.bytes_deleted) deltas → HaveSums before (delta ∷ deltas)
+HaveSums-cons before delta deltas sum rest = record { each = each }
+  where
+    each : (k : ℕ) (d : RelaxDelta) → k < length (delta ∷ deltas) → (get_or (delta ∷ deltas) k d).cumulative_deleted ≡ before + bytes_of (take (k + 1) (map deletion_of (delta ∷ deltas)))
+    each zero d within = omega (arith, sum)
+    each (suc k) d within =
+        let more : take (suc k + 1) (map deletion_of (delta ∷ deltas)) ≡ deletion_of delta ∷ take (k + 1) (map deletion_of deltas) = take_suc (map deletion_of deltas) (deletion_of delta) k in
+        rw more (omega (arith, rest.each k d (omega arith), sum_by-cons (λ (e : ℕ × ℕ). e.1) (deletion_of delta) (take (k + 1) (map deletion_of deltas))))
+
+HaveSums-append : (before : ℕ) (xs ys : List RelaxDelta) → HaveSums before xs → HaveSums (before + bytes_of (map deletion_of xs)) ys → HaveSums before (xs ++ ys)
+HaveSums-append before xs ys first second = record {
+  each = λ k d within. elim (cases_lt k (length xs)) [
+    | inl low ↦
+        let inner : k + 1 ≤ length (map deletion_of xs) = omega (arith, length-map xs deletion_of) in
+        rw (get_or_append_left xs ys d k low, joined, take-append-le (k + 1) (map deletion_of xs) (map deletion_of ys) inner) (first.each k d low)
+    | inr high ↦
+        let inside : k - length xs < length ys = omega (arith, length-append xs ys) in
+        let next : k + 1 ≡ length (map deletion_of xs) + (k - length xs + 1) = omega (arith, length-map xs deletion_of) in
+        rw (get_or-append_right xs ys (length xs) k d refl high, joined, next, take-append-add (map deletion_of xs) (map deletion_of ys) (k - length xs + 1)) (omega (arith, second.each (k - length xs) d inside, sum_by-append (λ (e : ℕ × ℕ). e.1) (map deletion_of xs) (take (k - length xs + 1) (map deletion_of ys))))
+  ];
+}
+  where
+    joined : map deletion_of (xs ++ ys) ≡ map deletion_of xs ++ map deletion_of ys
+    joined = map-append deletion_of xs ys
+
+-- deltas that list all but the first i deletions and all but the first j additional ones, merged
+pub record IsTail (ds ps : List (ℕ × ℕ)) (i j : ℕ) (tail : List RelaxDelta) : Type 0 where
+  pub same : IsPermutation (drop i ds ++ drop j ps) (map deletion_of tail)
+  pub rise : IsNonDecreasingBy (λ d. d.0) (map deletion_of tail)
+  pub above_old : (k : ℕ) → k < i → All (λ d. (get_or ds k (0, 0)).0 ≤ d.0) (map deletion_of tail)
+  pub above_left : (k : ℕ) → k < j → All (λ d. (get_or ps k (0, 0)).0 ≤ d.0) (map deletion_of tail)
+  pub sums : HaveSums (bytes_of (take i ds) + bytes_of (take j ps)) tail
+
+IsTail-nil : (ds ps : List (ℕ × ℕ)) → IsTail ds ps (length ds) (length ps) []
+IsTail-nil ds ps = record {
+  same = rw (drop_all (length ds) ds (omega arith), drop_all (length ps) ps (omega arith)) (IsPermutation-refl []);
+  rise = λ i j d le within. absurd (omega arith);
+  above_old = λ k low i d within. absurd (omega arith);
+  above_left = λ k low i d within. absurd (omega arith);
+  sums = record { each = λ k d within. absurd (omega arith) };
+}
+
+-- the last of the old deletions goes in front
+IsTail-old : (ds ps : List (ℕ × ℕ)) (i j : ℕ) (tail : List RelaxDelta) (delta : RelaxDelta) → IsValid ds → IsValid ps → i < length ds → j ≤ length ps → IsTail ds ps (i + 1) j tail
+    → deletion_of delta ≡ get_or ds i (0, 0) → (0 < j → (get_or ps (j - 1) (0, 0)).0 ≤ (get_or ds i (0, 0)).0) → delta.cumulative_deleted ≡ bytes_of (take (i + 1) ds) + bytes_of (take j ps) → IsTail ds ps i j (delta ∷ tail)
+IsTail-old ds ps i j tail delta valid rises within inside merged is above sum =
+    let offset : delta.input_offset ≡ (get_or ds i (0, 0)).0 = ap (λ (e : ℕ × ℕ). e.0) is in
+    let bytes : delta.bytes_deleted ≡ (get_or ds i (0, 0)).1 = ap (λ (e : ℕ × ℕ). e.1) is in
+    let more = sum_by_more (λ (e : ℕ × ℕ). e.1) ds i (0, 0) within in
+    record {
+      same = rw (drop_more ds i (0, 0) within, ← is) (IsPermutation-cons (deletion_of delta) (drop (i + 1) ds ++ drop j ps) (map deletion_of tail) merged.same);
+      rise = rise-cons (deletion_of delta) (map deletion_of tail) (rw (← is) at (merged.above_old i (omega arith))) merged.rise;
+      above_old = λ k low. All-cons (λ d. (get_or ds k (0, 0)).0 ≤ d.0) (deletion_of delta) (map deletion_of tail) (omega (arith, offset, valid_rises ds valid k i (0, 0) (omega arith) within)) (merged.above_old k (omega arith));
+      above_left = λ k low. All-cons (λ d. (get_or ps k (0, 0)).0 ≤ d.0) (deletion_of delta) (map deletion_of tail) (omega (arith, offset, above (omega arith), valid_rises ps rises k (j - 1) (0, 0) (omega arith) (omega arith))) (merged.above_left k low);
+      sums = HaveSums-cons (bytes_of (take i ds) + bytes_of (take j ps)) delta tail (omega (arith, more, bytes, sum)) (
+          let before : bytes_of (take i ds) + bytes_of (take j ps) + delta.bytes_deleted ≡ bytes_of (take (i + 1) ds) + bytes_of (take j ps) = omega (arith, more, bytes) in
+          rw before merged.sums);
+    }
+
+-- the last of the additional deletions goes in front
+IsTail-left : (ds ps : List (ℕ × ℕ)) (i j : ℕ) (tail : List RelaxDelta) (delta : RelaxDelta) → IsValid ds → IsValid ps → i ≤ length ds → j < length ps → IsTail ds ps i (j + 1) tail
+    → deletion_of delta ≡ get_or ps j (0, 0) → (0 < i → (get_or ds (i - 1) (0, 0)).0 ≤ (get_or ps j (0, 0)).0) → delta.cumulative_deleted ≡ bytes_of (take i ds) + bytes_of (take (j + 1) ps) → IsTail ds ps i j (delta ∷ tail)
+IsTail-left ds ps i j tail delta valid rises within inside merged is above sum =
+    let offset : delta.input_offset ≡ (get_or ps j (0, 0)).0 = ap (λ (e : ℕ × ℕ). e.0) is in
+    let bytes : delta.bytes_deleted ≡ (get_or ps j (0, 0)).1 = ap (λ (e : ℕ × ℕ). e.1) is in
+    let more = sum_by_more (λ (e : ℕ × ℕ). e.1) ps j (0, 0) inside in
+    record {
+      same = rw (drop_more ps j (0, 0) inside, ← is) (IsPermutation-trans (drop i ds ++ deletion_of delta ∷ drop (j + 1) ps) (deletion_of delta ∷ (drop i ds ++ drop (j + 1) ps)) (deletion_of delta ∷ map deletion_of tail)
+          (IsPermutation-middle (drop i ds) (deletion_of delta) (drop (j + 1) ps))
+          (IsPermutation-cons (deletion_of delta) (drop i ds ++ drop (j + 1) ps) (map deletion_of tail) merged.same));
+      rise = rise-cons (deletion_of delta) (map deletion_of tail) (rw (← is) at (merged.above_left j (omega arith))) merged.rise;
+      above_old = λ k low. All-cons (λ d. (get_or ds k (0, 0)).0 ≤ d.0) (deletion_of delta) (map deletion_of tail) (omega (arith, offset, above (omega arith), valid_rises ds valid k (i - 1) (0, 0) (omega arith) (omega arith))) (merged.above_old k low);
+      above_left = λ k low. All-cons (λ d. (get_or ps k (0, 0)).0 ≤ d.0) (deletion_of delta) (map deletion_of tail) (omega (arith, offset, valid_rises ps rises k j (0, 0) (omega arith) inside)) (merged.above_left k (omega arith));
+      sums = HaveSums-cons (bytes_of (take i ds) + bytes_of (take j ps)) delta tail (omega (arith, more, bytes, sum)) (
+          let before : bytes_of (take i ds) + bytes_of (take j ps) + delta.bytes_deleted ≡ bytes_of (take i ds) + bytes_of (take (j + 1) ps) = omega (arith, more, bytes) in
+          rw before merged.sums);
+    }
+
+pub in_place : (apart : Option (Bor (List RelaxDelta))) → is_some apart ≡ false → apart ≡ None
+in_place None none = refl
+in_place (Some deltas) none = absurd (false≢true (sym none))
+
+-- what isn't free is merged, so many bytes are left, and the first i deltas are read as at first
+pub record IsMerging (apart : Option (Bor (List RelaxDelta))) (start : List RelaxDelta) (ps : List (ℕ × ℕ)) (i j : ℕ) (merged : List RelaxDelta) (bytes : ℕ) : Type 0 where
+  pub old_within : i ≤ length start
+  pub left_within : j ≤ length ps
+  pub size : length merged ≡ length start + length ps
+  pub front : take i (read_from apart merged) ≡ take i start
+  pub tail : IsTail (map deletion_of start) ps i j (drop (i + j) merged)
+  pub sum : bytes ≡ bytes_of (take i (map deletion_of start)) + bytes_of (take j ps)
+
+-- at first all room is free
+pub merging_first : (apart : Option (Bor (List RelaxDelta))) (ps : List (ℕ × ℕ)) (count : ℕ) (merged : List RelaxDelta) (j bytes : ℕ) → count ≤ length (read_from apart merged) → count + length ps ≡ length merged → j ≡ length ps
+    → bytes ≡ bytes_of (map deletion_of (take count (read_from apart merged))) + bytes_of ps → IsMerging apart (take count (read_from apart merged)) ps count j merged bytes
+merging_first apart ps count merged j bytes within room left sum =
+    let start = take count (read_from apart merged) in
+    let long : length start ≡ count = omega (arith, length-take count (read_from apart merged)) in
+    let listed : length (map deletion_of start) ≡ count = omega (arith, long, length-map start deletion_of) in
+    record {
+      old_within = omega (arith, long);
+      left_within = omega (arith, left);
+      size = omega (arith, long, room);
+      front = sym (take-take count count (read_from apart merged) (omega arith));
+      tail = rw (drop_all (count + j) merged (omega (arith, room, left)), left) (rw listed at (IsTail-nil (map deletion_of start) ps));
+      sum = rw (left, take_all count (map deletion_of start) (omega (arith, listed)), take_all (length ps) ps (omega arith)) sum;
+    }
+
+-- what is written behind the first i deltas changes none of them
+front_kept : (apart : Option (Bor (List RelaxDelta))) (i at : ℕ) (merged : List RelaxDelta) (delta : RelaxDelta) → i ≤ at → take i (read_from apart (set merged at delta)) ≡ take i (read_from apart merged)
+front_kept (Some deltas) i at merged delta low = refl
+front_kept None i at merged delta low = take-set-le i merged at delta low
+
+-- the last of the first i deltas
+pub merging_end : (apart : Option (Bor (List RelaxDelta))) (start : List RelaxDelta) (ps : List (ℕ × ℕ)) (i j bytes : ℕ) (merged : List RelaxDelta) (d : RelaxDelta) → IsMerging apart start ps i j merged bytes → 0 < i → get_or (map deletion_of start) (i - 1) (0, 0) ≡ deletion_of (get_or (read_from apart merged) (i - 1) d)
+merging_end apart start ps i j bytes merged d merging some =
+    let low : i - 1 < i = omega arith in
+    let inside : i - 1 < length start = omega (arith, merging.old_within) in
+    deletion_at start (i - 1) d (0, 0) inside ∙ ap deletion_of (sym (get_or-take i start (i - 1) d low) ∙ ap (λ front. get_or front (i - 1) d) (sym merging.front) ∙ get_or-take i (read_from apart merged) (i - 1) d low)
+
+-- an old deletion is written
+pub merging_old : (apart : Option (Bor (List RelaxDelta))) (start : List RelaxDelta) (ps : List (ℕ × ℕ)) (old left at : ℕ) (merged : List RelaxDelta) (delta : RelaxDelta) (bytes : ℕ) → IsValid (map deletion_of start) → IsValid ps → 0 < old → at ≡ old + left - 1 → IsMerging apart start ps old left merged bytes
+    → deletion_of delta ≡ get_or (map deletion_of start) (old - 1) (0, 0) → (0 < left → (get_or ps (left - 1) (0, 0)).0 ≤ (get_or (map deletion_of start) (old - 1) (0, 0)).0) → delta.cumulative_deleted ≡ bytes → IsMerging apart start ps (old - 1) left (set merged at delta) (bytes - delta.bytes_deleted)
+merging_old apart start ps old left at merged delta bytes valid rises some place merging is above sum =
+    let ds = map deletion_of start in
+    let long : length ds ≡ length start = length-map start deletion_of in
+    let one : old ≡ old - 1 + 1 = omega arith in
+    let inside : old - 1 < length ds = omega (arith, long, merging.old_within) in
+    let free : at < length merged = omega (arith, merging.size, merging.old_within, merging.left_within) in
+    let here : old - 1 + left ≡ at = omega arith in
+    let next : at + 1 ≡ old + left = omega arith in
+    let low : old - 1 ≤ at = omega arith in
+    let tail : IsTail ds ps (old - 1 + 1) left (drop (old + left) merged) = rw (← one) merging.tail in
+    let written : IsTail ds ps (old - 1) left (delta ∷ drop (old + left) merged) = IsTail-old ds ps (old - 1) left (drop (old + left) merged) delta valid rises inside merging.left_within tail is above (rw (← one) (sum ∙ merging.sum)) in
+    record {
+      old_within = omega (arith, merging.old_within);
+      left_within = merging.left_within;
+      size = omega (arith, merging.size, length-set merged at delta);
+      front = front_kept apart (old - 1) at merged delta low ∙ sym (take-take (old - 1) old (read_from apart merged) (omega arith)) ∙ ap (take (old - 1)) merging.front ∙ take-take (old - 1) old start (omega arith);
+      tail = rw (here, drop-set merged at delta free, next) written;
+      sum = omega (arith, merging.sum, rw (← one) at (sum_by_more (λ (e : ℕ × ℕ). e.1) ds (old - 1) (0, 0) inside), ap (λ (e : ℕ × ℕ). e.1) is);
+    }
+
+-- an additional deletion is written
+pub merging_left : (apart : Option (Bor (List RelaxDelta))) (start : List RelaxDelta) (ps : List (ℕ × ℕ)) (old left at : ℕ) (merged : List RelaxDelta) (delta : RelaxDelta) (bytes : ℕ) → IsValid (map deletion_of start) → IsValid ps → 0 < left → at ≡ old + left - 1 → IsMerging apart start ps old left merged bytes
+    → deletion_of delta ≡ get_or ps (left - 1) (0, 0) → (0 < old → (get_or (map deletion_of start) (old - 1) (0, 0)).0 ≤ (get_or ps (left - 1) (0, 0)).0) → delta.cumulative_deleted ≡ bytes → IsMerging apart start ps old (left - 1) (set merged at delta) (bytes - delta.bytes_deleted)
+merging_left apart start ps old left at merged delta bytes valid rises more place merging is above sum =
+    let ds = map deletion_of start in
+    let long : length ds ≡ length start = length-map start deletion_of in
+    let other : left ≡ left - 1 + 1 = omega arith in
+    let inside : left - 1 < length ps = omega (arith, merging.left_within) in
+    let free : at < length merged = omega (arith, merging.size, merging.old_within, merging.left_within) in
+    let here : old + (left - 1) ≡ at = omega arith in
+    let next : at + 1 ≡ old + left = omega arith in
+    let low : old ≤ at = omega arith in
+    let tail : IsTail ds ps old (left - 1 + 1) (drop (old + left) merged) = rw (← other) merging.tail in
+    let written : IsTail ds ps old (left - 1) (delta ∷ drop (old + left) merged) = IsTail-left ds ps old (left - 1) (drop (old + left) merged) delta valid rises (omega (arith, long, merging.old_within)) inside tail is above (rw (← other) (sum ∙ merging.sum)) in
+    record {
+      old_within = merging.old_within;
+      left_within = omega (arith, merging.left_within);
+      size = omega (arith, merging.size, length-set merged at delta);
+      front = front_kept apart old at merged delta low ∙ merging.front;
+      tail = rw (here, drop-set merged at delta free, next) written;
+      sum = omega (arith, merging.sum, rw (← other) at (sum_by_more (λ (e : ℕ × ℕ). e.1) ps (left - 1) (0, 0) inside), ap (λ (e : ℕ × ℕ). e.1) is);
+    }
+
+-- the bytes of the next deletion are among those left
+pub spends_old : (apart : Option (Bor (List RelaxDelta))) (start : List RelaxDelta) (ps : List (ℕ × ℕ)) (old left : ℕ) (merged : List RelaxDelta) (bytes : ℕ) → 0 < old → IsMerging apart start ps old left merged bytes → (get_or (map deletion_of start) (old - 1) (0, 0)).1 ≤ bytes
+spends_old apart start ps old left merged bytes some merging =
+    let one : old - 1 + 1 ≡ old = omega arith in
+    omega (arith, merging.sum, rw one at (sum_by_more (λ (e : ℕ × ℕ). e.1) (map deletion_of start) (old - 1) (0, 0) (omega (arith, merging.old_within, length-map start deletion_of))))
+
+pub spends_left : (apart : Option (Bor (List RelaxDelta))) (start : List RelaxDelta) (ps : List (ℕ × ℕ)) (old left : ℕ) (merged : List RelaxDelta) (bytes : ℕ) → 0 < left → IsMerging apart start ps old left merged bytes → (get_or ps (left - 1) (0, 0)).1 ≤ bytes
+spends_left apart start ps old left merged bytes some merging =
+    let one : left - 1 + 1 ≡ left = omega arith in
+    omega (arith, merging.sum, rw one at (sum_by_more (λ (e : ℕ × ℕ). e.1) ps (left - 1) (0, 0) (omega (arith, merging.left_within))))
+
+-- the first i deltas, where they stood, and those behind them list all
+pub merging_last : (start : List RelaxDelta) (ps : List (ℕ × ℕ)) (i bytes : ℕ) (deltas : List RelaxDelta) → AreValidDeltas start → AreDisjoint (map deletion_of start ++ ps) → IsMerging None start ps i 0 deltas bytes → IsSortedUnion (map deletion_of start ++ ps) (map deletion_of deltas) × AreValidDeltas deltas
+merging_last start ps i bytes deltas listed disjoint merging = (union, record { valid = union.valid; listing = record { same = refl; sums = λ k d within. omega (arith, sums.each k d within) } })
+  where
+    ds : List (ℕ × ℕ)
+    ds = map deletion_of start
+
+    tail : List RelaxDelta
+    tail = drop i deltas
+
+    here : i + 0 ≡ i
+    here = omega arith
+
+    merged : IsTail ds ps i 0 tail
+    merged = rw here at merging.tail
+
+    whole : deltas ≡ take i start ++ tail
+    whole = sym (take-append-drop i deltas) ∙ ap (λ front. front ++ drop i deltas) merging.front
+
+    joined : map deletion_of deltas ≡ take i ds ++ map deletion_of tail
+    joined = ap (map deletion_of) whole ∙ map-append deletion_of (take i start) tail ∙ ap (λ front. front ++ map deletion_of tail) (sym (take-map deletion_of i start))
+
+    same : IsPermutation (ds ++ ps) (take i ds ++ map deletion_of tail)
+    same =
+        let moved = IsPermutation-append_right (take i ds) (drop i ds ++ ps) (map deletion_of tail) merged.same in
+        rw (← (append_assoc (take i ds) (drop i ds) ps), take-append-drop i ds) at moved
+
+    long : length (take i ds) ≤ i
+    long = omega (arith, length-take i ds)
+
+    rise : IsNonDecreasingBy (λ d. d.0) (take i ds ++ map deletion_of tail)
+    rise = rise-append (take i ds) (map deletion_of tail) (IsNonDecreasingBy-take (λ d. d.0) i ds (valid_rises ds listed.valid)) merged.rise (λ k low.
+        let lower : k < i = omega (arith, long) in
+        rw (get_or-take i ds k (0, 0) lower) (merged.above_old k lower))
+
+    union : IsSortedUnion (ds ++ ps) (map deletion_of deltas)
+    union = rw joined (union_from_sort (ds ++ ps) (take i ds ++ map deletion_of tail) same disjoint rise)
+
+    front : HaveSums 0 (take i start)
+    front = record {
+      each = λ k d within.
+          let lower : k < i = omega (arith, length-take i start) in
+          let inside : k < length start = omega (arith, length-take i start) in
+          let taken : take (k + 1) (map deletion_of (take i start)) ≡ take (k + 1) ds = ap (take (k + 1)) (sym (take-map deletion_of i start)) ∙ take-take (k + 1) i ds (omega arith) in
+          rw (get_or-take i start k d lower, taken) (omega (arith, listed.listing.sums k d inside));
+    }
+
+    sums : HaveSums 0 deltas
+    sums = rw whole (HaveSums-append 0 (take i start) tail front (
+        let before : 0 + bytes_of (map deletion_of (take i start)) ≡ bytes_of (take i ds) + bytes_of (take 0 ps) = omega (arith, ap bytes_of (take-map deletion_of i start)) in
+        rw before merged.sums))
+
+-- and so do those that are written alone
+pub merging_written : (apart : Option (Bor (List RelaxDelta))) (start : List RelaxDelta) (ps : List (ℕ × ℕ)) (merged : List RelaxDelta) (bytes : ℕ) → AreDisjoint (map deletion_of start ++ ps) → IsMerging apart start ps 0 0 merged bytes → IsSortedUnion (map deletion_of start ++ ps) (map deletion_of merged) × AreValidDeltas merged
+merging_written apart start ps merged bytes disjoint merging =
+    let union : IsSortedUnion (map deletion_of start ++ ps) (map deletion_of merged) = union_from_sort (map deletion_of start ++ ps) (map deletion_of merged) merging.tail.same disjoint merging.tail.rise in
+    (union, record { valid = union.valid; listing = record { same = refl; sums = λ k d within. omega (arith, merging.tail.sums.each k d within) } })
