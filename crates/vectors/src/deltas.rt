@@ -449,25 +449,10 @@ fn cursors_pass_each_deletion_once(rt: HostRuntime) -> Result<(), Fail> {
 
 #[test]
 fn offsets_without_deltas_are_unchanged(rt: HostRuntime) -> Result<(), Fail> {
-    expect_eq(
-        &rt,
-        "opt_input_to_output(None, 9)",
-        opt_input_to_output(None, 9),
-        9,
-    );
+    assert_eq!(rt; opt_input_to_output(None, 9), 9);
     let deltas = deltas_of(&rt, rt.alloc(), &[(4, 4)])?;
-    expect_eq(
-        &rt,
-        "opt_input_to_output(Some(&deltas), 9)",
-        opt_input_to_output(Some(&deltas), 9),
-        5,
-    );
-    expect_eq(
-        &rt,
-        "opt_input_to_output(Some(&deltas), 5)",
-        opt_input_to_output(Some(&deltas), 5),
-        4,
-    );
+    assert_eq!(rt; opt_input_to_output(Some(&deltas), 9), 5);
+    assert_eq!(rt; opt_input_to_output(Some(&deltas), 5), 4);
     Ok(())
 }
 
