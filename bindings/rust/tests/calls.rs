@@ -240,11 +240,16 @@ fn rejects_forms_and_values() {
     let (at, unknown) = (bytes.as_ptr(), Status::UnknownArchitecture.number());
     // SAFETY: the slice is `bytes`, and the references are of one value.
     unsafe {
-        for (machine, forms) in [(183, 11), (243, 9), (258, 6), (21, 5)] {
-            let status = raw::linker_utils_window(machine, forms, &mut len);
+        for (architecture, forms) in [
+            (Architecture::AArch64, 11),
+            (Architecture::RiscV, 9),
+            (Architecture::LoongArch64, 6),
+            (Architecture::Ppc64, 5),
+        ] {
+            let status = raw::linker_utils_window(architecture.machine(), forms, &mut len);
             assert_eq!((status, len), (Status::UnknownForm.number(), 9));
         }
-        for machine in [62, 0, 1, u16::MAX] {
+        for machine in [Architecture::X86_64.machine(), 0, 1, u16::MAX] {
             let status = raw::linker_utils_window(machine, 0, &mut len);
             assert_eq!((status, len), (unknown, 9));
             assert_eq!(
@@ -370,7 +375,14 @@ fn rejects_rewrites() {
     assert_eq!(rewritten, cannot);
     let (mut modifier, at) = (9, section.as_mut_ptr());
     // past the last rewrite of each architecture, and a machine that is none
-    let unknown = [(183, 13), (243, 6), (258, 2), (21, 1), (62, 18), (0, 0)];
+    let unknown = [
+        (Architecture::AArch64.machine(), 13),
+        (Architecture::RiscV.machine(), 6),
+        (Architecture::LoongArch64.machine(), 2),
+        (Architecture::Ppc64.machine(), 1),
+        (Architecture::X86_64.machine(), 18),
+        (0, 0),
+    ];
     for (machine, rewrite) in unknown {
         let status = match machine {
             0 => Status::UnknownArchitecture.number(),
@@ -623,7 +635,10 @@ fn rejects_relocations() {
     unsafe {
         let status = raw::linker_utils_relocation(0, 0, &mut info);
         assert_eq!(status, Status::UnknownArchitecture.number());
-        for (machine, status) in [(62, Status::TooShort), (0, Status::UnknownArchitecture)] {
+        for (machine, status) in [
+            (Architecture::X86_64.machine(), Status::TooShort),
+            (0, Status::UnknownArchitecture),
+        ] {
             let at = name.as_mut_ptr();
             // `R_X86_64_32S` has 12 letters
             let returned =

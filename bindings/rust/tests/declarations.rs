@@ -650,6 +650,32 @@ fn the_statuses_say_the_same() {
         };
         assert_eq!(printed[&number.to_string()], text);
     }
+    let of_library = documented(
+        &repository("crates/linker_utils_c/src/status.rt"),
+        "Status",
+    );
+    assert_eq!(of_library["success"], printed["0"]);
+    for status in Status::ALL {
+        assert_eq!(of_library[&letters(&format!("{status:?}"))], status.to_string());
+    }
+}
+
+/// The documentation of each variant of an enum of the proved library's.
+fn documented(source: &str, name: &str) -> BTreeMap<String, String> {
+    let body = source.split(&format!("pub enum {name} {{")).nth(1);
+    let body = body.expect("the enum").split("\n}").next().expect("its end");
+    let (mut found, mut sentence) = (BTreeMap::new(), Vec::new());
+    for line in body.lines().map(str::trim).filter(|line| !line.is_empty()) {
+        match line.strip_prefix("/// ") {
+            Some(words) => sentence.push(words),
+            None => {
+                let variant = line.split([',', ' ']).next().expect("a name");
+                found.insert(letters(variant), sentence.join(" "));
+                sentence.clear();
+            }
+        }
+    }
+    found
 }
 
 /// Each struct's name, its size, and its fields with their offsets and sizes.

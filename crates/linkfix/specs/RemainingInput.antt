@@ -4,11 +4,12 @@ use Rattle.std.specs.Prelude.{IfSome, slice_range, if◌then◌else◌}
 use Rattle.std.specs.Io.BufRead.{drop_through, first_line}
 use Rattle.std.specs.Io.KnownBytes.{prepend_known}
 use Rattle.linkfix.specs.declared.input.Lines.{Lines}
+use Rattle.linkfix.specs.declared.input.TheConstants.{BUFFER_LEN}
 
 -- an upper bound on the bytes that are in no line yet: those in the buffer, and a full buffer for
 -- each read that is left
 abbrev pub max_remaining : {R : Type 0} → Lines R → ℕ
-max_remaining lines = lines.reads_left * 4096 + (lines.end - lines.start)
+max_remaining lines = lines.reads_left * BUFFER_LEN + (lines.end - lines.start)
 
 -- the bytes that are in no line yet: those in the buffer, and then those left in the reader, which
 -- are none once a read gave none; None where it is not known what the reader has left

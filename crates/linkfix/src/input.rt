@@ -4,15 +4,16 @@ ghost use Rattle.std.specs.Prelude.{◌≡◌, ◌<◌, ◌≤◌, ◌+◌, ◌*
 ghost use Rattle.std.specs.Prelude.{length, slice_index, take, IfSome, IfNone, IfOk, IsTrue};
 ghost use Rattle.std.specs.Io.BufRead.{drop_through, first_line, strip_last};
 ghost use Rattle.linkfix.specs.declared.input.InputError.{InputError};
+ghost use Rattle.linkfix.specs.declared.input.TheConstants.{BUFFER_LEN, MAX_READS};
 
 use std::alloc::AllocError;
 use std::io::{ErrorKind, Read};
 
 /// The limit on the number of reads of one input.
-const MAX_READS: u32 = 1_048_576;
+pub const MAX_READS: u32 = 1_048_576;
 
 /// The size of the buffer that each read fills, in bytes.
-const BUFFER_LEN: usize = 4096;
+pub const BUFFER_LEN: usize = 4096;
 
 /// An error of `Lines::next_line`.
 #[derive(Debug, Clone, Copy, PartialEq, Eq)]
@@ -42,7 +43,7 @@ pub struct Lines<R> {
     start: usize,
     end: usize,
     ghost ordered: { start ≤ end },
-    ghost in_buffer: { end ≤ 4096 },
+    ghost in_buffer: { end ≤ BUFFER_LEN },
 }
 
 impl<R: Read> Lines<R> {
@@ -50,7 +51,7 @@ impl<R: Read> Lines<R> {
 
     /// The lines of `input`. Nothing is read yet.
     pub fn new(input: R) -> Lines<R>
-        ensures bound { max_remaining result ≡ 1048576 * 4096 }
+        ensures bound { max_remaining result ≡ MAX_READS * BUFFER_LEN }
         ensures known { remaining_bytes (R.remaining result.input) result ≡ R.remaining input }
     {
         Lines {

@@ -149,7 +149,7 @@ impl From<io::Error> for RunError {
 /// Reads a section and then commands from `input`, executes the commands in order, and prints one
 /// line for each to `output`. Returns the exit status: 0 if every command was executed. The first
 /// error is printed as the last line, and the status is 1. If a read or a write fails, or the input
-/// has not ended after 1,048,576 reads, nothing more is printed, and the status is 1.
+/// has not ended after `MAX_READS` reads, nothing more is printed, and the status is 1.
 pub fn run<R: Read + Drop, W: Write + Drop>(alloc: Global, input: R, mut output: W) -> u8
     ensures status { result ≤ 1 }
     ensures executed { result ≡ 0 → IfSome (R.remaining input) (λ bytes.

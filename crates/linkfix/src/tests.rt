@@ -1,5 +1,6 @@
 //! Runs over readers and writers in memory. The expected words are worked by hand from the encoding
 //! of `jal` in the RISC-V unprivileged ISA.
+use crate::input::{BUFFER_LEN, MAX_READS};
 use crate::program::run;
 use std::alloc::Global;
 use std::io;
@@ -548,7 +549,7 @@ fn numbers_are_decimal_and_below_two_to_the_63(rt: HostRuntime) {
 
 #[test]
 fn input_may_come_in_pieces(rt: HostRuntime) {
-    for piece in [1, 2, 3, 5, 4096] {
+    for piece in [1, 2, 3, 5, BUFFER_LEN] {
         let mut pieces = Pieces {
             bytes: b"97000000e780000013000000\r\ncall 0 8\r\n\r\nshow",
             piece,
@@ -562,7 +563,7 @@ fn input_may_come_in_pieces(rt: HostRuntime) {
             "{piece} a time"
         );
         assert_eq!(rt; status, 0);
-        assert!(rt; pieces.smallest_buffer >= 4096);
+        assert!(rt; pieces.smallest_buffer >= BUFFER_LEN);
     }
 }
 
@@ -632,8 +633,8 @@ fn a_failed_read_ends_the_run(rt: HostRuntime) {
 }
 
 #[test]
-fn an_input_is_read_1048576_times_at_most(rt: HostRuntime) {
-    for (lines, status) in [(1_048_575, 0), (u32::MAX, 1)] {
+fn the_reads_of_an_input_are_limited(rt: HostRuntime) {
+    for (lines, status) in [(MAX_READS - 1, 0), (u32::MAX, 1)] {
         let mut blank = BlankLines { lines, reads: 0 };
         let mut page = Page::new(9);
         assert_eq!(rt;
@@ -641,7 +642,7 @@ fn an_input_is_read_1048576_times_at_most(rt: HostRuntime) {
             status,
             "{lines} lines"
         );
-        assert_eq!(rt; blank.reads, 1_048_576, "{lines} lines");
+        assert_eq!(rt; blank.reads, MAX_READS, "{lines} lines");
         assert_eq!(rt; page.written(), "", "{lines} lines");
     }
 }

@@ -79,8 +79,18 @@ fn a_jump_links_the_register_that_gnu_ld_takes(rt: HostRuntime) {
     }
     let mut section = TAIL;
     let auipc = LinkRegister::OfAuipc;
-    assert_eq!(rt; jal_site_with(&mut section, 0, 8194, auipc), Ok(()));
-    assert_eq!(rt; u32_from_slice(&section), 0x0020_236f);
+    expect_eq(
+        &rt,
+        "jal_site_with(&mut section, 0, 8194, auipc)",
+        jal_site_with(&mut section, 0, 8194, auipc),
+        Ok(()),
+    );
+    expect_eq(
+        &rt,
+        "u32_from_slice(&section)",
+        u32_from_slice(&section),
+        0x0020_236f,
+    );
 }
 
 #[test]
@@ -96,7 +106,7 @@ fn only_a_call_has_a_jalr(rt: HostRuntime) {
         let mut section = row;
         let result = jal_site_with(&mut section, 0, 1_048_577, LinkRegister::OfJalr);
         expect_eq(&rt, row, result, Err(JumpError::NotACall));
-        assert_eq!(rt; section, row);
+        expect_eq(&rt, row, section, row);
     }
     let rows = [
         (1, 8, CallError::OutOfSection),
@@ -108,7 +118,7 @@ fn only_a_call_has_a_jalr(rt: HostRuntime) {
         let mut section = TAIL;
         let result = jal_site_with(&mut section, site, distance, LinkRegister::OfJalr);
         expect_eq(&rt, (site, distance), result, Err(JumpError::Call(error)));
-        assert_eq!(rt; section, TAIL);
+        expect_eq(&rt, (site, distance), section, TAIL);
     }
 }
 
@@ -120,77 +130,78 @@ struct Row {
     result: Result<u32, CallError>,
 }
 
+static ROWS: [Row; 11] = [
+    Row {
+        raw: &[],
+        site: 0,
+        target: 8,
+        result: Ok(0x0080_00ef),
+    },
+    Row {
+        raw: &[(4, 4)],
+        site: 0,
+        target: 8,
+        result: Ok(0x0040_00ef),
+    },
+    Row {
+        raw: &[(4, 4)],
+        site: 0,
+        target: 12,
+        result: Ok(0x0080_00ef),
+    },
+    Row {
+        raw: &[(0, 4)],
+        site: 0,
+        target: 8,
+        result: Err(CallError::SiteDeleted),
+    },
+    Row {
+        raw: &[(4, 4)],
+        site: 3,
+        target: 8,
+        result: Err(CallError::SiteDeleted),
+    },
+    Row {
+        raw: &[(2, 0)],
+        site: 0,
+        target: 8,
+        result: Ok(0x0080_00ef),
+    },
+    Row {
+        raw: &[(4, 4)],
+        site: 0,
+        target: 6,
+        result: Ok(0x0040_00ef),
+    },
+    Row {
+        raw: &[(4, 1)],
+        site: 0,
+        target: 8,
+        result: Err(CallError::OddDistance),
+    },
+    Row {
+        raw: &[(10, 4)],
+        site: 0,
+        target: 12,
+        result: Ok(0x00a0_00ef),
+    },
+    Row {
+        raw: &[],
+        site: 0,
+        target: 13,
+        result: Err(CallError::OutOfSection),
+    },
+    Row {
+        raw: &[],
+        site: u64::MAX,
+        target: 0,
+        result: Err(CallError::OutOfSection),
+    },
+];
+
 #[test]
 fn calls_jump_to_their_translated_target(rt: HostRuntime) -> Result<(), Fail> {
-    let rows = [
-        Row {
-            raw: &[],
-            site: 0,
-            target: 8,
-            result: Ok(0x0080_00ef),
-        },
-        Row {
-            raw: &[(4, 4)],
-            site: 0,
-            target: 8,
-            result: Ok(0x0040_00ef),
-        },
-        Row {
-            raw: &[(4, 4)],
-            site: 0,
-            target: 12,
-            result: Ok(0x0080_00ef),
-        },
-        Row {
-            raw: &[(0, 4)],
-            site: 0,
-            target: 8,
-            result: Err(CallError::SiteDeleted),
-        },
-        Row {
-            raw: &[(4, 4)],
-            site: 3,
-            target: 8,
-            result: Err(CallError::SiteDeleted),
-        },
-        Row {
-            raw: &[(2, 0)],
-            site: 0,
-            target: 8,
-            result: Ok(0x0080_00ef),
-        },
-        Row {
-            raw: &[(4, 4)],
-            site: 0,
-            target: 6,
-            result: Ok(0x0040_00ef),
-        },
-        Row {
-            raw: &[(4, 1)],
-            site: 0,
-            target: 8,
-            result: Err(CallError::OddDistance),
-        },
-        Row {
-            raw: &[(10, 4)],
-            site: 0,
-            target: 12,
-            result: Ok(0x00a0_00ef),
-        },
-        Row {
-            raw: &[],
-            site: 0,
-            target: 13,
-            result: Err(CallError::OutOfSection),
-        },
-        Row {
-            raw: &[],
-            site: u64::MAX,
-            target: 0,
-            result: Err(CallError::OutOfSection),
-        },
-    ];
-    for row in rows {
+    for row in &ROWS {
         assert!(rt; SectionRelaxDeltas::is_valid(row.raw));
         let deltas = SectionRelaxDeltas::new(rt.alloc(), row.raw)?;
         let mut section = CALL;
@@ -202,8 +213,8 @@ fn calls_jump_to_their_translated_target(rt: HostRuntime) -> Result<(), Fail> {
             row.result,
         );
         match row.result {
-            Ok(_) => assert_eq!(rt; section[4..], CALL[4..]),
-            Err(_) => assert_eq!(rt; section, CALL),
+            Ok(_) => expect_eq(&rt, (row.site, row.target), &section[4..], &CALL[4..]),
+            Err(_) => expect_eq(&rt, (row.site, row.target), section, CALL),
         }
     }
     Ok(())

@@ -235,21 +235,29 @@ fn address_sequences_match_linkers(rt: HostRuntime) {
         );
         expect_eq(&rt, (target, pc), e, 0x0010_9484);
     }
-    assert_eq!(rt;
+    expect_eq(
+        &rt,
+        "highest_relocation_with_bias(0x800, 8)",
         highest_relocation_with_bias(0x800, 8),
-        0xffff_ffff_8000_1000
+        0xffff_ffff_8000_1000,
     );
-    assert_eq!(rt;
+    expect_eq(
+        &rt,
+        "addressed([0; 20], 0, 0x800)",
         addressed([0; 20], 0, 0x800),
-        [0x20, 0x0020_0000, 0x01ff_ffe0, 0x003f_fc00, 0]
+        [0x20, 0x0020_0000, 0x01ff_ffe0, 0x003f_fc00, 0],
     );
-    assert_eq!(rt;
+    expect_eq(
+        &rt,
+        "highest_relocation_with_bias(0xffff_ffff_8000_0000, 0x1008)",
         highest_relocation_with_bias(0xffff_ffff_8000_0000, 0x1008),
-        0xffff_ffff_ffff_f000
+        0xffff_ffff_ffff_f000,
     );
-    assert_eq!(rt;
+    expect_eq(
+        &rt,
+        "addressed([0; 20], 0x1000, 0xffff_ffff_8000_0000)",
         addressed([0; 20], 0x1000, 0xffff_ffff_8000_0000),
-        [0x00ff_ffe0, 0, 0x01ff_ffe0, 0x003f_fc00, 0]
+        [0x00ff_ffe0, 0, 0x01ff_ffe0, 0x003f_fc00, 0],
     );
 }
 
@@ -257,54 +265,82 @@ fn address_sequences_match_linkers(rt: HostRuntime) {
 fn calls_wrap_at_the_ends_of_their_range(rt: HostRuntime) {
     let form = LoongArch64Instruction::Call36;
     let last: u64 = (1 << 37) - (1 << 17) - 4;
-    assert_eq!(rt;
+    expect_eq(
+        &rt,
+        "written(&rt, form, 0, last.extract_bit_range(2..38))",
         written(&rt, form, 0, last.extract_bit_range(2..38)),
-        0x01ff_fc00_00ff_ffe0
+        0x01ff_fc00_00ff_ffe0,
     );
-    assert_eq!(rt; read(&rt, form, 0x01ff_fc00_00ff_ffe0), (last / 4, false));
+    expect_eq(
+        &rt,
+        "read(&rt, form, 0x01ff_fc00_00ff_ffe0)",
+        read(&rt, form, 0x01ff_fc00_00ff_ffe0),
+        (last / 4, false),
+    );
     let past: u64 = (1 << 37) - (1 << 17);
-    assert_eq!(rt;
+    expect_eq(
+        &rt,
+        "written(&rt, form, 0, past.extract_bit_range(2..38))",
         written(&rt, form, 0, past.extract_bit_range(2..38)),
-        0x0200_0000_0100_0000
+        0x0200_0000_0100_0000,
     );
     let back = (-4i64).cast_unsigned().extract_bit_range(2..38);
-    assert_eq!(rt; written(&rt, form, 0, back), 0x03ff_fc00_0000_0000);
-    assert_eq!(rt;
+    expect_eq(
+        &rt,
+        "written(&rt, form, 0, back)",
+        written(&rt, form, 0, back),
+        0x03ff_fc00_0000_0000,
+    );
+    expect_eq(
+        &rt,
+        "read(&rt, form, 0x03ff_fc00_0000_0000)",
         read(&rt, form, 0x03ff_fc00_0000_0000),
-        ((1 << 36) - 1, false)
+        ((1 << 36) - 1, false),
     );
-    assert_eq!(rt;
+    expect_eq(
+        &rt,
+        "written(&rt, LoongArch64Instruction::Call30, 0, 0xf_ffff)",
         written(&rt, LoongArch64Instruction::Call30, 0, 0xf_ffff),
-        0x0007_fc00_01ff_c000
+        0x0007_fc00_01ff_c000,
     );
-    assert_eq!(rt;
+    expect_eq(
+        &rt,
+        "read(&rt, LoongArch64Instruction::Call30, 0x0007_fc00_01ff_c000)",
         read(&rt, LoongArch64Instruction::Call30, 0x0007_fc00_01ff_c000),
-        (0xf_ffff, false)
+        (0xf_ffff, false),
     );
 }
 
 #[test]
 fn fields_of_ones_are_written_and_read(rt: HostRuntime) {
-    assert_eq!(rt;
+    expect_eq(
+        &rt,
+        "written(&rt, LoongArch64Instruction::Branch21, 0x4000_0000, 0x1f_ffff )",
         written(
             &rt,
             LoongArch64Instruction::Branch21,
             0x4000_0000,
-            0x1f_ffff
+            0x1f_ffff,
         ),
-        0x43ff_fc1f
+        0x43ff_fc1f,
     );
-    assert_eq!(rt;
+    expect_eq(
+        &rt,
+        "read(&rt, LoongArch64Instruction::Branch21, 0x43ff_fc1f)",
         read(&rt, LoongArch64Instruction::Branch21, 0x43ff_fc1f),
-        (u64::MAX, true)
+        (u64::MAX, true),
     );
-    assert_eq!(rt;
+    expect_eq(
+        &rt,
+        "written(&rt, LoongArch64Instruction::Shift10, 0x02c0_0000, 0x800)",
         written(&rt, LoongArch64Instruction::Shift10, 0x02c0_0000, 0x800),
-        0x02e0_0000
+        0x02e0_0000,
     );
-    assert_eq!(rt;
+    expect_eq(
+        &rt,
+        "read(&rt, LoongArch64Instruction::Shift10, 0x02e0_0000)",
         read(&rt, LoongArch64Instruction::Shift10, 0x02e0_0000),
-        (0x800, false)
+        (0x800, false),
     );
 }
 
@@ -315,8 +351,13 @@ fn nops_are_written_and_other_names_have_no_meaning(rt: HostRuntime) {
     let mut addend = 7;
     assert!(rt; RelaxationKind::ReplaceWithNop.can_apply(&section, 1));
     RelaxationKind::ReplaceWithNop.apply(&mut section, &mut offset, &mut addend);
-    assert_eq!(rt; section, [0xff, 0x00, 0x00, 0x40, 0x03, 0xff]);
-    assert_eq!(rt; (offset, addend), (1, 7));
+    expect_eq(
+        &rt,
+        "section",
+        section,
+        [0xff, 0x00, 0x00, 0x40, 0x03, 0xff],
+    );
+    expect_eq(&rt, "(offset, addend)", (offset, addend), (1, 7));
     assert!(rt; relocation_type_from_raw(LoongArch64Relocation::Other(7)).is_none());
     assert!(rt;
         relocation_type_from_raw(LoongArch64Relocation::R_LARCH_TLS_LD_PCREL20_S2).is_none()

@@ -86,6 +86,7 @@ pub fn write_back<F: InstructionForm>(form: F, section: &mut [u8], offset: usize
 #[cfg(test)]
 mod tests {
     use super::{poke, write_back};
+    use crate::rows::expect_eq;
     use linker_utils::elf::{AArch64Instruction, LoongArch64Instruction, RiscVInstruction};
 
     /// A word of 0, and `jal x0, 0`.
@@ -95,7 +96,12 @@ mod tests {
     fn values_are_written_at_an_offset(rt: HostRuntime) {
         let mut section = JUMP;
         assert!(rt; poke(RiscVInstruction::JType, 8, false, &mut section, 4));
-        assert_eq!(rt; section, [0x00, 0x00, 0x00, 0x00, 0x6f, 0x00, 0x80, 0x00]);
+        expect_eq(
+            &rt,
+            "section",
+            section,
+            [0x00, 0x00, 0x00, 0x00, 0x6f, 0x00, 0x80, 0x00],
+        );
     }
 
     #[test]
@@ -103,7 +109,7 @@ mod tests {
         for offset in [5, 8, 9, usize::MAX] {
             let mut section = JUMP;
             assert!(rt; !poke(RiscVInstruction::JType, 8, false, &mut section, offset));
-            assert_eq!(rt; section, JUMP, "{offset}");
+            expect_eq(&rt, offset, section, JUMP);
         }
     }
 
@@ -111,7 +117,7 @@ mod tests {
     fn values_that_do_not_fit_are_rejected(rt: HostRuntime) {
         let mut section = [0; 4];
         assert!(rt; !poke(AArch64Instruction::Adr, 1 << 21, false, &mut section, 0));
-        assert_eq!(rt; section, [0; 4]);
+        expect_eq(&rt, "section", section, [0; 4]);
     }
 
     /// Bits 16 to 31 of -65537, the complement of 0x10000: `movz x3, #0, lsl #16` becomes
@@ -120,7 +126,7 @@ mod tests {
     fn negative_values_set_the_opcode_of_movn(rt: HostRuntime) {
         let mut section = 0xd2a0_0003u32.to_le_bytes();
         assert!(rt; poke(AArch64Instruction::Movnz, 0xfffe, true, &mut section, 0));
-        assert_eq!(rt; section, 0x92a0_0023u32.to_le_bytes());
+        expect_eq(&rt, "section", section, 0x92a0_0023u32.to_le_bytes());
     }
 
     /// `b.eq` by -4 bytes, whose 19 bits are all 1, and a pair of `CALL30` with bit 5 set in word
@@ -130,11 +136,11 @@ mod tests {
         let branch = [0x00, 0x00, 0x00, 0x00, 0xe0, 0xff, 0xff, 0x54];
         let mut section = branch;
         assert!(rt; write_back(AArch64Instruction::Bcond, &mut section, 4));
-        assert_eq!(rt; section, branch);
+        expect_eq(&rt, "section", section, branch);
         assert!(rt; !write_back(AArch64Instruction::Bcond, &mut section, 5));
-        assert_eq!(rt; section, branch);
+        expect_eq(&rt, "section", section, branch);
         let mut call = [0x20, 0x00, 0x00, 0x00, 0x00, 0x00, 0x00, 0x00];
         assert!(rt; write_back(LoongArch64Instruction::Call30, &mut call, 0));
-        assert_eq!(rt; call, [0; 8]);
+        expect_eq(&rt, "call", call, [0; 8]);
     }
 }

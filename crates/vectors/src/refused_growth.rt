@@ -220,7 +220,12 @@ fn a_refused_choice_is_made_when_tried_again(rt: HostRuntime) -> Result<(), Fail
     assert!(rt; calls_shrinkable(&none, &calls));
     let chosen = shrink_calls(rt.alloc(), &none, &calls);
     let chosen = chosen.or_else(|_| shrink_calls(rt.alloc(), &none, &calls))?;
-    assert_eq!(rt; chosen.as_slice(), [true, false].as_slice());
+    expect_eq(
+        &rt,
+        "chosen.as_slice()",
+        chosen.as_slice(),
+        [true, false].as_slice(),
+    );
     Ok(())
 }
 
@@ -228,23 +233,30 @@ fn a_refused_choice_is_made_when_tried_again(rt: HostRuntime) -> Result<(), Fail
 fn an_error_leaves_the_text_unread(rt: HostRuntime) -> Result<(), Fail> {
     let mut endless: &[u8] = b"ab";
     let error = read_string(rt.alloc(), &mut endless).expect_err(&rt, "no NUL");
-    assert_eq!(rt;
+    expect_eq(
+        &rt,
+        "InlineText::<120>::of(error).as_str()",
         InlineText::<120>::of(error).as_str(),
-        "No null terminator found in string"
+        "No null terminator found in string",
     );
-    assert_eq!(rt; endless, b"ab".as_slice());
+    expect_eq(&rt, "endless", endless, b"ab".as_slice());
 
     let texts: [(&[u8], &str); 2] = [(b"a\0b", "a"), (b"a\xff\0b", "a\u{fffd}")];
     for (bytes, text) in texts {
         let mut content = bytes;
         let mut read = read_string(rt.alloc(), &mut content);
         if let Err(error) = read {
-            assert_eq!(rt; InlineText::<120>::of(error).as_str(), "Out of memory");
-            assert_eq!(rt; content, bytes);
+            expect_eq(
+                &rt,
+                "InlineText::<120>::of(error).as_str()",
+                InlineText::<120>::of(error).as_str(),
+                "Out of memory",
+            );
+            expect_eq(&rt, bytes, content, bytes);
             read = read_string(rt.alloc(), &mut content);
         }
-        assert_eq!(rt; read?.as_str(), text);
-        assert_eq!(rt; content, b"b".as_slice());
+        expect_eq(&rt, bytes, read?.as_str(), text);
+        expect_eq(&rt, bytes, content, b"b".as_slice());
     }
     Ok(())
 }

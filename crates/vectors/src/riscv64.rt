@@ -4,7 +4,7 @@
 mod pairs;
 mod words;
 
-use crate::rows::expect_eq;
+use crate::rows::{expect, expect_eq};
 use linker_utils::elf::{
     AllowedRange, Bias, InstructionForm, RelocationInstruction, RelocationSize, RiscVInstruction,
     Sign,
@@ -160,7 +160,7 @@ fn shortened_lui_match_gnu_ld(rt: HostRuntime) {
     ];
     for (before, value, after) in table {
         let value = value.cast_unsigned();
-        assert!(rt; RelaxationKind::hi20_fits_clui(value), "{value}");
+        expect(&rt, value, RelaxationKind::hi20_fits_clui(value));
         let mut section = before;
         let mut offset = 0;
         let mut addend = 0;
@@ -187,7 +187,7 @@ fn deleted_lui_match_gnu_ld(rt: HostRuntime) {
         ),
     ];
     for (before, value, after) in table {
-        assert!(rt; RelaxationKind::hi20_is_zero(value), "{value}");
+        expect(&rt, value, RelaxationKind::hi20_is_zero(value));
         let mut section = before;
         let mut addend = 0;
         let mut high = 0;
@@ -308,19 +308,24 @@ fn immediates_match_the_manual(rt: HostRuntime) {
     }
     let mut call = [0; 8];
     RiscVInstruction::UiType.write_to_value(0x800, false, &mut call);
-    assert_eq!(rt; call, both([0x0000_1000, 0x8000_0000]));
-    assert_eq!(rt; RiscVInstruction::UiType.read_value(&call), (0x800, false));
+    expect_eq(&rt, "call", call, both([0x0000_1000, 0x8000_0000]));
+    expect_eq(
+        &rt,
+        "RiscVInstruction::UiType.read_value(&call)",
+        RiscVInstruction::UiType.read_value(&call),
+        (0x800, false),
+    );
 }
 
 #[test]
 fn trait_calls_match_calls_of_the_form(rt: HostRuntime) {
     let insn = RelocationInstruction::RiscV(RiscVInstruction::UiType);
     let mut call = both([0x0000_0097, 0x0000_80e7]);
-    assert_eq!(rt; insn.window(), 8);
+    expect_eq(&rt, "insn.window()", insn.window(), 8);
     assert!(rt; insn.fits(u64::MAX, &call));
     insn.write(0x800, false, &mut call);
-    assert_eq!(rt; call, both([0x0000_1097, 0x8000_80e7]));
-    assert_eq!(rt; insn.read(&call), (0x800, false));
+    expect_eq(&rt, "call", call, both([0x0000_1097, 0x8000_80e7]));
+    expect_eq(&rt, "insn.read(&call)", insn.read(&call), (0x800, false));
 }
 
 #[test]
@@ -333,7 +338,7 @@ fn rewrites_of_one_instruction_match_worked_words(rt: HostRuntime) {
     ];
     for (kind, before, after) in table {
         let mut section = before.to_le_bytes();
-        assert!(rt; kind.can_apply(&section, 0), "{kind:?}");
+        expect(&rt, kind, kind.can_apply(&section, 0));
         let mut offset = 0;
         let mut addend = 5;
         kind.apply(&mut section, &mut offset, &mut addend);
@@ -343,7 +348,12 @@ fn rewrites_of_one_instruction_match_worked_words(rt: HostRuntime) {
     let mut half = 0x0000_0537u32.to_le_bytes();
     RelaxationKind::Hi20ToCLui.apply(&mut half, &mut 0, &mut 0);
     RiscVInstruction::CluiType.write_to_value((-0x1000i64).cast_unsigned(), true, &mut half);
-    assert_eq!(rt; u32::from_le_bytes(half), 0x757d);
+    expect_eq(
+        &rt,
+        "u32::from_le_bytes(half)",
+        u32::from_le_bytes(half),
+        0x757d,
+    );
 }
 
 #[test]
@@ -389,7 +399,12 @@ fn tail_calls_are_not_plain_calls(rt: HostRuntime) {
     let tail = [0x17, 0x03, 0x00, 0x00, 0x67, 0x00, 0x03, 0x00];
     assert!(rt; !is_plain_call(&tail, 0));
     let mut section = tail;
-    assert_eq!(rt; jal_site(&mut section, 0, 8194), Ok(()));
+    expect_eq(
+        &rt,
+        "jal_site(&mut section, 0, 8194)",
+        jal_site(&mut section, 0, 8194),
+        Ok(()),
+    );
     assert!(rt; section.starts_with(&[0x6f, 0x23, 0x20, 0x00]));
 }
 
@@ -399,12 +414,24 @@ fn distances_that_jal_cannot_hold_are_rejected(rt: HostRuntime) {
         expect_eq(&rt, distance, distance_fits_jal(distance), want);
     }
     let mut section = 0x0000_0097u32.to_le_bytes();
-    assert_eq!(rt; jal_site(&mut section, 0, 1048576), Err(CallError::TooFar));
-    assert_eq!(rt;
-        jal_site(&mut section, 0, 1048575),
-        Err(CallError::OddDistance)
+    expect_eq(
+        &rt,
+        "jal_site(&mut section, 0, 1048576)",
+        jal_site(&mut section, 0, 1048576),
+        Err(CallError::TooFar),
     );
-    assert_eq!(rt; jal_site(&mut section, 1, 2), Err(CallError::OutOfSection));
+    expect_eq(
+        &rt,
+        "jal_site(&mut section, 0, 1048575)",
+        jal_site(&mut section, 0, 1048575),
+        Err(CallError::OddDistance),
+    );
+    expect_eq(
+        &rt,
+        "jal_site(&mut section, 1, 2)",
+        jal_site(&mut section, 1, 2),
+        Err(CallError::OutOfSection),
+    );
 }
 
 #[test]
@@ -412,9 +439,11 @@ fn relocations_have_their_meaning(rt: HostRuntime) {
     assert!(rt; relocation_type_from_raw(RiscVRelocation::Other(7)).is_none());
     assert!(rt; relocation_type_from_raw(RiscVRelocation::R_RISCV_TLSDESC_CALL).is_none());
     let clui = RelaxationKind::clui_rel_info();
-    assert_eq!(rt;
+    expect_eq(
+        &rt,
+        "clui.size",
         clui.size,
-        RelocationSize::bit_mask_riscv(0, 32, RiscVInstruction::CluiType)
+        RelocationSize::bit_mask_riscv(0, 32, RiscVInstruction::CluiType),
     );
     for (value, want) in [
         (1048574, true),
@@ -423,7 +452,12 @@ fn relocations_have_their_meaning(rt: HostRuntime) {
         (-1048577, false),
     ] {
         let jal = relocation_type_from_raw(RiscVRelocation::R_RISCV_JAL);
-        assert_eq!(rt; jal.is_some_and(|info| info.range.contains(value)), want);
+        expect_eq(
+            &rt,
+            value,
+            jal.is_some_and(|info| info.range.contains(value)),
+            want,
+        );
     }
     assert!(rt; Bias::from_value(0).is_none());
     let signed = AllowedRange::from_bit_size(17, Sign::Signed);
@@ -433,6 +467,6 @@ fn relocations_have_their_meaning(rt: HostRuntime) {
         (65536, false),
         (-65537, false),
     ] {
-        assert_eq!(rt; signed.contains(value), want);
+        expect_eq(&rt, value, signed.contains(value), want);
     }
 }

@@ -1,6 +1,7 @@
 //! How often calls allocate. Each test allocates as often as its name says:
 //! `tools/test_refused_growth` counts.
 
+use crate::rows::expect_eq;
 use linker_utils::relaxation::{
     RelaxDeltaMap, SectionRelaxDeltas, calls_apart, calls_shrinkable, pack_section, shrink_calls,
 };
@@ -24,7 +25,7 @@ fn lists_and_their_copies_take_6(rt: HostRuntime) -> Result<(), Fail> {
     for raw in [[].as_slice(), &FEW, &many] {
         assert!(rt; SectionRelaxDeltas::is_valid(raw));
         let copy = SectionRelaxDeltas::new(rt.alloc(), raw)?.clone()?;
-        assert_eq!(rt; copy.deltas().len(), raw.len());
+        expect_eq(&rt, raw, copy.deltas().len(), raw.len());
     }
     Ok(())
 }
@@ -37,7 +38,7 @@ fn merges_take_5(rt: HostRuntime) -> Result<(), Fail> {
         let mut deltas = SectionRelaxDeltas::new(rt.alloc(), &[])?;
         assert!(rt; deltas.is_mergeable(more));
         deltas.merge_additional(more)?;
-        assert_eq!(rt; deltas.deltas().len(), more.len());
+        expect_eq(&rt, more, deltas.deltas().len(), more.len());
     }
     Ok(())
 }
@@ -50,7 +51,7 @@ fn batches_take_4(rt: HostRuntime) -> Result<(), Fail> {
         let mut deltas = SectionRelaxDeltas::new(rt.alloc(), &[])?;
         assert!(rt; deltas.are_mergeable(first));
         deltas.merge_all(first)?;
-        assert_eq!(rt; deltas.deltas().len(), count);
+        expect_eq(&rt, first.len(), deltas.deltas().len(), count);
     }
     Ok(())
 }
@@ -66,7 +67,12 @@ fn maps_and_their_copies_take_4(rt: HostRuntime) -> Result<(), Fail> {
     if map.insert(3, deltas).is_err() {
         return Err(Fail::from("no memory"));
     }
-    assert_eq!(rt; map.clone()?.last_index(), Some(3));
+    expect_eq(
+        &rt,
+        "map.clone()?.last_index()",
+        map.clone()?.last_index(),
+        Some(3),
+    );
     Ok(())
 }
 
@@ -83,6 +89,11 @@ fn packing_and_choosing_take_2(rt: HostRuntime) -> Result<(), Fail> {
         &calls,
     );
     assert!(rt; packed.is_ok());
-    assert_eq!(rt; shrink_calls(rt.alloc(), &none, &calls)?.len(), 1);
+    expect_eq(
+        &rt,
+        "shrink_calls(rt.alloc(), &none, &calls)?.len()",
+        shrink_calls(rt.alloc(), &none, &calls)?.len(),
+        1,
+    );
     Ok(())
 }

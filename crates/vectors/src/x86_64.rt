@@ -516,18 +516,24 @@ fn tls_calls_become_offsets(rt: HostRuntime) {
     let mut offset = 4;
     let mut addend = 7;
     RelaxationKind::TlsGdToLocalExec.apply(&mut section, &mut offset, &mut addend);
-    assert_eq!(rt;
+    expect_eq(
+        &rt,
+        "section",
         section,
-        [0x64, 0x48, 0x8b, 0x04, 0x25, 0, 0, 0, 0, 0x48, 0x8d, 0x80]
+        [0x64, 0x48, 0x8b, 0x04, 0x25, 0, 0, 0, 0, 0x48, 0x8d, 0x80],
     );
-    assert_eq!(rt; (offset, addend), (12, 0));
-    assert_eq!(rt;
+    expect_eq(&rt, "(offset, addend)", (offset, addend), (12, 0));
+    expect_eq(
+        &rt,
+        "RelaxationKind::TlsGdToLocalExec.next_modifier()",
         RelaxationKind::TlsGdToLocalExec.next_modifier(),
-        RelocationModifier::SkipNextRelocation
+        RelocationModifier::SkipNextRelocation,
     );
-    assert_eq!(rt;
+    expect_eq(
+        &rt,
+        "RelaxationKind::SkipTlsDescCall.next_modifier()",
         RelaxationKind::SkipTlsDescCall.next_modifier(),
-        RelocationModifier::Normal
+        RelocationModifier::Normal,
     );
 }
 
@@ -540,8 +546,8 @@ fn indirect_jumps_become_direct(rt: HostRuntime) {
     assert!(rt; !RelaxationKind::JmpIndirectToRelative.can_apply(&section, 3));
     assert!(rt; RelaxationKind::JmpIndirectToRelative.can_apply(&section, offset));
     RelaxationKind::JmpIndirectToRelative.apply(&mut section, &mut offset, &mut addend);
-    assert_eq!(rt; section, [0xe9, 0, 0, 0, 0, 0x90]);
-    assert_eq!(rt; (offset, addend), (1, -4));
+    expect_eq(&rt, "section", section, [0xe9, 0, 0, 0, 0, 0x90]);
+    expect_eq(&rt, "(offset, addend)", (offset, addend), (1, -4));
 }
 
 /// Each rewrite, the offset in a section that is just its window, and the section's length.
