@@ -451,22 +451,12 @@ pub trait InstructionRewrite: Copy {
     fn next_modifier(&self) -> RelocationModifier;
 }
 
-/// The lengths of RISC-V's windows, by the forms' places in their enum.
-static RISCV_WINDOWS: [usize; 9] = [4, 4, 4, 4, 4, 2, 2, 2, 8];
-
-/// What the form's `window` returns, where a processor can't predict the form: LLVM compiles a
-/// match to branches.
-#[inline(always)]
-fn riscv_window(insn: RiscVInstruction) -> usize {
-    RISCV_WINDOWS[insn as usize]
-}
-
 impl InstructionForm for RelocationInstruction {
     #[inline]
     fn window(self) -> usize {
         match self {
             RelocationInstruction::AArch64(insn) => insn.window(),
-            RelocationInstruction::RiscV(insn) => riscv_window(insn),
+            RelocationInstruction::RiscV(insn) => insn.window(),
             RelocationInstruction::Ppc64(insn) => insn.window(),
             RelocationInstruction::LoongArch64(insn) => insn.window(),
         }

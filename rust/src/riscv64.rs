@@ -12,12 +12,12 @@ mod rewrites;
 mod shrinking;
 
 pub use calls::{
-    CallError, JAL_MAX, JAL_MIN, JumpError, LinkRegister, distance_fits_jal, is_plain_call,
+    Call, CallError, JAL_MAX, JAL_MIN, JumpError, LinkRegister, distance_fits_jal, is_plain_call,
     jal_site, jal_site_with, relax_call, relax_call_over,
 };
 pub use forms::RiscVInstruction;
 pub use packing::{
-    AsCall, PackError, RejectedCall, calls_apart, first_not_apart, pack_into, pack_section,
+    PackError, RejectedCall, calls_apart, first_not_apart, pack_into, pack_section,
     packed_calls_reach_targets, packed_len,
 };
 pub use relocations::{RiscVRelocation, clui_row, relocation_type_from_raw, row};

@@ -38,7 +38,7 @@ pub(crate) fn chosen_register(link: u32) -> Option<LinkRegister> {
 }
 
 // The status of a call that has become a jump, or of why it hasn't.
-fn jump_status(outcome: Result<(), JumpError>) -> u32 {
+pub(crate) fn jump_status(outcome: Result<(), JumpError>) -> u32 {
     match outcome {
         Ok(()) => Status::Success.number(),
         Err(JumpError::NotACall) => Status::NotACall.number(),
@@ -61,15 +61,13 @@ pub fn linker_utils_relax_call_nonnull(
     call_status(riscv64::relax_call_over(section, &DeltaSlice::new(deltas), site, target))
 }
 
-// The status of a call that has become a jump, or of why it hasn't.
+// The status of a call that has become a jump, or of why it hasn't for a cause that any choice of
+// the register has.
 #[inline(always)]
-pub(crate) fn call_status(outcome: Result<(), CallError>) -> u32 {
+fn call_status(outcome: Result<(), CallError>) -> u32 {
     match outcome {
         Ok(()) => Status::Success.number(),
-        Err(CallError::OutOfSection) => Status::OutOfSection.number(),
-        Err(CallError::SiteDeleted) => Status::SiteDeleted.number(),
-        Err(CallError::OddDistance) => Status::OddDistance.number(),
-        Err(CallError::TooFar) => Status::TooFar.number(),
+        Err(error) => jump_status(Err(JumpError::Call(error))),
     }
 }
 

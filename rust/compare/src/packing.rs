@@ -1,27 +1,10 @@
 // Made by tools/erase of crates/linker_utils_c/src/packing.rt.
 //! The kept bytes of a section, with its calls made jumps.
 
-use crate::calls::{call_status, chosen_register};
+use crate::calls::{chosen_register, jump_status};
 use crate::status::Status;
-use linker_utils::relaxation::{AsCall, RelaxDelta, first_not_apart, pack_into, packed_len};
-use linker_utils::riscv64::{JumpError, LinkRegister};
-
-/// A call in a section.
-#[repr(C)]
-#[derive(Clone, Copy)]
-pub struct Call {
-    /// The offset in the input section of the `auipc`.
-    pub site: u64,
-    /// The offset in the input section of what it calls.
-    pub target: u64,
-}
-
-impl AsCall for Call {
-    #[inline(always)]
-    fn as_call(self) -> (u64, u64) {
-        (self.site, self.target)
-    }
-}
+use linker_utils::relaxation::RelaxDelta;
+use linker_utils::riscv64::{Call, LinkRegister, first_not_apart, pack_into, packed_len};
 
 /// How many bytes of a section are kept: as many as `linker_utils_pack` writes.
 pub fn linker_utils_packed_len_nonnull(section: &[u8], deltas: &[RelaxDelta]) -> usize {
@@ -59,8 +42,8 @@ fn pack(
     packed: &mut [u8],
     faulty: &mut usize,
 ) -> u32 {
-    if let Some(at) = first_not_apart(calls) {
-        *faulty = at;
+    if let Some(index) = first_not_apart(calls) {
+        *faulty = index;
         return Status::CallsNotApart.number();
     }
     if packed.len() != packed_len(section, deltas) {
@@ -70,15 +53,7 @@ fn pack(
         Ok(()) => Status::Success.number(),
         Err(rejected) => {
             *faulty = rejected.index;
-            error_number(rejected.error)
+            jump_status(Err(rejected.error))
         }
-    }
-}
-
-// The number of why a call can't become a jump.
-fn error_number(error: JumpError) -> u32 {
-    match error {
-        JumpError::Call(error) => call_status(Err(error)),
-        JumpError::NotACall => Status::NotACall.number(),
     }
 }

@@ -1,9 +1,9 @@
 // Made by tools/erase of crates/linker_utils_c/src/shrinking.rt.
 //! Which calls of a section can become jumps at once.
 
-use crate::packing::Call;
 use crate::status::Status;
-use linker_utils::relaxation::{RelaxDelta, first_not_shrinkable, shrink_calls_into};
+use linker_utils::relaxation::RelaxDelta;
+use linker_utils::riscv64::{Call, first_not_shrinkable, shrink_calls_into};
 
 /// Whether `linker_utils_shrink_calls` accepts the calls: their sites ascend by at least 8, the
 /// eight bytes at each site are kept, the four bytes after each call's first instruction may be
@@ -16,8 +16,8 @@ pub fn linker_utils_calls_shrinkable_nonnull(
     faulty: &mut usize,
 ) -> u32 {
     match first_not_shrinkable(deltas, calls) {
-        Some(at) => {
-            *faulty = at;
+        Some(index) => {
+            *faulty = index;
             Status::CallsNotShrinkable.number()
         }
         None => Status::Success.number(),
@@ -39,8 +39,8 @@ pub fn linker_utils_shrink_calls_nonnull(
     if chosen.len() != calls.len() {
         return Status::DifferentLengths.number();
     }
-    if let Some(at) = first_not_shrinkable(deltas, calls) {
-        *faulty = at;
+    if let Some(index) = first_not_shrinkable(deltas, calls) {
+        *faulty = index;
         return Status::CallsNotShrinkable.number();
     }
     shrink_calls_into(deltas, calls, chosen);

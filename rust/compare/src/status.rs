@@ -1,20 +1,20 @@
 // Made by tools/erase of crates/linker_utils_c/src/status.rt.
 //! What a call answers.
 
-/// What a call answers, and why it refuses.
+/// What a call returns: the sentences of `include/linker_utils.h`. 11 and 16 are unused.
 #[derive(Debug, Clone, Copy, PartialEq, Eq)]
 pub enum Status {
     /// The call did what it says.
     Success,
-    /// No architecture has this number, or it has no forms of instructions.
+    /// No architecture has this machine number, or it has no instruction forms.
     UnknownArchitecture,
     /// The architecture has no form with this number.
     UnknownForm,
     /// The architecture has no rewrite with this number.
     UnknownRewrite,
-    /// The architecture has no relocation with this number, or its meaning is not known.
+    /// The architecture has no relocation of this type, or its meaning is not known.
     UnknownRelocation,
-    /// Fewer bytes than the call reads or writes.
+    /// There are fewer bytes than the call reads or writes.
     TooShort,
     /// The value does not fit the form, or the existing ULEB128 number.
     DoesNotFit,
@@ -27,7 +27,7 @@ pub enum Status {
     OutOfSection,
     /// One of the four bytes at the site is deleted.
     SiteDeleted,
-    /// The distance is odd. (11 is no status.)
+    /// The distance is odd.
     OddDistance = 12,
     /// The distance is out of the range of `jal`.
     TooFar,
@@ -35,26 +35,25 @@ pub enum Status {
     InvalidDeletions,
     /// Two deletions overlap or begin at one offset, or one ends past 2^64 - 1.
     NotMergeable,
-    /// The input offset would be past 2^64 - 1. (16 is no status.)
+    /// The input offset would be past 2^64 - 1.
     TooLarge = 17,
     /// The queries decrease somewhere.
     NotAscending,
-    /// The array that is to be written has not as many places as are written.
+    /// The output array does not have the length of the result.
     DifferentLengths,
-    /// `malloc` or `realloc` refused.
+    /// `malloc` or `realloc` returned null.
     OutOfMemory,
     /// The bytes end before the ULEB128 number does.
     Uleb128Ended,
     /// The tenth byte of the ULEB128 number is neither 0 nor 1.
     Uleb128TooLarge,
-    /// No register of a call has this number.
+    /// No link register of a call has this number.
     UnknownLinkRegister,
-    /// The site of a call is less than 4 above that of the call before it.
+    /// A call's site is less than 4 above that of the call before it.
     CallsNotApart,
-    /// The eight bytes at the site are not an `auipc` and a `jalr`, with 0 in its bits 12 to 14,
-    /// whose base is the register of the `auipc`.
+    /// The eight bytes at the site are not an `auipc` and a `jalr` whose base is its register.
     NotACall,
-    /// A call that `linker_utils_calls_shrinkable` does not accept.
+    /// `linker_utils_calls_shrinkable` does not accept a call.
     CallsNotShrinkable,
     /// The value is not a multiple of the relocation's alignment.
     Misaligned,
@@ -62,7 +61,7 @@ pub enum Status {
     OutOfReach,
     /// A relocation of this type has no value.
     NoValue,
-    /// The relocation is one of a pair that computes a ULEB128 number, or `R_LARCH_CALL30`.
+    /// The relocation is one of a pair that computes a ULEB128 number, or R_LARCH_CALL30.
     Unsupported,
 }
 

@@ -96,12 +96,12 @@ static IMMEDIATES: [Immediate; 11] = [
     immediate!(0, 0),
 ];
 
-const MOVED: [Run; 1] = [run!(0, 5, 16)];
+const MOVE: [Run; 1] = [run!(0, 5, 16)];
 
 /// The 16 bits and the opcode that `Movnz` writes, the latter where it stands in the instruction
 /// (DDI 0487, "MOVN" and "MOVZ").
 #[inline(always)]
-fn moved(value: u64, negative: bool) -> (u64, u64) {
+fn move_bits(value: u64, negative: bool) -> (u64, u64) {
     if negative {
         (!value & 0xffff, 0x9280_0000)
     } else {
@@ -126,7 +126,7 @@ fn scale_of(word: u64) -> u32 {
 
 /// The run of the 12 bits of an offset from its scale up.
 #[inline(always)]
-fn scaled(scale: u32) -> [Run; 1] {
+fn offset_run(scale: u32) -> [Run; 1] {
     [Run {
         value: scale,
         insn_bit: 10,
@@ -145,42 +145,37 @@ impl AArch64Instruction {
 
     /// An instruction with the bits of a value ORed to it.
     #[inline(always)]
-    fn ored(self, value: u64, word: u64) -> u64 {
+    fn or_immediate(self, value: u64, word: u64) -> u64 {
         let immediate = self.immediate();
         word | (value & immediate.low) << 29 | value << immediate.shift & immediate.mask
     }
 
     /// An instruction with the bits cleared that the form only ORs.
     #[inline(always)]
-    pub(crate) fn cleared(self, word: u64) -> u64 {
+    pub(crate) fn clear_immediate(self, word: u64) -> u64 {
         let immediate = self.immediate();
         word & !(immediate.low << 29) & !immediate.mask
     }
 
     /// The number in the form's bits.
     #[inline(always)]
-    fn taken(self, word: u64) -> u64 {
+    fn extract(self, word: u64) -> u64 {
         let immediate = self.immediate();
         word >> 29 & immediate.low | (word & immediate.mask) >> immediate.shift
     }
 
-    /// Writes the bits of a value.
+    /// An instruction with a value in the form's bits.
     #[inline(always)]
-    fn place(self, value: u64, negative: bool, dest: &mut [u8]) {
+    pub(crate) fn word_with(self, value: u64, negative: bool, word: u64) -> u64 {
         match self {
             AArch64Instruction::Movnz => {
-                let (bits, opcode) = moved(value, negative);
-                let word = Window::Four.load(dest) & 0x007f_ffff | opcode;
-                engine::write_over(Window::Four, &MOVED, bits, word, dest);
+                let (bits, opcode) = move_bits(value, negative);
+                engine::window_with(&MOVE, bits, word & 0x007f_ffff | opcode)
             }
             AArch64Instruction::MachOLow12 => {
-                let scale = scale_of(Window::Four.load(dest));
-                engine::write(Window::Four, &scaled(scale), value, dest);
+                engine::window_with(&offset_run(scale_of(word)), value, word)
             }
-            _ => {
-                let word = self.ored(value, Window::Four.load(dest));
-                Window::Four.store(word, dest);
-            }
+            _ => self.or_immediate(value, word),
         }
     }
 
@@ -196,7 +191,8 @@ impl AArch64Instruction {
     pub fn write_to_value(self, extracted_value: u64, negative: bool, dest: &mut [u8]) {
         debug_assert!(self.window() <= dest.len());
         debug_assert!(self.fits(extracted_value, dest));
-        self.place(extracted_value, negative, dest);
+        let word = self.word_with(extracted_value, negative, Window::Four.load(dest));
+        Window::Four.store(word, dest);
     }
 
     /// The value in the instruction that `bytes` begins with, modulo 2^64, and a flag. The flag is
@@ -213,7 +209,7 @@ impl AArch64Instruction {
         debug_assert!(self.window() <= bytes.len());
         match self {
             AArch64Instruction::Movnz => {
-                let moved = engine::read(Window::Four, &MOVED, bytes);
+                let moved = engine::read(Window::Four, &MOVE, bytes);
                 if Window::Four.load(bytes).extract_bit(30) == 0 {
                     (!moved, true)
                 } else {
@@ -222,10 +218,10 @@ impl AArch64Instruction {
             }
             AArch64Instruction::MachOLow12 => {
                 let scale = scale_of(Window::Four.load(bytes));
-                (engine::read(Window::Four, &scaled(scale), bytes), false)
+                (engine::read(Window::Four, &offset_run(scale), bytes), false)
             }
             _ => {
-                let number = self.taken(Window::Four.load(bytes));
+                let number = self.extract(Window::Four.load(bytes));
                 (
                     engine::signed_number(number, self.immediate().sign_bits).0,
                     false,

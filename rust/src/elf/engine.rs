@@ -118,12 +118,12 @@ fn take(run: &Run, window: u64) -> u64 {
 
 /// The window after all runs of the value are written.
 #[inline(always)]
-fn insert(runs: &[Run], value: u64, window: u64) -> u64 {
-    let mut laid = window;
+pub(crate) fn window_with(runs: &[Run], value: u64, window: u64) -> u64 {
+    let mut written = window;
     for run in runs {
-        laid = put(run, value, laid);
+        written = put(run, value, written);
     }
-    laid
+    written
 }
 
 /// The number in the runs of a window.
@@ -150,18 +150,10 @@ pub(crate) fn signed_number(number: u64, bits: u32) -> (u64, bool) {
     signed_by(number, bits, 1 << (bits - 1))
 }
 
-/// Writes the runs of a value to the window that `dest` begins with.
-#[inline(always)]
-pub(crate) fn write(window: Window, runs: &[Run], value: u64, dest: &mut [u8]) {
-    let before = window.load(dest);
-    let after = insert(runs, value, before);
-    window.store(after, dest);
-}
-
-/// Writes a value into the instruction that `dest` begins with. The runs are those of its form;
+/// Writes a value into the instruction that `dest` begins with. The runs are those of its form.
 /// Only the contract uses `_insn` and `_negative`.
 #[inline(always)]
-pub(crate) fn write_form(
+pub(crate) fn write(
     _insn: RelocationInstruction,
     window: Window,
     runs: &[Run],
@@ -169,14 +161,8 @@ pub(crate) fn write_form(
     _negative: bool,
     dest: &mut [u8],
 ) {
-    write(window, runs, value, dest);
-}
-
-/// Writes the runs of a value over a number, and that to the window that `dest` begins with.
-#[inline(always)]
-pub(crate) fn write_over(window: Window, runs: &[Run], value: u64, number: u64, dest: &mut [u8]) {
-    let after = insert(runs, value, number);
-    window.store(after, dest);
+    let number = window_with(runs, value, window.load(dest));
+    window.store(number, dest);
 }
 
 /// Reads the number in the runs of the window that `bytes` begins with.
@@ -185,19 +171,8 @@ pub(crate) fn read(window: Window, runs: &[Run], bytes: &[u8]) -> u64 {
     extract(runs, window.load(bytes))
 }
 
-/// Reads the value in the instruction that `bytes` begins with, of a form that is read without a
-/// sign. The runs are the form's.
-#[inline(always)]
-pub(crate) fn read_form(
-    _insn: RelocationInstruction,
-    window: Window,
-    runs: &[Run],
-    bytes: &[u8],
-) -> (u64, bool) {
-    (read(window, runs, bytes), false)
-}
-
-/// The same, of a form that is read in two's complement and flags a number below 0.
+/// Reads the value in the instruction that `bytes` begins with, of a form that is read in two's
+/// complement and flags a number below 0. The runs are the form's.
 #[inline(always)]
 pub(crate) fn read_flagged_form(
     _insn: RelocationInstruction,

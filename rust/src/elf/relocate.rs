@@ -77,33 +77,12 @@ pub(crate) fn write_bytes(kind: RelocationKind, len: usize, value: i64, dest: &m
     store(len, number, dest);
 }
 
-const CLEARED_SHIFT_10: [Run; 1] = [run!(12, 22, 4, 0, Cleared)];
-
-/// Clears the bits of an AArch64 instruction that its form only ORs.
+/// The bits of a value that a relocation takes.
 #[inline(always)]
-fn clear_aarch64(insn: AArch64Instruction, dest: &mut [u8]) {
-    let word = insn.cleared(Window::Four.load(dest));
-    Window::Four.store(word, dest);
-}
-
-/// Clears the bits of an instruction that its form only ORs.
-#[inline(always)]
-fn clear(insn: RelocationInstruction, bits: BitRange, dest: &mut [u8]) {
-    match insn {
-        RelocationInstruction::AArch64(insn) => clear_aarch64(insn, dest),
-        RelocationInstruction::LoongArch64(LoongArch64Instruction::Shift10) => {
-            if bits.end - bits.start > 12 {
-                engine::write(Window::Four, &CLEARED_SHIFT_10, 0, dest);
-            }
-        }
-        _ => {}
-    }
-}
-
-/// The bits of a number that a relocation takes.
-#[inline(always)]
-fn taken_bits(bits: BitRange, number: u64) -> u64 {
-    number.extract_bit_range(bits.start as u32..bits.end as u32)
+fn taken_bits(bits: BitRange, value: i64) -> u64 {
+    value
+        .cast_unsigned()
+        .extract_bit_range(bits.start as u32..bits.end as u32)
 }
 
 /// Whether a word is an instruction of DQ-form, whose displacement is in units of 16 (Power ISA,
@@ -114,50 +93,65 @@ fn is_dq_form(word: u64) -> bool {
     opcode == 56 || opcode == 6 || (opcode == 61 && word % 4 == 1)
 }
 
-/// The number whose bits are placed. The lowest four bits of a DQ-form instruction are kept: they
-/// aren't its displacement's.
+/// The number that a PowerPC64 instruction gets. The lowest four bits of one of DQ-form are kept:
+/// they aren't its displacement's.
 #[inline(always)]
-fn number_placed(insn: RelocationInstruction, taken: u64, dest: &[u8]) -> u64 {
-    match insn {
-        RelocationInstruction::Ppc64(Ppc64Instruction::Ds) => {
-            let word = Window::Four.load(dest);
-            if is_dq_form(word) {
-                taken - taken % 16 + word % 16
-            } else {
-                taken
-            }
+fn displacement(insn: Ppc64Instruction, number: u64, dest: &[u8]) -> u64 {
+    if let Ppc64Instruction::Ds = insn {
+        let word = Window::Four.load(dest);
+        if is_dq_form(word) {
+            return number - number % 16 + word % 16;
         }
-        _ => taken,
     }
+    number
 }
 
-/// Whether the instruction is MOVN or MOVZ of 32 bits, which bit 31 tells.
+/// Whether an instruction is MOVN or MOVZ of 32 bits, which bit 31 tells.
 #[inline(always)]
-fn is_32_bit_move(insn: RelocationInstruction, dest: &[u8]) -> bool {
-    match insn {
-        RelocationInstruction::AArch64(AArch64Instruction::Movnz) => {
-            Window::Four.load(dest) >> 31 == 0
-        }
-        _ => false,
-    }
+fn is_32_bit_move(insn: AArch64Instruction, word: u64) -> bool {
+    insn == AArch64Instruction::Movnz && word >> 31 == 0
 }
 
-/// Clears bit 31 of a word.
+const SHIFT_10_ORED: [Run; 1] = [run!(12, 22, 4, 0, Cleared)];
+
+/// Clears the bits of a LoongArch instruction that its form only ORs. An immediate of 12 bits has
+/// its opcode there.
 #[inline(always)]
-fn clear_bit_31(dest: &mut [u8]) {
-    let word = Window::Four.load(dest);
-    Window::Four.store(word - (1 << 31), dest);
+fn clear_loongarch(insn: LoongArch64Instruction, bits: BitRange, dest: &mut [u8]) {
+    if let LoongArch64Instruction::Shift10 = insn {
+        if bits.end - bits.start > 12 {
+            let word = engine::window_with(&SHIFT_10_ORED, 0, Window::Four.load(dest));
+            Window::Four.store(word, dest);
+        }
+    }
 }
 
 /// Writes bits of a value into an instruction. By itself, so that `write` is small enough to be
 /// inlined, and its row is never in memory.
 pub(crate) fn write_bits(insn: RelocationInstruction, bits: BitRange, value: i64, dest: &mut [u8]) {
-    let number = number_placed(insn, taken_bits(bits, value.cast_unsigned()), dest);
-    let is_of_32_bits = is_32_bit_move(insn, dest);
-    clear(insn, bits, dest);
-    insn.write(number, value < 0, dest);
-    if is_of_32_bits {
-        clear_bit_31(dest);
+    let number = taken_bits(bits, value);
+    let negative = value < 0;
+    match insn {
+        RelocationInstruction::AArch64(insn) => {
+            let old = Window::Four.load(dest);
+            let word = insn.word_with(number, negative, insn.clear_immediate(old));
+            // a move keeps its size
+            let new = if is_32_bit_move(insn, old) {
+                word - (1 << 31)
+            } else {
+                word
+            };
+            Window::Four.store(new, dest);
+        }
+        RelocationInstruction::RiscV(insn) => insn.write_to_value(number, negative, dest),
+        RelocationInstruction::Ppc64(insn) => {
+            let number = displacement(insn, number, dest);
+            insn.write_to_value(number, negative, dest);
+        }
+        RelocationInstruction::LoongArch64(insn) => {
+            clear_loongarch(insn, bits, dest);
+            insn.write_to_value(number, negative, dest);
+        }
     }
 }
 
@@ -233,7 +227,7 @@ impl RelocationKindInfo {
         match self.size {
             RelocationSize::ByteSize(_) => true,
             RelocationSize::BitMasking { range, insn } => {
-                insn.fits(taken_bits(range, value.cast_unsigned()), dest)
+                insn.fits(taken_bits(range, value), dest)
             }
         }
     }

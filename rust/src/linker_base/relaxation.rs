@@ -1,8 +1,6 @@
 // Made by tools/erase of crates/linker_base/src/relaxation.rt.
 //! Deletions that relaxation makes in a section, and the offsets of what they leave.
 
-mod arrays;
-mod blocked_slice;
 mod blocks;
 mod cursor;
 mod delta_slice;
@@ -11,12 +9,10 @@ mod map;
 mod merge;
 mod overlap;
 mod partition_point;
-mod search;
 mod walk;
 
 use alloc::vec::Vec;
 use crate::support::*;
-pub use blocked_slice::BlockedSlice;
 use blocks::{count_heads, fill_heads, reserve_heads};
 pub use blocks::{
     BLOCK_LEN, BlockHead, Counted, Looks, input_to_output_counted, output_to_input_counted,
@@ -68,7 +64,7 @@ pub struct RelaxDelta {
 impl RelaxDelta {
     // The input offset less the bytes deleted before.
     #[inline(always)]
-    fn output_place(&self) -> u64 {
+    fn output_offset(&self) -> u64 {
         let end = self
             .input_offset
             .wrapping_add(u64::from(self.bytes_deleted));
@@ -214,26 +210,24 @@ impl SectionRelaxDeltas {
         &self.deltas[..]
     }
 
-    /// The deltas as a slice that translates offsets too.
+    /// The deltas, and the heads of their blocks where these are kept, as a slice that translates
+    /// offsets too.
     #[must_use]
-    #[inline]
+    #[inline(always)]
     pub fn as_delta_slice(&self) -> DeltaSlice<'_> {
-        DeltaSlice::new(&self.deltas)
+        DeltaSlice::over(&self.deltas, &self.heads)
     }
 
     /// Whether a deletion is listed at the offset, be it one of no bytes.
     #[must_use]
     pub fn has_delta_at(&self, offset: u64) -> bool {
-        search::delta_at(&self.deltas, offset).is_some()
+        self.as_delta_slice().has_delta_at(offset)
     }
 
     /// The bytes that are deleted at the offset: 0 where no deletion is listed there.
     #[must_use]
     pub fn delta_bytes_at(&self, offset: u64) -> u32 {
-        match search::delta_at(&self.deltas, offset) {
-            Some(delta) => delta.bytes_deleted,
-            None => 0,
-        }
+        self.as_delta_slice().delta_bytes_at(offset)
     }
 
     /// Whether nothing is listed. A deletion of no bytes counts as listed.
@@ -245,7 +239,7 @@ impl SectionRelaxDeltas {
     /// The bytes that all deletions take together.
     #[must_use]
     pub fn total_deleted(&self) -> u64 {
-        search::bytes_of_first(&self.deltas, self.deltas.len())
+        self.as_delta_slice().total_deleted()
     }
 
     /// How many kept bytes lie below `input_offset`, which is the offset in the output section of
@@ -254,13 +248,13 @@ impl SectionRelaxDeltas {
     #[must_use]
     #[inline]
     pub fn input_to_output_offset(&self, input_offset: u64) -> u64 {
-        input_to_output_counted(&mut self.counted(), input_offset)
+        self.as_delta_slice().input_to_output_offset(input_offset)
     }
 
     /// Whether the offset lies above the first byte of a deletion and below its end.
     #[must_use]
     pub fn is_inside(&self, input_offset: u64) -> bool {
-        search::is_inside(&self.deltas, input_offset)
+        self.as_delta_slice().is_inside(input_offset)
     }
 
     /// The output offset of the `len` bytes from `input_offset` on, or none where one of them is
@@ -273,11 +267,11 @@ impl SectionRelaxDeltas {
     #[cfg_attr(debug_assertions, track_caller)]
     pub fn kept_output_offset(&self, input_offset: u64, len: u64) -> Option<u64> {
         debug_assert!((input_offset as u128) + (len as u128) < 1 << 64);
-        search::rank_of_kept(&self.deltas, input_offset, len)
+        self.as_delta_slice().kept_output_offset(input_offset, len)
     }
 
     /// The offset in the input section of the kept byte at `output_offset`: that offset and the
-    /// bytes of all deletions whose output place is at most that.
+    /// bytes of all deletions whose output offset is at most that.
     ///
     /// Requires an offset that `output_fits` accepts. The search takes O(log n).
     ///
@@ -289,13 +283,13 @@ impl SectionRelaxDeltas {
     #[inline]
     pub fn output_to_input_offset(&self, output_offset: u64) -> u64 {
         debug_assert!(self.output_fits(output_offset));
-        output_to_input_counted(&mut self.counted(), output_offset)
+        output_offset + self.as_delta_slice().bytes_before(output_offset)
     }
 
     /// Whether the input offset of the kept byte at `output_offset` is at most `u64::MAX`.
     #[must_use]
     pub fn output_fits(&self, output_offset: u64) -> bool {
-        search::bytes_before(&self.deltas, output_offset) <= u64::MAX - output_offset
+        self.as_delta_slice().bytes_before(output_offset) <= u64::MAX - output_offset
     }
 
     /// The deltas, with a count of the looks at them, 0 so far.

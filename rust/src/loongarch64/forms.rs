@@ -120,7 +120,7 @@ impl LoongArch64Instruction {
 
     /// An instruction with the bits of a value.
     #[inline(always)]
-    fn laid(self, value: u64, word: u64) -> u64 {
+    fn word_with(self, value: u64, word: u64) -> u64 {
         let bits = self.bits();
         word & bits.kept
             | value << 5 & bits.up_5
@@ -131,24 +131,24 @@ impl LoongArch64Instruction {
 
     /// The number in the bits that are read.
     #[inline(always)]
-    fn taken(self, word: u64) -> u64 {
+    fn extract(self, word: u64) -> u64 {
         let bits = self.bits();
         (word & bits.up_5) >> 5 | (word & bits.up_10) >> 10 | (word & bits.down_16) << 16
     }
 
     /// Writes the bits of a value.
     #[inline(always)]
-    fn place(self, value: u64, negative: bool, dest: &mut [u8]) {
+    fn insert_into(self, value: u64, negative: bool, dest: &mut [u8]) {
         let insn = RelocationInstruction::LoongArch64(self);
         match self {
             LoongArch64Instruction::Call30 => {
-                engine::write_form(insn, Window::Eight, &CALL_30, value, negative, dest);
+                engine::write(insn, Window::Eight, &CALL_30, value, negative, dest);
             }
             LoongArch64Instruction::Call36 => {
-                engine::write_form(insn, Window::Eight, &CALL_36, value, negative, dest);
+                engine::write(insn, Window::Eight, &CALL_36, value, negative, dest);
             }
             _ => {
-                let word = self.laid(value, Window::Four.load(dest));
+                let word = self.word_with(value, Window::Four.load(dest));
                 Window::Four.store(word, dest);
             }
         }
@@ -166,7 +166,7 @@ impl LoongArch64Instruction {
     pub fn write_to_value(self, extracted_value: u64, negative: bool, dest: &mut [u8]) {
         debug_assert!(self.window() <= dest.len());
         debug_assert!(self.fits(extracted_value, dest));
-        self.place(extracted_value, negative, dest);
+        self.insert_into(extracted_value, negative, dest);
     }
 
     /// The value in the instruction or pair that `bytes` begins with, modulo 2^64, and a flag: for
@@ -186,7 +186,7 @@ impl LoongArch64Instruction {
             }
             LoongArch64Instruction::Call36 => (read_call_36(bytes), false),
             _ => {
-                let number = self.taken(Window::Four.load(bytes));
+                let number = self.extract(Window::Four.load(bytes));
                 let bits = self.bits();
                 engine::signed_by(number, bits.sign_bits, bits.sign)
             }

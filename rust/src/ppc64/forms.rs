@@ -28,8 +28,9 @@ pub enum Ppc64Instruction {
     Prefixed,
 }
 
-/// The bits that each form holds in its word. A match of them would be merged with that of `place`,
-/// into a jump by the form, and a constant would be written to the stack at each use.
+/// The bits that each form holds in its word. A match of them would be merged with that of
+/// `write_to_value`, into a jump by the form, and a constant would be written to the stack at each
+/// use.
 static MASKS: [u64; 5] = [0xffff, 0xfffc, 0xfffc, 0x03ff_fffc, 0];
 
 const PREFIXED: [Run; 2] = [run!(0, 32, 16), run!(16, 0, 18)];
@@ -42,22 +43,6 @@ impl Ppc64Instruction {
         MASKS[self as usize]
     }
 
-    /// Writes the bits of a value.
-    #[inline(always)]
-    fn place(self, value: u64, _negative: bool, dest: &mut [u8]) {
-        match self {
-            Ppc64Instruction::Prefixed => {
-                let insn = RelocationInstruction::Ppc64(self);
-                engine::write_form(insn, Window::Eight, &PREFIXED, value, _negative, dest);
-            }
-            _ => {
-                let mask = self.mask();
-                let word = Window::Four.load(dest) & !mask | value & mask;
-                Window::Four.store(word, dest);
-            }
-        }
-    }
-
     /// Writes a value into the instruction that `dest` begins with. Only the form's bits change.
     /// `negative` is ignored.
     ///
@@ -68,7 +53,24 @@ impl Ppc64Instruction {
     #[inline]
     pub fn write_to_value(self, extracted_value: u64, negative: bool, dest: &mut [u8]) {
         debug_assert!(self.window() <= dest.len());
-        self.place(extracted_value, negative, dest);
+        match self {
+            Ppc64Instruction::Prefixed => {
+                let insn = RelocationInstruction::Ppc64(self);
+                engine::write(
+                    insn,
+                    Window::Eight,
+                    &PREFIXED,
+                    extracted_value,
+                    negative,
+                    dest,
+                );
+            }
+            _ => {
+                let mask = self.mask();
+                let word = Window::Four.load(dest) & !mask | extracted_value & mask;
+                Window::Four.store(word, dest);
+            }
+        }
     }
 
     /// The value in the instruction that `bytes` begins with, unsigned: bits of the value that the
@@ -83,10 +85,7 @@ impl Ppc64Instruction {
     pub fn read_value(self, bytes: &[u8]) -> (u64, bool) {
         debug_assert!(self.window() <= bytes.len());
         match self {
-            Ppc64Instruction::Prefixed => {
-                let insn = RelocationInstruction::Ppc64(self);
-                engine::read_form(insn, Window::Eight, &PREFIXED, bytes)
-            }
+            Ppc64Instruction::Prefixed => { (engine::read(Window::Eight, &PREFIXED, bytes), false) }
             _ => (Window::Four.load(bytes) & self.mask(), false),
         }
     }

@@ -23,7 +23,7 @@ pub fn distance_fits_jal(distance: i64) -> bool {
 }
 
 #[inline]
-pub(crate) fn is_even(distance: i64) -> bool {
+fn is_even(distance: i64) -> bool {
     distance.cast_unsigned() % 2 == 0
 }
 
@@ -56,6 +56,37 @@ fn is_call_pair(auipc: u32, jalr: u32) -> bool {
         && jalr.extract_bit_range(0..7) == 0x67
         && jalr.extract_bit_range(12..15) == 0
         && jalr.extract_bit_range(15..20) == auipc.extract_bit_range(7..12)
+}
+
+/// A call in a section, as C has it.
+#[repr(C)]
+#[derive(Debug, Clone, Copy, PartialEq, Eq)]
+pub struct Call {
+    /// The offset in the input section of the `auipc`.
+    pub site: u64,
+    /// The offset in the input section of what it calls.
+    pub target: u64,
+}
+
+/// A call in a section: a `Call`, or a pair of its site and its target. Others can't implement it.
+pub trait AsCall: Copy {
+    /// The offsets of the call's first instruction and of what it calls.
+    #[must_use]
+    fn as_call(self) -> (u64, u64);
+}
+
+impl AsCall for Call {
+    #[inline(always)]
+    fn as_call(self) -> (u64, u64) {
+        (self.site, self.target)
+    }
+}
+
+impl AsCall for (u64, u64) {
+    #[inline(always)]
+    fn as_call(self) -> (u64, u64) {
+        self
+    }
 }
 
 /// Which register the jump of a call links: the destination of one of the call's instructions,
@@ -135,15 +166,23 @@ pub(crate) fn distance_between(from: u64, to: u64) -> i64 {
     to.wrapping_sub(from).cast_signed()
 }
 
-/// Puts a `jal` by a distance in bytes, which links a register, in place of the four bytes at a
-/// site. The errors are `OddDistance` and `TooFar`, the first of them that applies.
-fn put_jal(section: &mut [u8], site: u64, register: u32, distance: i64) -> Result<(), CallError> {
+/// Whether a `jal` jumps by a distance in bytes. The errors are `OddDistance` and `TooFar`, the
+/// first of them that applies.
+#[inline(always)]
+pub(super) fn test_distance(distance: i64) -> Result<(), CallError> {
     if !is_even(distance) {
         return Err(CallError::OddDistance);
     }
     if !distance_fits_jal(distance) {
         return Err(CallError::TooFar);
     }
+    Ok(())
+}
+
+/// Puts a `jal` by a distance in bytes, which links a register, in place of the four bytes at a
+/// site. The errors are `OddDistance` and `TooFar`, the first of them that applies.
+fn put_jal(section: &mut [u8], site: u64, register: u32, distance: i64) -> Result<(), CallError> {
+    test_distance(distance)?;
     let jal = 0x6f | register << 7;
     overwrite(section, site, &jal.to_le_bytes());
     let jal = &mut section[site as usize..];

@@ -137,7 +137,7 @@ impl RiscVInstruction {
 
     /// An instruction with the bits of a value.
     #[inline(always)]
-    fn laid(self, value: u64, word: u64) -> u64 {
+    fn word_with(self, value: u64, word: u64) -> u64 {
         let bits = self.bits();
         let sum = value.wrapping_add(bits.added);
         word & bits.kept | sum & bits.up_0 | sum << 7 & bits.up_7 | sum << 20 & bits.up_20
@@ -145,29 +145,29 @@ impl RiscVInstruction {
 
     /// Writes the bits of a value.
     #[inline(always)]
-    fn place(self, value: u64, negative: bool, dest: &mut [u8]) {
+    fn insert_into(self, value: u64, negative: bool, dest: &mut [u8]) {
         let insn = RelocationInstruction::RiscV(self);
         match self {
             RiscVInstruction::BType => {
-                engine::write_form(insn, Window::Four, &B_TYPE, value, negative, dest);
+                engine::write(insn, Window::Four, &B_TYPE, value, negative, dest);
             }
             RiscVInstruction::JType => {
-                engine::write_form(insn, Window::Four, &J_TYPE, value, negative, dest);
+                engine::write(insn, Window::Four, &J_TYPE, value, negative, dest);
             }
             RiscVInstruction::CbType => {
-                engine::write_form(insn, Window::Two, &CB_TYPE, value, negative, dest);
+                engine::write(insn, Window::Two, &CB_TYPE, value, negative, dest);
             }
             RiscVInstruction::CjType => {
-                engine::write_form(insn, Window::Two, &CJ_TYPE, value, negative, dest);
+                engine::write(insn, Window::Two, &CJ_TYPE, value, negative, dest);
             }
             RiscVInstruction::CluiType => {
-                engine::write_form(insn, Window::Two, &CLUI_TYPE, value, negative, dest);
+                engine::write(insn, Window::Two, &CLUI_TYPE, value, negative, dest);
             }
             RiscVInstruction::UiType => {
-                engine::write_form(insn, Window::Eight, &UI_TYPE, value, negative, dest);
+                engine::write(insn, Window::Eight, &UI_TYPE, value, negative, dest);
             }
             _ => {
-                let word = self.laid(value, Window::Four.load(dest));
+                let word = self.word_with(value, Window::Four.load(dest));
                 Window::Four.store(word, dest);
             }
         }
@@ -187,7 +187,7 @@ impl RiscVInstruction {
     #[inline]
     pub fn write_to_value(self, extracted_value: u64, negative: bool, dest: &mut [u8]) {
         debug_assert!(self.window() <= dest.len());
-        self.place(extracted_value, negative, dest);
+        self.insert_into(extracted_value, negative, dest);
     }
 
     /// The value in the instruction that `bytes` begins with, sign-extended to 64 bits, and whether
@@ -240,18 +240,14 @@ impl RiscVInstruction {
     }
 }
 
+/// The lengths of the windows, by the forms' places in their enum. LLVM compiles a match to
+/// branches, and a processor may not predict the form.
+static WINDOWS: [usize; 9] = [4, 4, 4, 4, 4, 2, 2, 2, 8];
+
 impl InstructionForm for RiscVInstruction {
     #[inline]
     fn window(self) -> usize {
-        match self {
-            RiscVInstruction::UType
-            | RiscVInstruction::IType
-            | RiscVInstruction::SType
-            | RiscVInstruction::BType
-            | RiscVInstruction::JType => 4,
-            RiscVInstruction::CbType | RiscVInstruction::CjType | RiscVInstruction::CluiType => 2,
-            RiscVInstruction::UiType => 8,
-        }
+        WINDOWS[self as usize]
     }
 
     #[cfg_attr(debug_assertions, track_caller)]

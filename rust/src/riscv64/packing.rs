@@ -4,24 +4,10 @@
 use alloc::vec::Vec;
 use crate::support::*;
 use super::calls::{
-    CallError, JumpError, LinkRegister, distance_between, distance_fits_jal, is_even, jal_site,
+    AsCall, CallError, JumpError, LinkRegister, distance_between, jal_site, test_distance,
 };
 use crate::relaxation::{DeltaSlice, RelaxDelta, SectionRelaxDeltas};
 use crate::rewrite::{has_window, overwrite};
-
-/// A call in a section: a pair of its site and its target, or a caller's own struct.
-pub trait AsCall: Copy {
-    /// The offsets of the call's first instruction and of what it calls.
-    #[must_use]
-    fn as_call(self) -> (u64, u64);
-}
-
-impl AsCall for (u64, u64) {
-    #[inline(always)]
-    fn as_call(self) -> (u64, u64) {
-        self
-    }
-}
 
 /// The first of some calls that can't become a jump.
 #[derive(Debug, Clone, Copy, PartialEq, Eq)]
@@ -60,7 +46,7 @@ impl<T> From<AllocFailed<T>> for PackError {
 
 /// The output offset of an input offset.
 #[inline(always)]
-pub(super) fn output_offset(deltas: &[RelaxDelta], input_offset: u64) -> u64 {
+pub(super) fn to_output_offset(deltas: &[RelaxDelta], input_offset: u64) -> u64 {
     DeltaSlice::new(deltas).input_to_output_offset(input_offset)
 }
 
@@ -75,11 +61,11 @@ fn site_output_offset(deltas: &[RelaxDelta], site: u64) -> Option<u64> {
 #[must_use]
 #[inline]
 pub fn first_not_apart<C: AsCall>(calls: &[C]) -> Option<usize> {
-    for at in 1..calls.len() {
-        let (before, _) = calls[at - 1].as_call();
-        let (site, _) = calls[at].as_call();
+    for index in 1..calls.len() {
+        let (before, _) = calls[index - 1].as_call();
+        let (site, _) = calls[index].as_call();
         if site.saturating_sub(before) < 4 {
-            return Some(at);
+            return Some(index);
         }
     }
     None
@@ -104,32 +90,35 @@ fn between(section: &[u8], from: u64, to: u64) -> &[u8] {
     }
 }
 
-/// Puts bytes at an offset of the packed section, as far as they fit there, and returns the offset
-/// behind them.
+/// Puts bytes at an output offset of the packed section, as far as they fit there, and returns the
+/// offset behind them.
 #[inline(always)]
-fn put(packed: &mut [u8], at: usize, bytes: &[u8]) -> usize {
-    let len = bytes.len().min(packed.len() - at);
-    packed[at..at + len].copy_from_slice(&bytes[..len]);
-    at + len
+fn put(packed: &mut [u8], output_offset: usize, bytes: &[u8]) -> usize {
+    let len = bytes.len().min(packed.len() - output_offset);
+    let end = output_offset + len;
+    packed[output_offset..end].copy_from_slice(&bytes[..len]);
+    end
 }
 
 /// Copies the kept bytes of a section.
 fn copy_kept(section: &[u8], deltas: &[RelaxDelta], packed: &mut [u8]) {
     let mut from = 0;
-    let mut at = 0;
+    let mut output_offset = 0;
     for delta in deltas {
-        at = put(packed, at, between(section, from, delta.input_offset));
+        let run = between(section, from, delta.input_offset);
+        output_offset = put(packed, output_offset, run);
         from = delta
             .input_offset
             .saturating_add(u64::from(delta.bytes_deleted));
     }
-    let _end = put(packed, at, between(section, from, section.len() as u64));
+    let run = between(section, from, section.len() as u64);
+    let _end = put(packed, output_offset, run);
 }
 
 /// Where the jump of a call goes in the packed section, and how far it jumps.
 #[derive(Clone, Copy)]
 struct Jump {
-    at: u64,
+    output_offset: u64,
     distance: i64,
 }
 
@@ -144,20 +133,18 @@ fn jump_of(
     if !has_window(section, site, 0, link.call_len()) || target > section.len() as u64 {
         return Err(JumpError::Call(CallError::OutOfSection));
     }
-    let Some(at) = site_output_offset(deltas, site) else {
+    let Some(output_offset) = site_output_offset(deltas, site) else {
         return Err(JumpError::Call(CallError::SiteDeleted));
     };
     let Some(_register) = link.named_at(section, site) else {
         return Err(JumpError::NotACall);
     };
-    let distance = distance_between(at, output_offset(deltas, target));
-    if !is_even(distance) {
-        return Err(JumpError::Call(CallError::OddDistance));
-    }
-    if !distance_fits_jal(distance) {
-        return Err(JumpError::Call(CallError::TooFar));
-    }
-    Ok(Jump { at, distance })
+    let distance = distance_between(output_offset, to_output_offset(deltas, target));
+    test_distance(distance)?;
+    Ok(Jump {
+        output_offset,
+        distance,
+    })
 }
 
 /// Whether each call can become a jump; the error is that of the first that can't.
@@ -178,13 +165,13 @@ fn test_calls<C: AsCall>(
 
 /// Puts a jump into the packed section, where four bytes are there.
 fn put_jump(section: &[u8], site: u64, link: LinkRegister, jump: Jump, packed: &mut [u8]) {
-    if !has_window(packed, jump.at, 0, 4) {
+    if !has_window(packed, jump.output_offset, 0, 4) {
         return;
     }
     // `jal_site` links the register of the instruction that it replaces.
     let start = (site + link.call_len() - 4) as usize;
-    overwrite(packed, jump.at, &section[start..start + 4]);
-    let _ = jal_site(packed, jump.at, jump.distance);
+    overwrite(packed, jump.output_offset, &section[start..start + 4]);
+    let _ = jal_site(packed, jump.output_offset, jump.distance);
 }
 
 /// Puts the jump of a call into the packed section, where it can become one.
@@ -209,8 +196,8 @@ fn put_calls<C: AsCall>(
     link: LinkRegister,
     packed: &mut [u8],
 ) {
-    for at in 0..calls.len() {
-        let (site, target) = calls[at].as_call();
+    for index in 0..calls.len() {
+        let (site, target) = calls[index].as_call();
         put_call(section, deltas, site, target, link, packed);
     }
 }
@@ -219,7 +206,7 @@ fn put_calls<C: AsCall>(
 #[must_use]
 #[inline]
 pub fn packed_len(section: &[u8], deltas: &[RelaxDelta]) -> usize {
-    output_offset(deltas, section.len() as u64) as usize
+    to_output_offset(deltas, section.len() as u64) as usize
 }
 
 /// Packs a section into memory of the caller's: its kept bytes in order, and at each call's site,

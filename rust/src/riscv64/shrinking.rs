@@ -2,8 +2,8 @@
 //! The calls of a section that can become jumps at once.
 
 use alloc::vec::Vec;
-use super::calls::{distance_fits_jal, is_even};
-use super::packing::{AsCall, output_offset};
+use super::calls::{AsCall, test_distance};
+use super::packing::to_output_offset;
 use crate::relaxation::{DeltaSlice, OutOfMemory, RelaxDelta, SectionRelaxDeltas};
 
 /// An element of an answer, which tells whether a call is chosen: a `bool`, or a byte that is 0 or
@@ -44,19 +44,10 @@ impl AsChoice for u8 {
 
 /// How many of the calls have their second instruction below an offset.
 fn calls_below<C: AsCall>(calls: &[C], offset: u64) -> usize {
-    let mut start = 0;
-    let mut len = calls.len();
-    while len > 0 {
-        let half = len / 2;
-        let (site, _) = calls[start + half].as_call();
-        if site.saturating_add(4) < offset {
-            start += half + 1;
-            len -= half + 1;
-        } else {
-            len = half;
-        }
-    }
-    start
+    calls.partition_point(|call| {
+        let (site, _) = call.as_call();
+        site.saturating_add(4) < offset
+    })
 }
 
 /// How many calls are chosen from an index up to another.
@@ -124,7 +115,7 @@ fn reaches(from: u64, to: u64) -> bool {
     } else {
         -(distance as i64)
     };
-    is_even(distance) && distance_fits_jal(distance)
+    test_distance(distance).is_ok()
 }
 
 /// Whether a `jal` from the output offset of a call's site to that of its target reaches, once so
@@ -149,8 +140,8 @@ fn is_in_reach<C: AsCall, A: AsChoice>(
     index: usize,
 ) -> bool {
     let (site, target) = calls[index].as_call();
-    let from = output_offset(deltas, site);
-    let to = output_offset(deltas, target);
+    let from = to_output_offset(deltas, site);
+    let to = to_output_offset(deltas, target);
     if reaches(from, to) {
         return true;
     }
@@ -202,7 +193,7 @@ fn choose_all<A: AsChoice>(answer: &mut [A]) {
 }
 
 /// Whether a call's eight bytes are kept, and the four that it loses may be deleted.
-fn is_placed(deltas: &[RelaxDelta], site: u64) -> bool {
+fn is_shrinkable_site(deltas: &[RelaxDelta], site: u64) -> bool {
     let deltas = DeltaSlice::new(deltas);
     site <= u64::MAX - 8
         && deltas.kept_output_offset(site, 8).is_some()
@@ -210,21 +201,21 @@ fn is_placed(deltas: &[RelaxDelta], site: u64) -> bool {
 }
 
 /// Whether the site of the call at an index is at least 8 above the one before it, if there is one.
-fn is_apart<C: AsCall>(calls: &[C], at: usize) -> bool {
-    let Some(before) = at.checked_sub(1) else {
+fn is_apart<C: AsCall>(calls: &[C], index: usize) -> bool {
+    let Some(before) = index.checked_sub(1) else {
         return true;
     };
-    let (site, _) = calls[at].as_call();
+    let (site, _) = calls[index].as_call();
     let (site_before, _) = calls[before].as_call();
     site.saturating_sub(site_before) >= 8
 }
 
 /// How many of the first calls may be shrunk as far as their sites go.
-fn placed_len<C: AsCall>(deltas: &[RelaxDelta], calls: &[C]) -> usize {
-    for at in 0..calls.len() {
-        let (site, _) = calls[at].as_call();
-        if !is_apart(calls, at) || !is_placed(deltas, site) {
-            return at;
+fn shrinkable_sites_len<C: AsCall>(deltas: &[RelaxDelta], calls: &[C]) -> usize {
+    for index in 0..calls.len() {
+        let (site, _) = calls[index].as_call();
+        if !is_apart(calls, index) || !is_shrinkable_site(deltas, site) {
+            return index;
         }
     }
     calls.len()
@@ -245,12 +236,12 @@ fn call_around<C: AsCall>(calls: &[C], offset: u64) -> Option<usize> {
 }
 
 /// How many of the first calls have no target strictly inside what one of them deletes.
-fn outside_len<C: AsCall>(calls: &[C]) -> usize {
+fn shrinkable_targets_len<C: AsCall>(calls: &[C]) -> usize {
     let mut first = calls.len();
-    for at in 0..calls.len() {
-        let (_, target) = calls[at].as_call();
+    for index in 0..calls.len() {
+        let (_, target) = calls[index].as_call();
         if let Some(other) = call_around(calls, target) {
-            first = first.min(at.max(other));
+            first = first.min(index.max(other));
         }
     }
     first
@@ -264,8 +255,8 @@ fn outside_len<C: AsCall>(calls: &[C]) -> usize {
 /// It doesn't allocate. For k calls and n deltas the work is O(k log n + k log k).
 #[must_use]
 pub fn first_not_shrinkable<C: AsCall>(deltas: &[RelaxDelta], calls: &[C]) -> Option<usize> {
-    let placed = placed_len(deltas, calls);
-    let first = outside_len(&calls[..placed]);
+    let sites = shrinkable_sites_len(deltas, calls);
+    let first = shrinkable_targets_len(&calls[..sites]);
     if first < calls.len() {
         Some(first)
     } else {

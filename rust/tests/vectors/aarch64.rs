@@ -7,7 +7,7 @@ mod moves;
 mod offsets;
 mod pairs;
 
-use crate::rows::expect_eq;
+use crate::rows::{expect, expect_eq};
 use linker_utils::aarch64::{
     AArch64Relocation, RelaxationKind, TLS_TCB_SIZE, relocation_type_from_raw, write_mov_sequence,
 };
@@ -134,41 +134,49 @@ fn movnz_words_match_assemblers() {
         expect_eq(value, flag, negative);
         expect_eq(value, number & 0xffff, value & 0xffff);
     }
-    assert_eq!(
+    expect_eq(
+        "written(AArch64Instruction::Movnz, 0xfffe, true, 0xd2a0_0003)",
         written(AArch64Instruction::Movnz, 0xfffe, true, 0xd2a0_0003),
-        Some(0x92a0_0023)
+        Some(0x92a0_0023),
     );
-    assert_eq!(
+    expect_eq(
+        "read(AArch64Instruction::Movnz, 0x92a0_0023)",
         read(AArch64Instruction::Movnz, 0x92a0_0023),
-        Some((0xffff_ffff_ffff_fffe, true))
+        Some((0xffff_ffff_ffff_fffe, true)),
     );
 }
 
 #[test]
 fn writes_change_the_field_alone() {
-    assert_eq!(
+    expect_eq(
+        "written(AArch64Instruction::LdSt, 0xfff, false, 0)",
         written(AArch64Instruction::LdSt, 0xfff, false, 0),
-        Some(0x003f_fc00)
+        Some(0x003f_fc00),
     );
-    assert_eq!(
+    expect_eq(
+        "read(AArch64Instruction::LdSt, 0x003f_fc00)",
         read(AArch64Instruction::LdSt, 0x003f_fc00),
-        Some((u64::MAX, false))
+        Some((u64::MAX, false)),
     );
-    assert_eq!(
+    expect_eq(
+        "written(AArch64Instruction::Adr, 0x1f_ffff, false, 0x1000_0000)",
         written(AArch64Instruction::Adr, 0x1f_ffff, false, 0x1000_0000),
-        Some(0x70ff_ffe0)
+        Some(0x70ff_ffe0),
     );
-    assert_eq!(
+    expect_eq(
+        "read(AArch64Instruction::Adr, 0x70ff_ffe0)",
         read(AArch64Instruction::Adr, 0x70ff_ffe0),
-        Some((u64::MAX, false))
+        Some((u64::MAX, false)),
     );
-    assert_eq!(
+    expect_eq(
+        "written(AArch64Instruction::MachOLow12, 0x120, false, 0x3dc0_0000)",
         written(AArch64Instruction::MachOLow12, 0x120, false, 0x3dc0_0000),
-        Some(0x3dc0_4800)
+        Some(0x3dc0_4800),
     );
-    assert_eq!(
+    expect_eq(
+        "read(AArch64Instruction::MachOLow12, 0x3dc0_4800)",
         read(AArch64Instruction::MachOLow12, 0x3dc0_4800),
-        Some((0x120, false))
+        Some((0x120, false)),
     );
 }
 
@@ -183,7 +191,7 @@ fn values_past_the_field_are_rejected() {
 #[test]
 fn mov_sequences_match_assemblers() {
     for &(rd, value, words) in &moves::MOV_SEQUENCES {
-        assert!(rd <= 30, "{rd}");
+        expect(rd, rd <= 30);
         let mut bytes = [0u8; 16];
         write_mov_sequence(&mut bytes, rd, value);
         let first = [u32_from_slice(&bytes), u32_from_slice(&bytes[4..])];
@@ -193,10 +201,26 @@ fn mov_sequences_match_assemblers() {
     }
     let mut bytes = [0u8; 16];
     write_mov_sequence(&mut bytes, 5, 0x0123_4567_89ab_cdef);
-    assert_eq!(u32_from_slice(&bytes), 0xd299_bde5);
-    assert_eq!(u32_from_slice(&bytes[4..]), 0xf2b1_3565);
-    assert_eq!(u32_from_slice(&bytes[8..]), 0xf2c8_ace5);
-    assert_eq!(u32_from_slice(&bytes[12..]), 0xf2e0_2465);
+    expect_eq(
+        "u32_from_slice(&bytes)",
+        u32_from_slice(&bytes),
+        0xd299_bde5,
+    );
+    expect_eq(
+        "u32_from_slice(&bytes[4..])",
+        u32_from_slice(&bytes[4..]),
+        0xf2b1_3565,
+    );
+    expect_eq(
+        "u32_from_slice(&bytes[8..])",
+        u32_from_slice(&bytes[8..]),
+        0xf2c8_ace5,
+    );
+    expect_eq(
+        "u32_from_slice(&bytes[12..])",
+        u32_from_slice(&bytes[12..]),
+        0xf2e0_2465,
+    );
 }
 
 /// The immediate of an `adrp` at `pc`: the distance to its target's page, in pages.
@@ -373,11 +397,12 @@ fn rewrites_match_linkers() {
         );
         RelaxationKind::ReplaceWithNop.apply(&mut section, &mut offset, &mut addend);
     }
-    assert_eq!(
+    expect_eq(
+        "section",
         section,
         [
-            0x20, 0, 0xa0, 0xd2, 0, 0, 0x80, 0xf2, 0x1f, 0x20, 3, 0xd5, 0x1f, 0x20, 3, 0xd5
-        ]
+            0x20, 0, 0xa0, 0xd2, 0, 0, 0x80, 0xf2, 0x1f, 0x20, 3, 0xd5, 0x1f, 0x20, 3, 0xd5,
+        ],
     );
 }
 
@@ -434,8 +459,12 @@ fn row(
 
 #[test]
 fn relocations_have_their_meaning() {
-    assert_eq!(TLS_TCB_SIZE, 16);
-    assert_eq!(relocation_type_from_raw(AArch64Relocation::Other(7)), None);
+    expect_eq("TLS_TCB_SIZE", TLS_TCB_SIZE, 16);
+    expect_eq(
+        "relocation_type_from_raw(AArch64Relocation::Other(7))",
+        relocation_type_from_raw(AArch64Relocation::Other(7)),
+        None,
+    );
     let all = AllowedRange::no_check();
     let signed21 = AllowedRange::from_bit_size(21, Sign::Signed);
     let literal = RelocationSize::bit_mask_aarch64(2, 21, AArch64Instruction::Ldr);
@@ -473,7 +502,7 @@ fn relocations_have_their_meaning() {
         ),
     ];
     for &(name, want) in &table {
-        assert_eq!(relocation_type_from_raw(name), want);
+        expect_eq(name, relocation_type_from_raw(name), want);
     }
     let page = RelocationKindInfo {
         kind: RelocationKind::GotRelative,
@@ -485,9 +514,10 @@ fn relocations_have_their_meaning() {
         thunkable: false,
         implicit_addend: false,
     };
-    assert_eq!(
+    expect_eq(
+        "relocation_type_from_raw(AArch64Relocation::R_AARCH64_ADR_GOT_PAGE)",
         relocation_type_from_raw(AArch64Relocation::R_AARCH64_ADR_GOT_PAGE),
-        Some(page)
+        Some(page),
     );
 }
 

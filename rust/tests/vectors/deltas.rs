@@ -2,7 +2,7 @@
 //! Deletions and offsets, worked by hand: an offset's place is the count of kept bytes below it.
 
 use crate::support::*;
-use crate::rows::expect_eq;
+use crate::rows::{expect, expect_eq};
 use linker_utils::relaxation::{
     BlockHead, DeltaSlice, Looks, OutOfMemory, RelaxDelta, RelaxDeltaMap, SectionRelaxDeltas,
     first_invalid, input_to_output_counted, opt_input_to_output, output_to_input_counted,
@@ -11,12 +11,12 @@ use linker_utils::relaxation::{
 fn deltas_of(
     raw: &[(u64, u32)],
 ) -> Result<SectionRelaxDeltas, OutOfMemory> {
-    assert!(SectionRelaxDeltas::is_valid(raw), "{raw:?} is valid");
+    expect(raw, SectionRelaxDeltas::is_valid(raw));
     SectionRelaxDeltas::new(raw)
 }
 
 fn input(deltas: &SectionRelaxDeltas, output_offset: u64) -> u64 {
-    assert!(deltas.output_fits(output_offset), "{output_offset} fits");
+    expect(output_offset, deltas.output_fits(output_offset));
     deltas.output_to_input_offset(output_offset)
 }
 
@@ -29,46 +29,47 @@ struct Row {
     inputs: &'static [(u64, u64)],
 }
 
+static ROWS: [Row; 7] = [
+    Row {
+        raw: &[(4, 4)],
+        outputs: &[(0, 0), (4, 4), (5, 4), (7, 4), (8, 4)],
+        inputs: &[(3, 3), (4, 8)],
+    },
+    Row {
+        raw: &[(4, 4), (8, 4)],
+        outputs: &[(8, 4), (12, 4)],
+        inputs: &[(4, 12)],
+    },
+    Row {
+        raw: &[(4, 0), (6, 2)],
+        outputs: &[(6, 6), (8, 6)],
+        inputs: &[(4, 4), (6, 8)],
+    },
+    Row {
+        raw: &[(0, 4)],
+        outputs: &[(2, 0)],
+        inputs: &[(0, 4)],
+    },
+    Row {
+        raw: &[(4, 4), (12, 2)],
+        outputs: &[(13, 8)],
+        inputs: &[(8, 14)],
+    },
+    Row {
+        raw: &[(u64::MAX - 3, 3)],
+        outputs: &[(u64::MAX - 1, u64::MAX - 3), (u64::MAX, u64::MAX - 3)],
+        inputs: &[(u64::MAX - 3, u64::MAX)],
+    },
+    Row {
+        raw: &[],
+        outputs: &[(0, 0), (u64::MAX, u64::MAX)],
+        inputs: &[(0, 0), (u64::MAX, u64::MAX)],
+    },
+];
+
 #[test]
 fn offsets_are_translated_both_ways() -> Result<(), Fail> {
-    let rows = [
-        Row {
-            raw: &[(4, 4)],
-            outputs: &[(0, 0), (4, 4), (5, 4), (7, 4), (8, 4)],
-            inputs: &[(3, 3), (4, 8)],
-        },
-        Row {
-            raw: &[(4, 4), (8, 4)],
-            outputs: &[(8, 4), (12, 4)],
-            inputs: &[(4, 12)],
-        },
-        Row {
-            raw: &[(4, 0), (6, 2)],
-            outputs: &[(6, 6), (8, 6)],
-            inputs: &[(4, 4), (6, 8)],
-        },
-        Row {
-            raw: &[(0, 4)],
-            outputs: &[(2, 0)],
-            inputs: &[(0, 4)],
-        },
-        Row {
-            raw: &[(4, 4), (12, 2)],
-            outputs: &[(13, 8)],
-            inputs: &[(8, 14)],
-        },
-        Row {
-            raw: &[(u64::MAX - 3, 3)],
-            outputs: &[(u64::MAX - 1, u64::MAX - 3), (u64::MAX, u64::MAX - 3)],
-            inputs: &[(u64::MAX - 3, u64::MAX)],
-        },
-        Row {
-            raw: &[],
-            outputs: &[(0, 0), (u64::MAX, u64::MAX)],
-            inputs: &[(0, 0), (u64::MAX, u64::MAX)],
-        },
-    ];
-    for row in rows {
+    for row in &ROWS {
         let deltas = deltas_of(row.raw)?;
         for (from, to) in row.outputs {
             expect_eq(
@@ -88,8 +89,8 @@ fn offsets_are_translated_both_ways() -> Result<(), Fail> {
 fn deletions_of_no_bytes_are_listed() -> Result<(), Fail> {
     let deltas = deltas_of(&[(4, 0), (6, 2)])?;
     assert!(deltas.has_delta_at(4));
-    assert_eq!(deltas.delta_bytes_at(4), 0);
-    assert_eq!(deltas.delta_bytes_at(6), 2);
+    expect_eq("deltas.delta_bytes_at(4)", deltas.delta_bytes_at(4), 0);
+    expect_eq("deltas.delta_bytes_at(6)", deltas.delta_bytes_at(6), 2);
     assert!(!deltas.has_delta_at(5));
     assert!(!deltas.is_empty());
     Ok(())
@@ -143,18 +144,30 @@ fn merges_sort_and_sum() -> Result<(), Fail> {
     let more = [(16, 4), (0, 2)];
     assert!(merged.is_mergeable(&more));
     merged.merge_additional(&more)?;
-    assert_eq!(sums(&merged), [Some(2), Some(6), Some(10), None]);
-    assert_eq!(merged.total_deleted(), 10);
-    assert_eq!(merged.input_to_output_offset(20), 10);
-    assert_eq!(input(&merged, 0), 2);
+    expect_eq(
+        "sums(&merged)",
+        sums(&merged),
+        [Some(2), Some(6), Some(10), None],
+    );
+    expect_eq("merged.total_deleted()", merged.total_deleted(), 10);
+    expect_eq(
+        "merged.input_to_output_offset(20)",
+        merged.input_to_output_offset(20),
+        10,
+    );
+    expect_eq("input(&rt, &merged, 0)", input(&merged, 0), 2);
 
     let mut batched = deltas_of(&[(8, 4)])?;
     let (second, third) = ([(16, 4)].fallible_to_vec()?, [(0, 2)].fallible_to_vec()?);
     let batches = try_vec![Vec::new(), second, third]?;
     assert!(batched.are_mergeable(&batches));
     batched.merge_all(&batches)?;
-    assert_eq!(batched.deltas(), merged.deltas());
-    assert_eq!(merged.clone()?.deltas(), merged.deltas());
+    expect_eq("batched.deltas()", batched.deltas(), merged.deltas());
+    expect_eq(
+        "merged.clone()?.deltas()",
+        merged.clone()?.deltas(),
+        merged.deltas(),
+    );
     Ok(())
 }
 
@@ -213,21 +226,43 @@ fn invalid_deletions_are_rejected() -> Result<(), Fail> {
 
 #[test]
 fn first_faulty_deletions_are_named() -> Result<(), Fail> {
-    assert_eq!(first_invalid(&[(0, 4), (4, 1)]), None);
-    assert_eq!(first_invalid(&[(0, 4), (3, 1), (2, 1)]), Some(1));
-    assert_eq!(first_invalid(&[(0, 4), (u64::MAX, 1)]), Some(1));
+    expect_eq(
+        "first_invalid(&[(0, 4), (4, 1)])",
+        first_invalid(&[(0, 4), (4, 1)]),
+        None,
+    );
+    expect_eq(
+        "first_invalid(&[(0, 4), (3, 1), (2, 1)])",
+        first_invalid(&[(0, 4), (3, 1), (2, 1)]),
+        Some(1),
+    );
+    expect_eq(
+        "first_invalid(&[(0, 4), (u64::MAX, 1)])",
+        first_invalid(&[(0, 4), (u64::MAX, 1)]),
+        Some(1),
+    );
 
     let deltas = deltas_of(&[(4, 4), (12, 2)])?;
-    assert_eq!(first_invalid(deltas.deltas()), None);
-    let listed = DeltaSlice::new(deltas.deltas());
-    assert_eq!(listed.first_overlapping(&[(8, 4), (0, 4)]), None);
-    assert_eq!(
-        listed.first_overlapping(&[(8, 4), (13, 1), (0, 5)]),
-        Some(1)
+    expect_eq(
+        "first_invalid(deltas.deltas())",
+        first_invalid(deltas.deltas()),
+        None,
     );
-    assert_eq!(
+    let listed = DeltaSlice::new(deltas.deltas());
+    expect_eq(
+        "listed.first_overlapping(&[(8, 4), (0, 4)])",
+        listed.first_overlapping(&[(8, 4), (0, 4)]),
+        None,
+    );
+    expect_eq(
+        "listed.first_overlapping(&[(8, 4), (13, 1), (0, 5)])",
+        listed.first_overlapping(&[(8, 4), (13, 1), (0, 5)]),
+        Some(1),
+    );
+    expect_eq(
+        "listed.first_overlapping(&[(20, 1), (16, 4), (20, 1)])",
         listed.first_overlapping(&[(20, 1), (16, 4), (20, 1)]),
-        Some(2)
+        Some(2),
     );
     Ok(())
 }
@@ -350,24 +385,24 @@ fn cursors_pass_each_deletion_once() -> Result<(), Fail> {
     let deltas = deltas_of(&[(4, 4), (12, 2)])?;
     let mut cursor = deltas.cursor();
     for (query, answer) in [(4, 4), (8, 4), (8, 4), (14, 8), (20, 14)] {
-        assert!(cursor.can_translate(query), "{query}");
+        expect(query, cursor.can_translate(query));
         expect_eq(query, cursor.translate(query), answer);
     }
-    assert_eq!(cursor.turns(), 2);
+    expect_eq("cursor.turns()", cursor.turns(), 2);
     // back again: what is passed stays passed
     assert!(cursor.can_translate(12));
-    assert_eq!(cursor.translate(12), 6);
+    expect_eq("cursor.translate(12)", cursor.translate(12), 6);
     assert!(!cursor.can_translate(5));
     assert!(cursor.can_translate(6));
 
     let mut inside = deltas.cursor();
     for (query, answer) in [(5, 4), (7, 4), (13, 8), (13, 8), (20, 14)] {
-        assert!(inside.can_translate(query), "{query}");
+        expect(query, inside.can_translate(query));
         expect_eq(query, inside.translate(query), answer);
     }
-    assert_eq!(inside.turns(), 2);
+    expect_eq("inside.turns()", inside.turns(), 2);
     assert!(inside.can_translate(12));
-    assert_eq!(inside.translate(12), 6);
+    expect_eq("inside.translate(12)", inside.translate(12), 6);
     assert!(!inside.can_translate(5));
 
     let mut walker = deltas.cursor();
@@ -375,18 +410,18 @@ fn cursors_pass_each_deletion_once() -> Result<(), Fail> {
     let mut answers = [0; 5];
     assert!(walker.can_translate_all(&queries));
     walker.translate_all(&queries, &mut answers);
-    assert_eq!(answers, [4, 4, 4, 8, 14]);
-    assert_eq!(walker.turns(), 2);
+    expect_eq("answers", answers, [4, 4, 4, 8, 14]);
+    expect_eq("walker.turns()", walker.turns(), 2);
 
     let queries = [5, 7, 13, 13, 20];
     let mut walker = deltas.cursor();
     assert!(walker.can_translate_all(&queries));
     walker.translate_all(&queries, &mut answers);
-    assert_eq!(answers, [4, 4, 8, 8, 14]);
+    expect_eq("answers", answers, [4, 4, 8, 8, 14]);
     assert!(!walker.can_translate_all(&[12, 15]));
     assert!(DeltaSlice::can_translate_all(&queries));
     DeltaSlice::new(deltas.deltas()).translate_all(&queries, &mut answers);
-    assert_eq!(answers, [4, 4, 8, 8, 14]);
+    expect_eq("answers", answers, [4, 4, 8, 8, 14]);
     assert!(!DeltaSlice::can_translate_all(&[5, 4]));
     Ok(())
 }
@@ -414,16 +449,36 @@ fn maps_keep_each_section() -> Result<(), Fail> {
     if map.insert_sorted(1, first).is_err() {
         return Err(Fail::from("no memory"));
     }
-    assert_eq!(map.last_index(), Some(3));
+    expect_eq("map.last_index()", map.last_index(), Some(3));
     assert!(map.get(2).is_none());
-    assert_eq!(map.get(1).map(|d| d.total_deleted()), Some(4));
-    assert_eq!(map.get(3).map(|d| d.total_deleted()), Some(2));
+    expect_eq(
+        "map.get(1).map(|d| d.total_deleted())",
+        map.get(1).map(|d| d.total_deleted()),
+        Some(4),
+    );
+    expect_eq(
+        "map.get(3).map(|d| d.total_deleted())",
+        map.get(3).map(|d| d.total_deleted()),
+        Some(2),
+    );
     if let Some(lent) = map.get_mut(1) {
         assert!(lent.is_mergeable(&[(0, 2)]));
         lent.merge_additional(&[(0, 2)])?;
     }
-    assert_eq!(map.get(1).map(|d| d.total_deleted()), Some(6));
-    assert_eq!(map.get(3).map(|d| d.total_deleted()), Some(2));
-    assert_eq!(map.clone()?.get(1).map(|d| d.total_deleted()), Some(6));
+    expect_eq(
+        "map.get(1).map(|d| d.total_deleted())",
+        map.get(1).map(|d| d.total_deleted()),
+        Some(6),
+    );
+    expect_eq(
+        "map.get(3).map(|d| d.total_deleted())",
+        map.get(3).map(|d| d.total_deleted()),
+        Some(2),
+    );
+    expect_eq(
+        "map.clone()?.get(1).map(|d| d.total_deleted())",
+        map.clone()?.get(1).map(|d| d.total_deleted()),
+        Some(6),
+    );
     Ok(())
 }

@@ -78,8 +78,16 @@ fn a_jump_links_the_register_that_gnu_ld_takes() {
     }
     let mut section = TAIL;
     let auipc = LinkRegister::OfAuipc;
-    assert_eq!(jal_site_with(&mut section, 0, 8194, auipc), Ok(()));
-    assert_eq!(u32_from_slice(&section), 0x0020_236f);
+    expect_eq(
+        "jal_site_with(&mut section, 0, 8194, auipc)",
+        jal_site_with(&mut section, 0, 8194, auipc),
+        Ok(()),
+    );
+    expect_eq(
+        "u32_from_slice(&section)",
+        u32_from_slice(&section),
+        0x0020_236f,
+    );
 }
 
 #[test]
@@ -95,7 +103,7 @@ fn only_a_call_has_a_jalr() {
         let mut section = row;
         let result = jal_site_with(&mut section, 0, 1_048_577, LinkRegister::OfJalr);
         expect_eq(row, result, Err(JumpError::NotACall));
-        assert_eq!(section, row);
+        expect_eq(row, section, row);
     }
     let rows = [
         (1, 8, CallError::OutOfSection),
@@ -107,7 +115,7 @@ fn only_a_call_has_a_jalr() {
         let mut section = TAIL;
         let result = jal_site_with(&mut section, site, distance, LinkRegister::OfJalr);
         expect_eq((site, distance), result, Err(JumpError::Call(error)));
-        assert_eq!(section, TAIL);
+        expect_eq((site, distance), section, TAIL);
     }
 }
 
@@ -119,77 +127,78 @@ struct Row {
     result: Result<u32, CallError>,
 }
 
+static ROWS: [Row; 11] = [
+    Row {
+        raw: &[],
+        site: 0,
+        target: 8,
+        result: Ok(0x0080_00ef),
+    },
+    Row {
+        raw: &[(4, 4)],
+        site: 0,
+        target: 8,
+        result: Ok(0x0040_00ef),
+    },
+    Row {
+        raw: &[(4, 4)],
+        site: 0,
+        target: 12,
+        result: Ok(0x0080_00ef),
+    },
+    Row {
+        raw: &[(0, 4)],
+        site: 0,
+        target: 8,
+        result: Err(CallError::SiteDeleted),
+    },
+    Row {
+        raw: &[(4, 4)],
+        site: 3,
+        target: 8,
+        result: Err(CallError::SiteDeleted),
+    },
+    Row {
+        raw: &[(2, 0)],
+        site: 0,
+        target: 8,
+        result: Ok(0x0080_00ef),
+    },
+    Row {
+        raw: &[(4, 4)],
+        site: 0,
+        target: 6,
+        result: Ok(0x0040_00ef),
+    },
+    Row {
+        raw: &[(4, 1)],
+        site: 0,
+        target: 8,
+        result: Err(CallError::OddDistance),
+    },
+    Row {
+        raw: &[(10, 4)],
+        site: 0,
+        target: 12,
+        result: Ok(0x00a0_00ef),
+    },
+    Row {
+        raw: &[],
+        site: 0,
+        target: 13,
+        result: Err(CallError::OutOfSection),
+    },
+    Row {
+        raw: &[],
+        site: u64::MAX,
+        target: 0,
+        result: Err(CallError::OutOfSection),
+    },
+];
+
 #[test]
 fn calls_jump_to_their_translated_target() -> Result<(), Fail> {
-    let rows = [
-        Row {
-            raw: &[],
-            site: 0,
-            target: 8,
-            result: Ok(0x0080_00ef),
-        },
-        Row {
-            raw: &[(4, 4)],
-            site: 0,
-            target: 8,
-            result: Ok(0x0040_00ef),
-        },
-        Row {
-            raw: &[(4, 4)],
-            site: 0,
-            target: 12,
-            result: Ok(0x0080_00ef),
-        },
-        Row {
-            raw: &[(0, 4)],
-            site: 0,
-            target: 8,
-            result: Err(CallError::SiteDeleted),
-        },
-        Row {
-            raw: &[(4, 4)],
-            site: 3,
-            target: 8,
-            result: Err(CallError::SiteDeleted),
-        },
-        Row {
-            raw: &[(2, 0)],
-            site: 0,
-            target: 8,
-            result: Ok(0x0080_00ef),
-        },
-        Row {
-            raw: &[(4, 4)],
-            site: 0,
-            target: 6,
-            result: Ok(0x0040_00ef),
-        },
-        Row {
-            raw: &[(4, 1)],
-            site: 0,
-            target: 8,
-            result: Err(CallError::OddDistance),
-        },
-        Row {
-            raw: &[(10, 4)],
-            site: 0,
-            target: 12,
-            result: Ok(0x00a0_00ef),
-        },
-        Row {
-            raw: &[],
-            site: 0,
-            target: 13,
-            result: Err(CallError::OutOfSection),
-        },
-        Row {
-            raw: &[],
-            site: u64::MAX,
-            target: 0,
-            result: Err(CallError::OutOfSection),
-        },
-    ];
-    for row in rows {
+    for row in &ROWS {
         assert!(SectionRelaxDeltas::is_valid(row.raw));
         let deltas = SectionRelaxDeltas::new(row.raw)?;
         let mut section = CALL;
@@ -200,8 +209,8 @@ fn calls_jump_to_their_translated_target() -> Result<(), Fail> {
             row.result,
         );
         match row.result {
-            Ok(_) => assert_eq!(section[4..], CALL[4..]),
-            Err(_) => assert_eq!(section, CALL),
+            Ok(_) => expect_eq((row.site, row.target), &section[4..], &CALL[4..]),
+            Err(_) => expect_eq((row.site, row.target), section, CALL),
         }
     }
     Ok(())

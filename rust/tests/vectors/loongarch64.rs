@@ -212,21 +212,25 @@ fn address_sequences_match_linkers() {
         );
         expect_eq((target, pc), e, 0x0010_9484);
     }
-    assert_eq!(
+    expect_eq(
+        "highest_relocation_with_bias(0x800, 8)",
         highest_relocation_with_bias(0x800, 8),
-        0xffff_ffff_8000_1000
+        0xffff_ffff_8000_1000,
     );
-    assert_eq!(
+    expect_eq(
+        "addressed([0; 20], 0, 0x800)",
         addressed([0; 20], 0, 0x800),
-        [0x20, 0x0020_0000, 0x01ff_ffe0, 0x003f_fc00, 0]
+        [0x20, 0x0020_0000, 0x01ff_ffe0, 0x003f_fc00, 0],
     );
-    assert_eq!(
+    expect_eq(
+        "highest_relocation_with_bias(0xffff_ffff_8000_0000, 0x1008)",
         highest_relocation_with_bias(0xffff_ffff_8000_0000, 0x1008),
-        0xffff_ffff_ffff_f000
+        0xffff_ffff_ffff_f000,
     );
-    assert_eq!(
+    expect_eq(
+        "addressed([0; 20], 0x1000, 0xffff_ffff_8000_0000)",
         addressed([0; 20], 0x1000, 0xffff_ffff_8000_0000),
-        [0x00ff_ffe0, 0, 0x01ff_ffe0, 0x003f_fc00, 0]
+        [0x00ff_ffe0, 0, 0x01ff_ffe0, 0x003f_fc00, 0],
     );
 }
 
@@ -234,53 +238,70 @@ fn address_sequences_match_linkers() {
 fn calls_wrap_at_the_ends_of_their_range() {
     let form = LoongArch64Instruction::Call36;
     let last: u64 = (1 << 37) - (1 << 17) - 4;
-    assert_eq!(
+    expect_eq(
+        "written(&rt, form, 0, last.extract_bit_range(2..38))",
         written(form, 0, last.extract_bit_range(2..38)),
-        0x01ff_fc00_00ff_ffe0
+        0x01ff_fc00_00ff_ffe0,
     );
-    assert_eq!(read(form, 0x01ff_fc00_00ff_ffe0), (last / 4, false));
+    expect_eq(
+        "read(&rt, form, 0x01ff_fc00_00ff_ffe0)",
+        read(form, 0x01ff_fc00_00ff_ffe0),
+        (last / 4, false),
+    );
     let past: u64 = (1 << 37) - (1 << 17);
-    assert_eq!(
+    expect_eq(
+        "written(&rt, form, 0, past.extract_bit_range(2..38))",
         written(form, 0, past.extract_bit_range(2..38)),
-        0x0200_0000_0100_0000
+        0x0200_0000_0100_0000,
     );
     let back = (-4i64).cast_unsigned().extract_bit_range(2..38);
-    assert_eq!(written(form, 0, back), 0x03ff_fc00_0000_0000);
-    assert_eq!(
+    expect_eq(
+        "written(&rt, form, 0, back)",
+        written(form, 0, back),
+        0x03ff_fc00_0000_0000,
+    );
+    expect_eq(
+        "read(&rt, form, 0x03ff_fc00_0000_0000)",
         read(form, 0x03ff_fc00_0000_0000),
-        ((1 << 36) - 1, false)
+        ((1 << 36) - 1, false),
     );
-    assert_eq!(
+    expect_eq(
+        "written(&rt, LoongArch64Instruction::Call30, 0, 0xf_ffff)",
         written(LoongArch64Instruction::Call30, 0, 0xf_ffff),
-        0x0007_fc00_01ff_c000
+        0x0007_fc00_01ff_c000,
     );
-    assert_eq!(
+    expect_eq(
+        "read(&rt, LoongArch64Instruction::Call30, 0x0007_fc00_01ff_c000)",
         read(LoongArch64Instruction::Call30, 0x0007_fc00_01ff_c000),
-        (0xf_ffff, false)
+        (0xf_ffff, false),
     );
 }
 
 #[test]
 fn fields_of_ones_are_written_and_read() {
-    assert_eq!(
+    expect_eq(
+        "written(&rt, LoongArch64Instruction::Branch21, 0x4000_0000, 0x1f_ffff )",
         written(
             LoongArch64Instruction::Branch21,
             0x4000_0000,
-            0x1f_ffff
+            0x1f_ffff,
         ),
-        0x43ff_fc1f
+        0x43ff_fc1f,
     );
-    assert_eq!(
+    expect_eq(
+        "read(&rt, LoongArch64Instruction::Branch21, 0x43ff_fc1f)",
         read(LoongArch64Instruction::Branch21, 0x43ff_fc1f),
-        (u64::MAX, true)
+        (u64::MAX, true),
     );
-    assert_eq!(
+    expect_eq(
+        "written(&rt, LoongArch64Instruction::Shift10, 0x02c0_0000, 0x800)",
         written(LoongArch64Instruction::Shift10, 0x02c0_0000, 0x800),
-        0x02e0_0000
+        0x02e0_0000,
     );
-    assert_eq!(
+    expect_eq(
+        "read(&rt, LoongArch64Instruction::Shift10, 0x02e0_0000)",
         read(LoongArch64Instruction::Shift10, 0x02e0_0000),
-        (0x800, false)
+        (0x800, false),
     );
 }
 
@@ -291,8 +312,12 @@ fn nops_are_written_and_other_names_have_no_meaning() {
     let mut addend = 7;
     assert!(RelaxationKind::ReplaceWithNop.can_apply(&section, 1));
     RelaxationKind::ReplaceWithNop.apply(&mut section, &mut offset, &mut addend);
-    assert_eq!(section, [0xff, 0x00, 0x00, 0x40, 0x03, 0xff]);
-    assert_eq!((offset, addend), (1, 7));
+    expect_eq(
+        "section",
+        section,
+        [0xff, 0x00, 0x00, 0x40, 0x03, 0xff],
+    );
+    expect_eq("(offset, addend)", (offset, addend), (1, 7));
     assert!(relocation_type_from_raw(LoongArch64Relocation::Other(7)).is_none());
     assert!(
         relocation_type_from_raw(LoongArch64Relocation::R_LARCH_TLS_LD_PCREL20_S2).is_none()

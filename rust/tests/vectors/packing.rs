@@ -3,6 +3,7 @@
 //! unprivileged ISA.
 
 use crate::support::*;
+use crate::rows::{expect, expect_eq};
 use linker_utils::relaxation::{
     PackError, RejectedCall, SectionRelaxDeltas, calls_apart, pack_into, pack_section, packed_len,
 };
@@ -32,75 +33,76 @@ struct Row {
     packed: Result<&'static [u8], PackError>,
 }
 
+static ROWS: [Row; 8] = [
+    Row {
+        section: &CALL,
+        deletions: &[(4, 4)],
+        calls: &[(0, 8)],
+        packed: Ok(&[0xef, 0x00, 0x40, 0x00, 0x13, 0x00, 0x00, 0x00]),
+    },
+    Row {
+        section: &CALL,
+        deletions: &[(4, 4)],
+        calls: &[(0, 6)],
+        packed: Ok(&[0xef, 0x00, 0x40, 0x00, 0x13, 0x00, 0x00, 0x00]),
+    },
+    Row {
+        section: &CALL,
+        deletions: &[(4, 4)],
+        calls: &[(0, 8), (4, 0)],
+        packed: Err(PackError::Call {
+            index: 1,
+            error: CallError::SiteDeleted,
+        }),
+    },
+    Row {
+        section: &CALL,
+        deletions: &[(4, 4)],
+        calls: &[(0, 13), (4, 0)],
+        packed: Err(PackError::Call {
+            index: 0,
+            error: CallError::OutOfSection,
+        }),
+    },
+    Row {
+        section: &CALL,
+        deletions: &[(10, 4)],
+        calls: &[],
+        packed: Ok(&[0x97, 0x00, 0x00, 0x00, 0xe7, 0x80, 0x00, 0x00, 0x13, 0x00]),
+    },
+    Row {
+        section: &CALL,
+        deletions: &[(12, 4)],
+        calls: &[],
+        packed: Ok(&CALL),
+    },
+    Row {
+        section: &TWO_CALLS,
+        deletions: &[(4, 4), (12, 4)],
+        calls: &[(0, 16), (8, 0)],
+        packed: Ok(&[
+            0xef, 0x00, 0x80, 0x00, 0xef, 0xf0, 0xdf, 0xff, 0x13, 0x00, 0x00, 0x00,
+        ]),
+    },
+    Row {
+        section: &[],
+        deletions: &[],
+        calls: &[],
+        packed: Ok(&[]),
+    },
+];
+
 #[test]
 fn sections_are_packed() -> Result<(), Fail> {
-    let rows = [
-        Row {
-            section: &CALL,
-            deletions: &[(4, 4)],
-            calls: &[(0, 8)],
-            packed: Ok(&[0xef, 0x00, 0x40, 0x00, 0x13, 0x00, 0x00, 0x00]),
-        },
-        Row {
-            section: &CALL,
-            deletions: &[(4, 4)],
-            calls: &[(0, 6)],
-            packed: Ok(&[0xef, 0x00, 0x40, 0x00, 0x13, 0x00, 0x00, 0x00]),
-        },
-        Row {
-            section: &CALL,
-            deletions: &[(4, 4)],
-            calls: &[(0, 8), (4, 0)],
-            packed: Err(PackError::Call {
-                index: 1,
-                error: CallError::SiteDeleted,
-            }),
-        },
-        Row {
-            section: &CALL,
-            deletions: &[(4, 4)],
-            calls: &[(0, 13), (4, 0)],
-            packed: Err(PackError::Call {
-                index: 0,
-                error: CallError::OutOfSection,
-            }),
-        },
-        Row {
-            section: &CALL,
-            deletions: &[(10, 4)],
-            calls: &[],
-            packed: Ok(&[0x97, 0x00, 0x00, 0x00, 0xe7, 0x80, 0x00, 0x00, 0x13, 0x00]),
-        },
-        Row {
-            section: &CALL,
-            deletions: &[(12, 4)],
-            calls: &[],
-            packed: Ok(&CALL),
-        },
-        Row {
-            section: &TWO_CALLS,
-            deletions: &[(4, 4), (12, 4)],
-            calls: &[(0, 16), (8, 0)],
-            packed: Ok(&[
-                0xef, 0x00, 0x80, 0x00, 0xef, 0xf0, 0xdf, 0xff, 0x13, 0x00, 0x00, 0x00,
-            ]),
-        },
-        Row {
-            section: &[],
-            deletions: &[],
-            calls: &[],
-            packed: Ok(&[]),
-        },
-    ];
-    for row in rows {
+    for row in &ROWS {
         assert!(SectionRelaxDeltas::is_valid(row.deletions));
         assert!(calls_apart(row.calls));
         let deltas = SectionRelaxDeltas::new(row.deletions)?;
         let packed = pack_section(row.section, &deltas, row.calls);
         match (packed, row.packed) {
-            (Ok(packed), Ok(want)) => assert_eq!(packed.as_slice(), want),
-            (Err(error), Err(want)) => assert_eq!(error, want),
-            (Ok(_), Err(_)) | (Err(_), Ok(_)) => assert!(false, "{:?}", row.calls),
+            (Ok(packed), Ok(want)) => expect_eq(row.calls, packed.as_slice(), want),
+            (Err(error), Err(want)) => expect_eq(row.calls, error, want),
+            (Ok(_), Err(_)) | (Err(_), Ok(_)) => expect(row.calls, false),
         }
     }
     Ok(())
@@ -130,11 +132,11 @@ fn packed_jumps_link_the_register_that_is_chosen() -> Result<(), Fail> {
         (LinkRegister::OfAuipc, [0x6f, 0x03, 0x40, 0x00]),
     ] {
         let mut out = [0; 8];
-        assert_eq!(packed_len(&TAIL, deltas), out.len());
+        assert!(packed_len(&TAIL, deltas) == out.len());
         let packed = pack_into(&TAIL, deltas, &calls, link, &mut out);
-        assert_eq!(packed, Ok(()));
-        assert_eq!(&out[..4], jal.as_slice());
-        assert_eq!(&out[4..], &TAIL[8..]);
+        expect_eq(link, packed, Ok(()));
+        expect_eq(link, &out[..4], jal.as_slice());
+        expect_eq(link, &out[4..], &TAIL[8..]);
     }
     Ok(())
 }
@@ -156,26 +158,27 @@ fn rejected_calls_leave_the_output() -> Result<(), Fail> {
     ] {
         let mut out = [0xaa; 8];
         assert!(calls_apart(&calls));
-        assert_eq!(packed_len(&TAIL, deltas), out.len());
+        assert!(packed_len(&TAIL, deltas) == out.len());
         let packed = pack_into(&TAIL, deltas, &calls, LinkRegister::OfJalr, &mut out);
-        assert_eq!(packed, Err(RejectedCall { index, error }));
-        assert_eq!(out, [0xaa; 8]);
+        expect_eq(index, packed, Err(RejectedCall { index, error }));
+        expect_eq(index, out, [0xaa; 8]);
     }
     let mut out = [0xaa; 16];
     let calls = [(8u64, 16u64)];
     assert!(calls_apart(&calls));
-    assert_eq!(packed_len(&TWO_CALLS, deltas), out.len());
+    assert!(packed_len(&TWO_CALLS, deltas) == out.len());
     let packed = pack_into(&TWO_CALLS, deltas, &calls, LinkRegister::OfJalr, &mut out);
-    assert_eq!(packed, Ok(()));
+    expect_eq("packed", packed, Ok(()));
     let calls = [(12u64, 16u64)];
     assert!(calls_apart(&calls));
     let packed = pack_into(&TWO_CALLS, deltas, &calls, LinkRegister::OfJalr, &mut out);
-    assert_eq!(
+    expect_eq(
+        "packed",
         packed,
         Err(RejectedCall {
             index: 0,
             error: JumpError::NotACall,
-        })
+        }),
     );
     Ok(())
 }

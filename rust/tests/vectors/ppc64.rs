@@ -547,13 +547,15 @@ fn branch24_words_match_assemblers() {
 
 #[test]
 fn writes_change_the_field_alone() {
-    assert_eq!(
+    expect_eq(
+        "written(Ppc64Instruction::D, 0x12345, 0xabcd_0000)",
         written(Ppc64Instruction::D, 0x12345, 0xabcd_0000),
-        0xabcd_2345
+        0xabcd_2345,
     );
-    assert_eq!(
+    expect_eq(
+        "written(Ppc64Instruction::Branch24, 0x3ff_ffff, 0x4800_0001)",
         written(Ppc64Instruction::Branch24, 0x3ff_ffff, 0x4800_0001),
-        0x4bff_fffd
+        0x4bff_fffd,
     );
 }
 
@@ -562,13 +564,15 @@ fn ha_lo_pairs_match_linkers() {
     for &(ha, lo, value, high, low) in &ADDI_PAIRS {
         expect_eq(value, pair_written(ha, lo, value), (high, low));
     }
-    assert_eq!(
+    expect_eq(
+        "pair_written(0x3c00_0000, 0x3800_0000, 0x8000)",
         pair_written(0x3c00_0000, 0x3800_0000, 0x8000),
-        (0x3c00_0001, 0x3800_8000)
+        (0x3c00_0001, 0x3800_8000),
     );
-    assert_eq!(
+    expect_eq(
+        "pair_written(0x3c00_0000, 0x3800_0000, u64::MAX)",
         pair_written(0x3c00_0000, 0x3800_0000, u64::MAX),
-        (0x3c00_0000, 0x3800_ffff)
+        (0x3c00_0000, 0x3800_ffff),
     );
 }
 
@@ -591,12 +595,13 @@ fn no_ops_change_nothing() {
     let mut offset = u64::MAX;
     let mut addend = 7;
     RelaxationKind::NoOp.apply(&mut section, &mut offset, &mut addend);
-    assert_eq!(section, [1, 2, 3, 4]);
-    assert_eq!((offset, addend), (u64::MAX, 7));
+    expect_eq("section", section, [1, 2, 3, 4]);
+    expect_eq("(offset, addend)", (offset, addend), (u64::MAX, 7));
     assert!(RelaxationKind::NoOp.can_apply(&[], u64::MAX));
-    assert_eq!(
+    expect_eq(
+        "RelaxationKind::NoOp.next_modifier()",
         RelaxationKind::NoOp.next_modifier(),
-        RelocationModifier::Normal
+        RelocationModifier::Normal,
     );
 }
 

@@ -2,6 +2,7 @@
 //! Words, masks, ULEB128 numbers and texts of a section, and their errors.
 
 use crate::support::*;
+use crate::rows::expect_eq;
 use linker_utils::utils::{
     Uleb128Error, and_from_slice, or_from_slice, read_string, read_u32, read_uleb128,
     u32_from_slice, u64_from_slice, write_uleb128,
@@ -10,20 +11,33 @@ use linker_utils::utils::{
 #[test]
 fn takes_words_lowest_byte_first() -> Result<(), Fail> {
     let bytes = [1, 2, 3, 4, 5, 6, 7, 0x88, 9];
-    assert_eq!(u32_from_slice(&bytes), 0x0403_0201);
-    assert_eq!(u64_from_slice(&bytes), 0x8807_0605_0403_0201);
+    expect_eq(
+        "u32_from_slice(&bytes)",
+        u32_from_slice(&bytes),
+        0x0403_0201,
+    );
+    expect_eq(
+        "u64_from_slice(&bytes)",
+        u64_from_slice(&bytes),
+        0x8807_0605_0403_0201,
+    );
 
     let mut content: &[u8] = &[1, 2, 3, 4, 5];
-    assert_eq!(read_u32(&mut content)?, 0x0403_0201);
-    assert_eq!(content, [5].as_slice());
+    expect_eq(
+        "read_u32(&mut content)?",
+        read_u32(&mut content)?,
+        0x0403_0201,
+    );
+    expect_eq("content", content, [5].as_slice());
 
     let mut short: &[u8] = &[1, 2, 3];
     let error = read_u32(&mut short).expect_err("three bytes");
-    assert_eq!(
+    expect_eq(
+        "InlineText::<120>::of(error).as_str()",
         InlineText::<120>::of(error).as_str(),
-        "Not enough bytes to read u32"
+        "Not enough bytes to read u32",
     );
-    assert_eq!(short, [1, 2, 3].as_slice());
+    expect_eq("short", short, [1, 2, 3].as_slice());
     Ok(())
 }
 
@@ -31,9 +45,9 @@ fn takes_words_lowest_byte_first() -> Result<(), Fail> {
 fn masks_the_bytes_below_the_length_of_the_mask() {
     let mut dest = [0x0f, 0x30, 0x55];
     or_from_slice(&mut dest, &[0x81, 0x02]);
-    assert_eq!(dest, [0x8f, 0x32, 0x55]);
+    expect_eq("dest", dest, [0x8f, 0x32, 0x55]);
     and_from_slice(&mut dest, &[0x7f, 0xf0]);
-    assert_eq!(dest, [0x0f, 0x30, 0x55]);
+    expect_eq("dest", dest, [0x0f, 0x30, 0x55]);
 }
 
 #[test]
@@ -52,8 +66,8 @@ fn reads_uleb128_of_ten_bytes_at_most() -> Result<(), Fail> {
     ];
     for (bytes, number, rest) in read {
         let mut content = bytes;
-        assert_eq!(read_uleb128(&mut content)?, number, "of {bytes:?}");
-        assert_eq!(content, rest, "after {bytes:?}");
+        expect_eq(bytes, read_uleb128(&mut content)?, number);
+        expect_eq(bytes, content, rest);
     }
 
     let ended = "Failed to read ULEB128 value: ended";
@@ -68,8 +82,8 @@ fn reads_uleb128_of_ten_bytes_at_most() -> Result<(), Fail> {
     for (bytes, text) in rejected {
         let mut content = bytes;
         let error = read_uleb128(&mut content).expect_err("no number");
-        assert_eq!(InlineText::<120>::of(error).as_str(), text, "of {bytes:?}");
-        assert_eq!(content, bytes);
+        expect_eq(bytes, InlineText::<120>::of(error).as_str(), text);
+        expect_eq(bytes, content, bytes);
     }
     Ok(())
 }
@@ -78,14 +92,30 @@ fn reads_uleb128_of_ten_bytes_at_most() -> Result<(), Fail> {
 #[test]
 fn writes_uleb128_in_as_many_bytes() {
     let mut dest = [0x80, 0x01, 9];
-    assert_eq!(write_uleb128(&mut dest, 12857), Ok(()));
-    assert_eq!(dest, [0xb9, 0x64, 9]);
-    assert_eq!(write_uleb128(&mut dest, 127), Ok(()));
-    assert_eq!(dest, [0xff, 0x00, 9]);
+    expect_eq(
+        "write_uleb128(&mut dest, 12857)",
+        write_uleb128(&mut dest, 12857),
+        Ok(()),
+    );
+    expect_eq("dest", dest, [0xb9, 0x64, 9]);
+    expect_eq(
+        "write_uleb128(&mut dest, 127)",
+        write_uleb128(&mut dest, 127),
+        Ok(()),
+    );
+    expect_eq("dest", dest, [0xff, 0x00, 9]);
     let too_short = Err(Uleb128Error::DoesNotFit);
-    assert_eq!(write_uleb128(&mut dest, 1 << 14), too_short);
-    assert_eq!(dest, [0xff, 0x00, 9]);
-    assert_eq!(write_uleb128(&mut dest[..1], 1), Err(Uleb128Error::Ended));
+    expect_eq(
+        "write_uleb128(&mut dest, 1 << 14)",
+        write_uleb128(&mut dest, 1 << 14),
+        too_short,
+    );
+    expect_eq("dest", dest, [0xff, 0x00, 9]);
+    expect_eq(
+        "write_uleb128(&mut dest[..1], 1)",
+        write_uleb128(&mut dest[..1], 1),
+        Err(Uleb128Error::Ended),
+    );
 }
 
 #[test]
@@ -97,8 +127,12 @@ fn reads_the_text_before_a_nul() -> Result<(), Fail> {
     ];
     for (bytes, text, rest) in read {
         let mut content = bytes;
-        assert_eq!(read_string(&mut content)?.as_str(), text);
-        assert_eq!(content, rest);
+        expect_eq(
+            bytes,
+            read_string(&mut content)?.as_str(),
+            text,
+        );
+        expect_eq(bytes, content, rest);
     }
     Ok(())
 }

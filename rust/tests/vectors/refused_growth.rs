@@ -214,7 +214,11 @@ fn a_refused_choice_is_made_when_tried_again() -> Result<(), Fail> {
     assert!(calls_shrinkable(&none, &calls));
     let chosen = shrink_calls(&none, &calls);
     let chosen = chosen.or_else(|_| shrink_calls(&none, &calls))?;
-    assert_eq!(chosen.as_slice(), [true, false].as_slice());
+    expect_eq(
+        "chosen.as_slice()",
+        chosen.as_slice(),
+        [true, false].as_slice(),
+    );
     Ok(())
 }
 
@@ -222,23 +226,28 @@ fn a_refused_choice_is_made_when_tried_again() -> Result<(), Fail> {
 fn an_error_leaves_the_text_unread() -> Result<(), Fail> {
     let mut endless: &[u8] = b"ab";
     let error = read_string(&mut endless).expect_err("no NUL");
-    assert_eq!(
+    expect_eq(
+        "InlineText::<120>::of(error).as_str()",
         InlineText::<120>::of(error).as_str(),
-        "No null terminator found in string"
+        "No null terminator found in string",
     );
-    assert_eq!(endless, b"ab".as_slice());
+    expect_eq("endless", endless, b"ab".as_slice());
 
     let texts: [(&[u8], &str); 2] = [(b"a\0b", "a"), (b"a\xff\0b", "a\u{fffd}")];
     for (bytes, text) in texts {
         let mut content = bytes;
         let mut read = read_string(&mut content);
         if let Err(error) = read {
-            assert_eq!(InlineText::<120>::of(error).as_str(), "Out of memory");
-            assert_eq!(content, bytes);
+            expect_eq(
+                "InlineText::<120>::of(error).as_str()",
+                InlineText::<120>::of(error).as_str(),
+                "Out of memory",
+            );
+            expect_eq(bytes, content, bytes);
             read = read_string(&mut content);
         }
-        assert_eq!(read?.as_str(), text);
-        assert_eq!(content, b"b".as_slice());
+        expect_eq(bytes, read?.as_str(), text);
+        expect_eq(bytes, content, b"b".as_slice());
     }
     Ok(())
 }

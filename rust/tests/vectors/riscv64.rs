@@ -5,7 +5,7 @@
 mod pairs;
 mod words;
 
-use crate::rows::expect_eq;
+use crate::rows::{expect, expect_eq};
 use linker_utils::elf::{
     AllowedRange, Bias, InstructionForm, RelocationInstruction, RelocationSize, RiscVInstruction,
     Sign,
@@ -160,7 +160,7 @@ fn shortened_lui_match_gnu_ld() {
     ];
     for (before, value, after) in table {
         let value = value.cast_unsigned();
-        assert!(RelaxationKind::hi20_fits_clui(value), "{value}");
+        expect(value, RelaxationKind::hi20_fits_clui(value));
         let mut section = before;
         let mut offset = 0;
         let mut addend = 0;
@@ -187,7 +187,7 @@ fn deleted_lui_match_gnu_ld() {
         ),
     ];
     for (before, value, after) in table {
-        assert!(RelaxationKind::hi20_is_zero(value), "{value}");
+        expect(value, RelaxationKind::hi20_is_zero(value));
         let mut section = before;
         let mut addend = 0;
         let mut high = 0;
@@ -307,19 +307,23 @@ fn immediates_match_the_manual() {
     }
     let mut call = [0; 8];
     RiscVInstruction::UiType.write_to_value(0x800, false, &mut call);
-    assert_eq!(call, both([0x0000_1000, 0x8000_0000]));
-    assert_eq!(RiscVInstruction::UiType.read_value(&call), (0x800, false));
+    expect_eq("call", call, both([0x0000_1000, 0x8000_0000]));
+    expect_eq(
+        "RiscVInstruction::UiType.read_value(&call)",
+        RiscVInstruction::UiType.read_value(&call),
+        (0x800, false),
+    );
 }
 
 #[test]
 fn trait_calls_match_calls_of_the_form() {
     let insn = RelocationInstruction::RiscV(RiscVInstruction::UiType);
     let mut call = both([0x0000_0097, 0x0000_80e7]);
-    assert_eq!(insn.window(), 8);
+    expect_eq("insn.window()", insn.window(), 8);
     assert!(insn.fits(u64::MAX, &call));
     insn.write(0x800, false, &mut call);
-    assert_eq!(call, both([0x0000_1097, 0x8000_80e7]));
-    assert_eq!(insn.read(&call), (0x800, false));
+    expect_eq("call", call, both([0x0000_1097, 0x8000_80e7]));
+    expect_eq("insn.read(&call)", insn.read(&call), (0x800, false));
 }
 
 #[test]
@@ -332,7 +336,7 @@ fn rewrites_of_one_instruction_match_worked_words() {
     ];
     for (kind, before, after) in table {
         let mut section = before.to_le_bytes();
-        assert!(kind.can_apply(&section, 0), "{kind:?}");
+        expect(kind, kind.can_apply(&section, 0));
         let mut offset = 0;
         let mut addend = 5;
         kind.apply(&mut section, &mut offset, &mut addend);
@@ -342,7 +346,11 @@ fn rewrites_of_one_instruction_match_worked_words() {
     let mut half = 0x0000_0537u32.to_le_bytes();
     RelaxationKind::Hi20ToCLui.apply(&mut half, &mut 0, &mut 0);
     RiscVInstruction::CluiType.write_to_value((-0x1000i64).cast_unsigned(), true, &mut half);
-    assert_eq!(u32::from_le_bytes(half), 0x757d);
+    expect_eq(
+        "u32::from_le_bytes(half)",
+        u32::from_le_bytes(half),
+        0x757d,
+    );
 }
 
 #[test]
@@ -386,7 +394,11 @@ fn tail_calls_are_not_plain_calls() {
     let tail = [0x17, 0x03, 0x00, 0x00, 0x67, 0x00, 0x03, 0x00];
     assert!(!is_plain_call(&tail, 0));
     let mut section = tail;
-    assert_eq!(jal_site(&mut section, 0, 8194), Ok(()));
+    expect_eq(
+        "jal_site(&mut section, 0, 8194)",
+        jal_site(&mut section, 0, 8194),
+        Ok(()),
+    );
     assert!(section.starts_with(&[0x6f, 0x23, 0x20, 0x00]));
 }
 
@@ -396,12 +408,21 @@ fn distances_that_jal_cannot_hold_are_rejected() {
         expect_eq(distance, distance_fits_jal(distance), want);
     }
     let mut section = 0x0000_0097u32.to_le_bytes();
-    assert_eq!(jal_site(&mut section, 0, 1048576), Err(CallError::TooFar));
-    assert_eq!(
-        jal_site(&mut section, 0, 1048575),
-        Err(CallError::OddDistance)
+    expect_eq(
+        "jal_site(&mut section, 0, 1048576)",
+        jal_site(&mut section, 0, 1048576),
+        Err(CallError::TooFar),
     );
-    assert_eq!(jal_site(&mut section, 1, 2), Err(CallError::OutOfSection));
+    expect_eq(
+        "jal_site(&mut section, 0, 1048575)",
+        jal_site(&mut section, 0, 1048575),
+        Err(CallError::OddDistance),
+    );
+    expect_eq(
+        "jal_site(&mut section, 1, 2)",
+        jal_site(&mut section, 1, 2),
+        Err(CallError::OutOfSection),
+    );
 }
 
 #[test]
@@ -409,9 +430,10 @@ fn relocations_have_their_meaning() {
     assert!(relocation_type_from_raw(RiscVRelocation::Other(7)).is_none());
     assert!(relocation_type_from_raw(RiscVRelocation::R_RISCV_TLSDESC_CALL).is_none());
     let clui = RelaxationKind::clui_rel_info();
-    assert_eq!(
+    expect_eq(
+        "clui.size",
         clui.size,
-        RelocationSize::bit_mask_riscv(0, 32, RiscVInstruction::CluiType)
+        RelocationSize::bit_mask_riscv(0, 32, RiscVInstruction::CluiType),
     );
     for (value, want) in [
         (1048574, true),
@@ -420,7 +442,11 @@ fn relocations_have_their_meaning() {
         (-1048577, false),
     ] {
         let jal = relocation_type_from_raw(RiscVRelocation::R_RISCV_JAL);
-        assert_eq!(jal.is_some_and(|info| info.range.contains(value)), want);
+        expect_eq(
+            value,
+            jal.is_some_and(|info| info.range.contains(value)),
+            want,
+        );
     }
     assert!(Bias::from_value(0).is_none());
     let signed = AllowedRange::from_bit_size(17, Sign::Signed);
@@ -430,6 +456,6 @@ fn relocations_have_their_meaning() {
         (65536, false),
         (-65537, false),
     ] {
-        assert_eq!(signed.contains(value), want);
+        expect_eq(value, signed.contains(value), want);
     }
 }

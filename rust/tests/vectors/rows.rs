@@ -11,3 +11,8 @@ pub fn expect_eq<R: Copy + Debug, T: Copy + PartialEq + Debug>(
 ) {
     assert_eq!(found, expected, "{row:?}");
 }
+
+/// Requires that the condition holds in the row.
+pub fn expect<R: Copy + Debug>(row: R, condition: bool) {
+    assert!(condition, "{row:?}");
+}

@@ -15,47 +15,48 @@ struct Row {
     chosen: &'static [bool],
 }
 
+static ROWS: [Row; 6] = [
+    Row {
+        deletions: &[],
+        calls: &[(0, 1048578)],
+        chosen: &[true],
+    },
+    Row {
+        deletions: &[],
+        calls: &[(0, 1048580)],
+        chosen: &[false],
+    },
+    Row {
+        deletions: &[],
+        calls: &[(0, 9)],
+        chosen: &[false],
+    },
+    Row {
+        deletions: &[(16, 8)],
+        calls: &[(0, 1048586)],
+        chosen: &[true],
+    },
+    // Each of the two needs the other.
+    Row {
+        deletions: &[],
+        calls: &[(100, 1048680), (1048580, 0)],
+        chosen: &[true, true],
+    },
+    Row {
+        deletions: &[],
+        calls: &[(100, 1048688), (1048580, 0)],
+        chosen: &[false, false],
+    },
+];
+
 #[test]
 fn choices_are_the_greatest_in_reach() -> Result<(), Fail> {
-    let rows = [
-        Row {
-            deletions: &[],
-            calls: &[(0, 1048578)],
-            chosen: &[true],
-        },
-        Row {
-            deletions: &[],
-            calls: &[(0, 1048580)],
-            chosen: &[false],
-        },
-        Row {
-            deletions: &[],
-            calls: &[(0, 9)],
-            chosen: &[false],
-        },
-        Row {
-            deletions: &[(16, 8)],
-            calls: &[(0, 1048586)],
-            chosen: &[true],
-        },
-        // Each of the two needs the other.
-        Row {
-            deletions: &[],
-            calls: &[(100, 1048680), (1048580, 0)],
-            chosen: &[true, true],
-        },
-        Row {
-            deletions: &[],
-            calls: &[(100, 1048688), (1048580, 0)],
-            chosen: &[false, false],
-        },
-    ];
-    for row in rows {
+    for row in &ROWS {
         assert!(SectionRelaxDeltas::is_valid(row.deletions));
         let deltas = SectionRelaxDeltas::new(row.deletions)?;
         assert!(calls_shrinkable(&deltas, row.calls));
         let chosen = shrink_calls(&deltas, row.calls)?;
-        assert_eq!(chosen.as_slice(), row.chosen);
+        expect_eq(row.calls, chosen.as_slice(), row.chosen);
     }
     Ok(())
 }
@@ -74,7 +75,7 @@ fn many_calls_are_chosen_at_once() -> Result<(), Fail> {
         calls[0].1 = target;
         assert!(calls_shrinkable(&none, &calls));
         let chosen = shrink_calls(&none, &calls)?;
-        assert_eq!(chosen.len(), 1100);
+        expect_eq(target, chosen.len(), 1100);
         for (at, &found) in chosen.iter().enumerate() {
             expect_eq((at, target), found, is_chosen || at > 0);
         }
@@ -109,7 +110,11 @@ fn a_pass_chooses_deletes_and_packs() -> Result<(), Fail> {
     let mut deltas = SectionRelaxDeltas::new(&[])?;
     assert!(calls_shrinkable(&deltas, &calls));
     let chosen = shrink_calls(&deltas, &calls)?;
-    assert_eq!(chosen.as_slice(), [true].as_slice());
+    expect_eq(
+        "chosen.as_slice()",
+        chosen.as_slice(),
+        [true].as_slice(),
+    );
     assert!(deltas.is_mergeable(&freed));
     deltas.merge_additional(&freed)?;
     assert!(calls_apart(&calls));
@@ -117,9 +122,10 @@ fn a_pass_chooses_deletes_and_packs() -> Result<(), Fail> {
         assert!(false);
         return Ok(());
     };
-    assert_eq!(
+    expect_eq(
+        "packed.as_slice()",
         packed.as_slice(),
-        [0xef, 0x00, 0x40, 0x00, 0x13, 0x00, 0x00, 0x00].as_slice()
+        [0xef, 0x00, 0x40, 0x00, 0x13, 0x00, 0x00, 0x00].as_slice(),
     );
     Ok(())
 }

@@ -3,6 +3,7 @@
 //! `tools/test_refused_growth` counts.
 
 use crate::support::*;
+use crate::rows::expect_eq;
 use linker_utils::relaxation::{
     RelaxDeltaMap, SectionRelaxDeltas, calls_apart, calls_shrinkable, pack_section, shrink_calls,
 };
@@ -25,7 +26,7 @@ fn lists_and_their_copies_take_6() -> Result<(), Fail> {
     for raw in [[].as_slice(), &FEW, &many] {
         assert!(SectionRelaxDeltas::is_valid(raw));
         let copy = SectionRelaxDeltas::new(raw)?.clone()?;
-        assert_eq!(copy.deltas().len(), raw.len());
+        expect_eq(raw, copy.deltas().len(), raw.len());
     }
     Ok(())
 }
@@ -38,7 +39,7 @@ fn merges_take_5() -> Result<(), Fail> {
         let mut deltas = SectionRelaxDeltas::new(&[])?;
         assert!(deltas.is_mergeable(more));
         deltas.merge_additional(more)?;
-        assert_eq!(deltas.deltas().len(), more.len());
+        expect_eq(more, deltas.deltas().len(), more.len());
     }
     Ok(())
 }
@@ -51,7 +52,7 @@ fn batches_take_4() -> Result<(), Fail> {
         let mut deltas = SectionRelaxDeltas::new(&[])?;
         assert!(deltas.are_mergeable(first));
         deltas.merge_all(first)?;
-        assert_eq!(deltas.deltas().len(), count);
+        expect_eq(first.len(), deltas.deltas().len(), count);
     }
     Ok(())
 }
@@ -67,7 +68,11 @@ fn maps_and_their_copies_take_4() -> Result<(), Fail> {
     if map.insert(3, deltas).is_err() {
         return Err(Fail::from("no memory"));
     }
-    assert_eq!(map.clone()?.last_index(), Some(3));
+    expect_eq(
+        "map.clone()?.last_index()",
+        map.clone()?.last_index(),
+        Some(3),
+    );
     Ok(())
 }
 
@@ -83,6 +88,10 @@ fn packing_and_choosing_take_2() -> Result<(), Fail> {
         &calls,
     );
     assert!(packed.is_ok());
-    assert_eq!(shrink_calls(&none, &calls)?.len(), 1);
+    expect_eq(
+        "shrink_calls(rt.alloc(), &none, &calls)?.len()",
+        shrink_calls(&none, &calls)?.len(),
+        1,
+    );
     Ok(())
 }

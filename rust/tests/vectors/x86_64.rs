@@ -517,18 +517,21 @@ fn tls_calls_become_offsets() {
     let mut offset = 4;
     let mut addend = 7;
     RelaxationKind::TlsGdToLocalExec.apply(&mut section, &mut offset, &mut addend);
-    assert_eq!(
+    expect_eq(
+        "section",
         section,
-        [0x64, 0x48, 0x8b, 0x04, 0x25, 0, 0, 0, 0, 0x48, 0x8d, 0x80]
+        [0x64, 0x48, 0x8b, 0x04, 0x25, 0, 0, 0, 0, 0x48, 0x8d, 0x80],
     );
-    assert_eq!((offset, addend), (12, 0));
-    assert_eq!(
+    expect_eq("(offset, addend)", (offset, addend), (12, 0));
+    expect_eq(
+        "RelaxationKind::TlsGdToLocalExec.next_modifier()",
         RelaxationKind::TlsGdToLocalExec.next_modifier(),
-        RelocationModifier::SkipNextRelocation
+        RelocationModifier::SkipNextRelocation,
     );
-    assert_eq!(
+    expect_eq(
+        "RelaxationKind::SkipTlsDescCall.next_modifier()",
         RelaxationKind::SkipTlsDescCall.next_modifier(),
-        RelocationModifier::Normal
+        RelocationModifier::Normal,
     );
 }
 
@@ -541,8 +544,8 @@ fn indirect_jumps_become_direct() {
     assert!(!RelaxationKind::JmpIndirectToRelative.can_apply(&section, 3));
     assert!(RelaxationKind::JmpIndirectToRelative.can_apply(&section, offset));
     RelaxationKind::JmpIndirectToRelative.apply(&mut section, &mut offset, &mut addend);
-    assert_eq!(section, [0xe9, 0, 0, 0, 0, 0x90]);
-    assert_eq!((offset, addend), (1, -4));
+    expect_eq("section", section, [0xe9, 0, 0, 0, 0, 0x90]);
+    expect_eq("(offset, addend)", (offset, addend), (1, -4));
 }
 
 /// Each rewrite, the offset in a section that is just its window, and the section's length.

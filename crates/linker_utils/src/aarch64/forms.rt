@@ -203,7 +203,7 @@ impl AArch64Instruction {
 
     /// An instruction with a value in the form's bits.
     #[inline(always)]
-    pub(crate) fn insert(self, value: u64, negative: bool, word: u64) -> u64
+    pub(crate) fn word_with(self, value: u64, negative: bool, word: u64) -> u64
         requires { word < 2 ^ 32 }
         ensures small { result < 2 ^ 32 }
         ensures written { Written (aarch64_form self) value negative word result }
@@ -211,10 +211,10 @@ impl AArch64Instruction {
         match self {
             AArch64Instruction::Movnz => {
                 let (bits, opcode) = move_bits(value, negative);
-                engine::insert(&MOVE, bits, word & 0x007f_ffff | opcode)
+                engine::window_with(&MOVE, bits, word & 0x007f_ffff | opcode)
             }
             AArch64Instruction::MachOLow12 => {
-                engine::insert(&offset_run(scale_of(word)), value, word)
+                engine::window_with(&offset_run(scale_of(word)), value, word)
             }
             _ => self.or_immediate(value, word),
         }
@@ -237,7 +237,7 @@ impl AArch64Instruction {
             (window_of (aarch64_form self) dest.old)
             → dest.new ≡ dest.old }
     {
-        let word = self.insert(extracted_value, negative, Window::Four.load(dest));
+        let word = self.word_with(extracted_value, negative, Window::Four.load(dest));
         Window::Four.store(word, dest);
     }
 

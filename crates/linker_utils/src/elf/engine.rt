@@ -141,7 +141,7 @@ fn take(run: &Run, window: u64) -> u64
 
 /// The window after all runs of the value are written.
 #[inline(always)]
-pub(crate) fn insert(runs: &[Run], value: u64, window: u64) -> u64
+pub(crate) fn window_with(runs: &[Run], value: u64, window: u64) -> u64
     requires { IsTrue (runs_fit runs.now) }
     ensures { BitsWritten (spread runs.now) value window result }
 {
@@ -221,7 +221,7 @@ pub(crate) fn write(
         ≡ window_of (relocation_form _insn) dest.old
         → dest.new ≡ dest.old }
 {
-    let number = insert(runs, value, window.load(dest));
+    let number = window_with(runs, value, window.load(dest));
     window.store(number, dest);
 }
 

@@ -170,7 +170,7 @@ fn clear_loongarch(insn: LoongArch64Instruction, bits: BitRange, dest: &mut [u8]
 {
     if let LoongArch64Instruction::Shift10 = insn {
         if bits.end - bits.start > 12 {
-            let word = engine::insert(&SHIFT_10_ORED, 0, Window::Four.load(dest));
+            let word = engine::window_with(&SHIFT_10_ORED, 0, Window::Four.load(dest));
             Window::Four.store(word, dest);
         }
     }
@@ -190,7 +190,7 @@ pub(crate) fn write_bits(insn: RelocationInstruction, bits: BitRange, value: i64
     match insn {
         RelocationInstruction::AArch64(insn) => {
             let old = Window::Four.load(dest);
-            let word = insn.insert(number, negative, insn.clear_immediate(old));
+            let word = insn.word_with(number, negative, insn.clear_immediate(old));
             // a move keeps its size
             let new = if is_32_bit_move(insn, old) {
                 word - (1 << 31)

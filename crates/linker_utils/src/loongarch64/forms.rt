@@ -129,7 +129,7 @@ impl LoongArch64Instruction {
 
     /// An instruction with the bits of a value.
     #[inline(always)]
-    fn insert(self, value: u64, word: u64) -> u64
+    fn word_with(self, value: u64, word: u64) -> u64
         requires plain { is_one_word self ≡ true }
         requires small { word < 2 ^ 32 }
         ensures small { result < 2 ^ 32 }
@@ -176,7 +176,7 @@ impl LoongArch64Instruction {
                 engine::write(insn, Window::Eight, &CALL_36, value, negative, dest);
             }
             _ => {
-                let word = self.insert(value, Window::Four.load(dest));
+                let word = self.word_with(value, Window::Four.load(dest));
                 Window::Four.store(word, dest);
             }
         }

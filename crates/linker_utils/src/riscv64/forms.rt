@@ -146,7 +146,7 @@ impl RiscVInstruction {
 
     /// An instruction with the bits of a value.
     #[inline(always)]
-    fn insert(self, value: u64, word: u64) -> u64
+    fn word_with(self, value: u64, word: u64) -> u64
         requires plain { is_by_masks self ≡ true }
         requires small { word < 2 ^ 32 }
         ensures small { result < 2 ^ 32 }
@@ -189,7 +189,7 @@ impl RiscVInstruction {
                 engine::write(insn, Window::Eight, &UI_TYPE, value, negative, dest);
             }
             _ => {
-                let word = self.insert(value, Window::Four.load(dest));
+                let word = self.word_with(value, Window::Four.load(dest));
                 Window::Four.store(word, dest);
             }
         }

@@ -3,8 +3,8 @@
 
 use alloc::vec::Vec;
 use crate::support::*;
-use super::partition_point::{FEW, Level, Probe, Test, search_blocks};
-use super::search::rank_after;
+use super::delta_slice::rank_after;
+use super::partition_point::{FEW, Level, Probe, Test, search};
 use super::{OutOfMemory, RelaxDelta};
 
 /// How many deltas a block has. The last block may have fewer.
@@ -16,7 +16,7 @@ pub const BLOCK_LEN: usize = 64;
 pub struct BlockHead {
     /// The input offset of the block's first delta.
     pub input_offset: u64,
-    /// Its output place: that offset less the bytes of all deletions before.
+    /// Its output offset: the input offset less the bytes of all deletions before.
     pub output_place: u64,
 }
 
@@ -26,7 +26,7 @@ impl BlockHead {
     fn of(delta: &RelaxDelta) -> BlockHead {
         BlockHead {
             input_offset: delta.input_offset,
-            output_place: delta.output_place(),
+            output_place: delta.output_offset(),
         }
     }
 }
@@ -41,7 +41,7 @@ pub trait Looks {
     #[must_use]
     fn count(&self) -> u64;
 
-    /// The input offset and the output place of the first delta of block `block`, delta
+    /// The input offset and the output offset of the first delta of block `block`, delta
     /// `64 * block`. One look.
     ///
     /// Requires that there is such a delta, and a count below `u64::MAX`.
@@ -187,7 +187,7 @@ pub(super) fn count_blocks(len: usize) -> usize {
 pub fn input_to_output_counted<K: Looks>(looks: &mut K, input_offset: u64) -> u64 {
     // What it ensures is that the list is valid.
     let _len = looks.len();
-    match search_blocks(looks, Test::Begins(input_offset)).checked_sub(1) {
+    match search(looks, Test::Begins(input_offset)).checked_sub(1) {
         Some(last) => rank_after(looks.delta(last), input_offset),
         None => input_offset,
     }
@@ -207,7 +207,7 @@ pub fn input_to_output_counted<K: Looks>(looks: &mut K, input_offset: u64) -> u6
 pub fn output_to_input_counted<K: Looks>(looks: &mut K, output_offset: u64) -> u64 {
     // What it ensures is that the list is valid.
     let _len = looks.len();
-    match search_blocks(looks, Test::IsPlaced(output_offset)).checked_sub(1) {
+    match search(looks, Test::IsPlaced(output_offset)).checked_sub(1) {
         Some(last) => output_offset + looks.delta(last).cumulative_deleted,
         None => output_offset,
     }

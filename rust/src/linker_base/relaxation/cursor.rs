@@ -51,9 +51,9 @@ impl<'a> RelaxCursor<'a> {
         self.is_ahead(input_offset) || self.reached.deleted <= input_offset
     }
 
-    /// Writes the output offset of each of the queries, in order, into its place in `out`.
+    /// Writes the output offset of each of the queries, in order, at its index in `out`.
     ///
-    /// Requires as many places as queries, queries that don't decrease, and that each delta already
+    /// Requires `out` as long as `queries`, queries that don't decrease, and that each delta already
     /// passed begins strictly below the first query, as `can_translate_all` tests except for the
     /// lengths. One pass takes O(n + q).
     ///
@@ -68,7 +68,7 @@ impl<'a> RelaxCursor<'a> {
         self.reached = walk(self.deltas, self.reached, queries, out);
     }
 
-    /// Whether the queries may be given to `translate_all`, with as many places.
+    /// Whether the queries may be given to `translate_all`, with as long an `out`.
     #[must_use]
     pub fn can_translate_all(&self, queries: &[u64]) -> bool {
         ascend(queries) && (queries.is_empty() || self.is_ahead(queries[0]))

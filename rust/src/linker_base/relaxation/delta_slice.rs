@@ -1,21 +1,40 @@
 // Made by tools/erase of crates/linker_base/src/relaxation/delta_slice.rt.
-//! Deltas that anyone owns.
+//! Deltas that anyone owns, and the heads of their blocks.
 
-use super::blocked_slice::BlockedSlice;
+use super::RelaxDelta;
 use super::blocks::{BlockHead, count_blocks, write_heads};
-use super::merge::merge_into;
+use super::merge::merge_ascending;
 use super::overlap::{self, AsDeletion};
-use super::partition_point::FEW;
+use super::partition_point::{FEW, Level, Probe, Test, search};
 use super::walk::{Reached, ascend, walk};
-use super::{RelaxDelta, search};
 
-/// A borrowed list of deltas, of any contents.
+/// A borrowed list of deltas, of any contents, and the heads of their blocks, or none.
 ///
-/// Each call is safe for any deltas. What it returns is promised where the deltas are valid: they
-/// list deletions as `SectionRelaxDeltas::new` requires them, each with the sum of the bytes up to
-/// it. Contracts see the list of deltas.
+/// Each call is safe for any deltas and heads. What it returns is promised where the deltas are
+/// valid: they list deletions as `SectionRelaxDeltas::new` requires them, each with the sum of the
+/// bytes up to it. Searches also need the heads to be those that `write_heads` writes, if there
+/// are any. Contracts see the lists of deltas and heads.
 pub struct DeltaSlice<'a> {
     deltas: &'a [RelaxDelta],
+    heads: &'a [BlockHead],
+}
+
+impl<'a> Probe for DeltaSlice<'a> {
+    #[inline(always)]
+    fn len(&self, level: Level) -> usize {
+        match level {
+            Level::Heads => self.heads.len(),
+            Level::Deltas => self.deltas.len(),
+        }
+    }
+
+    #[inline(always)]
+    fn passes(&mut self, level: Level, test: Test, at: usize) -> bool {
+        match level {
+            Level::Heads => test.head_passes(&self.heads[at]),
+            Level::Deltas => test.passes(&self.deltas[at]),
+        }
+    }
 }
 
 impl<'a> DeltaSlice<'a> {
@@ -23,7 +42,29 @@ impl<'a> DeltaSlice<'a> {
     #[must_use]
     #[inline(always)]
     pub fn new(deltas: &'a [RelaxDelta]) -> DeltaSlice<'a> {
-        DeltaSlice { deltas }
+        DeltaSlice { deltas, heads: &[] }
+    }
+
+    // Requires no more heads than blocks.
+    #[inline(always)]
+    pub(super) fn over(deltas: &'a [RelaxDelta], heads: &'a [BlockHead]) -> DeltaSlice<'a> {
+        DeltaSlice { deltas, heads }
+    }
+
+    // The same lists.
+    #[inline(always)]
+    fn copy(&self) -> DeltaSlice<'a> {
+        DeltaSlice {
+            deltas: self.deltas,
+            heads: self.heads,
+        }
+    }
+
+    /// The deltas.
+    #[must_use]
+    #[inline(always)]
+    pub fn deltas(&self) -> &'a [RelaxDelta] {
+        self.deltas
     }
 
     /// How many blocks of `BLOCK_LEN` deltas there are; the last may be shorter.
@@ -33,7 +74,7 @@ impl<'a> DeltaSlice<'a> {
         count_blocks(self.deltas.len())
     }
 
-    /// Writes the head of each block, in order. Requires as many places as blocks.
+    /// Writes the head of each block, in order. Requires as many heads as blocks.
     ///
     /// # Requires
     ///
@@ -44,23 +85,14 @@ impl<'a> DeltaSlice<'a> {
         write_heads(self.deltas, heads);
     }
 
-    /// The deltas with heads of their blocks, or none where they aren't as many as blocks.
+    /// The deltas with these heads of their blocks, or none where they aren't as many as blocks.
     #[must_use]
     #[inline(always)]
-    pub fn with_heads(&self, heads: &'a [BlockHead]) -> Option<BlockedSlice<'a>> {
+    pub fn with_heads(&self, heads: &'a [BlockHead]) -> Option<DeltaSlice<'a>> {
         if heads.len() != self.block_count() {
             return None;
         }
-        Some(BlockedSlice::new(self.deltas, heads))
-    }
-
-    // `with_heads` of more than a few deltas.
-    #[inline(always)]
-    fn with_many_heads(&self, heads: &'a [BlockHead]) -> Option<BlockedSlice<'a>> {
-        if self.deltas.len() <= FEW {
-            return None;
-        }
-        self.with_heads(heads)
+        Some(DeltaSlice::over(self.deltas(), heads))
     }
 
     /// How many deltas there are.
@@ -81,21 +113,46 @@ impl<'a> DeltaSlice<'a> {
     #[must_use]
     #[inline]
     pub fn total_deleted(&self) -> u64 {
-        search::bytes_of_first(self.deltas, self.deltas.len())
+        bytes_of_first(self.deltas(), self.len())
+    }
+
+    // How many deltas lie at offsets strictly below `offset`.
+    #[inline(always)]
+    pub(super) fn count_below(&self, offset: u64) -> usize {
+        search(&mut self.copy(), Test::Begins(offset))
+    }
+
+    // How many deltas have an output offset, their offset less the bytes deleted before, of at
+    // most `offset`.
+    #[inline(always)]
+    fn count_placed(&self, offset: u64) -> usize {
+        search(&mut self.copy(), Test::IsPlaced(offset))
+    }
+
+    // The delta at the offset, if one is listed there.
+    #[inline(always)]
+    fn delta_at(&self, offset: u64) -> Option<RelaxDelta> {
+        let below = self.count_below(offset);
+        let deltas = self.deltas();
+        if below < deltas.len() && deltas[below].input_offset == offset {
+            Some(deltas[below])
+        } else {
+            None
+        }
     }
 
     /// Whether a deletion is listed at the offset, be it one of no bytes. O(log n).
     #[must_use]
     #[inline]
     pub fn has_delta_at(&self, offset: u64) -> bool {
-        search::delta_at(self.deltas, offset).is_some()
+        self.delta_at(offset).is_some()
     }
 
     /// The bytes that are deleted at the offset: 0 where no deletion is listed there. O(log n).
     #[must_use]
     #[inline]
     pub fn delta_bytes_at(&self, offset: u64) -> u32 {
-        match search::delta_at(self.deltas, offset) {
+        match self.delta_at(offset) {
             Some(delta) => delta.bytes_deleted,
             None => 0,
         }
@@ -107,7 +164,10 @@ impl<'a> DeltaSlice<'a> {
     #[must_use]
     #[inline(always)]
     pub fn input_to_output_offset(&self, input_offset: u64) -> u64 {
-        search::rank(self.deltas, input_offset)
+        match self.count_below(input_offset).checked_sub(1) {
+            Some(last) => rank_after(self.deltas()[last], input_offset),
+            None => input_offset,
+        }
     }
 
     /// The output offset of the `len` bytes from `input_offset` on, or none where one of them is
@@ -121,14 +181,32 @@ impl<'a> DeltaSlice<'a> {
     #[inline]
     pub fn kept_output_offset(&self, input_offset: u64, len: u64) -> Option<u64> {
         debug_assert!((input_offset as u128) + (len as u128) < 1 << 64);
-        search::rank_of_kept(self.deltas, input_offset, len)
+        let first = self.input_to_output_offset(input_offset);
+        let past = self.input_to_output_offset(input_offset + len);
+        if past.wrapping_sub(first) == len {
+            Some(first)
+        } else {
+            None
+        }
     }
 
     /// Whether the offset lies above the first byte of a deletion and below its end. O(log n).
     #[must_use]
     #[inline]
     pub fn is_inside(&self, input_offset: u64) -> bool {
-        search::is_inside(self.deltas, input_offset)
+        match self.count_below(input_offset).checked_sub(1) {
+            Some(last) => {
+                let delta = self.deltas()[last];
+                input_offset.wrapping_sub(delta.input_offset) < u64::from(delta.bytes_deleted)
+            }
+            None => false,
+        }
+    }
+
+    // The bytes that are deleted before the kept byte at an output offset.
+    #[inline(always)]
+    pub(super) fn bytes_before(&self, output_offset: u64) -> u64 {
+        bytes_of_first(self.deltas(), self.count_placed(output_offset))
     }
 
     /// The offset in the input section of the kept byte at `output_offset`, or none where that is
@@ -136,22 +214,28 @@ impl<'a> DeltaSlice<'a> {
     #[must_use]
     #[inline(always)]
     pub fn output_to_input_offset(&self, output_offset: u64) -> Option<u64> {
-        output_offset.checked_add(search::bytes_before(self.deltas, output_offset))
+        output_offset.checked_add(self.bytes_before(output_offset))
     }
 
-    /// As `input_to_output_offset`, with the heads of the blocks. It looks at them first where the
-    /// deltas are more than a few, and not at all where they aren't as many as blocks. O(log n).
+    // Whether the deltas are more than a few, and the heads as many as their blocks.
+    #[inline(always)]
+    fn has_many_heads(&self, heads: &[BlockHead]) -> bool {
+        self.len() > FEW && heads.len() == self.block_count()
+    }
+
+    /// As `input_to_output_offset`, with these heads of the blocks. It looks at them first where
+    /// the deltas are more than a few, and not at all where they aren't as many as blocks. O(log n).
     #[must_use]
     #[inline(always)]
     pub fn input_to_output_by_heads(&self, heads: &'a [BlockHead], input_offset: u64) -> u64 {
-        match self.with_many_heads(heads) {
-            Some(blocked) => blocked.input_to_output_offset(input_offset),
-            None => self.input_to_output_offset(input_offset),
+        if self.has_many_heads(heads) {
+            return rank_by_heads(self.deltas(), heads, input_offset);
         }
+        self.input_to_output_offset(input_offset)
     }
 
-    /// As `output_to_input_offset`, with the heads of the blocks. It looks at them first where the
-    /// deltas are more than a few, and not at all where they aren't as many as blocks. O(log n).
+    /// As `output_to_input_offset`, with these heads of the blocks. It looks at them first where
+    /// the deltas are more than a few, and not at all where they aren't as many as blocks. O(log n).
     #[must_use]
     #[inline(always)]
     pub fn output_to_input_by_heads(
@@ -159,10 +243,10 @@ impl<'a> DeltaSlice<'a> {
         heads: &'a [BlockHead],
         output_offset: u64,
     ) -> Option<u64> {
-        match self.with_many_heads(heads) {
-            Some(blocked) => blocked.output_to_input_offset(output_offset),
-            None => self.output_to_input_offset(output_offset),
+        if self.has_many_heads(heads) {
+            return output_offset.checked_add(bytes_by_heads(self.deltas(), heads, output_offset));
         }
+        self.output_to_input_offset(output_offset)
     }
 
     /// Writes the output offset of each of the queries, in order, in one walk through the deltas:
@@ -175,7 +259,7 @@ impl<'a> DeltaSlice<'a> {
     #[inline]
     pub fn translate_all(&self, queries: &[u64], out: &mut [u64]) {
         debug_assert!(queries.len() == out.len());
-        let _end = walk(self.deltas, Reached::START, queries, out);
+        let _end = walk(self.deltas(), Reached::START, queries, out);
     }
 
     /// Whether the queries don't decrease.
@@ -194,7 +278,7 @@ impl<'a> DeltaSlice<'a> {
     /// ascend, as a pass over a section makes them, and else O(k log n + k²).
     #[must_use]
     pub fn first_overlapping<D: AsDeletion>(&self, additional: &[D]) -> Option<usize> {
-        overlap::first_overlapping(self.deltas, additional)
+        overlap::first_overlapping(self.deltas(), additional)
     }
 
     /// Whether the list's deletions and the additional ones are two valid lists of which no two
@@ -203,14 +287,14 @@ impl<'a> DeltaSlice<'a> {
     /// It doesn't allocate. For k deletions and n deltas the work is O(n + k log n).
     #[must_use]
     pub fn can_merge_ascending<D: AsDeletion>(&self, additional: &[D]) -> bool {
-        overlap::are_valid_together(self.deltas, additional)
+        overlap::are_valid_together(self.deltas(), additional)
     }
 
     /// Writes the deltas of the list's deletions and the additional ones, sorted, with sums made
     /// anew.
     ///
     /// It doesn't allocate. For k deletions and n deltas the work is O(n + k). Requires
-    /// deletions that `can_merge_ascending` accepts, and as many places as both.
+    /// deletions that `can_merge_ascending` accepts, and `merged` as long as both.
     ///
     /// # Requires
     ///
@@ -220,6 +304,38 @@ impl<'a> DeltaSlice<'a> {
     pub fn merge_ascending<D: AsDeletion>(&self, additional: &[D], merged: &mut [RelaxDelta]) {
         debug_assert!((merged.len() as u128) == (self.len() as u128) + (additional.len() as u128));
         debug_assert!(self.can_merge_ascending(additional));
-        merge_into(self.deltas, additional, merged);
+        merge_ascending(Some(self.deltas()), merged, self.len(), additional);
     }
+}
+
+// The bytes that the first `count` deltas delete.
+#[inline(always)]
+pub(super) fn bytes_of_first(deltas: &[RelaxDelta], count: usize) -> u64 {
+    match count.checked_sub(1) {
+        Some(last) => deltas[last].cumulative_deleted,
+        None => 0,
+    }
+}
+
+// The rank of an offset by the last delta that begins below it: the greater of the offset and the
+// end of that delta, less all bytes that are deleted up to there.
+#[inline(always)]
+pub(super) fn rank_after(last: RelaxDelta, offset: u64) -> u64 {
+    let end = last
+        .input_offset
+        .wrapping_add(u64::from(last.bytes_deleted));
+    offset.max(end).wrapping_sub(last.cumulative_deleted)
+}
+
+// `input_to_output_offset` by heads. Not inlined, so that a caller's search of a few deltas remains
+// small.
+#[inline(never)]
+fn rank_by_heads(deltas: &[RelaxDelta], heads: &[BlockHead], offset: u64) -> u64 {
+    DeltaSlice::over(deltas, heads).input_to_output_offset(offset)
+}
+
+// `bytes_before` by heads.
+#[inline(never)]
+fn bytes_by_heads(deltas: &[RelaxDelta], heads: &[BlockHead], offset: u64) -> u64 {
+    DeltaSlice::over(deltas, heads).bytes_before(offset)
 }

@@ -4,6 +4,7 @@
 use alloc::vec::Vec;
 use crate::support::*;
 use super::blocks::{BlockHead, count_blocks, fill_heads};
+use super::delta_slice::bytes_of_first;
 use super::overlap::{AsDeletion, first_invalid};
 use super::{OutOfMemory, RelaxDelta};
 
@@ -53,7 +54,7 @@ pub(super) fn insert_ascending(
 ) {
     let count = deltas.len();
     append(deltas, pairs);
-    let kept = merge_ascending(deltas, count, pairs);
+    let kept = merge_ascending(None, deltas, count, pairs);
     heads.truncate(count_blocks(kept));
     fill_heads(deltas, heads);
 }
@@ -69,19 +70,37 @@ fn append(deltas: &mut Vec<RelaxDelta>, pairs: &[(u64, u32)]) {
     }
 }
 
-// Writes the deltas of the deletions of both lists, from the back, with sums made anew.
-pub(super) fn merge_into<D: AsDeletion>(
-    deltas: &[RelaxDelta],
-    additional: &[D],
+// An old delta: of a list apart, or where it stood.
+#[inline(always)]
+fn old_delta(apart: Option<&[RelaxDelta]>, merged: &[RelaxDelta], index: usize) -> RelaxDelta {
+    match apart {
+        Some(deltas) => deltas[index],
+        None => merged[index],
+    }
+}
+
+// Merges ascending deletions and the first `count` old deltas, from the back. The old ones are of a
+// list apart, and need no right sums: those of all are made anew. Or they stand in `merged`, where
+// the rest is room for as many as the additional ones. Returns how many of the first deltas are
+// unchanged.
+#[inline(always)]
+pub(super) fn merge_ascending<D: AsDeletion>(
+    apart: Option<&[RelaxDelta]>,
     merged: &mut [RelaxDelta],
-) {
-    let mut old = deltas.len();
+    count: usize,
+    additional: &[D],
+) -> usize {
+    let mut old = count;
     let mut left = additional.len();
-    let mut bytes = bytes_in(deltas) + bytes_in(additional);
+    let mut bytes = bytes_in(additional)
+        + match apart {
+            Some(deltas) => bytes_in(&deltas[..count]),
+            None => bytes_of_first(&merged[..count], count),
+        };
     while left > 0 {
         let (input_offset, bytes_deleted) = additional[left - 1].as_deletion();
-        while old > 0 && input_offset < deltas[old - 1].input_offset {
-            let delta = deltas[old - 1];
+        while old > 0 && input_offset < old_delta(apart, merged, old - 1).input_offset {
+            let delta = old_delta(apart, merged, old - 1);
             merged[old + left - 1] = RelaxDelta {
                 cumulative_deleted: bytes,
                 ..delta
@@ -97,8 +116,11 @@ pub(super) fn merge_into<D: AsDeletion>(
         bytes -= u64::from(bytes_deleted);
         left -= 1;
     }
+    if apart.is_none() {
+        return old;
+    }
     while old > 0 {
-        let delta = deltas[old - 1];
+        let delta = old_delta(apart, merged, old - 1);
         merged[old - 1] = RelaxDelta {
             cumulative_deleted: bytes,
             ..delta
@@ -106,41 +128,7 @@ pub(super) fn merge_into<D: AsDeletion>(
         bytes -= u64::from(delta.bytes_deleted);
         old -= 1;
     }
-}
-
-// Merges ascending deletions into the first `count` deltas, from the back. The rest of the slice is
-// room for as many. Returns how many of the first deltas are unchanged.
-pub(super) fn merge_ascending<D: AsDeletion>(
-    deltas: &mut [RelaxDelta],
-    count: usize,
-    additional: &[D],
-) -> usize {
-    let mut old = count;
-    let mut left = additional.len();
-    let mut bytes = bytes_in(additional);
-    while left > 0 {
-        let (input_offset, bytes_deleted) = additional[left - 1].as_deletion();
-        while old > 0 && input_offset < deltas[old - 1].input_offset {
-            let delta = deltas[old - 1];
-            deltas[old + left - 1] = RelaxDelta {
-                cumulative_deleted: delta.cumulative_deleted + bytes,
-                ..delta
-            };
-            old -= 1;
-        }
-        let before = match old.checked_sub(1) {
-            Some(last) => deltas[last].cumulative_deleted,
-            None => 0,
-        };
-        deltas[old + left - 1] = RelaxDelta {
-            input_offset,
-            cumulative_deleted: before + bytes,
-            bytes_deleted,
-        };
-        left -= 1;
-        bytes -= u64::from(bytes_deleted);
-    }
-    old
+    0
 }
 
 // The bytes that the deletions of a valid list take together.

@@ -3,7 +3,7 @@
 
 use alloc::vec::Vec;
 use super::RelaxDelta;
-use super::search::count_below;
+use super::delta_slice::DeltaSlice;
 
 /// What records one deletion: a pair of its offset and its bytes, a delta, a caller's own struct.
 pub trait AsDeletion: Copy {
@@ -172,7 +172,7 @@ fn is_beside<D: AsDeletion>(others: &[D], deletion: (u64, u32)) -> bool {
 
 // Whether the deletion overlaps none of the deltas: the nearest two decide.
 fn is_beside_deltas(deltas: &[RelaxDelta], deletion: (u64, u32)) -> bool {
-    let below = count_below(deltas, deletion.0);
+    let below = DeltaSlice::new(deltas).count_below(deletion.0);
     (below == 0 || is_before(deltas[below - 1].as_deletion(), deletion))
         && (below == deltas.len() || is_before(deletion, deltas[below].as_deletion()))
 }

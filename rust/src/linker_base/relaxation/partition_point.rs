@@ -12,7 +12,7 @@ pub(super) const FEW: usize = 1024;
 pub(super) enum Test {
     /// Whether it begins strictly below an offset.
     Begins(u64),
-    /// Whether its output place, its offset less the bytes deleted before, is at most an offset.
+    /// Whether its output offset, its offset less the bytes deleted before, is at most an offset.
     IsPlaced(u64),
 }
 
@@ -21,7 +21,7 @@ impl Test {
     pub(super) fn passes(self, delta: &RelaxDelta) -> bool {
         match self {
             Test::Begins(offset) => delta.input_offset < offset,
-            Test::IsPlaced(offset) => delta.output_place() <= offset,
+            Test::IsPlaced(offset) => delta.output_offset() <= offset,
         }
     }
 
@@ -205,35 +205,27 @@ fn search_block<P: Probe>(probe: &mut P, test: Test, block: usize) -> usize {
     last.start + 1
 }
 
-/// How many deltas pass, by the heads of their blocks where they are more than a few.
+/// How many deltas pass. Where they are more than a few and there are heads, by these first.
 #[inline(always)]
-pub(super) fn search_blocks<P: Probe>(probe: &mut P, test: Test) -> usize {
-    let len = probe.len(Level::Deltas);
-    if len <= FEW {
-        let all = SearchRange { start: 0, len };
-        return point_in(probe, Level::Deltas, test, all, all);
-    }
-    search_many(probe, test)
-}
-
-/// How many deltas pass, by the heads of their blocks. There is a whole block.
-#[inline(always)]
-pub(super) fn search_many<P: Probe>(probe: &mut P, test: Test) -> usize {
-    match search_heads(probe, test).checked_sub(1) {
-        Some(block) => search_block(probe, test, block),
-        None => 0,
-    }
-}
-
-/// How many deltas pass, by only the deltas.
-#[inline(always)]
-pub(super) fn search_deltas<P: Probe>(probe: &mut P, test: Test) -> usize {
+pub(super) fn search<P: Probe>(probe: &mut P, test: Test) -> usize {
     let mut range = SearchRange {
         start: 0,
         len: probe.len(Level::Deltas),
     };
+    if range.len > FEW && probe.len(Level::Heads) > 0 {
+        return search_many(probe, test);
+    }
     while range.len > FEW {
         range = quarter(probe, Level::Deltas, test, range);
     }
     point_in(probe, Level::Deltas, test, range, range)
+}
+
+/// How many deltas pass, by the heads of their blocks. There is a whole block.
+#[inline(always)]
+fn search_many<P: Probe>(probe: &mut P, test: Test) -> usize {
+    match search_heads(probe, test).checked_sub(1) {
+        Some(block) => search_block(probe, test, block),
+        None => 0,
+    }
 }

@@ -4,5 +4,5 @@ use Rattle.linker_utils.proofs.elf.engine.write.Goals as goal
 
 pub store-requires-clause-fits : goal.store-requires-clause-fits
 store-requires-clause-fits c =
-    laid_below (spread c.args.runs.now) (bits_of c.args.window) c.args.value c.load.result c.insert-number.result
-    c.requires.inside c.insert-number.ensures c.load.ensures.small
+    laid_below (spread c.args.runs.now) (bits_of c.args.window) c.args.value c.load.result c.window_with-number.result
+    c.requires.inside c.window_with-number.ensures c.load.ensures.small

@@ -15,18 +15,18 @@ use Rattle.linker_utils.proofs.elf.relocate.write_bits.Goals as goal
 
 pub overflow_sub-new : goal.overflow_sub-new
 overflow_sub-new c =
-    bit_31_is_set c.in-AArch64.insn _ _ c.load-old.result c.clear_immediate.result c.insert-word.result
-    (sym c.is_32_bit_move.ensures ∙ c.if-is_32_bit_move.true) c.insert-word.ensures.written
+    bit_31_is_set c.in-AArch64.insn _ _ c.load-old.result c.clear_immediate.result c.word_with-word.result
+    (sym c.is_32_bit_move.ensures ∙ c.if-is_32_bit_move.true) c.word_with-word.ensures.written
 
 pub returns-after-is_32_bit_move : goal.returns-after-is_32_bit_move
 returns-after-is_32_bit_move c =
     let f = c.in-AArch64.insn in
     let old = c.load-old.result in
-    let word = c.insert-word.result in
+    let word = c.word_with-word.result in
     let size : with_bit_31_if (is_32_bit_move (AArch64 f) old) c.if-is_32_bit_move.new ≡ word = elim c.if-is_32_bit_move.branch [
       | then-is_32_bit_move w ↦
           let set = bit_31_is_set f _ _ old c.clear_immediate.result word (sym c.is_32_bit_move.ensures ∙ w.if-is_32_bit_move.true)
-          c.insert-word.ensures.written in
+          c.word_with-word.ensures.written in
           rw (sym c.is_32_bit_move.ensures, w.if-is_32_bit_move.true, w.new-is) (omega arith)
       | else-is_32_bit_move w ↦ rw (sym c.is_32_bit_move.ensures, w.if-is_32_bit_move.false, w.new-is) refl
     ] in
@@ -35,7 +35,7 @@ returns-after-is_32_bit_move c =
       clears = rw (is_word f, sym c.load-old.ensures.loaded) c.clear_immediate.ensures.clears;
       written = rw (is_word f, sym c.load-old.ensures.loaded, c.store.ensures.stored, size)
           (of_value (AArch64 f) c.args.bits c.args.value _ c.taken_bits-number.result old c.clear_immediate.result word
-          c.taken_bits-number.ensures (to_z-of_z w64 c.args.value c.ranges.value) c.insert-word.ensures.written);
+          c.taken_bits-number.ensures (to_z-of_z w64 c.args.value c.ranges.value) c.word_with-word.ensures.written);
       rest = rw (is_word f) c.store.ensures.rest;
     })
 

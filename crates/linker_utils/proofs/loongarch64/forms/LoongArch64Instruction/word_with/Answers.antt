@@ -1,7 +1,7 @@
 use Rattle.std.proofs.Common.{sym, subst}
 use Rattle.linker_utils.specs.LoongArch.{loongarch_form}
 use Rattle.linker_utils.proofs.LoongArch.{WritesWord, writes_word}
-use Rattle.linker_utils.proofs.loongarch64.forms.LoongArch64Instruction.insert.Goals as goal
+use Rattle.linker_utils.proofs.loongarch64.forms.LoongArch64Instruction.word_with.Goals as goal
 
 pub returns : goal.returns
 unfolding WritesWord

@@ -1,5 +1,5 @@
 use Rattle.linker_utils.proofs.Runs.{fits_at, laid_more}
-use Rattle.linker_utils.proofs.elf.engine.insert.Goals as goal
+use Rattle.linker_utils.proofs.elf.engine.window_with.Goals as goal
 
 pub put-written-requires : goal.put-written-requires
 put-written-requires c = fits_at c.args.runs.now c.loop-run.run-index _ c.requires c.loop-run-test.true

@@ -1,7 +1,7 @@
 use Rattle.std.proofs.Common.{sym, subst}
 use Rattle.linker_utils.specs.RiscV.{riscv_form}
 use Rattle.linker_utils.proofs.RiscV.{WritesWord, writes_word}
-use Rattle.linker_utils.proofs.riscv64.forms.RiscVInstruction.insert.Goals as goal
+use Rattle.linker_utils.proofs.riscv64.forms.RiscVInstruction.word_with.Goals as goal
 
 pub returns : goal.returns
 unfolding WritesWord
