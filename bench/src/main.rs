@@ -246,8 +246,8 @@ fn rows(report: &mut Report) {
     };
     for machine in MACHINES {
         let is_other = |r_type: &u32| {
-            machine == LOONGARCH64 && OTHER_TYPES.contains(r_type)
-                || machine == PPC64 && OWN_TYPES.contains(r_type)
+            let is_own = |&(of, own): &(u16, &[u32])| of == machine && own.contains(r_type);
+            machine == LOONGARCH64 && OTHER_TYPES.contains(r_type) || OWN_TYPES.iter().any(is_own)
         };
         let has_row = |r_type: &u32| sathunne::relocation(architecture(machine), *r_type).is_ok();
         let known: Vec<u32> = (0..1 << 11)

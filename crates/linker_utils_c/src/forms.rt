@@ -1,6 +1,6 @@
 //! Values in the immediates of instructions, by `e_machine` and a form's number.
 
-ghost use Rattle.std.specs.Prelude.{◌≡◌, ◌≢◌, IfOk, IfErr};
+ghost use Rattle.std.specs.Prelude.{◌≡◌, ◌≢◌, IfOk, IfErr, IfSome, IfNone};
 ghost use Rattle.std.specs.Int.{byte_len, cast_unsigned, w64};
 ghost use Rattle.linker_base.specs.Form.{window_of};
 ghost use Rattle.linker_utils.specs.Elf.{relocation_form};
@@ -9,7 +9,10 @@ ghost use Rattle.linker_utils_c.specs.Forms.{named_form, TakesValue, HasValue};
 ghost use Rattle.linker_utils_c.specs.Status.{code, HasRoom};
 
 use crate::status::Status;
-use linker_utils::elf::{Architecture, InstructionForm, RelocationInstruction};
+use linker_utils::elf::{
+    AArch64Instruction, Architecture, InstructionForm, LoongArch64Instruction, Ppc64Instruction,
+    RelocationInstruction, RiscVInstruction,
+};
 
 /// The form of a machine and a number, or which of the two is unknown.
 #[inline(always)]
@@ -60,8 +63,8 @@ pub extern "C" fn linker_utils_fits_nonnull(
 }
 
 #[inline(always)]
-fn fit(form: RelocationInstruction, value: u64, bytes: &[u8]) -> Status
-    ensures { TakesValue (relocation_form form) value bytes.now (code result) }
+fn fit<F: InstructionForm>(form: F, value: u64, bytes: &[u8]) -> Status
+    ensures { TakesValue (F.form form) value bytes.now (code result) }
 {
     if bytes.len() < form.window() {
         return Status::TooShort;
@@ -69,6 +72,32 @@ fn fit(form: RelocationInstruction, value: u64, bytes: &[u8]) -> Status
     if !form.fits(value, bytes) {
         return Status::DoesNotFit;
     }
+    Status::Success
+}
+
+// Writes a value by a form, if there is one: `RelocationInstruction` would ask for its architecture
+// again.
+#[inline(always)]
+fn write_by<F: InstructionForm>(
+    form: Option<F>,
+    value: u64,
+    negative: bool,
+    dest: &mut [u8],
+) -> Status
+    ensures known { IfSome form (λ named. TakesValue (F.form named) value dest.old (code result)) }
+    ensures written { IfSome form (λ named. result ≡ Status.Success
+        → HasValue (F.form named) value negative dest.old dest.new) }
+    ensures unknown { IfNone form (result ≡ Status.UnknownForm) }
+    ensures unchanged { result ≢ Status.Success → dest.new ≡ dest.old }
+{
+    let Some(named) = form else {
+        return Status::UnknownForm;
+    };
+    let status = fit(named, value, dest);
+    if status != Status::Success {
+        return status;
+    }
+    named.write(value, negative, dest);
     Status::Success
 }
 
@@ -90,16 +119,68 @@ pub extern "C" fn linker_utils_write_nonnull(
     ensures unknown { IfErr (named_form machine form) (λ status. result ≡ code status) }
     ensures unchanged { result ≢ code Status.Success → dest.new ≡ dest.old }
 {
-    let named = match form_of(machine, form) {
-        Ok(named) => named,
-        Err(status) => return status.number(),
+    let Some(architecture) = Architecture::from_machine(machine) else {
+        return Status::UnknownArchitecture.number();
     };
-    let status = fit(named, value, dest);
-    if status != Status::Success {
-        return status.number();
+    match architecture {
+        Architecture::AArch64 => write_by(
+            AArch64Instruction::from_number(form),
+            value,
+            negative,
+            dest,
+        ).number(),
+        Architecture::RiscV => write_by(
+            RiscVInstruction::from_number(form),
+            value,
+            negative,
+            dest,
+        ).number(),
+        Architecture::LoongArch64 => write_by(
+            LoongArch64Instruction::from_number(form),
+            value,
+            negative,
+            dest,
+        )
+        .number(),
+        Architecture::Ppc64 => write_by(
+            Ppc64Instruction::from_number(form),
+            value,
+            negative,
+            dest,
+        ).number(),
+        Architecture::X86_64 => Status::UnknownArchitecture.number(),
     }
-    named.write(value, negative, dest);
-    Status::Success.number()
+}
+
+// Reads a value by a form, if there is one.
+#[inline(always)]
+fn read_by<F: InstructionForm>(
+    form: Option<F>,
+    bytes: &[u8],
+    value: &mut u64,
+    negative: &mut u8,
+) -> Status
+    ensures known { IfSome form
+        (λ named. HasRoom (byte_len (F.form named).window) bytes.now (code result)) }
+    ensures number { IfSome form (λ named. result ≡ Status.Success
+        → value.new ≡ cast_unsigned w64
+        ((F.form named).reading (window_of (F.form named) bytes.now))) }
+    ensures flag { IfSome form (λ named. result ≡ Status.Success
+        → negative.new ≡ flag_number ((F.form named).flag (window_of (F.form named) bytes.now))) }
+    ensures unknown { IfNone form (result ≡ Status.UnknownForm) }
+    ensures value_stays { result ≢ Status.Success → value.new ≡ value.old }
+    ensures flag_stays { result ≢ Status.Success → negative.new ≡ negative.old }
+{
+    let Some(named) = form else {
+        return Status::UnknownForm;
+    };
+    if bytes.len() < named.window() {
+        return Status::TooShort;
+    }
+    let (number, flag) = named.read(bytes);
+    *value = number;
+    *negative = u8::from(flag);
+    Status::Success
 }
 
 /// Reads the value in the instruction that `bytes` begins with, modulo 2^64, and the form's flag,
@@ -125,15 +206,36 @@ pub extern "C" fn linker_utils_read_nonnull(
     ensures value_stays { result ≢ code Status.Success → value.new ≡ value.old }
     ensures flag_stays { result ≢ code Status.Success → negative.new ≡ negative.old }
 {
-    let named = match form_of(machine, form) {
-        Ok(named) => named,
-        Err(status) => return status.number(),
+    let Some(architecture) = Architecture::from_machine(machine) else {
+        return Status::UnknownArchitecture.number();
     };
-    if bytes.len() < named.window() {
-        return Status::TooShort.number();
+    match architecture {
+        Architecture::AArch64 => read_by(
+            AArch64Instruction::from_number(form),
+            bytes,
+            value,
+            negative,
+        )
+        .number(),
+        Architecture::RiscV => read_by(
+            RiscVInstruction::from_number(form),
+            bytes,
+            value,
+            negative,
+        ).number(),
+        Architecture::LoongArch64 => read_by(
+            LoongArch64Instruction::from_number(form),
+            bytes,
+            value,
+            negative,
+        )
+        .number(),
+        Architecture::Ppc64 => read_by(
+            Ppc64Instruction::from_number(form),
+            bytes,
+            value,
+            negative,
+        ).number(),
+        Architecture::X86_64 => Status::UnknownArchitecture.number(),
     }
-    let (number, flag) = named.read(bytes);
-    *value = number;
-    *negative = u8::from(flag);
-    Status::Success.number()
 }

@@ -1,28 +1,76 @@
 //! Rewrites of instructions, by `e_machine` and a rewrite's number.
 
-ghost use Rattle.std.specs.Prelude.{◌≡◌, ◌≢◌, IfOk, IfErr};
+ghost use Rattle.std.specs.Prelude.{◌≡◌, ◌≢◌, IfOk, IfErr, IfSome, IfNone};
 ghost use Rattle.linker_utils.specs.Architectures.{relaxation_rewrite, relaxation_modifier};
 ghost use Rattle.linker_utils_c.specs.Rewrites.{named_rewrite, modifier_number, TakesRewrite};
 ghost use Rattle.linker_utils_c.specs.Rewrites.{IsRewritten};
 ghost use Rattle.linker_utils_c.specs.Status.{code};
 
 use crate::status::Status;
-use linker_utils::architecture::Relaxation;
 use linker_utils::elf::{Architecture, InstructionRewrite};
 use linker_utils::relaxation::RelocationModifier;
+use linker_utils::{aarch64, loongarch64, ppc64, riscv64, x86_64};
 
-/// The rewrite of a machine and a number, with the bytes before the field, or which of the first two
-/// is unknown.
+// Whether a rewrite, if there is one, can be applied.
 #[inline(always)]
-fn rewrite_of(machine: u16, rewrite: u32, n: u8) -> Result<Relaxation, Status>
-    ensures { result ≡ named_rewrite machine rewrite n }
+fn test_by<R: InstructionRewrite>(rewrite: Option<R>, section: &[u8], offset: u64) -> Status
+    ensures known { IfSome rewrite (λ named.
+        TakesRewrite (R.rewrite named) section.now offset (code result)) }
+    ensures unknown { IfNone rewrite (result ≡ Status.UnknownRewrite) }
 {
-    match Architecture::from_machine(machine) {
-        None => Err(Status::UnknownArchitecture),
-        Some(architecture) => architecture
-            .rewrite(rewrite, n)
-            .ok_or(Status::UnknownRewrite),
+    let Some(named) = rewrite else {
+        return Status::UnknownRewrite;
+    };
+    if !named.can_apply(section, offset) {
+        return Status::CannotApply;
     }
+    Status::Success
+}
+
+// Applies a rewrite, if there is one.
+#[inline(always)]
+fn apply_by<R: InstructionRewrite>(
+    rewrite: Option<R>,
+    section: &mut [u8],
+    offset: &mut u64,
+    addend: &mut i64,
+) -> Status
+    ensures known { IfSome rewrite (λ named.
+        TakesRewrite (R.rewrite named) section.old offset.old (code result)) }
+    ensures rewritten { IfSome rewrite (λ named. result ≡ Status.Success
+        → IsRewritten (R.rewrite named) section.old section.new offset.old offset.new
+        addend.old addend.new) }
+    ensures unknown { IfNone rewrite (result ≡ Status.UnknownRewrite) }
+    ensures section_stays { result ≢ Status.Success → section.new ≡ section.old }
+    ensures offset_stays { result ≢ Status.Success → offset.new ≡ offset.old }
+    ensures addend_stays { result ≢ Status.Success → addend.new ≡ addend.old }
+{
+    let Some(named) = rewrite else {
+        return Status::UnknownRewrite;
+    };
+    if !named.can_apply(section, *offset) {
+        return Status::CannotApply;
+    }
+    named.apply(section, offset, addend);
+    Status::Success
+}
+
+// What becomes of the relocation after a rewrite, if there is one.
+#[inline(always)]
+fn modifier_by<R: InstructionRewrite>(rewrite: Option<R>, modifier: &mut u32) -> Status
+    ensures found { IfSome rewrite (λ named. (result ≡ Status.Success)
+        × (modifier.new ≡ modifier_number (R.modifier named))) }
+    ensures unknown { IfNone rewrite ((result ≡ Status.UnknownRewrite)
+        × (modifier.new ≡ modifier.old)) }
+{
+    let Some(named) = rewrite else {
+        return Status::UnknownRewrite;
+    };
+    *modifier = match named.next_modifier() {
+        RelocationModifier::Normal => 0,
+        RelocationModifier::SkipNextRelocation => 1,
+    };
+    Status::Success
 }
 
 /// Whether `linker_utils_apply` at this offset would succeed: the status is that of the rewrite.
@@ -38,14 +86,37 @@ pub extern "C" fn linker_utils_can_apply_nonnull(
         (λ named. TakesRewrite (relaxation_rewrite named) section.now offset result) }
     ensures unknown { IfErr (named_rewrite machine rewrite n) (λ status. result ≡ code status) }
 {
-    let named = match rewrite_of(machine, rewrite, n) {
-        Ok(named) => named,
-        Err(status) => return status.number(),
+    let Some(architecture) = Architecture::from_machine(machine) else {
+        return Status::UnknownArchitecture.number();
     };
-    if !named.can_apply(section, offset) {
-        return Status::CannotApply.number();
-    }
-    Status::Success.number()
+    let status = match architecture {
+        Architecture::AArch64 => test_by(
+            aarch64::RelaxationKind::from_number(rewrite),
+            section,
+            offset,
+        ),
+        Architecture::RiscV => test_by(
+            riscv64::RelaxationKind::from_number(rewrite),
+            section,
+            offset,
+        ),
+        Architecture::LoongArch64 => test_by(
+            loongarch64::RelaxationKind::from_number(rewrite),
+            section,
+            offset,
+        ),
+        Architecture::Ppc64 => test_by(
+            ppc64::RelaxationKind::from_number(rewrite),
+            section,
+            offset,
+        ),
+        Architecture::X86_64 => test_by(
+            x86_64::RelaxationKind::from_number(rewrite, n),
+            section,
+            offset,
+        ),
+    };
+    status.number()
 }
 
 /// Rewrites the instruction at an offset of a section, and sets the offset and the addend to those
@@ -71,15 +142,42 @@ pub extern "C" fn linker_utils_apply_nonnull(
     ensures offset_stays { result ≢ code Status.Success → offset.new ≡ offset.old }
     ensures addend_stays { result ≢ code Status.Success → addend.new ≡ addend.old }
 {
-    let named = match rewrite_of(machine, rewrite, n) {
-        Ok(named) => named,
-        Err(status) => return status.number(),
+    let Some(architecture) = Architecture::from_machine(machine) else {
+        return Status::UnknownArchitecture.number();
     };
-    if !named.can_apply(section, *offset) {
-        return Status::CannotApply.number();
-    }
-    named.apply(section, offset, addend);
-    Status::Success.number()
+    let status = match architecture {
+        Architecture::AArch64 => apply_by(
+            aarch64::RelaxationKind::from_number(rewrite),
+            section,
+            offset,
+            addend,
+        ),
+        Architecture::RiscV => apply_by(
+            riscv64::RelaxationKind::from_number(rewrite),
+            section,
+            offset,
+            addend,
+        ),
+        Architecture::LoongArch64 => apply_by(
+            loongarch64::RelaxationKind::from_number(rewrite),
+            section,
+            offset,
+            addend,
+        ),
+        Architecture::Ppc64 => apply_by(
+            ppc64::RelaxationKind::from_number(rewrite),
+            section,
+            offset,
+            addend,
+        ),
+        Architecture::X86_64 => apply_by(
+            x86_64::RelaxationKind::from_number(rewrite, n),
+            section,
+            offset,
+            addend,
+        ),
+    };
+    status.number()
 }
 
 /// What becomes of the relocation after that of the rewritten instruction, into `modifier`: 0 where
@@ -97,13 +195,24 @@ pub extern "C" fn linker_utils_next_modifier(
     ensures unknown { IfErr (named_rewrite machine rewrite n)
         (λ status. (result ≡ code status) × (modifier.new ≡ modifier.old)) }
 {
-    let named = match rewrite_of(machine, rewrite, n) {
-        Ok(named) => named,
-        Err(status) => return status.number(),
+    let Some(architecture) = Architecture::from_machine(machine) else {
+        return Status::UnknownArchitecture.number();
     };
-    *modifier = match named.next_modifier() {
-        RelocationModifier::Normal => 0,
-        RelocationModifier::SkipNextRelocation => 1,
+    let status = match architecture {
+        Architecture::AArch64 => modifier_by(
+            aarch64::RelaxationKind::from_number(rewrite),
+            modifier,
+        ),
+        Architecture::RiscV => modifier_by(riscv64::RelaxationKind::from_number(rewrite), modifier),
+        Architecture::LoongArch64 => modifier_by(
+            loongarch64::RelaxationKind::from_number(rewrite),
+            modifier,
+        ),
+        Architecture::Ppc64 => modifier_by(ppc64::RelaxationKind::from_number(rewrite), modifier),
+        Architecture::X86_64 => modifier_by(
+            x86_64::RelaxationKind::from_number(rewrite, n),
+            modifier,
+        ),
     };
-    Status::Success.number()
+    status.number()
 }

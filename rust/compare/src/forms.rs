@@ -2,7 +2,10 @@
 //! Values in the immediates of instructions, by `e_machine` and a form's number.
 
 use crate::status::Status;
-use linker_utils::elf::{Architecture, InstructionForm, RelocationInstruction};
+use linker_utils::elf::{
+    AArch64Instruction, Architecture, InstructionForm, LoongArch64Instruction, Ppc64Instruction,
+    RelocationInstruction, RiscVInstruction,
+};
 
 /// The form of a machine and a number, or which of the two is unknown.
 #[inline(always)]
@@ -40,13 +43,33 @@ pub fn linker_utils_fits_nonnull(
 }
 
 #[inline(always)]
-fn fit(form: RelocationInstruction, value: u64, bytes: &[u8]) -> Status {
+fn fit<F: InstructionForm>(form: F, value: u64, bytes: &[u8]) -> Status {
     if bytes.len() < form.window() {
         return Status::TooShort;
     }
     if !form.fits(value, bytes) {
         return Status::DoesNotFit;
     }
+    Status::Success
+}
+
+// Writes a value by a form, if there is one: `RelocationInstruction` would ask for its architecture
+// again.
+#[inline(always)]
+fn write_by<F: InstructionForm>(
+    form: Option<F>,
+    value: u64,
+    negative: bool,
+    dest: &mut [u8],
+) -> Status {
+    let Some(named) = form else {
+        return Status::UnknownForm;
+    };
+    let status = fit(named, value, dest);
+    if status != Status::Success {
+        return status;
+    }
+    named.write(value, negative, dest);
     Status::Success
 }
 
@@ -60,16 +83,57 @@ pub fn linker_utils_write_nonnull(
     negative: bool,
     dest: &mut [u8],
 ) -> u32 {
-    let named = match form_of(machine, form) {
-        Ok(named) => named,
-        Err(status) => return status.number(),
+    let Some(architecture) = Architecture::from_machine(machine) else {
+        return Status::UnknownArchitecture.number();
     };
-    let status = fit(named, value, dest);
-    if status != Status::Success {
-        return status.number();
+    match architecture {
+        Architecture::AArch64 => write_by(
+            AArch64Instruction::from_number(form),
+            value,
+            negative,
+            dest,
+        ).number(),
+        Architecture::RiscV => write_by(
+            RiscVInstruction::from_number(form),
+            value,
+            negative,
+            dest,
+        ).number(),
+        Architecture::LoongArch64 => write_by(
+            LoongArch64Instruction::from_number(form),
+            value,
+            negative,
+            dest,
+        )
+        .number(),
+        Architecture::Ppc64 => write_by(
+            Ppc64Instruction::from_number(form),
+            value,
+            negative,
+            dest,
+        ).number(),
+        Architecture::X86_64 => Status::UnknownArchitecture.number(),
     }
-    named.write(value, negative, dest);
-    Status::Success.number()
+}
+
+// Reads a value by a form, if there is one.
+#[inline(always)]
+fn read_by<F: InstructionForm>(
+    form: Option<F>,
+    bytes: &[u8],
+    value: &mut u64,
+    negative: &mut u8,
+) -> Status {
+    let Some(named) = form else {
+        return Status::UnknownForm;
+    };
+    if bytes.len() < named.window() {
+        return Status::TooShort;
+    }
+    let (number, flag) = named.read(bytes);
+    *value = number;
+    *negative = u8::from(flag);
+    Status::Success
 }
 
 /// Reads the value in the instruction that `bytes` begins with, modulo 2^64, and the form's flag,
@@ -82,15 +146,36 @@ pub fn linker_utils_read_nonnull(
     value: &mut u64,
     negative: &mut u8,
 ) -> u32 {
-    let named = match form_of(machine, form) {
-        Ok(named) => named,
-        Err(status) => return status.number(),
+    let Some(architecture) = Architecture::from_machine(machine) else {
+        return Status::UnknownArchitecture.number();
     };
-    if bytes.len() < named.window() {
-        return Status::TooShort.number();
+    match architecture {
+        Architecture::AArch64 => read_by(
+            AArch64Instruction::from_number(form),
+            bytes,
+            value,
+            negative,
+        )
+        .number(),
+        Architecture::RiscV => read_by(
+            RiscVInstruction::from_number(form),
+            bytes,
+            value,
+            negative,
+        ).number(),
+        Architecture::LoongArch64 => read_by(
+            LoongArch64Instruction::from_number(form),
+            bytes,
+            value,
+            negative,
+        )
+        .number(),
+        Architecture::Ppc64 => read_by(
+            Ppc64Instruction::from_number(form),
+            bytes,
+            value,
+            negative,
+        ).number(),
+        Architecture::X86_64 => Status::UnknownArchitecture.number(),
     }
-    let (number, flag) = named.read(bytes);
-    *value = number;
-    *negative = u8::from(flag);
-    Status::Success.number()
 }

@@ -2,20 +2,51 @@
 //! Rewrites of instructions, by `e_machine` and a rewrite's number.
 
 use crate::status::Status;
-use linker_utils::architecture::Relaxation;
 use linker_utils::elf::{Architecture, InstructionRewrite};
 use linker_utils::relaxation::RelocationModifier;
+use linker_utils::{aarch64, loongarch64, ppc64, riscv64, x86_64};
 
-/// The rewrite of a machine and a number, with the bytes before the field, or which of the first two
-/// is unknown.
+// Whether a rewrite, if there is one, can be applied.
 #[inline(always)]
-fn rewrite_of(machine: u16, rewrite: u32, n: u8) -> Result<Relaxation, Status> {
-    match Architecture::from_machine(machine) {
-        None => Err(Status::UnknownArchitecture),
-        Some(architecture) => architecture
-            .rewrite(rewrite, n)
-            .ok_or(Status::UnknownRewrite),
+fn test_by<R: InstructionRewrite>(rewrite: Option<R>, section: &[u8], offset: u64) -> Status {
+    let Some(named) = rewrite else {
+        return Status::UnknownRewrite;
+    };
+    if !named.can_apply(section, offset) {
+        return Status::CannotApply;
     }
+    Status::Success
+}
+
+// Applies a rewrite, if there is one.
+#[inline(always)]
+fn apply_by<R: InstructionRewrite>(
+    rewrite: Option<R>,
+    section: &mut [u8],
+    offset: &mut u64,
+    addend: &mut i64,
+) -> Status {
+    let Some(named) = rewrite else {
+        return Status::UnknownRewrite;
+    };
+    if !named.can_apply(section, *offset) {
+        return Status::CannotApply;
+    }
+    named.apply(section, offset, addend);
+    Status::Success
+}
+
+// What becomes of the relocation after a rewrite, if there is one.
+#[inline(always)]
+fn modifier_by<R: InstructionRewrite>(rewrite: Option<R>, modifier: &mut u32) -> Status {
+    let Some(named) = rewrite else {
+        return Status::UnknownRewrite;
+    };
+    *modifier = match named.next_modifier() {
+        RelocationModifier::Normal => 0,
+        RelocationModifier::SkipNextRelocation => 1,
+    };
+    Status::Success
 }
 
 /// Whether `linker_utils_apply` at this offset would succeed: the status is that of the rewrite.
@@ -26,14 +57,37 @@ pub fn linker_utils_can_apply_nonnull(
     section: &[u8],
     offset: u64,
 ) -> u32 {
-    let named = match rewrite_of(machine, rewrite, n) {
-        Ok(named) => named,
-        Err(status) => return status.number(),
+    let Some(architecture) = Architecture::from_machine(machine) else {
+        return Status::UnknownArchitecture.number();
     };
-    if !named.can_apply(section, offset) {
-        return Status::CannotApply.number();
-    }
-    Status::Success.number()
+    let status = match architecture {
+        Architecture::AArch64 => test_by(
+            aarch64::RelaxationKind::from_number(rewrite),
+            section,
+            offset,
+        ),
+        Architecture::RiscV => test_by(
+            riscv64::RelaxationKind::from_number(rewrite),
+            section,
+            offset,
+        ),
+        Architecture::LoongArch64 => test_by(
+            loongarch64::RelaxationKind::from_number(rewrite),
+            section,
+            offset,
+        ),
+        Architecture::Ppc64 => test_by(
+            ppc64::RelaxationKind::from_number(rewrite),
+            section,
+            offset,
+        ),
+        Architecture::X86_64 => test_by(
+            x86_64::RelaxationKind::from_number(rewrite, n),
+            section,
+            offset,
+        ),
+    };
+    status.number()
 }
 
 /// Rewrites the instruction at an offset of a section, and sets the offset and the addend to those
@@ -47,15 +101,42 @@ pub fn linker_utils_apply_nonnull(
     offset: &mut u64,
     addend: &mut i64,
 ) -> u32 {
-    let named = match rewrite_of(machine, rewrite, n) {
-        Ok(named) => named,
-        Err(status) => return status.number(),
+    let Some(architecture) = Architecture::from_machine(machine) else {
+        return Status::UnknownArchitecture.number();
     };
-    if !named.can_apply(section, *offset) {
-        return Status::CannotApply.number();
-    }
-    named.apply(section, offset, addend);
-    Status::Success.number()
+    let status = match architecture {
+        Architecture::AArch64 => apply_by(
+            aarch64::RelaxationKind::from_number(rewrite),
+            section,
+            offset,
+            addend,
+        ),
+        Architecture::RiscV => apply_by(
+            riscv64::RelaxationKind::from_number(rewrite),
+            section,
+            offset,
+            addend,
+        ),
+        Architecture::LoongArch64 => apply_by(
+            loongarch64::RelaxationKind::from_number(rewrite),
+            section,
+            offset,
+            addend,
+        ),
+        Architecture::Ppc64 => apply_by(
+            ppc64::RelaxationKind::from_number(rewrite),
+            section,
+            offset,
+            addend,
+        ),
+        Architecture::X86_64 => apply_by(
+            x86_64::RelaxationKind::from_number(rewrite, n),
+            section,
+            offset,
+            addend,
+        ),
+    };
+    status.number()
 }
 
 /// What becomes of the relocation after that of the rewritten instruction, into `modifier`: 0 where
@@ -67,13 +148,24 @@ pub fn linker_utils_next_modifier(
     n: u8,
     modifier: &mut u32,
 ) -> u32 {
-    let named = match rewrite_of(machine, rewrite, n) {
-        Ok(named) => named,
-        Err(status) => return status.number(),
+    let Some(architecture) = Architecture::from_machine(machine) else {
+        return Status::UnknownArchitecture.number();
     };
-    *modifier = match named.next_modifier() {
-        RelocationModifier::Normal => 0,
-        RelocationModifier::SkipNextRelocation => 1,
+    let status = match architecture {
+        Architecture::AArch64 => modifier_by(
+            aarch64::RelaxationKind::from_number(rewrite),
+            modifier,
+        ),
+        Architecture::RiscV => modifier_by(riscv64::RelaxationKind::from_number(rewrite), modifier),
+        Architecture::LoongArch64 => modifier_by(
+            loongarch64::RelaxationKind::from_number(rewrite),
+            modifier,
+        ),
+        Architecture::Ppc64 => modifier_by(ppc64::RelaxationKind::from_number(rewrite), modifier),
+        Architecture::X86_64 => modifier_by(
+            x86_64::RelaxationKind::from_number(rewrite, n),
+            modifier,
+        ),
     };
-    Status::Success.number()
+    status.number()
 }

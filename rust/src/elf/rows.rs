@@ -50,14 +50,13 @@ pub(crate) struct WriteTests {
 /// row.write(value, &mut jal).unwrap();
 /// assert_eq!(u32::from_le_bytes(jal), 0x0080_00ef);
 /// ```
-#[derive(Clone, Copy)]
 pub struct Row {
-    entry: TableRow,
+    entry: &'static TableRow,
 }
 
 /// The row of a table's entry, if there is one.
 #[inline(always)]
-pub(crate) fn row_in(entry: &Option<TableRow>) -> Option<Row> {
+pub(crate) fn row_in(entry: &'static Option<TableRow>) -> Option<Row> {
     match entry {
         Some(entry) => Some(Row::of(entry)),
         None => None,
@@ -76,15 +75,15 @@ pub(crate) fn info_in(row: Option<Row>) -> Option<RelocationKindInfo> {
 impl Row {
     /// The row of an entry.
     #[inline(always)]
-    pub(crate) fn of(entry: &TableRow) -> Row {
-        Row { entry: *entry }
+    pub(crate) fn of(entry: &'static TableRow) -> Row {
+        Row { entry }
     }
 
     /// What the relocation means.
     #[must_use]
     #[inline(always)]
     pub fn info(&self) -> RelocationKindInfo {
-        let entry = &self.entry;
+        let entry = self.entry;
         let numbers = &entry.numbers;
         let bounds = if numbers.has_range == 1 {
             Some((numbers.min, numbers.max))
@@ -106,7 +105,7 @@ impl Row {
     /// The same in numbers.
     #[must_use]
     #[inline(always)]
-    pub fn numbers(&self) -> &RelocationNumbers {
+    pub fn numbers(&self) -> &'static RelocationNumbers {
         &self.entry.numbers
     }
 

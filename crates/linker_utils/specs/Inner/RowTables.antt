@@ -1,13 +1,11 @@
 -- Entries of the tables of rows.
 use Rattle.std.specs.Prelude.{◌≡◌, Option, Some, None, if◌then◌else◌, ◌==◌}
-use Rattle.std.proofs.Common.{ap, sym}
 use Rattle.linker_utils.specs.Agrees.{RowFits}
 use Rattle.linker_utils.specs.Bounds.{least_within, last_within}
 use Rattle.linker_utils.specs.Numbers.{numbers_of}
 use Rattle.linker_utils.specs.Reach.{reach_of}
 use Rattle.linker_utils.specs.Relocate.{is_supported, window_len}
 use Rattle.linker_utils.specs.declared.elf.RelocationKindInfo.{RelocationKindInfo}
-use Rattle.linker_utils.specs.declared.elf.rows.Row.TheInside.{Inside}
 use Rattle.linker_utils.specs.declared.elf.rows.TableRow.{TableRow}
 use Rattle.linker_utils.specs.declared.elf.rows.WriteTests.{WriteTests}
 
@@ -52,10 +50,6 @@ info_of entry =
 pub record IsSound (entry : TableRow) : Type 0 where
   pub is : entry ≡ entry_of (info_of entry)
   pub fits : RowFits (info_of entry)
-
-pub restored : (row : Inside) → IsSound row.entry
-    → record { entry = entry_of (info_of row.entry) } ≡ row
-restored row sound = ap (λ entry. record { entry = entry }) (sym sound.is)
 
 abbrev pub info_in : Option TableRow → Option RelocationKindInfo
 info_in None = None

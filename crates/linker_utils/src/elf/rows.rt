@@ -58,29 +58,25 @@ pub(crate) struct WriteTests {
 /// row.write(value, &mut jal).unwrap();
 /// assert_eq!(u32::from_le_bytes(jal), 0x0080_00ef);
 /// ```
-#[derive(Clone, Copy)]
+#[derive(Drop)]
 pub struct Row {
-    entry: TableRow,
+    entry: &'static TableRow,
 }
 
 impl Model for Row {
     ghost use Rattle.linker_utils.specs.declared.elf.RelocationKindInfo.{RelocationKindInfo};
-    ghost use Rattle.linker_utils.specs.Inner.RowTables.{info_of, entry_of, IsSound, restored};
+    ghost use Rattle.linker_utils.specs.Inner.RowTables.{info_of, IsSound};
 
     ghost Value = { RelocationKindInfo };
 
-    ghost view = { λ row. info_of row.entry };
+    ghost view = { λ row. info_of row.entry.now };
 
-    ghost invariant = { λ row. IsSound row.entry };
-
-    ghost inverse = { λ info. record { entry = entry_of info } };
-
-    ghost inverse_ok = { λ row sound. restored row sound };
+    ghost invariant = { λ row. IsSound row.entry.now };
 }
 
 /// The row of a table's entry, if there is one.
 #[inline(always)]
-pub(crate) fn row_in(entry: &Option<TableRow>) -> Option<Row>
+pub(crate) fn row_in(entry: &'static Option<TableRow>) -> Option<Row>
     requires { IfSome entry.now IsSound }
     ensures { result ≡ info_in entry.now }
 {
@@ -105,11 +101,11 @@ pub(crate) fn info_in(row: Option<Row>) -> Option<RelocationKindInfo>
 impl Row {
     /// The row of an entry.
     #[inline(always)]
-    pub(crate) fn of(entry: &TableRow) -> Row
+    pub(crate) fn of(entry: &'static TableRow) -> Row
         requires { IsSound entry.now }
         ensures { result ≡ info_of entry.now }
     {
-        Row { entry: *entry }
+        Row { entry }
     }
 
     /// What the relocation means.
@@ -118,7 +114,7 @@ impl Row {
         ensures row { result ≡ self.now }
         ensures fits { RowFits result }
     {
-        let entry = &self.entry;
+        let entry = self.entry;
         let numbers = &entry.numbers;
         let bounds = if numbers.has_range == 1 {
             Some((numbers.min, numbers.max))
@@ -139,7 +135,7 @@ impl Row {
 
     /// The same in numbers.
     #[inline(always)]
-    pub fn numbers(&self) -> &RelocationNumbers
+    pub fn numbers(&self) -> &'static RelocationNumbers
         ensures { result.now ≡ numbers_of self.now }
     {
         &self.entry.numbers
