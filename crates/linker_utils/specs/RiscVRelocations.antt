@@ -1,5 +1,5 @@
 -- The relocations of RISC-V (RISC-V ELF psABI, "Relocations").
-use Rattle.std.specs.Prelude.{codes, ℕ, Option, Some, None, ℤ, pos, negsuc}
+use Rattle.std.specs.Prelude.{Bool, true, false, codes, ℕ, Option, Some, None, ℤ, pos, negsuc}
 use Rattle.linker_utils.specs.ElfNames.{ElfName}
 use Rattle.linker_utils.specs.Rows.{Relocation, with_row, unnamed_relocation, bytes_row, bits_row}
 use Rattle.linker_utils.specs.Rows.{within_row, signed_or_unsigned_row, aligned_row}
@@ -123,6 +123,11 @@ riscv_relocation (r.Other code) = unnamed_relocation code
 
 abbrev pub riscv_name : RiscVRelocation → ElfName
 riscv_name name = (riscv_relocation name).name
+
+abbrev pub is_of_descriptor : RelocationKind → Bool
+is_of_descriptor TlsDesc = true
+is_of_descriptor TlsDescCall = true
+is_of_descriptor kind = false
 
 -- what a relocation means, of those that the original library knows: not TLS descriptors
 abbrev pub riscv_row : RiscVRelocation → Option RelocationKindInfo

@@ -102,6 +102,13 @@ impl Row {
         }
     }
 
+    /// The formula of the relocation's value.
+    #[must_use]
+    #[inline(always)]
+    pub fn kind(&self) -> RelocationKind {
+        self.entry.kind
+    }
+
     /// The same in numbers.
     #[must_use]
     #[inline(always)]

@@ -268,7 +268,7 @@ pub fn row(name: LoongArch64Relocation) -> Option<Row> {
 
 /// What a relocation means, as `row` says.
 #[must_use]
-#[inline]
+#[inline(always)]
 pub fn relocation_type_from_raw(name: LoongArch64Relocation) -> Option<RelocationKindInfo> {
     info_in(row(name))
 }

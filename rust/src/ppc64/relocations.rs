@@ -213,7 +213,7 @@ pub fn row(name: Ppc64Relocation) -> Option<Row> {
 
 /// What a relocation means, as `row` says.
 #[must_use]
-#[inline]
+#[inline(always)]
 pub fn relocation_type_from_raw(name: Ppc64Relocation) -> Option<RelocationKindInfo> {
     info_in(row(name))
 }

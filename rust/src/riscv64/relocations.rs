@@ -2,9 +2,9 @@
 //! What the relocations of RISC-V mean.
 
 use crate::elf::rows::{
-    TableRow, code_of_name, index_of_name, info_in, name_of_code, row, row_in, table, text_of_name,
+    TableRow, code_of_name, index_of_name, name_of_code, row, row_in, table, text_of_name,
 };
-use crate::elf::{RelocationKindInfo, Row, Uleb128Role};
+use crate::elf::{RelocationKind, RelocationKindInfo, Row, Uleb128Role};
 use core::fmt;
 
 /// The relocations of RISC-V, by their names in the RISC-V ELF psABI, "Relocations". `from_elf`
@@ -218,15 +218,19 @@ pub fn row(name: RiscVRelocation) -> Option<Row> {
     row_in(&ROWS[index(name)])
 }
 
+/// Whether relocations of TLS descriptors have a kind.
+#[inline(always)]
+fn is_of_descriptor(kind: RelocationKind) -> bool {
+    matches!(kind, RelocationKind::TlsDesc | RelocationKind::TlsDescCall)
+}
+
 /// What a relocation means, as `row` says, or `None` for the four of TLS descriptors.
 #[must_use]
-#[inline]
+#[inline(always)]
 pub fn relocation_type_from_raw(name: RiscVRelocation) -> Option<RelocationKindInfo> {
-    match name {
-        RiscVRelocation::R_RISCV_TLSDESC_HI20
-        | RiscVRelocation::R_RISCV_TLSDESC_LOAD_LO12
-        | RiscVRelocation::R_RISCV_TLSDESC_ADD_LO12
-        | RiscVRelocation::R_RISCV_TLSDESC_CALL => None,
-        _ => info_in(row(name)),
+    match row(name) {
+        // by the kind: LLVM compiles a match of the name to a jump by the code
+        Some(row) if !is_of_descriptor(row.kind()) => Some(row.info()),
+        _ => None,
     }
 }

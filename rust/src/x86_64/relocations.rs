@@ -158,7 +158,7 @@ pub fn row(name: X86_64Relocation) -> Option<Row> {
 
 /// What a relocation means, as `row` says.
 #[must_use]
-#[inline]
+#[inline(always)]
 pub fn relocation_from_raw(name: X86_64Relocation) -> Option<RelocationKindInfo> {
     info_in(row(name))
 }

@@ -422,7 +422,7 @@ pub fn row(name: AArch64Relocation) -> Option<Row>
 }
 
 /// What a relocation means, as `row` says.
-#[inline]
+#[inline(always)]
 pub fn relocation_type_from_raw(name: AArch64Relocation) -> Option<RelocationKindInfo>
     ensures row { result ≡ aarch64_row name }
     ensures agrees { IfSome result RowAgrees }

@@ -133,6 +133,14 @@ impl Row {
         }
     }
 
+    /// The formula of the relocation's value.
+    #[inline(always)]
+    pub fn kind(&self) -> RelocationKind
+        ensures { result ≡ self.now.kind }
+    {
+        self.entry.kind
+    }
+
     /// The same in numbers.
     #[inline(always)]
     pub fn numbers(&self) -> &'static RelocationNumbers

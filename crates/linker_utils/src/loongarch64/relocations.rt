@@ -284,7 +284,7 @@ pub fn row(name: LoongArch64Relocation) -> Option<Row>
 }
 
 /// What a relocation means, as `row` says.
-#[inline]
+#[inline(always)]
 pub fn relocation_type_from_raw(name: LoongArch64Relocation) -> Option<RelocationKindInfo>
     ensures row { result ≡ loongarch_row name }
     // not of pairs: `reaches` of `write_to_value` says what `Call36` holds

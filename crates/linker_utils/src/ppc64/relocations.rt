@@ -227,7 +227,7 @@ pub fn row(name: Ppc64Relocation) -> Option<Row>
 }
 
 /// What a relocation means, as `row` says.
-#[inline]
+#[inline(always)]
 pub fn relocation_type_from_raw(name: Ppc64Relocation) -> Option<RelocationKindInfo>
     ensures row { result ≡ ppc64_row name }
     ensures agrees { IfSome result RowAgrees }

@@ -5,13 +5,13 @@ ghost use denote.Enum.Declared.{tag_of};
 ghost use Rattle.linker_utils.specs.Agrees.{RowAgrees, RowFits};
 ghost use Rattle.linker_utils.specs.ElfNames.{IsNameOf, code_of, text_of};
 ghost use Rattle.linker_utils.specs.Readings.{RowReadsNoOther};
-ghost use Rattle.linker_utils.specs.RiscVRelocations.{riscv_relocation, riscv_name, riscv_row, riscv_uleb128_role, clui_row};
+ghost use Rattle.linker_utils.specs.RiscVRelocations.{is_of_descriptor, riscv_relocation, riscv_name, riscv_row, riscv_uleb128_role, clui_row};
 ghost use Rattle.linker_utils.specs.contracts.riscv64.relocations.RiscVRelocation as names;
 
 use crate::elf::rows::{
-    TableRow, code_of_name, index_of_name, info_in, name_of_code, row, row_in, table, text_of_name,
+    TableRow, code_of_name, index_of_name, name_of_code, row, row_in, table, text_of_name,
 };
-use crate::elf::{RelocationKindInfo, Row, Uleb128Role};
+use crate::elf::{RelocationKind, RelocationKindInfo, Row, Uleb128Role};
 use std::fmt;
 
 /// The relocations of RISC-V, by their names in the RISC-V ELF psABI, "Relocations". `from_elf`
@@ -236,8 +236,16 @@ pub fn row(name: RiscVRelocation) -> Option<Row>
     row_in(&ROWS[index(name)])
 }
 
+/// Whether relocations of TLS descriptors have a kind.
+#[inline(always)]
+fn is_of_descriptor(kind: RelocationKind) -> bool
+    ensures { result ≡ is_of_descriptor kind }
+{
+    matches!(kind, RelocationKind::TlsDesc | RelocationKind::TlsDescCall)
+}
+
 /// What a relocation means, as `row` says, or `None` for the four of TLS descriptors.
-#[inline]
+#[inline(always)]
 pub fn relocation_type_from_raw(name: RiscVRelocation) -> Option<RelocationKindInfo>
     ensures row { result ≡ riscv_row name }
     // only of branches and jumps: `pair` of `write_to_value` says what pairs hold
@@ -245,11 +253,9 @@ pub fn relocation_type_from_raw(name: RiscVRelocation) -> Option<RelocationKindI
     ensures others { IfSome result RowReadsNoOther }
     ensures fits { IfSome result RowFits }
 {
-    match name {
-        RiscVRelocation::R_RISCV_TLSDESC_HI20
-        | RiscVRelocation::R_RISCV_TLSDESC_LOAD_LO12
-        | RiscVRelocation::R_RISCV_TLSDESC_ADD_LO12
-        | RiscVRelocation::R_RISCV_TLSDESC_CALL => None,
-        _ => info_in(row(name)),
+    match row(name) {
+        // by the kind: LLVM compiles a match of the name to a jump by the code
+        Some(row) if !is_of_descriptor(row.kind()) => Some(row.info()),
+        _ => None,
     }
 }

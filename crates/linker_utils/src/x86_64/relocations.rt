@@ -168,7 +168,7 @@ pub fn row(name: X86_64Relocation) -> Option<Row>
 }
 
 /// What a relocation means, as `row` says.
-#[inline]
+#[inline(always)]
 pub fn relocation_from_raw(name: X86_64Relocation) -> Option<RelocationKindInfo>
     ensures { result ≡ x86_64_row name }
 {
