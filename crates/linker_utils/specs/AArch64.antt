@@ -1,6 +1,6 @@
 -- AArch64: its instruction forms (Arm Architecture Reference Manual for A-profile, DDI 0487, C6.2
 -- and C7.2), its rewrites and the moves that load an address.
-use Rattle.std.specs.Prelude.{ℕ, ◌+◌, ◌-◌, ◌*◌, ◌/◌, ◌%◌, ◌^◌, Bool, true, false, not, ◌&&◌, ◌||◌}
+use Rattle.std.specs.Prelude.{◌∷◌, [], ℕ, ◌+◌, ◌-◌, ◌*◌, ◌/◌, ◌%◌, ◌^◌, Bool, true, false, not, ◌&&◌, ◌||◌}
 use Rattle.std.specs.Prelude.{◌==◌, if◌then◌else◌, List, ◌++◌, drop, Option, None, Some, ℤ, pos}
 use Rattle.std.specs.Prelude.{negsuc, nat_lt, bit_and}
 use Rattle.std.specs.Int.{w32, w64, bit_at, from_le_bytes, to_le_bytes}
@@ -160,6 +160,12 @@ aarch64_layout Bcond = signed_immediate 19 (or_bits_to 0 18 5)
 aarch64_layout JumpCall = signed_immediate 26 (or_bits_to 0 25 0)
 aarch64_layout MachOLow12 = own_form macho_low12
 
+-- the forms by their numbers from 0 up
+abbrev pub aarch64_forms : List AArch64Instruction
+aarch64_forms =
+    Adr ∷ Movkz ∷ Movnz ∷ Ldr ∷ LdrRegister ∷ Add ∷ LdSt ∷ TstBr ∷ Bcond ∷ JumpCall ∷ MachOLow12 ∷
+    []
+
 abbrev pub aarch64_form : AArch64Instruction → Form
 aarch64_form f = form_of (aarch64_layout f)
 
@@ -217,6 +223,14 @@ aarch64_rewrite AdrpAddToNopAdr = Some (replaces 4 8 nop_adr)
 
 abbrev pub aarch64_modifier : RelaxationKind → RelocationModifier
 aarch64_modifier kind = Normal
+
+-- the rewrites by their numbers from 0 up
+abbrev pub aarch64_rewrites : List RelaxationKind
+aarch64_rewrites =
+    NoOp ∷ ReplaceWithNop ∷ MovzX0Lsl16 ∷
+    MovkX0 ∷ MovzXnLsl16 ∷ MovkXn ∷
+    AdrpToAdr ∷ AdrpX0 ∷ LdrX0 ∷ AddToAdr ∷
+    LdrToAdr ∷ LdrToAdd ∷ AdrpAddToNopAdr ∷ []
 
 -- ---- the moves of a number of 64 bits
 

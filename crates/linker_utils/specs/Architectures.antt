@@ -7,9 +7,15 @@ use Rattle.linker_utils.specs.AArch64Relocations.{aarch64_name, aarch64_row}
 use Rattle.linker_utils.specs.ElfNames.{ElfName, IsNameOf}
 use Rattle.linker_utils.specs.LoongArch.{loongarch_rewrite, loongarch_modifier}
 use Rattle.linker_utils.specs.LoongArchRelocations.{loongarch_name, loongarch_row, loongarch_uleb128_role}
-use Rattle.linker_utils.specs.Numbers.{aarch64_forms, riscv_forms, loongarch64_forms, ppc64_forms}
-use Rattle.linker_utils.specs.Numbers.{aarch64_rewrites, riscv_rewrites, loongarch64_rewrites}
-use Rattle.linker_utils.specs.Numbers.{ppc64_rewrites, x86_64_rewrites}
+use Rattle.linker_utils.specs.AArch64.{aarch64_forms}
+use Rattle.linker_utils.specs.RiscV.{riscv_forms}
+use Rattle.linker_utils.specs.LoongArch.{loongarch64_forms}
+use Rattle.linker_utils.specs.Ppc64.{ppc64_forms}
+use Rattle.linker_utils.specs.AArch64.{aarch64_rewrites}
+use Rattle.linker_utils.specs.RiscV.{riscv_rewrites}
+use Rattle.linker_utils.specs.LoongArch.{loongarch64_rewrites}
+use Rattle.linker_utils.specs.Ppc64.{ppc64_rewrites}
+use Rattle.linker_utils.specs.X86.{x86_64_rewrites}
 use Rattle.linker_utils.specs.Ppc64.{ppc64_rewrite, ppc64_modifier}
 use Rattle.linker_utils.specs.Ppc64Relocations.{ppc64_name, ppc64_row}
 use Rattle.linker_utils.specs.RiscV.{riscv_rewrite, riscv_modifier}

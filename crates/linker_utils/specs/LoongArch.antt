@@ -101,6 +101,10 @@ loongarch_layout Call30 =
     own_form (record (field_form call30_field) { restores = λ x. field x 5 14 == 0 })
 loongarch_layout Call36 = own_form call36_form
 
+-- the forms by their numbers from 0 up
+abbrev pub loongarch64_forms : List LoongArch64Instruction
+loongarch64_forms = Shift5 ∷ Shift10 ∷ Branch26 ∷ Branch21 ∷ Call30 ∷ Call36 ∷ []
+
 abbrev pub loongarch_form : LoongArch64Instruction → Form
 loongarch_form f = form_of (loongarch_layout f)
 
@@ -140,6 +144,10 @@ loongarch_rewrite ReplaceWithNop = Some (replaces 0 4 (λ _. 0x00 ∷ 0x00 ∷ 0
 abbrev pub loongarch_modifier : RelaxationKind → RelocationModifier
 loongarch_modifier NoOp = Normal
 loongarch_modifier ReplaceWithNop = Normal
+
+-- the rewrites by their numbers from 0 up
+abbrev pub loongarch64_rewrites : List RelaxationKind
+loongarch64_rewrites = NoOp ∷ ReplaceWithNop ∷ []
 
 -- ---- addresses
 

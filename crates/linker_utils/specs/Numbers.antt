@@ -1,6 +1,6 @@
 -- Relocations in numbers. The numbers of kinds of relocations and of forms of instructions are their
 -- places in the enums, those of page masks their places and 1.
-use Rattle.std.specs.Prelude.{ℕ, List, [], ◌∷◌, Option, None, Some, ℤ, pos, Bool, true, false}
+use Rattle.std.specs.Prelude.{ℕ, Option, None, Some, ℤ, pos, Bool, true, false}
 use denote.Enum.Declared.{tag_of}
 use Rattle.linker_utils.specs.contracts.aarch64.forms.AArch64Instruction as aarch64
 use Rattle.linker_utils.specs.contracts.riscv64.forms.RiscVInstruction as riscv
@@ -19,32 +19,6 @@ use Rattle.linker_utils.specs.declared.elf.PageMask.TheVariants.{SymbolPlusAdden
 use Rattle.linker_utils.specs.declared.elf.PageMask.TheVariants.{GotEntryAndPosition, GotBase}
 use Rattle.linker_utils.specs.declared.elf.RelocationKind.{RelocationKind}
 use Rattle.linker_utils.specs.declared.elf.RelocationKind.TheVariants as kinds
-use Rattle.linker_utils.specs.declared.aarch64.forms.AArch64Instruction.{AArch64Instruction}
-use Rattle.linker_utils.specs.declared.riscv64.forms.RiscVInstruction.{RiscVInstruction}
-use Rattle.linker_utils.specs.declared.loongarch64.forms.LoongArch64Instruction.{LoongArch64Instruction}
-use Rattle.linker_utils.specs.declared.ppc64.forms.Ppc64Instruction.{Ppc64Instruction}
-use Rattle.linker_utils.specs.declared.aarch64.forms.AArch64Instruction.TheVariants.{Adr, Movkz, Movnz, Ldr}
-use Rattle.linker_utils.specs.declared.aarch64.forms.AArch64Instruction.TheVariants.{LdrRegister, Add, LdSt}
-use Rattle.linker_utils.specs.declared.aarch64.forms.AArch64Instruction.TheVariants.{TstBr, Bcond, JumpCall}
-use Rattle.linker_utils.specs.declared.aarch64.forms.AArch64Instruction.TheVariants.{MachOLow12}
-use Rattle.linker_utils.specs.declared.riscv64.forms.RiscVInstruction.TheVariants.{UType, IType, SType}
-use Rattle.linker_utils.specs.declared.riscv64.forms.RiscVInstruction.TheVariants.{BType, JType, CbType}
-use Rattle.linker_utils.specs.declared.riscv64.forms.RiscVInstruction.TheVariants.{CjType, CluiType, UiType}
-use Rattle.linker_utils.specs.declared.loongarch64.forms.LoongArch64Instruction.TheVariants.{Shift5, Shift10}
-use Rattle.linker_utils.specs.declared.loongarch64.forms.LoongArch64Instruction.TheVariants.{Branch26, Branch21}
-use Rattle.linker_utils.specs.declared.loongarch64.forms.LoongArch64Instruction.TheVariants.{Call30, Call36}
-use Rattle.linker_utils.specs.declared.ppc64.forms.Ppc64Instruction.TheVariants.{D, Ds, Branch14, Branch24}
-use Rattle.linker_utils.specs.declared.ppc64.forms.Ppc64Instruction.TheVariants.{Prefixed}
-use Rattle.linker_utils.specs.declared.aarch64.rewrites.RelaxationKind.{RelaxationKind as AArch64Kind}
-use Rattle.linker_utils.specs.declared.aarch64.rewrites.RelaxationKind.TheVariants as aarch64_kinds
-use Rattle.linker_utils.specs.declared.riscv64.rewrites.RelaxationKind.{RelaxationKind as RiscVKind}
-use Rattle.linker_utils.specs.declared.riscv64.rewrites.RelaxationKind.TheVariants as riscv_kinds
-use Rattle.linker_utils.specs.declared.loongarch64.rewrites.RelaxationKind.{RelaxationKind as LoongArch64Kind}
-use Rattle.linker_utils.specs.declared.loongarch64.rewrites.RelaxationKind.TheVariants as loongarch64_kinds
-use Rattle.linker_utils.specs.declared.ppc64.rewrites.RelaxationKind.{RelaxationKind as Ppc64Kind}
-use Rattle.linker_utils.specs.declared.ppc64.rewrites.RelaxationKind.TheVariants as ppc64_kinds
-use Rattle.linker_utils.specs.declared.x86_64.rewrites.RelaxationKind.{RelaxationKind as X86_64Kind}
-use Rattle.linker_utils.specs.declared.x86_64.rewrites.RelaxationKind.TheVariants as x86_64_kinds
 
 abbrev pub kind_number : RelocationKind → ℕ
 kind_number kinds.None = 0
@@ -94,52 +68,6 @@ mask_number None = 0
 mask_number (Some (SymbolPlusAddendAndPosition pattern)) = 1
 mask_number (Some (GotEntryAndPosition pattern)) = 2
 mask_number (Some (GotBase pattern)) = 3
-
--- The forms of each architecture, by their numbers from 0 up.
-abbrev pub aarch64_forms : List AArch64Instruction
-aarch64_forms =
-    Adr ∷ Movkz ∷ Movnz ∷ Ldr ∷ LdrRegister ∷ Add ∷ LdSt ∷ TstBr ∷ Bcond ∷ JumpCall ∷ MachOLow12 ∷
-    []
-
-abbrev pub riscv_forms : List RiscVInstruction
-riscv_forms = UType ∷ IType ∷ SType ∷ BType ∷ JType ∷ CbType ∷ CjType ∷ CluiType ∷ UiType ∷ []
-
-abbrev pub loongarch64_forms : List LoongArch64Instruction
-loongarch64_forms = Shift5 ∷ Shift10 ∷ Branch26 ∷ Branch21 ∷ Call30 ∷ Call36 ∷ []
-
-abbrev pub ppc64_forms : List Ppc64Instruction
-ppc64_forms = D ∷ Ds ∷ Branch14 ∷ Branch24 ∷ Prefixed ∷ []
-
--- The rewrites of each architecture, by their numbers from 0 up.
-abbrev pub aarch64_rewrites : List AArch64Kind
-aarch64_rewrites =
-    aarch64_kinds.NoOp ∷ aarch64_kinds.ReplaceWithNop ∷ aarch64_kinds.MovzX0Lsl16 ∷
-    aarch64_kinds.MovkX0 ∷ aarch64_kinds.MovzXnLsl16 ∷ aarch64_kinds.MovkXn ∷
-    aarch64_kinds.AdrpToAdr ∷ aarch64_kinds.AdrpX0 ∷ aarch64_kinds.LdrX0 ∷ aarch64_kinds.AddToAdr ∷
-    aarch64_kinds.LdrToAdr ∷ aarch64_kinds.LdrToAdd ∷ aarch64_kinds.AdrpAddToNopAdr ∷ []
-
-abbrev pub riscv_rewrites : List RiscVKind
-riscv_rewrites =
-    riscv_kinds.NoOp ∷ riscv_kinds.ReplaceWithNop ∷ riscv_kinds.CallToJal ∷ riscv_kinds.Hi20ToCLui ∷
-    riscv_kinds.Hi20Delete ∷ riscv_kinds.Lo12Rs1ToZero ∷ []
-
-abbrev pub loongarch64_rewrites : List LoongArch64Kind
-loongarch64_rewrites = loongarch64_kinds.NoOp ∷ loongarch64_kinds.ReplaceWithNop ∷ []
-
-abbrev pub ppc64_rewrites : List Ppc64Kind
-ppc64_rewrites = ppc64_kinds.NoOp ∷ []
-
-abbrev pub x86_64_rewrites : ℕ → List X86_64Kind
-x86_64_rewrites n =
-    x86_64_kinds.MovIndirectToLea ∷ x86_64_kinds.MovIndirectToAbsolute ∷
-    x86_64_kinds.RexMovIndirectToAbsolute n ∷ x86_64_kinds.RexAddIndirectToAbsolute n ∷
-    x86_64_kinds.RexSubIndirectToAbsolute n ∷ x86_64_kinds.RexCmpIndirectToAbsolute n ∷
-    x86_64_kinds.CallIndirectToRelative ∷ x86_64_kinds.JmpIndirectToRelative ∷ x86_64_kinds.NoOp ∷
-    x86_64_kinds.TlsGdToLocalExec ∷ x86_64_kinds.TlsGdToLocalExecLarge ∷
-    x86_64_kinds.TlsLdToLocalExec ∷ x86_64_kinds.TlsLdToLocalExecNoPlt ∷
-    x86_64_kinds.TlsLdToLocalExec64 ∷ x86_64_kinds.TlsGdToInitialExec ∷
-    x86_64_kinds.TlsDescToLocalExec n ∷ x86_64_kinds.TlsDescToInitialExec ∷
-    x86_64_kinds.SkipTlsDescCall ∷ []
 
 abbrev pub form_number : RelocationInstruction → ℕ
 form_number (insns.AArch64 form) = tag_of aarch64.the_type form

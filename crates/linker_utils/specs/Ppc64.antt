@@ -1,6 +1,6 @@
 -- PowerPC64: its instruction forms (Power ISA, "Instruction Formats"), and addresses in two halves
 -- (64-bit ELF V2 ABI for Power, "@ha" and "@l").
-use Rattle.std.specs.Prelude.{◌≡◌, ℕ, List, drop, Option, None, ℤ, pos, negsuc, false, ◌+ℤ◌, ◌*ℤ◌}
+use Rattle.std.specs.Prelude.{◌∷◌, [], ◌≡◌, ℕ, List, drop, Option, None, ℤ, pos, negsuc, false, ◌+ℤ◌, ◌*ℤ◌}
 use Rattle.std.specs.Prelude.{◌≤ℤ◌, ◌<ℤ◌, ◌^◌, ◌-◌, ◌+◌, ◌++◌}
 use Rattle.std.specs.Int.{Width, w32, w64, from_le_bytes}
 use Rattle.linker_base.specs.Bits.{field, signed}
@@ -41,6 +41,10 @@ ppc64_layout Branch14 = displacement 16 2
 ppc64_layout Branch24 = displacement 26 2
 ppc64_layout Prefixed = displacement_at w64 34 0 (bits_to 0 15 32 ++ bits_to 16 33 0)
 
+-- the forms by their numbers from 0 up
+abbrev pub ppc64_forms : List Ppc64Instruction
+ppc64_forms = D ∷ Ds ∷ Branch14 ∷ Branch24 ∷ Prefixed ∷ []
+
 abbrev pub ppc64_form : Ppc64Instruction → Form
 ppc64_form f = form_of (ppc64_layout f)
 
@@ -50,6 +54,10 @@ ppc64_rewrite NoOp = None
 
 abbrev pub ppc64_modifier : RelaxationKind → RelocationModifier
 ppc64_modifier NoOp = Normal
+
+-- the rewrites by their numbers from 0 up
+abbrev pub ppc64_rewrites : List RelaxationKind
+ppc64_rewrites = NoOp ∷ []
 
 -- what `addis` by the high half and `addi` by the low half add, by the words of both
 abbrev pub pair : ℕ → ℕ → ℤ

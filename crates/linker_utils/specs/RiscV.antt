@@ -83,6 +83,10 @@ riscv_layout CluiType =
     (sum_bits_to 0x800 12 16 2 ++ sum_bits_to 0x800 17 17 12))
 riscv_layout UiType = own_form ui_form
 
+-- the forms by their numbers from 0 up
+abbrev pub riscv_forms : List RiscVInstruction
+riscv_forms = UType ∷ IType ∷ SType ∷ BType ∷ JType ∷ CbType ∷ CjType ∷ CluiType ∷ UiType ∷ []
+
 abbrev pub riscv_form : RiscVInstruction → Form
 riscv_form f = form_of (riscv_layout f)
 
@@ -144,6 +148,12 @@ riscv_modifier CallToJal = SkipNextRelocation
 riscv_modifier Hi20ToCLui = Normal
 riscv_modifier Hi20Delete = SkipNextRelocation
 riscv_modifier Lo12Rs1ToZero = Normal
+
+-- the rewrites by their numbers from 0 up
+abbrev pub riscv_rewrites : List RelaxationKind
+riscv_rewrites =
+    NoOp ∷ ReplaceWithNop ∷ CallToJal ∷ Hi20ToCLui ∷
+    Hi20Delete ∷ Lo12Rs1ToZero ∷ []
 
 -- bits 12 to 31 of the value plus 0x800
 abbrev pub hi20 : ℕ → ℕ

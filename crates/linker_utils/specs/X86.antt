@@ -157,6 +157,19 @@ x86_64_modifier (TlsDescToLocalExec n) = Normal
 x86_64_modifier TlsDescToInitialExec = Normal
 x86_64_modifier SkipTlsDescCall = Normal
 
+-- the rewrites by their numbers from 0 up
+abbrev pub x86_64_rewrites : ℕ → List RelaxationKind
+x86_64_rewrites n =
+    MovIndirectToLea ∷ MovIndirectToAbsolute ∷
+    RexMovIndirectToAbsolute n ∷ RexAddIndirectToAbsolute n ∷
+    RexSubIndirectToAbsolute n ∷ RexCmpIndirectToAbsolute n ∷
+    CallIndirectToRelative ∷ JmpIndirectToRelative ∷ NoOp ∷
+    TlsGdToLocalExec ∷ TlsGdToLocalExecLarge ∷
+    TlsLdToLocalExec ∷ TlsLdToLocalExecNoPlt ∷
+    TlsLdToLocalExec64 ∷ TlsGdToInitialExec ∷
+    TlsDescToLocalExec n ∷ TlsDescToInitialExec ∷
+    SkipTlsDescCall ∷ []
+
 -- The register that R and the reg field named before an offset is the one that B and the rm field
 -- name after: R and B are bits 2 and 0 of the REX byte, reg and rm bits 3 to 5 and 0 to 2 of the
 -- ModRM byte.

@@ -1,6 +1,6 @@
 //! Relaxation rewrites of AArch64.
 
-ghost use Rattle.linker_utils.specs.Numbers.{aarch64_rewrites};
+ghost use Rattle.linker_utils.specs.AArch64.{aarch64_rewrites};
 ghost use Rattle.std.specs.Prelude.{slice_get, ◌++◌, Some, take, ◌≡◌, ◌≤◌, ◌<◌, ◌+◌, ◌↔◌, ◌∷◌, [], IsTrue};
 ghost use Rattle.std.specs.Prelude.{length, drop, true, ◌*◌, ◌^◌};
 ghost use Rattle.std.specs.Int.{byte_len, cast_unsigned, w32, w64, from_le_bytes, to_le_bytes};

@@ -2,7 +2,7 @@
 
 ghost use Rattle.std.specs.Prelude.{slice_get, ◌≡◌, ◌≤◌, ◌<◌, ◌^◌, true, length, drop};
 ghost use Rattle.std.specs.Int.{byte_len, cast_unsigned, w64};
-ghost use Rattle.linker_utils.specs.Numbers.{loongarch64_forms};
+ghost use Rattle.linker_utils.specs.LoongArch.{loongarch64_forms};
 ghost use Rattle.linker_base.specs.Form.{window_of, BitsWritten, Fits, Written, MachineReads, IsReadBack, place_sum};
 ghost use Rattle.linker_utils.specs.Inner.FormLaws.{loongarch_keeps, loongarch_restored};
 ghost use Rattle.linker_utils.specs.Inner.Immediates.{is_one_word, loongarch_bits, loongarch_read};

@@ -1,6 +1,6 @@
 //! LoongArch: relaxation rewrites.
 
-ghost use Rattle.linker_utils.specs.Numbers.{loongarch64_rewrites};
+ghost use Rattle.linker_utils.specs.LoongArch.{loongarch64_rewrites};
 ghost use Rattle.std.specs.Prelude.{slice_get, ◌≡◌, ◌↔◌, IsTrue};
 ghost use Rattle.linker_base.specs.Rewrite.{CanRewrite, rewritten, offset_after, addend_after};
 ghost use Rattle.linker_utils.specs.LoongArch.{loongarch_rewrite, loongarch_modifier};

@@ -1,6 +1,6 @@
 //! Relaxation rewrites of PowerPC64.
 
-ghost use Rattle.linker_utils.specs.Numbers.{ppc64_rewrites};
+ghost use Rattle.linker_utils.specs.Ppc64.{ppc64_rewrites};
 ghost use Rattle.std.specs.Prelude.{slice_get, ◌≡◌, ◌<◌, ◌≤◌, ◌^◌, ◌-◌, ◌↔◌, ℕ, IsTrue, length, drop, bit_and, bit_or};
 ghost use Rattle.std.specs.Int.{byte_len, cast_unsigned, from_le_bytes, w32, w64};
 ghost use Rattle.linker_base.specs.Form.{window_of, Written, MachineReads, IsReadBack, BitsWritten, place_sum};

@@ -2,7 +2,7 @@
 
 ghost use Rattle.std.specs.Prelude.{slice_get, ◌≡◌, ◌≤◌, ◌<◌, ◌^◌, true, length, drop};
 ghost use Rattle.std.specs.Int.{byte_len, cast_unsigned, w64};
-ghost use Rattle.linker_utils.specs.Numbers.{riscv_forms};
+ghost use Rattle.linker_utils.specs.RiscV.{riscv_forms};
 ghost use Rattle.linker_base.specs.Form.{window_of, BitsWritten, Written, MachineReads, IsReadBack};
 ghost use Rattle.linker_utils.specs.Inner.FormLaws.{riscv_keeps, riscv_restored};
 ghost use Rattle.linker_utils.specs.Inner.Immediates.{is_by_masks, riscv_bits};

@@ -1,6 +1,6 @@
 //! RISC-V: relaxation rewrites.
 
-ghost use Rattle.linker_utils.specs.Numbers.{riscv_rewrites};
+ghost use Rattle.linker_utils.specs.RiscV.{riscv_rewrites};
 ghost use Rattle.std.specs.Prelude.{slice_get, ◌≡◌, ◌≤◌, ◌↔◌, IsTrue, length, ◌≢◌};
 ghost use Rattle.std.specs.Int.{from_le_bytes, w16};
 ghost use Rattle.linker_base.specs.Rewrite.{CanRewrite, rewritten, offset_after, addend_after};

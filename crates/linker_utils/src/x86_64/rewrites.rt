@@ -1,6 +1,6 @@
 //! Relaxation rewrites of x86-64.
 
-ghost use Rattle.linker_utils.specs.Numbers.{x86_64_rewrites};
+ghost use Rattle.linker_utils.specs.X86.{x86_64_rewrites};
 ghost use Rattle.std.specs.Prelude.{slice_get, ◌≡◌, ◌≤◌, ◌↔◌, IsTrue, Some};
 ghost use Rattle.linker_base.specs.Rewrite.{IsRewritable, CanRewrite, rewritten, offset_after};
 ghost use Rattle.linker_base.specs.Rewrite.{addend_after};
