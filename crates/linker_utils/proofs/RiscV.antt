@@ -18,7 +18,7 @@ use Rattle.linker_utils.proofs.MovedBits.{Moved, up, laid, masks_write, written_
 use Rattle.linker_utils.proofs.Runs.{laid_below}
 use Rattle.std.specs.Int.RustNames.{bit_or}
 use lib.Bits.{bit_and}
-use Rattle.linker_utils.specs.declared.riscv64.forms.RiscVInstruction.TheVariants.{UType, IType, SType, BType, JType, CbType, CjType, CluiType, UiType}
+use Rattle.linker_utils.specs.declared.riscv64.forms.RiscVInstruction.TheVariants.{UType, IType, SType, JType, CluiType, UiType}
 
 abbrev pub jtype_places : List ImmediateBit
 jtype_places = riscv_places JType
@@ -251,9 +251,4 @@ pub writes_word : (f : RiscVInstruction) (v x : ℕ) → is_by_masks f ≡ true 
 writes_word UType v x o small = written_word (riscv_bits UType) v x (riscv_places UType) small refl refl
 writes_word IType v x o small = written_word (riscv_bits IType) v x (riscv_places IType) small refl refl
 writes_word SType v x o small = written_word (riscv_bits SType) v x (riscv_places SType) small refl refl
-writes_word BType v x o small = cc
-writes_word JType v x o small = cc
-writes_word CbType v x o small = cc
-writes_word CjType v x o small = cc
-writes_word CluiType v x o small = cc
-writes_word UiType v x o small = cc
+writes_word f v x o small = cc
