@@ -1,7 +1,8 @@
 /* The inline functions of linker_utils.h, which includes this file and says what they do.
  *
- * No export of the archive takes a null pointer to a slice, even with a count of 0. So each function
- * replaces null by the address of an array, and calls the export of the same name that ends in
+ * No export of the archive takes a null pointer to a slice, even with a count of 0. So each
+ * function replaces null by the address of an array, and calls the export of the same name that
+ * ends in
  * `_nonnull`. It replaces a null `faulty` by the address of a variable. */
 #ifndef LINKER_UTILS_INLINE_H
 #define LINKER_UTILS_INLINE_H

@@ -1,7 +1,9 @@
 //! Deletions that relaxation makes in a section, and the offsets of what they leave.
 
-ghost use Rattle.std.specs.Prelude.{◌≡◌, ◌↔◌, ◌+◌, ◌<◌, ◌^◌, ◌++◌, IsTrue, IsOk, IfOk, OnOk, OnErr, IfSome, IfNone, MatchOption, All, Any, []};
-ghost use Rattle.linker_base.specs.Deletions.{AreDisjoint, IsValid, IsSortedUnion, bytes_of, rank, AreKept, IsInsideDeletion, IsSelected, HasInput};
+ghost use Rattle.std.specs.Prelude.{◌≡◌, ◌↔◌, ◌+◌, ◌<◌, ◌^◌, ◌++◌, IsTrue, IsOk, IfOk, OnOk, OnErr};
+ghost use Rattle.std.specs.Prelude.{IfSome, IfNone, MatchOption, All, Any, []};
+ghost use Rattle.linker_base.specs.Deletions.{AreDisjoint, IsValid, IsSortedUnion, bytes_of, rank};
+ghost use Rattle.linker_base.specs.Deletions.{AreKept, IsInsideDeletion, IsSelected, HasInput};
 ghost use Rattle.linker_base.specs.Blocks.{output_offset_of, IsValidView};
 ghost use Rattle.linker_base.specs.Deltas.{RecordsDeletions, deletions_of, pairs_of};
 
@@ -181,8 +183,8 @@ impl SectionRelaxDeltas {
     /// What is listed is then as `new` makes it of the old and all additional pairs, sorted. Before
     /// anything changes the list grows, and its heads where it has more than 1,024 deltas then, and
     /// all pairs are copied: memory is asked for at most once for each, and not at all where no
-    /// batch has a pair. But for that growth the work is O(k + m) for k pairs in all batches and the
-    /// m deltas after the first of them, and O(k log k) more where the pairs don't ascend, from
+    /// batch has a pair. But for that growth the work is O(k + m) for k pairs in all batches and
+    /// the m deltas after the first of them, and O(k log k) more where the pairs don't ascend, from
     /// each batch to the next too. `are_mergeable` tests what it requires.
     pub fn merge_all(&mut self, batches: &[Vec<(u64, u32)>]) -> Result<(), OutOfMemory>
         requires { AreDisjoint (self.old ++ pairs_of batches.now) }

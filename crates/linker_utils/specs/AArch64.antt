@@ -1,6 +1,7 @@
 -- AArch64: its instruction forms (Arm Architecture Reference Manual for A-profile, DDI 0487, C6.2
 -- and C7.2), its rewrites and the moves that load an address.
-use Rattle.std.specs.Prelude.{◌∷◌, [], ℕ, ◌+◌, ◌-◌, ◌*◌, ◌/◌, ◌%◌, ◌^◌, Bool, true, false, not, ◌&&◌, ◌||◌}
+use Rattle.std.specs.Prelude.{◌∷◌, [], ℕ, ◌+◌, ◌-◌, ◌*◌, ◌/◌, ◌%◌, ◌^◌, Bool, true, false, not}
+use Rattle.std.specs.Prelude.{◌&&◌, ◌||◌}
 use Rattle.std.specs.Prelude.{◌==◌, if◌then◌else◌, List, ◌++◌, drop, Option, None, Some, ℤ, pos}
 use Rattle.std.specs.Prelude.{negsuc, nat_lt, bit_and}
 use Rattle.std.specs.Int.{w32, w64, bit_at, from_le_bytes, to_le_bytes}
@@ -12,17 +13,25 @@ use Rattle.linker_base.specs.Rewrite.{Rewrite, replaces}
 use Rattle.linker_base.specs.declared.relaxation.RelocationModifier.{RelocationModifier}
 use Rattle.linker_base.specs.declared.relaxation.RelocationModifier.TheVariants.{Normal}
 use Rattle.linker_utils.specs.declared.aarch64.rewrites.RelaxationKind.{RelaxationKind}
-use Rattle.linker_utils.specs.declared.aarch64.rewrites.RelaxationKind.TheVariants.{NoOp, ReplaceWithNop}
-use Rattle.linker_utils.specs.declared.aarch64.rewrites.RelaxationKind.TheVariants.{MovzX0Lsl16, MovkX0}
-use Rattle.linker_utils.specs.declared.aarch64.rewrites.RelaxationKind.TheVariants.{MovzXnLsl16, MovkXn}
-use Rattle.linker_utils.specs.declared.aarch64.rewrites.RelaxationKind.TheVariants.{AdrpToAdr, AdrpX0, LdrX0}
-use Rattle.linker_utils.specs.declared.aarch64.rewrites.RelaxationKind.TheVariants.{AddToAdr, LdrToAdr}
+use Rattle.linker_utils.specs.declared.aarch64.rewrites.RelaxationKind.TheVariants.{NoOp}
+use Rattle.linker_utils.specs.declared.aarch64.rewrites.RelaxationKind.TheVariants.{ReplaceWithNop}
+use Rattle.linker_utils.specs.declared.aarch64.rewrites.RelaxationKind.TheVariants.{MovzX0Lsl16}
+use Rattle.linker_utils.specs.declared.aarch64.rewrites.RelaxationKind.TheVariants.{MovkX0}
+use Rattle.linker_utils.specs.declared.aarch64.rewrites.RelaxationKind.TheVariants.{MovzXnLsl16}
+use Rattle.linker_utils.specs.declared.aarch64.rewrites.RelaxationKind.TheVariants.{MovkXn}
+use Rattle.linker_utils.specs.declared.aarch64.rewrites.RelaxationKind.TheVariants.{AdrpToAdr}
+use Rattle.linker_utils.specs.declared.aarch64.rewrites.RelaxationKind.TheVariants.{AdrpX0, LdrX0}
+use Rattle.linker_utils.specs.declared.aarch64.rewrites.RelaxationKind.TheVariants.{AddToAdr}
+use Rattle.linker_utils.specs.declared.aarch64.rewrites.RelaxationKind.TheVariants.{LdrToAdr}
 use Rattle.linker_utils.specs.declared.aarch64.rewrites.RelaxationKind.TheVariants.{LdrToAdd}
 use Rattle.linker_utils.specs.declared.aarch64.rewrites.RelaxationKind.TheVariants.{AdrpAddToNopAdr}
 use Rattle.linker_utils.specs.declared.aarch64.forms.AArch64Instruction.{AArch64Instruction}
-use Rattle.linker_utils.specs.declared.aarch64.forms.AArch64Instruction.TheVariants.{Adr, Movkz, Movnz, Ldr}
-use Rattle.linker_utils.specs.declared.aarch64.forms.AArch64Instruction.TheVariants.{LdrRegister, Add, LdSt}
-use Rattle.linker_utils.specs.declared.aarch64.forms.AArch64Instruction.TheVariants.{TstBr, Bcond, JumpCall}
+use Rattle.linker_utils.specs.declared.aarch64.forms.AArch64Instruction.TheVariants.{Adr, Movkz}
+use Rattle.linker_utils.specs.declared.aarch64.forms.AArch64Instruction.TheVariants.{Movnz, Ldr}
+use Rattle.linker_utils.specs.declared.aarch64.forms.AArch64Instruction.TheVariants.{LdrRegister}
+use Rattle.linker_utils.specs.declared.aarch64.forms.AArch64Instruction.TheVariants.{Add, LdSt}
+use Rattle.linker_utils.specs.declared.aarch64.forms.AArch64Instruction.TheVariants.{TstBr, Bcond}
+use Rattle.linker_utils.specs.declared.aarch64.forms.AArch64Instruction.TheVariants.{JumpCall}
 use Rattle.linker_utils.specs.declared.aarch64.forms.AArch64Instruction.TheVariants.{MachOLow12}
 
 -- ---- moves of 16 bits

@@ -17,8 +17,10 @@ use Rattle.linker_utils.specs.RiscV.{riscv_form}
 use Rattle.linker_utils.specs.declared.aarch64.forms.AArch64Instruction.{AArch64Instruction}
 use Rattle.linker_utils.specs.declared.aarch64.forms.AArch64Instruction.TheVariants.{Movnz}
 use Rattle.linker_utils.specs.declared.loongarch64.forms.LoongArch64Instruction.{LoongArch64Instruction}
-use Rattle.linker_utils.specs.declared.loongarch64.forms.LoongArch64Instruction.TheVariants.{Shift5, Shift10}
-use Rattle.linker_utils.specs.declared.loongarch64.forms.LoongArch64Instruction.TheVariants.{Call30, Call36}
+use Rattle.linker_utils.specs.declared.loongarch64.forms.LoongArch64Instruction.TheVariants.{Shift5}
+use Rattle.linker_utils.specs.declared.loongarch64.forms.LoongArch64Instruction.TheVariants.{Shift10}
+use Rattle.linker_utils.specs.declared.loongarch64.forms.LoongArch64Instruction.TheVariants.{Call30}
+use Rattle.linker_utils.specs.declared.loongarch64.forms.LoongArch64Instruction.TheVariants.{Call36}
 use Rattle.linker_utils.specs.declared.elf.RelocationInstruction.{RelocationInstruction}
 use Rattle.linker_utils.specs.declared.elf.RelocationInstruction.TheVariants.{RiscV, Ppc64}
 use Rattle.linker_utils.specs.declared.elf.RelocationInstruction.TheVariants.{LoongArch64, AArch64}
@@ -26,10 +28,12 @@ use Rattle.linker_utils.specs.declared.elf.RelocationKindInfo.{RelocationKindInf
 use Rattle.linker_utils.specs.declared.elf.RelocationSize.{RelocationSize}
 use Rattle.linker_utils.specs.declared.elf.RelocationSize.TheVariants.{ByteSize, BitMasking}
 use Rattle.linker_utils.specs.declared.riscv64.forms.RiscVInstruction.{RiscVInstruction}
-use Rattle.linker_utils.specs.declared.riscv64.forms.RiscVInstruction.TheVariants.{UType, IType, SType}
+use Rattle.linker_utils.specs.declared.riscv64.forms.RiscVInstruction.TheVariants.{UType, IType}
+use Rattle.linker_utils.specs.declared.riscv64.forms.RiscVInstruction.TheVariants.{SType}
 use Rattle.linker_utils.specs.declared.riscv64.forms.RiscVInstruction.TheVariants.{CluiType, UiType}
 use Rattle.linker_utils.specs.declared.loongarch64.relocations.LoongArch64Relocation.{LoongArch64Relocation}
-use Rattle.linker_utils.specs.declared.loongarch64.relocations.LoongArch64Relocation.TheVariants.{R_LARCH_PCREL20_S2, R_LARCH_B16}
+use Rattle.linker_utils.specs.declared.loongarch64.relocations.LoongArch64Relocation.TheVariants.{R_LARCH_PCREL20_S2}
+use Rattle.linker_utils.specs.declared.loongarch64.relocations.LoongArch64Relocation.TheVariants.{R_LARCH_B16}
 
 -- the bits of v from bit s up; of a negative v, those of its two's complement
 abbrev pub bits_from : ℕ → ℤ → ℤ

@@ -6,7 +6,8 @@ use Rattle.linker_utils.specs.AArch64.{aarch64_rewrite, aarch64_modifier}
 use Rattle.linker_utils.specs.AArch64Relocations.{aarch64_name, aarch64_row}
 use Rattle.linker_utils.specs.ElfNames.{ElfName, IsNameOf}
 use Rattle.linker_utils.specs.LoongArch.{loongarch_rewrite, loongarch_modifier}
-use Rattle.linker_utils.specs.LoongArchRelocations.{loongarch_name, loongarch_row, loongarch_uleb128_role}
+use Rattle.linker_utils.specs.LoongArchRelocations.{loongarch_name, loongarch_row}
+use Rattle.linker_utils.specs.LoongArchRelocations.{loongarch_uleb128_role}
 use Rattle.linker_utils.specs.AArch64.{aarch64_forms}
 use Rattle.linker_utils.specs.RiscV.{riscv_forms}
 use Rattle.linker_utils.specs.LoongArch.{loongarch64_forms}

@@ -12,11 +12,15 @@ use Rattle.linker_base.specs.Rewrite.{Rewrite, replaces}
 use Rattle.linker_base.specs.declared.relaxation.RelocationModifier.{RelocationModifier}
 use Rattle.linker_base.specs.declared.relaxation.RelocationModifier.TheVariants.{Normal}
 use Rattle.linker_utils.specs.declared.loongarch64.forms.LoongArch64Instruction.{LoongArch64Instruction}
-use Rattle.linker_utils.specs.declared.loongarch64.forms.LoongArch64Instruction.TheVariants.{Shift5, Shift10}
-use Rattle.linker_utils.specs.declared.loongarch64.forms.LoongArch64Instruction.TheVariants.{Branch26, Branch21}
-use Rattle.linker_utils.specs.declared.loongarch64.forms.LoongArch64Instruction.TheVariants.{Call30, Call36}
+use Rattle.linker_utils.specs.declared.loongarch64.forms.LoongArch64Instruction.TheVariants.{Shift5}
+use Rattle.linker_utils.specs.declared.loongarch64.forms.LoongArch64Instruction.TheVariants.{Shift10}
+use Rattle.linker_utils.specs.declared.loongarch64.forms.LoongArch64Instruction.TheVariants.{Branch26}
+use Rattle.linker_utils.specs.declared.loongarch64.forms.LoongArch64Instruction.TheVariants.{Branch21}
+use Rattle.linker_utils.specs.declared.loongarch64.forms.LoongArch64Instruction.TheVariants.{Call30}
+use Rattle.linker_utils.specs.declared.loongarch64.forms.LoongArch64Instruction.TheVariants.{Call36}
 use Rattle.linker_utils.specs.declared.loongarch64.rewrites.RelaxationKind.{RelaxationKind}
-use Rattle.linker_utils.specs.declared.loongarch64.rewrites.RelaxationKind.TheVariants.{NoOp, ReplaceWithNop}
+use Rattle.linker_utils.specs.declared.loongarch64.rewrites.RelaxationKind.TheVariants.{NoOp}
+use Rattle.linker_utils.specs.declared.loongarch64.rewrites.RelaxationKind.TheVariants.{ReplaceWithNop}
 
 -- ---- forms; bit j of a pair's second word is bit 32 + j
 

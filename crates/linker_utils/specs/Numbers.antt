@@ -1,5 +1,5 @@
--- Relocations in numbers. The numbers of kinds of relocations and of forms of instructions are their
--- places in the enums, those of page masks their places and 1.
+-- Relocations in numbers. The numbers of kinds of relocations and of forms of instructions are
+-- their places in the enums, those of page masks their places and 1.
 use Rattle.std.specs.Prelude.{ℕ, Option, None, Some, ℤ, pos, Bool, true, false}
 use denote.Enum.Declared.{tag_of}
 use Rattle.linker_utils.specs.contracts.aarch64.forms.AArch64Instruction as aarch64

@@ -6,7 +6,8 @@ use Rattle.linker_utils.specs.RiscV.{riscv_form, word_at, IsEven, IsJalDistance,
 use Rattle.linker_utils.specs.RiscV.{output_distance, call_len, NamesRegister, link_register, IsJal}
 use Rattle.linker_utils.specs.declared.riscv64.forms.RiscVInstruction.TheVariants.{JType}
 use Rattle.linker_utils.specs.declared.riscv64.packing.PackError.{PackError}
-use Rattle.linker_utils.specs.declared.riscv64.packing.PackError.TheVariants.{OutOfMemory, Call as RejectedCall}
+use Rattle.linker_utils.specs.declared.riscv64.packing.PackError.TheVariants.{OutOfMemory}
+use Rattle.linker_utils.specs.declared.riscv64.packing.PackError.TheVariants.{Call as RejectedCall}
 use Rattle.linker_utils.specs.declared.riscv64.calls.Call as calls
 use Rattle.linker_utils.specs.declared.riscv64.calls.LinkRegister.{LinkRegister}
 use Rattle.linker_utils.specs.declared.riscv64.calls.LinkRegister.TheVariants.{OfAuipc}

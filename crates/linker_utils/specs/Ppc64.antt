@@ -1,6 +1,7 @@
 -- PowerPC64: its instruction forms (Power ISA, "Instruction Formats"), and addresses in two halves
 -- (64-bit ELF V2 ABI for Power, "@ha" and "@l").
-use Rattle.std.specs.Prelude.{◌∷◌, [], ◌≡◌, ℕ, List, drop, Option, None, ℤ, pos, negsuc, false, ◌+ℤ◌, ◌*ℤ◌}
+use Rattle.std.specs.Prelude.{◌∷◌, [], ◌≡◌, ℕ, List, drop, Option, None, ℤ, pos, negsuc, false}
+use Rattle.std.specs.Prelude.{◌+ℤ◌, ◌*ℤ◌}
 use Rattle.std.specs.Prelude.{◌≤ℤ◌, ◌<ℤ◌, ◌^◌, ◌-◌, ◌+◌, ◌++◌}
 use Rattle.std.specs.Int.{Width, w32, w64, from_le_bytes}
 use Rattle.linker_base.specs.Bits.{field, signed}
@@ -10,7 +11,8 @@ use Rattle.linker_base.specs.Rewrite.{Rewrite}
 use Rattle.linker_base.specs.declared.relaxation.RelocationModifier.{RelocationModifier}
 use Rattle.linker_base.specs.declared.relaxation.RelocationModifier.TheVariants.{Normal}
 use Rattle.linker_utils.specs.declared.ppc64.forms.Ppc64Instruction.{Ppc64Instruction}
-use Rattle.linker_utils.specs.declared.ppc64.forms.Ppc64Instruction.TheVariants.{D, Ds, Branch14, Branch24}
+use Rattle.linker_utils.specs.declared.ppc64.forms.Ppc64Instruction.TheVariants.{D, Ds, Branch14}
+use Rattle.linker_utils.specs.declared.ppc64.forms.Ppc64Instruction.TheVariants.{Branch24}
 use Rattle.linker_utils.specs.declared.ppc64.forms.Ppc64Instruction.TheVariants.{Prefixed}
 use Rattle.linker_utils.specs.declared.ppc64.rewrites.RelaxationKind.{RelaxationKind}
 use Rattle.linker_utils.specs.declared.ppc64.rewrites.RelaxationKind.TheVariants.{NoOp}

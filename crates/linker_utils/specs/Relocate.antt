@@ -1,6 +1,7 @@
 -- How a relocation's value is written, and when it isn't.
 use Rattle.std.specs.Prelude.{◌≡◌, ℕ, ◌+◌, ◌-◌, ◌%◌, ◌^◌, ◌<◌, ◌≤◌, ◌==◌, Bool, true, false, not}
-use Rattle.std.specs.Prelude.{◌&&◌, ◌||◌, nat_lt, if◌then◌else◌, List, [], ◌∷◌, ◌++◌, length, take, drop}
+use Rattle.std.specs.Prelude.{◌&&◌, ◌||◌, nat_lt, if◌then◌else◌, List, [], ◌∷◌, ◌++◌, length, take}
+use Rattle.std.specs.Prelude.{drop}
 use Rattle.std.specs.Prelude.{replicate, ℤ, pos, ◌+ℤ◌, ◌-ℤ◌, ◌*◌, int_lt, Option, Some, None, ◌*ℤ◌}
 use Rattle.std.specs.Prelude.{⊤}
 use Rattle.std.specs.Int.{w64, byte_len, cast_unsigned, from_le_bytes, to_le_bytes, int_rem_euclid}
@@ -20,7 +21,8 @@ use Rattle.linker_utils.specs.RiscV.{riscv_form}
 use Rattle.linker_utils.specs.Value.{sum_64, difference_64}
 use Rattle.linker_utils.specs.declared.aarch64.forms.AArch64Instruction.TheVariants.{Movnz}
 use Rattle.linker_utils.specs.declared.loongarch64.forms.LoongArch64Instruction.{LoongArch64Instruction}
-use Rattle.linker_utils.specs.declared.loongarch64.forms.LoongArch64Instruction.TheVariants.{Shift10, Call30}
+use Rattle.linker_utils.specs.declared.loongarch64.forms.LoongArch64Instruction.TheVariants.{Shift10}
+use Rattle.linker_utils.specs.declared.loongarch64.forms.LoongArch64Instruction.TheVariants.{Call30}
 use Rattle.linker_utils.specs.declared.loongarch64.forms.LoongArch64Instruction.TheVariants.{Call36}
 use Rattle.linker_utils.specs.declared.ppc64.forms.Ppc64Instruction.{Ppc64Instruction}
 use Rattle.linker_utils.specs.declared.ppc64.forms.Ppc64Instruction.TheVariants.{D, Ds}
@@ -29,12 +31,19 @@ use Rattle.linker_utils.specs.declared.elf.RelocationInstruction.{RelocationInst
 use Rattle.linker_utils.specs.declared.elf.RelocationInstruction.TheVariants.{RiscV, Ppc64}
 use Rattle.linker_utils.specs.declared.elf.RelocationInstruction.TheVariants.{LoongArch64, AArch64}
 use Rattle.linker_utils.specs.declared.elf.RelocationKind.{RelocationKind}
-use Rattle.linker_utils.specs.declared.elf.RelocationKind.TheVariants.{Relative, AbsoluteSetWord6, AbsoluteAddition, AbsoluteAdditionWord6, AbsoluteSubtraction, AbsoluteSubtractionWord6, PairSubtractionULEB128RiscV, PairSubtractionULEB128LoongArch}
+use Rattle.linker_utils.specs.declared.elf.RelocationKind.TheVariants.{Relative, AbsoluteSetWord6}
+use Rattle.linker_utils.specs.declared.elf.RelocationKind.TheVariants.{AbsoluteAddition}
+use Rattle.linker_utils.specs.declared.elf.RelocationKind.TheVariants.{AbsoluteAdditionWord6}
+use Rattle.linker_utils.specs.declared.elf.RelocationKind.TheVariants.{AbsoluteSubtraction}
+use Rattle.linker_utils.specs.declared.elf.RelocationKind.TheVariants.{AbsoluteSubtractionWord6}
+use Rattle.linker_utils.specs.declared.elf.RelocationKind.TheVariants.{PairSubtractionULEB128RiscV}
+use Rattle.linker_utils.specs.declared.elf.RelocationKind.TheVariants.{PairSubtractionULEB128LoongArch}
 use Rattle.linker_utils.specs.declared.elf.RelocationKindInfo.{RelocationKindInfo}
 use Rattle.linker_utils.specs.declared.elf.RelocationSize.{RelocationSize}
 use Rattle.linker_utils.specs.declared.elf.RelocationSize.TheVariants.{ByteSize, BitMasking}
 use Rattle.linker_utils.specs.declared.riscv64.forms.RiscVInstruction.{RiscVInstruction}
-use Rattle.linker_utils.specs.declared.riscv64.forms.RiscVInstruction.TheVariants.{UType, IType, SType}
+use Rattle.linker_utils.specs.declared.riscv64.forms.RiscVInstruction.TheVariants.{UType, IType}
+use Rattle.linker_utils.specs.declared.riscv64.forms.RiscVInstruction.TheVariants.{SType}
 use Rattle.linker_utils.specs.declared.riscv64.forms.RiscVInstruction.TheVariants.{CluiType, UiType}
 use Rattle.linker_utils.specs.declared.elf.relocate.RelocateError.{RelocateError}
 use Rattle.linker_utils.specs.declared.elf.relocate.RelocateError.TheVariants.{Unsupported}
@@ -92,9 +101,9 @@ places_cleared (LoongArch64 f) bits x =
 abbrev pub bits_taken : BitRange → ℤ → ℕ
 bits_taken bits v = field (cast_unsigned w64 v) bits.start bits.end
 
--- a word of DQ-form, whose displacement is in units of 16, where one of DS-form is expected: `lq` by
--- primary opcode 56, `lxvp` and `stxvp` by 6, `lxv` and `stxv` by 61 with 01 in the lowest two bits
--- (Power ISA, "DQ-Form")
+-- a word of DQ-form, whose displacement is in units of 16, where one of DS-form is expected: `lq`
+-- by primary opcode 56, `lxvp` and `stxvp` by 6, `lxv` and `stxv` by 61 with 01 in the lowest two
+-- bits (Power ISA, "DQ-Form")
 abbrev pub is_dq_form : ℕ → Bool
 is_dq_form word =
     field word 26 32 == 56
@@ -147,8 +156,9 @@ abbrev pub moved_32 : ℕ → ℤ
 moved_32 word =
     int_rem_euclid ((aarch64_form Movnz).machine (word + 2 ^ 31)) (pos (2 ^ 32))
 
--- What the machine reads after a write of MOVN or MOVZ: of 64 bits the value's bits from the range's
--- start up; of 32 bits those below bit 32, and where values aren't bounded the range's alone.
+-- What the machine reads after a write of MOVN or MOVZ: of 64 bits the value's bits from the
+-- range's start up; of 32 bits those below bit 32, and where values aren't bounded the range's
+-- alone.
 abbrev pub MoveReads : Bool → BitRange → Option (ℤ × ℤ) → ℤ → ℕ → Type 0
 MoveReads false bits bounds v after =
     IsSameIn bounds (bits.end - bits.start) (aarch64_reads Movnz bits.start after)

@@ -1,5 +1,5 @@
--- The vocabulary of rows: where a relocation's value comes from, where it is written, and which values
--- are allowed.
+-- The vocabulary of rows: where a relocation's value comes from, where it is written, and which
+-- values are allowed.
 use Rattle.std.specs.Prelude.{ℕ, ℤ, List, Option, Some, None, true, false}
 use Rattle.linker_utils.specs.Elf.{bit_bounds, signed_or_unsigned}
 use Rattle.linker_utils.specs.ElfNames.{ElfName, named, unnamed}

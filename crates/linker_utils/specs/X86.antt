@@ -18,7 +18,8 @@ use Rattle.linker_utils.specs.declared.x86_64.rewrites.RelaxationKind.TheVariant
 use Rattle.linker_utils.specs.declared.x86_64.rewrites.RelaxationKind.TheVariants.{RexCmpIndirectToAbsolute}
 use Rattle.linker_utils.specs.declared.x86_64.rewrites.RelaxationKind.TheVariants.{CallIndirectToRelative}
 use Rattle.linker_utils.specs.declared.x86_64.rewrites.RelaxationKind.TheVariants.{JmpIndirectToRelative}
-use Rattle.linker_utils.specs.declared.x86_64.rewrites.RelaxationKind.TheVariants.{NoOp, TlsGdToLocalExec}
+use Rattle.linker_utils.specs.declared.x86_64.rewrites.RelaxationKind.TheVariants.{NoOp}
+use Rattle.linker_utils.specs.declared.x86_64.rewrites.RelaxationKind.TheVariants.{TlsGdToLocalExec}
 use Rattle.linker_utils.specs.declared.x86_64.rewrites.RelaxationKind.TheVariants.{TlsGdToLocalExecLarge}
 use Rattle.linker_utils.specs.declared.x86_64.rewrites.RelaxationKind.TheVariants.{TlsLdToLocalExec}
 use Rattle.linker_utils.specs.declared.x86_64.rewrites.RelaxationKind.TheVariants.{TlsLdToLocalExecNoPlt}

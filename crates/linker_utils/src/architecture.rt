@@ -1,5 +1,5 @@
-//! What the codes and numbers of an ELF file's architecture name: relocations by `r_type`, and forms
-//! and rewrites by their places in their enums.
+//! What the codes and numbers of an ELF file's architecture name: relocations by `r_type`, and
+//! forms and rewrites by their places in their enums.
 
 ghost use Rattle.std.specs.Prelude.{◌≡◌, ◌≤◌, IfSome, IfNone, length};
 ghost use Rattle.linker_utils.specs.Architectures.{IsRow, IsElfName, IsRole, form_of_number};
@@ -68,8 +68,8 @@ impl InstructionRewrite for Relaxation {
 }
 
 impl Architecture {
-    /// What the relocation with a code, `r_type` in ELF files, means. None of a code without a name,
-    /// and of names without a row.
+    /// What the relocation with a code, `r_type` in ELF files, means. None of a code without a
+    /// name, and of names without a row.
     ///
     /// ```
     /// use linker_utils::elf::Architecture;

@@ -8,12 +8,16 @@ mod relocate;
 pub(crate) mod rows;
 mod value;
 
-ghost use Rattle.std.specs.Prelude.{◌≡◌, ◌≤◌, ◌<◌, ◌+◌, ◌*◌, ◌-◌, ◌^◌, ◌↔◌, ◌==◌, IsTrue, Option, Some, None, if◌then◌else◌, length, drop, ℕ};
+ghost use Rattle.std.specs.Prelude.{◌≡◌, ◌≤◌, ◌<◌, ◌+◌, ◌*◌, ◌-◌, ◌^◌, ◌↔◌, ◌==◌, IsTrue, Option};
+ghost use Rattle.std.specs.Prelude.{Some, None, if◌then◌else◌, length, drop, ℕ};
 ghost use Rattle.std.specs.Int.{byte_len, cast_unsigned, w64};
-ghost use Rattle.linker_base.specs.Form.{Form, window_of, Fits, Written, MachineReads, IsReadBack, WriteKeepsOtherBits, WriteBackChangesNothing};
-ghost use Rattle.linker_base.specs.Rewrite.{Rewrite, CanRewrite, rewritten, offset_after, addend_after};
+ghost use Rattle.linker_base.specs.Form.{Form, window_of, Fits, Written, MachineReads, IsReadBack};
+ghost use Rattle.linker_base.specs.Form.{WriteKeepsOtherBits, WriteBackChangesNothing};
+ghost use Rattle.linker_base.specs.Rewrite.{Rewrite, CanRewrite, rewritten, offset_after};
+ghost use Rattle.linker_base.specs.Rewrite.{addend_after};
 ghost use Rattle.linker_base.specs.declared.relaxation.RelocationModifier.{RelocationModifier};
-ghost use Rattle.linker_utils.specs.Elf.{architecture_of, machine_of, relocation_form, bit_bounds, IsAllowed};
+ghost use Rattle.linker_utils.specs.Elf.{architecture_of, machine_of, relocation_form, bit_bounds};
+ghost use Rattle.linker_utils.specs.Elf.{IsAllowed};
 ghost use Rattle.linker_utils.specs.Inner.FormLaws.{relocation_keeps, relocation_restored};
 
 pub use crate::aarch64::AArch64Instruction;

@@ -1,6 +1,7 @@
 //! Deletions that are merged into deltas.
 
-ghost use Rattle.std.specs.Prelude.{◌≡◌, ◌≢◌, ◌+◌, ◌++◌, ◌↔◌, ◌⊎◌, IfOk, OnErr, MatchResult, length, map};
+ghost use Rattle.std.specs.Prelude.{◌≡◌, ◌≢◌, ◌+◌, ◌++◌, ◌↔◌, ◌⊎◌, IfOk, OnErr, MatchResult};
+ghost use Rattle.std.specs.Prelude.{length, map};
 ghost use Rattle.linker_base.specs.Deletions.{AreDisjoint, IsValid};
 ghost use Rattle.linker_base.specs.Deltas.{deletions_of};
 ghost use Rattle.linker_base.specs.Listed.{AreValidTogether, IsFirstInvalid, IsFirstOverlapping};

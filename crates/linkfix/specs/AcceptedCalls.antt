@@ -16,8 +16,8 @@ pub record AreBySite (all calls : List (ℕ × ℕ)) : Type 0 where
   pub same : IsPermutation all calls
   pub apart : AreApart calls
 
--- A call at the site belongs at the index: the calls before it are at least 4 below, and the others 4
--- above.
+-- A call at the site belongs at the index: the calls before it are at least 4 below, and the others
+-- 4 above.
 pub record IsInsertionIndex (calls : List (ℕ × ℕ)) (site index : ℕ) : Type 0 where
   pub within : index ≤ length calls
   pub above : All (λ call. call.0 + 4 ≤ site) (take index calls)

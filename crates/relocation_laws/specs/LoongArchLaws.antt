@@ -6,8 +6,10 @@ use Rattle.linker_base.specs.Bits.{field, signed}
 use Rattle.linker_utils.specs.LoongArch.{pcalau12i, upper_and_lower_value, reach, loongarch_form}
 use Rattle.linker_utils.specs.LoongArchRelocations.{loongarch_row}
 use Rattle.linker_utils.specs.declared.loongarch64.forms.LoongArch64Instruction.{LoongArch64Instruction}
-use Rattle.linker_utils.specs.declared.loongarch64.forms.LoongArch64Instruction.TheVariants.{Shift5, Shift10}
-use Rattle.linker_utils.specs.declared.loongarch64.forms.LoongArch64Instruction.TheVariants.{Branch21, Branch26}
+use Rattle.linker_utils.specs.declared.loongarch64.forms.LoongArch64Instruction.TheVariants.{Shift5}
+use Rattle.linker_utils.specs.declared.loongarch64.forms.LoongArch64Instruction.TheVariants.{Shift10}
+use Rattle.linker_utils.specs.declared.loongarch64.forms.LoongArch64Instruction.TheVariants.{Branch21}
+use Rattle.linker_utils.specs.declared.loongarch64.forms.LoongArch64Instruction.TheVariants.{Branch26}
 use Rattle.linker_utils.specs.declared.elf.Sign.TheVariants.{Signed}
 use Rattle.linker_utils.specs.declared.elf.value.Operands.{Operands}
 use Rattle.linker_utils.specs.declared.loongarch64.relocations.LoongArch64Relocation.{LoongArch64Relocation}

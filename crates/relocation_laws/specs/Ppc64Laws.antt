@@ -6,7 +6,8 @@ use Rattle.linker_utils.specs.Ppc64.{ppc64_form}
 use Rattle.linker_utils.specs.Ppc64Relocations.{ppc64_row}
 use Rattle.linker_utils.specs.Relocate.{ppc64_reads}
 use Rattle.linker_utils.specs.declared.ppc64.forms.Ppc64Instruction.{Ppc64Instruction}
-use Rattle.linker_utils.specs.declared.ppc64.forms.Ppc64Instruction.TheVariants.{D, Ds, Branch14, Branch24}
+use Rattle.linker_utils.specs.declared.ppc64.forms.Ppc64Instruction.TheVariants.{D, Ds, Branch14}
+use Rattle.linker_utils.specs.declared.ppc64.forms.Ppc64Instruction.TheVariants.{Branch24}
 use Rattle.linker_utils.specs.declared.ppc64.forms.Ppc64Instruction.TheVariants.{Prefixed}
 use Rattle.linker_utils.specs.declared.elf.value.Operands.{Operands}
 use Rattle.linker_utils.specs.declared.ppc64.relocations.Ppc64Relocation.{Ppc64Relocation}

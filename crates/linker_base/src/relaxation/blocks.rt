@@ -1,13 +1,15 @@
 //! Deltas in blocks of 64, and translations that look at the head of each block first.
 
-ghost use Rattle.std.specs.Prelude.{◌≡◌, ◌<◌, ◌≤◌, ◌+◌, ◌-◌, ◌*◌, ◌^◌, ℕ, List, OnOk, length, slice_index_or, vec_len, vec_capacity};
+ghost use Rattle.std.specs.Prelude.{◌≡◌, ◌<◌, ◌≤◌, ◌+◌, ◌-◌, ◌*◌, ◌^◌, ℕ, List, OnOk, length};
+ghost use Rattle.std.specs.Prelude.{slice_index_or, vec_len, vec_capacity};
 ghost use Rattle.linker_base.specs.declared.relaxation.RelaxDelta.{RelaxDelta};
 ghost use Rattle.linker_base.specs.declared.relaxation.blocks.BlockHead.{BlockHead};
 ghost use Rattle.linker_base.specs.Blocks.{output_offset_of, blocks_of, head_of, AreHeads};
 ghost use Rattle.linker_base.specs.Deletions.{rank, IsSelected, HasInput};
 ghost use Rattle.linker_base.specs.Deltas.{deletions_of};
 ghost use Rattle.linker_base.specs.Listed.{AreValidDeltas};
-ghost use Rattle.linker_base.specs.Inner.Blocks.{no_delta, size_of, passing_of, heads_kept, AreKeptHeads};
+ghost use Rattle.linker_base.specs.Inner.Blocks.{no_delta, size_of, passing_of, heads_kept};
+ghost use Rattle.linker_base.specs.Inner.Blocks.{AreKeptHeads};
 
 use super::delta_slice::rank_after;
 use super::partition_point::{FEW, Level, Probe, Test, search};

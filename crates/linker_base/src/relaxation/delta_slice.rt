@@ -1,9 +1,12 @@
 //! Deltas that anyone owns, and the heads of their blocks.
 
 ghost use Rattle.std.specs.Prelude.{◌≡◌, ◌≢◌, ◌<◌, ◌≤◌, ◌+◌, ◌-◌, ◌*◌, ◌%◌, ◌^◌, ◌++◌, ◌↔◌, IsTrue};
-ghost use Rattle.std.specs.Prelude.{MatchOption, Any, All, [], map, length, take, max, slice_index_or};
+ghost use Rattle.std.specs.Prelude.{MatchOption, Any, All, [], map, length, take, max};
+ghost use Rattle.std.specs.Prelude.{slice_index_or};
 ghost use Rattle.std.specs.List.Sorted.{IsNonDecreasing, IsPartitionPoint};
-ghost use Rattle.linker_base.specs.Deletions.{AreDisjoint, AreKept, IsValid, IsSortedUnion, bytes_of, rank, IsInsideDeletion, IsSelected, HasInput};
+ghost use Rattle.linker_base.specs.Deletions.{AreDisjoint, AreKept, IsValid, IsSortedUnion};
+ghost use Rattle.linker_base.specs.Deletions.{bytes_of, rank, IsInsideDeletion, IsSelected};
+ghost use Rattle.linker_base.specs.Deletions.{HasInput};
 ghost use Rattle.linker_base.specs.Blocks.{blocks_of, AreHeads, IsValidView};
 ghost use Rattle.linker_base.specs.Deltas.{deletions_of};
 ghost use Rattle.linker_base.specs.Listed.{AreValidDeltas, AreValidTogether, IsFirstOverlapping};
@@ -299,7 +302,8 @@ impl<'a> DeltaSlice<'a> {
     }
 
     /// As `input_to_output_offset`, with these heads of the blocks. It looks at them first where
-    /// the deltas are more than a few, and not at all where they aren't as many as blocks. O(log n).
+    /// the deltas are more than a few, and not at all where they aren't as many as blocks.
+    /// O(log n).
     #[inline(always)]
     pub fn input_to_output_by_heads(&self, heads: &'a [BlockHead], input_offset: u64) -> u64
         ensures by_heads { IsValidView self.now → AreHeads self.now.deltas heads.now
@@ -315,7 +319,8 @@ impl<'a> DeltaSlice<'a> {
     }
 
     /// As `output_to_input_offset`, with these heads of the blocks. It looks at them first where
-    /// the deltas are more than a few, and not at all where they aren't as many as blocks. O(log n).
+    /// the deltas are more than a few, and not at all where they aren't as many as blocks.
+    /// O(log n).
     #[inline(always)]
     pub fn output_to_input_by_heads(
         &self,

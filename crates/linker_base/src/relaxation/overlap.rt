@@ -2,7 +2,8 @@
 
 ghost use Rattle.std.specs.Prelude.{◌≡◌, ◌≤◌, ◌<◌, ◌+◌, ◌-◌, ◌++◌, ◌↔◌, ℕ, max, IsTrue};
 ghost use Rattle.std.specs.Prelude.{MatchOption, All, map, length, take, slice_index_or};
-ghost use Rattle.linker_base.specs.Deletions.{IsBefore, DoNotOverlap, EndFits, AreDisjoint, IsValid};
+ghost use Rattle.linker_base.specs.Deletions.{IsBefore, DoNotOverlap, EndFits, AreDisjoint};
+ghost use Rattle.linker_base.specs.Deletions.{IsValid};
 ghost use Rattle.linker_base.specs.Deltas.{deletion_of, pairs_of};
 ghost use Rattle.linker_base.specs.Listed.{IsFirstInvalid, IsFirstOverlapping, AreValidTogether};
 ghost use Rattle.linker_base.specs.Inner.Listed.{IsRun, CanFollow};

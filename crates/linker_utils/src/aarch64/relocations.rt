@@ -5,7 +5,8 @@ ghost use denote.Enum.Declared.{tag_of};
 ghost use Rattle.linker_utils.specs.Agrees.{RowAgrees, RowFits};
 ghost use Rattle.linker_utils.specs.ElfNames.{IsNameOf, code_of, text_of};
 ghost use Rattle.linker_utils.specs.Readings.{RowReadsNoOther};
-ghost use Rattle.linker_utils.specs.AArch64Relocations.{aarch64_relocation, aarch64_name, aarch64_row};
+ghost use Rattle.linker_utils.specs.AArch64Relocations.{aarch64_relocation, aarch64_name};
+ghost use Rattle.linker_utils.specs.AArch64Relocations.{aarch64_row};
 ghost use Rattle.linker_utils.specs.contracts.aarch64.relocations.AArch64Relocation as names;
 
 use crate::elf::rows::{
@@ -184,9 +185,11 @@ macro_rules! relocations {
                 280 R_AARCH64_CONDBR19 =>
                     Some(row!(Relative, (2..21 AArch64::Bcond), signed 21, alignment: 4)),
                 282 R_AARCH64_JUMP26 =>
-                    Some(row!(PltRelative, (2..28 AArch64::JumpCall), signed 28, alignment: 4, thunkable: true)),
+                    Some(row!(PltRelative, (2..28 AArch64::JumpCall), signed 28, alignment: 4,
+                        thunkable: true)),
                 283 R_AARCH64_CALL26 =>
-                    Some(row!(PltRelative, (2..28 AArch64::JumpCall), signed 28, alignment: 4, thunkable: true)),
+                    Some(row!(PltRelative, (2..28 AArch64::JumpCall), signed 28, alignment: 4,
+                        thunkable: true)),
                 284 R_AARCH64_LDST16_ABS_LO12_NC =>
                     Some(row!(AbsoluteLowPart, (1..12 AArch64::LdSt), any, alignment: 2)),
                 285 R_AARCH64_LDST32_ABS_LO12_NC =>
@@ -230,7 +233,8 @@ macro_rules! relocations {
                 312 R_AARCH64_LD64_GOT_LO12_NC =>
                     Some(row!(Got, (3..12 AArch64::LdSt), any, alignment: 8)),
                 313 R_AARCH64_LD64_GOTPAGE_LO15 =>
-                    Some(row!(GotRelGotBase, (3..15 AArch64::LdSt), unsigned 15, alignment: 8, mask: GOT_PAGE)),
+                    Some(row!(GotRelGotBase, (3..15 AArch64::LdSt), unsigned 15, alignment: 8,
+                        mask: GOT_PAGE)),
                 314 R_AARCH64_PLT32 => Some(row!(PltRelative, (4 bytes), signed 32)),
                 315 R_AARCH64_GOTPCREL32 => Some(row!(GotRelative, (4 bytes), signed 32)),
             }

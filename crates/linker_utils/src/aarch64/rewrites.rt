@@ -1,10 +1,12 @@
 //! Relaxation rewrites of AArch64.
 
 ghost use Rattle.linker_utils.specs.AArch64.{aarch64_rewrites};
-ghost use Rattle.std.specs.Prelude.{slice_get, ◌++◌, Some, take, ◌≡◌, ◌≤◌, ◌<◌, ◌+◌, ◌↔◌, ◌∷◌, [], IsTrue};
+ghost use Rattle.std.specs.Prelude.{slice_get, ◌++◌, Some, take, ◌≡◌, ◌≤◌, ◌<◌, ◌+◌, ◌↔◌, ◌∷◌, []};
+ghost use Rattle.std.specs.Prelude.{IsTrue};
 ghost use Rattle.std.specs.Prelude.{length, drop, true, ◌*◌, ◌^◌};
 ghost use Rattle.std.specs.Int.{byte_len, cast_unsigned, w32, w64, from_le_bytes, to_le_bytes};
-ghost use Rattle.linker_base.specs.Form.{window_of, place_sum, BitsWritten, Fits, Written, MachineReads, IsReadBack};
+ghost use Rattle.linker_base.specs.Form.{window_of, place_sum, BitsWritten, Fits, Written};
+ghost use Rattle.linker_base.specs.Form.{MachineReads, IsReadBack};
 ghost use Rattle.linker_base.specs.Rewrite.{CanRewrite, rewritten, offset_after, addend_after};
 ghost use Rattle.linker_utils.specs.Inner.FormLaws.{aarch64_keeps, aarch64_restored};
 ghost use Rattle.linker_utils.specs.AArch64.{aarch64_form, aarch64_rewrite, aarch64_modifier};

@@ -5,7 +5,8 @@ ghost use Rattle.std.specs.Int.{from_le_bytes, byte_len, cast_unsigned, w64};
 ghost use Rattle.linker_base.specs.Bits.{signed};
 ghost use Rattle.linker_base.specs.Form.{BitsWritten, Written, window_of, place_sum, values_below};
 ghost use Rattle.linker_utils.specs.Elf.{relocation_form, relocation_layout};
-ghost use Rattle.linker_utils.specs.Inner.Runs.{run_places, spread, run_fits, runs_fit, runs_read, words_below, width_of, bits_of, reads_flagged};
+ghost use Rattle.linker_utils.specs.Inner.Runs.{run_places, spread, run_fits, runs_fit, runs_read};
+ghost use Rattle.linker_utils.specs.Inner.Runs.{words_below, width_of, bits_of, reads_flagged};
 
 use crate::elf::RelocationInstruction;
 

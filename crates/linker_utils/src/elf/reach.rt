@@ -1,7 +1,8 @@
 //! Which values of a relocation the machine reads back as they are.
 
 ghost use Rattle.std.specs.Prelude.{◌≡◌};
-ghost use Rattle.linker_utils.specs.Reach.{aarch64_reach, riscv_reach, loongarch_reach, ppc64_reach, bytes_reach, reach_of};
+ghost use Rattle.linker_utils.specs.Reach.{aarch64_reach, riscv_reach, loongarch_reach};
+ghost use Rattle.linker_utils.specs.Reach.{ppc64_reach, bytes_reach, reach_of};
 
 use crate::bit_misc::BitRange;
 use crate::elf::{

@@ -1,6 +1,7 @@
 //! Writes the value of a relocation.
 
-ghost use Rattle.std.specs.Prelude.{◌≡◌, ◌≤◌, ◌<◌, ◌+◌, ◌^◌, ◌↔◌, ◌++◌, IsTrue, IfErr, OnOk, OnErr, true, false, length, take, drop, replicate, Bool};
+ghost use Rattle.std.specs.Prelude.{◌≡◌, ◌≤◌, ◌<◌, ◌+◌, ◌^◌, ◌↔◌, ◌++◌, IsTrue, IfErr, OnOk, OnErr};
+ghost use Rattle.std.specs.Prelude.{true, false, length, take, drop, replicate, Bool};
 ghost use Rattle.std.specs.Int.{byte_len, from_le_bytes, w32};
 ghost use Rattle.linker_base.specs.Bits.{field};
 ghost use Rattle.linker_base.specs.Form.{window_of, BitsWritten, Fits};
@@ -9,8 +10,13 @@ ghost use Rattle.linker_utils.specs.Elf.{relocation_form};
 ghost use Rattle.linker_utils.specs.LoongArch.{loongarch_form};
 ghost use Rattle.linker_utils.specs.Ppc64.{ppc64_form};
 ghost use Rattle.linker_utils.specs.Reach.{reach_of};
-ghost use Rattle.linker_utils.specs.Relocate.{number_of_bytes, low_bytes, number_written, ored_cleared, places_cleared, bits_taken, InstructionWritten, IsWritten, SizeReads, SizeHolds, is_of_uleb128, takes_size, is_supported, window_len, IsAligned, HoldsBits, IsAccepted, IsCause};
-ghost use Rattle.linker_utils.specs.Relocate.{SizeNumber, WritesRow, IsInUnits, IsMultiple, size_len};
+ghost use Rattle.linker_utils.specs.Relocate.{number_of_bytes, low_bytes, number_written};
+ghost use Rattle.linker_utils.specs.Relocate.{ored_cleared, places_cleared, bits_taken};
+ghost use Rattle.linker_utils.specs.Relocate.{InstructionWritten, IsWritten, SizeReads, SizeHolds};
+ghost use Rattle.linker_utils.specs.Relocate.{is_of_uleb128, takes_size, is_supported, window_len};
+ghost use Rattle.linker_utils.specs.Relocate.{IsAligned, HoldsBits, IsAccepted, IsCause};
+ghost use Rattle.linker_utils.specs.Relocate.{SizeNumber, WritesRow, IsInUnits, IsMultiple};
+ghost use Rattle.linker_utils.specs.Relocate.{size_len};
 ghost use Rattle.linker_utils.specs.Relocate.{is_dq_form, number_placed, is_32_bit_move, is_call30};
 
 use crate::bit_misc::{BitExtraction, BitRange};
@@ -311,8 +317,8 @@ impl RelocationKindInfo {
     /// applies of `Unsupported`, `TooShort`, `Misaligned` and `OutOfReach` is returned, and then
     /// nothing is written.
     ///
-    /// - Whole bytes become the lowest bytes of the value, the lowest first. Relocations that add or
-    ///   subtract start from the existing number. Relocations of 6 bits keep the upper 2 bits of
+    /// - Whole bytes become the lowest bytes of the value, the lowest first. Relocations that add
+    /// or   subtract start from the existing number. Relocations of 6 bits keep the upper 2 bits of
     ///   the byte. The bytes' little-endian number is then that value, sum or difference, modulo
     ///   2^8 for each byte.
     /// - Of an instruction, the form's bits become those bits of the value that the relocation
@@ -321,8 +327,8 @@ impl RelocationKindInfo {
     ///   for the opcode that `Movnz` sets by the value's sign; its shift has to be the first of the
     ///   relocation's bits. MOVN and MOVZ of 32 bits (bit 31 is 0) keep their size.
     /// - A PowerPC64 instruction of DQ-form keeps its low 4 bits at a relocation of DS-form.
-    /// - RISC-V's `UiType`, or a high half and a low half of one value, make the value itself, and so
-    ///   does LoongArch's `Call36`. A `c.lui` is such a high half too. The ISA reserves its
+    /// - RISC-V's `UiType`, or a high half and a low half of one value, make the value itself, and
+    /// so   does LoongArch's `Call36`. A `c.lui` is such a high half too. The ISA reserves its
     ///   immediate 0: `riscv64::RelaxationKind::hi20_fits_clui` rejects the values that make it.
     /// - PowerPC64's low half and the high half of the value plus 0x8000 make the value itself.
     /// - The bytes after `window` are unchanged. A relocation without a value writes nothing.

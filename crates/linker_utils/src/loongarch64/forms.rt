@@ -3,7 +3,8 @@
 ghost use Rattle.std.specs.Prelude.{slice_get, ◌≡◌, ◌≤◌, ◌<◌, ◌^◌, true, length, drop};
 ghost use Rattle.std.specs.Int.{byte_len, cast_unsigned, w64};
 ghost use Rattle.linker_utils.specs.LoongArch.{loongarch64_forms};
-ghost use Rattle.linker_base.specs.Form.{window_of, BitsWritten, Fits, Written, MachineReads, IsReadBack, place_sum};
+ghost use Rattle.linker_base.specs.Form.{window_of, BitsWritten, Fits, Written, MachineReads};
+ghost use Rattle.linker_base.specs.Form.{IsReadBack, place_sum};
 ghost use Rattle.linker_utils.specs.Inner.FormLaws.{loongarch_keeps, loongarch_restored};
 ghost use Rattle.linker_utils.specs.Inner.Immediates.{is_one_word, loongarch_bits, loongarch_read};
 ghost use Rattle.linker_utils.specs.LoongArch.{loongarch_form, ReadsLow, Reaches};
@@ -272,8 +273,8 @@ impl InstructionForm for LoongArch64Instruction {
     }
 }
 
-/// The forms by their numbers. A table, since a match becomes a jump by the number where what follows
-/// differs by the form.
+/// The forms by their numbers. A table, since a match becomes a jump by the number where what
+/// follows differs by the form.
 static FORMS: &[LoongArch64Instruction] = &[
     LoongArch64Instruction::Shift5,
     LoongArch64Instruction::Shift10,

@@ -1,12 +1,15 @@
 //! Addresses in two halves.
 
-ghost use Rattle.std.specs.Prelude.{◌≡◌, ◌<◌, ◌≤◌, ◌^◌, ◌-◌, ◌↔◌, ℕ, IsTrue, length, drop, bit_and, bit_or};
+ghost use Rattle.std.specs.Prelude.{◌≡◌, ◌<◌, ◌≤◌, ◌^◌, ◌-◌, ◌↔◌, ℕ, IsTrue, length, drop, bit_and};
+ghost use Rattle.std.specs.Prelude.{bit_or};
 ghost use Rattle.std.specs.Int.{byte_len, cast_unsigned, from_le_bytes, w32, w64};
-ghost use Rattle.linker_base.specs.Form.{window_of, Written, MachineReads, IsReadBack, BitsWritten, place_sum};
+ghost use Rattle.linker_base.specs.Form.{window_of, Written, MachineReads, IsReadBack, BitsWritten};
+ghost use Rattle.linker_base.specs.Form.{place_sum};
 ghost use Rattle.linker_base.specs.Rewrite.{CanRewrite, rewritten, offset_after, addend_after};
 ghost use Rattle.linker_utils.specs.Inner.FormLaws.{ppc64_keeps, ppc64_restored};
 ghost use Rattle.linker_utils.specs.Inner.Masks.{word_mask};
-ghost use Rattle.linker_utils.specs.Ppc64.{ppc64_form, ppc64_rewrite, ppc64_modifier, PairHolds, KeepsHigh};
+ghost use Rattle.linker_utils.specs.Ppc64.{ppc64_form, ppc64_rewrite, ppc64_modifier, PairHolds};
+ghost use Rattle.linker_utils.specs.Ppc64.{KeepsHigh};
 
 use super::Ppc64Instruction;
 use crate::bit_misc::BitExtraction;

@@ -5,7 +5,9 @@ ghost use denote.Enum.Declared.{tag_of};
 ghost use Rattle.linker_utils.specs.Agrees.{RowAgrees, RowFits};
 ghost use Rattle.linker_utils.specs.ElfNames.{IsNameOf, code_of, text_of};
 ghost use Rattle.linker_utils.specs.Readings.{RowReadsNoOther};
-ghost use Rattle.linker_utils.specs.RiscVRelocations.{is_of_descriptor, riscv_relocation, riscv_name, riscv_row, riscv_uleb128_role, clui_row};
+ghost use Rattle.linker_utils.specs.RiscVRelocations.{is_of_descriptor, riscv_relocation};
+ghost use Rattle.linker_utils.specs.RiscVRelocations.{riscv_name, riscv_row, riscv_uleb128_role};
+ghost use Rattle.linker_utils.specs.RiscVRelocations.{clui_row};
 ghost use Rattle.linker_utils.specs.contracts.riscv64.relocations.RiscVRelocation as names;
 
 use crate::elf::rows::{
@@ -93,7 +95,8 @@ macro_rules! relocations {
                 16 R_RISCV_BRANCH =>
                     Some(row!(Relative, (0..32 RiscV::BType), within -4096, 4095, alignment: 2)),
                 17 R_RISCV_JAL =>
-                    Some(row!(Relative, (0..32 RiscV::JType), within -1048576, 1048575, alignment: 2)),
+                    Some(row!(Relative, (0..32 RiscV::JType), within -1048576, 1048575,
+                        alignment: 2)),
                 18 R_RISCV_CALL => Some(pair!(PltRelative, 64, UiType)),
                 19 R_RISCV_CALL_PLT => Some(pair!(PltRelative, 64, UiType)),
                 20 R_RISCV_GOT_HI20 => Some(pair!(GotRelative, 32, UType)),
