@@ -1,6 +1,6 @@
 // Made by tools/erase of crates/linker_utils/src/architecture.rt.
-//! What the codes and numbers of an ELF file's architecture name: relocations by `r_type`, and forms
-//! and rewrites by their places in their enums.
+//! What the codes and numbers of an ELF file's architecture name: relocations by `r_type`, and
+//! forms and rewrites by their places in their enums.
 //!
 #![doc = include_str!("../doc/architecture.md")]
 
@@ -63,8 +63,8 @@ impl InstructionRewrite for Relaxation {
 }
 
 impl Architecture {
-    /// What the relocation with a code, `r_type` in ELF files, means. None of a code without a name,
-    /// and of names without a row.
+    /// What the relocation with a code, `r_type` in ELF files, means. None of a code without a
+    /// name, and of names without a row.
     ///
     /// ```
     /// use linker_utils::elf::Architecture;

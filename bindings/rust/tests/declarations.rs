@@ -475,7 +475,7 @@ fn arms(source: &str, path: &str) -> Numbers {
 /// The forms of an architecture in the proved library's table, by their places.
 fn forms_of(architecture: &str, path: &str) -> Numbers {
     let source = repository(&format!("crates/linker_utils/src/{architecture}/forms.rt"));
-    let (_, table) = source.split_once("static FORMS").expect("the table");
+    let (_, table) = source.split_once("const FORMS").expect("the table");
     let (table, _) = table.split_once("];").expect("its end");
     let names = table
         .lines()

@@ -177,9 +177,11 @@ macro_rules! relocations {
                 280 R_AARCH64_CONDBR19 =>
                     Some(row!(Relative, (2..21 AArch64::Bcond), signed 21, alignment: 4)),
                 282 R_AARCH64_JUMP26 =>
-                    Some(row!(PltRelative, (2..28 AArch64::JumpCall), signed 28, alignment: 4, thunkable: true)),
+                    Some(row!(PltRelative, (2..28 AArch64::JumpCall), signed 28, alignment: 4,
+                        thunkable: true)),
                 283 R_AARCH64_CALL26 =>
-                    Some(row!(PltRelative, (2..28 AArch64::JumpCall), signed 28, alignment: 4, thunkable: true)),
+                    Some(row!(PltRelative, (2..28 AArch64::JumpCall), signed 28, alignment: 4,
+                        thunkable: true)),
                 284 R_AARCH64_LDST16_ABS_LO12_NC =>
                     Some(row!(AbsoluteLowPart, (1..12 AArch64::LdSt), any, alignment: 2)),
                 285 R_AARCH64_LDST32_ABS_LO12_NC =>
@@ -223,7 +225,8 @@ macro_rules! relocations {
                 312 R_AARCH64_LD64_GOT_LO12_NC =>
                     Some(row!(Got, (3..12 AArch64::LdSt), any, alignment: 8)),
                 313 R_AARCH64_LD64_GOTPAGE_LO15 =>
-                    Some(row!(GotRelGotBase, (3..15 AArch64::LdSt), unsigned 15, alignment: 8, mask: GOT_PAGE)),
+                    Some(row!(GotRelGotBase, (3..15 AArch64::LdSt), unsigned 15, alignment: 8,
+                        mask: GOT_PAGE)),
                 314 R_AARCH64_PLT32 => Some(row!(PltRelative, (4 bytes), signed 32)),
                 315 R_AARCH64_GOTPCREL32 => Some(row!(GotRelative, (4 bytes), signed 32)),
             }
@@ -380,7 +383,7 @@ impl AArch64Relocation {
     }
 }
 
-static ROWS: &[Option<TableRow>] = &relocations!(table());
+const ROWS: &[Option<TableRow>] = &relocations!(table());
 
 /// The index of a name in the table.
 #[inline(always)]

@@ -296,8 +296,8 @@ macro_rules! index_of_name {
     };
 }
 
-/// Where a row's value goes: `(4 bytes)`, or as `(12..32 RiscV::UType)` the value's bits from 12 up,
-/// below 32, into an instruction.
+/// Where a row's value goes: `(4 bytes)`, or as `(12..32 RiscV::UType)` the value's bits from 12
+/// up, below 32, into an instruction.
 macro_rules! size {
     (($bytes:literal bytes)) => {
         $crate::elf::RelocationSize::ByteSize($bytes)
@@ -405,8 +405,8 @@ macro_rules! mask {
 }
 
 /// A row: its kind, its `size!`, its range, and the fields that most rows don't have. Ranges are
-/// `any`; `signed`, `unsigned` or `signed_or_unsigned` numbers of so many bits; or those `within` two
-/// bounds, the second one excluded. `reach` gives the row's reach where that isn't its range.
+/// `any`; `signed`, `unsigned` or `signed_or_unsigned` numbers of so many bits; or those `within`
+/// two bounds, the second one excluded. `reach` gives the row's reach where that isn't its range.
 macro_rules! row {
     ($kind:ident, $size:tt, any $(, $($field:tt)*)?) => {
         $crate::elf::rows::row!(@ $kind, $size, (0, 0, 0, i64::MIN, i64::MAX) $(, $($field)*)?)

@@ -25,7 +25,8 @@ pub struct Operands {
     /// The address of the GOT entry that the relocation asks for: the symbol's (GOT + G), or its
     /// entries for general-dynamic, local-dynamic and initial-exec TLS, or its TLS descriptor. For
     /// an instruction of AArch64 or PowerPC64 it is the entry of S + A, and A isn't added to its
-    /// address. `R_LARCH_GOT_PC_LO12` of a TLS symbol whose high half is `R_LARCH_TLS_GD_PC_HI20` or
+    /// address. `R_LARCH_GOT_PC_LO12` of a TLS symbol whose high half is `R_LARCH_TLS_GD_PC_HI20`
+    /// or
     /// `R_LARCH_TLS_LD_PC_HI20` takes the entry of that high half.
     pub got_entry: u64,
     /// The address that offsets from the GOT count from: that of `_GLOBAL_OFFSET_TABLE_`, and on
@@ -228,8 +229,8 @@ impl RelocationKindInfo {
     /// five for bits 32 to 51 and the fourth for bits 52 to 63.
     ///
     /// Of a pair of relocations of a ULEB128 number, the value of the second is what is subtracted.
-    /// That of the first, `R_RISCV_SET_ULEB128` or `R_LARCH_ADD_ULEB128`, is S + A, though its row is
-    /// of kind `Relative`.
+    /// That of the first, `R_RISCV_SET_ULEB128` or `R_LARCH_ADD_ULEB128`, is S + A, though its row
+    /// is of kind `Relative`.
     #[must_use]
     #[inline]
     pub fn value(&self, operands: &Operands) -> Option<i64> {

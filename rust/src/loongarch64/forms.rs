@@ -234,9 +234,9 @@ impl InstructionForm for LoongArch64Instruction {
     }
 }
 
-/// The forms by their numbers. A table, since a match becomes a jump by the number where what follows
-/// differs by the form.
-static FORMS: &[LoongArch64Instruction] = &[
+/// The forms by their numbers. A table, since a match becomes a jump by the number where what
+/// follows differs by the form.
+const FORMS: &[LoongArch64Instruction] = &[
     LoongArch64Instruction::Shift5,
     LoongArch64Instruction::Shift10,
     LoongArch64Instruction::Branch26,

@@ -124,7 +124,8 @@ macro_rules! relocations {
                 69 R_LARCH_ABS64_LO20 => Some(row!(Absolute, (32..52 LoongArch64::Shift5), any)),
                 70 R_LARCH_ABS64_HI12 => Some(row!(Absolute, (52..64 LoongArch64::Shift10), any)),
                 71 R_LARCH_PCALA_HI20 =>
-                    Some(row!(Relative, (12..32 LoongArch64::Shift5), any, mask: PLACE_PAGES, bias: SIZE_2KB)),
+                    Some(row!(Relative, (12..32 LoongArch64::Shift5), any, mask: PLACE_PAGES,
+                        bias: SIZE_2KB)),
                 72 R_LARCH_PCALA_LO12 =>
                     Some(row!(AbsoluteLowPart, (0..12 LoongArch64::Shift10), any)),
                 73 R_LARCH_PCALA64_LO20 =>
@@ -132,7 +133,8 @@ macro_rules! relocations {
                 74 R_LARCH_PCALA64_HI12 =>
                     Some(row!(RelativeLoongArchHigh, (52..64 LoongArch64::Shift10), any)),
                 75 R_LARCH_GOT_PC_HI20 =>
-                    Some(row!(GotRelative, (12..32 LoongArch64::Shift5), any, mask: ENTRY_PAGES, bias: SIZE_2KB)),
+                    Some(row!(GotRelative, (12..32 LoongArch64::Shift5), any, mask: ENTRY_PAGES,
+                        bias: SIZE_2KB)),
                 76 R_LARCH_GOT_PC_LO12 => Some(row!(Got, (0..12 LoongArch64::Shift10), any)),
                 77 R_LARCH_GOT64_PC_LO20 =>
                     Some(row!(GotRelativeLoongArch64, (32..52 LoongArch64::Shift5), any)),
@@ -143,7 +145,8 @@ macro_rules! relocations {
                 85 R_LARCH_TLS_LE64_LO20 => Some(row!(TpOff, (32..52 LoongArch64::Shift5), any)),
                 86 R_LARCH_TLS_LE64_HI12 => Some(row!(TpOff, (52..64 LoongArch64::Shift10), any)),
                 87 R_LARCH_TLS_IE_PC_HI20 =>
-                    Some(row!(GotTpOff, (12..32 LoongArch64::Shift5), any, mask: ENTRY_PAGES, bias: SIZE_2KB)),
+                    Some(row!(GotTpOff, (12..32 LoongArch64::Shift5), any, mask: ENTRY_PAGES,
+                        bias: SIZE_2KB)),
                 88 R_LARCH_TLS_IE_PC_LO12 =>
                     Some(row!(GotTpOffGot, (0..12 LoongArch64::Shift10), any)),
                 89 R_LARCH_TLS_IE64_PC_LO20 =>
@@ -159,10 +162,12 @@ macro_rules! relocations {
                 94 R_LARCH_TLS_IE64_HI12 =>
                     Some(row!(GotTpOffGot, (52..64 LoongArch64::Shift10), any)),
                 95 R_LARCH_TLS_LD_PC_HI20 =>
-                    Some(row!(TlsGd, (12..32 LoongArch64::Shift5), any, mask: ENTRY_PAGES, bias: SIZE_2KB)),
+                    Some(row!(TlsGd, (12..32 LoongArch64::Shift5), any, mask: ENTRY_PAGES,
+                        bias: SIZE_2KB)),
                 96 R_LARCH_TLS_LD_HI20 => Some(row!(TlsGdGot, (12..32 LoongArch64::Shift5), any)),
                 97 R_LARCH_TLS_GD_PC_HI20 =>
-                    Some(row!(TlsGd, (12..32 LoongArch64::Shift5), any, mask: ENTRY_PAGES, bias: SIZE_2KB)),
+                    Some(row!(TlsGd, (12..32 LoongArch64::Shift5), any, mask: ENTRY_PAGES,
+                        bias: SIZE_2KB)),
                 98 R_LARCH_TLS_GD_HI20 => Some(row!(TlsGdGot, (12..32 LoongArch64::Shift5), any)),
                 99 R_LARCH_32_PCREL => Some(row!(Relative, (4 bytes), signed 32)),
                 100 R_LARCH_RELAX => Some(row!(None, (0 bytes), any)),
@@ -179,7 +184,8 @@ macro_rules! relocations {
                     Some(row!(PltRelative, (2..38 LoongArch64::Call36), signed 38 reach -0x2000020000,
                         0x1ffffe0000, alignment: 4)),
                 111 R_LARCH_TLS_DESC_PC_HI20 =>
-                    Some(row!(TlsDesc, (12..32 LoongArch64::Shift5), any, mask: ENTRY_PAGES, bias: SIZE_2KB)),
+                    Some(row!(TlsDesc, (12..32 LoongArch64::Shift5), any, mask: ENTRY_PAGES,
+                        bias: SIZE_2KB)),
                 112 R_LARCH_TLS_DESC_PC_LO12 =>
                     Some(row!(TlsDescGot, (0..12 LoongArch64::Shift10), any)),
                 113 R_LARCH_TLS_DESC64_PC_LO20 =>
@@ -244,7 +250,7 @@ impl LoongArch64Relocation {
     }
 }
 
-static ROWS: &[Option<TableRow>] = &relocations!(table());
+const ROWS: &[Option<TableRow>] = &relocations!(table());
 
 /// The index of a name in the table.
 #[inline(always)]

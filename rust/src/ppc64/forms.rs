@@ -123,9 +123,9 @@ impl InstructionForm for Ppc64Instruction {
     }
 }
 
-/// The forms by their numbers. A table, since a match becomes a jump by the number where what follows
-/// differs by the form.
-static FORMS: &[Ppc64Instruction] = &[
+/// The forms by their numbers. A table, since a match becomes a jump by the number where what
+/// follows differs by the form.
+const FORMS: &[Ppc64Instruction] = &[
     Ppc64Instruction::D,
     Ppc64Instruction::Ds,
     Ppc64Instruction::Branch14,

@@ -133,8 +133,8 @@ impl LinkRegister {
 /// Why a call doesn't become a jump.
 #[derive(Debug, Clone, Copy, PartialEq, Eq)]
 pub enum CallError {
-    /// The four bytes at the site, or eight where the `jalr` says which register is linked, don't lie
-    /// in the section, or the target is past its end.
+    /// The four bytes at the site, or eight where the `jalr` says which register is linked, don't
+    /// lie in the section, or the target is past its end.
     OutOfSection,
     /// One of the four bytes at the site is deleted.
     SiteDeleted,

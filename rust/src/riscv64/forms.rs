@@ -100,7 +100,8 @@ const OTHER: WordBits = WordBits {
     up_20: 0,
 };
 
-/// By the forms' places in their enum: a match of runs would be a jump by the form. With the bits of
+/// By the forms' places in their enum: a match of runs would be a jump by the form. With the bits
+/// of
 /// `BType` and `JType`, or for reads, a single form would take longer.
 static WORD_BITS: [WordBits; 9] = [
     WordBits {
@@ -273,9 +274,9 @@ impl InstructionForm for RiscVInstruction {
     }
 }
 
-/// The forms by their numbers. A table, since a match becomes a jump by the number where what follows
-/// differs by the form.
-static FORMS: &[RiscVInstruction] = &[
+/// The forms by their numbers. A table, since a match becomes a jump by the number where what
+/// follows differs by the form.
+const FORMS: &[RiscVInstruction] = &[
     RiscVInstruction::UType,
     RiscVInstruction::IType,
     RiscVInstruction::SType,

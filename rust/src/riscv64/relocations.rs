@@ -86,7 +86,8 @@ macro_rules! relocations {
                 16 R_RISCV_BRANCH =>
                     Some(row!(Relative, (0..32 RiscV::BType), within -4096, 4095, alignment: 2)),
                 17 R_RISCV_JAL =>
-                    Some(row!(Relative, (0..32 RiscV::JType), within -1048576, 1048575, alignment: 2)),
+                    Some(row!(Relative, (0..32 RiscV::JType), within -1048576, 1048575,
+                        alignment: 2)),
                 18 R_RISCV_CALL => Some(pair!(PltRelative, 64, UiType)),
                 19 R_RISCV_CALL_PLT => Some(pair!(PltRelative, 64, UiType)),
                 20 R_RISCV_GOT_HI20 => Some(pair!(GotRelative, 32, UType)),
@@ -189,7 +190,7 @@ pub fn clui_row() -> Row {
     Row::of(&CLUI)
 }
 
-static ROWS: &[Option<TableRow>] = &relocations!(table());
+const ROWS: &[Option<TableRow>] = &relocations!(table());
 
 /// The index of a name in the table.
 #[inline(always)]

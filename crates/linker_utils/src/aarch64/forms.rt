@@ -312,7 +312,7 @@ impl InstructionForm for AArch64Instruction {
 
 /// The forms by their numbers. A table, since a match becomes a jump by the number where what
 /// follows differs by the form.
-static FORMS: &[AArch64Instruction] = &[
+const FORMS: &[AArch64Instruction] = &[
     AArch64Instruction::Adr,
     AArch64Instruction::Movkz,
     AArch64Instruction::Movnz,

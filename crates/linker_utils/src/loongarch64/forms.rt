@@ -275,7 +275,7 @@ impl InstructionForm for LoongArch64Instruction {
 
 /// The forms by their numbers. A table, since a match becomes a jump by the number where what
 /// follows differs by the form.
-static FORMS: &[LoongArch64Instruction] = &[
+const FORMS: &[LoongArch64Instruction] = &[
     LoongArch64Instruction::Shift5,
     LoongArch64Instruction::Shift10,
     LoongArch64Instruction::Branch26,

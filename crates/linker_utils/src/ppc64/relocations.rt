@@ -198,7 +198,7 @@ impl Ppc64Relocation {
     }
 }
 
-static ROWS: &[Option<TableRow>] = &relocations!(table());
+const ROWS: &[Option<TableRow>] = &relocations!(table());
 
 /// The index of a name in the table.
 #[inline(always)]

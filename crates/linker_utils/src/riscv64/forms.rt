@@ -301,7 +301,7 @@ impl InstructionForm for RiscVInstruction {
 
 /// The forms by their numbers. A table, since a match becomes a jump by the number where what
 /// follows differs by the form.
-static FORMS: &[RiscVInstruction] = &[
+const FORMS: &[RiscVInstruction] = &[
     RiscVInstruction::UType,
     RiscVInstruction::IType,
     RiscVInstruction::SType,

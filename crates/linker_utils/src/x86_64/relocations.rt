@@ -147,7 +147,7 @@ impl X86_64Relocation {
     }
 }
 
-static ROWS: &[Option<TableRow>] = &relocations!(table());
+const ROWS: &[Option<TableRow>] = &relocations!(table());
 
 /// The index of a name in the table.
 #[inline(always)]

@@ -53,9 +53,9 @@ impl<'a> RelaxCursor<'a> {
 
     /// Writes the output offset of each of the queries, in order, at its index in `out`.
     ///
-    /// Requires `out` as long as `queries`, queries that don't decrease, and that each delta already
-    /// passed begins strictly below the first query, as `can_translate_all` tests except for the
-    /// lengths. One pass takes O(n + q).
+    /// Requires `out` as long as `queries`, queries that don't decrease, and that each delta
+    /// already passed begins strictly below the first query, as `can_translate_all` tests except
+    /// for the lengths. One pass takes O(n + q).
     ///
     /// # Requires
     ///

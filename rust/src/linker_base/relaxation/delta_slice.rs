@@ -224,7 +224,8 @@ impl<'a> DeltaSlice<'a> {
     }
 
     /// As `input_to_output_offset`, with these heads of the blocks. It looks at them first where
-    /// the deltas are more than a few, and not at all where they aren't as many as blocks. O(log n).
+    /// the deltas are more than a few, and not at all where they aren't as many as blocks.
+    /// O(log n).
     #[must_use]
     #[inline(always)]
     pub fn input_to_output_by_heads(&self, heads: &'a [BlockHead], input_offset: u64) -> u64 {
@@ -235,7 +236,8 @@ impl<'a> DeltaSlice<'a> {
     }
 
     /// As `output_to_input_offset`, with these heads of the blocks. It looks at them first where
-    /// the deltas are more than a few, and not at all where they aren't as many as blocks. O(log n).
+    /// the deltas are more than a few, and not at all where they aren't as many as blocks.
+    /// O(log n).
     #[must_use]
     #[inline(always)]
     pub fn output_to_input_by_heads(
