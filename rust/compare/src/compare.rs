@@ -3,7 +3,7 @@
 
 use crate::*;
 use linker_utils::elf::{Operands, RelocationNumbers};
-use linker_utils::relaxation::{BlockHead, RelaxDelta};
+use linker_utils::relaxation::{BlockHead, Call, RelaxDelta};
 // It links the static library.
 use sathunne as _;
 
@@ -207,6 +207,7 @@ macro_rules! fields {
 
 fields! { RelaxDelta: input_offset, bytes_deleted, cumulative_deleted, }
 fields! { BlockHead: input_offset, output_place, }
+fields! { Call: site, target, }
 fields! { Operands: symbol, addend, place, got_entry, got_base, plt_entry, symbol_size, tls_base, }
 fields! {
     RelocationNumbers: kind, form, mask, machine, is_bits, byte_size, first_bit, end_bit,
