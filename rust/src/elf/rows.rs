@@ -85,8 +85,10 @@ impl Row {
     pub fn info(&self) -> RelocationKindInfo {
         let entry = self.entry;
         let numbers = &entry.numbers;
+        // loaded before the test, so that LLVM needs no branch
+        let both = (numbers.min, numbers.max);
         let bounds = if numbers.has_range == 1 {
-            Some((numbers.min, numbers.max))
+            Some(both)
         } else {
             None
         };

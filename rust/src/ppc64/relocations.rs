@@ -188,7 +188,7 @@ impl Ppc64Relocation {
     }
 }
 
-const ROWS: &[Option<TableRow>] = &relocations!(table());
+static ROWS: &[Option<TableRow>] = &relocations!(table());
 
 /// The index of a name in the table.
 #[inline(always)]

@@ -190,7 +190,7 @@ pub fn clui_row() -> Row {
     Row::of(&CLUI)
 }
 
-const ROWS: &[Option<TableRow>] = &relocations!(table());
+static ROWS: &[Option<TableRow>] = &relocations!(table());
 
 /// The index of a name in the table.
 #[inline(always)]

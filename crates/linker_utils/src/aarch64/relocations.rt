@@ -394,7 +394,7 @@ impl AArch64Relocation {
     }
 }
 
-const ROWS: &[Option<TableRow>] = &relocations!(table());
+static ROWS: &[Option<TableRow>] = &relocations!(table());
 
 /// The index of a name in the table.
 #[inline(always)]

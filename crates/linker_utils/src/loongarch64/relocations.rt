@@ -262,7 +262,7 @@ impl LoongArch64Relocation {
     }
 }
 
-const ROWS: &[Option<TableRow>] = &relocations!(table());
+static ROWS: &[Option<TableRow>] = &relocations!(table());
 
 /// The index of a name in the table.
 #[inline(always)]

@@ -147,7 +147,7 @@ impl X86_64Relocation {
     }
 }
 
-const ROWS: &[Option<TableRow>] = &relocations!(table());
+static ROWS: &[Option<TableRow>] = &relocations!(table());
 
 /// The index of a name in the table.
 #[inline(always)]
