@@ -2,8 +2,7 @@
  *
  * No export of the archive takes a null pointer to a slice, even with a count of 0. So each
  * function replaces null by the address of an array, and calls the export of the same name that
- * ends in
- * `_nonnull`. It replaces a null `faulty` by the address of a variable. */
+ * ends in `_nonnull`. It replaces a null `faulty` by the address of a variable. */
 #ifndef LINKER_UTILS_INLINE_H
 #define LINKER_UTILS_INLINE_H
 

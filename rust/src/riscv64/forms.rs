@@ -101,8 +101,7 @@ const OTHER: WordBits = WordBits {
 };
 
 /// By the forms' places in their enum: a match of runs would be a jump by the form. With the bits
-/// of
-/// `BType` and `JType`, or for reads, a single form would take longer.
+/// of `BType` and `JType`, or for reads, a single form would take longer.
 static WORD_BITS: [WordBits; 9] = [
     WordBits {
         added: 0x800,

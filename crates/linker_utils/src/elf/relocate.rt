@@ -318,7 +318,7 @@ impl RelocationKindInfo {
     /// nothing is written.
     ///
     /// - Whole bytes become the lowest bytes of the value, the lowest first. Relocations that add
-    /// or   subtract start from the existing number. Relocations of 6 bits keep the upper 2 bits of
+    ///   or subtract start from the existing number. Relocations of 6 bits keep the upper 2 bits of
     ///   the byte. The bytes' little-endian number is then that value, sum or difference, modulo
     ///   2^8 for each byte.
     /// - Of an instruction, the form's bits become those bits of the value that the relocation
@@ -328,7 +328,7 @@ impl RelocationKindInfo {
     ///   relocation's bits. MOVN and MOVZ of 32 bits (bit 31 is 0) keep their size.
     /// - A PowerPC64 instruction of DQ-form keeps its low 4 bits at a relocation of DS-form.
     /// - RISC-V's `UiType`, or a high half and a low half of one value, make the value itself, and
-    /// so   does LoongArch's `Call36`. A `c.lui` is such a high half too. The ISA reserves its
+    ///   so does LoongArch's `Call36`. A `c.lui` is such a high half too. The ISA reserves its
     ///   immediate 0: `riscv64::RelaxationKind::hi20_fits_clui` rejects the values that make it.
     /// - PowerPC64's low half and the high half of the value plus 0x8000 make the value itself.
     /// - The bytes after `window` are unchanged. A relocation without a value writes nothing.

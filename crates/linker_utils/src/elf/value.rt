@@ -31,8 +31,7 @@ pub struct Operands {
     /// entries for general-dynamic, local-dynamic and initial-exec TLS, or its TLS descriptor. For
     /// an instruction of AArch64 or PowerPC64 it is the entry of S + A, and A isn't added to its
     /// address. `R_LARCH_GOT_PC_LO12` of a TLS symbol whose high half is `R_LARCH_TLS_GD_PC_HI20`
-    /// or
-    /// `R_LARCH_TLS_LD_PC_HI20` takes the entry of that high half.
+    /// or `R_LARCH_TLS_LD_PC_HI20` takes the entry of that high half.
     pub got_entry: u64,
     /// The address that offsets from the GOT count from: that of `_GLOBAL_OFFSET_TABLE_`, and on
     /// PowerPC64 that of `.TOC.`, which is the GOT's address plus 0x8000.
