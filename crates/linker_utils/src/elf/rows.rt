@@ -390,10 +390,9 @@ macro_rules! number {
         $crate::elf::Ppc64Instruction::$form as u32
     };
     (machine ($bytes:literal bytes)) => { 0 };
-    (machine ($start:literal .. $end:literal AArch64 :: $form:ident)) => { 183 };
-    (machine ($start:literal .. $end:literal RiscV :: $form:ident)) => { 243 };
-    (machine ($start:literal .. $end:literal LoongArch64 :: $form:ident)) => { 258 };
-    (machine ($start:literal .. $end:literal Ppc64 :: $form:ident)) => { 21 };
+    (machine ($start:literal .. $end:literal $architecture:ident :: $form:ident)) => {
+        $crate::elf::Architecture::$architecture as u16
+    };
     (is_bits ($bytes:literal bytes)) => { 0 };
     (is_bits $size:tt) => { 1 };
     (byte_size ($bytes:literal bytes)) => { $bytes };
