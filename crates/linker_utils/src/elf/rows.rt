@@ -425,10 +425,9 @@ macro_rules! is_supported {
 /// How many bytes a row writes.
 macro_rules! window {
     (($bytes:literal bytes)) => { $bytes };
-    (($start:literal .. $end:literal RiscV :: CbType)) => { 2 };
-    (($start:literal .. $end:literal RiscV :: CjType)) => { 2 };
-    (($start:literal .. $end:literal RiscV :: CluiType)) => { 2 };
-    (($start:literal .. $end:literal RiscV :: UiType)) => { 8 };
+    (($start:literal .. $end:literal RiscV :: $form:ident)) => {
+        $crate::riscv64::forms::WINDOWS[$crate::elf::RiscVInstruction::$form as usize]
+    };
     (($start:literal .. $end:literal LoongArch64 :: Call30)) => { 8 };
     (($start:literal .. $end:literal LoongArch64 :: Call36)) => { 8 };
     (($start:literal .. $end:literal Ppc64 :: Prefixed)) => { 8 };
