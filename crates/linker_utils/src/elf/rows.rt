@@ -4,7 +4,7 @@ ghost use Rattle.std.specs.Prelude.{◌≡◌, ◌^◌, ◌<◌, IfErr, IfSome, 
 ghost use Rattle.linker_utils.specs.Agrees.{RowFits};
 ghost use Rattle.linker_utils.specs.Numbers.{numbers_of};
 ghost use Rattle.linker_utils.specs.Reach.{reach_of};
-ghost use Rattle.linker_utils.specs.Relocate.{WritesRow, IsCause, window_len};
+ghost use Rattle.linker_utils.specs.Relocate.{WritesRow, RejectsValue, window_len};
 ghost use Rattle.linker_utils.specs.Value.{value_of};
 ghost use Rattle.linker_utils.specs.Inner.RowTables.{info_in, info_of, IsSound, tests_of};
 
@@ -179,7 +179,7 @@ impl Row {
     #[inline(always)]
     pub fn write(&self, value: i64, dest: &mut [u8]) -> Result<(), RelocateError>
         ensures ok { OnOk result (WritesRow self.now value dest.old dest.new) }
-        ensures err { IfErr result (λ error. IsCause self.now value dest.old error × (dest.new ≡ dest.old)) }
+        ensures err { IfErr result (RejectsValue self.now value dest.old dest.new) }
     {
         self.info().write_tested(&self.entry.tests, value, dest)
     }
@@ -197,7 +197,7 @@ impl RelocationKindInfo {
         requires tests { tests.now ≡ tests_of self.now }
         requires fits { RowFits self.now }
         ensures ok { OnOk result (WritesRow self.now value dest.old dest.new) }
-        ensures err { IfErr result (λ error. IsCause self.now value dest.old error × (dest.new ≡ dest.old)) }
+        ensures err { IfErr result (RejectsValue self.now value dest.old dest.new) }
     {
         if !tests.is_supported {
             return Err(RelocateError::Unsupported);
