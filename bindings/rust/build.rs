@@ -1,6 +1,7 @@
-//! Links the static library: `liblinker_utils.a` in the folder that `LINKER_UTILS_FOLDER` names, or else
-//! in the one that `../archive` prints, which makes it where it is stale. Writes the header's constants
-//! for `src/names.rs`: those of the installed header beside that folder, or else of the repository's.
+//! Links the static library: `liblinker_utils.a` in the folder that `LINKER_UTILS_FOLDER` names, or
+//! else in the one that `../archive` prints, which makes it where it is stale. Writes the header's
+//! constants for `src/names.rs`: those of the installed header beside that folder, or else of the
+//! repository's.
 
 use std::path::Path;
 use std::process::Command;
@@ -51,9 +52,10 @@ const SPELLED: [(&str, &str); 5] = [
     ),
 ];
 
-/// The bytes that hold any name, and for each of the header's enums a macro of its name. `ENUM! { MACRO
-/// START }` is `MACRO! { START { CONSTANTS } }`, with a line for each constant: `#[doc = "COMMENT"] NAME
-/// = NUMBER,`, and for a status `NAME = NUMBER "TEXT",`. The comment `n` makes `NAME(n) = NUMBER,`.
+/// How many bytes hold any name, and for each of the header's enums a macro of its name:
+/// `ENUM! { MACRO START }` is `MACRO! { START { CONSTANTS } }`. A constant is
+/// `#[doc = "COMMENT"] NAME = NUMBER,` or, where its comment is `n`, `NAME(n) = NUMBER,`, and a status
+/// `NAME = NUMBER "TEXT",`.
 fn constants(header: &str) -> String {
     let (_, size) = header
         .split_once("#define LINKER_UTILS_NAME_SIZE ")
@@ -118,7 +120,7 @@ fn statuses(header: &str) -> String {
     entries.collect()
 }
 
-/// A constant's name as a variant: without the words of its enum at the beginning, and in camel case.
+/// A constant's name as a variant: in camel case, without the words of its enum at the beginning.
 fn variant(of_enum: &str, constant: &str) -> String {
     let constant = constant.to_lowercase();
     let is_of_enum = |word: &&str| of_enum.split('_').any(|of_enum| of_enum == *word);
