@@ -1,5 +1,5 @@
 -- What a search in the deltas of a section finds.
-use Rattle.std.proofs.Common.{◌≡◌, ℕ, ◌+◌, ◌-◌, ◌<◌, ◌≤◌, Bool, true, false, List, length, map, get_or, take, leb, ltb, refl, ap, ◌∙◌, inl, inr, arith}
+use Rattle.std.proofs.Common.{◌≡◌, ℕ, ◌+◌, ◌-◌, ◌<◌, ◌≤◌, Bool, true, false, List, length, map, get_or, take, leb, refl, ap, ◌∙◌, inl, inr, arith}
 use Rattle.std.specs.Prelude.{◌%◌, ◌^◌, ◌↔◌, max, All, Any}
 use Rattle.std.specs.List.Sorted.{IsNonDecreasingBy, IsPartitionedBy, IsPartitionPoint}
 use Rattle.std.proofs.lemmas.Bool.{cases_lt, cases_order}
@@ -9,10 +9,12 @@ use Rattle.std.proofs.lemmas.List.Sums.{sum_by_more}
 use Rattle.linker_base.specs.declared.relaxation.RelaxDelta.{RelaxDelta}
 use Rattle.linker_base.specs.Deletions.{IsValid, IsInsideDeletion, IsSelected, HasInput, bytes_of, rank}
 use Rattle.linker_base.specs.Deltas.{deletion_of}
-use Rattle.linker_base.specs.declared.relaxation.blocks.BlockHead.{BlockHead}
-use Rattle.linker_base.specs.Blocks.{output_offset_of, AreHeads}
-use Rattle.linker_base.specs.Inner.Blocks.{no_head}
-use Rattle.linker_base.specs.Inner.PartitionPoint.{IsPartitioned, IsPointOf, HeadsAgree}
+use Rattle.linker_base.specs.declared.relaxation.partition_point.Level.TheVariants.{Deltas}
+use Rattle.linker_base.specs.declared.relaxation.partition_point.Test.{Test}
+use Rattle.linker_base.specs.declared.relaxation.partition_point.Test.TheVariants.{Begins, IsPlaced}
+use Rattle.linker_base.specs.Blocks.{View, output_offset_of, AreHeads}
+use Rattle.linker_base.specs.Inner.Blocks.{no_head, view_subject, list_subject}
+use Rattle.linker_base.specs.Inner.PartitionPoint.{Subject, Probed, OnlyProbes, head_passes, IsPartitioned, IsPointOf, HeadsAgree}
 use Rattle.linker_base.specs.Listed.{AreValidDeltas}
 use Rattle.linker_base.specs.Inner.Listed.{ArePlaced, IsOnlyAt, IsEndOf}
 use Rattle.linker_base.proofs.OutputOffsets.{AreParted, rank-parted, selected-output, bytes_between, bytes-le-offset}
@@ -188,31 +190,35 @@ rank_at_none deltas listed i parted =
 
 -- ---- searches by index
 
-pub begins_partitioned : (deltas : List RelaxDelta) → IsValid (map deletion_of deltas) → (i : ℕ) → IsPartitioned (λ at. ltb (get_or deltas at blank).input_offset i) (length deltas)
-begins_partitioned deltas valid i j k le within passes = let rise = offsets_rise deltas valid j k blank le within in grind (arith, nat_tests)
+pub begins_partitioned : (s : Subject) → IsValid (map deletion_of s.deltas) → (i : ℕ) → IsPartitioned s Deltas (Begins i)
+begins_partitioned s valid i j k le within passes = let rise = offsets_rise s.deltas valid j k blank le within in grind (arith, nat_tests)
 
-pub places_partitioned : (deltas : List RelaxDelta) → AreValidDeltas deltas → (y : ℕ) → IsPartitioned (λ at. is_placed y (get_or deltas at blank)) (length deltas)
-places_partitioned deltas listed y j k le within passes = placed_first deltas listed y j k blank le within passes
+pub places_partitioned : (s : Subject) → AreValidDeltas s.deltas → (y : ℕ) → IsPartitioned s Deltas (IsPlaced y)
+places_partitioned s listed y j k le within passes = placed_first s.deltas listed y j k blank le within passes
 
-pub parted_from_point : (deltas : List RelaxDelta) (i k : ℕ) → k ≤ length deltas → IsPointOf (λ at. ltb (get_or deltas at blank).input_offset i) (length deltas) k → IsPartitionPoint (λ d. d.0 < i) (λ d. i ≤ d.0) (map deletion_of deltas) k
-parted_from_point deltas i k within found = (
-  λ j d low high. rw (deletion_at deltas j blank d (omega arith)) (grind (arith, nat_tests, found.before j high)),
-  λ j d low high. let inside : j < length deltas = omega (arith, length-map deltas deletion_of) in rw (deletion_at deltas j blank d inside) (grind (arith, nat_tests, found.after j low inside)),
+pub parted_from_point : (s : Subject) (i k : ℕ) → k ≤ length s.deltas → IsPointOf s Deltas (Begins i) k → IsPartitionPoint (λ d. d.0 < i) (λ d. i ≤ d.0) (map deletion_of s.deltas) k
+parted_from_point s i k within found = (
+  λ j d low high. rw (deletion_at s.deltas j blank d (omega arith)) (grind (arith, nat_tests, found.before j high)),
+  λ j d low high. let inside : j < length s.deltas = omega (arith, length-map s.deltas deletion_of) in rw (deletion_at s.deltas j blank d inside) (grind (arith, nat_tests, found.after j low inside)),
 )
 
-pub placed_from_point : (deltas : List RelaxDelta) → AreValidDeltas deltas → (y k : ℕ) → k ≤ length deltas → IsPointOf (λ at. is_placed y (get_or deltas at blank)) (length deltas) k → ArePlaced (map deletion_of deltas) y k
-placed_from_point deltas listed y k within found = record {
-  before = λ j d below. (placed_at deltas listed y j blank d (omega arith)).0 (found.before j below);
+pub placed_from_point : (s : Subject) → AreValidDeltas s.deltas → (y k : ℕ) → k ≤ length s.deltas → IsPointOf s Deltas (IsPlaced y) k → ArePlaced (map deletion_of s.deltas) y k
+placed_from_point s listed y k within found = record {
+  before = λ j d below. (placed_at s.deltas listed y j blank d (omega arith)).0 (found.before j below);
   after = λ j d from below.
-      let inside : j < length deltas = omega (arith, length-map deltas deletion_of) in
-      (placed_at deltas listed y j blank d inside).2 (found.after j from inside);
+      let inside : j < length s.deltas = omega (arith, length-map s.deltas deletion_of) in
+      (placed_at s.deltas listed y j blank d inside).2 (found.after j from inside);
 }
 
 -- ---- searches by heads
 
 -- heads that belong to the deltas pass where the first deltas of their blocks do
-pub heads_begin : (deltas : List RelaxDelta) (heads : List BlockHead) (i : ℕ) → AreHeads deltas heads → HeadsAgree (λ b. ltb (get_or heads b no_head).input_offset i) (λ at. ltb (get_or deltas at blank).input_offset i) (length heads) (length deltas)
-heads_begin deltas heads i are = record { same = λ b low. ap (λ (h : BlockHead). ltb h.input_offset i) (are.each b no_head blank low); all = omega (arith, are.count) }
+pub view_heads_agree : (view : View) (test : Test) → AreHeads view.deltas view.heads → HeadsAgree (view_subject view) test
+view_heads_agree view test are = record { same = λ b low. ap (head_passes test) (are.each b no_head blank low); all = omega (arith, are.count) }
 
-pub heads_placed : (deltas : List RelaxDelta) (heads : List BlockHead) (y : ℕ) → AreHeads deltas heads → HeadsAgree (λ b. leb (get_or heads b no_head).output_place y) (λ at. is_placed y (get_or deltas at blank)) (length heads) (length deltas)
-heads_placed deltas heads y are = record { same = λ b low. ap (λ (h : BlockHead). leb h.output_place y) (are.each b no_head blank low); all = omega (arith, are.count) }
+pub list_heads_agree : (deltas : List RelaxDelta) (test : Test) → HeadsAgree (list_subject deltas) test
+list_heads_agree deltas test = record { same = λ b low. refl; all = omega arith }
+
+-- probes keep the deltas
+pub same_listed : {most : ℕ} {a b : Probed} → OnlyProbes most a b → b.subject.deltas ≡ a.subject.deltas
+same_listed probed = ap (λ (s : Subject). s.deltas) probed.same
