@@ -14,7 +14,8 @@ use Rattle.linker_base.specs.Inner.PartitionPoint.{IsPartitioned, IsPointOf, Hea
 -- ---- probes
 
 -- a halving of more than one element takes one probe
-pub can_once : (spent now len half : ℕ) → now ≤ spent + 1 → 1 < len → 2 * half ≤ len + 1 → (limit : ℕ) → CanHalve limit spent len → CanHalve limit now half
+pub can_once : (spent now len half : ℕ) → now ≤ spent + 1 → 1 < len → 2 * half ≤ len + 1
+    → (limit : ℕ) → CanHalve limit spent len → CanHalve limit now half
 can_once spent now len half le long part limit (zero, fits, room) = absurd (omega arith)
 can_once spent now len half le long part limit (suc left, fits, room) = (left, omega arith, omega arith)
 
@@ -25,7 +26,8 @@ power_below (suc m) zero below = absurd (omega (arith, pow_pos m))
 power_below (suc m) (suc k) below = omega (arith, power_below m k (omega arith))
 
 -- a cut to fewer elements, a power of two, takes one probe
-pub can_cut : (spent now len width : ℕ) → now ≤ spent + 1 → IsPowerOfTwo width → width < len → (limit : ℕ) → CanHalve limit spent len → CanHalve limit now width
+pub can_cut : (spent now len width : ℕ) → now ≤ spent + 1 → IsPowerOfTwo width → width < len
+    → (limit : ℕ) → CanHalve limit spent len → CanHalve limit now width
 can_cut spent now len width le (m, is) long limit (zero, fits, room) = absurd (omega (arith, is, pow_pos m))
 can_cut spent now len width le (m, is) long limit (suc left, fits, room) = (left, omega (arith, is, power_below m left (omega (arith, is))), omega arith)
 
@@ -36,39 +38,51 @@ pub can_begin : (spent len digits : ℕ) → len ≤ 2 ^ digits → CanHalve (sp
 can_begin spent len digits fits = (digits, fits, omega arith)
 
 -- the deltas of some blocks: six digits more
-pub can_begin_blocks : (spent size blocks digits : ℕ) → size ≤ 64 * blocks → blocks < 2 ^ digits → CanHalve (spent + digits + 6) spent size
+pub can_begin_blocks : (spent size blocks digits : ℕ) → size ≤ 64 * blocks → blocks < 2 ^ digits
+    → CanHalve (spent + digits + 6) spent size
 can_begin_blocks spent size blocks digits few fits = (suc (suc (suc (suc (suc (suc digits))))), omega arith, omega arith)
 
 -- ---- one test
 
 module _ (s : Subject) (level : Level) (test : Test) where
-  passes_until : IsPartitioned s level test → (m : ℕ) → m < size_of s level → true ≡ passing s level test m → (k : ℕ) → k < m → passing s level test k ≡ true
+  -- all before one that passes pass, and all after one that fails fail
+  passes_until : IsPartitioned s level test → (m : ℕ) → m < size_of s level
+      → true ≡ passing s level test m → (k : ℕ) → k < m → passing s level test k ≡ true
   passes_until parted m within is k low = parted k m (omega arith) within (sym is)
 
-  fails_from : IsPartitioned s level test → (m : ℕ) → false ≡ passing s level test m → (k : ℕ) → m ≤ k → k < size_of s level → passing s level test k ≡ false
+  fails_from : IsPartitioned s level test → (m : ℕ) → false ≡ passing s level test m → (k : ℕ)
+      → m ≤ k → k < size_of s level → passing s level test k ≡ false
   fails_from parted m is k low high = elim (cases_Bool (passing s level test k)) [
     | inl passes ↦ absurd (false≢true (is ∙ parted m k low high passes))
     | inr fails ↦ fails
   ]
 
-  narrowed_up : IsPartitioned s level test → (a b : SearchRange) → b.start < size_of s level → a.start + a.len ≤ b.start + b.len → passing s level test b.start ≡ true → IsNarrowed s level test a → IsNarrowed s level test b
+  narrowed_up : IsPartitioned s level test → (a b : SearchRange) → b.start < size_of s level
+      → a.start + a.len ≤ b.start + b.len → passing s level test b.start ≡ true
+      → IsNarrowed s level test a → IsNarrowed s level test b
   narrowed_up parted a b within end passes known = record {
     before = passes_until parted b.start within (sym passes);
     after = λ k low high. known.after k (omega arith) high;
   }
 
-  narrowed_down : IsPartitioned s level test → (a b : SearchRange) (m : ℕ) → m < size_of s level → b.start ≤ a.start → m ≤ b.start + b.len → passing s level test m ≡ false → IsNarrowed s level test a → IsNarrowed s level test b
+  narrowed_down : IsPartitioned s level test → (a b : SearchRange) (m : ℕ) → m < size_of s level
+      → b.start ≤ a.start → m ≤ b.start + b.len → passing s level test m ≡ false
+      → IsNarrowed s level test a → IsNarrowed s level test b
   narrowed_down parted a b m within start end fails known = record {
     before = λ k low. known.before k (omega arith);
     after = λ k low high. fails_from parted m (sym fails) k (omega arith) high;
   }
 
-  -- where an element passes, so do all before it
-  quarter_order : IsPartitioned s level test → (m k : ℕ) → m ≤ k → k < size_of s level → false ≡ passing s level test m → true ≡ passing s level test k → ⊥
+  -- none passes after one that fails
+  quarter_order : IsPartitioned s level test → (m k : ℕ) → m ≤ k → k < size_of s level
+      → false ≡ passing s level test m → true ≡ passing s level test k → ⊥
   quarter_order parted m k le high fails passes = false≢true (fails ∙ parted m k le high (sym passes))
 
-  -- three elements, a quarter of the range apart
-  pub quarter_of : IsPartitioned s level test → (range : SearchRange) (q : ℕ) (a b c : Bool) → IsRangeOf s level range → 0 < q → 4 * q ≤ range.len → a ≡ passing s level test (range.start + q) → b ≡ passing s level test (range.start + 2 * q) → c ≡ passing s level test (range.start + 3 * q)
+  -- three elements are tested, each a quarter of the range after the one before
+  pub quarter_of : IsPartitioned s level test → (range : SearchRange) (q : ℕ) (a b c : Bool)
+      → IsRangeOf s level range → 0 < q → 4 * q ≤ range.len
+      → a ≡ passing s level test (range.start + q) → b ≡ passing s level test (range.start + 2 * q)
+      → c ≡ passing s level test (range.start + 3 * q)
       → IsNarrowed s level test range → IsNarrowed s level test (record { start = range.start + (bool_byte a + bool_byte b + bool_byte c) * q; len = range.len - 3 * q })
   quarter_of parted range q true true true within some four one two three known = record {
     before = passes_until parted (range.start + 3 * q) (omega (arith, within.end)) three;
@@ -90,11 +104,14 @@ module _ (s : Subject) (level : Level) (test : Test) where
   quarter_of parted range q false true c within some four one two three known = absurd (quarter_order parted _ _ (omega arith) (omega (arith, within.end)) one two)
   quarter_of parted range q false false true within some four one two three known = absurd (quarter_order parted _ _ (omega arith) (omega (arith, within.end)) two three)
 
-  pub narrowed_all : (range : SearchRange) → range.start ≡ 0 → range.len ≡ size_of s level → IsNarrowed s level test range
+  pub narrowed_all : (range : SearchRange) → range.start ≡ 0 → range.len ≡ size_of s level
+      → IsNarrowed s level test range
   narrowed_all range start len = record { before = λ k low. absurd (omega arith); after = λ k low high. absurd (omega arith) }
 
   -- one element is left, and it passes or fails
-  pub point_one : (range : SearchRange) (b : Bool) → range.len ≤ 1 → b ≡ passing s level test range.start → IsNarrowed s level test range → IsPointOf s level test (range.start + bool_byte b)
+  pub point_one : (range : SearchRange) (b : Bool) → range.len ≤ 1
+      → b ≡ passing s level test range.start → IsNarrowed s level test range
+      → IsPointOf s level test (range.start + bool_byte b)
   point_one range true short is known = record {
     before = λ k low. elim (cases_lt k range.start) [
       | inl below ↦ known.before k below
@@ -113,8 +130,9 @@ module _ (s : Subject) (level : Level) (test : Test) where
 -- ---- what remains of a range
 
 module _ {level : Level} {test : Test} where
-  -- of what remains of it
-  pub narrows_then : {m n : ℕ} {a b c : Probed} {x y z : SearchRange} → Narrows m level test a x b y → Narrows n level test b y c z → Narrows (m + n) level test a x c z
+  -- what remains of what remains
+  pub narrows_then : {m n : ℕ} {a b c : Probed} {x y z : SearchRange} → Narrows m level test a x b y
+      → Narrows n level test b y c z → Narrows (m + n) level test a x c z
   narrows_then one two = record {
     probes = record { same = two.probes.same ∙ one.probes.same; counted = omega (arith, one.probes.counted, two.probes.counted) };
     within = two.within;
@@ -124,7 +142,9 @@ module _ {level : Level} {test : Test} where
     can = λ limit held. two.can limit (one.can limit held);
   }
 
-  pub narrows_most : {m n : ℕ} {a b : Probed} {x y : SearchRange} → b.probes ≤ a.probes + n → Narrows m level test a x b y → Narrows n level test a x b y
+  -- with fewer probes than their sum, if fewer were counted
+  pub narrows_most : {m n : ℕ} {a b : Probed} {x y : SearchRange} → b.probes ≤ a.probes + n
+      → Narrows m level test a x b y → Narrows n level test a x b y
   narrows_most counted one = record {
     probes = record { same = one.probes.same; counted = counted };
     within = one.within;
@@ -136,7 +156,8 @@ module _ {level : Level} {test : Test} where
 
   module _ {a b : Probed} (probed : OnlyProbes 1 a b) (range : SearchRange) (middle width : ℕ) (within : IsRangeOf a.subject level range) (parts : AreParts range middle width) (can : (limit : ℕ) → CanHalve limit a.probes range.len → CanHalve limit b.probes width) where
     -- the last elements, where the test of the middle passes
-    pub narrows_up : passing a.subject level test middle ≡ true → Narrows 1 level test a range b (record { start = middle; len = width })
+    pub narrows_up : passing a.subject level test middle ≡ true
+        → Narrows 1 level test a range b (record { start = middle; len = width })
     narrows_up passes = record {
       probes = probed;
       within = rw probed.same (record { end = omega (arith, within.end, parts.end); fits = within.fits });
@@ -147,7 +168,8 @@ module _ {level : Level} {test : Test} where
     }
 
     -- the first elements, where it fails
-    pub narrows_down : passing a.subject level test middle ≡ false → Narrows 1 level test a range b (record { start = range.start; len = width })
+    pub narrows_down : passing a.subject level test middle ≡ false
+        → Narrows 1 level test a range b (record { start = range.start; len = width })
     narrows_down fails = record {
       probes = probed;
       within = rw probed.same (record { end = omega (arith, within.end, parts.shorter); fits = within.fits });
@@ -160,15 +182,18 @@ module _ {level : Level} {test : Test} where
 -- ---- heads and the deltas of their blocks
 
 module _ (s : Subject) (test : Test) where
-  pub heads_partitioned : HeadsHaveDeltas s → IsPartitioned s Deltas test → HeadsAgree s test → IsPartitioned s Heads test
+  pub heads_partitioned : HeadsHaveDeltas s → IsPartitioned s Deltas test → HeadsAgree s test
+      → IsPartitioned s Heads test
   heads_partitioned few parted agree i j le low passes =
       agree.same i (omega arith) ∙ parted (64 * i) (64 * j) (omega arith) (omega arith) (sym (agree.same j low) ∙ passes)
 
   -- the last head that passes is the first delta of the block in which those that pass end
-  pub block_begins : HeadsAgree s test → (h b : ℕ) → b + 1 ≡ h → h ≤ s.blocks → IsPointOf s Heads test h → passing s Deltas test (64 * b) ≡ true
+  pub block_begins : HeadsAgree s test → (h b : ℕ) → b + 1 ≡ h → h ≤ s.blocks
+      → IsPointOf s Heads test h → passing s Deltas test (64 * b) ≡ true
   block_begins agree h b next bound point = sym (agree.same b (omega arith)) ∙ point.before b (omega arith)
 
-  fails_after : IsPartitioned s Deltas test → HeadsAgree s test → (h : ℕ) → IsPointOf s Heads test h → (k : ℕ) → 64 * h ≤ k → k < size_of s Deltas → passing s Deltas test k ≡ false
+  fails_after : IsPartitioned s Deltas test → HeadsAgree s test → (h : ℕ) → IsPointOf s Heads test h
+      → (k : ℕ) → 64 * h ≤ k → k < size_of s Deltas → passing s Deltas test k ≡ false
   fails_after parted agree h point k from high = elim (cases_Bool (passing s Deltas test k)) [
     | inl passes ↦
         let inside : h < s.blocks = omega (arith, agree.all) in
@@ -176,8 +201,11 @@ module _ (s : Subject) (test : Test) where
     | inr fails ↦ fails
   ]
 
-  pub block_ends : IsPartitioned s Deltas test → HeadsAgree s test → (h b : ℕ) → b + 1 ≡ h → IsPointOf s Heads test h → (k : ℕ) → 64 * b + 64 ≤ k → k < size_of s Deltas → passing s Deltas test k ≡ false
+  pub block_ends : IsPartitioned s Deltas test → HeadsAgree s test → (h b : ℕ) → b + 1 ≡ h
+      → IsPointOf s Heads test h → (k : ℕ) → 64 * b + 64 ≤ k → k < size_of s Deltas
+      → passing s Deltas test k ≡ false
   block_ends parted agree h b next point k from high = fails_after parted agree h point k (omega arith) high
 
-  pub none_passes : IsPartitioned s Deltas test → HeadsAgree s test → IsPointOf s Heads test 0 → IsPointOf s Deltas test 0
+  pub none_passes : IsPartitioned s Deltas test → HeadsAgree s test → IsPointOf s Heads test 0
+      → IsPointOf s Deltas test 0
   none_passes parted agree point = record { before = λ k low. absurd (omega arith); after = λ k low high. fails_after parted agree 0 point k (omega arith) high }
