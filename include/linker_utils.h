@@ -719,7 +719,7 @@ static inline uint32_t linker_utils_deltas_translate_all(
  * the bytes of all deletions before it. */
 struct linker_utils_block_head {
     uint64_t input_offset;
-    uint64_t output_place;
+    uint64_t output_offset;
 };
 
 /* How many blocks of 64 the deltas have; the last may be shorter. */
