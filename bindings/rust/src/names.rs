@@ -202,6 +202,8 @@ numbered! {
         Hi20ToCLui = 3,
         Hi20Delete = 4,
         Lo12Rs1ToZero = 5,
+        TailToJal = 6,
+        TailToCJ = 7,
     }
 }
 
