@@ -1,8 +1,8 @@
 -- The instructions that each rewrite of AArch64 is meant for (Arm Architecture Reference Manual for
 -- A-profile, DDI 0487, C6.2; ELF for the Arm 64-bit Architecture, "Relocation optimization" and the
 -- sequences of thread-local storage).
-use Rattle.std.specs.Prelude.{◌≡◌, ◌≢◌, ◌≤◌, ◌-◌, ℕ, List, bit_and, ⊤, ◌⊎◌}
-use Rattle.linker_utils.specs.AArch64.{rd_of, rn_of}
+use Rattle.std.specs.Prelude.{◌≡◌, ◌≢◌, ◌≤◌, ◌-◌, ℕ, List, bit_and, IsTrue, ⊤, ◌⊎◌}
+use Rattle.linker_utils.specs.AArch64.{rd_of, rn_of, is_ldr64}
 use Rattle.linker_utils.specs.Originals.{HasWord}
 use Rattle.linker_utils.specs.declared.aarch64.rewrites.RelaxationKind.{RelaxationKind}
 use Rattle.linker_utils.specs.declared.aarch64.rewrites.RelaxationKind.TheVariants.{NoOp}
@@ -28,7 +28,7 @@ IsAdd64 word = bit_and word 0xffc00000 ≡ 0x91000000
 
 -- `ldr xD, [xN, #imm]`, whose offset is unsigned
 abbrev pub IsLdr64 : ℕ → Type 0
-IsLdr64 word = bit_and word 0xffc00000 ≡ 0xf9400000
+IsLdr64 word = IsTrue (is_ldr64 word)
 
 -- The source register is the destination register. The number 31 is no such register: as a source of
 -- `add` and `ldr` and as the destination of `add` it is the stack pointer, and as the destination of

@@ -126,7 +126,7 @@ fn is_add64(word: u32) -> bool
 fn is_ldr64(word: u32) -> bool
     ensures { IsTrue result ↔ IsLdr64 word }
 {
-    word & 0xffc0_0000 == 0xf940_0000
+    word >> 22 == 0x3e5
 }
 
 /// Whether the source register is the destination register, and the same one: 31 as a source is the
@@ -258,7 +258,7 @@ impl RelaxationKind {
                 if !has_window(section, offset, 0, 4) {
                     return false;
                 }
-                word_at(section, offset) >> 22 == 0x3e5
+                is_ldr64(word_at(section, offset))
             }
             RelaxationKind::AdrpAddToNopAdr => has_window(section, offset, 4, 8),
             RelaxationKind::ReplaceWithNop
