@@ -270,6 +270,12 @@ x86_64_rewrites! {
     TlsDescToLocalExec(n) = 15,
     TlsDescToInitialExec = 16,
     SkipTlsDescCall = 17,
+    RexAdcIndirectToAbsolute(n) = 18,
+    RexAndIndirectToAbsolute(n) = 19,
+    RexOrIndirectToAbsolute(n) = 20,
+    RexSbbIndirectToAbsolute(n) = 21,
+    RexXorIndirectToAbsolute(n) = 22,
+    RexTestIndirectToAbsolute(n) = 23,
 }
 
 numbered! {

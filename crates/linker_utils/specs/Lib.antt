@@ -21,4 +21,5 @@ pub mod Rows
 pub mod Shrinking
 pub mod Value
 pub mod X86
+pub mod X86Originals
 pub mod X86Relocations
