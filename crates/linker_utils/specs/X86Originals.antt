@@ -3,7 +3,7 @@
 -- by the Intel 64 and IA-32 Software Developer's Manual, "Instruction Format"; REX2 and EVEX by the
 -- Intel Advanced Performance Extensions Architecture Specification).
 use Rattle.std.specs.Prelude.{ℕ, ◌-◌, Bool, true, false, ◌==◌, ◌&&◌, ◌||◌, nat_le, if◌then◌else◌}
-use Rattle.std.specs.Prelude.{IsTrue, List, [], ◌∷◌, ◌++◌, drop, bit_and}
+use Rattle.std.specs.Prelude.{IsTrue, List, [], ◌∷◌, ◌++◌, drop, bit_and, bit_or}
 use Rattle.linker_base.specs.Rewrite.{CanRewrite}
 use Rattle.linker_utils.specs.X86.{x86_64_rewrite}
 use Rattle.linker_utils.specs.declared.x86_64.rewrites.RelaxationKind.{RelaxationKind}
@@ -42,18 +42,19 @@ abbrev pub evex_registers : ℕ × ℕ
 evex_registers = (0x6f, 0x64)
 
 -- The second has W, V3 to V0 and X4 inverted, and 00, which is no prefix 66; the third 000, ND, V4
--- inverted, NF and 00. Where ND is 1, V names the new destination, and else it names none.
+-- inverted, NF and 00. Where ND is 1, V names the new destination, and else it names none. `fixed` is
+-- 4 where NF has to be 0, and else 0.
 abbrev pub evex_any_v : ℕ × ℕ
 evex_any_v = (0x07, 0x04)
 
-abbrev pub evex_new_destination : ℕ × ℕ
-evex_new_destination = (0xf3, 0x10)
+abbrev pub evex_new_destination : ℕ → ℕ × ℕ
+evex_new_destination fixed = (bit_or 0xf3 fixed, 0x10)
 
 abbrev pub evex_no_v : ℕ × ℕ
 evex_no_v = (0x7f, 0x7c)
 
-abbrev pub evex_same_destination : ℕ × ℕ
-evex_same_destination = (0xfb, 0x08)
+abbrev pub evex_same_destination : ℕ → ℕ × ℕ
+evex_same_destination fixed = (bit_or 0xfb fixed, 0x08)
 
 -- relocated fields of 4 and 8 bytes
 abbrev pub field4 : List (ℕ × ℕ)
@@ -110,13 +111,13 @@ legacy n opcode =
     else (if n == 4 then with_rex2 rex2 opcode ∷ []
     else []))
 
--- or EVEX
-abbrev pub legacy_or_evex : ℕ → ℕ → List Original
-legacy_or_evex n opcode =
+-- or EVEX; `adc` and `sbb` have no NF
+abbrev pub legacy_or_evex : ℕ → ℕ → ℕ → List Original
+legacy_or_evex n fixed opcode =
     if n == 6
     then
-        with_evex evex_any_v evex_new_destination opcode
-        ∷ with_evex evex_no_v evex_same_destination opcode ∷ []
+    with_evex evex_any_v (evex_new_destination fixed) opcode
+    ∷ with_evex evex_no_v (evex_same_destination fixed) opcode ∷ []
     else legacy n opcode
 
 -- `lea x@tlsdesc(%rip), %reg`, of 64 bits
@@ -157,14 +158,14 @@ abbrev pub x86_64_originals : RelaxationKind → List Original
 x86_64_originals kinds.MovIndirectToLea = plain 0x8b
 x86_64_originals kinds.MovIndirectToAbsolute = plain 0x8b
 x86_64_originals (kinds.RexMovIndirectToAbsolute n) = legacy n 0x8b
-x86_64_originals (kinds.RexAddIndirectToAbsolute n) = legacy_or_evex n 0x03
+x86_64_originals (kinds.RexAddIndirectToAbsolute n) = legacy_or_evex n 0 0x03
 x86_64_originals (kinds.RexSubIndirectToAbsolute n) = legacy n 0x2b
 x86_64_originals (kinds.RexCmpIndirectToAbsolute n) = legacy n 0x3b
-x86_64_originals (kinds.RexAdcIndirectToAbsolute n) = legacy_or_evex n 0x13
-x86_64_originals (kinds.RexAndIndirectToAbsolute n) = legacy_or_evex n 0x23
-x86_64_originals (kinds.RexOrIndirectToAbsolute n) = legacy_or_evex n 0x0b
-x86_64_originals (kinds.RexSbbIndirectToAbsolute n) = legacy_or_evex n 0x1b
-x86_64_originals (kinds.RexXorIndirectToAbsolute n) = legacy_or_evex n 0x33
+x86_64_originals (kinds.RexAdcIndirectToAbsolute n) = legacy_or_evex n 4 0x13
+x86_64_originals (kinds.RexAndIndirectToAbsolute n) = legacy_or_evex n 0 0x23
+x86_64_originals (kinds.RexOrIndirectToAbsolute n) = legacy_or_evex n 0 0x0b
+x86_64_originals (kinds.RexSbbIndirectToAbsolute n) = legacy_or_evex n 4 0x1b
+x86_64_originals (kinds.RexXorIndirectToAbsolute n) = legacy_or_evex n 0 0x33
 x86_64_originals (kinds.RexTestIndirectToAbsolute n) = legacy n 0x85
 -- `call *x(%rip)`: ff /2
 x86_64_originals kinds.CallIndirectToRelative =

@@ -206,14 +206,14 @@ macro_rules! pattern_byte {
     (evex_any_v) => {
         (0x07, 0x04)
     };
-    (evex_new_destination) => {
-        (0xf3, 0x10)
-    };
     (evex_no_v) => {
         (0x7f, 0x7c)
     };
-    (evex_same_destination) => {
-        (0xfb, 0x08)
+    ((evex_new_destination $fixed:ident)) => {
+        (0xf3 | $fixed, 0x10)
+    };
+    ((evex_same_destination $fixed:ident)) => {
+        (0xfb | $fixed, 0x08)
     };
     ($value:expr) => {
         (0xff, $value)
@@ -311,10 +311,10 @@ fn is_legacy(section: &[u8], offset: u64, n: u8, opcode: u8) -> bool
     }
 }
 
-/// The same, or with EVEX.
+/// The same, or with EVEX, whose bits `fixed` are 0.
 #[inline(always)]
-fn is_legacy_or_evex(section: &[u8], offset: u64, n: u8, opcode: u8) -> bool
-    ensures { result ≡ is_one_at (legacy_or_evex n opcode) section.now offset }
+fn is_legacy_or_evex(section: &[u8], offset: u64, n: u8, fixed: u8, opcode: u8) -> bool
+    ensures { result ≡ is_one_at (legacy_or_evex n fixed opcode) section.now offset }
 {
     if n == 6 {
         is_either(
@@ -322,10 +322,12 @@ fn is_legacy_or_evex(section: &[u8], offset: u64, n: u8, opcode: u8) -> bool
             offset,
             6,
             &pattern!(
-                0x62 evex_registers evex_any_v evex_new_destination opcode rip any any any any
+                0x62 evex_registers evex_any_v (evex_new_destination fixed) opcode rip
+                any any any any
             ),
             &pattern!(
-                0x62 evex_registers evex_no_v evex_same_destination opcode rip any any any any
+                0x62 evex_registers evex_no_v (evex_same_destination fixed) opcode rip
+                any any any any
             ),
         )
     } else {
@@ -596,24 +598,24 @@ impl RelaxationKind {
             }
             RelaxationKind::RexMovIndirectToAbsolute(n) => is_legacy(section, offset, n, 0x8b),
             RelaxationKind::RexAddIndirectToAbsolute(n) => {
-                is_legacy_or_evex(section, offset, n, 0x03)
+                is_legacy_or_evex(section, offset, n, 0, 0x03)
             }
             RelaxationKind::RexSubIndirectToAbsolute(n) => is_legacy(section, offset, n, 0x2b),
             RelaxationKind::RexCmpIndirectToAbsolute(n) => is_legacy(section, offset, n, 0x3b),
             RelaxationKind::RexAdcIndirectToAbsolute(n) => {
-                is_legacy_or_evex(section, offset, n, 0x13)
+                is_legacy_or_evex(section, offset, n, 4, 0x13)
             }
             RelaxationKind::RexAndIndirectToAbsolute(n) => {
-                is_legacy_or_evex(section, offset, n, 0x23)
+                is_legacy_or_evex(section, offset, n, 0, 0x23)
             }
             RelaxationKind::RexOrIndirectToAbsolute(n) => {
-                is_legacy_or_evex(section, offset, n, 0x0b)
+                is_legacy_or_evex(section, offset, n, 0, 0x0b)
             }
             RelaxationKind::RexSbbIndirectToAbsolute(n) => {
-                is_legacy_or_evex(section, offset, n, 0x1b)
+                is_legacy_or_evex(section, offset, n, 4, 0x1b)
             }
             RelaxationKind::RexXorIndirectToAbsolute(n) => {
-                is_legacy_or_evex(section, offset, n, 0x33)
+                is_legacy_or_evex(section, offset, n, 0, 0x33)
             }
             RelaxationKind::RexTestIndirectToAbsolute(n) => is_legacy(section, offset, n, 0x85),
             RelaxationKind::CallIndirectToRelative => {
