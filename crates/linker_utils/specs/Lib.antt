@@ -23,3 +23,4 @@ pub mod Value
 pub mod X86
 pub mod X86Originals
 pub mod X86Relocations
+pub mod X86RelocationsAfter

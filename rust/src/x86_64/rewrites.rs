@@ -1,6 +1,7 @@
 // Made by tools/erase of crates/linker_utils/src/x86_64/rewrites.rt.
 //! Relaxation rewrites of x86-64.
 
+use super::X86_64Relocation;
 use crate::elf::InstructionRewrite;
 use crate::relaxation::RelocationModifier;
 use crate::rewrite::{has_window, overwrite};
@@ -168,14 +169,14 @@ macro_rules! pattern_byte {
     (evex_any_v) => {
         (0x07, 0x04)
     };
-    (evex_new_destination) => {
-        (0xf3, 0x10)
-    };
     (evex_no_v) => {
         (0x7f, 0x7c)
     };
-    (evex_same_destination) => {
-        (0xfb, 0x08)
+    ((evex_new_destination $fixed:ident)) => {
+        (0xf3 | $fixed, 0x10)
+    };
+    ((evex_same_destination $fixed:ident)) => {
+        (0xfb | $fixed, 0x08)
     };
     ($value:expr) => {
         (0xff, $value)
@@ -263,19 +264,21 @@ fn is_legacy(section: &[u8], offset: u64, n: u8, opcode: u8) -> bool {
     }
 }
 
-/// The same, or with EVEX.
+/// The same, or with EVEX, whose bits `fixed` are 0.
 #[inline(always)]
-fn is_legacy_or_evex(section: &[u8], offset: u64, n: u8, opcode: u8) -> bool {
+fn is_legacy_or_evex(section: &[u8], offset: u64, n: u8, fixed: u8, opcode: u8) -> bool {
     if n == 6 {
         is_either(
             section,
             offset,
             6,
             &pattern!(
-                0x62 evex_registers evex_any_v evex_new_destination opcode rip any any any any
+                0x62 evex_registers evex_any_v (evex_new_destination fixed) opcode rip
+                any any any any
             ),
             &pattern!(
-                0x62 evex_registers evex_no_v evex_same_destination opcode rip any any any any
+                0x62 evex_registers evex_no_v (evex_same_destination fixed) opcode rip
+                any any any any
             ),
         )
     } else {
@@ -290,6 +293,77 @@ fn is_lea_of_descriptor(section: &[u8], offset: u64, n: u8) -> bool {
         3 => is_original(section, offset, 3, &REX_LEA),
         4 => is_original(section, offset, 4, &REX2_LEA),
         _ => false,
+    }
+}
+
+#[inline(always)]
+fn after_got(after: X86_64Relocation, before: X86_64Relocation) -> Option<X86_64Relocation> {
+    match before {
+        X86_64Relocation::R_X86_64_GOTPCRELX
+        | X86_64Relocation::R_X86_64_REX_GOTPCRELX
+        | X86_64Relocation::R_X86_64_CODE_4_GOTPCRELX
+        | X86_64Relocation::R_X86_64_CODE_5_GOTPCRELX
+        | X86_64Relocation::R_X86_64_CODE_6_GOTPCRELX => Some(after),
+        _ => None,
+    }
+}
+
+#[inline(always)]
+fn after_got_or_tp(after: X86_64Relocation, before: X86_64Relocation) -> Option<X86_64Relocation> {
+    match before {
+        X86_64Relocation::R_X86_64_GOTTPOFF
+        | X86_64Relocation::R_X86_64_CODE_4_GOTTPOFF
+        | X86_64Relocation::R_X86_64_CODE_5_GOTTPOFF
+        | X86_64Relocation::R_X86_64_CODE_6_GOTTPOFF => Some(X86_64Relocation::R_X86_64_TPOFF32),
+        _ => after_got(after, before),
+    }
+}
+
+#[inline(always)]
+fn after_descriptor(after: X86_64Relocation, before: X86_64Relocation) -> Option<X86_64Relocation> {
+    match before {
+        X86_64Relocation::R_X86_64_GOTPC32_TLSDESC
+        | X86_64Relocation::R_X86_64_CODE_4_GOTPC32_TLSDESC
+        | X86_64Relocation::R_X86_64_CODE_5_GOTPC32_TLSDESC
+        | X86_64Relocation::R_X86_64_CODE_6_GOTPC32_TLSDESC => Some(after),
+        _ => None,
+    }
+}
+
+#[inline(always)]
+fn after_general_dynamic(
+    after: X86_64Relocation,
+    before: X86_64Relocation,
+) -> Option<X86_64Relocation> {
+    match before {
+        X86_64Relocation::R_X86_64_TLSGD => Some(after),
+        _ => None,
+    }
+}
+
+#[inline(always)]
+fn after_local_dynamic(before: X86_64Relocation) -> Option<X86_64Relocation> {
+    match before {
+        X86_64Relocation::R_X86_64_TLSLD => Some(X86_64Relocation::R_X86_64_NONE),
+        _ => None,
+    }
+}
+
+#[inline(always)]
+fn after_descriptor_call(before: X86_64Relocation) -> Option<X86_64Relocation> {
+    match before {
+        X86_64Relocation::R_X86_64_TLSDESC_CALL => Some(X86_64Relocation::R_X86_64_NONE),
+        _ => None,
+    }
+}
+
+/// The relocation of an immediate of 32 bits.
+#[inline(always)]
+fn immediate_of(n: u8) -> X86_64Relocation {
+    if n == 2 {
+        X86_64Relocation::R_X86_64_32
+    } else {
+        X86_64Relocation::R_X86_64_32S
     }
 }
 
@@ -530,24 +604,24 @@ impl RelaxationKind {
             }
             RelaxationKind::RexMovIndirectToAbsolute(n) => is_legacy(section, offset, n, 0x8b),
             RelaxationKind::RexAddIndirectToAbsolute(n) => {
-                is_legacy_or_evex(section, offset, n, 0x03)
+                is_legacy_or_evex(section, offset, n, 0, 0x03)
             }
             RelaxationKind::RexSubIndirectToAbsolute(n) => is_legacy(section, offset, n, 0x2b),
             RelaxationKind::RexCmpIndirectToAbsolute(n) => is_legacy(section, offset, n, 0x3b),
             RelaxationKind::RexAdcIndirectToAbsolute(n) => {
-                is_legacy_or_evex(section, offset, n, 0x13)
+                is_legacy_or_evex(section, offset, n, 4, 0x13)
             }
             RelaxationKind::RexAndIndirectToAbsolute(n) => {
-                is_legacy_or_evex(section, offset, n, 0x23)
+                is_legacy_or_evex(section, offset, n, 0, 0x23)
             }
             RelaxationKind::RexOrIndirectToAbsolute(n) => {
-                is_legacy_or_evex(section, offset, n, 0x0b)
+                is_legacy_or_evex(section, offset, n, 0, 0x0b)
             }
             RelaxationKind::RexSbbIndirectToAbsolute(n) => {
-                is_legacy_or_evex(section, offset, n, 0x1b)
+                is_legacy_or_evex(section, offset, n, 4, 0x1b)
             }
             RelaxationKind::RexXorIndirectToAbsolute(n) => {
-                is_legacy_or_evex(section, offset, n, 0x33)
+                is_legacy_or_evex(section, offset, n, 0, 0x33)
             }
             RelaxationKind::RexTestIndirectToAbsolute(n) => is_legacy(section, offset, n, 0x85),
             RelaxationKind::CallIndirectToRelative => {
@@ -591,6 +665,56 @@ impl RelaxationKind {
     #[inline]
     pub fn matches(self, section: &[u8], offset: u64) -> bool {
         self.can_apply(section, offset) && self.is_for(section, offset)
+    }
+
+    /// The relocation of the field after the rewrite, by the one before it. `R_X86_64_NONE` says that
+    /// nothing is relocated any more. Returns `None` where the rewrite is not for such a relocation,
+    /// and for `NoOp`, whose relocation the caller chooses.
+    ///
+    /// An immediate has `R_X86_64_32S`, and without a prefix `R_X86_64_32`. With a prefix whose W is
+    /// 0 the operand has 32 bits too, and `R_X86_64_32` is also right.
+    #[must_use]
+    #[inline]
+    pub fn relocation_after(self, before: X86_64Relocation) -> Option<X86_64Relocation> {
+        match self {
+            RelaxationKind::MovIndirectToLea
+            | RelaxationKind::CallIndirectToRelative
+            | RelaxationKind::JmpIndirectToRelative => {
+                after_got(X86_64Relocation::R_X86_64_PC32, before)
+            }
+            RelaxationKind::MovIndirectToAbsolute => {
+                after_got_or_tp(X86_64Relocation::R_X86_64_32, before)
+            }
+            RelaxationKind::RexMovIndirectToAbsolute(n)
+            | RelaxationKind::RexAddIndirectToAbsolute(n) => {
+                after_got_or_tp(immediate_of(n), before)
+            }
+            RelaxationKind::RexSubIndirectToAbsolute(n)
+            | RelaxationKind::RexCmpIndirectToAbsolute(n)
+            | RelaxationKind::RexAdcIndirectToAbsolute(n)
+            | RelaxationKind::RexAndIndirectToAbsolute(n)
+            | RelaxationKind::RexOrIndirectToAbsolute(n)
+            | RelaxationKind::RexSbbIndirectToAbsolute(n)
+            | RelaxationKind::RexXorIndirectToAbsolute(n)
+            | RelaxationKind::RexTestIndirectToAbsolute(n) => after_got(immediate_of(n), before),
+            RelaxationKind::NoOp => None,
+            RelaxationKind::TlsGdToLocalExec | RelaxationKind::TlsGdToLocalExecLarge => {
+                after_general_dynamic(X86_64Relocation::R_X86_64_TPOFF32, before)
+            }
+            RelaxationKind::TlsGdToInitialExec => {
+                after_general_dynamic(X86_64Relocation::R_X86_64_GOTTPOFF, before)
+            }
+            RelaxationKind::TlsLdToLocalExec
+            | RelaxationKind::TlsLdToLocalExecNoPlt
+            | RelaxationKind::TlsLdToLocalExec64 => after_local_dynamic(before),
+            RelaxationKind::TlsDescToLocalExec(_) => {
+                after_descriptor(X86_64Relocation::R_X86_64_TPOFF32, before)
+            }
+            RelaxationKind::TlsDescToInitialExec => {
+                after_descriptor(X86_64Relocation::R_X86_64_GOTTPOFF, before)
+            }
+            RelaxationKind::SkipTlsDescCall => after_descriptor_call(before),
+        }
     }
 
     /// What happens to the next relocation: the TLS sequences skip that of their call.
