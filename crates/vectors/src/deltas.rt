@@ -232,6 +232,12 @@ fn invalid_deletions_are_rejected(rt: HostRuntime) -> Result<(), Fail> {
     }
     let last = deltas_of(&rt, rt.alloc(), &[(u64::MAX - 3, 3)])?;
     assert!(rt; !last.output_fits(u64::MAX - 2));
+    expect_eq(
+        &rt,
+        "an offset above 64 bits",
+        input_by_looks(&last, u64::MAX - 2).0,
+        None,
+    );
     Ok(())
 }
 
@@ -282,6 +288,27 @@ fn first_faulty_deletions_are_named(rt: HostRuntime) -> Result<(), Fail> {
         listed.first_overlapping(&[(20, 1), (16, 4), (20, 1)]),
         Some(2),
     );
+    expect(&rt, "listed", listed.has_valid_deltas());
+    for (second, cumulative_deleted) in [(3, 5), (4, 6), (4, 0)] {
+        let faulty = [
+            RelaxDelta {
+                input_offset: 0,
+                cumulative_deleted: 4,
+                bytes_deleted: 4,
+            },
+            RelaxDelta {
+                input_offset: second,
+                cumulative_deleted,
+                bytes_deleted: 1,
+            },
+        ];
+        expect_eq(
+            &rt,
+            faulty,
+            DeltaSlice::new(&faulty).has_valid_deltas(),
+            false,
+        );
+    }
     Ok(())
 }
 
@@ -315,8 +342,7 @@ fn output_by_looks(deltas: &SectionRelaxDeltas, input_offset: u64) -> (u64, u64)
 }
 
 // The input offset of an output offset, and the looks that it took.
-fn input_by_looks(rt: &impl Abort, deltas: &SectionRelaxDeltas, output_offset: u64) -> (u64, u64) {
-    assert!(rt; deltas.output_fits(output_offset));
+fn input_by_looks(deltas: &SectionRelaxDeltas, output_offset: u64) -> (Option<u64>, u64) {
     let mut looks = deltas.counted();
     let input = output_to_input_counted(&mut looks, output_offset);
     (input, looks.count())
@@ -345,8 +371,8 @@ fn expect_translated(
     expect_eq(rt, to, input(rt, deltas, to), from);
     let (output, looks) = output_by_looks(deltas, from);
     expect_eq(rt, from, (output, looks <= most), (to, true));
-    let (input, looks) = input_by_looks(rt, deltas, to);
-    expect_eq(rt, to, (input, looks <= most), (from, true));
+    let (input, looks) = input_by_looks(deltas, to);
+    expect_eq(rt, to, (input, looks <= most), (Some(from), true));
     let listed = deltas.as_delta_slice();
     assert!(rt; behind_none.len() >= 2);
     for heads in [&behind_none[1..], behind_none, &behind_none[2..], &[]] {

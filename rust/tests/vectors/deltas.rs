@@ -221,6 +221,11 @@ fn invalid_deletions_are_rejected() -> Result<(), Fail> {
     }
     let last = deltas_of(&[(u64::MAX - 3, 3)])?;
     assert!(!last.output_fits(u64::MAX - 2));
+    expect_eq(
+        "an offset above 64 bits",
+        input_by_looks(&last, u64::MAX - 2).0,
+        None,
+    );
     Ok(())
 }
 
@@ -264,6 +269,26 @@ fn first_faulty_deletions_are_named() -> Result<(), Fail> {
         listed.first_overlapping(&[(20, 1), (16, 4), (20, 1)]),
         Some(2),
     );
+    expect("listed", listed.has_valid_deltas());
+    for (second, cumulative_deleted) in [(3, 5), (4, 6), (4, 0)] {
+        let faulty = [
+            RelaxDelta {
+                input_offset: 0,
+                cumulative_deleted: 4,
+                bytes_deleted: 4,
+            },
+            RelaxDelta {
+                input_offset: second,
+                cumulative_deleted,
+                bytes_deleted: 1,
+            },
+        ];
+        expect_eq(
+            faulty,
+            DeltaSlice::new(&faulty).has_valid_deltas(),
+            false,
+        );
+    }
     Ok(())
 }
 
@@ -296,8 +321,7 @@ fn output_by_looks(deltas: &SectionRelaxDeltas, input_offset: u64) -> (u64, u64)
 }
 
 // The input offset of an output offset, and the looks that it took.
-fn input_by_looks(deltas: &SectionRelaxDeltas, output_offset: u64) -> (u64, u64) {
-    assert!(deltas.output_fits(output_offset));
+fn input_by_looks(deltas: &SectionRelaxDeltas, output_offset: u64) -> (Option<u64>, u64) {
     let mut looks = deltas.counted();
     let input = output_to_input_counted(&mut looks, output_offset);
     (input, looks.count())
@@ -326,7 +350,7 @@ fn expect_translated(
     let (output, looks) = output_by_looks(deltas, from);
     expect_eq(from, (output, looks <= most), (to, true));
     let (input, looks) = input_by_looks(deltas, to);
-    expect_eq(to, (input, looks <= most), (from, true));
+    expect_eq(to, (input, looks <= most), (Some(from), true));
     let listed = deltas.as_delta_slice();
     assert!(behind_none.len() >= 2);
     for heads in [&behind_none[1..], behind_none, &behind_none[2..], &[]] {

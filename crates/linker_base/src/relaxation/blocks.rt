@@ -1,7 +1,7 @@
 //! Deltas in blocks of 64, and translations that look at the head of each block first.
 
 ghost use Rattle.std.specs.Prelude.{◌≡◌, ◌<◌, ◌≤◌, ◌+◌, ◌-◌, ◌*◌, ◌^◌, ℕ, List, OnOk, length};
-ghost use Rattle.std.specs.Prelude.{slice_index_or, vec_len, vec_capacity};
+ghost use Rattle.std.specs.Prelude.{MatchOption, slice_index_or, vec_len, vec_capacity};
 ghost use Rattle.linker_base.specs.declared.relaxation.RelaxDelta.{RelaxDelta};
 ghost use Rattle.linker_base.specs.declared.relaxation.blocks.BlockHead.{BlockHead};
 ghost use Rattle.linker_base.specs.Blocks.{output_offset_of, blocks_of, head_of, AreHeads};
@@ -65,7 +65,7 @@ pub trait Looks {
     /// Requires that there is such a delta, and a count below `u64::MAX`.
     fn head(&mut self, block: usize) -> (u64, u64)
         requires within { 64 * block < length (listed self.old) }
-        requires room { looked self.old < 2 ^ 64 - 1 }
+        requires room { looked self.old + 1 < 2 ^ 64 }
         ensures offset { (d : RelaxDelta)
             → result.0 ≡ (slice_index_or (listed self.old) (64 * block) d).input_offset }
         ensures output { (d : RelaxDelta)
@@ -78,7 +78,7 @@ pub trait Looks {
     /// Requires that there is such a delta, and a count below `u64::MAX`.
     fn delta(&mut self, index: usize) -> RelaxDelta
         requires within { index < length (listed self.old) }
-        requires room { looked self.old < 2 ^ 64 - 1 }
+        requires room { looked self.old + 1 < 2 ^ 64 }
         ensures delta { (d : RelaxDelta) → result ≡ slice_index_or (listed self.old) index d }
         ensures same { listed self.new ≡ listed self.old }
         ensures counted { looked self.new ≡ looked self.old + 1 };
@@ -257,16 +257,17 @@ pub fn input_to_output_counted<K: Looks>(looks: &mut K, input_offset: u64) -> u6
     }
 }
 
-/// The input offset of the kept byte at `output_offset`, as
-/// `SectionRelaxDeltas::output_to_input_offset` returns it.
+/// The input offset of the kept byte at `output_offset`, as `DeltaSlice::output_to_input_offset`
+/// returns it: none where it is above `u64::MAX`.
 ///
-/// Requires an offset that `output_fits` accepts, and a count of at most `u32::MAX`. With B blocks
-/// it takes at most as many looks as B has binary digits, and eight.
+/// Requires a count of at most `u32::MAX`. With B blocks it takes at most as many looks as B has
+/// binary digits, and eight.
 #[inline(always)]
-pub fn output_to_input_counted<K: Looks>(looks: &mut K, output_offset: u64) -> u64
-    requires fits { HasInput (deletions_of (K.listed looks.old)) output_offset }
+pub fn output_to_input_counted<K: Looks>(looks: &mut K, output_offset: u64) -> Option<u64>
     requires room { K.looked looks.old < 2 ^ 32 }
-    ensures input { IsSelected (deletions_of (K.listed looks.old)) output_offset result }
+    ensures input { MatchOption result
+        (¬ (HasInput (deletions_of (K.listed looks.old)) output_offset))
+        (IsSelected (deletions_of (K.listed looks.old)) output_offset) }
     ensures same { K.listed looks.new ≡ K.listed looks.old }
     ensures bound { (digits : ℕ) → blocks_of (length (K.listed looks.old)) < 2 ^ digits
         → K.looked looks.new ≤ K.looked looks.old + digits + 8 }
@@ -274,7 +275,7 @@ pub fn output_to_input_counted<K: Looks>(looks: &mut K, output_offset: u64) -> u
     // What it ensures is that the list is valid.
     let _len = looks.len();
     match search(looks, Test::IsPlaced(output_offset)).checked_sub(1) {
-        Some(last) => output_offset + looks.delta(last).cumulative_deleted,
-        None => output_offset,
+        Some(last) => output_offset.checked_add(looks.delta(last).cumulative_deleted),
+        None => Some(output_offset),
     }
 }
