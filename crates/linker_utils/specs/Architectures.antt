@@ -1,27 +1,23 @@
 -- What an architecture's codes and numbers name.
-use Rattle.std.specs.Prelude.{◌≡◌, ℕ, slice_get, Option, Some, None}
-use Rattle.linker_base.specs.Rewrite.{Rewrite}
+use Rattle.std.specs.Prelude.{◌≡◌, ℕ, List, slice_get, Option, Some, None}
+use Rattle.linker_base.specs.Rewrite.{Rewrite, CanRewrite}
 use Rattle.linker_base.specs.declared.relaxation.RelocationModifier.{RelocationModifier}
-use Rattle.linker_utils.specs.AArch64.{aarch64_rewrite, aarch64_modifier}
+use Rattle.linker_utils.specs.AArch64.{aarch64_rewrite, aarch64_modifier, aarch64_forms}
+use Rattle.linker_utils.specs.AArch64.{aarch64_rewrites}
+use Rattle.linker_utils.specs.AArch64Originals.{aarch64_matches}
 use Rattle.linker_utils.specs.AArch64Relocations.{aarch64_name, aarch64_row}
 use Rattle.linker_utils.specs.ElfNames.{ElfName, IsNameOf}
-use Rattle.linker_utils.specs.LoongArch.{loongarch_rewrite, loongarch_modifier}
+use Rattle.linker_utils.specs.LoongArch.{loongarch_rewrite, loongarch_modifier, loongarch64_forms}
+use Rattle.linker_utils.specs.LoongArch.{loongarch64_rewrites}
 use Rattle.linker_utils.specs.LoongArchRelocations.{loongarch_name, loongarch_row}
 use Rattle.linker_utils.specs.LoongArchRelocations.{loongarch_uleb128_role}
-use Rattle.linker_utils.specs.AArch64.{aarch64_forms}
-use Rattle.linker_utils.specs.RiscV.{riscv_forms}
-use Rattle.linker_utils.specs.LoongArch.{loongarch64_forms}
-use Rattle.linker_utils.specs.Ppc64.{ppc64_forms}
-use Rattle.linker_utils.specs.AArch64.{aarch64_rewrites}
-use Rattle.linker_utils.specs.RiscV.{riscv_rewrites}
-use Rattle.linker_utils.specs.LoongArch.{loongarch64_rewrites}
-use Rattle.linker_utils.specs.Ppc64.{ppc64_rewrites}
-use Rattle.linker_utils.specs.X86.{x86_64_rewrites}
-use Rattle.linker_utils.specs.Ppc64.{ppc64_rewrite, ppc64_modifier}
+use Rattle.linker_utils.specs.Ppc64.{ppc64_forms, ppc64_rewrites, ppc64_rewrite, ppc64_modifier}
 use Rattle.linker_utils.specs.Ppc64Relocations.{ppc64_name, ppc64_row}
-use Rattle.linker_utils.specs.RiscV.{riscv_rewrite, riscv_modifier}
+use Rattle.linker_utils.specs.RiscV.{riscv_forms, riscv_rewrites, riscv_rewrite, riscv_modifier}
+use Rattle.linker_utils.specs.RiscVOriginals.{riscv_matches}
 use Rattle.linker_utils.specs.RiscVRelocations.{riscv_relocation, riscv_name, riscv_uleb128_role}
-use Rattle.linker_utils.specs.X86.{x86_64_rewrite, x86_64_modifier}
+use Rattle.linker_utils.specs.X86.{x86_64_rewrites, x86_64_rewrite, x86_64_modifier}
+use Rattle.linker_utils.specs.X86Originals.{x86_64_matches}
 use Rattle.linker_utils.specs.X86Relocations.{x86_64_name, x86_64_row}
 use Rattle.linker_utils.specs.declared.architecture.Relaxation.{Relaxation}
 use Rattle.linker_utils.specs.declared.architecture.Relaxation.TheVariants as relaxations
