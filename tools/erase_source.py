@@ -122,7 +122,7 @@ class Source:
             at += 1
             words = {token for token in self.tokens[head:at] if token[0].isalpha()}
             self.items.append(SimpleNamespace(block=block, first=first, head=head, word=word, name=name,
-                                              words=words))
+                                              past=at, words=words))
 
     def ghost(self, at, in_block):
         """A `ghost use`, or a ghost member of a block. Returns its last token."""
