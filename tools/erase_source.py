@@ -120,9 +120,7 @@ class Source:
             else:
                 at = self.function(first, at, is_public or is_shown, owner, trait)
             at += 1
-            words = {token for token in self.tokens[head:at] if token[0].isalpha()}
-            self.items.append(SimpleNamespace(block=block, first=first, head=head, word=word, name=name,
-                                              past=at, words=words))
+            self.items.append(SimpleNamespace(block=block, first=first, head=head, word=word, name=name))
 
     def ghost(self, at, in_block):
         """A `ghost use`, or a ghost member of a block. Returns its last token."""

@@ -3,9 +3,7 @@
 //!
 #![doc = include_str!("../../doc/utils.md")]
 
-#[cfg(feature = "readers")]
 use alloc::string::String;
-#[cfg(feature = "readers")]
 use crate::support::*;
 #[cfg(feature = "readers")]
 use anyhow::{Result, bail, ensure};
