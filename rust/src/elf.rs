@@ -37,20 +37,22 @@ pub const SIZE_4GB: u64 = 1 << 32;
 /// The bits of an address within its page of 4 KiB.
 pub const PAGE_MASK_4KB: u64 = 0xfff;
 
-/// The architectures whose relocations and instructions the library knows.
+/// The architectures whose relocations and instructions the library knows. A variant's number is
+/// `e_machine` in the ELF header of its files: `EM_AARCH64`, `EM_RISCV`, `EM_LOONGARCH`, `EM_PPC64`
+/// and `EM_X86_64` (ELF specification, "ELF Header").
 #[cfg_attr(not(exhaustive), non_exhaustive)]
 #[derive(Debug, Clone, Copy, PartialEq, Eq, Hash, PartialOrd, Ord)]
 pub enum Architecture {
     /// AArch64, little-endian.
-    AArch64,
+    AArch64 = 183,
     /// RV64, with or without the C extension.
-    RiscV,
+    RiscV = 243,
     /// LoongArch64.
-    LoongArch64,
+    LoongArch64 = 258,
     /// 64-bit Power, little-endian (ELFv2).
-    Ppc64,
+    Ppc64 = 21,
     /// x86-64.
-    X86_64,
+    X86_64 = 62,
 }
 
 impl Architecture {
@@ -58,26 +60,22 @@ impl Architecture {
     #[must_use]
     pub const fn from_machine(e_machine: u16) -> Option<Architecture> {
         match e_machine {
-            183 => Some(Architecture::AArch64),
-            243 => Some(Architecture::RiscV),
-            258 => Some(Architecture::LoongArch64),
-            21 => Some(Architecture::Ppc64),
-            62 => Some(Architecture::X86_64),
+            number if number == Architecture::AArch64.machine() => Some(Architecture::AArch64),
+            number if number == Architecture::RiscV.machine() => Some(Architecture::RiscV),
+            number if number == Architecture::LoongArch64.machine() => {
+                Some(Architecture::LoongArch64)
+            }
+            number if number == Architecture::Ppc64.machine() => Some(Architecture::Ppc64),
+            number if number == Architecture::X86_64.machine() => Some(Architecture::X86_64),
             _ => None,
         }
     }
 
-    /// `e_machine` in the ELF header of the architecture's files: `EM_AARCH64` 183, `EM_RISCV` 243,
-    /// `EM_LOONGARCH` 258, `EM_PPC64` 21 or `EM_X86_64` 62.
+    /// `e_machine` in the ELF header of the architecture's files.
     #[must_use]
+    #[inline(always)]
     pub const fn machine(self) -> u16 {
-        match self {
-            Architecture::AArch64 => 183,
-            Architecture::RiscV => 243,
-            Architecture::LoongArch64 => 258,
-            Architecture::Ppc64 => 21,
-            Architecture::X86_64 => 62,
-        }
+        self as u16
     }
 }
 

@@ -13,13 +13,13 @@ fn texts(error: impl Error + Send + Sync + 'static) -> Vec<String> {
     chain.map(|error| error.to_string()).collect()
 }
 
-/// A status's text in the bindings of the static library, as errors print it: with no capital and
-/// no full stop.
+/// A status's text in the header of the static library, as errors print it: with no capital and no
+/// full stop.
 fn status(name: &str) -> String {
-    let names = include_str!("../../bindings/rust/src/names.rs");
-    let (_, entry) = names.split_once(&format!("\n    {name} = ")).expect(name);
-    let text = entry.split('"').nth(1).expect(name);
-    let text: String = text.split("\\\n").map(str::trim_start).collect();
+    let header = include_str!("../../include/linker_utils.h");
+    let (_, entry) = header.split_once(&format!("    STATUS({name}, ")).expect(name);
+    let (entry, _) = entry.split_once("\")").expect(name);
+    let text: String = entry.split('"').skip(1).step_by(2).collect();
     let (capital, rest) = text.strip_suffix('.').expect(name).split_at(1);
     capital.to_lowercase() + rest
 }
@@ -29,25 +29,25 @@ fn errors_of_relocations_are_printed() {
     let unsupported = "the relocation is one of a pair that computes a ULEB128 number, \
                        or R_LARCH_CALL30, or its row is not one that the library returns";
     assert_eq!(texts(RelocateError::Unsupported), [unsupported]);
-    assert!(unsupported.starts_with(&(status("Unsupported") + ",")));
+    assert!(unsupported.starts_with(&(status("UNSUPPORTED") + ",")));
     let short = "there are fewer bytes than the relocation writes";
     assert_eq!(texts(RelocateError::TooShort), [short]);
     let misaligned = "the value is not a multiple of the relocation's alignment";
     assert_eq!(texts(RelocateError::Misaligned), [misaligned]);
-    assert_eq!(status("Misaligned"), misaligned);
+    assert_eq!(status("MISALIGNED"), misaligned);
     let out_of_reach = "the value is out of the relocation's reach";
     assert_eq!(texts(RelocateError::OutOfReach), [out_of_reach]);
-    assert_eq!(status("OutOfReach"), out_of_reach);
+    assert_eq!(status("OUT_OF_REACH"), out_of_reach);
 }
 
 #[test]
 fn errors_of_uleb128_numbers_are_printed() {
     let ended = "the bytes end before the ULEB128 number does";
     assert_eq!(texts(Uleb128Error::Ended), [ended]);
-    assert_eq!(status("Uleb128Ended"), ended);
+    assert_eq!(status("ULEB128_ENDED"), ended);
     let large = "the tenth byte of the ULEB128 number is neither 0 nor 1";
     assert_eq!(texts(Uleb128Error::TooLarge), [large]);
-    assert_eq!(status("Uleb128TooLarge"), large);
+    assert_eq!(status("ULEB128_TOO_LARGE"), large);
     let fit = "the value does not fit the existing ULEB128 number";
     assert_eq!(texts(Uleb128Error::DoesNotFit), [fit]);
 }
@@ -55,13 +55,13 @@ fn errors_of_uleb128_numbers_are_printed() {
 const CALLS: [(CallError, &str, &str); 4] = [
     (
         CallError::OutOfSection,
-        "OutOfSection",
+        "OUT_OF_SECTION",
         "the four bytes at the site, or the eight where the `jalr`'s register is linked, \
          are not in the section, or the target is past its end",
     ),
-    (CallError::SiteDeleted, "SiteDeleted", "one of the four bytes at the site is deleted"),
-    (CallError::OddDistance, "OddDistance", "the distance is odd"),
-    (CallError::TooFar, "TooFar", "the distance is out of the range of `jal`"),
+    (CallError::SiteDeleted, "SITE_DELETED", "one of the four bytes at the site is deleted"),
+    (CallError::OddDistance, "ODD_DISTANCE", "the distance is odd"),
+    (CallError::TooFar, "TOO_FAR", "the distance is out of the range of `jal`"),
 ];
 
 #[test]
@@ -76,7 +76,7 @@ fn errors_of_calls_are_printed() {
     }
     let text =
         "the eight bytes at the site are not an `auipc` and a `jalr` whose base is its register";
-    assert_eq!(status("NotACall"), text);
+    assert_eq!(status("NOT_A_CALL"), text);
     assert_eq!(texts(JumpError::NotACall), [text]);
     let rejected = RejectedCall { index: 18_446_744, error: JumpError::NotACall };
     assert_eq!(texts(rejected), ["the call at index 18446744 does not become a jump", text]);

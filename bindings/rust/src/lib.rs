@@ -324,7 +324,7 @@ pub fn relocate_all(
 
 /// The name of the relocation of an ELF type, as `R_X86_64_PC32`.
 pub fn relocation_name(architecture: Architecture, r_type: u32) -> Result<String, Status> {
-    let (mut name, mut used) = ([0; 64], 0);
+    let (mut name, mut used) = ([0; names::NAME_SIZE], 0);
     let status = unsafe {
         raw::linker_utils_relocation_name_nonnull(
             architecture.machine(),

@@ -1,6 +1,6 @@
 //! The headers, this crate's declarations, the archive and the proved library's sources say the same:
-//! each function, each enum constant, each struct's size and offsets, each status's sentence, and the
-//! version.
+//! each function, each struct's size and offsets, each status's sentence, and the version. The enums,
+//! which `build.rs` makes from the header, have the library's names and numbers.
 
 use sathunne::*;
 use std::collections::{BTreeMap, BTreeSet};
@@ -339,36 +339,6 @@ fn c_element(kind: &str, element: &str) -> String {
 
 // ---- what a C compiler makes of the header
 
-/// The names of the header's enum constants, by enums.
-fn enums_of_c() -> BTreeMap<String, Vec<String>> {
-    let header = header();
-    let mut enums = BTreeMap::new();
-    for part in header.split("\nenum ").skip(1) {
-        let (name, rest) = part.split_at(part.find(' ').expect("a name"));
-        if !rest.starts_with(" {") {
-            continue; // a function returns it
-        }
-        let (body, _) = bracketed(rest.trim_start());
-        if name == "linker_utils_status" {
-            enums.insert(name.to_string(), statuses_of_c());
-            continue;
-        }
-        let constants = list(body).map(|it| it.split(' ').next().expect("a name").to_string());
-        enums.insert(name.to_string(), constants.collect());
-    }
-    enums
-}
-
-/// The constants that the list of statuses makes.
-fn statuses_of_c() -> Vec<String> {
-    let headers = headers();
-    let list = headers.split("#define LINKER_UTILS_STATUSES").nth(1);
-    let list = list.and_then(|list| list.lines().next()).expect("the list");
-    let entries = list.split(" STATUS(").skip(1);
-    let names = entries.map(|entry| entry.split(',').next().expect("a name"));
-    names.map(|name| format!("LINKER_UTILS_{name}")).collect()
-}
-
 /// The fields of the header's structs, with their types.
 fn structs_of_c() -> BTreeMap<String, Vec<(String, String)>> {
     let header = header();
@@ -383,8 +353,8 @@ fn structs_of_c() -> BTreeMap<String, Vec<(String, String)>> {
     structs
 }
 
-/// What a C program prints of the header: the numbers of its constants, the sizes of its structs and
-/// their fields' offsets, and the sentences of its statuses.
+/// What a C program prints of the header: the sizes of its structs and their fields' offsets, and the
+/// sentences of its statuses.
 fn printed_by_c() -> &'static BTreeMap<String, String> {
     static PRINTED: OnceLock<BTreeMap<String, String>> = OnceLock::new();
     PRINTED.get_or_init(print_by_c)
@@ -393,9 +363,6 @@ fn printed_by_c() -> &'static BTreeMap<String, String> {
 fn print_by_c() -> BTreeMap<String, String> {
     let mut program =
         String::from("#include <stdio.h>\n#include \"linker_utils.h\"\nint main(void) {\n");
-    for constant in enums_of_c().values().flatten() {
-        program += &format!("printf(\"{constant}=%u\\n\", (unsigned){constant});\n");
-    }
     for (name, fields) in structs_of_c() {
         program += &format!("printf(\"{name}=%zu\\n\", sizeof(struct {name}));\n");
         for (field, _) in fields {
@@ -429,208 +396,164 @@ fn print_by_c() -> BTreeMap<String, String> {
     printed.lines().map(pair).collect()
 }
 
-/// The letters and digits of a name, so that `PageMask::GotBase` and `MASK_GOT_BASE` are the same.
-fn letters(name: &str) -> String {
-    let letters = name.chars().filter(|letter| letter.is_alphanumeric());
-    letters.collect::<String>().to_lowercase()
-}
-
 type Numbers = BTreeMap<String, u64>;
 
-/// The constants of one of the header's enums, without their prefix, and their numbers.
-fn constants(enums: &str, prefix: &str) -> Numbers {
-    let printed = printed_by_c();
-    let constants = &enums_of_c()[&format!("linker_utils_{enums}")];
-    let numbered = constants.iter().map(|constant| {
-        let name = constant.strip_prefix(&format!("LINKER_UTILS_{prefix}"));
-        (
-            letters(name.expect("the enum's prefix")),
-            printed[constant].parse().expect("a number"),
-        )
-    });
+fn numbers<T: Debug + Copy, N: Into<u64>>(all: &[T], number: impl Fn(T) -> N) -> Numbers {
+    let numbered = all.iter().map(|&it| (format!("{it:?}"), number(it).into()));
     numbered.collect()
 }
 
-fn numbers<T: Debug + Copy>(all: &[T], number: impl Fn(T) -> u64) -> Numbers {
-    let name = |it: T| letters(&format!("{it:?}"));
-    all.iter().map(|&it| (name(it), number(it))).collect()
+/// The names in a text.
+fn names_in(text: &str) -> impl Iterator<Item = &str> {
+    text.split(|letter: char| !letter.is_alphanumeric() && letter != '_')
 }
 
-/// The arms `NUMBER => ..::NAME` of the proved library's sources whose path ends by these words.
-fn arms(source: &str, path: &str) -> Numbers {
+fn name_at(text: &str) -> String {
+    names_in(text).next().expect("a name").to_string()
+}
+
+/// The arms `NUMBER => ENUM::NAME`, or `Some(ENUM::NAME)`, of a source of the proved library's.
+fn arms(source: &str, of_enum: &str) -> Numbers {
     let mut found = Numbers::new();
-    for line in source.lines() {
+    for line in repository(&format!("crates/{source}.rt")).lines() {
         let Some((number, named)) = line.trim().split_once(" => ") else {
             continue;
         };
-        let (Ok(number), Some(name)) = (number.parse(), named.strip_prefix(path)) else {
+        let named = named.trim_end_matches(',');
+        let some = named.strip_prefix("Some(");
+        let named = some.map_or(named, |named| named.trim_end_matches(')'));
+        let name = named.strip_prefix(of_enum);
+        let (Ok(number), Some(name)) = (number.parse(), name) else {
             continue;
         };
-        let name = name.trim_end_matches(',').trim_end_matches("(n)");
-        assert_eq!(found.insert(letters(name), number), None, "{line}");
+        let name = name.trim_start_matches("::").to_string();
+        assert_eq!(found.insert(name, number), None, "{line}");
     }
     found
 }
 
 /// The forms of an architecture in the proved library's table, by their places.
-fn forms_of(architecture: &str, path: &str) -> Numbers {
+fn forms_of(architecture: &str, of_enum: &str) -> Numbers {
     let source = repository(&format!("crates/linker_utils/src/{architecture}/forms.rt"));
     let (_, table) = source.split_once("const FORMS").expect("the table");
     let (table, _) = table.split_once("];").expect("its end");
+    let start = format!("{of_enum}::");
     let names = table
         .lines()
-        .filter_map(|line| line.trim().strip_prefix(path)?.strip_suffix(','));
-    names
-        .enumerate()
-        .map(|(at, name)| (letters(name), at as u64))
-        .collect()
+        .filter_map(|line| line.trim().strip_prefix(&start)?.strip_suffix(','));
+    let numbered = names.zip(0..).map(|(name, at)| (name.to_string(), at));
+    numbered.collect()
 }
 
 /// The rewrites of an architecture of the proved library's, by their numbers.
 fn rewrites_of(architecture: &str) -> Numbers {
-    let source = repository(&format!(
-        "crates/linker_utils/src/{architecture}/rewrites.rt"
-    ));
-    arms(&source, "RelaxationKind::")
+    let source = format!("linker_utils/src/{architecture}/rewrites");
+    arms(&source, "RelaxationKind")
 }
 
-/// The lines `NAME = NUMBER` of a definition in the proved library's specifications.
+/// The lines `NAME = NUMBER` of a definition in the proved library's specifications. A name is the
+/// first with a capital, as in `(Some enums.NAME)`.
 fn equations(specs: &str, defined: &str) -> Numbers {
+    let specs = repository(&format!("crates/{specs}.antt"));
     let mut found = Numbers::new();
     for line in specs.lines() {
         let Some(equation) = line.strip_prefix(&format!("{defined} ")) else {
             continue;
         };
-        let Some((name, number)) = equation.split_once(" = ") else {
+        let Some((pattern, number)) = equation.split_once(" = ") else {
             continue;
         };
-        let name = name.rsplit('.').next().expect("a name");
-        found.insert(letters(name), number.parse().expect("a number"));
+        let mut names = names_in(pattern).filter(|&word| word != "Some");
+        let name = names.find(|word| word.starts_with(char::is_uppercase));
+        let name = name.expect("a name").to_string();
+        found.insert(name, number.parse().expect("a number"));
     }
     found
 }
 
 /// The variants of an enum of the proved library's, by their order.
 fn variants(source: &str, name: &str) -> Numbers {
-    let body = source
-        .split(&format!("pub enum {name} {{"))
-        .nth(1)
+    let source = repository(&format!("crates/{source}.rt"));
+    let (_, body) = source
+        .split_once(&format!("pub enum {name} {{"))
         .expect("the enum");
-    let body = body.split("\n}").next().expect("its end");
+    let (body, _) = body.split_once("\n}").expect("its end");
     let lines = body
         .lines()
         .map(str::trim)
         .filter(|line| !line.is_empty() && !line.starts_with("//"));
-    lines
-        .enumerate()
-        .map(|(at, line)| (letters(line), at as u64))
-        .collect()
+    lines.map(name_at).zip(0..).collect()
 }
 
 #[test]
 fn the_numbers_are_those_of_the_library() {
-    let code = equations(
-        &repository("crates/linker_utils_c/specs/Status.antt"),
-        "code",
-    );
-    let mut of_header = constants("status", "");
-    assert_eq!(of_header.remove("ok"), Some(0));
-    let mut statuses = code.clone();
-    assert_eq!(statuses.remove("success"), Some(0));
-    assert_eq!(of_header, statuses, "the header's statuses");
+    let mut statuses = equations("linker_utils_c/specs/Status", "code");
+    assert_eq!(statuses.remove("Success"), Some(0));
+    assert_eq!(numbers(Status::ALL, Status::number), statuses);
     assert_eq!(
-        numbers(Status::ALL, |it| it.number().into()),
-        statuses,
-        "this crate's statuses"
+        numbers(Architecture::ALL, Architecture::number),
+        equations("linker_utils/specs/Elf", "machine_of")
     );
 
-    let elf = repository("crates/linker_utils/specs/Elf.antt");
-    let machines = equations(&elf, "machine_of");
-    assert_eq!(machines.len(), 5);
-    assert_eq!(constants("architecture", ""), machines);
     assert_eq!(
-        numbers(Architecture::ALL, |it| it.machine().into()),
-        machines
+        numbers(AArch64Form::ALL, AArch64Form::number),
+        forms_of("aarch64", "AArch64Instruction")
+    );
+    assert_eq!(
+        numbers(RiscVForm::ALL, RiscVForm::number),
+        forms_of("riscv64", "RiscVInstruction")
+    );
+    assert_eq!(
+        numbers(LoongArch64Form::ALL, LoongArch64Form::number),
+        forms_of("loongarch64", "LoongArch64Instruction")
+    );
+    assert_eq!(
+        numbers(Ppc64Form::ALL, Ppc64Form::number),
+        forms_of("ppc64", "Ppc64Instruction")
     );
 
-    let aarch64 = forms_of("aarch64", "AArch64Instruction::");
-    assert_eq!(constants("aarch64_form", "AARCH64_FORM_"), aarch64);
-    assert_eq!(numbers(AArch64Form::ALL, |it| it.number().into()), aarch64);
-    let riscv = forms_of("riscv64", "RiscVInstruction::");
-    assert_eq!(constants("riscv_form", "RISCV_FORM_"), riscv);
-    assert_eq!(numbers(RiscVForm::ALL, |it| it.number().into()), riscv);
-    let loongarch64 = forms_of("loongarch64", "LoongArch64Instruction::");
     assert_eq!(
-        constants("loongarch64_form", "LOONGARCH64_FORM_"),
-        loongarch64
+        numbers(AArch64Rewrite::ALL, AArch64Rewrite::number),
+        rewrites_of("aarch64")
     );
     assert_eq!(
-        numbers(LoongArch64Form::ALL, |it| it.number().into()),
-        loongarch64
-    );
-    let ppc64 = forms_of("ppc64", "Ppc64Instruction::");
-    assert_eq!(constants("ppc64_form", "PPC64_FORM_"), ppc64);
-    assert_eq!(numbers(Ppc64Form::ALL, |it| it.number().into()), ppc64);
-
-    let aarch64 = rewrites_of("aarch64");
-    assert_eq!(constants("aarch64_rewrite", "AARCH64_REWRITE_"), aarch64);
-    assert_eq!(
-        numbers(AArch64Rewrite::ALL, |it| it.number().into()),
-        aarch64
-    );
-    let riscv = rewrites_of("riscv64");
-    assert_eq!(constants("riscv_rewrite", "RISCV_REWRITE_"), riscv);
-    assert_eq!(numbers(RiscVRewrite::ALL, |it| it.number().into()), riscv);
-    let loongarch64 = rewrites_of("loongarch64");
-    assert_eq!(
-        constants("loongarch64_rewrite", "LOONGARCH64_REWRITE_"),
-        loongarch64
+        numbers(RiscVRewrite::ALL, RiscVRewrite::number),
+        rewrites_of("riscv64")
     );
     assert_eq!(
-        numbers(LoongArch64Rewrite::ALL, |it| it.number().into()),
-        loongarch64
+        numbers(LoongArch64Rewrite::ALL, LoongArch64Rewrite::number),
+        rewrites_of("loongarch64")
     );
-    let ppc64 = rewrites_of("ppc64");
-    assert_eq!(constants("ppc64_rewrite", "PPC64_REWRITE_"), ppc64);
-    assert_eq!(numbers(Ppc64Rewrite::ALL, |it| it.number().into()), ppc64);
-    let x86_64 = rewrites_of("x86_64");
-    assert_eq!(constants("x86_64_rewrite", "X86_64_REWRITE_"), x86_64);
-    let of_crate = (0..100).filter_map(|number| {
+    assert_eq!(
+        numbers(Ppc64Rewrite::ALL, Ppc64Rewrite::number),
+        rewrites_of("ppc64")
+    );
+    let of_x86_64 = (0..100).filter_map(|number| {
         let rewrite = X86_64Rewrite::from_numbers(number, 3)?;
         assert_eq!(rewrite.numbers().0, number);
-        let name = format!("{rewrite:?}");
-        Some((letters(name.trim_end_matches("(3)")), number.into()))
+        let name = format!("{rewrite:?}").replace("(3)", "(n)");
+        Some((name, number.into()))
     });
-    assert_eq!(of_crate.collect::<Numbers>(), x86_64);
+    assert_eq!(of_x86_64.collect::<Numbers>(), rewrites_of("x86_64"));
 
-    let modifiers = variants(
-        &repository("crates/linker_base/src/relaxation.rt"),
-        "RelocationModifier",
+    assert_eq!(
+        numbers(Modifier::ALL, Modifier::number),
+        variants("linker_base/src/relaxation", "RelocationModifier")
     );
-    assert_eq!(constants("modifier", "MODIFIER_"), modifiers);
-    assert_eq!(numbers(Modifier::ALL, |it| it.number().into()), modifiers);
-    let calls = repository("crates/linker_utils_c/src/calls.rt");
-    let mut roles = equations(
-        &repository("crates/linker_utils_c/specs/Relocate.antt"),
-        "role_number",
+    assert_eq!(
+        numbers(LinkRegister::ALL, LinkRegister::number),
+        arms("linker_utils_c/src/calls", "LinkRegister")
     );
-    assert_eq!(constants("role", "ROLE_"), roles);
-    assert_eq!(roles.remove("none"), Some(0));
-    assert_eq!(numbers(Uleb128Role::ALL, |it| it.number().into()), roles);
-    let links = arms(&calls, "Some(LinkRegister::");
-    assert_eq!(links.len(), 2);
-    assert_eq!(constants("link_register", "LINK_"), links);
-    assert_eq!(numbers(LinkRegister::ALL, |it| it.number().into()), links);
-    let kinds = variants(
-        &repository("crates/linker_utils/src/elf.rt"),
-        "RelocationKind",
+    let mut roles = equations("linker_utils_c/specs/Relocate", "role_number");
+    assert_eq!(roles.remove("None"), Some(0));
+    assert_eq!(numbers(Uleb128Role::ALL, Uleb128Role::number), roles);
+    assert_eq!(
+        numbers(RelocationKind::ALL, RelocationKind::number),
+        variants("linker_utils/src/elf", "RelocationKind")
     );
-    assert_eq!(kinds.len(), 40);
-    assert_eq!(constants("relocation_kind", "KIND_"), kinds);
-    assert_eq!(numbers(RelocationKind::ALL, |it| it.number().into()), kinds);
-    let mut masks = constants("mask", "MASK_");
-    assert_eq!(masks.remove("none"), Some(0));
-    assert_eq!(numbers(PageMask::ALL, |it| it.number().into()), masks);
+    let mut masks = equations("linker_utils/specs/Numbers", "mask_number");
+    assert_eq!(masks.remove("None"), Some(0));
+    assert_eq!(numbers(PageMask::ALL, PageMask::number), masks);
 }
 
 #[test]
@@ -654,9 +577,9 @@ fn the_statuses_say_the_same() {
         &repository("crates/linker_utils_c/src/status.rt"),
         "Status",
     );
-    assert_eq!(of_library["success"], printed["0"]);
+    assert_eq!(of_library["Success"], printed["0"]);
     for status in Status::ALL {
-        assert_eq!(of_library[&letters(&format!("{status:?}"))], status.to_string());
+        assert_eq!(of_library[&format!("{status:?}")], status.to_string());
     }
 }
 
@@ -669,8 +592,7 @@ fn documented(source: &str, name: &str) -> BTreeMap<String, String> {
         match line.strip_prefix("/// ") {
             Some(words) => sentence.push(words),
             None => {
-                let variant = line.split([',', ' ']).next().expect("a name");
-                found.insert(letters(variant), sentence.join(" "));
+                found.insert(name_at(line), sentence.join(" "));
                 sentence.clear();
             }
         }

@@ -372,3 +372,7 @@ pub record WritesRow (row : RelocationKindInfo) (v : ℤ) (before after : List �
   pub reached : (is_signed : Bool) → AgreesInReach is_signed row
       → SizeReads is_signed row.size (reach_of row) v before after
   pub pairs : SizeHolds row.size v after
+
+-- The value is rejected, with the error whose cause it has, and nothing is written.
+abbrev pub RejectsValue : RelocationKindInfo → ℤ → List ℕ → List ℕ → RelocateError → Type 0
+RejectsValue row v before after error = IsCause row v before error × (after ≡ before)

@@ -1,6 +1,6 @@
 -- A write's outcome, and relocations one after the other.
-use Rattle.std.proofs.Common.{◌≡◌, ℕ, List, [], ◌∷◌, ◌++◌, refl, sym, ℤ, Result, Ok, Err, OnOk, IfErr}
-use Rattle.linker_utils.specs.Relocate.{IsCause, WritesRow}
+use Rattle.std.proofs.Common.{ℕ, List, [], ◌∷◌, ◌++◌, refl, sym, ℤ, Result, Ok, Err, OnOk, IfErr}
+use Rattle.linker_utils.specs.Relocate.{WritesRow, RejectsValue}
 use Rattle.linker_utils.specs.declared.elf.Architecture.{Architecture}
 use Rattle.linker_utils.specs.declared.elf.RelocationKindInfo.{RelocationKindInfo}
 use Rattle.linker_utils.specs.declared.elf.relocate.RelocateError.{RelocateError}
@@ -11,7 +11,7 @@ use Rattle.linker_utils_c.specs.declared.status.Status.TheVariants.{Success}
 
 pub outcome_of : (o : Result Unit RelocateError) (row : RelocationKindInfo) (v : ℤ) (before after : List ℕ)
     → OnOk o (WritesRow row v before after)
-    → IfErr o (λ error. IsCause row v before error × (after ≡ before)) → IsOutcome o row v before after
+    → IfErr o (RejectsValue row v before after) → IsOutcome o row v before after
 outcome_of (Ok u) row v before after ok err = ok
 outcome_of (Err error) row v before after ok err = err
 

@@ -6,7 +6,7 @@ use Rattle.linker_base.specs.declared.utils.Uleb128Error.{Uleb128Error}
 use Rattle.linker_base.specs.declared.utils.Uleb128Error.TheVariants as uleb_errors
 use Rattle.linker_utils.specs.Architectures.{IsRow}
 use Rattle.linker_utils.specs.Reach.{reach_of}
-use Rattle.linker_utils.specs.Relocate.{IsCause, WritesRow}
+use Rattle.linker_utils.specs.Relocate.{WritesRow, RejectsValue}
 use Rattle.linker_utils.specs.Value.{value_of}
 use Rattle.linker_utils.specs.declared.elf.Architecture.{Architecture}
 use Rattle.linker_utils.specs.declared.elf.RelocationKindInfo.{RelocationKindInfo}
@@ -62,7 +62,7 @@ write_status (Err errors.OutOfReach) = OutOfReach
 -- the bytes after a write, or why there is none
 abbrev pub IsOutcome : Result Unit RelocateError → RelocationKindInfo → ℤ → List ℕ → List ℕ → Type 0
 IsOutcome (Ok u) row v before after = WritesRow row v before after
-IsOutcome (Err error) row v before after = IsCause row v before error × (after ≡ before)
+IsOutcome (Err error) row v before after = RejectsValue row v before after error
 
 pub record IsRelocatedBy (row : RelocationKindInfo) (v : ℤ) (before after : List ℕ)
     (status : ℕ) : Type 0 where

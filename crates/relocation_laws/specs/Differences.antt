@@ -1,6 +1,6 @@
 -- The difference of two labels, which two relocations of one place leave there (RISC-V ELF psABI,
 -- "Relocation Types", ADD, SUB and SET; LoongArch ELF psABI, "Relocation Types", ADD and SUB).
-use Rattle.std.specs.Prelude.{◌≡◌, ℕ, ◌*◌, ◌%◌, ◌^◌, List, Option, IfSome}
+use Rattle.std.specs.Prelude.{◌≡◌, ℕ, ◌*◌, ◌%◌, ◌^◌, List, Option, IsSomeAnd}
 use Rattle.linker_base.specs.Bits.{field}
 use Rattle.linker_utils.specs.Relocate.{number_of_bytes}
 use Rattle.linker_utils.specs.Value.{sum_64, difference_64}
@@ -16,7 +16,7 @@ distance o p = difference_64 (symbol_address o) (symbol_address p)
 abbrev pub Leaves : ℕ → (Operands → Operands → ℕ → ℕ) → Option RelocationKindInfo
     → Option RelocationKindInfo → Type 0
 Leaves n number first second =
-    IfSome first (λ first. IfSome second (λ second.
+    IsSomeAnd first (λ first. IsSomeAnd second (λ second.
     (o p : Operands) (before between after : List ℕ)
     → IsApplied first o before between → IsApplied second p between after
     → number_of_bytes n after ≡ number o p (number_of_bytes n before) % 2 ^ (8 * n)))
@@ -33,7 +33,7 @@ SetsDistance n = Leaves n (λ o p old. distance o p)
 abbrev pub Leaves6 : (Operands → Operands → ℕ → ℕ) → Option RelocationKindInfo
     → Option RelocationKindInfo → Type 0
 Leaves6 number first second =
-    IfSome first (λ first. IfSome second (λ second.
+    IsSomeAnd first (λ first. IsSomeAnd second (λ second.
     (o p : Operands) (before between after : List ℕ)
     → IsApplied first o before between → IsApplied second p between after
     → (field (number_of_bytes 1 after) 0 6 ≡ number o p (number_of_bytes 1 before) % 2 ^ 6)

@@ -1,5 +1,5 @@
 -- What relocated instructions compute, in one scheme for an instruction, a pair and a sequence.
-use Rattle.std.specs.Prelude.{◌≡◌, ℕ, ◌^◌, ◌<◌, List, [], ◌∷◌, Option, Some, IfSome, ℤ, pos}
+use Rattle.std.specs.Prelude.{◌≡◌, ℕ, ◌^◌, ◌<◌, List, [], ◌∷◌, Option, Some, IsSomeAnd, ℤ, pos}
 use Rattle.std.specs.Prelude.{◌+ℤ◌, ◌*ℤ◌, ◌+◌, ◌*◌, ◌%◌, ⊤, Bool, IsTrue}
 use Rattle.std.specs.Int.{w64, cast_unsigned, int_rem_euclid}
 use Rattle.linker_base.specs.Form.{window_of}
@@ -134,12 +134,12 @@ abbrev pub Computed : List Step → Type 0
 Computed [] = ℤ
 Computed (step ∷ steps) = ℕ → Computed steps
 
--- If the steps are applied one after the other, the instructions compute the target from their
--- words, whatever the bytes were before.
+-- Each step has a row. If they are applied one after the other, the instructions compute the target
+-- from their words, whatever the bytes were before.
 abbrev pub Reaches : (steps : List Step) → Operands → Computed steps → ℕ → Type 0
 Reaches [] o sum target = IsAddress sum target
 Reaches (step ∷ steps) o computed target =
-    IfSome step.row (λ row.
+    IsSomeAnd step.row (λ row.
     (at : ℕ) (before after : List ℕ) (applied : IsApplied row (step.operands o at) before after)
     → Holds step.premise (number_at row.size before) applied.value
     → Reaches steps o (computed (number_at row.size after)) target)
@@ -167,6 +167,6 @@ without_low k rounding begin target o =
 -- 2 ^ (8 * n).
 abbrev pub HoldsDistance : ℕ → Option RelocationKindInfo → (Operands → ℕ) → (Operands → ℕ) → Type 0
 HoldsDistance n row begin target =
-    IfSome row (λ row.
+    IsSomeAnd row (λ row.
     (o : Operands) → AreAddresses o → (before after : List ℕ) → IsApplied row o before after
     → (begin o + number_of_bytes n after) % 2 ^ (8 * n) ≡ target o % 2 ^ (8 * n))

@@ -347,10 +347,9 @@ macro_rules! number {
         $crate::elf::Ppc64Instruction::$form as u32
     };
     (machine ($bytes:literal bytes)) => { 0 };
-    (machine ($start:literal .. $end:literal AArch64 :: $form:ident)) => { 183 };
-    (machine ($start:literal .. $end:literal RiscV :: $form:ident)) => { 243 };
-    (machine ($start:literal .. $end:literal LoongArch64 :: $form:ident)) => { 258 };
-    (machine ($start:literal .. $end:literal Ppc64 :: $form:ident)) => { 21 };
+    (machine ($start:literal .. $end:literal $architecture:ident :: $form:ident)) => {
+        $crate::elf::Architecture::$architecture as u16
+    };
     (is_bits ($bytes:literal bytes)) => { 0 };
     (is_bits $size:tt) => { 1 };
     (byte_size ($bytes:literal bytes)) => { $bytes };
@@ -383,10 +382,9 @@ macro_rules! is_supported {
 /// How many bytes a row writes.
 macro_rules! window {
     (($bytes:literal bytes)) => { $bytes };
-    (($start:literal .. $end:literal RiscV :: CbType)) => { 2 };
-    (($start:literal .. $end:literal RiscV :: CjType)) => { 2 };
-    (($start:literal .. $end:literal RiscV :: CluiType)) => { 2 };
-    (($start:literal .. $end:literal RiscV :: UiType)) => { 8 };
+    (($start:literal .. $end:literal RiscV :: $form:ident)) => {
+        $crate::riscv64::forms::WINDOWS[$crate::elf::RiscVInstruction::$form as usize]
+    };
     (($start:literal .. $end:literal LoongArch64 :: Call30)) => { 8 };
     (($start:literal .. $end:literal LoongArch64 :: Call36)) => { 8 };
     (($start:literal .. $end:literal Ppc64 :: Prefixed)) => { 8 };

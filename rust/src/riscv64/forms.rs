@@ -242,7 +242,7 @@ impl RiscVInstruction {
 
 /// The lengths of the windows, by the forms' places in their enum. LLVM compiles a match to
 /// branches, and a processor may not predict the form.
-static WINDOWS: [usize; 9] = [4, 4, 4, 4, 4, 2, 2, 2, 8];
+pub(crate) const WINDOWS: [usize; 9] = [4, 4, 4, 4, 4, 2, 2, 2, 8];
 
 impl InstructionForm for RiscVInstruction {
     #[inline]

@@ -14,7 +14,7 @@ ghost use Rattle.linker_utils.specs.Relocate.{number_of_bytes, low_bytes, number
 ghost use Rattle.linker_utils.specs.Relocate.{ored_cleared, places_cleared, bits_taken};
 ghost use Rattle.linker_utils.specs.Relocate.{InstructionWritten, IsWritten, SizeReads, SizeHolds};
 ghost use Rattle.linker_utils.specs.Relocate.{is_of_uleb128, takes_size, is_supported, window_len};
-ghost use Rattle.linker_utils.specs.Relocate.{IsAligned, HoldsBits, IsAccepted, IsCause};
+ghost use Rattle.linker_utils.specs.Relocate.{IsAligned, HoldsBits, IsAccepted, RejectsValue};
 ghost use Rattle.linker_utils.specs.Relocate.{SizeNumber, WritesRow, IsInUnits, IsMultiple};
 ghost use Rattle.linker_utils.specs.Relocate.{size_len};
 ghost use Rattle.linker_utils.specs.Relocate.{is_dq_form, number_placed, is_32_bit_move, is_call30};
@@ -352,7 +352,7 @@ impl RelocationKindInfo {
     #[inline(always)]
     pub fn write(&self, value: i64, dest: &mut [u8]) -> Result<(), RelocateError>
         ensures ok { OnOk result (WritesRow self.now value dest.old dest.new) }
-        ensures err { IfErr result (λ error. IsCause self.now value dest.old error × (dest.new ≡ dest.old)) }
+        ensures err { IfErr result (RejectsValue self.now value dest.old dest.new) }
     {
         if !self.is_supported() {
             return Err(RelocateError::Unsupported);

@@ -4,7 +4,7 @@ ghost use Rattle.std.specs.Prelude.{◌≡◌, ◌^◌, ◌<◌, IfErr, IfSome, 
 ghost use Rattle.linker_utils.specs.Agrees.{RowFits};
 ghost use Rattle.linker_utils.specs.Numbers.{numbers_of};
 ghost use Rattle.linker_utils.specs.Reach.{reach_of};
-ghost use Rattle.linker_utils.specs.Relocate.{WritesRow, IsCause, window_len};
+ghost use Rattle.linker_utils.specs.Relocate.{WritesRow, RejectsValue, window_len};
 ghost use Rattle.linker_utils.specs.Value.{value_of};
 ghost use Rattle.linker_utils.specs.Inner.RowTables.{info_in, info_of, IsSound, tests_of};
 
@@ -179,7 +179,7 @@ impl Row {
     #[inline(always)]
     pub fn write(&self, value: i64, dest: &mut [u8]) -> Result<(), RelocateError>
         ensures ok { OnOk result (WritesRow self.now value dest.old dest.new) }
-        ensures err { IfErr result (λ error. IsCause self.now value dest.old error × (dest.new ≡ dest.old)) }
+        ensures err { IfErr result (RejectsValue self.now value dest.old dest.new) }
     {
         self.info().write_tested(&self.entry.tests, value, dest)
     }
@@ -197,7 +197,7 @@ impl RelocationKindInfo {
         requires tests { tests.now ≡ tests_of self.now }
         requires fits { RowFits self.now }
         ensures ok { OnOk result (WritesRow self.now value dest.old dest.new) }
-        ensures err { IfErr result (λ error. IsCause self.now value dest.old error × (dest.new ≡ dest.old)) }
+        ensures err { IfErr result (RejectsValue self.now value dest.old dest.new) }
     {
         if !tests.is_supported {
             return Err(RelocateError::Unsupported);
@@ -390,10 +390,9 @@ macro_rules! number {
         $crate::elf::Ppc64Instruction::$form as u32
     };
     (machine ($bytes:literal bytes)) => { 0 };
-    (machine ($start:literal .. $end:literal AArch64 :: $form:ident)) => { 183 };
-    (machine ($start:literal .. $end:literal RiscV :: $form:ident)) => { 243 };
-    (machine ($start:literal .. $end:literal LoongArch64 :: $form:ident)) => { 258 };
-    (machine ($start:literal .. $end:literal Ppc64 :: $form:ident)) => { 21 };
+    (machine ($start:literal .. $end:literal $architecture:ident :: $form:ident)) => {
+        $crate::elf::Architecture::$architecture as u16
+    };
     (is_bits ($bytes:literal bytes)) => { 0 };
     (is_bits $size:tt) => { 1 };
     (byte_size ($bytes:literal bytes)) => { $bytes };
@@ -426,10 +425,9 @@ macro_rules! is_supported {
 /// How many bytes a row writes.
 macro_rules! window {
     (($bytes:literal bytes)) => { $bytes };
-    (($start:literal .. $end:literal RiscV :: CbType)) => { 2 };
-    (($start:literal .. $end:literal RiscV :: CjType)) => { 2 };
-    (($start:literal .. $end:literal RiscV :: CluiType)) => { 2 };
-    (($start:literal .. $end:literal RiscV :: UiType)) => { 8 };
+    (($start:literal .. $end:literal RiscV :: $form:ident)) => {
+        $crate::riscv64::forms::WINDOWS[$crate::elf::RiscVInstruction::$form as usize]
+    };
     (($start:literal .. $end:literal LoongArch64 :: Call30)) => { 8 };
     (($start:literal .. $end:literal LoongArch64 :: Call36)) => { 8 };
     (($start:literal .. $end:literal Ppc64 :: Prefixed)) => { 8 };
