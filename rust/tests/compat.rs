@@ -84,3 +84,20 @@ fn bytes_are_slices() {
     let mut content: &[u8] = &[0xe5, 0x8e, 0x26, 0x07];
     assert_eq!((read_uleb128(&mut content).expect("a number"), content), (624_485, &[7][..]));
 }
+
+#[test]
+#[cfg(debug_assertions)]
+fn sections_that_are_there_or_not_in_order_are_refused() {
+    let one = || {
+        let mut map = RelaxDeltaMap::new();
+        map.insert(5, SectionRelaxDeltas::default());
+        map
+    };
+    let refuses = |insert: fn(&mut RelaxDeltaMap, usize, SectionRelaxDeltas), index| {
+        let mut map = one();
+        std::panic::catch_unwind(move || insert(&mut map, index, SectionRelaxDeltas::default()))
+            .is_err()
+    };
+    assert!(refuses(RelaxDeltaMap::insert, 5) && refuses(RelaxDeltaMap::insert, 4));
+    assert!(refuses(RelaxDeltaMap::insert_sorted, 5) && !refuses(RelaxDeltaMap::insert_sorted, 4));
+}

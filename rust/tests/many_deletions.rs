@@ -102,6 +102,7 @@ fn maps_hold_many_sections() {
     }
     assert_eq!(RelaxDeltaMap::default(), RelaxDeltaMap::new());
     assert_ne!(RelaxDeltaMap::default(), sections);
+    assert_ne!(deltas(4), deltas(2));
 }
 
 /// `auipc ra, 0` and `jalr ra, 0(ra)`, of which the second goes.
