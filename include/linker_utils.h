@@ -214,7 +214,9 @@ enum linker_utils_riscv_rewrite {
     LINKER_UTILS_RISCV_REWRITE_CALL_TO_JAL = 2, /* auipc of a call; the caller deletes the jalr */
     LINKER_UTILS_RISCV_REWRITE_HI20_TO_C_LUI = 3, /* lui; the caller deletes its last two bytes */
     LINKER_UTILS_RISCV_REWRITE_HI20_DELETE = 4, /* nothing: the caller deletes the lui */
-    LINKER_UTILS_RISCV_REWRITE_LO12_RS1_TO_ZERO = 5
+    LINKER_UTILS_RISCV_REWRITE_LO12_RS1_TO_ZERO = 5,
+    LINKER_UTILS_RISCV_REWRITE_TAIL_TO_JAL = 6, /* the auipc; the caller deletes the jalr */
+    LINKER_UTILS_RISCV_REWRITE_TAIL_TO_C_J = 7 /* c.j; the caller deletes the last 6 bytes */
 };
 
 enum linker_utils_loongarch64_rewrite {
@@ -719,7 +721,7 @@ static inline uint32_t linker_utils_deltas_translate_all(
  * the bytes of all deletions before it. */
 struct linker_utils_block_head {
     uint64_t input_offset;
-    uint64_t output_place;
+    uint64_t output_offset;
 };
 
 /* How many blocks of 64 the deltas have; the last may be shorter. */

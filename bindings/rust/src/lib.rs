@@ -96,7 +96,7 @@ pub struct Delta {
 #[derive(Debug, Clone, Copy, Default, PartialEq, Eq)]
 pub struct BlockHead {
     pub input_offset: u64,
-    pub output_place: u64,
+    pub output_offset: u64,
 }
 
 /// A RISC-V call: the offset in the input section of its `auipc`, and of what it calls.

@@ -1079,7 +1079,7 @@ fn translates_offsets_by_heads() {
     assert_eq!(deltas_block_count(&many), 2);
     let mut heads = [BlockHead::default(); 2];
     assert_eq!(deltas_heads(&many, &mut heads), Ok(()));
-    assert_eq!((heads[1].input_offset, heads[1].output_place), (512, 256));
+    assert_eq!((heads[1].input_offset, heads[1].output_offset), (512, 256));
     for (input, output) in [(0, 0), (2, 0), (512, 256), (515, 256), (520, 260)] {
         let found = deltas_input_to_output_by_heads(&many, &heads, input);
         assert_eq!(found, output, "{input}");
@@ -1099,7 +1099,7 @@ fn translates_offsets_by_heads() {
     // heads that no call wrote are safe
     let odd = [BlockHead {
         input_offset: u64::MAX,
-        output_place: u64::MAX,
+        output_offset: u64::MAX,
     }; 2];
     for offset in [0, 300, u64::MAX] {
         let _ = deltas_input_to_output_by_heads(&many, &odd, offset);

@@ -640,7 +640,7 @@ fn the_structs_are_those_of_the_library() {
     let of_crate = layout! {
         "linker_utils_deletion": Deletion { offset, bytes, }
         "linker_utils_call": Call { site, target, }
-        "linker_utils_block_head": BlockHead { input_offset, output_place, }
+        "linker_utils_block_head": BlockHead { input_offset, output_offset, }
         "linker_utils_delta": Delta { input_offset, cumulative_deleted, bytes_deleted, }
         "linker_utils_relocation_info": raw::RelocationInfo {
             kind, form, mask, machine, is_bits, byte_size, first_bit, end_bit, has_range, thunkable,

@@ -1,18 +1,23 @@
 -- Parts of a search: what one test says of all other elements, and how many probes a search takes.
-use Rattle.std.proofs.Common.{◌≡◌, ℕ, zero, suc, ◌+◌, ◌-◌, ◌*◌, ◌/◌, ◌<◌, ◌≤◌, Bool, true, false, sym, ◌∙◌, inl, inr, arith}
+use Rattle.std.proofs.Common.{◌≡◌, ℕ, zero, suc, ◌+◌, ◌-◌, ◌*◌, ◌<◌, ◌≤◌, Bool, true, false, sym, ◌∙◌, inl, inr, arith}
 use Rattle.std.specs.Prelude.{◌^◌}
 use Rattle.std.proofs.lemmas.Bool.{cases_Bool, cases_lt, false≢true}
 use Rattle.std.proofs.lemmas.Nat.{pow_pos}
 use mir.Val.{bool_byte}
+use Rattle.linker_base.specs.declared.relaxation.partition_point.Level.{Level}
+use Rattle.linker_base.specs.declared.relaxation.partition_point.Level.TheVariants.{Heads, Deltas}
 use Rattle.linker_base.specs.declared.relaxation.partition_point.SearchRange.{SearchRange}
-use Rattle.linker_base.specs.Inner.PartitionPoint.{IsPartitioned, IsPointOf, HeadsAgree, IsRangeOf, IsNarrowed, IsPowerOfTwo, CanHalve, Narrows}
+use Rattle.linker_base.specs.declared.relaxation.partition_point.Test.{Test}
+use Rattle.linker_base.specs.Inner.PartitionPoint.{Subject, Probed, OnlyProbes, HeadsHaveDeltas, size_of, passing}
+use Rattle.linker_base.specs.Inner.PartitionPoint.{IsPartitioned, IsPointOf, HeadsAgree, IsRangeOf, IsNarrowed, IsPowerOfTwo, AreParts, CanHalve, Narrows}
 
 -- ---- probes
 
 -- a halving of more than one element takes one probe
-pub can_once : (limit spent now len half : ℕ) → now ≤ spent + 1 → 1 < len → 2 * half ≤ len + 1 → CanHalve limit spent len → CanHalve limit now half
-can_once limit spent now len half le long part (zero, fits, room) = absurd (omega arith)
-can_once limit spent now len half le long part (suc left, fits, room) = (left, omega arith, omega arith)
+pub can_once : (spent now len half : ℕ) → now ≤ spent + 1 → 1 < len → 2 * half ≤ len + 1
+    → (limit : ℕ) → CanHalve limit spent len → CanHalve limit now half
+can_once spent now len half le long part limit (zero, fits, room) = absurd (omega arith)
+can_once spent now len half le long part limit (suc left, fits, room) = (left, omega arith, omega arith)
 
 -- a power of two below another is at most its half
 power_below : (m k : ℕ) → 2 ^ m < 2 ^ suc k → 2 ^ m ≤ 2 ^ k
@@ -21,12 +26,10 @@ power_below (suc m) zero below = absurd (omega (arith, pow_pos m))
 power_below (suc m) (suc k) below = omega (arith, power_below m k (omega arith))
 
 -- a cut to fewer elements, a power of two, takes one probe
-pub can_cut : (limit spent now len width : ℕ) → now ≤ spent + 1 → IsPowerOfTwo width → width < len → CanHalve limit spent len → CanHalve limit now width
-can_cut limit spent now len width le (m, is) long (zero, fits, room) = absurd (omega (arith, is, pow_pos m))
-can_cut limit spent now len width le (m, is) long (suc left, fits, room) = (left, omega (arith, is, power_below m left (omega (arith, is))), omega arith)
-
-pub power_some : (width : ℕ) → IsPowerOfTwo width → 0 < width
-power_some width (m, is) = omega (arith, is, pow_pos m)
+pub can_cut : (spent now len width : ℕ) → now ≤ spent + 1 → IsPowerOfTwo width → width < len
+    → (limit : ℕ) → CanHalve limit spent len → CanHalve limit now width
+can_cut spent now len width le (m, is) long limit (zero, fits, room) = absurd (omega (arith, is, pow_pos m))
+can_cut spent now len width le (m, is) long limit (suc left, fits, room) = (left, omega (arith, is, power_below m left (omega (arith, is))), omega arith)
 
 pub can_end : (limit spent len : ℕ) → CanHalve limit spent len → spent ≤ limit
 can_end limit spent len (left, long, room) = omega arith
@@ -35,87 +38,80 @@ pub can_begin : (spent len digits : ℕ) → len ≤ 2 ^ digits → CanHalve (sp
 can_begin spent len digits fits = (digits, fits, omega arith)
 
 -- the deltas of some blocks: six digits more
-pub can_begin_blocks : (spent size blocks digits : ℕ) → size ≤ 64 * blocks → blocks < 2 ^ digits → CanHalve (spent + digits + 6) spent size
+pub can_begin_blocks : (spent size blocks digits : ℕ) → size ≤ 64 * blocks → blocks < 2 ^ digits
+    → CanHalve (spent + digits + 6) spent size
 can_begin_blocks spent size blocks digits few fits = (suc (suc (suc (suc (suc (suc digits))))), omega arith, omega arith)
 
-module _ (p : ℕ → Bool) (n : ℕ) where
-  -- ---- parts of parts
+-- ---- one test
 
-  pub narrows_then : (a b c : SearchRange) (x y z : ℕ) → Narrows p n a x b y → Narrows p n b y c z → Narrows p n a x c z
-  narrows_then a b c x y z one two = record {
-    within = two.within;
-    some = λ s. two.some (one.some s);
-    first = λ f. two.first (one.first f);
-    narrowed = λ parted known. two.narrowed parted (one.narrowed parted known);
-    can = λ limit held. two.can limit (one.can limit held);
-  }
+module _ (s : Subject) (level : Level) (test : Test) where
+  -- all before one that passes pass, and all after one that fails fail
+  passes_until : IsPartitioned s level test → (m : ℕ) → m < size_of s level
+      → true ≡ passing s level test m → (k : ℕ) → k < m → passing s level test k ≡ true
+  passes_until parted m within is k low = parted k m (omega arith) within (sym is)
 
-  -- ---- one test
+  fails_from : IsPartitioned s level test → (m : ℕ) → false ≡ passing s level test m → (k : ℕ)
+      → m ≤ k → k < size_of s level → passing s level test k ≡ false
+  fails_from parted m is k low high = elim (cases_Bool (passing s level test k)) [
+    | inl passes ↦ absurd (false≢true (is ∙ parted m k low high passes))
+    | inr fails ↦ fails
+  ]
 
-  narrowed_up : IsPartitioned p n → (s t : SearchRange) → t.start < n → s.start + s.len ≤ t.start + t.len → p t.start ≡ true → IsNarrowed p n s → IsNarrowed p n t
-  narrowed_up parted s t within end passing known = record {
-    before = λ k low. parted k t.start (omega arith) within passing;
+  narrowed_up : IsPartitioned s level test → (a b : SearchRange) → b.start < size_of s level
+      → a.start + a.len ≤ b.start + b.len → passing s level test b.start ≡ true
+      → IsNarrowed s level test a → IsNarrowed s level test b
+  narrowed_up parted a b within end passes known = record {
+    before = passes_until parted b.start within (sym passes);
     after = λ k low high. known.after k (omega arith) high;
   }
 
-  narrowed_down : IsPartitioned p n → (s t : SearchRange) (m : ℕ) → m < n → t.start ≤ s.start → m ≤ t.start + t.len → p m ≡ false → IsNarrowed p n s → IsNarrowed p n t
-  narrowed_down parted s t m within start end failing known = record {
+  narrowed_down : IsPartitioned s level test → (a b : SearchRange) (m : ℕ) → m < size_of s level
+      → b.start ≤ a.start → m ≤ b.start + b.len → passing s level test m ≡ false
+      → IsNarrowed s level test a → IsNarrowed s level test b
+  narrowed_down parted a b m within start end fails known = record {
     before = λ k low. known.before k (omega arith);
-    after = λ k low high. elim (cases_Bool (p k)) [
-      | inl passing ↦ absurd (false≢true (sym failing ∙ parted m k (omega arith) high passing))
-      | inr fails ↦ fails
-    ];
+    after = λ k low high. fails_from parted m (sym fails) k (omega arith) high;
   }
 
-  -- the test of the middle passed, or failed
-  pub narrows_up : (s : SearchRange) (half spent now : ℕ) → IsRangeOf s n → 1 < s.len → half ≡ s.len / 2 → p (s.start + half) ≡ true → now ≤ spent + 1
-      → Narrows p n s spent (record { start = s.start + half; len = s.len - half }) now
-  narrows_up s half spent now within long is passing probed = record {
-    within = record { end = omega (arith, within.end); fits = within.fits };
-    some = λ _. omega arith;
-    first = λ _. passing;
-    narrowed = λ parted known. narrowed_up parted s _ (omega (arith, within.end)) (omega arith) passing known;
-    can = λ limit held. can_once limit spent now s.len (s.len - half) probed long (omega arith) held;
+  -- none passes after one that fails
+  quarter_order : IsPartitioned s level test → (m k : ℕ) → m ≤ k → k < size_of s level
+      → false ≡ passing s level test m → true ≡ passing s level test k → ⊥
+  quarter_order parted m k le high fails passes = false≢true (fails ∙ parted m k le high (sym passes))
+
+  -- three elements are tested, each a quarter of the range after the one before
+  pub quarter_of : IsPartitioned s level test → (range : SearchRange) (q : ℕ) (a b c : Bool)
+      → IsRangeOf s level range → 0 < q → 4 * q ≤ range.len
+      → a ≡ passing s level test (range.start + q) → b ≡ passing s level test (range.start + 2 * q)
+      → c ≡ passing s level test (range.start + 3 * q)
+      → IsNarrowed s level test range → IsNarrowed s level test (record { start = range.start + (bool_byte a + bool_byte b + bool_byte c) * q; len = range.len - 3 * q })
+  quarter_of parted range q true true true within some four one two three known = record {
+    before = passes_until parted (range.start + 3 * q) (omega (arith, within.end)) three;
+    after = λ k low high. known.after k (omega arith) high;
   }
-
-  pub narrows_down : (s : SearchRange) (half spent now : ℕ) → IsRangeOf s n → 1 < s.len → half ≡ s.len / 2 → p (s.start + half) ≡ false → now ≤ spent + 1
-      → Narrows p n s spent (record { start = s.start; len = s.len - half }) now
-  narrows_down s half spent now within long is failing probed = record {
-    within = record { end = omega (arith, within.end); fits = within.fits };
-    some = λ _. omega arith;
-    first = λ f. f;
-    narrowed = λ parted known. narrowed_down parted s _ (s.start + half) (omega (arith, within.end)) (omega arith) (omega arith) failing known;
-    can = λ limit held. can_once limit spent now s.len (s.len - half) probed long (omega arith) held;
+  quarter_of parted range q true true false within some four one two three known = record {
+    before = passes_until parted (range.start + 2 * q) (omega (arith, within.end)) two;
+    after = λ k low high. fails_from parted (range.start + 3 * q) three k (omega arith) high;
   }
-
-  -- the same with the last or the first `width` elements
-  pub narrows_last : (s : SearchRange) (middle width spent now : ℕ) → IsRangeOf s n → IsPowerOfTwo width → width < s.len → middle + width ≡ s.start + s.len → p middle ≡ true → now ≤ spent + 1
-      → Narrows p n s spent (record { start = middle; len = width }) now
-  narrows_last s middle width spent now within power long end passing probed = record {
-    within = record { end = omega (arith, within.end); fits = within.fits };
-    some = λ _. power_some width power;
-    first = λ _. passing;
-    narrowed = λ parted known. narrowed_up parted s _ (omega (arith, within.end, power_some width power)) (omega arith) passing known;
-    can = λ limit held. can_cut limit spent now s.len width probed power long held;
+  quarter_of parted range q true false false within some four one two three known = record {
+    before = λ k low. passes_until parted (range.start + q) (omega (arith, within.end)) one k (omega arith);
+    after = λ k low high. fails_from parted (range.start + 2 * q) two k (omega arith) high;
   }
-
-  pub narrows_first : (s : SearchRange) (middle width spent now : ℕ) → IsRangeOf s n → IsPowerOfTwo width → width < s.len → s.len ≤ 2 * width → middle + width ≡ s.start + s.len → p middle ≡ false → now ≤ spent + 1
-      → Narrows p n s spent (record { start = s.start; len = width }) now
-  narrows_first s middle width spent now within power long few end failing probed = record {
-    within = record { end = omega (arith, within.end); fits = within.fits };
-    some = λ _. power_some width power;
-    first = λ f. f;
-    narrowed = λ parted known. narrowed_down parted s _ middle (omega (arith, within.end, power_some width power)) (omega arith) (omega arith) failing known;
-    can = λ limit held. can_cut limit spent now s.len width probed power long held;
+  quarter_of parted range q false false false within some four one two three known = record {
+    before = λ k low. known.before k (omega arith);
+    after = λ k low high. fails_from parted (range.start + q) one k (omega arith) high;
   }
+  quarter_of parted range q true false true within some four one two three known = absurd (quarter_order parted _ _ (omega arith) (omega (arith, within.end)) two three)
+  quarter_of parted range q false true c within some four one two three known = absurd (quarter_order parted _ _ (omega arith) (omega (arith, within.end)) one two)
+  quarter_of parted range q false false true within some four one two three known = absurd (quarter_order parted _ _ (omega arith) (omega (arith, within.end)) two three)
 
-  -- ---- the end of a search
-
-  pub narrowed_all : (range : SearchRange) → range.start ≡ 0 → range.len ≡ n → IsNarrowed p n range
+  pub narrowed_all : (range : SearchRange) → range.start ≡ 0 → range.len ≡ size_of s level
+      → IsNarrowed s level test range
   narrowed_all range start len = record { before = λ k low. absurd (omega arith); after = λ k low high. absurd (omega arith) }
 
   -- one element is left, and it passes or fails
-  pub point_one : (range : SearchRange) (b : Bool) → range.len ≤ 1 → b ≡ p range.start → IsNarrowed p n range → IsPointOf p n (range.start + bool_byte b)
+  pub point_one : (range : SearchRange) (b : Bool) → range.len ≤ 1
+      → b ≡ passing s level test range.start → IsNarrowed s level test range
+      → IsPointOf s level test (range.start + bool_byte b)
   point_one range true short is known = record {
     before = λ k low. elim (cases_lt k range.start) [
       | inl below ↦ known.before k below
@@ -131,27 +127,85 @@ module _ (p : ℕ → Bool) (n : ℕ) where
     ];
   }
 
+-- ---- what remains of a range
+
+module _ {level : Level} {test : Test} where
+  -- what remains of what remains
+  pub narrows_then : {m n : ℕ} {a b c : Probed} {x y z : SearchRange} → Narrows m level test a x b y
+      → Narrows n level test b y c z → Narrows (m + n) level test a x c z
+  narrows_then one two = record {
+    probes = record { same = two.probes.same ∙ one.probes.same; counted = omega (arith, one.probes.counted, two.probes.counted) };
+    within = two.within;
+    some = λ s. two.some (one.some s);
+    first = λ f. (rw one.probes.same at two.first) (one.first f);
+    narrowed = λ parted known. (rw one.probes.same at two.narrowed) parted (one.narrowed parted known);
+    can = λ limit held. two.can limit (one.can limit held);
+  }
+
+  -- with fewer probes than their sum, if fewer were counted
+  pub narrows_most : {m n : ℕ} {a b : Probed} {x y : SearchRange} → b.probes ≤ a.probes + n
+      → Narrows m level test a x b y → Narrows n level test a x b y
+  narrows_most counted one = record {
+    probes = record { same = one.probes.same; counted = counted };
+    within = one.within;
+    some = one.some;
+    first = one.first;
+    narrowed = one.narrowed;
+    can = one.can;
+  }
+
+  module _ {a b : Probed} (probed : OnlyProbes 1 a b) (range : SearchRange) (middle width : ℕ) (within : IsRangeOf a.subject level range) (parts : AreParts range middle width) (can : (limit : ℕ) → CanHalve limit a.probes range.len → CanHalve limit b.probes width) where
+    -- the last elements, where the test of the middle passes
+    pub narrows_up : passing a.subject level test middle ≡ true
+        → Narrows 1 level test a range b (record { start = middle; len = width })
+    narrows_up passes = record {
+      probes = probed;
+      within = rw probed.same (record { end = omega (arith, within.end, parts.end); fits = within.fits });
+      some = λ _. omega (arith, parts.shorter, parts.all);
+      first = λ _. passes;
+      narrowed = λ parted known. narrowed_up a.subject level test parted range _ (omega (arith, within.end, parts.shorter, parts.all, parts.end)) (omega (arith, parts.end)) passes known;
+      can = can;
+    }
+
+    -- the first elements, where it fails
+    pub narrows_down : passing a.subject level test middle ≡ false
+        → Narrows 1 level test a range b (record { start = range.start; len = width })
+    narrows_down fails = record {
+      probes = probed;
+      within = rw probed.same (record { end = omega (arith, within.end, parts.shorter); fits = within.fits });
+      some = λ _. omega (arith, parts.shorter, parts.all);
+      first = λ f. f;
+      narrowed = λ parted known. narrowed_down a.subject level test parted range _ middle (omega (arith, within.end, parts.shorter, parts.all, parts.end)) (omega arith) (omega (arith, parts.all, parts.end)) fails known;
+      can = can;
+    }
+
 -- ---- heads and the deltas of their blocks
 
-module _ (heads deltas : ℕ → Bool) (blocks size : ℕ) where
-  pub heads_partitioned : 64 * blocks < size + 64 → IsPartitioned deltas size → HeadsAgree heads deltas blocks size → IsPartitioned heads blocks
-  heads_partitioned few parted agree i j le low passing =
-      agree.same i (omega arith) ∙ parted (64 * i) (64 * j) (omega arith) (omega arith) (sym (agree.same j low) ∙ passing)
+module _ (s : Subject) (test : Test) where
+  pub heads_partitioned : HeadsHaveDeltas s → IsPartitioned s Deltas test → HeadsAgree s test
+      → IsPartitioned s Heads test
+  heads_partitioned few parted agree i j le low passes =
+      agree.same i (omega arith) ∙ parted (64 * i) (64 * j) (omega arith) (omega arith) (sym (agree.same j low) ∙ passes)
 
   -- the last head that passes is the first delta of the block in which those that pass end
-  pub block_begins : HeadsAgree heads deltas blocks size → (h b : ℕ) → b + 1 ≡ h → h ≤ blocks → IsPointOf heads blocks h → deltas (64 * b) ≡ true
+  pub block_begins : HeadsAgree s test → (h b : ℕ) → b + 1 ≡ h → h ≤ s.blocks
+      → IsPointOf s Heads test h → passing s Deltas test (64 * b) ≡ true
   block_begins agree h b next bound point = sym (agree.same b (omega arith)) ∙ point.before b (omega arith)
 
-  fails_from : IsPartitioned deltas size → HeadsAgree heads deltas blocks size → (h : ℕ) → IsPointOf heads blocks h → (k : ℕ) → 64 * h ≤ k → k < size → deltas k ≡ false
-  fails_from parted agree h point k from high = elim (cases_Bool (deltas k)) [
-    | inl passing ↦
-        let inside : h < blocks = omega (arith, agree.all) in
-        absurd (false≢true (sym (point.after h (omega arith) inside) ∙ agree.same h inside ∙ parted (64 * h) k from high passing))
+  fails_after : IsPartitioned s Deltas test → HeadsAgree s test → (h : ℕ) → IsPointOf s Heads test h
+      → (k : ℕ) → 64 * h ≤ k → k < size_of s Deltas → passing s Deltas test k ≡ false
+  fails_after parted agree h point k from high = elim (cases_Bool (passing s Deltas test k)) [
+    | inl passes ↦
+        let inside : h < s.blocks = omega (arith, agree.all) in
+        absurd (false≢true (sym (point.after h (omega arith) inside) ∙ agree.same h inside ∙ parted (64 * h) k from high passes))
     | inr fails ↦ fails
   ]
 
-  pub block_ends : IsPartitioned deltas size → HeadsAgree heads deltas blocks size → (h b : ℕ) → b + 1 ≡ h → IsPointOf heads blocks h → (k : ℕ) → 64 * b + 64 ≤ k → k < size → deltas k ≡ false
-  block_ends parted agree h b next point k from high = fails_from parted agree h point k (omega arith) high
+  pub block_ends : IsPartitioned s Deltas test → HeadsAgree s test → (h b : ℕ) → b + 1 ≡ h
+      → IsPointOf s Heads test h → (k : ℕ) → 64 * b + 64 ≤ k → k < size_of s Deltas
+      → passing s Deltas test k ≡ false
+  block_ends parted agree h b next point k from high = fails_after parted agree h point k (omega arith) high
 
-  pub none_passes : IsPartitioned deltas size → HeadsAgree heads deltas blocks size → IsPointOf heads blocks 0 → IsPointOf deltas size 0
-  none_passes parted agree point = record { before = λ k low. absurd (omega arith); after = λ k low high. fails_from parted agree 0 point k (omega arith) high }
+  pub none_passes : IsPartitioned s Deltas test → HeadsAgree s test → IsPointOf s Heads test 0
+      → IsPointOf s Deltas test 0
+  none_passes parted agree point = record { before = λ k low. absurd (omega arith); after = λ k low high. fails_after parted agree 0 point k (omega arith) high }

@@ -1,5 +1,5 @@
 -- What a search in the deltas of a section finds.
-use Rattle.std.proofs.Common.{◌≡◌, ℕ, ◌+◌, ◌-◌, ◌<◌, ◌≤◌, Bool, true, false, List, length, map, get_or, take, leb, ltb, refl, ap, ◌∙◌, inl, inr, arith}
+use Rattle.std.proofs.Common.{◌≡◌, ℕ, ◌+◌, ◌-◌, ◌<◌, ◌≤◌, Bool, true, false, List, length, map, get_or, take, leb, refl, ap, ◌∙◌, inl, inr, arith}
 use Rattle.std.specs.Prelude.{◌%◌, ◌^◌, ◌↔◌, max, All, Any}
 use Rattle.std.specs.List.Sorted.{IsNonDecreasingBy, IsPartitionedBy, IsPartitionPoint}
 use Rattle.std.proofs.lemmas.Bool.{cases_lt, cases_order}
@@ -9,10 +9,12 @@ use Rattle.std.proofs.lemmas.List.Sums.{sum_by_more}
 use Rattle.linker_base.specs.declared.relaxation.RelaxDelta.{RelaxDelta}
 use Rattle.linker_base.specs.Deletions.{IsValid, IsInsideDeletion, IsSelected, HasInput, bytes_of, rank}
 use Rattle.linker_base.specs.Deltas.{deletion_of}
-use Rattle.linker_base.specs.declared.relaxation.blocks.BlockHead.{BlockHead}
-use Rattle.linker_base.specs.Blocks.{output_offset_of, AreHeads}
-use Rattle.linker_base.specs.Inner.Blocks.{no_head}
-use Rattle.linker_base.specs.Inner.PartitionPoint.{IsPartitioned, IsPointOf, HeadsAgree}
+use Rattle.linker_base.specs.declared.relaxation.partition_point.Level.TheVariants.{Deltas}
+use Rattle.linker_base.specs.declared.relaxation.partition_point.Test.{Test}
+use Rattle.linker_base.specs.declared.relaxation.partition_point.Test.TheVariants.{Begins, IsPlaced}
+use Rattle.linker_base.specs.Blocks.{View, output_offset_of, AreHeads}
+use Rattle.linker_base.specs.Inner.Blocks.{no_head, view_subject, list_subject}
+use Rattle.linker_base.specs.Inner.PartitionPoint.{Subject, Probed, OnlyProbes, head_passes, IsPartitioned, IsPointOf, HeadsAgree}
 use Rattle.linker_base.specs.Listed.{AreValidDeltas}
 use Rattle.linker_base.specs.Inner.Listed.{ArePlaced, IsOnlyAt, IsEndOf}
 use Rattle.linker_base.proofs.OutputOffsets.{AreParted, rank-parted, selected-output, bytes_between, bytes-le-offset}
@@ -24,17 +26,21 @@ abbrev pub blank : RelaxDelta
 blank = record { input_offset = 0; cumulative_deleted = 0; bytes_deleted = 0 }
 
 -- the deletion at an index is that of the delta there
-pub deletion_at : (deltas : List RelaxDelta) (k : ℕ) (d : RelaxDelta) (e : ℕ × ℕ) → k < length deltas → get_or (map deletion_of deltas) k e ≡ deletion_of (get_or deltas k d)
+pub deletion_at : (deltas : List RelaxDelta) (k : ℕ) (d : RelaxDelta) (e : ℕ × ℕ)
+    → k < length deltas → get_or (map deletion_of deltas) k e ≡ deletion_of (get_or deltas k d)
 deletion_at deltas k d e within = get_or-map deletion_of deltas k d e within
 
 -- the sum at an index is that of the deletions before it and its own bytes
-pub sum_at : (deltas : List RelaxDelta) → AreValidDeltas deltas → (k : ℕ) (d : RelaxDelta) → k < length deltas → (get_or deltas k d).cumulative_deleted ≡ bytes_of (take k (map deletion_of deltas)) + (get_or deltas k d).bytes_deleted
+pub sum_at : (deltas : List RelaxDelta) → AreValidDeltas deltas → (k : ℕ) (d : RelaxDelta)
+    → k < length deltas
+    → (get_or deltas k d).cumulative_deleted ≡ bytes_of (take k (map deletion_of deltas)) + (get_or deltas k d).bytes_deleted
 sum_at deltas listed k d within =
     let inside : k < length (map deletion_of deltas) = omega (arith, length-map deltas deletion_of) in
     listed.listing.sums k d within ∙ sum_by_more (λ (e : ℕ × ℕ). e.1) (map deletion_of deltas) k (0, 0) inside ∙ ap (λ (e : ℕ × ℕ). bytes_of (take k (map deletion_of deltas)) + e.1) (deletion_at deltas k d (0, 0) within)
 
 -- the offsets of deltas rise
-pub offsets_rise : (deltas : List RelaxDelta) → IsValid (map deletion_of deltas) → IsNonDecreasingBy (λ d. d.input_offset) deltas
+pub offsets_rise : (deltas : List RelaxDelta) → IsValid (map deletion_of deltas)
+    → IsNonDecreasingBy (λ d. d.input_offset) deltas
 offsets_rise deltas valid i j d le within = elim (cases_order i j) [
   | inl same ↦ rw same (omega arith)
   | inr (inl lower) ↦
@@ -44,11 +50,14 @@ offsets_rise deltas valid i j d le within = elim (cases_order i j) [
   | inr (inr above) ↦ absurd (omega arith)
 ]
 
-output_offset_from_sum : (offset bytes before : ℕ) → before ≤ offset → offset + bytes < 2 ^ 64 → (offset + bytes + (2 ^ 64 - (before + bytes))) % 2 ^ 64 + before ≡ offset
+output_offset_from_sum : (offset bytes before : ℕ) → before ≤ offset → offset + bytes < 2 ^ 64
+    → (offset + bytes + (2 ^ 64 - (before + bytes))) % 2 ^ 64 + before ≡ offset
 output_offset_from_sum offset bytes before low fits = omega arith
 
 -- the output offset of a delta and the bytes deleted before it make its offset
-output_offset_at : (deltas : List RelaxDelta) → AreValidDeltas deltas → (k : ℕ) (d : RelaxDelta) → k < length deltas → output_offset_of (get_or deltas k d) + bytes_of (take k (map deletion_of deltas)) ≡ (get_or deltas k d).input_offset
+output_offset_at : (deltas : List RelaxDelta) → AreValidDeltas deltas → (k : ℕ) (d : RelaxDelta)
+    → k < length deltas
+    → output_offset_of (get_or deltas k d) + bytes_of (take k (map deletion_of deltas)) ≡ (get_or deltas k d).input_offset
 output_offset_at deltas listed k d within =
     let ds = map deletion_of deltas in
     let inside : k < length ds = omega (arith, length-map deltas deletion_of) in
@@ -60,14 +69,17 @@ abbrev pub is_placed : ℕ → RelaxDelta → Bool
 is_placed y d = leb (output_offset_of d) y
 
 -- which means the same of its deletion
-placed_at : (deltas : List RelaxDelta) → AreValidDeltas deltas → (y k : ℕ) (d : RelaxDelta) (e : ℕ × ℕ) → k < length deltas → ((is_placed y (get_or deltas k d) ≡ true → (get_or (map deletion_of deltas) k e).0 ≤ y + bytes_of (take k (map deletion_of deltas))) × ((get_or (map deletion_of deltas) k e).0 ≤ y + bytes_of (take k (map deletion_of deltas)) → is_placed y (get_or deltas k d) ≡ true) × (is_placed y (get_or deltas k d) ≡ false → y + bytes_of (take k (map deletion_of deltas)) < (get_or (map deletion_of deltas) k e).0))
+placed_at : (deltas : List RelaxDelta) → AreValidDeltas deltas
+    → (y k : ℕ) (d : RelaxDelta) (e : ℕ × ℕ) → k < length deltas
+    → ((is_placed y (get_or deltas k d) ≡ true → (get_or (map deletion_of deltas) k e).0 ≤ y + bytes_of (take k (map deletion_of deltas))) × ((get_or (map deletion_of deltas) k e).0 ≤ y + bytes_of (take k (map deletion_of deltas)) → is_placed y (get_or deltas k d) ≡ true) × (is_placed y (get_or deltas k d) ≡ false → y + bytes_of (take k (map deletion_of deltas)) < (get_or (map deletion_of deltas) k e).0))
 placed_at deltas listed y k d e within =
     let output = output_offset_at deltas listed k d within in
     rw (deletion_at deltas k d e within)
     (λ low. grind (arith, nat_tests), λ low. grind (arith, nat_tests), λ high. grind (arith, nat_tests))
 
 -- output offsets don't fall, so a search by them parts the deltas
-pub placed_first : (deltas : List RelaxDelta) → AreValidDeltas deltas → (y : ℕ) → IsPartitionedBy (is_placed y) deltas
+pub placed_first : (deltas : List RelaxDelta) → AreValidDeltas deltas → (y : ℕ)
+    → IsPartitionedBy (is_placed y) deltas
 placed_first deltas listed y i j d le within passes =
     let ds = map deletion_of deltas in
     let inside : j < length ds = omega (arith, length-map deltas deletion_of) in
@@ -77,7 +89,9 @@ placed_first deltas listed y i j d le within passes =
 
 module _ (ds : List (ℕ × ℕ)) (valid : IsValid ds) where
   -- an offset is inside a deletion where it is inside the last one that begins below it
-  pub inside_last : (i k : ℕ) (d : ℕ × ℕ) → 0 < k → k ≤ length ds → IsPartitionPoint (λ d. d.0 < i) (λ d. i ≤ d.0) ds k → IsInsideDeletion ds i ↔ (i < (get_or ds (k - 1) d).0 + (get_or ds (k - 1) d).1)
+  pub inside_last : (i k : ℕ) (d : ℕ × ℕ) → 0 < k → k ≤ length ds
+      → IsPartitionPoint (λ d. d.0 < i) (λ d. i ≤ d.0) ds k
+      → IsInsideDeletion ds i ↔ (i < (get_or ds (k - 1) d).0 + (get_or ds (k - 1) d).1)
   inside_last i k d positive within parted = (into, λ inside. (k - 1, get_or ds (k - 1) d, omega arith, get_or_default ds (k - 1) _ d (omega arith), (parted.0 (k - 1) d (omega arith) (omega arith), inside)))
     where
       into : IsInsideDeletion ds i → i < (get_or ds (k - 1) d).0 + (get_or ds (k - 1) d).1
@@ -91,7 +105,9 @@ module _ (ds : List (ℕ × ℕ)) (valid : IsValid ds) where
       ]
 
   -- an offset at or above the end of the last deletion that begins below it parts the list there
-  parted_past : (i k : ℕ) → k ≤ length ds → ((d : ℕ × ℕ) → 0 < k → (get_or ds (k - 1) d).0 + (get_or ds (k - 1) d).1 ≤ i) → ((j : ℕ) (d : ℕ × ℕ) → k ≤ j → j < length ds → i ≤ (get_or ds j d).0) → AreParted ds k i
+  parted_past : (i k : ℕ) → k ≤ length ds
+      → ((d : ℕ × ℕ) → 0 < k → (get_or ds (k - 1) d).0 + (get_or ds (k - 1) d).1 ≤ i)
+      → ((j : ℕ) (d : ℕ × ℕ) → k ≤ j → j < length ds → i ≤ (get_or ds j d).0) → AreParted ds k i
   parted_past i k within past ahead = record {
     passed = λ j d from below. elim (cases_lt j (k - 1)) [
       | inl lower ↦
@@ -105,7 +121,9 @@ module _ (ds : List (ℕ × ℕ)) (valid : IsValid ds) where
   }
 
   -- the rank and the bytes deleted up to there are the greater of the offset and that end
-  pub rank_from_search : (i k end : ℕ) → k ≤ length ds → IsPartitionPoint (λ d. d.0 < i) (λ d. i ≤ d.0) ds k → IsEndOf ds k end → rank ds i + bytes_of (take k ds) ≡ max i end
+  pub rank_from_search : (i k end : ℕ) → k ≤ length ds
+      → IsPartitionPoint (λ d. d.0 < i) (λ d. i ≤ d.0) ds k → IsEndOf ds k end
+      → rank ds i + bytes_of (take k ds) ≡ max i end
   rank_from_search i k end within parted ends =
       let apart = apart_from_ascending ds valid.ascending in
       elim (cases_lt i end) [
@@ -139,14 +157,17 @@ module _ (ds : List (ℕ × ℕ)) (valid : IsValid ds) where
         ]
       ]
 
-  pub selected_from_search : (y k : ℕ) → k ≤ length ds → ArePlaced ds y k → IsSelected ds y (y + bytes_of (take k ds))
+  pub selected_from_search : (y k : ℕ) → k ≤ length ds → ArePlaced ds y k
+      → IsSelected ds y (y + bytes_of (take k ds))
   selected_from_search y k within placed = selected-output ds k y (apart_from_ascending ds valid.ascending) within placed.before placed.after
 
-  pub fits_from_search : (y k : ℕ) → k ≤ length ds → ArePlaced ds y k → HasInput ds y ↔ (y + bytes_of (take k ds) < 2 ^ 64)
+  pub fits_from_search : (y k : ℕ) → k ≤ length ds → ArePlaced ds y k
+      → HasInput ds y ↔ (y + bytes_of (take k ds) < 2 ^ 64)
   fits_from_search y k within placed = input_fits ds y (y + bytes_of (take k ds)) (selected_from_search y k within placed)
 
   -- of a valid list one deletion at most begins at an offset
-  pub only_at : (offset k : ℕ) (e : ℕ × ℕ) → k < length ds → (get_or ds k e).0 ≡ offset → IsOnlyAt ds offset (get_or ds k e).1
+  pub only_at : (offset k : ℕ) (e : ℕ × ℕ) → k < length ds → (get_or ds k e).0 ≡ offset
+      → IsOnlyAt ds offset (get_or ds k e).1
   only_at offset k e within here = record { some = (k, get_or ds k e, within, get_or_default ds k _ e within, here); only = only }
     where
       only : All (λ d. d.0 ≡ offset → (get_or ds k e).1 ≡ d.1) ds
@@ -157,7 +178,9 @@ module _ (ds : List (ℕ × ℕ)) (valid : IsValid ds) where
       ]
 
   -- and none where the first that begins at it or above does not begin at it
-  pub none_at : (offset k : ℕ) → IsPartitionPoint (λ d. d.0 < offset) (λ d. offset ≤ d.0) ds k → ((e : ℕ × ℕ) → k < length ds → (get_or ds k e).0 ≡ offset → ⊥) → Any (λ d. d.0 ≡ offset) ds → ⊥
+  pub none_at : (offset k : ℕ) → IsPartitionPoint (λ d. d.0 < offset) (λ d. offset ≤ d.0) ds k
+      → ((e : ℕ × ℕ) → k < length ds → (get_or ds k e).0 ≡ offset → ⊥) → Any (λ d. d.0 ≡ offset) ds
+      → ⊥
   none_at offset k parted other (j, d, inside, is, here) =
       let at : (get_or ds j d).0 ≡ offset = ap (λ (x : ℕ × ℕ). x.0) is ∙ here in
       elim (cases_order j k) [
@@ -167,7 +190,9 @@ module _ (ds : List (ℕ × ℕ)) (valid : IsValid ds) where
       ]
 
 -- what the last delta that begins below an offset tells of the offset's rank
-pub rank_at_last : (deltas : List RelaxDelta) → AreValidDeltas deltas → (i last : ℕ) → last < length deltas → IsPartitionPoint (λ d. d.0 < i) (λ d. i ≤ d.0) (map deletion_of deltas) (last + 1)
+pub rank_at_last : (deltas : List RelaxDelta) → AreValidDeltas deltas → (i last : ℕ)
+    → last < length deltas
+    → IsPartitionPoint (λ d. d.0 < i) (λ d. i ≤ d.0) (map deletion_of deltas) (last + 1)
     → ((get_or deltas last blank).input_offset + (get_or deltas last blank).bytes_deleted < 2 ^ 64)
     × (rank (map deletion_of deltas) i + (get_or deltas last blank).cumulative_deleted ≡ max i ((get_or deltas last blank).input_offset + (get_or deltas last blank).bytes_deleted))
 rank_at_last deltas listed i last within parted =
@@ -181,38 +206,52 @@ rank_at_last deltas listed i last within parted =
     }) in
     (rw here at (listed.valid.ends last (0, 0) inside), rw (listed.listing.sums last blank within) ranked)
 
-pub rank_at_none : (deltas : List RelaxDelta) → AreValidDeltas deltas → (i : ℕ) → IsPartitionPoint (λ d. d.0 < i) (λ d. i ≤ d.0) (map deletion_of deltas) 0 → i ≡ rank (map deletion_of deltas) i
+pub rank_at_none : (deltas : List RelaxDelta) → AreValidDeltas deltas → (i : ℕ)
+    → IsPartitionPoint (λ d. d.0 < i) (λ d. i ≤ d.0) (map deletion_of deltas) 0
+    → i ≡ rank (map deletion_of deltas) i
 rank_at_none deltas listed i parted =
     let ranked : rank (map deletion_of deltas) i + 0 ≡ max i 0 = rank_from_search (map deletion_of deltas) listed.valid i 0 0 (omega arith) parted (record { none = λ none. refl; last = λ d some. absurd (omega arith) }) in
     omega (arith, ranked)
 
 -- ---- searches by index
 
-pub begins_partitioned : (deltas : List RelaxDelta) → IsValid (map deletion_of deltas) → (i : ℕ) → IsPartitioned (λ at. ltb (get_or deltas at blank).input_offset i) (length deltas)
-begins_partitioned deltas valid i j k le within passes = let rise = offsets_rise deltas valid j k blank le within in grind (arith, nat_tests)
+pub begins_partitioned : (s : Subject) → IsValid (map deletion_of s.deltas) → (i : ℕ)
+    → IsPartitioned s Deltas (Begins i)
+begins_partitioned s valid i j k le within passes = let rise = offsets_rise s.deltas valid j k blank le within in grind (arith, nat_tests)
 
-pub places_partitioned : (deltas : List RelaxDelta) → AreValidDeltas deltas → (y : ℕ) → IsPartitioned (λ at. is_placed y (get_or deltas at blank)) (length deltas)
-places_partitioned deltas listed y j k le within passes = placed_first deltas listed y j k blank le within passes
+pub places_partitioned : (s : Subject) → AreValidDeltas s.deltas → (y : ℕ)
+    → IsPartitioned s Deltas (IsPlaced y)
+places_partitioned s listed y j k le within passes = placed_first s.deltas listed y j k blank le within passes
 
-pub parted_from_point : (deltas : List RelaxDelta) (i k : ℕ) → k ≤ length deltas → IsPointOf (λ at. ltb (get_or deltas at blank).input_offset i) (length deltas) k → IsPartitionPoint (λ d. d.0 < i) (λ d. i ≤ d.0) (map deletion_of deltas) k
-parted_from_point deltas i k within found = (
-  λ j d low high. rw (deletion_at deltas j blank d (omega arith)) (grind (arith, nat_tests, found.before j high)),
-  λ j d low high. let inside : j < length deltas = omega (arith, length-map deltas deletion_of) in rw (deletion_at deltas j blank d inside) (grind (arith, nat_tests, found.after j low inside)),
+pub parted_from_point : (s : Subject) (i k : ℕ) → k ≤ length s.deltas
+    → IsPointOf s Deltas (Begins i) k
+    → IsPartitionPoint (λ d. d.0 < i) (λ d. i ≤ d.0) (map deletion_of s.deltas) k
+parted_from_point s i k within found = (
+  λ j d low high. rw (deletion_at s.deltas j blank d (omega arith)) (grind (arith, nat_tests, found.before j high)),
+  λ j d low high. let inside : j < length s.deltas = omega (arith, length-map s.deltas deletion_of) in rw (deletion_at s.deltas j blank d inside) (grind (arith, nat_tests, found.after j low inside)),
 )
 
-pub placed_from_point : (deltas : List RelaxDelta) → AreValidDeltas deltas → (y k : ℕ) → k ≤ length deltas → IsPointOf (λ at. is_placed y (get_or deltas at blank)) (length deltas) k → ArePlaced (map deletion_of deltas) y k
-placed_from_point deltas listed y k within found = record {
-  before = λ j d below. (placed_at deltas listed y j blank d (omega arith)).0 (found.before j below);
+pub placed_from_point : (s : Subject) → AreValidDeltas s.deltas → (y k : ℕ) → k ≤ length s.deltas
+    → IsPointOf s Deltas (IsPlaced y) k → ArePlaced (map deletion_of s.deltas) y k
+placed_from_point s listed y k within found = record {
+  before = λ j d below. (placed_at s.deltas listed y j blank d (omega arith)).0 (found.before j below);
   after = λ j d from below.
-      let inside : j < length deltas = omega (arith, length-map deltas deletion_of) in
-      (placed_at deltas listed y j blank d inside).2 (found.after j from inside);
+      let inside : j < length s.deltas = omega (arith, length-map s.deltas deletion_of) in
+      (placed_at s.deltas listed y j blank d inside).2 (found.after j from inside);
 }
 
 -- ---- searches by heads
 
 -- heads that belong to the deltas pass where the first deltas of their blocks do
-pub heads_begin : (deltas : List RelaxDelta) (heads : List BlockHead) (i : ℕ) → AreHeads deltas heads → HeadsAgree (λ b. ltb (get_or heads b no_head).input_offset i) (λ at. ltb (get_or deltas at blank).input_offset i) (length heads) (length deltas)
-heads_begin deltas heads i are = record { same = λ b low. ap (λ (h : BlockHead). ltb h.input_offset i) (are.each b no_head blank low); all = omega (arith, are.count) }
+pub view_heads_agree : (view : View) (test : Test) → AreHeads view.deltas view.heads
+    → HeadsAgree (view_subject view) test
+view_heads_agree view test are = record { same = λ b low. ap (head_passes test) (are.each b no_head blank low); all = omega (arith, are.count) }
 
-pub heads_placed : (deltas : List RelaxDelta) (heads : List BlockHead) (y : ℕ) → AreHeads deltas heads → HeadsAgree (λ b. leb (get_or heads b no_head).output_place y) (λ at. is_placed y (get_or deltas at blank)) (length heads) (length deltas)
-heads_placed deltas heads y are = record { same = λ b low. ap (λ (h : BlockHead). leb h.output_place y) (are.each b no_head blank low); all = omega (arith, are.count) }
+pub list_heads_agree : (deltas : List RelaxDelta) (test : Test)
+    → HeadsAgree (list_subject deltas) test
+list_heads_agree deltas test = record { same = λ b low. refl; all = omega arith }
+
+-- probes keep the deltas
+pub same_listed : {most : ℕ} {a b : Probed} → OnlyProbes most a b
+    → b.subject.deltas ≡ a.subject.deltas
+same_listed probed = ap (λ (s : Subject). s.deltas) probed.same

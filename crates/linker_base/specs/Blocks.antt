@@ -16,7 +16,7 @@ blocks_of len = (len + 63) / 64
 
 -- the head of a block that begins with the delta
 abbrev pub head_of : RelaxDelta → BlockHead
-head_of delta = record { input_offset = delta.input_offset; output_place = output_offset_of delta }
+head_of delta = record { input_offset = delta.input_offset; output_offset = output_offset_of delta }
 
 -- the heads of the blocks of the deltas
 pub record AreHeads (deltas : List RelaxDelta) (heads : List BlockHead) : Type 0 where

@@ -1,4 +1,5 @@
 pub mod AArch64
+pub mod AArch64Originals
 pub mod AArch64Relocations
 pub mod Agrees
 pub mod Architectures
@@ -9,6 +10,7 @@ pub mod Inner
 pub mod LoongArch
 pub mod LoongArchRelocations
 pub mod Numbers
+pub mod Originals
 pub mod Packing
 pub mod Ppc64
 pub mod Ppc64Relocations
@@ -16,6 +18,7 @@ pub mod Reach
 pub mod Readings
 pub mod Relocate
 pub mod RiscV
+pub mod RiscVOriginals
 pub mod RiscVRelocations
 pub mod Rows
 pub mod Shrinking

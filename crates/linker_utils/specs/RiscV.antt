@@ -30,6 +30,8 @@ use Rattle.linker_utils.specs.declared.riscv64.rewrites.RelaxationKind.TheVarian
 use Rattle.linker_utils.specs.declared.riscv64.rewrites.RelaxationKind.TheVariants.{Hi20ToCLui}
 use Rattle.linker_utils.specs.declared.riscv64.rewrites.RelaxationKind.TheVariants.{Hi20Delete}
 use Rattle.linker_utils.specs.declared.riscv64.rewrites.RelaxationKind.TheVariants.{Lo12Rs1ToZero}
+use Rattle.linker_utils.specs.declared.riscv64.rewrites.RelaxationKind.TheVariants.{TailToJal}
+use Rattle.linker_utils.specs.declared.riscv64.rewrites.RelaxationKind.TheVariants.{TailToCJ}
 
 -- the places of a high part and of the low part in the second word
 abbrev pub ui_high : List ImmediateBit
@@ -122,6 +124,14 @@ PairReads f v after = ⊤
 abbrev pub call_to_jal : List ℕ → List ℕ
 call_to_jal window = to_le_bytes w32 (0x6f + field (from_le_bytes w32 window) 7 12 * 128)
 
+-- `jal x0` of distance 0
+abbrev pub tail_to_jal : List ℕ → List ℕ
+tail_to_jal window = 0x6f ∷ 0x00 ∷ 0x00 ∷ 0x00 ∷ []
+
+-- `c.j` of distance 0
+abbrev pub tail_to_cj : List ℕ → List ℕ
+tail_to_cj window = 0x01 ∷ 0xa0 ∷ []
+
 -- two `c.nop`
 abbrev pub two_nops : List ℕ → List ℕ
 two_nops window = 0x01 ∷ 0x00 ∷ 0x01 ∷ 0x00 ∷ []
@@ -142,6 +152,8 @@ riscv_rewrite CallToJal = Some (replaces 0 4 call_to_jal)
 riscv_rewrite Hi20ToCLui = Some (replaces 0 2 hi20_to_clui)
 riscv_rewrite Hi20Delete = None
 riscv_rewrite Lo12Rs1ToZero = Some (replaces 0 4 rs1_to_zero)
+riscv_rewrite TailToJal = Some (replaces 0 4 tail_to_jal)
+riscv_rewrite TailToCJ = Some (replaces 0 2 tail_to_cj)
 
 abbrev pub riscv_modifier : RelaxationKind → RelocationModifier
 riscv_modifier NoOp = Normal
@@ -150,12 +162,15 @@ riscv_modifier CallToJal = SkipNextRelocation
 riscv_modifier Hi20ToCLui = Normal
 riscv_modifier Hi20Delete = SkipNextRelocation
 riscv_modifier Lo12Rs1ToZero = Normal
+riscv_modifier TailToJal = SkipNextRelocation
+riscv_modifier TailToCJ = SkipNextRelocation
 
 -- the rewrites by their numbers from 0 up
 abbrev pub riscv_rewrites : List RelaxationKind
 riscv_rewrites =
     NoOp ∷ ReplaceWithNop ∷ CallToJal ∷ Hi20ToCLui ∷
-    Hi20Delete ∷ Lo12Rs1ToZero ∷ []
+    Hi20Delete ∷ Lo12Rs1ToZero ∷ TailToJal ∷
+    TailToCJ ∷ []
 
 -- bits 12 to 31 of the value plus 0x800
 abbrev pub hi20 : ℕ → ℕ

@@ -7,7 +7,7 @@ mod sequences;
 
 pub use forms::AArch64Instruction;
 pub use relocations::{AArch64Relocation, relocation_type_from_raw, row};
-pub use rewrites::RelaxationKind;
+pub use rewrites::{RelaxationKind, is_adrp_pair};
 pub use sequences::write_mov_sequence;
 
 /// The distance in bytes from the thread pointer to the first TLS block: the thread control block's

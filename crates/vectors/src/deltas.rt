@@ -373,7 +373,7 @@ fn long_lists_are_searched_by_blocks(rt: HostRuntime) -> Result<(), Fail> {
         let listed = deltas.as_delta_slice();
         let none = BlockHead {
             input_offset: 0,
-            output_place: 0,
+            output_offset: 0,
         };
         let mut heads = vec![in rt.alloc(); none; listed.block_count()]?;
         listed.write_heads(&mut heads);

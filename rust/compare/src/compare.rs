@@ -206,7 +206,7 @@ macro_rules! fields {
 }
 
 fields! { RelaxDelta: input_offset, bytes_deleted, cumulative_deleted, }
-fields! { BlockHead: input_offset, output_place, }
+fields! { BlockHead: input_offset, output_offset, }
 fields! { Call: site, target, }
 fields! { Operands: symbol, addend, place, got_entry, got_base, plt_entry, symbol_size, tls_base, }
 fields! {

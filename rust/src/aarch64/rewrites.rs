@@ -78,6 +78,51 @@ fn source(word: u32) -> u32 {
     word >> 5 & 0x1f
 }
 
+/// `adrp xD`.
+#[inline(always)]
+fn is_adrp(word: u32) -> bool {
+    word & 0x9f00_0000 == 0x9000_0000
+}
+
+/// `add xD, xN, #imm`, whose immediate isn't shifted.
+#[inline(always)]
+fn is_add64(word: u32) -> bool {
+    word & 0xffc0_0000 == 0x9100_0000
+}
+
+/// `ldr xD, [xN, #imm]`, whose offset is unsigned.
+#[inline(always)]
+fn is_ldr64(word: u32) -> bool {
+    word >> 22 == 0x3e5
+}
+
+/// Whether the source register is the destination register, and the same one: 31 as a source is the
+/// stack pointer, and as a destination of `ldr` it isn't.
+#[inline(always)]
+fn is_into_own_source(word: u32) -> bool {
+    source(word) == destination(word) && destination(word) != 31
+}
+
+/// Whether the words are `adrp xN` and an instruction from xN into xN.
+#[inline(always)]
+fn are_of_one_register(adrp: u32, word: u32) -> bool {
+    is_adrp(adrp) && is_into_own_source(word) && destination(adrp) == destination(word)
+}
+
+/// Whether `adrp xN` and `add xN, xN, #imm` or `ldr xN, [xN, #imm]`, both of 64 bits, stand next to
+/// each other: the second instruction at an offset of the section, and the `adrp` 4 bytes before it.
+/// Then the value that `adrp` leaves in xN is used by the second instruction alone, and the two may
+/// be rewritten together: to `nop` and `adr`, to another `adrp` and `add`, or to MOVZ and MOVK.
+#[must_use]
+#[inline]
+pub fn is_adrp_pair(section: &[u8], offset: u64) -> bool {
+    if !has_window(section, offset, 4, 8) {
+        return false;
+    }
+    let word = word_at(section, offset);
+    (is_add64(word) || is_ldr64(word)) && are_of_one_register(word_at(section, offset - 4), word)
+}
+
 const NOP: u32 = 0xd503_201f;
 
 const ADR_WORD: u32 = 0x1000_0000;
@@ -172,7 +217,7 @@ impl RelaxationKind {
                 if !has_window(section, offset, 0, 4) {
                     return false;
                 }
-                word_at(section, offset) >> 22 == 0x3e5
+                is_ldr64(word_at(section, offset))
             }
             RelaxationKind::AdrpAddToNopAdr => has_window(section, offset, 4, 8),
             RelaxationKind::ReplaceWithNop
@@ -184,6 +229,38 @@ impl RelaxationKind {
             | RelaxationKind::LdrX0
             | RelaxationKind::AddToAdr
             | RelaxationKind::LdrToAdr => has_window(section, offset, 0, 4),
+        }
+    }
+
+    /// Whether the instruction at an offset of a section, or the pair that ends there, is one that the
+    /// rewrite is meant for: `can_apply`, and the opcodes and registers. `NoOp` is meant for any offset
+    /// and `ReplaceWithNop` for any instruction in the section.
+    #[must_use]
+    #[inline]
+    pub fn matches(self, section: &[u8], offset: u64) -> bool {
+        if let RelaxationKind::NoOp = self {
+            return true;
+        }
+        if !has_window(section, offset, 0, 4) {
+            return false;
+        }
+        let word = word_at(section, offset);
+        match self {
+            RelaxationKind::NoOp | RelaxationKind::ReplaceWithNop => true,
+            RelaxationKind::MovzX0Lsl16 | RelaxationKind::AdrpX0 => {
+                is_adrp(word) && destination(word) == 0
+            }
+            RelaxationKind::MovkX0 | RelaxationKind::LdrX0 => is_ldr64(word) && source(word) == 0,
+            RelaxationKind::MovzXnLsl16 | RelaxationKind::AdrpToAdr => is_adrp(word),
+            RelaxationKind::MovkXn => is_ldr64(word) && is_into_own_source(word),
+            RelaxationKind::AddToAdr => is_add64(word) && destination(word) != 31,
+            RelaxationKind::LdrToAdr => is_ldr64(word),
+            RelaxationKind::LdrToAdd => is_ldr64(word) && destination(word) != 31,
+            RelaxationKind::AdrpAddToNopAdr => {
+                4 <= offset
+                    && is_add64(word)
+                    && are_of_one_register(word_at(section, offset - 4), word)
+            }
         }
     }
 

@@ -47,6 +47,14 @@ impl RelaxationKind {
         }
     }
 
+    /// Whether the instruction at an offset of a section is one that the rewrite is meant for: `NoOp`
+    /// is meant for any offset.
+    #[must_use]
+    #[inline]
+    pub fn matches(self, section: &[u8], offset: u64) -> bool {
+        self.can_apply(section, offset)
+    }
+
     /// What happens to the next relocation: it is applied as usual.
     #[must_use]
     #[inline]

@@ -29,7 +29,7 @@ fn is_even(distance: i64) -> bool {
 
 /// The register that an instruction writes: its bits 7 to 11.
 #[inline(always)]
-fn destination(word: u32) -> u32 {
+pub(super) fn destination(word: u32) -> u32 {
     word >> 7 & 0x1f
 }
 
@@ -50,7 +50,7 @@ pub fn is_plain_call(section: &[u8], site: u64) -> bool {
 
 /// Whether the words are an `auipc` and a `jalr` whose base is the register of the `auipc`.
 #[inline(always)]
-fn is_call_pair(auipc: u32, jalr: u32) -> bool {
+pub(super) fn is_call_pair(auipc: u32, jalr: u32) -> bool {
     let (auipc, jalr) = (u64::from(auipc), u64::from(jalr));
     auipc.extract_bit_range(0..7) == 0x17
         && jalr.extract_bit_range(0..7) == 0x67

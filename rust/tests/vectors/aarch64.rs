@@ -9,7 +9,8 @@ mod pairs;
 
 use crate::rows::{expect, expect_eq};
 use linker_utils::aarch64::{
-    AArch64Relocation, RelaxationKind, TLS_TCB_SIZE, relocation_type_from_raw, write_mov_sequence,
+    AArch64Relocation, RelaxationKind, TLS_TCB_SIZE, is_adrp_pair, relocation_type_from_raw,
+    write_mov_sequence,
 };
 use linker_utils::bit_misc::BitExtraction;
 use linker_utils::elf::{
@@ -274,7 +275,7 @@ fn page_and_offset_pairs_match_linkers() {
 }
 
 /// Rewrites at an offset, and then writes a value there. Returns `false` if either is impossible,
-/// or if the offset or the addend changes.
+/// if the rewrite isn't meant for what is there, or if the offset or the addend changes.
 fn rewritten(
     section: &mut [u8],
     at: u64,
@@ -282,7 +283,7 @@ fn rewritten(
     form: AArch64Instruction,
     value: u64,
 ) -> bool {
-    if !kind.can_apply(section, at) {
+    if !kind.can_apply(section, at) || !kind.matches(section, at) {
         return false;
     }
     let mut offset = at;
@@ -307,6 +308,7 @@ fn rewritten(
 fn rewrites_match_linkers() {
     for &(before, value, after) in &NOP_ADR {
         let mut section = before;
+        assert!(is_adrp_pair(&section, 4), "{value}");
         assert!(
             rewritten(
                 &mut section,
@@ -321,6 +323,7 @@ fn rewrites_match_linkers() {
     }
     for &(before, page, low, after) in &ADRP_TO_ADD {
         let mut section = before;
+        assert!(is_adrp_pair(&section, 4), "{page} and {low}");
         assert!(
             rewritten(
                 &mut section,
@@ -345,6 +348,7 @@ fn rewrites_match_linkers() {
     }
     for &(before, high, low, after) in &TO_MOVES {
         let mut section = before;
+        assert!(is_adrp_pair(&section, 4), "{high} and {low}");
         assert!(
             rewritten(
                 &mut section,
@@ -435,6 +439,44 @@ fn rewrites_of_one_instruction_match_worked_words() {
     ];
     for &(kind, before, after) in &table {
         expect_eq(before, rewritten_word(kind, before), after);
+    }
+}
+
+#[test]
+fn rewrites_match_their_instructions() {
+    // `adrp x0`, `adrp x3`, `ldr x1, [x0]`, `ldr w3, [x3]`, `add x3, x3, #0`, `add x4, x3, #0`,
+    // `add x3, x3, #0, lsl #12`
+    let adrp_x0 = 0x9000_0000;
+    let adrp_x3 = 0x9000_0003;
+    let ldr_x1 = 0xf940_0001;
+    let ldr_w3 = 0xb940_0063;
+    let add_x3 = 0x9100_0063;
+    let add_x4 = 0x9100_0064;
+    let shifted = 0x9140_0063;
+    let table: [(RelaxationKind, u32, u32, bool); 14] = [
+        (RelaxationKind::AdrpAddToNopAdr, adrp_x3, add_x3, true),
+        (RelaxationKind::AdrpAddToNopAdr, adrp_x0, add_x3, false),
+        (RelaxationKind::AdrpAddToNopAdr, adrp_x3, add_x4, false),
+        (RelaxationKind::AdrpAddToNopAdr, adrp_x3, shifted, false),
+        (RelaxationKind::AddToAdr, 0, add_x4, true),
+        (RelaxationKind::AddToAdr, 0, shifted, false),
+        (RelaxationKind::AdrpX0, 0, adrp_x0, true),
+        (RelaxationKind::AdrpX0, 0, adrp_x3, false),
+        (RelaxationKind::LdrX0, 0, ldr_x1, true),
+        (RelaxationKind::LdrToAdd, 0, ldr_x1, true),
+        (RelaxationKind::LdrToAdd, 0, ldr_w3, false),
+        (RelaxationKind::MovkXn, 0, ldr_x1, false),
+        (RelaxationKind::MovkXn, 0, add_x3, false),
+        // `ldr xzr, [sp]`: both registers have the number 31
+        (RelaxationKind::MovkXn, 0, 0xf940_03ff, false),
+    ];
+    for (kind, first, second, want) in table {
+        let section = (u64::from(first) | u64::from(second) << 32).to_le_bytes();
+        expect_eq((kind, first, second), kind.matches(&section, 4), want);
+        expect_eq(kind, kind.matches(&section, 5), false);
+        if kind == RelaxationKind::AdrpAddToNopAdr {
+            expect_eq((first, second), is_adrp_pair(&section, 4), want);
+        }
     }
 }
 

@@ -10,10 +10,12 @@ use linker_utils::elf::{
     AllowedRange, Bias, InstructionForm, RelocationInstruction, RelocationSize, RiscVInstruction,
     Sign,
 };
+use linker_utils::relaxation::RelocationModifier;
 use linker_utils::riscv64::{
     CallError, RelaxationKind, RiscVRelocation, distance_fits_jal, is_plain_call, jal_site,
     relocation_type_from_raw,
 };
+use linker_utils::utils::u32_from_slice;
 
 /// What `read_value` returns where the machine reads `machine`.
 fn reading(form: RiscVInstruction, machine: i64) -> (u64, bool) {
@@ -400,6 +402,92 @@ fn tail_calls_are_not_plain_calls() {
         Ok(()),
     );
     assert!(section.starts_with(&[0x6f, 0x23, 0x20, 0x00]));
+}
+
+#[test]
+fn tail_calls_become_jumps_of_linkers() {
+    let tail = [0x17, 0x03, 0x00, 0x00, 0x67, 0x00, 0x03, 0x00];
+    // what GNU ld writes for a distance of 8194, and `c.j` of distance 8
+    let table: [(RelaxationKind, RiscVInstruction, u64, u32); 2] = [
+        (
+            RelaxationKind::TailToJal,
+            RiscVInstruction::JType,
+            8194,
+            0x0020_206f,
+        ),
+        (
+            RelaxationKind::TailToCJ,
+            RiscVInstruction::CjType,
+            8,
+            0x0000_a021,
+        ),
+    ];
+    for (kind, form, distance, after) in table {
+        let mut section = tail;
+        let mut offset = 0;
+        let mut addend = 5;
+        expect(kind, kind.can_apply(&section, 0));
+        kind.apply(&mut section, &mut offset, &mut addend);
+        expect_eq(kind, (offset, addend), (0, 5));
+        expect_eq(
+            kind,
+            kind.next_modifier(),
+            RelocationModifier::SkipNextRelocation,
+        );
+        form.write_to_value(distance, false, &mut section);
+        expect_eq(kind, u32_from_slice(&section), after);
+    }
+}
+
+#[test]
+fn rewrites_match_their_instructions() {
+    // by GNU as: `call f`, `tail f`, `call t0, f`; and a `jalr` from another register than the `auipc`'s
+    let call = both([0x0000_0097, 0x0000_80e7]);
+    let tail = both([0x0000_0317, 0x0003_0067]);
+    let call_t0 = both([0x0000_0317, 0x0003_02e7]);
+    let apart = both([0x0000_0317, 0x0003_8067]);
+    // `lui a0` and `lui sp`, and then `addi a0, a0` and `ori a0, a0`
+    let lui = both([0x0000_0537, 0x0005_0513]);
+    let lui_sp = both([0x0000_0137, 0x0005_6513]);
+    let table: [(RelaxationKind, &[u8], u64, bool); 15] = [
+        (RelaxationKind::CallToJal, &call, 0, true),
+        (RelaxationKind::CallToJal, &tail, 0, false),
+        (RelaxationKind::CallToJal, &call_t0, 0, false),
+        (RelaxationKind::CallToJal, &call, 4, false),
+        (RelaxationKind::TailToJal, &tail, 0, true),
+        (RelaxationKind::TailToCJ, &tail, 0, true),
+        (RelaxationKind::TailToJal, &call, 0, false),
+        (RelaxationKind::TailToJal, &call_t0, 0, false),
+        (RelaxationKind::TailToJal, &apart, 0, false),
+        (RelaxationKind::Hi20ToCLui, &lui, 0, true),
+        (RelaxationKind::Hi20ToCLui, &lui_sp, 0, false),
+        (RelaxationKind::Hi20Delete, &lui_sp, 0, true),
+        (RelaxationKind::Hi20Delete, &lui, 4, false),
+        (RelaxationKind::Lo12Rs1ToZero, &lui, 4, true),
+        (RelaxationKind::Lo12Rs1ToZero, &lui_sp, 4, false),
+    ];
+    for (kind, section, offset, want) in table {
+        expect_eq((kind, section), kind.matches(section, offset), want);
+        expect_eq(kind, kind.matches(section, 5), false);
+    }
+    // `lb`, `lwu`, `flw`, `fsd`, `sd`, `jalr`, and a vector load, which has no immediate
+    let words: [(u32, bool); 7] = [
+        (0x0005_0503, true),
+        (0x0005_6503, true),
+        (0x0005_2507, true),
+        (0x00a5_3027, true),
+        (0x00a5_3023, true),
+        (0x0005_0567, true),
+        (0x0205_6007, false),
+    ];
+    for (word, want) in words {
+        let section = word.to_le_bytes();
+        expect_eq(
+            word,
+            RelaxationKind::Lo12Rs1ToZero.matches(&section, 0),
+            want,
+        );
+    }
 }
 
 #[test]

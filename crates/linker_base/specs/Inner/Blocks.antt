@@ -1,28 +1,29 @@
 -- What a search in deltas and the heads of their blocks reads.
-use Rattle.std.specs.Prelude.{◌≡◌, ℕ, ◌*◌, ◌<◌, Bool, List, length, slice_index_or}
+use Rattle.std.specs.Prelude.{◌≡◌, ℕ, ◌*◌, ◌<◌, List, length, slice_index_or}
 use Rattle.std.specs.Prelude.{if◌then◌else◌, nat_le}
 use Rattle.linker_base.specs.declared.relaxation.RelaxDelta.{RelaxDelta}
 use Rattle.linker_base.specs.declared.relaxation.blocks.BlockHead.{BlockHead}
-use Rattle.linker_base.specs.declared.relaxation.partition_point.Level.{Level}
-use Rattle.linker_base.specs.declared.relaxation.partition_point.Level.TheVariants.{Heads, Deltas}
-use Rattle.linker_base.specs.declared.relaxation.partition_point.Test.{Test}
-use Rattle.linker_base.specs.Blocks.{blocks_of, head_of}
-use Rattle.linker_base.specs.Inner.PartitionPoint.{passes, head_passes}
-
-abbrev pub no_delta : RelaxDelta
-no_delta = record { input_offset = 0; cumulative_deleted = 0; bytes_deleted = 0 }
+use Rattle.linker_base.specs.Blocks.{View, blocks_of, head_of}
+use Rattle.linker_base.specs.Inner.PartitionPoint.{Subject, no_delta}
 
 abbrev pub no_head : BlockHead
-no_head = record { input_offset = 0; output_place = 0 }
+no_head = record { input_offset = 0; output_offset = 0 }
 
--- how many heads and deltas there are, and which of them pass a test
-abbrev pub size_of : ℕ → ℕ → Level → ℕ
-size_of heads deltas Heads = heads
-size_of heads deltas Deltas = deltas
+-- deltas with heads of their blocks, or none
+abbrev pub view_subject : View → Subject
+view_subject view = record {
+  deltas = view.deltas;
+  blocks = length view.heads;
+  head = λ block. slice_index_or view.heads block no_head;
+}
 
-abbrev pub passing_of : (ℕ → BlockHead) → List RelaxDelta → Level → Test → ℕ → Bool
-passing_of heads deltas Heads test at = head_passes test (heads at)
-passing_of heads deltas Deltas test at = passes test (slice_index_or deltas at no_delta)
+-- deltas with the head of each of their blocks
+abbrev pub list_subject : List RelaxDelta → Subject
+list_subject deltas = record {
+  deltas = deltas;
+  blocks = blocks_of (length deltas);
+  head = λ block. head_of (slice_index_or deltas (64 * block) no_delta);
+}
 
 -- how many heads a section keeps with so many deltas: none with a few
 abbrev pub heads_kept : ℕ → ℕ

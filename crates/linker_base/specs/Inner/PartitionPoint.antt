@@ -1,49 +1,105 @@
 -- What a search tests, and what it knows on the way.
 use Rattle.std.specs.Prelude.{◌≡◌, ℕ, ◌+◌, ◌*◌, ◌^◌, ◌<◌, ◌≤◌, Bool, true, false, nat_lt, nat_le}
-use Rattle.std.specs.Prelude.{min}
+use Rattle.std.specs.Prelude.{List, length, min, slice_index_or}
 use Rattle.linker_base.specs.declared.relaxation.RelaxDelta.{RelaxDelta}
 use Rattle.linker_base.specs.declared.relaxation.blocks.BlockHead.{BlockHead}
+use Rattle.linker_base.specs.declared.relaxation.partition_point.Level.{Level}
+use Rattle.linker_base.specs.declared.relaxation.partition_point.Level.TheVariants.{Heads, Deltas}
 use Rattle.linker_base.specs.declared.relaxation.partition_point.Test.{Test}
 use Rattle.linker_base.specs.declared.relaxation.partition_point.Test.TheVariants.{Begins, IsPlaced}
 use Rattle.linker_base.specs.declared.relaxation.partition_point.SearchRange.{SearchRange}
 use Rattle.linker_base.specs.Blocks.{head_of}
 
+-- what a read past the end gives
+abbrev pub no_delta : RelaxDelta
+no_delta = record { input_offset = 0; cumulative_deleted = 0; bytes_deleted = 0 }
+
+-- what is searched: deltas, and what stands for the heads of their blocks
+pub record Subject : Type 0 where
+  pub deltas : List RelaxDelta
+  pub blocks : ℕ
+  pub head : ℕ → BlockHead
+
+-- what is searched, and how many of its heads and deltas were read
+pub record Probed : Type 0 where
+  pub subject : Subject
+  pub probes : ℕ
+
+-- at most so many are read, and nothing changes
+pub record OnlyProbes (most : ℕ) (before after : Probed) : Type 0 where
+  pub same : after.subject ≡ before.subject
+  pub counted : after.probes ≤ before.probes + most
+
+-- at most so many more are read than the number of heads has binary digits
+abbrev pub ProbesDigits : ℕ → Probed → Probed → Type 0
+ProbesDigits more before after = (digits : ℕ) → before.subject.blocks < 2 ^ digits
+    → after.probes ≤ before.probes + digits + more
+
+-- each delta is in a block that has a head
+abbrev pub DeltasHaveHeads : Subject → Type 0
+DeltasHaveHeads subject = length subject.deltas ≤ 64 * subject.blocks
+
+-- each block has a delta
+abbrev pub HeadsHaveDeltas : Subject → Type 0
+HeadsHaveDeltas subject = 64 * subject.blocks < length subject.deltas + 64
+
+-- how many heads or deltas there are
+abbrev pub size_of : Subject → Level → ℕ
+size_of subject Heads = subject.blocks
+size_of subject Deltas = length subject.deltas
+
 -- whether a head passes a test
 abbrev pub head_passes : Test → BlockHead → Bool
 head_passes (Begins offset) head = nat_lt head.input_offset offset
-head_passes (IsPlaced offset) head = nat_le head.output_place offset
+head_passes (IsPlaced offset) head = nat_le head.output_offset offset
 
 -- whether a delta does
 abbrev pub passes : Test → RelaxDelta → Bool
 passes test delta = head_passes test (head_of delta)
 
+-- whether the head or delta at an index does
+abbrev pub passing : Subject → Level → Test → ℕ → Bool
+passing subject Heads test at = head_passes test (subject.head at)
+passing subject Deltas test at = passes test (slice_index_or subject.deltas at no_delta)
+
 -- none that passes comes after one that fails
-abbrev pub IsPartitioned : (ℕ → Bool) → ℕ → Type 0
-IsPartitioned passing size = (i j : ℕ) → i ≤ j → j < size → passing j ≡ true → passing i ≡ true
+abbrev pub IsPartitioned : Subject → Level → Test → Type 0
+IsPartitioned subject level test = (i j : ℕ) → i ≤ j → j < size_of subject level
+    → passing subject level test j ≡ true → passing subject level test i ≡ true
 
 -- those below the point pass, and those from it on fail
-pub record IsPointOf (passing : ℕ → Bool) (size point : ℕ) : Type 0 where
-  pub before : (k : ℕ) → k < point → passing k ≡ true
-  pub after : (k : ℕ) → point ≤ k → k < size → passing k ≡ false
+pub record IsPointOf (subject : Subject) (level : Level) (test : Test) (point : ℕ) : Type 0 where
+  pub before : (k : ℕ) → k < point → passing subject level test k ≡ true
+  pub after : (k : ℕ) → point ≤ k → k < size_of subject level
+      → passing subject level test k ≡ false
 
 -- a head passes where the first delta of its block does, and each delta is in a block
-pub record HeadsAgree (heads deltas : ℕ → Bool) (blocks size : ℕ) : Type 0 where
-  pub same : (b : ℕ) → b < blocks → heads b ≡ deltas (64 * b)
-  pub all : size ≤ 64 * blocks
+pub record HeadsAgree (subject : Subject) (test : Test) : Type 0 where
+  pub same : (b : ℕ) → b < subject.blocks
+      → passing subject Heads test b ≡ passing subject Deltas test (64 * b)
+  pub all : DeltasHaveHeads subject
 
 -- a search range lies below a size of 64 bits
-pub record IsRangeOf (range : SearchRange) (size : ℕ) : Type 0 where
-  pub end : range.start + range.len ≤ size
-  pub fits : size < 2 ^ 64
+pub record IsRangeOf (subject : Subject) (level : Level) (range : SearchRange) : Type 0 where
+  pub end : range.start + range.len ≤ size_of subject level
+  pub fits : size_of subject level < 2 ^ 64
 
 -- all before a search range are known to pass, and all after it to fail
-pub record IsNarrowed (passing : ℕ → Bool) (size : ℕ) (range : SearchRange) : Type 0 where
-  pub before : (k : ℕ) → k < range.start → passing k ≡ true
-  pub after : (k : ℕ) → range.start + range.len ≤ k → k < size → passing k ≡ false
+pub record IsNarrowed (subject : Subject) (level : Level) (test : Test) (range : SearchRange)
+    : Type 0 where
+  pub before : (k : ℕ) → k < range.start → passing subject level test k ≡ true
+  pub after : (k : ℕ) → range.start + range.len ≤ k → k < size_of subject level
+      → passing subject level test k ≡ false
 
 -- a power of two
 abbrev pub IsPowerOfTwo : ℕ → Type 0
 IsPowerOfTwo n = (exponent : ℕ) × (n ≡ 2 ^ exponent)
+
+-- the first `width` elements of a range and the last, from `middle` on, are all of it
+pub record AreParts (range : SearchRange) (middle width : ℕ) : Type 0 where
+  pub shorter : width < range.len
+  pub all : range.len ≤ 2 * width
+  pub end : middle + width ≡ range.start + range.len
 
 -- `width` elements of a range, or all of a shorter one
 pub record IsPartOf (all : SearchRange) (width : ℕ) (part : SearchRange) : Type 0 where
@@ -54,12 +110,15 @@ pub record IsPartOf (all : SearchRange) (width : ℕ) (part : SearchRange) : Typ
 abbrev pub CanHalve : ℕ → ℕ → ℕ → Type 0
 CanHalve limit probes len = (left : ℕ) × (len ≤ 2 ^ left) × (probes + left ≤ limit)
 
--- what halvings leave of a search range, and of the probes
-pub record Narrows (passing : ℕ → Bool) (size : ℕ) (before : SearchRange) (spent : ℕ)
-    (after : SearchRange) (now : ℕ) : Type 0 where
-  pub within : IsRangeOf after size
-  pub some : 0 < before.len → 0 < after.len
-  pub first : passing before.start ≡ true → passing after.start ≡ true
-  pub narrowed : IsPartitioned passing size → IsNarrowed passing size before
-      → IsNarrowed passing size after
-  pub can : (limit : ℕ) → CanHalve limit spent before.len → CanHalve limit now after.len
+-- what halvings leave of a search range, with at most so many probes
+pub record Narrows (most : ℕ) (level : Level) (test : Test) (before : Probed) (range : SearchRange)
+    (after : Probed) (part : SearchRange) : Type 0 where
+  pub probes : OnlyProbes most before after
+  pub within : IsRangeOf after.subject level part
+  pub some : 0 < range.len → 0 < part.len
+  pub first : passing before.subject level test range.start ≡ true
+      → passing before.subject level test part.start ≡ true
+  pub narrowed : IsPartitioned before.subject level test
+      → IsNarrowed before.subject level test range → IsNarrowed before.subject level test part
+  pub can : (limit : ℕ) → CanHalve limit before.probes range.len
+      → CanHalve limit after.probes part.len

@@ -8,8 +8,7 @@ ghost use Rattle.linker_base.specs.Blocks.{output_offset_of, blocks_of, head_of,
 ghost use Rattle.linker_base.specs.Deletions.{rank, IsSelected, HasInput};
 ghost use Rattle.linker_base.specs.Deltas.{deletions_of};
 ghost use Rattle.linker_base.specs.Listed.{AreValidDeltas};
-ghost use Rattle.linker_base.specs.Inner.Blocks.{no_delta, size_of, passing_of, heads_kept};
-ghost use Rattle.linker_base.specs.Inner.Blocks.{AreKeptHeads};
+ghost use Rattle.linker_base.specs.Inner.Blocks.{list_subject, heads_kept, AreKeptHeads};
 
 use super::delta_slice::rank_after;
 use super::partition_point::{FEW, Level, Probe, Test, search};
@@ -26,7 +25,7 @@ pub struct BlockHead {
     /// The input offset of the block's first delta.
     pub input_offset: u64,
     /// Its output offset: the input offset less the bytes of all deletions before.
-    pub output_place: u64,
+    pub output_offset: u64,
 }
 
 impl BlockHead {
@@ -37,7 +36,7 @@ impl BlockHead {
     {
         BlockHead {
             input_offset: delta.input_offset,
-            output_place: delta.output_offset(),
+            output_offset: delta.output_offset(),
         }
     }
 }
@@ -85,13 +84,10 @@ pub trait Looks {
 }
 
 impl<K: Looks> Probe for K {
-    ghost deltas = { K.listed };
-
-    ghost size = { λ looks. size_of (blocks_of (length (K.listed looks))) (length (K.listed looks)) };
-
-    ghost passing = { λ looks. passing_of (λ at. head_of (slice_index_or (K.listed looks) (64 * at) no_delta)) (K.listed looks) };
-
-    ghost probes = { K.looked };
+    ghost state = { λ looks. record {
+      subject = list_subject (K.listed looks);
+      probes = K.looked looks;
+    } };
 
     #[inline(always)]
     fn len(&self, level: Level) -> usize {
@@ -106,10 +102,10 @@ impl<K: Looks> Probe for K {
     fn passes(&mut self, level: Level, test: Test, at: usize) -> bool {
         match level {
             Level::Heads => {
-                let (input_offset, output_place) = self.head(at);
+                let (input_offset, output_offset) = self.head(at);
                 test.head_passes(&BlockHead {
                     input_offset,
-                    output_place,
+                    output_offset,
                 })
             }
             Level::Deltas => test.passes(&self.delta(at)),
@@ -135,7 +131,8 @@ impl<'a> Model for Counted<'a> {
 
     ghost view = { λ counted. record { listed = counted.deltas.now; looked = counted.count } };
 
-    ghost invariant = { λ counted. AreValidDeltas counted.deltas.now × AreKeptHeads counted.deltas.now counted.heads.now };
+    ghost invariant = { λ counted. AreValidDeltas counted.deltas.now
+        × AreKeptHeads counted.deltas.now counted.heads.now };
 }
 
 impl<'a> Counted<'a> {
@@ -173,10 +170,10 @@ impl<'a> Looks for Counted<'a> {
         self.count += 1;
         if self.deltas.len() <= FEW {
             let first = BlockHead::of(&self.deltas[BLOCK_LEN * block]);
-            return (first.input_offset, first.output_place);
+            return (first.input_offset, first.output_offset);
         }
         let head = self.heads[block];
-        (head.input_offset, head.output_place)
+        (head.input_offset, head.output_offset)
     }
 
     #[inline(always)]

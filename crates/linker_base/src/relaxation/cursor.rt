@@ -30,7 +30,10 @@ impl<'a> Model for RelaxCursor<'a> {
 
     ghost Value = { Walk };
 
-    ghost view = { λ cursor. record { deletions = map deletion_of cursor.deltas.now; passed = cursor.reached.passed } };
+    ghost view = { λ cursor. record {
+      deletions = map deletion_of cursor.deltas.now;
+      passed = cursor.reached.passed;
+    } };
 
     ghost invariant = { λ cursor. IsWalking cursor.deltas.now cursor.reached };
 }

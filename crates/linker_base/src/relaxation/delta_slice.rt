@@ -10,7 +10,7 @@ ghost use Rattle.linker_base.specs.Deletions.{HasInput};
 ghost use Rattle.linker_base.specs.Blocks.{blocks_of, AreHeads, IsValidView};
 ghost use Rattle.linker_base.specs.Deltas.{deletions_of};
 ghost use Rattle.linker_base.specs.Listed.{AreValidDeltas, AreValidTogether, IsFirstOverlapping};
-ghost use Rattle.linker_base.specs.Inner.Blocks.{no_head, size_of, passing_of};
+ghost use Rattle.linker_base.specs.Inner.Blocks.{view_subject};
 ghost use Rattle.linker_base.specs.Inner.Listed.{ArePlaced, IsOnlyAt};
 
 use super::RelaxDelta;
@@ -45,13 +45,7 @@ impl<'a> Model for DeltaSlice<'a> {
 }
 
 impl<'a> Probe for DeltaSlice<'a> {
-    ghost deltas = { λ slice. slice.deltas };
-
-    ghost size = { λ slice. size_of (length slice.heads) (length slice.deltas) };
-
-    ghost passing = { λ slice. passing_of (λ at. slice_index_or slice.heads at no_head) slice.deltas };
-
-    ghost probes = { λ slice. 0 };
+    ghost state = { λ slice. record { subject = view_subject slice; probes = 0 } };
 
     #[inline(always)]
     fn len(&self, level: Level) -> usize {
@@ -156,7 +150,8 @@ impl<'a> DeltaSlice<'a> {
     /// The bytes that all deletions take together.
     #[inline]
     pub fn total_deleted(&self) -> u64
-        ensures { AreValidDeltas self.now.deltas → result ≡ bytes_of (deletions_of self.now.deltas) }
+        ensures { AreValidDeltas self.now.deltas
+            → result ≡ bytes_of (deletions_of self.now.deltas) }
     {
         bytes_of_first(self.deltas(), self.len())
     }
@@ -394,8 +389,10 @@ impl<'a> DeltaSlice<'a> {
     /// deletions that `can_merge_ascending` accepts, and `merged` as long as both.
     pub fn merge_ascending<D: AsDeletion>(&self, additional: &[D], merged: &mut [RelaxDelta])
         requires places { length merged.old ≡ length self.now.deltas + length additional.now }
-        requires valid { AreValidTogether (deletions_of self.now.deltas) (map D.deletion additional.now) }
-        ensures union { IsSortedUnion (deletions_of self.now.deltas ++ map D.deletion additional.now)
+        requires valid { AreValidTogether (deletions_of self.now.deltas)
+            (map D.deletion additional.now) }
+        ensures union { IsSortedUnion
+            (deletions_of self.now.deltas ++ map D.deletion additional.now)
             (deletions_of merged.new) }
         ensures listed { AreValidDeltas merged.new }
     {

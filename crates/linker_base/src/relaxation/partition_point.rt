@@ -1,15 +1,14 @@
 //! Branchless binary search among deltas, and among the heads of their blocks.
 
-ghost use Rattle.std.specs.Prelude.{◌≡◌, ◌<◌, ◌≤◌, ◌+◌, ◌-◌, ◌*◌, ◌^◌, ℕ, Bool, List, true, false};
-ghost use Rattle.linker_base.specs.declared.relaxation.RelaxDelta.{RelaxDelta};
+ghost use Rattle.std.specs.Prelude.{◌≡◌, ◌<◌, ◌≤◌, ◌+◌, ◌-◌, ◌*◌, ◌^◌, ℕ, length, true, false};
 ghost use Rattle.linker_base.specs.declared.relaxation.partition_point.Level.TheVariants.{Heads};
 ghost use Rattle.linker_base.specs.declared.relaxation.partition_point.Level.TheVariants.{Deltas};
-ghost use Rattle.linker_base.specs.declared.relaxation.partition_point.Level.{Level};
-ghost use Rattle.linker_base.specs.declared.relaxation.partition_point.Test.{Test};
+ghost use Rattle.linker_base.specs.Inner.PartitionPoint.{Probed, OnlyProbes, size_of, passing};
 ghost use Rattle.linker_base.specs.Inner.PartitionPoint.{passes, head_passes, IsRangeOf, IsPartOf};
 ghost use Rattle.linker_base.specs.Inner.PartitionPoint.{IsPartitioned, IsPointOf, IsNarrowed};
 ghost use Rattle.linker_base.specs.Inner.PartitionPoint.{CanHalve, HeadsAgree, IsPowerOfTwo};
-ghost use Rattle.linker_base.specs.Inner.PartitionPoint.{Narrows};
+ghost use Rattle.linker_base.specs.Inner.PartitionPoint.{AreParts, Narrows, ProbesDigits};
+ghost use Rattle.linker_base.specs.Inner.PartitionPoint.{DeltasHaveHeads, HeadsHaveDeltas};
 
 use super::RelaxDelta;
 use super::blocks::{BLOCK_LEN, BlockHead};
@@ -43,7 +42,7 @@ impl Test {
     {
         match self {
             Test::Begins(offset) => head.input_offset < offset,
-            Test::IsPlaced(offset) => head.output_place <= offset,
+            Test::IsPlaced(offset) => head.output_offset <= offset,
         }
     }
 }
@@ -57,32 +56,21 @@ pub(super) enum Level {
 
 /// Deltas and heads that are read one at a time. Nothing is promised of their contents.
 pub(super) trait Probe {
-    /// The deltas.
-    ghost deltas: { Self → List RelaxDelta };
-
-    /// How many deltas or heads there are.
-    ghost size: { Self → Level → ℕ };
-
-    /// Which of them pass a test.
-    ghost passing: { Self → Level → Test → ℕ → Bool };
-
-    /// How many were read.
-    ghost probes: { Self → ℕ };
+    /// What is searched, and how many probes were taken.
+    ghost state: { Self → Probed };
 
     fn len(&self, level: Level) -> usize
-        ensures size { result ≡ size self.now level }
-        ensures blocks { 64 * size self.now Heads < size self.now Deltas + 64 }
-        ensures few { size self.now Heads < 2 ^ 59 }
-        ensures alone { size self.now Heads ≡ 0 → size self.now Deltas < 2 ^ 60 };
+        ensures size { result ≡ size_of (state self.now).subject level }
+        ensures blocks { HeadsHaveDeltas (state self.now).subject }
+        ensures few { (state self.now).subject.blocks < 2 ^ 59 }
+        ensures alone { (state self.now).subject.blocks ≡ 0
+            → length (state self.now).subject.deltas < 2 ^ 60 };
 
     fn passes(&mut self, level: Level, test: Test, at: usize) -> bool
-        requires within { at < size self.old level }
-        requires room { probes self.old < 2 ^ 63 }
-        ensures value { result ≡ passing self.old level test at }
-        ensures same_size { size self.new ≡ size self.old }
-        ensures same { passing self.new ≡ passing self.old }
-        ensures same_deltas { deltas self.new ≡ deltas self.old }
-        ensures counted { probes self.new ≤ probes self.old + 1 };
+        requires within { at < size_of (state self.old).subject level }
+        requires room { (state self.old).probes < 2 ^ 63 }
+        ensures value { result ≡ passing (state self.old).subject level test at }
+        ensures probes { OnlyProbes 1 (state self.old) (state self.new) };
 }
 
 /// `len` elements from `start` on. All before them pass, and all after them fail.
@@ -95,15 +83,10 @@ pub(super) struct SearchRange {
 /// The half of the range, rounded up, in which the partition point lies.
 #[inline(always)]
 fn halve<P: Probe>(probe: &mut P, level: Level, test: Test, range: SearchRange) -> SearchRange
-    requires within { IsRangeOf range (P.size probe.old level) }
-    requires room { P.probes probe.old < 2 ^ 63 }
-    ensures same_size { P.size probe.new ≡ P.size probe.old }
-    ensures same { P.passing probe.new ≡ P.passing probe.old }
-    ensures same_deltas { P.deltas probe.new ≡ P.deltas probe.old }
-    ensures narrows { Narrows (P.passing probe.old level test) (P.size probe.old level) range
-        (P.probes probe.old) result (P.probes probe.new) }
+    requires within { IsRangeOf (P.state probe.old).subject level range }
+    requires room { (P.state probe.old).probes < 2 ^ 63 }
+    ensures narrows { Narrows 1 level test (P.state probe.old) range (P.state probe.new) result }
     ensures half { 2 * result.len ≤ range.len + 1 }
-    ensures counted { P.probes probe.new ≤ P.probes probe.old + 1 }
 {
     if range.len <= 1 {
         return range;
@@ -131,18 +114,12 @@ fn choose<P: Probe>(
     middle: usize,
     width: usize,
 ) -> SearchRange
-    requires within { IsRangeOf range (P.size probe.old level) }
+    requires within { IsRangeOf (P.state probe.old).subject level range }
     requires power { IsPowerOfTwo width }
-    requires few { (width < range.len) × (range.len ≤ 2 * width) }
-    requires end { middle + width ≡ range.start + range.len }
-    requires room { P.probes probe.old < 2 ^ 63 }
-    ensures same_size { P.size probe.new ≡ P.size probe.old }
-    ensures same { P.passing probe.new ≡ P.passing probe.old }
-    ensures same_deltas { P.deltas probe.new ≡ P.deltas probe.old }
-    ensures narrows { Narrows (P.passing probe.old level test) (P.size probe.old level) range
-        (P.probes probe.old) result (P.probes probe.new) }
+    requires parts { AreParts range middle width }
+    requires room { (P.state probe.old).probes < 2 ^ 63 }
+    ensures narrows { Narrows 1 level test (P.state probe.old) range (P.state probe.new) result }
     ensures len { result.len ≡ width }
-    ensures counted { P.probes probe.new ≤ P.probes probe.old + 1 }
 {
     let start = if probe.passes(level, test, middle) {
         middle
@@ -165,18 +142,13 @@ fn narrow<P: Probe>(
     part: SearchRange,
     width: usize,
 ) -> SearchRange
-    requires within { IsRangeOf part (P.size probe.old level) }
+    requires within { IsRangeOf (P.state probe.old).subject level part }
     requires power { IsPowerOfTwo width }
     requires small { width < 2 ^ 62 }
     requires part { IsPartOf all (2 * width) part }
-    requires room { P.probes probe.old < 2 ^ 63 }
-    ensures same_size { P.size probe.new ≡ P.size probe.old }
-    ensures same { P.passing probe.new ≡ P.passing probe.old }
-    ensures same_deltas { P.deltas probe.new ≡ P.deltas probe.old }
-    ensures narrows { Narrows (P.passing probe.old level test) (P.size probe.old level) part
-        (P.probes probe.old) result (P.probes probe.new) }
+    requires room { (P.state probe.old).probes < 2 ^ 63 }
+    ensures narrows { Narrows 1 level test (P.state probe.old) part (P.state probe.new) result }
     ensures part { IsPartOf all width result }
-    ensures counted { P.probes probe.new ≤ P.probes probe.old + 1 }
 {
     if all.len > 2 * width {
         return choose(probe, level, test, part, part.start + width, width);
@@ -200,18 +172,13 @@ fn narrow_five_times<P: Probe>(
     part: SearchRange,
     width: usize,
 ) -> SearchRange
-    requires within { IsRangeOf part (P.size probe.old level) }
+    requires within { IsRangeOf (P.state probe.old).subject level part }
     requires power { IsPowerOfTwo width }
     requires small { width < 2 ^ 32 }
     requires part { IsPartOf all (32 * width) part }
-    requires room { P.probes probe.old < 2 ^ 62 }
-    ensures same_size { P.size probe.new ≡ P.size probe.old }
-    ensures same { P.passing probe.new ≡ P.passing probe.old }
-    ensures same_deltas { P.deltas probe.new ≡ P.deltas probe.old }
-    ensures narrows { Narrows (P.passing probe.old level test) (P.size probe.old level) part
-        (P.probes probe.old) result (P.probes probe.new) }
+    requires room { (P.state probe.old).probes < 2 ^ 62 }
+    ensures narrows { Narrows 5 level test (P.state probe.old) part (P.state probe.new) result }
     ensures part { IsPartOf all width result }
-    ensures counted { P.probes probe.new ≤ P.probes probe.old + 5 }
 {
     if all.len <= width {
         return part;
@@ -227,18 +194,15 @@ fn narrow_five_times<P: Probe>(
 /// three elements are read side by side, so that a long list waits for memory half as often.
 #[inline(always)]
 fn quarter<P: Probe>(probe: &mut P, level: Level, test: Test, range: SearchRange) -> SearchRange
-    requires within { IsRangeOf range (P.size probe.old level) }
+    requires within { IsRangeOf (P.state probe.old).subject level range }
     requires long { 4 ≤ range.len }
-    requires room { P.probes probe.old < 2 ^ 62 }
-    ensures same_size { P.size probe.new ≡ P.size probe.old }
-    ensures same { P.passing probe.new ≡ P.passing probe.old }
-    ensures same_deltas { P.deltas probe.new ≡ P.deltas probe.old }
-    ensures within { IsRangeOf result (P.size probe.old level) }
+    requires room { (P.state probe.old).probes < 2 ^ 62 }
+    ensures probes { OnlyProbes 3 (P.state probe.old) (P.state probe.new) }
+    ensures within { IsRangeOf (P.state probe.old).subject level result }
     ensures shorter { 4 * result.len ≤ range.len + 12 }
-    ensures narrowed { IsPartitioned (P.passing probe.old level test) (P.size probe.old level)
-        → IsNarrowed (P.passing probe.old level test) (P.size probe.old level) range
-        → IsNarrowed (P.passing probe.old level test) (P.size probe.old level) result }
-    ensures counted { P.probes probe.new ≤ P.probes probe.old + 3 }
+    ensures narrowed { IsPartitioned (P.state probe.old).subject level test
+        → IsNarrowed (P.state probe.old).subject level test range
+        → IsNarrowed (P.state probe.old).subject level test result }
 {
     let quarter = range.len / 4;
     let first = probe.passes(level, test, range.start + quarter) as usize;
@@ -253,15 +217,11 @@ fn quarter<P: Probe>(probe: &mut P, level: Level, test: Test, range: SearchRange
 /// The part of the range, of 2^20 elements at most, in which the partition point lies.
 #[inline(always)]
 fn shorten<P: Probe>(probe: &mut P, level: Level, test: Test, range: SearchRange) -> SearchRange
-    requires within { IsRangeOf range (P.size probe.old level) }
-    requires room { P.probes probe.old + range.len < 2 ^ 61 }
-    ensures same_size { P.size probe.new ≡ P.size probe.old }
-    ensures same { P.passing probe.new ≡ P.passing probe.old }
-    ensures same_deltas { P.deltas probe.new ≡ P.deltas probe.old }
-    ensures narrows { Narrows (P.passing probe.old level test) (P.size probe.old level) range
-        (P.probes probe.old) result (P.probes probe.new) }
+    requires within { IsRangeOf (P.state probe.old).subject level range }
+    requires room { (P.state probe.old).probes + range.len < 2 ^ 61 }
+    ensures narrows { Narrows range.len level test (P.state probe.old) range
+        (P.state probe.new) result }
     ensures short { result.len ≤ 1048576 }
-    ensures room { P.probes probe.new < 2 ^ 61 }
 {
     let mut part = range;
     while part.len > 1048576 {
@@ -279,19 +239,16 @@ fn point_in<P: Probe>(
     all: SearchRange,
     part: SearchRange,
 ) -> usize
-    requires within { IsRangeOf part (P.size probe.old level) }
+    requires within { IsRangeOf (P.state probe.old).subject level part }
     requires part { IsPartOf all 1024 part }
-    requires room { P.probes probe.old < 2 ^ 61 + 10 }
-    ensures same_size { P.size probe.new ≡ P.size probe.old }
-    ensures same { P.passing probe.new ≡ P.passing probe.old }
-    ensures same_deltas { P.deltas probe.new ≡ P.deltas probe.old }
-    ensures within { result ≤ P.size probe.old level }
-    ensures point { IsPartitioned (P.passing probe.old level test) (P.size probe.old level)
-        → IsNarrowed (P.passing probe.old level test) (P.size probe.old level) part
-        → IsPointOf (P.passing probe.old level test) (P.size probe.old level) result }
-    ensures spent { (limit : ℕ) → CanHalve limit (P.probes probe.old) part.len
-        → P.probes probe.new ≤ limit + 1 }
-    ensures counted { P.probes probe.new ≤ P.probes probe.old + 11 }
+    requires room { (P.state probe.old).probes < 2 ^ 61 + 10 }
+    ensures probes { OnlyProbes 11 (P.state probe.old) (P.state probe.new) }
+    ensures within { result ≤ size_of (P.state probe.old).subject level }
+    ensures point { IsPartitioned (P.state probe.old).subject level test
+        → IsNarrowed (P.state probe.old).subject level test part
+        → IsPointOf (P.state probe.old).subject level test result }
+    ensures spent { (limit : ℕ) → CanHalve limit (P.state probe.old).probes part.len
+        → (P.state probe.new).probes ≤ limit + 1 }
 {
     let some = narrow_five_times(probe, level, test, all, part, 32);
     let last = narrow_five_times(probe, level, test, all, some, 1);
@@ -304,17 +261,13 @@ fn point_in<P: Probe>(
 /// How many heads pass.
 #[inline(always)]
 fn search_heads<P: Probe>(probe: &mut P, test: Test) -> usize
-    requires room { P.probes probe.old < 2 ^ 33 }
-    ensures same_size { P.size probe.new ≡ P.size probe.old }
-    ensures same { P.passing probe.new ≡ P.passing probe.old }
-    ensures same_deltas { P.deltas probe.new ≡ P.deltas probe.old }
-    ensures within { result ≤ P.size probe.old Heads }
-    ensures point { IsPartitioned (P.passing probe.old Heads test) (P.size probe.old Heads)
-        → IsPointOf (P.passing probe.old Heads test) (P.size probe.old Heads) result }
-    ensures spent { (digits : ℕ) → P.size probe.old Heads < 2 ^ digits
-        → P.probes probe.new ≤ P.probes probe.old + digits + 1 }
-    ensures room { P.probes probe.new < 2 ^ 61 + 21 }
-    ensures blocks { 64 * P.size probe.old Heads < P.size probe.old Deltas + 64 }
+    requires room { (P.state probe.old).probes < 2 ^ 33 }
+    ensures probes { OnlyProbes (2 ^ 60) (P.state probe.old) (P.state probe.new) }
+    ensures within { result ≤ (P.state probe.old).subject.blocks }
+    ensures point { IsPartitioned (P.state probe.old).subject Heads test
+        → IsPointOf (P.state probe.old).subject Heads test result }
+    ensures spent { ProbesDigits 1 (P.state probe.old) (P.state probe.new) }
+    ensures blocks { HeadsHaveDeltas (P.state probe.old).subject }
 {
     let range = SearchRange {
         start: 0,
@@ -329,19 +282,16 @@ fn search_heads<P: Probe>(probe: &mut P, test: Test) -> usize
 /// How many deltas pass, where the first of the block does and none after the block.
 #[inline(always)]
 fn search_block<P: Probe>(probe: &mut P, test: Test, block: usize) -> usize
-    requires begins { 64 * block < P.size probe.old Deltas }
-    requires long { 64 ≤ P.size probe.old Deltas }
-    requires room { P.probes probe.old < 2 ^ 62 - 6 }
-    ensures same_size { P.size probe.new ≡ P.size probe.old }
-    ensures same { P.passing probe.new ≡ P.passing probe.old }
-    ensures same_deltas { P.deltas probe.new ≡ P.deltas probe.old }
-    ensures within { 0 < result × (result ≤ P.size probe.old Deltas) }
-    ensures point { IsPartitioned (P.passing probe.old Deltas test) (P.size probe.old Deltas)
-        → P.passing probe.old Deltas test (64 * block) ≡ true
-        → ((k : ℕ) → 64 * block + 64 ≤ k → k < P.size probe.old Deltas
-        → P.passing probe.old Deltas test k ≡ false)
-        → IsPointOf (P.passing probe.old Deltas test) (P.size probe.old Deltas) result }
-    ensures spent { P.probes probe.new ≤ P.probes probe.old + 6 }
+    requires begins { 64 * block < length (P.state probe.old).subject.deltas }
+    requires long { 64 ≤ length (P.state probe.old).subject.deltas }
+    requires room { (P.state probe.old).probes < 2 ^ 62 - 6 }
+    ensures probes { OnlyProbes 6 (P.state probe.old) (P.state probe.new) }
+    ensures within { 0 < result × (result ≤ length (P.state probe.old).subject.deltas) }
+    ensures point { IsPartitioned (P.state probe.old).subject Deltas test
+        → passing (P.state probe.old).subject Deltas test (64 * block) ≡ true
+        → ((k : ℕ) → 64 * block + 64 ≤ k → k < length (P.state probe.old).subject.deltas
+        → passing (P.state probe.old).subject Deltas test k ≡ false)
+        → IsPointOf (P.state probe.old).subject Deltas test result }
 {
     let len = probe.len(Level::Deltas);
     // The last block may be shorter. Its search begins in the one before.
@@ -357,20 +307,14 @@ fn search_block<P: Probe>(probe: &mut P, test: Test, block: usize) -> usize
 /// How many deltas pass. Where they are more than a few and there are heads, by these first.
 #[inline(always)]
 pub(super) fn search<P: Probe>(probe: &mut P, test: Test) -> usize
-    requires room { P.probes probe.old < 2 ^ 33 }
-    ensures same_size { P.size probe.new ≡ P.size probe.old }
-    ensures same { P.passing probe.new ≡ P.passing probe.old }
-    ensures same_deltas { P.deltas probe.new ≡ P.deltas probe.old }
-    ensures within { result ≤ P.size probe.old Deltas }
-    ensures point { IsPartitioned (P.passing probe.old Deltas test) (P.size probe.old Deltas)
-        → (0 < P.size probe.old Heads
-        → HeadsAgree (P.passing probe.old Heads test) (P.passing probe.old Deltas test)
-        (P.size probe.old Heads) (P.size probe.old Deltas))
-        → IsPointOf (P.passing probe.old Deltas test) (P.size probe.old Deltas) result }
-    ensures spent { P.size probe.old Deltas ≤ 64 * P.size probe.old Heads
-        → (digits : ℕ) → P.size probe.old Heads < 2 ^ digits
-        → P.probes probe.new ≤ P.probes probe.old + digits + 7 }
-    ensures room { P.probes probe.new < 2 ^ 62 }
+    requires room { (P.state probe.old).probes < 2 ^ 33 }
+    ensures probes { OnlyProbes (2 ^ 61) (P.state probe.old) (P.state probe.new) }
+    ensures within { result ≤ length (P.state probe.old).subject.deltas }
+    ensures point { IsPartitioned (P.state probe.old).subject Deltas test
+        → (0 < (P.state probe.old).subject.blocks → HeadsAgree (P.state probe.old).subject test)
+        → IsPointOf (P.state probe.old).subject Deltas test result }
+    ensures spent { DeltasHaveHeads (P.state probe.old).subject
+        → ProbesDigits 7 (P.state probe.old) (P.state probe.new) }
 {
     let mut range = SearchRange {
         start: 0,
@@ -388,20 +332,15 @@ pub(super) fn search<P: Probe>(probe: &mut P, test: Test) -> usize
 /// How many deltas pass, by the heads of their blocks. There is a whole block.
 #[inline(always)]
 fn search_many<P: Probe>(probe: &mut P, test: Test) -> usize
-    requires room { P.probes probe.old < 2 ^ 33 }
-    requires long { 64 ≤ P.size probe.old Deltas }
-    ensures same_size { P.size probe.new ≡ P.size probe.old }
-    ensures same { P.passing probe.new ≡ P.passing probe.old }
-    ensures same_deltas { P.deltas probe.new ≡ P.deltas probe.old }
-    ensures within { result ≤ P.size probe.old Deltas }
-    ensures point { IsPartitioned (P.passing probe.old Deltas test) (P.size probe.old Deltas)
-        → HeadsAgree (P.passing probe.old Heads test) (P.passing probe.old Deltas test)
-        (P.size probe.old Heads) (P.size probe.old Deltas)
-        → IsPointOf (P.passing probe.old Deltas test) (P.size probe.old Deltas) result }
-    ensures spent { P.size probe.old Deltas ≤ 64 * P.size probe.old Heads
-        → (digits : ℕ) → P.size probe.old Heads < 2 ^ digits
-        → P.probes probe.new ≤ P.probes probe.old + digits + 7 }
-    ensures room { P.probes probe.new < 2 ^ 62 }
+    requires room { (P.state probe.old).probes < 2 ^ 33 }
+    requires long { 64 ≤ length (P.state probe.old).subject.deltas }
+    ensures probes { OnlyProbes (2 ^ 61) (P.state probe.old) (P.state probe.new) }
+    ensures within { result ≤ length (P.state probe.old).subject.deltas }
+    ensures point { IsPartitioned (P.state probe.old).subject Deltas test
+        → HeadsAgree (P.state probe.old).subject test
+        → IsPointOf (P.state probe.old).subject Deltas test result }
+    ensures spent { DeltasHaveHeads (P.state probe.old).subject
+        → ProbesDigits 7 (P.state probe.old) (P.state probe.new) }
 {
     match search_heads(probe, test).checked_sub(1) {
         Some(block) => search_block(probe, test, block),

@@ -12,6 +12,8 @@ ghost use Rattle.linker_utils.specs.Inner.FormLaws.{aarch64_keeps, aarch64_resto
 ghost use Rattle.linker_utils.specs.AArch64.{aarch64_form, aarch64_rewrite, aarch64_modifier};
 ghost use Rattle.linker_utils.specs.AArch64.{access_scale, rd_of, rn_of, mov_word, mov_words, mov4};
 ghost use Rattle.linker_utils.specs.AArch64.{moved_bits, move_opcode};
+ghost use Rattle.linker_utils.specs.AArch64Originals.{IsAdrp, IsAdd64, IsLdr64, IsIntoOwnSource};
+ghost use Rattle.linker_utils.specs.AArch64Originals.{AreOfOneRegister, IsAdrpPair, aarch64_matches};
 ghost use Rattle.linker_utils.specs.Relocate.{ored_cleared};
 ghost use Rattle.linker_utils.specs.Inner.Immediates.{is_ored_alone, aarch64_immediate};
 
@@ -101,6 +103,62 @@ fn source(word: u32) -> u32
     ensures { result ≡ rn_of word }
 {
     word >> 5 & 0x1f
+}
+
+/// `adrp xD`.
+#[inline(always)]
+fn is_adrp(word: u32) -> bool
+    ensures { IsTrue result ↔ IsAdrp word }
+{
+    word & 0x9f00_0000 == 0x9000_0000
+}
+
+/// `add xD, xN, #imm`, whose immediate isn't shifted.
+#[inline(always)]
+fn is_add64(word: u32) -> bool
+    ensures { IsTrue result ↔ IsAdd64 word }
+{
+    word & 0xffc0_0000 == 0x9100_0000
+}
+
+/// `ldr xD, [xN, #imm]`, whose offset is unsigned.
+#[inline(always)]
+fn is_ldr64(word: u32) -> bool
+    ensures { IsTrue result ↔ IsLdr64 word }
+{
+    word >> 22 == 0x3e5
+}
+
+/// Whether the source register is the destination register, and the same one: 31 as a source is the
+/// stack pointer, and as a destination of `ldr` it isn't.
+#[inline(always)]
+fn is_into_own_source(word: u32) -> bool
+    ensures { IsTrue result ↔ IsIntoOwnSource word }
+{
+    source(word) == destination(word) && destination(word) != 31
+}
+
+/// Whether the words are `adrp xN` and an instruction from xN into xN.
+#[inline(always)]
+fn are_of_one_register(adrp: u32, word: u32) -> bool
+    ensures { IsTrue result ↔ AreOfOneRegister adrp word }
+{
+    is_adrp(adrp) && is_into_own_source(word) && destination(adrp) == destination(word)
+}
+
+/// Whether `adrp xN` and `add xN, xN, #imm` or `ldr xN, [xN, #imm]`, both of 64 bits, stand next to
+/// each other: the second instruction at an offset of the section, and the `adrp` 4 bytes before it.
+/// Then the value that `adrp` leaves in xN is used by the second instruction alone, and the two may
+/// be rewritten together: to `nop` and `adr`, to another `adrp` and `add`, or to MOVZ and MOVK.
+#[inline]
+pub fn is_adrp_pair(section: &[u8], offset: u64) -> bool
+    ensures { IsTrue result ↔ IsAdrpPair section.now offset }
+{
+    if !has_window(section, offset, 4, 8) {
+        return false;
+    }
+    let word = word_at(section, offset);
+    (is_add64(word) || is_ldr64(word)) && are_of_one_register(word_at(section, offset - 4), word)
 }
 
 const NOP: u32 = 0xd503_201f;
@@ -200,7 +258,7 @@ impl RelaxationKind {
                 if !has_window(section, offset, 0, 4) {
                     return false;
                 }
-                word_at(section, offset) >> 22 == 0x3e5
+                is_ldr64(word_at(section, offset))
             }
             RelaxationKind::AdrpAddToNopAdr => has_window(section, offset, 4, 8),
             RelaxationKind::ReplaceWithNop
@@ -212,6 +270,40 @@ impl RelaxationKind {
             | RelaxationKind::LdrX0
             | RelaxationKind::AddToAdr
             | RelaxationKind::LdrToAdr => has_window(section, offset, 0, 4),
+        }
+    }
+
+    /// Whether the instruction at an offset of a section, or the pair that ends there, is one that the
+    /// rewrite is meant for: `can_apply`, and the opcodes and registers. `NoOp` is meant for any offset
+    /// and `ReplaceWithNop` for any instruction in the section.
+    #[inline]
+    pub fn matches(self, section: &[u8], offset: u64) -> bool
+        ensures exactly { IsTrue result ↔ aarch64_matches self section.now offset }
+        ensures rewritable { IsTrue result → CanRewrite (aarch64_rewrite self) section.now offset }
+    {
+        if let RelaxationKind::NoOp = self {
+            return true;
+        }
+        if !has_window(section, offset, 0, 4) {
+            return false;
+        }
+        let word = word_at(section, offset);
+        match self {
+            RelaxationKind::NoOp | RelaxationKind::ReplaceWithNop => true,
+            RelaxationKind::MovzX0Lsl16 | RelaxationKind::AdrpX0 => {
+                is_adrp(word) && destination(word) == 0
+            }
+            RelaxationKind::MovkX0 | RelaxationKind::LdrX0 => is_ldr64(word) && source(word) == 0,
+            RelaxationKind::MovzXnLsl16 | RelaxationKind::AdrpToAdr => is_adrp(word),
+            RelaxationKind::MovkXn => is_ldr64(word) && is_into_own_source(word),
+            RelaxationKind::AddToAdr => is_add64(word) && destination(word) != 31,
+            RelaxationKind::LdrToAdr => is_ldr64(word),
+            RelaxationKind::LdrToAdd => is_ldr64(word) && destination(word) != 31,
+            RelaxationKind::AdrpAddToNopAdr => {
+                4 <= offset
+                    && is_add64(word)
+                    && are_of_one_register(word_at(section, offset - 4), word)
+            }
         }
     }
 

@@ -65,6 +65,15 @@ impl RelaxationKind {
         }
     }
 
+    /// Whether the instruction at an offset of a section is one that the rewrite is meant for: `NoOp`
+    /// is meant for any offset, and `ReplaceWithNop` for any instruction in the section.
+    #[inline]
+    pub fn matches(self, section: &[u8], offset: u64) -> bool
+        ensures { IsTrue result ↔ CanRewrite (loongarch_rewrite self) section.now offset }
+    {
+        self.can_apply(section, offset)
+    }
+
     /// What happens to the next relocation: it is applied as usual.
     #[inline]
     pub fn next_modifier(&self) -> RelocationModifier

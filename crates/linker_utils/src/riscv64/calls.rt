@@ -41,7 +41,7 @@ fn is_even(distance: i64) -> bool
 /// The register that an instruction writes: its bits 7 to 11.
 #[inline(always)]
 #[tactic(auto, using(crate::proofs::Jumps::destination_bits))]
-fn destination(word: u32) -> u32
+pub(super) fn destination(word: u32) -> u32
     ensures { result ≡ field word 7 12 }
 {
     word >> 7 & 0x1f
@@ -65,7 +65,7 @@ pub fn is_plain_call(section: &[u8], site: u64) -> bool
 
 /// Whether the words are an `auipc` and a `jalr` whose base is the register of the `auipc`.
 #[inline(always)]
-fn is_call_pair(auipc: u32, jalr: u32) -> bool
+pub(super) fn is_call_pair(auipc: u32, jalr: u32) -> bool
     ensures { IsTrue result ↔ IsCallPair auipc jalr }
 {
     let (auipc, jalr) = (u64::from(auipc), u64::from(jalr));

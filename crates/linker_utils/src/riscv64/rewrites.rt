@@ -1,16 +1,19 @@
 //! RISC-V: relaxation rewrites.
 
 ghost use Rattle.linker_utils.specs.RiscV.{riscv_rewrites};
-ghost use Rattle.std.specs.Prelude.{slice_get, ◌≡◌, ◌≤◌, ◌↔◌, IsTrue, length, ◌≢◌};
-ghost use Rattle.std.specs.Int.{from_le_bytes, w16};
+ghost use Rattle.std.specs.Prelude.{slice_get, ◌≡◌, ◌≤◌, ◌↔◌, IsTrue, length, ◌≢◌, ◌+◌, drop};
+ghost use Rattle.std.specs.Int.{from_le_bytes, w16, w32};
 ghost use Rattle.linker_base.specs.Rewrite.{CanRewrite, rewritten, offset_after, addend_after};
 ghost use Rattle.linker_base.specs.Bits.{signed};
 ghost use Rattle.linker_utils.specs.RiscV.{riscv_rewrite, riscv_modifier, hi20, lo12, IsSigned32};
 ghost use Rattle.linker_utils.specs.RiscV.{FitsClui, HoldsHigh};
+ghost use Rattle.linker_utils.specs.RiscVOriginals.{opcode_of, funct3_of, adds_low12, IsTailCall};
+ghost use Rattle.linker_utils.specs.RiscVOriginals.{riscv_matches};
 ghost use Rattle.linker_utils.specs.Agrees.{RowFits};
 ghost use Rattle.linker_utils.specs.Readings.{RowReadsNoOther};
 ghost use Rattle.linker_utils.specs.RiscVRelocations.{clui_row};
 
+use super::calls::{destination, is_call_pair, is_plain_call};
 use super::relocations;
 use crate::bit_misc::BitExtraction;
 use crate::elf::{InstructionRewrite, RelocationKindInfo, RiscVInstruction};
@@ -28,7 +31,7 @@ pub enum RelaxationKind {
     /// Turns the `auipc` of an `auipc` and `jalr` pair into a `jal` of distance 0 with the
     /// `auipc`'s destination register (RISC-V ELF psABI, "Function Call Relaxation"). The caller
     /// deletes the `jalr` after it. If the `jalr` links another register than the `auipc`'s, as in
-    /// `tail f`, that is not the call's jump: `is_plain_call` is the test.
+    /// `tail f`, that is not the call's jump: `matches` is the test.
     CallToJal,
     /// Turns the first two bytes of a `lui` into a `c.lui` of immediate 0 with the `lui`'s
     /// destination register. The caller deletes the two bytes after it.
@@ -38,6 +41,58 @@ pub enum RelaxationKind {
     /// Clears bits 15 to 19: the source register of the instruction that adds the low part becomes
     /// x0.
     Lo12Rs1ToZero,
+    /// Turns the `auipc` of a tail call, whose `jalr` links no register, into a `jal x0` of distance
+    /// 0. The caller deletes the `jalr` after it.
+    TailToJal,
+    /// Turns the first two bytes of a tail call into a `c.j` of distance 0. Requires the C extension.
+    /// The caller deletes the six bytes after it.
+    TailToCJ,
+}
+
+/// The instruction at an offset of the section.
+#[inline(always)]
+fn word_at(section: &[u8], offset: u64) -> u32
+    requires { offset + 4 ≤ length section.now }
+    ensures { result ≡ from_le_bytes w32 (drop offset section.now) }
+{
+    u32_from_slice(&section[offset as usize..])
+}
+
+/// The opcode of an instruction.
+#[inline(always)]
+fn opcode(word: u32) -> u64
+    ensures { result ≡ opcode_of word }
+{
+    u64::from(word).extract_bit_range(0..7)
+}
+
+/// Whether an instruction adds a signed immediate of 12 bits to its source register.
+#[inline]
+fn adds_immediate(word: u32) -> bool
+    ensures { result ≡ adds_low12 (opcode_of word) (funct3_of word) }
+{
+    let function = u64::from(word).extract_bit_range(12..15);
+    match opcode(word) {
+        0x13 | 0x1b | 0x67 => function == 0,
+        0x03 => function < 7,
+        0x23 => function < 4,
+        0x07 | 0x27 => 0 < function && function < 5,
+        _ => false,
+    }
+}
+
+/// Whether the eight bytes at an offset of the section are a tail call: an `auipc`, and a `jalr` from
+/// its register that links none.
+#[inline]
+fn is_tail_call(section: &[u8], offset: u64) -> bool
+    ensures { IsTrue result ↔ IsTailCall section.now offset }
+{
+    if !has_window(section, offset, 0, 8) {
+        return false;
+    }
+    let auipc = word_at(section, offset);
+    let jalr = word_at(section, offset + 4);
+    is_call_pair(auipc, jalr) && destination(auipc) != 0 && destination(jalr) == 0
 }
 
 impl RelaxationKind {
@@ -53,6 +108,8 @@ impl RelaxationKind {
             3 => RelaxationKind::Hi20ToCLui,
             4 => RelaxationKind::Hi20Delete,
             5 => RelaxationKind::Lo12Rs1ToZero,
+            6 => RelaxationKind::TailToJal,
+            7 => RelaxationKind::TailToCJ,
             _ => return None,
         };
         Some(kind)
@@ -91,6 +148,10 @@ impl RelaxationKind {
                 let from_x0 = word >> 20 << 20 | word & 0x7fff;
                 overwrite(section_bytes, offset, &from_x0.to_le_bytes());
             }
+            RelaxationKind::TailToJal => {
+                overwrite(section_bytes, offset, &[0x6f, 0x00, 0x00, 0x00]);
+            }
+            RelaxationKind::TailToCJ => overwrite(section_bytes, offset, &[0x01, 0xa0]),
         }
     }
 
@@ -104,20 +165,53 @@ impl RelaxationKind {
             RelaxationKind::NoOp | RelaxationKind::Hi20Delete => true,
             RelaxationKind::ReplaceWithNop
             | RelaxationKind::CallToJal
-            | RelaxationKind::Lo12Rs1ToZero => has_window(section, offset, 0, 4),
-            RelaxationKind::Hi20ToCLui => has_window(section, offset, 0, 2),
+            | RelaxationKind::Lo12Rs1ToZero
+            | RelaxationKind::TailToJal => has_window(section, offset, 0, 4),
+            RelaxationKind::Hi20ToCLui | RelaxationKind::TailToCJ => {
+                has_window(section, offset, 0, 2)
+            }
         }
     }
 
-    /// What happens to the next relocation: `CallToJal` and `Hi20Delete` skip it.
+    /// Whether the instruction that begins at an offset of a section, or the pair, is one that the
+    /// rewrite is meant for: `can_apply`, and the opcodes and registers. `NoOp` is meant for any offset
+    /// and `ReplaceWithNop` for any four bytes of the section. `Lo12Rs1ToZero` is meant for `addi`,
+    /// `addiw`, `jalr`, loads and stores, which add the low part.
+    #[inline]
+    pub fn matches(self, section: &[u8], offset: u64) -> bool
+        ensures exactly { IsTrue result ↔ riscv_matches self section.now offset }
+        ensures rewritable { IsTrue result → CanRewrite (riscv_rewrite self) section.now offset }
+    {
+        if let RelaxationKind::NoOp = self {
+            return true;
+        }
+        if !has_window(section, offset, 0, 4) {
+            return false;
+        }
+        let word = word_at(section, offset);
+        match self {
+            RelaxationKind::NoOp | RelaxationKind::ReplaceWithNop => true,
+            RelaxationKind::CallToJal => is_plain_call(section, offset) && destination(word) != 0,
+            RelaxationKind::Hi20ToCLui => {
+                opcode(word) == 0x37 && RelaxationKind::rd_valid_for_clui(destination(word))
+            }
+            RelaxationKind::Hi20Delete => opcode(word) == 0x37,
+            RelaxationKind::Lo12Rs1ToZero => adds_immediate(word),
+            RelaxationKind::TailToJal | RelaxationKind::TailToCJ => is_tail_call(section, offset),
+        }
+    }
+
+    /// What happens to the next relocation: `CallToJal`, `TailToJal`, `TailToCJ` and `Hi20Delete` skip
+    /// it.
     #[inline]
     pub fn next_modifier(&self) -> RelocationModifier
         ensures { result ≡ riscv_modifier self.now }
     {
         match self {
-            RelaxationKind::CallToJal | RelaxationKind::Hi20Delete => {
-                RelocationModifier::SkipNextRelocation
-            }
+            RelaxationKind::CallToJal
+            | RelaxationKind::Hi20Delete
+            | RelaxationKind::TailToJal
+            | RelaxationKind::TailToCJ => RelocationModifier::SkipNextRelocation,
             RelaxationKind::NoOp
             | RelaxationKind::ReplaceWithNop
             | RelaxationKind::Hi20ToCLui

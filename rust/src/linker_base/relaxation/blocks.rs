@@ -17,7 +17,7 @@ pub struct BlockHead {
     /// The input offset of the block's first delta.
     pub input_offset: u64,
     /// Its output offset: the input offset less the bytes of all deletions before.
-    pub output_place: u64,
+    pub output_offset: u64,
 }
 
 impl BlockHead {
@@ -26,7 +26,7 @@ impl BlockHead {
     fn of(delta: &RelaxDelta) -> BlockHead {
         BlockHead {
             input_offset: delta.input_offset,
-            output_place: delta.output_offset(),
+            output_offset: delta.output_offset(),
         }
     }
 }
@@ -78,10 +78,10 @@ impl<K: Looks> Probe for K {
     fn passes(&mut self, level: Level, test: Test, at: usize) -> bool {
         match level {
             Level::Heads => {
-                let (input_offset, output_place) = self.head(at);
+                let (input_offset, output_offset) = self.head(at);
                 test.head_passes(&BlockHead {
                     input_offset,
-                    output_place,
+                    output_offset,
                 })
             }
             Level::Deltas => test.passes(&self.delta(at)),
@@ -126,10 +126,10 @@ impl<'a> Looks for Counted<'a> {
         self.count += 1;
         if self.deltas.len() <= FEW {
             let first = BlockHead::of(&self.deltas[BLOCK_LEN * block]);
-            return (first.input_offset, first.output_place);
+            return (first.input_offset, first.output_offset);
         }
         let head = self.heads[block];
-        (head.input_offset, head.output_place)
+        (head.input_offset, head.output_offset)
     }
 
     #[cfg_attr(debug_assertions, track_caller)]

@@ -29,7 +29,7 @@ impl Test {
     pub(super) fn head_passes(self, head: &BlockHead) -> bool {
         match self {
             Test::Begins(offset) => head.input_offset < offset,
-            Test::IsPlaced(offset) => head.output_place <= offset,
+            Test::IsPlaced(offset) => head.output_offset <= offset,
         }
     }
 }
