@@ -228,7 +228,15 @@ enum linker_utils_ppc64_rewrite {
     LINKER_UTILS_PPC64_REWRITE_NO_OP = 0
 };
 
-/* Where `n` is marked it is the count of the instruction's bytes before the field. */
+/* Where `n` is marked it is the count of the instruction's bytes before the field: 2 without a
+ * prefix, 3 with REX, 4 with REX2 and 6 with EVEX. The relocation of the field afterwards:
+ *   MOV_INDIRECT_TO_LEA, CALL_ and JMP_INDIRECT_TO_RELATIVE   R_X86_64_PC32
+ *   .._TO_ABSOLUTE           R_X86_64_32S, without a prefix R_X86_64_32; of MOV and ADD also
+ *                            R_X86_64_TPOFF32, in place of R_X86_64_GOTTPOFF
+ *   TLS_GD_ and TLS_DESC_TO_LOCAL_EXEC       R_X86_64_TPOFF32
+ *   TLS_GD_ and TLS_DESC_TO_INITIAL_EXEC     R_X86_64_GOTTPOFF
+ *   TLS_LD_TO_LOCAL_EXEC, SKIP_TLS_DESC_CALL none; R_X86_64_DTPOFF32 and R_X86_64_DTPOFF64 of the
+ *                            local-dynamic block become R_X86_64_TPOFF32 and R_X86_64_TPOFF64 */
 enum linker_utils_x86_64_rewrite {
     LINKER_UTILS_X86_64_REWRITE_MOV_INDIRECT_TO_LEA = 0,
     LINKER_UTILS_X86_64_REWRITE_MOV_INDIRECT_TO_ABSOLUTE = 1,
@@ -247,7 +255,13 @@ enum linker_utils_x86_64_rewrite {
     LINKER_UTILS_X86_64_REWRITE_TLS_GD_TO_INITIAL_EXEC = 14,
     LINKER_UTILS_X86_64_REWRITE_TLS_DESC_TO_LOCAL_EXEC = 15, /* n */
     LINKER_UTILS_X86_64_REWRITE_TLS_DESC_TO_INITIAL_EXEC = 16,
-    LINKER_UTILS_X86_64_REWRITE_SKIP_TLS_DESC_CALL = 17
+    LINKER_UTILS_X86_64_REWRITE_SKIP_TLS_DESC_CALL = 17,
+    LINKER_UTILS_X86_64_REWRITE_REX_ADC_INDIRECT_TO_ABSOLUTE = 18, /* n */
+    LINKER_UTILS_X86_64_REWRITE_REX_AND_INDIRECT_TO_ABSOLUTE = 19, /* n */
+    LINKER_UTILS_X86_64_REWRITE_REX_OR_INDIRECT_TO_ABSOLUTE = 20, /* n */
+    LINKER_UTILS_X86_64_REWRITE_REX_SBB_INDIRECT_TO_ABSOLUTE = 21, /* n */
+    LINKER_UTILS_X86_64_REWRITE_REX_XOR_INDIRECT_TO_ABSOLUTE = 22, /* n */
+    LINKER_UTILS_X86_64_REWRITE_REX_TEST_INDIRECT_TO_ABSOLUTE = 23 /* n */
 };
 
 /* What happens to the next relocation: the entry after the rewritten instruction's own in the order

@@ -380,7 +380,7 @@ fn rejects_rewrites() {
         (Architecture::RiscV.machine(), 6),
         (Architecture::LoongArch64.machine(), 2),
         (Architecture::Ppc64.machine(), 1),
-        (Architecture::X86_64.machine(), 18),
+        (Architecture::X86_64.machine(), 24),
         (0, 0),
     ];
     for (machine, rewrite) in unknown {
@@ -431,9 +431,9 @@ fn tells_what_becomes_of_the_next_relocation() {
         .chain(RiscVRewrite::ALL.iter().map(|&it| it.into()))
         .chain(LoongArch64Rewrite::ALL.iter().map(|&it| it.into()))
         .chain(Ppc64Rewrite::ALL.iter().map(|&it| it.into()))
-        .chain((0..18).map(|it| {
+        .chain((0..24).map(|it| {
             X86_64Rewrite::from_numbers(it, 3)
-                .expect("one of 18")
+                .expect("one of 24")
                 .into()
         }));
     for rewrite in all.filter(|it: &Rewrite| !skipped.contains(it)) {

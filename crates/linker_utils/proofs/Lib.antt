@@ -31,3 +31,4 @@ pub mod Taken
 pub mod WrittenNumbers
 pub mod WrittenRows
 pub mod X86Bytes
+pub mod X86Originals

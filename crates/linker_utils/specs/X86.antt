@@ -28,6 +28,12 @@ use Rattle.linker_utils.specs.declared.x86_64.rewrites.RelaxationKind.TheVariant
 use Rattle.linker_utils.specs.declared.x86_64.rewrites.RelaxationKind.TheVariants.{TlsDescToLocalExec}
 use Rattle.linker_utils.specs.declared.x86_64.rewrites.RelaxationKind.TheVariants.{TlsDescToInitialExec}
 use Rattle.linker_utils.specs.declared.x86_64.rewrites.RelaxationKind.TheVariants.{SkipTlsDescCall}
+use Rattle.linker_utils.specs.declared.x86_64.rewrites.RelaxationKind.TheVariants.{RexAdcIndirectToAbsolute}
+use Rattle.linker_utils.specs.declared.x86_64.rewrites.RelaxationKind.TheVariants.{RexAndIndirectToAbsolute}
+use Rattle.linker_utils.specs.declared.x86_64.rewrites.RelaxationKind.TheVariants.{RexOrIndirectToAbsolute}
+use Rattle.linker_utils.specs.declared.x86_64.rewrites.RelaxationKind.TheVariants.{RexSbbIndirectToAbsolute}
+use Rattle.linker_utils.specs.declared.x86_64.rewrites.RelaxationKind.TheVariants.{RexXorIndirectToAbsolute}
+use Rattle.linker_utils.specs.declared.x86_64.rewrites.RelaxationKind.TheVariants.{RexTestIndirectToAbsolute}
 
 -- R (bit 2) of a REX byte moves to B (bit 0)
 abbrev pub rex : ℕ → ℕ
@@ -90,22 +96,23 @@ puts back len bytes offset addend =
       addend = addend;
     }
 
--- `mov` of an absolute value, and an operation by its opcode extension
+-- `mov` of an absolute value
 abbrev pub rex_mov : ℕ → Rewrite
 rex_mov n = absolute 3 (prefixed_operand n 0xc7 0xc0)
 
-abbrev pub rex_add_rewrite : ℕ → Rewrite
-rex_add_rewrite n =
-    if n == 3 then absolute 3 (prefixed_operand 3 0x81 0xc0)
-    else (if n == 4 then absolute 3 (prefixed_operand 4 0x81 0xc0)
-    else (if n == 6 then absolute 5 (evex_operand 0x81 0xc0)
-    else absolute 2 (operand 0x81 0xc0)))
+-- an operation on an immediate, whose opcode extension is in k
+abbrev pub by_immediate : ℕ → ℕ → ℕ → Rewrite
+by_immediate n opcode k =
+    if n == 3 then absolute 3 (prefixed_operand 3 opcode k)
+    else (if n == 4 then absolute 3 (prefixed_operand 4 opcode k)
+    else (if n == 6 then absolute 5 (evex_operand opcode k)
+    else absolute 2 (operand opcode k)))
 
 abbrev pub x86_64_rewrite : RelaxationKind → Option Rewrite
 x86_64_rewrite MovIndirectToLea = Some (replaces 2 1 (λ _. 0x8d ∷ []))
 x86_64_rewrite MovIndirectToAbsolute = Some (absolute 2 (operand 0xc7 0xc0))
 x86_64_rewrite (RexMovIndirectToAbsolute n) = Some (rex_mov n)
-x86_64_rewrite (RexAddIndirectToAbsolute n) = Some (rex_add_rewrite n)
+x86_64_rewrite (RexAddIndirectToAbsolute n) = Some (by_immediate n 0x81 0xc0)
 x86_64_rewrite (RexSubIndirectToAbsolute n) = Some (absolute 3 (prefixed_operand n 0x81 0xe8))
 x86_64_rewrite (RexCmpIndirectToAbsolute n) = Some (absolute 3 (prefixed_operand n 0x81 0xf8))
 x86_64_rewrite CallIndirectToRelative = Some (replaces 2 2 (λ _. 0x67 ∷ 0xe8 ∷ []))
@@ -136,6 +143,13 @@ x86_64_rewrite TlsGdToInitialExec =
 x86_64_rewrite (TlsDescToLocalExec n) = Some (rex_mov n)
 x86_64_rewrite TlsDescToInitialExec = Some (replaces 2 1 (λ _. 0x8b ∷ []))
 x86_64_rewrite SkipTlsDescCall = Some (replaces 0 2 (λ _. 0x66 ∷ 0x90 ∷ []))
+-- 81 /2, /4, /1, /3 and /6, and f7 /0
+x86_64_rewrite (RexAdcIndirectToAbsolute n) = Some (by_immediate n 0x81 0xd0)
+x86_64_rewrite (RexAndIndirectToAbsolute n) = Some (by_immediate n 0x81 0xe0)
+x86_64_rewrite (RexOrIndirectToAbsolute n) = Some (by_immediate n 0x81 0xc8)
+x86_64_rewrite (RexSbbIndirectToAbsolute n) = Some (by_immediate n 0x81 0xd8)
+x86_64_rewrite (RexXorIndirectToAbsolute n) = Some (by_immediate n 0x81 0xf0)
+x86_64_rewrite (RexTestIndirectToAbsolute n) = Some (by_immediate n 0xf7 0xc0)
 
 -- the rewrites that move the offset of a TLS sequence have done the work of its call too
 abbrev pub x86_64_modifier : RelaxationKind → RelocationModifier
@@ -157,6 +171,12 @@ x86_64_modifier NoOp = Normal
 x86_64_modifier (TlsDescToLocalExec n) = Normal
 x86_64_modifier TlsDescToInitialExec = Normal
 x86_64_modifier SkipTlsDescCall = Normal
+x86_64_modifier (RexAdcIndirectToAbsolute n) = Normal
+x86_64_modifier (RexAndIndirectToAbsolute n) = Normal
+x86_64_modifier (RexOrIndirectToAbsolute n) = Normal
+x86_64_modifier (RexSbbIndirectToAbsolute n) = Normal
+x86_64_modifier (RexXorIndirectToAbsolute n) = Normal
+x86_64_modifier (RexTestIndirectToAbsolute n) = Normal
 
 -- the rewrites by their numbers from 0 up
 abbrev pub x86_64_rewrites : ℕ → List RelaxationKind
@@ -169,7 +189,10 @@ x86_64_rewrites n =
     TlsLdToLocalExec ∷ TlsLdToLocalExecNoPlt ∷
     TlsLdToLocalExec64 ∷ TlsGdToInitialExec ∷
     TlsDescToLocalExec n ∷ TlsDescToInitialExec ∷
-    SkipTlsDescCall ∷ []
+    SkipTlsDescCall ∷
+    RexAdcIndirectToAbsolute n ∷ RexAndIndirectToAbsolute n ∷
+    RexOrIndirectToAbsolute n ∷ RexSbbIndirectToAbsolute n ∷
+    RexXorIndirectToAbsolute n ∷ RexTestIndirectToAbsolute n ∷ []
 
 -- The register that R and the reg field named before an offset is the one that B and the rm field
 -- name after: R and B are bits 2 and 0 of the REX byte, reg and rm bits 3 to 5 and 0 to 2 of the

@@ -40,6 +40,7 @@ x86_64_relocation r.R_X86_64_8 =
 x86_64_relocation r.R_X86_64_PC8 =
     with_row 15 (codes "R_X86_64_PC8") (signed_row 8 (bytes_row Relative 1))
 x86_64_relocation r.R_X86_64_DTPOFF64 = with_row 17 (codes "R_X86_64_DTPOFF64") (bytes_row DtpOff 8)
+x86_64_relocation r.R_X86_64_TPOFF64 = with_row 18 (codes "R_X86_64_TPOFF64") (bytes_row TpOff 8)
 x86_64_relocation r.R_X86_64_TLSGD =
     with_row 19 (codes "R_X86_64_TLSGD") (signed_row 32 (bytes_row TlsGd 4))
 x86_64_relocation r.R_X86_64_TLSLD =

@@ -85,3 +85,4 @@ ThreadAddresses =
     Signed 32 names.R_X86_64_TPOFF32 tls_base symbol_address
     × Signed 32 names.R_X86_64_DTPOFF32 tls_base symbol_address
     × Unsigned names.R_X86_64_DTPOFF64 tls_base symbol_address
+    × Unsigned names.R_X86_64_TPOFF64 tls_base symbol_address

@@ -17,7 +17,7 @@ struct Rewrite {
     after: [u8; 10],
 }
 
-static REWRITES: [Rewrite; 61] = [
+static REWRITES: [Rewrite; 71] = [
     Rewrite {
         kind: RelaxationKind::MovIndirectToLea,
         offset: 3,
@@ -439,11 +439,81 @@ static REWRITES: [Rewrite; 61] = [
         after: [0x62, 0xdc, 0xec, 0x10, 0x81, 0xc4, 0x78, 0x56, 0x34, 0x12],
     },
     Rewrite {
-        kind: RelaxationKind::SkipTlsDescCall,
-        offset: 0,
-        before: [0xa1, 0xb8, 0x00, 0x00, 0x00, 0x00, 0x00, 0x00, 0x00, 0x00],
-        field: None,
-        after: [0x66, 0x90, 0x00, 0x00, 0x00, 0x00, 0x00, 0x00, 0x00, 0x00],
+        kind: RelaxationKind::RexAdcIndirectToAbsolute(3),
+        offset: 3,
+        before: [0x4c, 0x13, 0x2d, 0x00, 0x00, 0x00, 0x00, 0x00, 0x00, 0x00],
+        field: Some(0x22f007),
+        after: [0x49, 0x81, 0xd5, 0x07, 0xf0, 0x22, 0x00, 0x00, 0x00, 0x00],
+    },
+    Rewrite {
+        kind: RelaxationKind::RexAndIndirectToAbsolute(3),
+        offset: 3,
+        before: [0x48, 0x23, 0x2d, 0x00, 0x00, 0x00, 0x00, 0x00, 0x00, 0x00],
+        field: Some(0x22f007),
+        after: [0x48, 0x81, 0xe5, 0x07, 0xf0, 0x22, 0x00, 0x00, 0x00, 0x00],
+    },
+    Rewrite {
+        kind: RelaxationKind::RexOrIndirectToAbsolute(3),
+        offset: 3,
+        before: [0x44, 0x0b, 0x1d, 0x00, 0x00, 0x00, 0x00, 0x00, 0x00, 0x00],
+        field: Some(0x22f007),
+        after: [0x41, 0x81, 0xcb, 0x07, 0xf0, 0x22, 0x00, 0x00, 0x00, 0x00],
+    },
+    Rewrite {
+        kind: RelaxationKind::RexSbbIndirectToAbsolute(3),
+        offset: 3,
+        before: [0x4c, 0x1b, 0x2d, 0x00, 0x00, 0x00, 0x00, 0x00, 0x00, 0x00],
+        field: Some(0x22f007),
+        after: [0x49, 0x81, 0xdd, 0x07, 0xf0, 0x22, 0x00, 0x00, 0x00, 0x00],
+    },
+    Rewrite {
+        kind: RelaxationKind::RexXorIndirectToAbsolute(3),
+        offset: 3,
+        before: [0x48, 0x33, 0x2d, 0x00, 0x00, 0x00, 0x00, 0x00, 0x00, 0x00],
+        field: Some(0x22f007),
+        after: [0x48, 0x81, 0xf5, 0x07, 0xf0, 0x22, 0x00, 0x00, 0x00, 0x00],
+    },
+    Rewrite {
+        kind: RelaxationKind::RexTestIndirectToAbsolute(3),
+        offset: 3,
+        before: [0x4c, 0x85, 0x2d, 0x00, 0x00, 0x00, 0x00, 0x00, 0x00, 0x00],
+        field: Some(0x22f007),
+        after: [0x49, 0xf7, 0xc5, 0x07, 0xf0, 0x22, 0x00, 0x00, 0x00, 0x00],
+    },
+    Rewrite {
+        kind: RelaxationKind::RexAdcIndirectToAbsolute(2),
+        offset: 2,
+        before: [0x13, 0x1d, 0x00, 0x00, 0x00, 0x00, 0x00, 0x00, 0x00, 0x00],
+        field: Some(0x123450),
+        after: [0x81, 0xd3, 0x50, 0x34, 0x12, 0x00, 0x00, 0x00, 0x00, 0x00],
+    },
+    Rewrite {
+        kind: RelaxationKind::RexTestIndirectToAbsolute(2),
+        offset: 2,
+        before: [0x85, 0x1d, 0x00, 0x00, 0x00, 0x00, 0x00, 0x00, 0x00, 0x00],
+        field: Some(0x123450),
+        after: [0xf7, 0xc3, 0x50, 0x34, 0x12, 0x00, 0x00, 0x00, 0x00, 0x00],
+    },
+    Rewrite {
+        kind: RelaxationKind::RexTestIndirectToAbsolute(4),
+        offset: 4,
+        before: [0xd5, 0x48, 0x85, 0x1d, 0x00, 0x00, 0x00, 0x00, 0x00, 0x00],
+        field: Some(0x12345678),
+        after: [0xd5, 0x18, 0xf7, 0xc3, 0x78, 0x56, 0x34, 0x12, 0x00, 0x00],
+    },
+    Rewrite {
+        kind: RelaxationKind::RexSbbIndirectToAbsolute(6),
+        offset: 6,
+        before: [0x62, 0x74, 0xec, 0x10, 0x1b, 0x05, 0x00, 0x00, 0x00, 0x00],
+        field: Some(0x12345678),
+        after: [0x62, 0xd4, 0xec, 0x10, 0x81, 0xd8, 0x78, 0x56, 0x34, 0x12],
+    },
+    Rewrite {
+        kind: RelaxationKind::RexXorIndirectToAbsolute(6),
+        offset: 6,
+        before: [0x62, 0x74, 0xfc, 0x0c, 0x33, 0x3d, 0x00, 0x00, 0x00, 0x00],
+        field: Some(0x12345678),
+        after: [0x62, 0xd4, 0xfc, 0x0c, 0x81, 0xf7, 0x78, 0x56, 0x34, 0x12],
     },
 ];
 
@@ -451,7 +521,7 @@ fn linked(kind: RelaxationKind, at: u64, before: [u8; 10], field: Option<u32>) -
     let mut section = before;
     let mut offset = at;
     let mut addend = -4;
-    if !kind.can_apply(&section, offset) {
+    if !kind.can_apply(&section, offset) || !kind.matches(&section, offset) {
         return None;
     }
     kind.apply(&mut section, &mut offset, &mut addend);
@@ -470,6 +540,207 @@ fn rewrites_match_linkers() {
     for rewrite in &REWRITES {
         let after = linked(rewrite.kind, rewrite.offset, rewrite.before, rewrite.field);
         expect_eq(rewrite.kind, after, Some(rewrite.after));
+    }
+}
+
+/// A TLS sequence as GNU as assembles it, with what follows it, and as GNU ld links it into a program.
+struct Sequence {
+    kind: RelaxationKind,
+    offset: u64,
+    before: [u8; 24],
+    /// The field's offset, and what the linker puts there.
+    field: Option<(usize, u32)>,
+    after: [u8; 24],
+}
+
+static SEQUENCES: [Sequence; 8] = [
+    Sequence {
+        kind: RelaxationKind::TlsGdToLocalExec,
+        offset: 4,
+        before: [
+            0x66, 0x48, 0x8d, 0x3d, 0x00, 0x00, 0x00, 0x00, 0x66, 0x66, 0x48, 0xe8, 0x00, 0x00,
+            0x00, 0x00, 0xc3, 0xc3, 0xc3, 0xc3, 0xc3, 0xc3, 0xc3, 0xc3,
+        ],
+        field: Some((12, 0xfffff348)),
+        after: [
+            0x64, 0x48, 0x8b, 0x04, 0x25, 0x00, 0x00, 0x00, 0x00, 0x48, 0x8d, 0x80, 0x48, 0xf3,
+            0xff, 0xff, 0xc3, 0xc3, 0xc3, 0xc3, 0xc3, 0xc3, 0xc3, 0xc3,
+        ],
+    },
+    Sequence {
+        kind: RelaxationKind::TlsGdToLocalExec,
+        offset: 4,
+        before: [
+            0x66, 0x48, 0x8d, 0x3d, 0x00, 0x00, 0x00, 0x00, 0x66, 0x48, 0xff, 0x15, 0x00, 0x00,
+            0x00, 0x00, 0xc3, 0xc3, 0xc3, 0xc3, 0xc3, 0xc3, 0xc3, 0xc3,
+        ],
+        field: Some((12, 0xfffff348)),
+        after: [
+            0x64, 0x48, 0x8b, 0x04, 0x25, 0x00, 0x00, 0x00, 0x00, 0x48, 0x8d, 0x80, 0x48, 0xf3,
+            0xff, 0xff, 0xc3, 0xc3, 0xc3, 0xc3, 0xc3, 0xc3, 0xc3, 0xc3,
+        ],
+    },
+    Sequence {
+        kind: RelaxationKind::TlsGdToInitialExec,
+        offset: 4,
+        before: [
+            0x66, 0x48, 0x8d, 0x3d, 0x00, 0x00, 0x00, 0x00, 0x66, 0x66, 0x48, 0xe8, 0x00, 0x00,
+            0x00, 0x00, 0xc3, 0xc3, 0xc3, 0xc3, 0xc3, 0xc3, 0xc3, 0xc3,
+        ],
+        field: Some((12, 0x1fb0)),
+        after: [
+            0x64, 0x48, 0x8b, 0x04, 0x25, 0x00, 0x00, 0x00, 0x00, 0x48, 0x03, 0x05, 0xb0, 0x1f,
+            0x00, 0x00, 0xc3, 0xc3, 0xc3, 0xc3, 0xc3, 0xc3, 0xc3, 0xc3,
+        ],
+    },
+    Sequence {
+        kind: RelaxationKind::TlsGdToLocalExecLarge,
+        offset: 3,
+        before: [
+            0x48, 0x8d, 0x3d, 0x00, 0x00, 0x00, 0x00, 0x48, 0xb8, 0x00, 0x00, 0x00, 0x00, 0x00,
+            0x00, 0x00, 0x00, 0x48, 0x01, 0xd8, 0xff, 0xd0, 0xc3, 0xc3,
+        ],
+        field: Some((12, 0xfffff348)),
+        after: [
+            0x64, 0x48, 0x8b, 0x04, 0x25, 0x00, 0x00, 0x00, 0x00, 0x48, 0x8d, 0x80, 0x48, 0xf3,
+            0xff, 0xff, 0x66, 0x0f, 0x1f, 0x44, 0x00, 0x00, 0xc3, 0xc3,
+        ],
+    },
+    Sequence {
+        kind: RelaxationKind::TlsLdToLocalExec,
+        offset: 3,
+        before: [
+            0x48, 0x8d, 0x3d, 0x00, 0x00, 0x00, 0x00, 0xe8, 0x00, 0x00, 0x00, 0x00, 0xc3, 0xc3,
+            0xc3, 0xc3, 0xc3, 0xc3, 0xc3, 0xc3, 0xc3, 0xc3, 0xc3, 0xc3,
+        ],
+        field: None,
+        after: [
+            0x66, 0x66, 0x66, 0x64, 0x48, 0x8b, 0x04, 0x25, 0x00, 0x00, 0x00, 0x00, 0xc3, 0xc3,
+            0xc3, 0xc3, 0xc3, 0xc3, 0xc3, 0xc3, 0xc3, 0xc3, 0xc3, 0xc3,
+        ],
+    },
+    Sequence {
+        kind: RelaxationKind::TlsLdToLocalExecNoPlt,
+        offset: 3,
+        before: [
+            0x48, 0x8d, 0x3d, 0x00, 0x00, 0x00, 0x00, 0xff, 0x15, 0x00, 0x00, 0x00, 0x00, 0xc3,
+            0xc3, 0xc3, 0xc3, 0xc3, 0xc3, 0xc3, 0xc3, 0xc3, 0xc3, 0xc3,
+        ],
+        field: None,
+        after: [
+            0x66, 0x66, 0x66, 0x66, 0x64, 0x48, 0x8b, 0x04, 0x25, 0x00, 0x00, 0x00, 0x00, 0xc3,
+            0xc3, 0xc3, 0xc3, 0xc3, 0xc3, 0xc3, 0xc3, 0xc3, 0xc3, 0xc3,
+        ],
+    },
+    Sequence {
+        kind: RelaxationKind::TlsLdToLocalExec64,
+        offset: 3,
+        before: [
+            0x48, 0x8d, 0x3d, 0x00, 0x00, 0x00, 0x00, 0x48, 0xb8, 0x00, 0x00, 0x00, 0x00, 0x00,
+            0x00, 0x00, 0x00, 0x48, 0x01, 0xd8, 0xff, 0xd0, 0xc3, 0xc3,
+        ],
+        field: None,
+        after: [
+            0x66, 0x66, 0x66, 0x66, 0x2e, 0x0f, 0x1f, 0x84, 0x00, 0x00, 0x00, 0x00, 0x00, 0x64,
+            0x48, 0x8b, 0x04, 0x25, 0x00, 0x00, 0x00, 0x00, 0xc3, 0xc3,
+        ],
+    },
+    Sequence {
+        kind: RelaxationKind::TlsLdToLocalExec64,
+        offset: 3,
+        before: [
+            0x48, 0x8d, 0x3d, 0x00, 0x00, 0x00, 0x00, 0x48, 0xb8, 0x00, 0x00, 0x00, 0x00, 0x00,
+            0x00, 0x00, 0x00, 0x4c, 0x01, 0xf8, 0xff, 0xd0, 0xc3, 0xc3,
+        ],
+        field: None,
+        after: [
+            0x66, 0x66, 0x66, 0x66, 0x2e, 0x0f, 0x1f, 0x84, 0x00, 0x00, 0x00, 0x00, 0x00, 0x64,
+            0x48, 0x8b, 0x04, 0x25, 0x00, 0x00, 0x00, 0x00, 0xc3, 0xc3,
+        ],
+    },
+];
+
+#[test]
+fn tls_sequences_match_linkers() {
+    for sequence in &SEQUENCES {
+        let mut section = sequence.before;
+        let mut offset = sequence.offset;
+        let mut addend = -4;
+        let kind = sequence.kind;
+        assert!(kind.can_apply(&section, offset) && kind.matches(&section, offset));
+        kind.apply(&mut section, &mut offset, &mut addend);
+        if let Some((at, value)) = sequence.field {
+            assert!(at <= 20);
+            expect_eq(kind, offset, at as u64);
+            section[at..at + 4].copy_from_slice(&value.to_le_bytes());
+        }
+        expect_eq(kind, section, sequence.after);
+    }
+}
+
+#[test]
+fn other_instructions_do_not_match() {
+    for (kind, bytes, offset) in [
+        // `cmp %rbp, x(%rip)`, and `cmp x(%rip), %rbp` with an operand in a register
+        (
+            RelaxationKind::RexCmpIndirectToAbsolute(3),
+            [0x48, 0x39, 0x2d, 0, 0, 0, 0, 0],
+            3,
+        ),
+        (
+            RelaxationKind::RexCmpIndirectToAbsolute(3),
+            [0x48, 0x3b, 0xed, 0, 0, 0, 0, 0],
+            3,
+        ),
+        // REX.B, no REX, and a field that ends outside the section
+        (
+            RelaxationKind::RexMovIndirectToAbsolute(3),
+            [0x49, 0x8b, 0x05, 0, 0, 0, 0, 0],
+            3,
+        ),
+        (
+            RelaxationKind::RexMovIndirectToAbsolute(3),
+            [0xc3, 0x8b, 0x05, 0, 0, 0, 0, 0],
+            3,
+        ),
+        (
+            RelaxationKind::MovIndirectToLea,
+            [0xc3, 0x90, 0x90, 0x8b, 0x05, 0, 0, 0],
+            5,
+        ),
+        // `lea x@tlsdesc(%rip), %eax`, and no number of bytes of an instruction
+        (
+            RelaxationKind::TlsDescToLocalExec(3),
+            [0x40, 0x8d, 0x05, 0, 0, 0, 0, 0xc3],
+            3,
+        ),
+        (
+            RelaxationKind::TlsDescToLocalExec(5),
+            [0x48, 0x8d, 0x05, 0, 0, 0, 0, 0xc3],
+            3,
+        ),
+        // `call *%rax`
+        (
+            RelaxationKind::SkipTlsDescCall,
+            [0xff, 0xd0, 0, 0, 0, 0, 0, 0],
+            0,
+        ),
+    ] {
+        expect_eq(kind, kind.matches(&bytes, offset), false);
+    }
+    // `ret`, and a sequence of the large code model
+    let large = [
+        0xc3, 0x48, 0x8d, 0x3d, 0, 0, 0, 0, 0x48, 0xb8, 0, 0, 0, 0, 0, 0, 0, 0, 0x48, 0x01, 0xd8,
+        0xff, 0xd0,
+    ];
+    for (kind, matches) in [
+        (RelaxationKind::TlsGdToLocalExec, false),
+        (RelaxationKind::TlsGdToLocalExecLarge, true),
+        (RelaxationKind::TlsLdToLocalExec, false),
+        (RelaxationKind::TlsLdToLocalExec64, true),
+        (RelaxationKind::NoOp, true),
+    ] {
+        expect_eq(kind, kind.matches(&large, 4), matches);
     }
 }
 
@@ -548,6 +819,69 @@ fn indirect_jumps_become_direct() {
     expect_eq("(offset, addend)", (offset, addend), (1, -4));
 }
 
+#[test]
+fn fields_have_the_relocation_of_the_psabi() {
+    for (kind, before, after) in [
+        (
+            RelaxationKind::MovIndirectToLea,
+            X86_64Relocation::R_X86_64_CODE_4_GOTPCRELX,
+            Some(X86_64Relocation::R_X86_64_PC32),
+        ),
+        (
+            RelaxationKind::JmpIndirectToRelative,
+            X86_64Relocation::R_X86_64_GOTPCRELX,
+            Some(X86_64Relocation::R_X86_64_PC32),
+        ),
+        (
+            RelaxationKind::MovIndirectToAbsolute,
+            X86_64Relocation::R_X86_64_GOTPCRELX,
+            Some(X86_64Relocation::R_X86_64_32),
+        ),
+        (
+            RelaxationKind::RexTestIndirectToAbsolute(3),
+            X86_64Relocation::R_X86_64_REX_GOTPCRELX,
+            Some(X86_64Relocation::R_X86_64_32S),
+        ),
+        (
+            RelaxationKind::RexAddIndirectToAbsolute(6),
+            X86_64Relocation::R_X86_64_CODE_6_GOTTPOFF,
+            Some(X86_64Relocation::R_X86_64_TPOFF32),
+        ),
+        (
+            RelaxationKind::RexXorIndirectToAbsolute(3),
+            X86_64Relocation::R_X86_64_GOTTPOFF,
+            None,
+        ),
+        (
+            RelaxationKind::TlsGdToInitialExec,
+            X86_64Relocation::R_X86_64_TLSGD,
+            Some(X86_64Relocation::R_X86_64_GOTTPOFF),
+        ),
+        (
+            RelaxationKind::TlsLdToLocalExec,
+            X86_64Relocation::R_X86_64_TLSLD,
+            Some(X86_64Relocation::R_X86_64_NONE),
+        ),
+        (
+            RelaxationKind::TlsDescToLocalExec(3),
+            X86_64Relocation::R_X86_64_GOTPC32_TLSDESC,
+            Some(X86_64Relocation::R_X86_64_TPOFF32),
+        ),
+        (
+            RelaxationKind::SkipTlsDescCall,
+            X86_64Relocation::R_X86_64_TLSDESC_CALL,
+            Some(X86_64Relocation::R_X86_64_NONE),
+        ),
+        (
+            RelaxationKind::NoOp,
+            X86_64Relocation::R_X86_64_GOTPCRELX,
+            None,
+        ),
+    ] {
+        expect_eq(kind, kind.relocation_after(before), after);
+    }
+}
+
 /// Each rewrite, the offset in a section that is just its window, and the section's length.
 static WINDOWS: [(RelaxationKind, u64, usize); 21] = [
     (RelaxationKind::MovIndirectToLea, 2, 1),
@@ -613,6 +947,10 @@ fn relocations_have_their_meaning() {
         (
             X86_64Relocation::R_X86_64_SIZE64,
             info(RelocationKind::SymbolSize, 8, all),
+        ),
+        (
+            X86_64Relocation::R_X86_64_TPOFF64,
+            info(RelocationKind::TpOff, 8, all),
         ),
         (X86_64Relocation::Other(7), None),
     ] {

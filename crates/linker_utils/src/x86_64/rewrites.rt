@@ -1,13 +1,19 @@
 //! Relaxation rewrites of x86-64.
 
 ghost use Rattle.linker_utils.specs.X86.{x86_64_rewrites};
-ghost use Rattle.std.specs.Prelude.{slice_get, ◌≡◌, ◌≤◌, ◌↔◌, IsTrue, Some};
+ghost use Rattle.std.specs.Prelude.{slice_get, ◌≡◌, ◌≤◌, ◌↔◌, ◌∷◌, [], IsTrue, Some};
+ghost use Rattle.std.specs.Prelude.{◌<◌, length};
 ghost use Rattle.linker_base.specs.Rewrite.{IsRewritable, CanRewrite, rewritten, offset_after};
 ghost use Rattle.linker_base.specs.Rewrite.{addend_after};
 ghost use Rattle.linker_utils.specs.X86.{rex_reg_to_rm, evex_reg_to_rm, modrm_reg_to_rm, operand};
-ghost use Rattle.linker_utils.specs.X86.{prefixed_operand, evex_operand, absolute, rex_add_rewrite};
+ghost use Rattle.linker_utils.specs.X86.{prefixed_operand, evex_operand, absolute, by_immediate};
 ghost use Rattle.linker_utils.specs.X86.{x86_64_rewrite, x86_64_modifier, KeepsRegister};
+ghost use Rattle.linker_utils.specs.X86Originals.{original, is_at, is_one_at, legacy};
+ghost use Rattle.linker_utils.specs.X86Originals.{legacy_or_evex, lea_of_descriptor};
+ghost use Rattle.linker_utils.specs.X86Originals.{x86_64_originals, x86_64_matches};
+ghost use Rattle.linker_utils.specs.X86RelocationsAfter as replaced;
 
+use super::X86_64Relocation;
 use crate::elf::InstructionRewrite;
 use crate::relaxation::RelocationModifier;
 use crate::rewrite::{has_window, overwrite};
@@ -64,6 +70,18 @@ pub enum RelaxationKind {
     TlsDescToInitialExec,
     /// Turns the call through a TLS descriptor into a `nop` of two bytes.
     SkipTlsDescCall,
+    /// Turns `adc x@GOTPCREL(%rip), %reg` into `adc $x, %reg`.
+    RexAdcIndirectToAbsolute(u8),
+    /// Turns `and x@GOTPCREL(%rip), %reg` into `and $x, %reg`.
+    RexAndIndirectToAbsolute(u8),
+    /// Turns `or x@GOTPCREL(%rip), %reg` into `or $x, %reg`.
+    RexOrIndirectToAbsolute(u8),
+    /// Turns `sbb x@GOTPCREL(%rip), %reg` into `sbb $x, %reg`.
+    RexSbbIndirectToAbsolute(u8),
+    /// Turns `xor x@GOTPCREL(%rip), %reg` into `xor $x, %reg`.
+    RexXorIndirectToAbsolute(u8),
+    /// Turns `test %reg, x@GOTPCREL(%rip)` into `test $x, %reg`.
+    RexTestIndirectToAbsolute(u8),
 }
 
 /// The prefix byte after the register moves from the reg field to the rm field: R moves to B.
@@ -143,17 +161,276 @@ fn put_evex(section: &mut [u8], offset: u64, opcode: u8, others: u8)
     overwrite(section, offset - 5, &[front, second, third, opcode, last]);
 }
 
-/// Rewrites an `add` with any prefix or none.
+/// Rewrites an operation, with any prefix or none, to take an immediate.
 #[inline(always)]
-fn put_add(section: &mut [u8], offset: u64, n: u8)
-    requires { IsRewritable (rex_add_rewrite n) section.old offset }
-    ensures { section.new ≡ rewritten (Some (rex_add_rewrite n)) section.old offset }
+fn put_immediate(section: &mut [u8], offset: u64, n: u8, opcode: u8, others: u8)
+    requires inside { IsRewritable (by_immediate n opcode others) section.old offset }
+    requires room { others ≤ 0xf8 }
+    ensures { section.new ≡ rewritten (Some (by_immediate n opcode others)) section.old offset }
 {
     match n {
-        3 => put_prefixed(section, offset, 3, 0x81, 0xc0),
-        4 => put_prefixed(section, offset, 4, 0x81, 0xc0),
-        6 => put_evex(section, offset, 0x81, 0xc0),
-        _ => put_operand(section, offset, 0x81, 0xc0),
+        3 => put_prefixed(section, offset, 3, opcode, others),
+        4 => put_prefixed(section, offset, 4, opcode, others),
+        6 => put_evex(section, offset, opcode, others),
+        _ => put_operand(section, offset, opcode, others),
+    }
+}
+
+/// The masks and values of an instruction's bytes. Each word is that of the definition.
+macro_rules! pattern {
+    ($($byte:tt)*) => {
+        [$(pattern_byte!($byte)),*]
+    };
+}
+
+macro_rules! pattern_byte {
+    (any) => {
+        (0, 0)
+    };
+    (rip) => {
+        (0xc7, 0x05)
+    };
+    (rex) => {
+        (0xf3, 0x40)
+    };
+    (rex_w) => {
+        (0xfb, 0x48)
+    };
+    (rex2) => {
+        (0xb3, 0x00)
+    };
+    (rex2_w) => {
+        (0xbb, 0x08)
+    };
+    (evex_registers) => {
+        (0x6f, 0x64)
+    };
+    (evex_any_v) => {
+        (0x07, 0x04)
+    };
+    (evex_no_v) => {
+        (0x7f, 0x7c)
+    };
+    ((evex_new_destination $fixed:ident)) => {
+        (0xf3 | $fixed, 0x10)
+    };
+    ((evex_same_destination $fixed:ident)) => {
+        (0xfb | $fixed, 0x08)
+    };
+    ($value:expr) => {
+        (0xff, $value)
+    };
+}
+
+const REX_LEA: [(u8, u8); 7] = pattern!(rex_w 0x8d rip any any any any);
+
+const REX2_LEA: [(u8, u8); 8] = pattern!(0xd5 rex2_w 0x8d rip any any any any);
+
+const GENERAL_DYNAMIC: [(u8, u8); 16] = pattern!(
+    0x66 0x48 0x8d 0x3d any any any any 0x66 0x66 0x48 0xe8 any any any any
+);
+
+const GENERAL_DYNAMIC_BY_GOT: [(u8, u8); 16] = pattern!(
+    0x66 0x48 0x8d 0x3d any any any any 0x66 0x48 0xff 0x15 any any any any
+);
+
+const LOCAL_DYNAMIC: [(u8, u8); 12] = pattern!(
+    0x48 0x8d 0x3d any any any any 0xe8 any any any any
+);
+
+const LOCAL_DYNAMIC_BY_GOT: [(u8, u8); 13] = pattern!(
+    0x48 0x8d 0x3d any any any any 0xff 0x15 any any any any
+);
+
+const LARGE_BY_RBX: [(u8, u8); 22] = pattern!(
+    0x48 0x8d 0x3d any any any any 0x48 0xb8 any any any any any any any any 0x48 0x01 0xd8
+    0xff 0xd0
+);
+
+const LARGE_BY_R15: [(u8, u8); 22] = pattern!(
+    0x48 0x8d 0x3d any any any any 0x48 0xb8 any any any any any any any any 0x4c 0x01 0xf8
+    0xff 0xd0
+);
+
+/// Whether an instruction or a sequence with `back` bytes before the field is in the section, and
+/// the field is at the offset.
+#[inline(always)]
+fn is_original(section: &[u8], offset: u64, back: u64, pattern: &[(u8, u8)]) -> bool
+    requires { 0 < length pattern.now }
+    ensures { result ≡ is_at (original back pattern.now) section.now offset }
+{
+    if !has_window(section, offset, back, pattern.len() as u64) {
+        return false;
+    }
+    let start = (offset - back) as usize;
+    for index in 0..pattern.len() {
+        let (mask, value) = pattern[index];
+        if section[start + index] & mask != value {
+            return false;
+        }
+    }
+    true
+}
+
+/// Whether one of two is there.
+#[inline(always)]
+fn is_either(
+    section: &[u8],
+    offset: u64,
+    back: u64,
+    first: &[(u8, u8)],
+    second: &[(u8, u8)],
+) -> bool
+    requires first { 0 < length first.now }
+    requires second { 0 < length second.now }
+    ensures { result ≡ is_one_at (original back first.now ∷ original back second.now ∷ [])
+        section.now offset }
+{
+    is_original(section, offset, back, first) || is_original(section, offset, back, second)
+}
+
+/// Whether an instruction with an operand relative to the instruction pointer is there, with `n`
+/// bytes before the field: no prefix, REX or REX2.
+#[inline(always)]
+fn is_legacy(section: &[u8], offset: u64, n: u8, opcode: u8) -> bool
+    ensures { result ≡ is_one_at (legacy n opcode) section.now offset }
+{
+    match n {
+        2 => is_original(section, offset, 2, &pattern!(opcode rip any any any any)),
+        3 => is_original(
+            section,
+            offset,
+            3,
+            &pattern!(rex opcode rip any any any any),
+        ),
+        4 => is_original(
+            section,
+            offset,
+            4,
+            &pattern!(0xd5 rex2 opcode rip any any any any),
+        ),
+        _ => false,
+    }
+}
+
+/// The same, or with EVEX, whose bits `fixed` are 0.
+#[inline(always)]
+fn is_legacy_or_evex(section: &[u8], offset: u64, n: u8, fixed: u8, opcode: u8) -> bool
+    ensures { result ≡ is_one_at (legacy_or_evex n fixed opcode) section.now offset }
+{
+    if n == 6 {
+        is_either(
+            section,
+            offset,
+            6,
+            &pattern!(
+                0x62 evex_registers evex_any_v (evex_new_destination fixed) opcode rip
+                any any any any
+            ),
+            &pattern!(
+                0x62 evex_registers evex_no_v (evex_same_destination fixed) opcode rip
+                any any any any
+            ),
+        )
+    } else {
+        is_legacy(section, offset, n, opcode)
+    }
+}
+
+/// Whether the `lea` of a TLS descriptor is there.
+#[inline(always)]
+fn is_lea_of_descriptor(section: &[u8], offset: u64, n: u8) -> bool
+    ensures { result ≡ is_one_at (lea_of_descriptor n) section.now offset }
+{
+    match n {
+        3 => is_original(section, offset, 3, &REX_LEA),
+        4 => is_original(section, offset, 4, &REX2_LEA),
+        _ => false,
+    }
+}
+
+#[inline(always)]
+fn after_got(after: X86_64Relocation, before: X86_64Relocation) -> Option<X86_64Relocation>
+    ensures { result ≡ replaced.after_got after before }
+{
+    match before {
+        X86_64Relocation::R_X86_64_GOTPCRELX
+        | X86_64Relocation::R_X86_64_REX_GOTPCRELX
+        | X86_64Relocation::R_X86_64_CODE_4_GOTPCRELX
+        | X86_64Relocation::R_X86_64_CODE_5_GOTPCRELX
+        | X86_64Relocation::R_X86_64_CODE_6_GOTPCRELX => Some(after),
+        _ => None,
+    }
+}
+
+#[inline(always)]
+fn after_got_or_tp(after: X86_64Relocation, before: X86_64Relocation) -> Option<X86_64Relocation>
+    ensures { result ≡ replaced.after_got_or_tp after before }
+{
+    match before {
+        X86_64Relocation::R_X86_64_GOTTPOFF
+        | X86_64Relocation::R_X86_64_CODE_4_GOTTPOFF
+        | X86_64Relocation::R_X86_64_CODE_5_GOTTPOFF
+        | X86_64Relocation::R_X86_64_CODE_6_GOTTPOFF => Some(X86_64Relocation::R_X86_64_TPOFF32),
+        _ => after_got(after, before),
+    }
+}
+
+#[inline(always)]
+fn after_descriptor(after: X86_64Relocation, before: X86_64Relocation) -> Option<X86_64Relocation>
+    ensures { result ≡ replaced.after_descriptor after before }
+{
+    match before {
+        X86_64Relocation::R_X86_64_GOTPC32_TLSDESC
+        | X86_64Relocation::R_X86_64_CODE_4_GOTPC32_TLSDESC
+        | X86_64Relocation::R_X86_64_CODE_5_GOTPC32_TLSDESC
+        | X86_64Relocation::R_X86_64_CODE_6_GOTPC32_TLSDESC => Some(after),
+        _ => None,
+    }
+}
+
+#[inline(always)]
+fn after_general_dynamic(
+    after: X86_64Relocation,
+    before: X86_64Relocation,
+) -> Option<X86_64Relocation>
+    ensures { result ≡ replaced.after_general_dynamic after before }
+{
+    match before {
+        X86_64Relocation::R_X86_64_TLSGD => Some(after),
+        _ => None,
+    }
+}
+
+#[inline(always)]
+fn after_local_dynamic(before: X86_64Relocation) -> Option<X86_64Relocation>
+    ensures { result ≡ replaced.after_local_dynamic before }
+{
+    match before {
+        X86_64Relocation::R_X86_64_TLSLD => Some(X86_64Relocation::R_X86_64_NONE),
+        _ => None,
+    }
+}
+
+#[inline(always)]
+fn after_descriptor_call(before: X86_64Relocation) -> Option<X86_64Relocation>
+    ensures { result ≡ replaced.after_descriptor_call before }
+{
+    match before {
+        X86_64Relocation::R_X86_64_TLSDESC_CALL => Some(X86_64Relocation::R_X86_64_NONE),
+        _ => None,
+    }
+}
+
+/// The relocation of an immediate of 32 bits.
+#[inline(always)]
+fn immediate_of(n: u8) -> X86_64Relocation
+    ensures { result ≡ replaced.immediate_of n }
+{
+    if n == 2 {
+        X86_64Relocation::R_X86_64_32
+    } else {
+        X86_64Relocation::R_X86_64_32S
     }
 }
 
@@ -183,6 +460,12 @@ impl RelaxationKind {
             15 => RelaxationKind::TlsDescToLocalExec(n),
             16 => RelaxationKind::TlsDescToInitialExec,
             17 => RelaxationKind::SkipTlsDescCall,
+            18 => RelaxationKind::RexAdcIndirectToAbsolute(n),
+            19 => RelaxationKind::RexAndIndirectToAbsolute(n),
+            20 => RelaxationKind::RexOrIndirectToAbsolute(n),
+            21 => RelaxationKind::RexSbbIndirectToAbsolute(n),
+            22 => RelaxationKind::RexXorIndirectToAbsolute(n),
+            23 => RelaxationKind::RexTestIndirectToAbsolute(n),
             _ => return None,
         };
         Some(kind)
@@ -209,7 +492,7 @@ impl RelaxationKind {
                 *addend = 0;
             }
             RelaxationKind::RexAddIndirectToAbsolute(n) => {
-                put_add(section, offset, n);
+                put_immediate(section, offset, n, 0x81, 0xc0);
                 *addend = 0;
             }
             RelaxationKind::RexSubIndirectToAbsolute(n) => {
@@ -298,6 +581,30 @@ impl RelaxationKind {
             }
             RelaxationKind::TlsDescToInitialExec => overwrite(section, offset - 2, &[0x8b]),
             RelaxationKind::SkipTlsDescCall => overwrite(section, offset, &[0x66, 0x90]),
+            RelaxationKind::RexAdcIndirectToAbsolute(n) => {
+                put_immediate(section, offset, n, 0x81, 0xd0);
+                *addend = 0;
+            }
+            RelaxationKind::RexAndIndirectToAbsolute(n) => {
+                put_immediate(section, offset, n, 0x81, 0xe0);
+                *addend = 0;
+            }
+            RelaxationKind::RexOrIndirectToAbsolute(n) => {
+                put_immediate(section, offset, n, 0x81, 0xc8);
+                *addend = 0;
+            }
+            RelaxationKind::RexSbbIndirectToAbsolute(n) => {
+                put_immediate(section, offset, n, 0x81, 0xd8);
+                *addend = 0;
+            }
+            RelaxationKind::RexXorIndirectToAbsolute(n) => {
+                put_immediate(section, offset, n, 0x81, 0xf0);
+                *addend = 0;
+            }
+            RelaxationKind::RexTestIndirectToAbsolute(n) => {
+                put_immediate(section, offset, n, 0xf7, 0xc0);
+                *addend = 0;
+            }
         }
     }
 
@@ -339,7 +646,13 @@ impl RelaxationKind {
             | RelaxationKind::RexSubIndirectToAbsolute(_)
             | RelaxationKind::RexCmpIndirectToAbsolute(_)
             | RelaxationKind::TlsDescToLocalExec(_) => has_window(section, offset, 3, 3),
-            RelaxationKind::RexAddIndirectToAbsolute(n) => {
+            RelaxationKind::RexAddIndirectToAbsolute(n)
+            | RelaxationKind::RexAdcIndirectToAbsolute(n)
+            | RelaxationKind::RexAndIndirectToAbsolute(n)
+            | RelaxationKind::RexOrIndirectToAbsolute(n)
+            | RelaxationKind::RexSbbIndirectToAbsolute(n)
+            | RelaxationKind::RexXorIndirectToAbsolute(n)
+            | RelaxationKind::RexTestIndirectToAbsolute(n) => {
                 let back = match n {
                     3 | 4 => 3,
                     6 => 5,
@@ -357,6 +670,133 @@ impl RelaxationKind {
                 has_window(section, offset, 3, 22)
             }
             RelaxationKind::SkipTlsDescCall => has_window(section, offset, 0, 2),
+        }
+    }
+
+    /// Whether the instruction or the sequence at an offset is one that the rewrite is for.
+    #[inline(always)]
+    fn is_for(self, section: &[u8], offset: u64) -> bool
+        ensures { result ≡ is_one_at (x86_64_originals self) section.now offset }
+    {
+        match self {
+            RelaxationKind::NoOp => true,
+            RelaxationKind::MovIndirectToLea | RelaxationKind::MovIndirectToAbsolute => {
+                is_legacy(section, offset, 2, 0x8b)
+            }
+            RelaxationKind::RexMovIndirectToAbsolute(n) => is_legacy(section, offset, n, 0x8b),
+            RelaxationKind::RexAddIndirectToAbsolute(n) => {
+                is_legacy_or_evex(section, offset, n, 0, 0x03)
+            }
+            RelaxationKind::RexSubIndirectToAbsolute(n) => is_legacy(section, offset, n, 0x2b),
+            RelaxationKind::RexCmpIndirectToAbsolute(n) => is_legacy(section, offset, n, 0x3b),
+            RelaxationKind::RexAdcIndirectToAbsolute(n) => {
+                is_legacy_or_evex(section, offset, n, 4, 0x13)
+            }
+            RelaxationKind::RexAndIndirectToAbsolute(n) => {
+                is_legacy_or_evex(section, offset, n, 0, 0x23)
+            }
+            RelaxationKind::RexOrIndirectToAbsolute(n) => {
+                is_legacy_or_evex(section, offset, n, 0, 0x0b)
+            }
+            RelaxationKind::RexSbbIndirectToAbsolute(n) => {
+                is_legacy_or_evex(section, offset, n, 4, 0x1b)
+            }
+            RelaxationKind::RexXorIndirectToAbsolute(n) => {
+                is_legacy_or_evex(section, offset, n, 0, 0x33)
+            }
+            RelaxationKind::RexTestIndirectToAbsolute(n) => is_legacy(section, offset, n, 0x85),
+            RelaxationKind::CallIndirectToRelative => {
+                is_original(section, offset, 2, &pattern!(0xff 0x15 any any any any))
+            }
+            RelaxationKind::JmpIndirectToRelative => {
+                is_original(section, offset, 2, &pattern!(0xff 0x25 any any any any))
+            }
+            RelaxationKind::TlsGdToLocalExec | RelaxationKind::TlsGdToInitialExec => is_either(
+                section,
+                offset,
+                4,
+                &GENERAL_DYNAMIC,
+                &GENERAL_DYNAMIC_BY_GOT,
+            ),
+            RelaxationKind::TlsGdToLocalExecLarge | RelaxationKind::TlsLdToLocalExec64 => {
+                is_either(section, offset, 3, &LARGE_BY_RBX, &LARGE_BY_R15)
+            }
+            RelaxationKind::TlsLdToLocalExec => is_original(section, offset, 3, &LOCAL_DYNAMIC),
+            RelaxationKind::TlsLdToLocalExecNoPlt => {
+                is_original(section, offset, 3, &LOCAL_DYNAMIC_BY_GOT)
+            }
+            RelaxationKind::TlsDescToLocalExec(n) => is_lea_of_descriptor(section, offset, n),
+            RelaxationKind::TlsDescToInitialExec => {
+                is_lea_of_descriptor(section, offset, 3) || is_lea_of_descriptor(section, offset, 4)
+            }
+            RelaxationKind::SkipTlsDescCall => {
+                is_original(section, offset, 0, &pattern!(0xff 0x10))
+            }
+        }
+    }
+
+    /// Whether `apply` may be called at an offset of a section, and the bytes there are an
+    /// instruction or a whole sequence that the rewrite is for: its prefix, opcode, ModRM byte and
+    /// registers, around fields of any value. A number of bytes before the field for which there is
+    /// no such instruction matches nothing, and `NoOp` matches any bytes.
+    ///
+    /// Bytes before the instruction are not tested. So `MovIndirectToLea`, whose prefix stays, takes
+    /// any prefix, and where there is none the relocation's type has to say so.
+    #[inline]
+    pub fn matches(self, section: &[u8], offset: u64) -> bool
+        ensures { IsTrue result ↔ x86_64_matches self section.now offset }
+    {
+        self.can_apply(section, offset) && self.is_for(section, offset)
+    }
+
+    /// The relocation of the field after the rewrite, by the one before it. `R_X86_64_NONE` says that
+    /// nothing is relocated any more. Returns `None` where the rewrite is not for such a relocation,
+    /// and for `NoOp`, whose relocation the caller chooses.
+    ///
+    /// An immediate has `R_X86_64_32S`, and without a prefix `R_X86_64_32`. With a prefix whose W is
+    /// 0 the operand has 32 bits too, and `R_X86_64_32` is also right.
+    #[inline]
+    pub fn relocation_after(self, before: X86_64Relocation) -> Option<X86_64Relocation>
+        ensures { result ≡ replaced.x86_64_relocation_after self before }
+    {
+        match self {
+            RelaxationKind::MovIndirectToLea
+            | RelaxationKind::CallIndirectToRelative
+            | RelaxationKind::JmpIndirectToRelative => {
+                after_got(X86_64Relocation::R_X86_64_PC32, before)
+            }
+            RelaxationKind::MovIndirectToAbsolute => {
+                after_got_or_tp(X86_64Relocation::R_X86_64_32, before)
+            }
+            RelaxationKind::RexMovIndirectToAbsolute(n)
+            | RelaxationKind::RexAddIndirectToAbsolute(n) => {
+                after_got_or_tp(immediate_of(n), before)
+            }
+            RelaxationKind::RexSubIndirectToAbsolute(n)
+            | RelaxationKind::RexCmpIndirectToAbsolute(n)
+            | RelaxationKind::RexAdcIndirectToAbsolute(n)
+            | RelaxationKind::RexAndIndirectToAbsolute(n)
+            | RelaxationKind::RexOrIndirectToAbsolute(n)
+            | RelaxationKind::RexSbbIndirectToAbsolute(n)
+            | RelaxationKind::RexXorIndirectToAbsolute(n)
+            | RelaxationKind::RexTestIndirectToAbsolute(n) => after_got(immediate_of(n), before),
+            RelaxationKind::NoOp => None,
+            RelaxationKind::TlsGdToLocalExec | RelaxationKind::TlsGdToLocalExecLarge => {
+                after_general_dynamic(X86_64Relocation::R_X86_64_TPOFF32, before)
+            }
+            RelaxationKind::TlsGdToInitialExec => {
+                after_general_dynamic(X86_64Relocation::R_X86_64_GOTTPOFF, before)
+            }
+            RelaxationKind::TlsLdToLocalExec
+            | RelaxationKind::TlsLdToLocalExecNoPlt
+            | RelaxationKind::TlsLdToLocalExec64 => after_local_dynamic(before),
+            RelaxationKind::TlsDescToLocalExec(_) => {
+                after_descriptor(X86_64Relocation::R_X86_64_TPOFF32, before)
+            }
+            RelaxationKind::TlsDescToInitialExec => {
+                after_descriptor(X86_64Relocation::R_X86_64_GOTTPOFF, before)
+            }
+            RelaxationKind::SkipTlsDescCall => after_descriptor_call(before),
         }
     }
 
@@ -383,7 +823,13 @@ impl RelaxationKind {
             | RelaxationKind::NoOp
             | RelaxationKind::TlsDescToLocalExec(_)
             | RelaxationKind::TlsDescToInitialExec
-            | RelaxationKind::SkipTlsDescCall => RelocationModifier::Normal,
+            | RelaxationKind::SkipTlsDescCall
+            | RelaxationKind::RexAdcIndirectToAbsolute(_)
+            | RelaxationKind::RexAndIndirectToAbsolute(_)
+            | RelaxationKind::RexOrIndirectToAbsolute(_)
+            | RelaxationKind::RexSbbIndirectToAbsolute(_)
+            | RelaxationKind::RexXorIndirectToAbsolute(_)
+            | RelaxationKind::RexTestIndirectToAbsolute(_) => RelocationModifier::Normal,
         }
     }
 }

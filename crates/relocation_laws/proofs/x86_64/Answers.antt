@@ -68,4 +68,5 @@ returns-clause-thread c = (
   field_adds symbol_from_tls twos_complement (λ v old. refl) refl refl (λ o. refl),
   field_adds symbol_from_tls twos_complement (λ v old. refl) refl refl (λ o. refl),
   whole_field_adds symbol_from_tls (λ v old. refl) (λ o. refl),
+  whole_field_adds symbol_from_tls (λ v old. refl) (λ o. refl),
 )
