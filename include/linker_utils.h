@@ -88,7 +88,9 @@ extern "C" {
     STATUS(OUT_OF_REACH, 28, "The value is out of the relocation's reach.") \
     STATUS(NO_VALUE, 29, "A relocation of this type has no value.") \
     STATUS(UNSUPPORTED, 30, \
-           "The relocation is one of a pair that computes a ULEB128 number, or R_LARCH_CALL30.")
+           "The relocation is one of a pair that computes a ULEB128 number, or R_LARCH_CALL30.") \
+    STATUS(DOES_NOT_MATCH, 31, \
+           "The bytes there are not an instruction that the rewrite is meant for.")
 
 enum linker_utils_status {
 #define LINKER_UTILS_STATUS(name, number, text) LINKER_UTILS_##name = number,
@@ -275,14 +277,20 @@ enum linker_utils_modifier {
 /* LINKER_UTILS_OK where `linker_utils_apply` at this offset would return that, otherwise
  * LINKER_UTILS_CANNOT_APPLY. It tests whether the bytes to be rewritten are in the section, and for
  * LINKER_UTILS_AARCH64_REWRITE_MOVK_XN and LINKER_UTILS_AARCH64_REWRITE_LDR_TO_ADD the word there.
- * It does not test whether the instruction is one that the rewrite is meant for: it takes a `ret`
- * for LINKER_UTILS_RISCV_REWRITE_CALL_TO_JAL, and `lui sp` for
- * LINKER_UTILS_RISCV_REWRITE_HI20_TO_C_LUI. The caller tests that, by the relocation's type and by
- * `linker_utils_is_plain_call`, `linker_utils_hi20_fits_clui` and
- * `linker_utils_rd_valid_for_clui`. */
+ * It does not test whether the instruction is one that the rewrite is meant for:
+ * `linker_utils_matches` does. */
 static inline uint32_t linker_utils_can_apply(uint16_t machine, uint32_t rewrite, uint8_t n,
                                               const uint8_t *section, size_t section_len,
                                               uint64_t offset);
+
+/* LINKER_UTILS_OK where the bytes at an offset of a section are an instruction, or a sequence of
+ * some, that the rewrite is meant for, by opcodes and registers, otherwise
+ * LINKER_UTILS_DOES_NOT_MATCH. Where it returns LINKER_UTILS_OK, so does `linker_utils_can_apply`.
+ * Whether the rewrite is right for the symbol and the value is the caller's to test
+ * (`linker_utils_hi20_fits_clui`). Any bytes match a rewrite that writes a `nop` or nothing. */
+static inline uint32_t linker_utils_matches(uint16_t machine, uint32_t rewrite, uint8_t n,
+                                            const uint8_t *section, size_t section_len,
+                                            uint64_t offset);
 
 /* Rewrites the instruction at an offset of a section, and sets the offset and the addend to those
  * of the relocation that is then to be applied. LINKER_UTILS_CANNOT_APPLY. */

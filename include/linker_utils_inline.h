@@ -55,6 +55,16 @@ static inline uint32_t linker_utils_can_apply(uint16_t machine, uint32_t rewrite
                                           offset);
 }
 
+uint32_t linker_utils_matches_nonnull(uint16_t machine, uint32_t rewrite, uint8_t n,
+                                      const uint8_t *section, size_t section_len, uint64_t offset);
+static inline uint32_t linker_utils_matches(uint16_t machine, uint32_t rewrite, uint8_t n,
+                                            const uint8_t *section, size_t section_len,
+                                            uint64_t offset) {
+    return linker_utils_matches_nonnull(machine, rewrite, n,
+                                        LINKER_UTILS_SLICE(const uint8_t, section), section_len,
+                                        offset);
+}
+
 uint32_t linker_utils_apply_nonnull(uint16_t machine, uint32_t rewrite, uint8_t n, uint8_t *section,
                                     size_t section_len, uint64_t *offset, int64_t *addend);
 static inline uint32_t linker_utils_apply(uint16_t machine, uint32_t rewrite, uint8_t n,

@@ -26,6 +26,23 @@ pub enum Relaxation {
     X86_64(x86_64::RelaxationKind),
 }
 
+impl Relaxation {
+    /// Whether the bytes at an offset of a section are an instruction, or a sequence of some, that
+    /// the rewrite is meant for, as `matches` of the architecture's `RelaxationKind` says. Where
+    /// they are, the rewrite can be applied.
+    #[must_use]
+    #[inline]
+    pub fn matches(self, section: &[u8], offset: u64) -> bool {
+        match self {
+            Relaxation::AArch64(kind) => kind.matches(section, offset),
+            Relaxation::RiscV(kind) => kind.matches(section, offset),
+            Relaxation::LoongArch64(kind) => kind.matches(section, offset),
+            Relaxation::Ppc64(kind) => kind.matches(section, offset),
+            Relaxation::X86_64(kind) => kind.matches(section, offset),
+        }
+    }
+}
+
 impl InstructionRewrite for Relaxation {
     #[cfg_attr(debug_assertions, track_caller)]
     #[inline(always)]

@@ -25,6 +25,7 @@ int main(void) {
     EXPECT(TOO_SHORT, write(machine, 0, 0, false, NULL, 0));
     EXPECT(TOO_SHORT, read(machine, 0, NULL, 0, &value, &flag));
     EXPECT(OK, can_apply(machine, LINKER_UTILS_AARCH64_REWRITE_NO_OP, 0, NULL, 0, 0));
+    EXPECT(OK, matches(machine, LINKER_UTILS_AARCH64_REWRITE_NO_OP, 0, NULL, 0, 0));
     EXPECT(OK, apply(machine, LINKER_UTILS_AARCH64_REWRITE_NO_OP, 0, NULL, 0, &offset, &addend));
     EXPECT(TOO_SHORT, relocation_name(machine, 0, NULL, 0, &count));
     EXPECT(OUT_OF_SECTION, jal_site(NULL, 0, 0, 0));

@@ -492,8 +492,8 @@ static void call_read(void) {
     finish_with(status, 0 NO_FORM OR(TOO_SHORT));
 }
 
-/* `can_apply`, and `apply` where that says that it will do. No rewrite writes more than 5 bytes
- * before the offset, nor 19 from it on. */
+/* `can_apply`, and `apply` where that says that it will do, as where `matches` returns OK. No rewrite
+ * writes more than 5 bytes before the offset, nor 19 from it on. */
 static void call_apply(void) {
     uint16_t machine = any_machine();
     uint32_t rewrite = any_of_enum();
@@ -506,6 +506,8 @@ static void call_apply(void) {
     changes(section, offset < 5 ? 0 : offset - 5, offset > 1000 ? 0 : offset + 19);
     const void *read = section->given ? section->read_only + section->at : NULL;
     uint32_t can = CALL(can_apply, machine, rewrite, n, read, section->len, offset);
+    uint32_t meant = CALL(matches, machine, rewrite, n, read, section->len, offset);
+    expect(meant == LINKER_UTILS_DOES_NOT_MATCH || meant == can, "`can_apply` rejects what matches");
     finish_buffers(false);
     uint32_t status = CALL(apply, machine, rewrite, n, section->given, section->len, given_offset,
                            addend);

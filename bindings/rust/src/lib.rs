@@ -238,6 +238,15 @@ pub fn can_apply(rewrite: impl Into<Rewrite>, section: &[u8], offset: u64) -> Re
     result_of(status, ())
 }
 
+/// Whether the bytes at an offset of a section are an instruction that the rewrite is meant for.
+/// `apply` at this offset then succeeds.
+pub fn matches(rewrite: impl Into<Rewrite>, section: &[u8], offset: u64) -> Result<(), Status> {
+    let (machine, rewrite, n) = rewrite.into().numbers();
+    let (at, len) = (section.as_ptr(), section.len());
+    let status = unsafe { raw::linker_utils_matches_nonnull(machine, rewrite, n, at, len, offset) };
+    result_of(status, ())
+}
+
 /// Rewrites the instruction at an offset of a section.
 pub fn apply(
     rewrite: impl Into<Rewrite>,

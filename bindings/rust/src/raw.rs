@@ -66,6 +66,14 @@ extern "C" {
         section_len: usize,
         offset: u64,
     ) -> u32;
+    pub fn linker_utils_matches_nonnull(
+        machine: u16,
+        rewrite: u32,
+        n: u8,
+        section: *const u8,
+        section_len: usize,
+        offset: u64,
+    ) -> u32;
     pub fn linker_utils_apply_nonnull(
         machine: u16,
         rewrite: u32,

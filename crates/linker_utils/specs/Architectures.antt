@@ -103,3 +103,11 @@ relaxation_modifier (relaxations.RiscV kind) = riscv_modifier kind
 relaxation_modifier (relaxations.LoongArch64 kind) = loongarch_modifier kind
 relaxation_modifier (relaxations.Ppc64 kind) = ppc64_modifier kind
 relaxation_modifier (relaxations.X86_64 kind) = x86_64_modifier kind
+
+-- whether what is at an offset of a section is something that it is meant for
+abbrev pub relaxation_matches : Relaxation → List ℕ → ℕ → Type 0
+relaxation_matches (relaxations.AArch64 kind) = aarch64_matches kind
+relaxation_matches (relaxations.RiscV kind) = riscv_matches kind
+relaxation_matches (relaxations.LoongArch64 kind) = CanRewrite (loongarch_rewrite kind)
+relaxation_matches (relaxations.Ppc64 kind) = CanRewrite (ppc64_rewrite kind)
+relaxation_matches (relaxations.X86_64 kind) = x86_64_matches kind

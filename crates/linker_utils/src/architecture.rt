@@ -1,10 +1,11 @@
 //! What the codes and numbers of an ELF file's architecture name: relocations by `r_type`, and
 //! forms and rewrites by their places in their enums.
 
-ghost use Rattle.std.specs.Prelude.{◌≡◌, ◌≤◌, IfSome, IfNone, length};
+ghost use Rattle.std.specs.Prelude.{◌≡◌, ◌≤◌, ◌↔◌, IsTrue, IfSome, IfNone, length};
+ghost use Rattle.linker_base.specs.Rewrite.{CanRewrite};
 ghost use Rattle.linker_utils.specs.Architectures.{IsRow, IsElfName, IsRole, form_of_number};
 ghost use Rattle.linker_utils.specs.Architectures.{rewrite_of_number, relaxation_rewrite};
-ghost use Rattle.linker_utils.specs.Architectures.{relaxation_modifier};
+ghost use Rattle.linker_utils.specs.Architectures.{relaxation_modifier, relaxation_matches};
 ghost use Rattle.linker_utils.specs.ElfNames.{named, unnamed};
 
 use crate::aarch64::{self, AArch64Relocation};
@@ -26,6 +27,26 @@ pub enum Relaxation {
     LoongArch64(loongarch64::RelaxationKind),
     Ppc64(ppc64::RelaxationKind),
     X86_64(x86_64::RelaxationKind),
+}
+
+impl Relaxation {
+    /// Whether the bytes at an offset of a section are an instruction, or a sequence of some, that
+    /// the rewrite is meant for, as `matches` of the architecture's `RelaxationKind` says. Where
+    /// they are, the rewrite can be applied.
+    #[inline]
+    pub fn matches(self, section: &[u8], offset: u64) -> bool
+        ensures exactly { IsTrue result ↔ relaxation_matches self section.now offset }
+        ensures rewritable { IsTrue result
+            → CanRewrite (relaxation_rewrite self) section.now offset }
+    {
+        match self {
+            Relaxation::AArch64(kind) => kind.matches(section, offset),
+            Relaxation::RiscV(kind) => kind.matches(section, offset),
+            Relaxation::LoongArch64(kind) => kind.matches(section, offset),
+            Relaxation::Ppc64(kind) => kind.matches(section, offset),
+            Relaxation::X86_64(kind) => kind.matches(section, offset),
+        }
+    }
 }
 
 impl InstructionRewrite for Relaxation {

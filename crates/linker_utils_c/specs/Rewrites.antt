@@ -5,13 +5,14 @@ use Rattle.linker_base.specs.Rewrite.{Rewrite, CanRewrite, rewritten, offset_aft
 use Rattle.linker_base.specs.declared.relaxation.RelocationModifier.{RelocationModifier}
 use Rattle.linker_base.specs.declared.relaxation.RelocationModifier.TheVariants.{Normal}
 use Rattle.linker_base.specs.declared.relaxation.RelocationModifier.TheVariants.{SkipNextRelocation}
-use Rattle.linker_utils.specs.Architectures.{rewrite_of_number}
+use Rattle.linker_utils.specs.Architectures.{rewrite_of_number, relaxation_matches}
 use Rattle.linker_utils.specs.Elf.{architecture_of}
 use Rattle.linker_utils.specs.declared.architecture.Relaxation.{Relaxation}
 use Rattle.linker_utils.specs.declared.elf.Architecture.{Architecture}
 use Rattle.linker_utils_c.specs.declared.status.Status.{Status}
 use Rattle.linker_utils_c.specs.declared.status.Status.TheVariants.{Success, UnknownArchitecture}
 use Rattle.linker_utils_c.specs.declared.status.Status.TheVariants.{UnknownRewrite, CannotApply}
+use Rattle.linker_utils_c.specs.declared.status.Status.TheVariants.{DoesNotMatch}
 use Rattle.linker_utils_c.specs.Status.{code}
 
 -- a rewrite, or that there is none
@@ -33,11 +34,19 @@ abbrev pub modifier_number : RelocationModifier → ℕ
 modifier_number Normal = 0
 modifier_number SkipNextRelocation = 1
 
--- the status says whether a rewrite can be applied
-pub record TakesRewrite (rewrite : Option Rewrite) (section : List ℕ)
-    (offset status : ℕ) : Type 0 where
-  pub can : CanRewrite rewrite section offset → status ≡ code Success
-  pub cannot : ¬ CanRewrite rewrite section offset → status ≡ code CannotApply
+-- the status says whether P holds, and it is another where it doesn't
+pub record Tells (P : Type 0) (otherwise : Status) (status : ℕ) : Type 0 where
+  pub holds : P → status ≡ code Success
+  pub fails : ¬ P → status ≡ code otherwise
+
+-- whether a rewrite can be applied
+abbrev pub TakesRewrite : Option Rewrite → List ℕ → ℕ → ℕ → Type 0
+TakesRewrite rewrite section offset = Tells (CanRewrite rewrite section offset) CannotApply
+
+-- whether a rewrite is meant for what is at an offset
+abbrev pub MatchesRewrite : Relaxation → List ℕ → ℕ → ℕ → Type 0
+MatchesRewrite rewrite section offset =
+    Tells (relaxation_matches rewrite section offset) DoesNotMatch
 
 -- the section, the offset and the addend after a rewrite
 pub record IsRewritten (rewrite : Option Rewrite) (before after : List ℕ) (from to : ℕ)

@@ -16,7 +16,7 @@ use Rattle.linker_utils_c.specs.declared.status.Status.TheVariants.{UnknownLinkR
 use Rattle.linker_utils_c.specs.declared.status.Status.TheVariants.{CallsNotApart, NotACall}
 use Rattle.linker_utils_c.specs.declared.status.Status.TheVariants.{CallsNotShrinkable, Misaligned}
 use Rattle.linker_utils_c.specs.declared.status.Status.TheVariants.{OutOfReach, NoValue}
-use Rattle.linker_utils_c.specs.declared.status.Status.TheVariants.{Unsupported}
+use Rattle.linker_utils_c.specs.declared.status.Status.TheVariants.{Unsupported, DoesNotMatch}
 
 abbrev pub code : Status → ℕ
 code Success = 0
@@ -48,6 +48,7 @@ code Misaligned = 27
 code OutOfReach = 28
 code NoValue = 29
 code Unsupported = 30
+code DoesNotMatch = 31
 
 -- the status is one of these
 abbrev pub IsOneOf : List Status → ℕ → Type 0

@@ -1,9 +1,10 @@
 //! Rewrites of instructions, by `e_machine` and a rewrite's number.
 
 ghost use Rattle.std.specs.Prelude.{◌≡◌, ◌≢◌, IfOk, IfErr, IfSome, IfNone};
+ghost use Rattle.linker_base.specs.Rewrite.{CanRewrite};
 ghost use Rattle.linker_utils.specs.Architectures.{relaxation_rewrite, relaxation_modifier};
 ghost use Rattle.linker_utils_c.specs.Rewrites.{named_rewrite, modifier_number, TakesRewrite};
-ghost use Rattle.linker_utils_c.specs.Rewrites.{IsRewritten};
+ghost use Rattle.linker_utils_c.specs.Rewrites.{IsRewritten, MatchesRewrite};
 ghost use Rattle.linker_utils_c.specs.Status.{code};
 
 use crate::status::Status;
@@ -117,6 +118,35 @@ pub extern "C" fn linker_utils_can_apply_nonnull(
         ),
     };
     status.number()
+}
+
+/// Whether the bytes at an offset of a section are an instruction, or a sequence of some, that the
+/// rewrite is meant for. `linker_utils_apply` at this offset then succeeds. The error is the first
+/// that applies of `UnknownArchitecture`, `UnknownRewrite` and `DoesNotMatch`.
+#[unsafe(no_mangle)]
+pub extern "C" fn linker_utils_matches_nonnull(
+    machine: u16,
+    rewrite: u32,
+    n: u8,
+    section: &[u8],
+    offset: u64,
+) -> u32
+    ensures known { IfOk (named_rewrite machine rewrite n)
+        (λ named. MatchesRewrite named section.now offset result) }
+    ensures rewritable { IfOk (named_rewrite machine rewrite n) (λ named. result ≡ code Status.Success
+        → CanRewrite (relaxation_rewrite named) section.now offset) }
+    ensures unknown { IfErr (named_rewrite machine rewrite n) (λ status. result ≡ code status) }
+{
+    let Some(architecture) = Architecture::from_machine(machine) else {
+        return Status::UnknownArchitecture.number();
+    };
+    let Some(named) = architecture.rewrite(rewrite, n) else {
+        return Status::UnknownRewrite.number();
+    };
+    if !named.matches(section, offset) {
+        return Status::DoesNotMatch.number();
+    }
+    Status::Success.number()
 }
 
 /// Rewrites the instruction at an offset of a section, and sets the offset and the addend to those

@@ -90,6 +90,28 @@ pub fn linker_utils_can_apply_nonnull(
     status.number()
 }
 
+/// Whether the bytes at an offset of a section are an instruction, or a sequence of some, that the
+/// rewrite is meant for. `linker_utils_apply` at this offset then succeeds. The error is the first
+/// that applies of `UnknownArchitecture`, `UnknownRewrite` and `DoesNotMatch`.
+pub fn linker_utils_matches_nonnull(
+    machine: u16,
+    rewrite: u32,
+    n: u8,
+    section: &[u8],
+    offset: u64,
+) -> u32 {
+    let Some(architecture) = Architecture::from_machine(machine) else {
+        return Status::UnknownArchitecture.number();
+    };
+    let Some(named) = architecture.rewrite(rewrite, n) else {
+        return Status::UnknownRewrite.number();
+    };
+    if !named.matches(section, offset) {
+        return Status::DoesNotMatch.number();
+    }
+    Status::Success.number()
+}
+
 /// Rewrites the instruction at an offset of a section, and sets the offset and the addend to those
 /// of the relocation that is left. The error is the first that applies of `UnknownArchitecture`,
 /// `UnknownRewrite` and `CannotApply`.
