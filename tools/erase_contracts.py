@@ -3,16 +3,20 @@ import re
 from collections import Counter
 
 PRELUDE, SPECS = r"Rattle\.std\.specs\.Prelude", r"Rattle\.linker_\w+\.specs"
+CALLS, DELETIONS = rf"\({PRELUDE}\.map C\.call (\w+)\)", rf"\({SPECS}\.Deltas\.deletions_of \1\)"
+VALID = rf"{SPECS}\.Listed\.AreValidDeltas (\w+)"
 # Clauses that a test tells in other words than its contract's.
 IN_OTHER_WORDS = {
     rf"{SPECS}\.Sections\.IsAboveAll self (\w+)": r"self.last_index().is_none_or(|last| last < \1)",
     rf"Rattle\.std\.specs\.FinMap\.get self (\w+) ≡ {PRELUDE}\.None": r"self.get(\1).is_none()",
-    rf"{SPECS}\.Packing\.AreApart \({PRELUDE}\.map C\.call (\w+)\)": r"first_not_apart(\1).is_none()",
+    rf"{SPECS}\.Packing\.AreApart {CALLS}": r"first_not_apart(\1).is_none()",
+    rf"{VALID} → {SPECS}\.Shrinking\.AreShrinkable {DELETIONS} {CALLS}":
+        r"!DeltaSlice::new(\1).has_valid_deltas() || first_not_shrinkable(\1, \2).is_none()",
+    rf"{VALID} → {PRELUDE}\.length (\w+) ≡ {SPECS}\.Deletions\.rank {DELETIONS} \({PRELUDE}\.length (\w+)\)":
+        r"!DeltaSlice::new(\1).has_valid_deltas() || packed_len(\3, \1) == \2.len()",
 }
-# Requirements that no test tells, by function and name.
-UNTESTED = {"head.room", "delta.room", "input_to_output_counted.room", "output_to_input_counted.fits",
-            "output_to_input_counted.room", "pack_into.room",
-            "shrink_calls_into.shrinkable"}
+# Requirements that only the call itself tests, in words, by function and name: its addition overflows.
+IN_WORDS = {"output_to_input_counted.fits": "the input offset is at most `u64::MAX`, or an addition overflows"}
 COMPARISONS = {"≡": "==", "≤": "<=", "<": "<"}
 
 
@@ -120,6 +124,10 @@ class Contracts:
         is_near = teller.source is function.source
         arguments = [found.get(name, "") for name in teller.parameters]
         kinds = [function.parameters.get(argument.split(".")[0]) for argument in arguments]
+        own = re.sub(r"&(mut)?|<.*", "", kinds[0] or "") if "self" in teller.parameters else ""
+        is_bound = not teller.owner and function.bounds.get(own) == teller.trait
+        if is_bound:
+            members = {name: f"{own}.{name}" for name in found}
         if None in kinds or not is_near and (not teller.is_public or self.defined[teller.owner] > 1) or any(
                 found[name] != members.get(name) and (found[name], function.trait) != (name, teller.trait)
                 for name in found.keys() - teller.parameters.keys()):
@@ -132,7 +140,7 @@ class Contracts:
             is_own = teller.owner == function.owner if teller.owner else is_near and not teller.trait
             return f"{teller.owner}::{teller.name}({listed})".removeprefix("::") if is_own else None
         if arguments[0] != "self":
-            is_own = teller.owner == re.sub(r"&(mut)?|<.*", "", kinds[0])
+            is_own = is_bound or teller.owner == own
         elif teller.owner:
             is_own = teller.owner == function.owner
         else:
@@ -154,12 +162,13 @@ def state_requirements(source, contracts):
         asserts = "".join(f"\n{indent}    debug_assert!({test});" for *_, test in requirements if test)
         lines, body = [], source.end(function.body)
         for label, text, test in requirements if function.is_public or function.inherits else []:
-            if not test and f"{function.name}.{label}" not in UNTESTED:
+            if not test and f"{function.name}.{label}" not in IN_WORDS:
                 source.stop(function.fn, f"no test tells `{text}`")
         if requirements and function.is_public:
             lines = ["///", "/// # Requires", "///"]
-            lines += ["/// - " + f"{label}: " * bool(label) + f"`{test or text}`"
-                      for label, text, test in requirements]
+            lines += ["/// - " + f"{label}: " * bool(label)
+                      + (f"`{test}`" if test else IN_WORDS[f"{function.name}.{label}"])
+                      for label, _, test in requirements]
         if function.is_public and function.result and not function.result.startswith("Result<") and not any(
                 "&mut" in kind for kind in function.parameters.values()):
             lines.append("#[must_use]")

@@ -187,9 +187,11 @@ class Source:
             text = re.sub(r"\.(now|old|entry)\b", "", self.slice(brace + 1, self.close[brace]))
             clauses.append((self[at], "".join(label), text))
             at = self.close[brace] + 1
+        # the trait that a type parameter has
+        bounds = dict(re.findall(r"[<,](\w+):(\w+)", self.joined(fn + 2, opening)))
         self.functions.append(SimpleNamespace(
             source=self, first=first, fn=fn, name=self[fn + 1], owner=owner, trait=trait, opening=opening,
-            parameters=parameters, result=result, clauses=clauses, before=before, body=at,
+            bounds=bounds, parameters=parameters, result=result, clauses=clauses, before=before, body=at,
             is_public=is_public, inherits=trait and owner))
         return self.close.get(at, at)
 

@@ -4,8 +4,8 @@
 use linker_utils::bit_misc::BitExtraction;
 use linker_utils::elf::{AArch64Instruction, InstructionForm, InstructionRewrite};
 use linker_utils::elf::{RelocationInstruction, RiscVInstruction};
-use linker_utils::relaxation::{RelaxDeltaMap, SectionRelaxDeltas};
-use linker_utils::riscv64::RelaxationKind;
+use linker_utils::relaxation::{RelaxDeltaMap, SectionRelaxDeltas, pack_into, shrink_calls_into};
+use linker_utils::riscv64::{LinkRegister, RelaxationKind};
 use linker_utils::utils::u32_from_slice;
 use std::panic::{self, AssertUnwindSafe};
 use std::sync::Mutex;
@@ -35,9 +35,11 @@ fn requirements_name_the_caller() {
     panic::set_hook(Box::new(|panic| {
         let at = panic.location().expect("a location");
         let text = panic.payload().downcast_ref::<&str>().copied().unwrap_or_default();
-        PANICS.lock().unwrap().push((at.file().to_string(), at.line(), text.to_string()));
+        let text = text.split_whitespace().collect::<Vec<_>>().join(" ");
+        PANICS.lock().unwrap().push((at.file().to_string(), at.line(), text));
     }));
     let nop = RelaxationKind::ReplaceWithNop;
+    const NONE: [(u64, u64); 0] = [];
     let lines = [
         (line_of!(u32_from_slice(&short)), "4 <= bytes.len()"),
         (line_of!(1u64.extract_bit(64)), "position < 64"),
@@ -59,6 +61,14 @@ fn requirements_name_the_caller() {
         (
             line_of!(InstructionRewrite::apply(nop, &mut short, &mut 0, &mut 0)),
             "self.can_apply(section, *offset)",
+        ),
+        (
+            line_of!(pack_into(&[0; 4], deltas.deltas(), &NONE, LinkRegister::OfJalr, &mut short)),
+            "!DeltaSlice::new(deltas).has_valid_deltas() || packed_len(section, deltas) == out.len()",
+        ),
+        (
+            line_of!(shrink_calls_into(deltas.deltas(), &[(0, 0)], &mut [true])),
+            "!DeltaSlice::new(deltas).has_valid_deltas() || first_not_shrinkable(deltas, calls).is_none()",
         ),
     ];
     drop(panic::take_hook());

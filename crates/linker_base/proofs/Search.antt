@@ -30,13 +30,17 @@ pub deletion_at : (deltas : List RelaxDelta) (k : ℕ) (d : RelaxDelta) (e : ℕ
     → k < length deltas → get_or (map deletion_of deltas) k e ≡ deletion_of (get_or deltas k d)
 deletion_at deltas k d e within = get_or-map deletion_of deltas k d e within
 
+-- the bytes up to a delta are those before it and its own
+pub bytes_up_to : (deltas : List RelaxDelta) (k : ℕ) (d : RelaxDelta) → k < length deltas → bytes_of (take (k + 1) (map deletion_of deltas)) ≡ bytes_of (take k (map deletion_of deltas)) + (get_or deltas k d).bytes_deleted
+bytes_up_to deltas k d within =
+    let inside : k < length (map deletion_of deltas) = omega (arith, length-map deltas deletion_of) in
+    sum_by_more (λ (e : ℕ × ℕ). e.1) (map deletion_of deltas) k (0, 0) inside ∙ ap (λ (e : ℕ × ℕ). bytes_of (take k (map deletion_of deltas)) + e.1) (deletion_at deltas k d (0, 0) within)
+
 -- the sum at an index is that of the deletions before it and its own bytes
 pub sum_at : (deltas : List RelaxDelta) → AreValidDeltas deltas → (k : ℕ) (d : RelaxDelta)
     → k < length deltas
     → (get_or deltas k d).cumulative_deleted ≡ bytes_of (take k (map deletion_of deltas)) + (get_or deltas k d).bytes_deleted
-sum_at deltas listed k d within =
-    let inside : k < length (map deletion_of deltas) = omega (arith, length-map deltas deletion_of) in
-    listed.listing.sums k d within ∙ sum_by_more (λ (e : ℕ × ℕ). e.1) (map deletion_of deltas) k (0, 0) inside ∙ ap (λ (e : ℕ × ℕ). bytes_of (take k (map deletion_of deltas)) + e.1) (deletion_at deltas k d (0, 0) within)
+sum_at deltas listed k d within = listed.listing.sums k d within ∙ bytes_up_to deltas k d within
 
 -- the offsets of deltas rise
 pub offsets_rise : (deltas : List RelaxDelta) → IsValid (map deletion_of deltas)

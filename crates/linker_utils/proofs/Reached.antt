@@ -21,14 +21,6 @@ within_from (Some b) v low high small =
       | inr none ↦ let l = rw none at low in let h = rw none at high in absurd (omega (arith, ints, l, h))
     ]
 
-pub within_to : (b : Bounds) (v : ℤ) → FitsSigned w64 v → IsWithin b v → (least_within b ≤ℤ v) × (v ≤ℤ last_within b)
-within_to None v small h = (omega (arith, ints), omega (arith, ints))
-within_to (Some b) v small h =
-    elim (cases_Bool (int_lt b.0 b.1)) [
-      | inl some ↦ rw some (h.0, omega (arith, ints, h.1))
-      | inr none ↦ absurd (omega (arith, ints, h.0, h.1))
-    ]
-
 -- bits that fit the form are held by it
 pub holds : (size : RelocationSize) (v : ℤ) (bytes : List ℕ) → SizeFits size → HoldsBits size v bytes
 holds (ByteSize n) v bytes fits = tt

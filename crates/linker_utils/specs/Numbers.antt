@@ -141,8 +141,3 @@ numbers_of row = record {
   alignment = row.alignment;
   bias = number_or_zero row.bias;
 }
-
--- a row in numbers, if there is one
-abbrev pub in_numbers : Option RelocationKindInfo → Option RelocationNumbers
-in_numbers None = None
-in_numbers (Some row) = Some (numbers_of row)

@@ -89,14 +89,6 @@ next_line_at_lf (Some xs) (Some zs) front part line after i one kept low lf more
       (λ _ none. not_empty before behind (sym all ∙ none), λ _. refl),
     )
 
--- more bytes of the line come, and no LF
-pub kept_on : (Q : List ℕ → Type 0) (known rest left : Option (List ℕ)) (front part line gap : List ℕ) → Consumes known (prepend_known part rest) front
-    → line ≡ front ++ part → gap ≡ [] → IfSome (prepend_known gap rest) (λ ys. (left ≡ Some ys) × Q ys) → Consumes known left line
-kept_on Q None rest left front part line gap kept is none refilled = tt
-kept_on Q (Some xs) None left front part line gap kept is none refilled = absurd kept
-kept_on Q (Some xs) (Some zs) left front part line gap kept is none refilled =
-    rw refilled.0 (kept ∙ sym (append_assoc front part zs) ∙ ap (λ l. l ++ zs) (sym is) ∙ ap (λ l. line ++ (l ++ zs)) (sym none))
-
 -- the input ends with the line
 pub next_line_at_end : (known rest left : Option (List ℕ)) (front part line gap : List ℕ) (more found : Bool) → IsOneLine front → IsOneLine part
     → Consumes known (prepend_known part rest) front → line ≡ front ++ part → gap ≡ []

@@ -47,10 +47,6 @@ abbrev number_or_zero : Option ℤ → ℤ
 number_or_zero None = pos 0
 number_or_zero (Some v) = v
 
-abbrev read_signed_or_zero : Option ℕ → ℤ
-read_signed_or_zero None = pos 0
-read_signed_or_zero (Some n) = cast_signed w64 n
-
 -- ---- the value, from the number of the formula
 
 module _ (row : RelocationKindInfo) (o : Operands) (before after : List ℕ)

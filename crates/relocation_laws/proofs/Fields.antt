@@ -9,7 +9,6 @@ use Rattle.linker_utils.specs.Agrees.{bits_from}
 use Rattle.linker_utils.specs.Elf.{IsWithin}
 use Rattle.linker_utils.specs.Reach.{reach_of}
 use Rattle.linker_utils.specs.Relocate.{number_of_bytes, whole_number, SizeNumber}
-use Rattle.linker_utils.specs.Rows.{Bounds}
 use Rattle.linker_utils.specs.Value.{value_of}
 use Rattle.linker_utils.specs.declared.elf.AllowedRange.{AllowedRange}
 use Rattle.linker_utils.specs.declared.elf.PageMask.{PageMask}
@@ -80,11 +79,6 @@ module _ {kind : RelocationKind} {n : ℕ} {mask : Option PageMask} {range : All
       ∙ number_agrees sign (8 * n) 0 (8 * n) (Some b) ok v f
       (subst (IsWithin (Some b)) (sym is) within) from
       ∙ from_zero v
-
-abbrev pub row_within : (kind : RelocationKind) → ℕ → Option PageMask → AllowedRange → ℕ → Option ℕ
-    → Bool → Bool → Bounds
-row_within kind n mask range a bias thunkable implicit =
-    reach_of (bytes_of kind n mask range a bias thunkable implicit)
 
 -- a field of a value within the row's range
 pub field_adds : {begin target number : Operands → ℕ} → IsNumber begin target number

@@ -206,9 +206,6 @@ plt_small o small = sum_below o.plt_entry (cast_unsigned w64 o.addend)
 pub entry_and_addend_small : IsSmall entry_and_addend
 entry_and_addend_small o small = sum_below o.got_entry (cast_unsigned w64 o.addend)
 
-pub entry_small : IsSmall entry_address
-entry_small o small = small.got_entry
-
 pub place_small : IsSmall place
 place_small o small = small.place
 

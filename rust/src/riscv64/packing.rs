@@ -215,15 +215,15 @@ pub fn packed_len(section: &[u8], deltas: &[RelaxDelta]) -> usize {
 /// chosen. A deletion that reaches past the section's end deletes up to there, and one past it
 /// nothing.
 ///
-/// Requires sites that ascend by at least 4 (`calls_apart`), and room for `packed_len` bytes. The
-/// deltas are as `SectionRelaxDeltas::deltas` lists them; of others nothing is promised but that
-/// the call is safe. The error tells the first call that can't become a jump, and nothing is
-/// written then. It takes O(section + deltas + calls log deltas).
+/// Requires sites that ascend by at least 4 (`calls_apart`), and an output of `packed_len` bytes.
+/// The deltas are as `SectionRelaxDeltas::deltas` lists them (`DeltaSlice::has_valid_deltas`); of
+/// others nothing is promised but that the call is safe. The error tells the first call that can't
+/// become a jump, and nothing is written then. It takes O(section + deltas + calls log deltas).
 ///
 /// # Requires
 ///
 /// - apart: `first_not_apart(calls).is_none()`
-/// - room: `AreValidDeltas deltas → length out ≡ rank (deletions_of deltas) (length section)`
+/// - room: `!DeltaSlice::new(deltas).has_valid_deltas() || packed_len(section, deltas) == out.len()`
 #[cfg_attr(debug_assertions, track_caller)]
 pub fn pack_into<C: AsCall>(
     section: &[u8],
@@ -233,6 +233,7 @@ pub fn pack_into<C: AsCall>(
     out: &mut [u8],
 ) -> Result<(), RejectedCall> {
     debug_assert!(first_not_apart(calls).is_none());
+    debug_assert!(!DeltaSlice::new(deltas).has_valid_deltas() || packed_len(section, deltas) == out.len());
     test_calls(section, deltas, calls, link)?;
     copy_kept(section, deltas, out);
     put_calls(section, deltas, calls, link, out);

@@ -276,8 +276,8 @@ pub fn calls_shrinkable(deltas: &SectionRelaxDeltas, calls: &[(u64, u64)]) -> bo
 /// chosen, and else `false` or 0.
 ///
 /// Requires calls that `first_not_shrinkable` accepts, and as many elements as calls. The deltas
-/// are as `SectionRelaxDeltas::deltas` lists them; of others nothing is promised but that the call
-/// is safe. It takes 8 KiB of the stack and doesn't allocate.
+/// are as `SectionRelaxDeltas::deltas` lists them (`DeltaSlice::has_valid_deltas`); of others
+/// nothing is promised but that the call is safe. It takes 8 KiB of the stack and doesn't allocate.
 ///
 /// All calls are chosen at first, and sweeps over them drop those out of reach until none is. Their
 /// order doesn't matter, since more deletions never take a call out of reach. For k calls and n
@@ -289,7 +289,7 @@ pub fn calls_shrinkable(deltas: &SectionRelaxDeltas, calls: &[(u64, u64)]) -> bo
 /// # Requires
 ///
 /// - one_each: `answer.len() == calls.len()`
-/// - shrinkable: `AreValidDeltas deltas → AreShrinkable (deletions_of deltas) (map C.call calls)`
+/// - shrinkable: `!DeltaSlice::new(deltas).has_valid_deltas() || first_not_shrinkable(deltas, calls).is_none()`
 #[cfg_attr(debug_assertions, track_caller)]
 pub fn shrink_calls_into<C: AsCall, A: AsChoice>(
     deltas: &[RelaxDelta],
@@ -297,6 +297,7 @@ pub fn shrink_calls_into<C: AsCall, A: AsChoice>(
     answer: &mut [A],
 ) {
     debug_assert!(answer.len() == calls.len());
+    debug_assert!(!DeltaSlice::new(deltas).has_valid_deltas() || first_not_shrinkable(deltas, calls).is_none());
     choose_all(answer);
     let mut runs = Runs::of(answer);
     while sweep(deltas, calls, answer, &mut runs) {}

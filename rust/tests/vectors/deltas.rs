@@ -264,6 +264,26 @@ fn first_faulty_deletions_are_named() -> Result<(), Fail> {
         listed.first_overlapping(&[(20, 1), (16, 4), (20, 1)]),
         Some(2),
     );
+    expect("listed", listed.has_valid_deltas());
+    for (second, cumulative_deleted) in [(3, 5), (4, 6), (4, 0)] {
+        let faulty = [
+            RelaxDelta {
+                input_offset: 0,
+                cumulative_deleted: 4,
+                bytes_deleted: 4,
+            },
+            RelaxDelta {
+                input_offset: second,
+                cumulative_deleted,
+                bytes_deleted: 1,
+            },
+        ];
+        expect_eq(
+            faulty,
+            DeltaSlice::new(&faulty).has_valid_deltas(),
+            false,
+        );
+    }
     Ok(())
 }
 

@@ -64,7 +64,7 @@ pub trait Looks {
     /// Requires that there is such a delta, and a count below `u64::MAX`.
     fn head(&mut self, block: usize) -> (u64, u64)
         requires within { 64 * block < length (listed self.old) }
-        requires room { looked self.old < 2 ^ 64 - 1 }
+        requires room { looked self.old + 1 < 2 ^ 64 }
         ensures offset { (d : RelaxDelta)
             → result.0 ≡ (slice_index_or (listed self.old) (64 * block) d).input_offset }
         ensures output { (d : RelaxDelta)
@@ -77,7 +77,7 @@ pub trait Looks {
     /// Requires that there is such a delta, and a count below `u64::MAX`.
     fn delta(&mut self, index: usize) -> RelaxDelta
         requires within { index < length (listed self.old) }
-        requires room { looked self.old < 2 ^ 64 - 1 }
+        requires room { looked self.old + 1 < 2 ^ 64 }
         ensures delta { (d : RelaxDelta) → result ≡ slice_index_or (listed self.old) index d }
         ensures same { listed self.new ≡ listed self.old }
         ensures counted { looked self.new ≡ looked self.old + 1 };

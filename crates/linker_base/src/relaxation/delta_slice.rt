@@ -8,7 +8,7 @@ ghost use Rattle.linker_base.specs.Deletions.{AreDisjoint, AreKept, IsValid, IsS
 ghost use Rattle.linker_base.specs.Deletions.{bytes_of, rank, IsInsideDeletion, IsSelected};
 ghost use Rattle.linker_base.specs.Deletions.{HasInput};
 ghost use Rattle.linker_base.specs.Blocks.{blocks_of, AreHeads, IsValidView};
-ghost use Rattle.linker_base.specs.Deltas.{deletions_of};
+ghost use Rattle.linker_base.specs.Deltas.{deletions_of, RecordsDeletions};
 ghost use Rattle.linker_base.specs.Listed.{AreValidDeltas, AreValidTogether, IsFirstOverlapping};
 ghost use Rattle.linker_base.specs.Inner.Blocks.{view_subject};
 ghost use Rattle.linker_base.specs.Inner.Listed.{ArePlaced, IsOnlyAt};
@@ -16,7 +16,7 @@ ghost use Rattle.linker_base.specs.Inner.Listed.{ArePlaced, IsOnlyAt};
 use super::RelaxDelta;
 use super::blocks::{BlockHead, count_blocks, write_heads};
 use super::merge::merge_ascending;
-use super::overlap::{self, AsDeletion};
+use super::overlap::{self, AsDeletion, first_invalid};
 use super::partition_point::{FEW, Level, Probe, Test, search};
 use super::walk::{Reached, ascend, walk};
 use std::marker::Model;
@@ -100,6 +100,14 @@ impl<'a> DeltaSlice<'a> {
         ensures { result.now ≡ self.now.deltas }
     {
         self.deltas
+    }
+
+    /// Whether the deltas are valid: they list deletions as `SectionRelaxDeltas::new` requires
+    /// them, each with the sum of the bytes up to it. O(n).
+    pub fn has_valid_deltas(&self) -> bool
+        ensures { IsTrue result ↔ AreValidDeltas self.now.deltas }
+    {
+        first_invalid(self.deltas).is_none() && have_sums(self.deltas)
     }
 
     /// How many blocks of `BLOCK_LEN` deltas there are; the last may be shorter.
@@ -398,6 +406,22 @@ impl<'a> DeltaSlice<'a> {
     {
         merge_ascending(Some(self.deltas()), merged, self.len(), additional);
     }
+}
+
+// Whether each delta has the sum of the bytes of all up to it.
+fn have_sums(deltas: &[RelaxDelta]) -> bool
+    ensures { IsTrue result ↔ RecordsDeletions (deletions_of deltas.now) deltas.now }
+{
+    let mut sum = 0;
+    for &delta in deltas {
+        if delta.cumulative_deleted < sum
+            || delta.cumulative_deleted - sum != u64::from(delta.bytes_deleted)
+        {
+            return false;
+        }
+        sum = delta.cumulative_deleted;
+    }
+    true
 }
 
 // The bytes that the first `count` deltas delete.

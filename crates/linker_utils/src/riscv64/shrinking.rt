@@ -410,8 +410,8 @@ pub fn calls_shrinkable(deltas: &SectionRelaxDeltas, calls: &[(u64, u64)]) -> bo
 /// chosen, and else `false` or 0.
 ///
 /// Requires calls that `first_not_shrinkable` accepts, and as many elements as calls. The deltas
-/// are as `SectionRelaxDeltas::deltas` lists them; of others nothing is promised but that the call
-/// is safe. It takes 8 KiB of the stack and doesn't allocate.
+/// are as `SectionRelaxDeltas::deltas` lists them (`DeltaSlice::has_valid_deltas`); of others
+/// nothing is promised but that the call is safe. It takes 8 KiB of the stack and doesn't allocate.
 ///
 /// All calls are chosen at first, and sweeps over them drop those out of reach until none is. Their
 /// order doesn't matter, since more deletions never take a call out of reach. For k calls and n

@@ -50,7 +50,7 @@ pub trait Looks {
     /// # Requires
     ///
     /// - within: `64 * (block as u128) < (Looks::len(self) as u128)`
-    /// - room: `looked self < 2 ^ 64 - 1`
+    /// - room: `(self.count() as u128) + 1 < 1 << 64`
     fn head(&mut self, block: usize) -> (u64, u64);
 
     /// Delta `index`. One look.
@@ -60,7 +60,7 @@ pub trait Looks {
     /// # Requires
     ///
     /// - within: `index < Looks::len(self)`
-    /// - room: `looked self < 2 ^ 64 - 1`
+    /// - room: `(self.count() as u128) + 1 < 1 << 64`
     fn delta(&mut self, index: usize) -> RelaxDelta;
 }
 
@@ -123,6 +123,7 @@ impl<'a> Looks for Counted<'a> {
     #[inline(always)]
     fn head(&mut self, block: usize) -> (u64, u64) {
         debug_assert!(64 * (block as u128) < (Looks::len(self) as u128));
+        debug_assert!((self.count() as u128) + 1 < 1 << 64);
         self.count += 1;
         if self.deltas.len() <= FEW {
             let first = BlockHead::of(&self.deltas[BLOCK_LEN * block]);
@@ -136,6 +137,7 @@ impl<'a> Looks for Counted<'a> {
     #[inline(always)]
     fn delta(&mut self, index: usize) -> RelaxDelta {
         debug_assert!(index < Looks::len(self));
+        debug_assert!((self.count() as u128) + 1 < 1 << 64);
         self.count += 1;
         self.deltas[index]
     }
@@ -183,10 +185,12 @@ pub(super) fn count_blocks(len: usize) -> usize {
 ///
 /// # Requires
 ///
-/// - room: `K.looked looks < 2 ^ 32`
+/// - room: `(looks.count() as u128) < 1 << 32`
 #[doc(hidden)]
+#[cfg_attr(debug_assertions, track_caller)]
 #[inline(always)]
 pub fn input_to_output_counted<K: Looks>(looks: &mut K, input_offset: u64) -> u64 {
+    debug_assert!((looks.count() as u128) < 1 << 32);
     // What it ensures is that the list is valid.
     let _len = looks.len();
     match search(looks, Test::Begins(input_offset)).checked_sub(1) {
@@ -203,11 +207,13 @@ pub fn input_to_output_counted<K: Looks>(looks: &mut K, input_offset: u64) -> u6
 ///
 /// # Requires
 ///
-/// - fits: `HasInput (deletions_of (K.listed looks)) output_offset`
-/// - room: `K.looked looks < 2 ^ 32`
+/// - fits: the input offset is at most `u64::MAX`, or an addition overflows
+/// - room: `(looks.count() as u128) < 1 << 32`
 #[doc(hidden)]
+#[cfg_attr(debug_assertions, track_caller)]
 #[inline(always)]
 pub fn output_to_input_counted<K: Looks>(looks: &mut K, output_offset: u64) -> u64 {
+    debug_assert!((looks.count() as u128) < 1 << 32);
     // What it ensures is that the list is valid.
     let _len = looks.len();
     match search(looks, Test::IsPlaced(output_offset)).checked_sub(1) {

@@ -4,7 +4,7 @@
 use super::RelaxDelta;
 use super::blocks::{BlockHead, count_blocks, write_heads};
 use super::merge::merge_ascending;
-use super::overlap::{self, AsDeletion};
+use super::overlap::{self, AsDeletion, first_invalid};
 use super::partition_point::{FEW, Level, Probe, Test, search};
 use super::walk::{Reached, ascend, walk};
 
@@ -66,6 +66,13 @@ impl<'a> DeltaSlice<'a> {
     #[inline(always)]
     pub fn deltas(&self) -> &'a [RelaxDelta] {
         self.deltas
+    }
+
+    /// Whether the deltas are valid: they list deletions as `SectionRelaxDeltas::new` requires
+    /// them, each with the sum of the bytes up to it. O(n).
+    #[must_use]
+    pub fn has_valid_deltas(&self) -> bool {
+        first_invalid(self.deltas).is_none() && have_sums(self.deltas)
     }
 
     /// How many blocks of `BLOCK_LEN` deltas there are; the last may be shorter.
@@ -309,6 +316,20 @@ impl<'a> DeltaSlice<'a> {
         debug_assert!(self.can_merge_ascending(additional));
         merge_ascending(Some(self.deltas()), merged, self.len(), additional);
     }
+}
+
+// Whether each delta has the sum of the bytes of all up to it.
+fn have_sums(deltas: &[RelaxDelta]) -> bool {
+    let mut sum = 0;
+    for &delta in deltas {
+        if delta.cumulative_deleted < sum
+            || delta.cumulative_deleted - sum != u64::from(delta.bytes_deleted)
+        {
+            return false;
+        }
+        sum = delta.cumulative_deleted;
+    }
+    true
 }
 
 // The bytes that the first `count` deltas delete.
