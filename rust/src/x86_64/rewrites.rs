@@ -8,14 +8,15 @@ use crate::rewrite::{has_window, overwrite};
 
 /// A rewrite of the instructions around a relocated field of 4 or 8 bytes, whose offset is the
 /// field's (x86-64 psABI, "Optimize GOTPCRELX Relocations", and "ELF Handling For Thread-Local
-/// Storage"). A variant's number is the count of the instruction's bytes before the field: 3 with a
-/// REX prefix, 4 with a REX2 prefix, 6 with an EVEX prefix. With any other number it is unchanged.
+/// Storage"). A variant's number is the count of the instruction's bytes before the field: 2 without
+/// a prefix, 3 with REX, 4 with REX2, 6 with EVEX. With any other number the prefix is unchanged.
 ///
 /// ```
 /// use linker_utils::x86_64::RelaxationKind;
 ///
 /// // jmp *x@GOTPCREL(%rip) becomes jmp x; nop
 /// let (mut section, mut offset, mut addend) = ([0xff, 0x25, 0, 0, 0, 0], 2, -4);
+/// assert!(RelaxationKind::JmpIndirectToRelative.matches(&section, offset));
 /// RelaxationKind::JmpIndirectToRelative.apply(&mut section, &mut offset, &mut addend);
 /// assert_eq!(section, [0xe9, 0, 0, 0, 0, 0x90]);
 /// assert_eq!((offset, addend), (1, -4));
@@ -659,8 +660,9 @@ impl RelaxationKind {
     /// registers, around fields of any value. A number of bytes before the field for which there is
     /// no such instruction matches nothing, and `NoOp` matches any bytes.
     ///
-    /// Bytes before the instruction are not tested. So `MovIndirectToLea`, whose prefix stays, takes
-    /// any prefix, and where there is none the relocation's type has to say so.
+    /// Bytes before the instruction are not tested: `MovIndirectToLea` takes any prefix, which stays,
+    /// and for the others the relocation's type says where the instruction begins. With a prefix 0x66
+    /// for operands of 16 bits assemblers write `R_X86_64_GOTPCREL`, which no rewrite is for.
     #[must_use]
     #[inline]
     pub fn matches(self, section: &[u8], offset: u64) -> bool {
