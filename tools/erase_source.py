@@ -33,7 +33,7 @@ class Source:
             self.stop(opened[-1], "a bracket that nothing closes")
         # what `ghost use` imports, the types, and the ghost members of an `impl` or `trait`
         self.meanings, self.types, self.members = {}, [], {}
-        self.modules, self.items, self.functions, self.ghosts = [], [], [], []
+        self.items, self.functions, self.ghosts = [], [], []
         self.parse(0, len(self.tokens))
 
     def __getitem__(self, at):
@@ -88,8 +88,6 @@ class Source:
 
     def parse(self, at, end, owner="", trait="", is_shown=False):
         """The items of a file or module, or of an `impl` or `trait`."""
-        block = at, end
-        self.modules += [] if owner or trait else [block]
         while at < end:
             first = at
             while self[at] == "#":
@@ -120,9 +118,7 @@ class Source:
             else:
                 at = self.function(first, at, is_public or is_shown, owner, trait)
             at += 1
-            words = {token for token in self.tokens[head:at] if token[0].isalpha()}
-            self.items.append(SimpleNamespace(block=block, first=first, head=head, word=word, name=name,
-                                              words=words))
+            self.items.append(SimpleNamespace(first=first, head=head, word=word, name=name))
 
     def ghost(self, at, in_block):
         """A `ghost use`, or a ghost member of a block. Returns its last token."""

@@ -6,6 +6,13 @@ use std::{env, fs};
 
 fn main() {
     println!("cargo:rerun-if-changed=src");
+    println!("cargo:rerun-if-env-changed=LINKER_UTILS_FOLDER");
+    if env::var_os("LINKER_UTILS_FOLDER").is_none() {
+        println!(
+            "cargo:warning=it links the static library, which `bindings/archive` makes where it is \
+             stale: the proof takes minutes. LINKER_UTILS_FOLDER names a folder that has one."
+        );
+    }
     let mut files: Vec<PathBuf> = fs::read_dir("src")
         .expect("`src` is there")
         .map(|entry| entry.expect("an entry of `src`").path())

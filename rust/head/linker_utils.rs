@@ -11,5 +11,9 @@ mod support;
 #[cfg(test)]
 mod tests;
 
+#[cfg(feature = "compat")]
+pub mod compat;
 mod errors;
 mod linker_base;
+pub mod names;
+mod traits;

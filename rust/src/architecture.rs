@@ -16,7 +16,8 @@ use crate::riscv64::{self, RiscVRelocation};
 use crate::x86_64::{self, X86_64Relocation};
 
 /// A rewrite of one of the architectures.
-#[derive(Debug, Clone, Copy, PartialEq, Eq)]
+#[cfg_attr(not(exhaustive), non_exhaustive)]
+#[derive(Debug, Clone, Copy, PartialEq, Eq, Hash, PartialOrd, Ord)]
 pub enum Relaxation {
     AArch64(aarch64::RelaxationKind),
     RiscV(riscv64::RelaxationKind),
@@ -91,7 +92,7 @@ impl Architecture {
     /// ```
     #[must_use]
     #[inline(always)]
-    pub fn row(self, code: u32) -> Option<Row> {
+    pub const fn row(self, code: u32) -> Option<Row> {
         match self {
             Architecture::AArch64 => aarch64::row(AArch64Relocation::from_elf(code)),
             Architecture::RiscV => riscv64::row(RiscVRelocation::from_elf(code)),
@@ -104,7 +105,7 @@ impl Architecture {
     /// The name of a relocation in its psABI, as "R_AARCH64_CALL26", of at most 64 bytes. None of a
     /// code without a name.
     #[must_use]
-    pub fn name(self, code: u32) -> Option<&'static str> {
+    pub const fn name(self, code: u32) -> Option<&'static str> {
         match self {
             Architecture::AArch64 => match AArch64Relocation::from_elf(code) {
                 AArch64Relocation::Other(_) => None,

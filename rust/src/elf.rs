@@ -40,7 +40,8 @@ pub const PAGE_MASK_4KB: u64 = 0xfff;
 /// The architectures whose relocations and instructions the library knows. A variant's number is
 /// `e_machine` in the ELF header of its files: `EM_AARCH64`, `EM_RISCV`, `EM_LOONGARCH`, `EM_PPC64`
 /// and `EM_X86_64` (ELF specification, "ELF Header").
-#[derive(Debug, Clone, Copy, PartialEq, Eq)]
+#[cfg_attr(not(exhaustive), non_exhaustive)]
+#[derive(Debug, Clone, Copy, PartialEq, Eq, Hash, PartialOrd, Ord)]
 pub enum Architecture {
     /// AArch64, little-endian.
     AArch64 = 183,
@@ -57,7 +58,7 @@ pub enum Architecture {
 impl Architecture {
     /// The architecture of a file by `e_machine` of its ELF header. `None` for any other machine.
     #[must_use]
-    pub fn from_machine(e_machine: u16) -> Option<Architecture> {
+    pub const fn from_machine(e_machine: u16) -> Option<Architecture> {
         match e_machine {
             number if number == Architecture::AArch64.machine() => Some(Architecture::AArch64),
             number if number == Architecture::RiscV.machine() => Some(Architecture::RiscV),
@@ -73,7 +74,7 @@ impl Architecture {
     /// `e_machine` in the ELF header of the architecture's files.
     #[must_use]
     #[inline(always)]
-    pub fn machine(self) -> u16 {
+    pub const fn machine(self) -> u16 {
         self as u16
     }
 }
@@ -81,7 +82,7 @@ impl Architecture {
 /// The formula of a relocation's value. The letters are those of the psABIs: S is the symbol's
 /// address, A the addend, P the place (the address of the field), V the number in the field, and Z
 /// the symbol's size.
-#[derive(Debug, Clone, Copy, PartialEq, Eq)]
+#[derive(Debug, Clone, Copy, PartialEq, Eq, Hash, PartialOrd, Ord)]
 pub enum RelocationKind {
     /// No value; nothing is written.
     None,
@@ -170,7 +171,7 @@ pub enum RelocationKind {
 /// What a relocation of a ULEB128 number does with its value, S + A. Two of them are at one
 /// number. `utils::write_uleb128` writes the result of both: that of the first may
 /// need more bytes than there are.
-#[derive(Debug, Clone, Copy, PartialEq, Eq)]
+#[derive(Debug, Clone, Copy, PartialEq, Eq, Hash)]
 pub enum Uleb128Role {
     /// The value is the number that the next one subtracts from.
     Sets,
@@ -181,14 +182,14 @@ pub enum Uleb128Role {
 }
 
 /// Whether a bit field is read in two's complement.
-#[derive(Debug, Clone, Copy, PartialEq, Eq)]
+#[derive(Debug, Clone, Copy, PartialEq, Eq, Hash)]
 pub enum Sign {
     Signed,
     Unsigned,
 }
 
 /// Where a relocation's value is written.
-#[derive(Debug, Clone, Copy, PartialEq, Eq)]
+#[derive(Debug, Clone, Copy, PartialEq, Eq, Hash)]
 pub enum RelocationSize {
     /// This number of whole bytes.
     ByteSize(u8),
@@ -202,7 +203,7 @@ pub enum RelocationSize {
 impl RelocationSize {
     /// Bits `start` and up, below `end`, into an AArch64 instruction.
     #[must_use]
-    pub fn bit_mask_aarch64(start: u8, end: u8, insn: AArch64Instruction) -> RelocationSize {
+    pub const fn bit_mask_aarch64(start: u8, end: u8, insn: AArch64Instruction) -> RelocationSize {
         RelocationSize::BitMasking {
             range: BitRange { start, end },
             insn: RelocationInstruction::AArch64(insn),
@@ -211,7 +212,7 @@ impl RelocationSize {
 
     /// Bits `start` and up, below `end`, into a RISC-V instruction.
     #[must_use]
-    pub fn bit_mask_riscv(start: u8, end: u8, insn: RiscVInstruction) -> RelocationSize {
+    pub const fn bit_mask_riscv(start: u8, end: u8, insn: RiscVInstruction) -> RelocationSize {
         RelocationSize::BitMasking {
             range: BitRange { start, end },
             insn: RelocationInstruction::RiscV(insn),
@@ -220,7 +221,7 @@ impl RelocationSize {
 
     /// Bits `start` and up, below `end`, into a PowerPC64 instruction.
     #[must_use]
-    pub fn bit_mask_ppc64(start: u8, end: u8, insn: Ppc64Instruction) -> RelocationSize {
+    pub const fn bit_mask_ppc64(start: u8, end: u8, insn: Ppc64Instruction) -> RelocationSize {
         RelocationSize::BitMasking {
             range: BitRange { start, end },
             insn: RelocationInstruction::Ppc64(insn),
@@ -229,7 +230,7 @@ impl RelocationSize {
 
     /// Bits `start` and up, below `end`, into a LoongArch instruction.
     #[must_use]
-    pub fn bit_mask_loongarch64(start: u8, end: u8, insn: LoongArch64Instruction) -> RelocationSize {
+    pub const fn bit_mask_loongarch64(start: u8, end: u8, insn: LoongArch64Instruction) -> RelocationSize {
         RelocationSize::BitMasking {
             range: BitRange { start, end },
             insn: RelocationInstruction::LoongArch64(insn),
@@ -238,7 +239,7 @@ impl RelocationSize {
 }
 
 /// An instruction form of one of the architectures.
-#[derive(Debug, Clone, Copy, PartialEq, Eq)]
+#[derive(Debug, Clone, Copy, PartialEq, Eq, Hash, PartialOrd, Ord)]
 pub enum RelocationInstruction {
     AArch64(AArch64Instruction),
     RiscV(RiscVInstruction),
@@ -247,14 +248,14 @@ pub enum RelocationInstruction {
 }
 
 /// The size of the pages of a page mask.
-#[derive(Debug, Clone, Copy, PartialEq, Eq)]
+#[derive(Debug, Clone, Copy, PartialEq, Eq, Hash)]
 pub enum PageMaskPattern {
     /// 4 KiB.
     Size4KB,
 }
 
 /// The addresses whose offset in the page is cleared before a difference is taken.
-#[derive(Debug, Clone, Copy, PartialEq, Eq)]
+#[derive(Debug, Clone, Copy, PartialEq, Eq, Hash)]
 pub enum PageMask {
     /// The symbol's address plus the addend, and the place.
     SymbolPlusAddendAndPosition(PageMaskPattern),
@@ -266,7 +267,7 @@ pub enum PageMask {
 
 /// A number, not 0, that is added to the symbol's address or the GOT entry's address. It is added
 /// before the page mask is applied, and before the bit range is taken.
-#[derive(Debug, Clone, Copy, PartialEq, Eq)]
+#[derive(Debug, Clone, Copy, PartialEq, Eq, Hash)]
 pub struct Bias {
     value: u64,
 }
@@ -274,7 +275,7 @@ pub struct Bias {
 impl Bias {
     /// A bias of `value`; `None` for 0.
     #[must_use]
-    pub fn from_value(value: u64) -> Option<Bias> {
+    pub const fn from_value(value: u64) -> Option<Bias> {
         if value == 0 {
             None
         } else {
@@ -284,7 +285,7 @@ impl Bias {
 
     /// The number.
     #[must_use]
-    pub fn value(self) -> u64 {
+    pub const fn value(self) -> u64 {
         self.value
     }
 }
@@ -299,7 +300,7 @@ impl Bias {
 /// assert!(branch.contains(-(1 << 27)));
 /// assert!(!branch.contains(1 << 27));
 /// ```
-#[derive(Debug, Clone, Copy, PartialEq, Eq)]
+#[derive(Debug, Clone, Copy, PartialEq, Eq, Hash)]
 pub struct AllowedRange {
     /// The least allowed value, and the first above all; `None` if every value is allowed.
     pub bounds: Option<(i64, i64)>,
@@ -308,7 +309,7 @@ pub struct AllowedRange {
 impl AllowedRange {
     /// From `min` up to, and not including, `max`.
     #[must_use]
-    pub fn new(min: i64, max: i64) -> AllowedRange {
+    pub const fn new(min: i64, max: i64) -> AllowedRange {
         AllowedRange {
             bounds: Some((min, max)),
         }
@@ -316,7 +317,7 @@ impl AllowedRange {
 
     /// Every value.
     #[must_use]
-    pub fn no_check() -> AllowedRange {
+    pub const fn no_check() -> AllowedRange {
         AllowedRange { bounds: None }
     }
 
@@ -328,7 +329,7 @@ impl AllowedRange {
     /// - short: `n <= 62`
     #[must_use]
     #[cfg_attr(debug_assertions, track_caller)]
-    pub fn from_bit_size(n: u32, sign: Sign) -> AllowedRange {
+    pub const fn from_bit_size(n: u32, sign: Sign) -> AllowedRange {
         debug_assert!(1 <= n);
         debug_assert!(n <= 62);
         match sign {
@@ -345,7 +346,7 @@ impl AllowedRange {
     /// - short: `k <= 8`
     #[must_use]
     #[cfg_attr(debug_assertions, track_caller)]
-    pub fn from_byte_size(k: u32, sign: Sign) -> AllowedRange {
+    pub const fn from_byte_size(k: u32, sign: Sign) -> AllowedRange {
         debug_assert!(1 <= k);
         debug_assert!(k <= 8);
         if k == 8 {
@@ -358,7 +359,7 @@ impl AllowedRange {
     /// Whether a value is in the range. Where two instructions hold the value, a row's range may be
     /// wider than what they reach: see `RelocationKindInfo::reach`.
     #[must_use]
-    pub fn contains(self, v: i64) -> bool {
+    pub const fn contains(self, v: i64) -> bool {
         match self.bounds {
             Some((min, max)) => min <= v && v < max,
             None => true,
@@ -367,7 +368,7 @@ impl AllowedRange {
 }
 
 /// What a relocation means.
-#[derive(Debug, Clone, Copy, PartialEq, Eq)]
+#[derive(Debug, Clone, Copy, PartialEq, Eq, Hash)]
 pub struct RelocationKindInfo {
     /// The formula of its value.
     pub kind: RelocationKind,

@@ -17,8 +17,12 @@ mod support;
 #[cfg(test)]
 mod tests;
 
+#[cfg(feature = "compat")]
+pub mod compat;
 mod errors;
 mod linker_base;
+pub mod names;
+mod traits;
 
 pub mod aarch64;
 pub mod architecture;

@@ -52,7 +52,8 @@ fn lists_all(deltas: &SectionRelaxDeltas) {
 fn deletions_are_listed_and_copied() {
     let deltas = SectionRelaxDeltas::new(&pairs()).expect("memory");
     lists_all(&deltas);
-    lists_all(&deltas.clone().expect("memory"));
+    lists_all(&deltas.clone());
+    lists_all(&deltas.try_clone().expect("memory"));
 }
 
 #[test]
@@ -88,13 +89,20 @@ fn maps_hold_many_sections() {
         sections.insert_sorted(index, deltas(index as u32)).expect("memory");
     }
     assert_eq!(sections.last_index(), Some(39));
-    for copy in [&sections, &sections.clone().expect("memory")] {
+    for copy in [&sections, &sections.clone(), &sections.try_clone().expect("memory")] {
+        assert_eq!(copy, &sections);
         for index in 0..40 {
             let section = copy.get(index).expect("a section of this index");
             assert_eq!(section.total_deleted(), index as u64);
         }
         assert!(copy.get(40).is_none());
+        let listed: Vec<(usize, u64)> =
+            copy.iter().map(|(index, section)| (index, section.total_deleted())).collect();
+        assert_eq!(listed, (0..40).map(|index| (index, index as u64)).collect::<Vec<_>>());
     }
+    assert_eq!(RelaxDeltaMap::default(), RelaxDeltaMap::new());
+    assert_ne!(RelaxDeltaMap::default(), sections);
+    assert_ne!(deltas(4), deltas(2));
 }
 
 /// `auipc ra, 0` and `jalr ra, 0(ra)`, of which the second goes.

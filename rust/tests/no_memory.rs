@@ -176,7 +176,7 @@ fn copies_leave_the_source() {
     let pairs = [(4, 4), (12, 2)];
     for (pairs, growths) in [(pairs.to_vec(), 1), (many(), 2)] {
         let source = deltas(&pairs);
-        let (count, copy) = each_fails(|| source.clone(), |_| assert_eq!(listed(&source), pairs));
+        let (count, copy) = each_fails(|| source.try_clone(), |_| assert_eq!(listed(&source), pairs));
         assert_eq!((count, listed(&copy)), (growths, pairs));
     }
 
@@ -188,7 +188,7 @@ fn copies_leave_the_source() {
         assert_eq!(map.get(3).map(listed), Some(vec![(8, 4)]));
         assert_eq!(map.last_index(), Some(3));
     };
-    let (count, copy) = each_fails(|| sections.clone(), |_| is_whole(&sections));
+    let (count, copy) = each_fails(|| sections.try_clone(), |_| is_whole(&sections));
     assert_eq!(count, 3);
     is_whole(&copy);
 }
@@ -206,7 +206,7 @@ fn insertions_hand_the_deltas_back() {
     // one of some insertions grows the map
     let mut failures = 0;
     for index in [1, 0, 2, 9, 8, 7, 6, 5, 4] {
-        let before = sections.clone().expect("memory");
+        let before = sections.try_clone().expect("memory");
         let given = deltas(&[(4, 4), (index as u64 + 10, 0)]);
         let (mut result, has_failed) = failing(0, || sections.insert_sorted(index, given));
         assert_eq!(result.is_err(), has_failed);

@@ -8,7 +8,7 @@ use crate::elf::{InstructionForm, RelocationInstruction};
 /// AArch64 instructions with an immediate (Arm Architecture Reference Manual for A-profile, DDI
 /// 0487, C6.2 and C7.2). The window is one instruction of 4 bytes. Except for `Movnz` and
 /// `MachOLow12` the value's bits are only ORed into it: the immediate has to be 0 before.
-#[derive(Debug, Clone, Copy, PartialEq, Eq)]
+#[derive(Debug, Clone, Copy, PartialEq, Eq, Hash, PartialOrd, Ord)]
 pub enum AArch64Instruction {
     /// `adr` and `adrp`: value bits 0 and 1 at bit 29 and up, 2 to 20 at bit 5 and up. Signed 21
     /// bits, in bytes for `adr` and in pages of 4 KiB for `adrp`. Values below 2^21 fit.

@@ -9,7 +9,8 @@ use core::fmt;
 
 /// The relocations of AArch64, by their names in ELF for the Arm 64-bit Architecture, "Relocation".
 /// `from_elf` takes the code that an ELF file has.
-#[derive(Clone, Copy, PartialEq, Eq)]
+#[cfg_attr(not(exhaustive), non_exhaustive)]
+#[derive(Clone, Copy, PartialEq, Eq, Hash, PartialOrd, Ord)]
 pub enum AArch64Relocation {
     R_AARCH64_NONE,
     R_AARCH64_ABS64,
@@ -365,20 +366,20 @@ impl AArch64Relocation {
     /// The relocation with a code, `r_type` in ELF files; `Other(code)` for a code without a name.
     #[must_use]
     #[inline(always)]
-    pub fn from_elf(code: u32) -> AArch64Relocation {
+    pub const fn from_elf(code: u32) -> AArch64Relocation {
         relocations!(name_of_code(AArch64Relocation, code))
     }
 
     /// The code, `r_type` in ELF files.
     #[must_use]
     #[inline]
-    pub fn elf_code(self) -> u32 {
+    pub const fn elf_code(self) -> u32 {
         relocations!(code_of_name(AArch64Relocation, self))
     }
 
     /// The name, as "R_AARCH64_CALL26"; "unknown relocation" for `Other`.
     #[must_use]
-    pub fn name(self) -> &'static str {
+    pub const fn name(self) -> &'static str {
         relocations!(text_of_name(AArch64Relocation, self))
     }
 }
@@ -387,7 +388,7 @@ static ROWS: &[Option<TableRow>] = &relocations!(table());
 
 /// The index of a name in the table.
 #[inline(always)]
-fn index(name: AArch64Relocation) -> usize {
+const fn index(name: AArch64Relocation) -> usize {
     relocations!(index_of_name(AArch64Relocation, name))
 }
 
@@ -405,13 +406,13 @@ fn index(name: AArch64Relocation) -> usize {
 /// ```
 #[must_use]
 #[inline(always)]
-pub fn row(name: AArch64Relocation) -> Option<Row> {
+pub const fn row(name: AArch64Relocation) -> Option<Row> {
     row_in(&ROWS[index(name)])
 }
 
 /// What a relocation means, as `row` says.
 #[must_use]
 #[inline(always)]
-pub fn relocation_type_from_raw(name: AArch64Relocation) -> Option<RelocationKindInfo> {
+pub const fn relocation_type_from_raw(name: AArch64Relocation) -> Option<RelocationKindInfo> {
     info_in(row(name))
 }

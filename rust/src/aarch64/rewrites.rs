@@ -19,7 +19,7 @@ use crate::utils::u32_from_slice;
 /// RelaxationKind::AdrpToAdr.apply(&mut adrp, &mut offset, &mut addend);
 /// assert_eq!(u32::from_le_bytes(adrp), 0x3000_0003);
 /// ```
-#[derive(Debug, Clone, Copy, PartialEq, Eq)]
+#[derive(Debug, Clone, Copy, PartialEq, Eq, Hash, PartialOrd, Ord)]
 pub enum RelaxationKind {
     /// Leaves the instruction as it is; only the kind of its relocation changes.
     NoOp,

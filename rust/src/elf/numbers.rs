@@ -3,7 +3,7 @@
 
 /// What a relocation means, in numbers.
 #[repr(C)]
-#[derive(Clone, Copy)]
+#[derive(Clone, Copy, Debug, PartialEq, Eq, Hash)]
 pub struct RelocationNumbers {
     /// What its value is computed from: the place of the kind in the enum `RelocationKind`.
     pub kind: u32,

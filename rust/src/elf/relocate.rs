@@ -9,7 +9,8 @@ use crate::elf::{
 };
 
 /// Why a relocation's value isn't written.
-#[derive(Debug, Clone, Copy, PartialEq, Eq)]
+#[cfg_attr(not(exhaustive), non_exhaustive)]
+#[derive(Debug, Clone, Copy, PartialEq, Eq, Hash)]
 pub enum RelocateError {
     /// The relocation is one of a pair that computes a ULEB128 number, whose length is not the
     /// row's to know: `utils::write_uleb128` writes it. Or it is `R_LARCH_CALL30`: no manual says

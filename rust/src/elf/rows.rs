@@ -50,13 +50,14 @@ pub(crate) struct WriteTests {
 /// row.write(value, &mut jal).unwrap();
 /// assert_eq!(u32::from_le_bytes(jal), 0x0080_00ef);
 /// ```
+#[derive(Clone, Copy)]
 pub struct Row {
     entry: &'static TableRow,
 }
 
 /// The row of a table's entry, if there is one.
 #[inline(always)]
-pub(crate) fn row_in(entry: &'static Option<TableRow>) -> Option<Row> {
+pub(crate) const fn row_in(entry: &'static Option<TableRow>) -> Option<Row> {
     match entry {
         Some(entry) => Some(Row::of(entry)),
         None => None,
@@ -65,7 +66,7 @@ pub(crate) fn row_in(entry: &'static Option<TableRow>) -> Option<Row> {
 
 /// What a row means, if there is one.
 #[inline(always)]
-pub(crate) fn info_in(row: Option<Row>) -> Option<RelocationKindInfo> {
+pub(crate) const fn info_in(row: Option<Row>) -> Option<RelocationKindInfo> {
     match row {
         Some(row) => Some(row.info()),
         None => None,
@@ -75,14 +76,14 @@ pub(crate) fn info_in(row: Option<Row>) -> Option<RelocationKindInfo> {
 impl Row {
     /// The row of an entry.
     #[inline(always)]
-    pub(crate) fn of(entry: &'static TableRow) -> Row {
+    pub(crate) const fn of(entry: &'static TableRow) -> Row {
         Row { entry }
     }
 
     /// What the relocation means.
     #[must_use]
     #[inline(always)]
-    pub fn info(&self) -> RelocationKindInfo {
+    pub const fn info(&self) -> RelocationKindInfo {
         let entry = self.entry;
         let numbers = &entry.numbers;
         // loaded before the test, so that LLVM needs no branch
@@ -107,21 +108,21 @@ impl Row {
     /// The formula of the relocation's value.
     #[must_use]
     #[inline(always)]
-    pub fn kind(&self) -> RelocationKind {
+    pub const fn kind(&self) -> RelocationKind {
         self.entry.kind
     }
 
     /// The same in numbers.
     #[must_use]
     #[inline(always)]
-    pub fn numbers(&self) -> &'static RelocationNumbers {
+    pub const fn numbers(&self) -> &'static RelocationNumbers {
         &self.entry.numbers
     }
 
     /// How many bytes `write` writes.
     #[must_use]
     #[inline(always)]
-    pub fn window(&self) -> usize {
+    pub const fn window(&self) -> usize {
         self.entry.tests.window
     }
 

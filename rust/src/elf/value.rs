@@ -10,7 +10,7 @@ use crate::loongarch64::highest_relocation_with_bias;
 /// What the value of a relocation is computed from. All but the addend are addresses or sizes in
 /// bytes. A value is computed modulo 2^64. What the relocation's formula doesn't name isn't read.
 #[repr(C)]
-#[derive(Debug, Default, Clone, Copy, PartialEq, Eq)]
+#[derive(Debug, Default, Clone, Copy, PartialEq, Eq, Hash)]
 pub struct Operands {
     /// S: the symbol's address, and of a TLS symbol its address in the TLS segment's image. Of
     /// `R_RISCV_PCREL_LO12_*` it is the address that the high part at the label refers to: that of

@@ -6,7 +6,7 @@
 use core::ops::Range;
 
 /// A half-open bit range: bits `start` up to, and not including, `end`.
-#[derive(Debug, Clone, Copy, PartialEq, Eq)]
+#[derive(Debug, Clone, Copy, PartialEq, Eq, Hash, PartialOrd, Ord)]
 pub struct BitRange {
     /// The first bit.
     pub start: u8,

@@ -4,6 +4,7 @@
 mod blocks;
 mod cursor;
 mod delta_slice;
+#[doc(hidden)]
 pub mod laws;
 mod map;
 mod merge;
@@ -25,7 +26,7 @@ use overlap::{are_beside_deltas_batches, are_disjoint_batches, first_overlapping
 pub use overlap::{AsDeletion, first_invalid};
 
 /// What a linker does with the relocation that follows a rewritten one.
-#[derive(Debug, Clone, Copy, PartialEq, Eq)]
+#[derive(Debug, Clone, Copy, PartialEq, Eq, Hash)]
 pub enum RelocationModifier {
     /// It is applied as usual.
     Normal,
@@ -34,7 +35,7 @@ pub enum RelocationModifier {
 }
 
 /// Out of memory. The call that returns it has changed nothing.
-#[derive(Debug, Clone, Copy, PartialEq, Eq)]
+#[derive(Debug, Clone, Copy, PartialEq, Eq, Hash)]
 pub struct OutOfMemory;
 
 impl From<AllocError> for OutOfMemory {
@@ -51,7 +52,7 @@ impl<T> From<AllocFailed<T>> for OutOfMemory {
 
 /// One deletion in an input section, with the sum of the deletions up to it.
 #[repr(C)]
-#[derive(Debug, Clone, Copy, PartialEq, Eq)]
+#[derive(Debug, Clone, Copy, PartialEq, Eq, Hash, PartialOrd, Ord)]
 pub struct RelaxDelta {
     /// The offset in the input section of the first deleted byte.
     pub input_offset: u64,
@@ -75,8 +76,8 @@ impl RelaxDelta {
 /// The deletions in one input section, by ascending offset.
 ///
 /// Two deletions have different offsets, none reaches past the offset of the next, and each ends
-/// at `u64::MAX` or below. Contracts see the list of their offsets and bytes.
-#[derive(Debug)]
+/// at `u64::MAX` or below.
+#[derive(Debug, Clone, Default)]
 pub struct SectionRelaxDeltas {
     deltas: Vec<RelaxDelta>,
     heads: Vec<BlockHead>,
@@ -196,7 +197,7 @@ impl SectionRelaxDeltas {
 
     /// A copy of the deltas. It allocates once, twice for more than 1,024, and not at all where
     /// there are none.
-    pub fn clone(&self) -> Result<Self, OutOfMemory> {
+    pub fn try_clone(&self) -> Result<Self, OutOfMemory> {
         let mut deltas = Vec::fallible_with_capacity(self.deltas.len())?;
         let mut heads = Vec::fallible_with_capacity(self.heads.len())?;
         deltas.fallible_extend_from_slice(&self.deltas)?;
@@ -293,6 +294,7 @@ impl SectionRelaxDeltas {
     }
 
     /// The deltas, with a count of the looks at them, 0 so far.
+    #[doc(hidden)]
     #[must_use]
     #[inline(always)]
     pub fn counted(&self) -> Counted<'_> {

@@ -3,9 +3,7 @@
 //!
 #![doc = include_str!("../../doc/utils.md")]
 
-#[cfg(feature = "readers")]
 use alloc::string::String;
-#[cfg(feature = "readers")]
 use crate::support::*;
 #[cfg(feature = "readers")]
 use anyhow::{Result, bail, ensure};
@@ -136,7 +134,8 @@ pub fn read_uleb128(content: &mut &[u8]) -> Result<u64> {
 }
 
 /// Why a ULEB128 number isn't written.
-#[derive(Debug, Clone, Copy, PartialEq, Eq)]
+#[cfg_attr(not(exhaustive), non_exhaustive)]
+#[derive(Debug, Clone, Copy, PartialEq, Eq, Hash)]
 pub enum Uleb128Error {
     /// The bytes end before the existing number does.
     Ended,
@@ -147,7 +146,6 @@ pub enum Uleb128Error {
 }
 
 /// The index of the last byte of the ULEB128 number that bytes begin with.
-#[cfg(feature = "readers")]
 fn last_of_uleb128(bytes: &[u8]) -> Result<usize, Uleb128Error> {
     for (i, byte) in bytes.iter().enumerate() {
         if i == 9 && *byte >= 2 {
@@ -174,7 +172,6 @@ fn last_of_uleb128(bytes: &[u8]) -> Result<usize, Uleb128Error> {
 /// # Errors
 ///
 /// The first that applies of `Ended`, `TooLarge` and `DoesNotFit`. Nothing is written then.
-#[cfg(feature = "readers")]
 pub fn write_uleb128(dest: &mut [u8], value: u64) -> Result<(), Uleb128Error> {
     let last = last_of_uleb128(dest)?;
     if last < 9 && value >> (7 * last as u64 + 7) != 0 {
@@ -188,4 +185,5 @@ pub fn write_uleb128(dest: &mut [u8], value: u64) -> Result<(), Uleb128Error> {
 }
 
 /// Bytes begin with at most one ULEB128 number, and the rest after it is determined.
+#[doc(hidden)]
 pub fn uleb128_has_one_reading() {}

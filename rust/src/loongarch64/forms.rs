@@ -7,7 +7,7 @@ use crate::elf::{InstructionForm, RelocationInstruction};
 
 /// LoongArch instructions with an immediate, and the pairs of long calls (LoongArch Reference
 /// Manual, volume 1, "Instruction Encoding"). The window is 4 bytes, and 8 for a pair.
-#[derive(Debug, Clone, Copy, PartialEq, Eq)]
+#[derive(Debug, Clone, Copy, PartialEq, Eq, Hash, PartialOrd, Ord)]
 pub enum LoongArch64Instruction {
     /// An immediate of 20 bits: value bits 0 to 19 at bit 5 and up. Values below 2^20 fit.
     Shift5,

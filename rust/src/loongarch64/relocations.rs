@@ -9,7 +9,8 @@ use core::fmt;
 
 /// The relocations of LoongArch, by their names in the LoongArch ELF psABI, "Relocation Types".
 /// `from_elf` takes the code that an ELF file has.
-#[derive(Clone, Copy, PartialEq, Eq)]
+#[cfg_attr(not(exhaustive), non_exhaustive)]
+#[derive(Clone, Copy, PartialEq, Eq, Hash, PartialOrd, Ord)]
 #[allow(non_camel_case_types)]
 pub enum LoongArch64Relocation {
     R_LARCH_NONE,
@@ -222,20 +223,20 @@ impl LoongArch64Relocation {
     /// The relocation with a code, `r_type` in ELF files; `Other(code)` for a code without a name.
     #[must_use]
     #[inline(always)]
-    pub fn from_elf(code: u32) -> LoongArch64Relocation {
+    pub const fn from_elf(code: u32) -> LoongArch64Relocation {
         relocations!(name_of_code(LoongArch64Relocation, code))
     }
 
     /// The code, `r_type` in ELF files.
     #[must_use]
     #[inline]
-    pub fn elf_code(self) -> u32 {
+    pub const fn elf_code(self) -> u32 {
         relocations!(code_of_name(LoongArch64Relocation, self))
     }
 
     /// The name, as "R_LARCH_32"; "unknown relocation" for `Other`.
     #[must_use]
-    pub fn name(self) -> &'static str {
+    pub const fn name(self) -> &'static str {
         relocations!(text_of_name(LoongArch64Relocation, self))
     }
 
@@ -254,7 +255,7 @@ static ROWS: &[Option<TableRow>] = &relocations!(table());
 
 /// The index of a name in the table.
 #[inline(always)]
-fn index(name: LoongArch64Relocation) -> usize {
+const fn index(name: LoongArch64Relocation) -> usize {
     relocations!(index_of_name(LoongArch64Relocation, name))
 }
 
@@ -268,13 +269,13 @@ fn index(name: LoongArch64Relocation) -> usize {
 /// makes of `R_LARCH_CALL30`'s pair.
 #[must_use]
 #[inline(always)]
-pub fn row(name: LoongArch64Relocation) -> Option<Row> {
+pub const fn row(name: LoongArch64Relocation) -> Option<Row> {
     row_in(&ROWS[index(name)])
 }
 
 /// What a relocation means, as `row` says.
 #[must_use]
 #[inline(always)]
-pub fn relocation_type_from_raw(name: LoongArch64Relocation) -> Option<RelocationKindInfo> {
+pub const fn relocation_type_from_raw(name: LoongArch64Relocation) -> Option<RelocationKindInfo> {
     info_in(row(name))
 }

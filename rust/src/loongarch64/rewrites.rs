@@ -9,7 +9,7 @@ use crate::rewrite::{has_window, overwrite};
 const NOP: [u8; 4] = [0x00, 0x00, 0x40, 0x03];
 
 /// A rewrite of one instruction.
-#[derive(Debug, Clone, Copy, PartialEq, Eq)]
+#[derive(Debug, Clone, Copy, PartialEq, Eq, Hash, PartialOrd, Ord)]
 pub enum RelaxationKind {
     /// Leaves the instruction as it is; only the kind of its relocation changes.
     NoOp,

@@ -8,7 +8,7 @@ use crate::elf::{InstructionForm, RelocationInstruction};
 /// Every value fits: except for `Prefixed` its bits are in the word where they are in the value,
 /// and all other bits are unchanged.
 /// Bits are numbered from the least significant one.
-#[derive(Debug, Clone, Copy, PartialEq, Eq)]
+#[derive(Debug, Clone, Copy, PartialEq, Eq, Hash, PartialOrd, Ord)]
 pub enum Ppc64Instruction {
     /// D-form, as `addi`: value bits 0 to 15 at bit 0 and up. A signed number of 16 bits (Power
     /// ISA, "D-Form").

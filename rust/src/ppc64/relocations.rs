@@ -9,8 +9,9 @@ use core::fmt;
 
 /// The relocations of PowerPC64, by their names in the 64-bit ELF V2 ABI for Power, "Relocation
 /// Types". `from_elf` takes the code that an ELF file has.
+#[cfg_attr(not(exhaustive), non_exhaustive)]
 #[allow(non_camel_case_types)]
-#[derive(Clone, Copy, PartialEq, Eq)]
+#[derive(Clone, Copy, PartialEq, Eq, Hash, PartialOrd, Ord)]
 pub enum Ppc64Relocation {
     R_PPC64_NONE,
     R_PPC64_ADDR32,
@@ -170,20 +171,20 @@ impl Ppc64Relocation {
     /// The relocation with a code, `r_type` in ELF files; `Other(code)` for a code without a name.
     #[must_use]
     #[inline(always)]
-    pub fn from_elf(code: u32) -> Ppc64Relocation {
+    pub const fn from_elf(code: u32) -> Ppc64Relocation {
         relocations!(name_of_code(Ppc64Relocation, code))
     }
 
     /// The code, `r_type` in ELF files.
     #[must_use]
     #[inline]
-    pub fn elf_code(self) -> u32 {
+    pub const fn elf_code(self) -> u32 {
         relocations!(code_of_name(Ppc64Relocation, self))
     }
 
     /// The name, as "R_PPC64_REL24"; "unknown relocation" for `Other`.
     #[must_use]
-    pub fn name(self) -> &'static str {
+    pub const fn name(self) -> &'static str {
         relocations!(text_of_name(Ppc64Relocation, self))
     }
 }
@@ -192,7 +193,7 @@ static ROWS: &[Option<TableRow>] = &relocations!(table());
 
 /// The index of a name in the table.
 #[inline(always)]
-fn index(name: Ppc64Relocation) -> usize {
+const fn index(name: Ppc64Relocation) -> usize {
     relocations!(index_of_name(Ppc64Relocation, name))
 }
 
@@ -207,13 +208,13 @@ fn index(name: Ppc64Relocation) -> usize {
 /// 2^31 - 0x8001. Elsewhere it is the value modulo 2^32.
 #[must_use]
 #[inline(always)]
-pub fn row(name: Ppc64Relocation) -> Option<Row> {
+pub const fn row(name: Ppc64Relocation) -> Option<Row> {
     row_in(&ROWS[index(name)])
 }
 
 /// What a relocation means, as `row` says.
 #[must_use]
 #[inline(always)]
-pub fn relocation_type_from_raw(name: Ppc64Relocation) -> Option<RelocationKindInfo> {
+pub const fn relocation_type_from_raw(name: Ppc64Relocation) -> Option<RelocationKindInfo> {
     info_in(row(name))
 }

@@ -5,7 +5,7 @@ use crate::elf::InstructionRewrite;
 use crate::relaxation::RelocationModifier;
 
 /// A rewrite of one instruction.
-#[derive(Debug, Clone, Copy, PartialEq, Eq)]
+#[derive(Debug, Clone, Copy, PartialEq, Eq, Hash, PartialOrd, Ord)]
 pub enum RelaxationKind {
     /// Leaves the instruction as it is; only the kind of its relocation changes.
     NoOp,

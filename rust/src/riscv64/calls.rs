@@ -60,7 +60,7 @@ pub(super) fn is_call_pair(auipc: u32, jalr: u32) -> bool {
 
 /// A call in a section, as C has it.
 #[repr(C)]
-#[derive(Debug, Clone, Copy, PartialEq, Eq)]
+#[derive(Debug, Clone, Copy, PartialEq, Eq, Hash)]
 pub struct Call {
     /// The offset in the input section of the `auipc`.
     pub site: u64,
@@ -91,7 +91,7 @@ impl AsCall for (u64, u64) {
 
 /// Which register the jump of a call links: the destination of one of the call's instructions,
 /// bits 7 to 11.
-#[derive(Debug, Clone, Copy, PartialEq, Eq)]
+#[derive(Debug, Clone, Copy, PartialEq, Eq, Hash)]
 pub enum LinkRegister {
     /// The register of the `auipc`, as `RelaxationKind::CallToJal` takes it. The call itself links
     /// it only where `is_plain_call` holds.
@@ -131,7 +131,8 @@ impl LinkRegister {
 }
 
 /// Why a call doesn't become a jump.
-#[derive(Debug, Clone, Copy, PartialEq, Eq)]
+#[cfg_attr(not(exhaustive), non_exhaustive)]
+#[derive(Debug, Clone, Copy, PartialEq, Eq, Hash)]
 pub enum CallError {
     /// The four bytes at the site, or eight where the `jalr` says which register is linked, don't
     /// lie in the section, or the target is past its end.
@@ -145,7 +146,8 @@ pub enum CallError {
 }
 
 /// Why a call doesn't become a jump that links the register that was chosen.
-#[derive(Debug, Clone, Copy, PartialEq, Eq)]
+#[cfg_attr(not(exhaustive), non_exhaustive)]
+#[derive(Debug, Clone, Copy, PartialEq, Eq, Hash)]
 pub enum JumpError {
     /// For a cause that any choice has.
     Call(CallError),

@@ -7,7 +7,7 @@ use crate::elf::{InstructionForm, RelocationInstruction};
 /// RISC-V instructions with an immediate (RISC-V unprivileged ISA, "Immediate Encoding Variants"
 /// and "Compressed Instruction Formats"). Every value fits. The window is 4 bytes unless said
 /// otherwise. `a..b to c` means: value bits a to b, both included, are at window bits c and up.
-#[derive(Debug, Clone, Copy, PartialEq, Eq)]
+#[derive(Debug, Clone, Copy, PartialEq, Eq, Hash, PartialOrd, Ord)]
 pub enum RiscVInstruction {
     /// The U-immediate, of `lui` and `auipc`: 12..31 to 12 of the value plus 0x800, because the low
     /// part is signed.

@@ -10,7 +10,7 @@ use crate::relaxation::{DeltaSlice, RelaxDelta, SectionRelaxDeltas};
 use crate::rewrite::{has_window, overwrite};
 
 /// The first of some calls that can't become a jump.
-#[derive(Debug, Clone, Copy, PartialEq, Eq)]
+#[derive(Debug, Clone, Copy, PartialEq, Eq, Hash)]
 pub struct RejectedCall {
     /// Its index among the calls.
     pub index: usize,
@@ -19,7 +19,8 @@ pub struct RejectedCall {
 }
 
 /// Why a section isn't packed.
-#[derive(Debug, Clone, Copy, PartialEq, Eq)]
+#[cfg_attr(not(exhaustive), non_exhaustive)]
+#[derive(Debug, Clone, Copy, PartialEq, Eq, Hash)]
 pub enum PackError {
     /// Out of memory for the packed section.
     OutOfMemory,
@@ -273,4 +274,5 @@ pub fn pack_section(
 
 /// In a packed section each call that was listed is a jump from where its site goes to where its
 /// target goes.
+#[doc(hidden)]
 pub fn packed_calls_reach_targets() {}

@@ -9,7 +9,8 @@ use core::fmt;
 
 /// The relocations of RISC-V, by their names in the RISC-V ELF psABI, "Relocations". `from_elf`
 /// takes the code that an ELF file has.
-#[derive(Clone, Copy, PartialEq, Eq)]
+#[cfg_attr(not(exhaustive), non_exhaustive)]
+#[derive(Clone, Copy, PartialEq, Eq, Hash, PartialOrd, Ord)]
 pub enum RiscVRelocation {
     R_RISCV_NONE,
     R_RISCV_32,
@@ -153,20 +154,20 @@ impl RiscVRelocation {
     /// The relocation with a code, `r_type` in ELF files; `Other(code)` for a code without a name.
     #[must_use]
     #[inline(always)]
-    pub fn from_elf(code: u32) -> RiscVRelocation {
+    pub const fn from_elf(code: u32) -> RiscVRelocation {
         relocations!(name_of_code(RiscVRelocation, code))
     }
 
     /// The code, `r_type` in ELF files.
     #[must_use]
     #[inline]
-    pub fn elf_code(self) -> u32 {
+    pub const fn elf_code(self) -> u32 {
         relocations!(code_of_name(RiscVRelocation, self))
     }
 
     /// The name, as "R_RISCV_32"; "unknown relocation" for `Other`.
     #[must_use]
-    pub fn name(self) -> &'static str {
+    pub const fn name(self) -> &'static str {
         relocations!(text_of_name(RiscVRelocation, self))
     }
 
@@ -186,7 +187,7 @@ static CLUI: TableRow =
 
 /// What `R_RISCV_HI20` means once its `lui` has become a `c.lui`.
 #[must_use]
-pub fn clui_row() -> Row {
+pub const fn clui_row() -> Row {
     Row::of(&CLUI)
 }
 
@@ -194,7 +195,7 @@ static ROWS: &[Option<TableRow>] = &relocations!(table());
 
 /// The index of a name in the table.
 #[inline(always)]
-fn index(name: RiscVRelocation) -> usize {
+const fn index(name: RiscVRelocation) -> usize {
     relocations!(index_of_name(RiscVRelocation, name))
 }
 
@@ -215,20 +216,20 @@ fn index(name: RiscVRelocation) -> usize {
 /// have 64 bits, test that bound too.
 #[must_use]
 #[inline(always)]
-pub fn row(name: RiscVRelocation) -> Option<Row> {
+pub const fn row(name: RiscVRelocation) -> Option<Row> {
     row_in(&ROWS[index(name)])
 }
 
 /// Whether relocations of TLS descriptors have a kind.
 #[inline(always)]
-fn is_of_descriptor(kind: RelocationKind) -> bool {
+const fn is_of_descriptor(kind: RelocationKind) -> bool {
     matches!(kind, RelocationKind::TlsDesc | RelocationKind::TlsDescCall)
 }
 
 /// What a relocation means, as `row` says, or `None` for the four of TLS descriptors.
 #[must_use]
 #[inline(always)]
-pub fn relocation_type_from_raw(name: RiscVRelocation) -> Option<RelocationKindInfo> {
+pub const fn relocation_type_from_raw(name: RiscVRelocation) -> Option<RelocationKindInfo> {
     match row(name) {
         // by the kind: LLVM compiles a match of the name to a jump by the code
         Some(row) if !is_of_descriptor(row.kind()) => Some(row.info()),

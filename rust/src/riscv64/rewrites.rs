@@ -10,7 +10,7 @@ use crate::rewrite::{has_window, overwrite};
 use crate::utils::u32_from_slice;
 
 /// A rewrite of one instruction, or of a pair whose second instruction is then deleted.
-#[derive(Debug, Clone, Copy, PartialEq, Eq)]
+#[derive(Debug, Clone, Copy, PartialEq, Eq, Hash, PartialOrd, Ord)]
 pub enum RelaxationKind {
     /// Leaves the instruction as it is; only the kind of its relocation changes.
     NoOp,

@@ -331,4 +331,5 @@ pub fn shrink_calls(
 
 /// Once the four bytes of each chosen call of a choice in reach are deleted too, `pack_section` and
 /// `pack_into` reject no chosen call with `OddDistance` or `TooFar`.
+#[doc(hidden)]
 pub fn shrunk_calls_are_accepted() {}

@@ -9,8 +9,9 @@ use core::fmt;
 
 /// The relocations of x86-64, by their names in the x86-64 psABI, "Relocation Types". `from_elf`
 /// takes the code that an ELF file has.
+#[cfg_attr(not(exhaustive), non_exhaustive)]
 #[allow(non_camel_case_types)]
-#[derive(Clone, Copy, PartialEq, Eq)]
+#[derive(Clone, Copy, PartialEq, Eq, Hash, PartialOrd, Ord)]
 pub enum X86_64Relocation {
     R_X86_64_NONE,
     R_X86_64_64,
@@ -123,20 +124,20 @@ impl X86_64Relocation {
     /// The relocation with a code, `r_type` in ELF files; `Other(code)` for a code without a name.
     #[must_use]
     #[inline(always)]
-    pub fn from_elf(code: u32) -> X86_64Relocation {
+    pub const fn from_elf(code: u32) -> X86_64Relocation {
         relocations!(name_of_code(X86_64Relocation, code))
     }
 
     /// The code, `r_type` in ELF files.
     #[must_use]
     #[inline]
-    pub fn elf_code(self) -> u32 {
+    pub const fn elf_code(self) -> u32 {
         relocations!(code_of_name(X86_64Relocation, self))
     }
 
     /// The name, as "R_X86_64_64"; "unknown relocation" for `Other`.
     #[must_use]
-    pub fn name(self) -> &'static str {
+    pub const fn name(self) -> &'static str {
         relocations!(text_of_name(X86_64Relocation, self))
     }
 }
@@ -145,7 +146,7 @@ static ROWS: &[Option<TableRow>] = &relocations!(table());
 
 /// The index of a name in the table.
 #[inline(always)]
-fn index(name: X86_64Relocation) -> usize {
+const fn index(name: X86_64Relocation) -> usize {
     relocations!(index_of_name(X86_64Relocation, name))
 }
 
@@ -154,13 +155,13 @@ fn index(name: X86_64Relocation) -> usize {
 /// signed or unsigned.
 #[must_use]
 #[inline(always)]
-pub fn row(name: X86_64Relocation) -> Option<Row> {
+pub const fn row(name: X86_64Relocation) -> Option<Row> {
     row_in(&ROWS[index(name)])
 }
 
 /// What a relocation means, as `row` says.
 #[must_use]
 #[inline(always)]
-pub fn relocation_from_raw(name: X86_64Relocation) -> Option<RelocationKindInfo> {
+pub const fn relocation_from_raw(name: X86_64Relocation) -> Option<RelocationKindInfo> {
     info_in(row(name))
 }

@@ -21,7 +21,7 @@ use crate::rewrite::{has_window, overwrite};
 /// assert_eq!(section, [0xe9, 0, 0, 0, 0, 0x90]);
 /// assert_eq!((offset, addend), (1, -4));
 /// ```
-#[derive(Debug, Clone, Copy, PartialEq, Eq)]
+#[derive(Debug, Clone, Copy, PartialEq, Eq, Hash, PartialOrd, Ord)]
 pub enum RelaxationKind {
     /// Turns `mov x@GOTPCREL(%rip), %reg` into `lea x(%rip), %reg`.
     MovIndirectToLea,

@@ -165,7 +165,7 @@ fn merges_sort_and_sum() -> Result<(), Fail> {
     expect_eq("batched.deltas()", batched.deltas(), merged.deltas());
     expect_eq(
         "merged.clone()?.deltas()",
-        merged.clone()?.deltas(),
+        merged.try_clone()?.deltas(),
         merged.deltas(),
     );
     Ok(())
@@ -497,7 +497,7 @@ fn maps_keep_each_section() -> Result<(), Fail> {
     );
     expect_eq(
         "map.clone()?.get(1).map(|d| d.total_deleted())",
-        map.clone()?.get(1).map(|d| d.total_deleted()),
+        map.try_clone()?.get(1).map(|d| d.total_deleted()),
         Some(6),
     );
     Ok(())

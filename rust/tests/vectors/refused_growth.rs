@@ -129,11 +129,11 @@ fn refused_batches_leave_the_deltas() -> Result<(), Fail> {
 fn a_refused_copy_leaves_the_deltas() -> Result<(), Fail> {
     let few = deltas_of(THREE.deletions)?;
     let many = deltas_of(&many())?;
-    let (few_copied, many_copied) = (few.clone(), many.clone());
+    let (few_copied, many_copied) = (few.try_clone(), many.try_clone());
     expect_listing(&few, THREE);
     expect_many(&many);
-    expect_listing(&few_copied.or_else(|_| few.clone())?, THREE);
-    expect_many(&many_copied.or_else(|_| many.clone())?);
+    expect_listing(&few_copied.or_else(|_| few.try_clone())?, THREE);
+    expect_many(&many_copied.or_else(|_| many.try_clone())?);
     Ok(())
 }
 
@@ -172,10 +172,10 @@ fn a_refused_section_is_handed_back() -> Result<(), Fail> {
         assert_eq!(map.last_index(), Some(9));
         assert!(map.insert(11, back).is_ok());
     }
-    let copied = map.clone();
+    let copied = map.try_clone();
     let all = [9, 7, 5, 3, 1, 11];
     expect_sections(&map, &all);
-    expect_sections(&copied.or_else(|_| map.clone())?, &all);
+    expect_sections(&copied.or_else(|_| map.try_clone())?, &all);
     Ok(())
 }
 

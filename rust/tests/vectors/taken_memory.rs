@@ -25,7 +25,7 @@ fn lists_and_their_copies_take_6() -> Result<(), Fail> {
     let many = many();
     for raw in [[].as_slice(), &FEW, &many] {
         assert!(SectionRelaxDeltas::is_valid(raw));
-        let copy = SectionRelaxDeltas::new(raw)?.clone()?;
+        let copy = SectionRelaxDeltas::new(raw)?.try_clone()?;
         expect_eq(raw, copy.deltas().len(), raw.len());
     }
     Ok(())
@@ -61,7 +61,7 @@ fn batches_take_4() -> Result<(), Fail> {
 #[test]
 fn maps_and_their_copies_take_4() -> Result<(), Fail> {
     let mut map = RelaxDeltaMap::new();
-    assert!(map.clone()?.is_empty());
+    assert!(map.try_clone()?.is_empty());
     assert!(SectionRelaxDeltas::is_valid(&FEW));
     let deltas = SectionRelaxDeltas::new(&FEW)?;
     assert_eq!(map.last_index(), None);
@@ -70,7 +70,7 @@ fn maps_and_their_copies_take_4() -> Result<(), Fail> {
     }
     expect_eq(
         "map.clone()?.last_index()",
-        map.clone()?.last_index(),
+        map.try_clone()?.last_index(),
         Some(3),
     );
     Ok(())

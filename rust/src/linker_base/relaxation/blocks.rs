@@ -12,7 +12,7 @@ pub const BLOCK_LEN: usize = 64;
 
 /// The first delta of a block, as far as a search reads it.
 #[repr(C)]
-#[derive(Debug, Clone, Copy, PartialEq, Eq)]
+#[derive(Debug, Clone, Copy, PartialEq, Eq, Hash)]
 pub struct BlockHead {
     /// The input offset of the block's first delta.
     pub input_offset: u64,
@@ -32,6 +32,7 @@ impl BlockHead {
 }
 
 /// A valid list of deltas of which each look is counted.
+#[doc(hidden)]
 pub trait Looks {
     /// How many deltas are listed.
     #[must_use]
@@ -89,7 +90,7 @@ impl<K: Looks> Probe for K {
 }
 
 /// The deltas of a section and the heads that it keeps, with a count of the looks at them.
-/// Contracts see the list and the count.
+#[doc(hidden)]
 pub struct Counted<'a> {
     deltas: &'a [RelaxDelta],
     heads: &'a [BlockHead],
@@ -185,6 +186,7 @@ pub(super) fn count_blocks(len: usize) -> usize {
 /// # Requires
 ///
 /// - room: `(looks.count() as u128) < 1 << 32`
+#[doc(hidden)]
 #[cfg_attr(debug_assertions, track_caller)]
 #[inline(always)]
 pub fn input_to_output_counted<K: Looks>(looks: &mut K, input_offset: u64) -> u64 {
@@ -207,6 +209,7 @@ pub fn input_to_output_counted<K: Looks>(looks: &mut K, input_offset: u64) -> u6
 ///
 /// - fits: the input offset is at most `u64::MAX`, or an addition overflows
 /// - room: `(looks.count() as u128) < 1 << 32`
+#[doc(hidden)]
 #[cfg_attr(debug_assertions, track_caller)]
 #[inline(always)]
 pub fn output_to_input_counted<K: Looks>(looks: &mut K, output_offset: u64) -> u64 {

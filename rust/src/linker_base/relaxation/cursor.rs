@@ -7,8 +7,8 @@ use super::walk::{Reached, ascend, pass, walk};
 /// A walk through the deletions of a section, for offsets that are translated in order.
 ///
 /// A query passes the deltas at offsets strictly below it, and none is passed again: over a whole
-/// walk the cost is O(n + q) for n deltas and q queries. Contracts see the list of deletions and
-/// how many of them are passed.
+/// walk the cost is O(n + q) for n deltas and q queries.
+#[derive(Debug, Clone)]
 pub struct RelaxCursor<'a> {
     deltas: &'a [RelaxDelta],
     reached: Reached,

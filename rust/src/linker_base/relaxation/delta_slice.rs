@@ -13,7 +13,8 @@ use super::walk::{Reached, ascend, walk};
 /// Each call is safe for any deltas and heads. What it returns is promised where the deltas are
 /// valid: they list deletions as `SectionRelaxDeltas::new` requires them, each with the sum of the
 /// bytes up to it. Searches also need the heads to be those that `write_heads` writes, if there
-/// are any. Contracts see the lists of deltas and heads.
+/// are any.
+#[derive(Debug, Clone, Copy)]
 pub struct DeltaSlice<'a> {
     deltas: &'a [RelaxDelta],
     heads: &'a [BlockHead],

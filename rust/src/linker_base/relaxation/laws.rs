@@ -1,7 +1,5 @@
 // Made by tools/erase of crates/linker_base/src/relaxation/laws.rt.
 //! Laws of deletions: each function does nothing, and its contract is a law.
-//!
-#![doc = include_str!("../../../doc/relaxation/laws.md")]
 
 /// Back to the output: the input offset of an output offset `y` isn't strictly inside a deletion,
 /// and its output offset is `y`.

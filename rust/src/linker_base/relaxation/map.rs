@@ -8,10 +8,10 @@ use super::{OutOfMemory, SectionRelaxDeltas};
 /// The deltas of the sections of a file that have any, by section index.
 ///
 /// It is a vector sorted by index: linkers usually insert in that order, and look up far more often
-/// than they insert. Contracts see the finite map from index to deletions.
-#[derive(Debug)]
+/// than they insert.
+#[derive(Debug, Clone, Default, PartialEq, Eq)]
 pub struct RelaxDeltaMap {
-    entries: Vec<(usize, SectionRelaxDeltas)>,
+    pub(crate) entries: Vec<(usize, SectionRelaxDeltas)>,
 }
 
 impl RelaxDeltaMap {
@@ -100,11 +100,11 @@ impl RelaxDeltaMap {
     /// A copy of the map and of the deltas of each section. It allocates once for the entries, once
     /// for each section that has any deltas and again where it has more than 1,024, and not at all
     /// for an empty map.
-    pub fn clone(&self) -> Result<Self, OutOfMemory> {
+    pub fn try_clone(&self) -> Result<Self, OutOfMemory> {
         let sections = self.entries.as_slice();
         let mut entries = Vec::fallible_with_capacity(sections.len())?;
         for (section_index, deltas) in sections {
-            entries.push_reserved((*section_index, deltas.clone()?));
+            entries.push_reserved((*section_index, deltas.try_clone()?));
         }
         Ok(RelaxDeltaMap { entries })
     }

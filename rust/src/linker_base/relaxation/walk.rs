@@ -4,7 +4,7 @@
 use super::RelaxDelta;
 
 // How far a walk has come: the deltas that it has passed, their bytes, and the end of the last.
-#[derive(Clone, Copy)]
+#[derive(Clone, Copy, Debug)]
 pub(super) struct Reached {
     pub passed: usize,
     pub deleted: u64,

@@ -1,0 +1,143 @@
+//! Relocations and architectures as numbers and as texts, by Rust's conversions.
+//!
+//! ```
+//! use linker_utils::aarch64::AArch64Relocation;
+//!
+//! let name: AArch64Relocation = "R_AARCH64_CALL26".parse()?;
+//! assert_eq!(u32::from(name), 283);
+//! assert_eq!(AArch64Relocation::from(283).to_string(), "R_AARCH64_CALL26");
+//! assert!(AArch64Relocation::ALL.contains(&name));
+//! # Ok::<(), linker_utils::names::UnknownName>(())
+//! ```
+
+use crate::aarch64::AArch64Relocation;
+use crate::elf::Architecture;
+use crate::loongarch64::LoongArch64Relocation;
+use crate::ppc64::Ppc64Relocation;
+use crate::riscv64::RiscVRelocation;
+use crate::x86_64::X86_64Relocation;
+use core::error::Error;
+use core::fmt::{Display, Formatter, Result as FmtResult};
+use core::str::FromStr;
+
+/// No relocation of the architecture has this name.
+#[derive(Debug, Clone, Copy, PartialEq, Eq, Hash)]
+pub struct UnknownName;
+
+impl Display for UnknownName {
+    fn fmt(&self, f: &mut Formatter<'_>) -> FmtResult {
+        f.write_str("no relocation of the architecture has this name")
+    }
+}
+
+impl Error for UnknownName {}
+
+/// The library doesn't know the architecture with this `e_machine`.
+#[derive(Debug, Clone, Copy, PartialEq, Eq, Hash)]
+pub struct UnknownMachine(pub u16);
+
+impl Display for UnknownMachine {
+    fn fmt(&self, f: &mut Formatter<'_>) -> FmtResult {
+        write!(f, "the architecture with e_machine {} is not known", self.0)
+    }
+}
+
+impl Error for UnknownMachine {}
+
+impl TryFrom<u16> for Architecture {
+    type Error = UnknownMachine;
+
+    /// `Architecture::from_machine`.
+    fn try_from(e_machine: u16) -> Result<Architecture, UnknownMachine> {
+        Architecture::from_machine(e_machine).ok_or(UnknownMachine(e_machine))
+    }
+}
+
+impl From<Architecture> for u16 {
+    /// `Architecture::machine`.
+    fn from(architecture: Architecture) -> u16 {
+        architecture.machine()
+    }
+}
+
+impl Display for Architecture {
+    fn fmt(&self, f: &mut Formatter<'_>) -> FmtResult {
+        f.pad(match self {
+            Architecture::AArch64 => "AArch64",
+            Architecture::RiscV => "RISC-V",
+            Architecture::LoongArch64 => "LoongArch",
+            Architecture::Ppc64 => "PowerPC64",
+            Architecture::X86_64 => "x86-64",
+        })
+    }
+}
+
+/// Above the codes of all names. `tests/names.rs` compares `ALL` with the enums.
+const END: u32 = 2048;
+
+macro_rules! names {
+    ($($names:ident)*) => {$(
+        impl $names {
+            /// All relocations that have a name, by ascending code.
+            pub const ALL: &[$names] = {
+                const COUNT: usize = named(&mut []);
+                const NAMES: [$names; COUNT] = {
+                    let mut names = [$names::Other(0); COUNT];
+                    named(&mut names);
+                    names
+                };
+                /// Writes the names as far as there is room, and counts them.
+                const fn named(names: &mut [$names]) -> usize {
+                    let (mut count, mut code) = (0, 0);
+                    while code < END {
+                        let name = $names::from_elf(code);
+                        if !matches!(name, $names::Other(_)) {
+                            if count < names.len() {
+                                names[count] = name;
+                            }
+                            count += 1;
+                        }
+                        code += 1;
+                    }
+                    count
+                }
+                &NAMES
+            };
+        }
+
+        impl From<u32> for $names {
+            /// `from_elf`.
+            fn from(code: u32) -> $names {
+                $names::from_elf(code)
+            }
+        }
+
+        impl From<$names> for u32 {
+            /// `elf_code`.
+            fn from(name: $names) -> u32 {
+                name.elf_code()
+            }
+        }
+
+        impl Display for $names {
+            /// The name, or "unknown relocation" and the code.
+            fn fmt(&self, f: &mut Formatter<'_>) -> FmtResult {
+                match self {
+                    $names::Other(code) => write!(f, "{} {code}", self.name()),
+                    _ => f.pad(self.name()),
+                }
+            }
+        }
+
+        impl FromStr for $names {
+            type Err = UnknownName;
+
+            /// The relocation with a name, as "R_AARCH64_CALL26".
+            fn from_str(text: &str) -> Result<$names, UnknownName> {
+                $names::ALL.iter().find(|name| name.name() == text).copied().ok_or(UnknownName)
+            }
+        }
+    )*};
+}
+
+names! { AArch64Relocation LoongArch64Relocation Ppc64Relocation RiscVRelocation X86_64Relocation }
