@@ -1,0 +1,2479 @@
+-- What qemu-aarch64 made of instructions. `tools/emulate` makes this file.
+use Rattle.std.specs.Prelude.{List, [], ◌∷◌, ◌^◌}
+use Rattle.linker_utils.specs.AArch64.{aarch64_form}
+use Rattle.linker_utils.specs.declared.aarch64.forms.AArch64Instruction.TheVariants.{Adr}
+use Rattle.linker_utils.specs.declared.aarch64.forms.AArch64Instruction.TheVariants.{Movkz}
+use Rattle.linker_utils.specs.declared.aarch64.forms.AArch64Instruction.TheVariants.{Movnz}
+use Rattle.linker_utils.specs.declared.aarch64.forms.AArch64Instruction.TheVariants.{Ldr}
+use Rattle.linker_utils.specs.declared.aarch64.forms.AArch64Instruction.TheVariants.{LdrRegister}
+use Rattle.linker_utils.specs.declared.aarch64.forms.AArch64Instruction.TheVariants.{Add}
+use Rattle.linker_utils.specs.declared.aarch64.forms.AArch64Instruction.TheVariants.{LdSt}
+use Rattle.linker_utils.specs.declared.aarch64.forms.AArch64Instruction.TheVariants.{TstBr}
+use Rattle.linker_utils.specs.declared.aarch64.forms.AArch64Instruction.TheVariants.{Bcond}
+use Rattle.linker_utils.specs.declared.aarch64.forms.AArch64Instruction.TheVariants.{JumpCall}
+use Rattle.linker_utils.specs.declared.aarch64.forms.AArch64Instruction.TheVariants.{MachOLow12}
+use Rattle.emulated.specs.Emulated.{Words, IsComputed}
+
+unfoldable pub adr_words : List Words
+adr_words =
+    -- adr
+    (record {
+      unit = 1;
+      bits = 64;
+      rows =
+          (0x1000000a, 0x0) ∷
+          (0x70fffffa, 0xffffffffffffffff) ∷
+          (0x10000025, 0x4) ∷
+          (0x10000049, 0x8) ∷
+          (0x10000080, 0x10) ∷
+          (0x10000117, 0x20) ∷
+          (0x1000021b, 0x40) ∷
+          (0x1000040d, 0x80) ∷
+          (0x1000081c, 0x100) ∷
+          (0x10001015, 0x200) ∷
+          (0x10002004, 0x400) ∷
+          (0x10004014, 0x800) ∷
+          (0x10008013, 0x1000) ∷
+          (0x10010010, 0x2000) ∷
+          (0x10020005, 0x4000) ∷
+          (0x10040014, 0x8000) ∷
+          (0x1008001c, 0x10000) ∷
+          (0x1010001c, 0x20000) ∷
+          (0x1020001a, 0x40000) ∷
+          (0x10400015, 0x80000) ∷
+          (0x1080000e, 0xfffffffffff00000) ∷
+          (0x30000003, 0x1) ∷
+          (0x5000001e, 0x2) ∷
+          (0x70ffffc8, 0xfffffffffffffffb) ∷
+          (0x70ffffb7, 0xfffffffffffffff7) ∷
+          (0x70ffff79, 0xffffffffffffffef) ∷
+          (0x70fffee7, 0xffffffffffffffdf) ∷
+          (0x70fffded, 0xffffffffffffffbf) ∷
+          (0x70fffbe4, 0xffffffffffffff7f) ∷
+          (0x70fff7fa, 0xfffffffffffffeff) ∷
+          (0x70ffefe7, 0xfffffffffffffdff) ∷
+          (0x70ffdfeb, 0xfffffffffffffbff) ∷
+          (0x70ffbfe9, 0xfffffffffffff7ff) ∷
+          (0x70ff7fe2, 0xffffffffffffefff) ∷
+          (0x70fefff1, 0xffffffffffffdfff) ∷
+          (0x70fdffea, 0xffffffffffffbfff) ∷
+          (0x70fbfff9, 0xffffffffffff7fff) ∷
+          (0x70f7fffa, 0xfffffffffffeffff) ∷
+          (0x70effff9, 0xfffffffffffdffff) ∷
+          (0x70dffff8, 0xfffffffffffbffff) ∷
+          (0x70bfffef, 0xfffffffffff7ffff) ∷
+          (0x707fffe5, 0xfffff) ∷
+          (0x50fffff7, 0xfffffffffffffffe) ∷
+          (0x30ffffe6, 0xfffffffffffffffd) ∷
+          (0x30e608d7, 0xfffffffffffcc119) ∷
+          (0x3074d3a4, 0xe9a75) ∷
+          (0x303f8254, 0x7f049) ∷
+          (0x3074d32d, 0xe9a65) ∷
+          (0x70fb2429, 0xffffffffffff6487) ∷
+          (0x700f0e8d, 0x1e1d3) ∷
+          [];
+    }) ∷
+    -- adrp
+    (record {
+      unit = 2 ^ 12;
+      bits = 64;
+      rows =
+          (0x9000000d, 0x0) ∷
+          (0xf0ffffe4, 0xfffffffffffff000) ∷
+          (0x90000029, 0x4000) ∷
+          (0x90000049, 0x8000) ∷
+          (0x90000098, 0x10000) ∷
+          (0x90000100, 0x20000) ∷
+          (0x9000021a, 0x40000) ∷
+          (0x90000401, 0x80000) ∷
+          (0x90000804, 0x100000) ∷
+          (0x90001013, 0x200000) ∷
+          (0x90002010, 0x400000) ∷
+          (0x90004019, 0x800000) ∷
+          (0x90008013, 0x1000000) ∷
+          (0x90010017, 0x2000000) ∷
+          (0x90020018, 0x4000000) ∷
+          (0x9004000d, 0x8000000) ∷
+          (0x9008001d, 0x10000000) ∷
+          (0x90100000, 0x20000000) ∷
+          (0x90200016, 0x40000000) ∷
+          (0x90400015, 0x80000000) ∷
+          (0x90800018, 0xffffffff00000000) ∷
+          (0xb0000011, 0x1000) ∷
+          (0xd000000d, 0x2000) ∷
+          (0xf0ffffca, 0xffffffffffffb000) ∷
+          (0xf0ffffa9, 0xffffffffffff7000) ∷
+          (0xf0ffff64, 0xfffffffffffef000) ∷
+          (0xf0fffefa, 0xfffffffffffdf000) ∷
+          (0xf0fffdee, 0xfffffffffffbf000) ∷
+          (0xf0fffbee, 0xfffffffffff7f000) ∷
+          (0xf0fff7fd, 0xffffffffffeff000) ∷
+          (0xf0ffefe7, 0xffffffffffdff000) ∷
+          (0xf0ffdfee, 0xffffffffffbff000) ∷
+          (0xf0ffbff3, 0xffffffffff7ff000) ∷
+          (0xf0ff7fe0, 0xfffffffffefff000) ∷
+          (0xf0feffe5, 0xfffffffffdfff000) ∷
+          (0xf0fdfffb, 0xfffffffffbfff000) ∷
+          (0xf0fbffe3, 0xfffffffff7fff000) ∷
+          (0xf0f7fffd, 0xffffffffeffff000) ∷
+          (0xf0effff9, 0xffffffffdffff000) ∷
+          (0xf0dfffe1, 0xffffffffbffff000) ∷
+          (0xf0bffffc, 0xffffffff7ffff000) ∷
+          (0xf07fffe7, 0xfffff000) ∷
+          (0xd0ffffe6, 0xffffffffffffe000) ∷
+          (0xb0ffffeb, 0xffffffffffffd000) ∷
+          (0xf0c48caf, 0xffffffff89197000) ∷
+          (0x90142dc9, 0x285b8000) ∷
+          (0xf0a3774f, 0xffffffff46eeb000) ∷
+          (0xd02f512d, 0x5ea26000) ∷
+          (0xb0834c0f, 0xffffffff06981000) ∷
+          (0xd0c5a154, 0xffffffff8b42a000) ∷
+          [];
+    }) ∷
+    []
+
+unfoldable pub movkz_words : List Words
+movkz_words =
+    -- movk, lsl 0
+    (record {
+      unit = 1;
+      bits = 64;
+      rows =
+          (0xf2800006, 0x0) ∷
+          (0xf29ffff0, 0xffff) ∷
+          (0xf2800021, 0x1) ∷
+          (0xf280004b, 0x2) ∷
+          (0xf2800083, 0x4) ∷
+          (0xf2800102, 0x8) ∷
+          (0xf280020e, 0x10) ∷
+          (0xf2800411, 0x20) ∷
+          (0xf2800816, 0x40) ∷
+          (0xf280100e, 0x80) ∷
+          (0xf2802008, 0x100) ∷
+          (0xf2804007, 0x200) ∷
+          (0xf280800e, 0x400) ∷
+          (0xf2810007, 0x800) ∷
+          (0xf282001d, 0x1000) ∷
+          (0xf2840013, 0x2000) ∷
+          (0xf2880010, 0x4000) ∷
+          (0xf2900019, 0x8000) ∷
+          (0xf29fffdb, 0xfffe) ∷
+          (0xf29fffb9, 0xfffd) ∷
+          (0xf29fff7a, 0xfffb) ∷
+          (0xf29ffef3, 0xfff7) ∷
+          (0xf29ffde7, 0xffef) ∷
+          (0xf29ffbed, 0xffdf) ∷
+          (0xf29ff7fa, 0xffbf) ∷
+          (0xf29fefe4, 0xff7f) ∷
+          (0xf29fdff1, 0xfeff) ∷
+          (0xf29fbfe2, 0xfdff) ∷
+          (0xf29f7ff0, 0xfbff) ∷
+          (0xf29efffd, 0xf7ff) ∷
+          (0xf29dfff0, 0xefff) ∷
+          (0xf29bffe3, 0xdfff) ∷
+          (0xf297fff3, 0xbfff) ∷
+          (0xf28ffffa, 0x7fff) ∷
+          (0xf2907c7b, 0x83e3) ∷
+          (0xf296156a, 0xb0ab) ∷
+          (0xf28f5caf, 0x7ae5) ∷
+          (0xf28ae6e7, 0x5737) ∷
+          (0xf29170fe, 0x8b87) ∷
+          (0xf29914e3, 0xc8a7) ∷
+          [];
+    }) ∷
+    -- movk, lsl 16
+    (record {
+      unit = 2 ^ 16;
+      bits = 64;
+      rows =
+          (0xf2a0001a, 0x0) ∷
+          (0xf2bffffc, 0xffff0000) ∷
+          (0xf2a00020, 0x10000) ∷
+          (0xf2a0005b, 0x20000) ∷
+          (0xf2a00095, 0x40000) ∷
+          (0xf2a00102, 0x80000) ∷
+          (0xf2a0021b, 0x100000) ∷
+          (0xf2a00413, 0x200000) ∷
+          (0xf2a00818, 0x400000) ∷
+          (0xf2a01019, 0x800000) ∷
+          (0xf2a0201e, 0x1000000) ∷
+          (0xf2a04018, 0x2000000) ∷
+          (0xf2a0801a, 0x4000000) ∷
+          (0xf2a1001d, 0x8000000) ∷
+          (0xf2a20006, 0x10000000) ∷
+          (0xf2a4000a, 0x20000000) ∷
+          (0xf2a80009, 0x40000000) ∷
+          (0xf2b00013, 0x80000000) ∷
+          (0xf2bfffc6, 0xfffe0000) ∷
+          (0xf2bfffa7, 0xfffd0000) ∷
+          (0xf2bfff65, 0xfffb0000) ∷
+          (0xf2bffeef, 0xfff70000) ∷
+          (0xf2bffdec, 0xffef0000) ∷
+          (0xf2bffbf7, 0xffdf0000) ∷
+          (0xf2bff7e5, 0xffbf0000) ∷
+          (0xf2bfeff0, 0xff7f0000) ∷
+          (0xf2bfdfed, 0xfeff0000) ∷
+          (0xf2bfbfe0, 0xfdff0000) ∷
+          (0xf2bf7fee, 0xfbff0000) ∷
+          (0xf2befff7, 0xf7ff0000) ∷
+          (0xf2bdffee, 0xefff0000) ∷
+          (0xf2bbffe4, 0xdfff0000) ∷
+          (0xf2b7ffea, 0xbfff0000) ∷
+          (0xf2affffd, 0x7fff0000) ∷
+          (0xf2acdafb, 0x66d70000) ∷
+          (0xf2a991cc, 0x4c8e0000) ∷
+          (0xf2af781a, 0x7bc00000) ∷
+          (0xf2ab5c79, 0x5ae30000) ∷
+          (0xf2ab10a3, 0x58850000) ∷
+          (0xf2ae3fe6, 0x71ff0000) ∷
+          [];
+    }) ∷
+    -- movk, lsl 32
+    (record {
+      unit = 2 ^ 32;
+      bits = 64;
+      rows =
+          (0xf2c00010, 0x0) ∷
+          (0xf2dffffc, 0xffff00000000) ∷
+          (0xf2c00026, 0x100000000) ∷
+          (0xf2c0005e, 0x200000000) ∷
+          (0xf2c0009a, 0x400000000) ∷
+          (0xf2c0011e, 0x800000000) ∷
+          (0xf2c00218, 0x1000000000) ∷
+          (0xf2c00401, 0x2000000000) ∷
+          (0xf2c00819, 0x4000000000) ∷
+          (0xf2c01015, 0x8000000000) ∷
+          (0xf2c0200c, 0x10000000000) ∷
+          (0xf2c04018, 0x20000000000) ∷
+          (0xf2c0800b, 0x40000000000) ∷
+          (0xf2c1000e, 0x80000000000) ∷
+          (0xf2c2001d, 0x100000000000) ∷
+          (0xf2c40003, 0x200000000000) ∷
+          (0xf2c8001c, 0x400000000000) ∷
+          (0xf2d0000d, 0x800000000000) ∷
+          (0xf2dfffd3, 0xfffe00000000) ∷
+          (0xf2dfffbe, 0xfffd00000000) ∷
+          (0xf2dfff65, 0xfffb00000000) ∷
+          (0xf2dffef8, 0xfff700000000) ∷
+          (0xf2dffdeb, 0xffef00000000) ∷
+          (0xf2dffbf1, 0xffdf00000000) ∷
+          (0xf2dff7e1, 0xffbf00000000) ∷
+          (0xf2dfeff9, 0xff7f00000000) ∷
+          (0xf2dfdff0, 0xfeff00000000) ∷
+          (0xf2dfbffb, 0xfdff00000000) ∷
+          (0xf2df7fe0, 0xfbff00000000) ∷
+          (0xf2deffe9, 0xf7ff00000000) ∷
+          (0xf2ddffe3, 0xefff00000000) ∷
+          (0xf2dbfffe, 0xdfff00000000) ∷
+          (0xf2d7ffe5, 0xbfff00000000) ∷
+          (0xf2cffff6, 0x7fff00000000) ∷
+          (0xf2d489fe, 0xa44f00000000) ∷
+          (0xf2c492d0, 0x249600000000) ∷
+          (0xf2c56995, 0x2b4c00000000) ∷
+          (0xf2da04fa, 0xd02700000000) ∷
+          (0xf2c80985, 0x404c00000000) ∷
+          (0xf2cd21c0, 0x690e00000000) ∷
+          [];
+    }) ∷
+    -- movk, lsl 48
+    (record {
+      unit = 2 ^ 48;
+      bits = 64;
+      rows =
+          (0xf2e0000e, 0x0) ∷
+          (0xf2fffff4, 0xffff000000000000) ∷
+          (0xf2e00034, 0x1000000000000) ∷
+          (0xf2e0004e, 0x2000000000000) ∷
+          (0xf2e00095, 0x4000000000000) ∷
+          (0xf2e00100, 0x8000000000000) ∷
+          (0xf2e00218, 0x10000000000000) ∷
+          (0xf2e00405, 0x20000000000000) ∷
+          (0xf2e00815, 0x40000000000000) ∷
+          (0xf2e01006, 0x80000000000000) ∷
+          (0xf2e0201e, 0x100000000000000) ∷
+          (0xf2e0401a, 0x200000000000000) ∷
+          (0xf2e08002, 0x400000000000000) ∷
+          (0xf2e10016, 0x800000000000000) ∷
+          (0xf2e2001e, 0x1000000000000000) ∷
+          (0xf2e4000c, 0x2000000000000000) ∷
+          (0xf2e8000d, 0x4000000000000000) ∷
+          (0xf2f00001, 0x8000000000000000) ∷
+          (0xf2ffffc8, 0xfffe000000000000) ∷
+          (0xf2ffffa2, 0xfffd000000000000) ∷
+          (0xf2ffff75, 0xfffb000000000000) ∷
+          (0xf2fffee1, 0xfff7000000000000) ∷
+          (0xf2fffdf0, 0xffef000000000000) ∷
+          (0xf2fffbe1, 0xffdf000000000000) ∷
+          (0xf2fff7ee, 0xffbf000000000000) ∷
+          (0xf2ffeff5, 0xff7f000000000000) ∷
+          (0xf2ffdff7, 0xfeff000000000000) ∷
+          (0xf2ffbffb, 0xfdff000000000000) ∷
+          (0xf2ff7fe5, 0xfbff000000000000) ∷
+          (0xf2feffe2, 0xf7ff000000000000) ∷
+          (0xf2fdffee, 0xefff000000000000) ∷
+          (0xf2fbffe7, 0xdfff000000000000) ∷
+          (0xf2f7ffeb, 0xbfff000000000000) ∷
+          (0xf2efffea, 0x7fff000000000000) ∷
+          (0xf2f63521, 0xb1a9000000000000) ∷
+          (0xf2ee3bf8, 0x71df000000000000) ∷
+          (0xf2ead91d, 0x56c8000000000000) ∷
+          (0xf2e61773, 0x30bb000000000000) ∷
+          (0xf2fa2802, 0xd140000000000000) ∷
+          (0xf2fcb3dd, 0xe59e000000000000) ∷
+          [];
+    }) ∷
+    []
+
+unfoldable pub movnz_words : List Words
+movnz_words =
+    -- movz, lsl 0
+    (record {
+      unit = 1;
+      bits = 64;
+      rows =
+          (0xd2800005, 0x0) ∷
+          (0xd29fffe9, 0xffff) ∷
+          (0xd280002d, 0x1) ∷
+          (0xd2800056, 0x2) ∷
+          (0xd2800090, 0x4) ∷
+          (0xd280011b, 0x8) ∷
+          (0xd280020a, 0x10) ∷
+          (0xd2800419, 0x20) ∷
+          (0xd280080b, 0x40) ∷
+          (0xd280100a, 0x80) ∷
+          (0xd280201a, 0x100) ∷
+          (0xd2804015, 0x200) ∷
+          (0xd2808019, 0x400) ∷
+          (0xd2810009, 0x800) ∷
+          (0xd282000e, 0x1000) ∷
+          (0xd284000d, 0x2000) ∷
+          (0xd2880017, 0x4000) ∷
+          (0xd2900009, 0x8000) ∷
+          (0xd29fffd9, 0xfffe) ∷
+          (0xd29fffaf, 0xfffd) ∷
+          (0xd29fff61, 0xfffb) ∷
+          (0xd29ffef7, 0xfff7) ∷
+          (0xd29ffde7, 0xffef) ∷
+          (0xd29ffbe1, 0xffdf) ∷
+          (0xd29ff7ed, 0xffbf) ∷
+          (0xd29fefe5, 0xff7f) ∷
+          (0xd29fdfee, 0xfeff) ∷
+          (0xd29fbfe8, 0xfdff) ∷
+          (0xd29f7fea, 0xfbff) ∷
+          (0xd29efffc, 0xf7ff) ∷
+          (0xd29dfff7, 0xefff) ∷
+          (0xd29bfff0, 0xdfff) ∷
+          (0xd297ffee, 0xbfff) ∷
+          (0xd28ffffe, 0x7fff) ∷
+          (0xd29197dd, 0x8cbe) ∷
+          (0xd28e1f84, 0x70fc) ∷
+          (0xd293aff9, 0x9d7f) ∷
+          (0xd291c0ca, 0x8e06) ∷
+          (0xd294b215, 0xa590) ∷
+          (0xd2910ba2, 0x885d) ∷
+          [];
+    }) ∷
+    -- movz, lsl 16
+    (record {
+      unit = 1;
+      bits = 64;
+      rows =
+          (0xd2a00010, 0x0) ∷
+          (0xd2bffffa, 0xffff0000) ∷
+          (0xd2a00034, 0x10000) ∷
+          (0xd2a0005b, 0x20000) ∷
+          (0xd2a00091, 0x40000) ∷
+          (0xd2a00118, 0x80000) ∷
+          (0xd2a00210, 0x100000) ∷
+          (0xd2a00417, 0x200000) ∷
+          (0xd2a00815, 0x400000) ∷
+          (0xd2a01016, 0x800000) ∷
+          (0xd2a02019, 0x1000000) ∷
+          (0xd2a0401e, 0x2000000) ∷
+          (0xd2a0800e, 0x4000000) ∷
+          (0xd2a1001d, 0x8000000) ∷
+          (0xd2a20005, 0x10000000) ∷
+          (0xd2a40007, 0x20000000) ∷
+          (0xd2a80009, 0x40000000) ∷
+          (0xd2b0000e, 0x80000000) ∷
+          (0xd2bfffcb, 0xfffe0000) ∷
+          (0xd2bfffb7, 0xfffd0000) ∷
+          (0xd2bfff6f, 0xfffb0000) ∷
+          (0xd2bffefb, 0xfff70000) ∷
+          (0xd2bffde5, 0xffef0000) ∷
+          (0xd2bffbe2, 0xffdf0000) ∷
+          (0xd2bff7e8, 0xffbf0000) ∷
+          (0xd2bfefe6, 0xff7f0000) ∷
+          (0xd2bfdfef, 0xfeff0000) ∷
+          (0xd2bfbff6, 0xfdff0000) ∷
+          (0xd2bf7fe7, 0xfbff0000) ∷
+          (0xd2befff7, 0xf7ff0000) ∷
+          (0xd2bdfffa, 0xefff0000) ∷
+          (0xd2bbffe0, 0xdfff0000) ∷
+          (0xd2b7ffee, 0xbfff0000) ∷
+          (0xd2afffed, 0x7fff0000) ∷
+          (0xd2a3017b, 0x180b0000) ∷
+          (0xd2b6e984, 0xb74c0000) ∷
+          (0xd2aaac3b, 0x55610000) ∷
+          (0xd2ad19e1, 0x68cf0000) ∷
+          (0xd2a47b88, 0x23dc0000) ∷
+          (0xd2a2117d, 0x108b0000) ∷
+          [];
+    }) ∷
+    -- movz, lsl 32
+    (record {
+      unit = 1;
+      bits = 64;
+      rows =
+          (0xd2c00019, 0x0) ∷
+          (0xd2dfffe2, 0xffff00000000) ∷
+          (0xd2c0003e, 0x100000000) ∷
+          (0xd2c0005d, 0x200000000) ∷
+          (0xd2c0009b, 0x400000000) ∷
+          (0xd2c00105, 0x800000000) ∷
+          (0xd2c00207, 0x1000000000) ∷
+          (0xd2c00419, 0x2000000000) ∷
+          (0xd2c00814, 0x4000000000) ∷
+          (0xd2c01008, 0x8000000000) ∷
+          (0xd2c0201c, 0x10000000000) ∷
+          (0xd2c0400b, 0x20000000000) ∷
+          (0xd2c08008, 0x40000000000) ∷
+          (0xd2c1001c, 0x80000000000) ∷
+          (0xd2c20003, 0x100000000000) ∷
+          (0xd2c40017, 0x200000000000) ∷
+          (0xd2c80013, 0x400000000000) ∷
+          (0xd2d00000, 0x800000000000) ∷
+          (0xd2dfffc2, 0xfffe00000000) ∷
+          (0xd2dfffb3, 0xfffd00000000) ∷
+          (0xd2dfff6e, 0xfffb00000000) ∷
+          (0xd2dffee7, 0xfff700000000) ∷
+          (0xd2dffdef, 0xffef00000000) ∷
+          (0xd2dffbfd, 0xffdf00000000) ∷
+          (0xd2dff7fd, 0xffbf00000000) ∷
+          (0xd2dfeffb, 0xff7f00000000) ∷
+          (0xd2dfdfea, 0xfeff00000000) ∷
+          (0xd2dfbff4, 0xfdff00000000) ∷
+          (0xd2df7ff5, 0xfbff00000000) ∷
+          (0xd2deffe8, 0xf7ff00000000) ∷
+          (0xd2ddffea, 0xefff00000000) ∷
+          (0xd2dbffed, 0xdfff00000000) ∷
+          (0xd2d7fff4, 0xbfff00000000) ∷
+          (0xd2cfffe8, 0x7fff00000000) ∷
+          (0xd2d986e9, 0xcc3700000000) ∷
+          (0xd2c01939, 0xc900000000) ∷
+          (0xd2d58a63, 0xac5300000000) ∷
+          (0xd2cbf703, 0x5fb800000000) ∷
+          (0xd2d3a17a, 0x9d0b00000000) ∷
+          (0xd2c75567, 0x3aab00000000) ∷
+          [];
+    }) ∷
+    -- movz, lsl 48
+    (record {
+      unit = 1;
+      bits = 64;
+      rows =
+          (0xd2e0000b, 0x0) ∷
+          (0xd2fffff3, 0xffff000000000000) ∷
+          (0xd2e00033, 0x1000000000000) ∷
+          (0xd2e00043, 0x2000000000000) ∷
+          (0xd2e00083, 0x4000000000000) ∷
+          (0xd2e00104, 0x8000000000000) ∷
+          (0xd2e0020f, 0x10000000000000) ∷
+          (0xd2e00409, 0x20000000000000) ∷
+          (0xd2e00810, 0x40000000000000) ∷
+          (0xd2e01017, 0x80000000000000) ∷
+          (0xd2e0200a, 0x100000000000000) ∷
+          (0xd2e04001, 0x200000000000000) ∷
+          (0xd2e08002, 0x400000000000000) ∷
+          (0xd2e10004, 0x800000000000000) ∷
+          (0xd2e20004, 0x1000000000000000) ∷
+          (0xd2e4000d, 0x2000000000000000) ∷
+          (0xd2e80016, 0x4000000000000000) ∷
+          (0xd2f00018, 0x8000000000000000) ∷
+          (0xd2ffffca, 0xfffe000000000000) ∷
+          (0xd2ffffbc, 0xfffd000000000000) ∷
+          (0xd2ffff6d, 0xfffb000000000000) ∷
+          (0xd2fffef0, 0xfff7000000000000) ∷
+          (0xd2fffdec, 0xffef000000000000) ∷
+          (0xd2fffbed, 0xffdf000000000000) ∷
+          (0xd2fff7f4, 0xffbf000000000000) ∷
+          (0xd2ffefed, 0xff7f000000000000) ∷
+          (0xd2ffdffa, 0xfeff000000000000) ∷
+          (0xd2ffbfe7, 0xfdff000000000000) ∷
+          (0xd2ff7ff4, 0xfbff000000000000) ∷
+          (0xd2feffe7, 0xf7ff000000000000) ∷
+          (0xd2fdffe0, 0xefff000000000000) ∷
+          (0xd2fbfff8, 0xdfff000000000000) ∷
+          (0xd2f7ffe7, 0xbfff000000000000) ∷
+          (0xd2effffa, 0x7fff000000000000) ∷
+          (0xd2f1e1a5, 0x8f0d000000000000) ∷
+          (0xd2fe9548, 0xf4aa000000000000) ∷
+          (0xd2e36020, 0x1b01000000000000) ∷
+          (0xd2fbe197, 0xdf0c000000000000) ∷
+          (0xd2f9b62d, 0xcdb1000000000000) ∷
+          (0xd2fad5ce, 0xd6ae000000000000) ∷
+          [];
+    }) ∷
+    -- movn, lsl 0
+    (record {
+      unit = 1;
+      bits = 64;
+      rows =
+          (0x92800005, 0xffffffffffffffff) ∷
+          (0x929fffee, 0xffffffffffff0000) ∷
+          (0x92800035, 0xfffffffffffffffe) ∷
+          (0x9280004b, 0xfffffffffffffffd) ∷
+          (0x92800085, 0xfffffffffffffffb) ∷
+          (0x92800111, 0xfffffffffffffff7) ∷
+          (0x92800209, 0xffffffffffffffef) ∷
+          (0x92800404, 0xffffffffffffffdf) ∷
+          (0x92800815, 0xffffffffffffffbf) ∷
+          (0x9280100d, 0xffffffffffffff7f) ∷
+          (0x92802017, 0xfffffffffffffeff) ∷
+          (0x92804002, 0xfffffffffffffdff) ∷
+          (0x92808005, 0xfffffffffffffbff) ∷
+          (0x92810009, 0xfffffffffffff7ff) ∷
+          (0x92820009, 0xffffffffffffefff) ∷
+          (0x9284001e, 0xffffffffffffdfff) ∷
+          (0x92880010, 0xffffffffffffbfff) ∷
+          (0x92900000, 0xffffffffffff7fff) ∷
+          (0x929fffd6, 0xffffffffffff0001) ∷
+          (0x929fffbd, 0xffffffffffff0002) ∷
+          (0x929fff69, 0xffffffffffff0004) ∷
+          (0x929ffef7, 0xffffffffffff0008) ∷
+          (0x929ffded, 0xffffffffffff0010) ∷
+          (0x929ffbfc, 0xffffffffffff0020) ∷
+          (0x929ff7e7, 0xffffffffffff0040) ∷
+          (0x929fefe2, 0xffffffffffff0080) ∷
+          (0x929fdfed, 0xffffffffffff0100) ∷
+          (0x929fbffe, 0xffffffffffff0200) ∷
+          (0x929f7ff4, 0xffffffffffff0400) ∷
+          (0x929effed, 0xffffffffffff0800) ∷
+          (0x929dffec, 0xffffffffffff1000) ∷
+          (0x929bfffe, 0xffffffffffff2000) ∷
+          (0x9297fffe, 0xffffffffffff4000) ∷
+          (0x928fffe0, 0xffffffffffff8000) ∷
+          (0x929a6748, 0xffffffffffff2cc5) ∷
+          (0x9294382b, 0xffffffffffff5e3e) ∷
+          (0x929a54a2, 0xffffffffffff2d5a) ∷
+          (0x929a8f3d, 0xffffffffffff2b86) ∷
+          (0x928322e0, 0xffffffffffffe6e8) ∷
+          (0x928c413c, 0xffffffffffff9df6) ∷
+          [];
+    }) ∷
+    -- movn, lsl 16
+    (record {
+      unit = 1;
+      bits = 64;
+      rows =
+          (0x92a00006, 0xffffffffffffffff) ∷
+          (0x92bffff9, 0xffffffff0000ffff) ∷
+          (0x92a00038, 0xfffffffffffeffff) ∷
+          (0x92a0005c, 0xfffffffffffdffff) ∷
+          (0x92a00082, 0xfffffffffffbffff) ∷
+          (0x92a00116, 0xfffffffffff7ffff) ∷
+          (0x92a00201, 0xffffffffffefffff) ∷
+          (0x92a0040d, 0xffffffffffdfffff) ∷
+          (0x92a0081c, 0xffffffffffbfffff) ∷
+          (0x92a0100a, 0xffffffffff7fffff) ∷
+          (0x92a02007, 0xfffffffffeffffff) ∷
+          (0x92a04001, 0xfffffffffdffffff) ∷
+          (0x92a08019, 0xfffffffffbffffff) ∷
+          (0x92a10014, 0xfffffffff7ffffff) ∷
+          (0x92a20010, 0xffffffffefffffff) ∷
+          (0x92a40004, 0xffffffffdfffffff) ∷
+          (0x92a80019, 0xffffffffbfffffff) ∷
+          (0x92b00003, 0xffffffff7fffffff) ∷
+          (0x92bfffce, 0xffffffff0001ffff) ∷
+          (0x92bfffbe, 0xffffffff0002ffff) ∷
+          (0x92bfff6c, 0xffffffff0004ffff) ∷
+          (0x92bffee1, 0xffffffff0008ffff) ∷
+          (0x92bffdf7, 0xffffffff0010ffff) ∷
+          (0x92bffbf9, 0xffffffff0020ffff) ∷
+          (0x92bff7e0, 0xffffffff0040ffff) ∷
+          (0x92bfefe0, 0xffffffff0080ffff) ∷
+          (0x92bfdfed, 0xffffffff0100ffff) ∷
+          (0x92bfbff8, 0xffffffff0200ffff) ∷
+          (0x92bf7fef, 0xffffffff0400ffff) ∷
+          (0x92beffe3, 0xffffffff0800ffff) ∷
+          (0x92bdfffd, 0xffffffff1000ffff) ∷
+          (0x92bbffed, 0xffffffff2000ffff) ∷
+          (0x92b7fff4, 0xffffffff4000ffff) ∷
+          (0x92affff3, 0xffffffff8000ffff) ∷
+          (0x92a90d44, 0xffffffffb795ffff) ∷
+          (0x92ac21a0, 0xffffffff9ef2ffff) ∷
+          (0x92bf0ec1, 0xffffffff0789ffff) ∷
+          (0x92ba8027, 0xffffffff2bfeffff) ∷
+          (0x92b5d2ed, 0xffffffff5168ffff) ∷
+          (0x92a0e5f5, 0xfffffffff8d0ffff) ∷
+          [];
+    }) ∷
+    -- movn, lsl 32
+    (record {
+      unit = 1;
+      bits = 64;
+      rows =
+          (0x92c00006, 0xffffffffffffffff) ∷
+          (0x92dffffd, 0xffff0000ffffffff) ∷
+          (0x92c0002b, 0xfffffffeffffffff) ∷
+          (0x92c0004f, 0xfffffffdffffffff) ∷
+          (0x92c0009c, 0xfffffffbffffffff) ∷
+          (0x92c0010c, 0xfffffff7ffffffff) ∷
+          (0x92c00200, 0xffffffefffffffff) ∷
+          (0x92c00414, 0xffffffdfffffffff) ∷
+          (0x92c0081b, 0xffffffbfffffffff) ∷
+          (0x92c0100f, 0xffffff7fffffffff) ∷
+          (0x92c02016, 0xfffffeffffffffff) ∷
+          (0x92c04016, 0xfffffdffffffffff) ∷
+          (0x92c08001, 0xfffffbffffffffff) ∷
+          (0x92c10011, 0xfffff7ffffffffff) ∷
+          (0x92c20000, 0xffffefffffffffff) ∷
+          (0x92c4000d, 0xffffdfffffffffff) ∷
+          (0x92c80003, 0xffffbfffffffffff) ∷
+          (0x92d00004, 0xffff7fffffffffff) ∷
+          (0x92dfffc9, 0xffff0001ffffffff) ∷
+          (0x92dfffa0, 0xffff0002ffffffff) ∷
+          (0x92dfff7e, 0xffff0004ffffffff) ∷
+          (0x92dffeed, 0xffff0008ffffffff) ∷
+          (0x92dffdf8, 0xffff0010ffffffff) ∷
+          (0x92dffbe1, 0xffff0020ffffffff) ∷
+          (0x92dff7f7, 0xffff0040ffffffff) ∷
+          (0x92dfeff9, 0xffff0080ffffffff) ∷
+          (0x92dfdfef, 0xffff0100ffffffff) ∷
+          (0x92dfbfe8, 0xffff0200ffffffff) ∷
+          (0x92df7ff4, 0xffff0400ffffffff) ∷
+          (0x92deffe4, 0xffff0800ffffffff) ∷
+          (0x92ddffeb, 0xffff1000ffffffff) ∷
+          (0x92dbffe9, 0xffff2000ffffffff) ∷
+          (0x92d7fff7, 0xffff4000ffffffff) ∷
+          (0x92cffffd, 0xffff8000ffffffff) ∷
+          (0x92c3c734, 0xffffe1c6ffffffff) ∷
+          (0x92c0729c, 0xfffffc6bffffffff) ∷
+          (0x92dc106e, 0xffff1f7cffffffff) ∷
+          (0x92cf720f, 0xffff846fffffffff) ∷
+          (0x92d68de1, 0xffff4b90ffffffff) ∷
+          (0x92ca7bc0, 0xffffac21ffffffff) ∷
+          [];
+    }) ∷
+    -- movn, lsl 48
+    (record {
+      unit = 1;
+      bits = 64;
+      rows =
+          (0x92e00018, 0xffffffffffffffff) ∷
+          (0x92ffffe1, 0xffffffffffff) ∷
+          (0x92e00033, 0xfffeffffffffffff) ∷
+          (0x92e0005c, 0xfffdffffffffffff) ∷
+          (0x92e00086, 0xfffbffffffffffff) ∷
+          (0x92e0010c, 0xfff7ffffffffffff) ∷
+          (0x92e00203, 0xffefffffffffffff) ∷
+          (0x92e0040f, 0xffdfffffffffffff) ∷
+          (0x92e0080d, 0xffbfffffffffffff) ∷
+          (0x92e0100e, 0xff7fffffffffffff) ∷
+          (0x92e0200b, 0xfeffffffffffffff) ∷
+          (0x92e04003, 0xfdffffffffffffff) ∷
+          (0x92e0801c, 0xfbffffffffffffff) ∷
+          (0x92e10005, 0xf7ffffffffffffff) ∷
+          (0x92e20014, 0xefffffffffffffff) ∷
+          (0x92e4001a, 0xdfffffffffffffff) ∷
+          (0x92e8001c, 0xbfffffffffffffff) ∷
+          (0x92f0000a, 0x7fffffffffffffff) ∷
+          (0x92ffffca, 0x1ffffffffffff) ∷
+          (0x92ffffa7, 0x2ffffffffffff) ∷
+          (0x92ffff76, 0x4ffffffffffff) ∷
+          (0x92fffef9, 0x8ffffffffffff) ∷
+          (0x92fffde7, 0x10ffffffffffff) ∷
+          (0x92fffbe6, 0x20ffffffffffff) ∷
+          (0x92fff7e5, 0x40ffffffffffff) ∷
+          (0x92ffeff6, 0x80ffffffffffff) ∷
+          (0x92ffdfe5, 0x100ffffffffffff) ∷
+          (0x92ffbffc, 0x200ffffffffffff) ∷
+          (0x92ff7ff9, 0x400ffffffffffff) ∷
+          (0x92fefff8, 0x800ffffffffffff) ∷
+          (0x92fdfff0, 0x1000ffffffffffff) ∷
+          (0x92fbffef, 0x2000ffffffffffff) ∷
+          (0x92f7fffe, 0x4000ffffffffffff) ∷
+          (0x92effffc, 0x8000ffffffffffff) ∷
+          (0x92f7d4dc, 0x4159ffffffffffff) ∷
+          (0x92f6d61c, 0x494fffffffffffff) ∷
+          (0x92f7ccd0, 0x4199ffffffffffff) ∷
+          (0x92fb1f8a, 0x2703ffffffffffff) ∷
+          (0x92e88e00, 0xbb8fffffffffffff) ∷
+          (0x92f88706, 0x3bc7ffffffffffff) ∷
+          [];
+    }) ∷
+    []
+
+unfoldable pub ldr_words : List Words
+ldr_words =
+    -- ldr w, literal
+    (record {
+      unit = 2 ^ 2;
+      bits = 64;
+      rows =
+          (0x1800000d, 0x0) ∷
+          (0x18ffffe5, 0xfffffffffffffffc) ∷
+          (0x1800002b, 0x4) ∷
+          (0x1800005e, 0x8) ∷
+          (0x1800009e, 0x10) ∷
+          (0x1800010c, 0x20) ∷
+          (0x18000216, 0x40) ∷
+          (0x1800040d, 0x80) ∷
+          (0x18000809, 0x100) ∷
+          (0x1800100d, 0x200) ∷
+          (0x1800200d, 0x400) ∷
+          (0x18004014, 0x800) ∷
+          (0x1800801d, 0x1000) ∷
+          (0x18010004, 0x2000) ∷
+          (0x18020017, 0x4000) ∷
+          (0x1804001c, 0x8000) ∷
+          (0x18080013, 0x10000) ∷
+          (0x1810000e, 0x20000) ∷
+          (0x1820001b, 0x40000) ∷
+          (0x18400014, 0x80000) ∷
+          (0x1880000e, 0xfffffffffff00000) ∷
+          (0x18ffffca, 0xfffffffffffffff8) ∷
+          (0x18ffffac, 0xfffffffffffffff4) ∷
+          (0x18ffff7e, 0xffffffffffffffec) ∷
+          (0x18fffee4, 0xffffffffffffffdc) ∷
+          (0x18fffde1, 0xffffffffffffffbc) ∷
+          (0x18fffbf7, 0xffffffffffffff7c) ∷
+          (0x18fff7e3, 0xfffffffffffffefc) ∷
+          (0x18ffeffa, 0xfffffffffffffdfc) ∷
+          (0x18ffdffe, 0xfffffffffffffbfc) ∷
+          (0x18ffbff8, 0xfffffffffffff7fc) ∷
+          (0x18ff7ff4, 0xffffffffffffeffc) ∷
+          (0x18fefff0, 0xffffffffffffdffc) ∷
+          (0x18fdfff6, 0xffffffffffffbffc) ∷
+          (0x18fbfff7, 0xffffffffffff7ffc) ∷
+          (0x18f7fffe, 0xfffffffffffefffc) ∷
+          (0x18efffe7, 0xfffffffffffdfffc) ∷
+          (0x18dffffe, 0xfffffffffffbfffc) ∷
+          (0x18bfffef, 0xfffffffffff7fffc) ∷
+          (0x187fffe7, 0xffffc) ∷
+          (0x180c6846, 0x18d08) ∷
+          (0x188e88e0, 0xfffffffffff1d11c) ∷
+          (0x184590c5, 0x8b218) ∷
+          (0x18e6d5a1, 0xfffffffffffcdab4) ∷
+          (0x185f0e29, 0xbe1c4) ∷
+          (0x1862f5d8, 0xc5eb8) ∷
+          [];
+    }) ∷
+    -- ldr x, literal
+    (record {
+      unit = 2 ^ 2;
+      bits = 64;
+      rows =
+          (0x58000013, 0x0) ∷
+          (0x58ffffe6, 0xfffffffffffffffc) ∷
+          (0x5800002f, 0x4) ∷
+          (0x58000048, 0x8) ∷
+          (0x58000099, 0x10) ∷
+          (0x58000114, 0x20) ∷
+          (0x58000210, 0x40) ∷
+          (0x58000410, 0x80) ∷
+          (0x5800081a, 0x100) ∷
+          (0x58001014, 0x200) ∷
+          (0x5800200b, 0x400) ∷
+          (0x58004001, 0x800) ∷
+          (0x58008014, 0x1000) ∷
+          (0x58010016, 0x2000) ∷
+          (0x58020003, 0x4000) ∷
+          (0x58040018, 0x8000) ∷
+          (0x5808000d, 0x10000) ∷
+          (0x5810001e, 0x20000) ∷
+          (0x58200015, 0x40000) ∷
+          (0x58400004, 0x80000) ∷
+          (0x58800003, 0xfffffffffff00000) ∷
+          (0x58ffffc6, 0xfffffffffffffff8) ∷
+          (0x58ffffba, 0xfffffffffffffff4) ∷
+          (0x58ffff6d, 0xffffffffffffffec) ∷
+          (0x58fffee9, 0xffffffffffffffdc) ∷
+          (0x58fffde1, 0xffffffffffffffbc) ∷
+          (0x58fffbf4, 0xffffffffffffff7c) ∷
+          (0x58fff7ec, 0xfffffffffffffefc) ∷
+          (0x58ffeff7, 0xfffffffffffffdfc) ∷
+          (0x58ffdffc, 0xfffffffffffffbfc) ∷
+          (0x58ffbffd, 0xfffffffffffff7fc) ∷
+          (0x58ff7ffa, 0xffffffffffffeffc) ∷
+          (0x58fefffd, 0xffffffffffffdffc) ∷
+          (0x58fdffe9, 0xffffffffffffbffc) ∷
+          (0x58fbfffc, 0xffffffffffff7ffc) ∷
+          (0x58f7ffe7, 0xfffffffffffefffc) ∷
+          (0x58effffc, 0xfffffffffffdfffc) ∷
+          (0x58dfffe2, 0xfffffffffffbfffc) ∷
+          (0x58bffff5, 0xfffffffffff7fffc) ∷
+          (0x587fffed, 0xffffc) ∷
+          (0x58ba3521, 0xfffffffffff746a4) ∷
+          (0x587fec3a, 0xffd84) ∷
+          (0x58646d24, 0xc8da4) ∷
+          (0x5844c99b, 0x89930) ∷
+          (0x583341d7, 0x66838) ∷
+          (0x587fd847, 0xffb08) ∷
+          [];
+    }) ∷
+    []
+
+unfoldable pub ldrregister_words : List Words
+ldrregister_words =
+    -- ldr x
+    (record {
+      unit = 2 ^ 3;
+      bits = 64;
+      rows =
+          (0xf9400107, 0x0) ∷
+          (0xf97ffd17, 0x7ff8) ∷
+          (0xf9400630, 0x8) ∷
+          (0xf9400818, 0x10) ∷
+          (0xf94013d8, 0x20) ∷
+          (0xf9402320, 0x40) ∷
+          (0xf94041e1, 0x80) ∷
+          (0xf94082a2, 0x100) ∷
+          (0xf9410161, 0x200) ∷
+          (0xf9420233, 0x400) ∷
+          (0xf94402cf, 0x800) ∷
+          (0xf94801dd, 0x1000) ∷
+          (0xf95000db, 0x2000) ∷
+          (0xf960028e, 0x4000) ∷
+          (0xf97ff858, 0x7ff0) ∷
+          (0xf97ff791, 0x7fe8) ∷
+          (0xf97fee84, 0x7fd8) ∷
+          (0xf97fdd43, 0x7fb8) ∷
+          (0xf97fbcca, 0x7f78) ∷
+          (0xf97f7c7b, 0x7ef8) ∷
+          (0xf97efd6e, 0x7df8) ∷
+          (0xf97dfc24, 0x7bf8) ∷
+          (0xf97bfefd, 0x77f8) ∷
+          (0xf977fc5e, 0x6ff8) ∷
+          (0xf96ffc97, 0x5ff8) ∷
+          (0xf95fff9a, 0x3ff8) ∷
+          (0xf95fd178, 0x3fa0) ∷
+          (0xf96c81f0, 0x5900) ∷
+          (0xf97cbba6, 0x7970) ∷
+          (0xf96bb9a6, 0x5770) ∷
+          (0xf96cf370, 0x59e0) ∷
+          (0xf96106cd, 0x4208) ∷
+          (0xf950552c, 0x20a8) ∷
+          (0xf9732459, 0x6648) ∷
+          (0xf97f9822, 0x7f30) ∷
+          (0xf9595c78, 0x32b8) ∷
+          (0xf9453d89, 0xa78) ∷
+          (0xf96f2d62, 0x5e58) ∷
+          (0xf95dc438, 0x3b88) ∷
+          (0xf95e2663, 0x3c48) ∷
+          [];
+    }) ∷
+    []
+
+unfoldable pub add_words : List Words
+add_words =
+    -- add
+    (record {
+      unit = 1;
+      bits = 64;
+      rows =
+          (0x910002bb, 0x0) ∷
+          (0x913ffd2d, 0xfff) ∷
+          (0x91000454, 0x1) ∷
+          (0x91000b77, 0x2) ∷
+          (0x9100130b, 0x4) ∷
+          (0x91002195, 0x8) ∷
+          (0x9100403d, 0x10) ∷
+          (0x91008287, 0x20) ∷
+          (0x91010046, 0x40) ∷
+          (0x91020154, 0x80) ∷
+          (0x910400ab, 0x100) ∷
+          (0x910801c3, 0x200) ∷
+          (0x911000ae, 0x400) ∷
+          (0x91200311, 0x800) ∷
+          (0x913ff868, 0xffe) ∷
+          (0x913ff428, 0xffd) ∷
+          (0x913feeec, 0xffb) ∷
+          (0x913fdc3b, 0xff7) ∷
+          (0x913fbc3c, 0xfef) ∷
+          (0x913f7cb4, 0xfdf) ∷
+          (0x913efd33, 0xfbf) ∷
+          (0x913dfe7c, 0xf7f) ∷
+          (0x913bfcae, 0xeff) ∷
+          (0x9137feec, 0xdff) ∷
+          (0x912ffd84, 0xbff) ∷
+          (0x911ffd22, 0x7ff) ∷
+          (0x9116b8d6, 0x5ae) ∷
+          (0x910b03db, 0x2c0) ∷
+          (0x9114afb6, 0x52b) ∷
+          (0x91259b40, 0x966) ∷
+          (0x91207178, 0x81c) ∷
+          (0x910748f4, 0x1d2) ∷
+          (0x9108e8e8, 0x23a) ∷
+          (0x9121cf40, 0x873) ∷
+          (0x9133b2e0, 0xcec) ∷
+          (0x912645c7, 0x991) ∷
+          (0x91208833, 0x822) ∷
+          (0x913a3a1d, 0xe8e) ∷
+          (0x913c1c14, 0xf07) ∷
+          (0x9123877e, 0x8e1) ∷
+          [];
+    }) ∷
+    -- add, lsl 12
+    (record {
+      unit = 2 ^ 12;
+      bits = 64;
+      rows =
+          (0x91400395, 0x0) ∷
+          (0x917ffd49, 0xfff000) ∷
+          (0x91400748, 0x1000) ∷
+          (0x91400a0b, 0x2000) ∷
+          (0x9140122e, 0x4000) ∷
+          (0x9140218b, 0x8000) ∷
+          (0x914041e0, 0x10000) ∷
+          (0x9140830d, 0x20000) ∷
+          (0x914102b4, 0x40000) ∷
+          (0x914200ca, 0x80000) ∷
+          (0x914400f3, 0x100000) ∷
+          (0x91480297, 0x200000) ∷
+          (0x9150031b, 0x400000) ∷
+          (0x91600023, 0x800000) ∷
+          (0x917ffb45, 0xffe000) ∷
+          (0x917ff437, 0xffd000) ∷
+          (0x917feeaf, 0xffb000) ∷
+          (0x917fdcee, 0xff7000) ∷
+          (0x917fbde4, 0xfef000) ∷
+          (0x917f7f2a, 0xfdf000) ∷
+          (0x917efe84, 0xfbf000) ∷
+          (0x917dff57, 0xf7f000) ∷
+          (0x917bfdd9, 0xeff000) ∷
+          (0x9177fd3b, 0xdff000) ∷
+          (0x916fffd6, 0xbff000) ∷
+          (0x915ffcf6, 0x7ff000) ∷
+          (0x9144413d, 0x110000) ∷
+          (0x91604197, 0x810000) ∷
+          (0x91603795, 0x80d000) ∷
+          (0x914f0182, 0x3c0000) ∷
+          (0x91674c5d, 0x9d3000) ∷
+          (0x9145ddb5, 0x177000) ∷
+          (0x916d55b3, 0xb55000) ∷
+          (0x916ec4de, 0xbb1000) ∷
+          (0x9178fbba, 0xe3e000) ∷
+          (0x9155eb3c, 0x57a000) ∷
+          (0x916f00b7, 0xbc0000) ∷
+          (0x9150bc4b, 0x42f000) ∷
+          (0x9155fb90, 0x57e000) ∷
+          (0x917d0e99, 0xf43000) ∷
+          [];
+    }) ∷
+    []
+
+unfoldable pub ldst_words : List Words
+ldst_words =
+    -- ldrb
+    (record {
+      unit = 1;
+      bits = 64;
+      rows =
+          (0x39400081, 0x0) ∷
+          (0x397ffe8b, 0xfff) ∷
+          (0x394006a3, 0x1) ∷
+          (0x39400b08, 0x2) ∷
+          (0x394011b9, 0x4) ∷
+          (0x394022b8, 0x8) ∷
+          (0x394041f1, 0x10) ∷
+          (0x39408122, 0x20) ∷
+          (0x39410027, 0x40) ∷
+          (0x394203a9, 0x80) ∷
+          (0x39440018, 0x100) ∷
+          (0x39480049, 0x200) ∷
+          (0x39500103, 0x400) ∷
+          (0x39600322, 0x800) ∷
+          (0x397ffb6b, 0xffe) ∷
+          (0x397ff5f5, 0xffd) ∷
+          (0x397fee8c, 0xffb) ∷
+          (0x397fdd54, 0xff7) ∷
+          (0x397fbf22, 0xfef) ∷
+          (0x397f7cf0, 0xfdf) ∷
+          (0x397efcd5, 0xfbf) ∷
+          (0x397dfeaf, 0xf7f) ∷
+          (0x397bfd9d, 0xeff) ∷
+          (0x3977fe13, 0xdff) ∷
+          (0x396ffef9, 0xbff) ∷
+          (0x395fff43, 0x7ff) ∷
+          (0x39591563, 0x645) ∷
+          (0x394cd61a, 0x335) ∷
+          (0x3949623b, 0x258) ∷
+          (0x3958a494, 0x629) ∷
+          (0x397ed26d, 0xfb4) ∷
+          (0x3964ea23, 0x93a) ∷
+          (0x395dd360, 0x774) ∷
+          (0x3975eb5e, 0xd7a) ∷
+          (0x3953bcca, 0x4ef) ∷
+          (0x395ea6a8, 0x7a9) ∷
+          (0x397fc7bb, 0xff1) ∷
+          (0x397445a1, 0xd11) ∷
+          (0x394f6bc5, 0x3da) ∷
+          (0x397b5eed, 0xed7) ∷
+          [];
+    }) ∷
+    -- ldrh
+    (record {
+      unit = 2 ^ 1;
+      bits = 64;
+      rows =
+          (0x79400279, 0x0) ∷
+          (0x797ffc4d, 0x1ffe) ∷
+          (0x794005ac, 0x2) ∷
+          (0x7940082c, 0x4) ∷
+          (0x794013c3, 0x8) ∷
+          (0x794021e8, 0x10) ∷
+          (0x794042ee, 0x20) ∷
+          (0x79408121, 0x40) ∷
+          (0x7941034d, 0x80) ∷
+          (0x794203a6, 0x100) ∷
+          (0x7944003b, 0x200) ∷
+          (0x79480276, 0x400) ∷
+          (0x795000db, 0x800) ∷
+          (0x79600228, 0x1000) ∷
+          (0x797ff867, 0x1ffc) ∷
+          (0x797ff720, 0x1ffa) ∷
+          (0x797fef56, 0x1ff6) ∷
+          (0x797fdd2d, 0x1fee) ∷
+          (0x797fbc86, 0x1fde) ∷
+          (0x797f7e6a, 0x1fbe) ∷
+          (0x797efcd4, 0x1f7e) ∷
+          (0x797dfcd8, 0x1efe) ∷
+          (0x797bffb6, 0x1dfe) ∷
+          (0x7977ff63, 0x1bfe) ∷
+          (0x796ffccc, 0x17fe) ∷
+          (0x795ffecf, 0xffe) ∷
+          (0x7949971e, 0x4ca) ∷
+          (0x794e85f9, 0x742) ∷
+          (0x79635f1a, 0x11ae) ∷
+          (0x79678274, 0x13c0) ∷
+          (0x794f00ea, 0x780) ∷
+          (0x795161f5, 0x8b0) ∷
+          (0x7968cdf9, 0x1466) ∷
+          (0x796f9396, 0x17c8) ∷
+          (0x797f26b7, 0x1f92) ∷
+          (0x797c0f96, 0x1e06) ∷
+          (0x796bb68f, 0x15da) ∷
+          (0x795551c3, 0xaa8) ∷
+          (0x794640a7, 0x320) ∷
+          (0x7941a3cc, 0xd0) ∷
+          [];
+    }) ∷
+    -- ldr w
+    (record {
+      unit = 2 ^ 2;
+      bits = 64;
+      rows =
+          (0xb94003b5, 0x0) ∷
+          (0xb97ffe0a, 0x3ffc) ∷
+          (0xb9400726, 0x4) ∷
+          (0xb9400b47, 0x8) ∷
+          (0xb9401187, 0x10) ∷
+          (0xb94021ae, 0x20) ∷
+          (0xb94040d0, 0x40) ∷
+          (0xb9408170, 0x80) ∷
+          (0xb941012e, 0x100) ∷
+          (0xb9420170, 0x200) ∷
+          (0xb944002b, 0x400) ∷
+          (0xb94800c2, 0x800) ∷
+          (0xb950002f, 0x1000) ∷
+          (0xb9600046, 0x2000) ∷
+          (0xb97ff86f, 0x3ff8) ∷
+          (0xb97ff735, 0x3ff4) ∷
+          (0xb97feee4, 0x3fec) ∷
+          (0xb97fdd1d, 0x3fdc) ∷
+          (0xb97fbd9e, 0x3fbc) ∷
+          (0xb97f7d96, 0x3f7c) ∷
+          (0xb97eff2e, 0x3efc) ∷
+          (0xb97dfc4f, 0x3dfc) ∷
+          (0xb97bfce8, 0x3bfc) ∷
+          (0xb977fcf8, 0x37fc) ∷
+          (0xb96ffd3c, 0x2ffc) ∷
+          (0xb95ffc1e, 0x1ffc) ∷
+          (0xb956689e, 0x1668) ∷
+          (0xb94c3742, 0xc34) ∷
+          (0xb953776f, 0x1374) ∷
+          (0xb945037a, 0x500) ∷
+          (0xb9601a30, 0x2018) ∷
+          (0xb9555955, 0x1558) ∷
+          (0xb9742e8d, 0x342c) ∷
+          (0xb961a4ee, 0x21a4) ∷
+          (0xb95da927, 0x1da8) ∷
+          (0xb9546417, 0x1464) ∷
+          (0xb9716e27, 0x316c) ∷
+          (0xb9634391, 0x2340) ∷
+          (0xb969bce1, 0x29bc) ∷
+          (0xb97f69a5, 0x3f68) ∷
+          [];
+    }) ∷
+    -- ldr x
+    (record {
+      unit = 2 ^ 3;
+      bits = 64;
+      rows =
+          (0xf94002e7, 0x0) ∷
+          (0xf97ffd67, 0x7ff8) ∷
+          (0xf940074a, 0x8) ∷
+          (0xf9400b5d, 0x10) ∷
+          (0xf94010ab, 0x20) ∷
+          (0xf940201e, 0x40) ∷
+          (0xf9404316, 0x80) ∷
+          (0xf94083b0, 0x100) ∷
+          (0xf94102f1, 0x200) ∷
+          (0xf9420345, 0x400) ∷
+          (0xf944003d, 0x800) ∷
+          (0xf948019e, 0x1000) ∷
+          (0xf9500310, 0x2000) ∷
+          (0xf96003c1, 0x4000) ∷
+          (0xf97ff869, 0x7ff0) ∷
+          (0xf97ff46e, 0x7fe8) ∷
+          (0xf97fec25, 0x7fd8) ∷
+          (0xf97fdc49, 0x7fb8) ∷
+          (0xf97fbdaf, 0x7f78) ∷
+          (0xf97f7ddd, 0x7ef8) ∷
+          (0xf97efe76, 0x7df8) ∷
+          (0xf97dfef8, 0x7bf8) ∷
+          (0xf97bfc59, 0x77f8) ∷
+          (0xf977ff88, 0x6ff8) ∷
+          (0xf96fff20, 0x5ff8) ∷
+          (0xf95ffc95, 0x3ff8) ∷
+          (0xf9415048, 0x2a0) ∷
+          (0xf97832cb, 0x7060) ∷
+          (0xf97bb226, 0x7760) ∷
+          (0xf96fe60a, 0x5fc8) ∷
+          (0xf96bb5fd, 0x5768) ∷
+          (0xf94cd695, 0x19a8) ∷
+          (0xf95ca604, 0x3948) ∷
+          (0xf96f3e8e, 0x5e78) ∷
+          (0xf941226a, 0x240) ∷
+          (0xf9587df4, 0x30f8) ∷
+          (0xf966f629, 0x4de8) ∷
+          (0xf956a2a1, 0x2d40) ∷
+          (0xf97b0343, 0x7600) ∷
+          (0xf95b7605, 0x36e8) ∷
+          [];
+    }) ∷
+    -- ldr b
+    (record {
+      unit = 1;
+      bits = 64;
+      rows =
+          (0x3d4000c8, 0x0) ∷
+          (0x3d7ffe85, 0xfff) ∷
+          (0x3d400401, 0x1) ∷
+          (0x3d40081a, 0x2) ∷
+          (0x3d4010d9, 0x4) ∷
+          (0x3d40201d, 0x8) ∷
+          (0x3d4040ac, 0x10) ∷
+          (0x3d40813a, 0x20) ∷
+          (0x3d410167, 0x40) ∷
+          (0x3d420276, 0x80) ∷
+          (0x3d4403dd, 0x100) ∷
+          (0x3d480350, 0x200) ∷
+          (0x3d500148, 0x400) ∷
+          (0x3d600344, 0x800) ∷
+          (0x3d7ff9f6, 0xffe) ∷
+          (0x3d7ff446, 0xffd) ∷
+          (0x3d7fef97, 0xffb) ∷
+          (0x3d7fdc20, 0xff7) ∷
+          (0x3d7fbc2a, 0xfef) ∷
+          (0x3d7f7dd1, 0xfdf) ∷
+          (0x3d7efe1d, 0xfbf) ∷
+          (0x3d7dff53, 0xf7f) ∷
+          (0x3d7bfddd, 0xeff) ∷
+          (0x3d77fc7a, 0xdff) ∷
+          (0x3d6ffcdb, 0xbff) ∷
+          (0x3d5ffc17, 0x7ff) ∷
+          (0x3d4c5405, 0x315) ∷
+          (0x3d5a89cd, 0x6a2) ∷
+          (0x3d52647a, 0x499) ∷
+          (0x3d49274a, 0x249) ∷
+          (0x3d5b022c, 0x6c0) ∷
+          (0x3d60ee66, 0x83b) ∷
+          (0x3d428546, 0xa1) ∷
+          (0x3d543fcd, 0x50f) ∷
+          (0x3d638461, 0x8e1) ∷
+          (0x3d700981, 0xc02) ∷
+          (0x3d4da01e, 0x368) ∷
+          (0x3d665363, 0x994) ∷
+          (0x3d634f73, 0x8d3) ∷
+          (0x3d7fb34f, 0xfec) ∷
+          [];
+    }) ∷
+    -- ldr s
+    (record {
+      unit = 2 ^ 2;
+      bits = 64;
+      rows =
+          (0xbd400036, 0x0) ∷
+          (0xbd7fffc0, 0x3ffc) ∷
+          (0xbd400581, 0x4) ∷
+          (0xbd4008ce, 0x8) ∷
+          (0xbd40119a, 0x10) ∷
+          (0xbd402313, 0x20) ∷
+          (0xbd4041f4, 0x40) ∷
+          (0xbd4081b9, 0x80) ∷
+          (0xbd41032a, 0x100) ∷
+          (0xbd420040, 0x200) ∷
+          (0xbd440370, 0x400) ∷
+          (0xbd4803b7, 0x800) ∷
+          (0xbd5000a6, 0x1000) ∷
+          (0xbd600080, 0x2000) ∷
+          (0xbd7ffa9c, 0x3ff8) ∷
+          (0xbd7ff578, 0x3ff4) ∷
+          (0xbd7feefb, 0x3fec) ∷
+          (0xbd7fdcb1, 0x3fdc) ∷
+          (0xbd7fbd11, 0x3fbc) ∷
+          (0xbd7f7f29, 0x3f7c) ∷
+          (0xbd7efc11, 0x3efc) ∷
+          (0xbd7dfd40, 0x3dfc) ∷
+          (0xbd7bfd55, 0x3bfc) ∷
+          (0xbd77fd3d, 0x37fc) ∷
+          (0xbd6ffd6e, 0x2ffc) ∷
+          (0xbd5ffe1c, 0x1ffc) ∷
+          (0xbd7aec82, 0x3aec) ∷
+          (0xbd70fd16, 0x30fc) ∷
+          (0xbd64c9a5, 0x24c8) ∷
+          (0xbd7851e4, 0x3850) ∷
+          (0xbd60f941, 0x20f8) ∷
+          (0xbd49a6ed, 0x9a4) ∷
+          (0xbd642d97, 0x242c) ∷
+          (0xbd71799e, 0x3178) ∷
+          (0xbd415c9a, 0x15c) ∷
+          (0xbd5c7078, 0x1c70) ∷
+          (0xbd473b76, 0x738) ∷
+          (0xbd72aa09, 0x32a8) ∷
+          (0xbd70103b, 0x3010) ∷
+          (0xbd5b01be, 0x1b00) ∷
+          [];
+    }) ∷
+    -- ldr q
+    (record {
+      unit = 2 ^ 4;
+      bits = 64;
+      rows =
+          (0x3dc00005, 0x0) ∷
+          (0x3dffff1d, 0xfff0) ∷
+          (0x3dc00668, 0x10) ∷
+          (0x3dc00909, 0x20) ∷
+          (0x3dc010f5, 0x40) ∷
+          (0x3dc0219c, 0x80) ∷
+          (0x3dc04355, 0x100) ∷
+          (0x3dc08169, 0x200) ∷
+          (0x3dc10281, 0x400) ∷
+          (0x3dc20376, 0x800) ∷
+          (0x3dc40171, 0x1000) ∷
+          (0x3dc801ee, 0x2000) ∷
+          (0x3dd0030b, 0x4000) ∷
+          (0x3de002c8, 0x8000) ∷
+          (0x3dfffae9, 0xffe0) ∷
+          (0x3dfff550, 0xffd0) ∷
+          (0x3dffecb9, 0xffb0) ∷
+          (0x3dffdced, 0xff70) ∷
+          (0x3dffbd95, 0xfef0) ∷
+          (0x3dff7eeb, 0xfdf0) ∷
+          (0x3dfeff9e, 0xfbf0) ∷
+          (0x3dfdff61, 0xf7f0) ∷
+          (0x3dfbfef9, 0xeff0) ∷
+          (0x3df7ff0e, 0xdff0) ∷
+          (0x3deffe37, 0xbff0) ∷
+          (0x3ddffd8b, 0x7ff0) ∷
+          (0x3dde5d63, 0x7970) ∷
+          (0x3de39aa2, 0x8e60) ∷
+          (0x3deba88f, 0xaea0) ∷
+          (0x3de9a889, 0xa6a0) ∷
+          (0x3dfecfda, 0xfb30) ∷
+          (0x3df7e97d, 0xdfa0) ∷
+          (0x3deb0c8d, 0xac30) ∷
+          (0x3df70f9e, 0xdc30) ∷
+          (0x3dd6cb91, 0x5b20) ∷
+          (0x3dcdc914, 0x3720) ∷
+          (0x3dc4c68f, 0x1310) ∷
+          (0x3de4bea8, 0x92f0) ∷
+          (0x3dc24948, 0x920) ∷
+          (0x3dcd0b49, 0x3420) ∷
+          [];
+    }) ∷
+    -- strb
+    (record {
+      unit = 1;
+      bits = 64;
+      rows =
+          (0x39000045, 0x0) ∷
+          (0x393fff84, 0xfff) ∷
+          (0x3900070e, 0x1) ∷
+          (0x39000b85, 0x2) ∷
+          (0x390013ad, 0x4) ∷
+          (0x390021a6, 0x8) ∷
+          (0x390043a5, 0x10) ∷
+          (0x39008075, 0x20) ∷
+          (0x39010118, 0x40) ∷
+          (0x39020313, 0x80) ∷
+          (0x39040059, 0x100) ∷
+          (0x39080378, 0x200) ∷
+          (0x39100134, 0x400) ∷
+          (0x3920012e, 0x800) ∷
+          (0x393ffadc, 0xffe) ∷
+          (0x393ff4bd, 0xffd) ∷
+          (0x393fed96, 0xffb) ∷
+          (0x393fdf83, 0xff7) ∷
+          (0x393fbf14, 0xfef) ∷
+          (0x393f7dd6, 0xfdf) ∷
+          (0x393efea0, 0xfbf) ∷
+          (0x393dfcb7, 0xf7f) ∷
+          (0x393bfe1c, 0xeff) ∷
+          (0x3937ff97, 0xdff) ∷
+          (0x392fff95, 0xbff) ∷
+          (0x391fffc5, 0x7ff) ∷
+          (0x39210b59, 0x842) ∷
+          (0x3909c2d4, 0x270) ∷
+          (0x393b9274, 0xee4) ∷
+          (0x3919a025, 0x668) ∷
+          (0x392a77b0, 0xa9d) ∷
+          (0x3928e073, 0xa38) ∷
+          (0x39076ce4, 0x1db) ∷
+          (0x39352b1a, 0xd4a) ∷
+          (0x39020c6d, 0x83) ∷
+          (0x39308603, 0xc21) ∷
+          (0x393996eb, 0xe65) ∷
+          (0x392db987, 0xb6e) ∷
+          (0x390c4543, 0x311) ∷
+          (0x39233898, 0x8ce) ∷
+          [];
+    }) ∷
+    -- str w
+    (record {
+      unit = 2 ^ 2;
+      bits = 64;
+      rows =
+          (0xb9000066, 0x0) ∷
+          (0xb93ffd4f, 0x3ffc) ∷
+          (0xb9000797, 0x4) ∷
+          (0xb9000878, 0x8) ∷
+          (0xb90013d6, 0x10) ∷
+          (0xb9002267, 0x20) ∷
+          (0xb90043bb, 0x40) ∷
+          (0xb9008057, 0x80) ∷
+          (0xb901037a, 0x100) ∷
+          (0xb90202c3, 0x200) ∷
+          (0xb90403ac, 0x400) ∷
+          (0xb90802f1, 0x800) ∷
+          (0xb9100285, 0x1000) ∷
+          (0xb9200056, 0x2000) ∷
+          (0xb93ffa39, 0x3ff8) ∷
+          (0xb93ff545, 0x3ff4) ∷
+          (0xb93fec1b, 0x3fec) ∷
+          (0xb93fdd67, 0x3fdc) ∷
+          (0xb93fbed9, 0x3fbc) ∷
+          (0xb93f7f31, 0x3f7c) ∷
+          (0xb93efe02, 0x3efc) ∷
+          (0xb93dfec6, 0x3dfc) ∷
+          (0xb93bff88, 0x3bfc) ∷
+          (0xb937ff30, 0x37fc) ∷
+          (0xb92ffe36, 0x2ffc) ∷
+          (0xb91fffc7, 0x1ffc) ∷
+          (0xb9392b3d, 0x3928) ∷
+          (0xb93b3149, 0x3b30) ∷
+          (0xb91cee3e, 0x1cec) ∷
+          (0xb908c1a2, 0x8c0) ∷
+          (0xb93f62de, 0x3f60) ∷
+          (0xb912601b, 0x1260) ∷
+          (0xb92cf234, 0x2cf0) ∷
+          (0xb931603d, 0x3160) ∷
+          (0xb93383d8, 0x3380) ∷
+          (0xb920fcfd, 0x20fc) ∷
+          (0xb93a9eaf, 0x3a9c) ∷
+          (0xb923dfd9, 0x23dc) ∷
+          (0xb903188b, 0x318) ∷
+          (0xb914ab77, 0x14a8) ∷
+          [];
+    }) ∷
+    -- str x
+    (record {
+      unit = 2 ^ 3;
+      bits = 64;
+      rows =
+          (0xf900028a, 0x0) ∷
+          (0xf93ffc51, 0x7ff8) ∷
+          (0xf900078d, 0x8) ∷
+          (0xf9000bb6, 0x10) ∷
+          (0xf9001295, 0x20) ∷
+          (0xf9002283, 0x40) ∷
+          (0xf90041c1, 0x80) ∷
+          (0xf90082a3, 0x100) ∷
+          (0xf9010327, 0x200) ∷
+          (0xf902032c, 0x400) ∷
+          (0xf9040324, 0x800) ∷
+          (0xf908018b, 0x1000) ∷
+          (0xf9100080, 0x2000) ∷
+          (0xf9200173, 0x4000) ∷
+          (0xf93ff81c, 0x7ff0) ∷
+          (0xf93ff52a, 0x7fe8) ∷
+          (0xf93fecef, 0x7fd8) ∷
+          (0xf93fdc27, 0x7fb8) ∷
+          (0xf93fbf97, 0x7f78) ∷
+          (0xf93f7d27, 0x7ef8) ∷
+          (0xf93efc0f, 0x7df8) ∷
+          (0xf93dfc96, 0x7bf8) ∷
+          (0xf93bff35, 0x77f8) ∷
+          (0xf937ff30, 0x6ff8) ∷
+          (0xf92ffe65, 0x5ff8) ∷
+          (0xf91fff76, 0x3ff8) ∷
+          (0xf92eef66, 0x5dd8) ∷
+          (0xf91a74fc, 0x34e8) ∷
+          (0xf91e676f, 0x3cc8) ∷
+          (0xf92a5493, 0x54a8) ∷
+          (0xf916a93e, 0x2d50) ∷
+          (0xf936a8f6, 0x6d50) ∷
+          (0xf9245299, 0x48a0) ∷
+          (0xf93a5edc, 0x74b8) ∷
+          (0xf9096594, 0x12c8) ∷
+          (0xf93d8d46, 0x7b18) ∷
+          (0xf9374674, 0x6e88) ∷
+          (0xf91bf9d4, 0x37f0) ∷
+          (0xf92f13b1, 0x5e20) ∷
+          (0xf926d3c0, 0x4da0) ∷
+          [];
+    }) ∷
+    []
+
+unfoldable pub tstbr_words : List Words
+tstbr_words =
+    -- tbz
+    (record {
+      unit = 2 ^ 2;
+      bits = 64;
+      rows =
+          (0xb6300011, 0x0) ∷
+          (0x36c7fff1, 0xfffffffffffffffc) ∷
+          (0x36100026, 0x4) ∷
+          (0x36900041, 0x8) ∷
+          (0xb6000080, 0x10) ∷
+          (0x36d00119, 0x20) ∷
+          (0x3698020c, 0x40) ∷
+          (0x3638040d, 0x80) ∷
+          (0x36a8080d, 0x100) ∷
+          (0xb6201013, 0x200) ∷
+          (0xb6782019, 0x400) ∷
+          (0x36c0401e, 0x800) ∷
+          (0xb6508019, 0x1000) ∷
+          (0xb6f9000a, 0x2000) ∷
+          (0x365a0002, 0x4000) ∷
+          (0xb67c0004, 0xffffffffffff8000) ∷
+          (0xb64fffdd, 0xfffffffffffffff8) ∷
+          (0xb677ffaf, 0xfffffffffffffff4) ∷
+          (0xb66fff69, 0xffffffffffffffec) ∷
+          (0x360ffee1, 0xffffffffffffffdc) ∷
+          (0x365ffdef, 0xffffffffffffffbc) ∷
+          (0xb68ffbed, 0xffffffffffffff7c) ∷
+          (0xb64ff7ee, 0xfffffffffffffefc) ∷
+          (0x36efefe5, 0xfffffffffffffdfc) ∷
+          (0xb6efdff5, 0xfffffffffffffbfc) ∷
+          (0x3607bff6, 0xfffffffffffff7fc) ∷
+          (0xb64f7fec, 0xffffffffffffeffc) ∷
+          (0x3696ffe0, 0xffffffffffffdffc) ∷
+          (0xb6d5ffee, 0xffffffffffffbffc) ∷
+          (0xb653fffa, 0x7ffc) ∷
+          (0xb6463376, 0xffffffffffffc66c) ∷
+          (0xb6f36a30, 0x6d44) ∷
+          (0x364d0ba4, 0xffffffffffffa174) ∷
+          (0x360a0f11, 0x41e0) ∷
+          (0xb6f1d165, 0x3a2c) ∷
+          (0x366fe01a, 0xfffffffffffffc00) ∷
+          (0xb675d97e, 0xffffffffffffbb2c) ∷
+          (0x36ab36b4, 0x66d4) ∷
+          (0x36ddd72d, 0xffffffffffffbae4) ∷
+          (0xb6fb3a6c, 0x674c) ∷
+          [];
+    }) ∷
+    -- tbnz
+    (record {
+      unit = 2 ^ 2;
+      bits = 64;
+      rows =
+          (0xb7a80019, 0x0) ∷
+          (0xb70ffff7, 0xfffffffffffffffc) ∷
+          (0x37700030, 0x4) ∷
+          (0x37380043, 0x8) ∷
+          (0xb7d0009d, 0x10) ∷
+          (0x37100103, 0x20) ∷
+          (0x3760020c, 0x40) ∷
+          (0xb7100406, 0x80) ∷
+          (0x3708081d, 0x100) ∷
+          (0x37681003, 0x200) ∷
+          (0x3780200e, 0x400) ∷
+          (0xb780401e, 0x800) ∷
+          (0xb7288014, 0x1000) ∷
+          (0xb7d10019, 0x2000) ∷
+          (0x377a0016, 0x4000) ∷
+          (0x37540000, 0xffffffffffff8000) ∷
+          (0xb707ffdd, 0xfffffffffffffff8) ∷
+          (0x373fffb7, 0xfffffffffffffff4) ∷
+          (0xb717ff68, 0xffffffffffffffec) ∷
+          (0x371ffeec, 0xffffffffffffffdc) ∷
+          (0x3707fde0, 0xffffffffffffffbc) ∷
+          (0x3727fbfa, 0xffffffffffffff7c) ∷
+          (0x37b7f7eb, 0xfffffffffffffefc) ∷
+          (0x373fefe4, 0xfffffffffffffdfc) ∷
+          (0x3787dff1, 0xfffffffffffffbfc) ∷
+          (0xb767bfed, 0xfffffffffffff7fc) ∷
+          (0x37277ff4, 0xffffffffffffeffc) ∷
+          (0x37f6ffe2, 0xffffffffffffdffc) ∷
+          (0x371dffed, 0xffffffffffffbffc) ∷
+          (0x373bfffa, 0x7ffc) ∷
+          (0xb7f7f5ed, 0xfffffffffffffebc) ∷
+          (0xb7d5af0f, 0xffffffffffffb5e0) ∷
+          (0xb7e30efa, 0x61dc) ∷
+          (0x378e7ef8, 0xffffffffffffcfdc) ∷
+          (0xb7717061, 0x2e0c) ∷
+          (0xb7fcdb55, 0xffffffffffff9b68) ∷
+          (0x37ccfeab, 0xffffffffffff9fd4) ∷
+          (0x37dfa01b, 0xfffffffffffff400) ∷
+          (0xb71a5b42, 0x4b68) ∷
+          (0x374ba901, 0x7520) ∷
+          [];
+    }) ∷
+    []
+
+unfoldable pub bcond_words : List Words
+bcond_words =
+    -- b.eq
+    (record {
+      unit = 2 ^ 2;
+      bits = 64;
+      rows =
+          (0x54000000, 0x0) ∷
+          (0x54ffffe0, 0xfffffffffffffffc) ∷
+          (0x54000020, 0x4) ∷
+          (0x54000040, 0x8) ∷
+          (0x54000080, 0x10) ∷
+          (0x54000100, 0x20) ∷
+          (0x54000200, 0x40) ∷
+          (0x54000400, 0x80) ∷
+          (0x54000800, 0x100) ∷
+          (0x54001000, 0x200) ∷
+          (0x54002000, 0x400) ∷
+          (0x54004000, 0x800) ∷
+          (0x54008000, 0x1000) ∷
+          (0x54010000, 0x2000) ∷
+          (0x54020000, 0x4000) ∷
+          (0x54040000, 0x8000) ∷
+          (0x54080000, 0x10000) ∷
+          (0x54100000, 0x20000) ∷
+          (0x54200000, 0x40000) ∷
+          (0x54400000, 0x80000) ∷
+          (0x54800000, 0xfffffffffff00000) ∷
+          (0x54ffffc0, 0xfffffffffffffff8) ∷
+          (0x54ffffa0, 0xfffffffffffffff4) ∷
+          (0x54ffff60, 0xffffffffffffffec) ∷
+          (0x54fffee0, 0xffffffffffffffdc) ∷
+          (0x54fffde0, 0xffffffffffffffbc) ∷
+          (0x54fffbe0, 0xffffffffffffff7c) ∷
+          (0x54fff7e0, 0xfffffffffffffefc) ∷
+          (0x54ffefe0, 0xfffffffffffffdfc) ∷
+          (0x54ffdfe0, 0xfffffffffffffbfc) ∷
+          (0x54ffbfe0, 0xfffffffffffff7fc) ∷
+          (0x54ff7fe0, 0xffffffffffffeffc) ∷
+          (0x54feffe0, 0xffffffffffffdffc) ∷
+          (0x54fdffe0, 0xffffffffffffbffc) ∷
+          (0x54fbffe0, 0xffffffffffff7ffc) ∷
+          (0x54f7ffe0, 0xfffffffffffefffc) ∷
+          (0x54efffe0, 0xfffffffffffdfffc) ∷
+          (0x54dfffe0, 0xfffffffffffbfffc) ∷
+          (0x54bfffe0, 0xfffffffffff7fffc) ∷
+          (0x547fffe0, 0xffffc) ∷
+          (0x54934c20, 0xfffffffffff26984) ∷
+          (0x5418e780, 0x31cf0) ∷
+          (0x547d5e40, 0xfabc8) ∷
+          (0x541dd680, 0x3bad0) ∷
+          (0x5458f480, 0xb1e90) ∷
+          (0x5487b6c0, 0xfffffffffff0f6d8) ∷
+          [];
+    }) ∷
+    -- b.ne
+    (record {
+      unit = 2 ^ 2;
+      bits = 64;
+      rows =
+          (0x54000001, 0x0) ∷
+          (0x54ffffe1, 0xfffffffffffffffc) ∷
+          (0x54000021, 0x4) ∷
+          (0x54000041, 0x8) ∷
+          (0x54000081, 0x10) ∷
+          (0x54000101, 0x20) ∷
+          (0x54000201, 0x40) ∷
+          (0x54000401, 0x80) ∷
+          (0x54000801, 0x100) ∷
+          (0x54001001, 0x200) ∷
+          (0x54002001, 0x400) ∷
+          (0x54004001, 0x800) ∷
+          (0x54008001, 0x1000) ∷
+          (0x54010001, 0x2000) ∷
+          (0x54020001, 0x4000) ∷
+          (0x54040001, 0x8000) ∷
+          (0x54080001, 0x10000) ∷
+          (0x54100001, 0x20000) ∷
+          (0x54200001, 0x40000) ∷
+          (0x54400001, 0x80000) ∷
+          (0x54800001, 0xfffffffffff00000) ∷
+          (0x54ffffc1, 0xfffffffffffffff8) ∷
+          (0x54ffffa1, 0xfffffffffffffff4) ∷
+          (0x54ffff61, 0xffffffffffffffec) ∷
+          (0x54fffee1, 0xffffffffffffffdc) ∷
+          (0x54fffde1, 0xffffffffffffffbc) ∷
+          (0x54fffbe1, 0xffffffffffffff7c) ∷
+          (0x54fff7e1, 0xfffffffffffffefc) ∷
+          (0x54ffefe1, 0xfffffffffffffdfc) ∷
+          (0x54ffdfe1, 0xfffffffffffffbfc) ∷
+          (0x54ffbfe1, 0xfffffffffffff7fc) ∷
+          (0x54ff7fe1, 0xffffffffffffeffc) ∷
+          (0x54feffe1, 0xffffffffffffdffc) ∷
+          (0x54fdffe1, 0xffffffffffffbffc) ∷
+          (0x54fbffe1, 0xffffffffffff7ffc) ∷
+          (0x54f7ffe1, 0xfffffffffffefffc) ∷
+          (0x54efffe1, 0xfffffffffffdfffc) ∷
+          (0x54dfffe1, 0xfffffffffffbfffc) ∷
+          (0x54bfffe1, 0xfffffffffff7fffc) ∷
+          (0x547fffe1, 0xffffc) ∷
+          (0x546d92e1, 0xdb25c) ∷
+          (0x54844a21, 0xfffffffffff08944) ∷
+          (0x54f57ba1, 0xfffffffffffeaf74) ∷
+          (0x54d47121, 0xfffffffffffa8e24) ∷
+          (0x5460d9e1, 0xc1b3c) ∷
+          (0x54aef481, 0xfffffffffff5de90) ∷
+          [];
+    }) ∷
+    -- b.al
+    (record {
+      unit = 2 ^ 2;
+      bits = 64;
+      rows =
+          (0x5400000e, 0x0) ∷
+          (0x54ffffee, 0xfffffffffffffffc) ∷
+          (0x5400002e, 0x4) ∷
+          (0x5400004e, 0x8) ∷
+          (0x5400008e, 0x10) ∷
+          (0x5400010e, 0x20) ∷
+          (0x5400020e, 0x40) ∷
+          (0x5400040e, 0x80) ∷
+          (0x5400080e, 0x100) ∷
+          (0x5400100e, 0x200) ∷
+          (0x5400200e, 0x400) ∷
+          (0x5400400e, 0x800) ∷
+          (0x5400800e, 0x1000) ∷
+          (0x5401000e, 0x2000) ∷
+          (0x5402000e, 0x4000) ∷
+          (0x5404000e, 0x8000) ∷
+          (0x5408000e, 0x10000) ∷
+          (0x5410000e, 0x20000) ∷
+          (0x5420000e, 0x40000) ∷
+          (0x5440000e, 0x80000) ∷
+          (0x5480000e, 0xfffffffffff00000) ∷
+          (0x54ffffce, 0xfffffffffffffff8) ∷
+          (0x54ffffae, 0xfffffffffffffff4) ∷
+          (0x54ffff6e, 0xffffffffffffffec) ∷
+          (0x54fffeee, 0xffffffffffffffdc) ∷
+          (0x54fffdee, 0xffffffffffffffbc) ∷
+          (0x54fffbee, 0xffffffffffffff7c) ∷
+          (0x54fff7ee, 0xfffffffffffffefc) ∷
+          (0x54ffefee, 0xfffffffffffffdfc) ∷
+          (0x54ffdfee, 0xfffffffffffffbfc) ∷
+          (0x54ffbfee, 0xfffffffffffff7fc) ∷
+          (0x54ff7fee, 0xffffffffffffeffc) ∷
+          (0x54feffee, 0xffffffffffffdffc) ∷
+          (0x54fdffee, 0xffffffffffffbffc) ∷
+          (0x54fbffee, 0xffffffffffff7ffc) ∷
+          (0x54f7ffee, 0xfffffffffffefffc) ∷
+          (0x54efffee, 0xfffffffffffdfffc) ∷
+          (0x54dfffee, 0xfffffffffffbfffc) ∷
+          (0x54bfffee, 0xfffffffffff7fffc) ∷
+          (0x547fffee, 0xffffc) ∷
+          (0x54c84f4e, 0xfffffffffff909e8) ∷
+          (0x5480af6e, 0xfffffffffff015ec) ∷
+          (0x54d5b7ce, 0xfffffffffffab6f8) ∷
+          (0x54c1886e, 0xfffffffffff8310c) ∷
+          (0x54ff742e, 0xffffffffffffee84) ∷
+          (0x5487028e, 0xfffffffffff0e050) ∷
+          [];
+    }) ∷
+    -- cbz
+    (record {
+      unit = 2 ^ 2;
+      bits = 64;
+      rows =
+          (0xb4000008, 0x0) ∷
+          (0xb4fffff4, 0xfffffffffffffffc) ∷
+          (0xb4000020, 0x4) ∷
+          (0xb4000045, 0x8) ∷
+          (0xb4000093, 0x10) ∷
+          (0xb400010c, 0x20) ∷
+          (0xb400020b, 0x40) ∷
+          (0xb4000417, 0x80) ∷
+          (0xb4000808, 0x100) ∷
+          (0xb400100e, 0x200) ∷
+          (0xb4002019, 0x400) ∷
+          (0xb400400c, 0x800) ∷
+          (0xb400801c, 0x1000) ∷
+          (0xb401000c, 0x2000) ∷
+          (0xb4020017, 0x4000) ∷
+          (0xb404001a, 0x8000) ∷
+          (0xb4080010, 0x10000) ∷
+          (0xb410001c, 0x20000) ∷
+          (0xb4200018, 0x40000) ∷
+          (0xb4400005, 0x80000) ∷
+          (0xb480000d, 0xfffffffffff00000) ∷
+          (0xb4ffffd9, 0xfffffffffffffff8) ∷
+          (0xb4ffffb7, 0xfffffffffffffff4) ∷
+          (0xb4ffff67, 0xffffffffffffffec) ∷
+          (0xb4fffef7, 0xffffffffffffffdc) ∷
+          (0xb4fffde2, 0xffffffffffffffbc) ∷
+          (0xb4fffbe4, 0xffffffffffffff7c) ∷
+          (0xb4fff7fd, 0xfffffffffffffefc) ∷
+          (0xb4ffeff6, 0xfffffffffffffdfc) ∷
+          (0xb4ffdfe2, 0xfffffffffffffbfc) ∷
+          (0xb4ffbff1, 0xfffffffffffff7fc) ∷
+          (0xb4ff7fe7, 0xffffffffffffeffc) ∷
+          (0xb4fefff6, 0xffffffffffffdffc) ∷
+          (0xb4fdfffe, 0xffffffffffffbffc) ∷
+          (0xb4fbffe6, 0xffffffffffff7ffc) ∷
+          (0xb4f7fffd, 0xfffffffffffefffc) ∷
+          (0xb4efffe0, 0xfffffffffffdfffc) ∷
+          (0xb4dfffee, 0xfffffffffffbfffc) ∷
+          (0xb4bfffee, 0xfffffffffff7fffc) ∷
+          (0xb47fffe1, 0xffffc) ∷
+          (0xb49c47a9, 0xfffffffffff388f4) ∷
+          (0xb4eaaab6, 0xfffffffffffd5554) ∷
+          (0xb4a0ffb9, 0xfffffffffff41ff4) ∷
+          (0xb4fbf540, 0xffffffffffff7ea8) ∷
+          (0xb48c9895, 0xfffffffffff19310) ∷
+          (0xb488215e, 0xfffffffffff10428) ∷
+          [];
+    }) ∷
+    -- cbnz
+    (record {
+      unit = 2 ^ 2;
+      bits = 64;
+      rows =
+          (0xb5000002, 0x0) ∷
+          (0xb5fffff7, 0xfffffffffffffffc) ∷
+          (0xb5000025, 0x4) ∷
+          (0xb5000055, 0x8) ∷
+          (0xb5000080, 0x10) ∷
+          (0xb500011e, 0x20) ∷
+          (0xb5000205, 0x40) ∷
+          (0xb5000411, 0x80) ∷
+          (0xb5000801, 0x100) ∷
+          (0xb5001009, 0x200) ∷
+          (0xb5002016, 0x400) ∷
+          (0xb500401e, 0x800) ∷
+          (0xb5008005, 0x1000) ∷
+          (0xb5010011, 0x2000) ∷
+          (0xb5020013, 0x4000) ∷
+          (0xb504001c, 0x8000) ∷
+          (0xb5080007, 0x10000) ∷
+          (0xb5100013, 0x20000) ∷
+          (0xb5200011, 0x40000) ∷
+          (0xb5400001, 0x80000) ∷
+          (0xb5800001, 0xfffffffffff00000) ∷
+          (0xb5ffffde, 0xfffffffffffffff8) ∷
+          (0xb5ffffb4, 0xfffffffffffffff4) ∷
+          (0xb5ffff6a, 0xffffffffffffffec) ∷
+          (0xb5fffee9, 0xffffffffffffffdc) ∷
+          (0xb5fffdf0, 0xffffffffffffffbc) ∷
+          (0xb5fffbe8, 0xffffffffffffff7c) ∷
+          (0xb5fff7e4, 0xfffffffffffffefc) ∷
+          (0xb5ffefe9, 0xfffffffffffffdfc) ∷
+          (0xb5ffdfec, 0xfffffffffffffbfc) ∷
+          (0xb5ffbfe8, 0xfffffffffffff7fc) ∷
+          (0xb5ff7ff3, 0xffffffffffffeffc) ∷
+          (0xb5feffe4, 0xffffffffffffdffc) ∷
+          (0xb5fdffe4, 0xffffffffffffbffc) ∷
+          (0xb5fbfff4, 0xffffffffffff7ffc) ∷
+          (0xb5f7fff9, 0xfffffffffffefffc) ∷
+          (0xb5effffa, 0xfffffffffffdfffc) ∷
+          (0xb5dfffec, 0xfffffffffffbfffc) ∷
+          (0xb5bfffe3, 0xfffffffffff7fffc) ∷
+          (0xb57fffe0, 0xffffc) ∷
+          (0xb51901f6, 0x3203c) ∷
+          (0xb50e820a, 0x1d040) ∷
+          (0xb5d13622, 0xfffffffffffa26c4) ∷
+          (0xb57b3736, 0xf66e4) ∷
+          (0xb53778ed, 0x6ef1c) ∷
+          (0xb549f3ce, 0x93e78) ∷
+          [];
+    }) ∷
+    []
+
+unfoldable pub jumpcall_words : List Words
+jumpcall_words =
+    -- b
+    (record {
+      unit = 2 ^ 2;
+      bits = 64;
+      rows =
+          (0x14000000, 0x0) ∷
+          (0x17ffffff, 0xfffffffffffffffc) ∷
+          (0x14000001, 0x4) ∷
+          (0x14000002, 0x8) ∷
+          (0x14000004, 0x10) ∷
+          (0x14000008, 0x20) ∷
+          (0x14000010, 0x40) ∷
+          (0x14000020, 0x80) ∷
+          (0x14000040, 0x100) ∷
+          (0x14000080, 0x200) ∷
+          (0x14000100, 0x400) ∷
+          (0x14000200, 0x800) ∷
+          (0x14000400, 0x1000) ∷
+          (0x14000800, 0x2000) ∷
+          (0x14001000, 0x4000) ∷
+          (0x14002000, 0x8000) ∷
+          (0x14004000, 0x10000) ∷
+          (0x14008000, 0x20000) ∷
+          (0x14010000, 0x40000) ∷
+          (0x14020000, 0x80000) ∷
+          (0x14040000, 0x100000) ∷
+          (0x14080000, 0x200000) ∷
+          (0x14100000, 0x400000) ∷
+          (0x14200000, 0x800000) ∷
+          (0x14400000, 0x1000000) ∷
+          (0x14800000, 0x2000000) ∷
+          (0x15000000, 0x4000000) ∷
+          (0x16000000, 0xfffffffff8000000) ∷
+          (0x17fffffe, 0xfffffffffffffff8) ∷
+          (0x17fffffd, 0xfffffffffffffff4) ∷
+          (0x17fffffb, 0xffffffffffffffec) ∷
+          (0x17fffff7, 0xffffffffffffffdc) ∷
+          (0x17ffffef, 0xffffffffffffffbc) ∷
+          (0x17ffffdf, 0xffffffffffffff7c) ∷
+          (0x17ffffbf, 0xfffffffffffffefc) ∷
+          (0x17ffff7f, 0xfffffffffffffdfc) ∷
+          (0x17fffeff, 0xfffffffffffffbfc) ∷
+          (0x17fffdff, 0xfffffffffffff7fc) ∷
+          (0x17fffbff, 0xffffffffffffeffc) ∷
+          (0x17fff7ff, 0xffffffffffffdffc) ∷
+          (0x17ffefff, 0xffffffffffffbffc) ∷
+          (0x17ffdfff, 0xffffffffffff7ffc) ∷
+          (0x17ffbfff, 0xfffffffffffefffc) ∷
+          (0x17ff7fff, 0xfffffffffffdfffc) ∷
+          (0x17feffff, 0xfffffffffffbfffc) ∷
+          (0x17fdffff, 0xfffffffffff7fffc) ∷
+          (0x17fbffff, 0xffffffffffeffffc) ∷
+          (0x17f7ffff, 0xffffffffffdffffc) ∷
+          (0x17efffff, 0xffffffffffbffffc) ∷
+          (0x17dfffff, 0xffffffffff7ffffc) ∷
+          (0x17bfffff, 0xfffffffffefffffc) ∷
+          (0x177fffff, 0xfffffffffdfffffc) ∷
+          (0x16ffffff, 0xfffffffffbfffffc) ∷
+          (0x15ffffff, 0x7fffffc) ∷
+          (0x16e398ad, 0xfffffffffb8e62b4) ∷
+          (0x165f5d90, 0xfffffffff97d7640) ∷
+          (0x15abd5dc, 0x6af5770) ∷
+          (0x17a5ade2, 0xfffffffffe96b788) ∷
+          (0x14e56dfb, 0x395b7ec) ∷
+          (0x157476d7, 0x5d1db5c) ∷
+          [];
+    }) ∷
+    -- bl
+    (record {
+      unit = 2 ^ 2;
+      bits = 64;
+      rows =
+          (0x94000000, 0x0) ∷
+          (0x97ffffff, 0xfffffffffffffffc) ∷
+          (0x94000001, 0x4) ∷
+          (0x94000002, 0x8) ∷
+          (0x94000004, 0x10) ∷
+          (0x94000008, 0x20) ∷
+          (0x94000010, 0x40) ∷
+          (0x94000020, 0x80) ∷
+          (0x94000040, 0x100) ∷
+          (0x94000080, 0x200) ∷
+          (0x94000100, 0x400) ∷
+          (0x94000200, 0x800) ∷
+          (0x94000400, 0x1000) ∷
+          (0x94000800, 0x2000) ∷
+          (0x94001000, 0x4000) ∷
+          (0x94002000, 0x8000) ∷
+          (0x94004000, 0x10000) ∷
+          (0x94008000, 0x20000) ∷
+          (0x94010000, 0x40000) ∷
+          (0x94020000, 0x80000) ∷
+          (0x94040000, 0x100000) ∷
+          (0x94080000, 0x200000) ∷
+          (0x94100000, 0x400000) ∷
+          (0x94200000, 0x800000) ∷
+          (0x94400000, 0x1000000) ∷
+          (0x94800000, 0x2000000) ∷
+          (0x95000000, 0x4000000) ∷
+          (0x96000000, 0xfffffffff8000000) ∷
+          (0x97fffffe, 0xfffffffffffffff8) ∷
+          (0x97fffffd, 0xfffffffffffffff4) ∷
+          (0x97fffffb, 0xffffffffffffffec) ∷
+          (0x97fffff7, 0xffffffffffffffdc) ∷
+          (0x97ffffef, 0xffffffffffffffbc) ∷
+          (0x97ffffdf, 0xffffffffffffff7c) ∷
+          (0x97ffffbf, 0xfffffffffffffefc) ∷
+          (0x97ffff7f, 0xfffffffffffffdfc) ∷
+          (0x97fffeff, 0xfffffffffffffbfc) ∷
+          (0x97fffdff, 0xfffffffffffff7fc) ∷
+          (0x97fffbff, 0xffffffffffffeffc) ∷
+          (0x97fff7ff, 0xffffffffffffdffc) ∷
+          (0x97ffefff, 0xffffffffffffbffc) ∷
+          (0x97ffdfff, 0xffffffffffff7ffc) ∷
+          (0x97ffbfff, 0xfffffffffffefffc) ∷
+          (0x97ff7fff, 0xfffffffffffdfffc) ∷
+          (0x97feffff, 0xfffffffffffbfffc) ∷
+          (0x97fdffff, 0xfffffffffff7fffc) ∷
+          (0x97fbffff, 0xffffffffffeffffc) ∷
+          (0x97f7ffff, 0xffffffffffdffffc) ∷
+          (0x97efffff, 0xffffffffffbffffc) ∷
+          (0x97dfffff, 0xffffffffff7ffffc) ∷
+          (0x97bfffff, 0xfffffffffefffffc) ∷
+          (0x977fffff, 0xfffffffffdfffffc) ∷
+          (0x96ffffff, 0xfffffffffbfffffc) ∷
+          (0x95ffffff, 0x7fffffc) ∷
+          (0x94fcc042, 0x3f30108) ∷
+          (0x94d6fc87, 0x35bf21c) ∷
+          (0x97272405, 0xfffffffffc9c9014) ∷
+          (0x94c12a74, 0x304a9d0) ∷
+          (0x944f81da, 0x13e0768) ∷
+          (0x971a3bcd, 0xfffffffffc68ef34) ∷
+          [];
+    }) ∷
+    []
+
+unfoldable pub macholow12_words : List Words
+macholow12_words =
+    -- add
+    (record {
+      unit = 1;
+      bits = 64;
+      rows =
+          (0x9100023b, 0x0) ∷
+          (0x913ffc67, 0xfff) ∷
+          (0x9100074f, 0x1) ∷
+          (0x91000aa3, 0x2) ∷
+          (0x910013bc, 0x4) ∷
+          (0x91002344, 0x8) ∷
+          (0x910042fd, 0x10) ∷
+          (0x91008220, 0x20) ∷
+          (0x9101021a, 0x40) ∷
+          (0x910202c2, 0x80) ∷
+          (0x910400a1, 0x100) ∷
+          (0x910802a8, 0x200) ∷
+          (0x911000cc, 0x400) ∷
+          (0x91200317, 0x800) ∷
+          (0x913ff850, 0xffe) ∷
+          (0x913ff47a, 0xffd) ∷
+          (0x913feeb4, 0xffb) ∷
+          (0x913fdf30, 0xff7) ∷
+          (0x913fbc38, 0xfef) ∷
+          (0x913f7d10, 0xfdf) ∷
+          (0x913efc11, 0xfbf) ∷
+          (0x913dfd81, 0xf7f) ∷
+          (0x913bfe8b, 0xeff) ∷
+          (0x9137fe6c, 0xdff) ∷
+          (0x912ffd4d, 0xbff) ∷
+          (0x911ffe8e, 0x7ff) ∷
+          (0x91113d84, 0x44f) ∷
+          (0x910f9b31, 0x3e6) ∷
+          (0x913d99f5, 0xf66) ∷
+          (0x911d8579, 0x761) ∷
+          (0x91027140, 0x9c) ∷
+          (0x910dfc3a, 0x37f) ∷
+          (0x912aa475, 0xaa9) ∷
+          (0x912ef36d, 0xbbc) ∷
+          (0x91171693, 0x5c5) ∷
+          (0x9106bf98, 0x1af) ∷
+          (0x911248c1, 0x492) ∷
+          (0x91392a01, 0xe4a) ∷
+          (0x9123beac, 0x8ef) ∷
+          (0x91164f84, 0x593) ∷
+          [];
+    }) ∷
+    -- ldrb
+    (record {
+      unit = 1;
+      bits = 64;
+      rows =
+          (0x39400265, 0x0) ∷
+          (0x397ffc90, 0xfff) ∷
+          (0x39400666, 0x1) ∷
+          (0x3940089b, 0x2) ∷
+          (0x3940137d, 0x4) ∷
+          (0x39402147, 0x8) ∷
+          (0x3940418a, 0x10) ∷
+          (0x394080c0, 0x20) ∷
+          (0x39410320, 0x40) ∷
+          (0x3942035b, 0x80) ∷
+          (0x39440062, 0x100) ∷
+          (0x394800c0, 0x200) ∷
+          (0x39500215, 0x400) ∷
+          (0x396003ab, 0x800) ∷
+          (0x397ff9b6, 0xffe) ∷
+          (0x397ff696, 0xffd) ∷
+          (0x397fee37, 0xffb) ∷
+          (0x397fdefb, 0xff7) ∷
+          (0x397fbf80, 0xfef) ∷
+          (0x397f7e90, 0xfdf) ∷
+          (0x397efc45, 0xfbf) ∷
+          (0x397dff2d, 0xf7f) ∷
+          (0x397bff45, 0xeff) ∷
+          (0x3977fd35, 0xdff) ∷
+          (0x396ffdf4, 0xbff) ∷
+          (0x395ffdcc, 0x7ff) ∷
+          (0x397e94c4, 0xfa5) ∷
+          (0x3965f4b7, 0x97d) ∷
+          (0x397db9a0, 0xf6e) ∷
+          (0x396125dc, 0x849) ∷
+          (0x397c8d1c, 0xf23) ∷
+          (0x3972c996, 0xcb2) ∷
+          (0x39634d2a, 0x8d3) ∷
+          (0x39602ec7, 0x80b) ∷
+          (0x3949f13e, 0x27c) ∷
+          (0x395f9390, 0x7e4) ∷
+          (0x3959698d, 0x65a) ∷
+          (0x395a2b78, 0x68a) ∷
+          (0x395548b9, 0x552) ∷
+          (0x397a8066, 0xea0) ∷
+          [];
+    }) ∷
+    -- ldrh
+    (record {
+      unit = 1;
+      bits = 64;
+      rows =
+          (0x794000ee, 0x0) ∷
+          (0x797fff85, 0x1ffe) ∷
+          (0x794007cc, 0x2) ∷
+          (0x79400ae8, 0x4) ∷
+          (0x7940127b, 0x8) ∷
+          (0x79402171, 0x10) ∷
+          (0x794043b8, 0x20) ∷
+          (0x79408264, 0x40) ∷
+          (0x794103c5, 0x80) ∷
+          (0x79420342, 0x100) ∷
+          (0x7944008a, 0x200) ∷
+          (0x79480394, 0x400) ∷
+          (0x7950005c, 0x800) ∷
+          (0x79600278, 0x1000) ∷
+          (0x797ff9c5, 0x1ffc) ∷
+          (0x797ff582, 0x1ffa) ∷
+          (0x797fed45, 0x1ff6) ∷
+          (0x797fdf14, 0x1fee) ∷
+          (0x797fbdd5, 0x1fde) ∷
+          (0x797f7f30, 0x1fbe) ∷
+          (0x797efce0, 0x1f7e) ∷
+          (0x797dfc29, 0x1efe) ∷
+          (0x797bfd38, 0x1dfe) ∷
+          (0x7977fee5, 0x1bfe) ∷
+          (0x796ffc02, 0x17fe) ∷
+          (0x795fff24, 0xffe) ∷
+          (0x79670a3b, 0x1384) ∷
+          (0x796d70d7, 0x16b8) ∷
+          (0x7943c0cd, 0x1e0) ∷
+          (0x795c455a, 0xe22) ∷
+          (0x796f76ef, 0x17ba) ∷
+          (0x794cba37, 0x65c) ∷
+          (0x7979bad0, 0x1cdc) ∷
+          (0x7968d7ad, 0x146a) ∷
+          (0x7972e902, 0x1974) ∷
+          (0x7951ca11, 0x8e4) ∷
+          (0x7956bc83, 0xb5e) ∷
+          (0x7942d7b3, 0x16a) ∷
+          (0x7950f0cd, 0x878) ∷
+          (0x797a8fd3, 0x1d46) ∷
+          [];
+    }) ∷
+    -- ldr w
+    (record {
+      unit = 1;
+      bits = 64;
+      rows =
+          (0xb9400229, 0x0) ∷
+          (0xb97ffcc0, 0x3ffc) ∷
+          (0xb94006c8, 0x4) ∷
+          (0xb9400a22, 0x8) ∷
+          (0xb940127c, 0x10) ∷
+          (0xb940226a, 0x20) ∷
+          (0xb940420d, 0x40) ∷
+          (0xb9408170, 0x80) ∷
+          (0xb9410224, 0x100) ∷
+          (0xb94202ba, 0x200) ∷
+          (0xb944029c, 0x400) ∷
+          (0xb94802dd, 0x800) ∷
+          (0xb9500227, 0x1000) ∷
+          (0xb96001e9, 0x2000) ∷
+          (0xb97ffa93, 0x3ff8) ∷
+          (0xb97ff7a4, 0x3ff4) ∷
+          (0xb97feec3, 0x3fec) ∷
+          (0xb97fddb6, 0x3fdc) ∷
+          (0xb97fbc22, 0x3fbc) ∷
+          (0xb97f7ce8, 0x3f7c) ∷
+          (0xb97efe11, 0x3efc) ∷
+          (0xb97dfd78, 0x3dfc) ∷
+          (0xb97bfc0c, 0x3bfc) ∷
+          (0xb977ffdd, 0x37fc) ∷
+          (0xb96fff0c, 0x2ffc) ∷
+          (0xb95ffc45, 0x1ffc) ∷
+          (0xb956ab28, 0x16a8) ∷
+          (0xb97cf376, 0x3cf0) ∷
+          (0xb960cc87, 0x20cc) ∷
+          (0xb971f751, 0x31f4) ∷
+          (0xb9622513, 0x2224) ∷
+          (0xb9566edd, 0x166c) ∷
+          (0xb95e8cc2, 0x1e8c) ∷
+          (0xb9458c8e, 0x58c) ∷
+          (0xb94dd997, 0xdd8) ∷
+          (0xb95e1c80, 0x1e1c) ∷
+          (0xb97395ec, 0x3394) ∷
+          (0xb9481ba6, 0x818) ∷
+          (0xb94a1557, 0xa14) ∷
+          (0xb94bab15, 0xba8) ∷
+          [];
+    }) ∷
+    -- ldr x
+    (record {
+      unit = 1;
+      bits = 64;
+      rows =
+          (0xf9400193, 0x0) ∷
+          (0xf97fff8a, 0x7ff8) ∷
+          (0xf940069e, 0x8) ∷
+          (0xf9400945, 0x10) ∷
+          (0xf9401201, 0x20) ∷
+          (0xf9402131, 0x40) ∷
+          (0xf94040c4, 0x80) ∷
+          (0xf94081c6, 0x100) ∷
+          (0xf94100a9, 0x200) ∷
+          (0xf94200c8, 0x400) ∷
+          (0xf944000c, 0x800) ∷
+          (0xf9480050, 0x1000) ∷
+          (0xf950001c, 0x2000) ∷
+          (0xf9600337, 0x4000) ∷
+          (0xf97ff861, 0x7ff0) ∷
+          (0xf97ff6ac, 0x7fe8) ∷
+          (0xf97fed75, 0x7fd8) ∷
+          (0xf97fdc3d, 0x7fb8) ∷
+          (0xf97fbc4e, 0x7f78) ∷
+          (0xf97f7f1a, 0x7ef8) ∷
+          (0xf97efda4, 0x7df8) ∷
+          (0xf97dff82, 0x7bf8) ∷
+          (0xf97bfe63, 0x77f8) ∷
+          (0xf977ff87, 0x6ff8) ∷
+          (0xf96ffdc5, 0x5ff8) ∷
+          (0xf95ffd0f, 0x3ff8) ∷
+          (0xf95722a6, 0x2e40) ∷
+          (0xf96c54b5, 0x58a8) ∷
+          (0xf9469f64, 0xd38) ∷
+          (0xf9772dd5, 0x6e58) ∷
+          (0xf974b26a, 0x6960) ∷
+          (0xf970f2f3, 0x61e0) ∷
+          (0xf96fb89c, 0x5f70) ∷
+          (0xf95655e8, 0x2ca8) ∷
+          (0xf953e6d1, 0x27c8) ∷
+          (0xf95e9874, 0x3d30) ∷
+          (0xf95d2d7e, 0x3a58) ∷
+          (0xf9622550, 0x4448) ∷
+          (0xf95269f6, 0x24d0) ∷
+          (0xf974a9a6, 0x6950) ∷
+          [];
+    }) ∷
+    -- ldr b
+    (record {
+      unit = 1;
+      bits = 64;
+      rows =
+          (0x3d4002f5, 0x0) ∷
+          (0x3d7ffde7, 0xfff) ∷
+          (0x3d4005c5, 0x1) ∷
+          (0x3d4008a3, 0x2) ∷
+          (0x3d401151, 0x4) ∷
+          (0x3d40208b, 0x8) ∷
+          (0x3d404149, 0x10) ∷
+          (0x3d40838d, 0x20) ∷
+          (0x3d410346, 0x40) ∷
+          (0x3d420379, 0x80) ∷
+          (0x3d4402d5, 0x100) ∷
+          (0x3d4802c5, 0x200) ∷
+          (0x3d5003d5, 0x400) ∷
+          (0x3d60029a, 0x800) ∷
+          (0x3d7ff964, 0xffe) ∷
+          (0x3d7ff7cb, 0xffd) ∷
+          (0x3d7feef0, 0xffb) ∷
+          (0x3d7fdd59, 0xff7) ∷
+          (0x3d7fbcbd, 0xfef) ∷
+          (0x3d7f7f77, 0xfdf) ∷
+          (0x3d7effd5, 0xfbf) ∷
+          (0x3d7dfd73, 0xf7f) ∷
+          (0x3d7bffd6, 0xeff) ∷
+          (0x3d77fd4d, 0xdff) ∷
+          (0x3d6fffa4, 0xbff) ∷
+          (0x3d5fffaa, 0x7ff) ∷
+          (0x3d64f584, 0x93d) ∷
+          (0x3d69b901, 0xa6e) ∷
+          (0x3d796eab, 0xe5b) ∷
+          (0x3d5e9283, 0x7a4) ∷
+          (0x3d55e7d6, 0x579) ∷
+          (0x3d54999a, 0x526) ∷
+          (0x3d41f98d, 0x7e) ∷
+          (0x3d7add85, 0xeb7) ∷
+          (0x3d41351c, 0x4d) ∷
+          (0x3d769dc5, 0xda7) ∷
+          (0x3d4ef834, 0x3be) ∷
+          (0x3d6425e3, 0x909) ∷
+          (0x3d666ed1, 0x99b) ∷
+          (0x3d57ce06, 0x5f3) ∷
+          [];
+    }) ∷
+    -- ldr s
+    (record {
+      unit = 1;
+      bits = 64;
+      rows =
+          (0xbd40037a, 0x0) ∷
+          (0xbd7fff10, 0x3ffc) ∷
+          (0xbd400547, 0x4) ∷
+          (0xbd400a07, 0x8) ∷
+          (0xbd4013cc, 0x10) ∷
+          (0xbd4021fa, 0x20) ∷
+          (0xbd40410a, 0x40) ∷
+          (0xbd40802d, 0x80) ∷
+          (0xbd4100aa, 0x100) ∷
+          (0xbd4200e2, 0x200) ∷
+          (0xbd4402d5, 0x400) ∷
+          (0xbd4801ee, 0x800) ∷
+          (0xbd50014d, 0x1000) ∷
+          (0xbd600379, 0x2000) ∷
+          (0xbd7ff8cc, 0x3ff8) ∷
+          (0xbd7ff689, 0x3ff4) ∷
+          (0xbd7fef11, 0x3fec) ∷
+          (0xbd7fdc9a, 0x3fdc) ∷
+          (0xbd7fbe63, 0x3fbc) ∷
+          (0xbd7f7d25, 0x3f7c) ∷
+          (0xbd7efc8e, 0x3efc) ∷
+          (0xbd7dfdb4, 0x3dfc) ∷
+          (0xbd7bfe9c, 0x3bfc) ∷
+          (0xbd77fe63, 0x37fc) ∷
+          (0xbd6ffed1, 0x2ffc) ∷
+          (0xbd5ffefb, 0x1ffc) ∷
+          (0xbd6323cd, 0x2320) ∷
+          (0xbd7af409, 0x3af4) ∷
+          (0xbd624d6e, 0x224c) ∷
+          (0xbd7f31ae, 0x3f30) ∷
+          (0xbd7aece8, 0x3aec) ∷
+          (0xbd785150, 0x3850) ∷
+          (0xbd53ad11, 0x13ac) ∷
+          (0xbd6d5bae, 0x2d58) ∷
+          (0xbd412b15, 0x128) ∷
+          (0xbd412105, 0x120) ∷
+          (0xbd60c199, 0x20c0) ∷
+          (0xbd4bce0e, 0xbcc) ∷
+          (0xbd502d97, 0x102c) ∷
+          (0xbd7714da, 0x3714) ∷
+          [];
+    }) ∷
+    -- ldr q
+    (record {
+      unit = 1;
+      bits = 64;
+      rows =
+          (0x3dc000b0, 0x0) ∷
+          (0x3dfffcb9, 0xfff0) ∷
+          (0x3dc004da, 0x10) ∷
+          (0x3dc00ae2, 0x20) ∷
+          (0x3dc012e6, 0x40) ∷
+          (0x3dc02153, 0x80) ∷
+          (0x3dc04047, 0x100) ∷
+          (0x3dc082f1, 0x200) ∷
+          (0x3dc1004e, 0x400) ∷
+          (0x3dc2035c, 0x800) ∷
+          (0x3dc4000d, 0x1000) ∷
+          (0x3dc8006c, 0x2000) ∷
+          (0x3dd002c0, 0x4000) ∷
+          (0x3de00037, 0x8000) ∷
+          (0x3dfff801, 0xffe0) ∷
+          (0x3dfff70f, 0xffd0) ∷
+          (0x3dffef85, 0xffb0) ∷
+          (0x3dffdccd, 0xff70) ∷
+          (0x3dffbe28, 0xfef0) ∷
+          (0x3dff7d3d, 0xfdf0) ∷
+          (0x3dfefcce, 0xfbf0) ∷
+          (0x3dfdfd26, 0xf7f0) ∷
+          (0x3dfbfe30, 0xeff0) ∷
+          (0x3df7fd0d, 0xdff0) ∷
+          (0x3deffdf0, 0xbff0) ∷
+          (0x3ddffe85, 0x7ff0) ∷
+          (0x3dd73ba8, 0x5ce0) ∷
+          (0x3df10de9, 0xc430) ∷
+          (0x3dd1f862, 0x47e0) ∷
+          (0x3dd56bc5, 0x55a0) ∷
+          (0x3dd4c5c0, 0x5310) ∷
+          (0x3de005e1, 0x8010) ∷
+          (0x3dc2a9e4, 0xaa0) ∷
+          (0x3de30077, 0x8c00) ∷
+          (0x3dcdc76b, 0x3710) ∷
+          (0x3df2f6c2, 0xcbd0) ∷
+          (0x3dc1f347, 0x7c0) ∷
+          (0x3dc3c9d3, 0xf20) ∷
+          (0x3dd3a23a, 0x4e80) ∷
+          (0x3dfdb0dc, 0xf6c0) ∷
+          [];
+    }) ∷
+    -- strb
+    (record {
+      unit = 1;
+      bits = 64;
+      rows =
+          (0x390002d4, 0x0) ∷
+          (0x393ffefb, 0xfff) ∷
+          (0x3900067a, 0x1) ∷
+          (0x39000a9c, 0x2) ∷
+          (0x39001308, 0x4) ∷
+          (0x390021fb, 0x8) ∷
+          (0x390043bc, 0x10) ∷
+          (0x390081f7, 0x20) ∷
+          (0x3901028a, 0x40) ∷
+          (0x390202c6, 0x80) ∷
+          (0x3904037a, 0x100) ∷
+          (0x390800d4, 0x200) ∷
+          (0x39100223, 0x400) ∷
+          (0x392000fe, 0x800) ∷
+          (0x393ffa35, 0xffe) ∷
+          (0x393ff4e5, 0xffd) ∷
+          (0x393fef64, 0xffb) ∷
+          (0x393fdd4e, 0xff7) ∷
+          (0x393fbfaf, 0xfef) ∷
+          (0x393f7c08, 0xfdf) ∷
+          (0x393efc66, 0xfbf) ∷
+          (0x393dffb7, 0xf7f) ∷
+          (0x393bfe05, 0xeff) ∷
+          (0x3937fea6, 0xdff) ∷
+          (0x392ffcd4, 0xbff) ∷
+          (0x391ffe1d, 0x7ff) ∷
+          (0x39311a15, 0xc46) ∷
+          (0x393b6ddb, 0xedb) ∷
+          (0x39075d11, 0x1d7) ∷
+          (0x390cc754, 0x331) ∷
+          (0x39107706, 0x41d) ∷
+          (0x393e2c96, 0xf8b) ∷
+          (0x3907aefe, 0x1eb) ∷
+          (0x392883ac, 0xa20) ∷
+          (0x391f15a2, 0x7c5) ∷
+          (0x39354e2c, 0xd53) ∷
+          (0x39341bba, 0xd06) ∷
+          (0x392145ed, 0x851) ∷
+          (0x3916357c, 0x58d) ∷
+          (0x391cd2c6, 0x734) ∷
+          [];
+    }) ∷
+    -- str w
+    (record {
+      unit = 1;
+      bits = 64;
+      rows =
+          (0xb9000160, 0x0) ∷
+          (0xb93ffeec, 0x3ffc) ∷
+          (0xb90006b7, 0x4) ∷
+          (0xb900084e, 0x8) ∷
+          (0xb90013b7, 0x10) ∷
+          (0xb90022e0, 0x20) ∷
+          (0xb900408c, 0x40) ∷
+          (0xb90082c8, 0x80) ∷
+          (0xb9010216, 0x100) ∷
+          (0xb9020090, 0x200) ∷
+          (0xb90403a2, 0x400) ∷
+          (0xb90803cc, 0x800) ∷
+          (0xb910005d, 0x1000) ∷
+          (0xb92002e3, 0x2000) ∷
+          (0xb93ff89b, 0x3ff8) ∷
+          (0xb93ff614, 0x3ff4) ∷
+          (0xb93fede5, 0x3fec) ∷
+          (0xb93fdda5, 0x3fdc) ∷
+          (0xb93fbf20, 0x3fbc) ∷
+          (0xb93f7c69, 0x3f7c) ∷
+          (0xb93effae, 0x3efc) ∷
+          (0xb93dfce9, 0x3dfc) ∷
+          (0xb93bfcc0, 0x3bfc) ∷
+          (0xb937ff2f, 0x37fc) ∷
+          (0xb92fff51, 0x2ffc) ∷
+          (0xb91ffc69, 0x1ffc) ∷
+          (0xb91b8d0b, 0x1b8c) ∷
+          (0xb93f3168, 0x3f30) ∷
+          (0xb9064414, 0x644) ∷
+          (0xb90edd0e, 0xedc) ∷
+          (0xb910207a, 0x1020) ∷
+          (0xb90a8983, 0xa88) ∷
+          (0xb92a6f67, 0x2a6c) ∷
+          (0xb92c9278, 0x2c90) ∷
+          (0xb90bb90f, 0xbb8) ∷
+          (0xb91adf9e, 0x1adc) ∷
+          (0xb901bad3, 0x1b8) ∷
+          (0xb9259aa9, 0x2598) ∷
+          (0xb9078c9a, 0x78c) ∷
+          (0xb9049496, 0x494) ∷
+          [];
+    }) ∷
+    -- str x
+    (record {
+      unit = 1;
+      bits = 64;
+      rows =
+          (0xf90002a2, 0x0) ∷
+          (0xf93ffee0, 0x7ff8) ∷
+          (0xf900045d, 0x8) ∷
+          (0xf9000bca, 0x10) ∷
+          (0xf90012c3, 0x20) ∷
+          (0xf9002343, 0x40) ∷
+          (0xf9004360, 0x80) ∷
+          (0xf900820b, 0x100) ∷
+          (0xf9010146, 0x200) ∷
+          (0xf902005a, 0x400) ∷
+          (0xf90403a0, 0x800) ∷
+          (0xf9080038, 0x1000) ∷
+          (0xf9100322, 0x2000) ∷
+          (0xf92001c5, 0x4000) ∷
+          (0xf93ffb73, 0x7ff0) ∷
+          (0xf93ff419, 0x7fe8) ∷
+          (0xf93fed2c, 0x7fd8) ∷
+          (0xf93fdc6c, 0x7fb8) ∷
+          (0xf93fbf58, 0x7f78) ∷
+          (0xf93f7e0e, 0x7ef8) ∷
+          (0xf93efc2d, 0x7df8) ∷
+          (0xf93dfedb, 0x7bf8) ∷
+          (0xf93bfd4e, 0x77f8) ∷
+          (0xf937ff87, 0x6ff8) ∷
+          (0xf92ffeee, 0x5ff8) ∷
+          (0xf91ffcc7, 0x3ff8) ∷
+          (0xf93b9488, 0x7728) ∷
+          (0xf93113b4, 0x6220) ∷
+          (0xf91603c9, 0x2c00) ∷
+          (0xf90b208f, 0x1640) ∷
+          (0xf93cd333, 0x79a0) ∷
+          (0xf92c8d41, 0x5918) ∷
+          (0xf90de696, 0x1bc8) ∷
+          (0xf9342f44, 0x6858) ∷
+          (0xf914b80d, 0x2970) ∷
+          (0xf9008cc3, 0x118) ∷
+          (0xf90ccfcf, 0x1998) ∷
+          (0xf904600f, 0x8c0) ∷
+          (0xf92975b4, 0x52e8) ∷
+          (0xf93cf1e6, 0x79e0) ∷
+          [];
+    }) ∷
+    []
+
+-- What is read of the words is what came of them.
+abbrev pub Agrees : Type 0
+Agrees =
+    IsComputed (aarch64_form Adr).machine adr_words
+    × IsComputed (aarch64_form Movkz).machine movkz_words
+    × IsComputed (aarch64_form Movnz).machine movnz_words
+    × IsComputed (aarch64_form Ldr).machine ldr_words
+    × IsComputed (aarch64_form LdrRegister).machine ldrregister_words
+    × IsComputed (aarch64_form Add).machine add_words
+    × IsComputed (aarch64_form LdSt).machine ldst_words
+    × IsComputed (aarch64_form TstBr).machine tstbr_words
+    × IsComputed (aarch64_form Bcond).machine bcond_words
+    × IsComputed (aarch64_form JumpCall).machine jumpcall_words
+    × IsComputed (aarch64_form MachOLow12).machine macholow12_words

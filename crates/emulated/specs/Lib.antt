@@ -1,0 +1,5 @@
+pub mod AArch64Table
+pub mod Emulated
+pub mod LoongArchTable
+pub mod Ppc64Table
+pub mod RiscVTable
