@@ -3,3 +3,4 @@ pub mod Emulated
 pub mod LoongArchTable
 pub mod Ppc64Table
 pub mod RiscVTable
+pub mod Sequences

@@ -8,6 +8,8 @@ use Rattle.linker_utils.specs.declared.loongarch64.forms.LoongArch64Instruction.
 use Rattle.linker_utils.specs.declared.loongarch64.forms.LoongArch64Instruction.TheVariants.{Call36}
 use Rattle.std.specs.Prelude.{false}
 use Rattle.linker_utils.specs.Agrees.{loongarch_reads}
+use Rattle.linker_utils.specs.LoongArch.{reach}
+use Rattle.emulated.specs.Sequences.{parts_number}
 use Rattle.emulated.specs.Emulated.{Words, IsComputed}
 
 unfoldable pub shift5_words : List Words
@@ -17,54 +19,54 @@ shift5_words =
       unit = 2 ^ 12;
       bits = 64;
       rows =
-          (0x1400000c, 0x0) ∷
-          (0x15fffffc, 0xfffffffffffff000) ∷
-          (0x14000024, 0x1000) ∷
-          (0x14000046, 0x2000) ∷
-          (0x14000093, 0x4000) ∷
+          (0x14000013, 0x0) ∷
+          (0x15ffffee, 0xfffffffffffff000) ∷
+          (0x1400002c, 0x1000) ∷
+          (0x1400005c, 0x2000) ∷
+          (0x14000084, 0x4000) ∷
           (0x14000106, 0x8000) ∷
-          (0x1400021a, 0x10000) ∷
-          (0x1400041a, 0x20000) ∷
-          (0x1400080f, 0x40000) ∷
-          (0x14001013, 0x80000) ∷
-          (0x14002017, 0x100000) ∷
-          (0x14004012, 0x200000) ∷
-          (0x1400800e, 0x400000) ∷
-          (0x14010014, 0x800000) ∷
-          (0x1402001e, 0x1000000) ∷
-          (0x14040013, 0x2000000) ∷
-          (0x14080002, 0x4000000) ∷
+          (0x14000213, 0x10000) ∷
+          (0x14000406, 0x20000) ∷
+          (0x1400081a, 0x40000) ∷
+          (0x1400101a, 0x80000) ∷
+          (0x1400200f, 0x100000) ∷
+          (0x14004013, 0x200000) ∷
+          (0x14008017, 0x400000) ∷
+          (0x14010012, 0x800000) ∷
+          (0x1402000e, 0x1000000) ∷
+          (0x14040014, 0x2000000) ∷
+          (0x1408001e, 0x4000000) ∷
           (0x14100013, 0x8000000) ∷
-          (0x14200005, 0x10000000) ∷
-          (0x14400003, 0x20000000) ∷
-          (0x1480001f, 0x40000000) ∷
-          (0x15000005, 0xffffffff80000000) ∷
-          (0x15ffffd0, 0xffffffffffffe000) ∷
-          (0x15ffffbc, 0xffffffffffffd000) ∷
-          (0x15ffff67, 0xffffffffffffb000) ∷
-          (0x15fffee1, 0xffffffffffff7000) ∷
-          (0x15fffdf3, 0xfffffffffffef000) ∷
-          (0x15fffbea, 0xfffffffffffdf000) ∷
-          (0x15fff7e7, 0xfffffffffffbf000) ∷
-          (0x15ffefff, 0xfffffffffff7f000) ∷
-          (0x15ffdff7, 0xffffffffffeff000) ∷
-          (0x15ffbfed, 0xffffffffffdff000) ∷
-          (0x15ff7fed, 0xffffffffffbff000) ∷
-          (0x15fefff2, 0xffffffffff7ff000) ∷
-          (0x15fdfff4, 0xfffffffffefff000) ∷
-          (0x15fbfff6, 0xfffffffffdfff000) ∷
-          (0x15f7fff2, 0xfffffffffbfff000) ∷
-          (0x15efffe6, 0xfffffffff7fff000) ∷
-          (0x15dffffb, 0xffffffffeffff000) ∷
-          (0x15bffffe, 0xffffffffdffff000) ∷
-          (0x157ffff8, 0xffffffffbffff000) ∷
-          (0x14ffffeb, 0x7ffff000) ∷
-          (0x14267a52, 0x133d2000) ∷
+          (0x14200002, 0x10000000) ∷
+          (0x14400013, 0x20000000) ∷
+          (0x14800005, 0x40000000) ∷
+          (0x15000003, 0xffffffff80000000) ∷
+          (0x15ffffdf, 0xffffffffffffe000) ∷
+          (0x15ffffa5, 0xffffffffffffd000) ∷
+          (0x15ffff70, 0xffffffffffffb000) ∷
+          (0x15fffefc, 0xffffffffffff7000) ∷
+          (0x15fffde7, 0xfffffffffffef000) ∷
+          (0x15fffbe1, 0xfffffffffffdf000) ∷
+          (0x15fff7f3, 0xfffffffffffbf000) ∷
+          (0x15ffefea, 0xfffffffffff7f000) ∷
+          (0x15ffdfe7, 0xffffffffffeff000) ∷
+          (0x15ffbfff, 0xffffffffffdff000) ∷
+          (0x15ff7ff7, 0xffffffffffbff000) ∷
+          (0x15feffed, 0xffffffffff7ff000) ∷
+          (0x15fdffed, 0xfffffffffefff000) ∷
+          (0x15fbfff2, 0xfffffffffdfff000) ∷
+          (0x15f7fff4, 0xfffffffffbfff000) ∷
+          (0x15effff6, 0xfffffffff7fff000) ∷
+          (0x15dffff2, 0xffffffffeffff000) ∷
+          (0x15bfffe6, 0xffffffffdffff000) ∷
+          (0x157ffffb, 0xffffffffbffff000) ∷
+          (0x14fffffe, 0x7ffff000) ∷
+          (0x14267a58, 0x133d2000) ∷
+          (0x1418f0eb, 0xc787000) ∷
           (0x158a5292, 0xffffffffc5294000) ∷
+          (0x1405a6b2, 0x2d35000) ∷
           (0x14ad282f, 0x56941000) ∷
-          (0x15891b87, 0xffffffffc48dc000) ∷
-          (0x15b183ae, 0xffffffffd8c1d000) ∷
-          (0x14014867, 0xa43000) ∷
+          (0x157a5327, 0xffffffffbd299000) ∷
           [];
     }) ∷
     -- lu32i.d
@@ -72,54 +74,54 @@ shift5_words =
       unit = 2 ^ 32;
       bits = 64;
       rows =
-          (0x16000008, 0x0) ∷
-          (0x17ffffe4, 0xffffffff00000000) ∷
-          (0x1600002f, 0x100000000) ∷
-          (0x16000054, 0x200000000) ∷
-          (0x16000085, 0x400000000) ∷
-          (0x16000112, 0x800000000) ∷
-          (0x1600021d, 0x1000000000) ∷
-          (0x16000417, 0x2000000000) ∷
-          (0x1600081c, 0x4000000000) ∷
-          (0x1600100e, 0x8000000000) ∷
-          (0x1600200a, 0x10000000000) ∷
-          (0x1600401a, 0x20000000000) ∷
-          (0x16008011, 0x40000000000) ∷
-          (0x16010001, 0x80000000000) ∷
-          (0x16020010, 0x100000000000) ∷
-          (0x16040013, 0x200000000000) ∷
-          (0x16080003, 0x400000000000) ∷
-          (0x16100006, 0x800000000000) ∷
-          (0x1620001e, 0x1000000000000) ∷
-          (0x16400013, 0x2000000000000) ∷
-          (0x1680000f, 0x4000000000000) ∷
-          (0x1700001c, 0xfff8000000000000) ∷
-          (0x17ffffd9, 0xfffffffe00000000) ∷
-          (0x17ffffba, 0xfffffffd00000000) ∷
-          (0x17ffff77, 0xfffffffb00000000) ∷
-          (0x17fffee7, 0xfffffff700000000) ∷
-          (0x17fffdf1, 0xffffffef00000000) ∷
-          (0x17fffbe6, 0xffffffdf00000000) ∷
-          (0x17fff7f7, 0xffffffbf00000000) ∷
-          (0x17ffeff1, 0xffffff7f00000000) ∷
-          (0x17ffdffd, 0xfffffeff00000000) ∷
-          (0x17ffbfe8, 0xfffffdff00000000) ∷
-          (0x17ff7ff4, 0xfffffbff00000000) ∷
-          (0x17fefff6, 0xfffff7ff00000000) ∷
-          (0x17fdffef, 0xffffefff00000000) ∷
+          (0x16000005, 0x0) ∷
+          (0x17ffffe8, 0xffffffff00000000) ∷
+          (0x16000028, 0x100000000) ∷
+          (0x16000044, 0x200000000) ∷
+          (0x1600008f, 0x400000000) ∷
+          (0x16000114, 0x800000000) ∷
+          (0x16000205, 0x1000000000) ∷
+          (0x16000412, 0x2000000000) ∷
+          (0x1600081d, 0x4000000000) ∷
+          (0x16001017, 0x8000000000) ∷
+          (0x1600201c, 0x10000000000) ∷
+          (0x1600400e, 0x20000000000) ∷
+          (0x1600800a, 0x40000000000) ∷
+          (0x1601001a, 0x80000000000) ∷
+          (0x16020011, 0x100000000000) ∷
+          (0x16040001, 0x200000000000) ∷
+          (0x16080010, 0x400000000000) ∷
+          (0x16100013, 0x800000000000) ∷
+          (0x16200003, 0x1000000000000) ∷
+          (0x16400006, 0x2000000000000) ∷
+          (0x1680001e, 0x4000000000000) ∷
+          (0x17000013, 0xfff8000000000000) ∷
+          (0x17ffffcf, 0xfffffffe00000000) ∷
+          (0x17ffffbc, 0xfffffffd00000000) ∷
+          (0x17ffff79, 0xfffffffb00000000) ∷
+          (0x17fffefa, 0xfffffff700000000) ∷
+          (0x17fffdf7, 0xffffffef00000000) ∷
+          (0x17fffbe7, 0xffffffdf00000000) ∷
+          (0x17fff7f1, 0xffffffbf00000000) ∷
+          (0x17ffefe6, 0xffffff7f00000000) ∷
+          (0x17ffdff7, 0xfffffeff00000000) ∷
+          (0x17ffbff1, 0xfffffdff00000000) ∷
+          (0x17ff7ffd, 0xfffffbff00000000) ∷
+          (0x17feffe8, 0xfffff7ff00000000) ∷
+          (0x17fdfff4, 0xffffefff00000000) ∷
           (0x17fbfff6, 0xffffdfff00000000) ∷
-          (0x17f7ffea, 0xffffbfff00000000) ∷
-          (0x17effffd, 0xffff7fff00000000) ∷
-          (0x17dfffed, 0xfffeffff00000000) ∷
-          (0x17bffff3, 0xfffdffff00000000) ∷
-          (0x177fffea, 0xfffbffff00000000) ∷
-          (0x16ffffe8, 0x7ffff00000000) ∷
-          (0x16d12a70, 0x6895300000000) ∷
-          (0x1653eab3, 0x29f5500000000) ∷
+          (0x17f7ffef, 0xffffbfff00000000) ∷
+          (0x17effff6, 0xffff7fff00000000) ∷
+          (0x17dfffea, 0xfffeffff00000000) ∷
+          (0x17bffffd, 0xfffdffff00000000) ∷
+          (0x177fffed, 0xfffbffff00000000) ∷
+          (0x16fffff3, 0x7ffff00000000) ∷
+          (0x16d12a6a, 0x6895300000000) ∷
+          (0x16314968, 0x18a4b00000000) ∷
+          (0x1653eab0, 0x29f5500000000) ∷
+          (0x1704e553, 0xfff8272a00000000) ∷
           (0x17482d8c, 0xfffa416c00000000) ∷
-          (0x16a90adc, 0x5485600000000) ∷
-          (0x1639853f, 0x1cc2900000000) ∷
-          (0x173afbab, 0xfff9d7dd00000000) ∷
+          (0x161f4c7c, 0xfa6300000000) ∷
           [];
     }) ∷
     -- pcaddi
@@ -128,53 +130,53 @@ shift5_words =
       bits = 64;
       rows =
           (0x18000009, 0x0) ∷
-          (0x19fffff8, 0xfffffffffffffffc) ∷
-          (0x18000032, 0x4) ∷
-          (0x18000041, 0x8) ∷
-          (0x18000091, 0x10) ∷
-          (0x1800011c, 0x20) ∷
-          (0x18000201, 0x40) ∷
-          (0x18000409, 0x80) ∷
-          (0x1800081c, 0x100) ∷
-          (0x1800100a, 0x200) ∷
-          (0x1800201c, 0x400) ∷
-          (0x1800400e, 0x800) ∷
-          (0x18008001, 0x1000) ∷
+          (0x19fffff6, 0xfffffffffffffffc) ∷
+          (0x1800003b, 0x4) ∷
+          (0x18000052, 0x8) ∷
+          (0x18000092, 0x10) ∷
+          (0x18000105, 0x20) ∷
+          (0x1800020b, 0x40) ∷
+          (0x18000401, 0x80) ∷
+          (0x18000813, 0x100) ∷
+          (0x18001003, 0x200) ∷
+          (0x1800201d, 0x400) ∷
+          (0x18004005, 0x800) ∷
+          (0x18008019, 0x1000) ∷
           (0x1801000c, 0x2000) ∷
-          (0x18020013, 0x4000) ∷
-          (0x18040014, 0x8000) ∷
-          (0x1808000b, 0x10000) ∷
-          (0x1810000b, 0x20000) ∷
-          (0x1820000f, 0x40000) ∷
-          (0x18400007, 0x80000) ∷
-          (0x1880001d, 0x100000) ∷
-          (0x19000013, 0xffffffffffe00000) ∷
-          (0x19ffffdd, 0xfffffffffffffff8) ∷
-          (0x19ffffac, 0xfffffffffffffff4) ∷
-          (0x19ffff78, 0xffffffffffffffec) ∷
-          (0x19fffee1, 0xffffffffffffffdc) ∷
-          (0x19fffde4, 0xffffffffffffffbc) ∷
-          (0x19fffbfc, 0xffffffffffffff7c) ∷
-          (0x19fff7ed, 0xfffffffffffffefc) ∷
-          (0x19ffefe7, 0xfffffffffffffdfc) ∷
-          (0x19ffdffc, 0xfffffffffffffbfc) ∷
-          (0x19ffbff6, 0xfffffffffffff7fc) ∷
-          (0x19ff7ff2, 0xffffffffffffeffc) ∷
-          (0x19feffe2, 0xffffffffffffdffc) ∷
-          (0x19fdfff9, 0xffffffffffffbffc) ∷
-          (0x19fbffee, 0xffffffffffff7ffc) ∷
-          (0x19f7fffa, 0xfffffffffffefffc) ∷
-          (0x19efffe2, 0xfffffffffffdfffc) ∷
+          (0x18020005, 0x4000) ∷
+          (0x18040017, 0x8000) ∷
+          (0x18080006, 0x10000) ∷
+          (0x18100017, 0x20000) ∷
+          (0x1820000b, 0x40000) ∷
+          (0x18400011, 0x80000) ∷
+          (0x18800007, 0x100000) ∷
+          (0x1900001d, 0xffffffffffe00000) ∷
+          (0x19ffffd3, 0xfffffffffffffff8) ∷
+          (0x19ffffbd, 0xfffffffffffffff4) ∷
+          (0x19ffff6c, 0xffffffffffffffec) ∷
+          (0x19fffef8, 0xffffffffffffffdc) ∷
+          (0x19fffde1, 0xffffffffffffffbc) ∷
+          (0x19fffbe4, 0xffffffffffffff7c) ∷
+          (0x19fff7fc, 0xfffffffffffffefc) ∷
+          (0x19ffefed, 0xfffffffffffffdfc) ∷
+          (0x19ffdfe7, 0xfffffffffffffbfc) ∷
+          (0x19ffbffc, 0xfffffffffffff7fc) ∷
+          (0x19ff7ff6, 0xffffffffffffeffc) ∷
+          (0x19fefff2, 0xffffffffffffdffc) ∷
+          (0x19fdffe2, 0xffffffffffffbffc) ∷
+          (0x19fbfff9, 0xffffffffffff7ffc) ∷
+          (0x19f7ffee, 0xfffffffffffefffc) ∷
+          (0x19effffa, 0xfffffffffffdfffc) ∷
           (0x19dfffe2, 0xfffffffffffbfffc) ∷
-          (0x19bfffe8, 0xfffffffffff7fffc) ∷
-          (0x197ffff3, 0xffffffffffeffffc) ∷
-          (0x18ffffec, 0x1ffffc) ∷
-          (0x19f4bf9a, 0xfffffffffffe97f0) ∷
+          (0x19bfffe2, 0xfffffffffff7fffc) ∷
+          (0x197fffe8, 0xffffffffffeffffc) ∷
+          (0x18fffff3, 0x1ffffc) ∷
+          (0x19f4bf8c, 0xfffffffffffe97f0) ∷
+          (0x19f8a93a, 0xffffffffffff1524) ∷
           (0x185dbd68, 0xbb7ac) ∷
-          (0x19257aeb, 0xffffffffffe4af5c) ∷
-          (0x185c2771, 0xb84ec) ∷
-          (0x19868d16, 0xfffffffffff0d1a0) ∷
-          (0x1962af78, 0xffffffffffec55ec) ∷
+          (0x189eaa6b, 0x13d54c) ∷
+          (0x19257af1, 0xffffffffffe4af5c) ∷
+          (0x19911fb6, 0xfffffffffff223f4) ∷
           [];
     }) ∷
     -- pcalau12i
@@ -182,54 +184,54 @@ shift5_words =
       unit = 2 ^ 12;
       bits = 64;
       rows =
-          (0x1a00001e, 0x0) ∷
-          (0x1bfffff2, 0xfffffffffffff000) ∷
-          (0x1a000022, 0x1000) ∷
-          (0x1a000042, 0x2000) ∷
-          (0x1a000092, 0x4000) ∷
+          (0x1a000010, 0x0) ∷
+          (0x1bffffec, 0xfffffffffffff000) ∷
+          (0x1a000036, 0x1000) ∷
+          (0x1a00005f, 0x2000) ∷
+          (0x1a000087, 0x4000) ∷
           (0x1a000102, 0x8000) ∷
-          (0x1a000217, 0x10000) ∷
-          (0x1a00041a, 0x20000) ∷
-          (0x1a00081e, 0x40000) ∷
-          (0x1a001013, 0x80000) ∷
-          (0x1a00200a, 0x100000) ∷
-          (0x1a004011, 0x200000) ∷
-          (0x1a00800d, 0x400000) ∷
+          (0x1a00021d, 0x10000) ∷
+          (0x1a000416, 0x20000) ∷
+          (0x1a00080c, 0x40000) ∷
+          (0x1a00101c, 0x80000) ∷
+          (0x1a002013, 0x100000) ∷
+          (0x1a00400a, 0x200000) ∷
+          (0x1a008011, 0x400000) ∷
           (0x1a01000d, 0x800000) ∷
-          (0x1a02000c, 0x1000000) ∷
-          (0x1a040002, 0x2000000) ∷
-          (0x1a080007, 0x4000000) ∷
-          (0x1a100006, 0x8000000) ∷
-          (0x1a200017, 0x10000000) ∷
-          (0x1a40000a, 0x20000000) ∷
-          (0x1a80000d, 0x40000000) ∷
-          (0x1b000006, 0xffffffff80000000) ∷
-          (0x1bffffdb, 0xffffffffffffe000) ∷
-          (0x1bffffbe, 0xffffffffffffd000) ∷
-          (0x1bffff78, 0xffffffffffffb000) ∷
-          (0x1bfffee6, 0xffffffffffff7000) ∷
-          (0x1bfffdf3, 0xfffffffffffef000) ∷
-          (0x1bfffbfc, 0xfffffffffffdf000) ∷
-          (0x1bfff7f8, 0xfffffffffffbf000) ∷
-          (0x1bffefe5, 0xfffffffffff7f000) ∷
-          (0x1bffdff4, 0xffffffffffeff000) ∷
-          (0x1bffbfe5, 0xffffffffffdff000) ∷
-          (0x1bff7fed, 0xffffffffffbff000) ∷
-          (0x1bfeffeb, 0xffffffffff7ff000) ∷
-          (0x1bfdffe4, 0xfffffffffefff000) ∷
-          (0x1bfbfffc, 0xfffffffffdfff000) ∷
-          (0x1bf7ffea, 0xfffffffffbfff000) ∷
-          (0x1befffe8, 0xfffffffff7fff000) ∷
-          (0x1bdfffee, 0xffffffffeffff000) ∷
-          (0x1bbfffea, 0xffffffffdffff000) ∷
-          (0x1b7fffec, 0xffffffffbffff000) ∷
-          (0x1affffe9, 0x7ffff000) ∷
-          (0x1a25ddda, 0x12eee000) ∷
+          (0x1a02000d, 0x1000000) ∷
+          (0x1a04000c, 0x2000000) ∷
+          (0x1a080002, 0x4000000) ∷
+          (0x1a100007, 0x8000000) ∷
+          (0x1a200006, 0x10000000) ∷
+          (0x1a400017, 0x20000000) ∷
+          (0x1a80000a, 0x40000000) ∷
+          (0x1b00000d, 0xffffffff80000000) ∷
+          (0x1bffffc6, 0xffffffffffffe000) ∷
+          (0x1bffffbb, 0xffffffffffffd000) ∷
+          (0x1bffff7e, 0xffffffffffffb000) ∷
+          (0x1bfffef8, 0xffffffffffff7000) ∷
+          (0x1bfffde6, 0xfffffffffffef000) ∷
+          (0x1bfffbf3, 0xfffffffffffdf000) ∷
+          (0x1bfff7fc, 0xfffffffffffbf000) ∷
+          (0x1bffeff8, 0xfffffffffff7f000) ∷
+          (0x1bffdfe5, 0xffffffffffeff000) ∷
+          (0x1bffbff4, 0xffffffffffdff000) ∷
+          (0x1bff7fe5, 0xffffffffffbff000) ∷
+          (0x1bfeffed, 0xffffffffff7ff000) ∷
+          (0x1bfdffeb, 0xfffffffffefff000) ∷
+          (0x1bfbffe4, 0xfffffffffdfff000) ∷
+          (0x1bf7fffc, 0xfffffffffbfff000) ∷
+          (0x1befffea, 0xfffffffff7fff000) ∷
+          (0x1bdfffe8, 0xffffffffeffff000) ∷
+          (0x1bbfffee, 0xffffffffdffff000) ∷
+          (0x1b7fffea, 0xffffffffbffff000) ∷
+          (0x1affffec, 0x7ffff000) ∷
+          (0x1a25ddc9, 0x12eee000) ∷
+          (0x1a277d1a, 0x13be8000) ∷
           (0x1ba2a4ba, 0xffffffffd1525000) ∷
-          (0x1a120f67, 0x907b000) ∷
-          (0x1a184ece, 0xc276000) ∷
-          (0x1aa9b3f9, 0x54d9f000) ∷
-          (0x1b7776d3, 0xffffffffbbbb6000) ∷
+          (0x1bc6b827, 0xffffffffe35c1000) ∷
+          (0x1a120f6e, 0x907b000) ∷
+          (0x1b335af9, 0xffffffff99ad7000) ∷
           [];
     }) ∷
     -- pcaddu12i
@@ -237,54 +239,54 @@ shift5_words =
       unit = 2 ^ 12;
       bits = 64;
       rows =
-          (0x1c00001d, 0x0) ∷
-          (0x1dffffe7, 0xfffffffffffff000) ∷
-          (0x1c00002f, 0x1000) ∷
-          (0x1c00005d, 0x2000) ∷
-          (0x1c000093, 0x4000) ∷
-          (0x1c000108, 0x8000) ∷
-          (0x1c000207, 0x10000) ∷
-          (0x1c00041f, 0x20000) ∷
-          (0x1c000806, 0x40000) ∷
-          (0x1c001014, 0x80000) ∷
-          (0x1c002019, 0x100000) ∷
-          (0x1c004013, 0x200000) ∷
-          (0x1c00800d, 0x400000) ∷
-          (0x1c01001a, 0x800000) ∷
-          (0x1c020007, 0x1000000) ∷
-          (0x1c04000e, 0x2000000) ∷
-          (0x1c080003, 0x4000000) ∷
-          (0x1c10000d, 0x8000000) ∷
-          (0x1c200010, 0x10000000) ∷
-          (0x1c400006, 0x20000000) ∷
-          (0x1c80001b, 0x40000000) ∷
-          (0x1d000012, 0xffffffff80000000) ∷
-          (0x1dffffc6, 0xffffffffffffe000) ∷
-          (0x1dffffac, 0xffffffffffffd000) ∷
+          (0x1c00001a, 0x0) ∷
+          (0x1dfffffb, 0xfffffffffffff000) ∷
+          (0x1c000023, 0x1000) ∷
+          (0x1c000049, 0x2000) ∷
+          (0x1c000089, 0x4000) ∷
+          (0x1c000117, 0x8000) ∷
+          (0x1c000218, 0x10000) ∷
+          (0x1c000407, 0x20000) ∷
+          (0x1c00081f, 0x40000) ∷
+          (0x1c001006, 0x80000) ∷
+          (0x1c002014, 0x100000) ∷
+          (0x1c004019, 0x200000) ∷
+          (0x1c008013, 0x400000) ∷
+          (0x1c01000d, 0x800000) ∷
+          (0x1c02001a, 0x1000000) ∷
+          (0x1c040007, 0x2000000) ∷
+          (0x1c08000e, 0x4000000) ∷
+          (0x1c100003, 0x8000000) ∷
+          (0x1c20000d, 0x10000000) ∷
+          (0x1c400010, 0x20000000) ∷
+          (0x1c800006, 0x40000000) ∷
+          (0x1d00001b, 0xffffffff80000000) ∷
+          (0x1dffffd2, 0xffffffffffffe000) ∷
+          (0x1dffffa6, 0xffffffffffffd000) ∷
           (0x1dffff6c, 0xffffffffffffb000) ∷
           (0x1dfffeec, 0xffffffffffff7000) ∷
-          (0x1dfffdf8, 0xfffffffffffef000) ∷
-          (0x1dfffbe8, 0xfffffffffffdf000) ∷
-          (0x1dfff7e3, 0xfffffffffffbf000) ∷
-          (0x1dffefea, 0xfffffffffff7f000) ∷
-          (0x1dffdfee, 0xffffffffffeff000) ∷
-          (0x1dffbff6, 0xffffffffffdff000) ∷
-          (0x1dff7fe9, 0xffffffffffbff000) ∷
-          (0x1dfeffe4, 0xffffffffff7ff000) ∷
-          (0x1dfdfffb, 0xfffffffffefff000) ∷
-          (0x1dfbfff0, 0xfffffffffdfff000) ∷
-          (0x1df7ffe9, 0xfffffffffbfff000) ∷
-          (0x1defffec, 0xfffffffff7fff000) ∷
-          (0x1ddffffb, 0xffffffffeffff000) ∷
-          (0x1dbfffe6, 0xffffffffdffff000) ∷
-          (0x1d7ffffb, 0xffffffffbffff000) ∷
-          (0x1cffffe3, 0x7ffff000) ∷
-          (0x1ccd6782, 0x66b3c000) ∷
+          (0x1dfffdec, 0xfffffffffffef000) ∷
+          (0x1dfffbf8, 0xfffffffffffdf000) ∷
+          (0x1dfff7e8, 0xfffffffffffbf000) ∷
+          (0x1dffefe3, 0xfffffffffff7f000) ∷
+          (0x1dffdfea, 0xffffffffffeff000) ∷
+          (0x1dffbfee, 0xffffffffffdff000) ∷
+          (0x1dff7ff6, 0xffffffffffbff000) ∷
+          (0x1dfeffe9, 0xffffffffff7ff000) ∷
+          (0x1dfdffe4, 0xfffffffffefff000) ∷
+          (0x1dfbfffb, 0xfffffffffdfff000) ∷
+          (0x1df7fff0, 0xfffffffffbfff000) ∷
+          (0x1defffe9, 0xfffffffff7fff000) ∷
+          (0x1ddfffec, 0xffffffffeffff000) ∷
+          (0x1dbffffb, 0xffffffffdffff000) ∷
+          (0x1d7fffe6, 0xffffffffbffff000) ∷
+          (0x1cfffffb, 0x7ffff000) ∷
+          (0x1ccd6783, 0x66b3c000) ∷
+          (0x1d543282, 0xffffffffaa194000) ∷
           (0x1d0403c1, 0xffffffff8201e000) ∷
-          (0x1dd635f0, 0xffffffffeb1af000) ∷
-          (0x1d32ca9c, 0xffffffff99654000) ∷
-          (0x1c70adff, 0x3856f000) ∷
-          (0x1d619faa, 0xffffffffb0cfd000) ∷
+          (0x1d717fb0, 0xffffffffb8bfd000) ∷
+          (0x1dd635fc, 0xffffffffeb1af000) ∷
+          (0x1d1930bf, 0xffffffff8c985000) ∷
           [];
     }) ∷
     -- pcaddu18i
@@ -292,54 +294,54 @@ shift5_words =
       unit = 2 ^ 18;
       bits = 64;
       rows =
-          (0x1e000008, 0x0) ∷
-          (0x1fffffed, 0xfffffffffffc0000) ∷
-          (0x1e000034, 0x40000) ∷
-          (0x1e00004d, 0x80000) ∷
-          (0x1e00008c, 0x100000) ∷
-          (0x1e00011c, 0x200000) ∷
-          (0x1e00021c, 0x400000) ∷
-          (0x1e00040e, 0x800000) ∷
-          (0x1e00081b, 0x1000000) ∷
-          (0x1e001018, 0x2000000) ∷
-          (0x1e002012, 0x4000000) ∷
-          (0x1e004002, 0x8000000) ∷
-          (0x1e008005, 0x10000000) ∷
-          (0x1e01001e, 0x20000000) ∷
-          (0x1e020017, 0x40000000) ∷
-          (0x1e04000a, 0x80000000) ∷
-          (0x1e08001e, 0x100000000) ∷
-          (0x1e100018, 0x200000000) ∷
-          (0x1e20001e, 0x400000000) ∷
+          (0x1e000014, 0x0) ∷
+          (0x1fffffe6, 0xfffffffffffc0000) ∷
+          (0x1e000021, 0x40000) ∷
+          (0x1e000044, 0x80000) ∷
+          (0x1e00009f, 0x100000) ∷
+          (0x1e00011e, 0x200000) ∷
+          (0x1e00021b, 0x400000) ∷
+          (0x1e000413, 0x800000) ∷
+          (0x1e000808, 0x1000000) ∷
+          (0x1e001002, 0x2000000) ∷
+          (0x1e002010, 0x4000000) ∷
+          (0x1e004012, 0x8000000) ∷
+          (0x1e008002, 0x10000000) ∷
+          (0x1e010005, 0x20000000) ∷
+          (0x1e02001e, 0x40000000) ∷
+          (0x1e040017, 0x80000000) ∷
+          (0x1e08000a, 0x100000000) ∷
+          (0x1e10001e, 0x200000000) ∷
+          (0x1e200018, 0x400000000) ∷
           (0x1e40001e, 0x800000000) ∷
-          (0x1e80001a, 0x1000000000) ∷
-          (0x1f000016, 0xffffffe000000000) ∷
-          (0x1fffffd8, 0xfffffffffff80000) ∷
-          (0x1fffffb4, 0xfffffffffff40000) ∷
-          (0x1fffff7f, 0xffffffffffec0000) ∷
+          (0x1e80001e, 0x1000000000) ∷
+          (0x1f00001a, 0xffffffe000000000) ∷
+          (0x1fffffd6, 0xfffffffffff80000) ∷
+          (0x1fffffb8, 0xfffffffffff40000) ∷
+          (0x1fffff74, 0xffffffffffec0000) ∷
           (0x1ffffeff, 0xffffffffffdc0000) ∷
-          (0x1ffffdf6, 0xffffffffffbc0000) ∷
-          (0x1ffffbe5, 0xffffffffff7c0000) ∷
-          (0x1ffff7f8, 0xfffffffffefc0000) ∷
-          (0x1fffeff7, 0xfffffffffdfc0000) ∷
-          (0x1fffdff3, 0xfffffffffbfc0000) ∷
-          (0x1fffbffb, 0xfffffffff7fc0000) ∷
-          (0x1fff7fef, 0xffffffffeffc0000) ∷
-          (0x1ffeffe1, 0xffffffffdffc0000) ∷
-          (0x1ffdfffa, 0xffffffffbffc0000) ∷
-          (0x1ffbfff1, 0xffffffff7ffc0000) ∷
+          (0x1ffffdff, 0xffffffffffbc0000) ∷
+          (0x1ffffbf6, 0xffffffffff7c0000) ∷
+          (0x1ffff7e5, 0xfffffffffefc0000) ∷
+          (0x1fffeff8, 0xfffffffffdfc0000) ∷
+          (0x1fffdff7, 0xfffffffffbfc0000) ∷
+          (0x1fffbff3, 0xfffffffff7fc0000) ∷
+          (0x1fff7ffb, 0xffffffffeffc0000) ∷
+          (0x1ffeffef, 0xffffffffdffc0000) ∷
+          (0x1ffdffe1, 0xffffffffbffc0000) ∷
+          (0x1ffbfffa, 0xffffffff7ffc0000) ∷
           (0x1ff7fff1, 0xfffffffefffc0000) ∷
-          (0x1fefffec, 0xfffffffdfffc0000) ∷
-          (0x1fdfffef, 0xfffffffbfffc0000) ∷
-          (0x1fbfffed, 0xfffffff7fffc0000) ∷
-          (0x1f7ffff0, 0xffffffeffffc0000) ∷
-          (0x1effffe9, 0x1ffffc0000) ∷
-          (0x1ffb4622, 0xffffffff68c40000) ∷
+          (0x1feffff1, 0xfffffffdfffc0000) ∷
+          (0x1fdfffec, 0xfffffffbfffc0000) ∷
+          (0x1fbfffef, 0xfffffff7fffc0000) ∷
+          (0x1f7fffed, 0xffffffeffffc0000) ∷
+          (0x1efffff0, 0x1ffffc0000) ∷
+          (0x1ffb4629, 0xffffffff68c40000) ∷
+          (0x1ea5b922, 0x14b7240000) ∷
           (0x1e436c12, 0x86d800000) ∷
-          (0x1f7a7c68, 0xffffffef4f8c0000) ∷
-          (0x1fe62bf8, 0xfffffffcc57c0000) ∷
-          (0x1f940141, 0xfffffff280280000) ∷
-          (0x1eae79a7, 0x15cf340000) ∷
+          (0x1f089228, 0xffffffe112440000) ∷
+          (0x1f7a7c78, 0xffffffef4f8c0000) ∷
+          (0x1e95f941, 0x12bf280000) ∷
           [];
     }) ∷
     []
@@ -351,46 +353,46 @@ shift10_words =
       unit = 2 ^ 16;
       bits = 64;
       rows =
-          (0x1000034a, 0x0) ∷
-          (0x13fffe82, 0xffffffffffff0000) ∷
-          (0x10000685, 0x10000) ∷
-          (0x10000968, 0x20000) ∷
-          (0x100010eb, 0x40000) ∷
-          (0x10002385, 0x80000) ∷
-          (0x10004149, 0x100000) ∷
-          (0x100082d1, 0x200000) ∷
-          (0x1001035e, 0x400000) ∷
-          (0x10020307, 0x800000) ∷
-          (0x10040074, 0x1000000) ∷
-          (0x10080302, 0x2000000) ∷
-          (0x101001d1, 0x4000000) ∷
-          (0x10200037, 0x8000000) ∷
-          (0x10400165, 0x10000000) ∷
-          (0x10800070, 0x20000000) ∷
-          (0x11000131, 0x40000000) ∷
-          (0x12000191, 0xffffffff80000000) ∷
-          (0x13fffa34, 0xfffffffffffe0000) ∷
-          (0x13fff583, 0xfffffffffffd0000) ∷
-          (0x13ffef27, 0xfffffffffffb0000) ∷
-          (0x13ffded0, 0xfffffffffff70000) ∷
-          (0x13ffbd46, 0xffffffffffef0000) ∷
-          (0x13ff7e61, 0xffffffffffdf0000) ∷
-          (0x13fefe21, 0xffffffffffbf0000) ∷
-          (0x13fdff2e, 0xffffffffff7f0000) ∷
-          (0x13fbfce6, 0xfffffffffeff0000) ∷
-          (0x13f7fd0f, 0xfffffffffdff0000) ∷
-          (0x13effd37, 0xfffffffffbff0000) ∷
-          (0x13dffcb4, 0xfffffffff7ff0000) ∷
-          (0x13bffc5f, 0xffffffffefff0000) ∷
-          (0x137ffe93, 0xffffffffdfff0000) ∷
-          (0x12fffd23, 0xffffffffbfff0000) ∷
-          (0x11ffff6e, 0x7fff0000) ∷
-          (0x139f3e48, 0xffffffffe7cf0000) ∷
+          (0x100003e9, 0x0) ∷
+          (0x13fffd84, 0xffffffffffff0000) ∷
+          (0x100007e8, 0x10000) ∷
+          (0x10000854, 0x20000) ∷
+          (0x10001168, 0x40000) ∷
+          (0x100020eb, 0x80000) ∷
+          (0x10004385, 0x100000) ∷
+          (0x10008149, 0x200000) ∷
+          (0x100102d1, 0x400000) ∷
+          (0x1002035e, 0x800000) ∷
+          (0x10040307, 0x1000000) ∷
+          (0x10080074, 0x2000000) ∷
+          (0x10100302, 0x4000000) ∷
+          (0x102001d1, 0x8000000) ∷
+          (0x10400037, 0x10000000) ∷
+          (0x10800165, 0x20000000) ∷
+          (0x11000070, 0x40000000) ∷
+          (0x12000131, 0xffffffff80000000) ∷
+          (0x13fff991, 0xfffffffffffe0000) ∷
+          (0x13fff634, 0xfffffffffffd0000) ∷
+          (0x13ffed83, 0xfffffffffffb0000) ∷
+          (0x13ffdf27, 0xfffffffffff70000) ∷
+          (0x13ffbed0, 0xffffffffffef0000) ∷
+          (0x13ff7d46, 0xffffffffffdf0000) ∷
+          (0x13fefe61, 0xffffffffffbf0000) ∷
+          (0x13fdfe21, 0xffffffffff7f0000) ∷
+          (0x13fbff2e, 0xfffffffffeff0000) ∷
+          (0x13f7fce6, 0xfffffffffdff0000) ∷
+          (0x13effd0f, 0xfffffffffbff0000) ∷
+          (0x13dffd37, 0xfffffffff7ff0000) ∷
+          (0x13bffcb4, 0xffffffffefff0000) ∷
+          (0x137ffc5f, 0xffffffffdfff0000) ∷
+          (0x12fffe93, 0xffffffffbfff0000) ∷
+          (0x11fffd23, 0x7fff0000) ∷
+          (0x139f3f6e, 0xffffffffe7cf0000) ∷
+          (0x12bee648, 0xffffffffafb90000) ∷
           (0x100bf99d, 0x2fe0000) ∷
-          (0x11e9d51f, 0x7a750000) ∷
-          (0x1324fdd2, 0xffffffffc93f0000) ∷
-          (0x11f218bc, 0x7c860000) ∷
-          (0x138e14cc, 0xffffffffe3850000) ∷
+          (0x13fc191f, 0xffffffffff060000) ∷
+          (0x11e9d5d2, 0x7a750000) ∷
+          (0x11f998bc, 0x7e660000) ∷
           [];
     }) ∷
     -- jirl
@@ -398,46 +400,46 @@ shift10_words =
       unit = 2 ^ 2;
       bits = 64;
       rows =
-          (0x4c00004f, 0x0) ∷
-          (0x4fffff33, 0xfffffffffffffffc) ∷
-          (0x4c00050c, 0x4) ∷
-          (0x4c000b6a, 0x8) ∷
-          (0x4c001104, 0x10) ∷
-          (0x4c002209, 0x20) ∷
-          (0x4c004114, 0x40) ∷
-          (0x4c0081d6, 0x80) ∷
-          (0x4c010054, 0x100) ∷
-          (0x4c0203b1, 0x200) ∷
-          (0x4c040298, 0x400) ∷
-          (0x4c080363, 0x800) ∷
-          (0x4c1003d6, 0x1000) ∷
-          (0x4c200237, 0x2000) ∷
-          (0x4c400253, 0x4000) ∷
-          (0x4c8002d1, 0x8000) ∷
-          (0x4d00022e, 0x10000) ∷
-          (0x4e0000ba, 0xfffffffffffe0000) ∷
-          (0x4ffffa84, 0xfffffffffffffff8) ∷
-          (0x4ffff46e, 0xfffffffffffffff4) ∷
-          (0x4fffee2c, 0xffffffffffffffec) ∷
-          (0x4fffdcd6, 0xffffffffffffffdc) ∷
-          (0x4fffbdbd, 0xffffffffffffffbc) ∷
-          (0x4fff7f5f, 0xffffffffffffff7c) ∷
-          (0x4ffefdb6, 0xfffffffffffffefc) ∷
-          (0x4ffdff72, 0xfffffffffffffdfc) ∷
-          (0x4ffbfce5, 0xfffffffffffffbfc) ∷
-          (0x4ff7fc23, 0xfffffffffffff7fc) ∷
-          (0x4fefff68, 0xffffffffffffeffc) ∷
-          (0x4fdfffbb, 0xffffffffffffdffc) ∷
-          (0x4fbffcd7, 0xffffffffffffbffc) ∷
-          (0x4f7fff30, 0xffffffffffff7ffc) ∷
-          (0x4effffef, 0xfffffffffffefffc) ∷
-          (0x4dfffcee, 0x1fffc) ∷
-          (0x4e63fe8c, 0xfffffffffffe63fc) ∷
+          (0x4c0003f7, 0x0) ∷
+          (0x4ffffc4f, 0xfffffffffffffffc) ∷
+          (0x4c000733, 0x4) ∷
+          (0x4c00090c, 0x8) ∷
+          (0x4c00136a, 0x10) ∷
+          (0x4c002104, 0x20) ∷
+          (0x4c004209, 0x40) ∷
+          (0x4c008114, 0x80) ∷
+          (0x4c0101d6, 0x100) ∷
+          (0x4c020054, 0x200) ∷
+          (0x4c0403b1, 0x400) ∷
+          (0x4c080298, 0x800) ∷
+          (0x4c100363, 0x1000) ∷
+          (0x4c2003d6, 0x2000) ∷
+          (0x4c400237, 0x4000) ∷
+          (0x4c800253, 0x8000) ∷
+          (0x4d0002d1, 0x10000) ∷
+          (0x4e00022e, 0xfffffffffffe0000) ∷
+          (0x4ffff8ba, 0xfffffffffffffff8) ∷
+          (0x4ffff684, 0xfffffffffffffff4) ∷
+          (0x4fffec6e, 0xffffffffffffffec) ∷
+          (0x4fffde2c, 0xffffffffffffffdc) ∷
+          (0x4fffbcd6, 0xffffffffffffffbc) ∷
+          (0x4fff7dbd, 0xffffffffffffff7c) ∷
+          (0x4ffeff5f, 0xfffffffffffffefc) ∷
+          (0x4ffdfdb6, 0xfffffffffffffdfc) ∷
+          (0x4ffbff72, 0xfffffffffffffbfc) ∷
+          (0x4ff7fce5, 0xfffffffffffff7fc) ∷
+          (0x4feffc23, 0xffffffffffffeffc) ∷
+          (0x4fdfff68, 0xffffffffffffdffc) ∷
+          (0x4fbfffbb, 0xffffffffffffbffc) ∷
+          (0x4f7ffcd7, 0xffffffffffff7ffc) ∷
+          (0x4effff30, 0xfffffffffffefffc) ∷
+          (0x4dffffef, 0x1fffc) ∷
+          (0x4e63fcee, 0xfffffffffffe63fc) ∷
+          (0x4c1f0e8c, 0x1f0c) ∷
           (0x4dab53e2, 0x1ab50) ∷
-          (0x4e65e0be, 0xfffffffffffe65e0) ∷
-          (0x4cf9bbf3, 0xf9b8) ∷
-          (0x4e5c44a8, 0xfffffffffffe5c44) ∷
-          (0x4f472d57, 0xffffffffffff472c) ∷
+          (0x4e950cbe, 0xfffffffffffe950c) ∷
+          (0x4e65e3f3, 0xfffffffffffe65e0) ∷
+          (0x4ce114a8, 0xe114) ∷
           [];
     }) ∷
     -- beq
@@ -445,46 +447,46 @@ shift10_words =
       unit = 2 ^ 2;
       bits = 64;
       rows =
-          (0x58000103, 0x0) ∷
-          (0x5bfffd2c, 0xfffffffffffffffc) ∷
-          (0x58000683, 0x4) ∷
-          (0x5800090d, 0x8) ∷
-          (0x58001212, 0x10) ∷
-          (0x58002109, 0x20) ∷
-          (0x58004384, 0x40) ∷
-          (0x58008164, 0x80) ∷
-          (0x5801007d, 0x100) ∷
-          (0x580200c3, 0x200) ∷
-          (0x58040308, 0x400) ∷
-          (0x580803e5, 0x800) ∷
-          (0x5810033a, 0x1000) ∷
-          (0x5820012a, 0x2000) ∷
-          (0x584003a9, 0x4000) ∷
-          (0x58800242, 0x8000) ∷
-          (0x59000226, 0x10000) ∷
-          (0x5a0000d2, 0xfffffffffffe0000) ∷
-          (0x5bfffb12, 0xfffffffffffffff8) ∷
-          (0x5bfff6f8, 0xfffffffffffffff4) ∷
-          (0x5bffef50, 0xffffffffffffffec) ∷
-          (0x5bffdfb6, 0xffffffffffffffdc) ∷
-          (0x5bffbd42, 0xffffffffffffffbc) ∷
-          (0x5bff7e97, 0xffffffffffffff7c) ∷
-          (0x5bfefddf, 0xfffffffffffffefc) ∷
-          (0x5bfdfe1b, 0xfffffffffffffdfc) ∷
-          (0x5bfbfc4a, 0xfffffffffffffbfc) ∷
-          (0x5bf7fc6c, 0xfffffffffffff7fc) ∷
-          (0x5befffa9, 0xffffffffffffeffc) ∷
-          (0x5bdffd7a, 0xffffffffffffdffc) ∷
-          (0x5bbfffe5, 0xffffffffffffbffc) ∷
-          (0x5b7ffcd4, 0xffffffffffff7ffc) ∷
-          (0x5affff04, 0xfffffffffffefffc) ∷
-          (0x59fffcbe, 0x1fffc) ∷
-          (0x5a63b0c5, 0xfffffffffffe63b0) ∷
-          (0x5ac13e6c, 0xfffffffffffec13c) ∷
+          (0x580002cd, 0x0) ∷
+          (0x5bfffc77, 0xfffffffffffffffc) ∷
+          (0x58000584, 0x4) ∷
+          (0x5800095b, 0x8) ∷
+          (0x58001154, 0x10) ∷
+          (0x5800210d, 0x20) ∷
+          (0x58004212, 0x40) ∷
+          (0x58008109, 0x80) ∷
+          (0x58010384, 0x100) ∷
+          (0x58020164, 0x200) ∷
+          (0x5804007d, 0x400) ∷
+          (0x580800c3, 0x800) ∷
+          (0x58100308, 0x1000) ∷
+          (0x582003e5, 0x2000) ∷
+          (0x5840033a, 0x4000) ∷
+          (0x5880012a, 0x8000) ∷
+          (0x590003a9, 0x10000) ∷
+          (0x5a000242, 0xfffffffffffe0000) ∷
+          (0x5bfffa26, 0xfffffffffffffff8) ∷
+          (0x5bfff4d2, 0xfffffffffffffff4) ∷
+          (0x5bffef12, 0xffffffffffffffec) ∷
+          (0x5bffdef8, 0xffffffffffffffdc) ∷
+          (0x5bffbf50, 0xffffffffffffffbc) ∷
+          (0x5bff7fb6, 0xffffffffffffff7c) ∷
+          (0x5bfefd42, 0xfffffffffffffefc) ∷
+          (0x5bfdfe97, 0xfffffffffffffdfc) ∷
+          (0x5bfbfddf, 0xfffffffffffffbfc) ∷
+          (0x5bf7fe1b, 0xfffffffffffff7fc) ∷
+          (0x5beffc4a, 0xffffffffffffeffc) ∷
+          (0x5bdffc6c, 0xffffffffffffdffc) ∷
+          (0x5bbfffa9, 0xffffffffffffbffc) ∷
+          (0x5b7ffd7a, 0xffffffffffff7ffc) ∷
+          (0x5affffe5, 0xfffffffffffefffc) ∷
+          (0x59fffcd4, 0x1fffc) ∷
+          (0x5a63b304, 0xfffffffffffe63b0) ∷
+          (0x5a733cbe, 0xfffffffffffe733c) ∷
+          (0x5ac13cc5, 0xfffffffffffec13c) ∷
+          (0x5ab6fa6c, 0xfffffffffffeb6f8) ∷
           (0x5a2b6237, 0xfffffffffffe2b60) ∷
-          (0x5b4b3447, 0xffffffffffff4b34) ∷
-          (0x58da25d6, 0xda24) ∷
-          (0x5880c06a, 0x80c0) ∷
+          (0x59f79447, 0x1f794) ∷
           [];
     }) ∷
     -- bne
@@ -492,46 +494,46 @@ shift10_words =
       unit = 2 ^ 2;
       bits = 64;
       rows =
-          (0x5c00019c, 0x0) ∷
-          (0x5ffffe38, 0xfffffffffffffffc) ∷
-          (0x5c000443, 0x4) ∷
-          (0x5c0008ae, 0x8) ∷
-          (0x5c00108e, 0x10) ∷
-          (0x5c0021a6, 0x20) ∷
-          (0x5c004027, 0x40) ∷
-          (0x5c008309, 0x80) ∷
-          (0x5c010368, 0x100) ∷
-          (0x5c020136, 0x200) ∷
-          (0x5c04020c, 0x400) ∷
-          (0x5c0800c3, 0x800) ∷
-          (0x5c10033a, 0x1000) ∷
-          (0x5c2001c7, 0x2000) ∷
-          (0x5c4003fa, 0x4000) ∷
-          (0x5c8000a6, 0x8000) ∷
-          (0x5d0003ae, 0x10000) ∷
-          (0x5e000117, 0xfffffffffffe0000) ∷
-          (0x5ffffbca, 0xfffffffffffffff8) ∷
-          (0x5ffff453, 0xfffffffffffffff4) ∷
-          (0x5fffeef9, 0xffffffffffffffec) ∷
-          (0x5fffde5a, 0xffffffffffffffdc) ∷
-          (0x5fffbcc4, 0xffffffffffffffbc) ∷
-          (0x5fff7e41, 0xffffffffffffff7c) ∷
-          (0x5ffefffd, 0xfffffffffffffefc) ∷
-          (0x5ffdff44, 0xfffffffffffffdfc) ∷
-          (0x5ffbfc30, 0xfffffffffffffbfc) ∷
-          (0x5ff7ffbe, 0xfffffffffffff7fc) ∷
-          (0x5feffca1, 0xffffffffffffeffc) ∷
-          (0x5fdffc24, 0xffffffffffffdffc) ∷
-          (0x5fbfff3f, 0xffffffffffffbffc) ∷
-          (0x5f7ffe17, 0xffffffffffff7ffc) ∷
-          (0x5effffe5, 0xfffffffffffefffc) ∷
-          (0x5dfffc6e, 0x1fffc) ∷
-          (0x5e4af7a3, 0xfffffffffffe4af4) ∷
+          (0x5c0002f4, 0x0) ∷
+          (0x5ffffd9c, 0xfffffffffffffffc) ∷
+          (0x5c000638, 0x4) ∷
+          (0x5c000843, 0x8) ∷
+          (0x5c0010ae, 0x10) ∷
+          (0x5c00208e, 0x20) ∷
+          (0x5c0041a6, 0x40) ∷
+          (0x5c008027, 0x80) ∷
+          (0x5c010309, 0x100) ∷
+          (0x5c020368, 0x200) ∷
+          (0x5c040136, 0x400) ∷
+          (0x5c08020c, 0x800) ∷
+          (0x5c1000c3, 0x1000) ∷
+          (0x5c20033a, 0x2000) ∷
+          (0x5c4001c7, 0x4000) ∷
+          (0x5c8003fa, 0x8000) ∷
+          (0x5d0000a6, 0x10000) ∷
+          (0x5e0003ae, 0xfffffffffffe0000) ∷
+          (0x5ffff917, 0xfffffffffffffff8) ∷
+          (0x5ffff7ca, 0xfffffffffffffff4) ∷
+          (0x5fffec53, 0xffffffffffffffec) ∷
+          (0x5fffdef9, 0xffffffffffffffdc) ∷
+          (0x5fffbe5a, 0xffffffffffffffbc) ∷
+          (0x5fff7cc4, 0xffffffffffffff7c) ∷
+          (0x5ffefe41, 0xfffffffffffffefc) ∷
+          (0x5ffdfffd, 0xfffffffffffffdfc) ∷
+          (0x5ffbff44, 0xfffffffffffffbfc) ∷
+          (0x5ff7fc30, 0xfffffffffffff7fc) ∷
+          (0x5fefffbe, 0xffffffffffffeffc) ∷
+          (0x5fdffca1, 0xffffffffffffdffc) ∷
+          (0x5fbffc24, 0xffffffffffffbffc) ∷
+          (0x5f7fff3f, 0xffffffffffff7ffc) ∷
+          (0x5efffe17, 0xfffffffffffefffc) ∷
+          (0x5dffffe5, 0x1fffc) ∷
+          (0x5e4af46e, 0xfffffffffffe4af4) ∷
+          (0x5eaaffa3, 0xfffffffffffeaafc) ∷
           (0x5ee02485, 0xfffffffffffee024) ∷
-          (0x5cb384c1, 0xb384) ∷
-          (0x5fb27f92, 0xffffffffffffb27c) ∷
-          (0x5dad1fca, 0x1ad1c) ∷
-          (0x5fb0e222, 0xffffffffffffb0e0) ∷
+          (0x5ea15cc1, 0xfffffffffffea15c) ∷
+          (0x5cb38792, 0xb384) ∷
+          (0x5c0d83ca, 0xd80) ∷
           [];
     }) ∷
     -- blt
@@ -539,46 +541,46 @@ shift10_words =
       unit = 2 ^ 2;
       bits = 64;
       rows =
-          (0x600001bd, 0x0) ∷
-          (0x63fffe3c, 0xfffffffffffffffc) ∷
-          (0x6000075b, 0x4) ∷
-          (0x600008fd, 0x8) ∷
+          (0x6000007b, 0x0) ∷
+          (0x63ffffac, 0xfffffffffffffffc) ∷
+          (0x60000794, 0x4) ∷
+          (0x60000b5b, 0x8) ∷
           (0x600010fd, 0x10) ∷
-          (0x600021ec, 0x20) ∷
-          (0x600041bc, 0x40) ∷
-          (0x6000838b, 0x80) ∷
-          (0x600102d9, 0x100) ∷
-          (0x60020245, 0x200) ∷
-          (0x60040243, 0x400) ∷
-          (0x60080389, 0x800) ∷
-          (0x601002fb, 0x1000) ∷
-          (0x60200342, 0x2000) ∷
-          (0x6040030f, 0x4000) ∷
-          (0x60800284, 0x8000) ∷
-          (0x6100019c, 0x10000) ∷
-          (0x6200031a, 0xfffffffffffe0000) ∷
-          (0x63fff9a5, 0xfffffffffffffff8) ∷
-          (0x63fff710, 0xfffffffffffffff4) ∷
-          (0x63ffed18, 0xffffffffffffffec) ∷
-          (0x63ffdca3, 0xffffffffffffffdc) ∷
-          (0x63ffbdaa, 0xffffffffffffffbc) ∷
-          (0x63ff7e6c, 0xffffffffffffff7c) ∷
-          (0x63fefd04, 0xfffffffffffffefc) ∷
-          (0x63fdff3c, 0xfffffffffffffdfc) ∷
-          (0x63fbfdc5, 0xfffffffffffffbfc) ∷
-          (0x63f7ff05, 0xfffffffffffff7fc) ∷
-          (0x63efff93, 0xffffffffffffeffc) ∷
-          (0x63dffeec, 0xffffffffffffdffc) ∷
-          (0x63bffcb6, 0xffffffffffffbffc) ∷
-          (0x637ffef1, 0xffffffffffff7ffc) ∷
-          (0x62ffffbe, 0xfffffffffffefffc) ∷
-          (0x61ffff0c, 0x1fffc) ∷
-          (0x6207af1d, 0xfffffffffffe07ac) ∷
+          (0x600020fd, 0x20) ∷
+          (0x600041ec, 0x40) ∷
+          (0x600081bc, 0x80) ∷
+          (0x6001038b, 0x100) ∷
+          (0x600202d9, 0x200) ∷
+          (0x60040245, 0x400) ∷
+          (0x60080243, 0x800) ∷
+          (0x60100389, 0x1000) ∷
+          (0x602002fb, 0x2000) ∷
+          (0x60400342, 0x4000) ∷
+          (0x6080030f, 0x8000) ∷
+          (0x61000284, 0x10000) ∷
+          (0x6200019c, 0xfffffffffffe0000) ∷
+          (0x63fffb1a, 0xfffffffffffffff8) ∷
+          (0x63fff5a5, 0xfffffffffffffff4) ∷
+          (0x63ffef10, 0xffffffffffffffec) ∷
+          (0x63ffdd18, 0xffffffffffffffdc) ∷
+          (0x63ffbca3, 0xffffffffffffffbc) ∷
+          (0x63ff7daa, 0xffffffffffffff7c) ∷
+          (0x63fefe6c, 0xfffffffffffffefc) ∷
+          (0x63fdfd04, 0xfffffffffffffdfc) ∷
+          (0x63fbff3c, 0xfffffffffffffbfc) ∷
+          (0x63f7fdc5, 0xfffffffffffff7fc) ∷
+          (0x63efff05, 0xffffffffffffeffc) ∷
+          (0x63dfff93, 0xffffffffffffdffc) ∷
+          (0x63bffeec, 0xffffffffffffbffc) ∷
+          (0x637ffcb6, 0xffffffffffff7ffc) ∷
+          (0x62fffef1, 0xfffffffffffefffc) ∷
+          (0x61ffffbe, 0x1fffc) ∷
+          (0x6207af0c, 0xfffffffffffe07ac) ∷
+          (0x621a831d, 0xfffffffffffe1a80) ∷
           (0x61009d5e, 0x1009c) ∷
-          (0x61f99a6f, 0x1f998) ∷
-          (0x6243dd2a, 0xfffffffffffe43dc) ∷
-          (0x6392359f, 0xffffffffffff9234) ∷
-          (0x61d36453, 0x1d364) ∷
+          (0x62ab9a6f, 0xfffffffffffeab98) ∷
+          (0x61f9992a, 0x1f998) ∷
+          (0x60092d9f, 0x92c) ∷
           [];
     }) ∷
     -- bge
@@ -586,16 +588,16 @@ shift10_words =
       unit = 2 ^ 2;
       bits = 64;
       rows =
-          (0x6400028e, 0x0) ∷
-          (0x67fffcec, 0xfffffffffffffffc) ∷
-          (0x640005a9, 0x4) ∷
-          (0x64000848, 0x8) ∷
-          (0x64001336, 0x10) ∷
-          (0x640023e6, 0x20) ∷
-          (0x640043ae, 0x40) ∷
-          (0x640080e2, 0x80) ∷
-          (0x64010090, 0x100) ∷
-          (0x640203d7, 0x200) ∷
+          (0x640002db, 0x0) ∷
+          (0x67fffc47, 0xfffffffffffffffc) ∷
+          (0x64000466, 0x4) ∷
+          (0x64000a8b, 0x8) ∷
+          (0x640011ae, 0x10) ∷
+          (0x640023b0, 0x20) ∷
+          (0x64004039, 0x40) ∷
+          (0x64008386, 0x80) ∷
+          (0x640100aa, 0x100) ∷
+          (0x640202c5, 0x200) ∷
           (0x640401d4, 0x400) ∷
           (0x640801a6, 0x800) ∷
           (0x64100336, 0x1000) ∷
@@ -621,11 +623,11 @@ shift10_words =
           (0x66ffffb7, 0xfffffffffffefffc) ∷
           (0x65fffcee, 0x1fffc) ∷
           (0x67e90dd0, 0xffffffffffffe90c) ∷
-          (0x64486c87, 0x486c) ∷
-          (0x67bfade3, 0xffffffffffffbfac) ∷
-          (0x660f3bed, 0xfffffffffffe0f38) ∷
-          (0x663fefbc, 0xfffffffffffe3fec) ∷
-          (0x65ccf936, 0x1ccf8) ∷
+          (0x6436e887, 0x36e8) ∷
+          (0x64486de3, 0x486c) ∷
+          (0x66141fed, 0xfffffffffffe141c) ∷
+          (0x67bfafbc, 0xffffffffffffbfac) ∷
+          (0x648f4936, 0x8f48) ∷
           [];
     }) ∷
     -- bltu
@@ -633,46 +635,46 @@ shift10_words =
       unit = 2 ^ 2;
       bits = 64;
       rows =
-          (0x680000c4, 0x0) ∷
-          (0x6bfffca6, 0xfffffffffffffffc) ∷
-          (0x68000796, 0x4) ∷
-          (0x68000b3b, 0x8) ∷
-          (0x68001298, 0x10) ∷
-          (0x68002239, 0x20) ∷
-          (0x68004165, 0x40) ∷
-          (0x68008198, 0x80) ∷
-          (0x68010126, 0x100) ∷
-          (0x6802036b, 0x200) ∷
-          (0x6804011a, 0x400) ∷
-          (0x680801e7, 0x800) ∷
-          (0x681003d9, 0x1000) ∷
-          (0x68200366, 0x2000) ∷
-          (0x6840006c, 0x4000) ∷
-          (0x688002c8, 0x8000) ∷
-          (0x6900035f, 0x10000) ∷
-          (0x6a0003c9, 0xfffffffffffe0000) ∷
-          (0x6bfffa25, 0xfffffffffffffff8) ∷
-          (0x6bfff5f9, 0xfffffffffffffff4) ∷
-          (0x6bffecf1, 0xffffffffffffffec) ∷
-          (0x6bffdd54, 0xffffffffffffffdc) ∷
-          (0x6bffbd59, 0xffffffffffffffbc) ∷
-          (0x6bff7cd0, 0xffffffffffffff7c) ∷
-          (0x6bfefcf1, 0xfffffffffffffefc) ∷
-          (0x6bfdfe58, 0xfffffffffffffdfc) ∷
-          (0x6bfbff2a, 0xfffffffffffffbfc) ∷
-          (0x6bf7fd45, 0xfffffffffffff7fc) ∷
-          (0x6befffa9, 0xffffffffffffeffc) ∷
-          (0x6bdffe88, 0xffffffffffffdffc) ∷
-          (0x6bbffe4e, 0xffffffffffffbffc) ∷
-          (0x6b7fff11, 0xffffffffffff7ffc) ∷
-          (0x6affff26, 0xfffffffffffefffc) ∷
-          (0x69fffc83, 0x1fffc) ∷
-          (0x6be1f749, 0xffffffffffffe1f4) ∷
+          (0x680003f1, 0x0) ∷
+          (0x6bfffcc4, 0xfffffffffffffffc) ∷
+          (0x680004a6, 0x4) ∷
+          (0x68000b96, 0x8) ∷
+          (0x6800133b, 0x10) ∷
+          (0x68002298, 0x20) ∷
+          (0x68004239, 0x40) ∷
+          (0x68008165, 0x80) ∷
+          (0x68010198, 0x100) ∷
+          (0x68020126, 0x200) ∷
+          (0x6804036b, 0x400) ∷
+          (0x6808011a, 0x800) ∷
+          (0x681001e7, 0x1000) ∷
+          (0x682003d9, 0x2000) ∷
+          (0x68400366, 0x4000) ∷
+          (0x6880006c, 0x8000) ∷
+          (0x690002c8, 0x10000) ∷
+          (0x6a00035f, 0xfffffffffffe0000) ∷
+          (0x6bfffbc9, 0xfffffffffffffff8) ∷
+          (0x6bfff625, 0xfffffffffffffff4) ∷
+          (0x6bffedf9, 0xffffffffffffffec) ∷
+          (0x6bffdcf1, 0xffffffffffffffdc) ∷
+          (0x6bffbd54, 0xffffffffffffffbc) ∷
+          (0x6bff7d59, 0xffffffffffffff7c) ∷
+          (0x6bfefcd0, 0xfffffffffffffefc) ∷
+          (0x6bfdfcf1, 0xfffffffffffffdfc) ∷
+          (0x6bfbfe58, 0xfffffffffffffbfc) ∷
+          (0x6bf7ff2a, 0xfffffffffffff7fc) ∷
+          (0x6beffd45, 0xffffffffffffeffc) ∷
+          (0x6bdfffa9, 0xffffffffffffdffc) ∷
+          (0x6bbffe88, 0xffffffffffffbffc) ∷
+          (0x6b7ffe4e, 0xffffffffffff7ffc) ∷
+          (0x6affff11, 0xfffffffffffefffc) ∷
+          (0x69ffff26, 0x1fffc) ∷
+          (0x6be1f483, 0xffffffffffffe1f4) ∷
+          (0x694bfb49, 0x14bf8) ∷
           (0x6a6c3d2c, 0xfffffffffffe6c3c) ∷
-          (0x68b60bf3, 0xb608) ∷
-          (0x6ac1fac1, 0xfffffffffffec1f8) ∷
-          (0x6af4cb64, 0xfffffffffffef4c8) ∷
-          (0x6bfea83f, 0xfffffffffffffea8) ∷
+          (0x687ca7f3, 0x7ca4) ∷
+          (0x68b60ac1, 0xb608) ∷
+          (0x6814b764, 0x14b4) ∷
           [];
     }) ∷
     -- bgeu
@@ -680,46 +682,46 @@ shift10_words =
       unit = 2 ^ 2;
       bits = 64;
       rows =
-          (0x6c00009c, 0x0) ∷
-          (0x6ffffd06, 0xfffffffffffffffc) ∷
-          (0x6c00066e, 0x4) ∷
-          (0x6c000861, 0x8) ∷
-          (0x6c001038, 0x10) ∷
-          (0x6c002054, 0x20) ∷
-          (0x6c00410c, 0x40) ∷
-          (0x6c00829e, 0x80) ∷
-          (0x6c0103ea, 0x100) ∷
-          (0x6c02029b, 0x200) ∷
-          (0x6c040396, 0x400) ∷
-          (0x6c0803b2, 0x800) ∷
-          (0x6c1003b6, 0x1000) ∷
-          (0x6c20012c, 0x2000) ∷
-          (0x6c4000c7, 0x4000) ∷
-          (0x6c8001cd, 0x8000) ∷
-          (0x6d0001b4, 0x10000) ∷
-          (0x6e0000a6, 0xfffffffffffe0000) ∷
-          (0x6ffff93e, 0xfffffffffffffff8) ∷
-          (0x6ffff672, 0xfffffffffffffff4) ∷
-          (0x6fffef91, 0xffffffffffffffec) ∷
-          (0x6fffdcbf, 0xffffffffffffffdc) ∷
-          (0x6fffbc48, 0xffffffffffffffbc) ∷
-          (0x6fff7dfb, 0xffffffffffffff7c) ∷
-          (0x6ffefec1, 0xfffffffffffffefc) ∷
-          (0x6ffdfedf, 0xfffffffffffffdfc) ∷
-          (0x6ffbfcfa, 0xfffffffffffffbfc) ∷
-          (0x6ff7fe22, 0xfffffffffffff7fc) ∷
-          (0x6feffd23, 0xffffffffffffeffc) ∷
-          (0x6fdffe88, 0xffffffffffffdffc) ∷
-          (0x6fbfffd9, 0xffffffffffffbffc) ∷
-          (0x6f7ffe2d, 0xffffffffffff7ffc) ∷
-          (0x6efffc2b, 0xfffffffffffefffc) ∷
-          (0x6dfffe6d, 0x1fffc) ∷
-          (0x6f758f13, 0xffffffffffff758c) ∷
+          (0x6c000288, 0x0) ∷
+          (0x6fffff86, 0xfffffffffffffffc) ∷
+          (0x6c000613, 0x4) ∷
+          (0x6c000948, 0x8) ∷
+          (0x6c0011a9, 0x10) ∷
+          (0x6c002187, 0x20) ∷
+          (0x6c004284, 0x40) ∷
+          (0x6c008197, 0x80) ∷
+          (0x6c0103d9, 0x100) ∷
+          (0x6c0203ea, 0x200) ∷
+          (0x6c04029b, 0x400) ∷
+          (0x6c080396, 0x800) ∷
+          (0x6c1003b2, 0x1000) ∷
+          (0x6c2003b6, 0x2000) ∷
+          (0x6c40012c, 0x4000) ∷
+          (0x6c8000c7, 0x8000) ∷
+          (0x6d0001cd, 0x10000) ∷
+          (0x6e0001b4, 0xfffffffffffe0000) ∷
+          (0x6ffff8a6, 0xfffffffffffffff8) ∷
+          (0x6ffff53e, 0xfffffffffffffff4) ∷
+          (0x6fffee72, 0xffffffffffffffec) ∷
+          (0x6fffdf91, 0xffffffffffffffdc) ∷
+          (0x6fffbcbf, 0xffffffffffffffbc) ∷
+          (0x6fff7c48, 0xffffffffffffff7c) ∷
+          (0x6ffefdfb, 0xfffffffffffffefc) ∷
+          (0x6ffdfec1, 0xfffffffffffffdfc) ∷
+          (0x6ffbfedf, 0xfffffffffffffbfc) ∷
+          (0x6ff7fcfa, 0xfffffffffffff7fc) ∷
+          (0x6feffe22, 0xffffffffffffeffc) ∷
+          (0x6fdffd23, 0xffffffffffffdffc) ∷
+          (0x6fbffe88, 0xffffffffffffbffc) ∷
+          (0x6f7fffd9, 0xffffffffffff7ffc) ∷
+          (0x6efffe2d, 0xfffffffffffefffc) ∷
+          (0x6dfffc2b, 0x1fffc) ∷
+          (0x6f758e6d, 0xffffffffffff758c) ∷
+          (0x6f1f6713, 0xffffffffffff1f64) ∷
           (0x6de661ba, 0x1e660) ∷
-          (0x6c515d86, 0x515c) ∷
-          (0x6fcd3a5c, 0xffffffffffffcd38) ∷
-          (0x6e3ecb0f, 0xfffffffffffe3ec8) ∷
-          (0x6d3f49b2, 0x13f48) ∷
+          (0x6c893186, 0x8930) ∷
+          (0x6c515e5c, 0x515c) ∷
+          (0x6ef21f0f, 0xfffffffffffef21c) ∷
           [];
     }) ∷
     []
@@ -731,46 +733,46 @@ low12_words =
       unit = 1;
       bits = 12;
       rows =
-          (0x02c00271, 0x0) ∷
-          (0x02fffcaa, 0xffffffffffffffff) ∷
-          (0x02c00553, 0x1) ∷
-          (0x02c00956, 0x2) ∷
-          (0x02c013c8, 0x4) ∷
-          (0x02c023d6, 0x8) ∷
-          (0x02c0408e, 0x10) ∷
-          (0x02c08137, 0x20) ∷
-          (0x02c1004a, 0x40) ∷
-          (0x02c2013b, 0x80) ∷
-          (0x02c400a3, 0x100) ∷
-          (0x02c80087, 0x200) ∷
-          (0x02d00161, 0x400) ∷
-          (0x02e002f6, 0xfffffffffffff800) ∷
-          (0x02fffb65, 0xfffffffffffffffe) ∷
-          (0x02fff53f, 0xfffffffffffffffd) ∷
-          (0x02ffee90, 0xfffffffffffffffb) ∷
-          (0x02ffdc51, 0xfffffffffffffff7) ∷
-          (0x02ffbc3a, 0xffffffffffffffef) ∷
-          (0x02ff7d7c, 0xffffffffffffffdf) ∷
-          (0x02fefe7b, 0xffffffffffffffbf) ∷
-          (0x02fdfc49, 0xffffffffffffff7f) ∷
-          (0x02fbfe77, 0xfffffffffffffeff) ∷
-          (0x02f7fdd2, 0xfffffffffffffdff) ∷
-          (0x02effd9c, 0xfffffffffffffbff) ∷
-          (0x02dfff13, 0x7ff) ∷
-          (0x02ef99f7, 0xfffffffffffffbe6) ∷
-          (0x02fa4fe5, 0xfffffffffffffe93) ∷
-          (0x02d96658, 0x659) ∷
-          (0x02d8169d, 0x605) ∷
-          (0x02fedb0e, 0xffffffffffffffb6) ∷
-          (0x02fa1122, 0xfffffffffffffe84) ∷
-          (0x02c52613, 0x149) ∷
-          (0x02eb22fd, 0xfffffffffffffac8) ∷
-          (0x02c6e42c, 0x1b9) ∷
-          (0x02ce4ca3, 0x393) ∷
-          (0x02f7defe, 0xfffffffffffffdf7) ∷
-          (0x02c6e3d6, 0x1b8) ∷
-          (0x02c5a3e3, 0x168) ∷
-          (0x02d50093, 0x540) ∷
+          (0x02c0023b, 0x0) ∷
+          (0x02ffffce, 0xffffffffffffffff) ∷
+          (0x02c004f3, 0x1) ∷
+          (0x02c00925, 0x2) ∷
+          (0x02c0112e, 0x4) ∷
+          (0x02c023f3, 0x8) ∷
+          (0x02c04201, 0x10) ∷
+          (0x02c08104, 0x20) ∷
+          (0x02c10256, 0x40) ∷
+          (0x02c203eb, 0x80) ∷
+          (0x02c4027c, 0x100) ∷
+          (0x02c803b7, 0x200) ∷
+          (0x02d00143, 0x400) ∷
+          (0x02e00317, 0xfffffffffffff800) ∷
+          (0x02fffb7d, 0xfffffffffffffffe) ∷
+          (0x02fff602, 0xfffffffffffffffd) ∷
+          (0x02ffec29, 0xfffffffffffffffb) ∷
+          (0x02ffdc23, 0xfffffffffffffff7) ∷
+          (0x02ffbc70, 0xffffffffffffffef) ∷
+          (0x02ff7d3c, 0xffffffffffffffdf) ∷
+          (0x02fefd0b, 0xffffffffffffffbf) ∷
+          (0x02fdff66, 0xffffffffffffff7f) ∷
+          (0x02fbfd1e, 0xfffffffffffffeff) ∷
+          (0x02f7fc25, 0xfffffffffffffdff) ∷
+          (0x02efff5e, 0xfffffffffffffbff) ∷
+          (0x02dffc4d, 0x7ff) ∷
+          (0x02ef9bc8, 0xfffffffffffffbe6) ∷
+          (0x02ccb1ed, 0x32c) ∷
+          (0x02fa4dd6, 0xfffffffffffffe93) ∷
+          (0x02f1a13e, 0xfffffffffffffc68) ∷
+          (0x02d966d1, 0x659) ∷
+          (0x02dd260f, 0x749) ∷
+          (0x02d81477, 0x605) ∷
+          (0x02e17a5b, 0xfffffffffffff85e) ∷
+          (0x02fed8e8, 0xffffffffffffffb6) ∷
+          (0x02d7a185, 0x5e8) ∷
+          (0x02fa11a5, 0xfffffffffffffe84) ∷
+          (0x02c49d7b, 0x127) ∷
+          (0x02c5257a, 0x149) ∷
+          (0x02c3dedc, 0xf7) ∷
           [];
     }) ∷
     -- ld.d
@@ -778,46 +780,46 @@ low12_words =
       unit = 1;
       bits = 12;
       rows =
-          (0x28c0008b, 0x0) ∷
-          (0x28fffdbe, 0xffffffffffffffff) ∷
-          (0x28c00725, 0x1) ∷
-          (0x28c00b59, 0x2) ∷
-          (0x28c01134, 0x4) ∷
-          (0x28c020af, 0x8) ∷
-          (0x28c042cd, 0x10) ∷
-          (0x28c08073, 0x20) ∷
-          (0x28c10178, 0x40) ∷
-          (0x28c201f7, 0x80) ∷
-          (0x28c401f2, 0x100) ∷
-          (0x28c802fe, 0x200) ∷
-          (0x28d001e5, 0x400) ∷
-          (0x28e003a4, 0xfffffffffffff800) ∷
-          (0x28fff8d3, 0xfffffffffffffffe) ∷
-          (0x28fff623, 0xfffffffffffffffd) ∷
-          (0x28ffeef9, 0xfffffffffffffffb) ∷
-          (0x28ffde42, 0xfffffffffffffff7) ∷
-          (0x28ffbda9, 0xffffffffffffffef) ∷
-          (0x28ff7d07, 0xffffffffffffffdf) ∷
-          (0x28fefc43, 0xffffffffffffffbf) ∷
-          (0x28fdfd26, 0xffffffffffffff7f) ∷
-          (0x28fbfd6d, 0xfffffffffffffeff) ∷
-          (0x28f7fe97, 0xfffffffffffffdff) ∷
-          (0x28effde2, 0xfffffffffffffbff) ∷
-          (0x28dffca8, 0x7ff) ∷
-          (0x28c7bae8, 0x1ee) ∷
+          (0x28c0033b, 0x0) ∷
+          (0x28ffffaf, 0xffffffffffffffff) ∷
+          (0x28c004ee, 0x1) ∷
+          (0x28c009fa, 0x2) ∷
+          (0x28c01322, 0x4) ∷
+          (0x28c02134, 0x8) ∷
+          (0x28c040af, 0x10) ∷
+          (0x28c082cd, 0x20) ∷
+          (0x28c10073, 0x40) ∷
+          (0x28c20178, 0x80) ∷
+          (0x28c401f7, 0x100) ∷
+          (0x28c801f2, 0x200) ∷
+          (0x28d002fe, 0x400) ∷
+          (0x28e001e5, 0xfffffffffffff800) ∷
+          (0x28fffba4, 0xfffffffffffffffe) ∷
+          (0x28fff4d3, 0xfffffffffffffffd) ∷
+          (0x28ffee23, 0xfffffffffffffffb) ∷
+          (0x28ffdef9, 0xfffffffffffffff7) ∷
+          (0x28ffbe42, 0xffffffffffffffef) ∷
+          (0x28ff7da9, 0xffffffffffffffdf) ∷
+          (0x28fefd07, 0xffffffffffffffbf) ∷
+          (0x28fdfc43, 0xffffffffffffff7f) ∷
+          (0x28fbfd26, 0xfffffffffffffeff) ∷
+          (0x28f7fd6d, 0xfffffffffffffdff) ∷
+          (0x28effe97, 0xfffffffffffffbff) ∷
+          (0x28dffde2, 0x7ff) ∷
+          (0x28c7b8a8, 0x1ee) ∷
+          (0x28e64ae8, 0xfffffffffffff992) ∷
           (0x28c2432f, 0x90) ∷
-          (0x28da36ce, 0x68d) ∷
-          (0x28eab60e, 0xfffffffffffffaad) ∷
-          (0x28ebc971, 0xfffffffffffffaf2) ∷
-          (0x28fa2169, 0xfffffffffffffe88) ∷
-          (0x28fa120f, 0xfffffffffffffe84) ∷
-          (0x28c8c78d, 0x231) ∷
-          (0x28c8593a, 0x216) ∷
-          (0x28ddbd12, 0x76f) ∷
-          (0x28f4b65d, 0xfffffffffffffd2d) ∷
-          (0x28fe3f0c, 0xffffffffffffff8f) ∷
-          (0x28cce039, 0x338) ∷
-          (0x28d67a67, 0x59e) ∷
+          (0x28d142ce, 0x450) ∷
+          (0x28da360e, 0x68d) ∷
+          (0x28d6b971, 0x5ae) ∷
+          (0x28eab569, 0xfffffffffffffaad) ∷
+          (0x28f27e0f, 0xfffffffffffffc9f) ∷
+          (0x28ebcb8d, 0xfffffffffffffaf2) ∷
+          (0x28d6013a, 0x580) ∷
+          (0x28fa2112, 0xfffffffffffffe88) ∷
+          (0x28d3925d, 0x4e4) ∷
+          (0x28fa130c, 0xfffffffffffffe84) ∷
+          (0x28f28839, 0xfffffffffffffca2) ∷
           [];
     }) ∷
     -- st.d
@@ -825,46 +827,46 @@ low12_words =
       unit = 1;
       bits = 12;
       rows =
-          (0x29c0004b, 0x0) ∷
-          (0x29fffc4f, 0xffffffffffffffff) ∷
-          (0x29c00614, 0x1) ∷
-          (0x29c00923, 0x2) ∷
-          (0x29c01237, 0x4) ∷
-          (0x29c0226c, 0x8) ∷
-          (0x29c041a6, 0x10) ∷
-          (0x29c08317, 0x20) ∷
-          (0x29c101cd, 0x40) ∷
-          (0x29c20206, 0x80) ∷
-          (0x29c40343, 0x100) ∷
-          (0x29c801e8, 0x200) ∷
-          (0x29d0027a, 0x400) ∷
-          (0x29e002f4, 0xfffffffffffff800) ∷
-          (0x29fffb4d, 0xfffffffffffffffe) ∷
-          (0x29fff63d, 0xfffffffffffffffd) ∷
-          (0x29ffed31, 0xfffffffffffffffb) ∷
-          (0x29ffdf86, 0xfffffffffffffff7) ∷
-          (0x29ffbfec, 0xffffffffffffffef) ∷
-          (0x29ff7e98, 0xffffffffffffffdf) ∷
-          (0x29fefe81, 0xffffffffffffffbf) ∷
-          (0x29fdfdc5, 0xffffffffffffff7f) ∷
-          (0x29fbfff7, 0xfffffffffffffeff) ∷
-          (0x29f7fd7b, 0xfffffffffffffdff) ∷
-          (0x29effc6b, 0xfffffffffffffbff) ∷
-          (0x29dffce2, 0x7ff) ∷
-          (0x29c643b7, 0x190) ∷
-          (0x29c308be, 0xc2) ∷
-          (0x29f7b668, 0xfffffffffffffded) ∷
+          (0x29c00310, 0x0) ∷
+          (0x29fffc91, 0xffffffffffffffff) ∷
+          (0x29c007bc, 0x1) ∷
+          (0x29c00965, 0x2) ∷
+          (0x29c011ee, 0x4) ∷
+          (0x29c02285, 0x8) ∷
+          (0x29c04077, 0x10) ∷
+          (0x29c082f1, 0x20) ∷
+          (0x29c1019a, 0x40) ∷
+          (0x29c200d1, 0x80) ∷
+          (0x29c402e1, 0x100) ∷
+          (0x29c801a3, 0x200) ∷
+          (0x29d000ce, 0x400) ∷
+          (0x29e00343, 0xfffffffffffff800) ∷
+          (0x29fff9e8, 0xfffffffffffffffe) ∷
+          (0x29fff67a, 0xfffffffffffffffd) ∷
+          (0x29ffeef4, 0xfffffffffffffffb) ∷
+          (0x29ffdf4d, 0xfffffffffffffff7) ∷
+          (0x29ffbe3d, 0xffffffffffffffef) ∷
+          (0x29ff7d31, 0xffffffffffffffdf) ∷
+          (0x29feff86, 0xffffffffffffffbf) ∷
+          (0x29fdffec, 0xffffffffffffff7f) ∷
+          (0x29fbfe98, 0xfffffffffffffeff) ∷
+          (0x29f7fe81, 0xfffffffffffffdff) ∷
+          (0x29effdc5, 0xfffffffffffffbff) ∷
+          (0x29dffff7, 0x7ff) ∷
+          (0x29c6417b, 0x190) ∷
+          (0x29f4c86b, 0xfffffffffffffd32) ∷
+          (0x29c308e2, 0xc2) ∷
+          (0x29e9dfb7, 0xfffffffffffffa77) ∷
+          (0x29f7b4be, 0xfffffffffffffded) ∷
+          (0x29c8ba68, 0x22e) ∷
           (0x29cddb7d, 0x376) ∷
-          (0x29f4863d, 0xfffffffffffffd21) ∷
-          (0x29f1e97c, 0xfffffffffffffc7a) ∷
-          (0x29eef0cf, 0xfffffffffffffbbc) ∷
-          (0x29e15b05, 0xfffffffffffff856) ∷
-          (0x29c99352, 0x264) ∷
-          (0x29e61b48, 0xfffffffffffff986) ∷
-          (0x29cf1688, 0x3c5) ∷
-          (0x29fc21e9, 0xffffffffffffff08) ∷
-          (0x29e261e7, 0xfffffffffffff898) ∷
-          (0x29cc399a, 0x30e) ∷
+          (0x29ec063d, 0xfffffffffffffb01) ∷
+          (0x29f4857c, 0xfffffffffffffd21) ∷
+          (0x29e9bccf, 0xfffffffffffffa6f) ∷
+          (0x29f1eb05, 0xfffffffffffffc7a) ∷
+          (0x29e80f52, 0xfffffffffffffa03) ∷
+          (0x29eef348, 0xfffffffffffffbbc) ∷
+          (0x29e8a288, 0xfffffffffffffa28) ∷
           [];
     }) ∷
     -- ori
@@ -872,46 +874,46 @@ low12_words =
       unit = 1;
       bits = 64;
       rows =
-          (0x0380029e, 0x0) ∷
-          (0x03bffc98, 0xfff) ∷
-          (0x038004e6, 0x1) ∷
-          (0x03800931, 0x2) ∷
-          (0x038010df, 0x4) ∷
-          (0x038020e2, 0x8) ∷
-          (0x038042c4, 0x10) ∷
-          (0x03808138, 0x20) ∷
-          (0x038101fd, 0x40) ∷
-          (0x038201e9, 0x80) ∷
-          (0x03840264, 0x100) ∷
-          (0x038801f8, 0x200) ∷
-          (0x03900308, 0x400) ∷
-          (0x03a0021e, 0x800) ∷
-          (0x03bff8dc, 0xffe) ∷
-          (0x03bff4b9, 0xffd) ∷
-          (0x03bfee66, 0xffb) ∷
-          (0x03bfde8d, 0xff7) ∷
-          (0x03bfbe8a, 0xfef) ∷
-          (0x03bf7c53, 0xfdf) ∷
-          (0x03befc82, 0xfbf) ∷
-          (0x03bdfd03, 0xf7f) ∷
-          (0x03bbffae, 0xeff) ∷
-          (0x03b7fdf9, 0xdff) ∷
-          (0x03affc38, 0xbff) ∷
-          (0x039fff71, 0x7ff) ∷
-          (0x039eb488, 0x7ad) ∷
-          (0x03b165b4, 0xc59) ∷
-          (0x03af899d, 0xbe2) ∷
-          (0x03ae50ad, 0xb94) ∷
-          (0x03a14d1e, 0x853) ∷
-          (0x038abb29, 0x2ae) ∷
-          (0x03a86498, 0xa19) ∷
-          (0x03996a87, 0x65a) ∷
-          (0x03982dff, 0x60b) ∷
-          (0x03a3e9d8, 0x8fa) ∷
-          (0x038a808a, 0x2a0) ∷
-          (0x038b7c5a, 0x2df) ∷
-          (0x03994f27, 0x653) ∷
-          (0x03921625, 0x485) ∷
+          (0x03800324, 0x0) ∷
+          (0x03bffc32, 0xfff) ∷
+          (0x0380051d, 0x1) ∷
+          (0x0380095c, 0x2) ∷
+          (0x03801165, 0x4) ∷
+          (0x0380221e, 0x8) ∷
+          (0x038040ad, 0x10) ∷
+          (0x03808117, 0x20) ∷
+          (0x038101d4, 0x40) ∷
+          (0x038201e4, 0x80) ∷
+          (0x03840151, 0x100) ∷
+          (0x03880083, 0x200) ∷
+          (0x039001b1, 0x400) ∷
+          (0x03a00317, 0x800) ∷
+          (0x03bff91d, 0xffe) ∷
+          (0x03bff4e2, 0xffd) ∷
+          (0x03bfee7a, 0xffb) ∷
+          (0x03bfddcd, 0xff7) ∷
+          (0x03bfbc62, 0xfef) ∷
+          (0x03bf7f8f, 0xfdf) ∷
+          (0x03befda4, 0xfbf) ∷
+          (0x03bdfd63, 0xf7f) ∷
+          (0x03bbfc4d, 0xeff) ∷
+          (0x03b7ff1b, 0xdff) ∷
+          (0x03affd22, 0xbff) ∷
+          (0x039fff50, 0x7ff) ∷
+          (0x039eb7a3, 0x7ad) ∷
+          (0x03bb2a25, 0xeca) ∷
+          (0x03b1651b, 0xc59) ∷
+          (0x03b0eec8, 0xc3b) ∷
+          (0x03af8bc9, 0xbe2) ∷
+          (0x03a54152, 0x950) ∷
+          (0x03ae537f, 0xb94) ∷
+          (0x03b5ebca, 0xd7a) ∷
+          (0x03a14e1c, 0x853) ∷
+          (0x038ce3c8, 0x338) ∷
+          (0x038ab911, 0x2ae) ∷
+          (0x0388b10c, 0x22c) ∷
+          (0x03a866ce, 0xa19) ∷
+          (0x039c8f44, 0x723) ∷
           [];
     }) ∷
     -- lu52i.d
@@ -919,46 +921,46 @@ low12_words =
       unit = 2 ^ 52;
       bits = 64;
       rows =
-          (0x0300008b, 0x0) ∷
-          (0x033ffc34, 0xfff0000000000000) ∷
-          (0x0300074f, 0x10000000000000) ∷
-          (0x03000927, 0x20000000000000) ∷
-          (0x03001162, 0x40000000000000) ∷
-          (0x0300228c, 0x80000000000000) ∷
-          (0x030042e3, 0x100000000000000) ∷
-          (0x030081db, 0x200000000000000) ∷
-          (0x03010228, 0x400000000000000) ∷
-          (0x0302008d, 0x800000000000000) ∷
-          (0x03040374, 0x1000000000000000) ∷
-          (0x030803b4, 0x2000000000000000) ∷
-          (0x03100131, 0x4000000000000000) ∷
-          (0x032003d0, 0x8000000000000000) ∷
-          (0x033ffa58, 0xffe0000000000000) ∷
-          (0x033ff7c6, 0xffd0000000000000) ∷
-          (0x033fef96, 0xffb0000000000000) ∷
-          (0x033fdfeb, 0xff70000000000000) ∷
-          (0x033fbfb8, 0xfef0000000000000) ∷
-          (0x033f7e28, 0xfdf0000000000000) ∷
-          (0x033eff77, 0xfbf0000000000000) ∷
-          (0x033dfec9, 0xf7f0000000000000) ∷
-          (0x033bfc72, 0xeff0000000000000) ∷
-          (0x0337fe1b, 0xdff0000000000000) ∷
-          (0x032fff61, 0xbff0000000000000) ∷
-          (0x031ffc7a, 0x7ff0000000000000) ∷
-          (0x031e4768, 0x7910000000000000) ∷
-          (0x03003f58, 0xf0000000000000) ∷
-          (0x0335ef4b, 0xd7b0000000000000) ∷
-          (0x0306b3ec, 0x1ac0000000000000) ∷
-          (0x030cfad0, 0x33e0000000000000) ∷
-          (0x0312e7c3, 0x4b90000000000000) ∷
-          (0x030e95be, 0x3a50000000000000) ∷
-          (0x031a7b8c, 0x69e0000000000000) ∷
-          (0x0321d896, 0x8760000000000000) ∷
-          (0x032e59c7, 0xb960000000000000) ∷
-          (0x033395db, 0xce50000000000000) ∷
-          (0x03122238, 0x4880000000000000) ∷
-          (0x0313c192, 0x4f00000000000000) ∷
-          (0x0302298a, 0x8a0000000000000) ∷
+          (0x03000099, 0x0) ∷
+          (0x033ffe74, 0xfff0000000000000) ∷
+          (0x030005f1, 0x10000000000000) ∷
+          (0x03000976, 0x20000000000000) ∷
+          (0x030013be, 0x40000000000000) ∷
+          (0x0300216d, 0x80000000000000) ∷
+          (0x0300430e, 0x100000000000000) ∷
+          (0x030081fd, 0x200000000000000) ∷
+          (0x030103d2, 0x400000000000000) ∷
+          (0x0302011c, 0x800000000000000) ∷
+          (0x030402dc, 0x1000000000000000) ∷
+          (0x03080185, 0x2000000000000000) ∷
+          (0x03100099, 0x4000000000000000) ∷
+          (0x032000c7, 0x8000000000000000) ∷
+          (0x033ff8da, 0xffe0000000000000) ∷
+          (0x033ff70a, 0xffd0000000000000) ∷
+          (0x033fef0f, 0xffb0000000000000) ∷
+          (0x033fddf9, 0xff70000000000000) ∷
+          (0x033fbf31, 0xfef0000000000000) ∷
+          (0x033f7e85, 0xfdf0000000000000) ∷
+          (0x033efcaa, 0xfbf0000000000000) ∷
+          (0x033dfd53, 0xf7f0000000000000) ∷
+          (0x033bfcf1, 0xeff0000000000000) ∷
+          (0x0337ff9e, 0xdff0000000000000) ∷
+          (0x032ffeee, 0xbff0000000000000) ∷
+          (0x031ffe8c, 0x7ff0000000000000) ∷
+          (0x031e4798, 0x7910000000000000) ∷
+          (0x030d3dd4, 0x34f0000000000000) ∷
+          (0x03003e76, 0xf0000000000000) ∷
+          (0x03247bbe, 0x91e0000000000000) ∷
+          (0x0335ec6f, 0xd7b0000000000000) ∷
+          (0x03342510, 0xd090000000000000) ∷
+          (0x0306b25c, 0x1ac0000000000000) ∷
+          (0x0314da9a, 0x5360000000000000) ∷
+          (0x030cf93e, 0x33e0000000000000) ∷
+          (0x0314665c, 0x5190000000000000) ∷
+          (0x0312e50c, 0x4b90000000000000) ∷
+          (0x0328a49e, 0xa290000000000000) ∷
+          (0x030e951f, 0x3a50000000000000) ∷
+          (0x033d63d3, 0xf580000000000000) ∷
           [];
     }) ∷
     []
@@ -970,56 +972,56 @@ branch21_words =
       unit = 2 ^ 2;
       bits = 64;
       rows =
-          (0x40000080, 0x0) ∷
-          (0x43fffd9f, 0xfffffffffffffffc) ∷
-          (0x40000141, 0x40000) ∷
-          (0x400000c2, 0x80000) ∷
-          (0x40000064, 0x100000) ∷
-          (0x400003c8, 0x200000) ∷
+          (0x40000360, 0x0) ∷
+          (0x43fffc7f, 0xfffffffffffffffc) ∷
+          (0x400003a1, 0x40000) ∷
+          (0x40000062, 0x80000) ∷
+          (0x40000284, 0x100000) ∷
+          (0x400000c8, 0x200000) ∷
           (0x40000070, 0xffffffffffc00000) ∷
-          (0x400004c0, 0x4) ∷
+          (0x400007c0, 0x4) ∷
           (0x40000860, 0x8) ∷
-          (0x40001060, 0x10) ∷
-          (0x40002120, 0x20) ∷
-          (0x400043a0, 0x40) ∷
-          (0x400083a0, 0x80) ∷
-          (0x40010220, 0x100) ∷
-          (0x400201a0, 0x200) ∷
-          (0x400403e0, 0x400) ∷
-          (0x40080360, 0x800) ∷
-          (0x40100280, 0x1000) ∷
-          (0x40200260, 0x2000) ∷
-          (0x40400160, 0x4000) ∷
-          (0x408001c0, 0x8000) ∷
-          (0x41000060, 0x10000) ∷
-          (0x42000320, 0x20000) ∷
-          (0x43ffff9e, 0xfffffffffffbfffc) ∷
-          (0x43fffedd, 0xfffffffffff7fffc) ∷
-          (0x43ffff5b, 0xffffffffffeffffc) ∷
-          (0x43fffe17, 0xffffffffffdffffc) ∷
-          (0x43fffccf, 0x3ffffc) ∷
-          (0x43fff8df, 0xfffffffffffffff8) ∷
-          (0x43fff57f, 0xfffffffffffffff4) ∷
-          (0x43ffec9f, 0xffffffffffffffec) ∷
-          (0x43ffde1f, 0xffffffffffffffdc) ∷
-          (0x43ffbf9f, 0xffffffffffffffbc) ∷
-          (0x43ff7edf, 0xffffffffffffff7c) ∷
-          (0x43fefe5f, 0xfffffffffffffefc) ∷
-          (0x43fdfd9f, 0xfffffffffffffdfc) ∷
-          (0x43fbffff, 0xfffffffffffffbfc) ∷
-          (0x43f7fc3f, 0xfffffffffffff7fc) ∷
-          (0x43effe1f, 0xffffffffffffeffc) ∷
-          (0x43dffd5f, 0xffffffffffffdffc) ∷
-          (0x43bfffbf, 0xffffffffffffbffc) ∷
-          (0x437ffeff, 0xffffffffffff7ffc) ∷
-          (0x42fffe9f, 0xfffffffffffefffc) ∷
-          (0x41fffd5f, 0xfffffffffffdfffc) ∷
-          (0x43f48ef0, 0xffffffffffc3f48c) ∷
+          (0x400010c0, 0x10) ∷
+          (0x40002060, 0x20) ∷
+          (0x40004060, 0x40) ∷
+          (0x40008120, 0x80) ∷
+          (0x400103a0, 0x100) ∷
+          (0x400203a0, 0x200) ∷
+          (0x40040220, 0x400) ∷
+          (0x400801a0, 0x800) ∷
+          (0x401003e0, 0x1000) ∷
+          (0x40200360, 0x2000) ∷
+          (0x40400280, 0x4000) ∷
+          (0x40800260, 0x8000) ∷
+          (0x41000160, 0x10000) ∷
+          (0x420001c0, 0x20000) ∷
+          (0x43fffc7e, 0xfffffffffffbfffc) ∷
+          (0x43ffff3d, 0xfffffffffff7fffc) ∷
+          (0x43ffff9b, 0xffffffffffeffffc) ∷
+          (0x43fffed7, 0xffffffffffdffffc) ∷
+          (0x43ffff4f, 0x3ffffc) ∷
+          (0x43fffa1f, 0xfffffffffffffff8) ∷
+          (0x43fff4df, 0xfffffffffffffff4) ∷
+          (0x43ffecdf, 0xffffffffffffffec) ∷
+          (0x43ffdd7f, 0xffffffffffffffdc) ∷
+          (0x43ffbc9f, 0xffffffffffffffbc) ∷
+          (0x43ff7e1f, 0xffffffffffffff7c) ∷
+          (0x43feff9f, 0xfffffffffffffefc) ∷
+          (0x43fdfedf, 0xfffffffffffffdfc) ∷
+          (0x43fbfe5f, 0xfffffffffffffbfc) ∷
+          (0x43f7fd9f, 0xfffffffffffff7fc) ∷
+          (0x43efffff, 0xffffffffffffeffc) ∷
+          (0x43dffc3f, 0xffffffffffffdffc) ∷
+          (0x43bffe1f, 0xffffffffffffbffc) ∷
+          (0x437ffd5f, 0xffffffffffff7ffc) ∷
+          (0x42ffffbf, 0xfffffffffffefffc) ∷
+          (0x41fffeff, 0xfffffffffffdfffc) ∷
+          (0x43f48e90, 0xffffffffffc3f48c) ∷
+          (0x42e2714f, 0x3ee270) ∷
           (0x41f16efb, 0xffffffffffedf16c) ∷
+          (0x4048c2f3, 0xffffffffffcc48c0) ∷
           (0x409e1343, 0xc9e10) ∷
-          (0x4325f97c, 0xfffffffffff325f8) ∷
-          (0x41215ee2, 0x9215c) ∷
-          (0x4200bc51, 0xffffffffffc600bc) ∷
+          (0x43f3816d, 0x37f380) ∷
           [];
     }) ∷
     -- bnez
@@ -1027,56 +1029,56 @@ branch21_words =
       unit = 2 ^ 2;
       bits = 64;
       rows =
-          (0x440001e0, 0x0) ∷
-          (0x47ffff7f, 0xfffffffffffffffc) ∷
-          (0x44000021, 0x40000) ∷
-          (0x44000242, 0x80000) ∷
-          (0x44000284, 0x100000) ∷
-          (0x44000228, 0x200000) ∷
-          (0x44000390, 0xffffffffffc00000) ∷
-          (0x440005e0, 0x4) ∷
-          (0x440009c0, 0x8) ∷
-          (0x44001220, 0x10) ∷
-          (0x44002340, 0x20) ∷
-          (0x44004360, 0x40) ∷
-          (0x44008300, 0x80) ∷
-          (0x44010140, 0x100) ∷
-          (0x44020080, 0x200) ∷
-          (0x440401c0, 0x400) ∷
-          (0x44080180, 0x800) ∷
-          (0x44100240, 0x1000) ∷
-          (0x442000a0, 0x2000) ∷
-          (0x44400060, 0x4000) ∷
-          (0x448003e0, 0x8000) ∷
-          (0x45000140, 0x10000) ∷
-          (0x46000180, 0x20000) ∷
-          (0x47ffff7e, 0xfffffffffffbfffc) ∷
-          (0x47fffcfd, 0xfffffffffff7fffc) ∷
-          (0x47fffe1b, 0xffffffffffeffffc) ∷
-          (0x47ffff57, 0xffffffffffdffffc) ∷
-          (0x47fffe6f, 0x3ffffc) ∷
-          (0x47fffb1f, 0xfffffffffffffff8) ∷
-          (0x47fff45f, 0xfffffffffffffff4) ∷
-          (0x47ffecdf, 0xffffffffffffffec) ∷
-          (0x47ffdd7f, 0xffffffffffffffdc) ∷
-          (0x47ffbf1f, 0xffffffffffffffbc) ∷
-          (0x47ff7f5f, 0xffffffffffffff7c) ∷
-          (0x47fefd7f, 0xfffffffffffffefc) ∷
-          (0x47fdfcdf, 0xfffffffffffffdfc) ∷
-          (0x47fbfc9f, 0xfffffffffffffbfc) ∷
-          (0x47f7fd1f, 0xfffffffffffff7fc) ∷
-          (0x47effdff, 0xffffffffffffeffc) ∷
-          (0x47dffd7f, 0xffffffffffffdffc) ∷
-          (0x47bffddf, 0xffffffffffffbffc) ∷
-          (0x477ffc3f, 0xffffffffffff7ffc) ∷
-          (0x46fffcff, 0xfffffffffffefffc) ∷
-          (0x45ffffdf, 0xfffffffffffdfffc) ∷
-          (0x471f931a, 0xffffffffffeb1f90) ∷
+          (0x440003a0, 0x0) ∷
+          (0x47fffdff, 0xfffffffffffffffc) ∷
+          (0x44000361, 0x40000) ∷
+          (0x44000022, 0x80000) ∷
+          (0x44000244, 0x100000) ∷
+          (0x44000288, 0x200000) ∷
+          (0x44000230, 0xffffffffffc00000) ∷
+          (0x44000780, 0x4) ∷
+          (0x440009e0, 0x8) ∷
+          (0x440011c0, 0x10) ∷
+          (0x44002220, 0x20) ∷
+          (0x44004340, 0x40) ∷
+          (0x44008360, 0x80) ∷
+          (0x44010300, 0x100) ∷
+          (0x44020140, 0x200) ∷
+          (0x44040080, 0x400) ∷
+          (0x440801c0, 0x800) ∷
+          (0x44100180, 0x1000) ∷
+          (0x44200240, 0x2000) ∷
+          (0x444000a0, 0x4000) ∷
+          (0x44800060, 0x8000) ∷
+          (0x450003e0, 0x10000) ∷
+          (0x46000140, 0x20000) ∷
+          (0x47fffd9e, 0xfffffffffffbfffc) ∷
+          (0x47ffff7d, 0xfffffffffff7fffc) ∷
+          (0x47fffcfb, 0xffffffffffeffffc) ∷
+          (0x47fffe17, 0xffffffffffdffffc) ∷
+          (0x47ffff4f, 0x3ffffc) ∷
+          (0x47fffa7f, 0xfffffffffffffff8) ∷
+          (0x47fff71f, 0xfffffffffffffff4) ∷
+          (0x47ffec5f, 0xffffffffffffffec) ∷
+          (0x47ffdcdf, 0xffffffffffffffdc) ∷
+          (0x47ffbd7f, 0xffffffffffffffbc) ∷
+          (0x47ff7f1f, 0xffffffffffffff7c) ∷
+          (0x47feff5f, 0xfffffffffffffefc) ∷
+          (0x47fdfd7f, 0xfffffffffffffdfc) ∷
+          (0x47fbfcdf, 0xfffffffffffffbfc) ∷
+          (0x47f7fc9f, 0xfffffffffffff7fc) ∷
+          (0x47effd1f, 0xffffffffffffeffc) ∷
+          (0x47dffdff, 0xffffffffffffdffc) ∷
+          (0x47bffd7f, 0xffffffffffffbffc) ∷
+          (0x477ffddf, 0xffffffffffff7ffc) ∷
+          (0x46fffc3f, 0xfffffffffffefffc) ∷
+          (0x45fffcff, 0xfffffffffffdfffc) ∷
+          (0x471f93da, 0xffffffffffeb1f90) ∷
+          (0x4677ff03, 0xe77fc) ∷
           (0x46caf865, 0x16caf8) ∷
-          (0x45fc0a43, 0xdfc08) ∷
-          (0x44feede5, 0x14feec) ∷
-          (0x478559a4, 0x138558) ∷
-          (0x470f45ea, 0x2b0f44) ∷
+          (0x46e09653, 0xffffffffffcee094) ∷
+          (0x45fc09e3, 0xdfc08) ∷
+          (0x46b7cda2, 0xab7cc) ∷
           [];
     }) ∷
     -- bceqz
@@ -1084,56 +1086,56 @@ branch21_words =
       unit = 2 ^ 2;
       bits = 64;
       rows =
-          (0x480000a0, 0x0) ∷
-          (0x4bfffc7f, 0xfffffffffffffffc) ∷
-          (0x48000021, 0x40000) ∷
-          (0x480000a2, 0x80000) ∷
-          (0x480000e4, 0x100000) ∷
-          (0x48000028, 0x200000) ∷
-          (0x480000b0, 0xffffffffffc00000) ∷
+          (0x48000020, 0x0) ∷
+          (0x4bfffc3f, 0xfffffffffffffffc) ∷
+          (0x48000061, 0x40000) ∷
+          (0x48000022, 0x80000) ∷
+          (0x480000a4, 0x100000) ∷
+          (0x480000e8, 0x200000) ∷
+          (0x48000030, 0xffffffffffc00000) ∷
           (0x480004a0, 0x4) ∷
-          (0x48000840, 0x8) ∷
+          (0x480008a0, 0x8) ∷
           (0x48001040, 0x10) ∷
-          (0x48002060, 0x20) ∷
-          (0x48004040, 0x40) ∷
-          (0x48008000, 0x80) ∷
-          (0x48010040, 0x100) ∷
-          (0x480200c0, 0x200) ∷
-          (0x480400a0, 0x400) ∷
-          (0x48080000, 0x800) ∷
+          (0x48002040, 0x20) ∷
+          (0x48004060, 0x40) ∷
+          (0x48008040, 0x80) ∷
+          (0x48010000, 0x100) ∷
+          (0x48020040, 0x200) ∷
+          (0x480400c0, 0x400) ∷
+          (0x480800a0, 0x800) ∷
           (0x48100000, 0x1000) ∷
-          (0x482000e0, 0x2000) ∷
-          (0x48400000, 0x4000) ∷
-          (0x488000a0, 0x8000) ∷
-          (0x49000000, 0x10000) ∷
-          (0x4a000040, 0x20000) ∷
-          (0x4bfffcde, 0xfffffffffffbfffc) ∷
-          (0x4bfffc7d, 0xfffffffffff7fffc) ∷
-          (0x4bfffc5b, 0xffffffffffeffffc) ∷
-          (0x4bfffc97, 0xffffffffffdffffc) ∷
-          (0x4bfffcef, 0x3ffffc) ∷
-          (0x4bfff81f, 0xfffffffffffffff8) ∷
-          (0x4bfff4df, 0xfffffffffffffff4) ∷
-          (0x4bffec9f, 0xffffffffffffffec) ∷
-          (0x4bffdc3f, 0xffffffffffffffdc) ∷
-          (0x4bffbc9f, 0xffffffffffffffbc) ∷
-          (0x4bff7c1f, 0xffffffffffffff7c) ∷
+          (0x48200000, 0x2000) ∷
+          (0x484000e0, 0x4000) ∷
+          (0x48800000, 0x8000) ∷
+          (0x490000a0, 0x10000) ∷
+          (0x4a000000, 0x20000) ∷
+          (0x4bfffc5e, 0xfffffffffffbfffc) ∷
+          (0x4bfffcdd, 0xfffffffffff7fffc) ∷
+          (0x4bfffc7b, 0xffffffffffeffffc) ∷
+          (0x4bfffc57, 0xffffffffffdffffc) ∷
+          (0x4bfffc8f, 0x3ffffc) ∷
+          (0x4bfff8ff, 0xfffffffffffffff8) ∷
+          (0x4bfff41f, 0xfffffffffffffff4) ∷
+          (0x4bffecdf, 0xffffffffffffffec) ∷
+          (0x4bffdc9f, 0xffffffffffffffdc) ∷
+          (0x4bffbc3f, 0xffffffffffffffbc) ∷
+          (0x4bff7c9f, 0xffffffffffffff7c) ∷
           (0x4bfefc1f, 0xfffffffffffffefc) ∷
-          (0x4bfdfcdf, 0xfffffffffffffdfc) ∷
-          (0x4bfbfc7f, 0xfffffffffffffbfc) ∷
-          (0x4bf7fcff, 0xfffffffffffff7fc) ∷
-          (0x4beffc5f, 0xffffffffffffeffc) ∷
-          (0x4bdffcdf, 0xffffffffffffdffc) ∷
-          (0x4bbffc5f, 0xffffffffffffbffc) ∷
-          (0x4b7ffc7f, 0xffffffffffff7ffc) ∷
-          (0x4afffc1f, 0xfffffffffffefffc) ∷
-          (0x49fffcff, 0xfffffffffffdfffc) ∷
-          (0x4887d062, 0x887d0) ∷
+          (0x4bfdfc1f, 0xfffffffffffffdfc) ∷
+          (0x4bfbfcdf, 0xfffffffffffffbfc) ∷
+          (0x4bf7fc7f, 0xfffffffffffff7fc) ∷
+          (0x4beffcff, 0xffffffffffffeffc) ∷
+          (0x4bdffc5f, 0xffffffffffffdffc) ∷
+          (0x4bbffcdf, 0xffffffffffffbffc) ∷
+          (0x4b7ffc5f, 0xffffffffffff7ffc) ∷
+          (0x4afffc7f, 0xfffffffffffefffc) ∷
+          (0x49fffc1f, 0xfffffffffffdfffc) ∷
+          (0x4887d0e2, 0x887d0) ∷
+          (0x4a6c187d, 0xfffffffffff66c18) ∷
           (0x49e9003e, 0xfffffffffff9e900) ∷
-          (0x493ff4ed, 0x353ff4) ∷
-          (0x49e10835, 0xffffffffffd5e108) ∷
-          (0x4a8eb08a, 0x2a8eb0) ∷
-          (0x48aa900d, 0x34aa90) ∷
+          (0x4a40e8f2, 0xffffffffffca40e8) ∷
+          (0x493ff42d, 0x353ff4) ∷
+          (0x4973b89c, 0xfffffffffff173b8) ∷
           [];
     }) ∷
     []
@@ -1200,11 +1202,11 @@ branch26_words =
           (0x52ffffff, 0xfffffffffffefffc) ∷
           (0x51ffffff, 0xfffffffffffdfffc) ∷
           (0x52d12bc4, 0xffffffffff12d128) ∷
+          (0x50c36692, 0xfffffffffa48c364) ∷
           (0x52855851, 0x1468558) ∷
+          (0x53f5fae7, 0xfffffffffb9ff5f8) ∷
           (0x5221679e, 0xfffffffffe7a2164) ∷
-          (0x52e06251, 0xfffffffff946e060) ∷
-          (0x5219f9f2, 0x7ca19f8) ∷
-          (0x524f68e9, 0x3a64f68) ∷
+          (0x52c2da4a, 0xfffffffff92ac2d8) ∷
           [];
     }) ∷
     -- bl
@@ -1267,11 +1269,11 @@ branch26_words =
           (0x56ffffff, 0xfffffffffffefffc) ∷
           (0x55ffffff, 0xfffffffffffdfffc) ∷
           (0x56cac3ae, 0xfffffffffebacac0) ∷
+          (0x5467ebf7, 0xffffffffffdc67e8) ∷
           (0x567e8400, 0x27e84) ∷
+          (0x55f61ce5, 0x395f61c) ∷
           (0x5533f74d, 0xfffffffffd3533f4) ∷
-          (0x55b021ad, 0x6b5b020) ∷
-          (0x5466e56b, 0x5ac66e4) ∷
-          (0x559d865b, 0xfffffffff96d9d84) ∷
+          (0x56206fe0, 0xffffffffff82206c) ∷
           [];
     }) ∷
     []
@@ -1367,6 +1369,204 @@ call36_words =
     }) ∷
     []
 
+unfoldable pub reach_words : List Words
+reach_words =
+    -- pcaddu18i, jirl
+    (record {
+      unit = 1;
+      bits = 64;
+      rows =
+          (0x4c0001261e000009, 0x0) ∷
+          (0x4ffffdcb1fffffee, 0xfffffffffffbfffc) ∷
+          (0x4c0001861e00002c, 0x40000) ∷
+          (0x4c0003ab1e00005d, 0x80000) ∷
+          (0x4c0001be1e00008d, 0x100000) ∷
+          (0x4c0000691e000103, 0x200000) ∷
+          (0x4c0000971e000204, 0x400000) ∷
+          (0x4c00010c1e000408, 0x800000) ∷
+          (0x4c0000ad1e000805, 0x1000000) ∷
+          (0x4c0000d71e001006, 0x2000000) ∷
+          (0x4c00026b1e002013, 0x4000000) ∷
+          (0x4c0001c11e00400e, 0x8000000) ∷
+          (0x4c0000721e008003, 0x10000000) ∷
+          (0x4c00033f1e010019, 0x20000000) ∷
+          (0x4c0000ea1e020007, 0x40000000) ∷
+          (0x4c0002ef1e040017, 0x80000000) ∷
+          (0x4c0001af1e08000d, 0x100000000) ∷
+          (0x4c0002981e100014, 0x200000000) ∷
+          (0x4c0003d61e20001e, 0x400000000) ∷
+          (0x4c0003cc1e40001e, 0x800000000) ∷
+          (0x4c0003ce1e80001e, 0x1000000000) ∷
+          (0x4c0001241f000009, 0xffffffe000000000) ∷
+          (0x4c0007f21e00001f, 0x4) ∷
+          (0x4c0009d81e00000e, 0x8) ∷
+          (0x4c0011941e00000c, 0x10) ∷
+          (0x4c0022d81e000016, 0x20) ∷
+          (0x4c0043421e00001a, 0x40) ∷
+          (0x4c0082231e000011, 0x80) ∷
+          (0x4c0101971e00000c, 0x100) ∷
+          (0x4c0200df1e000006, 0x200) ∷
+          (0x4c0402c11e000016, 0x400) ∷
+          (0x4c0801fe1e00000f, 0x800) ∷
+          (0x4c10027c1e000013, 0x1000) ∷
+          (0x4c20021f1e000010, 0x2000) ∷
+          (0x4c4001461e00000a, 0x4000) ∷
+          (0x4c8001431e00000a, 0x8000) ∷
+          (0x4d00018b1e00000c, 0x10000) ∷
+          (0x4e0001d91e00000e, 0xfffffffffffe0000) ∷
+          (0x4ffffd7c1fffffcb, 0xfffffffffff7fffc) ∷
+          (0x4ffffd231fffffa9, 0xfffffffffff3fffc) ∷
+          (0x4ffffe301fffff71, 0xffffffffffebfffc) ∷
+          (0x4ffffdb21ffffeed, 0xffffffffffdbfffc) ∷
+          (0x4ffffe181ffffdf0, 0xffffffffffbbfffc) ∷
+          (0x4fffffd71ffffbfe, 0xffffffffff7bfffc) ∷
+          (0x4ffffdd21ffff7ee, 0xfffffffffefbfffc) ∷
+          (0x4fffff781fffeffb, 0xfffffffffdfbfffc) ∷
+          (0x4ffffcd91fffdfe6, 0xfffffffffbfbfffc) ∷
+          (0x4ffffede1fffbff6, 0xfffffffff7fbfffc) ∷
+          (0x4ffffcc71fff7fe6, 0xffffffffeffbfffc) ∷
+          (0x4ffffdf01ffeffef, 0xffffffffdffbfffc) ∷
+          (0x4ffffcab1ffdffe5, 0xffffffffbffbfffc) ∷
+          (0x4ffffd851ffbffec, 0xffffffff7ffbfffc) ∷
+          (0x4ffffde31ff7ffef, 0xfffffffefffbfffc) ∷
+          (0x4ffffec91feffff6, 0xfffffffdfffbfffc) ∷
+          (0x4ffffdcd1fdfffee, 0xfffffffbfffbfffc) ∷
+          (0x4fffff331fbffff9, 0xfffffff7fffbfffc) ∷
+          (0x4fffff1c1f7ffff8, 0xffffffeffffbfffc) ∷
+          (0x4ffffde31effffef, 0x1ffffbfffc) ∷
+          (0x4ffffb851ffffffc, 0xfffffffffffbfff8) ∷
+          (0x4ffff6d11ffffff6, 0xfffffffffffbfff4) ∷
+          (0x4fffee471ffffff2, 0xfffffffffffbffec) ∷
+          (0x4fffdd3a1fffffe9, 0xfffffffffffbffdc) ∷
+          (0x4fffbce21fffffe7, 0xfffffffffffbffbc) ∷
+          (0x4fff7ece1ffffff6, 0xfffffffffffbff7c) ∷
+          (0x4ffefdd21fffffee, 0xfffffffffffbfefc) ∷
+          (0x4ffdfc7a1fffffe3, 0xfffffffffffbfdfc) ∷
+          (0x4ffbff9b1ffffffc, 0xfffffffffffbfbfc) ∷
+          (0x4ff7ff671ffffffb, 0xfffffffffffbf7fc) ∷
+          (0x4feffe5a1ffffff2, 0xfffffffffffbeffc) ∷
+          (0x4fdffdfa1fffffef, 0xfffffffffffbdffc) ∷
+          (0x4fbffe2a1ffffff1, 0xfffffffffffbbffc) ∷
+          (0x4f7fff911ffffffc, 0xfffffffffffb7ffc) ∷
+          (0x4efffd3c1fffffe9, 0xfffffffffffafffc) ∷
+          (0x4dffffa91ffffffd, 0xfffffffffffdfffc) ∷
+          (0x4c73670b1ec7da38, 0x18fb447364) ∷
+          (0x4f0fbb4a1e77287a, 0xee50b0fb8) ∷
+          (0x4f9421a31e4e96cd, 0x9d2d79420) ∷
+          (0x4d1f0b361f47f7b9, 0xffffffe8fef51f08) ∷
+          (0x4dc7682d1e7e89e1, 0xfd13dc768) ∷
+          (0x4f9d87431f9b64fa, 0xfffffff36c9b9d84) ∷
+          [];
+    }) ∷
+    []
+
+unfoldable pub parts_words : List Words
+parts_words =
+    -- addi.d, lu32i.d, lu52i.d
+    (record {
+      unit = 1;
+      bits = 64;
+      rows =
+          (0x0300037b1600001b02c0001b, 0x0) ∷
+          (0x033ffe3117fffff102fffc11, 0xffffffffffffffff) ∷
+          (0x030001081600000802c00408, 0x1) ∷
+          (0x0300014a1600000a02c0080a, 0x2) ∷
+          (0x030001ad1600000d02c0100d, 0x4) ∷
+          (0x030002941600001402c02014, 0x8) ∷
+          (0x030003bd1600001d02c0401d, 0x10) ∷
+          (0x030002311600001102c08011, 0x20) ∷
+          (0x030000c61600000602c10006, 0x40) ∷
+          (0x0300014a1600000a02c2000a, 0x80) ∷
+          (0x030001081600000802c40008, 0x100) ∷
+          (0x0300037b1600001b02c8001b, 0x200) ∷
+          (0x030002941600001402d00014, 0x400) ∷
+          (0x030000a51600000502e00005, 0xfffff800) ∷
+          (0x030001ad1600002d02c0000d, 0x100000000) ∷
+          (0x030003181600005802c00018, 0x200000000) ∷
+          (0x030002941600009402c00014, 0x400000000) ∷
+          (0x0300035a1600011a02c0001a, 0x800000000) ∷
+          (0x030001ce1600020e02c0000e, 0x1000000000) ∷
+          (0x030001ef1600040f02c0000f, 0x2000000000) ∷
+          (0x030000c61600080602c00006, 0x4000000000) ∷
+          (0x0300037b1600101b02c0001b, 0x8000000000) ∷
+          (0x030003ff1600201f02c0001f, 0x10000000000) ∷
+          (0x0300016b1600400b02c0000b, 0x20000000000) ∷
+          (0x030002941600801402c00014, 0x40000000000) ∷
+          (0x0300014a1601000a02c0000a, 0x80000000000) ∷
+          (0x030001291602000902c00009, 0x100000000000) ∷
+          (0x030001291604000902c00009, 0x200000000000) ∷
+          (0x030000c61608000602c00006, 0x400000000000) ∷
+          (0x030003391610001902c00019, 0x800000000000) ∷
+          (0x030000c61620000602c00006, 0x1000000000000) ∷
+          (0x030000a51640000502c00005, 0x2000000000000) ∷
+          (0x030001291680000902c00009, 0x4000000000000) ∷
+          (0x0300014a1700000a02c0000a, 0x8000000000000) ∷
+          (0x030004841600000402c00004, 0x10000000000000) ∷
+          (0x03000b7b1600001b02c0001b, 0x20000000000000) ∷
+          (0x030012521600001202c00012, 0x40000000000000) ∷
+          (0x030020a51600000502c00005, 0x80000000000000) ∷
+          (0x030040841600000402c00004, 0x100000000000000) ∷
+          (0x030083de1600001e02c0001e, 0x200000000000000) ∷
+          (0x030102311600001102c00011, 0x400000000000000) ∷
+          (0x0302018c1600000c02c0000c, 0x800000000000000) ∷
+          (0x030401ad1600000d02c0000d, 0x1000000000000000) ∷
+          (0x030803bd1600001d02c0001d, 0x2000000000000000) ∷
+          (0x031002101600001002c00010, 0x4000000000000000) ∷
+          (0x0320014a1600000a02c0000a, 0x8000000000000000) ∷
+          (0x033fff1817fffff802fff818, 0xfffffffffffffffe) ∷
+          (0x033fff7b17fffffb02fff41b, 0xfffffffffffffffd) ∷
+          (0x033ffdce17ffffee02ffec0e, 0xfffffffffffffffb) ∷
+          (0x033fff5a17fffffa02ffdc1a, 0xfffffffffffffff7) ∷
+          (0x033fffbd17fffffd02ffbc1d, 0xffffffffffffffef) ∷
+          (0x033fff1817fffff802ff7c18, 0xffffffffffffffdf) ∷
+          (0x033ffe9417fffff402fefc14, 0xffffffffffffffbf) ∷
+          (0x033ffd0817ffffe802fdfc08, 0xffffffffffffff7f) ∷
+          (0x033ffd8c17ffffec02fbfc0c, 0xfffffffffffffeff) ∷
+          (0x033ffdef17ffffef02f7fc0f, 0xfffffffffffffdff) ∷
+          (0x033fff5a17fffffa02effc1a, 0xfffffffffffffbff) ∷
+          (0x033ffed617fffff602dffc16, 0xffffffff000007ff) ∷
+          (0x033ffe9417ffffd402fffc14, 0xfffffffeffffffff) ∷
+          (0x033ffce717ffffa702fffc07, 0xfffffffdffffffff) ∷
+          (0x033ffce717ffff6702fffc07, 0xfffffffbffffffff) ∷
+          (0x033ffca517fffee502fffc05, 0xfffffff7ffffffff) ∷
+          (0x033fff7b17fffdfb02fffc1b, 0xffffffefffffffff) ∷
+          (0x033ffdef17fffbef02fffc0f, 0xffffffdfffffffff) ∷
+          (0x033ffdef17fff7ef02fffc0f, 0xffffffbfffffffff) ∷
+          (0x033ffd0817ffefe802fffc08, 0xffffff7fffffffff) ∷
+          (0x033ffc6317ffdfe302fffc03, 0xfffffeffffffffff) ∷
+          (0x033ffe5217ffbff202fffc12, 0xfffffdffffffffff) ∷
+          (0x033ffed617ff7ff602fffc16, 0xfffffbffffffffff) ∷
+          (0x033ffca517feffe502fffc05, 0xfffff7ffffffffff) ∷
+          (0x033ffc2117fdffe102fffc01, 0xffffefffffffffff) ∷
+          (0x033fff3917fbfff902fffc19, 0xffffdfffffffffff) ∷
+          (0x033ffc2117f7ffe102fffc01, 0xffffbfffffffffff) ∷
+          (0x033ffd8c17efffec02fffc0c, 0xffff7fffffffffff) ∷
+          (0x033ffd4a17dfffea02fffc0a, 0xfffeffffffffffff) ∷
+          (0x033fff1817bffff802fffc18, 0xfffdffffffffffff) ∷
+          (0x033ffd29177fffe902fffc09, 0xfffbffffffffffff) ∷
+          (0x033fff1816fffff802fffc18, 0xfff7ffffffffffff) ∷
+          (0x033ffbde17fffffe02fffc1e, 0xffefffffffffffff) ∷
+          (0x033ff7de17fffffe02fffc1e, 0xffdfffffffffffff) ∷
+          (0x033feca517ffffe502fffc05, 0xffbfffffffffffff) ∷
+          (0x033fdd4a17ffffea02fffc0a, 0xff7fffffffffffff) ∷
+          (0x033fbd6b17ffffeb02fffc0b, 0xfeffffffffffffff) ∷
+          (0x033f7cc617ffffe602fffc06, 0xfdffffffffffffff) ∷
+          (0x033efc4217ffffe202fffc02, 0xfbffffffffffffff) ∷
+          (0x033dff1817fffff802fffc18, 0xf7ffffffffffffff) ∷
+          (0x033bfc6317ffffe302fffc03, 0xefffffffffffffff) ∷
+          (0x0337fe9417fffff402fffc14, 0xdfffffffffffffff) ∷
+          (0x032fff1817fffff802fffc18, 0xbfffffffffffffff) ∷
+          (0x031ffd8c17ffffec02fffc0c, 0x7fffffffffffffff) ∷
+          (0x0316e3de1742a61e02f8fc1e, 0x5b8a1530fffffe3f) ∷
+          (0x0319eca5166e116502dfc005, 0x67b3708b000007f0) ∷
+          (0x0326627317b45a5302f22413, 0x998da2d2fffffc89) ∷
+          (0x03188294162d589402f61414, 0x62016ac4fffffd85) ∷
+          (0x0323ea73177232f302ff1413, 0x8fab9197ffffffc5) ∷
+          (0x0314096b1672224b02dc9c0b, 0x5023911200000727) ∷
+          [];
+    }) ∷
+    []
+
 -- What is read of the words is what came of them.
 abbrev pub Agrees : Type 0
 Agrees =
@@ -1376,3 +1576,5 @@ Agrees =
     × IsComputed (loongarch_form Branch21).machine branch21_words
     × IsComputed (loongarch_form Branch26).machine branch26_words
     × IsComputed (loongarch_form Call36).machine call36_words
+    × IsComputed reach reach_words
+    × IsComputed parts_number parts_words

@@ -7,6 +7,7 @@ use Rattle.linker_utils.specs.declared.ppc64.forms.Ppc64Instruction.TheVariants.
 use Rattle.linker_utils.specs.declared.ppc64.forms.Ppc64Instruction.TheVariants.{Branch24}
 use Rattle.linker_utils.specs.declared.ppc64.forms.Ppc64Instruction.TheVariants.{Prefixed}
 use Rattle.linker_utils.specs.Relocate.{ppc64_reads}
+use Rattle.emulated.specs.Sequences.{halves_number}
 use Rattle.emulated.specs.Emulated.{Words, IsComputed}
 
 unfoldable pub d_words : List Words
@@ -16,46 +17,46 @@ d_words =
       unit = 1;
       bits = 64;
       rows =
-          (0x38930000, 0x0) ∷
-          (0x3a23ffff, 0xffffffffffffffff) ∷
-          (0x38710001, 0x1) ∷
-          (0x3be60002, 0x2) ∷
-          (0x38e50004, 0x4) ∷
-          (0x3a920008, 0x8) ∷
-          (0x38b10010, 0x10) ∷
-          (0x3b380020, 0x20) ∷
-          (0x38ec0040, 0x40) ∷
-          (0x38650080, 0x80) ∷
-          (0x3a8d0100, 0x100) ∷
-          (0x3b130200, 0x200) ∷
-          (0x39c40400, 0x400) ∷
-          (0x3baa0800, 0x800) ∷
-          (0x3a0f1000, 0x1000) ∷
-          (0x3bcb2000, 0x2000) ∷
-          (0x38764000, 0x4000) ∷
-          (0x39128000, 0xffffffffffff8000) ∷
-          (0x3b7ffffe, 0xfffffffffffffffe) ∷
-          (0x3933fffd, 0xfffffffffffffffd) ∷
-          (0x3ba5fffb, 0xfffffffffffffffb) ∷
-          (0x39dafff7, 0xfffffffffffffff7) ∷
-          (0x3a4affef, 0xffffffffffffffef) ∷
-          (0x3ad5ffdf, 0xffffffffffffffdf) ∷
-          (0x3a3affbf, 0xffffffffffffffbf) ∷
-          (0x3a1cff7f, 0xffffffffffffff7f) ∷
-          (0x3972feff, 0xfffffffffffffeff) ∷
-          (0x3919fdff, 0xfffffffffffffdff) ∷
-          (0x3a65fbff, 0xfffffffffffffbff) ∷
-          (0x3be8f7ff, 0xfffffffffffff7ff) ∷
-          (0x3be6efff, 0xffffffffffffefff) ∷
-          (0x38fbdfff, 0xffffffffffffdfff) ∷
-          (0x3952bfff, 0xffffffffffffbfff) ∷
-          (0x3abf7fff, 0x7fff) ∷
-          (0x3945bdde, 0xffffffffffffbdde) ∷
-          (0x3ba5c5a5, 0xffffffffffffc5a5) ∷
-          (0x3b269607, 0xffffffffffff9607) ∷
-          (0x3ba8bdc5, 0xffffffffffffbdc5) ∷
-          (0x39f0345e, 0x345e) ∷
-          (0x3a5bfeac, 0xfffffffffffffeac) ∷
+          (0x38a60000, 0x0) ∷
+          (0x3a7affff, 0xffffffffffffffff) ∷
+          (0x3a460001, 0x1) ∷
+          (0x3ab30002, 0x2) ∷
+          (0x394e0004, 0x4) ∷
+          (0x3a1b0008, 0x8) ∷
+          (0x38900010, 0x10) ∷
+          (0x39c70020, 0x20) ∷
+          (0x38980040, 0x40) ∷
+          (0x39900080, 0x80) ∷
+          (0x38a60100, 0x100) ∷
+          (0x39b20200, 0x200) ∷
+          (0x3ac80400, 0x400) ∷
+          (0x39540800, 0x800) ∷
+          (0x3a891000, 0x1000) ∷
+          (0x39502000, 0x2000) ∷
+          (0x397d4000, 0x4000) ∷
+          (0x38e38000, 0xffffffffffff8000) ∷
+          (0x3b17fffe, 0xfffffffffffffffe) ∷
+          (0x3a35fffd, 0xfffffffffffffffd) ∷
+          (0x3b65fffb, 0xfffffffffffffffb) ∷
+          (0x3aaefff7, 0xfffffffffffffff7) ∷
+          (0x38d3ffef, 0xffffffffffffffef) ∷
+          (0x3b92ffdf, 0xffffffffffffffdf) ∷
+          (0x38b7ffbf, 0xffffffffffffffbf) ∷
+          (0x3a5cff7f, 0xffffffffffffff7f) ∷
+          (0x3b1dfeff, 0xfffffffffffffeff) ∷
+          (0x3a6ffdff, 0xfffffffffffffdff) ∷
+          (0x39bafbff, 0xfffffffffffffbff) ∷
+          (0x38c8f7ff, 0xfffffffffffff7ff) ∷
+          (0x3afcefff, 0xffffffffffffefff) ∷
+          (0x3bb6dfff, 0xffffffffffffdfff) ∷
+          (0x38a3bfff, 0xffffffffffffbfff) ∷
+          (0x3a5f7fff, 0x7fff) ∷
+          (0x3a58bdde, 0xffffffffffffbdde) ∷
+          (0x3bcb16d6, 0x16d6) ∷
+          (0x3959c5a5, 0xffffffffffffc5a5) ∷
+          (0x393d6116, 0x6116) ∷
+          (0x39f09607, 0xffffffffffff9607) ∷
+          (0x3a5ba205, 0xffffffffffffa205) ∷
           [];
     }) ∷
     -- addis
@@ -63,24 +64,24 @@ d_words =
       unit = 2 ^ 16;
       bits = 64;
       rows =
-          (0x3f8e0000, 0x0) ∷
-          (0x3e5fffff, 0xffffffffffff0000) ∷
-          (0x3cd50001, 0x10000) ∷
-          (0x3e590002, 0x20000) ∷
-          (0x3eac0004, 0x40000) ∷
-          (0x3e3e0008, 0x80000) ∷
-          (0x3de40010, 0x100000) ∷
-          (0x3e7a0020, 0x200000) ∷
-          (0x3f6f0040, 0x400000) ∷
-          (0x3eba0080, 0x800000) ∷
-          (0x3eb70100, 0x1000000) ∷
-          (0x3d1a0200, 0x2000000) ∷
-          (0x3d0d0400, 0x4000000) ∷
-          (0x3eb80800, 0x8000000) ∷
-          (0x3f711000, 0x10000000) ∷
-          (0x3fdc2000, 0x20000000) ∷
-          (0x3e964000, 0x40000000) ∷
-          (0x3f528000, 0xffffffff80000000) ∷
+          (0x3c940000, 0x0) ∷
+          (0x3e0affff, 0xffffffffffff0000) ∷
+          (0x3ca90001, 0x10000) ∷
+          (0x3dab0002, 0x20000) ∷
+          (0x3f360004, 0x40000) ∷
+          (0x3fc60008, 0x80000) ∷
+          (0x3c9e0010, 0x100000) ∷
+          (0x3e850020, 0x200000) ∷
+          (0x3f3e0040, 0x400000) ∷
+          (0x3d170080, 0x800000) ∷
+          (0x3c9d0100, 0x1000000) ∷
+          (0x3d2e0200, 0x2000000) ∷
+          (0x3fe80400, 0x4000000) ∷
+          (0x3e550800, 0x8000000) ∷
+          (0x3d251000, 0x10000000) ∷
+          (0x3fb12000, 0x20000000) ∷
+          (0x3db44000, 0x40000000) ∷
+          (0x3d9a8000, 0xffffffff80000000) ∷
           (0x3fe7fffe, 0xfffffffffffe0000) ∷
           (0x3ebefffd, 0xfffffffffffd0000) ∷
           (0x3f76fffb, 0xfffffffffffb0000) ∷
@@ -98,11 +99,11 @@ d_words =
           (0x3f5dbfff, 0xffffffffbfff0000) ∷
           (0x3f4c7fff, 0x7fff0000) ∷
           (0x3eaf6e9b, 0x6e9b0000) ∷
-          (0x3d4c00eb, 0xeb0000) ∷
-          (0x3cd681b4, 0xffffffff81b40000) ∷
-          (0x3e091e30, 0x1e300000) ∷
-          (0x3d6e2802, 0x28020000) ∷
-          (0x3c8ad80d, 0xffffffffd80d0000) ∷
+          (0x3d4ca43e, 0xffffffffa43e0000) ∷
+          (0x3cd600eb, 0xeb0000) ∷
+          (0x3e092b60, 0x2b600000) ∷
+          (0x3d6e81b4, 0xffffffff81b40000) ∷
+          (0x3c8ad5c5, 0xffffffffd5c50000) ∷
           [];
     }) ∷
     -- lbz
@@ -110,46 +111,46 @@ d_words =
       unit = 1;
       bits = 64;
       rows =
-          (0x8bea0000, 0x0) ∷
-          (0x8a7bffff, 0xffffffffffffffff) ∷
-          (0x8b6f0001, 0x1) ∷
-          (0x8b880002, 0x2) ∷
-          (0x89120004, 0x4) ∷
-          (0x89510008, 0x8) ∷
-          (0x892d0010, 0x10) ∷
-          (0x89e50020, 0x20) ∷
-          (0x88780040, 0x40) ∷
-          (0x8a140080, 0x80) ∷
-          (0x8a590100, 0x100) ∷
-          (0x8b4e0200, 0x200) ∷
-          (0x8a1c0400, 0x400) ∷
-          (0x89aa0800, 0x800) ∷
-          (0x8b551000, 0x1000) ∷
-          (0x89312000, 0x2000) ∷
-          (0x8bb54000, 0x4000) ∷
-          (0x8b1b8000, 0xffffffffffff8000) ∷
-          (0x8a15fffe, 0xfffffffffffffffe) ∷
-          (0x88d6fffd, 0xfffffffffffffffd) ∷
-          (0x8a5bfffb, 0xfffffffffffffffb) ∷
-          (0x8a0cfff7, 0xfffffffffffffff7) ∷
-          (0x8a07ffef, 0xffffffffffffffef) ∷
-          (0x8afaffdf, 0xffffffffffffffdf) ∷
-          (0x8a9bffbf, 0xffffffffffffffbf) ∷
-          (0x8b10ff7f, 0xffffffffffffff7f) ∷
-          (0x89bbfeff, 0xfffffffffffffeff) ∷
-          (0x88eefdff, 0xfffffffffffffdff) ∷
-          (0x8b97fbff, 0xfffffffffffffbff) ∷
-          (0x8b04f7ff, 0xfffffffffffff7ff) ∷
-          (0x8aceefff, 0xffffffffffffefff) ∷
-          (0x895fdfff, 0xffffffffffffdfff) ∷
-          (0x8ad2bfff, 0xffffffffffffbfff) ∷
-          (0x89387fff, 0x7fff) ∷
-          (0x8930c789, 0xffffffffffffc789) ∷
+          (0x8aff0000, 0x0) ∷
+          (0x8a38ffff, 0xffffffffffffffff) ∷
+          (0x8b760001, 0x1) ∷
+          (0x8b6f0002, 0x2) ∷
+          (0x8b880004, 0x4) ∷
+          (0x89120008, 0x8) ∷
+          (0x89510010, 0x10) ∷
+          (0x892d0020, 0x20) ∷
+          (0x89e50040, 0x40) ∷
+          (0x88780080, 0x80) ∷
+          (0x8a140100, 0x100) ∷
+          (0x8a590200, 0x200) ∷
+          (0x8b4e0400, 0x400) ∷
+          (0x8a1c0800, 0x800) ∷
+          (0x89aa1000, 0x1000) ∷
+          (0x8b552000, 0x2000) ∷
+          (0x89314000, 0x4000) ∷
+          (0x8bb58000, 0xffffffffffff8000) ∷
+          (0x8b1bfffe, 0xfffffffffffffffe) ∷
+          (0x8a15fffd, 0xfffffffffffffffd) ∷
+          (0x88d6fffb, 0xfffffffffffffffb) ∷
+          (0x8a5bfff7, 0xfffffffffffffff7) ∷
+          (0x8a0cffef, 0xffffffffffffffef) ∷
+          (0x8a07ffdf, 0xffffffffffffffdf) ∷
+          (0x8afaffbf, 0xffffffffffffffbf) ∷
+          (0x8a9bff7f, 0xffffffffffffff7f) ∷
+          (0x8b10feff, 0xfffffffffffffeff) ∷
+          (0x89bbfdff, 0xfffffffffffffdff) ∷
+          (0x88eefbff, 0xfffffffffffffbff) ∷
+          (0x8b97f7ff, 0xfffffffffffff7ff) ∷
+          (0x8b04efff, 0xffffffffffffefff) ∷
+          (0x8acedfff, 0xffffffffffffdfff) ∷
+          (0x895fbfff, 0xffffffffffffbfff) ∷
+          (0x8ad27fff, 0x7fff) ∷
+          (0x8938c789, 0xffffffffffffc789) ∷
+          (0x8930f8f1, 0xfffffffffffff8f1) ∷
           (0x899b9fda, 0xffffffffffff9fda) ∷
-          (0x8a667f3f, 0x7f3f) ∷
-          (0x887579a7, 0x79a7) ∷
-          (0x89ae17cd, 0x17cd) ∷
-          (0x887c1c0a, 0x1c0a) ∷
+          (0x8a66a994, 0xffffffffffffa994) ∷
+          (0x88757f3f, 0x7f3f) ∷
+          (0x89aeef5b, 0xffffffffffffef5b) ∷
           [];
     }) ∷
     -- lhz
@@ -157,30 +158,30 @@ d_words =
       unit = 1;
       bits = 64;
       rows =
-          (0xa25f0000, 0x0) ∷
-          (0xa347ffff, 0xffffffffffffffff) ∷
-          (0xa2970001, 0x1) ∷
-          (0xa14f0002, 0x2) ∷
-          (0xa10a0004, 0x4) ∷
-          (0xa3b60008, 0x8) ∷
-          (0xa1ea0010, 0x10) ∷
-          (0xa0cb0020, 0x20) ∷
-          (0xa2700040, 0x40) ∷
-          (0xa33e0080, 0x80) ∷
-          (0xa3b50100, 0x100) ∷
-          (0xa2370200, 0x200) ∷
-          (0xa11d0400, 0x400) ∷
-          (0xa07a0800, 0x800) ∷
-          (0xa06d1000, 0x1000) ∷
-          (0xa32d2000, 0x2000) ∷
-          (0xa0784000, 0x4000) ∷
-          (0xa3068000, 0xffffffffffff8000) ∷
-          (0xa36afffe, 0xfffffffffffffffe) ∷
-          (0xa23cfffd, 0xfffffffffffffffd) ∷
-          (0xa166fffb, 0xfffffffffffffffb) ∷
-          (0xa3f2fff7, 0xfffffffffffffff7) ∷
-          (0xa3eeffef, 0xffffffffffffffef) ∷
-          (0xa3b8ffdf, 0xffffffffffffffdf) ∷
+          (0xa3d90000, 0x0) ∷
+          (0xa276ffff, 0xffffffffffffffff) ∷
+          (0xa1e60001, 0x1) ∷
+          (0xa2050002, 0x2) ∷
+          (0xa1c80004, 0x4) ∷
+          (0xa3b90008, 0x8) ∷
+          (0xa0d20010, 0x10) ∷
+          (0xa3ae0020, 0x20) ∷
+          (0xa0780040, 0x40) ∷
+          (0xa1f90080, 0x80) ∷
+          (0xa1470100, 0x100) ∷
+          (0xa3130200, 0x200) ∷
+          (0xa3ba0400, 0x400) ∷
+          (0xa2ed0800, 0x800) ∷
+          (0xa0ac1000, 0x1000) ∷
+          (0xa2e92000, 0x2000) ∷
+          (0xa1e94000, 0x4000) ∷
+          (0xa2f88000, 0xffffffffffff8000) ∷
+          (0xa2b8fffe, 0xfffffffffffffffe) ∷
+          (0xa25ffffd, 0xfffffffffffffffd) ∷
+          (0xa19cfffb, 0xfffffffffffffffb) ∷
+          (0xa203fff7, 0xfffffffffffffff7) ∷
+          (0xa22fffef, 0xffffffffffffffef) ∷
+          (0xa085ffdf, 0xffffffffffffffdf) ∷
           (0xa0a3ffbf, 0xffffffffffffffbf) ∷
           (0xa0ecff7f, 0xffffffffffffff7f) ∷
           (0xa38bfeff, 0xfffffffffffffeff) ∷
@@ -192,11 +193,11 @@ d_words =
           (0xa28bbfff, 0xffffffffffffbfff) ∷
           (0xa3077fff, 0x7fff) ∷
           (0xa3e67973, 0x7973) ∷
-          (0xa279e866, 0xffffffffffffe866) ∷
-          (0xa1c82fe1, 0x2fe1) ∷
-          (0xa0a81c9b, 0x1c9b) ∷
-          (0xa2bfdeab, 0xffffffffffffdeab) ∷
-          (0xa07c70d1, 0x70d1) ∷
+          (0xa2790a83, 0xa83) ∷
+          (0xa1c8e866, 0xffffffffffffe866) ∷
+          (0xa0a8ecc5, 0xffffffffffffecc5) ∷
+          (0xa2bf2fe1, 0x2fe1) ∷
+          (0xa07c4e69, 0x4e69) ∷
           [];
     }) ∷
     -- lha
@@ -204,16 +205,16 @@ d_words =
       unit = 1;
       bits = 64;
       rows =
-          (0xab0d0000, 0x0) ∷
-          (0xaaecffff, 0xffffffffffffffff) ∷
-          (0xaaae0001, 0x1) ∷
-          (0xab1c0002, 0x2) ∷
-          (0xaaa30004, 0x4) ∷
-          (0xaa830008, 0x8) ∷
-          (0xabaf0010, 0x10) ∷
-          (0xa8a80020, 0x20) ∷
-          (0xabbc0040, 0x40) ∷
-          (0xabdd0080, 0x80) ∷
+          (0xaa990000, 0x0) ∷
+          (0xab9affff, 0xffffffffffffffff) ∷
+          (0xa9e70001, 0x1) ∷
+          (0xa97a0002, 0x2) ∷
+          (0xa9a40004, 0x4) ∷
+          (0xab8c0008, 0x8) ∷
+          (0xab040010, 0x10) ∷
+          (0xa9b90020, 0x20) ∷
+          (0xaafc0040, 0x40) ∷
+          (0xa9280080, 0x80) ∷
           (0xa8dc0100, 0x100) ∷
           (0xab5f0200, 0x200) ∷
           (0xab330400, 0x400) ∷
@@ -239,11 +240,11 @@ d_words =
           (0xa8f5bfff, 0xffffffffffffbfff) ∷
           (0xa92a7fff, 0x7fff) ∷
           (0xa9b17621, 0x7621) ∷
-          (0xa9d2548f, 0x548f) ∷
-          (0xaaac888e, 0xffffffffffff888e) ∷
-          (0xa8b857c5, 0x57c5) ∷
-          (0xa8b02d64, 0x2d64) ∷
-          (0xaa7c1576, 0x1576) ∷
+          (0xa9d28bbc, 0xffffffffffff8bbc) ∷
+          (0xaaac548f, 0x548f) ∷
+          (0xa8b8a8af, 0xffffffffffffa8af) ∷
+          (0xa8b0888e, 0xffffffffffff888e) ∷
+          (0xaa7c6465, 0x6465) ∷
           [];
     }) ∷
     -- lwz
@@ -251,8 +252,8 @@ d_words =
       unit = 1;
       bits = 64;
       rows =
-          (0x83760000, 0x0) ∷
-          (0x815affff, 0xffffffffffffffff) ∷
+          (0x82170000, 0x0) ∷
+          (0x80aaffff, 0xffffffffffffffff) ∷
           (0x83df0001, 0x1) ∷
           (0x82650002, 0x2) ∷
           (0x82a70004, 0x4) ∷
@@ -286,11 +287,11 @@ d_words =
           (0x813dbfff, 0xffffffffffffbfff) ∷
           (0x817c7fff, 0x7fff) ∷
           (0x83f20945, 0x945) ∷
-          (0x824b942b, 0xffffffffffff942b) ∷
-          (0x813b95cc, 0xffffffffffff95cc) ∷
-          (0x818f9e1a, 0xffffffffffff9e1a) ∷
-          (0x817142c9, 0x42c9) ∷
-          (0x8286a73f, 0xffffffffffffa73f) ∷
+          (0x824be984, 0xffffffffffffe984) ∷
+          (0x813b942b, 0xffffffffffff942b) ∷
+          (0x818f3394, 0x3394) ∷
+          (0x817195cc, 0xffffffffffff95cc) ∷
+          (0x82860320, 0x320) ∷
           [];
     }) ∷
     -- stb
@@ -298,46 +299,46 @@ d_words =
       unit = 1;
       bits = 64;
       rows =
-          (0x9b330000, 0x0) ∷
-          (0x99b8ffff, 0xffffffffffffffff) ∷
-          (0x9b270001, 0x1) ∷
-          (0x9a950002, 0x2) ∷
-          (0x99c80004, 0x4) ∷
-          (0x99b60008, 0x8) ∷
-          (0x9a540010, 0x10) ∷
-          (0x99de0020, 0x20) ∷
-          (0x9aee0040, 0x40) ∷
-          (0x9abd0080, 0x80) ∷
-          (0x98c30100, 0x100) ∷
-          (0x9ab40200, 0x200) ∷
-          (0x9a9c0400, 0x400) ∷
-          (0x9a6f0800, 0x800) ∷
-          (0x991f1000, 0x1000) ∷
-          (0x988b2000, 0x2000) ∷
-          (0x98ac4000, 0x4000) ∷
-          (0x998b8000, 0xffffffffffff8000) ∷
-          (0x9bdbfffe, 0xfffffffffffffffe) ∷
-          (0x9a44fffd, 0xfffffffffffffffd) ∷
-          (0x9865fffb, 0xfffffffffffffffb) ∷
-          (0x9876fff7, 0xfffffffffffffff7) ∷
-          (0x9aa4ffef, 0xffffffffffffffef) ∷
-          (0x99acffdf, 0xffffffffffffffdf) ∷
-          (0x98b3ffbf, 0xffffffffffffffbf) ∷
-          (0x9a9dff7f, 0xffffffffffffff7f) ∷
-          (0x9966feff, 0xfffffffffffffeff) ∷
-          (0x9acffdff, 0xfffffffffffffdff) ∷
-          (0x9ae4fbff, 0xfffffffffffffbff) ∷
-          (0x9bb3f7ff, 0xfffffffffffff7ff) ∷
-          (0x9aa5efff, 0xffffffffffffefff) ∷
-          (0x9b43dfff, 0xffffffffffffdfff) ∷
-          (0x98debfff, 0xffffffffffffbfff) ∷
-          (0x9b1a7fff, 0x7fff) ∷
-          (0x9874d3dd, 0xffffffffffffd3dd) ∷
-          (0x9a1570c8, 0x70c8) ∷
-          (0x99270df9, 0xdf9) ∷
-          (0x99d22b21, 0x2b21) ∷
-          (0x996d2b46, 0x2b46) ∷
-          (0x9a0d5b0c, 0x5b0c) ∷
+          (0x9a320000, 0x0) ∷
+          (0x9a2dffff, 0xffffffffffffffff) ∷
+          (0x9a690001, 0x1) ∷
+          (0x9b1a0002, 0x2) ∷
+          (0x98fa0004, 0x4) ∷
+          (0x9abd0008, 0x8) ∷
+          (0x991c0010, 0x10) ∷
+          (0x9adc0020, 0x20) ∷
+          (0x9a860040, 0x40) ∷
+          (0x9bd50080, 0x80) ∷
+          (0x99c70100, 0x100) ∷
+          (0x9bba0200, 0x200) ∷
+          (0x987f0400, 0x400) ∷
+          (0x9a9d0800, 0x800) ∷
+          (0x9b861000, 0x1000) ∷
+          (0x99f52000, 0x2000) ∷
+          (0x9be54000, 0x4000) ∷
+          (0x99708000, 0xffffffffffff8000) ∷
+          (0x9985fffe, 0xfffffffffffffffe) ∷
+          (0x9970fffd, 0xfffffffffffffffd) ∷
+          (0x9b7afffb, 0xfffffffffffffffb) ∷
+          (0x989ffff7, 0xfffffffffffffff7) ∷
+          (0x98b8ffef, 0xffffffffffffffef) ∷
+          (0x9ac8ffdf, 0xffffffffffffffdf) ∷
+          (0x9b3cffbf, 0xffffffffffffffbf) ∷
+          (0x9ba3ff7f, 0xffffffffffffff7f) ∷
+          (0x98a6feff, 0xfffffffffffffeff) ∷
+          (0x992bfdff, 0xfffffffffffffdff) ∷
+          (0x99bcfbff, 0xfffffffffffffbff) ∷
+          (0x990ff7ff, 0xfffffffffffff7ff) ∷
+          (0x9a0fefff, 0xffffffffffffefff) ∷
+          (0x9a46dfff, 0xffffffffffffdfff) ∷
+          (0x9a54bfff, 0xffffffffffffbfff) ∷
+          (0x99667fff, 0x7fff) ∷
+          (0x9a58d3dd, 0xffffffffffffd3dd) ∷
+          (0x98839687, 0xffffffffffff9687) ∷
+          (0x999070c8, 0x70c8) ∷
+          (0x99a9b374, 0xffffffffffffb374) ∷
+          (0x9b2e0df9, 0xdf9) ∷
+          (0x996d2dcb, 0x2dcb) ∷
           [];
     }) ∷
     -- stw
@@ -345,46 +346,46 @@ d_words =
       unit = 1;
       bits = 64;
       rows =
-          (0x921a0000, 0x0) ∷
-          (0x91b3ffff, 0xffffffffffffffff) ∷
-          (0x91060001, 0x1) ∷
-          (0x90b30002, 0x2) ∷
-          (0x93e70004, 0x4) ∷
-          (0x92490008, 0x8) ∷
-          (0x93e40010, 0x10) ∷
-          (0x93c60020, 0x20) ∷
-          (0x90af0040, 0x40) ∷
-          (0x926b0080, 0x80) ∷
-          (0x93740100, 0x100) ∷
-          (0x91180200, 0x200) ∷
-          (0x938a0400, 0x400) ∷
-          (0x93fc0800, 0x800) ∷
-          (0x935e1000, 0x1000) ∷
-          (0x90ab2000, 0x2000) ∷
-          (0x91904000, 0x4000) ∷
-          (0x90b68000, 0xffffffffffff8000) ∷
-          (0x9315fffe, 0xfffffffffffffffe) ∷
-          (0x926afffd, 0xfffffffffffffffd) ∷
-          (0x90fafffb, 0xfffffffffffffffb) ∷
-          (0x92dcfff7, 0xfffffffffffffff7) ∷
-          (0x907effef, 0xffffffffffffffef) ∷
-          (0x9175ffdf, 0xffffffffffffffdf) ∷
-          (0x939dffbf, 0xffffffffffffffbf) ∷
-          (0x92c4ff7f, 0xffffffffffffff7f) ∷
-          (0x9264feff, 0xfffffffffffffeff) ∷
-          (0x93b9fdff, 0xfffffffffffffdff) ∷
-          (0x90a9fbff, 0xfffffffffffffbff) ∷
-          (0x90aff7ff, 0xfffffffffffff7ff) ∷
-          (0x90eaefff, 0xffffffffffffefff) ∷
-          (0x9092dfff, 0xffffffffffffdfff) ∷
-          (0x9158bfff, 0xffffffffffffbfff) ∷
-          (0x92467fff, 0x7fff) ∷
-          (0x923f8e52, 0xffffffffffff8e52) ∷
-          (0x9110b1f5, 0xffffffffffffb1f5) ∷
+          (0x91c60000, 0x0) ∷
+          (0x9070ffff, 0xffffffffffffffff) ∷
+          (0x92990001, 0x1) ∷
+          (0x91880002, 0x2) ∷
+          (0x92850004, 0x4) ∷
+          (0x927a0008, 0x8) ∷
+          (0x90f60010, 0x10) ∷
+          (0x913e0020, 0x20) ∷
+          (0x90950040, 0x40) ∷
+          (0x93c60080, 0x80) ∷
+          (0x90af0100, 0x100) ∷
+          (0x926b0200, 0x200) ∷
+          (0x93740400, 0x400) ∷
+          (0x91180800, 0x800) ∷
+          (0x938a1000, 0x1000) ∷
+          (0x93fc2000, 0x2000) ∷
+          (0x935e4000, 0x4000) ∷
+          (0x90ab8000, 0xffffffffffff8000) ∷
+          (0x9190fffe, 0xfffffffffffffffe) ∷
+          (0x90b6fffd, 0xfffffffffffffffd) ∷
+          (0x9315fffb, 0xfffffffffffffffb) ∷
+          (0x926afff7, 0xfffffffffffffff7) ∷
+          (0x90faffef, 0xffffffffffffffef) ∷
+          (0x92dcffdf, 0xffffffffffffffdf) ∷
+          (0x907effbf, 0xffffffffffffffbf) ∷
+          (0x9175ff7f, 0xffffffffffffff7f) ∷
+          (0x939dfeff, 0xfffffffffffffeff) ∷
+          (0x92c4fdff, 0xfffffffffffffdff) ∷
+          (0x9264fbff, 0xfffffffffffffbff) ∷
+          (0x93b9f7ff, 0xfffffffffffff7ff) ∷
+          (0x90a9efff, 0xffffffffffffefff) ∷
+          (0x90afdfff, 0xffffffffffffdfff) ∷
+          (0x90eabfff, 0xffffffffffffbfff) ∷
+          (0x90927fff, 0x7fff) ∷
+          (0x91588e52, 0xffffffffffff8e52) ∷
+          (0x9246c2c1, 0xffffffffffffc2c1) ∷
+          (0x923fb1f5, 0xffffffffffffb1f5) ∷
+          (0x91108ed5, 0xffffffffffff8ed5) ∷
           (0x925f3475, 0x3475) ∷
-          (0x906de722, 0xffffffffffffe722) ∷
-          (0x93b6af18, 0xffffffffffffaf18) ∷
-          (0x92fa39e7, 0x39e7) ∷
+          (0x906d5f5f, 0x5f5f) ∷
           [];
     }) ∷
     -- ori
@@ -392,46 +393,46 @@ d_words =
       unit = 1;
       bits = 16;
       rows =
-          (0x62250000, 0x0) ∷
-          (0x617affff, 0xffff) ∷
-          (0x638a0001, 0x1) ∷
-          (0x609b0002, 0x2) ∷
-          (0x60a70004, 0x4) ∷
-          (0x61cf0008, 0x8) ∷
-          (0x63330010, 0x10) ∷
-          (0x62d10020, 0x20) ∷
-          (0x61100040, 0x40) ∷
-          (0x62490080, 0x80) ∷
-          (0x633a0100, 0x100) ∷
-          (0x61a90200, 0x200) ∷
-          (0x61d20400, 0x400) ∷
-          (0x609d0800, 0x800) ∷
-          (0x61d41000, 0x1000) ∷
-          (0x61902000, 0x2000) ∷
-          (0x63984000, 0x4000) ∷
-          (0x61398000, 0x8000) ∷
-          (0x62d8fffe, 0xfffe) ∷
-          (0x6183fffd, 0xfffd) ∷
-          (0x6243fffb, 0xfffb) ∷
-          (0x6079fff7, 0xfff7) ∷
-          (0x62e6ffef, 0xffef) ∷
-          (0x6130ffdf, 0xffdf) ∷
-          (0x61dcffbf, 0xffbf) ∷
-          (0x6267ff7f, 0xff7f) ∷
-          (0x6098feff, 0xfeff) ∷
-          (0x60cdfdff, 0xfdff) ∷
-          (0x610dfbff, 0xfbff) ∷
-          (0x60faf7ff, 0xf7ff) ∷
-          (0x6132efff, 0xefff) ∷
-          (0x6139dfff, 0xdfff) ∷
-          (0x6270bfff, 0xbfff) ∷
-          (0x619d7fff, 0x7fff) ∷
-          (0x60875bef, 0x5bef) ∷
+          (0x612c0000, 0x0) ∷
+          (0x62b1ffff, 0xffff) ∷
+          (0x630b0001, 0x1) ∷
+          (0x607c0002, 0x2) ∷
+          (0x609b0004, 0x4) ∷
+          (0x60a70008, 0x8) ∷
+          (0x61cf0010, 0x10) ∷
+          (0x63330020, 0x20) ∷
+          (0x62d10040, 0x40) ∷
+          (0x61100080, 0x80) ∷
+          (0x62490100, 0x100) ∷
+          (0x633a0200, 0x200) ∷
+          (0x61a90400, 0x400) ∷
+          (0x61d20800, 0x800) ∷
+          (0x609d1000, 0x1000) ∷
+          (0x61d42000, 0x2000) ∷
+          (0x61904000, 0x4000) ∷
+          (0x63988000, 0x8000) ∷
+          (0x6139fffe, 0xfffe) ∷
+          (0x62d8fffd, 0xfffd) ∷
+          (0x6183fffb, 0xfffb) ∷
+          (0x6243fff7, 0xfff7) ∷
+          (0x6079ffef, 0xffef) ∷
+          (0x62e6ffdf, 0xffdf) ∷
+          (0x6130ffbf, 0xffbf) ∷
+          (0x61dcff7f, 0xff7f) ∷
+          (0x6267feff, 0xfeff) ∷
+          (0x6098fdff, 0xfdff) ∷
+          (0x60cdfbff, 0xfbff) ∷
+          (0x610df7ff, 0xf7ff) ∷
+          (0x60faefff, 0xefff) ∷
+          (0x6132dfff, 0xdfff) ∷
+          (0x6139bfff, 0xbfff) ∷
+          (0x62707fff, 0x7fff) ∷
+          (0x619d5bef, 0x5bef) ∷
+          (0x608712c5, 0x12c5) ∷
           (0x62ba534e, 0x534e) ∷
-          (0x620902bc, 0x2bc) ∷
-          (0x61ea3ae1, 0x3ae1) ∷
-          (0x60f3c0d3, 0xc0d3) ∷
-          (0x61849c6d, 0x9c6d) ∷
+          (0x62096194, 0x6194) ∷
+          (0x61ea02bc, 0x2bc) ∷
+          (0x60f34661, 0x4661) ∷
           [];
     }) ∷
     []
@@ -443,46 +444,46 @@ ds_words =
       unit = 1;
       bits = 64;
       rows =
-          (0xe90f0000, 0x0) ∷
-          (0xe94efffc, 0xfffffffffffffffc) ∷
-          (0xe8cd0004, 0x4) ∷
-          (0xeb150008, 0x8) ∷
-          (0xe8760010, 0x10) ∷
-          (0xeb730020, 0x20) ∷
-          (0xe96c0040, 0x40) ∷
-          (0xeb7e0080, 0x80) ∷
-          (0xea5b0100, 0x100) ∷
-          (0xe8680200, 0x200) ∷
-          (0xe94c0400, 0x400) ∷
-          (0xe96a0800, 0x800) ∷
-          (0xeb0c1000, 0x1000) ∷
-          (0xe8bc2000, 0x2000) ∷
-          (0xe9b64000, 0x4000) ∷
-          (0xe97d8000, 0xffffffffffff8000) ∷
-          (0xea93fff8, 0xfffffffffffffff8) ∷
-          (0xeb8bfff4, 0xfffffffffffffff4) ∷
-          (0xe91effec, 0xffffffffffffffec) ∷
-          (0xe9f1ffdc, 0xffffffffffffffdc) ∷
-          (0xeab2ffbc, 0xffffffffffffffbc) ∷
-          (0xe9edff7c, 0xffffffffffffff7c) ∷
-          (0xe91ffefc, 0xfffffffffffffefc) ∷
-          (0xe8defdfc, 0xfffffffffffffdfc) ∷
-          (0xea7efbfc, 0xfffffffffffffbfc) ∷
-          (0xebeef7fc, 0xfffffffffffff7fc) ∷
-          (0xeaa5effc, 0xffffffffffffeffc) ∷
-          (0xeae7dffc, 0xffffffffffffdffc) ∷
-          (0xe8c7bffc, 0xffffffffffffbffc) ∷
-          (0xeab67ffc, 0x7ffc) ∷
-          (0xe9be4184, 0x4184) ∷
+          (0xe8ab0000, 0x0) ∷
+          (0xe9edfffc, 0xfffffffffffffffc) ∷
+          (0xe9d60004, 0x4) ∷
+          (0xe8cd0008, 0x8) ∷
+          (0xeb150010, 0x10) ∷
+          (0xe8760020, 0x20) ∷
+          (0xeb730040, 0x40) ∷
+          (0xe96c0080, 0x80) ∷
+          (0xeb7e0100, 0x100) ∷
+          (0xea5b0200, 0x200) ∷
+          (0xe8680400, 0x400) ∷
+          (0xe94c0800, 0x800) ∷
+          (0xe96a1000, 0x1000) ∷
+          (0xeb0c2000, 0x2000) ∷
+          (0xe8bc4000, 0x4000) ∷
+          (0xe9b68000, 0xffffffffffff8000) ∷
+          (0xe97dfff8, 0xfffffffffffffff8) ∷
+          (0xea93fff4, 0xfffffffffffffff4) ∷
+          (0xeb8bffec, 0xffffffffffffffec) ∷
+          (0xe91effdc, 0xffffffffffffffdc) ∷
+          (0xe9f1ffbc, 0xffffffffffffffbc) ∷
+          (0xeab2ff7c, 0xffffffffffffff7c) ∷
+          (0xe9edfefc, 0xfffffffffffffefc) ∷
+          (0xe91ffdfc, 0xfffffffffffffdfc) ∷
+          (0xe8defbfc, 0xfffffffffffffbfc) ∷
+          (0xea7ef7fc, 0xfffffffffffff7fc) ∷
+          (0xebeeeffc, 0xffffffffffffeffc) ∷
+          (0xeaa5dffc, 0xffffffffffffdffc) ∷
+          (0xeae7bffc, 0xffffffffffffbffc) ∷
+          (0xe8c77ffc, 0x7ffc) ∷
+          (0xeab64184, 0x4184) ∷
+          (0xe9be01f0, 0x1f0) ∷
           (0xe8912668, 0x2668) ∷
-          (0xea2fef8c, 0xffffffffffffef8c) ∷
-          (0xe88e7370, 0x7370) ∷
-          (0xea0f172c, 0x172c) ∷
-          (0xe97963e4, 0x63e4) ∷
-          (0xe95f5528, 0x5528) ∷
-          (0xe88810f4, 0x10f4) ∷
-          (0xe8f6841c, 0xffffffffffff841c) ∷
-          (0xe8ee3850, 0x3850) ∷
+          (0xea2ff09c, 0xfffffffffffff09c) ∷
+          (0xe88eef8c, 0xffffffffffffef8c) ∷
+          (0xea0f3e7c, 0x3e7c) ∷
+          (0xe9797370, 0x7370) ∷
+          (0xe95f1d80, 0x1d80) ∷
+          (0xe888172c, 0x172c) ∷
+          (0xe8f67ef0, 0x7ef0) ∷
           [];
     }) ∷
     -- lwa
@@ -490,46 +491,46 @@ ds_words =
       unit = 1;
       bits = 64;
       rows =
-          (0xeb890002, 0x0) ∷
-          (0xeac8fffe, 0xfffffffffffffffc) ∷
-          (0xe8ff0006, 0x4) ∷
-          (0xe954000a, 0x8) ∷
-          (0xea960012, 0x10) ∷
-          (0xe8650022, 0x20) ∷
-          (0xebb40042, 0x40) ∷
-          (0xe88a0082, 0x80) ∷
-          (0xebf00102, 0x100) ∷
-          (0xebb80202, 0x200) ∷
-          (0xe95d0402, 0x400) ∷
-          (0xeb720802, 0x800) ∷
-          (0xe9e41002, 0x1000) ∷
-          (0xe8f52002, 0x2000) ∷
-          (0xe9904002, 0x4000) ∷
-          (0xea768002, 0xffffffffffff8000) ∷
-          (0xeb2dfffa, 0xfffffffffffffff8) ∷
-          (0xe874fff6, 0xfffffffffffffff4) ∷
-          (0xe8acffee, 0xffffffffffffffec) ∷
-          (0xe9e4ffde, 0xffffffffffffffdc) ∷
-          (0xea9dffbe, 0xffffffffffffffbc) ∷
-          (0xea36ff7e, 0xffffffffffffff7c) ∷
-          (0xe93dfefe, 0xfffffffffffffefc) ∷
-          (0xeb34fdfe, 0xfffffffffffffdfc) ∷
-          (0xea49fbfe, 0xfffffffffffffbfc) ∷
-          (0xeb25f7fe, 0xfffffffffffff7fc) ∷
-          (0xeaaceffe, 0xffffffffffffeffc) ∷
-          (0xe8ffdffe, 0xffffffffffffdffc) ∷
-          (0xe964bffe, 0xffffffffffffbffc) ∷
-          (0xebeb7ffe, 0x7ffc) ∷
-          (0xeb2c3b6a, 0x3b68) ∷
+          (0xea240002, 0x0) ∷
+          (0xeb89fffe, 0xfffffffffffffffc) ∷
+          (0xeac80006, 0x4) ∷
+          (0xe8ff000a, 0x8) ∷
+          (0xe9540012, 0x10) ∷
+          (0xea960022, 0x20) ∷
+          (0xe8650042, 0x40) ∷
+          (0xebb40082, 0x80) ∷
+          (0xe88a0102, 0x100) ∷
+          (0xebf00202, 0x200) ∷
+          (0xebb80402, 0x400) ∷
+          (0xe95d0802, 0x800) ∷
+          (0xeb721002, 0x1000) ∷
+          (0xe9e42002, 0x2000) ∷
+          (0xe8f54002, 0x4000) ∷
+          (0xe9908002, 0xffffffffffff8000) ∷
+          (0xea76fffa, 0xfffffffffffffff8) ∷
+          (0xeb2dfff6, 0xfffffffffffffff4) ∷
+          (0xe874ffee, 0xffffffffffffffec) ∷
+          (0xe8acffde, 0xffffffffffffffdc) ∷
+          (0xe9e4ffbe, 0xffffffffffffffbc) ∷
+          (0xea9dff7e, 0xffffffffffffff7c) ∷
+          (0xea36fefe, 0xfffffffffffffefc) ∷
+          (0xe93dfdfe, 0xfffffffffffffdfc) ∷
+          (0xeb34fbfe, 0xfffffffffffffbfc) ∷
+          (0xea49f7fe, 0xfffffffffffff7fc) ∷
+          (0xeb25effe, 0xffffffffffffeffc) ∷
+          (0xeaacdffe, 0xffffffffffffdffc) ∷
+          (0xe8ffbffe, 0xffffffffffffbffc) ∷
+          (0xe9647ffe, 0x7ffc) ∷
+          (0xebeb3b6a, 0x3b68) ∷
+          (0xeb2c3aca, 0x3ac8) ∷
           (0xea14f556, 0xfffffffffffff554) ∷
-          (0xea4e0956, 0x954) ∷
-          (0xe89eddb6, 0xffffffffffffddb4) ∷
-          (0xe9f0f5ae, 0xfffffffffffff5ac) ∷
-          (0xea4ba972, 0xffffffffffffa970) ∷
-          (0xe94f07b6, 0x7b4) ∷
-          (0xea3e4a42, 0x4a40) ∷
-          (0xe9f7103a, 0x1038) ∷
-          (0xe97b2786, 0x2784) ∷
+          (0xea4e7bb2, 0x7bb0) ∷
+          (0xe89e0956, 0x954) ∷
+          (0xe9f0305a, 0x3058) ∷
+          (0xea4bddb6, 0xffffffffffffddb4) ∷
+          (0xe94f40ea, 0x40e8) ∷
+          (0xea3ef5ae, 0xfffffffffffff5ac) ∷
+          (0xe9f71042, 0x1040) ∷
           [];
     }) ∷
     -- std
@@ -537,46 +538,46 @@ ds_words =
       unit = 1;
       bits = 64;
       rows =
-          (0xfa3b0000, 0x0) ∷
-          (0xf9a6fffc, 0xfffffffffffffffc) ∷
-          (0xf95b0004, 0x4) ∷
-          (0xfb310008, 0x8) ∷
-          (0xfa750010, 0x10) ∷
-          (0xfae80020, 0x20) ∷
-          (0xfaea0040, 0x40) ∷
-          (0xf8f90080, 0x80) ∷
-          (0xfa0f0100, 0x100) ∷
-          (0xf91b0200, 0x200) ∷
-          (0xf8870400, 0x400) ∷
-          (0xfb530800, 0x800) ∷
-          (0xf8c31000, 0x1000) ∷
-          (0xfa352000, 0x2000) ∷
-          (0xfb784000, 0x4000) ∷
-          (0xfbcf8000, 0xffffffffffff8000) ∷
-          (0xf9e6fff8, 0xfffffffffffffff8) ∷
-          (0xfb15fff4, 0xfffffffffffffff4) ∷
-          (0xfa3affec, 0xffffffffffffffec) ∷
-          (0xfbc6ffdc, 0xffffffffffffffdc) ∷
-          (0xfb69ffbc, 0xffffffffffffffbc) ∷
-          (0xf8cbff7c, 0xffffffffffffff7c) ∷
-          (0xfadafefc, 0xfffffffffffffefc) ∷
-          (0xfaf8fdfc, 0xfffffffffffffdfc) ∷
-          (0xfb59fbfc, 0xfffffffffffffbfc) ∷
-          (0xf92ff7fc, 0xfffffffffffff7fc) ∷
-          (0xfb03effc, 0xffffffffffffeffc) ∷
-          (0xf9c3dffc, 0xffffffffffffdffc) ∷
-          (0xf989bffc, 0xffffffffffffbffc) ∷
-          (0xfbee7ffc, 0x7ffc) ∷
-          (0xfbb19e30, 0xffffffffffff9e30) ∷
-          (0xf9b2a61c, 0xffffffffffffa61c) ∷
+          (0xf97c0000, 0x0) ∷
+          (0xfb8ffffc, 0xfffffffffffffffc) ∷
+          (0xfad30004, 0x4) ∷
+          (0xf8c80008, 0x8) ∷
+          (0xf8d60010, 0x10) ∷
+          (0xfb630020, 0x20) ∷
+          (0xfa2b0040, 0x40) ∷
+          (0xfaac0080, 0x80) ∷
+          (0xf91c0100, 0x100) ∷
+          (0xf9500200, 0x200) ∷
+          (0xfb370400, 0x400) ∷
+          (0xf9f80800, 0x800) ∷
+          (0xfb7a1000, 0x1000) ∷
+          (0xf8ef2000, 0x2000) ∷
+          (0xfa674000, 0x4000) ∷
+          (0xfb2f8000, 0xffffffffffff8000) ∷
+          (0xf928fff8, 0xfffffffffffffff8) ∷
+          (0xfa70fff4, 0xfffffffffffffff4) ∷
+          (0xf9e9ffec, 0xffffffffffffffec) ∷
+          (0xfbd1ffdc, 0xffffffffffffffdc) ∷
+          (0xfaffffbc, 0xffffffffffffffbc) ∷
+          (0xfabdff7c, 0xffffffffffffff7c) ∷
+          (0xf8ccfefc, 0xfffffffffffffefc) ∷
+          (0xfa38fdfc, 0xfffffffffffffdfc) ∷
+          (0xf9f1fbfc, 0xfffffffffffffbfc) ∷
+          (0xf957f7fc, 0xfffffffffffff7fc) ∷
+          (0xf87aeffc, 0xffffffffffffeffc) ∷
+          (0xf8c9dffc, 0xffffffffffffdffc) ∷
+          (0xf978bffc, 0xffffffffffffbffc) ∷
+          (0xf86e7ffc, 0x7ffc) ∷
+          (0xf9ec9e30, 0xffffffffffff9e30) ∷
+          (0xfb7f9ac0, 0xffffffffffff9ac0) ∷
+          (0xfb3da61c, 0xffffffffffffa61c) ∷
+          (0xf90d88ec, 0xffffffffffff88ec) ∷
           (0xfa320428, 0x428) ∷
-          (0xf91c77f8, 0x77f8) ∷
-          (0xfb33979c, 0xffffffffffff979c) ∷
-          (0xfbf15070, 0x5070) ∷
-          (0xf8e89a24, 0xffffffffffff9a24) ∷
-          (0xf87d2bbc, 0x2bbc) ∷
-          (0xfb88bcf0, 0xffffffffffffbcf0) ∷
-          (0xf8ddb150, 0xffffffffffffb150) ∷
+          (0xf91ce06c, 0xffffffffffffe06c) ∷
+          (0xfb3377f8, 0x77f8) ∷
+          (0xfbf14920, 0x4920) ∷
+          (0xf8e8979c, 0xffffffffffff979c) ∷
+          (0xf87d2894, 0x2894) ∷
           [];
     }) ∷
     []
@@ -588,10 +589,10 @@ dq_words =
       unit = 1;
       bits = 64;
       rows =
-          (0xf40a0001, 0x0) ∷
-          (0xf40cfff1, 0xfffffffffffffff0) ∷
-          (0xf4170011, 0x10) ∷
-          (0xf4150021, 0x20) ∷
+          (0xf4070001, 0x0) ∷
+          (0xf41bfff1, 0xfffffffffffffff0) ∷
+          (0xf4110011, 0x10) ∷
+          (0xf4080021, 0x20) ∷
           (0xf40f0041, 0x40) ∷
           (0xf4120081, 0x80) ∷
           (0xf4130101, 0x100) ∷
@@ -615,19 +616,19 @@ dq_words =
           (0xf413bff1, 0xffffffffffffbff0) ∷
           (0xf40b7ff1, 0x7ff0) ∷
           (0xf4146091, 0x6090) ∷
-          (0xf413c461, 0xffffffffffffc460) ∷
-          (0xf40acc51, 0xffffffffffffcc50) ∷
-          (0xf41f5151, 0x5150) ∷
-          (0xf41dd3a1, 0xffffffffffffd3a0) ∷
-          (0xf4089851, 0xffffffffffff9850) ∷
-          (0xf4090091, 0x90) ∷
-          (0xf405b3d1, 0xffffffffffffb3d0) ∷
-          (0xf4159981, 0xffffffffffff9980) ∷
-          (0xf4053d31, 0x3d30) ∷
-          (0xf40390e1, 0xffffffffffff90e0) ∷
-          (0xf40a2dc1, 0x2dc0) ∷
-          (0xf40eff81, 0xffffffffffffff80) ∷
-          (0xf41692e1, 0xffffffffffff92e0) ∷
+          (0xf4135f61, 0x5f60) ∷
+          (0xf40ac461, 0xffffffffffffc460) ∷
+          (0xf41f29d1, 0x29d0) ∷
+          (0xf41dcc51, 0xffffffffffffcc50) ∷
+          (0xf4085151, 0x5150) ∷
+          (0xf409dc21, 0xffffffffffffdc20) ∷
+          (0xf405d3a1, 0xffffffffffffd3a0) ∷
+          (0xf4154051, 0x4050) ∷
+          (0xf4059851, 0xffffffffffff9850) ∷
+          (0xf403cf51, 0xffffffffffffcf50) ∷
+          (0xf40a0091, 0x90) ∷
+          (0xf40e8e91, 0xffffffffffff8e90) ∷
+          (0xf416b3d1, 0xffffffffffffb3d0) ∷
           [];
     }) ∷
     []
@@ -639,46 +640,46 @@ branch14_words =
       unit = 1;
       bits = 64;
       rows =
-          (0x429f0000, 0x0) ∷
-          (0x428cfffc, 0xfffffffffffffffc) ∷
-          (0x42830004, 0x4) ∷
-          (0x42830009, 0x8) ∷
-          (0x428a0011, 0x10) ∷
-          (0x428e0020, 0x20) ∷
-          (0x428b0040, 0x40) ∷
-          (0x42800081, 0x80) ∷
-          (0x42990101, 0x100) ∷
-          (0x42930201, 0x200) ∷
-          (0x42950401, 0x400) ∷
-          (0x42870800, 0x800) ∷
-          (0x429c1000, 0x1000) ∷
-          (0x429d2000, 0x2000) ∷
-          (0x429c4001, 0x4000) ∷
-          (0x42948000, 0xffffffffffff8000) ∷
-          (0x4284fff9, 0xfffffffffffffff8) ∷
-          (0x4284fff5, 0xfffffffffffffff4) ∷
-          (0x4283ffec, 0xffffffffffffffec) ∷
-          (0x4298ffdc, 0xffffffffffffffdc) ∷
-          (0x4299ffbd, 0xffffffffffffffbc) ∷
-          (0x428fff7c, 0xffffffffffffff7c) ∷
-          (0x428ffefc, 0xfffffffffffffefc) ∷
-          (0x428ffdfc, 0xfffffffffffffdfc) ∷
-          (0x429efbfc, 0xfffffffffffffbfc) ∷
-          (0x429ff7fc, 0xfffffffffffff7fc) ∷
-          (0x4292effd, 0xffffffffffffeffc) ∷
-          (0x428edffc, 0xffffffffffffdffc) ∷
-          (0x428ebffc, 0xffffffffffffbffc) ∷
-          (0x42907ffd, 0x7ffc) ∷
-          (0x428d4239, 0x4238) ∷
-          (0x4295ad98, 0xffffffffffffad98) ∷
-          (0x428e514d, 0x514c) ∷
+          (0x42860000, 0x0) ∷
+          (0x4289fffd, 0xfffffffffffffffc) ∷
+          (0x428f0004, 0x4) ∷
+          (0x429f0008, 0x8) ∷
+          (0x428c0010, 0x10) ∷
+          (0x42830020, 0x20) ∷
+          (0x42830041, 0x40) ∷
+          (0x428a0081, 0x80) ∷
+          (0x428e0100, 0x100) ∷
+          (0x428b0200, 0x200) ∷
+          (0x42800401, 0x400) ∷
+          (0x42990801, 0x800) ∷
+          (0x42931001, 0x1000) ∷
+          (0x42952001, 0x2000) ∷
+          (0x42874000, 0x4000) ∷
+          (0x429c8000, 0xffffffffffff8000) ∷
+          (0x429dfff8, 0xfffffffffffffff8) ∷
+          (0x429cfff5, 0xfffffffffffffff4) ∷
+          (0x4294ffec, 0xffffffffffffffec) ∷
+          (0x4284ffdd, 0xffffffffffffffdc) ∷
+          (0x4284ffbd, 0xffffffffffffffbc) ∷
+          (0x4283ff7c, 0xffffffffffffff7c) ∷
+          (0x4298fefc, 0xfffffffffffffefc) ∷
+          (0x4299fdfd, 0xfffffffffffffdfc) ∷
+          (0x428ffbfc, 0xfffffffffffffbfc) ∷
+          (0x428ff7fc, 0xfffffffffffff7fc) ∷
+          (0x428feffc, 0xffffffffffffeffc) ∷
+          (0x429edffc, 0xffffffffffffdffc) ∷
+          (0x429fbffc, 0xffffffffffffbffc) ∷
+          (0x42927ffd, 0x7ffc) ∷
+          (0x428e4238, 0x4238) ∷
+          (0x428ea874, 0xffffffffffffa874) ∷
+          (0x4290ad99, 0xffffffffffffad98) ∷
+          (0x428d0b11, 0xb10) ∷
+          (0x4295514c, 0x514c) ∷
+          (0x428e5015, 0x5014) ∷
           (0x42991128, 0x1128) ∷
-          (0x4281f691, 0xfffffffffffff690) ∷
-          (0x4295d361, 0xffffffffffffd360) ∷
-          (0x42847578, 0x7578) ∷
-          (0x4297ccc0, 0xffffffffffffccc0) ∷
-          (0x42874e58, 0x4e58) ∷
-          (0x429c521d, 0x521c) ∷
+          (0x42815839, 0x5838) ∷
+          (0x4295f691, 0xfffffffffffff690) ∷
+          (0x4284a20c, 0xffffffffffffa20c) ∷
           [];
     }) ∷
     -- bc, if set
@@ -686,46 +687,46 @@ branch14_words =
       unit = 1;
       bits = 64;
       rows =
-          (0x41800001, 0x0) ∷
-          (0x4190fffd, 0xfffffffffffffffc) ∷
-          (0x41900005, 0x4) ∷
-          (0x41970008, 0x8) ∷
-          (0x419e0011, 0x10) ∷
-          (0x41960020, 0x20) ∷
-          (0x418b0040, 0x40) ∷
-          (0x41920080, 0x80) ∷
-          (0x419e0101, 0x100) ∷
-          (0x41970200, 0x200) ∷
-          (0x41860400, 0x400) ∷
-          (0x41980801, 0x800) ∷
-          (0x41871000, 0x1000) ∷
-          (0x41862001, 0x2000) ∷
-          (0x41944000, 0x4000) ∷
-          (0x418f8001, 0xffffffffffff8000) ∷
-          (0x418bfff8, 0xfffffffffffffff8) ∷
-          (0x4193fff4, 0xfffffffffffffff4) ∷
-          (0x4186ffed, 0xffffffffffffffec) ∷
-          (0x4197ffdc, 0xffffffffffffffdc) ∷
-          (0x418fffbd, 0xffffffffffffffbc) ∷
-          (0x4199ff7d, 0xffffffffffffff7c) ∷
-          (0x418afefc, 0xfffffffffffffefc) ∷
-          (0x4197fdfd, 0xfffffffffffffdfc) ∷
-          (0x4183fbfc, 0xfffffffffffffbfc) ∷
-          (0x418ef7fd, 0xfffffffffffff7fc) ∷
-          (0x418aeffd, 0xffffffffffffeffc) ∷
-          (0x4199dffd, 0xffffffffffffdffc) ∷
-          (0x4186bffd, 0xffffffffffffbffc) ∷
-          (0x41867ffc, 0x7ffc) ∷
-          (0x41961285, 0x1284) ∷
-          (0x419236e0, 0x36e0) ∷
-          (0x41877225, 0x7224) ∷
+          (0x41870000, 0x0) ∷
+          (0x4199fffc, 0xfffffffffffffffc) ∷
+          (0x418a0004, 0x4) ∷
+          (0x418b0008, 0x8) ∷
+          (0x419d0010, 0x10) ∷
+          (0x41900021, 0x20) ∷
+          (0x41970040, 0x40) ∷
+          (0x419e0081, 0x80) ∷
+          (0x41960100, 0x100) ∷
+          (0x418b0200, 0x200) ∷
+          (0x41920400, 0x400) ∷
+          (0x419e0801, 0x800) ∷
+          (0x41971000, 0x1000) ∷
+          (0x41862000, 0x2000) ∷
+          (0x41984001, 0x4000) ∷
+          (0x41878000, 0xffffffffffff8000) ∷
+          (0x4186fff9, 0xfffffffffffffff8) ∷
+          (0x4194fff4, 0xfffffffffffffff4) ∷
+          (0x418fffed, 0xffffffffffffffec) ∷
+          (0x418bffdc, 0xffffffffffffffdc) ∷
+          (0x4193ffbc, 0xffffffffffffffbc) ∷
+          (0x4186ff7d, 0xffffffffffffff7c) ∷
+          (0x4197fefc, 0xfffffffffffffefc) ∷
+          (0x418ffdfd, 0xfffffffffffffdfc) ∷
+          (0x4199fbfd, 0xfffffffffffffbfc) ∷
+          (0x418af7fc, 0xfffffffffffff7fc) ∷
+          (0x4197effd, 0xffffffffffffeffc) ∷
+          (0x4183dffc, 0xffffffffffffdffc) ∷
+          (0x418ebffd, 0xffffffffffffbffc) ∷
+          (0x418a7ffd, 0x7ffc) ∷
+          (0x41991285, 0x1284) ∷
+          (0x4186a185, 0xffffffffffffa184) ∷
+          (0x418636e0, 0x36e0) ∷
+          (0x419638c1, 0x38c0) ∷
+          (0x41927224, 0x7224) ∷
+          (0x41879625, 0xffffffffffff9624) ∷
           (0x4195eca1, 0xffffffffffffeca0) ∷
-          (0x41935835, 0x5834) ∷
-          (0x41969b21, 0xffffffffffff9b20) ∷
-          (0x419b373d, 0x373c) ∷
-          (0x419860e8, 0x60e8) ∷
-          (0x418f2fac, 0x2fac) ∷
-          (0x41894159, 0x4158) ∷
+          (0x419326b5, 0x26b4) ∷
+          (0x41965835, 0x5834) ∷
+          (0x419b05c9, 0x5c8) ∷
           [];
     }) ∷
     -- bc, if clear
@@ -733,46 +734,46 @@ branch14_words =
       unit = 1;
       bits = 64;
       rows =
-          (0x40990001, 0x0) ∷
-          (0x4089fffd, 0xfffffffffffffffc) ∷
-          (0x40940005, 0x4) ∷
-          (0x40800009, 0x8) ∷
-          (0x409d0010, 0x10) ∷
-          (0x40940021, 0x20) ∷
-          (0x40970041, 0x40) ∷
-          (0x40870081, 0x80) ∷
-          (0x40880100, 0x100) ∷
-          (0x40900201, 0x200) ∷
-          (0x40990400, 0x400) ∷
-          (0x408b0800, 0x800) ∷
-          (0x40951001, 0x1000) ∷
-          (0x40992000, 0x2000) ∷
-          (0x40864000, 0x4000) ∷
-          (0x408e8000, 0xffffffffffff8000) ∷
-          (0x4085fff8, 0xfffffffffffffff8) ∷
-          (0x4093fff5, 0xfffffffffffffff4) ∷
-          (0x4097ffed, 0xffffffffffffffec) ∷
-          (0x4086ffdc, 0xffffffffffffffdc) ∷
-          (0x4098ffbc, 0xffffffffffffffbc) ∷
-          (0x4092ff7d, 0xffffffffffffff7c) ∷
-          (0x408cfefd, 0xfffffffffffffefc) ∷
-          (0x4084fdfd, 0xfffffffffffffdfc) ∷
-          (0x4087fbfc, 0xfffffffffffffbfc) ∷
-          (0x408bf7fd, 0xfffffffffffff7fc) ∷
-          (0x408aeffd, 0xffffffffffffeffc) ∷
-          (0x409ddffd, 0xffffffffffffdffc) ∷
-          (0x4085bffc, 0xffffffffffffbffc) ∷
-          (0x40947ffc, 0x7ffc) ∷
-          (0x409a83f5, 0xffffffffffff83f4) ∷
-          (0x408bdec5, 0xffffffffffffdec4) ∷
+          (0x40970001, 0x0) ∷
+          (0x408ffffc, 0xfffffffffffffffc) ∷
+          (0x408e0005, 0x4) ∷
+          (0x40890009, 0x8) ∷
+          (0x40940011, 0x10) ∷
+          (0x40800021, 0x20) ∷
+          (0x409d0040, 0x40) ∷
+          (0x40940081, 0x80) ∷
+          (0x40970101, 0x100) ∷
+          (0x40870201, 0x200) ∷
+          (0x40880400, 0x400) ∷
+          (0x40900801, 0x800) ∷
+          (0x40991000, 0x1000) ∷
+          (0x408b2000, 0x2000) ∷
+          (0x40954001, 0x4000) ∷
+          (0x40998000, 0xffffffffffff8000) ∷
+          (0x4086fff8, 0xfffffffffffffff8) ∷
+          (0x408efff4, 0xfffffffffffffff4) ∷
+          (0x4085ffec, 0xffffffffffffffec) ∷
+          (0x4093ffdd, 0xffffffffffffffdc) ∷
+          (0x4097ffbd, 0xffffffffffffffbc) ∷
+          (0x4086ff7c, 0xffffffffffffff7c) ∷
+          (0x4098fefc, 0xfffffffffffffefc) ∷
+          (0x4092fdfd, 0xfffffffffffffdfc) ∷
+          (0x408cfbfd, 0xfffffffffffffbfc) ∷
+          (0x4084f7fd, 0xfffffffffffff7fc) ∷
+          (0x4087effc, 0xffffffffffffeffc) ∷
+          (0x408bdffd, 0xffffffffffffdffc) ∷
+          (0x408abffd, 0xffffffffffffbffc) ∷
+          (0x409d7ffd, 0x7ffc) ∷
+          (0x408583f4, 0xffffffffffff83f4) ∷
+          (0x409432f8, 0x32f8) ∷
+          (0x409adec5, 0xffffffffffffdec4) ∷
+          (0x408b1f99, 0x1f98) ∷
           (0x4082f91c, 0xfffffffffffff91c) ∷
-          (0x40909280, 0xffffffffffff9280) ∷
-          (0x409ed500, 0xffffffffffffd500) ∷
-          (0x4086ebac, 0xffffffffffffebac) ∷
-          (0x40943ec1, 0x3ec0) ∷
-          (0x4087ee18, 0xffffffffffffee18) ∷
-          (0x408f7f9c, 0x7f9c) ∷
-          (0x408e6af9, 0x6af8) ∷
+          (0x4090dfe0, 0xffffffffffffdfe0) ∷
+          (0x409e9280, 0xffffffffffff9280) ∷
+          (0x4086e59c, 0xffffffffffffe59c) ∷
+          (0x4094d501, 0xffffffffffffd500) ∷
+          (0x4087084c, 0x84c) ∷
           [];
     }) ∷
     []
@@ -835,11 +836,11 @@ branch24_words =
           (0x4afffffc, 0xfffffffffefffffc) ∷
           (0x49fffffc, 0x1fffffc) ∷
           (0x4a5a0fb4, 0xfffffffffe5a0fb4) ∷
+          (0x4bd5d4e0, 0xffffffffffd5d4e0) ∷
           (0x4bc00a8c, 0xffffffffffc00a8c) ∷
+          (0x48a998b4, 0xa998b4) ∷
           (0x49c71fd0, 0x1c71fd0) ∷
-          (0x4841a194, 0x41a194) ∷
-          (0x4ada4bec, 0xfffffffffeda4bec) ∷
-          (0x48639ec0, 0x639ec0) ∷
+          (0x4993b71c, 0x193b71c) ∷
           [];
     }) ∷
     -- bl
@@ -898,11 +899,11 @@ branch24_words =
           (0x4afffffd, 0xfffffffffefffffc) ∷
           (0x49fffffd, 0x1fffffc) ∷
           (0x4b37d3ad, 0xffffffffff37d3ac) ∷
+          (0x48888cb1, 0x888cb0) ∷
           (0x4a039555, 0xfffffffffe039554) ∷
+          (0x4b0ffd55, 0xffffffffff0ffd54) ∷
           (0x493100a1, 0x13100a0) ∷
-          (0x496790d5, 0x16790d4) ∷
-          (0x4bf5fcf9, 0xfffffffffff5fcf8) ∷
-          (0x482240f1, 0x2240f0) ∷
+          (0x4bf1c23d, 0xfffffffffff1c23c) ∷
           [];
     }) ∷
     []
@@ -1077,6 +1078,89 @@ prefixed_words =
     }) ∷
     []
 
+unfoldable pub halves_words : List Words
+halves_words =
+    -- addis, addi
+    (record {
+      unit = 1;
+      bits = 64;
+      rows =
+          (0x39b300003e710000, 0x0) ∷
+          (0x3b79ffff3f2cffff, 0xfffffffffffeffff) ∷
+          (0x3b0300003c650001, 0x10000) ∷
+          (0x393400003e8e0002, 0x20000) ∷
+          (0x399a00003f5b0004, 0x40000) ∷
+          (0x3a2500003cbd0008, 0x80000) ∷
+          (0x3a9800003f0e0010, 0x100000) ∷
+          (0x3a7c00003f840020, 0x200000) ∷
+          (0x3aeb00003d710040, 0x400000) ∷
+          (0x3a6500003ca40080, 0x800000) ∷
+          (0x386e00003dd90100, 0x1000000) ∷
+          (0x387000003e0a0200, 0x2000000) ∷
+          (0x3bd000003e060400, 0x4000000) ∷
+          (0x38d200003e4c0800, 0x8000000) ∷
+          (0x3bd200003e4b1000, 0x10000000) ∷
+          (0x3ba300003c782000, 0x20000000) ∷
+          (0x395e00003fdc4000, 0x40000000) ∷
+          (0x3bc700003cf28000, 0xffffffff80000000) ∷
+          (0x3a1800013f160000, 0x1) ∷
+          (0x3bc300023c770000, 0x2) ∷
+          (0x38dd00043fab0000, 0x4) ∷
+          (0x3b6e00083dc30000, 0x8) ∷
+          (0x3bd500103ea80000, 0x10) ∷
+          (0x397400203e9f0000, 0x20) ∷
+          (0x39d000403e170000, 0x40) ∷
+          (0x3b2300803c6b0000, 0x80) ∷
+          (0x3a5001003e040000, 0x100) ∷
+          (0x39a302003c710000, 0x200) ∷
+          (0x395304003e680000, 0x400) ∷
+          (0x3abd08003fb30000, 0x800) ∷
+          (0x395c10003f940000, 0x1000) ∷
+          (0x38ab20003d740000, 0x2000) ∷
+          (0x3b3e40003fc40000, 0x4000) ∷
+          (0x3aaa80003d4f0000, 0xffffffffffff8000) ∷
+          (0x3978ffff3f0afffe, 0xfffffffffffdffff) ∷
+          (0x3af2ffff3e46fffd, 0xfffffffffffcffff) ∷
+          (0x3bdbffff3f6afffb, 0xfffffffffffaffff) ∷
+          (0x3a92ffff3e4bfff7, 0xfffffffffff6ffff) ∷
+          (0x3987ffff3cf9ffef, 0xffffffffffeeffff) ∷
+          (0x3abaffff3f59ffdf, 0xffffffffffdeffff) ∷
+          (0x38e9ffff3d2effbf, 0xffffffffffbeffff) ∷
+          (0x39e8ffff3d14ff7f, 0xffffffffff7effff) ∷
+          (0x3bacffff3d9bfeff, 0xfffffffffefeffff) ∷
+          (0x3988ffff3d18fdff, 0xfffffffffdfeffff) ∷
+          (0x387affff3f4cfbff, 0xfffffffffbfeffff) ∷
+          (0x3a24ffff3c90f7ff, 0xfffffffff7feffff) ∷
+          (0x3b9dffff3fa9efff, 0xffffffffeffeffff) ∷
+          (0x3b4cffff3d9cdfff, 0xffffffffdffeffff) ∷
+          (0x39e7ffff3cffbfff, 0xffffffffbffeffff) ∷
+          (0x3a9bffff3f737fff, 0x7ffeffff) ∷
+          (0x3a9afffe3f5dffff, 0xfffffffffffefffe) ∷
+          (0x3b10fffd3e15ffff, 0xfffffffffffefffd) ∷
+          (0x3974fffb3e87ffff, 0xfffffffffffefffb) ∷
+          (0x3993fff73e66ffff, 0xfffffffffffefff7) ∷
+          (0x3bd1ffef3e37ffff, 0xfffffffffffeffef) ∷
+          (0x38a6ffdf3cd5ffff, 0xfffffffffffeffdf) ∷
+          (0x3a9dffbf3fa9ffff, 0xfffffffffffeffbf) ∷
+          (0x3ab2ff7f3e5fffff, 0xfffffffffffeff7f) ∷
+          (0x3954feff3e93ffff, 0xfffffffffffefeff) ∷
+          (0x392cfdff3d85ffff, 0xfffffffffffefdff) ∷
+          (0x393ffbff3ff5ffff, 0xfffffffffffefbff) ∷
+          (0x3907f7ff3cf2ffff, 0xfffffffffffef7ff) ∷
+          (0x3af1efff3e38ffff, 0xfffffffffffeefff) ∷
+          (0x3b8ddfff3db9ffff, 0xfffffffffffedfff) ∷
+          (0x38a7bfff3cf5ffff, 0xfffffffffffebfff) ∷
+          (0x38cb7fff3d7fffff, 0xffffffffffff7fff) ∷
+          (0x3bb6c7873edf846f, 0xffffffff846ec787) ∷
+          (0x3864c2f63c969c23, 0xffffffff9c22c2f6) ∷
+          (0x395394973e656345, 0x63449497) ∷
+          (0x3924777f3c876a56, 0x6a56777f) ∷
+          (0x38dd15303fbea1ea, 0xffffffffa1ea1530) ∷
+          (0x39189b9f3f1611c4, 0x11c39b9f) ∷
+          [];
+    }) ∷
+    []
+
 -- What is read of the words is what came of them.
 abbrev pub Agrees : Type 0
 Agrees =
@@ -1086,3 +1170,4 @@ Agrees =
     × IsComputed (ppc64_form Branch14).machine branch14_words
     × IsComputed (ppc64_form Branch24).machine branch24_words
     × IsComputed (ppc64_form Prefixed).machine prefixed_words
+    × IsComputed halves_number halves_words

@@ -19,54 +19,54 @@ utype_words =
       unit = 1;
       bits = 64;
       rows =
-          (0x000004b7, 0x0) ∷
-          (0xfffff337, 0xfffffffffffff000) ∷
-          (0x000013b7, 0x1000) ∷
-          (0x00002137, 0x2000) ∷
-          (0x00004f37, 0x4000) ∷
+          (0x00000bb7, 0x0) ∷
+          (0xfffff537, 0xfffffffffffff000) ∷
+          (0x00001537, 0x1000) ∷
+          (0x00002637, 0x2000) ∷
+          (0x00004b37, 0x4000) ∷
           (0x00008737, 0x8000) ∷
-          (0x00010937, 0x10000) ∷
-          (0x00020db7, 0x20000) ∷
-          (0x000403b7, 0x40000) ∷
-          (0x00080fb7, 0x80000) ∷
-          (0x001007b7, 0x100000) ∷
-          (0x00200437, 0x200000) ∷
-          (0x00400c37, 0x400000) ∷
-          (0x008007b7, 0x800000) ∷
-          (0x010001b7, 0x1000000) ∷
-          (0x02000d37, 0x2000000) ∷
-          (0x040009b7, 0x4000000) ∷
-          (0x08000c37, 0x8000000) ∷
-          (0x10000637, 0x10000000) ∷
-          (0x200003b7, 0x20000000) ∷
-          (0x400002b7, 0x40000000) ∷
-          (0x800004b7, 0xffffffff80000000) ∷
+          (0x000108b7, 0x10000) ∷
+          (0x000200b7, 0x20000) ∷
+          (0x000402b7, 0x40000) ∷
+          (0x00080f37, 0x80000) ∷
+          (0x00100b37, 0x100000) ∷
+          (0x00200bb7, 0x200000) ∷
+          (0x004002b7, 0x400000) ∷
+          (0x00800cb7, 0x800000) ∷
+          (0x010006b7, 0x1000000) ∷
+          (0x02000737, 0x2000000) ∷
+          (0x04000db7, 0x4000000) ∷
+          (0x080009b7, 0x8000000) ∷
+          (0x10000cb7, 0x10000000) ∷
+          (0x20000db7, 0x20000000) ∷
+          (0x40000137, 0x40000000) ∷
+          (0x80000a37, 0xffffffff80000000) ∷
           (0xffffe9b7, 0xffffffffffffe000) ∷
-          (0xffffd6b7, 0xffffffffffffd000) ∷
-          (0xffffb237, 0xffffffffffffb000) ∷
-          (0xffff7137, 0xffffffffffff7000) ∷
-          (0xfffefb37, 0xfffffffffffef000) ∷
-          (0xfffdf7b7, 0xfffffffffffdf000) ∷
-          (0xfffbf2b7, 0xfffffffffffbf000) ∷
-          (0xfff7f4b7, 0xfffffffffff7f000) ∷
-          (0xffeffeb7, 0xffffffffffeff000) ∷
-          (0xffdffa37, 0xffffffffffdff000) ∷
-          (0xffbffd37, 0xffffffffffbff000) ∷
-          (0xff7ff837, 0xffffffffff7ff000) ∷
-          (0xfefff137, 0xfffffffffefff000) ∷
-          (0xfdffff37, 0xfffffffffdfff000) ∷
-          (0xfbfffbb7, 0xfffffffffbfff000) ∷
-          (0xf7fff837, 0xfffffffff7fff000) ∷
-          (0xeffff8b7, 0xffffffffeffff000) ∷
-          (0xdffff9b7, 0xffffffffdffff000) ∷
-          (0xbffffcb7, 0xffffffffbffff000) ∷
-          (0x7ffff0b7, 0x7ffff000) ∷
-          (0xe5bbd1b7, 0xffffffffe5bbd000) ∷
-          (0x6181d9b7, 0x6181d000) ∷
-          (0x43f653b7, 0x43f65000) ∷
-          (0x8a84fe37, 0xffffffff8a84f000) ∷
-          (0xb1b03437, 0xffffffffb1b03000) ∷
-          (0x1d9b5cb7, 0x1d9b5000) ∷
+          (0xffffd9b7, 0xffffffffffffd000) ∷
+          (0xffffba37, 0xffffffffffffb000) ∷
+          (0xffff7cb7, 0xffffffffffff7000) ∷
+          (0xfffef637, 0xfffffffffffef000) ∷
+          (0xfffdf3b7, 0xfffffffffffdf000) ∷
+          (0xfffbfbb7, 0xfffffffffffbf000) ∷
+          (0xfff7fdb7, 0xfffffffffff7f000) ∷
+          (0xffeff4b7, 0xffffffffffeff000) ∷
+          (0xffdfffb7, 0xffffffffffdff000) ∷
+          (0xffbff6b7, 0xffffffffffbff000) ∷
+          (0xff7ff7b7, 0xffffffffff7ff000) ∷
+          (0xfefff537, 0xfffffffffefff000) ∷
+          (0xfdffffb7, 0xfffffffffdfff000) ∷
+          (0xfbfff137, 0xfffffffffbfff000) ∷
+          (0xf7ffffb7, 0xfffffffff7fff000) ∷
+          (0xeffffbb7, 0xffffffffeffff000) ∷
+          (0xdffff5b7, 0xffffffffdffff000) ∷
+          (0xbffffab7, 0xffffffffbffff000) ∷
+          (0x7ffff5b7, 0x7ffff000) ∷
+          (0xe5bbdd37, 0xffffffffe5bbd000) ∷
+          (0x6fdae337, 0x6fdae000) ∷
+          (0x6181d737, 0x6181d000) ∷
+          (0xfe6e25b7, 0xfffffffffe6e2000) ∷
+          (0x43f65837, 0x43f65000) ∷
+          (0x807740b7, 0xffffffff80774000) ∷
           [];
     }) ∷
     -- auipc
@@ -74,54 +74,54 @@ utype_words =
       unit = 1;
       bits = 64;
       rows =
-          (0x00000f97, 0x0) ∷
-          (0xfffff417, 0xfffffffffffff000) ∷
-          (0x00001a17, 0x1000) ∷
-          (0x00002217, 0x2000) ∷
-          (0x00004697, 0x4000) ∷
-          (0x00008717, 0x8000) ∷
-          (0x00010897, 0x10000) ∷
-          (0x00020717, 0x20000) ∷
-          (0x00040c97, 0x40000) ∷
-          (0x00080d97, 0x80000) ∷
-          (0x00100697, 0x100000) ∷
-          (0x00200817, 0x200000) ∷
-          (0x00400117, 0x400000) ∷
-          (0x00800717, 0x800000) ∷
-          (0x01000f97, 0x1000000) ∷
-          (0x02000317, 0x2000000) ∷
-          (0x04000917, 0x4000000) ∷
-          (0x08000d97, 0x8000000) ∷
-          (0x10000497, 0x10000000) ∷
-          (0x20000f97, 0x20000000) ∷
-          (0x40000d97, 0x40000000) ∷
-          (0x80000617, 0xffffffff80000000) ∷
-          (0xffffe297, 0xffffffffffffe000) ∷
-          (0xffffdf97, 0xffffffffffffd000) ∷
-          (0xffffbd97, 0xffffffffffffb000) ∷
-          (0xffff7e97, 0xffffffffffff7000) ∷
-          (0xfffef317, 0xfffffffffffef000) ∷
-          (0xfffdfd17, 0xfffffffffffdf000) ∷
-          (0xfffbf717, 0xfffffffffffbf000) ∷
-          (0xfff7f697, 0xfffffffffff7f000) ∷
-          (0xffeff397, 0xffffffffffeff000) ∷
-          (0xffdff697, 0xffffffffffdff000) ∷
-          (0xffbff997, 0xffffffffffbff000) ∷
-          (0xff7fff97, 0xffffffffff7ff000) ∷
-          (0xfefff117, 0xfffffffffefff000) ∷
-          (0xfdfffc17, 0xfffffffffdfff000) ∷
-          (0xfbfff697, 0xfffffffffbfff000) ∷
-          (0xf7fffd17, 0xfffffffff7fff000) ∷
-          (0xeffffd97, 0xffffffffeffff000) ∷
-          (0xdffff717, 0xffffffffdffff000) ∷
-          (0xbffffe97, 0xffffffffbffff000) ∷
-          (0x7ffff997, 0x7ffff000) ∷
-          (0xeb7c1b17, 0xffffffffeb7c1000) ∷
+          (0x00000717, 0x0) ∷
+          (0xfffff097, 0xfffffffffffff000) ∷
+          (0x00001b17, 0x1000) ∷
+          (0x00002d17, 0x2000) ∷
+          (0x00004d97, 0x4000) ∷
+          (0x00008997, 0x8000) ∷
+          (0x00010097, 0x10000) ∷
+          (0x00020c17, 0x20000) ∷
+          (0x00040917, 0x40000) ∷
+          (0x00080897, 0x80000) ∷
+          (0x00100417, 0x100000) ∷
+          (0x00200417, 0x200000) ∷
+          (0x00400a17, 0x400000) ∷
+          (0x00800117, 0x800000) ∷
+          (0x01000717, 0x1000000) ∷
+          (0x02000f97, 0x2000000) ∷
+          (0x04000317, 0x4000000) ∷
+          (0x08000917, 0x8000000) ∷
+          (0x10000d97, 0x10000000) ∷
+          (0x20000497, 0x20000000) ∷
+          (0x40000f97, 0x40000000) ∷
+          (0x80000d97, 0xffffffff80000000) ∷
+          (0xffffe617, 0xffffffffffffe000) ∷
+          (0xffffd297, 0xffffffffffffd000) ∷
+          (0xffffbf97, 0xffffffffffffb000) ∷
+          (0xffff7d97, 0xffffffffffff7000) ∷
+          (0xfffefe97, 0xfffffffffffef000) ∷
+          (0xfffdf317, 0xfffffffffffdf000) ∷
+          (0xfffbfd17, 0xfffffffffffbf000) ∷
+          (0xfff7f717, 0xfffffffffff7f000) ∷
+          (0xffeff697, 0xffffffffffeff000) ∷
+          (0xffdff397, 0xffffffffffdff000) ∷
+          (0xffbff697, 0xffffffffffbff000) ∷
+          (0xff7ff997, 0xffffffffff7ff000) ∷
+          (0xfeffff97, 0xfffffffffefff000) ∷
+          (0xfdfff117, 0xfffffffffdfff000) ∷
+          (0xfbfffc17, 0xfffffffffbfff000) ∷
+          (0xf7fff697, 0xfffffffff7fff000) ∷
+          (0xeffffd17, 0xffffffffeffff000) ∷
+          (0xdffffd97, 0xffffffffdffff000) ∷
+          (0xbffff717, 0xffffffffbffff000) ∷
+          (0x7ffffe97, 0x7ffff000) ∷
+          (0xeb7c1997, 0xffffffffeb7c1000) ∷
+          (0xed529b17, 0xffffffffed529000) ∷
           (0x3923dd17, 0x3923d000) ∷
-          (0x51606197, 0x51606000) ∷
-          (0x4802cf97, 0x4802c000) ∷
-          (0x6ce45f17, 0x6ce45000) ∷
-          (0x6a745717, 0x6a745000) ∷
+          (0xc2861197, 0xffffffffc2861000) ∷
+          (0x51606f97, 0x51606000) ∷
+          (0x8fef3f17, 0xffffffff8fef3000) ∷
           [];
     }) ∷
     []
@@ -133,46 +133,46 @@ itype_words =
       unit = 1;
       bits = 64;
       rows =
-          (0x000e0393, 0x0) ∷
-          (0xfff18393, 0xffffffffffffffff) ∷
-          (0x00118693, 0x1) ∷
-          (0x002e0813, 0x2) ∷
-          (0x004d8493, 0x4) ∷
-          (0x00838a13, 0x8) ∷
-          (0x01008f13, 0x10) ∷
-          (0x020e8f93, 0x20) ∷
-          (0x040d0e93, 0x40) ∷
-          (0x08030993, 0x80) ∷
-          (0x10088a13, 0x100) ∷
-          (0x20078993, 0x200) ∷
-          (0x40070a93, 0x400) ∷
-          (0x800a8b93, 0xfffffffffffff800) ∷
-          (0xffe50393, 0xfffffffffffffffe) ∷
-          (0xffd78093, 0xfffffffffffffffd) ∷
-          (0xffbe0093, 0xfffffffffffffffb) ∷
-          (0xff740e13, 0xfffffffffffffff7) ∷
-          (0xfef90613, 0xffffffffffffffef) ∷
-          (0xfdf70093, 0xffffffffffffffdf) ∷
-          (0xfbfd8313, 0xffffffffffffffbf) ∷
-          (0xf7f88613, 0xffffffffffffff7f) ∷
-          (0xeffb0693, 0xfffffffffffffeff) ∷
-          (0xdff38d93, 0xfffffffffffffdff) ∷
-          (0xbff88e13, 0xfffffffffffffbff) ∷
-          (0x7ff68293, 0x7ff) ∷
-          (0x8f4a8713, 0xfffffffffffff8f4) ∷
-          (0x80aa0713, 0xfffffffffffff80a) ∷
+          (0x00010993, 0x0) ∷
+          (0xfff80b13, 0xffffffffffffffff) ∷
+          (0x001f0e93, 0x1) ∷
+          (0x00258193, 0x2) ∷
+          (0x00408193, 0x4) ∷
+          (0x00888e13, 0x8) ∷
+          (0x01050d93, 0x10) ∷
+          (0x020c8393, 0x20) ∷
+          (0x040a8093, 0x40) ∷
+          (0x08028c93, 0x80) ∷
+          (0x100c0d13, 0x100) ∷
+          (0x20050313, 0x200) ∷
+          (0x400f0893, 0x400) ∷
+          (0x800a8793, 0xfffffffffffff800) ∷
+          (0xffeb8713, 0xfffffffffffffffe) ∷
+          (0xffda8b93, 0xfffffffffffffffd) ∷
+          (0xffb50393, 0xfffffffffffffffb) ∷
+          (0xff778093, 0xfffffffffffffff7) ∷
+          (0xfefe0093, 0xffffffffffffffef) ∷
+          (0xfdf40e13, 0xffffffffffffffdf) ∷
+          (0xfbf90613, 0xffffffffffffffbf) ∷
+          (0xf7f70093, 0xffffffffffffff7f) ∷
+          (0xeffd8313, 0xfffffffffffffeff) ∷
+          (0xdff88613, 0xfffffffffffffdff) ∷
+          (0xbffb0693, 0xfffffffffffffbff) ∷
+          (0x7ff38d93, 0x7ff) ∷
+          (0x8f488e13, 0xfffffffffffff8f4) ∷
+          (0xe1868293, 0xfffffffffffffe18) ∷
+          (0x80aa8713, 0xfffffffffffff80a) ∷
+          (0xb8ea0713, 0xfffffffffffffb8e) ∷
           (0x7c268f13, 0x7c2) ∷
-          (0x9ab48a13, 0xfffffffffffff9ab) ∷
-          (0x715f0393, 0x715) ∷
-          (0xa6050b93, 0xfffffffffffffa60) ∷
-          (0x790c0213, 0x790) ∷
-          (0xe7948893, 0xfffffffffffffe79) ∷
-          (0x94fd0413, 0xfffffffffffff94f) ∷
-          (0x1a340493, 0x1a3) ∷
-          (0x640e8c13, 0x640) ∷
-          (0x11cd8a93, 0x11c) ∷
-          (0xaa648893, 0xfffffffffffffaa6) ∷
-          (0x26178813, 0x261) ∷
+          (0x90148a13, 0xfffffffffffff901) ∷
+          (0x9abf0393, 0xfffffffffffff9ab) ∷
+          (0x1ce50b93, 0x1ce) ∷
+          (0x715c0213, 0x715) ∷
+          (0x5f148893, 0x5f1) ∷
+          (0xa60d0413, 0xfffffffffffffa60) ∷
+          (0x2d940493, 0x2d9) ∷
+          (0x790e8c13, 0x790) ∷
+          (0x17fd8a93, 0x17f) ∷
           [];
     }) ∷
     -- addiw
@@ -180,46 +180,46 @@ itype_words =
       unit = 1;
       bits = 64;
       rows =
-          (0x0008851b, 0x0) ∷
-          (0xfffd8a1b, 0xffffffffffffffff) ∷
-          (0x001b031b, 0x1) ∷
-          (0x0027069b, 0x2) ∷
-          (0x0044839b, 0x4) ∷
-          (0x0084051b, 0x8) ∷
-          (0x010b861b, 0x10) ∷
-          (0x0206879b, 0x20) ∷
-          (0x0409059b, 0x40) ∷
-          (0x08080e1b, 0x80) ∷
-          (0x10058a9b, 0x100) ∷
-          (0x200d0a9b, 0x200) ∷
-          (0x40050b9b, 0x400) ∷
-          (0x800f019b, 0xfffffffffffff800) ∷
-          (0xffe38d1b, 0xfffffffffffffffe) ∷
-          (0xffd5819b, 0xfffffffffffffffd) ∷
-          (0xffb70c1b, 0xfffffffffffffffb) ∷
-          (0xff7f011b, 0xfffffffffffffff7) ∷
-          (0xfef6811b, 0xffffffffffffffef) ∷
-          (0xfdf0849b, 0xffffffffffffffdf) ∷
-          (0xfbfb8c1b, 0xffffffffffffffbf) ∷
-          (0xf7fc0a1b, 0xffffffffffffff7f) ∷
-          (0xeff6829b, 0xfffffffffffffeff) ∷
-          (0xdff9039b, 0xfffffffffffffdff) ∷
-          (0xbff28c9b, 0xfffffffffffffbff) ∷
-          (0x7ff0869b, 0x7ff) ∷
-          (0xe8540c9b, 0xfffffffffffffe85) ∷
-          (0xf21b009b, 0xffffffffffffff21) ∷
+          (0x00020a9b, 0x0) ∷
+          (0xfff98e1b, 0xffffffffffffffff) ∷
+          (0x0015061b, 0x1) ∷
+          (0x002a099b, 0x2) ∷
+          (0x004b031b, 0x4) ∷
+          (0x0087069b, 0x8) ∷
+          (0x0104839b, 0x10) ∷
+          (0x0204051b, 0x20) ∷
+          (0x040b861b, 0x40) ∷
+          (0x0806879b, 0x80) ∷
+          (0x1009059b, 0x100) ∷
+          (0x20080e1b, 0x200) ∷
+          (0x40058a9b, 0x400) ∷
+          (0x800d0a9b, 0xfffffffffffff800) ∷
+          (0xffe50b9b, 0xfffffffffffffffe) ∷
+          (0xffdf019b, 0xfffffffffffffffd) ∷
+          (0xffb38d1b, 0xfffffffffffffffb) ∷
+          (0xff75819b, 0xfffffffffffffff7) ∷
+          (0xfef70c1b, 0xffffffffffffffef) ∷
+          (0xfdff011b, 0xffffffffffffffdf) ∷
+          (0xfbf6811b, 0xffffffffffffffbf) ∷
+          (0xf7f0849b, 0xffffffffffffff7f) ∷
+          (0xeffb8c1b, 0xfffffffffffffeff) ∷
+          (0xdffc0a1b, 0xfffffffffffffdff) ∷
+          (0xbff6829b, 0xfffffffffffffbff) ∷
+          (0x7ff9039b, 0x7ff) ∷
+          (0xe8528c9b, 0xfffffffffffffe85) ∷
+          (0xc730869b, 0xfffffffffffffc73) ∷
+          (0xf2140c9b, 0xffffffffffffff21) ∷
+          (0x288b009b, 0x288) ∷
           (0x14270c9b, 0x142) ∷
-          (0x2fe68f1b, 0x2fe) ∷
-          (0x4e0b041b, 0x4e0) ∷
-          (0xa5cf011b, 0xfffffffffffffa5c) ∷
-          (0x38720a1b, 0x387) ∷
-          (0xf826851b, 0xffffffffffffff82) ∷
-          (0xa6e30c9b, 0xfffffffffffffa6e) ∷
-          (0x8a6f031b, 0xfffffffffffff8a6) ∷
-          (0x657b029b, 0x657) ∷
-          (0xddb4869b, 0xfffffffffffffddb) ∷
-          (0x93490c1b, 0xfffffffffffff934) ∷
-          (0xa603811b, 0xfffffffffffffa60) ∷
+          (0x3fc68f1b, 0x3fc) ∷
+          (0x2feb041b, 0x2fe) ∷
+          (0xcb7f011b, 0xfffffffffffffcb7) ∷
+          (0x4e020a1b, 0x4e0) ∷
+          (0x3886851b, 0x388) ∷
+          (0xa5c30c9b, 0xfffffffffffffa5c) ∷
+          (0xe0cf031b, 0xfffffffffffffe0c) ∷
+          (0x387b029b, 0x387) ∷
+          (0x7374869b, 0x737) ∷
           [];
     }) ∷
     -- lbu
@@ -227,46 +227,46 @@ itype_words =
       unit = 1;
       bits = 64;
       rows =
-          (0x00054983, 0x0) ∷
-          (0xfff4cf03, 0xffffffffffffffff) ∷
-          (0x0010c503, 0x1) ∷
-          (0x002d4283, 0x2) ∷
-          (0x004ac803, 0x4) ∷
-          (0x0083c783, 0x8) ∷
-          (0x010ac703, 0x10) ∷
-          (0x020c4a83, 0x20) ∷
-          (0x04074e03, 0x40) ∷
-          (0x0800c103, 0x80) ∷
-          (0x100acd03, 0x100) ∷
-          (0x2004c603, 0x200) ∷
-          (0x400fcc03, 0x400) ∷
-          (0x80094a03, 0xfffffffffffff800) ∷
-          (0xffe84103, 0xfffffffffffffffe) ∷
-          (0xffdd4a83, 0xfffffffffffffffd) ∷
-          (0xffbf4a03, 0xfffffffffffffffb) ∷
-          (0xff72c883, 0xfffffffffffffff7) ∷
-          (0xfefe4903, 0xffffffffffffffef) ∷
-          (0xfdfb4703, 0xffffffffffffffdf) ∷
-          (0xfbffc583, 0xffffffffffffffbf) ∷
-          (0xf7f5c503, 0xffffffffffffff7f) ∷
-          (0xeff44c03, 0xfffffffffffffeff) ∷
-          (0xdffb4a03, 0xfffffffffffffdff) ∷
-          (0xbffcc483, 0xfffffffffffffbff) ∷
-          (0x7ffe4783, 0x7ff) ∷
-          (0x9c214f03, 0xfffffffffffff9c2) ∷
-          (0xc8c24b03, 0xfffffffffffffc8c) ∷
+          (0x000bc803, 0x0) ∷
+          (0xfff6c203, 0xffffffffffffffff) ∷
+          (0x001eca83, 0x1) ∷
+          (0x002bcb03, 0x2) ∷
+          (0x004e4983, 0x4) ∷
+          (0x0082c803, 0x8) ∷
+          (0x01094a83, 0x10) ∷
+          (0x0204c383, 0x20) ∷
+          (0x0406cf03, 0x40) ∷
+          (0x080b4c03, 0x80) ∷
+          (0x10074e03, 0x100) ∷
+          (0x2000c103, 0x200) ∷
+          (0x400acd03, 0x400) ∷
+          (0x8004c603, 0xfffffffffffff800) ∷
+          (0xffefcc03, 0xfffffffffffffffe) ∷
+          (0xffd94a03, 0xfffffffffffffffd) ∷
+          (0xffb84103, 0xfffffffffffffffb) ∷
+          (0xff7d4a83, 0xfffffffffffffff7) ∷
+          (0xfeff4a03, 0xffffffffffffffef) ∷
+          (0xfdf2c883, 0xffffffffffffffdf) ∷
+          (0xfbfe4903, 0xffffffffffffffbf) ∷
+          (0xf7fb4703, 0xffffffffffffff7f) ∷
+          (0xefffc583, 0xfffffffffffffeff) ∷
+          (0xdff5c503, 0xfffffffffffffdff) ∷
+          (0xbff44c03, 0xfffffffffffffbff) ∷
+          (0x7ffb4a03, 0x7ff) ∷
+          (0x9c2cc483, 0xfffffffffffff9c2) ∷
+          (0x2e3e4783, 0x2e3) ∷
+          (0xc8c14f03, 0xfffffffffffffc8c) ∷
+          (0x9e924b03, 0xfffffffffffff9e9) ∷
           (0xbc50c983, 0xfffffffffffffbc5) ∷
-          (0xa84b4783, 0xfffffffffffffa84) ∷
-          (0x2b3ccd03, 0x2b3) ∷
-          (0x5659c703, 0x565) ∷
-          (0x82e14b03, 0xfffffffffffff82e) ∷
-          (0xf6cfcf03, 0xffffffffffffff6c) ∷
-          (0x78fe4783, 0x78f) ∷
-          (0x44594203, 0x445) ∷
-          (0x3491c283, 0x349) ∷
-          (0x19434c03, 0x194) ∷
-          (0x98c94803, 0xfffffffffffff98c) ∷
-          (0x8c224c03, 0xfffffffffffff8c2) ∷
+          (0x3f7b4783, 0x3f7) ∷
+          (0xa84ccd03, 0xfffffffffffffa84) ∷
+          (0x9f19c703, 0xfffffffffffff9f1) ∷
+          (0x2b314b03, 0x2b3) ∷
+          (0xcdcfcf03, 0xfffffffffffffcdc) ∷
+          (0x565e4783, 0x565) ∷
+          (0xaae94203, 0xfffffffffffffaae) ∷
+          (0x82e1c283, 0xfffffffffffff82e) ∷
+          (0x72634c03, 0x726) ∷
           [];
     }) ∷
     -- lh
@@ -274,46 +274,46 @@ itype_words =
       unit = 1;
       bits = 64;
       rows =
-          (0x00029103, 0x0) ∷
-          (0xfffb9883, 0xffffffffffffffff) ∷
-          (0x00129a03, 0x1) ∷
-          (0x00299a03, 0x2) ∷
-          (0x004e1183, 0x4) ∷
-          (0x00811e03, 0x8) ∷
-          (0x010d9c83, 0x10) ∷
-          (0x020b9b03, 0x20) ∷
-          (0x040a1603, 0x40) ∷
-          (0x080e9d83, 0x80) ∷
-          (0x100d9683, 0x100) ∷
-          (0x20091b03, 0x200) ∷
-          (0x40089b83, 0x400) ∷
-          (0x80041483, 0xfffffffffffff800) ∷
-          (0xffeb9983, 0xfffffffffffffffe) ∷
-          (0xffd61b83, 0xfffffffffffffffd) ∷
-          (0xffb71503, 0xfffffffffffffffb) ∷
-          (0xff789703, 0xfffffffffffffff7) ∷
-          (0xfef31103, 0xffffffffffffffef) ∷
-          (0xfdfa9f03, 0xffffffffffffffdf) ∷
-          (0xfbf61783, 0xffffffffffffffbf) ∷
-          (0xf7f71483, 0xffffffffffffff7f) ∷
-          (0xeffd9283, 0xfffffffffffffeff) ∷
-          (0xdff81703, 0xfffffffffffffdff) ∷
-          (0xbff11083, 0xfffffffffffffbff) ∷
-          (0x7ff81c83, 0x7ff) ∷
-          (0x8b719203, 0xfffffffffffff8b7) ∷
+          (0x000f1503, 0x0) ∷
+          (0xfff11683, 0xffffffffffffffff) ∷
+          (0x00129903, 0x1) ∷
+          (0x002c9883, 0x2) ∷
+          (0x00419903, 0x4) ∷
+          (0x008e1183, 0x8) ∷
+          (0x01011e03, 0x10) ∷
+          (0x020d9c83, 0x20) ∷
+          (0x040b9b03, 0x40) ∷
+          (0x080a1603, 0x80) ∷
+          (0x100e9d83, 0x100) ∷
+          (0x200d9683, 0x200) ∷
+          (0x40091b03, 0x400) ∷
+          (0x80089b83, 0xfffffffffffff800) ∷
+          (0xffe41483, 0xfffffffffffffffe) ∷
+          (0xffdb9983, 0xfffffffffffffffd) ∷
+          (0xffb61b83, 0xfffffffffffffffb) ∷
+          (0xff771503, 0xfffffffffffffff7) ∷
+          (0xfef89703, 0xffffffffffffffef) ∷
+          (0xfdf31103, 0xffffffffffffffdf) ∷
+          (0xfbfa9f03, 0xffffffffffffffbf) ∷
+          (0xf7f61783, 0xffffffffffffff7f) ∷
+          (0xeff71483, 0xfffffffffffffeff) ∷
+          (0xdffd9283, 0xfffffffffffffdff) ∷
+          (0xbff81703, 0xfffffffffffffbff) ∷
+          (0x7ff11083, 0x7ff) ∷
+          (0x8b781c83, 0xfffffffffffff8b7) ∷
+          (0x3e619203, 0x3e6) ∷
           (0x9cdd9403, 0xfffffffffffff9cd) ∷
-          (0xde5e1b03, 0xfffffffffffffde5) ∷
-          (0xf9ff1a03, 0xffffffffffffff9f) ∷
-          (0x8bc91383, 0xfffffffffffff8bc) ∷
-          (0x2bf59303, 0x2bf) ∷
-          (0x41ea1f03, 0x41e) ∷
-          (0x955b9583, 0xfffffffffffff955) ∷
-          (0xfa949d83, 0xffffffffffffffa9) ∷
-          (0xe9f11e83, 0xfffffffffffffe9f) ∷
-          (0x8b921103, 0xfffffffffffff8b9) ∷
-          (0x2eef9603, 0x2ee) ∷
-          (0xb1379c83, 0xfffffffffffffb13) ∷
-          (0x0f249403, 0xf2) ∷
+          (0xb6fe1b03, 0xfffffffffffffb6f) ∷
+          (0xde5f1a03, 0xfffffffffffffde5) ∷
+          (0x48091383, 0x480) ∷
+          (0xf9f59303, 0xffffffffffffff9f) ∷
+          (0x1b5a1f03, 0x1b5) ∷
+          (0x8bcb9583, 0xfffffffffffff8bc) ∷
+          (0x0f049d83, 0xf0) ∷
+          (0x2bf11e83, 0x2bf) ∷
+          (0xfba21103, 0xffffffffffffffba) ∷
+          (0x41ef9603, 0x41e) ∷
+          (0x05679c83, 0x56) ∷
           [];
     }) ∷
     -- lw
@@ -321,46 +321,46 @@ itype_words =
       unit = 1;
       bits = 64;
       rows =
-          (0x0004ac03, 0x0) ∷
-          (0xfff82a83, 0xffffffffffffffff) ∷
-          (0x001e2183, 0x1) ∷
-          (0x002c2683, 0x2) ∷
-          (0x0043ad83, 0x4) ∷
-          (0x0085ac03, 0x8) ∷
-          (0x0101a403, 0x10) ∷
-          (0x0202a583, 0x20) ∷
-          (0x04092b83, 0x40) ∷
-          (0x0801a683, 0x80) ∷
-          (0x100d2783, 0x100) ∷
-          (0x200c2b83, 0x200) ∷
-          (0x40092203, 0x400) ∷
-          (0x800c2903, 0xfffffffffffff800) ∷
-          (0xffe82483, 0xfffffffffffffffe) ∷
-          (0xffdea583, 0xfffffffffffffffd) ∷
-          (0xffb42b83, 0xfffffffffffffffb) ∷
-          (0xff792103, 0xfffffffffffffff7) ∷
-          (0xfef92d03, 0xffffffffffffffef) ∷
-          (0xfdf4a983, 0xffffffffffffffdf) ∷
-          (0xfbf6aa03, 0xffffffffffffffbf) ∷
-          (0xf7f12f03, 0xffffffffffffff7f) ∷
-          (0xeffa2483, 0xfffffffffffffeff) ∷
-          (0xdff52a83, 0xfffffffffffffdff) ∷
-          (0xbff2ac83, 0xfffffffffffffbff) ∷
-          (0x7ff22383, 0x7ff) ∷
-          (0xcef32703, 0xfffffffffffffcef) ∷
+          (0x00092303, 0x0) ∷
+          (0xffff2483, 0xffffffffffffffff) ∷
+          (0x001dad03, 0x1) ∷
+          (0x002a2683, 0x2) ∷
+          (0x0046ad03, 0x4) ∷
+          (0x008b2903, 0x8) ∷
+          (0x01092403, 0x10) ∷
+          (0x02072503, 0x20) ∷
+          (0x0404a183, 0x40) ∷
+          (0x080ca183, 0x80) ∷
+          (0x1000ae83, 0x100) ∷
+          (0x2006a083, 0x200) ∷
+          (0x4002aa03, 0x400) ∷
+          (0x800eaa03, 0xfffffffffffff800) ∷
+          (0xffe4a103, 0xfffffffffffffffe) ∷
+          (0xffd82483, 0xfffffffffffffffd) ∷
+          (0xffbea583, 0xfffffffffffffffb) ∷
+          (0xff742b83, 0xfffffffffffffff7) ∷
+          (0xfef92103, 0xffffffffffffffef) ∷
+          (0xfdf92d03, 0xffffffffffffffdf) ∷
+          (0xfbf4a983, 0xffffffffffffffbf) ∷
+          (0xf7f6aa03, 0xffffffffffffff7f) ∷
+          (0xeff12f03, 0xfffffffffffffeff) ∷
+          (0xdffa2483, 0xfffffffffffffdff) ∷
+          (0xbff52a83, 0xfffffffffffffbff) ∷
+          (0x7ff2ac83, 0x7ff) ∷
+          (0xcef22383, 0xfffffffffffffcef) ∷
+          (0x51832703, 0x518) ∷
           (0x86eaa883, 0xfffffffffffff86e) ∷
-          (0x4d8f2283, 0x4d8) ∷
-          (0x58daa483, 0x58d) ∷
-          (0xfbd6ac83, 0xffffffffffffffbd) ∷
-          (0x0755ad03, 0x75) ∷
-          (0x2ce3ac03, 0x2ce) ∷
-          (0xa290a703, 0xfffffffffffffa29) ∷
-          (0x2ba12083, 0x2ba) ∷
-          (0x52eea103, 0x52e) ∷
-          (0x2a19a683, 0x2a1) ∷
-          (0x21cb2983, 0x21c) ∷
-          (0x40fdaa83, 0x40f) ∷
-          (0xe3bfa083, 0xfffffffffffffe3b) ∷
+          (0x99cf2283, 0xfffffffffffff99c) ∷
+          (0x4d8aa483, 0x4d8) ∷
+          (0x96d6ac83, 0xfffffffffffff96d) ∷
+          (0x58d5ad03, 0x58d) ∷
+          (0x39f3ac03, 0x39f) ∷
+          (0xfbd0a703, 0xffffffffffffffbd) ∷
+          (0x3f312083, 0x3f3) ∷
+          (0x075ea103, 0x75) ∷
+          (0xe739a683, 0xfffffffffffffe73) ∷
+          (0x2ceb2983, 0x2ce) ∷
+          (0x372daa83, 0x372) ∷
           [];
     }) ∷
     -- ld
@@ -368,46 +368,46 @@ itype_words =
       unit = 1;
       bits = 64;
       rows =
-          (0x00063e83, 0x0) ∷
-          (0xfff43283, 0xffffffffffffffff) ∷
-          (0x0016ba83, 0x1) ∷
-          (0x002cb083, 0x2) ∷
-          (0x00463a83, 0x4) ∷
-          (0x008cba03, 0x8) ∷
-          (0x0108b803, 0x10) ∷
-          (0x020cb983, 0x20) ∷
-          (0x040dbb03, 0x40) ∷
-          (0x080b3103, 0x80) ∷
-          (0x1006b303, 0x100) ∷
-          (0x200bb403, 0x200) ∷
-          (0x4000be03, 0x400) ∷
-          (0x800c3503, 0xfffffffffffff800) ∷
-          (0xffe1b083, 0xfffffffffffffffe) ∷
-          (0xffd8b183, 0xfffffffffffffffd) ∷
-          (0xffb6b183, 0xfffffffffffffffb) ∷
-          (0xff7fb303, 0xfffffffffffffff7) ∷
-          (0xfefa3403, 0xffffffffffffffef) ∷
-          (0xfdfbb883, 0xffffffffffffffdf) ∷
-          (0xfbf83783, 0xffffffffffffffbf) ∷
-          (0xf7f4bf03, 0xffffffffffffff7f) ∷
-          (0xeffb3783, 0xfffffffffffffeff) ∷
-          (0xdff13a03, 0xfffffffffffffdff) ∷
-          (0xbff8b283, 0xfffffffffffffbff) ∷
-          (0x7ff43d83, 0x7ff) ∷
-          (0x4999ba03, 0x499) ∷
+          (0x0001be83, 0x0) ∷
+          (0xfff2b983, 0xffffffffffffffff) ∷
+          (0x0012bc83, 0x1) ∷
+          (0x002abd83, 0x2) ∷
+          (0x0040b403, 0x4) ∷
+          (0x00863a83, 0x8) ∷
+          (0x010cba03, 0x10) ∷
+          (0x0208b803, 0x20) ∷
+          (0x040cb983, 0x40) ∷
+          (0x080dbb03, 0x80) ∷
+          (0x100b3103, 0x100) ∷
+          (0x2006b303, 0x200) ∷
+          (0x400bb403, 0x400) ∷
+          (0x8000be03, 0xfffffffffffff800) ∷
+          (0xffec3503, 0xfffffffffffffffe) ∷
+          (0xffd1b083, 0xfffffffffffffffd) ∷
+          (0xffb8b183, 0xfffffffffffffffb) ∷
+          (0xff76b183, 0xfffffffffffffff7) ∷
+          (0xfeffb303, 0xffffffffffffffef) ∷
+          (0xfdfa3403, 0xffffffffffffffdf) ∷
+          (0xfbfbb883, 0xffffffffffffffbf) ∷
+          (0xf7f83783, 0xffffffffffffff7f) ∷
+          (0xeff4bf03, 0xfffffffffffffeff) ∷
+          (0xdffb3783, 0xfffffffffffffdff) ∷
+          (0xbff13a03, 0xfffffffffffffbff) ∷
+          (0x7ff8b283, 0x7ff) ∷
+          (0x49943d83, 0x499) ∷
+          (0x3d89ba03, 0x3d8) ∷
           (0x6d8d3683, 0x6d8) ∷
-          (0x60f53f83, 0x60f) ∷
-          (0x12f5b603, 0x12f) ∷
-          (0x9f7f3f83, 0xfffffffffffff9f7) ∷
-          (0x7f4a3303, 0x7f4) ∷
-          (0x83613e83, 0xfffffffffffff836) ∷
-          (0xc2833383, 0xfffffffffffffc28) ∷
-          (0xe72e3283, 0xfffffffffffffe72) ∷
-          (0x947db603, 0xfffffffffffff947) ∷
-          (0x9c8fba03, 0xfffffffffffff9c8) ∷
-          (0x02893b83, 0x28) ∷
-          (0xc3c73683, 0xfffffffffffffc3c) ∷
-          (0x673fb183, 0x673) ∷
+          (0xebc53f83, 0xfffffffffffffebc) ∷
+          (0x60f5b603, 0x60f) ∷
+          (0xfe9f3f83, 0xffffffffffffffe9) ∷
+          (0x12fa3303, 0x12f) ∷
+          (0x85113e83, 0xfffffffffffff851) ∷
+          (0x9f733383, 0xfffffffffffff9f7) ∷
+          (0x4d3e3283, 0x4d3) ∷
+          (0x7f4db603, 0x7f4) ∷
+          (0x3fafba03, 0x3fa) ∷
+          (0x83693b83, 0xfffffffffffff836) ∷
+          (0xeb873683, 0xfffffffffffffeb8) ∷
           [];
     }) ∷
     -- fld
@@ -415,15 +415,15 @@ itype_words =
       unit = 1;
       bits = 64;
       rows =
-          (0x000f3307, 0x0) ∷
-          (0xfffeb507, 0xffffffffffffffff) ∷
-          (0x0015b187, 0x1) ∷
-          (0x0021bf07, 0x2) ∷
-          (0x004db787, 0x4) ∷
-          (0x0082bb87, 0x8) ∷
-          (0x010abc87, 0x10) ∷
-          (0x02073507, 0x20) ∷
-          (0x040cb907, 0x40) ∷
+          (0x0000ba07, 0x0) ∷
+          (0xfff5b807, 0xffffffffffffffff) ∷
+          (0x0012b507, 0x1) ∷
+          (0x0027b887, 0x2) ∷
+          (0x0049bc87, 0x4) ∷
+          (0x00823687, 0x8) ∷
+          (0x01093d07, 0x10) ∷
+          (0x0200bc07, 0x20) ∷
+          (0x0402bb87, 0x40) ∷
           (0x0800bb87, 0x80) ∷
           (0x100fbe07, 0x100) ∷
           (0x200fb787, 0x200) ∷
@@ -442,19 +442,19 @@ itype_words =
           (0xbffb3c87, 0xfffffffffffffbff) ∷
           (0x7ffb3887, 0x7ff) ∷
           (0xf2f4be87, 0xffffffffffffff2f) ∷
-          (0x687cbb87, 0x687) ∷
-          (0x73f6ba07, 0x73f) ∷
-          (0x65513407, 0x655) ∷
-          (0xd259bd87, 0xfffffffffffffd25) ∷
-          (0x9e03bf07, 0xfffffffffffff9e0) ∷
-          (0x89e0ba07, 0xfffffffffffff89e) ∷
-          (0x1c4cb087, 0x1c4) ∷
-          (0x9cc0b587, 0xfffffffffffff9cc) ∷
-          (0xafcbb787, 0xfffffffffffffafc) ∷
-          (0x9fa13f07, 0xfffffffffffff9fa) ∷
-          (0x86a13287, 0xfffffffffffff86a) ∷
-          (0xb06a3e87, 0xfffffffffffffb06) ∷
-          (0x4c01b107, 0x4c0) ∷
+          (0xee5cbb87, 0xfffffffffffffee5) ∷
+          (0x6876ba07, 0x687) ∷
+          (0x45d13407, 0x45d) ∷
+          (0x73f9bd87, 0x73f) ∷
+          (0xdba3bf07, 0xfffffffffffffdba) ∷
+          (0x6550ba07, 0x655) ∷
+          (0x4cacb087, 0x4ca) ∷
+          (0xd250b587, 0xfffffffffffffd25) ∷
+          (0x256bb787, 0x256) ∷
+          (0x9e013f07, 0xfffffffffffff9e0) ∷
+          (0x5cf13287, 0x5cf) ∷
+          (0x89ea3e87, 0xfffffffffffff89e) ∷
+          (0x8721b107, 0xfffffffffffff872) ∷
           [];
     }) ∷
     -- jalr
@@ -462,46 +462,46 @@ itype_words =
       unit = 1;
       bits = 64;
       rows =
-          (0x000f8c67, 0x0) ∷
-          (0xffe100e7, 0xfffffffffffffffe) ∷
-          (0x002c0e67, 0x2) ∷
-          (0x00488367, 0x4) ∷
-          (0x00858367, 0x8) ∷
-          (0x01098d67, 0x10) ∷
-          (0x020f8b67, 0x20) ∷
-          (0x040b8167, 0x40) ∷
-          (0x080581e7, 0x80) ∷
-          (0x10090fe7, 0x100) ∷
-          (0x20010d67, 0x200) ∷
-          (0x40058d67, 0x400) ∷
-          (0x800485e7, 0xfffffffffffff800) ∷
-          (0xffc80d67, 0xfffffffffffffffc) ∷
-          (0xffa40e67, 0xfffffffffffffffa) ∷
-          (0xff6b01e7, 0xfffffffffffffff6) ∷
-          (0xfeee0a67, 0xffffffffffffffee) ∷
-          (0xfde309e7, 0xffffffffffffffde) ∷
-          (0xfbe10967, 0xffffffffffffffbe) ∷
-          (0xf7ee03e7, 0xffffffffffffff7e) ∷
-          (0xefe083e7, 0xfffffffffffffefe) ∷
-          (0xdfe78e67, 0xfffffffffffffdfe) ∷
-          (0xbfea0467, 0xfffffffffffffbfe) ∷
-          (0x7fea0fe7, 0x7fe) ∷
-          (0x3e458767, 0x3e4) ∷
-          (0x366609e7, 0x366) ∷
-          (0x362e09e7, 0x362) ∷
+          (0x000b0467, 0x0) ∷
+          (0xffe207e7, 0xfffffffffffffffe) ∷
+          (0x002a04e7, 0x2) ∷
+          (0x004f8c67, 0x4) ∷
+          (0x008100e7, 0x8) ∷
+          (0x010c0e67, 0x10) ∷
+          (0x02088367, 0x20) ∷
+          (0x04058367, 0x40) ∷
+          (0x08098d67, 0x80) ∷
+          (0x100f8b67, 0x100) ∷
+          (0x200b8167, 0x200) ∷
+          (0x400581e7, 0x400) ∷
+          (0x80090fe7, 0xfffffffffffff800) ∷
+          (0xffc10d67, 0xfffffffffffffffc) ∷
+          (0xffa58d67, 0xfffffffffffffffa) ∷
+          (0xff6485e7, 0xfffffffffffffff6) ∷
+          (0xfee80d67, 0xffffffffffffffee) ∷
+          (0xfde40e67, 0xffffffffffffffde) ∷
+          (0xfbeb01e7, 0xffffffffffffffbe) ∷
+          (0xf7ee0a67, 0xffffffffffffff7e) ∷
+          (0xefe309e7, 0xfffffffffffffefe) ∷
+          (0xdfe10967, 0xfffffffffffffdfe) ∷
+          (0xbfee03e7, 0xfffffffffffffbfe) ∷
+          (0x7fe083e7, 0x7fe) ∷
+          (0x3e478e67, 0x3e4) ∷
+          (0xa6ea0467, 0xfffffffffffffa6e) ∷
+          (0x366a0fe7, 0x366) ∷
+          (0xa1658767, 0xfffffffffffffa16) ∷
+          (0x362609e7, 0x362) ∷
+          (0xfd0e09e7, 0xffffffffffffffd0) ∷
           (0x23c08567, 0x23c) ∷
-          (0xfa0b0ae7, 0xffffffffffffffa0) ∷
-          (0x1d6d8ae7, 0x1d6) ∷
-          (0x12a50967, 0x12a) ∷
-          (0xe2010567, 0xfffffffffffffe20) ∷
-          (0x1fa705e7, 0x1fa) ∷
-          (0x398988e7, 0x398) ∷
-          (0x7d0e87e7, 0x7d0) ∷
-          (0xdcc907e7, 0xfffffffffffffdcc) ∷
-          (0x188c09e7, 0x188) ∷
-          (0x99218f67, 0xfffffffffffff992) ∷
-          (0x436d8567, 0x436) ∷
-          (0xd14984e7, 0xfffffffffffffd14) ∷
+          (0x7ecb0ae7, 0x7ec) ∷
+          (0xfa0d8ae7, 0xffffffffffffffa0) ∷
+          (0xb0250967, 0xfffffffffffffb02) ∷
+          (0x1d610567, 0x1d6) ∷
+          (0x582705e7, 0x582) ∷
+          (0x12a988e7, 0x12a) ∷
+          (0x974e87e7, 0xfffffffffffff974) ∷
+          (0xe20907e7, 0xfffffffffffffe20) ∷
+          (0x6ecc09e7, 0x6ec) ∷
           [];
     }) ∷
     []
@@ -513,46 +513,46 @@ stype_words =
       unit = 1;
       bits = 64;
       rows =
-          (0x01508023, 0x0) ∷
-          (0xfe8e8fa3, 0xffffffffffffffff) ∷
-          (0x00ae80a3, 0x1) ∷
-          (0x019f8123, 0x2) ∷
-          (0x004f8223, 0x4) ∷
-          (0x00e50423, 0x8) ∷
-          (0x00dd0823, 0x10) ∷
-          (0x034d0023, 0x20) ∷
-          (0x04688023, 0x40) ∷
-          (0x09e30023, 0x80) ∷
-          (0x11a80023, 0x100) ∷
-          (0x217a8023, 0x200) ∷
-          (0x40848023, 0x400) ∷
-          (0x80810023, 0xfffffffffffff800) ∷
-          (0xff048f23, 0xfffffffffffffffe) ∷
-          (0xfe9e8ea3, 0xfffffffffffffffd) ∷
-          (0xff258da3, 0xfffffffffffffffb) ∷
-          (0xffea0ba3, 0xfffffffffffffff7) ∷
-          (0xffcd07a3, 0xffffffffffffffef) ∷
-          (0xfc3d8fa3, 0xffffffffffffffdf) ∷
-          (0xfa888fa3, 0xffffffffffffffbf) ∷
-          (0xf75f8fa3, 0xffffffffffffff7f) ∷
-          (0xef550fa3, 0xfffffffffffffeff) ∷
-          (0xdf548fa3, 0xfffffffffffffdff) ∷
-          (0xbfd10fa3, 0xfffffffffffffbff) ∷
-          (0x7ff38fa3, 0x7ff) ∷
-          (0xbb160223, 0xfffffffffffffba4) ∷
-          (0x70fc8ea3, 0x71d) ∷
-          (0xf4d988a3, 0xffffffffffffff51) ∷
-          (0x464781a3, 0x463) ∷
+          (0x00b40023, 0x0) ∷
+          (0xffa68fa3, 0xffffffffffffffff) ∷
+          (0x01e800a3, 0x1) ∷
+          (0x019e0123, 0x2) ∷
+          (0x00b48223, 0x4) ∷
+          (0x003d0423, 0x8) ∷
+          (0x00f58823, 0x10) ∷
+          (0x02438023, 0x20) ∷
+          (0x052e8023, 0x40) ∷
+          (0x08a90023, 0x80) ∷
+          (0x10dd0023, 0x100) ∷
+          (0x214d0023, 0x200) ∷
+          (0x40688023, 0x400) ∷
+          (0x81e30023, 0xfffffffffffff800) ∷
+          (0xffa80f23, 0xfffffffffffffffe) ∷
+          (0xff7a8ea3, 0xfffffffffffffffd) ∷
+          (0xfe848da3, 0xfffffffffffffffb) ∷
+          (0xfe810ba3, 0xfffffffffffffff7) ∷
+          (0xff0487a3, 0xffffffffffffffef) ∷
+          (0xfc9e8fa3, 0xffffffffffffffdf) ∷
+          (0xfb258fa3, 0xffffffffffffffbf) ∷
+          (0xf7ea0fa3, 0xffffffffffffff7f) ∷
+          (0xefcd0fa3, 0xfffffffffffffeff) ∷
+          (0xde3d8fa3, 0xfffffffffffffdff) ∷
+          (0xbe888fa3, 0xfffffffffffffbff) ∷
+          (0x7f5f8fa3, 0x7ff) ∷
+          (0xbb550223, 0xfffffffffffffba4) ∷
+          (0x535487a3, 0x52f) ∷
+          (0x71d10ea3, 0x71d) ∷
+          (0xf7f38423, 0xffffffffffffff68) ∷
+          (0xf51608a3, 0xffffffffffffff51) ∷
+          (0x3afc81a3, 0x3a3) ∷
+          (0x46d981a3, 0x463) ∷
+          (0x2a478a23, 0x2b4) ∷
           (0x2ff78723, 0x2ee) ∷
-          (0x789b8c23, 0x798) ∷
-          (0xf36a84a3, 0xffffffffffffff29) ∷
-          (0x79790923, 0x792) ∷
-          (0x56cd8323, 0x566) ∷
-          (0x62ab8ba3, 0x637) ∷
-          (0xcb978ea3, 0xfffffffffffffcbd) ∷
-          (0x509f88a3, 0x511) ∷
-          (0xe9970723, 0xfffffffffffffe8e) ∷
-          (0x30cd8923, 0x312) ∷
+          (0xea9b8723, 0xfffffffffffffeae) ∷
+          (0x796a8c23, 0x798) ∷
+          (0x397903a3, 0x387) ∷
+          (0xf2cd84a3, 0xffffffffffffff29) ∷
+          (0x64ab8ba3, 0x657) ∷
           [];
     }) ∷
     -- sh
@@ -560,46 +560,46 @@ stype_words =
       unit = 1;
       bits = 64;
       rows =
-          (0x01e09023, 0x0) ∷
-          (0xff8b1fa3, 0xffffffffffffffff) ∷
-          (0x01d390a3, 0x1) ∷
-          (0x00489123, 0x2) ∷
-          (0x00619223, 0x4) ∷
-          (0x00581423, 0x8) ∷
-          (0x01b39823, 0x10) ∷
-          (0x02f91023, 0x20) ∷
-          (0x05a41023, 0x40) ∷
-          (0x09c71023, 0x80) ∷
-          (0x10ff9023, 0x100) ∷
-          (0x20571023, 0x200) ∷
-          (0x40ad1023, 0x400) ∷
-          (0x80609023, 0xfffffffffffff800) ∷
-          (0xffec9f23, 0xfffffffffffffffe) ∷
-          (0xff309ea3, 0xfffffffffffffffd) ∷
-          (0xffd99da3, 0xfffffffffffffffb) ∷
-          (0xfe261ba3, 0xfffffffffffffff7) ∷
-          (0xff0b17a3, 0xffffffffffffffef) ∷
-          (0xfcea9fa3, 0xffffffffffffffdf) ∷
-          (0xfbe39fa3, 0xffffffffffffffbf) ∷
-          (0xf6da1fa3, 0xffffffffffffff7f) ∷
-          (0xef051fa3, 0xfffffffffffffeff) ∷
-          (0xdf7f1fa3, 0xfffffffffffffdff) ∷
-          (0xbf8e9fa3, 0xfffffffffffffbff) ∷
-          (0x7f199fa3, 0x7ff) ∷
-          (0x48411e23, 0x49c) ∷
-          (0xcc7a1623, 0xfffffffffffffccc) ∷
-          (0xcce09e23, 0xfffffffffffffcdc) ∷
-          (0x15471323, 0x146) ∷
-          (0x8a921923, 0xfffffffffffff8b2) ∷
-          (0x00f99c23, 0x18) ∷
-          (0x59311fa3, 0x59f) ∷
-          (0x695693a3, 0x687) ∷
-          (0x253e9da3, 0x25b) ∷
-          (0xb5e992a3, 0xfffffffffffffb45) ∷
-          (0xb04e13a3, 0xfffffffffffffb07) ∷
-          (0xf01e1023, 0xffffffffffffff00) ∷
-          (0x196e17a3, 0x18f) ∷
-          (0x7d8492a3, 0x7c5) ∷
+          (0x005b9023, 0x0) ∷
+          (0xff7b1fa3, 0xffffffffffffffff) ∷
+          (0x004890a3, 0x1) ∷
+          (0x014d9123, 0x2) ∷
+          (0x014d9223, 0x4) ∷
+          (0x011a1423, 0x8) ∷
+          (0x017f1823, 0x10) ∷
+          (0x02331023, 0x20) ∷
+          (0x05c29023, 0x40) ∷
+          (0x08ad9023, 0x80) ∷
+          (0x110c1023, 0x100) ∷
+          (0x21511023, 0x200) ∷
+          (0x40231023, 0x400) ∷
+          (0x81479023, 0xfffffffffffff800) ∷
+          (0xfea29f23, 0xfffffffffffffffe) ∷
+          (0xff551ea3, 0xfffffffffffffffd) ∷
+          (0xfea31da3, 0xfffffffffffffffb) ∷
+          (0xfe8f1ba3, 0xfffffffffffffff7) ∷
+          (0xff0997a3, 0xffffffffffffffef) ∷
+          (0xfd9e9fa3, 0xffffffffffffffdf) ∷
+          (0xfa711fa3, 0xffffffffffffffbf) ∷
+          (0xf6681fa3, 0xffffffffffffff7f) ∷
+          (0xee971fa3, 0xfffffffffffffeff) ∷
+          (0xdeff1fa3, 0xfffffffffffffdff) ∷
+          (0xbeb69fa3, 0xfffffffffffffbff) ∷
+          (0x7e381fa3, 0x7ff) ∷
+          (0x48db9e23, 0x49c) ∷
+          (0x29fc1e23, 0x29c) ∷
+          (0xcc989623, 0xfffffffffffffccc) ∷
+          (0x2f421da3, 0x2fb) ∷
+          (0xcc339e23, 0xfffffffffffffcdc) ∷
+          (0x03471a23, 0x34) ∷
+          (0x153a1323, 0x146) ∷
+          (0x15849623, 0x14c) ∷
+          (0x8a779923, 0xfffffffffffff8b2) ∷
+          (0xb0c99ba3, 0xfffffffffffffb17) ∷
+          (0x008a9c23, 0x18) ∷
+          (0x9b3e9ca3, 0xfffffffffffff9b9) ∷
+          (0x59e99fa3, 0x59f) ∷
+          (0xc04e1223, 0xfffffffffffffc04) ∷
           [];
     }) ∷
     -- sw
@@ -607,46 +607,46 @@ stype_words =
       unit = 1;
       bits = 64;
       rows =
-          (0x01d72023, 0x0) ∷
-          (0xffcd2fa3, 0xffffffffffffffff) ∷
-          (0x011f20a3, 0x1) ∷
-          (0x005fa123, 0x2) ∷
-          (0x003aa223, 0x4) ∷
-          (0x0013a423, 0x8) ∷
-          (0x0169a823, 0x10) ∷
-          (0x0365a023, 0x20) ∷
-          (0x05cfa023, 0x40) ∷
-          (0x0930a023, 0x80) ∷
-          (0x118ba023, 0x100) ∷
-          (0x2058a023, 0x200) ∷
-          (0x40aca023, 0x400) ∷
-          (0x81eda023, 0xfffffffffffff800) ∷
-          (0xfffcaf23, 0xfffffffffffffffe) ∷
-          (0xfe8faea3, 0xfffffffffffffffd) ∷
-          (0xfea92da3, 0xfffffffffffffffb) ∷
-          (0xfe24aba3, 0xfffffffffffffff7) ∷
-          (0xffa4a7a3, 0xffffffffffffffef) ∷
-          (0xfde92fa3, 0xffffffffffffffdf) ∷
-          (0xfa43afa3, 0xffffffffffffffbf) ∷
-          (0xf6d5afa3, 0xffffffffffffff7f) ∷
-          (0xef93afa3, 0xfffffffffffffeff) ∷
-          (0xdf7c2fa3, 0xfffffffffffffdff) ∷
-          (0xbeb22fa3, 0xfffffffffffffbff) ∷
-          (0x7e782fa3, 0x7ff) ∷
-          (0x95f8a4a3, 0xfffffffffffff949) ∷
-          (0xe2c2a3a3, 0xfffffffffffffe27) ∷
-          (0x1b52aba3, 0x1b7) ∷
-          (0x38fca3a3, 0x387) ∷
+          (0x015e2023, 0x0) ∷
+          (0xfe8fafa3, 0xffffffffffffffff) ∷
+          (0x011420a3, 0x1) ∷
+          (0x01c72123, 0x2) ∷
+          (0x019e2223, 0x4) ∷
+          (0x01a8a423, 0x8) ∷
+          (0x01e4a823, 0x10) ∷
+          (0x03f72023, 0x20) ∷
+          (0x055e2023, 0x40) ∷
+          (0x08752023, 0x80) ∷
+          (0x113e2023, 0x100) ∷
+          (0x2165a023, 0x200) ∷
+          (0x41cfa023, 0x400) ∷
+          (0x8130a023, 0xfffffffffffff800) ∷
+          (0xff8baf23, 0xfffffffffffffffe) ∷
+          (0xfe58aea3, 0xfffffffffffffffd) ∷
+          (0xfeacada3, 0xfffffffffffffffb) ∷
+          (0xffedaba3, 0xfffffffffffffff7) ∷
+          (0xfffca7a3, 0xffffffffffffffef) ∷
+          (0xfc8fafa3, 0xffffffffffffffdf) ∷
+          (0xfaa92fa3, 0xffffffffffffffbf) ∷
+          (0xf624afa3, 0xffffffffffffff7f) ∷
+          (0xefa4afa3, 0xfffffffffffffeff) ∷
+          (0xdfe92fa3, 0xfffffffffffffdff) ∷
+          (0xbe43afa3, 0xfffffffffffffbff) ∷
+          (0x7ed5afa3, 0x7ff) ∷
+          (0x9593a4a3, 0xfffffffffffff949) ∷
+          (0x097c20a3, 0x81) ∷
+          (0xe2b223a3, 0xfffffffffffffe27) ∷
+          (0xbc782123, 0xfffffffffffffbc2) ∷
+          (0x1bf8aba3, 0x1b7) ∷
+          (0xf0c2a723, 0xffffffffffffff0e) ∷
+          (0x3952a3a3, 0x387) ∷
+          (0xe4fca8a3, 0xfffffffffffffe51) ∷
           (0x171dac23, 0x178) ∷
-          (0x4f4d2fa3, 0x4ff) ∷
-          (0x0612afa3, 0x7f) ∷
-          (0xa0732423, 0xfffffffffffffa08) ∷
-          (0xa12e2ea3, 0xfffffffffffffa1d) ∷
-          (0x3f1fa0a3, 0x3e1) ∷
-          (0x3fe8ada3, 0x3fb) ∷
-          (0x94ed2923, 0xfffffffffffff952) ∷
-          (0x8713a223, 0xfffffffffffff864) ∷
-          (0x7fe8a0a3, 0x7e1) ∷
+          (0xc94d2723, 0xfffffffffffffc8e) ∷
+          (0x4e12afa3, 0x4ff) ∷
+          (0x88732b23, 0xfffffffffffff896) ∷
+          (0x072e2fa3, 0x7f) ∷
+          (0xbd1fa9a3, 0xfffffffffffffbd3) ∷
           [];
     }) ∷
     -- sd
@@ -654,46 +654,46 @@ stype_words =
       unit = 1;
       bits = 64;
       rows =
-          (0x00df3023, 0x0) ∷
-          (0xffb33fa3, 0xffffffffffffffff) ∷
-          (0x013130a3, 0x1) ∷
-          (0x01f7b123, 0x2) ∷
-          (0x00b33223, 0x4) ∷
-          (0x011a3423, 0x8) ∷
-          (0x01d7b823, 0x10) ∷
-          (0x0284b023, 0x20) ∷
-          (0x04873023, 0x40) ∷
-          (0x09243023, 0x80) ∷
-          (0x11e43023, 0x100) ∷
-          (0x21d33023, 0x200) ∷
-          (0x40223023, 0x400) ∷
-          (0x81ca3023, 0xfffffffffffff800) ∷
-          (0xfe953f23, 0xfffffffffffffffe) ∷
-          (0xfed4bea3, 0xfffffffffffffffd) ∷
-          (0xff66bda3, 0xfffffffffffffffb) ∷
-          (0xfed1bba3, 0xfffffffffffffff7) ∷
-          (0xffd137a3, 0xffffffffffffffef) ∷
-          (0xfd62bfa3, 0xffffffffffffffdf) ∷
-          (0xfba5bfa3, 0xffffffffffffffbf) ∷
-          (0xf619bfa3, 0xffffffffffffff7f) ∷
-          (0xef0d3fa3, 0xfffffffffffffeff) ∷
-          (0xde9e3fa3, 0xfffffffffffffdff) ∷
-          (0xbf5dbfa3, 0xfffffffffffffbff) ∷
-          (0x7fde3fa3, 0x7ff) ∷
-          (0x2f923b23, 0x2f6) ∷
-          (0x111bb423, 0x108) ∷
-          (0x4ee0b2a3, 0x4e5) ∷
-          (0x74b13aa3, 0x755) ∷
-          (0x192f37a3, 0x18f) ∷
-          (0x9e8fb6a3, 0xfffffffffffff9ed) ∷
-          (0xc5723e23, 0xfffffffffffffc5c) ∷
-          (0xa7523323, 0xfffffffffffffa66) ∷
-          (0x0755be23, 0x7c) ∷
-          (0x172eb2a3, 0x165) ∷
-          (0x792639a3, 0x793) ∷
-          (0x8820be23, 0xfffffffffffff89c) ∷
-          (0x04bdb523, 0x4a) ∷
-          (0xdd70bb23, 0xfffffffffffffdd6) ∷
+          (0x001fb023, 0x0) ∷
+          (0xff093fa3, 0xffffffffffffffff) ∷
+          (0x0014b0a3, 0x1) ∷
+          (0x0193b123, 0x2) ∷
+          (0x009eb223, 0x4) ∷
+          (0x00653423, 0x8) ∷
+          (0x0027b823, 0x10) ∷
+          (0x02feb023, 0x20) ∷
+          (0x04673023, 0x40) ∷
+          (0x09443023, 0x80) ∷
+          (0x11ac3023, 0x100) ∷
+          (0x202e3023, 0x200) ∷
+          (0x4187b023, 0x400) ∷
+          (0x804b3023, 0xfffffffffffff800) ∷
+          (0xff0bbf23, 0xfffffffffffffffe) ∷
+          (0xfee33ea3, 0xfffffffffffffffd) ∷
+          (0xfe2e3da3, 0xfffffffffffffffb) ∷
+          (0xff0dbba3, 0xfffffffffffffff7) ∷
+          (0xfe8837a3, 0xffffffffffffffef) ∷
+          (0xfc2d3fa3, 0xffffffffffffffdf) ∷
+          (0xfabcbfa3, 0xffffffffffffffbf) ∷
+          (0xf734bfa3, 0xffffffffffffff7f) ∷
+          (0xefd6bfa3, 0xfffffffffffffeff) ∷
+          (0xdedd3fa3, 0xfffffffffffffdff) ∷
+          (0xbf70bfa3, 0xfffffffffffffbff) ∷
+          (0x7e583fa3, 0x7ff) ∷
+          (0x2fd4bb23, 0x2f6) ∷
+          (0x528ab723, 0x52e) ∷
+          (0x116eb423, 0x108) ∷
+          (0xc11cbda3, 0xfffffffffffffc1b) ∷
+          (0x4e38b2a3, 0x4e5) ∷
+          (0xa36737a3, 0xfffffffffffffa2f) ∷
+          (0x74a5baa3, 0x755) ∷
+          (0x51b936a3, 0x50d) ∷
+          (0x183337a3, 0x18f) ∷
+          (0x7f87b323, 0x7e6) ∷
+          (0x9f7236a3, 0xfffffffffffff9ed) ∷
+          (0xc686be23, 0xfffffffffffffc7c) ∷
+          (0xc506be23, 0xfffffffffffffc5c) ∷
+          (0x423cbf23, 0x43e) ∷
           [];
     }) ∷
     []
@@ -705,46 +705,46 @@ btype_words =
       unit = 1;
       bits = 64;
       rows =
-          (0x00c80063, 0x0) ∷
-          (0xfe270fe3, 0xfffffffffffffffe) ∷
-          (0x001700e3, 0x800) ∷
-          (0x01a30163, 0x2) ∷
-          (0x00938263, 0x4) ∷
-          (0x01088463, 0x8) ∷
-          (0x010d8863, 0x10) ∷
-          (0x03c58063, 0x20) ∷
-          (0x05e30063, 0x40) ∷
-          (0x087f8063, 0x80) ∷
-          (0x10748063, 0x100) ∷
-          (0x20388063, 0x200) ∷
-          (0x40428063, 0x400) ∷
-          (0x817c8063, 0xfffffffffffff000) ∷
-          (0xfe7d8f63, 0xfffffffffffff7fe) ∷
-          (0xff3f0ee3, 0xfffffffffffffffc) ∷
-          (0xffe70de3, 0xfffffffffffffffa) ∷
-          (0xfede8be3, 0xfffffffffffffff6) ∷
-          (0xfe2707e3, 0xffffffffffffffee) ∷
-          (0xfdb18fe3, 0xffffffffffffffde) ∷
-          (0xfb238fe3, 0xffffffffffffffbe) ∷
-          (0xf7a88fe3, 0xffffffffffffff7e) ∷
-          (0xef8e8fe3, 0xfffffffffffffefe) ∷
-          (0xdf308fe3, 0xfffffffffffffdfe) ∷
-          (0xbf4f0fe3, 0xfffffffffffffbfe) ∷
-          (0x7f198fe3, 0xffe) ∷
-          (0x61938663, 0x60c) ∷
-          (0xcc438163, 0xfffffffffffff4c2) ∷
-          (0x0c9a0ee3, 0x8dc) ∷
+          (0x005d0063, 0x0) ∷
+          (0xfe670fe3, 0xfffffffffffffffe) ∷
+          (0x018780e3, 0x800) ∷
+          (0x01e58163, 0x2) ∷
+          (0x00158263, 0x4) ∷
+          (0x008f0463, 0x8) ∷
+          (0x013a8863, 0x10) ∷
+          (0x02938063, 0x20) ∷
+          (0x05088063, 0x40) ∷
+          (0x090d8063, 0x80) ∷
+          (0x11c58063, 0x100) ∷
+          (0x21e30063, 0x200) ∷
+          (0x407f8063, 0x400) ∷
+          (0x80748063, 0xfffffffffffff000) ∷
+          (0xfe388f63, 0xfffffffffffff7fe) ∷
+          (0xfe428ee3, 0xfffffffffffffffc) ∷
+          (0xff7c8de3, 0xfffffffffffffffa) ∷
+          (0xfe7d8be3, 0xfffffffffffffff6) ∷
+          (0xff3f07e3, 0xffffffffffffffee) ∷
+          (0xfde70fe3, 0xffffffffffffffde) ∷
+          (0xfade8fe3, 0xffffffffffffffbe) ∷
+          (0xf6270fe3, 0xffffffffffffff7e) ∷
+          (0xefb18fe3, 0xfffffffffffffefe) ∷
+          (0xdf238fe3, 0xfffffffffffffdfe) ∷
+          (0xbfa88fe3, 0xfffffffffffffbfe) ∷
+          (0x7f8e8fe3, 0xffe) ∷
+          (0x61308663, 0x60c) ∷
+          (0xed4f0be3, 0xfffffffffffffed6) ∷
+          (0xcd198163, 0xfffffffffffff4c2) ∷
+          (0x1d9387e3, 0x9ce) ∷
+          (0x0c438ee3, 0x8dc) ∷
+          (0x3a9a04e3, 0xba8) ∷
           (0x024589e3, 0x832) ∷
-          (0x27750963, 0x272) ∷
-          (0x5f478e63, 0x5fc) ∷
-          (0xff1a8563, 0xfffffffffffff7ea) ∷
-          (0xe5c606e3, 0xfffffffffffffe4c) ∷
-          (0x23728763, 0x22e) ∷
-          (0x261c0ae3, 0xa74) ∷
-          (0x11a90ce3, 0x918) ∷
-          (0x6a850f63, 0x6be) ∷
-          (0x5baf8a63, 0x5b4) ∷
-          (0x3c990fe3, 0xbde) ∷
+          (0xb9750163, 0xfffffffffffff382) ∷
+          (0x27478963, 0x272) ∷
+          (0xd71a82e3, 0xfffffffffffffd64) ∷
+          (0x5fc60e63, 0x5fc) ∷
+          (0x55728563, 0x54a) ∷
+          (0xfe1c0563, 0xfffffffffffff7ea) ∷
+          (0xa1a90163, 0xfffffffffffff202) ∷
           [];
     }) ∷
     -- bne
@@ -752,46 +752,46 @@ btype_words =
       unit = 1;
       bits = 64;
       rows =
-          (0x01ea1063, 0x0) ∷
-          (0xff559fe3, 0xfffffffffffffffe) ∷
-          (0x018110e3, 0x800) ∷
-          (0x00e81163, 0x2) ∷
-          (0x01329263, 0x4) ∷
-          (0x012b1463, 0x8) ∷
-          (0x01ea1863, 0x10) ∷
-          (0x03771063, 0x20) ∷
-          (0x04cd1063, 0x40) ∷
-          (0x08e39063, 0x80) ∷
-          (0x118d1063, 0x100) ∷
-          (0x211e9063, 0x200) ∷
-          (0x41939063, 0x400) ∷
-          (0x81af9063, 0xfffffffffffff000) ∷
-          (0xff889f63, 0xfffffffffffff7fe) ∷
-          (0xffeb9ee3, 0xfffffffffffffffc) ∷
-          (0xfeb79de3, 0xfffffffffffffffa) ∷
-          (0xff599be3, 0xfffffffffffffff6) ∷
-          (0xff2e97e3, 0xffffffffffffffee) ∷
-          (0xfdc19fe3, 0xffffffffffffffde) ∷
-          (0xfaf59fe3, 0xffffffffffffffbe) ∷
-          (0xf6829fe3, 0xffffffffffffff7e) ∷
-          (0xee4a9fe3, 0xfffffffffffffefe) ∷
-          (0xde2c1fe3, 0xfffffffffffffdfe) ∷
-          (0xbfbe1fe3, 0xfffffffffffffbfe) ∷
-          (0x7f8a1fe3, 0xffe) ∷
-          (0x814f9663, 0xfffffffffffff00c) ∷
-          (0x5e2b1de3, 0xdfa) ∷
-          (0x0c691c63, 0xd8) ∷
+          (0x00181063, 0x0) ∷
+          (0xfe171fe3, 0xfffffffffffffffe) ∷
+          (0x011210e3, 0x800) ∷
+          (0x01df1163, 0x2) ∷
+          (0x01559263, 0x4) ∷
+          (0x01811463, 0x8) ∷
+          (0x00e81863, 0x10) ∷
+          (0x03329063, 0x20) ∷
+          (0x052b1063, 0x40) ∷
+          (0x09ea1063, 0x80) ∷
+          (0x11771063, 0x100) ∷
+          (0x20cd1063, 0x200) ∷
+          (0x40e39063, 0x400) ∷
+          (0x818d1063, 0xfffffffffffff000) ∷
+          (0xff1e9f63, 0xfffffffffffff7fe) ∷
+          (0xff939ee3, 0xfffffffffffffffc) ∷
+          (0xffaf9de3, 0xfffffffffffffffa) ∷
+          (0xff889be3, 0xfffffffffffffff6) ∷
+          (0xffeb97e3, 0xffffffffffffffee) ∷
+          (0xfcb79fe3, 0xffffffffffffffde) ∷
+          (0xfb599fe3, 0xffffffffffffffbe) ∷
+          (0xf72e9fe3, 0xffffffffffffff7e) ∷
+          (0xefc19fe3, 0xfffffffffffffefe) ∷
+          (0xdef59fe3, 0xfffffffffffffdfe) ∷
+          (0xbe829fe3, 0xfffffffffffffbfe) ∷
+          (0x7e4a9fe3, 0xffe) ∷
+          (0x802c1663, 0xfffffffffffff00c) ∷
+          (0x85be14e3, 0xfffffffffffff848) ∷
+          (0x5f8a1de3, 0xdfa) ∷
+          (0xcb4f9863, 0xfffffffffffff4b0) ∷
+          (0x0c2b1c63, 0xd8) ∷
+          (0x9e691fe3, 0xfffffffffffff9fe) ∷
           (0xb2e99563, 0xfffffffffffff32a) ∷
-          (0x55f215e3, 0xd4a) ∷
-          (0xd0251163, 0xfffffffffffff502) ∷
-          (0x4eca19e3, 0xcf2) ∷
-          (0x036d95e3, 0x82a) ∷
-          (0x261d9863, 0x270) ∷
-          (0xf8ef9ee3, 0xffffffffffffff9c) ∷
-          (0x6aa11f63, 0x6be) ∷
-          (0x18fa1263, 0x184) ∷
-          (0x853e99e3, 0xfffffffffffff852) ∷
-          (0x26c59d63, 0x27a) ∷
+          (0x9df214e3, 0xfffffffffffff9c8) ∷
+          (0x542515e3, 0xd4a) ∷
+          (0xe8ca1f63, 0xfffffffffffff69e) ∷
+          (0xd16d9163, 0xfffffffffffff502) ∷
+          (0x6a1d9ee3, 0xebc) ∷
+          (0x4eef99e3, 0xcf2) ∷
+          (0x7ca115e3, 0xfca) ∷
           [];
     }) ∷
     -- blt
@@ -799,46 +799,46 @@ btype_words =
       unit = 1;
       bits = 64;
       rows =
-          (0x00a84063, 0x0) ∷
-          (0xff6d4fe3, 0xfffffffffffffffe) ∷
-          (0x0053c0e3, 0x800) ∷
-          (0x01cac163, 0x2) ∷
-          (0x01a14263, 0x4) ∷
-          (0x01f14463, 0x8) ∷
-          (0x00fbc863, 0x10) ∷
-          (0x03cbc063, 0x20) ∷
-          (0x05e74063, 0x40) ∷
-          (0x08714063, 0x80) ∷
-          (0x10ab4063, 0x100) ∷
-          (0x21f0c063, 0x200) ∷
-          (0x40f4c063, 0x400) ∷
-          (0x81324063, 0xfffffffffffff000) ∷
-          (0xfe4a4f63, 0xfffffffffffff7fe) ∷
-          (0xffb9cee3, 0xfffffffffffffffc) ∷
-          (0xff27cde3, 0xfffffffffffffffa) ∷
-          (0xfffacbe3, 0xfffffffffffffff6) ∷
-          (0xfff447e3, 0xffffffffffffffee) ∷
-          (0xfd394fe3, 0xffffffffffffffde) ∷
-          (0xfbb8cfe3, 0xffffffffffffffbe) ∷
-          (0xf7164fe3, 0xffffffffffffff7e) ∷
-          (0xef3e4fe3, 0xfffffffffffffefe) ∷
-          (0xde2e4fe3, 0xfffffffffffffdfe) ∷
-          (0xbf684fe3, 0xfffffffffffffbfe) ∷
-          (0x7fe0cfe3, 0xffe) ∷
-          (0x8d2349e3, 0xfffffffffffff8d2) ∷
-          (0x54e64ee3, 0xd5c) ∷
+          (0x01a14063, 0x0) ∷
+          (0xfe954fe3, 0xfffffffffffffffe) ∷
+          (0x012bc0e3, 0x800) ∷
+          (0x003fc163, 0x2) ∷
+          (0x0053c263, 0x4) ∷
+          (0x01cac463, 0x8) ∷
+          (0x01a14863, 0x10) ∷
+          (0x03f14063, 0x20) ∷
+          (0x04fbc063, 0x40) ∷
+          (0x09cbc063, 0x80) ∷
+          (0x11e74063, 0x100) ∷
+          (0x20714063, 0x200) ∷
+          (0x40ab4063, 0x400) ∷
+          (0x81f0c063, 0xfffffffffffff000) ∷
+          (0xfef4cf63, 0xfffffffffffff7fe) ∷
+          (0xff324ee3, 0xfffffffffffffffc) ∷
+          (0xfe4a4de3, 0xfffffffffffffffa) ∷
+          (0xffb9cbe3, 0xfffffffffffffff6) ∷
+          (0xff27c7e3, 0xffffffffffffffee) ∷
+          (0xfdfacfe3, 0xffffffffffffffde) ∷
+          (0xfbf44fe3, 0xffffffffffffffbe) ∷
+          (0xf7394fe3, 0xffffffffffffff7e) ∷
+          (0xefb8cfe3, 0xfffffffffffffefe) ∷
+          (0xdf164fe3, 0xfffffffffffffdfe) ∷
+          (0xbf3e4fe3, 0xfffffffffffffbfe) ∷
+          (0x7e2e4fe3, 0xffe) ∷
+          (0x8d6849e3, 0xfffffffffffff8d2) ∷
+          (0x41e0c7e3, 0xc0e) ∷
+          (0x55234ee3, 0xd5c) ∷
+          (0xc6e64b63, 0xfffffffffffff476) ∷
           (0x6b4f42e3, 0xea4) ∷
-          (0xdb6f4fe3, 0xfffffffffffffdbe) ∷
-          (0xd05ece63, 0xfffffffffffff51c) ∷
-          (0x0155c963, 0x12) ∷
-          (0x505bc1e3, 0xd02) ∷
-          (0xfb964963, 0xfffffffffffff7b2) ∷
-          (0xc9d74d63, 0xfffffffffffff49a) ∷
-          (0xbae5cbe3, 0xfffffffffffffbb6) ∷
-          (0xda534063, 0xfffffffffffff5a0) ∷
-          (0x44c74de3, 0xc5a) ∷
-          (0x79824ee3, 0xf9c) ∷
-          (0x47644363, 0x466) ∷
+          (0xe56f4563, 0xfffffffffffff64a) ∷
+          (0xda5ecfe3, 0xfffffffffffffdbe) ∷
+          (0x0b55c1e3, 0x8a2) ∷
+          (0xd05bce63, 0xfffffffffffff51c) ∷
+          (0x3f9649e3, 0xbf2) ∷
+          (0x01d74963, 0x12) ∷
+          (0xe2e5c8e3, 0xfffffffffffffe30) ∷
+          (0x505341e3, 0xd02) ∷
+          (0x9cc74863, 0xfffffffffffff1d0) ∷
           [];
     }) ∷
     -- bge
@@ -846,46 +846,46 @@ btype_words =
       unit = 1;
       bits = 64;
       rows =
-          (0x00b1d063, 0x0) ∷
-          (0xfe68dfe3, 0xfffffffffffffffe) ∷
-          (0x00e450e3, 0x800) ∷
-          (0x00a4d163, 0x2) ∷
-          (0x00b7d263, 0x4) ∷
-          (0x00695463, 0x8) ∷
-          (0x01e95863, 0x10) ∷
-          (0x03155063, 0x20) ∷
-          (0x05ed5063, 0x40) ∷
-          (0x0816d063, 0x80) ∷
-          (0x1058d063, 0x100) ∷
-          (0x207ad063, 0x200) ∷
-          (0x40b35063, 0x400) ∷
-          (0x811ad063, 0xfffffffffffff000) ∷
-          (0xff63df63, 0xfffffffffffff7fe) ∷
-          (0xfe4cdee3, 0xfffffffffffffffc) ∷
-          (0xff01dde3, 0xfffffffffffffffa) ∷
-          (0xfed3dbe3, 0xfffffffffffffff6) ∷
-          (0xff2b57e3, 0xffffffffffffffee) ∷
-          (0xfc915fe3, 0xffffffffffffffde) ∷
-          (0xfafedfe3, 0xffffffffffffffbe) ∷
-          (0xf776dfe3, 0xffffffffffffff7e) ∷
-          (0xeece5fe3, 0xfffffffffffffefe) ∷
-          (0xdfeedfe3, 0xfffffffffffffdfe) ∷
-          (0xbf81dfe3, 0xfffffffffffffbfe) ∷
-          (0x7e3a5fe3, 0xffe) ∷
-          (0x0c83dee3, 0x8dc) ∷
-          (0x45735fe3, 0xc5e) ∷
+          (0x0027d063, 0x0) ∷
+          (0xfef45fe3, 0xfffffffffffffffe) ∷
+          (0x00e350e3, 0x800) ∷
+          (0x00b95163, 0x2) ∷
+          (0x001dd263, 0x4) ∷
+          (0x01e2d463, 0x8) ∷
+          (0x00a95863, 0x10) ∷
+          (0x023fd063, 0x20) ∷
+          (0x04a9d063, 0x40) ∷
+          (0x09155063, 0x80) ∷
+          (0x11ed5063, 0x100) ∷
+          (0x2016d063, 0x200) ∷
+          (0x4058d063, 0x400) ∷
+          (0x807ad063, 0xfffffffffffff000) ∷
+          (0xfeb35f63, 0xfffffffffffff7fe) ∷
+          (0xff1adee3, 0xfffffffffffffffc) ∷
+          (0xff63dde3, 0xfffffffffffffffa) ∷
+          (0xfe4cdbe3, 0xfffffffffffffff6) ∷
+          (0xff01d7e3, 0xffffffffffffffee) ∷
+          (0xfcd3dfe3, 0xffffffffffffffde) ∷
+          (0xfb2b5fe3, 0xffffffffffffffbe) ∷
+          (0xf6915fe3, 0xffffffffffffff7e) ∷
+          (0xeefedfe3, 0xfffffffffffffefe) ∷
+          (0xdf76dfe3, 0xfffffffffffffdfe) ∷
+          (0xbece5fe3, 0xfffffffffffffbfe) ∷
+          (0x7feedfe3, 0xffe) ∷
+          (0x0d81dee3, 0x8dc) ∷
+          (0x843a53e3, 0xfffffffffffff846) ∷
+          (0x4483dfe3, 0xc5e) ∷
+          (0x877351e3, 0xfffffffffffff862) ∷
           (0x30a15a63, 0x314) ∷
-          (0xe549da63, 0xfffffffffffff654) ∷
-          (0xa6a3da63, 0xfffffffffffff274) ∷
-          (0x405459e3, 0xc12) ∷
-          (0x5b465a63, 0x5b4) ∷
-          (0x2e28de63, 0x2fc) ∷
-          (0x0b42dde3, 0x8ba) ∷
-          (0x65335ae3, 0xe54) ∷
-          (0x9306d463, 0xfffffffffffff128) ∷
-          (0x388cd463, 0x388) ∷
-          (0x341b5863, 0x350) ∷
-          (0x6d8f5c63, 0x6d8) ∷
+          (0x9549d663, 0xfffffffffffff14c) ∷
+          (0xe4a3da63, 0xfffffffffffff654) ∷
+          (0x14545e63, 0x15c) ∷
+          (0xa7465a63, 0xfffffffffffff274) ∷
+          (0x9a28dfe3, 0xfffffffffffff9be) ∷
+          (0x4142d9e3, 0xc12) ∷
+          (0x71335863, 0x710) ∷
+          (0x5b06da63, 0x5b4) ∷
+          (0xc68cda63, 0xfffffffffffff474) ∷
           [];
     }) ∷
     -- bltu
@@ -893,46 +893,46 @@ btype_words =
       unit = 1;
       bits = 64;
       rows =
-          (0x00666063, 0x0) ∷
-          (0xff05efe3, 0xfffffffffffffffe) ∷
-          (0x01cf60e3, 0x800) ∷
-          (0x00fe6163, 0x2) ∷
-          (0x01986263, 0x4) ∷
-          (0x01216463, 0x8) ∷
-          (0x01c7e863, 0x10) ∷
-          (0x03886063, 0x20) ∷
-          (0x05cb6063, 0x40) ∷
-          (0x089f6063, 0x80) ∷
-          (0x10c6e063, 0x100) ∷
-          (0x20bb6063, 0x200) ∷
-          (0x41b16063, 0x400) ∷
-          (0x80286063, 0xfffffffffffff000) ∷
-          (0xfff1ef63, 0xfffffffffffff7fe) ∷
-          (0xff13eee3, 0xfffffffffffffffc) ∷
-          (0xfe5cede3, 0xfffffffffffffffa) ∷
-          (0xffe3ebe3, 0xfffffffffffffff6) ∷
-          (0xff6c67e3, 0xffffffffffffffee) ∷
-          (0xfd97efe3, 0xffffffffffffffde) ∷
-          (0xfa7d6fe3, 0xffffffffffffffbe) ∷
-          (0xf6fbefe3, 0xffffffffffffff7e) ∷
-          (0xeebe6fe3, 0xfffffffffffffefe) ∷
-          (0xdf8d6fe3, 0xfffffffffffffdfe) ∷
-          (0xbf30efe3, 0xfffffffffffffbfe) ∷
-          (0x7e5f6fe3, 0xffe) ∷
-          (0x841a6f63, 0xfffffffffffff05e) ∷
-          (0xa7aae863, 0xfffffffffffff270) ∷
+          (0x0025e063, 0x0) ∷
+          (0xff376fe3, 0xfffffffffffffffe) ∷
+          (0x00b3e0e3, 0x800) ∷
+          (0x0082e163, 0x2) ∷
+          (0x00ab6263, 0x4) ∷
+          (0x00fe6463, 0x8) ∷
+          (0x01986863, 0x10) ∷
+          (0x03216063, 0x20) ∷
+          (0x05c7e063, 0x40) ∷
+          (0x09886063, 0x80) ∷
+          (0x11cb6063, 0x100) ∷
+          (0x209f6063, 0x200) ∷
+          (0x40c6e063, 0x400) ∷
+          (0x80bb6063, 0xfffffffffffff000) ∷
+          (0xffb16f63, 0xfffffffffffff7fe) ∷
+          (0xfe286ee3, 0xfffffffffffffffc) ∷
+          (0xfff1ede3, 0xfffffffffffffffa) ∷
+          (0xff13ebe3, 0xfffffffffffffff6) ∷
+          (0xfe5ce7e3, 0xffffffffffffffee) ∷
+          (0xfde3efe3, 0xffffffffffffffde) ∷
+          (0xfb6c6fe3, 0xffffffffffffffbe) ∷
+          (0xf797efe3, 0xffffffffffffff7e) ∷
+          (0xee7d6fe3, 0xfffffffffffffefe) ∷
+          (0xdefbefe3, 0xfffffffffffffdfe) ∷
+          (0xbebe6fe3, 0xfffffffffffffbfe) ∷
+          (0x7f8d6fe3, 0xffe) ∷
+          (0x8530ef63, 0xfffffffffffff05e) ∷
+          (0xbe5f6663, 0xfffffffffffff3ec) ∷
+          (0xa61a6863, 0xfffffffffffff270) ∷
+          (0x05aaeee3, 0x85c) ∷
           (0x80a5e663, 0xfffffffffffff00c) ∷
-          (0x3a176163, 0x3a2) ∷
-          (0x1eecec63, 0x1f8) ∷
-          (0x0e6969e3, 0x8f2) ∷
-          (0xef8164e3, 0xfffffffffffffee8) ∷
-          (0x1f836463, 0x1e8) ∷
-          (0x0abc6663, 0xac) ∷
-          (0x09256c63, 0x98) ∷
-          (0x871a6663, 0xfffffffffffff06c) ∷
-          (0x6b1c6363, 0x6a6) ∷
-          (0x93456ae3, 0xfffffffffffff934) ∷
-          (0x4e39ede3, 0xcfa) ∷
+          (0xb41763e3, 0xfffffffffffffb46) ∷
+          (0x3aece163, 0x3a2) ∷
+          (0x0c696b63, 0xd6) ∷
+          (0x1f816c63, 0x1f8) ∷
+          (0xdb836e63, 0xfffffffffffff5bc) ∷
+          (0x0ebc69e3, 0x8f2) ∷
+          (0x1d2562e3, 0x9c4) ∷
+          (0xef1a64e3, 0xfffffffffffffee8) ∷
+          (0xef1c6763, 0xfffffffffffff6ee) ∷
           [];
     }) ∷
     -- bgeu
@@ -940,46 +940,46 @@ btype_words =
       unit = 1;
       bits = 64;
       rows =
-          (0x0104f063, 0x0) ∷
-          (0xfe1fffe3, 0xfffffffffffffffe) ∷
-          (0x0186f0e3, 0x800) ∷
-          (0x017c7163, 0x2) ∷
-          (0x0136f263, 0x4) ∷
-          (0x01e0f463, 0x8) ∷
-          (0x01b9f863, 0x10) ∷
-          (0x02bd7063, 0x20) ∷
-          (0x057df063, 0x40) ∷
-          (0x08b37063, 0x80) ∷
-          (0x11b9f063, 0x100) ∷
-          (0x20a77063, 0x200) ∷
-          (0x413a7063, 0x400) ∷
-          (0x81f1f063, 0xfffffffffffff000) ∷
-          (0xfea97f63, 0xfffffffffffff7fe) ∷
-          (0xff6afee3, 0xfffffffffffffffc) ∷
-          (0xff047de3, 0xfffffffffffffffa) ∷
-          (0xfecf7be3, 0xfffffffffffffff6) ∷
-          (0xfe8677e3, 0xffffffffffffffee) ∷
-          (0xfcd7ffe3, 0xffffffffffffffde) ∷
-          (0xfaaeffe3, 0xffffffffffffffbe) ∷
-          (0xf7997fe3, 0xffffffffffffff7e) ∷
-          (0xeeecffe3, 0xfffffffffffffefe) ∷
-          (0xde90ffe3, 0xfffffffffffffdfe) ∷
-          (0xbf49ffe3, 0xfffffffffffffbfe) ∷
-          (0x7fa47fe3, 0xffe) ∷
-          (0x489cfc63, 0x498) ∷
-          (0x4ea9f7e3, 0xcee) ∷
+          (0x0127f063, 0x0) ∷
+          (0xfe3fffe3, 0xfffffffffffffffe) ∷
+          (0x002870e3, 0x800) ∷
+          (0x01b0f163, 0x2) ∷
+          (0x0186f263, 0x4) ∷
+          (0x017c7463, 0x8) ∷
+          (0x0136f863, 0x10) ∷
+          (0x03e0f063, 0x20) ∷
+          (0x05b9f063, 0x40) ∷
+          (0x08bd7063, 0x80) ∷
+          (0x117df063, 0x100) ∷
+          (0x20b37063, 0x200) ∷
+          (0x41b9f063, 0x400) ∷
+          (0x80a77063, 0xfffffffffffff000) ∷
+          (0xff3a7f63, 0xfffffffffffff7fe) ∷
+          (0xfff1fee3, 0xfffffffffffffffc) ∷
+          (0xfea97de3, 0xfffffffffffffffa) ∷
+          (0xff6afbe3, 0xfffffffffffffff6) ∷
+          (0xff0477e3, 0xffffffffffffffee) ∷
+          (0xfccf7fe3, 0xffffffffffffffde) ∷
+          (0xfa867fe3, 0xffffffffffffffbe) ∷
+          (0xf6d7ffe3, 0xffffffffffffff7e) ∷
+          (0xeeaeffe3, 0xfffffffffffffefe) ∷
+          (0xdf997fe3, 0xfffffffffffffdfe) ∷
+          (0xbeecffe3, 0xfffffffffffffbfe) ∷
+          (0x7e90ffe3, 0xffe) ∷
+          (0x4949fc63, 0x498) ∷
+          (0x1ba47863, 0x1b0) ∷
+          (0x4e9cf7e3, 0xcee) ∷
+          (0x68a9fee3, 0xe9c) ∷
           (0xddc77163, 0xfffffffffffff5c2) ∷
-          (0xff8df363, 0xfffffffffffff7e6) ∷
-          (0xf1da7363, 0xfffffffffffff706) ∷
-          (0xd54ffce3, 0xfffffffffffffd58) ∷
-          (0x7a23fbe3, 0xfb6) ∷
-          (0x9306ffe3, 0xfffffffffffff93e) ∷
-          (0x8ec0fe63, 0xfffffffffffff0fc) ∷
-          (0xc65b76e3, 0xfffffffffffffc6c) ∷
-          (0x80a5f5e3, 0xfffffffffffff80a) ∷
-          (0x113479e3, 0x912) ∷
-          (0xf63f79e3, 0xffffffffffffff72) ∷
-          (0x35d475e3, 0xb4a) ∷
+          (0x7b8dfd63, 0x7ba) ∷
+          (0xffda7363, 0xfffffffffffff7e6) ∷
+          (0x0f4ff263, 0xe4) ∷
+          (0xf023f363, 0xfffffffffffff706) ∷
+          (0x1f06f963, 0x1f2) ∷
+          (0xd4c0fce3, 0xfffffffffffffd58) ∷
+          (0x645b7fe3, 0xe5e) ∷
+          (0x7aa5fbe3, 0xfb6) ∷
+          (0x73347ee3, 0xf3c) ∷
           [];
     }) ∷
     []
@@ -991,54 +991,54 @@ jtype_words =
       unit = 1;
       bits = 64;
       rows =
-          (0x00000e6f, 0x0) ∷
-          (0xfffffc6f, 0xfffffffffffffffe) ∷
-          (0x00001e6f, 0x1000) ∷
-          (0x00002e6f, 0x2000) ∷
-          (0x00004b6f, 0x4000) ∷
-          (0x00008aef, 0x8000) ∷
-          (0x0001016f, 0x10000) ∷
-          (0x00020e6f, 0x20000) ∷
-          (0x000407ef, 0x40000) ∷
-          (0x000806ef, 0x80000) ∷
-          (0x001000ef, 0x800) ∷
-          (0x0020086f, 0x2) ∷
-          (0x00400e6f, 0x4) ∷
+          (0x00000def, 0x0) ∷
+          (0xfffffb6f, 0xfffffffffffffffe) ∷
+          (0x0000176f, 0x1000) ∷
+          (0x0000246f, 0x2000) ∷
+          (0x00004d6f, 0x4000) ∷
+          (0x00008e6f, 0x8000) ∷
+          (0x00010b6f, 0x10000) ∷
+          (0x00020aef, 0x20000) ∷
+          (0x0004016f, 0x40000) ∷
+          (0x00080e6f, 0x80000) ∷
+          (0x001007ef, 0x800) ∷
+          (0x002006ef, 0x2) ∷
+          (0x004000ef, 0x4) ∷
           (0x0080086f, 0x8) ∷
-          (0x01000a6f, 0x10) ∷
-          (0x020009ef, 0x20) ∷
-          (0x04000bef, 0x40) ∷
-          (0x0800016f, 0x80) ∷
-          (0x10000cef, 0x100) ∷
-          (0x2000036f, 0x200) ∷
-          (0x4000076f, 0x400) ∷
-          (0x80000def, 0xfffffffffff00000) ∷
-          (0xffffe46f, 0xffffffffffffeffe) ∷
-          (0xffffd86f, 0xffffffffffffdffe) ∷
-          (0xffffb56f, 0xffffffffffffbffe) ∷
-          (0xffff716f, 0xffffffffffff7ffe) ∷
-          (0xfffef1ef, 0xfffffffffffefffe) ∷
-          (0xfffdf4ef, 0xfffffffffffdfffe) ∷
-          (0xfffbfeef, 0xfffffffffffbfffe) ∷
-          (0xfff7f7ef, 0xfffffffffff7fffe) ∷
-          (0xffeffd6f, 0xfffffffffffff7fe) ∷
-          (0xffdff36f, 0xfffffffffffffffc) ∷
-          (0xffbffa6f, 0xfffffffffffffffa) ∷
-          (0xff7ffe6f, 0xfffffffffffffff6) ∷
-          (0xfefff76f, 0xffffffffffffffee) ∷
-          (0xfdfff26f, 0xffffffffffffffde) ∷
-          (0xfbffff6f, 0xffffffffffffffbe) ∷
-          (0xf7fffdef, 0xffffffffffffff7e) ∷
-          (0xeffffeef, 0xfffffffffffffefe) ∷
-          (0xdffff4ef, 0xfffffffffffffdfe) ∷
-          (0xbffff6ef, 0xfffffffffffffbfe) ∷
-          (0x7ffff56f, 0xffffe) ∷
-          (0x24fa496f, 0xa4a4e) ∷
-          (0x49ef0b6f, 0xf049e) ∷
+          (0x01000e6f, 0x10) ∷
+          (0x0200086f, 0x20) ∷
+          (0x04000a6f, 0x40) ∷
+          (0x080009ef, 0x80) ∷
+          (0x10000bef, 0x100) ∷
+          (0x2000016f, 0x200) ∷
+          (0x40000cef, 0x400) ∷
+          (0x8000036f, 0xfffffffffff00000) ∷
+          (0xffffe76f, 0xffffffffffffeffe) ∷
+          (0xffffddef, 0xffffffffffffdffe) ∷
+          (0xffffb46f, 0xffffffffffffbffe) ∷
+          (0xffff786f, 0xffffffffffff7ffe) ∷
+          (0xfffef56f, 0xfffffffffffefffe) ∷
+          (0xfffdf16f, 0xfffffffffffdfffe) ∷
+          (0xfffbf1ef, 0xfffffffffffbfffe) ∷
+          (0xfff7f4ef, 0xfffffffffff7fffe) ∷
+          (0xffeffeef, 0xfffffffffffff7fe) ∷
+          (0xffdff7ef, 0xfffffffffffffffc) ∷
+          (0xffbffd6f, 0xfffffffffffffffa) ∷
+          (0xff7ff36f, 0xfffffffffffffff6) ∷
+          (0xfefffa6f, 0xffffffffffffffee) ∷
+          (0xfdfffe6f, 0xffffffffffffffde) ∷
+          (0xfbfff76f, 0xffffffffffffffbe) ∷
+          (0xf7fff26f, 0xffffffffffffff7e) ∷
+          (0xefffff6f, 0xfffffffffffffefe) ∷
+          (0xdffffdef, 0xfffffffffffffdfe) ∷
+          (0xbffffeef, 0xfffffffffffffbfe) ∷
+          (0x7ffff4ef, 0xffffe) ∷
+          (0x24fa46ef, 0xa4a4e) ∷
+          (0xc91aa56f, 0xfffffffffffaac90) ∷
+          (0x49ef096f, 0xf049e) ∷
+          (0x9c087b6f, 0xfffffffffff871c0) ∷
           (0xe7a9ffef, 0xfffffffffff9f67a) ∷
-          (0x6348126f, 0x81634) ∷
-          (0xd32e5def, 0xfffffffffffe5532) ∷
-          (0xfedb5f6f, 0xfffffffffffb5fec) ∷
+          (0xa2a4926f, 0xfffffffffff4922a) ∷
           [];
     }) ∷
     []
@@ -1050,46 +1050,46 @@ cbtype_words =
       unit = 1;
       bits = 64;
       rows =
-          (0xc381, 0x0) ∷
-          (0xde7d, 0xfffffffffffffffe) ∷
-          (0xc285, 0x20) ∷
+          (0xc281, 0x0) ∷
+          (0xdefd, 0xfffffffffffffffe) ∷
+          (0xc085, 0x20) ∷
           (0xc309, 0x2) ∷
-          (0xc011, 0x4) ∷
+          (0xc311, 0x4) ∷
           (0xc321, 0x40) ∷
-          (0xc341, 0x80) ∷
-          (0xc581, 0x8) ∷
-          (0xc981, 0x10) ∷
-          (0xd281, 0xffffffffffffff00) ∷
-          (0xdef9, 0xffffffffffffffde) ∷
-          (0xdff5, 0xfffffffffffffffc) ∷
-          (0xdd6d, 0xfffffffffffffffa) ∷
+          (0xc2c1, 0x80) ∷
+          (0xc781, 0x8) ∷
+          (0xc881, 0x10) ∷
+          (0xd381, 0xffffffffffffff00) ∷
+          (0xddf9, 0xffffffffffffffde) ∷
+          (0xdef5, 0xfffffffffffffffc) ∷
+          (0xdf6d, 0xfffffffffffffffa) ∷
           (0xdc5d, 0xffffffffffffffbe) ∷
-          (0xdd3d, 0xffffffffffffff7e) ∷
+          (0xdf3d, 0xffffffffffffff7e) ∷
           (0xdb7d, 0xfffffffffffffff6) ∷
-          (0xd7fd, 0xffffffffffffffee) ∷
-          (0xcd7d, 0xfe) ∷
-          (0xd9e9, 0xffffffffffffffd2) ∷
-          (0xd625, 0xffffffffffffff68) ∷
-          (0xdc11, 0xffffffffffffff1c) ∷
-          (0xc6ad, 0x6a) ∷
-          (0xd30d, 0xffffffffffffff22) ∷
-          (0xc771, 0xcc) ∷
-          (0xd4dd, 0xffffffffffffffae) ∷
-          (0xdc69, 0xffffffffffffffda) ∷
-          (0xdc61, 0xffffffffffffffd8) ∷
-          (0xc9e9, 0xd2) ∷
-          (0xd809, 0xffffffffffffff12) ∷
-          (0xd1dd, 0xffffffffffffffa6) ∷
-          (0xdc09, 0xffffffffffffff1a) ∷
-          (0xd379, 0xffffffffffffffc6) ∷
-          (0xd9d9, 0xffffffffffffff96) ∷
-          (0xdfb9, 0xffffffffffffff5e) ∷
-          (0xd091, 0xffffffffffffff04) ∷
-          (0xc6c1, 0x88) ∷
-          (0xcad9, 0x96) ∷
-          (0xdd8d, 0xffffffffffffff3a) ∷
-          (0xcf25, 0x78) ∷
-          (0xcc71, 0xdc) ∷
+          (0xd5fd, 0xffffffffffffffee) ∷
+          (0xcdfd, 0xfe) ∷
+          (0xc695, 0x2c) ∷
+          (0xc2c5, 0xa0) ∷
+          (0xcf95, 0x3c) ∷
+          (0xdd29, 0xffffffffffffff5a) ∷
+          (0xdc2d, 0xffffffffffffff7a) ∷
+          (0xc921, 0x50) ∷
+          (0xdf19, 0xffffffffffffff1e) ∷
+          (0xcfad, 0x7a) ∷
+          (0xd519, 0xffffffffffffff0e) ∷
+          (0xcdbd, 0x7e) ∷
+          (0xda59, 0xffffffffffffff96) ∷
+          (0xc849, 0x92) ∷
+          (0xced1, 0x9c) ∷
+          (0xc74d, 0xaa) ∷
+          (0xcf11, 0x1c) ∷
+          (0xcce9, 0xda) ∷
+          (0xcc4d, 0xba) ∷
+          (0xd431, 0xffffffffffffff4c) ∷
+          (0xc5ad, 0x6a) ∷
+          (0xd44d, 0xffffffffffffffaa) ∷
+          (0xd9b5, 0xffffffffffffff74) ∷
+          (0xc03d, 0x66) ∷
           [];
     }) ∷
     -- c.bnez
@@ -1097,46 +1097,46 @@ cbtype_words =
       unit = 1;
       bits = 64;
       rows =
-          (0xe181, 0x0) ∷
-          (0xfd7d, 0xfffffffffffffffe) ∷
-          (0xe105, 0x20) ∷
-          (0xe209, 0x2) ∷
+          (0xe201, 0x0) ∷
+          (0xff7d, 0xfffffffffffffffe) ∷
+          (0xe005, 0x20) ∷
+          (0xe189, 0x2) ∷
           (0xe191, 0x4) ∷
-          (0xe1a1, 0x40) ∷
-          (0xe3c1, 0x80) ∷
-          (0xe601, 0x8) ∷
+          (0xe021, 0x40) ∷
+          (0xe0c1, 0x80) ∷
+          (0xe481, 0x8) ∷
           (0xe981, 0x10) ∷
           (0xf101, 0xffffffffffffff00) ∷
-          (0xfcf9, 0xffffffffffffffde) ∷
-          (0xfff5, 0xfffffffffffffffc) ∷
+          (0xfd79, 0xffffffffffffffde) ∷
+          (0xfe75, 0xfffffffffffffffc) ∷
           (0xfded, 0xfffffffffffffffa) ∷
-          (0xfcdd, 0xffffffffffffffbe) ∷
-          (0xfc3d, 0xffffffffffffff7e) ∷
-          (0xfb7d, 0xfffffffffffffff6) ∷
-          (0xf67d, 0xffffffffffffffee) ∷
-          (0xeefd, 0xfe) ∷
-          (0xf481, 0xffffffffffffff08) ∷
-          (0xec79, 0xde) ∷
-          (0xfaa1, 0xffffffffffffff50) ∷
-          (0xf3e9, 0xffffffffffffffc2) ∷
-          (0xe9ed, 0xf2) ∷
-          (0xe725, 0x68) ∷
-          (0xeab9, 0x56) ∷
-          (0xeab1, 0x54) ∷
-          (0xef75, 0xfc) ∷
-          (0xf6f1, 0xffffffffffffffcc) ∷
-          (0xfa95, 0xffffffffffffff34) ∷
-          (0xf6e9, 0xffffffffffffffca) ∷
-          (0xf519, 0xffffffffffffff0e) ∷
-          (0xe789, 0xa) ∷
-          (0xea55, 0xb4) ∷
-          (0xe9bd, 0x76) ∷
-          (0xe5c1, 0x88) ∷
-          (0xe33d, 0x66) ∷
-          (0xf159, 0xffffffffffffff86) ∷
-          (0xe4f9, 0xce) ∷
-          (0xf9f5, 0xfffffffffffffff4) ∷
-          (0xf585, 0xffffffffffffff28) ∷
+          (0xfddd, 0xffffffffffffffbe) ∷
+          (0xffbd, 0xffffffffffffff7e) ∷
+          (0xfa7d, 0xfffffffffffffff6) ∷
+          (0xf5fd, 0xffffffffffffffee) ∷
+          (0xed7d, 0xfe) ∷
+          (0xecad, 0x7a) ∷
+          (0xe3c9, 0x82) ∷
+          (0xf5e1, 0xffffffffffffffc8) ∷
+          (0xe8a5, 0x70) ∷
+          (0xf831, 0xffffffffffffff54) ∷
+          (0xef69, 0xda) ∷
+          (0xf665, 0xffffffffffffffe8) ∷
+          (0xf2a1, 0xffffffffffffff40) ∷
+          (0xe8b5, 0x74) ∷
+          (0xe821, 0x50) ∷
+          (0xe69d, 0x2e) ∷
+          (0xfba9, 0xffffffffffffff52) ∷
+          (0xed95, 0x3c) ∷
+          (0xf375, 0xffffffffffffffe4) ∷
+          (0xfaed, 0xfffffffffffffff2) ∷
+          (0xe2ad, 0x62) ∷
+          (0xf361, 0xffffffffffffffc0) ∷
+          (0xf691, 0xffffffffffffff0c) ∷
+          (0xeaf9, 0xd6) ∷
+          (0xf6a9, 0xffffffffffffff4a) ∷
+          (0xfd2d, 0xffffffffffffff7a) ∷
+          (0xfbcd, 0xffffffffffffffb2) ∷
           [];
     }) ∷
     []
@@ -1172,22 +1172,22 @@ cjtype_words =
           (0xbbfd, 0xfffffffffffffdfe) ∷
           (0xb7fd, 0xffffffffffffffee) ∷
           (0xaffd, 0x7fe) ∷
-          (0xaa89, 0x152) ∷
-          (0xbfb9, 0xffffffffffffff5e) ∷
-          (0xa821, 0x18) ∷
-          (0xaac5, 0x1f0) ∷
-          (0xa849, 0x92) ∷
-          (0xa3fd, 0x5ee) ∷
-          (0xb49d, 0xfffffffffffffa66) ∷
-          (0xbb71, 0xfffffffffffffd9c) ∷
-          (0xb805, 0xfffffffffffff830) ∷
-          (0xba99, 0xfffffffffffff956) ∷
-          (0xa889, 0x52) ∷
-          (0xaf8d, 0x772) ∷
-          (0xa0a9, 0x4a) ∷
-          (0xabe9, 0x5da) ∷
-          (0xa0cd, 0xe2) ∷
-          (0xbdf5, 0xfffffffffffffefc) ∷
+          (0xb36d, 0xfffffffffffffdaa) ∷
+          (0xba95, 0xfffffffffffff974) ∷
+          (0xb0b9, 0xfffffffffffff84e) ∷
+          (0xb68d, 0xfffffffffffffb62) ∷
+          (0xa3a9, 0x54a) ∷
+          (0xb83d, 0xfffffffffffff83e) ∷
+          (0xa1c5, 0x4e0) ∷
+          (0xabb5, 0x57c) ∷
+          (0xbb81, 0xfffffffffffffd50) ∷
+          (0xb7cd, 0xffffffffffffffe2) ∷
+          (0xa805, 0x30) ∷
+          (0xa4a9, 0x24a) ∷
+          (0xaed1, 0x3d4) ∷
+          (0xb331, 0xfffffffffffffd0c) ∷
+          (0xa78d, 0x762) ∷
+          (0xad65, 0x6b8) ∷
           [];
     }) ∷
     []
@@ -1199,46 +1199,46 @@ cluitype_words =
       unit = 1;
       bits = 64;
       rows =
-          (0x76fd, 0xfffffffffffff000) ∷
-          (0x6c05, 0x1000) ∷
-          (0x6f89, 0x2000) ∷
-          (0x6e11, 0x4000) ∷
-          (0x6ea1, 0x8000) ∷
-          (0x6641, 0x10000) ∷
-          (0x7e01, 0xfffffffffffe0000) ∷
+          (0x787d, 0xfffffffffffff000) ∷
+          (0x6d05, 0x1000) ∷
+          (0x6e09, 0x2000) ∷
+          (0x6511, 0x4000) ∷
+          (0x66a1, 0x8000) ∷
+          (0x64c1, 0x10000) ∷
+          (0x7281, 0xfffffffffffe0000) ∷
           (0x7679, 0xffffffffffffe000) ∷
-          (0x76f5, 0xffffffffffffd000) ∷
-          (0x70ed, 0xffffffffffffb000) ∷
-          (0x785d, 0xffffffffffff7000) ∷
-          (0x7dbd, 0xfffffffffffef000) ∷
-          (0x66fd, 0x1f000) ∷
-          (0x7445, 0xffffffffffff1000) ∷
-          (0x6a8d, 0x3000) ∷
-          (0x73cd, 0xffffffffffff3000) ∷
-          (0x7ce1, 0xffffffffffff8000) ∷
-          (0x67ed, 0x1b000) ∷
-          (0x6fb9, 0xe000) ∷
-          (0x781d, 0xfffffffffffe7000) ∷
-          (0x6dc9, 0x12000) ∷
-          (0x6a29, 0xa000) ∷
-          (0x65b5, 0xd000) ∷
-          (0x78e5, 0xffffffffffff9000) ∷
-          (0x7e15, 0xfffffffffffe5000) ∷
-          (0x7c89, 0xfffffffffffe2000) ∷
-          (0x6925, 0x9000) ∷
-          (0x728d, 0xfffffffffffe3000) ∷
-          (0x7e2d, 0xfffffffffffeb000) ∷
-          (0x6c1d, 0x7000) ∷
-          (0x63e9, 0x1a000) ∷
-          (0x7659, 0xffffffffffff6000) ∷
-          (0x62d1, 0x14000) ∷
-          (0x7dd1, 0xffffffffffff4000) ∷
-          (0x67e1, 0x18000) ∷
-          (0x7841, 0xffffffffffff0000) ∷
-          (0x60f1, 0x1c000) ∷
-          (0x6b95, 0x5000) ∷
-          (0x6579, 0x1e000) ∷
-          (0x6fc5, 0x11000) ∷
+          (0x7575, 0xffffffffffffd000) ∷
+          (0x796d, 0xffffffffffffb000) ∷
+          (0x7d5d, 0xffffffffffff7000) ∷
+          (0x723d, 0xfffffffffffef000) ∷
+          (0x69fd, 0x1f000) ∷
+          (0x6d29, 0xa000) ∷
+          (0x7321, 0xfffffffffffe8000) ∷
+          (0x6be1, 0x18000) ∷
+          (0x6e5d, 0x17000) ∷
+          (0x740d, 0xfffffffffffe3000) ∷
+          (0x74b1, 0xfffffffffffec000) ∷
+          (0x7a69, 0xffffffffffffa000) ∷
+          (0x68e5, 0x19000) ∷
+          (0x7af1, 0xffffffffffffc000) ∷
+          (0x73d9, 0xffffffffffff6000) ∷
+          (0x7db9, 0xfffffffffffee000) ∷
+          (0x64f1, 0x1c000) ∷
+          (0x70c9, 0xffffffffffff2000) ∷
+          (0x6599, 0x6000) ∷
+          (0x7551, 0xffffffffffff4000) ∷
+          (0x6e4d, 0x13000) ∷
+          (0x73d5, 0xffffffffffff5000) ∷
+          (0x7325, 0xfffffffffffe9000) ∷
+          (0x62f5, 0x1d000) ∷
+          (0x6b49, 0x12000) ∷
+          (0x79cd, 0xffffffffffff3000) ∷
+          (0x7dad, 0xfffffffffffeb000) ∷
+          (0x6a25, 0x9000) ∷
+          (0x65ad, 0xb000) ∷
+          (0x78c1, 0xffffffffffff0000) ∷
+          (0x7e11, 0xfffffffffffe4000) ∷
+          (0x7cb5, 0xfffffffffffed000) ∷
           [];
     }) ∷
     []

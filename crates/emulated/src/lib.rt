@@ -10,7 +10,8 @@ ghost use Rattle.emulated.specs.LoongArchTable as loongarch_table;
 ghost use Rattle.emulated.specs.Ppc64Table as ppc64_table;
 ghost use Rattle.emulated.specs.RiscVTable as riscv_table;
 
-/// AArch64: offsets of loads and stores, `adr` and `adrp`, moves, additions and branches.
+/// AArch64: offsets of loads and stores, `adr` and `adrp`, moves, additions, branches, and a number
+/// by four moves.
 pub fn aarch64()
     ensures agrees { aarch64_table.Agrees }
 {}
@@ -20,12 +21,14 @@ pub fn riscv64()
     ensures agrees { riscv_table.Agrees }
 {}
 
-/// LoongArch: immediates of 20, 16 and 12 bits, branches, and `pcaddu18i` with `jirl`.
+/// LoongArch: immediates of 20, 16 and 12 bits, branches, `pcaddu18i` with `jirl`, and a number by
+/// three instructions.
 pub fn loongarch64()
     ensures agrees { loongarch_table.Agrees }
 {}
 
-/// PowerPC64: displacements, also those in units of 4 and 16 bytes, branches, and `paddi`.
+/// PowerPC64: displacements, also those in units of 4 and 16 bytes, branches, `paddi`, and `addis`
+/// with `addi`.
 pub fn ppc64()
     ensures agrees { ppc64_table.Agrees }
 {}
