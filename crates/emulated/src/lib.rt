@@ -21,8 +21,8 @@ pub fn riscv64()
     ensures agrees { riscv_table.Agrees }
 {}
 
-/// LoongArch: immediates of 20, 16 and 12 bits, branches, `pcaddu18i` with `jirl`, and a number by
-/// three instructions.
+/// LoongArch: immediates of 20, 16 and 12 bits, branches, `pcaddu18i` with `jirl`, a number by three
+/// instructions, and an address by five.
 pub fn loongarch64()
     ensures agrees { loongarch_table.Agrees }
 {}
