@@ -13,6 +13,7 @@ use Rattle.linker_utils.specs.declared.aarch64.forms.AArch64Instruction.TheVaria
 use Rattle.linker_utils.specs.declared.aarch64.forms.AArch64Instruction.TheVariants.{JumpCall}
 use Rattle.linker_utils.specs.declared.aarch64.forms.AArch64Instruction.TheVariants.{MachOLow12}
 use Rattle.emulated.specs.Sequences.{moves_number}
+use Rattle.emulated.specs.Sequences.{page_number}
 use Rattle.emulated.specs.Emulated.{Words, IsComputed}
 
 unfoldable pub adr_words : List Words
@@ -2611,6 +2612,91 @@ moves_words =
     }) ∷
     []
 
+unfoldable pub page_words : List Words
+page_words =
+    -- adrp, add
+    (record {
+      unit = 1;
+      bits = 64;
+      rows =
+          (0x4004e08410910001589000000a, 0x4004e08000) ∷
+          (0x4004e0d414913ffe9bf0fffff4, 0x4004e0cfff) ∷
+          (0x4004e11b789100017d9000002b, 0x4004e15000) ∷
+          (0x4004e1597c910001f39000004f, 0x4004e1d000) ∷
+          (0x4004e190789100028d90000094, 0x4004e29000) ∷
+          (0x4004e1cea09100020090000110, 0x4004e3c000) ∷
+          (0x4004e21b349100029090000214, 0x4004e61000) ∷
+          (0x4004e25b78910001969000040c, 0x4004ea5000) ∷
+          (0x4004e284a8910000d190000806, 0x4004f28000) ∷
+          (0x4004e2cf78910003ce9000101e, 0x400502c000) ∷
+          (0x4004e306d8910001829000200c, 0x4005230000) ∷
+          (0x4004e3438c9100032890004019, 0x4005634000) ∷
+          (0x4004e387089100011990008008, 0x4005e38000) ∷
+          (0x4004e3cca0910001859001000c, 0x4006e3c000) ∷
+          (0x4004e408cc9100000190020000, 0x4008e40000) ∷
+          (0x4004e44fb49100036d9004001b, 0x400ce44000) ∷
+          (0x4004e49208910003599008001a, 0x4014e49000) ∷
+          (0x4004e4d04c9100032d90100019, 0x4024e4d000) ∷
+          (0x4004e505589100033890200019, 0x4044e50000) ∷
+          (0x4004e559049100006890400003, 0x4084e55000) ∷
+          (0x4004e592c4910002dd90800016, 0x3f04e59000) ∷
+          (0x4004e5c3b491000394b000001c, 0x4004e5d000) ∷
+          (0x4004e60f4891000148d000000a, 0x4004e62000) ∷
+          (0x4004e64cfc910004f390000007, 0x4004e64001) ∷
+          (0x4004e682a09100086890000003, 0x4004e68002) ∷
+          (0x4004e6c68c9100107590000003, 0x4004e6c004) ∷
+          (0x4004e70578910023db9000001e, 0x4004e70008) ∷
+          (0x4004e75444910042da90000016, 0x4004e75010) ∷
+          (0x4004e78304910083469000001a, 0x4004e78020) ∷
+          (0x4004e7cc18910100db90000006, 0x4004e7c040) ∷
+          (0x4004e81e889102004a90000002, 0x4004e81080) ∷
+          (0x4004e845e8910401579000000a, 0x4004e84100) ∷
+          (0x4004e8976c9108028090000014, 0x4004e89200) ∷
+          (0x4004e8c1f4911003cd9000001e, 0x4004e8c400) ∷
+          (0x4004e9061c912001fc9000000f, 0x4004e90800) ∷
+          (0x4004e941c0913fff20f0ffffd9, 0x4004e8ffff) ∷
+          (0x4004e98624913ffd58f0ffffaa, 0x4004e8ffff) ∷
+          (0x4004e9c388913ffd35f0ffff69, 0x4004e8bfff) ∷
+          (0x4004ea1a38913ffc82f0fffee4, 0x4004e80fff) ∷
+          (0x4004ea4a30913ffef8f0fffdf7, 0x4004e63fff) ∷
+          (0x4004ea9eb4913ffe7cf0fffbf3, 0x4004e28fff) ∷
+          (0x4004eac2dc913ffce3f0fff7e7, 0x4004dabfff) ∷
+          (0x4004eb139c913ffe97f0ffeff4, 0x4004cb0fff) ∷
+          (0x4004eb4170913ffc3bf0ffdfe1, 0x4004ab3fff) ∷
+          (0x4004eb812c913ffe16f0ffbff0, 0x40046b7fff) ∷
+          (0x4004ebd314913fff0df0ff7ff8, 0x4003ebcfff) ∷
+          (0x4004ec154c913fff30f0fefff9, 0x4002ec0fff) ∷
+          (0x4004ec5da4913ffc91f0fdffe4, 0x4000ec4fff) ∷
+          (0x4004ec8c94913ffd7af0fbffeb, 0x3ffcec7fff) ∷
+          (0x4004ecc868913ffd01f0f7ffe8, 0x3ff4ecbfff) ∷
+          (0x4004ed1c28913ffd71f0efffeb, 0x3fe4ed0fff) ∷
+          (0x4004ed41f0913fff73f0dffffb, 0x3fc4ed3fff) ∷
+          (0x4004ed9ecc913ffcabf0bfffe5, 0x3f84ed8fff) ∷
+          (0x4004edd52c913fff41f07ffffa, 0x4104edcfff) ∷
+          (0x4004ee0748913ffcafd0ffffe5, 0x4004edefff) ∷
+          (0x4004ee57d0913ffcaab0ffffe5, 0x4004ee2fff) ∷
+          (0x4004ee9150913ff9d4f0ffffee, 0x4004ee8ffe) ∷
+          (0x4004eed3a4913ff6bef0fffff5, 0x4004eecffd) ∷
+          (0x4004ef1904913fed82f0ffffec, 0x4004ef0ffb) ∷
+          (0x4004ef43d8913fdca1f0ffffe5, 0x4004ef3ff7) ∷
+          (0x4004ef8e44913fbea4f0fffff5, 0x4004ef7fef) ∷
+          (0x4004efd85c913f7cdaf0ffffe6, 0x4004efcfdf) ∷
+          (0x4004f008a4913efca1f0ffffe5, 0x4004efffbf) ∷
+          (0x4004f04798913dfc33f0ffffe1, 0x4004f03f7f) ∷
+          (0x4004f085ac913bfc02f0ffffe0, 0x4004f07eff) ∷
+          (0x4004f0d4609137fd80f0ffffec, 0x4004f0cdff) ∷
+          (0x4004f11384912ffe1ef0fffff0, 0x4004f10bff) ∷
+          (0x4004f14d8c911ffd9df0ffffec, 0x4004f137ff) ∷
+          (0x4004f1949c913225abd0d379ed, 0x3fabe57c89) ∷
+          (0x4004f1c67c9114e1e2d0d6b92f, 0x3fb2642538) ∷
+          (0x4004f208ec910ef707b0171218, 0x40331613bd) ∷
+          (0x4004f2566c911f4e0890956490, 0x3f2fbb57d3) ∷
+          (0x4004f29754911c6948903bbc2a, 0x407c6ad71a) ∷
+          (0x4004f2c41491295213d0101810, 0x402522ea54) ∷
+          [];
+    }) ∷
+    []
+
 -- What is read of the words is what came of them.
 abbrev pub Agrees : Type 0
 Agrees =
@@ -2626,3 +2712,4 @@ Agrees =
     × IsComputed (aarch64_form JumpCall).machine jumpcall_words
     × IsComputed (aarch64_form MachOLow12).machine macholow12_words
     × IsComputed moves_number moves_words
+    × IsComputed page_number page_words

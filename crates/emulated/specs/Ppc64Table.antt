@@ -8,6 +8,7 @@ use Rattle.linker_utils.specs.declared.ppc64.forms.Ppc64Instruction.TheVariants.
 use Rattle.linker_utils.specs.declared.ppc64.forms.Ppc64Instruction.TheVariants.{Prefixed}
 use Rattle.linker_utils.specs.Relocate.{ppc64_reads}
 use Rattle.emulated.specs.Sequences.{halves_number}
+use Rattle.emulated.specs.Sequences.{unadjusted_number}
 use Rattle.emulated.specs.Emulated.{Words, IsComputed}
 
 unfoldable pub d_words : List Words
@@ -1161,6 +1162,89 @@ halves_words =
     }) ∷
     []
 
+unfoldable pub unadjusted_words : List Words
+unadjusted_words =
+    -- lis, ori
+    (record {
+      unit = 1;
+      bits = 64;
+      rows =
+          (0x607e00003c600000, 0x0) ∷
+          (0x6149ffff3d40ffff, 0xffffffffffffffff) ∷
+          (0x628800003e800001, 0x10000) ∷
+          (0x60cb00003cc00002, 0x20000) ∷
+          (0x62aa00003ea00004, 0x40000) ∷
+          (0x61c600003dc00008, 0x80000) ∷
+          (0x612f00003d200010, 0x100000) ∷
+          (0x628d00003e800020, 0x200000) ∷
+          (0x611300003d000040, 0x400000) ∷
+          (0x614400003d400080, 0x800000) ∷
+          (0x61f100003de00100, 0x1000000) ∷
+          (0x63e700003fe00200, 0x2000000) ∷
+          (0x61d600003dc00400, 0x4000000) ∷
+          (0x630400003f000800, 0x8000000) ∷
+          (0x63d200003fc01000, 0x10000000) ∷
+          (0x617700003d602000, 0x20000000) ∷
+          (0x612c00003d204000, 0x40000000) ∷
+          (0x630b00003f008000, 0xffffffff80000000) ∷
+          (0x63ba00013fa00000, 0x1) ∷
+          (0x60bd00023ca00000, 0x2) ∷
+          (0x63c800043fc00000, 0x4) ∷
+          (0x63fc00083fe00000, 0x8) ∷
+          (0x606e00103c600000, 0x10) ∷
+          (0x627d00203e600000, 0x20) ∷
+          (0x61fb00403de00000, 0x40) ∷
+          (0x617d00803d600000, 0x80) ∷
+          (0x621501003e000000, 0x100) ∷
+          (0x637c02003f600000, 0x200) ∷
+          (0x637d04003f600000, 0x400) ∷
+          (0x625b08003e400000, 0x800) ∷
+          (0x630a10003f000000, 0x1000) ∷
+          (0x618420003d800000, 0x2000) ∷
+          (0x63da40003fc00000, 0x4000) ∷
+          (0x617c80003d600000, 0x8000) ∷
+          (0x6372ffff3f60fffe, 0xfffffffffffeffff) ∷
+          (0x622bffff3e20fffd, 0xfffffffffffdffff) ∷
+          (0x60b8ffff3ca0fffb, 0xfffffffffffbffff) ∷
+          (0x6067ffff3c60fff7, 0xfffffffffff7ffff) ∷
+          (0x6386ffff3f80ffef, 0xffffffffffefffff) ∷
+          (0x636dffff3f60ffdf, 0xffffffffffdfffff) ∷
+          (0x632affff3f20ffbf, 0xffffffffffbfffff) ∷
+          (0x6187ffff3d80ff7f, 0xffffffffff7fffff) ∷
+          (0x60d9ffff3cc0feff, 0xfffffffffeffffff) ∷
+          (0x6248ffff3e40fdff, 0xfffffffffdffffff) ∷
+          (0x619bffff3d80fbff, 0xfffffffffbffffff) ∷
+          (0x6163ffff3d60f7ff, 0xfffffffff7ffffff) ∷
+          (0x61a9ffff3da0efff, 0xffffffffefffffff) ∷
+          (0x63aeffff3fa0dfff, 0xffffffffdfffffff) ∷
+          (0x60f5ffff3ce0bfff, 0xffffffffbfffffff) ∷
+          (0x63ebffff3fe07fff, 0x7fffffff) ∷
+          (0x6136fffe3d20ffff, 0xfffffffffffffffe) ∷
+          (0x62c7fffd3ec0ffff, 0xfffffffffffffffd) ∷
+          (0x61f0fffb3de0ffff, 0xfffffffffffffffb) ∷
+          (0x60ebfff73ce0ffff, 0xfffffffffffffff7) ∷
+          (0x62f3ffef3ee0ffff, 0xffffffffffffffef) ∷
+          (0x61e6ffdf3de0ffff, 0xffffffffffffffdf) ∷
+          (0x622dffbf3e20ffff, 0xffffffffffffffbf) ∷
+          (0x6375ff7f3f60ffff, 0xffffffffffffff7f) ∷
+          (0x61ebfeff3de0ffff, 0xfffffffffffffeff) ∷
+          (0x63d2fdff3fc0ffff, 0xfffffffffffffdff) ∷
+          (0x6139fbff3d20ffff, 0xfffffffffffffbff) ∷
+          (0x62d4f7ff3ec0ffff, 0xfffffffffffff7ff) ∷
+          (0x616fefff3d60ffff, 0xffffffffffffefff) ∷
+          (0x639bdfff3f80ffff, 0xffffffffffffdfff) ∷
+          (0x6089bfff3c80ffff, 0xffffffffffffbfff) ∷
+          (0x62eb7fff3ee0ffff, 0xffffffffffff7fff) ∷
+          (0x6397253f3f808703, 0xffffffff8703253f) ∷
+          (0x60fbbef33ce00bcd, 0xbcdbef3) ∷
+          (0x638f79923f80c76e, 0xffffffffc76e7992) ∷
+          (0x63bfcde43fa096da, 0xffffffff96dacde4) ∷
+          (0x63d0c2d73fc0eb03, 0xffffffffeb03c2d7) ∷
+          (0x61dda9d63dc0a037, 0xffffffffa037a9d6) ∷
+          [];
+    }) ∷
+    []
+
 -- What is read of the words is what came of them.
 abbrev pub Agrees : Type 0
 Agrees =
@@ -1171,3 +1255,4 @@ Agrees =
     × IsComputed (ppc64_form Branch24).machine branch24_words
     × IsComputed (ppc64_form Prefixed).machine prefixed_words
     × IsComputed halves_number halves_words
+    × IsComputed unadjusted_number unadjusted_words

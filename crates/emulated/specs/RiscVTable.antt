@@ -10,6 +10,7 @@ use Rattle.linker_utils.specs.declared.riscv64.forms.RiscVInstruction.TheVariant
 use Rattle.linker_utils.specs.declared.riscv64.forms.RiscVInstruction.TheVariants.{CjType}
 use Rattle.linker_utils.specs.declared.riscv64.forms.RiscVInstruction.TheVariants.{CluiType}
 use Rattle.linker_utils.specs.declared.riscv64.forms.RiscVInstruction.TheVariants.{UiType}
+use Rattle.emulated.specs.Sequences.{call_number}
 use Rattle.emulated.specs.Emulated.{Words, IsComputed}
 
 unfoldable pub utype_words : List Words
@@ -1482,6 +1483,89 @@ uitype_words =
     }) ∷
     []
 
+unfoldable pub call_words : List Words
+call_words =
+    -- auipc, jalr
+    (record {
+      unit = 1;
+      bits = 64;
+      rows =
+          (0x000509e700000517, 0x0) ∷
+          (0xfffe8c67fffffe97, 0xffffffffffffeffe) ∷
+          (0x000904e700001917, 0x1000) ∷
+          (0x0005016700002517, 0x2000) ∷
+          (0x000d816700004d97, 0x4000) ∷
+          (0x000a0c6700008a17, 0x8000) ∷
+          (0x00010c6700010117, 0x10000) ∷
+          (0x000f88e700020f97, 0x20000) ∷
+          (0x0008056700040817, 0x40000) ∷
+          (0x000a8f6700080a97, 0x80000) ∷
+          (0x00078c6700100797, 0x100000) ∷
+          (0x000182e700200197, 0x200000) ∷
+          (0x00058b6700400597, 0x400000) ∷
+          (0x00028d6700800297, 0x800000) ∷
+          (0x000904e701000917, 0x1000000) ∷
+          (0x000b8ce702000b97, 0x2000000) ∷
+          (0x00028f6704000297, 0x4000000) ∷
+          (0x0005826708000597, 0x8000000) ∷
+          (0x00028d6710000297, 0x10000000) ∷
+          (0x00038d6720000397, 0x20000000) ∷
+          (0x000b886740000b97, 0x40000000) ∷
+          (0x000682e780000697, 0xffffffff80000000) ∷
+          (0x001e0de700000e17, 0x0) ∷
+          (0x00260be700000617, 0x2) ∷
+          (0x004e83e700000e97, 0x4) ∷
+          (0x00810e6700000117, 0x8) ∷
+          (0x0107056700000717, 0x10) ∷
+          (0x020d0ae700000d17, 0x20) ∷
+          (0x04028ae700000297, 0x40) ∷
+          (0x0807056700000717, 0x80) ∷
+          (0x100289e700000297, 0x100) ∷
+          (0x2003866700000397, 0x200) ∷
+          (0x400f0e6700000f17, 0x400) ∷
+          (0x800184e700000197, 0xfffffffffffff800) ∷
+          (0xfff68167ffffe697, 0xffffffffffffdffe) ∷
+          (0xfff68767ffffd697, 0xffffffffffffcffe) ∷
+          (0xfff58667ffffb597, 0xffffffffffffaffe) ∷
+          (0xfff38367ffff7397, 0xffffffffffff6ffe) ∷
+          (0xfff50267fffef517, 0xfffffffffffeeffe) ∷
+          (0xffff0867fffdff17, 0xfffffffffffdeffe) ∷
+          (0xfff28367fffbf297, 0xfffffffffffbeffe) ∷
+          (0xfff602e7fff7f617, 0xfffffffffff7effe) ∷
+          (0xfff58a67ffeff597, 0xffffffffffefeffe) ∷
+          (0xffff8c67ffdfff97, 0xffffffffffdfeffe) ∷
+          (0xfffc0467ffbffc17, 0xffffffffffbfeffe) ∷
+          (0xfff706e7ff7ff717, 0xffffffffff7feffe) ∷
+          (0xfff78c67fefff797, 0xfffffffffeffeffe) ∷
+          (0xfff088e7fdfff097, 0xfffffffffdffeffe) ∷
+          (0xfff987e7fbfff997, 0xfffffffffbffeffe) ∷
+          (0xffff83e7f7ffff97, 0xfffffffff7ffeffe) ∷
+          (0xfff40a67effff417, 0xffffffffefffeffe) ∷
+          (0xfffe87e7dffffe97, 0xffffffffdfffeffe) ∷
+          (0xfff28b67bffff297, 0xffffffffbfffeffe) ∷
+          (0xfffa8e677ffffa97, 0x7fffeffe) ∷
+          (0xffe20c67fffff217, 0xffffffffffffeffe) ∷
+          (0xffdc8167fffffc97, 0xffffffffffffeffc) ∷
+          (0xffb50fe7fffff517, 0xffffffffffffeffa) ∷
+          (0xff780ee7fffff817, 0xffffffffffffeff6) ∷
+          (0xfef583e7fffff597, 0xffffffffffffefee) ∷
+          (0xfdf887e7fffff897, 0xffffffffffffefde) ∷
+          (0xfbf987e7fffff997, 0xffffffffffffefbe) ∷
+          (0xf7f90de7fffff917, 0xffffffffffffef7e) ∷
+          (0xeffd8ce7fffffd97, 0xffffffffffffeefe) ∷
+          (0xdffe06e7fffffe17, 0xffffffffffffedfe) ∷
+          (0xbff50de7fffff517, 0xffffffffffffebfe) ∷
+          (0x7ff401e7fffff417, 0xfffffffffffff7fe) ∷
+          (0x162a016796aeba17, 0xffffffff96aeb162) ∷
+          (0x95540f67c7610417, 0xffffffffc760f954) ∷
+          (0x29ea88e7c43dfa97, 0xffffffffc43df29e) ∷
+          (0xc62c80e7fa8a8c97, 0xfffffffffa8a7c62) ∷
+          (0x7e6d0367cba65d17, 0xffffffffcba657e6) ∷
+          (0x24838b6742cac397, 0x42cac248) ∷
+          [];
+    }) ∷
+    []
+
 -- What is read of the words is what came of them.
 abbrev pub Agrees : Type 0
 Agrees =
@@ -1494,3 +1578,4 @@ Agrees =
     × IsComputed (riscv_form CjType).machine cjtype_words
     × IsComputed (riscv_form CluiType).machine cluitype_words
     × IsComputed (riscv_form UiType).machine uitype_words
+    × IsComputed call_number call_words
