@@ -1,0 +1,14 @@
+-- The words of PowerPC64: by computation.
+use Rattle.std.proofs.Common.{refl}
+use Rattle.linker_base.specs.Form.{place_sum}
+use Rattle.emulated.specs.Ppc64Table.{d_words, ds_words, dq_words, branch14_words, branch24_words}
+use Rattle.emulated.specs.Ppc64Table.{prefixed_words}
+use Rattle.emulated.specs.Ppc64Table.{halves_words}
+use Rattle.emulated.specs.Ppc64Table.{unadjusted_words}
+use Rattle.emulated.proofs.ppc64.Goals as goal
+
+pub returns : goal.returns
+unfolding place_sum d_words ds_words dq_words branch14_words branch24_words prefixed_words halves_words unadjusted_words
+returns c = record {
+  agrees = (refl, refl, refl, refl, refl, refl, refl, refl);
+}

@@ -1,0 +1,23 @@
+-- What definitions of forms say that the machine reads from words, compared with what an emulator
+-- made of them.
+use Rattle.std.specs.Prelude.{◌≡◌, ℕ, ◌==◌, ◌%◌, ◌^◌, Bool, true, List, ℤ, pos, ◌*ℤ◌}
+use Rattle.std.specs.List.{list_all}
+use Rattle.std.specs.Int.{w64, cast_unsigned}
+
+-- Words of one instruction, each with the number of 64 bits that came of it. What is read counts
+-- units of it, and so many of its low bits are compared.
+pub record Words : Type 0 where
+  pub unit : ℕ
+  pub bits : ℕ
+  pub rows : List (ℕ × ℕ)
+
+-- What is read of a word is what came of it.
+abbrev pub is_read : (ℕ → ℤ) → ℕ → ℕ → ℕ × ℕ → Bool
+is_read reads unit bits row =
+    cast_unsigned w64 (reads row.0 *ℤ pos unit) % 2 ^ bits == row.1 % 2 ^ bits
+
+-- That holds for all words.
+abbrev pub IsComputed : (ℕ → ℤ) → List Words → Type 0
+IsComputed reads tables =
+    list_all (λ (words : Words). list_all (is_read reads words.unit words.bits) words.rows) tables
+    ≡ true

@@ -1,0 +1,79 @@
+-- What the definitions say of instructions in sequence, by their words as one number: the first word
+-- is bits 0 to 31.
+use Rattle.std.specs.Prelude.{ℕ, ◌+◌, ◌*◌, ◌++◌, ℤ, pos}
+use Rattle.std.specs.Int.{w64, to_le_bytes}
+use Rattle.std.specs.Option.{unwrap_or}
+use Rattle.linker_base.specs.Bits.{field}
+use Rattle.linker_utils.specs.AArch64.{moved4, rd_of}
+use Rattle.linker_utils.specs.LoongArch.{upper_and_lower_value, five_instructions}
+use Rattle.linker_utils.specs.Ppc64.{pair}
+use Rattle.linker_utils.specs.RiscV.{riscv_form}
+use Rattle.linker_utils.specs.declared.aarch64.forms.AArch64Instruction.TheVariants.{Add}
+use Rattle.linker_utils.specs.declared.elf.value.Operands.{Operands}
+use Rattle.linker_utils.specs.declared.riscv64.forms.RiscVInstruction.TheVariants.{UiType}
+use Rattle.relocation_laws.specs.AArch64Laws.{page_and_offset}
+use Rattle.relocation_laws.specs.LoongArchLaws.{upper_and_or, four, page_and_low}
+use Rattle.relocation_laws.specs.Ppc64Laws.{unadjusted}
+use Rattle.relocation_laws.specs.RiscVLaws.{without_bit_0}
+use Rattle.relocation_laws.specs.Schemes.{zero}
+
+abbrev pub word : ℕ → ℕ → ℕ
+word k words = field words (32 * k) (32 * k + 32)
+
+-- operands of a pc, of which nothing else is taken
+abbrev pub at : ℕ → Operands
+at pc =
+    record {
+      symbol = 0;
+      addend = pos 0;
+      place = pc;
+      got_entry = 0;
+      got_base = 0;
+      plt_entry = 0;
+      symbol_size = 0;
+      tls_base = 0;
+    }
+
+-- `adrp` and `add`; the pc is bits 64 to 127
+abbrev pub page_number : ℕ → ℤ
+page_number words =
+    page_and_offset Add 1 (at (field words 64 128)) (word 0 words) (word 1 words)
+
+-- `auipc` and `jalr`, from the pc
+abbrev pub call_number : ℕ → ℤ
+call_number words = without_bit_0 ((riscv_form UiType).machine words)
+
+-- `lu12i.w` and `ori`, and then `lu32i.d` and `lu52i.d`
+abbrev pub upper_number : ℕ → ℤ
+upper_number words = upper_and_or (word 0 words) (word 1 words)
+
+abbrev pub four_number : ℕ → ℤ
+four_number words = four (word 0 words) (word 1 words) (word 2 words) (word 3 words)
+
+-- `pcalau12i` and `addi.d`; the pc is bits 64 to 127
+abbrev pub near_number : ℕ → ℤ
+near_number words = page_and_low (at (field words 64 128)) (word 0 words) (word 1 words)
+
+-- `addis` from zero and `ori`
+abbrev pub unadjusted_number : ℕ → ℤ
+unadjusted_number words = unadjusted zero (at 0) (word 0 words) (word 1 words)
+
+-- `movz` and three `movk`
+abbrev pub moves_number : ℕ → ℤ
+moves_number words =
+    pos (unwrap_or
+    (moved4 (rd_of words) (word 0 words) (word 1 words) (word 2 words) (word 3 words)) 0)
+
+-- `addi.d` from zero, `lu32i.d` and `lu52i.d`
+abbrev pub parts_number : ℕ → ℤ
+parts_number words = upper_and_lower_value (word 0 words) (word 1 words) (word 2 words)
+
+-- `pcalau12i`, `addi.d` from zero, `lu32i.d`, `lu52i.d` and `add.d`; the pc is bits 160 to 223
+abbrev pub address_number : ℕ → ℤ
+address_number words =
+    five_instructions (field words 160 224)
+    (to_le_bytes w64 (field words 0 64) ++ to_le_bytes w64 (field words 64 128))
+
+-- `addis` and `addi`
+abbrev pub halves_number : ℕ → ℤ
+halves_number words = pair (word 0 words) (word 1 words)
