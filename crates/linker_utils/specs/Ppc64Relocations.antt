@@ -120,6 +120,8 @@ ppc64_relocation r.R_PPC64_TLSGD = with_row 107 (codes "R_PPC64_TLSGD") (bytes_r
 ppc64_relocation r.R_PPC64_TLSLD = with_row 108 (codes "R_PPC64_TLSLD") (bytes_row NoValue 0)
 ppc64_relocation r.R_PPC64_REL24_NOTOC =
     with_row 116 (codes "R_PPC64_REL24_NOTOC") (branch_row 26 Branch24)
+ppc64_relocation r.R_PPC64_PCREL_OPT =
+    with_row 123 (codes "R_PPC64_PCREL_OPT") (bytes_row NoValue 0)
 ppc64_relocation r.R_PPC64_PCREL34 = with_row 132 (codes "R_PPC64_PCREL34") (prefixed_row Relative)
 ppc64_relocation r.R_PPC64_GOT_PCREL34 =
     with_row 133 (codes "R_PPC64_GOT_PCREL34") (prefixed_row GotRelative)

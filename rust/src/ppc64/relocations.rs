@@ -60,6 +60,7 @@ pub enum Ppc64Relocation {
     R_PPC64_TLSGD,
     R_PPC64_TLSLD,
     R_PPC64_REL24_NOTOC,
+    R_PPC64_PCREL_OPT,
     R_PPC64_PCREL34,
     R_PPC64_GOT_PCREL34,
     R_PPC64_REL16_LO,
@@ -145,6 +146,7 @@ macro_rules! relocations {
                 108 R_PPC64_TLSLD => Some(row!(None, (0 bytes), any)),
                 116 R_PPC64_REL24_NOTOC =>
                     Some(row!(Relative, (0..26 Ppc64::Branch24), signed 26, alignment: 4)),
+                123 R_PPC64_PCREL_OPT => Some(row!(None, (0 bytes), any)),
             }
             {
                 132 R_PPC64_PCREL34 => Some(row!(Relative, (0..34 Ppc64::Prefixed), signed 34)),

@@ -1,0 +1,25 @@
+//! Lists what the library knows of each architecture, by `e_machine` of its files: each relocation
+//! with its code, its name and whether it has a row, and each rewrite. `tools/census` reads it.
+
+use linker_utils::elf::Architecture;
+use std::io::{self, Write};
+
+fn main() -> io::Result<()> {
+    let mut out = io::stdout().lock();
+    for machine in 0..=u16::MAX {
+        let Some(architecture) = Architecture::from_machine(machine) else { continue };
+        // no psABI has a type above
+        for code in 0..0x1_0000 {
+            let Some(name) = architecture.name(code) else { continue };
+            let row = if architecture.row(code).is_some() { "row" } else { "none" };
+            writeln!(out, "relocation {machine} {code} {name} {row}")?;
+        }
+        for kind in (0..).map_while(|number| architecture.rewrite(number, 3)) {
+            // as `X86_64(TlsDescToLocalExec(3))`
+            let text = format!("{kind:?}");
+            let name = text.split(['(', ')']).nth(1).expect("a variant in parentheses");
+            writeln!(out, "rewrite {machine} {name}")?;
+        }
+    }
+    Ok(())
+}
