@@ -692,8 +692,10 @@ static inline uint32_t linker_utils_deltas_create(
 /* LINKER_UTILS_OK where `linker_utils_deltas_merge` takes the additional deletions, in any order:
  * each ends at 2^64 - 1 or below, and of any two, old or additional, one has the lower offset and
  * does not reach past the other's. LINKER_UTILS_INVALID_DELETIONS where the deltas list no valid
- * deletions, LINKER_UTILS_NOT_MERGEABLE. It doesn't allocate, so it takes k^2 steps for k
- * additional deletions that do not ascend. */
+ * deletions, LINKER_UTILS_NOT_MERGEABLE. It doesn't allocate. k additional deletions that ascend or
+ * descend take one pass besides the searches in the deltas; others take up to k searches for each
+ * 1,024 of them, which are sorted on the stack, in 16 KB, and for each longer run that ascends or
+ * descends. */
 static inline uint32_t linker_utils_deltas_is_mergeable(
     const struct linker_utils_delta *deltas, size_t deltas_len,
     const struct linker_utils_deletion *additional, size_t additional_len);
@@ -704,8 +706,9 @@ static inline uint32_t linker_utils_deltas_is_mergeable(
  * first delta at fault, as above. LINKER_UTILS_NOT_MERGEABLE, and `faulty` is the first additional
  * deletion that overlaps an old or an earlier additional one, or ends past 2^64 - 1.
  * LINKER_UTILS_OUT_OF_MEMORY where they can be merged, but a copy of them can't be allocated. It
- * doesn't allocate where the additional deletions ascend and can be merged. Where the allocation of
- * the copy fails, it takes up to k^2 steps for k additional deletions. */
+ * doesn't allocate where the additional deletions ascend and can be merged. To find the first that
+ * can't be merged, it allocates further copies, of the first of them. Where an allocation fails,
+ * those deletions are tested as linker_utils_deltas_is_mergeable tests them. */
 static inline uint32_t linker_utils_deltas_merge(
     const struct linker_utils_delta *deltas, size_t deltas_len,
     const struct linker_utils_deletion *additional, size_t additional_len,

@@ -15,6 +15,8 @@ IN_OTHER_WORDS = {
     rf"{VALID} → {PRELUDE}\.length (\w+) ≡ {SPECS}\.Deletions\.rank {DELETIONS} \({PRELUDE}\.length (\w+)\)":
         r"!DeltaSlice::new(\1).has_valid_deltas() || packed_len(\3, \1) == \2.len()",
 }
+# What debug assertions call in place of a function that tells the same: they may take memory, and take less time.
+QUICKER = {"is_mergeable": "is_mergeable_sorted", "are_mergeable": "are_mergeable_sorted"}
 # Requirements that only the call itself tests, in words, by function and name: its addition overflows.
 IN_WORDS = {"output_to_input_counted.fits": "the input offset is at most `u64::MAX`, or an addition overflows"}
 COMPARISONS = {"≡": "==", "≤": "<=", "<": "<"}
@@ -44,6 +46,12 @@ class Contracts:
                                         function.source.meant(text, function.parameters))
                     if told and kind == "ensures":
                         self.tellers.append((function, told[1][-1], self.pattern(function, told[2])))
+        self.quicker = {teller.name: other.name for teller, *told in self.tellers for other, *same in self.tellers
+                        if QUICKER.get(teller.name) == other.name and told == same}
+
+    def asserted(self, test):
+        """What a debug assertion tests: the same by the quicker functions."""
+        return re.sub(r"\w+(?=\()", lambda name: self.quicker.get(name[0], name[0]), test)
 
     def pattern(self, function, clause):
         """What tells a clause, by the function's parameters and the members of its trait."""
@@ -159,7 +167,8 @@ def state_requirements(source, contracts):
     for function in source.functions:
         requirements, start = list(contracts.requirements(function)), source.start(function.first)
         indent = " " * (start - source.text.rfind("\n", 0, start) - 1)
-        asserts = "".join(f"\n{indent}    debug_assert!({test});" for *_, test in requirements if test)
+        asserts = "".join(f"\n{indent}    debug_assert!({contracts.asserted(test)});"
+                          for *_, test in requirements if test)
         lines, body = [], source.end(function.body)
         for label, text, test in requirements if function.is_public or function.inherits else []:
             if not test and f"{function.name}.{label}" not in IN_WORDS:

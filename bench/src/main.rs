@@ -571,6 +571,35 @@ fn lists(report: &mut Report) {
             }
         }
     }
+    merge_tests(report, random);
+}
+
+/// The original tests no merge, so that only ours are measured.
+fn merge_tests(report: &mut Report, random: &mut Random) {
+    const COUNT: usize = 50_000;
+    report.heading("Tests of merges without memory, a deletion", "original");
+    let (list, _) = deletions(random, COUNT);
+    let falling = list.iter().rev().copied().collect();
+    let fourth = |first| list.iter().copied().skip(first).step_by(4);
+    let fourths = (0..4).flat_map(fourth).collect();
+    let mut mixed = list.clone();
+    random.shuffle(&mut mixed);
+    let none = erased_crate::relaxation::SectionRelaxDeltas::new(&[]).expect("no memory is taken");
+    for (order, pairs) in [
+        ("ascending", list.clone()),
+        ("descending", falling),
+        ("of four ascending lists", fourths),
+        ("in any order", mixed),
+    ] {
+        let given: Vec<sathunne::Deletion> = pairs
+            .iter()
+            .map(|&(offset, bytes)| sathunne::Deletion { offset, bytes })
+            .collect();
+        let tested = || u64::from(sathunne::deltas_is_mergeable(&[], &given).is_ok());
+        let erased = Side::number(|| u64::from(none.is_mergeable(&pairs)));
+        let sides = [Some(Side::number(tested)), None, Some(erased), None];
+        report.line(&format!("{COUNT} {order}"), COUNT, true, sides);
+    }
 }
 
 // ---- packing

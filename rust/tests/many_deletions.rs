@@ -2,9 +2,10 @@
 //! the last 4 are deleted, so what stands at 8 * k is at 4 * k afterwards.
 
 use linker_utils::relaxation::{
-    RelaxDelta, RelaxDeltaMap, SectionRelaxDeltas, calls_apart, pack_section,
+    DeltaSlice, RelaxDelta, RelaxDeltaMap, SectionRelaxDeltas, calls_apart, pack_section,
 };
 use linker_utils::utils::read_string;
+use std::time::{Duration, Instant};
 
 const COUNT: u64 = 2_000;
 
@@ -76,6 +77,69 @@ fn deletions_are_merged_in_batches() {
     assert!(deltas.are_mergeable(&batches));
     deltas.merge_all(&batches).expect("memory");
     lists_all(&deltas);
+}
+
+/// The pairs from the first to the last, from the last to the first, every fourth of them in turn, and
+/// without order.
+fn orders(count: usize) -> [Vec<(u64, u32)>; 4] {
+    let all: Vec<_> = (0..count as u64).map(pair).collect();
+    let fourths = (0..4).flat_map(|first| all.iter().copied().skip(first).step_by(4)).collect();
+    // 100,003 is a prime
+    let mixed = (1..100_003).map(|i| i * 48_271 % 100_003).filter(|&at| at < count);
+    let mixed = mixed.map(|at| all[at]).chain([all[0]]).collect();
+    [all.clone(), all.iter().rev().copied().collect(), fourths, mixed]
+}
+
+/// Runs it in a time in which a test of each pair against each other one isn't done.
+fn in_time<T>(run: impl FnOnce() -> T) -> T {
+    let start = Instant::now();
+    let result = run();
+    assert!(start.elapsed() < Duration::from_secs(10), "{:?}", start.elapsed());
+    result
+}
+
+#[test]
+fn merges_in_any_order_are_in_time() {
+    for pairs in orders(100_000) {
+        let batches: Vec<_> = pairs.chunks(25_000).map(<[_]>::to_vec).collect();
+        let mut deltas = SectionRelaxDeltas::new(&[]).expect("memory");
+        in_time(|| deltas.merge_additional(&pairs)).expect("memory");
+        let mut merged = SectionRelaxDeltas::new(&[]).expect("memory");
+        in_time(|| merged.merge_all(&batches)).expect("memory");
+        assert_eq!(deltas.deltas().len(), 100_000);
+        assert_eq!(deltas.deltas(), merged.deltas());
+    }
+}
+
+#[test]
+fn tests_of_merges_are_in_time() {
+    let none = SectionRelaxDeltas::new(&[]).expect("memory");
+    for mut pairs in orders(50_000) {
+        for is_mergeable in [true, false] {
+            let batches: Vec<_> = pairs.chunks(12_500).map(<[_]>::to_vec).collect();
+            assert_eq!(in_time(|| none.is_mergeable(&pairs)), is_mergeable);
+            assert_eq!(in_time(|| none.is_mergeable_sorted(&pairs)), is_mergeable);
+            assert_eq!(in_time(|| none.are_mergeable(&batches)), is_mergeable);
+            assert_eq!(in_time(|| none.are_mergeable_sorted(&batches)), is_mergeable);
+            // the last reaches into the one before it, or past the end
+            let last = pairs.len() - 1;
+            pairs[last] = (pairs[last - 1].0 + 2, 4);
+        }
+    }
+}
+
+#[test]
+fn the_first_overlapping_deletion_is_found() {
+    for mut pairs in orders(10_000) {
+        for at in [1, 600, 5_000, 9_999] {
+            let (kept, slice) = (pairs[at], DeltaSlice::new(&[]));
+            pairs[at] = (pairs[at - 1].0 + 2, 4);
+            assert_eq!(in_time(|| slice.first_overlapping(&pairs)), Some(at));
+            assert_eq!(in_time(|| slice.first_overlapping_sorted(&pairs)), Some(at));
+            pairs[at] = kept;
+        }
+        assert_eq!(in_time(|| DeltaSlice::new(&[]).first_overlapping(&pairs)), None);
+    }
 }
 
 #[test]

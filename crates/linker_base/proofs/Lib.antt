@@ -1,3 +1,4 @@
+pub mod Apart
 pub mod Batches
 pub mod Bits
 pub mod ConsecutiveBits

@@ -302,7 +302,7 @@ impl SectionState {
     }
 
     /// Adds a deletion. `BadDeletion` if it overlaps an earlier one, begins at the same offset, or
-    /// ends past 2^64 - 1.
+    /// ends past 2^64 - 1. It takes O(m) for the m deletions above it, whose sums change.
     fn delete(&mut self, offset: u64, bytes: u32) -> Result<(), ReportedError>
         ensures deleted { OnOk result
             (IsSortedUnion (self.old.deltas ++ (offset, bytes) ∷ []) self.new.deltas) }

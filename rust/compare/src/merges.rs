@@ -8,8 +8,8 @@ use linker_utils::relaxation::{AsDeletion, DeltaSlice, OutOfMemory, RelaxDelta, 
 
 /// Whether `linker_utils_deltas_merge` accepts the additional deletions, in any order. The first
 /// that applies of `InvalidDeletions`, which the deltas' own are, and `NotMergeable`. It takes no
-/// memory. For k additional deletions and n deltas the work is O(n + k log n + k) where they
-/// ascend, and else O(n + k log n + k²).
+/// memory. For k additional deletions and n deltas the work is O(n) and that of
+/// `DeltaSlice::can_merge`.
 pub fn linker_utils_deltas_is_mergeable_nonnull(
     deltas: &[RelaxDelta],
     additional: &[Deletion],
@@ -21,10 +21,10 @@ pub fn linker_utils_deltas_is_mergeable_nonnull(
     if let Some(_) = first_invalid(deltas) {
         return Status::InvalidDeletions.number();
     }
-    match slice.first_overlapping(additional) {
-        None => Status::Success.number(),
-        Some(_) => Status::NotMergeable.number(),
+    if !slice.can_merge(additional) {
+        return Status::NotMergeable.number();
     }
+    Status::Success.number()
 }
 
 /// Writes the deltas of the old and the additional deletions, sorted, as many as both. The
@@ -32,7 +32,8 @@ pub fn linker_utils_deltas_is_mergeable_nonnull(
 /// `InvalidDeletions`, of the delta at `faulty`; `NotMergeable`, of the additional deletion at
 /// `faulty`, which overlaps a delta or an earlier one, or ends above 2^64 - 1; and `OutOfMemory`.
 /// Where the additional deletions ascend and can be merged it doesn't allocate, else it allocates
-/// one copy of them. Where that is refused the work is as in `linker_utils_deltas_is_mergeable`.
+/// one copy of them, and where they can't be merged further ones of the first of them. Where a copy
+/// is refused the work is as in `linker_utils_deltas_is_mergeable`.
 pub fn linker_utils_deltas_merge_nonnull(
     deltas: &[RelaxDelta],
     additional: &[Deletion],
@@ -70,7 +71,7 @@ enum MergeError {
 }
 
 // Merges deletions in any order: sorted, they are tested in the fewest steps. Without memory to
-// sort a copy they are tested as they are.
+// sort a copy of all, it is sorted copies of the first that are tested, or they as they are.
 fn merge_sorted(
     deltas: &[RelaxDelta],
     additional: &[Deletion],
@@ -78,14 +79,14 @@ fn merge_sorted(
 ) -> Result<(), MergeError> {
     let slice = DeltaSlice::new(deltas);
     let Ok(mut sorted) = pairs(additional) else {
-        return Err(match slice.first_overlapping(additional) {
+        return Err(match slice.first_overlapping_sorted(additional) {
             Some(at) => MergeError::Overlapping(at),
             None => MergeError::OutOfMemory,
         });
     };
     sorted.sort_unstable_by_key(|pair| pair.0);
     if !slice.can_merge_ascending(&sorted) {
-        if let Some(at) = slice.first_overlapping(additional) {
+        if let Some(at) = slice.first_overlapping_sorted(additional) {
             return Err(MergeError::Overlapping(at));
         }
     }

@@ -22,7 +22,10 @@ pub use cursor::RelaxCursor;
 pub use delta_slice::DeltaSlice;
 pub use map::RelaxDeltaMap;
 use merge::{all_pairs, copy_pairs, count_pairs, insert_ascending, sorted};
-use overlap::{are_beside_deltas_batches, are_disjoint_batches, first_overlapping};
+use overlap::{
+    are_ascending, are_beside_deltas_batches, are_disjoint_batches, can_be_merged,
+    can_be_merged_sorted, can_pairs_be_merged,
+};
 pub use overlap::{AsDeletion, first_invalid};
 
 /// What a linker does with the relocation that follows a rewritten one.
@@ -131,7 +134,7 @@ impl SectionRelaxDeltas {
     /// - `self.is_mergeable(additional)`
     #[cfg_attr(debug_assertions, track_caller)]
     pub fn merge_additional(&mut self, additional: &[(u64, u32)]) -> Result<(), OutOfMemory> {
-        debug_assert!(self.is_mergeable(additional));
+        debug_assert!(self.is_mergeable_sorted(additional));
         let deltas = &mut self.deltas;
         let heads = &mut self.heads;
         if additional.is_empty() {
@@ -152,10 +155,19 @@ impl SectionRelaxDeltas {
     /// deletions, old or additional, one has the lower offset and does not reach past the other's.
     ///
     /// It doesn't allocate. For k pairs and n deltas the work is O(k log n + k) where the pairs
-    /// ascend, as a pass over a section makes them, and else O(k log n + k²).
+    /// ascend or descend, as a pass over a section makes them, and else O(k log n + p k log k) for p
+    /// parts of the pairs: runs of 1,024 or more that ascend or that descend, and where no such run
+    /// begins 1,024 pairs, which are sorted on the stack, in 16 KB.
     #[must_use]
     pub fn is_mergeable(&self, additional: &[(u64, u32)]) -> bool {
-        first_overlapping(&self.deltas, additional).is_none()
+        can_be_merged(&self.deltas, additional)
+    }
+
+    /// As `is_mergeable`, in O(n + k log k) where there is memory for a copy of the pairs, which is
+    /// sorted. Pairs that ascend aren't copied. Assertions of debug builds call it.
+    #[must_use]
+    pub fn is_mergeable_sorted(&self, additional: &[(u64, u32)]) -> bool {
+        can_be_merged_sorted(&self.deltas, additional)
     }
 
     /// Adds the deletions of all batches, or of none where it runs out of memory.
@@ -172,7 +184,7 @@ impl SectionRelaxDeltas {
     /// - `self.are_mergeable(batches)`
     #[cfg_attr(debug_assertions, track_caller)]
     pub fn merge_all(&mut self, batches: &[Vec<(u64, u32)>]) -> Result<(), OutOfMemory> {
-        debug_assert!(self.are_mergeable(batches));
+        debug_assert!(self.are_mergeable_sorted(batches));
         let deltas = &mut self.deltas;
         let heads = &mut self.heads;
         let count = count_pairs(batches);
@@ -189,10 +201,23 @@ impl SectionRelaxDeltas {
     /// Whether all batches together may be merged, as `is_mergeable` says of their pairs.
     ///
     /// It doesn't allocate. For k pairs in all batches and n deltas the work is O(k log n + k)
-    /// where the pairs ascend, from each batch to the next too, and else O(k log n + k²).
+    /// where the pairs ascend, from each batch to the next too, and else O(k log n + p k log k) for
+    /// p parts, which `is_mergeable` describes, of the batches: at least one of each batch.
     #[must_use]
     pub fn are_mergeable(&self, batches: &[Vec<(u64, u32)>]) -> bool {
         are_disjoint_batches(batches) && are_beside_deltas_batches(&self.deltas, batches)
+    }
+
+    /// As `are_mergeable`, in O(n + k log k) where there is memory for a copy of all pairs, which
+    /// is sorted. Assertions of debug builds call it.
+    #[must_use]
+    pub fn are_mergeable_sorted(&self, batches: &[Vec<(u64, u32)>]) -> bool {
+        if !are_ascending(batches) {
+            if let Ok(pairs) = all_pairs(batches) {
+                return can_pairs_be_merged(&self.deltas, pairs);
+            }
+        }
+        self.are_mergeable(batches)
     }
 
     /// A copy of the deltas. It allocates once, twice for more than 1,024, and not at all where

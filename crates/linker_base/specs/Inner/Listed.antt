@@ -1,11 +1,12 @@
 -- What holds of the fields of deltas and of a cursor, and of what searches and tests in them find.
 use Rattle.std.specs.Prelude.{◌≡◌, ℕ, ◌+◌, ◌-◌, ◌<◌, ◌≤◌, List, length, map, take, slice_index_or}
-use Rattle.std.specs.Prelude.{Option, Some, None, All, Any}
+use Rattle.std.specs.Prelude.{Option, Some, None, All, AllPairs, Any, Bool, true, false, ◌++◌, drop}
 use Rattle.std.specs.Borrow.{Bor}
 use Rattle.linker_base.specs.declared.relaxation.RelaxDelta.{RelaxDelta}
 use Rattle.linker_base.specs.declared.relaxation.blocks.BlockHead.{BlockHead}
 use Rattle.linker_base.specs.declared.relaxation.walk.Reached.{Reached}
-use Rattle.linker_base.specs.Deletions.{EndFits, IsValid, bytes_of}
+use Rattle.linker_base.specs.Deletions.{IsBefore, DoNotOverlap, EndFits, AreDisjoint, IsValid}
+use Rattle.linker_base.specs.Deletions.{bytes_of}
 use Rattle.linker_base.specs.Deltas.{deletion_of}
 use Rattle.linker_base.specs.Listed.{AreValidDeltas}
 use Rattle.linker_base.specs.Inner.Blocks.{AreKeptHeads}
@@ -40,6 +41,31 @@ pub record IsRun (from next : ℕ) (deletions : List (ℕ × ℕ)) : Type 0 wher
 pub record CanFollow (from : ℕ) (deletion : ℕ × ℕ) : Type 0 where
   pub begin : from ≤ deletion.0
   pub fits : EndFits deletion
+
+-- of two deletions in order the second lies below the first, or above it
+abbrev pub Goes : Bool → ℕ × ℕ → ℕ × ℕ → Type 0
+Goes true a b = IsBefore b a
+Goes false a b = IsBefore a b
+
+-- deletions that fit, and all descend or all ascend
+pub record GoOneWay (falls : Bool) (deletions : List (ℕ × ℕ)) : Type 0 where
+  pub order : AllPairs (Goes falls) deletions
+  pub ends : All EndFits deletions
+
+-- none of the first list overlaps one of the second
+abbrev pub AreApart : List (ℕ × ℕ) → List (ℕ × ℕ) → Type 0
+AreApart deletions others = All (λ other. All (λ d. DoNotOverlap d other) deletions) others
+
+-- the deletions are disjoint, and apart from the others
+pub record AreDisjointBeside (deletions others : List (ℕ × ℕ)) : Type 0 where
+  pub disjoint : AreDisjoint deletions
+  pub apart : AreApart deletions others
+
+-- so are the first of them, some at least, of which the rest are others too
+pub record AreFirstDisjoint (deletions others : List (ℕ × ℕ)) (count : ℕ) : Type 0 where
+  pub some : 0 < count
+  pub within : count ≤ length deletions
+  pub first : AreDisjointBeside (take count deletions) (drop count deletions ++ others)
 
 -- some deletion stands at the offset, and each that does has these bytes
 pub record IsOnlyAt (deletions : List (ℕ × ℕ)) (offset bytes : ℕ) : Type 0 where

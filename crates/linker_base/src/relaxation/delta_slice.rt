@@ -19,6 +19,7 @@ use super::merge::merge_ascending;
 use super::overlap::{self, AsDeletion, first_invalid};
 use super::partition_point::{FEW, Level, Probe, Test, search};
 use super::walk::{Reached, ascend, walk};
+use std::alloc::Global;
 use std::marker::Model;
 
 /// A borrowed list of deltas, of any contents, and the heads of their blocks, or none.
@@ -363,13 +364,29 @@ impl<'a> DeltaSlice<'a> {
         ascend(queries)
     }
 
-    /// The index of the first of the additional deletions, in any order, that can't be merged: it
-    /// ends above `u64::MAX`, or overlaps a deletion of the list or an earlier additional one. Of
-    /// two deletions that don't overlap one has the lower offset and does not reach past the
-    /// other's. None where all can be merged.
+    /// Whether the additional deletions, in any order, may be merged: each ends at `u64::MAX` or
+    /// below, and of any two deletions, of the list or additional, one has the lower offset and
+    /// does not reach past the other's.
     ///
-    /// It doesn't allocate. For k deletions and n deltas the work is O(k log n + k) where they
-    /// ascend, as a pass over a section makes them, and else O(k log n + k²).
+    /// It doesn't allocate. For k deletions and n deltas the work is O(k log n + k) where the
+    /// deletions ascend or descend, as a pass over a section makes them, and else O(k log n + p k
+    /// log k) for p parts of them: runs of 1,024 or more that ascend or that descend, and where no
+    /// such run begins 1,024 deletions, which are sorted on the stack, in 16 KB.
+    pub fn can_merge<D: AsDeletion>(&self, additional: &[D]) -> bool
+        ensures { IsValid (deletions_of self.now.deltas)
+            → (IsTrue result
+            ↔ AreDisjoint (deletions_of self.now.deltas ++ map D.deletion additional.now)) }
+    {
+        overlap::can_be_merged(self.deltas(), additional)
+    }
+
+    /// The index of the first of the additional deletions, in any order, that can't be merged: it
+    /// ends above `u64::MAX`, or overlaps a deletion of the list or an earlier additional one. None
+    /// where all can be merged.
+    ///
+    /// It doesn't allocate. The work is that of `can_merge`, and log k times as much where some
+    /// deletion can't be merged; it is O(k log n + k log k) where the first that can't is also the
+    /// first that doesn't ascend.
     pub fn first_overlapping<D: AsDeletion>(&self, additional: &[D]) -> Option<usize>
         ensures { IsValid (deletions_of self.now.deltas)
             → MatchOption result
@@ -377,6 +394,22 @@ impl<'a> DeltaSlice<'a> {
             (IsFirstOverlapping (deletions_of self.now.deltas) (map D.deletion additional.now)) }
     {
         overlap::first_overlapping(self.deltas(), additional)
+    }
+
+    /// As `first_overlapping`, with copies of the first deletions that are sorted, where there is
+    /// memory for them: O(n + k log k) where all can be merged, and else log k times as much.
+    /// Deletions that ascend aren't copied.
+    pub fn first_overlapping_sorted<D: AsDeletion>(
+        &self,
+        alloc: Global,
+        additional: &[D],
+    ) -> Option<usize>
+        ensures { IsValid (deletions_of self.now.deltas)
+            → MatchOption result
+            (AreDisjoint (deletions_of self.now.deltas ++ map D.deletion additional.now))
+            (IsFirstOverlapping (deletions_of self.now.deltas) (map D.deletion additional.now)) }
+    {
+        overlap::first_overlapping_sorted(alloc, self.deltas(), additional)
     }
 
     /// Whether the list's deletions and the additional ones are two valid lists of which no two

@@ -52,6 +52,20 @@ pub(super) fn copy_pairs(
     Ok(copy)
 }
 
+// The deletions as pairs.
+pub(super) fn copy_deletions<D: AsDeletion>(
+    alloc: Global,
+    deletions: &[D],
+) -> Result<Vec<(u64, u32)>, OutOfMemory>
+    ensures { IfOk result (λ copy. copy.items ≡ map D.deletion deletions.now) }
+{
+    let mut copy = Vec::with_capacity(alloc, deletions.len())?;
+    for deletion in deletions {
+        copy.push_reserved(deletion.as_deletion());
+    }
+    Ok(copy)
+}
+
 // The pairs in order.
 pub(super) fn sorted(pairs: Vec<(u64, u32)>) -> Vec<(u64, u32)>
     requires { AreDisjoint pairs.items }

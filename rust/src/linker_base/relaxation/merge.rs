@@ -37,6 +37,17 @@ pub(super) fn copy_pairs(
     Ok(copy)
 }
 
+// The deletions as pairs.
+pub(super) fn copy_deletions<D: AsDeletion>(
+    deletions: &[D],
+) -> Result<Vec<(u64, u32)>, OutOfMemory> {
+    let mut copy = Vec::fallible_with_capacity(deletions.len())?;
+    for deletion in deletions {
+        copy.push_reserved(deletion.as_deletion());
+    }
+    Ok(copy)
+}
+
 // The pairs in order.
 pub(super) fn sorted(pairs: Vec<(u64, u32)>) -> Vec<(u64, u32)> {
     let mut sorted = pairs;

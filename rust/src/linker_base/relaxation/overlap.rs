@@ -1,9 +1,13 @@
 // Made by tools/erase of crates/linker_base/src/relaxation/overlap.rt.
-//! Tests of lists of deletions. None allocates.
+//! Tests of lists of deletions. None allocates but those that sort a copy.
+//!
+//! Deletions in any order are tested in parts: each part is one that ascends or descends, or a few
+//! that are sorted on the stack, and a search in it tells what it overlaps.
 
 use alloc::vec::Vec;
 use super::RelaxDelta;
 use super::delta_slice::DeltaSlice;
+use super::merge::copy_deletions;
 
 /// What records one deletion: a pair of its offset and its bytes, a delta, a caller's own struct.
 pub trait AsDeletion: Copy {
@@ -77,22 +81,73 @@ fn count_rising<D: AsDeletion>(deletions: &[D]) -> usize {
 }
 
 // The index of the first of the additional deletions that overlaps a delta or an earlier one of
-// them, or doesn't fit. Deletions that ascend overlap no earlier one.
+// them, or doesn't fit. Most often it is the first that doesn't ascend; else it is searched for.
 pub(super) fn first_overlapping<D: AsDeletion>(
     deltas: &[RelaxDelta],
     additional: &[D],
 ) -> Option<usize> {
-    let ascending = valid_len(additional);
-    for at in 0..additional.len() {
-        let here = additional[at].as_deletion();
-        if !end_fits(here)
-            || !is_beside_deltas(deltas, here)
-            || at >= ascending && !is_beside(&additional[..at], here)
-        {
-            return Some(at);
+    if can_be_merged(deltas, additional) {
+        return None;
+    }
+    let (mut low, mut high) = (0, additional.len());
+    let mut middle = valid_len(additional).saturating_add(1);
+    while high - low > 1 {
+        middle = inner_or_middle(middle, low, high);
+        if can_be_merged(deltas, &additional[..middle]) {
+            low = middle;
+        } else {
+            high = middle;
         }
     }
-    None
+    Some(low)
+}
+
+// The same, by sorting copies of the first deletions, where there is memory for them.
+pub(super) fn first_overlapping_sorted<D: AsDeletion>(
+    deltas: &[RelaxDelta],
+    additional: &[D],
+) -> Option<usize> {
+    if can_be_merged_sorted(deltas, additional) {
+        return None;
+    }
+    let (mut low, mut high) = (0, additional.len());
+    let mut middle = valid_len(additional).saturating_add(1);
+    while high - low > 1 {
+        middle = inner_or_middle(middle, low, high);
+        if can_be_merged_sorted(deltas, &additional[..middle]) {
+            low = middle;
+        } else {
+            high = middle;
+        }
+    }
+    Some(low)
+}
+
+// Whether the deletions are disjoint, and none overlaps a delta. Those that don't ascend are copied
+// and sorted where there is memory for them.
+pub(super) fn can_be_merged_sorted<D: AsDeletion>(
+    deltas: &[RelaxDelta],
+    additional: &[D],
+) -> bool {
+    if first_invalid(additional).is_some() {
+        if let Ok(pairs) = copy_deletions(additional) {
+            return can_pairs_be_merged(deltas, pairs);
+        }
+    }
+    can_be_merged(deltas, additional)
+}
+
+// The number if it lies between both, else that in their middle.
+fn inner_or_middle(number: usize, low: usize, high: usize) -> usize {
+    if low < number && number < high {
+        return number;
+    }
+    low + (high - low) / 2
+}
+
+// Whether the deletions are disjoint, and none overlaps a delta.
+pub(super) fn can_be_merged<D: AsDeletion>(deltas: &[RelaxDelta], additional: &[D]) -> bool {
+    are_disjoint_beside(additional, &[]) && are_beside_deltas(deltas, additional)
 }
 
 // Whether both are valid lists, and no deletion of one overlaps one of the other. A few among many
@@ -103,7 +158,7 @@ pub(super) fn are_valid_together<D: AsDeletion>(deltas: &[RelaxDelta], additiona
     }
     first_invalid(additional).is_none()
         && first_invalid(deltas).is_none()
-        && first_overlapping(deltas, additional).is_none()
+        && can_be_merged(deltas, additional)
 }
 
 // The same, by a walk through both. Which of both comes next is unpredictable, and no branch
@@ -159,15 +214,18 @@ fn valid_len<D: AsDeletion>(deletions: &[D]) -> usize {
     }
 }
 
-// Whether the deletion overlaps none of the others.
-fn is_beside<D: AsDeletion>(others: &[D], deletion: (u64, u32)) -> bool {
-    for at in 0..others.len() {
-        let other = others[at].as_deletion();
-        if !is_before(other, deletion) && !is_before(deletion, other) {
-            return false;
-        }
+// How many of the first deletions descend; each of them fits.
+fn falling_len<D: AsDeletion>(deletions: &[D]) -> usize {
+    if deletions.is_empty() || !end_fits(deletions[0].as_deletion()) {
+        return 0;
     }
-    true
+    let mut at = 1;
+    while at < deletions.len()
+        && is_before(deletions[at].as_deletion(), deletions[at - 1].as_deletion())
+    {
+        at += 1;
+    }
+    at
 }
 
 // Whether the deletion overlaps none of the deltas: the nearest two decide.
@@ -180,30 +238,147 @@ fn is_beside_deltas(deltas: &[RelaxDelta], deletion: (u64, u32)) -> bool {
 // Whether the pairs of all batches, in any order, make a valid list once sorted. Pairs that
 // ascend, from each batch to the next too, take one pass.
 pub(super) fn are_disjoint_batches(batches: &[Vec<(u64, u32)>]) -> bool {
-    for at in count_ascending(batches)..batches.len() {
-        let batch = &batches[at];
-        if !are_disjoint(batch) || !are_beside_batches(&batches[..at], batch) {
+    if are_ascending(batches) {
+        return true;
+    }
+    for at in 0..batches.len() {
+        if !are_disjoint_beside(&batches[at], &batches[at + 1..]) {
             return false;
         }
     }
     true
 }
 
-// Whether the pairs, in any order, make a valid list once sorted.
-fn are_disjoint(pairs: &[(u64, u32)]) -> bool {
-    first_overlapping(&[], pairs).is_none()
-}
-
-// How many of the first batches make a valid list, one after the other.
-fn count_ascending(batches: &[Vec<(u64, u32)>]) -> usize {
-    let mut next = 0;
-    for (at, batch) in batches.iter().enumerate() {
-        match next_after(next, batch) {
-            Some(after) => next = after,
-            None => return at,
+// Whether the deletions, in any order, are disjoint, and none overlaps a pair of the batches.
+fn are_disjoint_beside<D: AsDeletion>(deletions: &[D], batches: &[Vec<(u64, u32)>]) -> bool {
+    let mut at = 0;
+    while at < deletions.len() {
+        match first_disjoint(&deletions[at..], batches) {
+            Some(count) => at += count,
+            None => return false,
         }
     }
-    batches.len()
+    true
+}
+
+// How many of the first deletions were tested: they are disjoint, and none overlaps a later one or
+// a pair of the batches. None where some deletion overlaps another or a pair, or doesn't fit.
+fn first_disjoint<D: AsDeletion>(deletions: &[D], batches: &[Vec<(u64, u32)>]) -> Option<usize> {
+    let rising = valid_len(deletions);
+    if rising >= SORTED_LEN || rising == deletions.len() {
+        return is_run_apart(deletions, rising, false, batches).then_some(rising);
+    }
+    let falling = falling_len(deletions);
+    if falling >= SORTED_LEN || falling == deletions.len() {
+        return is_run_apart(deletions, falling, true, batches).then_some(falling);
+    }
+    let count = deletions.len().min(SORTED_LEN);
+    are_sorted_apart(deletions, count, batches).then_some(count)
+}
+
+// How many deletions the stack has room for, in 16 KB.
+const SORTED_LEN: usize = 1024;
+
+// Whether none of the first deletions, which fit and go one way, overlaps a later one or a pair of
+// the batches.
+fn is_run_apart<D: AsDeletion>(
+    deletions: &[D],
+    count: usize,
+    falls: bool,
+    batches: &[Vec<(u64, u32)>],
+) -> bool {
+    are_apart(&deletions[..count], falls, &deletions[count..], batches)
+}
+
+// Whether the first deletions are disjoint, and none overlaps a later one or a pair of the batches.
+// It sorts a copy of them.
+fn are_sorted_apart<D: AsDeletion>(
+    deletions: &[D],
+    count: usize,
+    batches: &[Vec<(u64, u32)>],
+) -> bool {
+    let mut room = [(0, 0); SORTED_LEN];
+    let sorted = &mut room[..count];
+    copy_first(deletions, count, sorted);
+    sorted.sort_unstable_by_key(|pair| pair.0);
+    if let Some(_) = first_invalid(sorted) {
+        return false;
+    }
+    are_apart(sorted, false, &deletions[count..], batches)
+}
+
+// Writes the first deletions.
+fn copy_first<D: AsDeletion>(deletions: &[D], count: usize, pairs: &mut [(u64, u32)]) {
+    for at in 0..count {
+        pairs[at] = deletions[at].as_deletion();
+    }
+}
+
+// Whether none of the deletions, which go one way, overlaps one of the others or a pair of the
+// batches.
+fn are_apart<R: AsDeletion, D: AsDeletion>(
+    run: &[R],
+    falls: bool,
+    others: &[D],
+    batches: &[Vec<(u64, u32)>],
+) -> bool {
+    are_beside_run(run, falls, others) && are_beside_run_batches(run, falls, batches)
+}
+
+// Whether none of the others overlaps one of the deletions, which go one way.
+fn are_beside_run<R: AsDeletion, D: AsDeletion>(run: &[R], falls: bool, others: &[D]) -> bool {
+    for at in 0..others.len() {
+        if !is_beside_run(run, falls, others[at].as_deletion()) {
+            return false;
+        }
+    }
+    true
+}
+
+// Whether no pair of the batches overlaps one of the deletions, which go one way.
+fn are_beside_run_batches<R: AsDeletion>(
+    run: &[R],
+    falls: bool,
+    batches: &[Vec<(u64, u32)>],
+) -> bool {
+    for batch in batches {
+        if !are_beside_run(run, falls, batch.as_slice()) {
+            return false;
+        }
+    }
+    true
+}
+
+// Whether the deletion overlaps none of those, which go one way: a search that ends at the first
+// that it overlaps.
+fn is_beside_run<R: AsDeletion>(run: &[R], falls: bool, deletion: (u64, u32)) -> bool {
+    let (mut low, mut high) = (0, run.len());
+    while low < high {
+        let middle = low + (high - low) / 2;
+        let other = run[middle].as_deletion();
+        let is_below = is_before(other, deletion);
+        if !is_below && !is_before(deletion, other) {
+            return false;
+        }
+        if is_below == falls {
+            high = middle;
+        } else {
+            low = middle + 1;
+        }
+    }
+    true
+}
+
+// Whether the batches make a valid list, one after the other.
+pub(super) fn are_ascending(batches: &[Vec<(u64, u32)>]) -> bool {
+    let mut next = 0;
+    for batch in batches {
+        match next_after(next, batch.as_slice()) {
+            Some(after) => next = after,
+            None => return false,
+        }
+    }
+    true
 }
 
 // The lowest offset that may follow the pairs, where they are a valid list that begins at `from`
@@ -220,26 +395,6 @@ fn next_after(from: u128, pairs: &[(u64, u32)]) -> Option<u128> {
     Some(next)
 }
 
-// Whether none of the pairs overlaps a pair of the batches.
-fn are_beside_batches(batches: &[Vec<(u64, u32)>], pairs: &[(u64, u32)]) -> bool {
-    for &pair in pairs {
-        if !is_beside_batches(batches, pair) {
-            return false;
-        }
-    }
-    true
-}
-
-// Whether the pair overlaps no pair of the batches.
-fn is_beside_batches(batches: &[Vec<(u64, u32)>], pair: (u64, u32)) -> bool {
-    for batch in batches {
-        if !is_beside(batch.as_slice(), pair) {
-            return false;
-        }
-    }
-    true
-}
-
 // Whether no pair of the batches overlaps a delta.
 pub(super) fn are_beside_deltas_batches(deltas: &[RelaxDelta], batches: &[Vec<(u64, u32)>]) -> bool {
     for batch in batches {
@@ -250,12 +405,19 @@ pub(super) fn are_beside_deltas_batches(deltas: &[RelaxDelta], batches: &[Vec<(u
     true
 }
 
-// Whether none of the pairs overlaps a delta.
-fn are_beside_deltas(deltas: &[RelaxDelta], pairs: &[(u64, u32)]) -> bool {
-    for &pair in pairs {
-        if !is_beside_deltas(deltas, pair) {
+// Whether none of the deletions overlaps a delta.
+fn are_beside_deltas<D: AsDeletion>(deltas: &[RelaxDelta], deletions: &[D]) -> bool {
+    for at in 0..deletions.len() {
+        if !is_beside_deltas(deltas, deletions[at].as_deletion()) {
             return false;
         }
     }
     true
+}
+
+// Whether the pairs, in any order, can be merged. It sorts them.
+pub(super) fn can_pairs_be_merged(deltas: &[RelaxDelta], pairs: Vec<(u64, u32)>) -> bool {
+    let mut sorted = pairs;
+    sorted.sort_unstable_by_key(|pair| pair.0);
+    are_valid_together(deltas, sorted.as_slice())
 }

@@ -1,8 +1,6 @@
 use Rattle.std.proofs.Common.{◌+◌, rules}
 use Rattle.linker_base.proofs.Listed.{IsValid-take}
-use Rattle.linker_base.proofs.Merging.{overlapping_denies}
 use Rattle.linker_base.specs.Deltas.{deletions_of}
-use Rattle.linker_utils_c.specs.Deltas.{pairs_in}
 use Rattle.linker_utils_c.proofs.merges.linker_utils_deltas_is_mergeable_nonnull.Goals as goal
 
 pub returns-in-Some-clause-mergeable : goal.returns-in-Some-clause-mergeable
@@ -13,8 +11,3 @@ returns-in-Some-clause-overlapping c valid overlap = absurd (c.in-Some.ensures.h
 
 pub returns-in-Some-clause-invalid : goal.returns-in-Some-clause-invalid
 returns-in-Some-clause-invalid c = (λ _ valid. c.in-Some.ensures.here (IsValid-take (deletions_of c.args.deltas.now) (c.in-Some.field-0 + 1) valid), λ _. search rules)
-
-pub returns-in-Some-first_overlapping-clause-mergeable : goal.returns-in-Some-first_overlapping-clause-mergeable
-returns-in-Some-first_overlapping-clause-mergeable c valid disjoint =
-    let first = rw c.new-slice.ensures.same at c.in-Some-first_overlapping.ensures in
-    absurd (overlapping_denies (deletions_of c.args.deltas.now) (pairs_in c.args.additional.now) c.in-Some-first_overlapping.field-0 (first valid) disjoint)

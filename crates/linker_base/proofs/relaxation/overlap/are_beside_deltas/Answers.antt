@@ -1,20 +1,33 @@
-use Rattle.std.proofs.Common.{◌≡◌, refl, sym, ◌∙◌, inl, inr, arith}
+use Rattle.std.proofs.Common.{◌≡◌, ◌<◌, length, map, get_or, refl, sym, ◌∙◌, inl, inr, arith}
 use Rattle.std.proofs.lemmas.Bool.{cases_lt, false≢true}
-use Rattle.std.proofs.lemmas.List.{get_or_default}
+use Rattle.std.proofs.lemmas.List.{get_or-map, get_or_default, length-map}
 use Rattle.linker_base.proofs.relaxation.overlap.are_beside_deltas.Goals as goal
 
 -- one that overlaps a delta denies it
 pub returns-then-not-is_beside_deltas : goal.returns-then-not-is_beside_deltas
-returns-then-not-is_beside_deltas c listed =
-    (λ none. absurd (false≢true none), λ all. sym c.if-not-is_beside_deltas.true ∙ (c.is_beside_deltas.ensures listed).1 (all c.loop-pair.pair-index (0, 0) c.loop-pair-test.true))
+returns-then-not-is_beside_deltas g c listed =
+    let f = g.D.AsDeletion.deletion in
+    let xs = c.args.deletions.now in
+    let k = c.loop-at.at in
+    let within = c.loop-at-test.true in
+    let inside : k < length (map f xs) = omega (arith, length-map xs f) in
+    let here : get_or (map f xs) k (0, 0) ≡ c.as_deletion.result = get_or-map f xs k c.index-deletions-at.result (0, 0) within ∙ rw (← c.index-deletions-at.is) (sym c.as_deletion.ensures) in
+    (λ none. absurd (false≢true none), λ all. sym c.if-not-is_beside_deltas.true ∙ (c.is_beside_deltas.ensures listed).1 (rw here at (all k (0, 0) inside)))
 
-pub loop-pair-preserved : goal.loop-pair-preserved
-loop-pair-preserved c listed k d below = elim (cases_lt k c.loop-pair.pair-index) [
-  | inl earlier ↦ c.loop-pair.invariant listed k d earlier
-  | inr last ↦
-      let here : k ≡ c.loop-pair.pair-index = omega arith in
-      rw (here, get_or_default c.args.pairs.now c.loop-pair.pair-index d (0, 0) c.loop-pair-test.true) ((c.is_beside_deltas.ensures listed).0 c.if-not-is_beside_deltas.false)
-]
+pub loop-at-preserved : goal.loop-at-preserved
+loop-at-preserved g c listed j d below =
+    let f = g.D.AsDeletion.deletion in
+    let xs = c.args.deletions.now in
+    let k = c.loop-at.at in
+    let within = c.loop-at-test.true in
+    let inside : k < length (map f xs) = omega (arith, length-map xs f) in
+    let here : get_or (map f xs) k (0, 0) ≡ c.as_deletion.result = get_or-map f xs k c.index-deletions-at.result (0, 0) within ∙ rw (← c.index-deletions-at.is) (sym c.as_deletion.ensures) in
+    elim (cases_lt j k) [
+      | inl earlier ↦ c.loop-at.invariant listed j d earlier
+      | inr last ↦
+          let same : j ≡ k = omega arith in
+          rw (same, get_or_default (map f xs) k d (0, 0) inside, here) ((c.is_beside_deltas.ensures listed).0 c.if-not-is_beside_deltas.false)
+    ]
 
 pub returns : goal.returns
-returns c listed = (λ _ k d within. c.loop-pair.invariant listed k d (omega arith), λ _. refl)
+returns g c listed = (λ _ k d within. c.loop-at.invariant listed k d (omega (arith, within, length-map c.args.deletions.now g.D.AsDeletion.deletion, c.loop-at-test.false)), λ _. refl)

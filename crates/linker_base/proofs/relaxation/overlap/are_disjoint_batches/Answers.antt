@@ -1,35 +1,41 @@
-use Rattle.std.proofs.Common.{◌+◌, ◌++◌, take, drop, sym, ◌∙◌}
+use Rattle.std.proofs.Common.{◌+◌, ◌++◌, take, drop, [], refl, subst, ap, sym, ◌∙◌, arith}
+use Rattle.std.specs.Prelude.{◌↔◌, IsTrue}
 use Rattle.std.proofs.lemmas.Bool.{false≢true}
+use Rattle.std.proofs.lemmas.List.{map-id, drop_all, take_rest}
 use Rattle.linker_base.specs.Deletions.{AreDisjoint}
 use Rattle.linker_base.specs.Deltas.{pairs_of}
-use Rattle.linker_base.proofs.Batches.{pairs_more, pairs_front, disjoint_front}
+use Rattle.linker_base.specs.Inner.Listed.{AreDisjointBeside}
+use Rattle.linker_base.proofs.Apart.{beside_none, pairs_from}
+use Rattle.linker_base.proofs.Batches.{pairs_front}
 use Rattle.linker_base.proofs.Merging.{disjoint_joined, disjoint_back, disjoint_across}
+use Rattle.linker_base.proofs.Unions.{disjoint_left}
 use Rattle.linker_base.proofs.relaxation.overlap.are_disjoint_batches.Goals as goal
-use Rattle.linker_base.proofs.relaxation.overlap.are_disjoint_batches.Goals.{then-not-are_disjoint-via-then-not-are_disjoint, then-not-are_disjoint-via-else-not-are_disjoint+then-not-are_beside_batches}
 
--- a batch that isn't disjoint, or touches an earlier one, denies it
-pub returns-then-not-are_disjoint : goal.returns-then-not-are_disjoint
-returns-then-not-are_disjoint c =
-    let batches = c.args.batches.now in
-    let i = c.loop-at.at in
-    let batch = c.index-batches-at.result in (
-      λ none. absurd (false≢true none),
-      λ all.
-          let front = disjoint_front (pairs_of (take (i + 1) batches)) (pairs_of (drop (i + 1) batches)) (rw (pairs_front batches (i + 1)) all) in
-          let joined : AreDisjoint (pairs_of (take i batches) ++ batch.items) = rw (pairs_more batches i batch c.loop-at-test.true c.index-batches-at.is) at front in
-          elim c.then-not-are_disjoint.branch [
-            | then-not-are_disjoint-via-then-not-are_disjoint w ↦
-                sym w.if-not-are_disjoint.true ∙ c.are_disjoint.ensures.1 (rw c.deref.ensures.value (disjoint_back (pairs_of (take i batches)) batch.items joined))
-            | then-not-are_disjoint-via-else-not-are_disjoint+then-not-are_beside_batches w ↦
-                sym w.if-not-are_beside_batches.true ∙ w.are_beside_batches.ensures.1 (rw w.deref-else-not-are_disjoint.ensures.value (disjoint_across (pairs_of (take i batches)) batch.items joined))
-          ],
-    )
-
-pub loop-at-preserved : goal.loop-at-preserved
-loop-at-preserved c =
+-- a batch that isn't disjoint, or touches a later one, denies it
+pub returns-then-not-are_disjoint_beside : goal.returns-then-not-are_disjoint_beside
+returns-then-not-are_disjoint_beside c =
     let batches = c.args.batches.now in
     let i = c.loop-at.at in
     let batch = c.index-batches-at.result in
-    rw (pairs_more batches i batch c.loop-at-test.true c.index-batches-at.is) (disjoint_joined (pairs_of (take i batches)) batch.items c.loop-at.invariant
-    (rw c.deref.ensures.value at (c.are_disjoint.ensures.0 c.if-not-are_disjoint.false))
-    (rw c.deref-else-not-are_disjoint.ensures.value at (c.are_beside_batches.ensures.0 c.if-not-are_beside_batches.false)))
+    let later = pairs_of (drop (i + 1) batches) in
+    let beside : IsTrue c.are_disjoint_beside.result ↔ AreDisjointBeside batch.items later = subst (λ ps. IsTrue c.are_disjoint_beside.result ↔ AreDisjointBeside ps later) (map-id batch.items) (rw (c.deref.ensures.value, take_rest batches (i + 1)) at c.are_disjoint_beside.ensures) in (
+      λ none. absurd (false≢true none),
+      λ all.
+          let joined : AreDisjoint (batch.items ++ later) = rw (pairs_from batches i batch c.loop-at-test.true c.index-batches-at.is) at (disjoint_back (pairs_of (take i batches)) (pairs_of (drop i batches)) (rw (pairs_front batches i) all)) in
+          sym c.if-not-are_disjoint_beside.true ∙ beside.1 (record { disjoint = disjoint_left batch.items later joined; apart = disjoint_across batch.items later joined }),
+    )
+
+pub loop-at-preserved : goal.loop-at-preserved
+loop-at-preserved c rest =
+    let batches = c.args.batches.now in
+    let i = c.loop-at.at in
+    let batch = c.index-batches-at.result in
+    let later = pairs_of (drop (i + 1) batches) in
+    let beside : IsTrue c.are_disjoint_beside.result ↔ AreDisjointBeside batch.items later = subst (λ ps. IsTrue c.are_disjoint_beside.result ↔ AreDisjointBeside ps later) (map-id batch.items) (rw (c.deref.ensures.value, take_rest batches (i + 1)) at c.are_disjoint_beside.ensures) in
+    let here = beside.0 c.if-not-are_disjoint_beside.false in
+    c.loop-at.invariant (rw (pairs_from batches i batch c.loop-at-test.true c.index-batches-at.is) (disjoint_joined batch.items later here.disjoint rest here.apart))
+
+pub returns : goal.returns
+returns c =
+    let none = ap pairs_of (drop_all c.loop-at.at c.args.batches.now (omega (arith, c.loop-at-test.false))) in
+    (λ _. c.loop-at.invariant (rw none (beside_none [] [] refl).disjoint), λ _. refl)

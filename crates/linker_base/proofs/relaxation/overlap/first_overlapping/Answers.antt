@@ -1,53 +1,46 @@
-use Rattle.std.proofs.Common.{◌≡◌, ◌<◌, ◌≤◌, length, map, get_or, take, sym, ◌∙◌, arith}
-use Rattle.std.specs.Prelude.{All}
-use Rattle.std.proofs.lemmas.Bool.{false≢true, not-true, not-false, leb-true}
-use Rattle.std.proofs.lemmas.List.{get_or-map, length-map, take-map}
-use Rattle.linker_base.specs.Deletions.{DoNotOverlap}
+use Rattle.std.proofs.Common.{length, map, take, sym, ◌∙◌, inl, inr, arith}
+use Rattle.std.proofs.lemmas.Bool.{cases_lt, false≢true}
+use Rattle.std.proofs.lemmas.List.{length-map, length-take, take-map, take_all}
 use Rattle.linker_base.specs.Deltas.{deletion_of}
-use Rattle.linker_base.proofs.Merging.{disjoint_more, beside_from_disjoint, earlier_from_valid}
+use Rattle.linker_base.proofs.Apart.{disjoint_with_none}
 use Rattle.linker_base.proofs.relaxation.overlap.first_overlapping.Goals as goal
-use Rattle.linker_base.proofs.relaxation.overlap.first_overlapping.Goals.{then-not-end_fits-via-then-not-end_fits, then-not-end_fits-via-else-not-end_fits+then-not-is_beside_deltas, then-not-end_fits-via-else-not-end_fits+else-not-is_beside_deltas+then-not-is_beside, then-at-ascending, else-at-ascending}
 
--- a deletion that doesn't fit, or overlaps a delta or an earlier one
-pub returns-then-not-end_fits : goal.returns-then-not-end_fits
-returns-then-not-end_fits g c listed =
+pub loop-high-init : goal.loop-high-init
+loop-high-init g c =
     let f = g.D.AsDeletion.deletion in
     let ds = map deletion_of c.args.deltas.now in
     let xs = c.args.additional.now in
-    let k = c.loop-at.at in
-    let within = c.loop-at-test.true in
-    let inside : k < length (map f xs) = omega (arith, length-map xs f) in
-    let here : get_or (map f xs) k (0, 0) ≡ c.as_deletion-here.result = get_or-map f xs k c.index-additional-at.result (0, 0) within ∙ rw (← c.index-additional-at.is) (sym c.as_deletion-here.ensures) in
     record {
-      within = inside;
-      before = c.loop-at.invariant listed;
-      here = λ disjoint.
-          let beside = beside_from_disjoint ds (map f xs) k inside disjoint in
-          elim c.then-not-end_fits.branch [
-            | then-not-end_fits-via-then-not-end_fits w ↦ false≢true (sym w.if-not-end_fits.true ∙ c.end_fits.ensures.1 (rw here at beside.fits))
-            | then-not-end_fits-via-else-not-end_fits+then-not-is_beside_deltas w ↦ false≢true (sym w.if-not-is_beside_deltas.true ∙ (w.is_beside_deltas.ensures listed).1 (rw here at beside.beside))
-            | then-not-end_fits-via-else-not-end_fits+else-not-is_beside_deltas+then-not-is_beside w ↦ elim w.if-at-ascending.branch [
-              | then-at-ascending v ↦
-                  let overlaps = not-true v.is_beside.result (sym v.value-is ∙ w.if-not-is_beside.true) in
-                  false≢true (sym overlaps ∙ v.is_beside.ensures.1 (rw (here, take-map f k xs) at beside.earlier))
-              | else-at-ascending v ↦
-                  let past : c.valid_len-ascending.result ≤ k = leb-true c.valid_len-ascending.result k (sym v.value-is ∙ w.if-not-is_beside.true) in
-                  omega (arith, past, v.if-at-ascending.false)
-            ]
-          ];
+      within = omega arith;
+      order = omega arith;
+      some = λ valid. elim (cases_lt 0 (length xs)) [
+        | inl some ↦ some
+        | inr none ↦ absurd (false≢true (sym c.if-can_be_merged.false ∙ (c.can_be_merged.ensures valid).1 (disjoint_with_none ds (map f xs) valid (omega (arith, none, length-map xs f)))))
+      ];
+      below = λ valid. disjoint_with_none ds (take 0 (map f xs)) valid (omega (arith, length-take 0 (map f xs)));
+      above = λ valid all. false≢true (sym c.if-can_be_merged.false ∙ (c.can_be_merged.ensures valid).1 (rw (take_all (length xs) (map f xs) (omega (arith, length-map xs f))) at all));
     }
 
-pub loop-at-preserved : goal.loop-at-preserved
-loop-at-preserved g c listed =
+pub loop-high-preserved-then-can_be_merged-2 : goal.loop-high-preserved-then-can_be_merged-2
+loop-high-preserved-then-can_be_merged-2 g c =
     let f = g.D.AsDeletion.deletion in
-    let ds = map deletion_of c.args.deltas.now in
     let xs = c.args.additional.now in
-    let k = c.loop-at.at in
-    let within = c.loop-at-test.true in
-    let inside : k < length (map f xs) = omega (arith, length-map xs f) in
-    let here : get_or (map f xs) k (0, 0) ≡ c.as_deletion-here.result = get_or-map f xs k c.index-additional-at.result (0, 0) within ∙ rw (← c.index-additional-at.is) (sym c.as_deletion-here.ensures) in
-    let earlier : All (λ d. DoNotOverlap d (get_or (map f xs) k (0, 0))) (take k (map f xs)) = elim c.if-at-ascending.branch [
-      | then-at-ascending w ↦ rw (here, take-map f k xs) (w.is_beside.ensures.0 (not-false w.is_beside.result (sym w.value-is ∙ c.if-not-is_beside.false)))
-      | else-at-ascending w ↦ earlier_from_valid (map f xs) c.valid_len-ascending.result k (omega arith) (omega (arith, length-map xs f, c.valid_len-ascending.ensures.within)) c.valid_len-ascending.ensures.valid
-    ] in
-    disjoint_more ds (map f xs) k inside (c.loop-at.invariant listed) (rw here (c.end_fits.ensures.0 c.if-not-end_fits.false)) (rw here ((c.is_beside_deltas.ensures listed).0 c.if-not-is_beside_deltas.false)) earlier
+    record {
+      within = c.loop-high.invariant.within;
+      order = omega (arith, c.inner_or_middle-middle.ensures.1);
+      some = λ valid. c.inner_or_middle-middle.ensures.1;
+      below = λ valid. rw (take-map f c.inner_or_middle-middle.result xs) ((c.can_be_merged-in-loop-high.ensures valid).0 c.if-can_be_merged-2.true);
+      above = c.loop-high.invariant.above;
+    }
+
+pub loop-high-preserved : goal.loop-high-preserved
+loop-high-preserved g c =
+    let f = g.D.AsDeletion.deletion in
+    let xs = c.args.additional.now in
+    record {
+      within = omega (arith, c.inner_or_middle-middle.ensures.1, c.loop-high.invariant.within);
+      order = omega (arith, c.inner_or_middle-middle.ensures.0);
+      some = λ valid. c.inner_or_middle-middle.ensures.0;
+      below = c.loop-high.invariant.below;
+      above = λ valid all. false≢true (sym c.if-can_be_merged-2.false ∙ (c.can_be_merged-in-loop-high.ensures valid).1 (rw (take-map f c.inner_or_middle-middle.result xs) at all));
+    }

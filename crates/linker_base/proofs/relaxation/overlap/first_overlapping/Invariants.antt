@@ -1,7 +1,16 @@
-use Rattle.std.proofs.Common.{◌++◌, map, take}
+use Rattle.std.proofs.Common.{◌-◌, ◌<◌, ◌≤◌, ◌++◌, length, map, take}
 use Rattle.linker_base.specs.Deletions.{AreDisjoint, IsValid}
 use Rattle.linker_base.specs.Deltas.{deletion_of}
 use Rattle.linker_base.proofs.relaxation.overlap.first_overlapping.Given as goal
 
-abbrev pub invariant-loop-at : goal.invariant-loop-at
-invariant-loop-at g l = IsValid (map deletion_of l.deltas) → AreDisjoint (map deletion_of l.deltas ++ take l.at (map g.D.AsDeletion.deletion l.additional))
+abbrev pub invariant-loop-high : goal.invariant-loop-high
+invariant-loop-high g l = record {
+  within : l.high ≤ length l.additional;
+  order : l.low ≤ l.high;
+  some : IsValid (map deletion_of l.deltas) → l.low < l.high;
+  below : IsValid (map deletion_of l.deltas) → AreDisjoint (map deletion_of l.deltas ++ take l.low (map g.D.AsDeletion.deletion l.additional));
+  above : IsValid (map deletion_of l.deltas) → AreDisjoint (map deletion_of l.deltas ++ take l.high (map g.D.AsDeletion.deletion l.additional)) → ⊥;
+}
+
+abbrev pub decreases-loop-high : goal.decreases-loop-high
+decreases-loop-high g l = l.high - l.low

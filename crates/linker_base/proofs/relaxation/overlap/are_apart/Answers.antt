@@ -1,0 +1,26 @@
+use Rattle.std.proofs.Common.{map, sym, ◌∙◌}
+use Rattle.std.specs.Prelude.{All}
+use Rattle.std.proofs.lemmas.Bool.{false≢true}
+use Rattle.std.proofs.lemmas.List.Elements.{All-append}
+use Rattle.linker_base.specs.Deletions.{DoNotOverlap}
+use Rattle.linker_base.specs.Deltas.{pairs_of}
+use Rattle.linker_base.proofs.Batches.{All-front, All-back}
+use Rattle.linker_base.proofs.relaxation.overlap.are_apart.Goals as goal
+
+pub returns-then-are_beside_run : goal.returns-then-are_beside_run
+returns-then-are_beside_run g c =
+    let run = map g.R.AsDeletion.deletion c.args.run.now in
+    let others = map g.D.AsDeletion.deletion c.args.others.now in
+    let pairs = pairs_of c.args.batches.now in (
+      λ holds. All-append (λ pair. All (λ d. DoNotOverlap d pair) run) others pairs (c.are_beside_run.ensures.0 c.if-are_beside_run.true) (c.are_beside_run_batches.ensures.0 holds),
+      λ all. c.are_beside_run_batches.ensures.1 (All-back (λ pair. All (λ d. DoNotOverlap d pair) run) others pairs all),
+    )
+
+pub returns-else-are_beside_run : goal.returns-else-are_beside_run
+returns-else-are_beside_run g c =
+    let run = map g.R.AsDeletion.deletion c.args.run.now in
+    let others = map g.D.AsDeletion.deletion c.args.others.now in
+    let pairs = pairs_of c.args.batches.now in (
+      λ holds. absurd (false≢true (sym c.if-are_beside_run.false ∙ holds)),
+      λ all. c.are_beside_run.ensures.1 (All-front (λ pair. All (λ d. DoNotOverlap d pair) run) others pairs all),
+    )
