@@ -516,6 +516,16 @@ static void call_apply(void) {
     finish_with(status, 0 NO_REWRITE OR(CANNOT_APPLY));
 }
 
+static void call_matches(void) {
+    uint16_t machine = any_machine();
+    uint32_t rewrite = any_of_enum();
+    uint8_t n = (uint8_t)(once_in(8) ? any_number() : below(8));
+    struct buffer *section = bytes(READ, any_section_len());
+    uint64_t offset = any_offset(section->len);
+    uint32_t status = CALL(matches, machine, rewrite, n, section->given, section->len, offset);
+    finish_with(status, 0 NO_REWRITE OR(DOES_NOT_MATCH));
+}
+
 static void call_next_modifier(void) {
     uint16_t machine = any_machine();
     uint32_t *modifier = output(sizeof(uint32_t));
@@ -924,8 +934,9 @@ static void call_shrink_calls(void) {
 }
 
 static void (*const all[])(void) = {
-    call_status_text, call_window, call_write, call_read, call_apply, call_next_modifier,
-    call_relocation, call_relocation_name, call_value, call_reach, call_relocate, call_relocate_all,
+    call_status_text, call_window, call_write, call_read, call_apply, call_matches,
+    call_next_modifier, call_relocation, call_relocation_name, call_value, call_reach, call_relocate,
+    call_relocate_all,
     call_clui_rel_info, call_jal_site, call_jal_site_with, call_relax_call,
     call_tests, call_write_mov_sequence, call_write_address_sequence, call_write_ha_lo,
     call_u32_from_slice, call_u64_from_slice, call_read_u32, call_read_uleb128, call_write_uleb128,
