@@ -377,7 +377,7 @@ fn rejects_rewrites() {
     // past the last rewrite of each architecture, and a machine that is none
     let unknown = [
         (Architecture::AArch64.machine(), 13),
-        (Architecture::RiscV.machine(), 6),
+        (Architecture::RiscV.machine(), 8),
         (Architecture::LoongArch64.machine(), 2),
         (Architecture::Ppc64.machine(), 1),
         (Architecture::X86_64.machine(), 24),
@@ -400,8 +400,9 @@ fn rejects_rewrites() {
                 &mut offset,
                 &mut addend,
             );
+            let meant = raw::linker_utils_matches_nonnull(machine, rewrite, 0, at, 4, 0);
             let next = raw::linker_utils_next_modifier(machine, rewrite, 0, &mut modifier);
-            assert_eq!([can, done, next, modifier], [status, status, status, 9]);
+            assert_eq!([can, done, meant, next, modifier], [status, status, status, status, 9]);
         }
     }
     assert_eq!((section, offset, addend), ([0x41, 0, 0x40, 0xf9], 0, 7));
@@ -412,9 +413,27 @@ fn rejects_rewrites() {
 }
 
 #[test]
+fn tells_what_a_rewrite_is_meant_for() {
+    // `auipc ra, 0; jalr ra, 0(ra)`, and the same of `t1` and `x0`, as GNU as writes `call` and `tail`
+    let call = [0x97, 0, 0, 0, 0xe7, 0x80, 0, 0];
+    let tail = [0x17, 0x03, 0, 0, 0x67, 0, 0x03, 0];
+    let no_match = Err(Status::DoesNotMatch);
+    assert_eq!(matches(RiscVRewrite::CallToJal, &call, 0), Ok(()));
+    assert_eq!(matches(RiscVRewrite::CallToJal, &tail, 0), no_match);
+    assert_eq!(matches(RiscVRewrite::TailToJal, &tail, 0), Ok(()));
+    assert_eq!(matches(RiscVRewrite::TailToJal, &tail, u64::MAX), no_match);
+    // `mov x@GOTPCREL(%rip), %rbx`, and `lea`
+    let (mov, lea) = ([0x48, 0x8b, 0x1d, 0, 0, 0, 0], [0x48, 0x8d, 0x1d, 0, 0, 0, 0]);
+    assert_eq!(matches(X86_64Rewrite::MovIndirectToLea, &mov, 3), Ok(()));
+    assert_eq!(matches(X86_64Rewrite::MovIndirectToLea, &lea, 3), no_match);
+}
+
+#[test]
 fn tells_what_becomes_of_the_next_relocation() {
-    let skipped: [Rewrite; 8] = [
+    let skipped: [Rewrite; 10] = [
         RiscVRewrite::CallToJal.into(),
+        RiscVRewrite::TailToJal.into(),
+        RiscVRewrite::TailToCJ.into(),
         RiscVRewrite::Hi20Delete.into(),
         X86_64Rewrite::TlsGdToLocalExec.into(),
         X86_64Rewrite::TlsGdToLocalExecLarge.into(),
