@@ -9,14 +9,17 @@ VALID = rf"{SPECS}\.Listed\.AreValidDeltas (\w+)"
 IN_OTHER_WORDS = {
     rf"{SPECS}\.Sections\.IsAboveAll self (\w+)": r"self.last_index().is_none_or(|last| last < \1)",
     rf"Rattle\.std\.specs\.FinMap\.get self (\w+) ≡ {PRELUDE}\.None": r"self.get(\1).is_none()",
+    r"range\.end ≤ 64": "range.end <= u64::BITS",
     rf"{SPECS}\.Packing\.AreApart {CALLS}": r"first_not_apart(\1).is_none()",
     rf"{VALID} → {SPECS}\.Shrinking\.AreShrinkable {DELETIONS} {CALLS}":
         r"!DeltaSlice::new(\1).has_valid_deltas() || first_not_shrinkable(\1, \2).is_none()",
     rf"{VALID} → {PRELUDE}\.length (\w+) ≡ {SPECS}\.Deletions\.rank {DELETIONS} \({PRELUDE}\.length (\w+)\)":
         r"!DeltaSlice::new(\1).has_valid_deltas() || packed_len(\3, \1) == \2.len()",
+    rf"{SPECS}\.Deletions\.AreDisjoint \({PRELUDE}\.map {SPECS}\.Deltas\.deletion_of (\w+)\.items \+\+ (\w+)\)":
+        r"super::DeltaSlice::new(\1).can_merge_ascending(\2)",
 }
-# What debug assertions call in place of a function that tells the same: they may take memory, and take less time.
-QUICKER = {"is_mergeable": "is_mergeable_sorted", "are_mergeable": "are_mergeable_sorted"}
+# Functions whose requirement is asserted in another one that they call, where the pairs are sorted.
+LATER = {"merge_additional": "insert_ascending", "merge_all": "insert_ascending"}
 # Requirements that only the call itself tests, in words, by function and name: its addition overflows.
 IN_WORDS = {"output_to_input_counted.fits": "the input offset is at most `u64::MAX`, or an addition overflows"}
 COMPARISONS = {"≡": "==", "≤": "<=", "<": "<"}
@@ -46,12 +49,6 @@ class Contracts:
                                         function.source.meant(text, function.parameters))
                     if told and kind == "ensures":
                         self.tellers.append((function, told[1][-1], self.pattern(function, told[2])))
-        self.quicker = {teller.name: other.name for teller, *told in self.tellers for other, *same in self.tellers
-                        if QUICKER.get(teller.name) == other.name and told == same}
-
-    def asserted(self, test):
-        """What a debug assertion tests: the same by the quicker functions."""
-        return re.sub(r"\w+(?=\()", lambda name: self.quicker.get(name[0], name[0]), test)
 
     def pattern(self, function, clause):
         """What tells a clause, by the function's parameters and the members of its trait."""
@@ -167,8 +164,11 @@ def state_requirements(source, contracts):
     for function in source.functions:
         requirements, start = list(contracts.requirements(function)), source.start(function.first)
         indent = " " * (start - source.text.rfind("\n", 0, start) - 1)
-        asserts = "".join(f"\n{indent}    debug_assert!({contracts.asserted(test)});"
-                          for *_, test in requirements if test)
+        tests, is_later = [test for *_, test in requirements if test], function.name in LATER
+        is_asserting = function.is_public or function.inherits or function.name in LATER.values()
+        if function.name in LATER.values() and not tests:
+            source.stop(function.fn, "no test of what another function requires")
+        asserts = "" if is_later else "".join(f"\n{indent}    debug_assert!({test});" for test in tests)
         lines, body = [], source.end(function.body)
         for label, text, test in requirements if function.is_public or function.inherits else []:
             if not test and f"{function.name}.{label}" not in IN_WORDS:
@@ -181,9 +181,9 @@ def state_requirements(source, contracts):
         if function.is_public and function.result and not function.result.startswith("Result<") and not any(
                 "&mut" in kind for kind in function.parameters.values()):
             lines.append("#[must_use]")
-        if asserts and source[function.body] == "{" and (function.is_public or function.inherits):
+        if (asserts or is_later) and source[function.body] == "{" and is_asserting:
             lines.append("#[cfg_attr(debug_assertions, track_caller)]")
-            source.replace(body, body, asserts + ("" if source.text[body] == "\n" else "\n" + indent))
+            source.replace(body, body, asserts + ("" if is_later or source.text[body] == "\n" else "\n" + indent))
         if lines and source.text[start - len(indent):start].strip():
             source.stop(function.first, "an item that is not at the start of its line")
         if lines and "///" in source.text[start:source.start(function.fn)]:

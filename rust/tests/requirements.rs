@@ -47,6 +47,10 @@ fn requirements_name_the_caller() {
         (line_of!(InstructionForm::read(form, &short)), "self.window() <= bytes.len()"),
         (line_of!(SectionRelaxDeltas::new(&[(4, 4), (5, 4)])), "SectionRelaxDeltas::is_valid(raw)"),
         (
+            line_of!(none().merge_additional(&[(8, 4), (4, 4), (6, 1)])),
+            "super::DeltaSlice::new(deltas).can_merge_ascending(pairs)",
+        ),
+        (
             line_of!(deltas.kept_output_offset(8, u64::MAX)),
             "(input_offset as u128) + (len as u128) < 1 << 64",
         ),

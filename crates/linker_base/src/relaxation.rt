@@ -184,7 +184,7 @@ impl SectionRelaxDeltas {
     }
 
     /// As `is_mergeable`, in O(n + k log k) where there is memory for a copy of the pairs, which is
-    /// sorted. Pairs that ascend aren't copied. Assertions of debug builds call it.
+    /// sorted. Pairs that ascend aren't copied.
     pub fn is_mergeable_sorted(&self, additional: &[(u64, u32)]) -> bool
         ensures { IsTrue result ↔ AreDisjoint (self.now ++ additional.now) }
     {
@@ -230,7 +230,7 @@ impl SectionRelaxDeltas {
     }
 
     /// As `are_mergeable`, in O(n + k log k) where there is memory for a copy of all pairs, which
-    /// is sorted. Assertions of debug builds call it.
+    /// is sorted.
     pub fn are_mergeable_sorted(&self, batches: &[Vec<(u64, u32)>]) -> bool
         ensures { IsTrue result ↔ AreDisjoint (self.now ++ pairs_of batches.now) }
     {

@@ -36,7 +36,7 @@ pub trait BitExtraction {
     /// # Requires
     ///
     /// - not_empty: `range.start < range.end`
-    /// - in_word: `range.end <= 64`
+    /// - in_word: `range.end <= u64::BITS`
     #[must_use]
     fn extract_bit_range(self, range: Range<u32>) -> u64;
 
@@ -77,7 +77,7 @@ impl BitExtraction for u64 {
     #[cfg_attr(debug_assertions, track_caller)]
     fn extract_bit_range(self, range: Range<u32>) -> u64 {
         debug_assert!(range.start < range.end);
-        debug_assert!(range.end <= 64);
+        debug_assert!(range.end <= u64::BITS);
         (self >> range.start) & (u64::MAX >> (64 - (range.end - range.start)))
     }
 

@@ -134,7 +134,6 @@ impl SectionRelaxDeltas {
     /// - `self.is_mergeable(additional)`
     #[cfg_attr(debug_assertions, track_caller)]
     pub fn merge_additional(&mut self, additional: &[(u64, u32)]) -> Result<(), OutOfMemory> {
-        debug_assert!(self.is_mergeable_sorted(additional));
         let deltas = &mut self.deltas;
         let heads = &mut self.heads;
         if additional.is_empty() {
@@ -164,7 +163,7 @@ impl SectionRelaxDeltas {
     }
 
     /// As `is_mergeable`, in O(n + k log k) where there is memory for a copy of the pairs, which is
-    /// sorted. Pairs that ascend aren't copied. Assertions of debug builds call it.
+    /// sorted. Pairs that ascend aren't copied.
     #[must_use]
     pub fn is_mergeable_sorted(&self, additional: &[(u64, u32)]) -> bool {
         can_be_merged_sorted(&self.deltas, additional)
@@ -184,7 +183,6 @@ impl SectionRelaxDeltas {
     /// - `self.are_mergeable(batches)`
     #[cfg_attr(debug_assertions, track_caller)]
     pub fn merge_all(&mut self, batches: &[Vec<(u64, u32)>]) -> Result<(), OutOfMemory> {
-        debug_assert!(self.are_mergeable_sorted(batches));
         let deltas = &mut self.deltas;
         let heads = &mut self.heads;
         let count = count_pairs(batches);
@@ -209,7 +207,7 @@ impl SectionRelaxDeltas {
     }
 
     /// As `are_mergeable`, in O(n + k log k) where there is memory for a copy of all pairs, which
-    /// is sorted. Assertions of debug builds call it.
+    /// is sorted.
     #[must_use]
     pub fn are_mergeable_sorted(&self, batches: &[Vec<(u64, u32)>]) -> bool {
         if !are_ascending(batches) {

@@ -58,11 +58,13 @@ pub(super) fn sorted(pairs: Vec<(u64, u32)>) -> Vec<(u64, u32)> {
 }
 
 // Adds pairs that ascend, and writes the heads that are kept from the first block on that changes.
+#[cfg_attr(debug_assertions, track_caller)]
 pub(super) fn insert_ascending(
     deltas: &mut Vec<RelaxDelta>,
     heads: &mut Vec<BlockHead>,
     pairs: &[(u64, u32)],
 ) {
+    debug_assert!(super::DeltaSlice::new(deltas).can_merge_ascending(pairs));
     let count = deltas.len();
     append(deltas, pairs);
     let kept = merge_ascending(None, deltas, count, pairs);
