@@ -600,6 +600,10 @@ fn merge_tests(report: &mut Report, random: &mut Random) {
         let sides = [Some(Side::number(tested)), None, Some(erased), None];
         report.line(&format!("{COUNT} {order}"), COUNT, true, sides);
     }
+    let batches: Vec<Vec<(u64, u32)>> = (0..4).map(|first| fourth(first).collect()).collect();
+    let erased = Side::number(|| u64::from(none.are_mergeable(&batches)));
+    let sides = [None, None, Some(erased), None];
+    report.line(&format!("{COUNT} in four batches"), COUNT, true, sides);
 }
 
 // ---- packing
