@@ -21,11 +21,13 @@ macro_rules! numbered {
             pub const ALL: &'static [$name] = &[$($name::$variant),*];
 
             /// The library's number.
+            #[inline]
             pub const fn number(self) -> $number {
                 self as $number
             }
 
             /// The one with the library's number, if there is one.
+            #[inline]
             pub const fn from_number(number: $number) -> Option<$name> {
                 match number {
                     $($value => Some($name::$variant),)*
@@ -75,11 +77,13 @@ linker_utils_architecture! { numbered
 
 impl Architecture {
     /// The architecture of a file by `e_machine` of its ELF header.
+    #[inline]
     pub const fn from_machine(e_machine: u16) -> Option<Architecture> {
         Architecture::from_number(e_machine)
     }
 
     /// `e_machine` in the ELF header of the architecture's files.
+    #[inline]
     pub const fn machine(self) -> u16 {
         self.number()
     }
@@ -135,6 +139,7 @@ macro_rules! x86_64_rewrites {
 
         impl X86_64Rewrite {
             /// The library's number, and that of the bytes before the field, or 0.
+            #[inline]
             pub const fn numbers(self) -> (u32, u8) {
                 match self {
                     $(X86_64Rewrite::$variant $(($n))? => ($value, x86_64_rewrites!(@or_zero $($n)?)),)*
@@ -142,6 +147,7 @@ macro_rules! x86_64_rewrites {
             }
 
             /// The one with the library's numbers, if there is one.
+            #[inline]
             pub const fn from_numbers(number: u32, bytes_before: u8) -> Option<X86_64Rewrite> {
                 match number {
                     $($value => Some(X86_64Rewrite::$variant $((x86_64_rewrites!(@bytes_before $n bytes_before)))?),)*
@@ -194,6 +200,7 @@ pub enum Form {
 }
 
 impl Form {
+    #[inline]
     pub(crate) const fn numbers(self) -> (u16, u32) {
         match self {
             Form::AArch64(form) => (Architecture::AArch64.machine(), form.number()),
@@ -203,6 +210,7 @@ impl Form {
         }
     }
 
+    #[inline]
     pub(crate) fn from_numbers(machine: u16, form: u32) -> Option<Form> {
         Some(match Architecture::from_machine(machine)? {
             Architecture::AArch64 => Form::AArch64(AArch64Form::from_number(form)?),
@@ -225,6 +233,7 @@ pub enum Rewrite {
 }
 
 impl Rewrite {
+    #[inline]
     pub(crate) const fn numbers(self) -> (u16, u32, u8) {
         match self {
             Rewrite::AArch64(rewrite) => (Architecture::AArch64.machine(), rewrite.number(), 0),
