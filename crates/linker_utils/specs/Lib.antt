@@ -4,6 +4,7 @@ pub mod AArch64Relocations
 pub mod Agrees
 pub mod Architectures
 pub mod Bounds
+pub mod Choices
 pub mod Elf
 pub mod ElfNames
 pub mod Inner

@@ -1,6 +1,7 @@
 //! The vocabulary of relocations, the forms of instructions that hold a value, and the interfaces
 //! of forms and of rewrites.
 
+mod choice;
 pub(crate) mod engine;
 mod numbers;
 mod reach;
@@ -26,6 +27,7 @@ pub use crate::loongarch64::LoongArch64Instruction;
 pub use crate::ppc64::Ppc64Instruction;
 use crate::relaxation::RelocationModifier;
 pub use crate::riscv64::RiscVInstruction;
+pub use choice::{Choice, LinkFacts};
 pub use numbers::RelocationNumbers;
 pub use relocate::RelocateError;
 pub use rows::Row;

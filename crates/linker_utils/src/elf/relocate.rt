@@ -6,6 +6,7 @@ ghost use Rattle.std.specs.Int.{byte_len, from_le_bytes, w32};
 ghost use Rattle.linker_base.specs.Bits.{field};
 ghost use Rattle.linker_base.specs.Form.{window_of, BitsWritten, Fits};
 ghost use Rattle.linker_utils.specs.Agrees.{AgreesBy, AgreesInReach};
+ghost use Rattle.linker_utils.specs.Choices.{IsInReach};
 ghost use Rattle.linker_utils.specs.Elf.{relocation_form};
 ghost use Rattle.linker_utils.specs.LoongArch.{loongarch_form};
 ghost use Rattle.linker_utils.specs.Ppc64.{ppc64_form};
@@ -285,6 +286,14 @@ impl RelocationKindInfo {
         } else {
             value.rem_euclid(self.alignment as i64) == 0
         }
+    }
+
+    /// Whether a value is within `reach`, and a multiple of the row's alignment.
+    #[inline]
+    pub(crate) fn is_in_reach(&self, value: i64) -> bool
+        ensures { IsTrue result ↔ IsInReach self.now value }
+    {
+        self.is_supported() && self.is_aligned(value) && self.reach().contains(value)
     }
 
     /// Whether a value is a multiple of the alignment of the row and of its instruction.

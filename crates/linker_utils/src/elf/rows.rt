@@ -1,7 +1,8 @@
 //! Rows of the relocation tables, and the macros that make them from each architecture's list.
 
-ghost use Rattle.std.specs.Prelude.{◌≡◌, ◌^◌, ◌<◌, IfErr, IfSome, OnOk};
+ghost use Rattle.std.specs.Prelude.{◌≡◌, ◌^◌, ◌<◌, ◌↔◌, IfErr, IfSome, IsTrue, OnOk};
 ghost use Rattle.linker_utils.specs.Agrees.{RowFits};
+ghost use Rattle.linker_utils.specs.Choices.{Reaches};
 ghost use Rattle.linker_utils.specs.Numbers.{numbers_of};
 ghost use Rattle.linker_utils.specs.Reach.{reach_of};
 ghost use Rattle.linker_utils.specs.Relocate.{WritesRow, RejectsValue, window_len};
@@ -173,6 +174,18 @@ impl Row {
         ensures { result ≡ value_of self.now operands.now }
     {
         self.info().value(operands)
+    }
+
+    /// Whether the relocation has a value that can be written: one within `reach`, and a multiple of
+    /// the row's alignment.
+    #[inline]
+    pub fn reaches(&self, operands: &Operands) -> bool
+        ensures { IsTrue result ↔ Reaches self.now operands.now }
+    {
+        match self.value(operands) {
+            Some(value) => self.info().is_in_reach(value),
+            None => false,
+        }
     }
 
     /// Writes a value, as `RelocationKindInfo::write` says, with its errors.
