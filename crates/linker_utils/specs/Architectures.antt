@@ -84,6 +84,13 @@ rewrite_of_number Ppc64 number n = of_some relaxations.Ppc64 (slice_get ppc64_re
 rewrite_of_number X86_64 number n =
     of_some relaxations.X86_64 (slice_get (x86_64_rewrites n) number)
 
+abbrev pub relaxation_architecture : Relaxation → Architecture
+relaxation_architecture (relaxations.AArch64 kind) = AArch64
+relaxation_architecture (relaxations.RiscV kind) = RiscV
+relaxation_architecture (relaxations.LoongArch64 kind) = LoongArch64
+relaxation_architecture (relaxations.Ppc64 kind) = Ppc64
+relaxation_architecture (relaxations.X86_64 kind) = X86_64
+
 -- what a rewrite of any architecture does
 abbrev pub relaxation_rewrite : Relaxation → Option Rewrite
 relaxation_rewrite (relaxations.AArch64 kind) = aarch64_rewrite kind

@@ -1,11 +1,12 @@
 //! What the codes and numbers of an ELF file's architecture name: relocations by `r_type`, and
 //! forms and rewrites by their places in their enums.
 
-ghost use Rattle.std.specs.Prelude.{◌≡◌, ◌≤◌, ◌↔◌, IsTrue, IfSome, IfNone, length};
+ghost use Rattle.std.specs.Prelude.{◌≡◌, ◌≤◌, ◌↔◌, IsTrue, Some, IfSome, IfNone, length};
 ghost use Rattle.linker_base.specs.Rewrite.{CanRewrite};
 ghost use Rattle.linker_utils.specs.Architectures.{IsRow, IsElfName, IsRole, form_of_number};
 ghost use Rattle.linker_utils.specs.Architectures.{rewrite_of_number, relaxation_rewrite};
 ghost use Rattle.linker_utils.specs.Architectures.{relaxation_modifier, relaxation_matches};
+ghost use Rattle.linker_utils.specs.Architectures.{relaxation_architecture};
 ghost use Rattle.linker_utils.specs.ElfNames.{named, unnamed};
 
 use crate::aarch64::{self, AArch64Relocation};
@@ -30,6 +31,22 @@ pub enum Relaxation {
 }
 
 impl Relaxation {
+    /// The rewrite's number and its count of bytes before the field, which `Architecture::rewrite`
+    /// takes. The count is 0 but for the rewrites of x86-64 that have one.
+    #[inline]
+    pub fn number(self) -> (u32, u8)
+        ensures { rewrite_of_number (relaxation_architecture self) (result.0) (result.1)
+            ≡ Some self }
+    {
+        match self {
+            Relaxation::AArch64(kind) => (kind.number(), 0),
+            Relaxation::RiscV(kind) => (kind.number(), 0),
+            Relaxation::LoongArch64(kind) => (kind.number(), 0),
+            Relaxation::Ppc64(kind) => (kind.number(), 0),
+            Relaxation::X86_64(kind) => kind.number(),
+        }
+    }
+
     /// Whether the bytes at an offset of a section are an instruction, or a sequence of some, that
     /// the rewrite is meant for, as `matches` of the architecture's `RelaxationKind` says. Where
     /// they are, the rewrite can be applied.

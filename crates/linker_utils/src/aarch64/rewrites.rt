@@ -190,6 +190,14 @@ impl RelaxationKind {
         Some(kind)
     }
 
+    /// The rewrite's number, which `from_number` takes.
+    #[inline(always)]
+    pub fn number(self) -> u32
+        ensures { slice_get aarch64_rewrites result ≡ Some self }
+    {
+        self as u32
+    }
+
     /// Rewrites the instruction at an offset of a section. All other bytes, the offset and the
     /// addend are unchanged.
     #[inline]

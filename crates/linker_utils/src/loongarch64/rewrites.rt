@@ -1,7 +1,7 @@
 //! LoongArch: relaxation rewrites.
 
 ghost use Rattle.linker_utils.specs.LoongArch.{loongarch64_rewrites};
-ghost use Rattle.std.specs.Prelude.{slice_get, ◌≡◌, ◌↔◌, IsTrue};
+ghost use Rattle.std.specs.Prelude.{slice_get, ◌≡◌, ◌↔◌, IsTrue, Some};
 ghost use Rattle.linker_base.specs.Rewrite.{CanRewrite, rewritten, offset_after, addend_after};
 ghost use Rattle.linker_utils.specs.LoongArch.{loongarch_rewrite, loongarch_modifier};
 
@@ -33,6 +33,14 @@ impl RelaxationKind {
             _ => return None,
         };
         Some(kind)
+    }
+
+    /// The rewrite's number, which `from_number` takes.
+    #[inline(always)]
+    pub fn number(self) -> u32
+        ensures { slice_get loongarch64_rewrites result ≡ Some self }
+    {
+        self as u32
     }
 
     /// Rewrites the instruction at an offset of a section. All other bytes, the offset and the

@@ -1,7 +1,7 @@
 //! Relaxation rewrites of PowerPC64.
 
 ghost use Rattle.linker_utils.specs.Ppc64.{ppc64_rewrites};
-ghost use Rattle.std.specs.Prelude.{slice_get, ◌≡◌, ◌<◌, ◌≤◌, ◌^◌, ◌-◌, ◌↔◌, ℕ, IsTrue, length};
+ghost use Rattle.std.specs.Prelude.{slice_get, ◌≡◌, ◌<◌, ◌≤◌, ◌^◌, ◌-◌, ◌↔◌, ℕ, IsTrue, Some, length};
 ghost use Rattle.std.specs.Prelude.{drop, bit_and, bit_or};
 ghost use Rattle.std.specs.Int.{byte_len, cast_unsigned, from_le_bytes, w32, w64};
 ghost use Rattle.linker_base.specs.Form.{window_of, Written, MachineReads, IsReadBack, BitsWritten};
@@ -33,6 +33,14 @@ impl RelaxationKind {
             _ => return None,
         };
         Some(kind)
+    }
+
+    /// The rewrite's number, which `from_number` takes.
+    #[inline(always)]
+    pub fn number(self) -> u32
+        ensures { slice_get ppc64_rewrites result ≡ Some self }
+    {
+        self as u32
     }
 
     /// Rewrites the instruction at an offset of a section. The section, the offset and the addend

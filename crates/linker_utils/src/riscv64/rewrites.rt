@@ -1,7 +1,7 @@
 //! RISC-V: relaxation rewrites.
 
 ghost use Rattle.linker_utils.specs.RiscV.{riscv_rewrites};
-ghost use Rattle.std.specs.Prelude.{slice_get, ◌≡◌, ◌≤◌, ◌↔◌, IsTrue, length, ◌≢◌, ◌+◌, drop};
+ghost use Rattle.std.specs.Prelude.{slice_get, ◌≡◌, ◌≤◌, ◌↔◌, IsTrue, Some, length, ◌≢◌, ◌+◌, drop};
 ghost use Rattle.std.specs.Int.{from_le_bytes, w16, w32};
 ghost use Rattle.linker_base.specs.Rewrite.{CanRewrite, rewritten, offset_after, addend_after};
 ghost use Rattle.linker_base.specs.Bits.{signed};
@@ -113,6 +113,14 @@ impl RelaxationKind {
             _ => return None,
         };
         Some(kind)
+    }
+
+    /// The rewrite's number, which `from_number` takes.
+    #[inline(always)]
+    pub fn number(self) -> u32
+        ensures { slice_get riscv_rewrites result ≡ Some self }
+    {
+        self as u32
     }
 
     /// Rewrites the instruction at an offset of a section. All other bytes, the offset and the

@@ -472,6 +472,40 @@ impl RelaxationKind {
         Some(kind)
     }
 
+    /// The rewrite's number and its count of bytes before the field, which `from_number` takes. The
+    /// count is 0 where the variant has none.
+    #[inline]
+    pub fn number(self) -> (u32, u8)
+        ensures { slice_get (x86_64_rewrites (result.1)) (result.0) ≡ Some self }
+    {
+        match self {
+            RelaxationKind::MovIndirectToLea => (0, 0),
+            RelaxationKind::MovIndirectToAbsolute => (1, 0),
+            RelaxationKind::RexMovIndirectToAbsolute(n) => (2, n),
+            RelaxationKind::RexAddIndirectToAbsolute(n) => (3, n),
+            RelaxationKind::RexSubIndirectToAbsolute(n) => (4, n),
+            RelaxationKind::RexCmpIndirectToAbsolute(n) => (5, n),
+            RelaxationKind::CallIndirectToRelative => (6, 0),
+            RelaxationKind::JmpIndirectToRelative => (7, 0),
+            RelaxationKind::NoOp => (8, 0),
+            RelaxationKind::TlsGdToLocalExec => (9, 0),
+            RelaxationKind::TlsGdToLocalExecLarge => (10, 0),
+            RelaxationKind::TlsLdToLocalExec => (11, 0),
+            RelaxationKind::TlsLdToLocalExecNoPlt => (12, 0),
+            RelaxationKind::TlsLdToLocalExec64 => (13, 0),
+            RelaxationKind::TlsGdToInitialExec => (14, 0),
+            RelaxationKind::TlsDescToLocalExec(n) => (15, n),
+            RelaxationKind::TlsDescToInitialExec => (16, 0),
+            RelaxationKind::SkipTlsDescCall => (17, 0),
+            RelaxationKind::RexAdcIndirectToAbsolute(n) => (18, n),
+            RelaxationKind::RexAndIndirectToAbsolute(n) => (19, n),
+            RelaxationKind::RexOrIndirectToAbsolute(n) => (20, n),
+            RelaxationKind::RexSbbIndirectToAbsolute(n) => (21, n),
+            RelaxationKind::RexXorIndirectToAbsolute(n) => (22, n),
+            RelaxationKind::RexTestIndirectToAbsolute(n) => (23, n),
+        }
+    }
+
     #[inline(always)]
     fn rewrite(self, section: &mut [u8], offset_in_section: &mut u64, addend: &mut i64)
         requires { CanRewrite (x86_64_rewrite self) section.old offset_in_section.old }
