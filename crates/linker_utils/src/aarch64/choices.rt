@@ -27,6 +27,7 @@ const BLR: u32 = 0xd63f_0000;
 
 /// The bits above the distance of `b` and of `bl`.
 const B: u32 = 0x05;
+
 const BL: u32 = 0x25;
 
 const ERASED: AArch64Choice = Choice {
@@ -115,9 +116,7 @@ fn is_for_local_exec(facts: &LinkFacts) -> bool
     ensures { IsTrue result ↔ AllHold aarch64_row facts.now.operands facts.now to_local_exec }
 {
     let movz = row(AArch64Relocation::R_AARCH64_TLSLE_MOVW_TPREL_G1);
-    facts.is_executable
-        && facts.is_bound()
-        && facts.is_in_reach_if_known(movz, &facts.operands, 0)
+    facts.is_executable && facts.is_bound() && facts.is_in_reach_if_known(movz, &facts.operands, 0)
 }
 
 /// Whether the offset from the thread pointer may be in the GOT: the `adrp` is so many bytes before
@@ -145,7 +144,7 @@ fn choice_of_descriptor(
 ) -> AArch64Choice
     ensures { IsFirst
         (λ e. IsOfDescriptor back section.now offset
-            × AllHold aarch64_row facts.now.operands facts.now e.conditions)
+        × AllHold aarch64_row facts.now.operands facts.now e.conditions)
         (descriptor_entries back local initial) otherwise result }
 {
     if offset < back || !is_tls_descriptor_sequence(section, offset - back) {
@@ -180,11 +179,7 @@ fn chosen(kind: RelaxationKind, relocation: AArch64Relocation) -> AArch64Choice
 fn choice_if(applies: bool, chosen: AArch64Choice, otherwise: AArch64Choice) -> AArch64Choice
     ensures { result ≡ if applies then chosen else otherwise }
 {
-    if applies {
-        chosen
-    } else {
-        otherwise
-    }
+    if applies { chosen } else { otherwise }
 }
 
 /// The rewrite that a linker chooses for a relocation at an offset of a section, and the relocation
@@ -246,27 +241,42 @@ pub fn choose(
     match name {
         AArch64Relocation::R_AARCH64_ADR_GOT_PAGE => choice_if(
             is_entry_load(section, offset) && is_for_address(facts, 0),
-            chosen(RelaxationKind::NoOp, AArch64Relocation::R_AARCH64_ADR_PREL_PG_HI21),
+            chosen(
+                RelaxationKind::NoOp,
+                AArch64Relocation::R_AARCH64_ADR_PREL_PG_HI21,
+            ),
             unchanged,
         ),
         AArch64Relocation::R_AARCH64_LD64_GOT_LO12_NC => choice_if(
             ends_entry_load(section, offset) && is_for_address(facts, 4),
-            chosen(RelaxationKind::LdrToAdd, AArch64Relocation::R_AARCH64_ADD_ABS_LO12_NC),
+            chosen(
+                RelaxationKind::LdrToAdd,
+                AArch64Relocation::R_AARCH64_ADD_ABS_LO12_NC,
+            ),
             unchanged,
         ),
         AArch64Relocation::R_AARCH64_ADD_ABS_LO12_NC => choice_if(
             RelaxationKind::AdrpAddToNopAdr.matches(section, offset) && is_for_adr(facts),
-            chosen(RelaxationKind::AdrpAddToNopAdr, AArch64Relocation::R_AARCH64_ADR_PREL_LO21),
+            chosen(
+                RelaxationKind::AdrpAddToNopAdr,
+                AArch64Relocation::R_AARCH64_ADR_PREL_LO21,
+            ),
             unchanged,
         ),
         AArch64Relocation::R_AARCH64_TLSIE_ADR_GOTTPREL_PAGE21 => choice_if(
             is_entry_load(section, offset) && is_for_local_exec(facts),
-            chosen(RelaxationKind::MovzXnLsl16, AArch64Relocation::R_AARCH64_TLSLE_MOVW_TPREL_G1),
+            chosen(
+                RelaxationKind::MovzXnLsl16,
+                AArch64Relocation::R_AARCH64_TLSLE_MOVW_TPREL_G1,
+            ),
             unchanged,
         ),
         AArch64Relocation::R_AARCH64_TLSIE_LD64_GOTTPREL_LO12_NC => choice_if(
             ends_entry_load(section, offset) && is_for_local_exec(facts),
-            chosen(RelaxationKind::MovkXn, AArch64Relocation::R_AARCH64_TLSLE_MOVW_TPREL_G0_NC),
+            chosen(
+                RelaxationKind::MovkXn,
+                AArch64Relocation::R_AARCH64_TLSLE_MOVW_TPREL_G0_NC,
+            ),
             unchanged,
         ),
         AArch64Relocation::R_AARCH64_TLSDESC_ADR_PAGE21 => choice_of_descriptor(
@@ -274,8 +284,14 @@ pub fn choose(
             offset,
             0,
             facts,
-            chosen(RelaxationKind::MovzX0Lsl16, AArch64Relocation::R_AARCH64_TLSLE_MOVW_TPREL_G1),
-            chosen(RelaxationKind::AdrpX0, AArch64Relocation::R_AARCH64_TLSIE_ADR_GOTTPREL_PAGE21),
+            chosen(
+                RelaxationKind::MovzX0Lsl16,
+                AArch64Relocation::R_AARCH64_TLSLE_MOVW_TPREL_G1,
+            ),
+            chosen(
+                RelaxationKind::AdrpX0,
+                AArch64Relocation::R_AARCH64_TLSIE_ADR_GOTTPREL_PAGE21,
+            ),
             unchanged,
         ),
         AArch64Relocation::R_AARCH64_TLSDESC_LD64_LO12 => choice_of_descriptor(
@@ -283,8 +299,14 @@ pub fn choose(
             offset,
             4,
             facts,
-            chosen(RelaxationKind::MovkX0, AArch64Relocation::R_AARCH64_TLSLE_MOVW_TPREL_G0_NC),
-            chosen(RelaxationKind::LdrX0, AArch64Relocation::R_AARCH64_TLSIE_LD64_GOTTPREL_LO12_NC),
+            chosen(
+                RelaxationKind::MovkX0,
+                AArch64Relocation::R_AARCH64_TLSLE_MOVW_TPREL_G0_NC,
+            ),
+            chosen(
+                RelaxationKind::LdrX0,
+                AArch64Relocation::R_AARCH64_TLSIE_LD64_GOTTPREL_LO12_NC,
+            ),
             unchanged,
         ),
         AArch64Relocation::R_AARCH64_TLSDESC_ADD_LO12 => {

@@ -9,8 +9,10 @@ returns-then-has_window c =
     let adrp = c.word_at.ensures ∙ whole_word (drop o s) in
     let ldr = c.word_at-then-has_window.ensures ∙ whole_word (drop (o + 4) s) in
     let add = c.word_at-then-has_window-2.ensures ∙ whole_word (drop (o + 8) s) in
-    let blr = c.word_at-then-has_window-3.ensures ∙ whole_word (drop (o + 12) s) in
-    (λ h. record {
+    let blr = c.word_at-then-has_window-3.ensures ∙ whole_word (drop (o + 12) s) in (
+      λ h. record {
         within = omega arith;
         instructions = same_descriptor adrp ldr add blr (c.are_of_descriptor.ensures.0 h);
-    }, λ h. c.are_of_descriptor.ensures.1 (same_descriptor (sym adrp) (sym ldr) (sym add) (sym blr) h.instructions))
+      },
+      λ h. c.are_of_descriptor.ensures.1 (same_descriptor (sym adrp) (sym ldr) (sym add) (sym blr) h.instructions),
+    )
