@@ -1,14 +1,16 @@
 //! RISC-V: which rewrite a linker chooses for a relocation.
 
 ghost use Rattle.std.specs.Prelude.{◌≡◌, ◌↔◌, IsTrue};
+ghost use Rattle.std.specs.Int.{cast_unsigned, w64};
 ghost use Rattle.linker_base.specs.Rewrite.{CanRewrite};
 ghost use Rattle.linker_utils.specs.Choices.{AllHold};
-ghost use Rattle.linker_utils.specs.RiscV.{riscv_rewrite};
+ghost use Rattle.linker_utils.specs.RiscV.{riscv_rewrite, FitsClui};
 ghost use Rattle.linker_utils.specs.RiscVChoices.{riscv_row_of, by_jump, by_low_part};
 ghost use Rattle.linker_utils.specs.RiscVChoices.{AppliesToRiscV, IsRiscVChoice, short_tail_call};
 ghost use Rattle.linker_utils.specs.RiscVChoices.{near_call, no_high_part, short_high_part};
 ghost use Rattle.linker_utils.specs.RiscVChoices.{low_part};
 ghost use Rattle.linker_utils.specs.RiscVOriginals.{riscv_matches};
+ghost use Rattle.linker_utils.specs.Value.{sum_64};
 
 use super::{RelaxationKind, RiscVRelocation, row};
 use crate::elf::{Choice, LinkFacts};
@@ -144,6 +146,10 @@ pub fn choose(
     ensures chosen { IsRiscVChoice name section.now offset facts.now result }
     ensures matches { riscv_matches result.kind section.now offset }
     ensures rewritable { CanRewrite (riscv_rewrite result.kind) section.now offset }
+    // never an immediate of 0, which the ISA reserves
+    ensures compressed { result.kind ≡ RelaxationKind.Hi20ToCLui
+        → FitsClui (sum_64 facts.now.operands.symbol
+            (cast_unsigned w64 facts.now.operands.addend)) }
 {
     let (kind, relocation) = match name {
         RiscVRelocation::R_RISCV_CALL | RiscVRelocation::R_RISCV_CALL_PLT => {
