@@ -20,6 +20,7 @@ pub mod Reach
 pub mod Readings
 pub mod Relocate
 pub mod RiscV
+pub mod RiscVChoices
 pub mod RiscVOriginals
 pub mod RiscVRelocations
 pub mod Rows

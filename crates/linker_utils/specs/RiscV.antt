@@ -23,6 +23,7 @@ use Rattle.linker_utils.specs.declared.riscv64.forms.RiscVInstruction.TheVariant
 use Rattle.linker_utils.specs.declared.riscv64.forms.RiscVInstruction.TheVariants.{CluiType, UiType}
 use Rattle.linker_utils.specs.declared.riscv64.calls.LinkRegister.{LinkRegister}
 use Rattle.linker_utils.specs.declared.riscv64.calls.LinkRegister.TheVariants.{OfAuipc, OfJalr}
+use Rattle.linker_utils.specs.declared.riscv64.rewrites.DeletedBytes.{DeletedBytes}
 use Rattle.linker_utils.specs.declared.riscv64.rewrites.RelaxationKind.{RelaxationKind}
 use Rattle.linker_utils.specs.declared.riscv64.rewrites.RelaxationKind.TheVariants.{NoOp}
 use Rattle.linker_utils.specs.declared.riscv64.rewrites.RelaxationKind.TheVariants.{ReplaceWithNop}
@@ -164,6 +165,21 @@ riscv_modifier Hi20Delete = SkipNextRelocation
 riscv_modifier Lo12Rs1ToZero = Normal
 riscv_modifier TailToJal = SkipNextRelocation
 riscv_modifier TailToCJ = SkipNextRelocation
+
+abbrev pub deleted_from : ℕ → ℕ → Option DeletedBytes
+deleted_from start count = Some record { start = start; count = count }
+
+-- what is deleted after a rewrite: the `jalr` of a call, all of a tail call but the `c.j`, the
+-- second half of a `lui`, and a whole `lui`
+abbrev pub riscv_deleted : RelaxationKind → Option DeletedBytes
+riscv_deleted NoOp = None
+riscv_deleted ReplaceWithNop = None
+riscv_deleted CallToJal = deleted_from 4 4
+riscv_deleted Hi20ToCLui = deleted_from 2 2
+riscv_deleted Hi20Delete = deleted_from 0 4
+riscv_deleted Lo12Rs1ToZero = None
+riscv_deleted TailToJal = deleted_from 4 4
+riscv_deleted TailToCJ = deleted_from 2 6
 
 -- the rewrites by their numbers from 0 up
 abbrev pub riscv_rewrites : List RelaxationKind

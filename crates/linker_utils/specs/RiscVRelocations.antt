@@ -32,6 +32,10 @@ use Rattle.linker_utils.specs.declared.riscv64.relocations.RiscVRelocation.TheVa
 abbrev pub pair_row : RelocationKind → ℕ → RiscVInstruction → RelocationKindInfo
 pair_row kind end form = signed_or_unsigned_row 32 (bits_row kind 0 end (RiscV form))
 
+-- the high part of a value that `c.lui` holds
+abbrev pub clui_row : RelocationKindInfo
+clui_row = pair_row Absolute 32 CluiType
+
 -- an even distance within bounds
 abbrev pub jump_row : ℕ → RiscVInstruction → ℤ × ℤ → RelocationKindInfo
 jump_row end form bounds = aligned_row 2 (within_row bounds (bits_row Relative 0 end (RiscV form)))
@@ -96,6 +100,7 @@ riscv_relocation r.R_RISCV_RVC_BRANCH =
     with_row 44 (codes "R_RISCV_RVC_BRANCH") (jump_row 16 CbType (negsuc 255, pos 255))
 riscv_relocation r.R_RISCV_RVC_JUMP =
     with_row 45 (codes "R_RISCV_RVC_JUMP") (jump_row 16 CjType (negsuc 2047, pos 2047))
+riscv_relocation r.R_RISCV_RVC_LUI = with_row 46 (codes "R_RISCV_RVC_LUI") clui_row
 riscv_relocation r.R_RISCV_RELAX = with_row 51 (codes "R_RISCV_RELAX") (bytes_row NoValue 0)
 riscv_relocation r.R_RISCV_SUB6 =
     with_row 52 (codes "R_RISCV_SUB6") (bytes_row AbsoluteSubtractionWord6 1)
@@ -129,12 +134,14 @@ is_of_descriptor TlsDesc = true
 is_of_descriptor TlsDescCall = true
 is_of_descriptor kind = false
 
--- what a relocation means, of those that the original library knows: not TLS descriptors
+-- what a relocation means, of those that the original library knows: neither TLS descriptors nor
+-- `c.lui`
 abbrev pub riscv_row : RiscVRelocation → Option RelocationKindInfo
 riscv_row r.R_RISCV_TLSDESC_HI20 = None
 riscv_row r.R_RISCV_TLSDESC_LOAD_LO12 = None
 riscv_row r.R_RISCV_TLSDESC_ADD_LO12 = None
 riscv_row r.R_RISCV_TLSDESC_CALL = None
+riscv_row r.R_RISCV_RVC_LUI = None
 riscv_row name = (riscv_relocation name).row
 
 -- V = S + A of the first of a pair, and V - S - A of the second
@@ -142,7 +149,3 @@ abbrev pub riscv_uleb128_role : RiscVRelocation → Option Uleb128Role
 riscv_uleb128_role r.R_RISCV_SET_ULEB128 = Some Sets
 riscv_uleb128_role r.R_RISCV_SUB_ULEB128 = Some Subtracts
 riscv_uleb128_role name = None
-
--- the high part of a value that `c.lui` holds
-abbrev pub clui_row : RelocationKindInfo
-clui_row = pair_row Absolute 32 CluiType

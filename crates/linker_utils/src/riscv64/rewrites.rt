@@ -6,7 +6,7 @@ ghost use Rattle.std.specs.Int.{from_le_bytes, w16, w32};
 ghost use Rattle.linker_base.specs.Rewrite.{CanRewrite, rewritten, offset_after, addend_after};
 ghost use Rattle.linker_base.specs.Bits.{signed};
 ghost use Rattle.linker_utils.specs.RiscV.{riscv_rewrite, riscv_modifier, hi20, lo12, IsSigned32};
-ghost use Rattle.linker_utils.specs.RiscV.{FitsClui, HoldsHigh};
+ghost use Rattle.linker_utils.specs.RiscV.{FitsClui, HoldsHigh, riscv_deleted};
 ghost use Rattle.linker_utils.specs.RiscVOriginals.{opcode_of, funct3_of, adds_low12, IsTailCall};
 ghost use Rattle.linker_utils.specs.RiscVOriginals.{riscv_matches};
 ghost use Rattle.linker_utils.specs.Agrees.{RowFits};
@@ -47,6 +47,15 @@ pub enum RelaxationKind {
     /// Turns the first two bytes of a tail call into a `c.j` of distance 0. Requires the C extension.
     /// The caller deletes the six bytes after it.
     TailToCJ,
+}
+
+/// The bytes that a linker deletes after a rewrite.
+#[derive(Debug, Clone, Copy, PartialEq, Eq)]
+pub struct DeletedBytes {
+    /// Where they begin, in bytes from the rewrite's offset.
+    pub start: u64,
+    /// How many they are.
+    pub count: u32,
 }
 
 /// The instruction at an offset of the section.
@@ -225,6 +234,31 @@ impl RelaxationKind {
             | RelaxationKind::Hi20ToCLui
             | RelaxationKind::Lo12Rs1ToZero => RelocationModifier::Normal,
         }
+    }
+
+    /// The bytes to be deleted after the rewrite. `None` where there are none: after `NoOp`,
+    /// `ReplaceWithNop` and `Lo12Rs1ToZero`.
+    ///
+    /// ```
+    /// use linker_utils::riscv64::RelaxationKind;
+    ///
+    /// // the deletion of the jalr of a call at offset 8
+    /// let deleted = RelaxationKind::CallToJal.deleted().unwrap();
+    /// assert_eq!((8 + deleted.start, deleted.count), (12, 4));
+    /// ```
+    #[inline]
+    pub fn deleted(self) -> Option<DeletedBytes>
+        ensures { result ≡ riscv_deleted self }
+    {
+        let (start, count) = match self {
+            RelaxationKind::CallToJal | RelaxationKind::TailToJal => (4, 4),
+            RelaxationKind::TailToCJ => (2, 6),
+            RelaxationKind::Hi20ToCLui => (2, 2),
+            RelaxationKind::Hi20Delete => (0, 4),
+            RelaxationKind::NoOp | RelaxationKind::ReplaceWithNop | RelaxationKind::Lo12Rs1ToZero =>
+                return None,
+        };
+        Some(DeletedBytes { start, count })
     }
 
     /// Whether the high part of a value is 0: bits 12 to 31 of the value plus 0x800, modulo 2^64.
