@@ -32,4 +32,5 @@ pub mod Taken
 pub mod WrittenNumbers
 pub mod WrittenRows
 pub mod X86Bytes
+pub mod X86Choices
 pub mod X86Originals

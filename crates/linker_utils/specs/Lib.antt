@@ -27,6 +27,7 @@ pub mod Rows
 pub mod Shrinking
 pub mod Value
 pub mod X86
+pub mod X86Choices
 pub mod X86Originals
 pub mod X86Relocations
 pub mod X86RelocationsAfter

@@ -1,6 +1,8 @@
 //! x86-64: rewrites as LLVM 19.1.7's and GNU binutils 2.40's linkers make them, or as its
 //! assemblers write both instructions, and worked values.
 
+mod choices;
+
 use crate::rows::expect_eq;
 use crate::windows::requires_window;
 use linker_utils::elf::{AllowedRange, RelocationKind, RelocationKindInfo, RelocationSize};
@@ -8,6 +10,8 @@ use linker_utils::relaxation::RelocationModifier;
 use linker_utils::x86_64::{RelaxationKind, X86_64Relocation, relocation_from_raw};
 
 struct Rewrite {
+    /// The relocation that the assembler writes.
+    name: X86_64Relocation,
     kind: RelaxationKind,
     offset: u64,
     before: [u8; 10],
@@ -18,6 +22,7 @@ struct Rewrite {
 
 static REWRITES: [Rewrite; 71] = [
     Rewrite {
+        name: X86_64Relocation::R_X86_64_REX_GOTPCRELX,
         kind: RelaxationKind::MovIndirectToLea,
         offset: 3,
         before: [0x48, 0x8b, 0x1d, 0x00, 0x00, 0x00, 0x00, 0x00, 0x00, 0x00],
@@ -25,6 +30,7 @@ static REWRITES: [Rewrite; 71] = [
         after: [0x48, 0x8d, 0x1d, 0xff, 0x5f, 0x01, 0x00, 0x00, 0x00, 0x00],
     },
     Rewrite {
+        name: X86_64Relocation::R_X86_64_REX_GOTPCRELX,
         kind: RelaxationKind::MovIndirectToLea,
         offset: 3,
         before: [0x4c, 0x8b, 0x1d, 0x00, 0x00, 0x00, 0x00, 0x00, 0x00, 0x00],
@@ -32,6 +38,7 @@ static REWRITES: [Rewrite; 71] = [
         after: [0x4c, 0x8d, 0x1d, 0xff, 0xdf, 0x00, 0x00, 0x00, 0x00, 0x00],
     },
     Rewrite {
+        name: X86_64Relocation::R_X86_64_GOTPCRELX,
         kind: RelaxationKind::MovIndirectToLea,
         offset: 2,
         before: [0x8b, 0x1d, 0x00, 0x00, 0x00, 0x00, 0x00, 0x00, 0x00, 0x00],
@@ -39,6 +46,7 @@ static REWRITES: [Rewrite; 71] = [
         after: [0x8d, 0x1d, 0x00, 0x60, 0x00, 0x00, 0x00, 0x00, 0x00, 0x00],
     },
     Rewrite {
+        name: X86_64Relocation::R_X86_64_REX_GOTPCRELX,
         kind: RelaxationKind::MovIndirectToLea,
         offset: 3,
         before: [0x48, 0x8b, 0x0d, 0x00, 0x00, 0x00, 0x00, 0x00, 0x00, 0x00],
@@ -46,6 +54,7 @@ static REWRITES: [Rewrite; 71] = [
         after: [0x48, 0x8d, 0x0d, 0x4d, 0x80, 0x01, 0x00, 0x00, 0x00, 0x00],
     },
     Rewrite {
+        name: X86_64Relocation::R_X86_64_REX_GOTPCRELX,
         kind: RelaxationKind::MovIndirectToLea,
         offset: 3,
         before: [0x4c, 0x8b, 0x0d, 0x00, 0x00, 0x00, 0x00, 0x00, 0x00, 0x00],
@@ -53,6 +62,7 @@ static REWRITES: [Rewrite; 71] = [
         after: [0x4c, 0x8d, 0x0d, 0x4d, 0x00, 0x01, 0x00, 0x00, 0x00, 0x00],
     },
     Rewrite {
+        name: X86_64Relocation::R_X86_64_GOTPCRELX,
         kind: RelaxationKind::MovIndirectToLea,
         offset: 2,
         before: [0x8b, 0x0d, 0x00, 0x00, 0x00, 0x00, 0x00, 0x00, 0x00, 0x00],
@@ -60,6 +70,7 @@ static REWRITES: [Rewrite; 71] = [
         after: [0x8d, 0x0d, 0x4e, 0x80, 0x00, 0x00, 0x00, 0x00, 0x00, 0x00],
     },
     Rewrite {
+        name: X86_64Relocation::R_X86_64_GOTPCRELX,
         kind: RelaxationKind::JmpIndirectToRelative,
         offset: 2,
         before: [0xff, 0x25, 0x00, 0x00, 0x00, 0x00, 0x00, 0x00, 0x00, 0x00],
@@ -67,6 +78,7 @@ static REWRITES: [Rewrite; 71] = [
         after: [0xe9, 0x4f, 0x00, 0x00, 0x00, 0x90, 0x00, 0x00, 0x00, 0x00],
     },
     Rewrite {
+        name: X86_64Relocation::R_X86_64_REX_GOTPCRELX,
         kind: RelaxationKind::RexMovIndirectToAbsolute(3),
         offset: 3,
         before: [0x48, 0x8b, 0x3d, 0x00, 0x00, 0x00, 0x00, 0x00, 0x00, 0x00],
@@ -74,6 +86,7 @@ static REWRITES: [Rewrite; 71] = [
         after: [0x48, 0xc7, 0xc7, 0x06, 0x90, 0x21, 0x00, 0x00, 0x00, 0x00],
     },
     Rewrite {
+        name: X86_64Relocation::R_X86_64_REX_GOTPCRELX,
         kind: RelaxationKind::RexMovIndirectToAbsolute(3),
         offset: 3,
         before: [0x4c, 0x8b, 0x3d, 0x00, 0x00, 0x00, 0x00, 0x00, 0x00, 0x00],
@@ -81,6 +94,7 @@ static REWRITES: [Rewrite; 71] = [
         after: [0x49, 0xc7, 0xc7, 0x06, 0x90, 0x21, 0x00, 0x00, 0x00, 0x00],
     },
     Rewrite {
+        name: X86_64Relocation::R_X86_64_GOTPCRELX,
         kind: RelaxationKind::MovIndirectToAbsolute,
         offset: 2,
         before: [0x8b, 0x3d, 0x00, 0x00, 0x00, 0x00, 0x00, 0x00, 0x00, 0x00],
@@ -88,6 +102,7 @@ static REWRITES: [Rewrite; 71] = [
         after: [0xc7, 0xc7, 0x06, 0x90, 0x21, 0x00, 0x00, 0x00, 0x00, 0x00],
     },
     Rewrite {
+        name: X86_64Relocation::R_X86_64_REX_GOTPCRELX,
         kind: RelaxationKind::RexAddIndirectToAbsolute(3),
         offset: 3,
         before: [0x48, 0x03, 0x2d, 0x00, 0x00, 0x00, 0x00, 0x00, 0x00, 0x00],
@@ -95,6 +110,7 @@ static REWRITES: [Rewrite; 71] = [
         after: [0x48, 0x81, 0xc5, 0x07, 0xf0, 0x22, 0x00, 0x00, 0x00, 0x00],
     },
     Rewrite {
+        name: X86_64Relocation::R_X86_64_REX_GOTPCRELX,
         kind: RelaxationKind::RexAddIndirectToAbsolute(3),
         offset: 3,
         before: [0x4c, 0x03, 0x2d, 0x00, 0x00, 0x00, 0x00, 0x00, 0x00, 0x00],
@@ -102,6 +118,7 @@ static REWRITES: [Rewrite; 71] = [
         after: [0x49, 0x81, 0xc5, 0x07, 0xf0, 0x22, 0x00, 0x00, 0x00, 0x00],
     },
     Rewrite {
+        name: X86_64Relocation::R_X86_64_REX_GOTPCRELX,
         kind: RelaxationKind::RexSubIndirectToAbsolute(3),
         offset: 3,
         before: [0x48, 0x2b, 0x2d, 0x00, 0x00, 0x00, 0x00, 0x00, 0x00, 0x00],
@@ -109,6 +126,7 @@ static REWRITES: [Rewrite; 71] = [
         after: [0x48, 0x81, 0xed, 0x07, 0xf0, 0x22, 0x00, 0x00, 0x00, 0x00],
     },
     Rewrite {
+        name: X86_64Relocation::R_X86_64_REX_GOTPCRELX,
         kind: RelaxationKind::RexSubIndirectToAbsolute(3),
         offset: 3,
         before: [0x4c, 0x2b, 0x2d, 0x00, 0x00, 0x00, 0x00, 0x00, 0x00, 0x00],
@@ -116,6 +134,7 @@ static REWRITES: [Rewrite; 71] = [
         after: [0x49, 0x81, 0xed, 0x07, 0xf0, 0x22, 0x00, 0x00, 0x00, 0x00],
     },
     Rewrite {
+        name: X86_64Relocation::R_X86_64_REX_GOTPCRELX,
         kind: RelaxationKind::RexCmpIndirectToAbsolute(3),
         offset: 3,
         before: [0x48, 0x3b, 0x2d, 0x00, 0x00, 0x00, 0x00, 0x00, 0x00, 0x00],
@@ -123,6 +142,7 @@ static REWRITES: [Rewrite; 71] = [
         after: [0x48, 0x81, 0xfd, 0x07, 0xf0, 0x22, 0x00, 0x00, 0x00, 0x00],
     },
     Rewrite {
+        name: X86_64Relocation::R_X86_64_REX_GOTPCRELX,
         kind: RelaxationKind::RexCmpIndirectToAbsolute(3),
         offset: 3,
         before: [0x4c, 0x3b, 0x2d, 0x00, 0x00, 0x00, 0x00, 0x00, 0x00, 0x00],
@@ -130,6 +150,7 @@ static REWRITES: [Rewrite; 71] = [
         after: [0x49, 0x81, 0xfd, 0x07, 0xf0, 0x22, 0x00, 0x00, 0x00, 0x00],
     },
     Rewrite {
+        name: X86_64Relocation::R_X86_64_REX_GOTPCRELX,
         kind: RelaxationKind::RexAddIndirectToAbsolute(3),
         offset: 3,
         before: [0x48, 0x03, 0x2d, 0x00, 0x00, 0x00, 0x00, 0x00, 0x00, 0x00],
@@ -137,6 +158,7 @@ static REWRITES: [Rewrite; 71] = [
         after: [0x48, 0x81, 0xc5, 0x50, 0x34, 0x12, 0x00, 0x00, 0x00, 0x00],
     },
     Rewrite {
+        name: X86_64Relocation::R_X86_64_REX_GOTPCRELX,
         kind: RelaxationKind::RexAddIndirectToAbsolute(3),
         offset: 3,
         before: [0x4c, 0x03, 0x2d, 0x00, 0x00, 0x00, 0x00, 0x00, 0x00, 0x00],
@@ -144,6 +166,7 @@ static REWRITES: [Rewrite; 71] = [
         after: [0x49, 0x81, 0xc5, 0x50, 0x34, 0x12, 0x00, 0x00, 0x00, 0x00],
     },
     Rewrite {
+        name: X86_64Relocation::R_X86_64_REX_GOTPCRELX,
         kind: RelaxationKind::RexSubIndirectToAbsolute(3),
         offset: 3,
         before: [0x48, 0x2b, 0x2d, 0x00, 0x00, 0x00, 0x00, 0x00, 0x00, 0x00],
@@ -151,6 +174,7 @@ static REWRITES: [Rewrite; 71] = [
         after: [0x48, 0x81, 0xed, 0x50, 0x34, 0x12, 0x00, 0x00, 0x00, 0x00],
     },
     Rewrite {
+        name: X86_64Relocation::R_X86_64_REX_GOTPCRELX,
         kind: RelaxationKind::RexSubIndirectToAbsolute(3),
         offset: 3,
         before: [0x4c, 0x2b, 0x2d, 0x00, 0x00, 0x00, 0x00, 0x00, 0x00, 0x00],
@@ -158,6 +182,7 @@ static REWRITES: [Rewrite; 71] = [
         after: [0x49, 0x81, 0xed, 0x50, 0x34, 0x12, 0x00, 0x00, 0x00, 0x00],
     },
     Rewrite {
+        name: X86_64Relocation::R_X86_64_REX_GOTPCRELX,
         kind: RelaxationKind::RexCmpIndirectToAbsolute(3),
         offset: 3,
         before: [0x48, 0x3b, 0x2d, 0x00, 0x00, 0x00, 0x00, 0x00, 0x00, 0x00],
@@ -165,6 +190,7 @@ static REWRITES: [Rewrite; 71] = [
         after: [0x48, 0x81, 0xfd, 0x50, 0x34, 0x12, 0x00, 0x00, 0x00, 0x00],
     },
     Rewrite {
+        name: X86_64Relocation::R_X86_64_REX_GOTPCRELX,
         kind: RelaxationKind::RexCmpIndirectToAbsolute(3),
         offset: 3,
         before: [0x4c, 0x3b, 0x2d, 0x00, 0x00, 0x00, 0x00, 0x00, 0x00, 0x00],
@@ -172,6 +198,7 @@ static REWRITES: [Rewrite; 71] = [
         after: [0x49, 0x81, 0xfd, 0x50, 0x34, 0x12, 0x00, 0x00, 0x00, 0x00],
     },
     Rewrite {
+        name: X86_64Relocation::R_X86_64_REX_GOTPCRELX,
         kind: RelaxationKind::RexMovIndirectToAbsolute(3),
         offset: 3,
         before: [0x48, 0x8b, 0x2d, 0x00, 0x00, 0x00, 0x00, 0x00, 0x00, 0x00],
@@ -179,6 +206,7 @@ static REWRITES: [Rewrite; 71] = [
         after: [0x48, 0xc7, 0xc5, 0x50, 0x34, 0x12, 0x00, 0x00, 0x00, 0x00],
     },
     Rewrite {
+        name: X86_64Relocation::R_X86_64_REX_GOTPCRELX,
         kind: RelaxationKind::RexMovIndirectToAbsolute(3),
         offset: 3,
         before: [0x4c, 0x8b, 0x2d, 0x00, 0x00, 0x00, 0x00, 0x00, 0x00, 0x00],
@@ -186,6 +214,7 @@ static REWRITES: [Rewrite; 71] = [
         after: [0x49, 0xc7, 0xc5, 0x50, 0x34, 0x12, 0x00, 0x00, 0x00, 0x00],
     },
     Rewrite {
+        name: X86_64Relocation::R_X86_64_GOTPCRELX,
         kind: RelaxationKind::MovIndirectToAbsolute,
         offset: 2,
         before: [0x8b, 0x2d, 0x00, 0x00, 0x00, 0x00, 0x00, 0x00, 0x00, 0x00],
@@ -193,6 +222,7 @@ static REWRITES: [Rewrite; 71] = [
         after: [0xc7, 0xc5, 0x50, 0x34, 0x12, 0x00, 0x00, 0x00, 0x00, 0x00],
     },
     Rewrite {
+        name: X86_64Relocation::R_X86_64_GOTPC32_TLSDESC,
         kind: RelaxationKind::TlsDescToLocalExec(3),
         offset: 3,
         before: [0x48, 0x8d, 0x0d, 0x00, 0x00, 0x00, 0x00, 0x00, 0x00, 0x00],
@@ -200,6 +230,7 @@ static REWRITES: [Rewrite; 71] = [
         after: [0x48, 0xc7, 0xc1, 0x40, 0xf3, 0xff, 0xff, 0x00, 0x00, 0x00],
     },
     Rewrite {
+        name: X86_64Relocation::R_X86_64_GOTPC32_TLSDESC,
         kind: RelaxationKind::TlsDescToLocalExec(3),
         offset: 3,
         before: [0x4c, 0x8d, 0x0d, 0x00, 0x00, 0x00, 0x00, 0x00, 0x00, 0x00],
@@ -207,6 +238,7 @@ static REWRITES: [Rewrite; 71] = [
         after: [0x49, 0xc7, 0xc1, 0x40, 0xf3, 0xff, 0xff, 0x00, 0x00, 0x00],
     },
     Rewrite {
+        name: X86_64Relocation::R_X86_64_GOTTPOFF,
         kind: RelaxationKind::RexMovIndirectToAbsolute(3),
         offset: 3,
         before: [0x48, 0x8b, 0x05, 0x00, 0x00, 0x00, 0x00, 0x00, 0x00, 0x00],
@@ -214,6 +246,7 @@ static REWRITES: [Rewrite; 71] = [
         after: [0x48, 0xc7, 0xc0, 0x40, 0xf3, 0xff, 0xff, 0x00, 0x00, 0x00],
     },
     Rewrite {
+        name: X86_64Relocation::R_X86_64_GOTTPOFF,
         kind: RelaxationKind::RexMovIndirectToAbsolute(3),
         offset: 3,
         before: [0x4c, 0x8b, 0x05, 0x00, 0x00, 0x00, 0x00, 0x00, 0x00, 0x00],
@@ -221,6 +254,7 @@ static REWRITES: [Rewrite; 71] = [
         after: [0x49, 0xc7, 0xc0, 0x40, 0xf3, 0xff, 0xff, 0x00, 0x00, 0x00],
     },
     Rewrite {
+        name: X86_64Relocation::R_X86_64_GOTTPOFF,
         kind: RelaxationKind::RexAddIndirectToAbsolute(3),
         offset: 3,
         before: [0x48, 0x03, 0x25, 0x00, 0x00, 0x00, 0x00, 0x00, 0x00, 0x00],
@@ -228,6 +262,7 @@ static REWRITES: [Rewrite; 71] = [
         after: [0x48, 0x81, 0xc4, 0x40, 0xf3, 0xff, 0xff, 0x00, 0x00, 0x00],
     },
     Rewrite {
+        name: X86_64Relocation::R_X86_64_GOTTPOFF,
         kind: RelaxationKind::RexMovIndirectToAbsolute(3),
         offset: 3,
         before: [0x48, 0x8b, 0x15, 0x00, 0x00, 0x00, 0x00, 0x00, 0x00, 0x00],
@@ -235,6 +270,7 @@ static REWRITES: [Rewrite; 71] = [
         after: [0x48, 0xc7, 0xc2, 0x40, 0xf3, 0xff, 0xff, 0x00, 0x00, 0x00],
     },
     Rewrite {
+        name: X86_64Relocation::R_X86_64_GOTTPOFF,
         kind: RelaxationKind::RexMovIndirectToAbsolute(3),
         offset: 3,
         before: [0x4c, 0x8b, 0x15, 0x00, 0x00, 0x00, 0x00, 0x00, 0x00, 0x00],
@@ -242,6 +278,7 @@ static REWRITES: [Rewrite; 71] = [
         after: [0x49, 0xc7, 0xc2, 0x40, 0xf3, 0xff, 0xff, 0x00, 0x00, 0x00],
     },
     Rewrite {
+        name: X86_64Relocation::R_X86_64_GOTPC32_TLSDESC,
         kind: RelaxationKind::TlsDescToLocalExec(3),
         offset: 3,
         before: [0x48, 0x8d, 0x05, 0x00, 0x00, 0x00, 0x00, 0x00, 0x00, 0x00],
@@ -249,6 +286,7 @@ static REWRITES: [Rewrite; 71] = [
         after: [0x48, 0xc7, 0xc0, 0x40, 0xf3, 0xff, 0xff, 0x00, 0x00, 0x00],
     },
     Rewrite {
+        name: X86_64Relocation::R_X86_64_GOTPC32_TLSDESC,
         kind: RelaxationKind::TlsDescToLocalExec(3),
         offset: 3,
         before: [0x4c, 0x8d, 0x05, 0x00, 0x00, 0x00, 0x00, 0x00, 0x00, 0x00],
@@ -256,6 +294,7 @@ static REWRITES: [Rewrite; 71] = [
         after: [0x49, 0xc7, 0xc0, 0x40, 0xf3, 0xff, 0xff, 0x00, 0x00, 0x00],
     },
     Rewrite {
+        name: X86_64Relocation::R_X86_64_TLSDESC_CALL,
         kind: RelaxationKind::SkipTlsDescCall,
         offset: 0,
         before: [0xff, 0x10, 0x00, 0x00, 0x00, 0x00, 0x00, 0x00, 0x00, 0x00],
@@ -263,6 +302,7 @@ static REWRITES: [Rewrite; 71] = [
         after: [0x66, 0x90, 0x00, 0x00, 0x00, 0x00, 0x00, 0x00, 0x00, 0x00],
     },
     Rewrite {
+        name: X86_64Relocation::R_X86_64_GOTPC32_TLSDESC,
         kind: RelaxationKind::TlsDescToInitialExec,
         offset: 3,
         before: [0x48, 0x8d, 0x1d, 0x00, 0x00, 0x00, 0x00, 0x00, 0x00, 0x00],
@@ -270,6 +310,7 @@ static REWRITES: [Rewrite; 71] = [
         after: [0x48, 0x8b, 0x1d, 0x09, 0xc1, 0x00, 0x00, 0x00, 0x00, 0x00],
     },
     Rewrite {
+        name: X86_64Relocation::R_X86_64_GOTPC32_TLSDESC,
         kind: RelaxationKind::TlsDescToInitialExec,
         offset: 3,
         before: [0x4c, 0x8d, 0x1d, 0x00, 0x00, 0x00, 0x00, 0x00, 0x00, 0x00],
@@ -277,6 +318,7 @@ static REWRITES: [Rewrite; 71] = [
         after: [0x4c, 0x8b, 0x1d, 0x09, 0x41, 0x00, 0x00, 0x00, 0x00, 0x00],
     },
     Rewrite {
+        name: X86_64Relocation::R_X86_64_CODE_4_GOTPCRELX,
         kind: RelaxationKind::RexMovIndirectToAbsolute(4),
         offset: 4,
         before: [0xd5, 0x48, 0x8b, 0x1d, 0x00, 0x00, 0x00, 0x00, 0x00, 0x00],
@@ -284,6 +326,7 @@ static REWRITES: [Rewrite; 71] = [
         after: [0xd5, 0x18, 0xc7, 0xc3, 0x78, 0x56, 0x34, 0x12, 0x00, 0x00],
     },
     Rewrite {
+        name: X86_64Relocation::R_X86_64_CODE_4_GOTPCRELX,
         kind: RelaxationKind::RexMovIndirectToAbsolute(4),
         offset: 4,
         before: [0xd5, 0x4c, 0x8b, 0x1d, 0x00, 0x00, 0x00, 0x00, 0x00, 0x00],
@@ -291,6 +334,7 @@ static REWRITES: [Rewrite; 71] = [
         after: [0xd5, 0x19, 0xc7, 0xc3, 0x78, 0x56, 0x34, 0x12, 0x00, 0x00],
     },
     Rewrite {
+        name: X86_64Relocation::R_X86_64_CODE_4_GOTPCRELX,
         kind: RelaxationKind::RexMovIndirectToAbsolute(4),
         offset: 4,
         before: [0xd5, 0x08, 0x8b, 0x1d, 0x00, 0x00, 0x00, 0x00, 0x00, 0x00],
@@ -298,6 +342,7 @@ static REWRITES: [Rewrite; 71] = [
         after: [0xd5, 0x08, 0xc7, 0xc3, 0x78, 0x56, 0x34, 0x12, 0x00, 0x00],
     },
     Rewrite {
+        name: X86_64Relocation::R_X86_64_CODE_4_GOTPCRELX,
         kind: RelaxationKind::RexMovIndirectToAbsolute(4),
         offset: 4,
         before: [0xd5, 0x0c, 0x8b, 0x1d, 0x00, 0x00, 0x00, 0x00, 0x00, 0x00],
@@ -305,6 +350,7 @@ static REWRITES: [Rewrite; 71] = [
         after: [0xd5, 0x09, 0xc7, 0xc3, 0x78, 0x56, 0x34, 0x12, 0x00, 0x00],
     },
     Rewrite {
+        name: X86_64Relocation::R_X86_64_CODE_4_GOTPCRELX,
         kind: RelaxationKind::RexAddIndirectToAbsolute(4),
         offset: 4,
         before: [0xd5, 0x48, 0x03, 0x1d, 0x00, 0x00, 0x00, 0x00, 0x00, 0x00],
@@ -312,6 +358,7 @@ static REWRITES: [Rewrite; 71] = [
         after: [0xd5, 0x18, 0x81, 0xc3, 0x78, 0x56, 0x34, 0x12, 0x00, 0x00],
     },
     Rewrite {
+        name: X86_64Relocation::R_X86_64_CODE_4_GOTPCRELX,
         kind: RelaxationKind::RexAddIndirectToAbsolute(4),
         offset: 4,
         before: [0xd5, 0x4c, 0x03, 0x1d, 0x00, 0x00, 0x00, 0x00, 0x00, 0x00],
@@ -319,6 +366,7 @@ static REWRITES: [Rewrite; 71] = [
         after: [0xd5, 0x19, 0x81, 0xc3, 0x78, 0x56, 0x34, 0x12, 0x00, 0x00],
     },
     Rewrite {
+        name: X86_64Relocation::R_X86_64_CODE_4_GOTPCRELX,
         kind: RelaxationKind::RexAddIndirectToAbsolute(4),
         offset: 4,
         before: [0xd5, 0x08, 0x03, 0x25, 0x00, 0x00, 0x00, 0x00, 0x00, 0x00],
@@ -326,6 +374,7 @@ static REWRITES: [Rewrite; 71] = [
         after: [0xd5, 0x08, 0x81, 0xc4, 0x78, 0x56, 0x34, 0x12, 0x00, 0x00],
     },
     Rewrite {
+        name: X86_64Relocation::R_X86_64_CODE_4_GOTPCRELX,
         kind: RelaxationKind::RexAddIndirectToAbsolute(4),
         offset: 4,
         before: [0xd5, 0x0c, 0x03, 0x25, 0x00, 0x00, 0x00, 0x00, 0x00, 0x00],
@@ -333,6 +382,7 @@ static REWRITES: [Rewrite; 71] = [
         after: [0xd5, 0x09, 0x81, 0xc4, 0x78, 0x56, 0x34, 0x12, 0x00, 0x00],
     },
     Rewrite {
+        name: X86_64Relocation::R_X86_64_CODE_4_GOTPCRELX,
         kind: RelaxationKind::RexSubIndirectToAbsolute(4),
         offset: 4,
         before: [0xd5, 0x48, 0x2b, 0x25, 0x00, 0x00, 0x00, 0x00, 0x00, 0x00],
@@ -340,6 +390,7 @@ static REWRITES: [Rewrite; 71] = [
         after: [0xd5, 0x18, 0x81, 0xec, 0x78, 0x56, 0x34, 0x12, 0x00, 0x00],
     },
     Rewrite {
+        name: X86_64Relocation::R_X86_64_CODE_4_GOTPCRELX,
         kind: RelaxationKind::RexSubIndirectToAbsolute(4),
         offset: 4,
         before: [0xd5, 0x4c, 0x2b, 0x25, 0x00, 0x00, 0x00, 0x00, 0x00, 0x00],
@@ -347,6 +398,7 @@ static REWRITES: [Rewrite; 71] = [
         after: [0xd5, 0x19, 0x81, 0xec, 0x78, 0x56, 0x34, 0x12, 0x00, 0x00],
     },
     Rewrite {
+        name: X86_64Relocation::R_X86_64_CODE_4_GOTPCRELX,
         kind: RelaxationKind::RexSubIndirectToAbsolute(4),
         offset: 4,
         before: [0xd5, 0x08, 0x2b, 0x2d, 0x00, 0x00, 0x00, 0x00, 0x00, 0x00],
@@ -354,6 +406,7 @@ static REWRITES: [Rewrite; 71] = [
         after: [0xd5, 0x08, 0x81, 0xed, 0x78, 0x56, 0x34, 0x12, 0x00, 0x00],
     },
     Rewrite {
+        name: X86_64Relocation::R_X86_64_CODE_4_GOTPCRELX,
         kind: RelaxationKind::RexSubIndirectToAbsolute(4),
         offset: 4,
         before: [0xd5, 0x0c, 0x2b, 0x2d, 0x00, 0x00, 0x00, 0x00, 0x00, 0x00],
@@ -361,6 +414,7 @@ static REWRITES: [Rewrite; 71] = [
         after: [0xd5, 0x09, 0x81, 0xed, 0x78, 0x56, 0x34, 0x12, 0x00, 0x00],
     },
     Rewrite {
+        name: X86_64Relocation::R_X86_64_CODE_4_GOTPCRELX,
         kind: RelaxationKind::RexCmpIndirectToAbsolute(4),
         offset: 4,
         before: [0xd5, 0x48, 0x3b, 0x2d, 0x00, 0x00, 0x00, 0x00, 0x00, 0x00],
@@ -368,6 +422,7 @@ static REWRITES: [Rewrite; 71] = [
         after: [0xd5, 0x18, 0x81, 0xfd, 0x78, 0x56, 0x34, 0x12, 0x00, 0x00],
     },
     Rewrite {
+        name: X86_64Relocation::R_X86_64_CODE_4_GOTPCRELX,
         kind: RelaxationKind::RexCmpIndirectToAbsolute(4),
         offset: 4,
         before: [0xd5, 0x4c, 0x3b, 0x2d, 0x00, 0x00, 0x00, 0x00, 0x00, 0x00],
@@ -375,6 +430,7 @@ static REWRITES: [Rewrite; 71] = [
         after: [0xd5, 0x19, 0x81, 0xfd, 0x78, 0x56, 0x34, 0x12, 0x00, 0x00],
     },
     Rewrite {
+        name: X86_64Relocation::R_X86_64_CODE_4_GOTPCRELX,
         kind: RelaxationKind::RexCmpIndirectToAbsolute(4),
         offset: 4,
         before: [0xd5, 0x08, 0x3b, 0x35, 0x00, 0x00, 0x00, 0x00, 0x00, 0x00],
@@ -382,6 +438,7 @@ static REWRITES: [Rewrite; 71] = [
         after: [0xd5, 0x08, 0x81, 0xfe, 0x78, 0x56, 0x34, 0x12, 0x00, 0x00],
     },
     Rewrite {
+        name: X86_64Relocation::R_X86_64_CODE_4_GOTPCRELX,
         kind: RelaxationKind::RexCmpIndirectToAbsolute(4),
         offset: 4,
         before: [0xd5, 0x0c, 0x3b, 0x35, 0x00, 0x00, 0x00, 0x00, 0x00, 0x00],
@@ -389,6 +446,7 @@ static REWRITES: [Rewrite; 71] = [
         after: [0xd5, 0x09, 0x81, 0xfe, 0x78, 0x56, 0x34, 0x12, 0x00, 0x00],
     },
     Rewrite {
+        name: X86_64Relocation::R_X86_64_CODE_6_GOTPCRELX,
         kind: RelaxationKind::RexAddIndirectToAbsolute(6),
         offset: 6,
         before: [0x62, 0xf4, 0xec, 0x10, 0x03, 0x0d, 0x00, 0x00, 0x00, 0x00],
@@ -396,6 +454,7 @@ static REWRITES: [Rewrite; 71] = [
         after: [0x62, 0xf4, 0xec, 0x10, 0x81, 0xc1, 0x78, 0x56, 0x34, 0x12],
     },
     Rewrite {
+        name: X86_64Relocation::R_X86_64_CODE_6_GOTPCRELX,
         kind: RelaxationKind::RexAddIndirectToAbsolute(6),
         offset: 6,
         before: [0x62, 0xf4, 0xec, 0x10, 0x03, 0x25, 0x00, 0x00, 0x00, 0x00],
@@ -403,6 +462,7 @@ static REWRITES: [Rewrite; 71] = [
         after: [0x62, 0xf4, 0xec, 0x10, 0x81, 0xc4, 0x78, 0x56, 0x34, 0x12],
     },
     Rewrite {
+        name: X86_64Relocation::R_X86_64_CODE_6_GOTPCRELX,
         kind: RelaxationKind::RexAddIndirectToAbsolute(6),
         offset: 6,
         before: [0x62, 0x74, 0xec, 0x10, 0x03, 0x05, 0x00, 0x00, 0x00, 0x00],
@@ -410,6 +470,7 @@ static REWRITES: [Rewrite; 71] = [
         after: [0x62, 0xd4, 0xec, 0x10, 0x81, 0xc0, 0x78, 0x56, 0x34, 0x12],
     },
     Rewrite {
+        name: X86_64Relocation::R_X86_64_CODE_6_GOTPCRELX,
         kind: RelaxationKind::RexAddIndirectToAbsolute(6),
         offset: 6,
         before: [0x62, 0x74, 0xec, 0x10, 0x03, 0x3d, 0x00, 0x00, 0x00, 0x00],
@@ -417,6 +478,7 @@ static REWRITES: [Rewrite; 71] = [
         after: [0x62, 0xd4, 0xec, 0x10, 0x81, 0xc7, 0x78, 0x56, 0x34, 0x12],
     },
     Rewrite {
+        name: X86_64Relocation::R_X86_64_CODE_6_GOTPCRELX,
         kind: RelaxationKind::RexAddIndirectToAbsolute(6),
         offset: 6,
         before: [0x62, 0xe4, 0xec, 0x10, 0x03, 0x0d, 0x00, 0x00, 0x00, 0x00],
@@ -424,6 +486,7 @@ static REWRITES: [Rewrite; 71] = [
         after: [0x62, 0xfc, 0xec, 0x10, 0x81, 0xc1, 0x78, 0x56, 0x34, 0x12],
     },
     Rewrite {
+        name: X86_64Relocation::R_X86_64_CODE_6_GOTPCRELX,
         kind: RelaxationKind::RexAddIndirectToAbsolute(6),
         offset: 6,
         before: [0x62, 0xe4, 0xec, 0x10, 0x03, 0x3d, 0x00, 0x00, 0x00, 0x00],
@@ -431,6 +494,7 @@ static REWRITES: [Rewrite; 71] = [
         after: [0x62, 0xfc, 0xec, 0x10, 0x81, 0xc7, 0x78, 0x56, 0x34, 0x12],
     },
     Rewrite {
+        name: X86_64Relocation::R_X86_64_CODE_6_GOTPCRELX,
         kind: RelaxationKind::RexAddIndirectToAbsolute(6),
         offset: 6,
         before: [0x62, 0x64, 0xec, 0x10, 0x03, 0x25, 0x00, 0x00, 0x00, 0x00],
@@ -438,6 +502,7 @@ static REWRITES: [Rewrite; 71] = [
         after: [0x62, 0xdc, 0xec, 0x10, 0x81, 0xc4, 0x78, 0x56, 0x34, 0x12],
     },
     Rewrite {
+        name: X86_64Relocation::R_X86_64_REX_GOTPCRELX,
         kind: RelaxationKind::RexAdcIndirectToAbsolute(3),
         offset: 3,
         before: [0x4c, 0x13, 0x2d, 0x00, 0x00, 0x00, 0x00, 0x00, 0x00, 0x00],
@@ -445,6 +510,7 @@ static REWRITES: [Rewrite; 71] = [
         after: [0x49, 0x81, 0xd5, 0x07, 0xf0, 0x22, 0x00, 0x00, 0x00, 0x00],
     },
     Rewrite {
+        name: X86_64Relocation::R_X86_64_REX_GOTPCRELX,
         kind: RelaxationKind::RexAndIndirectToAbsolute(3),
         offset: 3,
         before: [0x48, 0x23, 0x2d, 0x00, 0x00, 0x00, 0x00, 0x00, 0x00, 0x00],
@@ -452,6 +518,7 @@ static REWRITES: [Rewrite; 71] = [
         after: [0x48, 0x81, 0xe5, 0x07, 0xf0, 0x22, 0x00, 0x00, 0x00, 0x00],
     },
     Rewrite {
+        name: X86_64Relocation::R_X86_64_REX_GOTPCRELX,
         kind: RelaxationKind::RexOrIndirectToAbsolute(3),
         offset: 3,
         before: [0x44, 0x0b, 0x1d, 0x00, 0x00, 0x00, 0x00, 0x00, 0x00, 0x00],
@@ -459,6 +526,7 @@ static REWRITES: [Rewrite; 71] = [
         after: [0x41, 0x81, 0xcb, 0x07, 0xf0, 0x22, 0x00, 0x00, 0x00, 0x00],
     },
     Rewrite {
+        name: X86_64Relocation::R_X86_64_REX_GOTPCRELX,
         kind: RelaxationKind::RexSbbIndirectToAbsolute(3),
         offset: 3,
         before: [0x4c, 0x1b, 0x2d, 0x00, 0x00, 0x00, 0x00, 0x00, 0x00, 0x00],
@@ -466,6 +534,7 @@ static REWRITES: [Rewrite; 71] = [
         after: [0x49, 0x81, 0xdd, 0x07, 0xf0, 0x22, 0x00, 0x00, 0x00, 0x00],
     },
     Rewrite {
+        name: X86_64Relocation::R_X86_64_REX_GOTPCRELX,
         kind: RelaxationKind::RexXorIndirectToAbsolute(3),
         offset: 3,
         before: [0x48, 0x33, 0x2d, 0x00, 0x00, 0x00, 0x00, 0x00, 0x00, 0x00],
@@ -473,6 +542,7 @@ static REWRITES: [Rewrite; 71] = [
         after: [0x48, 0x81, 0xf5, 0x07, 0xf0, 0x22, 0x00, 0x00, 0x00, 0x00],
     },
     Rewrite {
+        name: X86_64Relocation::R_X86_64_REX_GOTPCRELX,
         kind: RelaxationKind::RexTestIndirectToAbsolute(3),
         offset: 3,
         before: [0x4c, 0x85, 0x2d, 0x00, 0x00, 0x00, 0x00, 0x00, 0x00, 0x00],
@@ -480,6 +550,7 @@ static REWRITES: [Rewrite; 71] = [
         after: [0x49, 0xf7, 0xc5, 0x07, 0xf0, 0x22, 0x00, 0x00, 0x00, 0x00],
     },
     Rewrite {
+        name: X86_64Relocation::R_X86_64_GOTPCRELX,
         kind: RelaxationKind::RexAdcIndirectToAbsolute(2),
         offset: 2,
         before: [0x13, 0x1d, 0x00, 0x00, 0x00, 0x00, 0x00, 0x00, 0x00, 0x00],
@@ -487,6 +558,7 @@ static REWRITES: [Rewrite; 71] = [
         after: [0x81, 0xd3, 0x50, 0x34, 0x12, 0x00, 0x00, 0x00, 0x00, 0x00],
     },
     Rewrite {
+        name: X86_64Relocation::R_X86_64_GOTPCRELX,
         kind: RelaxationKind::RexTestIndirectToAbsolute(2),
         offset: 2,
         before: [0x85, 0x1d, 0x00, 0x00, 0x00, 0x00, 0x00, 0x00, 0x00, 0x00],
@@ -494,6 +566,7 @@ static REWRITES: [Rewrite; 71] = [
         after: [0xf7, 0xc3, 0x50, 0x34, 0x12, 0x00, 0x00, 0x00, 0x00, 0x00],
     },
     Rewrite {
+        name: X86_64Relocation::R_X86_64_CODE_4_GOTPCRELX,
         kind: RelaxationKind::RexTestIndirectToAbsolute(4),
         offset: 4,
         before: [0xd5, 0x48, 0x85, 0x1d, 0x00, 0x00, 0x00, 0x00, 0x00, 0x00],
@@ -501,6 +574,7 @@ static REWRITES: [Rewrite; 71] = [
         after: [0xd5, 0x18, 0xf7, 0xc3, 0x78, 0x56, 0x34, 0x12, 0x00, 0x00],
     },
     Rewrite {
+        name: X86_64Relocation::R_X86_64_CODE_6_GOTPCRELX,
         kind: RelaxationKind::RexSbbIndirectToAbsolute(6),
         offset: 6,
         before: [0x62, 0x74, 0xec, 0x10, 0x1b, 0x05, 0x00, 0x00, 0x00, 0x00],
@@ -508,6 +582,7 @@ static REWRITES: [Rewrite; 71] = [
         after: [0x62, 0xd4, 0xec, 0x10, 0x81, 0xd8, 0x78, 0x56, 0x34, 0x12],
     },
     Rewrite {
+        name: X86_64Relocation::R_X86_64_CODE_6_GOTPCRELX,
         kind: RelaxationKind::RexXorIndirectToAbsolute(6),
         offset: 6,
         before: [0x62, 0x74, 0xfc, 0x0c, 0x33, 0x3d, 0x00, 0x00, 0x00, 0x00],
@@ -544,6 +619,8 @@ fn rewrites_match_linkers(rt: HostRuntime) {
 
 /// A TLS sequence as GNU as assembles it, with what follows it, and as GNU ld links it into a program.
 struct Sequence {
+    /// The relocation of the `lea`.
+    name: X86_64Relocation,
     kind: RelaxationKind,
     offset: u64,
     before: [u8; 24],
@@ -554,6 +631,7 @@ struct Sequence {
 
 static SEQUENCES: [Sequence; 8] = [
     Sequence {
+        name: X86_64Relocation::R_X86_64_TLSGD,
         kind: RelaxationKind::TlsGdToLocalExec,
         offset: 4,
         before: [
@@ -567,6 +645,7 @@ static SEQUENCES: [Sequence; 8] = [
         ],
     },
     Sequence {
+        name: X86_64Relocation::R_X86_64_TLSGD,
         kind: RelaxationKind::TlsGdToLocalExec,
         offset: 4,
         before: [
@@ -580,6 +659,7 @@ static SEQUENCES: [Sequence; 8] = [
         ],
     },
     Sequence {
+        name: X86_64Relocation::R_X86_64_TLSGD,
         kind: RelaxationKind::TlsGdToInitialExec,
         offset: 4,
         before: [
@@ -593,6 +673,7 @@ static SEQUENCES: [Sequence; 8] = [
         ],
     },
     Sequence {
+        name: X86_64Relocation::R_X86_64_TLSGD,
         kind: RelaxationKind::TlsGdToLocalExecLarge,
         offset: 3,
         before: [
@@ -606,6 +687,7 @@ static SEQUENCES: [Sequence; 8] = [
         ],
     },
     Sequence {
+        name: X86_64Relocation::R_X86_64_TLSLD,
         kind: RelaxationKind::TlsLdToLocalExec,
         offset: 3,
         before: [
@@ -619,6 +701,7 @@ static SEQUENCES: [Sequence; 8] = [
         ],
     },
     Sequence {
+        name: X86_64Relocation::R_X86_64_TLSLD,
         kind: RelaxationKind::TlsLdToLocalExecNoPlt,
         offset: 3,
         before: [
@@ -632,6 +715,7 @@ static SEQUENCES: [Sequence; 8] = [
         ],
     },
     Sequence {
+        name: X86_64Relocation::R_X86_64_TLSLD,
         kind: RelaxationKind::TlsLdToLocalExec64,
         offset: 3,
         before: [
@@ -645,6 +729,7 @@ static SEQUENCES: [Sequence; 8] = [
         ],
     },
     Sequence {
+        name: X86_64Relocation::R_X86_64_TLSLD,
         kind: RelaxationKind::TlsLdToLocalExec64,
         offset: 3,
         before: [

@@ -293,7 +293,7 @@ fn is_either(
 /// Whether an instruction with an operand relative to the instruction pointer is there, with `n`
 /// bytes before the field: no prefix, REX or REX2.
 #[inline(always)]
-fn is_legacy(section: &[u8], offset: u64, n: u8, opcode: u8) -> bool
+pub(super) fn is_legacy(section: &[u8], offset: u64, n: u8, opcode: u8) -> bool
     ensures { result ≡ is_one_at (legacy n opcode) section.now offset }
 {
     match n {
@@ -340,7 +340,7 @@ fn is_legacy_or_evex(section: &[u8], offset: u64, n: u8, fixed: u8, opcode: u8) 
 
 /// Whether the `lea` of a TLS descriptor is there.
 #[inline(always)]
-fn is_lea_of_descriptor(section: &[u8], offset: u64, n: u8) -> bool
+pub(super) fn is_lea_of_descriptor(section: &[u8], offset: u64, n: u8) -> bool
     ensures { result ≡ is_one_at (lea_of_descriptor n) section.now offset }
 {
     match n {
@@ -425,7 +425,7 @@ fn after_descriptor_call(before: X86_64Relocation) -> Option<X86_64Relocation>
 
 /// The relocation of an immediate of 32 bits.
 #[inline(always)]
-fn immediate_of(n: u8) -> X86_64Relocation
+pub(super) fn immediate_of(n: u8) -> X86_64Relocation
     ensures { result ≡ replaced.immediate_of n }
 {
     if n == 2 {
