@@ -4,9 +4,11 @@ use Rattle.linker_base.specs.Rewrite.{Rewrite, CanRewrite}
 use Rattle.linker_base.specs.declared.relaxation.RelocationModifier.{RelocationModifier}
 use Rattle.linker_utils.specs.AArch64.{aarch64_rewrite, aarch64_modifier, aarch64_forms}
 use Rattle.linker_utils.specs.AArch64.{aarch64_rewrites}
+use Rattle.linker_utils.specs.AArch64Choices.{IsAArch64Choice}
 use Rattle.linker_utils.specs.AArch64Originals.{aarch64_matches}
 use Rattle.linker_utils.specs.AArch64Relocations.{aarch64_name, aarch64_row}
-use Rattle.linker_utils.specs.ElfNames.{ElfName, IsNameOf}
+use Rattle.linker_utils.specs.Choices.{choice}
+use Rattle.linker_utils.specs.ElfNames.{ElfName, IsNameOf, code_of}
 use Rattle.linker_utils.specs.LoongArch.{loongarch_rewrite, loongarch_modifier, loongarch64_forms}
 use Rattle.linker_utils.specs.LoongArch.{loongarch64_rewrites}
 use Rattle.linker_utils.specs.LoongArchRelocations.{loongarch_name, loongarch_row}
@@ -14,9 +16,12 @@ use Rattle.linker_utils.specs.LoongArchRelocations.{loongarch_uleb128_role}
 use Rattle.linker_utils.specs.Ppc64.{ppc64_forms, ppc64_rewrites, ppc64_rewrite, ppc64_modifier}
 use Rattle.linker_utils.specs.Ppc64Relocations.{ppc64_name, ppc64_row}
 use Rattle.linker_utils.specs.RiscV.{riscv_forms, riscv_rewrites, riscv_rewrite, riscv_modifier}
+use Rattle.linker_utils.specs.RiscV.{riscv_deleted}
+use Rattle.linker_utils.specs.RiscVChoices.{IsRiscVChoice}
 use Rattle.linker_utils.specs.RiscVOriginals.{riscv_matches}
 use Rattle.linker_utils.specs.RiscVRelocations.{riscv_relocation, riscv_name, riscv_uleb128_role}
 use Rattle.linker_utils.specs.X86.{x86_64_rewrites, x86_64_rewrite, x86_64_modifier}
+use Rattle.linker_utils.specs.X86Choices.{IsX86Choice}
 use Rattle.linker_utils.specs.X86Originals.{x86_64_matches}
 use Rattle.linker_utils.specs.X86Relocations.{x86_64_name, x86_64_row}
 use Rattle.linker_utils.specs.declared.architecture.Relaxation.{Relaxation}
@@ -24,10 +29,15 @@ use Rattle.linker_utils.specs.declared.architecture.Relaxation.TheVariants as re
 use Rattle.linker_utils.specs.declared.elf.Architecture.{Architecture}
 use Rattle.linker_utils.specs.declared.elf.Architecture.TheVariants.{AArch64, RiscV, LoongArch64}
 use Rattle.linker_utils.specs.declared.elf.Architecture.TheVariants.{Ppc64, X86_64}
+use Rattle.linker_utils.specs.declared.elf.choice.Choice.{Choice}
+use Rattle.linker_utils.specs.declared.elf.choice.LinkFacts.{LinkFacts}
 use Rattle.linker_utils.specs.declared.elf.RelocationInstruction.{RelocationInstruction}
 use Rattle.linker_utils.specs.declared.elf.RelocationInstruction.TheVariants as insns
 use Rattle.linker_utils.specs.declared.elf.RelocationKindInfo.{RelocationKindInfo}
 use Rattle.linker_utils.specs.declared.elf.Uleb128Role.{Uleb128Role}
+use Rattle.linker_utils.specs.declared.loongarch64.rewrites.RelaxationKind.TheVariants as loongarch
+use Rattle.linker_utils.specs.declared.ppc64.rewrites.RelaxationKind.TheVariants as ppc
+use Rattle.linker_utils.specs.declared.riscv64.rewrites.DeletedBytes.{DeletedBytes}
 
 -- ---- relocations, by their codes
 
@@ -114,3 +124,35 @@ relaxation_matches (relaxations.RiscV kind) = riscv_matches kind
 relaxation_matches (relaxations.LoongArch64 kind) = CanRewrite (loongarch_rewrite kind)
 relaxation_matches (relaxations.Ppc64 kind) = CanRewrite (ppc64_rewrite kind)
 relaxation_matches (relaxations.X86_64 kind) = x86_64_matches kind
+
+-- what is deleted after it
+abbrev pub relaxation_deleted : Relaxation → Option DeletedBytes
+relaxation_deleted (relaxations.RiscV kind) = riscv_deleted kind
+relaxation_deleted kind = None
+
+-- ---- choices
+
+-- a rewrite, and the code of the relocation after it: the choice for the name of a code
+pub record IsChosenBy {Kind Name : Type 0} (elf : Name → ElfName) (relaxation : Kind → Relaxation)
+    (IsChoice : Name → Choice Kind Name → Type 0) (code : ℕ) (chosen : Choice Relaxation ℕ)
+    : Type 0 where
+  pub name : Name
+  pub named : Choice Kind Name
+  pub is_name : IsNameOf elf code name
+  pub is_choice : IsChoice name named
+  pub kind_is : chosen.kind ≡ relaxation named.kind
+  pub code_is : chosen.relocation ≡ code_of (elf named.relocation)
+
+-- of an architecture; LoongArch and PowerPC64 have no entries
+abbrev pub IsArchitectureChoice : Architecture → ℕ → List ℕ → ℕ → LinkFacts → Choice Relaxation ℕ
+    → Type 0
+IsArchitectureChoice AArch64 code section o facts =
+    IsChosenBy aarch64_name relaxations.AArch64 (λ name. IsAArch64Choice name section o facts) code
+IsArchitectureChoice RiscV code section o facts =
+    IsChosenBy riscv_name relaxations.RiscV (λ name. IsRiscVChoice name section o facts) code
+IsArchitectureChoice LoongArch64 code section o facts =
+    λ chosen. chosen ≡ choice (relaxations.LoongArch64 loongarch.NoOp) code
+IsArchitectureChoice Ppc64 code section o facts =
+    λ chosen. chosen ≡ choice (relaxations.Ppc64 ppc.NoOp) code
+IsArchitectureChoice X86_64 code section o facts =
+    IsChosenBy x86_64_name relaxations.X86_64 (λ name. IsX86Choice name section o facts) code

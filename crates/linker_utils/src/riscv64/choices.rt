@@ -149,7 +149,7 @@ pub fn choose(
     // never an immediate of 0, which the ISA reserves
     ensures compressed { result.kind ≡ RelaxationKind.Hi20ToCLui
         → FitsClui (sum_64 facts.now.operands.symbol
-            (cast_unsigned w64 facts.now.operands.addend)) }
+        (cast_unsigned w64 facts.now.operands.addend)) }
 {
     let (kind, relocation) = match name {
         RiscVRelocation::R_RISCV_CALL | RiscVRelocation::R_RISCV_CALL_PLT => {
