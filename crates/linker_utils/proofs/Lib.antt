@@ -1,3 +1,4 @@
+pub mod AArch64Alike
 pub mod AArch64Choices
 pub mod AArch64Forms
 pub mod AArch64Moves

@@ -2,7 +2,7 @@
 -- "Relocation optimization" and the sequences of thread-local storage; a branch to an undefined weak
 -- symbol goes on behind itself).
 use Rattle.std.specs.Prelude.{◌≡◌, ◌≢◌, ◌≤◌, ◌+◌, ◌-◌, ◌*◌, ◌/◌, ◌^◌, ℕ, List, [], ◌∷◌, ⊤}
-use Rattle.std.specs.Prelude.{length, drop}
+use Rattle.std.specs.Prelude.{length, drop, ◌<◌, ◌⊎◌}
 use Rattle.std.specs.Int.{w32, from_le_bytes}
 use Rattle.linker_utils.specs.AArch64.{rd_of, rn_of, aarch64_rewrite}
 use Rattle.linker_utils.specs.AArch64Originals.{IsAdrp, IsAdd64, IsLdr64, FollowsAdrp}
@@ -12,6 +12,7 @@ use Rattle.linker_utils.specs.Choices.{Condition, bound, weak_zero, fixed_distan
 use Rattle.linker_utils.specs.Choices.{in_reach, in_reach_if_known, Entry, entry, choice}
 use Rattle.linker_utils.specs.Choices.{operands_after, AllHold, IsFirst}
 use Rattle.linker_utils.specs.Originals.{HasWord}
+use Rattle.linker_utils.specs.Value.{sum_64}
 use Rattle.linker_utils.specs.declared.aarch64.relocations.AArch64Relocation.{AArch64Relocation}
 use Rattle.linker_utils.specs.declared.aarch64.relocations.AArch64Relocation.TheVariants as r
 use Rattle.linker_utils.specs.declared.aarch64.rewrites.RelaxationKind.{RelaxationKind}
@@ -148,3 +149,55 @@ abbrev pub IsAArch64Choice : AArch64Relocation → List ℕ → ℕ → LinkFact
 IsAArch64Choice name section o facts chosen =
     IsFirst (AArch64Applies name section o facts) (aarch64_entries name) (choice kinds.NoOp name)
     chosen
+
+-- ---- all relocations of a pair or of a sequence
+
+-- the facts of a relocation so many bytes on
+abbrev pub facts_on : ℕ → LinkFacts → LinkFacts
+facts_on n facts =
+    record facts {
+      operands = record facts.operands { place = sum_64 facts.operands.place n };
+    }
+
+-- Of the two relocations of a pair both are rewritten, or neither is.
+abbrev pub PairIsChosenAlike : AArch64Relocation → AArch64Relocation → AArch64Choice
+    → AArch64Choice → Type 0
+PairIsChosenAlike first second to_first to_second =
+    (section : List ℕ) (o : ℕ) (facts : LinkFacts) (a b : AArch64Choice) → o + 4 < 2 ^ 64
+    → IsAArch64Choice first section o facts a
+    → IsAArch64Choice second section (o + 4) (facts_on 4 facts) b
+    → ((a ≡ to_first) × (b ≡ to_second))
+    ⊎ ((a ≡ choice kinds.NoOp first) × (b ≡ choice kinds.NoOp second))
+
+abbrev pub GotPairIsChosenAlike : Type 0
+GotPairIsChosenAlike =
+    PairIsChosenAlike r.R_AARCH64_ADR_GOT_PAGE r.R_AARCH64_LD64_GOT_LO12_NC
+    (choice kinds.NoOp r.R_AARCH64_ADR_PREL_PG_HI21)
+    (choice kinds.LdrToAdd r.R_AARCH64_ADD_ABS_LO12_NC)
+
+abbrev pub InitialExecPairIsChosenAlike : Type 0
+InitialExecPairIsChosenAlike =
+    PairIsChosenAlike r.R_AARCH64_TLSIE_ADR_GOTTPREL_PAGE21
+    r.R_AARCH64_TLSIE_LD64_GOTTPREL_LO12_NC
+    (choice kinds.MovzXnLsl16 r.R_AARCH64_TLSLE_MOVW_TPREL_G1)
+    (choice kinds.MovkXn r.R_AARCH64_TLSLE_MOVW_TPREL_G0_NC)
+
+-- Of the four relocations of a TLS descriptor all are rewritten for local-exec, or all for
+-- initial-exec, or none is.
+abbrev pub DescriptorIsChosenAlike : Type 0
+DescriptorIsChosenAlike =
+    (section : List ℕ) (o : ℕ) (facts : LinkFacts) (a b c d : AArch64Choice) → o + 12 < 2 ^ 64
+    → IsAArch64Choice r.R_AARCH64_TLSDESC_ADR_PAGE21 section o facts a
+    → IsAArch64Choice r.R_AARCH64_TLSDESC_LD64_LO12 section (o + 4) (facts_on 4 facts) b
+    → IsAArch64Choice r.R_AARCH64_TLSDESC_ADD_LO12 section (o + 8) (facts_on 8 facts) c
+    → IsAArch64Choice r.R_AARCH64_TLSDESC_CALL section (o + 12) (facts_on 12 facts) d
+    → ((a ≡ choice kinds.MovzX0Lsl16 r.R_AARCH64_TLSLE_MOVW_TPREL_G1)
+    × (b ≡ choice kinds.MovkX0 r.R_AARCH64_TLSLE_MOVW_TPREL_G0_NC)
+    × (c ≡ erased) × (d ≡ erased))
+    ⊎ (((a ≡ choice kinds.AdrpX0 r.R_AARCH64_TLSIE_ADR_GOTTPREL_PAGE21)
+    × (b ≡ choice kinds.LdrX0 r.R_AARCH64_TLSIE_LD64_GOTTPREL_LO12_NC)
+    × (c ≡ erased) × (d ≡ erased))
+    ⊎ ((a ≡ choice kinds.NoOp r.R_AARCH64_TLSDESC_ADR_PAGE21)
+    × (b ≡ choice kinds.NoOp r.R_AARCH64_TLSDESC_LD64_LO12)
+    × (c ≡ choice kinds.NoOp r.R_AARCH64_TLSDESC_ADD_LO12)
+    × (d ≡ choice kinds.NoOp r.R_AARCH64_TLSDESC_CALL)))

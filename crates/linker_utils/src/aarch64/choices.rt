@@ -9,6 +9,9 @@ ghost use Rattle.linker_utils.specs.AArch64Choices.{IsOfDescriptor, IsBranch, Is
 ghost use Rattle.linker_utils.specs.AArch64Choices.{AreOfDescriptor, IsAArch64Choice};
 ghost use Rattle.linker_utils.specs.AArch64Choices.{to_address, to_local_exec, to_initial_exec};
 ghost use Rattle.linker_utils.specs.AArch64Choices.{descriptor_entries, to_adr};
+ghost use Rattle.linker_utils.specs.AArch64Choices.{GotPairIsChosenAlike};
+ghost use Rattle.linker_utils.specs.AArch64Choices.{InitialExecPairIsChosenAlike};
+ghost use Rattle.linker_utils.specs.AArch64Choices.{DescriptorIsChosenAlike};
 ghost use Rattle.linker_utils.specs.AArch64Relocations.{aarch64_row};
 ghost use Rattle.linker_utils.specs.Choices.{AllHold, IsFirst, choice};
 ghost use Rattle.linker_utils.specs.Originals.{HasWord};
@@ -105,9 +108,8 @@ fn is_for_address(facts: &LinkFacts, back: u64) -> bool
         ↔ AllHold aarch64_row facts.now.operands facts.now (to_address back) }
 {
     let adrp = row(AArch64Relocation::R_AARCH64_ADR_PREL_PG_HI21);
-    facts.is_bound()
-        && facts.has_fixed_distance
-        && facts.is_in_reach_if_known(adrp, &facts.operands, back)
+    let is_direct = facts.is_bound() && facts.has_fixed_distance;
+    is_direct && facts.is_in_reach_if_known(adrp, &facts.operands, back)
 }
 
 /// Whether the offset from the thread pointer may be in the instructions.
@@ -130,8 +132,8 @@ fn is_for_initial_exec(facts: &LinkFacts, back: u64) -> bool
     facts.is_executable && facts.is_in_reach_if_known(adrp, &facts.operands, back)
 }
 
-/// What is chosen for a relocation `back` bytes behind the start of the sequence of a TLS descriptor:
-/// one for local-exec, else one for initial-exec, else a third.
+/// What is chosen for a relocation `back` bytes after the start of the sequence of a TLS descriptor:
+/// for local-exec, else for initial-exec, else a third.
 #[inline]
 fn choice_of_descriptor(
     section: &[u8],
@@ -183,33 +185,49 @@ fn choice_if(applies: bool, chosen: AArch64Choice, otherwise: AArch64Choice) -> 
 }
 
 /// The rewrite that a linker chooses for a relocation at an offset of a section, and the relocation
-/// after it: the first entry of the table that applies. Where none applies, for any other name and
-/// past the end of the section, it is `NoOp` and the same name. `apply` may be called at the offset.
-/// No rewrite of AArch64 moves the offset or the addend.
+/// after it (ELF for the Arm 64-bit Architecture, "Relocation optimization" and the sequences of
+/// thread-local storage). It is the first of this table whose instruction is there and whose
+/// conditions hold, and else `NoOp` and the same relocation, as for any name that isn't listed and
+/// for an offset that isn't in the section. Names have the prefix `R_AARCH64_`.
 ///
-/// | Relocation `R_AARCH64_*` | Instruction | Rewrite and relocation | Where |
-/// |---|---|---|---|
-/// | `ADR_GOT_PAGE` | `adrp xN`, `ldr xN, [xN]` | `NoOp`, `ADR_PREL_PG_HI21` | bound, at a fixed distance, in reach of `adrp` |
-/// | `LD64_GOT_LO12_NC` | the same | `LdrToAdd`, `ADD_ABS_LO12_NC` | the same |
-/// | `ADD_ABS_LO12_NC` | `adrp xN`, `add xN, xN` | `AdrpAddToNopAdr`, `ADR_PREL_LO21` | at a fixed distance, known to be in reach of `adr` |
-/// | `TLSIE_ADR_GOTTPREL_PAGE21` | `adrp xN`, `ldr xN, [xN]` | `MovzXnLsl16`, `TLSLE_MOVW_TPREL_G1` | bound, in an executable, an offset of 32 bits |
-/// | `TLSIE_LD64_GOTTPREL_LO12_NC` | the same | `MovkXn`, `TLSLE_MOVW_TPREL_G0_NC` | the same |
-/// | `TLSDESC_ADR_PAGE21` | the sequence of a TLS descriptor | `MovzX0Lsl16`, `TLSLE_MOVW_TPREL_G1` | the same |
-/// | | | `AdrpX0`, `TLSIE_ADR_GOTTPREL_PAGE21` | in an executable, the GOT entry in reach of `adrp` |
-/// | `TLSDESC_LD64_LO12` | the same | `MovkX0`, `TLSLE_MOVW_TPREL_G0_NC`; `LdrX0`, `TLSIE_LD64_GOTTPREL_LO12_NC` | the same two |
-/// | `TLSDESC_ADD_LO12`, `TLSDESC_CALL` | the same | `ReplaceWithNop`, `NONE` | the same two |
-/// | `CALL26`, `JUMP26` | `bl`, `b` | `ReplaceWithNop`, `NONE` | undefined and weak |
+/// | Relocation | Instruction | Rewrite | Relocation after | Condition |
+/// |---|---|---|---|---|
+/// | `ADR_GOT_PAGE` | `adrp xN` of the pair `adrp xN`, `ldr xN, [xN]` | `NoOp` | `ADR_PREL_PG_HI21` | direct |
+/// | `LD64_GOT_LO12_NC` | `ldr` of the pair | `LdrToAdd` | `ADD_ABS_LO12_NC` | direct |
+/// | `ADD_ABS_LO12_NC` | `add` of the pair `adrp xN`, `add xN, xN` | `AdrpAddToNopAdr` | `ADR_PREL_LO21` | fixed distance, which is known to be in reach of `adr` |
+/// | `TLSIE_ADR_GOTTPREL_PAGE21` | `adrp xN` of the pair `adrp xN`, `ldr xN, [xN]` | `MovzXnLsl16` | `TLSLE_MOVW_TPREL_G1` | local-exec |
+/// | `TLSIE_LD64_GOTTPREL_LO12_NC` | `ldr` of the pair | `MovkXn` | `TLSLE_MOVW_TPREL_G0_NC` | local-exec |
+/// | `TLSDESC_ADR_PAGE21` | `adrp` of the sequence | `MovzX0Lsl16` | `TLSLE_MOVW_TPREL_G1` | local-exec |
+/// | | | `AdrpX0` | `TLSIE_ADR_GOTTPREL_PAGE21` | initial-exec |
+/// | `TLSDESC_LD64_LO12` | `ldr` of the sequence | `MovkX0` | `TLSLE_MOVW_TPREL_G0_NC` | local-exec |
+/// | | | `LdrX0` | `TLSIE_LD64_GOTTPREL_LO12_NC` | initial-exec |
+/// | `TLSDESC_ADD_LO12` | `add` of the sequence | `ReplaceWithNop` | `NONE` | local-exec or initial-exec |
+/// | `TLSDESC_CALL` | `blr` of the sequence | `ReplaceWithNop` | `NONE` | local-exec or initial-exec |
+/// | `CALL26` | `bl` | `ReplaceWithNop` | `NONE` | `is_undefined_weak` |
+/// | `JUMP26` | `b` | `ReplaceWithNop` | `NONE` | `is_undefined_weak` |
 ///
-/// "Bound" is `is_local` and not `is_ifunc`. Where no address is known, a value counts as in reach,
-/// except for `ADR_PREL_LO21`. Whether `got_entry` is in reach is asked for initial-exec, of which it
-/// then has to be the entry.
+/// - The sequence is that of a TLS descriptor (`is_tls_descriptor_sequence`).
+/// - Direct: `is_local` and not `is_ifunc`, `has_fixed_distance`, and the symbol is in reach of
+///   `adrp`.
+/// - Local-exec: `is_executable`, `is_local` and not `is_ifunc`, and the offset from `tls_base` is
+///   in reach of `TLSLE_MOVW_TPREL_G1`.
+/// - Initial-exec: `is_executable`, and `got_entry` is in reach of `adrp`. It has to be the address
+///   of the entry for initial-exec.
+/// - Where no address is known, all is in reach but `ADR_PREL_LO21`.
 ///
-/// Both halves of a pair, and all four relocations of a descriptor, are chosen alike: each asks for
-/// the whole pair or sequence, and for the same facts. For that the linker sees to three things. The
-/// relocations of one pair or sequence have the same symbol and the same addend. The facts are the
-/// same for all of them, except for `place`, which is each one's own. And it rewrites only after all
-/// of them are chosen, since a rewritten instruction isn't the one that the others ask for. That
-/// nothing jumps between the instructions is for the compiler to keep.
+/// `apply` may be called at the offset with the rewrite. It leaves offset and addend as they are.
+///
+/// Both halves of a load of a GOT entry, and all four relocations of a descriptor, are chosen alike
+/// (`relocations_are_chosen_alike`), since each is chosen by the whole pair or sequence and by the
+/// place of its first instruction. The linker sees to the rest:
+///
+/// - The relocations of one pair or sequence are all there, with the same symbol and addend, and
+///   the facts are the same for all of them, except for `place`, which is that of each.
+/// - All of them are chosen before any is rewritten: what was rewritten isn't what the others are
+///   chosen by.
+/// - `AdrpAddToNopAdr` erases the `adrp`, so that the relocation `ADR_PREL_PG_HI21` of the `adrp`
+///   isn't applied after it. It has to be of the same symbol and addend.
+/// - Nothing jumps between the instructions.
 ///
 /// ```
 /// use linker_utils::aarch64::{AArch64Relocation, RelaxationKind, choose};
@@ -328,3 +346,12 @@ pub fn choose(
         _ => unchanged,
     }
 }
+
+/// With the same facts, except that each has its own place, both relocations of a load of a GOT entry
+/// are rewritten or neither is, also where it loads an offset for initial-exec; and of the four of a
+/// TLS descriptor all are rewritten for local-exec, all for initial-exec, or none is.
+pub fn relocations_are_chosen_alike()
+    ensures got { GotPairIsChosenAlike }
+    ensures initial_exec { InitialExecPairIsChosenAlike }
+    ensures descriptor { DescriptorIsChosenAlike }
+{}
