@@ -48,7 +48,7 @@ no_high_part = entry kinds.Hi20Delete r.R_RISCV_NONE by_low_part
 abbrev pub short_high_part : RiscVEntry
 short_high_part =
     entry kinds.Hi20ToCLui r.R_RISCV_RVC_LUI
-    (compressible ∷ marked ∷ fixed_address ∷ in_reach r.R_RISCV_RVC_LUI 0 ∷ [])
+    (marked ∷ compressible ∷ fixed_address ∷ in_reach r.R_RISCV_RVC_LUI 0 ∷ [])
 
 -- a low part whose high part is 0
 abbrev pub low_part : RiscVRelocation → RiscVEntry

@@ -71,8 +71,8 @@ fn has_no_high_part(section: &[u8], offset: u64, facts: &LinkFacts) -> bool
 fn has_short_high_part(section: &[u8], offset: u64, facts: &LinkFacts) -> bool
     ensures { IsTrue result ↔ AppliesToRiscV section.now offset facts.now short_high_part }
 {
-    facts.may_compress
-        && facts.is_marked
+    facts.is_marked
+        && facts.may_compress
         && facts.has_fixed_address
         && facts.is_in_reach(row(RiscVRelocation::R_RISCV_RVC_LUI), &facts.operands, 0)
         && RelaxationKind::Hi20ToCLui.matches(section, offset)
