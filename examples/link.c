@@ -261,21 +261,26 @@ static uint64_t make_room(struct output *o, uint64_t align, uint64_t len) {
     return offset;
 }
 
-/* x86-64: a load from the GOT becomes the address, a call or a jump through it a direct one. */
+/* Rewrites the instruction at a relocation as the library chooses by these facts. */
+static uint32_t rewrite(uint8_t *bytes, uint64_t len, uint64_t *offset, int64_t *addend,
+                        uint32_t *type, const struct linker_utils_link_facts *facts) {
+    struct linker_utils_choice choice;
+    if (linker_utils_choose(machine, *type, bytes, len, *offset, facts, &choice) ||
+        linker_utils_apply(machine, choice.rewrite, choice.n, bytes, len, offset, addend))
+        fail("no rewrite of type %" PRIu32, *type);
+    *type = choice.relocation;
+    return choice.rewrite;
+}
+
+/* x86-64: a load from the GOT becomes the address, a call or a jump through it a direct one. As in
+ * ld.lld no address becomes an immediate. */
 static void rewrite_x86_64(uint8_t *bytes, uint64_t len, Elf64_Rela *r, const Elf64_Sym *symbol) {
     uint32_t type = ELF64_R_TYPE(r->r_info);
-    if ((type != R_X86_64_REX_GOTPCRELX && type != R_X86_64_GOTPCRELX) || r->r_addend != -4 ||
-        symbol->st_shndx == SHN_UNDEF || symbol->st_shndx == SHN_ABS || r->r_offset < 2)
-        return;
-    uint8_t opcode = bytes[r->r_offset - 2], operand = bytes[r->r_offset - 1];
-    uint32_t rewrite =
-        opcode == 0x8b && (operand & 0xc7) == 5 ? LINKER_UTILS_X86_64_REWRITE_MOV_INDIRECT_TO_LEA
-        : opcode == 0xff && operand == 0x15 ? LINKER_UTILS_X86_64_REWRITE_CALL_INDIRECT_TO_RELATIVE
-        : opcode == 0xff && operand == 0x25 ? LINKER_UTILS_X86_64_REWRITE_JMP_INDIRECT_TO_RELATIVE
-                                            : LINKER_UTILS_X86_64_REWRITE_NO_OP;
-    if (rewrite != LINKER_UTILS_X86_64_REWRITE_NO_OP &&
-        !linker_utils_apply(machine, rewrite, 0, bytes, len, &r->r_offset, &r->r_addend))
-        r->r_info = ELF64_R_INFO(ELF64_R_SYM(r->r_info), R_X86_64_PC32);
+    bool is_here = symbol->st_shndx != SHN_UNDEF && symbol->st_shndx != SHN_ABS;
+    struct linker_utils_link_facts facts = {
+        .is_local = is_here, .has_fixed_distance = is_here, .operands.addend = r->r_addend};
+    rewrite(bytes, len, &r->r_offset, &r->r_addend, &type, &facts);
+    r->r_info = ELF64_R_INFO(ELF64_R_SYM(r->r_info), type);
 }
 
 static void read_relocations(struct section *s, uint8_t *bytes) {
@@ -437,31 +442,22 @@ static uint64_t address_of(const struct output *o, uint64_t offset) {
 static void rewrite_aarch64(struct output *o, struct relocation *page, struct relocation *low) {
     const struct section *s = page->section;
     uint8_t *bytes = o->bytes + s->offset;
-    uint64_t len = s->head->sh_size, at = low->offset - s->offset, both;
+    uint64_t len = s->head->sh_size, at = page->offset - s->offset, next = at + 4;
+    bool is_of_got = page->type == R_AARCH64_ADR_GOT_PAGE;
     if (low->section != s || low->offset != page->offset + 4 || page->addend ||
         low->symbol != page->symbol || low->addend || !page->symbol->output ||
-        linker_utils_u64_from_slice(bytes + at - 4, len + 4 - at, &both))
+        (is_of_got ? low->type != R_AARCH64_LD64_GOT_LO12_NC || s->has_lone_got_halves
+                   : page->type != R_AARCH64_ADR_PREL_PG_HI21))
         return;
-    uint32_t adrp = (uint32_t)both, next = (uint32_t)(both >> 32);
-    if ((adrp & 0x9f000000) != 0x90000000 || (next & 0x3ff) != (adrp & 0x1f) * 0x21) return;
-    if (page->type == R_AARCH64_ADR_GOT_PAGE && low->type == R_AARCH64_LD64_GOT_LO12_NC &&
-        !s->has_lone_got_halves &&
-        !linker_utils_apply(machine, LINKER_UTILS_AARCH64_REWRITE_LDR_TO_ADD, 0, bytes, len, &at,
-                            &low->addend)) {
-        page->type = R_AARCH64_ADR_PREL_PG_HI21;
-        low->type = R_AARCH64_ADD_ABS_LO12_NC;
-        next = 0x91000000;
-    }
-    uint64_t symbol = address_of(low->symbol->output, low->symbol->offset);
-    int64_t distance = (int64_t)(symbol - address_of(o, low->offset));
-    if (page->type != R_AARCH64_ADR_PREL_PG_HI21 || low->type != R_AARCH64_ADD_ABS_LO12_NC ||
-        (next & 0xffc00000) != 0x91000000 ||
-        linker_utils_relocate(machine, R_AARCH64_ADR_PREL_LO21, distance, (uint8_t[4]){0}, 4) ||
-        linker_utils_apply(machine, LINKER_UTILS_AARCH64_REWRITE_ADRP_ADD_TO_NOP_ADR, 0, bytes, len,
-                           &at, &low->addend))
-        return;
-    page->kind = LINKER_UTILS_KIND_NONE;
-    low->type = R_AARCH64_ADR_PREL_LO21;
+    struct linker_utils_link_facts facts = {.is_local = 1, .has_fixed_distance = 1,
+                                            .has_addresses = 1};
+    facts.operands.symbol = address_of(low->symbol->output, low->symbol->offset);
+    facts.operands.place = address_of(o, page->offset);
+    rewrite(bytes, len, &at, &page->addend, &page->type, &facts);
+    facts.operands.place += 4;
+    if (is_of_got) rewrite(bytes, len, &next, &low->addend, &low->type, &facts);
+    uint32_t last = rewrite(bytes, len, &next, &low->addend, &low->type, &facts);
+    if (last == LINKER_UTILS_AARCH64_REWRITE_ADRP_ADD_TO_NOP_ADR) page->kind = LINKER_UTILS_KIND_NONE;
 }
 
 /* The high part that a low one of RISC-V means by its label. */

@@ -485,6 +485,59 @@ struct linker_utils_operands {
 uint32_t linker_utils_value(uint16_t machine, uint32_t r_type,
                             const struct linker_utils_operands *operands, int64_t *value);
 
+/* ---- Which rewrite.
+ *
+ * What a linker knows of a relocation's symbol and of its output when it chooses a rewrite. A fact
+ * holds where its number is not 0. */
+struct linker_utils_link_facts {
+    /* The symbol is defined in this output, and no other definition can replace it at run time. */
+    uint8_t is_local;
+    uint8_t is_ifunc; /* The symbol is an indirect function, STT_GNU_IFUNC. */
+    /* The symbol is undefined and weak, and nothing defines it at run time: its address is 0. */
+    uint8_t is_undefined_weak;
+    /* The symbol's address is the same wherever the output is loaded: that of an absolute symbol
+     * and of an undefined weak one, and any in an output that is always loaded at one address. */
+    uint8_t has_fixed_address;
+    /* So is the distance from the code to the symbol: that to any symbol of the output, but to an
+     * absolute one only in an output that is always loaded at one address. */
+    uint8_t has_fixed_distance;
+    uint8_t is_executable; /* The output is an executable, position-independent or not. */
+    /* x86-64: the sequence that computed the base of local-dynamic TLS for this relocation was
+     * rewritten to local-exec, so that the base is the thread pointer. */
+    uint8_t has_local_exec_base;
+    uint8_t may_compress; /* RISC-V: the code may use instructions of the C extension. */
+    uint8_t is_marked; /* RISC-V: R_RISCV_RELAX is at the same offset. */
+    /* The addresses in `operands` are known. Where they are not, a rewrite that depends on a
+     * distance is not chosen; another is, and its value may turn out to be out of reach. */
+    uint8_t has_addresses;
+    /* Those of the relocation before the rewrite. The addend is always read. */
+    struct linker_utils_operands operands;
+};
+
+/* A rewrite, and what becomes of the relocations. */
+struct linker_utils_choice {
+    uint32_t rewrite; /* By the machine's enum of rewrites; its NO_OP where none is chosen. */
+    uint32_t relocation; /* The type of the relocation that is then written. */
+    uint32_t modifier; /* What happens to the next one, by `enum linker_utils_modifier`. */
+    /* The bytes that are to be deleted after the rewrite: this many, from so many bytes after the
+     * offset on. */
+    uint32_t deleted_start;
+    uint32_t deleted_len;
+    uint8_t n; /* The rewrite's `n`. */
+};
+
+/* The rewrite of the instruction at a relocation that the psABI allows by these facts, and the
+ * relocation after it, into `choice`. `linker_utils_matches` of the rewrite then returns
+ * LINKER_UTILS_OK. Where no rewrite is allowed, or the bytes are not the instruction that the
+ * relocation's name asks for, it is NO_OP and the same relocation. NO_OP and another relocation are
+ * possible: the `adrp` of a pair. The two halves of a pair, and the instructions of a TLS sequence,
+ * are chosen alike where the facts and the symbol are the same. */
+static inline uint32_t linker_utils_choose(uint16_t machine, uint32_t r_type,
+                                           const uint8_t *section, size_t section_len,
+                                           uint64_t offset,
+                                           const struct linker_utils_link_facts *facts,
+                                           struct linker_utils_choice *choice);
+
 /* The values of a relocation that can be written. */
 struct linker_utils_relocation_reach {
     /* The least value, and the first above the greatest; both 0 where every value can be

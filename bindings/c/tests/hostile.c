@@ -526,6 +526,32 @@ static void call_matches(void) {
     finish_with(status, 0 NO_REWRITE OR(DOES_NOT_MATCH));
 }
 
+/* What is chosen matches. */
+static void call_choose(void) {
+    uint16_t machine = any_machine();
+    uint32_t r_type = any_relocation_type();
+    struct buffer *section = bytes(READ, any_section_len());
+    uint64_t offset = any_offset(section->len);
+    struct buffer *given = place(READ, 1, sizeof(struct linker_utils_link_facts));
+    struct linker_utils_link_facts *facts = filled(given);
+    uint64_t *operand = &facts->operands.symbol;
+    for (size_t i = 0; i < sizeof facts->operands / sizeof *operand; i++) operand[i] = any_number();
+    for (uint8_t *fact = &facts->is_local; fact <= &facts->has_addresses; fact++)
+        *fact = (uint8_t)(once_in(8) ? any() : below(2));
+    if (once_in(2)) facts->operands.addend = -4;
+    struct linker_utils_choice *choice = output(sizeof *choice);
+    uint32_t status =
+        CALL(choose, machine, r_type, section->given, section->len, offset, given->given, choice);
+    if (status == LINKER_UTILS_OK) {
+        uint32_t meant = CALL(matches, machine, choice->rewrite, choice->n, section->given,
+                              section->len, offset);
+        expect(meant == LINKER_UTILS_OK, "a choice that doesn't match");
+        expect(choice->modifier <= 1 && choice->deleted_start <= 4 && choice->deleted_len <= 6,
+               "no choice's numbers");
+    }
+    finish_with(status, 0 OR(UNKNOWN_ARCHITECTURE));
+}
+
 static void call_next_modifier(void) {
     uint16_t machine = any_machine();
     uint32_t *modifier = output(sizeof(uint32_t));
@@ -935,6 +961,7 @@ static void call_shrink_calls(void) {
 
 static void (*const all[])(void) = {
     call_status_text, call_window, call_write, call_read, call_apply, call_matches,
+    call_choose,
     call_next_modifier, call_relocation, call_relocation_name, call_value, call_reach, call_relocate,
     call_relocate_all,
     call_clui_rel_info, call_jal_site, call_jal_site_with, call_relax_call,

@@ -122,6 +122,54 @@ pub struct Operands {
     pub tls_base: u64,
 }
 
+/// What a linker knows of a relocation's symbol and of its output when it chooses a rewrite. Each
+/// field is explained at `struct linker_utils_link_facts` in `include/linker_utils.h`.
+#[derive(Debug, Clone, Copy, Default, PartialEq, Eq)]
+pub struct LinkFacts {
+    pub is_local: bool,
+    pub is_ifunc: bool,
+    pub is_undefined_weak: bool,
+    pub has_fixed_address: bool,
+    pub has_fixed_distance: bool,
+    pub is_executable: bool,
+    pub has_local_exec_base: bool,
+    pub may_compress: bool,
+    pub is_marked: bool,
+    pub has_addresses: bool,
+    pub operands: Operands,
+}
+
+impl From<&LinkFacts> for raw::LinkFacts {
+    fn from(facts: &LinkFacts) -> raw::LinkFacts {
+        raw::LinkFacts {
+            is_local: facts.is_local.into(),
+            is_ifunc: facts.is_ifunc.into(),
+            is_undefined_weak: facts.is_undefined_weak.into(),
+            has_fixed_address: facts.has_fixed_address.into(),
+            has_fixed_distance: facts.has_fixed_distance.into(),
+            is_executable: facts.is_executable.into(),
+            has_local_exec_base: facts.has_local_exec_base.into(),
+            may_compress: facts.may_compress.into(),
+            is_marked: facts.is_marked.into(),
+            has_addresses: facts.has_addresses.into(),
+            operands: facts.operands,
+        }
+    }
+}
+
+/// A rewrite, and what becomes of the relocations.
+#[derive(Debug, Clone, PartialEq, Eq)]
+pub struct Choice {
+    pub rewrite: Rewrite,
+    /// The ELF type of the relocation that is then written.
+    pub relocation: u32,
+    /// What becomes of the next one.
+    pub modifier: Modifier,
+    /// The bytes that are to be deleted after the rewrite, counted from the offset; empty if none
+    /// are.
+    pub deleted: Range<u32>,
+}
+
 /// A relocation of a section: where it writes, its value and its ELF type.
 #[repr(C)]
 #[derive(Debug, Clone, Copy, Default, PartialEq, Eq)]
@@ -268,6 +316,31 @@ pub fn next_modifier(rewrite: impl Into<Rewrite>) -> Result<Modifier, Status> {
     let status = unsafe { raw::linker_utils_next_modifier(machine, rewrite, n, &mut modifier) };
     let modifier = Modifier::from_number(modifier).expect("a modifier of the library's");
     result_of(status, modifier)
+}
+
+/// The rewrite of the instruction at a relocation that the psABI allows by these facts, and the
+/// relocation after it.
+pub fn choose(
+    architecture: Architecture,
+    r_type: u32,
+    section: &[u8],
+    offset: u64,
+    facts: &LinkFacts,
+) -> Result<Choice, Status> {
+    let (at, len) = (section.as_ptr(), section.len());
+    let (machine, facts) = (architecture.machine(), raw::LinkFacts::from(facts));
+    let mut choice = raw::Choice::default();
+    let status = unsafe {
+        raw::linker_utils_choose_nonnull(machine, r_type, at, len, offset, &facts, &mut choice)
+    };
+    result_of(status, ())?;
+    Ok(Choice {
+        rewrite: Rewrite::from_numbers(architecture, choice.rewrite, choice.n)
+            .expect("a rewrite of the library's"),
+        relocation: choice.relocation,
+        modifier: Modifier::from_number(choice.modifier).expect("a modifier of the library's"),
+        deleted: choice.deleted_start..choice.deleted_start + choice.deleted_len,
+    })
 }
 
 /// What the relocation of an ELF type means.

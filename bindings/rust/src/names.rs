@@ -234,6 +234,23 @@ pub enum Rewrite {
 
 impl Rewrite {
     #[inline]
+    pub(crate) fn from_numbers(
+        architecture: Architecture,
+        number: u32,
+        bytes_before: u8,
+    ) -> Option<Rewrite> {
+        match architecture {
+            Architecture::AArch64 => AArch64Rewrite::from_number(number).map(Rewrite::from),
+            Architecture::RiscV => RiscVRewrite::from_number(number).map(Rewrite::from),
+            Architecture::LoongArch64 => LoongArch64Rewrite::from_number(number).map(Rewrite::from),
+            Architecture::Ppc64 => Ppc64Rewrite::from_number(number).map(Rewrite::from),
+            Architecture::X86_64 => {
+                X86_64Rewrite::from_numbers(number, bytes_before).map(Rewrite::from)
+            }
+        }
+    }
+
+    #[inline]
     pub(crate) const fn numbers(self) -> (u16, u32, u8) {
         match self {
             Rewrite::AArch64(rewrite) => (Architecture::AArch64.machine(), rewrite.number(), 0),

@@ -33,6 +33,35 @@ pub struct Reach {
     pub has_range: u8,
 }
 
+/// `struct linker_utils_link_facts`.
+#[repr(C)]
+#[derive(Debug, Clone, Copy, Default, PartialEq, Eq)]
+pub struct LinkFacts {
+    pub is_local: u8,
+    pub is_ifunc: u8,
+    pub is_undefined_weak: u8,
+    pub has_fixed_address: u8,
+    pub has_fixed_distance: u8,
+    pub is_executable: u8,
+    pub has_local_exec_base: u8,
+    pub may_compress: u8,
+    pub is_marked: u8,
+    pub has_addresses: u8,
+    pub operands: Operands,
+}
+
+/// `struct linker_utils_choice`.
+#[repr(C)]
+#[derive(Debug, Clone, Copy, Default, PartialEq, Eq)]
+pub struct Choice {
+    pub rewrite: u32,
+    pub relocation: u32,
+    pub modifier: u32,
+    pub deleted_start: u32,
+    pub deleted_len: u32,
+    pub n: u8,
+}
+
 extern "C" {
     pub fn linker_utils_fits_nonnull(
         machine: u16,
@@ -99,6 +128,15 @@ extern "C" {
         r_type: u32,
         operands: *const Operands,
         value: *mut i64,
+    ) -> u32;
+    pub fn linker_utils_choose_nonnull(
+        machine: u16,
+        r_type: u32,
+        section: *const u8,
+        section_len: usize,
+        offset: u64,
+        facts: *const LinkFacts,
+        choice: *mut Choice,
     ) -> u32;
     pub fn linker_utils_reach(machine: u16, r_type: u32, reach: *mut Reach) -> u32;
     pub fn linker_utils_relocate_nonnull(
