@@ -519,10 +519,10 @@ struct linker_utils_choice {
     uint32_t rewrite; /* By the machine's enum of rewrites; its NO_OP where none is chosen. */
     uint32_t relocation; /* The type of the relocation that is then written. */
     uint32_t modifier; /* What happens to the next one, by `enum linker_utils_modifier`. */
-    /* The bytes that are to be deleted after the rewrite: this many, from so many bytes after the
-     * offset on. */
-    uint32_t deleted_start;
+    /* How many bytes are to be deleted after the rewrite, and where they begin from the offset on;
+     * both 0 where none are. */
     uint32_t deleted_len;
+    uint64_t deleted_start;
     uint8_t n; /* The rewrite's `n`. */
 };
 

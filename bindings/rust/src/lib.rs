@@ -167,7 +167,7 @@ pub struct Choice {
     pub modifier: Modifier,
     /// The bytes that are to be deleted after the rewrite, counted from the offset; empty if none
     /// are.
-    pub deleted: Range<u32>,
+    pub deleted: Range<u64>,
 }
 
 /// A relocation of a section: where it writes, its value and its ELF type.
@@ -339,7 +339,7 @@ pub fn choose(
             .expect("a rewrite of the library's"),
         relocation: choice.relocation,
         modifier: Modifier::from_number(choice.modifier).expect("a modifier of the library's"),
-        deleted: choice.deleted_start..choice.deleted_start + choice.deleted_len,
+        deleted: choice.deleted_start..choice.deleted_start + u64::from(choice.deleted_len),
     })
 }
 

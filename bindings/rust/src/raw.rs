@@ -57,8 +57,8 @@ pub struct Choice {
     pub rewrite: u32,
     pub relocation: u32,
     pub modifier: u32,
-    pub deleted_start: u32,
     pub deleted_len: u32,
+    pub deleted_start: u64,
     pub n: u8,
 }
 

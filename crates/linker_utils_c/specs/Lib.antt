@@ -1,3 +1,4 @@
+pub mod Choices
 pub mod Deltas
 pub mod Forms
 pub mod Packing

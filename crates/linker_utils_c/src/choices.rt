@@ -1,18 +1,20 @@
 //! Which rewrite a linker chooses, by `e_machine` and `r_type` of ELF files.
 
-ghost use Rattle.std.specs.Prelude.{◌≡◌, ◌≢◌, IfSome, IfNone};
-ghost use Rattle.linker_utils.specs.declared.architecture.ArchitectureChoice.{ArchitectureChoice};
-ghost use Rattle.linker_utils.specs.Architectures.{IsArchitectureChoice};
+ghost use Rattle.std.specs.Prelude.{◌≡◌, ℕ, IfSome, IfNone, Some};
+ghost use Rattle.linker_utils.specs.Architectures.{IsArchitectureChoice, relaxation_architecture};
 ghost use Rattle.linker_utils.specs.Elf.{architecture_of};
-ghost use Rattle.linker_utils_c.specs.Choices.{facts_of, IsChoiceReturned, modifier_number};
+ghost use Rattle.linker_utils.specs.declared.architecture.Relaxation.{Relaxation};
+ghost use Rattle.linker_utils.specs.declared.elf.choice.Choice.{Choice};
+ghost use Rattle.linker_utils_c.specs.Choices.{is_set, facts_of, IsChoiceInNumbers};
 ghost use Rattle.linker_utils_c.specs.Status.{code};
 
+use crate::rewrites::number_of;
 use crate::status::Status;
-use linker_utils::elf::{Architecture, InstructionRewrite, LinkFacts, Operands};
-use linker_utils::relaxation::RelocationModifier;
+use linker_utils::architecture::Relaxation;
+use linker_utils::elf::{Architecture, Choice, InstructionRewrite, LinkFacts, Operands};
 
-/// What a linker knows of a relocation's symbol and of its output. A fact holds where its number is
-/// not 0.
+/// What a linker knows of a relocation's symbol and of its output: `LinkFacts`. A fact holds where
+/// its number is not 0.
 #[repr(C)]
 #[derive(Clone, Copy)]
 pub struct LinkFactNumbers {
@@ -39,10 +41,76 @@ pub struct ChoiceNumbers {
     pub relocation: u32,
     /// What becomes of the next relocation: 1 if it is skipped, else 0.
     pub modifier: u32,
-    /// Where the bytes that are to be deleted begin, from the offset on.
-    pub deleted_start: u32,
-    /// How many they are; 0 if none are.
+    /// How many bytes are to be deleted after the rewrite.
     pub deleted_len: u32,
+    /// Where they begin, from the offset on.
+    pub deleted_start: u64,
     /// The rewrite's count of bytes before the field; 0 if it has none.
     pub n: u8,
+}
+
+impl LinkFactNumbers {
+    #[inline(always)]
+    fn facts(&self) -> LinkFacts
+        ensures { result ≡ facts_of self.now }
+    {
+        LinkFacts {
+            is_local: self.is_local != 0,
+            is_ifunc: self.is_ifunc != 0,
+            is_undefined_weak: self.is_undefined_weak != 0,
+            has_fixed_address: self.has_fixed_address != 0,
+            has_fixed_distance: self.has_fixed_distance != 0,
+            is_executable: self.is_executable != 0,
+            has_local_exec_base: self.has_local_exec_base != 0,
+            may_compress: self.may_compress != 0,
+            is_marked: self.is_marked != 0,
+            has_addresses: self.has_addresses != 0,
+            operands: self.operands,
+        }
+    }
+}
+
+#[inline(always)]
+fn in_numbers(chosen: Choice<Relaxation, u32>) -> ChoiceNumbers
+    ensures { IsChoiceInNumbers (relaxation_architecture chosen.kind) chosen result }
+{
+    let (rewrite, n) = chosen.kind.number();
+    let (deleted_start, deleted_len) = match chosen.kind.deleted() {
+        Some(bytes) => (bytes.start, bytes.count),
+        None => (0, 0),
+    };
+    ChoiceNumbers {
+        rewrite,
+        relocation: chosen.relocation,
+        modifier: number_of(chosen.kind.next_modifier()),
+        deleted_len,
+        deleted_start,
+        n,
+    }
+}
+
+/// Which rewrite a linker makes of the instruction at a relocation, and the relocation after it.
+/// `UnknownArchitecture`.
+#[unsafe(no_mangle)]
+pub extern "C" fn linker_utils_choose_nonnull(
+    machine: u16,
+    r_type: u32,
+    section: &[u8],
+    offset: u64,
+    facts: &LinkFactNumbers,
+    choice: &mut ChoiceNumbers,
+) -> u32
+    ensures known { IfSome (architecture_of machine) (λ architecture. (result ≡ code Status.Success)
+        × (chosen : Choice Relaxation ℕ)
+        × IsArchitectureChoice architecture r_type section.now offset (facts_of facts.now) chosen
+        × IsChoiceInNumbers architecture chosen choice.new) }
+    ensures unknown { IfNone (architecture_of machine)
+        ((result ≡ code Status.UnknownArchitecture) × (choice.new ≡ choice.old)) }
+{
+    let Some(architecture) = Architecture::from_machine(machine) else {
+        return Status::UnknownArchitecture.number();
+    };
+    let chosen = architecture.choose(r_type, section, offset, &facts.facts());
+    *choice = in_numbers(chosen);
+    Status::Success.number()
 }

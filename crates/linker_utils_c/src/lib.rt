@@ -2,6 +2,7 @@
 #![tactic(auto)]
 
 mod calls;
+mod choices;
 mod deltas;
 mod forms;
 mod heads;

@@ -56,6 +56,16 @@ fn apply_by<R: InstructionRewrite>(
     Status::Success
 }
 
+#[inline(always)]
+pub(crate) fn number_of(modifier: RelocationModifier) -> u32
+    ensures { result ≡ modifier_number modifier }
+{
+    match modifier {
+        RelocationModifier::Normal => 0,
+        RelocationModifier::SkipNextRelocation => 1,
+    }
+}
+
 // What becomes of the relocation after a rewrite, if there is one.
 #[inline(always)]
 fn modifier_by<R: InstructionRewrite>(rewrite: Option<R>, modifier: &mut u32) -> Status
@@ -67,10 +77,7 @@ fn modifier_by<R: InstructionRewrite>(rewrite: Option<R>, modifier: &mut u32) ->
     let Some(named) = rewrite else {
         return Status::UnknownRewrite;
     };
-    *modifier = match named.next_modifier() {
-        RelocationModifier::Normal => 0,
-        RelocationModifier::SkipNextRelocation => 1,
-    };
+    *modifier = number_of(named.next_modifier());
     Status::Success
 }
 

@@ -1,0 +1,46 @@
+-- What a linker knows, and what it chooses, in the numbers that C sees.
+use Rattle.std.specs.Prelude.{◌≡◌, ℕ, ◌==◌, not, Option, None, Some, Bool}
+use Rattle.linker_utils.specs.Architectures.{rewrite_of_number, relaxation_modifier}
+use Rattle.linker_utils.specs.Architectures.{relaxation_deleted}
+use Rattle.linker_utils.specs.declared.architecture.Relaxation.{Relaxation}
+use Rattle.linker_utils.specs.declared.elf.Architecture.{Architecture}
+use Rattle.linker_utils.specs.declared.elf.choice.Choice.{Choice}
+use Rattle.linker_utils.specs.declared.elf.choice.LinkFacts.{LinkFacts}
+use Rattle.linker_utils.specs.declared.riscv64.rewrites.DeletedBytes.{DeletedBytes}
+use Rattle.linker_utils_c.specs.declared.choices.ChoiceNumbers.{ChoiceNumbers}
+use Rattle.linker_utils_c.specs.declared.choices.LinkFactNumbers.{LinkFactNumbers}
+use Rattle.linker_utils_c.specs.Rewrites.{modifier_number}
+
+-- a number that isn't 0 is true
+abbrev pub is_set : ℕ → Bool
+is_set n = not (n == 0)
+
+abbrev pub facts_of : LinkFactNumbers → LinkFacts
+facts_of facts =
+    record {
+      is_local = is_set facts.is_local;
+      is_ifunc = is_set facts.is_ifunc;
+      is_undefined_weak = is_set facts.is_undefined_weak;
+      has_fixed_address = is_set facts.has_fixed_address;
+      has_fixed_distance = is_set facts.has_fixed_distance;
+      is_executable = is_set facts.is_executable;
+      has_local_exec_base = is_set facts.has_local_exec_base;
+      may_compress = is_set facts.may_compress;
+      is_marked = is_set facts.is_marked;
+      has_addresses = is_set facts.has_addresses;
+      operands = facts.operands;
+    }
+
+-- the bytes to be deleted; 0 of them where there are none
+abbrev pub IsDeleted : Option DeletedBytes → ChoiceNumbers → Type 0
+IsDeleted None numbers = (numbers.deleted_start ≡ 0) × (numbers.deleted_len ≡ 0)
+IsDeleted (Some bytes) numbers =
+    (numbers.deleted_start ≡ bytes.start) × (numbers.deleted_len ≡ bytes.count)
+
+-- a choice for an architecture, in numbers
+pub record IsChoiceInNumbers (architecture : Architecture) (chosen : Choice Relaxation ℕ)
+    (numbers : ChoiceNumbers) : Type 0 where
+  pub rewrite : rewrite_of_number architecture numbers.rewrite numbers.n ≡ Some chosen.kind
+  pub relocation : numbers.relocation ≡ chosen.relocation
+  pub modifier : numbers.modifier ≡ modifier_number (relaxation_modifier chosen.kind)
+  pub deleted : IsDeleted (relaxation_deleted chosen.kind) numbers
