@@ -491,23 +491,24 @@ fn opcode_before(section: &[u8], offset: u64) -> u8
 
 /// The rewrite that a linker makes of the instruction or the sequence with a relocation, and the
 /// relocation whose value it then writes: the first that applies of those in the x86-64 psABI,
-/// "Optimize GOTPCRELX Relocations" and "ELF Handling For Thread-Local Storage". Where none applies,
-/// and for names for which there is none, it is `NoOp` and the same name. The offset is that of the
-/// relocation in the section. Any bytes and any offset may be passed, and the rewrite can be applied.
+/// "Optimize GOTPCRELX Relocations" and "ELF Handling For Thread-Local Storage". Where none
+/// applies, and for names for which there is none, it is `NoOp` and the same name. The offset is
+/// that of the relocation in the section. Any bytes and any offset may be passed, and the rewrite
+/// can be applied there.
 ///
-/// The addend is always read. For fields that an instruction reads relative to its end it has to be
-/// -4, and with another nothing is rewritten. Addresses are read where `has_addresses` says that
-/// they are known. A `mov` of an address becomes one of an immediate only where they are known, and
-/// else a `lea`.
+/// The addend is always read. Where the field's value counts from its end it has to be -4, and with
+/// another addend nothing is rewritten. Addresses are read where `has_addresses` says that they are
+/// known. A `mov` takes an address as its immediate only where it is known, and otherwise becomes a
+/// `lea`.
 ///
 /// The `lea` and the call of a TLS descriptor have relocations of their own, and are chosen one by
-/// one, by the same facts. The call is rewritten in every executable; the `lea` is not where its bytes
-/// are others, or where its value is out of reach. The linker has to see that both are rewritten, or
-/// neither. `R_X86_64_DTPOFF32` and `R_X86_64_DTPOFF64` are replaced only with
+/// one, by the same facts. The call is rewritten in every executable. The `lea` is not, where it is
+/// another instruction or its value is out of reach. The linker has to see that both are rewritten,
+/// or neither. `R_X86_64_DTPOFF32` and `R_X86_64_DTPOFF64` are replaced only with
 /// `has_local_exec_base`, since a linker knows which sequence computed their base.
 ///
-/// Bytes before the instruction are not tested. So a prefix 0x66, of operands of 16 bits, is not seen
-/// before an instruction of `R_X86_64_GOTPCRELX`; no compiler writes one.
+/// Bytes before the instruction are not tested. So a prefix 0x66, of operands of 16 bits, is not
+/// seen before an instruction of `R_X86_64_GOTPCRELX`; no compiler writes one.
 ///
 /// ```
 /// use linker_utils::elf::{LinkFacts, Operands};
