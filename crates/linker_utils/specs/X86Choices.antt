@@ -2,12 +2,13 @@
 -- "ELF Handling For Thread-Local Storage", "x86-64").
 use Rattle.std.specs.Prelude.{ℕ, ◌-◌, ◌==◌, if◌then◌else◌, IsTrue, List, [], ◌∷◌, ◌++◌, slice_index}
 use Rattle.std.specs.Prelude.{pos, neg_ℤ}
-use Rattle.linker_utils.specs.Choices.{Condition, Entry, entry, choice, operands_after, AllHold, IsFirst}
+use Rattle.linker_utils.specs.Choices.{Condition, Entry, entry, choice, operands_after}
+use Rattle.linker_utils.specs.Choices.{AllHold, IsFirst}
 use Rattle.linker_utils.specs.Choices.{bound, weak_zero, fixed_address, fixed_distance, executable}
 use Rattle.linker_utils.specs.Choices.{local_exec_base, addend, in_reach, in_reach_if_known}
 use Rattle.linker_utils.specs.X86.{x86_64_rewrite}
-use Rattle.linker_utils.specs.X86Originals.{Original, original, is_one_at, legacy, lea_of_descriptor}
-use Rattle.linker_utils.specs.X86Originals.{x86_64_matches}
+use Rattle.linker_utils.specs.X86Originals.{Original, original, is_one_at, legacy}
+use Rattle.linker_utils.specs.X86Originals.{lea_of_descriptor, x86_64_matches}
 use Rattle.linker_utils.specs.X86Relocations.{x86_64_row}
 use Rattle.linker_utils.specs.X86RelocationsAfter.{immediate_of}
 use Rattle.linker_utils.specs.declared.elf.choice.Choice.{Choice}
@@ -165,7 +166,8 @@ x86_64_table name opcode = any_entry []
 abbrev pub X86Applies : List ℕ → ℕ → LinkFacts → X86Entry → Type 0
 X86Applies section o facts e =
     x86_64_matches e.kind section o
-    × AllHold x86_64_row (operands_after (x86_64_rewrite e.kind) o facts.operands) facts e.conditions
+    × AllHold x86_64_row (operands_after (x86_64_rewrite e.kind) o facts.operands) facts
+    e.conditions
 
 abbrev pub IsByTable : Table → X86_64Relocation → List ℕ → ℕ → LinkFacts
     → Choice RelaxationKind X86_64Relocation → Type 0

@@ -105,12 +105,18 @@ fn can_reach(kind: RelaxationKind, after: X86_64Relocation, offset: u64, facts: 
     )
 }
 
-/// Whether the symbol's address is that of a definition in this output, or 0.
+/// Whether an operand can be the symbol's address, that of a definition in this output or 0, which
+/// is the same wherever the output is loaded.
 #[inline(always)]
-fn is_bound_or_zero(facts: &LinkFacts) -> bool
-    ensures { IsTrue result ↔ (choices.IsBound facts.now ⊎ (facts.now.is_undefined_weak ≡ true)) }
+fn has_address(facts: &LinkFacts) -> bool
+    ensures { IsTrue result
+        ↔ ((choices.IsBound facts.now ⊎ (facts.now.is_undefined_weak ≡ true))
+        × choices.AllHold x86_64_row facts.now.operands facts.now
+        (choices.fixed_address ∷ entries.from_end_of_field ∷ [])) }
 {
-    facts.is_bound() || facts.is_undefined_weak
+    (facts.is_bound() || facts.is_undefined_weak)
+        && facts.has_fixed_address
+        && facts.operands.addend == -4
 }
 
 /// Whether an operand can become the symbol's address, which is in reach if it is known.
@@ -127,11 +133,7 @@ fn can_take_address(
         × X86Applies section.now offset facts.now
         (choices.entry kind after (entries.of_address (choices.in_reach_if_known after 0)))) }
 {
-    is_bound_or_zero(facts)
-        && facts.has_fixed_address
-        && facts.operands.addend == -4
-        && kind.matches(section, offset)
-        && can_reach(kind, after, offset, facts)
+    has_address(facts) && kind.matches(section, offset) && can_reach(kind, after, offset, facts)
 }
 
 /// Whether an operand can become the distance to the symbol, which is in reach if it is known.
@@ -168,6 +170,18 @@ fn can_be_initial_exec(kind: RelaxationKind, section: &[u8], offset: u64, facts:
         && facts.operands.addend == -4
         && kind.matches(section, offset)
         && can_reach(kind, X86_64Relocation::R_X86_64_GOTTPOFF, offset, facts)
+}
+
+/// Whether an offset in the module's TLS block can become one from the thread pointer.
+#[inline]
+fn can_be_from_thread_pointer(after: X86_64Relocation, offset: u64, facts: &LinkFacts) -> bool
+    ensures { IsTrue result ↔ choices.AllHold x86_64_row
+        (choices.operands_after (x86_64_rewrite RelaxationKind.NoOp) offset facts.now.operands)
+        facts.now (entries.from_thread_pointer after).conditions }
+{
+    facts.is_executable
+        && facts.has_local_exec_base
+        && can_reach(RelaxationKind::NoOp, after, offset, facts)
 }
 
 /// The rewrite of a `mov` through the GOT.
@@ -469,12 +483,13 @@ fn choose_for_offset(
     ensures { IsByTable (entries.any_entry (entries.from_thread_pointer after ∷ []))
         name section.now offset facts.now result }
 {
-    let is_from_thread_pointer = facts.is_executable
-        && facts.has_local_exec_base
-        && can_reach(RelaxationKind::NoOp, after, offset, facts);
-    Choice {
-        kind: RelaxationKind::NoOp,
-        relocation: if is_from_thread_pointer { after } else { name },
+    if can_be_from_thread_pointer(after, offset, facts) {
+        Choice {
+            kind: RelaxationKind::NoOp,
+            relocation: after,
+        }
+    } else {
+        unchanged(name)
     }
 }
 
@@ -491,23 +506,24 @@ fn opcode_before(section: &[u8], offset: u64) -> u8
 
 /// The rewrite that a linker makes of the instruction or the sequence with a relocation, and the
 /// relocation whose value it then writes: the first that applies of those in the x86-64 psABI,
-/// "Optimize GOTPCRELX Relocations" and "ELF Handling For Thread-Local Storage". Where none applies,
-/// and for names for which there is none, it is `NoOp` and the same name. The offset is that of the
-/// relocation in the section. Any bytes and any offset may be passed, and the rewrite can be applied.
+/// "Optimize GOTPCRELX Relocations" and "ELF Handling For Thread-Local Storage". Where none
+/// applies, and for names for which there is none, it is `NoOp` and the same name. The offset is
+/// that of the relocation in the section. Any bytes and any offset may be passed, and the rewrite
+/// can be applied there.
 ///
-/// The addend is always read. For fields that an instruction reads relative to its end it has to be
-/// -4, and with another nothing is rewritten. Addresses are read where `has_addresses` says that
-/// they are known. A `mov` of an address becomes one of an immediate only where they are known, and
-/// else a `lea`.
+/// The addend is always read. Where the field's value counts from its end it has to be -4, and with
+/// another addend nothing is rewritten. Addresses are read where `has_addresses` says that they are
+/// known. A `mov` takes an address as its immediate only where it is known, and otherwise becomes a
+/// `lea`.
 ///
 /// The `lea` and the call of a TLS descriptor have relocations of their own, and are chosen one by
-/// one, by the same facts. The call is rewritten in every executable; the `lea` is not where its bytes
-/// are others, or where its value is out of reach. The linker has to see that both are rewritten, or
-/// neither. `R_X86_64_DTPOFF32` and `R_X86_64_DTPOFF64` are replaced only with
+/// one, by the same facts. The call is rewritten in every executable. The `lea` is not, where it is
+/// another instruction or its value is out of reach. The linker has to see that both are rewritten,
+/// or neither. `R_X86_64_DTPOFF32` and `R_X86_64_DTPOFF64` are replaced only with
 /// `has_local_exec_base`, since a linker knows which sequence computed their base.
 ///
-/// Bytes before the instruction are not tested. So a prefix 0x66, of operands of 16 bits, is not seen
-/// before an instruction of `R_X86_64_GOTPCRELX`; no compiler writes one.
+/// Bytes before the instruction are not tested. So a prefix 0x66, of operands of 16 bits, is not
+/// seen before an instruction of `R_X86_64_GOTPCRELX`; no compiler writes one.
 ///
 /// ```
 /// use linker_utils::elf::{LinkFacts, Operands};
