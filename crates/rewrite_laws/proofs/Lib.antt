@@ -1,0 +1,4 @@
+pub mod RiscVCalls
+pub mod RiscVJumps
+pub mod RiscVMachine
+pub mod Words

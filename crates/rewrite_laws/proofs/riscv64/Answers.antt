@@ -1,0 +1,12 @@
+-- The laws of RISC-V.
+use Rattle.rewrite_laws.proofs.RiscVCalls.{call_becomes_jal, tail_becomes_jal, tail_becomes_cj}
+use Rattle.rewrite_laws.proofs.riscv64.Goals as goal
+
+pub returns-clause-calls : goal.returns-clause-calls
+returns-clause-calls c = (call_becomes_jal, call_becomes_jal)
+
+pub returns-clause-tail_calls : goal.returns-clause-tail_calls
+returns-clause-tail_calls c = (tail_becomes_jal, tail_becomes_jal)
+
+pub returns-clause-short_tail_calls : goal.returns-clause-short_tail_calls
+returns-clause-short_tail_calls c = (tail_becomes_cj, tail_becomes_cj)
