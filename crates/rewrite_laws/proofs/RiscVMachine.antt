@@ -179,3 +179,16 @@ unwritten n h q = both (q == 0) (h.integers q)
     both : (b : Bool) (m : ℕ) → (if b then 0 else (if b then n else m)) ≡ (if b then 0 else m)
     both true m = refl
     both false m = refl
+
+-- the same is written to both
+pub same_written : (rd n : ℕ) (h k : Hart) (q : ℕ)
+    → ((q == rd) ≡ false → register h q ≡ register k q)
+    → register (with_integer rd n h) q ≡ register (with_integer rd n k) q
+same_written rd n h k q same = both (q == rd) refl
+  where
+    both : (b : Bool) → (q == rd) ≡ b
+        → register (with_integer rd n h) q ≡ register (with_integer rd n k) q
+    both true e =
+        ap (λ b. if q == 0 then 0 else (if b then n else h.integers q)) e
+        ∙ sym (ap (λ b. if q == 0 then 0 else (if b then n else k.integers q)) e)
+    both false e = other rd n h q e ∙ same e ∙ sym (other rd n k q e)

@@ -12,4 +12,6 @@ pub fn riscv64()
     ensures calls { riscv_laws.Calls }
     ensures tail_calls { riscv_laws.TailCalls }
     ensures short_tail_calls { riscv_laws.ShortTailCalls }
+    ensures short_high_parts { riscv_laws.LuiBecomesClui }
+    ensures no_high_parts { riscv_laws.LuiIsDeleted }
 {}

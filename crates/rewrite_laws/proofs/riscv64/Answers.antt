@@ -1,5 +1,6 @@
 -- The laws of RISC-V.
 use Rattle.rewrite_laws.proofs.RiscVCalls.{call_becomes_jal, tail_becomes_jal, tail_becomes_cj}
+use Rattle.rewrite_laws.proofs.RiscVLuis.{lui_becomes_clui, lui_is_deleted}
 use Rattle.rewrite_laws.proofs.riscv64.Goals as goal
 
 pub returns-clause-calls : goal.returns-clause-calls
@@ -10,3 +11,9 @@ returns-clause-tail_calls c = (tail_becomes_jal, tail_becomes_jal)
 
 pub returns-clause-short_tail_calls : goal.returns-clause-short_tail_calls
 returns-clause-short_tail_calls c = (tail_becomes_cj, tail_becomes_cj)
+
+pub returns-clause-short_high_parts : goal.returns-clause-short_high_parts
+returns-clause-short_high_parts c = lui_becomes_clui
+
+pub returns-clause-no_high_parts : goal.returns-clause-no_high_parts
+returns-clause-no_high_parts c = lui_is_deleted
