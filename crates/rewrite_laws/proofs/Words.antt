@@ -80,6 +80,18 @@ rewritten_there s o len k n bytes inside put =
     (let e : o ≡ o - 0 = omega arith in e)
     (left_there s (bytes (take len (drop o s))) (drop (o + len) s) o k n inside put)
 
+-- the same where nothing is deleted
+pub put_there : (s : List ℕ) (o len : ℕ) (bytes : List ℕ → List ℕ) → o ≤ length s
+    → drop o (rewritten (Some (replaces 0 len bytes)) s o)
+    ≡ bytes (take len (drop o s)) ++ drop (o + len) s
+put_there s o len bytes inside =
+    let front : length (take o s) ≡ o = length-take o s ∙ omega arith in
+    subst (λ z. drop o (take z s ++ bytes (take len (drop z s)) ++ drop (z + len) s)
+    ≡ bytes (take len (drop o s)) ++ drop (o + len) s)
+    (let e : o ≡ o - 0 = omega arith in e)
+    (ap (drop o) (append_assoc (take o s) (bytes (take len (drop o s))) (drop (o + len) s))
+    ∙ drop_at (take o s) (bytes (take len (drop o s)) ++ drop (o + len) s) o front)
+
 -- ---- what a write keeps
 
 module _ (f : RiscVInstruction) (bits : BitRange) (v : ℤ) (before after : List ℕ)

@@ -14,4 +14,5 @@ pub fn riscv64()
     ensures short_tail_calls { riscv_laws.ShortTailCalls }
     ensures short_high_parts { riscv_laws.LuiBecomesClui }
     ensures no_high_parts { riscv_laws.LuiIsDeleted }
+    ensures low_parts { riscv_laws.LowPartFromZero }
 {}

@@ -1,5 +1,6 @@
 -- The laws of RISC-V.
 use Rattle.rewrite_laws.proofs.RiscVCalls.{call_becomes_jal, tail_becomes_jal, tail_becomes_cj}
+use Rattle.rewrite_laws.proofs.RiscVLowParts.{low_part_from_zero}
 use Rattle.rewrite_laws.proofs.RiscVLuis.{lui_becomes_clui, lui_is_deleted}
 use Rattle.rewrite_laws.proofs.riscv64.Goals as goal
 
@@ -17,3 +18,6 @@ returns-clause-short_high_parts c = lui_becomes_clui
 
 pub returns-clause-no_high_parts : goal.returns-clause-no_high_parts
 returns-clause-no_high_parts c = lui_is_deleted
+
+pub returns-clause-low_parts : goal.returns-clause-low_parts
+returns-clause-low_parts c = low_part_from_zero
