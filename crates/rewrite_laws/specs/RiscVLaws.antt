@@ -75,7 +75,7 @@ CallBecomesJal name =
     (AreCalled (rd_of (word_at section o)) (even plt_address x) (sum_64 x.place 8)
     (symbol_address y) (sum_64 y.place 4))
 
--- ---- tail calls
+-- ---- tail calls (psABI, "Compressed Tail Call Relaxation")
 
 -- Each hart is at the target of its layout. They are alike but for one register.
 pub record HaveJumped (scratch target new_target : ℕ) (a b : Hart) : Type 0 where
@@ -109,7 +109,7 @@ ShortTailCalls =
     TailCallBecomes names.R_RISCV_CALL kinds.TailToCJ names.R_RISCV_RVC_JUMP 2 6
     × TailCallBecomes names.R_RISCV_CALL_PLT kinds.TailToCJ names.R_RISCV_RVC_JUMP 2 6
 
--- ---- high parts (psABI, "LUI to C.LUI Relaxation", "Zero-page Relaxation")
+-- ---- high parts (psABI, "Compressed LUI Relaxation", "Zero-page Relaxation")
 
 -- S + A is a number of 12 bits in two's complement
 abbrev pub IsLow12 : Operands → Type 0
@@ -149,7 +149,7 @@ LuiIsDeleted =
     → EndSo 1 original h 0 new k
     (λ a b. HasZero (rd_of (word_at section o)) (sum_64 h.pc 4) a b × (b.pc ≡ k.pc))
 
--- ---- low parts
+-- ---- low parts (psABI, "Zero-page Relaxation")
 
 -- the relocation of a low part: stores have their own
 abbrev pub low_row : Action → Option RelocationKindInfo

@@ -116,8 +116,8 @@ of_clui rd immediate =
     if rd == 0 || rd == 2 then None else Some (lui rd immediate)
 
 -- that of a half of 16 bits: `c.nop`, `c.j`, and `c.lui`, which has neither x0 nor x2 and an
--- immediate other than 0 ("NOP Instruction", "Control Transfer Instructions", "Integer
--- Register-Immediate Operations" of "C" Extension)
+-- immediate other than 0 ("C" extension, "NOP Instruction", "Control Transfer Instructions",
+-- "Integer Constant-Generation Instructions")
 abbrev pub of_half : ℕ → Option Instruction
 of_half half =
     if half == 1 then Some (sums adds 0 0 0 (pos 0))

@@ -4,6 +4,7 @@
 //! `specs/`, over a machine that executes the instructions that rewrites read or write.
 #![tactic(auto)]
 
+ghost use Rattle.rewrite_laws.specs.RiscVExamples as riscv_examples;
 ghost use Rattle.rewrite_laws.specs.RiscVLaws as riscv_laws;
 
 /// RISC-V: a call that becomes `jal` and a tail call that becomes `jal` or `c.j` go to the target of
@@ -15,4 +16,7 @@ pub fn riscv64()
     ensures short_high_parts { riscv_laws.LuiBecomesClui }
     ensures no_high_parts { riscv_laws.LuiIsDeleted }
     ensures low_parts { riscv_laws.LowPartFromZero }
+    ensures words { riscv_examples.Words }
+    ensures halves { riscv_examples.Halves }
+    ensures execution { riscv_examples.Execution }
 {}

@@ -1,4 +1,6 @@
 -- The laws of RISC-V.
+use Rattle.std.proofs.Common.{refl}
+use Rattle.linker_base.specs.Form.{place_sum}
 use Rattle.rewrite_laws.proofs.RiscVCalls.{call_becomes_jal, tail_becomes_jal, tail_becomes_cj}
 use Rattle.rewrite_laws.proofs.RiscVLowParts.{low_part_from_zero}
 use Rattle.rewrite_laws.proofs.RiscVLuis.{lui_becomes_clui, lui_is_deleted}
@@ -21,3 +23,15 @@ returns-clause-no_high_parts c = lui_is_deleted
 
 pub returns-clause-low_parts : goal.returns-clause-low_parts
 returns-clause-low_parts c = low_part_from_zero
+
+pub returns-clause-words : goal.returns-clause-words
+unfolding place_sum
+returns-clause-words c = (refl, refl, refl, refl, refl, refl, refl, refl)
+
+pub returns-clause-halves : goal.returns-clause-halves
+unfolding place_sum
+returns-clause-halves c = (refl, refl, refl, refl, refl)
+
+pub returns-clause-execution : goal.returns-clause-execution
+returns-clause-execution c =
+    (refl, refl, refl, refl, refl, refl, refl, refl, refl, refl, refl, refl)
