@@ -29,12 +29,12 @@ use Rattle.linker_utils.specs.declared.riscv64.forms.RiscVInstruction.TheVariant
 use Rattle.linker_utils.specs.declared.riscv64.forms.RiscVInstruction.TheVariants.{SType, JType}
 use Rattle.linker_utils.proofs.Jumps.{word_of_front}
 use Rattle.relocation_laws.specs.RiscVLaws.{even}
-use Rattle.relocation_laws.specs.Schemes.{AreAddresses, IsApplied, symbol_address}
+use Rattle.relocation_laws.specs.Schemes.{IsApplied, symbol_address}
 use Rattle.relocation_laws.proofs.Applied.{value_is, taken_bits}
 use Rattle.relocation_laws.proofs.Sums.{sum_below, lifted_is}
 use Rattle.rewrite_laws.specs.Machine.{AreBytes, Memory, loaded, stored, moved, extended}
 use Rattle.rewrite_laws.specs.Machine.{Relocated}
-use Rattle.rewrite_laws.specs.RiscVLaws.{AreAlike, StoresAnother, GoOn, differs_after, EndSo}
+use Rattle.rewrite_laws.specs.RiscVLaws.{AreAlike, StoresTheSame, GoOn, differs_after, EndSo}
 use Rattle.rewrite_laws.specs.RiscVLaws.{after_rewrite, low_row, IsLow12, LowPartFromZero}
 use Rattle.rewrite_laws.specs.RiscVMachine.{Hart, register, with_integer, with_number, Action, adds}
 use Rattle.rewrite_laws.specs.RiscVMachine.{adds_word, jumps, loads, stores, loads_float}
@@ -84,7 +84,18 @@ alike_written rd rs1 v v' h k alike e q d =
     ap (λ n. register (with_integer rd n h) q) e
     ∙ same_written rd v' h k q (λ f. alike.integers q (not_both (q == rs1) (q == rd) d f))
 
-pub alike_used : (a : Action) (rd rs1 rs2 sum : ℕ) (h k : Hart) → StoresAnother a rs1 rs2
+-- what a store stores
+same_source : (rs1 rs2 : ℕ) (h k : Hart) → (rs2 ≡ rs1 → register h rs1 ≡ register k rs1)
+    → AreAlike (λ r. r == rs1) h k → register h rs2 ≡ register k rs2
+same_source rs1 rs2 h k same alike = both (rs2 == rs1) refl
+  where
+    both : (b : Bool) → (rs2 == rs1) ≡ b → register h rs2 ≡ register k rs2
+    both true e =
+        let at : rs2 ≡ rs1 = eqb-true rs2 rs1 e in
+        ap (register h) at ∙ same at ∙ ap (register k) (sym at)
+    both false e = alike.integers rs2 e
+
+pub alike_used : (a : Action) (rd rs1 rs2 sum : ℕ) (h k : Hart) → StoresTheSame a rs1 rs2 h k
     → AreAlike (λ r. r == rs1) h k
     → AreAlike (differs_after a rd rs1) (used 4 a rd rs2 sum h) (used 4 a rd rs2 sum k)
     × GoOn a rd (sum - sum % 2) (sum_64 h.pc 4) (sum_64 k.pc 4) (used 4 a rd rs2 sum h)
@@ -139,7 +150,7 @@ alike_used (stores f) rd rs1 rs2 sum h k apart alike = (
     floats = alike.floats;
     memory =
         same_stored (bytes_of f) (register h rs2) (register k rs2) sum h.memory k.memory
-        (alike.integers rs2 (let e : (rs2 == rs1) ≡ false = grind arith in e)) alike.memory;
+        (same_source rs1 rs2 h k apart alike) alike.memory;
   },
   (refl, refl),
 )
@@ -362,13 +373,12 @@ both_end : (a : Action) (rd rs1 rs2 : ℕ) (i : ℤ) (target : ℕ) (code code' 
     → field (from_le_bytes w32 code) 0 2 ≡ 3 → field (from_le_bytes w32 code') 0 2 ≡ 3
     → of_word (from_le_bytes w32 code) ≡ Some (sums a rd rs1 rs2 i)
     → of_word (from_le_bytes w32 code') ≡ Some (sums a rd 0 rs2 i)
-    → moved 0 i ≡ target → StoresAnother a rs1 rs2
-    → (h k : Hart) → h.pc < 2 ^ 64 → k.pc < 2 ^ 64 → AreAlike (λ r. r == rs1) h k
-    → register h rs1 ≡ 0
+    → moved 0 i ≡ target → (h k : Hart) → h.pc < 2 ^ 64 → k.pc < 2 ^ 64 → AreAlike (λ r. r == rs1) h k
+    → register h rs1 ≡ 0 → StoresTheSame a rs1 rs2 h k
     → EndSo 1 code h 1 code' k (λ e e'. AreAlike (differs_after a rd rs1) e e'
     × GoOn a rd (target - target % 2) (sum_64 h.pc 4) (sum_64 k.pc 4) e e')
-both_end a rd rs1 rs2 i target code code' long long' low low' is is' sum apart h k small small' alike
-    none =
+both_end a rd rs1 rs2 i target code code' long long' low low' is is' sum h k small small' alike
+    none apart =
     let instruction = sums a rd rs1 rs2 i in
     let instruction' = sums a rd 0 rs2 i in
     record {
@@ -399,14 +409,14 @@ both_end a rd rs1 rs2 i target code code' long long' low low' is is' sum apart h
     }
 
 -- the law of an action whose instruction has the registers rd and rs2 in its use
-abbrev LowLaw : Option RelocationKindInfo → Action → ℕ → List ℕ → ℕ → Type 0
-LowLaw row a rd section o =
+abbrev LowLaw : Option RelocationKindInfo → Action → ℕ → ℕ → List ℕ → ℕ → Type 0
+LowLaw row a rd rs2 section o =
     let rs1 = rs1_of (word_at section o) in
-    (x : Operands) → AreAddresses x → IsLow12 x → (original new : List ℕ)
+    (x : Operands) → IsLow12 x → (original new : List ℕ)
     → Relocated row x (drop o section) original
     → Relocated row x (drop o (after_rewrite kinds.Lo12Rs1ToZero section o)) new
     → (h k : Hart) → h.pc < 2 ^ 64 → k.pc < 2 ^ 64 → AreAlike (λ r. r == rs1) h k
-    → register h rs1 ≡ 0
+    → register h rs1 ≡ 0 → StoresTheSame a rs1 rs2 h k
     → EndSo 1 original h 1 new k (λ e e'. AreAlike (differs_after a rd rs1) e e'
     × GoOn a rd (even symbol_address x) (sum_64 h.pc 4) (sum_64 k.pc 4) e e')
 
@@ -423,9 +433,8 @@ module _ (a : Action) (section : List ℕ) (o : ℕ) (inside : o + 4 ≤ length 
       ∙ ap (action_of (opcode_of (word_at section o))) f ∙ is)
 
   pub i_law : ((w : ℕ) → with_action w (Some a) ≡ i_type a w)
-      → StoresAnother a (rs1_of (word_at section o)) 0
-      → LowLaw (riscv_row names.R_RISCV_LO12_I) a (rd_of (word_at section o)) section o
-  i_law form apart x sx low original new old_code new_code h k small small' alike none =
+      → LowLaw (riscv_row names.R_RISCV_LO12_I) a (rd_of (word_at section o)) 0 section o
+  i_law form x low original new old_code new_code h k small small' alike none apart =
       let word = word_at section o in
       let n = symbol_address x in
       let before' = drop o (after_rewrite kinds.Lo12Rs1ToZero section o) in
@@ -466,12 +475,11 @@ module _ (a : Action) (section : List ℕ) (o : ℕ) (inside : o + 4 ≤ length 
       ∙ ap (λ v. Some (sums a (rd_of word) 0 0 (signed 12 v))) (i_stands x before' new ap2))
       (low_sum n (n % 2 ^ 32 % 4096) (sum_below x.symbol _)
       (low_12_number n (sum_below x.symbol _) low) refl)
-      apart h k small small' alike none
+      h k small small' alike none apart
 
   pub s_law : ((w : ℕ) → with_action w (Some a) ≡ s_type a w)
-      → StoresAnother a (rs1_of (word_at section o)) (rs2_of (word_at section o))
-      → LowLaw (riscv_row names.R_RISCV_LO12_S) a 0 section o
-  s_law form apart x sx low original new old_code new_code h k small small' alike none =
+      → LowLaw (riscv_row names.R_RISCV_LO12_S) a 0 (rs2_of (word_at section o)) section o
+  s_law form x low original new old_code new_code h k small small' alike none apart =
       let word = word_at section o in
       let n = symbol_address x in
       let before' = drop o (after_rewrite kinds.Lo12Rs1ToZero section o) in
@@ -513,31 +521,27 @@ module _ (a : Action) (section : List ℕ) (o : ℕ) (inside : o + 4 ≤ length 
       ∙ ap (λ v. Some (sums a 0 0 (rs2_of word) (signed 12 v))) (s_stands x before' new ap2))
       (low_sum n (n % 2 ^ 32 % 4096) (sum_below x.symbol _)
       (low_12_number n (sum_below x.symbol _) low) refl)
-      apart h k small small' alike none
+      h k small small' alike none apart
 
 -- ---- the law
 
 -- the same by the action
 abbrev Law : List ℕ → ℕ → Action → Type 0
 Law section o a =
-    StoresAnother a (rs1_of (word_at section o)) (rs2_of (word_at section o))
-    → LowLaw (low_row a) a (rd_of (word_at section o)) section o
+    LowLaw (low_row a) a (rd_of (word_at section o)) (rs2_of (word_at section o)) section o
 
 law : (section : List ℕ) (o : ℕ) → o + 4 ≤ length section → (a : Action)
     → action_of (opcode_of (word_at section o)) (funct3_of (word_at section o)) ≡ Some a
     → opcode_of (word_at section o) % 4 ≡ 3 → Law section o a
-law section o inside adds is long = λ apart. i_law adds section o inside is long (λ w. refl) tt
-law section o inside adds_word is long = λ apart.
-    i_law adds_word section o inside is long (λ w. refl) tt
-law section o inside jumps is long = λ apart. i_law jumps section o inside is long (λ w. refl) tt
-law section o inside (loads f) is long = λ apart.
-    i_law (loads f) section o inside is long (λ w. refl) tt
-law section o inside (stores f) is long = λ apart.
-    s_law (stores f) section o inside is long (λ w. refl) apart
-law section o inside (loads_float f) is long = λ apart.
-    i_law (loads_float f) section o inside is long (λ w. refl) tt
-law section o inside (stores_float f) is long = λ apart.
-    s_law (stores_float f) section o inside is long (λ w. refl) tt
+law section o inside adds is long = i_law adds section o inside is long (λ w. refl)
+law section o inside adds_word is long = i_law adds_word section o inside is long (λ w. refl)
+law section o inside jumps is long = i_law jumps section o inside is long (λ w. refl)
+law section o inside (loads f) is long = i_law (loads f) section o inside is long (λ w. refl)
+law section o inside (stores f) is long = s_law (stores f) section o inside is long (λ w. refl)
+law section o inside (loads_float f) is long =
+    i_law (loads_float f) section o inside is long (λ w. refl)
+law section o inside (stores_float f) is long =
+    s_law (stores_float f) section o inside is long (λ w. refl)
 
 pub low_part_from_zero : LowPartFromZero
 low_part_from_zero section o m =

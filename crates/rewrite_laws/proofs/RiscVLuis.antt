@@ -23,7 +23,7 @@ use Rattle.rewrite_laws.proofs.RiscVMachine.{other, same_written}
 use Rattle.rewrite_laws.proofs.Words.{rewritten_there, half_of_bytes}
 
 pub lui_is_deleted : LuiIsDeleted
-lui_is_deleted section o m x sx low original new code h k small small' alike =
+lui_is_deleted section o m x low original new code h k small small' alike =
     let before = drop o section in
     let r = rd_of (word_at section o) in
     let a = code.applied in
@@ -74,7 +74,7 @@ clui_there section o inside =
     ≡ 0x6001 + field (from_le_bytes w32 (drop o section)) 7 12 * 128 = omega arith in e)
 
 pub lui_becomes_clui : LuiBecomesClui
-lui_becomes_clui section o m x sx high original new old_code new_code h k small small' alike =
+lui_becomes_clui section o m x high original new old_code new_code h k small small' alike =
     let before = drop o section in
     let before' = drop o (deleted 2 (o + 2) (after_rewrite kinds.Hi20ToCLui section o)) in
     let r = rd_of (word_at section o) in

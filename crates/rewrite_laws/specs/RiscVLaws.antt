@@ -126,7 +126,7 @@ pub record HaveGoneOn (differs : ℕ → Bool) (at new_at : ℕ) (a b : Hart) : 
 abbrev pub LuiBecomesClui : Type 0
 LuiBecomesClui =
     (section : List ℕ) (o : ℕ) → riscv_matches kinds.Hi20ToCLui section o
-    → (x : Operands) → AreAddresses x → ¬ IsLow12 x → (original new : List ℕ)
+    → (x : Operands) → ¬ IsLow12 x → (original new : List ℕ)
     → Relocated (riscv_row names.R_RISCV_HI20) x (drop o section) original
     → Relocated (Some clui_row) x
     (drop o (deleted 2 (o + 2) (after_rewrite kinds.Hi20ToCLui section o))) new
@@ -143,7 +143,7 @@ pub record HasZero (rd behind : ℕ) (a b : Hart) : Type 0 where
 abbrev pub LuiIsDeleted : Type 0
 LuiIsDeleted =
     (section : List ℕ) (o : ℕ) → riscv_matches kinds.Hi20Delete section o
-    → (x : Operands) → AreAddresses x → IsLow12 x → (original new : List ℕ)
+    → (x : Operands) → IsLow12 x → (original new : List ℕ)
     → Relocated (riscv_row names.R_RISCV_HI20) x (drop o section) original
     → (h k : Hart) → h.pc < 2 ^ 64 → k.pc < 2 ^ 64 → AreAlike no_register h k
     → EndSo 1 original h 0 new k
@@ -176,23 +176,24 @@ GoOn jumps rd target at new_at a b =
     × (rd ≢ 0 → (register a rd ≡ at) × (register b rd ≡ new_at))
 GoOn action rd target at new_at a b = (a.pc ≡ at) × (b.pc ≡ new_at)
 
--- a store that stores its own base would store what `lui` left there
-abbrev pub StoresAnother : Action → ℕ → ℕ → Type 0
-StoresAnother (stores f) rs1 rs2 = rs2 ≢ rs1
-StoresAnother action rs1 rs2 = ⊤
+-- A store that stores its own base stores what is in both registers. So it can't be one whose `lui`
+-- is deleted: that would store what the `lui` left.
+abbrev pub StoresTheSame : Action → ℕ → ℕ → Hart → Hart → Type 0
+StoresTheSame (stores f) rs1 rs2 h k = rs2 ≡ rs1 → register h rs1 ≡ register k rs1
+StoresTheSame action rs1 rs2 h k = ⊤
 
--- Where the base is what the `lui` leaves, 0, x0 can be the base, whatever the register has.
+-- Where the base is what the `lui` leaves, 0, x0 can be the base, whatever that register has in the
+-- hart of the new code.
 abbrev pub LowPartFromZero : Type 0
 LowPartFromZero =
     (section : List ℕ) (o : ℕ) → riscv_matches kinds.Lo12Rs1ToZero section o
     → let word = word_at section o in
     IsSomeAnd (action_of (opcode_of word) (funct3_of word)) (λ action.
-    StoresAnother action (rs1_of word) (rs2_of word)
-    → (x : Operands) → AreAddresses x → IsLow12 x → (original new : List ℕ)
+    (x : Operands) → IsLow12 x → (original new : List ℕ)
     → Relocated (low_row action) x (drop o section) original
     → Relocated (low_row action) x (drop o (after_rewrite kinds.Lo12Rs1ToZero section o)) new
     → (h k : Hart) → h.pc < 2 ^ 64 → k.pc < 2 ^ 64 → AreAlike (λ r. r == rs1_of word) h k
-    → register h (rs1_of word) ≡ 0
+    → register h (rs1_of word) ≡ 0 → StoresTheSame action (rs1_of word) (rs2_of word) h k
     → EndSo 1 original h 1 new k (λ a b.
     AreAlike (differs_after action (rd_of word) (rs1_of word)) a b
     × GoOn action (rd_of word) (even symbol_address x) (sum_64 h.pc 4) (sum_64 k.pc 4) a b))

@@ -7,8 +7,12 @@
 ghost use Rattle.rewrite_laws.specs.RiscVExamples as riscv_examples;
 ghost use Rattle.rewrite_laws.specs.RiscVLaws as riscv_laws;
 
-/// RISC-V: a call that becomes `jal` and a tail call that becomes `jal` or `c.j` go to the target of
-/// their layout, and a call links the address behind it.
+/// RISC-V: a call that becomes `jal`, and a tail call that becomes `jal` or `c.j`, go to the target
+/// of their layout, and a call links the address behind it; `c.lui` puts in its register what `lui`
+/// does; a `lui` that is deleted would put 0 there, so that x0 can be the base of the instructions
+/// that add its low part. All else that a program sees is the same, but for the register of a tail
+/// call's `auipc` and that of a deleted `lui`. The last three clauses are examples of what the
+/// machine does.
 pub fn riscv64()
     ensures calls { riscv_laws.Calls }
     ensures tail_calls { riscv_laws.TailCalls }
