@@ -18,7 +18,7 @@ use Rattle.linker_utils.proofs.RiscV.{clui_laid, u_laid, pair_of}
 
 -- ---- the bytes
 
-half_of_front : (xs : List ℕ) → from_le_bytes w16 (take 2 xs) ≡ from_le_bytes w16 xs
+pub half_of_front : (xs : List ℕ) → from_le_bytes w16 (take 2 xs) ≡ from_le_bytes w16 xs
 half_of_front [] = refl
 half_of_front (a ∷ []) = refl
 half_of_front (a ∷ b ∷ xs) = refl

@@ -72,7 +72,7 @@ pairs {begin} {target} {number} leads upper low completes operands e e' =
 
 -- ---- calls
 
-bit_cleared : (z : ℤ) (s : ℕ) → IsAddress z s → IsAddress (without_bit_0 z) (s - s % 2)
+pub bit_cleared : (z : ℤ) (s : ℕ) → IsAddress z s → IsAddress (without_bit_0 z) (s - s % 2)
 bit_cleared z s h =
     let l = lift z in
     let is = l.is in

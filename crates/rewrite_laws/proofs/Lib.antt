@@ -1,0 +1,7 @@
+pub mod RiscVCalls
+pub mod RiscVHighParts
+pub mod RiscVJumps
+pub mod RiscVLowParts
+pub mod RiscVLuis
+pub mod RiscVMachine
+pub mod Words

@@ -1,0 +1,126 @@
+-- A `lui` computes the same as `c.lui`, and nothing where it is deleted.
+use Rattle.std.proofs.Common.{◌≡◌, ◌≢◌, ℕ, ◌+◌, ◌*◌, ◌≤◌, refl, sym}
+use Rattle.std.proofs.Common.{◌∙◌, ap, arith, List, length, take, drop}
+use Rattle.std.specs.Int.{w16, w32, from_le_bytes}
+use Rattle.linker_base.specs.Bits.{field, signed}
+use Rattle.linker_base.specs.Form.{place_sum}
+use Rattle.linker_utils.specs.RiscV.{hi20_to_clui, word_at, riscv_places}
+use Rattle.linker_utils.specs.RiscVOriginals.{rd_of}
+use Rattle.linker_utils.specs.declared.riscv64.forms.RiscVInstruction.TheVariants.{UType, CluiType}
+use Rattle.linker_utils.specs.declared.riscv64.rewrites.RelaxationKind.TheVariants as kinds
+use Rattle.linker_utils.proofs.RiscVRewrites.{half_of_front}
+use Rattle.relocation_laws.specs.Schemes.{symbol_address}
+use Rattle.relocation_laws.proofs.Sums.{sum_below}
+use Rattle.rewrite_laws.specs.Machine.{deleted, wrapped}
+use Rattle.rewrite_laws.specs.RiscVLaws.{after_rewrite, LuiBecomesClui, LuiIsDeleted}
+use Rattle.rewrite_laws.specs.RiscVMachine.{register, with_integer}
+use Rattle.rewrite_laws.proofs.RiscVHighParts.{upper_put, upper_runs, upper_is, upper_register}
+use Rattle.rewrite_laws.proofs.RiscVHighParts.{upper_stands, no_high_part, low_12_number}
+use Rattle.rewrite_laws.proofs.RiscVHighParts.{zero_written, short_put, short_runs, short_is}
+use Rattle.rewrite_laws.proofs.RiscVHighParts.{short_register, short_stands, near}
+use Rattle.rewrite_laws.proofs.RiscVHighParts.{same_immediates}
+use Rattle.rewrite_laws.proofs.RiscVMachine.{other, same_written}
+use Rattle.rewrite_laws.proofs.Words.{rewritten_there, half_of_bytes}
+
+pub lui_is_deleted : LuiIsDeleted
+lui_is_deleted section o m x low original new code h k small small' alike =
+    let before = drop o section in
+    let r = rd_of (word_at section o) in
+    let a = code.applied in
+    let l = code.len in
+    let n = symbol_address x in
+    let none : wrapped (signed 32 (place_sum (riscv_places UType) (from_le_bytes w32 original))) ≡ 0
+    = ap (λ s. wrapped (signed 32 s)) (upper_stands x before original a l m.1
+    ∙ no_high_part n (sum_below x.symbol _) (low_12_number n (sum_below x.symbol _) low)) in
+    let same : rd_of (from_le_bytes w32 original) ≡ r = upper_register x before original a l m.1 in
+    let put : (q : ℕ) → register (upper_put x before original a l m.1 h) q
+    ≡ register (with_integer r 0 h) q
+    = λ q. ap (λ e. register e q) (upper_is x before original a l m.1 h)
+    ∙ ap (λ s. register (with_integer s (wrapped (signed 32 (place_sum (riscv_places UType)
+    (from_le_bytes w32 original)))) h) q) same
+    ∙ ap (λ v. register (with_integer r v h) q) none in
+    record {
+      end = upper_put x before original a l m.1 h;
+      new_end = k;
+      runs = upper_runs x before original a l m.1 h small;
+      new_runs = refl;
+      so = (
+        record {
+          alike = record {
+            integers = λ q e. put q ∙ other r 0 h q e ∙ alike.integers q refl;
+            floats = λ q. ap (λ e. e.floats q) (upper_is x before original a l m.1 h)
+                ∙ alike.floats q;
+            memory = λ q. ap (λ e. e.memory q) (upper_is x before original a l m.1 h)
+                ∙ alike.memory q;
+          };
+          zero_there = put r ∙ zero_written r h;
+          next = ap (λ e. e.pc) (upper_is x before original a l m.1 h);
+        },
+        refl,
+      );
+    }
+
+-- the `c.lui` that a `lui` becomes
+clui_there : (section : List ℕ) (o : ℕ) → o + 4 ≤ length section
+    → from_le_bytes w16 (drop o (deleted 2 (o + 2) (after_rewrite kinds.Hi20ToCLui section o)))
+    ≡ 0x6001 + rd_of (word_at section o) * 128
+clui_there section o inside =
+    let window = take 2 (drop o section) in
+    ap (from_le_bytes w16) (rewritten_there section o 2 2 2 hi20_to_clui (omega arith) refl)
+    ∙ half_of_bytes (0x6001 + field (from_le_bytes w16 window) 7 12 * 128)
+    (drop (o + 2 + 2) (after_rewrite kinds.Hi20ToCLui section o)) (omega arith)
+    ∙ ap (λ w. 0x6001 + field w 7 12 * 128) (half_of_front (drop o section))
+    ∙ (let e : 0x6001 + field (from_le_bytes w16 (drop o section)) 7 12 * 128
+    ≡ 0x6001 + field (from_le_bytes w32 (drop o section)) 7 12 * 128 = omega arith in e)
+
+pub lui_becomes_clui : LuiBecomesClui
+lui_becomes_clui section o m x high original new old_code new_code h k small small' alike =
+    let before = drop o section in
+    let before' = drop o (deleted 2 (o + 2) (after_rewrite kinds.Hi20ToCLui section o)) in
+    let r = rd_of (word_at section o) in
+    let a = old_code.applied in
+    let l = old_code.len in
+    let a' = new_code.applied in
+    let l' = new_code.len in
+    let n = symbol_address x in
+    let is = m.1.0 in
+    let there = clui_there section o m.0 in
+    let low_bits : field (from_le_bytes w16 before') 0 2 ≡ 1 = omega (arith, there) in
+    let function : field (from_le_bytes w16 before') 13 16 ≡ 3 = omega (arith, there) in
+    let register' : rd_of (from_le_bytes w16 before') ≡ r = omega (arith, there) in
+    let some : rd_of (from_le_bytes w16 before') ≢ 0 = λ e. m.1.1 (sym register' ∙ e) in
+    let not_sp : rd_of (from_le_bytes w16 before') ≢ 2 = λ e. m.1.2 (sym register' ∙ e) in
+    let number = wrapped (signed 32 (place_sum (riscv_places UType) (from_le_bytes w32 original))) in
+    let number' = wrapped (signed 18 (place_sum (riscv_places CluiType) (from_le_bytes w16 new))) in
+    let is' = upper_is x before original a l is h in
+    let is'' = short_is x before' new a' l' low_bits function some not_sp high k in
+    let same : number ≡ number' = same_immediates n _ _ (sum_below x.symbol _)
+    (near x before' new a' l' low_bits function some not_sp high)
+    (upper_stands x before original a l is)
+    (short_stands x before' new a' l' low_bits function some not_sp high) in
+    record {
+      end = upper_put x before original a l is h;
+      new_end = short_put x before' new a' l' low_bits function some not_sp high k;
+      runs = upper_runs x before original a l is h small;
+      new_runs = short_runs x before' new a' l' low_bits function some not_sp high k small';
+      so = record {
+        alike = record {
+          integers = λ q e.
+              ap (λ z. register z q) is'
+              ∙ ap (λ s. register (with_integer s number h) q)
+              (upper_register x before original a l is)
+              ∙ ap (λ v. register (with_integer r v h) q) same
+              ∙ same_written r number' h k q (λ _. alike.integers q refl)
+              ∙ ap (λ s. register (with_integer s number' k) q)
+              (sym (short_register x before' new a' l' low_bits function some not_sp high
+              ∙ register'))
+              ∙ ap (λ z. register z q) (sym is'');
+          floats = λ q. ap (λ z. z.floats q) is' ∙ alike.floats q
+              ∙ ap (λ z. z.floats q) (sym is'');
+          memory = λ q. ap (λ z. z.memory q) is' ∙ alike.memory q
+              ∙ ap (λ z. z.memory q) (sym is'');
+        };
+        next = ap (λ z. z.pc) is';
+        new_next = ap (λ z. z.pc) is'';
+      };
+    }

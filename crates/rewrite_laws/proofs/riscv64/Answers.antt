@@ -1,0 +1,37 @@
+-- The laws of RISC-V.
+use Rattle.std.proofs.Common.{refl}
+use Rattle.linker_base.specs.Form.{place_sum}
+use Rattle.rewrite_laws.proofs.RiscVCalls.{call_becomes_jal, tail_becomes_jal, tail_becomes_cj}
+use Rattle.rewrite_laws.proofs.RiscVLowParts.{low_part_from_zero}
+use Rattle.rewrite_laws.proofs.RiscVLuis.{lui_becomes_clui, lui_is_deleted}
+use Rattle.rewrite_laws.proofs.riscv64.Goals as goal
+
+pub returns-clause-calls : goal.returns-clause-calls
+returns-clause-calls c = (call_becomes_jal, call_becomes_jal)
+
+pub returns-clause-tail_calls : goal.returns-clause-tail_calls
+returns-clause-tail_calls c = (tail_becomes_jal, tail_becomes_jal)
+
+pub returns-clause-short_tail_calls : goal.returns-clause-short_tail_calls
+returns-clause-short_tail_calls c = (tail_becomes_cj, tail_becomes_cj)
+
+pub returns-clause-short_high_parts : goal.returns-clause-short_high_parts
+returns-clause-short_high_parts c = lui_becomes_clui
+
+pub returns-clause-no_high_parts : goal.returns-clause-no_high_parts
+returns-clause-no_high_parts c = lui_is_deleted
+
+pub returns-clause-low_parts : goal.returns-clause-low_parts
+returns-clause-low_parts c = low_part_from_zero
+
+pub returns-clause-words : goal.returns-clause-words
+unfolding place_sum
+returns-clause-words c = (refl, refl, refl, refl, refl, refl, refl, refl)
+
+pub returns-clause-halves : goal.returns-clause-halves
+unfolding place_sum
+returns-clause-halves c = (refl, refl, refl, refl, refl)
+
+pub returns-clause-execution : goal.returns-clause-execution
+returns-clause-execution c =
+    (refl, refl, refl, refl, refl, refl, refl, refl, refl, refl, refl, refl)

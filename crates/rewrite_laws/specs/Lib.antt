@@ -1,0 +1,4 @@
+pub mod Machine
+pub mod RiscVExamples
+pub mod RiscVLaws
+pub mod RiscVMachine
