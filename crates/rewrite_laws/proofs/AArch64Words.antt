@@ -1,0 +1,187 @@
+-- Words of AArch64 to which a relocation was applied, and which instructions they are.
+use Rattle.std.proofs.Common.{◌≡◌, ◌≢◌, ℕ, ◌+◌, ◌-◌, ◌/◌, ◌^◌, ◌<◌, ◌≤◌, Bool, true, false, refl, sym}
+use Rattle.std.proofs.Common.{◌∙◌, ap, subst, arith, List, [], ◌∷◌, ◌++◌, ltb, leb, eqb, inl, inr, min}
+use Rattle.std.specs.Prelude.{◌&&◌, ◌||◌, bit_and}
+use Rattle.std.specs.Int.{bit_at}
+use Rattle.std.proofs.lemmas.Bool.{and_parts, or_cases, ltb-true, leb-true, ne_eqb, cond-true}
+use Rattle.std.proofs.lemmas.Bool.{cond-false, or_from, eq-eqb}
+use Rattle.std.proofs.lemmas.Nat.Bits.{bit_at_and, bit_at-lt, bit_at_ones}
+use Rattle.linker_base.specs.Bits.{field}
+use Rattle.linker_base.specs.Form.{ImmediateBit, is_placed, BitsWritten}
+use Rattle.linker_base.proofs.Fields.{same_fields, bit_at_run}
+use Rattle.linker_utils.specs.AArch64.{rd_of, rn_of}
+use Rattle.linker_utils.proofs.AArch64Forms.{high_kept}
+use Rattle.linker_utils.specs.Inner.Runs.{words_below}
+use Rattle.rewrite_laws.specs.AArch64Machine.{decode, is_adr, adrp, adr, add, ldr}
+use Rattle.rewrite_laws.specs.AArch64Machine.{Instruction}
+use Rattle.std.specs.Prelude.{ℤ}
+use Rattle.std.specs.Int.{w32, from_le_bytes}
+use Rattle.linker_base.specs.Form.{or_bits_to}
+use Rattle.linker_base.specs.declared.bit_misc.BitRange.{BitRange}
+use Rattle.linker_utils.specs.AArch64Originals.{IsAdrp, IsLdr64}
+use Rattle.linker_utils.specs.Relocate.{InstructionWritten, ored_cleared}
+use Rattle.linker_utils.specs.declared.aarch64.forms.AArch64Instruction.TheVariants.{Adr, Add, LdSt}
+use Rattle.linker_utils.specs.declared.aarch64.forms.AArch64Instruction.TheVariants.{LdrRegister}
+use Rattle.linker_utils.specs.declared.elf.RelocationInstruction.TheVariants.{AArch64}
+use Rattle.std.proofs.lemmas.Bool.{eqb-true}
+
+-- ---- what a write keeps
+
+-- no place is one of bits s and up, below bit e
+abbrev pub is_outside : ℕ → ℕ → List ImmediateBit → Bool
+is_outside s e [] = true
+is_outside s e (p ∷ ps) = (ltb p.insn_bit s || leb e p.insn_bit) && is_outside s e ps
+
+outside : (ps : List ImmediateBit) (s e w : ℕ) → is_outside s e ps ≡ true → s ≤ w → w < e
+    → is_placed ps w ≡ false
+outside [] s e w h from to = refl
+outside (p ∷ ps) s e w h from to =
+    let parts = and_parts (ltb p.insn_bit s || leb e p.insn_bit) (is_outside s e ps) h in
+    or_from (eqb p.insn_bit w) (is_placed ps w)
+    (ne_eqb p.insn_bit w (λ same. elim (or_cases (ltb p.insn_bit s) (leb e p.insn_bit) parts.0) [
+      | inl below ↦ let l = ltb-true p.insn_bit s below in absurd (omega arith)
+      | inr above ↦ let l = leb-true e p.insn_bit above in absurd (omega arith)
+    ]))
+    (outside ps s e w parts.1 from to)
+
+-- Two writes, of which the first clears places.
+module _ (qs ps : List ImmediateBit) (u v before clear after : ℕ) (clears : BitsWritten qs u before clear)
+    (written : BitsWritten ps v clear after) where
+  pub field_kept : (s e : ℕ) → is_outside s e qs ≡ true → is_outside s e ps ≡ true
+      → field after s e ≡ field before s e
+  field_kept s e first second =
+      same_fields after before s e (λ w from to.
+      written.kept w (outside ps s e w second from to)
+      ∙ clears.kept w (outside qs s e w first from to))
+
+  pub top_kept : (n : ℕ) → words_below n qs ≡ true → words_below n ps ≡ true
+      → after / 2 ^ n ≡ before / 2 ^ n
+  top_kept n first second =
+      high_kept ps v clear after written n second ∙ high_kept qs u before clear clears n first
+
+-- ---- bits that a mask tests
+
+pub masked_field : (x m r s e : ℕ) → bit_and x m ≡ r → field m s e ≡ 2 ^ (e - s) - 1
+    → field x s e ≡ field r s e
+masked_field x m r s e tested ones =
+    same_fields x r s e (λ w from to.
+    let set : bit_at m w ≡ 1 =
+    subst (λ i. bit_at m i ≡ 1) (let whole : s + (w - s) ≡ w = omega arith in whole)
+    (sym (bit_at_run m s (e - s) (w - s) (omega arith)) ∙ ap (λ n. bit_at n (w - s)) ones
+    ∙ bit_at_ones (e - s) (w - s) (omega arith)) in
+    let small = bit_at-lt x w in
+    let one : min (bit_at x w) 1 ≡ bit_at x w = omega arith in
+    sym (ap (λ n. bit_at n w) (sym tested) ∙ bit_at_and x m w ∙ ap (λ b. min (bit_at x w) b) set
+    ∙ one))
+
+-- ---- which instruction a word is
+
+not_adr : (k x : ℕ) → field x 24 29 ≢ 0x10 → is_adr k x ≡ false
+not_adr k x differs = ap (λ t. t && eqb (bit_at x 31) k) (ne_eqb _ _ differs)
+
+is_adr_of : (k x : ℕ) → field x 24 29 ≡ 0x10 → bit_at x 31 ≡ k → is_adr k x ≡ true
+is_adr_of k x op bit =
+    ap (λ t. eqb t 0x10 && eqb (bit_at x 31) k) op
+    ∙ eq-eqb _ _ bit
+
+pub decodes_adrp : (x : ℕ) → field x 24 29 ≡ 0x10 → bit_at x 31 ≡ 1 → decode x ≡ adrp
+decodes_adrp x op bit = cond-true _ _ _ (is_adr_of 1 x op bit)
+
+pub decodes_adr : (x : ℕ) → field x 24 29 ≡ 0x10 → bit_at x 31 ≡ 0 → decode x ≡ adr
+decodes_adr x op bit =
+    cond-false _ _ _ (ap (λ b. eqb (field x 24 29) 0x10 && eqb b 1) bit
+    ∙ ap (λ t. eqb t 0x10 && false) op)
+    ∙ cond-true _ _ _ (is_adr_of 0 x op bit)
+
+pub decodes_add : (x : ℕ) → field x 22 32 ≡ 0x244 → decode x ≡ add
+decodes_add x op =
+    let differs : field x 24 29 ≢ 0x10 = λ e. omega arith in
+    cond-false _ _ _ (not_adr 1 x differs) ∙ cond-false _ _ _ (not_adr 0 x differs)
+    ∙ cond-true _ _ _ (ap (λ t. eqb t 0x244) op)
+
+pub decodes_ldr : (x : ℕ) → x / 2 ^ 22 ≡ 0x3e5 → decode x ≡ ldr
+decodes_ldr x op =
+    let differs : field x 24 29 ≢ 0x10 = λ e. omega arith in
+    cond-false _ _ _ (not_adr 1 x differs) ∙ cond-false _ _ _ (not_adr 0 x differs)
+    ∙ cond-false _ _ _ (ne_eqb (field x 22 32) 0x244 (λ e. omega arith))
+    ∙ cond-true _ _ _ (ap (λ t. eqb t 0x3e5) op)
+
+-- ---- words after a relocation
+
+-- a word is such an instruction, with such a destination and first source
+pub record IsOf (kind : Instruction) (rd rn : ℕ) (word : ℕ) : Type 0 where
+  pub decodes : decode word ≡ kind
+  pub rd_is : rd_of word ≡ rd
+  pub rn_is : rn_of word ≡ rn
+
+-- the 12 bits of ADD and of loads
+abbrev pub places_12 : List ImmediateBit
+places_12 = or_bits_to 0 11 10
+
+-- the 21 bits of ADR and ADRP
+abbrev pub places_21 : List ImmediateBit
+places_21 = or_bits_to 0 1 29 ++ or_bits_to 2 20 5
+
+-- a word after a write of ADR, whose register and opcode the old one has
+pub record IsAdrOf (bit_31 rd : ℕ) (word : ℕ) : Type 0 where
+  pub opcode : field word 24 29 ≡ 0x10
+  pub top : bit_at word 31 ≡ bit_31
+  pub rd_is : rd_of word ≡ rd
+
+pub adr_after : (k : ℕ) (bits : BitRange) (v : ℤ) (before after : List ℕ)
+    → InstructionWritten (AArch64 Adr) bits v before after
+    → field (from_le_bytes w32 before) 24 29 ≡ 0x10 → bit_at (from_le_bytes w32 before) 31 ≡ k
+    → IsAdrOf k (rd_of (from_le_bytes w32 before)) (from_le_bytes w32 after)
+adr_after k bits v before after w op top =
+    record {
+      opcode = field_kept (ored_cleared places_21) places_21 _ _ _ _ _ w.clears w.written 24 29 refl refl ∙ op;
+      top = w.written.kept 31 refl ∙ w.clears.kept 31 refl ∙ top;
+      rd_is = field_kept (ored_cleared places_21) places_21 _ _ _ _ _ w.clears w.written 0 5 refl refl;
+    }
+
+pub adrp_after : (bits : BitRange) (v : ℤ) (before after : List ℕ)
+    → InstructionWritten (AArch64 Adr) bits v before after → IsAdrp (from_le_bytes w32 before)
+    → IsAdrOf 1 (rd_of (from_le_bytes w32 before)) (from_le_bytes w32 after)
+adrp_after bits v before after w is =
+    let x = from_le_bytes w32 before in
+    let top : field x 31 32 ≡ 1 = masked_field x 0x9f000000 0x90000000 31 32 is refl in
+    adr_after 1 bits v before after w (masked_field x 0x9f000000 0x90000000 24 29 is refl)
+    (let bit : bit_at x 31 ≡ 1 = omega arith in bit)
+
+pub add_after : (bits : BitRange) (v : ℤ) (before after : List ℕ)
+    → InstructionWritten (AArch64 Add) bits v before after
+    → field (from_le_bytes w32 before) 22 32 ≡ 0x244
+    → IsOf add (rd_of (from_le_bytes w32 before)) (rn_of (from_le_bytes w32 before))
+    (from_le_bytes w32 after)
+add_after bits v before after w op =
+    let kept = field_kept (ored_cleared places_12) places_12 _ _ _ _ _ w.clears w.written in
+    record {
+      decodes = decodes_add _ (kept 22 32 refl refl ∙ op);
+      rd_is = kept 0 5 refl refl;
+      rn_is = kept 5 10 refl refl;
+    }
+
+-- with the places of a load's 12 bits
+loaded_after : (u v before clear after : ℕ) → BitsWritten (ored_cleared places_12) u before clear
+    → BitsWritten places_12 v clear after → IsLdr64 before
+    → IsOf ldr (rd_of before) (rn_of before) after
+loaded_after u v before clear after clears written is =
+    let kept = field_kept (ored_cleared places_12) places_12 _ _ _ _ _ clears written in
+    record {
+      decodes = decodes_ldr _ (top_kept (ored_cleared places_12) places_12 _ _ _ _ _ clears written 22 refl refl ∙ eqb-true _ _ is);
+      rd_is = kept 0 5 refl refl;
+      rn_is = kept 5 10 refl refl;
+    }
+
+pub ldr_after : (bits : BitRange) (v : ℤ) (before after : List ℕ)
+    → InstructionWritten (AArch64 LdSt) bits v before after → IsLdr64 (from_le_bytes w32 before)
+    → IsOf ldr (rd_of (from_le_bytes w32 before)) (rn_of (from_le_bytes w32 before))
+    (from_le_bytes w32 after)
+ldr_after bits v before after w is = loaded_after _ _ _ _ _ w.clears w.written is
+
+pub ldr_of_register_after : (bits : BitRange) (v : ℤ) (before after : List ℕ)
+    → InstructionWritten (AArch64 LdrRegister) bits v before after
+    → IsLdr64 (from_le_bytes w32 before)
+    → IsOf ldr (rd_of (from_le_bytes w32 before)) (rn_of (from_le_bytes w32 before))
+    (from_le_bytes w32 after)
+ldr_of_register_after bits v before after w is = loaded_after _ _ _ _ _ w.clears w.written is

@@ -1,0 +1,2 @@
+pub mod AArch64Steps
+pub mod AArch64Words

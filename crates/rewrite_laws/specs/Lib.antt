@@ -1,0 +1,2 @@
+pub mod AArch64Laws
+pub mod AArch64Machine

@@ -1,0 +1,15 @@
+//! Laws of rewrites: rewritten instructions compute what the original ones do.
+//!
+//! The functions do nothing. The contract of each has the laws of one architecture, which are in
+//! `specs/`: from the same state, the instructions before a rewrite and those after it, each with
+//! their relocations applied, end in states that are alike.
+#![tactic(auto)]
+
+ghost use Rattle.rewrite_laws.specs.AArch64Laws as aarch64_laws;
+
+/// AArch64: the address of a symbol without the GOT.
+pub fn aarch64()
+    ensures got { aarch64_laws.GotToAddress }
+{
+    relocation_laws::aarch64();
+}
