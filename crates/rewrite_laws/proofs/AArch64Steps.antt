@@ -15,6 +15,7 @@ use Rattle.rewrite_laws.specs.AArch64Machine.{adrp, adr, add, ldr, adrp_address,
 use Rattle.rewrite_laws.specs.AArch64Machine.{added, loaded, load_64}
 use Rattle.linker_utils.specs.AArch64.{aarch64_form}
 use Rattle.linker_utils.specs.declared.aarch64.forms.AArch64Instruction.TheVariants.{Add, LdSt}
+use Rattle.rewrite_laws.specs.AArch64Machine.{movn_or_movz, movk_64, moved, with_moved}
 
 -- ---- sums
 
@@ -72,6 +73,20 @@ step_ldr x n s is rd named =
     ap (λ c. execute c x s) is
     ∙ ap (λ r. Some (go_on (write_x r (loaded x s) s))) rd
     ∙ written n (loaded x s) s named
+
+pub step_move : (x n : ℕ) (s : State) → decode x ≡ movn_or_movz → rd_of x ≡ n → n ≢ 31
+    → step x s ≡ Some (set n (moved x) s)
+step_move x n s is rd named =
+    ap (λ c. execute c x s) is
+    ∙ ap (λ r. Some (go_on (write_x r (moved x) s))) rd
+    ∙ written n (moved x) s named
+
+pub step_movk : (x n : ℕ) (s : State) → decode x ≡ movk_64 → rd_of x ≡ n → n ≢ 31
+    → step x s ≡ Some (set n (with_moved x s) s)
+step_movk x n s is rd named =
+    ap (λ c. execute c x s) is
+    ∙ ap (λ r. Some (go_on (write_x r (with_moved x s) s))) rd
+    ∙ written n (with_moved x s) s named
 
 -- what is read of the register that was written
 pub read_back : (n v r : ℕ) (s : State) → r ≡ n → (set n v s).registers r ≡ v

@@ -14,7 +14,7 @@ use Rattle.linker_utils.proofs.AArch64Forms.{high_kept}
 use Rattle.linker_utils.specs.Inner.Runs.{words_below}
 use Rattle.rewrite_laws.specs.AArch64Machine.{decode, is_adr, adrp, adr, add, ldr}
 use Rattle.rewrite_laws.specs.AArch64Machine.{Instruction}
-use Rattle.std.specs.Prelude.{ℤ}
+use Rattle.std.specs.Prelude.{ℤ, pos, int_lt, ◌*◌}
 use Rattle.std.specs.Int.{w32, from_le_bytes}
 use Rattle.linker_base.specs.Form.{or_bits_to}
 use Rattle.linker_base.specs.declared.bit_misc.BitRange.{BitRange}
@@ -24,6 +24,12 @@ use Rattle.linker_utils.specs.declared.aarch64.forms.AArch64Instruction.TheVaria
 use Rattle.linker_utils.specs.declared.aarch64.forms.AArch64Instruction.TheVariants.{LdrRegister}
 use Rattle.linker_utils.specs.declared.elf.RelocationInstruction.TheVariants.{AArch64}
 use Rattle.std.proofs.lemmas.Bool.{eqb-true}
+use Rattle.std.proofs.Common.{◌%◌}
+use Rattle.linker_utils.proofs.Clearing.{same_window}
+use Rattle.linker_utils.specs.Relocate.{bits_taken, with_bit_31_if}
+use Rattle.linker_utils.specs.declared.aarch64.forms.AArch64Instruction.TheVariants.{Movnz, Movkz}
+use Rattle.linker_utils.specs.AArch64.{movn_opcode, movz_opcode, movk_opcode, imm16_places, move_opcode, moved_bits, shift_of}
+use Rattle.rewrite_laws.specs.AArch64Machine.{movn_or_movz, movk_64}
 
 -- ---- what a write keeps
 
@@ -185,3 +191,88 @@ pub ldr_of_register_after : (bits : BitRange) (v : ℤ) (before after : List ℕ
     → IsOf ldr (rd_of (from_le_bytes w32 before)) (rn_of (from_le_bytes w32 before))
     (from_le_bytes w32 after)
 ldr_of_register_after bits v before after w is = loaded_after _ _ _ _ _ w.clears w.written is
+
+-- ---- moves
+
+decodes_move : (x : ℕ) → x / 2 ^ 23 ≡ movn_opcode → decode x ≡ movn_or_movz
+decodes_move x op =
+    let differs : field x 24 29 ≢ 0x10 = λ e. omega arith in
+    cond-false _ _ _ (not_adr 1 x differs) ∙ cond-false _ _ _ (not_adr 0 x differs)
+    ∙ cond-false _ _ _ (ne_eqb (field x 22 32) 0x244 (λ e. omega arith))
+    ∙ cond-false _ _ _ (ne_eqb (x / 2 ^ 22) 0x3e5 (λ e. omega arith))
+    ∙ cond-true _ _ _ (ap (λ t. eqb t movn_opcode) op)
+
+decodes_movz : (x : ℕ) → x / 2 ^ 23 ≡ movz_opcode → decode x ≡ movn_or_movz
+decodes_movz x op =
+    let differs : field x 24 29 ≢ 0x10 = λ e. omega arith in
+    cond-false _ _ _ (not_adr 1 x differs) ∙ cond-false _ _ _ (not_adr 0 x differs)
+    ∙ cond-false _ _ _ (ne_eqb (field x 22 32) 0x244 (λ e. omega arith))
+    ∙ cond-false _ _ _ (ne_eqb (x / 2 ^ 22) 0x3e5 (λ e. omega arith))
+    ∙ cond-false _ _ _ (ne_eqb (x / 2 ^ 23) movn_opcode (λ e. omega arith))
+    ∙ cond-true _ _ _ (ap (λ t. eqb t movz_opcode) op)
+
+pub decodes_movk : (x : ℕ) → x / 2 ^ 23 ≡ movk_opcode → decode x ≡ movk_64
+decodes_movk x op =
+    let differs : field x 24 29 ≢ 0x10 = λ e. omega arith in
+    cond-false _ _ _ (not_adr 1 x differs) ∙ cond-false _ _ _ (not_adr 0 x differs)
+    ∙ cond-false _ _ _ (ne_eqb (field x 22 32) 0x244 (λ e. omega arith))
+    ∙ cond-false _ _ _ (ne_eqb (x / 2 ^ 22) 0x3e5 (λ e. omega arith))
+    ∙ cond-false _ _ _ (ne_eqb (x / 2 ^ 23) movn_opcode (λ e. omega arith))
+    ∙ cond-false _ _ _ (ne_eqb (x / 2 ^ 23) movz_opcode (λ e. omega arith))
+    ∙ cond-true _ _ _ (ap (λ t. eqb t movk_opcode) op)
+
+-- a MOVN or MOVZ of 64 bits after a write, which sets the opcode
+move_by_sign : (neg : Bool) (n x base : ℕ)
+    → BitsWritten imm16_places n (move_opcode neg * 2 ^ 23 + base % 2 ^ 23) x
+    → decode x ≡ movn_or_movz
+move_by_sign true n x base written =
+    let top : x / 2 ^ 23 ≡ (movn_opcode * 2 ^ 23 + base % 2 ^ 23) / 2 ^ 23 =
+    high_kept imm16_places n (movn_opcode * 2 ^ 23 + base % 2 ^ 23) x written 23 refl in
+    decodes_move x (omega arith)
+move_by_sign false n x base written =
+    let top : x / 2 ^ 23 ≡ (movz_opcode * 2 ^ 23 + base % 2 ^ 23) / 2 ^ 23 =
+    high_kept imm16_places n (movz_opcode * 2 ^ 23 + base % 2 ^ 23) x written 23 refl in
+    decodes_movz x (omega arith)
+
+pub record IsMove (kind : Instruction) (rd : ℕ) (word : ℕ) : Type 0 where
+  pub decodes : decode word ≡ kind
+  pub rd_is : rd_of word ≡ rd
+
+pub movnz_after : (bits : BitRange) (v : ℤ) (before after : List ℕ)
+    → InstructionWritten (AArch64 Movnz) bits v before after
+    → bit_at (from_le_bytes w32 before) 31 ≡ 1
+    → IsMove movn_or_movz (rd_of (from_le_bytes w32 before)) (from_le_bytes w32 after)
+movnz_after bits v before after w wide =
+    let x = from_le_bytes w32 after in
+    let neg = int_lt v (pos 0) in
+    let base = move_opcode neg * 2 ^ 23 + w.clear % 2 ^ 23 in
+    let same = same_window 0 (from_le_bytes w32 before) w.clear w.clears in
+    let n = moved_bits neg (bits_taken bits v) in
+    let written : BitsWritten imm16_places n base x =
+    subst (λ b. BitsWritten imm16_places n base (with_bit_31_if (eqb b 0) x)) wide w.written in
+    let low : field x 0 5 ≡ field base 0 5 =
+    same_fields x base 0 5 (λ i from to. written.kept i (outside imm16_places 0 5 i refl from to)) in
+    record {
+      decodes = move_by_sign neg n x w.clear written;
+      rd_is = low ∙ (let e : field base 0 5 ≡ field w.clear 0 5 = omega arith in e) ∙ ap rd_of same;
+    }
+
+pub record IsMovk (shift rd : ℕ) (word : ℕ) : Type 0 where
+  pub decodes : decode word ≡ movk_64
+  pub rd_is : rd_of word ≡ rd
+  pub shift_is : shift_of word ≡ shift
+
+-- `movk xN` without a shift
+pub movk_after : (bits : BitRange) (v : ℤ) (before after : List ℕ)
+    → InstructionWritten (AArch64 Movkz) bits v before after
+    → from_le_bytes w32 before / 2 ^ 21 ≡ 0x794
+    → IsMovk 0 (rd_of (from_le_bytes w32 before)) (from_le_bytes w32 after)
+movk_after bits v before after w op =
+    let places = or_bits_to 0 15 5 in
+    let top = top_kept (ored_cleared places) places _ _ _ _ _ w.clears w.written 21 refl refl ∙ op in
+    let x = from_le_bytes w32 after in
+    record {
+      decodes = decodes_movk x (let e : x / 2 ^ 23 ≡ movk_opcode = omega arith in e);
+      rd_is = field_kept (ored_cleared places) places _ _ _ _ _ w.clears w.written 0 5 refl refl;
+      shift_is = let e : shift_of x ≡ 0 = omega arith in e;
+    }

@@ -1,2 +1,3 @@
+pub mod AArch64Moves
 pub mod AArch64Steps
 pub mod AArch64Words

@@ -5,11 +5,13 @@ use Rattle.std.specs.Int.{w32, from_le_bytes}
 use Rattle.linker_utils.specs.AArch64.{aarch64_rewrite}
 use Rattle.linker_utils.specs.AArch64Originals.{IsLdr64, AreOfOneRegister}
 use Rattle.linker_utils.specs.AArch64Relocations.{aarch64_row}
-use Rattle.linker_utils.specs.Value.{sum_64}
+use Rattle.linker_utils.specs.Value.{sum_64, difference_64}
 use Rattle.linker_utils.specs.declared.aarch64.relocations.AArch64Relocation.{AArch64Relocation}
 use Rattle.linker_utils.specs.declared.aarch64.relocations.AArch64Relocation.TheVariants as names
 use Rattle.linker_utils.specs.declared.aarch64.rewrites.RelaxationKind.{RelaxationKind}
 use Rattle.linker_utils.specs.declared.aarch64.rewrites.RelaxationKind.TheVariants.{LdrToAdd}
+use Rattle.linker_utils.specs.declared.aarch64.rewrites.RelaxationKind.TheVariants.{MovzXnLsl16}
+use Rattle.linker_utils.specs.declared.aarch64.rewrites.RelaxationKind.TheVariants.{MovkXn}
 use Rattle.linker_utils.specs.declared.elf.value.Operands.{Operands}
 use Rattle.relocation_laws.specs.Schemes.{IsApplied, AreAddresses, symbol_address}
 use Rattle.rewrite_laws.specs.AArch64Machine.{State, load_64, RunAlike}
@@ -57,3 +59,28 @@ GotToAddress =
     → IsRelocated names.R_AARCH64_ADR_PREL_PG_HI21 o adrp adrp_of_symbol
     → IsRelocated names.R_AARCH64_ADD_ABS_LO12_NC (behind 4 o) add add_of_symbol
     → RunAlike (pair adrp_of_entry ldr_of_entry) (pair adrp_of_symbol add_of_symbol) s
+
+-- ---- the offset of a variable from the thread pointer, by its GOT entry or by moves
+
+-- S + A, less the address that the thread pointer has
+abbrev pub thread_offset : Operands → ℕ
+thread_offset o = difference_64 (symbol_address o) o.tls_base
+
+-- `adrp xN` and `ldr xN, [xN]` of the GOT entry, which the dynamic linker has set to the offset
+pub record InitialExec (o : Operands) (s : State) (adrp ldr : List ℕ) : Type 0 where
+  pub small : AreAddresses o
+  pub at : s.pc ≡ o.place
+  pub entry : load_64 s.memory o.got_entry ≡ thread_offset o
+  pub one_register : AreOfOneRegister (word_of adrp) (word_of ldr)
+  pub is_ldr : IsLdr64 (word_of ldr)
+
+abbrev pub InitialExecToLocalExec : Type 0
+InitialExecToLocalExec =
+    (o : Operands) (s : State) (adrp ldr movz movk : List ℕ) → InitialExec o s adrp ldr
+    → IsRewritten MovzXnLsl16 adrp movz → IsRewritten MovkXn ldr movk
+    → (adrp_of_entry ldr_of_entry movz_of_offset movk_of_offset : List ℕ)
+    → IsRelocated names.R_AARCH64_TLSIE_ADR_GOTTPREL_PAGE21 o adrp adrp_of_entry
+    → IsRelocated names.R_AARCH64_TLSIE_LD64_GOTTPREL_LO12_NC (behind 4 o) ldr ldr_of_entry
+    → IsRelocated names.R_AARCH64_TLSLE_MOVW_TPREL_G1 o movz movz_of_offset
+    → IsRelocated names.R_AARCH64_TLSLE_MOVW_TPREL_G0_NC (behind 4 o) movk movk_of_offset
+    → RunAlike (pair adrp_of_entry ldr_of_entry) (pair movz_of_offset movk_of_offset) s

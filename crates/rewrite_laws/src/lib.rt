@@ -10,6 +10,7 @@ ghost use Rattle.rewrite_laws.specs.AArch64Laws as aarch64_laws;
 /// AArch64: the address of a symbol without the GOT.
 pub fn aarch64()
     ensures got { aarch64_laws.GotToAddress }
+    ensures initial_exec { aarch64_laws.InitialExecToLocalExec }
 {
     relocation_laws::aarch64();
 }

@@ -12,7 +12,10 @@ use Rattle.relocation_laws.specs.Schemes.{symbol_address}
 use Rattle.relocation_laws.specs.AArch64Laws as relocation_laws
 use Rattle.relocation_laws.proofs.Sums.{once}
 use Rattle.rewrite_laws.specs.AArch64Laws as aarch64_laws
-use Rattle.rewrite_laws.specs.AArch64Laws.{word_of, behind, pair}
+use Rattle.rewrite_laws.proofs.AArch64Moves.{offset_moves}
+use Rattle.rewrite_laws.specs.AArch64Machine.{moved, with_moved}
+use Rattle.rewrite_laws.proofs.AArch64Words.{ldr_of_register_after}
+use Rattle.rewrite_laws.specs.AArch64Laws.{thread_offset, word_of, behind, pair}
 use Rattle.rewrite_laws.specs.AArch64Machine.{in_64_bits, load_64, loaded, added}
 use Rattle.rewrite_laws.proofs.AArch64Words.{adrp_after, ldr_after, add_after, decodes_adrp}
 use Rattle.rewrite_laws.proofs.AArch64Steps.{set, step_adrp, step_ldr, step_add, run_pair, alike_runs, alike_twice, added_to, loaded_from, address_is}
@@ -66,5 +69,57 @@ got_pair relative entries o s adrp ldr add p made adrp1 ldr1 adrp2 add2 a1 l1 a2
     (step_add y2 n t2 second2.decodes rd2))
     (alike_twice n (in_64_bits b1) (loaded y1 t1) (in_64_bits b2) (added y2 t2) s (value1 ∙ sym value2))
 
+
+-- ---- initial-exec
+
+-- MOVZ that takes the place of `adrp xN`, and MOVK that of `ldr xN`
+movz_of : (x : ℕ) (movz : List ℕ) → movz ≡ to_le_bytes w32 (0xd2a00000 + rd_of x)
+    → word_of movz ≡ 0xd2a00000 + rd_of x
+movz_of x movz is =
+    ap word_of is ∙ from_le_bytes-to_le_bytes_4 (0xd2a00000 + rd_of x) (omega arith)
+
+movk_of : (x : ℕ) (movk : List ℕ) → movk ≡ to_le_bytes w32 (0xf2800000 + rd_of x)
+    → word_of movk ≡ 0xf2800000 + rd_of x
+movk_of x movk is =
+    ap word_of is ∙ from_le_bytes-to_le_bytes_4 (0xf2800000 + rd_of x) (omega arith)
+
+initial_exec : relocation_laws.EntryAddresses → relocation_laws.ThreadMoves
+    → aarch64_laws.InitialExecToLocalExec
+initial_exec entries moves o s adrp ldr movz movk p made_movz made_movk adrp1 ldr1 movz2 movk2 a1 l1
+    a2 b2 =
+    let n = rd_of (word_of ldr) in
+    let one = p.one_register in
+    let x1 = word_of adrp1 in
+    let y1 = word_of ldr1 in
+    let x2 = word_of movz2 in
+    let y2 = word_of movk2 in
+    let first1 = adrp_after _ _ adrp adrp1 a1.written one.first in
+    let second1 = ldr_of_register_after _ _ ldr ldr1 l1.written p.is_ldr in
+    let named = one.into_own_source.not_31 in
+    let m = offset_moves moves o p.small n (omega arith) named movz movk movz2 movk2
+    (movz_of (word_of adrp) movz made_movz ∙ ap (λ r. 0xd2a00000 + r) one.register)
+    (movk_of (word_of ldr) movk made_movk) a2 b2 s in
+    let b1 : ℤ = pos (page s.pc) +ℤ ((aarch64_form Adr).machine x1 *ℤ pos 4096) in
+    let t1 = set n (in_64_bits b1) s in
+    let t2 = set n (moved x2) s in
+    let value1 : loaded y1 t1 ≡ thread_offset o =
+    loaded_from y1 n b1 s (second1.rn_is ∙ one.into_own_source.same)
+    ∙ ap (load_64 s.memory)
+    (ap (λ q. in_64_bits ((pos (page q) +ℤ ((aarch64_form Adr).machine x1 *ℤ pos 4096)) +ℤ ((aarch64_form LdSt).machine y1 *ℤ pos 8))) p.at
+    ∙ address_is _ _ (entries.3 o p.small o.place adrp adrp1 a1 tt (sum_64 o.place 4) ldr ldr1 l1 tt))
+    ∙ p.entry in
+    alike_runs _ (pair adrp1 ldr1) (pair movz2 movk2) s (set n (loaded y1 t1) t1)
+    (set n (with_moved y2 t2) t2)
+    (run_pair x1 y1 s t1 _
+    (step_adrp x1 n s (decodes_adrp x1 first1.opcode first1.top) (first1.rd_is ∙ one.register) named) refl
+    (step_ldr y1 n t1 second1.decodes second1.rd_is named))
+    (run_pair x2 y2 s t2 _ m.first refl m.second)
+    (alike_twice n (in_64_bits b1) (loaded y1 t1) (moved x2) (with_moved y2 t2) s (value1 ∙ sym m.value_is))
+
 pub returns : goal.returns
-returns c = record { got = got_pair c.aarch64.ensures.relative c.aarch64.ensures.entries }
+returns c =
+    let laws = c.aarch64.ensures in
+    record {
+      got = got_pair laws.relative laws.entries;
+      initial_exec = initial_exec laws.entries laws.thread_moves;
+    }
