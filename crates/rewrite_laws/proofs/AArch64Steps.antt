@@ -142,3 +142,18 @@ loaded_from y n a s rn =
     ap (λ v. load_64 s.memory (in_64_bits (pos v +ℤ ((aarch64_form LdSt).machine y *ℤ pos 8))))
     (read_back n (in_64_bits a) (rn_of y) s rn)
     ∙ ap (load_64 s.memory) (in_two_steps a ((aarch64_form LdSt).machine y *ℤ pos 8))
+
+-- A register that is written once, after an instruction that changes nothing
+once_counts : (b : Bool) (u v v2 r : ℕ) → v ≡ v2 → cond b v (cond b u r) ≡ cond b v2 r
+once_counts true u v v2 r e = e
+once_counts false u v v2 r e = refl
+
+pub alike_once : (n u v v2 : ℕ) (s : State) → v ≡ v2
+    → AreAlikeBut (λ _. false) (set n v (set n u s)) (set n v2 (go_on s))
+alike_once n u v v2 s same =
+    record {
+      registers = λ m any. once_counts (eqb m n) u v v2 (s.registers m) same;
+      pc = refl;
+      memory = refl;
+      thread_pointer = refl;
+    }

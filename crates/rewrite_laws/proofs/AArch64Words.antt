@@ -30,6 +30,7 @@ use Rattle.linker_utils.specs.Relocate.{bits_taken, with_bit_31_if}
 use Rattle.linker_utils.specs.declared.aarch64.forms.AArch64Instruction.TheVariants.{Movnz, Movkz}
 use Rattle.linker_utils.specs.AArch64.{movn_opcode, movz_opcode, movk_opcode, imm16_places, move_opcode, moved_bits, shift_of}
 use Rattle.rewrite_laws.specs.AArch64Machine.{movn_or_movz, movk_64}
+use Rattle.rewrite_laws.specs.AArch64Machine.{bl, b}
 
 -- ---- what a write keeps
 
@@ -192,6 +193,14 @@ pub ldr_of_register_after : (bits : BitRange) (v : ℤ) (before after : List ℕ
     (from_le_bytes w32 after)
 ldr_of_register_after bits v before after w is = loaded_after _ _ _ _ _ w.clears w.written is
 
+-- the same with other names of the registers
+pub adr_of_register : {k rd n word : ℕ} → rd ≡ n → IsAdrOf k rd word → IsAdrOf k n word
+adr_of_register e is = record { opcode = is.opcode; top = is.top; rd_is = is.rd_is ∙ e }
+
+pub of_registers : {kind : Instruction} {rd rn d n word : ℕ} → rd ≡ d → rn ≡ n → IsOf kind rd rn word
+    → IsOf kind d n word
+of_registers e e2 is = record { decodes = is.decodes; rd_is = is.rd_is ∙ e; rn_is = is.rn_is ∙ e2 }
+
 -- ---- moves
 
 decodes_move : (x : ℕ) → x / 2 ^ 23 ≡ movn_opcode → decode x ≡ movn_or_movz
@@ -276,3 +285,34 @@ movk_after bits v before after w op =
       rd_is = field_kept (ored_cleared places) places _ _ _ _ _ w.clears w.written 0 5 refl refl;
       shift_is = let e : shift_of x ≡ 0 = omega arith in e;
     }
+
+-- ---- branches
+
+pub decodes_bl : (x : ℕ) → x / 2 ^ 26 ≡ 0x25 → decode x ≡ bl
+decodes_bl x op =
+    let differs : field x 24 29 ≢ 0x10 = λ e. omega arith in
+    cond-false _ _ _ (not_adr 1 x differs) ∙ cond-false _ _ _ (not_adr 0 x differs)
+    ∙ cond-false _ _ _ (ne_eqb (field x 22 32) 0x244 (λ e. omega arith))
+    ∙ cond-false _ _ _ (ne_eqb (x / 2 ^ 22) 0x3e5 (λ e. omega arith))
+    ∙ cond-false _ _ _ (ne_eqb (x / 2 ^ 23) movn_opcode (λ e. omega arith))
+    ∙ cond-false _ _ _ (ne_eqb (x / 2 ^ 23) movz_opcode (λ e. omega arith))
+    ∙ cond-false _ _ _ (ne_eqb (x / 2 ^ 23) movk_opcode (λ e. omega arith))
+    ∙ cond-false _ _ _ (ne_eqb x 0xd503201f (λ e. omega arith))
+    ∙ cond-false _ _ _ (ap (λ t. t && eqb (rd_of x) 0)
+    (ne_eqb (x / 2 ^ 10) 0x358fc0 (λ e. omega arith)))
+    ∙ cond-true _ _ _ (ap (λ t. eqb t 0x25) op)
+
+pub decodes_b : (x : ℕ) → x / 2 ^ 26 ≡ 5 → decode x ≡ b
+decodes_b x op =
+    let differs : field x 24 29 ≢ 0x10 = λ e. omega arith in
+    cond-false _ _ _ (not_adr 1 x differs) ∙ cond-false _ _ _ (not_adr 0 x differs)
+    ∙ cond-false _ _ _ (ne_eqb (field x 22 32) 0x244 (λ e. omega arith))
+    ∙ cond-false _ _ _ (ne_eqb (x / 2 ^ 22) 0x3e5 (λ e. omega arith))
+    ∙ cond-false _ _ _ (ne_eqb (x / 2 ^ 23) movn_opcode (λ e. omega arith))
+    ∙ cond-false _ _ _ (ne_eqb (x / 2 ^ 23) movz_opcode (λ e. omega arith))
+    ∙ cond-false _ _ _ (ne_eqb (x / 2 ^ 23) movk_opcode (λ e. omega arith))
+    ∙ cond-false _ _ _ (ne_eqb x 0xd503201f (λ e. omega arith))
+    ∙ cond-false _ _ _ (ap (λ t. t && eqb (rd_of x) 0)
+    (ne_eqb (x / 2 ^ 10) 0x358fc0 (λ e. omega arith)))
+    ∙ cond-false _ _ _ (ne_eqb (x / 2 ^ 26) 0x25 (λ e. omega arith))
+    ∙ cond-true _ _ _ (ap (λ t. eqb t 5) op)

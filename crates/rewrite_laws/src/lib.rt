@@ -11,6 +11,8 @@ ghost use Rattle.rewrite_laws.specs.AArch64Laws as aarch64_laws;
 pub fn aarch64()
     ensures got { aarch64_laws.GotToAddress }
     ensures initial_exec { aarch64_laws.InitialExecToLocalExec }
+    ensures address { aarch64_laws.AddressToAdr }
+    ensures weak { aarch64_laws.WeakBranches }
 {
     relocation_laws::aarch64();
 }

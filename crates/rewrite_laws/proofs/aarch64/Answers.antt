@@ -1,120 +1,156 @@
 -- The laws of AArch64.
-use Rattle.std.proofs.Common.{◌≡◌, ℕ, ◌+◌, refl, sym, ◌∙◌, ap, arith, List, pos, ◌*ℤ◌, ◌+ℤ◌}
-use Rattle.std.specs.Prelude.{ℤ}
+use Rattle.std.proofs.Common.{◌≡◌, ◌≢◌, ℕ, ◌+◌, ◌-◌, ◌*◌, ◌/◌, ◌%◌, ◌^◌, refl, sym, ◌∙◌, ap, arith, List}
 use Rattle.linker_base.specs.Bits.{field}
-use Rattle.std.specs.Int.{w32, to_le_bytes}
-use Rattle.std.proofs.lemmas.Nat.{from_le_bytes-to_le_bytes_4}
-use Rattle.linker_utils.specs.AArch64.{aarch64_form, rd_of, rn_of}
-use Rattle.linker_utils.specs.LoongArch.{page}
+use Rattle.linker_utils.specs.AArch64.{rd_of, rn_of}
 use Rattle.linker_utils.specs.Value.{sum_64}
-use Rattle.linker_utils.specs.declared.aarch64.forms.AArch64Instruction.TheVariants.{Adr, Add, LdSt}
-use Rattle.relocation_laws.specs.Schemes.{symbol_address}
 use Rattle.relocation_laws.specs.AArch64Laws as relocation_laws
-use Rattle.relocation_laws.proofs.Sums.{once}
 use Rattle.rewrite_laws.specs.AArch64Laws as aarch64_laws
+use Rattle.rewrite_laws.specs.AArch64Laws.{word_of, pair}
 use Rattle.rewrite_laws.proofs.AArch64Moves.{offset_moves}
-use Rattle.rewrite_laws.specs.AArch64Machine.{moved, with_moved}
+use Rattle.rewrite_laws.proofs.AArch64Pairs.{word_is, loads, adds_pair}
+use Rattle.rewrite_laws.proofs.AArch64Words.{adr_of_register, of_registers, adrp_after, ldr_after, add_after}
 use Rattle.rewrite_laws.proofs.AArch64Words.{ldr_of_register_after}
-use Rattle.rewrite_laws.specs.AArch64Laws.{thread_offset, word_of, behind, pair}
-use Rattle.rewrite_laws.specs.AArch64Machine.{in_64_bits, load_64, loaded, added}
-use Rattle.rewrite_laws.proofs.AArch64Words.{adrp_after, ldr_after, add_after, decodes_adrp}
-use Rattle.rewrite_laws.proofs.AArch64Steps.{set, step_adrp, step_ldr, step_add, run_pair, alike_runs, alike_twice, added_to, loaded_from, address_is}
+use Rattle.rewrite_laws.proofs.AArch64Steps.{run_pair, alike_runs, alike_twice}
 use Rattle.rewrite_laws.proofs.aarch64.Goals as goal
+use Rattle.rewrite_laws.proofs.AArch64Steps.{set, step_adr, address_is, alike_once}
+use Rattle.rewrite_laws.proofs.AArch64Words.{masked_field, adr_after, decodes_adr, decodes_b, decodes_bl}
+use Rattle.rewrite_laws.specs.AArch64Machine.{in_64_bits, adr_address, go_on, go_to, branch_target, execute, step, write_x, next_pc}
+use Rattle.rewrite_laws.specs.AArch64Laws.{behind}
+use Rattle.relocation_laws.proofs.Sums.{once, sum_below}
+use Rattle.relocation_laws.specs.Schemes.{AreAddresses, symbol_address}
+use Rattle.linker_utils.specs.declared.aarch64.forms.AArch64Instruction.TheVariants.{Adr}
+use Rattle.linker_utils.specs.declared.elf.value.Operands.{Operands}
+use Rattle.linker_utils.specs.AArch64.{nop, aarch64_form}
+use Rattle.std.proofs.lemmas.Bool.{cond-false, eqb-true}
+use Rattle.std.specs.Int.{w64, bit_at, to_le_bytes}
+use Rattle.std.proofs.Common.{◌<◌, pos, ◌+ℤ◌, drop, [], ◌∷◌, eqb}
 
--- `ldr xN` made `add xN`
-add_of_ldr : (x : ℕ) (add : List ℕ) → add ≡ to_le_bytes w32 (0x91000000 + field x 0 21)
-    → word_of add ≡ 0x91000000 + field x 0 21
-add_of_ldr x add is =
-    ap word_of is ∙ from_le_bytes-to_le_bytes_4 (0x91000000 + field x 0 21) (omega arith)
+-- the words of `nop` and of what stands behind it
+first_word : (r : ℕ) → r < 2 ^ 32 → word_of (to_le_bytes w64 (nop + r * 2 ^ 32)) ≡ nop
+first_word r small = omega arith
+
+second_word : (r : ℕ) → r < 2 ^ 32 → word_of (drop 4 (to_le_bytes w64 (nop + r * 2 ^ 32))) ≡ r
+second_word r small = omega arith
+
+small_behind : (n : ℕ) (o : Operands) → AreAddresses o → AreAddresses (behind n o)
+small_behind n o small =
+    record {
+      symbol = small.symbol;
+      place = sum_below o.place n;
+      got_entry = small.got_entry;
+      got_base = small.got_base;
+      plt_entry = small.plt_entry;
+      tls_base = small.tls_base;
+    }
 
 got_pair : relocation_laws.RelativeAddresses → relocation_laws.EntryAddresses
     → aarch64_laws.GotToAddress
 got_pair relative entries o s adrp ldr add p made adrp1 ldr1 adrp2 add2 a1 l1 a2 d2 =
-    let n = rd_of (word_of ldr) in
     let one = p.one_register in
-    let x1 = word_of adrp1 in
-    let y1 = word_of ldr1 in
-    let x2 = word_of adrp2 in
-    let y2 = word_of add2 in
-    let first1 = adrp_after _ _ adrp adrp1 a1.written one.first in
-    let first2 = adrp_after _ _ adrp adrp2 a2.written one.first in
-    let second1 = ldr_after _ _ ldr ldr1 l1.written p.is_ldr in
-    let made_word = add_of_ldr (word_of ldr) add made in
-    let second2 = add_after _ _ add add2 d2.written
-    (let op : field (word_of add) 22 32 ≡ 0x244 = omega arith in op) in
-    let rd2 : rd_of y2 ≡ n = second2.rd_is ∙ (let e : rd_of (word_of add) ≡ rd_of (word_of ldr) = omega arith in e) in
-    let rn2 : rn_of y2 ≡ n = second2.rn_is ∙ (let e : rn_of (word_of add) ≡ rn_of (word_of ldr) = omega arith in e) ∙ one.into_own_source.same in
+    let n = rd_of (word_of ldr) in
     let named = one.into_own_source.not_31 in
-    let b1 : ℤ = pos (page s.pc) +ℤ ((aarch64_form Adr).machine x1 *ℤ pos 4096) in
-    let b2 : ℤ = pos (page s.pc) +ℤ ((aarch64_form Adr).machine x2 *ℤ pos 4096) in
-    let t1 = set n (in_64_bits b1) s in
-    let t2 = set n (in_64_bits b2) s in
-    let value1 : loaded y1 t1 ≡ symbol_address o =
-    loaded_from y1 n b1 s (second1.rn_is ∙ one.into_own_source.same)
-    ∙ ap (load_64 s.memory)
-    (ap (λ q. in_64_bits ((pos (page q) +ℤ ((aarch64_form Adr).machine x1 *ℤ pos 4096)) +ℤ ((aarch64_form LdSt).machine y1 *ℤ pos 8))) p.at
-    ∙ address_is _ _ (entries.0 o p.small o.place adrp adrp1 a1 tt (sum_64 o.place 4) ldr ldr1 l1 tt))
-    ∙ p.entry in
-    let value2 : added y2 t2 ≡ symbol_address o =
-    added_to y2 n b2 s rn2
-    ∙ ap (λ q. in_64_bits ((pos (page q) +ℤ ((aarch64_form Adr).machine x2 *ℤ pos 4096)) +ℤ (aarch64_form Add).machine y2)) p.at
-    ∙ ap (λ z. in_64_bits ((pos (page o.place) +ℤ ((aarch64_form Adr).machine x2 *ℤ pos 4096)) +ℤ z)) (sym (once ((aarch64_form Add).machine y2)))
-    ∙ address_is _ _ (relative.0.0 o p.small o.place adrp adrp2 a2 tt (sum_64 o.place 4) add add2 d2 tt) in
-    alike_runs _ (pair adrp1 ldr1) (pair adrp2 add2) s (set n (loaded y1 t1) t1) (set n (added y2 t2) t2)
-    (run_pair x1 y1 s t1 _
-    (step_adrp x1 n s (decodes_adrp x1 first1.opcode first1.top) (first1.rd_is ∙ one.register) named) refl
-    (step_ldr y1 n t1 second1.decodes second1.rd_is named))
-    (run_pair x2 y2 s t2 _
-    (step_adrp x2 n s (decodes_adrp x2 first2.opcode first2.top) (first2.rd_is ∙ one.register) named) refl
-    (step_add y2 n t2 second2.decodes rd2))
-    (alike_twice n (in_64_bits b1) (loaded y1 t1) (in_64_bits b2) (added y2 t2) s (value1 ∙ sym value2))
-
-
--- ---- initial-exec
-
--- MOVZ that takes the place of `adrp xN`, and MOVK that of `ldr xN`
-movz_of : (x : ℕ) (movz : List ℕ) → movz ≡ to_le_bytes w32 (0xd2a00000 + rd_of x)
-    → word_of movz ≡ 0xd2a00000 + rd_of x
-movz_of x movz is =
-    ap word_of is ∙ from_le_bytes-to_le_bytes_4 (0xd2a00000 + rd_of x) (omega arith)
-
-movk_of : (x : ℕ) (movk : List ℕ) → movk ≡ to_le_bytes w32 (0xf2800000 + rd_of x)
-    → word_of movk ≡ 0xf2800000 + rd_of x
-movk_of x movk is =
-    ap word_of is ∙ from_le_bytes-to_le_bytes_4 (0xf2800000 + rd_of x) (omega arith)
+    let same = one.into_own_source.same in
+    let made_word = word_is (0x91000000 + field (word_of ldr) 0 21) add (omega arith) made in
+    let op : field (word_of add) 22 32 ≡ 0x244 = omega arith in
+    let rd : rd_of (word_of add) ≡ n = omega arith in
+    let rn : rn_of (word_of add) ≡ rn_of (word_of ldr) = omega arith in
+    let l = loads o n n (word_of adrp1) (word_of ldr1) o.got_entry s
+    (adr_of_register one.register (adrp_after _ _ adrp adrp1 a1.written one.first))
+    (of_registers refl same (ldr_after _ _ ldr ldr1 l1.written p.is_ldr)) named named p.at
+    (entries.0 o p.small o.place adrp adrp1 a1 tt (sum_64 o.place 4) ldr ldr1 l1 tt) in
+    let d = adds_pair o n (word_of adrp2) (word_of add2) _ s
+    (adr_of_register one.register (adrp_after _ _ adrp adrp2 a2.written one.first))
+    (of_registers rd (rn ∙ same) (add_after _ _ add add2 d2.written op)) named p.at
+    (relative.0.0 o p.small o.place adrp adrp2 a2 tt (sum_64 o.place 4) add add2 d2 tt) in
+    alike_runs _ (pair adrp1 ldr1) (pair adrp2 add2) s _ _
+    (run_pair (word_of adrp1) (word_of ldr1) s _ _ l.first refl l.second)
+    (run_pair (word_of adrp2) (word_of add2) s _ _ d.first refl d.second)
+    (alike_twice n _ _ _ _ s (l.value_is ∙ p.entry ∙ sym d.value_is))
 
 initial_exec : relocation_laws.EntryAddresses → relocation_laws.ThreadMoves
     → aarch64_laws.InitialExecToLocalExec
 initial_exec entries moves o s adrp ldr movz movk p made_movz made_movk adrp1 ldr1 movz2 movk2 a1 l1
     a2 b2 =
-    let n = rd_of (word_of ldr) in
     let one = p.one_register in
-    let x1 = word_of adrp1 in
-    let y1 = word_of ldr1 in
-    let x2 = word_of movz2 in
-    let y2 = word_of movk2 in
-    let first1 = adrp_after _ _ adrp adrp1 a1.written one.first in
-    let second1 = ldr_of_register_after _ _ ldr ldr1 l1.written p.is_ldr in
+    let n = rd_of (word_of ldr) in
     let named = one.into_own_source.not_31 in
+    let l = loads o n n (word_of adrp1) (word_of ldr1) o.got_entry s
+    (adr_of_register one.register (adrp_after _ _ adrp adrp1 a1.written one.first))
+    (of_registers refl one.into_own_source.same (ldr_of_register_after _ _ ldr ldr1 l1.written p.is_ldr))
+    named named p.at
+    (entries.3 o p.small o.place adrp adrp1 a1 tt (sum_64 o.place 4) ldr ldr1 l1 tt) in
     let m = offset_moves moves o p.small n (omega arith) named movz movk movz2 movk2
-    (movz_of (word_of adrp) movz made_movz ∙ ap (λ r. 0xd2a00000 + r) one.register)
-    (movk_of (word_of ldr) movk made_movk) a2 b2 s in
-    let b1 : ℤ = pos (page s.pc) +ℤ ((aarch64_form Adr).machine x1 *ℤ pos 4096) in
-    let t1 = set n (in_64_bits b1) s in
-    let t2 = set n (moved x2) s in
-    let value1 : loaded y1 t1 ≡ thread_offset o =
-    loaded_from y1 n b1 s (second1.rn_is ∙ one.into_own_source.same)
-    ∙ ap (load_64 s.memory)
-    (ap (λ q. in_64_bits ((pos (page q) +ℤ ((aarch64_form Adr).machine x1 *ℤ pos 4096)) +ℤ ((aarch64_form LdSt).machine y1 *ℤ pos 8))) p.at
-    ∙ address_is _ _ (entries.3 o p.small o.place adrp adrp1 a1 tt (sum_64 o.place 4) ldr ldr1 l1 tt))
-    ∙ p.entry in
-    alike_runs _ (pair adrp1 ldr1) (pair movz2 movk2) s (set n (loaded y1 t1) t1)
-    (set n (with_moved y2 t2) t2)
-    (run_pair x1 y1 s t1 _
-    (step_adrp x1 n s (decodes_adrp x1 first1.opcode first1.top) (first1.rd_is ∙ one.register) named) refl
-    (step_ldr y1 n t1 second1.decodes second1.rd_is named))
-    (run_pair x2 y2 s t2 _ m.first refl m.second)
-    (alike_twice n (in_64_bits b1) (loaded y1 t1) (moved x2) (with_moved y2 t2) s (value1 ∙ sym m.value_is))
+    (word_is (0xd2a00000 + rd_of (word_of adrp)) movz (omega arith) made_movz
+    ∙ ap (λ r. 0xd2a00000 + r) one.register)
+    (word_is (0xf2800000 + n) movk (omega arith) made_movk) a2 b2 s in
+    alike_runs _ (pair adrp1 ldr1) (pair movz2 movk2) s _ _
+    (run_pair (word_of adrp1) (word_of ldr1) s _ _ l.first refl l.second)
+    (run_pair (word_of movz2) (word_of movk2) s _ _ m.first refl m.second)
+    (alike_twice n _ _ _ _ s (l.value_is ∙ p.entry ∙ sym m.value_is))
+
+address : relocation_laws.RelativeAddresses → relocation_laws.Literals → aarch64_laws.AddressToAdr
+address relative literals o s both rewritten p made adrp1 add1 adr2 a1 d1 b2 =
+    let one = p.one_register in
+    let add0 = drop 4 both in
+    let n = rd_of (word_of add0) in
+    let named = one.into_own_source.not_31 in
+    let r = 0x10000000 + rd_of (word_of both) in
+    let d = adds_pair o n (word_of adrp1) (word_of add1) _ s
+    (adr_of_register one.register (adrp_after _ _ both adrp1 a1.written one.first))
+    (of_registers refl one.into_own_source.same (add_after _ _ add0 add1 d1.written
+    (masked_field (word_of add0) 0xffc00000 0x91000000 22 32 p.is_add refl))) named p.at
+    (relative.0.0 o p.small o.place both adrp1 a1 tt (sum_64 o.place 4) add0 add1 d1 tt) in
+    let word1 : word_of rewritten ≡ nop = ap word_of made ∙ first_word r (omega arith) in
+    let word2 : word_of (drop 4 rewritten) ≡ r =
+    ap (λ b. word_of (drop 4 b)) made ∙ second_word r (omega arith) in
+    let y = word_of adr2 in
+    let adr = adr_after 0 _ _ (drop 4 rewritten) adr2 b2.written
+    (let e : field (word_of (drop 4 rewritten)) 24 29 ≡ 0x10 = omega arith in e)
+    (let e : bit_at (word_of (drop 4 rewritten)) 31 ≡ 0 = omega arith in e) in
+    let rd : rd_of y ≡ n =
+    adr.rd_is ∙ (let e : rd_of (word_of (drop 4 rewritten)) ≡ rd_of (word_of both) = omega arith in e)
+    ∙ one.register in
+    let t = go_on s in
+    let value : adr_address y t ≡ symbol_address o =
+    ap (λ q. in_64_bits (pos (sum_64 q 4) +ℤ (aarch64_form Adr).machine y)) p.at
+    ∙ ap (λ z. in_64_bits (pos (sum_64 o.place 4) +ℤ z)) (sym (once ((aarch64_form Adr).machine y)))
+    ∙ address_is _ _ (literals.0 (behind 4 o) (small_behind 4 o p.small) o.place (drop 4 rewritten)
+    adr2 b2 tt) in
+    alike_runs _ (pair adrp1 add1) (pair rewritten adr2) s _ (set n (adr_address y t) t)
+    (run_pair (word_of adrp1) (word_of add1) s _ _ d.first refl d.second)
+    (run_pair (word_of rewritten) y s t _ (ap (λ w. step w s) word1) refl
+    (step_adr y n t (decodes_adr y adr.opcode adr.top) rd named))
+    (alike_once n _ _ (adr_address y t) s (d.value_is ∙ sym value))
+
+-- ---- branches
+
+branches : aarch64_laws.WeakBranches
+branches = (
+  λ s branch nop is leads made.
+      let word = word_is 0xd503201f nop (omega arith) made in
+      alike_runs _ (word_of branch ∷ []) (word_of nop ∷ []) s
+      (go_to (branch_target (word_of branch) s) s) (go_on s)
+      (ap (λ k. execute k (word_of branch) s) (decodes_b (word_of branch) (eqb-true _ _ is)))
+      (ap (λ w. step w s) word)
+      (record {
+        registers = λ n any. refl;
+        pc = leads;
+        memory = refl;
+        thread_pointer = refl;
+      }),
+  λ s branch nop is leads made.
+      let word = word_is 0xd503201f nop (omega arith) made in
+      alike_runs _ (word_of branch ∷ []) (word_of nop ∷ []) s
+      (go_to (branch_target (word_of branch) s) (write_x 30 (next_pc s) s)) (go_on s)
+      (ap (λ k. execute k (word_of branch) s) (decodes_bl (word_of branch) (eqb-true _ _ is)))
+      (ap (λ w. step w s) word)
+      (record {
+        registers = λ n other. cond-false (eqb n 30) (next_pc s) (s.registers n) other;
+        pc = leads;
+        memory = refl;
+        thread_pointer = refl;
+      }),
+)
 
 pub returns : goal.returns
 returns c =
@@ -122,4 +158,6 @@ returns c =
     record {
       got = got_pair laws.relative laws.entries;
       initial_exec = initial_exec laws.entries laws.thread_moves;
+      address = address laws.relative laws.literals;
+      weak = branches;
     }

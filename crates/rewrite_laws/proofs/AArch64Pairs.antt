@@ -1,0 +1,79 @@
+-- `adrp` with an instruction that has the offset in the page.
+use Rattle.std.proofs.Common.{◌≡◌, ◌≢◌, ℕ, ◌^◌, ◌<◌, refl, sym, ◌∙◌, ap, arith, List, pos, ◌*ℤ◌, ◌+ℤ◌, Some}
+use Rattle.std.specs.Prelude.{ℤ}
+use Rattle.std.specs.Int.{w32, from_le_bytes, to_le_bytes}
+use Rattle.std.proofs.lemmas.Nat.{from_le_bytes-to_le_bytes_4}
+use Rattle.linker_utils.specs.AArch64.{aarch64_form}
+use Rattle.linker_utils.specs.LoongArch.{page}
+use Rattle.linker_utils.specs.declared.aarch64.forms.AArch64Instruction.TheVariants.{Adr, Add, LdSt}
+use Rattle.linker_utils.specs.declared.elf.value.Operands.{Operands}
+use Rattle.relocation_laws.specs.AArch64Laws.{page_and_offset}
+use Rattle.relocation_laws.specs.Schemes.{IsAddress}
+use Rattle.relocation_laws.proofs.Sums.{once}
+use Rattle.rewrite_laws.specs.AArch64Laws.{word_of}
+use Rattle.rewrite_laws.specs.AArch64Machine.{State, step, in_64_bits, load_64, adrp_address, loaded}
+use Rattle.rewrite_laws.specs.AArch64Machine.{added, add, ldr}
+use Rattle.rewrite_laws.proofs.AArch64Words.{IsAdrOf, IsOf, decodes_adrp}
+use Rattle.rewrite_laws.proofs.AArch64Steps.{set, step_adrp, step_ldr, step_add, in_two_steps}
+use Rattle.rewrite_laws.proofs.AArch64Steps.{loaded_from, address_is, read_back}
+
+-- the word of a rewritten instruction
+pub word_is : (n : ℕ) (bytes : List ℕ) → n < 2 ^ 32 → bytes ≡ to_le_bytes w32 n → word_of bytes ≡ n
+word_is n bytes small is = ap (from_le_bytes w32) is ∙ from_le_bytes-to_le_bytes_4 n small
+
+-- `adrp xN` and `ldr xD, [xN]` leave a value in register d.
+pub record Loads (n d x y value : ℕ) (s : State) : Type 0 where
+  pub first : step x s ≡ Some (set n (adrp_address x s) s)
+  pub second : step y (set n (adrp_address x s) s)
+      ≡ Some (set d (loaded y (set n (adrp_address x s) s)) (set n (adrp_address x s) s))
+  pub value_is : loaded y (set n (adrp_address x s) s) ≡ value
+
+pub loads : (o : Operands) (n d x y entry : ℕ) (s : State) → IsAdrOf 1 n x → IsOf ldr d n y
+    → n ≢ 31 → d ≢ 31 → s.pc ≡ o.place → IsAddress (page_and_offset LdSt 8 o x y) entry
+    → Loads n d x y (load_64 s.memory entry) s
+loads o n d x y entry s first second named named2 at leads =
+    let t = set n (adrp_address x s) s in
+    record {
+      first = step_adrp x n s (decodes_adrp x first.opcode first.top) first.rd_is named;
+      second = step_ldr y d t second.decodes second.rd_is named2;
+      value_is =
+          loaded_from y n (pos (page s.pc) +ℤ ((aarch64_form Adr).machine x *ℤ pos 4096)) s second.rn_is
+          ∙ ap (λ p. load_64 s.memory
+          (in_64_bits ((pos (page p) +ℤ ((aarch64_form Adr).machine x *ℤ pos 4096))
+          +ℤ ((aarch64_form LdSt).machine y *ℤ pos 8)))) at
+          ∙ ap (load_64 s.memory) (address_is _ _ leads);
+    }
+
+-- what an ADD of register n, which `adrp` has written, comes to
+pub adds_up : (o : Operands) (x y target : ℕ) (s : State) → s.pc ≡ o.place
+    → IsAddress (page_and_offset Add 1 o x y) target
+    → in_64_bits (pos (adrp_address x s) +ℤ (aarch64_form Add).machine y) ≡ target
+adds_up o x y target s at leads =
+    let a = pos (page s.pc) +ℤ ((aarch64_form Adr).machine x *ℤ pos 4096) in
+    in_two_steps a ((aarch64_form Add).machine y)
+    ∙ ap (λ p. in_64_bits ((pos (page p) +ℤ ((aarch64_form Adr).machine x *ℤ pos 4096))
+    +ℤ (aarch64_form Add).machine y)) at
+    ∙ ap (λ z. in_64_bits ((pos (page o.place) +ℤ ((aarch64_form Adr).machine x *ℤ pos 4096)) +ℤ z))
+    (sym (once ((aarch64_form Add).machine y)))
+    ∙ address_is _ _ leads
+
+-- `adrp xN` and `add xN, xN` leave a value in register n.
+pub record Adds (n x y value : ℕ) (s : State) : Type 0 where
+  pub first : step x s ≡ Some (set n (adrp_address x s) s)
+  pub second : step y (set n (adrp_address x s) s)
+      ≡ Some (set n (added y (set n (adrp_address x s) s)) (set n (adrp_address x s) s))
+  pub value_is : added y (set n (adrp_address x s) s) ≡ value
+
+pub adds_pair : (o : Operands) (n x y target : ℕ) (s : State) → IsAdrOf 1 n x → IsOf add n n y
+    → n ≢ 31 → s.pc ≡ o.place → IsAddress (page_and_offset Add 1 o x y) target
+    → Adds n x y target s
+adds_pair o n x y target s first second named at leads =
+    let t = set n (adrp_address x s) s in
+    record {
+      first = step_adrp x n s (decodes_adrp x first.opcode first.top) first.rd_is named;
+      second = step_add y n t second.decodes second.rd_is;
+      value_is =
+          ap (λ v. in_64_bits (pos v +ℤ (aarch64_form Add).machine y))
+          (read_back n (adrp_address x s) _ s second.rn_is)
+          ∙ adds_up o x y target s at leads;
+    }
