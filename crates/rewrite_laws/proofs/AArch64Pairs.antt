@@ -1,6 +1,5 @@
 -- `adrp` with an instruction that has the offset in the page.
-use Rattle.std.proofs.Common.{◌≡◌, ◌≢◌, ℕ, ◌^◌, ◌<◌, refl, sym, ◌∙◌, ap, arith, List, pos, ◌*ℤ◌, ◌+ℤ◌, Some}
-use Rattle.std.specs.Prelude.{ℤ}
+use Rattle.std.proofs.Common.{◌≡◌, ◌≢◌, ℕ, ◌^◌, ◌<◌, sym, ◌∙◌, ap, List, pos, ◌*ℤ◌, ◌+ℤ◌, Some}
 use Rattle.std.specs.Int.{w32, from_le_bytes, to_le_bytes}
 use Rattle.std.proofs.lemmas.Nat.{from_le_bytes-to_le_bytes_4}
 use Rattle.linker_utils.specs.AArch64.{aarch64_form}

@@ -94,12 +94,15 @@ read_back n v r s same = cond-true (eqb r n) v (s.registers r) (eq-eqb r n same)
 
 -- ---- sequences
 
+pub run_more : (x y : ℕ) (words : List ℕ) (s t u : State) → step x s ≡ Some t → t.pc ≡ next_pc s
+    → run (y ∷ words) t ≡ Some u → run (x ∷ y ∷ words) s ≡ Some u
+run_more x y words s t u first on rest =
+    ap (continue (next_pc s) (λ r. run (y ∷ words) r)) first
+    ∙ cond-true (eqb t.pc (next_pc s)) (run (y ∷ words) t) None (eq-eqb t.pc (next_pc s) on) ∙ rest
+
 pub run_pair : (x y : ℕ) (s t u : State) → step x s ≡ Some t → t.pc ≡ next_pc s → step y t ≡ Some u
     → run (x ∷ y ∷ []) s ≡ Some u
-run_pair x y s t u first on second =
-    ap (continue (next_pc s) (λ r. step y r)) first
-    ∙ cond-true (eqb t.pc (next_pc s)) (step y t) None
-    (eq-eqb t.pc (next_pc s) on) ∙ second
+run_pair x y s t u first on second = run_more x y [] s t u first on second
 
 pub alike_runs : (differing : ℕ → Bool) (old new : List ℕ) (s t u : State)
     → run old s ≡ Some t → run new s ≡ Some u → AreAlikeBut differing t u

@@ -1,3 +1,4 @@
+pub mod AArch64Descriptors
 pub mod AArch64Moves
 pub mod AArch64Pairs
 pub mod AArch64Steps

@@ -12,6 +12,8 @@ pub fn aarch64()
     ensures got { aarch64_laws.GotToAddress }
     ensures initial_exec { aarch64_laws.InitialExecToLocalExec }
     ensures address { aarch64_laws.AddressToAdr }
+    ensures descriptor_to_local_exec { aarch64_laws.DescriptorToLocalExec }
+    ensures descriptor_to_initial_exec { aarch64_laws.DescriptorToInitialExec }
     ensures weak { aarch64_laws.WeakBranches }
 {
     relocation_laws::aarch64();

@@ -1,5 +1,5 @@
 -- The laws of AArch64.
-use Rattle.std.proofs.Common.{◌≡◌, ◌≢◌, ℕ, ◌+◌, ◌-◌, ◌*◌, ◌/◌, ◌%◌, ◌^◌, refl, sym, ◌∙◌, ap, arith, List}
+use Rattle.std.proofs.Common.{◌≡◌, ℕ, ◌+◌, ◌*◌, ◌^◌, refl, sym, ◌∙◌, ap, arith}
 use Rattle.linker_base.specs.Bits.{field}
 use Rattle.linker_utils.specs.AArch64.{rd_of, rn_of}
 use Rattle.linker_utils.specs.Value.{sum_64}
@@ -24,6 +24,7 @@ use Rattle.linker_utils.specs.AArch64.{nop, aarch64_form}
 use Rattle.std.proofs.lemmas.Bool.{cond-false, eqb-true}
 use Rattle.std.specs.Int.{w64, bit_at, to_le_bytes}
 use Rattle.std.proofs.Common.{◌<◌, pos, ◌+ℤ◌, drop, [], ◌∷◌, eqb}
+use Rattle.rewrite_laws.proofs.AArch64Descriptors.{to_local_exec, to_initial_exec}
 
 -- the words of `nop` and of what stands behind it
 first_word : (r : ℕ) → r < 2 ^ 32 → word_of (to_le_bytes w64 (nop + r * 2 ^ 32)) ≡ nop
@@ -159,5 +160,7 @@ returns c =
       got = got_pair laws.relative laws.entries;
       initial_exec = initial_exec laws.entries laws.thread_moves;
       address = address laws.relative laws.literals;
+      descriptor_to_local_exec = to_local_exec laws.entries laws.thread_moves;
+      descriptor_to_initial_exec = to_initial_exec laws.entries;
       weak = branches;
     }
