@@ -31,6 +31,7 @@ use Rattle.linker_utils.specs.declared.aarch64.forms.AArch64Instruction.TheVaria
 use Rattle.linker_utils.specs.AArch64.{movn_opcode, movz_opcode, movk_opcode, imm16_places, move_opcode, moved_bits, shift_of}
 use Rattle.rewrite_laws.specs.AArch64Machine.{movn_or_movz, movk_64}
 use Rattle.rewrite_laws.specs.AArch64Machine.{bl, b}
+use Rattle.linker_utils.specs.declared.aarch64.forms.AArch64Instruction.TheVariants.{JumpCall}
 
 -- ---- what a write keeps
 
@@ -287,6 +288,14 @@ movk_after bits v before after w op =
     }
 
 -- ---- branches
+
+-- the opcode of a branch after a write
+pub branch_after : (bits : BitRange) (v : ℤ) (before after : List ℕ)
+    → InstructionWritten (AArch64 JumpCall) bits v before after
+    → from_le_bytes w32 after / 2 ^ 26 ≡ from_le_bytes w32 before / 2 ^ 26
+branch_after bits v before after w =
+    let places = or_bits_to 0 25 0 in
+    top_kept (ored_cleared places) places _ _ _ _ _ w.clears w.written 26 refl refl
 
 pub decodes_bl : (x : ℕ) → x / 2 ^ 26 ≡ 0x25 → decode x ≡ bl
 decodes_bl x op =

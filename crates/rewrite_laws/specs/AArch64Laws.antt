@@ -19,9 +19,9 @@ use Rattle.linker_utils.specs.declared.aarch64.rewrites.RelaxationKind.TheVarian
 use Rattle.linker_utils.specs.declared.aarch64.rewrites.RelaxationKind.TheVariants.{ReplaceWithNop}
 use Rattle.linker_utils.specs.declared.aarch64.rewrites.RelaxationKind.TheVariants.{AdrpAddToNopAdr}
 use Rattle.linker_utils.specs.declared.elf.value.Operands.{Operands}
-use Rattle.relocation_laws.specs.Schemes.{IsApplied, AreAddresses, symbol_address}
+use Rattle.relocation_laws.specs.Schemes.{IsApplied, AreAddresses, symbol_address, plt_address}
 use Rattle.rewrite_laws.specs.AArch64Machine.{State, load_64, run, RunAlike, RunAlikeBut, AreAlikeBut}
-use Rattle.rewrite_laws.specs.AArch64Machine.{next_pc, branch_target, is_b, is_bl}
+use Rattle.rewrite_laws.specs.AArch64Machine.{next_pc, is_b, is_bl}
 
 -- ---- instructions as bytes
 
@@ -197,13 +197,17 @@ DescriptorToInitialExec =
 
 -- ---- branches to undefined weak symbols
 
--- Such a branch goes on behind it. In its place `nop` does the same, but that `bl` writes the
--- address behind it to X30.
-abbrev pub BranchToNop : (ℕ → Bool) → (ℕ → Bool) → Type 0
-BranchToNop is_branch differing =
-    (s : State) (branch nop : List ℕ) → is_branch (word_of branch) ≡ true
-    → branch_target (word_of branch) s ≡ next_pc s → IsRewritten ReplaceWithNop branch nop
-    → RunAlikeBut differing (word_of branch ∷ []) (word_of nop ∷ []) s
+-- A branch to such a symbol goes on behind it: L + A is the address there. In its place `nop` does
+-- the same, but that `bl` also writes that address to X30.
+abbrev pub BranchToNop : AArch64Relocation → (ℕ → Bool) → (ℕ → Bool) → Type 0
+BranchToNop name is_branch differing =
+    (o : Operands) (s : State) (branch nop : List ℕ) → AreAddresses o → s.pc ≡ o.place
+    → plt_address o ≡ next_pc s → is_branch (word_of branch) ≡ true
+    → IsRewritten ReplaceWithNop branch nop
+    → (branch_on : List ℕ) → IsRelocated name o branch branch_on
+    → RunAlikeBut differing (word_of branch_on ∷ []) (word_of nop ∷ []) s
 
 abbrev pub WeakBranches : Type 0
-WeakBranches = BranchToNop is_b (λ _. false) × BranchToNop is_bl (λ n. n == 30)
+WeakBranches =
+    BranchToNop names.R_AARCH64_JUMP26 is_b (λ _. false)
+    × BranchToNop names.R_AARCH64_CALL26 is_bl (λ n. n == 30)

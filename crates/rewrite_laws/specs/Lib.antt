@@ -1,2 +1,3 @@
 pub mod AArch64Laws
 pub mod AArch64Machine
+pub mod AArch64Worked

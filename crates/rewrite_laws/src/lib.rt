@@ -6,6 +6,7 @@
 #![tactic(auto)]
 
 ghost use Rattle.rewrite_laws.specs.AArch64Laws as aarch64_laws;
+ghost use Rattle.rewrite_laws.specs.AArch64Worked as aarch64_worked;
 
 /// AArch64: the address of a symbol without the GOT.
 pub fn aarch64()
@@ -15,6 +16,7 @@ pub fn aarch64()
     ensures descriptor_to_local_exec { aarch64_laws.DescriptorToLocalExec }
     ensures descriptor_to_initial_exec { aarch64_laws.DescriptorToInitialExec }
     ensures weak { aarch64_laws.WeakBranches }
+    ensures steps { aarch64_worked.WorkedSteps }
 {
     relocation_laws::aarch64();
 }

@@ -25,6 +25,13 @@ use Rattle.std.proofs.lemmas.Bool.{cond-false, eqb-true}
 use Rattle.std.specs.Int.{w64, bit_at, to_le_bytes}
 use Rattle.std.proofs.Common.{◌<◌, pos, ◌+ℤ◌, drop, [], ◌∷◌, eqb}
 use Rattle.rewrite_laws.proofs.AArch64Descriptors.{to_local_exec, to_initial_exec}
+use Rattle.rewrite_laws.proofs.AArch64Words.{branch_after}
+use Rattle.rewrite_laws.specs.AArch64Worked.{WorkedSteps}
+use Rattle.rewrite_laws.specs.AArch64Machine.{State}
+use Rattle.relocation_laws.specs.Schemes.{IsAddress, plt_address}
+use Rattle.linker_utils.specs.declared.aarch64.forms.AArch64Instruction.TheVariants.{JumpCall}
+use Rattle.std.proofs.Common.{◌*ℤ◌}
+use Rattle.linker_base.specs.Form.{place_sum}
 
 -- the words of `nop` and of what stands behind it
 first_word : (r : ℕ) → r < 2 ^ 32 → word_of (to_le_bytes w64 (nop + r * 2 ^ 32)) ≡ nop
@@ -125,32 +132,48 @@ address relative literals o s both rewritten p made adrp1 add1 adr2 a1 d1 b2 =
 
 -- ---- branches
 
-branches : aarch64_laws.WeakBranches
-branches = (
-  λ s branch nop is leads made.
-      let word = word_is 0xd503201f nop (omega arith) made in
-      alike_runs _ (word_of branch ∷ []) (word_of nop ∷ []) s
-      (go_to (branch_target (word_of branch) s) s) (go_on s)
-      (ap (λ k. execute k (word_of branch) s) (decodes_b (word_of branch) (eqb-true _ _ is)))
-      (ap (λ w. step w s) word)
+branches : relocation_laws.Branches → aarch64_laws.WeakBranches
+branches laws = (
+  λ o s branch nop small at goes is made after a.
+      let x = word_of after in
+      let op = branch_after _ _ branch after a.written ∙ eqb-true _ _ is in
+      alike_runs _ (x ∷ []) (word_of nop ∷ []) s (go_to (branch_target x s) s) (go_on s)
+      (ap (λ k. execute k x s) (decodes_b x op))
+      (ap (λ w. step w s) (word_is 0xd503201f nop (omega arith) made))
       (record {
         registers = λ n any. refl;
-        pc = leads;
+        pc = goes_to o x s at (laws.1 o small o.place branch after a tt) ∙ goes;
         memory = refl;
         thread_pointer = refl;
       }),
-  λ s branch nop is leads made.
-      let word = word_is 0xd503201f nop (omega arith) made in
-      alike_runs _ (word_of branch ∷ []) (word_of nop ∷ []) s
-      (go_to (branch_target (word_of branch) s) (write_x 30 (next_pc s) s)) (go_on s)
-      (ap (λ k. execute k (word_of branch) s) (decodes_bl (word_of branch) (eqb-true _ _ is)))
-      (ap (λ w. step w s) word)
+  λ o s branch nop small at goes is made after a.
+      let x = word_of after in
+      let op = branch_after _ _ branch after a.written ∙ eqb-true _ _ is in
+      alike_runs _ (x ∷ []) (word_of nop ∷ []) s
+      (go_to (branch_target x s) (write_x 30 (next_pc s) s)) (go_on s)
+      (ap (λ k. execute k x s) (decodes_bl x op))
+      (ap (λ w. step w s) (word_is 0xd503201f nop (omega arith) made))
       (record {
         registers = λ n other. cond-false (eqb n 30) (next_pc s) (s.registers n) other;
-        pc = leads;
+        pc = goes_to o x s at (laws.0 o small o.place branch after a tt) ∙ goes;
         memory = refl;
         thread_pointer = refl;
       }),
+)
+  where
+    goes_to : (o : Operands) (x : ℕ) (s : State) → s.pc ≡ o.place
+        → IsAddress (pos o.place +ℤ ((aarch64_form JumpCall).machine x *ℤ pos 4)) (plt_address o)
+        → branch_target x s ≡ plt_address o
+    goes_to o x s at leads =
+        ap (λ p. in_64_bits (pos p +ℤ ((aarch64_form JumpCall).machine x *ℤ pos 4))) at
+        ∙ address_is _ _ leads
+
+worked : WorkedSteps
+unfolding place_sum
+worked = (
+  (refl, refl), (refl, refl), (refl, refl), (refl, refl), (refl, refl), (refl, refl), (refl, refl),
+  (refl, refl), (refl, refl), (refl, refl), (refl, refl), (refl, refl), (refl, refl), (refl, refl),
+  (refl, refl),
 )
 
 pub returns : goal.returns
@@ -162,5 +185,6 @@ returns c =
       address = address laws.relative laws.literals;
       descriptor_to_local_exec = to_local_exec laws.entries laws.thread_moves;
       descriptor_to_initial_exec = to_initial_exec laws.entries;
-      weak = branches;
+      weak = branches laws.branches;
+      steps = worked;
     }
