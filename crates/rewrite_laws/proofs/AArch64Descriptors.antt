@@ -1,7 +1,6 @@
 -- The sequence of a TLS descriptor, and what takes its place.
-use Rattle.std.proofs.Common.{◌≡◌, ◌≢◌, ℕ, ◌^◌, ◌<◌, Bool, false, refl, sym}
-use Rattle.std.proofs.Common.{◌∙◌, ap, subst, arith, List, [], ◌∷◌, eqb, cond, pos, ◌+ℤ◌, Some, Option}
-use Rattle.std.proofs.Common.{inl, inr}
+use Rattle.std.proofs.Common.{◌≡◌, ◌≢◌, ℕ, ◌^◌, ◌<◌, Bool, false, refl, sym, ◌∙◌, ap, subst, arith}
+use Rattle.std.proofs.Common.{List, [], ◌∷◌, eqb, cond, pos, ◌+ℤ◌, Some, Option, inl, inr}
 use Rattle.std.specs.Prelude.{IsSomeAnd}
 use Rattle.std.proofs.lemmas.Bool.{ne_eqb, cond-true, cond-false, or_parts}
 use Rattle.std.proofs.lemmas.Bool.Decides.{eqb_tells}
@@ -12,17 +11,18 @@ use Rattle.linker_utils.specs.declared.aarch64.forms.AArch64Instruction.TheVaria
 use Rattle.linker_utils.specs.declared.elf.value.Operands.{Operands}
 use Rattle.relocation_laws.specs.AArch64Laws as relocation_laws
 use Rattle.relocation_laws.specs.Schemes.{AreAddresses}
-use Rattle.rewrite_laws.specs.AArch64Laws as aarch64_laws
 use Rattle.rewrite_laws.specs.AArch64Laws.{word_of, four, Descriptor, DescriptorOf, ReturnsOffset}
-use Rattle.rewrite_laws.specs.AArch64Laws.{is_scratch, thread_offset, RunAlikeBehindCall, with_entry}
-use Rattle.rewrite_laws.specs.AArch64Machine.{State, step, run, next_pc, go_on, go_to}
-use Rattle.rewrite_laws.specs.AArch64Machine.{AreAlikeBut, load_64, adrp_address, added, in_64_bits}
+use Rattle.rewrite_laws.specs.AArch64Laws.{is_scratch, thread_offset, RunAlikeBehindCall}
+use Rattle.rewrite_laws.specs.AArch64Laws.{with_entry}
+use Rattle.rewrite_laws.specs.AArch64Laws as aarch64_laws
+use Rattle.rewrite_laws.specs.AArch64Machine.{State, step, run, next_pc, go_on, go_to, AreAlikeBut}
+use Rattle.rewrite_laws.specs.AArch64Machine.{load_64, adrp_address, added, in_64_bits}
 use Rattle.rewrite_laws.specs.AArch64Machine.{write_x_or_sp, loaded}
 use Rattle.rewrite_laws.proofs.AArch64Moves.{offset_moves}
 use Rattle.rewrite_laws.proofs.AArch64Pairs.{word_is, loads, adds_up}
 use Rattle.rewrite_laws.proofs.AArch64Steps.{set, step_add, run_more}
-use Rattle.rewrite_laws.proofs.AArch64Words.{masked_field, adr_of_register, of_registers, adrp_after}
-use Rattle.rewrite_laws.proofs.AArch64Words.{ldr_of_register_after, add_after}
+use Rattle.rewrite_laws.proofs.AArch64Words.{masked_field, adr_of_register, of_registers}
+use Rattle.rewrite_laws.proofs.AArch64Words.{adrp_after, ldr_of_register_after, add_after}
 
 -- ---- the call
 
@@ -47,8 +47,8 @@ untouched n a l b f r some other =
     ∙ cond-false (eqb n 1) _ _ parts.0
     ∙ cond-false (eqb n 0) _ _ (ne_eqb n 0 some)
 
-pub calls : relocation_laws.EntryAddresses → (call : State → Option State) (o : Operands) (s : State)
-    (adrp ldr add blr adrp1 ldr1 add1 : List ℕ) → Descriptor call o s adrp ldr add blr
+pub calls : relocation_laws.EntryAddresses → (call : State → Option State) (o : Operands)
+    (s : State) (adrp ldr add blr adrp1 ldr1 add1 : List ℕ) → Descriptor call o s adrp ldr add blr
     → DescriptorOf o adrp ldr add adrp1 ldr1 add1
     → Calls (four adrp1 ldr1 add1 blr) (load_64 s.memory o.got_entry) o.got_entry s
 calls entries call o s adrp ldr add blr adrp1 ldr1 add1 d is =
@@ -142,8 +142,8 @@ to_local_exec entries moves call o s adrp ldr add blr d movz movk nop nop2 made_
     (word_is 0xd2a00000 movz (omega arith) made_movz)
     (word_is 0xf2800000 movk (omega arith) made_movk) a b s in
     behind_call call o s adrp ldr add blr (four adrp1 ldr1 add1 blr) (word_of movz1) (word_of movk1)
-    (word_of nop) (word_of nop2) _ _ d (calls entries call o s adrp ldr add blr adrp1 ldr1 add1 d is)
-    m.first m.second m.value_is (word_is 0xd503201f nop (omega arith) made_nop)
+    (word_of nop) (word_of nop2) _ _ d
+    (calls entries call o s adrp ldr add blr adrp1 ldr1 add1 d is) m.first m.second m.value_is (word_is 0xd503201f nop (omega arith) made_nop)
     (word_is 0xd503201f nop2 (omega arith) made_nop2)
 
 small_entry : (entry : ℕ) (o : Operands) → entry < 2 ^ 64 → AreAddresses o
@@ -165,13 +165,14 @@ to_initial_exec entries call o s adrp ldr add blr d entry below holds adrp0 ldr0
     let x = word_is 0x90000000 adrp0 (omega arith) made_adrp in
     let y = word_is 0xf9400000 ldr0 (omega arith) made_ldr in
     let l = loads e 0 0 (word_of adrp2) (word_of ldr2) entry s
-    (adr_of_register (ap rd_of x) (adrp_after _ _ adrp0 adrp2 a.written (subst IsAdrp (sym x) refl)))
+    (adr_of_register (ap rd_of x)
+    (adrp_after _ _ adrp0 adrp2 a.written (subst IsAdrp (sym x) refl)))
     (of_registers (ap rd_of y) (ap rn_of y) (ldr_of_register_after _ _ ldr0 ldr2 b.written
     (subst IsLdr64 (sym y) refl)))
     (λ e. omega arith) (λ e. omega arith) d.at
-    (entries.3 e (small_entry entry o below d.small) o.place adrp0 adrp2 a tt (sum_64 o.place 4) ldr0
-    ldr2 b tt) in
+    (entries.3 e (small_entry entry o below d.small) o.place adrp0 adrp2 a tt (sum_64 o.place 4)
+    ldr0 ldr2 b tt) in
     behind_call call o s adrp ldr add blr (four adrp1 ldr1 add1 blr) (word_of adrp2) (word_of ldr2)
-    (word_of nop) (word_of nop2) _ _ d (calls entries call o s adrp ldr add blr adrp1 ldr1 add1 d is)
-    l.first l.second (l.value_is ∙ holds) (word_is 0xd503201f nop (omega arith) made_nop)
+    (word_of nop) (word_of nop2) _ _ d
+    (calls entries call o s adrp ldr add blr adrp1 ldr1 add1 d is) l.first l.second (l.value_is ∙ holds) (word_is 0xd503201f nop (omega arith) made_nop)
     (word_is 0xd503201f nop2 (omega arith) made_nop2)

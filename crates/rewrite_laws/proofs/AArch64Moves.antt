@@ -1,7 +1,6 @@
 -- The moves of an offset from the thread pointer.
-use Rattle.std.proofs.Common.{◌≡◌, ◌≢◌, ℕ, ◌+◌, ◌-◌, ◌*◌, ◌%◌, ◌^◌, ◌<◌, refl, sym}
-use Rattle.std.proofs.Common.{◌∙◌, ap, subst, arith, List, eqb, ℤ, pos, ◌+ℤ◌, ◌*ℤ◌, ◌-ℤ◌, Some}
-use Rattle.std.proofs.Common.{unsigned_abs}
+use Rattle.std.proofs.Common.{◌≡◌, ◌≢◌, ℕ, ◌+◌, ◌-◌, ◌*◌, ◌%◌, ◌^◌, ◌<◌, refl, sym, ◌∙◌, ap, subst}
+use Rattle.std.proofs.Common.{arith, List, eqb, ℤ, pos, ◌+ℤ◌, ◌*ℤ◌, ◌-ℤ◌, Some, unsigned_abs}
 use Rattle.std.specs.Prelude.{◌&&◌}
 use Rattle.std.specs.Int.{bit_at, int_rem_euclid}
 use Rattle.std.proofs.lemmas.Bool.{eq-eqb, ne_eqb, cond-false}
@@ -11,8 +10,8 @@ use Rattle.linker_utils.specs.Value.{sum_64, difference_64}
 use Rattle.linker_utils.specs.declared.aarch64.forms.AArch64Instruction.TheVariants.{Movkz}
 use Rattle.linker_utils.specs.declared.aarch64.relocations.AArch64Relocation.TheVariants as names
 use Rattle.linker_utils.specs.declared.elf.value.Operands.{Operands}
-use Rattle.relocation_laws.specs.AArch64Laws as relocation_laws
 use Rattle.relocation_laws.specs.AArch64Laws.{movk, movn_or_movz}
+use Rattle.relocation_laws.specs.AArch64Laws as relocation_laws
 use Rattle.relocation_laws.specs.Schemes.{IsAddress, AreAddresses, symbol_address}
 use Rattle.relocation_laws.proofs.Sums.{lift, lifted_is, sum_below}
 use Rattle.rewrite_laws.specs.AArch64Laws.{word_of, behind, IsRelocated, thread_offset}
@@ -44,7 +43,8 @@ movk_lifted v t n is word b m im =
     (joined v z t b n m is im))
   where
     joined : (v z : ℤ) (t b n m : ℕ) → v +ℤ pos (t * 2 ^ 64) ≡ pos n → z +ℤ pos (b * 2 ^ 64) ≡ pos m
-        → (((v -ℤ pos (n % 2 ^ 16)) +ℤ z) +ℤ pos 0) +ℤ pos ((t + b) * 2 ^ 64) ≡ pos (n - n % 2 ^ 16 + m)
+        → (((v -ℤ pos (n % 2 ^ 16)) +ℤ z) +ℤ pos 0) +ℤ pos ((t + b) * 2 ^ 64)
+        ≡ pos (n - n % 2 ^ 16 + m)
     joined v z t b n m is im = omega (arith, ints)
 
 -- MOVK of what a register holds of a number

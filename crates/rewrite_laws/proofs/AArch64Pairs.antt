@@ -10,11 +10,11 @@ use Rattle.relocation_laws.specs.AArch64Laws.{page_and_offset}
 use Rattle.relocation_laws.specs.Schemes.{IsAddress}
 use Rattle.relocation_laws.proofs.Sums.{once}
 use Rattle.rewrite_laws.specs.AArch64Laws.{word_of}
-use Rattle.rewrite_laws.specs.AArch64Machine.{State, step, in_64_bits, load_64, adrp_address, loaded}
-use Rattle.rewrite_laws.specs.AArch64Machine.{added, add, ldr}
-use Rattle.rewrite_laws.proofs.AArch64Words.{IsAdrOf, IsOf, decodes_adrp}
+use Rattle.rewrite_laws.specs.AArch64Machine.{State, step, in_64_bits, load_64, adrp_address}
+use Rattle.rewrite_laws.specs.AArch64Machine.{loaded, added, add, ldr}
 use Rattle.rewrite_laws.proofs.AArch64Steps.{set, step_adrp, step_ldr, step_add, in_two_steps}
 use Rattle.rewrite_laws.proofs.AArch64Steps.{loaded_from, address_is, read_back}
+use Rattle.rewrite_laws.proofs.AArch64Words.{IsAdrOf, IsOf, decodes_adrp}
 
 -- the word of a rewritten instruction
 pub word_is : (n : ℕ) (bytes : List ℕ) → n < 2 ^ 32 → bytes ≡ to_le_bytes w32 n → word_of bytes ≡ n
@@ -36,7 +36,8 @@ loads o n d x y entry s first second named named2 at leads =
       first = step_adrp x n s (decodes_adrp x first.opcode first.top) first.rd_is named;
       second = step_ldr y d t second.decodes second.rd_is named2;
       value_is =
-          loaded_from y n (pos (page s.pc) +ℤ ((aarch64_form Adr).machine x *ℤ pos 4096)) s second.rn_is
+          loaded_from y n (pos (page s.pc) +ℤ ((aarch64_form Adr).machine x *ℤ pos 4096)) s
+          second.rn_is
           ∙ ap (λ p. load_64 s.memory
           (in_64_bits ((pos (page p) +ℤ ((aarch64_form Adr).machine x *ℤ pos 4096))
           +ℤ ((aarch64_form LdSt).machine y *ℤ pos 8)))) at

@@ -1,20 +1,18 @@
 -- Steps of AArch64's instructions.
-use Rattle.std.proofs.Common.{◌≡◌, ◌≢◌, ℕ, ◌+◌, ◌%◌, ◌^◌, Bool, true, false, refl, sym}
-use Rattle.std.proofs.Common.{◌∙◌, ap, subst, arith, List, [], ◌∷◌, eqb, cond, ℤ, pos, ◌+ℤ◌, ◌*ℤ◌, Some, None}
-use Rattle.std.proofs.Common.{unsigned_abs}
+use Rattle.std.proofs.Common.{◌≡◌, ◌≢◌, ℕ, ◌+◌, ◌%◌, ◌^◌, Bool, true, false, refl, sym, ◌∙◌, ap}
+use Rattle.std.proofs.Common.{subst, arith, List, [], ◌∷◌, eqb, cond, ℤ, pos, ◌+ℤ◌, ◌*ℤ◌, Some}
+use Rattle.std.proofs.Common.{None, unsigned_abs}
 use Rattle.std.specs.Prelude.{IsSomeAnd}
 use Rattle.std.proofs.lemmas.Bool.{eq-eqb, ne_eqb, cond-true, cond-false}
 use Rattle.std.proofs.lemmas.Int.{ints}
-use Rattle.linker_utils.specs.AArch64.{rd_of, rn_of}
+use Rattle.linker_utils.specs.AArch64.{rd_of, rn_of, aarch64_form}
+use Rattle.linker_utils.specs.declared.aarch64.forms.AArch64Instruction.TheVariants.{Add, LdSt}
 use Rattle.relocation_laws.specs.Schemes.{IsAddress}
 use Rattle.relocation_laws.proofs.Sums.{lift, lifted_is}
 use Rattle.rewrite_laws.specs.AArch64Machine.{State, step, run, decode, in_64_bits, write_x}
 use Rattle.rewrite_laws.specs.AArch64Machine.{write_x_or_sp, go_on, next_pc, continue, execute}
-use Rattle.rewrite_laws.specs.AArch64Machine.{AreAlikeBut, RunAlikeBut}
-use Rattle.rewrite_laws.specs.AArch64Machine.{adrp, adr, add, ldr, adrp_address, adr_address}
-use Rattle.rewrite_laws.specs.AArch64Machine.{added, loaded, load_64}
-use Rattle.linker_utils.specs.AArch64.{aarch64_form}
-use Rattle.linker_utils.specs.declared.aarch64.forms.AArch64Instruction.TheVariants.{Add, LdSt}
+use Rattle.rewrite_laws.specs.AArch64Machine.{AreAlikeBut, RunAlikeBut, adrp, adr, add, ldr}
+use Rattle.rewrite_laws.specs.AArch64Machine.{adrp_address, adr_address, added, loaded, load_64}
 use Rattle.rewrite_laws.specs.AArch64Machine.{movn_or_movz, movk_64, moved, with_moved}
 
 -- ---- sums
@@ -29,7 +27,8 @@ in_two_steps a b =
     let m = lift b in
     let il = l.is in
     let im = m.is in
-    let first : in_64_bits a ≡ l.number % 2 ^ 64 = address_is a _ (lifted_is a l.times l.number l.is) in
+    let first : in_64_bits a ≡ l.number % 2 ^ 64 =
+    address_is a _ (lifted_is a l.times l.number l.is) in
     ap (λ n. in_64_bits (pos n +ℤ b)) first
     ∙ address_is (pos (l.number % 2 ^ 64) +ℤ b) _
     (lifted_is (pos (l.number % 2 ^ 64) +ℤ b) m.times (l.number % 2 ^ 64 + m.number)

@@ -1,37 +1,31 @@
 -- Words of AArch64 to which a relocation was applied, and which instructions they are.
-use Rattle.std.proofs.Common.{◌≡◌, ◌≢◌, ℕ, ◌+◌, ◌-◌, ◌/◌, ◌^◌, ◌<◌, ◌≤◌, Bool, true, false, refl, sym}
-use Rattle.std.proofs.Common.{◌∙◌, ap, subst, arith, List, [], ◌∷◌, ◌++◌, ltb, leb, eqb, inl, inr, min}
-use Rattle.std.specs.Prelude.{◌&&◌, ◌||◌, bit_and}
-use Rattle.std.specs.Int.{bit_at}
+use Rattle.std.proofs.Common.{◌≡◌, ◌≢◌, ℕ, ◌+◌, ◌-◌, ◌/◌, ◌^◌, ◌<◌, ◌≤◌, Bool, true, false, refl}
+use Rattle.std.proofs.Common.{sym, ◌∙◌, ap, subst, arith, List, [], ◌∷◌, ◌++◌, ltb, leb, eqb, inl}
+use Rattle.std.proofs.Common.{inr, min, ◌%◌}
+use Rattle.std.specs.Prelude.{◌&&◌, ◌||◌, bit_and, ℤ, pos, int_lt, ◌*◌}
+use Rattle.std.specs.Int.{bit_at, w32, from_le_bytes}
 use Rattle.std.proofs.lemmas.Bool.{and_parts, or_cases, ltb-true, leb-true, ne_eqb, cond-true}
-use Rattle.std.proofs.lemmas.Bool.{cond-false, or_from, eq-eqb}
+use Rattle.std.proofs.lemmas.Bool.{cond-false, or_from, eq-eqb, eqb-true}
 use Rattle.std.proofs.lemmas.Nat.Bits.{bit_at_and, bit_at-lt, bit_at_ones}
 use Rattle.linker_base.specs.Bits.{field}
-use Rattle.linker_base.specs.Form.{ImmediateBit, is_placed, BitsWritten}
-use Rattle.linker_base.proofs.Fields.{same_fields, bit_at_run}
-use Rattle.linker_utils.specs.AArch64.{rd_of, rn_of}
-use Rattle.linker_utils.proofs.AArch64Forms.{high_kept}
-use Rattle.linker_utils.specs.Inner.Runs.{words_below}
-use Rattle.rewrite_laws.specs.AArch64Machine.{decode, is_adr, adrp, adr, add, ldr}
-use Rattle.rewrite_laws.specs.AArch64Machine.{Instruction}
-use Rattle.std.specs.Prelude.{ℤ, pos, int_lt, ◌*◌}
-use Rattle.std.specs.Int.{w32, from_le_bytes}
-use Rattle.linker_base.specs.Form.{or_bits_to}
+use Rattle.linker_base.specs.Form.{ImmediateBit, is_placed, BitsWritten, or_bits_to}
 use Rattle.linker_base.specs.declared.bit_misc.BitRange.{BitRange}
+use Rattle.linker_base.proofs.Fields.{same_fields, bit_at_run}
+use Rattle.linker_utils.specs.AArch64.{rd_of, rn_of, movn_opcode, movz_opcode, movk_opcode}
+use Rattle.linker_utils.specs.AArch64.{imm16_places, move_opcode, moved_bits, shift_of}
 use Rattle.linker_utils.specs.AArch64Originals.{IsAdrp, IsLdr64}
-use Rattle.linker_utils.specs.Relocate.{InstructionWritten, ored_cleared}
+use Rattle.linker_utils.specs.Inner.Runs.{words_below}
+use Rattle.linker_utils.specs.Relocate.{InstructionWritten, ored_cleared, bits_taken}
+use Rattle.linker_utils.specs.Relocate.{with_bit_31_if}
 use Rattle.linker_utils.specs.declared.aarch64.forms.AArch64Instruction.TheVariants.{Adr, Add, LdSt}
 use Rattle.linker_utils.specs.declared.aarch64.forms.AArch64Instruction.TheVariants.{LdrRegister}
-use Rattle.linker_utils.specs.declared.elf.RelocationInstruction.TheVariants.{AArch64}
-use Rattle.std.proofs.lemmas.Bool.{eqb-true}
-use Rattle.std.proofs.Common.{◌%◌}
-use Rattle.linker_utils.proofs.Clearing.{same_window}
-use Rattle.linker_utils.specs.Relocate.{bits_taken, with_bit_31_if}
 use Rattle.linker_utils.specs.declared.aarch64.forms.AArch64Instruction.TheVariants.{Movnz, Movkz}
-use Rattle.linker_utils.specs.AArch64.{movn_opcode, movz_opcode, movk_opcode, imm16_places, move_opcode, moved_bits, shift_of}
-use Rattle.rewrite_laws.specs.AArch64Machine.{movn_or_movz, movk_64}
-use Rattle.rewrite_laws.specs.AArch64Machine.{bl, b}
 use Rattle.linker_utils.specs.declared.aarch64.forms.AArch64Instruction.TheVariants.{JumpCall}
+use Rattle.linker_utils.specs.declared.elf.RelocationInstruction.TheVariants.{AArch64}
+use Rattle.linker_utils.proofs.AArch64Forms.{high_kept}
+use Rattle.linker_utils.proofs.Clearing.{same_window}
+use Rattle.rewrite_laws.specs.AArch64Machine.{decode, is_adr, adrp, adr, add, ldr, Instruction}
+use Rattle.rewrite_laws.specs.AArch64Machine.{movn_or_movz, movk_64, bl, b}
 
 -- ---- what a write keeps
 
@@ -53,8 +47,8 @@ outside (p ∷ ps) s e w h from to =
     (outside ps s e w parts.1 from to)
 
 -- Two writes, of which the first clears places.
-module _ (qs ps : List ImmediateBit) (u v before clear after : ℕ) (clears : BitsWritten qs u before clear)
-    (written : BitsWritten ps v clear after) where
+module _ (qs ps : List ImmediateBit) (u v before clear after : ℕ)
+    (clears : BitsWritten qs u before clear) (written : BitsWritten ps v clear after) where
   pub field_kept : (s e : ℕ) → is_outside s e qs ≡ true → is_outside s e ps ≡ true
       → field after s e ≡ field before s e
   field_kept s e first second =
@@ -141,10 +135,11 @@ pub adr_after : (k : ℕ) (bits : BitRange) (v : ℤ) (before after : List ℕ)
     → field (from_le_bytes w32 before) 24 29 ≡ 0x10 → bit_at (from_le_bytes w32 before) 31 ≡ k
     → IsAdrOf k (rd_of (from_le_bytes w32 before)) (from_le_bytes w32 after)
 adr_after k bits v before after w op top =
+    let kept = field_kept (ored_cleared places_21) places_21 _ _ _ _ _ w.clears w.written in
     record {
-      opcode = field_kept (ored_cleared places_21) places_21 _ _ _ _ _ w.clears w.written 24 29 refl refl ∙ op;
+      opcode = kept 24 29 refl refl ∙ op;
       top = w.written.kept 31 refl ∙ w.clears.kept 31 refl ∙ top;
-      rd_is = field_kept (ored_cleared places_21) places_21 _ _ _ _ _ w.clears w.written 0 5 refl refl;
+      rd_is = kept 0 5 refl refl;
     }
 
 pub adrp_after : (bits : BitRange) (v : ℤ) (before after : List ℕ)
@@ -176,7 +171,9 @@ loaded_after : (u v before clear after : ℕ) → BitsWritten (ored_cleared plac
 loaded_after u v before clear after clears written is =
     let kept = field_kept (ored_cleared places_12) places_12 _ _ _ _ _ clears written in
     record {
-      decodes = decodes_ldr _ (top_kept (ored_cleared places_12) places_12 _ _ _ _ _ clears written 22 refl refl ∙ eqb-true _ _ is);
+      decodes = decodes_ldr _
+          (top_kept (ored_cleared places_12) places_12 _ _ _ _ _ clears written 22 refl refl
+          ∙ eqb-true _ _ is);
       rd_is = kept 0 5 refl refl;
       rn_is = kept 5 10 refl refl;
     }
@@ -198,8 +195,8 @@ ldr_of_register_after bits v before after w is = loaded_after _ _ _ _ _ w.clears
 pub adr_of_register : {k rd n word : ℕ} → rd ≡ n → IsAdrOf k rd word → IsAdrOf k n word
 adr_of_register e is = record { opcode = is.opcode; top = is.top; rd_is = is.rd_is ∙ e }
 
-pub of_registers : {kind : Instruction} {rd rn d n word : ℕ} → rd ≡ d → rn ≡ n → IsOf kind rd rn word
-    → IsOf kind d n word
+pub of_registers : {kind : Instruction} {rd rn d n word : ℕ} → rd ≡ d → rn ≡ n
+    → IsOf kind rd rn word → IsOf kind d n word
 of_registers e e2 is = record { decodes = is.decodes; rd_is = is.rd_is ∙ e; rn_is = is.rn_is ∙ e2 }
 
 -- ---- moves
@@ -261,7 +258,8 @@ movnz_after bits v before after w wide =
     let written : BitsWritten imm16_places n base x =
     subst (λ b. BitsWritten imm16_places n base (with_bit_31_if (eqb b 0) x)) wide w.written in
     let low : field x 0 5 ≡ field base 0 5 =
-    same_fields x base 0 5 (λ i from to. written.kept i (outside imm16_places 0 5 i refl from to)) in
+    same_fields x base 0 5
+    (λ i from to. written.kept i (outside imm16_places 0 5 i refl from to)) in
     record {
       decodes = move_by_sign neg n x w.clear written;
       rd_is = low ∙ (let e : field base 0 5 ≡ field w.clear 0 5 = omega arith in e) ∙ ap rd_of same;
@@ -279,7 +277,8 @@ pub movk_after : (bits : BitRange) (v : ℤ) (before after : List ℕ)
     → IsMovk 0 (rd_of (from_le_bytes w32 before)) (from_le_bytes w32 after)
 movk_after bits v before after w op =
     let places = or_bits_to 0 15 5 in
-    let top = top_kept (ored_cleared places) places _ _ _ _ _ w.clears w.written 21 refl refl ∙ op in
+    let top =
+    top_kept (ored_cleared places) places _ _ _ _ _ w.clears w.written 21 refl refl ∙ op in
     let x = from_le_bytes w32 after in
     record {
       decodes = decodes_movk x (let e : x / 2 ^ 23 ≡ movk_opcode = omega arith in e);

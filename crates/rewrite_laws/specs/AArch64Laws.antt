@@ -20,8 +20,8 @@ use Rattle.linker_utils.specs.declared.aarch64.rewrites.RelaxationKind.TheVarian
 use Rattle.linker_utils.specs.declared.aarch64.rewrites.RelaxationKind.TheVariants.{AdrpAddToNopAdr}
 use Rattle.linker_utils.specs.declared.elf.value.Operands.{Operands}
 use Rattle.relocation_laws.specs.Schemes.{IsApplied, AreAddresses, symbol_address, plt_address}
-use Rattle.rewrite_laws.specs.AArch64Machine.{State, load_64, run, RunAlike, RunAlikeBut, AreAlikeBut}
-use Rattle.rewrite_laws.specs.AArch64Machine.{next_pc, is_b, is_bl}
+use Rattle.rewrite_laws.specs.AArch64Machine.{State, load_64, run, RunAlike, RunAlikeBut}
+use Rattle.rewrite_laws.specs.AArch64Machine.{AreAlikeBut, next_pc, is_b, is_bl}
 
 -- ---- instructions as bytes
 
@@ -51,8 +51,7 @@ with_entry entry o = record o { got_entry = entry }
 abbrev pub pair : List ℕ → List ℕ → List ℕ
 pair first second = word_of first ∷ word_of second ∷ []
 
--- `adrp xN` and `ldr xN, [xN]` of the GOT entry, which holds the address of the symbol, and the same
--- `adrp` with `add xN, xN`
+-- `adrp xN` and `ldr xN, [xN]` of the GOT entry, which holds the address of the symbol
 pub record GotPair (o : Operands) (s : State) (adrp ldr : List ℕ) : Type 0 where
   pub small : AreAddresses o
   pub at : s.pc ≡ o.place
@@ -119,8 +118,8 @@ AddressToAdr =
 
 -- ---- the offset of a variable from the thread pointer, by a TLS descriptor
 
--- The registers that the sequence of a descriptor leaves with no value that code may use: X1 has the
--- function's address, and X30 that of the instruction behind the call.
+-- The registers that the sequence of a descriptor leaves with no value that code may use: X1 has
+-- the function's address, and X30 that of the instruction behind the call.
 abbrev pub is_scratch : ℕ → Bool
 is_scratch n = n == 1 || n == 30
 
@@ -133,9 +132,9 @@ pub record ReturnsOffset (offset : ℕ) (u v : State) : Type 0 where
   pub memory : v.memory ≡ u.memory
   pub thread_pointer : v.thread_pointer ≡ u.thread_pointer
 
--- `adrp x0`, `ldr x1, [x0]`, `add x0, x0` and `blr x1`. `call` says in which state a called function
--- returns, if it does. The first 8 bytes of the descriptor have the address of a function that
--- returns the offset whenever X0 has the descriptor's address.
+-- `adrp x0`, `ldr x1, [x0]`, `add x0, x0` and `blr x1`. `call` says in which state a called
+-- function returns, if it does. The first 8 bytes of the descriptor have the address of a function
+-- that returns the offset whenever X0 has the descriptor's address.
 pub record Descriptor (call : State → Option State) (o : Operands) (s : State)
     (adrp ldr add blr : List ℕ) : Type 0 where
   pub small : AreAddresses o
@@ -189,7 +188,8 @@ DescriptorToInitialExec =
     → IsRewritten ReplaceWithNop add nop → IsRewritten ReplaceWithNop blr nop_behind
     → (adrp_of_descriptor ldr_of_descriptor add_of_descriptor adrp_of_entry ldr_of_entry : List ℕ)
     → DescriptorOf o adrp ldr add adrp_of_descriptor ldr_of_descriptor add_of_descriptor
-    → IsRelocated names.R_AARCH64_TLSIE_ADR_GOTTPREL_PAGE21 (with_entry entry o) adrp_x0 adrp_of_entry
+    → IsRelocated names.R_AARCH64_TLSIE_ADR_GOTTPREL_PAGE21 (with_entry entry o) adrp_x0
+    adrp_of_entry
     → IsRelocated names.R_AARCH64_TLSIE_LD64_GOTTPREL_LO12_NC (behind 4 (with_entry entry o)) ldr_x0
     ldr_of_entry
     → RunAlikeBehindCall call (four adrp_of_descriptor ldr_of_descriptor add_of_descriptor blr)

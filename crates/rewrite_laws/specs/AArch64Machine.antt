@@ -1,7 +1,7 @@
 -- AArch64: what the instructions of a rewrite's sequences do (Arm Architecture Reference Manual for
 -- A-profile, DDI 0487, C6.2). None of them changes memory, the thread pointer or the flags.
-use Rattle.std.specs.Prelude.{ℕ, ℤ, pos, ◌+ℤ◌, ◌*ℤ◌, ◌/◌, ◌^◌, ◌==◌, ◌&&◌, if◌then◌else◌, Bool}
-use Rattle.std.specs.Prelude.{◌∷◌, [], List, Option, Some, None, IsSomeAnd, ◌≡◌, false, unsigned_abs}
+use Rattle.std.specs.Prelude.{ℕ, ℤ, pos, ◌+ℤ◌, ◌*ℤ◌, ◌/◌, ◌^◌, ◌==◌, ◌&&◌, if◌then◌else◌, Bool, ◌∷◌}
+use Rattle.std.specs.Prelude.{[], List, Option, Some, None, IsSomeAnd, ◌≡◌, false, unsigned_abs}
 use Rattle.std.specs.Int.{w64, bit_at, from_le_bytes, int_rem_euclid}
 use Rattle.linker_base.specs.Bits.{field}
 use Rattle.linker_utils.specs.AArch64.{aarch64_form, rd_of, rn_of, nop, is_ldr64, shift_of}

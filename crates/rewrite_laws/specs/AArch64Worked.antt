@@ -1,8 +1,8 @@
--- Single instructions of AArch64 from one state: what each leaves in a register, and where it goes
--- on. The words are as the Arm Architecture Reference Manual for A-profile (DDI 0487, C6.2) encodes
+-- Instructions of AArch64 from one state: what they leave in a register, and where they go on. The
+-- words are as the Arm Architecture Reference Manual for A-profile (DDI 0487, C6.2) encodes
 -- what the comments say.
-use Rattle.std.specs.Prelude.{◌≡◌, ℕ, ◌+◌, ◌*◌, ◌%◌, IsSomeAnd}
-use Rattle.rewrite_laws.specs.AArch64Machine.{State, step}
+use Rattle.std.specs.Prelude.{◌≡◌, ℕ, ◌+◌, ◌*◌, ◌%◌, [], ◌∷◌, None, IsSomeAnd}
+use Rattle.rewrite_laws.specs.AArch64Machine.{State, step, run}
 
 -- register n holds 0x123400005600 plus n times 8, and the byte at an address is its lowest byte
 abbrev pub start : State
@@ -42,3 +42,12 @@ WorkedSteps =
     -- bl .+8 and b .-4
     × Leaves 0x94000002 30 0x401ffc 0x402000
     × Leaves 0x17ffffff 30 0x1234000056f0 0x401ff4
+
+abbrev pub WorkedRuns : Type 0
+WorkedRuns =
+    -- adrp x1, .+0x1000; ldr x1, [x1, #24]
+    IsSomeAnd (run (0xb0000001 ∷ 0xf9400c21 ∷ []) start) (λ s. s.registers 1 ≡ 0x1f1e1d1c1b1a1918)
+    -- b .+4; nop
+    × IsSomeAnd (run (0x14000001 ∷ 0xd503201f ∷ []) start) (λ s. s.pc ≡ 0x402000)
+    -- b .+8; nop: the second isn't executed
+    × (run (0x14000002 ∷ 0xd503201f ∷ []) start ≡ None)

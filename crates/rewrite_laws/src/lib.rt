@@ -17,6 +17,7 @@ pub fn aarch64()
     ensures descriptor_to_initial_exec { aarch64_laws.DescriptorToInitialExec }
     ensures weak { aarch64_laws.WeakBranches }
     ensures steps { aarch64_worked.WorkedSteps }
+    ensures runs { aarch64_worked.WorkedRuns }
 {
     relocation_laws::aarch64();
 }

@@ -1,37 +1,32 @@
 -- The laws of AArch64.
-use Rattle.std.proofs.Common.{◌≡◌, ℕ, ◌+◌, ◌*◌, ◌^◌, refl, sym, ◌∙◌, ap, arith}
+use Rattle.std.proofs.Common.{◌≡◌, ℕ, ◌+◌, ◌*◌, ◌^◌, refl, sym, ◌∙◌, ap, arith, ◌<◌, pos, ◌+ℤ◌}
+use Rattle.std.proofs.Common.{drop, [], ◌∷◌, eqb, ◌*ℤ◌}
+use Rattle.std.specs.Int.{w64, bit_at, to_le_bytes}
+use Rattle.std.proofs.lemmas.Bool.{cond-false, eqb-true}
 use Rattle.linker_base.specs.Bits.{field}
-use Rattle.linker_utils.specs.AArch64.{rd_of, rn_of}
+use Rattle.linker_base.specs.Form.{place_sum}
+use Rattle.linker_utils.specs.AArch64.{rd_of, rn_of, nop, aarch64_form}
 use Rattle.linker_utils.specs.Value.{sum_64}
+use Rattle.linker_utils.specs.declared.aarch64.forms.AArch64Instruction.TheVariants.{Adr, JumpCall}
+use Rattle.linker_utils.specs.declared.elf.value.Operands.{Operands}
 use Rattle.relocation_laws.specs.AArch64Laws as relocation_laws
+use Rattle.relocation_laws.specs.Schemes.{AreAddresses, symbol_address, IsAddress, plt_address}
+use Rattle.relocation_laws.proofs.Sums.{once, sum_below}
+use Rattle.rewrite_laws.specs.AArch64Laws.{word_of, pair, behind}
 use Rattle.rewrite_laws.specs.AArch64Laws as aarch64_laws
-use Rattle.rewrite_laws.specs.AArch64Laws.{word_of, pair}
+use Rattle.rewrite_laws.specs.AArch64Machine.{in_64_bits, adr_address, go_on, go_to, branch_target}
+use Rattle.rewrite_laws.specs.AArch64Machine.{execute, step, write_x, next_pc, State}
+use Rattle.rewrite_laws.specs.AArch64Worked.{WorkedSteps, WorkedRuns}
+use Rattle.rewrite_laws.proofs.AArch64Descriptors.{to_local_exec, to_initial_exec}
 use Rattle.rewrite_laws.proofs.AArch64Moves.{offset_moves}
 use Rattle.rewrite_laws.proofs.AArch64Pairs.{word_is, loads, adds_pair}
-use Rattle.rewrite_laws.proofs.AArch64Words.{adr_of_register, of_registers, adrp_after, ldr_after, add_after}
-use Rattle.rewrite_laws.proofs.AArch64Words.{ldr_of_register_after}
-use Rattle.rewrite_laws.proofs.AArch64Steps.{run_pair, alike_runs, alike_twice}
-use Rattle.rewrite_laws.proofs.aarch64.Goals as goal
-use Rattle.rewrite_laws.proofs.AArch64Steps.{set, step_adr, address_is, alike_once}
-use Rattle.rewrite_laws.proofs.AArch64Words.{masked_field, adr_after, decodes_adr, decodes_b, decodes_bl}
-use Rattle.rewrite_laws.specs.AArch64Machine.{in_64_bits, adr_address, go_on, go_to, branch_target, execute, step, write_x, next_pc}
-use Rattle.rewrite_laws.specs.AArch64Laws.{behind}
-use Rattle.relocation_laws.proofs.Sums.{once, sum_below}
-use Rattle.relocation_laws.specs.Schemes.{AreAddresses, symbol_address}
-use Rattle.linker_utils.specs.declared.aarch64.forms.AArch64Instruction.TheVariants.{Adr}
-use Rattle.linker_utils.specs.declared.elf.value.Operands.{Operands}
-use Rattle.linker_utils.specs.AArch64.{nop, aarch64_form}
-use Rattle.std.proofs.lemmas.Bool.{cond-false, eqb-true}
-use Rattle.std.specs.Int.{w64, bit_at, to_le_bytes}
-use Rattle.std.proofs.Common.{◌<◌, pos, ◌+ℤ◌, drop, [], ◌∷◌, eqb}
-use Rattle.rewrite_laws.proofs.AArch64Descriptors.{to_local_exec, to_initial_exec}
+use Rattle.rewrite_laws.proofs.AArch64Steps.{run_pair, alike_runs, alike_twice, set, step_adr}
+use Rattle.rewrite_laws.proofs.AArch64Steps.{address_is, alike_once}
+use Rattle.rewrite_laws.proofs.AArch64Words.{adr_of_register, of_registers, adrp_after, ldr_after}
+use Rattle.rewrite_laws.proofs.AArch64Words.{add_after, ldr_of_register_after, masked_field}
+use Rattle.rewrite_laws.proofs.AArch64Words.{adr_after, decodes_adr, decodes_b, decodes_bl}
 use Rattle.rewrite_laws.proofs.AArch64Words.{branch_after}
-use Rattle.rewrite_laws.specs.AArch64Worked.{WorkedSteps}
-use Rattle.rewrite_laws.specs.AArch64Machine.{State}
-use Rattle.relocation_laws.specs.Schemes.{IsAddress, plt_address}
-use Rattle.linker_utils.specs.declared.aarch64.forms.AArch64Instruction.TheVariants.{JumpCall}
-use Rattle.std.proofs.Common.{◌*ℤ◌}
-use Rattle.linker_base.specs.Form.{place_sum}
+use Rattle.rewrite_laws.proofs.aarch64.Goals as goal
 
 -- the words of `nop` and of what stands behind it
 first_word : (r : ℕ) → r < 2 ^ 32 → word_of (to_le_bytes w64 (nop + r * 2 ^ 32)) ≡ nop
@@ -84,7 +79,8 @@ initial_exec entries moves o s adrp ldr movz movk p made_movz made_movk adrp1 ld
     let named = one.into_own_source.not_31 in
     let l = loads o n n (word_of adrp1) (word_of ldr1) o.got_entry s
     (adr_of_register one.register (adrp_after _ _ adrp adrp1 a1.written one.first))
-    (of_registers refl one.into_own_source.same (ldr_of_register_after _ _ ldr ldr1 l1.written p.is_ldr))
+    (of_registers refl one.into_own_source.same
+    (ldr_of_register_after _ _ ldr ldr1 l1.written p.is_ldr))
     named named p.at
     (entries.3 o p.small o.place adrp adrp1 a1 tt (sum_64 o.place 4) ldr ldr1 l1 tt) in
     let m = offset_moves moves o p.small n (omega arith) named movz movk movz2 movk2
@@ -116,7 +112,8 @@ address relative literals o s both rewritten p made adrp1 add1 adr2 a1 d1 b2 =
     (let e : field (word_of (drop 4 rewritten)) 24 29 ≡ 0x10 = omega arith in e)
     (let e : bit_at (word_of (drop 4 rewritten)) 31 ≡ 0 = omega arith in e) in
     let rd : rd_of y ≡ n =
-    adr.rd_is ∙ (let e : rd_of (word_of (drop 4 rewritten)) ≡ rd_of (word_of both) = omega arith in e)
+    adr.rd_is
+    ∙ (let e : rd_of (word_of (drop 4 rewritten)) ≡ rd_of (word_of both) = omega arith in e)
     ∙ one.register in
     let t = go_on s in
     let value : adr_address y t ≡ symbol_address o =
@@ -171,10 +168,26 @@ branches laws = (
 worked : WorkedSteps
 unfolding place_sum
 worked = (
-  (refl, refl), (refl, refl), (refl, refl), (refl, refl), (refl, refl), (refl, refl), (refl, refl),
-  (refl, refl), (refl, refl), (refl, refl), (refl, refl), (refl, refl), (refl, refl), (refl, refl),
+  (refl, refl),
+  (refl, refl),
+  (refl, refl),
+  (refl, refl),
+  (refl, refl),
+  (refl, refl),
+  (refl, refl),
+  (refl, refl),
+  (refl, refl),
+  (refl, refl),
+  (refl, refl),
+  (refl, refl),
+  (refl, refl),
+  (refl, refl),
   (refl, refl),
 )
+
+worked_runs : WorkedRuns
+unfolding place_sum
+worked_runs = (refl, refl, refl)
 
 pub returns : goal.returns
 returns c =
@@ -187,4 +200,5 @@ returns c =
       descriptor_to_initial_exec = to_initial_exec laws.entries;
       weak = branches laws.branches;
       steps = worked;
+      runs = worked_runs;
     }
