@@ -1,8 +1,9 @@
 -- AArch64: rewritten sequences compute what the original ones do (ELF for the Arm 64-bit
 -- Architecture, "Relocation optimization", and the sequences of thread-local storage).
 use Rattle.std.specs.Prelude.{◌≡◌, ◌≢◌, ◌<◌, ◌∷◌, [], ℕ, ◌^◌, Bool, true, false, ◌==◌, ◌||◌, List}
-use Rattle.std.specs.Prelude.{drop, Option, Some, IsSomeAnd}
+use Rattle.std.specs.Prelude.{drop, take, None, ⊤, ◌-◌, Option, Some, IsSomeAnd}
 use Rattle.std.specs.Int.{w32, from_le_bytes}
+use Rattle.linker_base.specs.Rewrite.{Rewrite, IsRewritable, rewritten}
 use Rattle.linker_utils.specs.AArch64.{aarch64_rewrite, rd_of, rn_of}
 use Rattle.linker_utils.specs.AArch64Originals.{IsAdrp, IsAdd64, IsLdr64, AreOfOneRegister}
 use Rattle.linker_utils.specs.AArch64Relocations.{aarch64_row}
@@ -33,9 +34,26 @@ word_of bytes = from_le_bytes w32 bytes
 abbrev pub IsRelocated : AArch64Relocation → Operands → List ℕ → List ℕ → Type 0
 IsRelocated name o before after = IsSomeAnd (aarch64_row name) (λ row. IsApplied row o before after)
 
--- what a rewrite of one instruction leaves of its bytes
+-- Bytes begin with what a rewrite leaves of the window that they began with.
+abbrev pub BeginsRewritten : Rewrite → List ℕ → List ℕ → Type 0
+BeginsRewritten r before after = take r.len after ≡ r.bytes (take r.len before)
+
 abbrev pub IsRewritten : RelaxationKind → List ℕ → List ℕ → Type 0
-IsRewritten kind before after = IsSomeAnd (aarch64_rewrite kind) (λ r. after ≡ r.bytes before)
+IsRewritten kind before after =
+    IsSomeAnd (aarch64_rewrite kind) (λ r. BeginsRewritten r before after)
+
+-- So do a section's bytes from the window on, after a rewrite of the section.
+abbrev pub BeginsRewrittenAt : Option Rewrite → List ℕ → ℕ → Type 0
+BeginsRewrittenAt None section o = ⊤
+BeginsRewrittenAt (Some r) section o =
+    IsRewritable r section o
+    → BeginsRewritten r (drop (o - r.back) section)
+    (drop (o - r.back) (rewritten (Some r) section o))
+
+abbrev pub InSections : Type 0
+InSections =
+    (kind : RelaxationKind) (section : List ℕ) (o : ℕ)
+    → BeginsRewrittenAt (aarch64_rewrite kind) section o
 
 -- the operands of an instruction so many bytes after the first
 abbrev pub behind : ℕ → Operands → Operands
@@ -51,18 +69,18 @@ with_entry entry o = record o { got_entry = entry }
 abbrev pub pair : List ℕ → List ℕ → List ℕ
 pair first second = word_of first ∷ word_of second ∷ []
 
--- `adrp xN` and `ldr xN, [xN]` of the GOT entry, which holds the address of the symbol
-pub record GotPair (o : Operands) (s : State) (adrp ldr : List ℕ) : Type 0 where
+-- `adrp xN`, and an instruction with P from xN into xN, which are executed next
+pub record IsPair (P : ℕ → Type 0) (o : Operands) (s : State) (adrp second : List ℕ) : Type 0 where
   pub small : AreAddresses o
   pub at : s.pc ≡ o.place
-  pub entry : load_64 s.memory o.got_entry ≡ symbol_address o
-  pub one_register : AreOfOneRegister (word_of adrp) (word_of ldr)
-  pub is_ldr : IsLdr64 (word_of ldr)
+  pub one_register : AreOfOneRegister (word_of adrp) (word_of second)
+  pub second_is : P (word_of second)
 
+-- `adrp xN` and `ldr xN, [xN]` of the GOT entry, which holds the address of the symbol
 abbrev pub GotToAddress : Type 0
 GotToAddress =
-    (o : Operands) (s : State) (adrp ldr add : List ℕ) → GotPair o s adrp ldr
-    → IsRewritten LdrToAdd ldr add
+    (o : Operands) (s : State) (adrp ldr add : List ℕ) → IsPair IsLdr64 o s adrp ldr
+    → load_64 s.memory o.got_entry ≡ symbol_address o → IsRewritten LdrToAdd ldr add
     → (adrp_of_entry ldr_of_entry adrp_of_symbol add_of_symbol : List ℕ)
     → IsRelocated names.R_AARCH64_ADR_GOT_PAGE o adrp adrp_of_entry
     → IsRelocated names.R_AARCH64_LD64_GOT_LO12_NC (behind 4 o) ldr ldr_of_entry
@@ -77,17 +95,10 @@ abbrev pub thread_offset : Operands → ℕ
 thread_offset o = difference_64 (symbol_address o) o.tls_base
 
 -- `adrp xN` and `ldr xN, [xN]` of the GOT entry, which the dynamic linker has set to the offset
-pub record InitialExec (o : Operands) (s : State) (adrp ldr : List ℕ) : Type 0 where
-  pub small : AreAddresses o
-  pub at : s.pc ≡ o.place
-  pub entry : load_64 s.memory o.got_entry ≡ thread_offset o
-  pub one_register : AreOfOneRegister (word_of adrp) (word_of ldr)
-  pub is_ldr : IsLdr64 (word_of ldr)
-
 abbrev pub InitialExecToLocalExec : Type 0
 InitialExecToLocalExec =
-    (o : Operands) (s : State) (adrp ldr movz movk : List ℕ) → InitialExec o s adrp ldr
-    → IsRewritten MovzXnLsl16 adrp movz → IsRewritten MovkXn ldr movk
+    (o : Operands) (s : State) (adrp ldr movz movk : List ℕ) → IsPair IsLdr64 o s adrp ldr
+    → load_64 s.memory o.got_entry ≡ thread_offset o → IsRewritten MovzXnLsl16 adrp movz → IsRewritten MovkXn ldr movk
     → (adrp_of_entry ldr_of_entry movz_of_offset movk_of_offset : List ℕ)
     → IsRelocated names.R_AARCH64_TLSIE_ADR_GOTTPREL_PAGE21 o adrp adrp_of_entry
     → IsRelocated names.R_AARCH64_TLSIE_LD64_GOTTPREL_LO12_NC (behind 4 o) ldr ldr_of_entry
@@ -97,24 +108,17 @@ InitialExecToLocalExec =
 
 -- ---- an address by `adr`
 
--- `adrp xN` and `add xN, xN`
-pub record AddressPair (o : Operands) (s : State) (adrp add : List ℕ) : Type 0 where
-  pub small : AreAddresses o
-  pub at : s.pc ≡ o.place
-  pub one_register : AreOfOneRegister (word_of adrp) (word_of add)
-  pub is_add : IsAdd64 (word_of add)
-
--- The rewrite takes the bytes from the `adrp` on, of which the `add` has those from the fifth on.
--- `adr` has the place of the `add`.
+-- `adrp xN` and `add xN, xN`: the rewrite takes the bytes from the `adrp` on, of which the `add` has
+-- those from the fifth on. `adr` has the place of the `add`.
 abbrev pub AddressToAdr : Type 0
 AddressToAdr =
-    (o : Operands) (s : State) (both rewritten : List ℕ) → AddressPair o s both (drop 4 both)
-    → IsRewritten AdrpAddToNopAdr both rewritten
+    (o : Operands) (s : State) (both made : List ℕ) → IsPair IsAdd64 o s both (drop 4 both)
+    → IsRewritten AdrpAddToNopAdr both made
     → (adrp_of_symbol add_of_symbol adr_of_symbol : List ℕ)
     → IsRelocated names.R_AARCH64_ADR_PREL_PG_HI21 o both adrp_of_symbol
     → IsRelocated names.R_AARCH64_ADD_ABS_LO12_NC (behind 4 o) (drop 4 both) add_of_symbol
-    → IsRelocated names.R_AARCH64_ADR_PREL_LO21 (behind 4 o) (drop 4 rewritten) adr_of_symbol
-    → RunAlike (pair adrp_of_symbol add_of_symbol) (pair rewritten adr_of_symbol) s
+    → IsRelocated names.R_AARCH64_ADR_PREL_LO21 (behind 4 o) (drop 4 made) adr_of_symbol
+    → RunAlike (pair adrp_of_symbol add_of_symbol) (pair made adr_of_symbol) s
 
 -- ---- the offset of a variable from the thread pointer, by a TLS descriptor
 
