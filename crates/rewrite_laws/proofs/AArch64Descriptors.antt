@@ -143,7 +143,8 @@ to_local_exec entries moves call o s adrp ldr add blr d movz movk nop nop2 made_
     (word_is 0xf2800000 movk (omega arith) made_movk) a b s in
     behind_call call o s adrp ldr add blr (four adrp1 ldr1 add1 blr) (word_of movz1) (word_of movk1)
     (word_of nop) (word_of nop2) _ _ d
-    (calls entries call o s adrp ldr add blr adrp1 ldr1 add1 d is) m.first m.second m.value_is (word_is 0xd503201f nop (omega arith) made_nop)
+    (calls entries call o s adrp ldr add blr adrp1 ldr1 add1 d is) m.first m.second m.value_is
+    (word_is 0xd503201f nop (omega arith) made_nop)
     (word_is 0xd503201f nop2 (omega arith) made_nop2)
 
 small_entry : (entry : ℕ) (o : Operands) → entry < 2 ^ 64 → AreAddresses o
@@ -174,5 +175,6 @@ to_initial_exec entries call o s adrp ldr add blr d entry below holds adrp0 ldr0
     ldr0 ldr2 b tt) in
     behind_call call o s adrp ldr add blr (four adrp1 ldr1 add1 blr) (word_of adrp2) (word_of ldr2)
     (word_of nop) (word_of nop2) _ _ d
-    (calls entries call o s adrp ldr add blr adrp1 ldr1 add1 d is) l.first l.second (l.value_is ∙ holds) (word_is 0xd503201f nop (omega arith) made_nop)
+    (calls entries call o s adrp ldr add blr adrp1 ldr1 add1 d is) l.first l.second
+    (l.value_is ∙ holds) (word_is 0xd503201f nop (omega arith) made_nop)
     (word_is 0xd503201f nop2 (omega arith) made_nop2)

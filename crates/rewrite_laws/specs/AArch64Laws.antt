@@ -98,7 +98,8 @@ thread_offset o = difference_64 (symbol_address o) o.tls_base
 abbrev pub InitialExecToLocalExec : Type 0
 InitialExecToLocalExec =
     (o : Operands) (s : State) (adrp ldr movz movk : List ℕ) → IsPair IsLdr64 o s adrp ldr
-    → load_64 s.memory o.got_entry ≡ thread_offset o → IsRewritten MovzXnLsl16 adrp movz → IsRewritten MovkXn ldr movk
+    → load_64 s.memory o.got_entry ≡ thread_offset o
+    → IsRewritten MovzXnLsl16 adrp movz → IsRewritten MovkXn ldr movk
     → (adrp_of_entry ldr_of_entry movz_of_offset movk_of_offset : List ℕ)
     → IsRelocated names.R_AARCH64_TLSIE_ADR_GOTTPREL_PAGE21 o adrp adrp_of_entry
     → IsRelocated names.R_AARCH64_TLSIE_LD64_GOTTPREL_LO12_NC (behind 4 o) ldr ldr_of_entry
@@ -108,8 +109,8 @@ InitialExecToLocalExec =
 
 -- ---- an address by `adr`
 
--- `adrp xN` and `add xN, xN`: the rewrite takes the bytes from the `adrp` on, of which the `add` has
--- those from the fifth on. `adr` has the place of the `add`.
+-- `adrp xN` and `add xN, xN`: the rewrite takes the bytes from the `adrp` on, of which the `add`
+-- has those from the fifth on. `adr` has the place of the `add`.
 abbrev pub AddressToAdr : Type 0
 AddressToAdr =
     (o : Operands) (s : State) (both made : List ℕ) → IsPair IsAdd64 o s both (drop 4 both)

@@ -80,8 +80,8 @@ got_pair relative entries o s adrp ldr add p holds made adrp1 ldr1 adrp2 add2 a1
 
 initial_exec : relocation_laws.EntryAddresses → relocation_laws.ThreadMoves
     → aarch64_laws.InitialExecToLocalExec
-initial_exec entries moves o s adrp ldr movz movk p holds made_movz made_movk adrp1 ldr1 movz2 movk2 a1 l1
-    a2 b2 =
+initial_exec entries moves o s adrp ldr movz movk p holds made_movz made_movk adrp1 ldr1 movz2 movk2
+    a1 l1 a2 b2 =
     let one = p.one_register in
     let n = rd_of (word_of ldr) in
     let named = one.into_own_source.not_31 in
