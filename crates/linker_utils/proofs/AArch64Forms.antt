@@ -45,7 +45,7 @@ moved_sum neg v base after laid =
     ∙ omega arith
 
 -- bits 21 and up
-high_kept : (ps : List ImmediateBit) (v base after : ℕ) → BitsWritten ps v base after → (n : ℕ) → words_below n ps ≡ true → after / 2 ^ n ≡ base / 2 ^ n
+pub high_kept : (ps : List ImmediateBit) (v base after : ℕ) → BitsWritten ps v base after → (n : ℕ) → words_below n ps ≡ true → after / 2 ^ n ≡ base / 2 ^ n
 high_kept ps v base after laid n b =
     same_from_bits (after / 2 ^ n) (base / 2 ^ n) (λ i.
     bit_at_shr after n i ∙ laid.kept (n + i) (not_placed_above ps n (n + i) b (omega arith)) ∙ sym (bit_at_shr base n i))

@@ -1,3 +1,8 @@
+pub mod AArch64Descriptors
+pub mod AArch64Moves
+pub mod AArch64Pairs
+pub mod AArch64Steps
+pub mod AArch64Words
 pub mod RiscVCalls
 pub mod RiscVHighParts
 pub mod RiscVJumps

@@ -1,11 +1,33 @@
 //! Laws of rewrites: the instructions after a rewrite compute what those before it do.
 //!
 //! The functions do nothing, and the contract of each has the laws of one architecture. They are in
-//! `specs/`, over a machine that executes the instructions that rewrites read or write.
+//! `specs/`, over a machine that executes the instructions that rewrites read or write: from the same
+//! state the instructions before a rewrite and those after it, each with their relocations applied,
+//! end in states that are alike.
 #![tactic(auto)]
 
+ghost use Rattle.rewrite_laws.specs.AArch64Laws as aarch64_laws;
+ghost use Rattle.rewrite_laws.specs.AArch64Worked as aarch64_worked;
 ghost use Rattle.rewrite_laws.specs.RiscVExamples as riscv_examples;
 ghost use Rattle.rewrite_laws.specs.RiscVLaws as riscv_laws;
+
+/// AArch64: the address of a symbol without its GOT entry, or by one `adr`; the offset of a variable
+/// from the thread pointer by moves, or by its GOT entry in place of a descriptor's function; `nop`
+/// in place of a branch to an undefined weak symbol. The bytes of instructions may be a section's,
+/// from the instruction on (`sections`). The last two clauses are examples of what the machine does.
+pub fn aarch64()
+    ensures got { aarch64_laws.GotToAddress }
+    ensures initial_exec { aarch64_laws.InitialExecToLocalExec }
+    ensures address { aarch64_laws.AddressToAdr }
+    ensures descriptor_to_local_exec { aarch64_laws.DescriptorToLocalExec }
+    ensures descriptor_to_initial_exec { aarch64_laws.DescriptorToInitialExec }
+    ensures weak { aarch64_laws.WeakBranches }
+    ensures sections { aarch64_laws.InSections }
+    ensures steps { aarch64_worked.WorkedSteps }
+    ensures runs { aarch64_worked.WorkedRuns }
+{
+    relocation_laws::aarch64();
+}
 
 /// RISC-V: a call that becomes `jal`, and a tail call that becomes `jal` or `c.j`, go to the target
 /// of their layout, and a call links the address behind it; `c.lui` puts in its register what `lui`

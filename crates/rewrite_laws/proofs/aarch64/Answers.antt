@@ -1,0 +1,245 @@
+-- The laws of AArch64.
+use Rattle.std.proofs.Common.{◌≡◌, ℕ, ◌+◌, refl, sym, ◌∙◌, ap, arith, pos, ◌+ℤ◌}
+use Rattle.std.proofs.Common.{drop, [], ◌∷◌, eqb, ◌*ℤ◌, take, length, ◌++◌, subst, Some, ◌-◌, List}
+use Rattle.std.specs.Int.{bit_at}
+use Rattle.std.proofs.Math.Seq.{drop-append_seam, take-append_seam}
+use Rattle.std.proofs.lemmas.Bool.{cond-false, eqb-true}
+use Rattle.std.proofs.lemmas.List.{length-take-le, append_assoc}
+use Rattle.linker_base.specs.Bits.{field}
+use Rattle.linker_base.specs.Form.{place_sum}
+use Rattle.linker_base.specs.Rewrite.{Rewrite, rewrite_window}
+use Rattle.linker_utils.specs.AArch64.{rd_of, rn_of, aarch64_form}
+use Rattle.linker_utils.specs.Value.{sum_64}
+use Rattle.linker_utils.specs.declared.aarch64.forms.AArch64Instruction.TheVariants.{Adr, JumpCall}
+use Rattle.linker_utils.specs.declared.aarch64.rewrites.RelaxationKind.TheVariants.{NoOp}
+use Rattle.linker_utils.specs.declared.aarch64.rewrites.RelaxationKind.TheVariants.{ReplaceWithNop}
+use Rattle.linker_utils.specs.declared.aarch64.rewrites.RelaxationKind.TheVariants.{MovzX0Lsl16}
+use Rattle.linker_utils.specs.declared.aarch64.rewrites.RelaxationKind.TheVariants.{MovkX0}
+use Rattle.linker_utils.specs.declared.aarch64.rewrites.RelaxationKind.TheVariants.{MovzXnLsl16}
+use Rattle.linker_utils.specs.declared.aarch64.rewrites.RelaxationKind.TheVariants.{MovkXn}
+use Rattle.linker_utils.specs.declared.aarch64.rewrites.RelaxationKind.TheVariants.{AdrpToAdr}
+use Rattle.linker_utils.specs.declared.aarch64.rewrites.RelaxationKind.TheVariants.{AdrpX0, LdrX0}
+use Rattle.linker_utils.specs.declared.aarch64.rewrites.RelaxationKind.TheVariants.{AddToAdr}
+use Rattle.linker_utils.specs.declared.aarch64.rewrites.RelaxationKind.TheVariants.{LdrToAdr}
+use Rattle.linker_utils.specs.declared.aarch64.rewrites.RelaxationKind.TheVariants.{LdrToAdd}
+use Rattle.linker_utils.specs.declared.aarch64.rewrites.RelaxationKind.TheVariants.{AdrpAddToNopAdr}
+use Rattle.linker_utils.specs.declared.elf.value.Operands.{Operands}
+use Rattle.relocation_laws.specs.AArch64Laws as relocation_laws
+use Rattle.relocation_laws.specs.Schemes.{AreAddresses, symbol_address, IsAddress, plt_address}
+use Rattle.relocation_laws.proofs.Sums.{once, sum_below}
+use Rattle.rewrite_laws.specs.AArch64Laws.{word_of, pair, behind, BeginsRewrittenAt}
+use Rattle.rewrite_laws.specs.AArch64Laws as aarch64_laws
+use Rattle.rewrite_laws.specs.AArch64Machine.{in_64_bits, adr_address, go_on, go_to, branch_target}
+use Rattle.rewrite_laws.specs.AArch64Machine.{execute, step, write_x, next_pc, State}
+use Rattle.rewrite_laws.specs.AArch64Worked.{WorkedSteps, WorkedRuns}
+use Rattle.rewrite_laws.proofs.AArch64Descriptors.{to_local_exec, to_initial_exec}
+use Rattle.rewrite_laws.proofs.AArch64Moves.{offset_moves}
+use Rattle.rewrite_laws.proofs.AArch64Pairs.{word_is, loads, adds_pair, word_made, pair_made}
+use Rattle.rewrite_laws.proofs.AArch64Steps.{run_pair, alike_runs, alike_twice, set, step_adr}
+use Rattle.rewrite_laws.proofs.AArch64Steps.{address_is, alike_once}
+use Rattle.rewrite_laws.proofs.AArch64Words.{adr_of_register, of_registers, adrp_after, ldr_after}
+use Rattle.rewrite_laws.proofs.AArch64Words.{add_after, ldr_of_register_after, masked_field}
+use Rattle.rewrite_laws.proofs.AArch64Words.{adr_after, decodes_adr, decodes_b, decodes_bl}
+use Rattle.rewrite_laws.proofs.AArch64Words.{branch_after}
+use Rattle.rewrite_laws.proofs.aarch64.Goals as goal
+
+small_behind : (n : ℕ) (o : Operands) → AreAddresses o → AreAddresses (behind n o)
+small_behind n o small =
+    record {
+      symbol = small.symbol;
+      place = sum_below o.place n;
+      got_entry = small.got_entry;
+      got_base = small.got_base;
+      plt_entry = small.plt_entry;
+      tls_base = small.tls_base;
+    }
+
+got_pair : relocation_laws.RelativeAddresses → relocation_laws.EntryAddresses
+    → aarch64_laws.GotToAddress
+got_pair relative entries o s adrp ldr add p holds made adrp1 ldr1 adrp2 add2 a1 l1 a2 d2 =
+    let one = p.one_register in
+    let n = rd_of (word_of ldr) in
+    let named = one.into_own_source.not_31 in
+    let same = one.into_own_source.same in
+    let made_word = word_made (λ x. 0x91000000 + field x 0 21) ldr add (omega arith) made in
+    let op : field (word_of add) 22 32 ≡ 0x244 = omega arith in
+    let rd : rd_of (word_of add) ≡ n = omega arith in
+    let rn : rn_of (word_of add) ≡ rn_of (word_of ldr) = omega arith in
+    let l = loads o n n (word_of adrp1) (word_of ldr1) o.got_entry s
+    (adr_of_register one.register (adrp_after _ _ adrp adrp1 a1.written one.first))
+    (of_registers refl same (ldr_after _ _ ldr ldr1 l1.written p.second_is)) named named p.at
+    (entries.0 o p.small o.place adrp adrp1 a1 tt (sum_64 o.place 4) ldr ldr1 l1 tt) in
+    let d = adds_pair o n (word_of adrp2) (word_of add2) _ s
+    (adr_of_register one.register (adrp_after _ _ adrp adrp2 a2.written one.first))
+    (of_registers rd (rn ∙ same) (add_after _ _ add add2 d2.written op)) named p.at
+    (relative.0.0 o p.small o.place adrp adrp2 a2 tt (sum_64 o.place 4) add add2 d2 tt) in
+    alike_runs _ (pair adrp1 ldr1) (pair adrp2 add2) s _ _
+    (run_pair (word_of adrp1) (word_of ldr1) s _ _ l.first refl l.second)
+    (run_pair (word_of adrp2) (word_of add2) s _ _ d.first refl d.second)
+    (alike_twice n _ _ _ _ s (l.value_is ∙ holds ∙ sym d.value_is))
+
+initial_exec : relocation_laws.EntryAddresses → relocation_laws.ThreadMoves
+    → aarch64_laws.InitialExecToLocalExec
+initial_exec entries moves o s adrp ldr movz movk p holds made_movz made_movk adrp1 ldr1 movz2 movk2
+    a1 l1 a2 b2 =
+    let one = p.one_register in
+    let n = rd_of (word_of ldr) in
+    let named = one.into_own_source.not_31 in
+    let l = loads o n n (word_of adrp1) (word_of ldr1) o.got_entry s
+    (adr_of_register one.register (adrp_after _ _ adrp adrp1 a1.written one.first))
+    (of_registers refl one.into_own_source.same
+    (ldr_of_register_after _ _ ldr ldr1 l1.written p.second_is))
+    named named p.at
+    (entries.3 o p.small o.place adrp adrp1 a1 tt (sum_64 o.place 4) ldr ldr1 l1 tt) in
+    let m = offset_moves moves o p.small n (omega arith) named movz movk movz2 movk2
+    (word_made (λ x. 0xd2a00000 + rd_of x) adrp movz (omega arith) made_movz
+    ∙ ap (λ r. 0xd2a00000 + r) one.register)
+    (word_made (λ x. 0xf2800000 + rd_of x) ldr movk (omega arith) made_movk) a2 b2 s in
+    alike_runs _ (pair adrp1 ldr1) (pair movz2 movk2) s _ _
+    (run_pair (word_of adrp1) (word_of ldr1) s _ _ l.first refl l.second)
+    (run_pair (word_of movz2) (word_of movk2) s _ _ m.first refl m.second)
+    (alike_twice n _ _ _ _ s (l.value_is ∙ holds ∙ sym m.value_is))
+
+address : relocation_laws.RelativeAddresses → relocation_laws.Literals → aarch64_laws.AddressToAdr
+address relative literals o s both made p is_made adrp1 add1 adr2 a1 d1 b2 =
+    let one = p.one_register in
+    let add0 = drop 4 both in
+    let n = rd_of (word_of add0) in
+    let named = one.into_own_source.not_31 in
+    let r = 0x10000000 + rd_of (word_of both) in
+    let d = adds_pair o n (word_of adrp1) (word_of add1) _ s
+    (adr_of_register one.register (adrp_after _ _ both adrp1 a1.written one.first))
+    (of_registers refl one.into_own_source.same (add_after _ _ add0 add1 d1.written
+    (masked_field (word_of add0) 0xffc00000 0x91000000 22 32 p.second_is refl))) named p.at
+    (relative.0.0 o p.small o.place both adrp1 a1 tt (sum_64 o.place 4) add0 add1 d1 tt) in
+    let words = pair_made (λ x. 0x10000000 + rd_of x) both made (omega arith) is_made in
+    let word2 : word_of (drop 4 made) ≡ r = words.second in
+    let y = word_of adr2 in
+    let adr = adr_after 0 _ _ (drop 4 made) adr2 b2.written
+    (let e : field (word_of (drop 4 made)) 24 29 ≡ 0x10 = omega arith in e)
+    (let e : bit_at (word_of (drop 4 made)) 31 ≡ 0 = omega arith in e) in
+    let rd : rd_of y ≡ n =
+    adr.rd_is
+    ∙ (let e : rd_of (word_of (drop 4 made)) ≡ rd_of (word_of both) = omega arith in e)
+    ∙ one.register in
+    let t = go_on s in
+    let value : adr_address y t ≡ symbol_address o =
+    ap (λ q. in_64_bits (pos (sum_64 q 4) +ℤ (aarch64_form Adr).machine y)) p.at
+    ∙ ap (λ z. in_64_bits (pos (sum_64 o.place 4) +ℤ z)) (sym (once ((aarch64_form Adr).machine y)))
+    ∙ address_is _ _ (literals.0 (behind 4 o) (small_behind 4 o p.small) o.place (drop 4 made)
+    adr2 b2 tt) in
+    alike_runs _ (pair adrp1 add1) (pair made adr2) s _ (set n (adr_address y t) t)
+    (run_pair (word_of adrp1) (word_of add1) s _ _ d.first refl d.second)
+    (run_pair (word_of made) y s t _ (ap (λ w. step w s) words.first) refl
+    (step_adr y n t (decodes_adr y adr.opcode adr.top) rd named))
+    (alike_once n _ _ (adr_address y t) s (d.value_is ∙ sym value))
+
+-- ---- branches
+
+branches : relocation_laws.Branches → aarch64_laws.WeakBranches
+branches laws = (
+  λ o s branch nop small at goes is made after a.
+      let x = word_of after in
+      let op = branch_after _ _ branch after a.written ∙ eqb-true _ _ is in
+      alike_runs _ (x ∷ []) (word_of nop ∷ []) s (go_to (branch_target x s) s) (go_on s)
+      (ap (λ k. execute k x s) (decodes_b x op))
+      (ap (λ w. step w s) (word_is 0xd503201f nop (omega arith) made))
+      (record {
+        registers = λ n any. refl;
+        pc = goes_to o x s at (laws.1 o small o.place branch after a tt) ∙ goes;
+        memory = refl;
+        thread_pointer = refl;
+      }),
+  λ o s branch nop small at goes is made after a.
+      let x = word_of after in
+      let op = branch_after _ _ branch after a.written ∙ eqb-true _ _ is in
+      alike_runs _ (x ∷ []) (word_of nop ∷ []) s
+      (go_to (branch_target x s) (write_x 30 (next_pc s) s)) (go_on s)
+      (ap (λ k. execute k x s) (decodes_bl x op))
+      (ap (λ w. step w s) (word_is 0xd503201f nop (omega arith) made))
+      (record {
+        registers = λ n other. cond-false (eqb n 30) (next_pc s) (s.registers n) other;
+        pc = goes_to o x s at (laws.0 o small o.place branch after a tt) ∙ goes;
+        memory = refl;
+        thread_pointer = refl;
+      }),
+)
+  where
+    goes_to : (o : Operands) (x : ℕ) (s : State) → s.pc ≡ o.place
+        → IsAddress (pos o.place +ℤ ((aarch64_form JumpCall).machine x *ℤ pos 4)) (plt_address o)
+        → branch_target x s ≡ plt_address o
+    goes_to o x s at leads =
+        ap (λ p. in_64_bits (pos p +ℤ ((aarch64_form JumpCall).machine x *ℤ pos 4))) at
+        ∙ address_is _ _ leads
+
+-- ---- sections
+
+in_section : (r : Rewrite) (section : List ℕ) (o : ℕ)
+    → ((window : List ℕ) → length (r.bytes window) ≡ r.len)
+    → BeginsRewrittenAt (Some r) section o
+in_section r section o long can =
+    let k = o - r.back in
+    let bytes = r.bytes (rewrite_window r section o) in
+    let rest = drop (k + r.len) section in
+    let ends = can.ends in
+    let before : length (take k section) ≡ k = length-take-le k section (omega arith) in
+    ap (λ l. take r.len (drop k l)) (append_assoc (take k section) bytes rest)
+    ∙ ap (take r.len)
+    (subst (λ j. drop j (take k section ++ (bytes ++ rest)) ≡ bytes ++ rest) before
+    (drop-append_seam (take k section) (bytes ++ rest)))
+    ∙ subst (λ j. take j (bytes ++ rest) ≡ bytes) (long (rewrite_window r section o))
+    (take-append_seam bytes rest)
+
+sections : aarch64_laws.InSections
+sections NoOp section o = tt
+sections ReplaceWithNop section o = in_section _ section o (λ window. refl)
+sections MovzX0Lsl16 section o = in_section _ section o (λ window. refl)
+sections MovkX0 section o = in_section _ section o (λ window. refl)
+sections MovzXnLsl16 section o = in_section _ section o (λ window. refl)
+sections MovkXn section o = in_section _ section o (λ window. refl)
+sections AdrpToAdr section o = in_section _ section o (λ window. refl)
+sections AdrpX0 section o = in_section _ section o (λ window. refl)
+sections LdrX0 section o = in_section _ section o (λ window. refl)
+sections AddToAdr section o = in_section _ section o (λ window. refl)
+sections LdrToAdr section o = in_section _ section o (λ window. refl)
+sections LdrToAdd section o = in_section _ section o (λ window. refl)
+sections AdrpAddToNopAdr section o = in_section _ section o (λ window. refl)
+
+worked : WorkedSteps
+unfolding place_sum
+worked = (
+  (refl, refl),
+  (refl, refl),
+  (refl, refl),
+  (refl, refl),
+  (refl, refl),
+  (refl, refl),
+  (refl, refl),
+  (refl, refl),
+  (refl, refl),
+  (refl, refl),
+  (refl, refl),
+  (refl, refl),
+  (refl, refl),
+  (refl, refl),
+  (refl, refl),
+)
+
+worked_runs : WorkedRuns
+unfolding place_sum
+worked_runs = (refl, refl, refl)
+
+pub returns : goal.returns
+returns c =
+    let laws = c.aarch64.ensures in
+    record {
+      got = got_pair laws.relative laws.entries;
+      initial_exec = initial_exec laws.entries laws.thread_moves;
+      address = address laws.relative laws.literals;
+      descriptor_to_local_exec = to_local_exec laws.entries laws.thread_moves;
+      descriptor_to_initial_exec = to_initial_exec laws.entries;
+      weak = branches laws.branches;
+      sections = sections;
+      steps = worked;
+      runs = worked_runs;
+    }
