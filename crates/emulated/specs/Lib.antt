@@ -1,6 +1,13 @@
+pub mod AArch64Executed
+pub mod AArch64Steps
 pub mod AArch64Table
 pub mod Emulated
 pub mod LoongArchTable
 pub mod Ppc64Table
+pub mod RiscVExecuted
+pub mod RiscVSteps
 pub mod RiscVTable
 pub mod Sequences
+pub mod Steps
+pub mod X86Executed
+pub mod X86Steps

@@ -5,20 +5,26 @@
 //! what came of it. `tools/emulate` makes the tables, and its head says what is compared.
 #![tactic(auto)]
 
+ghost use Rattle.emulated.specs.AArch64Executed as aarch64_executed;
 ghost use Rattle.emulated.specs.AArch64Table as aarch64_table;
 ghost use Rattle.emulated.specs.LoongArchTable as loongarch_table;
 ghost use Rattle.emulated.specs.Ppc64Table as ppc64_table;
+ghost use Rattle.emulated.specs.RiscVExecuted as riscv_executed;
 ghost use Rattle.emulated.specs.RiscVTable as riscv_table;
+ghost use Rattle.emulated.specs.X86Executed as x86_executed;
 
 /// AArch64: offsets of loads and stores, `adr` and `adrp`, moves, additions, branches, a number by
-/// four moves, and `adrp` with `add`.
+/// four moves, and `adrp` with `add`; and what the instructions of `rewrite_laws` do.
 pub fn aarch64()
     ensures agrees { aarch64_table.Agrees }
+    ensures steps { aarch64_executed.Agrees }
 {}
 
-/// RISC-V: the forms of 32 bits and of 16, pairs with `lui` or `auipc`, and calls.
+/// RISC-V: the forms of 32 bits and of 16, pairs with `lui` or `auipc`, and calls; and what the
+/// instructions of `rewrite_laws` do, but for those of floating-point registers.
 pub fn riscv64()
     ensures agrees { riscv_table.Agrees }
+    ensures steps { riscv_executed.Agrees }
 {}
 
 /// LoongArch: immediates of 20, 16 and 12 bits, branches, `pcaddu18i` with `jirl`, numbers by two to
@@ -31,4 +37,9 @@ pub fn loongarch64()
 /// with `addi` or `ori`.
 pub fn ppc64()
     ensures agrees { ppc64_table.Agrees }
+{}
+
+/// x86-64: what the instructions of `rewrite_laws` do.
+pub fn x86_64()
+    ensures steps { x86_executed.Agrees }
 {}

@@ -5,10 +5,12 @@ use Rattle.emulated.specs.RiscVTable.{utype_words, itype_words, stype_words, bty
 use Rattle.emulated.specs.RiscVTable.{jtype_words, cbtype_words, cjtype_words, cluitype_words}
 use Rattle.emulated.specs.RiscVTable.{uitype_words}
 use Rattle.emulated.specs.RiscVTable.{call_words}
+use Rattle.emulated.specs.RiscVSteps.{riscv_groups}
 use Rattle.emulated.proofs.riscv64.Goals as goal
 
 pub returns : goal.returns
-unfolding place_sum utype_words itype_words stype_words btype_words jtype_words cbtype_words cjtype_words cluitype_words uitype_words call_words
+unfolding place_sum utype_words itype_words stype_words btype_words jtype_words cbtype_words cjtype_words cluitype_words uitype_words call_words riscv_groups
 returns c = record {
   agrees = (refl, refl, refl, refl, refl, refl, refl, refl, refl, refl);
+  steps = refl;
 }

@@ -1,0 +1,27 @@
+-- RISC-V: the instructions of `rewrite_laws` compared with an emulator.
+use Rattle.std.specs.Prelude.{ℕ, ◌≡◌, Bool, true, false, Option, Some, None}
+use Rattle.std.specs.List.{list_all}
+use Rattle.rewrite_laws.specs.RiscVMachine.{Hart, Instruction, register, fetched, executed}
+use Rattle.emulated.specs.Steps.{Executed, Group, number_in, byte_in, is_left}
+use Rattle.emulated.specs.RiscVSteps.{riscv_groups}
+
+abbrev pub begun : Executed → Hart
+begun e =
+    record {
+      pc = e.before.address;
+      integers = number_in e.before.registers;
+      floats = λ r. 0;
+      memory = byte_in e.at e.before.memory;
+    }
+
+abbrev pub is_hart : Executed → Hart → Bool
+is_hart e h = is_left 0 e (register h) h.pc h.memory 0
+
+abbrev pub ends_so : Executed → Option (ℕ × Instruction) → Bool
+ends_so e None = false
+ends_so e (Some i) = is_hart e (executed i.0 i.1 (begun e))
+
+-- Each instruction leaves what the emulator did.
+abbrev pub Agrees : Type 0
+Agrees =
+    list_all (λ (g : Group). list_all (λ e. ends_so e (fetched e.code)) g.rows) riscv_groups ≡ true

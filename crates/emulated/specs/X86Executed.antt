@@ -1,0 +1,43 @@
+-- x86-64: the instructions of `rewrite_laws` compared with an emulator.
+use Rattle.std.specs.Prelude.{ℕ, ◌≡◌, ◌+◌, ◌*◌, ◌==◌, ◌^◌, Bool, true, false, Option, Some, None}
+use Rattle.std.specs.List.{list_all}
+use Rattle.std.specs.Int.{bit_at}
+use Rattle.rewrite_laws.specs.X86Machine.{State, Flags, step, bit_of}
+use Rattle.emulated.specs.Steps.{Executed, Group, number_in, byte_in, is_left}
+use Rattle.emulated.specs.X86Steps.{x86_groups}
+
+-- EFLAGS: CF is bit 0, PF 2, AF 4, ZF 6, SF 7 and OF 11
+abbrev pub flags_in : ℕ → Flags
+flags_in n =
+    record {
+      carry = bit_at n 0 == 1;
+      parity = bit_at n 2 == 1;
+      auxiliary = bit_at n 4 == 1;
+      is_zero = bit_at n 6 == 1;
+      sign = bit_at n 7 == 1;
+      overflow = bit_at n 11 == 1;
+    }
+
+abbrev pub number_of_flags : Flags → ℕ
+number_of_flags f =
+    bit_of f.carry + 2 ^ 2 * bit_of f.parity + 2 ^ 4 * bit_of f.auxiliary
+    + 2 ^ 6 * bit_of f.is_zero + 2 ^ 7 * bit_of f.sign + 2 ^ 11 * bit_of f.overflow
+
+abbrev pub begun : Executed → State
+begun e =
+    record {
+      register = number_in e.before.registers;
+      ip = e.before.address;
+      memory = byte_in e.at e.before.memory;
+      flags = flags_in e.before.flags;
+    }
+
+abbrev pub ends_so : ℕ → Executed → Option State → Bool
+ends_so mask e None = false
+ends_so mask e (Some s) = is_left mask e s.register s.ip s.memory (number_of_flags s.flags)
+
+-- Each instruction leaves what the emulator did.
+abbrev pub Agrees : Type 0
+Agrees =
+    list_all (λ (g : Group). list_all (λ e. ends_so g.mask e (step e.code (begun e))) g.rows)
+    x86_groups ≡ true
