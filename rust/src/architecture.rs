@@ -6,13 +6,14 @@
 
 use crate::aarch64::{self, AArch64Relocation};
 use crate::elf::{
-    AArch64Instruction, Architecture, InstructionRewrite, LoongArch64Instruction, Ppc64Instruction,
-    RelocationInstruction, RiscVInstruction, Row, Uleb128Role,
+    AArch64Instruction, Architecture, Choice, InstructionRewrite, LinkFacts,
+    LoongArch64Instruction, Ppc64Instruction, RelocationInstruction, RiscVInstruction, Row,
+    Uleb128Role,
 };
 use crate::loongarch64::{self, LoongArch64Relocation};
 use crate::ppc64::{self, Ppc64Relocation};
 use crate::relaxation::RelocationModifier;
-use crate::riscv64::{self, RiscVRelocation};
+use crate::riscv64::{self, DeletedBytes, RiscVRelocation};
 use crate::x86_64::{self, X86_64Relocation};
 
 /// A rewrite of one of the architectures.
@@ -27,6 +28,20 @@ pub enum Relaxation {
 }
 
 impl Relaxation {
+    /// The rewrite's number and its count of bytes before the field, which `Architecture::rewrite`
+    /// takes. The count is 0 but for the rewrites of x86-64 that have one.
+    #[must_use]
+    #[inline]
+    pub fn number(self) -> (u32, u8) {
+        match self {
+            Relaxation::AArch64(kind) => (kind.number(), 0),
+            Relaxation::RiscV(kind) => (kind.number(), 0),
+            Relaxation::LoongArch64(kind) => (kind.number(), 0),
+            Relaxation::Ppc64(kind) => (kind.number(), 0),
+            Relaxation::X86_64(kind) => kind.number(),
+        }
+    }
+
     /// Whether the bytes at an offset of a section are an instruction, or a sequence of some, that
     /// the rewrite is meant for, as `matches` of the architecture's `RelaxationKind` says. Where
     /// they are, the rewrite can be applied.
@@ -39,6 +54,19 @@ impl Relaxation {
             Relaxation::LoongArch64(kind) => kind.matches(section, offset),
             Relaxation::Ppc64(kind) => kind.matches(section, offset),
             Relaxation::X86_64(kind) => kind.matches(section, offset),
+        }
+    }
+}
+
+impl Relaxation {
+    /// The bytes to be deleted after the rewrite, as `riscv64::RelaxationKind::deleted` says. `None`
+    /// where there are none, and for all other architectures.
+    #[must_use]
+    #[inline]
+    pub fn deleted(self) -> Option<DeletedBytes> {
+        match self {
+            Relaxation::RiscV(kind) => kind.deleted(),
+            _ => None,
         }
     }
 }
@@ -81,6 +109,71 @@ impl InstructionRewrite for Relaxation {
 }
 
 impl Architecture {
+    /// Which rewrite a linker makes at the relocation with a code, `r_type` in ELF files, and the
+    /// code of the relocation after it, as `choose` of `aarch64`, `riscv64` and `x86_64` says. For
+    /// LoongArch and PowerPC64 it is `NoOp` and the same code.
+    ///
+    /// ```
+    /// use linker_utils::architecture::Relaxation;
+    /// use linker_utils::elf::{Architecture, LinkFacts, Operands};
+    /// use linker_utils::x86_64::RelaxationKind;
+    ///
+    /// // call *x@GOTPCREL(%rip), with R_X86_64_GOTPCRELX
+    /// let call = [0xff, 0x15, 0, 0, 0, 0];
+    /// let facts = LinkFacts {
+    ///     is_local: true,
+    ///     has_fixed_distance: true,
+    ///     operands: Operands { addend: -4, ..Operands::default() },
+    ///     ..LinkFacts::default()
+    /// };
+    /// let chosen = Architecture::X86_64.choose(41, &call, 2, &facts);
+    /// assert_eq!(chosen.kind, Relaxation::X86_64(RelaxationKind::CallIndirectToRelative));
+    /// assert_eq!(Architecture::X86_64.name(chosen.relocation), Some("R_X86_64_PC32"));
+    /// ```
+    #[must_use]
+    pub fn choose(
+        self,
+        code: u32,
+        section: &[u8],
+        offset: u64,
+        facts: &LinkFacts,
+    ) -> Choice<Relaxation, u32> {
+        match self {
+            Architecture::AArch64 => {
+                let name = AArch64Relocation::from_elf(code);
+                let chosen = aarch64::choose(name, section, offset, facts);
+                Choice {
+                    kind: Relaxation::AArch64(chosen.kind),
+                    relocation: chosen.relocation.elf_code(),
+                }
+            }
+            Architecture::RiscV => {
+                let name = RiscVRelocation::from_elf(code);
+                let chosen = riscv64::choose(name, section, offset, facts);
+                Choice {
+                    kind: Relaxation::RiscV(chosen.kind),
+                    relocation: chosen.relocation.elf_code(),
+                }
+            }
+            Architecture::LoongArch64 => Choice {
+                kind: Relaxation::LoongArch64(loongarch64::RelaxationKind::NoOp),
+                relocation: code,
+            },
+            Architecture::Ppc64 => Choice {
+                kind: Relaxation::Ppc64(ppc64::RelaxationKind::NoOp),
+                relocation: code,
+            },
+            Architecture::X86_64 => {
+                let name = X86_64Relocation::from_elf(code);
+                let chosen = x86_64::choose(name, section, offset, facts);
+                Choice {
+                    kind: Relaxation::X86_64(chosen.kind),
+                    relocation: chosen.relocation.elf_code(),
+                }
+            }
+        }
+    }
+
     /// What the relocation with a code, `r_type` in ELF files, means. None of a code without a
     /// name, and of names without a row.
     ///

@@ -4,6 +4,7 @@
 //!
 #![doc = include_str!("../doc/elf.md")]
 
+mod choice;
 pub(crate) mod engine;
 mod numbers;
 mod reach;
@@ -17,6 +18,7 @@ pub use crate::loongarch64::LoongArch64Instruction;
 pub use crate::ppc64::Ppc64Instruction;
 use crate::relaxation::RelocationModifier;
 pub use crate::riscv64::RiscVInstruction;
+pub use choice::{Choice, LinkFacts};
 pub use numbers::RelocationNumbers;
 pub use relocate::RelocateError;
 pub use rows::Row;

@@ -5,6 +5,7 @@
 #![doc = include_str!("../doc/riscv64.md")]
 
 mod calls;
+mod choices;
 mod forms;
 mod packing;
 mod relocations;
@@ -15,13 +16,14 @@ pub use calls::{
     Call, CallError, JAL_MAX, JAL_MIN, JumpError, LinkRegister, distance_fits_jal, is_plain_call,
     jal_site, jal_site_with, relax_call, relax_call_over,
 };
+pub use choices::choose;
 pub use forms::RiscVInstruction;
 pub use packing::{
     PackError, RejectedCall, calls_apart, first_not_apart, pack_into, pack_section,
     packed_calls_reach_targets, packed_len,
 };
 pub use relocations::{RiscVRelocation, clui_row, relocation_type_from_raw, row};
-pub use rewrites::RelaxationKind;
+pub use rewrites::{DeletedBytes, RelaxationKind};
 pub use shrinking::{
     AsChoice, calls_shrinkable, first_not_shrinkable, shrink_calls, shrink_calls_into,
     shrunk_calls_are_accepted,

@@ -15,6 +15,7 @@ mod support;
 mod compare;
 
 mod calls;
+mod choices;
 mod deltas;
 mod forms;
 mod heads;

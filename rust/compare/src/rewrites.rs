@@ -36,16 +36,21 @@ fn apply_by<R: InstructionRewrite>(
     Status::Success
 }
 
+#[inline(always)]
+pub(crate) fn number_of(modifier: RelocationModifier) -> u32 {
+    match modifier {
+        RelocationModifier::Normal => 0,
+        RelocationModifier::SkipNextRelocation => 1,
+    }
+}
+
 // What becomes of the relocation after a rewrite, if there is one.
 #[inline(always)]
 fn modifier_by<R: InstructionRewrite>(rewrite: Option<R>, modifier: &mut u32) -> Status {
     let Some(named) = rewrite else {
         return Status::UnknownRewrite;
     };
-    *modifier = match named.next_modifier() {
-        RelocationModifier::Normal => 0,
-        RelocationModifier::SkipNextRelocation => 1,
-    };
+    *modifier = number_of(named.next_modifier());
     Status::Success
 }
 

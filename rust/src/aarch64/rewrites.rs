@@ -58,7 +58,7 @@ pub enum RelaxationKind {
 
 /// The instruction at an offset of the section.
 #[inline(always)]
-fn word_at(section: &[u8], offset: u64) -> u32 {
+pub(super) fn word_at(section: &[u8], offset: u64) -> u32 {
     u32_from_slice(&section[offset as usize..])
 }
 
@@ -69,30 +69,30 @@ pub(super) fn put_word(section: &mut [u8], offset: u64, word: u32) {
 }
 
 #[inline(always)]
-fn destination(word: u32) -> u32 {
+pub(super) fn destination(word: u32) -> u32 {
     word & 0x1f
 }
 
 #[inline(always)]
-fn source(word: u32) -> u32 {
+pub(super) fn source(word: u32) -> u32 {
     word >> 5 & 0x1f
 }
 
 /// `adrp xD`.
 #[inline(always)]
-fn is_adrp(word: u32) -> bool {
+pub(super) fn is_adrp(word: u32) -> bool {
     word & 0x9f00_0000 == 0x9000_0000
 }
 
 /// `add xD, xN, #imm`, whose immediate isn't shifted.
 #[inline(always)]
-fn is_add64(word: u32) -> bool {
+pub(super) fn is_add64(word: u32) -> bool {
     word & 0xffc0_0000 == 0x9100_0000
 }
 
 /// `ldr xD, [xN, #imm]`, whose offset is unsigned.
 #[inline(always)]
-fn is_ldr64(word: u32) -> bool {
+pub(super) fn is_ldr64(word: u32) -> bool {
     word >> 22 == 0x3e5
 }
 
@@ -105,7 +105,7 @@ fn is_into_own_source(word: u32) -> bool {
 
 /// Whether the words are `adrp xN` and an instruction from xN into xN.
 #[inline(always)]
-fn are_of_one_register(adrp: u32, word: u32) -> bool {
+pub(super) fn are_of_one_register(adrp: u32, word: u32) -> bool {
     is_adrp(adrp) && is_into_own_source(word) && destination(adrp) == destination(word)
 }
 
@@ -149,6 +149,13 @@ impl RelaxationKind {
             _ => return None,
         };
         Some(kind)
+    }
+
+    /// The rewrite's number, which `from_number` takes.
+    #[must_use]
+    #[inline(always)]
+    pub fn number(self) -> u32 {
+        self as u32
     }
 
     /// Rewrites the instruction at an offset of a section. All other bytes, the offset and the

@@ -216,6 +216,12 @@ impl RelocationKindInfo {
         }
     }
 
+    /// Whether a value is within `reach`, and a multiple of the row's alignment.
+    #[inline]
+    pub(crate) fn is_in_reach(&self, value: i64) -> bool {
+        self.is_supported() && self.is_aligned(value) && self.reach().contains(value)
+    }
+
     /// Whether a value is a multiple of the alignment of the row and of its instruction.
     #[inline(always)]
     pub(crate) fn is_multiple(&self, value: i64, dest: &[u8]) -> bool {

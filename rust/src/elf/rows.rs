@@ -140,6 +140,17 @@ impl Row {
         self.info().value(operands)
     }
 
+    /// Whether the relocation has a value that can be written: one within `reach`, and a multiple of
+    /// the row's alignment.
+    #[must_use]
+    #[inline]
+    pub fn reaches(&self, operands: &Operands) -> bool {
+        match self.value(operands) {
+            Some(value) => self.info().is_in_reach(value),
+            None => false,
+        }
+    }
+
     /// Writes a value, as `RelocationKindInfo::write` says, with its errors.
     #[inline(always)]
     pub fn write(&self, value: i64, dest: &mut [u8]) -> Result<(), RelocateError> {

@@ -23,6 +23,13 @@ impl RelaxationKind {
         Some(kind)
     }
 
+    /// The rewrite's number, which `from_number` takes.
+    #[must_use]
+    #[inline(always)]
+    pub fn number(self) -> u32 {
+        self as u32
+    }
+
     /// Rewrites the instruction at an offset of a section. The section, the offset and the addend
     /// are unchanged.
     ///

@@ -44,6 +44,10 @@ pub enum RiscVRelocation {
     R_RISCV_ALIGN,
     R_RISCV_RVC_BRANCH,
     R_RISCV_RVC_JUMP,
+    /// What `R_RISCV_HI20` means once its `lui` has become a `c.lui`, by older versions of the psABI;
+    /// later ones reserve the code. Its range is wider than what `c.lui` holds:
+    /// `RelaxationKind::hi20_fits_clui` is the test.
+    R_RISCV_RVC_LUI,
     R_RISCV_RELAX,
     R_RISCV_SUB6,
     R_RISCV_SET6,
@@ -120,6 +124,9 @@ macro_rules! relocations {
                     Some(row!(Relative, (0..16 RiscV::CbType), within -256, 255, alignment: 2)),
                 45 R_RISCV_RVC_JUMP =>
                     Some(row!(Relative, (0..16 RiscV::CjType), within -2048, 2047, alignment: 2)),
+                46 R_RISCV_RVC_LUI =>
+                    Some(row!(Absolute, (0..32 RiscV::CluiType), signed_or_unsigned 32
+                        reach -0x20800, 0x1f800)),
                 51 R_RISCV_RELAX => Some(row!(None, (0 bytes), any)),
                 52 R_RISCV_SUB6 => Some(row!(AbsoluteSubtractionWord6, (1 bytes), any)),
                 53 R_RISCV_SET6 => Some(row!(AbsoluteSetWord6, (1 bytes), any)),
@@ -182,15 +189,6 @@ impl RiscVRelocation {
     }
 }
 
-static CLUI: TableRow =
-    row!(Absolute, (0..32 RiscV::CluiType), signed_or_unsigned 32 reach -0x20800, 0x1f800);
-
-/// What `R_RISCV_HI20` means once its `lui` has become a `c.lui`.
-#[must_use]
-pub const fn clui_row() -> Row {
-    Row::of(&CLUI)
-}
-
 static ROWS: &[Option<TableRow>] = &relocations!(table());
 
 /// The index of a name in the table.
@@ -220,16 +218,26 @@ pub const fn row(name: RiscVRelocation) -> Option<Row> {
     row_in(&ROWS[index(name)])
 }
 
+/// What `R_RISCV_HI20` means once its `lui` has become a `c.lui`: the row of `R_RISCV_RVC_LUI`.
+#[must_use]
+pub const fn clui_row() -> Row {
+    row(RiscVRelocation::R_RISCV_RVC_LUI).unwrap()
+}
+
 /// Whether relocations of TLS descriptors have a kind.
 #[inline(always)]
 const fn is_of_descriptor(kind: RelocationKind) -> bool {
     matches!(kind, RelocationKind::TlsDesc | RelocationKind::TlsDescCall)
 }
 
-/// What a relocation means, as `row` says, or `None` for the four of TLS descriptors.
+/// What a relocation means, as `row` says, or `None` for the four of TLS descriptors and for
+/// `R_RISCV_RVC_LUI`.
 #[must_use]
 #[inline(always)]
 pub const fn relocation_type_from_raw(name: RiscVRelocation) -> Option<RelocationKindInfo> {
+    if let RiscVRelocation::R_RISCV_RVC_LUI = name {
+        return None;
+    }
     match row(name) {
         // by the kind: LLVM compiles a match of the name to a jump by the code
         Some(row) if !is_of_descriptor(row.kind()) => Some(row.info()),

@@ -37,6 +37,15 @@ pub enum RelaxationKind {
     TailToCJ,
 }
 
+/// The bytes that a linker deletes after a rewrite.
+#[derive(Debug, Clone, Copy, PartialEq, Eq)]
+pub struct DeletedBytes {
+    /// Where they begin, in bytes from the rewrite's offset.
+    pub start: u64,
+    /// How many they are.
+    pub count: u32,
+}
+
 /// The instruction at an offset of the section.
 #[inline(always)]
 fn word_at(section: &[u8], offset: u64) -> u32 {
@@ -91,6 +100,13 @@ impl RelaxationKind {
             _ => return None,
         };
         Some(kind)
+    }
+
+    /// The rewrite's number, which `from_number` takes.
+    #[must_use]
+    #[inline(always)]
+    pub fn number(self) -> u32 {
+        self as u32
     }
 
     /// Rewrites the instruction at an offset of a section. All other bytes, the offset and the
@@ -190,6 +206,30 @@ impl RelaxationKind {
             | RelaxationKind::Hi20ToCLui
             | RelaxationKind::Lo12Rs1ToZero => RelocationModifier::Normal,
         }
+    }
+
+    /// The bytes to be deleted after the rewrite. `None` where there are none: after `NoOp`,
+    /// `ReplaceWithNop` and `Lo12Rs1ToZero`.
+    ///
+    /// ```
+    /// use linker_utils::riscv64::RelaxationKind;
+    ///
+    /// // the deletion of the jalr of a call at offset 8
+    /// let deleted = RelaxationKind::CallToJal.deleted().unwrap();
+    /// assert_eq!((8 + deleted.start, deleted.count), (12, 4));
+    /// ```
+    #[must_use]
+    #[inline]
+    pub fn deleted(self) -> Option<DeletedBytes> {
+        let (start, count) = match self {
+            RelaxationKind::CallToJal | RelaxationKind::TailToJal => (4, 4),
+            RelaxationKind::TailToCJ => (2, 6),
+            RelaxationKind::Hi20ToCLui => (2, 2),
+            RelaxationKind::Hi20Delete => (0, 4),
+            RelaxationKind::NoOp | RelaxationKind::ReplaceWithNop | RelaxationKind::Lo12Rs1ToZero =>
+                return None,
+        };
+        Some(DeletedBytes { start, count })
     }
 
     /// Whether the high part of a value is 0: bits 12 to 31 of the value plus 0x800, modulo 2^64.

@@ -246,7 +246,7 @@ fn is_either(
 /// Whether an instruction with an operand relative to the instruction pointer is there, with `n`
 /// bytes before the field: no prefix, REX or REX2.
 #[inline(always)]
-fn is_legacy(section: &[u8], offset: u64, n: u8, opcode: u8) -> bool {
+pub(super) fn is_legacy(section: &[u8], offset: u64, n: u8, opcode: u8) -> bool {
     match n {
         2 => is_original(section, offset, 2, &pattern!(opcode rip any any any any)),
         3 => is_original(
@@ -289,7 +289,7 @@ fn is_legacy_or_evex(section: &[u8], offset: u64, n: u8, fixed: u8, opcode: u8) 
 
 /// Whether the `lea` of a TLS descriptor is there.
 #[inline(always)]
-fn is_lea_of_descriptor(section: &[u8], offset: u64, n: u8) -> bool {
+pub(super) fn is_lea_of_descriptor(section: &[u8], offset: u64, n: u8) -> bool {
     match n {
         3 => is_original(section, offset, 3, &REX_LEA),
         4 => is_original(section, offset, 4, &REX2_LEA),
@@ -360,7 +360,7 @@ fn after_descriptor_call(before: X86_64Relocation) -> Option<X86_64Relocation> {
 
 /// The relocation of an immediate of 32 bits.
 #[inline(always)]
-fn immediate_of(n: u8) -> X86_64Relocation {
+pub(super) fn immediate_of(n: u8) -> X86_64Relocation {
     if n == 2 {
         X86_64Relocation::R_X86_64_32
     } else {
@@ -402,6 +402,39 @@ impl RelaxationKind {
             _ => return None,
         };
         Some(kind)
+    }
+
+    /// The rewrite's number and its count of bytes before the field, which `from_number` takes. The
+    /// count is 0 where the variant has none.
+    #[must_use]
+    #[inline]
+    pub fn number(self) -> (u32, u8) {
+        match self {
+            RelaxationKind::MovIndirectToLea => (0, 0),
+            RelaxationKind::MovIndirectToAbsolute => (1, 0),
+            RelaxationKind::RexMovIndirectToAbsolute(n) => (2, n),
+            RelaxationKind::RexAddIndirectToAbsolute(n) => (3, n),
+            RelaxationKind::RexSubIndirectToAbsolute(n) => (4, n),
+            RelaxationKind::RexCmpIndirectToAbsolute(n) => (5, n),
+            RelaxationKind::CallIndirectToRelative => (6, 0),
+            RelaxationKind::JmpIndirectToRelative => (7, 0),
+            RelaxationKind::NoOp => (8, 0),
+            RelaxationKind::TlsGdToLocalExec => (9, 0),
+            RelaxationKind::TlsGdToLocalExecLarge => (10, 0),
+            RelaxationKind::TlsLdToLocalExec => (11, 0),
+            RelaxationKind::TlsLdToLocalExecNoPlt => (12, 0),
+            RelaxationKind::TlsLdToLocalExec64 => (13, 0),
+            RelaxationKind::TlsGdToInitialExec => (14, 0),
+            RelaxationKind::TlsDescToLocalExec(n) => (15, n),
+            RelaxationKind::TlsDescToInitialExec => (16, 0),
+            RelaxationKind::SkipTlsDescCall => (17, 0),
+            RelaxationKind::RexAdcIndirectToAbsolute(n) => (18, n),
+            RelaxationKind::RexAndIndirectToAbsolute(n) => (19, n),
+            RelaxationKind::RexOrIndirectToAbsolute(n) => (20, n),
+            RelaxationKind::RexSbbIndirectToAbsolute(n) => (21, n),
+            RelaxationKind::RexXorIndirectToAbsolute(n) => (22, n),
+            RelaxationKind::RexTestIndirectToAbsolute(n) => (23, n),
+        }
     }
 
     #[inline(always)]

@@ -2,6 +2,8 @@
 //! x86-64: rewrites as LLVM 19.1.7's and GNU binutils 2.40's linkers make them, or as its
 //! assemblers write both instructions, and worked values.
 
+mod choices;
+
 use crate::rows::expect_eq;
 use crate::windows::requires_window;
 use linker_utils::elf::{AllowedRange, RelocationKind, RelocationKindInfo, RelocationSize};
@@ -9,6 +11,8 @@ use linker_utils::relaxation::RelocationModifier;
 use linker_utils::x86_64::{RelaxationKind, X86_64Relocation, relocation_from_raw};
 
 struct Rewrite {
+    /// The relocation that the assembler writes.
+    name: X86_64Relocation,
     kind: RelaxationKind,
     offset: u64,
     before: [u8; 10],
@@ -19,6 +23,7 @@ struct Rewrite {
 
 static REWRITES: [Rewrite; 71] = [
     Rewrite {
+        name: X86_64Relocation::R_X86_64_REX_GOTPCRELX,
         kind: RelaxationKind::MovIndirectToLea,
         offset: 3,
         before: [0x48, 0x8b, 0x1d, 0x00, 0x00, 0x00, 0x00, 0x00, 0x00, 0x00],
@@ -26,6 +31,7 @@ static REWRITES: [Rewrite; 71] = [
         after: [0x48, 0x8d, 0x1d, 0xff, 0x5f, 0x01, 0x00, 0x00, 0x00, 0x00],
     },
     Rewrite {
+        name: X86_64Relocation::R_X86_64_REX_GOTPCRELX,
         kind: RelaxationKind::MovIndirectToLea,
         offset: 3,
         before: [0x4c, 0x8b, 0x1d, 0x00, 0x00, 0x00, 0x00, 0x00, 0x00, 0x00],
@@ -33,6 +39,7 @@ static REWRITES: [Rewrite; 71] = [
         after: [0x4c, 0x8d, 0x1d, 0xff, 0xdf, 0x00, 0x00, 0x00, 0x00, 0x00],
     },
     Rewrite {
+        name: X86_64Relocation::R_X86_64_GOTPCRELX,
         kind: RelaxationKind::MovIndirectToLea,
         offset: 2,
         before: [0x8b, 0x1d, 0x00, 0x00, 0x00, 0x00, 0x00, 0x00, 0x00, 0x00],
@@ -40,6 +47,7 @@ static REWRITES: [Rewrite; 71] = [
         after: [0x8d, 0x1d, 0x00, 0x60, 0x00, 0x00, 0x00, 0x00, 0x00, 0x00],
     },
     Rewrite {
+        name: X86_64Relocation::R_X86_64_REX_GOTPCRELX,
         kind: RelaxationKind::MovIndirectToLea,
         offset: 3,
         before: [0x48, 0x8b, 0x0d, 0x00, 0x00, 0x00, 0x00, 0x00, 0x00, 0x00],
@@ -47,6 +55,7 @@ static REWRITES: [Rewrite; 71] = [
         after: [0x48, 0x8d, 0x0d, 0x4d, 0x80, 0x01, 0x00, 0x00, 0x00, 0x00],
     },
     Rewrite {
+        name: X86_64Relocation::R_X86_64_REX_GOTPCRELX,
         kind: RelaxationKind::MovIndirectToLea,
         offset: 3,
         before: [0x4c, 0x8b, 0x0d, 0x00, 0x00, 0x00, 0x00, 0x00, 0x00, 0x00],
@@ -54,6 +63,7 @@ static REWRITES: [Rewrite; 71] = [
         after: [0x4c, 0x8d, 0x0d, 0x4d, 0x00, 0x01, 0x00, 0x00, 0x00, 0x00],
     },
     Rewrite {
+        name: X86_64Relocation::R_X86_64_GOTPCRELX,
         kind: RelaxationKind::MovIndirectToLea,
         offset: 2,
         before: [0x8b, 0x0d, 0x00, 0x00, 0x00, 0x00, 0x00, 0x00, 0x00, 0x00],
@@ -61,6 +71,7 @@ static REWRITES: [Rewrite; 71] = [
         after: [0x8d, 0x0d, 0x4e, 0x80, 0x00, 0x00, 0x00, 0x00, 0x00, 0x00],
     },
     Rewrite {
+        name: X86_64Relocation::R_X86_64_GOTPCRELX,
         kind: RelaxationKind::JmpIndirectToRelative,
         offset: 2,
         before: [0xff, 0x25, 0x00, 0x00, 0x00, 0x00, 0x00, 0x00, 0x00, 0x00],
@@ -68,6 +79,7 @@ static REWRITES: [Rewrite; 71] = [
         after: [0xe9, 0x4f, 0x00, 0x00, 0x00, 0x90, 0x00, 0x00, 0x00, 0x00],
     },
     Rewrite {
+        name: X86_64Relocation::R_X86_64_REX_GOTPCRELX,
         kind: RelaxationKind::RexMovIndirectToAbsolute(3),
         offset: 3,
         before: [0x48, 0x8b, 0x3d, 0x00, 0x00, 0x00, 0x00, 0x00, 0x00, 0x00],
@@ -75,6 +87,7 @@ static REWRITES: [Rewrite; 71] = [
         after: [0x48, 0xc7, 0xc7, 0x06, 0x90, 0x21, 0x00, 0x00, 0x00, 0x00],
     },
     Rewrite {
+        name: X86_64Relocation::R_X86_64_REX_GOTPCRELX,
         kind: RelaxationKind::RexMovIndirectToAbsolute(3),
         offset: 3,
         before: [0x4c, 0x8b, 0x3d, 0x00, 0x00, 0x00, 0x00, 0x00, 0x00, 0x00],
@@ -82,6 +95,7 @@ static REWRITES: [Rewrite; 71] = [
         after: [0x49, 0xc7, 0xc7, 0x06, 0x90, 0x21, 0x00, 0x00, 0x00, 0x00],
     },
     Rewrite {
+        name: X86_64Relocation::R_X86_64_GOTPCRELX,
         kind: RelaxationKind::MovIndirectToAbsolute,
         offset: 2,
         before: [0x8b, 0x3d, 0x00, 0x00, 0x00, 0x00, 0x00, 0x00, 0x00, 0x00],
@@ -89,6 +103,7 @@ static REWRITES: [Rewrite; 71] = [
         after: [0xc7, 0xc7, 0x06, 0x90, 0x21, 0x00, 0x00, 0x00, 0x00, 0x00],
     },
     Rewrite {
+        name: X86_64Relocation::R_X86_64_REX_GOTPCRELX,
         kind: RelaxationKind::RexAddIndirectToAbsolute(3),
         offset: 3,
         before: [0x48, 0x03, 0x2d, 0x00, 0x00, 0x00, 0x00, 0x00, 0x00, 0x00],
@@ -96,6 +111,7 @@ static REWRITES: [Rewrite; 71] = [
         after: [0x48, 0x81, 0xc5, 0x07, 0xf0, 0x22, 0x00, 0x00, 0x00, 0x00],
     },
     Rewrite {
+        name: X86_64Relocation::R_X86_64_REX_GOTPCRELX,
         kind: RelaxationKind::RexAddIndirectToAbsolute(3),
         offset: 3,
         before: [0x4c, 0x03, 0x2d, 0x00, 0x00, 0x00, 0x00, 0x00, 0x00, 0x00],
@@ -103,6 +119,7 @@ static REWRITES: [Rewrite; 71] = [
         after: [0x49, 0x81, 0xc5, 0x07, 0xf0, 0x22, 0x00, 0x00, 0x00, 0x00],
     },
     Rewrite {
+        name: X86_64Relocation::R_X86_64_REX_GOTPCRELX,
         kind: RelaxationKind::RexSubIndirectToAbsolute(3),
         offset: 3,
         before: [0x48, 0x2b, 0x2d, 0x00, 0x00, 0x00, 0x00, 0x00, 0x00, 0x00],
@@ -110,6 +127,7 @@ static REWRITES: [Rewrite; 71] = [
         after: [0x48, 0x81, 0xed, 0x07, 0xf0, 0x22, 0x00, 0x00, 0x00, 0x00],
     },
     Rewrite {
+        name: X86_64Relocation::R_X86_64_REX_GOTPCRELX,
         kind: RelaxationKind::RexSubIndirectToAbsolute(3),
         offset: 3,
         before: [0x4c, 0x2b, 0x2d, 0x00, 0x00, 0x00, 0x00, 0x00, 0x00, 0x00],
@@ -117,6 +135,7 @@ static REWRITES: [Rewrite; 71] = [
         after: [0x49, 0x81, 0xed, 0x07, 0xf0, 0x22, 0x00, 0x00, 0x00, 0x00],
     },
     Rewrite {
+        name: X86_64Relocation::R_X86_64_REX_GOTPCRELX,
         kind: RelaxationKind::RexCmpIndirectToAbsolute(3),
         offset: 3,
         before: [0x48, 0x3b, 0x2d, 0x00, 0x00, 0x00, 0x00, 0x00, 0x00, 0x00],
@@ -124,6 +143,7 @@ static REWRITES: [Rewrite; 71] = [
         after: [0x48, 0x81, 0xfd, 0x07, 0xf0, 0x22, 0x00, 0x00, 0x00, 0x00],
     },
     Rewrite {
+        name: X86_64Relocation::R_X86_64_REX_GOTPCRELX,
         kind: RelaxationKind::RexCmpIndirectToAbsolute(3),
         offset: 3,
         before: [0x4c, 0x3b, 0x2d, 0x00, 0x00, 0x00, 0x00, 0x00, 0x00, 0x00],
@@ -131,6 +151,7 @@ static REWRITES: [Rewrite; 71] = [
         after: [0x49, 0x81, 0xfd, 0x07, 0xf0, 0x22, 0x00, 0x00, 0x00, 0x00],
     },
     Rewrite {
+        name: X86_64Relocation::R_X86_64_REX_GOTPCRELX,
         kind: RelaxationKind::RexAddIndirectToAbsolute(3),
         offset: 3,
         before: [0x48, 0x03, 0x2d, 0x00, 0x00, 0x00, 0x00, 0x00, 0x00, 0x00],
@@ -138,6 +159,7 @@ static REWRITES: [Rewrite; 71] = [
         after: [0x48, 0x81, 0xc5, 0x50, 0x34, 0x12, 0x00, 0x00, 0x00, 0x00],
     },
     Rewrite {
+        name: X86_64Relocation::R_X86_64_REX_GOTPCRELX,
         kind: RelaxationKind::RexAddIndirectToAbsolute(3),
         offset: 3,
         before: [0x4c, 0x03, 0x2d, 0x00, 0x00, 0x00, 0x00, 0x00, 0x00, 0x00],
@@ -145,6 +167,7 @@ static REWRITES: [Rewrite; 71] = [
         after: [0x49, 0x81, 0xc5, 0x50, 0x34, 0x12, 0x00, 0x00, 0x00, 0x00],
     },
     Rewrite {
+        name: X86_64Relocation::R_X86_64_REX_GOTPCRELX,
         kind: RelaxationKind::RexSubIndirectToAbsolute(3),
         offset: 3,
         before: [0x48, 0x2b, 0x2d, 0x00, 0x00, 0x00, 0x00, 0x00, 0x00, 0x00],
@@ -152,6 +175,7 @@ static REWRITES: [Rewrite; 71] = [
         after: [0x48, 0x81, 0xed, 0x50, 0x34, 0x12, 0x00, 0x00, 0x00, 0x00],
     },
     Rewrite {
+        name: X86_64Relocation::R_X86_64_REX_GOTPCRELX,
         kind: RelaxationKind::RexSubIndirectToAbsolute(3),
         offset: 3,
         before: [0x4c, 0x2b, 0x2d, 0x00, 0x00, 0x00, 0x00, 0x00, 0x00, 0x00],
@@ -159,6 +183,7 @@ static REWRITES: [Rewrite; 71] = [
         after: [0x49, 0x81, 0xed, 0x50, 0x34, 0x12, 0x00, 0x00, 0x00, 0x00],
     },
     Rewrite {
+        name: X86_64Relocation::R_X86_64_REX_GOTPCRELX,
         kind: RelaxationKind::RexCmpIndirectToAbsolute(3),
         offset: 3,
         before: [0x48, 0x3b, 0x2d, 0x00, 0x00, 0x00, 0x00, 0x00, 0x00, 0x00],
@@ -166,6 +191,7 @@ static REWRITES: [Rewrite; 71] = [
         after: [0x48, 0x81, 0xfd, 0x50, 0x34, 0x12, 0x00, 0x00, 0x00, 0x00],
     },
     Rewrite {
+        name: X86_64Relocation::R_X86_64_REX_GOTPCRELX,
         kind: RelaxationKind::RexCmpIndirectToAbsolute(3),
         offset: 3,
         before: [0x4c, 0x3b, 0x2d, 0x00, 0x00, 0x00, 0x00, 0x00, 0x00, 0x00],
@@ -173,6 +199,7 @@ static REWRITES: [Rewrite; 71] = [
         after: [0x49, 0x81, 0xfd, 0x50, 0x34, 0x12, 0x00, 0x00, 0x00, 0x00],
     },
     Rewrite {
+        name: X86_64Relocation::R_X86_64_REX_GOTPCRELX,
         kind: RelaxationKind::RexMovIndirectToAbsolute(3),
         offset: 3,
         before: [0x48, 0x8b, 0x2d, 0x00, 0x00, 0x00, 0x00, 0x00, 0x00, 0x00],
@@ -180,6 +207,7 @@ static REWRITES: [Rewrite; 71] = [
         after: [0x48, 0xc7, 0xc5, 0x50, 0x34, 0x12, 0x00, 0x00, 0x00, 0x00],
     },
     Rewrite {
+        name: X86_64Relocation::R_X86_64_REX_GOTPCRELX,
         kind: RelaxationKind::RexMovIndirectToAbsolute(3),
         offset: 3,
         before: [0x4c, 0x8b, 0x2d, 0x00, 0x00, 0x00, 0x00, 0x00, 0x00, 0x00],
@@ -187,6 +215,7 @@ static REWRITES: [Rewrite; 71] = [
         after: [0x49, 0xc7, 0xc5, 0x50, 0x34, 0x12, 0x00, 0x00, 0x00, 0x00],
     },
     Rewrite {
+        name: X86_64Relocation::R_X86_64_GOTPCRELX,
         kind: RelaxationKind::MovIndirectToAbsolute,
         offset: 2,
         before: [0x8b, 0x2d, 0x00, 0x00, 0x00, 0x00, 0x00, 0x00, 0x00, 0x00],
@@ -194,6 +223,7 @@ static REWRITES: [Rewrite; 71] = [
         after: [0xc7, 0xc5, 0x50, 0x34, 0x12, 0x00, 0x00, 0x00, 0x00, 0x00],
     },
     Rewrite {
+        name: X86_64Relocation::R_X86_64_GOTPC32_TLSDESC,
         kind: RelaxationKind::TlsDescToLocalExec(3),
         offset: 3,
         before: [0x48, 0x8d, 0x0d, 0x00, 0x00, 0x00, 0x00, 0x00, 0x00, 0x00],
@@ -201,6 +231,7 @@ static REWRITES: [Rewrite; 71] = [
         after: [0x48, 0xc7, 0xc1, 0x40, 0xf3, 0xff, 0xff, 0x00, 0x00, 0x00],
     },
     Rewrite {
+        name: X86_64Relocation::R_X86_64_GOTPC32_TLSDESC,
         kind: RelaxationKind::TlsDescToLocalExec(3),
         offset: 3,
         before: [0x4c, 0x8d, 0x0d, 0x00, 0x00, 0x00, 0x00, 0x00, 0x00, 0x00],
@@ -208,6 +239,7 @@ static REWRITES: [Rewrite; 71] = [
         after: [0x49, 0xc7, 0xc1, 0x40, 0xf3, 0xff, 0xff, 0x00, 0x00, 0x00],
     },
     Rewrite {
+        name: X86_64Relocation::R_X86_64_GOTTPOFF,
         kind: RelaxationKind::RexMovIndirectToAbsolute(3),
         offset: 3,
         before: [0x48, 0x8b, 0x05, 0x00, 0x00, 0x00, 0x00, 0x00, 0x00, 0x00],
@@ -215,6 +247,7 @@ static REWRITES: [Rewrite; 71] = [
         after: [0x48, 0xc7, 0xc0, 0x40, 0xf3, 0xff, 0xff, 0x00, 0x00, 0x00],
     },
     Rewrite {
+        name: X86_64Relocation::R_X86_64_GOTTPOFF,
         kind: RelaxationKind::RexMovIndirectToAbsolute(3),
         offset: 3,
         before: [0x4c, 0x8b, 0x05, 0x00, 0x00, 0x00, 0x00, 0x00, 0x00, 0x00],
@@ -222,6 +255,7 @@ static REWRITES: [Rewrite; 71] = [
         after: [0x49, 0xc7, 0xc0, 0x40, 0xf3, 0xff, 0xff, 0x00, 0x00, 0x00],
     },
     Rewrite {
+        name: X86_64Relocation::R_X86_64_GOTTPOFF,
         kind: RelaxationKind::RexAddIndirectToAbsolute(3),
         offset: 3,
         before: [0x48, 0x03, 0x25, 0x00, 0x00, 0x00, 0x00, 0x00, 0x00, 0x00],
@@ -229,6 +263,7 @@ static REWRITES: [Rewrite; 71] = [
         after: [0x48, 0x81, 0xc4, 0x40, 0xf3, 0xff, 0xff, 0x00, 0x00, 0x00],
     },
     Rewrite {
+        name: X86_64Relocation::R_X86_64_GOTTPOFF,
         kind: RelaxationKind::RexMovIndirectToAbsolute(3),
         offset: 3,
         before: [0x48, 0x8b, 0x15, 0x00, 0x00, 0x00, 0x00, 0x00, 0x00, 0x00],
@@ -236,6 +271,7 @@ static REWRITES: [Rewrite; 71] = [
         after: [0x48, 0xc7, 0xc2, 0x40, 0xf3, 0xff, 0xff, 0x00, 0x00, 0x00],
     },
     Rewrite {
+        name: X86_64Relocation::R_X86_64_GOTTPOFF,
         kind: RelaxationKind::RexMovIndirectToAbsolute(3),
         offset: 3,
         before: [0x4c, 0x8b, 0x15, 0x00, 0x00, 0x00, 0x00, 0x00, 0x00, 0x00],
@@ -243,6 +279,7 @@ static REWRITES: [Rewrite; 71] = [
         after: [0x49, 0xc7, 0xc2, 0x40, 0xf3, 0xff, 0xff, 0x00, 0x00, 0x00],
     },
     Rewrite {
+        name: X86_64Relocation::R_X86_64_GOTPC32_TLSDESC,
         kind: RelaxationKind::TlsDescToLocalExec(3),
         offset: 3,
         before: [0x48, 0x8d, 0x05, 0x00, 0x00, 0x00, 0x00, 0x00, 0x00, 0x00],
@@ -250,6 +287,7 @@ static REWRITES: [Rewrite; 71] = [
         after: [0x48, 0xc7, 0xc0, 0x40, 0xf3, 0xff, 0xff, 0x00, 0x00, 0x00],
     },
     Rewrite {
+        name: X86_64Relocation::R_X86_64_GOTPC32_TLSDESC,
         kind: RelaxationKind::TlsDescToLocalExec(3),
         offset: 3,
         before: [0x4c, 0x8d, 0x05, 0x00, 0x00, 0x00, 0x00, 0x00, 0x00, 0x00],
@@ -257,6 +295,7 @@ static REWRITES: [Rewrite; 71] = [
         after: [0x49, 0xc7, 0xc0, 0x40, 0xf3, 0xff, 0xff, 0x00, 0x00, 0x00],
     },
     Rewrite {
+        name: X86_64Relocation::R_X86_64_TLSDESC_CALL,
         kind: RelaxationKind::SkipTlsDescCall,
         offset: 0,
         before: [0xff, 0x10, 0x00, 0x00, 0x00, 0x00, 0x00, 0x00, 0x00, 0x00],
@@ -264,6 +303,7 @@ static REWRITES: [Rewrite; 71] = [
         after: [0x66, 0x90, 0x00, 0x00, 0x00, 0x00, 0x00, 0x00, 0x00, 0x00],
     },
     Rewrite {
+        name: X86_64Relocation::R_X86_64_GOTPC32_TLSDESC,
         kind: RelaxationKind::TlsDescToInitialExec,
         offset: 3,
         before: [0x48, 0x8d, 0x1d, 0x00, 0x00, 0x00, 0x00, 0x00, 0x00, 0x00],
@@ -271,6 +311,7 @@ static REWRITES: [Rewrite; 71] = [
         after: [0x48, 0x8b, 0x1d, 0x09, 0xc1, 0x00, 0x00, 0x00, 0x00, 0x00],
     },
     Rewrite {
+        name: X86_64Relocation::R_X86_64_GOTPC32_TLSDESC,
         kind: RelaxationKind::TlsDescToInitialExec,
         offset: 3,
         before: [0x4c, 0x8d, 0x1d, 0x00, 0x00, 0x00, 0x00, 0x00, 0x00, 0x00],
@@ -278,6 +319,7 @@ static REWRITES: [Rewrite; 71] = [
         after: [0x4c, 0x8b, 0x1d, 0x09, 0x41, 0x00, 0x00, 0x00, 0x00, 0x00],
     },
     Rewrite {
+        name: X86_64Relocation::R_X86_64_CODE_4_GOTPCRELX,
         kind: RelaxationKind::RexMovIndirectToAbsolute(4),
         offset: 4,
         before: [0xd5, 0x48, 0x8b, 0x1d, 0x00, 0x00, 0x00, 0x00, 0x00, 0x00],
@@ -285,6 +327,7 @@ static REWRITES: [Rewrite; 71] = [
         after: [0xd5, 0x18, 0xc7, 0xc3, 0x78, 0x56, 0x34, 0x12, 0x00, 0x00],
     },
     Rewrite {
+        name: X86_64Relocation::R_X86_64_CODE_4_GOTPCRELX,
         kind: RelaxationKind::RexMovIndirectToAbsolute(4),
         offset: 4,
         before: [0xd5, 0x4c, 0x8b, 0x1d, 0x00, 0x00, 0x00, 0x00, 0x00, 0x00],
@@ -292,6 +335,7 @@ static REWRITES: [Rewrite; 71] = [
         after: [0xd5, 0x19, 0xc7, 0xc3, 0x78, 0x56, 0x34, 0x12, 0x00, 0x00],
     },
     Rewrite {
+        name: X86_64Relocation::R_X86_64_CODE_4_GOTPCRELX,
         kind: RelaxationKind::RexMovIndirectToAbsolute(4),
         offset: 4,
         before: [0xd5, 0x08, 0x8b, 0x1d, 0x00, 0x00, 0x00, 0x00, 0x00, 0x00],
@@ -299,6 +343,7 @@ static REWRITES: [Rewrite; 71] = [
         after: [0xd5, 0x08, 0xc7, 0xc3, 0x78, 0x56, 0x34, 0x12, 0x00, 0x00],
     },
     Rewrite {
+        name: X86_64Relocation::R_X86_64_CODE_4_GOTPCRELX,
         kind: RelaxationKind::RexMovIndirectToAbsolute(4),
         offset: 4,
         before: [0xd5, 0x0c, 0x8b, 0x1d, 0x00, 0x00, 0x00, 0x00, 0x00, 0x00],
@@ -306,6 +351,7 @@ static REWRITES: [Rewrite; 71] = [
         after: [0xd5, 0x09, 0xc7, 0xc3, 0x78, 0x56, 0x34, 0x12, 0x00, 0x00],
     },
     Rewrite {
+        name: X86_64Relocation::R_X86_64_CODE_4_GOTPCRELX,
         kind: RelaxationKind::RexAddIndirectToAbsolute(4),
         offset: 4,
         before: [0xd5, 0x48, 0x03, 0x1d, 0x00, 0x00, 0x00, 0x00, 0x00, 0x00],
@@ -313,6 +359,7 @@ static REWRITES: [Rewrite; 71] = [
         after: [0xd5, 0x18, 0x81, 0xc3, 0x78, 0x56, 0x34, 0x12, 0x00, 0x00],
     },
     Rewrite {
+        name: X86_64Relocation::R_X86_64_CODE_4_GOTPCRELX,
         kind: RelaxationKind::RexAddIndirectToAbsolute(4),
         offset: 4,
         before: [0xd5, 0x4c, 0x03, 0x1d, 0x00, 0x00, 0x00, 0x00, 0x00, 0x00],
@@ -320,6 +367,7 @@ static REWRITES: [Rewrite; 71] = [
         after: [0xd5, 0x19, 0x81, 0xc3, 0x78, 0x56, 0x34, 0x12, 0x00, 0x00],
     },
     Rewrite {
+        name: X86_64Relocation::R_X86_64_CODE_4_GOTPCRELX,
         kind: RelaxationKind::RexAddIndirectToAbsolute(4),
         offset: 4,
         before: [0xd5, 0x08, 0x03, 0x25, 0x00, 0x00, 0x00, 0x00, 0x00, 0x00],
@@ -327,6 +375,7 @@ static REWRITES: [Rewrite; 71] = [
         after: [0xd5, 0x08, 0x81, 0xc4, 0x78, 0x56, 0x34, 0x12, 0x00, 0x00],
     },
     Rewrite {
+        name: X86_64Relocation::R_X86_64_CODE_4_GOTPCRELX,
         kind: RelaxationKind::RexAddIndirectToAbsolute(4),
         offset: 4,
         before: [0xd5, 0x0c, 0x03, 0x25, 0x00, 0x00, 0x00, 0x00, 0x00, 0x00],
@@ -334,6 +383,7 @@ static REWRITES: [Rewrite; 71] = [
         after: [0xd5, 0x09, 0x81, 0xc4, 0x78, 0x56, 0x34, 0x12, 0x00, 0x00],
     },
     Rewrite {
+        name: X86_64Relocation::R_X86_64_CODE_4_GOTPCRELX,
         kind: RelaxationKind::RexSubIndirectToAbsolute(4),
         offset: 4,
         before: [0xd5, 0x48, 0x2b, 0x25, 0x00, 0x00, 0x00, 0x00, 0x00, 0x00],
@@ -341,6 +391,7 @@ static REWRITES: [Rewrite; 71] = [
         after: [0xd5, 0x18, 0x81, 0xec, 0x78, 0x56, 0x34, 0x12, 0x00, 0x00],
     },
     Rewrite {
+        name: X86_64Relocation::R_X86_64_CODE_4_GOTPCRELX,
         kind: RelaxationKind::RexSubIndirectToAbsolute(4),
         offset: 4,
         before: [0xd5, 0x4c, 0x2b, 0x25, 0x00, 0x00, 0x00, 0x00, 0x00, 0x00],
@@ -348,6 +399,7 @@ static REWRITES: [Rewrite; 71] = [
         after: [0xd5, 0x19, 0x81, 0xec, 0x78, 0x56, 0x34, 0x12, 0x00, 0x00],
     },
     Rewrite {
+        name: X86_64Relocation::R_X86_64_CODE_4_GOTPCRELX,
         kind: RelaxationKind::RexSubIndirectToAbsolute(4),
         offset: 4,
         before: [0xd5, 0x08, 0x2b, 0x2d, 0x00, 0x00, 0x00, 0x00, 0x00, 0x00],
@@ -355,6 +407,7 @@ static REWRITES: [Rewrite; 71] = [
         after: [0xd5, 0x08, 0x81, 0xed, 0x78, 0x56, 0x34, 0x12, 0x00, 0x00],
     },
     Rewrite {
+        name: X86_64Relocation::R_X86_64_CODE_4_GOTPCRELX,
         kind: RelaxationKind::RexSubIndirectToAbsolute(4),
         offset: 4,
         before: [0xd5, 0x0c, 0x2b, 0x2d, 0x00, 0x00, 0x00, 0x00, 0x00, 0x00],
@@ -362,6 +415,7 @@ static REWRITES: [Rewrite; 71] = [
         after: [0xd5, 0x09, 0x81, 0xed, 0x78, 0x56, 0x34, 0x12, 0x00, 0x00],
     },
     Rewrite {
+        name: X86_64Relocation::R_X86_64_CODE_4_GOTPCRELX,
         kind: RelaxationKind::RexCmpIndirectToAbsolute(4),
         offset: 4,
         before: [0xd5, 0x48, 0x3b, 0x2d, 0x00, 0x00, 0x00, 0x00, 0x00, 0x00],
@@ -369,6 +423,7 @@ static REWRITES: [Rewrite; 71] = [
         after: [0xd5, 0x18, 0x81, 0xfd, 0x78, 0x56, 0x34, 0x12, 0x00, 0x00],
     },
     Rewrite {
+        name: X86_64Relocation::R_X86_64_CODE_4_GOTPCRELX,
         kind: RelaxationKind::RexCmpIndirectToAbsolute(4),
         offset: 4,
         before: [0xd5, 0x4c, 0x3b, 0x2d, 0x00, 0x00, 0x00, 0x00, 0x00, 0x00],
@@ -376,6 +431,7 @@ static REWRITES: [Rewrite; 71] = [
         after: [0xd5, 0x19, 0x81, 0xfd, 0x78, 0x56, 0x34, 0x12, 0x00, 0x00],
     },
     Rewrite {
+        name: X86_64Relocation::R_X86_64_CODE_4_GOTPCRELX,
         kind: RelaxationKind::RexCmpIndirectToAbsolute(4),
         offset: 4,
         before: [0xd5, 0x08, 0x3b, 0x35, 0x00, 0x00, 0x00, 0x00, 0x00, 0x00],
@@ -383,6 +439,7 @@ static REWRITES: [Rewrite; 71] = [
         after: [0xd5, 0x08, 0x81, 0xfe, 0x78, 0x56, 0x34, 0x12, 0x00, 0x00],
     },
     Rewrite {
+        name: X86_64Relocation::R_X86_64_CODE_4_GOTPCRELX,
         kind: RelaxationKind::RexCmpIndirectToAbsolute(4),
         offset: 4,
         before: [0xd5, 0x0c, 0x3b, 0x35, 0x00, 0x00, 0x00, 0x00, 0x00, 0x00],
@@ -390,6 +447,7 @@ static REWRITES: [Rewrite; 71] = [
         after: [0xd5, 0x09, 0x81, 0xfe, 0x78, 0x56, 0x34, 0x12, 0x00, 0x00],
     },
     Rewrite {
+        name: X86_64Relocation::R_X86_64_CODE_6_GOTPCRELX,
         kind: RelaxationKind::RexAddIndirectToAbsolute(6),
         offset: 6,
         before: [0x62, 0xf4, 0xec, 0x10, 0x03, 0x0d, 0x00, 0x00, 0x00, 0x00],
@@ -397,6 +455,7 @@ static REWRITES: [Rewrite; 71] = [
         after: [0x62, 0xf4, 0xec, 0x10, 0x81, 0xc1, 0x78, 0x56, 0x34, 0x12],
     },
     Rewrite {
+        name: X86_64Relocation::R_X86_64_CODE_6_GOTPCRELX,
         kind: RelaxationKind::RexAddIndirectToAbsolute(6),
         offset: 6,
         before: [0x62, 0xf4, 0xec, 0x10, 0x03, 0x25, 0x00, 0x00, 0x00, 0x00],
@@ -404,6 +463,7 @@ static REWRITES: [Rewrite; 71] = [
         after: [0x62, 0xf4, 0xec, 0x10, 0x81, 0xc4, 0x78, 0x56, 0x34, 0x12],
     },
     Rewrite {
+        name: X86_64Relocation::R_X86_64_CODE_6_GOTPCRELX,
         kind: RelaxationKind::RexAddIndirectToAbsolute(6),
         offset: 6,
         before: [0x62, 0x74, 0xec, 0x10, 0x03, 0x05, 0x00, 0x00, 0x00, 0x00],
@@ -411,6 +471,7 @@ static REWRITES: [Rewrite; 71] = [
         after: [0x62, 0xd4, 0xec, 0x10, 0x81, 0xc0, 0x78, 0x56, 0x34, 0x12],
     },
     Rewrite {
+        name: X86_64Relocation::R_X86_64_CODE_6_GOTPCRELX,
         kind: RelaxationKind::RexAddIndirectToAbsolute(6),
         offset: 6,
         before: [0x62, 0x74, 0xec, 0x10, 0x03, 0x3d, 0x00, 0x00, 0x00, 0x00],
@@ -418,6 +479,7 @@ static REWRITES: [Rewrite; 71] = [
         after: [0x62, 0xd4, 0xec, 0x10, 0x81, 0xc7, 0x78, 0x56, 0x34, 0x12],
     },
     Rewrite {
+        name: X86_64Relocation::R_X86_64_CODE_6_GOTPCRELX,
         kind: RelaxationKind::RexAddIndirectToAbsolute(6),
         offset: 6,
         before: [0x62, 0xe4, 0xec, 0x10, 0x03, 0x0d, 0x00, 0x00, 0x00, 0x00],
@@ -425,6 +487,7 @@ static REWRITES: [Rewrite; 71] = [
         after: [0x62, 0xfc, 0xec, 0x10, 0x81, 0xc1, 0x78, 0x56, 0x34, 0x12],
     },
     Rewrite {
+        name: X86_64Relocation::R_X86_64_CODE_6_GOTPCRELX,
         kind: RelaxationKind::RexAddIndirectToAbsolute(6),
         offset: 6,
         before: [0x62, 0xe4, 0xec, 0x10, 0x03, 0x3d, 0x00, 0x00, 0x00, 0x00],
@@ -432,6 +495,7 @@ static REWRITES: [Rewrite; 71] = [
         after: [0x62, 0xfc, 0xec, 0x10, 0x81, 0xc7, 0x78, 0x56, 0x34, 0x12],
     },
     Rewrite {
+        name: X86_64Relocation::R_X86_64_CODE_6_GOTPCRELX,
         kind: RelaxationKind::RexAddIndirectToAbsolute(6),
         offset: 6,
         before: [0x62, 0x64, 0xec, 0x10, 0x03, 0x25, 0x00, 0x00, 0x00, 0x00],
@@ -439,6 +503,7 @@ static REWRITES: [Rewrite; 71] = [
         after: [0x62, 0xdc, 0xec, 0x10, 0x81, 0xc4, 0x78, 0x56, 0x34, 0x12],
     },
     Rewrite {
+        name: X86_64Relocation::R_X86_64_REX_GOTPCRELX,
         kind: RelaxationKind::RexAdcIndirectToAbsolute(3),
         offset: 3,
         before: [0x4c, 0x13, 0x2d, 0x00, 0x00, 0x00, 0x00, 0x00, 0x00, 0x00],
@@ -446,6 +511,7 @@ static REWRITES: [Rewrite; 71] = [
         after: [0x49, 0x81, 0xd5, 0x07, 0xf0, 0x22, 0x00, 0x00, 0x00, 0x00],
     },
     Rewrite {
+        name: X86_64Relocation::R_X86_64_REX_GOTPCRELX,
         kind: RelaxationKind::RexAndIndirectToAbsolute(3),
         offset: 3,
         before: [0x48, 0x23, 0x2d, 0x00, 0x00, 0x00, 0x00, 0x00, 0x00, 0x00],
@@ -453,6 +519,7 @@ static REWRITES: [Rewrite; 71] = [
         after: [0x48, 0x81, 0xe5, 0x07, 0xf0, 0x22, 0x00, 0x00, 0x00, 0x00],
     },
     Rewrite {
+        name: X86_64Relocation::R_X86_64_REX_GOTPCRELX,
         kind: RelaxationKind::RexOrIndirectToAbsolute(3),
         offset: 3,
         before: [0x44, 0x0b, 0x1d, 0x00, 0x00, 0x00, 0x00, 0x00, 0x00, 0x00],
@@ -460,6 +527,7 @@ static REWRITES: [Rewrite; 71] = [
         after: [0x41, 0x81, 0xcb, 0x07, 0xf0, 0x22, 0x00, 0x00, 0x00, 0x00],
     },
     Rewrite {
+        name: X86_64Relocation::R_X86_64_REX_GOTPCRELX,
         kind: RelaxationKind::RexSbbIndirectToAbsolute(3),
         offset: 3,
         before: [0x4c, 0x1b, 0x2d, 0x00, 0x00, 0x00, 0x00, 0x00, 0x00, 0x00],
@@ -467,6 +535,7 @@ static REWRITES: [Rewrite; 71] = [
         after: [0x49, 0x81, 0xdd, 0x07, 0xf0, 0x22, 0x00, 0x00, 0x00, 0x00],
     },
     Rewrite {
+        name: X86_64Relocation::R_X86_64_REX_GOTPCRELX,
         kind: RelaxationKind::RexXorIndirectToAbsolute(3),
         offset: 3,
         before: [0x48, 0x33, 0x2d, 0x00, 0x00, 0x00, 0x00, 0x00, 0x00, 0x00],
@@ -474,6 +543,7 @@ static REWRITES: [Rewrite; 71] = [
         after: [0x48, 0x81, 0xf5, 0x07, 0xf0, 0x22, 0x00, 0x00, 0x00, 0x00],
     },
     Rewrite {
+        name: X86_64Relocation::R_X86_64_REX_GOTPCRELX,
         kind: RelaxationKind::RexTestIndirectToAbsolute(3),
         offset: 3,
         before: [0x4c, 0x85, 0x2d, 0x00, 0x00, 0x00, 0x00, 0x00, 0x00, 0x00],
@@ -481,6 +551,7 @@ static REWRITES: [Rewrite; 71] = [
         after: [0x49, 0xf7, 0xc5, 0x07, 0xf0, 0x22, 0x00, 0x00, 0x00, 0x00],
     },
     Rewrite {
+        name: X86_64Relocation::R_X86_64_GOTPCRELX,
         kind: RelaxationKind::RexAdcIndirectToAbsolute(2),
         offset: 2,
         before: [0x13, 0x1d, 0x00, 0x00, 0x00, 0x00, 0x00, 0x00, 0x00, 0x00],
@@ -488,6 +559,7 @@ static REWRITES: [Rewrite; 71] = [
         after: [0x81, 0xd3, 0x50, 0x34, 0x12, 0x00, 0x00, 0x00, 0x00, 0x00],
     },
     Rewrite {
+        name: X86_64Relocation::R_X86_64_GOTPCRELX,
         kind: RelaxationKind::RexTestIndirectToAbsolute(2),
         offset: 2,
         before: [0x85, 0x1d, 0x00, 0x00, 0x00, 0x00, 0x00, 0x00, 0x00, 0x00],
@@ -495,6 +567,7 @@ static REWRITES: [Rewrite; 71] = [
         after: [0xf7, 0xc3, 0x50, 0x34, 0x12, 0x00, 0x00, 0x00, 0x00, 0x00],
     },
     Rewrite {
+        name: X86_64Relocation::R_X86_64_CODE_4_GOTPCRELX,
         kind: RelaxationKind::RexTestIndirectToAbsolute(4),
         offset: 4,
         before: [0xd5, 0x48, 0x85, 0x1d, 0x00, 0x00, 0x00, 0x00, 0x00, 0x00],
@@ -502,6 +575,7 @@ static REWRITES: [Rewrite; 71] = [
         after: [0xd5, 0x18, 0xf7, 0xc3, 0x78, 0x56, 0x34, 0x12, 0x00, 0x00],
     },
     Rewrite {
+        name: X86_64Relocation::R_X86_64_CODE_6_GOTPCRELX,
         kind: RelaxationKind::RexSbbIndirectToAbsolute(6),
         offset: 6,
         before: [0x62, 0x74, 0xec, 0x10, 0x1b, 0x05, 0x00, 0x00, 0x00, 0x00],
@@ -509,6 +583,7 @@ static REWRITES: [Rewrite; 71] = [
         after: [0x62, 0xd4, 0xec, 0x10, 0x81, 0xd8, 0x78, 0x56, 0x34, 0x12],
     },
     Rewrite {
+        name: X86_64Relocation::R_X86_64_CODE_6_GOTPCRELX,
         kind: RelaxationKind::RexXorIndirectToAbsolute(6),
         offset: 6,
         before: [0x62, 0x74, 0xfc, 0x0c, 0x33, 0x3d, 0x00, 0x00, 0x00, 0x00],
@@ -545,6 +620,8 @@ fn rewrites_match_linkers() {
 
 /// A TLS sequence as GNU as assembles it, with what follows it, and as GNU ld links it into a program.
 struct Sequence {
+    /// The relocation of the `lea`.
+    name: X86_64Relocation,
     kind: RelaxationKind,
     offset: u64,
     before: [u8; 24],
@@ -555,6 +632,7 @@ struct Sequence {
 
 static SEQUENCES: [Sequence; 8] = [
     Sequence {
+        name: X86_64Relocation::R_X86_64_TLSGD,
         kind: RelaxationKind::TlsGdToLocalExec,
         offset: 4,
         before: [
@@ -568,6 +646,7 @@ static SEQUENCES: [Sequence; 8] = [
         ],
     },
     Sequence {
+        name: X86_64Relocation::R_X86_64_TLSGD,
         kind: RelaxationKind::TlsGdToLocalExec,
         offset: 4,
         before: [
@@ -581,6 +660,7 @@ static SEQUENCES: [Sequence; 8] = [
         ],
     },
     Sequence {
+        name: X86_64Relocation::R_X86_64_TLSGD,
         kind: RelaxationKind::TlsGdToInitialExec,
         offset: 4,
         before: [
@@ -594,6 +674,7 @@ static SEQUENCES: [Sequence; 8] = [
         ],
     },
     Sequence {
+        name: X86_64Relocation::R_X86_64_TLSGD,
         kind: RelaxationKind::TlsGdToLocalExecLarge,
         offset: 3,
         before: [
@@ -607,6 +688,7 @@ static SEQUENCES: [Sequence; 8] = [
         ],
     },
     Sequence {
+        name: X86_64Relocation::R_X86_64_TLSLD,
         kind: RelaxationKind::TlsLdToLocalExec,
         offset: 3,
         before: [
@@ -620,6 +702,7 @@ static SEQUENCES: [Sequence; 8] = [
         ],
     },
     Sequence {
+        name: X86_64Relocation::R_X86_64_TLSLD,
         kind: RelaxationKind::TlsLdToLocalExecNoPlt,
         offset: 3,
         before: [
@@ -633,6 +716,7 @@ static SEQUENCES: [Sequence; 8] = [
         ],
     },
     Sequence {
+        name: X86_64Relocation::R_X86_64_TLSLD,
         kind: RelaxationKind::TlsLdToLocalExec64,
         offset: 3,
         before: [
@@ -646,6 +730,7 @@ static SEQUENCES: [Sequence; 8] = [
         ],
     },
     Sequence {
+        name: X86_64Relocation::R_X86_64_TLSLD,
         kind: RelaxationKind::TlsLdToLocalExec64,
         offset: 3,
         before: [

@@ -1,0 +1,97 @@
+// Made by tools/erase of crates/linker_utils_c/src/choices.rt.
+//! Which rewrite a linker chooses, by `e_machine` and `r_type` of ELF files.
+
+use crate::rewrites::number_of;
+use crate::status::Status;
+use linker_utils::architecture::Relaxation;
+use linker_utils::elf::{Architecture, Choice, InstructionRewrite, LinkFacts, Operands};
+
+/// What a linker knows of a relocation's symbol and of its output: `LinkFacts`. A fact holds where
+/// its number is not 0.
+#[repr(C)]
+#[derive(Clone, Copy)]
+pub struct LinkFactNumbers {
+    pub is_local: u8,
+    pub is_ifunc: u8,
+    pub is_undefined_weak: u8,
+    pub has_fixed_address: u8,
+    pub has_fixed_distance: u8,
+    pub is_executable: u8,
+    pub has_local_exec_base: u8,
+    pub may_compress: u8,
+    pub is_marked: u8,
+    pub has_addresses: u8,
+    pub operands: Operands,
+}
+
+/// A choice in numbers.
+#[repr(C)]
+#[derive(Clone, Copy)]
+pub struct ChoiceNumbers {
+    /// The rewrite's number.
+    pub rewrite: u32,
+    /// The code of the relocation that is then written.
+    pub relocation: u32,
+    /// What becomes of the next relocation: 1 if it is skipped, else 0.
+    pub modifier: u32,
+    /// How many bytes are to be deleted after the rewrite.
+    pub deleted_len: u32,
+    /// Where they begin, from the offset on.
+    pub deleted_start: u64,
+    /// The rewrite's count of bytes before the field; 0 if it has none.
+    pub n: u8,
+}
+
+impl LinkFactNumbers {
+    #[inline(always)]
+    fn facts(&self) -> LinkFacts {
+        LinkFacts {
+            is_local: self.is_local != 0,
+            is_ifunc: self.is_ifunc != 0,
+            is_undefined_weak: self.is_undefined_weak != 0,
+            has_fixed_address: self.has_fixed_address != 0,
+            has_fixed_distance: self.has_fixed_distance != 0,
+            is_executable: self.is_executable != 0,
+            has_local_exec_base: self.has_local_exec_base != 0,
+            may_compress: self.may_compress != 0,
+            is_marked: self.is_marked != 0,
+            has_addresses: self.has_addresses != 0,
+            operands: self.operands,
+        }
+    }
+}
+
+#[inline(always)]
+fn in_numbers(chosen: Choice<Relaxation, u32>) -> ChoiceNumbers {
+    let (rewrite, n) = chosen.kind.number();
+    let (deleted_start, deleted_len) = match chosen.kind.deleted() {
+        Some(bytes) => (bytes.start, bytes.count),
+        None => (0, 0),
+    };
+    ChoiceNumbers {
+        rewrite,
+        relocation: chosen.relocation,
+        modifier: number_of(chosen.kind.next_modifier()),
+        deleted_len,
+        deleted_start,
+        n,
+    }
+}
+
+/// Which rewrite a linker makes of the instruction at a relocation, and the relocation after it.
+/// `UnknownArchitecture`.
+pub fn linker_utils_choose_nonnull(
+    machine: u16,
+    r_type: u32,
+    section: &[u8],
+    offset: u64,
+    facts: &LinkFactNumbers,
+    choice: &mut ChoiceNumbers,
+) -> u32 {
+    let Some(architecture) = Architecture::from_machine(machine) else {
+        return Status::UnknownArchitecture.number();
+    };
+    let chosen = architecture.choose(r_type, section, offset, &facts.facts());
+    *choice = in_numbers(chosen);
+    Status::Success.number()
+}

@@ -1,0 +1,76 @@
+// Made by tools/erase of crates/linker_utils/src/elf/choice.rt.
+//! What a linker knows of a symbol and of its output, and the rewrite that it chooses by that.
+
+use crate::elf::{Operands, Row};
+
+/// What a linker knows of a relocation's symbol and of its output when it chooses a rewrite. By
+/// default no fact holds, and nothing is rewritten.
+#[derive(Debug, Default, Clone, Copy, PartialEq, Eq)]
+pub struct LinkFacts {
+    /// The symbol is defined in this output, and no other definition can replace it at run time.
+    pub is_local: bool,
+    /// The symbol is an indirect function (`STT_GNU_IFUNC`).
+    pub is_ifunc: bool,
+    /// The symbol is undefined and weak, and nothing defines it at run time: its address is 0.
+    pub is_undefined_weak: bool,
+    /// The symbol's address is the same wherever the output is loaded: that of an absolute symbol
+    /// and of an undefined weak one, and any in an output that is always loaded at one address.
+    pub has_fixed_address: bool,
+    /// The distance from the code to the symbol is the same wherever the output is loaded: that to
+    /// any symbol of the output, but to an absolute one only in an output that is always loaded at
+    /// one address.
+    pub has_fixed_distance: bool,
+    /// The output is an executable, position-independent or not.
+    pub is_executable: bool,
+    /// The sequence that computed the base of local-dynamic TLS for this relocation was rewritten to
+    /// local-exec, so that the base is the thread pointer.
+    pub has_local_exec_base: bool,
+    /// The code may use instructions of the C extension (`EF_RISCV_RVC`).
+    pub may_compress: bool,
+    /// The relocation may be relaxed: `R_RISCV_RELAX` is at the same offset.
+    pub is_marked: bool,
+    /// The addresses in `operands` are known. Where they are not, a rewrite that depends on a
+    /// distance is not chosen; another is, and its value may turn out to be out of reach.
+    pub has_addresses: bool,
+    /// What the relocation's value is computed from before the rewrite. The addend is always read.
+    pub operands: Operands,
+}
+
+/// A rewrite of an instruction, and the relocation whose value is then written.
+#[derive(Debug, Clone, Copy, PartialEq, Eq)]
+pub struct Choice<K, R> {
+    /// The rewrite; `NoOp` where none is chosen, and where only the relocation changes.
+    pub kind: K,
+    /// The relocation's name after the rewrite.
+    pub relocation: R,
+}
+
+impl LinkFacts {
+    /// Whether the symbol's definition in this output is what is used at run time.
+    #[inline(always)]
+    pub(crate) fn is_bound(&self) -> bool {
+        self.is_local && !self.is_ifunc
+    }
+
+    /// Whether the value of a relocation of a row, `back` bytes before the place, is known and can be
+    /// written.
+    #[inline]
+    pub(crate) fn is_in_reach(&self, row: Option<Row>, after: &Operands, back: u64) -> bool {
+        self.has_addresses && reaches(row, after, back)
+    }
+
+    /// The same, or that no address is known.
+    #[inline]
+    pub(crate) fn is_in_reach_if_known(&self, row: Option<Row>, after: &Operands, back: u64) -> bool {
+        !self.has_addresses || reaches(row, after, back)
+    }
+}
+
+#[inline]
+fn reaches(row: Option<Row>, after: &Operands, back: u64) -> bool {
+    let place = after.place.wrapping_sub(back);
+    match row {
+        Some(row) => row.reaches(&Operands { place, ..*after }),
+        None => false,
+    }
+}
