@@ -1,0 +1,2 @@
+pub mod X86Laws
+pub mod X86Machine
