@@ -75,7 +75,7 @@ pub record IsMoved (k number m : ℕ) : Type 0 where
   pub extension : reg_of (x86.modrm_reg_to_rm k m) ≡ number
   pub moved : rm_of (x86.modrm_reg_to_rm k m) ≡ reg_of m
 
-abbrev moved_test : ℕ → ℕ → ℕ → Bool
+abbrev pub moved_test : ℕ → ℕ → ℕ → Bool
 moved_test k extension r =
     not (is_relative (k + r))
     && (is_register (k + r) && (eqb (reg_of (k + r)) extension && eqb (rm_of (k + r)) r))

@@ -8,6 +8,7 @@ use Rattle.linker_utils.specs.Choices.{operands_after}
 use Rattle.linker_utils.specs.Value.{difference_64}
 use Rattle.linker_utils.specs.X86.{x86_64_rewrite}
 use Rattle.linker_utils.specs.X86Originals.{Original, is_one_at, legacy, x86_64_matches}
+use Rattle.linker_utils.specs.X86Originals.{x86_64_originals}
 use Rattle.linker_utils.specs.X86Relocations.{x86_64_row}
 use Rattle.linker_utils.specs.X86RelocationsAfter.{x86_64_relocation_after}
 use Rattle.linker_utils.specs.declared.elf.RelocationKindInfo.{RelocationKindInfo}
@@ -69,3 +70,35 @@ address o = o.symbol
 abbrev pub LoadsOfAddresses : Type 0
 LoadsOfAddresses =
     EachPrefix (λ n name. DoesTheSame n (legacy n 0x8b) name kinds.MovIndirectToLea address)
+
+-- ---- with an immediate in place of the GOT entry
+
+abbrev pub TakesImmediate : (ℕ → RelaxationKind) → Type 0
+TakesImmediate kind =
+    EachPrefix (λ n name. DoesTheSame n (x86_64_originals (kind n)) name (kind n) address)
+
+abbrev pub AbsoluteAddresses : Type 0
+AbsoluteAddresses =
+    DoesTheSame 2 (legacy 2 0x8b) names.R_X86_64_GOTPCRELX kinds.MovIndirectToAbsolute address
+    × TakesImmediate kinds.RexMovIndirectToAbsolute
+
+abbrev pub Operations : Type 0
+Operations =
+    TakesImmediate kinds.RexAddIndirectToAbsolute × TakesImmediate kinds.RexSubIndirectToAbsolute
+    × TakesImmediate kinds.RexCmpIndirectToAbsolute × TakesImmediate kinds.RexAdcIndirectToAbsolute
+    × TakesImmediate kinds.RexAndIndirectToAbsolute × TakesImmediate kinds.RexOrIndirectToAbsolute
+    × TakesImmediate kinds.RexSbbIndirectToAbsolute × TakesImmediate kinds.RexXorIndirectToAbsolute
+    × TakesImmediate kinds.RexTestIndirectToAbsolute
+
+-- the symbol's offset from the thread pointer
+abbrev pub thread_offset : Operands → ℕ
+thread_offset o = difference_64 o.symbol o.tls_base
+
+abbrev pub TakesOffset : (ℕ → RelaxationKind) → Type 0
+TakesOffset kind =
+    DoesTheSame 3 (x86_64_originals (kind 3)) names.R_X86_64_GOTTPOFF (kind 3) thread_offset
+
+-- initial-exec, and local-exec
+abbrev pub ThreadOffsets : Type 0
+ThreadOffsets =
+    TakesOffset kinds.RexMovIndirectToAbsolute × TakesOffset kinds.RexAddIndirectToAbsolute

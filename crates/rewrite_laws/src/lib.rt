@@ -9,4 +9,7 @@ ghost use Rattle.rewrite_laws.specs.X86Laws as x86_laws;
 /// GOT, and what a rewrite leaves of it, take every state to the same state.
 pub fn x86_64()
     ensures loads { x86_laws.LoadsOfAddresses }
+    ensures absolute { x86_laws.AbsoluteAddresses }
+    ensures operations { x86_laws.Operations }
+    ensures thread { x86_laws.ThreadOffsets }
 {}
