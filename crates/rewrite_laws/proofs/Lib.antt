@@ -1,3 +1,4 @@
+pub mod X86Branches
 pub mod X86Bytes
 pub mod X86Codes
 pub mod X86Decoding

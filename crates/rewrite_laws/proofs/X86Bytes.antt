@@ -7,7 +7,7 @@ use Rattle.std.specs.Int.{bit_at}
 use Rattle.std.specs.List.{All}
 use Rattle.std.proofs.lemmas.List.Elements.{All-head, All-tail}
 use Rattle.linker_utils.specs.X86 as x86
-use Rattle.linker_utils.specs.X86Originals.{begins, rip_operand, rex, field4}
+use Rattle.linker_utils.specs.X86Originals.{begins, byte, rip_operand, rex, field4}
 use Rattle.rewrite_laws.specs.X86Machine.{is_relative, is_register, is_rex, reg_of, rm_of}
 
 -- ---- tests of all bytes
@@ -148,3 +148,20 @@ after_rex opcode (p ∷ rest) bytes h =
       is_rex = rex_byte p (All-head (λ b. b < 2 ^ 8) p rest bytes) first.0;
       after = on_relative opcode rest (All-tail (λ b. b < 2 ^ 8) p rest bytes) first.1;
     }
+
+-- two bytes
+pub two_bytes : (first second : ℕ) (d : List ℕ) → All (λ b. b < 2 ^ 8) d
+    → begins (byte first ∷ byte second ∷ field4) d ≡ true
+    → (rest : List ℕ) × (d ≡ first ∷ second ∷ rest)
+two_bytes first second [] bytes h = absurd (false≢true h)
+two_bytes first second (b ∷ []) bytes h =
+    absurd (false≢true (and_parts (eqb (bit_and b 0xff) first) false h).1)
+two_bytes first second (b ∷ m ∷ rest) bytes h =
+    let one = and_parts (eqb (bit_and b 0xff) first)
+    (eqb (bit_and m 0xff) second && begins field4 rest) h in
+    let two = and_parts (eqb (bit_and m 0xff) second) (begins field4 rest) one.1 in (
+      rest,
+      ap (λ x. x ∷ m ∷ rest) (same_byte b first (All-head (λ b. b < 2 ^ 8) b (m ∷ rest) bytes) one.0)
+          ∙ ap (λ x. first ∷ x ∷ rest) (same_byte m second (All-head (λ b. b < 2 ^ 8) m rest
+          (All-tail (λ b. b < 2 ^ 8) b (m ∷ rest) bytes)) two.0),
+    )

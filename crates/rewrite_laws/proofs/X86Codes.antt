@@ -6,8 +6,9 @@ use Rattle.std.proofs.Math.Bool.{or-false}
 use Rattle.std.proofs.lemmas.List.{length-drop}
 use Rattle.linker_base.specs.Rewrite.{rewritten, replaces}
 use Rattle.linker_utils.specs.X86 as x86
-use Rattle.linker_utils.specs.X86.{absolute, operand, prefixed_operand}
+use Rattle.linker_utils.specs.X86.{absolute, operand, prefixed_operand, puts}
 use Rattle.linker_utils.specs.X86Originals.{Original, is_one_at, is_at, begins}
+use Rattle.linker_utils.specs.declared.x86_64.rewrites.RelaxationKind.TheVariants.{JmpIndirectToRelative}
 use Rattle.rewrite_laws.proofs.X86Sections.{original_code, rewritten_code}
 
 -- an instruction of one pattern
@@ -113,4 +114,34 @@ module _ (section original relaxed rest rest' : List ℕ) (o : ℕ)
             ∙ ap (λ d. drop (3 - 3) (take 3 (take (3 - 3) d
             ++ prefixed_operand 3 opcode' k (take 3 (drop (3 - 3) d))
             ++ drop (3 - 3 + 3) d) ++ rest')) is,
+      )
+
+  -- branches
+  pub call_codes : (opcode m : ℕ) (d : List ℕ) → 2 ≤ o
+      → drop (o - 2) section ≡ opcode ∷ m ∷ d
+      → relaxed ≡ take o (rewritten (Some (replaces 2 2 (λ _. 0x67 ∷ 0xe8 ∷ []))) section o)
+      ++ rest'
+      → (drop (o - 2) original ≡ opcode ∷ m ∷ rest) × (drop (o - 2) relaxed ≡ 0x67 ∷ 0xe8 ∷ rest')
+  call_codes opcode m d room is whole' =
+      let long = inside section (opcode ∷ m ∷ d) o 2 (omega arith) room is (omega arith) in (
+        ap (drop (o - 2)) whole ∙ original_code section rest o 2 2 room long (omega arith)
+            ∙ ap (λ d. drop (2 - 2) (take 2 d ++ rest)) is,
+        ap (drop (o - 2)) whole'
+            ∙ rewritten_code section rest' o 2 2 room long (omega arith)
+            (replaces 2 2 (λ _. 0x67 ∷ 0xe8 ∷ [])) o 2 (omega arith) (omega arith),
+      )
+
+  pub jump_codes : (opcode m : ℕ) (d : List ℕ) → 2 ≤ o
+      → drop (o - 2) section ≡ opcode ∷ m ∷ d
+      → relaxed ≡ take (o - 1) (rewritten (x86.x86_64_rewrite JmpIndirectToRelative) section o)
+      ++ rest'
+      → (drop (o - 2) original ≡ opcode ∷ m ∷ rest) × (drop (o - 2) relaxed ≡ 0xe9 ∷ rest')
+  jump_codes opcode m d room is whole' =
+      let long = inside section (opcode ∷ m ∷ d) o 2 (omega arith) room is (omega arith) in (
+        ap (drop (o - 2)) whole ∙ original_code section rest o 2 2 room long (omega arith)
+            ∙ ap (λ d. drop (2 - 2) (take 2 d ++ rest)) is,
+        ap (drop (o - 2)) whole'
+            ∙ rewritten_code section rest' o 2 2 room long (omega arith)
+            (puts 2 6 (0xe9 ∷ 0 ∷ 0 ∷ 0 ∷ 0 ∷ 0x90 ∷ []) (λ o. o - 1) (λ a. a)) (o - 1) 1 (omega arith)
+            (omega arith),
       )

@@ -102,3 +102,13 @@ TakesOffset kind =
 abbrev pub ThreadOffsets : Type 0
 ThreadOffsets =
     TakesOffset kinds.RexMovIndirectToAbsolute × TakesOffset kinds.RexAddIndirectToAbsolute
+
+-- ---- branches
+
+-- A call pushes the same return address. A jump doesn't come to the byte behind it.
+abbrev pub Branches : Type 0
+Branches =
+    DoesTheSame 2 (x86_64_originals kinds.CallIndirectToRelative) names.R_X86_64_GOTPCRELX
+    kinds.CallIndirectToRelative address
+    × DoesTheSame 2 (x86_64_originals kinds.JmpIndirectToRelative) names.R_X86_64_GOTPCRELX
+    kinds.JmpIndirectToRelative address

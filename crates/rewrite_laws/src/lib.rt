@@ -11,5 +11,6 @@ pub fn x86_64()
     ensures loads { x86_laws.LoadsOfAddresses }
     ensures absolute { x86_laws.AbsoluteAddresses }
     ensures operations { x86_laws.Operations }
+    ensures branches { x86_laws.Branches }
     ensures thread { x86_laws.ThreadOffsets }
 {}

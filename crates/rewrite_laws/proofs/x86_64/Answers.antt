@@ -1,4 +1,5 @@
 -- The laws of x86-64's rewrites.
+use Rattle.rewrite_laws.proofs.X86Branches as branches
 use Rattle.rewrite_laws.proofs.X86Immediates as by_immediate
 use Rattle.rewrite_laws.proofs.X86Loads as loads
 use Rattle.rewrite_laws.proofs.x86_64.Goals as goal
@@ -86,3 +87,6 @@ returns-clause-thread c = (
   λ section old new o operands s before there matches held was is.
       by_immediate.of_thread by_immediate.add section old new o operands s before there held was is,
 )
+
+pub returns-clause-branches : goal.returns-clause-branches
+returns-clause-branches c = (branches.calls, branches.jumps)
