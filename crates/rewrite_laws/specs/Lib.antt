@@ -1,2 +1,3 @@
+pub mod X86Examples
 pub mod X86Laws
 pub mod X86Machine

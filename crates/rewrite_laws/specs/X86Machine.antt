@@ -3,7 +3,7 @@
 -- instruction). Code isn't part of the memory here.
 use Rattle.std.specs.Prelude.{ℕ, zero, suc, ◌+◌, ◌-◌, ◌*◌, ◌/◌, ◌%◌, ◌^◌, ◌==◌, ◌&&◌, Bool}
 use Rattle.std.specs.Prelude.{true, false, not, if◌then◌else◌, nat_lt, List, [], ◌∷◌, Option, Some}
-use Rattle.std.specs.Prelude.{None, bit_and, bit_or, bit_xor, count_ones}
+use Rattle.std.specs.Prelude.{None, bit_and, bit_or, bit_xor}
 use Rattle.std.specs.Int.{w64, bit_at, byte_at, cast_unsigned}
 use Rattle.linker_base.specs.Bits.{field, signed}
 use Rattle.linker_utils.specs.Relocate.{number_of_bytes}
@@ -87,12 +87,17 @@ result XOR n f a b = bit_xor a b
 result CMP n f a b = difference n 0 a b
 result TEST n f a b = bit_and a b
 
+-- how many of the low k bits are 1
+abbrev pub ones : ℕ → ℕ → ℕ
+ones zero number = 0
+ones (suc k) number = bit_at number k + ones k number
+
 -- PF is of the low byte
 abbrev pub flags_of : ℕ → ℕ → Bool → Bool → Bool → Flags
 flags_of n r carry auxiliary overflow =
     record {
       carry = carry;
-      parity = count_ones (r % 2 ^ 8) % 2 == 0;
+      parity = ones 8 r % 2 == 0;
       auxiliary = auxiliary;
       is_zero = r == 0;
       sign = bit_at r (n - 1) == 1;

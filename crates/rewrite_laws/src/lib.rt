@@ -3,6 +3,7 @@
 //! Each function does nothing. Its contract has the laws of one architecture, which are in `specs/`.
 #![tactic(auto)]
 
+ghost use Rattle.rewrite_laws.specs.X86Examples as x86_examples;
 ghost use Rattle.rewrite_laws.specs.X86Laws as x86_laws;
 
 /// x86-64: with no prefix and with REX, an instruction that takes an address or an offset from the
@@ -13,4 +14,7 @@ pub fn x86_64()
     ensures operations { x86_laws.Operations }
     ensures branches { x86_laws.Branches }
     ensures thread { x86_laws.ThreadOffsets }
+    ensures decoding { x86_examples.Decoding }
+    ensures results { x86_examples.Results }
+    ensures states { x86_examples.States }
 {}

@@ -1,4 +1,5 @@
 -- The laws of x86-64's rewrites.
+use Rattle.std.proofs.Common.{refl}
 use Rattle.rewrite_laws.proofs.X86Branches as branches
 use Rattle.rewrite_laws.proofs.X86Immediates as by_immediate
 use Rattle.rewrite_laws.proofs.X86Loads as loads
@@ -90,3 +91,49 @@ returns-clause-thread c = (
 
 pub returns-clause-branches : goal.returns-clause-branches
 returns-clause-branches c = (branches.calls, branches.jumps)
+
+pub returns-clause-decoding : goal.returns-clause-decoding
+returns-clause-decoding c = (
+  refl,
+  refl,
+  refl,
+  refl,
+  refl,
+  refl,
+  refl,
+  refl,
+  refl,
+  refl,
+  refl,
+  refl,
+  refl,
+  refl,
+  refl,
+  refl,
+  refl,
+  refl,
+  refl,
+  refl,
+  refl,
+  refl,
+  refl,
+  refl,
+  refl,
+  refl,
+  refl,
+  refl,
+  refl,
+)
+
+pub returns-clause-results : goal.returns-clause-results
+returns-clause-results c = refl
+
+pub returns-clause-states : goal.returns-clause-states
+returns-clause-states c = (
+  (refl, refl, refl),
+  refl,
+  refl,
+  refl,
+  (refl, refl, refl, refl),
+  refl,
+)
