@@ -1,5 +1,5 @@
 -- What bytes of x86-64's instructions say, before and after a rewrite.
-use Rattle.std.proofs.Common.{◌≡◌, ℕ, zero, suc, ◌+◌, ◌^◌, ◌<◌, List, [], ◌∷◌}
+use Rattle.std.proofs.Common.{◌*◌, ◌≡◌, ℕ, zero, suc, ◌+◌, ◌^◌, ◌<◌, List, [], ◌∷◌}
 use Rattle.std.proofs.Common.{Bool, true, false, not, ◌&&◌, ◌||◌, refl, sym, ◌∙◌}
 use Rattle.std.proofs.Common.{ap, arith, bit_and, eqb, inl, inr, subst}
 use Rattle.std.proofs.lemmas.Bool.{cases_lt, eqb-true, and_parts, false≢true}
@@ -7,7 +7,7 @@ use Rattle.std.specs.Int.{bit_at}
 use Rattle.std.specs.List.{All}
 use Rattle.std.proofs.lemmas.List.Elements.{All-head, All-tail}
 use Rattle.linker_utils.specs.X86 as x86
-use Rattle.linker_utils.specs.X86Originals.{begins, byte, rip_operand, rex, field4}
+use Rattle.linker_utils.specs.X86Originals.{begins, byte, rip_operand, rex, rex2, field4}
 use Rattle.rewrite_laws.specs.X86Machine.{is_relative, is_register, is_rex, reg_of, rm_of}
 
 -- ---- tests of all bytes
@@ -66,6 +66,41 @@ rex_byte p small h =
       after = b.0;
       wide = eqb-true (bit_at (x86.rex p) 3) (bit_at p 3) c.0;
       moved = eqb-true (bit_at (x86.rex p) 0) (bit_at p 2) c.1;
+    }
+
+-- What the byte after d5 says, and what it says after the rewrite.
+pub record IsRex2 (p : ℕ) : Type 0 where
+  pub is : eqb (bit_at p 7) 0 ≡ true
+  pub after : eqb (bit_at (x86.rex2 p) 7) 0 ≡ true
+  pub wide : bit_at (x86.rex2 p) 3 ≡ bit_at p 3
+  pub moved : 8 * bit_at (x86.rex2 p) 0 + 16 * bit_at (x86.rex2 p) 4
+      ≡ 8 * bit_at p 2 + 16 * bit_at p 6
+
+abbrev rex2_moves : ℕ → Bool
+rex2_moves p =
+    eqb (bit_at (x86.rex2 p) 3) (bit_at p 3)
+    && eqb (8 * bit_at (x86.rex2 p) 0 + 16 * bit_at (x86.rex2 p) 4)
+    (8 * bit_at p 2 + 16 * bit_at p 6)
+
+abbrev rex2_says : ℕ → Bool
+rex2_says p =
+    eqb (bit_at p 7) 0 && (eqb (bit_at (x86.rex2 p) 7) 0 && rex2_moves p)
+
+rex2_byte : (p : ℕ) → p < 2 ^ 8 → eqb (bit_and p 0xb3) 0 ≡ true → IsRex2 p
+rex2_byte p small h =
+    let a = and_parts (eqb (bit_at p 7) 0) (eqb (bit_at (x86.rex2 p) 7) 0 && rex2_moves p)
+    (implied (eqb (bit_and p 0xb3) 0) (rex2_says p)
+    (below 256 (λ p. not (eqb (bit_and p 0xb3) 0) || rex2_says p) refl p small) h) in
+    let b = and_parts (eqb (bit_at (x86.rex2 p) 7) 0) (rex2_moves p) a.1 in
+    let c = and_parts (eqb (bit_at (x86.rex2 p) 3) (bit_at p 3))
+    (eqb (8 * bit_at (x86.rex2 p) 0 + 16 * bit_at (x86.rex2 p) 4)
+    (8 * bit_at p 2 + 16 * bit_at p 6)) b.1 in
+    record {
+      is = a.0;
+      after = b.0;
+      wide = eqb-true (bit_at (x86.rex2 p) 3) (bit_at p 3) c.0;
+      moved = eqb-true (8 * bit_at (x86.rex2 p) 0 + 16 * bit_at (x86.rex2 p) 4)
+          (8 * bit_at p 2 + 16 * bit_at p 6) c.1;
     }
 
 -- A ModRM byte that names a register by its rm field, with an extension of the opcode in its reg.
@@ -147,6 +182,33 @@ after_rex opcode (p ∷ rest) bytes h =
       is = refl;
       is_rex = rex_byte p (All-head (λ b. b < 2 ^ 8) p rest bytes) first.0;
       after = on_relative opcode rest (All-tail (λ b. b < 2 ^ 8) p rest bytes) first.1;
+    }
+
+-- the same after REX2
+pub record IsAfterRex2 (opcode : ℕ) (d : List ℕ) : Type 0 where
+  pub prefix : ℕ
+  pub rest : List ℕ
+  pub is : d ≡ 0xd5 ∷ prefix ∷ rest
+  pub is_rex2 : IsRex2 prefix
+  pub after : IsOnRelative opcode rest
+
+pub after_rex2 : (opcode : ℕ) (d : List ℕ) → All (λ b. b < 2 ^ 8) d
+    → begins (byte 0xd5 ∷ rex2 ∷ rip_operand opcode) d ≡ true → IsAfterRex2 opcode d
+after_rex2 opcode [] bytes h = absurd (false≢true h)
+after_rex2 opcode (b ∷ []) bytes h =
+    absurd (false≢true (and_parts (eqb (bit_and b 0xff) 0xd5) false h).1)
+after_rex2 opcode (b ∷ p ∷ rest) bytes h =
+    let one = and_parts (eqb (bit_and b 0xff) 0xd5)
+    (eqb (bit_and p 0xb3) 0 && begins (rip_operand opcode) rest) h in
+    let two = and_parts (eqb (bit_and p 0xb3) 0) (begins (rip_operand opcode) rest) one.1 in
+    let tail = All-tail (λ b. b < 2 ^ 8) b (p ∷ rest) bytes in
+    record {
+      prefix = p;
+      rest = rest;
+      is = ap (λ x. x ∷ p ∷ rest) (same_byte b 0xd5
+          (All-head (λ b. b < 2 ^ 8) b (p ∷ rest) bytes) one.0);
+      is_rex2 = rex2_byte p (All-head (λ b. b < 2 ^ 8) p rest tail) two.0;
+      after = on_relative opcode rest (All-tail (λ b. b < 2 ^ 8) p rest tail) two.1;
     }
 
 -- two bytes

@@ -116,6 +116,43 @@ module _ (section original relaxed rest rest' : List ℕ) (o : ℕ)
             ++ drop (3 - 3 + 3) d) ++ rest')) is,
       )
 
+  -- the same after REX2
+  pub rex2_lea_codes : (p opcode m : ℕ) (d : List ℕ) → 4 ≤ o
+      → drop (o - 4) section ≡ 0xd5 ∷ p ∷ opcode ∷ m ∷ d
+      → relaxed ≡ take o (rewritten (Some (replaces 2 1 (λ _. 0x8d ∷ []))) section o) ++ rest'
+      → (drop (o - 4) original ≡ 0xd5 ∷ p ∷ opcode ∷ m ∷ rest)
+      × (drop (o - 4) relaxed ≡ 0xd5 ∷ p ∷ 0x8d ∷ m ∷ rest')
+  rex2_lea_codes p opcode m d room is whole' =
+      let long = inside section (0xd5 ∷ p ∷ opcode ∷ m ∷ d) o 4 (omega arith) room is
+      (omega arith) in (
+        ap (drop (o - 4)) whole ∙ original_code section rest o 4 4 room long (omega arith)
+            ∙ ap (λ d. drop (4 - 4) (take 4 d ++ rest)) is,
+        ap (drop (o - 4)) whole'
+            ∙ rewritten_code section rest' o 4 4 room long (omega arith)
+            (replaces 2 1 (λ _. 0x8d ∷ [])) o 4 (omega arith) (omega arith)
+            ∙ ap (λ d. drop (4 - 4) (take 4 (take (4 - 2) d ++ (0x8d ∷ []) ++ drop (4 - 2 + 1) d)
+            ++ rest')) is,
+      )
+
+  pub rex2_immediate_codes : (p opcode m opcode' k : ℕ) (d : List ℕ) → 4 ≤ o
+      → drop (o - 4) section ≡ 0xd5 ∷ p ∷ opcode ∷ m ∷ d
+      → relaxed ≡ take o (rewritten (Some (absolute 3 (prefixed_operand 4 opcode' k))) section o)
+      ++ rest'
+      → (drop (o - 4) original ≡ 0xd5 ∷ p ∷ opcode ∷ m ∷ rest)
+      × (drop (o - 4) relaxed ≡ 0xd5 ∷ x86.rex2 p ∷ opcode' ∷ x86.modrm_reg_to_rm k m ∷ rest')
+  rex2_immediate_codes p opcode m opcode' k d room is whole' =
+      let long = inside section (0xd5 ∷ p ∷ opcode ∷ m ∷ d) o 4 (omega arith) room is
+      (omega arith) in (
+        ap (drop (o - 4)) whole ∙ original_code section rest o 4 4 room long (omega arith)
+            ∙ ap (λ d. drop (4 - 4) (take 4 d ++ rest)) is,
+        ap (drop (o - 4)) whole'
+            ∙ rewritten_code section rest' o 4 4 room long (omega arith)
+            (absolute 3 (prefixed_operand 4 opcode' k)) o 4 (omega arith) (omega arith)
+            ∙ ap (λ d. drop (4 - 4) (take 4 (take (4 - 3) d
+            ++ prefixed_operand 4 opcode' k (take 3 (drop (4 - 3) d))
+            ++ drop (4 - 3 + 3) d) ++ rest')) is,
+      )
+
   -- branches
   pub call_codes : (opcode m : ℕ) (d : List ℕ) → 2 ≤ o
       → drop (o - 2) section ≡ opcode ∷ m ∷ d

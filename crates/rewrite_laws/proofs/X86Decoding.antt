@@ -1,12 +1,13 @@
 -- How instructions are decoded before and after a rewrite.
 use Rattle.std.proofs.Common.{◌≡◌, ℕ, ◌+◌, ◌∙◌, List, ◌∷◌, ap, sym, true, Some}
-use Rattle.std.proofs.Common.{Option, IsSomeAnd, subst}
+use Rattle.std.proofs.Common.{Option, IsSomeAnd, subst, eqb}
+use Rattle.std.specs.Int.{bit_at}
 use Rattle.std.proofs.lemmas.Bool.{cond-true, cond-false}
 use Rattle.linker_utils.specs.Relocate.{number_of_bytes}
 use Rattle.linker_utils.specs.Value.{sum_64}
 use Rattle.linker_utils.specs.X86 as x86
 use Rattle.rewrite_laws.specs.X86Machine.{Prefix, Operation, State, Decoded, decode, decode_opcode}
-use Rattle.rewrite_laws.specs.X86Machine.{decode_modrm, decode_relative, on_immediate, rex_prefix}
+use Rattle.rewrite_laws.specs.X86Machine.{decode_modrm, decode_relative, on_immediate, rex_prefix, rex2_prefix}
 use Rattle.rewrite_laws.specs.X86Machine.{immediate_operation, is_relative, is_register, reg_of}
 use Rattle.rewrite_laws.specs.X86Machine.{sized, operate, register, immediate, is_rex, step}
 use Rattle.rewrite_laws.specs.X86Machine.{execute_decoded, execute}
@@ -35,6 +36,11 @@ from_immediate p opcode k extension m op rest moved is =
 pub after_rex_byte : (p : ℕ) (rest : List ℕ) → is_rex p ≡ true
     → decode (p ∷ rest) ≡ decode_opcode (rex_prefix p) rest
 after_rex_byte p rest h = cond-true (is_rex p) _ _ h
+
+-- after d5 and a byte with M0 0
+pub after_rex2_byte : (p : ℕ) (rest : List ℕ) → eqb (bit_at p 7) 0 ≡ true
+    → decode (0xd5 ∷ p ∷ rest) ≡ decode_opcode (rex2_prefix p) rest
+after_rex2_byte p rest h = cond-true (eqb (bit_at p 7) 0) _ _ h
 
 -- Both codes lead to one state.
 pub lead_to : (before after : List ℕ) (d e : Decoded) (s : State) → decode before ≡ Some d

@@ -1,34 +1,36 @@
 -- Operations on a number from the GOT, and on an immediate.
-use Rattle.std.proofs.Common.{◌≡◌, ℕ, suc, ◌+◌, ◌-◌, ◌*◌, ◌%◌, ◌^◌, ◌<◌, ◌≤◌, List, [], ◌∷◌, ◌++◌}
+use Rattle.std.proofs.Common.{◌≡◌, ℕ, suc, ◌+◌, ◌-◌, ◌*◌, ◌%◌, ◌^◌, ◌<◌, List, [], ◌∷◌, ◌++◌}
 use Rattle.std.proofs.Common.{drop, take, refl, sym, ◌∙◌, ap, arith, Some, subst, inl, inr, IsSomeAnd}
 use Rattle.std.proofs.Common.{IsTrue, true, pos, length, eqb, cond, get_or, drop-cons}
 use Rattle.std.specs.Int.{w64, cast_unsigned}
 use Rattle.std.proofs.lemmas.List.Elements.{All-drop}
-use Rattle.linker_base.specs.Rewrite.{rewritten}
+use Rattle.linker_base.specs.Rewrite.{rewritten, IsRewritable}
 use Rattle.linker_utils.specs.Relocate.{number_of_bytes}
 use Rattle.linker_utils.specs.Value.{sum_64, difference_64}
 use Rattle.linker_utils.specs.X86 as x86
 use Rattle.linker_utils.specs.X86.{absolute, operand, prefixed_operand}
-use Rattle.linker_utils.specs.X86Originals.{original, rip_operand, with_rex, rex, is_one_at, plain}
+use Rattle.linker_utils.specs.X86Originals.{original, rip_operand, with_rex, rex, with_rex2, rex2, is_one_at}
+use Rattle.linker_utils.specs.X86Originals.{plain}
 use Rattle.linker_utils.specs.declared.elf.value.Operands.{Operands}
 use Rattle.relocation_laws.specs.Schemes.{IsApplied, AreAddresses}
 use Rattle.relocation_laws.proofs.Sums.{difference_below}
 use Rattle.rewrite_laws.specs.X86Laws.{IsBefore, IsRelocatedBy, thread_offset}
 use Rattle.rewrite_laws.specs.X86Machine.{State, Prefix, Operation, Instruction, MOV, ADD, OR, ADC}
 use Rattle.rewrite_laws.specs.X86Machine.{SBB, AND, SUB, XOR, CMP, TEST, load, extended, reg_of}
-use Rattle.rewrite_laws.specs.X86Machine.{rex_prefix, no_prefix, operate, register, relative}
-use Rattle.rewrite_laws.specs.X86Machine.{immediate, decode, decode_opcode, decode_modrm, step}
+use Rattle.rewrite_laws.specs.X86Machine.{rex_prefix, rex2_prefix, no_prefix, operate, register, relative}
+use Rattle.rewrite_laws.specs.X86Machine.{immediate, decode, decode_opcode, step}
 use Rattle.rewrite_laws.specs.X86Machine.{execute, sized, operand_value, is_relative}
 use Rattle.rewrite_laws.specs.X86Machine.{immediate_operation}
 use Rattle.rewrite_laws.proofs.X86Bytes.{on_relative, after_rex, all_below, moved_test, modrm_byte}
-use Rattle.rewrite_laws.proofs.X86Bytes.{IsRex}
+use Rattle.rewrite_laws.proofs.X86Bytes.{after_rex2}
 use Rattle.rewrite_laws.proofs.X86Codes.{pattern_there, immediate_codes, wide_codes}
-use Rattle.rewrite_laws.proofs.X86Codes.{rex_immediate_codes}
+use Rattle.rewrite_laws.proofs.X86Codes.{rex_immediate_codes, rex2_immediate_codes}
 use Rattle.rewrite_laws.proofs.X86Decoding.{from_relative, from_immediate, after_rex_byte, lead_to}
+use Rattle.rewrite_laws.proofs.X86Decoding.{after_rex2_byte}
 use Rattle.rewrite_laws.proofs.X86Fields.{entry_field, tls_entry_field, signed_field, got_row}
 use Rattle.rewrite_laws.proofs.X86Fields.{unsigned_field, thread_field, tls_got_row, thread_row}
 use Rattle.rewrite_laws.proofs.X86Fields.{signed_immediate, unsigned_immediate, extended_low}
-use Rattle.rewrite_laws.proofs.X86Loads.{same_place, from_next, at_place, rex_size}
+use Rattle.rewrite_laws.proofs.X86Loads.{same_place, from_next, at_place, rex_size, rex2_size}
 use Rattle.rewrite_laws.proofs.X86Values.{IsSize, loaded, same_operation, same_test}
 
 -- ---- opcodes
@@ -48,8 +50,6 @@ pub record IsReplaced (opcode opcode' k number : ℕ) (op : Operation) : Type 0 
       ≡ execute (operate op p.bits (register (reg_of m + p.reg)) (immediate i)) next s
   pub plain' : (rest : List ℕ)
       → decode (opcode' ∷ rest) ≡ decode_opcode no_prefix (opcode' ∷ rest)
-  pub decoded' : (p : Prefix) (m : ℕ) (rest : List ℕ)
-      → decode_opcode p (opcode' ∷ m ∷ rest) ≡ decode_modrm p opcode' (m ∷ rest)
   pub moved : all_below 8 (moved_test k number) ≡ true
   pub operation : immediate_operation opcode' number ≡ Some op
 
@@ -61,7 +61,6 @@ mov =
       decoded = λ p m rest h. from_relative p 0x8b m rest h;
       same = λ s next m d i p e. same_operation MOV s next p.bits (reg_of m + p.reg) d i e;
       plain' = λ rest. refl;
-      decoded' = λ p m rest. refl;
       moved = refl;
       operation = refl;
     }
@@ -74,7 +73,6 @@ add =
       decoded = λ p m rest h. from_relative p 0x03 m rest h;
       same = λ s next m d i p e. same_operation ADD s next p.bits (reg_of m + p.reg) d i e;
       plain' = λ rest. refl;
-      decoded' = λ p m rest. refl;
       moved = refl;
       operation = refl;
     }
@@ -87,7 +85,6 @@ or =
       decoded = λ p m rest h. from_relative p 0x0b m rest h;
       same = λ s next m d i p e. same_operation OR s next p.bits (reg_of m + p.reg) d i e;
       plain' = λ rest. refl;
-      decoded' = λ p m rest. refl;
       moved = refl;
       operation = refl;
     }
@@ -100,7 +97,6 @@ adc =
       decoded = λ p m rest h. from_relative p 0x13 m rest h;
       same = λ s next m d i p e. same_operation ADC s next p.bits (reg_of m + p.reg) d i e;
       plain' = λ rest. refl;
-      decoded' = λ p m rest. refl;
       moved = refl;
       operation = refl;
     }
@@ -113,7 +109,6 @@ sbb =
       decoded = λ p m rest h. from_relative p 0x1b m rest h;
       same = λ s next m d i p e. same_operation SBB s next p.bits (reg_of m + p.reg) d i e;
       plain' = λ rest. refl;
-      decoded' = λ p m rest. refl;
       moved = refl;
       operation = refl;
     }
@@ -126,7 +121,6 @@ and =
       decoded = λ p m rest h. from_relative p 0x23 m rest h;
       same = λ s next m d i p e. same_operation AND s next p.bits (reg_of m + p.reg) d i e;
       plain' = λ rest. refl;
-      decoded' = λ p m rest. refl;
       moved = refl;
       operation = refl;
     }
@@ -139,7 +133,6 @@ sub =
       decoded = λ p m rest h. from_relative p 0x2b m rest h;
       same = λ s next m d i p e. same_operation SUB s next p.bits (reg_of m + p.reg) d i e;
       plain' = λ rest. refl;
-      decoded' = λ p m rest. refl;
       moved = refl;
       operation = refl;
     }
@@ -152,7 +145,6 @@ xor =
       decoded = λ p m rest h. from_relative p 0x33 m rest h;
       same = λ s next m d i p e. same_operation XOR s next p.bits (reg_of m + p.reg) d i e;
       plain' = λ rest. refl;
-      decoded' = λ p m rest. refl;
       moved = refl;
       operation = refl;
     }
@@ -165,7 +157,6 @@ cmp =
       decoded = λ p m rest h. from_relative p 0x3b m rest h;
       same = λ s next m d i p e. same_operation CMP s next p.bits (reg_of m + p.reg) d i e;
       plain' = λ rest. refl;
-      decoded' = λ p m rest. refl;
       moved = refl;
       operation = refl;
     }
@@ -178,7 +169,6 @@ test =
       decoded = λ p m rest h. from_relative p 0x85 m rest h;
       same = λ s next m d i p e. same_test s next p.bits (reg_of m + p.reg) d i e;
       plain' = λ rest. refl;
-      decoded' = λ p m rest. refl;
       moved = refl;
       operation = refl;
     }
@@ -270,91 +260,35 @@ module _ {opcode opcode' k number : ℕ} {op : Operation}
     (replaced : IsReplaced opcode opcode' k number op) (n : ℕ) (few : n < 8) (section : List ℕ)
     (o : ℕ) (operands : Operands) (s : State) (before : IsBefore n section o operands s) (held : ℕ)
     (small : held < 2 ^ 64) (holds : load 8 s operands.got_entry ≡ held) where
-  both : (old new rest rest' : List ℕ) (m : ℕ) (p p' : Prefix) → p'.bits ≡ p.bits → p'.rm ≡ p.reg
+  both : (old new rest rest' : List ℕ) (m : ℕ) → is_relative m ≡ true → (p p' : Prefix)
+      → p'.bits ≡ p.bits → p'.rm ≡ p.reg → p.size + 6 ≡ n + 4 → p'.size + 6 ≡ n + 4
       → IsSize p.bits
       → sum_64 operands.place (extended (number_of_bytes 4 rest))
       ≡ sum_64 operands.got_entry (2 ^ 64 - 4)
       → extended (number_of_bytes 4 rest') % 2 ^ p.bits ≡ held % 2 ^ p.bits
-      → decode old ≡ Some (record {
-        instruction = replaced.instruction p m (number_of_bytes 4 rest);
-        size = n + 4;
-      })
-      → decode new ≡ Some (record {
-        instruction = operate op p'.bits (register (reg_of m + p'.rm))
-            (immediate (number_of_bytes 4 rest'));
-        size = n + 4;
-      })
+      → decode old ≡ decode_opcode p (opcode ∷ m ∷ rest)
+      → decode new ≡ decode_opcode p' (opcode' ∷ x86.modrm_reg_to_rm k m ∷ rest')
       → IsSomeAnd (step old s) (λ t. step new s ≡ Some t)
-  both old new rest rest' m p p' bits moved size entry value was is =
+  both old new rest rest' m by_ip p p' bits moved size size' sized leads value was is =
       let f = number_of_bytes 4 rest in
       let i = number_of_bytes 4 rest' in
       let next = sum_64 s.ip (n + 4) in
+      let instruction' = operate op p'.bits (register (reg_of m + p'.rm)) (immediate i) in
       lead_to old new (record { instruction = replaced.instruction p m f; size = n + 4 })
-      (record {
-        instruction = operate op p'.bits (register (reg_of m + p'.rm)) (immediate i);
-        size = n + 4;
-      }) s was is
+      (record { instruction = instruction'; size = n + 4 }) s
+      (was ∙ replaced.decoded p m rest by_ip
+      ∙ ap (λ z. Some (record { instruction = replaced.instruction p m f; size = z })) size)
+      (is ∙ from_immediate p' opcode' k number m op rest' (modrm_byte k number m replaced.moved)
+      replaced.operation
+      ∙ ap (λ z. Some (record { instruction = instruction'; size = z })) size')
       (replaced.same s next m f i p
-      (loaded s next p.bits f operands.got_entry held size
+      (loaded s next p.bits f operands.got_entry held sized
       (from_next n s.ip operands.place (extended f) operands.got_entry few before.addresses.place
-      before.addresses.got_entry before.ip entry) holds small ∙ sym value)
-      ∙ ap (λ b. execute (operate op b (register (reg_of m + p.reg)) (immediate i)) next s) (sym bits)
+      before.addresses.got_entry before.ip leads) holds small ∙ sym value)
+      ∙ ap (λ b. execute (operate op b (register (reg_of m + p.reg)) (immediate i)) next s)
+      (sym bits)
       ∙ ap (λ r. execute (operate op p'.bits (register (reg_of m + r)) (immediate i)) next s)
       (sym moved))
-
-  -- the instruction after no prefix, by the code before and after
-  plainly : (old new rest rest' : List ℕ) (m : ℕ) → is_relative m ≡ true → n ≡ 2
-      → sum_64 operands.place (extended (number_of_bytes 4 rest))
-      ≡ sum_64 operands.got_entry (2 ^ 64 - 4)
-      → extended (number_of_bytes 4 rest') % 2 ^ 32 ≡ held % 2 ^ 32
-      → old ≡ opcode ∷ m ∷ rest → new ≡ opcode' ∷ x86.modrm_reg_to_rm k m ∷ rest'
-      → IsSomeAnd (step old s) (λ t. step new s ≡ Some t)
-  plainly old new rest rest' m by_ip two leads value was is =
-      let size : 0 + 6 ≡ n + 4 = omega arith in
-      both old new rest rest' m no_prefix no_prefix refl refl (inl refl) leads value
-      (ap decode was ∙ replaced.plain (m ∷ rest) ∙ replaced.decoded no_prefix m rest by_ip
-      ∙ ap (λ z. Some (record {
-        instruction = replaced.instruction no_prefix m (number_of_bytes 4 rest);
-        size = z;
-      })) size)
-      (ap decode is ∙ replaced.plain' (x86.modrm_reg_to_rm k m ∷ rest')
-      ∙ replaced.decoded' no_prefix (x86.modrm_reg_to_rm k m) rest'
-      ∙ from_immediate no_prefix opcode' k number m op rest' (modrm_byte k number m replaced.moved)
-      replaced.operation
-      ∙ ap (λ z. Some (record {
-        instruction = operate op 32 (register (reg_of m + 0)) (immediate (number_of_bytes 4 rest'));
-        size = z;
-      })) size)
-
-  -- after a REX byte
-  after_rex_prefix : (old new rest rest' : List ℕ) (b m : ℕ) → IsRex b → is_relative m ≡ true
-      → n ≡ 3
-      → sum_64 operands.place (extended (number_of_bytes 4 rest))
-      ≡ sum_64 operands.got_entry (2 ^ 64 - 4)
-      → extended (number_of_bytes 4 rest') % 2 ^ (rex_prefix b).bits ≡ held % 2 ^ (rex_prefix b).bits
-      → old ≡ b ∷ opcode ∷ m ∷ rest → new ≡ x86.rex b ∷ opcode' ∷ x86.modrm_reg_to_rm k m ∷ rest'
-      → IsSomeAnd (step old s) (λ t. step new s ≡ Some t)
-  after_rex_prefix old new rest rest' b m is_rex by_ip three leads value was is =
-      let size : 1 + 6 ≡ n + 4 = omega arith in
-      let p = rex_prefix b in
-      let p' = rex_prefix (x86.rex b) in
-      both old new rest rest' m p p' (ap (λ w. cond (eqb w 1) 64 32) is_rex.wide)
-      (ap (λ r. 8 * r) is_rex.moved) (rex_size b) leads value
-      (ap decode was ∙ after_rex_byte b (opcode ∷ m ∷ rest) is_rex.is
-      ∙ replaced.decoded p m rest by_ip
-      ∙ ap (λ z. Some (record {
-        instruction = replaced.instruction p m (number_of_bytes 4 rest);
-        size = z;
-      })) size)
-      (ap decode is ∙ after_rex_byte (x86.rex b) (opcode' ∷ x86.modrm_reg_to_rm k m ∷ rest') is_rex.after
-      ∙ replaced.decoded' p' (x86.modrm_reg_to_rm k m) rest'
-      ∙ from_immediate p' opcode' k number m op rest' (modrm_byte k number m replaced.moved)
-      replaced.operation
-      ∙ ap (λ z. Some (record {
-        instruction = operate op p'.bits (register (reg_of m + p'.rm))
-            (immediate (number_of_bytes 4 rest'));
-        size = z;
-      })) size)
 
 -- ---- the laws
 
@@ -363,33 +297,40 @@ module _ {opcode opcode' k number : ℕ} {op : Operation}
     (operands : Operands) (s : State) where
   -- with no prefix
   pub without_prefix : IsBefore 2 section o operands s
-      → IsTrue (is_one_at (plain opcode) section o) → load 8 s operands.got_entry ≡ operands.symbol
+      → IsTrue (is_one_at (plain opcode) section o) → IsRewritable (absolute 2 (operand opcode' k)) section o
+      × IsTrue (is_one_at (plain opcode) section o)
+      → load 8 s operands.got_entry ≡ operands.symbol
       → IsRelocatedBy got_row operands o section old
       → IsRelocatedBy unsigned_immediate (absolute_operands o operands) o
       (rewritten (Some (absolute 2 (operand opcode' k))) section o) new
       → IsSomeAnd (step (drop (o - 2) old) s) (λ t. step (drop (o - 2) new) s ≡ Some t)
-  without_prefix before there holds was is =
+  without_prefix before there matches holds was is =
       let shape = pattern_there (original 2 (rip_operand opcode)) section o there in
       let code = on_relative opcode (drop (o - 2) section)
       (All-drop (λ b. b < 2 ^ 8) (o - 2) section before.bytes) shape.1 in
       let codes = immediate_codes section old new was.rest is.rest o was.whole opcode code.modrm
       opcode' k code.rest shape.0 code.is is.whole in
-      plainly replaced 2 (omega arith) section o operands s before operands.symbol
+      both replaced 2 (omega arith) section o operands s before operands.symbol
       before.addresses.symbol holds (drop (o - 2) old) (drop (o - 2) new) was.rest is.rest code.modrm
-      code.relative refl (entry 2 section o operands s before (drop o section) was.rest was.applied)
+      code.relative no_prefix no_prefix refl refl refl refl (inl refl) (entry 2 section o operands s before (drop o section) was.rest was.applied)
       (short_immediate 2 section o operands s before
       (drop o (rewritten (Some (absolute 2 (operand opcode' k))) section o)) is.rest is.applied)
-      codes.0 codes.1
+      (ap decode codes.0 ∙ replaced.plain (code.modrm ∷ was.rest))
+      (ap decode codes.1 ∙ replaced.plain' (x86.modrm_reg_to_rm k code.modrm ∷ is.rest))
 
   -- the same by a rewrite that has the byte before the instruction in its window
   pub within_window : IsBefore 2 section o operands s
-      → IsTrue (is_one_at (plain opcode) section o) → 3 ≤ o → o - 3 + 3 ≤ length section
+      → IsTrue (is_one_at (plain opcode) section o)
+      → IsRewritable (absolute 3 (prefixed_operand 2 opcode' k)) section o
+      × IsTrue (is_one_at (plain opcode) section o)
       → load 8 s operands.got_entry ≡ operands.symbol
       → IsRelocatedBy got_row operands o section old
       → IsRelocatedBy unsigned_immediate (absolute_operands o operands) o
       (rewritten (Some (absolute 3 (prefixed_operand 2 opcode' k))) section o) new
       → IsSomeAnd (step (drop (o - 2) old) s) (λ t. step (drop (o - 2) new) s ≡ Some t)
-  within_window before there room inside holds was is =
+  within_window before there matches holds was is =
+      let room = matches.0.starts in
+      let inside = matches.0.ends in
       let shape = pattern_there (original 2 (rip_operand opcode)) section o there in
       let code = on_relative opcode (drop (o - 2) section)
       (All-drop (λ b. b < 2 ^ 8) (o - 2) section before.bytes) shape.1 in
@@ -401,13 +342,14 @@ module _ {opcode opcode' k number : ℕ} {op : Operation}
       ∙ ap (λ xs. get_or section (o - 3) 0 ∷ xs) code.is in
       let codes = wide_codes section old new was.rest is.rest o was.whole
       (get_or section (o - 3) 0) opcode code.modrm opcode' k code.rest room front is.whole in
-      plainly replaced 2 (omega arith) section o operands s before operands.symbol
+      both replaced 2 (omega arith) section o operands s before operands.symbol
       before.addresses.symbol holds (drop (o - 2) old) (drop (o - 2) new) was.rest is.rest code.modrm
-      code.relative refl (entry 2 section o operands s before (drop o section) was.rest was.applied)
+      code.relative no_prefix no_prefix refl refl refl refl (inl refl) (entry 2 section o operands s before (drop o section) was.rest was.applied)
       (short_immediate 2 section o operands s before
       (drop o (rewritten (Some (absolute 3 (prefixed_operand 2 opcode' k))) section o)) is.rest
       is.applied)
-      codes.0 codes.1
+      (ap decode codes.0 ∙ replaced.plain (code.modrm ∷ was.rest))
+      (ap decode codes.1 ∙ replaced.plain' (x86.modrm_reg_to_rm k code.modrm ∷ is.rest))
 
   -- with REX, by what the fields come to
   with_rex_of : (held : ℕ) → held < 2 ^ 64 → IsBefore 3 section o operands s
@@ -420,7 +362,7 @@ module _ {opcode opcode' k number : ℕ} {op : Operation}
       → ((bits : ℕ) → IsSize bits
       → extended (number_of_bytes 4 rest') % 2 ^ bits ≡ held % 2 ^ bits)
       → IsSomeAnd (step (drop (o - 3) old) s) (λ t. step (drop (o - 3) new) s ≡ Some t)
-  with_rex_of held small before there holds rest rest' whole whole' entry value =
+  with_rex_of held small before there holds rest rest' whole whole' leads value =
       let shape = pattern_there (with_rex rex opcode) section o there in
       let code = after_rex opcode (drop (o - 3) section)
       (All-drop (λ b. b < 2 ^ 8) (o - 3) section before.bytes) shape.1 in
@@ -428,18 +370,25 @@ module _ {opcode opcode' k number : ℕ} {op : Operation}
       let m = code.after.modrm in
       let codes = rex_immediate_codes section old new rest rest' o whole p opcode m opcode' k
       code.after.rest shape.0 (code.is ∙ ap (λ xs. p ∷ xs) code.after.is) whole' in
-      after_rex_prefix replaced 3 (omega arith) section o operands s before held small holds
-      (drop (o - 3) old) (drop (o - 3) new) rest rest' p m code.is_rex code.after.relative refl entry
-      (value (rex_prefix p).bits (rex_size p)) codes.0 codes.1
+      let p' = x86.rex p in
+      both replaced 3 (omega arith) section o operands s before held small holds (drop (o - 3) old)
+      (drop (o - 3) new) rest rest' m code.after.relative (rex_prefix p) (rex_prefix p')
+      (ap (λ w. cond (eqb w 1) 64 32) code.is_rex.wide) (ap (λ r. 8 * r) code.is_rex.moved) refl refl
+      (rex_size p) leads (value (rex_prefix p).bits (rex_size p))
+      (ap decode codes.0 ∙ after_rex_byte p (opcode ∷ m ∷ rest) code.is_rex.is)
+      (ap decode codes.1
+      ∙ after_rex_byte p' (opcode' ∷ x86.modrm_reg_to_rm k m ∷ rest') code.is_rex.after)
 
   pub with_rex_prefix : IsBefore 3 section o operands s
       → IsTrue (is_one_at (with_rex rex opcode ∷ []) section o)
+      → IsRewritable (absolute 3 (prefixed_operand 3 opcode' k)) section o
+      × IsTrue (is_one_at (with_rex rex opcode ∷ []) section o)
       → load 8 s operands.got_entry ≡ operands.symbol
       → IsRelocatedBy got_row operands o section old
       → IsRelocatedBy signed_immediate (absolute_operands o operands) o
       (rewritten (Some (absolute 3 (prefixed_operand 3 opcode' k))) section o) new
       → IsSomeAnd (step (drop (o - 3) old) s) (λ t. step (drop (o - 3) new) s ≡ Some t)
-  with_rex_prefix before there holds was is =
+  with_rex_prefix before there matches holds was is =
       with_rex_of operands.symbol before.addresses.symbol before there holds was.rest is.rest
       was.whole is.whole (entry 3 section o operands s before (drop o section) was.rest was.applied)
       (λ bits size. long_immediate 3 section o operands s before bits size
@@ -448,15 +397,78 @@ module _ {opcode opcode' k number : ℕ} {op : Operation}
 
   pub of_thread : IsBefore 3 section o operands s
       → IsTrue (is_one_at (with_rex rex opcode ∷ []) section o)
+      → IsRewritable (absolute 3 (prefixed_operand 3 opcode' k)) section o
+      × IsTrue (is_one_at (with_rex rex opcode ∷ []) section o)
       → load 8 s operands.got_entry ≡ thread_offset operands
       → IsRelocatedBy tls_got_row operands o section old
       → IsRelocatedBy thread_row (absolute_operands o operands) o
       (rewritten (Some (absolute 3 (prefixed_operand 3 opcode' k))) section o) new
       → IsSomeAnd (step (drop (o - 3) old) s) (λ t. step (drop (o - 3) new) s ≡ Some t)
-  of_thread before there holds was is =
+  of_thread before there matches holds was is =
       with_rex_of (thread_offset operands) (difference_below operands.symbol operands.tls_base)
       before there holds was.rest is.rest was.whole is.whole
       (tls_entry 3 section o operands s before (drop o section) was.rest was.applied)
       (λ bits size. offset_immediate 3 section o operands s before bits size
       (drop o (rewritten (Some (absolute 3 (prefixed_operand 3 opcode' k))) section o)) is.rest
+      is.applied)
+
+  -- with REX2, by what the fields come to
+  with_rex2_of : (held : ℕ) → held < 2 ^ 64 → IsBefore 4 section o operands s
+      → IsTrue (is_one_at (with_rex2 rex2 opcode ∷ []) section o)
+      → load 8 s operands.got_entry ≡ held → (rest rest' : List ℕ) → old ≡ take o section ++ rest
+      → new ≡ take o (rewritten (Some (absolute 3 (prefixed_operand 4 opcode' k))) section o)
+      ++ rest'
+      → sum_64 operands.place (extended (number_of_bytes 4 rest))
+      ≡ sum_64 operands.got_entry (2 ^ 64 - 4)
+      → ((bits : ℕ) → IsSize bits
+      → extended (number_of_bytes 4 rest') % 2 ^ bits ≡ held % 2 ^ bits)
+      → IsSomeAnd (step (drop (o - 4) old) s) (λ t. step (drop (o - 4) new) s ≡ Some t)
+  with_rex2_of held small before there holds rest rest' whole whole' leads value =
+      let shape = pattern_there (with_rex2 rex2 opcode) section o there in
+      let code = after_rex2 opcode (drop (o - 4) section)
+      (All-drop (λ b. b < 2 ^ 8) (o - 4) section before.bytes) shape.1 in
+      let p = code.prefix in
+      let m = code.after.modrm in
+      let codes = rex2_immediate_codes section old new rest rest' o whole p opcode m opcode' k
+      code.after.rest shape.0 (code.is ∙ ap (λ xs. 0xd5 ∷ p ∷ xs) code.after.is) whole' in
+      let p' = x86.rex2 p in
+      both replaced 4 (omega arith) section o operands s before held small holds (drop (o - 4) old)
+      (drop (o - 4) new) rest rest' m code.after.relative (rex2_prefix p) (rex2_prefix p')
+      (ap (λ w. cond (eqb w 1) 64 32) code.is_rex2.wide) code.is_rex2.moved refl refl
+      (rex2_size p) leads (value (rex2_prefix p).bits (rex2_size p))
+      (ap decode codes.0 ∙ after_rex2_byte p (opcode ∷ m ∷ rest) code.is_rex2.is)
+      (ap decode codes.1
+      ∙ after_rex2_byte p' (opcode' ∷ x86.modrm_reg_to_rm k m ∷ rest') code.is_rex2.after)
+
+  pub with_rex2_prefix : IsBefore 4 section o operands s
+      → IsTrue (is_one_at (with_rex2 rex2 opcode ∷ []) section o)
+      → IsRewritable (absolute 3 (prefixed_operand 4 opcode' k)) section o
+      × IsTrue (is_one_at (with_rex2 rex2 opcode ∷ []) section o)
+      → load 8 s operands.got_entry ≡ operands.symbol
+      → IsRelocatedBy got_row operands o section old
+      → IsRelocatedBy signed_immediate (absolute_operands o operands) o
+      (rewritten (Some (absolute 3 (prefixed_operand 4 opcode' k))) section o) new
+      → IsSomeAnd (step (drop (o - 4) old) s) (λ t. step (drop (o - 4) new) s ≡ Some t)
+  with_rex2_prefix before there matches holds was is =
+      with_rex2_of operands.symbol before.addresses.symbol before there holds was.rest is.rest
+      was.whole is.whole (entry 4 section o operands s before (drop o section) was.rest was.applied)
+      (λ bits size. long_immediate 4 section o operands s before bits size
+      (drop o (rewritten (Some (absolute 3 (prefixed_operand 4 opcode' k))) section o)) is.rest
+      is.applied)
+
+  pub of_thread_with_rex2 : IsBefore 4 section o operands s
+      → IsTrue (is_one_at (with_rex2 rex2 opcode ∷ []) section o)
+      → IsRewritable (absolute 3 (prefixed_operand 4 opcode' k)) section o
+      × IsTrue (is_one_at (with_rex2 rex2 opcode ∷ []) section o)
+      → load 8 s operands.got_entry ≡ thread_offset operands
+      → IsRelocatedBy tls_got_row operands o section old
+      → IsRelocatedBy thread_row (absolute_operands o operands) o
+      (rewritten (Some (absolute 3 (prefixed_operand 4 opcode' k))) section o) new
+      → IsSomeAnd (step (drop (o - 4) old) s) (λ t. step (drop (o - 4) new) s ≡ Some t)
+  of_thread_with_rex2 before there matches holds was is =
+      with_rex2_of (thread_offset operands) (difference_below operands.symbol operands.tls_base)
+      before there holds was.rest is.rest was.whole is.whole
+      (tls_entry 4 section o operands s before (drop o section) was.rest was.applied)
+      (λ bits size. offset_immediate 4 section o operands s before bits size
+      (drop o (rewritten (Some (absolute 3 (prefixed_operand 4 opcode' k))) section o)) is.rest
       is.applied)

@@ -1,6 +1,7 @@
 -- Loads of addresses from the GOT, and `lea`.
 use Rattle.std.proofs.Common.{◌≡◌, ℕ, ◌+◌, ◌-◌, ◌^◌, ◌<◌, List, ◌∷◌, drop, refl}
 use Rattle.std.proofs.Common.{sym, ◌∙◌, ap, arith, Some, subst, inl, inr, IsSomeAnd, eqb, ℤ}
+use Rattle.std.proofs.Common.{if◌then◌else◌}
 use Rattle.std.specs.Int.{w64, cast_unsigned, bit_at}
 use Rattle.std.proofs.lemmas.List.Elements.{All-drop}
 use Rattle.std.proofs.lemmas.Bool.{cases_Bool, cond-true, cond-false}
@@ -9,17 +10,18 @@ use Rattle.linker_utils.specs.Value.{sum_64, difference_64}
 use Rattle.linker_utils.specs.Choices.{operands_after}
 use Rattle.linker_utils.specs.X86.{x86_64_rewrite}
 use Rattle.linker_base.specs.Rewrite.{rewritten}
-use Rattle.linker_utils.specs.X86Originals.{legacy, original, rip_operand, with_rex, rex}
+use Rattle.linker_utils.specs.X86Originals.{legacy, original, rip_operand, with_rex, rex, with_rex2, rex2}
 use Rattle.linker_utils.specs.declared.elf.value.Operands.{Operands}
 use Rattle.linker_utils.specs.declared.x86_64.relocations.X86_64Relocation.TheVariants as names
 use Rattle.linker_utils.specs.declared.x86_64.rewrites.RelaxationKind.TheVariants as kinds
 use Rattle.relocation_laws.specs.Schemes.{AreAddresses, IsApplied}
 use Rattle.rewrite_laws.specs.X86Laws.{IsBefore, DoesTheSame, address}
 use Rattle.rewrite_laws.specs.X86Machine.{State, load, extended, reg_of, rex_prefix, no_prefix, MOV}
+use Rattle.rewrite_laws.specs.X86Machine.{rex2_prefix}
 use Rattle.rewrite_laws.specs.X86Machine.{operate, register, relative, lea, decode, step}
-use Rattle.rewrite_laws.proofs.X86Bytes.{on_relative, after_rex}
-use Rattle.rewrite_laws.proofs.X86Codes.{pattern_there, lea_codes, rex_lea_codes}
-use Rattle.rewrite_laws.proofs.X86Decoding.{from_relative, after_rex_byte, lead_to}
+use Rattle.rewrite_laws.proofs.X86Bytes.{on_relative, after_rex, after_rex2}
+use Rattle.rewrite_laws.proofs.X86Codes.{pattern_there, lea_codes, rex_lea_codes, rex2_lea_codes}
+use Rattle.rewrite_laws.proofs.X86Decoding.{from_relative, after_rex_byte, after_rex2_byte, lead_to}
 use Rattle.rewrite_laws.proofs.X86Fields.{entry_field, place_field, got_row, place_row}
 use Rattle.rewrite_laws.proofs.X86Values.{IsSize, loaded, same_load}
 
@@ -48,11 +50,18 @@ at_place o p a addresses small =
     }
 
 -- operands are of 32 or of 64 bits
+size_by : (w : ℕ) → IsSize (if eqb w 1 then 64 else 32)
+size_by w =
+    elim (cases_Bool (eqb w 1)) [
+      | inl wide ↦ inr (cond-true (eqb w 1) 64 32 wide)
+      | inr short ↦ inl (cond-false (eqb w 1) 64 32 short)
+    ]
+
 pub rex_size : (p : ℕ) → IsSize (rex_prefix p).bits
-rex_size p = elim (cases_Bool (eqb (bit_at p 3) 1)) [
-  | inl wide ↦ inr (cond-true _ 64 32 wide)
-  | inr short ↦ inl (cond-false _ 64 32 short)
-]
+rex_size p = size_by (bit_at p 3)
+
+pub rex2_size : (p : ℕ) → IsSize (rex2_prefix p).bits
+rex2_size p = size_by (bit_at p 3)
 
 -- ---- the law
 
@@ -127,3 +136,21 @@ with_rex_prefix section old new o operands s before there matches held was is =
     ∙ from_relative (rex_prefix p) 0x8b m was.rest code.after.relative)
     (ap decode codes.1 ∙ after_rex_byte p (0x8d ∷ m ∷ is.rest) code.is_rex.is
     ∙ from_relative (rex_prefix p) 0x8d m is.rest code.after.relative)
+
+pub with_rex2_prefix : DoesTheSame 4 (legacy 4 0x8b) names.R_X86_64_CODE_4_GOTPCRELX
+    kinds.MovIndirectToLea address
+with_rex2_prefix section old new o operands s before there matches held was is =
+    let shape = pattern_there (with_rex2 rex2 0x8b) section o there in
+    let d = drop (o - 4) section in
+    let code = after_rex2 0x8b d (All-drop (λ b. b < 2 ^ 8) (o - 4) section before.bytes) shape.1 in
+    let p = code.prefix in
+    let m = code.after.modrm in
+    let codes = rex2_lea_codes section old new was.rest is.rest o was.whole p 0x8b m
+    code.after.rest shape.0 (code.is ∙ ap (λ xs. 0xd5 ∷ p ∷ xs) code.after.is) is.whole in
+    both 4 (omega arith) section o operands s before held (drop (o - 4) old) (drop (o - 4) new)
+    was.rest is.rest (rex2_prefix p).bits (reg_of m + (rex2_prefix p).reg) (rex2_size p)
+    was.applied is.applied
+    (ap decode codes.0 ∙ after_rex2_byte p (0x8b ∷ m ∷ was.rest) code.is_rex2.is
+    ∙ from_relative (rex2_prefix p) 0x8b m was.rest code.after.relative)
+    (ap decode codes.1 ∙ after_rex2_byte p (0x8d ∷ m ∷ is.rest) code.is_rex2.is
+    ∙ from_relative (rex2_prefix p) 0x8d m is.rest code.after.relative)

@@ -58,9 +58,11 @@ DoesTheSame n instructions name kind held =
     → IsSomeAnd (step (drop (o - n) original) s) (λ t.
     step (drop (o - n) relaxed) s ≡ Some t))
 
--- with no prefix and with REX, by the bytes before the field
+-- with no prefix, with REX and with REX2, by the bytes before the field
 abbrev pub EachPrefix : (ℕ → X86_64Relocation → Type 0) → Type 0
-EachPrefix Holds = Holds 2 names.R_X86_64_GOTPCRELX × Holds 3 names.R_X86_64_REX_GOTPCRELX
+EachPrefix Holds =
+    Holds 2 names.R_X86_64_GOTPCRELX × Holds 3 names.R_X86_64_REX_GOTPCRELX
+    × Holds 4 names.R_X86_64_CODE_4_GOTPCRELX
 
 -- the symbol's address
 abbrev pub address : Operands → ℕ
@@ -97,6 +99,8 @@ thread_offset o = difference_64 o.symbol o.tls_base
 abbrev pub TakesOffset : (ℕ → RelaxationKind) → Type 0
 TakesOffset kind =
     DoesTheSame 3 (x86_64_originals (kind 3)) names.R_X86_64_GOTTPOFF (kind 3) thread_offset
+    × DoesTheSame 4 (x86_64_originals (kind 4)) names.R_X86_64_CODE_4_GOTTPOFF (kind 4)
+    thread_offset
 
 -- initial-exec, and local-exec
 abbrev pub ThreadOffsets : Type 0

@@ -237,6 +237,17 @@ rex_prefix b =
       rm = 8 * bit_at b 0;
     }
 
+-- the byte after d5: M0 R4 X4 B4 W R3 X3 B3 (Intel Advanced Performance Extensions Architecture
+-- Specification, "REX2 Prefix")
+abbrev pub rex2_prefix : ℕ → Prefix
+rex2_prefix b =
+    record {
+      size = 2;
+      bits = if bit_at b 3 == 1 then 64 else 32;
+      reg = 8 * bit_at b 2 + 16 * bit_at b 6;
+      rm = 8 * bit_at b 0 + 16 * bit_at b 4;
+    }
+
 -- the fields of a ModRM byte ("ModR/M and SIB Bytes")
 abbrev pub mod_of : ℕ → ℕ
 mod_of m = field m 6 8
@@ -317,31 +328,37 @@ decode_modrm p opcode (m ∷ rest) =
     else (if is_register m then on_immediate p m (immediate_operation opcode (reg_of m)) rest
     else None)
 
--- CALL and JMP by e8 and e9, and NOP by 90
 abbrev pub decode_opcode : Prefix → List ℕ → Option Decoded
 decode_opcode p [] = None
-decode_opcode p (opcode ∷ rest) =
-    if opcode == 0xe8 then sized p 5 (call (direct (number_of_bytes 4 rest)))
-    else (if opcode == 0xe9 then sized p 5 (jump (direct (number_of_bytes 4 rest)))
-    else (if opcode == 0x90 then sized p 1 nop
-    else decode_modrm p opcode rest))
+decode_opcode p (opcode ∷ rest) = decode_modrm p opcode rest
+
+-- with no prefix: CALL and JMP by e8 and e9, NOP by 90, and those with a ModRM byte
+abbrev pub decode_plain : ℕ → List ℕ → Option Decoded
+decode_plain opcode rest =
+    if opcode == 0xe8 then sized no_prefix 5 (call (direct (number_of_bytes 4 rest)))
+    else (if opcode == 0xe9 then sized no_prefix 5 (jump (direct (number_of_bytes 4 rest)))
+    else (if opcode == 0x90 then sized no_prefix 1 nop
+    else decode_modrm no_prefix opcode rest))
 
 -- The address-size prefix 67 changes nothing of CALL by e8, the only opcode after it here.
-abbrev pub addr32 : Prefix
-addr32 = record no_prefix { size = 1 }
-
 abbrev pub decode_addr32 : List ℕ → Option Decoded
 decode_addr32 [] = None
 decode_addr32 (opcode ∷ rest) =
-    if opcode == 0xe8 then decode_opcode addr32 (opcode ∷ rest) else None
+    if opcode == 0xe8 then sized no_prefix 6 (call (direct (number_of_bytes 4 rest))) else None
+
+-- after d5, with opcode map 0 (M0)
+abbrev pub decode_rex2 : List ℕ → Option Decoded
+decode_rex2 [] = None
+decode_rex2 (b ∷ rest) = if bit_at b 7 == 0 then decode_opcode (rex2_prefix b) rest else None
 
 -- the instruction that bytes begin with; none where it isn't one of these
 abbrev pub decode : List ℕ → Option Decoded
 decode [] = None
 decode (b ∷ bytes) =
     if is_rex b then decode_opcode (rex_prefix b) bytes
+    else (if b == 0xd5 then decode_rex2 bytes
     else (if b == 0x67 then decode_addr32 bytes
-    else decode_opcode no_prefix (b ∷ bytes))
+    else decode_plain b bytes))
 
 abbrev pub execute_decoded : Option Decoded → State → Option State
 execute_decoded None s = None

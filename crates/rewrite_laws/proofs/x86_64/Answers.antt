@@ -1,92 +1,36 @@
 -- The laws of x86-64's rewrites.
 use Rattle.std.proofs.Common.{refl}
 use Rattle.rewrite_laws.proofs.X86Branches as branches
-use Rattle.rewrite_laws.proofs.X86Immediates as by_immediate
+use Rattle.rewrite_laws.proofs.X86Immediates as immediates
 use Rattle.rewrite_laws.proofs.X86Loads as loads
 use Rattle.rewrite_laws.proofs.x86_64.Goals as goal
 
 pub returns-clause-loads : goal.returns-clause-loads
-returns-clause-loads c = (loads.without_prefix, loads.with_rex_prefix)
+returns-clause-loads c = (loads.without_prefix, loads.with_rex_prefix, loads.with_rex2_prefix)
 
 pub returns-clause-absolute : goal.returns-clause-absolute
 returns-clause-absolute c = (
-  λ section old new o operands s before there matches held was is.
-      by_immediate.without_prefix by_immediate.mov section old new o operands s before there held was is,
-  (
-    λ section old new o operands s before there matches held was is.
-        by_immediate.within_window by_immediate.mov section old new o operands s before there
-        matches.0.starts matches.0.ends held was is,
-    λ section old new o operands s before there matches held was is.
-        by_immediate.with_rex_prefix by_immediate.mov section old new o operands s before there held was is,
-  ),
+  immediates.without_prefix immediates.mov,
+  (immediates.within_window immediates.mov, immediates.with_rex_prefix immediates.mov, immediates.with_rex2_prefix immediates.mov),
 )
 
 pub returns-clause-operations : goal.returns-clause-operations
 returns-clause-operations c = (
-  (
-    λ section old new o operands s before there matches held was is.
-        by_immediate.without_prefix by_immediate.add section old new o operands s before there held was is,
-    λ section old new o operands s before there matches held was is.
-        by_immediate.with_rex_prefix by_immediate.add section old new o operands s before there held was is,
-  ),
-  (
-    λ section old new o operands s before there matches held was is.
-        by_immediate.within_window by_immediate.sub section old new o operands s before there
-        matches.0.starts matches.0.ends held was is,
-    λ section old new o operands s before there matches held was is.
-        by_immediate.with_rex_prefix by_immediate.sub section old new o operands s before there held was is,
-  ),
-  (
-    λ section old new o operands s before there matches held was is.
-        by_immediate.within_window by_immediate.cmp section old new o operands s before there
-        matches.0.starts matches.0.ends held was is,
-    λ section old new o operands s before there matches held was is.
-        by_immediate.with_rex_prefix by_immediate.cmp section old new o operands s before there held was is,
-  ),
-  (
-    λ section old new o operands s before there matches held was is.
-        by_immediate.without_prefix by_immediate.adc section old new o operands s before there held was is,
-    λ section old new o operands s before there matches held was is.
-        by_immediate.with_rex_prefix by_immediate.adc section old new o operands s before there held was is,
-  ),
-  (
-    λ section old new o operands s before there matches held was is.
-        by_immediate.without_prefix by_immediate.and section old new o operands s before there held was is,
-    λ section old new o operands s before there matches held was is.
-        by_immediate.with_rex_prefix by_immediate.and section old new o operands s before there held was is,
-  ),
-  (
-    λ section old new o operands s before there matches held was is.
-        by_immediate.without_prefix by_immediate.or section old new o operands s before there held was is,
-    λ section old new o operands s before there matches held was is.
-        by_immediate.with_rex_prefix by_immediate.or section old new o operands s before there held was is,
-  ),
-  (
-    λ section old new o operands s before there matches held was is.
-        by_immediate.without_prefix by_immediate.sbb section old new o operands s before there held was is,
-    λ section old new o operands s before there matches held was is.
-        by_immediate.with_rex_prefix by_immediate.sbb section old new o operands s before there held was is,
-  ),
-  (
-    λ section old new o operands s before there matches held was is.
-        by_immediate.without_prefix by_immediate.xor section old new o operands s before there held was is,
-    λ section old new o operands s before there matches held was is.
-        by_immediate.with_rex_prefix by_immediate.xor section old new o operands s before there held was is,
-  ),
-  (
-    λ section old new o operands s before there matches held was is.
-        by_immediate.without_prefix by_immediate.test section old new o operands s before there held was is,
-    λ section old new o operands s before there matches held was is.
-        by_immediate.with_rex_prefix by_immediate.test section old new o operands s before there held was is,
-  ),
+  (immediates.without_prefix immediates.add, immediates.with_rex_prefix immediates.add, immediates.with_rex2_prefix immediates.add),
+  (immediates.within_window immediates.sub, immediates.with_rex_prefix immediates.sub, immediates.with_rex2_prefix immediates.sub),
+  (immediates.within_window immediates.cmp, immediates.with_rex_prefix immediates.cmp, immediates.with_rex2_prefix immediates.cmp),
+  (immediates.without_prefix immediates.adc, immediates.with_rex_prefix immediates.adc, immediates.with_rex2_prefix immediates.adc),
+  (immediates.without_prefix immediates.and, immediates.with_rex_prefix immediates.and, immediates.with_rex2_prefix immediates.and),
+  (immediates.without_prefix immediates.or, immediates.with_rex_prefix immediates.or, immediates.with_rex2_prefix immediates.or),
+  (immediates.without_prefix immediates.sbb, immediates.with_rex_prefix immediates.sbb, immediates.with_rex2_prefix immediates.sbb),
+  (immediates.without_prefix immediates.xor, immediates.with_rex_prefix immediates.xor, immediates.with_rex2_prefix immediates.xor),
+  (immediates.without_prefix immediates.test, immediates.with_rex_prefix immediates.test, immediates.with_rex2_prefix immediates.test),
 )
 
 pub returns-clause-thread : goal.returns-clause-thread
 returns-clause-thread c = (
-  λ section old new o operands s before there matches held was is.
-      by_immediate.of_thread by_immediate.mov section old new o operands s before there held was is,
-  λ section old new o operands s before there matches held was is.
-      by_immediate.of_thread by_immediate.add section old new o operands s before there held was is,
+  (immediates.of_thread immediates.mov, immediates.of_thread_with_rex2 immediates.mov),
+  (immediates.of_thread immediates.add, immediates.of_thread_with_rex2 immediates.add),
 )
 
 pub returns-clause-branches : goal.returns-clause-branches
