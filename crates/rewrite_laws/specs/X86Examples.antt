@@ -1,5 +1,5 @@
 -- x86-64: rows that the definitions of instructions are compared with. GNU as makes these bytes of
--- these instructions. A processor made these results and flags of two numbers.
+-- these instructions, and LLVM 22 those with REX2. A processor made these results and flags of two numbers.
 use Rattle.std.specs.Prelude.{◌≡◌, ℕ, ◌+◌, ◌*◌, ◌%◌, ◌==◌, ◌&&◌, Bool, true, false, List, [], ◌∷◌}
 use Rattle.std.specs.Prelude.{if◌then◌else◌}
 use Rattle.std.specs.Prelude.{length, IsTrue, IsSomeAnd, Some}
@@ -104,6 +104,24 @@ Decoding =
     -- `nop`
     × DecodesAs (0x90 ∷ [])
     (nop)
+    -- `mov 0x10(%rip), %r16`
+    × DecodesAs (0xd5 ∷ 0x48 ∷ 0x8b ∷ 0x05 ∷ 0x10 ∷ 0x00 ∷ 0x00 ∷ 0x00 ∷ [])
+    (operate MOV 64 (register 16) (relative 0x10))
+    -- `lea 0x10(%rip), %r25d`
+    × DecodesAs (0xd5 ∷ 0x44 ∷ 0x8d ∷ 0x0d ∷ 0x10 ∷ 0x00 ∷ 0x00 ∷ 0x00 ∷ [])
+    (lea 32 25 0x10)
+    -- `adc 0x10(%rip), %r31`
+    × DecodesAs (0xd5 ∷ 0x4c ∷ 0x13 ∷ 0x3d ∷ 0x10 ∷ 0x00 ∷ 0x00 ∷ 0x00 ∷ [])
+    (operate ADC 64 (register 31) (relative 0x10))
+    -- `test %r24, 0x10(%rip)`
+    × DecodesAs (0xd5 ∷ 0x4c ∷ 0x85 ∷ 0x05 ∷ 0x10 ∷ 0x00 ∷ 0x00 ∷ 0x00 ∷ [])
+    (operate TEST 64 (relative 0x10) (register 24))
+    -- `mov $-8, %r16`
+    × DecodesAs (0xd5 ∷ 0x18 ∷ 0xc7 ∷ 0xc0 ∷ 0xf8 ∷ 0xff ∷ 0xff ∷ 0xff ∷ [])
+    (operate MOV 64 (register 16) (immediate 0xfffffff8))
+    -- `adc $0x12345678, %r31`
+    × DecodesAs (0xd5 ∷ 0x19 ∷ 0x81 ∷ 0xd7 ∷ 0x78 ∷ 0x56 ∷ 0x34 ∷ 0x12 ∷ [])
+    (operate ADC 64 (register 31) (immediate 0x12345678))
 
 -- ---- operations
 

@@ -1,13 +1,14 @@
 //! Laws of rewrites: rewritten instructions compute the same as those before.
 //!
-//! Each function does nothing. Its contract has the laws of one architecture, which are in `specs/`.
+//! Each function does nothing. Its contract has the laws of one architecture. They are in `specs/`.
 #![tactic(auto)]
 
 ghost use Rattle.rewrite_laws.specs.X86Examples as x86_examples;
 ghost use Rattle.rewrite_laws.specs.X86Laws as x86_laws;
 
-/// x86-64: with no prefix and with REX, an instruction that takes an address or an offset from the
-/// GOT, and what a rewrite leaves of it, take every state to the same state.
+/// x86-64: with no prefix, with REX and with REX2, an instruction that takes an address or an offset
+/// from the GOT, and what a rewrite leaves of it, take every state to the same state. The last three
+/// clauses compare the definitions with an assembler and a processor.
 pub fn x86_64()
     ensures loads { x86_laws.LoadsOfAddresses }
     ensures absolute { x86_laws.AbsoluteAddresses }

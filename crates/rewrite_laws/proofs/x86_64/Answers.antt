@@ -67,6 +67,12 @@ returns-clause-decoding c = (
   refl,
   refl,
   refl,
+  refl,
+  refl,
+  refl,
+  refl,
+  refl,
+  refl,
 )
 
 pub returns-clause-results : goal.returns-clause-results
