@@ -5,3 +5,6 @@ pub mod Machine
 pub mod RiscVExamples
 pub mod RiscVLaws
 pub mod RiscVMachine
+pub mod X86Examples
+pub mod X86Laws
+pub mod X86Machine

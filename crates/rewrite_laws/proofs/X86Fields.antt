@@ -1,0 +1,144 @@
+-- What relocated fields come to, as numbers modulo 2 ^ 64.
+use Rattle.std.proofs.Common.{◌≡◌, ℕ, ◌+◌, ◌-◌, ◌*◌, ◌%◌, ◌^◌, refl, sym, ◌∙◌, ap, arith}
+use Rattle.std.proofs.Common.{List, ℤ, pos, negsuc, ◌+ℤ◌, ◌*ℤ◌, inl, inr, unsigned_abs}
+use Rattle.std.specs.Int.{w64, cast_unsigned, int_rem_euclid}
+use Rattle.std.proofs.lemmas.Int.{ints}
+use Rattle.linker_base.specs.Bits.{signed}
+use Rattle.linker_base.specs.Form.{unsigned, twos_complement}
+use Rattle.linker_base.proofs.Pairs.{signed_cases}
+use Rattle.linker_utils.specs.Relocate.{number_of_bytes}
+use Rattle.linker_utils.specs.Rows.{bytes_row, signed_row, unsigned_row}
+use Rattle.linker_utils.specs.Value.{sum_64}
+use Rattle.linker_utils.specs.declared.elf.RelocationKindInfo.{RelocationKindInfo}
+use Rattle.linker_utils.specs.declared.elf.RelocationKind.TheVariants as values
+use Rattle.linker_utils.specs.declared.elf.value.Operands.{Operands}
+use Rattle.relocation_laws.specs.Schemes.{IsAddress, IsApplied, AreAddresses, symbol_address}
+use Rattle.relocation_laws.specs.Schemes.{entry_and_addend}
+use Rattle.relocation_laws.proofs.Fields.{field_adds}
+use Rattle.relocation_laws.proofs.Instructions.{symbol_from_place, symbol_from_tls, symbol_itself}
+use Rattle.relocation_laws.proofs.Instructions.{entry_and_addend_from_place}
+use Rattle.relocation_laws.proofs.Sums.{lifted_is}
+use Rattle.rewrite_laws.specs.X86Machine.{extended}
+
+-- 32 bits in two's complement are some number, less 2 ^ 64
+record IsLifted (f : ℕ) : Type 0 where
+  pub number : ℕ
+  pub is : signed 32 f +ℤ pos (2 ^ 64) ≡ pos number
+  pub low : number % 2 ^ 32 ≡ f % 2 ^ 32
+
+lifted : (f : ℕ) → IsLifted f
+lifted f =
+    elim (signed_cases 32 f) [
+      | inl a ↦
+          let is = a.1 in
+          record {
+            number = f + 2 ^ 64;
+            is = ap (λ z. z +ℤ pos (2 ^ 64)) a.1 ∙ omega (arith, ints);
+            low = omega arith;
+          }
+      | inr a ↦
+          let high = a.0 in
+          record {
+            number = f + (2 ^ 64 - 2 ^ 32);
+            is = ap (λ z. z +ℤ pos (2 ^ 64)) a.1 ∙ omega (arith, ints);
+            low = omega arith;
+          }
+    ]
+
+unsigned_rem : (z : ℤ) (m : ℕ) → z +ℤ pos (2 ^ 64) ≡ pos m
+    → cast_unsigned w64 z % 2 ^ 64 ≡ m % 2 ^ 64
+unsigned_rem (pos a) m e = let same : m ≡ a + 2 ^ 64 = omega (arith, ints) in omega arith
+unsigned_rem (negsuc a) m e = let same : m + a + 1 ≡ 2 ^ 64 = omega (arith, ints) in omega arith
+
+-- an address as the machine computes it
+pub computed : (p f t : ℕ) → IsAddress (pos p +ℤ (signed 32 f *ℤ pos 1)) t
+    → sum_64 p (extended f) ≡ t
+computed p f t h =
+    let l = lifted f in
+    let is = l.is in
+    let there : (p + l.number) % 2 ^ 64 ≡ t =
+    ap unsigned_abs (sym (lifted_is (pos p +ℤ (signed 32 f *ℤ pos 1)) 1 (p + l.number)
+    (added (signed 32 f) p l.number l.is)) ∙ h) in
+    let rem = unsigned_rem (signed 32 f) l.number l.is in
+    omega arith
+  where
+    added : (z : ℤ) (p n : ℕ) → z +ℤ pos (2 ^ 64) ≡ pos n
+        → (pos p +ℤ (z *ℤ pos 1)) +ℤ pos (1 * 2 ^ 64) ≡ pos (p + n)
+    added z p n e = omega (arith, ints)
+
+-- sign-extended, the low 32 bits are the same
+pub extended_low : (f : ℕ) → extended f % 2 ^ 32 ≡ f % 2 ^ 32
+extended_low f =
+    let l = lifted f in
+    let low = l.low in
+    let rem = unsigned_rem (signed 32 f) l.number l.is in
+    omega arith
+
+-- ---- fields
+
+-- the rows of GOTPCRELX, GOTTPOFF, PC32, TPOFF32, 32S and 32
+abbrev pub got_row : RelocationKindInfo
+got_row = signed_row 32 (bytes_row values.GotRelative 4)
+
+abbrev pub tls_got_row : RelocationKindInfo
+tls_got_row = signed_row 32 (bytes_row values.GotTpOff 4)
+
+abbrev pub place_row : RelocationKindInfo
+place_row = signed_row 32 (bytes_row values.Relative 4)
+
+abbrev pub thread_row : RelocationKindInfo
+thread_row = signed_row 32 (bytes_row values.TpOff 4)
+
+abbrev pub signed_immediate : RelocationKindInfo
+signed_immediate = signed_row 32 (bytes_row values.Absolute 4)
+
+abbrev pub unsigned_immediate : RelocationKindInfo
+unsigned_immediate = unsigned_row 32 (bytes_row values.Absolute 4)
+
+module _ (o : Operands) (addresses : AreAddresses o) (before after : List ℕ) where
+  pub entry_field : IsApplied got_row o before after
+      → sum_64 o.place (extended (number_of_bytes 4 after)) ≡ entry_and_addend o
+  entry_field applied =
+      computed o.place (number_of_bytes 4 after) (entry_and_addend o)
+      (field_adds entry_and_addend_from_place twos_complement (λ v old. refl) refl refl
+      (λ o. refl) o addresses 0 before after applied tt)
+
+  pub tls_entry_field : IsApplied tls_got_row o before after
+      → sum_64 o.place (extended (number_of_bytes 4 after)) ≡ entry_and_addend o
+  tls_entry_field applied =
+      computed o.place (number_of_bytes 4 after) (entry_and_addend o)
+      (field_adds entry_and_addend_from_place twos_complement (λ v old. refl) refl refl
+      (λ o. refl) o addresses 0 before after applied tt)
+
+  pub place_field : IsApplied place_row o before after
+      → sum_64 o.place (extended (number_of_bytes 4 after)) ≡ symbol_address o
+  place_field applied =
+      computed o.place (number_of_bytes 4 after) (symbol_address o)
+      (field_adds symbol_from_place twos_complement (λ v old. refl) refl refl
+      (λ o. refl) o addresses 0 before after applied tt)
+
+  pub thread_field : IsApplied thread_row o before after
+      → sum_64 o.tls_base (extended (number_of_bytes 4 after)) ≡ symbol_address o
+  thread_field applied =
+      computed o.tls_base (number_of_bytes 4 after) (symbol_address o)
+      (field_adds symbol_from_tls twos_complement (λ v old. refl) refl refl
+      (λ o. refl) o addresses 0 before after applied tt)
+
+  pub signed_field : IsApplied signed_immediate o before after
+      → sum_64 0 (extended (number_of_bytes 4 after)) ≡ symbol_address o
+  signed_field applied =
+      computed 0 (number_of_bytes 4 after) (symbol_address o)
+      (field_adds symbol_itself twos_complement (λ v old. refl) refl refl
+      (λ o. refl) o addresses 0 before after applied tt)
+
+  pub unsigned_field : IsApplied unsigned_immediate o before after
+      → number_of_bytes 4 after % 2 ^ 64 ≡ symbol_address o
+  unsigned_field applied =
+      let h = field_adds symbol_itself unsigned (λ v old. refl) refl refl
+      (λ o. refl) o addresses 0 before after applied tt in
+      number_is (number_of_bytes 4 after) (symbol_address o) h
+    where
+      number_is : (f t : ℕ) → IsAddress (pos 0 +ℤ (pos f *ℤ pos 1)) t → f % 2 ^ 64 ≡ t
+      number_is f t h =
+          ap unsigned_abs (ap (λ z. int_rem_euclid z (pos (2 ^ 64)))
+          (let e : pos f ≡ pos 0 +ℤ (pos f *ℤ pos 1) = omega (arith, ints) in e) ∙ h)

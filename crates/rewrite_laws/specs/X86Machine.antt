@@ -1,0 +1,369 @@
+-- x86-64: what instructions do that rewrites are for, and those that they leave (Intel 64 and IA-32
+-- Architectures Software Developer's Manual, volume 2, "Instruction Format" and the page of each
+-- instruction). Code isn't part of the memory here.
+use Rattle.std.specs.Prelude.{ℕ, zero, suc, ◌+◌, ◌-◌, ◌*◌, ◌/◌, ◌%◌, ◌^◌, ◌==◌, ◌&&◌, Bool}
+use Rattle.std.specs.Prelude.{true, false, not, if◌then◌else◌, nat_lt, List, [], ◌∷◌, Option, Some}
+use Rattle.std.specs.Prelude.{None, bit_and, bit_or, bit_xor}
+use Rattle.std.specs.Int.{w64, bit_at, byte_at, cast_unsigned}
+use Rattle.linker_base.specs.Bits.{field, signed}
+use Rattle.linker_utils.specs.Relocate.{number_of_bytes}
+use Rattle.linker_utils.specs.Value.{sum_64, difference_64}
+
+-- ---- the state
+
+-- CF, PF, AF, ZF, SF and OF (volume 1, "Status Flags")
+pub record Flags : Type 0 where
+  pub carry : Bool
+  pub parity : Bool
+  pub auxiliary : Bool
+  pub is_zero : Bool
+  pub sign : Bool
+  pub overflow : Bool
+
+-- Registers are by number: 0 is rax, 4 is rsp. Of a register 64 bits are read, of a byte 8.
+pub record State : Type 0 where
+  pub register : ℕ → ℕ
+  -- the address of the instruction
+  pub ip : ℕ
+  -- the bytes by their addresses, below 2 ^ 64
+  pub memory : ℕ → ℕ
+  pub flags : Flags
+
+-- n bytes from an address, as a little-endian number
+abbrev pub load : ℕ → State → ℕ → ℕ
+load zero s address = 0
+load (suc n) s address = s.memory (address % 2 ^ 64) % 2 ^ 8 + 2 ^ 8 * load n s (address + 1)
+
+-- the memory with 8 bytes of a number from an address
+abbrev pub store_8 : ℕ → ℕ → (ℕ → ℕ) → ℕ → ℕ
+store_8 address number memory a =
+    let i = difference_64 a address in
+    if nat_lt i 8 then byte_at i number else memory a
+
+-- the registers with a number in one
+abbrev pub with_register : ℕ → ℕ → (ℕ → ℕ) → ℕ → ℕ
+with_register r number registers k = if k == r then number else registers k
+
+-- ---- operations
+
+pub data Operation : Type 0 where
+  MOV : Operation
+  ADD : Operation
+  OR : Operation
+  ADC : Operation
+  SBB : Operation
+  AND : Operation
+  SUB : Operation
+  XOR : Operation
+  CMP : Operation
+  TEST : Operation
+
+-- all but CMP and TEST write their result
+abbrev pub writes : Operation → Bool
+writes CMP = false
+writes TEST = false
+writes op = true
+
+abbrev pub bit_of : Bool → ℕ
+bit_of b = if b then 1 else 0
+
+-- of n bits, with a carry of 0 or 1
+abbrev pub sum : ℕ → ℕ → ℕ → ℕ → ℕ
+sum n carry a b = (a + b + carry) % 2 ^ n
+
+abbrev pub difference : ℕ → ℕ → ℕ → ℕ → ℕ
+difference n borrow a b = (a + (2 * 2 ^ n - (b + borrow))) % 2 ^ n
+
+-- the number that an operation makes of two of n bits and CF
+abbrev pub result : Operation → ℕ → Flags → ℕ → ℕ → ℕ
+result MOV n f a b = b
+result ADD n f a b = sum n 0 a b
+result OR n f a b = bit_or a b
+result ADC n f a b = sum n (bit_of f.carry) a b
+result SBB n f a b = difference n (bit_of f.carry) a b
+result AND n f a b = bit_and a b
+result SUB n f a b = difference n 0 a b
+result XOR n f a b = bit_xor a b
+result CMP n f a b = difference n 0 a b
+result TEST n f a b = bit_and a b
+
+-- how many of the low k bits are 1
+abbrev pub ones : ℕ → ℕ → ℕ
+ones zero number = 0
+ones (suc k) number = bit_at number k + ones k number
+
+-- PF is of the low byte
+abbrev pub flags_of : ℕ → ℕ → Bool → Bool → Bool → Flags
+flags_of n r carry auxiliary overflow =
+    record {
+      carry = carry;
+      parity = ones 8 r % 2 == 0;
+      auxiliary = auxiliary;
+      is_zero = r == 0;
+      sign = bit_at r (n - 1) == 1;
+      overflow = overflow;
+    }
+
+-- the carry out of bit 3, and the overflow where both operands have one sign, and the result has not
+abbrev pub sum_flags : ℕ → ℕ → ℕ → ℕ → Flags
+sum_flags n carry a b =
+    let r = sum n carry a b in
+    flags_of n r (nat_lt (2 ^ n - 1) (a + b + carry)) (nat_lt 15 (a % 16 + b % 16 + carry))
+    ((bit_at a (n - 1) == bit_at b (n - 1)) && not (bit_at r (n - 1) == bit_at a (n - 1)))
+
+abbrev pub difference_flags : ℕ → ℕ → ℕ → ℕ → Flags
+difference_flags n borrow a b =
+    let r = difference n borrow a b in
+    flags_of n r (nat_lt a (b + borrow)) (nat_lt (a % 16) (b % 16 + borrow))
+    (not (bit_at a (n - 1) == bit_at b (n - 1)) && not (bit_at r (n - 1) == bit_at a (n - 1)))
+
+-- CF and OF are 0; AF, which the manual leaves undefined, is taken as 0
+abbrev pub logic_flags : ℕ → ℕ → Flags
+logic_flags n r = flags_of n r false false false
+
+-- the flags after an operation on two numbers of n bits
+abbrev pub flags_after : Operation → ℕ → Flags → ℕ → ℕ → Flags
+flags_after MOV n f a b = f
+flags_after ADD n f a b = sum_flags n 0 a b
+flags_after OR n f a b = logic_flags n (bit_or a b)
+flags_after ADC n f a b = sum_flags n (bit_of f.carry) a b
+flags_after SBB n f a b = difference_flags n (bit_of f.carry) a b
+flags_after AND n f a b = logic_flags n (bit_and a b)
+flags_after SUB n f a b = difference_flags n 0 a b
+flags_after XOR n f a b = logic_flags n (bit_xor a b)
+flags_after CMP n f a b = difference_flags n 0 a b
+flags_after TEST n f a b = logic_flags n (bit_and a b)
+
+-- ---- instructions
+
+pub data Operand : Type 0 where
+  register : ℕ → Operand
+  -- the memory so far from the next instruction, in 32 bits ("RIP-Relative Addressing")
+  relative : ℕ → Operand
+  -- 32 bits
+  immediate : ℕ → Operand
+
+-- where a branch goes: so far from the next instruction, or to the address that is loaded there
+pub data Target : Type 0 where
+  direct : ℕ → Target
+  indirect : ℕ → Target
+
+pub data Instruction : Type 0 where
+  -- of so many bits, into the first operand
+  operate : Operation → ℕ → Operand → Operand → Instruction
+  -- of so many bits, into a register, the address so far from the next instruction
+  lea : ℕ → ℕ → ℕ → Instruction
+  call : Target → Instruction
+  jump : Target → Instruction
+  nop : Instruction
+
+-- 32 bits, sign-extended to 64
+abbrev pub extended : ℕ → ℕ
+extended number = cast_unsigned w64 (signed 32 number)
+
+-- the number of n bits that an operand is, by the next instruction's address
+abbrev pub operand_value : State → ℕ → ℕ → Operand → ℕ
+operand_value s next n (register r) = s.register r % 2 ^ n
+operand_value s next n (relative d) = load (n / 8) s (sum_64 next (extended d))
+operand_value s next n (immediate i) = extended i % 2 ^ n
+
+-- A result of 32 bits is zero-extended. Nothing here writes to other operands than registers.
+abbrev pub write_operand : Operand → ℕ → State → ℕ → ℕ
+write_operand (register r) number s = with_register r number s.register
+write_operand (relative d) number s = s.register
+write_operand (immediate i) number s = s.register
+
+abbrev pub target_address : State → ℕ → Target → ℕ
+target_address s next (direct d) = sum_64 next (extended d)
+target_address s next (indirect d) = load 8 s (sum_64 next (extended d))
+
+-- the state after an operation on two numbers, of which the first is that of an operand
+abbrev pub perform : Operation → ℕ → Operand → ℕ → ℕ → ℕ → State → State
+perform op n first a b next s =
+    record s {
+      ip = next;
+      register =
+          if writes op then write_operand first (result op n s.flags a b) s else s.register;
+      flags = flags_after op n s.flags a b;
+    }
+
+-- the state after an instruction, by the next one's address
+abbrev pub execute : Instruction → ℕ → State → State
+execute (operate op n first second) next s =
+    perform op n first (operand_value s next n first) (operand_value s next n second) next s
+execute (lea n r d) next s =
+    record s {
+      ip = next;
+      register = with_register r (sum_64 next (extended d) % 2 ^ n) s.register;
+    }
+execute (call target) next s =
+    let top = difference_64 (s.register 4) 8 in
+    record s {
+      ip = target_address s next target;
+      register = with_register 4 top s.register;
+      memory = store_8 top next s.memory;
+    }
+execute (jump target) next s = record s { ip = target_address s next target }
+execute nop next s = record s { ip = next }
+
+-- ---- decoding
+
+-- an instruction with the count of its bytes
+pub record Decoded : Type 0 where
+  pub instruction : Instruction
+  pub size : ℕ
+
+-- What a prefix says: its bytes, the bits of operands, and what is added to the numbers of the
+-- registers that the reg and the rm field name.
+pub record Prefix : Type 0 where
+  pub size : ℕ
+  pub bits : ℕ
+  pub reg : ℕ
+  pub rm : ℕ
+
+abbrev pub no_prefix : Prefix
+no_prefix = record { size = 0; bits = 32; reg = 0; rm = 0 }
+
+-- 0100WRXB ("REX Prefixes")
+abbrev pub is_rex : ℕ → Bool
+is_rex b = field b 4 8 == 4
+
+abbrev pub rex_prefix : ℕ → Prefix
+rex_prefix b =
+    record {
+      size = 1;
+      bits = if bit_at b 3 == 1 then 64 else 32;
+      reg = 8 * bit_at b 2;
+      rm = 8 * bit_at b 0;
+    }
+
+-- the byte after d5: M0 R4 X4 B4 W R3 X3 B3 (Intel Advanced Performance Extensions Architecture
+-- Specification, "REX2 Prefix")
+abbrev pub rex2_prefix : ℕ → Prefix
+rex2_prefix b =
+    record {
+      size = 2;
+      bits = if bit_at b 3 == 1 then 64 else 32;
+      reg = 8 * bit_at b 2 + 16 * bit_at b 6;
+      rm = 8 * bit_at b 0 + 16 * bit_at b 4;
+    }
+
+-- the fields of a ModRM byte ("ModR/M and SIB Bytes")
+abbrev pub mod_of : ℕ → ℕ
+mod_of m = field m 6 8
+
+abbrev pub reg_of : ℕ → ℕ
+reg_of m = field m 3 6
+
+abbrev pub rm_of : ℕ → ℕ
+rm_of m = field m 0 3
+
+-- mod 00 and rm 101
+abbrev pub is_relative : ℕ → Bool
+is_relative m = (mod_of m == 0) && (rm_of m == 5)
+
+-- mod 11
+abbrev pub is_register : ℕ → Bool
+is_register m = mod_of m == 3
+
+-- the operations of opcodes 00 to 3f, and of 81, by number ("Opcode Extensions", group 1)
+abbrev pub group_1 : ℕ → Option Operation
+group_1 k =
+    if k == 0 then Some ADD
+    else (if k == 1 then Some OR
+    else (if k == 2 then Some ADC
+    else (if k == 3 then Some SBB
+    else (if k == 4 then Some AND
+    else (if k == 5 then Some SUB
+    else (if k == 6 then Some XOR
+    else (if k == 7 then Some CMP
+    else None)))))))
+
+-- an opcode of which the first operand is the register, and the second is that of mod and rm
+abbrev pub operation_of : ℕ → Option Operation
+operation_of opcode =
+    if opcode == 0x8b then Some MOV
+    else (if opcode % 8 == 3 then group_1 (opcode / 8)
+    else None)
+
+-- an opcode of which the first is that of mod and rm, and the second is an immediate of 32 bits
+abbrev pub immediate_operation : ℕ → ℕ → Option Operation
+immediate_operation opcode k =
+    if opcode == 0x81 then group_1 k
+    else (if (opcode == 0xc7) && (k == 0) then Some MOV
+    else (if (opcode == 0xf7) && (k == 0) then Some TEST
+    else None))
+
+-- an instruction after its prefix, with as many bytes after that
+abbrev pub sized : Prefix → ℕ → Instruction → Option Decoded
+sized p n instruction = Some (record { instruction = instruction; size = p.size + n })
+
+abbrev pub on_relative : Prefix → ℕ → Option Operation → List ℕ → Option Decoded
+on_relative p m None rest = None
+on_relative p m (Some op) rest =
+    sized p 6
+    (operate op p.bits (register (reg_of m + p.reg)) (relative (number_of_bytes 4 rest)))
+
+abbrev pub on_immediate : Prefix → ℕ → Option Operation → List ℕ → Option Decoded
+on_immediate p m None rest = None
+on_immediate p m (Some op) rest =
+    sized p 6 (operate op p.bits (register (rm_of m + p.rm)) (immediate (number_of_bytes 4 rest)))
+
+-- by the opcode, the ModRM byte with mod 00 and rm 101, and the bytes after it: TEST by 85, LEA, CALL
+-- and JMP by ff, and the operations
+abbrev pub decode_relative : Prefix → ℕ → ℕ → List ℕ → Option Decoded
+decode_relative p opcode m rest =
+    let d = number_of_bytes 4 rest in
+    if opcode == 0x85
+    then sized p 6 (operate TEST p.bits (relative d) (register (reg_of m + p.reg)))
+    else (if opcode == 0x8d then sized p 6 (lea p.bits (reg_of m + p.reg) d)
+    else (if (opcode == 0xff) && (reg_of m == 2) then sized p 6 (call (indirect d))
+    else (if (opcode == 0xff) && (reg_of m == 4) then sized p 6 (jump (indirect d))
+    else on_relative p m (operation_of opcode) rest)))
+
+abbrev pub decode_modrm : Prefix → ℕ → List ℕ → Option Decoded
+decode_modrm p opcode [] = None
+decode_modrm p opcode (m ∷ rest) =
+    if is_relative m then decode_relative p opcode m rest
+    else (if is_register m then on_immediate p m (immediate_operation opcode (reg_of m)) rest
+    else None)
+
+abbrev pub decode_opcode : Prefix → List ℕ → Option Decoded
+decode_opcode p [] = None
+decode_opcode p (opcode ∷ rest) = decode_modrm p opcode rest
+
+-- with no prefix: CALL and JMP by e8 and e9, NOP by 90, and those with a ModRM byte
+abbrev pub decode_plain : ℕ → List ℕ → Option Decoded
+decode_plain opcode rest =
+    if opcode == 0xe8 then sized no_prefix 5 (call (direct (number_of_bytes 4 rest)))
+    else (if opcode == 0xe9 then sized no_prefix 5 (jump (direct (number_of_bytes 4 rest)))
+    else (if opcode == 0x90 then sized no_prefix 1 nop
+    else decode_modrm no_prefix opcode rest))
+
+-- The address-size prefix 67 changes nothing of CALL by e8, the only opcode after it here.
+abbrev pub decode_addr32 : List ℕ → Option Decoded
+decode_addr32 [] = None
+decode_addr32 (opcode ∷ rest) =
+    if opcode == 0xe8 then sized no_prefix 6 (call (direct (number_of_bytes 4 rest))) else None
+
+-- after d5, with opcode map 0 (M0)
+abbrev pub decode_rex2 : List ℕ → Option Decoded
+decode_rex2 [] = None
+decode_rex2 (b ∷ rest) = if bit_at b 7 == 0 then decode_opcode (rex2_prefix b) rest else None
+
+-- the instruction that bytes begin with; none where it isn't one of these
+abbrev pub decode : List ℕ → Option Decoded
+decode [] = None
+decode (b ∷ bytes) =
+    if is_rex b then decode_opcode (rex_prefix b) bytes
+    else (if b == 0xd5 then decode_rex2 bytes
+    else (if b == 0x67 then decode_addr32 bytes
+    else decode_plain b bytes))
+
+abbrev pub execute_decoded : Option Decoded → State → Option State
+execute_decoded None s = None
+execute_decoded (Some d) s = Some (execute d.instruction (sum_64 s.ip d.size) s)
+
+-- the state after the instruction that bytes begin with
+abbrev pub step : List ℕ → State → Option State
+step bytes s = execute_decoded (decode bytes) s
