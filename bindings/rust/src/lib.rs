@@ -352,11 +352,7 @@ pub fn relocation(architecture: Architecture, r_type: u32) -> Result<RelocationI
 }
 
 /// The value of a relocation, by the formula of its kind.
-pub fn value(
-    architecture: Architecture,
-    r_type: u32,
-    operands: &Operands,
-) -> Result<i64, Status> {
+pub fn value(architecture: Architecture, r_type: u32, operands: &Operands) -> Result<i64, Status> {
     let mut value = 0;
     let status =
         unsafe { raw::linker_utils_value(architecture.machine(), r_type, operands, &mut value) };

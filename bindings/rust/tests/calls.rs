@@ -402,7 +402,10 @@ fn rejects_rewrites() {
             );
             let meant = raw::linker_utils_matches_nonnull(machine, rewrite, 0, at, 4, 0);
             let next = raw::linker_utils_next_modifier(machine, rewrite, 0, &mut modifier);
-            assert_eq!([can, done, meant, next, modifier], [status, status, status, status, 9]);
+            assert_eq!(
+                [can, done, meant, next, modifier],
+                [status, status, status, status, 9]
+            );
         }
     }
     assert_eq!((section, offset, addend), ([0x41, 0, 0x40, 0xf9], 0, 7));
@@ -423,9 +426,80 @@ fn tells_what_a_rewrite_is_meant_for() {
     assert_eq!(matches(RiscVRewrite::TailToJal, &tail, 0), Ok(()));
     assert_eq!(matches(RiscVRewrite::TailToJal, &tail, u64::MAX), no_match);
     // `mov x@GOTPCREL(%rip), %rbx`, and `lea`
-    let (mov, lea) = ([0x48, 0x8b, 0x1d, 0, 0, 0, 0], [0x48, 0x8d, 0x1d, 0, 0, 0, 0]);
+    let (mov, lea) = (
+        [0x48, 0x8b, 0x1d, 0, 0, 0, 0],
+        [0x48, 0x8d, 0x1d, 0, 0, 0, 0],
+    );
     assert_eq!(matches(X86_64Rewrite::MovIndirectToLea, &mov, 3), Ok(()));
     assert_eq!(matches(X86_64Rewrite::MovIndirectToLea, &lea, 3), no_match);
+}
+
+#[test]
+fn choices_are_by_what_the_linker_knows() {
+    let mut facts = LinkFacts {
+        is_local: true,
+        has_fixed_distance: true,
+        ..LinkFacts::default()
+    };
+    // `call *f@GOTPCREL(%rip)` with R_X86_64_GOTPCRELX becomes `addr32 call f` with R_X86_64_PC32
+    let call = [0xff, 0x15, 0, 0, 0, 0];
+    facts.operands.addend = -4;
+    let unchanged = |rewrite: Rewrite, relocation| Choice {
+        rewrite,
+        relocation,
+        modifier: Modifier::Normal,
+        deleted: 0..0,
+    };
+    let direct = unchanged(X86_64Rewrite::CallIndirectToRelative.into(), 2);
+    let no_op = unchanged(X86_64Rewrite::NoOp.into(), 41);
+    assert_eq!(
+        choose(Architecture::X86_64, 41, &call, 2, &facts),
+        Ok(direct)
+    );
+    assert_eq!(
+        choose(Architecture::X86_64, 41, &call, 3, &facts),
+        Ok(no_op.clone())
+    );
+    facts.is_local = false;
+    assert_eq!(
+        choose(Architecture::X86_64, 41, &call, 2, &facts),
+        Ok(no_op)
+    );
+
+    // `auipc t1` and `jalr zero, t1` with R_RISCV_CALL_PLT become `c.j`, with R_RISCV_RVC_JUMP: the
+    // R_RISCV_RELAX after it is skipped, and six bytes are deleted
+    let tail = [0x17, 0x03, 0, 0, 0x67, 0x00, 0x03, 0];
+    facts.operands = Operands {
+        symbol: 0x1800,
+        place: 0x1002,
+        plt_entry: 0x1800,
+        ..Operands::default()
+    };
+    facts.has_addresses = true;
+    facts.is_marked = true;
+    facts.may_compress = true;
+    let jump = Choice {
+        rewrite: RiscVRewrite::TailToCJ.into(),
+        relocation: 45,
+        modifier: Modifier::SkipNextRelocation,
+        deleted: 2..8,
+    };
+    assert_eq!(choose(Architecture::RiscV, 19, &tail, 0, &facts), Ok(jump));
+    facts.operands.place = 0x1000; // 2 bytes out of reach
+    let jal = choose(Architecture::RiscV, 19, &tail, 0, &facts).map(|choice| choice.rewrite);
+    assert_eq!(jal, Ok(RiscVRewrite::TailToJal.into()));
+
+    // of LoongArch and PowerPC64 nothing is rewritten
+    let same = unchanged(LoongArch64Rewrite::NoOp.into(), 66);
+    assert_eq!(
+        choose(Architecture::LoongArch64, 66, &[0; 8], 0, &facts),
+        Ok(same)
+    );
+    let same = unchanged(Ppc64Rewrite::NoOp.into(), 10);
+    assert_eq!(
+        choose(Architecture::Ppc64, 10, &[0; 8], 0, &facts),
+        Ok(same)
+    );
 }
 
 #[test]
@@ -677,14 +751,14 @@ fn jumps_link_the_register_that_gnu_ld_takes() {
     ];
     for ([auipc, jalr], distance, jump) in rows {
         let mut section = bytes_of(&[auipc, jalr]);
-        assert_eq!(jal_site_with(&mut section, 0, distance, LinkRegister::OfJalr), Ok(()));
+        assert_eq!(
+            jal_site_with(&mut section, 0, distance, LinkRegister::OfJalr),
+            Ok(())
+        );
         assert_eq!(section, bytes_of(&[jump, jalr]));
     }
     let before = bytes_of(&[0x0000_0317, 0x0002_0067]);
-    for (site, distance, status) in [
-        (1, 9, Status::OutOfSection),
-        (0, 9, Status::NotACall),
-    ] {
+    for (site, distance, status) in [(1, 9, Status::OutOfSection), (0, 9, Status::NotACall)] {
         let mut section = before.clone();
         let error = jal_site_with(&mut section, site, distance, LinkRegister::OfJalr);
         assert_eq!(error, Err(status));

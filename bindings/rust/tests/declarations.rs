@@ -97,6 +97,8 @@ fn type_of_c(text: &str) -> String {
         "struct linker_utils_block_head" => "BlockHead",
         "struct linker_utils_relocation_info" => "RelocationInfo",
         "struct linker_utils_operands" => "Operands",
+        "struct linker_utils_link_facts" => "LinkFacts",
+        "struct linker_utils_choice" => "Choice",
         "struct linker_utils_relocation_reach" => "Reach",
         "struct linker_utils_relocation_entry" => "Relocation",
         other => panic!("the header has a type {other}"),
@@ -203,6 +205,8 @@ fn as_passed(kind: &str) -> Passed {
     let element = |kind: &str| match kind.trim() {
         "RelaxDelta" => "Delta".to_string(),
         "RelocationNumbers" => "RelocationInfo".to_string(),
+        "LinkFactNumbers" => "LinkFacts".to_string(),
+        "ChoiceNumbers" => "Choice".to_string(),
         other => other.to_string(),
     };
     if kind == "Global" {
@@ -573,10 +577,7 @@ fn the_statuses_say_the_same() {
         };
         assert_eq!(printed[&number.to_string()], text);
     }
-    let of_library = documented(
-        &repository("crates/linker_utils_c/src/status.rt"),
-        "Status",
-    );
+    let of_library = documented(&repository("crates/linker_utils_c/src/status.rt"), "Status");
     assert_eq!(of_library["Success"], printed["0"]);
     for status in Status::ALL {
         assert_eq!(of_library[&format!("{status:?}")], status.to_string());
@@ -586,7 +587,11 @@ fn the_statuses_say_the_same() {
 /// The documentation of each variant of an enum of the proved library's.
 fn documented(source: &str, name: &str) -> BTreeMap<String, String> {
     let body = source.split(&format!("pub enum {name} {{")).nth(1);
-    let body = body.expect("the enum").split("\n}").next().expect("its end");
+    let body = body
+        .expect("the enum")
+        .split("\n}")
+        .next()
+        .expect("its end");
     let (mut found, mut sentence) = (BTreeMap::new(), Vec::new());
     for line in body.lines().map(str::trim).filter(|line| !line.is_empty()) {
         match line.strip_prefix("/// ") {
@@ -649,6 +654,13 @@ fn the_structs_are_those_of_the_library() {
         "linker_utils_operands": Operands {
             symbol, addend, place, got_entry, got_base, plt_entry, symbol_size, tls_base,
         }
+        "linker_utils_link_facts": raw::LinkFacts {
+            is_local, is_ifunc, is_undefined_weak, has_fixed_address, has_fixed_distance,
+            is_executable, has_local_exec_base, may_compress, is_marked, has_addresses, operands,
+        }
+        "linker_utils_choice": raw::Choice {
+            rewrite, relocation, modifier, deleted_len, deleted_start, n,
+        }
         "linker_utils_relocation_reach": raw::Reach { min, max, has_range, }
         "linker_utils_relocation_entry": Relocation { offset, value, r_type, }
     };
@@ -668,6 +680,8 @@ fn the_structs_are_those_of_the_library() {
         ("linker_utils_delta", "RelaxDelta"),
         ("linker_utils_relocation_info", "RelocationNumbers"),
         ("linker_utils_operands", "Operands"),
+        ("linker_utils_link_facts", "LinkFactNumbers"),
+        ("linker_utils_choice", "ChoiceNumbers"),
         ("linker_utils_relocation_reach", "Reach"),
         ("linker_utils_relocation_entry", "Relocation"),
     ] {

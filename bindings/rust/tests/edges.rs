@@ -12,7 +12,10 @@ fn written(
 ) -> Result<Vec<u8>, Status> {
     let mut bytes = before.to_vec();
     let outcome = relocate(architecture, r_type, value, &mut bytes);
-    assert!(outcome.is_ok() || bytes == before, "a rejected write has written");
+    assert!(
+        outcome.is_ok() || bytes == before,
+        "a rejected write has written"
+    );
     outcome.map(|()| bytes)
 }
 
@@ -80,7 +83,12 @@ fn got_entries_of_ppc64_take_no_second_addend() {
         ..Operands::default()
     };
     assert_eq!(value(Architecture::Ppc64, 133, &operands), Ok(130144));
-    let pair = written(Architecture::Ppc64, 133, 130144, &0xe460_0000_0410_0000u64.to_le_bytes());
+    let pair = written(
+        Architecture::Ppc64,
+        133,
+        130144,
+        &0xe460_0000_0410_0000u64.to_le_bytes(),
+    );
     assert_eq!(pair, Ok(0xe460_fc60_0410_0001u64.to_le_bytes().to_vec()));
     // `ld 5, x@got@tprel+8(2)`
     let operands = Operands {
@@ -90,7 +98,10 @@ fn got_entries_of_ppc64_take_no_second_addend() {
         ..Operands::default()
     };
     assert_eq!(value(Architecture::Ppc64, 87, &operands), Ok(-32744));
-    assert_eq!(word(Architecture::Ppc64, 87, -32744, 0xe8a2_0000), Ok(0xe8a2_8018));
+    assert_eq!(
+        word(Architecture::Ppc64, 87, -32744, 0xe8a2_0000),
+        Ok(0xe8a2_8018)
+    );
 }
 
 #[test]
@@ -126,5 +137,8 @@ fn the_first_of_a_uleb128_pair_is_not_relative() {
     };
     // `R_RISCV_SET_ULEB128` and `R_LARCH_ADD_ULEB128`
     assert_eq!(value(Architecture::RiscV, 60, &operands), Ok(0x11008));
-    assert_eq!(value(Architecture::LoongArch64, 107, &operands), Ok(0x11008));
+    assert_eq!(
+        value(Architecture::LoongArch64, 107, &operands),
+        Ok(0x11008)
+    );
 }

@@ -34,7 +34,12 @@ fn merge_too_many() {
     // the last lies before all others, and then begins where the first does
     for (offset, mergeable, status, index) in [
         (0, Ok(()), Status::OutOfMemory, None),
-        (1, Err(Status::NotMergeable), Status::NotMergeable, Some(COUNT - 1)),
+        (
+            1,
+            Err(Status::NotMergeable),
+            Status::NotMergeable,
+            Some(COUNT - 1),
+        ),
     ] {
         deletions[COUNT - 1].offset = offset;
         assert_eq!(deltas_is_mergeable(&[], deletions), mergeable);
