@@ -1,3 +1,5 @@
+pub mod AArch64Alike
+pub mod AArch64Choices
 pub mod AArch64Forms
 pub mod AArch64Moves
 pub mod AArch64Rewrites

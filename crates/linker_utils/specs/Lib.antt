@@ -1,4 +1,5 @@
 pub mod AArch64
+pub mod AArch64Choices
 pub mod AArch64Originals
 pub mod AArch64Relocations
 pub mod Agrees

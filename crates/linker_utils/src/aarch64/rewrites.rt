@@ -74,7 +74,7 @@ pub enum RelaxationKind {
 
 /// The instruction at an offset of the section.
 #[inline(always)]
-fn word_at(section: &[u8], offset: u64) -> u32
+pub(super) fn word_at(section: &[u8], offset: u64) -> u32
     requires { offset + 4 ≤ length section.now }
     ensures { result ≡ from_le_bytes w32 (take 4 (drop offset section.now)) }
 {
@@ -92,14 +92,14 @@ pub(super) fn put_word(section: &mut [u8], offset: u64, word: u32)
 }
 
 #[inline(always)]
-fn destination(word: u32) -> u32
+pub(super) fn destination(word: u32) -> u32
     ensures { result ≡ rd_of word }
 {
     word & 0x1f
 }
 
 #[inline(always)]
-fn source(word: u32) -> u32
+pub(super) fn source(word: u32) -> u32
     ensures { result ≡ rn_of word }
 {
     word >> 5 & 0x1f
@@ -107,7 +107,7 @@ fn source(word: u32) -> u32
 
 /// `adrp xD`.
 #[inline(always)]
-fn is_adrp(word: u32) -> bool
+pub(super) fn is_adrp(word: u32) -> bool
     ensures { IsTrue result ↔ IsAdrp word }
 {
     word & 0x9f00_0000 == 0x9000_0000
@@ -115,7 +115,7 @@ fn is_adrp(word: u32) -> bool
 
 /// `add xD, xN, #imm`, whose immediate isn't shifted.
 #[inline(always)]
-fn is_add64(word: u32) -> bool
+pub(super) fn is_add64(word: u32) -> bool
     ensures { IsTrue result ↔ IsAdd64 word }
 {
     word & 0xffc0_0000 == 0x9100_0000
@@ -123,7 +123,7 @@ fn is_add64(word: u32) -> bool
 
 /// `ldr xD, [xN, #imm]`, whose offset is unsigned.
 #[inline(always)]
-fn is_ldr64(word: u32) -> bool
+pub(super) fn is_ldr64(word: u32) -> bool
     ensures { IsTrue result ↔ IsLdr64 word }
 {
     word >> 22 == 0x3e5
@@ -140,7 +140,7 @@ fn is_into_own_source(word: u32) -> bool
 
 /// Whether the words are `adrp xN` and an instruction from xN into xN.
 #[inline(always)]
-fn are_of_one_register(adrp: u32, word: u32) -> bool
+pub(super) fn are_of_one_register(adrp: u32, word: u32) -> bool
     ensures { IsTrue result ↔ AreOfOneRegister adrp word }
 {
     is_adrp(adrp) && is_into_own_source(word) && destination(adrp) == destination(word)
