@@ -1,6 +1,7 @@
 //! AArch64: words that LLVM 19.1.7's and GNU binutils 2.40's assemblers and linkers wrote, and
 //! worked values.
 
+mod choices;
 mod fields;
 mod moves;
 mod offsets;
