@@ -1,6 +1,6 @@
 -- The relocations of a pair or of a sequence are chosen alike: each by one condition, and by another
 -- one if that doesn't hold, of the place of the first.
-use Rattle.std.proofs.Common.{◌≡◌, ◌↔◌, ◌<◌, ◌≤◌, inl, inr, ℕ, ◌+◌, ◌-◌, ◌%◌, ◌^◌, List, [], ◌∷◌, ap, sym, refl, subst, arith}
+use Rattle.std.proofs.Common.{◌≡◌, ◌↔◌, ◌<◌, ◌≤◌, inl, inr, ℕ, ◌+◌, ◌-◌, ◌%◌, ◌^◌, List, [], ◌∷◌, ap, sym, subst, arith}
 use Rattle.std.specs.Prelude.{◌⊎◌}
 use Rattle.linker_utils.specs.AArch64Choices.{IsDescriptorSequence, IsOfDescriptor, to_address, to_local_exec, to_initial_exec, IsEntryLoad, AArch64Applies, AArch64Choice, AArch64Entry, IsAskedFor, erased, descriptor_entries, facts_on, GotPairIsChosenAlike, InitialExecPairIsChosenAlike, DescriptorIsChosenAlike}
 use Rattle.linker_utils.specs.AArch64Originals.{aarch64_matches}
@@ -10,7 +10,6 @@ use Rattle.linker_utils.specs.declared.aarch64.relocations.AArch64Relocation.{AA
 use Rattle.linker_utils.specs.declared.aarch64.relocations.AArch64Relocation.TheVariants as r
 use Rattle.linker_utils.specs.declared.aarch64.rewrites.RelaxationKind.TheVariants.{NoOp, MovzX0Lsl16, MovkX0, MovzXnLsl16, MovkXn, AdrpX0, LdrX0, LdrToAdd}
 use Rattle.linker_utils.specs.declared.elf.choice.LinkFacts.{LinkFacts}
-use Rattle.linker_utils.specs.declared.elf.value.Operands.{Operands}
 use Rattle.linker_utils.proofs.AArch64Choices.{AppliesAt, applies_of, of_applies, load_matches_add, load_matches_movk, load_matches_movz, adrp_matches, ldr_matches, nop_matches}
 
 -- a choice by a condition

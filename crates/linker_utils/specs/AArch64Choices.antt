@@ -53,6 +53,7 @@ pub record IsDescriptorSequence (section : List ℕ) (o : ℕ) : Type 0 where
 abbrev pub IsOfDescriptor : ℕ → List ℕ → ℕ → Type 0
 IsOfDescriptor back section o = (back ≤ o) × IsDescriptorSequence section (o - back)
 
+-- `b`
 abbrev pub IsBranch : ℕ → Type 0
 IsBranch word = word / 2 ^ 26 ≡ 0x05
 
