@@ -68,7 +68,8 @@ riscv_entries name = []
 -- ---- which entry is chosen
 
 -- what the entry's rewrite is meant for is at the offset, and the conditions hold
-pub record AppliesToRiscV (section : List ℕ) (o : ℕ) (facts : LinkFacts) (e : RiscVEntry) : Type 0 where
+pub record AppliesToRiscV (section : List ℕ) (o : ℕ) (facts : LinkFacts) (e : RiscVEntry)
+    : Type 0 where
   pub matches : riscv_matches e.kind section o
   pub conditions :
       AllHold riscv_row_of (operands_after (riscv_rewrite e.kind) o facts.operands) facts
