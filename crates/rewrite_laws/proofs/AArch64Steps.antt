@@ -159,3 +159,22 @@ alike_once n u v v2 s same =
       memory = refl;
       thread_pointer = refl;
     }
+
+pub alike_before : (n u v v2 : ℕ) (s : State) → v ≡ v2
+    → AreAlikeBut (λ _. false) (set n v (set n u s)) (go_on (set n v2 s))
+alike_before n u v v2 s same =
+    record {
+      registers = λ m any. once_counts (eqb m n) u v v2 (s.registers m) same;
+      pc = refl;
+      memory = refl;
+      thread_pointer = refl;
+    }
+
+pub alike_itself : (differing : ℕ → Bool) (s : State) → AreAlikeBut differing s s
+alike_itself differing s =
+    record {
+      registers = λ n any. refl;
+      pc = refl;
+      memory = refl;
+      thread_pointer = refl;
+    }
