@@ -3,7 +3,7 @@ use Rattle.std.proofs.Common.{◌≡◌, ◌≢◌, ℕ, ◌^◌, ◌<◌, sym, 
 use Rattle.std.proofs.Common.{take, drop, [], ◌∷◌, ◌+◌, ◌*◌, refl, arith}
 use Rattle.std.specs.Int.{w32, from_le_bytes, to_le_bytes, w64}
 use Rattle.std.proofs.lemmas.Nat.{from_le_bytes-to_le_bytes_4}
-use Rattle.linker_utils.specs.AArch64.{aarch64_form, nop}
+use Rattle.linker_utils.specs.AArch64.{aarch64_form, nop, rn_of}
 use Rattle.linker_utils.specs.LoongArch.{page}
 use Rattle.linker_utils.specs.declared.aarch64.forms.AArch64Instruction.TheVariants.{Adr, Add, LdSt}
 use Rattle.linker_utils.specs.declared.elf.value.Operands.{Operands}
@@ -12,7 +12,7 @@ use Rattle.relocation_laws.specs.Schemes.{IsAddress}
 use Rattle.relocation_laws.proofs.Sums.{once}
 use Rattle.rewrite_laws.specs.AArch64Laws.{word_of}
 use Rattle.rewrite_laws.specs.AArch64Machine.{State, step, in_64_bits, load_64, adrp_address}
-use Rattle.rewrite_laws.specs.AArch64Machine.{loaded, added, add, ldr}
+use Rattle.rewrite_laws.specs.AArch64Machine.{loaded, added, add, ldr, adr_address}
 use Rattle.rewrite_laws.proofs.AArch64Steps.{set, step_adrp, step_ldr, step_add, in_two_steps}
 use Rattle.rewrite_laws.proofs.AArch64Steps.{loaded_from, address_is, read_back}
 use Rattle.rewrite_laws.proofs.AArch64Words.{IsAdrOf, IsOf, decodes_adrp}
@@ -77,6 +77,17 @@ word_made f before after small is =
     word_is (f (word_of before)) after small
     (is ∙ ap (λ x. to_le_bytes w32 (f x)) (front_word before))
 
+-- what `ldr` of register n, which `adrp` has written, loads
+pub entry_loaded : (o : Operands) (n x y entry : ℕ) (s : State) → rn_of y ≡ n → s.pc ≡ o.place
+    → IsAddress (page_and_offset LdSt 8 o x y) entry
+    → loaded y (set n (adrp_address x s) s) ≡ load_64 s.memory entry
+entry_loaded o n x y entry s rn at leads =
+    loaded_from y n (pos (page s.pc) +ℤ ((aarch64_form Adr).machine x *ℤ pos 4096)) s rn
+    ∙ ap (λ p. load_64 s.memory
+    (in_64_bits ((pos (page p) +ℤ ((aarch64_form Adr).machine x *ℤ pos 4096))
+    +ℤ ((aarch64_form LdSt).machine y *ℤ pos 8)))) at
+    ∙ ap (load_64 s.memory) (address_is _ _ leads)
+
 -- `adrp xN` and `ldr xD, [xN]` leave a value in register d.
 pub record Loads (n d x y value : ℕ) (s : State) : Type 0 where
   pub first : step x s ≡ Some (set n (adrp_address x s) s)
@@ -92,13 +103,7 @@ loads o n d x y entry s first second named named2 at leads =
     record {
       first = step_adrp x n s (decodes_adrp x first.opcode first.top) first.rd_is named;
       second = step_ldr y d t second.decodes second.rd_is named2;
-      value_is =
-          loaded_from y n (pos (page s.pc) +ℤ ((aarch64_form Adr).machine x *ℤ pos 4096)) s
-          second.rn_is
-          ∙ ap (λ p. load_64 s.memory
-          (in_64_bits ((pos (page p) +ℤ ((aarch64_form Adr).machine x *ℤ pos 4096))
-          +ℤ ((aarch64_form LdSt).machine y *ℤ pos 8)))) at
-          ∙ ap (load_64 s.memory) (address_is _ _ leads);
+      value_is = entry_loaded o n x y entry s second.rn_is at leads;
     }
 
 -- what an ADD of register n, which `adrp` has written, comes to
@@ -113,6 +118,14 @@ adds_up o x y target s at leads =
     ∙ ap (λ z. in_64_bits ((pos (page o.place) +ℤ ((aarch64_form Adr).machine x *ℤ pos 4096)) +ℤ z))
     (sym (once ((aarch64_form Add).machine y)))
     ∙ address_is _ _ leads
+
+pub page_added : (o : Operands) (n x y target : ℕ) (s : State) → rn_of y ≡ n → s.pc ≡ o.place
+    → IsAddress (page_and_offset Add 1 o x y) target
+    → added y (set n (adrp_address x s) s) ≡ target
+page_added o n x y target s rn at leads =
+    ap (λ v. in_64_bits (pos v +ℤ (aarch64_form Add).machine y))
+    (read_back n (adrp_address x s) _ s rn)
+    ∙ adds_up o x y target s at leads
 
 -- `adrp xN` and `add xN, xN` leave a value in register n.
 pub record Adds (n x y value : ℕ) (s : State) : Type 0 where
@@ -129,8 +142,14 @@ adds_pair o n x y target s first second named at leads =
     record {
       first = step_adrp x n s (decodes_adrp x first.opcode first.top) first.rd_is named;
       second = step_add y n t second.decodes second.rd_is;
-      value_is =
-          ap (λ v. in_64_bits (pos v +ℤ (aarch64_form Add).machine y))
-          (read_back n (adrp_address x s) _ s second.rn_is)
-          ∙ adds_up o x y target s at leads;
+      value_is = page_added o n x y target s second.rn_is at leads;
     }
+
+-- what `adr` comes to
+pub adr_is : (o : Operands) (y target : ℕ) (s : State) → s.pc ≡ o.place
+    → IsAddress (pos o.place +ℤ ((aarch64_form Adr).machine y *ℤ pos 1)) target
+    → adr_address y s ≡ target
+adr_is o y target s at leads =
+    ap (λ q. in_64_bits (pos q +ℤ (aarch64_form Adr).machine y)) at
+    ∙ ap (λ z. in_64_bits (pos o.place +ℤ z)) (sym (once ((aarch64_form Adr).machine y)))
+    ∙ address_is _ _ leads

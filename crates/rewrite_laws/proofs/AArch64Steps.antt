@@ -6,7 +6,7 @@ use Rattle.std.specs.Prelude.{IsSomeAnd}
 use Rattle.std.proofs.lemmas.Bool.{eq-eqb, ne_eqb, cond-true, cond-false}
 use Rattle.std.proofs.lemmas.Int.{ints}
 use Rattle.linker_utils.specs.AArch64.{rd_of, rn_of, aarch64_form}
-use Rattle.linker_utils.specs.declared.aarch64.forms.AArch64Instruction.TheVariants.{Add, LdSt}
+use Rattle.linker_utils.specs.declared.aarch64.forms.AArch64Instruction.TheVariants.{LdSt}
 use Rattle.relocation_laws.specs.Schemes.{IsAddress}
 use Rattle.relocation_laws.proofs.Sums.{lift, lifted_is}
 use Rattle.rewrite_laws.specs.AArch64Machine.{State, step, run, decode, in_64_bits, write_x}
@@ -129,14 +129,7 @@ alike_twice n u v u2 v2 s same =
 
 -- ---- sums of a pair
 
--- a sum of a register that holds a sum
-pub added_to : (y n : ℕ) (a : ℤ) (s : State) → rn_of y ≡ n
-    → added y (set n (in_64_bits a) s) ≡ in_64_bits (a +ℤ (aarch64_form Add).machine y)
-added_to y n a s rn =
-    ap (λ v. in_64_bits (pos v +ℤ (aarch64_form Add).machine y))
-    (read_back n (in_64_bits a) (rn_of y) s rn)
-    ∙ in_two_steps a ((aarch64_form Add).machine y)
-
+-- what is loaded from a register that holds a sum
 pub loaded_from : (y n : ℕ) (a : ℤ) (s : State) → rn_of y ≡ n
     → loaded y (set n (in_64_bits a) s)
     ≡ load_64 s.memory (in_64_bits (a +ℤ ((aarch64_form LdSt).machine y *ℤ pos 8)))
@@ -155,6 +148,25 @@ pub alike_once : (n u v v2 : ℕ) (s : State) → v ≡ v2
 alike_once n u v v2 s same =
     record {
       registers = λ m any. once_counts (eqb m n) u v v2 (s.registers m) same;
+      pc = refl;
+      memory = refl;
+      thread_pointer = refl;
+    }
+
+pub alike_before : (n u v v2 : ℕ) (s : State) → v ≡ v2
+    → AreAlikeBut (λ _. false) (set n v (set n u s)) (go_on (set n v2 s))
+alike_before n u v v2 s same =
+    record {
+      registers = λ m any. once_counts (eqb m n) u v v2 (s.registers m) same;
+      pc = refl;
+      memory = refl;
+      thread_pointer = refl;
+    }
+
+pub alike_itself : (differing : ℕ → Bool) (s : State) → AreAlikeBut differing s s
+alike_itself differing s =
+    record {
+      registers = λ n any. refl;
       pc = refl;
       memory = refl;
       thread_pointer = refl;

@@ -76,6 +76,57 @@ masked_field x m r s e tested ones =
     sym (ap (λ n. bit_at n w) (sym tested) ∙ bit_at_and x m w ∙ ap (λ b. min (bit_at x w) b) set
     ∙ one))
 
+-- the bits of a word where a mask has ones
+pub unmasked_field : (x m s e : ℕ) → field m s e ≡ 2 ^ (e - s) - 1
+    → field (bit_and x m) s e ≡ field x s e
+unmasked_field x m s e ones = sym (masked_field x m (bit_and x m) s e refl ones)
+
+-- a bit where the mask has 1, and one where it has 0
+kept_bit : (x m i : ℕ) → bit_at m i ≡ 1 → bit_at (bit_and x m) i ≡ bit_at x i
+kept_bit x m i set =
+    let small = bit_at-lt x i in
+    bit_at_and x m i ∙ ap (min (bit_at x i)) set
+    ∙ (let e : min (bit_at x i) 1 ≡ bit_at x i = omega arith in e)
+
+cleared_bit : (x m i : ℕ) → bit_at m i ≡ 0 → bit_at (bit_and x m) i ≡ 0
+cleared_bit x m i clear =
+    bit_at_and x m i ∙ ap (min (bit_at x i)) clear
+    ∙ (let e : min (bit_at x i) 0 ≡ 0 = omega arith in e)
+
+-- A word made ADR: its opcode, and its register.
+pub record IsMadeAdr (x made : ℕ) : Type 0 where
+  pub opcode : field made 24 29 ≡ 0x10
+  pub top : bit_at made 31 ≡ 0
+  pub rd_is : rd_of made ≡ rd_of x
+
+pub adr_of_adrp : (x : ℕ) → field x 24 29 ≡ 0x10 → IsMadeAdr x (bit_and x 0x7fffffff)
+adr_of_adrp x op =
+    record {
+      opcode = unmasked_field x 0x7fffffff 24 29 refl ∙ op;
+      top = cleared_bit x 0x7fffffff 31 refl;
+      rd_is = unmasked_field x 0x7fffffff 0 5 refl;
+    }
+
+-- ADD and LDR have 1 in bit 28, and 0 in bits 25 and 26.
+pub adr_of_page : (x : ℕ) → bit_at x 28 ≡ 1 → bit_at x 26 ≡ 0 → bit_at x 25 ≡ 0
+    → IsMadeAdr x (bit_and x 0x76ffffff)
+adr_of_page x b28 b26 b25 =
+    let y = bit_and x 0x76ffffff in
+    let h : bit_at y 28 ≡ 1 = kept_bit x 0x76ffffff 28 refl ∙ b28 in
+    let i : bit_at y 27 ≡ 0 = cleared_bit x 0x76ffffff 27 refl in
+    let j : bit_at y 26 ≡ 0 = kept_bit x 0x76ffffff 26 refl ∙ b26 in
+    let k : bit_at y 25 ≡ 0 = kept_bit x 0x76ffffff 25 refl ∙ b25 in
+    let l : bit_at y 24 ≡ 0 = cleared_bit x 0x76ffffff 24 refl in
+    record {
+      opcode = five y h i j k l;
+      top = cleared_bit x 0x76ffffff 31 refl;
+      rd_is = unmasked_field x 0x76ffffff 0 5 refl;
+    }
+  where
+    five : (y : ℕ) → bit_at y 28 ≡ 1 → bit_at y 27 ≡ 0 → bit_at y 26 ≡ 0 → bit_at y 25 ≡ 0
+        → bit_at y 24 ≡ 0 → field y 24 29 ≡ 0x10
+    five y h i j k l = omega arith
+
 -- ---- which instruction a word is
 
 not_adr : (k x : ℕ) → field x 24 29 ≢ 0x10 → is_adr k x ≡ false

@@ -19,6 +19,9 @@ use Rattle.linker_utils.specs.declared.aarch64.rewrites.RelaxationKind.TheVarian
 use Rattle.linker_utils.specs.declared.aarch64.rewrites.RelaxationKind.TheVariants.{LdrX0}
 use Rattle.linker_utils.specs.declared.aarch64.rewrites.RelaxationKind.TheVariants.{ReplaceWithNop}
 use Rattle.linker_utils.specs.declared.aarch64.rewrites.RelaxationKind.TheVariants.{AdrpAddToNopAdr}
+use Rattle.linker_utils.specs.declared.aarch64.rewrites.RelaxationKind.TheVariants.{AdrpToAdr}
+use Rattle.linker_utils.specs.declared.aarch64.rewrites.RelaxationKind.TheVariants.{AddToAdr}
+use Rattle.linker_utils.specs.declared.aarch64.rewrites.RelaxationKind.TheVariants.{LdrToAdr}
 use Rattle.linker_utils.specs.declared.elf.value.Operands.{Operands}
 use Rattle.relocation_laws.specs.Schemes.{IsApplied, AreAddresses, symbol_address, plt_address}
 use Rattle.rewrite_laws.specs.AArch64Machine.{State, load_64, run, RunAlike, RunAlikeBut}
@@ -120,6 +123,52 @@ AddressToAdr =
     → IsRelocated names.R_AARCH64_ADD_ABS_LO12_NC (behind 4 o) (drop 4 both) add_of_symbol
     → IsRelocated names.R_AARCH64_ADR_PREL_LO21 (behind 4 o) (drop 4 made) adr_of_symbol
     → RunAlike (pair adrp_of_symbol add_of_symbol) (pair made adr_of_symbol) s
+
+-- ---- `adr` in place of one instruction
+
+-- The `adrp` of such a pair becomes the `adr`, and the `add` becomes `nop`.
+abbrev pub AdrpMadeAdr : Type 0
+AdrpMadeAdr =
+    (o : Operands) (s : State) (adrp add made nop : List ℕ) → IsPair IsAdd64 o s adrp add
+    → IsRewritten AdrpToAdr adrp made → IsRewritten ReplaceWithNop add nop
+    → (adrp_of_symbol add_of_symbol adr_of_symbol : List ℕ)
+    → IsRelocated names.R_AARCH64_ADR_PREL_PG_HI21 o adrp adrp_of_symbol
+    → IsRelocated names.R_AARCH64_ADD_ABS_LO12_NC (behind 4 o) add add_of_symbol
+    → IsRelocated names.R_AARCH64_ADR_PREL_LO21 o made adr_of_symbol
+    → RunAlike (pair adrp_of_symbol add_of_symbol) (pair adr_of_symbol nop) s
+
+-- `adrp xN`, and an instruction with P from xN, which are executed next
+pub record IsOnPage (P : ℕ → Type 0) (o : Operands) (s : State) (adrp second : List ℕ) : Type 0
+  where
+    pub small : AreAddresses o
+    pub at : s.pc ≡ o.place
+    pub is_adrp : IsAdrp (word_of adrp)
+    pub not_31 : rd_of (word_of adrp) ≢ 31
+    pub source : rn_of (word_of second) ≡ rd_of (word_of adrp)
+    pub second_is : P (word_of second)
+
+-- `add xD, xN`: the `adrp` stays.
+abbrev pub AddMadeAdr : Type 0
+AddMadeAdr =
+    (o : Operands) (s : State) (adrp add made : List ℕ)
+    → IsOnPage (λ word. IsAdd64 word × (rd_of word ≢ 31)) o s adrp add
+    → IsRewritten AddToAdr add made
+    → (adrp_of_symbol add_of_symbol adr_of_symbol : List ℕ)
+    → IsRelocated names.R_AARCH64_ADR_PREL_PG_HI21 o adrp adrp_of_symbol
+    → IsRelocated names.R_AARCH64_ADD_ABS_LO12_NC (behind 4 o) add add_of_symbol
+    → IsRelocated names.R_AARCH64_ADR_PREL_LO21 (behind 4 o) made adr_of_symbol
+    → RunAlike (pair adrp_of_symbol add_of_symbol) (pair adrp_of_symbol adr_of_symbol) s
+
+-- `ldr xD, [xN]` of the GOT entry, which holds the address of the symbol: the `adrp` stays.
+abbrev pub LdrMadeAdr : Type 0
+LdrMadeAdr =
+    (o : Operands) (s : State) (adrp ldr made : List ℕ) → IsOnPage IsLdr64 o s adrp ldr
+    → load_64 s.memory o.got_entry ≡ symbol_address o → IsRewritten LdrToAdr ldr made
+    → (adrp_of_entry ldr_of_entry adr_of_symbol : List ℕ)
+    → IsRelocated names.R_AARCH64_ADR_GOT_PAGE o adrp adrp_of_entry
+    → IsRelocated names.R_AARCH64_LD64_GOT_LO12_NC (behind 4 o) ldr ldr_of_entry
+    → IsRelocated names.R_AARCH64_ADR_PREL_LO21 (behind 4 o) made adr_of_symbol
+    → RunAlike (pair adrp_of_entry ldr_of_entry) (pair adrp_of_entry adr_of_symbol) s
 
 -- ---- the offset of a variable from the thread pointer, by a TLS descriptor
 

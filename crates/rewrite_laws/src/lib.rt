@@ -13,7 +13,7 @@ ghost use Rattle.rewrite_laws.specs.RiscVLaws as riscv_laws;
 ghost use Rattle.rewrite_laws.specs.X86Examples as x86_examples;
 ghost use Rattle.rewrite_laws.specs.X86Laws as x86_laws;
 
-/// AArch64: the address of a symbol without its GOT entry, or by one `adr`; the offset of a variable
+/// AArch64: the address of a symbol without its GOT entry, or by `adr`; the offset of a variable
 /// from the thread pointer by moves, or by its GOT entry in place of a descriptor's function; `nop`
 /// in place of a branch to an undefined weak symbol. The bytes of instructions may be a section's,
 /// from the instruction on (`sections`). The last two clauses are examples of what the machine does.
@@ -24,6 +24,9 @@ pub fn aarch64()
     ensures descriptor_to_local_exec { aarch64_laws.DescriptorToLocalExec }
     ensures descriptor_to_initial_exec { aarch64_laws.DescriptorToInitialExec }
     ensures weak { aarch64_laws.WeakBranches }
+    ensures adrp_made_adr { aarch64_laws.AdrpMadeAdr }
+    ensures add_made_adr { aarch64_laws.AddMadeAdr }
+    ensures ldr_made_adr { aarch64_laws.LdrMadeAdr }
     ensures sections { aarch64_laws.InSections }
     ensures steps { aarch64_worked.WorkedSteps }
     ensures runs { aarch64_worked.WorkedRuns }

@@ -1,16 +1,18 @@
 -- The laws of AArch64.
-use Rattle.std.proofs.Common.{◌≡◌, ℕ, ◌+◌, refl, sym, ◌∙◌, ap, arith, pos, ◌+ℤ◌}
-use Rattle.std.proofs.Common.{drop, [], ◌∷◌, eqb, ◌*ℤ◌, take, length, ◌++◌, subst, Some, ◌-◌, List}
+use Rattle.std.proofs.Common.{◌≡◌, ℕ, ◌+◌, refl, sym, ◌∙◌, ap, arith, pos, ◌+ℤ◌, drop, [], ◌∷◌, eqb}
+use Rattle.std.proofs.Common.{◌*ℤ◌, take, length, ◌++◌, subst, Some, ◌-◌, List, ◌<◌, ◌/◌, ◌^◌}
+use Rattle.std.specs.Prelude.{bit_and}
 use Rattle.std.specs.Int.{bit_at}
 use Rattle.std.proofs.Math.Seq.{drop-append_seam, take-append_seam}
 use Rattle.std.proofs.lemmas.Bool.{cond-false, eqb-true}
 use Rattle.std.proofs.lemmas.List.{length-take-le, append_assoc}
+use Rattle.std.proofs.lemmas.Nat.{and_le_r}
 use Rattle.linker_base.specs.Bits.{field}
 use Rattle.linker_base.specs.Form.{place_sum}
 use Rattle.linker_base.specs.Rewrite.{Rewrite, rewrite_window}
 use Rattle.linker_utils.specs.AArch64.{rd_of, rn_of, aarch64_form}
 use Rattle.linker_utils.specs.Value.{sum_64}
-use Rattle.linker_utils.specs.declared.aarch64.forms.AArch64Instruction.TheVariants.{Adr, JumpCall}
+use Rattle.linker_utils.specs.declared.aarch64.forms.AArch64Instruction.TheVariants.{JumpCall}
 use Rattle.linker_utils.specs.declared.aarch64.rewrites.RelaxationKind.TheVariants.{NoOp}
 use Rattle.linker_utils.specs.declared.aarch64.rewrites.RelaxationKind.TheVariants.{ReplaceWithNop}
 use Rattle.linker_utils.specs.declared.aarch64.rewrites.RelaxationKind.TheVariants.{MovzX0Lsl16}
@@ -26,21 +28,24 @@ use Rattle.linker_utils.specs.declared.aarch64.rewrites.RelaxationKind.TheVarian
 use Rattle.linker_utils.specs.declared.elf.value.Operands.{Operands}
 use Rattle.relocation_laws.specs.AArch64Laws as relocation_laws
 use Rattle.relocation_laws.specs.Schemes.{AreAddresses, symbol_address, IsAddress, plt_address}
-use Rattle.relocation_laws.proofs.Sums.{once, sum_below}
+use Rattle.relocation_laws.proofs.Sums.{sum_below}
 use Rattle.rewrite_laws.specs.AArch64Laws.{word_of, pair, behind, BeginsRewrittenAt}
 use Rattle.rewrite_laws.specs.AArch64Laws as aarch64_laws
 use Rattle.rewrite_laws.specs.AArch64Machine.{in_64_bits, adr_address, go_on, go_to, branch_target}
-use Rattle.rewrite_laws.specs.AArch64Machine.{execute, step, write_x, next_pc, State}
+use Rattle.rewrite_laws.specs.AArch64Machine.{execute, step, write_x, next_pc, State, adrp_address}
+use Rattle.rewrite_laws.specs.AArch64Machine.{loaded, added}
 use Rattle.rewrite_laws.specs.AArch64Worked.{WorkedSteps, WorkedRuns}
 use Rattle.rewrite_laws.proofs.AArch64Descriptors.{to_local_exec, to_initial_exec}
 use Rattle.rewrite_laws.proofs.AArch64Moves.{offset_moves}
 use Rattle.rewrite_laws.proofs.AArch64Pairs.{word_is, loads, adds_pair, word_made, pair_made}
+use Rattle.rewrite_laws.proofs.AArch64Pairs.{adr_is, page_added, entry_loaded}
 use Rattle.rewrite_laws.proofs.AArch64Steps.{run_pair, alike_runs, alike_twice, set, step_adr}
-use Rattle.rewrite_laws.proofs.AArch64Steps.{address_is, alike_once}
+use Rattle.rewrite_laws.proofs.AArch64Steps.{address_is, alike_once, alike_before, alike_itself}
+use Rattle.rewrite_laws.proofs.AArch64Steps.{step_adrp, step_add}
 use Rattle.rewrite_laws.proofs.AArch64Words.{adr_of_register, of_registers, adrp_after, ldr_after}
 use Rattle.rewrite_laws.proofs.AArch64Words.{add_after, ldr_of_register_after, masked_field}
 use Rattle.rewrite_laws.proofs.AArch64Words.{adr_after, decodes_adr, decodes_b, decodes_bl}
-use Rattle.rewrite_laws.proofs.AArch64Words.{branch_after}
+use Rattle.rewrite_laws.proofs.AArch64Words.{branch_after, adr_of_adrp, adr_of_page, decodes_adrp}
 use Rattle.rewrite_laws.proofs.aarch64.Goals as goal
 
 small_behind : (n : ℕ) (o : Operands) → AreAddresses o → AreAddresses (behind n o)
@@ -53,6 +58,10 @@ small_behind n o small =
       plt_entry = small.plt_entry;
       tls_base = small.tls_base;
     }
+
+-- a word under a mask
+below_mask : (x m : ℕ) → m < 2 ^ 32 → bit_and x m < 2 ^ 32
+below_mask x m small = let less = and_le_r x m in omega arith
 
 got_pair : relocation_laws.RelativeAddresses → relocation_laws.EntryAddresses
     → aarch64_laws.GotToAddress
@@ -124,15 +133,109 @@ address relative literals o s both made p is_made adrp1 add1 adr2 a1 d1 b2 =
     ∙ one.register in
     let t = go_on s in
     let value : adr_address y t ≡ symbol_address o =
-    ap (λ q. in_64_bits (pos (sum_64 q 4) +ℤ (aarch64_form Adr).machine y)) p.at
-    ∙ ap (λ z. in_64_bits (pos (sum_64 o.place 4) +ℤ z)) (sym (once ((aarch64_form Adr).machine y)))
-    ∙ address_is _ _ (literals.0 (behind 4 o) (small_behind 4 o p.small) o.place (drop 4 made)
-    adr2 b2 tt) in
+    adr_is (behind 4 o) y (symbol_address o) t (ap (λ q. sum_64 q 4) p.at)
+    (literals.0 (behind 4 o) (small_behind 4 o p.small) o.place (drop 4 made) adr2 b2 tt) in
     alike_runs _ (pair adrp1 add1) (pair made adr2) s _ (set n (adr_address y t) t)
     (run_pair (word_of adrp1) (word_of add1) s _ _ d.first refl d.second)
     (run_pair (word_of made) y s t _ (ap (λ w. step w s) words.first) refl
     (step_adr y n t (decodes_adr y adr.opcode adr.top) rd named))
     (alike_once n _ _ (adr_address y t) s (d.value_is ∙ sym value))
+
+-- ---- `adr` in place of one instruction
+
+adrp_made : relocation_laws.RelativeAddresses → relocation_laws.Literals → aarch64_laws.AdrpMadeAdr
+adrp_made relative literals o s adrp add made nop p is_made is_nop adrp1 add1 adr2 a1 d1 b2 =
+    let one = p.one_register in
+    let n = rd_of (word_of add) in
+    let named = one.into_own_source.not_31 in
+    let d = adds_pair o n (word_of adrp1) (word_of add1) _ s
+    (adr_of_register one.register (adrp_after _ _ adrp adrp1 a1.written one.first))
+    (of_registers refl one.into_own_source.same (add_after _ _ add add1 d1.written
+    (masked_field (word_of add) 0xffc00000 0x91000000 22 32 p.second_is refl))) named p.at
+    (relative.0.0 o p.small o.place adrp adrp1 a1 tt (sum_64 o.place 4) add add1 d1 tt) in
+    let word = word_made (λ x. bit_and x 0x7fffffff) adrp made
+    (below_mask (word_of adrp) 0x7fffffff (omega arith)) is_made in
+    let was = adr_of_adrp (word_of adrp)
+    (masked_field (word_of adrp) 0x9f000000 0x90000000 24 29 one.first refl) in
+    let y = word_of adr2 in
+    let adr = adr_after 0 _ _ made adr2 b2.written (ap (λ w. field w 24 29) word ∙ was.opcode)
+    (ap (λ w. bit_at w 31) word ∙ was.top) in
+    let rd : rd_of y ≡ n = adr.rd_is ∙ ap rd_of word ∙ was.rd_is ∙ one.register in
+    let value = adr_is o y (symbol_address o) s p.at
+    (literals.0 o p.small o.place made adr2 b2 tt) in
+    let t = set n (adr_address y s) s in
+    alike_runs _ (pair adrp1 add1) (pair adr2 nop) s _ (go_on t)
+    (run_pair (word_of adrp1) (word_of add1) s _ _ d.first refl d.second)
+    (run_pair y (word_of nop) s t _
+    (step_adr y n s (decodes_adr y adr.opcode adr.top) rd named) refl
+    (ap (λ w. step w t) (word_is 0xd503201f nop (omega arith) is_nop)))
+    (alike_before n _ _ (adr_address y s) s (d.value_is ∙ sym value))
+
+add_made : relocation_laws.RelativeAddresses → relocation_laws.Literals → aarch64_laws.AddMadeAdr
+add_made relative literals o s adrp add made p is_made adrp1 add1 adr2 a1 d1 b2 =
+    let n = rd_of (word_of adrp) in
+    let d = rd_of (word_of add) in
+    let x = word_of adrp1 in
+    let z = word_of add1 in
+    let y = word_of adr2 in
+    let op : field (word_of add) 22 32 ≡ 0x244 =
+    masked_field (word_of add) 0xffc00000 0x91000000 22 32 p.second_is.0 refl in
+    let adrp_is = adrp_after _ _ adrp adrp1 a1.written p.is_adrp in
+    let add_is = add_after _ _ add add1 d1.written op in
+    let word = word_made (λ w. bit_and w 0x76ffffff) add made
+    (below_mask (word_of add) 0x76ffffff (omega arith)) is_made in
+    let was = adr_of_page (word_of add) (omega arith) (omega arith) (omega arith) in
+    let adr = adr_after 0 _ _ made adr2 b2.written (ap (λ w. field w 24 29) word ∙ was.opcode)
+    (ap (λ w. bit_at w 31) word ∙ was.top) in
+    let t = set n (adrp_address x s) s in
+    let first =
+    step_adrp x n s (decodes_adrp x adrp_is.opcode adrp_is.top) adrp_is.rd_is p.not_31 in
+    let value : added z t ≡ adr_address y t =
+    page_added o n x z (symbol_address o) s (add_is.rn_is ∙ p.source) p.at
+    (relative.0.0 o p.small o.place adrp adrp1 a1 tt (sum_64 o.place 4) add add1 d1 tt)
+    ∙ sym (adr_is (behind 4 o) y (symbol_address o) t (ap (λ q. sum_64 q 4) p.at)
+    (literals.0 (behind 4 o) (small_behind 4 o p.small) o.place made adr2 b2 tt)) in
+    alike_runs _ (pair adrp1 add1) (pair adrp1 adr2) s _ _
+    (run_pair x z s t _ first refl
+    (step_add z d t add_is.decodes add_is.rd_is ∙ ap (λ v. Some (set d v t)) value))
+    (run_pair x y s t _ first refl
+    (step_adr y d t (decodes_adr y adr.opcode adr.top) (adr.rd_is ∙ ap rd_of word ∙ was.rd_is)
+    p.second_is.1))
+    (alike_itself _ (set d (adr_address y t) t))
+
+ldr_made : relocation_laws.EntryAddresses → relocation_laws.Literals → aarch64_laws.LdrMadeAdr
+ldr_made entries literals o s adrp ldr made p holds is_made adrp1 ldr1 adr2 a1 l1 b2 =
+    let n = rd_of (word_of adrp) in
+    let d = rd_of (word_of ldr) in
+    let x = word_of adrp1 in
+    let z = word_of ldr1 in
+    let y = word_of adr2 in
+    let op : word_of ldr / 2 ^ 22 ≡ 0x3e5 = eqb-true _ _ p.second_is in
+    let adrp_is = adrp_after _ _ adrp adrp1 a1.written p.is_adrp in
+    let ldr_is = ldr_after _ _ ldr ldr1 l1.written p.second_is in
+    let word = word_made (λ w. bit_and w 0x76ffffff) ldr made
+    (below_mask (word_of ldr) 0x76ffffff (omega arith)) is_made in
+    let was = adr_of_page (word_of ldr) (omega arith) (omega arith) (omega arith) in
+    let adr = adr_after 0 _ _ made adr2 b2.written (ap (λ w. field w 24 29) word ∙ was.opcode)
+    (ap (λ w. bit_at w 31) word ∙ was.top) in
+    let rd : rd_of y ≡ d = adr.rd_is ∙ ap rd_of word ∙ was.rd_is in
+    let t = set n (adrp_address x s) s in
+    let first =
+    step_adrp x n s (decodes_adrp x adrp_is.opcode adrp_is.top) adrp_is.rd_is p.not_31 in
+    let value : loaded z t ≡ adr_address y t =
+    entry_loaded o n x z o.got_entry s (ldr_is.rn_is ∙ p.source) p.at
+    (entries.0 o p.small o.place adrp adrp1 a1 tt (sum_64 o.place 4) ldr ldr1 l1 tt) ∙ holds
+    ∙ sym (adr_is (behind 4 o) y (symbol_address o) t (ap (λ q. sum_64 q 4) p.at)
+    (literals.0 (behind 4 o) (small_behind 4 o p.small) o.place made adr2 b2 tt)) in
+    alike_runs _ (pair adrp1 ldr1) (pair adrp1 adr2) s _ _
+    (run_pair x z s t _ first refl
+    (ap (λ c. execute c z t) ldr_is.decodes
+    ∙ ap (λ r. Some (go_on (write_x r (loaded z t) t))) ldr_is.rd_is
+    ∙ ap (λ v. Some (go_on (write_x d v t))) value))
+    (run_pair x y s t _ first refl
+    (ap (λ c. execute c y t) (decodes_adr y adr.opcode adr.top)
+    ∙ ap (λ r. Some (go_on (write_x r (adr_address y t) t))) rd))
+    (alike_itself _ (go_on (write_x d (adr_address y t) t)))
 
 -- ---- branches
 
@@ -239,6 +342,9 @@ returns c =
       descriptor_to_local_exec = to_local_exec laws.entries laws.thread_moves;
       descriptor_to_initial_exec = to_initial_exec laws.entries;
       weak = branches laws.branches;
+      adrp_made_adr = adrp_made laws.relative laws.literals;
+      add_made_adr = add_made laws.relative laws.literals;
+      ldr_made_adr = ldr_made laws.entries laws.literals;
       sections = sections;
       steps = worked;
       runs = worked_runs;
