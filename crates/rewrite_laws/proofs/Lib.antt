@@ -4,4 +4,5 @@ pub mod RiscVJumps
 pub mod RiscVLowParts
 pub mod RiscVLuis
 pub mod RiscVMachine
+pub mod RiscVPairs
 pub mod Words

@@ -409,7 +409,7 @@ both_end a rd rs1 rs2 i target code code' long long' low low' is is' sum h k sma
     }
 
 -- the law of an action whose instruction has the registers rd and rs2 in its use
-abbrev LowLaw : Option RelocationKindInfo → Action → ℕ → ℕ → List ℕ → ℕ → Type 0
+abbrev pub LowLaw : Option RelocationKindInfo → Action → ℕ → ℕ → List ℕ → ℕ → Type 0
 LowLaw row a rd rs2 section o =
     let rs1 = rs1_of (word_at section o) in
     (x : Operands) → IsLow12 x → (original new : List ℕ)
@@ -526,11 +526,11 @@ module _ (a : Action) (section : List ℕ) (o : ℕ) (inside : o + 4 ≤ length 
 -- ---- the law
 
 -- the same by the action
-abbrev Law : List ℕ → ℕ → Action → Type 0
+abbrev pub Law : List ℕ → ℕ → Action → Type 0
 Law section o a =
     LowLaw (low_row a) a (rd_of (word_at section o)) (rs2_of (word_at section o)) section o
 
-law : (section : List ℕ) (o : ℕ) → o + 4 ≤ length section → (a : Action)
+pub law : (section : List ℕ) (o : ℕ) → o + 4 ≤ length section → (a : Action)
     → action_of (opcode_of (word_at section o)) (funct3_of (word_at section o)) ≡ Some a
     → opcode_of (word_at section o) % 4 ≡ 3 → Law section o a
 law section o inside adds is long = i_law adds section o inside is long (λ w. refl)

@@ -3,7 +3,7 @@
 -- with their relocation applied, and those after the rewrite and its deletion with theirs. From
 -- harts that are alike, each at its own place, both run to an end, and are alike again, but for the
 -- registers that the law lists and for addresses in code.
-use Rattle.std.specs.Prelude.{◌≡◌, ℕ, ◌+◌, ◌<◌, ◌^◌, ◌==◌, ◌&&◌, ◌||◌, not, Bool, false, List, drop}
+use Rattle.std.specs.Prelude.{◌≡◌, ℕ, ◌+◌, ◌<◌, ◌^◌, ◌==◌, ◌&&◌, ◌||◌, not, Bool, false, List, drop, take, ◌++◌}
 use Rattle.std.specs.Prelude.{Option, Some, IsSomeAnd, ⊤, ◌≢◌}
 use Rattle.linker_base.specs.Rewrite.{rewritten}
 use Rattle.linker_utils.specs.Choices.{low_12_bounds, symbol_and_addend}
@@ -197,3 +197,30 @@ LowPartFromZero =
     → EndSo 1 original h 1 new k (λ a b.
     AreAlike (differs_after action (rd_of word) (rs1_of word)) a b
     × GoOn action (rd_of word) (even symbol_address x) (sum_64 h.pc 4) (sum_64 k.pc 4) a b))
+
+-- ---- a `lui` and its low part (psABI, "Zero-page Relaxation")
+
+-- a store stores another register than its base
+abbrev pub StoresAnother : Action → ℕ → ℕ → Type 0
+StoresAnother (stores f) rs1 rs2 = rs2 ≢ rs1
+StoresAnother action rs1 rs2 = ⊤
+
+-- A `lui` with the instruction behind it that adds its low part, and that instruction alone with x0
+-- as its base, once the `lui` is deleted.
+abbrev pub PairFromZero : Type 0
+PairFromZero =
+    (section : List ℕ) (o : ℕ) → riscv_matches kinds.Hi20Delete section o
+    → riscv_matches kinds.Lo12Rs1ToZero section (o + 4)
+    → let word = word_at section (o + 4) in
+    rs1_of word ≡ rd_of (word_at section o)
+    → IsSomeAnd (action_of (opcode_of word) (funct3_of word)) (λ action.
+    StoresAnother action (rs1_of word) (rs2_of word)
+    → (x : Operands) → IsLow12 x → (high low new : List ℕ)
+    → Relocated (riscv_row names.R_RISCV_HI20) x (drop o section) high
+    → Relocated (low_row action) x (drop (o + 4) section) low
+    → Relocated (low_row action) x
+    (drop o (deleted 4 o (after_rewrite kinds.Lo12Rs1ToZero section (o + 4)))) new
+    → (h k : Hart) → h.pc < 2 ^ 64 → k.pc < 2 ^ 64 → AreAlike no_register h k
+    → EndSo 2 (take 4 high ++ low) h 1 new k (λ a b.
+    AreAlike (differs_after action (rd_of word) (rs1_of word)) a b
+    × GoOn action (rd_of word) (even symbol_address x) (sum_64 h.pc 8) (sum_64 k.pc 4) a b))

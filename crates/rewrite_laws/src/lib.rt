@@ -20,6 +20,7 @@ pub fn riscv64()
     ensures short_high_parts { riscv_laws.LuiBecomesClui }
     ensures no_high_parts { riscv_laws.LuiIsDeleted }
     ensures low_parts { riscv_laws.LowPartFromZero }
+    ensures pairs { riscv_laws.PairFromZero }
     ensures words { riscv_examples.Words }
     ensures halves { riscv_examples.Halves }
     ensures execution { riscv_examples.Execution }

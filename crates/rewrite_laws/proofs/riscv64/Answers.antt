@@ -4,6 +4,7 @@ use Rattle.linker_base.specs.Form.{place_sum}
 use Rattle.rewrite_laws.proofs.RiscVCalls.{call_becomes_jal, tail_becomes_jal, tail_becomes_cj}
 use Rattle.rewrite_laws.proofs.RiscVLowParts.{low_part_from_zero}
 use Rattle.rewrite_laws.proofs.RiscVLuis.{lui_becomes_clui, lui_is_deleted}
+use Rattle.rewrite_laws.proofs.RiscVPairs.{pair_from_zero}
 use Rattle.rewrite_laws.proofs.riscv64.Goals as goal
 
 pub returns-clause-calls : goal.returns-clause-calls
@@ -23,6 +24,9 @@ returns-clause-no_high_parts c = lui_is_deleted
 
 pub returns-clause-low_parts : goal.returns-clause-low_parts
 returns-clause-low_parts c = low_part_from_zero
+
+pub returns-clause-pairs : goal.returns-clause-pairs
+returns-clause-pairs c = pair_from_zero
 
 pub returns-clause-words : goal.returns-clause-words
 unfolding place_sum
