@@ -11,15 +11,12 @@ use Rattle.linker_base.specs.Bits.{field}
 use Rattle.linker_utils.specs.RiscV.{rs1_to_zero, word_at}
 use Rattle.linker_utils.specs.RiscVOriginals.{opcode_of, funct3_of, rd_of}
 use Rattle.linker_utils.specs.Value.{sum_64, difference_64}
-use Rattle.linker_utils.specs.RiscVRelocations.{riscv_row}
-use Rattle.linker_utils.specs.declared.elf.value.Operands.{Operands}
-use Rattle.linker_utils.specs.declared.riscv64.relocations.RiscVRelocation.TheVariants as names
 use Rattle.linker_utils.specs.declared.riscv64.rewrites.RelaxationKind.TheVariants as kinds
 use Rattle.relocation_laws.specs.RiscVLaws.{even}
 use Rattle.relocation_laws.specs.Schemes.{symbol_address}
 use Rattle.rewrite_laws.specs.Machine.{deleted, Relocated}
-use Rattle.rewrite_laws.specs.RiscVLaws.{after_rewrite, AreAlike, differs_after, EndSo, GoOn}
-use Rattle.rewrite_laws.specs.RiscVLaws.{low_row, IsLow12, no_register, PairFromZero}
+use Rattle.rewrite_laws.specs.RiscVLaws.{after_rewrite, AreAlike, differs_after, GoOn}
+use Rattle.rewrite_laws.specs.RiscVLaws.{low_row, AloneFromZero, PairFromZero}
 use Rattle.rewrite_laws.specs.RiscVLaws.{StoresAnother, StoresTheSame}
 use Rattle.rewrite_laws.specs.RiscVMachine.{Action, adds, adds_word, jumps, loads, stores}
 use Rattle.rewrite_laws.specs.RiscVMachine.{loads_float, stores_float, Hart, register, Steps}
@@ -110,17 +107,7 @@ pair_from_zero section o m m' base =
     let upper = word_at section o in
     let some = some_action (opcode_of word) (funct3_of word) m'.1 in
     let a = some.0 in
-    subst (λ r. IsSomeAnd r (λ action.
-    StoresAnother action (rs1_of word) (rs2_of word)
-    → (x : Operands) → IsLow12 x → (high low new : List ℕ)
-    → Relocated (riscv_row names.R_RISCV_HI20) x (drop o section) high
-    → Relocated (low_row action) x (drop (o + 4) section) low
-    → Relocated (low_row action) x
-    (drop o (deleted 4 o (after_rewrite kinds.Lo12Rs1ToZero section (o + 4)))) new
-    → (h k : Hart) → h.pc < 2 ^ 64 → k.pc < 2 ^ 64 → AreAlike no_register h k
-    → EndSo 2 (take 4 high ++ low) h 1 new k (λ e e'.
-    AreAlike (differs_after action (rd_of word) (rs1_of word)) e e'
-    × GoOn action (rd_of word) (even symbol_address x) (sum_64 h.pc 8) (sum_64 k.pc 4) e e')))
+    subst (λ r. IsSomeAnd r (AloneFromZero section o))
     (sym some.1)
     (λ apart x is_low high low new high_code low_code new_code h k small small' alike.
     let first = lui_is_deleted section o m x is_low high [] high_code h k small small' alike in

@@ -1,8 +1,8 @@
 -- RISC-V: words that LLVM's assembler wrote, as instructions, and what some instructions leave of a
 -- hart (RISC-V unprivileged ISA; its sections are named in `RiscVMachine`).
 use Rattle.std.specs.Prelude.{◌≡◌, ℕ, ◌*◌, ◌%◌, List, [], ◌∷◌, pos, negsuc, Some, None}
-use Rattle.rewrite_laws.specs.RiscVMachine.{Hart, register, Instruction, lui, auipc, jal, sums, adds}
-use Rattle.rewrite_laws.specs.RiscVMachine.{adds_word, jumps, loads, stores, loads_float}
+use Rattle.rewrite_laws.specs.RiscVMachine.{Hart, register, Instruction, lui, auipc, jal, sums}
+use Rattle.rewrite_laws.specs.RiscVMachine.{adds, adds_word, jumps, loads, stores, loads_float}
 use Rattle.rewrite_laws.specs.RiscVMachine.{fetched, executed}
 
 -- ---- words
