@@ -11,7 +11,7 @@ ghost use Rattle.rewrite_laws.specs.RiscVLaws as riscv_laws;
 /// of their layout, and a call links the address behind it; `c.lui` puts in its register what `lui`
 /// does; a `lui` that is deleted would put 0 there, so that x0 can be the base of the instructions
 /// that add its low part. All else that a program sees is the same, but for the register of a tail
-/// call's `auipc` and that of a deleted `lui`. The last three clauses are examples of what the
+/// call's `auipc` and that of a deleted `lui`. The last four clauses are examples of what the
 /// machine does.
 pub fn riscv64()
     ensures calls { riscv_laws.Calls }
@@ -24,4 +24,5 @@ pub fn riscv64()
     ensures words { riscv_examples.Words }
     ensures halves { riscv_examples.Halves }
     ensures execution { riscv_examples.Execution }
+    ensures sequences { riscv_examples.Sequences }
 {}
