@@ -9,6 +9,7 @@ pub mod RiscVJumps
 pub mod RiscVLowParts
 pub mod RiscVLuis
 pub mod RiscVMachine
+pub mod RiscVPairs
 pub mod Words
 pub mod X86Branches
 pub mod X86Bytes

@@ -78,9 +78,11 @@ call_becomes_jal section o m x y sx sy original new old_code new_code h k hx ky 
               (ap (λ n. q == n) high ∙ e)
               ∙ alike.integers q refl
               ∙ sym (jump_keeps y before' new a' l' opcode' k q (ap (λ n. q == n) link' ∙ e));
-          floats = λ q. ap (λ f. f q) (pair_floats x before original a ob b l pair h) ∙ alike.floats q
+          floats = λ q. ap (λ f. f q) (pair_floats x before original a ob b l pair h)
+              ∙ alike.floats q
               ∙ ap (λ f. f q) (sym (jump_floats y before' new a' l' opcode' k));
-          memory = λ q. ap (λ f. f q) (pair_memory x before original a ob b l pair h) ∙ alike.memory q
+          memory = λ q. ap (λ f. f q) (pair_memory x before original a ob b l pair h)
+              ∙ alike.memory q
               ∙ ap (λ f. f q) (sym (jump_memory y before' new a' l' opcode' k));
         };
         at_target = pair_target x before original a ob b l pair sx h hx
@@ -134,9 +136,11 @@ tail_becomes_jal section o m x y sx sy original new old_code new_code h k hx ky 
               tail_keeps x before original a ob b l pair high h q (ap (λ n. q == n) low ∙ e)
               ∙ alike.integers q refl
               ∙ sym (jump_keeps_all y before' new a' l' opcode' link' k q);
-          floats = λ q. ap (λ f. f q) (pair_floats x before original a ob b l pair h) ∙ alike.floats q
+          floats = λ q. ap (λ f. f q) (pair_floats x before original a ob b l pair h)
+              ∙ alike.floats q
               ∙ ap (λ f. f q) (sym (jump_floats y before' new a' l' opcode' k));
-          memory = λ q. ap (λ f. f q) (pair_memory x before original a ob b l pair h) ∙ alike.memory q
+          memory = λ q. ap (λ f. f q) (pair_memory x before original a ob b l pair h)
+              ∙ alike.memory q
               ∙ ap (λ f. f q) (sym (jump_memory y before' new a' l' opcode' k));
         };
         at_target = pair_target x before original a ob b l pair sx h hx
@@ -180,9 +184,11 @@ tail_becomes_cj section o m x y sx sy original new old_code new_code h k hx ky a
               tail_keeps x before original a ob b l pair high h q (ap (λ n. q == n) low ∙ e)
               ∙ alike.integers q refl
               ∙ sym (short_jump_keeps y before' new a' l' low_bits function k q);
-          floats = λ q. ap (λ f. f q) (pair_floats x before original a ob b l pair h) ∙ alike.floats q
+          floats = λ q. ap (λ f. f q) (pair_floats x before original a ob b l pair h)
+              ∙ alike.floats q
               ∙ ap (λ f. f q) (sym (short_jump_floats y before' new a' l' low_bits function k));
-          memory = λ q. ap (λ f. f q) (pair_memory x before original a ob b l pair h) ∙ alike.memory q
+          memory = λ q. ap (λ f. f q) (pair_memory x before original a ob b l pair h)
+              ∙ alike.memory q
               ∙ ap (λ f. f q) (sym (short_jump_memory y before' new a' l' low_bits function k));
         };
         at_target = pair_target x before original a ob b l pair sx h hx

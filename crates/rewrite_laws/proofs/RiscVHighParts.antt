@@ -20,7 +20,8 @@ use Rattle.linker_utils.specs.RiscVRelocations.{pair_row}
 use Rattle.linker_utils.specs.Value.{sum_64}
 use Rattle.linker_utils.specs.declared.elf.RelocationKind.TheVariants.{Absolute}
 use Rattle.linker_utils.specs.declared.elf.value.Operands.{Operands}
-use Rattle.linker_utils.specs.declared.riscv64.forms.RiscVInstruction.TheVariants.{UType, CluiType, CjType}
+use Rattle.linker_utils.specs.declared.riscv64.forms.RiscVInstruction.TheVariants.{UType, CluiType}
+use Rattle.linker_utils.specs.declared.riscv64.forms.RiscVInstruction.TheVariants.{CjType}
 use Rattle.linker_utils.proofs.RiscV.{u_laid, clui_laid}
 use Rattle.linker_utils.proofs.RiscVRewrites.{cast_negative}
 use Rattle.relocation_laws.specs.Schemes.{IsApplied, symbol_address}
@@ -118,7 +119,10 @@ only_low_12 : (n l : ℕ) → n < 2 ^ 64 → (n < 0x1f800) ⊎ (2 ^ 64 - 0x20800
 only_low_12 n l small near e none =
     let nothing : l ≡ 0 = elim (signed_cases 18 l) [
       | inl a ↦ let f = sym a.1 ∙ none in omega (arith, ints)
-      | inr a ↦ let f = sym a.1 ∙ none in let below : l < 2 ^ 18 = omega arith in omega (arith, ints)
+      | inr a ↦
+          let f = sym a.1 ∙ none in
+          let below : l < 2 ^ 18 = omega arith in
+          omega (arith, ints)
     ] in
     elim near [
       | inl low ↦ inl (omega arith)
@@ -127,7 +131,7 @@ only_low_12 n l small near e none =
 
 -- ---- `lui`
 
-low_32 : (n : ℕ) → field (sum_64 n 0) 0 32 ≡ n % 2 ^ 32
+pub low_32 : (n : ℕ) → field (sum_64 n 0) 0 32 ≡ n % 2 ^ 32
 low_32 n = omega arith
 
 -- a register that is written to 0
@@ -215,7 +219,8 @@ module _ (x : Operands) (before code : List ℕ)
     (len : length code ≡ length before)
     (is_short : field (from_le_bytes w16 before) 0 2 ≡ 1)
     (function : field (from_le_bytes w16 before) 13 16 ≡ 3)
-    (some : rd_of (from_le_bytes w16 before) ≢ 0) (other_than_sp : rd_of (from_le_bytes w16 before) ≢ 2)
+    (some : rd_of (from_le_bytes w16 before) ≢ 0)
+    (other_than_sp : rd_of (from_le_bytes w16 before) ≢ 2)
     (high : ¬ IsLow12 x) where
   half : ℕ
   half = from_le_bytes w16 code
@@ -243,8 +248,8 @@ module _ (x : Operands) (before code : List ℕ)
       let n = symbol_address x in
       ap (cast_signed w64)
       (sym (unbiased n (sum_below x.symbol _)))
-      ∙ value_is (pair_row Absolute 32 CluiType) x before code applied (cast_signed w64 (sum_64 n 0))
-      refl
+      ∙ value_is (pair_row Absolute 32 CluiType) x before code applied
+      (cast_signed w64 (sum_64 n 0)) refl
 
   pub near : (symbol_address x < 0x1f800) ⊎ (2 ^ 64 - 0x20800 ≤ symbol_address x)
   near =

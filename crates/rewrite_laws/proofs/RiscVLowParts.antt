@@ -6,7 +6,7 @@ use Rattle.std.proofs.Common.{if◌then◌else◌, w64, unsigned_abs, int_lt}
 use Rattle.std.specs.Prelude.{◌==◌, ◌&&◌, ◌||◌, nat_lt, IsTrue}
 use Rattle.std.specs.Option.{IsSomeAnd}
 use Rattle.std.specs.Int.{w32, from_le_bytes, to_le_bytes, cast_signed}
-use Rattle.std.proofs.lemmas.Bool.{cond_both, eqb-true, agree_below}
+use Rattle.std.proofs.lemmas.Bool.{and_parts, or_parts, cond_both, eqb-true, agree_below}
 use Rattle.std.proofs.lemmas.Int.{ints}
 use Rattle.std.proofs.lemmas.List.{length-drop}
 use Rattle.linker_base.specs.Bits.{field, signed}
@@ -35,13 +35,13 @@ use Rattle.relocation_laws.proofs.Sums.{sum_below, lifted_is}
 use Rattle.rewrite_laws.specs.Machine.{AreBytes, Memory, loaded, stored, moved, extended}
 use Rattle.rewrite_laws.specs.Machine.{Relocated}
 use Rattle.rewrite_laws.specs.RiscVLaws.{AreAlike, StoresTheSame, GoOn, differs_after, EndSo}
-use Rattle.rewrite_laws.specs.RiscVLaws.{after_rewrite, low_row, IsLow12, LowPartFromZero}
+use Rattle.rewrite_laws.specs.RiscVLaws.{after_rewrite, IsLow12, FromZero, LowPartFromZero}
 use Rattle.rewrite_laws.specs.RiscVMachine.{Hart, register, with_integer, with_number, Action, adds}
 use Rattle.rewrite_laws.specs.RiscVMachine.{adds_word, jumps, loads, stores, loads_float}
 use Rattle.rewrite_laws.specs.RiscVMachine.{stores_float, lui, auipc, jal, sums, rs1_of}
 use Rattle.rewrite_laws.specs.RiscVMachine.{rs2_of, action_of, with_action, of_word, used, executed}
 use Rattle.rewrite_laws.specs.RiscVMachine.{load_number, bytes_of, boxed, i_type, s_type}
-use Rattle.rewrite_laws.proofs.RiscVHighParts.{low_12_number}
+use Rattle.rewrite_laws.proofs.RiscVHighParts.{low_12_number, low_32}
 use Rattle.rewrite_laws.proofs.RiscVMachine.{at_start, fetched_word, steps}
 use Rattle.rewrite_laws.proofs.RiscVMachine.{other, written, same_written}
 use Rattle.rewrite_laws.proofs.Words.{kept_field, put_there, word_below, word_of_bytes}
@@ -52,10 +52,6 @@ not_both : (a b : Bool) → (a && not b) ≡ false → b ≡ false → a ≡ fal
 not_both true true e f = f
 not_both true false e f = e
 not_both false b e f = refl
-
-neither : (a b : Bool) → (a || b) ≡ false → (a ≡ false) × (b ≡ false)
-neither true b e = cc
-neither false b e = (refl, e)
 
 same_loaded : (n : ℕ) (m m' : Memory) (address : ℕ) → ((a : ℕ) → m a ≡ m' a)
     → loaded n m address ≡ loaded n m' address
@@ -121,7 +117,7 @@ alike_used adds_word rd rs1 rs2 sum h k apart alike = (
 alike_used jumps rd rs1 rs2 sum h k apart alike = (
   record {
     integers = λ q d.
-        let n = neither (q == rs1) (q == rd) d in
+        let n = or_parts (q == rs1) (q == rd) d in
         other rd (sum_64 h.pc 4) h q n.1 ∙ alike.integers q n.0
         ∙ sym (other rd (sum_64 k.pc 4) k q n.1);
     floats = alike.floats;
@@ -205,13 +201,9 @@ is_action x a is =
 abbrev pub HasAction : ℕ → Option Action → Type 0
 HasAction o r = (a : Action) × (r ≡ Some a) × (o % 4 ≡ 3)
 
-first_of_both : (a b : Bool) → (a && b) ≡ true → a ≡ true
-first_of_both true b e = refl
-first_of_both false b e = e
-
 long_opcode : (o n : ℕ) (b : Bool) → (o == n && b) ≡ true → n % 4 ≡ 3 → o % 4 ≡ 3
 long_opcode o n b e long =
-    ap (λ k. k % 4) (eqb-true o n (first_of_both (o == n) b e)) ∙ long
+    ap (λ k. k % 4) (eqb-true o n (and_parts (o == n) b e).0) ∙ long
 
 pub some_action : (o f : ℕ) → IsTrue (adds_low12 o f) → HasAction o (action_of o f)
 some_action o f is =
@@ -284,9 +276,6 @@ low_sum n l small low e =
     ]
 
 -- what stands in the instruction once its relocation is applied
-low_32 : (n : ℕ) → field (sum_64 n 0) 0 32 ≡ n % 2 ^ 32
-low_32 n = omega arith
-
 module _ (x : Operands) (before code : List ℕ)
     (applied : IsApplied (pair_row Absolute 32 IType) x before code) where
   pub i_stands : place_sum (riscv_places IType) (from_le_bytes w32 code)
@@ -373,7 +362,8 @@ both_end : (a : Action) (rd rs1 rs2 : ℕ) (i : ℤ) (target : ℕ) (code code' 
     → field (from_le_bytes w32 code) 0 2 ≡ 3 → field (from_le_bytes w32 code') 0 2 ≡ 3
     → of_word (from_le_bytes w32 code) ≡ Some (sums a rd rs1 rs2 i)
     → of_word (from_le_bytes w32 code') ≡ Some (sums a rd 0 rs2 i)
-    → moved 0 i ≡ target → (h k : Hart) → h.pc < 2 ^ 64 → k.pc < 2 ^ 64 → AreAlike (λ r. r == rs1) h k
+    → moved 0 i ≡ target → (h k : Hart) → h.pc < 2 ^ 64 → k.pc < 2 ^ 64
+    → AreAlike (λ r. r == rs1) h k
     → register h rs1 ≡ 0 → StoresTheSame a rs1 rs2 h k
     → EndSo 1 code h 1 code' k (λ e e'. AreAlike (differs_after a rd rs1) e e'
     × GoOn a rd (target - target % 2) (sum_64 h.pc 4) (sum_64 k.pc 4) e e')
@@ -409,7 +399,7 @@ both_end a rd rs1 rs2 i target code code' long long' low low' is is' sum h k sma
     }
 
 -- the law of an action whose instruction has the registers rd and rs2 in its use
-abbrev LowLaw : Option RelocationKindInfo → Action → ℕ → ℕ → List ℕ → ℕ → Type 0
+abbrev pub LowLaw : Option RelocationKindInfo → Action → ℕ → ℕ → List ℕ → ℕ → Type 0
 LowLaw row a rd rs2 section o =
     let rs1 = rs1_of (word_at section o) in
     (x : Operands) → IsLow12 x → (original new : List ℕ)
@@ -525,14 +515,9 @@ module _ (a : Action) (section : List ℕ) (o : ℕ) (inside : o + 4 ≤ length 
 
 -- ---- the law
 
--- the same by the action
-abbrev Law : List ℕ → ℕ → Action → Type 0
-Law section o a =
-    LowLaw (low_row a) a (rd_of (word_at section o)) (rs2_of (word_at section o)) section o
-
-law : (section : List ℕ) (o : ℕ) → o + 4 ≤ length section → (a : Action)
+pub law : (section : List ℕ) (o : ℕ) → o + 4 ≤ length section → (a : Action)
     → action_of (opcode_of (word_at section o)) (funct3_of (word_at section o)) ≡ Some a
-    → opcode_of (word_at section o) % 4 ≡ 3 → Law section o a
+    → opcode_of (word_at section o) % 4 ≡ 3 → FromZero section o a
 law section o inside adds is long = i_law adds section o inside is long (λ w. refl)
 law section o inside adds_word is long = i_law adds_word section o inside is long (λ w. refl)
 law section o inside jumps is long = i_law jumps section o inside is long (λ w. refl)
@@ -547,5 +532,5 @@ pub low_part_from_zero : LowPartFromZero
 low_part_from_zero section o m =
     let word = word_at section o in
     let some = some_action (opcode_of word) (funct3_of word) m.1 in
-    subst (λ r. IsSomeAnd r (Law section o)) (sym some.1)
+    subst (λ r. IsSomeAnd r (FromZero section o)) (sym some.1)
     (law section o m.0 some.0 some.1 some.2)

@@ -90,7 +90,8 @@ lui_becomes_clui section o m x high original new old_code new_code h k small sma
     let register' : rd_of (from_le_bytes w16 before') ≡ r = omega (arith, there) in
     let some : rd_of (from_le_bytes w16 before') ≢ 0 = λ e. m.1.1 (sym register' ∙ e) in
     let not_sp : rd_of (from_le_bytes w16 before') ≢ 2 = λ e. m.1.2 (sym register' ∙ e) in
-    let number = wrapped (signed 32 (place_sum (riscv_places UType) (from_le_bytes w32 original))) in
+    let number =
+    wrapped (signed 32 (place_sum (riscv_places UType) (from_le_bytes w32 original))) in
     let number' = wrapped (signed 18 (place_sum (riscv_places CluiType) (from_le_bytes w16 new))) in
     let is' = upper_is x before original a l is h in
     let is'' = short_is x before' new a' l' low_bits function some not_sp high k in

@@ -83,26 +83,29 @@ at_second pc small = omega arith
 pub is_long : (x : ℕ) (opcode : ℕ) → opcode_of x ≡ opcode → opcode % 4 ≡ 3 → field x 0 2 ≡ 3
 is_long x opcode e long = omega arith
 
+-- what `fetched` makes of a length and of what bytes begin with
+as_word : List ℕ → Option (ℕ × Instruction)
+as_word bytes =
+    if nat_le 4 (length bytes) then sized 4 (of_word (from_le_bytes w32 bytes)) else None
+
+as_half : List ℕ → Option (ℕ × Instruction)
+as_half bytes =
+    if nat_le 2 (length bytes) then sized 2 (of_half (from_le_bytes w16 bytes)) else None
+
 pub fetched_word : (bytes : List ℕ) (i : Instruction) → field (from_le_bytes w32 bytes) 0 2 ≡ 3
     → 4 ≤ length bytes → of_word (from_le_bytes w32 bytes) ≡ Some i → fetched bytes ≡ Some (4, i)
+unfolding as_word as_half
 fetched_word bytes i low long is =
-    let here = if nat_le 4 (length bytes) then sized 4 (of_word (from_le_bytes w32 bytes)) else None
-    in
-    let there = if nat_le 2 (length bytes) then sized 2 (of_half (from_le_bytes w16 bytes)) else None
-    in
-    ap (λ n. if n == 3 then here else there) (same_low_two bytes ∙ low)
+    ap (λ n. if n == 3 then as_word bytes else as_half bytes) (same_low_two bytes ∙ low)
     ∙ ap (λ b. if b then sized 4 (of_word (from_le_bytes w32 bytes)) else None)
     (le-leb 4 (length bytes) long)
     ∙ ap (sized 4) is
 
 pub fetched_half : (bytes : List ℕ) (i : Instruction) → field (from_le_bytes w16 bytes) 0 2 ≡ 1
     → 2 ≤ length bytes → of_half (from_le_bytes w16 bytes) ≡ Some i → fetched bytes ≡ Some (2, i)
+unfolding as_word as_half
 fetched_half bytes i low long is =
-    let here = if nat_le 4 (length bytes) then sized 4 (of_word (from_le_bytes w32 bytes)) else None
-    in
-    let there = if nat_le 2 (length bytes) then sized 2 (of_half (from_le_bytes w16 bytes)) else None
-    in
-    ap (λ n. if n == 3 then here else there) low
+    ap (λ n. if n == 3 then as_word bytes else as_half bytes) low
     ∙ ap (λ b. if b then sized 2 (of_half (from_le_bytes w16 bytes)) else None)
     (le-leb 2 (length bytes) long)
     ∙ ap (sized 2) is

@@ -1,5 +1,5 @@
--- What the machines have in common: bytes of memory, sums of 64 bits, and code that a relocation was
--- applied to.
+-- What the machines have in common: bytes of memory, sums of 64 bits, and code to which a relocation
+-- was applied.
 use Rattle.std.specs.Prelude.{ℕ, zero, suc, ◌+◌, ◌*◌, ◌^◌, ◌<◌, ℤ, pos, ◌+ℤ◌, nat_lt, List}
 use Rattle.std.specs.Prelude.{◌++◌, length, ◌≡◌, take, drop, Option, IsSomeAnd, All, if◌then◌else◌}
 use Rattle.std.specs.Int.{int_rem_euclid, w64, cast_unsigned}

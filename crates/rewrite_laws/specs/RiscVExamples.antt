@@ -1,9 +1,9 @@
 -- RISC-V: words that LLVM's assembler wrote, as instructions, and what some instructions leave of a
 -- hart (RISC-V unprivileged ISA; its sections are named in `RiscVMachine`).
 use Rattle.std.specs.Prelude.{◌≡◌, ℕ, ◌*◌, ◌%◌, List, [], ◌∷◌, pos, negsuc, Some, None}
-use Rattle.rewrite_laws.specs.RiscVMachine.{Hart, register, Instruction, lui, auipc, jal, sums, adds}
-use Rattle.rewrite_laws.specs.RiscVMachine.{adds_word, jumps, loads, stores, loads_float}
-use Rattle.rewrite_laws.specs.RiscVMachine.{fetched, executed}
+use Rattle.rewrite_laws.specs.RiscVMachine.{Hart, register, Instruction, lui, auipc, jal, sums}
+use Rattle.rewrite_laws.specs.RiscVMachine.{adds, adds_word, jumps, loads, stores, loads_float}
+use Rattle.rewrite_laws.specs.RiscVMachine.{fetched, executed, Runs}
 
 -- ---- words
 
@@ -82,3 +82,20 @@ Execution =
     -- `flw` sets the bits above a float
     × ((executed 4 (sums (loads_float 2) 5 1 0 (pos 0)) some_hart).floats 5
     ≡ 0xffffffffffffffffffffffff03020100)
+
+-- ---- sequences
+
+-- n instructions of code at 0x1000 lead to an address, and x1 has another
+abbrev pub Leads : ℕ → List ℕ → ℕ → ℕ → Type 0
+Leads n code address x1 =
+    (after : Hart) × Runs n code 0x1000 some_hart after × (after.pc ≡ address)
+    × (register after 1 ≡ x1)
+
+abbrev pub Sequences : Type 0
+Sequences =
+    -- auipc ra, 2; jalr ra, 16(ra)
+    Leads 2 (0x97 ∷ 0x20 ∷ 0x00 ∷ 0x00 ∷ 0xe7 ∷ 0x80 ∷ 0x00 ∷ 0x01 ∷ []) 0x3010 0x1008
+    -- jal ra, 0x2010
+    × Leads 1 (0xef ∷ 0x20 ∷ 0x00 ∷ 0x01 ∷ []) 0x3010 0x1004
+    -- c.nop; c.j -2
+    × Leads 2 (0x01 ∷ 0x00 ∷ 0xfd ∷ 0xbf ∷ []) 0x1000 0x100

@@ -4,7 +4,7 @@
 -- harts that are alike, each at its own place, both run to an end, and are alike again, but for the
 -- registers that the law lists and for addresses in code.
 use Rattle.std.specs.Prelude.{◌≡◌, ℕ, ◌+◌, ◌<◌, ◌^◌, ◌==◌, ◌&&◌, ◌||◌, not, Bool, false, List, drop}
-use Rattle.std.specs.Prelude.{Option, Some, IsSomeAnd, ⊤, ◌≢◌}
+use Rattle.std.specs.Prelude.{take, ◌++◌, Option, Some, IsSomeAnd, ⊤, ◌≢◌}
 use Rattle.linker_base.specs.Rewrite.{rewritten}
 use Rattle.linker_utils.specs.Choices.{low_12_bounds, symbol_and_addend}
 use Rattle.linker_utils.specs.Elf.{IsWithin}
@@ -115,9 +115,9 @@ ShortTailCalls =
 abbrev pub IsLow12 : Operands → Type 0
 IsLow12 x = IsWithin (Some low_12_bounds) (symbol_and_addend x)
 
--- the two are behind their instructions, of n and of m bytes
-pub record HaveGoneOn (differs : ℕ → Bool) (at new_at : ℕ) (a b : Hart) : Type 0 where
-  pub alike : AreAlike differs a b
+-- The two are alike, and behind their instructions.
+pub record HaveGoneOn (at new_at : ℕ) (a b : Hart) : Type 0 where
+  pub alike : AreAlike no_register a b
   pub next : a.pc ≡ at
   pub new_next : b.pc ≡ new_at
 
@@ -131,8 +131,7 @@ LuiBecomesClui =
     → Relocated (Some clui_row) x
     (drop o (deleted 2 (o + 2) (after_rewrite kinds.Hi20ToCLui section o))) new
     → (h k : Hart) → h.pc < 2 ^ 64 → k.pc < 2 ^ 64 → AreAlike no_register h k
-    → EndSo 1 original h 1 new k
-    (HaveGoneOn no_register (sum_64 h.pc 4) (sum_64 k.pc 2))
+    → EndSo 1 original h 1 new k (HaveGoneOn (sum_64 h.pc 4) (sum_64 k.pc 2))
 
 -- A `lui` that is deleted would put 0 in its register, and change nothing else.
 pub record HasZero (rd behind : ℕ) (a b : Hart) : Type 0 where
@@ -182,18 +181,56 @@ abbrev pub StoresTheSame : Action → ℕ → ℕ → Hart → Hart → Type 0
 StoresTheSame (stores f) rs1 rs2 h k = rs2 ≡ rs1 → register h rs1 ≡ register k rs1
 StoresTheSame action rs1 rs2 h k = ⊤
 
+-- what the instruction at an offset does with its sum
+abbrev pub action_at : List ℕ → ℕ → Option Action
+action_at section o =
+    action_of (opcode_of (word_at section o)) (funct3_of (word_at section o))
+
 -- Where the base is what the `lui` leaves, 0, x0 can be the base, whatever that register has in the
 -- hart of the new code.
-abbrev pub LowPartFromZero : Type 0
-LowPartFromZero =
-    (section : List ℕ) (o : ℕ) → riscv_matches kinds.Lo12Rs1ToZero section o
-    → let word = word_at section o in
-    IsSomeAnd (action_of (opcode_of word) (funct3_of word)) (λ action.
+abbrev pub FromZero : List ℕ → ℕ → Action → Type 0
+FromZero section o action =
+    let rd = rd_of (word_at section o) in
+    let rs1 = rs1_of (word_at section o) in
     (x : Operands) → IsLow12 x → (original new : List ℕ)
     → Relocated (low_row action) x (drop o section) original
     → Relocated (low_row action) x (drop o (after_rewrite kinds.Lo12Rs1ToZero section o)) new
-    → (h k : Hart) → h.pc < 2 ^ 64 → k.pc < 2 ^ 64 → AreAlike (λ r. r == rs1_of word) h k
-    → register h (rs1_of word) ≡ 0 → StoresTheSame action (rs1_of word) (rs2_of word) h k
-    → EndSo 1 original h 1 new k (λ a b.
+    → (h k : Hart) → h.pc < 2 ^ 64 → k.pc < 2 ^ 64 → AreAlike (λ r. r == rs1) h k
+    → register h rs1 ≡ 0 → StoresTheSame action rs1 (rs2_of (word_at section o)) h k
+    → EndSo 1 original h 1 new k (λ a b. AreAlike (differs_after action rd rs1) a b
+    × GoOn action rd (even symbol_address x) (sum_64 h.pc 4) (sum_64 k.pc 4) a b)
+
+abbrev pub LowPartFromZero : Type 0
+LowPartFromZero =
+    (section : List ℕ) (o : ℕ) → riscv_matches kinds.Lo12Rs1ToZero section o
+    → IsSomeAnd (action_at section o) (FromZero section o)
+
+-- ---- a `lui` and its low part (psABI, "Zero-page Relaxation")
+
+-- a store stores another register than its base
+abbrev pub StoresAnother : Action → ℕ → ℕ → Type 0
+StoresAnother (stores f) rs1 rs2 = rs2 ≢ rs1
+StoresAnother action rs1 rs2 = ⊤
+
+-- A `lui` with the instruction behind it that adds its low part, and that instruction alone with x0
+-- as its base, once the `lui` is deleted.
+abbrev pub AloneFromZero : List ℕ → ℕ → Action → Type 0
+AloneFromZero section o action =
+    let word = word_at section (o + 4) in
+    StoresAnother action (rs1_of word) (rs2_of word)
+    → (x : Operands) → IsLow12 x → (high low new : List ℕ)
+    → Relocated (riscv_row names.R_RISCV_HI20) x (drop o section) high
+    → Relocated (low_row action) x (drop (o + 4) section) low
+    → Relocated (low_row action) x
+    (drop o (deleted 4 o (after_rewrite kinds.Lo12Rs1ToZero section (o + 4)))) new
+    → (h k : Hart) → h.pc < 2 ^ 64 → k.pc < 2 ^ 64 → AreAlike no_register h k
+    → EndSo 2 (take 4 high ++ low) h 1 new k (λ a b.
     AreAlike (differs_after action (rd_of word) (rs1_of word)) a b
-    × GoOn action (rd_of word) (even symbol_address x) (sum_64 h.pc 4) (sum_64 k.pc 4) a b))
+    × GoOn action (rd_of word) (even symbol_address x) (sum_64 h.pc 8) (sum_64 k.pc 4) a b)
+
+abbrev pub PairFromZero : Type 0
+PairFromZero =
+    (section : List ℕ) (o : ℕ) → riscv_matches kinds.Hi20Delete section o
+    → riscv_matches kinds.Lo12Rs1ToZero section (o + 4)
+    → rs1_of (word_at section (o + 4)) ≡ rd_of (word_at section o)
+    → IsSomeAnd (action_at section (o + 4)) (AloneFromZero section o)

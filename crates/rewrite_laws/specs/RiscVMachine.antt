@@ -76,7 +76,8 @@ rs2_of word = field word 20 25
 
 -- an instruction with an immediate of I-type, and one of S-type
 abbrev pub i_type : Action → ℕ → Option Instruction
-i_type action word = Some (sums action (rd_of word) (rs1_of word) 0 ((riscv_form IType).machine word))
+i_type action word =
+    Some (sums action (rd_of word) (rs1_of word) 0 ((riscv_form IType).machine word))
 
 abbrev pub s_type : Action → ℕ → Option Instruction
 s_type action word =

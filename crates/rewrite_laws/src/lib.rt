@@ -38,7 +38,7 @@ pub fn aarch64()
 /// of their layout, and a call links the address behind it; `c.lui` puts in its register what `lui`
 /// does; a `lui` that is deleted would put 0 there, so that x0 can be the base of the instructions
 /// that add its low part. All else that a program sees is the same, but for the register of a tail
-/// call's `auipc` and that of a deleted `lui`. The last three clauses are examples of what the
+/// call's `auipc` and that of a deleted `lui`. The last four clauses are examples of what the
 /// machine does.
 pub fn riscv64()
     ensures calls { riscv_laws.Calls }
@@ -47,9 +47,11 @@ pub fn riscv64()
     ensures short_high_parts { riscv_laws.LuiBecomesClui }
     ensures no_high_parts { riscv_laws.LuiIsDeleted }
     ensures low_parts { riscv_laws.LowPartFromZero }
+    ensures pairs { riscv_laws.PairFromZero }
     ensures words { riscv_examples.Words }
     ensures halves { riscv_examples.Halves }
     ensures execution { riscv_examples.Execution }
+    ensures sequences { riscv_examples.Sequences }
 {}
 
 /// x86-64: with no prefix, with REX and with REX2, an instruction that takes an address or an offset

@@ -1,9 +1,12 @@
 -- The laws of RISC-V.
-use Rattle.std.proofs.Common.{refl}
+use Rattle.std.proofs.Common.{refl, pos, negsuc}
 use Rattle.linker_base.specs.Form.{place_sum}
+use Rattle.rewrite_laws.specs.RiscVExamples.{some_hart}
+use Rattle.rewrite_laws.specs.RiscVMachine.{auipc, jal, sums, adds, jumps, executed}
 use Rattle.rewrite_laws.proofs.RiscVCalls.{call_becomes_jal, tail_becomes_jal, tail_becomes_cj}
 use Rattle.rewrite_laws.proofs.RiscVLowParts.{low_part_from_zero}
 use Rattle.rewrite_laws.proofs.RiscVLuis.{lui_becomes_clui, lui_is_deleted}
+use Rattle.rewrite_laws.proofs.RiscVPairs.{pair_from_zero}
 use Rattle.rewrite_laws.proofs.riscv64.Goals as goal
 
 pub returns-clause-calls : goal.returns-clause-calls
@@ -24,6 +27,9 @@ returns-clause-no_high_parts c = lui_is_deleted
 pub returns-clause-low_parts : goal.returns-clause-low_parts
 returns-clause-low_parts c = low_part_from_zero
 
+pub returns-clause-pairs : goal.returns-clause-pairs
+returns-clause-pairs c = pair_from_zero
+
 pub returns-clause-words : goal.returns-clause-words
 unfolding place_sum
 returns-clause-words c = (refl, refl, refl, refl, refl, refl, refl, refl)
@@ -35,3 +41,28 @@ returns-clause-halves c = (refl, refl, refl, refl, refl)
 pub returns-clause-execution : goal.returns-clause-execution
 returns-clause-execution c =
     (refl, refl, refl, refl, refl, refl, refl, refl, refl, refl, refl, refl)
+
+pub returns-clause-sequences : goal.returns-clause-sequences
+unfolding place_sum
+returns-clause-sequences c =
+    let first = executed 4 (auipc 1 (pos 0x2000)) some_hart in
+    let nop = executed 2 (sums adds 0 0 0 (pos 0)) some_hart in (
+      (
+        executed 4 (sums jumps 1 1 0 (pos 16)) first,
+        (first, refl, (executed 4 (sums jumps 1 1 0 (pos 16)) first, refl, refl)),
+        refl,
+        refl,
+      ),
+      (
+        executed 4 (jal 1 (pos 0x2010)) some_hart,
+        (executed 4 (jal 1 (pos 0x2010)) some_hart, refl, refl),
+        refl,
+        refl,
+      ),
+      (
+        executed 2 (jal 0 (negsuc 1)) nop,
+        (nop, refl, (executed 2 (jal 0 (negsuc 1)) nop, refl, refl)),
+        refl,
+        refl,
+      ),
+    )
