@@ -510,7 +510,9 @@ struct linker_utils_link_facts {
     /* The addresses in `operands` are known. Where they are not, a rewrite that depends on a
      * distance is not chosen; another is, and its value may turn out to be out of reach. */
     uint8_t has_addresses;
-    /* Those of the relocation before the rewrite. The addend is always read. */
+    /* Those of the relocation before the rewrite. The addend is always read. `got_entry` is that of
+     * the relocation after it: of a rewrite to initial-exec TLS that of the offset from the thread
+     * pointer. */
     struct linker_utils_operands operands;
 };
 
@@ -530,8 +532,10 @@ struct linker_utils_choice {
  * relocation after it, into `choice`. `linker_utils_matches` of the rewrite then returns
  * LINKER_UTILS_OK. Where no rewrite is allowed, or the bytes are not the instruction that the
  * relocation's name asks for, it is NO_OP and the same relocation. NO_OP and another relocation are
- * possible: the `adrp` of a pair. The two halves of a pair, and the instructions of a TLS sequence,
- * are chosen alike where the facts and the symbol are the same. */
+ * possible: the `adrp` of a pair. The bytes are those of the object file: the two halves of a pair,
+ * and the instructions of a TLS descriptor's sequence on AArch64, test the whole of it, so that all
+ * are chosen alike where the facts and the symbol are the same. So they have to be chosen before one
+ * of them is rewritten. */
 static inline uint32_t linker_utils_choose(uint16_t machine, uint32_t r_type,
                                            const uint8_t *section, size_t section_len,
                                            uint64_t offset,

@@ -304,4 +304,5 @@ pub fn choose(
 /// With the same facts, except that each has its own place, both relocations of a load of a GOT entry
 /// are rewritten or neither is, also where it loads an offset for initial-exec; and of the four of a
 /// TLS descriptor all are rewritten for local-exec, all for initial-exec, or none is.
+#[doc(hidden)]
 pub fn relocations_are_chosen_alike() {}

@@ -5,7 +5,7 @@ use crate::elf::{Operands, Row};
 
 /// What a linker knows of a relocation's symbol and of its output when it chooses a rewrite. By
 /// default no fact holds, and nothing is rewritten.
-#[derive(Debug, Default, Clone, Copy, PartialEq, Eq)]
+#[derive(Debug, Default, Clone, Copy, PartialEq, Eq, Hash)]
 pub struct LinkFacts {
     /// The symbol is defined in this output, and no other definition can replace it at run time.
     pub is_local: bool,
@@ -33,11 +33,13 @@ pub struct LinkFacts {
     /// distance is not chosen; another is, and its value may turn out to be out of reach.
     pub has_addresses: bool,
     /// What the relocation's value is computed from before the rewrite. The addend is always read.
+    /// `got_entry` is that of the relocation after it: of a rewrite to initial-exec TLS that of the
+    /// offset from the thread pointer.
     pub operands: Operands,
 }
 
 /// A rewrite of an instruction, and the relocation whose value is then written.
-#[derive(Debug, Clone, Copy, PartialEq, Eq)]
+#[derive(Debug, Clone, Copy, PartialEq, Eq, Hash)]
 pub struct Choice<K, R> {
     /// The rewrite; `NoOp` where none is chosen, and where only the relocation changes.
     pub kind: K,

@@ -65,24 +65,25 @@ fn is_low_part(name: RiscVRelocation, section: &[u8], offset: u64, facts: &LinkF
 ///
 /// | Relocation | Rewrite | Relocation after it | Where |
 /// |---|---|---|---|
-/// | `R_RISCV_CALL`, `R_RISCV_CALL_PLT` | `TailToCJ` | `R_RISCV_RVC_JUMP` | it may be compressed, and a `c.j` reaches |
+/// | `R_RISCV_CALL`, `R_RISCV_CALL_PLT` | `TailToCJ` | `R_RISCV_RVC_JUMP` | a `c.j` reaches |
 /// | | `TailToJal`, `CallToJal` | `R_RISCV_JAL` | a `jal` reaches |
 /// | `R_RISCV_HI20` | `Hi20Delete` | `R_RISCV_NONE` | S + A is from -0x800 to 0x7ff |
-/// | | `Hi20ToCLui` | `R_RISCV_RVC_LUI` | it may be compressed, and a `c.lui` reaches |
-/// | `R_RISCV_LO12_I`, `R_RISCV_LO12_S` | `Lo12Rs1ToZero` | the same | S + A is from -0x800 to 0x7ff |
+/// | | `Hi20ToCLui` | `R_RISCV_RVC_LUI` | a `c.lui` reaches |
+/// | `R_RISCV_LO12_I`, `_S` | `Lo12Rs1ToZero` | the same | S + A is from -0x800 to 0x7ff |
 ///
-/// All ask that the relocation is marked, that the addresses are known, and that `matches` of the
-/// rewrite holds. Those of calls ask that the symbol has no PLT entry and that its distance is fixed,
-/// the others that its address is fixed. Else it is `NoOp` and the same relocation.
+/// Each asks that the relocation is marked, that the addresses are known, and that `matches` of the
+/// rewrite holds; `c.j` and `c.lui` that the code may have them. Jumps ask that the symbol has no
+/// PLT entry and that its distance is fixed, the others that its address is fixed. Where none
+/// applies, it is `NoOp` and the same relocation.
 ///
 /// The linker sees to the rest:
 ///
 /// - Once a `lui` is deleted, each low part of it has to be rewritten. They are, if they have the
 ///   same S + A and are marked, and are instructions that `Lo12Rs1ToZero` is meant for.
 /// - It deletes the bytes that `RelaxationKind::deleted` names.
-/// - The distance is that of the addresses in `facts`. Deleted bytes make it smaller, but the padding
-///   of an alignment between the call and the symbol may grow. `write` then returns an error if the
-///   distance is out of reach.
+/// - The distance is that of the addresses in `facts`. Deleted bytes make it smaller, but the
+///   padding of an alignment between the call and the symbol may grow. `write` then returns an
+///   error if the distance is out of reach.
 ///
 /// ```
 /// use linker_utils::elf::{LinkFacts, Operands};

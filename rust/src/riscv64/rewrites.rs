@@ -38,7 +38,7 @@ pub enum RelaxationKind {
 }
 
 /// The bytes that a linker deletes after a rewrite.
-#[derive(Debug, Clone, Copy, PartialEq, Eq)]
+#[derive(Debug, Clone, Copy, PartialEq, Eq, Hash)]
 pub struct DeletedBytes {
     /// Where they begin, in bytes from the rewrite's offset.
     pub start: u64,

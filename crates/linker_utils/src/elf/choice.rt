@@ -35,6 +35,8 @@ pub struct LinkFacts {
     /// distance is not chosen; another is, and its value may turn out to be out of reach.
     pub has_addresses: bool,
     /// What the relocation's value is computed from before the rewrite. The addend is always read.
+    /// `got_entry` is that of the relocation after it: of a rewrite to initial-exec TLS that of the
+    /// offset from the thread pointer.
     pub operands: Operands,
 }
 

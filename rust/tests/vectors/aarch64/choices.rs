@@ -28,12 +28,12 @@ static INITIAL_EXEC: [u8; 16] = [
     0, 1, 0, 0xd0, 0, 0x14, 0x44, 0xf9, 0x1f, 0x20, 3, 0xd5, 0x1f, 0x20, 3, 0xd5,
 ];
 
-/// The four relocations of a descriptor, which are 4 bytes apart.
-static DESCRIPTOR_NAMES: [AArch64Relocation; 4] = [
-    AArch64Relocation::R_AARCH64_TLSDESC_ADR_PAGE21,
-    AArch64Relocation::R_AARCH64_TLSDESC_LD64_LO12,
-    AArch64Relocation::R_AARCH64_TLSDESC_ADD_LO12,
-    AArch64Relocation::R_AARCH64_TLSDESC_CALL,
+/// The four relocations of a descriptor, and their offsets.
+static DESCRIPTOR_RELOCATIONS: [(u64, AArch64Relocation); 4] = [
+    (0, AArch64Relocation::R_AARCH64_TLSDESC_ADR_PAGE21),
+    (4, AArch64Relocation::R_AARCH64_TLSDESC_LD64_LO12),
+    (8, AArch64Relocation::R_AARCH64_TLSDESC_ADD_LO12),
+    (12, AArch64Relocation::R_AARCH64_TLSDESC_CALL),
 ];
 
 /// What an executable knows of a symbol that it defines.
@@ -204,6 +204,30 @@ fn entry_loads_become_addresses_as_by_linkers() {
 }
 
 #[test]
+fn entry_loads_become_adr_as_by_linkers() {
+    // `adrp x9, :got:v` and `ldr x9, [x9, :got_lo12:v]` at 0x10380, with v at 0x42840: ld.lld 14
+    let mut section = 0xf940_0129_9000_0009u64.to_le_bytes();
+    let facts = own(Operands {
+        symbol: 0x4_2840,
+        place: 0x1_0384,
+        ..Operands::default()
+    });
+    for name in [
+        AArch64Relocation::R_AARCH64_LD64_GOT_LO12_NC,
+        AArch64Relocation::R_AARCH64_ADD_ABS_LO12_NC,
+    ] {
+        let choice = choose(name, &section, 4, &facts);
+        assert!(choice != unchanged(name), "{name:?}");
+        assert!(is_made(&mut section, 4, choice, &facts), "{name:?}");
+    }
+    expect_eq(
+        "section",
+        section,
+        0x1019_25e9_d503_201fu64.to_le_bytes(),
+    );
+}
+
+#[test]
 fn entry_loads_become_moves_as_by_linkers() {
     let page_name = AArch64Relocation::R_AARCH64_TLSIE_ADR_GOTTPREL_PAGE21;
     let low_name = AArch64Relocation::R_AARCH64_TLSIE_LD64_GOTTPREL_LO12_NC;
@@ -243,10 +267,10 @@ fn entry_loads_become_moves_as_by_linkers() {
 /// What becomes of a descriptor's sequence by the choices for its four relocations.
 fn descriptor_made(facts: &LinkFacts) -> Option<[u8; 16]> {
     let mut section = DESCRIPTOR;
-    for (at, name) in (0u64..4).zip(DESCRIPTOR_NAMES) {
-        let here = next(facts, 4 * at);
-        let choice = choose(name, &DESCRIPTOR, 4 * at, &here);
-        if !is_made(&mut section, 4 * at, choice, &here) {
+    for &(at, name) in &DESCRIPTOR_RELOCATIONS {
+        let here = next(facts, at);
+        let choice = choose(name, &DESCRIPTOR, at, &here);
+        if !is_made(&mut section, at, choice, &here) {
             return None;
         }
     }
@@ -277,10 +301,10 @@ fn descriptors_become_offsets_as_by_linkers() {
     let mut section = DESCRIPTOR;
     assert!(is_tls_descriptor_sequence(&section, 0));
     let masks = [ADRP, LOW12, LOW12, u32::MAX];
-    for (at, name) in (0u64..4).zip(DESCRIPTOR_NAMES) {
+    for &(at, name) in &DESCRIPTOR_RELOCATIONS {
         for facts in [local, initial] {
             assert!(
-                is_chosen_by_each_bit(&mut section, &masks, name, 4 * at, &next(&facts, 4 * at)),
+                is_chosen_by_each_bit(&mut section, &masks, name, at, &next(&facts, at)),
                 "{name:?}"
             );
             let library = LinkFacts {
@@ -289,7 +313,7 @@ fn descriptors_become_offsets_as_by_linkers() {
             };
             expect_eq(
                 name,
-                choose(name, &section, 4 * at, &library),
+                choose(name, &section, at, &library),
                 unchanged(name),
             );
         }

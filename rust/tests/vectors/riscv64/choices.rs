@@ -163,7 +163,7 @@ fn altered_calls_are_left() {
     let name = RiscVRelocation::R_RISCV_CALL;
     let facts = facts_at(0x1800, 0x1000);
     let call = u64::from_le_bytes(both(CALL));
-    for bit in 0..64 {
+    for bit in 0..64u32 {
         let kind = match bit {
             12..=31 | 52..=63 => RelaxationKind::CallToJal,
             // the `jalr` links no register
