@@ -35,7 +35,8 @@ use Rattle.relocation_laws.proofs.Sums.{sum_below, lifted_is}
 use Rattle.rewrite_laws.specs.Machine.{AreBytes, Memory, loaded, stored, moved, extended}
 use Rattle.rewrite_laws.specs.Machine.{Relocated}
 use Rattle.rewrite_laws.specs.RiscVLaws.{AreAlike, StoresTheSame, GoOn, differs_after, EndSo}
-use Rattle.rewrite_laws.specs.RiscVLaws.{after_rewrite, IsLow12, FromZero, LowPartFromZero, HaveOneTarget}
+use Rattle.rewrite_laws.specs.RiscVLaws.{after_rewrite, IsLow12, FromZero, LowPartFromZero}
+use Rattle.rewrite_laws.specs.RiscVLaws.{HaveOneTarget}
 use Rattle.rewrite_laws.specs.RiscVMachine.{Hart, register, with_integer, with_number, Action, adds}
 use Rattle.rewrite_laws.specs.RiscVMachine.{adds_word, jumps, loads, stores, loads_float}
 use Rattle.rewrite_laws.specs.RiscVMachine.{stores_float, lui, auipc, jal, sums, rs1_of}
