@@ -36,6 +36,7 @@ use Rattle.rewrite_laws.specs.Machine.{AreBytes, Memory, loaded, stored, moved, 
 use Rattle.rewrite_laws.specs.Machine.{Relocated}
 use Rattle.rewrite_laws.specs.RiscVLaws.{AreAlike, StoresTheSame, GoOn, differs_after, EndSo}
 use Rattle.rewrite_laws.specs.RiscVLaws.{after_rewrite, IsLow12, FromZero, LowPartFromZero}
+use Rattle.rewrite_laws.specs.RiscVLaws.{HaveOneTarget}
 use Rattle.rewrite_laws.specs.RiscVMachine.{Hart, register, with_integer, with_number, Action, adds}
 use Rattle.rewrite_laws.specs.RiscVMachine.{adds_word, jumps, loads, stores, loads_float}
 use Rattle.rewrite_laws.specs.RiscVMachine.{stores_float, lui, auipc, jal, sums, rs1_of}
@@ -402,9 +403,9 @@ both_end a rd rs1 rs2 i target code code' long long' low low' is is' sum h k sma
 abbrev pub LowLaw : Option RelocationKindInfo → Action → ℕ → ℕ → List ℕ → ℕ → Type 0
 LowLaw row a rd rs2 section o =
     let rs1 = rs1_of (word_at section o) in
-    (x : Operands) → IsLow12 x → (original new : List ℕ)
+    (x y : Operands) → HaveOneTarget x y → IsLow12 x → (original new : List ℕ)
     → Relocated row x (drop o section) original
-    → Relocated row x (drop o (after_rewrite kinds.Lo12Rs1ToZero section o)) new
+    → Relocated row y (drop o (after_rewrite kinds.Lo12Rs1ToZero section o)) new
     → (h k : Hart) → h.pc < 2 ^ 64 → k.pc < 2 ^ 64 → AreAlike (λ r. r == rs1) h k
     → register h rs1 ≡ 0 → StoresTheSame a rs1 rs2 h k
     → EndSo 1 original h 1 new k (λ e e'. AreAlike (differs_after a rd rs1) e e'
@@ -424,7 +425,7 @@ module _ (a : Action) (section : List ℕ) (o : ℕ) (inside : o + 4 ≤ length 
 
   pub i_law : ((w : ℕ) → with_action w (Some a) ≡ i_type a w)
       → LowLaw (riscv_row names.R_RISCV_LO12_I) a (rd_of (word_at section o)) 0 section o
-  i_law form x low original new old_code new_code h k small small' alike none apart =
+  i_law form x y one low original new old_code new_code h k small small' alike none apart =
       let word = word_at section o in
       let n = symbol_address x in
       let before' = drop o (after_rewrite kinds.Lo12Rs1ToZero section o) in
@@ -445,13 +446,13 @@ module _ (a : Action) (section : List ℕ) (o : ℕ) (inside : o + 4 ≤ length 
       let rs1 : field w 15 20 ≡ field word 15 20
       = i_kept x (drop o section) original ap1 15 5 refl in
       let opcode' : field w' 0 7 ≡ field word 0 7
-      = i_kept x before' new ap2 0 7 refl ∙ ap (λ v. field v 0 7) there ∙ clear_0 word in
+      = i_kept y before' new ap2 0 7 refl ∙ ap (λ v. field v 0 7) there ∙ clear_0 word in
       let function' : field w' 12 15 ≡ field word 12 15
-      = i_kept x before' new ap2 12 3 refl ∙ ap (λ v. field v 12 15) there ∙ clear_12 word in
+      = i_kept y before' new ap2 12 3 refl ∙ ap (λ v. field v 12 15) there ∙ clear_12 word in
       let rd' : field w' 7 12 ≡ field word 7 12
-      = i_kept x before' new ap2 7 5 refl ∙ ap (λ v. field v 7 12) there ∙ clear_7 word in
+      = i_kept y before' new ap2 7 5 refl ∙ ap (λ v. field v 7 12) there ∙ clear_7 word in
       let rs1' : field w' 15 20 ≡ 0
-      = i_kept x before' new ap2 15 5 refl ∙ ap (λ v. field v 15 20) there ∙ clear_15 word in
+      = i_kept y before' new ap2 15 5 refl ∙ ap (λ v. field v 15 20) there ∙ clear_15 word in
       both_end a (rd_of word) (rs1_of word) 0 i n original new (omega (arith, long_before, l))
       (omega (arith, long_before', l')) (low_bits w opcode) (low_bits w' opcode')
       (as_action w opcode function ∙ form w
@@ -462,14 +463,15 @@ module _ (a : Action) (section : List ℕ) (o : ℕ) (inside : o + 4 ≤ length 
       (as_action w' opcode' function' ∙ form w'
       ∙ ap (λ v. Some (sums a v (rs1_of w') 0 ((riscv_form IType).machine w'))) rd'
       ∙ ap (λ v. Some (sums a (rd_of word) v 0 ((riscv_form IType).machine w'))) rs1'
-      ∙ ap (λ v. Some (sums a (rd_of word) 0 0 (signed 12 v))) (i_stands x before' new ap2))
+      ∙ ap (λ v. Some (sums a (rd_of word) 0 0 (signed 12 v))) (i_stands y before' new ap2
+      ∙ ap (λ t. t % 2 ^ 32 % 4096) (sym one)))
       (low_sum n (n % 2 ^ 32 % 4096) (sum_below x.symbol _)
       (low_12_number n (sum_below x.symbol _) low) refl)
       h k small small' alike none apart
 
   pub s_law : ((w : ℕ) → with_action w (Some a) ≡ s_type a w)
       → LowLaw (riscv_row names.R_RISCV_LO12_S) a 0 (rs2_of (word_at section o)) section o
-  s_law form x low original new old_code new_code h k small small' alike none apart =
+  s_law form x y one low original new old_code new_code h k small small' alike none apart =
       let word = word_at section o in
       let n = symbol_address x in
       let before' = drop o (after_rewrite kinds.Lo12Rs1ToZero section o) in
@@ -491,13 +493,13 @@ module _ (a : Action) (section : List ℕ) (o : ℕ) (inside : o + 4 ≤ length 
       let rs2 : field w 20 25 ≡ field word 20 25
       = s_kept x (drop o section) original ap1 20 5 refl in
       let opcode' : field w' 0 7 ≡ field word 0 7
-      = s_kept x before' new ap2 0 7 refl ∙ ap (λ v. field v 0 7) there ∙ clear_0 word in
+      = s_kept y before' new ap2 0 7 refl ∙ ap (λ v. field v 0 7) there ∙ clear_0 word in
       let function' : field w' 12 15 ≡ field word 12 15
-      = s_kept x before' new ap2 12 3 refl ∙ ap (λ v. field v 12 15) there ∙ clear_12 word in
+      = s_kept y before' new ap2 12 3 refl ∙ ap (λ v. field v 12 15) there ∙ clear_12 word in
       let rs1' : field w' 15 20 ≡ 0
-      = s_kept x before' new ap2 15 5 refl ∙ ap (λ v. field v 15 20) there ∙ clear_15 word in
+      = s_kept y before' new ap2 15 5 refl ∙ ap (λ v. field v 15 20) there ∙ clear_15 word in
       let rs2' : field w' 20 25 ≡ field word 20 25
-      = s_kept x before' new ap2 20 5 refl ∙ ap (λ v. field v 20 25) there ∙ clear_20 word in
+      = s_kept y before' new ap2 20 5 refl ∙ ap (λ v. field v 20 25) there ∙ clear_20 word in
       both_end a 0 (rs1_of word) (rs2_of word) i n original new (omega (arith, long_before, l))
       (omega (arith, long_before', l')) (low_bits w opcode) (low_bits w' opcode')
       (as_action w opcode function ∙ form w
@@ -508,7 +510,8 @@ module _ (a : Action) (section : List ℕ) (o : ℕ) (inside : o + 4 ≤ length 
       (as_action w' opcode' function' ∙ form w'
       ∙ ap (λ v. Some (sums a 0 v (rs2_of w') ((riscv_form SType).machine w'))) rs1'
       ∙ ap (λ v. Some (sums a 0 0 v ((riscv_form SType).machine w'))) rs2'
-      ∙ ap (λ v. Some (sums a 0 0 (rs2_of word) (signed 12 v))) (s_stands x before' new ap2))
+      ∙ ap (λ v. Some (sums a 0 0 (rs2_of word) (signed 12 v))) (s_stands y before' new ap2
+      ∙ ap (λ t. t % 2 ^ 32 % 4096) (sym one)))
       (low_sum n (n % 2 ^ 32 % 4096) (sum_below x.symbol _)
       (low_12_number n (sum_below x.symbol _) low) refl)
       h k small small' alike none apart

@@ -1,7 +1,8 @@
 -- A `lui` computes the same as `c.lui`, and nothing where it is deleted.
 use Rattle.std.proofs.Common.{◌≡◌, ◌≢◌, ℕ, ◌+◌, ◌*◌, ◌≤◌, refl, sym}
 use Rattle.std.proofs.Common.{◌∙◌, ap, arith, List, length, take, drop}
-use Rattle.std.specs.Int.{w16, w32, from_le_bytes}
+use Rattle.std.proofs.Common.{Some, w64, subst}
+use Rattle.std.specs.Int.{cast_signed, w16, w32, from_le_bytes}
 use Rattle.linker_base.specs.Bits.{field, signed}
 use Rattle.linker_base.specs.Form.{place_sum}
 use Rattle.linker_utils.specs.RiscV.{hi20_to_clui, word_at, riscv_places}
@@ -12,7 +13,10 @@ use Rattle.linker_utils.proofs.RiscVRewrites.{half_of_front}
 use Rattle.relocation_laws.specs.Schemes.{symbol_address}
 use Rattle.relocation_laws.proofs.Sums.{sum_below}
 use Rattle.rewrite_laws.specs.Machine.{deleted, wrapped}
-use Rattle.rewrite_laws.specs.RiscVLaws.{after_rewrite, LuiBecomesClui, LuiIsDeleted}
+use Rattle.linker_utils.specs.Choices.{low_12_bounds}
+use Rattle.linker_utils.specs.Elf.{IsWithin}
+use Rattle.rewrite_laws.proofs.RiscVHighParts.{high_20}
+use Rattle.rewrite_laws.specs.RiscVLaws.{IsLow12, after_rewrite, LuiBecomesClui, LuiIsDeleted}
 use Rattle.rewrite_laws.specs.RiscVMachine.{register, with_integer}
 use Rattle.rewrite_laws.proofs.RiscVHighParts.{upper_put, upper_runs, upper_is, upper_register}
 use Rattle.rewrite_laws.proofs.RiscVHighParts.{upper_stands, no_high_part, low_12_number}
@@ -74,7 +78,7 @@ clui_there section o inside =
     ≡ 0x6001 + field (from_le_bytes w32 (drop o section)) 7 12 * 128 = omega arith in e)
 
 pub lui_becomes_clui : LuiBecomesClui
-lui_becomes_clui section o m x high original new old_code new_code h k small small' alike =
+lui_becomes_clui section o m x y one high original new old_code new_code h k small small' alike =
     let before = drop o section in
     let before' = drop o (deleted 2 (o + 2) (after_rewrite kinds.Hi20ToCLui section o)) in
     let r = rd_of (word_at section o) in
@@ -82,7 +86,9 @@ lui_becomes_clui section o m x high original new old_code new_code h k small sma
     let l = old_code.len in
     let a' = new_code.applied in
     let l' = new_code.len in
-    let n = symbol_address x in
+    let n = symbol_address y in
+    let high' : ¬ IsLow12 y =
+    λ low. high (subst (λ a. IsWithin (Some low_12_bounds) (cast_signed w64 a)) (sym one) low) in
     let is = m.1.0 in
     let there = clui_there section o m.0 in
     let low_bits : field (from_le_bytes w16 before') 0 2 ≡ 1 = omega (arith, there) in
@@ -94,16 +100,16 @@ lui_becomes_clui section o m x high original new old_code new_code h k small sma
     wrapped (signed 32 (place_sum (riscv_places UType) (from_le_bytes w32 original))) in
     let number' = wrapped (signed 18 (place_sum (riscv_places CluiType) (from_le_bytes w16 new))) in
     let is' = upper_is x before original a l is h in
-    let is'' = short_is x before' new a' l' low_bits function some not_sp high k in
-    let same : number ≡ number' = same_immediates n _ _ (sum_below x.symbol _)
-    (near x before' new a' l' low_bits function some not_sp high)
-    (upper_stands x before original a l is)
-    (short_stands x before' new a' l' low_bits function some not_sp high) in
+    let is'' = short_is y before' new a' l' low_bits function some not_sp high' k in
+    let same : number ≡ number' = same_immediates n _ _ (sum_below y.symbol _)
+    (near y before' new a' l' low_bits function some not_sp high')
+    (upper_stands x before original a l is ∙ ap high_20 one)
+    (short_stands y before' new a' l' low_bits function some not_sp high') in
     record {
       end = upper_put x before original a l is h;
-      new_end = short_put x before' new a' l' low_bits function some not_sp high k;
+      new_end = short_put y before' new a' l' low_bits function some not_sp high' k;
       runs = upper_runs x before original a l is h small;
-      new_runs = short_runs x before' new a' l' low_bits function some not_sp high k small';
+      new_runs = short_runs y before' new a' l' low_bits function some not_sp high' k small';
       so = record {
         alike = record {
           integers = λ q e.
@@ -113,7 +119,7 @@ lui_becomes_clui section o m x high original new old_code new_code h k small sma
               ∙ ap (λ v. register (with_integer r v h) q) same
               ∙ same_written r number' h k q (λ _. alike.integers q refl)
               ∙ ap (λ s. register (with_integer s number' k) q)
-              (sym (short_register x before' new a' l' low_bits function some not_sp high
+              (sym (short_register y before' new a' l' low_bits function some not_sp high'
               ∙ register'))
               ∙ ap (λ z. register z q) (sym is'');
           floats = λ q. ap (λ z. z.floats q) is' ∙ alike.floats q

@@ -109,7 +109,7 @@ pair_from_zero section o m m' base =
     let a = some.0 in
     subst (λ r. IsSomeAnd r (AloneFromZero section o))
     (sym some.1)
-    (λ apart x is_low high low new high_code low_code new_code h k small small' alike.
+    (λ apart x y one is_low high low new high_code low_code new_code h k small small' alike.
     let first = lui_is_deleted section o m x is_low high [] high_code h k small small' alike in
     let middle = first.end in
     let behind : middle.pc ≡ sum_64 h.pc 4 = first.so.0.next in
@@ -123,8 +123,8 @@ pair_from_zero section o m m' base =
     ap (register middle) base ∙ first.so.0.zero_there in
     let there = deleted_there (after_rewrite kinds.Lo12Rs1ToZero section (o + 4)) o
     (rewritten_reaches section o m'.0) in
-    let second = law section (o + 4) m'.0 a some.1 some.2 x is_low low new low_code
-    (subst (λ bytes. Relocated (low_row a) x bytes new) there new_code) middle k small_middle small'
+    let second = law section (o + 4) m'.0 a some.1 some.2 x y one is_low low new low_code
+    (subst (λ bytes. Relocated (low_row a) y bytes new) there new_code) middle k small_middle small'
     alike_middle zero
     (stores_the_same a (rs1_of word) (rs2_of word) middle k apart) in
     let long_before : 4 ≤ length (drop o section) = high_code.applied.accepted.long in

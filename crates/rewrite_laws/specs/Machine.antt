@@ -1,9 +1,9 @@
--- What the machines have in common: bytes of memory, sums of 64 bits, and code to which a relocation
--- was applied.
+-- What the machines have in common: sums of 64 bits, bytes of memory, and code to which a
+-- relocation was applied.
 use Rattle.std.specs.Prelude.{ℕ, zero, suc, ◌+◌, ◌*◌, ◌^◌, ◌<◌, ℤ, pos, ◌+ℤ◌, nat_lt, List}
 use Rattle.std.specs.Prelude.{◌++◌, length, ◌≡◌, take, drop, Option, IsSomeAnd, All, if◌then◌else◌}
 use Rattle.std.specs.Int.{int_rem_euclid, w64, cast_unsigned}
-use Rattle.std.proofs.Common.{unsigned_abs}
+use Rattle.std.specs.Prelude.{unsigned_abs}
 use Rattle.linker_base.specs.Bits.{field, signed}
 use Rattle.linker_utils.specs.Value.{sum_64, difference_64}
 use Rattle.linker_utils.specs.declared.elf.RelocationKindInfo.{RelocationKindInfo}

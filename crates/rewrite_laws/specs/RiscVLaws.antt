@@ -115,6 +115,10 @@ ShortTailCalls =
 abbrev pub IsLow12 : Operands → Type 0
 IsLow12 x = IsWithin (Some low_12_bounds) (symbol_and_addend x)
 
+-- S + A is the same in both layouts
+abbrev pub HaveOneTarget : Operands → Operands → Type 0
+HaveOneTarget x y = symbol_address x ≡ symbol_address y
+
 -- The two are alike, and behind their instructions.
 pub record HaveGoneOn (at new_at : ℕ) (a b : Hart) : Type 0 where
   pub alike : AreAlike no_register a b
@@ -126,9 +130,9 @@ pub record HaveGoneOn (at new_at : ℕ) (a b : Hart) : Type 0 where
 abbrev pub LuiBecomesClui : Type 0
 LuiBecomesClui =
     (section : List ℕ) (o : ℕ) → riscv_matches kinds.Hi20ToCLui section o
-    → (x : Operands) → ¬ IsLow12 x → (original new : List ℕ)
+    → (x y : Operands) → HaveOneTarget x y → ¬ IsLow12 x → (original new : List ℕ)
     → Relocated (riscv_row names.R_RISCV_HI20) x (drop o section) original
-    → Relocated (Some clui_row) x
+    → Relocated (Some clui_row) y
     (drop o (deleted 2 (o + 2) (after_rewrite kinds.Hi20ToCLui section o))) new
     → (h k : Hart) → h.pc < 2 ^ 64 → k.pc < 2 ^ 64 → AreAlike no_register h k
     → EndSo 1 original h 1 new k (HaveGoneOn (sum_64 h.pc 4) (sum_64 k.pc 2))
@@ -192,9 +196,9 @@ abbrev pub FromZero : List ℕ → ℕ → Action → Type 0
 FromZero section o action =
     let rd = rd_of (word_at section o) in
     let rs1 = rs1_of (word_at section o) in
-    (x : Operands) → IsLow12 x → (original new : List ℕ)
+    (x y : Operands) → HaveOneTarget x y → IsLow12 x → (original new : List ℕ)
     → Relocated (low_row action) x (drop o section) original
-    → Relocated (low_row action) x (drop o (after_rewrite kinds.Lo12Rs1ToZero section o)) new
+    → Relocated (low_row action) y (drop o (after_rewrite kinds.Lo12Rs1ToZero section o)) new
     → (h k : Hart) → h.pc < 2 ^ 64 → k.pc < 2 ^ 64 → AreAlike (λ r. r == rs1) h k
     → register h rs1 ≡ 0 → StoresTheSame action rs1 (rs2_of (word_at section o)) h k
     → EndSo 1 original h 1 new k (λ a b. AreAlike (differs_after action rd rs1) a b
@@ -218,10 +222,10 @@ abbrev pub AloneFromZero : List ℕ → ℕ → Action → Type 0
 AloneFromZero section o action =
     let word = word_at section (o + 4) in
     StoresAnother action (rs1_of word) (rs2_of word)
-    → (x : Operands) → IsLow12 x → (high low new : List ℕ)
+    → (x y : Operands) → HaveOneTarget x y → IsLow12 x → (high low new : List ℕ)
     → Relocated (riscv_row names.R_RISCV_HI20) x (drop o section) high
     → Relocated (low_row action) x (drop (o + 4) section) low
-    → Relocated (low_row action) x
+    → Relocated (low_row action) y
     (drop o (deleted 4 o (after_rewrite kinds.Lo12Rs1ToZero section (o + 4)))) new
     → (h k : Hart) → h.pc < 2 ^ 64 → k.pc < 2 ^ 64 → AreAlike no_register h k
     → EndSo 2 (take 4 high ++ low) h 1 new k (λ a b.

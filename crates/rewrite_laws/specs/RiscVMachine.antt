@@ -130,7 +130,7 @@ of_half half =
 
 -- ---- execution
 
--- how many bytes a load or a store of a function has: 1, 2, 4, 8 or 16
+-- how many bytes a load or a store of an integer has, by its function: 1, 2, 4 or 8
 abbrev pub bytes_of : ℕ → ℕ
 bytes_of funct3 = 2 ^ (funct3 % 4)
 
