@@ -180,7 +180,7 @@ abbrev pub absolute_operands : ℕ → Operands → Operands
 absolute_operands o operands =
     record operands { place = difference_64 (sum_64 operands.place o) o; addend = pos 0 }
 
-sum_zero : (a : ℕ) → a < 2 ^ 64 → sum_64 a 0 ≡ a
+pub sum_zero : (a : ℕ) → a < 2 ^ 64 → sum_64 a 0 ≡ a
 sum_zero a small = omega arith
 
 zero_sum : (a t : ℕ) → sum_64 0 a ≡ t → a % 2 ^ 64 ≡ t
@@ -189,7 +189,7 @@ zero_sum a t is = omega arith
 low_extended : (f number : ℕ) → f % 2 ^ 64 ≡ number → extended f % 2 ^ 32 ≡ number % 2 ^ 32
 low_extended f number is = let low = extended_low f in omega arith
 
-offset_is : (x symbol base : ℕ) → symbol < 2 ^ 64 → base < 2 ^ 64 → sum_64 base x ≡ symbol
+pub offset_is : (x symbol base : ℕ) → symbol < 2 ^ 64 → base < 2 ^ 64 → sum_64 base x ≡ symbol
     → x % 2 ^ 64 ≡ difference_64 symbol base
 offset_is x symbol base small place is = omega arith
 

@@ -1,3 +1,4 @@
 pub mod X86Examples
 pub mod X86Laws
 pub mod X86Machine
+pub mod X86ThreadLaws

@@ -4,7 +4,7 @@ use Rattle.std.specs.Prelude.{◌≡◌, ℕ, ◌+◌, ◌*◌, ◌%◌, ◌==�
 use Rattle.std.specs.Prelude.{if◌then◌else◌}
 use Rattle.std.specs.Prelude.{length, IsTrue, IsSomeAnd, Some}
 use Rattle.rewrite_laws.specs.X86Machine.{Operation, MOV, ADD, OR, ADC, SBB, AND, SUB, XOR, CMP}
-use Rattle.rewrite_laws.specs.X86Machine.{TEST, Instruction, operate, lea, call, jump, nop, direct}
+use Rattle.rewrite_laws.specs.X86Machine.{TEST, Instruction, operate, lea, lea_from, load_thread, call, jump, nop, direct}
 use Rattle.rewrite_laws.specs.X86Machine.{indirect, register, relative, immediate, decode, step}
 use Rattle.rewrite_laws.specs.X86Machine.{Flags, State, result, flags_after, bit_of, load}
 use Rattle.rewrite_laws.specs.X86Machine.{writes}
@@ -122,6 +122,15 @@ Decoding =
     -- `adc $0x12345678, %r31`
     × DecodesAs (0xd5 ∷ 0x19 ∷ 0x81 ∷ 0xd7 ∷ 0x78 ∷ 0x56 ∷ 0x34 ∷ 0x12 ∷ [])
     (operate ADC 64 (register 31) (immediate 0x12345678))
+    -- `data16 lea 0x10(%rip), %rdi`
+    × DecodesAs (0x66 ∷ 0x48 ∷ 0x8d ∷ 0x3d ∷ 0x10 ∷ 0x00 ∷ 0x00 ∷ 0x00 ∷ [])
+    (lea 64 7 0x10)
+    -- `mov %fs:0, %rax`
+    × DecodesAs (0x64 ∷ 0x48 ∷ 0x8b ∷ 0x04 ∷ 0x25 ∷ 0x00 ∷ 0x00 ∷ 0x00 ∷ 0x00 ∷ [])
+    (load_thread 0 0)
+    -- `lea 0x12345678(%rax), %rax`
+    × DecodesAs (0x48 ∷ 0x8d ∷ 0x80 ∷ 0x78 ∷ 0x56 ∷ 0x34 ∷ 0x12 ∷ [])
+    (lea_from 64 0 0 0x12345678)
 
 -- ---- operations
 
@@ -205,6 +214,7 @@ example =
       ip = 0x1000;
       memory = λ a. a % 0x100;
       flags = with_carry 0;
+      fs = 0x2000;
     }
 
 abbrev pub Leaves : List ℕ → (State → Type 0) → Type 0
@@ -227,5 +237,8 @@ States =
     (s.ip ≡ 0x1016) × (s.register 4 ≡ 0xffffffff00000038)
     × (load 8 s 0xffffffff00000038 ≡ 0x1006)
     × (load 8 s 0xffffffff00000040 ≡ 0x4746454443424140))
+    -- `mov %fs:0, %rax`
+    × Leaves (0x64 ∷ 0x48 ∷ 0x8b ∷ 0x04 ∷ 0x25 ∷ 0 ∷ 0 ∷ 0 ∷ 0 ∷ []) (λ s.
+    s.register 0 ≡ 0x0706050403020100)
     -- `jmp *0x10(%rip)`
     × Leaves (0xff ∷ 0x25 ∷ 0x10 ∷ 0 ∷ 0 ∷ 0 ∷ []) (λ s. s.ip ≡ 0x1d1c1b1a19181716)

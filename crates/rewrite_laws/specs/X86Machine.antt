@@ -28,6 +28,8 @@ pub record State : Type 0 where
   -- the bytes by their addresses, below 2 ^ 64
   pub memory : ℕ → ℕ
   pub flags : Flags
+  -- where the FS segment begins: the thread pointer
+  pub fs : ℕ
 
 -- n bytes from an address, as a little-endian number
 abbrev pub load : ℕ → State → ℕ → ℕ
@@ -153,6 +155,10 @@ pub data Instruction : Type 0 where
   operate : Operation → ℕ → Operand → Operand → Instruction
   -- of so many bits, into a register, the address so far from the next instruction
   lea : ℕ → ℕ → ℕ → Instruction
+  -- the same of a register and 32 bits
+  lea_from : ℕ → ℕ → ℕ → ℕ → Instruction
+  -- into a register, the 64 bits so far into the FS segment
+  load_thread : ℕ → ℕ → Instruction
   call : Target → Instruction
   jump : Target → Instruction
   nop : Instruction
@@ -195,6 +201,16 @@ execute (lea n r d) next s =
     record s {
       ip = next;
       register = with_register r (sum_64 next (extended d) % 2 ^ n) s.register;
+    }
+execute (lea_from n r base d) next s =
+    record s {
+      ip = next;
+      register = with_register r (sum_64 (s.register base) (extended d) % 2 ^ n) s.register;
+    }
+execute (load_thread r d) next s =
+    record s {
+      ip = next;
+      register = with_register r (load 8 s (sum_64 s.fs (extended d))) s.register;
     }
 execute (call target) next s =
     let top = difference_64 (s.register 4) 8 in
@@ -321,12 +337,19 @@ decode_relative p opcode m rest =
     else (if (opcode == 0xff) && (reg_of m == 4) then sized p 6 (jump (indirect d))
     else on_relative p m (operation_of opcode) rest)))
 
+-- LEA of mod 10, with no SIB byte
+abbrev pub decode_based : Prefix → ℕ → ℕ → List ℕ → Option Decoded
+decode_based p opcode m rest =
+    if (opcode == 0x8d) && ((mod_of m == 2) && not (rm_of m == 4))
+    then sized p 6 (lea_from p.bits (reg_of m + p.reg) (rm_of m + p.rm) (number_of_bytes 4 rest))
+    else None
+
 abbrev pub decode_modrm : Prefix → ℕ → List ℕ → Option Decoded
 decode_modrm p opcode [] = None
 decode_modrm p opcode (m ∷ rest) =
     if is_relative m then decode_relative p opcode m rest
     else (if is_register m then on_immediate p m (immediate_operation opcode (reg_of m)) rest
-    else None)
+    else decode_based p opcode m rest)
 
 abbrev pub decode_opcode : Prefix → List ℕ → Option Decoded
 decode_opcode p [] = None
@@ -351,6 +374,30 @@ abbrev pub decode_rex2 : List ℕ → Option Decoded
 decode_rex2 [] = None
 decode_rex2 (b ∷ rest) = if bit_at b 7 == 0 then decode_opcode (rex2_prefix b) rest else None
 
+-- one more byte
+abbrev pub longer : Option Decoded → Option Decoded
+longer None = None
+longer (Some d) = Some (record d { size = d.size + 1 })
+
+-- REX with W
+abbrev pub is_rex_w : ℕ → Bool
+is_rex_w b = is_rex b && (bit_at b 3 == 1)
+
+-- The operand-size prefix 66 changes nothing of an instruction with REX.W ("REX Prefixes").
+abbrev pub decode_data16 : List ℕ → Option Decoded
+decode_data16 [] = None
+decode_data16 (b ∷ bytes) =
+    if is_rex_w b then longer (decode_opcode (rex_prefix b) bytes) else None
+
+-- after 64, the prefix of the FS segment: MOV with REX.W, of an address of 32 bits (SIB 25: no base and
+-- no index)
+abbrev pub decode_fs : List ℕ → Option Decoded
+decode_fs (b ∷ opcode ∷ m ∷ sib ∷ rest) =
+    if (is_rex_w b && (opcode == 0x8b)) && (((mod_of m == 0) && (rm_of m == 4)) && (sib == 0x25))
+    then sized no_prefix 9 (load_thread (reg_of m + 8 * bit_at b 2) (number_of_bytes 4 rest))
+    else None
+decode_fs bytes = None
+
 -- the instruction that bytes begin with; none where it isn't one of these
 abbrev pub decode : List ℕ → Option Decoded
 decode [] = None
@@ -358,7 +405,9 @@ decode (b ∷ bytes) =
     if is_rex b then decode_opcode (rex_prefix b) bytes
     else (if b == 0xd5 then decode_rex2 bytes
     else (if b == 0x67 then decode_addr32 bytes
-    else decode_plain b bytes))
+    else (if b == 0x66 then decode_data16 bytes
+    else (if b == 0x64 then decode_fs bytes
+    else decode_plain b bytes))))
 
 abbrev pub execute_decoded : Option Decoded → State → Option State
 execute_decoded None s = None

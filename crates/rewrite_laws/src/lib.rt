@@ -5,6 +5,7 @@
 
 ghost use Rattle.rewrite_laws.specs.X86Examples as x86_examples;
 ghost use Rattle.rewrite_laws.specs.X86Laws as x86_laws;
+ghost use Rattle.rewrite_laws.specs.X86ThreadLaws as x86_thread_laws;
 
 /// x86-64: with no prefix, with REX and with REX2, an instruction that takes an address or an offset
 /// from the GOT, and what a rewrite leaves of it, take every state to the same state. The last three
@@ -15,6 +16,7 @@ pub fn x86_64()
     ensures operations { x86_laws.Operations }
     ensures branches { x86_laws.Branches }
     ensures thread { x86_laws.ThreadOffsets }
+    ensures general_dynamic { x86_thread_laws.GeneralDynamic }
     ensures decoding { x86_examples.Decoding }
     ensures results { x86_examples.Results }
     ensures states { x86_examples.States }

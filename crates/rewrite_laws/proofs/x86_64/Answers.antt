@@ -3,6 +3,7 @@ use Rattle.std.proofs.Common.{refl}
 use Rattle.rewrite_laws.proofs.X86Branches as branches
 use Rattle.rewrite_laws.proofs.X86Immediates as immediates
 use Rattle.rewrite_laws.proofs.X86Loads as loads
+use Rattle.rewrite_laws.proofs.X86Threads as threads
 use Rattle.rewrite_laws.proofs.x86_64.Goals as goal
 
 pub returns-clause-loads : goal.returns-clause-loads
@@ -73,17 +74,16 @@ returns-clause-decoding c = (
   refl,
   refl,
   refl,
+  refl,
+  refl,
+  refl,
 )
 
 pub returns-clause-results : goal.returns-clause-results
 returns-clause-results c = refl
 
 pub returns-clause-states : goal.returns-clause-states
-returns-clause-states c = (
-  (refl, refl, refl),
-  refl,
-  refl,
-  refl,
-  (refl, refl, refl, refl),
-  refl,
-)
+returns-clause-states c = ((refl, refl, refl), refl, refl, refl, (refl, refl, refl, refl), refl, refl)
+
+pub returns-clause-general_dynamic : goal.returns-clause-general_dynamic
+returns-clause-general_dynamic c = threads.local_exec

@@ -1,0 +1,59 @@
+-- x86-64: TLS sequences with a call do the same after their rewrites (x86-64 psABI, "ELF Handling For
+-- Thread-Local Storage").
+use Rattle.std.specs.Prelude.{◌≡◌, ℕ, ◌+◌, ◌-◌, ◌^◌, ◌<◌, ◌≤◌, ◌==◌, ◌&&◌, ◌||◌, nat_le, nat_lt, Bool}
+use Rattle.std.specs.Prelude.{IsTrue, IsSomeAnd, List, drop}
+use Rattle.linker_base.specs.Rewrite.{rewritten, offset_after}
+use Rattle.linker_utils.specs.Choices.{operands_after}
+use Rattle.linker_utils.specs.Value.{sum_64}
+use Rattle.linker_utils.specs.X86.{x86_64_rewrite}
+use Rattle.linker_utils.specs.X86Originals.{x86_64_matches}
+use Rattle.linker_utils.specs.declared.elf.value.Operands.{Operands}
+use Rattle.linker_utils.specs.declared.x86_64.relocations.X86_64Relocation.TheVariants as names
+use Rattle.linker_utils.specs.declared.x86_64.rewrites.RelaxationKind.TheVariants as kinds
+use Rattle.rewrite_laws.specs.X86Laws.{IsBefore, IsRelocated, thread_offset}
+use Rattle.rewrite_laws.specs.X86Machine.{State, load, step}
+
+-- the registers that belong to the caller: rbx, rsp, rbp and r12 to r15 ("Register Usage")
+abbrev pub is_kept : ℕ → Bool
+is_kept r = (r == 3) || ((r == 4) || ((r == 5) || (nat_le 12 r && nat_lt r 16)))
+
+-- Both states have the same address, rax and kept registers, and the same memory from the stack
+-- pointer up.
+pub record AgreeAfterCall (s t : State) : Type 0 where
+  pub ip : s.ip ≡ t.ip
+  pub result : s.register 0 ≡ t.register 0
+  pub kept : (r : ℕ) → IsTrue (is_kept r) → s.register r ≡ t.register r
+  pub memory : (a : ℕ) → s.register 4 ≤ a → s.memory a ≡ t.memory a
+
+-- What a call of `__tls_get_addr` by an instruction of so many bytes does, from the state before that
+-- instruction to the one when it has returned. It takes rdi and returns rax. Flags and all other
+-- registers may change, and memory below the stack pointer.
+pub record IsTlsCall (size : ℕ) (returned : ℕ → ℕ) (s t : State) : Type 0 where
+  pub ip : t.ip ≡ sum_64 s.ip size
+  pub result : t.register 0 ≡ returned (s.register 7)
+  pub kept : (r : ℕ) → IsTrue (is_kept r) → t.register r ≡ s.register r
+  pub memory : (a : ℕ) → s.register 4 ≤ a → t.memory a ≡ s.memory a
+
+-- The thread pointer is the first word of what it points to.
+pub record HasThreadPointer (s : State) : Type 0 where
+  pub small : s.fs < 2 ^ 64
+  pub word : load 8 s s.fs ≡ s.fs
+
+-- `data16 lea x@tlsgd(%rip), %rdi` and a call of 8 bytes, which returns the address of the symbol in
+-- this thread for the GOT entry; and `mov %fs:0, %rax` and `lea x@tpoff(%rax), %rax`
+abbrev pub GeneralDynamic : Type 0
+GeneralDynamic =
+    (section old new : List ℕ) (o : ℕ) (operands : Operands) (s : State) (returned : ℕ → ℕ)
+    → IsBefore 4 section o operands s
+    → x86_64_matches kinds.TlsGdToLocalExec section o
+    → HasThreadPointer s
+    → returned operands.got_entry ≡ sum_64 s.fs (thread_offset operands)
+    → IsRelocated names.R_X86_64_TLSGD operands o section old
+    → IsRelocated names.R_X86_64_TPOFF32
+    (operands_after (x86_64_rewrite kinds.TlsGdToLocalExec) o operands)
+    (offset_after (x86_64_rewrite kinds.TlsGdToLocalExec) o)
+    (rewritten (x86_64_rewrite kinds.TlsGdToLocalExec) section o) new
+    → IsSomeAnd (step (drop (o - 4) old) s) (λ before.
+    IsSomeAnd (step (drop (o - 4) new) s) (λ middle.
+    IsSomeAnd (step (drop (o + 5) new) middle) (λ after.
+    (t : State) → IsTlsCall 8 returned before t → AgreeAfterCall t after)))
