@@ -1,5 +1,6 @@
 -- General-dynamic and local-exec TLS.
-use Rattle.std.proofs.Common.{◌≡◌, ℕ, ◌+◌, ◌-◌, ◌%◌, ◌^◌, ◌<◌, ◌≤◌, List, [], ◌∷◌, ◌++◌, map, take, drop, sym}
+use Rattle.std.proofs.Common.{◌≡◌, ℕ, ◌+◌, ◌-◌, ◌%◌, ◌^◌, ◌<◌, ◌≤◌, List, [], ◌∷◌, ◌++◌, map, take}
+use Rattle.std.proofs.Common.{drop, sym}
 use Rattle.std.proofs.Common.{◌∙◌, ap, arith, subst, refl, pos, true, false, eqb, bit_and, IsTrue}
 use Rattle.std.proofs.Common.{inl, inr, leb, ◌&&◌, ◌||◌, IsSomeAnd}
 use Rattle.std.specs.Int.{w64, cast_unsigned}
@@ -13,7 +14,8 @@ use Rattle.linker_base.specs.Rewrite.{rewritten}
 use Rattle.linker_utils.specs.Relocate.{number_of_bytes}
 use Rattle.linker_utils.specs.Value.{sum_64, difference_64}
 use Rattle.linker_utils.specs.X86.{x86_64_rewrite, puts}
-use Rattle.linker_utils.specs.X86Originals.{begins, byte, is_at, is_one_at, general_dynamic, original}
+use Rattle.linker_utils.specs.X86Originals.{begins, byte, is_at, is_one_at, general_dynamic}
+use Rattle.linker_utils.specs.X86Originals.{original}
 use Rattle.linker_utils.specs.X86Originals.{field4, lea_rdi, Original}
 use Rattle.linker_utils.specs.declared.elf.value.Operands.{Operands}
 use Rattle.linker_utils.specs.declared.x86_64.rewrites.RelaxationKind.TheVariants as kinds
@@ -21,7 +23,8 @@ use Rattle.relocation_laws.proofs.Sums.{difference_below}
 use Rattle.rewrite_laws.specs.X86Laws.{thread_offset}
 use Rattle.rewrite_laws.specs.X86Machine.{State, load, extended, with_register, execute, step}
 use Rattle.rewrite_laws.specs.X86Machine.{lea, lea_from, load_thread}
-use Rattle.rewrite_laws.specs.X86ThreadLaws.{GeneralDynamic, HasThreadPointer, IsTlsCall, AgreeAfterCall}
+use Rattle.rewrite_laws.specs.X86ThreadLaws.{GeneralDynamic, HasThreadPointer, IsTlsCall}
+use Rattle.rewrite_laws.specs.X86ThreadLaws.{AgreeAfterCall}
 use Rattle.rewrite_laws.specs.X86ThreadLaws.{is_kept}
 use Rattle.rewrite_laws.proofs.X86Bytes.{same_byte}
 use Rattle.rewrite_laws.proofs.X86Codes.{inside}

@@ -1,10 +1,12 @@
 -- x86-64: rows that the definitions of instructions are compared with. GNU as makes these bytes of
--- these instructions, and LLVM 22 those with REX2. A processor made these results and flags of two numbers.
+-- these instructions, and LLVM 22 those with REX2. A processor made these results and flags of two
+-- numbers.
 use Rattle.std.specs.Prelude.{◌≡◌, ℕ, ◌+◌, ◌*◌, ◌%◌, ◌==◌, ◌&&◌, Bool, true, false, List, [], ◌∷◌}
 use Rattle.std.specs.Prelude.{if◌then◌else◌}
 use Rattle.std.specs.Prelude.{length, IsTrue, IsSomeAnd, Some}
 use Rattle.rewrite_laws.specs.X86Machine.{Operation, MOV, ADD, OR, ADC, SBB, AND, SUB, XOR, CMP}
-use Rattle.rewrite_laws.specs.X86Machine.{TEST, Instruction, operate, lea, lea_from, load_thread, call, jump, nop, direct}
+use Rattle.rewrite_laws.specs.X86Machine.{TEST, Instruction, operate, lea, lea_from, load_thread}
+use Rattle.rewrite_laws.specs.X86Machine.{call, jump, nop, direct}
 use Rattle.rewrite_laws.specs.X86Machine.{indirect, register, relative, immediate, decode, step}
 use Rattle.rewrite_laws.specs.X86Machine.{Flags, State, result, flags_after, bit_of, load}
 use Rattle.rewrite_laws.specs.X86Machine.{writes}
@@ -222,7 +224,7 @@ Leaves bytes After = IsSomeAnd (step bytes example) After
 
 abbrev pub States : Type 0
 States =
-    -- little-endian, from 0x10 bytes after the instruction, and with zeros above: `mov 0x10(%rip), %ecx`
+    -- little-endian, and with zeros above: `mov 0x10(%rip), %ecx`
     Leaves (0x8b ∷ 0x0d ∷ 0x10 ∷ 0 ∷ 0 ∷ 0 ∷ []) (λ s.
     (s.ip ≡ 0x1006) × (s.register 1 ≡ 0x19181716) × (s.register 2 ≡ 0xffffffff00000020))
     -- sign-extended: `mov -4(%rip), %rbx` and `add $-1, %rcx`

@@ -106,7 +106,7 @@ flags_of n r carry auxiliary overflow =
       overflow = overflow;
     }
 
--- the carry out of bit 3, and the overflow where both operands have one sign, and the result has not
+-- Overflow is where both operands have one sign, and the result has the other.
 abbrev pub sum_flags : ℕ → ℕ → ℕ → ℕ → Flags
 sum_flags n carry a b =
     let r = sum n carry a b in
@@ -325,8 +325,8 @@ on_immediate p m None rest = None
 on_immediate p m (Some op) rest =
     sized p 6 (operate op p.bits (register (rm_of m + p.rm)) (immediate (number_of_bytes 4 rest)))
 
--- by the opcode, the ModRM byte with mod 00 and rm 101, and the bytes after it: TEST by 85, LEA, CALL
--- and JMP by ff, and the operations
+-- by the opcode, the ModRM byte with mod 00 and rm 101, and the bytes after it: TEST by 85, LEA,
+-- CALL and JMP by ff, and the operations
 abbrev pub decode_relative : Prefix → ℕ → ℕ → List ℕ → Option Decoded
 decode_relative p opcode m rest =
     let d = number_of_bytes 4 rest in
@@ -389,8 +389,8 @@ decode_data16 [] = None
 decode_data16 (b ∷ bytes) =
     if is_rex_w b then longer (decode_opcode (rex_prefix b) bytes) else None
 
--- after 64, the prefix of the FS segment: MOV with REX.W, of an address of 32 bits (SIB 25: no base and
--- no index)
+-- after 64, the prefix of the FS segment: MOV with REX.W, of an address of 32 bits (SIB 25: no base
+-- and no index)
 abbrev pub decode_fs : List ℕ → Option Decoded
 decode_fs (b ∷ opcode ∷ m ∷ sib ∷ rest) =
     if (is_rex_w b && (opcode == 0x8b)) && (((mod_of m == 0) && (rm_of m == 4)) && (sib == 0x25))

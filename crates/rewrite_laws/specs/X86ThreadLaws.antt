@@ -1,6 +1,7 @@
--- x86-64: TLS sequences with a call do the same after their rewrites (x86-64 psABI, "ELF Handling For
--- Thread-Local Storage").
-use Rattle.std.specs.Prelude.{◌≡◌, ℕ, ◌+◌, ◌-◌, ◌^◌, ◌<◌, ◌≤◌, ◌==◌, ◌&&◌, ◌||◌, nat_le, nat_lt, Bool}
+-- x86-64: TLS sequences with a call do the same after their rewrites (x86-64 psABI, "ELF Handling
+-- For Thread-Local Storage").
+use Rattle.std.specs.Prelude.{◌≡◌, ℕ, ◌+◌, ◌-◌, ◌^◌, ◌<◌, ◌≤◌, ◌==◌, ◌&&◌, ◌||◌, nat_le, nat_lt}
+use Rattle.std.specs.Prelude.{Bool}
 use Rattle.std.specs.Prelude.{IsTrue, IsSomeAnd, List, drop}
 use Rattle.linker_base.specs.Rewrite.{rewritten, offset_after}
 use Rattle.linker_utils.specs.Choices.{operands_after}
@@ -25,8 +26,8 @@ pub record AgreeAfterCall (s t : State) : Type 0 where
   pub kept : (r : ℕ) → IsTrue (is_kept r) → s.register r ≡ t.register r
   pub memory : (a : ℕ) → s.register 4 ≤ a → s.memory a ≡ t.memory a
 
--- What a call of `__tls_get_addr` by an instruction of so many bytes does, from the state before that
--- instruction to the one when it has returned. It takes rdi and returns rax. Flags and all other
+-- What a call of `__tls_get_addr` by an instruction of so many bytes does, from the state before
+-- that instruction to the one when it has returned. It takes rdi and returns rax. Flags and all other
 -- registers may change, and memory below the stack pointer.
 pub record IsTlsCall (size : ℕ) (returned : ℕ → ℕ) (s t : State) : Type 0 where
   pub ip : t.ip ≡ sum_64 s.ip size
@@ -39,8 +40,8 @@ pub record HasThreadPointer (s : State) : Type 0 where
   pub small : s.fs < 2 ^ 64
   pub word : load 8 s s.fs ≡ s.fs
 
--- `data16 lea x@tlsgd(%rip), %rdi` and a call of 8 bytes, which returns the address of the symbol in
--- this thread for the GOT entry; and `mov %fs:0, %rax` and `lea x@tpoff(%rax), %rax`
+-- `data16 lea x@tlsgd(%rip), %rdi` and a call of 8 bytes, which returns the symbol's address in this
+-- thread for the GOT entry; and `mov %fs:0, %rax` and `lea x@tpoff(%rax), %rax`
 abbrev pub GeneralDynamic : Type 0
 GeneralDynamic =
     (section old new : List ℕ) (o : ℕ) (operands : Operands) (s : State) (returned : ℕ → ℕ)
