@@ -160,9 +160,9 @@ made op n carry a b r flags =
     ((if writes op then result op n (with_carry carry) a b else a) == r)
     && (flags_number (flags_after op n (with_carry carry) a b) == flags)
 
-abbrev pub all : List Bool → Bool
-all [] = true
-all (b ∷ bs) = b && all bs
+abbrev pub all_true : List Bool → Bool
+all_true [] = true
+all_true (b ∷ bs) = b && all_true bs
 
 abbrev pub results : List Bool
 results =
@@ -204,7 +204,7 @@ results =
     ∷ made TEST 32 1 0x12345678 0x12345678 0x12345678 0x4 ∷ []
 
 abbrev pub Results : Type 0
-Results = IsTrue (all results)
+Results = IsTrue (all_true results)
 
 -- ---- states
 

@@ -70,23 +70,23 @@ abbrev pub bit_of : Bool → ℕ
 bit_of b = if b then 1 else 0
 
 -- of n bits, with a carry of 0 or 1
-abbrev pub sum : ℕ → ℕ → ℕ → ℕ → ℕ
-sum n carry a b = (a + b + carry) % 2 ^ n
+abbrev pub sum_of : ℕ → ℕ → ℕ → ℕ → ℕ
+sum_of n carry a b = (a + b + carry) % 2 ^ n
 
-abbrev pub difference : ℕ → ℕ → ℕ → ℕ → ℕ
-difference n borrow a b = (a + (2 * 2 ^ n - (b + borrow))) % 2 ^ n
+abbrev pub difference_of : ℕ → ℕ → ℕ → ℕ → ℕ
+difference_of n borrow a b = (a + (2 * 2 ^ n - (b + borrow))) % 2 ^ n
 
 -- the number that an operation makes of two of n bits and CF
 abbrev pub result : Operation → ℕ → Flags → ℕ → ℕ → ℕ
 result MOV n f a b = b
-result ADD n f a b = sum n 0 a b
+result ADD n f a b = sum_of n 0 a b
 result OR n f a b = bit_or a b
-result ADC n f a b = sum n (bit_of f.carry) a b
-result SBB n f a b = difference n (bit_of f.carry) a b
+result ADC n f a b = sum_of n (bit_of f.carry) a b
+result SBB n f a b = difference_of n (bit_of f.carry) a b
 result AND n f a b = bit_and a b
-result SUB n f a b = difference n 0 a b
+result SUB n f a b = difference_of n 0 a b
 result XOR n f a b = bit_xor a b
-result CMP n f a b = difference n 0 a b
+result CMP n f a b = difference_of n 0 a b
 result TEST n f a b = bit_and a b
 
 -- how many of the low k bits are 1
@@ -109,13 +109,13 @@ flags_of n r carry auxiliary overflow =
 -- Overflow is where both operands have one sign, and the result has the other.
 abbrev pub sum_flags : ℕ → ℕ → ℕ → ℕ → Flags
 sum_flags n carry a b =
-    let r = sum n carry a b in
+    let r = sum_of n carry a b in
     flags_of n r (nat_lt (2 ^ n - 1) (a + b + carry)) (nat_lt 15 (a % 16 + b % 16 + carry))
     ((bit_at a (n - 1) == bit_at b (n - 1)) && not (bit_at r (n - 1) == bit_at a (n - 1)))
 
 abbrev pub difference_flags : ℕ → ℕ → ℕ → ℕ → Flags
 difference_flags n borrow a b =
-    let r = difference n borrow a b in
+    let r = difference_of n borrow a b in
     flags_of n r (nat_lt a (b + borrow)) (nat_lt (a % 16) (b % 16 + borrow))
     (not (bit_at a (n - 1) == bit_at b (n - 1)) && not (bit_at r (n - 1) == bit_at a (n - 1)))
 

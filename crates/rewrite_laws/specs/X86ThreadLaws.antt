@@ -2,7 +2,7 @@
 -- For Thread-Local Storage").
 use Rattle.std.specs.Prelude.{◌≡◌, ℕ, ◌+◌, ◌-◌, ◌^◌, ◌<◌, ◌≤◌, ◌==◌, ◌&&◌, ◌||◌, nat_le, nat_lt}
 use Rattle.std.specs.Prelude.{Bool}
-use Rattle.std.specs.Prelude.{IsTrue, IsSomeAnd, List, drop}
+use Rattle.std.specs.Prelude.{IsTrue, IsSomeAnd, List, drop, ⊤}
 use Rattle.linker_base.specs.Rewrite.{rewritten, offset_after}
 use Rattle.linker_utils.specs.Choices.{operands_after}
 use Rattle.linker_utils.specs.Value.{sum_64}
@@ -10,6 +10,8 @@ use Rattle.linker_utils.specs.X86.{x86_64_rewrite}
 use Rattle.linker_utils.specs.X86Originals.{x86_64_matches}
 use Rattle.linker_utils.specs.declared.elf.value.Operands.{Operands}
 use Rattle.linker_utils.specs.declared.x86_64.relocations.X86_64Relocation.TheVariants as names
+use Rattle.linker_utils.specs.declared.x86_64.relocations.X86_64Relocation.{X86_64Relocation}
+use Rattle.linker_utils.specs.declared.x86_64.rewrites.RelaxationKind.{RelaxationKind}
 use Rattle.linker_utils.specs.declared.x86_64.rewrites.RelaxationKind.TheVariants as kinds
 use Rattle.rewrite_laws.specs.X86Laws.{IsBefore, IsRelocated, thread_offset}
 use Rattle.rewrite_laws.specs.X86Machine.{State, load, step}
@@ -40,21 +42,44 @@ pub record HasThreadPointer (s : State) : Type 0 where
   pub small : s.fs < 2 ^ 64
   pub word : load 8 s s.fs ≡ s.fs
 
+-- by the code before, the code after, and its second instruction: what the code before does, when the
+-- call has returned, and what the two instructions do
+abbrev pub DoTheSame : List ℕ → List ℕ → List ℕ → State → (ℕ → ℕ) → Type 0
+DoTheSame old new second s returned =
+    IsSomeAnd (step old s) (λ before.
+    IsSomeAnd (step new s) (λ middle.
+    IsSomeAnd (step second middle) (λ after.
+    (t : State) → IsTlsCall 8 returned before t → AgreeAfterCall t after)))
+
 -- `data16 lea x@tlsgd(%rip), %rdi` and a call of 8 bytes, which returns the symbol's address in this
--- thread for the GOT entry; and `mov %fs:0, %rax` and `lea x@tpoff(%rax), %rax`
-abbrev pub GeneralDynamic : Type 0
-GeneralDynamic =
+-- thread for the GOT entry; and two instructions, with the relocation of the second
+abbrev pub ReplacesCall : RelaxationKind → X86_64Relocation → (Operands → Operands)
+    → (Operands → State → Type 0) → Type 0
+ReplacesCall kind after relocated Premise =
     (section old new : List ℕ) (o : ℕ) (operands : Operands) (s : State) (returned : ℕ → ℕ)
     → IsBefore 4 section o operands s
-    → x86_64_matches kinds.TlsGdToLocalExec section o
+    → x86_64_matches kind section o
     → HasThreadPointer s
     → returned operands.got_entry ≡ sum_64 s.fs (thread_offset operands)
+    → Premise operands s
     → IsRelocated names.R_X86_64_TLSGD operands o section old
-    → IsRelocated names.R_X86_64_TPOFF32
-    (operands_after (x86_64_rewrite kinds.TlsGdToLocalExec) o operands)
-    (offset_after (x86_64_rewrite kinds.TlsGdToLocalExec) o)
-    (rewritten (x86_64_rewrite kinds.TlsGdToLocalExec) section o) new
-    → IsSomeAnd (step (drop (o - 4) old) s) (λ before.
-    IsSomeAnd (step (drop (o - 4) new) s) (λ middle.
-    IsSomeAnd (step (drop (o + 5) new) middle) (λ after.
-    (t : State) → IsTlsCall 8 returned before t → AgreeAfterCall t after)))
+    → IsRelocated after (relocated (operands_after (x86_64_rewrite kind) o operands))
+    (offset_after (x86_64_rewrite kind) o) (rewritten (x86_64_rewrite kind) section o) new
+    → DoTheSame (drop (o - 4) old) (drop (o - 4) new) (drop (o + 5) new) s returned
+
+-- `mov %fs:0, %rax` and `lea x@tpoff(%rax), %rax`
+abbrev pub LocalExec : Type 0
+LocalExec =
+    ReplacesCall kinds.TlsGdToLocalExec names.R_X86_64_TPOFF32 (λ operands. operands)
+    (λ operands s. ⊤)
+
+-- `mov %fs:0, %rax` and `add x@gottpoff(%rip), %rax`, where a GOT entry holds the offset
+abbrev pub InitialExec : Type 0
+InitialExec =
+    (entry : ℕ) → entry < 2 ^ 64
+    → ReplacesCall kinds.TlsGdToInitialExec names.R_X86_64_GOTTPOFF
+    (λ operands. record operands { got_entry = entry })
+    (λ operands s. load 8 s entry ≡ thread_offset operands)
+
+abbrev pub GeneralDynamic : Type 0
+GeneralDynamic = LocalExec × InitialExec

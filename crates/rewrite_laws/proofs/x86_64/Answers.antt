@@ -86,4 +86,4 @@ pub returns-clause-states : goal.returns-clause-states
 returns-clause-states c = ((refl, refl, refl), refl, refl, refl, (refl, refl, refl, refl), refl, refl)
 
 pub returns-clause-general_dynamic : goal.returns-clause-general_dynamic
-returns-clause-general_dynamic c = threads.local_exec
+returns-clause-general_dynamic c = (threads.local_exec, threads.initial_exec)
