@@ -38,7 +38,7 @@ use Rattle.rewrite_laws.proofs.X86Loads.{from_next, at_place}
 use Rattle.rewrite_laws.proofs.X86Sections.{original_code, rewritten_code}
 
 -- bytes that begin with some
-begin_with : (bs : List ℕ) (ps : List (ℕ × ℕ)) (d : List ℕ) → All (λ b. b < 2 ^ 8) d
+pub begin_with : (bs : List ℕ) (ps : List (ℕ × ℕ)) (d : List ℕ) → All (λ b. b < 2 ^ 8) d
     → begins (map byte bs ++ ps) d ≡ true → (rest : List ℕ) × (d ≡ bs ++ rest)
 begin_with [] ps d bytes h = (d, refl)
 begin_with (b ∷ bs) ps [] bytes h = absurd (false≢true h)
@@ -100,7 +100,7 @@ kept_other k r number registers changed kept =
 sixteen : (ip : ℕ) → sum_64 (sum_64 ip 8) 8 ≡ sum_64 (sum_64 ip 9) 7
 sixteen ip = omega arith
 
-itself : (a : ℕ) → a < 2 ^ 64 → a % 2 ^ 64 ≡ a
+pub itself : (a : ℕ) → a < 2 ^ 64 → a % 2 ^ 64 ≡ a
 itself a small = omega arith
 
 offset_from : (fs x offset : ℕ) → x % 2 ^ 64 ≡ offset → sum_64 fs x % 2 ^ 64 ≡ sum_64 fs offset

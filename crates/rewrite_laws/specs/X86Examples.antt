@@ -133,6 +133,9 @@ Decoding =
     -- `lea 0x12345678(%rax), %rax`
     × DecodesAs (0x48 ∷ 0x8d ∷ 0x80 ∷ 0x78 ∷ 0x56 ∷ 0x34 ∷ 0x12 ∷ [])
     (lea_from 64 0 0 0x12345678)
+    -- `data16 nop`
+    × DecodesAs (0x66 ∷ 0x90 ∷ [])
+    nop
 
 -- ---- operations
 

@@ -383,11 +383,14 @@ longer (Some d) = Some (record d { size = d.size + 1 })
 abbrev pub is_rex_w : ℕ → Bool
 is_rex_w b = is_rex b && (bit_at b 3 == 1)
 
--- The operand-size prefix 66 changes nothing of an instruction with REX.W ("REX Prefixes").
+-- The operand-size prefix 66 changes nothing of an instruction with REX.W ("REX Prefixes"), nor of
+-- NOP by 90.
 abbrev pub decode_data16 : List ℕ → Option Decoded
 decode_data16 [] = None
 decode_data16 (b ∷ bytes) =
-    if is_rex_w b then longer (decode_opcode (rex_prefix b) bytes) else None
+    if is_rex_w b then longer (decode_opcode (rex_prefix b) bytes)
+    else (if b == 0x90 then sized no_prefix 2 nop
+    else None)
 
 -- after 64, the prefix of the FS segment: MOV with REX.W, of an address of 32 bits (SIB 25: no base
 -- and no index)

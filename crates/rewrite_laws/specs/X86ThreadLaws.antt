@@ -7,7 +7,9 @@ use Rattle.linker_base.specs.Rewrite.{rewritten, offset_after}
 use Rattle.linker_utils.specs.Choices.{operands_after}
 use Rattle.linker_utils.specs.Value.{sum_64}
 use Rattle.linker_utils.specs.X86.{x86_64_rewrite}
-use Rattle.linker_utils.specs.X86Originals.{x86_64_matches}
+use Rattle.linker_utils.specs.X86Originals.{x86_64_matches, Original, original, byte, field4}
+use Rattle.linker_utils.specs.X86Originals.{is_one_at}
+use Rattle.std.specs.Prelude.{IsFalse, [], ◌∷◌}
 use Rattle.linker_utils.specs.declared.elf.value.Operands.{Operands}
 use Rattle.linker_utils.specs.declared.x86_64.relocations.X86_64Relocation.TheVariants as names
 use Rattle.linker_utils.specs.declared.x86_64.relocations.X86_64Relocation.{X86_64Relocation}
@@ -83,3 +85,59 @@ InitialExec =
 
 abbrev pub GeneralDynamic : Type 0
 GeneralDynamic = LocalExec × InitialExec
+
+-- ---- descriptors
+
+-- What a call through a descriptor does ("TLS Descriptors"): it takes and returns rax, and all other
+-- registers are kept. Flags may change, and memory below the stack pointer.
+pub record IsDescriptorCall (size : ℕ) (returned : ℕ → ℕ) (s t : State) : Type 0 where
+  pub ip : t.ip ≡ sum_64 s.ip size
+  pub result : t.register 0 ≡ returned (s.register 0)
+  pub kept : (r : ℕ) → IsFalse (r == 0) → t.register r ≡ s.register r
+  pub memory : (a : ℕ) → s.register 4 ≤ a → t.memory a ≡ s.memory a
+
+-- the same address and registers, and the same memory from the stack pointer up
+pub record AgreeInRegisters (s t : State) : Type 0 where
+  pub ip : s.ip ≡ t.ip
+  pub registers : (r : ℕ) → s.register r ≡ t.register r
+  pub memory : (a : ℕ) → s.register 4 ≤ a → s.memory a ≡ t.memory a
+
+-- `lea x@tlsdesc(%rip), %rax`
+abbrev pub lea_rax : Original
+lea_rax = original 3 (byte 0x48 ∷ byte 0x8d ∷ byte 0x05 ∷ field4)
+
+-- That instruction, with `call *x@tlscall(%rax)`, which returns the symbol's offset from the thread
+-- pointer for the descriptor; and what rewrites leave of both
+abbrev pub ReplacesDescriptor : RelaxationKind → X86_64Relocation → (Operands → Operands)
+    → (Operands → State → Type 0) → Type 0
+ReplacesDescriptor kind after relocated Premise =
+    (section old new : List ℕ) (o : ℕ) (operands : Operands) (s : State) (returned : ℕ → ℕ)
+    → IsBefore 3 section o operands s
+    → IsTrue (is_one_at (lea_rax ∷ []) section o)
+    → x86_64_matches kind section o
+    → returned operands.got_entry ≡ thread_offset operands
+    → Premise operands s
+    → IsRelocated names.R_X86_64_GOTPC32_TLSDESC operands o section old
+    → IsRelocated after (relocated (operands_after (x86_64_rewrite kind) o operands))
+    (offset_after (x86_64_rewrite kind) o) (rewritten (x86_64_rewrite kind) section o) new
+    → (calls : List ℕ) (at : ℕ) → x86_64_matches kinds.SkipTlsDescCall calls at
+    → IsSomeAnd (step (drop (o - 3) old) s) (λ before.
+    IsSomeAnd (step (drop (o - 3) new) s) (λ middle.
+    IsSomeAnd (step (drop at (rewritten (x86_64_rewrite kinds.SkipTlsDescCall) calls at)) middle)
+    (λ after.
+    (t : State) → IsDescriptorCall 2 returned before t → AgreeInRegisters t after)))
+
+abbrev pub DescriptorToLocalExec : Type 0
+DescriptorToLocalExec =
+    ReplacesDescriptor (kinds.TlsDescToLocalExec 3) names.R_X86_64_TPOFF32 (λ operands. operands)
+    (λ operands s. ⊤)
+
+abbrev pub DescriptorToInitialExec : Type 0
+DescriptorToInitialExec =
+    (entry : ℕ) → entry < 2 ^ 64
+    → ReplacesDescriptor kinds.TlsDescToInitialExec names.R_X86_64_GOTTPOFF
+    (λ operands. record operands { got_entry = entry })
+    (λ operands s. load 8 s entry ≡ thread_offset operands)
+
+abbrev pub Descriptors : Type 0
+Descriptors = DescriptorToLocalExec × DescriptorToInitialExec

@@ -9,8 +9,8 @@ ghost use Rattle.rewrite_laws.specs.X86ThreadLaws as x86_thread_laws;
 
 /// x86-64: with no prefix, with REX and with REX2, an instruction that takes an address or an
 /// offset from the GOT, and what a rewrite leaves of it, take every state to the same state. The
-/// sequences of general-dynamic, initial-exec and local-exec TLS have the same result in rax. The
-/// last three clauses compare the definitions with assemblers and a processor.
+/// sequences of general-dynamic, initial-exec and local-exec TLS have the same result in rax, and so
+/// have descriptors. The last three clauses compare the definitions with assemblers and a processor.
 pub fn x86_64()
     ensures loads { x86_laws.LoadsOfAddresses }
     ensures absolute { x86_laws.AbsoluteAddresses }
@@ -18,6 +18,7 @@ pub fn x86_64()
     ensures branches { x86_laws.Branches }
     ensures thread { x86_laws.ThreadOffsets }
     ensures general_dynamic { x86_thread_laws.GeneralDynamic }
+    ensures descriptors { x86_thread_laws.Descriptors }
     ensures decoding { x86_examples.Decoding }
     ensures results { x86_examples.Results }
     ensures states { x86_examples.States }

@@ -3,6 +3,7 @@ use Rattle.std.proofs.Common.{refl}
 use Rattle.rewrite_laws.proofs.X86Branches as branches
 use Rattle.rewrite_laws.proofs.X86Immediates as with
 use Rattle.rewrite_laws.proofs.X86Loads as loads
+use Rattle.rewrite_laws.proofs.X86Descriptors as descriptors
 use Rattle.rewrite_laws.proofs.X86Threads as threads
 use Rattle.rewrite_laws.proofs.x86_64.Goals as goal
 
@@ -77,6 +78,7 @@ returns-clause-decoding c = (
   refl,
   refl,
   refl,
+  refl,
 )
 
 pub returns-clause-results : goal.returns-clause-results
@@ -87,3 +89,6 @@ returns-clause-states c = ((refl, refl, refl), refl, refl, refl, (refl, refl, re
 
 pub returns-clause-general_dynamic : goal.returns-clause-general_dynamic
 returns-clause-general_dynamic c = (threads.local_exec, threads.initial_exec)
+
+pub returns-clause-descriptors : goal.returns-clause-descriptors
+returns-clause-descriptors c = (descriptors.local_exec, descriptors.initial_exec)
