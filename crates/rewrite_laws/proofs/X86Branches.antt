@@ -14,7 +14,8 @@ use Rattle.linker_utils.specs.declared.x86_64.rewrites.RelaxationKind.TheVariant
 use Rattle.relocation_laws.specs.Schemes.{IsApplied}
 use Rattle.relocation_laws.proofs.Sums.{difference_below}
 use Rattle.rewrite_laws.specs.X86Laws.{IsBefore, DoesTheSame, address}
-use Rattle.rewrite_laws.specs.X86Machine.{State, load, extended, call, jump, direct, indirect, decode}
+use Rattle.rewrite_laws.specs.X86Machine.{State, load, extended, call, jump, direct, indirect}
+use Rattle.rewrite_laws.specs.X86Machine.{decode}
 use Rattle.rewrite_laws.specs.X86Machine.{with_register, store_8}
 use Rattle.rewrite_laws.proofs.X86Bytes.{two_bytes}
 use Rattle.rewrite_laws.proofs.X86Codes.{pattern_there, call_codes, jump_codes}

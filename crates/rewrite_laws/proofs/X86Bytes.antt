@@ -31,7 +31,7 @@ implied true b h e = h
 implied false b h e = absurd (false≢true e)
 
 -- the bits under the mask of all
-same_byte : (b op : ℕ) → b < 2 ^ 8 → eqb (bit_and b 0xff) op ≡ true → b ≡ op
+pub same_byte : (b op : ℕ) → b < 2 ^ 8 → eqb (bit_and b 0xff) op ≡ true → b ≡ op
 same_byte b op small h =
     sym (eqb-true (bit_and b 0xff) b (below 256 (λ b. eqb (bit_and b 0xff) b) refl b small))
     ∙ eqb-true (bit_and b 0xff) op h

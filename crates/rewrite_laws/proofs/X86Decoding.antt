@@ -7,7 +7,8 @@ use Rattle.linker_utils.specs.Relocate.{number_of_bytes}
 use Rattle.linker_utils.specs.Value.{sum_64}
 use Rattle.linker_utils.specs.X86 as x86
 use Rattle.rewrite_laws.specs.X86Machine.{Prefix, Operation, State, Decoded, decode, decode_opcode}
-use Rattle.rewrite_laws.specs.X86Machine.{decode_modrm, decode_relative, on_immediate, rex_prefix, rex2_prefix}
+use Rattle.rewrite_laws.specs.X86Machine.{decode_modrm, decode_relative, on_immediate, rex_prefix}
+use Rattle.rewrite_laws.specs.X86Machine.{rex2_prefix}
 use Rattle.rewrite_laws.specs.X86Machine.{immediate_operation, is_relative, is_register, reg_of}
 use Rattle.rewrite_laws.specs.X86Machine.{sized, operate, register, immediate, is_rex, step}
 use Rattle.rewrite_laws.specs.X86Machine.{execute_decoded, execute}

@@ -76,12 +76,18 @@ extended_low f =
 
 -- ---- fields
 
--- the rows of GOTPCRELX, GOTTPOFF, PC32, TPOFF32, 32S and 32
+-- the rows of GOTPCRELX, GOTTPOFF, TLSGD, GOTPC32_TLSDESC, PC32, TPOFF32, 32S and 32
 abbrev pub got_row : RelocationKindInfo
 got_row = signed_row 32 (bytes_row values.GotRelative 4)
 
 abbrev pub tls_got_row : RelocationKindInfo
 tls_got_row = signed_row 32 (bytes_row values.GotTpOff 4)
+
+abbrev pub tls_pair_row : RelocationKindInfo
+tls_pair_row = signed_row 32 (bytes_row values.TlsGd 4)
+
+abbrev pub descriptor_row : RelocationKindInfo
+descriptor_row = signed_row 32 (bytes_row values.TlsDesc 4)
 
 abbrev pub place_row : RelocationKindInfo
 place_row = signed_row 32 (bytes_row values.Relative 4)
@@ -106,6 +112,20 @@ module _ (o : Operands) (addresses : AreAddresses o) (before after : List ℕ) w
   pub tls_entry_field : IsApplied tls_got_row o before after
       → sum_64 o.place (extended (number_of_bytes 4 after)) ≡ entry_and_addend o
   tls_entry_field applied =
+      computed o.place (number_of_bytes 4 after) (entry_and_addend o)
+      (field_adds entry_and_addend_from_place twos_complement (λ v old. refl) refl refl
+      (λ o. refl) o addresses 0 before after applied tt)
+
+  pub tls_pair_field : IsApplied tls_pair_row o before after
+      → sum_64 o.place (extended (number_of_bytes 4 after)) ≡ entry_and_addend o
+  tls_pair_field applied =
+      computed o.place (number_of_bytes 4 after) (entry_and_addend o)
+      (field_adds entry_and_addend_from_place twos_complement (λ v old. refl) refl refl
+      (λ o. refl) o addresses 0 before after applied tt)
+
+  pub descriptor_field : IsApplied descriptor_row o before after
+      → sum_64 o.place (extended (number_of_bytes 4 after)) ≡ entry_and_addend o
+  descriptor_field applied =
       computed o.place (number_of_bytes 4 after) (entry_and_addend o)
       (field_adds entry_and_addend_from_place twos_complement (λ v old. refl) refl refl
       (λ o. refl) o addresses 0 before after applied tt)

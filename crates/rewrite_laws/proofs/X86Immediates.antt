@@ -1,6 +1,7 @@
 -- Operations on a number from the GOT, and on an immediate.
 use Rattle.std.proofs.Common.{◌≡◌, ℕ, suc, ◌+◌, ◌-◌, ◌*◌, ◌%◌, ◌^◌, ◌<◌, List, [], ◌∷◌, ◌++◌}
-use Rattle.std.proofs.Common.{drop, take, refl, sym, ◌∙◌, ap, arith, Some, subst, inl, inr, IsSomeAnd}
+use Rattle.std.proofs.Common.{drop, take, refl, sym, ◌∙◌, ap, arith, Some, subst, inl, inr}
+use Rattle.std.proofs.Common.{IsSomeAnd}
 use Rattle.std.proofs.Common.{IsTrue, true, pos, length, eqb, cond, get_or, drop-cons}
 use Rattle.std.specs.Int.{w64, cast_unsigned}
 use Rattle.std.proofs.lemmas.List.Elements.{All-drop}
@@ -9,7 +10,8 @@ use Rattle.linker_utils.specs.Relocate.{number_of_bytes}
 use Rattle.linker_utils.specs.Value.{sum_64, difference_64}
 use Rattle.linker_utils.specs.X86 as x86
 use Rattle.linker_utils.specs.X86.{absolute, operand, prefixed_operand}
-use Rattle.linker_utils.specs.X86Originals.{original, rip_operand, with_rex, rex, with_rex2, rex2, is_one_at}
+use Rattle.linker_utils.specs.X86Originals.{original, rip_operand, with_rex, rex, with_rex2, rex2}
+use Rattle.linker_utils.specs.X86Originals.{is_one_at}
 use Rattle.linker_utils.specs.X86Originals.{plain}
 use Rattle.linker_utils.specs.declared.elf.value.Operands.{Operands}
 use Rattle.relocation_laws.specs.Schemes.{IsApplied, AreAddresses}
@@ -17,7 +19,8 @@ use Rattle.relocation_laws.proofs.Sums.{difference_below}
 use Rattle.rewrite_laws.specs.X86Laws.{IsBefore, IsRelocatedBy, thread_offset}
 use Rattle.rewrite_laws.specs.X86Machine.{State, Prefix, Operation, Instruction, MOV, ADD, OR, ADC}
 use Rattle.rewrite_laws.specs.X86Machine.{SBB, AND, SUB, XOR, CMP, TEST, load, extended, reg_of}
-use Rattle.rewrite_laws.specs.X86Machine.{rex_prefix, rex2_prefix, no_prefix, operate, register, relative}
+use Rattle.rewrite_laws.specs.X86Machine.{rex_prefix, rex2_prefix, no_prefix, operate, register}
+use Rattle.rewrite_laws.specs.X86Machine.{relative}
 use Rattle.rewrite_laws.specs.X86Machine.{immediate, decode, decode_opcode, step}
 use Rattle.rewrite_laws.specs.X86Machine.{execute, sized, operand_value, is_relative}
 use Rattle.rewrite_laws.specs.X86Machine.{immediate_operation}
@@ -35,8 +38,8 @@ use Rattle.rewrite_laws.proofs.X86Values.{IsSize, loaded, same_operation, same_t
 
 -- ---- opcodes
 
--- The instruction of an opcode with a relative address, and that of another with an extension and an
--- immediate.
+-- The instruction of an opcode with a relative address, and that of another with an extension and
+-- an immediate.
 pub record IsReplaced (opcode opcode' k number : ℕ) (op : Operation) : Type 0 where
   pub instruction : Prefix → ℕ → ℕ → Instruction
   pub plain : (rest : List ℕ)
@@ -180,7 +183,7 @@ abbrev pub absolute_operands : ℕ → Operands → Operands
 absolute_operands o operands =
     record operands { place = difference_64 (sum_64 operands.place o) o; addend = pos 0 }
 
-sum_zero : (a : ℕ) → a < 2 ^ 64 → sum_64 a 0 ≡ a
+pub sum_zero : (a : ℕ) → a < 2 ^ 64 → sum_64 a 0 ≡ a
 sum_zero a small = omega arith
 
 zero_sum : (a t : ℕ) → sum_64 0 a ≡ t → a % 2 ^ 64 ≡ t
@@ -189,7 +192,7 @@ zero_sum a t is = omega arith
 low_extended : (f number : ℕ) → f % 2 ^ 64 ≡ number → extended f % 2 ^ 32 ≡ number % 2 ^ 32
 low_extended f number is = let low = extended_low f in omega arith
 
-offset_is : (x symbol base : ℕ) → symbol < 2 ^ 64 → base < 2 ^ 64 → sum_64 base x ≡ symbol
+pub offset_is : (x symbol base : ℕ) → symbol < 2 ^ 64 → base < 2 ^ 64 → sum_64 base x ≡ symbol
     → x % 2 ^ 64 ≡ difference_64 symbol base
 offset_is x symbol base small place is = omega arith
 
@@ -297,7 +300,8 @@ module _ {opcode opcode' k number : ℕ} {op : Operation}
     (operands : Operands) (s : State) where
   -- with no prefix
   pub without_prefix : IsBefore 2 section o operands s
-      → IsTrue (is_one_at (plain opcode) section o) → IsRewritable (absolute 2 (operand opcode' k)) section o
+      → IsTrue (is_one_at (plain opcode) section o)
+      → IsRewritable (absolute 2 (operand opcode' k)) section o
       × IsTrue (is_one_at (plain opcode) section o)
       → load 8 s operands.got_entry ≡ operands.symbol
       → IsRelocatedBy got_row operands o section old
@@ -311,8 +315,9 @@ module _ {opcode opcode' k number : ℕ} {op : Operation}
       let codes = immediate_codes section old new was.rest is.rest o was.whole opcode code.modrm
       opcode' k code.rest shape.0 code.is is.whole in
       both replaced 2 (omega arith) section o operands s before operands.symbol
-      before.addresses.symbol holds (drop (o - 2) old) (drop (o - 2) new) was.rest is.rest code.modrm
-      code.relative no_prefix no_prefix refl refl refl refl (inl refl) (entry 2 section o operands s before (drop o section) was.rest was.applied)
+      before.addresses.symbol holds (drop (o - 2) old) (drop (o - 2) new) was.rest is.rest
+      code.modrm code.relative no_prefix no_prefix refl refl refl refl (inl refl)
+      (entry 2 section o operands s before (drop o section) was.rest was.applied)
       (short_immediate 2 section o operands s before
       (drop o (rewritten (Some (absolute 2 (operand opcode' k))) section o)) is.rest is.applied)
       (ap decode codes.0 ∙ replaced.plain (code.modrm ∷ was.rest))
@@ -343,8 +348,9 @@ module _ {opcode opcode' k number : ℕ} {op : Operation}
       let codes = wide_codes section old new was.rest is.rest o was.whole
       (get_or section (o - 3) 0) opcode code.modrm opcode' k code.rest room front is.whole in
       both replaced 2 (omega arith) section o operands s before operands.symbol
-      before.addresses.symbol holds (drop (o - 2) old) (drop (o - 2) new) was.rest is.rest code.modrm
-      code.relative no_prefix no_prefix refl refl refl refl (inl refl) (entry 2 section o operands s before (drop o section) was.rest was.applied)
+      before.addresses.symbol holds (drop (o - 2) old) (drop (o - 2) new) was.rest is.rest
+      code.modrm code.relative no_prefix no_prefix refl refl refl refl (inl refl)
+      (entry 2 section o operands s before (drop o section) was.rest was.applied)
       (short_immediate 2 section o operands s before
       (drop o (rewritten (Some (absolute 3 (prefixed_operand 2 opcode' k))) section o)) is.rest
       is.applied)

@@ -10,7 +10,8 @@ use Rattle.linker_utils.specs.Value.{sum_64, difference_64}
 use Rattle.linker_utils.specs.Choices.{operands_after}
 use Rattle.linker_utils.specs.X86.{x86_64_rewrite}
 use Rattle.linker_base.specs.Rewrite.{rewritten}
-use Rattle.linker_utils.specs.X86Originals.{legacy, original, rip_operand, with_rex, rex, with_rex2, rex2}
+use Rattle.linker_utils.specs.X86Originals.{legacy, original, rip_operand, with_rex, rex, with_rex2}
+use Rattle.linker_utils.specs.X86Originals.{rex2}
 use Rattle.linker_utils.specs.declared.elf.value.Operands.{Operands}
 use Rattle.linker_utils.specs.declared.x86_64.relocations.X86_64Relocation.TheVariants as names
 use Rattle.linker_utils.specs.declared.x86_64.rewrites.RelaxationKind.TheVariants as kinds
@@ -97,7 +98,8 @@ module _ (n : ℕ) (few : n < 8) (section : List ℕ) (o : ℕ) (operands : Oper
       (drop o (rewritten (x86_64_rewrite kinds.MovIndirectToLea) section o)) rest' is
       ∙ ap (λ a. sum_64 operands.symbol (cast_unsigned w64 a)) before.addend in
       let next = sum_64 s.ip (n + 4) in
-      lead_to old new (record { instruction = operate MOV bits (register r) (relative f); size = n + 4 })
+      lead_to old new
+      (record { instruction = operate MOV bits (register r) (relative f); size = n + 4 })
       (record { instruction = lea bits r f'; size = n + 4 }) s was_decoded is_decoded
       (same_load s next bits r f f' operands.symbol
       (loaded s next bits f operands.got_entry operands.symbol size

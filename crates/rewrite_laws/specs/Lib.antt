@@ -8,3 +8,4 @@ pub mod RiscVMachine
 pub mod X86Examples
 pub mod X86Laws
 pub mod X86Machine
+pub mod X86ThreadLaws

@@ -1,10 +1,12 @@
 -- x86-64: rows that the definitions of instructions are compared with. GNU as makes these bytes of
--- these instructions, and LLVM 22 those with REX2. A processor made these results and flags of two numbers.
+-- these instructions, and LLVM 22 those with REX2. A processor made these results and flags of two
+-- numbers.
 use Rattle.std.specs.Prelude.{◌≡◌, ℕ, ◌+◌, ◌*◌, ◌%◌, ◌==◌, ◌&&◌, Bool, true, false, List, [], ◌∷◌}
 use Rattle.std.specs.Prelude.{if◌then◌else◌}
 use Rattle.std.specs.Prelude.{length, IsTrue, IsSomeAnd, Some}
 use Rattle.rewrite_laws.specs.X86Machine.{Operation, MOV, ADD, OR, ADC, SBB, AND, SUB, XOR, CMP}
-use Rattle.rewrite_laws.specs.X86Machine.{TEST, Instruction, operate, lea, call, jump, nop, direct}
+use Rattle.rewrite_laws.specs.X86Machine.{TEST, Instruction, operate, lea, lea_from, load_thread}
+use Rattle.rewrite_laws.specs.X86Machine.{call, jump, nop, direct}
 use Rattle.rewrite_laws.specs.X86Machine.{indirect, register, relative, immediate, decode, step}
 use Rattle.rewrite_laws.specs.X86Machine.{Flags, State, result, flags_after, bit_of, load}
 use Rattle.rewrite_laws.specs.X86Machine.{writes}
@@ -122,6 +124,18 @@ Decoding =
     -- `adc $0x12345678, %r31`
     × DecodesAs (0xd5 ∷ 0x19 ∷ 0x81 ∷ 0xd7 ∷ 0x78 ∷ 0x56 ∷ 0x34 ∷ 0x12 ∷ [])
     (operate ADC 64 (register 31) (immediate 0x12345678))
+    -- `data16 lea 0x10(%rip), %rdi`
+    × DecodesAs (0x66 ∷ 0x48 ∷ 0x8d ∷ 0x3d ∷ 0x10 ∷ 0x00 ∷ 0x00 ∷ 0x00 ∷ [])
+    (lea 64 7 0x10)
+    -- `mov %fs:0, %rax`
+    × DecodesAs (0x64 ∷ 0x48 ∷ 0x8b ∷ 0x04 ∷ 0x25 ∷ 0x00 ∷ 0x00 ∷ 0x00 ∷ 0x00 ∷ [])
+    (load_thread 0 0)
+    -- `lea 0x12345678(%rax), %rax`
+    × DecodesAs (0x48 ∷ 0x8d ∷ 0x80 ∷ 0x78 ∷ 0x56 ∷ 0x34 ∷ 0x12 ∷ [])
+    (lea_from 64 0 0 0x12345678)
+    -- `data16 nop`
+    × DecodesAs (0x66 ∷ 0x90 ∷ [])
+    nop
 
 -- ---- operations
 
@@ -149,9 +163,9 @@ made op n carry a b r flags =
     ((if writes op then result op n (with_carry carry) a b else a) == r)
     && (flags_number (flags_after op n (with_carry carry) a b) == flags)
 
-abbrev pub all : List Bool → Bool
-all [] = true
-all (b ∷ bs) = b && all bs
+abbrev pub all_true : List Bool → Bool
+all_true [] = true
+all_true (b ∷ bs) = b && all_true bs
 
 abbrev pub results : List Bool
 results =
@@ -193,7 +207,7 @@ results =
     ∷ made TEST 32 1 0x12345678 0x12345678 0x12345678 0x4 ∷ []
 
 abbrev pub Results : Type 0
-Results = IsTrue (all results)
+Results = IsTrue (all_true results)
 
 -- ---- states
 
@@ -205,6 +219,7 @@ example =
       ip = 0x1000;
       memory = λ a. a % 0x100;
       flags = with_carry 0;
+      fs = 0x2000;
     }
 
 abbrev pub Leaves : List ℕ → (State → Type 0) → Type 0
@@ -212,7 +227,7 @@ Leaves bytes After = IsSomeAnd (step bytes example) After
 
 abbrev pub States : Type 0
 States =
-    -- little-endian, from 0x10 bytes after the instruction, and with zeros above: `mov 0x10(%rip), %ecx`
+    -- little-endian, and with zeros above: `mov 0x10(%rip), %ecx`
     Leaves (0x8b ∷ 0x0d ∷ 0x10 ∷ 0 ∷ 0 ∷ 0 ∷ []) (λ s.
     (s.ip ≡ 0x1006) × (s.register 1 ≡ 0x19181716) × (s.register 2 ≡ 0xffffffff00000020))
     -- sign-extended: `mov -4(%rip), %rbx` and `add $-1, %rcx`
@@ -227,5 +242,8 @@ States =
     (s.ip ≡ 0x1016) × (s.register 4 ≡ 0xffffffff00000038)
     × (load 8 s 0xffffffff00000038 ≡ 0x1006)
     × (load 8 s 0xffffffff00000040 ≡ 0x4746454443424140))
+    -- `mov %fs:0, %rax`
+    × Leaves (0x64 ∷ 0x48 ∷ 0x8b ∷ 0x04 ∷ 0x25 ∷ 0 ∷ 0 ∷ 0 ∷ 0 ∷ []) (λ s.
+    s.register 0 ≡ 0x0706050403020100)
     -- `jmp *0x10(%rip)`
     × Leaves (0xff ∷ 0x25 ∷ 0x10 ∷ 0 ∷ 0 ∷ 0 ∷ []) (λ s. s.ip ≡ 0x1d1c1b1a19181716)

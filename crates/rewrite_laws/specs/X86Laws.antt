@@ -1,5 +1,5 @@
--- x86-64: rewritten instructions do the same (x86-64 psABI, "Optimize GOTPCRELX Relocations" and "ELF
--- Handling For Thread-Local Storage").
+-- x86-64: rewritten instructions do the same (x86-64 psABI, "Optimize GOTPCRELX Relocations" and
+-- "ELF Handling For Thread-Local Storage").
 use Rattle.std.specs.Prelude.{◌≡◌, ℕ, ◌-◌, ◌^◌, ◌<◌, ◌++◌, IsTrue, IsSomeAnd, List, take, drop}
 use Rattle.std.specs.Prelude.{Some, neg_ℤ, pos}
 use Rattle.std.specs.List.{All}

@@ -28,6 +28,8 @@ pub record State : Type 0 where
   -- the bytes by their addresses, below 2 ^ 64
   pub memory : ℕ → ℕ
   pub flags : Flags
+  -- where the FS segment begins: the thread pointer
+  pub fs : ℕ
 
 -- n bytes from an address, as a little-endian number
 abbrev pub load : ℕ → State → ℕ → ℕ
@@ -68,23 +70,23 @@ abbrev pub bit_of : Bool → ℕ
 bit_of b = if b then 1 else 0
 
 -- of n bits, with a carry of 0 or 1
-abbrev pub sum : ℕ → ℕ → ℕ → ℕ → ℕ
-sum n carry a b = (a + b + carry) % 2 ^ n
+abbrev pub sum_of : ℕ → ℕ → ℕ → ℕ → ℕ
+sum_of n carry a b = (a + b + carry) % 2 ^ n
 
-abbrev pub difference : ℕ → ℕ → ℕ → ℕ → ℕ
-difference n borrow a b = (a + (2 * 2 ^ n - (b + borrow))) % 2 ^ n
+abbrev pub difference_of : ℕ → ℕ → ℕ → ℕ → ℕ
+difference_of n borrow a b = (a + (2 * 2 ^ n - (b + borrow))) % 2 ^ n
 
 -- the number that an operation makes of two of n bits and CF
 abbrev pub result : Operation → ℕ → Flags → ℕ → ℕ → ℕ
 result MOV n f a b = b
-result ADD n f a b = sum n 0 a b
+result ADD n f a b = sum_of n 0 a b
 result OR n f a b = bit_or a b
-result ADC n f a b = sum n (bit_of f.carry) a b
-result SBB n f a b = difference n (bit_of f.carry) a b
+result ADC n f a b = sum_of n (bit_of f.carry) a b
+result SBB n f a b = difference_of n (bit_of f.carry) a b
 result AND n f a b = bit_and a b
-result SUB n f a b = difference n 0 a b
+result SUB n f a b = difference_of n 0 a b
 result XOR n f a b = bit_xor a b
-result CMP n f a b = difference n 0 a b
+result CMP n f a b = difference_of n 0 a b
 result TEST n f a b = bit_and a b
 
 -- how many of the low k bits are 1
@@ -104,16 +106,16 @@ flags_of n r carry auxiliary overflow =
       overflow = overflow;
     }
 
--- the carry out of bit 3, and the overflow where both operands have one sign, and the result has not
+-- Overflow is where both operands have one sign, and the result has the other.
 abbrev pub sum_flags : ℕ → ℕ → ℕ → ℕ → Flags
 sum_flags n carry a b =
-    let r = sum n carry a b in
+    let r = sum_of n carry a b in
     flags_of n r (nat_lt (2 ^ n - 1) (a + b + carry)) (nat_lt 15 (a % 16 + b % 16 + carry))
     ((bit_at a (n - 1) == bit_at b (n - 1)) && not (bit_at r (n - 1) == bit_at a (n - 1)))
 
 abbrev pub difference_flags : ℕ → ℕ → ℕ → ℕ → Flags
 difference_flags n borrow a b =
-    let r = difference n borrow a b in
+    let r = difference_of n borrow a b in
     flags_of n r (nat_lt a (b + borrow)) (nat_lt (a % 16) (b % 16 + borrow))
     (not (bit_at a (n - 1) == bit_at b (n - 1)) && not (bit_at r (n - 1) == bit_at a (n - 1)))
 
@@ -153,6 +155,10 @@ pub data Instruction : Type 0 where
   operate : Operation → ℕ → Operand → Operand → Instruction
   -- of so many bits, into a register, the address so far from the next instruction
   lea : ℕ → ℕ → ℕ → Instruction
+  -- the same of a register and 32 bits
+  lea_from : ℕ → ℕ → ℕ → ℕ → Instruction
+  -- into a register, the 64 bits so far into the FS segment
+  load_thread : ℕ → ℕ → Instruction
   call : Target → Instruction
   jump : Target → Instruction
   nop : Instruction
@@ -195,6 +201,16 @@ execute (lea n r d) next s =
     record s {
       ip = next;
       register = with_register r (sum_64 next (extended d) % 2 ^ n) s.register;
+    }
+execute (lea_from n r base d) next s =
+    record s {
+      ip = next;
+      register = with_register r (sum_64 (s.register base) (extended d) % 2 ^ n) s.register;
+    }
+execute (load_thread r d) next s =
+    record s {
+      ip = next;
+      register = with_register r (load 8 s (sum_64 s.fs (extended d))) s.register;
     }
 execute (call target) next s =
     let top = difference_64 (s.register 4) 8 in
@@ -309,8 +325,8 @@ on_immediate p m None rest = None
 on_immediate p m (Some op) rest =
     sized p 6 (operate op p.bits (register (rm_of m + p.rm)) (immediate (number_of_bytes 4 rest)))
 
--- by the opcode, the ModRM byte with mod 00 and rm 101, and the bytes after it: TEST by 85, LEA, CALL
--- and JMP by ff, and the operations
+-- by the opcode, the ModRM byte with mod 00 and rm 101, and the bytes after it: TEST by 85, LEA,
+-- CALL and JMP by ff, and the operations
 abbrev pub decode_relative : Prefix → ℕ → ℕ → List ℕ → Option Decoded
 decode_relative p opcode m rest =
     let d = number_of_bytes 4 rest in
@@ -321,12 +337,19 @@ decode_relative p opcode m rest =
     else (if (opcode == 0xff) && (reg_of m == 4) then sized p 6 (jump (indirect d))
     else on_relative p m (operation_of opcode) rest)))
 
+-- LEA of mod 10, with no SIB byte
+abbrev pub decode_based : Prefix → ℕ → ℕ → List ℕ → Option Decoded
+decode_based p opcode m rest =
+    if (opcode == 0x8d) && ((mod_of m == 2) && not (rm_of m == 4))
+    then sized p 6 (lea_from p.bits (reg_of m + p.reg) (rm_of m + p.rm) (number_of_bytes 4 rest))
+    else None
+
 abbrev pub decode_modrm : Prefix → ℕ → List ℕ → Option Decoded
 decode_modrm p opcode [] = None
 decode_modrm p opcode (m ∷ rest) =
     if is_relative m then decode_relative p opcode m rest
     else (if is_register m then on_immediate p m (immediate_operation opcode (reg_of m)) rest
-    else None)
+    else decode_based p opcode m rest)
 
 abbrev pub decode_opcode : Prefix → List ℕ → Option Decoded
 decode_opcode p [] = None
@@ -351,6 +374,33 @@ abbrev pub decode_rex2 : List ℕ → Option Decoded
 decode_rex2 [] = None
 decode_rex2 (b ∷ rest) = if bit_at b 7 == 0 then decode_opcode (rex2_prefix b) rest else None
 
+-- one more byte
+abbrev pub longer : Option Decoded → Option Decoded
+longer None = None
+longer (Some d) = Some (record d { size = d.size + 1 })
+
+-- REX with W
+abbrev pub is_rex_w : ℕ → Bool
+is_rex_w b = is_rex b && (bit_at b 3 == 1)
+
+-- The operand-size prefix 66 changes nothing of an instruction with REX.W ("REX Prefixes"), nor of
+-- NOP by 90.
+abbrev pub decode_data16 : List ℕ → Option Decoded
+decode_data16 [] = None
+decode_data16 (b ∷ bytes) =
+    if is_rex_w b then longer (decode_opcode (rex_prefix b) bytes)
+    else (if b == 0x90 then sized no_prefix 2 nop
+    else None)
+
+-- after 64, the prefix of the FS segment: MOV with REX.W, of an address of 32 bits (SIB 25: no base
+-- and no index)
+abbrev pub decode_fs : List ℕ → Option Decoded
+decode_fs (b ∷ opcode ∷ m ∷ sib ∷ rest) =
+    if (is_rex_w b && (opcode == 0x8b)) && (((mod_of m == 0) && (rm_of m == 4)) && (sib == 0x25))
+    then sized no_prefix 9 (load_thread (reg_of m + 8 * bit_at b 2) (number_of_bytes 4 rest))
+    else None
+decode_fs bytes = None
+
 -- the instruction that bytes begin with; none where it isn't one of these
 abbrev pub decode : List ℕ → Option Decoded
 decode [] = None
@@ -358,7 +408,9 @@ decode (b ∷ bytes) =
     if is_rex b then decode_opcode (rex_prefix b) bytes
     else (if b == 0xd5 then decode_rex2 bytes
     else (if b == 0x67 then decode_addr32 bytes
-    else decode_plain b bytes))
+    else (if b == 0x66 then decode_data16 bytes
+    else (if b == 0x64 then decode_fs bytes
+    else decode_plain b bytes))))
 
 abbrev pub execute_decoded : Option Decoded → State → Option State
 execute_decoded None s = None

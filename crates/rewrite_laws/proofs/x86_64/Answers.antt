@@ -1,8 +1,10 @@
 -- The laws of x86-64's rewrites.
 use Rattle.std.proofs.Common.{refl}
 use Rattle.rewrite_laws.proofs.X86Branches as branches
-use Rattle.rewrite_laws.proofs.X86Immediates as immediates
+use Rattle.rewrite_laws.proofs.X86Immediates as with
 use Rattle.rewrite_laws.proofs.X86Loads as loads
+use Rattle.rewrite_laws.proofs.X86Descriptors as descriptors
+use Rattle.rewrite_laws.proofs.X86Threads as threads
 use Rattle.rewrite_laws.proofs.x86_64.Goals as goal
 
 pub returns-clause-loads : goal.returns-clause-loads
@@ -10,27 +12,27 @@ returns-clause-loads c = (loads.without_prefix, loads.with_rex_prefix, loads.wit
 
 pub returns-clause-absolute : goal.returns-clause-absolute
 returns-clause-absolute c = (
-  immediates.without_prefix immediates.mov,
-  (immediates.within_window immediates.mov, immediates.with_rex_prefix immediates.mov, immediates.with_rex2_prefix immediates.mov),
+  with.without_prefix with.mov,
+  (with.within_window with.mov, with.with_rex_prefix with.mov, with.with_rex2_prefix with.mov),
 )
 
 pub returns-clause-operations : goal.returns-clause-operations
 returns-clause-operations c = (
-  (immediates.without_prefix immediates.add, immediates.with_rex_prefix immediates.add, immediates.with_rex2_prefix immediates.add),
-  (immediates.within_window immediates.sub, immediates.with_rex_prefix immediates.sub, immediates.with_rex2_prefix immediates.sub),
-  (immediates.within_window immediates.cmp, immediates.with_rex_prefix immediates.cmp, immediates.with_rex2_prefix immediates.cmp),
-  (immediates.without_prefix immediates.adc, immediates.with_rex_prefix immediates.adc, immediates.with_rex2_prefix immediates.adc),
-  (immediates.without_prefix immediates.and, immediates.with_rex_prefix immediates.and, immediates.with_rex2_prefix immediates.and),
-  (immediates.without_prefix immediates.or, immediates.with_rex_prefix immediates.or, immediates.with_rex2_prefix immediates.or),
-  (immediates.without_prefix immediates.sbb, immediates.with_rex_prefix immediates.sbb, immediates.with_rex2_prefix immediates.sbb),
-  (immediates.without_prefix immediates.xor, immediates.with_rex_prefix immediates.xor, immediates.with_rex2_prefix immediates.xor),
-  (immediates.without_prefix immediates.test, immediates.with_rex_prefix immediates.test, immediates.with_rex2_prefix immediates.test),
+  (with.without_prefix with.add, with.with_rex_prefix with.add, with.with_rex2_prefix with.add),
+  (with.within_window with.sub, with.with_rex_prefix with.sub, with.with_rex2_prefix with.sub),
+  (with.within_window with.cmp, with.with_rex_prefix with.cmp, with.with_rex2_prefix with.cmp),
+  (with.without_prefix with.adc, with.with_rex_prefix with.adc, with.with_rex2_prefix with.adc),
+  (with.without_prefix with.and, with.with_rex_prefix with.and, with.with_rex2_prefix with.and),
+  (with.without_prefix with.or, with.with_rex_prefix with.or, with.with_rex2_prefix with.or),
+  (with.without_prefix with.sbb, with.with_rex_prefix with.sbb, with.with_rex2_prefix with.sbb),
+  (with.without_prefix with.xor, with.with_rex_prefix with.xor, with.with_rex2_prefix with.xor),
+  (with.without_prefix with.test, with.with_rex_prefix with.test, with.with_rex2_prefix with.test),
 )
 
 pub returns-clause-thread : goal.returns-clause-thread
 returns-clause-thread c = (
-  (immediates.of_thread immediates.mov, immediates.of_thread_with_rex2 immediates.mov),
-  (immediates.of_thread immediates.add, immediates.of_thread_with_rex2 immediates.add),
+  (with.of_thread with.mov, with.of_thread_with_rex2 with.mov),
+  (with.of_thread with.add, with.of_thread_with_rex2 with.add),
 )
 
 pub returns-clause-branches : goal.returns-clause-branches
@@ -73,17 +75,20 @@ returns-clause-decoding c = (
   refl,
   refl,
   refl,
+  refl,
+  refl,
+  refl,
+  refl,
 )
 
 pub returns-clause-results : goal.returns-clause-results
 returns-clause-results c = refl
 
 pub returns-clause-states : goal.returns-clause-states
-returns-clause-states c = (
-  (refl, refl, refl),
-  refl,
-  refl,
-  refl,
-  (refl, refl, refl, refl),
-  refl,
-)
+returns-clause-states c = ((refl, refl, refl), refl, refl, refl, (refl, refl, refl, refl), refl, refl)
+
+pub returns-clause-general_dynamic : goal.returns-clause-general_dynamic
+returns-clause-general_dynamic c = (threads.local_exec, threads.initial_exec)
+
+pub returns-clause-descriptors : goal.returns-clause-descriptors
+returns-clause-descriptors c = (descriptors.local_exec, descriptors.initial_exec)

@@ -1,0 +1,173 @@
+-- Descriptors of TLS, and offsets from the thread pointer.
+use Rattle.std.proofs.Common.{◌≡◌, ℕ, ◌+◌, ◌-◌, ◌%◌, ◌^◌, ◌<◌, ◌≤◌, List, [], ◌∷◌, ◌++◌, take, drop, sym}
+use Rattle.std.proofs.Common.{◌∙◌, ap, arith, subst, refl, pos, eqb, inl, inr, IsSomeAnd}
+use Rattle.std.proofs.Common.{append_assoc, length-take, length, min}
+use Rattle.std.specs.Int.{w64, cast_unsigned}
+use Rattle.std.proofs.lemmas.Bool.{cases_Bool, eqb-true, cond-false, cond-true}
+use Rattle.std.proofs.lemmas.List.{drop_at}
+use Rattle.std.proofs.lemmas.List.Elements.{All-drop}
+use Rattle.linker_base.specs.Rewrite.{rewritten, replaces}
+use Rattle.linker_utils.specs.Relocate.{number_of_bytes}
+use Rattle.linker_utils.specs.Value.{sum_64, difference_64}
+use Rattle.linker_utils.specs.X86.{x86_64_rewrite, absolute, prefixed_operand}
+use Rattle.linker_utils.specs.X86Originals.{x86_64_matches, field4}
+use Rattle.linker_utils.specs.declared.elf.value.Operands.{Operands}
+use Rattle.linker_utils.specs.declared.x86_64.rewrites.RelaxationKind.TheVariants as kinds
+use Rattle.relocation_laws.specs.Schemes.{IsApplied, AreAddresses}
+use Rattle.relocation_laws.proofs.Sums.{difference_below}
+use Rattle.rewrite_laws.specs.X86Laws.{IsBefore}
+use Rattle.rewrite_laws.specs.X86Machine.{State, load, extended, with_register, execute, step, lea}
+use Rattle.rewrite_laws.specs.X86Machine.{nop, operate, MOV, register, relative, immediate}
+use Rattle.rewrite_laws.specs.X86ThreadLaws.{DescriptorToLocalExec, DescriptorToInitialExec}
+use Rattle.rewrite_laws.specs.X86ThreadLaws.{IsDescriptorCall, AgreeInRegisters, lea_rax}
+use Rattle.rewrite_laws.proofs.X86Codes.{inside, pattern_there}
+use Rattle.rewrite_laws.proofs.X86Fields.{descriptor_field, descriptor_row, thread_field}
+use Rattle.rewrite_laws.proofs.X86Fields.{tls_entry_field}
+use Rattle.rewrite_laws.proofs.X86Immediates.{offset_is, sum_zero}
+use Rattle.rewrite_laws.proofs.X86Loads.{from_next, at_place, same_place}
+use Rattle.rewrite_laws.proofs.X86Sections.{original_code, rewritten_code}
+use Rattle.rewrite_laws.proofs.X86Threads.{begin_with, itself}
+
+abbrev Agree : List ℕ → List ℕ → List ℕ → State → (ℕ → ℕ) → Type 0
+Agree a b c s returned =
+    IsSomeAnd (step a s) (λ before.
+    IsSomeAnd (step b s) (λ middle.
+    IsSomeAnd (step c middle) (λ after.
+    (t : State) → IsDescriptorCall 2 returned before t → AgreeInRegisters t after)))
+
+-- `middle` is the state after the `mov`
+agree : (s t middle : State) (returned : ℕ → ℕ) (entry f value : ℕ) → entry < 2 ^ 64
+    → sum_64 (sum_64 s.ip 7) (extended f) ≡ entry → returned entry ≡ value
+    → middle.ip ≡ sum_64 s.ip 7
+    → ((r : ℕ) → middle.register r ≡ with_register 0 value s.register r)
+    → ((a : ℕ) → middle.memory a ≡ s.memory a)
+    → IsDescriptorCall 2 returned (execute (lea 64 0 f) (sum_64 s.ip 7) s) t
+    → AgreeInRegisters t (execute nop (sum_64 middle.ip 2) middle)
+agree s t middle returned entry f value small argument returns ip registers memory called =
+    record {
+      ip = called.ip ∙ ap (λ i. sum_64 i 2) (sym ip);
+      registers = λ r. elim (cases_Bool (eqb r 0)) [
+        | inl same ↦
+            ap t.register (eqb-true r 0 same) ∙ called.result
+            ∙ ap returned (ap (λ a. a % 2 ^ 64) argument ∙ itself entry small) ∙ returns
+            ∙ sym (registers r ∙ cond-true (eqb r 0) value (s.register r) same)
+        | inr other ↦
+            called.kept r other
+            ∙ cond-false (eqb r 0) (sum_64 (sum_64 s.ip 7) (extended f) % 2 ^ 64) (s.register r)
+            other
+            ∙ sym (registers r ∙ cond-false (eqb r 0) value (s.register r) other)
+      ];
+      memory = λ a above.
+          called.memory a (subst (λ top. top ≤ a) (called.kept 4 refl) above) ∙ sym (memory a);
+    }
+
+-- what is left of the call
+nop_code : (calls : List ℕ) (at : ℕ) → x86_64_matches kinds.SkipTlsDescCall calls at
+    → drop at (rewritten (x86_64_rewrite kinds.SkipTlsDescCall) calls at)
+    ≡ 0x66 ∷ 0x90 ∷ drop (at + 2) calls
+nop_code calls at matches =
+    let ends = matches.0.ends in
+    ap (λ i. drop at (take i calls ++ (0x66 ∷ 0x90 ∷ []) ++ drop (i + 2) calls))
+    (let e : at - 0 ≡ at = omega arith in e)
+    ∙ ap (drop at) (append_assoc (take at calls) (0x66 ∷ 0x90 ∷ []) (drop (at + 2) calls))
+    ∙ drop_at (take at calls) (0x66 ∷ 0x90 ∷ drop (at + 2) calls) at
+    (length-take at calls ∙ (let e : min at (length calls) ≡ at = omega arith in e))
+
+by_codes : (a b c a' b' c' : List ℕ) (s : State) (returned : ℕ → ℕ) → a ≡ a' → b ≡ b' → c ≡ c'
+    → Agree a' b' c' s returned → Agree a b c s returned
+by_codes a b c a' b' c' s returned e f g h =
+    subst (λ x. Agree x b c s returned) (sym e)
+    (subst (λ x. Agree a' x c s returned) (sym f)
+    (subst (λ x. Agree a' b' x s returned) (sym g) h))
+
+argument : (section : List ℕ) (o : ℕ) (operands : Operands) (s : State) (bytes rest : List ℕ)
+    → IsBefore 3 section o operands s → IsApplied descriptor_row operands bytes rest
+    → sum_64 (sum_64 s.ip 7) (extended (number_of_bytes 4 rest)) ≡ operands.got_entry
+argument section o operands s bytes rest before applied =
+    from_next 3 s.ip operands.place (extended (number_of_bytes 4 rest)) operands.got_entry
+    (omega arith) before.addresses.place before.addresses.got_entry before.ip
+    (descriptor_field operands before.addresses bytes rest applied
+    ∙ ap (λ a. sum_64 operands.got_entry (cast_unsigned w64 a)) before.addend)
+
+pub local_exec : DescriptorToLocalExec
+local_exec section old new o operands s returned before there matches returns any was is calls at
+    called =
+    let shape = pattern_there lea_rax section o there in
+    let d = begin_with (0x48 ∷ 0x8d ∷ 0x05 ∷ []) field4 (drop (o - 3) section)
+    (All-drop (λ b. b < 2 ^ 8) (o - 3) section before.bytes) shape.1 in
+    let room = shape.0 in
+    let long = inside section (0x48 ∷ 0x8d ∷ 0x05 ∷ d.0) o 3 (omega arith) room d.1 (omega arith) in
+    let f = number_of_bytes 4 was.rest in
+    let f' = number_of_bytes 4 is.rest in
+    let p = difference_64 (sum_64 operands.place o) o in
+    let leads = offset_is (extended f') operands.symbol operands.tls_base before.addresses.symbol
+    before.addresses.tls_base
+    (thread_field (record operands { place = p; addend = pos 0 })
+    (at_place operands p (pos 0) before.addresses (difference_below (sum_64 operands.place o) o))
+    (drop o (rewritten (x86_64_rewrite (kinds.TlsDescToLocalExec 3)) section o)) is.rest is.applied
+    ∙ sum_zero operands.symbol before.addresses.symbol) in
+    by_codes (drop (o - 3) old) (drop (o - 3) new)
+    (drop at (rewritten (x86_64_rewrite kinds.SkipTlsDescCall) calls at))
+    (0x48 ∷ 0x8d ∷ 0x05 ∷ was.rest) (0x48 ∷ 0xc7 ∷ 0xc0 ∷ is.rest)
+    (0x66 ∷ 0x90 ∷ drop (at + 2) calls) s returned
+    (ap (drop (o - 3)) was.whole ∙ original_code section was.rest o 3 3 room long (omega arith)
+    ∙ ap (λ xs. drop (3 - 3) (take 3 xs ++ was.rest)) d.1)
+    (ap (drop (o - 3)) is.whole
+    ∙ rewritten_code section is.rest o 3 3 room long (omega arith)
+    (absolute 3 (prefixed_operand 3 0xc7 0xc0)) o 3 (omega arith) (omega arith)
+    ∙ ap (λ d. drop (3 - 3) (take 3 (take (3 - 3) d
+    ++ prefixed_operand 3 0xc7 0xc0 (take 3 (drop (3 - 3) d)) ++ drop (3 - 3 + 3) d) ++ is.rest))
+    d.1)
+    (nop_code calls at called)
+    (λ t c. agree s t
+    (execute (operate MOV 64 (register 0) (immediate f')) (sum_64 s.ip 7) s) returned
+    operands.got_entry f (extended f' % 2 ^ 64)
+    before.addresses.got_entry (argument section o operands s (drop o section) was.rest before
+    was.applied) (returns ∙ sym leads) refl (λ r. refl) (λ a. refl) c)
+
+pub initial_exec : DescriptorToInitialExec
+initial_exec entry small section old new o operands s returned before there matches returns holds
+    was is calls at called =
+    let shape = pattern_there lea_rax section o there in
+    let d = begin_with (0x48 ∷ 0x8d ∷ 0x05 ∷ []) field4 (drop (o - 3) section)
+    (All-drop (λ b. b < 2 ^ 8) (o - 3) section before.bytes) shape.1 in
+    let room = shape.0 in
+    let long = inside section (0x48 ∷ 0x8d ∷ 0x05 ∷ d.0) o 3 (omega arith) room d.1 (omega arith) in
+    let f = number_of_bytes 4 was.rest in
+    let f' = number_of_bytes 4 is.rest in
+    let place = operands.place in
+    let p = difference_64 (sum_64 place o) o in
+    let operands' : Operands =
+    record operands { place = p; addend = operands.addend; got_entry = entry } in
+    let addresses' : AreAddresses operands' = record {
+      symbol = before.addresses.symbol;
+      place = difference_below (sum_64 place o) o;
+      got_entry = small;
+      got_base = before.addresses.got_base;
+      plt_entry = before.addresses.plt_entry;
+      tls_base = before.addresses.tls_base;
+    } in
+    let leads = from_next 3 s.ip place (extended f') entry (omega arith) before.addresses.place small
+    before.ip
+    (ap (λ q. sum_64 q (extended f'))
+    (sym (same_place place o before.addresses.place before.offset))
+    ∙ tls_entry_field operands' addresses'
+    (drop o (rewritten (x86_64_rewrite kinds.TlsDescToInitialExec) section o)) is.rest is.applied
+    ∙ ap (λ a. sum_64 entry (cast_unsigned w64 a)) before.addend) in
+    let next = sum_64 s.ip 7 in
+    by_codes (drop (o - 3) old) (drop (o - 3) new)
+    (drop at (rewritten (x86_64_rewrite kinds.SkipTlsDescCall) calls at))
+    (0x48 ∷ 0x8d ∷ 0x05 ∷ was.rest) (0x48 ∷ 0x8b ∷ 0x05 ∷ is.rest)
+    (0x66 ∷ 0x90 ∷ drop (at + 2) calls) s returned
+    (ap (drop (o - 3)) was.whole ∙ original_code section was.rest o 3 3 room long (omega arith)
+    ∙ ap (λ xs. drop (3 - 3) (take 3 xs ++ was.rest)) d.1)
+    (ap (drop (o - 3)) is.whole
+    ∙ rewritten_code section is.rest o 3 3 room long (omega arith)
+    (replaces 2 1 (λ _. 0x8b ∷ [])) o 3 (omega arith) (omega arith)
+    ∙ ap (λ d. drop (3 - 3) (take 3 (take (3 - 2) d ++ (0x8b ∷ []) ++ drop (3 - 2 + 1) d)
+    ++ is.rest)) d.1)
+    (nop_code calls at called)
+    (λ t c. agree s t (execute (operate MOV 64 (register 0) (relative f')) next s) returned
+    operands.got_entry f (load 8 s (sum_64 next (extended f'))) before.addresses.got_entry
+    (argument section o operands s (drop o section) was.rest before was.applied)
+    (returns ∙ sym (ap (load 8 s) leads ∙ holds)) refl (λ r. refl) (λ a. refl) c)
