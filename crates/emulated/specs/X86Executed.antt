@@ -30,6 +30,7 @@ begun e =
       ip = e.before.address;
       memory = byte_in e.at e.before.memory;
       flags = flags_in e.before.flags;
+      fs = 0;
     }
 
 abbrev pub ends_so : ℕ → Executed → Option State → Bool
