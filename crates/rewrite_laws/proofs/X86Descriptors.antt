@@ -1,5 +1,6 @@
 -- Descriptors of TLS, and offsets from the thread pointer.
-use Rattle.std.proofs.Common.{◌≡◌, ℕ, ◌+◌, ◌-◌, ◌%◌, ◌^◌, ◌<◌, ◌≤◌, List, [], ◌∷◌, ◌++◌, take, drop, sym}
+use Rattle.std.proofs.Common.{◌≡◌, ℕ, ◌+◌, ◌-◌, ◌%◌, ◌^◌, ◌<◌, ◌≤◌, List, [], ◌∷◌, ◌++◌, take, drop}
+use Rattle.std.proofs.Common.{sym}
 use Rattle.std.proofs.Common.{◌∙◌, ap, arith, subst, refl, pos, eqb, inl, inr, IsSomeAnd}
 use Rattle.std.proofs.Common.{append_assoc, length-take, length, min}
 use Rattle.std.specs.Int.{w64, cast_unsigned}

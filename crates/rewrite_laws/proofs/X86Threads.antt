@@ -32,7 +32,8 @@ use Rattle.rewrite_laws.specs.X86ThreadLaws.{AgreeAfterCall}
 use Rattle.rewrite_laws.specs.X86ThreadLaws.{is_kept}
 use Rattle.rewrite_laws.proofs.X86Bytes.{same_byte}
 use Rattle.rewrite_laws.proofs.X86Codes.{inside}
-use Rattle.rewrite_laws.proofs.X86Fields.{tls_pair_field, tls_pair_row, thread_field, tls_entry_field}
+use Rattle.rewrite_laws.proofs.X86Fields.{tls_pair_field, tls_pair_row, thread_field}
+use Rattle.rewrite_laws.proofs.X86Fields.{tls_entry_field}
 use Rattle.rewrite_laws.proofs.X86Immediates.{offset_is, sum_zero}
 use Rattle.rewrite_laws.proofs.X86Loads.{from_next, at_place}
 use Rattle.rewrite_laws.proofs.X86Sections.{original_code, rewritten_code}

@@ -31,8 +31,8 @@ pub record AgreeAfterCall (s t : State) : Type 0 where
   pub memory : (a : ℕ) → s.register 4 ≤ a → s.memory a ≡ t.memory a
 
 -- What a call of `__tls_get_addr` by an instruction of so many bytes does, from the state before
--- that instruction to the one when it has returned. It takes rdi and returns rax. Flags and all other
--- registers may change, and memory below the stack pointer.
+-- that instruction to the one when it has returned. It takes rdi and returns rax. Flags and all
+-- other registers may change, and memory below the stack pointer.
 pub record IsTlsCall (size : ℕ) (returned : ℕ → ℕ) (s t : State) : Type 0 where
   pub ip : t.ip ≡ sum_64 s.ip size
   pub result : t.register 0 ≡ returned (s.register 7)
@@ -44,8 +44,8 @@ pub record HasThreadPointer (s : State) : Type 0 where
   pub small : s.fs < 2 ^ 64
   pub word : load 8 s s.fs ≡ s.fs
 
--- by the code before, the code after, and its second instruction: what the code before does, when the
--- call has returned, and what the two instructions do
+-- by the code before, the code after, and its second instruction: what the code before does, when
+-- the call has returned, and what the two instructions do
 abbrev pub DoTheSame : List ℕ → List ℕ → List ℕ → State → (ℕ → ℕ) → Type 0
 DoTheSame old new second s returned =
     IsSomeAnd (step old s) (λ before.
@@ -53,8 +53,8 @@ DoTheSame old new second s returned =
     IsSomeAnd (step second middle) (λ after.
     (t : State) → IsTlsCall 8 returned before t → AgreeAfterCall t after)))
 
--- `data16 lea x@tlsgd(%rip), %rdi` and a call of 8 bytes, which returns the symbol's address in this
--- thread for the GOT entry; and two instructions, with the relocation of the second
+-- `data16 lea x@tlsgd(%rip), %rdi` and a call of 8 bytes, which returns the symbol's address in
+-- this thread for the GOT entry; and two instructions, with the relocation of the second
 abbrev pub ReplacesCall : RelaxationKind → X86_64Relocation → (Operands → Operands)
     → (Operands → State → Type 0) → Type 0
 ReplacesCall kind after relocated Premise =
@@ -88,8 +88,8 @@ GeneralDynamic = LocalExec × InitialExec
 
 -- ---- descriptors
 
--- What a call through a descriptor does ("TLS Descriptors"): it takes and returns rax, and all other
--- registers are kept. Flags may change, and memory below the stack pointer.
+-- What a call through a descriptor does ("TLS Descriptors"): it takes and returns rax, and all
+-- other registers are kept. Flags may change, and memory below the stack pointer.
 pub record IsDescriptorCall (size : ℕ) (returned : ℕ → ℕ) (s t : State) : Type 0 where
   pub ip : t.ip ≡ sum_64 s.ip size
   pub result : t.register 0 ≡ returned (s.register 0)
