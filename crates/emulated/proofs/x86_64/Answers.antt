@@ -6,4 +6,4 @@ use Rattle.emulated.proofs.x86_64.Goals as goal
 
 pub returns : goal.returns
 unfolding x86_groups ones
-returns c = record { steps = refl; }
+returns c = record { steps = refl }
