@@ -3,6 +3,7 @@
 
 #[cfg(feature = "upstream")]
 mod behind;
+mod choices;
 mod direct;
 mod exports;
 mod inputs;
@@ -45,9 +46,10 @@ fn main() {
         let mut parts = args.iter().filter(|arg| !arg.starts_with("--")).peekable();
         parts.peek().is_none() || parts.any(|arg| arg == part)
     };
-    let parts: [(&str, fn(&mut Report)); 10] = [
+    let parts: [(&str, fn(&mut Report)); 11] = [
         ("forms", forms),
         ("rewrites", rewrites),
+        ("choices", choices::choices),
         ("rows", rows),
         ("stream", streams),
         ("numbers", numbers),

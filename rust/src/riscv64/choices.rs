@@ -31,13 +31,13 @@ fn reaches_by_low_part(facts: &LinkFacts) -> bool {
 #[inline]
 fn is_short_tail_call(section: &[u8], offset: u64, facts: &LinkFacts) -> bool {
     facts.may_compress
-        && reaches_by_jump(facts, RiscVRelocation::R_RISCV_RVC_JUMP)
         && RelaxationKind::TailToCJ.matches(section, offset)
+        && reaches_by_jump(facts, RiscVRelocation::R_RISCV_RVC_JUMP)
 }
 
 #[inline]
 fn is_near_call(kind: RelaxationKind, section: &[u8], offset: u64, facts: &LinkFacts) -> bool {
-    reaches_by_jump(facts, RiscVRelocation::R_RISCV_JAL) && kind.matches(section, offset)
+    kind.matches(section, offset) && reaches_by_jump(facts, RiscVRelocation::R_RISCV_JAL)
 }
 
 #[inline]

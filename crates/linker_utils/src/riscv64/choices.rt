@@ -49,15 +49,15 @@ fn is_short_tail_call(section: &[u8], offset: u64, facts: &LinkFacts) -> bool
     ensures { IsTrue result ↔ AppliesToRiscV section.now offset facts.now short_tail_call }
 {
     facts.may_compress
-        && reaches_by_jump(facts, RiscVRelocation::R_RISCV_RVC_JUMP)
         && RelaxationKind::TailToCJ.matches(section, offset)
+        && reaches_by_jump(facts, RiscVRelocation::R_RISCV_RVC_JUMP)
 }
 
 #[inline]
 fn is_near_call(kind: RelaxationKind, section: &[u8], offset: u64, facts: &LinkFacts) -> bool
     ensures { IsTrue result ↔ AppliesToRiscV section.now offset facts.now (near_call kind) }
 {
-    reaches_by_jump(facts, RiscVRelocation::R_RISCV_JAL) && kind.matches(section, offset)
+    kind.matches(section, offset) && reaches_by_jump(facts, RiscVRelocation::R_RISCV_JAL)
 }
 
 #[inline]

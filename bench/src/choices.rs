@@ -1,0 +1,153 @@
+//! A stream of relocations whose instructions are rewritten: each is looked up, its rewrite chosen
+//! and applied, and its value computed and written; beside the same without a rewrite.
+
+use crate::measure::{Report, Side};
+use crate::table::{AARCH64, RISCV, X86_64};
+use erased_crate::architecture::Relaxation;
+use erased_crate::elf::{Architecture, InstructionRewrite, LinkFacts, Operands};
+use sathunne::raw::*;
+
+const COUNT: usize = 20_000;
+
+/// Bytes of an instruction or a pair, with those around it.
+const STRIDE: usize = 16;
+
+struct Site {
+    offset: u64,
+    r_type: u32,
+    addend: i64,
+}
+
+/// An architecture's instructions, with the offsets and types of their relocations.
+const STREAMS: [(&str, u16, [u8; 8], &[(u64, u32)], i64); 3] = [
+    // adrp x3 and ldr x3, [x3] of the GOT
+    ("AArch64", AARCH64, [0x03, 0, 0, 0x90, 0x63, 0, 0x40, 0xf9], &[(0, 311), (4, 312)], 0),
+    // auipc ra and jalr ra, 0(ra): a call
+    ("RISC-V", RISCV, [0x97, 0, 0, 0, 0xe7, 0x80, 0, 0], &[(0, 19)], 0),
+    // nop and mov x@GOTPCREL(%rip), %rbx
+    ("x86-64", X86_64, [0x90, 0x48, 0x8b, 0x1d, 0, 0, 0, 0], &[(4, 42)], -4),
+];
+
+fn operands(site: &Site) -> Operands {
+    let symbol = 0x8_0000;
+    Operands {
+        symbol,
+        addend: site.addend,
+        place: site.offset,
+        got_entry: 0x9_0000,
+        plt_entry: symbol,
+        ..Operands::default()
+    }
+}
+
+fn facts(site: &Site) -> LinkFacts {
+    LinkFacts {
+        is_local: true,
+        has_fixed_distance: true,
+        is_marked: true,
+        has_addresses: true,
+        operands: operands(site),
+        ..LinkFacts::default()
+    }
+}
+
+fn of_c(operands: &Operands) -> sathunne::Operands {
+    sathunne::Operands {
+        symbol: operands.symbol,
+        addend: operands.addend,
+        place: operands.place,
+        got_entry: operands.got_entry,
+        plt_entry: operands.plt_entry,
+        ..sathunne::Operands::default()
+    }
+}
+
+fn by_exports(machine: u16, sites: &[Site], section: &mut [u8], chooses: bool) -> bool {
+    let len = section.len();
+    sites.iter().all(|site| {
+        let (mut offset, mut addend, mut r_type) = (site.offset, site.addend, site.r_type);
+        let mut of = of_c(&operands(site));
+        let bytes = section.as_mut_ptr();
+        if chooses {
+            let known = facts(site);
+            let numbers = sathunne::raw::LinkFacts {
+                is_local: known.is_local.into(),
+                has_fixed_distance: known.has_fixed_distance.into(),
+                is_marked: known.is_marked.into(),
+                has_addresses: known.has_addresses.into(),
+                operands: of,
+                ..sathunne::raw::LinkFacts::default()
+            };
+            let mut choice = Choice::default();
+            // SAFETY: the section is of that length
+            let status = unsafe {
+                linker_utils_choose_nonnull(
+                    machine, r_type, bytes, len, offset, &numbers, &mut choice,
+                ) | linker_utils_apply_nonnull(
+                    machine, choice.rewrite, choice.n, bytes, len, &mut offset, &mut addend,
+                )
+            };
+            r_type = choice.relocation;
+            of.place = of.place.wrapping_add(offset).wrapping_sub(site.offset);
+            of.addend = addend;
+            assert_eq!(status, 0);
+        }
+        let (mut value, at) = (0, offset as usize);
+        // SAFETY: the offset is in the section
+        unsafe {
+            linker_utils_value(machine, r_type, &of, &mut value) == 0
+                && linker_utils_relocate_nonnull(machine, r_type, value, bytes.add(at), len - at) == 0
+        }
+    })
+}
+
+fn by_crate(machine: u16, sites: &[Site], section: &mut [u8], chooses: bool) -> bool {
+    let architecture = Architecture::from_machine(machine).expect("one of five");
+    sites.iter().all(|site| {
+        let (mut offset, mut r_type) = (site.offset, site.r_type);
+        let mut of = operands(site);
+        if chooses {
+            let chosen = architecture.choose(r_type, section, offset, &facts(site));
+            let kind: Relaxation = chosen.kind;
+            kind.apply(section, &mut offset, &mut of.addend);
+            r_type = chosen.relocation;
+            of.place = of.place.wrapping_add(offset).wrapping_sub(site.offset);
+        }
+        let Some(row) = architecture.row(r_type) else { return false };
+        let Some(value) = row.value(&of) else { return false };
+        row.write(value, &mut section[offset as usize..]).is_ok()
+    })
+}
+
+pub fn choices(report: &mut Report) {
+    report.heading("Relocations with a rewrite chosen and applied", "without a rewrite");
+    for (name, machine, bytes, relocations, addend) in STREAMS {
+        let mut section = vec![0; COUNT * STRIDE];
+        let mut sites = Vec::new();
+        for (at, part) in section.chunks_exact_mut(STRIDE).enumerate() {
+            part[..8].copy_from_slice(&bytes);
+            let sites_here = relocations.iter().map(|&(offset, r_type)| Site {
+                offset: (at * STRIDE) as u64 + offset,
+                r_type,
+                addend,
+            });
+            sites.extend(sites_here);
+        }
+        let (section, sites) = (&section, &sites);
+        let side = |run: fn(u16, &[Site], &mut [u8], bool) -> bool, chooses: bool| {
+            Some(Side::over(
+                section.clone(),
+                move |state: &mut Vec<u8>| state.copy_from_slice(section),
+                move |state: &mut Vec<u8>| assert!(run(machine, sites, state, chooses)),
+                |_| 0,
+            ))
+        };
+        let sides = [
+            side(by_exports, true),
+            side(by_exports, false),
+            side(by_crate, true),
+            side(by_crate, false),
+        ];
+        report.line(name, sites.len(), false, sides);
+    }
+}
