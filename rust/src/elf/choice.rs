@@ -56,19 +56,19 @@ impl LinkFacts {
 
     /// Whether the value of a relocation of a row, `back` bytes before the place, is known and can be
     /// written.
-    #[inline]
+    #[inline(always)]
     pub(crate) fn is_in_reach(&self, row: Option<Row>, after: &Operands, back: u64) -> bool {
         self.has_addresses && reaches(row, after, back)
     }
 
     /// The same, or that no address is known.
-    #[inline]
+    #[inline(always)]
     pub(crate) fn is_in_reach_if_known(&self, row: Option<Row>, after: &Operands, back: u64) -> bool {
         !self.has_addresses || reaches(row, after, back)
     }
 }
 
-#[inline]
+#[inline(always)]
 fn reaches(row: Option<Row>, after: &Operands, back: u64) -> bool {
     let place = after.place.wrapping_sub(back);
     match row {

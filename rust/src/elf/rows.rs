@@ -135,7 +135,7 @@ impl Row {
 
     /// The relocation's value, as `RelocationKindInfo::value` says.
     #[must_use]
-    #[inline]
+    #[inline(always)]
     pub fn value(&self, operands: &Operands) -> Option<i64> {
         self.info().value(operands)
     }
@@ -143,7 +143,7 @@ impl Row {
     /// Whether the relocation has a value that can be written: one within `reach`, and a multiple of
     /// the row's alignment.
     #[must_use]
-    #[inline]
+    #[inline(always)]
     pub fn reaches(&self, operands: &Operands) -> bool {
         match self.value(operands) {
             Some(value) => self.info().is_in_reach(value),

@@ -231,7 +231,7 @@ impl RelocationKindInfo {
     /// That of the first, `R_RISCV_SET_ULEB128` or `R_LARCH_ADD_ULEB128`, is S + A, though its row
     /// is of kind `Relative`.
     #[must_use]
-    #[inline]
+    #[inline(always)]
     pub fn value(&self, operands: &Operands) -> Option<i64> {
         match self.value_modulo(operands) {
             Some(value) => Some(value.cast_signed()),

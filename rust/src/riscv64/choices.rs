@@ -5,7 +5,7 @@ use super::{RelaxationKind, RiscVRelocation, row};
 use crate::elf::{Choice, LinkFacts};
 
 /// Whether a jump may stand in for a call of the symbol.
-#[inline]
+#[inline(always)]
 fn reaches_by_jump(facts: &LinkFacts, jump: RiscVRelocation) -> bool {
     facts.is_marked
         && facts.has_fixed_distance
@@ -14,7 +14,7 @@ fn reaches_by_jump(facts: &LinkFacts, jump: RiscVRelocation) -> bool {
 }
 
 /// Whether an instruction's signed 12 bits hold the symbol's address and addend.
-#[inline]
+#[inline(always)]
 fn reaches_by_low_part(facts: &LinkFacts) -> bool {
     let operands = &facts.operands;
     let address = operands
@@ -28,24 +28,24 @@ fn reaches_by_low_part(facts: &LinkFacts) -> bool {
         && address < 0x800
 }
 
-#[inline]
+#[inline(always)]
 fn is_short_tail_call(section: &[u8], offset: u64, facts: &LinkFacts) -> bool {
     facts.may_compress
         && RelaxationKind::TailToCJ.matches(section, offset)
         && reaches_by_jump(facts, RiscVRelocation::R_RISCV_RVC_JUMP)
 }
 
-#[inline]
+#[inline(always)]
 fn is_near_call(kind: RelaxationKind, section: &[u8], offset: u64, facts: &LinkFacts) -> bool {
     kind.matches(section, offset) && reaches_by_jump(facts, RiscVRelocation::R_RISCV_JAL)
 }
 
-#[inline]
+#[inline(always)]
 fn has_no_high_part(section: &[u8], offset: u64, facts: &LinkFacts) -> bool {
     reaches_by_low_part(facts) && RelaxationKind::Hi20Delete.matches(section, offset)
 }
 
-#[inline]
+#[inline(always)]
 fn has_short_high_part(section: &[u8], offset: u64, facts: &LinkFacts) -> bool {
     facts.is_marked
         && facts.may_compress
@@ -54,7 +54,7 @@ fn has_short_high_part(section: &[u8], offset: u64, facts: &LinkFacts) -> bool {
         && RelaxationKind::Hi20ToCLui.matches(section, offset)
 }
 
-#[inline]
+#[inline(always)]
 fn is_low_part(name: RiscVRelocation, section: &[u8], offset: u64, facts: &LinkFacts) -> bool {
     reaches_by_low_part(facts) && RelaxationKind::Lo12Rs1ToZero.matches(section, offset)
 }

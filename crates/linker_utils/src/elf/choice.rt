@@ -60,7 +60,7 @@ impl LinkFacts {
 
     /// Whether the value of a relocation of a row, `back` bytes before the place, is known and can be
     /// written.
-    #[inline]
+    #[inline(always)]
     pub(crate) fn is_in_reach(&self, row: Option<Row>, after: &Operands, back: u64) -> bool
         ensures { IsTrue result
             ↔ (HasAddresses self.now × RowReaches row (operands_before back after.now)) }
@@ -69,7 +69,7 @@ impl LinkFacts {
     }
 
     /// The same, or that no address is known.
-    #[inline]
+    #[inline(always)]
     pub(crate) fn is_in_reach_if_known(&self, row: Option<Row>, after: &Operands, back: u64) -> bool
         ensures { IsTrue result
             ↔ (HasAddresses self.now → RowReaches row (operands_before back after.now)) }
@@ -78,7 +78,7 @@ impl LinkFacts {
     }
 }
 
-#[inline]
+#[inline(always)]
 fn reaches(row: Option<Row>, after: &Operands, back: u64) -> bool
     ensures { IsTrue result ↔ RowReaches row (operands_before back after.now) }
 {

@@ -289,7 +289,7 @@ impl RelocationKindInfo {
     }
 
     /// Whether a value is within `reach`, and a multiple of the row's alignment.
-    #[inline]
+    #[inline(always)]
     pub(crate) fn is_in_reach(&self, value: i64) -> bool
         ensures { IsTrue result ↔ IsInReach self.now value }
     {

@@ -169,7 +169,7 @@ impl Row {
     }
 
     /// The relocation's value, as `RelocationKindInfo::value` says.
-    #[inline]
+    #[inline(always)]
     pub fn value(&self, operands: &Operands) -> Option<i64>
         ensures { result ≡ value_of self.now operands.now }
     {
@@ -178,7 +178,7 @@ impl Row {
 
     /// Whether the relocation has a value that can be written: one within `reach`, and a multiple of
     /// the row's alignment.
-    #[inline]
+    #[inline(always)]
     pub fn reaches(&self, operands: &Operands) -> bool
         ensures { IsTrue result ↔ Reaches self.now operands.now }
     {

@@ -259,7 +259,7 @@ impl RelocationKindInfo {
     /// Of a pair of relocations of a ULEB128 number, the value of the second is what is subtracted.
     /// That of the first, `R_RISCV_SET_ULEB128` or `R_LARCH_ADD_ULEB128`, is S + A, though its row
     /// is of kind `Relative`.
-    #[inline]
+    #[inline(always)]
     pub fn value(&self, operands: &Operands) -> Option<i64>
         ensures { result ≡ value_of self.now operands.now }
     {

@@ -16,7 +16,7 @@ use super::{RelaxationKind, RiscVRelocation, row};
 use crate::elf::{Choice, LinkFacts};
 
 /// Whether a jump may stand in for a call of the symbol.
-#[inline]
+#[inline(always)]
 fn reaches_by_jump(facts: &LinkFacts, jump: RiscVRelocation) -> bool
     ensures { IsTrue result
         ↔ AllHold riscv_row_of facts.now.operands facts.now (by_jump jump) }
@@ -28,7 +28,7 @@ fn reaches_by_jump(facts: &LinkFacts, jump: RiscVRelocation) -> bool
 }
 
 /// Whether an instruction's signed 12 bits hold the symbol's address and addend.
-#[inline]
+#[inline(always)]
 fn reaches_by_low_part(facts: &LinkFacts) -> bool
     ensures { IsTrue result ↔ AllHold riscv_row_of facts.now.operands facts.now by_low_part }
 {
@@ -44,7 +44,7 @@ fn reaches_by_low_part(facts: &LinkFacts) -> bool
         && address < 0x800
 }
 
-#[inline]
+#[inline(always)]
 fn is_short_tail_call(section: &[u8], offset: u64, facts: &LinkFacts) -> bool
     ensures { IsTrue result ↔ AppliesToRiscV section.now offset facts.now short_tail_call }
 {
@@ -53,21 +53,21 @@ fn is_short_tail_call(section: &[u8], offset: u64, facts: &LinkFacts) -> bool
         && reaches_by_jump(facts, RiscVRelocation::R_RISCV_RVC_JUMP)
 }
 
-#[inline]
+#[inline(always)]
 fn is_near_call(kind: RelaxationKind, section: &[u8], offset: u64, facts: &LinkFacts) -> bool
     ensures { IsTrue result ↔ AppliesToRiscV section.now offset facts.now (near_call kind) }
 {
     kind.matches(section, offset) && reaches_by_jump(facts, RiscVRelocation::R_RISCV_JAL)
 }
 
-#[inline]
+#[inline(always)]
 fn has_no_high_part(section: &[u8], offset: u64, facts: &LinkFacts) -> bool
     ensures { IsTrue result ↔ AppliesToRiscV section.now offset facts.now no_high_part }
 {
     reaches_by_low_part(facts) && RelaxationKind::Hi20Delete.matches(section, offset)
 }
 
-#[inline]
+#[inline(always)]
 fn has_short_high_part(section: &[u8], offset: u64, facts: &LinkFacts) -> bool
     ensures { IsTrue result ↔ AppliesToRiscV section.now offset facts.now short_high_part }
 {
@@ -78,7 +78,7 @@ fn has_short_high_part(section: &[u8], offset: u64, facts: &LinkFacts) -> bool
         && RelaxationKind::Hi20ToCLui.matches(section, offset)
 }
 
-#[inline]
+#[inline(always)]
 fn is_low_part(name: RiscVRelocation, section: &[u8], offset: u64, facts: &LinkFacts) -> bool
     ensures { IsTrue result ↔ AppliesToRiscV section.now offset facts.now (low_part name) }
 {
