@@ -17,7 +17,7 @@ begun e =
 
 abbrev pub ends_so : Executed → Option State → Bool
 ends_so e None = false
-ends_so e (Some s) = is_left 0 e s.registers s.pc s.memory 0
+ends_so e (Some s) = is_left 32 0 e s.registers s.pc s.memory 0
 
 -- Each instruction leaves what the emulator did.
 abbrev pub Agrees : Type 0

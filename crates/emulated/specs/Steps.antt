@@ -53,11 +53,11 @@ abbrev pub all_below : ℕ → (ℕ → Bool) → Bool
 all_below zero test = true
 all_below (suc n) test = test n && all_below n test
 
--- Each of 32 registers, the bytes, the address of the next instruction and the flags are those that
--- the emulator left.
-abbrev pub is_left : ℕ → Executed → (ℕ → ℕ) → ℕ → (ℕ → ℕ) → ℕ → Bool
-is_left mask e register address memory flags =
-    all_below 32 (λ r. register r == number_in e.after.registers r)
+-- Each of so many registers, the bytes, the address of the next instruction and the flags are those
+-- that the emulator left.
+abbrev pub is_left : ℕ → ℕ → Executed → (ℕ → ℕ) → ℕ → (ℕ → ℕ) → ℕ → Bool
+is_left registers mask e register address memory flags =
+    all_below registers (λ r. register r == number_in e.after.registers r)
     && all_below 32 (λ k. memory (sum_64 e.at k) == byte_at k e.after.memory)
     && address == e.after.address
     && bit_and flags mask == bit_and e.after.flags mask

@@ -1,4 +1,5 @@
--- x86-64: the instructions of `rewrite_laws` compared with an emulator.
+-- x86-64: the instructions of `rewrite_laws` compared with an emulator. Register 16 is where the FS
+-- segment begins.
 use Rattle.std.specs.Prelude.{ℕ, ◌≡◌, ◌+◌, ◌*◌, ◌==◌, ◌^◌, Bool, true, false, Option, Some, None}
 use Rattle.std.specs.List.{list_all}
 use Rattle.std.specs.Int.{bit_at}
@@ -30,12 +31,12 @@ begun e =
       ip = e.before.address;
       memory = byte_in e.at e.before.memory;
       flags = flags_in e.before.flags;
-      fs = 0;
+      fs = number_in e.before.registers 16;
     }
 
 abbrev pub ends_so : ℕ → Executed → Option State → Bool
 ends_so mask e None = false
-ends_so mask e (Some s) = is_left mask e s.register s.ip s.memory (number_of_flags s.flags)
+ends_so mask e (Some s) = is_left 32 mask e s.register s.ip s.memory (number_of_flags s.flags)
 
 -- Each instruction leaves what the emulator did.
 abbrev pub Agrees : Type 0

@@ -21,7 +21,8 @@ pub fn aarch64()
 {}
 
 /// RISC-V: the forms of 32 bits and of 16, pairs with `lui` or `auipc`, and calls; and what the
-/// instructions of `rewrite_laws` do, but for those of floating-point registers.
+/// instructions of `rewrite_laws` do, but for the loads and stores of floating-point numbers of 2 and
+/// 16 bytes.
 pub fn riscv64()
     ensures agrees { riscv_table.Agrees }
     ensures steps { riscv_executed.Agrees }
