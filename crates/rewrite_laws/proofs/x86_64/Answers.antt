@@ -91,4 +91,9 @@ pub returns-clause-general_dynamic : goal.returns-clause-general_dynamic
 returns-clause-general_dynamic c = (threads.local_exec, threads.initial_exec)
 
 pub returns-clause-descriptors : goal.returns-clause-descriptors
-returns-clause-descriptors c = (descriptors.local_exec, descriptors.initial_exec)
+returns-clause-descriptors c = (
+  descriptors.local_exec,
+  descriptors.initial_exec,
+  descriptors.rex2_local_exec,
+  descriptors.rex2_initial_exec,
+)
