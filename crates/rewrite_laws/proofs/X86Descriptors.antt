@@ -196,8 +196,8 @@ initial_exec entry small section old new o operands s returned before there matc
     (returns ∙ sym (ap (load 8 s) leads ∙ holds)) refl (λ r. refl) (λ a. refl) c)
 
 pub rex2_local_exec : DescriptorToLocalExec rex2_lea_rax names.R_X86_64_CODE_4_GOTPC32_TLSDESC
-rex2_local_exec section old new o operands s returned before there matches returns any was is calls at
-    called =
+rex2_local_exec section old new o operands s returned before there matches returns any was is calls
+    at called =
     let shape = pattern_there rex2_lea_rax section o there in
     let d = begin_with (0xd5 ∷ 0x08 ∷ 0x8d ∷ 0x05 ∷ []) field4 (drop (o - 4) section)
     (All-drop (λ b. b < 2 ^ 8) (o - 4) section before.bytes) shape.1 in
