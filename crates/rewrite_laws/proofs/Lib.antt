@@ -16,6 +16,7 @@ pub mod X86Bytes
 pub mod X86Codes
 pub mod X86Decoding
 pub mod X86Descriptors
+pub mod X86Evex
 pub mod X86Fields
 pub mod X86Immediates
 pub mod X86Loads

@@ -8,7 +8,9 @@ use Rattle.std.specs.List.{All}
 use Rattle.std.proofs.lemmas.List.Elements.{All-head, All-tail}
 use Rattle.linker_utils.specs.X86 as x86
 use Rattle.linker_utils.specs.X86Originals.{begins, byte, rip_operand, rex, rex2, field4}
+use Rattle.linker_utils.specs.X86Originals.{evex_registers}
 use Rattle.rewrite_laws.specs.X86Machine.{is_relative, is_register, is_rex, reg_of, rm_of}
+use Rattle.rewrite_laws.specs.X86Machine.{is_map_4, evex_reg, evex_rm}
 
 -- ---- tests of all bytes
 
@@ -26,7 +28,7 @@ below (suc n) test h k small =
       | inr more ↦ subst (λ i. test i ≡ true) (let e : n ≡ k = omega arith in e) both.0
     ]
 
-implied : (a b : Bool) → (not a || b) ≡ true → a ≡ true → b ≡ true
+pub implied : (a b : Bool) → (not a || b) ≡ true → a ≡ true → b ≡ true
 implied true b h e = h
 implied false b h e = absurd (false≢true e)
 
@@ -103,6 +105,31 @@ rex2_byte p small h =
           (8 * bit_at p 2 + 16 * bit_at p 6) c.1;
     }
 
+-- What the byte after 62 says, and what it says after the rewrite.
+pub record IsEvexByte (p : ℕ) : Type 0 where
+  pub is : is_map_4 p ≡ true
+  pub after : is_map_4 (x86.evex_reg_to_rm p) ≡ true
+  pub moved : evex_rm (x86.evex_reg_to_rm p) ≡ evex_reg p
+
+abbrev evex_says : ℕ → Bool
+evex_says p =
+    is_map_4 p && (is_map_4 (x86.evex_reg_to_rm p)
+    && eqb (evex_rm (x86.evex_reg_to_rm p)) (evex_reg p))
+
+evex_byte : (p : ℕ) → p < 2 ^ 8 → eqb (bit_and p 0x6f) 0x64 ≡ true → IsEvexByte p
+evex_byte p small h =
+    let a = and_parts (is_map_4 p) (is_map_4 (x86.evex_reg_to_rm p)
+    && eqb (evex_rm (x86.evex_reg_to_rm p)) (evex_reg p))
+    (implied (eqb (bit_and p 0x6f) 0x64) (evex_says p)
+    (below 256 (λ p. not (eqb (bit_and p 0x6f) 0x64) || evex_says p) refl p small) h) in
+    let b = and_parts (is_map_4 (x86.evex_reg_to_rm p))
+    (eqb (evex_rm (x86.evex_reg_to_rm p)) (evex_reg p)) a.1 in
+    record {
+      is = a.0;
+      after = b.0;
+      moved = eqb-true (evex_rm (x86.evex_reg_to_rm p)) (evex_reg p) b.1;
+    }
+
 -- A ModRM byte that names a register by its rm field, with an extension of the opcode in its reg.
 pub record IsMoved (k number m : ℕ) : Type 0 where
   pub not_relative : is_relative (x86.modrm_reg_to_rm k m) ≡ false
@@ -115,7 +142,7 @@ moved_test k extension r =
     not (is_relative (k + r))
     && (is_register (k + r) && (eqb (reg_of (k + r)) extension && eqb (rm_of (k + r)) r))
 
-is_false : (b : Bool) → not b ≡ true → b ≡ false
+pub is_false : (b : Bool) → not b ≡ true → b ≡ false
 is_false true h = absurd (false≢true h)
 is_false false h = refl
 
@@ -209,6 +236,62 @@ after_rex2 opcode (b ∷ p ∷ rest) bytes h =
           (All-head (λ b. b < 2 ^ 8) b (p ∷ rest) bytes) one.0);
       is_rex2 = rex2_byte p (All-head (λ b. b < 2 ^ 8) p rest tail) two.0;
       after = on_relative opcode rest (All-tail (λ b. b < 2 ^ 8) p rest tail) two.1;
+    }
+
+-- the same after EVEX, whose last two bytes have masks of their own
+pub record IsAfterEvex (opcode : ℕ) (second third : ℕ × ℕ) (d : List ℕ) : Type 0 where
+  pub registers : ℕ
+  pub v : ℕ
+  pub control : ℕ
+  pub rest : List ℕ
+  pub is : d ≡ 0x62 ∷ registers ∷ v ∷ control ∷ rest
+  pub is_evex : IsEvexByte registers
+  pub v_small : v < 2 ^ 8
+  pub v_is : eqb (bit_and v second.0) second.1 ≡ true
+  pub control_small : control < 2 ^ 8
+  pub control_is : eqb (bit_and control third.0) third.1 ≡ true
+  pub after : IsOnRelative opcode rest
+
+pub after_evex : (opcode : ℕ) (second third : ℕ × ℕ) (d : List ℕ) → All (λ b. b < 2 ^ 8) d
+    → begins (byte 0x62 ∷ evex_registers ∷ second ∷ third ∷ rip_operand opcode) d ≡ true
+    → IsAfterEvex opcode second third d
+after_evex opcode second third [] bytes h = absurd (false≢true h)
+after_evex opcode second third (b ∷ []) bytes h =
+    absurd (false≢true (and_parts (eqb (bit_and b 0xff) 0x62) false h).1)
+after_evex opcode second third (b ∷ p ∷ []) bytes h =
+    let one = and_parts (eqb (bit_and b 0xff) 0x62) (eqb (bit_and p 0x6f) 0x64 && false) h in
+    absurd (false≢true (and_parts (eqb (bit_and p 0x6f) 0x64) false one.1).1)
+after_evex opcode second third (b ∷ p ∷ v ∷ []) bytes h =
+    let one = and_parts (eqb (bit_and b 0xff) 0x62)
+    (eqb (bit_and p 0x6f) 0x64 && (eqb (bit_and v second.0) second.1 && false)) h in
+    let two = and_parts (eqb (bit_and p 0x6f) 0x64) (eqb (bit_and v second.0) second.1 && false)
+    one.1 in
+    absurd (false≢true (and_parts (eqb (bit_and v second.0) second.1) false two.1).1)
+after_evex opcode second third (b ∷ p ∷ v ∷ c ∷ rest) bytes h =
+    let last = eqb (bit_and c third.0) third.1 && begins (rip_operand opcode) rest in
+    let one = and_parts (eqb (bit_and b 0xff) 0x62)
+    (eqb (bit_and p 0x6f) 0x64 && (eqb (bit_and v second.0) second.1 && last)) h in
+    let two = and_parts (eqb (bit_and p 0x6f) 0x64) (eqb (bit_and v second.0) second.1 && last)
+    one.1 in
+    let three = and_parts (eqb (bit_and v second.0) second.1) last two.1 in
+    let four = and_parts (eqb (bit_and c third.0) third.1) (begins (rip_operand opcode) rest)
+    three.1 in
+    let from_p = All-tail (λ b. b < 2 ^ 8) b (p ∷ v ∷ c ∷ rest) bytes in
+    let from_v = All-tail (λ b. b < 2 ^ 8) p (v ∷ c ∷ rest) from_p in
+    let from_c = All-tail (λ b. b < 2 ^ 8) v (c ∷ rest) from_v in
+    record {
+      registers = p;
+      v = v;
+      control = c;
+      rest = rest;
+      is = ap (λ x. x ∷ p ∷ v ∷ c ∷ rest) (same_byte b 0x62
+          (All-head (λ b. b < 2 ^ 8) b (p ∷ v ∷ c ∷ rest) bytes) one.0);
+      is_evex = evex_byte p (All-head (λ b. b < 2 ^ 8) p (v ∷ c ∷ rest) from_p) two.0;
+      v_small = All-head (λ b. b < 2 ^ 8) v (c ∷ rest) from_v;
+      v_is = three.0;
+      control_small = All-head (λ b. b < 2 ^ 8) c rest from_c;
+      control_is = four.0;
+      after = on_relative opcode rest (All-tail (λ b. b < 2 ^ 8) c rest from_c) four.1;
     }
 
 -- two bytes

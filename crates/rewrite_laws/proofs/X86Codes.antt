@@ -7,7 +7,7 @@ use Rattle.std.proofs.Math.Bool.{or-false}
 use Rattle.std.proofs.lemmas.List.{length-drop}
 use Rattle.linker_base.specs.Rewrite.{rewritten, replaces}
 use Rattle.linker_utils.specs.X86 as x86
-use Rattle.linker_utils.specs.X86.{absolute, operand, prefixed_operand, puts}
+use Rattle.linker_utils.specs.X86.{absolute, operand, prefixed_operand, evex_operand, puts}
 use Rattle.linker_utils.specs.X86Originals.{Original, is_one_at, is_at, begins}
 use Rattle.linker_utils.specs.declared.x86_64.rewrites.RelaxationKind.TheVariants.{JmpIndirectToRelative}
 use Rattle.rewrite_laws.proofs.X86Sections.{original_code, rewritten_code}
@@ -152,6 +152,26 @@ module _ (section original relaxed rest rest' : List ℕ) (o : ℕ)
             ∙ ap (λ d. drop (4 - 4) (take 4 (take (4 - 3) d
             ++ prefixed_operand 4 opcode' k (take 3 (drop (4 - 3) d))
             ++ drop (4 - 3 + 3) d) ++ rest')) is,
+      )
+
+  -- the same after EVEX
+  pub evex_codes : (p w v opcode m opcode' k : ℕ) (d : List ℕ) → 6 ≤ o
+      → drop (o - 6) section ≡ 0x62 ∷ p ∷ w ∷ v ∷ opcode ∷ m ∷ d
+      → relaxed ≡ take o (rewritten (Some (absolute 5 (evex_operand opcode' k))) section o) ++ rest'
+      → (drop (o - 6) original ≡ 0x62 ∷ p ∷ w ∷ v ∷ opcode ∷ m ∷ rest)
+      × (drop (o - 6) relaxed
+      ≡ 0x62 ∷ x86.evex_reg_to_rm p ∷ w ∷ v ∷ opcode' ∷ x86.modrm_reg_to_rm k m ∷ rest')
+  evex_codes p w v opcode m opcode' k d room is whole' =
+      let long = inside section (0x62 ∷ p ∷ w ∷ v ∷ opcode ∷ m ∷ d) o 6 (omega arith) room is
+      (omega arith) in (
+        ap (drop (o - 6)) whole ∙ original_code section rest o 6 6 room long (omega arith)
+            ∙ ap (λ d. drop (6 - 6) (take 6 d ++ rest)) is,
+        ap (drop (o - 6)) whole'
+            ∙ rewritten_code section rest' o 6 6 room long (omega arith)
+            (absolute 5 (evex_operand opcode' k)) o 6 (omega arith) (omega arith)
+            ∙ ap (λ d. drop (6 - 6) (take 6 (take (6 - 5) d
+            ++ evex_operand opcode' k (take 5 (drop (6 - 5) d))
+            ++ drop (6 - 5 + 5) d) ++ rest')) is,
       )
 
   -- branches

@@ -216,14 +216,14 @@ module _ (n : ℕ) (section : List ℕ) (o : ℕ) (operands : Operands) (s : Sta
       (sym (same_place operands.place o before.addresses.place before.offset))
       before.addresses.place)
 
-  entry : (bytes rest : List ℕ) → IsApplied got_row operands bytes rest
+  pub entry : (bytes rest : List ℕ) → IsApplied got_row operands bytes rest
       → sum_64 operands.place (extended (number_of_bytes 4 rest))
       ≡ sum_64 operands.got_entry (2 ^ 64 - 4)
   entry bytes rest applied =
       entry_field operands before.addresses bytes rest applied
       ∙ ap (λ a. sum_64 operands.got_entry (cast_unsigned w64 a)) before.addend
 
-  tls_entry : (bytes rest : List ℕ) → IsApplied tls_got_row operands bytes rest
+  pub tls_entry : (bytes rest : List ℕ) → IsApplied tls_got_row operands bytes rest
       → sum_64 operands.place (extended (number_of_bytes 4 rest))
       ≡ sum_64 operands.got_entry (2 ^ 64 - 4)
   tls_entry bytes rest applied =
@@ -238,7 +238,7 @@ module _ (n : ℕ) (section : List ℕ) (o : ℕ) (operands : Operands) (s : Sta
       (unsigned_field (absolute_operands o operands) addresses' bytes rest applied
       ∙ sum_zero operands.symbol before.addresses.symbol)
 
-  long_immediate : (bits : ℕ) → IsSize bits → (bytes rest : List ℕ)
+  pub long_immediate : (bits : ℕ) → IsSize bits → (bytes rest : List ℕ)
       → IsApplied signed_immediate (absolute_operands o operands) bytes rest
       → extended (number_of_bytes 4 rest) % 2 ^ bits ≡ operands.symbol % 2 ^ bits
   long_immediate bits size bytes rest applied =
@@ -247,7 +247,7 @@ module _ (n : ℕ) (section : List ℕ) (o : ℕ) (operands : Operands) (s : Sta
       (signed_field (absolute_operands o operands) addresses' bytes rest applied
       ∙ sum_zero operands.symbol before.addresses.symbol))
 
-  offset_immediate : (bits : ℕ) → IsSize bits → (bytes rest : List ℕ)
+  pub offset_immediate : (bits : ℕ) → IsSize bits → (bytes rest : List ℕ)
       → IsApplied thread_row (absolute_operands o operands) bytes rest
       → extended (number_of_bytes 4 rest) % 2 ^ bits ≡ thread_offset operands % 2 ^ bits
   offset_immediate bits size bytes rest applied =

@@ -51,7 +51,7 @@ at_place o p a addresses small =
     }
 
 -- operands are of 32 or of 64 bits
-size_by : (w : ℕ) → IsSize (if eqb w 1 then 64 else 32)
+pub size_by : (w : ℕ) → IsSize (if eqb w 1 then 64 else 32)
 size_by w =
     elim (cases_Bool (eqb w 1)) [
       | inl wide ↦ inr (cond-true (eqb w 1) 64 32 wide)

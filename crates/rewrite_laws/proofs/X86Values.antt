@@ -1,11 +1,12 @@
 -- Operations whose operands are the same numbers.
 use Rattle.std.proofs.Common.{◌≡◌, ℕ, ◌+◌, ◌*◌, ◌/◌, ◌%◌, ◌^◌, ◌<◌, sym, ◌∙◌, ap, arith}
-use Rattle.std.proofs.Common.{inl, inr, ◌⊎◌, subst}
+use Rattle.std.proofs.Common.{inl, inr, ◌⊎◌, subst, Bool, if◌then◌else◌}
 use Rattle.std.proofs.lemmas.Nat.{and_comm}
 use Rattle.linker_utils.specs.Value.{sum_64}
 use Rattle.rewrite_laws.specs.X86Machine.{State, Operation, MOV, TEST, register, relative}
 use Rattle.rewrite_laws.specs.X86Machine.{immediate, operate, execute, perform, operand_value, load}
 use Rattle.rewrite_laws.specs.X86Machine.{extended, logic_flags, lea, with_register}
+use Rattle.rewrite_laws.specs.X86Machine.{operate_into, result, flags_after}
 
 abbrev execute_lea : ℕ → ℕ → ℕ → ℕ → State → State
 execute_lea n r address next s =
@@ -62,3 +63,16 @@ same_test s next n r d i same =
     ap (λ b. perform TEST n (relative d) b a next s) same
     ∙ ap (λ x. record s { ip = next; register = s.register; flags = logic_flags n x })
     (and_comm (operand_value s next n (immediate i)) a)
+
+-- the same into a register
+pub same_into : (op : Operation) (s : State) (next n r d i destination : ℕ) (without_flags : Bool)
+    → operand_value s next n (relative d) ≡ operand_value s next n (immediate i)
+    → execute (operate_into destination without_flags op n (register r) (relative d)) next s
+    ≡ execute (operate_into destination without_flags op n (register r) (immediate i)) next s
+same_into op s next n r d i destination without_flags same =
+    let a = operand_value s next n (register r) in
+    ap (λ b. record s {
+      ip = next;
+      register = with_register destination (result op n s.flags a b) s.register;
+      flags = if without_flags then s.flags else flags_after op n s.flags a b;
+    }) same

@@ -1,12 +1,12 @@
 -- x86-64: rows that the definitions of instructions are compared with. GNU as makes these bytes of
--- these instructions, and LLVM 22 those with REX2. A processor made these results and flags of two
--- numbers.
+-- these instructions, and LLVM 22 those with REX2 and with EVEX. A processor made these results and
+-- flags of two numbers.
 use Rattle.std.specs.Prelude.{◌≡◌, ℕ, ◌+◌, ◌*◌, ◌%◌, ◌==◌, ◌&&◌, Bool, true, false, List, [], ◌∷◌}
 use Rattle.std.specs.Prelude.{if◌then◌else◌}
 use Rattle.std.specs.Prelude.{length, IsTrue, IsSomeAnd, Some}
 use Rattle.rewrite_laws.specs.X86Machine.{Operation, MOV, ADD, OR, ADC, SBB, AND, SUB, XOR, CMP}
-use Rattle.rewrite_laws.specs.X86Machine.{TEST, Instruction, operate, lea, lea_from, load_thread}
-use Rattle.rewrite_laws.specs.X86Machine.{call, jump, nop, direct}
+use Rattle.rewrite_laws.specs.X86Machine.{TEST, Instruction, operate, operate_into, lea, lea_from}
+use Rattle.rewrite_laws.specs.X86Machine.{load_thread, call, jump, nop, direct}
 use Rattle.rewrite_laws.specs.X86Machine.{indirect, register, relative, immediate, decode, step}
 use Rattle.rewrite_laws.specs.X86Machine.{Flags, State, result, flags_after, bit_of, load}
 use Rattle.rewrite_laws.specs.X86Machine.{writes}
@@ -136,6 +136,90 @@ Decoding =
     -- `data16 nop`
     × DecodesAs (0x66 ∷ 0x90 ∷ [])
     nop
+    -- `add 0x10(%rip), %rcx, %r18`
+    × DecodesAs (0x62 ∷ 0xf4 ∷ 0xec ∷ 0x10 ∷ 0x03 ∷ 0x0d ∷ 0x10 ∷ 0x00 ∷ 0x00 ∷ 0x00 ∷ [])
+    (operate_into 18 false ADD 64 (register 1) (relative 0x10))
+    -- `add 0x10(%rip), %r17, %r18`
+    × DecodesAs (0x62 ∷ 0xe4 ∷ 0xec ∷ 0x10 ∷ 0x03 ∷ 0x0d ∷ 0x10 ∷ 0x00 ∷ 0x00 ∷ 0x00 ∷ [])
+    (operate_into 18 false ADD 64 (register 17) (relative 0x10))
+    -- `{nf} add 0x10(%rip), %r28, %r18`
+    × DecodesAs (0x62 ∷ 0x64 ∷ 0xec ∷ 0x14 ∷ 0x03 ∷ 0x25 ∷ 0x10 ∷ 0x00 ∷ 0x00 ∷ 0x00 ∷ [])
+    (operate_into 18 true ADD 64 (register 28) (relative 0x10))
+    -- `{nf} add 0x10(%rip), %r17`
+    × DecodesAs (0x62 ∷ 0xe4 ∷ 0xfc ∷ 0x0c ∷ 0x03 ∷ 0x0d ∷ 0x10 ∷ 0x00 ∷ 0x00 ∷ 0x00 ∷ [])
+    (operate_into 17 true ADD 64 (register 17) (relative 0x10))
+    -- `{evex} add 0x10(%rip), %r9`
+    × DecodesAs (0x62 ∷ 0x74 ∷ 0xfc ∷ 0x08 ∷ 0x03 ∷ 0x0d ∷ 0x10 ∷ 0x00 ∷ 0x00 ∷ 0x00 ∷ [])
+    (operate_into 9 false ADD 64 (register 9) (relative 0x10))
+    -- `{evex} adc 0x10(%rip), %r31`
+    × DecodesAs (0x62 ∷ 0x64 ∷ 0xfc ∷ 0x08 ∷ 0x13 ∷ 0x3d ∷ 0x10 ∷ 0x00 ∷ 0x00 ∷ 0x00 ∷ [])
+    (operate_into 31 false ADC 64 (register 31) (relative 0x10))
+    -- `adc 0x10(%rip), %ecx, %r18d`
+    × DecodesAs (0x62 ∷ 0xf4 ∷ 0x6c ∷ 0x10 ∷ 0x13 ∷ 0x0d ∷ 0x10 ∷ 0x00 ∷ 0x00 ∷ 0x00 ∷ [])
+    (operate_into 18 false ADC 32 (register 1) (relative 0x10))
+    -- `sbb 0x10(%rip), %r31, %rbx`
+    × DecodesAs (0x62 ∷ 0x64 ∷ 0xe4 ∷ 0x18 ∷ 0x1b ∷ 0x3d ∷ 0x10 ∷ 0x00 ∷ 0x00 ∷ 0x00 ∷ [])
+    (operate_into 3 false SBB 64 (register 31) (relative 0x10))
+    -- `and 0x10(%rip), %r8d, %r9d`
+    × DecodesAs (0x62 ∷ 0x74 ∷ 0x34 ∷ 0x18 ∷ 0x23 ∷ 0x05 ∷ 0x10 ∷ 0x00 ∷ 0x00 ∷ 0x00 ∷ [])
+    (operate_into 9 false AND 32 (register 8) (relative 0x10))
+    -- `{nf} or 0x10(%rip), %r16, %r31`
+    × DecodesAs (0x62 ∷ 0xe4 ∷ 0x84 ∷ 0x14 ∷ 0x0b ∷ 0x05 ∷ 0x10 ∷ 0x00 ∷ 0x00 ∷ 0x00 ∷ [])
+    (operate_into 31 true OR 64 (register 16) (relative 0x10))
+    -- `xor 0x10(%rip), %rax, %rdx`
+    × DecodesAs (0x62 ∷ 0xf4 ∷ 0xec ∷ 0x18 ∷ 0x33 ∷ 0x05 ∷ 0x10 ∷ 0x00 ∷ 0x00 ∷ 0x00 ∷ [])
+    (operate_into 2 false XOR 64 (register 0) (relative 0x10))
+    -- `add $0x12345678, %rcx, %r18`
+    × DecodesAs (0x62 ∷ 0xf4 ∷ 0xec ∷ 0x10 ∷ 0x81 ∷ 0xc1 ∷ 0x78 ∷ 0x56 ∷ 0x34 ∷ 0x12 ∷ [])
+    (operate_into 18 false ADD 64 (register 1) (immediate 0x12345678))
+    -- `{nf} add $0x12345678, %r28, %r18`
+    × DecodesAs (0x62 ∷ 0xdc ∷ 0xec ∷ 0x14 ∷ 0x81 ∷ 0xc4 ∷ 0x78 ∷ 0x56 ∷ 0x34 ∷ 0x12 ∷ [])
+    (operate_into 18 true ADD 64 (register 28) (immediate 0x12345678))
+    -- `{nf} add $0x12345678, %r17`
+    × DecodesAs (0x62 ∷ 0xfc ∷ 0xfc ∷ 0x0c ∷ 0x81 ∷ 0xc1 ∷ 0x78 ∷ 0x56 ∷ 0x34 ∷ 0x12 ∷ [])
+    (operate_into 17 true ADD 64 (register 17) (immediate 0x12345678))
+    -- `{evex} add $0x12345678, %r9`
+    × DecodesAs (0x62 ∷ 0xd4 ∷ 0xfc ∷ 0x08 ∷ 0x81 ∷ 0xc1 ∷ 0x78 ∷ 0x56 ∷ 0x34 ∷ 0x12 ∷ [])
+    (operate_into 9 false ADD 64 (register 9) (immediate 0x12345678))
+    -- `{evex} adc $0x12345678, %r31`
+    × DecodesAs (0x62 ∷ 0xdc ∷ 0xfc ∷ 0x08 ∷ 0x81 ∷ 0xd7 ∷ 0x78 ∷ 0x56 ∷ 0x34 ∷ 0x12 ∷ [])
+    (operate_into 31 false ADC 64 (register 31) (immediate 0x12345678))
+    -- `adc $0x12345678, %ecx, %r18d`
+    × DecodesAs (0x62 ∷ 0xf4 ∷ 0x6c ∷ 0x10 ∷ 0x81 ∷ 0xd1 ∷ 0x78 ∷ 0x56 ∷ 0x34 ∷ 0x12 ∷ [])
+    (operate_into 18 false ADC 32 (register 1) (immediate 0x12345678))
+    -- `sbb $0x12345678, %r31, %rbx`
+    × DecodesAs (0x62 ∷ 0xdc ∷ 0xe4 ∷ 0x18 ∷ 0x81 ∷ 0xdf ∷ 0x78 ∷ 0x56 ∷ 0x34 ∷ 0x12 ∷ [])
+    (operate_into 3 false SBB 64 (register 31) (immediate 0x12345678))
+    -- `and $0x12345678, %r8d, %r9d`
+    × DecodesAs (0x62 ∷ 0xd4 ∷ 0x34 ∷ 0x18 ∷ 0x81 ∷ 0xe0 ∷ 0x78 ∷ 0x56 ∷ 0x34 ∷ 0x12 ∷ [])
+    (operate_into 9 false AND 32 (register 8) (immediate 0x12345678))
+    -- `{nf} or $0x12345678, %r16, %r31`
+    × DecodesAs (0x62 ∷ 0xfc ∷ 0x84 ∷ 0x14 ∷ 0x81 ∷ 0xc8 ∷ 0x78 ∷ 0x56 ∷ 0x34 ∷ 0x12 ∷ [])
+    (operate_into 31 true OR 64 (register 16) (immediate 0x12345678))
+    -- `xor $0x12345678, %r17, %rdx`
+    × DecodesAs (0x62 ∷ 0xfc ∷ 0xec ∷ 0x18 ∷ 0x81 ∷ 0xf1 ∷ 0x78 ∷ 0x56 ∷ 0x34 ∷ 0x12 ∷ [])
+    (operate_into 2 false XOR 64 (register 17) (immediate 0x12345678))
+    -- `sub 0x10(%rip), %r31, %rbx`
+    × DecodesAs (0x62 ∷ 0x64 ∷ 0xe4 ∷ 0x18 ∷ 0x2b ∷ 0x3d ∷ 0x10 ∷ 0x00 ∷ 0x00 ∷ 0x00 ∷ [])
+    (operate_into 3 false SUB 64 (register 31) (relative 0x10))
+    -- `{nf} sub 0x10(%rip), %r17`
+    × DecodesAs (0x62 ∷ 0xe4 ∷ 0xfc ∷ 0x0c ∷ 0x2b ∷ 0x0d ∷ 0x10 ∷ 0x00 ∷ 0x00 ∷ 0x00 ∷ [])
+    (operate_into 17 true SUB 64 (register 17) (relative 0x10))
+    -- `{nf} and 0x10(%rip), %r8d, %r9d`
+    × DecodesAs (0x62 ∷ 0x74 ∷ 0x34 ∷ 0x1c ∷ 0x23 ∷ 0x05 ∷ 0x10 ∷ 0x00 ∷ 0x00 ∷ 0x00 ∷ [])
+    (operate_into 9 true AND 32 (register 8) (relative 0x10))
+    -- `{nf} xor 0x10(%rip), %rax, %rdx`
+    × DecodesAs (0x62 ∷ 0xf4 ∷ 0xec ∷ 0x1c ∷ 0x33 ∷ 0x05 ∷ 0x10 ∷ 0x00 ∷ 0x00 ∷ 0x00 ∷ [])
+    (operate_into 2 true XOR 64 (register 0) (relative 0x10))
+    -- `sub $0x12345678, %r31, %rbx`
+    × DecodesAs (0x62 ∷ 0xdc ∷ 0xe4 ∷ 0x18 ∷ 0x81 ∷ 0xef ∷ 0x78 ∷ 0x56 ∷ 0x34 ∷ 0x12 ∷ [])
+    (operate_into 3 false SUB 64 (register 31) (immediate 0x12345678))
+    -- `{nf} and $0x12345678, %r8d, %r9d`
+    × DecodesAs (0x62 ∷ 0xd4 ∷ 0x34 ∷ 0x1c ∷ 0x81 ∷ 0xe0 ∷ 0x78 ∷ 0x56 ∷ 0x34 ∷ 0x12 ∷ [])
+    (operate_into 9 true AND 32 (register 8) (immediate 0x12345678))
+    -- `{nf} xor $0x12345678, %r16, %rdx`
+    × DecodesAs (0x62 ∷ 0xfc ∷ 0xec ∷ 0x1c ∷ 0x81 ∷ 0xf0 ∷ 0x78 ∷ 0x56 ∷ 0x34 ∷ 0x12 ∷ [])
+    (operate_into 2 true XOR 64 (register 16) (immediate 0x12345678))
 
 -- ---- operations
 
@@ -247,3 +331,12 @@ States =
     s.register 0 ≡ 0x0706050403020100)
     -- `jmp *0x10(%rip)`
     × Leaves (0xff ∷ 0x25 ∷ 0x10 ∷ 0 ∷ 0 ∷ 0 ∷ []) (λ s. s.ip ≡ 0x1d1c1b1a19181716)
+    -- EVEX, worked by hand. The sum is written to the new destination alone, and the flags stay:
+    -- `{nf} add $0x12345678, %r28, %r18`
+    × Leaves (0x62 ∷ 0xdc ∷ 0xec ∷ 0x14 ∷ 0x81 ∷ 0xc4 ∷ 0x78 ∷ 0x56 ∷ 0x34 ∷ 0x12 ∷ []) (λ s.
+    (s.ip ≡ 0x100a) × (s.register 18 ≡ 0xffffffff12345838)
+    × (s.register 28 ≡ 0xffffffff000001c0) × (s.flags ≡ with_carry 0))
+    -- zeros above, and other flags: `adc $0x12345678, %ecx, %r18d`
+    × Leaves (0x62 ∷ 0xf4 ∷ 0x6c ∷ 0x10 ∷ 0x81 ∷ 0xd1 ∷ 0x78 ∷ 0x56 ∷ 0x34 ∷ 0x12 ∷ []) (λ s.
+    (s.register 18 ≡ 0x12345688) × (s.register 1 ≡ 0xffffffff00000010)
+    × (flags_number s.flags ≡ 4))

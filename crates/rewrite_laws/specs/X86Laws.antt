@@ -84,13 +84,27 @@ AbsoluteAddresses =
     DoesTheSame 2 (legacy 2 0x8b) names.R_X86_64_GOTPCRELX kinds.MovIndirectToAbsolute address
     × TakesImmediate kinds.RexMovIndirectToAbsolute
 
+-- by EVEX, with 6 bytes before the field
+abbrev pub TakesImmediateByEvex : (ℕ → RelaxationKind) → Type 0
+TakesImmediateByEvex kind =
+    DoesTheSame 6 (x86_64_originals (kind 6)) names.R_X86_64_CODE_6_GOTPCRELX (kind 6) address
+
+abbrev pub EvexOperations : Type 0
+EvexOperations =
+    TakesImmediateByEvex kinds.RexAddIndirectToAbsolute
+    × TakesImmediateByEvex kinds.RexAdcIndirectToAbsolute
+    × TakesImmediateByEvex kinds.RexAndIndirectToAbsolute
+    × TakesImmediateByEvex kinds.RexOrIndirectToAbsolute
+    × TakesImmediateByEvex kinds.RexSbbIndirectToAbsolute
+    × TakesImmediateByEvex kinds.RexXorIndirectToAbsolute
+
 abbrev pub Operations : Type 0
 Operations =
     TakesImmediate kinds.RexAddIndirectToAbsolute × TakesImmediate kinds.RexSubIndirectToAbsolute
     × TakesImmediate kinds.RexCmpIndirectToAbsolute × TakesImmediate kinds.RexAdcIndirectToAbsolute
     × TakesImmediate kinds.RexAndIndirectToAbsolute × TakesImmediate kinds.RexOrIndirectToAbsolute
     × TakesImmediate kinds.RexSbbIndirectToAbsolute × TakesImmediate kinds.RexXorIndirectToAbsolute
-    × TakesImmediate kinds.RexTestIndirectToAbsolute
+    × TakesImmediate kinds.RexTestIndirectToAbsolute × EvexOperations
 
 -- the symbol's offset from the thread pointer
 abbrev pub thread_offset : Operands → ℕ
@@ -106,6 +120,8 @@ TakesOffset kind =
 abbrev pub ThreadOffsets : Type 0
 ThreadOffsets =
     TakesOffset kinds.RexMovIndirectToAbsolute × TakesOffset kinds.RexAddIndirectToAbsolute
+    × DoesTheSame 6 (x86_64_originals (kinds.RexAddIndirectToAbsolute 6))
+    names.R_X86_64_CODE_6_GOTTPOFF (kinds.RexAddIndirectToAbsolute 6) thread_offset
 
 -- ---- branches
 

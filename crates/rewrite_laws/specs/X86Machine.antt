@@ -153,6 +153,8 @@ pub data Target : Type 0 where
 pub data Instruction : Type 0 where
   -- of so many bits, into the first operand
   operate : Operation → ℕ → Operand → Operand → Instruction
+  -- the same, but into a register; the flags stay where the test is true
+  operate_into : ℕ → Bool → Operation → ℕ → Operand → Operand → Instruction
   -- of so many bits, into a register, the address so far from the next instruction
   lea : ℕ → ℕ → ℕ → Instruction
   -- the same of a register and 32 bits
@@ -197,6 +199,14 @@ perform op n first a b next s =
 abbrev pub execute : Instruction → ℕ → State → State
 execute (operate op n first second) next s =
     perform op n first (operand_value s next n first) (operand_value s next n second) next s
+execute (operate_into r without_flags op n first second) next s =
+    let a = operand_value s next n first in
+    let b = operand_value s next n second in
+    record s {
+      ip = next;
+      register = with_register r (result op n s.flags a b) s.register;
+      flags = if without_flags then s.flags else flags_after op n s.flags a b;
+    }
 execute (lea n r d) next s =
     record s {
       ip = next;
@@ -263,6 +273,67 @@ rex2_prefix b =
       reg = 8 * bit_at b 2 + 16 * bit_at b 6;
       rm = 8 * bit_at b 0 + 16 * bit_at b 4;
     }
+
+-- The bytes after 62: R3 X3 B3 R4 B4 and the opcode map; W V3 V2 V1 V0 X4 and 00; 000, ND V4 NF
+-- and 00. All of R, X and V and B3 are inverted (Intel Advanced Performance Extensions Architecture
+-- Specification, "Extended EVEX Prefix").
+abbrev pub evex_reg : ℕ → ℕ
+evex_reg first = 8 * (1 - bit_at first 7) + 16 * (1 - bit_at first 4)
+
+abbrev pub evex_rm : ℕ → ℕ
+evex_rm first = 8 * (1 - bit_at first 5) + 16 * bit_at first 3
+
+abbrev pub evex_prefix : ℕ → ℕ → Prefix
+evex_prefix first second =
+    record {
+      size = 4;
+      bits = if bit_at second 7 == 1 then 64 else 32;
+      reg = evex_reg first;
+      rm = evex_rm first;
+    }
+
+-- opcode map 4, and X3 is 1, as there is no index
+abbrev pub is_map_4 : ℕ → Bool
+is_map_4 first = (field first 0 3 == 4) && (bit_at first 6 == 1)
+
+-- X4 is 1 too, and the two bits below are 0
+abbrev pub has_no_index : ℕ → Bool
+has_no_index second = field second 0 3 == 4
+
+-- the other bits that are 0
+abbrev pub has_zeros : ℕ → Bool
+has_zeros third = (field third 5 8 == 0) && (field third 0 2 == 0)
+
+abbrev pub is_evex : ℕ → ℕ → ℕ → Bool
+is_evex first second third = is_map_4 first && (has_no_index second && has_zeros third)
+
+-- the register that V names
+abbrev pub v_register : ℕ → ℕ → ℕ
+v_register second third = 31 - (field second 3 7 + 16 * bit_at third 3)
+
+-- With ND the result is put in the register that V names. Else it is put in the first operand, and
+-- V is 0.
+abbrev pub destination_of : ℕ → ℕ → ℕ → Option ℕ
+destination_of second third r =
+    if bit_at third 4 == 1 then Some (v_register second third)
+    else (if v_register second third == 0 then Some r
+    else None)
+
+-- NF: the flags stay as they were
+abbrev pub is_without_flags : ℕ → Bool
+is_without_flags third = bit_at third 2 == 1
+
+-- The operations of map 4, by whether they are without flags. ADC and SBB have no NF. The opcodes
+-- of CMP and TEST are others' there, and MOV has none.
+abbrev pub is_in_map_4 : Operation → Bool → Bool
+is_in_map_4 ADD without_flags = true
+is_in_map_4 OR without_flags = true
+is_in_map_4 ADC without_flags = not without_flags
+is_in_map_4 SBB without_flags = not without_flags
+is_in_map_4 AND without_flags = true
+is_in_map_4 SUB without_flags = true
+is_in_map_4 XOR without_flags = true
+is_in_map_4 op without_flags = false
 
 -- the fields of a ModRM byte ("ModR/M and SIB Bytes")
 abbrev pub mod_of : ℕ → ℕ
@@ -355,6 +426,40 @@ abbrev pub decode_opcode : Prefix → List ℕ → Option Decoded
 decode_opcode p [] = None
 decode_opcode p (opcode ∷ rest) = decode_modrm p opcode rest
 
+-- an operation after EVEX into a register
+abbrev pub into : Prefix → ℕ → Operation → ℕ → Operand → Option ℕ → Option Decoded
+into p third op r operand None = None
+into p third op r operand (Some destination) =
+    sized p 6
+    (operate_into destination (is_without_flags third) op p.bits (register r) operand)
+
+-- on a register and another operand
+abbrev pub on_evex : Prefix → ℕ → ℕ → ℕ → Operand → Option Operation → Option Decoded
+on_evex p second third r operand None = None
+on_evex p second third r operand (Some op) =
+    if is_in_map_4 op (is_without_flags third)
+    then into p third op r operand (destination_of second third r)
+    else None
+
+abbrev pub evex_modrm : Prefix → ℕ → ℕ → ℕ → ℕ → List ℕ → Option Decoded
+evex_modrm p second third opcode m rest =
+    let number = number_of_bytes 4 rest in
+    if is_relative m
+    then on_evex p second third (reg_of m + p.reg) (relative number) (operation_of opcode)
+    else (if is_register m
+    then
+    on_evex p second third (rm_of m + p.rm) (immediate number)
+    (immediate_operation opcode (reg_of m))
+    else None)
+
+-- after 62
+abbrev pub decode_evex : List ℕ → Option Decoded
+decode_evex (first ∷ second ∷ third ∷ opcode ∷ m ∷ rest) =
+    if is_evex first second third
+    then evex_modrm (evex_prefix first second) second third opcode m rest
+    else None
+decode_evex bytes = None
+
 -- with no prefix: CALL and JMP by e8 and e9, NOP by 90, and those with a ModRM byte
 abbrev pub decode_plain : ℕ → List ℕ → Option Decoded
 decode_plain opcode rest =
@@ -410,7 +515,8 @@ decode (b ∷ bytes) =
     else (if b == 0x67 then decode_addr32 bytes
     else (if b == 0x66 then decode_data16 bytes
     else (if b == 0x64 then decode_fs bytes
-    else decode_plain b bytes))))
+    else (if b == 0x62 then decode_evex bytes
+    else decode_plain b bytes)))))
 
 abbrev pub execute_decoded : Option Decoded → State → Option State
 execute_decoded None s = None

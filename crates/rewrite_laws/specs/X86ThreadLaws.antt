@@ -102,42 +102,49 @@ pub record AgreeInRegisters (s t : State) : Type 0 where
   pub registers : (r : ℕ) → s.register r ≡ t.register r
   pub memory : (a : ℕ) → s.register 4 ≤ a → s.memory a ≡ t.memory a
 
--- `lea x@tlsdesc(%rip), %rax`
+-- `lea x@tlsdesc(%rip), %rax`, with REX and with REX2
 abbrev pub lea_rax : Original
 lea_rax = original 3 (byte 0x48 ∷ byte 0x8d ∷ byte 0x05 ∷ field4)
 
+abbrev pub rex2_lea_rax : Original
+rex2_lea_rax = original 4 (byte 0xd5 ∷ byte 0x08 ∷ byte 0x8d ∷ byte 0x05 ∷ field4)
+
 -- That instruction, with `call *x@tlscall(%rax)`, which returns the symbol's offset from the thread
 -- pointer for the descriptor; and what rewrites leave of both
-abbrev pub ReplacesDescriptor : RelaxationKind → X86_64Relocation → (Operands → Operands)
-    → (Operands → State → Type 0) → Type 0
-ReplacesDescriptor kind after relocated Premise =
+abbrev pub ReplacesDescriptor : Original → X86_64Relocation → RelaxationKind → X86_64Relocation
+    → (Operands → Operands) → (Operands → State → Type 0) → Type 0
+ReplacesDescriptor lea_code name kind after relocated Premise =
     (section old new : List ℕ) (o : ℕ) (operands : Operands) (s : State) (returned : ℕ → ℕ)
-    → IsBefore 3 section o operands s
-    → IsTrue (is_one_at (lea_rax ∷ []) section o)
+    → IsBefore lea_code.back section o operands s
+    → IsTrue (is_one_at (lea_code ∷ []) section o)
     → x86_64_matches kind section o
     → returned operands.got_entry ≡ thread_offset operands
     → Premise operands s
-    → IsRelocated names.R_X86_64_GOTPC32_TLSDESC operands o section old
+    → IsRelocated name operands o section old
     → IsRelocated after (relocated (operands_after (x86_64_rewrite kind) o operands))
     (offset_after (x86_64_rewrite kind) o) (rewritten (x86_64_rewrite kind) section o) new
     → (calls : List ℕ) (at : ℕ) → x86_64_matches kinds.SkipTlsDescCall calls at
-    → IsSomeAnd (step (drop (o - 3) old) s) (λ before.
-    IsSomeAnd (step (drop (o - 3) new) s) (λ middle.
+    → IsSomeAnd (step (drop (o - lea_code.back) old) s) (λ before.
+    IsSomeAnd (step (drop (o - lea_code.back) new) s) (λ middle.
     IsSomeAnd (step (drop at (rewritten (x86_64_rewrite kinds.SkipTlsDescCall) calls at)) middle)
     (λ after.
     (t : State) → IsDescriptorCall 2 returned before t → AgreeInRegisters t after)))
 
-abbrev pub DescriptorToLocalExec : Type 0
-DescriptorToLocalExec =
-    ReplacesDescriptor (kinds.TlsDescToLocalExec 3) names.R_X86_64_TPOFF32 (λ operands. operands)
-    (λ operands s. ⊤)
+abbrev pub DescriptorToLocalExec : Original → X86_64Relocation → Type 0
+DescriptorToLocalExec lea_code name =
+    ReplacesDescriptor lea_code name (kinds.TlsDescToLocalExec lea_code.back)
+    names.R_X86_64_TPOFF32 (λ operands. operands) (λ operands s. ⊤)
 
-abbrev pub DescriptorToInitialExec : Type 0
-DescriptorToInitialExec =
+abbrev pub DescriptorToInitialExec : Original → X86_64Relocation → Type 0
+DescriptorToInitialExec lea_code name =
     (entry : ℕ) → entry < 2 ^ 64
-    → ReplacesDescriptor kinds.TlsDescToInitialExec names.R_X86_64_GOTTPOFF
+    → ReplacesDescriptor lea_code name kinds.TlsDescToInitialExec names.R_X86_64_GOTTPOFF
     (λ operands. record operands { got_entry = entry })
     (λ operands s. load 8 s entry ≡ thread_offset operands)
 
 abbrev pub Descriptors : Type 0
-Descriptors = DescriptorToLocalExec × DescriptorToInitialExec
+Descriptors =
+    DescriptorToLocalExec lea_rax names.R_X86_64_GOTPC32_TLSDESC
+    × DescriptorToInitialExec lea_rax names.R_X86_64_GOTPC32_TLSDESC
+    × DescriptorToLocalExec rex2_lea_rax names.R_X86_64_CODE_4_GOTPC32_TLSDESC
+    × DescriptorToInitialExec rex2_lea_rax names.R_X86_64_CODE_4_GOTPC32_TLSDESC

@@ -1,6 +1,7 @@
 -- The laws of x86-64's rewrites.
 use Rattle.std.proofs.Common.{refl}
 use Rattle.rewrite_laws.proofs.X86Branches as branches
+use Rattle.rewrite_laws.proofs.X86Evex as evex
 use Rattle.rewrite_laws.proofs.X86Immediates as with
 use Rattle.rewrite_laws.proofs.X86Loads as loads
 use Rattle.rewrite_laws.proofs.X86Descriptors as descriptors
@@ -27,12 +28,21 @@ returns-clause-operations c = (
   (with.without_prefix with.sbb, with.with_rex_prefix with.sbb, with.with_rex2_prefix with.sbb),
   (with.without_prefix with.xor, with.with_rex_prefix with.xor, with.with_rex2_prefix with.xor),
   (with.without_prefix with.test, with.with_rex_prefix with.test, with.with_rex2_prefix with.test),
+  (
+    evex.with_evex_prefix evex.add,
+    evex.with_evex_prefix evex.adc,
+    evex.with_evex_prefix evex.and,
+    evex.with_evex_prefix evex.or,
+    evex.with_evex_prefix evex.sbb,
+    evex.with_evex_prefix evex.xor,
+  ),
 )
 
 pub returns-clause-thread : goal.returns-clause-thread
 returns-clause-thread c = (
   (with.of_thread with.mov, with.of_thread_with_rex2 with.mov),
   (with.of_thread with.add, with.of_thread_with_rex2 with.add),
+  evex.of_thread_with_evex evex.add,
 )
 
 pub returns-clause-branches : goal.returns-clause-branches
@@ -79,16 +89,59 @@ returns-clause-decoding c = (
   refl,
   refl,
   refl,
+  refl,
+  refl,
+  refl,
+  refl,
+  refl,
+  refl,
+  refl,
+  refl,
+  refl,
+  refl,
+  refl,
+  refl,
+  refl,
+  refl,
+  refl,
+  refl,
+  refl,
+  refl,
+  refl,
+  refl,
+  refl,
+  refl,
+  refl,
+  refl,
+  refl,
+  refl,
+  refl,
+  refl,
 )
 
 pub returns-clause-results : goal.returns-clause-results
 returns-clause-results c = refl
 
 pub returns-clause-states : goal.returns-clause-states
-returns-clause-states c = ((refl, refl, refl), refl, refl, refl, (refl, refl, refl, refl), refl, refl)
+returns-clause-states c = (
+  (refl, refl, refl),
+  refl,
+  refl,
+  refl,
+  (refl, refl, refl, refl),
+  refl,
+  refl,
+  (refl, refl, refl, refl),
+  (refl, refl, refl),
+)
 
 pub returns-clause-general_dynamic : goal.returns-clause-general_dynamic
 returns-clause-general_dynamic c = (threads.local_exec, threads.initial_exec)
 
 pub returns-clause-descriptors : goal.returns-clause-descriptors
-returns-clause-descriptors c = (descriptors.local_exec, descriptors.initial_exec)
+returns-clause-descriptors c = (
+  descriptors.local_exec,
+  descriptors.initial_exec,
+  descriptors.rex2_local_exec,
+  descriptors.rex2_initial_exec,
+)
