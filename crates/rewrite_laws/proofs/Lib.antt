@@ -18,6 +18,7 @@ pub mod X86Decoding
 pub mod X86Descriptors
 pub mod X86Fields
 pub mod X86Immediates
+pub mod X86LargeThreads
 pub mod X86Loads
 pub mod X86Sections
 pub mod X86Threads

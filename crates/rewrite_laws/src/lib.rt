@@ -57,9 +57,9 @@ pub fn riscv64()
 
 /// x86-64: with no prefix, with REX and with REX2, an instruction that takes an address or an
 /// offset from the GOT, and what a rewrite leaves of it, take every state to the same state. The
-/// sequences of general-dynamic, initial-exec and local-exec TLS have the same result in rax, and
-/// so have descriptors. The last three clauses compare the definitions with assemblers and a
-/// processor.
+/// sequences of general-dynamic, initial-exec and local-exec TLS have the same result in rax, with
+/// the large code model's too, and so have descriptors. The last three clauses compare the
+/// definitions with assemblers and a processor.
 pub fn x86_64()
     ensures loads { x86_laws.LoadsOfAddresses }
     ensures absolute { x86_laws.AbsoluteAddresses }

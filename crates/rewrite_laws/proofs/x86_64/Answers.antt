@@ -4,6 +4,7 @@ use Rattle.rewrite_laws.proofs.X86Branches as branches
 use Rattle.rewrite_laws.proofs.X86Immediates as with
 use Rattle.rewrite_laws.proofs.X86Loads as loads
 use Rattle.rewrite_laws.proofs.X86Descriptors as descriptors
+use Rattle.rewrite_laws.proofs.X86LargeThreads as larges
 use Rattle.rewrite_laws.proofs.X86Threads as threads
 use Rattle.rewrite_laws.proofs.x86_64.Goals as goal
 
@@ -79,6 +80,10 @@ returns-clause-decoding c = (
   refl,
   refl,
   refl,
+  refl,
+  refl,
+  refl,
+  refl,
 )
 
 pub returns-clause-results : goal.returns-clause-results
@@ -88,7 +93,11 @@ pub returns-clause-states : goal.returns-clause-states
 returns-clause-states c = ((refl, refl, refl), refl, refl, refl, (refl, refl, refl, refl), refl, refl)
 
 pub returns-clause-general_dynamic : goal.returns-clause-general_dynamic
-returns-clause-general_dynamic c = (threads.local_exec, threads.initial_exec)
+returns-clause-general_dynamic c = (
+  threads.local_exec,
+  threads.initial_exec,
+  larges.local_exec,
+)
 
 pub returns-clause-descriptors : goal.returns-clause-descriptors
 returns-clause-descriptors c = (descriptors.local_exec, descriptors.initial_exec)
