@@ -21,11 +21,7 @@ use Rattle.rewrite_laws.proofs.X86Codes.{inside}
 use Rattle.rewrite_laws.proofs.X86Sections.{original_code, rewritten_code, code_after}
 use Rattle.rewrite_laws.proofs.X86Threads.{starts_with, load_bytes, after_load, pointer, kept_after}
 use Rattle.rewrite_laws.proofs.X86Threads.{agree, by_codes, argument, offset_field}
-use Rattle.rewrite_laws.proofs.X86Threads.{offset_from}
-
--- `lea x(%rip), %rdi`
-abbrev pub plain_lea_bytes : List ℕ
-plain_lea_bytes = 0x48 ∷ 0x8d ∷ 0x3d ∷ []
+use Rattle.rewrite_laws.proofs.X86Threads.{offset_from, plain_lea_bytes}
 
 abbrev by_rbx : Original
 by_rbx = original 3 (lea_rdi ++ large_call 0x48 0xd8)

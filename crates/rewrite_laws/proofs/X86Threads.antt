@@ -55,8 +55,12 @@ abbrev pub load_bytes : ℕ → ℕ → List ℕ
 load_bytes opcode modrm =
     0x64 ∷ 0x48 ∷ 0x8b ∷ 0x04 ∷ 0x25 ∷ 0 ∷ 0 ∷ 0 ∷ 0 ∷ 0x48 ∷ opcode ∷ modrm ∷ []
 
+-- `lea x(%rip), %rdi`
+abbrev pub plain_lea_bytes : List ℕ
+plain_lea_bytes = 0x48 ∷ 0x8d ∷ 0x3d ∷ []
+
 abbrev lea_bytes : List ℕ
-lea_bytes = 0x66 ∷ 0x48 ∷ 0x8d ∷ 0x3d ∷ []
+lea_bytes = 0x66 ∷ plain_lea_bytes
 
 abbrev by_plt : Original
 by_plt =
@@ -94,7 +98,7 @@ begins_with_lea section o bytes h =
     ]
 
 -- a kept register is neither rax nor rdi
-kept_other : (k r number : ℕ) (registers : ℕ → ℕ) → is_kept k ≡ false → IsTrue (is_kept r)
+pub kept_other : (k r number : ℕ) (registers : ℕ → ℕ) → is_kept k ≡ false → IsTrue (is_kept r)
     → with_register k number registers r ≡ registers r
 kept_other k r number registers changed kept =
     elim (cases_Bool (eqb r k)) [

@@ -2,21 +2,25 @@
 -- For Thread-Local Storage").
 use Rattle.std.specs.Prelude.{◌≡◌, ℕ, ◌-◌, ◌^◌, ◌<◌, ◌≤◌, ◌==◌, ◌&&◌, ◌||◌, nat_le, nat_lt}
 use Rattle.std.specs.Prelude.{Bool}
-use Rattle.std.specs.Prelude.{IsTrue, IsSomeAnd, List, drop, ⊤}
+use Rattle.std.specs.Prelude.{IsTrue, IsSomeAnd, List, drop, Some, ⊤}
 use Rattle.linker_base.specs.Rewrite.{rewritten, offset_after}
 use Rattle.linker_utils.specs.Choices.{operands_after}
-use Rattle.linker_utils.specs.Value.{sum_64}
+use Rattle.linker_utils.specs.Relocate.{number_of_bytes}
+use Rattle.linker_utils.specs.Value.{sum_64, difference_64}
 use Rattle.linker_utils.specs.X86.{x86_64_rewrite}
 use Rattle.linker_utils.specs.X86Originals.{x86_64_matches, Original, original, byte, field4}
 use Rattle.linker_utils.specs.X86Originals.{is_one_at}
+use Rattle.linker_utils.specs.X86Relocations.{x86_64_row}
+use Rattle.linker_utils.specs.X86RelocationsAfter.{x86_64_relocation_after}
 use Rattle.std.specs.Prelude.{IsFalse, [], ◌∷◌}
 use Rattle.linker_utils.specs.declared.elf.value.Operands.{Operands}
 use Rattle.linker_utils.specs.declared.x86_64.relocations.X86_64Relocation.TheVariants as names
 use Rattle.linker_utils.specs.declared.x86_64.relocations.X86_64Relocation.{X86_64Relocation}
 use Rattle.linker_utils.specs.declared.x86_64.rewrites.RelaxationKind.{RelaxationKind}
 use Rattle.linker_utils.specs.declared.x86_64.rewrites.RelaxationKind.TheVariants as kinds
+use Rattle.relocation_laws.specs.Schemes.{AreAddresses, IsApplied}
 use Rattle.rewrite_laws.specs.X86Laws.{IsBefore, IsRelocated, thread_offset}
-use Rattle.rewrite_laws.specs.X86Machine.{State, load, step, run}
+use Rattle.rewrite_laws.specs.X86Machine.{State, load, extended, step, run}
 
 -- the registers that belong to the caller: rbx, rsp, rbp and r12 to r15 ("Register Usage")
 abbrev pub is_kept : ℕ → Bool
@@ -97,6 +101,56 @@ LocalExecLarge =
 
 abbrev pub GeneralDynamic : Type 0
 GeneralDynamic = LocalExec × InitialExec × LocalExecLarge
+
+-- ---- local-dynamic
+
+-- Fields of n bytes hold a symbol's offset in the module's TLS block and its offset from the thread
+-- pointer. Added to two bases they are the same address. As addresses in the TLS segment's image,
+-- the block begins at `image`, and the thread pointer points to `pointed`.
+abbrev pub AddToTheSame : ℕ → (ℕ → ℕ) → X86_64Relocation → X86_64Relocation → ℕ → ℕ → ℕ → ℕ
+    → Type 0
+AddToTheSame n read in_block from_pointer image pointed base base' =
+    IsSomeAnd (x86_64_row in_block) (λ row.
+    IsSomeAnd (x86_64_row from_pointer) (λ row'.
+    (operands : Operands) (bytes rest rest' : List ℕ) → AreAddresses operands
+    → IsApplied row (record operands { tls_base = image }) bytes rest
+    → IsApplied row' (record operands { tls_base = pointed }) bytes rest'
+    → sum_64 base (read (number_of_bytes n rest)) ≡ sum_64 base' (read (number_of_bytes n rest'))))
+
+-- rax is the address of the module's block in the first state, and the thread pointer in the
+-- second. What is added to it of 32 bits is sign-extended.
+pub record ReachTheSame (image pointed : ℕ) (s t : State) : Type 0 where
+  pub alike : AgreeForCaller s t
+  pub block : s.register 0 ≡ sum_64 t.fs (difference_64 image pointed)
+  pub pointer : t.register 0 ≡ t.fs
+  pub offsets : AddToTheSame 4 extended names.R_X86_64_DTPOFF32 names.R_X86_64_TPOFF32 image
+      pointed (s.register 0) (t.register 0)
+  pub long_offsets : AddToTheSame 8 (λ offset. offset) names.R_X86_64_DTPOFF64
+      names.R_X86_64_TPOFF64 image pointed (s.register 0) (t.register 0)
+
+-- `lea x@tlsld(%rip), %rdi` and a call of so many bytes, which returns the address of the module's
+-- block in this thread for the GOT entry; and so many instructions, in which nothing is relocated
+abbrev pub ReplacesModuleCall : ℕ → ℕ → RelaxationKind → Type 0
+ReplacesModuleCall size count kind =
+    (x86_64_relocation_after kind names.R_X86_64_TLSLD ≡ Some names.R_X86_64_NONE)
+    × ((section old : List ℕ) (o : ℕ) (operands : Operands) (image pointed : ℕ) (s : State)
+    (returned : ℕ → ℕ)
+    → IsBefore 3 section o operands s
+    → x86_64_matches kind section o
+    → HasThreadPointer s
+    → image < 2 ^ 64 → pointed < 2 ^ 64
+    → returned operands.got_entry ≡ sum_64 s.fs (difference_64 image pointed)
+    → IsRelocated names.R_X86_64_TLSLD operands o section old
+    → EndAlike size count (drop (o - 3) old)
+    (drop (o - 3) (rewritten (x86_64_rewrite kind) section o)) s returned
+    (ReachTheSame image pointed))
+
+-- `mov %fs:0, %rax`, with prefixes or behind a NOP
+abbrev pub LocalDynamic : Type 0
+LocalDynamic =
+    ReplacesModuleCall 5 1 kinds.TlsLdToLocalExec
+    × ReplacesModuleCall 6 1 kinds.TlsLdToLocalExecNoPlt
+    × ReplacesModuleCall 15 2 kinds.TlsLdToLocalExec64
 
 -- ---- descriptors
 

@@ -5,6 +5,7 @@ use Rattle.rewrite_laws.proofs.X86Immediates as with
 use Rattle.rewrite_laws.proofs.X86Loads as loads
 use Rattle.rewrite_laws.proofs.X86Descriptors as descriptors
 use Rattle.rewrite_laws.proofs.X86LargeThreads as larges
+use Rattle.rewrite_laws.proofs.X86LocalDynamic as dynamic
 use Rattle.rewrite_laws.proofs.X86Threads as threads
 use Rattle.rewrite_laws.proofs.x86_64.Goals as goal
 
@@ -101,3 +102,6 @@ returns-clause-general_dynamic c = (
 
 pub returns-clause-descriptors : goal.returns-clause-descriptors
 returns-clause-descriptors c = (descriptors.local_exec, descriptors.initial_exec)
+
+pub returns-clause-local_dynamic : goal.returns-clause-local_dynamic
+returns-clause-local_dynamic c = (dynamic.by_plt, dynamic.by_got, dynamic.in_large_model)
