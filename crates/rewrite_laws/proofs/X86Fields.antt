@@ -14,7 +14,7 @@ use Rattle.linker_utils.specs.declared.elf.RelocationKind.TheVariants as values
 use Rattle.linker_utils.specs.declared.elf.value.Operands.{Operands}
 use Rattle.relocation_laws.specs.Schemes.{IsAddress, IsApplied, AreAddresses, symbol_address}
 use Rattle.relocation_laws.specs.Schemes.{entry_and_addend}
-use Rattle.relocation_laws.proofs.Fields.{field_adds}
+use Rattle.relocation_laws.proofs.Fields.{field_adds, whole_field_adds}
 use Rattle.relocation_laws.proofs.Instructions.{symbol_from_place, symbol_from_tls, symbol_itself}
 use Rattle.relocation_laws.proofs.Instructions.{entry_and_addend_from_place}
 use Rattle.relocation_laws.proofs.Sums.{lifted_is}
@@ -74,9 +74,19 @@ extended_low f =
     let rem = unsigned_rem (signed 32 f) l.number l.is in
     omega arith
 
+-- the same of a number that isn't sign-extended
+number_is : (p f t : ℕ) → IsAddress (pos p +ℤ (pos f *ℤ pos 1)) t → sum_64 p f ≡ t
+number_is p f t h =
+    ap unsigned_abs (ap (λ z. int_rem_euclid z (pos (2 ^ 64)))
+    (let e : pos (p + f) ≡ pos p +ℤ (pos f *ℤ pos 1) = omega (arith, ints) in e) ∙ h)
+
+from_zero : (f : ℕ) → f % 2 ^ 64 ≡ sum_64 0 f
+from_zero f = omega arith
+
 -- ---- fields
 
--- the rows of GOTPCRELX, GOTTPOFF, TLSGD, GOTPC32_TLSDESC, PC32, TPOFF32, 32S and 32
+-- the rows of GOTPCRELX, GOTTPOFF, TLSGD, TLSLD, GOTPC32_TLSDESC, PC32, TPOFF32, DTPOFF32, TPOFF64,
+-- DTPOFF64, 32S and 32
 abbrev pub got_row : RelocationKindInfo
 got_row = signed_row 32 (bytes_row values.GotRelative 4)
 
@@ -86,6 +96,9 @@ tls_got_row = signed_row 32 (bytes_row values.GotTpOff 4)
 abbrev pub tls_pair_row : RelocationKindInfo
 tls_pair_row = signed_row 32 (bytes_row values.TlsGd 4)
 
+abbrev pub tls_module_row : RelocationKindInfo
+tls_module_row = signed_row 32 (bytes_row values.TlsLd 4)
+
 abbrev pub descriptor_row : RelocationKindInfo
 descriptor_row = signed_row 32 (bytes_row values.TlsDesc 4)
 
@@ -94,6 +107,15 @@ place_row = signed_row 32 (bytes_row values.Relative 4)
 
 abbrev pub thread_row : RelocationKindInfo
 thread_row = signed_row 32 (bytes_row values.TpOff 4)
+
+abbrev pub block_row : RelocationKindInfo
+block_row = signed_row 32 (bytes_row values.DtpOff 4)
+
+abbrev pub long_thread_row : RelocationKindInfo
+long_thread_row = bytes_row values.TpOff 8
+
+abbrev pub long_block_row : RelocationKindInfo
+long_block_row = bytes_row values.DtpOff 8
 
 abbrev pub signed_immediate : RelocationKindInfo
 signed_immediate = signed_row 32 (bytes_row values.Absolute 4)
@@ -123,6 +145,13 @@ module _ (o : Operands) (addresses : AreAddresses o) (before after : List ℕ) w
       (field_adds entry_and_addend_from_place twos_complement (λ v old. refl) refl refl
       (λ o. refl) o addresses 0 before after applied tt)
 
+  pub tls_module_field : IsApplied tls_module_row o before after
+      → sum_64 o.place (extended (number_of_bytes 4 after)) ≡ entry_and_addend o
+  tls_module_field applied =
+      computed o.place (number_of_bytes 4 after) (entry_and_addend o)
+      (field_adds entry_and_addend_from_place twos_complement (λ v old. refl) refl refl
+      (λ o. refl) o addresses 0 before after applied tt)
+
   pub descriptor_field : IsApplied descriptor_row o before after
       → sum_64 o.place (extended (number_of_bytes 4 after)) ≡ entry_and_addend o
   descriptor_field applied =
@@ -144,6 +173,27 @@ module _ (o : Operands) (addresses : AreAddresses o) (before after : List ℕ) w
       (field_adds symbol_from_tls twos_complement (λ v old. refl) refl refl
       (λ o. refl) o addresses 0 before after applied tt)
 
+  pub block_field : IsApplied block_row o before after
+      → sum_64 o.tls_base (extended (number_of_bytes 4 after)) ≡ symbol_address o
+  block_field applied =
+      computed o.tls_base (number_of_bytes 4 after) (symbol_address o)
+      (field_adds symbol_from_tls twos_complement (λ v old. refl) refl refl
+      (λ o. refl) o addresses 0 before after applied tt)
+
+  pub long_thread_field : IsApplied long_thread_row o before after
+      → sum_64 o.tls_base (number_of_bytes 8 after) ≡ symbol_address o
+  long_thread_field applied =
+      number_is o.tls_base (number_of_bytes 8 after) (symbol_address o)
+      (whole_field_adds symbol_from_tls (λ v old. refl) (λ o. refl) o addresses 0 before after
+      applied tt)
+
+  pub long_block_field : IsApplied long_block_row o before after
+      → sum_64 o.tls_base (number_of_bytes 8 after) ≡ symbol_address o
+  long_block_field applied =
+      number_is o.tls_base (number_of_bytes 8 after) (symbol_address o)
+      (whole_field_adds symbol_from_tls (λ v old. refl) (λ o. refl) o addresses 0 before after
+      applied tt)
+
   pub signed_field : IsApplied signed_immediate o before after
       → sum_64 0 (extended (number_of_bytes 4 after)) ≡ symbol_address o
   signed_field applied =
@@ -154,11 +204,7 @@ module _ (o : Operands) (addresses : AreAddresses o) (before after : List ℕ) w
   pub unsigned_field : IsApplied unsigned_immediate o before after
       → number_of_bytes 4 after % 2 ^ 64 ≡ symbol_address o
   unsigned_field applied =
-      let h = field_adds symbol_itself unsigned (λ v old. refl) refl refl
-      (λ o. refl) o addresses 0 before after applied tt in
-      number_is (number_of_bytes 4 after) (symbol_address o) h
-    where
-      number_is : (f t : ℕ) → IsAddress (pos 0 +ℤ (pos f *ℤ pos 1)) t → f % 2 ^ 64 ≡ t
-      number_is f t h =
-          ap unsigned_abs (ap (λ z. int_rem_euclid z (pos (2 ^ 64)))
-          (let e : pos f ≡ pos 0 +ℤ (pos f *ℤ pos 1) = omega (arith, ints) in e) ∙ h)
+      from_zero (number_of_bytes 4 after)
+      ∙ number_is 0 (number_of_bytes 4 after) (symbol_address o)
+      (field_adds symbol_itself unsigned (λ v old. refl) refl refl
+      (λ o. refl) o addresses 0 before after applied tt)

@@ -76,3 +76,20 @@ module _ (section rest : List ℕ) (o b n : ℕ) (room : b ≤ o) (inside : o �
       ∙ ap (λ i. drop (length f + (b - n)) (take i (f ++ x) ++ rest))
       (let same : at ≡ length f + k = omega arith in same)
       ∙ code_behind f x rest (b - n) k
+
+  -- the same with no field replaced
+  pub code_after : (r : Rewrite) → r.back ≤ b
+      → drop (o - n) (rewritten (Some r) section o)
+      ≡ drop (b - n) (take (b - r.back) (drop (o - b) section)
+      ++ r.bytes (take r.len (drop (b - r.back) (drop (o - b) section)))
+      ++ drop (b - r.back + r.len) (drop (o - b) section))
+  code_after r within =
+      let h = long in
+      let f = take (o - b) section in
+      let d = drop (o - b) section in
+      let x = take (b - r.back) d ++ r.bytes (take r.len (drop (b - r.back) d))
+      ++ drop (b - r.back + r.len) d in
+      ap (λ xs. drop (o - n) (rewritten (Some r) xs o)) parts
+      ∙ ap (drop (o - n)) (rewritten_behind f d r o (b - r.back) (omega arith))
+      ∙ ap (λ i. drop i (f ++ x)) (let e : o - n ≡ length f + (b - n) = omega arith in e)
+      ∙ drop-append-add f x (b - n)

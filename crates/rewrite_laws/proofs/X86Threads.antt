@@ -6,13 +6,12 @@ use Rattle.std.proofs.Common.{inl, inr, leb, ◌&&◌, ◌||◌}
 use Rattle.std.proofs.Common.{ℤ, Some}
 use Rattle.relocation_laws.specs.Schemes.{IsApplied, AreAddresses}
 use Rattle.rewrite_laws.specs.X86Machine.{operate, ADD, register, relative, sum_of}
-use Rattle.rewrite_laws.specs.X86ThreadLaws.{LocalExec, InitialExec, DoTheSame}
+use Rattle.rewrite_laws.specs.X86ThreadLaws.{LocalExec, InitialExec, EndAlike, AgreeForCaller}
 use Rattle.std.specs.Int.{w64, cast_unsigned}
 use Rattle.std.specs.List.{All}
 use Rattle.std.proofs.lemmas.Bool.{and_parts, false≢true, leb-true, or_cases, cases_Bool, eqb-true}
 use Rattle.std.proofs.lemmas.Bool.{cond-false}
 use Rattle.std.proofs.Math.Bool.{or-false}
-use Rattle.std.proofs.lemmas.List.{drop-drop}
 use Rattle.std.proofs.lemmas.List.Elements.{All-head, All-tail, All-drop}
 use Rattle.linker_base.specs.Rewrite.{rewritten}
 use Rattle.linker_utils.specs.Relocate.{number_of_bytes}
@@ -33,7 +32,7 @@ use Rattle.rewrite_laws.specs.X86ThreadLaws.{is_kept}
 use Rattle.rewrite_laws.proofs.X86Bytes.{same_byte}
 use Rattle.rewrite_laws.proofs.X86Codes.{inside}
 use Rattle.rewrite_laws.proofs.X86Fields.{tls_pair_field, tls_pair_row, thread_field}
-use Rattle.rewrite_laws.proofs.X86Fields.{tls_entry_field}
+use Rattle.rewrite_laws.proofs.X86Fields.{tls_entry_field, thread_row}
 use Rattle.rewrite_laws.proofs.X86Immediates.{offset_is, sum_zero}
 use Rattle.rewrite_laws.proofs.X86Loads.{from_next, at_place}
 use Rattle.rewrite_laws.proofs.X86Sections.{original_code, rewritten_code}
@@ -52,12 +51,16 @@ begin_with (b ∷ bs) ps (x ∷ d) bytes h =
     )
 
 -- `mov %fs:0, %rax`, and an instruction that begins so
-abbrev load_bytes : ℕ → ℕ → List ℕ
+abbrev pub load_bytes : ℕ → ℕ → List ℕ
 load_bytes opcode modrm =
     0x64 ∷ 0x48 ∷ 0x8b ∷ 0x04 ∷ 0x25 ∷ 0 ∷ 0 ∷ 0 ∷ 0 ∷ 0x48 ∷ opcode ∷ modrm ∷ []
 
+-- `lea x(%rip), %rdi`
+abbrev pub plain_lea_bytes : List ℕ
+plain_lea_bytes = 0x48 ∷ 0x8d ∷ 0x3d ∷ []
+
 abbrev lea_bytes : List ℕ
-lea_bytes = 0x66 ∷ 0x48 ∷ 0x8d ∷ 0x3d ∷ []
+lea_bytes = 0x66 ∷ plain_lea_bytes
 
 abbrev by_plt : Original
 by_plt =
@@ -67,30 +70,35 @@ abbrev by_got : Original
 by_got =
     original 4 (byte 0x66 ∷ lea_rdi ++ byte 0x66 ∷ byte 0x48 ∷ byte 0xff ∷ byte 0x15 ∷ field4)
 
+-- a sequence that begins with some bytes
+pub starts_with : (back : ℕ) (lead : List ℕ) (ps : List (ℕ × ℕ)) (section : List ℕ) (o : ℕ)
+    → All (λ b. b < 2 ^ 8) section
+    → (leb back o && begins (map byte lead ++ ps) (drop (o - back) section)) ≡ true
+    → (back ≤ o) × ((rest : List ℕ) × (drop (o - back) section ≡ lead ++ rest))
+starts_with back lead ps section o bytes h =
+    let both = and_parts (leb back o) (begins (map byte lead ++ ps) (drop (o - back) section))
+    h in (
+      leb-true back o both.0,
+      begin_with lead ps (drop (o - back) section)
+          (All-drop (λ b. b < 2 ^ 8) (o - back) section bytes) both.1,
+    )
+
 begins_with_lea : (section : List ℕ) (o : ℕ) → All (λ b. b < 2 ^ 8) section
     → IsTrue (is_one_at general_dynamic section o)
     → (4 ≤ o) × ((rest : List ℕ) × (drop (o - 4) section ≡ lea_bytes ++ rest))
 begins_with_lea section o bytes h =
     elim (or_cases (is_at by_plt section o) (is_at by_got section o || false) h) [
-      | inl one ↦ of_parts (field4 ++ byte 0x66 ∷ byte 0x66 ∷ byte 0x48 ∷ byte 0xe8 ∷ field4) one
+      | inl one ↦
+          starts_with 4 lea_bytes
+          (field4 ++ byte 0x66 ∷ byte 0x66 ∷ byte 0x48 ∷ byte 0xe8 ∷ field4) section o bytes one
       | inr other ↦
-          of_parts (field4 ++ byte 0x66 ∷ byte 0x48 ∷ byte 0xff ∷ byte 0x15 ∷ field4)
+          starts_with 4 lea_bytes
+          (field4 ++ byte 0x66 ∷ byte 0x48 ∷ byte 0xff ∷ byte 0x15 ∷ field4) section o bytes
           (sym (or-false (is_at by_got section o)) ∙ other)
     ]
-  where
-    of_parts : (ps : List (ℕ × ℕ))
-        → (leb 4 o && begins (map byte lea_bytes ++ ps) (drop (o - 4) section)) ≡ true
-        → (4 ≤ o) × ((rest : List ℕ) × (drop (o - 4) section ≡ lea_bytes ++ rest))
-    of_parts ps e =
-        let both = and_parts (leb 4 o) (begins (map byte lea_bytes ++ ps) (drop (o - 4) section))
-        e in (
-          leb-true 4 o both.0,
-          begin_with lea_bytes ps (drop (o - 4) section)
-              (All-drop (λ b. b < 2 ^ 8) (o - 4) section bytes) both.1,
-        )
 
 -- a kept register is neither rax nor rdi
-kept_other : (k r number : ℕ) (registers : ℕ → ℕ) → is_kept k ≡ false → IsTrue (is_kept r)
+pub kept_other : (k r number : ℕ) (registers : ℕ → ℕ) → is_kept k ≡ false → IsTrue (is_kept r)
     → with_register k number registers r ≡ registers r
 kept_other k r number registers changed kept =
     elim (cases_Bool (eqb r k)) [
@@ -104,116 +112,124 @@ sixteen ip = omega arith
 pub itself : (a : ℕ) → a < 2 ^ 64 → a % 2 ^ 64 ≡ a
 itself a small = omega arith
 
-offset_from : (fs x offset : ℕ) → x % 2 ^ 64 ≡ offset → sum_64 fs x % 2 ^ 64 ≡ sum_64 fs offset
+pub offset_from : (fs x offset : ℕ) → x % 2 ^ 64 ≡ offset → sum_64 fs x % 2 ^ 64 ≡ sum_64 fs offset
 offset_from fs x offset is = omega arith
 
 -- what both sequences leave
-abbrev after_load : State → State
+abbrev pub after_load : State → State
 after_load s = execute (load_thread 0 0) (sum_64 s.ip 9) s
 
-pointer : (s : State) → HasThreadPointer s → (after_load s).register 0 ≡ s.fs
+pub pointer : (s : State) → HasThreadPointer s → (after_load s).register 0 ≡ s.fs
 pointer s thread = ap (load 8 s) (sum_zero s.fs thread.small) ∙ thread.word
 
-agree : (s t after : State) (returned : ℕ → ℕ) (entry offset f number : ℕ) → entry < 2 ^ 64
-    → sum_64 (sum_64 s.ip 8) (extended f) ≡ entry
-    → returned entry ≡ sum_64 s.fs offset
-    → IsTlsCall 8 returned (execute (lea 64 7 f) (sum_64 s.ip 8) s) t
-    → sum_64 (sum_64 s.ip 9) 7 ≡ after.ip → after.register 0 ≡ sum_64 s.fs offset
-    → ((r : ℕ) → after.register r ≡ with_register 0 number (after_load s).register r)
-    → ((a : ℕ) → s.memory a ≡ after.memory a)
-    → AgreeAfterCall t after
-agree s t after returned entry offset f number small argument returns called ip result kept memory =
-    record {
-      ip = called.ip ∙ sixteen s.ip ∙ ip;
-      result =
-          called.result
-          ∙ ap returned (ap (λ a. a % 2 ^ 64) argument ∙ itself entry small)
-          ∙ returns
-          ∙ sym result;
-      kept = λ r k.
-          called.kept r k
-          ∙ kept_other 7 r (sum_64 (sum_64 s.ip 8) (extended f) % 2 ^ 64) s.register refl k
-          ∙ sym (kept r ∙ kept_other 0 r number (after_load s).register refl k
-          ∙ kept_other 0 r (load 8 s (sum_64 s.fs (extended 0))) s.register refl k);
-      memory = λ a above.
-          called.memory a (subst (λ top. top ≤ a) (called.kept 4 refl) above) ∙ memory a;
-    }
+-- of a kept register, by a number that is put in rax after that
+pub kept_after : (s : State) (number r : ℕ) → IsTrue (is_kept r)
+    → with_register 0 number (after_load s).register r ≡ s.register r
+kept_after s number r k =
+    kept_other 0 r number (after_load s).register refl k
+    ∙ kept_other 0 r (load 8 s (sum_64 s.fs (extended 0))) s.register refl k
 
--- the code before, after, and its second instruction
-record Codes (old new : List ℕ) (o opcode modrm : ℕ) (rest rest' : List ℕ) : Type 0 where
-  pub first : drop (o - 4) old ≡ lea_bytes ++ rest
-  pub second : drop (o - 4) new ≡ load_bytes opcode modrm ++ rest'
-  pub third : drop (o + 5) new ≡ 0x48 ∷ opcode ∷ modrm ∷ rest'
+-- after a `lea` of n bytes and a call
+pub agree : (s t after : State) (returned : ℕ → ℕ) (n size entry f : ℕ) → entry < 2 ^ 64
+    → sum_64 (sum_64 s.ip n) (extended f) ≡ entry
+    → IsTlsCall size returned (execute (lea 64 7 f) (sum_64 s.ip n) s) t
+    → sum_64 (sum_64 s.ip n) size ≡ after.ip
+    → ((r : ℕ) → IsTrue (is_kept r) → after.register r ≡ s.register r)
+    → ((a : ℕ) → s.memory a ≡ after.memory a)
+    → AgreeForCaller t after × (t.register 0 ≡ returned entry)
+agree s t after returned n size entry f small argument called ip kept memory = (
+  record {
+    ip = called.ip ∙ ip;
+    kept = λ r k.
+        called.kept r k
+        ∙ kept_other 7 r (sum_64 (sum_64 s.ip n) (extended f) % 2 ^ 64) s.register refl k
+        ∙ sym (kept r k);
+    memory = λ a above.
+        called.memory a (subst (λ top. top ≤ a) (called.kept 4 refl) above) ∙ memory a;
+  },
+  called.result ∙ ap returned (ap (λ a. a % 2 ^ 64) argument ∙ itself entry small),
+)
+
+-- the code before and after
+pub record Codes (old new : List ℕ) (at : ℕ) (lead bytes : List ℕ) : Type 0 where
+  pub first : drop at old ≡ lead
+  pub second : drop at new ≡ bytes
 
 codes : (section old new rest rest' : List ℕ) (o opcode modrm : ℕ) (addend : ℤ → ℤ)
     → All (λ b. b < 2 ^ 8) section → IsTrue (is_one_at general_dynamic section o)
     → old ≡ take o section ++ rest
     → new ≡ take (o + 8)
     (rewritten (Some (puts 4 12 (load_bytes opcode modrm) (λ o. o + 8) addend)) section o) ++ rest'
-    → Codes old new o opcode modrm rest rest'
+    → Codes old new (o - 4) (lea_bytes ++ rest) (load_bytes opcode modrm ++ rest')
 codes section old new rest rest' o opcode modrm addend bytes matches was is =
     let shape = begins_with_lea section o bytes matches in
     let d = shape.1.0 in
     let room = shape.0 in
     let long = inside section (lea_bytes ++ d) o 4 (omega arith) room shape.1.1 (omega arith) in
-    let second : drop (o - 4) new ≡ load_bytes opcode modrm ++ rest' =
-    ap (drop (o - 4)) is
-    ∙ rewritten_code section rest' o 4 4 room long (omega arith)
-    (puts 4 12 (load_bytes opcode modrm) (λ o. o + 8) addend) (o + 8) 12 (omega arith)
-    (omega arith) in
     record {
       first =
           ap (drop (o - 4)) was ∙ original_code section rest o 4 4 room long (omega arith)
           ∙ ap (λ xs. drop (4 - 4) (take 4 xs ++ rest)) shape.1.1;
-      second = second;
-      third =
-          ap (λ i. drop i new) (let e : o + 5 ≡ o - 4 + 9 = omega arith in e)
-          ∙ sym (drop-drop 9 (o - 4) new) ∙ ap (drop 9) second;
+      second =
+          ap (drop (o - 4)) is
+          ∙ rewritten_code section rest' o 4 4 room long (omega arith)
+          (puts 4 12 (load_bytes opcode modrm) (λ o. o + 8) addend) (o + 8) 12 (omega arith)
+          (omega arith);
     }
 
-by_codes : (old new : List ℕ) (o opcode modrm : ℕ) (rest rest' : List ℕ) (s : State)
-    (returned : ℕ → ℕ) → Codes old new o opcode modrm rest rest'
-    → DoTheSame (lea_bytes ++ rest) (load_bytes opcode modrm ++ rest')
-    (0x48 ∷ opcode ∷ modrm ∷ rest') s returned
-    → DoTheSame (drop (o - 4) old) (drop (o - 4) new) (drop (o + 5) new) s returned
-by_codes old new o opcode modrm rest rest' s returned c h =
-    subst (λ a. DoTheSame a (drop (o - 4) new) (drop (o + 5) new) s returned) (sym c.first)
-    (subst (λ b. DoTheSame (lea_bytes ++ rest) b (drop (o + 5) new) s returned) (sym c.second)
-    (subst (λ x. DoTheSame (lea_bytes ++ rest) (load_bytes opcode modrm ++ rest') x s returned)
-    (sym c.third) h))
+pub by_codes : (size count at : ℕ) (old new lead bytes : List ℕ) (s : State) (returned : ℕ → ℕ)
+    (Alike : State → State → Type 0) → Codes old new at lead bytes
+    → EndAlike size count lead bytes s returned Alike
+    → EndAlike size count (drop at old) (drop at new) s returned Alike
+by_codes size count at old new lead bytes s returned Alike c h =
+    subst (λ a. EndAlike size count a (drop at new) s returned Alike) (sym c.first)
+    (subst (λ b. EndAlike size count lead b s returned Alike) (sym c.second) h)
 
 -- the argument of the call
-argument : (section : List ℕ) (o : ℕ) (operands : Operands) (s : State) (bytes rest : List ℕ)
-    → IsBefore 4 section o operands s → IsApplied tls_pair_row operands bytes rest
-    → sum_64 (sum_64 s.ip 8) (extended (number_of_bytes 4 rest)) ≡ operands.got_entry
-argument section o operands s bytes rest before applied =
-    from_next 4 s.ip operands.place (extended (number_of_bytes 4 rest)) operands.got_entry
-    (omega arith) before.addresses.place before.addresses.got_entry before.ip
+pub argument : (n : ℕ) → n < 8 → (section : List ℕ) (o : ℕ) (operands : Operands) (s : State)
+    (bytes rest : List ℕ) → IsBefore n section o operands s
+    → IsApplied tls_pair_row operands bytes rest
+    → sum_64 (sum_64 s.ip (n + 4)) (extended (number_of_bytes 4 rest)) ≡ operands.got_entry
+argument n short section o operands s bytes rest before applied =
+    from_next n s.ip operands.place (extended (number_of_bytes 4 rest)) operands.got_entry
+    short before.addresses.place before.addresses.got_entry before.ip
     (tls_pair_field operands before.addresses bytes rest applied
     ∙ ap (λ a. sum_64 operands.got_entry (cast_unsigned w64 a)) before.addend)
+
+-- the offset from the thread pointer, in the field of a `lea` with no addend at another offset
+pub offset_field : (n : ℕ) (section : List ℕ) (o p : ℕ) (operands : Operands) (s : State)
+    (bytes rest : List ℕ) → IsBefore n section o operands s → p < 2 ^ 64
+    → IsApplied thread_row (record operands { place = p; addend = pos 0 }) bytes rest
+    → extended (number_of_bytes 4 rest) % 2 ^ 64 ≡ thread_offset operands
+offset_field n section o p operands s bytes rest before small applied =
+    offset_is (extended (number_of_bytes 4 rest)) operands.symbol operands.tls_base
+    before.addresses.symbol before.addresses.tls_base
+    (thread_field (record operands { place = p; addend = pos 0 })
+    (at_place operands p (pos 0) before.addresses small) bytes rest applied
+    ∙ sum_zero operands.symbol before.addresses.symbol)
 
 pub local_exec : LocalExec
 local_exec section old new o operands s returned before matches thread returns any was is =
     let f = number_of_bytes 4 was.rest in
     let f' = number_of_bytes 4 is.rest in
-    let p = difference_64 (sum_64 operands.place (o + 8)) o in
-    let operands' : Operands = record operands { place = p; addend = pos 0 } in
-    let leads = offset_is (extended f') operands.symbol operands.tls_base before.addresses.symbol
-    before.addresses.tls_base
-    (thread_field operands' (at_place operands p (pos 0) before.addresses
-    (difference_below (sum_64 operands.place (o + 8)) o))
-    (drop (o + 8) (rewritten (x86_64_rewrite kinds.TlsGdToLocalExec) section o)) is.rest is.applied
-    ∙ sum_zero operands.symbol before.addresses.symbol) in
+    let leads = offset_field 4 section o (difference_64 (sum_64 operands.place (o + 8)) o) operands
+    s (drop (o + 8) (rewritten (x86_64_rewrite kinds.TlsGdToLocalExec) section o)) is.rest before
+    (difference_below (sum_64 operands.place (o + 8)) o) is.applied in
     let number = sum_64 ((after_load s).register 0) (extended f') % 2 ^ 64 in
-    by_codes old new o 0x8d 0x80 was.rest is.rest s returned
-    (codes section old new was.rest is.rest o 0x8d 0x80 (λ _. pos 0) before.bytes matches.1 was.whole
-    is.whole)
-    (λ t called. agree s t (execute (lea_from 64 0 0 f') (sum_64 (sum_64 s.ip 9) 7) (after_load s))
-    returned operands.got_entry (thread_offset operands) f number before.addresses.got_entry
-    (argument section o operands s (drop o section) was.rest before was.applied) returns called refl
-    (ap (λ a. sum_64 a (extended f') % 2 ^ 64) (pointer s thread)
-    ∙ offset_from s.fs (extended f') (thread_offset operands) leads)
-    (λ r. refl) (λ a. refl))
+    by_codes 8 2 (o - 4) old new (lea_bytes ++ was.rest) (load_bytes 0x8d 0x80 ++ is.rest) s
+    returned AgreeAfterCall
+    (codes section old new was.rest is.rest o 0x8d 0x80 (λ _. pos 0) before.bytes matches.1
+    was.whole is.whole)
+    (λ t called.
+    let ends = agree s t (execute (lea_from 64 0 0 f') (sum_64 (sum_64 s.ip 9) 7) (after_load s))
+    returned 8 8 operands.got_entry f before.addresses.got_entry
+    (argument 4 (omega arith) section o operands s (drop o section) was.rest before was.applied)
+    called (sixteen s.ip) (kept_after s number) (λ a. refl) in (
+      ends.0,
+      ends.1 ∙ returns
+          ∙ sym (ap (λ a. sum_64 a (extended f') % 2 ^ 64) (pointer s thread)
+          ∙ offset_from s.fs (extended f') (thread_offset operands) leads),
+    ))
 
 -- from the place of a field 8 bytes on, of the second instruction
 from_second : (ip place o e t : ℕ) → 4 ≤ o → o < 2 ^ 64 → place < 2 ^ 64 → t < 2 ^ 64
@@ -246,18 +262,25 @@ initial_exec entry small section old new o operands s returned before matches th
     (begins_with_lea section o before.bytes matches.1).0 before.offset before.addresses.place small
     before.ip
     (tls_entry_field operands' addresses'
-    (drop (o + 8) (rewritten (x86_64_rewrite kinds.TlsGdToInitialExec) section o)) is.rest is.applied
+    (drop (o + 8) (rewritten (x86_64_rewrite kinds.TlsGdToInitialExec) section o)) is.rest
+    is.applied
     ∙ ap (λ a. sum_64 entry (cast_unsigned w64 a)) before.addend) in
     let next = sum_64 (sum_64 s.ip 9) 7 in
     let loaded = ap (load 8 s) leads ∙ holds in
-    let number = sum_of 64 0 ((after_load s).register 0 % 2 ^ 64) (load 8 s (sum_64 next (extended f')))
-    in
-    by_codes old new o 0x03 0x05 was.rest is.rest s returned
+    let number = sum_of 64 0 ((after_load s).register 0 % 2 ^ 64)
+    (load 8 s (sum_64 next (extended f'))) in
+    by_codes 8 2 (o - 4) old new (lea_bytes ++ was.rest) (load_bytes 0x03 0x05 ++ is.rest) s
+    returned AgreeAfterCall
     (codes section old new was.rest is.rest o 0x03 0x05 (λ a. a) before.bytes matches.1 was.whole
     is.whole)
-    (λ t called. agree s t (execute (operate ADD 64 (register 0) (relative f')) next (after_load s))
-    returned operands.got_entry (thread_offset operands) f number before.addresses.got_entry
-    (argument section o operands s (drop o section) was.rest before was.applied) returns called refl
-    (added ((after_load s).register 0) (load 8 s (sum_64 next (extended f'))) s.fs
-    (thread_offset operands) thread.small (pointer s thread) loaded)
-    (λ r. refl) (λ a. refl))
+    (λ t called.
+    let ends = agree s t
+    (execute (operate ADD 64 (register 0) (relative f')) next (after_load s)) returned 8 8
+    operands.got_entry f before.addresses.got_entry
+    (argument 4 (omega arith) section o operands s (drop o section) was.rest before was.applied)
+    called (sixteen s.ip) (kept_after s number) (λ a. refl) in (
+      ends.0,
+      ends.1 ∙ returns
+          ∙ sym (added ((after_load s).register 0) (load 8 s (sum_64 next (extended f'))) s.fs
+          (thread_offset operands) thread.small (pointer s thread) loaded),
+    ))

@@ -1,9 +1,9 @@
 -- x86-64: rows that the definitions of instructions are compared with. GNU as makes these bytes of
--- these instructions, and LLVM 22 those with REX2 and with EVEX. A processor made these results and
--- flags of two numbers.
+-- these instructions, LLVM 22 those with REX2 and with EVEX, and GNU objdump reads those with
+-- `data16 data16` so. A processor made these results and flags of two numbers.
 use Rattle.std.specs.Prelude.{◌≡◌, ℕ, ◌+◌, ◌*◌, ◌%◌, ◌==◌, ◌&&◌, Bool, true, false, List, [], ◌∷◌}
 use Rattle.std.specs.Prelude.{if◌then◌else◌}
-use Rattle.std.specs.Prelude.{length, IsTrue, IsSomeAnd, Some}
+use Rattle.std.specs.Prelude.{length, IsTrue, IsSomeAnd, Some, None}
 use Rattle.rewrite_laws.specs.X86Machine.{Operation, MOV, ADD, OR, ADC, SBB, AND, SUB, XOR, CMP}
 use Rattle.rewrite_laws.specs.X86Machine.{TEST, Instruction, operate, operate_into, lea, lea_from}
 use Rattle.rewrite_laws.specs.X86Machine.{load_thread, call, jump, nop, direct}
@@ -220,6 +220,20 @@ Decoding =
     -- `{nf} xor $0x12345678, %r16, %rdx`
     × DecodesAs (0x62 ∷ 0xfc ∷ 0xec ∷ 0x1c ∷ 0x81 ∷ 0xf0 ∷ 0x78 ∷ 0x56 ∷ 0x34 ∷ 0x12 ∷ [])
     (operate_into 2 true XOR 64 (register 16) (immediate 0x12345678))
+    -- `data16 data16 data16 mov %fs:0, %rax`
+    × DecodesAs
+    (0x66 ∷ 0x66 ∷ 0x66 ∷ 0x64 ∷ 0x48 ∷ 0x8b ∷ 0x04 ∷ 0x25 ∷ 0x00 ∷ 0x00 ∷ 0x00 ∷ 0x00 ∷ [])
+    (load_thread 0 0)
+    -- `nopw 0(%rax,%rax,1)`
+    × DecodesAs (0x66 ∷ 0x0f ∷ 0x1f ∷ 0x44 ∷ 0x00 ∷ 0x00 ∷ [])
+    nop
+    -- `data16 data16 data16 cs nopw 0(%rax,%rax,1)`
+    × DecodesAs
+    (0x66 ∷ 0x66 ∷ 0x66 ∷ 0x66 ∷ 0x2e ∷ 0x0f ∷ 0x1f ∷ 0x84 ∷ 0x00 ∷ 0x00 ∷ 0x00 ∷ 0x00 ∷ 0x00 ∷ [])
+    nop
+    -- no instruction: 7 of `data16`, and 9 bytes
+    × (decode (0x66 ∷ 0x66 ∷ 0x66 ∷ 0x66 ∷ 0x66 ∷ 0x66 ∷ 0x66 ∷ 0x64 ∷ 0x48 ∷ 0x8b ∷ 0x04 ∷ 0x25
+    ∷ 0x00 ∷ 0x00 ∷ 0x00 ∷ 0x00 ∷ []) ≡ None)
 
 -- ---- operations
 

@@ -3,7 +3,7 @@
 -- instruction). Code isn't part of the memory here.
 use Rattle.std.specs.Prelude.{ℕ, zero, suc, ◌+◌, ◌-◌, ◌*◌, ◌/◌, ◌%◌, ◌^◌, ◌==◌, ◌&&◌, Bool}
 use Rattle.std.specs.Prelude.{true, false, not, if◌then◌else◌, nat_lt, List, [], ◌∷◌, Option, Some}
-use Rattle.std.specs.Prelude.{None, bit_and, bit_or, bit_xor}
+use Rattle.std.specs.Prelude.{None, bit_and, bit_or, bit_xor, drop}
 use Rattle.std.specs.Int.{w64, bit_at, byte_at, cast_unsigned}
 use Rattle.linker_base.specs.Bits.{field, signed}
 use Rattle.linker_utils.specs.Relocate.{number_of_bytes}
@@ -488,15 +488,6 @@ longer (Some d) = Some (record d { size = d.size + 1 })
 abbrev pub is_rex_w : ℕ → Bool
 is_rex_w b = is_rex b && (bit_at b 3 == 1)
 
--- The operand-size prefix 66 changes nothing of an instruction with REX.W ("REX Prefixes"), nor of
--- NOP by 90.
-abbrev pub decode_data16 : List ℕ → Option Decoded
-decode_data16 [] = None
-decode_data16 (b ∷ bytes) =
-    if is_rex_w b then longer (decode_opcode (rex_prefix b) bytes)
-    else (if b == 0x90 then sized no_prefix 2 nop
-    else None)
-
 -- after 64, the prefix of the FS segment: MOV with REX.W, of an address of 32 bits (SIB 25: no base
 -- and no index)
 abbrev pub decode_fs : List ℕ → Option Decoded
@@ -506,6 +497,33 @@ decode_fs (b ∷ opcode ∷ m ∷ sib ∷ rest) =
     else None
 decode_fs bytes = None
 
+-- NOP by 0f 1f /0, whose operand isn't read: of a SIB byte, and a displacement of 8 or of 32 bits
+abbrev pub decode_long_nop : List ℕ → Option Decoded
+decode_long_nop (b ∷ opcode ∷ m ∷ sib ∷ rest) =
+    if ((b == 0x0f) && (opcode == 0x1f)) && ((reg_of m == 0) && (rm_of m == 4))
+    then (if mod_of m == 1 then sized no_prefix 5 nop
+    else (if mod_of m == 2 then sized no_prefix 8 nop
+    else None))
+    else None
+decode_long_nop bytes = None
+
+-- The operand-size prefix 66 changes nothing of an instruction with REX.W ("REX Prefixes"), nor of
+-- NOP, and may be there more than once. Nor does 2e, the prefix of the CS segment, change NOP.
+abbrev pub decode_data16 : List ℕ → Option Decoded
+decode_data16 [] = None
+decode_data16 (b ∷ bytes) =
+    if is_rex_w b then longer (decode_opcode (rex_prefix b) bytes)
+    else (if b == 0x90 then sized no_prefix 2 nop
+    else (if b == 0x66 then longer (decode_data16 bytes)
+    else (if b == 0x64 then longer (decode_fs bytes)
+    else (if b == 0x2e then longer (longer (decode_long_nop bytes))
+    else longer (decode_long_nop (b ∷ bytes))))))
+
+-- An instruction has 15 bytes at most ("Instruction Format").
+abbrev pub not_too_long : Option Decoded → Option Decoded
+not_too_long None = None
+not_too_long (Some d) = if nat_lt 15 d.size then None else Some d
+
 -- the instruction that bytes begin with; none where it isn't one of these
 abbrev pub decode : List ℕ → Option Decoded
 decode [] = None
@@ -513,7 +531,7 @@ decode (b ∷ bytes) =
     if is_rex b then decode_opcode (rex_prefix b) bytes
     else (if b == 0xd5 then decode_rex2 bytes
     else (if b == 0x67 then decode_addr32 bytes
-    else (if b == 0x66 then decode_data16 bytes
+    else (if b == 0x66 then not_too_long (decode_data16 bytes)
     else (if b == 0x64 then decode_fs bytes
     else (if b == 0x62 then decode_evex bytes
     else decode_plain b bytes)))))
@@ -525,3 +543,14 @@ execute_decoded (Some d) s = Some (execute d.instruction (sum_64 s.ip d.size) s)
 -- the state after the instruction that bytes begin with
 abbrev pub step : List ℕ → State → Option State
 step bytes s = execute_decoded (decode bytes) s
+
+-- the state after so many instructions, each behind the one before it: none is a branch
+abbrev pub run_decoded : (List ℕ → State → Option State) → Option Decoded → List ℕ → State
+    → Option State
+run_decoded others None bytes s = None
+run_decoded others (Some d) bytes s =
+    others (drop d.size bytes) (execute d.instruction (sum_64 s.ip d.size) s)
+
+abbrev pub run : ℕ → List ℕ → State → Option State
+run zero bytes s = Some s
+run (suc n) bytes s = run_decoded (run n) (decode bytes) bytes s

@@ -1,38 +1,45 @@
 -- x86-64: TLS sequences with a call do the same after their rewrites (x86-64 psABI, "ELF Handling
 -- For Thread-Local Storage").
-use Rattle.std.specs.Prelude.{◌≡◌, ℕ, ◌+◌, ◌-◌, ◌^◌, ◌<◌, ◌≤◌, ◌==◌, ◌&&◌, ◌||◌, nat_le, nat_lt}
+use Rattle.std.specs.Prelude.{◌≡◌, ℕ, ◌-◌, ◌^◌, ◌<◌, ◌≤◌, ◌==◌, ◌&&◌, ◌||◌, nat_le, nat_lt}
 use Rattle.std.specs.Prelude.{Bool}
-use Rattle.std.specs.Prelude.{IsTrue, IsSomeAnd, List, drop, ⊤}
+use Rattle.std.specs.Prelude.{IsTrue, IsSomeAnd, List, drop, Some, ⊤}
 use Rattle.linker_base.specs.Rewrite.{rewritten, offset_after}
 use Rattle.linker_utils.specs.Choices.{operands_after}
-use Rattle.linker_utils.specs.Value.{sum_64}
+use Rattle.linker_utils.specs.Relocate.{number_of_bytes}
+use Rattle.linker_utils.specs.Value.{sum_64, difference_64}
 use Rattle.linker_utils.specs.X86.{x86_64_rewrite}
 use Rattle.linker_utils.specs.X86Originals.{x86_64_matches, Original, original, byte, field4}
 use Rattle.linker_utils.specs.X86Originals.{is_one_at}
+use Rattle.linker_utils.specs.X86Relocations.{x86_64_row}
+use Rattle.linker_utils.specs.X86RelocationsAfter.{x86_64_relocation_after}
 use Rattle.std.specs.Prelude.{IsFalse, [], ◌∷◌}
 use Rattle.linker_utils.specs.declared.elf.value.Operands.{Operands}
 use Rattle.linker_utils.specs.declared.x86_64.relocations.X86_64Relocation.TheVariants as names
 use Rattle.linker_utils.specs.declared.x86_64.relocations.X86_64Relocation.{X86_64Relocation}
 use Rattle.linker_utils.specs.declared.x86_64.rewrites.RelaxationKind.{RelaxationKind}
 use Rattle.linker_utils.specs.declared.x86_64.rewrites.RelaxationKind.TheVariants as kinds
+use Rattle.relocation_laws.specs.Schemes.{AreAddresses, IsApplied}
 use Rattle.rewrite_laws.specs.X86Laws.{IsBefore, IsRelocated, thread_offset}
-use Rattle.rewrite_laws.specs.X86Machine.{State, load, step}
+use Rattle.rewrite_laws.specs.X86Machine.{State, load, extended, step, run}
 
 -- the registers that belong to the caller: rbx, rsp, rbp and r12 to r15 ("Register Usage")
 abbrev pub is_kept : ℕ → Bool
 is_kept r = (r == 3) || ((r == 4) || ((r == 5) || (nat_le 12 r && nat_lt r 16)))
 
--- Both states have the same address, rax and kept registers, and the same memory from the stack
--- pointer up.
-pub record AgreeAfterCall (s t : State) : Type 0 where
+-- Both states have the same address and kept registers, and the same memory from the stack pointer
+-- up.
+pub record AgreeForCaller (s t : State) : Type 0 where
   pub ip : s.ip ≡ t.ip
-  pub result : s.register 0 ≡ t.register 0
   pub kept : (r : ℕ) → IsTrue (is_kept r) → s.register r ≡ t.register r
   pub memory : (a : ℕ) → s.register 4 ≤ a → s.memory a ≡ t.memory a
 
--- What a call of `__tls_get_addr` by an instruction of so many bytes does, from the state before
--- that instruction to the one when it has returned. It takes rdi and returns rax. Flags and all
--- other registers may change, and memory below the stack pointer.
+-- and the same rax
+abbrev pub AgreeAfterCall : State → State → Type 0
+AgreeAfterCall s t = AgreeForCaller s t × (s.register 0 ≡ t.register 0)
+
+-- What a call of `__tls_get_addr` by instructions of so many bytes does, from the state before them
+-- to the one when it has returned. It takes rdi and returns rax. Flags and all other registers may
+-- change, and memory below the stack pointer.
 pub record IsTlsCall (size : ℕ) (returned : ℕ → ℕ) (s t : State) : Type 0 where
   pub ip : t.ip ≡ sum_64 s.ip size
   pub result : t.register 0 ≡ returned (s.register 7)
@@ -44,22 +51,24 @@ pub record HasThreadPointer (s : State) : Type 0 where
   pub small : s.fs < 2 ^ 64
   pub word : load 8 s s.fs ≡ s.fs
 
--- by the code before, the code after, and its second instruction: what the code before does, when
--- the call has returned, and what the two instructions do
-abbrev pub DoTheSame : List ℕ → List ℕ → List ℕ → State → (ℕ → ℕ) → Type 0
-DoTheSame old new second s returned =
+-- By the count of bytes of the call, that of the instructions after the rewrite, and the code
+-- before and after it: the state when the call behind the first instruction has returned, and the
+-- one after those instructions, are alike.
+abbrev pub EndAlike : ℕ → ℕ → List ℕ → List ℕ → State → (ℕ → ℕ) → (State → State → Type 0)
+    → Type 0
+EndAlike size count old new s returned Alike =
     IsSomeAnd (step old s) (λ before.
-    IsSomeAnd (step new s) (λ middle.
-    IsSomeAnd (step second middle) (λ after.
-    (t : State) → IsTlsCall 8 returned before t → AgreeAfterCall t after)))
+    IsSomeAnd (run count new s) (λ after.
+    (t : State) → IsTlsCall size returned before t → Alike t after))
 
--- `data16 lea x@tlsgd(%rip), %rdi` and a call of 8 bytes, which returns the symbol's address in
--- this thread for the GOT entry; and two instructions, with the relocation of the second
-abbrev pub ReplacesCall : RelaxationKind → X86_64Relocation → (Operands → Operands)
+-- A `lea` of the GOT entry's address into rdi, whose field is so many bytes behind its first, and a
+-- call of so many bytes, which returns the symbol's address in this thread for the entry; and so
+-- many instructions, with a relocation.
+abbrev pub ReplacesCall : ℕ → ℕ → ℕ → RelaxationKind → X86_64Relocation → (Operands → Operands)
     → (Operands → State → Type 0) → Type 0
-ReplacesCall kind after relocated Premise =
+ReplacesCall back size count kind after relocated Premise =
     (section old new : List ℕ) (o : ℕ) (operands : Operands) (s : State) (returned : ℕ → ℕ)
-    → IsBefore 4 section o operands s
+    → IsBefore back section o operands s
     → x86_64_matches kind section o
     → HasThreadPointer s
     → returned operands.got_entry ≡ sum_64 s.fs (thread_offset operands)
@@ -67,24 +76,81 @@ ReplacesCall kind after relocated Premise =
     → IsRelocated names.R_X86_64_TLSGD operands o section old
     → IsRelocated after (relocated (operands_after (x86_64_rewrite kind) o operands))
     (offset_after (x86_64_rewrite kind) o) (rewritten (x86_64_rewrite kind) section o) new
-    → DoTheSame (drop (o - 4) old) (drop (o - 4) new) (drop (o + 5) new) s returned
+    → EndAlike size count (drop (o - back) old) (drop (o - back) new) s returned AgreeAfterCall
 
 -- `mov %fs:0, %rax` and `lea x@tpoff(%rax), %rax`
 abbrev pub LocalExec : Type 0
 LocalExec =
-    ReplacesCall kinds.TlsGdToLocalExec names.R_X86_64_TPOFF32 (λ operands. operands)
+    ReplacesCall 4 8 2 kinds.TlsGdToLocalExec names.R_X86_64_TPOFF32 (λ operands. operands)
     (λ operands s. ⊤)
 
 -- `mov %fs:0, %rax` and `add x@gottpoff(%rip), %rax`, where a GOT entry holds the offset
 abbrev pub InitialExec : Type 0
 InitialExec =
     (entry : ℕ) → entry < 2 ^ 64
-    → ReplacesCall kinds.TlsGdToInitialExec names.R_X86_64_GOTTPOFF
+    → ReplacesCall 4 8 2 kinds.TlsGdToInitialExec names.R_X86_64_GOTTPOFF
     (λ operands. record operands { got_entry = entry })
     (λ operands s. load 8 s entry ≡ thread_offset operands)
 
+-- The large code model's call is by `movabs`, `add` and `call *%rax`. The third instruction after
+-- the rewrite is a NOP.
+abbrev pub LocalExecLarge : Type 0
+LocalExecLarge =
+    ReplacesCall 3 15 3 kinds.TlsGdToLocalExecLarge names.R_X86_64_TPOFF32 (λ operands. operands)
+    (λ operands s. ⊤)
+
 abbrev pub GeneralDynamic : Type 0
-GeneralDynamic = LocalExec × InitialExec
+GeneralDynamic = LocalExec × InitialExec × LocalExecLarge
+
+-- ---- local-dynamic
+
+-- Fields of n bytes hold a symbol's offset in the module's TLS block and its offset from the thread
+-- pointer. Added to two bases they are the same address. As addresses in the TLS segment's image,
+-- the block begins at `image`, and the thread pointer points to `pointed`.
+abbrev pub AddToTheSame : ℕ → (ℕ → ℕ) → X86_64Relocation → X86_64Relocation → ℕ → ℕ → ℕ → ℕ
+    → Type 0
+AddToTheSame n read in_block from_pointer image pointed base base' =
+    IsSomeAnd (x86_64_row in_block) (λ row.
+    IsSomeAnd (x86_64_row from_pointer) (λ row'.
+    (operands : Operands) (bytes rest rest' : List ℕ) → AreAddresses operands
+    → IsApplied row (record operands { tls_base = image }) bytes rest
+    → IsApplied row' (record operands { tls_base = pointed }) bytes rest'
+    → sum_64 base (read (number_of_bytes n rest)) ≡ sum_64 base' (read (number_of_bytes n rest'))))
+
+-- rax is the address of the module's block in the first state, and the thread pointer in the
+-- second. What is added to it of 32 bits is sign-extended.
+pub record ReachTheSame (image pointed : ℕ) (s t : State) : Type 0 where
+  pub alike : AgreeForCaller s t
+  pub block : s.register 0 ≡ sum_64 t.fs (difference_64 image pointed)
+  pub pointer : t.register 0 ≡ t.fs
+  pub offsets : AddToTheSame 4 extended names.R_X86_64_DTPOFF32 names.R_X86_64_TPOFF32 image
+      pointed (s.register 0) (t.register 0)
+  pub long_offsets : AddToTheSame 8 (λ offset. offset) names.R_X86_64_DTPOFF64
+      names.R_X86_64_TPOFF64 image pointed (s.register 0) (t.register 0)
+
+-- `lea x@tlsld(%rip), %rdi` and a call of so many bytes, which returns the address of the module's
+-- block in this thread for the GOT entry; and so many instructions, in which nothing is relocated
+abbrev pub ReplacesModuleCall : ℕ → ℕ → RelaxationKind → Type 0
+ReplacesModuleCall size count kind =
+    (x86_64_relocation_after kind names.R_X86_64_TLSLD ≡ Some names.R_X86_64_NONE)
+    × ((section old : List ℕ) (o : ℕ) (operands : Operands) (image pointed : ℕ) (s : State)
+    (returned : ℕ → ℕ)
+    → IsBefore 3 section o operands s
+    → x86_64_matches kind section o
+    → HasThreadPointer s
+    → image < 2 ^ 64 → pointed < 2 ^ 64
+    → returned operands.got_entry ≡ sum_64 s.fs (difference_64 image pointed)
+    → IsRelocated names.R_X86_64_TLSLD operands o section old
+    → EndAlike size count (drop (o - 3) old)
+    (drop (o - 3) (rewritten (x86_64_rewrite kind) section o)) s returned
+    (ReachTheSame image pointed))
+
+-- `mov %fs:0, %rax`, with prefixes or behind a NOP
+abbrev pub LocalDynamic : Type 0
+LocalDynamic =
+    ReplacesModuleCall 5 1 kinds.TlsLdToLocalExec
+    × ReplacesModuleCall 6 1 kinds.TlsLdToLocalExecNoPlt
+    × ReplacesModuleCall 15 2 kinds.TlsLdToLocalExec64
 
 -- ---- descriptors
 

@@ -57,9 +57,11 @@ pub fn riscv64()
 
 /// x86-64: with no prefix, with REX, REX2 and EVEX, an instruction that takes an address or an
 /// offset from the GOT, and what a rewrite leaves of it, take every state to the same state. The
-/// sequences of general-dynamic, initial-exec and local-exec TLS have the same result in rax, and
-/// so have descriptors. The last three clauses compare the definitions with assemblers and a
-/// processor; of EVEX they compare the decoding alone.
+/// sequences of general-dynamic, initial-exec and local-exec TLS have the same result in rax, with
+/// the large code model's too, and so have descriptors. Offsets that are added to the result of a
+/// sequence of local-dynamic TLS come to the same address after it becomes local-exec. The last three
+/// clauses compare the definitions with assemblers and a processor; of EVEX they compare the decoding
+/// alone.
 pub fn x86_64()
     ensures loads { x86_laws.LoadsOfAddresses }
     ensures absolute { x86_laws.AbsoluteAddresses }
@@ -67,6 +69,7 @@ pub fn x86_64()
     ensures branches { x86_laws.Branches }
     ensures thread { x86_laws.ThreadOffsets }
     ensures general_dynamic { x86_thread_laws.GeneralDynamic }
+    ensures local_dynamic { x86_thread_laws.LocalDynamic }
     ensures descriptors { x86_thread_laws.Descriptors }
     ensures decoding { x86_examples.Decoding }
     ensures results { x86_examples.Results }

@@ -5,6 +5,8 @@ use Rattle.rewrite_laws.proofs.X86Evex as evex
 use Rattle.rewrite_laws.proofs.X86Immediates as with
 use Rattle.rewrite_laws.proofs.X86Loads as loads
 use Rattle.rewrite_laws.proofs.X86Descriptors as descriptors
+use Rattle.rewrite_laws.proofs.X86LargeThreads as larges
+use Rattle.rewrite_laws.proofs.X86LocalDynamic as dynamic
 use Rattle.rewrite_laws.proofs.X86Threads as threads
 use Rattle.rewrite_laws.proofs.x86_64.Goals as goal
 
@@ -117,6 +119,10 @@ returns-clause-decoding c = (
   refl,
   refl,
   refl,
+  refl,
+  refl,
+  refl,
+  refl,
 )
 
 pub returns-clause-results : goal.returns-clause-results
@@ -136,7 +142,11 @@ returns-clause-states c = (
 )
 
 pub returns-clause-general_dynamic : goal.returns-clause-general_dynamic
-returns-clause-general_dynamic c = (threads.local_exec, threads.initial_exec)
+returns-clause-general_dynamic c = (
+  threads.local_exec,
+  threads.initial_exec,
+  larges.local_exec,
+)
 
 pub returns-clause-descriptors : goal.returns-clause-descriptors
 returns-clause-descriptors c = (
@@ -145,3 +155,6 @@ returns-clause-descriptors c = (
   descriptors.rex2_local_exec,
   descriptors.rex2_initial_exec,
 )
+
+pub returns-clause-local_dynamic : goal.returns-clause-local_dynamic
+returns-clause-local_dynamic c = (dynamic.by_plt, dynamic.by_got, dynamic.in_large_model)
