@@ -544,13 +544,20 @@ execute_decoded (Some d) s = Some (execute d.instruction (sum_64 s.ip d.size) s)
 abbrev pub step : List ℕ → State → Option State
 step bytes s = execute_decoded (decode bytes) s
 
--- the state after so many instructions, each behind the one before it: none is a branch
+-- CALL and JMP
+abbrev pub is_branch : Instruction → Bool
+is_branch (call target) = true
+is_branch (jump target) = true
+is_branch other = false
+
 abbrev pub run_decoded : (List ℕ → State → Option State) → Option Decoded → List ℕ → State
     → Option State
 run_decoded others None bytes s = None
 run_decoded others (Some d) bytes s =
-    others (drop d.size bytes) (execute d.instruction (sum_64 s.ip d.size) s)
+    if is_branch d.instruction then None
+    else others (drop d.size bytes) (execute d.instruction (sum_64 s.ip d.size) s)
 
+-- the state after so many instructions, each behind the one before it; none where one is a branch
 abbrev pub run : ℕ → List ℕ → State → Option State
 run zero bytes s = Some s
 run (suc n) bytes s = run_decoded (run n) (decode bytes) bytes s
