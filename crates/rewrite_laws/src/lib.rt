@@ -57,11 +57,10 @@ pub fn riscv64()
 
 /// x86-64: with no prefix, with REX, REX2 and EVEX, an instruction that takes an address or an
 /// offset from the GOT, and what a rewrite leaves of it, take every state to the same state. The
-/// sequences of general-dynamic, initial-exec and local-exec TLS have the same result in rax, with
-/// the large code model's too, and so have descriptors. Offsets that are added to the result of a
-/// sequence of local-dynamic TLS come to the same address after it becomes local-exec. The last three
-/// clauses compare the definitions with assemblers and a processor; of EVEX they compare the decoding
-/// alone.
+/// sequences of general-dynamic, initial-exec and local-exec TLS have the same result in rax, also in
+/// the large code model, and so have descriptors. Where local-dynamic TLS becomes local-exec, rax and
+/// the offset that is added to it have the same sum. The last three clauses compare the definitions
+/// with assemblers and a processor; of EVEX they compare the decoding alone.
 pub fn x86_64()
     ensures loads { x86_laws.LoadsOfAddresses }
     ensures absolute { x86_laws.AbsoluteAddresses }
