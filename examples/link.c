@@ -272,13 +272,14 @@ static uint32_t rewrite(uint8_t *bytes, uint64_t len, uint64_t *offset, int64_t 
     return choice.rewrite;
 }
 
-/* x86-64: a load from the GOT becomes the address, a call or a jump through it a direct one. As in
- * ld.lld no address becomes an immediate. */
+/* x86-64: a load from the GOT becomes the address, a call or a jump through it a direct one, and
+ * another operand in it an immediate. Addresses aren't known yet. */
 static void rewrite_x86_64(uint8_t *bytes, uint64_t len, Elf64_Rela *r, const Elf64_Sym *symbol) {
     uint32_t type = ELF64_R_TYPE(r->r_info);
     bool is_here = symbol->st_shndx != SHN_UNDEF && symbol->st_shndx != SHN_ABS;
-    struct linker_utils_link_facts facts = {
-        .is_local = is_here, .has_fixed_distance = is_here, .operands.addend = r->r_addend};
+    struct linker_utils_link_facts facts = {.is_local = is_here, .has_fixed_distance = is_here,
+                                            .has_fixed_address = is_here,
+                                            .operands.addend = r->r_addend};
     rewrite(bytes, len, &r->r_offset, &r->r_addend, &type, &facts);
     r->r_info = ELF64_R_INFO(ELF64_R_SYM(r->r_info), type);
 }
