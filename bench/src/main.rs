@@ -63,7 +63,11 @@ fn main() {
         args.iter()
             .all(|arg| arg.starts_with("--") || parts.iter().any(|part| part.0 == arg))
     );
-    let mut report = Report::new(if is_quick { 0.03 } else { 0.15 });
+    let mut report = if is_quick {
+        Report::new(0.03, 9)
+    } else {
+        Report::new(0.15, 30)
+    };
     for (name, part) in parts {
         if wants(name) {
             part(&mut report);
@@ -72,6 +76,13 @@ fn main() {
     report.summary();
     if let Some(path) = picture {
         std::fs::write(path, report.picture()).expect("the picture is written");
+    }
+    if args.iter().any(|arg| arg == "--check") {
+        let failures = report.failures();
+        for line in &failures {
+            println!("above 1.00, beyond the noise: {line}");
+        }
+        std::process::exit(i32::from(!failures.is_empty()));
     }
 }
 

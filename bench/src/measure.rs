@@ -58,19 +58,30 @@ struct Line {
     name: String,
     /// Of the medians.
     ratio: f64,
+    /// Of the rounds: above a tenth of their ratios.
+    low: f64,
+}
+
+impl Line {
+    /// Whether ours takes more time, beyond the noise.
+    fn fails(&self) -> bool {
+        self.ratio > 1.03 || self.ratio > 1.00 && self.low > 1.00
+    }
 }
 
 /// Prints tables in Markdown, and keeps the ratios.
 pub struct Report {
     budget: f64,
+    rounds: usize,
     groups: Vec<Group>,
 }
 
 impl Report {
-    /// With so many seconds for each side of a line.
-    pub fn new(budget: f64) -> Report {
+    /// With so many seconds for each side of a line, and so many rounds at least.
+    pub fn new(budget: f64, rounds: usize) -> Report {
         Report {
             budget,
+            rounds,
             groups: Vec::new(),
         }
     }
@@ -102,7 +113,7 @@ impl Report {
         let limit = Duration::from_secs_f64(self.budget * gave.len() as f64);
         let (mut rounds, begin) = ([const { Vec::new() }; 4], Instant::now());
         for round in 0.. {
-            if round >= 9 && begin.elapsed() > limit {
+            if round >= self.rounds && begin.elapsed() > limit {
                 break;
             }
             // each goes first in turn
@@ -125,11 +136,12 @@ impl Report {
                 continue;
             };
             let ratio = ours / theirs;
-            let (low, high) = (ratios[ratios.len() / 4], ratios[ratios.len() * 3 / 4]);
+            let (low, high) = (ratios[ratios.len() / 10], ratios[ratios.len() * 9 / 10]);
             print!(" {ours:.2} | {theirs:.2} | {ratio:.2} | {low:.2} to {high:.2} |");
             let line = Line {
                 name: name.to_string(),
                 ratio,
+                low,
             };
             self.groups.last_mut().expect("a heading").lines[which].push(line);
         }
@@ -161,6 +173,21 @@ impl Report {
                 println!("- {ratio:.2} {name}");
             }
         }
+    }
+
+    /// The lines compared with the original that take more time, beyond the noise.
+    pub fn failures(&self) -> Vec<String> {
+        let groups = self.groups.iter().filter(|group| group.beside == "original");
+        let lines = groups.flat_map(|group| {
+            let sides = ["exports", "the erased crate"].into_iter().zip(&group.lines);
+            sides.flat_map(move |(of, lines)| lines.iter().map(move |line| (group, of, line)))
+        });
+        let failing = lines.filter(|(_, _, line)| line.fails());
+        let text = |(group, of, line): (&Group, &str, &Line)| {
+            let (ratio, low) = (line.ratio, line.low);
+            format!("{ratio:.2} (from {low:.2}) {of}, {}: {}", group.title, line.name)
+        };
+        failing.map(text).collect()
     }
 
     /// A picture of the tables by the ratios of the medians: their mean as a bar to the left or right
