@@ -21,11 +21,29 @@ struct Site {
 /// An architecture's instructions, with the offsets and types of their relocations.
 const STREAMS: [(&str, u16, [u8; 8], &[(u64, u32)], i64); 3] = [
     // adrp x3 and ldr x3, [x3] of the GOT
-    ("AArch64", AARCH64, [0x03, 0, 0, 0x90, 0x63, 0, 0x40, 0xf9], &[(0, 311), (4, 312)], 0),
+    (
+        "AArch64",
+        AARCH64,
+        [0x03, 0, 0, 0x90, 0x63, 0, 0x40, 0xf9],
+        &[(0, 311), (4, 312)],
+        0,
+    ),
     // auipc ra and jalr ra, 0(ra): a call
-    ("RISC-V", RISCV, [0x97, 0, 0, 0, 0xe7, 0x80, 0, 0], &[(0, 19)], 0),
+    (
+        "RISC-V",
+        RISCV,
+        [0x97, 0, 0, 0, 0xe7, 0x80, 0, 0],
+        &[(0, 19)],
+        0,
+    ),
     // nop and mov x@GOTPCREL(%rip), %rbx
-    ("x86-64", X86_64, [0x90, 0x48, 0x8b, 0x1d, 0, 0, 0, 0], &[(4, 42)], -4),
+    (
+        "x86-64",
+        X86_64,
+        [0x90, 0x48, 0x8b, 0x1d, 0, 0, 0, 0],
+        &[(4, 42)],
+        -4,
+    ),
 ];
 
 fn operands(site: &Site) -> Operands {
@@ -82,9 +100,21 @@ fn by_exports(machine: u16, sites: &[Site], section: &mut [u8], chooses: bool) -
             // SAFETY: the section is of that length
             let status = unsafe {
                 linker_utils_choose_nonnull(
-                    machine, r_type, bytes, len, offset, &numbers, &mut choice,
+                    machine,
+                    r_type,
+                    bytes,
+                    len,
+                    offset,
+                    &numbers,
+                    &mut choice,
                 ) | linker_utils_apply_nonnull(
-                    machine, choice.rewrite, choice.n, bytes, len, &mut offset, &mut addend,
+                    machine,
+                    choice.rewrite,
+                    choice.n,
+                    bytes,
+                    len,
+                    &mut offset,
+                    &mut addend,
                 )
             };
             r_type = choice.relocation;
@@ -96,7 +126,8 @@ fn by_exports(machine: u16, sites: &[Site], section: &mut [u8], chooses: bool) -
         // SAFETY: the offset is in the section
         unsafe {
             linker_utils_value(machine, r_type, &of, &mut value) == 0
-                && linker_utils_relocate_nonnull(machine, r_type, value, bytes.add(at), len - at) == 0
+                && linker_utils_relocate_nonnull(machine, r_type, value, bytes.add(at), len - at)
+                    == 0
         }
     })
 }
@@ -113,14 +144,21 @@ fn by_crate(machine: u16, sites: &[Site], section: &mut [u8], chooses: bool) -> 
             r_type = chosen.relocation;
             of.place = of.place.wrapping_add(offset).wrapping_sub(site.offset);
         }
-        let Some(row) = architecture.row(r_type) else { return false };
-        let Some(value) = row.value(&of) else { return false };
+        let Some(row) = architecture.row(r_type) else {
+            return false;
+        };
+        let Some(value) = row.value(&of) else {
+            return false;
+        };
         row.write(value, &mut section[offset as usize..]).is_ok()
     })
 }
 
 pub fn choices(report: &mut Report) {
-    report.heading("Relocations with a rewrite chosen and applied", "without a rewrite");
+    report.heading(
+        "Relocations with a rewrite chosen and applied",
+        "without a rewrite",
+    );
     for (name, machine, bytes, relocations, addend) in STREAMS {
         let mut section = vec![0; COUNT * STRIDE];
         let mut sites = Vec::new();

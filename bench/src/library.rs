@@ -30,7 +30,7 @@ pub struct Fixup {
 }
 
 /// Applies relocations to a section. Whether all succeed.
-pub type RelocateAll<'a> = Box<dyn Fn(&mut [u8]) -> bool + 'a>;
+pub type RelocateAll<'a> = Box<dyn Fn(&mut [u8]) -> bool + Sync + 'a>;
 
 /// Bytes between instructions: a window has at most eight.
 pub const WINDOW: usize = 8;
@@ -95,7 +95,7 @@ pub trait Library {
 }
 
 /// Deletions of a section.
-pub trait Deltas {
+pub trait Deltas: Sync {
     fn inputs(&self, queries: &[u64]) -> u64;
     fn outputs(&self, queries: &[u64]) -> u64;
     /// By a cursor.

@@ -46,7 +46,7 @@ fn main() {
         let mut parts = args.iter().filter(|arg| !arg.starts_with("--")).peekable();
         parts.peek().is_none() || parts.any(|arg| arg == part)
     };
-    let parts: [(&str, fn(&mut Report)); 11] = [
+    let parts: [(&str, fn(&mut Report)); 12] = [
         ("forms", forms),
         ("rewrites", rewrites),
         ("choices", choices::choices),
@@ -58,6 +58,7 @@ fn main() {
         ("merges", lists),
         ("calls", calls),
         ("packing", packing),
+        ("threads", threads),
     ];
     assert!(
         args.iter()
@@ -284,54 +285,66 @@ fn rows(report: &mut Report) {
     line("x86-64, one type", X86_64, &[12; CALLS]);
 }
 
-fn streams(report: &mut Report) {
+/// Relocations of 4 MiB of an architecture, in a mix of types, and the section, whose fields are as
+/// assemblers leave them. Whether both sides have the same rows for them.
+fn stream(
+    random: &mut Random,
+    (machine, prefix, mix): (u16, &str, &[(&str, usize)]),
+) -> (Vec<Fixup>, Vec<u8>, bool) {
     const COUNT: usize = 100_000;
+    let named = |name: &str| {
+        let name = Ok(format!("{prefix}{name}"));
+        let is_it =
+            |r_type: &u32| sathunne::relocation_name(architecture(machine), *r_type) == name;
+        (0..1 << 11).find(is_it).expect("a relocation's name")
+    };
+    let parts: Vec<u32> = mix
+        .iter()
+        .flat_map(|(name, n)| vec![named(name); *n])
+        .collect();
+    let one = |random: &mut Random, at: usize| {
+        let r_type = *random.one_of(&parts);
+        let info = sathunne::relocation(architecture(machine), r_type).expect("a row");
+        let whole = if info.size == RelocationSize::Bytes(8) {
+            i64::MAX
+        } else {
+            1 << 30
+        };
+        let range = info.range.unwrap_or(-whole..whole);
+        let (min, max) = (range.start.max(-whole), range.end.min(whole));
+        let steps = (max as i128 - min as i128) as u128 / u128::from(info.alignment);
+        let value = min + (random.below(steps) * info.alignment) as i64;
+        // at most 40 bytes from one to the next
+        Fixup {
+            offset: 40 * at + 4 * random.below(9) as usize,
+            r_type,
+            value,
+        }
+    };
+    let relocations: Vec<Fixup> = (0..COUNT).map(|at| one(random, at)).collect();
+    let is_same = parts.iter().all(|r_type| has_same_rows(machine, *r_type));
+    let mut section = random.bytes(4 << 20);
+    for relocation in &relocations {
+        clear_field(machine, relocation, &mut section);
+    }
+    (relocations, section, is_same)
+}
+
+fn streams(report: &mut Report) {
     let random = &mut Random::new(12);
     report.heading("Relocations of 4 MiB, one after the other", "original");
-    for (machine, prefix, mix) in MIXES {
-        let named = |name: &str| {
-            let name = Ok(format!("{prefix}{name}"));
-            let is_it =
-                |r_type: &u32| sathunne::relocation_name(architecture(machine), *r_type) == name;
-            (0..1 << 11).find(is_it).expect("a relocation's name")
-        };
-        let parts: Vec<u32> = mix
-            .iter()
-            .flat_map(|(name, n)| vec![named(name); *n])
-            .collect();
-        let one = |random: &mut Random, at: usize| {
-            let r_type = *random.one_of(&parts);
-            let info = sathunne::relocation(architecture(machine), r_type).expect("a row");
-            let whole = if info.size == RelocationSize::Bytes(8) {
-                i64::MAX
-            } else {
-                1 << 30
-            };
-            let range = info.range.unwrap_or(-whole..whole);
-            let (min, max) = (range.start.max(-whole), range.end.min(whole));
-            let steps = (max as i128 - min as i128) as u128 / u128::from(info.alignment);
-            let value = min + (random.below(steps) * info.alignment) as i64;
-            // at most 40 bytes from one to the next
-            Fixup {
-                offset: 40 * at + 4 * random.below(9) as usize,
-                r_type,
-                value,
-            }
-        };
-        let relocations: Vec<Fixup> = (0..COUNT).map(|at| one(random, at)).collect();
-        let is_same = parts.iter().all(|r_type| has_same_rows(machine, *r_type));
+    for mix in MIXES {
+        let machine = mix.0;
+        let (relocations, section, is_same) = stream(random, mix);
+        let count = relocations.len();
         let name = name_of(machine).to_string() + if is_same { "" } else { " (rows differ)" };
-        let mut section = random.bytes(4 << 20);
-        for relocation in &relocations {
-            clear_field(machine, relocation, &mut section);
-        }
         let (relocations, section) = (&relocations, &section);
         let one_by_one = |library: &'static dyn Library| {
             Some(Side::writes(section.clone(), move |section| {
                 assert!(library.relocate(machine, relocations, section));
             }))
         };
-        report.line(&name, COUNT, is_same, each(one_by_one));
+        report.line(&name, count, is_same, each(one_by_one));
         // the same in one call, compared with the original's calls one by one
         let [exports, _, erased, _] = each(|library| {
             let all = library.relocate_all(machine, relocations)?;
@@ -342,7 +355,7 @@ fn streams(report: &mut Report) {
         if exports.is_some() || erased.is_some() {
             let [_, behind, _, original] = each(one_by_one);
             let sides = [exports, behind, erased, original];
-            report.line(&format!("{name}, as one call"), COUNT, is_same, sides);
+            report.line(&format!("{name}, as one call"), count, is_same, sides);
         }
         // one by one, by `linker_utils_relocate` and `Row::write`
         let [exports, _, erased, _] = each(|library| {
@@ -356,8 +369,72 @@ fn streams(report: &mut Report) {
         });
         let [_, behind, _, original] = each(one_by_one);
         let sides = [exports, behind, erased, original];
-        report.line(&format!("{name}, by one call each"), COUNT, is_same, sides);
+        report.line(&format!("{name}, by one call each"), count, is_same, sides);
     }
+}
+
+/// What takes less time with threads: relocations of sections, each by one thread, and queries of one
+/// list of deletions, which all threads read.
+fn threads(_: &mut Report) {
+    const SECTIONS: usize = 16;
+    const QUERIES: usize = 1 << 20;
+    let random = &mut Random::new(21);
+    let (relocations, section, _) = stream(random, MIXES[0]);
+    let (list, len) = deletions(random, 1 << 16);
+    let queries: Vec<u64> = (0..QUERIES).map(|_| random.below(len.into())).collect();
+    println!("\n### Threads\n");
+    println!("| | threads | exports, ns | times as fast | erased, ns | times as fast |");
+    println!("|---|--:|--:|--:|--:|--:|");
+    let sides = [LIBRARIES[0], LIBRARIES[2]].map(|side| side.expect("ours"));
+    let ours = sides.map(|library| {
+        (
+            library.relocate_all(AARCH64, &relocations),
+            library.deltas(&list),
+        )
+    });
+    let mut first = [[0.0; 2]; 2];
+    for count in [1, 2, 4] {
+        let mut relocated = format!("| relocations of {SECTIONS} sections | {count} |");
+        let mut translated = format!("| translations, one list | {count} |");
+        for (which, (relocate_all, deltas)) in ours.iter().enumerate() {
+            let mut sections = vec![section.clone(); SECTIONS];
+            let of_sections = median_of_rounds(|| {
+                std::thread::scope(|scope| {
+                    for part in sections.chunks_mut(SECTIONS / count) {
+                        let run = relocate_all.as_ref().expect("relocate_all");
+                        scope.spawn(move || assert!(part.iter_mut().all(|section| run(section))));
+                    }
+                });
+            }) / (SECTIONS * relocations.len()) as f64;
+            let of_queries = median_of_rounds(|| {
+                std::thread::scope(|scope| {
+                    for part in queries.chunks(QUERIES / count) {
+                        scope.spawn(move || std::hint::black_box(deltas.inputs(part)));
+                    }
+                });
+            }) / QUERIES as f64;
+            if count == 1 {
+                first[which] = [of_sections, of_queries];
+            }
+            let [alone, alone_translated] = first[which];
+            relocated += &format!(" {of_sections:.2} | {:.2} |", alone / of_sections);
+            translated += &format!(" {of_queries:.2} | {:.2} |", alone_translated / of_queries);
+        }
+        println!("{relocated}\n{translated}");
+    }
+}
+
+/// The median of 15 rounds, in nanoseconds.
+fn median_of_rounds(mut round: impl FnMut()) -> f64 {
+    let mut times: Vec<f64> = (0..15)
+        .map(|_| {
+            let begin = std::time::Instant::now();
+            round();
+            begin.elapsed().as_secs_f64() * 1e9
+        })
+        .collect();
+    times.sort_by(f64::total_cmp);
+    times[times.len() / 2]
 }
 
 /// Clears the field of a relocation's form, as assemblers leave it: some forms only OR their bits.

@@ -157,9 +157,7 @@ impl Report {
                 .filter(|group| group.beside == "original");
             let mut lines: Vec<(f64, String)> = groups
                 .flat_map(|group| group.lines[which].iter().map(move |line| (group, line)))
-                .map(|(group, line)| {
-                    (line.ratio, format!("{}: {}", group.title, line.name))
-                })
+                .map(|(group, line)| (line.ratio, format!("{}: {}", group.title, line.name)))
                 .collect();
             if lines.is_empty() {
                 continue;
@@ -167,7 +165,10 @@ impl Report {
             lines.sort_by(|a, b| b.0.total_cmp(&a.0));
             let above = |bound: f64| lines.iter().filter(|line| line.0 > bound).count();
             let (one, some, much) = (above(1.005), above(1.05), above(1.25));
-            print!("\nOf {} lines of {of}, by the ratio of the medians: ", lines.len());
+            print!(
+                "\nOf {} lines of {of}, by the ratio of the medians: ",
+                lines.len()
+            );
             println!("{one} above 1.00, {some} above 1.05, {much} above 1.25.\n");
             for (ratio, name) in &lines[..one] {
                 println!("- {ratio:.2} {name}");
@@ -177,15 +178,23 @@ impl Report {
 
     /// The lines compared with the original that take more time, beyond the noise.
     pub fn failures(&self) -> Vec<String> {
-        let groups = self.groups.iter().filter(|group| group.beside == "original");
+        let groups = self
+            .groups
+            .iter()
+            .filter(|group| group.beside == "original");
         let lines = groups.flat_map(|group| {
-            let sides = ["exports", "the erased crate"].into_iter().zip(&group.lines);
+            let sides = ["exports", "the erased crate"]
+                .into_iter()
+                .zip(&group.lines);
             sides.flat_map(move |(of, lines)| lines.iter().map(move |line| (group, of, line)))
         });
         let failing = lines.filter(|(_, _, line)| line.fails());
         let text = |(group, of, line): (&Group, &str, &Line)| {
             let (ratio, low) = (line.ratio, line.low);
-            format!("{ratio:.2} (from {low:.2}) {of}, {}: {}", group.title, line.name)
+            format!(
+                "{ratio:.2} (from {low:.2}) {of}, {}: {}",
+                group.title, line.name
+            )
         };
         failing.map(text).collect()
     }
