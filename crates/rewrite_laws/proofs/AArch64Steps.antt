@@ -13,7 +13,8 @@ use Rattle.rewrite_laws.specs.AArch64Machine.{State, step, run, decode, in_64_bi
 use Rattle.rewrite_laws.specs.AArch64Machine.{write_x_or_sp, go_on, next_pc, continue, execute}
 use Rattle.rewrite_laws.specs.AArch64Machine.{AreAlikeBut, RunAlikeBut, adrp, adr, add, ldr}
 use Rattle.rewrite_laws.specs.AArch64Machine.{adrp_address, adr_address, added, loaded, load_64}
-use Rattle.rewrite_laws.specs.AArch64Machine.{movn_or_movz, movk_64, moved, with_moved}
+use Rattle.rewrite_laws.specs.AArch64Machine.{movn_or_movz, movk_64, moved, with_moved, blr}
+use Rattle.rewrite_laws.specs.AArch64Machine.{go_to, read_x}
 
 -- ---- sums
 
@@ -86,6 +87,14 @@ step_movk x n s is rd named =
     ap (λ c. execute c x s) is
     ∙ ap (λ r. Some (go_on (write_x r (with_moved x s) s))) rd
     ∙ written n (with_moved x s) s named
+
+pub step_blr : (x n : ℕ) (s : State) → decode x ≡ blr → rn_of x ≡ n → n ≢ 31
+    → step x s ≡ Some (go_to (s.registers n) (write_x_or_sp 30 (next_pc s) s))
+step_blr x n s is rn named =
+    ap (λ c. execute c x s) is
+    ∙ ap (λ r. Some (go_to (read_x r s) (write_x_or_sp 30 (next_pc s) s))) rn
+    ∙ ap (λ v. Some (go_to v (write_x_or_sp 30 (next_pc s) s)))
+    (cond-false _ _ _ (ne_eqb n 31 named))
 
 -- what is read of the register that was written
 pub read_back : (n v r : ℕ) (s : State) → r ≡ n → (set n v s).registers r ≡ v

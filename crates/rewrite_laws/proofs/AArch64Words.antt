@@ -25,7 +25,7 @@ use Rattle.linker_utils.specs.declared.elf.RelocationInstruction.TheVariants.{AA
 use Rattle.linker_utils.proofs.AArch64Forms.{high_kept}
 use Rattle.linker_utils.proofs.Clearing.{same_window}
 use Rattle.rewrite_laws.specs.AArch64Machine.{decode, is_adr, adrp, adr, add, ldr, Instruction}
-use Rattle.rewrite_laws.specs.AArch64Machine.{movn_or_movz, movk_64, bl, b}
+use Rattle.rewrite_laws.specs.AArch64Machine.{movn_or_movz, movk_64, blr, bl, b}
 
 -- ---- what a write keeps
 
@@ -346,6 +346,30 @@ pub branch_after : (bits : BitRange) (v : ℤ) (before after : List ℕ)
 branch_after bits v before after w =
     let places = or_bits_to 0 25 0 in
     top_kept (ored_cleared places) places _ _ _ _ _ w.clears w.written 26 refl refl
+
+pub decodes_blr : (x : ℕ) → x / 2 ^ 10 ≡ 0x358fc0 → rd_of x ≡ 0 → decode x ≡ blr
+decodes_blr x op rd =
+    let differs : field x 24 29 ≢ 0x10 = λ e. omega arith in
+    cond-false _ _ _ (not_adr 1 x differs) ∙ cond-false _ _ _ (not_adr 0 x differs)
+    ∙ cond-false _ _ _ (ne_eqb (field x 22 32) 0x244 (λ e. omega arith))
+    ∙ cond-false _ _ _ (ne_eqb (x / 2 ^ 22) 0x3e5 (λ e. omega arith))
+    ∙ cond-false _ _ _ (ne_eqb (x / 2 ^ 23) movn_opcode (λ e. omega arith))
+    ∙ cond-false _ _ _ (ne_eqb (x / 2 ^ 23) movz_opcode (λ e. omega arith))
+    ∙ cond-false _ _ _ (ne_eqb (x / 2 ^ 23) movk_opcode (λ e. omega arith))
+    ∙ cond-false _ _ _ (ne_eqb x 0xd503201f (λ e. omega arith))
+    ∙ cond-true _ _ _ (ap (λ t. eqb t 0x358fc0 && eqb (rd_of x) 0) op ∙ ap (λ t. eqb t 0) rd)
+
+-- `blr xN`
+pub record IsBlr (n : ℕ) (word : ℕ) : Type 0 where
+  pub decodes : decode word ≡ blr
+  pub rn_is : rn_of word ≡ n
+
+pub blr_of : (n word : ℕ) → n < 32 → word ≡ 0xd63f0000 + n * 2 ^ 5 → IsBlr n word
+blr_of n word small is =
+    record {
+      decodes = decodes_blr word (omega arith) (let e : rd_of word ≡ 0 = omega arith in e);
+      rn_is = let e : rn_of word ≡ n = omega arith in e;
+    }
 
 pub decodes_bl : (x : ℕ) → x / 2 ^ 26 ≡ 0x25 → decode x ≡ bl
 decodes_bl x op =

@@ -1,10 +1,11 @@
 -- AArch64: rewritten sequences compute what the original ones do (ELF for the Arm 64-bit
 -- Architecture, "Relocation optimization", and the sequences of thread-local storage).
 use Rattle.std.specs.Prelude.{◌≡◌, ◌≢◌, ◌<◌, ◌∷◌, [], ℕ, ◌^◌, Bool, true, false, ◌==◌, ◌||◌, List}
-use Rattle.std.specs.Prelude.{drop, take, None, ⊤, ◌-◌, Option, Some, IsSomeAnd}
+use Rattle.std.specs.Prelude.{drop, take, None, ⊤, ◌-◌, Option, Some, IsSomeAnd, if◌then◌else◌}
 use Rattle.std.specs.Int.{w32, from_le_bytes}
 use Rattle.linker_base.specs.Rewrite.{Rewrite, IsRewritable, rewritten}
 use Rattle.linker_utils.specs.AArch64.{aarch64_rewrite, rd_of, rn_of}
+use Rattle.linker_utils.specs.AArch64Choices.{AreOfDescriptor}
 use Rattle.linker_utils.specs.AArch64Originals.{IsAdrp, IsAdd64, IsLdr64, AreOfOneRegister}
 use Rattle.linker_utils.specs.AArch64Relocations.{aarch64_row}
 use Rattle.linker_utils.specs.Value.{sum_64, difference_64}
@@ -172,43 +173,42 @@ LdrMadeAdr =
 
 -- ---- the offset of a variable from the thread pointer, by a TLS descriptor
 
--- The registers that the sequence of a descriptor leaves with no value that code may use: X1 has
--- the function's address, and X30 that of the instruction behind the call.
-abbrev pub is_scratch : ℕ → Bool
-is_scratch n = n == 1 || n == 30
+-- The registers that the sequence of a descriptor leaves with no value that code may use: XT has
+-- the function's address, X30 that of the instruction behind the call, and the function may change
+-- others. X0 isn't one of them: it has the offset.
+abbrev pub is_scratch : ℕ → (ℕ → Bool) → ℕ → Bool
+is_scratch t changed n = if n == 0 then false else (n == t || (n == 30 || changed n))
 
 -- A descriptor's function, called in state u, returns in v. It leaves the offset in X0, and keeps
--- the other registers and the memory.
-pub record ReturnsOffset (offset : ℕ) (u v : State) : Type 0 where
+-- the memory and the other registers, except those that `changed` names.
+pub record ReturnsOffset (changed : ℕ → Bool) (offset : ℕ) (u v : State) : Type 0 where
   pub offset_is : v.registers 0 ≡ offset
-  pub others : (n : ℕ) → n ≢ 0 → is_scratch n ≡ false → v.registers n ≡ u.registers n
+  pub others : (n : ℕ) → n ≢ 0 → changed n ≡ false → v.registers n ≡ u.registers n
   pub back : v.pc ≡ u.registers 30
   pub memory : v.memory ≡ u.memory
   pub thread_pointer : v.thread_pointer ≡ u.thread_pointer
 
--- `adrp x0`, `ldr x1, [x0]`, `add x0, x0` and `blr x1`. `call` says in which state a called
--- function returns, if it does. The first 8 bytes of the descriptor have the address of a function
--- that returns the offset whenever X0 has the descriptor's address.
-pub record Descriptor (call : State → Option State) (o : Operands) (s : State)
+-- `adrp x0`, `ldr xT, [x0]`, `add x0, x0` and `blr xT`, which are executed next. `call` says in
+-- which state a called function returns, if it does. The first 8 bytes of the descriptor have the
+-- address of a function that returns the offset whenever X0 has the descriptor's address.
+pub record Descriptor (call : State → Option State) (changed : ℕ → Bool) (o : Operands) (s : State)
     (adrp ldr add blr : List ℕ) : Type 0 where
   pub small : AreAddresses o
   pub at : s.pc ≡ o.place
-  pub is_adrp : IsAdrp (word_of adrp) × (rd_of (word_of adrp) ≡ 0)
-  pub is_ldr : IsLdr64 (word_of ldr) × (rd_of (word_of ldr) ≡ 1) × (rn_of (word_of ldr) ≡ 0)
-  pub is_add : IsAdd64 (word_of add) × (rd_of (word_of add) ≡ 0) × (rn_of (word_of add) ≡ 0)
-  pub is_blr : word_of blr ≡ 0xd63f0020
+  pub instructions : AreOfDescriptor (word_of adrp) (word_of ldr) (word_of add) (word_of blr)
   pub returns : (u v : State) → u.memory ≡ s.memory → u.thread_pointer ≡ s.thread_pointer
       → u.pc ≡ load_64 s.memory o.got_entry → u.registers 0 ≡ o.got_entry → call u ≡ Some v
-      → ReturnsOffset (thread_offset o) u v
+      → ReturnsOffset changed (thread_offset o) u v
 
 abbrev pub four : List ℕ → List ℕ → List ℕ → List ℕ → List ℕ
 four a b c d = word_of a ∷ word_of b ∷ word_of c ∷ word_of d ∷ []
 
 -- The old sequence ends in a call. The new one ends as the called function returns.
-abbrev pub RunAlikeBehindCall : (State → Option State) → List ℕ → List ℕ → State → Type 0
-RunAlikeBehindCall call old new s =
+abbrev pub RunAlikeBehindCall : (State → Option State) → (ℕ → Bool) → List ℕ → List ℕ → State
+    → Type 0
+RunAlikeBehindCall call differing old new s =
     IsSomeAnd (run old s) (λ u.
-    (v : State) → call u ≡ Some v → IsSomeAnd (run new s) (λ w. AreAlikeBut is_scratch v w))
+    (v : State) → call u ≡ Some v → IsSomeAnd (run new s) (λ w. AreAlikeBut differing v w))
 
 -- the sequence with its relocations applied
 pub record DescriptorOf (o : Operands)
@@ -219,8 +219,8 @@ pub record DescriptorOf (o : Operands)
 
 abbrev pub DescriptorToLocalExec : Type 0
 DescriptorToLocalExec =
-    (call : State → Option State) (o : Operands) (s : State) (adrp ldr add blr : List ℕ)
-    → Descriptor call o s adrp ldr add blr
+    (call : State → Option State) (changed : ℕ → Bool) (o : Operands) (s : State)
+    (adrp ldr add blr : List ℕ) → Descriptor call changed o s adrp ldr add blr
     → (movz movk nop nop_behind : List ℕ)
     → IsRewritten MovzX0Lsl16 adrp movz → IsRewritten MovkX0 ldr movk
     → IsRewritten ReplaceWithNop add nop → IsRewritten ReplaceWithNop blr nop_behind
@@ -228,14 +228,15 @@ DescriptorToLocalExec =
     → DescriptorOf o adrp ldr add adrp_of_entry ldr_of_entry add_of_entry
     → IsRelocated names.R_AARCH64_TLSLE_MOVW_TPREL_G1 o movz movz_of_offset
     → IsRelocated names.R_AARCH64_TLSLE_MOVW_TPREL_G0_NC (behind 4 o) movk movk_of_offset
-    → RunAlikeBehindCall call (four adrp_of_entry ldr_of_entry add_of_entry blr)
+    → RunAlikeBehindCall call (is_scratch (rd_of (word_of ldr)) changed)
+    (four adrp_of_entry ldr_of_entry add_of_entry blr)
     (four movz_of_offset movk_of_offset nop nop_behind) s
 
 -- The GOT entry of initial-exec, at another address, holds the offset.
 abbrev pub DescriptorToInitialExec : Type 0
 DescriptorToInitialExec =
-    (call : State → Option State) (o : Operands) (s : State) (adrp ldr add blr : List ℕ)
-    → Descriptor call o s adrp ldr add blr
+    (call : State → Option State) (changed : ℕ → Bool) (o : Operands) (s : State)
+    (adrp ldr add blr : List ℕ) → Descriptor call changed o s adrp ldr add blr
     → (entry : ℕ) → entry < 2 ^ 64 → load_64 s.memory entry ≡ thread_offset o
     → (adrp_x0 ldr_x0 nop nop_behind : List ℕ)
     → IsRewritten AdrpX0 adrp adrp_x0 → IsRewritten LdrX0 ldr ldr_x0
@@ -246,7 +247,8 @@ DescriptorToInitialExec =
     adrp_of_entry
     → IsRelocated names.R_AARCH64_TLSIE_LD64_GOTTPREL_LO12_NC (behind 4 (with_entry entry o)) ldr_x0
     ldr_of_entry
-    → RunAlikeBehindCall call (four adrp_of_descriptor ldr_of_descriptor add_of_descriptor blr)
+    → RunAlikeBehindCall call (is_scratch (rd_of (word_of ldr)) changed)
+    (four adrp_of_descriptor ldr_of_descriptor add_of_descriptor blr)
     (four adrp_of_entry ldr_of_entry nop nop_behind) s
 
 -- ---- branches to undefined weak symbols
