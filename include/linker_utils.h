@@ -223,11 +223,38 @@ enum linker_utils_riscv_rewrite {
 
 enum linker_utils_loongarch64_rewrite {
     LINKER_UTILS_LOONGARCH64_REWRITE_NO_OP = 0,
-    LINKER_UTILS_LOONGARCH64_REWRITE_REPLACE_WITH_NOP = 1
+    LINKER_UTILS_LOONGARCH64_REWRITE_REPLACE_WITH_NOP = 1,
+    LINKER_UTILS_LOONGARCH64_REWRITE_LD_TO_ADDI = 2,
+    LINKER_UTILS_LOONGARCH64_REWRITE_ADDI_TO_LD = 3,
+    LINKER_UTILS_LOONGARCH64_REWRITE_PCALA_TO_PCADDI = 4, /* the pair's second one is deleted */
+    LINKER_UTILS_LOONGARCH64_REWRITE_CALL_TO_BL = 5, /* pcaddu18i; the caller deletes the jirl */
+    LINKER_UTILS_LOONGARCH64_REWRITE_CALL_TO_B = 6, /* the same of a tail call */
+    LINKER_UTILS_LOONGARCH64_REWRITE_PCALA_TO_LU12I = 7,
+    LINKER_UTILS_LOONGARCH64_REWRITE_LOW_TO_ORI = 8, /* addi.d or ld.d; both registers stay */
+    LINKER_UTILS_LOONGARCH64_REWRITE_LOW_TO_ORI_ZERO = 9, /* the same, from $zero */
+    LINKER_UTILS_LOONGARCH64_REWRITE_BASE_TO_TP = 10,
+    LINKER_UTILS_LOONGARCH64_REWRITE_DELETE = 11 /* nothing: the caller deletes the instruction */
 };
 
+/* Those of a call stand for 8 bytes, the call and the `nop` after it. CALL_TO_ADDI, CALL_TO_ADD and
+ * CALL_TO_ADDI4096 move the offset 4 bytes on, to the instruction behind the `nop` that they leave;
+ * the next relocation, R_PPC64_REL24 of the call, is skipped. */
 enum linker_utils_ppc64_rewrite {
-    LINKER_UTILS_PPC64_REWRITE_NO_OP = 0
+    LINKER_UTILS_PPC64_REWRITE_NO_OP = 0,
+    LINKER_UTILS_PPC64_REWRITE_ADDIS_TO_NOP = 1, /* addis rT,2 */
+    LINKER_UTILS_PPC64_REWRITE_BASE_TO_TOC = 2, /* an addi or an access, over register 2 */
+    LINKER_UTILS_PPC64_REWRITE_LD_TO_ADDI = 3,
+    LINKER_UTILS_PPC64_REWRITE_PLD_TO_PADDI = 4, /* 8 bytes */
+    LINKER_UTILS_PPC64_REWRITE_LD_TO_ADDIS_THREAD = 5, /* addis rT,13,0 */
+    LINKER_UTILS_PPC64_REWRITE_ADD_TO_ADDI = 6, /* add rT,rA,13 */
+    LINKER_UTILS_PPC64_REWRITE_INDEXED_TO_D = 7, /* lwzx rT,rA,13 and its like, lwz rT,0(rA) */
+    LINKER_UTILS_PPC64_REWRITE_INDEXED_TO_DS = 8, /* ldx, stdx, lwax */
+    LINKER_UTILS_PPC64_REWRITE_ADDI_TO_ADDIS_THREAD = 9, /* addis rT,13,0 */
+    LINKER_UTILS_PPC64_REWRITE_ADDI_TO_LD = 10,
+    LINKER_UTILS_PPC64_REWRITE_CALL_TO_ADDI = 11, /* nop; addi 3,3,0 */
+    LINKER_UTILS_PPC64_REWRITE_CALL_TO_ADD = 12, /* nop; add 3,3,13 */
+    LINKER_UTILS_PPC64_REWRITE_CALL_TO_ADDI4096 = 13, /* nop; addi 3,3,4096 */
+    LINKER_UTILS_PPC64_REWRITE_NOP_TO_RESTORE_TOC = 14 /* the nop becomes ld 2,24(1) */
 };
 
 /* Where `n` is marked it is the count of the instruction's bytes before the field: 2 without a
@@ -506,7 +533,14 @@ struct linker_utils_link_facts {
      * rewritten to local-exec, so that the base is the thread pointer. */
     uint8_t has_local_exec_base;
     uint8_t may_compress; /* RISC-V: the code may use instructions of the C extension. */
-    uint8_t is_marked; /* RISC-V: R_RISCV_RELAX is at the same offset. */
+    uint8_t is_marked; /* R_RISCV_RELAX or R_LARCH_RELAX is at the same offset. */
+    /* PowerPC64: the register through which the instruction gets the high part of its address, and
+     * which an `addis` has set, is read only by instructions whose relocation is of the same symbol
+     * and addend. Linkers assume so, as the ABI asks of compilers. */
+    uint8_t has_private_base;
+    /* PowerPC64: the function that is called may return with another TOC pointer in register 2,
+     * since it is called through a PLT entry or its symbol's st_other says so. */
+    uint8_t may_change_toc;
     /* The addresses in `operands` are known. Where they are not, a rewrite that depends on a
      * distance is not chosen; another is, and its value may turn out to be out of reach. */
     uint8_t has_addresses;
@@ -533,7 +567,7 @@ struct linker_utils_choice {
  * LINKER_UTILS_OK. Where no rewrite is allowed, or the bytes are not the instruction that the
  * relocation's name asks for, it is NO_OP and the same relocation. NO_OP and another relocation are
  * possible: the `adrp` of a pair. The bytes are those of the object file: the two halves of a pair,
- * and the instructions of a TLS descriptor's sequence on AArch64, test the whole of it, so that all
+ * and the instructions of a TLS descriptor's sequence on AArch64 and LoongArch, test the whole of it, so that all
  * are chosen alike where the facts and the symbol are the same. So they have to be chosen before one
  * of them is rewritten. */
 static inline uint32_t linker_utils_choose(uint16_t machine, uint32_t r_type,

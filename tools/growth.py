@@ -6,8 +6,10 @@ from pathlib import Path
 ROOT = Path(__file__).resolve().parent.parent
 
 
-def build(program, crates, command):
-    """Builds what `rt ci` or the command hasn't built since the sources of the crates changed."""
+def build(program, crate, command):
+    """Builds what `rt ci` or the command hasn't built since the sources of a crate and of those below it changed."""
+    listed = dict(line.split(": ", 1) for line in (ROOT / "crates.txt").read_text().splitlines())
+    crates = [crate, *(below for below in listed[crate].split() if below in listed)]
     sources = [file.stat().st_mtime for crate in crates for part in ("src", "specs", "proofs")
                for file in (ROOT / "crates" / crate / part).rglob("*")]
     if not program.exists() or program.stat().st_mtime < max(sources):

@@ -15,5 +15,6 @@ mod tests;
 pub mod compat;
 mod errors;
 mod linker_base;
+mod linker_elf;
 pub mod names;
 mod traits;

@@ -4,14 +4,13 @@
 #![doc = include_str!("../doc/aarch64.md")]
 
 mod choices;
-mod forms;
-mod relocations;
 mod rewrites;
 mod sequences;
 
 pub use choices::{choose, is_tls_descriptor_sequence, relocations_are_chosen_alike};
-pub use forms::AArch64Instruction;
-pub use relocations::{AArch64Relocation, relocation_type_from_raw, row};
+pub use crate::linker_elf::aarch64::{
+    AArch64Instruction, AArch64Relocation, relocation_type_from_raw, row,
+};
 pub use rewrites::{RelaxationKind, is_adrp_pair};
 pub use sequences::write_mov_sequence;
 

@@ -59,13 +59,14 @@ impl Relaxation {
 }
 
 impl Relaxation {
-    /// The bytes to be deleted after the rewrite, as `riscv64::RelaxationKind::deleted` says. `None`
-    /// where there are none, and for all other architectures.
+    /// The bytes to be deleted after the rewrite, as `deleted` of the `RelaxationKind` of `riscv64` and
+    /// `loongarch64` says. `None` where there are none, and for all other architectures.
     #[must_use]
     #[inline]
     pub fn deleted(self) -> Option<DeletedBytes> {
         match self {
             Relaxation::RiscV(kind) => kind.deleted(),
+            Relaxation::LoongArch64(kind) => kind.deleted(),
             _ => None,
         }
     }
@@ -110,8 +111,8 @@ impl InstructionRewrite for Relaxation {
 
 impl Architecture {
     /// Which rewrite a linker makes at the relocation with a code, `r_type` in ELF files, and the
-    /// code of the relocation after it, as `choose` of `aarch64`, `riscv64` and `x86_64` says. For
-    /// LoongArch and PowerPC64 it is `NoOp` and the same code.
+    /// code of the relocation after it, as `choose` of `aarch64`, `riscv64`, `loongarch64`, `ppc64`
+    /// and `x86_64` says.
     ///
     /// ```
     /// use linker_utils::architecture::Relaxation;
@@ -155,14 +156,22 @@ impl Architecture {
                     relocation: chosen.relocation.elf_code(),
                 }
             }
-            Architecture::LoongArch64 => Choice {
-                kind: Relaxation::LoongArch64(loongarch64::RelaxationKind::NoOp),
-                relocation: code,
-            },
-            Architecture::Ppc64 => Choice {
-                kind: Relaxation::Ppc64(ppc64::RelaxationKind::NoOp),
-                relocation: code,
-            },
+            Architecture::LoongArch64 => {
+                let name = LoongArch64Relocation::from_elf(code);
+                let chosen = loongarch64::choose(name, section, offset, facts);
+                Choice {
+                    kind: Relaxation::LoongArch64(chosen.kind),
+                    relocation: chosen.relocation.elf_code(),
+                }
+            }
+            Architecture::Ppc64 => {
+                let name = Ppc64Relocation::from_elf(code);
+                let chosen = ppc64::choose(name, section, offset, facts);
+                Choice {
+                    kind: Relaxation::Ppc64(chosen.kind),
+                    relocation: chosen.relocation.elf_code(),
+                }
+            }
             Architecture::X86_64 => {
                 let name = X86_64Relocation::from_elf(code);
                 let chosen = x86_64::choose(name, section, offset, facts);

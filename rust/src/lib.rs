@@ -21,6 +21,7 @@ mod tests;
 pub mod compat;
 mod errors;
 mod linker_base;
+mod linker_elf;
 pub mod names;
 mod traits;
 

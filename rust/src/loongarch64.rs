@@ -4,12 +4,12 @@
 //!
 #![doc = include_str!("../doc/loongarch64.md")]
 
-mod forms;
-mod relocations;
+mod choices;
 mod rewrites;
-mod sequences;
 
-pub use forms::LoongArch64Instruction;
-pub use relocations::{LoongArch64Relocation, relocation_type_from_raw, row};
+pub use choices::{choose, is_tls_descriptor_sequence, relocations_are_chosen_alike};
+pub use crate::linker_elf::loongarch64::{
+    LoongArch64Instruction, LoongArch64Relocation, highest_relocation_with_bias,
+    relocation_type_from_raw, row, write_address_sequence,
+};
 pub use rewrites::RelaxationKind;
-pub use sequences::{highest_relocation_with_bias, write_address_sequence};

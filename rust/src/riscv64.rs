@@ -6,9 +6,7 @@
 
 mod calls;
 mod choices;
-mod forms;
 mod packing;
-mod relocations;
 mod rewrites;
 mod shrinking;
 
@@ -17,12 +15,13 @@ pub use calls::{
     jal_site, jal_site_with, relax_call, relax_call_over,
 };
 pub use choices::choose;
-pub use forms::RiscVInstruction;
+pub use crate::linker_elf::riscv64::{
+    RiscVInstruction, RiscVRelocation, clui_row, relocation_type_from_raw, row,
+};
 pub use packing::{
     PackError, RejectedCall, calls_apart, first_not_apart, pack_into, pack_section,
     packed_calls_reach_targets, packed_len,
 };
-pub use relocations::{RiscVRelocation, clui_row, relocation_type_from_raw, row};
 pub use rewrites::{DeletedBytes, RelaxationKind};
 pub use shrinking::{
     AsChoice, calls_shrinkable, first_not_shrinkable, shrink_calls, shrink_calls_into,

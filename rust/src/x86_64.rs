@@ -4,9 +4,8 @@
 #![doc = include_str!("../doc/x86_64.md")]
 
 mod choices;
-mod relocations;
 mod rewrites;
 
 pub use choices::choose;
-pub use relocations::{X86_64Relocation, relocation_from_raw, row};
+pub use crate::linker_elf::x86_64::{X86_64Relocation, relocation_from_raw, row};
 pub use rewrites::RelaxationKind;

@@ -24,7 +24,7 @@ macro_rules! all_names {
             assert_eq!($names::from(u32::from(name)), name);
             assert_eq!(name.to_string().parse(), Ok(name));
         }
-        let mut wanted = variants(include_str!(concat!("../src/", $folder, "/relocations.rs")));
+        let mut wanted = variants(include_str!(concat!("../src/linker_elf/", $folder, "/relocations.rs")));
         listed.sort();
         wanted.sort();
         assert_eq!(listed, wanted);

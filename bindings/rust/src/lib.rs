@@ -135,6 +135,8 @@ pub struct LinkFacts {
     pub has_local_exec_base: bool,
     pub may_compress: bool,
     pub is_marked: bool,
+    pub has_private_base: bool,
+    pub may_change_toc: bool,
     pub has_addresses: bool,
     pub operands: Operands,
 }
@@ -151,6 +153,8 @@ impl From<&LinkFacts> for raw::LinkFacts {
             has_local_exec_base: facts.has_local_exec_base.into(),
             may_compress: facts.may_compress.into(),
             is_marked: facts.is_marked.into(),
+            has_private_base: facts.has_private_base.into(),
+            may_change_toc: facts.may_change_toc.into(),
             has_addresses: facts.has_addresses.into(),
             operands: facts.operands,
         }

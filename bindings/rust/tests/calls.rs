@@ -378,8 +378,8 @@ fn rejects_rewrites() {
     let unknown = [
         (Architecture::AArch64.machine(), 13),
         (Architecture::RiscV.machine(), 8),
-        (Architecture::LoongArch64.machine(), 2),
-        (Architecture::Ppc64.machine(), 1),
+        (Architecture::LoongArch64.machine(), 12),
+        (Architecture::Ppc64.machine(), 15),
         (Architecture::X86_64.machine(), 24),
         (0, 0),
     ];
@@ -489,7 +489,7 @@ fn choices_are_by_what_the_linker_knows() {
     let jal = choose(Architecture::RiscV, 19, &tail, 0, &facts).map(|choice| choice.rewrite);
     assert_eq!(jal, Ok(RiscVRewrite::TailToJal.into()));
 
-    // of LoongArch and PowerPC64 nothing is rewritten
+    // a branch of LoongArch stays, and of PowerPC64 nothing is rewritten
     let same = unchanged(LoongArch64Rewrite::NoOp.into(), 66);
     assert_eq!(
         choose(Architecture::LoongArch64, 66, &[0; 8], 0, &facts),
@@ -504,11 +504,14 @@ fn choices_are_by_what_the_linker_knows() {
 
 #[test]
 fn tells_what_becomes_of_the_next_relocation() {
-    let skipped: [Rewrite; 10] = [
+    let skipped: [Rewrite; 13] = [
         RiscVRewrite::CallToJal.into(),
         RiscVRewrite::TailToJal.into(),
         RiscVRewrite::TailToCJ.into(),
         RiscVRewrite::Hi20Delete.into(),
+        Ppc64Rewrite::CallToAddi.into(),
+        Ppc64Rewrite::CallToAdd.into(),
+        Ppc64Rewrite::CallToAddi4096.into(),
         X86_64Rewrite::TlsGdToLocalExec.into(),
         X86_64Rewrite::TlsGdToLocalExecLarge.into(),
         X86_64Rewrite::TlsGdToInitialExec.into(),

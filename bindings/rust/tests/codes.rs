@@ -16,7 +16,7 @@ const WITHOUT_MEANING: [&str; 3] = [
 /// The names by types: `r.R_.. = with_row 283 (codes "R_..") ..` of a list of specifications, or
 /// `without_row`, and perhaps broken after the equals sign.
 fn listed(file: &str) -> BTreeMap<u32, String> {
-    let folder = Path::new(env!("CARGO_MANIFEST_DIR")).join("../../crates/linker_utils/specs");
+    let folder = Path::new(env!("CARGO_MANIFEST_DIR")).join("../../crates/linker_elf/specs");
     let specs = fs::read_to_string(folder.join(file)).expect("the list is there");
     let (_, list) = specs.split_once("_relocation r.").expect("the list");
     let list = list.replace(" =\n   ", " =");

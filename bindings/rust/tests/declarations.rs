@@ -438,7 +438,7 @@ fn arms(source: &str, of_enum: &str) -> Numbers {
 
 /// The forms of an architecture in the proved library's table, by their places.
 fn forms_of(architecture: &str, of_enum: &str) -> Numbers {
-    let source = repository(&format!("crates/linker_utils/src/{architecture}/forms.rt"));
+    let source = repository(&format!("crates/linker_elf/src/{architecture}/forms.rt"));
     let (_, table) = source.split_once("const FORMS").expect("the table");
     let (table, _) = table.split_once("];").expect("its end");
     let start = format!("{of_enum}::");
@@ -470,9 +470,23 @@ fn equations(specs: &str, defined: &str) -> Numbers {
         let mut names = names_in(pattern).filter(|&word| word != "Some");
         let name = names.find(|word| word.starts_with(char::is_uppercase));
         let name = name.expect("a name").to_string();
-        found.insert(name, number.parse().expect("a number"));
+        found.insert(name, number.parse().unwrap_or_else(|_| constant(number)));
     }
     found
+}
+
+/// The number that a definition of `linker_elf`'s `specs/Elf` names.
+fn constant(name: &str) -> u64 {
+    let specs = repository("crates/linker_elf/specs/Elf.antt");
+    let (_, number) = specs
+        .split_once(&format!("\n{name} = "))
+        .expect("it is there");
+    number
+        .lines()
+        .next()
+        .expect("a line")
+        .parse()
+        .expect("a number")
 }
 
 /// The variants of an enum of the proved library's, by their order.
@@ -496,7 +510,7 @@ fn the_numbers_are_those_of_the_library() {
     assert_eq!(numbers(Status::ALL, Status::number), statuses);
     assert_eq!(
         numbers(Architecture::ALL, Architecture::number),
-        equations("linker_utils/specs/Elf", "machine_of")
+        equations("linker_utils/specs/Machines", "machine_of")
     );
 
     assert_eq!(
@@ -553,9 +567,9 @@ fn the_numbers_are_those_of_the_library() {
     assert_eq!(numbers(Uleb128Role::ALL, Uleb128Role::number), roles);
     assert_eq!(
         numbers(RelocationKind::ALL, RelocationKind::number),
-        variants("linker_utils/src/elf", "RelocationKind")
+        variants("linker_elf/src/elf", "RelocationKind")
     );
-    let mut masks = equations("linker_utils/specs/Numbers", "mask_number");
+    let mut masks = equations("linker_elf/specs/Numbers", "mask_number");
     assert_eq!(masks.remove("None"), Some(0));
     assert_eq!(numbers(PageMask::ALL, PageMask::number), masks);
 }
@@ -656,7 +670,8 @@ fn the_structs_are_those_of_the_library() {
         }
         "linker_utils_link_facts": raw::LinkFacts {
             is_local, is_ifunc, is_undefined_weak, has_fixed_address, has_fixed_distance,
-            is_executable, has_local_exec_base, may_compress, is_marked, has_addresses, operands,
+            is_executable, has_local_exec_base, may_compress, is_marked, has_private_base,
+            may_change_toc, has_addresses, operands,
         }
         "linker_utils_choice": raw::Choice {
             rewrite, relocation, modifier, deleted_len, deleted_start, n,
@@ -671,8 +686,8 @@ fn the_structs_are_those_of_the_library() {
         + &repository("crates/linker_base/src/relaxation.rt")
         + &repository("crates/linker_base/src/relaxation/blocks.rt")
         + &repository("crates/linker_utils/src/riscv64/calls.rt")
-        + &repository("crates/linker_utils/src/elf/value.rt")
-        + &repository("crates/linker_utils/src/elf/numbers.rt");
+        + &repository("crates/linker_elf/src/elf/value.rt")
+        + &repository("crates/linker_elf/src/elf/numbers.rt");
     for (name, of_library) in [
         ("linker_utils_deletion", "Deletion"),
         ("linker_utils_call", "Call"),

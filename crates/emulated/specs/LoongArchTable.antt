@@ -1,14 +1,14 @@
 -- What qemu-loongarch64 made of instructions. `tools/emulate` makes this file.
 use Rattle.std.specs.Prelude.{List, [], ◌∷◌, ◌^◌}
-use Rattle.linker_utils.specs.LoongArch.{loongarch_form}
-use Rattle.linker_utils.specs.declared.loongarch64.forms.LoongArch64Instruction.TheVariants.{Shift5}
-use Rattle.linker_utils.specs.declared.loongarch64.forms.LoongArch64Instruction.TheVariants.{Shift10}
-use Rattle.linker_utils.specs.declared.loongarch64.forms.LoongArch64Instruction.TheVariants.{Branch21}
-use Rattle.linker_utils.specs.declared.loongarch64.forms.LoongArch64Instruction.TheVariants.{Branch26}
-use Rattle.linker_utils.specs.declared.loongarch64.forms.LoongArch64Instruction.TheVariants.{Call36}
+use Rattle.linker_elf.specs.LoongArch.{loongarch_form}
+use Rattle.linker_elf.specs.declared.loongarch64.forms.LoongArch64Instruction.TheVariants.{Shift5}
+use Rattle.linker_elf.specs.declared.loongarch64.forms.LoongArch64Instruction.TheVariants.{Shift10}
+use Rattle.linker_elf.specs.declared.loongarch64.forms.LoongArch64Instruction.TheVariants.{Branch21}
+use Rattle.linker_elf.specs.declared.loongarch64.forms.LoongArch64Instruction.TheVariants.{Branch26}
+use Rattle.linker_elf.specs.declared.loongarch64.forms.LoongArch64Instruction.TheVariants.{Call36}
 use Rattle.std.specs.Prelude.{false}
-use Rattle.linker_utils.specs.Agrees.{loongarch_reads}
-use Rattle.linker_utils.specs.LoongArch.{reach}
+use Rattle.linker_elf.specs.Agrees.{loongarch_reads}
+use Rattle.linker_elf.specs.LoongArch.{reach}
 use Rattle.emulated.specs.Sequences.{parts_number}
 use Rattle.emulated.specs.Sequences.{upper_number}
 use Rattle.emulated.specs.Sequences.{four_number}

@@ -2,7 +2,7 @@
 use Rattle.std.specs.Prelude.{ℕ, zero, suc, ◌+◌, ◌==◌, ◌&&◌, Bool, true, nat_lt, if◌then◌else◌}
 use Rattle.std.specs.Prelude.{List, [], ◌∷◌, bit_and}
 use Rattle.std.specs.Int.{byte_at}
-use Rattle.linker_utils.specs.Value.{sum_64, difference_64}
+use Rattle.linker_elf.specs.Value.{sum_64, difference_64}
 
 -- a processor, with 32 bytes of its memory as a little-endian number
 pub record State : Type 0 where

@@ -4,10 +4,10 @@ use Rattle.std.proofs.Common.{◌≡◌, ◌↔◌, ◌<◌, ◌≤◌, inl, inr
 use Rattle.std.specs.Prelude.{◌⊎◌}
 use Rattle.linker_utils.specs.AArch64Choices.{IsDescriptorSequence, IsOfDescriptor, to_address, to_local_exec, to_initial_exec, IsEntryLoad, AArch64Applies, AArch64Choice, AArch64Entry, IsAskedFor, erased, descriptor_entries, facts_on, GotPairIsChosenAlike, InitialExecPairIsChosenAlike, DescriptorIsChosenAlike}
 use Rattle.linker_utils.specs.AArch64Originals.{aarch64_matches}
-use Rattle.linker_utils.specs.AArch64Relocations.{aarch64_row}
+use Rattle.linker_elf.specs.AArch64Relocations.{aarch64_row}
 use Rattle.linker_utils.specs.Choices.{AllHold, IsFirst, entry, choice, RowReaches, operands_before}
-use Rattle.linker_utils.specs.declared.aarch64.relocations.AArch64Relocation.{AArch64Relocation}
-use Rattle.linker_utils.specs.declared.aarch64.relocations.AArch64Relocation.TheVariants as r
+use Rattle.linker_elf.specs.declared.aarch64.relocations.AArch64Relocation.{AArch64Relocation}
+use Rattle.linker_elf.specs.declared.aarch64.relocations.AArch64Relocation.TheVariants as r
 use Rattle.linker_utils.specs.declared.aarch64.rewrites.RelaxationKind.TheVariants.{NoOp, MovzX0Lsl16, MovkX0, MovzXnLsl16, MovkXn, AdrpX0, LdrX0, LdrToAdd}
 use Rattle.linker_utils.specs.declared.elf.choice.LinkFacts.{LinkFacts}
 use Rattle.linker_utils.proofs.AArch64Choices.{AppliesAt, applies_of, of_applies, load_matches_add, load_matches_movk, load_matches_movz, adrp_matches, ldr_matches, nop_matches}
@@ -70,7 +70,7 @@ three_alike (neither n m e) f g h = inr (inr (e, in_neither n m f, in_neither n 
 
 -- ---- the place of the first
 
-same_reach : (n : ℕ) (facts : LinkFacts) → n ≤ 12
+pub same_reach : (n : ℕ) (facts : LinkFacts) → n ≤ 12
     → operands_before n (facts_on n facts).operands ≡ operands_before 0 facts.operands
 same_reach n facts small =
     let p = facts.operands.place in

@@ -4,20 +4,20 @@ use Rattle.std.proofs.Common.{◌≡◌, ◌↔◌, ◌<◌, ◌≤◌, inl, inr
 use Rattle.std.specs.Prelude.{⊤}
 use Rattle.std.specs.Int.{w32, from_le_bytes}
 use Rattle.linker_base.specs.Rewrite.{offset_after, addend_after}
-use Rattle.linker_utils.specs.AArch64.{aarch64_rewrite, rd_of, rn_of}
+use Rattle.linker_utils.specs.AArch64Rewrites.{aarch64_rewrite, rd_of, rn_of}
 use Rattle.linker_utils.specs.AArch64Choices.{AreOfDescriptor, IsOfDescriptor, to_local_exec, to_initial_exec, descriptor_entries, IsEntryLoad, IsAskedFor, AArch64Applies, AArch64Choice, AArch64Entry, IsAArch64Choice, aarch64_entries}
 use Rattle.linker_utils.specs.AArch64Originals.{IsAdrp, IsLdr64, aarch64_matches}
-use Rattle.linker_utils.specs.AArch64Relocations.{aarch64_row}
-use Rattle.linker_utils.specs.Choices.{Condition, in_reach, in_reach_if_known, Holds, AllHold, RowReaches, Entry, entry, IsFirst, choice, operands_after, operands_before}
+use Rattle.linker_elf.specs.AArch64Relocations.{aarch64_row}
+use Rattle.linker_utils.specs.Choices.{Condition, in_reach, in_reach_if_known, within, within_if_known, Holds, AllHold, RowReaches, RowIsWithin, Entry, entry, IsFirst, choice, operands_after, operands_before}
 use Rattle.linker_utils.specs.Originals.{HasWord}
-use Rattle.linker_utils.specs.Value.{sum_64, difference_64}
-use Rattle.linker_utils.specs.declared.elf.RelocationKindInfo.{RelocationKindInfo}
-use Rattle.linker_utils.specs.declared.aarch64.relocations.AArch64Relocation.{AArch64Relocation}
+use Rattle.linker_elf.specs.Value.{sum_64, difference_64}
+use Rattle.linker_elf.specs.declared.elf.RelocationKindInfo.{RelocationKindInfo}
+use Rattle.linker_elf.specs.declared.aarch64.relocations.AArch64Relocation.{AArch64Relocation}
 use Rattle.linker_utils.specs.declared.aarch64.rewrites.RelaxationKind.{RelaxationKind}
 use Rattle.linker_utils.specs.declared.aarch64.rewrites.RelaxationKind.TheVariants.{NoOp, ReplaceWithNop, MovzX0Lsl16, MovkX0, MovzXnLsl16, MovkXn, AdrpToAdr, AdrpX0, LdrX0, AddToAdr, LdrToAdr, LdrToAdd, AdrpAddToNopAdr}
 use Rattle.linker_utils.specs.declared.elf.choice.Choice.{Choice}
 use Rattle.linker_utils.specs.declared.elf.choice.LinkFacts.{LinkFacts}
-use Rattle.linker_utils.specs.declared.elf.value.Operands.{Operands}
+use Rattle.linker_elf.specs.declared.elf.value.Operands.{Operands}
 
 -- ---- words
 
@@ -104,6 +104,10 @@ holds_as : {R : Type 0} (row : R → Option RelocationKindInfo) (x y : Operands)
 holds_as row x y facts e (in_reach name n) h = (h.0, subst (RowReaches (row name)) (e n) h.1)
 holds_as row x y facts e (in_reach_if_known name n) h =
     λ known. subst (RowReaches (row name)) (e n) (h known)
+holds_as row x y facts e (within name bounds n) h =
+    (h.0, subst (RowIsWithin (row name) bounds) (e n) h.1)
+holds_as row x y facts e (within_if_known name bounds n) h =
+    λ known. subst (RowIsWithin (row name) bounds) (e n) (h known)
 holds_as row x y facts e c h = h
 
 pub all_hold_as : {R : Type 0} (row : R → Option RelocationKindInfo) (x y : Operands) (facts : LinkFacts)

@@ -4,7 +4,8 @@ use Rattle.std.specs.Int.{w32, from_le_bytes, to_le_bytes}
 use Rattle.std.proofs.lemmas.Bool.{and_from, eq-eqb, cond-true}
 use Rattle.std.proofs.lemmas.Nat.{from_le_bytes-to_le_bytes_4}
 use Rattle.linker_base.specs.Bits.{field}
-use Rattle.linker_utils.specs.AArch64.{mov_word, mov_words, mov4, moved4, movk, with_bits, is_move, opcode_of, rd_of, imm_of, shift_of, movz_opcode, movk_opcode}
+use Rattle.linker_utils.specs.AArch64Rewrites.{mov_word, mov_words, mov4, moved4, movk, with_bits, is_move, rd_of, imm_of}
+use Rattle.linker_elf.specs.AArch64.{opcode_of, shift_of, movz_opcode, movk_opcode}
 
 move_is : (opcode rd word : ℕ) → opcode_of word ≡ opcode → rd_of word ≡ rd → is_move opcode rd word ≡ true
 move_is opcode rd word o r = and_from (eqb (opcode_of word) opcode) (eqb (rd_of word) rd) (eq-eqb (opcode_of word) opcode o) (eq-eqb (rd_of word) rd r)

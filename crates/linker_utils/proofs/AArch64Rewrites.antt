@@ -5,7 +5,7 @@ use Rattle.std.specs.Int.RustNames.{bit_or}
 use Rattle.std.proofs.lemmas.Nat.{or_shifted}
 use Rattle.linker_base.specs.Rewrite.{rewritten, replaces}
 use Rattle.linker_base.proofs.Rewrites.{overwritten}
-use Rattle.linker_utils.specs.AArch64.{aarch64_rewrite, nop, nop_adr, rd_of}
+use Rattle.linker_utils.specs.AArch64Rewrites.{aarch64_rewrite, nop, nop_adr, rd_of}
 use Rattle.linker_utils.specs.declared.aarch64.rewrites.RelaxationKind.{RelaxationKind}
 use Rattle.linker_utils.specs.declared.aarch64.rewrites.RelaxationKind.TheVariants.{AdrpAddToNopAdr}
 

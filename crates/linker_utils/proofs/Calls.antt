@@ -5,7 +5,7 @@ use Rattle.linker_base.specs.Deletions.{rank}
 use Rattle.linker_base.proofs.Rank.{rank-le}
 use Rattle.std.specs.Int.{w32, from_le_bytes}
 use Rattle.std.proofs.lemmas.List.{take_rest}
-use Rattle.linker_utils.specs.RiscV.{output_distance, word_at}
+use Rattle.linker_utils.specs.RiscVCalls.{output_distance, word_at}
 
 -- the difference of the output offsets that the code has taken
 pub distance_is : (ds : List (ℕ × ℕ)) (site target from to len : ℕ) (d : ℤ) → FitsSigned w64 d

@@ -12,11 +12,13 @@ use Rattle.linker_base.specs.Bits.{field, signed}
 use Rattle.linker_base.specs.Form.{is_placed, Written, MachineReads, place_sum}
 use Rattle.linker_base.specs.Rewrite.{Rewrite, rewritten}
 use Rattle.linker_base.proofs.Fields.{same_fields, signed_rem}
-use Rattle.linker_utils.specs.RiscV.{riscv_form, riscv_rewrite, call_to_jal, word_at, JumpsAndLinks, IsEven, IsJalDistance}
-use Rattle.linker_utils.specs.declared.riscv64.forms.RiscVInstruction.TheVariants.{JType}
+use Rattle.linker_elf.specs.RiscV.{riscv_form}
+use Rattle.linker_utils.specs.RiscVRewrites.{riscv_rewrite, call_to_jal}
+use Rattle.linker_utils.specs.RiscVCalls.{word_at, JumpsAndLinks, IsEven, IsJalDistance}
+use Rattle.linker_elf.specs.declared.riscv64.forms.RiscVInstruction.TheVariants.{JType}
 use Rattle.linker_utils.specs.declared.riscv64.rewrites.RelaxationKind.{RelaxationKind}
 use Rattle.linker_base.proofs.Immediates.{always_clear}
-use Rattle.linker_utils.proofs.RiscV.{jtype_places, jtype_below}
+use Rattle.linker_elf.proofs.RiscV.{jtype_places, jtype_below}
 
 -- ---- words in lists
 

@@ -12,7 +12,7 @@ use Rattle.std.specs.Int.{w32, from_le_bytes}
 use Rattle.linker_base.specs.Bits.{field}
 use Rattle.linker_utils.specs.Inner.Packing.{IsFilled, IsRunStart, IsCopied, IsPackedTo, AreApartTo}
 use Rattle.linker_utils.specs.Packing.{AreApart, CanJump, IsCallInSection, IsRejected, IsNotAt, IsPacked}
-use Rattle.linker_utils.specs.RiscV.{word_at, call_len, link_register, output_distance, IsEven, IsJal, IsJalDistance, IsSiteKept, JumpsAt, JumpsAndLinks, NamesRegister}
+use Rattle.linker_utils.specs.RiscVCalls.{word_at, call_len, link_register, output_distance, IsEven, IsJal, IsJalDistance, IsSiteKept, JumpsAt, JumpsAndLinks, NamesRegister}
 use Rattle.linker_utils.specs.declared.riscv64.calls.CallError.{CallError}
 use Rattle.linker_utils.specs.declared.riscv64.calls.CallError.TheVariants.{OddDistance, TooFar}
 use Rattle.linker_utils.specs.declared.riscv64.calls.JumpError.TheVariants.{Call}

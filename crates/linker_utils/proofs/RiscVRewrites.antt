@@ -10,11 +10,12 @@ use Rattle.std.proofs.lemmas.List.{take_rest}
 use Rattle.std.proofs.lemmas.Nat.{and_mask, or_shifted}
 use Rattle.linker_base.specs.Bits.{field, signed}
 use Rattle.linker_base.specs.Form.{place_sum}
-use Rattle.linker_utils.specs.RiscV.{riscv_places, hi20_to_clui, rs1_to_zero, FitsClui, HoldsHigh, IsPairRange}
-use Rattle.linker_utils.specs.declared.riscv64.forms.RiscVInstruction.TheVariants.{UType, CluiType}
+use Rattle.linker_elf.specs.RiscV.{riscv_places, IsPairRange}
+use Rattle.linker_utils.specs.RiscVRewrites.{hi20_to_clui, rs1_to_zero, FitsClui, HoldsHigh}
+use Rattle.linker_elf.specs.declared.riscv64.forms.RiscVInstruction.TheVariants.{UType, CluiType}
 use Rattle.linker_utils.proofs.Jumps.{word_of_front}
 use Rattle.linker_base.proofs.Pairs.{signed_cases}
-use Rattle.linker_utils.proofs.RiscV.{clui_laid, u_laid, pair_of}
+use Rattle.linker_elf.proofs.RiscV.{clui_laid, u_laid, pair_of}
 
 -- ---- the bytes
 

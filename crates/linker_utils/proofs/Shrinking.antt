@@ -20,7 +20,7 @@ use Rattle.linker_base.proofs.Merging.{disjoint_joined, disjoint_back, disjoint_
 use Rattle.linker_utils.specs.Shrinking.{shrinking, chosen_deletions, with_chosen, IsInReach, IsChosen, IsPartOf, AreShrinkable, ShrunkCallsAreAccepted}
 use Rattle.linker_utils.specs.Inner.Shrinking.{chosen_count, chosen_between, AreEightApart, IsApartAt, IsSplit, IsInReachAt, KeepsOthers, HaveShrinkableSites, HaveShrinkableTargets, IsAround, AreClear, HaveHit, AreRunsOf, distance_over}
 use Rattle.linker_utils.specs.declared.riscv64.shrinking.Runs.{Runs}
-use Rattle.linker_utils.specs.RiscV.{IsEven, IsJalDistance, output_distance}
+use Rattle.linker_utils.specs.RiscVCalls.{IsEven, IsJalDistance, output_distance}
 
 -- ---- what chosen calls delete
 

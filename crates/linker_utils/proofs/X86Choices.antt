@@ -5,7 +5,7 @@ use Rattle.linker_utils.specs.X86Choices.{X86Entry, Table, IsByTable}
 use Rattle.linker_utils.specs.X86Originals.{x86_64_matches}
 use Rattle.linker_utils.specs.declared.elf.choice.Choice.{Choice}
 use Rattle.linker_utils.specs.declared.elf.choice.LinkFacts.{LinkFacts}
-use Rattle.linker_utils.specs.declared.x86_64.relocations.X86_64Relocation.{X86_64Relocation}
+use Rattle.linker_elf.specs.declared.x86_64.relocations.X86_64Relocation.{X86_64Relocation}
 use Rattle.linker_utils.specs.declared.x86_64.rewrites.RelaxationKind.{RelaxationKind}
 use Rattle.linker_utils.specs.declared.x86_64.rewrites.RelaxationKind.TheVariants as kinds
 

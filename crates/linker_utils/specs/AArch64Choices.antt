@@ -4,17 +4,17 @@
 use Rattle.std.specs.Prelude.{◌≡◌, ◌≢◌, ◌≤◌, ◌+◌, ◌-◌, ◌*◌, ◌/◌, ◌^◌, ℕ, List, [], ◌∷◌, ⊤}
 use Rattle.std.specs.Prelude.{length, drop, ◌<◌, ◌⊎◌}
 use Rattle.std.specs.Int.{w32, from_le_bytes}
-use Rattle.linker_utils.specs.AArch64.{rd_of, rn_of, aarch64_rewrite}
+use Rattle.linker_utils.specs.AArch64Rewrites.{rd_of, rn_of, aarch64_rewrite}
 use Rattle.linker_utils.specs.AArch64Originals.{IsAdrp, IsAdd64, IsLdr64, FollowsAdrp}
 use Rattle.linker_utils.specs.AArch64Originals.{aarch64_matches}
-use Rattle.linker_utils.specs.AArch64Relocations.{aarch64_row}
+use Rattle.linker_elf.specs.AArch64Relocations.{aarch64_row}
 use Rattle.linker_utils.specs.Choices.{Condition, bound, weak_zero, fixed_distance, executable}
 use Rattle.linker_utils.specs.Choices.{in_reach, in_reach_if_known, Entry, entry, choice}
 use Rattle.linker_utils.specs.Choices.{operands_after, AllHold, IsFirst}
 use Rattle.linker_utils.specs.Originals.{HasWord}
-use Rattle.linker_utils.specs.Value.{sum_64}
-use Rattle.linker_utils.specs.declared.aarch64.relocations.AArch64Relocation.{AArch64Relocation}
-use Rattle.linker_utils.specs.declared.aarch64.relocations.AArch64Relocation.TheVariants as r
+use Rattle.linker_elf.specs.Value.{sum_64}
+use Rattle.linker_elf.specs.declared.aarch64.relocations.AArch64Relocation.{AArch64Relocation}
+use Rattle.linker_elf.specs.declared.aarch64.relocations.AArch64Relocation.TheVariants as r
 use Rattle.linker_utils.specs.declared.aarch64.rewrites.RelaxationKind.{RelaxationKind}
 use Rattle.linker_utils.specs.declared.aarch64.rewrites.RelaxationKind.TheVariants as kinds
 use Rattle.linker_utils.specs.declared.elf.choice.Choice.{Choice}

@@ -2,7 +2,7 @@
 -- A-profile, DDI 0487, C6.2; ELF for the Arm 64-bit Architecture, "Relocation optimization" and the
 -- sequences of thread-local storage).
 use Rattle.std.specs.Prelude.{◌≡◌, ◌≢◌, ◌≤◌, ◌-◌, ℕ, List, bit_and, IsTrue, ⊤, ◌⊎◌}
-use Rattle.linker_utils.specs.AArch64.{rd_of, rn_of, is_ldr64}
+use Rattle.linker_utils.specs.AArch64Rewrites.{rd_of, rn_of, is_ldr64}
 use Rattle.linker_utils.specs.Originals.{HasWord}
 use Rattle.linker_utils.specs.declared.aarch64.rewrites.RelaxationKind.{RelaxationKind}
 use Rattle.linker_utils.specs.declared.aarch64.rewrites.RelaxationKind.TheVariants.{NoOp}

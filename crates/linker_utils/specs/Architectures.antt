@@ -2,28 +2,36 @@
 use Rattle.std.specs.Prelude.{◌≡◌, ℕ, List, slice_get, Option, Some, None}
 use Rattle.linker_base.specs.Rewrite.{Rewrite, CanRewrite}
 use Rattle.linker_base.specs.declared.relaxation.RelocationModifier.{RelocationModifier}
-use Rattle.linker_utils.specs.AArch64.{aarch64_rewrite, aarch64_modifier, aarch64_forms}
-use Rattle.linker_utils.specs.AArch64.{aarch64_rewrites}
+use Rattle.linker_utils.specs.AArch64Rewrites.{aarch64_rewrite, aarch64_modifier}
+use Rattle.linker_elf.specs.AArch64.{aarch64_forms}
+use Rattle.linker_utils.specs.AArch64Rewrites.{aarch64_rewrites}
 use Rattle.linker_utils.specs.AArch64Choices.{IsAArch64Choice}
 use Rattle.linker_utils.specs.AArch64Originals.{aarch64_matches}
-use Rattle.linker_utils.specs.AArch64Relocations.{aarch64_name, aarch64_row}
+use Rattle.linker_elf.specs.AArch64Relocations.{aarch64_name, aarch64_row}
 use Rattle.linker_utils.specs.Choices.{choice}
-use Rattle.linker_utils.specs.ElfNames.{ElfName, IsNameOf, code_of}
-use Rattle.linker_utils.specs.LoongArch.{loongarch_rewrite, loongarch_modifier, loongarch64_forms}
-use Rattle.linker_utils.specs.LoongArch.{loongarch64_rewrites}
-use Rattle.linker_utils.specs.LoongArchRelocations.{loongarch_name, loongarch_row}
-use Rattle.linker_utils.specs.LoongArchRelocations.{loongarch_uleb128_role}
-use Rattle.linker_utils.specs.Ppc64.{ppc64_forms, ppc64_rewrites, ppc64_rewrite, ppc64_modifier}
-use Rattle.linker_utils.specs.Ppc64Relocations.{ppc64_name, ppc64_row}
-use Rattle.linker_utils.specs.RiscV.{riscv_forms, riscv_rewrites, riscv_rewrite, riscv_modifier}
-use Rattle.linker_utils.specs.RiscV.{riscv_deleted}
+use Rattle.linker_elf.specs.ElfNames.{ElfName, IsNameOf, code_of}
+use Rattle.linker_elf.specs.LoongArch.{loongarch64_forms}
+use Rattle.linker_utils.specs.LoongArchChoices.{IsLoongArchChoice}
+use Rattle.linker_utils.specs.LoongArchOriginals.{loongarch_matches}
+use Rattle.linker_elf.specs.LoongArchRelocations.{loongarch_name, loongarch_row}
+use Rattle.linker_elf.specs.LoongArchRelocations.{loongarch_uleb128_role}
+use Rattle.linker_utils.specs.LoongArchRewrites.{loongarch_rewrite, loongarch_modifier}
+use Rattle.linker_utils.specs.LoongArchRewrites.{loongarch_deleted, loongarch64_rewrites}
+use Rattle.linker_elf.specs.Ppc64.{ppc64_forms}
+use Rattle.linker_utils.specs.Ppc64Choices.{IsPpc64Choice}
+use Rattle.linker_utils.specs.Ppc64Originals.{ppc64_matches}
+use Rattle.linker_elf.specs.Ppc64Relocations.{ppc64_name, ppc64_row}
+use Rattle.linker_utils.specs.Ppc64Rewrites.{ppc64_rewrites, ppc64_rewrite, ppc64_modifier}
+use Rattle.linker_elf.specs.RiscV.{riscv_forms}
+use Rattle.linker_utils.specs.RiscVRewrites.{riscv_rewrites, riscv_rewrite, riscv_modifier}
+use Rattle.linker_utils.specs.RiscVRewrites.{riscv_deleted}
 use Rattle.linker_utils.specs.RiscVChoices.{IsRiscVChoice}
 use Rattle.linker_utils.specs.RiscVOriginals.{riscv_matches}
-use Rattle.linker_utils.specs.RiscVRelocations.{riscv_relocation, riscv_name, riscv_uleb128_role}
+use Rattle.linker_elf.specs.RiscVRelocations.{riscv_relocation, riscv_name, riscv_uleb128_role}
 use Rattle.linker_utils.specs.X86.{x86_64_rewrites, x86_64_rewrite, x86_64_modifier}
 use Rattle.linker_utils.specs.X86Choices.{IsX86Choice}
 use Rattle.linker_utils.specs.X86Originals.{x86_64_matches}
-use Rattle.linker_utils.specs.X86Relocations.{x86_64_name, x86_64_row}
+use Rattle.linker_elf.specs.X86Relocations.{x86_64_name, x86_64_row}
 use Rattle.linker_utils.specs.declared.architecture.Relaxation.{Relaxation}
 use Rattle.linker_utils.specs.declared.architecture.Relaxation.TheVariants as relaxations
 use Rattle.linker_utils.specs.declared.elf.Architecture.{Architecture}
@@ -31,12 +39,10 @@ use Rattle.linker_utils.specs.declared.elf.Architecture.TheVariants.{AArch64, Ri
 use Rattle.linker_utils.specs.declared.elf.Architecture.TheVariants.{Ppc64, X86_64}
 use Rattle.linker_utils.specs.declared.elf.choice.Choice.{Choice}
 use Rattle.linker_utils.specs.declared.elf.choice.LinkFacts.{LinkFacts}
-use Rattle.linker_utils.specs.declared.elf.RelocationInstruction.{RelocationInstruction}
-use Rattle.linker_utils.specs.declared.elf.RelocationInstruction.TheVariants as insns
-use Rattle.linker_utils.specs.declared.elf.RelocationKindInfo.{RelocationKindInfo}
-use Rattle.linker_utils.specs.declared.elf.Uleb128Role.{Uleb128Role}
-use Rattle.linker_utils.specs.declared.loongarch64.rewrites.RelaxationKind.TheVariants as loongarch
-use Rattle.linker_utils.specs.declared.ppc64.rewrites.RelaxationKind.TheVariants as ppc
+use Rattle.linker_elf.specs.declared.elf.RelocationInstruction.{RelocationInstruction}
+use Rattle.linker_elf.specs.declared.elf.RelocationInstruction.TheVariants as insns
+use Rattle.linker_elf.specs.declared.elf.RelocationKindInfo.{RelocationKindInfo}
+use Rattle.linker_elf.specs.declared.elf.Uleb128Role.{Uleb128Role}
 use Rattle.linker_utils.specs.declared.riscv64.rewrites.DeletedBytes.{DeletedBytes}
 
 -- ---- relocations, by their codes
@@ -121,13 +127,14 @@ relaxation_modifier (relaxations.X86_64 kind) = x86_64_modifier kind
 abbrev pub relaxation_matches : Relaxation → List ℕ → ℕ → Type 0
 relaxation_matches (relaxations.AArch64 kind) = aarch64_matches kind
 relaxation_matches (relaxations.RiscV kind) = riscv_matches kind
-relaxation_matches (relaxations.LoongArch64 kind) = CanRewrite (loongarch_rewrite kind)
-relaxation_matches (relaxations.Ppc64 kind) = CanRewrite (ppc64_rewrite kind)
+relaxation_matches (relaxations.LoongArch64 kind) = loongarch_matches kind
+relaxation_matches (relaxations.Ppc64 kind) = ppc64_matches kind
 relaxation_matches (relaxations.X86_64 kind) = x86_64_matches kind
 
 -- what is deleted after it
 abbrev pub relaxation_deleted : Relaxation → Option DeletedBytes
 relaxation_deleted (relaxations.RiscV kind) = riscv_deleted kind
+relaxation_deleted (relaxations.LoongArch64 kind) = loongarch_deleted kind
 relaxation_deleted kind = None
 
 -- ---- choices
@@ -143,7 +150,7 @@ pub record IsChosenBy {Kind Name : Type 0} (elf : Name → ElfName) (relaxation 
   pub kind_is : chosen.kind ≡ relaxation named.kind
   pub code_is : chosen.relocation ≡ code_of (elf named.relocation)
 
--- of an architecture; LoongArch and PowerPC64 have no entries
+-- of an architecture
 abbrev pub IsArchitectureChoice : Architecture → ℕ → List ℕ → ℕ → LinkFacts → Choice Relaxation ℕ
     → Type 0
 IsArchitectureChoice AArch64 code section o facts =
@@ -151,8 +158,9 @@ IsArchitectureChoice AArch64 code section o facts =
 IsArchitectureChoice RiscV code section o facts =
     IsChosenBy riscv_name relaxations.RiscV (λ name. IsRiscVChoice name section o facts) code
 IsArchitectureChoice LoongArch64 code section o facts =
-    λ chosen. chosen ≡ choice (relaxations.LoongArch64 loongarch.NoOp) code
+    IsChosenBy loongarch_name relaxations.LoongArch64
+    (λ name. IsLoongArchChoice name section o facts) code
 IsArchitectureChoice Ppc64 code section o facts =
-    λ chosen. chosen ≡ choice (relaxations.Ppc64 ppc.NoOp) code
+    IsChosenBy ppc64_name relaxations.Ppc64 (λ name. IsPpc64Choice name section o facts) code
 IsArchitectureChoice X86_64 code section o facts =
     IsChosenBy x86_64_name relaxations.X86_64 (λ name. IsX86Choice name section o facts) code

@@ -4,14 +4,13 @@ use Rattle.std.specs.Prelude.{◌≡◌, ℕ, ℤ, pos, neg_ℤ, ◌⊎◌, ⊤,
 use Rattle.std.specs.Prelude.{true, false, Option, None, Some}
 use Rattle.std.specs.Int.{w64, cast_signed, cast_unsigned}
 use Rattle.linker_base.specs.Rewrite.{Rewrite, offset_after, addend_after}
-use Rattle.linker_utils.specs.Elf.{IsWithin}
-use Rattle.linker_utils.specs.Reach.{reach_of}
-use Rattle.linker_utils.specs.Relocate.{IsAligned, is_supported}
-use Rattle.linker_utils.specs.Value.{value_of, sum_64, difference_64}
-use Rattle.linker_utils.specs.declared.elf.RelocationKindInfo.{RelocationKindInfo}
+use Rattle.linker_elf.specs.Elf.{IsWithin}
+use Rattle.linker_elf.specs.Relocate.{Reaches}
+use Rattle.linker_elf.specs.Value.{sum_64, difference_64, value_of}
+use Rattle.linker_elf.specs.declared.elf.RelocationKindInfo.{RelocationKindInfo}
 use Rattle.linker_utils.specs.declared.elf.choice.Choice.{Choice}
 use Rattle.linker_utils.specs.declared.elf.choice.LinkFacts.{LinkFacts}
-use Rattle.linker_utils.specs.declared.elf.value.Operands.{Operands}
+use Rattle.linker_elf.specs.declared.elf.value.Operands.{Operands}
 
 -- What an entry of a table asks of what the linker knows.
 pub data Condition (R : Type 0) : Type 0 where
@@ -26,6 +25,10 @@ pub data Condition (R : Type 0) : Type 0 where
   local_exec_base : Condition R
   compressible : Condition R
   marked : Condition R
+  -- what reads a register for the high part of an address is of the same symbol
+  private_base : Condition R
+  -- a call may change the TOC pointer
+  changed_toc : Condition R
   -- the address of the symbol's PLT entry is S: it has none
   without_plt : Condition R
   -- the addend before the rewrite
@@ -37,6 +40,11 @@ pub data Condition (R : Type 0) : Type 0 where
   in_reach : R → ℕ → Condition R
   -- the same, unless no address is known
   in_reach_if_known : R → ℕ → Condition R
+  -- the value of a relocation is known, and is from one number up and below another: after the
+  -- rewrite, so many bytes before the place
+  within : R → ℤ × ℤ → ℕ → Condition R
+  -- the same, unless no address is known
+  within_if_known : R → ℤ × ℤ → ℕ → Condition R
 
 -- An entry: the rewrite, the relocation after it, and the conditions.
 pub record Entry (K R : Type 0) : Type 0 where
@@ -53,23 +61,18 @@ choice kind relocation = record { kind = kind; relocation = relocation }
 
 -- ---- values in reach
 
--- A value can be written: it is within the row's reach, and a multiple of its alignment.
-pub record IsInReach (row : RelocationKindInfo) (v : ℤ) : Type 0 where
-  pub supported : is_supported row ≡ true
-  pub within : IsWithin (reach_of row) v
-  pub aligned : IsAligned row.alignment v
-
-abbrev pub ReachesValue : RelocationKindInfo → Option ℤ → Type 0
-ReachesValue row None = ⊥
-ReachesValue row (Some v) = IsInReach row v
-
--- the relocation has a value, which can be written
-abbrev pub Reaches : RelocationKindInfo → Operands → Type 0
-Reaches row operands = ReachesValue row (value_of row operands)
-
 abbrev pub RowReaches : Option RelocationKindInfo → Operands → Type 0
 RowReaches None operands = ⊥
 RowReaches (Some row) operands = Reaches row operands
+
+abbrev pub ValueIsWithin : ℤ × ℤ → Option ℤ → Type 0
+ValueIsWithin bounds None = ⊥
+ValueIsWithin bounds (Some v) = IsWithin (Some bounds) v
+
+-- the relocation has a value, which is from one number up and below another
+abbrev pub RowIsWithin : Option RelocationKindInfo → ℤ × ℤ → Operands → Type 0
+RowIsWithin None bounds operands = ⊥
+RowIsWithin (Some row) bounds operands = ValueIsWithin bounds (value_of row operands)
 
 -- The operands after a rewrite at an offset: the place moves as the offset does.
 abbrev pub operands_after : Option Rewrite → ℕ → Operands → Operands
@@ -111,6 +114,8 @@ Holds row after facts executable = facts.is_executable ≡ true
 Holds row after facts local_exec_base = facts.has_local_exec_base ≡ true
 Holds row after facts compressible = facts.may_compress ≡ true
 Holds row after facts marked = facts.is_marked ≡ true
+Holds row after facts private_base = facts.has_private_base ≡ true
+Holds row after facts changed_toc = facts.may_change_toc ≡ true
 Holds row after facts without_plt = facts.operands.plt_entry ≡ facts.operands.symbol
 Holds row after facts (addend a) = facts.operands.addend ≡ a
 Holds row after facts low_12 =
@@ -119,6 +124,10 @@ Holds row after facts (in_reach name n) =
     HasAddresses facts × RowReaches (row name) (operands_before n after)
 Holds row after facts (in_reach_if_known name n) =
     HasAddresses facts → RowReaches (row name) (operands_before n after)
+Holds row after facts (within name bounds n) =
+    HasAddresses facts × RowIsWithin (row name) bounds (operands_before n after)
+Holds row after facts (within_if_known name bounds n) =
+    HasAddresses facts → RowIsWithin (row name) bounds (operands_before n after)
 
 abbrev pub AllHold : {R : Type 0} → (R → Option RelocationKindInfo) → Operands → LinkFacts
     → List (Condition R) → Type 0

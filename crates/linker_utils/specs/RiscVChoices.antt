@@ -5,14 +5,14 @@ use Rattle.std.specs.Prelude.{ℕ, List, [], ◌∷◌, Option}
 use Rattle.linker_utils.specs.Choices.{Condition, fixed_address, fixed_distance, compressible}
 use Rattle.linker_utils.specs.Choices.{marked, without_plt, low_12, in_reach}
 use Rattle.linker_utils.specs.Choices.{Entry, entry, choice, operands_after, AllHold, IsFirst}
-use Rattle.linker_utils.specs.RiscV.{riscv_rewrite}
+use Rattle.linker_utils.specs.RiscVRewrites.{riscv_rewrite}
 use Rattle.linker_utils.specs.RiscVOriginals.{riscv_matches}
-use Rattle.linker_utils.specs.RiscVRelocations.{riscv_relocation}
-use Rattle.linker_utils.specs.declared.elf.RelocationKindInfo.{RelocationKindInfo}
+use Rattle.linker_elf.specs.RiscVRelocations.{riscv_relocation}
+use Rattle.linker_elf.specs.declared.elf.RelocationKindInfo.{RelocationKindInfo}
 use Rattle.linker_utils.specs.declared.elf.choice.Choice.{Choice}
 use Rattle.linker_utils.specs.declared.elf.choice.LinkFacts.{LinkFacts}
-use Rattle.linker_utils.specs.declared.riscv64.relocations.RiscVRelocation.{RiscVRelocation}
-use Rattle.linker_utils.specs.declared.riscv64.relocations.RiscVRelocation.TheVariants as r
+use Rattle.linker_elf.specs.declared.riscv64.relocations.RiscVRelocation.{RiscVRelocation}
+use Rattle.linker_elf.specs.declared.riscv64.relocations.RiscVRelocation.TheVariants as r
 use Rattle.linker_utils.specs.declared.riscv64.rewrites.RelaxationKind.{RelaxationKind}
 use Rattle.linker_utils.specs.declared.riscv64.rewrites.RelaxationKind.TheVariants as kinds
 

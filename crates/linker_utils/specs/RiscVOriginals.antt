@@ -5,7 +5,7 @@ use Rattle.std.specs.Prelude.{◌≡◌, ◌≢◌, ◌≤◌, ◌+◌, ℕ, Lis
 use Rattle.std.specs.Prelude.{IsTrue, ⊤}
 use Rattle.linker_base.specs.Bits.{field}
 use Rattle.linker_utils.specs.Originals.{HasWord}
-use Rattle.linker_utils.specs.RiscV.{IsCallPair, IsPlainCall, word_at}
+use Rattle.linker_utils.specs.RiscVCalls.{IsCallPair, IsPlainCall, word_at}
 use Rattle.linker_utils.specs.declared.riscv64.rewrites.RelaxationKind.{RelaxationKind}
 use Rattle.linker_utils.specs.declared.riscv64.rewrites.RelaxationKind.TheVariants.{NoOp}
 use Rattle.linker_utils.specs.declared.riscv64.rewrites.RelaxationKind.TheVariants.{ReplaceWithNop}

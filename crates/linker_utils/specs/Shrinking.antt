@@ -5,7 +5,7 @@ use Rattle.std.specs.Prelude.{◌≡◌, ℕ, ◌+◌, ◌<◌, ◌≤◌, Bool,
 use Rattle.std.specs.Prelude.{AllPairs, length, map, slice_index_or, take}
 use Rattle.linker_base.specs.Deletions.{AreDisjoint, AreKept, IsInsideDeletion, IsSortedUnion}
 use Rattle.linker_utils.specs.Packing.{IsRejected}
-use Rattle.linker_utils.specs.RiscV.{IsEven, IsJalDistance, output_distance}
+use Rattle.linker_utils.specs.RiscVCalls.{IsEven, IsJalDistance, output_distance}
 use Rattle.linker_utils.specs.declared.riscv64.calls.CallError.TheVariants.{OddDistance, TooFar}
 use Rattle.linker_utils.specs.declared.riscv64.calls.JumpError.TheVariants.{Call}
 use Rattle.linker_utils.specs.declared.riscv64.calls.LinkRegister.{LinkRegister}

@@ -9,12 +9,12 @@ use Rattle.linker_utils.specs.Choices.{local_exec_base, addend, in_reach, in_rea
 use Rattle.linker_utils.specs.X86.{x86_64_rewrite}
 use Rattle.linker_utils.specs.X86Originals.{Original, original, is_one_at, legacy}
 use Rattle.linker_utils.specs.X86Originals.{lea_of_descriptor, x86_64_matches}
-use Rattle.linker_utils.specs.X86Relocations.{x86_64_row}
+use Rattle.linker_elf.specs.X86Relocations.{x86_64_row}
 use Rattle.linker_utils.specs.X86RelocationsAfter.{immediate_of}
 use Rattle.linker_utils.specs.declared.elf.choice.Choice.{Choice}
 use Rattle.linker_utils.specs.declared.elf.choice.LinkFacts.{LinkFacts}
-use Rattle.linker_utils.specs.declared.x86_64.relocations.X86_64Relocation.{X86_64Relocation}
-use Rattle.linker_utils.specs.declared.x86_64.relocations.X86_64Relocation.TheVariants as r
+use Rattle.linker_elf.specs.declared.x86_64.relocations.X86_64Relocation.{X86_64Relocation}
+use Rattle.linker_elf.specs.declared.x86_64.relocations.X86_64Relocation.TheVariants as r
 use Rattle.linker_utils.specs.declared.x86_64.rewrites.RelaxationKind.{RelaxationKind}
 use Rattle.linker_utils.specs.declared.x86_64.rewrites.RelaxationKind.TheVariants as kinds
 

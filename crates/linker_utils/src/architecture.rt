@@ -8,7 +8,7 @@ ghost use Rattle.linker_utils.specs.Architectures.{rewrite_of_number, relaxation
 ghost use Rattle.linker_utils.specs.Architectures.{relaxation_modifier, relaxation_matches};
 ghost use Rattle.linker_utils.specs.Architectures.{relaxation_architecture, relaxation_deleted};
 ghost use Rattle.linker_utils.specs.Architectures.{IsArchitectureChoice};
-ghost use Rattle.linker_utils.specs.ElfNames.{named, unnamed};
+ghost use Rattle.linker_elf.specs.ElfNames.{named, unnamed};
 
 use crate::aarch64::{self, AArch64Relocation};
 use crate::elf::{
@@ -69,14 +69,15 @@ impl Relaxation {
 }
 
 impl Relaxation {
-    /// The bytes to be deleted after the rewrite, as `riscv64::RelaxationKind::deleted` says. `None`
-    /// where there are none, and for all other architectures.
+    /// The bytes to be deleted after the rewrite, as `deleted` of the `RelaxationKind` of `riscv64` and
+    /// `loongarch64` says. `None` where there are none, and for all other architectures.
     #[inline]
     pub fn deleted(self) -> Option<DeletedBytes>
         ensures { result ≡ relaxation_deleted self }
     {
         match self {
             Relaxation::RiscV(kind) => kind.deleted(),
+            Relaxation::LoongArch64(kind) => kind.deleted(),
             _ => None,
         }
     }
@@ -123,8 +124,8 @@ impl InstructionRewrite for Relaxation {
 
 impl Architecture {
     /// Which rewrite a linker makes at the relocation with a code, `r_type` in ELF files, and the
-    /// code of the relocation after it, as `choose` of `aarch64`, `riscv64` and `x86_64` says. For
-    /// LoongArch and PowerPC64 it is `NoOp` and the same code.
+    /// code of the relocation after it, as `choose` of `aarch64`, `riscv64`, `loongarch64`, `ppc64`
+    /// and `x86_64` says.
     ///
     /// ```
     /// use linker_utils::architecture::Relaxation;
@@ -172,14 +173,22 @@ impl Architecture {
                     relocation: chosen.relocation.elf_code(),
                 }
             }
-            Architecture::LoongArch64 => Choice {
-                kind: Relaxation::LoongArch64(loongarch64::RelaxationKind::NoOp),
-                relocation: code,
-            },
-            Architecture::Ppc64 => Choice {
-                kind: Relaxation::Ppc64(ppc64::RelaxationKind::NoOp),
-                relocation: code,
-            },
+            Architecture::LoongArch64 => {
+                let name = LoongArch64Relocation::from_elf(code);
+                let chosen = loongarch64::choose(name, section, offset, facts);
+                Choice {
+                    kind: Relaxation::LoongArch64(chosen.kind),
+                    relocation: chosen.relocation.elf_code(),
+                }
+            }
+            Architecture::Ppc64 => {
+                let name = Ppc64Relocation::from_elf(code);
+                let chosen = ppc64::choose(name, section, offset, facts);
+                Choice {
+                    kind: Relaxation::Ppc64(chosen.kind),
+                    relocation: chosen.relocation.elf_code(),
+                }
+            }
             Architecture::X86_64 => {
                 let name = X86_64Relocation::from_elf(code);
                 let chosen = x86_64::choose(name, section, offset, facts);

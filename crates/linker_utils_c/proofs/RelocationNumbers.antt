@@ -1,19 +1,19 @@
 -- A row's numbers are what C is promised of them.
 use Rattle.std.proofs.Common.{◌≡◌, ℤ, refl, Option, Some, None, Ok}
-use Rattle.linker_utils.specs.Numbers.{numbers_of, form_number, form_machine}
-use Rattle.linker_utils.specs.declared.aarch64.forms.AArch64Instruction.{AArch64Instruction}
-use Rattle.linker_utils.specs.declared.aarch64.forms.AArch64Instruction.TheVariants.{Adr}
-use Rattle.linker_utils.specs.declared.riscv64.forms.RiscVInstruction.{RiscVInstruction}
-use Rattle.linker_utils.specs.declared.riscv64.forms.RiscVInstruction.TheVariants.{UType}
-use Rattle.linker_utils.specs.declared.loongarch64.forms.LoongArch64Instruction.{LoongArch64Instruction}
-use Rattle.linker_utils.specs.declared.loongarch64.forms.LoongArch64Instruction.TheVariants.{Shift5}
-use Rattle.linker_utils.specs.declared.ppc64.forms.Ppc64Instruction.{Ppc64Instruction}
-use Rattle.linker_utils.specs.declared.ppc64.forms.Ppc64Instruction.TheVariants.{D}
-use Rattle.linker_utils.specs.declared.elf.RelocationInstruction.{RelocationInstruction}
-use Rattle.linker_utils.specs.declared.elf.RelocationInstruction.TheVariants.{AArch64, RiscV, LoongArch64, Ppc64}
-use Rattle.linker_utils.specs.declared.elf.RelocationKindInfo.{RelocationKindInfo}
-use Rattle.linker_utils.specs.declared.elf.RelocationSize.{RelocationSize}
-use Rattle.linker_utils.specs.declared.elf.RelocationSize.TheVariants.{ByteSize, BitMasking}
+use Rattle.linker_elf.specs.Numbers.{numbers_of, form_number, form_machine}
+use Rattle.linker_elf.specs.declared.aarch64.forms.AArch64Instruction.{AArch64Instruction}
+use Rattle.linker_elf.specs.declared.aarch64.forms.AArch64Instruction.TheVariants.{Adr}
+use Rattle.linker_elf.specs.declared.riscv64.forms.RiscVInstruction.{RiscVInstruction}
+use Rattle.linker_elf.specs.declared.riscv64.forms.RiscVInstruction.TheVariants.{UType}
+use Rattle.linker_elf.specs.declared.loongarch64.forms.LoongArch64Instruction.{LoongArch64Instruction}
+use Rattle.linker_elf.specs.declared.loongarch64.forms.LoongArch64Instruction.TheVariants.{Shift5}
+use Rattle.linker_elf.specs.declared.ppc64.forms.Ppc64Instruction.{Ppc64Instruction}
+use Rattle.linker_elf.specs.declared.ppc64.forms.Ppc64Instruction.TheVariants.{D}
+use Rattle.linker_elf.specs.declared.elf.RelocationInstruction.{RelocationInstruction}
+use Rattle.linker_elf.specs.declared.elf.RelocationInstruction.TheVariants.{AArch64, RiscV, LoongArch64, Ppc64}
+use Rattle.linker_elf.specs.declared.elf.RelocationKindInfo.{RelocationKindInfo}
+use Rattle.linker_elf.specs.declared.elf.RelocationSize.{RelocationSize}
+use Rattle.linker_elf.specs.declared.elf.RelocationSize.TheVariants.{ByteSize, BitMasking}
 use Rattle.linker_utils_c.specs.Forms.{named_form}
 use Rattle.linker_utils_c.specs.Relocations.{InNumbers, IsSize, IsRange}
 

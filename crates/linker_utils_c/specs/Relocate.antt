@@ -5,16 +5,16 @@ use Rattle.linker_base.specs.Uleb.{IsUlebWritten, IsUlebCause}
 use Rattle.linker_base.specs.declared.utils.Uleb128Error.{Uleb128Error}
 use Rattle.linker_base.specs.declared.utils.Uleb128Error.TheVariants as uleb_errors
 use Rattle.linker_utils.specs.Architectures.{IsRow}
-use Rattle.linker_utils.specs.Reach.{reach_of}
-use Rattle.linker_utils.specs.Relocate.{WritesRow, RejectsValue}
-use Rattle.linker_utils.specs.Value.{value_of}
+use Rattle.linker_elf.specs.Reach.{reach_of}
+use Rattle.linker_elf.specs.Relocate.{WritesRow, RejectsValue}
+use Rattle.linker_elf.specs.Value.{value_of}
 use Rattle.linker_utils.specs.declared.elf.Architecture.{Architecture}
-use Rattle.linker_utils.specs.declared.elf.RelocationKindInfo.{RelocationKindInfo}
-use Rattle.linker_utils.specs.declared.elf.Uleb128Role.{Uleb128Role}
-use Rattle.linker_utils.specs.declared.elf.Uleb128Role.TheVariants as roles
-use Rattle.linker_utils.specs.declared.elf.relocate.RelocateError.{RelocateError}
-use Rattle.linker_utils.specs.declared.elf.relocate.RelocateError.TheVariants as errors
-use Rattle.linker_utils.specs.declared.elf.value.Operands.{Operands}
+use Rattle.linker_elf.specs.declared.elf.RelocationKindInfo.{RelocationKindInfo}
+use Rattle.linker_elf.specs.declared.elf.Uleb128Role.{Uleb128Role}
+use Rattle.linker_elf.specs.declared.elf.Uleb128Role.TheVariants as roles
+use Rattle.linker_elf.specs.declared.elf.relocate.RelocateError.{RelocateError}
+use Rattle.linker_elf.specs.declared.elf.relocate.RelocateError.TheVariants as errors
+use Rattle.linker_elf.specs.declared.elf.value.Operands.{Operands}
 use Rattle.linker_utils_c.specs.Status.{code}
 use Rattle.linker_utils_c.specs.declared.relocate.Reach.{Reach}
 use Rattle.linker_utils_c.specs.declared.relocate.Relocation.{Relocation}

@@ -1,12 +1,12 @@
 -- What relocations are, by e_machine and r_type of ELF files, and what they mean in numbers.
 use Rattle.std.specs.Prelude.{◌≡◌, ◌<◌, ◌≤◌, ◌++◌, ℕ, List, length, drop, Option, None, Some, Ok, ℤ}
 use Rattle.std.specs.Prelude.{pos}
-use Rattle.linker_utils.specs.Numbers.{kind_number, mask_number, flag_number, number_or_zero}
-use Rattle.linker_utils.specs.declared.elf.RelocationKindInfo.{RelocationKindInfo}
-use Rattle.linker_utils.specs.declared.elf.RelocationSize.{RelocationSize}
-use Rattle.linker_utils.specs.declared.elf.RelocationSize.TheVariants.{ByteSize, BitMasking}
-use Rattle.linker_utils.specs.ElfNames.{ElfName, named, unnamed}
-use Rattle.linker_utils.specs.declared.elf.numbers.RelocationNumbers.{RelocationNumbers}
+use Rattle.linker_elf.specs.Numbers.{kind_number, mask_number, flag_number, number_or_zero}
+use Rattle.linker_elf.specs.declared.elf.RelocationKindInfo.{RelocationKindInfo}
+use Rattle.linker_elf.specs.declared.elf.RelocationSize.{RelocationSize}
+use Rattle.linker_elf.specs.declared.elf.RelocationSize.TheVariants.{ByteSize, BitMasking}
+use Rattle.linker_elf.specs.ElfNames.{ElfName, named, unnamed}
+use Rattle.linker_elf.specs.declared.elf.numbers.RelocationNumbers.{RelocationNumbers}
 use Rattle.linker_utils_c.specs.declared.status.Status.TheVariants.{Success, UnknownRelocation}
 use Rattle.linker_utils_c.specs.declared.status.Status.TheVariants.{TooShort}
 use Rattle.linker_utils_c.specs.Forms.{named_form}

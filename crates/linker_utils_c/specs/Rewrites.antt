@@ -6,7 +6,7 @@ use Rattle.linker_base.specs.declared.relaxation.RelocationModifier.{RelocationM
 use Rattle.linker_base.specs.declared.relaxation.RelocationModifier.TheVariants.{Normal}
 use Rattle.linker_base.specs.declared.relaxation.RelocationModifier.TheVariants.{SkipNextRelocation}
 use Rattle.linker_utils.specs.Architectures.{rewrite_of_number, relaxation_matches}
-use Rattle.linker_utils.specs.Elf.{architecture_of}
+use Rattle.linker_utils.specs.Machines.{architecture_of}
 use Rattle.linker_utils.specs.declared.architecture.Relaxation.{Relaxation}
 use Rattle.linker_utils.specs.declared.elf.Architecture.{Architecture}
 use Rattle.linker_utils_c.specs.declared.status.Status.{Status}

@@ -2,7 +2,7 @@
 
 ghost use Rattle.std.specs.Prelude.{◌≡◌, ℕ, IfSome, IfNone, Some};
 ghost use Rattle.linker_utils.specs.Architectures.{IsArchitectureChoice, relaxation_architecture};
-ghost use Rattle.linker_utils.specs.Elf.{architecture_of};
+ghost use Rattle.linker_utils.specs.Machines.{architecture_of};
 ghost use Rattle.linker_utils.specs.declared.architecture.Relaxation.{Relaxation};
 ghost use Rattle.linker_utils.specs.declared.elf.choice.Choice.{Choice};
 ghost use Rattle.linker_utils_c.specs.Choices.{is_set, facts_of, IsChoiceInNumbers};
@@ -27,6 +27,8 @@ pub struct LinkFactNumbers {
     pub has_local_exec_base: u8,
     pub may_compress: u8,
     pub is_marked: u8,
+    pub has_private_base: u8,
+    pub may_change_toc: u8,
     pub has_addresses: u8,
     pub operands: Operands,
 }
@@ -64,6 +66,8 @@ impl LinkFactNumbers {
             has_local_exec_base: self.has_local_exec_base != 0,
             may_compress: self.may_compress != 0,
             is_marked: self.is_marked != 0,
+            has_private_base: self.has_private_base != 0,
+            may_change_toc: self.may_change_toc != 0,
             has_addresses: self.has_addresses != 0,
             operands: self.operands,
         }

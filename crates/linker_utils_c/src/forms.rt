@@ -3,8 +3,8 @@
 ghost use Rattle.std.specs.Prelude.{◌≡◌, ◌≢◌, IfOk, IfErr, IfSome, IfNone};
 ghost use Rattle.std.specs.Int.{byte_len, cast_unsigned, w64};
 ghost use Rattle.linker_base.specs.Form.{window_of};
-ghost use Rattle.linker_utils.specs.Elf.{relocation_form};
-ghost use Rattle.linker_utils.specs.Numbers.{flag_number};
+ghost use Rattle.linker_elf.specs.Elf.{relocation_form};
+ghost use Rattle.linker_elf.specs.Numbers.{flag_number};
 ghost use Rattle.linker_utils_c.specs.Forms.{named_form, TakesValue, HasValue};
 ghost use Rattle.linker_utils_c.specs.Status.{code, HasRoom};
 

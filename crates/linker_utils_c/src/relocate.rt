@@ -1,10 +1,10 @@
 //! Relocations: their values, their reach, and writing them.
 
 ghost use Rattle.std.specs.Prelude.{◌≡◌, IfSome, IfNone, Option};
-ghost use Rattle.linker_utils.specs.declared.elf.Uleb128Role.{Uleb128Role};
-ghost use Rattle.linker_utils.specs.declared.elf.RelocationKindInfo.{RelocationKindInfo};
+ghost use Rattle.linker_elf.specs.declared.elf.Uleb128Role.{Uleb128Role};
+ghost use Rattle.linker_elf.specs.declared.elf.RelocationKindInfo.{RelocationKindInfo};
 ghost use Rattle.linker_utils.specs.Architectures.{IsRow, IsRole};
-ghost use Rattle.linker_utils.specs.Elf.{architecture_of};
+ghost use Rattle.linker_utils.specs.Machines.{architecture_of};
 ghost use Rattle.linker_utils_c.specs.Relocate.{AreRelocatedOrRejected, IsReachOf, IsRelocated};
 ghost use Rattle.linker_utils_c.specs.Relocate.{IsRelocatedAt, IsUlebReturned, IsValueOf};
 ghost use Rattle.linker_utils_c.specs.Relocate.{role_number, uleb_status, write_status};

@@ -1,11 +1,11 @@
 //! What relocations mean, and their names, by `e_machine` and `r_type` of ELF files.
 
 ghost use Rattle.std.specs.Prelude.{◌≡◌, ◌≢◌, ◌≤◌, Option, IfSome, IfNone, length};
-ghost use Rattle.linker_utils.specs.declared.elf.RelocationKindInfo.{RelocationKindInfo};
+ghost use Rattle.linker_elf.specs.declared.elf.RelocationKindInfo.{RelocationKindInfo};
 ghost use Rattle.linker_utils.specs.Architectures.{IsRow, IsElfName};
-ghost use Rattle.linker_utils.specs.Elf.{architecture_of};
-ghost use Rattle.linker_utils.specs.ElfNames.{ElfName};
-ghost use Rattle.linker_utils.specs.RiscVRelocations.{clui_row};
+ghost use Rattle.linker_utils.specs.Machines.{architecture_of};
+ghost use Rattle.linker_elf.specs.ElfNames.{ElfName};
+ghost use Rattle.linker_elf.specs.RiscVRelocations.{clui_row};
 ghost use Rattle.linker_utils_c.specs.Relocations.{InNumbers, IsReturned, IsNameCopied};
 ghost use Rattle.linker_utils_c.specs.Status.{code};
 

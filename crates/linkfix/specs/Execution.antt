@@ -6,8 +6,8 @@ use Rattle.std.specs.Io.BufRead.{drop_through, first_line}
 use Rattle.hex.specs.Hex.{encode_lower}
 use Rattle.linker_base.specs.Deletions.{AreDisjoint, HasInput, IsSelected, IsSortedUnion, rank}
 use Rattle.linker_utils.specs.Packing.{IsFirstRejected, IsPacked}
-use Rattle.linker_utils.specs.RiscV.{IsEven, IsInSection, IsJalDistance, IsSiteKept, JumpsAt}
-use Rattle.linker_utils.specs.RiscV.{output_distance}
+use Rattle.linker_utils.specs.RiscVCalls.{IsEven, IsInSection, IsJalDistance, IsSiteKept, JumpsAt}
+use Rattle.linker_utils.specs.RiscVCalls.{output_distance}
 use Rattle.linker_utils.specs.declared.riscv64.calls.CallError.{CallError}
 use Rattle.linker_utils.specs.declared.riscv64.calls.CallError.TheVariants.{OutOfSection}
 use Rattle.linker_utils.specs.declared.riscv64.calls.CallError.TheVariants.{SiteDeleted}

@@ -7,7 +7,7 @@ ghost use Rattle.std.specs.Io.KnownBytes.{Appends};
 ghost use Rattle.hex.specs.Hex.{encode_lower};
 ghost use Rattle.linker_base.specs.Deletions.{AreDisjoint, IsSortedUnion, IsSelected, HasInput};
 ghost use Rattle.linker_utils.specs.Packing.{IsPacked};
-ghost use Rattle.linker_utils.specs.RiscV.{JumpsAt, output_distance};
+ghost use Rattle.linker_utils.specs.RiscVCalls.{JumpsAt, output_distance};
 ghost use Rattle.linker_utils.specs.declared.riscv64.calls.CallError.{CallError};
 ghost use Rattle.linker_utils.specs.declared.riscv64.calls.LinkRegister.{LinkRegister};
 ghost use Rattle.linkfix.specs.AnswerLines.{answer_line};

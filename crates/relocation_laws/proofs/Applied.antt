@@ -1,6 +1,6 @@
 -- What the machine reads of an instruction to which a relocation was applied.
 use Rattle.std.proofs.Common.{false}
-use Rattle.linker_utils.specs.AArch64.{aarch64_layout}
+use Rattle.linker_elf.specs.AArch64.{aarch64_layout}
 use Rattle.std.proofs.Common.{FitsSigned, ◌≡◌, ℕ, ◌-◌, ◌%◌, ◌^◌, ◌<◌, ◌≤◌, true, refl, sym}
 use Rattle.std.proofs.Common.{◌∙◌, ap, subst, arith, List, ℤ, pos, Option, Some, None, int_lt}
 use Rattle.std.proofs.Common.{unsigned_abs, Bool, eqb}
@@ -13,33 +13,33 @@ use Rattle.linker_base.specs.Form.{BitsWritten}
 use Rattle.linker_base.specs.declared.bit_misc.BitRange.{BitRange}
 use Rattle.linker_base.proofs.Immediates.{is_sound_layout, layout_laid, low_of, high_of}
 use Rattle.linker_base.proofs.Immediates.{always_clear}
-use Rattle.linker_utils.specs.AArch64.{aarch64_form}
-use Rattle.linker_utils.specs.Agrees.{bits_from, AgreesInReach}
-use Rattle.linker_utils.specs.Elf.{IsWithin, relocation_form, relocation_layout}
-use Rattle.linker_utils.specs.LoongArch.{loongarch_form}
-use Rattle.linker_utils.specs.Ppc64.{ppc64_form}
-use Rattle.linker_utils.specs.Reach.{reach_of}
-use Rattle.linker_utils.specs.Relocate.{InstructionWritten, SizeReads, SizeHolds, bits_taken}
-use Rattle.linker_utils.specs.Relocate.{IsAligned, IsInUnits, ppc64_reads, places_cleared}
-use Rattle.linker_utils.specs.RiscV.{riscv_form}
-use Rattle.linker_utils.specs.Value.{value_of}
-use Rattle.linker_utils.specs.declared.aarch64.forms.AArch64Instruction.{AArch64Instruction}
-use Rattle.linker_utils.specs.declared.aarch64.forms.AArch64Instruction.TheVariants.{Movnz, MachOLow12}
-use Rattle.linker_utils.specs.declared.loongarch64.forms.LoongArch64Instruction.TheVariants.{Shift10}
-use Rattle.linker_utils.specs.declared.ppc64.forms.Ppc64Instruction.TheVariants.{D, Ds}
-use Rattle.linker_utils.specs.declared.elf.RelocationInstruction.{RelocationInstruction}
-use Rattle.linker_utils.specs.declared.elf.RelocationInstruction.TheVariants.{AArch64, RiscV, Ppc64}
-use Rattle.linker_utils.specs.declared.elf.RelocationInstruction.TheVariants.{LoongArch64}
-use Rattle.linker_utils.specs.declared.elf.RelocationKindInfo.{RelocationKindInfo}
-use Rattle.linker_utils.specs.declared.elf.RelocationSize.TheVariants.{BitMasking}
-use Rattle.linker_utils.specs.declared.riscv64.forms.RiscVInstruction.TheVariants.{UiType}
-use Rattle.linker_utils.specs.declared.elf.value.Operands.{Operands}
-use Rattle.linker_utils.proofs.Agreement.{layout_check, layout_agrees}
-use Rattle.linker_utils.proofs.Clearing.{clear_after}
-use Rattle.linker_utils.proofs.Halves.{row_holds}
-use Rattle.linker_utils.proofs.Relocated.{row_reads_in_reach}
-use Rattle.linker_utils.proofs.Placed.{reads_as}
-use Rattle.linker_utils.proofs.Taken.{taken_is_field, taken_below, taken_in_units}
+use Rattle.linker_elf.specs.AArch64.{aarch64_form}
+use Rattle.linker_elf.specs.Agrees.{bits_from, AgreesInReach}
+use Rattle.linker_elf.specs.Elf.{IsWithin, relocation_form, relocation_layout}
+use Rattle.linker_elf.specs.LoongArch.{loongarch_form}
+use Rattle.linker_elf.specs.Ppc64.{ppc64_form}
+use Rattle.linker_elf.specs.Reach.{reach_of}
+use Rattle.linker_elf.specs.Relocate.{InstructionWritten, SizeReads, SizeHolds, bits_taken}
+use Rattle.linker_elf.specs.Relocate.{IsAligned, IsInUnits, ppc64_reads, places_cleared}
+use Rattle.linker_elf.specs.RiscV.{riscv_form}
+use Rattle.linker_elf.specs.Value.{value_of}
+use Rattle.linker_elf.specs.declared.aarch64.forms.AArch64Instruction.{AArch64Instruction}
+use Rattle.linker_elf.specs.declared.aarch64.forms.AArch64Instruction.TheVariants.{Movnz, MachOLow12}
+use Rattle.linker_elf.specs.declared.loongarch64.forms.LoongArch64Instruction.TheVariants.{Shift10}
+use Rattle.linker_elf.specs.declared.ppc64.forms.Ppc64Instruction.TheVariants.{D, Ds}
+use Rattle.linker_elf.specs.declared.elf.RelocationInstruction.{RelocationInstruction}
+use Rattle.linker_elf.specs.declared.elf.RelocationInstruction.TheVariants.{AArch64, RiscV, Ppc64}
+use Rattle.linker_elf.specs.declared.elf.RelocationInstruction.TheVariants.{LoongArch64}
+use Rattle.linker_elf.specs.declared.elf.RelocationKindInfo.{RelocationKindInfo}
+use Rattle.linker_elf.specs.declared.elf.RelocationSize.TheVariants.{BitMasking}
+use Rattle.linker_elf.specs.declared.riscv64.forms.RiscVInstruction.TheVariants.{UiType}
+use Rattle.linker_elf.specs.declared.elf.value.Operands.{Operands}
+use Rattle.linker_elf.proofs.Agreement.{layout_check, layout_agrees}
+use Rattle.linker_elf.proofs.Clearing.{clear_after}
+use Rattle.linker_elf.proofs.Halves.{row_holds}
+use Rattle.linker_elf.proofs.Relocated.{row_reads_in_reach}
+use Rattle.linker_elf.proofs.Placed.{reads_as}
+use Rattle.linker_elf.proofs.Taken.{taken_is_field, taken_below, taken_in_units}
 use Rattle.relocation_laws.specs.Schemes.{IsApplied}
 use Rattle.relocation_laws.proofs.Sums.{small_cast, cast_low}
 

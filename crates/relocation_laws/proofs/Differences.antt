@@ -6,21 +6,21 @@ use Rattle.std.specs.Int.{w64, cast_signed, cast_unsigned, int_rem_euclid}
 use Rattle.std.proofs.lemmas.Bool.{cases_lt}
 use Rattle.std.proofs.lemmas.Int.{ints, to_z_pos}
 use Rattle.linker_base.specs.Bits.{field}
-use Rattle.linker_utils.specs.Relocate.{number_of_bytes, SizeNumber}
-use Rattle.linker_utils.specs.Value.{value_of, sum_64, difference_64}
-use Rattle.linker_utils.specs.declared.elf.AllowedRange.{AllowedRange}
-use Rattle.linker_utils.specs.declared.elf.PageMask.{PageMask}
-use Rattle.linker_utils.specs.declared.elf.RelocationKind.TheVariants.{AbsoluteSet}
-use Rattle.linker_utils.specs.declared.elf.RelocationKind.TheVariants.{AbsoluteSetWord6}
-use Rattle.linker_utils.specs.declared.elf.RelocationKind.TheVariants.{AbsoluteAddition}
-use Rattle.linker_utils.specs.declared.elf.RelocationKind.TheVariants.{AbsoluteAdditionWord6}
-use Rattle.linker_utils.specs.declared.elf.RelocationKind.TheVariants.{AbsoluteSubtraction}
-use Rattle.linker_utils.specs.declared.elf.RelocationKind.TheVariants.{AbsoluteSubtractionWord6}
-use Rattle.linker_utils.specs.declared.elf.RelocationSize.TheVariants.{ByteSize}
-use Rattle.linker_utils.specs.declared.elf.value.Operands.{Operands}
-use Rattle.linker_utils.proofs.Agreement.{rem_rem}
+use Rattle.linker_elf.specs.Relocate.{number_of_bytes, SizeNumber}
+use Rattle.linker_elf.specs.Value.{value_of, sum_64, difference_64}
+use Rattle.linker_elf.specs.declared.elf.AllowedRange.{AllowedRange}
+use Rattle.linker_elf.specs.declared.elf.PageMask.{PageMask}
+use Rattle.linker_elf.specs.declared.elf.RelocationKind.TheVariants.{AbsoluteSet}
+use Rattle.linker_elf.specs.declared.elf.RelocationKind.TheVariants.{AbsoluteSetWord6}
+use Rattle.linker_elf.specs.declared.elf.RelocationKind.TheVariants.{AbsoluteAddition}
+use Rattle.linker_elf.specs.declared.elf.RelocationKind.TheVariants.{AbsoluteAdditionWord6}
+use Rattle.linker_elf.specs.declared.elf.RelocationKind.TheVariants.{AbsoluteSubtraction}
+use Rattle.linker_elf.specs.declared.elf.RelocationKind.TheVariants.{AbsoluteSubtractionWord6}
+use Rattle.linker_elf.specs.declared.elf.RelocationSize.TheVariants.{ByteSize}
+use Rattle.linker_elf.specs.declared.elf.value.Operands.{Operands}
+use Rattle.linker_elf.proofs.Agreement.{rem_rem}
 use Rattle.linker_utils.proofs.RiscVRewrites.{cast_negative}
-use Rattle.linker_utils.proofs.WrittenNumbers.{row_number}
+use Rattle.linker_elf.proofs.WrittenNumbers.{row_number}
 use Rattle.linker_base.proofs.Fields.{mod_mod}
 use Rattle.relocation_laws.specs.Differences.{distance}
 use Rattle.relocation_laws.specs.Schemes.{IsApplied, IsAddress, symbol_address}

@@ -5,19 +5,19 @@ use Rattle.std.proofs.Common.{unsigned_abs}
 use Rattle.std.specs.Int.{w64, cast_signed, int_rem_euclid}
 use Rattle.std.proofs.Math.Nat.{mod-eq_of_lt}
 use Rattle.linker_base.specs.Form.{Sign, number_of}
-use Rattle.linker_utils.specs.Agrees.{bits_from}
-use Rattle.linker_utils.specs.Elf.{IsWithin}
-use Rattle.linker_utils.specs.Reach.{reach_of}
-use Rattle.linker_utils.specs.Relocate.{number_of_bytes, whole_number, SizeNumber}
-use Rattle.linker_utils.specs.Value.{value_of}
-use Rattle.linker_utils.specs.declared.elf.AllowedRange.{AllowedRange}
-use Rattle.linker_utils.specs.declared.elf.PageMask.{PageMask}
-use Rattle.linker_utils.specs.declared.elf.RelocationKind.{RelocationKind}
-use Rattle.linker_utils.specs.declared.elf.RelocationKindInfo.{RelocationKindInfo}
-use Rattle.linker_utils.specs.declared.elf.RelocationSize.TheVariants.{ByteSize}
-use Rattle.linker_utils.specs.declared.elf.value.Operands.{Operands}
-use Rattle.linker_utils.proofs.Agreement.{number_agrees, reaches, from_zero, rem_below}
-use Rattle.linker_utils.proofs.WrittenNumbers.{row_number}
+use Rattle.linker_elf.specs.Agrees.{bits_from}
+use Rattle.linker_elf.specs.Elf.{IsWithin}
+use Rattle.linker_elf.specs.Reach.{reach_of}
+use Rattle.linker_elf.specs.Relocate.{number_of_bytes, whole_number, SizeNumber}
+use Rattle.linker_elf.specs.Value.{value_of}
+use Rattle.linker_elf.specs.declared.elf.AllowedRange.{AllowedRange}
+use Rattle.linker_elf.specs.declared.elf.PageMask.{PageMask}
+use Rattle.linker_elf.specs.declared.elf.RelocationKind.{RelocationKind}
+use Rattle.linker_elf.specs.declared.elf.RelocationKindInfo.{RelocationKindInfo}
+use Rattle.linker_elf.specs.declared.elf.RelocationSize.TheVariants.{ByteSize}
+use Rattle.linker_elf.specs.declared.elf.value.Operands.{Operands}
+use Rattle.linker_elf.proofs.Agreement.{number_agrees, reaches, from_zero, rem_below}
+use Rattle.linker_elf.proofs.WrittenNumbers.{row_number}
 use Rattle.relocation_laws.specs.Schemes.{IsApplied, IsAddress, AreAddresses}
 use Rattle.relocation_laws.proofs.Applied.{fits, value_is}
 use Rattle.relocation_laws.proofs.Instructions.{IsNumber}

@@ -11,20 +11,20 @@ use Rattle.std.proofs.Math.Nat.{mul-add-mod_self_right}
 use Rattle.linker_base.specs.Bits.{field}
 use Rattle.linker_base.specs.Form.{IsSameModulo}
 use Rattle.linker_base.specs.declared.bit_misc.BitRange.{BitRange}
-use Rattle.linker_utils.specs.AArch64.{aarch64_form, shift_of}
-use Rattle.linker_utils.specs.Agrees.{bits_from, AgreesInReach, IsSameIn, aarch64_reads}
-use Rattle.linker_utils.specs.Elf.{IsWithin}
-use Rattle.linker_utils.specs.Reach.{reach_of}
-use Rattle.linker_utils.specs.Relocate.{MoveReads}
-use Rattle.linker_utils.specs.Value.{value_of, sum_64}
-use Rattle.linker_utils.specs.declared.aarch64.forms.AArch64Instruction.TheVariants.{Movkz, Movnz}
-use Rattle.linker_utils.specs.declared.elf.AllowedRange.{AllowedRange}
-use Rattle.linker_utils.specs.declared.elf.PageMask.{PageMask}
-use Rattle.linker_utils.specs.declared.elf.RelocationInstruction.TheVariants.{AArch64}
-use Rattle.linker_utils.specs.declared.elf.RelocationKind.{RelocationKind}
-use Rattle.linker_utils.specs.declared.elf.RelocationKindInfo.{RelocationKindInfo}
-use Rattle.linker_utils.specs.declared.elf.value.Operands.{Operands}
-use Rattle.linker_utils.proofs.Taken.{taken_is_field}
+use Rattle.linker_elf.specs.AArch64.{aarch64_form, shift_of}
+use Rattle.linker_elf.specs.Agrees.{bits_from, AgreesInReach, IsSameIn, aarch64_reads}
+use Rattle.linker_elf.specs.Elf.{IsWithin}
+use Rattle.linker_elf.specs.Reach.{reach_of}
+use Rattle.linker_elf.specs.Relocate.{MoveReads}
+use Rattle.linker_elf.specs.Value.{value_of, sum_64}
+use Rattle.linker_elf.specs.declared.aarch64.forms.AArch64Instruction.TheVariants.{Movkz, Movnz}
+use Rattle.linker_elf.specs.declared.elf.AllowedRange.{AllowedRange}
+use Rattle.linker_elf.specs.declared.elf.PageMask.{PageMask}
+use Rattle.linker_elf.specs.declared.elf.RelocationInstruction.TheVariants.{AArch64}
+use Rattle.linker_elf.specs.declared.elf.RelocationKind.{RelocationKind}
+use Rattle.linker_elf.specs.declared.elf.RelocationKindInfo.{RelocationKindInfo}
+use Rattle.linker_elf.specs.declared.elf.value.Operands.{Operands}
+use Rattle.linker_elf.proofs.Taken.{taken_is_field}
 use Rattle.relocation_laws.specs.AArch64Laws.{movk, movz, movn_or_movz}
 use Rattle.relocation_laws.specs.Schemes.{IsApplied, IsAddress, AreAddresses, Premise, Holds}
 use Rattle.relocation_laws.specs.Schemes.{of_words, none, number_at}

@@ -8,20 +8,20 @@ use Rattle.std.proofs.Math.Arith.{mod-mul}
 use Rattle.linker_base.specs.Bits.{field}
 use Rattle.linker_base.specs.Form.{window_of, place_sum}
 use Rattle.linker_base.proofs.Immediates.{is_sound_layout, low_of, high_of, subst_below}
-use Rattle.linker_utils.specs.AArch64.{aarch64_form, aarch64_layout}
-use Rattle.linker_utils.specs.Elf.{IsWithin}
-use Rattle.linker_utils.specs.LoongArch.{page}
-use Rattle.linker_utils.specs.Reach.{reach_of}
-use Rattle.linker_utils.specs.Rows.{Bounds}
-use Rattle.linker_utils.specs.Value.{value_of, sum_64, difference_64}
-use Rattle.linker_utils.specs.declared.aarch64.forms.AArch64Instruction.{AArch64Instruction}
-use Rattle.linker_utils.specs.declared.aarch64.forms.AArch64Instruction.TheVariants.{Adr, Add}
-use Rattle.linker_utils.specs.declared.elf.AllowedRange.{AllowedRange}
-use Rattle.linker_utils.specs.declared.elf.PageMask.{PageMask}
-use Rattle.linker_utils.specs.declared.elf.RelocationInstruction.TheVariants.{AArch64}
-use Rattle.linker_utils.specs.declared.elf.RelocationKind.{RelocationKind}
-use Rattle.linker_utils.specs.declared.elf.RelocationKindInfo.{RelocationKindInfo}
-use Rattle.linker_utils.specs.declared.elf.value.Operands.{Operands}
+use Rattle.linker_elf.specs.AArch64.{aarch64_form, aarch64_layout}
+use Rattle.linker_elf.specs.Elf.{IsWithin}
+use Rattle.linker_elf.specs.LoongArch.{page}
+use Rattle.linker_elf.specs.Reach.{reach_of}
+use Rattle.linker_elf.specs.Rows.{Bounds}
+use Rattle.linker_elf.specs.Value.{value_of, sum_64, difference_64}
+use Rattle.linker_elf.specs.declared.aarch64.forms.AArch64Instruction.{AArch64Instruction}
+use Rattle.linker_elf.specs.declared.aarch64.forms.AArch64Instruction.TheVariants.{Adr, Add}
+use Rattle.linker_elf.specs.declared.elf.AllowedRange.{AllowedRange}
+use Rattle.linker_elf.specs.declared.elf.PageMask.{PageMask}
+use Rattle.linker_elf.specs.declared.elf.RelocationInstruction.TheVariants.{AArch64}
+use Rattle.linker_elf.specs.declared.elf.RelocationKind.{RelocationKind}
+use Rattle.linker_elf.specs.declared.elf.RelocationKindInfo.{RelocationKindInfo}
+use Rattle.linker_elf.specs.declared.elf.value.Operands.{Operands}
 use Rattle.relocation_laws.specs.AArch64Laws.{got_page}
 use Rattle.relocation_laws.specs.Schemes.{IsApplied, IsAddress, AreAddresses}
 use Rattle.relocation_laws.proofs.Instructions.{IsNumber, IsSmall, absolute, row_of, is_read}

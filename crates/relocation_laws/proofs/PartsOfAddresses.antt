@@ -11,26 +11,26 @@ use Rattle.linker_base.specs.Bits.{field, signed}
 use Rattle.linker_base.specs.Form.{window_of, place_sum, replaced}
 use Rattle.linker_base.proofs.ConsecutiveBits.{consecutive_bits_sum}
 use Rattle.linker_base.proofs.Pairs.{signed_cases}
-use Rattle.linker_utils.specs.Agrees.{bits_from}
-use Rattle.linker_utils.specs.Elf.{IsWithin, bit_bounds}
-use Rattle.linker_utils.specs.LoongArch.{loongarch_form, page, pcalau12i, high_distance}
-use Rattle.linker_utils.specs.LoongArch.{upper_and_lower_value, reach}
-use Rattle.linker_utils.specs.Value.{value_of, sum_64, difference_64}
-use Rattle.linker_utils.specs.declared.elf.AllowedRange.{AllowedRange}
-use Rattle.linker_utils.specs.declared.elf.PageMask.{PageMask}
-use Rattle.linker_utils.specs.declared.loongarch64.forms.LoongArch64Instruction.TheVariants.{Shift5, Shift10}
-use Rattle.linker_utils.specs.declared.loongarch64.forms.LoongArch64Instruction.TheVariants.{Call36}
-use Rattle.linker_utils.specs.declared.elf.RelocationInstruction.TheVariants.{LoongArch64}
-use Rattle.linker_utils.specs.declared.elf.RelocationKind.{RelocationKind}
-use Rattle.linker_utils.specs.declared.elf.Sign.TheVariants.{Signed}
-use Rattle.linker_utils.specs.declared.elf.value.Operands.{Operands}
-use Rattle.linker_utils.proofs.LoongArch.{shift5_places, shift10_low_sum, shift10_low_field}
-use Rattle.linker_utils.proofs.LoongArchAddresses.{page_and_distance, made, first_of_five}
-use Rattle.linker_utils.proofs.LoongArchAddresses.{high_of_five, five_from}
+use Rattle.linker_elf.specs.Agrees.{bits_from}
+use Rattle.linker_elf.specs.Elf.{IsWithin, bit_bounds}
+use Rattle.linker_elf.specs.LoongArch.{loongarch_form, page, pcalau12i, high_distance}
+use Rattle.linker_elf.specs.LoongArch.{upper_and_lower_value, reach}
+use Rattle.linker_elf.specs.Value.{value_of, sum_64, difference_64}
+use Rattle.linker_elf.specs.declared.elf.AllowedRange.{AllowedRange}
+use Rattle.linker_elf.specs.declared.elf.PageMask.{PageMask}
+use Rattle.linker_elf.specs.declared.loongarch64.forms.LoongArch64Instruction.TheVariants.{Shift5, Shift10}
+use Rattle.linker_elf.specs.declared.loongarch64.forms.LoongArch64Instruction.TheVariants.{Call36}
+use Rattle.linker_elf.specs.declared.elf.RelocationInstruction.TheVariants.{LoongArch64}
+use Rattle.linker_elf.specs.declared.elf.RelocationKind.{RelocationKind}
+use Rattle.linker_elf.specs.declared.elf.Sign.TheVariants.{Signed}
+use Rattle.linker_elf.specs.declared.elf.value.Operands.{Operands}
+use Rattle.linker_elf.proofs.LoongArch.{shift5_places, shift10_low_sum, shift10_low_field}
+use Rattle.linker_elf.proofs.LoongArchAddresses.{page_and_distance, made, first_of_five}
+use Rattle.linker_elf.proofs.LoongArchAddresses.{high_of_five, five_from}
 use Rattle.relocation_laws.specs.LoongArchLaws.{upper_and_or, four}
 use Rattle.relocation_laws.specs.Schemes.{IsApplied, IsAddress, AreAddresses, place}
 use Rattle.relocation_laws.proofs.Applied.{holds, value_is, taken_bits}
-use Rattle.linker_utils.proofs.Taken.{taken_below}
+use Rattle.linker_elf.proofs.Taken.{taken_below}
 use Rattle.relocation_laws.proofs.Halves.{IsRounded}
 use Rattle.relocation_laws.proofs.Instructions.{IsNumber, IsSmall, absolute, row_of}
 use Rattle.relocation_laws.proofs.Instructions.{reads_bits, field_sum, unbiased}

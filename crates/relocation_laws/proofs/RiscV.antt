@@ -6,18 +6,18 @@ use Rattle.std.specs.Int.{w64, cast_signed, int_rem_euclid}
 use Rattle.std.proofs.lemmas.Int.{ints, int_rem_euclid_is}
 use Rattle.linker_base.specs.Form.{window_of}
 use Rattle.linker_base.specs.declared.bit_misc.BitRange.{BitRange}
-use Rattle.linker_utils.specs.Elf.{IsWithin}
-use Rattle.linker_utils.specs.Relocate.{IsCompletedBy, RiscVHolds, SizeHolds, InstructionWritten}
-use Rattle.linker_utils.specs.RiscV.{riscv_form}
-use Rattle.linker_utils.specs.Value.{value_of}
-use Rattle.linker_utils.specs.declared.elf.AllowedRange.{AllowedRange}
-use Rattle.linker_utils.specs.declared.elf.PageMask.{PageMask}
-use Rattle.linker_utils.specs.declared.elf.RelocationInstruction.TheVariants.{RiscV}
-use Rattle.linker_utils.specs.declared.elf.RelocationKind.{RelocationKind}
-use Rattle.linker_utils.specs.declared.elf.RelocationSize.TheVariants.{BitMasking}
-use Rattle.linker_utils.specs.declared.riscv64.forms.RiscVInstruction.{RiscVInstruction}
-use Rattle.linker_utils.specs.declared.riscv64.forms.RiscVInstruction.TheVariants.{UiType}
-use Rattle.linker_utils.specs.declared.elf.value.Operands.{Operands}
+use Rattle.linker_elf.specs.Elf.{IsWithin}
+use Rattle.linker_elf.specs.Relocate.{IsCompletedBy, RiscVHolds, SizeHolds, InstructionWritten}
+use Rattle.linker_elf.specs.RiscV.{riscv_form}
+use Rattle.linker_elf.specs.Value.{value_of}
+use Rattle.linker_elf.specs.declared.elf.AllowedRange.{AllowedRange}
+use Rattle.linker_elf.specs.declared.elf.PageMask.{PageMask}
+use Rattle.linker_elf.specs.declared.elf.RelocationInstruction.TheVariants.{RiscV}
+use Rattle.linker_elf.specs.declared.elf.RelocationKind.{RelocationKind}
+use Rattle.linker_elf.specs.declared.elf.RelocationSize.TheVariants.{BitMasking}
+use Rattle.linker_elf.specs.declared.riscv64.forms.RiscVInstruction.{RiscVInstruction}
+use Rattle.linker_elf.specs.declared.riscv64.forms.RiscVInstruction.TheVariants.{UiType}
+use Rattle.linker_elf.specs.declared.elf.value.Operands.{Operands}
 use Rattle.relocation_laws.specs.RiscVLaws.{without_bit_0, even}
 use Rattle.relocation_laws.specs.Schemes.{IsApplied, IsAddress, AreAddresses, place}
 use Rattle.relocation_laws.proofs.Applied.{value_is, holds}

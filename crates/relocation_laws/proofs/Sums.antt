@@ -9,10 +9,10 @@ use Rattle.std.proofs.lemmas.Nat.{mod_below, pow_pos, div-add-mod'}
 use Rattle.std.proofs.Math.Facts.{sfits_to_z}
 use Rattle.linker_base.specs.Bits.{signed}
 use Rattle.linker_base.proofs.Pairs.{signed_cases}
-use Rattle.linker_utils.specs.Agrees.{bits_from}
-use Rattle.linker_utils.specs.LoongArch.{page}
-use Rattle.linker_utils.specs.Value.{sum_64, difference_64}
-use Rattle.linker_utils.proofs.Agreement.{rem_rem}
+use Rattle.linker_elf.specs.Agrees.{bits_from}
+use Rattle.linker_elf.specs.LoongArch.{page}
+use Rattle.linker_elf.specs.Value.{sum_64, difference_64}
+use Rattle.linker_elf.proofs.Agreement.{rem_rem}
 use Rattle.linker_utils.proofs.RiscVRewrites.{cast_negative}
 use Rattle.relocation_laws.specs.Schemes.{IsAddress}
 

@@ -2,10 +2,10 @@
 -- "Relocation Types", ADD, SUB and SET; LoongArch ELF psABI, "Relocation Types", ADD and SUB).
 use Rattle.std.specs.Prelude.{◌≡◌, ℕ, ◌*◌, ◌%◌, ◌^◌, List, Option, IsSomeAnd}
 use Rattle.linker_base.specs.Bits.{field}
-use Rattle.linker_utils.specs.Relocate.{number_of_bytes}
-use Rattle.linker_utils.specs.Value.{sum_64, difference_64}
-use Rattle.linker_utils.specs.declared.elf.RelocationKindInfo.{RelocationKindInfo}
-use Rattle.linker_utils.specs.declared.elf.value.Operands.{Operands}
+use Rattle.linker_elf.specs.Relocate.{number_of_bytes}
+use Rattle.linker_elf.specs.Value.{sum_64, difference_64}
+use Rattle.linker_elf.specs.declared.elf.RelocationKindInfo.{RelocationKindInfo}
+use Rattle.linker_elf.specs.declared.elf.value.Operands.{Operands}
 use Rattle.relocation_laws.specs.Schemes.{IsApplied, symbol_address}
 
 -- S + A of the first, less that of the second

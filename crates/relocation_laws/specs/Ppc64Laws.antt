@@ -2,18 +2,18 @@
 -- Power ISA, version 3.1, book I).
 use Rattle.std.specs.Prelude.{ℕ, [], ◌∷◌, ℤ, pos, ◌+ℤ◌, ◌*ℤ◌, ◌^◌}
 use Rattle.linker_base.specs.Bits.{field}
-use Rattle.linker_utils.specs.Ppc64.{ppc64_form}
-use Rattle.linker_utils.specs.Ppc64Relocations.{ppc64_row}
-use Rattle.linker_utils.specs.Relocate.{ppc64_reads}
-use Rattle.linker_utils.specs.declared.ppc64.forms.Ppc64Instruction.{Ppc64Instruction}
-use Rattle.linker_utils.specs.declared.ppc64.forms.Ppc64Instruction.TheVariants.{D, Ds, Branch14}
-use Rattle.linker_utils.specs.declared.ppc64.forms.Ppc64Instruction.TheVariants.{Branch24}
-use Rattle.linker_utils.specs.declared.ppc64.forms.Ppc64Instruction.TheVariants.{Prefixed}
-use Rattle.linker_utils.specs.declared.elf.value.Operands.{Operands}
-use Rattle.linker_utils.specs.declared.ppc64.relocations.Ppc64Relocation.{Ppc64Relocation}
-use Rattle.linker_utils.specs.declared.ppc64.relocations.Ppc64Relocation.TheVariants as names
+use Rattle.linker_elf.specs.Ppc64.{ppc64_form}
+use Rattle.linker_elf.specs.Ppc64Relocations.{ppc64_row}
+use Rattle.linker_elf.specs.Relocate.{ppc64_reads}
+use Rattle.linker_elf.specs.declared.ppc64.forms.Ppc64Instruction.{Ppc64Instruction}
+use Rattle.linker_elf.specs.declared.ppc64.forms.Ppc64Instruction.TheVariants.{D, Ds, Branch14}
+use Rattle.linker_elf.specs.declared.ppc64.forms.Ppc64Instruction.TheVariants.{Branch24}
+use Rattle.linker_elf.specs.declared.ppc64.forms.Ppc64Instruction.TheVariants.{Prefixed}
+use Rattle.linker_elf.specs.declared.elf.value.Operands.{Operands}
+use Rattle.linker_elf.specs.declared.ppc64.relocations.Ppc64Relocation.{Ppc64Relocation}
+use Rattle.linker_elf.specs.declared.ppc64.relocations.Ppc64Relocation.TheVariants as names
 use Rattle.relocation_laws.specs.Schemes.{HoldsDistance, without_low, here, anywhere, moved_on, Law}
-use Rattle.relocation_laws.specs.Schemes.{Adds, symbol_address}
+use Rattle.relocation_laws.specs.Schemes.{Adds, symbol_address, plt_address}
 use Rattle.relocation_laws.specs.Schemes.{entry_address, zero, place, got_base, tls_base}
 
 -- ---- halves ("addis", "addi", "ori"; ABI, "@ha", "@hi" and "@l")
@@ -58,6 +58,12 @@ EntryAddresses =
     × Unadjusted got_base names.R_PPC64_GOT_TLSGD16_HI names.R_PPC64_GOT_TLSGD16_LO entry_address
     × Unadjusted got_base names.R_PPC64_GOT_TLSLD16_HI names.R_PPC64_GOT_TLSLD16_LO entry_address
 
+-- the GOT entry of a symbol's address, and the doubleword of the PLT
+abbrev pub GotAddresses : Type 0
+GotAddresses =
+    Adjusted got_base names.R_PPC64_GOT16_HA names.R_PPC64_GOT16_LO_DS Ds entry_address
+    × Adjusted got_base names.R_PPC64_PLT16_HA names.R_PPC64_PLT16_LO_DS Ds plt_address
+
 -- `addis` alone. No relocation of its low half is among the rows.
 abbrev pub HighParts : Type 0
 HighParts =
@@ -95,6 +101,11 @@ abbrev pub Prefixes : Type 0
 Prefixes =
     Single names.R_PPC64_PCREL34 place Prefixed symbol_address
     × Single names.R_PPC64_GOT_PCREL34 place Prefixed entry_address
+    × Single names.R_PPC64_GOT_TLSGD_PCREL34 place Prefixed entry_address
+    × Single names.R_PPC64_GOT_TLSLD_PCREL34 place Prefixed entry_address
+    × Single names.R_PPC64_GOT_TPREL_PCREL34 place Prefixed entry_address
+    × Single names.R_PPC64_TPREL34 tls_base Prefixed symbol_address
+    × Single names.R_PPC64_DTPREL34 tls_base Prefixed symbol_address
 
 abbrev pub Displacements : Type 0
 Displacements =

@@ -3,14 +3,14 @@ use Rattle.std.specs.Prelude.{◌≡◌, ℕ, ◌^◌, ◌<◌, List, [], ◌∷
 use Rattle.std.specs.Prelude.{◌+ℤ◌, ◌*ℤ◌, ◌+◌, ◌*◌, ◌%◌, ⊤, Bool, IsTrue}
 use Rattle.std.specs.Int.{w64, cast_unsigned, int_rem_euclid}
 use Rattle.linker_base.specs.Form.{window_of}
-use Rattle.linker_utils.specs.Elf.{IsWithin, bit_bounds, relocation_form}
-use Rattle.linker_utils.specs.Relocate.{IsAccepted, IsWritten, number_of_bytes}
-use Rattle.linker_utils.specs.Value.{value_of, sum_64, difference_64}
-use Rattle.linker_utils.specs.declared.elf.RelocationKindInfo.{RelocationKindInfo}
-use Rattle.linker_utils.specs.declared.elf.RelocationSize.{RelocationSize}
-use Rattle.linker_utils.specs.declared.elf.RelocationSize.TheVariants.{ByteSize, BitMasking}
-use Rattle.linker_utils.specs.declared.elf.Sign.{Sign}
-use Rattle.linker_utils.specs.declared.elf.value.Operands.{Operands}
+use Rattle.linker_elf.specs.Elf.{IsWithin, bit_bounds, relocation_form}
+use Rattle.linker_elf.specs.Relocate.{IsAccepted, IsWritten, number_of_bytes}
+use Rattle.linker_elf.specs.Value.{value_of, sum_64, difference_64}
+use Rattle.linker_elf.specs.declared.elf.RelocationKindInfo.{RelocationKindInfo}
+use Rattle.linker_elf.specs.declared.elf.RelocationSize.{RelocationSize}
+use Rattle.linker_elf.specs.declared.elf.RelocationSize.TheVariants.{ByteSize, BitMasking}
+use Rattle.linker_elf.specs.declared.elf.Sign.{Sign}
+use Rattle.linker_elf.specs.declared.elf.value.Operands.{Operands}
 
 -- The relocation has a value, which is written.
 pub record IsApplied (row : RelocationKindInfo) (o : Operands)

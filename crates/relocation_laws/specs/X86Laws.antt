@@ -4,11 +4,11 @@
 -- addend that is less by the bytes from the field to there.
 use Rattle.std.specs.Prelude.{ℕ, pos}
 use Rattle.linker_base.specs.Bits.{signed}
-use Rattle.linker_utils.specs.X86Relocations.{x86_64_row}
-use Rattle.linker_utils.specs.declared.elf.Sign.TheVariants as signs
-use Rattle.linker_utils.specs.declared.elf.value.Operands.{Operands}
-use Rattle.linker_utils.specs.declared.x86_64.relocations.X86_64Relocation.{X86_64Relocation}
-use Rattle.linker_utils.specs.declared.x86_64.relocations.X86_64Relocation.TheVariants as names
+use Rattle.linker_elf.specs.X86Relocations.{x86_64_row}
+use Rattle.linker_elf.specs.declared.elf.Sign.TheVariants as signs
+use Rattle.linker_elf.specs.declared.elf.value.Operands.{Operands}
+use Rattle.linker_elf.specs.declared.x86_64.relocations.X86_64Relocation.{X86_64Relocation}
+use Rattle.linker_elf.specs.declared.x86_64.relocations.X86_64Relocation.TheVariants as names
 use Rattle.relocation_laws.specs.Schemes.{Step, here, of_bits, Adds, symbol_address, plt_address}
 use Rattle.relocation_laws.specs.Schemes.{entry_and_addend, size_and_addend, zero, place, got_base}
 use Rattle.relocation_laws.specs.Schemes.{tls_base}

@@ -76,6 +76,7 @@ pub fn ppc64()
     ensures relative { ppc64_laws.RelativeAddresses }
     ensures toc { ppc64_laws.TocAddresses }
     ensures entries { ppc64_laws.EntryAddresses }
+    ensures got { ppc64_laws.GotAddresses }
     ensures high_parts { ppc64_laws.HighParts }
     ensures thread { ppc64_laws.ThreadAddresses }
     ensures branches { ppc64_laws.Branches }

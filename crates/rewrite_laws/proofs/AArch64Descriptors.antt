@@ -4,11 +4,12 @@ use Rattle.std.proofs.Common.{List, [], ◌∷◌, eqb, cond, pos, ◌+ℤ◌, S
 use Rattle.std.specs.Prelude.{IsSomeAnd, ◌||◌}
 use Rattle.std.proofs.lemmas.Bool.{ne_eqb, cond-true, cond-false, or_parts}
 use Rattle.std.proofs.lemmas.Bool.Decides.{eqb_tells}
-use Rattle.linker_utils.specs.AArch64.{aarch64_form, rd_of, rn_of}
+use Rattle.linker_elf.specs.AArch64.{aarch64_form}
+use Rattle.linker_utils.specs.AArch64Rewrites.{rd_of, rn_of}
 use Rattle.linker_utils.specs.AArch64Originals.{IsAdrp, IsLdr64}
-use Rattle.linker_utils.specs.Value.{sum_64}
-use Rattle.linker_utils.specs.declared.aarch64.forms.AArch64Instruction.TheVariants.{Add}
-use Rattle.linker_utils.specs.declared.elf.value.Operands.{Operands}
+use Rattle.linker_elf.specs.Value.{sum_64}
+use Rattle.linker_elf.specs.declared.aarch64.forms.AArch64Instruction.TheVariants.{Add}
+use Rattle.linker_elf.specs.declared.elf.value.Operands.{Operands}
 use Rattle.relocation_laws.specs.AArch64Laws as relocation_laws
 use Rattle.relocation_laws.specs.Schemes.{AreAddresses}
 use Rattle.rewrite_laws.specs.AArch64Laws.{word_of, four, Descriptor, DescriptorOf}

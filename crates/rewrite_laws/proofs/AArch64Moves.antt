@@ -5,11 +5,12 @@ use Rattle.std.specs.Prelude.{◌&&◌}
 use Rattle.std.specs.Int.{bit_at, int_rem_euclid}
 use Rattle.std.proofs.lemmas.Bool.{eq-eqb, ne_eqb, cond-false}
 use Rattle.std.proofs.lemmas.Int.{ints, int_rem_euclid_is}
-use Rattle.linker_utils.specs.AArch64.{aarch64_form, rd_of, shift_of}
-use Rattle.linker_utils.specs.Value.{sum_64, difference_64}
-use Rattle.linker_utils.specs.declared.aarch64.forms.AArch64Instruction.TheVariants.{Movkz}
-use Rattle.linker_utils.specs.declared.aarch64.relocations.AArch64Relocation.TheVariants as names
-use Rattle.linker_utils.specs.declared.elf.value.Operands.{Operands}
+use Rattle.linker_elf.specs.AArch64.{aarch64_form, shift_of}
+use Rattle.linker_utils.specs.AArch64Rewrites.{rd_of}
+use Rattle.linker_elf.specs.Value.{sum_64, difference_64}
+use Rattle.linker_elf.specs.declared.aarch64.forms.AArch64Instruction.TheVariants.{Movkz}
+use Rattle.linker_elf.specs.declared.aarch64.relocations.AArch64Relocation.TheVariants as names
+use Rattle.linker_elf.specs.declared.elf.value.Operands.{Operands}
 use Rattle.relocation_laws.specs.AArch64Laws.{movk, movn_or_movz}
 use Rattle.relocation_laws.specs.AArch64Laws as relocation_laws
 use Rattle.relocation_laws.specs.Schemes.{IsAddress, AreAddresses, symbol_address}
@@ -63,7 +64,7 @@ movk_in_register v word =
     ∙ sym (movk_lifted v l.times n l.is word k.times m k.is)
 
 -- what leads from p to s
-distance_is : (v : ℤ) (p s : ℕ) → p < 2 ^ 64 → s < 2 ^ 64 → IsAddress (pos p +ℤ v) s
+pub distance_is : (v : ℤ) (p s : ℕ) → p < 2 ^ 64 → s < 2 ^ 64 → IsAddress (pos p +ℤ v) s
     → in_64_bits v ≡ difference_64 s p
 distance_is v p s small below leads =
     let l = lift v in

@@ -3,10 +3,11 @@ use Rattle.std.proofs.Common.{◌≡◌, ◌≢◌, ℕ, ◌^◌, ◌<◌, sym, 
 use Rattle.std.proofs.Common.{take, drop, [], ◌∷◌, ◌+◌, ◌*◌, refl, arith}
 use Rattle.std.specs.Int.{w32, from_le_bytes, to_le_bytes, w64}
 use Rattle.std.proofs.lemmas.Nat.{from_le_bytes-to_le_bytes_4}
-use Rattle.linker_utils.specs.AArch64.{aarch64_form, nop, rn_of}
-use Rattle.linker_utils.specs.LoongArch.{page}
-use Rattle.linker_utils.specs.declared.aarch64.forms.AArch64Instruction.TheVariants.{Adr, Add, LdSt}
-use Rattle.linker_utils.specs.declared.elf.value.Operands.{Operands}
+use Rattle.linker_elf.specs.AArch64.{aarch64_form}
+use Rattle.linker_utils.specs.AArch64Rewrites.{nop, rn_of}
+use Rattle.linker_elf.specs.LoongArch.{page}
+use Rattle.linker_elf.specs.declared.aarch64.forms.AArch64Instruction.TheVariants.{Adr, Add, LdSt}
+use Rattle.linker_elf.specs.declared.elf.value.Operands.{Operands}
 use Rattle.relocation_laws.specs.AArch64Laws.{page_and_offset}
 use Rattle.relocation_laws.specs.Schemes.{IsAddress}
 use Rattle.relocation_laws.proofs.Sums.{once}

@@ -5,8 +5,9 @@ use Rattle.std.proofs.Common.{None, unsigned_abs}
 use Rattle.std.specs.Prelude.{IsSomeAnd}
 use Rattle.std.proofs.lemmas.Bool.{eq-eqb, ne_eqb, cond-true, cond-false}
 use Rattle.std.proofs.lemmas.Int.{ints}
-use Rattle.linker_utils.specs.AArch64.{rd_of, rn_of, aarch64_form}
-use Rattle.linker_utils.specs.declared.aarch64.forms.AArch64Instruction.TheVariants.{LdSt}
+use Rattle.linker_utils.specs.AArch64Rewrites.{rd_of, rn_of}
+use Rattle.linker_elf.specs.AArch64.{aarch64_form}
+use Rattle.linker_elf.specs.declared.aarch64.forms.AArch64Instruction.TheVariants.{LdSt}
 use Rattle.relocation_laws.specs.Schemes.{IsAddress}
 use Rattle.relocation_laws.proofs.Sums.{lift, lifted_is}
 use Rattle.rewrite_laws.specs.AArch64Machine.{State, step, run, decode, in_64_bits, write_x}

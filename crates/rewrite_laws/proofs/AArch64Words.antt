@@ -11,19 +11,20 @@ use Rattle.linker_base.specs.Bits.{field}
 use Rattle.linker_base.specs.Form.{ImmediateBit, is_placed, BitsWritten, or_bits_to}
 use Rattle.linker_base.specs.declared.bit_misc.BitRange.{BitRange}
 use Rattle.linker_base.proofs.Fields.{same_fields, bit_at_run}
-use Rattle.linker_utils.specs.AArch64.{rd_of, rn_of, movn_opcode, movz_opcode, movk_opcode}
-use Rattle.linker_utils.specs.AArch64.{imm16_places, move_opcode, moved_bits, shift_of}
+use Rattle.linker_utils.specs.AArch64Rewrites.{rd_of, rn_of}
+use Rattle.linker_elf.specs.AArch64.{movn_opcode, movz_opcode, movk_opcode}
+use Rattle.linker_elf.specs.AArch64.{imm16_places, move_opcode, moved_bits, shift_of}
 use Rattle.linker_utils.specs.AArch64Originals.{IsAdrp, IsLdr64}
-use Rattle.linker_utils.specs.Inner.Runs.{words_below}
-use Rattle.linker_utils.specs.Relocate.{InstructionWritten, ored_cleared, bits_taken}
-use Rattle.linker_utils.specs.Relocate.{with_bit_31_if}
-use Rattle.linker_utils.specs.declared.aarch64.forms.AArch64Instruction.TheVariants.{Adr, Add, LdSt}
-use Rattle.linker_utils.specs.declared.aarch64.forms.AArch64Instruction.TheVariants.{LdrRegister}
-use Rattle.linker_utils.specs.declared.aarch64.forms.AArch64Instruction.TheVariants.{Movnz, Movkz}
-use Rattle.linker_utils.specs.declared.aarch64.forms.AArch64Instruction.TheVariants.{JumpCall}
-use Rattle.linker_utils.specs.declared.elf.RelocationInstruction.TheVariants.{AArch64}
-use Rattle.linker_utils.proofs.AArch64Forms.{high_kept}
-use Rattle.linker_utils.proofs.Clearing.{same_window}
+use Rattle.linker_elf.specs.Inner.Runs.{words_below}
+use Rattle.linker_elf.specs.Relocate.{InstructionWritten, ored_cleared, bits_taken}
+use Rattle.linker_elf.specs.Relocate.{with_bit_31_if}
+use Rattle.linker_elf.specs.declared.aarch64.forms.AArch64Instruction.TheVariants.{Adr, Add, LdSt}
+use Rattle.linker_elf.specs.declared.aarch64.forms.AArch64Instruction.TheVariants.{LdrRegister}
+use Rattle.linker_elf.specs.declared.aarch64.forms.AArch64Instruction.TheVariants.{Movnz, Movkz}
+use Rattle.linker_elf.specs.declared.aarch64.forms.AArch64Instruction.TheVariants.{JumpCall}
+use Rattle.linker_elf.specs.declared.elf.RelocationInstruction.TheVariants.{AArch64}
+use Rattle.linker_elf.proofs.AArch64Forms.{high_kept}
+use Rattle.linker_elf.proofs.Clearing.{same_window}
 use Rattle.rewrite_laws.specs.AArch64Machine.{decode, is_adr, adrp, adr, add, ldr, Instruction}
 use Rattle.rewrite_laws.specs.AArch64Machine.{movn_or_movz, movk_64, blr, bl, b}
 

@@ -8,15 +8,16 @@ use Rattle.std.proofs.lemmas.Bool.{agree_below}
 use Rattle.std.proofs.lemmas.List.{length-drop}
 use Rattle.linker_base.specs.Bits.{field}
 use Rattle.linker_base.specs.Form.{is_placed}
-use Rattle.linker_utils.specs.RiscV.{riscv_form, riscv_places, IsCallPair}
+use Rattle.linker_elf.specs.RiscV.{riscv_form, riscv_places}
+use Rattle.linker_utils.specs.RiscVCalls.{IsCallPair}
 use Rattle.linker_utils.specs.RiscVOriginals.{opcode_of, funct3_of, rd_of}
-use Rattle.linker_utils.specs.RiscVRelocations.{pair_row, jump_row}
-use Rattle.linker_utils.specs.Value.{sum_64}
-use Rattle.linker_utils.specs.declared.elf.RelocationKind.TheVariants.{PltRelative}
-use Rattle.linker_utils.specs.declared.elf.value.Operands.{Operands}
-use Rattle.linker_utils.specs.declared.riscv64.forms.RiscVInstruction.TheVariants.{UType, IType}
-use Rattle.linker_utils.specs.declared.riscv64.forms.RiscVInstruction.TheVariants.{JType, CjType}
-use Rattle.linker_utils.specs.declared.riscv64.forms.RiscVInstruction.TheVariants.{UiType, CluiType}
+use Rattle.linker_elf.specs.RiscVRelocations.{pair_row, jump_row}
+use Rattle.linker_elf.specs.Value.{sum_64}
+use Rattle.linker_elf.specs.declared.elf.RelocationKind.TheVariants.{PltRelative}
+use Rattle.linker_elf.specs.declared.elf.value.Operands.{Operands}
+use Rattle.linker_elf.specs.declared.riscv64.forms.RiscVInstruction.TheVariants.{UType, IType}
+use Rattle.linker_elf.specs.declared.riscv64.forms.RiscVInstruction.TheVariants.{JType, CjType}
+use Rattle.linker_elf.specs.declared.riscv64.forms.RiscVInstruction.TheVariants.{UiType, CluiType}
 use Rattle.relocation_laws.specs.RiscVLaws.{even}
 use Rattle.relocation_laws.specs.Schemes.{IsApplied, AreAddresses, plt_address, symbol_address}
 use Rattle.relocation_laws.proofs.Instructions.{adds, plt_from_place, symbol_from_place}

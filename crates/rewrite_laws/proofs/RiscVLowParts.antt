@@ -15,18 +15,20 @@ use Rattle.linker_base.specs.Rewrite.{rewritten, replaces}
 use Rattle.linker_base.specs.declared.bit_misc.BitRange.{BitRange}
 use Rattle.linker_base.proofs.Immediates.{layout_laid, always_clear}
 use Rattle.linker_base.proofs.Pairs.{signed_cases}
-use Rattle.linker_utils.specs.Relocate.{bits_taken}
-use Rattle.linker_utils.specs.RiscV.{riscv_form, riscv_layout, riscv_places, rs1_to_zero, word_at}
+use Rattle.linker_elf.specs.Relocate.{bits_taken}
+use Rattle.linker_elf.specs.RiscV.{riscv_form, riscv_layout, riscv_places}
+use Rattle.linker_utils.specs.RiscVRewrites.{rs1_to_zero}
+use Rattle.linker_utils.specs.RiscVCalls.{word_at}
 use Rattle.linker_utils.specs.RiscVOriginals.{opcode_of, funct3_of, rd_of, adds_low12}
-use Rattle.linker_utils.specs.RiscVRelocations.{pair_row, riscv_row}
-use Rattle.linker_utils.specs.declared.elf.RelocationKindInfo.{RelocationKindInfo}
-use Rattle.linker_utils.specs.declared.riscv64.relocations.RiscVRelocation.TheVariants as names
+use Rattle.linker_elf.specs.RiscVRelocations.{pair_row, riscv_row}
+use Rattle.linker_elf.specs.declared.elf.RelocationKindInfo.{RelocationKindInfo}
+use Rattle.linker_elf.specs.declared.riscv64.relocations.RiscVRelocation.TheVariants as names
 use Rattle.linker_utils.specs.declared.riscv64.rewrites.RelaxationKind.TheVariants as kinds
-use Rattle.linker_utils.specs.Value.{sum_64}
-use Rattle.linker_utils.specs.declared.elf.RelocationKind.TheVariants.{Absolute}
-use Rattle.linker_utils.specs.declared.elf.value.Operands.{Operands}
-use Rattle.linker_utils.specs.declared.riscv64.forms.RiscVInstruction.TheVariants.{UType, IType}
-use Rattle.linker_utils.specs.declared.riscv64.forms.RiscVInstruction.TheVariants.{SType, JType}
+use Rattle.linker_elf.specs.Value.{sum_64}
+use Rattle.linker_elf.specs.declared.elf.RelocationKind.TheVariants.{Absolute}
+use Rattle.linker_elf.specs.declared.elf.value.Operands.{Operands}
+use Rattle.linker_elf.specs.declared.riscv64.forms.RiscVInstruction.TheVariants.{UType, IType}
+use Rattle.linker_elf.specs.declared.riscv64.forms.RiscVInstruction.TheVariants.{SType, JType}
 use Rattle.linker_utils.proofs.Jumps.{word_of_front}
 use Rattle.relocation_laws.specs.RiscVLaws.{even}
 use Rattle.relocation_laws.specs.Schemes.{IsApplied, symbol_address}

@@ -5,16 +5,18 @@ use Rattle.std.proofs.Common.{Some, w64, subst}
 use Rattle.std.specs.Int.{cast_signed, w16, w32, from_le_bytes}
 use Rattle.linker_base.specs.Bits.{field, signed}
 use Rattle.linker_base.specs.Form.{place_sum}
-use Rattle.linker_utils.specs.RiscV.{hi20_to_clui, word_at, riscv_places}
+use Rattle.linker_utils.specs.RiscVRewrites.{hi20_to_clui}
+use Rattle.linker_utils.specs.RiscVCalls.{word_at}
+use Rattle.linker_elf.specs.RiscV.{riscv_places}
 use Rattle.linker_utils.specs.RiscVOriginals.{rd_of}
-use Rattle.linker_utils.specs.declared.riscv64.forms.RiscVInstruction.TheVariants.{UType, CluiType}
+use Rattle.linker_elf.specs.declared.riscv64.forms.RiscVInstruction.TheVariants.{UType, CluiType}
 use Rattle.linker_utils.specs.declared.riscv64.rewrites.RelaxationKind.TheVariants as kinds
 use Rattle.linker_utils.proofs.RiscVRewrites.{half_of_front}
 use Rattle.relocation_laws.specs.Schemes.{symbol_address}
 use Rattle.relocation_laws.proofs.Sums.{sum_below}
 use Rattle.rewrite_laws.specs.Machine.{deleted, wrapped}
 use Rattle.linker_utils.specs.Choices.{low_12_bounds}
-use Rattle.linker_utils.specs.Elf.{IsWithin}
+use Rattle.linker_elf.specs.Elf.{IsWithin}
 use Rattle.rewrite_laws.proofs.RiscVHighParts.{high_20}
 use Rattle.rewrite_laws.specs.RiscVLaws.{IsLow12, after_rewrite, LuiBecomesClui, LuiIsDeleted}
 use Rattle.rewrite_laws.specs.RiscVMachine.{register, with_integer}

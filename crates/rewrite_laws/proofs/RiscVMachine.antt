@@ -11,12 +11,12 @@ use Rattle.std.proofs.lemmas.Int.{ints}
 use Rattle.linker_base.specs.Bits.{field, signed}
 use Rattle.linker_base.specs.Form.{place_sum, replaced}
 use Rattle.linker_base.proofs.ConsecutiveBits.{consecutive_bits_sum}
-use Rattle.linker_utils.specs.RiscV.{riscv_form, riscv_places, ui_high, ui_low}
+use Rattle.linker_elf.specs.RiscV.{riscv_form, riscv_places, ui_high, ui_low}
 use Rattle.linker_utils.specs.RiscVOriginals.{opcode_of, funct3_of, rd_of}
-use Rattle.linker_utils.specs.Value.{sum_64, difference_64}
-use Rattle.linker_utils.specs.declared.riscv64.forms.RiscVInstruction.TheVariants.{UType, IType}
-use Rattle.linker_utils.specs.declared.riscv64.forms.RiscVInstruction.TheVariants.{JType}
-use Rattle.linker_utils.specs.declared.riscv64.forms.RiscVInstruction.TheVariants.{UiType}
+use Rattle.linker_elf.specs.Value.{sum_64, difference_64}
+use Rattle.linker_elf.specs.declared.riscv64.forms.RiscVInstruction.TheVariants.{UType, IType}
+use Rattle.linker_elf.specs.declared.riscv64.forms.RiscVInstruction.TheVariants.{JType}
+use Rattle.linker_elf.specs.declared.riscv64.forms.RiscVInstruction.TheVariants.{UiType}
 use Rattle.relocation_laws.specs.Schemes.{IsAddress}
 use Rattle.relocation_laws.specs.RiscVLaws.{without_bit_0}
 use Rattle.relocation_laws.proofs.RiscV.{bit_cleared}

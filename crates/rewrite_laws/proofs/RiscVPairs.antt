@@ -8,9 +8,10 @@ use Rattle.std.specs.Int.{w16, w32, from_le_bytes}
 use Rattle.std.proofs.lemmas.Bool.{le-leb}
 use Rattle.std.proofs.lemmas.List.{drop_at, length-take, length-append}
 use Rattle.linker_base.specs.Bits.{field}
-use Rattle.linker_utils.specs.RiscV.{rs1_to_zero, word_at}
+use Rattle.linker_utils.specs.RiscVRewrites.{rs1_to_zero}
+use Rattle.linker_utils.specs.RiscVCalls.{word_at}
 use Rattle.linker_utils.specs.RiscVOriginals.{opcode_of, funct3_of, rd_of}
-use Rattle.linker_utils.specs.Value.{sum_64, difference_64}
+use Rattle.linker_elf.specs.Value.{sum_64, difference_64}
 use Rattle.linker_utils.specs.declared.riscv64.rewrites.RelaxationKind.TheVariants as kinds
 use Rattle.relocation_laws.specs.RiscVLaws.{even}
 use Rattle.relocation_laws.specs.Schemes.{symbol_address}

@@ -11,10 +11,10 @@ use Rattle.linker_base.specs.Form.{window_of, is_placed}
 use Rattle.linker_base.specs.Rewrite.{rewritten, replaces}
 use Rattle.linker_base.specs.declared.bit_misc.BitRange.{BitRange}
 use Rattle.linker_base.proofs.Fields.{same_fields}
-use Rattle.linker_utils.specs.Relocate.{InstructionWritten}
-use Rattle.linker_utils.specs.RiscV.{riscv_form}
-use Rattle.linker_utils.specs.declared.elf.RelocationInstruction.TheVariants.{RiscV}
-use Rattle.linker_utils.specs.declared.riscv64.forms.RiscVInstruction.{RiscVInstruction}
+use Rattle.linker_elf.specs.Relocate.{InstructionWritten}
+use Rattle.linker_elf.specs.RiscV.{riscv_form}
+use Rattle.linker_elf.specs.declared.elf.RelocationInstruction.TheVariants.{RiscV}
+use Rattle.linker_elf.specs.declared.riscv64.forms.RiscVInstruction.{RiscVInstruction}
 use Rattle.rewrite_laws.specs.Machine.{AreBytes, deleted}
 
 -- ---- words

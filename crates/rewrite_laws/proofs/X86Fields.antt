@@ -6,12 +6,12 @@ use Rattle.std.proofs.lemmas.Int.{ints}
 use Rattle.linker_base.specs.Bits.{signed}
 use Rattle.linker_base.specs.Form.{unsigned, twos_complement}
 use Rattle.linker_base.proofs.Pairs.{signed_cases}
-use Rattle.linker_utils.specs.Relocate.{number_of_bytes}
-use Rattle.linker_utils.specs.Rows.{bytes_row, signed_row, unsigned_row}
-use Rattle.linker_utils.specs.Value.{sum_64}
-use Rattle.linker_utils.specs.declared.elf.RelocationKindInfo.{RelocationKindInfo}
-use Rattle.linker_utils.specs.declared.elf.RelocationKind.TheVariants as values
-use Rattle.linker_utils.specs.declared.elf.value.Operands.{Operands}
+use Rattle.linker_elf.specs.Relocate.{number_of_bytes}
+use Rattle.linker_elf.specs.Rows.{bytes_row, signed_row, unsigned_row}
+use Rattle.linker_elf.specs.Value.{sum_64}
+use Rattle.linker_elf.specs.declared.elf.RelocationKindInfo.{RelocationKindInfo}
+use Rattle.linker_elf.specs.declared.elf.RelocationKind.TheVariants as values
+use Rattle.linker_elf.specs.declared.elf.value.Operands.{Operands}
 use Rattle.relocation_laws.specs.Schemes.{IsAddress, IsApplied, AreAddresses, symbol_address}
 use Rattle.relocation_laws.specs.Schemes.{entry_and_addend}
 use Rattle.relocation_laws.proofs.Fields.{field_adds, whole_field_adds}

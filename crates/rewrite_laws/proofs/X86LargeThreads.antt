@@ -7,8 +7,8 @@ use Rattle.std.proofs.lemmas.Bool.{or_cases}
 use Rattle.std.proofs.lemmas.List.{drop-drop}
 use Rattle.std.proofs.Math.Bool.{or-false}
 use Rattle.linker_base.specs.Rewrite.{rewritten}
-use Rattle.linker_utils.specs.Relocate.{number_of_bytes, low_bytes}
-use Rattle.linker_utils.specs.Value.{sum_64, difference_64}
+use Rattle.linker_elf.specs.Relocate.{number_of_bytes, low_bytes}
+use Rattle.linker_elf.specs.Value.{sum_64, difference_64}
 use Rattle.linker_utils.specs.X86.{x86_64_rewrite, puts}
 use Rattle.linker_utils.specs.X86Originals.{is_at, is_one_at, large, large_call, lea_rdi, original}
 use Rattle.linker_utils.specs.X86Originals.{field4, Original}

@@ -2,7 +2,7 @@
 use Rattle.std.proofs.Common.{◌≡◌, ℕ, ◌+◌, ◌*◌, ◌/◌, ◌%◌, ◌^◌, ◌<◌, sym, ◌∙◌, ap, arith}
 use Rattle.std.proofs.Common.{inl, inr, ◌⊎◌, subst, Bool, if◌then◌else◌}
 use Rattle.std.proofs.lemmas.Nat.{and_comm}
-use Rattle.linker_utils.specs.Value.{sum_64}
+use Rattle.linker_elf.specs.Value.{sum_64}
 use Rattle.rewrite_laws.specs.X86Machine.{State, Operation, MOV, TEST, register, relative}
 use Rattle.rewrite_laws.specs.X86Machine.{immediate, operate, execute, perform, operand_value, load}
 use Rattle.rewrite_laws.specs.X86Machine.{extended, logic_flags, lea, with_register}

@@ -4,13 +4,13 @@ use Rattle.std.specs.Prelude.{◌≡◌, ◌≢◌, ◌<◌, ◌∷◌, [], ℕ,
 use Rattle.std.specs.Prelude.{drop, take, None, ⊤, ◌-◌, Option, Some, IsSomeAnd, if◌then◌else◌}
 use Rattle.std.specs.Int.{w32, from_le_bytes}
 use Rattle.linker_base.specs.Rewrite.{Rewrite, IsRewritable, rewritten}
-use Rattle.linker_utils.specs.AArch64.{aarch64_rewrite, rd_of, rn_of}
+use Rattle.linker_utils.specs.AArch64Rewrites.{aarch64_rewrite, rd_of, rn_of}
 use Rattle.linker_utils.specs.AArch64Choices.{AreOfDescriptor}
 use Rattle.linker_utils.specs.AArch64Originals.{IsAdrp, IsAdd64, IsLdr64, AreOfOneRegister}
-use Rattle.linker_utils.specs.AArch64Relocations.{aarch64_row}
-use Rattle.linker_utils.specs.Value.{sum_64, difference_64}
-use Rattle.linker_utils.specs.declared.aarch64.relocations.AArch64Relocation.{AArch64Relocation}
-use Rattle.linker_utils.specs.declared.aarch64.relocations.AArch64Relocation.TheVariants as names
+use Rattle.linker_elf.specs.AArch64Relocations.{aarch64_row}
+use Rattle.linker_elf.specs.Value.{sum_64, difference_64}
+use Rattle.linker_elf.specs.declared.aarch64.relocations.AArch64Relocation.{AArch64Relocation}
+use Rattle.linker_elf.specs.declared.aarch64.relocations.AArch64Relocation.TheVariants as names
 use Rattle.linker_utils.specs.declared.aarch64.rewrites.RelaxationKind.{RelaxationKind}
 use Rattle.linker_utils.specs.declared.aarch64.rewrites.RelaxationKind.TheVariants.{LdrToAdd}
 use Rattle.linker_utils.specs.declared.aarch64.rewrites.RelaxationKind.TheVariants.{MovzXnLsl16}
@@ -23,7 +23,7 @@ use Rattle.linker_utils.specs.declared.aarch64.rewrites.RelaxationKind.TheVarian
 use Rattle.linker_utils.specs.declared.aarch64.rewrites.RelaxationKind.TheVariants.{AdrpToAdr}
 use Rattle.linker_utils.specs.declared.aarch64.rewrites.RelaxationKind.TheVariants.{AddToAdr}
 use Rattle.linker_utils.specs.declared.aarch64.rewrites.RelaxationKind.TheVariants.{LdrToAdr}
-use Rattle.linker_utils.specs.declared.elf.value.Operands.{Operands}
+use Rattle.linker_elf.specs.declared.elf.value.Operands.{Operands}
 use Rattle.relocation_laws.specs.Schemes.{IsApplied, AreAddresses, symbol_address, plt_address}
 use Rattle.rewrite_laws.specs.AArch64Machine.{State, load_64, run, RunAlike, RunAlikeBut}
 use Rattle.rewrite_laws.specs.AArch64Machine.{AreAlikeBut, next_pc, is_b, is_bl}

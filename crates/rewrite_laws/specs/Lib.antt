@@ -1,7 +1,11 @@
 pub mod AArch64Laws
 pub mod AArch64Machine
 pub mod AArch64Worked
+pub mod LoongArchLaws
+pub mod LoongArchMachine
 pub mod Machine
+pub mod Ppc64Laws
+pub mod Ppc64Machine
 pub mod RiscVExamples
 pub mod RiscVLaws
 pub mod RiscVMachine

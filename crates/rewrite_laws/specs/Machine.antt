@@ -5,9 +5,9 @@ use Rattle.std.specs.Prelude.{◌++◌, length, ◌≡◌, take, drop, Option, I
 use Rattle.std.specs.Int.{int_rem_euclid, w64, cast_unsigned}
 use Rattle.std.specs.Prelude.{unsigned_abs}
 use Rattle.linker_base.specs.Bits.{field, signed}
-use Rattle.linker_utils.specs.Value.{sum_64, difference_64}
-use Rattle.linker_utils.specs.declared.elf.RelocationKindInfo.{RelocationKindInfo}
-use Rattle.linker_utils.specs.declared.elf.value.Operands.{Operands}
+use Rattle.linker_elf.specs.Value.{sum_64, difference_64}
+use Rattle.linker_elf.specs.declared.elf.RelocationKindInfo.{RelocationKindInfo}
+use Rattle.linker_elf.specs.declared.elf.value.Operands.{Operands}
 use Rattle.relocation_laws.specs.Schemes.{IsApplied}
 
 -- ---- numbers

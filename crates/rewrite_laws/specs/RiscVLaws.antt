@@ -7,15 +7,16 @@ use Rattle.std.specs.Prelude.{◌≡◌, ℕ, ◌+◌, ◌<◌, ◌^◌, ◌==�
 use Rattle.std.specs.Prelude.{take, ◌++◌, Option, Some, IsSomeAnd, ⊤, ◌≢◌}
 use Rattle.linker_base.specs.Rewrite.{rewritten}
 use Rattle.linker_utils.specs.Choices.{low_12_bounds, symbol_and_addend}
-use Rattle.linker_utils.specs.Elf.{IsWithin}
-use Rattle.linker_utils.specs.RiscV.{riscv_rewrite, word_at}
+use Rattle.linker_elf.specs.Elf.{IsWithin}
+use Rattle.linker_utils.specs.RiscVRewrites.{riscv_rewrite}
+use Rattle.linker_utils.specs.RiscVCalls.{word_at}
 use Rattle.linker_utils.specs.RiscVOriginals.{riscv_matches, opcode_of, funct3_of, rd_of}
-use Rattle.linker_utils.specs.RiscVRelocations.{riscv_row, clui_row}
-use Rattle.linker_utils.specs.Value.{sum_64}
-use Rattle.linker_utils.specs.declared.elf.RelocationKindInfo.{RelocationKindInfo}
-use Rattle.linker_utils.specs.declared.elf.value.Operands.{Operands}
-use Rattle.linker_utils.specs.declared.riscv64.relocations.RiscVRelocation.{RiscVRelocation}
-use Rattle.linker_utils.specs.declared.riscv64.relocations.RiscVRelocation.TheVariants as names
+use Rattle.linker_elf.specs.RiscVRelocations.{riscv_row, clui_row}
+use Rattle.linker_elf.specs.Value.{sum_64}
+use Rattle.linker_elf.specs.declared.elf.RelocationKindInfo.{RelocationKindInfo}
+use Rattle.linker_elf.specs.declared.elf.value.Operands.{Operands}
+use Rattle.linker_elf.specs.declared.riscv64.relocations.RiscVRelocation.{RiscVRelocation}
+use Rattle.linker_elf.specs.declared.riscv64.relocations.RiscVRelocation.TheVariants as names
 use Rattle.linker_utils.specs.declared.riscv64.rewrites.RelaxationKind.{RelaxationKind}
 use Rattle.linker_utils.specs.declared.riscv64.rewrites.RelaxationKind.TheVariants as kinds
 use Rattle.relocation_laws.specs.RiscVLaws.{even}

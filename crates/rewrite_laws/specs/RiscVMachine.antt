@@ -6,13 +6,13 @@ use Rattle.std.specs.Prelude.{nat_lt, nat_le, if◌then◌else◌, List, length,
 use Rattle.std.specs.Prelude.{Option, Some, None, IsSomeAnd}
 use Rattle.std.specs.Int.{w16, w32, from_le_bytes}
 use Rattle.linker_base.specs.Bits.{field}
-use Rattle.linker_utils.specs.RiscV.{riscv_form}
+use Rattle.linker_elf.specs.RiscV.{riscv_form}
 use Rattle.linker_utils.specs.RiscVOriginals.{opcode_of, funct3_of, rd_of}
-use Rattle.linker_utils.specs.Value.{sum_64, difference_64}
-use Rattle.linker_utils.specs.declared.riscv64.forms.RiscVInstruction.TheVariants.{UType, IType}
-use Rattle.linker_utils.specs.declared.riscv64.forms.RiscVInstruction.TheVariants.{SType, JType}
-use Rattle.linker_utils.specs.declared.riscv64.forms.RiscVInstruction.TheVariants.{CjType}
-use Rattle.linker_utils.specs.declared.riscv64.forms.RiscVInstruction.TheVariants.{CluiType}
+use Rattle.linker_elf.specs.Value.{sum_64, difference_64}
+use Rattle.linker_elf.specs.declared.riscv64.forms.RiscVInstruction.TheVariants.{UType, IType}
+use Rattle.linker_elf.specs.declared.riscv64.forms.RiscVInstruction.TheVariants.{SType, JType}
+use Rattle.linker_elf.specs.declared.riscv64.forms.RiscVInstruction.TheVariants.{CjType}
+use Rattle.linker_elf.specs.declared.riscv64.forms.RiscVInstruction.TheVariants.{CluiType}
 use Rattle.rewrite_laws.specs.Machine.{Memory, moved, wrapped, extended, loaded, stored}
 
 -- ---- the state ("Programmers' Model for Base Integer ISA", "F Register State")

@@ -6,8 +6,8 @@ use Rattle.std.specs.Prelude.{true, false, not, if◌then◌else◌, nat_lt, Lis
 use Rattle.std.specs.Prelude.{None, bit_and, bit_or, bit_xor, drop}
 use Rattle.std.specs.Int.{w64, bit_at, byte_at, cast_unsigned}
 use Rattle.linker_base.specs.Bits.{field, signed}
-use Rattle.linker_utils.specs.Relocate.{number_of_bytes}
-use Rattle.linker_utils.specs.Value.{sum_64, difference_64}
+use Rattle.linker_elf.specs.Relocate.{number_of_bytes}
+use Rattle.linker_elf.specs.Value.{sum_64, difference_64}
 
 -- ---- the state
 

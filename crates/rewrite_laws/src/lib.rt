@@ -8,6 +8,8 @@
 
 ghost use Rattle.rewrite_laws.specs.AArch64Laws as aarch64_laws;
 ghost use Rattle.rewrite_laws.specs.AArch64Worked as aarch64_worked;
+ghost use Rattle.rewrite_laws.specs.LoongArchLaws as loongarch_laws;
+ghost use Rattle.rewrite_laws.specs.Ppc64Laws as ppc64_laws;
 ghost use Rattle.rewrite_laws.specs.RiscVExamples as riscv_examples;
 ghost use Rattle.rewrite_laws.specs.RiscVLaws as riscv_laws;
 ghost use Rattle.rewrite_laws.specs.X86Examples as x86_examples;
@@ -35,6 +37,27 @@ pub fn aarch64()
     relocation_laws::aarch64();
 }
 
+/// PowerPC64: the address of a symbol by its distance from the TOC pointer or from the instruction and
+/// not by its GOT entry, and by one instruction where the distance from the TOC pointer has no high part;
+/// the address of a variable, and loads and stores of it, by its offset from the thread pointer and not
+/// by a GOT entry or a call of `__tls_get_addr`; the TOC pointer restored behind a call.
+pub fn ppc64()
+    ensures got { ppc64_laws.GotToAddress }
+    ensures initial_exec { ppc64_laws.InitialExecToLocalExec }
+    ensures initial_exec_access { ppc64_laws.AccessToLocalExec }
+    ensures initial_exec_word_access { ppc64_laws.WordAccessToLocalExec }
+    ensures prefixed { ppc64_laws.PldToPaddi }
+    ensures general_to_local { ppc64_laws.GeneralDynamicToLocalExec }
+    ensures general_to_initial { ppc64_laws.GeneralDynamicToInitialExec }
+    ensures local_dynamic { ppc64_laws.LocalDynamicToLocalExec }
+    ensures near_toc { ppc64_laws.AddiNearToc }
+    ensures access_near_toc { ppc64_laws.AccessNearToc }
+    ensures word_access_near_toc { ppc64_laws.WordAccessNearToc }
+    ensures toc { ppc64_laws.RestoresToc }
+{
+    relocation_laws::ppc64();
+}
+
 /// RISC-V: a call that becomes `jal`, and a tail call that becomes `jal` or `c.j`, go to the target
 /// of their layout, and a call links the address behind it; `c.lui` puts in its register what `lui`
 /// does; a `lui` that is deleted would put 0 there, so that x0 can be the base of the instructions
@@ -54,6 +77,23 @@ pub fn riscv64()
     ensures execution { riscv_examples.Execution }
     ensures sequences { riscv_examples.Sequences }
 {}
+
+/// LoongArch: the address of a symbol without its GOT entry, or by `pcaddi`; the offset of a variable
+/// from the thread pointer in the instructions, or by its GOT entry in place of a descriptor's
+/// function; a call by `b` or `bl`. Where an instruction is deleted, the code before and
+/// after the rewrite may stand at different addresses, each with its relocations applied.
+pub fn loongarch64()
+    ensures got { loongarch_laws.GotToAddress }
+    ensures initial_exec { loongarch_laws.InitialExecToLocalExec }
+    ensures short_initial_exec { loongarch_laws.InitialExecToShortLocalExec }
+    ensures address { loongarch_laws.AddressToPcaddi }
+    ensures near_got { loongarch_laws.GotToPcaddi }
+    ensures calls { loongarch_laws.Calls }
+    ensures descriptor_to_local_exec { loongarch_laws.DescriptorToLocalExec }
+    ensures descriptor_to_initial_exec { loongarch_laws.DescriptorToInitialExec }
+{
+    relocation_laws::loongarch64();
+}
 
 /// x86-64: with no prefix, with REX, REX2 and EVEX, an instruction that takes an address or an
 /// offset from the GOT, and what a rewrite leaves of it, take every state to the same state. The

@@ -1,6 +1,8 @@
 //! PowerPC64: words that LLVM 19.1.7's and GNU binutils 2.40's assemblers and linkers wrote, and
 //! worked values.
 
+mod choices;
+
 use crate::rows::expect_eq;
 use linker_utils::bit_misc::BitExtraction;
 use linker_utils::elf::{

@@ -20,6 +20,8 @@ pub struct LinkFactNumbers {
     pub has_local_exec_base: u8,
     pub may_compress: u8,
     pub is_marked: u8,
+    pub has_private_base: u8,
+    pub may_change_toc: u8,
     pub has_addresses: u8,
     pub operands: Operands,
 }
@@ -55,6 +57,8 @@ impl LinkFactNumbers {
             has_local_exec_base: self.has_local_exec_base != 0,
             may_compress: self.may_compress != 0,
             is_marked: self.is_marked != 0,
+            has_private_base: self.has_private_base != 0,
+            may_change_toc: self.may_change_toc != 0,
             has_addresses: self.has_addresses != 0,
             operands: self.operands,
         }

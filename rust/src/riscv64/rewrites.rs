@@ -2,12 +2,12 @@
 //! RISC-V: relaxation rewrites.
 
 use super::calls::{destination, is_call_pair, is_plain_call};
-use super::relocations;
 use crate::bit_misc::BitExtraction;
 use crate::elf::{InstructionRewrite, RelocationKindInfo, RiscVInstruction};
 use crate::relaxation::RelocationModifier;
 use crate::rewrite::{has_window, overwrite};
 use crate::utils::u32_from_slice;
+use crate::linker_elf::riscv64 as relocations;
 
 /// A rewrite of one instruction, or of a pair whose second instruction is then deleted.
 #[derive(Debug, Clone, Copy, PartialEq, Eq, Hash, PartialOrd, Ord)]

@@ -2,6 +2,7 @@
 //! LoongArch: what assemblers and linkers write, and values worked by hand.
 
 mod assembled;
+mod choices;
 mod linked;
 
 use crate::rows::expect_eq;

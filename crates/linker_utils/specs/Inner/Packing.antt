@@ -2,7 +2,7 @@
 use Rattle.std.specs.Prelude.{◌≡◌, ℕ, ◌+◌, ◌<◌, ◌≤◌, List, min, length, IsTrue, slice_index}
 use Rattle.std.specs.Prelude.{slice_index_or}
 use Rattle.linker_base.specs.Deletions.{is_kept, rank}
-use Rattle.linker_utils.specs.RiscV.{word_at, output_distance, link_register, IsJal}
+use Rattle.linker_utils.specs.RiscVCalls.{word_at, output_distance, link_register, IsJal}
 use Rattle.linker_utils.specs.Packing.{IsApart, CanJump, IsNotAt}
 use Rattle.linker_utils.specs.declared.riscv64.packing.Jump.{Jump}
 use Rattle.linker_utils.specs.declared.riscv64.calls.LinkRegister.{LinkRegister}

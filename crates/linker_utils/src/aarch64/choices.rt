@@ -2,7 +2,7 @@
 
 ghost use Rattle.std.specs.Prelude.{◌≡◌, ◌↔◌, ◌+◌, ◌/◌, ◌^◌, IsTrue, if◌then◌else◌};
 ghost use Rattle.linker_base.specs.Rewrite.{CanRewrite};
-ghost use Rattle.linker_utils.specs.AArch64.{aarch64_rewrite};
+ghost use Rattle.linker_utils.specs.AArch64Rewrites.{aarch64_rewrite};
 ghost use Rattle.linker_utils.specs.AArch64Originals.{aarch64_matches};
 ghost use Rattle.linker_utils.specs.AArch64Choices.{IsEntryLoad, IsDescriptorSequence};
 ghost use Rattle.linker_utils.specs.AArch64Choices.{IsOfDescriptor, IsBranch, IsCall};
@@ -12,16 +12,16 @@ ghost use Rattle.linker_utils.specs.AArch64Choices.{descriptor_entries, to_adr};
 ghost use Rattle.linker_utils.specs.AArch64Choices.{GotPairIsChosenAlike};
 ghost use Rattle.linker_utils.specs.AArch64Choices.{InitialExecPairIsChosenAlike};
 ghost use Rattle.linker_utils.specs.AArch64Choices.{DescriptorIsChosenAlike};
-ghost use Rattle.linker_utils.specs.AArch64Relocations.{aarch64_row};
+ghost use Rattle.linker_elf.specs.AArch64Relocations.{aarch64_row};
 ghost use Rattle.linker_utils.specs.Choices.{AllHold, IsFirst, choice};
 ghost use Rattle.linker_utils.specs.Originals.{HasWord};
 
-use super::relocations::{AArch64Relocation, row};
 use super::rewrites::{
     RelaxationKind, are_of_one_register, destination, is_add64, is_adrp, is_ldr64, source, word_at,
 };
 use crate::elf::{Choice, LinkFacts};
 use crate::rewrite::has_window;
+use linker_elf::aarch64::{AArch64Relocation, row};
 
 type AArch64Choice = Choice<RelaxationKind, AArch64Relocation>;
 

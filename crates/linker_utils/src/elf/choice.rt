@@ -2,6 +2,7 @@
 
 ghost use Rattle.std.specs.Prelude.{◌↔◌, IsTrue};
 ghost use Rattle.linker_utils.specs.Choices.{IsBound, HasAddresses, RowReaches, operands_before};
+ghost use Rattle.linker_utils.specs.Choices.{RowIsWithin};
 
 use crate::elf::{Operands, Row};
 
@@ -29,8 +30,16 @@ pub struct LinkFacts {
     pub has_local_exec_base: bool,
     /// The code may use instructions of the C extension (`EF_RISCV_RVC`).
     pub may_compress: bool,
-    /// The relocation may be relaxed: `R_RISCV_RELAX` is at the same offset.
+    /// The relocation may be relaxed: `R_RISCV_RELAX` or `R_LARCH_RELAX` is at the same offset.
     pub is_marked: bool,
+    /// The register through which an instruction of PowerPC64 gets the high part of its address, and
+    /// which an `addis` has set, is read only by instructions whose relocation is of the same symbol
+    /// and addend. Linkers assume so, as the ABI asks of compilers ("TOC Optimizations").
+    pub has_private_base: bool,
+    /// The function that is called may return with another TOC pointer in register 2 of PowerPC64,
+    /// since it is called through a PLT entry or its symbol's `st_other` says so ("The st_other Field
+    /// Values").
+    pub may_change_toc: bool,
     /// The addresses in `operands` are known. Where they are not, a rewrite that depends on a
     /// distance is not chosen; another is, and its value may turn out to be out of reach.
     pub has_addresses: bool,
@@ -76,6 +85,25 @@ impl LinkFacts {
     {
         !self.has_addresses || reaches(row, after, back)
     }
+
+    /// Whether the value of a relocation of a row, `back` bytes before the place, is known and is from
+    /// the first bound up and below the second.
+    #[inline(always)]
+    pub(crate) fn is_within(&self, row: Option<Row>, bounds: (i64, i64), back: u64) -> bool
+        ensures { IsTrue result ↔ (HasAddresses self.now
+            × RowIsWithin row bounds (operands_before back self.now.operands)) }
+    {
+        self.has_addresses && value_is_within(row, bounds, &self.operands, back)
+    }
+
+    /// The same, or that no address is known.
+    #[inline(always)]
+    pub(crate) fn is_within_if_known(&self, row: Option<Row>, bounds: (i64, i64), back: u64) -> bool
+        ensures { IsTrue result ↔ (HasAddresses self.now
+            → RowIsWithin row bounds (operands_before back self.now.operands)) }
+    {
+        !self.has_addresses || value_is_within(row, bounds, &self.operands, back)
+    }
 }
 
 #[inline(always)]
@@ -85,6 +113,21 @@ fn reaches(row: Option<Row>, after: &Operands, back: u64) -> bool
     let place = after.place.wrapping_sub(back);
     match row {
         Some(row) => row.reaches(&Operands { place, ..*after }),
+        None => false,
+    }
+}
+
+#[inline(always)]
+fn value_is_within(row: Option<Row>, bounds: (i64, i64), operands: &Operands, back: u64) -> bool
+    ensures { IsTrue result ↔ RowIsWithin row bounds (operands_before back operands.now) }
+{
+    let place = operands.place.wrapping_sub(back);
+    let value = match row {
+        Some(row) => row.value(&Operands { place, ..*operands }),
+        None => None,
+    };
+    match value {
+        Some(value) => bounds.0 <= value && value < bounds.1,
         None => false,
     }
 }

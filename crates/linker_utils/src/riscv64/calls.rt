@@ -5,9 +5,9 @@ ghost use Rattle.std.specs.Prelude.{OnErr, IfErr, IsNone, IfSome, length, pos, â
 ghost use Rattle.linker_base.specs.Bits.{field};
 ghost use Rattle.linker_base.specs.Deltas.{deletions_of};
 ghost use Rattle.linker_base.specs.Blocks.{IsValidView};
-ghost use Rattle.linker_utils.specs.RiscV.{IsEven, IsJalDistance, JumpsAndLinks, JumpsAt};
-ghost use Rattle.linker_utils.specs.RiscV.{IsInSection, IsSiteKept, output_distance, IsCallPair};
-ghost use Rattle.linker_utils.specs.RiscV.{IsPlainCall, call_len, NamesRegister, link_register};
+ghost use Rattle.linker_utils.specs.RiscVCalls.{IsEven, IsJalDistance, JumpsAndLinks, JumpsAt};
+ghost use Rattle.linker_utils.specs.RiscVCalls.{IsInSection, IsSiteKept, output_distance, IsCallPair};
+ghost use Rattle.linker_utils.specs.RiscVCalls.{IsPlainCall, call_len, NamesRegister, link_register};
 
 use crate::bit_misc::BitExtraction;
 use crate::elf::RiscVInstruction;

@@ -4,13 +4,13 @@ ghost use Rattle.std.specs.Prelude.{◌≡◌, ◌↔◌, IsTrue};
 ghost use Rattle.std.specs.Int.{cast_unsigned, w64};
 ghost use Rattle.linker_base.specs.Rewrite.{CanRewrite};
 ghost use Rattle.linker_utils.specs.Choices.{AllHold};
-ghost use Rattle.linker_utils.specs.RiscV.{riscv_rewrite, FitsClui};
+ghost use Rattle.linker_utils.specs.RiscVRewrites.{riscv_rewrite, FitsClui};
 ghost use Rattle.linker_utils.specs.RiscVChoices.{riscv_row_of, by_jump, by_low_part};
 ghost use Rattle.linker_utils.specs.RiscVChoices.{AppliesToRiscV, IsRiscVChoice, short_tail_call};
 ghost use Rattle.linker_utils.specs.RiscVChoices.{near_call, no_high_part, short_high_part};
 ghost use Rattle.linker_utils.specs.RiscVChoices.{low_part};
 ghost use Rattle.linker_utils.specs.RiscVOriginals.{riscv_matches};
-ghost use Rattle.linker_utils.specs.Value.{sum_64};
+ghost use Rattle.linker_elf.specs.Value.{sum_64};
 
 use super::{RelaxationKind, RiscVRelocation, row};
 use crate::elf::{Choice, LinkFacts};

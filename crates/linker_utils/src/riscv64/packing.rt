@@ -10,8 +10,8 @@ ghost use Rattle.linker_utils.specs.Inner.Packing.{IsFilled, IsPackedTo, IsJumpO
 ghost use Rattle.linker_utils.specs.Packing.{AreApart, IsFirstNotApart, CanJump, IsRejected};
 ghost use Rattle.linker_utils.specs.Packing.{IsFirstRejected, IsFirstFailing, IsPacked};
 ghost use Rattle.linker_utils.specs.Packing.{PackedCallsReachTargets};
-ghost use Rattle.linker_utils.specs.RiscV.{IsEven, IsJalDistance, IsSiteKept, JumpsAndLinks};
-ghost use Rattle.linker_utils.specs.RiscV.{call_len, link_register, output_distance};
+ghost use Rattle.linker_utils.specs.RiscVCalls.{IsEven, IsJalDistance, IsSiteKept, JumpsAndLinks};
+ghost use Rattle.linker_utils.specs.RiscVCalls.{call_len, link_register, output_distance};
 
 use super::calls::{
     AsCall, CallError, JumpError, LinkRegister, distance_between, jal_site, test_distance,

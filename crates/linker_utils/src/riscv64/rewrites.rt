@@ -1,25 +1,25 @@
 //! RISC-V: relaxation rewrites.
 
-ghost use Rattle.linker_utils.specs.RiscV.{riscv_rewrites};
+ghost use Rattle.linker_utils.specs.RiscVRewrites.{riscv_rewrites};
 ghost use Rattle.std.specs.Prelude.{slice_get, ◌≡◌, ◌≤◌, ◌↔◌, IsTrue, Some, length, ◌≢◌, ◌+◌, drop};
 ghost use Rattle.std.specs.Int.{from_le_bytes, w16, w32};
 ghost use Rattle.linker_base.specs.Rewrite.{CanRewrite, rewritten, offset_after, addend_after};
 ghost use Rattle.linker_base.specs.Bits.{signed};
-ghost use Rattle.linker_utils.specs.RiscV.{riscv_rewrite, riscv_modifier, hi20, lo12, IsSigned32};
-ghost use Rattle.linker_utils.specs.RiscV.{FitsClui, HoldsHigh, riscv_deleted};
+ghost use Rattle.linker_utils.specs.RiscVRewrites.{riscv_rewrite, riscv_modifier, hi20, lo12, IsSigned32};
+ghost use Rattle.linker_utils.specs.RiscVRewrites.{FitsClui, HoldsHigh, riscv_deleted};
 ghost use Rattle.linker_utils.specs.RiscVOriginals.{opcode_of, funct3_of, adds_low12, IsTailCall};
 ghost use Rattle.linker_utils.specs.RiscVOriginals.{riscv_matches};
-ghost use Rattle.linker_utils.specs.Agrees.{RowFits};
-ghost use Rattle.linker_utils.specs.Readings.{RowReadsNoOther};
-ghost use Rattle.linker_utils.specs.RiscVRelocations.{clui_row};
+ghost use Rattle.linker_elf.specs.Agrees.{RowFits};
+ghost use Rattle.linker_elf.specs.Readings.{RowReadsNoOther};
+ghost use Rattle.linker_elf.specs.RiscVRelocations.{clui_row};
 
 use super::calls::{destination, is_call_pair, is_plain_call};
-use super::relocations;
 use crate::bit_misc::BitExtraction;
 use crate::elf::{InstructionRewrite, RelocationKindInfo, RiscVInstruction};
 use crate::relaxation::RelocationModifier;
 use crate::rewrite::{has_window, overwrite};
 use crate::utils::u32_from_slice;
+use linker_elf::riscv64 as relocations;
 
 /// A rewrite of one instruction, or of a pair whose second instruction is then deleted.
 #[derive(Debug, Clone, Copy, PartialEq, Eq)]

@@ -10,7 +10,7 @@ ghost use Rattle.linker_utils.specs.Inner.Shrinking.{chosen_count, chosen_betwee
 ghost use Rattle.linker_utils.specs.Inner.Shrinking.{IsSplit, KeepsOthers, IsInReachAt, IsAround};
 ghost use Rattle.linker_utils.specs.Inner.Shrinking.{HaveShrinkableSites, HaveShrinkableTargets};
 ghost use Rattle.linker_utils.specs.Inner.Shrinking.{IsApartAt, AreRunsOf, distance_over};
-ghost use Rattle.linker_utils.specs.RiscV.{IsEven, IsJalDistance};
+ghost use Rattle.linker_utils.specs.RiscVCalls.{IsEven, IsJalDistance};
 ghost use Rattle.linker_utils.specs.Shrinking.{IsChosen, AreInReach, IsGreatest, AreShrinkable};
 ghost use Rattle.linker_utils.specs.Shrinking.{IsFirstNotShrinkable, ShrunkCallsAreAccepted};
 

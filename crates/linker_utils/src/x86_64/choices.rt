@@ -6,7 +6,7 @@ ghost use Rattle.linker_utils.specs.X86.{x86_64_rewrite};
 ghost use Rattle.linker_utils.specs.X86Choices as entries;
 ghost use Rattle.linker_utils.specs.X86Choices.{IsX86Choice, IsByTable, X86Applies};
 ghost use Rattle.linker_utils.specs.X86Originals.{x86_64_matches};
-ghost use Rattle.linker_utils.specs.X86Relocations.{x86_64_row};
+ghost use Rattle.linker_elf.specs.X86Relocations.{x86_64_row};
 
 use super::rewrites::{immediate_of, is_lea_of_descriptor, is_legacy};
 use super::{RelaxationKind, X86_64Relocation, row};

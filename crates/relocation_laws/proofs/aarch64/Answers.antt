@@ -1,14 +1,14 @@
 -- The laws of AArch64.
 use Rattle.std.proofs.Common.{refl, ap, arith, None, Some, ◌≡◌, ℕ, ◌^◌, ◌<◌}
 use Rattle.std.specs.Int.{w64, cast_signed, cast_unsigned}
-use Rattle.linker_utils.specs.Value.{sum_64, difference_64}
-use Rattle.linker_utils.specs.declared.elf.value.Operands.{Operands}
-use Rattle.linker_utils.specs.declared.aarch64.relocations.AArch64Relocation.TheVariants as names
-use Rattle.linker_utils.proofs.RowsAgree.{aarch64_rows}
+use Rattle.linker_elf.specs.Value.{sum_64, difference_64}
+use Rattle.linker_elf.specs.declared.elf.value.Operands.{Operands}
+use Rattle.linker_elf.specs.declared.aarch64.relocations.AArch64Relocation.TheVariants as names
+use Rattle.linker_elf.proofs.RowsAgree.{aarch64_rows}
 use Rattle.relocation_laws.specs.Schemes.{AreAddresses, none, symbol_address, place}
-use Rattle.linker_utils.specs.Elf.{bit_bounds}
-use Rattle.linker_utils.specs.declared.aarch64.forms.AArch64Instruction.TheVariants.{Add, LdSt, LdrRegister}
-use Rattle.linker_utils.specs.declared.elf.Sign.TheVariants.{Signed}
+use Rattle.linker_elf.specs.Elf.{bit_bounds}
+use Rattle.linker_elf.specs.declared.aarch64.forms.AArch64Instruction.TheVariants.{Add, LdSt, LdrRegister}
+use Rattle.linker_elf.specs.declared.elf.Sign.TheVariants.{Signed}
 use Rattle.relocation_laws.proofs.Fields.{holds_distance}
 use Rattle.relocation_laws.proofs.Instructions.{entry_and_addend_from_place, symbol_from_got}
 use Rattle.relocation_laws.proofs.Instructions.{adds, symbol_from_place, plt_from_place}

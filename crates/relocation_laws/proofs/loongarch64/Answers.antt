@@ -1,14 +1,14 @@
 -- The laws of LoongArch.
-use Rattle.linker_utils.specs.Agrees.{bits_from}
+use Rattle.linker_elf.specs.Agrees.{bits_from}
 use Rattle.std.proofs.Common.{refl, ap, sym, ◌∙◌, arith, true, ◌≡◌, ◌^◌, ◌<◌, ℕ}
 use Rattle.std.specs.Int.{w64, cast_signed}
 use Rattle.linker_base.specs.Form.{window_of}
-use Rattle.linker_utils.specs.LoongArch.{loongarch_form}
-use Rattle.linker_utils.specs.declared.loongarch64.forms.LoongArch64Instruction.TheVariants.{Shift10}
-use Rattle.linker_utils.specs.declared.loongarch64.relocations.LoongArch64Relocation.TheVariants.{R_LARCH_B16}
-use Rattle.linker_utils.specs.Value.{sum_64, difference_64}
-use Rattle.linker_utils.specs.declared.elf.value.Operands.{Operands}
-use Rattle.linker_utils.proofs.RowsAgree.{loongarch_rows}
+use Rattle.linker_elf.specs.LoongArch.{loongarch_form}
+use Rattle.linker_elf.specs.declared.loongarch64.forms.LoongArch64Instruction.TheVariants.{Shift10}
+use Rattle.linker_elf.specs.declared.loongarch64.relocations.LoongArch64Relocation.TheVariants.{R_LARCH_B16}
+use Rattle.linker_elf.specs.Value.{sum_64, difference_64}
+use Rattle.linker_elf.specs.declared.elf.value.Operands.{Operands}
+use Rattle.linker_elf.proofs.RowsAgree.{loongarch_rows}
 use Rattle.relocation_laws.specs.Schemes.{symbol_address, entry_and_addend, tls_base, place, zero}
 use Rattle.relocation_laws.specs.Schemes.{AreAddresses}
 use Rattle.relocation_laws.proofs.Applied.{reads, value_is, aligned_low}

@@ -1,15 +1,15 @@
 -- The laws of PowerPC64.
 use Rattle.std.proofs.Common.{◌≡◌, refl, ap, arith, Some}
 use Rattle.std.specs.Int.{w64, cast_signed}
-use Rattle.linker_utils.specs.Value.{sum_64, difference_64}
-use Rattle.linker_utils.specs.declared.ppc64.forms.Ppc64Instruction.TheVariants.{D, Ds}
-use Rattle.linker_utils.specs.declared.elf.value.Operands.{Operands}
-use Rattle.relocation_laws.specs.Schemes.{symbol_address, got_base, tls_base, place, AreAddresses}
+use Rattle.linker_elf.specs.Value.{sum_64, difference_64}
+use Rattle.linker_elf.specs.declared.ppc64.forms.Ppc64Instruction.TheVariants.{D, Ds}
+use Rattle.linker_elf.specs.declared.elf.value.Operands.{Operands}
+use Rattle.relocation_laws.specs.Schemes.{symbol_address, got_base, tls_base, place, AreAddresses, plt_address}
 use Rattle.relocation_laws.specs.Schemes.{entry_address}
 use Rattle.relocation_laws.proofs.Fields.{holds_distance}
 use Rattle.relocation_laws.proofs.Instructions.{adds, symbol_from_place, symbol_from_got}
 use Rattle.relocation_laws.proofs.Instructions.{symbol_from_tls, symbol_itself, entry_from_place}
-use Rattle.relocation_laws.proofs.Instructions.{entry_from_got, entry_sum, place_small, got_small}
+use Rattle.relocation_laws.proofs.Instructions.{entry_from_got, entry_sum, place_small, got_small, plt_from_got}
 use Rattle.relocation_laws.proofs.Instructions.{tls_small, same_distance, relative, entry_is}
 use Rattle.relocation_laws.proofs.Halves.{adjusted_halves, high_half, unadjusted_halves, d_reads}
 use Rattle.relocation_laws.proofs.Halves.{ds_reads}
@@ -63,6 +63,16 @@ returns-clause-entries c = (
       (λ o. refl) (λ o small at. refl),
 )
 
+pub returns-clause-got : goal.returns-clause-got
+returns-clause-got c = (
+  adjusted_halves entry_from_got (relative_rounds 0x8000 got_base entry_sum got_small)
+      Ds ds_reads _ refl refl
+      (λ o. refl) (λ o small at. refl),
+  adjusted_halves plt_from_got (relative_rounds 0x8000 got_base plt_address got_small)
+      Ds ds_reads _ refl refl
+      (λ o. refl) (λ o small at. refl),
+)
+
 pub returns-clause-thread : goal.returns-clause-thread
 returns-clause-thread c = (
   adjusted_halves symbol_from_tls (relative_rounds 0x8000 tls_base symbol_address tls_small)
@@ -94,6 +104,11 @@ pub returns-clause-prefixed : goal.returns-clause-prefixed
 returns-clause-prefixed c = (
   adds symbol_from_place refl refl (λ o. refl),
   adds entry_from_place refl refl (λ o. refl),
+  adds entry_from_place refl refl (λ o. refl),
+  adds entry_from_place refl refl (λ o. refl),
+  adds entry_from_place refl refl (λ o. refl),
+  adds symbol_from_tls refl refl (λ o. refl),
+  adds symbol_from_tls refl refl (λ o. refl),
 )
 
 pub returns-clause-displacements : goal.returns-clause-displacements

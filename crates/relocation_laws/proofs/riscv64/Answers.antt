@@ -1,7 +1,7 @@
 -- The laws of RISC-V.
 use Rattle.std.proofs.Common.{refl, arith}
-use Rattle.linker_utils.specs.declared.riscv64.forms.RiscVInstruction.TheVariants.{UType, IType, SType}
-use Rattle.linker_utils.specs.declared.riscv64.forms.RiscVInstruction.TheVariants.{CluiType}
+use Rattle.linker_elf.specs.declared.riscv64.forms.RiscVInstruction.TheVariants.{UType, IType, SType}
+use Rattle.linker_elf.specs.declared.riscv64.forms.RiscVInstruction.TheVariants.{CluiType}
 use Rattle.relocation_laws.proofs.Fields.{holds_distance}
 use Rattle.relocation_laws.proofs.Instructions.{adds, symbol_from_place, plt_from_place}
 use Rattle.relocation_laws.proofs.Instructions.{entry_and_addend_from_place, symbol_from_tls}

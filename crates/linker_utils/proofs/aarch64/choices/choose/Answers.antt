@@ -1,9 +1,9 @@
 use Rattle.std.proofs.Common.{◌+◌, ◌↔◌, IsTrue, arith, refl}
 use Rattle.linker_utils.specs.AArch64Originals.{aarch64_matches}
-use Rattle.linker_utils.specs.AArch64Relocations.{aarch64_row}
+use Rattle.linker_elf.specs.AArch64Relocations.{aarch64_row}
 use Rattle.linker_utils.specs.AArch64Choices.{IsEntryLoad, erased, to_address, to_local_exec, to_adr}
 use Rattle.linker_utils.specs.Choices.{AllHold, entry}
-use Rattle.linker_utils.specs.declared.aarch64.relocations.AArch64Relocation.TheVariants as r
+use Rattle.linker_elf.specs.declared.aarch64.relocations.AArch64Relocation.TheVariants as r
 use Rattle.linker_utils.specs.declared.aarch64.rewrites.RelaxationKind.TheVariants as kinds
 use Rattle.linker_utils.proofs.AArch64Choices.{one_entry, both_tests, first_fails, of_descriptor, adrp_matches, ldr_matches, nop_matches, load_matches_add, load_matches_movk, load_matches_movz}
 use Rattle.linker_utils.proofs.aarch64.choices.choose.Goals as goal

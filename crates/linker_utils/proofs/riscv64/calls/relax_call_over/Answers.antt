@@ -2,7 +2,7 @@ use Rattle.std.proofs.Common.{◌≡◌, ◌+◌, ◌≤◌, ◌∙◌, ap, subs
 use Rattle.std.proofs.lemmas.Int.{ints}
 use Rattle.linker_base.specs.Bits.{field}
 use Rattle.linker_base.specs.Deltas.{deletions_of}
-use Rattle.linker_utils.specs.RiscV.{IsEven, IsJalDistance, JumpsAndLinks, word_at}
+use Rattle.linker_utils.specs.RiscVCalls.{IsEven, IsJalDistance, JumpsAndLinks, word_at}
 use Rattle.linker_utils.specs.declared.riscv64.calls.CallError.TheVariants.{OddDistance, TooFar}
 use Rattle.linker_utils.proofs.Calls.{distance_is, word_taken}
 use Rattle.linker_utils.proofs.riscv64.calls.relax_call_over.Goals as goal

@@ -3,7 +3,7 @@ use Rattle.std.proofs.lemmas.Bool.{false≢true}
 use Rattle.std.proofs.lemmas.Int.{ints}
 use Rattle.std.proofs.lemmas.Result.{err_from_is_err_and}
 use Rattle.linker_base.specs.Deltas.{deletions_of}
-use Rattle.linker_utils.specs.RiscV.{call_len, IsEven, IsJalDistance}
+use Rattle.linker_utils.specs.RiscVCalls.{call_len, IsEven, IsJalDistance}
 use Rattle.linker_utils.proofs.Calls.{distance_is}
 use Rattle.linker_utils.proofs.Packed.{distance_rejected, four_of}
 use Rattle.linker_utils.proofs.riscv64.packing.jump_of.Goals as goal

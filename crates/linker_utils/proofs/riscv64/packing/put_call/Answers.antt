@@ -1,7 +1,7 @@
 use Rattle.std.proofs.Common.{◌+◌, ◌≤◌, sym, subst, arith, length}
 use Rattle.linker_base.specs.Deltas.{deletions_of}
 use Rattle.linker_base.specs.Deletions.{rank}
-use Rattle.linker_utils.specs.RiscV.{IsEven, IsJalDistance, JumpsAndLinks, link_register}
+use Rattle.linker_utils.specs.RiscVCalls.{IsEven, IsJalDistance, JumpsAndLinks, link_register}
 use Rattle.linker_utils.proofs.Packed.{jump_fits}
 use Rattle.linker_utils.proofs.riscv64.packing.put_call.Goals as goal
 

@@ -1,7 +1,7 @@
 use Rattle.std.proofs.Common.{◌≡◌, ◌+◌, ◌-◌, ◌∙◌, ap, take, drop, length, arith, rules, to_z, of_z, w64, FitsSigned, sym, subst}
 use Rattle.std.proofs.lemmas.Int.{to_z-of_z, ints}
 use Rattle.std.proofs.lemmas.List.{length-take, length-drop}
-use Rattle.linker_utils.specs.RiscV.{call_len, JumpsAt, IsEven, IsJalDistance}
+use Rattle.linker_utils.specs.RiscVCalls.{call_len, JumpsAt, IsEven, IsJalDistance}
 use Rattle.linker_utils.proofs.Packed.{jump_put, four_of, on_ok}
 use Rattle.linker_utils.proofs.riscv64.packing.put_jump.Goals as goal
 

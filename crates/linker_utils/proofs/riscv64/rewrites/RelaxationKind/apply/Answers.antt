@@ -1,7 +1,7 @@
 use Rattle.std.proofs.Common.{◌∙◌, refl, arith, rules}
 use Rattle.linker_base.specs.Rewrite.{replaces}
 use Rattle.linker_base.proofs.Rewrites.{overwritten}
-use Rattle.linker_utils.specs.RiscV.{two_nops, call_to_jal, hi20_to_clui, rs1_to_zero}
+use Rattle.linker_utils.specs.RiscVRewrites.{two_nops, call_to_jal, hi20_to_clui, rs1_to_zero}
 use Rattle.linker_utils.specs.declared.riscv64.rewrites.RelaxationKind.TheVariants.{ReplaceWithNop, CallToJal, Hi20ToCLui, Lo12Rs1ToZero}
 use Rattle.linker_utils.proofs.Jumps.{call_made, rewritten_as}
 use Rattle.linker_utils.proofs.RiscVRewrites.{clui_made, rs1_made}

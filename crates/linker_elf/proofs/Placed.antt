@@ -1,0 +1,142 @@
+-- The numbers placed in instructions of DQ-form, and moves of 32 bits.
+use Rattle.std.proofs.Common.{◌≡◌, ℕ, ◌+◌, ◌-◌, ◌*◌, ◌/◌, ◌%◌, ◌^◌, ◌<◌, ◌≤◌, Bool, true, false, List}
+use Rattle.std.proofs.Common.{◌==◌, ◌&&◌, ◌||◌, [], inl, inr, if◌then◌else◌, refl, sym, ◌∙◌}
+use Rattle.std.proofs.Common.{ap, subst, arith, ℤ, pos, int_lt}
+use Rattle.std.specs.Int.{bit_at}
+use Rattle.linker_base.specs.Bits.{field}
+use Rattle.linker_base.specs.Form.{BitsWritten, Written, ImmediateBit, bits_to}
+use Rattle.linker_base.specs.Form.{replaced, placed_bit, bit_for, place_sum}
+use Rattle.linker_base.specs.declared.bit_misc.BitRange.{BitRange}
+use Rattle.linker_base.proofs.ConsecutiveBits.{consecutive_bits_all, consecutive_bits_sum}
+use Rattle.linker_base.proofs.Fields.{bit_at_mod, same_fields}
+use Rattle.linker_base.proofs.Immediates.{layout_laid, always_clear}
+use Rattle.linker_elf.specs.AArch64.{movnz, move_opcode, aarch64_form}
+use Rattle.linker_elf.specs.Elf.{relocation_form}
+use Rattle.linker_elf.specs.Ppc64.{ppc64_form, ppc64_layout}
+use Rattle.linker_elf.specs.Relocate.{number_placed, with_low_4, is_dq_form, is_32_bit_move}
+use Rattle.linker_elf.specs.Relocate.{bits_taken, ppc64_reads}
+use Rattle.linker_elf.specs.declared.aarch64.forms.AArch64Instruction.{AArch64Instruction}
+use Rattle.linker_elf.specs.declared.aarch64.forms.AArch64Instruction.TheVariants.{Movnz}
+use Rattle.linker_elf.specs.declared.ppc64.forms.Ppc64Instruction.TheVariants.{Ds}
+use Rattle.linker_elf.specs.declared.elf.RelocationInstruction.{RelocationInstruction}
+use Rattle.linker_elf.specs.declared.elf.RelocationInstruction.TheVariants.{Ppc64}
+use Rattle.linker_elf.specs.declared.elf.RelocationInstruction.TheVariants.{AArch64}
+use Rattle.linker_elf.proofs.Clearing.{same_window}
+use Rattle.linker_elf.proofs.Runs.{consecutive_bits_outside}
+
+-- ---- DQ-form
+
+-- the bits that DS-form holds
+abbrev ds_places : List ImmediateBit
+ds_places = bits_to 2 15 2
+
+-- What the machine reads of a word is what it reads of another, in which DS-form holds f.
+pub record ReadsAs (f : ℕ) (neg : Bool) (after : ℕ) : Type 0 where
+  pub old : ℕ
+  pub window : ℕ
+  pub written : Written (ppc64_form Ds) f neg old window
+  pub reads : ppc64_reads Ds after ≡ (ppc64_form Ds).machine window
+
+-- a write keeps the opcode and the lowest two bits
+same_dq_form : (f : ℕ) (neg : Bool) (before after : ℕ) → Written (ppc64_form Ds) f neg before after
+    → is_dq_form after ≡ is_dq_form before
+same_dq_form f neg before after laid =
+    let high : field after 26 32 ≡ field before 26 32 =
+    same_fields after before 26 32 (λ w from below.
+    laid.kept w (consecutive_bits_outside 14 2 2 0 replaced w (inr (omega arith)))) in
+    let low : field after 0 2 ≡ field before 0 2 =
+    same_fields after before 0 2 (λ w from below.
+    laid.kept w (consecutive_bits_outside 14 2 2 0 replaced w (inl (omega arith)))) in
+    ap (λ o. o == 56 || (o == 6 || (o == 61 && field after 0 2 == 1))) high
+    ∙ ap (λ q. field before 26 32 == 56
+    || (field before 26 32 == 6 || (field before 26 32 == 61 && q == 1))) low
+
+-- a word that has the low 16 bits of f has those of DS-form
+holds_already : (f x : ℕ) (neg : Bool) → f < 2 ^ 64 → x % 2 ^ 16 ≡ f % 2 ^ 16
+    → Written (ppc64_form Ds) f neg x x
+holds_already f x neg small same =
+    let whole : (f + 0) % 2 ^ 64 ≡ f = omega arith in
+    record {
+      placed = consecutive_bits_all (λ (p : ImmediateBit). bit_at x p.insn_bit
+          ≡ placed_bit p.mark (bit_for p f) (bit_at x p.insn_bit)) 14 2 2 0 replaced
+          (λ j l. sym (bit_at_mod x 16 (2 + j) (omega arith)) ∙ ap (λ n. bit_at n (2 + j)) same
+          ∙ bit_at_mod f 16 (2 + j) (omega arith) ∙ ap (λ n. bit_at n (2 + j)) (sym whole));
+      kept = λ w free. refl;
+    }
+
+-- the displacement of a word of DQ-form, without the four bits that were kept
+low_16 : (f x after : ℕ) → f < 2 ^ 64 → f % 16 ≡ 0
+    → after / 4 % 16384 * 4 ≡ (with_low_4 f x - with_low_4 f x % 4) % 65536
+    → (after - after % 16) % 65536 ≡ f % 65536
+low_16 f x after small none is = omega arith
+
+ds_sum : (x : ℕ) → place_sum ds_places x ≡ x / 4 % 16384 * 4
+ds_sum x = consecutive_bits_sum replaced 14 2 2 0 x refl
+
+either_reads : (b : Bool) (f x after : ℕ) (neg : Bool) → f < 2 ^ 64 → (b ≡ true → f % 16 ≡ 0)
+    → is_dq_form after ≡ b
+    → Written (ppc64_form Ds) (if b then with_low_4 f x else f) neg x after → ReadsAs f neg after
+either_reads false f x after neg small none is laid =
+    record {
+      old = x;
+      window = after;
+      written = laid;
+      reads = ap (λ b. if b then (ppc64_form Ds).machine (after - after % 16)
+          else (ppc64_form Ds).machine after) is;
+    }
+either_reads true f x after neg small none is laid =
+    let y = after - after % 16 in
+    let wide : with_low_4 f x < 2 ^ 64 = omega arith in
+    let sum = sym (ds_sum after)
+    ∙ layout_laid (ppc64_layout Ds) refl (with_low_4 f x) neg x after wide laid
+    (always_clear ds_places x refl) in
+    record {
+      old = y;
+      window = y;
+      written = holds_already f y neg small (low_16 f x after small (none refl) sum);
+      reads = ap (λ b. if b then (ppc64_form Ds).machine y else (ppc64_form Ds).machine after) is;
+    }
+
+pub reads_as : (f x clear after : ℕ) (neg : Bool) → f < 2 ^ 64
+    → (is_dq_form x ≡ true → f % 16 ≡ 0) → BitsWritten [] 0 x clear
+    → Written (ppc64_form Ds) (number_placed (Ppc64 Ds) x f) neg clear after → ReadsAs f neg after
+reads_as f x clear after neg small none clears laid =
+    let whole : Written (ppc64_form Ds) (number_placed (Ppc64 Ds) x f) neg x after =
+    subst (λ c. Written (ppc64_form Ds) (number_placed (Ppc64 Ds) x f) neg c after)
+    (same_window 0 x clear clears) laid in
+    either_reads (is_dq_form x) f x after neg small none
+    (same_dq_form (number_placed (Ppc64 Ds) x f) neg x after whole) whole
+
+-- ---- moves of 32 bits
+
+-- a move that was written is one of 64 bits
+wide_move : (v : ℕ) (neg : Bool) (before after : ℕ) → Written movnz v neg before after
+    → 2 ^ 31 ≤ after
+wide_move v true before after laid =
+    let set : bit_at after 31 ≡ bit_at (move_opcode true * 2 ^ 23 + before % 2 ^ 23) 31 =
+    laid.kept 31 refl in
+    omega arith
+wide_move v false before after laid =
+    let set : bit_at after 31 ≡ bit_at (move_opcode false * 2 ^ 23 + before % 2 ^ 23) 31 =
+    laid.kept 31 refl in
+    omega arith
+
+pub bit_31_is_set : (f : AArch64Instruction) (number : ℕ) (neg : Bool) (x clear after : ℕ)
+    → is_32_bit_move (AArch64 f) x ≡ true → Written (aarch64_form f) number neg clear after
+    → 2 ^ 31 ≤ after
+bit_31_is_set Movnz number neg x clear after h laid = wide_move number neg clear after laid
+bit_31_is_set f number neg x clear after h laid = cc
+
+-- ---- the value
+
+-- the code has a value from its bits
+pub of_value : (insn : RelocationInstruction) (bits : BitRange) (v z : ℤ) (n x clear after : ℕ)
+    → n ≡ bits_taken bits z → z ≡ v
+    → Written (relocation_form insn) (number_placed insn x n) (int_lt z (pos 0)) clear after
+    → Written (relocation_form insn) (number_placed insn x (bits_taken bits v)) (int_lt v (pos 0))
+    clear after
+of_value insn bits v z n x clear after is e laid =
+    subst (λ y. Written (relocation_form insn) (number_placed insn x (bits_taken bits y))
+    (int_lt y (pos 0)) clear after) e
+    (subst (λ m. Written (relocation_form insn) (number_placed insn x m) (int_lt z (pos 0)) clear
+    after) is laid)

@@ -1,0 +1,34 @@
+-- The least and the last value within reach bound the values within reach.
+use Rattle.std.proofs.Common.{ℕ, List, ℤ, ◌≤ℤ◌, FitsSigned, Some, None, arith, inl, inr, int_lt}
+use Rattle.std.specs.Int.{w64}
+use Rattle.std.proofs.lemmas.Bool.{cases_Bool}
+use Rattle.std.proofs.lemmas.Int.{ints}
+use Rattle.linker_elf.specs.Agrees.{RowFits, SizeFits}
+use Rattle.linker_elf.specs.Elf.{IsWithin}
+use Rattle.linker_elf.specs.Bounds.{least_within, last_within}
+use Rattle.linker_elf.specs.Reach.{reach_of}
+use Rattle.linker_elf.specs.Relocate.{HoldsBits, IsReached}
+use Rattle.linker_elf.specs.Rows.{Bounds}
+use Rattle.linker_elf.specs.declared.elf.RelocationSize.{RelocationSize}
+use Rattle.linker_elf.specs.declared.elf.RelocationSize.TheVariants.{ByteSize, BitMasking}
+use Rattle.linker_elf.specs.declared.elf.RelocationKindInfo.{RelocationKindInfo}
+
+pub within_from : (b : Bounds) (v : ℤ) → least_within b ≤ℤ v → v ≤ℤ last_within b → FitsSigned w64 v → IsWithin b v
+within_from None v low high small = tt
+within_from (Some b) v low high small =
+    elim (cases_Bool (int_lt b.0 b.1)) [
+      | inl some ↦ let l = rw some at low in let h = rw some at high in (l, omega (arith, ints, h))
+      | inr none ↦ let l = rw none at low in let h = rw none at high in absurd (omega (arith, ints, l, h))
+    ]
+
+-- bits that fit the form are held by it
+pub holds : (size : RelocationSize) (v : ℤ) (bytes : List ℕ) → SizeFits size → HoldsBits size v bytes
+holds (ByteSize n) v bytes fits = tt
+holds (BitMasking bits insn) v bytes fits = fits.fits _ _
+
+pub reached_from : (row : RelocationKindInfo) (v : ℤ) (bytes : List ℕ) → FitsSigned w64 v → RowFits row
+    → least_within (reach_of row) ≤ℤ v → v ≤ℤ last_within (reach_of row) → IsReached row v bytes
+reached_from row v bytes small fits low high = (
+  within_from (reach_of row) v low high small,
+  holds row.size v bytes fits,
+)

@@ -1,0 +1,297 @@
+-- What the machine reads of an instruction into which a relocation's value was written.
+use Rattle.std.proofs.Common.{FitsSigned, ◌≡◌, ℕ, ◌+◌, ◌-◌, ◌<◌, ◌≤◌, ◌^◌, ◌&&◌, Bool, ltb, arith}
+use Rattle.std.proofs.Common.{IsTrue, true, false, not, refl, sym, ◌∙◌, ap, subst, List, ℤ, pos}
+use Rattle.std.proofs.Common.{negsuc, int_lt, Some, None, inl, inr, ◌==◌, ◌%◌}
+use Rattle.std.specs.Prelude.{⊤, ◌⊎◌}
+use Rattle.std.specs.Int.{w64, bit_at, int_rem_euclid}
+use Rattle.std.proofs.lemmas.Bool.{lt-ltb, ltb-true, eqb-true, and_parts, cases_lt}
+use Rattle.linker_base.specs.Bits.{field}
+use Rattle.linker_base.specs.Form.{ImmediateBit, BitsWritten, IsClear, is_clear_at, window_of, replaced}
+use Rattle.linker_base.specs.declared.bit_misc.BitRange.{BitRange}
+use Rattle.linker_base.proofs.ConsecutiveBits.{consecutive_bits_all}
+use Rattle.linker_base.proofs.Immediates.{always_clear}
+use Rattle.linker_elf.specs.AArch64.{aarch64_form, shift_of, access_scale}
+use Rattle.linker_elf.specs.Agrees.{InstructionAgrees, SizeAgrees, AgreesBy, AgreesInReach}
+use Rattle.linker_elf.specs.Agrees.{is_of_halves, is_of_words, bits_from, IsSameIn, aarch64_reads}
+use Rattle.linker_elf.specs.Elf.{IsWithin, relocation_form}
+use Rattle.linker_elf.specs.LoongArch.{loongarch_form}
+use Rattle.linker_elf.specs.Ppc64.{ppc64_form}
+use Rattle.linker_elf.specs.Reach.{aarch64_reach, riscv_reach, loongarch_reach, ppc64_reach}
+use Rattle.linker_elf.specs.Reach.{reach_of_size, reach_of}
+use Rattle.linker_elf.specs.Relocate.{places_cleared, ored_cleared, bits_taken}
+use Rattle.linker_elf.specs.Relocate.{InstructionWritten, IsWritten, InstructionReads, SizeReads}
+use Rattle.linker_elf.specs.Relocate.{takes_size, is_supported, is_call30, IsAligned, IsAccepted}
+use Rattle.linker_elf.specs.Relocate.{IsInUnits, MoveReads, with_bit_31_if}
+use Rattle.linker_elf.specs.Rows.{Bounds}
+use Rattle.linker_elf.specs.declared.aarch64.forms.AArch64Instruction.{AArch64Instruction}
+use Rattle.linker_elf.specs.declared.aarch64.forms.AArch64Instruction.TheVariants.{Movnz, MachOLow12}
+use Rattle.linker_elf.specs.declared.loongarch64.forms.LoongArch64Instruction.{LoongArch64Instruction}
+use Rattle.linker_elf.specs.declared.loongarch64.forms.LoongArch64Instruction.TheVariants.{Shift10, Call36}
+use Rattle.linker_elf.specs.declared.ppc64.forms.Ppc64Instruction.{Ppc64Instruction}
+use Rattle.linker_elf.specs.declared.ppc64.forms.Ppc64Instruction.TheVariants.{D, Ds}
+use Rattle.linker_elf.specs.declared.elf.RelocationInstruction.{RelocationInstruction}
+use Rattle.linker_elf.specs.declared.elf.RelocationInstruction.TheVariants.{AArch64, RiscV, Ppc64, LoongArch64}
+use Rattle.linker_elf.specs.declared.elf.RelocationKind.{RelocationKind}
+use Rattle.linker_elf.specs.declared.elf.RelocationKindInfo.{RelocationKindInfo}
+use Rattle.linker_elf.specs.declared.elf.RelocationSize.{RelocationSize}
+use Rattle.linker_elf.specs.declared.elf.RelocationSize.TheVariants.{ByteSize, BitMasking}
+use Rattle.linker_elf.specs.declared.riscv64.forms.RiscVInstruction.{RiscVInstruction}
+use Rattle.linker_elf.specs.declared.riscv64.forms.RiscVInstruction.TheVariants.{UType, IType, SType}
+use Rattle.linker_elf.specs.declared.riscv64.forms.RiscVInstruction.TheVariants.{CluiType, UiType}
+use Rattle.linker_elf.proofs.Clearing.{same_window, clear_after}
+use Rattle.linker_elf.proofs.Agreement.{rem_rem, from_zero}
+use Rattle.linker_elf.proofs.Placed.{reads_as}
+use Rattle.linker_elf.proofs.Taken.{taken_is_field, taken_below, taken_in_units}
+
+-- ---- what is within reach of one instruction is within the row's range
+
+aarch64_within : (f : AArch64Instruction) (bits : BitRange) (own : Bounds) (v : ℤ)
+    → IsWithin (aarch64_reach f bits own) v → IsWithin own v
+aarch64_within f bits None v h = tt
+aarch64_within Movnz bits (Some b) v h = h
+aarch64_within f bits (Some b) v h = h
+
+riscv_within : (f : RiscVInstruction) (own : Bounds) (v : ℤ) → is_of_halves f ≡ false
+    → IsWithin (riscv_reach f own) v → IsWithin own v
+riscv_within UType own v whole h = cc
+riscv_within IType own v whole h = cc
+riscv_within SType own v whole h = cc
+riscv_within CluiType own v whole h = cc
+riscv_within UiType own v whole h = cc
+riscv_within f own v whole h = h
+
+ppc64_within : (f : Ppc64Instruction) (bits : BitRange) (own : Bounds) (v : ℤ)
+    → IsWithin (ppc64_reach f bits own) v → IsWithin own v
+ppc64_within f bits None v h = tt
+ppc64_within D bits (Some b) v h = h
+ppc64_within f bits (Some b) v h = h
+
+loongarch_within : (f : LoongArch64Instruction) (own : Bounds) (v : ℤ) → is_of_words f ≡ false
+    → IsWithin (loongarch_reach f own) v → IsWithin own v
+loongarch_within Call36 own v whole h = cc
+loongarch_within f own v whole h = h
+
+-- The value is within bounds, if the instruction's number is that of the value's bits.
+abbrev IsInside : RelocationInstruction → Bounds → ℤ → Type 0
+IsInside (AArch64 f) b v = IsWithin b v
+IsInside (RiscV f) b v = is_of_halves f ≡ false → IsWithin b v
+IsInside (Ppc64 f) b v = IsWithin b v
+IsInside (LoongArch64 f) b v = is_of_words f ≡ false → IsWithin b v
+
+inside_own : (insn : RelocationInstruction) (kind : RelocationKind) (bits : BitRange) (own : Bounds)
+    (v : ℤ) → IsWithin (reach_of_size kind (BitMasking bits insn) own) v → IsInside insn own v
+inside_own (AArch64 f) kind bits own v h = aarch64_within f bits own v h
+inside_own (RiscV f) kind bits own v h = λ whole. riscv_within f own v whole h
+inside_own (Ppc64 f) kind bits own v h = ppc64_within f bits own v h
+inside_own (LoongArch64 f) kind bits own v h = λ whole. loongarch_within f own v whole h
+
+inside_reach : (insn : RelocationInstruction) (b : Bounds) (v : ℤ) → IsWithin b v
+    → IsInside insn b v
+inside_reach (AArch64 f) b v h = h
+inside_reach (RiscV f) b v h = λ whole. h
+inside_reach (Ppc64 f) b v h = h
+inside_reach (LoongArch64 f) b v h = λ whole. h
+
+-- the same of a size
+abbrev IsInsideSize : RelocationSize → Bounds → ℤ → Type 0
+IsInsideSize (ByteSize n) b v = ⊤
+IsInsideSize (BitMasking bits insn) b v = IsInside insn b v
+
+own_size : (kind : RelocationKind) (size : RelocationSize) (own : Bounds) (v : ℤ)
+    → IsWithin (reach_of_size kind size own) v → IsInsideSize size own v
+own_size kind (ByteSize n) own v h = tt
+own_size kind (BitMasking bits insn) own v h = inside_own insn kind bits own v h
+
+reached_size : (size : RelocationSize) (b : Bounds) (v : ℤ) → IsWithin b v → IsInsideSize size b v
+reached_size (ByteSize n) b v h = tt
+reached_size (BitMasking bits insn) b v h = inside_reach insn b v h
+
+-- ---- the window is ready once it is cleared
+
+aarch64_clear : (f : AArch64Instruction) (before after : ℕ) → BitsWritten (ored_cleared ((aarch64_form f).places before)) 0 before after → IsClear ((aarch64_form f).places after) after
+aarch64_clear MachOLow12 before after laid = consecutive_bits_all (λ (p : ImmediateBit). IsTrue (is_clear_at p.mark (bit_at after p.insn_bit))) (access_scale after + 11 + 1 - access_scale after) (access_scale after) 10 0 replaced (λ j l. refl)
+aarch64_clear f before after laid = clear_after ((aarch64_form f).places before) before after laid.placed
+
+shift_kept : (f : AArch64Instruction) (s before after : ℕ) → BitsWritten (ored_cleared ((aarch64_form f).places before)) 0 before after → (f ≡ Movnz → shift_of before ≡ s) → f ≡ Movnz → shift_of after ≡ s
+shift_kept f s before after laid h e =
+    ap shift_of (same_window 0 before after (subst (λ g. BitsWritten (ored_cleared ((aarch64_form g).places before)) 0 before after) e laid)) ∙ h e
+
+loongarch_ready : (f : LoongArch64Instruction) (is_signed : Bool) (bits : BitRange) (before after : ℕ) → BitsWritten (places_cleared (LoongArch64 f) bits before) 0 before after
+    → (f ≡ Shift10 → is_signed ≡ true → 12 < bits.end - bits.start) → is_signed ≡ true → IsClear ((loongarch_form f).places after) after
+loongarch_ready Shift10 is_signed bits before after laid wide t =
+    let l : BitsWritten (ored_cleared ((loongarch_form Shift10).places before)) 0 before after = rw (lt-ltb 12 (bits.end - bits.start) (wide refl t)) at laid in
+    clear_after ((loongarch_form Shift10).places before) before after l.placed
+loongarch_ready f is_signed bits before after laid wide t = always_clear ((loongarch_form f).places after) after refl
+
+-- ---- what is read
+
+part_of_part : (z : ℤ) (k n : ℕ) → n ≤ k
+    → int_rem_euclid (int_rem_euclid z (pos (2 ^ k))) (pos (2 ^ n)) ≡ int_rem_euclid z (pos (2 ^ n))
+part_of_part (pos b) k n l = rem_rem (pos b) (b % 2 ^ k) k n l refl
+part_of_part (negsuc b) k n l = rem_rem (negsuc b) (2 ^ k - 1 - b % 2 ^ k) k n l refl
+
+-- MOVN and MOVZ of 32 bits: those of 64, of whose number the register keeps 32 bits
+kept_bits : (s : ℕ) (n : ℤ) → (s ≡ 0) ⊎ (s ≡ 16)
+    → bits_from s (int_rem_euclid n (pos (2 ^ 32)))
+    ≡ int_rem_euclid (bits_from s n) (pos (2 ^ (32 - s)))
+kept_bits s n (inl e) =
+    subst (λ t. bits_from t (int_rem_euclid n (pos (2 ^ 32)))
+    ≡ int_rem_euclid (bits_from t n) (pos (2 ^ (32 - t)))) (sym e)
+    (from_zero (int_rem_euclid n (pos (2 ^ 32)))
+    ∙ ap (λ z. int_rem_euclid z (pos (2 ^ 32))) (sym (from_zero n)))
+kept_bits s (pos b) (inr e) =
+    subst (λ t. bits_from t (int_rem_euclid (pos b) (pos (2 ^ 32)))
+    ≡ int_rem_euclid (bits_from t (pos b)) (pos (2 ^ (32 - t)))) (sym e) (ap pos (omega arith))
+kept_bits s (negsuc b) (inr e) =
+    subst (λ t. bits_from t (int_rem_euclid (negsuc b) (pos (2 ^ 32)))
+    ≡ int_rem_euclid (bits_from t (negsuc b)) (pos (2 ^ (32 - t)))) (sym e) (ap pos (omega arith))
+
+-- a shift below 32 is 0 or 16
+short_shift : (word s e : ℕ) → shift_of word ≡ s → s < e → e ≤ 32 → (s ≡ 0) ⊎ (s ≡ 16)
+short_shift word s e shift some short =
+    elim (cases_lt (field word 21 23) 1) [
+      | inl none ↦ inl (omega arith)
+      | inr one ↦ inr (omega arith)
+    ]
+
+move_reads : (narrow : Bool) (bits : BitRange) (b : Bounds) (v : ℤ) (after : ℕ)
+    → (narrow ≡ true → ((bits.start ≡ 0) ⊎ (bits.start ≡ 16)) × (bits.end ≤ 32))
+    → IsSameIn b (bits.end - bits.start)
+    (aarch64_reads Movnz bits.start (with_bit_31_if narrow after)) (bits_from bits.start v)
+    → MoveReads narrow bits b v after
+move_reads false bits b v after short same = same
+move_reads true bits (Some b) v after short same =
+    kept_bits bits.start ((aarch64_form Movnz).machine (after + 2 ^ 31)) (short refl).0
+    ∙ ap (λ z. int_rem_euclid z (pos (2 ^ (32 - bits.start)))) same
+move_reads true bits None v after short same =
+    let n = (aarch64_form Movnz).machine (after + 2 ^ 31) in
+    ap (λ z. int_rem_euclid z (pos (2 ^ (bits.end - bits.start))))
+    (kept_bits bits.start n (short refl).0)
+    ∙ part_of_part (bits_from bits.start n) (32 - bits.start) (bits.end - bits.start)
+    (let end = (short refl).1 in omega arith) ∙ same.0
+
+aarch64_instruction_reads : (is_signed : Bool) (f : AArch64Instruction) (bits : BitRange)
+    (reached : Bounds) (a : ℕ) (v : ℤ) (before after : List ℕ)
+    → FitsSigned w64 v → bits.start < bits.end → bits.end ≤ 64 → IsWithin reached v
+    → IsAligned a v
+    → InstructionWritten (AArch64 f) bits v before after
+    → InstructionAgrees is_signed (AArch64 f) bits reached a
+    → InstructionReads is_signed (AArch64 f) bits reached v (window_of (aarch64_form f) before)
+    (window_of (aarch64_form f) after)
+aarch64_instruction_reads is_signed Movnz bits reached a v before after small some inside within
+    aligned w agrees = λ shift short.
+    let x = window_of (aarch64_form Movnz) before in
+    let y = window_of (aarch64_form Movnz) after in
+    move_reads (bit_at x 31 == 0) bits reached v y
+    (λ narrow. let end = short (eqb-true (bit_at x 31) 0 narrow) in
+    (short_shift x bits.start bits.end shift some end, end))
+    (agrees v (bits_taken bits v) w.clear (with_bit_31_if (bit_at x 31 == 0) y) within aligned
+    (taken_is_field bits v small some inside) (
+      aarch64_clear Movnz x w.clear w.clears,
+      shift_kept Movnz bits.start x w.clear w.clears (λ e. shift),
+    ) w.written)
+aarch64_instruction_reads is_signed f bits reached a v before after small some inside within
+    aligned w agrees =
+    let x = window_of (aarch64_form f) before in
+    agrees v (bits_taken bits v) w.clear (window_of (aarch64_form f) after) within aligned
+    (taken_is_field bits v small some inside)
+    (aarch64_clear f x w.clear w.clears, λ e. cc) w.written
+
+ppc64_instruction_reads : (is_signed : Bool) (f : Ppc64Instruction) (bits : BitRange)
+    (reached : Bounds) (a : ℕ) (v : ℤ) (before after : List ℕ)
+    → FitsSigned w64 v → bits.start < bits.end → bits.end ≤ 64 → IsWithin reached v
+    → IsAligned a v → IsInUnits (BitMasking bits (Ppc64 f)) v before
+    → InstructionWritten (Ppc64 f) bits v before after
+    → InstructionAgrees is_signed (Ppc64 f) bits reached a
+    → InstructionReads is_signed (Ppc64 f) bits reached v (window_of (ppc64_form f) before)
+    (window_of (ppc64_form f) after)
+ppc64_instruction_reads is_signed Ds bits reached a v before after small some inside within aligned
+    units w agrees = λ start.
+    let r = reads_as (bits_taken bits v) (window_of (ppc64_form Ds) before) w.clear
+    (window_of (ppc64_form Ds) after) (int_lt v (pos 0)) (taken_below bits v inside)
+    (λ is. taken_in_units bits v small (start is) inside some (units is)) w.clears w.written in
+    subst (λ z. IsSameIn reached (bits.end - bits.start) z (bits_from bits.start v)) (sym r.reads)
+    (agrees v (bits_taken bits v) r.old r.window within aligned
+    (taken_is_field bits v small some inside) tt r.written)
+ppc64_instruction_reads is_signed f bits reached a v before after small some inside within aligned
+    units w agrees =
+    agrees v (bits_taken bits v) w.clear (window_of (ppc64_form f) after) within aligned
+    (taken_is_field bits v small some inside) tt w.written
+
+instruction_reads : (is_signed : Bool) (insn : RelocationInstruction) (bits : BitRange)
+    (reached : Bounds) (a : ℕ) (v : ℤ) (before after : List ℕ)
+    → FitsSigned w64 v → bits.start < bits.end → bits.end ≤ 64 → IsInside insn reached v
+    → IsAligned a v → IsInUnits (BitMasking bits insn) v before
+    → InstructionWritten insn bits v before after → InstructionAgrees is_signed insn bits reached a
+    → InstructionReads is_signed insn bits reached v (window_of (relocation_form insn) before)
+    (window_of (relocation_form insn) after)
+instruction_reads is_signed (AArch64 f) bits reached a v before after small some inside within
+    aligned units w agrees =
+    aarch64_instruction_reads is_signed f bits reached a v before after small some inside within
+    aligned w agrees
+instruction_reads is_signed (RiscV f) bits reached a v before after small some inside within aligned
+    units w agrees = λ whole.
+    agrees whole v (bits_taken bits v) w.clear
+    (window_of (relocation_form (RiscV f)) after) (within whole) aligned
+    (taken_is_field bits v small some inside) tt w.written
+instruction_reads is_signed (Ppc64 f) bits reached a v before after small some inside within aligned
+    units w agrees =
+    ppc64_instruction_reads is_signed f bits reached a v before after small some inside within
+    aligned units w agrees
+instruction_reads is_signed (LoongArch64 f) bits reached a v before after small some inside within
+    aligned units w agrees = λ whole wide.
+    let x = window_of (loongarch_form f) before in
+    agrees whole v (bits_taken bits v) w.clear (window_of (loongarch_form f) after)
+    (within whole) aligned
+    (taken_is_field bits v small some inside)
+    (loongarch_ready f is_signed bits x w.clear w.clears wide) w.written
+
+-- a row that can be written takes some of a value's 64 bits
+pub taken_bits_inside : (kind : RelocationKind) (bits : BitRange) (insn : RelocationInstruction)
+    → takes_size kind (BitMasking bits insn) ≡ true → (bits.start < bits.end) × (bits.end ≤ 64)
+taken_bits_inside kind bits insn takes =
+    let t = and_parts (ltb bits.start bits.end && ltb bits.end 65) (not (is_call30 insn)) takes in
+    let ends = and_parts (ltb bits.start bits.end) (ltb bits.end 65) t.0 in
+    let below = ltb-true bits.end 65 ends.1 in
+    (ltb-true bits.start bits.end ends.0, omega arith)
+
+size_reads : (is_signed : Bool) (size : RelocationSize) (kind : RelocationKind) (reached : Bounds)
+    (a : ℕ) (v : ℤ) (before after : List ℕ)
+    → FitsSigned w64 v → takes_size kind size ≡ true → IsInsideSize size reached v → IsAligned a v
+    → IsInUnits size v before
+    → IsWritten size kind v before after → SizeAgrees is_signed size reached a
+    → SizeReads is_signed size reached v before after
+size_reads is_signed (ByteSize n) kind reached a v before after small takes within aligned units w
+    agrees = tt
+size_reads is_signed (BitMasking bits insn) kind reached a v before after small takes within aligned
+    units w agrees =
+    let t = taken_bits_inside kind bits insn takes in
+    instruction_reads is_signed insn bits reached a v before after small t.0 t.1 within aligned units
+    w agrees
+
+-- a row that can be written takes bits of its size
+pub supported_size : (row : RelocationKindInfo) → is_supported row ≡ true
+    → takes_size row.kind row.size ≡ true
+supported_size row h =
+    let parts = and_parts (takes_size row.kind row.size && ltb 0 row.alignment)
+    (ltb row.alignment (2 ^ 63)) h in
+    (and_parts (takes_size row.kind row.size) (ltb 0 row.alignment) parts.0).0
+
+pub row_reads : (is_signed : Bool) (row : RelocationKindInfo) (v : ℤ) (before after : List ℕ)
+    → FitsSigned w64 v → IsAccepted row v before → IsWritten row.size row.kind v before after
+    → AgreesBy is_signed row → SizeReads is_signed row.size row.range.bounds v before after
+row_reads is_signed row v before after small accepted w agrees =
+    size_reads is_signed row.size row.kind row.range.bounds row.alignment v before after small
+    (supported_size row accepted.supported)
+    (own_size row.kind row.size row.range.bounds v accepted.reached.0)
+    accepted.aligned.0 accepted.aligned.1 w agrees
+
+pub row_reads_in_reach : (is_signed : Bool) (row : RelocationKindInfo) (v : ℤ)
+    (before after : List ℕ)
+    → FitsSigned w64 v → IsAccepted row v before → IsWritten row.size row.kind v before after
+    → AgreesInReach is_signed row → SizeReads is_signed row.size (reach_of row) v before after
+row_reads_in_reach is_signed row v before after small accepted w agrees =
+    size_reads is_signed row.size row.kind (reach_of row) row.alignment v before after small
+    (supported_size row accepted.supported)
+    (reached_size row.size (reach_of row) v accepted.reached.0)
+    accepted.aligned.0 accepted.aligned.1 w agrees

@@ -1,0 +1,73 @@
+-- Each entry of a table of rows is the row of its name, with what a write of it tests and with its
+-- numbers: by computation, name by name.
+use Rattle.std.proofs.Common.{refl, subst, sym, slice_index_or, ap, Option, Some, None, IfSome}
+use denote.Enum.Declared.{tag_of}
+use Rattle.linker_elf.specs.Agrees.{RowFits}
+use Rattle.linker_elf.specs.Inner.RowTables.{IsEntryOf, IsSound}
+use Rattle.linker_elf.specs.declared.elf.RelocationKindInfo.{RelocationKindInfo}
+use Rattle.linker_elf.specs.declared.elf.rows.TableRow.{TableRow}
+use Rattle.linker_elf.specs.AArch64Relocations.{aarch64_row}
+use Rattle.linker_elf.specs.contracts.aarch64.relocations.AArch64Relocation as aarch64
+use Rattle.linker_elf.specs.declared.aarch64.relocations.TheConstants as aarch64_table
+use Rattle.linker_elf.specs.declared.aarch64.relocations.AArch64Relocation.{AArch64Relocation}
+use Rattle.linker_elf.specs.declared.aarch64.relocations.AArch64Relocation.TheVariants.{R_AARCH64_NONE}
+use Rattle.linker_elf.specs.RiscVRelocations.{riscv_relocation}
+use Rattle.linker_elf.specs.contracts.riscv64.relocations.RiscVRelocation as riscv64
+use Rattle.linker_elf.specs.declared.riscv64.relocations.TheConstants as riscv64_table
+use Rattle.linker_elf.specs.declared.riscv64.relocations.RiscVRelocation.{RiscVRelocation}
+use Rattle.linker_elf.specs.declared.riscv64.relocations.RiscVRelocation.TheVariants.{R_RISCV_NONE}
+use Rattle.linker_elf.specs.LoongArchRelocations.{loongarch_row}
+use Rattle.linker_elf.specs.contracts.loongarch64.relocations.LoongArch64Relocation as loongarch64
+use Rattle.linker_elf.specs.declared.loongarch64.relocations.TheConstants as loongarch64_table
+use Rattle.linker_elf.specs.declared.loongarch64.relocations.LoongArch64Relocation.{LoongArch64Relocation}
+use Rattle.linker_elf.specs.declared.loongarch64.relocations.LoongArch64Relocation.TheVariants.{R_LARCH_NONE}
+use Rattle.linker_elf.specs.Ppc64Relocations.{ppc64_row}
+use Rattle.linker_elf.specs.contracts.ppc64.relocations.Ppc64Relocation as ppc64
+use Rattle.linker_elf.specs.declared.ppc64.relocations.TheConstants as ppc64_table
+use Rattle.linker_elf.specs.declared.ppc64.relocations.Ppc64Relocation.{Ppc64Relocation}
+use Rattle.linker_elf.specs.declared.ppc64.relocations.Ppc64Relocation.TheVariants.{R_PPC64_NONE}
+use Rattle.linker_elf.specs.X86Relocations.{x86_64_row}
+use Rattle.linker_elf.specs.contracts.x86_64.relocations.X86_64Relocation as x86_64
+use Rattle.linker_elf.specs.declared.x86_64.relocations.TheConstants as x86_64_table
+use Rattle.linker_elf.specs.declared.x86_64.relocations.X86_64Relocation.{X86_64Relocation}
+use Rattle.linker_elf.specs.declared.x86_64.relocations.X86_64Relocation.TheVariants.{R_X86_64_NONE}
+
+pub aarch64_rows : (name : AArch64Relocation)
+    → IsEntryOf (aarch64_row name) (slice_index_or aarch64_table.ROWS.now (tag_of aarch64.the_type name) None)
+aarch64_rows R_AARCH64_NONE = record { row_is = refl; entry_is = refl }
+aarch64_rows name = record { row_is = refl; entry_is = refl }
+
+pub riscv_rows : (name : RiscVRelocation)
+    → IsEntryOf ((riscv_relocation name).row) (slice_index_or riscv64_table.ROWS.now (tag_of riscv64.the_type name) None)
+riscv_rows R_RISCV_NONE = record { row_is = refl; entry_is = refl }
+riscv_rows name = record { row_is = refl; entry_is = refl }
+
+pub loongarch_rows : (name : LoongArch64Relocation)
+    → IsEntryOf (loongarch_row name) (slice_index_or loongarch64_table.ROWS.now (tag_of loongarch64.the_type name) None)
+loongarch_rows R_LARCH_NONE = record { row_is = refl; entry_is = refl }
+loongarch_rows name = record { row_is = refl; entry_is = refl }
+
+pub ppc64_rows : (name : Ppc64Relocation)
+    → IsEntryOf (ppc64_row name) (slice_index_or ppc64_table.ROWS.now (tag_of ppc64.the_type name) None)
+ppc64_rows R_PPC64_NONE = record { row_is = refl; entry_is = refl }
+ppc64_rows name = record { row_is = refl; entry_is = refl }
+
+pub x86_64_rows : (name : X86_64Relocation)
+    → IsEntryOf (x86_64_row name) (slice_index_or x86_64_table.ROWS.now (tag_of x86_64.the_type name) None)
+x86_64_rows R_X86_64_NONE = record { row_is = refl; entry_is = refl }
+x86_64_rows name = record { row_is = refl; entry_is = refl }
+
+-- the entry, or another where there is none
+abbrev some_or : TableRow → Option TableRow → TableRow
+some_or other None = other
+some_or other (Some entry) = entry
+
+-- such an entry is sound where the row's bits fit its instruction
+pub sound_from : (row : Option RelocationKindInfo) (entry : Option TableRow) → IsEntryOf row entry
+    → IfSome row RowFits → IfSome entry IsSound
+sound_from row None is fits = tt
+sound_from row (Some entry) is fits =
+    record {
+      is = ap (some_or entry) is.entry_is;
+      fits = subst (λ r. IfSome r RowFits) (sym is.row_is) fits;
+    }

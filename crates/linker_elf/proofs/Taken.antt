@@ -1,0 +1,129 @@
+-- The bits of a value that are written are bits of the whole number.
+use Rattle.std.proofs.Common.{IsTrue, nat_eq, bit_and, unsigned_abs}
+use Rattle.std.proofs.Common.{FitsSigned, ◌≡◌, ℕ, suc, ◌+◌, ◌-◌, ◌*◌, ◌/◌, ◌%◌, ◌^◌, ◌<◌, ◌≤◌, ◌+ℤ◌, refl, sym, ◌∙◌, ap, subst, arith, ℤ, pos, negsuc}
+use Rattle.std.specs.Int.{w64, cast_unsigned, int_rem_euclid}
+use Rattle.std.proofs.Common.{inl, inr}
+use Rattle.std.proofs.lemmas.Bool.{eqb-true, cases_lt}
+use Rattle.std.proofs.lemmas.Int.{ints, int_rem_euclid_is}
+use Rattle.std.proofs.lemmas.Nat.{pow_pos, pow-add, mod_below, div-add-mod', div-mul-add}
+use Rattle.std.proofs.lemmas.Nat.{one_shl}
+use Rattle.std.proofs.Math.Nat.{div-lt_iff_lt-mul, mod-eq_of_lt}
+use Rattle.linker_base.specs.declared.bit_misc.BitRange.{BitRange}
+use Rattle.linker_base.proofs.Bits.{low_mask_keeps}
+use Rattle.linker_base.proofs.Immediates.{subst_below}
+use Rattle.linker_elf.specs.Agrees.{IsFieldOf, bits_from}
+use Rattle.linker_elf.specs.Relocate.{bits_taken, IsAligned}
+use Rattle.linker_elf.proofs.Agreement.{rem_rem, from_zero}
+
+-- the quotient of a complement is the complement of the quotient
+complement : (n m d q r : ℕ) → n ≡ q * d + r → r < d → q < m → m * d - suc n ≡ (m - suc q) * d + (d - suc r)
+complement n m d q r e small below =
+    let parts : m ≡ (m - suc q) + suc q = omega arith in
+    let split : m * d ≡ (m - suc q) * d + suc q * d = ap (λ x. x * d) parts ∙ right_distrib (m - suc q) (suc q) d in
+    let more : suc q * d ≡ q * d + d = turn q d in
+    omega arith
+  where
+    right_distrib : (a b d : ℕ) → (a + b) * d ≡ a * d + b * d
+    right_distrib a b d = grind arith
+
+    turn : (q d : ℕ) → suc q * d ≡ q * d + d
+    turn q d = grind arith
+
+complement_quotient : (n m s : ℕ) → n < 2 ^ (m + s) → (2 ^ (m + s) - suc n) / 2 ^ s ≡ 2 ^ m - suc (n / 2 ^ s)
+complement_quotient n m s h =
+    let d = 2 ^ s in
+    let some = pow_pos s in
+    let below : n / d < 2 ^ m = (div-lt_iff_lt-mul {k = d} {x = n} {y = 2 ^ m} some).1 (subst (λ y. n < y) (pow-add 2 m s) h) in
+    let rest = mod_below n d some in
+    let is = complement n (2 ^ m) d (n / d) (n % d) (sym (div-add-mod' n d)) rest below in
+    let left : d - suc (n % d) < d = omega arith in
+    ap (λ y. (y - suc n) / d) (pow-add 2 m s) ∙ ap (λ y. y / d) is ∙ div-mul-add (2 ^ m - suc (n / d)) d (d - suc (n % d)) left
+
+negative : (n s k m : ℕ) → m + k + s ≡ 64 → n < 2 ^ 64 → pos ((2 ^ 64 - suc n) / 2 ^ s % 2 ^ k) ≡ int_rem_euclid (negsuc (n / 2 ^ s)) (pos (2 ^ k))
+negative n s k m e small =
+    let wide : n < 2 ^ (m + k + s) = subst (λ y. n < 2 ^ y) (sym e) small in
+    let quotient : (2 ^ 64 - suc n) / 2 ^ s ≡ 2 ^ (m + k) - suc (n / 2 ^ s) = ap (λ y. (2 ^ y - suc n) / 2 ^ s) (sym e) ∙ complement_quotient n (m + k) s wide in
+    let below : n / 2 ^ s < 2 ^ (m + k) = (div-lt_iff_lt-mul {k = 2 ^ s} {x = n} {y = 2 ^ (m + k)} (pow_pos s)).1 (subst (λ y. n < y) (pow-add 2 (m + k) s) wide) in
+    let whole : negsuc (n / 2 ^ s) +ℤ pos (2 ^ m * 2 ^ k) ≡ pos (2 ^ (m + k) - suc (n / 2 ^ s)) =
+    subst (λ y. negsuc (n / 2 ^ s) +ℤ pos y ≡ pos (2 ^ (m + k) - suc (n / 2 ^ s))) (pow-add 2 m k) (omega (arith, ints)) in
+    ap (λ y. pos (y % 2 ^ k)) quotient ∙ sym (int_rem_euclid_is (negsuc (n / 2 ^ s)) (pos (2 ^ k)) (2 ^ k) (2 ^ m) (2 ^ (m + k) - suc (n / 2 ^ s)) (pow_pos k) refl whole)
+
+pub taken_is_field : (bits : BitRange) (v : ℤ) → FitsSigned w64 v → bits.start < bits.end → bits.end ≤ 64 → IsFieldOf v bits.start bits.end (bits_taken bits v)
+taken_is_field bits (pos n) h some inside = refl
+taken_is_field bits (negsuc n) h some inside =
+    let small : n < 2 ^ 63 = h.sfits in
+    negative n bits.start (bits.end - bits.start) (64 - bits.end) (omega arith) (omega arith)
+
+-- ---- multiples of powers of two
+
+low_bits_are_rest : (v : ℤ) (k : ℕ) → FitsSigned w64 v → k ≤ 64
+    → pos (cast_unsigned w64 v % 2 ^ k) ≡ int_rem_euclid v (pos (2 ^ k))
+low_bits_are_rest (pos n) k h most = refl
+low_bits_are_rest (negsuc n) k h most =
+    let small : n < 2 ^ 63 = h.sfits in
+    let one : n / 2 ^ 0 ≡ n = omega arith in
+    let whole : (2 ^ 64 - suc n) / 2 ^ 0 ≡ 2 ^ 64 - suc n = omega arith in
+    let from_bit_0 = negative n 0 k (64 - k) (omega arith) (omega arith) in
+    subst (λ x. pos (x % 2 ^ k) ≡ int_rem_euclid (negsuc n) (pos (2 ^ k))) whole
+    (subst (λ x. pos ((2 ^ 64 - suc n) / 2 ^ 0 % 2 ^ k) ≡ int_rem_euclid (negsuc x) (pos (2 ^ k)))
+    one from_bit_0)
+
+zero_is : (n : ℕ) → n ≡ 0 → IsTrue (nat_eq n 0)
+zero_is n h = rw h refl
+
+-- the code's test of a power of two's multiples
+abbrev pub HasNoLowBits : ℕ → ℕ → Type 0
+HasNoLowBits n k = IsTrue (nat_eq (bit_and n (1 * 2 ^ k % 18446744073709551616 - 1)) 0)
+
+pub is_multiple : (v : ℤ) (n a k : ℕ) → FitsSigned w64 v → n ≡ cast_unsigned w64 v → k < 64
+    → a ≡ 1 * 2 ^ k % 18446744073709551616
+    → (HasNoLowBits n k → IsAligned a v) × (IsAligned a v → HasNoLowBits n k)
+is_multiple v n a k h is most e =
+    let unit : a ≡ 2 ^ k = e ∙ one_shl k 64 most in
+    let low : pos (n % 2 ^ k) ≡ int_rem_euclid v (pos (2 ^ k)) =
+    ap (λ x. pos (x % 2 ^ k)) is ∙ low_bits_are_rest v k h (omega arith) in
+    let there : IsTrue (nat_eq (n % 2 ^ k) 0) → IsAligned (2 ^ k) v =
+    λ yes. sym low ∙ ap pos (eqb-true (n % 2 ^ k) 0 yes) in
+    let back : IsAligned (2 ^ k) v → IsTrue (nat_eq (n % 2 ^ k) 0) =
+    λ z. zero_is (n % 2 ^ k) (ap unsigned_abs (low ∙ z)) in
+    rw (low_mask_keeps n k most, unit) (there, back)
+
+-- the bits that are taken of a value have its low n bits
+pub taken_low : (n : ℕ) (bits : BitRange) (v : ℤ) → FitsSigned w64 v → bits.start ≡ 0 → n ≤ bits.end
+    → bits.end ≤ 64 → bits.start < bits.end
+    → pos (bits_taken bits v % 2 ^ n) ≡ int_rem_euclid v (pos (2 ^ n))
+taken_low n bits v small start long inside some =
+    let e : pos (bits_taken bits v) ≡ int_rem_euclid (bits_from bits.start v) (pos (2 ^ (bits.end - bits.start))) = taken_is_field bits v small some inside in
+    let from : bits_from bits.start v ≡ v = ap (λ s. bits_from s v) start ∙ from_zero v in
+    rem_rem v (bits_taken bits v) (bits.end - bits.start) n (omega arith) (e
+    ∙ ap (λ z. int_rem_euclid z (pos (2 ^ (bits.end - bits.start)))) from)
+
+pub taken_below : (bits : BitRange) (v : ℤ) → bits.end ≤ 64 → bits_taken bits v < 2 ^ 64
+taken_below bits v inside =
+    subst_below (bits_taken bits v) (bits.end - bits.start) 64
+    (mod_below (cast_unsigned w64 v / 2 ^ bits.start) (2 ^ (bits.end - bits.start)) (pow_pos (bits.end - bits.start))) (omega arith)
+
+-- those of bits from 0 up
+taken_below_end : (bits : BitRange) (v : ℤ) → bits.start ≡ 0 → bits_taken bits v < 2 ^ bits.end
+taken_below_end bits v start =
+    let width : bits.end - bits.start ≡ bits.end = omega arith in
+    subst (λ n. bits_taken bits v < 2 ^ n) width
+    (mod_below (cast_unsigned w64 v / 2 ^ bits.start) (2 ^ (bits.end - bits.start))
+    (pow_pos (bits.end - bits.start)))
+
+-- the bits that are taken of a multiple of 16 are one too
+pub taken_in_units : (bits : BitRange) (v : ℤ) → FitsSigned w64 v → bits.start ≡ 0
+    → bits.end ≤ 64 → bits.start < bits.end → IsAligned 16 v → bits_taken bits v % 16 ≡ 0
+taken_in_units bits v small start inside some aligned =
+    elim (cases_lt bits.end 4) [
+      | inl short ↦
+          let f = bits_taken bits v in
+          let e : pos (f % 2 ^ bits.end) ≡ int_rem_euclid v (pos (2 ^ bits.end)) =
+          taken_low bits.end bits v small start (omega arith) inside some in
+          let none : int_rem_euclid v (pos (2 ^ bits.end)) ≡ pos (0 % 2 ^ bits.end) =
+          sym (rem_rem v 0 4 bits.end (omega arith) (sym aligned)) in
+          let zero : f % 2 ^ bits.end ≡ 0 % 2 ^ bits.end = ap unsigned_abs (e ∙ none) in
+          let below : f < 2 ^ bits.end = taken_below_end bits v start in
+          ap (λ y. y % 16) (sym (mod-eq_of_lt below) ∙ zero ∙ mod-eq_of_lt (pow_pos bits.end))
+      | inr long ↦ ap unsigned_abs (taken_low 4 bits v small start long inside some ∙ aligned)
+    ]

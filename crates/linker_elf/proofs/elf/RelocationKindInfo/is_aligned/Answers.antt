@@ -1,0 +1,11 @@
+use Rattle.std.proofs.Common.{rules, arith, ◌%◌}
+use Rattle.std.specs.Int.{w64, trailing_zeros}
+use Rattle.linker_elf.proofs.Taken.{is_multiple}
+use Rattle.linker_elf.proofs.elf.RelocationKindInfo.is_aligned.Goals as goal
+
+pub returns-then-self-unit : goal.returns-then-self-unit
+returns-then-self-unit c =
+    let row = c.args.self.now in
+    is_multiple c.args.value c.cast_unsigned.result row.alignment
+    (trailing_zeros w64 row.alignment % 64) c.ranges.value (search rules) (omega arith)
+    (search rules)

@@ -1,0 +1,5 @@
+pub mod FormLaws
+pub mod Immediates
+pub mod Masks
+pub mod RowTables
+pub mod Runs

@@ -1,0 +1,65 @@
+-- Entries of the tables of rows.
+use Rattle.std.specs.Prelude.{◌≡◌, Option, Some, None, if◌then◌else◌, ◌==◌}
+use Rattle.linker_elf.specs.Agrees.{RowFits}
+use Rattle.linker_elf.specs.Bounds.{least_within, last_within}
+use Rattle.linker_elf.specs.Numbers.{numbers_of}
+use Rattle.linker_elf.specs.Reach.{reach_of}
+use Rattle.linker_elf.specs.Relocate.{is_supported, window_len}
+use Rattle.linker_elf.specs.declared.elf.RelocationKindInfo.{RelocationKindInfo}
+use Rattle.linker_elf.specs.declared.elf.rows.TableRow.{TableRow}
+use Rattle.linker_elf.specs.declared.elf.rows.WriteTests.{WriteTests}
+
+-- what a write of a row tests
+abbrev pub tests_of : RelocationKindInfo → WriteTests
+tests_of row =
+    record {
+      is_supported = is_supported row;
+      window = window_len row;
+      least = least_within (reach_of row);
+      last = last_within (reach_of row);
+    }
+
+-- the entry of a row
+abbrev pub entry_of : RelocationKindInfo → TableRow
+entry_of row =
+    record {
+      kind = row.kind;
+      size = row.size;
+      mask = row.mask;
+      numbers = numbers_of row;
+      tests = tests_of row;
+    }
+
+-- the row of an entry
+abbrev pub info_of : TableRow → RelocationKindInfo
+info_of entry =
+    record {
+      kind = entry.kind;
+      size = entry.size;
+      mask = entry.mask;
+      range = record {
+        bounds = if entry.numbers.has_range == 1 then Some (entry.numbers.min, entry.numbers.max) else None;
+      };
+      alignment = entry.numbers.alignment;
+      bias = if entry.numbers.bias == 0 then None else Some entry.numbers.bias;
+      thunkable = entry.numbers.thunkable == 1;
+      implicit_addend = entry.numbers.implicit_addend == 1;
+    }
+
+-- the entry is that of its row, whose bits fit its instruction
+pub record IsSound (entry : TableRow) : Type 0 where
+  pub is : entry ≡ entry_of (info_of entry)
+  pub fits : RowFits (info_of entry)
+
+abbrev pub info_in : Option TableRow → Option RelocationKindInfo
+info_in None = None
+info_in (Some entry) = Some (info_of entry)
+
+abbrev pub entry_in : Option RelocationKindInfo → Option TableRow
+entry_in None = None
+entry_in (Some row) = Some (entry_of row)
+
+-- an entry of a table is the row of its name
+pub record IsEntryOf (row : Option RelocationKindInfo) (entry : Option TableRow) : Type 0 where
+  pub row_is : info_in entry ≡ row
+  pub entry_is : entry ≡ entry_in (info_in entry)

@@ -1,0 +1,185 @@
+-- The relocations of PowerPC64 (64-bit ELF V2 ABI for Power, "Relocation Types").
+use Rattle.std.specs.Prelude.{codes, ℕ, Option, None, Bool, true, false, if◌then◌else◌}
+use Rattle.linker_elf.specs.ElfNames.{ElfName}
+use Rattle.linker_elf.specs.Rows.{Relocation, with_row, unnamed_relocation, bytes_row, bits_row}
+use Rattle.linker_elf.specs.Rows.{signed_row, signed_or_unsigned_row, aligned_row, biased_row}
+use Rattle.linker_elf.specs.declared.elf.RelocationKind.{RelocationKind}
+use Rattle.linker_elf.specs.declared.elf.RelocationKind.TheVariants.{Absolute, DtpOff}
+use Rattle.linker_elf.specs.declared.elf.RelocationKind.TheVariants.{GotRelative, GotTpOffGotBase}
+use Rattle.linker_elf.specs.declared.elf.RelocationKind.TheVariants.{GotRelGotBase, GotTpOff}
+use Rattle.linker_elf.specs.declared.elf.RelocationKind.TheVariants.{PltRelGotBase, TlsGd, TlsLd}
+use Rattle.linker_elf.specs.declared.elf.RelocationKind.TheVariants.{None as NoValue, Relative}
+use Rattle.linker_elf.specs.declared.elf.RelocationKind.TheVariants.{SymRelGotBase, TlsGdGotBase}
+use Rattle.linker_elf.specs.declared.elf.RelocationKind.TheVariants.{TlsLdGotBase, TpOff}
+use Rattle.linker_elf.specs.declared.elf.RelocationKindInfo.{RelocationKindInfo}
+use Rattle.linker_elf.specs.declared.elf.RelocationInstruction.TheVariants.{Ppc64}
+use Rattle.linker_elf.specs.declared.ppc64.forms.Ppc64Instruction.{Ppc64Instruction}
+use Rattle.linker_elf.specs.declared.ppc64.forms.Ppc64Instruction.TheVariants.{D, Ds, Branch14}
+use Rattle.linker_elf.specs.declared.ppc64.forms.Ppc64Instruction.TheVariants.{Branch24, Prefixed}
+use Rattle.linker_elf.specs.declared.ppc64.relocations.Ppc64Relocation.{Ppc64Relocation}
+use Rattle.linker_elf.specs.declared.ppc64.relocations.Ppc64Relocation.TheVariants as r
+
+-- the high half
+abbrev pub high_row : RelocationKind → RelocationKindInfo
+high_row kind = bits_row kind 16 32 (Ppc64 D)
+
+-- the high half, adjusted for the sign of the low half
+abbrev pub high_adjusted_row : RelocationKind → RelocationKindInfo
+high_adjusted_row kind = biased_row 0x8000 (high_row kind)
+
+-- the low half
+abbrev pub low_row : RelocationKind → RelocationKindInfo
+low_row kind = bits_row kind 0 16 (Ppc64 D)
+
+-- the low half in whole words
+abbrev pub low_ds_row : RelocationKind → RelocationKindInfo
+low_ds_row kind = aligned_row 4 (bits_row kind 0 16 (Ppc64 Ds))
+
+-- a signed distance of n bits
+abbrev pub branch_row : ℕ → Ppc64Instruction → RelocationKindInfo
+branch_row n form = aligned_row 4 (signed_row n (bits_row Relative 0 n (Ppc64 form)))
+
+-- 34 signed bits into a prefixed instruction
+abbrev pub prefixed_row : RelocationKind → RelocationKindInfo
+prefixed_row kind = signed_row 34 (bits_row kind 0 34 (Ppc64 Prefixed))
+
+-- each name with its code and its row
+abbrev pub ppc64_relocation : Ppc64Relocation → Relocation
+ppc64_relocation r.R_PPC64_NONE = with_row 0 (codes "R_PPC64_NONE") (bytes_row NoValue 0)
+ppc64_relocation r.R_PPC64_ADDR32 =
+    with_row 1 (codes "R_PPC64_ADDR32") (signed_or_unsigned_row 32 (bytes_row Absolute 4))
+ppc64_relocation r.R_PPC64_ADDR16_LO = with_row 4 (codes "R_PPC64_ADDR16_LO") (low_row Absolute)
+ppc64_relocation r.R_PPC64_ADDR16_HI = with_row 5 (codes "R_PPC64_ADDR16_HI") (high_row Absolute)
+ppc64_relocation r.R_PPC64_ADDR16_HA =
+    with_row 6 (codes "R_PPC64_ADDR16_HA") (high_adjusted_row Absolute)
+ppc64_relocation r.R_PPC64_REL24 = with_row 10 (codes "R_PPC64_REL24") (branch_row 26 Branch24)
+ppc64_relocation r.R_PPC64_REL14 = with_row 11 (codes "R_PPC64_REL14") (branch_row 16 Branch14)
+ppc64_relocation r.R_PPC64_GOT16_HA =
+    with_row 17 (codes "R_PPC64_GOT16_HA") (high_adjusted_row GotRelGotBase)
+ppc64_relocation r.R_PPC64_REL32 =
+    with_row 26 (codes "R_PPC64_REL32") (signed_row 32 (bytes_row Relative 4))
+ppc64_relocation r.R_PPC64_PLT16_HA =
+    with_row 31 (codes "R_PPC64_PLT16_HA") (high_adjusted_row PltRelGotBase)
+ppc64_relocation r.R_PPC64_ADDR64 = with_row 38 (codes "R_PPC64_ADDR64") (bytes_row Absolute 8)
+ppc64_relocation r.R_PPC64_REL64 = with_row 44 (codes "R_PPC64_REL64") (bytes_row Relative 8)
+ppc64_relocation r.R_PPC64_TOC16 =
+    with_row 47 (codes "R_PPC64_TOC16") (signed_row 16 (low_row SymRelGotBase))
+ppc64_relocation r.R_PPC64_TOC16_LO = with_row 48 (codes "R_PPC64_TOC16_LO") (low_row SymRelGotBase)
+ppc64_relocation r.R_PPC64_TOC16_HA =
+    with_row 50 (codes "R_PPC64_TOC16_HA") (high_adjusted_row SymRelGotBase)
+ppc64_relocation r.R_PPC64_ADDR16_DS =
+    with_row 56 (codes "R_PPC64_ADDR16_DS") (signed_row 16 (low_ds_row Absolute))
+ppc64_relocation r.R_PPC64_ADDR16_LO_DS =
+    with_row 57 (codes "R_PPC64_ADDR16_LO_DS") (low_ds_row Absolute)
+ppc64_relocation r.R_PPC64_GOT16_LO_DS =
+    with_row 59 (codes "R_PPC64_GOT16_LO_DS") (low_ds_row GotRelGotBase)
+ppc64_relocation r.R_PPC64_PLT16_LO_DS =
+    with_row 60 (codes "R_PPC64_PLT16_LO_DS") (low_ds_row PltRelGotBase)
+ppc64_relocation r.R_PPC64_TOC16_DS =
+    with_row 63 (codes "R_PPC64_TOC16_DS") (signed_row 16 (low_ds_row SymRelGotBase))
+ppc64_relocation r.R_PPC64_TOC16_LO_DS =
+    with_row 64 (codes "R_PPC64_TOC16_LO_DS") (low_ds_row SymRelGotBase)
+ppc64_relocation r.R_PPC64_TLS = with_row 67 (codes "R_PPC64_TLS") (bytes_row NoValue 0)
+ppc64_relocation r.R_PPC64_TPREL16 =
+    with_row 69 (codes "R_PPC64_TPREL16") (signed_row 16 (low_row TpOff))
+ppc64_relocation r.R_PPC64_TPREL16_LO = with_row 70 (codes "R_PPC64_TPREL16_LO") (low_row TpOff)
+ppc64_relocation r.R_PPC64_TPREL16_HI = with_row 71 (codes "R_PPC64_TPREL16_HI") (high_row TpOff)
+ppc64_relocation r.R_PPC64_TPREL16_HA =
+    with_row 72 (codes "R_PPC64_TPREL16_HA") (high_adjusted_row TpOff)
+ppc64_relocation r.R_PPC64_TPREL64 = with_row 73 (codes "R_PPC64_TPREL64") (bytes_row TpOff 8)
+ppc64_relocation r.R_PPC64_DTPREL16 =
+    with_row 74 (codes "R_PPC64_DTPREL16") (signed_row 16 (low_row DtpOff))
+ppc64_relocation r.R_PPC64_DTPREL16_LO = with_row 75 (codes "R_PPC64_DTPREL16_LO") (low_row DtpOff)
+ppc64_relocation r.R_PPC64_DTPREL16_HI = with_row 76 (codes "R_PPC64_DTPREL16_HI") (high_row DtpOff)
+ppc64_relocation r.R_PPC64_DTPREL16_HA =
+    with_row 77 (codes "R_PPC64_DTPREL16_HA") (high_adjusted_row DtpOff)
+ppc64_relocation r.R_PPC64_DTPREL64 = with_row 78 (codes "R_PPC64_DTPREL64") (bytes_row DtpOff 8)
+ppc64_relocation r.R_PPC64_GOT_TLSGD16 =
+    with_row 79 (codes "R_PPC64_GOT_TLSGD16") (signed_row 16 (low_row TlsGdGotBase))
+ppc64_relocation r.R_PPC64_GOT_TLSGD16_LO =
+    with_row 80 (codes "R_PPC64_GOT_TLSGD16_LO") (low_row TlsGdGotBase)
+ppc64_relocation r.R_PPC64_GOT_TLSGD16_HI =
+    with_row 81 (codes "R_PPC64_GOT_TLSGD16_HI") (high_row TlsGdGotBase)
+ppc64_relocation r.R_PPC64_GOT_TLSGD16_HA =
+    with_row 82 (codes "R_PPC64_GOT_TLSGD16_HA") (high_adjusted_row TlsGdGotBase)
+ppc64_relocation r.R_PPC64_GOT_TLSLD16 =
+    with_row 83 (codes "R_PPC64_GOT_TLSLD16") (signed_row 16 (low_row TlsLdGotBase))
+ppc64_relocation r.R_PPC64_GOT_TLSLD16_LO =
+    with_row 84 (codes "R_PPC64_GOT_TLSLD16_LO") (low_row TlsLdGotBase)
+ppc64_relocation r.R_PPC64_GOT_TLSLD16_HI =
+    with_row 85 (codes "R_PPC64_GOT_TLSLD16_HI") (high_row TlsLdGotBase)
+ppc64_relocation r.R_PPC64_GOT_TLSLD16_HA =
+    with_row 86 (codes "R_PPC64_GOT_TLSLD16_HA") (high_adjusted_row TlsLdGotBase)
+ppc64_relocation r.R_PPC64_GOT_TPREL16_DS =
+    with_row 87 (codes "R_PPC64_GOT_TPREL16_DS") (signed_row 16 (low_ds_row GotTpOffGotBase))
+ppc64_relocation r.R_PPC64_GOT_TPREL16_LO_DS =
+    with_row 88 (codes "R_PPC64_GOT_TPREL16_LO_DS") (low_ds_row GotTpOffGotBase)
+ppc64_relocation r.R_PPC64_GOT_TPREL16_HI =
+    with_row 89 (codes "R_PPC64_GOT_TPREL16_HI") (high_row GotTpOffGotBase)
+ppc64_relocation r.R_PPC64_GOT_TPREL16_HA =
+    with_row 90 (codes "R_PPC64_GOT_TPREL16_HA") (high_adjusted_row GotTpOffGotBase)
+ppc64_relocation r.R_PPC64_TPREL16_DS =
+    with_row 95 (codes "R_PPC64_TPREL16_DS") (signed_row 16 (low_ds_row TpOff))
+ppc64_relocation r.R_PPC64_TPREL16_LO_DS =
+    with_row 96 (codes "R_PPC64_TPREL16_LO_DS") (low_ds_row TpOff)
+ppc64_relocation r.R_PPC64_DTPREL16_DS =
+    with_row 101 (codes "R_PPC64_DTPREL16_DS") (signed_row 16 (low_ds_row DtpOff))
+ppc64_relocation r.R_PPC64_DTPREL16_LO_DS =
+    with_row 102 (codes "R_PPC64_DTPREL16_LO_DS") (low_ds_row DtpOff)
+ppc64_relocation r.R_PPC64_TLSGD = with_row 107 (codes "R_PPC64_TLSGD") (bytes_row NoValue 0)
+ppc64_relocation r.R_PPC64_TLSLD = with_row 108 (codes "R_PPC64_TLSLD") (bytes_row NoValue 0)
+ppc64_relocation r.R_PPC64_REL24_NOTOC =
+    with_row 116 (codes "R_PPC64_REL24_NOTOC") (branch_row 26 Branch24)
+ppc64_relocation r.R_PPC64_ENTRY = with_row 118 (codes "R_PPC64_ENTRY") (bytes_row NoValue 0)
+ppc64_relocation r.R_PPC64_PLTSEQ = with_row 119 (codes "R_PPC64_PLTSEQ") (bytes_row NoValue 0)
+ppc64_relocation r.R_PPC64_PLTCALL = with_row 120 (codes "R_PPC64_PLTCALL") (bytes_row NoValue 0)
+ppc64_relocation r.R_PPC64_PLTSEQ_NOTOC =
+    with_row 121 (codes "R_PPC64_PLTSEQ_NOTOC") (bytes_row NoValue 0)
+ppc64_relocation r.R_PPC64_PLTCALL_NOTOC =
+    with_row 122 (codes "R_PPC64_PLTCALL_NOTOC") (bytes_row NoValue 0)
+ppc64_relocation r.R_PPC64_PCREL_OPT =
+    with_row 123 (codes "R_PPC64_PCREL_OPT") (bytes_row NoValue 0)
+ppc64_relocation r.R_PPC64_PCREL34 = with_row 132 (codes "R_PPC64_PCREL34") (prefixed_row Relative)
+ppc64_relocation r.R_PPC64_GOT_PCREL34 =
+    with_row 133 (codes "R_PPC64_GOT_PCREL34") (prefixed_row GotRelative)
+ppc64_relocation r.R_PPC64_TPREL34 = with_row 146 (codes "R_PPC64_TPREL34") (prefixed_row TpOff)
+ppc64_relocation r.R_PPC64_DTPREL34 = with_row 147 (codes "R_PPC64_DTPREL34") (prefixed_row DtpOff)
+ppc64_relocation r.R_PPC64_GOT_TLSGD_PCREL34 =
+    with_row 148 (codes "R_PPC64_GOT_TLSGD_PCREL34") (prefixed_row TlsGd)
+ppc64_relocation r.R_PPC64_GOT_TLSLD_PCREL34 =
+    with_row 149 (codes "R_PPC64_GOT_TLSLD_PCREL34") (prefixed_row TlsLd)
+ppc64_relocation r.R_PPC64_GOT_TPREL_PCREL34 =
+    with_row 150 (codes "R_PPC64_GOT_TPREL_PCREL34") (prefixed_row GotTpOff)
+ppc64_relocation r.R_PPC64_REL16_LO = with_row 250 (codes "R_PPC64_REL16_LO") (low_row Relative)
+ppc64_relocation r.R_PPC64_REL16_HA =
+    with_row 252 (codes "R_PPC64_REL16_HA") (high_adjusted_row Relative)
+ppc64_relocation (r.Other code) = unnamed_relocation code
+
+abbrev pub ppc64_name : Ppc64Relocation → ElfName
+ppc64_name name = (ppc64_relocation name).name
+
+-- what a relocation means, and none where it isn't known
+abbrev pub ppc64_row : Ppc64Relocation → Option RelocationKindInfo
+ppc64_row name = (ppc64_relocation name).row
+
+-- the names that the crate this one is a port of doesn't have
+abbrev pub is_own : Ppc64Relocation → Bool
+is_own r.R_PPC64_GOT16_HA = true
+is_own r.R_PPC64_PLT16_HA = true
+is_own r.R_PPC64_GOT16_LO_DS = true
+is_own r.R_PPC64_PLT16_LO_DS = true
+is_own r.R_PPC64_ENTRY = true
+is_own r.R_PPC64_PLTSEQ = true
+is_own r.R_PPC64_PLTCALL = true
+is_own r.R_PPC64_PLTSEQ_NOTOC = true
+is_own r.R_PPC64_PLTCALL_NOTOC = true
+is_own r.R_PPC64_TPREL34 = true
+is_own r.R_PPC64_DTPREL34 = true
+is_own r.R_PPC64_GOT_TLSGD_PCREL34 = true
+is_own r.R_PPC64_GOT_TLSLD_PCREL34 = true
+is_own r.R_PPC64_GOT_TPREL_PCREL34 = true
+is_own name = false
+
+-- the same without those
+abbrev pub ppc64_raw_row : Ppc64Relocation → Option RelocationKindInfo
+ppc64_raw_row name = if is_own name then None else ppc64_row name

@@ -1,0 +1,395 @@
+-- How a relocation's value is written, and when it isn't.
+use Rattle.std.specs.Prelude.{◌≡◌, ℕ, ◌+◌, ◌-◌, ◌%◌, ◌^◌, ◌<◌, ◌≤◌, ◌==◌, Bool, true, false, not}
+use Rattle.std.specs.Prelude.{◌&&◌, ◌||◌, nat_lt, if◌then◌else◌, List, [], ◌∷◌, ◌++◌, length, take}
+use Rattle.std.specs.Prelude.{drop}
+use Rattle.std.specs.Prelude.{replicate, ℤ, pos, ◌+ℤ◌, ◌-ℤ◌, ◌*◌, int_lt, Option, Some, None, ◌*ℤ◌}
+use Rattle.std.specs.Prelude.{⊤}
+use Rattle.std.specs.Int.{w64, byte_len, cast_unsigned, from_le_bytes, to_le_bytes, int_rem_euclid}
+use Rattle.std.specs.Int.{bit_at}
+use Rattle.linker_base.specs.Bits.{field}
+use Rattle.linker_base.specs.Form.{ImmediateBit, Mark, replaced, ored, cleared, BitsWritten}
+use Rattle.linker_base.specs.Form.{Written, Fits, window_of, IsSameModulo}
+use Rattle.linker_base.specs.declared.bit_misc.BitRange.{BitRange}
+use Rattle.linker_elf.specs.AArch64.{aarch64_form, shift_of}
+use Rattle.linker_elf.specs.Agrees.{bits_from, IsSameIn, aarch64_reads, loongarch_reads}
+use Rattle.linker_elf.specs.Agrees.{is_of_halves, is_of_words, AgreesBy, AgreesInReach}
+use Rattle.linker_elf.specs.Elf.{IsWithin, bit_bounds, relocation_form}
+use Rattle.linker_elf.specs.LoongArch.{loongarch_form, reach}
+use Rattle.linker_elf.specs.Ppc64.{ppc64_form}
+use Rattle.linker_elf.specs.Reach.{reach_of}
+use Rattle.linker_elf.specs.RiscV.{riscv_form}
+use Rattle.linker_elf.specs.Value.{sum_64, difference_64, value_of}
+use Rattle.linker_elf.specs.declared.elf.value.Operands.{Operands}
+use Rattle.linker_elf.specs.declared.aarch64.forms.AArch64Instruction.TheVariants.{Movnz}
+use Rattle.linker_elf.specs.declared.loongarch64.forms.LoongArch64Instruction.{LoongArch64Instruction}
+use Rattle.linker_elf.specs.declared.loongarch64.forms.LoongArch64Instruction.TheVariants.{Shift10}
+use Rattle.linker_elf.specs.declared.loongarch64.forms.LoongArch64Instruction.TheVariants.{Call30}
+use Rattle.linker_elf.specs.declared.loongarch64.forms.LoongArch64Instruction.TheVariants.{Call36}
+use Rattle.linker_elf.specs.declared.ppc64.forms.Ppc64Instruction.{Ppc64Instruction}
+use Rattle.linker_elf.specs.declared.ppc64.forms.Ppc64Instruction.TheVariants.{D, Ds}
+use Rattle.linker_elf.specs.declared.elf.Sign.TheVariants.{Signed}
+use Rattle.linker_elf.specs.declared.elf.RelocationInstruction.{RelocationInstruction}
+use Rattle.linker_elf.specs.declared.elf.RelocationInstruction.TheVariants.{RiscV, Ppc64}
+use Rattle.linker_elf.specs.declared.elf.RelocationInstruction.TheVariants.{LoongArch64, AArch64}
+use Rattle.linker_elf.specs.declared.elf.RelocationKind.{RelocationKind}
+use Rattle.linker_elf.specs.declared.elf.RelocationKind.TheVariants.{Relative, AbsoluteSetWord6}
+use Rattle.linker_elf.specs.declared.elf.RelocationKind.TheVariants.{AbsoluteAddition}
+use Rattle.linker_elf.specs.declared.elf.RelocationKind.TheVariants.{AbsoluteAdditionWord6}
+use Rattle.linker_elf.specs.declared.elf.RelocationKind.TheVariants.{AbsoluteSubtraction}
+use Rattle.linker_elf.specs.declared.elf.RelocationKind.TheVariants.{AbsoluteSubtractionWord6}
+use Rattle.linker_elf.specs.declared.elf.RelocationKind.TheVariants.{PairSubtractionULEB128RiscV}
+use Rattle.linker_elf.specs.declared.elf.RelocationKind.TheVariants.{PairSubtractionULEB128LoongArch}
+use Rattle.linker_elf.specs.declared.elf.RelocationKindInfo.{RelocationKindInfo}
+use Rattle.linker_elf.specs.declared.elf.RelocationSize.{RelocationSize}
+use Rattle.linker_elf.specs.declared.elf.RelocationSize.TheVariants.{ByteSize, BitMasking}
+use Rattle.linker_elf.specs.declared.riscv64.forms.RiscVInstruction.{RiscVInstruction}
+use Rattle.linker_elf.specs.declared.riscv64.forms.RiscVInstruction.TheVariants.{UType, IType}
+use Rattle.linker_elf.specs.declared.riscv64.forms.RiscVInstruction.TheVariants.{SType}
+use Rattle.linker_elf.specs.declared.riscv64.forms.RiscVInstruction.TheVariants.{CluiType, UiType}
+use Rattle.linker_elf.specs.declared.elf.relocate.RelocateError.{RelocateError}
+use Rattle.linker_elf.specs.declared.elf.relocate.RelocateError.TheVariants.{Unsupported}
+use Rattle.linker_elf.specs.declared.elf.relocate.RelocateError.TheVariants.{TooShort, Misaligned}
+use Rattle.linker_elf.specs.declared.elf.relocate.RelocateError.TheVariants.{OutOfReach}
+
+-- ---- whole bytes
+
+-- the first n bytes, with zeros above them, as a little-endian number
+abbrev pub number_of_bytes : ℕ → List ℕ → ℕ
+number_of_bytes n bytes = from_le_bytes w64 (take n bytes ++ replicate (8 - n) 0)
+
+-- the n lowest bytes of a number, the lowest first
+abbrev pub low_bytes : ℕ → ℕ → List ℕ
+low_bytes n number = take n (to_le_bytes w64 number)
+
+-- the number with its low 6 bits those of another
+abbrev pub with_low_6 : ℕ → ℕ → ℕ
+with_low_6 old new = old - old % 64 + new % 64
+
+-- the number that is written over another, modulo 2 ^ 64: what is added to, what is subtracted
+-- from, the value in 6 bits, and else the value
+abbrev pub number_written : RelocationKind → ℤ → ℕ → ℕ
+number_written AbsoluteAddition v old = sum_64 old (cast_unsigned w64 v)
+number_written AbsoluteSubtraction v old = difference_64 old (cast_unsigned w64 v)
+number_written AbsoluteSetWord6 v old = with_low_6 old (cast_unsigned w64 v)
+number_written AbsoluteAdditionWord6 v old = with_low_6 old (sum_64 old (cast_unsigned w64 v))
+number_written AbsoluteSubtractionWord6 v old =
+    with_low_6 old (difference_64 old (cast_unsigned w64 v))
+number_written kind v old = cast_unsigned w64 v
+
+-- ---- instructions
+
+-- the places that are only ORed, as places that are cleared
+abbrev pub clearing : Mark → ImmediateBit → List ImmediateBit → List ImmediateBit
+clearing ored p rest = record p { mark = cleared } ∷ rest
+clearing replaced p rest = rest
+clearing cleared p rest = rest
+
+abbrev pub ored_cleared : List ImmediateBit → List ImmediateBit
+ored_cleared [] = []
+ored_cleared (p ∷ ps) = clearing p.mark p (ored_cleared ps)
+
+-- The places that are cleared before a write: those that the form only ORs. LoongArch's `Shift10`
+-- with an immediate of 12 bits has a part of its opcode there. No form of RISC-V or PowerPC64 has
+-- such places.
+abbrev pub places_cleared : RelocationInstruction → BitRange → ℕ → List ImmediateBit
+places_cleared (AArch64 f) bits x = ored_cleared ((aarch64_form f).places x)
+places_cleared (RiscV f) bits x = []
+places_cleared (Ppc64 f) bits x = []
+places_cleared (LoongArch64 f) bits x =
+    if nat_lt 12 (bits.end - bits.start) then ored_cleared ((loongarch_form f).places x) else []
+
+-- the bits of the value that are written
+abbrev pub bits_taken : BitRange → ℤ → ℕ
+bits_taken bits v = field (cast_unsigned w64 v) bits.start bits.end
+
+-- a word of DQ-form, whose displacement is in units of 16, where one of DS-form is expected: `lq`
+-- by primary opcode 56, `lxvp` and `stxvp` by 6, `lxv` and `stxv` by 61 with 01 in the lowest two
+-- bits (Power ISA, "DQ-Form")
+abbrev pub is_dq_form : ℕ → Bool
+is_dq_form word =
+    field word 26 32 == 56
+    || (field word 26 32 == 6 || (field word 26 32 == 61 && field word 0 2 == 1))
+
+-- a number with its low 4 bits those of another
+abbrev pub with_low_4 : ℕ → ℕ → ℕ
+with_low_4 n low = n - n % 16 + low % 16
+
+-- The number whose bits are placed: those of the value. The lowest four of a word of DQ-form stay,
+-- since they aren't its displacement's.
+abbrev pub number_placed : RelocationInstruction → ℕ → ℕ → ℕ
+number_placed (Ppc64 Ds) before taken =
+    if is_dq_form before then with_low_4 taken before else taken
+number_placed insn before taken = taken
+
+-- MOVN and MOVZ of 32 bits are those of 64 but for bit 31, which stays 0.
+abbrev pub is_32_bit_move : RelocationInstruction → ℕ → Bool
+is_32_bit_move (AArch64 Movnz) before = bit_at before 31 == 0
+is_32_bit_move insn before = false
+
+abbrev pub with_bit_31_if : Bool → ℕ → ℕ
+with_bit_31_if true window = window + 2 ^ 31
+with_bit_31_if false window = window
+
+-- The instruction's places are cleared, and then the value's bits are written with its sign. All
+-- other bytes stay.
+pub record InstructionWritten (insn : RelocationInstruction) (bits : BitRange) (v : ℤ)
+    (before after : List ℕ) : Type 0 where
+  pub clear : ℕ
+  pub clears : BitsWritten (places_cleared insn bits (window_of (relocation_form insn) before)) 0
+      (window_of (relocation_form insn) before) clear
+  pub written : Written (relocation_form insn)
+      (number_placed insn (window_of (relocation_form insn) before) (bits_taken bits v))
+      (int_lt v (pos 0)) clear
+      (with_bit_31_if (is_32_bit_move insn (window_of (relocation_form insn) before))
+      (window_of (relocation_form insn) after))
+  pub rest : drop (byte_len (relocation_form insn).window) after
+      ≡ drop (byte_len (relocation_form insn).window) before
+
+-- ---- what is written
+
+abbrev pub IsWritten : RelocationSize → RelocationKind → ℤ → List ℕ → List ℕ → Type 0
+IsWritten (ByteSize n) kind v before after =
+    after ≡ low_bytes n (number_written kind v (number_of_bytes n before)) ++ drop n before
+IsWritten (BitMasking bits insn) kind v before after = InstructionWritten insn bits v before after
+
+-- what MOVN or MOVZ of 32 bits leaves in its register
+abbrev pub moved_32 : ℕ → ℤ
+moved_32 word =
+    int_rem_euclid ((aarch64_form Movnz).machine (word + 2 ^ 31)) (pos (2 ^ 32))
+
+-- What the machine reads after a write of MOVN or MOVZ: of 64 bits the value's bits from the
+-- range's start up; of 32 bits those below bit 32, and where values aren't bounded the range's
+-- alone.
+abbrev pub MoveReads : Bool → BitRange → Option (ℤ × ℤ) → ℤ → ℕ → Type 0
+MoveReads false bits bounds v after =
+    IsSameIn bounds (bits.end - bits.start) (aarch64_reads Movnz bits.start after)
+    (bits_from bits.start v)
+MoveReads true bits (Some b) v after =
+    bits_from bits.start (moved_32 after)
+    ≡ int_rem_euclid (bits_from bits.start v) (pos (2 ^ (32 - bits.start)))
+MoveReads true bits None v after =
+    IsSameModulo (bits.end - bits.start) (bits_from bits.start (moved_32 after))
+    (bits_from bits.start v)
+
+-- what an instruction of PowerPC64 reads as its displacement
+abbrev pub ppc64_reads : Ppc64Instruction → ℕ → ℤ
+ppc64_reads Ds word =
+    if is_dq_form word then (ppc64_form Ds).machine (word - word % 16)
+    else (ppc64_form Ds).machine word
+ppc64_reads f word = (ppc64_form f).machine word
+
+-- The machine reads the value's bits from the range's start up, modulo the range's size where
+-- values aren't bounded. MOVN and MOVZ shift what they hold, so their shift has to be the range's
+-- start; those of 32 bits take bits below 32. A displacement of DQ-form begins with the value's bit
+-- 0. An immediate in two's complement of a LoongArch `Shift10` is one of 16 bits. What a half
+-- or a pair of instructions holds is said elsewhere.
+abbrev pub InstructionReads : Bool → RelocationInstruction → BitRange → Option (ℤ × ℤ) → ℤ → ℕ → ℕ
+    → Type 0
+InstructionReads is_signed (AArch64 Movnz) bits bounds v before after =
+    shift_of before ≡ bits.start → (bit_at before 31 ≡ 0 → bits.end ≤ 32)
+    → MoveReads (bit_at before 31 == 0) bits bounds v after
+InstructionReads is_signed (AArch64 f) bits bounds v before after =
+    IsSameIn bounds (bits.end - bits.start) (aarch64_reads f bits.start after)
+    (bits_from bits.start v)
+InstructionReads is_signed (RiscV f) bits bounds v before after =
+    is_of_halves f ≡ false
+    → IsSameIn bounds (bits.end - bits.start) ((riscv_form f).machine after)
+    (bits_from bits.start v)
+InstructionReads is_signed (Ppc64 Ds) bits bounds v before after =
+    (is_dq_form before ≡ true → bits.start ≡ 0)
+    → IsSameIn bounds (bits.end - bits.start) (ppc64_reads Ds after) (bits_from bits.start v)
+InstructionReads is_signed (Ppc64 f) bits bounds v before after =
+    IsSameIn bounds (bits.end - bits.start) ((ppc64_form f).machine after) (bits_from bits.start v)
+InstructionReads is_signed (LoongArch64 f) bits bounds v before after =
+    is_of_words f ≡ false → (f ≡ Shift10 → is_signed ≡ true → 12 < bits.end - bits.start)
+    → IsSameIn bounds (bits.end - bits.start) (loongarch_reads f is_signed after)
+    (bits_from bits.start v)
+
+abbrev pub SizeReads : Bool → RelocationSize → Option (ℤ × ℤ) → ℤ → List ℕ → List ℕ → Type 0
+SizeReads is_signed (ByteSize n) bounds v before after = ⊤
+SizeReads is_signed (BitMasking bits insn) bounds v before after =
+    InstructionReads is_signed insn bits bounds v (window_of (relocation_form insn) before)
+    (window_of (relocation_form insn) after)
+
+-- ---- the number that whole bytes hold
+
+-- the number that is written over another, of which the bytes hold what they can
+abbrev pub whole_number : RelocationKind → ℤ → ℕ → ℤ
+whole_number AbsoluteAddition v old = pos old +ℤ v
+whole_number AbsoluteSubtraction v old = pos old -ℤ v
+whole_number AbsoluteSetWord6 v old = pos (old - old % 64) +ℤ int_rem_euclid v (pos 64)
+whole_number AbsoluteAdditionWord6 v old =
+    pos (old - old % 64) +ℤ int_rem_euclid (pos old +ℤ v) (pos 64)
+whole_number AbsoluteSubtractionWord6 v old =
+    pos (old - old % 64) +ℤ int_rem_euclid (pos old -ℤ v) (pos 64)
+whole_number kind v old = v
+
+-- The little-endian number of n bytes is that, modulo 2 ^ (8 * n).
+abbrev pub SizeNumber : RelocationSize → RelocationKind → ℤ → List ℕ → List ℕ → Type 0
+SizeNumber (ByteSize n) kind v before after =
+    pos (number_of_bytes n after)
+    ≡ int_rem_euclid (whole_number kind v (number_of_bytes n before)) (pos (2 ^ (8 * n)))
+SizeNumber (BitMasking bits insn) kind v before after = ⊤
+
+-- ---- what is rejected
+
+-- the rows of a pair of relocations of a ULEB128 number: those of the first of a pair have kind
+-- `Relative` and no bytes
+abbrev pub is_of_uleb128 : RelocationKind → ℕ → Bool
+is_of_uleb128 PairSubtractionULEB128RiscV n = true
+is_of_uleb128 PairSubtractionULEB128LoongArch n = true
+is_of_uleb128 Relative n = n == 0
+is_of_uleb128 kind n = false
+
+-- the pair of a LoongArch call of which no manual says how far it goes
+abbrev pub is_call30 : RelocationInstruction → Bool
+is_call30 (LoongArch64 Call30) = true
+is_call30 insn = false
+
+-- at most 8 bytes, or some of a value's 64 bits
+abbrev pub takes_size : RelocationKind → RelocationSize → Bool
+takes_size kind (ByteSize n) = nat_lt n 9 && not (is_of_uleb128 kind n)
+takes_size kind (BitMasking bits insn) =
+    (nat_lt bits.start bits.end && nat_lt bits.end 65) && not (is_call30 insn)
+
+-- such a row, with an alignment that a value can have
+abbrev pub is_supported : RelocationKindInfo → Bool
+is_supported row =
+    takes_size row.kind row.size && nat_lt 0 row.alignment && nat_lt row.alignment (2 ^ 63)
+
+abbrev pub size_len : RelocationSize → ℕ
+size_len (ByteSize n) = n
+size_len (BitMasking bits insn) = byte_len (relocation_form insn).window
+
+-- how many bytes are written
+abbrev pub window_len : RelocationKindInfo → ℕ
+window_len row = size_len row.size
+
+abbrev pub IsAligned : ℕ → ℤ → Type 0
+IsAligned alignment v = int_rem_euclid v (pos alignment) ≡ pos 0
+
+-- a multiple of 16, for a word of DQ-form
+abbrev pub IsInUnits : RelocationSize → ℤ → List ℕ → Type 0
+IsInUnits (BitMasking bits (Ppc64 Ds)) v bytes =
+    is_dq_form (window_of (ppc64_form Ds) bytes) ≡ true → IsAligned 16 v
+IsInUnits size v bytes = ⊤
+
+-- a multiple of the alignment of the row and of its instruction
+abbrev pub IsMultiple : RelocationKindInfo → ℤ → List ℕ → Type 0
+IsMultiple row v bytes = IsAligned row.alignment v × IsInUnits row.size v bytes
+
+-- the form holds the bits, as it does of each row of the relocation tables
+abbrev pub HoldsBits : RelocationSize → ℤ → List ℕ → Type 0
+HoldsBits (ByteSize n) v bytes = ⊤
+HoldsBits (BitMasking bits insn) v bytes =
+    Fits (relocation_form insn) (bits_taken bits v) (window_of (relocation_form insn) bytes)
+
+abbrev pub IsReached : RelocationKindInfo → ℤ → List ℕ → Type 0
+IsReached row v bytes = IsWithin (reach_of row) v × HoldsBits row.size v bytes
+
+-- the value is written
+pub record IsAccepted (row : RelocationKindInfo) (v : ℤ) (bytes : List ℕ) : Type 0 where
+  pub supported : is_supported row ≡ true
+  pub long : window_len row ≤ length bytes
+  pub aligned : IsMultiple row v bytes
+  pub reached : IsReached row v bytes
+
+-- why it isn't: the first of these that does not hold
+abbrev pub IsCause : RelocationKindInfo → ℤ → List ℕ → RelocateError → Type 0
+IsCause row v bytes Unsupported = is_supported row ≡ false
+IsCause row v bytes TooShort = (is_supported row ≡ true) × (length bytes < window_len row)
+IsCause row v bytes Misaligned =
+    (is_supported row ≡ true) × (window_len row ≤ length bytes) × ¬ IsMultiple row v bytes
+IsCause row v bytes OutOfReach =
+    (is_supported row ≡ true) × (window_len row ≤ length bytes) × IsMultiple row v bytes
+    × ¬ IsReached row v bytes
+
+-- ---- what the halves and pairs of instructions hold
+
+-- a low half completes each high half that was written of the same value's bits
+abbrev pub CompletesHigh : RiscVInstruction → BitRange → ℤ → ℕ → Type 0
+CompletesHigh low bits v after =
+    (neg : Bool) (before high : ℕ) → Written (riscv_form UType) (bits_taken bits v) neg before high
+    → (riscv_form UType).machine high +ℤ (riscv_form low).machine after ≡ v
+
+-- a high half is completed by each low half that was written of the same value's bits
+abbrev pub IsCompletedBy : RiscVInstruction → RiscVInstruction → BitRange → ℤ → ℕ → Type 0
+IsCompletedBy low high bits v after =
+    (neg : Bool) (before x : ℕ) → Written (riscv_form low) (bits_taken bits v) neg before x
+    → (riscv_form high).machine after +ℤ (riscv_form low).machine x ≡ v
+
+abbrev pub RiscVHolds : RiscVInstruction → BitRange → ℤ → ℕ → Type 0
+RiscVHolds IType bits v after = CompletesHigh IType bits v after
+RiscVHolds SType bits v after = CompletesHigh SType bits v after
+RiscVHolds UType bits v after =
+    IsCompletedBy IType UType bits v after × IsCompletedBy SType UType bits v after
+RiscVHolds CluiType bits v after =
+    IsCompletedBy IType CluiType bits v after × IsCompletedBy SType CluiType bits v after
+RiscVHolds UiType bits v after = (riscv_form UiType).machine after ≡ v
+RiscVHolds f bits v after = ⊤
+
+-- A low half completes each high half of the value plus 0x8000, which is a number of 32 bits.
+abbrev pub CompletesAdjusted : Ppc64Instruction → ℤ → ℕ → Type 0
+CompletesAdjusted low v after =
+    (neg : Bool) (before high : ℕ) → IsWithin (Some (bit_bounds 32 Signed)) (v +ℤ pos 0x8000)
+    → Written (ppc64_form D) (bits_taken (record { start = 16; end = 32 }) (v +ℤ pos 0x8000)) neg
+    before high
+    → ((ppc64_form D).machine high *ℤ pos (2 ^ 16)) +ℤ ppc64_reads low after ≡ v
+
+abbrev pub Ppc64Holds : Ppc64Instruction → ℤ → ℕ → Type 0
+Ppc64Holds D v after = CompletesAdjusted D v after
+Ppc64Holds Ds v after = IsAligned 4 v → CompletesAdjusted Ds v after
+Ppc64Holds f v after = ⊤
+
+abbrev pub LoongArchHolds : LoongArch64Instruction → ℤ → ℕ → Type 0
+LoongArchHolds Call36 v after = reach after ≡ v
+LoongArchHolds f v after = ⊤
+
+-- RISC-V's pairs make the value of which the low 32 bits, or more, were taken, and PowerPC64's low
+-- halves that of which the low 16 were; LoongArch's `pcaddu18i` and `jirl` go as far as the
+-- multiple of 4 of which bits 2 to 37 were.
+abbrev pub InstructionHolds : RelocationInstruction → BitRange → ℤ → ℕ → Type 0
+InstructionHolds (AArch64 f) bits v after = ⊤
+InstructionHolds (RiscV f) bits v after = bits.start ≡ 0 → 32 ≤ bits.end → RiscVHolds f bits v after
+InstructionHolds (Ppc64 f) bits v after = bits.start ≡ 0 → 16 ≤ bits.end → Ppc64Holds f v after
+InstructionHolds (LoongArch64 f) bits v after =
+    bits.start ≡ 2 → bits.end ≡ 38 → IsAligned 4 v → LoongArchHolds f v after
+
+abbrev pub SizeHolds : RelocationSize → ℤ → List ℕ → Type 0
+SizeHolds (ByteSize n) v after = ⊤
+SizeHolds (BitMasking bits insn) v after =
+    InstructionHolds insn bits v (window_of (relocation_form insn) after)
+
+-- ---- what a write of a row does
+
+-- The value is written, and the machine reads it: with the range's bounds and with those of the
+-- reach, where the row agrees with the machine so.
+pub record WritesRow (row : RelocationKindInfo) (v : ℤ) (before after : List ℕ) : Type 0 where
+  pub accepted : IsAccepted row v before
+  pub written : IsWritten row.size row.kind v before after
+  pub number : SizeNumber row.size row.kind v before after
+  pub machine : (is_signed : Bool) → AgreesBy is_signed row
+      → SizeReads is_signed row.size row.range.bounds v before after
+  pub reached : (is_signed : Bool) → AgreesInReach is_signed row
+      → SizeReads is_signed row.size (reach_of row) v before after
+  pub pairs : SizeHolds row.size v after
+
+-- The value is rejected, with the error whose cause it has, and nothing is written.
+abbrev pub RejectsValue : RelocationKindInfo → ℤ → List ℕ → List ℕ → RelocateError → Type 0
+RejectsValue row v before after error = IsCause row v before error × (after ≡ before)
+
+-- ---- values in reach
+
+-- A value can be written: it is within the row's reach, and a multiple of its alignment.
+pub record IsInReach (row : RelocationKindInfo) (v : ℤ) : Type 0 where
+  pub supported : is_supported row ≡ true
+  pub within : IsWithin (reach_of row) v
+  pub aligned : IsAligned row.alignment v
+
+abbrev pub ReachesValue : RelocationKindInfo → Option ℤ → Type 0
+ReachesValue row None = ⊥
+ReachesValue row (Some v) = IsInReach row v
+
+-- the relocation has a value, which can be written
+abbrev pub Reaches : RelocationKindInfo → Operands → Type 0
+Reaches row operands = ReachesValue row (value_of row operands)

@@ -1,0 +1,98 @@
+-- The vocabulary of rows: where a relocation's value comes from, where it is written, and which
+-- values are allowed.
+use Rattle.std.specs.Prelude.{ℕ, ℤ, List, Option, Some, None, true, false}
+use Rattle.linker_elf.specs.Elf.{bit_bounds, signed_or_unsigned}
+use Rattle.linker_elf.specs.ElfNames.{ElfName, named, unnamed}
+use Rattle.linker_elf.specs.declared.elf.PageMask.{PageMask}
+use Rattle.linker_elf.specs.declared.elf.PageMask.TheVariants.{SymbolPlusAddendAndPosition}
+use Rattle.linker_elf.specs.declared.elf.PageMask.TheVariants.{GotEntryAndPosition, GotBase}
+use Rattle.linker_elf.specs.declared.elf.PageMaskPattern.TheVariants.{Size4KB}
+use Rattle.linker_elf.specs.declared.elf.RelocationInstruction.{RelocationInstruction}
+use Rattle.linker_elf.specs.declared.elf.RelocationKind.{RelocationKind}
+use Rattle.linker_elf.specs.declared.elf.RelocationKindInfo.{RelocationKindInfo}
+use Rattle.linker_elf.specs.declared.elf.RelocationSize.{RelocationSize}
+use Rattle.linker_elf.specs.declared.elf.RelocationSize.TheVariants.{ByteSize, BitMasking}
+use Rattle.linker_elf.specs.declared.elf.Sign.TheVariants.{Signed, Unsigned}
+
+-- the bounds of values: from the first up, below the second, or none
+abbrev pub Bounds : Type 0
+Bounds = Option (ℤ × ℤ)
+
+-- a row of a kind and a size: every value, no page mask, the addend beside the relocation
+abbrev pub plain_row : RelocationKind → RelocationSize → RelocationKindInfo
+plain_row kind size =
+    record {
+      kind = kind;
+      size = size;
+      mask = None;
+      range = record { bounds = None };
+      alignment = 1;
+      bias = None;
+      thunkable = false;
+      implicit_addend = false;
+    }
+
+-- n whole bytes
+abbrev pub bytes_row : RelocationKind → ℕ → RelocationKindInfo
+bytes_row kind n = plain_row kind (ByteSize n)
+
+-- bits `start` and up, below `end`, into an instruction
+abbrev pub bits_row : RelocationKind → ℕ → ℕ → RelocationInstruction → RelocationKindInfo
+bits_row kind start end insn =
+    plain_row kind (BitMasking (record { start = start; end = end }) insn)
+
+-- values from the first bound up, below the second
+abbrev pub within_row : ℤ × ℤ → RelocationKindInfo → RelocationKindInfo
+within_row bounds row = record row { range = record { bounds = Some bounds } }
+
+-- numbers of n bits, in two's complement
+abbrev pub signed_row : ℕ → RelocationKindInfo → RelocationKindInfo
+signed_row n = within_row (bit_bounds n Signed)
+
+-- numbers of n bits, unsigned
+abbrev pub unsigned_row : ℕ → RelocationKindInfo → RelocationKindInfo
+unsigned_row n = within_row (bit_bounds n Unsigned)
+
+-- numbers of n bits, in two's complement or unsigned
+abbrev pub signed_or_unsigned_row : ℕ → RelocationKindInfo → RelocationKindInfo
+signed_or_unsigned_row n = within_row (signed_or_unsigned n)
+
+-- multiples of n
+abbrev pub aligned_row : ℕ → RelocationKindInfo → RelocationKindInfo
+aligned_row n row = record row { alignment = n }
+
+-- values to which n is added first
+abbrev pub biased_row : ℕ → RelocationKindInfo → RelocationKindInfo
+biased_row n row = record row { bias = Some n }
+
+-- addresses cut to their page
+abbrev pub paged_row : PageMask → RelocationKindInfo → RelocationKindInfo
+paged_row mask row = record row { mask = Some mask }
+
+-- a thunk may stand in for a target out of range
+abbrev pub thunkable_row : RelocationKindInfo → RelocationKindInfo
+thunkable_row row = record row { thunkable = true }
+
+abbrev pub place_pages : PageMask
+place_pages = SymbolPlusAddendAndPosition Size4KB
+
+abbrev pub entry_pages : PageMask
+entry_pages = GotEntryAndPosition Size4KB
+
+abbrev pub got_page : PageMask
+got_page = GotBase Size4KB
+
+-- what a list of relocations says of a name: how ELF files name it, and what it means, if that is
+-- known
+pub record Relocation : Type 0 where
+  pub name : ElfName
+  pub row : Option RelocationKindInfo
+
+abbrev pub with_row : ℕ → List ℕ → RelocationKindInfo → Relocation
+with_row code text row = record { name = named code text; row = Some row }
+
+abbrev pub without_row : ℕ → List ℕ → Relocation
+without_row code text = record { name = named code text; row = None }
+
+abbrev pub unnamed_relocation : ℕ → Relocation
+unnamed_relocation code = record { name = unnamed code; row = None }

@@ -1,0 +1,7 @@
+//! AArch64: instruction forms, and what relocations mean.
+
+mod forms;
+mod relocations;
+
+pub use forms::AArch64Instruction;
+pub use relocations::{AArch64Relocation, relocation_type_from_raw, row};

@@ -1,0 +1,9 @@
+//! What relocations mean, the forms of instructions that hold their values, and writing these.
+#![tactic(auto)]
+
+pub mod aarch64;
+pub mod elf;
+pub mod loongarch64;
+pub mod ppc64;
+pub mod riscv64;
+pub mod x86_64;

@@ -1,0 +1,9 @@
+//! PowerPC64: instruction forms, what relocations mean, and addresses in two halves.
+
+mod forms;
+mod relocations;
+mod sequences;
+
+pub use forms::Ppc64Instruction;
+pub use relocations::{Ppc64Relocation, relocation_type_from_raw, row};
+pub use sequences::write_ha_lo;

@@ -1,0 +1,312 @@
+//! What the relocations of PowerPC64 mean.
+
+ghost use Rattle.std.specs.Prelude.{◌≡◌, IfSome};
+ghost use denote.Enum.Declared.{tag_of};
+ghost use Rattle.linker_elf.specs.Agrees.{RowAgrees, RowFits};
+ghost use Rattle.linker_elf.specs.ElfNames.{IsNameOf, code_of, text_of};
+ghost use Rattle.linker_elf.specs.Readings.{RowReadsNoOther};
+ghost use Rattle.linker_elf.specs.Ppc64Relocations.{ppc64_relocation, ppc64_name, ppc64_row};
+ghost use Rattle.linker_elf.specs.Ppc64Relocations.{ppc64_raw_row, is_own};
+ghost use Rattle.linker_elf.specs.contracts.ppc64.relocations.Ppc64Relocation as names;
+
+use crate::elf::rows::{
+    TableRow, code_of_name, index_of_name, info_in, name_of_code, row, row_in, table, text_of_name,
+};
+use crate::elf::{RelocationKindInfo, Row};
+use std::fmt;
+
+/// The relocations of PowerPC64, by their names in the 64-bit ELF V2 ABI for Power, "Relocation
+/// Types". `from_elf` takes the code that an ELF file has.
+#[allow(non_camel_case_types)]
+#[derive(Clone, Copy, PartialEq, Eq)]
+pub enum Ppc64Relocation {
+    R_PPC64_NONE,
+    R_PPC64_ADDR32,
+    R_PPC64_ADDR16_LO,
+    R_PPC64_ADDR16_HI,
+    R_PPC64_ADDR16_HA,
+    R_PPC64_REL24,
+    R_PPC64_REL14,
+    R_PPC64_GOT16_HA,
+    R_PPC64_REL32,
+    R_PPC64_PLT16_HA,
+    R_PPC64_ADDR64,
+    R_PPC64_REL64,
+    R_PPC64_TOC16,
+    R_PPC64_TOC16_LO,
+    R_PPC64_TOC16_HA,
+    R_PPC64_ADDR16_DS,
+    R_PPC64_ADDR16_LO_DS,
+    R_PPC64_GOT16_LO_DS,
+    R_PPC64_PLT16_LO_DS,
+    R_PPC64_TOC16_DS,
+    R_PPC64_TOC16_LO_DS,
+    R_PPC64_TLS,
+    R_PPC64_TPREL16,
+    R_PPC64_TPREL16_LO,
+    R_PPC64_TPREL16_HI,
+    R_PPC64_TPREL16_HA,
+    R_PPC64_TPREL64,
+    R_PPC64_DTPREL16,
+    R_PPC64_DTPREL16_LO,
+    R_PPC64_DTPREL16_HI,
+    R_PPC64_DTPREL16_HA,
+    R_PPC64_DTPREL64,
+    R_PPC64_GOT_TLSGD16,
+    R_PPC64_GOT_TLSGD16_LO,
+    R_PPC64_GOT_TLSGD16_HI,
+    R_PPC64_GOT_TLSGD16_HA,
+    R_PPC64_GOT_TLSLD16,
+    R_PPC64_GOT_TLSLD16_LO,
+    R_PPC64_GOT_TLSLD16_HI,
+    R_PPC64_GOT_TLSLD16_HA,
+    R_PPC64_GOT_TPREL16_DS,
+    R_PPC64_GOT_TPREL16_LO_DS,
+    R_PPC64_GOT_TPREL16_HI,
+    R_PPC64_GOT_TPREL16_HA,
+    R_PPC64_TPREL16_DS,
+    R_PPC64_TPREL16_LO_DS,
+    R_PPC64_DTPREL16_DS,
+    R_PPC64_DTPREL16_LO_DS,
+    R_PPC64_TLSGD,
+    R_PPC64_TLSLD,
+    R_PPC64_REL24_NOTOC,
+    R_PPC64_ENTRY,
+    R_PPC64_PLTSEQ,
+    R_PPC64_PLTCALL,
+    R_PPC64_PLTSEQ_NOTOC,
+    R_PPC64_PLTCALL_NOTOC,
+    R_PPC64_PCREL_OPT,
+    R_PPC64_PCREL34,
+    R_PPC64_GOT_PCREL34,
+    R_PPC64_TPREL34,
+    R_PPC64_DTPREL34,
+    R_PPC64_GOT_TLSGD_PCREL34,
+    R_PPC64_GOT_TLSLD_PCREL34,
+    R_PPC64_GOT_TPREL_PCREL34,
+    R_PPC64_REL16_LO,
+    R_PPC64_REL16_HA,
+    /// A code without a name here.
+    Other(u32),
+}
+
+/// Each relocation: its code, its name and its row, in the order of the enum of names.
+macro_rules! relocations {
+    ($make:ident $arguments:tt) => {
+        $make! {
+            $arguments
+            below 128 {
+                0 R_PPC64_NONE => Some(row!(None, (0 bytes), any)),
+                1 R_PPC64_ADDR32 => Some(row!(Absolute, (4 bytes), signed_or_unsigned 32)),
+                4 R_PPC64_ADDR16_LO => Some(row!(Absolute, (0..16 Ppc64::D), any)),
+                5 R_PPC64_ADDR16_HI => Some(row!(Absolute, (16..32 Ppc64::D), any reach signed 32)),
+                6 R_PPC64_ADDR16_HA =>
+                    Some(row!(Absolute, (16..32 Ppc64::D), any reach signed 32, bias: 0x8000)),
+                10 R_PPC64_REL24 =>
+                    Some(row!(Relative, (0..26 Ppc64::Branch24), signed 26, alignment: 4)),
+                11 R_PPC64_REL14 =>
+                    Some(row!(Relative, (0..16 Ppc64::Branch14), signed 16, alignment: 4)),
+                17 R_PPC64_GOT16_HA =>
+                    Some(row!(GotRelGotBase, (16..32 Ppc64::D), any reach signed 32, bias: 0x8000)),
+                26 R_PPC64_REL32 => Some(row!(Relative, (4 bytes), signed 32)),
+                31 R_PPC64_PLT16_HA =>
+                    Some(row!(PltRelGotBase, (16..32 Ppc64::D), any reach signed 32, bias: 0x8000)),
+                38 R_PPC64_ADDR64 => Some(row!(Absolute, (8 bytes), any)),
+                44 R_PPC64_REL64 => Some(row!(Relative, (8 bytes), any)),
+                47 R_PPC64_TOC16 => Some(row!(SymRelGotBase, (0..16 Ppc64::D), signed 16)),
+                48 R_PPC64_TOC16_LO => Some(row!(SymRelGotBase, (0..16 Ppc64::D), any)),
+                50 R_PPC64_TOC16_HA =>
+                    Some(row!(SymRelGotBase, (16..32 Ppc64::D), any reach signed 32, bias: 0x8000)),
+                56 R_PPC64_ADDR16_DS =>
+                    Some(row!(Absolute, (0..16 Ppc64::Ds), signed 16, alignment: 4)),
+                57 R_PPC64_ADDR16_LO_DS =>
+                    Some(row!(Absolute, (0..16 Ppc64::Ds), any, alignment: 4)),
+                59 R_PPC64_GOT16_LO_DS =>
+                    Some(row!(GotRelGotBase, (0..16 Ppc64::Ds), any, alignment: 4)),
+                60 R_PPC64_PLT16_LO_DS =>
+                    Some(row!(PltRelGotBase, (0..16 Ppc64::Ds), any, alignment: 4)),
+                63 R_PPC64_TOC16_DS =>
+                    Some(row!(SymRelGotBase, (0..16 Ppc64::Ds), signed 16, alignment: 4)),
+                64 R_PPC64_TOC16_LO_DS =>
+                    Some(row!(SymRelGotBase, (0..16 Ppc64::Ds), any, alignment: 4)),
+                67 R_PPC64_TLS => Some(row!(None, (0 bytes), any)),
+                69 R_PPC64_TPREL16 => Some(row!(TpOff, (0..16 Ppc64::D), signed 16)),
+                70 R_PPC64_TPREL16_LO => Some(row!(TpOff, (0..16 Ppc64::D), any)),
+                71 R_PPC64_TPREL16_HI => Some(row!(TpOff, (16..32 Ppc64::D), any reach signed 32)),
+                72 R_PPC64_TPREL16_HA =>
+                    Some(row!(TpOff, (16..32 Ppc64::D), any reach signed 32, bias: 0x8000)),
+                73 R_PPC64_TPREL64 => Some(row!(TpOff, (8 bytes), any)),
+                74 R_PPC64_DTPREL16 => Some(row!(DtpOff, (0..16 Ppc64::D), signed 16)),
+                75 R_PPC64_DTPREL16_LO => Some(row!(DtpOff, (0..16 Ppc64::D), any)),
+                76 R_PPC64_DTPREL16_HI =>
+                    Some(row!(DtpOff, (16..32 Ppc64::D), any reach signed 32)),
+                77 R_PPC64_DTPREL16_HA =>
+                    Some(row!(DtpOff, (16..32 Ppc64::D), any reach signed 32, bias: 0x8000)),
+                78 R_PPC64_DTPREL64 => Some(row!(DtpOff, (8 bytes), any)),
+                79 R_PPC64_GOT_TLSGD16 => Some(row!(TlsGdGotBase, (0..16 Ppc64::D), signed 16)),
+                80 R_PPC64_GOT_TLSGD16_LO => Some(row!(TlsGdGotBase, (0..16 Ppc64::D), any)),
+                81 R_PPC64_GOT_TLSGD16_HI =>
+                    Some(row!(TlsGdGotBase, (16..32 Ppc64::D), any reach signed 32)),
+                82 R_PPC64_GOT_TLSGD16_HA =>
+                    Some(row!(TlsGdGotBase, (16..32 Ppc64::D), any reach signed 32, bias: 0x8000)),
+                83 R_PPC64_GOT_TLSLD16 => Some(row!(TlsLdGotBase, (0..16 Ppc64::D), signed 16)),
+                84 R_PPC64_GOT_TLSLD16_LO => Some(row!(TlsLdGotBase, (0..16 Ppc64::D), any)),
+                85 R_PPC64_GOT_TLSLD16_HI =>
+                    Some(row!(TlsLdGotBase, (16..32 Ppc64::D), any reach signed 32)),
+                86 R_PPC64_GOT_TLSLD16_HA =>
+                    Some(row!(TlsLdGotBase, (16..32 Ppc64::D), any reach signed 32, bias: 0x8000)),
+                87 R_PPC64_GOT_TPREL16_DS =>
+                    Some(row!(GotTpOffGotBase, (0..16 Ppc64::Ds), signed 16, alignment: 4)),
+                88 R_PPC64_GOT_TPREL16_LO_DS =>
+                    Some(row!(GotTpOffGotBase, (0..16 Ppc64::Ds), any, alignment: 4)),
+                89 R_PPC64_GOT_TPREL16_HI =>
+                    Some(row!(GotTpOffGotBase, (16..32 Ppc64::D), any reach signed 32)),
+                90 R_PPC64_GOT_TPREL16_HA =>
+                    Some(row!(GotTpOffGotBase, (16..32 Ppc64::D), any reach signed 32,
+                        bias: 0x8000)),
+                95 R_PPC64_TPREL16_DS =>
+                    Some(row!(TpOff, (0..16 Ppc64::Ds), signed 16, alignment: 4)),
+                96 R_PPC64_TPREL16_LO_DS => Some(row!(TpOff, (0..16 Ppc64::Ds), any, alignment: 4)),
+                101 R_PPC64_DTPREL16_DS =>
+                    Some(row!(DtpOff, (0..16 Ppc64::Ds), signed 16, alignment: 4)),
+                102 R_PPC64_DTPREL16_LO_DS =>
+                    Some(row!(DtpOff, (0..16 Ppc64::Ds), any, alignment: 4)),
+                107 R_PPC64_TLSGD => Some(row!(None, (0 bytes), any)),
+                108 R_PPC64_TLSLD => Some(row!(None, (0 bytes), any)),
+                116 R_PPC64_REL24_NOTOC =>
+                    Some(row!(Relative, (0..26 Ppc64::Branch24), signed 26, alignment: 4)),
+                118 R_PPC64_ENTRY => Some(row!(None, (0 bytes), any)),
+                119 R_PPC64_PLTSEQ => Some(row!(None, (0 bytes), any)),
+                120 R_PPC64_PLTCALL => Some(row!(None, (0 bytes), any)),
+                121 R_PPC64_PLTSEQ_NOTOC => Some(row!(None, (0 bytes), any)),
+                122 R_PPC64_PLTCALL_NOTOC => Some(row!(None, (0 bytes), any)),
+                123 R_PPC64_PCREL_OPT => Some(row!(None, (0 bytes), any)),
+            }
+            {
+                132 R_PPC64_PCREL34 => Some(row!(Relative, (0..34 Ppc64::Prefixed), signed 34)),
+                133 R_PPC64_GOT_PCREL34 =>
+                    Some(row!(GotRelative, (0..34 Ppc64::Prefixed), signed 34)),
+                146 R_PPC64_TPREL34 => Some(row!(TpOff, (0..34 Ppc64::Prefixed), signed 34)),
+                147 R_PPC64_DTPREL34 => Some(row!(DtpOff, (0..34 Ppc64::Prefixed), signed 34)),
+                148 R_PPC64_GOT_TLSGD_PCREL34 =>
+                    Some(row!(TlsGd, (0..34 Ppc64::Prefixed), signed 34)),
+                149 R_PPC64_GOT_TLSLD_PCREL34 =>
+                    Some(row!(TlsLd, (0..34 Ppc64::Prefixed), signed 34)),
+                150 R_PPC64_GOT_TPREL_PCREL34 =>
+                    Some(row!(GotTpOff, (0..34 Ppc64::Prefixed), signed 34)),
+                250 R_PPC64_REL16_LO => Some(row!(Relative, (0..16 Ppc64::D), any)),
+                252 R_PPC64_REL16_HA =>
+                    Some(row!(Relative, (16..32 Ppc64::D), any reach signed 32, bias: 0x8000)),
+            }
+        }
+    };
+}
+
+impl fmt::Debug for Ppc64Relocation {
+    fn fmt<W: fmt::Write>(&self, f: &mut fmt::Formatter<W>) -> fmt::Result {
+        match self {
+            Ppc64Relocation::Other(code) => f.debug_tuple("Other").field(code).finish(),
+            _ => f.write_str(self.name()),
+        }
+    }
+}
+
+impl Ppc64Relocation {
+    /// The relocation with a code, `r_type` in ELF files; `Other(code)` for a code without a name.
+    #[inline(always)]
+    pub fn from_elf(code: u32) -> Ppc64Relocation
+        ensures { IsNameOf ppc64_name code result }
+    {
+        relocations!(name_of_code(Ppc64Relocation, code))
+    }
+
+    /// The code, `r_type` in ELF files.
+    #[inline]
+    pub fn elf_code(self) -> u32
+        ensures { result ≡ code_of (ppc64_name self) }
+    {
+        relocations!(code_of_name(Ppc64Relocation, self))
+    }
+
+    /// The name, as "R_PPC64_REL24"; "unknown relocation" for `Other`.
+    pub fn name(self) -> &'static str
+        ensures { result.now ≡ text_of (ppc64_name self) }
+    {
+        relocations!(text_of_name(Ppc64Relocation, self))
+    }
+}
+
+static ROWS: &[Option<TableRow>] = &relocations!(table());
+
+/// The index of a name in the table.
+#[inline(always)]
+fn index(name: Ppc64Relocation) -> usize
+    ensures { result ≡ tag_of names.the_type name }
+{
+    relocations!(index_of_name(Ppc64Relocation, name))
+}
+
+/// What a relocation means. It takes a name; `Ppc64Relocation::from_elf` gives the name of a code.
+/// Returns `None` for `Other`. The adjusted high halves (`_HA`) have a bias of 0x8000. Checked
+/// halves have a range of 16 signed bits.
+///
+/// The PLT entry of `R_PPC64_PLT16_HA` and `R_PPC64_PLT16_LO_DS` is the doubleword of `.plt` that
+/// holds the function's address. `R_PPC64_ENTRY`, `R_PPC64_PLTSEQ`, `R_PPC64_PLTCALL`, their `_NOTOC`
+/// and `R_PPC64_PCREL_OPT` mark instructions and have no value.
+///
+/// # Ranges of pairs
+///
+/// The halves `_HA`, `_HI` and `_LO`, as `R_PPC64_TOC16_HA` and `R_PPC64_REL16_HA`, allow every
+/// value. A `_HA` half with its signed low half is the value itself only from -2^31 - 0x8000 to
+/// 2^31 - 0x8001. Elsewhere it is the value modulo 2^32.
+#[inline(always)]
+pub fn row(name: Ppc64Relocation) -> Option<Row>
+    ensures row { result ≡ ppc64_row name }
+    ensures agrees { IfSome result RowAgrees }
+    ensures others { IfSome result RowReadsNoOther }
+{
+    row_in(&ROWS[index(name)])
+}
+
+/// Whether the crate `linker-utils` has no such name.
+#[inline(always)]
+fn is_own(name: Ppc64Relocation) -> bool
+    ensures { result ≡ is_own name }
+{
+    matches!(
+        name,
+        Ppc64Relocation::R_PPC64_GOT16_HA
+            | Ppc64Relocation::R_PPC64_PLT16_HA
+            | Ppc64Relocation::R_PPC64_GOT16_LO_DS
+            | Ppc64Relocation::R_PPC64_PLT16_LO_DS
+            | Ppc64Relocation::R_PPC64_ENTRY
+            | Ppc64Relocation::R_PPC64_PLTSEQ
+            | Ppc64Relocation::R_PPC64_PLTCALL
+            | Ppc64Relocation::R_PPC64_PLTSEQ_NOTOC
+            | Ppc64Relocation::R_PPC64_PLTCALL_NOTOC
+            | Ppc64Relocation::R_PPC64_TPREL34
+            | Ppc64Relocation::R_PPC64_DTPREL34
+            | Ppc64Relocation::R_PPC64_GOT_TLSGD_PCREL34
+            | Ppc64Relocation::R_PPC64_GOT_TLSLD_PCREL34
+            | Ppc64Relocation::R_PPC64_GOT_TPREL_PCREL34
+    )
+}
+
+/// What a relocation means, as `row` says, or `None` for those that PowerPC64 compilers write and the
+/// crate `linker-utils` has no name for: the GOT and PLT entries by two halves (`R_PPC64_GOT16_HA`,
+/// `R_PPC64_PLT16_HA` and their `_LO_DS`), `R_PPC64_ENTRY`, the marks of calls through the PLT
+/// (`R_PPC64_PLTSEQ`, `R_PPC64_PLTCALL` and their `_NOTOC`), and TLS by prefixed instructions
+/// (`R_PPC64_TPREL34` and those after it).
+#[inline(always)]
+pub fn relocation_type_from_raw(name: Ppc64Relocation) -> Option<RelocationKindInfo>
+    ensures row { result ≡ ppc64_raw_row name }
+    ensures agrees { IfSome result RowAgrees }
+    ensures others { IfSome result RowReadsNoOther }
+    ensures fits { IfSome result RowFits }
+{
+    if is_own(name) {
+        None
+    } else {
+        info_in(row(name))
+    }
+}

@@ -1,0 +1,39 @@
+//! Addresses in two halves.
+
+ghost use Rattle.std.specs.Prelude.{◌≡◌, ◌<◌, ◌≤◌, ◌^◌, ◌-◌, ◌↔◌, ℕ, IsTrue, length, drop, bit_and};
+ghost use Rattle.std.specs.Prelude.{bit_or};
+ghost use Rattle.std.specs.Int.{byte_len, cast_unsigned, from_le_bytes, w32, w64};
+ghost use Rattle.linker_base.specs.Form.{window_of, Written, MachineReads, IsReadBack, BitsWritten};
+ghost use Rattle.linker_base.specs.Form.{place_sum};
+ghost use Rattle.linker_base.specs.Rewrite.{CanRewrite, rewritten, offset_after, addend_after};
+ghost use Rattle.linker_elf.specs.Inner.FormLaws.{ppc64_keeps, ppc64_restored};
+ghost use Rattle.linker_elf.specs.Inner.Masks.{word_mask};
+ghost use Rattle.linker_elf.specs.Ppc64.{ppc64_form, PairHolds};
+ghost use Rattle.linker_elf.specs.Ppc64.{KeepsHigh};
+
+use super::Ppc64Instruction;
+use crate::elf::InstructionForm;
+use linker_base::bit_misc::BitExtraction;
+
+/// Writes a value into a pair of D-form instructions, as `addis` and `addi` (64-bit ELF V2 ABI for
+/// Power, "@ha" and "@l"): the high half, adjusted for the low half's sign, into the instruction
+/// that `ha` begins with, and the low half into the one that `lo` begins with. The pair adds the
+/// value modulo 2^32. Read signed, it adds the value itself from -2^31 - 0x8000 to 2^31 - 0x8001.
+///
+/// ```
+/// let (mut addis, mut addi) = (0x3c00_0000u32.to_le_bytes(), 0x3800_0000u32.to_le_bytes());
+/// linker_utils::ppc64::write_ha_lo(&mut addis, &mut addi, 0x8000);
+/// assert_eq!(u32::from_le_bytes(addis), 0x3c00_0001);
+/// assert_eq!(u32::from_le_bytes(addi), 0x3800_8000);
+/// ```
+pub fn write_ha_lo(ha: &mut [u8], lo: &mut [u8], value: u64)
+    requires ha_room { 4 ≤ length ha.old }
+    requires lo_room { 4 ≤ length lo.old }
+    ensures pair { PairHolds (from_le_bytes w32 ha.new) (from_le_bytes w32 lo.new) value }
+    ensures ha_kept { KeepsHigh ha.old ha.new }
+    ensures lo_kept { KeepsHigh lo.old lo.new }
+{
+    let high = value.wrapping_add(0x8000).extract_bit_range(16..32);
+    Ppc64Instruction::D.write_to_value(high, false, ha);
+    Ppc64Instruction::D.write_to_value(value.low_bits(16), false, lo);
+}

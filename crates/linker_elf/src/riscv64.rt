@@ -1,0 +1,7 @@
+//! RISC-V: instruction forms, and what relocations mean.
+
+pub(crate) mod forms;
+mod relocations;
+
+pub use forms::RiscVInstruction;
+pub use relocations::{RiscVRelocation, clui_row, relocation_type_from_raw, row};

@@ -1,0 +1,272 @@
+//! What the relocations of RISC-V mean.
+
+ghost use Rattle.std.specs.Prelude.{◌≡◌, IfSome};
+ghost use denote.Enum.Declared.{tag_of};
+ghost use Rattle.linker_elf.specs.Agrees.{RowAgrees, RowFits};
+ghost use Rattle.linker_elf.specs.ElfNames.{IsNameOf, code_of, text_of};
+ghost use Rattle.linker_elf.specs.Readings.{RowReadsNoOther};
+ghost use Rattle.linker_elf.specs.RiscVRelocations.{is_of_descriptor, riscv_relocation};
+ghost use Rattle.linker_elf.specs.RiscVRelocations.{riscv_name, riscv_row, riscv_uleb128_role};
+ghost use Rattle.linker_elf.specs.RiscVRelocations.{clui_row};
+ghost use Rattle.linker_elf.specs.contracts.riscv64.relocations.RiscVRelocation as names;
+
+use crate::elf::rows::{
+    TableRow, code_of_name, index_of_name, name_of_code, row, row_in, table, text_of_name,
+};
+use crate::elf::{RelocationKind, RelocationKindInfo, Row, Uleb128Role};
+use std::fmt;
+
+/// The relocations of RISC-V, by their names in the RISC-V ELF psABI, "Relocations". `from_elf`
+/// takes the code that an ELF file has.
+#[derive(Clone, Copy, PartialEq, Eq)]
+pub enum RiscVRelocation {
+    R_RISCV_NONE,
+    R_RISCV_32,
+    R_RISCV_64,
+    R_RISCV_BRANCH,
+    R_RISCV_JAL,
+    R_RISCV_CALL,
+    R_RISCV_CALL_PLT,
+    R_RISCV_GOT_HI20,
+    R_RISCV_TLS_GOT_HI20,
+    R_RISCV_TLS_GD_HI20,
+    R_RISCV_PCREL_HI20,
+    R_RISCV_PCREL_LO12_I,
+    R_RISCV_PCREL_LO12_S,
+    R_RISCV_HI20,
+    R_RISCV_LO12_I,
+    R_RISCV_LO12_S,
+    R_RISCV_TPREL_HI20,
+    R_RISCV_TPREL_LO12_I,
+    R_RISCV_TPREL_LO12_S,
+    R_RISCV_TPREL_ADD,
+    R_RISCV_ADD8,
+    R_RISCV_ADD16,
+    R_RISCV_ADD32,
+    R_RISCV_ADD64,
+    R_RISCV_SUB8,
+    R_RISCV_SUB16,
+    R_RISCV_SUB32,
+    R_RISCV_SUB64,
+    R_RISCV_GOT32_PCREL,
+    R_RISCV_ALIGN,
+    R_RISCV_RVC_BRANCH,
+    R_RISCV_RVC_JUMP,
+    /// What `R_RISCV_HI20` means once its `lui` has become a `c.lui`, by older versions of the psABI;
+    /// later ones reserve the code. Its range is wider than what `c.lui` holds:
+    /// `RelaxationKind::hi20_fits_clui` is the test.
+    R_RISCV_RVC_LUI,
+    R_RISCV_RELAX,
+    R_RISCV_SUB6,
+    R_RISCV_SET6,
+    R_RISCV_SET8,
+    R_RISCV_SET16,
+    R_RISCV_SET32,
+    R_RISCV_32_PCREL,
+    R_RISCV_PLT32,
+    /// The first of a pair at a ULEB128 number. Its row is `Relative` of 0 bytes, though the value
+    /// isn't relative to the place, and `write` rejects it: `uleb128_role` tells what it does.
+    R_RISCV_SET_ULEB128,
+    /// The second of that pair.
+    R_RISCV_SUB_ULEB128,
+    R_RISCV_TLSDESC_HI20,
+    R_RISCV_TLSDESC_LOAD_LO12,
+    R_RISCV_TLSDESC_ADD_LO12,
+    R_RISCV_TLSDESC_CALL,
+    /// A code without a name here.
+    Other(u32),
+}
+
+/// A part of a value, or both, of a pair: `row!` of the value's first bits. The low part is signed,
+/// so the pair reaches 0x800 less than 32 signed bits.
+macro_rules! pair {
+    ($kind:ident, $end:literal, $form:ident) => {
+        row!(
+            $kind, (0..$end RiscV::$form), signed_or_unsigned 32 reach -0x80000800, 0x7ffff800
+        )
+    };
+}
+
+/// Each relocation: its code, its name and its row, in the order of the enum of names.
+macro_rules! relocations {
+    ($make:ident $arguments:tt) => {
+        $make! {
+            $arguments
+            {
+                0 R_RISCV_NONE => Some(row!(None, (0 bytes), any)),
+                1 R_RISCV_32 => Some(row!(Absolute, (4 bytes), signed_or_unsigned 32)),
+                2 R_RISCV_64 => Some(row!(Absolute, (8 bytes), any)),
+                16 R_RISCV_BRANCH =>
+                    Some(row!(Relative, (0..32 RiscV::BType), within -4096, 4095, alignment: 2)),
+                17 R_RISCV_JAL =>
+                    Some(row!(Relative, (0..32 RiscV::JType), within -1048576, 1048575,
+                        alignment: 2)),
+                18 R_RISCV_CALL => Some(pair!(PltRelative, 64, UiType)),
+                19 R_RISCV_CALL_PLT => Some(pair!(PltRelative, 64, UiType)),
+                20 R_RISCV_GOT_HI20 => Some(pair!(GotRelative, 32, UType)),
+                21 R_RISCV_TLS_GOT_HI20 => Some(pair!(GotTpOff, 32, UType)),
+                22 R_RISCV_TLS_GD_HI20 => Some(pair!(TlsGd, 32, UType)),
+                23 R_RISCV_PCREL_HI20 => Some(pair!(Relative, 32, UType)),
+                24 R_RISCV_PCREL_LO12_I => Some(pair!(RelativeRiscVLow12, 32, IType)),
+                25 R_RISCV_PCREL_LO12_S => Some(pair!(RelativeRiscVLow12, 32, SType)),
+                26 R_RISCV_HI20 => Some(pair!(Absolute, 32, UType)),
+                27 R_RISCV_LO12_I => Some(pair!(Absolute, 32, IType)),
+                28 R_RISCV_LO12_S => Some(pair!(Absolute, 32, SType)),
+                29 R_RISCV_TPREL_HI20 => Some(pair!(TpOff, 32, UType)),
+                30 R_RISCV_TPREL_LO12_I => Some(pair!(TpOff, 32, IType)),
+                31 R_RISCV_TPREL_LO12_S => Some(pair!(TpOff, 32, SType)),
+                32 R_RISCV_TPREL_ADD => Some(row!(None, (0 bytes), any)),
+                33 R_RISCV_ADD8 => Some(row!(AbsoluteAddition, (1 bytes), any)),
+                34 R_RISCV_ADD16 => Some(row!(AbsoluteAddition, (2 bytes), any)),
+                35 R_RISCV_ADD32 => Some(row!(AbsoluteAddition, (4 bytes), any)),
+                36 R_RISCV_ADD64 => Some(row!(AbsoluteAddition, (8 bytes), any)),
+                37 R_RISCV_SUB8 => Some(row!(AbsoluteSubtraction, (1 bytes), any)),
+                38 R_RISCV_SUB16 => Some(row!(AbsoluteSubtraction, (2 bytes), any)),
+                39 R_RISCV_SUB32 => Some(row!(AbsoluteSubtraction, (4 bytes), any)),
+                40 R_RISCV_SUB64 => Some(row!(AbsoluteSubtraction, (8 bytes), any)),
+                41 R_RISCV_GOT32_PCREL =>
+                    Some(row!(GotRelative, (4 bytes), signed_or_unsigned 32 reach -0x80000000,
+                        0x80000000)),
+                43 R_RISCV_ALIGN => Some(row!(Alignment, (0 bytes), any)),
+                44 R_RISCV_RVC_BRANCH =>
+                    Some(row!(Relative, (0..16 RiscV::CbType), within -256, 255, alignment: 2)),
+                45 R_RISCV_RVC_JUMP =>
+                    Some(row!(Relative, (0..16 RiscV::CjType), within -2048, 2047, alignment: 2)),
+                46 R_RISCV_RVC_LUI =>
+                    Some(row!(Absolute, (0..32 RiscV::CluiType), signed_or_unsigned 32
+                        reach -0x20800, 0x1f800)),
+                51 R_RISCV_RELAX => Some(row!(None, (0 bytes), any)),
+                52 R_RISCV_SUB6 => Some(row!(AbsoluteSubtractionWord6, (1 bytes), any)),
+                53 R_RISCV_SET6 => Some(row!(AbsoluteSetWord6, (1 bytes), any)),
+                54 R_RISCV_SET8 => Some(row!(AbsoluteSet, (1 bytes), any)),
+                55 R_RISCV_SET16 => Some(row!(AbsoluteSet, (2 bytes), any)),
+                56 R_RISCV_SET32 => Some(row!(AbsoluteSet, (4 bytes), any)),
+                57 R_RISCV_32_PCREL => Some(row!(Relative, (4 bytes), signed_or_unsigned 32)),
+                59 R_RISCV_PLT32 =>
+                    Some(row!(PltRelative, (4 bytes), signed_or_unsigned 32 reach -0x80000000,
+                        0x80000000)),
+                60 R_RISCV_SET_ULEB128 => Some(row!(Relative, (0 bytes), any)),
+                61 R_RISCV_SUB_ULEB128 => Some(row!(PairSubtractionULEB128RiscV, (8 bytes), any)),
+                62 R_RISCV_TLSDESC_HI20 => Some(pair!(TlsDesc, 32, UType)),
+                63 R_RISCV_TLSDESC_LOAD_LO12 => Some(pair!(TlsDesc, 32, IType)),
+                64 R_RISCV_TLSDESC_ADD_LO12 => Some(pair!(TlsDesc, 32, IType)),
+                65 R_RISCV_TLSDESC_CALL => Some(row!(TlsDescCall, (0 bytes), any)),
+            }
+        }
+    };
+}
+
+impl fmt::Debug for RiscVRelocation {
+    fn fmt<W: fmt::Write>(&self, f: &mut fmt::Formatter<W>) -> fmt::Result {
+        match self {
+            RiscVRelocation::Other(code) => f.debug_tuple("Other").field(code).finish(),
+            _ => f.write_str(self.name()),
+        }
+    }
+}
+
+impl RiscVRelocation {
+    /// The relocation with a code, `r_type` in ELF files; `Other(code)` for a code without a name.
+    #[inline(always)]
+    pub fn from_elf(code: u32) -> RiscVRelocation
+        ensures { IsNameOf riscv_name code result }
+    {
+        relocations!(name_of_code(RiscVRelocation, code))
+    }
+
+    /// The code, `r_type` in ELF files.
+    #[inline]
+    pub fn elf_code(self) -> u32
+        ensures { result ≡ code_of (riscv_name self) }
+    {
+        relocations!(code_of_name(RiscVRelocation, self))
+    }
+
+    /// The name, as "R_RISCV_32"; "unknown relocation" for `Other`.
+    pub fn name(self) -> &'static str
+        ensures { result.now ≡ text_of (riscv_name self) }
+    {
+        relocations!(text_of_name(RiscVRelocation, self))
+    }
+
+    /// What a relocation of a ULEB128 number does; `None` for all others.
+    pub fn uleb128_role(self) -> Option<Uleb128Role>
+        ensures { result ≡ riscv_uleb128_role self }
+    {
+        match self {
+            RiscVRelocation::R_RISCV_SET_ULEB128 => Some(Uleb128Role::Sets),
+            RiscVRelocation::R_RISCV_SUB_ULEB128 => Some(Uleb128Role::Subtracts),
+            _ => None,
+        }
+    }
+}
+
+static ROWS: &[Option<TableRow>] = &relocations!(table());
+
+/// The index of a name in the table.
+#[inline(always)]
+fn index(name: RiscVRelocation) -> usize
+    ensures { result ≡ tag_of names.the_type name }
+{
+    relocations!(index_of_name(RiscVRelocation, name))
+}
+
+/// What a relocation means. It takes a name; `RiscVRelocation::from_elf` gives the name of a code.
+/// Returns `None` for `Other`.
+///
+/// The value of the relocations of TLS descriptors ("TLS Descriptors") is the distance from the
+/// place to the descriptor's GOT entry. The place of `R_RISCV_TLSDESC_LOAD_LO12` and
+/// `R_RISCV_TLSDESC_ADD_LO12` is that of their `R_RISCV_TLSDESC_HI20`, which their symbol names.
+/// `R_RISCV_TLSDESC_CALL` has no value.
+///
+/// # Ranges of pairs
+///
+/// `range.contains(value)` does not mean that a pair of instructions reaches `value`. The `_HI20`
+/// relocations, `R_RISCV_CALL` and `R_RISCV_CALL_PLT` allow -2^31 to 2^32 - 1. A high part with its
+/// signed low part is the value itself only up to 2^31 - 0x801; above, it is the value less 2^32.
+/// `R_RISCV_CALL_PLT` allows 0x7ffff800, which the machine reads as -0x80000800. Where addresses
+/// have 64 bits, test that bound too.
+#[inline(always)]
+pub fn row(name: RiscVRelocation) -> Option<Row>
+    ensures row { result ≡ (riscv_relocation name).row }
+    // only of branches and jumps: `pair` of `write_to_value` says what pairs hold
+    ensures agrees { IfSome result RowAgrees }
+    ensures others { IfSome result RowReadsNoOther }
+{
+    row_in(&ROWS[index(name)])
+}
+
+/// What `R_RISCV_HI20` means once its `lui` has become a `c.lui`: the row of `R_RISCV_RVC_LUI`.
+pub fn clui_row() -> Row
+    ensures { result ≡ clui_row }
+{
+    row(RiscVRelocation::R_RISCV_RVC_LUI).unwrap()
+}
+
+/// Whether relocations of TLS descriptors have a kind.
+#[inline(always)]
+fn is_of_descriptor(kind: RelocationKind) -> bool
+    ensures { result ≡ is_of_descriptor kind }
+{
+    matches!(kind, RelocationKind::TlsDesc | RelocationKind::TlsDescCall)
+}
+
+/// What a relocation means, as `row` says, or `None` for the four of TLS descriptors and for
+/// `R_RISCV_RVC_LUI`.
+#[inline(always)]
+pub fn relocation_type_from_raw(name: RiscVRelocation) -> Option<RelocationKindInfo>
+    ensures row { result ≡ riscv_row name }
+    // only of branches and jumps: `pair` of `write_to_value` says what pairs hold
+    ensures agrees { IfSome result RowAgrees }
+    ensures others { IfSome result RowReadsNoOther }
+    ensures fits { IfSome result RowFits }
+{
+    if let RiscVRelocation::R_RISCV_RVC_LUI = name {
+        return None;
+    }
+    match row(name) {
+        // by the kind: LLVM compiles a match of the name to a jump by the code
+        Some(row) if !is_of_descriptor(row.kind()) => Some(row.info()),
+        _ => None,
+    }
+}

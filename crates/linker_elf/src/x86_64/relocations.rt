@@ -1,0 +1,178 @@
+//! What the relocations of x86-64 mean.
+
+ghost use Rattle.std.specs.Prelude.{◌≡◌};
+ghost use denote.Enum.Declared.{tag_of};
+ghost use Rattle.linker_elf.specs.ElfNames.{IsNameOf, code_of, text_of};
+ghost use Rattle.linker_elf.specs.X86Relocations.{x86_64_relocation, x86_64_name, x86_64_row};
+ghost use Rattle.linker_elf.specs.contracts.x86_64.relocations.X86_64Relocation as names;
+
+use crate::elf::rows::{
+    TableRow, code_of_name, index_of_name, info_in, name_of_code, row, row_in, table, text_of_name,
+};
+use crate::elf::{RelocationKindInfo, Row};
+use std::fmt;
+
+/// The relocations of x86-64, by their names in the x86-64 psABI, "Relocation Types". `from_elf`
+/// takes the code that an ELF file has.
+#[allow(non_camel_case_types)]
+#[derive(Clone, Copy, PartialEq, Eq)]
+pub enum X86_64Relocation {
+    R_X86_64_NONE,
+    R_X86_64_64,
+    R_X86_64_PC32,
+    R_X86_64_GOT32,
+    R_X86_64_PLT32,
+    R_X86_64_GOTPCREL,
+    R_X86_64_32,
+    R_X86_64_32S,
+    R_X86_64_16,
+    R_X86_64_PC16,
+    R_X86_64_8,
+    R_X86_64_PC8,
+    R_X86_64_DTPOFF64,
+    R_X86_64_TPOFF64,
+    R_X86_64_TLSGD,
+    R_X86_64_TLSLD,
+    R_X86_64_DTPOFF32,
+    R_X86_64_GOTTPOFF,
+    R_X86_64_TPOFF32,
+    R_X86_64_PC64,
+    R_X86_64_GOTOFF64,
+    /// Its row is `Relative`, as that of `R_X86_64_PC32`: its formula is GOT + A - P, so the GOT's
+    /// address is the symbol's. The same holds of `R_X86_64_GOTPC64`.
+    R_X86_64_GOTPC32,
+    R_X86_64_GOT64,
+    R_X86_64_GOTPC64,
+    R_X86_64_PLTOFF64,
+    R_X86_64_SIZE32,
+    R_X86_64_SIZE64,
+    R_X86_64_GOTPC32_TLSDESC,
+    R_X86_64_TLSDESC_CALL,
+    R_X86_64_GOTPCRELX,
+    R_X86_64_REX_GOTPCRELX,
+    R_X86_64_CODE_4_GOTPCRELX,
+    R_X86_64_CODE_4_GOTTPOFF,
+    R_X86_64_CODE_4_GOTPC32_TLSDESC,
+    R_X86_64_CODE_5_GOTPCRELX,
+    R_X86_64_CODE_5_GOTTPOFF,
+    R_X86_64_CODE_5_GOTPC32_TLSDESC,
+    R_X86_64_CODE_6_GOTPCRELX,
+    R_X86_64_CODE_6_GOTTPOFF,
+    R_X86_64_CODE_6_GOTPC32_TLSDESC,
+    /// A code without a name here.
+    Other(u32),
+}
+
+/// Each relocation: its code, its name and its row, in the order of the enum of names.
+macro_rules! relocations {
+    ($make:ident $arguments:tt) => {
+        $make! {
+            $arguments
+            {
+                0 R_X86_64_NONE => Some(row!(None, (0 bytes), any)),
+                1 R_X86_64_64 => Some(row!(Absolute, (8 bytes), any)),
+                2 R_X86_64_PC32 => Some(row!(Relative, (4 bytes), signed 32)),
+                3 R_X86_64_GOT32 =>
+                    Some(row!(GotRelGotBase, (4 bytes), unsigned 32 reach -0x80000000, 0x80000000)),
+                4 R_X86_64_PLT32 => Some(row!(PltRelative, (4 bytes), signed 32)),
+                9 R_X86_64_GOTPCREL => Some(row!(GotRelative, (4 bytes), signed 32)),
+                10 R_X86_64_32 => Some(row!(Absolute, (4 bytes), unsigned 32)),
+                11 R_X86_64_32S => Some(row!(Absolute, (4 bytes), signed 32)),
+                12 R_X86_64_16 => Some(row!(Absolute, (2 bytes), signed_or_unsigned 16)),
+                13 R_X86_64_PC16 => Some(row!(Relative, (2 bytes), signed 16)),
+                14 R_X86_64_8 => Some(row!(Absolute, (1 bytes), signed_or_unsigned 8)),
+                15 R_X86_64_PC8 => Some(row!(Relative, (1 bytes), signed 8)),
+                17 R_X86_64_DTPOFF64 => Some(row!(DtpOff, (8 bytes), any)),
+                18 R_X86_64_TPOFF64 => Some(row!(TpOff, (8 bytes), any)),
+                19 R_X86_64_TLSGD => Some(row!(TlsGd, (4 bytes), signed 32)),
+                20 R_X86_64_TLSLD => Some(row!(TlsLd, (4 bytes), signed 32)),
+                21 R_X86_64_DTPOFF32 => Some(row!(DtpOff, (4 bytes), signed 32)),
+                22 R_X86_64_GOTTPOFF => Some(row!(GotTpOff, (4 bytes), signed 32)),
+                23 R_X86_64_TPOFF32 => Some(row!(TpOff, (4 bytes), signed 32)),
+                24 R_X86_64_PC64 => Some(row!(Relative, (8 bytes), any)),
+                25 R_X86_64_GOTOFF64 => Some(row!(SymRelGotBase, (8 bytes), any)),
+                26 R_X86_64_GOTPC32 => Some(row!(Relative, (4 bytes), signed 32)),
+                27 R_X86_64_GOT64 => Some(row!(GotRelGotBase, (8 bytes), any)),
+                29 R_X86_64_GOTPC64 => Some(row!(Relative, (8 bytes), any)),
+                31 R_X86_64_PLTOFF64 => Some(row!(PltRelGotBase, (8 bytes), any)),
+                32 R_X86_64_SIZE32 => Some(row!(SymbolSize, (4 bytes), unsigned 32)),
+                33 R_X86_64_SIZE64 => Some(row!(SymbolSize, (8 bytes), any)),
+                34 R_X86_64_GOTPC32_TLSDESC => Some(row!(TlsDesc, (4 bytes), signed 32)),
+                35 R_X86_64_TLSDESC_CALL => Some(row!(TlsDescCall, (0 bytes), any)),
+                41 R_X86_64_GOTPCRELX => Some(row!(GotRelative, (4 bytes), signed 32)),
+                42 R_X86_64_REX_GOTPCRELX => Some(row!(GotRelative, (4 bytes), signed 32)),
+                43 R_X86_64_CODE_4_GOTPCRELX => Some(row!(GotRelative, (4 bytes), signed 32)),
+                44 R_X86_64_CODE_4_GOTTPOFF => Some(row!(GotTpOff, (4 bytes), signed 32)),
+                45 R_X86_64_CODE_4_GOTPC32_TLSDESC => Some(row!(TlsDesc, (4 bytes), signed 32)),
+                46 R_X86_64_CODE_5_GOTPCRELX => Some(row!(GotRelative, (4 bytes), signed 32)),
+                47 R_X86_64_CODE_5_GOTTPOFF => Some(row!(GotTpOff, (4 bytes), signed 32)),
+                48 R_X86_64_CODE_5_GOTPC32_TLSDESC => Some(row!(TlsDesc, (4 bytes), signed 32)),
+                49 R_X86_64_CODE_6_GOTPCRELX => Some(row!(GotRelative, (4 bytes), signed 32)),
+                50 R_X86_64_CODE_6_GOTTPOFF => Some(row!(GotTpOff, (4 bytes), signed 32)),
+                51 R_X86_64_CODE_6_GOTPC32_TLSDESC => Some(row!(TlsDesc, (4 bytes), signed 32)),
+            }
+        }
+    };
+}
+
+impl fmt::Debug for X86_64Relocation {
+    fn fmt<W: fmt::Write>(&self, f: &mut fmt::Formatter<W>) -> fmt::Result {
+        match self {
+            X86_64Relocation::Other(code) => f.debug_tuple("Other").field(code).finish(),
+            _ => f.write_str(self.name()),
+        }
+    }
+}
+
+impl X86_64Relocation {
+    /// The relocation with a code, `r_type` in ELF files; `Other(code)` for a code without a name.
+    #[inline(always)]
+    pub fn from_elf(code: u32) -> X86_64Relocation
+        ensures { IsNameOf x86_64_name code result }
+    {
+        relocations!(name_of_code(X86_64Relocation, code))
+    }
+
+    /// The code, `r_type` in ELF files.
+    #[inline]
+    pub fn elf_code(self) -> u32
+        ensures { result ≡ code_of (x86_64_name self) }
+    {
+        relocations!(code_of_name(X86_64Relocation, self))
+    }
+
+    /// The name, as "R_X86_64_64"; "unknown relocation" for `Other`.
+    pub fn name(self) -> &'static str
+        ensures { result.now ≡ text_of (x86_64_name self) }
+    {
+        relocations!(text_of_name(X86_64Relocation, self))
+    }
+}
+
+static ROWS: &[Option<TableRow>] = &relocations!(table());
+
+/// The index of a name in the table.
+#[inline(always)]
+fn index(name: X86_64Relocation) -> usize
+    ensures { result ≡ tag_of names.the_type name }
+{
+    relocations!(index_of_name(X86_64Relocation, name))
+}
+
+/// What a relocation means. It takes a name; `X86_64Relocation::from_elf` gives the name of a code.
+/// Returns `None` for `Other`. Fields of 8 bytes are not checked. An address in 16 or 8 bits may be
+/// signed or unsigned.
+#[inline(always)]
+pub fn row(name: X86_64Relocation) -> Option<Row>
+    ensures { result ≡ x86_64_row name }
+{
+    row_in(&ROWS[index(name)])
+}
+
+/// What a relocation means, as `row` says.
+#[inline(always)]
+pub fn relocation_from_raw(name: X86_64Relocation) -> Option<RelocationKindInfo>
+    ensures { result ≡ x86_64_row name }
+{
+    info_in(row(name))
+}

@@ -1,0 +1,163 @@
+-- LoongArch: what the instructions of the rewrites do (LoongArch Reference Manual, volume 1). None of
+-- them changes memory.
+use Rattle.std.specs.Prelude.{ℕ, pos, ◌+ℤ◌, ◌*ℤ◌, ◌/◌, ◌^◌, ◌==◌, if◌then◌else◌, Bool, [], ◌∷◌, List}
+use Rattle.std.specs.Prelude.{Option, Some, None, IsSomeAnd, ◌≡◌, false, bit_or, bit_and}
+use Rattle.linker_base.specs.Bits.{field, signed}
+use Rattle.linker_elf.specs.LoongArch.{loongarch_form, pcalau12i}
+use Rattle.linker_utils.specs.LoongArchRewrites.{rd_of, rj_of}
+use Rattle.linker_elf.specs.Value.{sum_64}
+use Rattle.linker_elf.specs.declared.loongarch64.forms.LoongArch64Instruction.TheVariants.{Shift5}
+use Rattle.linker_elf.specs.declared.loongarch64.forms.LoongArch64Instruction.TheVariants.{Branch26}
+use Rattle.rewrite_laws.specs.Machine.{Memory, wrapped, loaded}
+
+-- ---- the state
+
+pub record State : Type 0 where
+  -- the integer registers by their numbers
+  pub registers : ℕ → ℕ
+  -- the address of the next instruction
+  pub pc : ℕ
+  pub memory : Memory
+
+-- `zero` is 0 whatever is written to it.
+abbrev pub read : ℕ → State → ℕ
+read n s = if n == 0 then 0 else s.registers n
+
+abbrev pub with_register : ℕ → ℕ → State → State
+with_register n v s = record s { registers = λ m. if m == n then v else s.registers m }
+
+abbrev pub write : ℕ → ℕ → State → State
+write n v s = if n == 0 then s else with_register n v s
+
+abbrev pub next_pc : State → ℕ
+next_pc s = sum_64 s.pc 4
+
+abbrev pub go_to : ℕ → State → State
+go_to address s = record s { pc = address }
+
+-- on to the next instruction
+abbrev pub go_on : State → State
+go_on s = go_to (next_pc s) s
+
+-- ---- which instruction a word is
+
+pub data Instruction : Type 0 where
+  pcalau_12 : Instruction
+  pcadd_2 : Instruction
+  pcaddu_18 : Instruction
+  lu12i_w : Instruction
+  addi_d : Instruction
+  ld_d : Instruction
+  ori : Instruction
+  andi : Instruction
+  jirl : Instruction
+  b : Instruction
+  bl : Instruction
+  add_d : Instruction
+  other : Instruction
+
+-- `pcalau12i`, `pcaddi`, `pcaddu18i`, `lu12i.w`; `addi.d`, `ld.d`, `ori`, `andi`; `jirl`, `b`, `bl`; `add.d`
+abbrev pub decode : ℕ → Instruction
+decode word =
+    if word / 2 ^ 25 == 0x0d then pcalau_12 else (
+    if word / 2 ^ 25 == 0x0c then pcadd_2 else (
+    if word / 2 ^ 25 == 0x0f then pcaddu_18 else (
+    if word / 2 ^ 25 == 0x0a then lu12i_w else (
+    if word / 2 ^ 22 == 0x00b then addi_d else (
+    if word / 2 ^ 22 == 0x0a3 then ld_d else (
+    if word / 2 ^ 22 == 0x00e then ori else (
+    if word / 2 ^ 22 == 0x00d then andi else (
+    if word / 2 ^ 26 == 0x13 then jirl else (
+    if word / 2 ^ 26 == 0x14 then b else (
+    if word / 2 ^ 26 == 0x15 then bl else (
+    if word / 2 ^ 15 == 0x21 then add_d else other)))))))))))
+
+-- ---- what it does
+
+-- "PCALAU12I": the immediate, in pages, is added to the address, and the low 12 bits are cleared.
+abbrev pub page_address : ℕ → State → ℕ
+page_address word s = wrapped (pcalau12i s.pc word)
+
+-- "PCADDI": the immediate is in units of 4 bytes.
+abbrev pub near_address : ℕ → State → ℕ
+near_address word s = wrapped (pos s.pc +ℤ ((loongarch_form Shift5).machine word *ℤ pos 4))
+
+-- "PCADDU18I": in units of 2^18 bytes
+abbrev pub far_address : ℕ → State → ℕ
+far_address word s = wrapped (pos s.pc +ℤ (signed 20 (field word 5 25) *ℤ pos (2 ^ 18)))
+
+-- "LU12I.W": in units of 2^12, of 32 bits in two's complement
+abbrev pub high_part : ℕ → ℕ
+high_part word = wrapped (signed 20 (field word 5 25) *ℤ pos 4096)
+
+-- "ADDI.D": the immediate is signed.
+abbrev pub sum_of : ℕ → State → ℕ
+sum_of word s = wrapped (pos (read (rj_of word) s) +ℤ signed 12 (field word 10 22))
+
+-- "LD.D"
+abbrev pub loaded_of : ℕ → State → ℕ
+loaded_of word s = loaded 8 s.memory (sum_of word s)
+
+-- "ORI", "ANDI": the immediate has no sign.
+abbrev pub ored : ℕ → State → ℕ
+ored word s = bit_or (read (rj_of word) s) (field word 10 22)
+
+abbrev pub anded : ℕ → State → ℕ
+anded word s = bit_and (read (rj_of word) s) (field word 10 22)
+
+-- "JIRL": the immediate, in units of 4 bytes, is added to a register.
+abbrev pub register_target : ℕ → State → ℕ
+register_target word s =
+    wrapped (pos (read (rj_of word) s) +ℤ (signed 16 (field word 10 26) *ℤ pos 4))
+
+-- "B", "BL": in units of 4 bytes
+abbrev pub branch_target : ℕ → State → ℕ
+branch_target word s = wrapped (pos s.pc +ℤ ((loongarch_form Branch26).machine word *ℤ pos 4))
+
+-- "ADD.D"
+abbrev pub added : ℕ → State → ℕ
+added word s = sum_64 (read (rj_of word) s) (read (field word 10 15) s)
+
+-- The state after an instruction. "JIRL" reads its register before it writes the link.
+abbrev pub execute : Instruction → ℕ → State → Option State
+execute pcalau_12 word s = Some (go_on (write (rd_of word) (page_address word s) s))
+execute pcadd_2 word s = Some (go_on (write (rd_of word) (near_address word s) s))
+execute pcaddu_18 word s = Some (go_on (write (rd_of word) (far_address word s) s))
+execute lu12i_w word s = Some (go_on (write (rd_of word) (high_part word) s))
+execute addi_d word s = Some (go_on (write (rd_of word) (sum_of word s) s))
+execute ld_d word s = Some (go_on (write (rd_of word) (loaded_of word s) s))
+execute ori word s = Some (go_on (write (rd_of word) (ored word s) s))
+execute andi word s = Some (go_on (write (rd_of word) (anded word s) s))
+execute jirl word s = Some (go_to (register_target word s) (write (rd_of word) (next_pc s) s))
+execute b word s = Some (go_to (branch_target word s) s)
+execute bl word s = Some (go_to (branch_target word s) (write 1 (next_pc s) s))
+execute add_d word s = Some (go_on (write (rd_of word) (added word s) s))
+execute other word s = None
+
+abbrev pub step : ℕ → State → Option State
+step word s = execute (decode word) word s
+
+-- ---- sequences
+
+-- what a run is after its first instruction, if that goes on to the next
+abbrev pub continue : ℕ → (State → Option State) → Option State → Option State
+continue next rest None = None
+continue next rest (Some s) = if s.pc == next then rest s else None
+
+-- Words that stand one after the other from the state's address up are executed, each after the one
+-- before it, and then the last, which may go anywhere.
+abbrev pub run : List ℕ → State → Option State
+run [] s = Some s
+run (word ∷ []) s = step word s
+run (word ∷ words) s = continue (next_pc s) (run words) (step word s)
+
+-- ---- states that are alike
+
+-- The states differ in no more than their addresses and some registers.
+pub record AreAlikeBut (differing : ℕ → Bool) (s t : State) : Type 0 where
+  pub registers : (n : ℕ) → differing n ≡ false → read n s ≡ read n t
+  pub memory : s.memory ≡ t.memory
+
+-- The old code runs from one state and the new code from another, and P holds of the ends.
+abbrev pub EndSo : List ℕ → State → List ℕ → State → (State → State → Type 0) → Type 0
+EndSo old s new t P = IsSomeAnd (run old s) (λ u. IsSomeAnd (run new t) (λ v. P u v))

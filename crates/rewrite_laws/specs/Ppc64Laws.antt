@@ -1,0 +1,356 @@
+-- PowerPC64: rewritten sequences compute what the original ones do (64-bit ELF V2 ABI for Power, "TOC
+-- Optimizations" and "TLS Linkage Optimizations").
+use Rattle.std.specs.Prelude.{◌≡◌, ◌≢◌, ◌<◌, ◌∷◌, [], ℕ, Bool, false, ◌==◌, ◌&&◌, ◌||◌, not, List}
+use Rattle.std.specs.Prelude.{take, IsTrue, IsSomeAnd, drop, Option, Some, ◌^◌, if◌then◌else◌}
+use Rattle.std.specs.Int.{w32, w64, from_le_bytes}
+use Rattle.linker_utils.specs.Ppc64Originals.{is_addis_of_toc, is_ld, is_add_of_thread, is_call}
+use Rattle.linker_utils.specs.Ppc64Originals.{is_indexed, is_store, is_d_access, is_addi}
+use Rattle.linker_utils.specs.Ppc64Originals.{is_ds_access, is_indexed_word, is_pld}
+use Rattle.linker_elf.specs.Ppc64Relocations.{ppc64_row}
+use Rattle.linker_utils.specs.Ppc64Rewrites.{ppc64_rewrite, opcode_of, rt_of, ra_of, access_of}
+use Rattle.linker_base.specs.Bits.{field}
+use Rattle.linker_elf.specs.Value.{sum_64, difference_64}
+use Rattle.linker_elf.specs.declared.elf.value.Operands.{Operands}
+use Rattle.linker_elf.specs.declared.ppc64.relocations.Ppc64Relocation.{Ppc64Relocation}
+use Rattle.linker_elf.specs.declared.ppc64.relocations.Ppc64Relocation.TheVariants as names
+use Rattle.linker_utils.specs.declared.ppc64.rewrites.RelaxationKind.{RelaxationKind}
+use Rattle.linker_utils.specs.declared.ppc64.rewrites.RelaxationKind.TheVariants as kinds
+use Rattle.relocation_laws.specs.Schemes.{IsApplied, AreAddresses, symbol_address}
+use Rattle.rewrite_laws.specs.Machine.{loaded}
+use Rattle.rewrite_laws.specs.Ppc64Machine.{State, Formats, step, run, RunAlikeBut}
+use Rattle.rewrite_laws.specs.Ppc64Machine.{step_prefixed, AreAlikeBut}
+use Rattle.rewrite_laws.specs.Ppc64Machine.{write, go_on, but_loaded, access_with, Access}
+use Rattle.rewrite_laws.specs.Ppc64Machine.{loads, loads_signed, stores, word_access_with}
+
+-- ---- instructions as bytes
+
+-- the word of an instruction's bytes
+abbrev pub word_of : List ℕ → ℕ
+word_of bytes = from_le_bytes w32 bytes
+
+-- A relocation is applied to an instruction's bytes.
+abbrev pub IsRelocated : Ppc64Relocation → Operands → List ℕ → List ℕ → Type 0
+IsRelocated name o before after = IsSomeAnd (ppc64_row name) (λ row. IsApplied row o before after)
+
+-- Bytes begin with what a rewrite leaves of the window that they began with.
+abbrev pub IsRewritten : RelaxationKind → List ℕ → List ℕ → Type 0
+IsRewritten kind before after =
+    IsSomeAnd (ppc64_rewrite kind) (λ r. take r.len after ≡ r.bytes (take r.len before))
+
+-- the operands of an instruction at another place
+abbrev pub at_place : ℕ → Operands → Operands
+at_place at o = record o { place = at }
+
+abbrev pub two : List ℕ → List ℕ → List ℕ
+two first second = word_of first ∷ word_of second ∷ []
+
+abbrev pub three : List ℕ → List ℕ → List ℕ → List ℕ
+three first second third = word_of first ∷ word_of second ∷ word_of third ∷ []
+
+-- ---- the address of a symbol, by its GOT entry or by its distance from the TOC pointer
+
+-- `addis rX,2`, and an instruction over rX, which are executed next. Register 2 is the TOC pointer.
+pub record IsTocPair (test : ℕ → Bool) (o : Operands) (s : State) (addis second : List ℕ) : Type 0
+  where
+    pub small : AreAddresses o
+    pub toc : s.registers 2 ≡ o.got_base
+    pub first_is : IsTrue (is_addis_of_toc (word_of addis))
+    pub second_is : IsTrue (test (word_of second))
+    pub base : ra_of (word_of second) ≡ rt_of (word_of addis)
+
+-- register x, unless it is y too
+abbrev pub is_only : ℕ → ℕ → ℕ → Bool
+is_only x y n = n == x && not (n == y)
+
+-- `addis rX,2` and `ld rY,x(rX)` of the GOT entry, which holds the address of the symbol, and `addis
+-- rX,2` and `addi rY,rX`: the same but for rX, which has the high part.
+abbrev pub GotToAddress : Type 0
+GotToAddress =
+    (f : Formats) (o : Operands) (s : State) (addis ld addi : List ℕ) → IsTocPair is_ld o s addis ld
+    → loaded 8 s.memory o.got_entry ≡ symbol_address o → IsRewritten kinds.LdToAddi ld addi
+    → (at : ℕ) (addis_of_entry ld_of_entry addis_of_symbol addi_of_symbol : List ℕ)
+    → IsRelocated names.R_PPC64_GOT16_HA o addis addis_of_entry
+    → IsRelocated names.R_PPC64_GOT16_LO_DS (at_place at o) ld ld_of_entry
+    → IsRelocated names.R_PPC64_TOC16_HA o addis addis_of_symbol
+    → IsRelocated names.R_PPC64_TOC16_LO (at_place at o) addi addi_of_symbol
+    → RunAlikeBut f (is_only (rt_of (word_of addis)) (rt_of (word_of ld)))
+    (two addis_of_entry ld_of_entry) (two addis_of_symbol addi_of_symbol) s
+
+-- ---- the offset of a variable from the thread pointer, by its GOT entry or in the instructions
+
+-- S + A, less the address that the thread pointer has
+abbrev pub thread_offset : Operands → ℕ
+thread_offset o = difference_64 (symbol_address o) o.tls_base
+
+-- `addis rX,2`, `ld rY,x(rX)` of the GOT entry, which the dynamic linker has set to the offset, and
+-- `add rZ,rY,13`; and `nop`, `addis rY,13` and `addi rZ,rY`: the same but for rX and rY.
+abbrev pub InitialExecToLocalExec : Type 0
+InitialExecToLocalExec =
+    (f : Formats) (o : Operands) (s : State) (addis ld add blank addis_13 addi : List ℕ)
+    → IsTocPair is_ld o s addis ld → IsTrue (is_add_of_thread (word_of add))
+    → ra_of (word_of add) ≡ rt_of (word_of ld) → rt_of (word_of ld) ≢ 13
+    → rt_of (word_of addis) ≢ 13
+    → loaded 8 s.memory o.got_entry ≡ thread_offset o
+    → IsRewritten kinds.AddisToNop addis blank → IsRewritten kinds.LdToAddisThread ld addis_13
+    → IsRewritten kinds.AddToAddi add addi
+    → (at there : ℕ) (addis_of_entry ld_of_entry addis_of_symbol addi_of_symbol : List ℕ)
+    → IsRelocated names.R_PPC64_GOT_TPREL16_HA o addis addis_of_entry
+    → IsRelocated names.R_PPC64_GOT_TPREL16_LO_DS (at_place at o) ld ld_of_entry
+    → IsRelocated names.R_PPC64_TPREL16_HA o addis_13 addis_of_symbol
+    → IsRelocated names.R_PPC64_TPREL16_LO (at_place there o) addi addi_of_symbol
+    → RunAlikeBut f
+    (λ n. (n == rt_of (word_of addis) || n == rt_of (word_of ld)) && not (n == rt_of (word_of add)))
+    (three addis_of_entry ld_of_entry add) (three blank addis_of_symbol addi_of_symbol) s
+
+-- Instructions of initial-exec behind which one accesses the variable; x and y are the registers that
+-- the `addis` and the `ld` write.
+pub record IsThreadAccess (test : ℕ → Bool) (o : Operands) (s : State) (addis ld indexed : List ℕ)
+    : Type 0 where
+  pub pair : IsTocPair is_ld o s addis ld
+  pub is_access : IsTrue (test (word_of indexed))
+  pub over : ra_of (word_of indexed) ≡ rt_of (word_of ld)
+  pub not_13 : rt_of (word_of ld) ≢ 13
+  pub high_not_13 : rt_of (word_of addis) ≢ 13
+  -- no store of the high part
+  pub keeps_high : IsTrue (not (is_store (access_of (word_of indexed))
+      && rt_of (word_of indexed) == rt_of (word_of addis)))
+
+-- `lwzx rZ,rY,13` and so on, and `lwz rZ,x(rY)`: the same but for rX and rY.
+abbrev pub AccessToLocalExec : Type 0
+AccessToLocalExec =
+    (f : Formats) (o : Operands) (s : State) (addis ld indexed blank addis_13 direct : List ℕ)
+    → IsThreadAccess is_indexed o s addis ld indexed
+    → loaded 8 s.memory o.got_entry ≡ thread_offset o
+    → IsRewritten kinds.AddisToNop addis blank → IsRewritten kinds.LdToAddisThread ld addis_13
+    → IsRewritten kinds.IndexedToD indexed direct
+    → (at there : ℕ) (addis_of_entry ld_of_entry addis_of_symbol access_of_symbol : List ℕ)
+    → IsRelocated names.R_PPC64_GOT_TPREL16_HA o addis addis_of_entry
+    → IsRelocated names.R_PPC64_GOT_TPREL16_LO_DS (at_place at o) ld ld_of_entry
+    → IsRelocated names.R_PPC64_TPREL16_HA o addis_13 addis_of_symbol
+    → IsRelocated names.R_PPC64_TPREL16_LO (at_place there o) direct access_of_symbol
+    → RunAlikeBut f
+    (but_loaded (λ n. n == rt_of (word_of addis) || n == rt_of (word_of ld))
+    (access_with (access_of (word_of indexed))) (rt_of (word_of indexed)))
+    (three addis_of_entry ld_of_entry indexed) (three blank addis_of_symbol access_of_symbol) s
+
+-- `ldx rZ,rY,13` and so on, and `ld rZ,x(rY)`: the same but for rX and rY.
+abbrev pub WordAccessToLocalExec : Type 0
+WordAccessToLocalExec =
+    (f : Formats) (o : Operands) (s : State) (addis ld indexed blank addis_13 direct : List ℕ)
+    → IsThreadAccess is_indexed_word o s addis ld indexed
+    → loaded 8 s.memory o.got_entry ≡ thread_offset o
+    → IsRewritten kinds.AddisToNop addis blank → IsRewritten kinds.LdToAddisThread ld addis_13
+    → IsRewritten kinds.IndexedToDs indexed direct
+    → (at there : ℕ) (addis_of_entry ld_of_entry addis_of_symbol access_of_symbol : List ℕ)
+    → IsRelocated names.R_PPC64_GOT_TPREL16_HA o addis addis_of_entry
+    → IsRelocated names.R_PPC64_GOT_TPREL16_LO_DS (at_place at o) ld ld_of_entry
+    → IsRelocated names.R_PPC64_TPREL16_HA o addis_13 addis_of_symbol
+    → IsRelocated names.R_PPC64_TPREL16_LO_DS (at_place there o) direct access_of_symbol
+    → RunAlikeBut f
+    (but_loaded (λ n. n == rt_of (word_of addis) || n == rt_of (word_of ld))
+    (word_access_with (access_of (word_of indexed))) (rt_of (word_of indexed)))
+    (three addis_of_entry ld_of_entry indexed) (three blank addis_of_symbol access_of_symbol) s
+
+-- ---- a distance from the TOC pointer whose high part is 0
+
+-- `addis rX,2` and a load or a store over rX, by its opcode less 32
+abbrev pub access_number : ℕ → ℕ
+access_number word = field word 26 31
+
+abbrev pub is_d_over_base : ℕ → Bool
+is_d_over_base word = is_d_access word && not (ra_of word == 0)
+
+-- `nop`, and the same over register 2: the same but for rX.
+abbrev pub AccessNearToc : Type 0
+AccessNearToc =
+    (f : Formats) (o : Operands) (s : State) (addis insn blank over : List ℕ)
+    → IsTocPair is_d_over_base o s addis insn
+    → IsRewritten kinds.AddisToNop addis blank → IsRewritten kinds.BaseToToc insn over
+    → (at : ℕ) (addis_of_symbol insn_of_symbol over_of_symbol : List ℕ)
+    → IsRelocated names.R_PPC64_TOC16_HA o addis addis_of_symbol
+    → IsRelocated names.R_PPC64_TOC16_LO (at_place at o) insn insn_of_symbol
+    → IsRelocated names.R_PPC64_TOC16 o over over_of_symbol
+    → RunAlikeBut f
+    (but_loaded (λ n. n == rt_of (word_of addis)) (access_with (access_number (word_of insn)))
+    (rt_of (word_of insn)))
+    (two addis_of_symbol insn_of_symbol) (two blank over_of_symbol) s
+
+-- what `ld`, `lwa` and `std` access
+abbrev pub ds_access : ℕ → Access
+ds_access word =
+    if opcode_of word == 62 then stores 8 else (
+    if field word 0 2 == 0 then loads 8 else loads_signed 4)
+
+abbrev pub is_ds_over_base : ℕ → Bool
+is_ds_over_base word = is_ds_access word && not (ra_of word == 0)
+
+-- the same of these
+abbrev pub WordAccessNearToc : Type 0
+WordAccessNearToc =
+    (f : Formats) (o : Operands) (s : State) (addis insn blank over : List ℕ)
+    → IsTocPair is_ds_over_base o s addis insn
+    → IsRewritten kinds.AddisToNop addis blank → IsRewritten kinds.BaseToToc insn over
+    → (at : ℕ) (addis_of_symbol insn_of_symbol over_of_symbol : List ℕ)
+    → IsRelocated names.R_PPC64_TOC16_HA o addis addis_of_symbol
+    → IsRelocated names.R_PPC64_TOC16_LO_DS (at_place at o) insn insn_of_symbol
+    → IsRelocated names.R_PPC64_TOC16_DS o over over_of_symbol
+    → RunAlikeBut f
+    (but_loaded (λ n. n == rt_of (word_of addis)) (ds_access (word_of insn)) (rt_of (word_of insn)))
+    (two addis_of_symbol insn_of_symbol) (two blank over_of_symbol) s
+
+-- the same of `addi`
+abbrev pub AddiNearToc : Type 0
+AddiNearToc =
+    (f : Formats) (o : Operands) (s : State) (addis insn blank over : List ℕ)
+    → IsTocPair is_addi o s addis insn
+    → IsRewritten kinds.AddisToNop addis blank → IsRewritten kinds.BaseToToc insn over
+    → (at : ℕ) (addis_of_symbol insn_of_symbol over_of_symbol : List ℕ)
+    → IsRelocated names.R_PPC64_TOC16_HA o addis addis_of_symbol
+    → IsRelocated names.R_PPC64_TOC16_LO (at_place at o) insn insn_of_symbol
+    → IsRelocated names.R_PPC64_TOC16 o over over_of_symbol
+    → RunAlikeBut f (is_only (rt_of (word_of addis)) (rt_of (word_of insn)))
+    (two addis_of_symbol insn_of_symbol) (two blank over_of_symbol) s
+
+-- ---- relative to the instruction
+
+-- the number of the 8 bytes of a prefixed instruction
+abbrev pub prefixed_of : List ℕ → ℕ
+prefixed_of bytes = from_le_bytes w64 bytes
+
+-- `pld rT` of the GOT entry, which holds the address of the symbol, and `paddi rT`
+abbrev pub PldToPaddi : Type 0
+PldToPaddi =
+    (f : Formats) (o : Operands) (s : State) (pld paddi : List ℕ) → AreAddresses o
+    → s.pc ≡ o.place → word_of pld < 2 ^ 32 → word_of (drop 4 pld) < 2 ^ 32
+    → IsTrue (is_pld (word_of pld) (word_of (drop 4 pld)))
+    → loaded 8 s.memory o.got_entry ≡ symbol_address o → IsRewritten kinds.PldToPaddi pld paddi
+    → (pld_of_entry paddi_of_symbol : List ℕ)
+    → IsRelocated names.R_PPC64_GOT_PCREL34 o pld pld_of_entry
+    → IsRelocated names.R_PPC64_PCREL34 o paddi paddi_of_symbol
+    → IsSomeAnd (step_prefixed f (prefixed_of pld_of_entry) s) (λ t.
+    IsSomeAnd (step_prefixed f (prefixed_of paddi_of_symbol) s) (λ u. AreAlikeBut (λ _. false) t u))
+
+-- ---- the address of a variable, by a call of `__tls_get_addr`
+
+-- What a called function may change, beside the link register: registers, floating-point registers
+-- and bytes of memory, by their numbers and addresses.
+pub record Changes : Type 0 where
+  pub registers : ℕ → Bool
+  pub floats : ℕ → Bool
+  pub memory : ℕ → Bool
+
+-- The states differ in no more than these.
+pub record AgreeBut (c : Changes) (s t : State) : Type 0 where
+  pub registers : (n : ℕ) → c.registers n ≡ false → s.registers n ≡ t.registers n
+  pub floats : (n : ℕ) → c.floats n ≡ false → s.floats n ≡ t.floats n
+  pub memory : (a : ℕ) → c.memory a ≡ false → s.memory a ≡ t.memory a
+  pub pc : s.pc ≡ t.pc
+
+-- A function, called in state u, returns a number in state v.
+pub record Returns (c : Changes) (number : ℕ) (u v : State) : Type 0 where
+  pub number_is : v.registers 3 ≡ number
+  pub registers : (n : ℕ) → n ≢ 3 → c.registers n ≡ false → v.registers n ≡ u.registers n
+  pub floats : (n : ℕ) → c.floats n ≡ false → v.floats n ≡ u.floats n
+  pub memory : (a : ℕ) → c.memory a ≡ false → v.memory a ≡ u.memory a
+  pub back : v.pc ≡ u.link
+
+-- register x too, and register 3 not: it has the number
+abbrev pub and_register : ℕ → Changes → Changes
+and_register x c =
+    record c { registers = λ n. if n == 3 then false else (n == x || c.registers n) }
+
+abbrev pub is_argument : ℕ → Bool
+is_argument word = is_addi word && rt_of word == 3
+
+-- `addis rX,2`, `addi 3,rX` of the GOT entry, `bl __tls_get_addr` and `nop`, which are executed next.
+-- `call` says in which state a called function returns, if it does.
+pub record IsTlsCall (call : State → Option State) (c : Changes) (number : ℕ) (o : Operands)
+    (s : State) (addis addi bl : List ℕ) : Type 0 where
+  pub pair : IsTocPair is_argument o s addis addi
+  pub not_13 : rt_of (word_of addis) ≢ 13
+  pub call_is : IsTrue (is_call (word_of bl) (word_of (drop 4 bl)))
+  pub returns : (u v : State) → u.registers 3 ≡ o.got_entry → u.registers 13 ≡ s.registers 13
+      → call u ≡ Some v → Returns c number u v
+
+abbrev pub four : List ℕ → List ℕ → List ℕ → List ℕ → List ℕ
+four a b c d = word_of a ∷ word_of b ∷ word_of c ∷ word_of d ∷ []
+
+-- The old sequence ends in a call, which returns to one more instruction. The new one ends behind that.
+abbrev pub RunAlikeBehindCall : Formats → (State → Option State) → Changes → List ℕ → ℕ → List ℕ
+    → State → Type 0
+RunAlikeBehindCall f call c old behind new s =
+    IsSomeAnd (run f old s) (λ u. (v : State) → call u ≡ Some v
+    → IsSomeAnd (step f behind v) (λ t. IsSomeAnd (run f new s) (λ w. AgreeBut c t w)))
+
+-- The function returns the address of the variable in the thread: `nop`, `addis 3,13`, `nop` and
+-- `addi 3,3` compute it.
+abbrev pub GeneralDynamicToLocalExec : Type 0
+GeneralDynamicToLocalExec =
+    (f : Formats) (call : State → Option State) (c : Changes) (o : Operands) (s : State)
+    (addis addi bl : List ℕ)
+    → IsTlsCall call c (sum_64 (thread_offset o) (s.registers 13)) o s addis addi bl
+    → (blank addis_13 made : List ℕ)
+    → IsRewritten kinds.AddisToNop addis blank → IsRewritten kinds.AddiToAddisThread addi addis_13
+    → IsRewritten kinds.CallToAddi bl made
+    → (at there : ℕ) (addis_of_entry addi_of_entry addis_of_symbol addi_of_symbol : List ℕ)
+    → IsRelocated names.R_PPC64_GOT_TLSGD16_HA o addis addis_of_entry
+    → IsRelocated names.R_PPC64_GOT_TLSGD16_LO (at_place at o) addi addi_of_entry
+    → IsRelocated names.R_PPC64_TPREL16_HA o addis_13 addis_of_symbol
+    → IsRelocated names.R_PPC64_TPREL16_LO (at_place there o) (drop 4 made) addi_of_symbol
+    → RunAlikeBehindCall f call (and_register (rt_of (word_of addis)) c)
+    (three addis_of_entry addi_of_entry bl) (word_of (drop 4 bl))
+    (four blank addis_of_symbol made addi_of_symbol) s
+
+-- the operands with another GOT entry
+abbrev pub with_entry : ℕ → Operands → Operands
+with_entry entry o = record o { got_entry = entry }
+
+-- The GOT entry of initial-exec, at another address, holds the offset: `addis`, `ld 3`, `nop` and
+-- `add 3,3,13` compute the address.
+abbrev pub GeneralDynamicToInitialExec : Type 0
+GeneralDynamicToInitialExec =
+    (f : Formats) (call : State → Option State) (c : Changes) (o : Operands) (s : State)
+    (addis addi bl : List ℕ)
+    → IsTlsCall call c (sum_64 (thread_offset o) (s.registers 13)) o s addis addi bl
+    → (entry : ℕ) → entry < 2 ^ 64 → loaded 8 s.memory entry ≡ thread_offset o
+    → (ld made : List ℕ)
+    → IsRewritten kinds.AddiToLd addi ld → IsRewritten kinds.CallToAdd bl made
+    → (at : ℕ) (addis_of_call addi_of_call addis_of_entry ld_of_entry : List ℕ)
+    → IsRelocated names.R_PPC64_GOT_TLSGD16_HA o addis addis_of_call
+    → IsRelocated names.R_PPC64_GOT_TLSGD16_LO (at_place at o) addi addi_of_call
+    → IsRelocated names.R_PPC64_GOT_TPREL16_HA (with_entry entry o) addis addis_of_entry
+    → IsRelocated names.R_PPC64_GOT_TPREL16_LO_DS (at_place at (with_entry entry o)) ld ld_of_entry
+    → RunAlikeBehindCall f call (and_register (rt_of (word_of addis)) c)
+    (three addis_of_call addi_of_call bl) (word_of (drop 4 bl))
+    (four addis_of_entry ld_of_entry made (drop 4 made)) s
+
+-- The function returns the address 0x8000 above the first byte of the executable's block, which is
+-- 0x1000 above the thread pointer: `nop`, `addis 3,13,0`, `nop` and `addi 3,3,4096` compute it.
+abbrev pub LocalDynamicToLocalExec : Type 0
+LocalDynamicToLocalExec =
+    (f : Formats) (call : State → Option State) (c : Changes) (o : Operands) (s : State)
+    (addis addi bl : List ℕ)
+    → IsTlsCall call c (sum_64 (s.registers 13) 0x1000) o s addis addi bl
+    → (blank addis_13 made : List ℕ)
+    → IsRewritten kinds.AddisToNop addis blank → IsRewritten kinds.AddiToAddisThread addi addis_13
+    → IsRewritten kinds.CallToAddi4096 bl made
+    → (at : ℕ) (addis_of_entry addi_of_entry : List ℕ)
+    → IsRelocated names.R_PPC64_GOT_TLSLD16_HA o addis addis_of_entry
+    → IsRelocated names.R_PPC64_GOT_TLSLD16_LO (at_place at o) addi addi_of_entry
+    → RunAlikeBehindCall f call (and_register (rt_of (word_of addis)) c)
+    (three addis_of_entry addi_of_entry bl) (word_of (drop 4 bl))
+    (four blank addis_13 made (drop 4 made)) s
+
+-- ---- the TOC pointer after a call
+
+-- In place of the `nop` to which a call returns, register 2 gets the doubleword at r1 + 24, and all
+-- else stays.
+abbrev pub RestoresToc : Type 0
+RestoresToc =
+    (f : Formats) (s : State) (call restored : List ℕ) → word_of call < 2 ^ 32
+    → IsTrue (is_call (word_of call) (word_of (drop 4 call)))
+    → IsRewritten kinds.NopToRestoreToc call restored
+    → (word_of restored ≡ word_of call)
+    × (step f (word_of (drop 4 call)) s ≡ Some (go_on s))
+    × (step f (word_of (drop 4 restored)) s
+    ≡ Some (go_on (write 2 (loaded 8 s.memory (sum_64 (s.registers 1) 24)) s)))

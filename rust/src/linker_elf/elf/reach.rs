@@ -1,0 +1,122 @@
+// Made by tools/erase of crates/linker_elf/src/elf/reach.rt.
+//! Which values of a relocation the machine reads back as they are.
+
+use crate::linker_elf::elf::{
+    AArch64Instruction, AllowedRange, LoongArch64Instruction, Ppc64Instruction,
+    RelocationInstruction, RelocationKind, RelocationKindInfo, RelocationSize, RiscVInstruction,
+    SIZE_2GB, Sign,
+};
+use crate::linker_base::bit_misc::BitRange;
+
+/// What RISC-V's pairs and `c.lui` take off each end of the range of their high part, because the
+/// low part is signed.
+const SIGNED_LOW_12: i64 = 0x800;
+
+/// What `R_LARCH_CALL36` takes off likewise.
+const SIGNED_LOW_18: i64 = 0x20000;
+
+#[inline(always)]
+fn reach_of_aarch64(insn: AArch64Instruction, bits: BitRange, range: AllowedRange) -> AllowedRange {
+    match (insn, range.bounds) {
+        (AArch64Instruction::Movnz, None) => {
+            if bits.end > 48 {
+                range
+            } else {
+                AllowedRange::from_bit_size(bits.end as u32 + 1, Sign::Signed)
+            }
+        }
+        _ => range,
+    }
+}
+
+#[inline(always)]
+fn reach_of_riscv(insn: RiscVInstruction, range: AllowedRange) -> AllowedRange {
+    match insn {
+        RiscVInstruction::UType
+        | RiscVInstruction::IType
+        | RiscVInstruction::SType
+        | RiscVInstruction::UiType => {
+            let half = SIZE_2GB as i64;
+            AllowedRange::new(-half - SIGNED_LOW_12, half - SIGNED_LOW_12)
+        }
+        RiscVInstruction::CluiType => {
+            AllowedRange::new(-0x20000 - SIGNED_LOW_12, 0x20000 - SIGNED_LOW_12)
+        }
+        _ => range,
+    }
+}
+
+#[inline(always)]
+fn reach_of_loongarch(insn: LoongArch64Instruction, range: AllowedRange) -> AllowedRange {
+    match insn {
+        LoongArch64Instruction::Call36 => {
+            let half = 1i64 << 37;
+            AllowedRange::new(-half - SIGNED_LOW_18, half - SIGNED_LOW_18)
+        }
+        _ => range,
+    }
+}
+
+#[inline(always)]
+fn reach_of_ppc64(insn: Ppc64Instruction, bits: BitRange, range: AllowedRange) -> AllowedRange {
+    match (insn, range.bounds) {
+        (Ppc64Instruction::D, None) => {
+            if bits.start == 16 {
+                AllowedRange::from_bit_size(32, Sign::Signed)
+            } else {
+                range
+            }
+        }
+        _ => range,
+    }
+}
+
+#[inline(always)]
+fn reach_of_bytes(kind: RelocationKind, len: u8, range: AllowedRange) -> AllowedRange {
+    match (kind, len) {
+        (
+            RelocationKind::GotRelative
+            | RelocationKind::GotRelGotBase
+            | RelocationKind::PltRelative,
+            4,
+        ) => AllowedRange::from_bit_size(32, Sign::Signed),
+        _ => range,
+    }
+}
+
+impl RelocationKindInfo {
+    /// Which values, as `value` returns them, can be written. They are those that the machine reads
+    /// back as they are from the written instruction, or from the pair that it is a half of. Where
+    /// the psABI asks for an overflow check that `range` lacks, they are also those that pass it.
+    ///
+    /// | Relocations | From | Below |
+    /// |---|--:|--:|
+    /// | RISC-V `HI20`, `LO12` and calls: what the pair holds | -2^31 - 0x800 | 2^31 - 0x800 |
+    /// | `clui_rel_info`, with the low part | -0x20800 | 0x1f800 |
+    /// | `R_LARCH_CALL36` | -2^37 - 0x20000 | 2^37 - 0x20000 |
+    /// | PowerPC64's `_HA`, of the biased value, and `_HI` | -2^31 | 2^31 |
+    /// | AArch64's `Movnz` of bits up to 16, 32 or 48 | -2^16, -2^32, -2^48 | 2^16, 2^32, 2^48 |
+    /// | `R_X86_64_GOT32`, `R_RISCV_PLT32`, `R_RISCV_GOT32_PCREL` | -2^31 | 2^31 |
+    /// | all others | `range` | |
+    ///
+    /// Relocations without a range take a part of every value, which the machine then reads modulo
+    /// the part's size.
+    ///
+    /// No other aligned value is what the machine reads from an instruction of a row, or from its
+    /// pair: see `others` of each `relocation_type_from_raw`. The exception is those relocations of
+    /// LDR and STR of 2 to 16 bytes whose offset the psABI limits to 12 bits, as
+    /// `R_AARCH64_TLSLE_LDST16_TPREL_LO12`: the machine reads 12 bits of such units.
+    #[must_use]
+    #[inline(always)]
+    pub fn reach(&self) -> AllowedRange {
+        match self.size {
+            RelocationSize::ByteSize(len) => reach_of_bytes(self.kind, len, self.range),
+            RelocationSize::BitMasking { range, insn } => match insn {
+                RelocationInstruction::AArch64(insn) => reach_of_aarch64(insn, range, self.range),
+                RelocationInstruction::RiscV(insn) => reach_of_riscv(insn, self.range),
+                RelocationInstruction::Ppc64(insn) => reach_of_ppc64(insn, range, self.range),
+                RelocationInstruction::LoongArch64(insn) => reach_of_loongarch(insn, self.range),
+            },
+        }
+    }
+}

@@ -1,0 +1,295 @@
+// Made by tools/erase of crates/linker_elf/src/elf/relocate.rt.
+//! Writes the value of a relocation.
+
+use crate::linker_elf::elf::engine::{self, Run, Window, run};
+use crate::linker_elf::elf::{
+    AArch64Instruction, InstructionForm, LoongArch64Instruction, Ppc64Instruction,
+    RelocationInstruction, RelocationKind, RelocationKindInfo, RelocationSize,
+};
+use crate::linker_base::bit_misc::{BitExtraction, BitRange};
+
+/// Why a relocation's value isn't written.
+#[cfg_attr(not(exhaustive), non_exhaustive)]
+#[derive(Debug, Clone, Copy, PartialEq, Eq, Hash)]
+pub enum RelocateError {
+    /// The relocation is one of a pair that computes a ULEB128 number, whose length is not the
+    /// row's to know: `utils::write_uleb128` writes it. Or it is `R_LARCH_CALL30`: no manual says
+    /// how far its pair of instructions goes. Or the row is none that the library returns: it has
+    /// more than 8 bytes, a bit range that isn't within 64 bits, or an alignment that is 0 or above
+    /// 2^63 - 1.
+    Unsupported,
+    /// There are fewer bytes than the relocation writes.
+    TooShort,
+    /// The value isn't a multiple of the row's alignment, or not one of 16 where a PowerPC64
+    /// instruction of DQ-form (`lq`, `lxv`, `stxv`, `lxvp`, `stxvp`) is at a relocation of
+    /// DS-form.
+    Misaligned,
+    /// The value is outside `reach`. Or the row is none that the library returns, and its bits
+    /// don't fit its instruction.
+    OutOfReach,
+}
+
+/// The number of the first `len` bytes.
+#[inline(always)]
+fn load(len: usize, bytes: &[u8]) -> u64 {
+    let mut word = [0u8; 8];
+    word[..len].copy_from_slice(&bytes[..len]);
+    u64::from_le_bytes(word)
+}
+
+/// Sets the first `len` bytes to the lowest of a number.
+#[inline(always)]
+fn store(len: usize, number: u64, bytes: &mut [u8]) {
+    // a copy of a known length is one store
+    match len {
+        8 => bytes[..8].copy_from_slice(&number.to_le_bytes()[..8]),
+        4 => bytes[..4].copy_from_slice(&number.to_le_bytes()[..4]),
+        _ => bytes[..len].copy_from_slice(&number.to_le_bytes()[..len]),
+    }
+}
+
+/// The number that a relocation of whole bytes writes over the existing ones.
+#[inline(always)]
+fn number_over(kind: RelocationKind, len: usize, value: i64, dest: &[u8]) -> u64 {
+    let number = value.cast_unsigned();
+    match kind {
+        RelocationKind::AbsoluteAddition => load(len, dest).wrapping_add(number),
+        RelocationKind::AbsoluteSubtraction => load(len, dest).wrapping_sub(number),
+        RelocationKind::AbsoluteSetWord6 => {
+            let old = load(len, dest);
+            old - old % 64 + number % 64
+        }
+        RelocationKind::AbsoluteAdditionWord6 => {
+            let old = load(len, dest);
+            old - old % 64 + old.wrapping_add(number) % 64
+        }
+        RelocationKind::AbsoluteSubtractionWord6 => {
+            let old = load(len, dest);
+            old - old % 64 + old.wrapping_sub(number) % 64
+        }
+        _ => number,
+    }
+}
+
+/// Writes whole bytes.
+#[inline(always)]
+pub(crate) fn write_bytes(kind: RelocationKind, len: usize, value: i64, dest: &mut [u8]) {
+    let number = number_over(kind, len, value, dest);
+    store(len, number, dest);
+}
+
+/// The bits of a value that a relocation takes.
+#[inline(always)]
+fn taken_bits(bits: BitRange, value: i64) -> u64 {
+    value
+        .cast_unsigned()
+        .extract_bit_range(bits.start as u32..bits.end as u32)
+}
+
+/// Whether a word is an instruction of DQ-form, whose displacement is in units of 16 (Power ISA,
+/// "DQ-Form"): `lq`, `lxvp`, `stxvp`, `lxv` or `stxv`.
+#[inline(always)]
+fn is_dq_form(word: u64) -> bool {
+    let opcode = word >> 26;
+    opcode == 56 || opcode == 6 || (opcode == 61 && word % 4 == 1)
+}
+
+/// The number that a PowerPC64 instruction gets. The lowest four bits of one of DQ-form are kept:
+/// they aren't its displacement's.
+#[inline(always)]
+fn displacement(insn: Ppc64Instruction, number: u64, dest: &[u8]) -> u64 {
+    if let Ppc64Instruction::Ds = insn {
+        let word = Window::Four.load(dest);
+        if is_dq_form(word) {
+            return number - number % 16 + word % 16;
+        }
+    }
+    number
+}
+
+/// Whether an instruction is MOVN or MOVZ of 32 bits, which bit 31 tells.
+#[inline(always)]
+fn is_32_bit_move(insn: AArch64Instruction, word: u64) -> bool {
+    insn == AArch64Instruction::Movnz && word >> 31 == 0
+}
+
+const SHIFT_10_ORED: [Run; 1] = [run!(12, 22, 4, 0, Cleared)];
+
+/// Clears the bits of a LoongArch instruction that its form only ORs. An immediate of 12 bits has
+/// its opcode there.
+#[inline(always)]
+fn clear_loongarch(insn: LoongArch64Instruction, bits: BitRange, dest: &mut [u8]) {
+    if let LoongArch64Instruction::Shift10 = insn {
+        if bits.end - bits.start > 12 {
+            let word = engine::window_with(&SHIFT_10_ORED, 0, Window::Four.load(dest));
+            Window::Four.store(word, dest);
+        }
+    }
+}
+
+/// Writes bits of a value into an instruction. By itself, so that `write` is small enough to be
+/// inlined, and its row is never in memory.
+pub(crate) fn write_bits(insn: RelocationInstruction, bits: BitRange, value: i64, dest: &mut [u8]) {
+    let number = taken_bits(bits, value);
+    let negative = value < 0;
+    match insn {
+        RelocationInstruction::AArch64(insn) => {
+            let old = Window::Four.load(dest);
+            let word = insn.word_with(number, negative, insn.clear_immediate(old));
+            // a move keeps its size
+            let new = if is_32_bit_move(insn, old) {
+                word - (1 << 31)
+            } else {
+                word
+            };
+            Window::Four.store(new, dest);
+        }
+        RelocationInstruction::RiscV(insn) => insn.write_to_value(number, negative, dest),
+        RelocationInstruction::Ppc64(insn) => {
+            let number = displacement(insn, number, dest);
+            insn.write_to_value(number, negative, dest);
+        }
+        RelocationInstruction::LoongArch64(insn) => {
+            clear_loongarch(insn, bits, dest);
+            insn.write_to_value(number, negative, dest);
+        }
+    }
+}
+
+/// Whether a value is a multiple of 16, where an instruction of DQ-form stands.
+#[inline(always)]
+fn is_in_units(size: RelocationSize, value: i64, dest: &[u8]) -> bool {
+    match size {
+        RelocationSize::BitMasking {
+            insn: RelocationInstruction::Ppc64(Ppc64Instruction::Ds),
+            ..
+        } => !is_dq_form(Window::Four.load(dest)) || value.rem_euclid(16) == 0,
+        _ => true,
+    }
+}
+
+impl RelocationKindInfo {
+    /// Whether `write` writes values of this row, whatever their number.
+    #[inline(always)]
+    pub(crate) fn is_supported(&self) -> bool {
+        let takes_size = match self.size {
+            RelocationSize::ByteSize(len) => {
+                // the length is tested first: a processor predicts it
+                let is_of_uleb128 = match self.kind {
+                    RelocationKind::PairSubtractionULEB128RiscV
+                    | RelocationKind::PairSubtractionULEB128LoongArch => true,
+                    kind => len == 0 && kind == RelocationKind::Relative,
+                };
+                len <= 8 && !is_of_uleb128
+            }
+            RelocationSize::BitMasking { range, insn } => {
+                let is_call30 = matches!(
+                    insn,
+                    RelocationInstruction::LoongArch64(LoongArch64Instruction::Call30)
+                );
+                range.start < range.end && range.end <= 64 && !is_call30
+            }
+        };
+        takes_size && 0 < self.alignment && self.alignment < 1 << 63
+    }
+
+    /// How many bytes `write` writes.
+    #[must_use]
+    #[inline(always)]
+    pub fn window(&self) -> usize {
+        match self.size {
+            RelocationSize::ByteSize(len) => len as usize,
+            RelocationSize::BitMasking { insn, .. } => insn.window(),
+        }
+    }
+
+    /// Whether a value is a multiple of the row's alignment.
+    #[inline(always)]
+    pub(crate) fn is_aligned(&self, value: i64) -> bool {
+        // no division where the alignment is a power of two
+        let exponent = self.alignment.trailing_zeros() % 64;
+        let unit = 1u64 << exponent;
+        if self.alignment == unit {
+            value.cast_unsigned() & (unit - 1) == 0
+        } else {
+            value.rem_euclid(self.alignment as i64) == 0
+        }
+    }
+
+    /// Whether a value is a multiple of the alignment of the row and of its instruction.
+    #[inline(always)]
+    pub(crate) fn is_multiple(&self, value: i64, dest: &[u8]) -> bool {
+        self.is_aligned(value) && is_in_units(self.size, value, dest)
+    }
+
+    /// Whether the row's instruction holds the bits of a value that it takes.
+    #[inline(always)]
+    fn holds_bits(&self, value: i64, dest: &[u8]) -> bool {
+        match self.size {
+            RelocationSize::ByteSize(_) => true,
+            RelocationSize::BitMasking { range, insn } => {
+                insn.fits(taken_bits(range, value), dest)
+            }
+        }
+    }
+
+    /// Writes a value, as `value` returns it, to the bytes that `dest` begins with. The first that
+    /// applies of `Unsupported`, `TooShort`, `Misaligned` and `OutOfReach` is returned, and then
+    /// nothing is written.
+    ///
+    /// - Whole bytes become the lowest bytes of the value, the lowest first. Relocations that add
+    ///   or subtract start from the existing number. Relocations of 6 bits keep the upper 2 bits of
+    ///   the byte. The bytes' little-endian number is then that value, sum or difference, modulo
+    ///   2^8 for each byte.
+    /// - Of an instruction, the form's bits become those bits of the value that the relocation
+    ///   takes, and the machine reads them from there; modulo their size if `reach` has no bounds.
+    ///   The bits that the form only ORs need not be 0 before. All others are unchanged, except
+    ///   for the opcode that `Movnz` sets by the value's sign; its shift has to be the first of the
+    ///   relocation's bits. MOVN and MOVZ of 32 bits (bit 31 is 0) keep their size.
+    /// - A PowerPC64 instruction of DQ-form keeps its low 4 bits at a relocation of DS-form.
+    /// - RISC-V's `UiType`, or a high half and a low half of one value, make the value itself, and
+    ///   so does LoongArch's `Call36`. A `c.lui` is such a high half too. The ISA reserves its
+    ///   immediate 0: `riscv64::RelaxationKind::hi20_fits_clui` rejects the values that make it.
+    /// - PowerPC64's low half and the high half of the value plus 0x8000 make the value itself.
+    /// - The bytes after `window` are unchanged. A relocation without a value writes nothing.
+    ///
+    /// ```
+    /// use linker_utils::elf::Operands;
+    /// use linker_utils::riscv64::{RiscVRelocation, relocation_type_from_raw};
+    ///
+    /// // `jal ra, 0` at 0x1000 that calls 0x1008
+    /// let mut jal = 0x0000_00efu32.to_le_bytes();
+    /// let row = relocation_type_from_raw(RiscVRelocation::R_RISCV_JAL).unwrap();
+    /// let operands = Operands {
+    ///     symbol: 0x1008,
+    ///     place: 0x1000,
+    ///     ..Operands::default()
+    /// };
+    /// let value = row.value(&operands).unwrap();
+    /// row.write(value, &mut jal).unwrap();
+    /// assert_eq!(u32::from_le_bytes(jal), 0x0080_00ef);
+    /// ```
+    #[inline(always)]
+    pub fn write(&self, value: i64, dest: &mut [u8]) -> Result<(), RelocateError> {
+        if !self.is_supported() {
+            return Err(RelocateError::Unsupported);
+        }
+        if dest.len() < self.window() {
+            return Err(RelocateError::TooShort);
+        }
+        if !self.is_multiple(value, dest) {
+            return Err(RelocateError::Misaligned);
+        }
+        if !self.reach().contains(value) {
+            return Err(RelocateError::OutOfReach);
+        }
+        if !self.holds_bits(value, dest) {
+            return Err(RelocateError::OutOfReach);
+        }
+        match self.size {
+            RelocationSize::ByteSize(len) => write_bytes(self.kind, len as usize, value, dest),
+            RelocationSize::BitMasking { range, insn } => write_bits(insn, range, value, dest),
+        }
+        Ok(())
+    }
+}

@@ -1,0 +1,533 @@
+// Made by tools/erase of crates/linker_elf/src/elf/rows.rt.
+//! Rows of the relocation tables, and the macros that make them from each architecture's list.
+
+use crate::linker_elf::elf::relocate::{write_bits, write_bytes};
+use crate::linker_elf::elf::{
+    AllowedRange, Bias, Operands, PageMask, RelocateError, RelocationKind, RelocationKindInfo,
+    RelocationNumbers, RelocationSize,
+};
+
+/// An entry of a table: a row, the row in numbers, and what a write of it tests. Its range,
+/// alignment and bias are among the numbers.
+#[derive(Clone, Copy)]
+pub(crate) struct TableRow {
+    pub(crate) kind: RelocationKind,
+    pub(crate) size: RelocationSize,
+    pub(crate) mask: Option<PageMask>,
+    pub(crate) numbers: RelocationNumbers,
+    pub(crate) tests: WriteTests,
+}
+
+/// What a write of a row tests.
+#[derive(Clone, Copy)]
+pub(crate) struct WriteTests {
+    /// Whether the row can be written.
+    pub(crate) is_supported: bool,
+    /// How many bytes a write writes.
+    pub(crate) window: usize,
+    /// The least value within the row's reach; `i64::MAX` if there is none.
+    pub(crate) least: i64,
+    /// The last value within the row's reach; `i64::MIN` if there is none.
+    pub(crate) last: i64,
+}
+
+/// What a relocation of the library's tables means. Each architecture's `row` returns it for a
+/// name, and `Architecture::row` for a code.
+///
+/// ```
+/// use linker_utils::elf::Operands;
+/// use linker_utils::riscv64::{self, RiscVRelocation};
+///
+/// // `jal ra, 0` at 0x1000 that calls 0x1008
+/// let mut jal = 0x0000_00efu32.to_le_bytes();
+/// let row = riscv64::row(RiscVRelocation::R_RISCV_JAL).unwrap();
+/// let operands = Operands {
+///     symbol: 0x1008,
+///     place: 0x1000,
+///     ..Operands::default()
+/// };
+/// let value = row.value(&operands).unwrap();
+/// row.write(value, &mut jal).unwrap();
+/// assert_eq!(u32::from_le_bytes(jal), 0x0080_00ef);
+/// ```
+#[derive(Clone, Copy)]
+pub struct Row {
+    entry: &'static TableRow,
+}
+
+/// The row of a table's entry, if there is one.
+#[inline(always)]
+pub(crate) const fn row_in(entry: &'static Option<TableRow>) -> Option<Row> {
+    match entry {
+        Some(entry) => Some(Row::of(entry)),
+        None => None,
+    }
+}
+
+/// What a row means, if there is one.
+#[inline(always)]
+pub(crate) const fn info_in(row: Option<Row>) -> Option<RelocationKindInfo> {
+    match row {
+        Some(row) => Some(row.info()),
+        None => None,
+    }
+}
+
+impl Row {
+    /// The row of an entry.
+    #[inline(always)]
+    pub(crate) const fn of(entry: &'static TableRow) -> Row {
+        Row { entry }
+    }
+
+    /// What the relocation means.
+    #[must_use]
+    #[inline(always)]
+    pub const fn info(&self) -> RelocationKindInfo {
+        let entry = self.entry;
+        let numbers = &entry.numbers;
+        // loaded before the test, so that LLVM needs no branch
+        let both = (numbers.min, numbers.max);
+        let bounds = if numbers.has_range == 1 {
+            Some(both)
+        } else {
+            None
+        };
+        RelocationKindInfo {
+            kind: entry.kind,
+            size: entry.size,
+            mask: entry.mask,
+            range: AllowedRange { bounds },
+            alignment: numbers.alignment,
+            bias: Bias::from_value(numbers.bias),
+            thunkable: numbers.thunkable == 1,
+            implicit_addend: numbers.implicit_addend == 1,
+        }
+    }
+
+    /// The formula of the relocation's value.
+    #[must_use]
+    #[inline(always)]
+    pub const fn kind(&self) -> RelocationKind {
+        self.entry.kind
+    }
+
+    /// The same in numbers.
+    #[must_use]
+    #[inline(always)]
+    pub const fn numbers(&self) -> &'static RelocationNumbers {
+        &self.entry.numbers
+    }
+
+    /// How many bytes `write` writes.
+    #[must_use]
+    #[inline(always)]
+    pub const fn window(&self) -> usize {
+        self.entry.tests.window
+    }
+
+    /// Which values can be written, as `RelocationKindInfo::reach` says.
+    #[must_use]
+    #[inline(always)]
+    pub fn reach(&self) -> AllowedRange {
+        self.info().reach()
+    }
+
+    /// The relocation's value, as `RelocationKindInfo::value` says.
+    #[must_use]
+    #[inline(always)]
+    pub fn value(&self, operands: &Operands) -> Option<i64> {
+        self.info().value(operands)
+    }
+
+    /// Whether the relocation has a value that can be written: one within `reach`, and a multiple of
+    /// the row's alignment.
+    #[must_use]
+    #[inline(always)]
+    pub fn reaches(&self, operands: &Operands) -> bool {
+        match self.value(operands) {
+            Some(value) => self.info().is_in_reach(&self.entry.tests, value),
+            None => false,
+        }
+    }
+
+    /// Writes a value, as `RelocationKindInfo::write` says, with its errors.
+    #[inline(always)]
+    pub fn write(&self, value: i64, dest: &mut [u8]) -> Result<(), RelocateError> {
+        self.info().write_tested(&self.entry.tests, value, dest)
+    }
+}
+
+impl RelocationKindInfo {
+    /// Whether a value is within `reach`, and a multiple of the row's alignment.
+    #[inline(always)]
+    fn is_in_reach(&self, tests: &WriteTests, value: i64) -> bool {
+        tests.is_supported && self.is_aligned(value) && tests.least <= value && value <= tests.last
+    }
+
+    /// `write`, of a row whose bits fit its instruction.
+    #[inline(always)]
+    fn write_tested(
+        &self,
+        tests: &WriteTests,
+        value: i64,
+        dest: &mut [u8],
+    ) -> Result<(), RelocateError> {
+        if !tests.is_supported {
+            return Err(RelocateError::Unsupported);
+        }
+        if dest.len() < tests.window {
+            return Err(RelocateError::TooShort);
+        }
+        if !self.is_multiple(value, dest) {
+            return Err(RelocateError::Misaligned);
+        }
+        if value < tests.least || tests.last < value {
+            return Err(RelocateError::OutOfReach);
+        }
+        match self.size {
+            RelocationSize::ByteSize(len) => write_bytes(self.kind, len as usize, value, dest),
+            RelocationSize::BitMasking { range, insn } => write_bits(insn, range, value, dest),
+        }
+        Ok(())
+    }
+}
+
+// The macros below are given to an architecture's `relocations!`, which lists each relocation as
+// `code NAME => row,` in the order of the enum of names. Codes are split into parts that are dense
+// enough for a table, each below a number, and the rest.
+
+/// The name with a code.
+macro_rules! name_of_code {
+    (
+        ($names:ident, $code:ident)
+        $(below $end:literal { $($low:literal $low_name:ident => $low_row:expr,)* })*
+        { $($number:literal $name:ident => $row:expr,)* }
+    ) => {
+        $(if $code < $end {
+            match $code {
+                $($low => $names::$low_name,)*
+                _ => $names::Other($code),
+            }
+        } else)* {
+            match $code {
+                $($number => $names::$name,)*
+                _ => $names::Other($code),
+            }
+        }
+    };
+}
+
+/// The code of a name.
+macro_rules! code_of_name {
+    (
+        ($names:ident, $value:expr)
+        $(below $end:literal { $($low:literal $low_name:ident => $low_row:expr,)* })*
+        { $($number:literal $name:ident => $row:expr,)* }
+    ) => {
+        match $value {
+            $($($names::$low_name => $low,)*)*
+            $($names::$name => $number,)*
+            $names::Other(code) => code,
+        }
+    };
+}
+
+/// The text of a name.
+macro_rules! text_of_name {
+    (
+        ($names:ident, $value:expr)
+        $(below $end:literal { $($low:literal $low_name:ident => $low_row:expr,)* })*
+        { $($number:literal $name:ident => $row:expr,)* }
+    ) => {
+        match $value {
+            $($($names::$low_name => stringify!($low_name),)*)*
+            $($names::$name => stringify!($name),)*
+            $names::Other(_) => "unknown relocation",
+        }
+    };
+}
+
+/// The table of rows, by the names' indices. The last entry is that of `Other`.
+macro_rules! table {
+    (
+        ()
+        $(below $end:literal { $($low:literal $low_name:ident => $low_row:expr,)* })*
+        { $($number:literal $name:ident => $row:expr,)* }
+    ) => {
+        [$($($low_row,)*)* $($row,)* None]
+    };
+}
+
+/// The index of a name in its list, and in the table.
+macro_rules! index_of_name {
+    (
+        ($names:ident, $value:expr)
+        $(below $end:literal { $($low:literal $low_name:ident => $low_row:expr,)* })*
+        { $($number:literal $name:ident => $row:expr,)* }
+    ) => {
+        $crate::linker_elf::elf::rows::index_of_name!(
+            @ $names, $value, [$($($low_name)*)* $($name)*] []
+            [0 1 2 3 4 5 6 7] [8 9 10 11 12 13 14 15] [16 17 18 19 20 21 22 23]
+            [24 25 26 27 28 29 30 31] [32 33 34 35 36 37 38 39] [40 41 42 43 44 45 46 47]
+            [48 49 50 51 52 53 54 55] [56 57 58 59 60 61 62 63] [64 65 66 67 68 69 70 71]
+            [72 73 74 75 76 77 78 79] [80 81 82 83 84 85 86 87] [88 89 90 91 92 93 94 95]
+            [96 97 98 99 100 101 102 103] [104 105 106 107 108 109 110 111]
+            [112 113 114 115 116 117 118 119] [120 121 122 123 124 125 126 127]
+        )
+    };
+    (
+        @ $names:ident, $value:expr,
+        [$a:ident $b:ident $c:ident $d:ident $e:ident $f:ident $g:ident $h:ident $($rest:ident)*]
+        [$($arms:tt)*]
+        [$i:literal $j:literal $k:literal $l:literal $m:literal $n:literal $o:literal $p:literal]
+        $($numbers:tt)*
+    ) => {
+        $crate::linker_elf::elf::rows::index_of_name!(
+            @ $names, $value, [$($rest)*]
+            [$($arms)* $a $i $b $j $c $k $d $l $e $m $f $n $g $o $h $p] $($numbers)*
+        )
+    };
+    (
+        @ $names:ident, $value:expr, [$a:ident $($rest:ident)*] [$($arms:tt)*]
+        [$i:literal $($number:literal)*] $($numbers:tt)*
+    ) => {
+        $crate::linker_elf::elf::rows::index_of_name!(
+            @ $names, $value, [$($rest)*] [$($arms)* $a $i] [$($number)*] $($numbers)*
+        )
+    };
+    (
+        @ $names:ident, $value:expr, [] [$($name:ident $number:literal)*]
+        [$i:literal $($unused:literal)*] $($numbers:tt)*
+    ) => {
+        match $value {
+            $($names::$name => $number,)*
+            $names::Other(_) => $i,
+        }
+    };
+    (
+        @ $names:ident, $value:expr, [] [$($name:ident $number:literal)*] []
+        [$i:literal $($unused:literal)*] $($numbers:tt)*
+    ) => {
+        match $value {
+            $($names::$name => $number,)*
+            $names::Other(_) => $i,
+        }
+    };
+}
+
+/// Where a row's value goes: `(4 bytes)`, or as `(12..32 RiscV::UType)` the value's bits from 12
+/// up, below 32, into an instruction.
+macro_rules! size {
+    (($bytes:literal bytes)) => {
+        $crate::linker_elf::elf::RelocationSize::ByteSize($bytes)
+    };
+    (($start:literal .. $end:literal $architecture:ident :: $form:ident)) => {
+        $crate::linker_elf::elf::RelocationSize::BitMasking {
+            range: crate::linker_base::bit_misc::BitRange {
+                start: $start,
+                end: $end,
+            },
+            insn: $crate::linker_elf::elf::rows::insn!($architecture, $form),
+        }
+    };
+}
+
+macro_rules! insn {
+    (AArch64, $form:ident) => {
+        $crate::linker_elf::elf::RelocationInstruction::AArch64($crate::linker_elf::elf::AArch64Instruction::$form)
+    };
+    (RiscV, $form:ident) => {
+        $crate::linker_elf::elf::RelocationInstruction::RiscV($crate::linker_elf::elf::RiscVInstruction::$form)
+    };
+    (LoongArch64, $form:ident) => {
+        $crate::linker_elf::elf::RelocationInstruction::LoongArch64($crate::linker_elf::elf::LoongArch64Instruction::$form)
+    };
+    (Ppc64, $form:ident) => {
+        $crate::linker_elf::elf::RelocationInstruction::Ppc64($crate::linker_elf::elf::Ppc64Instruction::$form)
+    };
+}
+
+/// A number of a row.
+macro_rules! number {
+    (form ($bytes:literal bytes)) => { 0 };
+    (form ($start:literal .. $end:literal AArch64 :: $form:ident)) => {
+        $crate::linker_elf::elf::AArch64Instruction::$form as u32
+    };
+    (form ($start:literal .. $end:literal RiscV :: $form:ident)) => {
+        $crate::linker_elf::elf::RiscVInstruction::$form as u32
+    };
+    (form ($start:literal .. $end:literal LoongArch64 :: $form:ident)) => {
+        $crate::linker_elf::elf::LoongArch64Instruction::$form as u32
+    };
+    (form ($start:literal .. $end:literal Ppc64 :: $form:ident)) => {
+        $crate::linker_elf::elf::Ppc64Instruction::$form as u32
+    };
+    (machine ($bytes:literal bytes)) => { 0 };
+    (machine ($start:literal .. $end:literal AArch64 :: $form:ident)) => { $crate::linker_elf::elf::EM_AARCH64 };
+    (machine ($start:literal .. $end:literal RiscV :: $form:ident)) => { $crate::linker_elf::elf::EM_RISCV };
+    (machine ($start:literal .. $end:literal LoongArch64 :: $form:ident)) => {
+        $crate::linker_elf::elf::EM_LOONGARCH
+    };
+    (machine ($start:literal .. $end:literal Ppc64 :: $form:ident)) => { $crate::linker_elf::elf::EM_PPC64 };
+    (is_bits ($bytes:literal bytes)) => { 0 };
+    (is_bits $size:tt) => { 1 };
+    (byte_size ($bytes:literal bytes)) => { $bytes };
+    (byte_size $size:tt) => { 0 };
+    (first_bit ($bytes:literal bytes)) => { 0 };
+    (first_bit ($start:literal .. $end:literal $architecture:ident :: $form:ident)) => { $start };
+    (end_bit ($bytes:literal bytes)) => { 0 };
+    (end_bit ($start:literal .. $end:literal $architecture:ident :: $form:ident)) => { $end };
+    (mask) => { 0 };
+    (mask PLACE_PAGES) => { 1 };
+    (mask ENTRY_PAGES) => { 2 };
+    (mask GOT_PAGE) => { 3 };
+    (thunkable) => { 0 };
+    (thunkable true) => { 1 };
+    (alignment) => { 1 };
+    (alignment $alignment:literal) => { $alignment };
+    (bias) => { 0 };
+    (bias $bias:expr) => { $bias };
+}
+
+/// Whether `write` takes rows of a kind and a size: not those of ULEB128 numbers and of `Call30`.
+macro_rules! is_supported {
+    (Relative, (0 bytes)) => { false };
+    (PairSubtractionULEB128RiscV, $size:tt) => { false };
+    (PairSubtractionULEB128LoongArch, $size:tt) => { false };
+    ($kind:ident, ($start:literal .. $end:literal LoongArch64 :: Call30)) => { false };
+    ($kind:ident, $size:tt) => { true };
+}
+
+/// How many bytes a row writes.
+macro_rules! window {
+    (($bytes:literal bytes)) => { $bytes };
+    (($start:literal .. $end:literal RiscV :: $form:ident)) => {
+        $crate::linker_elf::riscv64::forms::WINDOWS[$crate::linker_elf::elf::RiscVInstruction::$form as usize]
+    };
+    (($start:literal .. $end:literal LoongArch64 :: Call30)) => { 8 };
+    (($start:literal .. $end:literal LoongArch64 :: Call36)) => { 8 };
+    (($start:literal .. $end:literal Ppc64 :: Prefixed)) => { 8 };
+    (($start:literal .. $end:literal $architecture:ident :: $form:ident)) => { 4 };
+}
+
+/// Which addresses of a row are cut to their pages of 4 KiB.
+macro_rules! mask {
+    () => { None };
+    (PLACE_PAGES) => {
+        Some($crate::linker_elf::elf::PageMask::SymbolPlusAddendAndPosition($crate::linker_elf::elf::PageMaskPattern::Size4KB))
+    };
+    (ENTRY_PAGES) => {
+        Some($crate::linker_elf::elf::PageMask::GotEntryAndPosition($crate::linker_elf::elf::PageMaskPattern::Size4KB))
+    };
+    (GOT_PAGE) => {
+        Some($crate::linker_elf::elf::PageMask::GotBase($crate::linker_elf::elf::PageMaskPattern::Size4KB))
+    };
+}
+
+/// A row: its kind, its `size!`, its range, and the fields that most rows don't have. Ranges are
+/// `any`; `signed`, `unsigned` or `signed_or_unsigned` numbers of so many bits; or those `within`
+/// two bounds, the second one excluded. `reach` gives the row's reach where that isn't its range.
+macro_rules! row {
+    ($kind:ident, $size:tt, any $(, $($field:tt)*)?) => {
+        $crate::linker_elf::elf::rows::row!(@ $kind, $size, (0, 0, 0, i64::MIN, i64::MAX) $(, $($field)*)?)
+    };
+    ($kind:ident, $size:tt, any reach signed $bits:literal $(, $($field:tt)*)?) => {
+        $crate::linker_elf::elf::rows::row!(
+            @ $kind, $size, (0, 0, 0, -(1 << ($bits - 1)), (1 << ($bits - 1)) - 1)
+            $(, $($field)*)?
+        )
+    };
+    ($kind:ident, $size:tt, signed $bits:literal $(, $($field:tt)*)?) => {
+        $crate::linker_elf::elf::rows::row!(
+            $kind, $size, within -(1 << ($bits - 1)), 1 << ($bits - 1) $(, $($field)*)?
+        )
+    };
+    ($kind:ident, $size:tt, unsigned $bits:literal $(, $($field:tt)*)?) => {
+        $crate::linker_elf::elf::rows::row!($kind, $size, within 0, 1 << $bits $(, $($field)*)?)
+    };
+    ($kind:ident, $size:tt, signed_or_unsigned $bits:literal $(, $($field:tt)*)?) => {
+        $crate::linker_elf::elf::rows::row!(
+            $kind, $size, within -(1 << ($bits - 1)), 1 << $bits $(, $($field)*)?
+        )
+    };
+    ($kind:ident, $size:tt, within $min:expr, $max:expr $(, $($field:tt)*)?) => {
+        $crate::linker_elf::elf::rows::row!(@ $kind, $size, (1, $min, $max, $min, $max - 1) $(, $($field)*)?)
+    };
+    (
+        $kind:ident, $size:tt, signed $bits:literal reach $min:expr, $max:expr
+        $(, $($field:tt)*)?
+    ) => {
+        $crate::linker_elf::elf::rows::row!(
+            @ $kind, $size, (1, -(1 << ($bits - 1)), 1 << ($bits - 1), $min, $max - 1)
+            $(, $($field)*)?
+        )
+    };
+    (
+        $kind:ident, $size:tt, signed_or_unsigned $bits:literal reach $min:expr, $max:expr
+        $(, $($field:tt)*)?
+    ) => {
+        $crate::linker_elf::elf::rows::row!(
+            @ $kind, $size, (1, -(1 << ($bits - 1)), 1 << $bits, $min, $max - 1)
+            $(, $($field)*)?
+        )
+    };
+    (
+        $kind:ident, $size:tt, unsigned $bits:literal reach $min:expr, $max:expr
+        $(, $($field:tt)*)?
+    ) => {
+        $crate::linker_elf::elf::rows::row!(
+            @ $kind, $size, (1, 0, 1 << $bits, $min, $max - 1) $(, $($field)*)?
+        )
+    };
+    (
+        @ $kind:ident, $size:tt,
+        ($has_range:expr, $min:expr, $max:expr, $least:expr, $last:expr)
+        $(, alignment: $alignment:literal)?
+        $(, mask: $mask:ident)?
+        $(, bias: $bias:expr)?
+        $(, thunkable: $thunkable:ident)?
+    ) => {
+        $crate::linker_elf::elf::rows::TableRow {
+            kind: $crate::linker_elf::elf::RelocationKind::$kind,
+            size: $crate::linker_elf::elf::rows::size!($size),
+            mask: $crate::linker_elf::elf::rows::mask!($($mask)?),
+            numbers: $crate::linker_elf::elf::RelocationNumbers {
+                kind: $crate::linker_elf::elf::RelocationKind::$kind as u32,
+                form: $crate::linker_elf::elf::rows::number!(form $size),
+                mask: $crate::linker_elf::elf::rows::number!(mask $($mask)?),
+                machine: $crate::linker_elf::elf::rows::number!(machine $size),
+                is_bits: $crate::linker_elf::elf::rows::number!(is_bits $size),
+                byte_size: $crate::linker_elf::elf::rows::number!(byte_size $size),
+                first_bit: $crate::linker_elf::elf::rows::number!(first_bit $size),
+                end_bit: $crate::linker_elf::elf::rows::number!(end_bit $size),
+                has_range: $has_range,
+                thunkable: $crate::linker_elf::elf::rows::number!(thunkable $($thunkable)?),
+                implicit_addend: 0,
+                min: $min,
+                max: $max,
+                alignment: $crate::linker_elf::elf::rows::number!(alignment $($alignment)?),
+                bias: $crate::linker_elf::elf::rows::number!(bias $($bias)?),
+            },
+            tests: $crate::linker_elf::elf::rows::WriteTests {
+                is_supported: $crate::linker_elf::elf::rows::is_supported!($kind, $size),
+                window: $crate::linker_elf::elf::rows::window!($size),
+                least: $least,
+                last: $last,
+            },
+        }
+    };
+}
+
+pub(crate) use code_of_name;
+pub(crate) use index_of_name;
+pub(crate) use insn;
+pub(crate) use is_supported;
+pub(crate) use mask;
+pub(crate) use name_of_code;
+pub(crate) use number;
+pub(crate) use row;
+pub(crate) use size;
+pub(crate) use table;
+pub(crate) use text_of_name;
+pub(crate) use window;

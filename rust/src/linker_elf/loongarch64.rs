@@ -1,0 +1,10 @@
+// Made by tools/erase of crates/linker_elf/src/loongarch64.rt.
+//! LoongArch: instruction forms, what relocations mean, and addresses made by five instructions.
+
+mod forms;
+mod relocations;
+mod sequences;
+
+pub use forms::LoongArch64Instruction;
+pub use relocations::{LoongArch64Relocation, relocation_type_from_raw, row};
+pub use sequences::{highest_relocation_with_bias, write_address_sequence};

@@ -1,0 +1,143 @@
+// Made by tools/erase of crates/linker_elf/src/ppc64/forms.rt.
+//! PowerPC64 instructions that hold a value.
+
+use crate::linker_elf::elf::engine::{self, Run, Window, run};
+use crate::linker_elf::elf::{InstructionForm, RelocationInstruction};
+
+/// PowerPC64 instructions that hold a displacement. The window is 4 bytes, and 8 for `Prefixed`.
+/// Every value fits: except for `Prefixed` its bits are in the word where they are in the value,
+/// and all other bits are unchanged.
+/// Bits are numbered from the least significant one.
+#[derive(Debug, Clone, Copy, PartialEq, Eq, Hash, PartialOrd, Ord)]
+pub enum Ppc64Instruction {
+    /// D-form, as `addi`: value bits 0 to 15 at bit 0 and up. A signed number of 16 bits (Power
+    /// ISA, "D-Form").
+    D,
+    /// DS-form, as `ld`: value bits 2 to 15 at bit 2 and up. A signed number of 16 bits, whose
+    /// lowest two are 0 (Power ISA, "DS-Form").
+    Ds,
+    /// B-form, as `bc`: value bits 2 to 15 at bit 2 and up. A signed distance of 16 bits, whose
+    /// lowest two are 0 (Power ISA, "B-Form").
+    Branch14,
+    /// I-form, as `b`: value bits 2 to 25 at bit 2 and up. A signed distance of 26 bits, whose
+    /// lowest two are 0 (Power ISA, "I-Form").
+    Branch24,
+    /// A prefixed instruction, as `paddi` and `pld`: value bits 16 to 33 at bit 0 and up of word
+    /// one, the prefix, and 0 to 15 at bit 0 and up of word two. A signed number of 34 bits (Power
+    /// ISA 3.1, "8LS:D-Form" and "MLS:D-Form").
+    Prefixed,
+}
+
+/// The bits that each form holds in its word. A match of them would be merged with that of
+/// `write_to_value`, into a jump by the form, and a constant would be written to the stack at each
+/// use.
+static MASKS: [u64; 5] = [0xffff, 0xfffc, 0xfffc, 0x03ff_fffc, 0];
+
+const PREFIXED: [Run; 2] = [run!(0, 32, 16), run!(16, 0, 18)];
+
+impl Ppc64Instruction {
+    /// The bits of the word that a form of one word holds: they stand there where they stand in the
+    /// value.
+    #[inline(always)]
+    fn mask(self) -> u64 {
+        MASKS[self as usize]
+    }
+
+    /// Writes a value into the instruction that `dest` begins with. Only the form's bits change.
+    /// `negative` is ignored.
+    ///
+    /// # Requires
+    ///
+    /// - `self.window() <= dest.len()`
+    #[cfg_attr(debug_assertions, track_caller)]
+    #[inline]
+    pub fn write_to_value(self, extracted_value: u64, negative: bool, dest: &mut [u8]) {
+        debug_assert!(self.window() <= dest.len());
+        match self {
+            Ppc64Instruction::Prefixed => {
+                let insn = RelocationInstruction::Ppc64(self);
+                engine::write(
+                    insn,
+                    Window::Eight,
+                    &PREFIXED,
+                    extracted_value,
+                    negative,
+                    dest,
+                );
+            }
+            _ => {
+                let mask = self.mask();
+                let word = Window::Four.load(dest) & !mask | extracted_value & mask;
+                Window::Four.store(word, dest);
+            }
+        }
+    }
+
+    /// The value in the instruction that `bytes` begins with, unsigned: bits of the value that the
+    /// form does not hold are 0. The flag is always false.
+    ///
+    /// # Requires
+    ///
+    /// - `self.window() <= bytes.len()`
+    #[must_use]
+    #[cfg_attr(debug_assertions, track_caller)]
+    #[inline]
+    pub fn read_value(self, bytes: &[u8]) -> (u64, bool) {
+        debug_assert!(self.window() <= bytes.len());
+        match self {
+            Ppc64Instruction::Prefixed => { (engine::read(Window::Eight, &PREFIXED, bytes), false) }
+            _ => (Window::Four.load(bytes) & self.mask(), false),
+        }
+    }
+}
+
+impl InstructionForm for Ppc64Instruction {
+    #[inline]
+    fn window(self) -> usize {
+        match self {
+            Ppc64Instruction::Prefixed => 8,
+            _ => 4,
+        }
+    }
+
+    #[cfg_attr(debug_assertions, track_caller)]
+    #[inline]
+    fn fits(self, _value: u64, _bytes: &[u8]) -> bool {
+        debug_assert!(self.window() <= _bytes.len());
+        true
+    }
+
+    #[cfg_attr(debug_assertions, track_caller)]
+    #[inline]
+    fn write(self, value: u64, negative: bool, dest: &mut [u8]) {
+        debug_assert!(self.window() <= dest.len());
+        debug_assert!(self.fits(value, dest));
+        self.write_to_value(value, negative, dest);
+    }
+
+    #[cfg_attr(debug_assertions, track_caller)]
+    #[inline]
+    fn read(self, bytes: &[u8]) -> (u64, bool) {
+        debug_assert!(self.window() <= bytes.len());
+        self.read_value(bytes)
+    }
+}
+
+/// The forms by their numbers. A table, since a match becomes a jump by the number where what
+/// follows differs by the form.
+const FORMS: &[Ppc64Instruction] = &[
+    Ppc64Instruction::D,
+    Ppc64Instruction::Ds,
+    Ppc64Instruction::Branch14,
+    Ppc64Instruction::Branch24,
+    Ppc64Instruction::Prefixed,
+];
+
+impl Ppc64Instruction {
+    /// The form with a number, its place in the enum. None above the last.
+    #[must_use]
+    #[inline(always)]
+    pub fn from_number(number: u32) -> Option<Ppc64Instruction> {
+        FORMS.get(number as usize).copied()
+    }
+}

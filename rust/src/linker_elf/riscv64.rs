@@ -1,0 +1,8 @@
+// Made by tools/erase of crates/linker_elf/src/riscv64.rt.
+//! RISC-V: instruction forms, and what relocations mean.
+
+pub(crate) mod forms;
+mod relocations;
+
+pub use forms::RiscVInstruction;
+pub use relocations::{RiscVRelocation, clui_row, relocation_type_from_raw, row};

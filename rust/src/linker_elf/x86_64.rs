@@ -1,0 +1,6 @@
+// Made by tools/erase of crates/linker_elf/src/x86_64.rt.
+//! x86-64: what relocations mean.
+
+mod relocations;
+
+pub use relocations::{X86_64Relocation, relocation_from_raw, row};
