@@ -1,0 +1,163 @@
+-- What runs that can be relaxed free: multiples of their unit. What their alignments keep.
+use Rattle.std.proofs.Common.{◌≡◌, ℕ, zero, suc, ◌+◌, ◌-◌, ◌*◌, ◌%◌, ◌<◌, ◌≤◌, ◌∙◌, List, length, refl, ap, sym, ⊎_elim, arith, cond}
+use Rattle.std.specs.Prelude.{◌⊎◌, nat_le, Option, None, Some, min, MatchOption}
+use Rattle.std.proofs.Math.Nat.{mul-le-mul_left, mul_assoc}
+use Rattle.std.proofs.lemmas.Bool.{cases_lt}
+use Rattle.std.proofs.lemmas.Bool.Decides.{nat_tests}
+use Rattle.linker_relax.specs.declared.relaxation.Alignment.{Alignment}
+use Rattle.linker_relax.specs.declared.relaxation.Item.{Item}
+use Rattle.linker_relax.specs.declared.relaxation.Item.TheVariants.{Site, Aligned}
+use Rattle.linker_relax.specs.Relaxing.{offset_of, len_of, item_at, shape_len, needed, limit_of, kept_by, freed_before, IsSound}
+use Rattle.linker_relax.specs.Choosing.{least_len, AlignmentFits, ItemFits, run_unit, AreItems, IsExactItem}
+use Rattle.linker_relax.proofs.Layouts.{freed_next, freed_none, freed_fits}
+use Rattle.linker_relax.proofs.Multiples.{Multiple, multiple_of, needed_fills, needed_below}
+use Rattle.linker_relax.proofs.Nearer.{Frees, multiple_between}
+use Rattle.linker_relax.proofs.Bounds.{lens_ascend, len_fits}
+
+-- the next multiple is a unit away
+next_multiple : (a b u : ℕ) → a * u < b * u → a * u + u ≤ b * u
+next_multiple a b u below = ⊎_elim
+    (λ (less : a < b). let h : u * (a + 1) ≤ u * b = mul-le-mul_left u (omega arith) in omega arith)
+    (λ (more : b ≤ a). let h : u * b ≤ u * a = mul-le-mul_left u more in absurd (omega arith))
+    (cases_lt a b)
+
+-- what an alignment needs at the output address `at`, where `freed` bytes go before it
+record Needs (u : ℕ) (power nops input freed need : ℕ) : Type 0 where
+  pub below : need < power
+  pub fits : freed ≤ input
+  pub gone : Multiple u freed
+  pub behind : Multiple u (input + nops)
+  pub filled : Multiple u (need + (input - freed))
+
+-- where the nops are as many as the power less the unit, there are enough
+enough_nops : (u power nops input freed need : ℕ) → Needs u power nops input freed need → power ≤ nops + u → need ≤ nops
+enough_nops u power nops input freed need n many = ⊎_elim
+    (λ (short : nops < need).
+    let a = n.gone.1 in
+    let b = n.behind.1 in
+    let c = n.filled.1 in
+    let below = n.below in
+    let fits = n.fits in
+    let next = next_multiple n.behind.0 (n.filled.0 + n.gone.0) u (omega arith) in
+    absurd (omega arith))
+    (λ (done : need ≤ nops). done)
+    (cases_lt nops need)
+
+-- and then what is freed is a multiple of the unit
+rest_multiple : (u power nops input freed need : ℕ) → Needs u power nops input freed need → need ≤ nops → Multiple u (nops - need)
+rest_multiple u power nops input freed need n enough =
+    let a = n.gone.1 in
+    let b = n.behind.1 in
+    let c = n.filled.1 in
+    let fits = n.fits in
+    let m = multiple_between u u (n.behind.0 * u) ((n.filled.0 + n.gone.0) * u) (1, omega arith) (n.behind.0, refl) (n.filled.0 + n.gone.0, refl) in
+    let e = m.1 in
+    (m.0, (let same : nops - need ≡ n.behind.0 * u - (n.filled.0 + n.gone.0) * u = omega arith in same ∙ e))
+
+-- what stays where so much is needed and at most so much may stay
+abbrev pub padding : ℕ → ℕ → ℕ
+padding need limit = cond (nat_le need limit) need 0
+
+padding_all : (need limit : ℕ) → need ≤ limit → padding need limit ≡ need
+padding_all need limit h = grind (arith, nat_tests)
+
+padding_none : (need limit : ℕ) → limit < need → padding need limit ≡ 0
+padding_none need limit h = grind (arith, nat_tests)
+
+abbrev pub Enough : ℕ → ℕ → ℕ → Option ℕ → Type 0
+Enough u power nops most = MatchOption most (power ≤ nops + u) (λ most. (nops % u ≡ 0) × ((power ≤ nops + u) ⊎ (most ≤ nops)))
+
+padding_frees : (u power nops input freed need : ℕ) (most : Option ℕ) → Needs u power nops input freed need → Enough u power nops most → Multiple u (nops - padding need (limit_of nops most)) × (padding need (limit_of nops most) ≤ nops)
+padding_frees u power nops input freed need None n many =
+    let enough = enough_nops u power nops input freed need n many in
+    let e = padding_all need nops enough in
+    let m = rest_multiple u power nops input freed need n enough in
+    let h = m.1 in
+    ((m.0, ap (λ k. nops - k) e ∙ h), omega arith)
+padding_frees u power nops input freed need (Some most) n many =
+    ⊎_elim
+    (λ (above : min most nops < need).
+    let e = padding_none need (min most nops) above in
+    let m = multiple_of u nops many.0 in
+    let h = m.1 in
+    let z : nops - 0 ≡ nops = omega arith in
+    ((m.0, ap (λ k. nops - k) e ∙ z ∙ h), omega arith))
+    (λ (within : need ≤ min most nops).
+    let e = padding_all need (min most nops) within in
+    let m = rest_multiple u power nops input freed need n (omega arith) in
+    let h = m.1 in
+    ((m.0, ap (λ k. nops - k) e ∙ h), omega arith))
+    (cases_lt (min most nops) need)
+
+padding_exact : (u power nops input freed need : ℕ) (most : Option ℕ) → Needs u power nops input freed need → Enough u power nops most → (kept : ℕ) → kept ≡ padding need (limit_of nops most)
+    → MatchOption most (kept ≡ need) (λ most. (need ≤ most → kept ≡ need) × (most < need → kept ≡ 0))
+padding_exact u power nops input freed need None n many kept is = is ∙ padding_all need nops (enough_nops u power nops input freed need n many)
+padding_exact u power nops input freed need (Some most) n many kept is = (
+  (λ within. is ∙ padding_all need (min most nops) (⊎_elim
+      (λ (h : power ≤ nops + u). let e = enough_nops u power nops input freed need n h in omega arith)
+      (λ (h : most ≤ nops). omega arith)
+      many.1)),
+  (λ above. is ∙ padding_none need (min most nops) (omega arith)),
+)
+
+needs : (u start : ℕ) (alignment : Alignment) (freed : ℕ) → AlignmentFits u start alignment → 0 < alignment.power → freed ≤ alignment.offset → Multiple u freed → Needs u alignment.power alignment.nops (start + alignment.offset) freed (needed alignment.power (start + alignment.offset - freed))
+needs u start alignment freed fit some within gone =
+    let at = start + alignment.offset - freed in
+    let whole = needed_fills alignment.power at some in
+    let power = multiple_of u alignment.power fit.power in
+    record {
+      below = needed_below alignment.power at some;
+      fits = omega arith;
+      gone = gone;
+      behind = multiple_of u (start + alignment.offset + alignment.nops) fit.behind;
+      filled = (whole.0 * power.0, whole.1 ∙ ap (λ x. whole.0 * x) power.1 ∙ sym (mul_assoc whole.0 power.0 u));
+    }
+
+-- what one item frees
+abbrev pub ItemFrees : ℕ → Item → ℕ → Type 0
+ItemFrees u item freed = (m : ℕ) × (freed ≡ m * u) × (m * u + least_len item ≤ len_of item)
+
+item_frees : (u start : ℕ) (item : Item) (k freed : ℕ) → ItemFits u start item → IsSound item → freed ≤ offset_of item → Multiple u freed → ItemFrees u item (len_of item - kept_by start item k freed)
+item_frees u start (Site site) k freed fit sound within gone =
+    let m = multiple_of u (site.len - shape_len site.shapes k) (fit.freed k) in
+    let e = m.1 in
+    let z : 0 + k ≡ k = omega arith in
+    let a = ap (shape_len site.shapes) z in
+    let up = lens_ascend u site.len site.shapes fit 0 k in
+    let in_site = len_fits site.shapes site.len k sound.1 sound.2 in
+    (m.0, e, omega arith)
+item_frees u start (Aligned alignment) k freed fit sound within gone =
+    let h = padding_frees u alignment.power alignment.nops (start + alignment.offset) freed (needed alignment.power (start + alignment.offset - freed)) alignment.most (needs u start alignment freed fit sound within gone) fit.enough in
+    let e = h.0.1 in
+    (h.0.0, e, omega arith)
+
+-- the items before an index free a multiple of the unit
+freed_multiple : (start : ℕ) (items : List Item) (choice : ℕ → ℕ) → AreItems start items → (i : ℕ) → i ≤ length items → Multiple (run_unit items) (freed_before start items choice i)
+freed_multiple start items choice are zero within = (0, freed_none start items choice ∙ omega arith)
+freed_multiple start items choice are (suc i) within =
+    let before = freed_multiple start items choice are i (omega arith) in
+    let here = item_frees (run_unit items) start (item_at items i) (choice i) (freed_before start items choice i) (are.fit i (omega arith)) (are.in_order.sound i (omega arith)) (freed_fits start items choice are.in_order i (omega arith)) before in
+    let z : suc i ≡ i + 1 = omega arith in
+    let a = ap (freed_before start items choice) z in
+    let next = freed_next start items choice i in
+    let e = before.1 in
+    let f = here.1 in
+    (before.0 + here.0, omega arith)
+
+pub exact_frees : (start : ℕ) (items : List Item) (choice : ℕ → ℕ) → AreItems start items → Frees (run_unit items) items (freed_before start items choice)
+exact_frees start items choice are = record {
+  none = freed_none start items choice;
+  step = λ j within.
+      let here = item_frees (run_unit items) start (item_at items j) (choice j) (freed_before start items choice j) (are.fit j within) (are.in_order.sound j within) (freed_fits start items choice are.in_order j within) (freed_multiple start items choice are j (omega arith)) in
+      (here.0, freed_next start items choice j ∙ ap (λ x. freed_before start items choice j + x) here.1, here.2);
+}
+
+-- each alignment of the run is exact
+item_exact : (u start : ℕ) (item : Item) (k freed kept : ℕ) → ItemFits u start item → IsSound item → freed ≤ offset_of item → Multiple u freed → kept ≡ kept_by start item k freed → IsExactItem item start freed kept
+item_exact u start (Site site) k freed kept fit sound within gone is = tt
+item_exact u start (Aligned alignment) k freed kept fit sound within gone is =
+    padding_exact u alignment.power alignment.nops (start + alignment.offset) freed (needed alignment.power (start + alignment.offset - freed)) alignment.most (needs u start alignment freed fit sound within gone) fit.enough kept is
+
+pub all_exact : (start : ℕ) (items : List Item) (choice : ℕ → ℕ) → AreItems start items → (i : ℕ) → i < length items → (kept : ℕ) → kept ≡ kept_by start (item_at items i) (choice i) (freed_before start items choice i) → IsExactItem (item_at items i) start (freed_before start items choice i) kept
+all_exact start items choice are i within kept is =
+    item_exact (run_unit items) start (item_at items i) (choice i) (freed_before start items choice i) kept (are.fit i within) (are.in_order.sound i within) (freed_fits start items choice are.in_order i within) (freed_multiple start items choice are i (omega arith)) is

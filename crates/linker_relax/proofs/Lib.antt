@@ -1,0 +1,10 @@
+pub mod Bounds
+pub mod Choices
+pub mod Frees
+pub mod Layouts
+pub mod Multiples
+pub mod Nearer
+pub mod Rounds
+pub mod Validity
+pub mod Deletions
+pub mod Translations

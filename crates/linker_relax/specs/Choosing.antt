@@ -1,0 +1,125 @@
+-- Which runs keep every distance a multiple of its unit, and what the choice for these is compared
+-- with.
+use Rattle.std.specs.Prelude.{◌≡◌, ℕ, zero, suc, ◌+◌, ◌-◌, ◌%◌, ◌<◌, ◌≤◌, ◌⊎◌, List, length}
+use Rattle.std.specs.Prelude.{true, if◌then◌else◌, nat_lt, max, MatchOption, ⊤, slice_index_or}
+use Rattle.std.specs.List.{fold}
+use Rattle.linker_relax.specs.declared.relaxation.Shapes.{Shapes}
+use Rattle.linker_relax.specs.declared.relaxation.Alignment.{Alignment}
+use Rattle.linker_relax.specs.declared.relaxation.Item.{Item}
+use Rattle.linker_relax.specs.declared.relaxation.Item.TheVariants.{Site, Aligned}
+use Rattle.linker_relax.specs.Relaxing.{offset_of, end_of, target_of, item_at, place_of, shape_len}
+use Rattle.linker_relax.specs.Relaxing.{short_shape, needed, freed_before, item_reaches, is_in_reach}
+use Rattle.linker_relax.specs.Relaxing.{choice_of, AreInOrder, AreRelaxed}
+use Rattle.linker_relax.specs.Relaxing.{AreKeptBytes, AreFreed}
+
+-- the greatest unit of short shapes, of an item and of a run
+abbrev pub shapes_unit : Shapes → ℕ
+shapes_unit shapes = if nat_lt 1 shapes.count
+    then max (short_shape shapes 0).unit (short_shape shapes 1).unit
+    else if nat_lt 0 shapes.count then (short_shape shapes 0).unit else 1
+
+abbrev pub item_unit : Item → ℕ
+item_unit (Site site) = shapes_unit site.shapes
+item_unit (Aligned alignment) = 1
+
+abbrev pub run_unit : List Item → ℕ
+run_unit items = fold (λ unit item. max unit (item_unit item)) 1 items
+
+-- Shapes of a site of so many bytes: each frees a multiple of u, none keeps more than the next, each
+-- short one reaches itself, and its unit divides u.
+pub record ShapesFit (u len : ℕ) (shapes : Shapes) : Type 0 where
+  pub freed : (k : ℕ) → (len - shape_len shapes k) % u ≡ 0
+  pub ascending : (k : ℕ) → shape_len shapes k ≤ shape_len shapes (k + 1)
+  pub ahead : (k : ℕ) → k < shapes.count → 0 < (short_shape shapes k).ahead
+  pub units : (k : ℕ) → k < shapes.count → u % (short_shape shapes k).unit ≡ 0
+
+-- An alignment of a run at an address: it and the address behind its nops are multiples of u, and
+-- there are enough nops, or no more may stay than there are. Where all may go, they are a multiple
+-- of u.
+pub record AlignmentFits (u start : ℕ) (alignment : Alignment) : Type 0 where
+  pub power : alignment.power % u ≡ 0
+  pub behind : (start + alignment.offset + alignment.nops) % u ≡ 0
+  pub enough : MatchOption alignment.most (alignment.power ≤ alignment.nops + u)
+      (λ most. (alignment.nops % u ≡ 0)
+      × ((alignment.power ≤ alignment.nops + u) ⊎ (most ≤ alignment.nops)))
+
+abbrev pub ItemFits : ℕ → ℕ → Item → Type 0
+ItemFits u start (Site site) = ShapesFit u site.len site.shapes
+ItemFits u start (Aligned alignment) = AlignmentFits u start alignment
+
+-- how many bytes of an item stay in each choice
+abbrev pub least_len : Item → ℕ
+least_len (Site site) = shape_len site.shapes 0
+least_len (Aligned alignment) = 0
+
+-- no choice frees the bytes on both sides of the offset in the item
+abbrev pub IsClear : Item → ℕ → Type 0
+IsClear item offset = (offset ≤ offset_of item + least_len item) ⊎ (end_of item ≤ offset)
+
+-- the runs that are relaxed
+pub record AreItems (start : ℕ) (items : List Item) : Type 0 where
+  pub in_order : AreInOrder start items
+  pub fit : (i : ℕ) → i < length items → ItemFits (run_unit items) start (item_at items i)
+  pub clear : (i j : ℕ) → i < length items → j < length items
+      → IsClear (item_at items j) (target_of (item_at items i))
+
+-- An alignment keeps exactly the bytes that are needed, and none where more are needed than it may
+-- keep.
+abbrev pub IsExact : Alignment → ℕ → ℕ → Type 0
+IsExact alignment need kept = MatchOption alignment.most (kept ≡ need)
+    (λ most. (need ≤ most → kept ≡ need) × (most < need → kept ≡ 0))
+
+abbrev pub IsExactItem : Item → ℕ → ℕ → ℕ → Type 0
+IsExactItem (Site site) start freed kept = ⊤
+IsExactItem (Aligned alignment) start freed kept =
+    IsExact alignment (needed alignment.power (start + alignment.offset - freed)) kept
+
+-- each alignment of the run is exact at its output address
+abbrev pub AreAligned : ℕ → List Item → List ℕ → List ℕ → Type 0
+AreAligned start items shapes kept = (i : ℕ) → i < length items
+    → IsExactItem (item_at items i) start (freed_before start items (choice_of shapes) i)
+    (slice_index_or kept i 0)
+
+-- what the items before an index free where each alignment keeps all
+abbrev pub freed_cautiously : Item → ℕ → ℕ
+freed_cautiously (Site site) k = site.len - shape_len site.shapes k
+freed_cautiously (Aligned alignment) k = 0
+
+unfoldable pub cautious_before : List Item → (ℕ → ℕ) → ℕ → ℕ
+cautious_before items choice zero = 0
+cautious_before items choice (suc i) =
+    cautious_before items choice i + freed_cautiously (item_at items i) (choice i)
+
+-- the choice is in reach where each alignment keeps all
+abbrev pub IsInReachCautiously : List Item → (ℕ → ℕ) → Type 0
+IsInReachCautiously items choice = (i : ℕ) → i < length items
+    → item_reaches (item_at items i) (choice i) (cautious_before items choice i)
+    (cautious_before items choice (place_of items (target_of (item_at items i)))) ≡ true
+
+-- the choice is in reach with what it frees
+abbrev pub IsInReachExactly : ℕ → List Item → (ℕ → ℕ) → Type 0
+IsInReachExactly start items choice =
+    (i : ℕ) → i < length items → is_in_reach start items choice i ≡ true
+
+-- no site has a longer shape than the other choice gives it
+abbrev pub AreNotLonger : List Item → List ℕ → (ℕ → ℕ) → Type 0
+AreNotLonger items shapes other = (i : ℕ) → i < length items → choice_of shapes i ≤ other i
+
+abbrev pub IsSite : Item → Type 0
+IsSite (Site site) = ⊤
+IsSite (Aligned alignment) = ⊥
+
+abbrev pub HaveNoAlignment : List Item → Type 0
+HaveNoAlignment items = (i : ℕ) → i < length items → IsSite (item_at items i)
+
+-- What a run becomes: the shape of each site, the bytes of each item that stay, and those that the
+-- items before each free.
+pub record IsRelaxation (start : ℕ) (items : List Item) (shapes kept freed : List ℕ) : Type 0 where
+  pub relaxed : AreRelaxed start items shapes
+  pub kept_bytes : AreKeptBytes start items shapes kept
+  pub freed_bytes : AreFreed start items shapes freed
+  pub aligned : AreAligned start items shapes kept
+  pub not_longer : (other : ℕ → ℕ) → IsInReachCautiously items other
+      → AreNotLonger items shapes other
+  pub greatest : HaveNoAlignment items → (other : ℕ → ℕ) → IsInReachExactly start items other
+      → AreNotLonger items shapes other

@@ -1,0 +1,4 @@
+pub mod Choosing
+pub mod Deleting
+pub mod Inner
+pub mod Relaxing

@@ -1,0 +1,105 @@
+//! Passes over a run: the places of targets, a layout, and one round.
+
+ghost use Rattle.std.specs.Prelude.{◌≡◌, ◌+◌, ◌<◌, ◌≤◌, ◌^◌, ℕ, length, true, false, sum};
+ghost use Rattle.std.specs.Prelude.{slice_index_or};
+ghost use Rattle.linker_relax.specs.Relaxing.{place_of, item_at, choice_of, lengthened, is_in_reach};
+ghost use Rattle.linker_relax.specs.Relaxing.{AreInOrder, AreFreed, AreKeptBytes, kept_by};
+ghost use Rattle.linker_relax.specs.Relaxing.{freed_before};
+ghost use Rattle.linker_relax.specs.Inner.Relaxing.{ArePlaces};
+
+use super::Item;
+
+/// How many items end at or below an offset.
+pub(super) fn place_of(items: &[Item], offset: u64, start: u64) -> usize
+    requires { AreInOrder start items.now }
+    ensures place { result ≡ place_of items.now offset }
+    ensures within { result ≤ length items.now }
+{
+    items.partition_point(|item| item.ends_by(offset))
+}
+
+/// For each item the place of its target.
+pub(super) fn find_places(items: &[Item], start: u64, places: &mut [usize])
+    requires in_order { AreInOrder start items.now }
+    requires one_each { length places.old ≡ length items.now }
+    ensures { ArePlaces items.now places.new }
+{
+    for index in 0..items.len() {
+        places[index] = place_of(items, items[index].target(), start);
+    }
+}
+
+/// Gives each item its shortest shape.
+pub(super) fn shorten(shapes: &mut [u8])
+    ensures { (i : ℕ) → choice_of shapes.new i ≡ 0 }
+{
+    for shape in shapes.iter_mut() {
+        *shape = 0;
+    }
+}
+
+/// For each item how many bytes those before it free, and at the end how many all do.
+pub(super) fn lay_out(items: &[Item], start: u64, shapes: &[u8], freed: &mut [u64])
+    requires in_order { AreInOrder start items.now }
+    requires one_each { length shapes.now ≡ length items.now }
+    requires one_more { length freed.old ≡ length items.now + 1 }
+    ensures { AreFreed start items.now shapes.now freed.new }
+{
+    let mut before = 0;
+    for index in 0..items.len() {
+        let item = &items[index];
+        freed[index] = before;
+        before += item.len() - item.kept_by(start, shapes[index], before);
+    }
+    freed[items.len()] = before;
+}
+
+/// For each item how many of its bytes stay.
+pub(super) fn keep(items: &[Item], start: u64, shapes: &[u8], freed: &[u64], kept: &mut [u64])
+    requires in_order { AreInOrder start items.now }
+    requires shapes { length shapes.now ≡ length items.now }
+    requires kept { length kept.old ≡ length items.now }
+    requires one_more { length freed.now ≡ length items.now + 1 }
+    requires freed { AreFreed start items.now shapes.now freed.now }
+    ensures { AreKeptBytes start items.now shapes.now kept.new }
+{
+    for index in 0..items.len() {
+        kept[index] = items[index].kept_by(start, shapes[index], freed[index]);
+    }
+}
+
+/// Gives each site that is out of reach its next shape. Whether there is one.
+pub(super) fn lengthen(
+    items: &[Item],
+    start: u64,
+    places: &[usize],
+    freed: &[u64],
+    shapes: &mut [u8],
+) -> bool
+    requires in_order { AreInOrder start items.now }
+    requires shapes { length shapes.old ≡ length items.now }
+    requires places { length places.now ≡ length items.now }
+    requires short { (i : ℕ) → choice_of shapes.old i ≤ 2 }
+    requires placed { ArePlaces items.now places.now }
+    requires one_more { length freed.now ≡ length items.now + 1 }
+    requires freed { AreFreed start items.now shapes.old freed.now }
+    ensures lengthened { (i : ℕ) → i < length items.now
+        → choice_of shapes.new i ≡ lengthened start items.now (choice_of shapes.old) i }
+    ensures short { (i : ℕ) → choice_of shapes.new i ≤ 2 }
+    ensures same { result ≡ false → shapes.new ≡ shapes.old }
+    ensures reached { result ≡ false → (i : ℕ) → i < length items.now
+        → is_in_reach start items.now (choice_of shapes.old) i ≡ true }
+    ensures longer { result ≡ true → sum shapes.old < sum shapes.new }
+{
+    let mut longer = false;
+    for index in 0..items.len() {
+        let here = freed[index];
+        let there = freed[places[index]];
+        let shape = shapes[index];
+        if !items[index].reaches(shape, here, there) {
+            shapes[index] = shape + 1;
+            longer = true;
+        }
+    }
+    longer
+}

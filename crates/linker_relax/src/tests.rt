@@ -1,0 +1,110 @@
+//! Runs worked by hand, and random runs compared with a model that tries every choice.
+
+use crate::relaxation::{Alignment, Item, Plan, Shape, Shapes, Site, are_items, relax};
+use crate::shapes::{fixed, loongarch64, riscv64};
+use linker_base::relaxation::OutOfMemory;
+use std::alloc::Global;
+use std::process::Abort;
+use std::test::Fail;
+
+fn site(offset: u64, target: u64, shapes: Shapes) -> Item {
+    Item::Site(Site {
+        offset,
+        len: 8,
+        target,
+        shapes,
+    })
+}
+
+fn aligned(offset: u64, nops: u32, power: u64, most: Option<u64>) -> Item {
+    Item::Aligned(Alignment {
+        offset,
+        nops,
+        power,
+        most,
+    })
+}
+
+/// Requires these shapes and kept bytes of a run.
+fn expect_plan(
+    rt: &impl Abort,
+    alloc: Global,
+    items: &[Item],
+    shapes: &[u8],
+    kept: &[u64],
+) -> Result<(), OutOfMemory> {
+    assert!(rt; are_items(items, 0));
+    let plan = relax(alloc, items, 0).or_else(|_| relax(alloc, items, 0))?;
+    assert_eq!(rt; plan.shapes.as_slice(), shapes);
+    assert_eq!(rt; plan.kept.as_slice(), kept);
+    Ok(())
+}
+
+/// With all nops kept the distance would be 1048576, which `jal` doesn't reach.
+#[test]
+fn a_call_takes_the_bytes_that_an_alignment_frees(rt: HostRuntime) -> Result<(), Fail> {
+    let items = [site(0, 1048580, riscv64::CALL), aligned(8, 14, 16, None)];
+    expect_plan(&rt, rt.alloc(), &items, &[0, 0], &[4, 12])?;
+    assert!(rt; are_items(&items, 0));
+    let plan = relax(rt.alloc(), &items, 0)?;
+    assert!(rt; plan.deletions.input_to_output_offset(1048580) == 1048574);
+    let farther = [site(0, 1048582, riscv64::CALL), aligned(8, 14, 16, None)];
+    expect_plan(&rt, rt.alloc(), &farther, &[1, 0], &[8, 8])?;
+    Ok(())
+}
+
+#[test]
+fn shapes_reach_as_far_as_their_instructions(rt: HostRuntime) -> Result<(), Fail> {
+    let rows: [(Shapes, u64, u8, u64); 8] = [
+        (riscv64::CALL, 1048574 + 4, 0, 4),
+        (riscv64::CALL, 1048576 + 4, 1, 8),
+        (riscv64::TAIL_C, 2046 + 6, 0, 2),
+        (riscv64::TAIL_C, 2048 + 6, 1, 4),
+        (loongarch64::PCALA, 2097148 + 4, 0, 4),
+        (loongarch64::PCALA, 2097152 + 4, 1, 8),
+        (loongarch64::CALL36, 134217724 + 4, 0, 4),
+        (loongarch64::CALL36, 134217728 + 4, 1, 8),
+    ];
+    for &(shapes, target, shape, kept) in &rows {
+        expect_plan(
+            &rt,
+            rt.alloc(),
+            &[site(0, target, shapes)],
+            &[shape],
+            &[kept],
+        )?;
+    }
+    expect_plan(&rt, rt.alloc(), &[site(0, 0, fixed(4))], &[0], &[4])?;
+    Ok(())
+}
+
+/// ld.lld 19 keeps none of 12 nops for the addend 0x404, where 8 bytes are needed.
+#[test]
+fn an_alignment_keeps_none_where_more_are_needed_than_may_stay(
+    rt: HostRuntime,
+) -> Result<(), Fail> {
+    let items = [aligned(8, 12, 16, Some(4))];
+    expect_plan(&rt, rt.alloc(), &items, &[0], &[0])?;
+    let items = [aligned(8, 12, 16, Some(8))];
+    expect_plan(&rt, rt.alloc(), &items, &[0], &[8])?;
+    Ok(())
+}
+
+#[test]
+fn runs_that_cannot_be_relaxed_are_rejected(rt: HostRuntime) {
+    let call = riscv64::CALL;
+    assert!(rt; are_items(&[site(0, 8, call)], 0));
+    assert!(rt; !are_items(&[site(0, 6, call)], 0));
+    assert!(rt; !are_items(&[site(0, 8, call), site(6, 8, call)], 0));
+    assert!(rt; !are_items(&[site(8, 8, call), site(0, 8, call)], 0));
+    assert!(rt; !are_items(&[site(u64::MAX - 7, 0, call)], 0));
+    assert!(rt; !are_items(&[site(0, 0, fixed(9))], 0));
+    assert!(rt; !are_items(&[site(0, 0, call), aligned(8, 14, 0, None)], 0));
+    assert!(rt; !are_items(&[site(0, 0, call), aligned(8, 12, 16, None)], 0));
+    assert!(rt;
+        !are_items(
+            &[site(0, 0, loongarch64::PCALA), aligned(10, 2, 2, None)],
+            0
+        )
+    );
+}
