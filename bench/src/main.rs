@@ -259,13 +259,13 @@ fn rows(report: &mut Report) {
         report.line(name, types.len(), true, each(side));
     };
     for machine in MACHINES {
-        let is_other = |r_type: &u32| {
-            let is_own = |&(of, own): &(u16, &[u32])| of == machine && own.contains(r_type);
-            machine == LOONGARCH64 && OTHER_TYPES.contains(r_type) || OWN_TYPES.iter().any(is_own)
-        };
-        let has_row = |r_type: &u32| sathunne::relocation(architecture(machine), *r_type).is_ok();
-        let known: Vec<u32> = (0..1 << 11)
-            .filter(|r_type| has_row(r_type) && !is_other(r_type))
+        let is_other = |r_type: u32| machine == LOONGARCH64 && OTHER_TYPES.contains(&r_type);
+        let has_row = |library: &&dyn Library, r_type| library.row(machine, r_type).is_some();
+        let count = |r_type| LIBRARIES.iter().flatten().filter(|it| has_row(it, r_type)).count();
+        let types = 0..1 << 11;
+        let all = types.clone().map(count).max();
+        let known: Vec<u32> = types
+            .filter(|&r_type| Some(count(r_type)) == all && !is_other(r_type))
             .collect();
         for r_type in &known {
             let differs = machine == AARCH64 && OTHER_ROWS.contains(r_type);

@@ -155,13 +155,6 @@ pub const OTHER_ROWS: [u32; 5] = [307, 308, 309, 522, 515];
 /// `R_LARCH_CALL30` and `R_LARCH_PCADD_HI20`.
 pub const OTHER_TYPES: [u32; 2] = [127, 128];
 
-/// The relocations for which only this library has rows: of PowerPC64, and RISC-V's of TLS
-/// descriptors.
-pub const OWN_TYPES: [(u16, &[u32]); 2] = [
-    (PPC64, &[0, 4, 5, 6, 47, 56, 57, 63, 116, 132, 133]),
-    (RISCV, &[62, 63, 64, 65]),
-];
-
 /// How often each relocation comes, in parts, in programs of a machine.
 pub const MIXES: [(u16, &str, &[(&str, usize)]); 5] = [
     (
