@@ -1,9 +1,9 @@
 -- Each entry of a table of rows is the row of its name, with what a write of it tests and with its
 -- numbers: by computation, name by name.
-use Rattle.std.proofs.Common.{refl, subst, sym, slice_index_or, ap, Option, Some, None, IfSome}
+use Rattle.std.proofs.Common.{◌≡◌, refl, subst, sym, slice_index_or, ap, Option, Some, None, IfSome}
 use denote.Enum.Declared.{tag_of}
 use Rattle.linker_elf.specs.Agrees.{RowFits}
-use Rattle.linker_elf.specs.Inner.RowTables.{IsEntryOf, IsSound}
+use Rattle.linker_elf.specs.Inner.RowTables.{raw_info_in, IsEntryOf, IsSound}
 use Rattle.linker_elf.specs.declared.elf.RelocationKindInfo.{RelocationKindInfo}
 use Rattle.linker_elf.specs.declared.elf.rows.TableRow.{TableRow}
 use Rattle.linker_elf.specs.AArch64Relocations.{aarch64_row}
@@ -11,7 +11,7 @@ use Rattle.linker_elf.specs.contracts.aarch64.relocations.AArch64Relocation as a
 use Rattle.linker_elf.specs.declared.aarch64.relocations.TheConstants as aarch64_table
 use Rattle.linker_elf.specs.declared.aarch64.relocations.AArch64Relocation.{AArch64Relocation}
 use Rattle.linker_elf.specs.declared.aarch64.relocations.AArch64Relocation.TheVariants.{R_AARCH64_NONE}
-use Rattle.linker_elf.specs.RiscVRelocations.{riscv_relocation}
+use Rattle.linker_elf.specs.RiscVRelocations.{riscv_relocation, riscv_row}
 use Rattle.linker_elf.specs.contracts.riscv64.relocations.RiscVRelocation as riscv64
 use Rattle.linker_elf.specs.declared.riscv64.relocations.TheConstants as riscv64_table
 use Rattle.linker_elf.specs.declared.riscv64.relocations.RiscVRelocation.{RiscVRelocation}
@@ -21,7 +21,7 @@ use Rattle.linker_elf.specs.contracts.loongarch64.relocations.LoongArch64Relocat
 use Rattle.linker_elf.specs.declared.loongarch64.relocations.TheConstants as loongarch64_table
 use Rattle.linker_elf.specs.declared.loongarch64.relocations.LoongArch64Relocation.{LoongArch64Relocation}
 use Rattle.linker_elf.specs.declared.loongarch64.relocations.LoongArch64Relocation.TheVariants.{R_LARCH_NONE}
-use Rattle.linker_elf.specs.Ppc64Relocations.{ppc64_row}
+use Rattle.linker_elf.specs.Ppc64Relocations.{ppc64_row, ppc64_raw_row}
 use Rattle.linker_elf.specs.contracts.ppc64.relocations.Ppc64Relocation as ppc64
 use Rattle.linker_elf.specs.declared.ppc64.relocations.TheConstants as ppc64_table
 use Rattle.linker_elf.specs.declared.ppc64.relocations.Ppc64Relocation.{Ppc64Relocation}
@@ -42,6 +42,11 @@ pub riscv_rows : (name : RiscVRelocation)
 riscv_rows R_RISCV_NONE = record { row_is = refl; entry_is = refl }
 riscv_rows name = record { row_is = refl; entry_is = refl }
 
+pub riscv_raw_rows : (name : RiscVRelocation)
+    → raw_info_in (slice_index_or riscv64_table.ROWS.now (tag_of riscv64.the_type name) None) ≡ riscv_row name
+riscv_raw_rows R_RISCV_NONE = refl
+riscv_raw_rows name = refl
+
 pub loongarch_rows : (name : LoongArch64Relocation)
     → IsEntryOf (loongarch_row name) (slice_index_or loongarch64_table.ROWS.now (tag_of loongarch64.the_type name) None)
 loongarch_rows R_LARCH_NONE = record { row_is = refl; entry_is = refl }
@@ -51,6 +56,11 @@ pub ppc64_rows : (name : Ppc64Relocation)
     → IsEntryOf (ppc64_row name) (slice_index_or ppc64_table.ROWS.now (tag_of ppc64.the_type name) None)
 ppc64_rows R_PPC64_NONE = record { row_is = refl; entry_is = refl }
 ppc64_rows name = record { row_is = refl; entry_is = refl }
+
+pub ppc64_raw_rows : (name : Ppc64Relocation)
+    → raw_info_in (slice_index_or ppc64_table.ROWS.now (tag_of ppc64.the_type name) None) ≡ ppc64_raw_row name
+ppc64_raw_rows R_PPC64_NONE = refl
+ppc64_raw_rows name = refl
 
 pub x86_64_rows : (name : X86_64Relocation)
     → IsEntryOf (x86_64_row name) (slice_index_or x86_64_table.ROWS.now (tag_of x86_64.the_type name) None)

@@ -1,5 +1,5 @@
 -- Entries of the tables of rows.
-use Rattle.std.specs.Prelude.{◌≡◌, Option, Some, None, if◌then◌else◌, ◌==◌}
+use Rattle.std.specs.Prelude.{◌≡◌, Bool, false, Option, Some, None, if◌then◌else◌, ◌==◌}
 use Rattle.linker_elf.specs.Agrees.{RowFits}
 use Rattle.linker_elf.specs.Bounds.{least_within, last_within}
 use Rattle.linker_elf.specs.Numbers.{numbers_of}
@@ -19,15 +19,16 @@ tests_of row =
       last = last_within (reach_of row);
     }
 
--- the entry of a row
-abbrev pub entry_of : RelocationKindInfo → TableRow
-entry_of row =
+-- the entry of a row, which may be one of this library's own
+abbrev pub entry_of : Bool → RelocationKindInfo → TableRow
+entry_of is_own row =
     record {
       kind = row.kind;
       size = row.size;
       mask = row.mask;
       numbers = numbers_of row;
       tests = tests_of row;
+      is_own = is_own;
     }
 
 -- the row of an entry
@@ -48,18 +49,27 @@ info_of entry =
 
 -- the entry is that of its row, whose bits fit its instruction
 pub record IsSound (entry : TableRow) : Type 0 where
-  pub is : entry ≡ entry_of (info_of entry)
+  pub is : entry ≡ entry_of entry.is_own (info_of entry)
   pub fits : RowFits (info_of entry)
 
 abbrev pub info_in : Option TableRow → Option RelocationKindInfo
 info_in None = None
 info_in (Some entry) = Some (info_of entry)
 
-abbrev pub entry_in : Option RelocationKindInfo → Option TableRow
-entry_in None = None
-entry_in (Some row) = Some (entry_of row)
+-- the same without this library's own rows
+abbrev pub raw_info_in : Option TableRow → Option RelocationKindInfo
+raw_info_in None = None
+raw_info_in (Some entry) = if entry.is_own then None else Some (info_of entry)
+
+abbrev pub is_own_in : Option TableRow → Bool
+is_own_in None = false
+is_own_in (Some entry) = entry.is_own
+
+abbrev pub entry_in : Bool → Option RelocationKindInfo → Option TableRow
+entry_in is_own None = None
+entry_in is_own (Some row) = Some (entry_of is_own row)
 
 -- an entry of a table is the row of its name
 pub record IsEntryOf (row : Option RelocationKindInfo) (entry : Option TableRow) : Type 0 where
   pub row_is : info_in entry ≡ row
-  pub entry_is : entry ≡ entry_in (info_in entry)
+  pub entry_is : entry ≡ entry_in (is_own_in entry) (info_in entry)

@@ -7,7 +7,7 @@ ghost use Rattle.linker_elf.specs.Numbers.{numbers_of};
 ghost use Rattle.linker_elf.specs.Reach.{reach_of};
 ghost use Rattle.linker_elf.specs.Relocate.{WritesRow, RejectsValue, window_len};
 ghost use Rattle.linker_elf.specs.Value.{value_of};
-ghost use Rattle.linker_elf.specs.Inner.RowTables.{info_in, info_of, IsSound, tests_of};
+ghost use Rattle.linker_elf.specs.Inner.RowTables.{info_in, info_of, raw_info_in, IsSound, tests_of};
 
 use crate::elf::relocate::{write_bits, write_bytes};
 use crate::elf::{
@@ -25,6 +25,8 @@ pub(crate) struct TableRow {
     pub(crate) mask: Option<PageMask>,
     pub(crate) numbers: RelocationNumbers,
     pub(crate) tests: WriteTests,
+    /// Whether the crate `linker-utils` has no such row.
+    pub(crate) is_own: bool,
 }
 
 /// What a write of a row tests.
@@ -84,6 +86,20 @@ pub(crate) fn row_in(entry: &'static Option<TableRow>) -> Option<Row>
     match entry {
         Some(entry) => Some(Row::of(entry)),
         None => None,
+    }
+}
+
+/// What the row of a table's entry means, if the crate `linker-utils` has such a row.
+#[inline(always)]
+pub(crate) fn raw_info_in(entry: &'static Option<TableRow>) -> Option<RelocationKindInfo>
+    requires { IfSome entry.now IsSound }
+    ensures row { result ≡ raw_info_in entry.now }
+    ensures fits { IfSome result RowFits }
+{
+    match entry {
+        // by the entry: LLVM compiles a match of the name to a jump by the code
+        Some(entry) if !entry.is_own => Some(Row::of(entry).info()),
+        _ => None,
     }
 }
 
@@ -396,6 +412,12 @@ macro_rules! insn {
     };
 }
 
+/// Whether a row is one that the crate `linker-utils` lacks.
+macro_rules! is_own {
+    () => { false };
+    (own) => { true };
+}
+
 /// A number of a row.
 macro_rules! number {
     (form ($bytes:literal bytes)) => { 0 };
@@ -535,6 +557,7 @@ macro_rules! row {
         $(, mask: $mask:ident)?
         $(, bias: $bias:expr)?
         $(, thunkable: $thunkable:ident)?
+        $(, origin: $origin:ident)?
     ) => {
         $crate::elf::rows::TableRow {
             kind: $crate::elf::RelocationKind::$kind,
@@ -563,6 +586,7 @@ macro_rules! row {
                 least: $least,
                 last: $last,
             },
+            is_own: $crate::elf::rows::is_own!($($origin)?),
         }
     };
 }
@@ -570,6 +594,7 @@ macro_rules! row {
 pub(crate) use code_of_name;
 pub(crate) use index_of_name;
 pub(crate) use insn;
+pub(crate) use is_own;
 pub(crate) use is_supported;
 pub(crate) use mask;
 pub(crate) use name_of_code;

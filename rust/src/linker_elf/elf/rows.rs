@@ -16,6 +16,8 @@ pub(crate) struct TableRow {
     pub(crate) mask: Option<PageMask>,
     pub(crate) numbers: RelocationNumbers,
     pub(crate) tests: WriteTests,
+    /// Whether the crate `linker-utils` has no such row.
+    pub(crate) is_own: bool,
 }
 
 /// What a write of a row tests.
@@ -61,6 +63,16 @@ pub(crate) const fn row_in(entry: &'static Option<TableRow>) -> Option<Row> {
     match entry {
         Some(entry) => Some(Row::of(entry)),
         None => None,
+    }
+}
+
+/// What the row of a table's entry means, if the crate `linker-utils` has such a row.
+#[inline(always)]
+pub(crate) const fn raw_info_in(entry: &'static Option<TableRow>) -> Option<RelocationKindInfo> {
+    match entry {
+        // by the entry: LLVM compiles a match of the name to a jump by the code
+        Some(entry) if !entry.is_own => Some(Row::of(entry).info()),
+        _ => None,
     }
 }
 
@@ -348,6 +360,12 @@ macro_rules! insn {
     };
 }
 
+/// Whether a row is one that the crate `linker-utils` lacks.
+macro_rules! is_own {
+    () => { false };
+    (own) => { true };
+}
+
 /// A number of a row.
 macro_rules! number {
     (form ($bytes:literal bytes)) => { 0 };
@@ -487,6 +505,7 @@ macro_rules! row {
         $(, mask: $mask:ident)?
         $(, bias: $bias:expr)?
         $(, thunkable: $thunkable:ident)?
+        $(, origin: $origin:ident)?
     ) => {
         $crate::linker_elf::elf::rows::TableRow {
             kind: $crate::linker_elf::elf::RelocationKind::$kind,
@@ -515,6 +534,7 @@ macro_rules! row {
                 least: $least,
                 last: $last,
             },
+            is_own: $crate::linker_elf::elf::rows::is_own!($($origin)?),
         }
     };
 }
@@ -522,6 +542,7 @@ macro_rules! row {
 pub(crate) use code_of_name;
 pub(crate) use index_of_name;
 pub(crate) use insn;
+pub(crate) use is_own;
 pub(crate) use is_supported;
 pub(crate) use mask;
 pub(crate) use name_of_code;

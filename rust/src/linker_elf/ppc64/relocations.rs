@@ -2,7 +2,8 @@
 //! What the relocations of PowerPC64 mean.
 
 use crate::linker_elf::elf::rows::{
-    TableRow, code_of_name, index_of_name, info_in, name_of_code, row, row_in, table, text_of_name,
+    TableRow, code_of_name, index_of_name, name_of_code, raw_info_in, row, row_in, table,
+    text_of_name,
 };
 use crate::linker_elf::elf::{RelocationKindInfo, Row};
 use core::fmt;
@@ -100,10 +101,10 @@ macro_rules! relocations {
                 11 R_PPC64_REL14 =>
                     Some(row!(Relative, (0..16 Ppc64::Branch14), signed 16, alignment: 4)),
                 17 R_PPC64_GOT16_HA =>
-                    Some(row!(GotRelGotBase, (16..32 Ppc64::D), any reach signed 32, bias: 0x8000)),
+                    Some(row!(GotRelGotBase, (16..32 Ppc64::D), any reach signed 32, bias: 0x8000, origin: own)),
                 26 R_PPC64_REL32 => Some(row!(Relative, (4 bytes), signed 32)),
                 31 R_PPC64_PLT16_HA =>
-                    Some(row!(PltRelGotBase, (16..32 Ppc64::D), any reach signed 32, bias: 0x8000)),
+                    Some(row!(PltRelGotBase, (16..32 Ppc64::D), any reach signed 32, bias: 0x8000, origin: own)),
                 38 R_PPC64_ADDR64 => Some(row!(Absolute, (8 bytes), any)),
                 44 R_PPC64_REL64 => Some(row!(Relative, (8 bytes), any)),
                 47 R_PPC64_TOC16 => Some(row!(SymRelGotBase, (0..16 Ppc64::D), signed 16)),
@@ -115,9 +116,9 @@ macro_rules! relocations {
                 57 R_PPC64_ADDR16_LO_DS =>
                     Some(row!(Absolute, (0..16 Ppc64::Ds), any, alignment: 4)),
                 59 R_PPC64_GOT16_LO_DS =>
-                    Some(row!(GotRelGotBase, (0..16 Ppc64::Ds), any, alignment: 4)),
+                    Some(row!(GotRelGotBase, (0..16 Ppc64::Ds), any, alignment: 4, origin: own)),
                 60 R_PPC64_PLT16_LO_DS =>
-                    Some(row!(PltRelGotBase, (0..16 Ppc64::Ds), any, alignment: 4)),
+                    Some(row!(PltRelGotBase, (0..16 Ppc64::Ds), any, alignment: 4, origin: own)),
                 63 R_PPC64_TOC16_DS =>
                     Some(row!(SymRelGotBase, (0..16 Ppc64::Ds), signed 16, alignment: 4)),
                 64 R_PPC64_TOC16_LO_DS =>
@@ -168,25 +169,25 @@ macro_rules! relocations {
                 108 R_PPC64_TLSLD => Some(row!(None, (0 bytes), any)),
                 116 R_PPC64_REL24_NOTOC =>
                     Some(row!(Relative, (0..26 Ppc64::Branch24), signed 26, alignment: 4)),
-                118 R_PPC64_ENTRY => Some(row!(None, (0 bytes), any)),
-                119 R_PPC64_PLTSEQ => Some(row!(None, (0 bytes), any)),
-                120 R_PPC64_PLTCALL => Some(row!(None, (0 bytes), any)),
-                121 R_PPC64_PLTSEQ_NOTOC => Some(row!(None, (0 bytes), any)),
-                122 R_PPC64_PLTCALL_NOTOC => Some(row!(None, (0 bytes), any)),
+                118 R_PPC64_ENTRY => Some(row!(None, (0 bytes), any, origin: own)),
+                119 R_PPC64_PLTSEQ => Some(row!(None, (0 bytes), any, origin: own)),
+                120 R_PPC64_PLTCALL => Some(row!(None, (0 bytes), any, origin: own)),
+                121 R_PPC64_PLTSEQ_NOTOC => Some(row!(None, (0 bytes), any, origin: own)),
+                122 R_PPC64_PLTCALL_NOTOC => Some(row!(None, (0 bytes), any, origin: own)),
                 123 R_PPC64_PCREL_OPT => Some(row!(None, (0 bytes), any)),
             }
             {
                 132 R_PPC64_PCREL34 => Some(row!(Relative, (0..34 Ppc64::Prefixed), signed 34)),
                 133 R_PPC64_GOT_PCREL34 =>
                     Some(row!(GotRelative, (0..34 Ppc64::Prefixed), signed 34)),
-                146 R_PPC64_TPREL34 => Some(row!(TpOff, (0..34 Ppc64::Prefixed), signed 34)),
-                147 R_PPC64_DTPREL34 => Some(row!(DtpOff, (0..34 Ppc64::Prefixed), signed 34)),
+                146 R_PPC64_TPREL34 => Some(row!(TpOff, (0..34 Ppc64::Prefixed), signed 34, origin: own)),
+                147 R_PPC64_DTPREL34 => Some(row!(DtpOff, (0..34 Ppc64::Prefixed), signed 34, origin: own)),
                 148 R_PPC64_GOT_TLSGD_PCREL34 =>
-                    Some(row!(TlsGd, (0..34 Ppc64::Prefixed), signed 34)),
+                    Some(row!(TlsGd, (0..34 Ppc64::Prefixed), signed 34, origin: own)),
                 149 R_PPC64_GOT_TLSLD_PCREL34 =>
-                    Some(row!(TlsLd, (0..34 Ppc64::Prefixed), signed 34)),
+                    Some(row!(TlsLd, (0..34 Ppc64::Prefixed), signed 34, origin: own)),
                 150 R_PPC64_GOT_TPREL_PCREL34 =>
-                    Some(row!(GotTpOff, (0..34 Ppc64::Prefixed), signed 34)),
+                    Some(row!(GotTpOff, (0..34 Ppc64::Prefixed), signed 34, origin: own)),
                 250 R_PPC64_REL16_LO => Some(row!(Relative, (0..16 Ppc64::D), any)),
                 252 R_PPC64_REL16_HA =>
                     Some(row!(Relative, (16..32 Ppc64::D), any reach signed 32, bias: 0x8000)),
@@ -253,28 +254,6 @@ pub const fn row(name: Ppc64Relocation) -> Option<Row> {
     row_in(&ROWS[index(name)])
 }
 
-/// Whether the crate `linker-utils` has no such name.
-#[inline(always)]
-const fn is_own(name: Ppc64Relocation) -> bool {
-    matches!(
-        name,
-        Ppc64Relocation::R_PPC64_GOT16_HA
-            | Ppc64Relocation::R_PPC64_PLT16_HA
-            | Ppc64Relocation::R_PPC64_GOT16_LO_DS
-            | Ppc64Relocation::R_PPC64_PLT16_LO_DS
-            | Ppc64Relocation::R_PPC64_ENTRY
-            | Ppc64Relocation::R_PPC64_PLTSEQ
-            | Ppc64Relocation::R_PPC64_PLTCALL
-            | Ppc64Relocation::R_PPC64_PLTSEQ_NOTOC
-            | Ppc64Relocation::R_PPC64_PLTCALL_NOTOC
-            | Ppc64Relocation::R_PPC64_TPREL34
-            | Ppc64Relocation::R_PPC64_DTPREL34
-            | Ppc64Relocation::R_PPC64_GOT_TLSGD_PCREL34
-            | Ppc64Relocation::R_PPC64_GOT_TLSLD_PCREL34
-            | Ppc64Relocation::R_PPC64_GOT_TPREL_PCREL34
-    )
-}
-
 /// What a relocation means, as `row` says, or `None` for those that PowerPC64 compilers write and the
 /// crate `linker-utils` has no name for: the GOT and PLT entries by two halves (`R_PPC64_GOT16_HA`,
 /// `R_PPC64_PLT16_HA` and their `_LO_DS`), `R_PPC64_ENTRY`, the marks of calls through the PLT
@@ -283,9 +262,5 @@ const fn is_own(name: Ppc64Relocation) -> bool {
 #[must_use]
 #[inline(always)]
 pub const fn relocation_type_from_raw(name: Ppc64Relocation) -> Option<RelocationKindInfo> {
-    if is_own(name) {
-        None
-    } else {
-        info_in(row(name))
-    }
+    raw_info_in(&ROWS[index(name)])
 }

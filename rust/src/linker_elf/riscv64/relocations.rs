@@ -2,9 +2,10 @@
 //! What the relocations of RISC-V mean.
 
 use crate::linker_elf::elf::rows::{
-    TableRow, code_of_name, index_of_name, name_of_code, row, row_in, table, text_of_name,
+    TableRow, code_of_name, index_of_name, name_of_code, raw_info_in, row, row_in, table,
+    text_of_name,
 };
-use crate::linker_elf::elf::{RelocationKind, RelocationKindInfo, Row, Uleb128Role};
+use crate::linker_elf::elf::{RelocationKindInfo, Row, Uleb128Role};
 use core::fmt;
 
 /// The relocations of RISC-V, by their names in the RISC-V ELF psABI, "Relocations". `from_elf`
@@ -72,9 +73,10 @@ pub enum RiscVRelocation {
 /// A part of a value, or both, of a pair: `row!` of the value's first bits. The low part is signed,
 /// so the pair reaches 0x800 less than 32 signed bits.
 macro_rules! pair {
-    ($kind:ident, $end:literal, $form:ident) => {
+    ($kind:ident, $end:literal, $form:ident $(, $($field:tt)*)?) => {
         row!(
             $kind, (0..$end RiscV::$form), signed_or_unsigned 32 reach -0x80000800, 0x7ffff800
+            $(, $($field)*)?
         )
     };
 }
@@ -126,7 +128,7 @@ macro_rules! relocations {
                     Some(row!(Relative, (0..16 RiscV::CjType), within -2048, 2047, alignment: 2)),
                 46 R_RISCV_RVC_LUI =>
                     Some(row!(Absolute, (0..32 RiscV::CluiType), signed_or_unsigned 32
-                        reach -0x20800, 0x1f800)),
+                        reach -0x20800, 0x1f800, origin: own)),
                 51 R_RISCV_RELAX => Some(row!(None, (0 bytes), any)),
                 52 R_RISCV_SUB6 => Some(row!(AbsoluteSubtractionWord6, (1 bytes), any)),
                 53 R_RISCV_SET6 => Some(row!(AbsoluteSetWord6, (1 bytes), any)),
@@ -139,10 +141,13 @@ macro_rules! relocations {
                         0x80000000)),
                 60 R_RISCV_SET_ULEB128 => Some(row!(Relative, (0 bytes), any)),
                 61 R_RISCV_SUB_ULEB128 => Some(row!(PairSubtractionULEB128RiscV, (8 bytes), any)),
-                62 R_RISCV_TLSDESC_HI20 => Some(pair!(TlsDesc, 32, UType)),
-                63 R_RISCV_TLSDESC_LOAD_LO12 => Some(pair!(TlsDesc, 32, IType)),
-                64 R_RISCV_TLSDESC_ADD_LO12 => Some(pair!(TlsDesc, 32, IType)),
-                65 R_RISCV_TLSDESC_CALL => Some(row!(TlsDescCall, (0 bytes), any)),
+                62 R_RISCV_TLSDESC_HI20 => Some(pair!(TlsDesc, 32, UType, origin: own)),
+                63 R_RISCV_TLSDESC_LOAD_LO12 =>
+                    Some(pair!(TlsDesc, 32, IType, origin: own)),
+                64 R_RISCV_TLSDESC_ADD_LO12 =>
+                    Some(pair!(TlsDesc, 32, IType, origin: own)),
+                65 R_RISCV_TLSDESC_CALL =>
+                    Some(row!(TlsDescCall, (0 bytes), any, origin: own)),
             }
         }
     };
@@ -224,23 +229,10 @@ pub const fn clui_row() -> Row {
     row(RiscVRelocation::R_RISCV_RVC_LUI).unwrap()
 }
 
-/// Whether relocations of TLS descriptors have a kind.
-#[inline(always)]
-const fn is_of_descriptor(kind: RelocationKind) -> bool {
-    matches!(kind, RelocationKind::TlsDesc | RelocationKind::TlsDescCall)
-}
-
 /// What a relocation means, as `row` says, or `None` for the four of TLS descriptors and for
 /// `R_RISCV_RVC_LUI`.
 #[must_use]
 #[inline(always)]
 pub const fn relocation_type_from_raw(name: RiscVRelocation) -> Option<RelocationKindInfo> {
-    if let RiscVRelocation::R_RISCV_RVC_LUI = name {
-        return None;
-    }
-    match row(name) {
-        // by the kind: LLVM compiles a match of the name to a jump by the code
-        Some(row) if !is_of_descriptor(row.kind()) => Some(row.info()),
-        _ => None,
-    }
+    raw_info_in(&ROWS[index(name)])
 }
