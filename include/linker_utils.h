@@ -466,6 +466,21 @@ uint32_t linker_utils_relocation(uint16_t machine, uint32_t r_type,
 static inline uint32_t linker_utils_relocation_name(
     uint16_t machine, uint32_t r_type, uint8_t *name, size_t name_len, size_t *name_used);
 
+/* Whether the relocation asks for a GOT entry: its value depends on where the symbol's GOT entry,
+ * its entries for TLS or its TLS descriptor are, `got_entry` of `struct linker_utils_operands`. A
+ * relocation that only counts from the GOT's address, as R_X86_64_GOTOFF64 and R_PPC64_TOC16, asks
+ * for none; nor does one whose symbol labels the high part of a RISC-V pair, as
+ * R_RISCV_TLSDESC_LOAD_LO12: the high part asks. False where the machine or the type is unknown. */
+bool linker_utils_asks_for_got(uint16_t machine, uint32_t r_type);
+
+/* Whether a PLT entry may serve as the relocation's target: its value depends on `plt_entry` of
+ * `struct linker_utils_operands`, or it is that of a branch, conditional or not, which does
+ * nothing with the address but go there. Where the formula of a branch has S in place of L, as
+ * that of R_PPC64_REL24, pass the entry's address as `symbol`. For functions that another file may
+ * define, RISC-V compilers use only R_RISCV_CALL, R_RISCV_CALL_PLT and R_RISCV_PLT32 of these.
+ * False for R_X86_64_PC32, which loads have too, and where the machine or the type is unknown. */
+bool linker_utils_may_use_plt(uint16_t machine, uint32_t r_type);
+
 /* What R_RISCV_HI20 means at a `c.lui`, which LINKER_UTILS_RISCV_REWRITE_HI20_TO_C_LUI leaves. */
 void linker_utils_clui_rel_info(struct linker_utils_relocation_info *info);
 
@@ -477,7 +492,7 @@ struct linker_utils_operands {
      * the address that the high part at the label refers to: that of the symbol or, for
      * R_RISCV_GOT_HI20, R_RISCV_TLS_GOT_HI20 and R_RISCV_TLS_GD_HI20, of the GOT entry. For
      * R_X86_64_GOTPC32 and R_X86_64_GOTPC64 it is the GOT's address. For R_PPC64_REL24 it is the
-     * function's local entry point, or the stub that calls it. */
+     * function's local entry point, or the stub that calls it ("Calls on PowerPC64" below). */
     uint64_t symbol;
     /* A: for R_RISCV_PCREL_LO12_*, R_RISCV_TLSDESC_LOAD_LO12 and R_RISCV_TLSDESC_ADD_LO12 that of
      * the high part. */
@@ -511,6 +526,36 @@ struct linker_utils_operands {
  * LINKER_UTILS_UNKNOWN_ARCHITECTURE; LINKER_UTILS_UNKNOWN_RELOCATION; LINKER_UTILS_NO_VALUE. */
 uint32_t linker_utils_value(uint16_t machine, uint32_t r_type,
                             const struct linker_utils_operands *operands, int64_t *value);
+
+/* ---- Calls on PowerPC64 (64-bit ELF V2 ABI for Power, "Function Call Linkage Protocols" and
+ * "Symbol Values").
+ *
+ * A function may have two entry points. The global one is at the symbol's value, and is entered
+ * with its own address in r12, from which it makes its TOC pointer in r2. The local one is entered
+ * with the TOC pointer in r2. Bits 5 to 7 of `st_other`, as a number v, say where it is:
+ *   0       at the global one. The function neither uses nor changes r2.
+ *   1       at the global one. The function doesn't use r2, and may have changed it on return.
+ *   2 to 6  2^v bytes past the global one: 4, 8, 16, 32 or 64.
+ *   7       reserved
+ * Which address a call takes as `symbol`, and what has to be behind the call:
+ * - R_PPC64_REL24 and R_PPC64_REL14: the caller has its TOC pointer in r2, and expects it there on
+ *   return. For a function of the same output with the same TOC and v other than 1 the address is
+ *   that of the local entry point, and the `nop` behind the call, if there is one, stays. Else it
+ *   is that of a stub, which stores r2 at r1 + 24 and enters the function: through the PLT with the
+ *   doubleword there in r12, or where v is 1 directly. Then the `nop` behind the call has to become
+ *   `ld 2,24(1)`, which `linker_utils_choose` at the R_PPC64_REL24 says where `may_change_toc` is
+ *   set. If no `nop` is there, as behind the `b` of a tail call, the rewrite is NO_OP, the stub
+ *   can't be used, and linkers report an error.
+ * - R_PPC64_REL24_NOTOC: the caller keeps nothing in r2, and no `nop` is behind. For a function of
+ *   the same output with v 0 or 1 the address is its own. With v from 2 up it is that of a stub
+ *   that sets r12 to the global entry point, by its own place, and goes there; through the PLT it
+ *   sets r12 to the doubleword there. Neither stub stores r2.
+ * - R_PPC64_PLT16_HA, R_PPC64_PLT16_LO_DS, R_PPC64_PLT_PCREL34 and its _NOTOC load the doubleword
+ *   of `.plt` themselves: `plt_entry` is its address, and no stub is needed. R_PPC64_PLTSEQ and
+ *   R_PPC64_PLTCALL, and their _NOTOC, mark the other instructions of such a call, and the `ld
+ *   2,24(1)` is in the object.
+ * - `bl __tls_get_addr` has R_PPC64_TLSGD or R_PPC64_TLSLD and then R_PPC64_REL24 or
+ *   R_PPC64_REL24_NOTOC at the same offset. After a rewrite of the former the latter is skipped. */
 
 /* ---- Which rewrite.
  *

@@ -232,6 +232,42 @@ impl Architecture {
         }
     }
 
+    /// Whether the relocation with a code asks for a GOT entry, as
+    /// `RelocationKindInfo::asks_for_got` says. False of a code without a row.
+    ///
+    /// ```
+    /// use linker_utils::elf::Architecture;
+    ///
+    /// // R_X86_64_GOTPCREL, and R_X86_64_GOTPC32, which only counts from the GOT's address
+    /// assert!(Architecture::X86_64.asks_for_got(9));
+    /// assert!(!Architecture::X86_64.asks_for_got(26));
+    /// ```
+    #[must_use]
+    pub fn asks_for_got(self, code: u32) -> bool {
+        match self.row(code) {
+            Some(row) => row.asks_for_got(),
+            None => false,
+        }
+    }
+
+    /// Whether an entry of the PLT may serve as the target of the relocation with a code, as
+    /// `RelocationKindInfo::may_use_plt` says. False of a code without a row.
+    ///
+    /// ```
+    /// use linker_utils::elf::Architecture;
+    ///
+    /// // R_AARCH64_CALL26, and R_AARCH64_ABS64
+    /// assert!(Architecture::AArch64.may_use_plt(283));
+    /// assert!(!Architecture::AArch64.may_use_plt(257));
+    /// ```
+    #[must_use]
+    pub fn may_use_plt(self, code: u32) -> bool {
+        match self.row(code) {
+            Some(row) => row.may_use_plt(),
+            None => false,
+        }
+    }
+
     /// What a relocation of a ULEB128 number does; `None` for all others.
     #[must_use]
     pub fn uleb128_role(self, code: u32) -> Option<Uleb128Role> {

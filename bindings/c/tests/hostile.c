@@ -563,7 +563,8 @@ static void call_next_modifier(void) {
 static void call_relocation(void) {
     uint16_t machine = any_machine();
     struct linker_utils_relocation_info *info = output(sizeof *info);
-    uint32_t status = CALL(relocation, machine, any_relocation_type(), info);
+    uint32_t r_type = any_relocation_type();
+    uint32_t status = CALL(relocation, machine, r_type, info);
     if (status == LINKER_UTILS_OK) {
         expect(info->kind <= LINKER_UTILS_KIND_TLS_DESC_CALL && info->is_bits <= 1 &&
                    info->has_range <= 1 && info->thunkable <= 1 && info->implicit_addend <= 1 &&
@@ -571,6 +572,11 @@ static void call_relocation(void) {
                "no relocation's numbers");
     }
     finish_with(status, 0 NO_RELOCATION);
+    bool asks = CALL(asks_for_got, machine, r_type);
+    finish(true);
+    bool may = CALL(may_use_plt, machine, r_type);
+    expect(status == LINKER_UTILS_OK ? !(asks && may) : !asks && !may, "a wrong entry");
+    finish(true);
 }
 
 static void call_relocation_name(void) {

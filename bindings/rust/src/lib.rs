@@ -556,6 +556,16 @@ pub fn read_uleb128(content: &mut &[u8]) -> Result<u64, Status> {
     Ok(value)
 }
 
+/// Whether a relocation asks for a GOT entry.
+pub fn asks_for_got(architecture: Architecture, r_type: u32) -> bool {
+    unsafe { raw::linker_utils_asks_for_got(architecture.machine(), r_type) }
+}
+
+/// Whether a PLT entry may serve as a relocation's target.
+pub fn may_use_plt(architecture: Architecture, r_type: u32) -> bool {
+    unsafe { raw::linker_utils_may_use_plt(architecture.machine(), r_type) }
+}
+
 /// What a relocation does with a ULEB128 number; `None` for all others.
 pub fn uleb128_role(architecture: Architecture, r_type: u32) -> Option<Uleb128Role> {
     let number = unsafe { raw::linker_utils_uleb128_role(architecture.machine(), r_type) };

@@ -6,15 +6,8 @@ use std::collections::BTreeMap;
 use std::fs;
 use std::path::Path;
 
-/// The relocations that have a name, and of which `relocation` knows no meaning.
-const WITHOUT_MEANING: [&str; 3] = [
-    "R_LARCH_TLS_LD_PCREL20_S2",
-    "R_LARCH_TLS_GD_PCREL20_S2",
-    "R_LARCH_TLS_DESC_PCREL20_S2",
-];
-
-/// The names by types: `r.R_.. = with_row 283 (codes "R_..") ..` of a list of specifications, or
-/// `without_row`, and perhaps broken after the equals sign.
+/// The names by types: `r.R_.. = with_row 283 (codes "R_..") ..` of a list of specifications, perhaps
+/// broken after the equals sign.
 fn listed(file: &str) -> BTreeMap<u32, String> {
     let folder = Path::new(env!("CARGO_MANIFEST_DIR")).join("../../crates/linker_elf/specs");
     let specs = fs::read_to_string(folder.join(file)).expect("the list is there");
@@ -48,7 +41,6 @@ fn each_listed_relocation_is_found() {
         (Architecture::Ppc64, "Ppc64Relocations.antt"),
         (Architecture::X86_64, "X86Relocations.antt"),
     ];
-    let mut without_meaning = Vec::new();
     for (architecture, file) in lists {
         let list = listed(file);
         for r_type in 0..1 << 16 {
@@ -70,16 +62,9 @@ fn each_listed_relocation_is_found() {
                 continue;
             };
             assert_eq!(name.as_ref(), Ok(listed), "{architecture:?} {r_type}");
-            match meaning {
-                Ok(_) => {}
-                Err(status) => {
-                    assert_eq!(status, Status::UnknownRelocation, "{listed}");
-                    without_meaning.push(listed.clone());
-                }
-            }
+            assert!(meaning.is_ok(), "{listed}");
         }
     }
-    assert_eq!(without_meaning, WITHOUT_MEANING);
 }
 
 #[test]

@@ -2,6 +2,7 @@ pub mod AArch64Forms
 pub mod Agreement
 pub mod Bounds
 pub mod Clearing
+pub mod Entries
 pub mod Halves
 pub mod LoongArch
 pub mod LoongArchAddresses

@@ -1,6 +1,6 @@
 -- Each entry of a table of rows is the row of its name, with what a write of it tests and with its
 -- numbers: by computation, name by name.
-use Rattle.std.proofs.Common.{◌≡◌, refl, subst, sym, slice_index_or, ap, Option, Some, None, IfSome}
+use Rattle.std.proofs.Common.{◌≡◌, refl, subst, sym, slice_index_or, ap, Option, Some, None, IfSome, Bool, true, false, if◌then◌else◌}
 use denote.Enum.Declared.{tag_of}
 use Rattle.linker_elf.specs.Agrees.{RowFits}
 use Rattle.linker_elf.specs.Inner.RowTables.{raw_info_in, IsEntryOf, IsSound}
@@ -16,7 +16,7 @@ use Rattle.linker_elf.specs.contracts.riscv64.relocations.RiscVRelocation as ris
 use Rattle.linker_elf.specs.declared.riscv64.relocations.TheConstants as riscv64_table
 use Rattle.linker_elf.specs.declared.riscv64.relocations.RiscVRelocation.{RiscVRelocation}
 use Rattle.linker_elf.specs.declared.riscv64.relocations.RiscVRelocation.TheVariants.{R_RISCV_NONE}
-use Rattle.linker_elf.specs.LoongArchRelocations.{loongarch_row}
+use Rattle.linker_elf.specs.LoongArchRelocations.{loongarch_row, loongarch_raw_row}
 use Rattle.linker_elf.specs.contracts.loongarch64.relocations.LoongArch64Relocation as loongarch64
 use Rattle.linker_elf.specs.declared.loongarch64.relocations.TheConstants as loongarch64_table
 use Rattle.linker_elf.specs.declared.loongarch64.relocations.LoongArch64Relocation.{LoongArch64Relocation}
@@ -52,6 +52,12 @@ pub loongarch_rows : (name : LoongArch64Relocation)
 loongarch_rows R_LARCH_NONE = record { row_is = refl; entry_is = refl }
 loongarch_rows name = record { row_is = refl; entry_is = refl }
 
+pub loongarch_raw_rows : (name : LoongArch64Relocation)
+    → raw_info_in (slice_index_or loongarch64_table.ROWS.now (tag_of loongarch64.the_type name) None)
+    ≡ loongarch_raw_row name
+loongarch_raw_rows R_LARCH_NONE = refl
+loongarch_raw_rows name = refl
+
 pub ppc64_rows : (name : Ppc64Relocation)
     → IsEntryOf (ppc64_row name) (slice_index_or ppc64_table.ROWS.now (tag_of ppc64.the_type name) None)
 ppc64_rows R_PPC64_NONE = record { row_is = refl; entry_is = refl }
@@ -81,3 +87,9 @@ sound_from row (Some entry) is fits =
       is = ap (some_or entry) is.entry_is;
       fits = subst (λ r. IfSome r RowFits) (sym is.row_is) fits;
     }
+
+-- what holds of a row holds of it where some rows are left out
+pub unless : (P : RelocationKindInfo → Type 0) (is : Bool) (row : Option RelocationKindInfo)
+    → IfSome row P → IfSome (if is then None else row) P
+unless P true row holds = tt
+unless P false row holds = holds

@@ -34,6 +34,9 @@ use Rattle.linker_elf.specs.declared.riscv64.forms.RiscVInstruction.TheVariants.
 use Rattle.linker_elf.specs.declared.loongarch64.relocations.LoongArch64Relocation.{LoongArch64Relocation}
 use Rattle.linker_elf.specs.declared.loongarch64.relocations.LoongArch64Relocation.TheVariants.{R_LARCH_PCREL20_S2}
 use Rattle.linker_elf.specs.declared.loongarch64.relocations.LoongArch64Relocation.TheVariants.{R_LARCH_B16}
+use Rattle.linker_elf.specs.declared.loongarch64.relocations.LoongArch64Relocation.TheVariants.{R_LARCH_TLS_LD_PCREL20_S2}
+use Rattle.linker_elf.specs.declared.loongarch64.relocations.LoongArch64Relocation.TheVariants.{R_LARCH_TLS_GD_PCREL20_S2}
+use Rattle.linker_elf.specs.declared.loongarch64.relocations.LoongArch64Relocation.TheVariants.{R_LARCH_TLS_DESC_PCREL20_S2}
 
 -- the bits of v from bit s up; of a negative v, those of its two's complement
 abbrev pub bits_from : ℕ → ℤ → ℤ
@@ -87,6 +90,9 @@ is_of_halves f = false
 -- relocations of 20 and of 12 bits name a part of a value, which the immediate holds as it stands.
 abbrev pub reads_signed : LoongArch64Relocation → Bool
 reads_signed R_LARCH_PCREL20_S2 = true
+reads_signed R_LARCH_TLS_LD_PCREL20_S2 = true
+reads_signed R_LARCH_TLS_GD_PCREL20_S2 = true
+reads_signed R_LARCH_TLS_DESC_PCREL20_S2 = true
 reads_signed R_LARCH_B16 = true
 reads_signed name = false
 

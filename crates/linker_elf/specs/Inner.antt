@@ -1,3 +1,4 @@
+pub mod Entries
 pub mod FormLaws
 pub mod Immediates
 pub mod Masks

@@ -4,6 +4,7 @@ pub mod Agrees
 pub mod Bounds
 pub mod Elf
 pub mod ElfNames
+pub mod Entries
 pub mod Inner
 pub mod LoongArch
 pub mod LoongArchRelocations

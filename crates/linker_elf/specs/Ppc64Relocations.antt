@@ -7,7 +7,7 @@ use Rattle.linker_elf.specs.declared.elf.RelocationKind.{RelocationKind}
 use Rattle.linker_elf.specs.declared.elf.RelocationKind.TheVariants.{Absolute, DtpOff}
 use Rattle.linker_elf.specs.declared.elf.RelocationKind.TheVariants.{GotRelative, GotTpOffGotBase}
 use Rattle.linker_elf.specs.declared.elf.RelocationKind.TheVariants.{GotRelGotBase, GotTpOff}
-use Rattle.linker_elf.specs.declared.elf.RelocationKind.TheVariants.{PltRelGotBase, TlsGd, TlsLd}
+use Rattle.linker_elf.specs.declared.elf.RelocationKind.TheVariants.{PltRelGotBase, PltRelative, TlsGd, TlsLd}
 use Rattle.linker_elf.specs.declared.elf.RelocationKind.TheVariants.{None as NoValue, Relative}
 use Rattle.linker_elf.specs.declared.elf.RelocationKind.TheVariants.{SymRelGotBase, TlsGdGotBase}
 use Rattle.linker_elf.specs.declared.elf.RelocationKind.TheVariants.{TlsLdGotBase, TpOff}
@@ -139,9 +139,20 @@ ppc64_relocation r.R_PPC64_PLTCALL_NOTOC =
     with_row 122 (codes "R_PPC64_PLTCALL_NOTOC") (bytes_row NoValue 0)
 ppc64_relocation r.R_PPC64_PCREL_OPT =
     with_row 123 (codes "R_PPC64_PCREL_OPT") (bytes_row NoValue 0)
+ppc64_relocation r.R_PPC64_D34 = with_row 128 (codes "R_PPC64_D34") (prefixed_row Absolute)
+ppc64_relocation r.R_PPC64_D34_LO =
+    with_row 129 (codes "R_PPC64_D34_LO") (bits_row Absolute 0 34 (Ppc64 Prefixed))
+ppc64_relocation r.R_PPC64_D34_HI30 =
+    with_row 130 (codes "R_PPC64_D34_HI30") (bits_row Absolute 34 64 (Ppc64 Prefixed))
+ppc64_relocation r.R_PPC64_D34_HA30 =
+    with_row 131 (codes "R_PPC64_D34_HA30") (biased_row 0x200000000 (bits_row Absolute 34 64 (Ppc64 Prefixed)))
 ppc64_relocation r.R_PPC64_PCREL34 = with_row 132 (codes "R_PPC64_PCREL34") (prefixed_row Relative)
 ppc64_relocation r.R_PPC64_GOT_PCREL34 =
     with_row 133 (codes "R_PPC64_GOT_PCREL34") (prefixed_row GotRelative)
+ppc64_relocation r.R_PPC64_PLT_PCREL34 =
+    with_row 134 (codes "R_PPC64_PLT_PCREL34") (prefixed_row PltRelative)
+ppc64_relocation r.R_PPC64_PLT_PCREL34_NOTOC =
+    with_row 135 (codes "R_PPC64_PLT_PCREL34_NOTOC") (prefixed_row PltRelative)
 ppc64_relocation r.R_PPC64_TPREL34 = with_row 146 (codes "R_PPC64_TPREL34") (prefixed_row TpOff)
 ppc64_relocation r.R_PPC64_DTPREL34 = with_row 147 (codes "R_PPC64_DTPREL34") (prefixed_row DtpOff)
 ppc64_relocation r.R_PPC64_GOT_TLSGD_PCREL34 =
@@ -173,6 +184,12 @@ is_own r.R_PPC64_PLTSEQ = true
 is_own r.R_PPC64_PLTCALL = true
 is_own r.R_PPC64_PLTSEQ_NOTOC = true
 is_own r.R_PPC64_PLTCALL_NOTOC = true
+is_own r.R_PPC64_D34 = true
+is_own r.R_PPC64_D34_LO = true
+is_own r.R_PPC64_D34_HI30 = true
+is_own r.R_PPC64_D34_HA30 = true
+is_own r.R_PPC64_PLT_PCREL34 = true
+is_own r.R_PPC64_PLT_PCREL34_NOTOC = true
 is_own r.R_PPC64_TPREL34 = true
 is_own r.R_PPC64_DTPREL34 = true
 is_own r.R_PPC64_GOT_TLSGD_PCREL34 = true

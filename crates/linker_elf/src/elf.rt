@@ -2,6 +2,7 @@
 //! of forms and of rewrites.
 
 pub(crate) mod engine;
+mod entries;
 mod numbers;
 mod reach;
 mod relocate;

@@ -1,7 +1,7 @@
 //! What the codes and numbers of an ELF file's architecture name: relocations by `r_type`, and
 //! forms and rewrites by their places in their enums.
 
-ghost use Rattle.std.specs.Prelude.{◌≡◌, ◌≤◌, ◌↔◌, IsTrue, Some, IfSome, IfNone, length};
+ghost use Rattle.std.specs.Prelude.{◌≡◌, ◌≤◌, ◌↔◌, IsTrue, Option, Some, IfSome, IfNone, length};
 ghost use Rattle.linker_base.specs.Rewrite.{CanRewrite};
 ghost use Rattle.linker_utils.specs.Architectures.{IsRow, IsElfName, IsRole, form_of_number};
 ghost use Rattle.linker_utils.specs.Architectures.{rewrite_of_number, relaxation_rewrite};
@@ -9,6 +9,8 @@ ghost use Rattle.linker_utils.specs.Architectures.{relaxation_modifier, relaxati
 ghost use Rattle.linker_utils.specs.Architectures.{relaxation_architecture, relaxation_deleted};
 ghost use Rattle.linker_utils.specs.Architectures.{IsArchitectureChoice};
 ghost use Rattle.linker_elf.specs.ElfNames.{named, unnamed};
+ghost use Rattle.linker_elf.specs.Entries.{IsAnswerOf, IsGotAnswer, IsPltAnswer};
+ghost use Rattle.linker_elf.specs.declared.elf.RelocationKindInfo.{RelocationKindInfo};
 
 use crate::aarch64::{self, AArch64Relocation};
 use crate::elf::{
@@ -250,6 +252,46 @@ impl Architecture {
                 X86_64Relocation::Other(_) => None,
                 name => Some(name.name()),
             },
+        }
+    }
+
+    /// Whether the relocation with a code asks for a GOT entry, as
+    /// `RelocationKindInfo::asks_for_got` says. False of a code without a row.
+    ///
+    /// ```
+    /// use linker_utils::elf::Architecture;
+    ///
+    /// // R_X86_64_GOTPCREL, and R_X86_64_GOTPC32, which only counts from the GOT's address
+    /// assert!(Architecture::X86_64.asks_for_got(9));
+    /// assert!(!Architecture::X86_64.asks_for_got(26));
+    /// ```
+    pub fn asks_for_got(self, code: u32) -> bool
+        ensures { (meaning : Option RelocationKindInfo) × IsRow self code meaning
+            × IsAnswerOf IsGotAnswer meaning result }
+    {
+        match self.row(code) {
+            Some(row) => row.asks_for_got(),
+            None => false,
+        }
+    }
+
+    /// Whether an entry of the PLT may serve as the target of the relocation with a code, as
+    /// `RelocationKindInfo::may_use_plt` says. False of a code without a row.
+    ///
+    /// ```
+    /// use linker_utils::elf::Architecture;
+    ///
+    /// // R_AARCH64_CALL26, and R_AARCH64_ABS64
+    /// assert!(Architecture::AArch64.may_use_plt(283));
+    /// assert!(!Architecture::AArch64.may_use_plt(257));
+    /// ```
+    pub fn may_use_plt(self, code: u32) -> bool
+        ensures { (meaning : Option RelocationKindInfo) × IsRow self code meaning
+            × IsAnswerOf IsPltAnswer meaning result }
+    {
+        match self.row(code) {
+            Some(row) => row.may_use_plt(),
+            None => false,
         }
     }
 

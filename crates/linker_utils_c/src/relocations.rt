@@ -1,6 +1,7 @@
 //! What relocations mean, and their names, by `e_machine` and `r_type` of ELF files.
 
-ghost use Rattle.std.specs.Prelude.{◌≡◌, ◌≢◌, ◌≤◌, Option, IfSome, IfNone, length};
+ghost use Rattle.std.specs.Prelude.{◌≡◌, ◌≢◌, ◌≤◌, Option, IfSome, IfNone, length, false};
+ghost use Rattle.linker_elf.specs.Entries.{IsAnswerOf, IsGotAnswer, IsPltAnswer};
 ghost use Rattle.linker_elf.specs.declared.elf.RelocationKindInfo.{RelocationKindInfo};
 ghost use Rattle.linker_utils.specs.Architectures.{IsRow, IsElfName};
 ghost use Rattle.linker_utils.specs.Machines.{architecture_of};
@@ -45,6 +46,36 @@ pub extern "C" fn linker_utils_clui_rel_info(info: &mut RelocationNumbers)
     ensures { InNumbers clui_row info.new }
 {
     *info = *riscv64::clui_row().numbers();
+}
+
+/// Whether the relocation with `r_type` asks for a GOT entry in files with `e_machine` `machine`. False
+/// where either is unknown.
+#[unsafe(no_mangle)]
+pub extern "C" fn linker_utils_asks_for_got(machine: u16, r_type: u32) -> bool
+    ensures known { IfSome (architecture_of machine)
+        (λ architecture. (meaning : Option RelocationKindInfo)
+        × IsRow architecture r_type meaning × IsAnswerOf IsGotAnswer meaning result) }
+    ensures unknown { IfNone (architecture_of machine) (result ≡ false) }
+{
+    match Architecture::from_machine(machine) {
+        Some(architecture) => architecture.asks_for_got(r_type),
+        None => false,
+    }
+}
+
+/// Whether an entry of the PLT may serve as the target of the relocation with `r_type` in files with
+/// `e_machine` `machine`. False where either is unknown.
+#[unsafe(no_mangle)]
+pub extern "C" fn linker_utils_may_use_plt(machine: u16, r_type: u32) -> bool
+    ensures known { IfSome (architecture_of machine)
+        (λ architecture. (meaning : Option RelocationKindInfo)
+        × IsRow architecture r_type meaning × IsAnswerOf IsPltAnswer meaning result) }
+    ensures unknown { IfNone (architecture_of machine) (result ≡ false) }
+{
+    match Architecture::from_machine(machine) {
+        Some(architecture) => architecture.may_use_plt(r_type),
+        None => false,
+    }
 }
 
 /// Writes the ELF name of a relocation, as "R_AARCH64_CALL26", to the beginning of `name`, without

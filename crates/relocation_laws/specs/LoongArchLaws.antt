@@ -148,6 +148,9 @@ Branches =
     × Branch names.R_LARCH_B21 Branch21 symbol_address
     × Branch names.R_LARCH_B26 Branch26 plt_address
     × Branch names.R_LARCH_PCREL20_S2 Shift5 symbol_address
+    × Branch names.R_LARCH_TLS_LD_PCREL20_S2 Shift5 entry_and_addend
+    × Branch names.R_LARCH_TLS_GD_PCREL20_S2 Shift5 entry_and_addend
+    × Branch names.R_LARCH_TLS_DESC_PCREL20_S2 Shift5 entry_and_addend
 
 abbrev pub Calls : Type 0
 Calls = Adds (row_here names.R_LARCH_CALL36) place reach 1 plt_address

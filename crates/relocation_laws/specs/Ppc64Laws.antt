@@ -104,6 +104,9 @@ Prefixes =
     × Single names.R_PPC64_GOT_TLSGD_PCREL34 place Prefixed entry_address
     × Single names.R_PPC64_GOT_TLSLD_PCREL34 place Prefixed entry_address
     × Single names.R_PPC64_GOT_TPREL_PCREL34 place Prefixed entry_address
+    × Single names.R_PPC64_D34 zero Prefixed symbol_address
+    × Single names.R_PPC64_PLT_PCREL34 place Prefixed plt_address
+    × Single names.R_PPC64_PLT_PCREL34_NOTOC place Prefixed plt_address
     × Single names.R_PPC64_TPREL34 tls_base Prefixed symbol_address
     × Single names.R_PPC64_DTPREL34 tls_base Prefixed symbol_address
 

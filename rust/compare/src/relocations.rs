@@ -29,6 +29,24 @@ pub fn linker_utils_clui_rel_info(info: &mut RelocationNumbers) {
     *info = *riscv64::clui_row().numbers();
 }
 
+/// Whether the relocation with `r_type` asks for a GOT entry in files with `e_machine` `machine`. False
+/// where either is unknown.
+pub fn linker_utils_asks_for_got(machine: u16, r_type: u32) -> bool {
+    match Architecture::from_machine(machine) {
+        Some(architecture) => architecture.asks_for_got(r_type),
+        None => false,
+    }
+}
+
+/// Whether an entry of the PLT may serve as the target of the relocation with `r_type` in files with
+/// `e_machine` `machine`. False where either is unknown.
+pub fn linker_utils_may_use_plt(machine: u16, r_type: u32) -> bool {
+    match Architecture::from_machine(machine) {
+        Some(architecture) => architecture.may_use_plt(r_type),
+        None => false,
+    }
+}
+
 /// Writes the ELF name of a relocation, as "R_AARCH64_CALL26", to the beginning of `name`, without
 /// a NUL after it, and its length to `name_used`. No name is longer than 64 bytes.
 /// `UnknownArchitecture`; `UnknownRelocation` of a code without a name; `TooShort` where `name` has

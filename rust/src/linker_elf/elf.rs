@@ -3,6 +3,7 @@
 //! of forms and of rewrites.
 
 pub(crate) mod engine;
+mod entries;
 mod numbers;
 mod reach;
 mod relocate;

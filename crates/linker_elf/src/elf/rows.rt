@@ -2,6 +2,7 @@
 
 ghost use Rattle.std.specs.Prelude.{◌≡◌, ◌^◌, ◌<◌, ◌↔◌, IfErr, IfSome, IsTrue, OnOk};
 ghost use Rattle.linker_elf.specs.Agrees.{RowFits};
+ghost use Rattle.linker_elf.specs.Entries.{IsGotAnswer, IsPltAnswer};
 ghost use Rattle.linker_elf.specs.Relocate.{Reaches, IsInReach};
 ghost use Rattle.linker_elf.specs.Numbers.{numbers_of};
 ghost use Rattle.linker_elf.specs.Reach.{reach_of};
@@ -202,6 +203,23 @@ impl Row {
             Some(value) => self.info().is_in_reach(&self.entry.tests, value),
             None => false,
         }
+    }
+
+    /// Whether the relocation asks for a GOT entry, as `RelocationKindInfo::asks_for_got` says.
+    #[inline(always)]
+    pub fn asks_for_got(&self) -> bool
+        ensures { IsGotAnswer self.now result }
+    {
+        self.info().asks_for_got()
+    }
+
+    /// Whether an entry of the PLT may serve as the relocation's target, as
+    /// `RelocationKindInfo::may_use_plt` says.
+    #[inline(always)]
+    pub fn may_use_plt(&self) -> bool
+        ensures { IsPltAnswer self.now result }
+    {
+        self.info().may_use_plt()
     }
 
     /// Writes a value, as `RelocationKindInfo::write` says, with its errors.

@@ -7,10 +7,12 @@ ghost use Rattle.linker_elf.specs.ElfNames.{IsNameOf, code_of, text_of};
 ghost use Rattle.linker_elf.specs.Readings.{LoongArchRowReadsNoOther};
 ghost use Rattle.linker_elf.specs.LoongArchRelocations.{loongarch_relocation, loongarch_name};
 ghost use Rattle.linker_elf.specs.LoongArchRelocations.{loongarch_row, loongarch_uleb128_role};
+ghost use Rattle.linker_elf.specs.LoongArchRelocations.{loongarch_raw_row};
 ghost use Rattle.linker_elf.specs.contracts.loongarch64.relocations.LoongArch64Relocation as names;
 
 use crate::elf::rows::{
-    TableRow, code_of_name, index_of_name, info_in, name_of_code, row, row_in, table, text_of_name,
+    TableRow, code_of_name, index_of_name, name_of_code, raw_info_in, row, row_in, table,
+    text_of_name,
 };
 use crate::elf::{RelocationKindInfo, Row, SIZE_2KB, Uleb128Role};
 use std::fmt;
@@ -206,9 +208,15 @@ macro_rules! relocations {
                     Some(row!(TpOff, (12..32 LoongArch64::Shift5), any, bias: SIZE_2KB)),
                 122 R_LARCH_TLS_LE_ADD_R => Some(row!(None, (0 bytes), any)),
                 123 R_LARCH_TLS_LE_LO12_R => Some(row!(TpOff, (0..12 LoongArch64::Shift10), any)),
-                124 R_LARCH_TLS_LD_PCREL20_S2 => None,
-                125 R_LARCH_TLS_GD_PCREL20_S2 => None,
-                126 R_LARCH_TLS_DESC_PCREL20_S2 => None,
+                124 R_LARCH_TLS_LD_PCREL20_S2 =>
+                    Some(row!(TlsGd, (2..22 LoongArch64::Shift5), signed 22,
+                        alignment: 4, origin: own)),
+                125 R_LARCH_TLS_GD_PCREL20_S2 =>
+                    Some(row!(TlsGd, (2..22 LoongArch64::Shift5), signed 22,
+                        alignment: 4, origin: own)),
+                126 R_LARCH_TLS_DESC_PCREL20_S2 =>
+                    Some(row!(TlsDesc, (2..22 LoongArch64::Shift5), signed 22,
+                        alignment: 4, origin: own)),
                 127 R_LARCH_CALL30 => Some(row!(Relative, (2..19 LoongArch64::Call30), any)),
                 128 R_LARCH_PCADD_HI20 =>
                     Some(row!(Relative, (12..32 LoongArch64::Shift5), any, bias: SIZE_2KB)),
@@ -273,7 +281,7 @@ fn index(name: LoongArch64Relocation) -> usize
 }
 
 /// What a relocation means. It takes a name; `LoongArch64Relocation::from_elf` gives the name of a
-/// code. Returns `None` for `Other`, and for the three `TLS_*_PCREL20_S2`, which are not supported.
+/// code. Returns `None` for `Other`.
 ///
 /// # Ranges of pairs
 ///
@@ -290,14 +298,16 @@ pub fn row(name: LoongArch64Relocation) -> Option<Row>
     row_in(&ROWS[index(name)])
 }
 
-/// What a relocation means, as `row` says.
+/// What a relocation means, as `row` says, or `None` for those that the crate `linker-utils` has no
+/// row for: the GOT entries for TLS by `pcaddi`, `R_LARCH_TLS_LD_PCREL20_S2`,
+/// `R_LARCH_TLS_GD_PCREL20_S2` and `R_LARCH_TLS_DESC_PCREL20_S2`.
 #[inline(always)]
 pub fn relocation_type_from_raw(name: LoongArch64Relocation) -> Option<RelocationKindInfo>
-    ensures row { result ≡ loongarch_row name }
+    ensures row { result ≡ loongarch_raw_row name }
     // not of pairs: `reaches` of `write_to_value` says what `Call36` holds
     ensures agrees { IfSome result (LoongArchRowAgrees name) }
     ensures others { IfSome result (LoongArchRowReadsNoOther name) }
     ensures fits { IfSome result RowFits }
 {
-    info_in(row(name))
+    raw_info_in(&ROWS[index(name)])
 }

@@ -78,8 +78,14 @@ pub enum Ppc64Relocation {
     R_PPC64_PLTSEQ_NOTOC,
     R_PPC64_PLTCALL_NOTOC,
     R_PPC64_PCREL_OPT,
+    R_PPC64_D34,
+    R_PPC64_D34_LO,
+    R_PPC64_D34_HI30,
+    R_PPC64_D34_HA30,
     R_PPC64_PCREL34,
     R_PPC64_GOT_PCREL34,
+    R_PPC64_PLT_PCREL34,
+    R_PPC64_PLT_PCREL34_NOTOC,
     R_PPC64_TPREL34,
     R_PPC64_DTPREL34,
     R_PPC64_GOT_TLSGD_PCREL34,
@@ -108,10 +114,12 @@ macro_rules! relocations {
                 11 R_PPC64_REL14 =>
                     Some(row!(Relative, (0..16 Ppc64::Branch14), signed 16, alignment: 4)),
                 17 R_PPC64_GOT16_HA =>
-                    Some(row!(GotRelGotBase, (16..32 Ppc64::D), any reach signed 32, bias: 0x8000, origin: own)),
+                    Some(row!(GotRelGotBase, (16..32 Ppc64::D), any reach signed 32,
+                        bias: 0x8000, origin: own)),
                 26 R_PPC64_REL32 => Some(row!(Relative, (4 bytes), signed 32)),
                 31 R_PPC64_PLT16_HA =>
-                    Some(row!(PltRelGotBase, (16..32 Ppc64::D), any reach signed 32, bias: 0x8000, origin: own)),
+                    Some(row!(PltRelGotBase, (16..32 Ppc64::D), any reach signed 32,
+                        bias: 0x8000, origin: own)),
                 38 R_PPC64_ADDR64 => Some(row!(Absolute, (8 bytes), any)),
                 44 R_PPC64_REL64 => Some(row!(Relative, (8 bytes), any)),
                 47 R_PPC64_TOC16 => Some(row!(SymRelGotBase, (0..16 Ppc64::D), signed 16)),
@@ -184,11 +192,26 @@ macro_rules! relocations {
                 123 R_PPC64_PCREL_OPT => Some(row!(None, (0 bytes), any)),
             }
             {
+                128 R_PPC64_D34 =>
+                    Some(row!(Absolute, (0..34 Ppc64::Prefixed), signed 34, origin: own)),
+                129 R_PPC64_D34_LO =>
+                    Some(row!(Absolute, (0..34 Ppc64::Prefixed), any, origin: own)),
+                130 R_PPC64_D34_HI30 =>
+                    Some(row!(Absolute, (34..64 Ppc64::Prefixed), any, origin: own)),
+                131 R_PPC64_D34_HA30 =>
+                    Some(row!(Absolute, (34..64 Ppc64::Prefixed), any,
+                        bias: 0x200000000, origin: own)),
                 132 R_PPC64_PCREL34 => Some(row!(Relative, (0..34 Ppc64::Prefixed), signed 34)),
                 133 R_PPC64_GOT_PCREL34 =>
                     Some(row!(GotRelative, (0..34 Ppc64::Prefixed), signed 34)),
-                146 R_PPC64_TPREL34 => Some(row!(TpOff, (0..34 Ppc64::Prefixed), signed 34, origin: own)),
-                147 R_PPC64_DTPREL34 => Some(row!(DtpOff, (0..34 Ppc64::Prefixed), signed 34, origin: own)),
+                134 R_PPC64_PLT_PCREL34 =>
+                    Some(row!(PltRelative, (0..34 Ppc64::Prefixed), signed 34, origin: own)),
+                135 R_PPC64_PLT_PCREL34_NOTOC =>
+                    Some(row!(PltRelative, (0..34 Ppc64::Prefixed), signed 34, origin: own)),
+                146 R_PPC64_TPREL34 =>
+                    Some(row!(TpOff, (0..34 Ppc64::Prefixed), signed 34, origin: own)),
+                147 R_PPC64_DTPREL34 =>
+                    Some(row!(DtpOff, (0..34 Ppc64::Prefixed), signed 34, origin: own)),
                 148 R_PPC64_GOT_TLSGD_PCREL34 =>
                     Some(row!(TlsGd, (0..34 Ppc64::Prefixed), signed 34, origin: own)),
                 149 R_PPC64_GOT_TLSLD_PCREL34 =>
@@ -251,15 +274,20 @@ fn index(name: Ppc64Relocation) -> usize
 /// Returns `None` for `Other`. The adjusted high halves (`_HA`) have a bias of 0x8000. Checked
 /// halves have a range of 16 signed bits.
 ///
-/// The PLT entry of `R_PPC64_PLT16_HA` and `R_PPC64_PLT16_LO_DS` is the doubleword of `.plt` that
-/// holds the function's address. `R_PPC64_ENTRY`, `R_PPC64_PLTSEQ`, `R_PPC64_PLTCALL`, their `_NOTOC`
-/// and `R_PPC64_PCREL_OPT` mark instructions and have no value.
+/// The PLT entry of `R_PPC64_PLT16_HA`, `R_PPC64_PLT16_LO_DS`, `R_PPC64_PLT_PCREL34` and its
+/// `_NOTOC` is the doubleword of `.plt` that holds the function's address. `R_PPC64_ENTRY`,
+/// `R_PPC64_PLTSEQ`, `R_PPC64_PLTCALL`, their `_NOTOC` and `R_PPC64_PCREL_OPT` mark instructions and
+/// have no value.
 ///
 /// # Ranges of pairs
 ///
 /// The halves `_HA`, `_HI` and `_LO`, as `R_PPC64_TOC16_HA` and `R_PPC64_REL16_HA`, allow every
 /// value. A `_HA` half with its signed low half is the value itself only from -2^31 - 0x8000 to
 /// 2^31 - 0x8001. Elsewhere it is the value modulo 2^32.
+///
+/// `R_PPC64_D34_HA30` and `R_PPC64_D34_LO`, and `R_PPC64_D34_HI30` with an unsigned low part, are the
+/// parts of a value of 64 bits. The 30 bits of a high part are written to an immediate of 34 bits, of
+/// which the upper 4 become 0.
 #[inline(always)]
 pub fn row(name: Ppc64Relocation) -> Option<Row>
     ensures row { result ≡ ppc64_row name }
@@ -272,8 +300,9 @@ pub fn row(name: Ppc64Relocation) -> Option<Row>
 /// What a relocation means, as `row` says, or `None` for those that PowerPC64 compilers write and the
 /// crate `linker-utils` has no name for: the GOT and PLT entries by two halves (`R_PPC64_GOT16_HA`,
 /// `R_PPC64_PLT16_HA` and their `_LO_DS`), `R_PPC64_ENTRY`, the marks of calls through the PLT
-/// (`R_PPC64_PLTSEQ`, `R_PPC64_PLTCALL` and their `_NOTOC`), and TLS by prefixed instructions
-/// (`R_PPC64_TPREL34` and those after it).
+/// (`R_PPC64_PLTSEQ`, `R_PPC64_PLTCALL` and their `_NOTOC`), and prefixed instructions with an
+/// address or a part of one (`R_PPC64_D34` and its like), a PLT entry (`R_PPC64_PLT_PCREL34` and its
+/// `_NOTOC`) or TLS (`R_PPC64_TPREL34` and those after it).
 #[inline(always)]
 pub fn relocation_type_from_raw(name: Ppc64Relocation) -> Option<RelocationKindInfo>
     ensures row { result ≡ ppc64_raw_row name }

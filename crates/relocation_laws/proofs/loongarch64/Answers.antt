@@ -16,6 +16,7 @@ use Rattle.relocation_laws.proofs.Differences.{adds_distance, adds_distance_6}
 use Rattle.relocation_laws.proofs.Halves.{relative_rounds, unrounded}
 use Rattle.relocation_laws.proofs.Fields.{holds_distance}
 use Rattle.relocation_laws.proofs.Instructions.{adds, symbol_from_place, plt_from_place}
+use Rattle.relocation_laws.proofs.Instructions.{entry_and_addend_from_place}
 use Rattle.relocation_laws.proofs.Instructions.{symbol_itself, symbol_from_tls, symbol_small}
 use Rattle.relocation_laws.proofs.Instructions.{entry_and_addend_small, entry_and_addend_itself}
 use Rattle.relocation_laws.proofs.Instructions.{tls_small, place_small, zero_small, relative}
@@ -90,6 +91,9 @@ returns-clause-branches c = (
   adds symbol_from_place refl refl (λ o. refl),
   adds plt_from_place refl refl (λ o. refl),
   adds symbol_from_place refl refl (λ o. refl),
+  adds entry_and_addend_from_place refl refl (λ o. refl),
+  adds entry_and_addend_from_place refl refl (λ o. refl),
+  adds entry_and_addend_from_place refl refl (λ o. refl),
 )
 
 pub returns-clause-calls : goal.returns-clause-calls

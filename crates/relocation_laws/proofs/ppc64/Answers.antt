@@ -10,6 +10,7 @@ use Rattle.relocation_laws.proofs.Fields.{holds_distance}
 use Rattle.relocation_laws.proofs.Instructions.{adds, symbol_from_place, symbol_from_got}
 use Rattle.relocation_laws.proofs.Instructions.{symbol_from_tls, symbol_itself, entry_from_place}
 use Rattle.relocation_laws.proofs.Instructions.{entry_from_got, entry_sum, place_small, got_small, plt_from_got}
+use Rattle.relocation_laws.proofs.Instructions.{plt_from_place}
 use Rattle.relocation_laws.proofs.Instructions.{tls_small, same_distance, relative, entry_is}
 use Rattle.relocation_laws.proofs.Halves.{adjusted_halves, high_half, unadjusted_halves, d_reads}
 use Rattle.relocation_laws.proofs.Halves.{ds_reads}
@@ -107,6 +108,9 @@ returns-clause-prefixed c = (
   adds entry_from_place refl refl (λ o. refl),
   adds entry_from_place refl refl (λ o. refl),
   adds entry_from_place refl refl (λ o. refl),
+  adds symbol_itself refl refl (λ o. refl),
+  adds plt_from_place refl refl (λ o. refl),
+  adds plt_from_place refl refl (λ o. refl),
   adds symbol_from_tls refl refl (λ o. refl),
   adds symbol_from_tls refl refl (λ o. refl),
 )

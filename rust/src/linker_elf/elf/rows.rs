@@ -163,6 +163,21 @@ impl Row {
         }
     }
 
+    /// Whether the relocation asks for a GOT entry, as `RelocationKindInfo::asks_for_got` says.
+    #[must_use]
+    #[inline(always)]
+    pub fn asks_for_got(&self) -> bool {
+        self.info().asks_for_got()
+    }
+
+    /// Whether an entry of the PLT may serve as the relocation's target, as
+    /// `RelocationKindInfo::may_use_plt` says.
+    #[must_use]
+    #[inline(always)]
+    pub fn may_use_plt(&self) -> bool {
+        self.info().may_use_plt()
+    }
+
     /// Writes a value, as `RelocationKindInfo::write` says, with its errors.
     #[inline(always)]
     pub fn write(&self, value: i64, dest: &mut [u8]) -> Result<(), RelocateError> {

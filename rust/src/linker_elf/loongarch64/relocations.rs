@@ -2,7 +2,8 @@
 //! What the relocations of LoongArch mean.
 
 use crate::linker_elf::elf::rows::{
-    TableRow, code_of_name, index_of_name, info_in, name_of_code, row, row_in, table, text_of_name,
+    TableRow, code_of_name, index_of_name, name_of_code, raw_info_in, row, row_in, table,
+    text_of_name,
 };
 use crate::linker_elf::elf::{RelocationKindInfo, Row, SIZE_2KB, Uleb128Role};
 use core::fmt;
@@ -199,9 +200,15 @@ macro_rules! relocations {
                     Some(row!(TpOff, (12..32 LoongArch64::Shift5), any, bias: SIZE_2KB)),
                 122 R_LARCH_TLS_LE_ADD_R => Some(row!(None, (0 bytes), any)),
                 123 R_LARCH_TLS_LE_LO12_R => Some(row!(TpOff, (0..12 LoongArch64::Shift10), any)),
-                124 R_LARCH_TLS_LD_PCREL20_S2 => None,
-                125 R_LARCH_TLS_GD_PCREL20_S2 => None,
-                126 R_LARCH_TLS_DESC_PCREL20_S2 => None,
+                124 R_LARCH_TLS_LD_PCREL20_S2 =>
+                    Some(row!(TlsGd, (2..22 LoongArch64::Shift5), signed 22,
+                        alignment: 4, origin: own)),
+                125 R_LARCH_TLS_GD_PCREL20_S2 =>
+                    Some(row!(TlsGd, (2..22 LoongArch64::Shift5), signed 22,
+                        alignment: 4, origin: own)),
+                126 R_LARCH_TLS_DESC_PCREL20_S2 =>
+                    Some(row!(TlsDesc, (2..22 LoongArch64::Shift5), signed 22,
+                        alignment: 4, origin: own)),
                 127 R_LARCH_CALL30 => Some(row!(Relative, (2..19 LoongArch64::Call30), any)),
                 128 R_LARCH_PCADD_HI20 =>
                     Some(row!(Relative, (12..32 LoongArch64::Shift5), any, bias: SIZE_2KB)),
@@ -260,7 +267,7 @@ const fn index(name: LoongArch64Relocation) -> usize {
 }
 
 /// What a relocation means. It takes a name; `LoongArch64Relocation::from_elf` gives the name of a
-/// code. Returns `None` for `Other`, and for the three `TLS_*_PCREL20_S2`, which are not supported.
+/// code. Returns `None` for `Other`.
 ///
 /// # Ranges of pairs
 ///
@@ -273,9 +280,11 @@ pub const fn row(name: LoongArch64Relocation) -> Option<Row> {
     row_in(&ROWS[index(name)])
 }
 
-/// What a relocation means, as `row` says.
+/// What a relocation means, as `row` says, or `None` for those that the crate `linker-utils` has no
+/// row for: the GOT entries for TLS by `pcaddi`, `R_LARCH_TLS_LD_PCREL20_S2`,
+/// `R_LARCH_TLS_GD_PCREL20_S2` and `R_LARCH_TLS_DESC_PCREL20_S2`.
 #[must_use]
 #[inline(always)]
 pub const fn relocation_type_from_raw(name: LoongArch64Relocation) -> Option<RelocationKindInfo> {
-    info_in(row(name))
+    raw_info_in(&ROWS[index(name)])
 }

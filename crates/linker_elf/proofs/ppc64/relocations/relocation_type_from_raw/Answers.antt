@@ -1,19 +1,12 @@
-use Rattle.std.proofs.Common.{◌∙◌, subst, sym, Bool, true, false, Option, None, IfSome, if◌then◌else◌}
+use Rattle.std.proofs.Common.{◌∙◌, subst, sym, IfSome}
 use Rattle.linker_elf.specs.Agrees.{RowAgrees}
 use Rattle.linker_elf.specs.Readings.{RowReadsNoOther}
 use Rattle.linker_elf.specs.Ppc64Relocations.{is_own}
-use Rattle.linker_elf.specs.declared.elf.RelocationKindInfo.{RelocationKindInfo}
 use Rattle.linker_elf.proofs.Readings.{ppc64_reads_no_other}
 use Rattle.linker_elf.proofs.RowsAgree.{ppc64_rows as ppc64_agree}
-use Rattle.linker_elf.proofs.RowTables.{sound_from, ppc64_rows, ppc64_raw_rows}
+use Rattle.linker_elf.proofs.RowTables.{sound_from, unless, ppc64_rows, ppc64_raw_rows}
 use Rattle.linker_elf.proofs.RowsFit.{ppc64_fits}
 use Rattle.linker_elf.proofs.ppc64.relocations.relocation_type_from_raw.Goals as goal
-
--- what holds of a row holds of it where there is none as well
-unless : (P : RelocationKindInfo → Type 0) (is : Bool) (row : Option RelocationKindInfo)
-    → IfSome row P → IfSome (if is then None else row) P
-unless P true row holds = tt
-unless P false row holds = holds
 
 pub raw_info_in-requires : goal.raw_info_in-requires
 raw_info_in-requires c = rw c.index.ensures (sound_from _ _ (ppc64_rows c.args.name) (ppc64_fits c.args.name))

@@ -1,0 +1,126 @@
+-- For which relocations a linker makes an entry: those that ask for a GOT entry, and those that a
+-- PLT entry may serve (the sections on relocations of the psABIs, as `Value` names them).
+use Rattle.std.specs.Prelude.{◌≡◌, ◌≢◌, ◌⊎◌, ℕ, ◌-◌, Bool, true, false, nat_lt, Option, Some, None}
+use Rattle.linker_base.specs.declared.bit_misc.BitRange.{BitRange}
+use Rattle.linker_elf.specs.Value.{value_of}
+use Rattle.linker_elf.specs.declared.aarch64.forms.AArch64Instruction.{AArch64Instruction}
+use Rattle.linker_elf.specs.declared.aarch64.forms.AArch64Instruction.TheVariants.{TstBr, Bcond}
+use Rattle.linker_elf.specs.declared.aarch64.forms.AArch64Instruction.TheVariants.{JumpCall}
+use Rattle.linker_elf.specs.declared.loongarch64.forms.LoongArch64Instruction.{LoongArch64Instruction}
+use Rattle.linker_elf.specs.declared.loongarch64.forms.LoongArch64Instruction.TheVariants.{Shift10}
+use Rattle.linker_elf.specs.declared.loongarch64.forms.LoongArch64Instruction.TheVariants.{Branch26}
+use Rattle.linker_elf.specs.declared.loongarch64.forms.LoongArch64Instruction.TheVariants.{Branch21}
+use Rattle.linker_elf.specs.declared.loongarch64.forms.LoongArch64Instruction.TheVariants.{Call30}
+use Rattle.linker_elf.specs.declared.loongarch64.forms.LoongArch64Instruction.TheVariants.{Call36}
+use Rattle.linker_elf.specs.declared.ppc64.forms.Ppc64Instruction.{Ppc64Instruction}
+use Rattle.linker_elf.specs.declared.ppc64.forms.Ppc64Instruction.TheVariants.{Branch14, Branch24}
+use Rattle.linker_elf.specs.declared.elf.RelocationInstruction.{RelocationInstruction}
+use Rattle.linker_elf.specs.declared.elf.RelocationInstruction.TheVariants.{RiscV, Ppc64}
+use Rattle.linker_elf.specs.declared.elf.RelocationInstruction.TheVariants.{LoongArch64, AArch64}
+use Rattle.linker_elf.specs.declared.elf.RelocationKindInfo.{RelocationKindInfo}
+use Rattle.linker_elf.specs.declared.elf.RelocationSize.{RelocationSize}
+use Rattle.linker_elf.specs.declared.elf.RelocationSize.TheVariants.{ByteSize, BitMasking}
+use Rattle.linker_elf.specs.declared.elf.value.Operands.{Operands}
+use Rattle.linker_elf.specs.declared.riscv64.forms.RiscVInstruction.{RiscVInstruction}
+use Rattle.linker_elf.specs.declared.riscv64.forms.RiscVInstruction.TheVariants.{BType, JType}
+use Rattle.linker_elf.specs.declared.riscv64.forms.RiscVInstruction.TheVariants.{CbType, CjType}
+use Rattle.linker_elf.specs.declared.riscv64.forms.RiscVInstruction.TheVariants.{IType, SType}
+use Rattle.linker_elf.specs.declared.riscv64.forms.RiscVInstruction.TheVariants.{UiType}
+
+-- ---- what a value depends on
+
+-- operands with another GOT entry, or another PLT entry
+abbrev pub with_got_entry : ℕ → Operands → Operands
+with_got_entry address o = record o { got_entry = address }
+
+abbrev pub with_plt_entry : ℕ → Operands → Operands
+with_plt_entry address o = record o { plt_entry = address }
+
+-- The value is the same wherever the entry is.
+abbrev pub Ignores : (ℕ → Operands → Operands) → RelocationKindInfo → Type 0
+Ignores put row =
+    (o : Operands) (address : ℕ) → value_of row (put address o) ≡ value_of row o
+
+-- Whatever the operands are, some other entry gives another value.
+abbrev pub DependsOn : (ℕ → Operands → Operands) → RelocationKindInfo → Type 0
+DependsOn put row =
+    (o : Operands) → (address : ℕ) × (value_of row (put address o) ≢ value_of row o)
+
+-- ---- GOT entries
+
+-- RISC-V's low parts: their symbol labels a high part, whose value they take, so that it is the high
+-- part that asks for an entry
+abbrev pub is_of_high_part : RelocationSize → Bool
+is_of_high_part (BitMasking bits (RiscV IType)) = true
+is_of_high_part (BitMasking bits (RiscV SType)) = true
+is_of_high_part size = false
+
+abbrev pub AsksForGot : RelocationKindInfo → Type 0
+AsksForGot row = (is_of_high_part row.size ≡ false) × DependsOn with_got_entry row
+
+abbrev pub AsksForNoGot : RelocationKindInfo → Type 0
+AsksForNoGot row = (is_of_high_part row.size ≡ true) ⊎ Ignores with_got_entry row
+
+-- ---- PLT entries
+
+-- Branches go to the address that their value leads to, and do nothing else with it: so it may be
+-- that of an entry that goes on to the symbol.
+abbrev pub is_aarch64_branch : AArch64Instruction → Bool
+is_aarch64_branch TstBr = true
+is_aarch64_branch Bcond = true
+is_aarch64_branch JumpCall = true
+is_aarch64_branch f = false
+
+abbrev pub is_riscv_branch : RiscVInstruction → Bool
+is_riscv_branch BType = true
+is_riscv_branch JType = true
+is_riscv_branch CbType = true
+is_riscv_branch CjType = true
+is_riscv_branch UiType = true
+is_riscv_branch f = false
+
+abbrev pub is_ppc64_branch : Ppc64Instruction → Bool
+is_ppc64_branch Branch14 = true
+is_ppc64_branch Branch24 = true
+is_ppc64_branch f = false
+
+-- Among instructions of the form `Shift10` those with an immediate of 16 bits are branches.
+abbrev pub is_loongarch_branch : LoongArch64Instruction → BitRange → Bool
+is_loongarch_branch Shift10 bits = nat_lt 12 (bits.end - bits.start)
+is_loongarch_branch Branch21 bits = true
+is_loongarch_branch Branch26 bits = true
+is_loongarch_branch Call30 bits = true
+is_loongarch_branch Call36 bits = true
+is_loongarch_branch f bits = false
+
+abbrev pub is_branch_insn : RelocationInstruction → BitRange → Bool
+is_branch_insn (AArch64 f) bits = is_aarch64_branch f
+is_branch_insn (RiscV f) bits = is_riscv_branch f
+is_branch_insn (Ppc64 f) bits = is_ppc64_branch f
+is_branch_insn (LoongArch64 f) bits = is_loongarch_branch f bits
+
+abbrev pub is_branch : RelocationSize → Bool
+is_branch (ByteSize n) = false
+is_branch (BitMasking bits insn) = is_branch_insn insn bits
+
+abbrev pub MayUsePlt : RelocationKindInfo → Type 0
+MayUsePlt row = (is_branch row.size ≡ true) ⊎ DependsOn with_plt_entry row
+
+abbrev pub MayUseNoPlt : RelocationKindInfo → Type 0
+MayUseNoPlt row = (is_branch row.size ≡ false) × Ignores with_plt_entry row
+
+-- ---- what the tests answer
+
+abbrev pub IsGotAnswer : RelocationKindInfo → Bool → Type 0
+IsGotAnswer row true = AsksForGot row
+IsGotAnswer row false = AsksForNoGot row
+
+abbrev pub IsPltAnswer : RelocationKindInfo → Bool → Type 0
+IsPltAnswer row true = MayUsePlt row
+IsPltAnswer row false = MayUseNoPlt row
+
+-- of a name, which may have no row
+abbrev pub IsAnswerOf : (RelocationKindInfo → Bool → Type 0) → Option RelocationKindInfo → Bool
+    → Type 0
+IsAnswerOf Is None answer = answer ≡ false
+IsAnswerOf Is (Some row) answer = Is row answer

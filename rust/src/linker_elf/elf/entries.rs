@@ -1,0 +1,118 @@
+// Made by tools/erase of crates/linker_elf/src/elf/entries.rt.
+//! For which relocations a linker makes an entry of the GOT or of the PLT.
+
+use crate::linker_elf::elf::{
+    AArch64Instruction, LoongArch64Instruction, Ppc64Instruction, RelocationInstruction,
+    RelocationKind, RelocationKindInfo, RelocationSize, RiscVInstruction,
+};
+
+/// Whether the formula names the address of a GOT entry.
+#[inline(always)]
+fn names_got_entry(kind: RelocationKind) -> bool {
+    matches!(
+        kind,
+        RelocationKind::GotRelative
+            | RelocationKind::GotRelativeLoongArch64
+            | RelocationKind::GotRelGotBase
+            | RelocationKind::Got
+            | RelocationKind::TlsGd
+            | RelocationKind::TlsGdGot
+            | RelocationKind::TlsGdGotBase
+            | RelocationKind::TlsLd
+            | RelocationKind::TlsLdGot
+            | RelocationKind::TlsLdGotBase
+            | RelocationKind::GotTpOff
+            | RelocationKind::GotTpOffGot
+            | RelocationKind::GotTpOffGotBase
+            | RelocationKind::GotTpOffLoongArch64
+            | RelocationKind::TlsDesc
+            | RelocationKind::TlsDescGot
+            | RelocationKind::TlsDescGotBase
+            | RelocationKind::TlsDescLoongArch64
+    )
+}
+
+/// Whether the formula names the address of a PLT entry.
+#[inline(always)]
+fn names_plt_entry(kind: RelocationKind) -> bool {
+    matches!(
+        kind,
+        RelocationKind::PltRelGotBase | RelocationKind::PltRelative
+    )
+}
+
+/// Whether the symbol labels a high part, whose value is taken.
+#[inline(always)]
+fn is_of_high_part(size: RelocationSize) -> bool {
+    matches!(
+        size,
+        RelocationSize::BitMasking {
+            insn: RelocationInstruction::RiscV(RiscVInstruction::IType | RiscVInstruction::SType),
+            ..
+        }
+    )
+}
+
+/// Whether the value goes into a branch.
+#[inline(always)]
+fn is_branch(size: RelocationSize) -> bool {
+    match size {
+        RelocationSize::ByteSize(_) => false,
+        RelocationSize::BitMasking { range, insn } => match insn {
+            RelocationInstruction::AArch64(form) => matches!(
+                form,
+                AArch64Instruction::TstBr | AArch64Instruction::Bcond | AArch64Instruction::JumpCall
+            ),
+            RelocationInstruction::RiscV(form) => matches!(
+                form,
+                RiscVInstruction::BType
+                    | RiscVInstruction::JType
+                    | RiscVInstruction::CbType
+                    | RiscVInstruction::CjType
+                    | RiscVInstruction::UiType
+            ),
+            RelocationInstruction::Ppc64(form) => {
+                matches!(
+                    form,
+                    Ppc64Instruction::Branch14 | Ppc64Instruction::Branch24
+                )
+            }
+            RelocationInstruction::LoongArch64(form) => match form {
+                LoongArch64Instruction::Shift5 => false,
+                // other instructions of this form have an immediate of 12 bits
+                LoongArch64Instruction::Shift10 => range.end.saturating_sub(range.start) > 12,
+                LoongArch64Instruction::Branch26
+                | LoongArch64Instruction::Branch21
+                | LoongArch64Instruction::Call30
+                | LoongArch64Instruction::Call36 => true,
+            },
+        },
+    }
+}
+
+impl RelocationKindInfo {
+    /// Whether the relocation asks for a GOT entry: the symbol's, or its entries for
+    /// general-dynamic, local-dynamic and initial-exec TLS, or its TLS descriptor. It does where
+    /// its value depends on the entry's address.
+    ///
+    /// It doesn't where the value depends only on the GOT's address, as that of
+    /// `R_X86_64_GOTOFF64` and `R_PPC64_TOC16`, nor where its symbol labels the high part of a
+    /// RISC-V pair, as that of `R_RISCV_TLSDESC_LOAD_LO12`: the high part asks.
+    #[must_use]
+    pub fn asks_for_got(&self) -> bool {
+        !is_of_high_part(self.size) && names_got_entry(self.kind)
+    }
+
+    /// Whether an entry of the PLT may serve as the relocation's target: its value depends on the
+    /// PLT entry's address, or it is that of a branch, conditional or not, which does nothing with
+    /// the address but go there. Where the formula of a branch has no L, the entry's address is
+    /// passed as S.
+    ///
+    /// Compilers write calls of functions that may be elsewhere only with some of these: not with
+    /// `R_RISCV_JAL` and RISC-V's conditional branches, of which the psABI says nothing.
+    /// `R_X86_64_PC32` is none of them, since a load may have it too.
+    #[must_use]
+    pub fn may_use_plt(&self) -> bool {
+        is_branch(self.size) || names_plt_entry(self.kind)
+    }
+}
