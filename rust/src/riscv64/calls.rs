@@ -102,18 +102,27 @@ pub enum LinkRegister {
 }
 
 impl LinkRegister {
-    /// How many bytes of a call say which register it is.
+    /// How many bytes of a call say which register it is: 4 for `OfAuipc`, 8 for `OfJalr`.
+    #[must_use]
     #[inline(always)]
-    pub(crate) fn call_len(self) -> u64 {
+    pub fn call_len(self) -> u64 {
         match self {
             LinkRegister::OfAuipc => 4,
             LinkRegister::OfJalr => 8,
         }
     }
 
-    /// The register, where a call at a site of a section names it.
+    /// The register, where a call at a site of a section names it: any `auipc` does, a `jalr` only
+    /// where its base is the register of an `auipc` before it. Requires `call_len` bytes at the site.
+    ///
+    /// # Requires
+    ///
+    /// - `(site as u128) + (self.call_len() as u128) <= (section.len() as u128)`
+    #[must_use]
+    #[cfg_attr(debug_assertions, track_caller)]
     #[inline(always)]
-    pub(crate) fn named_at(self, section: &[u8], site: u64) -> Option<u32> {
+    pub fn named_at(self, section: &[u8], site: u64) -> Option<u32> {
+        debug_assert!((site as u128) + (self.call_len() as u128) <= (section.len() as u128));
         let start = site as usize;
         let auipc = u32_from_slice(&section[start..]);
         match self {

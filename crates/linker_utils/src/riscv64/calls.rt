@@ -128,9 +128,9 @@ pub enum LinkRegister {
 }
 
 impl LinkRegister {
-    /// How many bytes of a call say which register it is.
+    /// How many bytes of a call say which register it is: 4 for `OfAuipc`, 8 for `OfJalr`.
     #[inline(always)]
-    pub(crate) fn call_len(self) -> u64
+    pub fn call_len(self) -> u64
         ensures { result ≡ call_len self }
     {
         match self {
@@ -139,9 +139,10 @@ impl LinkRegister {
         }
     }
 
-    /// The register, where a call at a site of a section names it.
+    /// The register, where a call at a site of a section names it: any `auipc` does, a `jalr` only
+    /// where its base is the register of an `auipc` before it. Requires `call_len` bytes at the site.
     #[inline(always)]
-    pub(crate) fn named_at(self, section: &[u8], site: u64) -> Option<u32>
+    pub fn named_at(self, section: &[u8], site: u64) -> Option<u32>
         requires { site + call_len self ≤ length section.now }
         ensures none { IsNone result ↔ ¬ NamesRegister self section.now site }
         ensures some { IfSome result

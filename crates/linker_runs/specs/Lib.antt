@@ -1,0 +1,3 @@
+pub mod Relocations
+pub mod RiscVItems
+pub mod LoongArchItems

@@ -1,0 +1,104 @@
+-- The items that LoongArch's relocations make (LoongArch ELF psABI, "Relocations", `R_LARCH_ALIGN`,
+-- `R_LARCH_RELAX`, and linker relaxation).
+use Rattle.std.specs.Prelude.{◌≡◌, ℕ, ◌+◌, ◌/◌, ◌^◌, ◌<◌, ◌≤◌, ◌⊎◌, List, length, pos}
+use Rattle.std.specs.Prelude.{Option, None, Some, Bool, ◌==◌, if◌then◌else◌, IsTrue}
+use Rattle.std.specs.Int.{is_power_of_two}
+use Rattle.linker_base.specs.Bits.{field}
+use Rattle.linker_elf.specs.ElfNames.{code_of}
+use Rattle.linker_elf.specs.LoongArchRelocations.{loongarch_name}
+use Rattle.linker_elf.specs.declared.loongarch64.relocations.LoongArch64Relocation.{LoongArch64Relocation}
+use Rattle.linker_elf.specs.declared.loongarch64.relocations.LoongArch64Relocation.TheVariants as r
+use Rattle.linker_utils.specs.LoongArchOriginals.{IsAddi, IsCall, IsPair}
+use Rattle.linker_relax.specs.declared.shapes.loongarch64.TheConstants.{CALL36, PCALA}
+use Rattle.linker_relax.specs.declared.relaxation.Site.{Site as site}
+use Rattle.linker_relax.specs.declared.relaxation.Alignment.{Alignment}
+use Rattle.linker_relax.specs.declared.relaxation.Item.{Item}
+use Rattle.linker_relax.specs.declared.relaxation.Item.TheVariants.{Site, Aligned}
+use Rattle.linker_runs.specs.declared.items.Relocation.{Relocation}
+use Rattle.linker_runs.specs.Relocations.{relocation_at, IsMarked}
+
+-- the relocation has the name
+abbrev pub HasLoongArchName : LoongArch64Relocation → Relocation → Type 0
+HasLoongArchName name relocation = relocation.code ≡ code_of (loongarch_name name)
+
+-- ---- alignments
+
+-- What an `R_LARCH_ALIGN` aligns to. With a symbol the lowest 8 bits of its addend are the exponent
+-- of two; without one the addend is how many bytes the nops have, and all but one instruction of
+-- what is aligned to may be skipped.
+abbrev pub stated_power : Bool → ℕ → ℕ
+stated_power has_symbol addend = if has_symbol then 2 ^ field addend 0 8 else addend + 4
+
+-- How many bytes may be skipped at most: with a symbol the other bits, where 0 is no limit.
+abbrev pub stated_most : Bool → ℕ → Option ℕ
+stated_most has_symbol addend =
+    if has_symbol then (if addend / 2 ^ 8 == 0 then None else Some (addend / 2 ^ 8)) else None
+
+-- The nops of an `R_LARCH_ALIGN` are one instruction fewer than a power of two, and lie in the section.
+pub record AreLoongArchNops (section : List ℕ) (relocation : Relocation) (addend nops : ℕ)
+    : Type 0 where
+  pub addend_is : relocation.addend ≡ pos addend
+  pub power : IsTrue (is_power_of_two (nops + 4))
+  pub stated : nops + 4 ≡ stated_power relocation.has_symbol addend
+  pub inside : relocation.offset + nops ≤ length section
+  pub small : nops < 2 ^ 32
+
+pub record IsLoongArchAlignment (section : List ℕ) (base : ℕ) (relocation : Relocation)
+    (alignment : Alignment) : Type 0 where
+  pub name : HasLoongArchName r.R_LARCH_ALIGN relocation
+  pub addend : ℕ
+  pub place : alignment.offset ≡ base + relocation.offset
+  pub some : 0 < alignment.nops
+  pub nops : AreLoongArchNops section relocation addend alignment.nops
+  pub power : alignment.power ≡ alignment.nops + 4
+  pub most : alignment.most ≡ stated_most relocation.has_symbol addend
+
+-- ---- sites
+
+-- an instruction with the relocation may be relaxed
+abbrev pub IsRelaxable : LoongArch64Relocation → List Relocation → ℕ → Type 0
+IsRelaxable name relocations i = HasLoongArchName name (relocation_at relocations i)
+    × IsMarked (code_of (loongarch_name r.R_LARCH_RELAX)) relocations i
+
+-- `pcaddu18i`, and a `jirl` from its register that links `ra` or none
+pub record IsCall36 (section : List ℕ) (relocations : List Relocation) (i : ℕ) : Type 0 where
+  pub relaxable : IsRelaxable r.R_LARCH_CALL36 relocations i
+  pub call : IsCall 1 section (relocation_at relocations i).offset
+      ⊎ IsCall 0 section (relocation_at relocations i).offset
+
+-- `pcalau12i` and `addi.d` of one register, next to each other and for one target, whose relocations
+-- are next to each other too
+pub record IsPcala (section : List ℕ) (relocations : List Relocation) (i : ℕ) : Type 0 where
+  pub high : IsRelaxable r.R_LARCH_PCALA_HI20 relocations i
+  pub low : IsRelaxable r.R_LARCH_PCALA_LO12 relocations (i + 2)
+  pub next : (relocation_at relocations (i + 2)).offset ≡ (relocation_at relocations i).offset + 4
+  pub same_target : (relocation_at relocations (i + 2)).target ≡ (relocation_at relocations i).target
+  pub pair : IsPair IsAddi section (relocation_at relocations i).offset
+
+-- the site of eight bytes at a relocation
+pub record IsSiteOf (base : ℕ) (relocation : Relocation) (here : site) : Type 0 where
+  pub place : here.offset ≡ base + relocation.offset
+  pub len : here.len ≡ 8
+  pub target : relocation.target ≡ Some here.target
+
+abbrev pub IsLoongArchSite : List ℕ → ℕ → List Relocation → ℕ → site → Type 0
+IsLoongArchSite section base relocations i here = IsSiteOf base (relocation_at relocations i) here
+    × ((IsCall36 section relocations i × (here.shapes ≡ CALL36))
+    ⊎ (IsPcala section relocations i × (here.shapes ≡ PCALA)))
+
+-- ---- what a relocation makes
+
+-- the item that the relocation at an index makes, where the section begins at an input offset
+abbrev pub LoongArchMakes : List ℕ → ℕ → List Relocation → ℕ → Item → Type 0
+LoongArchMakes section base relocations i (Site here) =
+    IsLoongArchSite section base relocations i here
+LoongArchMakes section base relocations i (Aligned alignment) =
+    IsLoongArchAlignment section base (relocation_at relocations i) alignment
+
+-- A relocation is in the section, the eight bytes of a call are, and an `R_LARCH_ALIGN` has nops.
+pub record IsLoongArchFormed (section : List ℕ) (relocation : Relocation) : Type 0 where
+  pub inside : relocation.offset ≤ length section
+  pub call : HasLoongArchName r.R_LARCH_CALL36 relocation
+      → relocation.offset + 8 ≤ length section
+  pub alignment : HasLoongArchName r.R_LARCH_ALIGN relocation
+      → (addend : ℕ) × (nops : ℕ) × AreLoongArchNops section relocation addend nops

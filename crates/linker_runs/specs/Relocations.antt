@@ -1,0 +1,49 @@
+-- The items that the relocations of a section make.
+use Rattle.std.specs.Prelude.{◌≡◌, ℕ, zero, suc, ◌+◌, ◌<◌, List, [], ◌∷◌, ◌++◌, length}
+use Rattle.std.specs.Prelude.{pos, false, None, slice_index_or, ⊤}
+use Rattle.linker_relax.specs.declared.relaxation.Item.{Item}
+use Rattle.linker_runs.specs.declared.items.Relocation.{Relocation}
+use Rattle.linker_runs.specs.declared.items.ItemsError.{ItemsError}
+use Rattle.linker_runs.specs.declared.items.ItemsError.TheVariants.{OutOfMemory, Malformed}
+
+-- what stands at an index outside of a list of relocations
+abbrev pub no_relocation : Relocation
+no_relocation = record { offset = 0; code = 0; has_symbol = false; addend = pos 0; target = None }
+
+abbrev pub relocation_at : List Relocation → ℕ → Relocation
+relocation_at relocations i = slice_index_or relocations i no_relocation
+
+-- The relocation behind the one at an index has a code, and is at the same place: so a linker may
+-- relax what is there, if the code is that of the psABI's relocation for this.
+pub record IsMarked (code : ℕ) (relocations : List Relocation) (i : ℕ) : Type 0 where
+  pub follows : i + 1 < length relocations
+  pub code_is : (relocation_at relocations (i + 1)).code ≡ code
+  pub same_place :
+      (relocation_at relocations (i + 1)).offset ≡ (relocation_at relocations i).offset
+
+-- The items that the relocations below an index make, in their order: each at most one, which
+-- `Makes` says.
+pub data AreMade (Makes : ℕ → Item → Type 0) : ℕ → List Item → Type 0 where
+  none : AreMade Makes zero []
+  left_out : {i : ℕ} {items : List Item} → AreMade Makes i items
+      → ((item : Item) → ¬ Makes i item) → AreMade Makes (suc i) items
+  made : {i : ℕ} {items : List Item} {item : Item} → AreMade Makes i items → Makes i item
+      → AreMade Makes (suc i) (items ++ item ∷ [])
+
+-- the relocations below an index are well formed
+abbrev pub AreWellFormed : (Relocation → Type 0) → List Relocation → ℕ → Type 0
+AreWellFormed IsWellFormed relocations n =
+    (k : ℕ) → k < n → IsWellFormed (relocation_at relocations k)
+
+-- the relocation at the index is the first that isn't
+pub record IsFirstMalformed (IsWellFormed : Relocation → Type 0) (relocations : List Relocation)
+    (at : ℕ) : Type 0 where
+  pub within : at < length relocations
+  pub before : AreWellFormed IsWellFormed relocations at
+  pub here : ¬ IsWellFormed (relocation_at relocations at)
+
+-- why no items are made
+abbrev pub IsItemsCause : (Relocation → Type 0) → List Relocation → ItemsError → Type 0
+IsItemsCause IsWellFormed relocations OutOfMemory = ⊤
+IsItemsCause IsWellFormed relocations (Malformed at) =
+    IsFirstMalformed IsWellFormed relocations at

@@ -1,0 +1,313 @@
+//! LoongArch: the items that relocations make.
+
+ghost use Rattle.std.specs.Prelude.{◌≡◌, ◌+◌, ◌≤◌, ◌<◌, ◌^◌, ◌↔◌, ◌⊎◌, ℕ, IsTrue, length, pos};
+ghost use Rattle.std.specs.Prelude.{IfOk, OnOk, OnErr, IfErr, IfSome, IfNone, MatchOption};
+ghost use Rattle.linker_elf.specs.ElfNames.{code_of};
+ghost use Rattle.linker_elf.specs.LoongArchRelocations.{loongarch_name};
+ghost use Rattle.linker_relax.specs.declared.relaxation.Item.{Item as items};
+ghost use Rattle.linker_relax.specs.declared.relaxation.Site.{Site as sites};
+ghost use Rattle.linker_relax.specs.declared.relaxation.Alignment.{Alignment as alignments};
+ghost use Rattle.linker_utils.specs.LoongArchOriginals.{IsAddi, IsCall, IsPair};
+ghost use Rattle.linker_runs.specs.Relocations.{relocation_at, AreMade, AreWellFormed};
+ghost use Rattle.linker_runs.specs.Relocations.{IsItemsCause};
+ghost use Rattle.linker_runs.specs.LoongArchItems.{HasLoongArchName, stated_power, stated_most};
+ghost use Rattle.linker_runs.specs.LoongArchItems.{AreLoongArchNops, IsLoongArchAlignment};
+ghost use Rattle.linker_runs.specs.LoongArchItems.{IsRelaxable, IsCall36, IsPcala};
+ghost use Rattle.linker_runs.specs.LoongArchItems.{IsLoongArchSite, LoongArchMakes, IsLoongArchFormed};
+
+use crate::items::{ItemsError, NotAllowed, Relocation, has_bytes, is_marked};
+use linker_relax::relaxation::{Alignment, Item, Shapes, Site};
+use linker_relax::shapes::loongarch64::{CALL36, PCALA};
+use linker_utils::loongarch64::{LoongArch64Relocation, RelaxationKind};
+use std::alloc::Global;
+
+/// Whether a relocation has a name.
+#[inline(always)]
+fn has_name(relocation: &Relocation, name: LoongArch64Relocation) -> bool
+    ensures { IsTrue result ↔ HasLoongArchName name relocation.now }
+{
+    relocation.code == name.elf_code()
+}
+
+/// What an addend aligns to. None where its exponent isn't below 64.
+#[inline]
+fn power_of(has_symbol: bool, addend: u64) -> Option<u64>
+    requires { addend < 2 ^ 63 }
+    ensures some { IfSome result (λ power. power ≡ stated_power has_symbol addend) }
+    ensures none { IfNone result (2 ^ 64 ≤ stated_power has_symbol addend) }
+{
+    if !has_symbol {
+        return Some(addend + 4);
+    }
+    let exponent = addend % 256;
+    if exponent < 64 {
+        Some(1 << exponent)
+    } else {
+        None
+    }
+}
+
+/// How many bytes may be skipped at most, by an addend.
+#[inline]
+fn most_of(has_symbol: bool, addend: u64) -> Option<u64>
+    ensures { result ≡ stated_most has_symbol addend }
+{
+    let most = addend / 256;
+    if has_symbol && most != 0 {
+        Some(most)
+    } else {
+        None
+    }
+}
+
+/// The nops of an `R_LARCH_ALIGN`, by its addend. None where they aren't what the psABI allows.
+#[inline]
+fn nops_of(section: &[u8], relocation: &Relocation, addend: u64) -> Option<u32>
+    requires addend { relocation.now.addend ≡ pos addend }
+    requires small { addend < 2 ^ 63 }
+    ensures some { IfSome result (AreLoongArchNops section.now relocation.now addend) }
+    ensures none { IfNone result
+        ((nops : ℕ) → ¬ AreLoongArchNops section.now relocation.now addend nops) }
+{
+    let power = power_of(relocation.has_symbol, addend)?;
+    if !power.is_power_of_two() || power < 4 || power - 4 > u64::from(u32::MAX) {
+        return None;
+    }
+    let nops = power - 4;
+    if has_bytes(section, relocation.offset, nops) {
+        Some(nops as u32)
+    } else {
+        None
+    }
+}
+
+/// The item of an `R_LARCH_ALIGN` that has nops.
+#[inline]
+fn alignment_at(
+    section: &[u8],
+    base: u64,
+    relocation: &Relocation,
+) -> Result<Option<Alignment>, NotAllowed>
+    requires base { base + length section.now < 2 ^ 64 }
+    requires name { HasLoongArchName LoongArch64Relocation.R_LARCH_ALIGN relocation.now }
+    ensures formed { OnOk result ((addend : ℕ) × (nops : ℕ)
+        × AreLoongArchNops section.now relocation.now addend nops) }
+    ensures alignment { IfOk result (λ made. MatchOption made
+        ((alignment : alignments) → ¬ IsLoongArchAlignment section.now base relocation.now alignment)
+        (IsLoongArchAlignment section.now base relocation.now)) }
+    ensures malformed { OnErr result ((addend nops : ℕ)
+        → ¬ AreLoongArchNops section.now relocation.now addend nops) }
+{
+    if relocation.addend < 0 {
+        return Err(NotAllowed);
+    }
+    let addend = relocation.addend as u64;
+    match nops_of(section, relocation, addend) {
+        None => Err(NotAllowed),
+        Some(0) => Ok(None),
+        Some(nops) => Ok(Some(Alignment {
+            offset: base + relocation.offset,
+            nops,
+            power: u64::from(nops) + 4,
+            most: most_of(relocation.has_symbol, addend),
+        })),
+    }
+}
+
+/// Whether the relocation at an index has a name, and the instruction may be relaxed.
+#[inline]
+fn is_relaxable(relocations: &[Relocation], index: usize, name: LoongArch64Relocation) -> bool
+    requires { index < length relocations.now }
+    ensures { IsTrue result ↔ IsRelaxable name relocations.now index }
+{
+    has_name(&relocations[index], name)
+        && is_marked(
+            relocations,
+            index,
+            LoongArch64Relocation::R_LARCH_RELAX.elf_code(),
+        )
+}
+
+/// Whether a call that can become `b` or `bl` is at a relocation.
+#[inline]
+fn is_call36(section: &[u8], relocations: &[Relocation], index: usize) -> bool
+    requires { index < length relocations.now }
+    ensures { IsTrue result ↔ IsCall36 section.now relocations.now index }
+{
+    let offset = relocations[index].offset;
+    is_relaxable(relocations, index, LoongArch64Relocation::R_LARCH_CALL36)
+        && (RelaxationKind::CallToBl.matches(section, offset)
+            || RelaxationKind::CallToB.matches(section, offset))
+}
+
+/// Whether `pcalau12i` and `addi.d` of one register are at an offset.
+#[inline]
+fn is_address_pair(section: &[u8], offset: u64) -> bool
+    ensures { IsTrue result ↔ IsPair IsAddi section.now offset }
+{
+    RelaxationKind::PcalaToPcaddi.matches(section, offset)
+        && RelaxationKind::AddiToLd.matches(section, offset + 4)
+}
+
+/// Whether the low part of an address is two relocations behind the high part.
+#[inline]
+fn has_low_part(relocations: &[Relocation], index: usize) -> bool
+    requires { index + 2 < length relocations.now }
+    ensures { IsTrue result ↔ (IsRelaxable LoongArch64Relocation.R_LARCH_PCALA_LO12 relocations.now
+        (index + 2)
+        × ((relocation_at relocations.now (index + 2)).offset
+        ≡ (relocation_at relocations.now index).offset + 4)
+        × ((relocation_at relocations.now (index + 2)).target
+        ≡ (relocation_at relocations.now index).target)) }
+{
+    let high = &relocations[index];
+    let low = &relocations[index + 2];
+    is_relaxable(
+        relocations,
+        index + 2,
+        LoongArch64Relocation::R_LARCH_PCALA_LO12,
+    ) && high.offset <= low.offset
+        && low.offset - high.offset == 4
+        && low.target == high.target
+}
+
+/// Whether a pair that can become `pcaddi` is at a relocation.
+#[inline]
+fn is_pcala(section: &[u8], relocations: &[Relocation], index: usize) -> bool
+    requires { index < length relocations.now }
+    ensures { IsTrue result ↔ IsPcala section.now relocations.now index }
+{
+    relocations.len() - index > 2
+        && is_relaxable(
+            relocations,
+            index,
+            LoongArch64Relocation::R_LARCH_PCALA_HI20,
+        )
+        && has_low_part(relocations, index)
+        && is_address_pair(section, relocations[index].offset)
+}
+
+/// What the instructions at a relocation can become.
+#[inline]
+fn shapes_at(section: &[u8], relocations: &[Relocation], index: usize) -> Option<Shapes>
+    requires { index < length relocations.now }
+    ensures some { IfSome result (λ shapes.
+        (IsCall36 section.now relocations.now index × (shapes ≡ CALL36))
+        ⊎ (IsPcala section.now relocations.now index × (shapes ≡ PCALA))) }
+    ensures none { IfNone result (¬ IsCall36 section.now relocations.now index
+        × ¬ IsPcala section.now relocations.now index) }
+{
+    if is_call36(section, relocations, index) {
+        Some(CALL36)
+    } else if is_pcala(section, relocations, index) {
+        Some(PCALA)
+    } else {
+        None
+    }
+}
+
+/// The item that a relocation other than `R_LARCH_ALIGN` makes, if it makes one.
+#[inline]
+fn site_at(section: &[u8], base: u64, relocations: &[Relocation], index: usize) -> Option<Site>
+    requires index { index < length relocations.now }
+    requires base { base + length section.now < 2 ^ 64 }
+    requires inside { (relocation_at relocations.now index).offset ≤ length section.now }
+    ensures { MatchOption result
+        ((here : sites) → ¬ IsLoongArchSite section.now base relocations.now index here)
+        (IsLoongArchSite section.now base relocations.now index) }
+{
+    let relocation = &relocations[index];
+    let shapes = shapes_at(section, relocations, index)?;
+    let target = relocation.target?;
+    Some(Site {
+        offset: base + relocation.offset,
+        len: 8,
+        target,
+        shapes,
+    })
+}
+
+/// The item that the relocation at an index makes, if it makes one.
+#[inline]
+fn item_at(
+    section: &[u8],
+    base: u64,
+    relocations: &[Relocation],
+    index: usize,
+) -> Result<Option<Item>, NotAllowed>
+    requires index { index < length relocations.now }
+    requires base { base + length section.now < 2 ^ 64 }
+    ensures formed { OnOk result
+        (IsLoongArchFormed section.now (relocation_at relocations.now index)) }
+    ensures item { IfOk result (λ made. MatchOption made ((item : items)
+        → ¬ LoongArchMakes section.now base relocations.now index item)
+        (LoongArchMakes section.now base relocations.now index)) }
+    ensures malformed { OnErr result
+        (¬ IsLoongArchFormed section.now (relocation_at relocations.now index)) }
+{
+    let relocation = &relocations[index];
+    if !has_bytes(section, relocation.offset, 0) {
+        return Err(NotAllowed);
+    }
+    if has_name(relocation, LoongArch64Relocation::R_LARCH_ALIGN) {
+        return match alignment_at(section, base, relocation)? {
+            Some(alignment) => Ok(Some(Item::Aligned(alignment))),
+            None => Ok(None),
+        };
+    }
+    if has_name(relocation, LoongArch64Relocation::R_LARCH_CALL36)
+        && !has_bytes(section, relocation.offset, 8)
+    {
+        return Err(NotAllowed);
+    }
+    match site_at(section, base, relocations, index) {
+        Some(site) => Ok(Some(Item::Site(site))),
+        None => Ok(None),
+    }
+}
+
+/// The items that the relocations of a section make, in the relocations' order. The section begins at
+/// the input offset `base` of the run. The other relocations make none.
+///
+/// Where `R_LARCH_RELAX` is the next relocation, at the same offset, and the target is in the run,
+/// `R_LARCH_CALL36` makes a `CALL36` if the bytes are `pcaddu18i` and `jirl` of one register and the
+/// `jirl` links `ra` or none. `R_LARCH_PCALA_HI20` makes a `PCALA` if behind its `R_LARCH_RELAX` are
+/// `R_LARCH_PCALA_LO12` of the next instruction, with the same target, and an `R_LARCH_RELAX` there,
+/// and the bytes are `pcalau12i` and `addi.d` of one register.
+///
+/// `R_LARCH_ALIGN` makes an alignment, if there are nops. Without a symbol its addend is how many bytes
+/// the nops have, and what they align to is 4 more. With a symbol the addend's lowest 8 bits are the
+/// exponent of two of what they align to, whose nops are 4 bytes fewer, and the other bits are the
+/// most bytes that may stay, or 0 for no limit (LoongArch ELF psABI, "Relocations").
+///
+/// `Malformed` names the first relocation that lies behind the section's end, that is an
+/// `R_LARCH_CALL36` and less than eight bytes are there, or that is an `R_LARCH_ALIGN` whose addend is
+/// below 0, whose power of two is none or below 4, or whose nops reach past the section's end or have
+/// 2^32 bytes or more. The vector grows as items are added. `are_items` tells whether the run can be
+/// relaxed.
+pub fn items(
+    alloc: Global,
+    section: &[u8],
+    base: u64,
+    relocations: &[Relocation],
+) -> Result<Vec<Item>, ItemsError>
+    requires { base + length section.now < 2 ^ 64 }
+    ensures made { IfOk result (λ made.
+        AreMade (LoongArchMakes section.now base relocations.now) (length relocations.now)
+        made.items) }
+    ensures formed { OnOk result (AreWellFormed (IsLoongArchFormed section.now)
+        relocations.now (length relocations.now)) }
+    ensures cause { IfErr result
+        (IsItemsCause (IsLoongArchFormed section.now) relocations.now) }
+{
+    let mut items = Vec::new(alloc);
+    for index in 0..relocations.len() {
+        let Ok(made) = item_at(section, base, relocations, index) else {
+            return Err(ItemsError::Malformed(index));
+        };
+        if let Some(item) = made {
+            items.push(item)?;
+        }
+    }
+    Ok(items)
+}
