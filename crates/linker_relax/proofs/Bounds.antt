@@ -8,13 +8,15 @@ use Rattle.linker_relax.specs.declared.relaxation.Shapes.{Shapes}
 use Rattle.linker_relax.specs.declared.relaxation.Item.{Item}
 use Rattle.linker_relax.specs.declared.relaxation.Item.TheVariants.{Site, Aligned}
 use Rattle.linker_relax.specs.Relaxing.{offset_of, end_of, target_of, item_at, is_reached, shape_len, short_shape, freed_before, place_of, item_reaches, is_in_reach, lengthened}
-use Rattle.linker_relax.specs.Choosing.{least_len, ShapesFit, ItemFits, run_unit, AreItems}
+use Rattle.linker_relax.specs.Choosing.{least_len, run_unit, AreItems}
+use Rattle.linker_relax.specs.Inner.Validity.{ShapesSuit, ItemSuits}
+use Rattle.linker_relax.proofs.Units.{item_suits}
 use Rattle.linker_relax.proofs.Layouts.{lengthened_in, lengthened_out}
 use Rattle.linker_relax.proofs.Multiples.{Multiple, multiple_of}
 use Rattle.linker_relax.proofs.Nearer.{Frees, FreesLess, IsPlace, shape_nearer}
 
 -- a shape at a higher index keeps no fewer bytes
-pub lens_ascend : (u len : ℕ) (shapes : Shapes) → ShapesFit u len shapes → (j d : ℕ) → shape_len shapes j ≤ shape_len shapes (j + d)
+pub lens_ascend : (u len : ℕ) (shapes : Shapes) → ShapesSuit u len shapes → (j d : ℕ) → shape_len shapes j ≤ shape_len shapes (j + d)
 lens_ascend u len shapes fit j zero = let z : j + 0 ≡ j = omega arith in let a = ap (shape_len shapes) z in omega arith
 lens_ascend u len shapes fit j (suc d) =
     let z : j + suc d ≡ j + d + 1 = omega arith in
@@ -32,7 +34,7 @@ len_fits shapes len k longest short =
     (cases_lt k shapes.count)
 
 -- an item that reaches its target where less is freed reaches it where more is freed
-pub item_nearer : (u start : ℕ) (item : Item) → ItemFits u start item → (k less_here less_there here there : ℕ)
+pub item_nearer : (u start : ℕ) (item : Item) → ItemSuits u start item → (k less_here less_there here there : ℕ)
     → ((shape : Shape) → 0 < shape.ahead → Multiple shape.unit u → is_reached shape (offset_of item - less_here) (target_of item - less_there) ≡ true → is_reached shape (offset_of item - here) (target_of item - there) ≡ true)
     → item_reaches item k less_here less_there ≡ true → item_reaches item k here there ≡ true
 item_nearer u start (Aligned alignment) fit k less_here less_there here there nearer reached = refl
@@ -71,7 +73,7 @@ bound_next start items choice other less are g f no_more places bound reached i 
     ⊎_elim (λ (h : t ≤ offset_of (item_at items p) + least_len (item_at items p)). h)
     (λ (h : end_of (item_at items p) ≤ t). let o = place.others p (omega arith) below in absurd (omega arith))
     (are.clear i p within below) in
-    let there = item_nearer (run_unit items) start item (are.fit i within) (choice i) (less i) (less p) (freed_before start items choice i) (freed_before start items choice p)
+    let there = item_nearer (run_unit items) start item (item_suits start items are i within) (choice i) (less i) (less p) (freed_before start items choice i) (freed_before start items choice p)
     (λ shape some d. shape_nearer start (run_unit items) items less (freed_before start items choice) are.in_order g f no_more shape some d i t p within place clear)
     (ap (λ k. item_reaches item k (less i) (less p)) same ∙ reached i within) in
     let e = in_reach there in

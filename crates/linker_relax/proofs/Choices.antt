@@ -7,7 +7,9 @@ use Rattle.std.proofs.lemmas.List.{get_or_default}
 use Rattle.linker_relax.specs.declared.relaxation.Item.{Item}
 use Rattle.linker_relax.specs.declared.relaxation.Item.TheVariants.{Site, Aligned}
 use Rattle.linker_relax.specs.Relaxing.{len_of, end_of, item_at, no_item, shape_len, kept_by, freed_before, place_of, after_rounds, IsSound, AreInOrder, AreRelaxed}
-use Rattle.linker_relax.specs.Choosing.{ItemFits, run_unit, AreItems, IsSite, HaveNoAlignment, freed_cautiously, cautious_before, IsInReachCautiously, IsInReachExactly, AreNotLonger}
+use Rattle.linker_relax.specs.Choosing.{run_unit, AreItems, IsSite, HaveNoAlignment, freed_cautiously, cautious_before, IsInReachCautiously, IsInReachExactly, AreNotLonger}
+use Rattle.linker_relax.specs.Inner.Validity.{ItemSuits}
+use Rattle.linker_relax.proofs.Units.{item_suits}
 use Rattle.linker_relax.proofs.Layouts.{freed_next, ends_ascend, count_point}
 use Rattle.linker_relax.proofs.Multiples.{multiple_of}
 use Rattle.linker_relax.proofs.Nearer.{Frees, FreesLess, IsPlace}
@@ -73,7 +75,7 @@ place_is start items order offset =
         let g : offset < end_of (get_or items k d) = omega arith in grind (arith, nat_tests)
 
 -- where alignments keep all, items free multiples of the unit too
-cautious_item : (u start : ℕ) (item : Item) (k : ℕ) → ItemFits u start item → IsSound item → ItemFrees u item (freed_cautiously item k)
+cautious_item : (u start : ℕ) (item : Item) (k : ℕ) → ItemSuits u start item → IsSound item → ItemFrees u item (freed_cautiously item k)
 cautious_item u start (Site site) k fit sound =
     let m = multiple_of u (site.len - shape_len site.shapes k) (fit.freed k) in
     let e = m.1 in
@@ -96,12 +98,12 @@ cautious_frees : (start : ℕ) (items : List Item) (choice : ℕ → ℕ) → Ar
 cautious_frees start items choice are = record {
   none = cautious_none items choice;
   step = λ j within.
-      let here = cautious_item (run_unit items) start (item_at items j) (choice j) (are.fit j within) (are.in_order.sound j within) in
+      let here = cautious_item (run_unit items) start (item_at items j) (choice j) (item_suits start items are j within) (are.in_order.sound j within) in
       (here.0, cautious_next items choice j ∙ ap (λ x. cautious_before items choice j + x) here.1, here.2);
 }
 
 -- and no more than with a choice that is no longer and exact paddings
-item_less : (u start : ℕ) (item : Item) (k longer freed : ℕ) → ItemFits u start item → k ≤ longer → freed_cautiously item longer ≤ len_of item - kept_by start item k freed
+item_less : (u start : ℕ) (item : Item) (k longer freed : ℕ) → ItemSuits u start item → k ≤ longer → freed_cautiously item longer ≤ len_of item - kept_by start item k freed
 item_less u start (Site site) k longer freed fit up =
     let z : k + (longer - k) ≡ longer = omega arith in
     let a = ap (shape_len site.shapes) z in
@@ -113,11 +115,11 @@ cautious_less : (start : ℕ) (items : List Item) (choice other : ℕ → ℕ) �
 cautious_less start items choice other are bound j within =
     let a = cautious_next items other j in
     let b = freed_next start items choice j in
-    let c = item_less (run_unit items) start (item_at items j) (choice j) (other j) (freed_before start items choice j) (are.fit j within) (bound j within) in
+    let c = item_less (run_unit items) start (item_at items j) (choice j) (other j) (freed_before start items choice j) (item_suits start items are j within) (bound j within) in
     omega arith
 
 -- without alignments a choice frees no more than one that is no longer
-site_less : (u start : ℕ) (item : Item) (k longer freed other_freed : ℕ) → ItemFits u start item → IsSite item → k ≤ longer → len_of item - kept_by start item longer other_freed ≤ len_of item - kept_by start item k freed
+site_less : (u start : ℕ) (item : Item) (k longer freed other_freed : ℕ) → ItemSuits u start item → IsSite item → k ≤ longer → len_of item - kept_by start item longer other_freed ≤ len_of item - kept_by start item k freed
 site_less u start (Site site) k longer freed other_freed fit is_site up = item_less u start (Site site) k longer freed fit up
 site_less u start (Aligned alignment) k longer freed other_freed fit is_site up = absurd is_site
 
@@ -125,7 +127,7 @@ exact_less : (start : ℕ) (items : List Item) (choice other : ℕ → ℕ) → 
 exact_less start items choice other are sites bound j within =
     let a = freed_next start items other j in
     let b = freed_next start items choice j in
-    let c = site_less (run_unit items) start (item_at items j) (choice j) (other j) (freed_before start items choice j) (freed_before start items other j) (are.fit j within) (sites j within) (bound j within) in
+    let c = site_less (run_unit items) start (item_at items j) (choice j) (other j) (freed_before start items choice j) (freed_before start items other j) (item_suits start items are j within) (sites j within) (bound j within) in
     omega arith
 
 -- no round is longer than a choice in reach where alignments keep all

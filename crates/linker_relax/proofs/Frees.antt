@@ -8,7 +8,9 @@ use Rattle.linker_relax.specs.declared.relaxation.Alignment.{Alignment}
 use Rattle.linker_relax.specs.declared.relaxation.Item.{Item}
 use Rattle.linker_relax.specs.declared.relaxation.Item.TheVariants.{Site, Aligned}
 use Rattle.linker_relax.specs.Relaxing.{offset_of, len_of, item_at, shape_len, needed, limit_of, kept_by, freed_before, IsSound}
-use Rattle.linker_relax.specs.Choosing.{least_len, AlignmentFits, ItemFits, run_unit, AreItems, IsExactItem}
+use Rattle.linker_relax.specs.Choosing.{least_len, AlignmentFits, run_unit, AreItems, IsExactItem}
+use Rattle.linker_relax.specs.Inner.Validity.{ItemSuits}
+use Rattle.linker_relax.proofs.Units.{item_suits}
 use Rattle.linker_relax.proofs.Layouts.{freed_next, freed_none, freed_fits}
 use Rattle.linker_relax.proofs.Multiples.{Multiple, multiple_of, needed_fills, needed_below}
 use Rattle.linker_relax.proofs.Nearer.{Frees, multiple_between}
@@ -117,7 +119,7 @@ needs u start alignment freed fit some within gone =
 abbrev pub ItemFrees : ℕ → Item → ℕ → Type 0
 ItemFrees u item freed = (m : ℕ) × (freed ≡ m * u) × (m * u + least_len item ≤ len_of item)
 
-item_frees : (u start : ℕ) (item : Item) (k freed : ℕ) → ItemFits u start item → IsSound item → freed ≤ offset_of item → Multiple u freed → ItemFrees u item (len_of item - kept_by start item k freed)
+item_frees : (u start : ℕ) (item : Item) (k freed : ℕ) → ItemSuits u start item → IsSound item → freed ≤ offset_of item → Multiple u freed → ItemFrees u item (len_of item - kept_by start item k freed)
 item_frees u start (Site site) k freed fit sound within gone =
     let m = multiple_of u (site.len - shape_len site.shapes k) (fit.freed k) in
     let e = m.1 in
@@ -136,7 +138,7 @@ freed_multiple : (start : ℕ) (items : List Item) (choice : ℕ → ℕ) → Ar
 freed_multiple start items choice are zero within = (0, freed_none start items choice ∙ omega arith)
 freed_multiple start items choice are (suc i) within =
     let before = freed_multiple start items choice are i (omega arith) in
-    let here = item_frees (run_unit items) start (item_at items i) (choice i) (freed_before start items choice i) (are.fit i (omega arith)) (are.in_order.sound i (omega arith)) (freed_fits start items choice are.in_order i (omega arith)) before in
+    let here = item_frees (run_unit items) start (item_at items i) (choice i) (freed_before start items choice i) (item_suits start items are i (omega arith)) (are.in_order.sound i (omega arith)) (freed_fits start items choice are.in_order i (omega arith)) before in
     let z : suc i ≡ i + 1 = omega arith in
     let a = ap (freed_before start items choice) z in
     let next = freed_next start items choice i in
@@ -148,16 +150,16 @@ pub exact_frees : (start : ℕ) (items : List Item) (choice : ℕ → ℕ) → A
 exact_frees start items choice are = record {
   none = freed_none start items choice;
   step = λ j within.
-      let here = item_frees (run_unit items) start (item_at items j) (choice j) (freed_before start items choice j) (are.fit j within) (are.in_order.sound j within) (freed_fits start items choice are.in_order j within) (freed_multiple start items choice are j (omega arith)) in
+      let here = item_frees (run_unit items) start (item_at items j) (choice j) (freed_before start items choice j) (item_suits start items are j within) (are.in_order.sound j within) (freed_fits start items choice are.in_order j within) (freed_multiple start items choice are j (omega arith)) in
       (here.0, freed_next start items choice j ∙ ap (λ x. freed_before start items choice j + x) here.1, here.2);
 }
 
 -- each alignment of the run is exact
-item_exact : (u start : ℕ) (item : Item) (k freed kept : ℕ) → ItemFits u start item → IsSound item → freed ≤ offset_of item → Multiple u freed → kept ≡ kept_by start item k freed → IsExactItem item start freed kept
+item_exact : (u start : ℕ) (item : Item) (k freed kept : ℕ) → ItemSuits u start item → IsSound item → freed ≤ offset_of item → Multiple u freed → kept ≡ kept_by start item k freed → IsExactItem item start freed kept
 item_exact u start (Site site) k freed kept fit sound within gone is = tt
 item_exact u start (Aligned alignment) k freed kept fit sound within gone is =
     padding_exact u alignment.power alignment.nops (start + alignment.offset) freed (needed alignment.power (start + alignment.offset - freed)) alignment.most (needs u start alignment freed fit sound within gone) fit.enough kept is
 
 pub all_exact : (start : ℕ) (items : List Item) (choice : ℕ → ℕ) → AreItems start items → (i : ℕ) → i < length items → (kept : ℕ) → kept ≡ kept_by start (item_at items i) (choice i) (freed_before start items choice i) → IsExactItem (item_at items i) start (freed_before start items choice i) kept
 all_exact start items choice are i within kept is =
-    item_exact (run_unit items) start (item_at items i) (choice i) (freed_before start items choice i) kept (are.fit i within) (are.in_order.sound i within) (freed_fits start items choice are.in_order i within) (freed_multiple start items choice are i (omega arith)) is
+    item_exact (run_unit items) start (item_at items i) (choice i) (freed_before start items choice i) kept (item_suits start items are i within) (are.in_order.sound i within) (freed_fits start items choice are.in_order i within) (freed_multiple start items choice are i (omega arith)) is

@@ -1,10 +1,13 @@
 pub mod Bounds
 pub mod Choices
+pub mod Firsts
 pub mod Frees
 pub mod Layouts
 pub mod Multiples
 pub mod Nearer
+pub mod Powers
 pub mod Rounds
+pub mod Units
 pub mod Validity
 pub mod Deletions
 pub mod Translations

@@ -8,7 +8,9 @@ use Rattle.linker_base.proofs.Rank.{removed, removed_by, rank-removed}
 use Rattle.linker_relax.specs.declared.relaxation.Item.{Item}
 use Rattle.linker_relax.specs.declared.relaxation.Item.TheVariants.{Site, Aligned}
 use Rattle.linker_relax.specs.Relaxing.{offset_of, len_of, end_of, target_of, item_at, kept_by, freed_before, place_of, choice_of, AreInOrder}
-use Rattle.linker_relax.specs.Choosing.{ItemFits, least_len, run_unit}
+use Rattle.linker_relax.specs.Choosing.{least_len, run_unit}
+use Rattle.linker_relax.specs.Inner.Validity.{ItemSuits}
+use Rattle.linker_relax.proofs.Units.{item_suits}
 use Rattle.linker_relax.specs.Deleting.{deletion_at, deletions_before, TranslationsAreExact}
 use Rattle.linker_relax.proofs.Layouts.{freed_next, freed_none, ends_ascend}
 use Rattle.linker_relax.proofs.Bounds.{lens_ascend}
@@ -79,7 +81,7 @@ translated start items choice kept order keeps offset p within below above =
     omega arith
 
 -- an item keeps no less than in each choice
-keeps_least : (u start : ℕ) (item : Item) (k freed : ℕ) → ItemFits u start item → least_len item ≤ kept_by start item k freed
+keeps_least : (u start : ℕ) (item : Item) (k freed : ℕ) → ItemSuits u start item → least_len item ≤ kept_by start item k freed
 keeps_least u start (Site site) k freed fit = let z : 0 + k ≡ k = omega arith in let a = ap (λ n. kept_by start (Site site) n freed) z in let h = lens_ascend u site.len site.shapes fit 0 k in omega arith
 keeps_least u start (Aligned alignment) k freed fit = omega arith
 
@@ -108,7 +110,7 @@ translations_exact start items shapes kept freed are is i within =
       translated start items choice kept order keeps target (place_of items target) place.within place.below
           (λ j h there. ⊎_elim
           (λ (into : target ≤ offset_of (item_at items j) + least_len (item_at items j)).
-          let least = keeps_least (run_unit items) start (item_at items j) (choice j) (freed_before start items choice j) (are.fit j there) in
+          let least = keeps_least (run_unit items) start (item_at items j) (choice j) (freed_before start items choice j) (item_suits start items are j there) in
           let e = keeps j there in
           omega arith)
           (λ (ended : end_of (item_at items j) ≤ target). let o = place.others j h there in absurd (omega arith))

@@ -2,7 +2,9 @@
 -- with.
 use Rattle.std.specs.Prelude.{◌≡◌, ℕ, zero, suc, ◌+◌, ◌-◌, ◌%◌, ◌<◌, ◌≤◌, ◌⊎◌, List, length}
 use Rattle.std.specs.Prelude.{true, if◌then◌else◌, nat_lt, max, MatchOption, ⊤, slice_index_or}
+use Rattle.std.specs.Int.{IsPowerOfTwo}
 use Rattle.std.specs.List.{fold}
+use Rattle.linker_relax.specs.declared.relaxation.Shape.{Shape}
 use Rattle.linker_relax.specs.declared.relaxation.Shapes.{Shapes}
 use Rattle.linker_relax.specs.declared.relaxation.Alignment.{Alignment}
 use Rattle.linker_relax.specs.declared.relaxation.Item.{Item}
@@ -25,13 +27,30 @@ item_unit (Aligned alignment) = 1
 abbrev pub run_unit : List Item → ℕ
 run_unit items = fold (λ unit item. max unit (item_unit item)) 1 items
 
--- Shapes of a site of so many bytes: each frees a multiple of u, none keeps more than the next, each
--- short one reaches itself, and its unit divides u.
-pub record ShapesFit (u len : ℕ) (shapes : Shapes) : Type 0 where
-  pub freed : (k : ℕ) → (len - shape_len shapes k) % u ≡ 0
-  pub ascending : (k : ℕ) → shape_len shapes k ≤ shape_len shapes (k + 1)
+-- the unit of a short shape is a power of two
+pub record HasUnit (shape : Shape) : Type 0 where
+  pub power : IsPowerOfTwo shape.unit
+
+-- Short shapes by themselves. Each keeps fewer bytes than the next, reaches its own offset, and its
+-- unit is a power of two. It reaches no farther than the next short one, and its unit is no less.
+pub record AreNested (shapes : Shapes) : Type 0 where
+  pub ascending : (k : ℕ) → k < shapes.count → shape_len shapes k < shape_len shapes (k + 1)
+  pub powers : (k : ℕ) → k < shapes.count → HasUnit (short_shape shapes k)
+  pub units : (k : ℕ) → k + 1 < shapes.count
+      → (short_shape shapes (k + 1)).unit ≤ (short_shape shapes k).unit
   pub ahead : (k : ℕ) → k < shapes.count → 0 < (short_shape shapes k).ahead
-  pub units : (k : ℕ) → k < shapes.count → u % (short_shape shapes k).unit ≡ 0
+  pub reaches : (k : ℕ) → k + 1 < shapes.count
+      → ((short_shape shapes k).behind ≤ (short_shape shapes (k + 1)).behind)
+      × ((short_shape shapes k).ahead ≤ (short_shape shapes (k + 1)).ahead)
+
+-- an item by itself
+abbrev pub IsFormed : Item → Type 0
+IsFormed (Site site) = AreNested site.shapes
+IsFormed (Aligned alignment) = IsPowerOfTwo alignment.power
+
+-- each shape of a site of so many bytes frees a multiple of u
+abbrev pub ShapesFit : ℕ → ℕ → Shapes → Type 0
+ShapesFit u len shapes = (k : ℕ) → (len - shape_len shapes k) % u ≡ 0
 
 -- An alignment of a run at an address: it and the address behind its nops are multiples of u, and
 -- there are enough nops, or no more may stay than there are. Where all may go, they are a multiple
@@ -59,6 +78,7 @@ IsClear item offset = (offset ≤ offset_of item + least_len item) ⊎ (end_of i
 -- the runs that are relaxed
 pub record AreItems (start : ℕ) (items : List Item) : Type 0 where
   pub in_order : AreInOrder start items
+  pub formed : (i : ℕ) → i < length items → IsFormed (item_at items i)
   pub fit : (i : ℕ) → i < length items → ItemFits (run_unit items) start (item_at items i)
   pub clear : (i j : ℕ) → i < length items → j < length items
       → IsClear (item_at items j) (target_of (item_at items i))

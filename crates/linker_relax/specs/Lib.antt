@@ -1,4 +1,5 @@
 pub mod Choosing
 pub mod Deleting
+pub mod Faults
 pub mod Inner
 pub mod Relaxing

@@ -4,7 +4,11 @@
 
 #[cfg(test)]
 mod random_runs;
+#[cfg(test)]
+mod refused_growth;
 pub mod relaxation;
 pub mod shapes;
+#[cfg(test)]
+mod taken_memory;
 #[cfg(test)]
 mod tests;

@@ -28,9 +28,9 @@ impl Random {
     }
 }
 
-/// A short shape that reaches up to 64 bytes.
-fn random_shape(random: &mut Random, kept: u32) -> Shape {
-    let reach = 2 << random.below(6);
+/// A short shape that reaches up to 64 bytes, and at least as far as the one before it.
+fn random_shape(random: &mut Random, kept: u32, least: u64) -> Shape {
+    let reach = least.max(2 << random.below(6));
     Shape {
         kept,
         behind: reach,
@@ -40,7 +40,8 @@ fn random_shape(random: &mut Random, kept: u32) -> Shape {
 }
 
 fn random_site(random: &mut Random, offset: u64) -> Item {
-    let short = [random_shape(random, 2), random_shape(random, 4)];
+    let first = random_shape(random, 2, 0);
+    let short = [first, random_shape(random, 4, first.ahead)];
     let count = 1 + random.below(2) as u8;
     Item::Site(Site {
         offset,

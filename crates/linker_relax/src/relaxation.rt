@@ -13,11 +13,12 @@ ghost use Rattle.linker_relax.specs.Deleting.{deletions_of_run, TranslationsAreE
 use linker_base::relaxation::{OutOfMemory, SectionRelaxDeltas};
 use std::alloc::Global;
 
+mod faults;
 mod passes;
 mod validity;
 
+pub use faults::{Fault, ItemFault, are_items, first_faulty};
 use passes::{find_places, keep, lay_out, lengthen, shorten};
-pub use validity::are_items;
 
 /// One form of the instructions of a site.
 #[derive(Debug, Clone, Copy, PartialEq, Eq)]

@@ -1,6 +1,8 @@
 //! Runs worked by hand, and random runs compared with a model that tries every choice.
 
-use crate::relaxation::{Alignment, Item, Plan, Shape, Shapes, Site, are_items, relax};
+use crate::relaxation::{
+    Alignment, Fault, Item, ItemFault, Plan, Shape, Shapes, Site, are_items, first_faulty, relax,
+};
 use crate::shapes::{fixed, loongarch64, riscv64};
 use linker_base::relaxation::OutOfMemory;
 use std::alloc::Global;
@@ -90,21 +92,96 @@ fn an_alignment_keeps_none_where_more_are_needed_than_may_stay(
     Ok(())
 }
 
+/// Requires that the item at an index is the first faulty one, and the fault its first.
+fn expect_fault(rt: &impl Abort, items: &[Item], index: usize, fault: Fault) {
+    assert!(rt; !are_items(items, 0));
+    assert_eq!(rt; first_faulty(items, 0), Some(ItemFault { index, fault }));
+}
+
+/// A site of eight bytes at 0 whose short shapes keep 4 bytes and more.
+fn shaped(short: [Shape; 2], count: u8, longest: u32) -> Item {
+    site(
+        0,
+        0,
+        Shapes {
+            short,
+            count,
+            longest,
+        },
+    )
+}
+
+fn reaching(kept: u32, behind: u64, ahead: u64, unit: u32) -> Shape {
+    Shape {
+        kept,
+        behind,
+        ahead,
+        unit,
+    }
+}
+
 #[test]
-fn runs_that_cannot_be_relaxed_are_rejected(rt: HostRuntime) {
+fn items_by_themselves_are_rejected(rt: HostRuntime) {
     let call = riscv64::CALL;
     assert!(rt; are_items(&[site(0, 8, call)], 0));
-    assert!(rt; !are_items(&[site(0, 6, call)], 0));
-    assert!(rt; !are_items(&[site(0, 8, call), site(6, 8, call)], 0));
-    assert!(rt; !are_items(&[site(8, 8, call), site(0, 8, call)], 0));
-    assert!(rt; !are_items(&[site(u64::MAX - 7, 0, call)], 0));
-    assert!(rt; !are_items(&[site(0, 0, fixed(9))], 0));
-    assert!(rt; !are_items(&[site(0, 0, call), aligned(8, 14, 0, None)], 0));
-    assert!(rt; !are_items(&[site(0, 0, call), aligned(8, 12, 16, None)], 0));
-    assert!(rt;
-        !are_items(
-            &[site(0, 0, loongarch64::PCALA), aligned(10, 2, 2, None)],
-            0
-        )
+    expect_fault(
+        &rt,
+        &[site(0, 8, call), site(6, 8, call)],
+        1,
+        Fault::Overlaps,
     );
+    expect_fault(
+        &rt,
+        &[site(8, 8, call), site(0, 8, call)],
+        1,
+        Fault::Overlaps,
+    );
+    expect_fault(&rt, &[site(u64::MAX - 7, 0, call)], 0, Fault::TooHigh);
+    expect_fault(&rt, &[site(0, 0, fixed(9))], 0, Fault::ShapeTooLong);
+    let jal = reaching(4, 1 << 20, 1 << 20, 2);
+    let c_j = reaching(2, 1 << 11, 1 << 11, 2);
+    expect_fault(&rt, &[shaped([c_j, jal], 3, 8)], 0, Fault::TooManyShapes);
+    expect_fault(
+        &rt,
+        &[shaped([jal, c_j], 2, 8)],
+        0,
+        Fault::ShapesNotAscending,
+    );
+    expect_fault(
+        &rt,
+        &[shaped([jal, jal], 1, 4)],
+        0,
+        Fault::ShapesNotAscending,
+    );
+    let odd = reaching(4, 1 << 20, 1 << 20, 3);
+    expect_fault(&rt, &[shaped([odd, jal], 1, 8)], 0, Fault::BadUnit);
+    let wide = reaching(4, 1 << 20, 1 << 20, 4);
+    expect_fault(&rt, &[shaped([c_j, wide], 2, 8)], 0, Fault::BadUnit);
+    let ahead = reaching(4, 1 << 20, 0, 2);
+    expect_fault(&rt, &[shaped([ahead, jal], 1, 8)], 0, Fault::BadReach);
+    let far = reaching(2, 1 << 21, 1 << 11, 2);
+    expect_fault(&rt, &[shaped([far, jal], 2, 8)], 0, Fault::BadReach);
+    let items = [site(0, 0, call), aligned(8, 14, 12, None)];
+    expect_fault(&rt, &items, 1, Fault::BadPower);
+}
+
+#[test]
+fn items_are_rejected_among_the_others(rt: HostRuntime) {
+    let call = riscv64::CALL;
+    expect_fault(&rt, &[site(0, 6, call)], 0, Fault::TargetInside);
+    let items = [site(0, 8, call), site(8, 14, call), site(16, 16, call)];
+    expect_fault(&rt, &items, 1, Fault::TargetInside);
+    let items = [site(0, 12, call), aligned(8, 14, 16, None)];
+    expect_fault(&rt, &items, 0, Fault::TargetInside);
+    let pcala = loongarch64::PCALA;
+    let items = [site(0, 0, pcala), aligned(10, 2, 2, None)];
+    expect_fault(&rt, &items, 1, Fault::PowerBelowUnit);
+    let items = [site(0, 0, pcala), aligned(10, 12, 16, None)];
+    expect_fault(&rt, &items, 1, Fault::UnevenEnd);
+    let items = [site(0, 0, call), aligned(8, 12, 16, None)];
+    expect_fault(&rt, &items, 1, Fault::TooFewNops);
+    let items = [site(0, 0, pcala), aligned(10, 14, 16, Some(4))];
+    expect_fault(&rt, &items, 1, Fault::UnevenNops);
+    let items = [site(0, 0, fixed(6)), site(8, 0, pcala)];
+    expect_fault(&rt, &items, 0, Fault::UnevenShape);
 }

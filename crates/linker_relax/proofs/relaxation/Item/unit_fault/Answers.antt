@@ -1,0 +1,12 @@
+use Rattle.std.proofs.Common.{subst, arith}
+use Rattle.linker_relax.specs.Faults.{ItemMeets}
+use Rattle.linker_relax.specs.declared.relaxation.faults.Fault.TheVariants.{TooManyShapes, ShapeTooLong}
+use Rattle.linker_relax.proofs.relaxation.Item.unit_fault.Goals as goal
+
+pub are_even-requires-clause-count : goal.are_even-requires-clause-count
+are_even-requires-clause-count c = subst (λ item. ItemMeets item TooManyShapes) c.in-Site.is (c.requires.few TooManyShapes)
+
+pub are_even-requires-clause-within : goal.are_even-requires-clause-within
+are_even-requires-clause-within c =
+    let h = subst (λ item. ItemMeets item ShapeTooLong) c.in-Site.is (c.requires.few ShapeTooLong) in
+    (omega arith, λ k short. (let one = h.1 k short in omega arith))
