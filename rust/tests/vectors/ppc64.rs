@@ -3,6 +3,7 @@
 //! worked values.
 
 mod choices;
+mod linked;
 
 use crate::rows::expect_eq;
 use linker_utils::bit_misc::BitExtraction;

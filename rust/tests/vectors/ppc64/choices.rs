@@ -1,7 +1,8 @@
 // Made by tools/erase of crates/vectors/src/ppc64/choices.rt.
 //! Which rewrites are chosen, and the words that they leave with the relocation after them. The words
-//! are encoded after the Power ISA, "Instruction Formats".
+//! are encoded after the Power ISA, "Instruction Formats", or are those that linkers wrote.
 
+use super::linked::SITES;
 use crate::rows::expect_eq;
 use linker_utils::elf::{Choice, LinkFacts, Operands};
 use linker_utils::ppc64::{Ppc64Relocation, RelaxationKind, choose, row};
@@ -276,5 +277,46 @@ fn other_instructions_stay() {
             relocation: name,
         };
         expect_eq(before, chosen, unchanged);
+    }
+}
+
+/// The two words of eight bytes.
+fn words_of(bytes: u64) -> [u32; 2] {
+    [(bytes & 0xffff_ffff) as u32, (bytes >> 32) as u32]
+}
+
+/// In an executable whose GOT begins at 0x10040000, and whose TLS segment at 0x10020000. The only GOT
+/// entry is that of a variable elsewhere.
+#[test]
+fn words_match_linkers() {
+    for (r_type, flags, symbol, place, before, after) in SITES {
+        let name = Ppc64Relocation::from_elf(r_type);
+        let is_in_module = matches!(
+            name,
+            Ppc64Relocation::R_PPC64_DTPREL16_LO | Ppc64Relocation::R_PPC64_DTPREL16_HA
+        );
+        let facts = LinkFacts {
+            is_local: flags == 1,
+            may_change_toc: flags == 2,
+            has_fixed_distance: true,
+            is_executable: true,
+            has_private_base: true,
+            has_addresses: true,
+            operands: Operands {
+                symbol,
+                place,
+                got_entry: 0x1004_0008,
+                got_base: 0x1004_8000,
+                tls_base: if is_in_module {
+                    0x1002_8000
+                } else {
+                    0x1002_7000
+                },
+                ..Operands::default()
+            },
+            ..LinkFacts::default()
+        };
+        let (_, made) = linked(name, words_of(before), &facts);
+        expect_eq((r_type, place), made, words_of(after));
     }
 }
