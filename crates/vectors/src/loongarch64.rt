@@ -3,6 +3,7 @@
 mod assembled;
 mod choices;
 mod linked;
+mod relaxed;
 
 use crate::rows::expect_eq;
 use assembled::{BRANCH_21, BRANCH_26, SHIFT_5, SHIFT_10};

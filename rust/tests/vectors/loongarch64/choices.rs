@@ -1,7 +1,8 @@
 // Made by tools/erase of crates/vectors/src/loongarch64/choices.rt.
 //! Which rewrites are chosen, and the words after them, by the encodings of the LoongArch Reference
-//! Manual, volume 1.
+//! Manual, volume 1, and as GNU ld writes them.
 
+use super::relaxed::{ENTRY, IMAGE, SITES};
 use crate::rows::expect_eq;
 use linker_utils::elf::{LinkFacts, Operands};
 use linker_utils::loongarch64::{
@@ -283,5 +284,27 @@ fn other_offsets_go_by_the_got() {
             rewritten(name, DESCRIPTOR, at, &facts),
             (kind, want),
         );
+    }
+}
+
+/// Where `choose` leaves a `nop`, GNU ld deletes the instruction.
+#[test]
+fn words_match_gnu_ld() {
+    for (r_type, at, symbol, place, words, after) in SITES {
+        let local = facts_of(symbol, IMAGE, true);
+        let operands = Operands {
+            got_entry: ENTRY,
+            place: place.wrapping_sub(at),
+            ..local.operands
+        };
+        let facts = LinkFacts {
+            is_local: symbol != 0,
+            operands,
+            ..local
+        };
+        let (kind, word) = rewritten(Name::from_elf(r_type), words, at, &facts);
+        let is_deleted = matches!(kind, Kind::Delete | Kind::ReplaceWithNop);
+        let left = if is_deleted { 0 } else { word };
+        expect_eq((r_type, place), left, after);
     }
 }
