@@ -5,6 +5,7 @@ pub mod AArch64Rewrites
 pub mod Calls
 pub mod Jumps
 pub mod LoongArchAlike
+pub mod Ppc64Alike
 pub mod Packed
 pub mod Ppc64Rewrites
 pub mod RelocationNames

@@ -1,7 +1,7 @@
 -- Which rewrite of PowerPC64 is chosen (64-bit ELF V2 ABI for Power, "TOC Optimizations", "TLS Linkage
 -- Optimizations" and "The TOC Pointer Register"). No condition depends on the place of a rewrite that
 -- moves it.
-use Rattle.std.specs.Prelude.{ℕ, List, [], ◌∷◌}
+use Rattle.std.specs.Prelude.{◌≡◌, ◌⊎◌, ◌++◌, ℕ, List, [], ◌∷◌, ⊤}
 use Rattle.linker_utils.specs.Choices.{Condition, bound, fixed_distance, executable, private_base}
 use Rattle.linker_utils.specs.Choices.{changed_toc, in_reach, in_reach_if_known}
 use Rattle.linker_utils.specs.Choices.{Entry, entry, choice, AllHold, IsFirst}
@@ -95,3 +95,79 @@ abbrev pub IsPpc64Choice : Ppc64Relocation → List ℕ → ℕ → LinkFacts
 IsPpc64Choice name section o facts chosen =
     IsFirst (λ e. Ppc64Applies section o facts e.kind e.conditions) (ppc64_entries name)
     (choice kinds.NoOp name) chosen
+
+-- ---- all relocations of a sequence
+
+abbrev pub Ppc64Choice : Type 0
+Ppc64Choice = Choice RelaxationKind Ppc64Relocation
+
+-- the facts of a relocation at another place
+abbrev pub facts_at : ℕ → LinkFacts → LinkFacts
+facts_at place facts =
+    record facts { operands = record facts.operands { place = place } }
+
+-- two choices are those of one line
+abbrev pub IsAmong : Ppc64Choice × Ppc64Choice → List (Ppc64Choice × Ppc64Choice) → Type 0
+IsAmong x [] = ⊥
+IsAmong x (y ∷ ys) = (x ≡ y) ⊎ IsAmong x ys
+
+-- The instructions at two offsets are some that the rewrites of each line are meant for.
+abbrev pub AreMeant : List (Ppc64Choice × Ppc64Choice) → List ℕ → ℕ → ℕ → Type 0
+AreMeant [] section o p = ⊤
+AreMeant (x ∷ xs) section o p =
+    ppc64_matches x.0.kind section o × ppc64_matches x.1.kind section p
+    × AreMeant xs section o p
+
+-- Two relocations of one sequence, wherever its instructions are, with the same facts but for the
+-- place: both choices are those of one line, or both relocations are left.
+abbrev pub AreChosenAlike : Ppc64Relocation → Ppc64Relocation → List (Ppc64Choice × Ppc64Choice)
+    → Type 0
+AreChosenAlike first second lines =
+    (section : List ℕ) (o p place : ℕ) (facts : LinkFacts) (a b : Ppc64Choice)
+    → AreMeant lines section o p
+    → IsPpc64Choice first section o facts a
+    → IsPpc64Choice second section p (facts_at place facts) b
+    → IsAmong (a, b) (lines ++ (choice kinds.NoOp first, choice kinds.NoOp second) ∷ [])
+
+abbrev pub nop : Ppc64Choice
+nop = choice kinds.AddisToNop r.R_PPC64_NONE
+
+abbrev pub TocPairsAreChosenAlike : Type 0
+TocPairsAreChosenAlike =
+    AreChosenAlike r.R_PPC64_TOC16_HA r.R_PPC64_TOC16_LO
+    ((nop, choice kinds.BaseToToc r.R_PPC64_TOC16) ∷ [])
+    × AreChosenAlike r.R_PPC64_TOC16_HA r.R_PPC64_TOC16_LO_DS
+    ((nop, choice kinds.BaseToToc r.R_PPC64_TOC16_DS) ∷ [])
+
+abbrev pub GotPairIsChosenAlike : Type 0
+GotPairIsChosenAlike =
+    AreChosenAlike r.R_PPC64_GOT16_HA r.R_PPC64_GOT16_LO_DS
+    ((choice kinds.NoOp r.R_PPC64_TOC16_HA, choice kinds.LdToAddi r.R_PPC64_TOC16_LO) ∷ [])
+
+-- the two halves of the entry's address
+abbrev pub InitialExecPairIsChosenAlike : Type 0
+InitialExecPairIsChosenAlike =
+    AreChosenAlike r.R_PPC64_GOT_TPREL16_HA r.R_PPC64_GOT_TPREL16_LO_DS
+    ((nop, choice kinds.LdToAddisThread r.R_PPC64_TPREL16_HA) ∷ [])
+
+-- one of the other relocations of general-dynamic TLS with the first one: its choices for local-exec
+-- and for initial-exec
+abbrev pub IsOfGeneralDynamic : Ppc64Relocation → Ppc64Choice → Ppc64Choice → Type 0
+IsOfGeneralDynamic name local initial =
+    AreChosenAlike r.R_PPC64_GOT_TLSGD16_HA name
+    ((nop, local) ∷ (choice kinds.NoOp r.R_PPC64_GOT_TPREL16_HA, initial) ∷ [])
+
+abbrev pub GeneralDynamicIsChosenAlike : Type 0
+GeneralDynamicIsChosenAlike =
+    IsOfGeneralDynamic r.R_PPC64_GOT_TLSGD16_LO
+    (choice kinds.AddiToAddisThread r.R_PPC64_TPREL16_HA)
+    (choice kinds.AddiToLd r.R_PPC64_GOT_TPREL16_LO_DS)
+    × IsOfGeneralDynamic r.R_PPC64_TLSGD (choice kinds.CallToAddi r.R_PPC64_TPREL16_LO)
+    (choice kinds.CallToAdd r.R_PPC64_NONE)
+
+abbrev pub LocalDynamicIsChosenAlike : Type 0
+LocalDynamicIsChosenAlike =
+    AreChosenAlike r.R_PPC64_GOT_TLSLD16_HA r.R_PPC64_GOT_TLSLD16_LO
+    ((nop, choice kinds.AddiToAddisThread r.R_PPC64_NONE) ∷ [])
+    × AreChosenAlike r.R_PPC64_GOT_TLSLD16_HA r.R_PPC64_TLSLD
+    ((nop, choice kinds.CallToAddi4096 r.R_PPC64_NONE) ∷ [])

@@ -124,7 +124,9 @@ fn is_for_other_toc(section: &[u8], offset: u64, facts: &LinkFacts) -> bool {
 /// The linker sees to the rest:
 ///
 /// - The instructions of one sequence are not next to each other, and each is chosen alone. The facts
-///   are the same for all of them, except for `place`. If one of them keeps its relocation, all do.
+///   are the same for all of them, except for `place`. If one of them keeps its relocation, all do:
+///   where each is the instruction that its rewrites are meant for, those of a pair and of
+///   `__tls_get_addr` are chosen alike (`relocations_are_chosen_alike`).
 /// - The register that an `addis` before a `nop` has set, and for TLS also the one that the `ld` has
 ///   set, are read by the instructions of the sequence only, as the ABI asks of compilers.
 /// - `tls_base` is the thread pointer, 0x7000 above the first byte of the TLS segment. After
@@ -309,3 +311,12 @@ pub fn choose(
     };
     Choice { kind, relocation }
 }
+
+/// With the same facts, except that each has its own place, and each at an instruction that its
+/// rewrites are meant for, both relocations of a pair are rewritten alike or neither is: of an address
+/// near the TOC, of a GOT entry, and of the entry for initial-exec. And so are those of
+/// general-dynamic TLS, all for local-exec, all for initial-exec or none, and those of local-dynamic
+/// TLS. Nothing is said of `R_PPC64_TLS`: an indexed access of whole words is left where the offset
+/// isn't a multiple of 4.
+#[doc(hidden)]
+pub fn relocations_are_chosen_alike() {}
