@@ -3,14 +3,14 @@ use Rattle.std.specs.Prelude.{◌≡◌, ℕ, if◌then◌else◌, List, map, No
 use Rattle.linker_runs.specs.declared.items.Relocation.{Relocation}
 use Rattle.linker_runs.specs.declared.items.ItemsError.{ItemsError}
 use Rattle.linker_runs.specs.declared.items.ItemsError.TheVariants as errors
-use Rattle.linker_utils_c.specs.declared.section_items.RelocationNumbers.{RelocationNumbers}
+use Rattle.linker_utils_c.specs.declared.section_items.SectionRelocation.{SectionRelocation}
 use Rattle.linker_utils_c.specs.declared.status.Status.TheVariants.{OutOfMemory}
 use Rattle.linker_utils_c.specs.declared.status.Status.TheVariants.{MalformedRelocation}
 use Rattle.linker_utils_c.specs.Choices.{is_set}
 use Rattle.linker_utils_c.specs.Status.{code}
 
 -- the relocation that C's struct is
-abbrev pub relocation_of : RelocationNumbers → Relocation
+abbrev pub relocation_of : SectionRelocation → Relocation
 relocation_of relocation = record {
   offset = relocation.offset;
   code = relocation.r_type;
@@ -19,7 +19,7 @@ relocation_of relocation = record {
   target = if is_set relocation.has_target then Some relocation.target else None;
 }
 
-abbrev pub relocations_in : List RelocationNumbers → List Relocation
+abbrev pub relocations_in : List SectionRelocation → List Relocation
 relocations_in relocations = map relocation_of relocations
 
 -- the status and the index say why no items are made

@@ -5,7 +5,6 @@ ghost use Rattle.std.specs.Prelude.{MatchResult, slice_index_or};
 ghost use Rattle.linker_runs.specs.Relocations.{AreMade, AreWellFormed, IsFirstMalformed};
 ghost use Rattle.linker_runs.specs.RiscVItems.{RiscVMakes, IsRiscVFormed};
 ghost use Rattle.linker_runs.specs.LoongArchItems.{LoongArchMakes, IsLoongArchFormed};
-ghost use Rattle.linker_utils_c.specs.Choices.{is_set};
 ghost use Rattle.linker_utils_c.specs.Relaxing.{item_of, items_in};
 ghost use Rattle.linker_utils_c.specs.SectionItems.{relocation_of, relocations_in, IsNotMade};
 ghost use Rattle.linker_utils_c.specs.Status.{code};
@@ -22,7 +21,7 @@ use std::alloc::Global;
 /// A relocation of a section, and what it refers to in a run.
 #[repr(C)]
 #[derive(Clone, Copy)]
-pub struct RelocationNumbers {
+pub struct SectionRelocation {
     /// Its place, `r_offset`: an offset in the section.
     pub offset: u64,
     /// The input offset in the run that it refers to: S + A, or the PLT entry.
@@ -38,7 +37,7 @@ pub struct RelocationNumbers {
     pub has_target: u8,
 }
 
-impl RelocationNumbers {
+impl SectionRelocation {
     #[inline(always)]
     fn relocation(&self) -> Relocation
         ensures { result ≡ relocation_of self.now }
@@ -60,7 +59,7 @@ impl RelocationNumbers {
 /// The relocations that C's structs are.
 fn relocations_of(
     alloc: Global,
-    relocations: &[RelocationNumbers],
+    relocations: &[SectionRelocation],
 ) -> Result<Vec<Relocation>, OutOfMemory>
     ensures { IfOk result (λ made. made.items ≡ relocations_in relocations.now) }
 {
@@ -146,7 +145,7 @@ fn put(
 }
 
 /// Writes the items that the relocations of a RISC-V section make, as `riscv64::items`. The section
-/// begins at the input offset `base` of the run. `c_extension` isn't 0 where the C extension may be
+/// begins at the input offset `base` of the run. `c_extension` says whether the C extension may be
 /// used.
 ///
 /// `items` has as many elements as there are relocations, since each makes one item at most. `len`
@@ -159,8 +158,8 @@ pub extern "C" fn linker_utils_riscv_items_nonnull(
     alloc: Global,
     section: &[u8],
     base: u64,
-    relocations: &[RelocationNumbers],
-    c_extension: u32,
+    relocations: &[SectionRelocation],
+    c_extension: bool,
     items: &mut [ItemNumbers],
     len: &mut usize,
     faulty: &mut usize,
@@ -173,13 +172,13 @@ pub extern "C" fn linker_utils_riscv_items_nonnull(
     ensures too_high { (result ≡ code Status.EndsTooHigh)
         ↔ ((length items.old ≡ length relocations.now) × (2 ^ 64 ≤ base + length section.now)) }
     ensures made { result ≡ code Status.Success
-        → AreMade (RiscVMakes (is_set c_extension) section.now base (relocations_in relocations.now))
+        → AreMade (RiscVMakes c_extension section.now base (relocations_in relocations.now))
         (length relocations.now) (items_in (take len.new items.new)) }
     ensures formed { result ≡ code Status.Success
-        → AreWellFormed (IsRiscVFormed (is_set c_extension) section.now)
+        → AreWellFormed (IsRiscVFormed c_extension section.now)
         (relocations_in relocations.now) (length relocations.now) }
     ensures malformed { result ≡ code Status.MalformedRelocation
-        → IsFirstMalformed (IsRiscVFormed (is_set c_extension) section.now)
+        → IsFirstMalformed (IsRiscVFormed c_extension section.now)
         (relocations_in relocations.now) faulty.new }
     ensures others_stay { result ≡ code Status.Success → (k : ℕ) (item : ItemNumbers) → len.new ≤ k
         → slice_index_or items.new k item ≡ slice_index_or items.old k item }
@@ -196,7 +195,7 @@ pub extern "C" fn linker_utils_riscv_items_nonnull(
     let Ok(relocations) = relocations_of(alloc, relocations) else {
         return Status::OutOfMemory.number();
     };
-    let made = riscv64::items(alloc, section, base, &relocations, c_extension != 0);
+    let made = riscv64::items(alloc, section, base, &relocations, c_extension);
     put(made, items, len, faulty)
 }
 
@@ -207,7 +206,7 @@ pub extern "C" fn linker_utils_loongarch_items_nonnull(
     alloc: Global,
     section: &[u8],
     base: u64,
-    relocations: &[RelocationNumbers],
+    relocations: &[SectionRelocation],
     items: &mut [ItemNumbers],
     len: &mut usize,
     faulty: &mut usize,

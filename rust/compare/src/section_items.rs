@@ -13,7 +13,7 @@ use linker_utils::relaxation::OutOfMemory;
 /// A relocation of a section, and what it refers to in a run.
 #[repr(C)]
 #[derive(Clone, Copy)]
-pub struct RelocationNumbers {
+pub struct SectionRelocation {
     /// Its place, `r_offset`: an offset in the section.
     pub offset: u64,
     /// The input offset in the run that it refers to: S + A, or the PLT entry.
@@ -29,7 +29,7 @@ pub struct RelocationNumbers {
     pub has_target: u8,
 }
 
-impl RelocationNumbers {
+impl SectionRelocation {
     #[inline(always)]
     fn relocation(&self) -> Relocation {
         Relocation {
@@ -48,7 +48,7 @@ impl RelocationNumbers {
 
 /// The relocations that C's structs are.
 fn relocations_of(
-    relocations: &[RelocationNumbers],
+    relocations: &[SectionRelocation],
 ) -> Result<Vec<Relocation>, OutOfMemory> {
     let mut made = Vec::fallible_with_capacity(relocations.len())?;
     for numbers in relocations {
@@ -115,7 +115,7 @@ fn put(
 }
 
 /// Writes the items that the relocations of a RISC-V section make, as `riscv64::items`. The section
-/// begins at the input offset `base` of the run. `c_extension` isn't 0 where the C extension may be
+/// begins at the input offset `base` of the run. `c_extension` says whether the C extension may be
 /// used.
 ///
 /// `items` has as many elements as there are relocations, since each makes one item at most. `len`
@@ -126,8 +126,8 @@ fn put(
 pub fn linker_utils_riscv_items_nonnull(
     section: &[u8],
     base: u64,
-    relocations: &[RelocationNumbers],
-    c_extension: u32,
+    relocations: &[SectionRelocation],
+    c_extension: bool,
     items: &mut [ItemNumbers],
     len: &mut usize,
     faulty: &mut usize,
@@ -141,7 +141,7 @@ pub fn linker_utils_riscv_items_nonnull(
     let Ok(relocations) = relocations_of(relocations) else {
         return Status::OutOfMemory.number();
     };
-    let made = riscv64::items(section, base, &relocations, c_extension != 0);
+    let made = riscv64::items(section, base, &relocations, c_extension);
     put(made, items, len, faulty)
 }
 
@@ -150,7 +150,7 @@ pub fn linker_utils_riscv_items_nonnull(
 pub fn linker_utils_loongarch_items_nonnull(
     section: &[u8],
     base: u64,
-    relocations: &[RelocationNumbers],
+    relocations: &[SectionRelocation],
     items: &mut [ItemNumbers],
     len: &mut usize,
     faulty: &mut usize,

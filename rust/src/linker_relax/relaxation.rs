@@ -15,7 +15,7 @@ use passes::{find_places, keep, lay_out, lengthen, shorten};
 
 /// One form of the instructions of a site, as C has it.
 #[repr(C)]
-#[derive(Debug, Clone, Copy, PartialEq, Eq)]
+#[derive(Debug, Clone, Copy, PartialEq, Eq, Hash)]
 pub struct Shape {
     /// How far below its output offset the target may lie, in bytes.
     pub behind: u64,
@@ -29,7 +29,7 @@ pub struct Shape {
 
 /// The forms that the instructions of a site can have, by ascending length, as C has them.
 #[repr(C)]
-#[derive(Debug, Clone, Copy, PartialEq, Eq)]
+#[derive(Debug, Clone, Copy, PartialEq, Eq, Hash)]
 pub struct Shapes {
     /// The short forms, of which the first `count` count.
     pub short: [Shape; 2],
@@ -40,7 +40,7 @@ pub struct Shapes {
 }
 
 /// Instructions that can become shorter where they reach their target.
-#[derive(Debug, Clone, Copy, PartialEq, Eq)]
+#[derive(Debug, Clone, Copy, PartialEq, Eq, Hash)]
 pub struct Site {
     /// The input offset of its first byte.
     pub offset: u64,
@@ -53,7 +53,7 @@ pub struct Site {
 }
 
 /// Nops that align what follows them.
-#[derive(Debug, Clone, Copy, PartialEq, Eq)]
+#[derive(Debug, Clone, Copy, PartialEq, Eq, Hash)]
 pub struct Alignment {
     /// The input offset of the first nop.
     pub offset: u64,
@@ -66,7 +66,7 @@ pub struct Alignment {
 }
 
 /// A part of a run that relaxation may shorten.
-#[derive(Debug, Clone, Copy, PartialEq, Eq)]
+#[derive(Debug, Clone, Copy, PartialEq, Eq, Hash)]
 pub enum Item {
     /// Instructions.
     Site(Site),
@@ -299,4 +299,5 @@ pub fn relax(items: &[Item], start: u64) -> Result<Plan, OutOfMemory> {
 /// The deletions of a relaxed run, as `deletions` lists them, translate the offset of each item and of
 /// each target to what the layout leaves below it. So each distance that a shape reaches is one of
 /// output offsets.
+#[doc(hidden)]
 pub fn translations_are_exact() {}

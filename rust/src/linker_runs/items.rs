@@ -3,7 +3,7 @@
 
 use crate::support::*;
 /// A relocation of a section.
-#[derive(Debug, Clone, Copy, PartialEq, Eq)]
+#[derive(Debug, Clone, Copy, PartialEq, Eq, Hash)]
 pub struct Relocation {
     /// Its place, `r_offset`: an offset in the section.
     pub offset: u64,
@@ -19,7 +19,7 @@ pub struct Relocation {
 }
 
 /// Why no items are made of relocations.
-#[derive(Debug, Clone, Copy, PartialEq, Eq)]
+#[derive(Debug, Clone, Copy, PartialEq, Eq, Hash)]
 pub enum ItemsError {
     /// Out of memory for the items.
     OutOfMemory,

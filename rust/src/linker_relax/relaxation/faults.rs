@@ -6,7 +6,7 @@ use super::{Alignment, Item, Shapes};
 
 /// Why a run can't be relaxed: what is wrong with one of its items. Of an item that has several
 /// faults, the one that comes first here is told. u is the greatest unit of all short shapes.
-#[derive(Debug, Clone, Copy, PartialEq, Eq)]
+#[derive(Debug, Clone, Copy, PartialEq, Eq, Hash)]
 pub enum Fault {
     /// It begins below the end of the item before it.
     Overlaps,
@@ -39,7 +39,7 @@ pub enum Fault {
 }
 
 /// A faulty item of a run.
-#[derive(Debug, Clone, Copy, PartialEq, Eq)]
+#[derive(Debug, Clone, Copy, PartialEq, Eq, Hash)]
 pub struct ItemFault {
     /// The item's index.
     pub index: usize,
