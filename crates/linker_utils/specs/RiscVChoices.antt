@@ -2,7 +2,7 @@
 -- Relaxation", "Compressed Function Call Relaxation", "Compressed Tail Call Relaxation", "LUI
 -- Relaxation", "Local-Exec TLS Relaxation", "TLS Descriptors -> Initial Exec Relaxation", "TLS
 -- Descriptors -> Local Exec Relaxation" and the relaxation of GOT loads).
-use Rattle.std.specs.Prelude.{ℕ, List, [], ◌∷◌, Option, ℤ, pos, ◌⊎◌, ◌≡◌, ◌++◌}
+use Rattle.std.specs.Prelude.{ℕ, List, [], ◌∷◌, Option, pos, ◌⊎◌, ◌≡◌, ◌++◌, true, ⊤}
 use Rattle.linker_utils.specs.Choices.{Condition, fixed_address, fixed_distance, compressible}
 use Rattle.linker_utils.specs.Choices.{marked, without_plt, low_12, in_reach, low_12_bounds}
 use Rattle.linker_utils.specs.Choices.{executable, bound, addend, within, in_reach_if_known}
@@ -22,6 +22,9 @@ use Rattle.linker_utils.specs.declared.riscv64.rewrites.RelaxationKind.TheVarian
 
 abbrev pub RiscVEntry : Type 0
 RiscVEntry = Entry RelaxationKind RiscVRelocation
+
+abbrev pub RiscVChoice : Type 0
+RiscVChoice = Choice RelaxationKind RiscVRelocation
 
 -- the row of a name
 abbrev pub riscv_row_of : RiscVRelocation → Option RelocationKindInfo
@@ -80,7 +83,8 @@ to_local_exec = executable ∷ without_entry (in_reach_if_known r.R_RISCV_TPREL_
 
 abbrev pub to_short_local_exec : List (Condition RiscVRelocation)
 to_short_local_exec =
-    executable ∷ without_entry (within r.R_RISCV_TPREL_LO12_I low_12_bounds 0 ∷ [])
+    executable ∷ without_entry (in_reach_if_known r.R_RISCV_TPREL_HI20 0
+    ∷ within r.R_RISCV_TPREL_LO12_I low_12_bounds 0 ∷ [])
 
 abbrev pub to_initial_exec : List (Condition RiscVRelocation)
 to_initial_exec = executable ∷ in_reach_if_known r.R_RISCV_TLS_GOT_HI20 0 ∷ []
@@ -149,7 +153,69 @@ pub record AppliesToRiscV (Asked : RelaxationKind → List ℕ → ℕ → Type 
   pub conditions : AllHold riscv_row_of facts.operands facts e.conditions
 
 -- `NoOp` and the same relocation where no entry applies
-abbrev pub IsRiscVChoice : RiscVRelocation → List ℕ → ℕ → LinkFacts
-    → Choice RelaxationKind RiscVRelocation → Type 0
+abbrev pub IsRiscVChoice : RiscVRelocation → List ℕ → ℕ → LinkFacts → RiscVChoice → Type 0
 IsRiscVChoice name section o facts chosen =
     IsFirst (AppliesToRiscV (IsAskedFor name) section o facts) (riscv_entries name) (choice kinds.NoOp name) chosen
+
+-- ---- the relocations of a pair or of a sequence
+
+abbrev pub IsAmong : RiscVChoice × RiscVChoice → List (RiscVChoice × RiscVChoice) → Type 0
+IsAmong x [] = ⊥
+IsAmong x (y ∷ ys) = (x ≡ y) ⊎ IsAmong x ys
+
+-- At both offsets are instructions that the relocations ask for with the rewrites of each line.
+abbrev pub AreAskedFor : RiscVRelocation → RiscVRelocation → List (RiscVChoice × RiscVChoice)
+    → List ℕ → ℕ → ℕ → Type 0
+AreAskedFor first second [] section o p = ⊤
+AreAskedFor first second (x ∷ xs) section o p =
+    IsAskedFor first x.0.kind section o × IsAskedFor second x.1.kind section p
+    × AreAskedFor first second xs section o p
+
+-- Two relocations of one sequence, wherever its instructions are, with the same facts: both choices
+-- are those of one line, or both relocations are left.
+abbrev pub AreChosenAlike : RiscVRelocation → RiscVRelocation → List (RiscVChoice × RiscVChoice)
+    → LinkFacts → Type 0
+AreChosenAlike first second lines facts =
+    (section : List ℕ) (o p : ℕ) (a b : RiscVChoice) → AreAskedFor first second lines section o p
+    → IsRiscVChoice first section o facts a → IsRiscVChoice second section p facts b
+    → IsAmong (a, b) (lines ++ (choice kinds.NoOp first, choice kinds.NoOp second) ∷ [])
+
+abbrev pub deleted : RiscVChoice
+deleted = choice kinds.Delete r.R_RISCV_NONE
+
+abbrev pub nop : RiscVChoice
+nop = choice kinds.ReplaceWithLongNop r.R_RISCV_NONE
+
+-- the choices for the `jalr` of a descriptor: for local-exec in one instruction and in two, and for
+-- initial-exec
+abbrev pub from_zero : RiscVChoice
+from_zero = choice kinds.CallToAddiZero r.R_RISCV_TPREL_LO12_I
+
+abbrev pub from_high : RiscVChoice
+from_high = choice kinds.CallToAddi r.R_RISCV_TPREL_LO12_I
+
+abbrev pub from_got : RiscVChoice
+from_got = choice kinds.CallToLd r.R_RISCV_PCREL_LO12_I
+
+-- the four relocations of a TLS descriptor
+abbrev pub DescriptorIsChosenAlike : Type 0
+DescriptorIsChosenAlike =
+    (facts : LinkFacts) → AreChosenAlike r.R_RISCV_TLSDESC_HI20 r.R_RISCV_TLSDESC_LOAD_LO12
+    ((deleted, deleted) ∷ (nop, nop) ∷ (deleted, deleted) ∷ (nop, nop) ∷ []) facts
+    × AreChosenAlike r.R_RISCV_TLSDESC_HI20 r.R_RISCV_TLSDESC_CALL
+    ((deleted, from_zero) ∷ (nop, from_zero) ∷ (deleted, from_high) ∷ (nop, from_high)
+    ∷ (deleted, from_got) ∷ (nop, from_got) ∷ []) facts
+    × AreChosenAlike r.R_RISCV_TLSDESC_ADD_LO12 r.R_RISCV_TLSDESC_CALL
+    ((deleted, from_zero) ∷ (nop, from_zero)
+    ∷ (choice kinds.AddiToLui r.R_RISCV_TPREL_HI20, from_high)
+    ∷ (choice kinds.AddiToAuipc r.R_RISCV_TLS_GOT_HI20, from_got) ∷ []) facts
+
+-- the `auipc` of a GOT entry and the `ld` whose high part that is
+abbrev pub GotPairIsChosenAlike : Type 0
+GotPairIsChosenAlike =
+    (facts : LinkFacts) → facts.has_got_high_part ≡ true
+    → AreChosenAlike r.R_RISCV_GOT_HI20 r.R_RISCV_PCREL_LO12_I
+    ((
+      choice kinds.NoOp r.R_RISCV_PCREL_HI20,
+      choice kinds.LdToAddi r.R_RISCV_PCREL_LO12_I,
+    ) ∷ []) facts

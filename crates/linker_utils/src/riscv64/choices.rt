@@ -12,12 +12,14 @@ ghost use Rattle.linker_utils.specs.RiscVChoices.{near_call, no_high_part, short
 ghost use Rattle.linker_utils.specs.RiscVChoices.{low_part, by_low_offset, low_offset};
 ghost use Rattle.linker_utils.specs.RiscVChoices.{without_entry, to_local_exec};
 ghost use Rattle.linker_utils.specs.RiscVChoices.{to_short_local_exec, to_initial_exec, without_got};
+ghost use Rattle.linker_utils.specs.RiscVChoices.{DescriptorIsChosenAlike, GotPairIsChosenAlike};
 ghost use Rattle.linker_utils.specs.RiscVOriginals.{riscv_matches, IsLui, IsAuipc, IsLd, IsAddTp};
 ghost use Rattle.linker_utils.specs.RiscVOriginals.{IsAddiToA0, IsCallOfDescriptor};
 ghost use Rattle.linker_elf.specs.Value.{sum_64};
 
-use super::rewrites::{is_add_tp, is_addi_to_a0, is_auipc, is_call_of_descriptor, is_ld, is_lui};
-use super::rewrites::{word_at};
+use super::rewrites::{
+    is_add_tp, is_addi_to_a0, is_auipc, is_call_of_descriptor, is_ld, is_lui, word_at,
+};
 use super::{RelaxationKind, RiscVRelocation, row};
 use crate::elf::{Choice, LinkFacts};
 use crate::rewrite::has_window;
@@ -148,8 +150,7 @@ fn is_low_part(name: RiscVRelocation, section: &[u8], offset: u64, facts: &LinkF
 fn is_by_low_offset(facts: &LinkFacts) -> bool
     ensures { IsTrue result ↔ AllHold riscv_row_of facts.now.operands facts.now by_low_offset }
 {
-    facts.is_marked
-        && facts.is_within(row(RiscVRelocation::R_RISCV_TPREL_LO12_I), SIGNED_12, 0)
+    facts.is_marked && facts.is_within(row(RiscVRelocation::R_RISCV_TPREL_LO12_I), SIGNED_12, 0)
 }
 
 /// Whether the symbol's definition may be used in place of its GOT entry or of its descriptor.
@@ -179,7 +180,7 @@ fn is_for_short_local_exec(facts: &LinkFacts) -> bool
         ↔ AllHold riscv_row_of facts.now.operands facts.now to_short_local_exec }
 {
     let low = row(RiscVRelocation::R_RISCV_TPREL_LO12_I);
-    facts.is_executable && is_without_entry(facts) && facts.is_within(low, SIGNED_12, 0)
+    is_for_local_exec(facts) && facts.is_within(low, SIGNED_12, 0)
 }
 
 /// Whether it may be in the GOT.
@@ -222,7 +223,10 @@ fn left_out(facts: &LinkFacts) -> RiscVChoice
     if facts.is_marked {
         chosen(RelaxationKind::Delete, RiscVRelocation::R_RISCV_NONE)
     } else {
-        chosen(RelaxationKind::ReplaceWithLongNop, RiscVRelocation::R_RISCV_NONE)
+        chosen(
+            RelaxationKind::ReplaceWithLongNop,
+            RiscVRelocation::R_RISCV_NONE,
+        )
     }
 }
 
@@ -289,13 +293,19 @@ fn of_descriptor_load(section: &[u8], offset: u64, facts: &LinkFacts) -> RiscVCh
     ensures matches { riscv_matches result.kind section.now offset }
 {
     if !has_ld(section, offset) {
-        chosen(RelaxationKind::NoOp, RiscVRelocation::R_RISCV_TLSDESC_LOAD_LO12)
+        chosen(
+            RelaxationKind::NoOp,
+            RiscVRelocation::R_RISCV_TLSDESC_LOAD_LO12,
+        )
     } else if is_for_local_exec(facts) {
         left_out(facts)
     } else if is_for_initial_exec(facts) {
         left_out(facts)
     } else {
-        chosen(RelaxationKind::NoOp, RiscVRelocation::R_RISCV_TLSDESC_LOAD_LO12)
+        chosen(
+            RelaxationKind::NoOp,
+            RiscVRelocation::R_RISCV_TLSDESC_LOAD_LO12,
+        )
     }
 }
 
@@ -307,15 +317,27 @@ fn of_descriptor_sum(section: &[u8], offset: u64, facts: &LinkFacts) -> RiscVCho
     ensures matches { riscv_matches result.kind section.now offset }
 {
     if !has_addi_to_a0(section, offset) {
-        chosen(RelaxationKind::NoOp, RiscVRelocation::R_RISCV_TLSDESC_ADD_LO12)
+        chosen(
+            RelaxationKind::NoOp,
+            RiscVRelocation::R_RISCV_TLSDESC_ADD_LO12,
+        )
     } else if is_for_short_local_exec(facts) {
         left_out(facts)
     } else if is_for_local_exec(facts) {
-        chosen(RelaxationKind::AddiToLui, RiscVRelocation::R_RISCV_TPREL_HI20)
+        chosen(
+            RelaxationKind::AddiToLui,
+            RiscVRelocation::R_RISCV_TPREL_HI20,
+        )
     } else if is_for_initial_exec(facts) {
-        chosen(RelaxationKind::AddiToAuipc, RiscVRelocation::R_RISCV_TLS_GOT_HI20)
+        chosen(
+            RelaxationKind::AddiToAuipc,
+            RiscVRelocation::R_RISCV_TLS_GOT_HI20,
+        )
     } else {
-        chosen(RelaxationKind::NoOp, RiscVRelocation::R_RISCV_TLSDESC_ADD_LO12)
+        chosen(
+            RelaxationKind::NoOp,
+            RiscVRelocation::R_RISCV_TLSDESC_ADD_LO12,
+        )
     }
 }
 
@@ -329,11 +351,20 @@ fn of_descriptor_call(section: &[u8], offset: u64, facts: &LinkFacts) -> RiscVCh
     if !has_call_of_descriptor(section, offset) {
         chosen(RelaxationKind::NoOp, RiscVRelocation::R_RISCV_TLSDESC_CALL)
     } else if is_for_short_local_exec(facts) {
-        chosen(RelaxationKind::CallToAddiZero, RiscVRelocation::R_RISCV_TPREL_LO12_I)
+        chosen(
+            RelaxationKind::CallToAddiZero,
+            RiscVRelocation::R_RISCV_TPREL_LO12_I,
+        )
     } else if is_for_local_exec(facts) {
-        chosen(RelaxationKind::CallToAddi, RiscVRelocation::R_RISCV_TPREL_LO12_I)
+        chosen(
+            RelaxationKind::CallToAddi,
+            RiscVRelocation::R_RISCV_TPREL_LO12_I,
+        )
     } else if is_for_initial_exec(facts) {
-        chosen(RelaxationKind::CallToLd, RiscVRelocation::R_RISCV_PCREL_LO12_I)
+        chosen(
+            RelaxationKind::CallToLd,
+            RiscVRelocation::R_RISCV_PCREL_LO12_I,
+        )
     } else {
         chosen(RelaxationKind::NoOp, RiscVRelocation::R_RISCV_TLSDESC_CALL)
     }
@@ -362,8 +393,12 @@ fn of_entry_low(section: &[u8], offset: u64, facts: &LinkFacts) -> RiscVChoice
 {
     if facts.has_got_high_part
         && is_without_got(facts)
-        && RelaxationKind::LdToAddi.matches(section, offset) {
-        chosen(RelaxationKind::LdToAddi, RiscVRelocation::R_RISCV_PCREL_LO12_I)
+        && RelaxationKind::LdToAddi.matches(section, offset)
+    {
+        chosen(
+            RelaxationKind::LdToAddi,
+            RiscVRelocation::R_RISCV_PCREL_LO12_I,
+        )
     } else {
         chosen(RelaxationKind::NoOp, RiscVRelocation::R_RISCV_PCREL_LO12_I)
     }
@@ -462,9 +497,7 @@ pub fn choose(
             (RelaxationKind::Lo12Rs1ToZero, name)
         }
         RiscVRelocation::R_RISCV_TPREL_LO12_I | RiscVRelocation::R_RISCV_TPREL_LO12_S
-            if is_low_offset(name, section, offset, facts) => {
-            (RelaxationKind::BaseToTp, name)
-        }
+            if is_low_offset(name, section, offset, facts) => { (RelaxationKind::BaseToTp, name) }
         RiscVRelocation::R_RISCV_TPREL_HI20 => return of_high_offset(section, offset, facts),
         RiscVRelocation::R_RISCV_TPREL_ADD => return of_sum_with_tp(section, offset, facts),
         RiscVRelocation::R_RISCV_TLSDESC_HI20 => return of_descriptor_high(section, offset, facts),
@@ -481,3 +514,11 @@ pub fn choose(
     };
     Choice { kind, relocation }
 }
+
+/// With the same facts, all four relocations of a TLS descriptor are rewritten for local-exec, all for
+/// initial-exec, or none; and the `auipc` and the `ld` of a GOT entry are both rewritten or neither is.
+/// This holds where each is at an instruction that it asks for, wherever that is.
+pub fn relocations_are_chosen_alike()
+    ensures descriptor { DescriptorIsChosenAlike }
+    ensures got { GotPairIsChosenAlike }
+{}

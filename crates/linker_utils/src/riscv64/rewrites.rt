@@ -177,10 +177,7 @@ pub(super) fn is_addi_to_a0(word: u32) -> bool
 pub(super) fn is_call_of_descriptor(word: u32) -> bool
     ensures { IsTrue result ↔ IsCallOfDescriptor word }
 {
-    opcode(word) == 0x67
-        && function(word) == 0
-        && destination(word) == 5
-        && upper_bits(word) == 0
+    opcode(word) == 0x67 && function(word) == 0 && destination(word) == 5 && upper_bits(word) == 0
 }
 
 /// The instruction with x4, the thread pointer, as its first source register.
