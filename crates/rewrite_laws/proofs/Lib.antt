@@ -24,6 +24,7 @@ pub mod RiscVLowParts
 pub mod RiscVLuis
 pub mod RiscVMachine
 pub mod RiscVPairs
+pub mod RiscVSums
 pub mod Words
 pub mod X86Branches
 pub mod X86Bytes

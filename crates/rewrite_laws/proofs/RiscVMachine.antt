@@ -38,7 +38,7 @@ is_address (negsuc n) = refl
 pub address_is : (z : ℤ) (t : ℕ) → IsAddress z t → wrapped z ≡ t
 address_is z t e = ap unsigned_abs e
 
-wrapped_is : (z : ℤ) (t n : ℕ) → z +ℤ pos (t * 2 ^ 64) ≡ pos n → wrapped z ≡ n % 2 ^ 64
+pub wrapped_is : (z : ℤ) (t n : ℕ) → z +ℤ pos (t * 2 ^ 64) ≡ pos n → wrapped z ≡ n % 2 ^ 64
 wrapped_is z t n e = ap unsigned_abs (lifted_is z t n e)
 
 -- a sum in two steps

@@ -72,6 +72,9 @@ pub fn riscv64()
     ensures no_high_parts { riscv_laws.LuiIsDeleted }
     ensures low_parts { riscv_laws.LowPartFromZero }
     ensures pairs { riscv_laws.PairFromZero }
+    ensures high_offsets { riscv_laws.OffsetLuiIsDeleted }
+    ensures sums { riscv_laws.SumIsDeleted }
+    ensures low_offsets { riscv_laws.LowPartFromThreadPointer }
     ensures words { riscv_examples.Words }
     ensures halves { riscv_examples.Halves }
     ensures execution { riscv_examples.Execution }
