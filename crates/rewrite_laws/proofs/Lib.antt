@@ -18,6 +18,7 @@ pub mod Ppc64Threads
 pub mod Ppc64WholeWords
 pub mod Ppc64Words
 pub mod RiscVCalls
+pub mod RiscVDescriptors
 pub mod RiscVHighParts
 pub mod RiscVJumps
 pub mod RiscVLowParts

@@ -1,10 +1,10 @@
 -- What the sequences of a TLS descriptor and of a load from the GOT leave.
-use Rattle.std.proofs.Common.{◌≡◌, ◌≢◌, ℕ, ◌+◌, ◌-◌, ◌*◌, ◌%◌, ◌^◌, ◌<◌, ◌≤◌, Bool, true, false, refl}
+use Rattle.std.proofs.Common.{◌≡◌, ◌≢◌, ℕ, ◌+◌, ◌-◌, ◌*◌, ◌/◌, ◌%◌, ◌^◌, ◌<◌, ◌≤◌, Bool, true, false, refl}
 use Rattle.std.proofs.Common.{sym, ◌∙◌, ap, subst, arith, List, [], ◌∷◌, ◌++◌, length, drop, ℤ, pos}
 use Rattle.std.proofs.Common.{◌+ℤ◌, ◌-ℤ◌, Option, Some, inl, inr, if◌then◌else◌, w64}
 use Rattle.std.specs.Prelude.{◌==◌, ◌||◌}
-use Rattle.std.specs.Int.{w32, from_le_bytes, cast_signed, cast_unsigned}
-use Rattle.std.proofs.lemmas.Bool.{eqb-true, ne_eqb, eq-eqb, agree_below}
+use Rattle.std.specs.Int.{w32, from_le_bytes, to_le_bytes, cast_signed, cast_unsigned}
+use Rattle.std.proofs.lemmas.Bool.{eqb-true, ne_eqb, eq-eqb, agree_below, or_parts}
 use Rattle.std.proofs.lemmas.Int.{ints, to_z_pos, of_z-to_z}
 use Rattle.std.proofs.lemmas.List.{append_assoc, drop_at, length-append}
 use Rattle.linker_base.specs.Bits.{field, signed}
@@ -16,10 +16,12 @@ use Rattle.linker_elf.specs.RiscV.{riscv_form, riscv_places}
 use Rattle.linker_elf.specs.RiscVRelocations.{pair_row}
 use Rattle.linker_elf.specs.Value.{sum_64, difference_64, value_of}
 use Rattle.linker_elf.specs.declared.elf.RelocationKind.{RelocationKind}
-use Rattle.linker_elf.specs.declared.elf.RelocationKind.TheVariants.{TpOff}
+use Rattle.linker_elf.specs.declared.elf.RelocationKind.TheVariants.{TpOff, TlsDesc, GotTpOff, GotRelative, Relative, RelativeRiscVLow12}
 use Rattle.linker_elf.specs.declared.elf.value.Operands.{Operands}
 use Rattle.linker_elf.specs.declared.riscv64.forms.RiscVInstruction.TheVariants.{UType, IType}
 use Rattle.linker_utils.specs.RiscVOriginals.{opcode_of, funct3_of, rd_of}
+use Rattle.linker_utils.specs.RiscVRewrites.{rewrites_word, load_to_addi}
+use Rattle.linker_base.specs.Rewrite.{rewritten}
 use Rattle.linker_utils.specs.declared.riscv64.rewrites.RelaxationKind.TheVariants as kinds
 use Rattle.linker_utils.proofs.RiscVRewrites.{cast_negative}
 use Rattle.relocation_laws.specs.RiscVLaws.{DescriptorAddresses, EntryAddresses, ThreadAddresses, RelativeAddresses}
@@ -32,9 +34,9 @@ use Rattle.rewrite_laws.specs.RiscVMachine.{Hart, register, Instruction, lui, au
 use Rattle.rewrite_laws.proofs.AArch64Moves.{distance_is}
 use Rattle.rewrite_laws.proofs.AArch64Steps.{in_two_steps}
 use Rattle.rewrite_laws.proofs.RiscVHighParts.{of_offset, low_12_number}
-use Rattle.rewrite_laws.proofs.RiscVLowParts.{is_action, i_stands, low_sum, word_there, same_loaded}
-use Rattle.rewrite_laws.proofs.RiscVMachine.{at_start, at_second, is_long, fetched_word, steps, is_lui, is_auipc, is_jalr, moved_twice, address_is, other, written}
-use Rattle.rewrite_laws.proofs.Words.{kept_field}
+use Rattle.rewrite_laws.proofs.RiscVLowParts.{is_action, i_stands, low_sum, word_there}
+use Rattle.rewrite_laws.proofs.RiscVMachine.{at_start, at_second, is_long, fetched_word, steps, is_lui, is_auipc, is_jalr, moved_twice, address_is, other, written, unwritten}
+use Rattle.rewrite_laws.proofs.Words.{kept_field, word_below, put_there}
 
 -- ---- registers
 
@@ -74,9 +76,18 @@ module _ (h : Hart) (X Y : ℕ) (u i j : ℤ) (entry f : ℕ) (base : X ≢ 0) (
   pub called : Hart
   called = executed 4 (sums jumps 5 Y 0 (pos 0)) three
 
+  pub called_is : called
+      ≡ executed 4 (sums jumps 5 Y 0 (pos 0)) (executed 4 (sums adds 10 X 0 j) (executed 4 (sums (loads 3) Y X 0 i) (executed 4 (auipc X u) h)))
+  unfolding one two three called
+  called_is = refl
+
   base_of_one : register one X ≡ moved h.pc u
   unfolding one
   base_of_one = written X (moved h.pc u) h base
+
+  memory_of_one : load_number 3 (loaded 8 one.memory entry) ≡ f
+  unfolding one
+  memory_of_one = ap (load_number 3) holds ∙ whole_number f small
 
   function_of_two : register two Y ≡ f
   unfolding two
@@ -85,10 +96,6 @@ module _ (h : Hart) (X Y : ℕ) (u i j : ℤ) (entry f : ℕ) (base : X ≢ 0) (
       written Y (load_number 3 (loaded 8 one.memory (moved (register one X) i))) one function
       ∙ ap (λ n. load_number 3 (loaded 8 one.memory n)) address
       ∙ memory_of_one
-    where
-      memory_of_one : load_number 3 (loaded 8 one.memory entry) ≡ f
-      unfolding one
-      memory_of_one = ap (load_number 3) holds ∙ whole_number f small
 
   base_of_two : register two X ≡ moved h.pc u
   unfolding two
@@ -180,11 +187,14 @@ module _ (changed : ℕ → Bool) (X Y offset at : ℕ) (h k u v w : Hart) (back
 
 -- ---- the new code
 
+ten : 10 ≢ 0
+ten e = absurd (omega (arith, e))
+
 in_two : (k : Hart) (u l : ℤ) (offset : ℕ) → moved (wrapped u) l ≡ offset
     → Leaves offset (sum_64 k.pc 8) k (executed 4 (sums adds 10 10 0 l) (executed 4 (lui 10 u) k))
 in_two k u l offset is =
     let first = executed 4 (lui 10 u) k in
-    let some : 10 ≢ 0 = λ e. absurd (omega (arith, e)) in
+    let some : 10 ≢ 0 = ten in
     record {
       has_offset =
           written 10 (moved (register first 10) l) first some
@@ -210,7 +220,7 @@ by_got : (k : Hart) (u l : ℤ) (entry offset : ℕ) → moved (moved k.pc u) l 
     → Leaves offset (sum_64 k.pc 8) k (executed 4 (sums (loads 3) 10 10 0 l) (executed 4 (auipc 10 u) k))
 by_got k u l entry offset is holds small =
     let first = executed 4 (auipc 10 u) k in
-    let some : 10 ≢ 0 = λ e. absurd (omega (arith, e)) in
+    let some : 10 ≢ 0 = ten in
     record {
       has_offset =
           written 10 (load_number 3 (loaded 8 k.memory (moved (register first 10) l))) first some
@@ -368,3 +378,273 @@ call_word w rs1 op f at from none =
     ∙ ap (λ r. Some (sums jumps r (rs1_of w) 0 ((riscv_form IType).machine w))) at
     ∙ ap (λ r. Some (sums jumps 5 r 0 ((riscv_form IType).machine w))) from
     ∙ ap (λ z. Some (sums jumps 5 rs1 0 z)) (no_immediate w none)
+
+-- what a rewrite of a word leaves of four bytes
+made_len : (new : ℕ → ℕ) (s : List ℕ) → length s ≡ 4 → length (rewritten (Some (rewrites_word new)) s 0) ≡ 4
+made_len new [] e = absurd (omega (arith, e))
+made_len new (p ∷ []) e = absurd (omega (arith, e))
+made_len new (p ∷ q ∷ []) e = absurd (omega (arith, e))
+made_len new (p ∷ q ∷ r ∷ []) e = absurd (omega (arith, e))
+made_len new (p ∷ q ∷ r ∷ t ∷ []) e = refl
+made_len new (p ∷ q ∷ r ∷ t ∷ a ∷ more) e = absurd (omega (arith, e))
+
+made_word : (new : ℕ) (s : List ℕ) → length s ≡ 4 → new < 2 ^ 32 → from_le_bytes w32 (rewritten (Some (rewrites_word (λ _. new))) s 0) ≡ new
+made_word new s e small = word_there s 0 (λ _. new) (omega (arith, e)) small
+
+-- ---- descriptors
+
+-- the hart in which the function is called
+pub record Called (x : Operands) (X Y : ℕ) (h u : Hart) : Type 0 where
+  pub pc : u.pc ≡ loaded 8 h.memory (entry_and_addend x)
+  pub passes : register u 10 ≡ entry_and_addend x
+  pub t0 : register u 5 ≡ sum_64 h.pc 16
+  pub others : (r : ℕ) → (r == 5) ≡ false → (r == 10) ≡ false → (r == Y) ≡ false → (r == X) ≡ false → register u r ≡ register h r
+  pub memory : u.memory ≡ h.memory
+  pub floats : u.floats ≡ h.floats
+
+module _ (descriptors : DescriptorAddresses) (call : Hart → Option Hart) (changed : ℕ → Bool) (x : Operands) (h : Hart)
+    (auipc_bytes ld addi jalr : List ℕ) (d : laws.Descriptor call changed x h auipc_bytes ld addi jalr)
+    (A B C : List ℕ) (of : laws.DescriptorOf x auipc_bytes ld addi A B C) where
+  pub old_run : (u : Hart) × Runs 4 (A ++ B ++ C ++ jalr) h.pc h u × Called x (rd_of (word_of auipc_bytes)) (rd_of (word_of ld)) h u
+  old_run =
+      let x1 = rd_of (word_of auipc_bytes) in
+      let y1 = rd_of (word_of ld) in
+      let ws = d.instructions in
+      let a1 = of.first.applied in
+      let a2 = of.second.applied in
+      let a3 = of.third.applied in
+      let u = (riscv_form UType).machine (word_of A) in
+      let i = (riscv_form IType).machine (word_of B) in
+      let j = (riscv_form IType).machine (word_of C) in
+      let small : h.pc < 2 ^ 64 = subst (λ p. p < 2 ^ 64) (sym d.at) d.small.place in
+      let entry = entry_and_addend x in
+      let f = loaded 8 h.memory entry in
+      let loads_from : moved (moved h.pc u) i ≡ entry =
+      moved_twice h.pc u i ∙ ap (λ p. wrapped (pos p +ℤ (u +ℤ i))) d.at
+      ∙ address_is _ _ (descriptors.0 x d.small x.place auipc_bytes A a1 tt x.place ld B a2 tt) in
+      let passes : moved (moved h.pc u) j ≡ entry =
+      moved_twice h.pc u j ∙ ap (λ p. wrapped (pos p +ℤ (u +ℤ j))) d.at
+      ∙ address_is _ _ (descriptors.1 x d.small x.place auipc_bytes A a1 tt x.place addi C a3 tt) in
+      let w4 = ws.fourth in
+      let la : length A ≡ 4 = of.first.len ∙ d.lengths.0 in
+      let lb : length B ≡ 4 = of.second.len ∙ d.lengths.1 in
+      let lc : length C ≡ 4 = of.third.len ∙ d.lengths.2 in
+      let base = ws.base_not_zero in
+      let function = ws.function_not_zero in
+      let apart = ws.apart in
+      let not_a0 = ws.function_not_a0 in
+      let even = d.even_function in
+      let wide = d.function in (
+        called h x1 y1 u i j entry f base function apart not_a0 loads_from passes refl wide even,
+        subst (λ z. Runs 4 (A ++ B ++ C ++ jalr) h.pc h z)
+            (sym (called_is h x1 y1 u i j entry f base function apart not_a0 loads_from passes refl wide even))
+            (four_run A B C jalr (auipc x1 u) (sums (loads 3) y1 x1 0 i) (sums adds 10 x1 0 j) (sums jumps 5 y1 0 (pos 0)) h small la lb lc d.lengths.3
+            (upper_long TlsDesc x auipc_bytes A a1 0x17 refl ws.first)
+            (low_long TlsDesc x ld B a2 0x03 refl ws.second.0)
+            (low_long TlsDesc x addi C a3 0x13 refl ws.third.0)
+            (is_long (word_of jalr) 0x67 w4.0 refl)
+            (upper_word TlsDesc x auipc_bytes A a1 x1 ws.first refl)
+            (load_word TlsDesc x ld B a2 y1 x1 ws.second.0 ws.second.1 refl ws.base_of_ld)
+            (sum_word TlsDesc x addi C a3 10 x1 ws.third.0 ws.third.1 ws.third.2 ws.base_of_addi)
+            (call_word (word_of jalr) y1 w4.0 w4.1 w4.2 ws.base_of_jalr w4.3)
+            refl refl refl),
+        record {
+          pc = called_pc h x1 y1 u i j entry f base function apart not_a0 loads_from passes refl wide even;
+          passes = called_a0 h x1 y1 u i j entry f base function apart not_a0 loads_from passes refl wide even;
+          t0 = called_t0 h x1 y1 u i j entry f base function apart not_a0 loads_from passes refl wide even;
+          others = called_others h x1 y1 u i j entry f base function apart not_a0 loads_from passes refl wide even;
+          memory = called_memory h x1 y1 u i j entry f base function apart not_a0 loads_from passes refl wide even;
+          floats = called_floats h x1 y1 u i j entry f base function apart not_a0 loads_from passes refl wide even;
+        },
+      )
+
+  -- with the new code
+  pub together : (k w : Hart) (n : ℕ) (new : List ℕ) → Runs n new k.pc k w → Leaves (thread_offset x) (sum_64 k.pc (4 * n)) k w → AreAlike no_register h k
+      → laws.EndAsReturned call (laws.scratch_of auipc_bytes ld changed) (A ++ B ++ C ++ jalr) h n new k
+  together k w n new runs leaves alike =
+      let old = old_run in
+      let u = old.0 in
+      let c = old.2 in
+      record {
+        end = u;
+        new_end = w;
+        runs = old.1;
+        new_runs = runs;
+        so = λ v returned.
+            ends_alike changed (rd_of (word_of auipc_bytes)) (rd_of (word_of ld)) (thread_offset x) (sum_64 k.pc (4 * n)) h k u v w
+            (d.returns u v c.memory c.pc c.passes returned) leaves c.others c.floats c.memory c.t0 alike;
+      }
+
+pub to_local_exec : DescriptorAddresses → ThreadAddresses → laws.DescriptorToLocalExec
+to_local_exec descriptors thread call changed x y h k auipc_bytes ld addi jalr d A B C of sy one small alike high low high_code low_code =
+    let u = (riscv_form UType).machine (word_of high) in
+    let l = (riscv_form IType).machine (word_of low) in
+    let before = laws.after_rewrite kinds.AddiToLui addi 0 in
+    let before' = laws.after_rewrite kinds.CallToAddi jalr 0 in
+    let a1 = high_code.applied in
+    let a2 = low_code.applied in
+    let w1 = made_word 0x537 addi d.lengths.2 (omega arith) in
+    let w2 = made_word 0x50513 jalr d.lengths.3 (omega arith) in
+    let value : moved (wrapped u) l ≡ thread_offset x =
+    in_two_steps u l
+    ∙ distance_is (u +ℤ l) y.tls_base (symbol_address y) sy.tls_base (sum_below y.symbol _) (thread.0 y sy y.place before high a1 tt y.place before' low a2 tt)
+    ∙ sym one in
+    together descriptors call changed x h auipc_bytes ld addi jalr d A B C of k _ 2 (high ++ low)
+    (two_run high low (lui 10 u) (sums adds 10 10 0 l) k small (high_code.len ∙ made_len (λ _. 0x537) addi d.lengths.2) (low_code.len ∙ made_len (λ _. 0x50513) jalr d.lengths.3)
+    (upper_long TpOff y before high a1 0x37 refl (ap opcode_of w1)) (low_long TpOff y before' low a2 0x13 refl (ap opcode_of w2))
+    (lui_word TpOff y before high a1 10 (ap opcode_of w1) (ap rd_of w1))
+    (sum_word TpOff y before' low a2 10 10 (ap opcode_of w2) (ap funct3_of w2) (ap rd_of w2) (ap rs1_of w2))
+    refl)
+    (in_two k u l (thread_offset x) value) alike
+
+pub to_short_local_exec : DescriptorAddresses → laws.DescriptorToShortLocalExec
+to_short_local_exec descriptors call changed x y h k auipc_bytes ld addi jalr d A B C of one is_low small alike low low_code =
+    let l = (riscv_form IType).machine (word_of low) in
+    let before' = laws.after_rewrite kinds.CallToAddiZero jalr 0 in
+    let a2 = low_code.applied in
+    let w2 = made_word 0x513 jalr d.lengths.3 (omega arith) in
+    let n = thread_offset y in
+    let wide = of_offset.1 y in
+    let value : moved 0 l ≡ thread_offset x =
+    ap (λ p. moved 0 (signed 12 p)) (i_stands TpOff y n before' low a2 wide (of_offset.0 IType y))
+    ∙ low_sum 0 n (n % 2 ^ 32 % 4096) wide (low_12_number n wide is_low) refl
+    ∙ (let e : sum_64 0 n ≡ n = omega (arith, wide) in e) ∙ sym one in
+    together descriptors call changed x h auipc_bytes ld addi jalr d A B C of k _ 1 low (
+      executed 4 (sums adds 10 0 0 l) k,
+      steps_last low k.pc 0 low (sums adds 10 0 0 l) k (at_start k.pc small) refl (low_code.len ∙ made_len (λ _. 0x513) jalr d.lengths.3)
+          (low_long TpOff y before' low a2 0x13 refl (ap opcode_of w2))
+          (sum_word TpOff y before' low a2 10 0 (ap opcode_of w2) (ap funct3_of w2) (ap rd_of w2) (ap rs1_of w2)),
+      refl,
+    )
+    (in_one k l (thread_offset x) value) alike
+
+pub to_initial_exec : DescriptorAddresses → EntryAddresses → laws.DescriptorToInitialExec
+to_initial_exec descriptors entries call changed x y h k auipc_bytes ld addi jalr d A B C of sy holds at alike high low high_code low_code =
+    let u = (riscv_form UType).machine (word_of high) in
+    let l = (riscv_form IType).machine (word_of low) in
+    let before = laws.after_rewrite kinds.AddiToAuipc addi 0 in
+    let before' = laws.after_rewrite kinds.CallToLd jalr 0 in
+    let a1 = high_code.applied in
+    let a2 = low_code.applied in
+    let w1 = made_word 0x517 addi d.lengths.2 (omega arith) in
+    let w2 = made_word 0x53503 jalr d.lengths.3 (omega arith) in
+    let small : k.pc < 2 ^ 64 = subst (λ p. p < 2 ^ 64) (sym at) sy.place in
+    let value : moved (moved k.pc u) l ≡ entry_and_addend y =
+    moved_twice k.pc u l ∙ ap (λ p. wrapped (pos p +ℤ (u +ℤ l))) at
+    ∙ address_is _ _ (entries.1.0 y sy y.place before high a1 tt y.place before' low a2 tt) in
+    together descriptors call changed x h auipc_bytes ld addi jalr d A B C of k _ 2 (high ++ low)
+    (two_run high low (auipc 10 u) (sums (loads 3) 10 10 0 l) k small (high_code.len ∙ made_len (λ _. 0x517) addi d.lengths.2) (low_code.len ∙ made_len (λ _. 0x53503) jalr d.lengths.3)
+    (upper_long GotTpOff y before high a1 0x17 refl (ap opcode_of w1)) (low_long RelativeRiscVLow12 (laws.of_entry y) before' low a2 0x03 refl (ap opcode_of w2))
+    (upper_word GotTpOff y before high a1 10 (ap opcode_of w1) (ap rd_of w1))
+    (load_word RelativeRiscVLow12 (laws.of_entry y) before' low a2 10 10 (ap opcode_of w2) (ap funct3_of w2) (ap rd_of w2) (ap rs1_of w2))
+    refl)
+    (by_got k u l (entry_and_addend y) (thread_offset x) value holds (let e : thread_offset x < 2 ^ 64 = omega arith in e)) alike
+
+-- ---- a load from the GOT
+
+-- what both leave
+module _ (h k : Hart) (X Y a b : ℕ) (alike : AreAlike no_register h k) (u i u' i' : ℤ) (base : X ≢ 0)
+    (entry : ℕ) (loads_from : moved (moved h.pc u) i ≡ entry) (holds : loaded 8 h.memory entry ≡ a) (small : a < 2 ^ 64)
+    (is : moved (moved k.pc u') i' ≡ b) where
+  pub has_address : laws.HaveAddress X Y a b (sum_64 h.pc 8) (sum_64 k.pc 8)
+      (executed 4 (sums (loads 3) Y X 0 i) (executed 4 (auipc X u) h)) (executed 4 (sums adds Y X 0 i') (executed 4 (auipc X u') k))
+  has_address =
+      let first = executed 4 (auipc X u) h in
+      let first' = executed 4 (auipc X u') k in
+      let v = load_number 3 (loaded 8 h.memory (moved (register first X) i)) in
+      let v' = moved (register first' X) i' in
+      record {
+        alike = record {
+          integers = λ q d.
+              let n = or_parts (q == X) (q == Y) d in
+              other Y v first q n.1 ∙ other X (moved h.pc u) h q n.0 ∙ alike.integers q refl
+              ∙ sym (other Y v' first' q n.1 ∙ other X (moved k.pc u') k q n.0);
+          floats = alike.floats;
+          memory = alike.memory;
+        };
+        has = λ some.
+            written Y v first some
+            ∙ ap (λ n. load_number 3 (loaded 8 h.memory (moved n i))) (written X (moved h.pc u) h base)
+            ∙ ap (λ n. load_number 3 (loaded 8 h.memory n)) loads_from ∙ ap (load_number 3) holds ∙ whole_number a small;
+        new_has = λ some. written Y v' first' some ∙ ap (λ n. moved n i') (written X (moved k.pc u') k base) ∙ is;
+        next = let e : sum_64 (sum_64 h.pc 4) 4 ≡ sum_64 h.pc 8 = omega arith in e;
+        new_next = let e : sum_64 (sum_64 k.pc 4) 4 ≡ sum_64 k.pc 8 = omega arith in e;
+      }
+
+load_word_made : (w : ℕ) → w < 2 ^ 32 → load_to_addi w < 2 ^ 32
+load_word_made w small = omega arith
+
+pub got_to_address : EntryAddresses → RelativeAddresses → laws.GotToAddress
+got_to_address entries relative x y h k auipc_bytes ld sx sy hx ky alike lengths is holds A B high low code_a code_b code_h code_l =
+    let before' = laws.after_rewrite kinds.LdToAddi ld 0 in
+    let a1 = code_a.applied in
+    let a2 = code_b.applied in
+    let a3 = code_h.applied in
+    let a4 = code_l.applied in
+    let x1 = rd_of (word_of auipc_bytes) in
+    let y1 = rd_of (word_of ld) in
+    let u = (riscv_form UType).machine (word_of A) in
+    let i = (riscv_form IType).machine (word_of B) in
+    let u' = (riscv_form UType).machine (word_of high) in
+    let i' = (riscv_form IType).machine (word_of low) in
+    let ld_below : word_of ld < 2 ^ 32 = word_below ld code_b.old_bytes (omega (arith, lengths.1)) in
+    let made : word_of before' ≡ load_to_addi (word_of ld) = word_there ld 0 load_to_addi (omega (arith, lengths.1)) (load_word_made (word_of ld) ld_below) in
+    let op : opcode_of (word_of before') ≡ 0x13 = ap opcode_of made ∙ (let e : opcode_of (load_to_addi (word_of ld)) ≡ 0x13 = omega arith in e) in
+    let f : funct3_of (word_of before') ≡ 0 = ap funct3_of made ∙ (let e : funct3_of (load_to_addi (word_of ld)) ≡ 0 = omega arith in e) in
+    let rd : rd_of (word_of before') ≡ y1 = ap rd_of made ∙ (let e : rd_of (load_to_addi (word_of ld)) ≡ rd_of (word_of ld) = omega arith in e) in
+    let rs1 : rs1_of (word_of before') ≡ x1 = ap rs1_of made ∙ (let e : rs1_of (load_to_addi (word_of ld)) ≡ rs1_of (word_of ld) = omega arith in e) ∙ is.base in
+    let small : h.pc < 2 ^ 64 = subst (λ p. p < 2 ^ 64) (sym hx) sx.place in
+    let small' : k.pc < 2 ^ 64 = subst (λ p. p < 2 ^ 64) (sym ky) sy.place in
+    let loads_from : moved (moved h.pc u) i ≡ entry_and_addend x =
+    moved_twice h.pc u i ∙ ap (λ p. wrapped (pos p +ℤ (u +ℤ i))) hx
+    ∙ address_is _ _ (entries.0.0 x sx x.place auipc_bytes A a1 tt x.place ld B a2 tt) in
+    let leads : moved (moved k.pc u') i' ≡ symbol_address y =
+    moved_twice k.pc u' i' ∙ ap (λ p. wrapped (pos p +ℤ (u' +ℤ i'))) ky
+    ∙ address_is _ _ (relative.0 y sy y.place auipc_bytes high a3 tt y.place before' low a4 tt) in
+    record {
+      end = executed 4 (sums (loads 3) y1 x1 0 i) (executed 4 (auipc x1 u) h);
+      new_end = executed 4 (sums adds y1 x1 0 i') (executed 4 (auipc x1 u') k);
+      runs =
+          two_run A B (auipc x1 u) (sums (loads 3) y1 x1 0 i) h small (code_a.len ∙ lengths.0) (code_b.len ∙ lengths.1)
+          (upper_long GotRelative x auipc_bytes A a1 0x17 refl is.first) (low_long RelativeRiscVLow12 (laws.of_entry x) ld B a2 0x03 refl is.second.0)
+          (upper_word GotRelative x auipc_bytes A a1 x1 is.first refl)
+          (load_word RelativeRiscVLow12 (laws.of_entry x) ld B a2 y1 x1 is.second.0 is.second.1 refl is.base) refl;
+      new_runs =
+          two_run high low (auipc x1 u') (sums adds y1 x1 0 i') k small' (code_h.len ∙ lengths.0) (code_l.len ∙ made_len load_to_addi ld lengths.1)
+          (upper_long Relative y auipc_bytes high a3 0x17 refl is.first) (low_long RelativeRiscVLow12 y before' low a4 0x13 refl op)
+          (upper_word Relative y auipc_bytes high a3 x1 is.first refl)
+          (sum_word RelativeRiscVLow12 y before' low a4 y1 x1 op f rd rs1) refl;
+      so = has_address h k x1 y1 (symbol_address x) (symbol_address y) alike u i u' i' is.not_zero (entry_and_addend x) loads_from holds (sum_below x.symbol _) leads;
+    }
+
+-- ---- a nop of four bytes
+
+pub long_nop : laws.LongNopDoesNothing
+unfolding place_sum
+long_nop section o m new h k small alike =
+    let w = word_there section o (λ _. 0x13) m.0 (omega arith) in
+    let bytes = drop o (laws.after_rewrite kinds.ReplaceWithLongNop section o) in
+    let nop : Instruction = sums adds 0 0 0 (pos 0) in
+    let long : 4 ≤ length bytes =
+    subst (λ xs. 4 ≤ length xs) (sym (put_there section o 4 (λ _. to_le_bytes w32 0x13) (let inside = m.0 in omega (arith, inside))))
+    (omega (arith, length-append (to_le_bytes w32 0x13) (drop (o + 4) section))) in
+    record {
+      end = executed 4 nop h;
+      new_end = k;
+      runs = (
+        executed 4 nop h,
+        steps bytes h.pc 0 4 nop h (at_start h.pc small)
+            (fetched_word bytes nop (ap (λ n. field n 0 2) w) long (ap of_word w)),
+        refl,
+      );
+      new_runs = refl;
+      so = record {
+        alike = record {
+          integers = λ q d. unwritten 0 h q ∙ alike.integers q d;
+          floats = alike.floats;
+          memory = alike.memory;
+        };
+        next = refl;
+        new_next = refl;
+      };
+    }

@@ -262,7 +262,7 @@ some_action o f is =
 -- ---- the sum
 
 -- the signed low 12 bits of a number of 12 bits add the number
-low_sum : (v n l : ℕ) → n < 2 ^ 64 → (n < 0x800) ⊎ (2 ^ 64 - 0x800 ≤ n) → l ≡ n % 2 ^ 32 % 4096
+pub low_sum : (v n l : ℕ) → n < 2 ^ 64 → (n < 0x800) ⊎ (2 ^ 64 - 0x800 ≤ n) → l ≡ n % 2 ^ 32 % 4096
     → moved v (signed 12 l) ≡ sum_64 v n
 low_sum v n l small low e =
     elim (signed_cases 12 l) [

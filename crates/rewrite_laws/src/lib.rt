@@ -75,11 +75,18 @@ pub fn riscv64()
     ensures high_offsets { riscv_laws.OffsetLuiIsDeleted }
     ensures sums { riscv_laws.SumIsDeleted }
     ensures low_offsets { riscv_laws.LowPartFromThreadPointer }
+    ensures nops { riscv_laws.LongNopDoesNothing }
+    ensures descriptor_to_local_exec { riscv_laws.DescriptorToLocalExec }
+    ensures descriptor_to_short_local_exec { riscv_laws.DescriptorToShortLocalExec }
+    ensures descriptor_to_initial_exec { riscv_laws.DescriptorToInitialExec }
+    ensures got { riscv_laws.GotToAddress }
     ensures words { riscv_examples.Words }
     ensures halves { riscv_examples.Halves }
     ensures execution { riscv_examples.Execution }
     ensures sequences { riscv_examples.Sequences }
-{}
+{
+    relocation_laws::riscv64();
+}
 
 /// LoongArch: the address of a symbol without its GOT entry, or by `pcaddi`; the offset of a variable
 /// from the thread pointer in the instructions, or by its GOT entry in place of a descriptor's
