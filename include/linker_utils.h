@@ -626,7 +626,11 @@ struct linker_utils_choice {
  * possible: the `adrp` of a pair. The bytes are those of the object file: the two halves of a pair,
  * and the instructions of a TLS descriptor's sequence on AArch64 and LoongArch, test the whole of it, so that all
  * are chosen alike where the facts and the symbol are the same. So they have to be chosen before one
- * of them is rewritten. */
+ * of them is rewritten. On RISC-V the instructions of a descriptor, and the `auipc` and `ld` of a GOT
+ * entry, may be apart: each is chosen by the facts of the high part that its label names, `is_marked`
+ * of a descriptor's R_RISCV_TLSDESC_HI20 among them. After ADDI_TO_AUIPC the place of
+ * R_RISCV_TLS_GOT_HI20, and of the R_RISCV_PCREL_LO12_I that CALL_TO_LD leaves, is that of the `addi`,
+ * and S of the latter is the GOT entry. */
 static inline uint32_t linker_utils_choose(uint16_t machine, uint32_t r_type,
                                            const uint8_t *section, size_t section_len,
                                            uint64_t offset,

@@ -421,10 +421,49 @@ fn of_entry_low(section: &[u8], offset: u64, facts: &LinkFacts) -> RiscVChoice
 /// PLT entry and that its distance is fixed, the others that its address is fixed. Where none
 /// applies, it is `NoOp` and the same relocation.
 ///
+/// Of thread-local storage and of GOT entries, with names that have the prefix `R_RISCV_`:
+///
+/// | Relocation | Instruction | Rewrite | Relocation after it | Where |
+/// |---|---|---|---|---|
+/// | `TPREL_HI20` | `lui` | `Delete` | `NONE` | near `tp` |
+/// | `TPREL_ADD` | `add rd, rs1, tp` | `Delete` | `NONE` | near `tp` |
+/// | `TPREL_LO12_I`, `_S` | one that adds 12 bits | `BaseToTp` | the same | near `tp` |
+/// | `TLSDESC_HI20` | `auipc` | `Delete`, `ReplaceWithLongNop` | `NONE` | local-exec, initial-exec |
+/// | `TLSDESC_LOAD_LO12` | `ld` | the same | `NONE` | local-exec, initial-exec |
+/// | `TLSDESC_ADD_LO12` | `addi a0, rs1` | the same | `NONE` | short local-exec |
+/// | | | `AddiToLui` | `TPREL_HI20` | local-exec |
+/// | | | `AddiToAuipc` | `TLS_GOT_HI20` | initial-exec |
+/// | `TLSDESC_CALL` | `jalr t0, 0(rs1)` | `CallToAddiZero` | `TPREL_LO12_I` | short local-exec |
+/// | | | `CallToAddi` | `TPREL_LO12_I` | local-exec |
+/// | | | `CallToLd` | `PCREL_LO12_I` | initial-exec |
+/// | `GOT_HI20` | `auipc` | `NoOp` | `PCREL_HI20` | without GOT |
+/// | `PCREL_LO12_I` | `ld` | `LdToAddi` | `PCREL_LO12_I` | without GOT, `has_got_high_part` |
+///
+/// - Near `tp`: `is_marked`, and the offset from `tls_base` is known and is from -0x800 to 0x7ff.
+/// - `Delete` where `is_marked`, else `ReplaceWithLongNop`: no other row asks for the mark.
+/// - Local-exec: `is_executable`, `is_local` and not `is_ifunc`, an addend of 0, and the offset from
+///   `tls_base` is in reach of `lui` and `addi`. Short: it is known, and is from -0x800 to 0x7ff.
+/// - Initial-exec: `is_executable`, and the distance to `got_entry` is in reach of `auipc` and `ld`. It
+///   has to be the address of the entry for initial-exec.
+/// - Without GOT: `is_marked`, `has_fixed_distance`, `is_local` and not `is_ifunc`, an addend of 0, and
+///   the distance to the symbol is in reach of `auipc` and `addi`.
+/// - Where no address is known, a pair is taken to reach, and nothing else.
+///
+/// All four relocations of a descriptor, and both of a load from the GOT, are chosen alike
+/// (`relocations_are_chosen_alike`), with the same facts: those of the high part that the label of the
+/// others names, also its symbol, addend and place. Of a descriptor also `is_marked` is that of
+/// `R_RISCV_TLSDESC_HI20`.
+///
 /// The linker sees to the rest:
 ///
 /// - Once a `lui` is deleted, each low part of it has to be rewritten. They are, if they have the
-///   same S + A and are marked, and are instructions that `Lo12Rs1ToZero` is meant for.
+///   same S + A and are marked, and are instructions that `Lo12Rs1ToZero` is meant for. So have the
+///   `add` and the low parts of a `lui` of an offset, with `BaseToTp`.
+/// - After `AddiToAuipc` the place is that of the `addi`, for the `ld` behind it too, and the symbol of
+///   the latter's `R_RISCV_PCREL_LO12_I` is the GOT entry. So it is of an `R_RISCV_PCREL_LO12_I` that
+///   isn't rewritten and has a high part of the GOT.
+/// - The `lui` or the `auipc` that an `addi` becomes, and what the `jalr` becomes, are of one descriptor,
+///   and nothing between them changes `a0`. All are chosen before any is rewritten.
 /// - It deletes the bytes that `RelaxationKind::deleted` names.
 /// - The distance is that of the addresses in `facts`. Deleted bytes make it smaller, but the
 ///   padding of an alignment between the call and the symbol may grow. `write` then returns an
