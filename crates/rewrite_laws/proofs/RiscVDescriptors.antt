@@ -187,14 +187,14 @@ module _ (changed : ℕ → Bool) (X Y offset at : ℕ) (h k u v w : Hart) (back
 
 -- ---- the new code
 
-ten : 10 ≢ 0
+ten : ◌≢◌ {A = ℕ} 10 0
 ten e = absurd (omega (arith, e))
 
 in_two : (k : Hart) (u l : ℤ) (offset : ℕ) → moved (wrapped u) l ≡ offset
     → Leaves offset (sum_64 k.pc 8) k (executed 4 (sums adds 10 10 0 l) (executed 4 (lui 10 u) k))
 in_two k u l offset is =
     let first = executed 4 (lui 10 u) k in
-    let some : 10 ≢ 0 = ten in
+    let some = ten in
     record {
       has_offset =
           written 10 (moved (register first 10) l) first some
@@ -220,7 +220,7 @@ by_got : (k : Hart) (u l : ℤ) (entry offset : ℕ) → moved (moved k.pc u) l 
     → Leaves offset (sum_64 k.pc 8) k (executed 4 (sums (loads 3) 10 10 0 l) (executed 4 (auipc 10 u) k))
 by_got k u l entry offset is holds small =
     let first = executed 4 (auipc 10 u) k in
-    let some : 10 ≢ 0 = ten in
+    let some = ten in
     record {
       has_offset =
           written 10 (load_number 3 (loaded 8 k.memory (moved (register first 10) l))) first some
