@@ -246,7 +246,17 @@ enum linker_utils_riscv_rewrite {
     LINKER_UTILS_RISCV_REWRITE_HI20_DELETE = 4, /* nothing: the caller deletes the lui */
     LINKER_UTILS_RISCV_REWRITE_LO12_RS1_TO_ZERO = 5,
     LINKER_UTILS_RISCV_REWRITE_TAIL_TO_JAL = 6, /* the auipc; the caller deletes the jalr */
-    LINKER_UTILS_RISCV_REWRITE_TAIL_TO_C_J = 7 /* c.j; the caller deletes the last 6 bytes */
+    LINKER_UTILS_RISCV_REWRITE_TAIL_TO_C_J = 7, /* c.j; the caller deletes the last 6 bytes */
+    LINKER_UTILS_RISCV_REWRITE_DELETE = 8, /* nothing: the caller deletes the instruction */
+    LINKER_UTILS_RISCV_REWRITE_REPLACE_WITH_LONG_NOP = 9, /* one nop of 4 bytes */
+    LINKER_UTILS_RISCV_REWRITE_BASE_TO_TP = 10, /* x4 as the base of a low part */
+    /* Of a TLS descriptor: its addi becomes lui or auipc, and its jalr the addi or the ld behind */
+    LINKER_UTILS_RISCV_REWRITE_ADDI_TO_LUI = 11,
+    LINKER_UTILS_RISCV_REWRITE_ADDI_TO_AUIPC = 12,
+    LINKER_UTILS_RISCV_REWRITE_CALL_TO_ADDI = 13,
+    LINKER_UTILS_RISCV_REWRITE_CALL_TO_ADDI_ZERO = 14, /* the addi of x0, without a lui */
+    LINKER_UTILS_RISCV_REWRITE_CALL_TO_LD = 15,
+    LINKER_UTILS_RISCV_REWRITE_LD_TO_ADDI = 16 /* the address in place of its GOT entry */
 };
 
 enum linker_utils_loongarch64_rewrite {
@@ -607,6 +617,8 @@ struct linker_utils_link_facts {
     uint8_t has_local_exec_base;
     uint8_t may_compress; /* RISC-V: the code may use instructions of the C extension. */
     uint8_t is_marked; /* R_RISCV_RELAX or R_LARCH_RELAX is at the same offset. */
+    /* RISC-V: the high part whose label an R_RISCV_PCREL_LO12_I names has R_RISCV_GOT_HI20. */
+    uint8_t has_got_high_part;
     /* PowerPC64: the register through which the instruction gets the high part of its address, and
      * which an `addis` has set, is read only by instructions whose relocation is of the same symbol
      * and addend. Linkers assume so, as the ABI asks of compilers. */
@@ -642,7 +654,11 @@ struct linker_utils_choice {
  * possible: the `adrp` of a pair. The bytes are those of the object file: the two halves of a pair,
  * and the instructions of a TLS descriptor's sequence on AArch64 and LoongArch, test the whole of it, so that all
  * are chosen alike where the facts and the symbol are the same. So they have to be chosen before one
- * of them is rewritten. */
+ * of them is rewritten. On RISC-V the instructions of a descriptor, and the `auipc` and `ld` of a GOT
+ * entry, may be apart: each is chosen by the facts of the high part that its label names, `is_marked`
+ * of a descriptor's R_RISCV_TLSDESC_HI20 among them. After ADDI_TO_AUIPC the place of
+ * R_RISCV_TLS_GOT_HI20, and of the R_RISCV_PCREL_LO12_I that CALL_TO_LD leaves, is that of the `addi`,
+ * and S of the latter is the GOT entry. */
 static inline uint32_t linker_utils_choose(uint16_t machine, uint32_t r_type,
                                            const uint8_t *section, size_t section_len,
                                            uint64_t offset,

@@ -18,12 +18,14 @@ pub mod Ppc64Threads
 pub mod Ppc64WholeWords
 pub mod Ppc64Words
 pub mod RiscVCalls
+pub mod RiscVDescriptors
 pub mod RiscVHighParts
 pub mod RiscVJumps
 pub mod RiscVLowParts
 pub mod RiscVLuis
 pub mod RiscVMachine
 pub mod RiscVPairs
+pub mod RiscVSums
 pub mod Words
 pub mod X86Branches
 pub mod X86Bytes
