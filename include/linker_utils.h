@@ -1079,7 +1079,8 @@ struct linker_utils_section_relocation {
  * R_RISCV_CALL and R_RISCV_CALL_PLT make a site where R_RISCV_RELAX is the next relocation, at the
  * same offset, the target is in the run, and the bytes are an auipc and a jalr of one register,
  * which isn't x0. R_RISCV_ALIGN makes an alignment to the next power of two above its addend, which
- * is how many bytes of nops there are, unless it is 0. The other relocations make none.
+ * is how many bytes of nops there are, unless it is 0; all of them may stay. The other relocations
+ * make none.
  *
  * `items_len` is `relocations_len`, since a relocation makes at most one item. `len` is how many
  * there are; the elements from there on are unchanged. LINKER_UTILS_DIFFERENT_LENGTHS.
@@ -1103,7 +1104,7 @@ static inline uint32_t linker_utils_riscv_items(
  * and an addi.d of one register. R_LARCH_ALIGN makes an alignment, unless there are no nops. Without
  * a symbol its addend is how many bytes of nops there are, 4 fewer than what they align to. With a
  * symbol the lowest 8 bits of the addend are the exponent of two of what they align to, and the
- * others the limit, or 0 for none.
+ * others how many bytes of nops may stay. Where these are 0, and without a symbol, all may stay.
  *
  * The statuses are the same. Malformed is an R_LARCH_CALL36 with less than eight bytes there, and an
  * R_LARCH_ALIGN whose addend is below 0, whose power is none or below 4, or whose nops reach past
