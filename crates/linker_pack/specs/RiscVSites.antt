@@ -1,6 +1,6 @@
 -- What calls of RISC-V become (RISC-V ELF psABI, "Function Call Relaxation", "Compressed Tail Call
 -- Relaxation"; the instructions by the RISC-V unprivileged ISA).
-use Rattle.std.specs.Prelude.{◌≡◌, ◌≢◌, ℕ, ◌+◌, ◌-◌, ◌*◌, ◌%◌, ◌^◌, List, [], length, take, drop}
+use Rattle.std.specs.Prelude.{◌≡◌, ℕ, ◌+◌, ◌-◌, ◌*◌, ◌%◌, ◌^◌, List, [], length, take, drop}
 use Rattle.std.specs.Prelude.{Option, Some, None, IsSomeAnd, ◌==◌, ◌&&◌, if◌then◌else◌, ℤ, pos}
 use Rattle.std.specs.Prelude.{◌+ℤ◌}
 use Rattle.std.specs.Int.{w16, w32, w64, from_le_bytes, to_le_bytes}
@@ -10,13 +10,13 @@ use Rattle.linker_elf.specs.RiscVRelocations.{riscv_row}
 use Rattle.linker_elf.specs.declared.riscv64.forms.RiscVInstruction.TheVariants.{JType, CjType}
 use Rattle.linker_elf.specs.declared.riscv64.forms.RiscVInstruction.TheVariants.{UiType}
 use Rattle.linker_elf.specs.declared.riscv64.relocations.RiscVRelocation.TheVariants as r
-use Rattle.linker_utils.specs.RiscVCalls.{IsCallPair, link_register, word_at}
+use Rattle.linker_utils.specs.RiscVCalls.{link_register}
 use Rattle.linker_utils.specs.RiscVRewrites.{tail_to_cj}
 use Rattle.linker_utils.specs.declared.riscv64.calls.LinkRegister.TheVariants.{OfJalr}
 use Rattle.relocation_laws.specs.RiscVLaws.{without_bit_0}
-use Rattle.relocation_laws.specs.Schemes.{IsAddress}
+use Rattle.relocation_laws.specs.Schemes.{IsApplied, IsAddress}
 use Rattle.linker_runs.specs.RiscVItems.{IsCallAt}
-use Rattle.linker_pack.specs.Sites.{Template, IsInReach, IsOutOfReach}
+use Rattle.linker_pack.specs.Sites.{Template, operands_of, IsInReach, IsOutOfReach}
 use Rattle.linker_pack.specs.declared.packing.ItemError.{ItemError}
 use Rattle.linker_pack.specs.declared.packing.ItemError.TheVariants.{NotItsInstructions, NoShape}
 use Rattle.linker_pack.specs.declared.packing.ItemError.TheVariants.{OutOfReach}
@@ -35,12 +35,11 @@ pub record IsJal (word link place target : ℕ) : Type 0 where
   pub links : field word 7 12 ≡ link
   pub goes : IsAddress (pos place +ℤ (riscv_form JType).machine word) target
 
--- The bytes are `auipc` and `jalr` to the target, which is even for them, with the registers of the
--- call at an offset of a section.
+-- The bytes are those of the call at an offset of a section, `auipc` and `jalr`, with its relocation
+-- applied, which changes nothing but their immediates. It goes to the target, without its bit 0.
 pub record IsFarCall (section : List ℕ) (o place target : ℕ) (written : List ℕ) : Type 0 where
-  pub pair : IsCallPair (word_at written 0) (word_at written 4)
-  pub base : field (word_at written 0) 7 12 ≡ field (word_at section o) 7 12
-  pub links : field (word_at written 4) 7 12 ≡ link_register OfJalr section o
+  pub relocated : IsSomeAnd (riscv_row r.R_RISCV_CALL_PLT)
+      (λ row. IsApplied row (operands_of place target) (take 8 (drop o section)) written)
   pub goes : IsAddress
       (without_bit_0 (pos place +ℤ (riscv_form UiType).machine (from_le_bytes w64 written)))
       (target - target % 2)

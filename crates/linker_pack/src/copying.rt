@@ -4,7 +4,7 @@ ghost use Rattle.std.specs.Prelude.{◌≡◌, ◌+◌, ◌-◌, ◌≤◌, ◌<
 ghost use Rattle.linker_base.specs.Deletions.{rank};
 ghost use Rattle.linker_base.specs.Deltas.{deletions_of};
 ghost use Rattle.linker_base.specs.Listed.{AreValidDeltas};
-ghost use Rattle.linker_pack.specs.Inner.Copying.{IsCopiedTo, IsFirstRun};
+ghost use Rattle.linker_pack.specs.Inner.Copying.{IsFirstRun};
 ghost use Rattle.linker_pack.specs.Inner.Packing.{IsFilled};
 
 use linker_base::relaxation::RelaxDelta;

@@ -1,7 +1,7 @@
 //! A section of a relaxed run, packed.
 
 ghost use Rattle.std.specs.Prelude.{◌≡◌, ◌+◌, ◌-◌, ◌≤◌, ◌<◌, ◌^◌, ◌++◌, ◌↔◌, ◌*◌, ◌%◌, ℕ, length, take, drop, true, false};
-ghost use Rattle.std.specs.Prelude.{IsTrue, IfOk, IfErr, OnOk, OnErr, IfSome, IfNone};
+ghost use Rattle.std.specs.Prelude.{List, IsTrue, IfOk, IfErr, OnOk, OnErr, IfSome, IfNone};
 ghost use Rattle.linker_base.specs.Deletions.{rank};
 ghost use Rattle.linker_base.specs.Deltas.{deletions_of};
 ghost use Rattle.linker_base.specs.Listed.{AreValidDeltas};
@@ -10,7 +10,7 @@ ghost use Rattle.linker_pack.specs.Packing.{section_of, kept_len, packed_offset,
 ghost use Rattle.linker_pack.specs.Packing.{IsApart, IsInside, nop_len, nops, repeated, IsPackedRun};
 ghost use Rattle.linker_pack.specs.Packing.{IsFirstRejected, SiteBecomes, SiteAccepts, SiteCause, ItemCause};
 ghost use Rattle.linker_pack.specs.Packing.{KeepsFirst, ItemBecomes, ItemAccepts, IsWritable, IsUnwritable};
-ghost use Rattle.linker_pack.specs.Inner.Pieces.{code_bytes, piece_bytes, IsPieceOf};
+ghost use Rattle.linker_pack.specs.Inner.Pieces.{code_bytes, piece_bytes, IsWhole, IsPieceOf};
 ghost use Rattle.linker_pack.specs.Inner.Packing.{IsFilled, AreReady};
 
 use crate::code::Code;
@@ -189,6 +189,7 @@ fn piece_for(
         ItemBecomes machine (section_of section.now base (deletions_of deltas.now) start) item.now
         (piece_bytes machine piece)) }
     ensures len { IfOk result (λ piece. length (piece_bytes machine piece) ≡ kept) }
+    ensures whole { IfOk result (IsWhole machine) }
     ensures accepts { AreValidDeltas deltas.now
         → OnOk result
         (ItemAccepts machine (section_of section.now base (deletions_of deltas.now) start) item.now
@@ -333,7 +334,7 @@ fn put_nops(machine: Machine, packed: &mut [u8], at: u64, len: u64)
 /// Puts what is written of an item at an offset, where it fits there.
 fn put_piece(machine: Machine, packed: &mut [u8], at: u64, piece: Piece)
     ensures { at + length (piece_bytes machine piece) ≤ length packed.old
-        → length (piece_bytes machine piece) % nop_len machine ≡ 0
+        → IsWhole machine piece
         → packed.new ≡ take at packed.old ++ piece_bytes machine piece
         ++ drop (at + length (piece_bytes machine piece)) packed.old }
 {
@@ -390,7 +391,7 @@ pub fn packed_run_len(base: u64, len: usize, deltas: &[RelaxDelta]) -> usize
         → result ≡ rank (deletions_of deltas.now) (base + len) - rank (deletions_of deltas.now) base }
 {
     let end = to_output(deltas, base + len as u64);
-    end.saturating_sub(to_output(deltas, base)).min(len as u64) as usize
+    end.saturating_sub(to_output(deltas, base)) as usize
 }
 
 /// Packs a section of a relaxed run into memory of the caller's: the bytes that stay, in order, with

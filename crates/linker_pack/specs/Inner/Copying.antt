@@ -1,5 +1,5 @@
 -- What holds while the bytes that stay are copied.
-use Rattle.std.specs.Prelude.{◌≡◌, ℕ, ◌+◌, ◌-◌, ◌<◌, ◌≤◌, List, length, min, IsTrue, slice_index, false}
+use Rattle.std.specs.Prelude.{◌≡◌, ℕ, ◌+◌, ◌-◌, ◌<◌, ◌≤◌, List, length, IsTrue, slice_index, false}
 use Rattle.linker_base.specs.Deletions.{is_kept, rank}
 use Rattle.linker_utils.specs.Inner.Packing.{IsRunStart}
 
@@ -15,11 +15,3 @@ pub record IsFirstRun (deletions : List (ℕ × ℕ)) (base first from : ℕ) : 
   pub start : IsRunStart deletions first from
   pub above : base ≤ from
   pub gone : (p : ℕ) → base ≤ p → p < from → is_kept deletions p ≡ false
-
--- the kept bytes up to the run that begins at an offset are copied, and the next goes to `at`
-pub record IsCopiedTo (deletions : List (ℕ × ℕ)) (base : ℕ) (section : List ℕ)
-    (passed from at : ℕ) (packed : List ℕ) : Type 0 where
-  pub start : IsRunStart deletions passed from
-  pub above : base ≤ from
-  pub at_is : at ≡ rank deletions (min from (base + length section)) - rank deletions base
-  pub filled : IsFilledTo deletions base section (min from (base + length section)) packed

@@ -1,8 +1,9 @@
 -- What is written of an item.
-use Rattle.std.specs.Prelude.{◌≡◌, ℕ, List, [], length, true, false, Some}
+use Rattle.std.specs.Prelude.{◌≡◌, ℕ, ◌%◌, List, [], length, true, false, Some, ⊤}
 use Rattle.linker_relax.specs.declared.relaxation.Item.{Item}
 use Rattle.linker_pack.specs.Sites.{Template}
 use Rattle.linker_pack.specs.Packing.{Section, is_fixed, kept_len, KeepsFirst, ItemBecomes, nops}
+use Rattle.linker_pack.specs.Packing.{nop_len}
 use Rattle.linker_pack.specs.declared.packing.Machine.{Machine}
 use Rattle.linker_pack.specs.declared.packing.Piece.{Piece}
 use Rattle.linker_pack.specs.declared.packing.Piece.TheVariants.{Nothing, Nops, Code as Instruction}
@@ -23,9 +24,15 @@ piece_bytes machine Nothing = []
 piece_bytes machine (Nops n) = nops machine n
 piece_bytes machine (Instruction code) = code_bytes code
 
+-- nops are whole
+abbrev pub IsWhole : Machine → Piece → Type 0
+IsWhole machine (Nops n) = n % nop_len machine ≡ 0
+IsWhole machine piece = ⊤
+
 -- what is written anew of an item
 pub record IsNewPiece (machine : Machine) (s : Section) (item : Item) (piece : Piece) : Type 0 where
   pub keeps : KeepsFirst s.deletions item
+  pub whole : IsWhole machine piece
   pub len : length (piece_bytes machine piece) ≡ kept_len s.deletions item
   pub becomes : ItemBecomes machine s item (piece_bytes machine piece)
 
