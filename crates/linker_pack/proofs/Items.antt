@@ -13,7 +13,7 @@ use Rattle.linker_relax.specs.Relaxing.{offset_of, len_of, end_of, item_at}
 use Rattle.linker_pack.specs.Sites.{Template, IsInReach, IsOutOfReach}
 use Rattle.linker_pack.specs.RiscVSites.{riscv_template, RiscVAccepts, RiscVCause}
 use Rattle.linker_pack.specs.Packing.{Section, section_of, packed_offset, kept_len, KeepsFirst, is_fixed, written_len, IsApart, IsInside, IsNotIn, SiteAccepts, SiteCause, ItemAccepts, ItemCause, ItemBecomes, IsWritable, IsUnwritable, CanWrite, IsCause, IsPackedRun}
-use Rattle.linker_pack.specs.Inner.Pieces.{piece_bytes, IsNewPiece, IsPieceOf}
+use Rattle.linker_pack.specs.Inner.Pieces.{piece_bytes, IsWhole, IsNewPiece, IsPieceOf}
 use Rattle.linker_pack.specs.Inner.Copying.{IsFilledTo}
 use Rattle.linker_pack.specs.Inner.Packing.{AreReady, IsFilled, IsWrittenTo}
 use Rattle.linker_pack.specs.declared.packing.Machine.{Machine}
@@ -257,5 +257,27 @@ module _ (machine : Machine) (s : Section) (items : List Item) (n at : ℕ) (p0 
   }
 
 -- with all items written, the section is packed
-pub written_end : (machine : Machine) (s : Section) (items : List Item) (n : ℕ) (p : List ℕ) → length items ≤ n → length p ≡ packed_offset s (s.base + length s.bytes) → IsWrittenTo machine s items n p → IsPackedRun machine s items p
-written_end machine s items n p past room all = ?
+pub written_end : (machine : Machine) (s : Section) (items : List Item) (n : ℕ) (p : List ℕ) → length items ≡ n → length p ≡ packed_offset s (s.base + length s.bytes) → IsWrittenTo machine s items n p → IsPackedRun machine s items p
+written_end machine s items n p past room all = record {
+  len = room;
+  kept = λ q low kept off. all.kept q low kept (λ i h. off i (omega arith));
+  written = λ i low free. all.written i (omega arith) free;
+}
+
+-- ---- pieces
+
+module _ (machine : Machine) (s : Section) (item : Item) (piece : Piece) (is : IsPieceOf machine s item piece) where
+  pub piece_len : length (piece_bytes machine piece) ≡ written_len s.deletions item
+  piece_len = elim (cases_Bool (is_fixed item)) [
+    | inl fixed ↦ ap (λ p. length (piece_bytes machine p)) (is.fixed fixed) ∙ ap (λ b. if b then 0 else kept_len s.deletions item) (sym fixed)
+    | inr free ↦ (is.anew free).len ∙ ap (λ b. if b then 0 else kept_len s.deletions item) (sym free)
+  ]
+
+  pub piece_whole : IsWhole machine piece
+  piece_whole = elim (cases_Bool (is_fixed item)) [
+    | inl fixed ↦ subst (IsWhole machine) (sym (is.fixed fixed)) tt
+    | inr free ↦ (is.anew free).whole
+  ]
+
+  pub piece_becomes : is_fixed item ≡ false → ItemBecomes machine s item (piece_bytes machine piece)
+  piece_becomes free = (is.anew free).becomes

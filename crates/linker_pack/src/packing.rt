@@ -375,11 +375,14 @@ fn put_items(
         if !is_inside(section, base, item) {
             return;
         }
-        let Ok(piece) = piece_of(machine, section, base, deltas, start, item) else {
-            return;
-        };
-        let at = to_output(deltas, item.offset()).wrapping_sub(to_output(deltas, base));
-        put_piece(machine, packed, at, piece);
+        match piece_of(machine, section, base, deltas, start, item) {
+            Err(_error) => return,
+            Ok(piece) => {
+                let before = to_output(deltas, base);
+                let at = to_output(deltas, item.offset()).saturating_sub(before);
+                put_piece(machine, packed, at, piece);
+            }
+        }
     }
 }
 
