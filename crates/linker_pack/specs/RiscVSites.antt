@@ -35,8 +35,9 @@ pub record IsJal (word link place target : ℕ) : Type 0 where
   pub links : field word 7 12 ≡ link
   pub goes : IsAddress (pos place +ℤ (riscv_form JType).machine word) target
 
--- The bytes are those of the call at an offset of a section, `auipc` and `jalr`, with its relocation
--- applied, which changes nothing but their immediates. It goes to the target, without its bit 0.
+-- The bytes are those of the call at an offset of a section, `auipc` and `jalr`, with its
+-- relocation applied, which changes nothing but their immediates. It goes to the target, without
+-- bit 0.
 pub record IsFarCall (section : List ℕ) (o place target : ℕ) (written : List ℕ) : Type 0 where
   pub relocated : IsSomeAnd (riscv_row r.R_RISCV_CALL_PLT)
       (λ row. IsApplied row (operands_of place target) (take 8 (drop o section)) written)

@@ -65,7 +65,8 @@ pub(crate) fn copy_kept(section: &[u8], base: u64, deltas: &[RelaxDelta], packed
     requires { base + length section.now < 2 ^ 64 }
     ensures { AreValidDeltas deltas.now
         → length packed.old
-        ≡ rank (deletions_of deltas.now) (base + length section.now) - rank (deletions_of deltas.now) base
+        ≡ rank (deletions_of deltas.now) (base + length section.now)
+        - rank (deletions_of deltas.now) base
         → IsFilled (deletions_of deltas.now) base section.now packed.new }
 {
     let section_end = base + section.len() as u64;

@@ -1,15 +1,19 @@
 //! A section of a relaxed run, packed.
 
-ghost use Rattle.std.specs.Prelude.{◌≡◌, ◌+◌, ◌-◌, ◌≤◌, ◌<◌, ◌^◌, ◌++◌, ◌↔◌, ◌*◌, ◌%◌, ℕ, length, take, drop, true, false};
+ghost use Rattle.std.specs.Prelude.{◌≡◌, ◌+◌, ◌-◌, ◌≤◌, ◌<◌, ◌^◌, ◌++◌, ◌↔◌, ◌*◌, ◌%◌, ℕ, length};
+ghost use Rattle.std.specs.Prelude.{take, drop, true, false};
 ghost use Rattle.std.specs.Prelude.{List, IsTrue, IfOk, IfErr, OnOk, OnErr, IfSome, IfNone};
 ghost use Rattle.linker_base.specs.Deletions.{rank};
 ghost use Rattle.linker_base.specs.Deltas.{deletions_of};
 ghost use Rattle.linker_base.specs.Listed.{AreValidDeltas};
 ghost use Rattle.linker_relax.specs.Relaxing.{item_at, offset_of, end_of};
 ghost use Rattle.linker_pack.specs.Packing.{section_of, kept_len, packed_offset, is_fixed};
-ghost use Rattle.linker_pack.specs.Packing.{IsApart, IsInside, nop_len, nops, repeated, IsPackedRun};
-ghost use Rattle.linker_pack.specs.Packing.{IsFirstRejected, SiteBecomes, SiteAccepts, SiteCause, ItemCause};
-ghost use Rattle.linker_pack.specs.Packing.{KeepsFirst, ItemBecomes, ItemAccepts, IsWritable, IsUnwritable};
+ghost use Rattle.linker_pack.specs.Packing.{IsApart, IsInside, nop_len, nops, repeated};
+ghost use Rattle.linker_pack.specs.Packing.{IsPackedRun};
+ghost use Rattle.linker_pack.specs.Packing.{IsFirstRejected, SiteBecomes, SiteAccepts, SiteCause};
+ghost use Rattle.linker_pack.specs.Packing.{ItemCause};
+ghost use Rattle.linker_pack.specs.Packing.{KeepsFirst, ItemBecomes, ItemAccepts, IsWritable};
+ghost use Rattle.linker_pack.specs.Packing.{IsUnwritable};
 ghost use Rattle.linker_pack.specs.Inner.Pieces.{code_bytes, piece_bytes, IsWhole, IsPieceOf};
 ghost use Rattle.linker_pack.specs.Inner.Packing.{IsFilled, AreReady};
 
@@ -39,7 +43,7 @@ pub enum ItemError {
     NotItsInstructions,
     /// No instruction, or no nops, have as many bytes as stay.
     NoShape,
-    /// The relocation's row rejects the distance, since it is too far or isn't a multiple of what the
+    /// The relocation's row rejects the distance: it is too far, or isn't a multiple of what the
     /// instruction counts in.
     OutOfReach,
 }
@@ -233,7 +237,8 @@ fn piece_of(
         (IsPieceOf machine (section_of section.now base (deletions_of deltas.now) start) item.now) }
     ensures writable { AreValidDeltas deltas.now
         → OnOk result (is_fixed item.now ≡ false
-        → IsWritable machine (section_of section.now base (deletions_of deltas.now) start) item.now) }
+        → IsWritable machine (section_of section.now base (deletions_of deltas.now) start)
+        item.now) }
     ensures rejected { AreValidDeltas deltas.now
         → IfErr result (λ error. (is_fixed item.now ≡ false)
         × IsUnwritable machine (section_of section.now base (deletions_of deltas.now) start)
@@ -305,7 +310,8 @@ fn put_bytes(packed: &mut [u8], at: u64, bytes: &[u8])
 /// Puts so many of the same four bytes at an offset, where they fit there.
 fn put_words(packed: &mut [u8], at: u64, word: [u8; 4], count: u64)
     ensures { at + 4 * count ≤ length packed.old
-        → packed.new ≡ take at packed.old ++ repeated word count ++ drop (at + 4 * count) packed.old }
+        → packed.new
+        ≡ take at packed.old ++ repeated word count ++ drop (at + 4 * count) packed.old }
 {
     let len = packed.len() as u64;
     if count > len / 4 || at > len - 4 * count {
@@ -391,19 +397,33 @@ fn put_items(
 pub fn packed_run_len(base: u64, len: usize, deltas: &[RelaxDelta]) -> usize
     requires { base + len < 2 ^ 64 }
     ensures { AreValidDeltas deltas.now
-        → result ≡ rank (deletions_of deltas.now) (base + len) - rank (deletions_of deltas.now) base }
+        → result
+        ≡ rank (deletions_of deltas.now) (base + len) - rank (deletions_of deltas.now) base }
 {
     let end = to_output(deltas, base + len as u64);
     end.saturating_sub(to_output(deltas, base)) as usize
 }
 
-/// Packs a section of a relaxed run into memory of the caller's: the bytes that stay, in order, with
-/// the instructions of its sites and the nops of its alignments written anew.
+/// Packs a section of a relaxed run into memory of the caller's: the bytes that stay, in order,
+/// with the instructions of its sites and the nops of its alignments written anew.
 ///
-/// The section begins at the input offset `base` of the run, which begins at the address `start` and
-/// loses what `deltas` list. `items` are the run's items that lie in the section, in their order.
+/// The section begins at the input offset `base` of the run. The run begins at the address `start`
+/// and loses what `deltas` list, as `relax` returns it; addresses are modulo 2^64. `items` are the
+/// run's items that lie in the section, in their order. Targets may lie anywhere in the run.
 ///
-/// It doesn't allocate.
+/// How many bytes of an item stay, which have to be its first ones, says what is written:
+/// - of RISC-V `c.j` of two bytes for a call that links x0, `jal` of four with the link register of
+///   the `jalr`, and of eight the call as it is, with `R_RISCV_CALL_PLT` applied (RISC-V ELF psABI,
+///   "Function Call Relaxation");
+/// - of an alignment nops: of RISC-V `nop`, and at most one `c.nop` at the end.
+///
+/// A site without short shapes, as `fixed` has it, is left as it is.
+///
+/// Requires an output of `packed_run_len` bytes. The deltas are as `SectionRelaxDeltas::deltas`
+/// lists them (`DeltaSlice::has_valid_deltas`); of others nothing is promised but that the call is
+/// safe. The error tells the first item that can't be written, and nothing is written then.
+///
+/// It doesn't allocate. It takes O(section + deltas + items log deltas).
 pub fn pack_run(
     machine: Machine,
     section: &[u8],

@@ -1,13 +1,15 @@
 //! RISC-V: what a call becomes.
 
-ghost use Rattle.std.specs.Prelude.{◌≡◌, ◌+◌, ◌≤◌, ◌<◌, ◌*◌, ◌^◌, Some, None, IfOk, IfErr, OnOk, length, take, drop};
+ghost use Rattle.std.specs.Prelude.{◌≡◌, ◌+◌, ◌≤◌, ◌<◌, ◌*◌, ◌^◌, Some, None, IfOk, IfErr, OnOk};
+ghost use Rattle.std.specs.Prelude.{length, take, drop};
 ghost use Rattle.std.specs.Prelude.{IsSomeAnd, IfSome, IfNone, ⊤};
 ghost use Rattle.std.specs.Int.{w32, to_le_bytes};
 ghost use Rattle.linker_elf.specs.RiscVRelocations.{riscv_row};
 ghost use Rattle.linker_utils.specs.RiscVRewrites.{tail_to_cj};
 ghost use Rattle.linker_utils.specs.RiscVCalls.{link_register};
 ghost use Rattle.linker_utils.specs.declared.riscv64.calls.LinkRegister.TheVariants.{OfJalr};
-ghost use Rattle.linker_pack.specs.RiscVSites.{riscv_template, RiscVBecomes, RiscVAccepts, RiscVCause};
+ghost use Rattle.linker_pack.specs.RiscVSites.{riscv_template, RiscVBecomes, RiscVAccepts};
+ghost use Rattle.linker_pack.specs.RiscVSites.{RiscVCause};
 ghost use Rattle.linker_pack.specs.Inner.Pieces.{template_is, code_bytes};
 
 use crate::code::{Code, Template, relocated};

@@ -2,7 +2,7 @@
 
 use crate::packing::{ItemError, Machine, RejectedItem, pack_run, packed_run_len};
 use linker_base::relaxation::{OutOfMemory, RelaxDelta};
-use linker_relax::relaxation::{Alignment, Item, Shapes, Site, relax};
+use linker_relax::relaxation::{Alignment, Item, Shapes, Site, are_items, relax};
 use linker_relax::shapes::fixed;
 use linker_relax::shapes::riscv64::{CALL, TAIL_C};
 use std::process::Abort;
@@ -34,8 +34,8 @@ const RISC_V: [u8; 44] = [
     0x00, 0x00, 0x13, 0x00, 0x00, 0x00, 0x13, 0x00, 0x00, 0x00, 0x82, 0x80,
 ];
 
-/// The items of that section at the input offset 0x100 of a run that loses 8 bytes before it, and in
-/// which `far` goes to the address 0x40000000.
+/// The items of that section at the input offset 0x100 of a run that loses 8 bytes before it. `far`
+/// goes to the address 0x40000000.
 fn items() -> [Item; 5] {
     [
         site(0x10, 0, fixed(0)),
@@ -46,8 +46,8 @@ fn items() -> [Item; 5] {
     ]
 }
 
-/// `jal ra, f`, `nop`, `j f`, `call t0, far`, three `nop` and `c.nop`, and `f: ret`: as GNU ld 2.40 and
-/// ld.lld 19 link them at 0x10000, where these leave all nops as they are, with `c.nop` first.
+/// `jal ra, f`, `nop`, `j f`, `call t0, far`, three `nop` and `c.nop`, and `f: ret`: as GNU ld 2.40
+/// and ld.lld 19 link them at 0x10000, where these leave all nops as they are, with `c.nop` first.
 const PACKED: [u8; 34] = [
     0xef, 0x00, 0x00, 0x02, 0x13, 0x00, 0x00, 0x00, 0x21, 0xa8, 0x17, 0x03, 0xff, 0x3f, 0xe7, 0x02,
     0x63, 0xff, 0x13, 0x00, 0x00, 0x00, 0x13, 0x00, 0x00, 0x00, 0x13, 0x00, 0x00, 0x00, 0x01, 0x00,
@@ -82,6 +82,7 @@ fn expect(
 #[test]
 fn sections_are_packed_as_linkers_pack_them(rt: HostRuntime) -> Result<(), OutOfMemory> {
     let items = items();
+    assert!(&rt; are_items(&items, 0xff08));
     let plan = relax(rt.alloc(), &items, 0xff08)?;
     assert_eq!(&rt; plan.kept.as_slice(), [0, 4, 2, 8, 14].as_slice());
     expect(&rt, &items[1..], plan.deletions.deltas(), Ok(()), &PACKED);
@@ -91,6 +92,7 @@ fn sections_are_packed_as_linkers_pack_them(rt: HostRuntime) -> Result<(), OutOf
 #[test]
 fn rejected_items_are_named(rt: HostRuntime) -> Result<(), OutOfMemory> {
     let items = items();
+    assert!(&rt; are_items(&items, 0xff08));
     let plan = relax(rt.alloc(), &items, 0xff08)?;
     let deltas = plan.deletions.deltas();
     let rows = [

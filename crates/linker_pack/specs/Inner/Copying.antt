@@ -9,8 +9,8 @@ IsFilledTo deletions base section upto packed = (p : ℕ) → p < length section
     → IsTrue (is_kept deletions (base + p))
     → slice_index packed (rank deletions (base + p) - rank deletions base) ≡ slice_index section p
 
--- the first deletions end at the offset or below it, which is the base or above, and the others begin
--- at it or above; what lies between the base and the offset is deleted
+-- the first deletions end at the offset or below it, which is the base or above, and the others
+-- begin at it or above; what lies between the base and the offset is deleted
 pub record IsFirstRun (deletions : List (ℕ × ℕ)) (base first from : ℕ) : Type 0 where
   pub start : IsRunStart deletions first from
   pub above : base ≤ from

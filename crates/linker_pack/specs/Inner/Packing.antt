@@ -1,5 +1,6 @@
 -- What holds while items are written.
-use Rattle.std.specs.Prelude.{◌≡◌, ℕ, ◌+◌, ◌<◌, List, length, take, drop, IsTrue, slice_index, false}
+use Rattle.std.specs.Prelude.{◌≡◌, ℕ, ◌+◌, ◌<◌, List, length, take, drop, IsTrue, slice_index}
+use Rattle.std.specs.Prelude.{false}
 use Rattle.linker_base.specs.Deletions.{is_kept}
 use Rattle.linker_relax.specs.declared.relaxation.Item.{Item}
 use Rattle.linker_relax.specs.Relaxing.{item_at, offset_of}
