@@ -310,7 +310,7 @@ fn runs_are_not_relaxed() {
     let relocation = |offset, code, addend, target| Relocation {
         offset,
         code,
-        has_symbol: target != None,
+        has_symbol: target.is_some(),
         addend,
         target,
     };
