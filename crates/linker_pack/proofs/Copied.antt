@@ -4,7 +4,7 @@ use Rattle.std.proofs.Common.{◌≡◌, ℕ, suc, ◌+◌, ◌-◌, ◌<◌, �
 use Rattle.std.proofs.lemmas.Bool.{cases_lt, both_ways, lt-ltb, ltb-true, ltb-false}
 use Rattle.linker_base.specs.Deletions.{IsValid, is_kept, rank}
 use Rattle.linker_base.proofs.Rank.{rank_kept, rank-mono}
-use Rattle.linker_utils.specs.Inner.Packing.{IsFilled, IsRunStart, IsCopied}
+use Rattle.linker_utils.specs.Inner.Packing.{IsFilled, IsCopied}
 use Rattle.linker_utils.proofs.Packed.{run_kept, run_copied, run_fits, rank-gone, deleted_gone, copy_step}
 use Rattle.std.specs.Prelude.{nat_lt}
 use Rattle.std.specs.List.Sorted.{IsPartitionedBy, IsPartitionPoint}
@@ -13,7 +13,7 @@ use Rattle.linker_base.specs.Listed.{AreValidDeltas}
 use Rattle.linker_base.specs.declared.relaxation.RelaxDelta.{RelaxDelta}
 use Rattle.std.proofs.lemmas.List.{take_all, get_or_default, get_or-map, length-map}
 use Rattle.linker_pack.specs.Inner.Copying.{IsFilledTo, IsFirstRun}
-use Rattle.linker_pack.proofs.Lists.{behind, behind_length, behind_take, behind_drop, behind_below, behind_at, behind_put}
+use Rattle.linker_pack.proofs.Lists.{behind, behind_length, behind_drop, behind_below, behind_at, behind_put}
 
 -- the kept bytes up to the run that begins at an offset are copied
 pub record IsCopiedTo (ds : List (ℕ × ℕ)) (base : ℕ) (s : List ℕ) (passed from at : ℕ) (packed : List ℕ) : Type 0 where

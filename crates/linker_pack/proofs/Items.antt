@@ -1,25 +1,23 @@
 -- What is written of each item.
-use Rattle.std.proofs.Common.{◌≡◌, ℕ, zero, suc, ◌+◌, ◌-◌, ◌<◌, ◌≤◌, ◌^◌, true, false, List, [], ◌++◌, length, get_or, take, drop, refl, sym, subst, ◌∙◌, ap, arith, inl, inr}
+use Rattle.std.proofs.Common.{◌≡◌, ℕ, zero, suc, ◌+◌, ◌-◌, ◌<◌, ◌≤◌, true, false, List, ◌++◌, length, get_or, take, drop, refl, sym, subst, ◌∙◌, ap, arith, inl, inr}
 use Rattle.std.specs.Prelude.{if◌then◌else◌, IsSomeAnd, Option, Some, None}
-use Rattle.std.proofs.lemmas.Bool.{cases_lt, cases_Bool, false≢true}
+use Rattle.std.proofs.lemmas.Bool.{cases_lt, cases_Bool}
 use Rattle.std.proofs.lemmas.List.{append_assoc, length-append, length-take, length-drop, get_or-take, get_or-drop, get_or-append_right, get_or_default, take_at, drop_at, same_lists}
 use Rattle.linker_base.specs.Deletions.{is_kept, rank}
 use Rattle.linker_base.proofs.Rank.{rank_kept, rank-mono, rank_steps}
 use Rattle.linker_utils.proofs.Packed.{put_below}
-use Rattle.linker_elf.specs.Value.{value_of}
 use Rattle.linker_relax.specs.declared.relaxation.Item.{Item}
 use Rattle.linker_relax.specs.declared.relaxation.Item.TheVariants.{Site, Aligned}
 use Rattle.linker_relax.specs.Relaxing.{offset_of, len_of, end_of, item_at}
 use Rattle.linker_pack.specs.Sites.{Template, IsInReach, IsOutOfReach}
 use Rattle.linker_pack.specs.RiscVSites.{riscv_template, RiscVAccepts, RiscVCause}
-use Rattle.linker_pack.specs.Packing.{Section, section_of, packed_offset, kept_len, KeepsFirst, is_fixed, written_len, IsApart, IsInside, IsNotIn, SiteAccepts, SiteCause, ItemAccepts, ItemCause, ItemBecomes, IsWritable, IsUnwritable, CanWrite, IsCause, IsPackedRun}
-use Rattle.linker_pack.specs.Inner.Pieces.{piece_bytes, IsWhole, IsNewPiece, IsPieceOf}
+use Rattle.linker_pack.specs.Packing.{Section, packed_offset, kept_len, is_fixed, written_len, IsApart, IsInside, IsNotIn, ItemAccepts, ItemCause, ItemBecomes, IsWritable, IsUnwritable, IsCause, IsPackedRun}
+use Rattle.linker_pack.specs.Inner.Pieces.{piece_bytes, IsWhole, IsPieceOf}
 use Rattle.linker_pack.specs.Inner.Copying.{IsFilledTo}
-use Rattle.linker_pack.specs.Inner.Packing.{AreReady, IsFilled, IsWrittenTo}
+use Rattle.linker_pack.specs.Inner.Packing.{AreReady, IsWrittenTo}
 use Rattle.linker_pack.specs.declared.packing.Machine.{Machine}
 use Rattle.linker_pack.specs.declared.packing.Machine.TheVariants.{RiscV64}
 use Rattle.linker_pack.specs.declared.packing.Piece.{Piece}
-use Rattle.linker_pack.specs.declared.packing.Piece.TheVariants.{Nothing}
 use Rattle.linker_pack.specs.declared.packing.ItemError.{ItemError}
 use Rattle.linker_pack.specs.declared.packing.ItemError.TheVariants.{Overlaps, OutOfSection, NotItsFirstBytes, NotItsInstructions, NoShape, OutOfReach}
 

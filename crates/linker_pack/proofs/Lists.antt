@@ -1,5 +1,5 @@
 -- Bytes put over others in a list.
-use Rattle.std.proofs.Common.{◌≡◌, ℕ, ◌+◌, ◌-◌, ◌<◌, ◌≤◌, List, ◌++◌, length, get_or, take, drop, replicate, sym, ◌∙◌, ap, arith}
+use Rattle.std.proofs.Common.{◌≡◌, ℕ, ◌+◌, ◌<◌, List, ◌++◌, length, get_or, take, drop, replicate, sym, ◌∙◌, ap, arith}
 use Rattle.std.proofs.lemmas.List.{append_assoc, length-replicate, get_or_append_left, get_or-append_right, get_or-replicate, length-append}
 use Rattle.std.proofs.Math.Seq.{take-append-add, drop-append-add}
 

@@ -1,5 +1,5 @@
-use Rattle.std.proofs.Common.{rules, ℕ, ◌∙◌, ◌≤◌, ap, sym, arith, length, map, get_or}
-use Rattle.std.specs.Prelude.{nat_lt, ◌<◌, ◌≡◌, ◌-◌}
+use Rattle.std.proofs.Common.{rules, ℕ, ◌≤◌, ap, arith, length, map}
+use Rattle.std.specs.Prelude.{nat_lt, ◌<◌, ◌-◌}
 use Rattle.std.proofs.lemmas.List.{length-map, get_or-map}
 use Rattle.std.proofs.lemmas.List.Sorted.{IsPartitionPoint-from_clause}
 use Rattle.linker_base.specs.Deltas.{deletion_of}

@@ -1,4 +1,4 @@
-use Rattle.std.proofs.Common.{◌≡◌, ◌+◌, ◌-◌, ◌≤◌, ◌∙◌, ap, sym, arith, rules}
+use Rattle.std.proofs.Common.{◌≡◌, ◌+◌, ◌-◌, ap, arith}
 use Rattle.linker_base.specs.Deltas.{deletions_of}
 use Rattle.linker_base.specs.Deletions.{rank}
 use Rattle.linker_base.proofs.Rank.{rank_steps}

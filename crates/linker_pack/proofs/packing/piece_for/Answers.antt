@@ -1,6 +1,5 @@
-use Rattle.std.proofs.Common.{◌≡◌, ◌%◌, ◌∙◌, length, ap, sym, subst, arith}
+use Rattle.std.proofs.Common.{◌≡◌, ◌%◌, ◌∙◌, ap, sym, subst}
 use Rattle.linker_base.specs.Deltas.{deletions_of}
-use Rattle.linker_relax.specs.declared.relaxation.Item.{Item}
 use Rattle.linker_pack.specs.Packing.{section_of, nops, nop_len, ItemBecomes}
 use Rattle.linker_pack.proofs.Nops.{nops_length}
 use Rattle.linker_pack.proofs.packing.piece_for.Goals as goal

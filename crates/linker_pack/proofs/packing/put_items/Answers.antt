@@ -1,10 +1,10 @@
-use Rattle.std.proofs.Common.{◌≡◌, ℕ, ◌<◌, ◌≤◌, ◌+◌, ◌-◌, ◌%◌, ◌^◌, ◌∙◌, true, false, [], inl, inr, ap, sym, subst, arith, length}
+use Rattle.std.proofs.Common.{◌≡◌, ◌∙◌, [], ap, sym, arith, length}
 use Rattle.std.proofs.lemmas.Bool.{both_ways}
 use Rattle.linker_base.specs.Deltas.{deletions_of}
 use Rattle.linker_base.specs.Deletions.{rank}
 use Rattle.linker_base.proofs.Rank.{rank-mono}
 use Rattle.linker_relax.specs.Relaxing.{item_at, offset_of}
-use Rattle.linker_pack.specs.Packing.{section_of, is_fixed}
+use Rattle.linker_pack.specs.Packing.{section_of}
 use Rattle.linker_pack.specs.Inner.Pieces.{piece_bytes}
 use Rattle.linker_pack.proofs.Items.{writable_excludes, written_start, written_step, written_end, piece_len, piece_whole, piece_becomes}
 use Rattle.linker_pack.proofs.packing.put_items.Goals as goal

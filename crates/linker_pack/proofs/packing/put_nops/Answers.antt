@@ -1,5 +1,4 @@
-use Rattle.std.proofs.Common.{◌≡◌, ℕ, List, ◌+◌, ◌-◌, ◌*◌, ◌^◌, ◌/◌, ◌%◌, ◌++◌, ◌≤◌, ◌∙◌, [], ◌∷◌, length, take, drop, refl, ap, sym, arith, rules}
-use Rattle.std.specs.Prelude.{if◌then◌else◌}
+use Rattle.std.proofs.Common.{◌≡◌, ℕ, List, ◌+◌, ◌-◌, ◌*◌, ◌^◌, ◌/◌, ◌%◌, ◌++◌, ◌∙◌, [], ◌∷◌, take, drop, refl, ap, sym, arith}
 use Rattle.linker_pack.specs.Packing.{repeated, nops}
 use Rattle.linker_pack.proofs.Nops.{repeated_length, put_more, nops_two}
 use Rattle.linker_pack.proofs.packing.put_nops.Goals as goal

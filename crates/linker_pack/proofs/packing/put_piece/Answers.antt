@@ -1,8 +1,6 @@
-use Rattle.std.proofs.Common.{◌≡◌, ℕ, List, ◌+◌, ◌%◌, ◌++◌, ◌≤◌, ◌∙◌, length, take, drop, refl, ap, sym, subst, arith, rules}
+use Rattle.std.proofs.Common.{◌≡◌, ◌+◌, ◌%◌, ◌++◌, ◌∙◌, length, take, drop, ap, sym, subst, arith}
 use Rattle.linker_pack.specs.Packing.{nops, nop_len}
 use Rattle.linker_pack.specs.Inner.Pieces.{piece_bytes, IsWhole}
-use Rattle.linker_pack.specs.declared.packing.Piece.{Piece}
-use Rattle.linker_pack.specs.declared.packing.Piece.TheVariants.{Nops}
 use Rattle.linker_pack.proofs.Nops.{nops_length}
 use Rattle.linker_pack.proofs.packing.put_piece.Goals as goal
 

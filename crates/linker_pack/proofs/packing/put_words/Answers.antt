@@ -1,4 +1,4 @@
-use Rattle.std.proofs.Common.{◌≡◌, ◌+◌, ◌*◌, ◌++◌, ◌≤◌, ◌∙◌, [], ◌∷◌, length, take, drop, refl, ap, sym, arith}
+use Rattle.std.proofs.Common.{◌+◌, ◌*◌, ◌++◌, ◌∙◌, take, drop, ap, sym, arith}
 use Rattle.linker_pack.specs.Packing.{repeated}
 use Rattle.linker_pack.proofs.Nops.{repeated_none, repeated_more, repeated_length, put_more, put_nothing}
 use Rattle.linker_pack.proofs.packing.put_words.Goals as goal

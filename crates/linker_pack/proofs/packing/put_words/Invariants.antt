@@ -1,4 +1,4 @@
-use Rattle.std.proofs.Common.{◌≡◌, ◌+◌, ◌*◌, ◌++◌, length, take, drop}
+use Rattle.std.proofs.Common.{◌≡◌, ◌+◌, ◌*◌, ◌++◌, take, drop}
 use Rattle.linker_pack.specs.Packing.{repeated}
 use Rattle.linker_pack.proofs.packing.put_words.Given as goal
 

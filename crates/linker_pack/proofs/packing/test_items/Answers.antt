@@ -1,7 +1,6 @@
-use Rattle.std.proofs.Common.{◌≡◌, ℕ, ◌<◌, ◌≤◌, ◌+◌, [], inl, inr, sym, subst, arith, length}
+use Rattle.std.proofs.Common.{◌≡◌, [], inl, inr, subst, arith}
 use Rattle.std.proofs.lemmas.Bool.{cases_lt, both_ways}
 use Rattle.linker_base.specs.Deltas.{deletions_of}
-use Rattle.linker_relax.specs.Relaxing.{item_at}
 use Rattle.linker_pack.specs.Packing.{section_of, CanWrite}
 use Rattle.linker_pack.proofs.Items.{cause_of}
 use Rattle.linker_pack.proofs.packing.test_items.Goals as goal

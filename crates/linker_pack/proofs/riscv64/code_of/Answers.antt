@@ -1,5 +1,4 @@
-use Rattle.std.proofs.Common.{◌∙◌, sym, subst, arith, ◌≡◌, length}
-use Rattle.linker_pack.specs.RiscVSites.{riscv_template}
+use Rattle.std.proofs.Common.{◌∙◌, sym, subst, arith}
 use Rattle.linker_pack.specs.Inner.Pieces.{code_bytes}
 use Rattle.linker_pack.proofs.RiscV.{IsRelocated, becomes}
 use Rattle.linker_pack.proofs.riscv64.code_of.Goals as goal
