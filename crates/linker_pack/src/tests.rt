@@ -82,9 +82,9 @@ fn expect(
 #[test]
 fn sections_are_packed_as_linkers_pack_them(rt: HostRuntime) -> Result<(), OutOfMemory> {
     let items = items();
-    assert!(&rt; are_items(&items, 0xff08));
+    assert!(rt; are_items(&items, 0xff08));
     let plan = relax(rt.alloc(), &items, 0xff08)?;
-    assert_eq!(&rt; plan.kept.as_slice(), [0, 4, 2, 8, 14].as_slice());
+    assert_eq!(rt; plan.kept.as_slice(), [0, 4, 2, 8, 14].as_slice());
     expect(&rt, &items[1..], plan.deletions.deltas(), Ok(()), &PACKED);
     Ok(())
 }
@@ -92,7 +92,7 @@ fn sections_are_packed_as_linkers_pack_them(rt: HostRuntime) -> Result<(), OutOf
 #[test]
 fn rejected_items_are_named(rt: HostRuntime) -> Result<(), OutOfMemory> {
     let items = items();
-    assert!(&rt; are_items(&items, 0xff08));
+    assert!(rt; are_items(&items, 0xff08));
     let plan = relax(rt.alloc(), &items, 0xff08)?;
     let deltas = plan.deletions.deltas();
     let rows = [
