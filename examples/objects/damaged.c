@@ -45,7 +45,14 @@ static void *guarded_realloc(void *old, size_t size) {
 #define calloc guarded_calloc
 #define realloc guarded_realloc
 #endif
-#include "../link.c"
+#include "../link/entries.c"
+#include "../link/layout.c"
+#include "../link/main.c"
+#include "../link/objects.c"
+#include "../link/output.c"
+#include "../link/relax.c"
+#include "../link/relocate.c"
+#include "../link/symbols.c"
 #undef main
 #undef calloc
 #undef realloc
