@@ -271,14 +271,14 @@ bool add_thunks(void) {
             struct relocation *r = &o->relocations[j];
             if (!r->section || !r->type || r->symbol->is_thunk || is_left_out(r)) continue;
             const struct row *row = row_of(r);
-            if (!row->info.thunkable && !row->may_use_plt) continue;
+            if (!row->may_use_plt) continue;
             unsigned toc = machine == EM_PPC64 ? toc_of(r->symbol) : 0;
             bool is_notoc = machine == EM_PPC64 && r->type == PPC64_REL24_NOTOC;
             bool is_needed = is_notoc ? toc > 1 : toc == 1;
             if (toc == 1 && !is_notoc && !r->restores_toc)
                 fail("%s has no nop behind it, to '%s'", place_of(r), r->symbol->name);
             struct linker_utils_relocation_reach reach = {0};
-            if (row->info.thunkable) linker_utils_reach(machine, r->type, &reach);
+            linker_utils_reach(machine, r->type, &reach);
             int64_t value = reach.has_range ? value_of(o, r) : 0;
             if (!is_needed && (!reach.has_range || (value >= reach.min && value < reach.max)))
                 continue;

@@ -139,7 +139,7 @@ uint64_t place_outputs(void) {
     for (size_t i = 0; i < outputs_len; i++) {
         const struct output *o = outputs[i];
         if (o->flags & SHF_TLS && o->align > align) align = o->align;
-        if (o->is_placed && o->address + o->len > at) at = o->address + o->len;
+        if (o->is_placed && o->address + o->len > at) at = round_up(o->address + o->len, PAGE);
     }
     for (size_t i = 0; i < outputs_len; i++) {
         struct output *o = outputs[i];
