@@ -6,10 +6,9 @@ size_t outputs_len;
 
 /* The section of the linked file that a section of an object goes into. */
 struct output *output_of(const char *name) {
-    static const char *const kinds[] = {".text",  ".rodata", ".data",  ".data.rel.ro",
-                                        ".bss",   ".sdata",  ".sbss",  ".tdata",
-                                        ".tbss",  ".gcc_except_table", ".init_array.",
-                                        ".fini_array."};
+    static const char *const kinds[] = {
+        ".text", ".rodata", ".data", ".data.rel.ro", ".bss",         ".sdata",       ".sbss",
+        ".tdata", ".tbss",  ".gcc_except_table",     ".init_array.", ".fini_array."};
     const char *kind = name; /* the last that matches; with a priority the name is its own */
     unsigned priority = UINT16_MAX + 1;
     for (size_t i = 0, len; i < sizeof kinds / sizeof *kinds; i++) {
@@ -26,19 +25,19 @@ struct output *output_of(const char *name) {
 }
 
 static unsigned rank_of(const struct output *o) {
-    static const char *const arrays[] = {".preinit_array", ".init_array", ".fini_array"};
+    static const struct {
+        const char *name;
+        unsigned rank;
+    } ranks[] = {{".preinit_array", RANK_ARRAYS}, {".init_array", RANK_ARRAYS + 1},
+                 {".fini_array", RANK_ARRAYS + 2}, {".data.rel.ro", RANK_RELOCATED},
+                 {".got", RANK_GOT}, {".toc", RANK_TOC}, {".sdata", RANK_SMALL_DATA},
+                 {".sbss", RANK_BSS}, {".bss", RANK_BSS}};
     if (o == headers) return RANK_HEADERS;
     if (o->flags & SHF_EXECINSTR) return RANK_CODE;
     if (o->flags & SHF_TLS) return o->has_bytes ? RANK_TLS : RANK_TLS_BSS;
-    for (unsigned i = 0; i < 3; i++)
-        if (!strncmp(o->name, arrays[i], strlen(arrays[i]))) return RANK_ARRAYS + i;
-    if (o == got) return RANK_GOT;
-    if (!strcmp(o->name, ".toc")) return RANK_TOC;
-    if (!strncmp(o->name, ".data.rel.ro", 12)) return RANK_RELOCATED;
-    if (!strcmp(o->name, ".bss") || !strcmp(o->name, ".sbss")) return RANK_BSS;
-    if (!strcmp(o->name, ".sdata")) return RANK_SMALL_DATA;
-    if (!(o->flags & SHF_WRITE)) return RANK_FIXED;
-    return o->has_bytes ? RANK_DATA : RANK_BSS;
+    for (unsigned i = 0; i < sizeof ranks / sizeof *ranks; i++)
+        if (!strncmp(o->name, ranks[i].name, strlen(ranks[i].name))) return ranks[i].rank;
+    return !(o->flags & SHF_WRITE) ? RANK_FIXED : o->has_bytes ? RANK_DATA : RANK_BSS;
 }
 
 static int by_rank(const void *left, const void *right) {
@@ -54,14 +53,10 @@ void sort_outputs(void) {
 }
 
 struct relocation *add_relocations(struct output *o, size_t len) {
-    size_t old = o->relocations_len, need = old + len + 1;
-    if (need > o->relocations_room) {
-        o->relocations_room = 2 * need;
-        o->relocations = realloc(o->relocations, o->relocations_room * sizeof *o->relocations);
-        if (!o->relocations) fail("out of memory");
-    }
+    o->relocations = grow(o->relocations, o->relocations_len + len + 1, &o->relocations_room,
+                          sizeof *o->relocations);
     o->relocations_len += len;
-    return o->relocations + old;
+    return o->relocations + o->relocations_len - len;
 }
 
 /* The offset of new room at a section's end. Gaps in code have instructions that trap, or zeros, as
@@ -83,13 +78,7 @@ uint64_t make_room(struct output *o, uint64_t align, uint64_t len) {
     if (align > o->align) o->align = align;
     o->len = offset + len;
     if (!o->has_bytes) return offset;
-    if (o->len > o->room) {
-        uint64_t room = 2 * o->len;
-        o->bytes = realloc(o->bytes, room);
-        if (!o->bytes) fail("out of memory");
-        memset(o->bytes + o->room, 0, room - o->room);
-        o->room = room;
-    }
+    o->bytes = grow(o->bytes, o->len, &o->room, 1);
     for (uint64_t i = start; i < offset && o->flags & SHF_EXECINSTR; i++)
         o->bytes[i] = (uint8_t)(trap >> i % 4 * 8);
     return offset;
@@ -100,17 +89,17 @@ void add_section(struct section *s) {
     const Elf64_Shdr *head = s->head;
     if (!(head->sh_flags & SHF_ALLOC) || head->sh_type == SHT_NOTE || s->is_duplicate) return;
     bool has_bytes = head->sh_type != SHT_NOBITS, is_code = head->sh_flags & SHF_EXECINSTR;
-    s->output = output_of(s->name);
-    if (s->output == got || s->output == slots || s->output == stubs || s->output == irelatives ||
-        s->output == frames_index || (s->relocations && !has_bytes))
+    struct output *o = s->output = output_of(s->name);
+    if (o == got || o == slots || o == stubs || o == irelatives || o == index_of || o == headers ||
+        (!has_bytes && (s->relocations || o == frames)))
         fail("%s: a section %s is not supported", s->object->path, s->name);
-    bool is_first = !s->output->flags;
-    if (!is_first && (s->output->flags ^ head->sh_flags) & SHF_TLS)
+    if (o->flags && (o->flags ^ head->sh_flags) & SHF_TLS)
         fail("%s: %s is thread-local, and elsewhere it is not", s->object->path, s->name);
-    s->output->flags |= head->sh_flags;
-    s->output->has_bytes |= has_bytes;
-    s->output->shrinks |= (machine == EM_RISCV || machine == EM_LOONGARCH) && has_bytes && is_code;
-    if (s->output == frames) count_frames(s);
+    o->flags |= head->sh_flags;
+    o->has_bytes |= has_bytes;
+    o->shrinks |= (machine == EM_RISCV || machine == EM_LOONGARCH) && has_bytes && is_code;
+    if (o == frames)
+        index_of->len += 8 * read_frames(s, s->object->bytes + head->sh_offset, NULL);
 }
 
 /* Copies a section to where it goes. The unwind information has no gaps: they would end it. */
@@ -124,17 +113,11 @@ void copy_section(struct section *s) {
     if (s->relocations) read_relocations(s);
 }
 
-static bool continues(const struct output *before, const struct output *o) {
-    uint64_t kinds = SHF_WRITE | SHF_EXECINSTR;
-    return !o->is_placed && !((before->flags ^ o->flags) & kinds);
-}
-
 /* Places the sections, so that one with other permissions begins a new page, at the same offset in
  * the page as the one before it ends. Returns by how much a distance of two can change when code
  * shrinks. */
 uint64_t place_outputs(void) {
-    uint64_t at = BASE, slack = 0, page = PAGE, image = 0, end = 0, align = 1;
-    const struct output *before = NULL;
+    uint64_t at = BASE, slack = 0, page = PAGE, end = 0, align = 1, kinds = 0, now;
     if (machine == EM_X86_64 || machine == EM_RISCV) page = 0x1000;
     for (size_t i = 0; i < outputs_len; i++) {
         const struct output *o = outputs[i];
@@ -144,25 +127,28 @@ uint64_t place_outputs(void) {
     for (size_t i = 0; i < outputs_len; i++) {
         struct output *o = outputs[i];
         bool is_tls = o->flags & SHF_TLS;
-        if (before && o->len && !continues(before, o)) at += at % page ? page : 0;
-        uint64_t start = is_tls && end ? end : at;
-        if (!o->is_placed) o->address = round_up(start, is_tls && !end ? align : o->align);
-        if (is_tls && !end) image = o->address;
-        if (o->address % o->align || o->address > UINT64_MAX / 4 || (is_tls && o->address < image))
+        if (o->len && (now = o->flags & (SHF_WRITE | SHF_EXECINSTR)) != kinds) {
+            at += at % page ? page : 0;
+            kinds = now;
+        }
+        if (!o->is_placed)
+            o->address = is_tls && !end ? round_up(at, align) : round_up(is_tls ? end : at, o->align);
+        if (is_tls && !end) tls.image = o->address;
+        if (o->address % o->align || o->address > UINT64_MAX / 4 ||
+            (is_tls && o->address < tls.image))
             fail("section %s can't be at 0x%" PRIx64, o->name, o->address);
         if (is_tls) end = o->address + o->len;
         if (!o->is_placed && (!is_tls || o->has_bytes)) at = o->address + o->len;
-        if (o->len) before = o;
         slack += (o->is_placed ? 0 : PAGE) + (o->shrinks ? o->len : 0);
     }
-    uint64_t len = end - image, thread = image;
-    if (machine == EM_AARCH64) thread -= round_up(16, align);
-    if (machine == EM_PPC64) thread += 0x7000;
-    if (machine == EM_X86_64) thread += round_up(len, align);
-    tls = (struct linker_utils_operands){.place = image, .symbol_size = len, .symbol = thread,
-                                         .addend = (int64_t)align, .tls_base = image};
-    if (machine == EM_PPC64) tls.tls_base += 0x8000;
-    if (machine == EM_RISCV) tls.tls_base += 0x800;
+    tls.len = end ? end - tls.image : 0;
+    tls.align = align;
+    tls.thread = tls.module = tls.image;
+    if (machine == EM_AARCH64) tls.thread -= round_up(16, align);
+    if (machine == EM_PPC64) tls.thread += 0x7000;
+    if (machine == EM_X86_64) tls.thread += round_up(tls.len, align);
+    if (machine == EM_PPC64) tls.module += 0x8000;
+    if (machine == EM_RISCV) tls.module += 0x800;
     return slack;
 }
 

@@ -30,30 +30,12 @@
 #define END UINT64_MAX                  /* the offset of a section's end, wherever that will be */
 
 /* relocation types that older versions of <elf.h> lack */
-enum {
-    LARCH_PCALA_HI20 = 71,
-    LARCH_PCALA_LO12 = 72,
-    LARCH_RELAX = 100,
-    LARCH_ALIGN = 102,
-    LARCH_CALL36 = 110,
-    PPC64_REL24_NOTOC = 116
-};
+enum { LARCH_PCALA_HI20 = 71, LARCH_PCALA_LO12 = 72, LARCH_RELAX = 100, LARCH_ALIGN = 102 };
+enum { LARCH_CALL36 = 110, PPC64_REL24_NOTOC = 116 };
 
-/* the order of the sections of the linked file, where the command line doesn't say it */
-enum {
-    RANK_HEADERS,
-    RANK_FIXED,
-    RANK_CODE,
-    RANK_TLS,
-    RANK_TLS_BSS,
-    RANK_ARRAYS, /* and two more */
-    RANK_RELOCATED = RANK_ARRAYS + 3,
-    RANK_GOT,
-    RANK_TOC,
-    RANK_DATA,
-    RANK_SMALL_DATA,
-    RANK_BSS
-};
+/* the order of the sections of the linked file; there are three kinds of arrays */
+enum { RANK_HEADERS, RANK_FIXED, RANK_CODE, RANK_TLS, RANK_TLS_BSS, RANK_ARRAYS, RANK_RELOCATED = 8,
+       RANK_GOT, RANK_TOC, RANK_DATA, RANK_SMALL_DATA, RANK_BSS };
 
 #define fail(...) (fprintf(stderr, __VA_ARGS__), fputc('\n', stderr), exit(1))
 
@@ -70,12 +52,14 @@ struct output {
 };
 
 struct object {
+    struct object *next;
     const char *path;
     const uint8_t *bytes;
     const Elf64_Shdr *heads;
     struct section *sections; /* one for each head */
     struct symbol **symbols;
-    size_t len, sections_len, symbols_len, place; /* which argument it is of */
+    size_t len, sections_len, symbols_len;
+    int place; /* which argument it is of */
 };
 
 struct section {
@@ -90,7 +74,7 @@ struct section {
 
 struct archive {
     struct object file;
-    const uint8_t *names; /* the long names of members */
+    const char *names; /* the long names of members */
     size_t names_len;
     bool *is_loaded; /* by half of a member's offset */
 };
@@ -99,14 +83,14 @@ struct symbol {
     const struct object *object; /* null where only an index of an archive names it */
     const char *name;
     Elf64_Sym elf;
-    struct symbol *next; /* in its bucket */
-    struct archive *archive; /* which defines it, if it is asked for; null where none does */
-    uint64_t member;
+    struct symbol *next, *later, *wanted; /* in its bucket; as objects mention them; to be loaded */
+    struct archive *archive;              /* which can define it; null where none can */
+    uint64_t member, offset;              /* in the archive; in the output */
     struct output *output; /* null where the address is absolute, and where nothing defines it */
-    uint64_t offset;       /* in the output */
     struct entry *entries; /* in the GOT */
-    struct thunk *thunks;
-    bool is_listed, needs_stub, is_thunk; /* among all symbols; an indirect function is used */
+    struct symbol *thunks; /* to it */
+    int64_t thunk_addend;
+    bool is_listed, needs_stub, is_thunk; /* (an indirect function that is used needs one) */
 };
 
 /* What an entry of the GOT has. */
@@ -136,61 +120,49 @@ struct row {
     bool is_known, asks_for_got, may_use_plt;
 };
 
+/* The TLS segment: where its image is, its length and alignment, the thread pointer, and the origin
+ * of offsets in the module's block. */
+struct tls {
+    uint64_t image, len, align, thread, module;
+};
+
 extern uint16_t machine;
 extern uint32_t machine_flags;
-extern struct object **objects;
-extern struct output *outputs[256], *headers, *got, *stubs, *slots, *irelatives, *frames, *frames_index;
-extern size_t objects_len, outputs_len, symbols_len;
-extern struct symbol **symbols; /* all that an object mentions, in the order of the objects */
-extern struct linker_utils_operands tls; /* the thread pointer as `symbol`, the module's origin as
-                                            `tls_base`, the image's address and size as `place`
-                                            and `symbol_size`, and its alignment as `addend` */
+extern struct object *objects; /* in the order of the arguments */
+extern struct symbol *symbols; /* all that objects mention, in their order */
+extern struct output *outputs[256], *headers, *got, *stubs, *slots, *irelatives, *frames, *index_of;
+extern size_t outputs_len;
+extern struct tls tls;
 
-void *take(uint64_t count, size_t size);
+void *take(uint64_t count, size_t size), *grow(void *array, size_t need, size_t *room, size_t size);
 uint64_t round_up(uint64_t at, uint64_t align);
 const char *place_of(const struct relocation *r);
 void check(const struct relocation *r, uint32_t status);
 const struct row *row_of(const struct relocation *r);
 
-void demand(const struct object *o, bool holds, const char *otherwise);
-const uint8_t *bytes_at(const struct object *o, uint64_t offset, uint64_t len);
 void *copy_table(const struct object *o, const Elf64_Shdr *head, size_t size, size_t *len);
-void read_file(const char *path, size_t place);
-void load_member(struct archive *a, uint64_t offset);
+void read_file(const char *path, int place), load_member(struct archive *a, uint64_t offset);
 
-struct symbol **global(const char *name);
+struct symbol **global(const char *name), *resolve(struct symbol *s);
 int rank(const Elf64_Sym *s);
-struct symbol *resolve(struct symbol *s);
 void offer(const char *name, struct archive *a, uint64_t member);
-void load_members(void);
 bool is_first_group(const char *name);
-void list_symbols(void);
-void define_symbols(void);
-void place_symbol(struct symbol *s);
+void load_members(void), list_symbols(void), define_symbols(void), place_symbol(struct symbol *s);
 
 struct output *output_of(const char *name);
 struct relocation *add_relocations(struct output *o, size_t len);
-uint64_t make_room(struct output *o, uint64_t align, uint64_t len);
-void add_section(struct section *s);
-void copy_section(struct section *s);
-void sort_outputs(void);
-uint64_t place_outputs(void);
+uint64_t make_room(struct output *o, uint64_t align, uint64_t len), place_outputs(void);
 uint64_t address_of(const struct output *o, uint64_t offset);
+void add_section(struct section *s), copy_section(struct section *s), sort_outputs(void);
 
-void read_relocations(struct section *s);
-void make_entries(void);
+void read_relocations(struct section *s), make_entries(void);
 bool add_thunks(void);
 uint32_t rewrite(const struct relocation *r, uint8_t *bytes, uint64_t len, uint64_t *offset,
                  int64_t *addend, uint32_t *type, const struct linker_utils_link_facts *facts);
-
-void shrink(struct output *o, uint64_t slack);
-
+void shrink(struct output *o, uint64_t slack), relocate(struct output *o);
 int64_t value_of(const struct output *o, const struct relocation *r);
 bool is_left_out(const struct relocation *r);
-void relocate(struct output *o);
-
-void count_frames(const struct section *s);
-void index_frames(void);
-void write_file(const char *path, uint64_t entry);
+uint64_t read_frames(const struct section *s, const uint8_t *bytes, uint8_t *rows);
+void index_frames(void), write_file(const char *path, uint64_t entry);
 
 #endif

@@ -12,6 +12,17 @@ void *take(uint64_t count, size_t size) {
     return memory;
 }
 
+/* An array with room for so many elements: twice as many where it has to grow. */
+void *grow(void *array, size_t need, size_t *room, size_t size) {
+    size_t old = *room;
+    if (need <= old) return array;
+    *room = 2 * need;
+    array = realloc(array, *room * size);
+    if (!array) fail("out of memory");
+    memset((uint8_t *)array + old * size, 0, (*room - old) * size);
+    return array;
+}
+
 uint64_t round_up(uint64_t at, uint64_t align) { return (at + align - 1) & ~(align - 1); }
 
 /* Where a relocation is, and its name, as "b.o: .text+0x1c: R_RISCV_JAL". */
@@ -20,11 +31,10 @@ const char *place_of(const struct relocation *r) {
     uint8_t name[LINKER_UTILS_NAME_SIZE];
     size_t len = 0;
     linker_utils_relocation_name(machine, r->type, name, sizeof name, &len);
-    if (r->section)
-        snprintf(text, sizeof text, "%s: %s+0x%" PRIx64 ": %.*s", r->section->object->path,
-                 r->section->name, r->offset - r->section->offset, (int)len, (const char *)name);
-    else
-        snprintf(text, sizeof text, "what the linker adds: %.*s", (int)len, (const char *)name);
+    uint64_t offset = r->section ? r->offset - r->section->offset : r->offset;
+    snprintf(text, sizeof text, "%s: %s+0x%" PRIx64 ": %.*s",
+             r->section ? r->section->object->path : "the linker's own code and tables",
+             r->section ? r->section->name : "", offset, (int)len, (const char *)name);
     return text;
 }
 
@@ -33,10 +43,10 @@ void check(const struct relocation *r, uint32_t status) {
 }
 
 /* A section that the linker itself fills. */
-static struct output *own_section(const char *name, uint64_t flags) {
+static struct output *own_section(const char *name, uint64_t flags, bool has_bytes) {
     struct output *o = output_of(name);
-    o->flags = flags | SHF_ALLOC;
-    o->has_bytes = true;
+    o->flags = flags;
+    o->has_bytes = has_bytes;
     return o;
 }
 
@@ -44,15 +54,13 @@ int main(int argc, char **argv) {
     const char *path = NULL;
     uint64_t address;
     bool is_placed = false;
-    got = output_of(".got");
-    got->flags = SHF_WRITE | SHF_ALLOC;
-    stubs = own_section(".iplt", SHF_EXECINSTR);
-    slots = own_section(".igot.plt", SHF_WRITE);
-    irelatives = own_section(".rela.iplt", 0);
+    got = own_section(".got", SHF_ALLOC | SHF_WRITE, false);
+    stubs = own_section(".iplt", SHF_ALLOC | SHF_EXECINSTR, true);
+    slots = own_section(".igot.plt", SHF_ALLOC | SHF_WRITE, true);
+    irelatives = own_section(".rela.iplt", SHF_ALLOC, true);
+    index_of = own_section(".eh_frame_hdr", SHF_ALLOC, true);
+    headers = own_section("the headers", SHF_ALLOC, true);
     frames = output_of(".eh_frame");
-    frames_index = own_section(".eh_frame_hdr", 0);
-    frames_index->align = 4;
-    headers = own_section("the headers", 0);
     for (int i = 1, end = 0; i < argc; i++) {
         if (sscanf(argv[i], "--section-start=%*[^=]%n=%" SCNx64, &end, &address) == 1) {
             argv[i][end] = 0;
@@ -62,28 +70,28 @@ int main(int argc, char **argv) {
         } else if (!strcmp(argv[i], "-o") && argv[i + 1]) {
             path = argv[++i];
         } else {
-            read_file(argv[i], (size_t)i);
+            read_file(argv[i], i);
         }
     }
-    if (!path || !objects_len)
+    if (!path || !objects)
         fail("usage: link -o OUTPUT [--section-start=NAME=ADDRESS]... FILE...");
     if (!is_placed) make_room(headers, 8, HEADERS);
     list_symbols();
-    for (size_t i = 0; i < objects_len; i++)
-        for (size_t j = 0; j < objects[i]->sections_len; j++) add_section(&objects[i]->sections[j]);
+    for (struct object *o = objects; o; o = o->next)
+        for (size_t i = 0; i < o->sections_len; i++) add_section(&o->sections[i]);
+    uint64_t index_len = index_of->len ? index_of->len + 12 : 0;
+    index_of->len = 0;
+    make_room(index_of, 4, index_len);
     define_symbols();
-    for (size_t i = 0; i < symbols_len; i++) {
-        struct symbol *s = symbols[i];
+    for (struct symbol *s = symbols; s; s = s->later) {
         if (s->elf.st_shndx != SHN_COMMON) continue; /* these are first in `.bss`, as in ld.lld */
         s->output = output_of(".bss");
         s->output->flags |= SHF_WRITE | SHF_ALLOC;
         s->offset = make_room(s->output, s->elf.st_value, s->elf.st_size);
     }
-    for (size_t i = 0; i < objects_len; i++)
-        for (size_t j = 0; j < objects[i]->sections_len; j++)
-            copy_section(&objects[i]->sections[j]);
-    if (frames_index->len) frames_index->bytes = take(frames_index->len, 1);
-    for (size_t i = 0; i < symbols_len; i++) place_symbol(symbols[i]);
+    for (struct object *o = objects; o; o = o->next)
+        for (size_t i = 0; i < o->sections_len; i++) copy_section(&o->sections[i]);
+    for (struct symbol *s = symbols; s; s = s->later) place_symbol(s);
     make_entries();
     uint64_t slack = place_outputs();
     for (size_t i = 0; i < outputs_len; i++)

@@ -1,15 +1,14 @@
 /* Objects, archives and groups. Everything that is read of a file is checked to be in it. */
 #include "link.h"
 
-struct object **objects;
-size_t objects_len;
+struct object *objects;
 
 /* Ends with an error of an object, where something does not hold of it. */
-void demand(const struct object *o, bool holds, const char *otherwise) {
+static void demand(const struct object *o, bool holds, const char *otherwise) {
     if (!holds) fail("%s: %s", o->path, otherwise);
 }
 
-const uint8_t *bytes_at(const struct object *o, uint64_t offset, uint64_t len) {
+static const uint8_t *bytes_at(const struct object *o, uint64_t offset, uint64_t len) {
     demand(o, offset <= o->len && len <= o->len - offset, "it ends too early");
     return o->bytes + offset;
 }
@@ -32,25 +31,20 @@ static const char *text_at(const struct object *o, uint64_t table, uint64_t at) 
 
 /* Leaves out the sections of a group that an earlier object has too. */
 static void read_group(struct object *o, const Elf64_Shdr *head, const char *section) {
-    size_t words_len, symbols_len;
-    Elf64_Sym *symbol = NULL;
-    Elf64_Shdr table = *head;
-    table.sh_entsize = sizeof(Elf32_Word);
-    const Elf32_Word *words = copy_table(o, &table, sizeof *words, &words_len);
-    if (head->sh_link < o->sections_len && o->heads[head->sh_link].sh_type == SHT_SYMTAB) {
-        table = o->heads[head->sh_link];
-        demand(o, head->sh_info < table.sh_size / sizeof *symbol, "a group without its symbol");
-        table.sh_offset += head->sh_info * sizeof *symbol;
-        table.sh_size = sizeof *symbol;
-        symbol = copy_table(o, &table, sizeof *symbol, &symbols_len);
-    }
-    if (!symbol || !words_len) fail("%s: %s: a group without its symbol", o->path, section);
-    if (!(words[0] & GRP_COMDAT) || is_first_group(text_at(o, table.sh_link, symbol->st_name)))
-        words_len = 0;
-    for (size_t i = 1; i < words_len; i++) {
+    size_t len, symbols_len;
+    Elf64_Shdr group = *head, table = {.sh_entsize = 0};
+    group.sh_entsize = sizeof(Elf32_Word);
+    const Elf32_Word *words = copy_table(o, &group, sizeof *words, &len);
+    if (head->sh_link < o->sections_len) table = o->heads[head->sh_link];
+    if (table.sh_type != SHT_SYMTAB || head->sh_info >= table.sh_size / sizeof(Elf64_Sym) || !len)
+        fail("%s: %s: a group without its symbol", o->path, section);
+    const Elf64_Sym *symbol = copy_table(o, &table, sizeof *symbol, &symbols_len);
+    const char *name = text_at(o, table.sh_link, symbol[head->sh_info].st_name);
+    bool is_kept = !(words[0] & GRP_COMDAT) || is_first_group(name);
+    for (size_t i = 1; i < len; i++) {
         if (words[i] >= o->sections_len)
             fail("%s: %s: a group of a section that is not there", o->path, section);
-        o->sections[words[i]].is_duplicate = true;
+        o->sections[words[i]].is_duplicate |= !is_kept;
     }
 }
 
@@ -62,25 +56,31 @@ static void read_symbols(struct object *o, const Elf64_Shdr *head) {
     for (size_t i = 0; i < o->symbols_len; i++, elf++, s++) {
         uint16_t at = elf->st_shndx;
         unsigned type = ELF64_ST_TYPE(elf->st_info), bind = ELF64_ST_BIND(elf->st_info);
-        *s = (struct symbol){.object = o, .name = text_at(o, head->sh_link, elf->st_name),
-                             .elf = *elf};
-        if ((at >= o->sections_len && at != SHN_ABS && at != SHN_COMMON) ||
+        bool has_section = at < o->sections_len;
+        s->object = o;
+        s->name = text_at(o, head->sh_link, elf->st_name);
+        s->elf = *elf;
+        if ((!has_section && at != SHN_ABS && at != SHN_COMMON) ||
             (bind == STB_LOCAL) != (i < head->sh_info) ||
             (at == SHN_COMMON && (bind == STB_LOCAL || type == STT_TLS)))
             fail("%s: symbol %zu, '%s', is of a kind that is not supported", o->path, i, s->name);
-        bool has_section = at < o->sections_len;
         if (type == STT_TLS && at && has_section && !(o->heads[at].sh_flags & SHF_TLS))
             fail("%s: %s: '%s' is thread-local in a section that is not", o->path,
                  o->sections[at].name, s->name);
         if (type == STT_SECTION && has_section) s->name = o->sections[at].name;
-        if (bind != STB_LOCAL && has_section && o->sections[at].is_duplicate)
-            s->elf.st_shndx = SHN_UNDEF;
+        if (bind != STB_LOCAL && has_section && o->sections[at].is_duplicate) s->elf.st_shndx = 0;
         o->symbols[i] = bind == STB_LOCAL ? s : resolve(s);
     }
 }
 
-static void read_object(struct object *o) {
+/* Reads an object, and puts it behind the others of the same and of earlier arguments. */
+static void read_object(const char *path, const uint8_t *bytes, size_t len, int place) {
     Elf64_Ehdr head;
+    struct object *o = take(1, sizeof *o), **before = &objects;
+    *o = (struct object){.path = path, .bytes = bytes, .len = len, .place = place};
+    while (*before && (*before)->place <= place) before = &(*before)->next;
+    o->next = *before;
+    *before = o;
     memcpy(&head, bytes_at(o, 0, sizeof head), sizeof head);
     demand(o, !memcmp(head.e_ident, ELFMAG "\2\1", 6) && head.e_type == ET_REL && head.e_shnum,
            "not a relocatable object of little-endian ELF64");
@@ -94,11 +94,9 @@ static void read_object(struct object *o) {
     o->sections = take(o->sections_len, sizeof *o->sections);
     for (size_t i = 0; i < o->sections_len; i++) {
         const Elf64_Shdr *s = &o->heads[i];
-        struct section *section = &o->sections[i];
-        *section = (struct section){.object = o, .head = s};
-        section->name = text_at(o, head.e_shstrndx, s->sh_name);
-        if (s->sh_type != SHT_NOBITS && (s->sh_offset > o->len || s->sh_size > o->len - s->sh_offset))
-            fail("%s: %s: it ends too early", o->path, section->name);
+        o->sections[i] = (struct section){o, text_at(o, head.e_shstrndx, s->sh_name), .head = s};
+        if (s->sh_type != SHT_NOBITS && (s->sh_offset > len || s->sh_size > len - s->sh_offset))
+            fail("%s: %s: it ends too early", path, o->sections[i].name);
     }
     for (size_t i = 0; i < o->sections_len; i++)
         if (o->heads[i].sh_type == SHT_GROUP) read_group(o, &o->heads[i], o->sections[i].name);
@@ -106,31 +104,20 @@ static void read_object(struct object *o) {
         if (s->sh_type == SHT_SYMTAB) read_symbols(o, s);
         if (s->sh_type != SHT_RELA && s->sh_type != SHT_REL) continue;
         if (s->sh_info >= o->sections_len || o->sections[s->sh_info].relocations)
-            fail("%s: relocations of no section, or twice of one", o->path);
+            fail("%s: relocations of no section, or twice of one", path);
         o->sections[s->sh_info].relocations = s;
     }
 }
 
-static struct object *add_object(struct object o) {
-    if (!(objects_len & (objects_len + 1))) /* room for twice as many */
-        objects = realloc(objects, 2 * (objects_len + 1) * sizeof *objects);
-    struct object *added = take(1, sizeof *added);
-    if (!objects) fail("out of memory");
-    o.place = o.place << 32 | objects_len; /* among those of one argument as they were read */
-    *added = o;
-    return objects[objects_len++] = added;
-}
-
-/* The header of an archive's member: its name and its size. */
+/* The name and the size of an archive's member, by its header. */
 static uint64_t member_head(const struct archive *a, uint64_t offset, char name[17]) {
-    char size[11] = {0};
-    const char *head = (const char *)bytes_at(&a->file, offset, 60), *end = size;
-    demand(&a->file, !memcmp(head + 58, "`\n", 2), "a member's header is not there");
-    memcpy(name, head, 16);
+    char size[11] = {0}, *end;
+    const char *head = (const char *)bytes_at(&a->file, offset, 60);
+    snprintf(name, 17, "%.16s", head);
     memcpy(size, head + 48, 10);
-    name[16] = 0;
-    uint64_t len = strtoull(size, (char **)&end, 10);
-    demand(&a->file, end != size && *size != '-', "a member's size is no number");
+    uint64_t len = strtoull(size, &end, 10);
+    demand(&a->file, !memcmp(head + 58, "`\n", 2) && end != size && *size != '-',
+           "a member's header is not there");
     bytes_at(&a->file, offset + 60, len);
     return len;
 }
@@ -140,22 +127,17 @@ void load_member(struct archive *a, uint64_t offset) {
     char name[17];
     if (a->is_loaded[offset / 2]) return;
     a->is_loaded[offset / 2] = true;
-    uint64_t len = member_head(a, offset, name);
-    const char *text = name, *end = memchr(name, '/', 16);
-    int text_len = end ? (int)(end - name) : 16;
-    if (end == name && name[1] >= '0' && name[1] <= '9') {
-        uint64_t at = strtoull(name + 1, NULL, 10);
+    uint64_t len = member_head(a, offset, name), at = strtoull(name + 1, NULL, 10);
+    const char *text = name;
+    if (*name == '/') {
         demand(&a->file, at < a->names_len, "a member's name is not there");
-        text = (const char *)a->names + at;
-        end = memchr(text, '/', a->names_len - at);
-        demand(&a->file, end, "a member's name does not end");
-        text_len = end - text < 1024 ? (int)(end - text) : 1024;
+        text = a->names + at;
     }
+    int text_len = (int)strcspn(text, "/"); /* (the file ends with a zero) */
     size_t path_len = strlen(a->file.path) + (size_t)text_len + 3;
     char *path = take(path_len, 1);
     snprintf(path, path_len, "%s(%.*s)", a->file.path, text_len, text);
-    read_object(add_object((struct object){.path = path, .bytes = a->file.bytes + offset + 60,
-                                           .len = len, .place = a->file.place}));
+    read_object(path, a->file.bytes + offset + 60, len, a->file.place);
 }
 
 static uint64_t big_endian(const uint8_t *bytes, size_t len) {
@@ -169,17 +151,16 @@ static void read_archive(struct object file) {
     struct archive *a = take(1, sizeof *a);
     const uint8_t *index = NULL;
     uint64_t index_len = 0, word = 4;
+    char name[17];
     *a = (struct archive){.file = file, .is_loaded = take(file.len / 2 + 1, 1)};
-    for (uint64_t at = 8, i = 0; i < 3 && at < file.len; i++) { /* the special ones are first */
-        char name[17];
+    for (uint64_t at = 8, i = 0; i < 2 && at < file.len; i++) { /* the special ones are first */
         uint64_t len = member_head(a, at, name);
-        const uint8_t *bytes = file.bytes + at + 60;
         if (!memcmp(name, "/ ", 2) || !memcmp(name, "/SYM64/ ", 8)) {
             word = name[1] == 'S' ? 8 : 4;
-            index = bytes;
+            index = file.bytes + at + 60;
             index_len = len;
         } else if (!memcmp(name, "// ", 3)) {
-            a->names = bytes;
+            a->names = (const char *)file.bytes + at + 60;
             a->names_len = len;
         }
         at += 60 + len + len % 2;
@@ -188,32 +169,32 @@ static void read_archive(struct object file) {
     demand(&a->file, index && index_len >= word, "an archive without an index");
     uint64_t count = big_endian(index, word);
     demand(&a->file, count <= (index_len - word) / word, "the index ends too early");
-    const char *name = (const char *)index + word * (count + 1), *end = (const char *)index + index_len;
+    const char *text = (const char *)index + word * (count + 1);
     for (uint64_t i = 1; i <= count; i++) {
+        const char *next = memchr(text, 0, (size_t)((const char *)index + index_len - text));
         uint64_t member = big_endian(index + word * i, word);
-        const char *next = memchr(name, 0, (size_t)(end - name));
         demand(&a->file, next, "the index ends too early");
-        if (member < 8 || member > file.len - 8 || member % 2 || file.len - member < 60 ||
+        if (member % 2 || member >= file.len || file.len - member < 60 ||
             memcmp(file.bytes + member + 58, "`\n", 2))
-            fail("%s: the index points nowhere for '%.200s'", file.path, name);
-        offer(name, a, member);
-        name = next + 1;
+            fail("%s: the index points nowhere for '%.200s'", file.path, text);
+        offer(text, a, member);
+        text = next + 1;
     }
 }
 
-void read_file(const char *path, size_t place) {
+void read_file(const char *path, int place) {
     FILE *file = fopen(path, "rb");
     long len = file && !fseek(file, 0, SEEK_END) ? ftell(file) : -1;
     if (len < 0 || (uint64_t)len > MOST_BYTES) fail("%s: can't be read", path);
     rewind(file);
-    uint8_t *bytes = take((uint64_t)len, 1);
+    uint8_t *bytes = take((uint64_t)len + 1, 1);
     struct object o = {.path = path, .bytes = bytes, .place = place};
     o.len = fread(bytes, 1, (size_t)len, file);
     fclose(file);
-    demand(&o, o.len < 8 || memcmp(bytes, "!<thin>\n", 8), "a thin archive is not supported");
+    demand(&o, memcmp(bytes, "!<thin>\n", o.len < 8 ? o.len : 8) || o.len < 8, "a thin archive");
     if (o.len >= 8 && !memcmp(bytes, "!<arch>\n", 8))
         read_archive(o);
     else
-        read_object(add_object(o));
+        read_object(path, bytes, o.len, place);
     load_members();
 }

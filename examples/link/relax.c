@@ -2,43 +2,25 @@
  * the nops that an alignment doesn't need. */
 #include "link.h"
 
-/* The nops of an alignment: their bytes, the power of two, and how many may be kept at most. */
-struct padding {
-    uint64_t bytes, align, most;
-};
-
-static struct padding padding_of(const struct output *o, const struct relocation *r) {
-    struct padding p = {(uint64_t)r->addend, 1, PAGE};
-    if (machine == EM_RISCV) {
-        while (p.align < p.bytes + 2 && p.align < PAGE) p.align *= 2;
-    } else if (r->symbol && r->symbol->elf.st_info | r->symbol->elf.st_shndx | r->symbol->elf.st_name) {
-        p.align = UINT64_C(1) << (r->addend & 0x3f);
-        p.bytes = p.align - 4;
-        if (r->addend >> 8) p.most = (uint64_t)r->addend >> 8;
-    } else {
-        while (p.align < p.bytes + 4 && p.align < PAGE) p.align *= 2;
-    }
-    if (p.bytes > PAGE || (r->section && p.bytes > r->section->end - r->offset) ||
-        p.align > o->align)
-        fail("%s can't be satisfied", place_of(r));
-    return p;
-}
-
 /* How many bytes an alignment deletes, after others before it. The rest become nops. */
 static uint32_t surplus(struct output *o, const struct relocation *r, uint64_t deleted) {
-    struct padding p = padding_of(o, r);
-    uint64_t here = r->offset - deleted, kept = round_up(here, p.align) - here;
-    if (kept > p.most) kept = 0;
-    if (kept > p.bytes) fail("%s can't be satisfied", place_of(r));
+    uint64_t bytes = (uint64_t)r->addend, most = PAGE, align = 1, here = r->offset - deleted;
     uint32_t nop = machine == EM_RISCV ? 0x13 : 0x03400000;
-    uint8_t *end = o->bytes + r->offset + p.bytes;
+    if (machine == EM_LOONGARCH && r->symbol && r->symbol != *r->section->object->symbols) {
+        align = UINT64_C(1) << (bytes & 0x3f);
+        most = bytes >> 8 ? bytes >> 8 : PAGE;
+        bytes = align - 4;
+    }
+    while (align < bytes + (machine == EM_RISCV ? 2 : 4) && align < PAGE) align *= 2;
+    uint64_t kept = round_up(here, align) - here;
+    if (kept > most) kept = 0;
+    if (bytes > PAGE || (r->section && bytes > r->section->end - r->offset) || kept > bytes ||
+        align > o->align)
+        fail("%s can't be satisfied", place_of(r));
+    uint8_t *end = o->bytes + r->offset + bytes;
     for (uint64_t i = 4; i <= kept && r->section; i += 4) memcpy(end - i, &nop, 4);
     if (kept % 4 == 2 && r->section) memcpy(end - kept, "\x01", 2);
-    return (uint32_t)(p.bytes - kept);
-}
-
-static bool is_alignment(const struct relocation *r) {
-    return machine == EM_RISCV ? r->type == R_RISCV_ALIGN : r->type == LARCH_ALIGN;
+    return (uint32_t)(bytes - kept);
 }
 
 /* Chooses the calls that become jumps, and deletes their `jalr` and what alignment doesn't need.
@@ -68,7 +50,8 @@ void shrink(struct output *o, uint64_t slack) {
     for (size_t i = 0; i < calls_len; i++) of_call[i]->is_jump = chosen[i];
     uint64_t deleted = 0;
     for (struct relocation *r = o->relocations; r < end; r++) {
-        uint32_t bytes = is_alignment(r) ? surplus(o, r, deleted) : 0;
+        uint32_t alignment = machine == EM_RISCV ? R_RISCV_ALIGN : LARCH_ALIGN;
+        uint32_t bytes = r->type == alignment ? surplus(o, r, deleted) : 0;
         uint64_t from = r->offset;
         if (r->is_jump) {
             check(r, linker_utils_jal_site_with(o->bytes, r->section->end, from, 0,

@@ -1,7 +1,7 @@
 /* The values of relocations, and the instructions of AArch64 that depend on addresses. */
 #include "link.h"
 
-struct linker_utils_operands tls;
+struct tls tls;
 
 /* What the library says of a relocation's type, asked once for each type. */
 const struct row *row_of(const struct relocation *r) {
@@ -76,13 +76,11 @@ int64_t value_of(const struct output *o, const struct relocation *r) {
         .symbol = address_of(s->output, s->offset), .addend = of->addend,
         .place = address_of(o, of->offset), .got_entry = entry,
         .got_base = got->address + (machine == EM_PPC64 ? 0x8000 : 0),
-        .symbol_size = s->elf.st_size, .tls_base = tls.tls_base};
-    if (row->info.kind == LINKER_UTILS_KIND_TP_OFF) operands.tls_base = tls.symbol;
+        .symbol_size = s->elf.st_size,
+        .tls_base = row->info.kind == LINKER_UTILS_KIND_TP_OFF ? tls.thread : tls.module};
     if (is_low && of->entry) operands.symbol = entry;
-    if (!r->section && r->entry) { /* a word of the GOT */
-        if (r->entry->class == THREAD_OFFSET) operands.addend -= (int64_t)tls.symbol;
-        if (r->entry->class == MODULE_OFFSET) operands.addend -= (int64_t)tls.tls_base;
-    }
+    if (!r->section && r->entry && r->entry->class != ADDRESS) /* a word of the GOT */
+        operands.addend -= (int64_t)(r->entry->class == THREAD_OFFSET ? tls.thread : tls.module);
     if (row->may_use_plt && s->elf.st_shndx == SHN_UNDEF) {
         /* a call of a weak symbol that nothing defines goes where ld.lld lets it go */
         if (machine == EM_AARCH64 || machine == EM_RISCV || machine == EM_PPC64)

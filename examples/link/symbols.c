@@ -2,11 +2,8 @@
  * the linker itself defines. */
 #include "link.h"
 
-struct symbol **symbols;
-size_t symbols_len;
-static struct symbol *buckets[1 << 16], *groups[1 << 12];
-static struct symbol **wanted; /* those for which a member is to be loaded */
-static size_t wanted_len, wanted_room;
+struct symbol *symbols;
+static struct symbol *buckets[1 << 16], *groups[1 << 12], *wanted;
 
 static struct symbol **find(struct symbol **table, size_t len, const char *name) {
     uint32_t hash = 5381;
@@ -34,13 +31,11 @@ int rank(const Elf64_Sym *s) {
     return s->st_shndx == SHN_COMMON ? 3 : is_weak ? 2 : 4;
 }
 
+/* Has a member loaded that defines a symbol, if one is needed and an archive has it. */
 static void want(struct symbol *s) {
-    if (wanted_len == wanted_room) {
-        wanted_room = 2 * wanted_room + 64;
-        wanted = realloc(wanted, wanted_room * sizeof *wanted);
-        if (!wanted) fail("out of memory");
-    }
-    wanted[wanted_len++] = s;
+    if (!s->object || !s->archive || s->wanted || rank(&s->elf) != 1) return;
+    s->wanted = wanted ? wanted : s; /* (the last is its own) */
+    wanted = s;
 }
 
 /* The global symbol of a name, after what one more object says of it. */
@@ -58,48 +53,39 @@ struct symbol *resolve(struct symbol *s) {
     if (after <= before) return old;
     old->elf = s->elf;
     old->object = s->object;
-    if (after == 1 && old->archive) want(old);
+    want(old);
     return old;
 }
 
 /* A symbol of an archive's index. The first archive that has it counts. */
 void offer(const char *name, struct archive *a, uint64_t member) {
     struct symbol **at = global(name);
-    if (!*at) {
-        *at = take(1, sizeof **at);
-        (*at)->name = name;
-    }
+    if (!*at) *at = take(1, sizeof **at);
     if ((*at)->archive) return;
+    if (!(*at)->name) (*at)->name = name;
     (*at)->archive = a;
     (*at)->member = member;
-    if ((*at)->object && rank(&(*at)->elf) == 1) want(*at);
+    want(*at);
 }
 
 /* Loads members until no symbol that is not defined yet is in an archive. */
 void load_members(void) {
-    while (wanted_len) {
-        struct symbol *s = wanted[--wanted_len];
+    while (wanted) {
+        struct symbol *s = wanted;
+        wanted = s->wanted == s ? NULL : s->wanted;
         if (rank(&s->elf) == 1) load_member(s->archive, s->member);
     }
 }
 
-static int by_place(const void *left, const void *right) {
-    const struct object *a = *(struct object *const *)left, *b = *(struct object *const *)right;
-    return a->place < b->place ? -1 : a->place > b->place;
-}
-
-/* Puts the members where their archives are, and lists all symbols that are mentioned. */
 void list_symbols(void) {
-    size_t most = 0;
-    qsort(objects, objects_len, sizeof *objects, by_place);
-    for (size_t i = 0; i < objects_len; i++) most += objects[i]->symbols_len;
-    symbols = take(most, sizeof *symbols);
-    for (size_t i = 0; i < objects_len; i++) {
-        for (size_t j = 0; j < objects[i]->symbols_len; j++) {
-            struct symbol *s = objects[i]->symbols[j];
+    struct symbol **last = &symbols;
+    for (struct object *o = objects; o; o = o->next) {
+        for (size_t i = 0; i < o->symbols_len; i++) {
+            struct symbol *s = o->symbols[i];
             if (s->is_listed) continue;
             s->is_listed = true;
-            symbols[symbols_len++] = s;
+            *last = s;
+            last = &s->later;
         }
     }
 }
@@ -107,60 +93,60 @@ void list_symbols(void) {
 /* A symbol at an offset of a section, if an object asks for it. */
 static void define(const char *name, struct output *output, uint64_t offset) {
     struct symbol *s = *global(name);
-    if (!s || !s->object || s->elf.st_shndx != SHN_UNDEF || !output) return;
+    if (!s || !s->object || s->elf.st_shndx != SHN_UNDEF) return;
     s->elf.st_shndx = SHN_ABS;
     s->output = output;
     s->offset = offset;
     got->has_bytes |= output == got;
 }
 
-/* The first or the last section of some ranks. */
-static struct output *which(bool is_last, unsigned least, unsigned most) {
-    struct output *found = NULL;
-    for (size_t i = 0; i < outputs_len; i++)
-        if (outputs[i]->rank >= least && outputs[i]->rank <= most && (!found || is_last))
-            found = outputs[i];
+/* The last section up to a rank, or the first of it. */
+static struct output *which(bool is_first, unsigned rank) {
+    struct output *found = headers;
+    for (size_t i = 0; i < outputs_len && outputs[i]->rank <= rank; i++)
+        if (!is_first || found->rank != rank) found = outputs[i];
     return found;
 }
 
 void define_symbols(void) {
     static const struct {
-        const char *start, *end, *section;
-    } arrays[] = {{"__preinit_array_start", "__preinit_array_end", ".preinit_array"},
-                  {"__init_array_start", "__init_array_end", ".init_array"},
-                  {"__fini_array_start", "__fini_array_end", ".fini_array"},
-                  {"__rela_iplt_start", "__rela_iplt_end", ".rela.iplt"},
-                  {"__bss_start", "__bss_end__", ".bss"}};
-    static const struct {
-        const char *name;
-        unsigned rank;
-    } ends[] = {{"__etext", RANK_CODE}, {"_etext", RANK_CODE}, {"etext", RANK_CODE},
-                {"_edata", RANK_BSS - 1}, {"edata", RANK_BSS - 1}, {"_end", RANK_BSS},
-                {"end", RANK_BSS}};
+        const char *name, *section;
+        bool is_end;
+    } ends[] = {{"__preinit_array_start", ".preinit_array", false},
+                {"__preinit_array_end", ".preinit_array", true},
+                {"__init_array_start", ".init_array", false},
+                {"__init_array_end", ".init_array", true},
+                {"__fini_array_start", ".fini_array", false},
+                {"__fini_array_end", ".fini_array", true},
+                {"__rela_iplt_start", ".rela.iplt", false},
+                {"__rela_iplt_end", ".rela.iplt", true},
+                {"__bss_start", ".bss", false}};
     char name[300];
-    for (size_t i = 0; i < sizeof arrays / sizeof *arrays; i++) output_of(arrays[i].section);
+    for (size_t i = 0; i < sizeof ends / sizeof *ends; i++) output_of(ends[i].section);
     if (*global("__global_pointer$")) output_of(".sdata");
     sort_outputs();
+    for (size_t i = 0; i < sizeof ends / sizeof *ends; i++) {
+        struct output *o = output_of(ends[i].section); /* the last of several with priorities */
+        bool has_others = o->rank >= RANK_ARRAYS && o->rank < RANK_RELOCATED && !ends[i].is_end;
+        define(ends[i].name, has_others ? which(true, o->rank) : o, ends[i].is_end ? END : 0);
+    }
+    for (size_t i = 0; i < outputs_len; i++) {
+        snprintf(name, sizeof name, "__start_%.200s", outputs[i]->name);
+        define(name, outputs[i], 0);
+        snprintf(name, sizeof name, "__stop_%.200s", outputs[i]->name);
+        define(name, outputs[i], END);
+    }
     define("_GLOBAL_OFFSET_TABLE_", got, 0);
     define(".TOC.", got, 0x8000);
     if (*global("__global_pointer$")) define("__global_pointer$", output_of(".sdata"), 0x800);
-    for (size_t i = 0; i < sizeof arrays / sizeof *arrays; i++) {
-        struct output *end = output_of(arrays[i].section);
-        bool has_priorities = end->rank >= RANK_ARRAYS && end->rank < RANK_RELOCATED;
-        define(arrays[i].start, has_priorities ? which(false, end->rank, end->rank) : end, 0);
-        define(arrays[i].end, end, END);
-    }
-    for (size_t i = 0; i < outputs_len; i++) {
-        if (strlen(outputs[i]->name) > 200) continue;
-        snprintf(name, sizeof name, "__start_%s", outputs[i]->name);
-        define(name, outputs[i], 0);
-        snprintf(name, sizeof name, "__stop_%s", outputs[i]->name);
-        define(name, outputs[i], END);
-    }
-    for (size_t i = 0; i < sizeof ends / sizeof *ends; i++)
-        define(ends[i].name, which(true, 0, ends[i].rank), END);
-    define("__ehdr_start", headers->len ? headers : NULL, 0);
-    define("__executable_start", headers->len ? headers : NULL, 0);
+    define("_etext", which(false, RANK_CODE), END);
+    define("etext", which(false, RANK_CODE), END);
+    define("_edata", which(false, RANK_BSS - 1), END);
+    define("edata", which(false, RANK_BSS - 1), END);
+    define("_end", which(false, RANK_BSS), END);
+    define("end", which(false, RANK_BSS), END);
+    if (headers->len) define("__ehdr_start", headers, 0);
+    if (headers->len) define("__executable_start", headers, 0);
 }
 
 /* Where a symbol is that an object defines. */
