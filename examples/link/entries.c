@@ -189,7 +189,8 @@ static void make_stub(struct symbol *s) {
     struct symbol *resolver = take(2, sizeof *resolver), *slot = resolver + 1;
     uint64_t irelative = word->irelative, at = make_room(irelatives, 8, sizeof(Elf64_Rela));
     *resolver = *s;
-    *slot = (struct symbol){.name = s->name, .output = slots, .offset = make_room(slots, 8, 8)};
+    *slot = (struct symbol){.name = s->name, .output = slots, .offset = make_room(slots, 8, 8),
+                            .elf.st_shndx = SHN_ABS};
     s->output = stubs;
     s->offset = add_code(stubs, code_of(true), slot, 0);
     s->elf.st_shndx = SHN_ABS;
