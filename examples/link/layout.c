@@ -63,7 +63,7 @@ struct relocation *add_relocations(struct output *o, size_t len) {
  * ld.lld's; where code shrinks they are as long as may be needed, and a relocation cuts them. */
 uint64_t make_room(struct output *o, uint64_t align, uint64_t len) {
     uint64_t start = o->len, offset = align ? round_up(start, align) : start;
-    uint64_t unit = machine == EM_RISCV ? 2 : 4;
+    uint64_t unit = machine == EM_RISCV && machine_flags & EF_RISCV_RVC ? 2 : 4;
     uint32_t trap = machine == EM_X86_64 ? 0xcccccccc : machine == EM_PPC64 ? 0x7fe00008 : 0;
     if (machine == EM_LOONGARCH) trap = 0x002a0000;
     if (len > MOST_BYTES || offset + len > MOST_BYTES) fail("section %s is too large", o->name);
@@ -129,6 +129,7 @@ uint64_t place_outputs(void) {
         bool is_tls = o->flags & SHF_TLS;
         if (o->len && (now = o->flags & (SHF_WRITE | SHF_EXECINSTR)) != kinds) {
             at += at % page ? page : 0;
+            slack += page;
             kinds = now;
         }
         if (!o->is_placed)
@@ -139,7 +140,7 @@ uint64_t place_outputs(void) {
             fail("section %s can't be at 0x%" PRIx64, o->name, o->address);
         if (is_tls) end = o->address + o->len;
         if (!o->is_placed && (!is_tls || o->has_bytes)) at = o->address + o->len;
-        slack += (o->is_placed ? 0 : PAGE) + (o->shrinks ? o->len : 0);
+        slack += (o->is_placed ? 0 : o->align) + (o->shrinks ? o->len : 0);
     }
     tls.len = end ? end - tls.image : 0;
     tls.align = align;

@@ -31,7 +31,7 @@
 
 /* relocation types that older versions of <elf.h> lack */
 enum { LARCH_PCALA_HI20 = 71, LARCH_PCALA_LO12 = 72, LARCH_RELAX = 100, LARCH_ALIGN = 102 };
-enum { LARCH_CALL36 = 110, PPC64_REL24_NOTOC = 116 };
+enum { LARCH_B26 = 66, LARCH_PCREL20_S2 = 103, LARCH_CALL36 = 110, PPC64_REL24_NOTOC = 116 };
 
 /* the order of the sections of the linked file; there are three kinds of arrays */
 enum { RANK_HEADERS, RANK_FIXED, RANK_CODE, RANK_TLS, RANK_TLS_BSS, RANK_ARRAYS, RANK_RELOCATED = 8,

@@ -1,70 +1,136 @@
-/* What is deleted of RISC-V and LoongArch code: the second halves of calls that become jumps, and
- * the nops that an alignment doesn't need. */
+/* What is deleted of RISC-V and LoongArch code: the second halves of calls and of addresses that
+ * one instruction reaches, and the nops that an alignment doesn't need. */
 #include "link.h"
 
-/* How many bytes an alignment deletes, after others before it. The rest become nops. */
-static uint32_t surplus(struct output *o, const struct relocation *r, uint64_t deleted) {
-    uint64_t bytes = (uint64_t)r->addend, most = PAGE, align = 1, here = r->offset - deleted;
-    uint32_t nop = machine == EM_RISCV ? 0x13 : 0x03400000;
-    if (machine == EM_LOONGARCH && r->symbol && r->symbol != *r->section->object->symbols) {
-        align = UINT64_C(1) << (bytes & 0x3f);
-        most = bytes >> 8 ? bytes >> 8 : PAGE;
-        bytes = align - 4;
-    }
-    while (align < bytes + (machine == EM_RISCV ? 2 : 4) && align < PAGE) align *= 2;
-    uint64_t kept = round_up(here, align) - here;
-    if (kept > most) kept = 0;
-    if (bytes > PAGE || (r->section && bytes > r->section->end - r->offset) || kept > bytes ||
-        align > o->align)
-        fail("%s can't be satisfied", place_of(r));
-    uint8_t *end = o->bytes + r->offset + bytes;
-    for (uint64_t i = 4; i <= kept && r->section; i += 4) memcpy(end - i, &nop, 4);
-    if (kept % 4 == 2 && r->section) memcpy(end - kept, "\x01", 2);
-    return (uint32_t)(bytes - kept);
+/* What the library is told of a relocation: its target, if that is in the same section. */
+static struct linker_utils_section_relocation seen(const struct output *o,
+                                                   const struct relocation *r) {
+    const struct symbol *s = r->symbol; /* null where the linker aligns a section */
+    uint64_t target = s ? s->offset + (uint64_t)r->addend : 0;
+    return (struct linker_utils_section_relocation){
+        .offset = r->offset, .target = target, .addend = r->addend, .r_type = r->type,
+        .has_symbol = s && s != *r->section->object->symbols,
+        .has_target = s && s->output == o && s->offset <= o->len && target <= o->len};
 }
 
-/* Chooses the calls that become jumps, and deletes their `jalr` and what alignment doesn't need.
- * The distance of two sections changes by at most `slack` from here on. */
-void shrink(struct output *o, uint64_t slack) {
-    size_t len = o->relocations_len, calls_len = 0, at = 0;
-    struct linker_utils_call *calls = take(len, sizeof *calls);
-    struct linker_utils_deletion *deletions = take(len, sizeof *deletions);
-    struct relocation **of_call = take(len, sizeof *of_call), *end = o->relocations + len;
-    uint8_t *chosen = take(len, 1);
-    for (struct relocation *r = o->relocations; machine == EM_RISCV && r + 1 < end; r++) {
-        if ((r->type != R_RISCV_CALL && r->type != R_RISCV_CALL_PLT) || !r->symbol->output ||
-            r[1].type != R_RISCV_RELAX || r[1].offset != r->offset)
-            continue;
-        uint64_t target = r->symbol->offset + (uint64_t)r->addend;
-        uint64_t distance = r->symbol->output->address + target - o->address - r->offset;
-        if (r->symbol->output == o && target <= o->len) {
-            calls[calls_len] = (struct linker_utils_call){r->offset, target};
-            of_call[calls_len++] = r;
-        } else {
-            r->is_jump = linker_utils_distance_fits_jal((int64_t)(distance - slack)) &&
-                         linker_utils_distance_fits_jal((int64_t)(distance + slack));
-        }
+/* The relocation of the short instruction that a call or an address can become; 0 of an alignment
+ * and of what stays. */
+static uint32_t shorter(const struct relocation *r) {
+    if (machine == EM_RISCV)
+        return r->type == R_RISCV_CALL || r->type == R_RISCV_CALL_PLT ? R_RISCV_JAL : 0;
+    return r->type == LARCH_CALL36 ? LARCH_B26 : r->type == LARCH_PCALA_HI20 ? LARCH_PCREL20_S2 : 0;
+}
+
+static bool makes_item(const struct relocation *r) {
+    return shorter(r) || r->type == (machine == EM_RISCV ? R_RISCV_ALIGN : LARCH_ALIGN);
+}
+
+/* Whether what is in another section is near enough, whatever shrinks: their distance changes by at
+ * most `slack`. */
+static bool is_near(const struct output *o, const struct relocation *r, uint64_t slack) {
+    const struct symbol *s = r->symbol;
+    struct linker_utils_relocation_reach reach;
+    if (!s || !shorter(r) || !s->output || s->output == o || s->offset == END) return false;
+    uint64_t target = s->output->address + s->offset + (uint64_t)r->addend;
+    int64_t distance = (int64_t)(target - (o->address + r->offset));
+    check(r, linker_utils_reach(machine, shorter(r), &reach));
+    return distance - (int64_t)slack >= reach.min && distance + (int64_t)slack < reach.max &&
+           (machine == EM_RISCV || (target % 4 == 0 && s->output->align >= 4));
+}
+
+/* Writes the shorter instructions of a site, or the nops that stay of an alignment. */
+static void rewrite_item(struct output *o, struct relocation *r, uint64_t kept, bool is_site) {
+    uint32_t kind = LINKER_UTILS_LOONGARCH64_REWRITE_CALL_TO_B, nop = 0x03400000;
+    uint64_t end = r->section ? r->section->end : 0, offset = r->offset;
+    if (!is_site && machine == EM_RISCV) nop = 0x13;
+    for (uint64_t i = 0; !is_site && i < kept && r->section; i += 4)
+        memcpy(o->bytes + r->offset + i, kept - i < 4 ? "\x01" : (const char *)&nop, kept - i < 4 ? 2 : 4);
+    if (!is_site) return;
+    if (machine == EM_RISCV && kept == 4) {
+        check(r, linker_utils_jal_site_with(o->bytes, end, offset, 0, LINKER_UTILS_LINK_OF_JALR));
+        r->type = R_RISCV_JAL;
+        return;
     }
-    uint32_t status = linker_utils_shrink_calls(NULL, 0, calls, calls_len, chosen, calls_len, &at);
-    if (status) check(of_call[at], status);
-    for (size_t i = 0; i < calls_len; i++) of_call[i]->is_jump = chosen[i];
+    if (machine == EM_RISCV)
+        kind = LINKER_UTILS_RISCV_REWRITE_TAIL_TO_C_J;
+    else if (r->type == LARCH_PCALA_HI20)
+        kind = LINKER_UTILS_LOONGARCH64_REWRITE_PCALA_TO_PCADDI;
+    else if (linker_utils_matches(machine, kind, 0, o->bytes, end, offset))
+        kind = LINKER_UTILS_LOONGARCH64_REWRITE_CALL_TO_BL;
+    if (r->type == LARCH_PCALA_HI20 && machine == EM_LOONGARCH) r[2].type = 0; /* the other half's */
+    r->type = machine == EM_RISCV ? R_RISCV_RVC_JUMP : shorter(r);
+    check(r, linker_utils_apply(machine, kind, 0, o->bytes, end, &offset, &r->addend));
+}
+
+/* What stays of each item where no site depends on a distance. (`linker_utils_relax` would take 1 for
+ * the unit of the code then, and ask for as many nops.) */
+static bool keep(const struct linker_utils_item *items, size_t len, uint64_t *kept) {
     uint64_t deleted = 0;
-    for (struct relocation *r = o->relocations; r < end; r++) {
-        uint32_t alignment = machine == EM_RISCV ? R_RISCV_ALIGN : LARCH_ALIGN;
-        uint32_t bytes = r->type == alignment ? surplus(o, r, deleted) : 0;
-        uint64_t from = r->offset;
-        if (r->is_jump) {
-            check(r, linker_utils_jal_site_with(o->bytes, r->section->end, from, 0,
-                                                LINKER_UTILS_LINK_OF_JALR));
-            r->type = R_RISCV_JAL;
-            from += bytes = 4;
-        }
-        if (bytes) deletions[o->deltas_len++] = (struct linker_utils_deletion){from, bytes};
-        deleted += bytes;
+    for (size_t i = 0; i < len; i++) {
+        const struct linker_utils_item *item = &items[i];
+        uint64_t here = item->offset - deleted;
+        kept[i] = item->kind == LINKER_UTILS_ITEM_SITE ? item->shapes.longest
+                                                       : round_up(here, item->power) - here;
+        if (item->kind == LINKER_UTILS_ITEM_LIMITED_ALIGNMENT && kept[i] > item->most) kept[i] = 0;
+        if (kept[i] > item->len || (i && item->offset - item[-1].offset < item[-1].len))
+            return false;
+        deleted += item->len - kept[i];
     }
-    o->deltas = take(o->deltas_len, sizeof *o->deltas);
-    if (linker_utils_deltas_create(deletions, o->deltas_len, o->deltas, o->deltas_len, &at))
-        fail("section %s: what is to be deleted overlaps", o->name);
+    return true;
+}
+
+/* Relaxes a section as one run, and packs it. The distance of two sections changes by at most
+ * `slack` from here on. */
+void shrink(struct output *o, uint64_t slack) {
+    size_t all = o->relocations_len, len = 0, at = SIZE_MAX;
+    struct linker_utils_section_relocation *relocations = take(all, sizeof *relocations);
+    struct linker_utils_item *items = take(all, sizeof *items);
+    for (size_t i = 0; i < all; i++) relocations[i] = seen(o, &o->relocations[i]);
+    for (size_t i = 0; i < all; i++) {
+        struct relocation *r = &o->relocations[i];
+        if (!is_near(o, r, slack)) continue;
+        relocations[i].has_target = r->is_jump = true;
+        relocations[i].target = r->offset;
+        if (r->type != LARCH_PCALA_HI20 || all - i < 3 || r[2].type != LARCH_PCALA_LO12 ||
+            r[2].symbol != r->symbol || r[2].addend != r->addend)
+            continue;
+        relocations[i + 2].has_target = true; /* the other half of the address */
+        relocations[i + 2].target = r->offset;
+    }
+    uint32_t status =
+        machine == EM_RISCV
+            ? linker_utils_riscv_items(o->bytes, o->len, 0, relocations, all, machine_flags & EF_RISCV_RVC, items,
+                                       all, &len, &at)
+            : linker_utils_loongarch_items(o->bytes, o->len, 0, relocations, all, items, all, &len,
+                                           &at);
+    if (status && at < all) check(&o->relocations[at], status);
+    if (status) fail("section %s: %s", o->name, linker_utils_status_text(status));
+    struct relocation **of = take(len, sizeof *of), *r = o->relocations;
+    bool has_sites = false;
+    for (size_t i = 0; i < len; i++, r++) { /* the items are in the order of the relocations */
+        while (r->offset != items[i].offset || !makes_item(r)) r++;
+        of[i] = r;
+        if (r->is_jump) items[i].shapes = (struct linker_utils_shapes){.longest = 4};
+        has_sites |= items[i].kind == LINKER_UTILS_ITEM_SITE && items[i].shapes.count;
+        if (items[i].kind != LINKER_UTILS_ITEM_SITE && items[i].power > o->align)
+            fail("%s can't be satisfied", place_of(r));
+    }
+    uint64_t *kept = take(len, sizeof *kept), *freed = take(len + 1, sizeof *freed);
+    size_t *places = take(len, sizeof *places);
+    uint8_t *shapes = take(len, 1);
+    at = SIZE_MAX;
+    if (has_sites)
+        status = linker_utils_relax(items, len, o->address, shapes, len, kept, len, places, len,
+                                    freed, len + 1, &at);
+    else if (!keep(items, len, kept))
+        fail("section %s can't be relaxed", o->name);
+    if (status && at < len) check(of[at], status);
+    o->deltas = take(len, sizeof *o->deltas);
+    if (status || linker_utils_run_deltas(items, len, kept, len, o->deltas, len, &o->deltas_len))
+        fail("section %s can't be relaxed", o->name);
+    for (size_t i = 0; i < len; i++)
+        if (kept[i] < items[i].len)
+            rewrite_item(o, of[i], kept[i], items[i].kind == LINKER_UTILS_ITEM_SITE);
     uint64_t packed_len = linker_utils_packed_len(o->bytes, o->len, o->deltas, o->deltas_len);
     uint8_t *packed = take(packed_len, 1);
     if (linker_utils_pack(o->bytes, o->len, o->deltas, o->deltas_len, NULL, 0,
