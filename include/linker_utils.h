@@ -90,7 +90,35 @@ extern "C" {
     STATUS(UNSUPPORTED, 30, \
            "The relocation is one of a pair that computes a ULEB128 number, or R_LARCH_CALL30.") \
     STATUS(DOES_NOT_MATCH, 31, \
-           "The bytes there are not an instruction that the rewrite is meant for.")
+           "The bytes there are not an instruction that the rewrite is meant for.") \
+    STATUS(UNKNOWN_SHAPES, 32, "No shapes have this number.") \
+    STATUS(MALFORMED_RELOCATION, 33, \
+           "The relocation is not one that the psABI allows there.") \
+    STATUS(ITEMS_OVERLAP, 34, "The item begins below the end of the item before it.") \
+    STATUS(ENDS_TOO_HIGH, 35, \
+           "The address behind the item, or behind the section, is above 2^64 - 1.") \
+    STATUS(TOO_MANY_SHAPES, 36, "The site has more than two short shapes.") \
+    STATUS(SHAPE_TOO_LONG, 37, "A shape keeps more bytes than the site has.") \
+    STATUS(SHAPES_NOT_ASCENDING, 38, \
+           "A short shape keeps no fewer bytes than the next shape.") \
+    STATUS(BAD_UNIT, 39, \
+           "The unit of a short shape is not a power of two, or not a multiple of the next " \
+           "one's.") \
+    STATUS(BAD_REACH, 40, \
+           "A short shape does not reach its own offset, or reaches farther than the next short " \
+           "one.") \
+    STATUS(BAD_POWER, 41, "The alignment is not a power of two.") \
+    STATUS(UNEVEN_SHAPE, 42, \
+           "A shape frees bytes that are not a multiple of the run's greatest unit.") \
+    STATUS(POWER_BELOW_UNIT, 43, "The alignment is not a multiple of the run's greatest unit.") \
+    STATUS(UNEVEN_END, 44, \
+           "The address behind the nops is not a multiple of the run's greatest unit.") \
+    STATUS(TOO_FEW_NOPS, 45, \
+           "There are fewer nops than the alignment less the unit, and fewer than may stay.") \
+    STATUS(UNEVEN_NOPS, 46, \
+           "The alignment has a limit, and its nops are not a multiple of the run's greatest " \
+           "unit.") \
+    STATUS(TARGET_INSIDE, 47, "The target is strictly inside the bytes that an item may lose.")
 
 enum linker_utils_status {
 #define LINKER_UTILS_STATUS(name, number, text) LINKER_UTILS_##name = number,
@@ -960,6 +988,153 @@ static inline uint32_t linker_utils_shrink_calls(
     const struct linker_utils_delta *deltas, size_t deltas_len,
     const struct linker_utils_call *calls, size_t calls_len, uint8_t *chosen, size_t chosen_len,
     size_t *faulty);
+
+/* ---- Relaxing: what a whole run of code becomes, with alignments between its instructions.
+ *
+ * A run is one section or several, in one space of input offsets; an output address is `start` and
+ * an output offset. Its items are sites, which are instructions that can become shorter where they
+ * reach their target, and alignments, which are nops. What lies between two sections can be an
+ * alignment whose nops no file has. Deletions that are decided already are sites with one shape. */
+
+/* A form of a site's instructions. It reaches a target at an output offset that lies at most
+ * `behind` below its own, or less than `ahead` above it, or at it, and whose distance is a multiple
+ * of `unit`, a power of two. */
+struct linker_utils_shape {
+    uint64_t behind;
+    uint64_t ahead;
+    uint32_t kept; /* how many of the site's bytes stay, from the first one on */
+    uint32_t unit;
+};
+
+/* The forms that the instructions of a site can have, by ascending length. The last one reaches
+ * everything. {.longest = n} is a deletion that is decided already, of all but the first n bytes. */
+struct linker_utils_shapes {
+    struct linker_utils_shape shorter[2]; /* of which the first `count` count */
+    uint32_t longest; /* how many bytes stay where no other form reaches the target */
+    uint8_t count; /* 0, 1 or 2 */
+};
+
+/* The shapes of an architecture's instructions, by number. */
+enum linker_utils_shapes_name {
+    LINKER_UTILS_SHAPES_RISCV_CALL = 0, /* auipc and jalr: jal */
+    LINKER_UTILS_SHAPES_RISCV_TAIL_C = 1, /* the same where the jalr links x0: c.j, jal */
+    LINKER_UTILS_SHAPES_RISCV_CALL_WITHOUT_C = 2, /* both where the C extension isn't used: jal */
+    LINKER_UTILS_SHAPES_LOONGARCH_CALL36 = 3, /* pcaddu18i and jirl: b, bl */
+    LINKER_UTILS_SHAPES_LOONGARCH_PCALA = 4 /* pcalau12i and addi.d of one register: pcaddi */
+};
+
+/* Writes the shapes that a number of `enum linker_utils_shapes_name` names.
+ * LINKER_UTILS_UNKNOWN_SHAPES. */
+uint32_t linker_utils_named_shapes(uint32_t number, struct linker_utils_shapes *shapes);
+
+/* What an item is. Every other number is that of a limited alignment, too. */
+enum linker_utils_item_kind {
+    LINKER_UTILS_ITEM_SITE = 0,
+    LINKER_UTILS_ITEM_ALIGNMENT = 1,
+    LINKER_UTILS_ITEM_LIMITED_ALIGNMENT = 2
+};
+
+/* A part of a run that relaxation may shorten. */
+struct linker_utils_item {
+    uint64_t offset; /* the input offset of its first byte */
+    uint64_t target; /* of a site: the input offset that it has to reach */
+    uint64_t power; /* of an alignment: what the output address behind it is a multiple of */
+    uint64_t most; /* of a limited alignment: how many bytes of nops may stay; where more are
+                      needed, none stay */
+    uint32_t len; /* how many bytes it has: of an alignment, its nops */
+    uint32_t kind; /* by `enum linker_utils_item_kind` */
+    struct linker_utils_shapes shapes; /* of a site: what it can become */
+};
+
+/* A relocation of a section, and what it refers to in a run. */
+struct linker_utils_section_relocation {
+    uint64_t offset; /* r_offset, in the section */
+    uint64_t target; /* the input offset in the run that it refers to: S + A, or the PLT entry */
+    int64_t addend; /* r_addend */
+    uint32_t r_type;
+    uint8_t has_symbol; /* 0 where r_sym is 0 */
+    uint8_t has_target; /* 0 where what it refers to isn't in the run, or where the instructions are
+                           to stay as they are */
+};
+
+/* Writes the items that a RISC-V section's relocations make, in their order. The section begins at
+ * the input offset `base` of the run. `c_extension` says whether the C extension may be used.
+ *
+ * R_RISCV_CALL and R_RISCV_CALL_PLT make a site where R_RISCV_RELAX is the next relocation, at the
+ * same offset, the target is in the run, and the bytes are an auipc and a jalr of one register,
+ * which isn't x0. R_RISCV_ALIGN makes an alignment to the next power of two above its addend, which
+ * is how many bytes of nops there are, unless it is 0. The other relocations make none.
+ *
+ * `items_len` is `relocations_len`, since a relocation makes at most one item. `len` is how many
+ * there are; the elements from there on are unchanged. LINKER_UTILS_DIFFERENT_LENGTHS.
+ * LINKER_UTILS_ENDS_TOO_HIGH where `base` and `section_len` add up to 2^64 or more. A copy of the
+ * relocations and one of the items are allocated: LINKER_UTILS_OUT_OF_MEMORY.
+ * LINKER_UTILS_MALFORMED_RELOCATION, and `faulty` is the first relocation that lies behind the
+ * section's end, is a call's with less than eight bytes there, or is an R_RISCV_ALIGN whose addend
+ * isn't a number of whole nops in the section, below 2^32: multiples of 2, or of 4 without the C
+ * extension. */
+static inline uint32_t linker_utils_riscv_items(
+    const uint8_t *section, size_t section_len, uint64_t base,
+    const struct linker_utils_section_relocation *relocations, size_t relocations_len,
+    bool c_extension, struct linker_utils_item *items, size_t items_len, size_t *len,
+    size_t *faulty);
+
+/* The same of a LoongArch section, where R_LARCH_RELAX is the relocation that has to be next.
+ *
+ * R_LARCH_CALL36 makes a site if the bytes are a pcaddu18i and a jirl of one register that links ra
+ * or none. R_LARCH_PCALA_HI20 makes one if R_LARCH_PCALA_LO12 of the next instruction comes behind
+ * its R_LARCH_RELAX, with the same target and an R_LARCH_RELAX too, and the bytes are a pcalau12i
+ * and an addi.d of one register. R_LARCH_ALIGN makes an alignment, unless there are no nops. Without
+ * a symbol its addend is how many bytes of nops there are, 4 fewer than what they align to. With a
+ * symbol the lowest 8 bits of the addend are the exponent of two of what they align to, and the
+ * others the limit, or 0 for none.
+ *
+ * The statuses are the same. Malformed is an R_LARCH_CALL36 with less than eight bytes there, and an
+ * R_LARCH_ALIGN whose addend is below 0, whose power is none or below 4, or whose nops reach past
+ * the section's end or have 2^32 bytes or more. */
+static inline uint32_t linker_utils_loongarch_items(
+    const uint8_t *section, size_t section_len, uint64_t base,
+    const struct linker_utils_section_relocation *relocations, size_t relocations_len,
+    struct linker_utils_item *items, size_t items_len, size_t *len, size_t *faulty);
+
+/* Whether `linker_utils_relax` accepts the items of a run whose address is `start`: the statuses from
+ * LINKER_UTILS_ITEMS_OVERLAP on say what is asked of them. The run's greatest unit is that of all
+ * its short shapes, and 1 where there are none.
+ *
+ * LINKER_UTILS_OUT_OF_MEMORY where a copy of the items can't be allocated. Else the first fault of
+ * the first faulty item, in the order of these statuses, and `faulty` is this item. Those from
+ * LINKER_UTILS_UNEVEN_SHAPE on are returned only where no item has one of those before. O(n log n)
+ * for n items. */
+static inline uint32_t linker_utils_items_relaxable(
+    const struct linker_utils_item *items, size_t items_len, uint64_t start, size_t *faulty);
+
+/* Chooses a shape for each site, and says what stays of each item. Each site has its shortest shape
+ * at first. Then the run is laid out, where an alignment keeps exactly the bytes that it then needs,
+ * and each site that is out of reach by that layout has its next shape; again, until none is. No
+ * site has a longer shape than it would need if every alignment kept all of its nops. Without
+ * alignments the choice is the greatest.
+ *
+ * `shapes` has for each item the index of a site's shape, and `kept` how many of the item's bytes
+ * stay, from the first one on. `freed` has for each item how many bytes those before it lose, and
+ * one element more, which is how many all lose. `places`, with as many elements as items, is room
+ * for the work.
+ *
+ * LINKER_UTILS_DIFFERENT_LENGTHS where `shapes_len`, `kept_len` or `places_len` isn't `items_len`, or
+ * `freed_len` isn't one more. Then the statuses of `linker_utils_items_relaxable`. A round takes
+ * O(n) for n items, what comes before them O(n log n). There are usually fewer than ten rounds, and
+ * at most 2 n + 1. */
+static inline uint32_t linker_utils_relax(
+    const struct linker_utils_item *items, size_t items_len, uint64_t start, uint8_t *shapes,
+    size_t shapes_len, uint64_t *kept, size_t kept_len, size_t *places, size_t places_len,
+    uint64_t *freed, size_t freed_len, size_t *faulty);
+
+/* Writes the deltas of what a run loses where so many bytes of each item stay: one for each item
+ * that loses some. `len` is how many there are; the elements of `deltas` from there on are unchanged.
+ * The deltas are valid for items as `linker_utils_items_relaxable` accepts them.
+ * LINKER_UTILS_DIFFERENT_LENGTHS where `kept_len` or `deltas_len` isn't `items_len`. */
+static inline uint32_t linker_utils_run_deltas(
+    const struct linker_utils_item *items, size_t items_len, const uint64_t *kept, size_t kept_len,
+    struct linker_utils_delta *deltas, size_t deltas_len, size_t *len);
 
 #include "linker_utils_inline.h"
 

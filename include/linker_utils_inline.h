@@ -395,6 +395,78 @@ static inline uint32_t linker_utils_shrink_calls(const struct linker_utils_delta
         LINKER_UTILS_SLICE(uint8_t, chosen), chosen_len, faulty ? faulty : &ignored);
 }
 
+uint32_t linker_utils_riscv_items_nonnull(
+    const uint8_t *section, size_t section_len, uint64_t base,
+    const struct linker_utils_section_relocation *relocations, size_t relocations_len,
+    bool c_extension, struct linker_utils_item *items, size_t items_len, size_t *len,
+    size_t *faulty);
+static inline uint32_t linker_utils_riscv_items(
+    const uint8_t *section, size_t section_len, uint64_t base,
+    const struct linker_utils_section_relocation *relocations, size_t relocations_len,
+    bool c_extension, struct linker_utils_item *items, size_t items_len, size_t *len,
+    size_t *faulty) {
+    size_t ignored;
+    return linker_utils_riscv_items_nonnull(
+        LINKER_UTILS_SLICE(const uint8_t, section), section_len, base,
+        LINKER_UTILS_SLICE(const struct linker_utils_section_relocation, relocations),
+        relocations_len, c_extension, LINKER_UTILS_SLICE(struct linker_utils_item, items),
+        items_len, len, faulty ? faulty : &ignored);
+}
+
+uint32_t linker_utils_loongarch_items_nonnull(
+    const uint8_t *section, size_t section_len, uint64_t base,
+    const struct linker_utils_section_relocation *relocations, size_t relocations_len,
+    struct linker_utils_item *items, size_t items_len, size_t *len, size_t *faulty);
+static inline uint32_t linker_utils_loongarch_items(
+    const uint8_t *section, size_t section_len, uint64_t base,
+    const struct linker_utils_section_relocation *relocations, size_t relocations_len,
+    struct linker_utils_item *items, size_t items_len, size_t *len, size_t *faulty) {
+    size_t ignored;
+    return linker_utils_loongarch_items_nonnull(
+        LINKER_UTILS_SLICE(const uint8_t, section), section_len, base,
+        LINKER_UTILS_SLICE(const struct linker_utils_section_relocation, relocations),
+        relocations_len, LINKER_UTILS_SLICE(struct linker_utils_item, items), items_len, len,
+        faulty ? faulty : &ignored);
+}
+
+uint32_t linker_utils_items_relaxable_nonnull(const struct linker_utils_item *items,
+                                              size_t items_len, uint64_t start, size_t *faulty);
+static inline uint32_t linker_utils_items_relaxable(const struct linker_utils_item *items,
+    size_t items_len, uint64_t start, size_t *faulty) {
+    size_t ignored;
+    return linker_utils_items_relaxable_nonnull(
+        LINKER_UTILS_SLICE(const struct linker_utils_item, items), items_len, start,
+        faulty ? faulty : &ignored);
+}
+
+uint32_t linker_utils_relax_nonnull(
+    const struct linker_utils_item *items, size_t items_len, uint64_t start, uint8_t *shapes,
+    size_t shapes_len, uint64_t *kept, size_t kept_len, size_t *places, size_t places_len,
+    uint64_t *freed, size_t freed_len, size_t *faulty);
+static inline uint32_t linker_utils_relax(
+    const struct linker_utils_item *items, size_t items_len, uint64_t start, uint8_t *shapes,
+    size_t shapes_len, uint64_t *kept, size_t kept_len, size_t *places, size_t places_len,
+    uint64_t *freed, size_t freed_len, size_t *faulty) {
+    size_t ignored;
+    return linker_utils_relax_nonnull(
+        LINKER_UTILS_SLICE(const struct linker_utils_item, items), items_len, start,
+        LINKER_UTILS_SLICE(uint8_t, shapes), shapes_len, LINKER_UTILS_SLICE(uint64_t, kept),
+        kept_len, LINKER_UTILS_SLICE(size_t, places), places_len,
+        LINKER_UTILS_SLICE(uint64_t, freed), freed_len, faulty ? faulty : &ignored);
+}
+
+uint32_t linker_utils_run_deltas_nonnull(
+    const struct linker_utils_item *items, size_t items_len, const uint64_t *kept, size_t kept_len,
+    struct linker_utils_delta *deltas, size_t deltas_len, size_t *len);
+static inline uint32_t linker_utils_run_deltas(
+    const struct linker_utils_item *items, size_t items_len, const uint64_t *kept, size_t kept_len,
+    struct linker_utils_delta *deltas, size_t deltas_len, size_t *len) {
+    return linker_utils_run_deltas_nonnull(
+        LINKER_UTILS_SLICE(const struct linker_utils_item, items), items_len,
+        LINKER_UTILS_SLICE(const uint64_t, kept), kept_len,
+        LINKER_UTILS_SLICE(struct linker_utils_delta, deltas), deltas_len, len);
+}
+
 #undef LINKER_UTILS_SLICE
 
 #endif

@@ -17,11 +17,13 @@ IN_OTHER_WORDS = {
         r"!DeltaSlice::new(\1).has_valid_deltas() || packed_len(\3, \1) == \2.len()",
     rf"{SPECS}\.Deletions\.AreDisjoint \({PRELUDE}\.map {SPECS}\.Deltas\.deletion_of (\w+)\.items \+\+ (\w+)\)":
         r"super::DeltaSlice::new(\1).can_merge_ascending(\2)",
+    rf"{SPECS}\.Choosing\.AreItems (\w+) (\w+)": r"are_items(\2, \1)",
 }
 # Functions whose requirement is asserted in another one that they call, where the pairs are sorted.
 LATER = {"merge_additional": "insert_ascending", "merge_all": "insert_ascending"}
 # Requirements that only the call itself tests, in words, by function and name: its addition overflows.
-IN_WORDS = {"output_to_input_counted.fits": "the input offset is at most `u64::MAX`, or an addition overflows"}
+IN_WORDS = {"output_to_input_counted.fits": "the input offset is at most `u64::MAX`, or an addition overflows",
+            "deletions.items": "the items are in order, as `are_items` accepts them"}
 COMPARISONS = {"≡": "==", "≤": "<=", "<": "<"}
 
 

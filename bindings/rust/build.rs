@@ -11,7 +11,14 @@ fn main() {
     println!("cargo:rerun-if-env-changed=LINKER_UTILS_FOLDER");
     println!("cargo:rerun-if-changed=../archive");
     println!("cargo:rerun-if-changed=../out/liblinker_utils.a");
-    for library in ["linker_base", "linker_utils", "linker_utils_c"] {
+    for library in [
+        "linker_base",
+        "linker_elf",
+        "linker_relax",
+        "linker_utils",
+        "linker_runs",
+        "linker_utils_c",
+    ] {
         println!("cargo:rerun-if-changed=../../crates/{library}/src");
         println!("cargo:rerun-if-changed=../../crates/{library}/specs");
         println!("cargo:rerun-if-changed=../../crates/{library}/proofs");
@@ -41,7 +48,7 @@ fn main() {
 }
 
 /// Names by the rule of `variant`, and the library's where those are others.
-const SPELLED: [(&str, &str); 5] = [
+const SPELLED: [(&str, &str); 10] = [
     ("Aarch64", "AArch64"),
     ("Riscv", "RiscV"),
     ("Loongarch64", "LoongArch64"),
@@ -50,6 +57,11 @@ const SPELLED: [(&str, &str); 5] = [
         "PairSubtractionUleb128LoongArch",
         "PairSubtractionULEB128LoongArch",
     ),
+    ("RiscvCall", "RiscVCall"),
+    ("RiscvTailC", "RiscVTailC"),
+    ("RiscvCallWithoutC", "RiscVCallWithoutC"),
+    ("LoongarchCall36", "LoongArchCall36"),
+    ("LoongarchPcala", "LoongArchPcala"),
 ];
 
 /// How many bytes hold any name, and for each of the header's enums a macro of its name:

@@ -16,5 +16,13 @@ pub mod compat;
 mod errors;
 mod linker_base;
 mod linker_elf;
+mod linker_relax;
+mod linker_runs;
 pub mod names;
 mod traits;
+
+#[doc = include_str!("../doc/runs.md")]
+pub mod runs {
+    pub use crate::linker_relax::{relaxation, shapes};
+    pub use crate::linker_runs::{items, loongarch64, riscv64};
+}

@@ -3,6 +3,8 @@
 use crate::elf::RelocateError;
 use crate::relaxation::{OutOfMemory, PackError, RejectedCall, SectionRelaxDeltas};
 use crate::riscv64::{CallError, JumpError};
+use crate::runs::items::ItemsError;
+use crate::runs::relaxation::{Fault, ItemFault};
 use crate::utils::Uleb128Error;
 use core::error::Error;
 use core::fmt::{Display, Formatter, Result};
@@ -114,3 +116,67 @@ impl Display for SectionRelaxDeltas {
 }
 
 impl Error for SectionRelaxDeltas {}
+
+impl Display for ItemsError {
+    fn fmt(&self, f: &mut Formatter<'_>) -> Result {
+        match self {
+            ItemsError::OutOfMemory => f.write_str("out of memory"),
+            ItemsError::Malformed(index) => write!(
+                f,
+                "the relocation at index {index} is not one that the psABI allows there"
+            ),
+        }
+    }
+}
+
+impl Error for ItemsError {}
+
+impl Display for Fault {
+    fn fmt(&self, f: &mut Formatter<'_>) -> Result {
+        f.write_str(match self {
+            Fault::Overlaps => "the item begins below the end of the item before it",
+            Fault::TooHigh => "the address behind the item is above 2^64 - 1",
+            Fault::TooManyShapes => "the site has more than two short shapes",
+            Fault::ShapeTooLong => "a shape keeps more bytes than the site has",
+            Fault::ShapesNotAscending => "a short shape keeps no fewer bytes than the next shape",
+            Fault::BadUnit => {
+                "the unit of a short shape is not a power of two, or not a multiple of the next \
+                 one's"
+            }
+            Fault::BadReach => {
+                "a short shape does not reach its own offset, or reaches farther than the next \
+                 short one"
+            }
+            Fault::BadPower => "the alignment is not a power of two",
+            Fault::UnevenShape => {
+                "a shape frees bytes that are not a multiple of the run's greatest unit"
+            }
+            Fault::PowerBelowUnit => "the alignment is not a multiple of the run's greatest unit",
+            Fault::UnevenEnd => {
+                "the address behind the nops is not a multiple of the run's greatest unit"
+            }
+            Fault::TooFewNops => {
+                "there are fewer nops than the alignment less the unit, and fewer than may stay"
+            }
+            Fault::UnevenNops => {
+                "the alignment has a limit, and its nops are not a multiple of the run's greatest \
+                 unit"
+            }
+            Fault::TargetInside => "the target is strictly inside the bytes that an item may lose",
+        })
+    }
+}
+
+impl Error for Fault {}
+
+impl Display for ItemFault {
+    fn fmt(&self, f: &mut Formatter<'_>) -> Result {
+        write!(f, "the item at index {} is faulty", self.index)
+    }
+}
+
+impl Error for ItemFault {
+    fn source(&self) -> Option<&(dyn Error + 'static)> {
+        Some(&self.fault)
+    }
+}

@@ -3,6 +3,8 @@
 use linker_utils::elf::RelocateError;
 use linker_utils::relaxation::{OutOfMemory, PackError, RejectedCall, SectionRelaxDeltas};
 use linker_utils::riscv64::{CallError, JumpError};
+use linker_utils::runs::items::ItemsError;
+use linker_utils::runs::relaxation::{Fault, ItemFault};
 use linker_utils::utils::Uleb128Error;
 use std::error::Error;
 
@@ -94,4 +96,34 @@ fn errors_of_memory_are_printed() {
     // what insertions into a map hand back
     let deltas = SectionRelaxDeltas::new(&[(4, 2)]).expect("memory");
     assert_eq!(texts(deltas), ["out of memory for the section's entry in the map"]);
+}
+
+#[test]
+fn errors_of_runs_are_printed() {
+    assert_eq!(texts(ItemsError::OutOfMemory), ["out of memory"]);
+    let malformed = "the relocation at index 7 is not one that the psABI allows there";
+    assert_eq!(texts(ItemsError::Malformed(7)), [malformed]);
+    assert_eq!(malformed.replace(" at index 7", ""), status("MALFORMED_RELOCATION"));
+    for (fault, name) in [
+        (Fault::Overlaps, "ITEMS_OVERLAP"),
+        (Fault::TooManyShapes, "TOO_MANY_SHAPES"),
+        (Fault::ShapeTooLong, "SHAPE_TOO_LONG"),
+        (Fault::ShapesNotAscending, "SHAPES_NOT_ASCENDING"),
+        (Fault::BadUnit, "BAD_UNIT"),
+        (Fault::BadReach, "BAD_REACH"),
+        (Fault::BadPower, "BAD_POWER"),
+        (Fault::UnevenShape, "UNEVEN_SHAPE"),
+        (Fault::PowerBelowUnit, "POWER_BELOW_UNIT"),
+        (Fault::UnevenEnd, "UNEVEN_END"),
+        (Fault::TooFewNops, "TOO_FEW_NOPS"),
+        (Fault::UnevenNops, "UNEVEN_NOPS"),
+        (Fault::TargetInside, "TARGET_INSIDE"),
+    ] {
+        let found = ItemFault { index: 3, fault };
+        let said = status(name);
+        assert_eq!(texts(found), ["the item at index 3 is faulty", said.as_str()]);
+    }
+    let high = "the address behind the item is above 2^64 - 1";
+    assert_eq!(texts(Fault::TooHigh), [high]);
+    assert_eq!(high.replace("item", "item, or behind the section,"), status("ENDS_TOO_HIGH"));
 }

@@ -108,9 +108,9 @@ static uint16_t any_machine(void) {
     return once_in(16) ? (uint16_t)any_number() : known[below(5)];
 }
 
-/* The number of a form, a rewrite or a status, which are below 32. */
+/* The number of a form, a rewrite or a status, which are below 64. */
 static uint32_t any_of_enum(void) {
-    return once_in(16) ? (uint32_t)any_number() : (uint32_t)below(once_in(4) ? 32 : 12);
+    return once_in(16) ? (uint32_t)any_number() : (uint32_t)below(once_in(4) ? 64 : 12);
 }
 
 static uint32_t any_relocation_type(void) {
@@ -418,20 +418,20 @@ static void finish(bool has_written) {
     used = 0;
 }
 
-#define OR(status) | (uint32_t)1 << LINKER_UTILS_##status
+#define OR(status) | (uint64_t)1 << LINKER_UTILS_##status
 #define NO_FORM OR(UNKNOWN_ARCHITECTURE) OR(UNKNOWN_FORM)
 #define NO_REWRITE OR(UNKNOWN_ARCHITECTURE) OR(UNKNOWN_REWRITE)
 #define NO_RELOCATION OR(UNKNOWN_ARCHITECTURE) OR(UNKNOWN_RELOCATION)
 
 /* How often each status was returned. */
-static uint64_t returned[32];
+static uint64_t returned[64];
 
-static void expect_status(uint32_t status, uint32_t allowed) {
-    expect(status < 32 && ((allowed | 1) >> status & 1), "returns a status that it doesn't name");
+static void expect_status(uint32_t status, uint64_t allowed) {
+    expect(status < 64 && ((allowed | 1) >> status & 1), "returns a status that it doesn't name");
     returned[status]++;
 }
 
-static void finish_with(uint32_t status, uint32_t allowed) {
+static void finish_with(uint32_t status, uint64_t allowed) {
     expect_status(status, allowed);
     finish(status == LINKER_UTILS_OK);
 }
@@ -965,6 +965,187 @@ static void call_shrink_calls(void) {
     finish_with(status, 0 OR(DIFFERENT_LENGTHS) OR(CALLS_NOT_SHRINKABLE));
 }
 
+static void call_named_shapes(void) {
+    struct linker_utils_shapes *shapes = output(sizeof(struct linker_utils_shapes));
+    uint32_t status = CALL(named_shapes, any_of_enum(), shapes);
+    expect(status != LINKER_UTILS_OK || (shapes->count <= 2 && shapes->longest == 8), "no shapes");
+    finish_with(status, 0 OR(UNKNOWN_SHAPES));
+}
+
+/* Shapes of an architecture, some changed, or one that keeps so many bytes. */
+static struct linker_utils_shapes any_shapes(void) {
+    struct linker_utils_shapes shapes = {.longest = (uint32_t)below(9)};
+    if (!once_in(8)) linker_utils_named_shapes((uint32_t)below(3), &shapes);
+    struct linker_utils_shape *shape = &shapes.shorter[below(2)];
+    if (once_in(64)) shapes.count = (uint8_t)(once_in(2) ? below(4) : any());
+    if (once_in(64)) shape->kept = (uint32_t)(once_in(2) ? below(10) : any_number());
+    if (once_in(64)) shape->unit = (uint32_t)(once_in(2) ? below(5) : any_number());
+    if (once_in(64)) shape->behind = any_number();
+    if (once_in(64)) shape->ahead = any_number();
+    return shapes;
+}
+
+/* Items of a run that usually ascend. */
+static struct buffer *run_items(size_t count) {
+    struct buffer *buffer = place(READ, count, sizeof(struct linker_utils_item));
+    struct linker_utils_item *at = filled(buffer);
+    bool is_wild = once_in(16);
+    uint64_t offset = once_in(16) ? any_number() : 4 * below(4);
+    for (size_t i = 0; i < count; i++) {
+        struct linker_utils_item item = {.offset = offset,
+                                         .target = 4 * below(8 * count + 1),
+                                         .power = (uint64_t)4 << below(4),
+                                         .most = 2 * below(16),
+                                         .len = 8,
+                                         .kind = LINKER_UTILS_ITEM_SITE,
+                                         .shapes = any_shapes()};
+        if (once_in(3)) {
+            item.len = (uint32_t)item.power - (once_in(4) ? 4 : 2);
+            item.kind = once_in(4) ? (uint32_t)any() : (uint32_t)below(3);
+        }
+        if (is_wild || once_in(64)) {
+            bool is_small = once_in(2);
+            uint64_t changed = is_small ? below(40) : any_number();
+            switch (below(6)) {
+            case 0: item.offset = is_small ? offset - 1 + below(3) : changed; break;
+            case 1: item.target = changed; break;
+            case 2: item.power = changed; break;
+            case 3: item.most = changed; break;
+            case 4: item.len = (uint32_t)changed; break;
+            default: item.kind = (uint32_t)changed; break;
+            }
+        }
+        at[i] = item;
+        offset += item.len + 4 * below(3);
+    }
+    return buffer;
+}
+
+#define ITEMS(buffer) (buffer)->given, LEN(buffer, struct linker_utils_item)
+#define FAULTS \
+    OR(ITEMS_OVERLAP) OR(ENDS_TOO_HIGH) OR(TOO_MANY_SHAPES) OR(SHAPE_TOO_LONG) \
+    OR(SHAPES_NOT_ASCENDING) OR(BAD_UNIT) OR(BAD_REACH) OR(BAD_POWER) OR(UNEVEN_SHAPE) \
+    OR(POWER_BELOW_UNIT) OR(UNEVEN_END) OR(TOO_FEW_NOPS) OR(UNEVEN_NOPS) OR(TARGET_INSIDE)
+
+/* `items_relaxable`, and `relax` where that says that it will do. */
+static void call_relax(void) {
+    size_t count = once_in(100) ? below(400) : any_len(4);
+    struct buffer *items = run_items(count);
+    uint64_t start = once_in(16) ? any_number() : 4 * below(8);
+    bool is_other = once_in(8);
+    size_t lens[4];
+    for (size_t i = 0; i < 4; i++) lens[i] = is_other && once_in(3) ? any_len(8) : count + (i == 3);
+    bool have_lens = lens[0] == count && lens[1] == count && lens[2] == count &&
+                     lens[3] == count + 1;
+    struct buffer *shapes = bytes(WRITTEN, lens[0]);
+    struct buffer *kept = place(WRITTEN, lens[1], sizeof(uint64_t));
+    struct buffer *places = place(WRITTEN, lens[2], sizeof(size_t));
+    struct buffer *freed = place(WRITTEN, lens[3], sizeof(uint64_t));
+    size_t *faulty = any_faulty();
+    uint32_t can = CALL(items_relaxable, ITEMS(items), start, faulty);
+    expect(was_refused == (can == LINKER_UTILS_OUT_OF_MEMORY), "tells nothing of memory");
+    expect_status(can, 0 OR(OUT_OF_MEMORY) FAULTS);
+    finish_faulty(faulty, can != LINKER_UTILS_OK && can != LINKER_UTILS_OUT_OF_MEMORY, count);
+    allocations = 0;
+    finish_buffers(false);
+    bool was_told = !was_refused;
+    uint32_t status = CALL(relax, ITEMS(items), start, shapes->given, lens[0], kept->given, lens[1],
+                           places->given, lens[2], freed->given, lens[3], faulty);
+    expect(have_lens || !was_refused, "allocates for another length");
+    uint32_t wanted = !have_lens     ? LINKER_UTILS_DIFFERENT_LENGTHS
+                      : was_refused  ? LINKER_UTILS_OUT_OF_MEMORY
+                      : was_told     ? can
+                                     : status;
+    expect(status == wanted, "`items_relaxable` and `relax` differ");
+    finish_faulty(faulty,
+                  status != LINKER_UTILS_OK && status != LINKER_UTILS_OUT_OF_MEMORY &&
+                      status != LINKER_UTILS_DIFFERENT_LENGTHS,
+                  count);
+    const uint8_t *shape = filled(shapes);
+    const uint64_t *stay = filled(kept), *before = filled(freed);
+    const struct linker_utils_item *item = filled(items);
+    uint64_t sum = 0;
+    for (size_t i = 0; status == LINKER_UTILS_OK && i < count; i++) {
+        expect(shape[i] <= 2 && stay[i] <= item[i].len && before[i] == sum, "no layout");
+        sum += item[i].len - stay[i];
+    }
+    expect(status != LINKER_UTILS_OK || before[count] == sum, "loses another sum");
+    expect(live == 0, "keeps memory");
+    allocations = 0;
+    finish_with(status, 0 OR(DIFFERENT_LENGTHS) OR(OUT_OF_MEMORY) FAULTS);
+}
+
+static void call_run_deltas(void) {
+    size_t count = any_len(8);
+    struct buffer *items = run_items(count);
+    size_t kept_len = once_in(8) ? any_len(8) : count;
+    struct buffer *kept = place(READ, kept_len, sizeof(uint64_t));
+    uint64_t *stay = filled(kept);
+    for (size_t i = 0; i < kept_len; i++) stay[i] = once_in(8) ? any_number() : below(12);
+    size_t deltas_len = once_in(8) ? any_len(8) : count;
+    struct buffer *lost = place(WRITTEN, deltas_len, sizeof(struct linker_utils_delta));
+    size_t *len = output(sizeof(size_t));
+    size_t losing = 0;
+    const struct linker_utils_item *item = filled(items);
+    for (size_t i = 0; i < count && i < kept_len; i++) losing += stay[i] < item[i].len;
+    changes(lost, 0, losing * sizeof(struct linker_utils_delta));
+    uint32_t status = CALL(run_deltas, ITEMS(items), kept->given, kept_len, DELTAS(lost), len);
+    bool is_ok = kept_len == count && deltas_len == count;
+    expect(status == (is_ok ? LINKER_UTILS_OK : LINKER_UTILS_DIFFERENT_LENGTHS), "another status");
+    expect(!is_ok || *len == losing, "another count of deltas");
+    finish_with(status, 0 OR(DIFFERENT_LENGTHS));
+}
+
+/* Relocations of a section, of which most are in it, and its items. */
+static void call_section_items(bool is_riscv) {
+    size_t section_len = any_section_len(), count = any_len(8);
+    struct buffer *section = bytes(READ, section_len);
+    struct buffer *given = place(READ, count, sizeof(struct linker_utils_section_relocation));
+    struct linker_utils_section_relocation *at = filled(given);
+    static const uint32_t types[2][5] = {{110, 71, 100, 72, 102}, {18, 19, 51, 43, 0}};
+    uint64_t offset = 0;
+    for (size_t i = 0; i < count; i++) {
+        at[i] = (struct linker_utils_section_relocation){
+            .offset = once_in(32) ? any_number() : offset,
+            .target = any_number(),
+            .addend = once_in(8) ? (int64_t)any_number() : (int64_t)(2 * below(16)),
+            .r_type = once_in(32) ? any_relocation_type() : types[is_riscv][below(5)],
+            .has_symbol = (uint8_t)(once_in(2) ? 0 : any()),
+            .has_target = (uint8_t)(once_in(4) ? 0 : any()),
+        };
+        if (i > 0 && once_in(2)) at[i].r_type = types[is_riscv][2];
+        if (once_in(2)) offset += 4 * below(3);
+    }
+    size_t items_len = once_in(8) ? any_len(8) : count;
+    struct buffer *items = place(WRITTEN, items_len, sizeof(struct linker_utils_item));
+    uint64_t base = once_in(8) ? any_number() : below(64);
+    bool c_extension = once_in(2);
+    size_t *len = output(sizeof(size_t));
+    size_t *faulty = any_faulty();
+    uint32_t status =
+        is_riscv ? CALL(riscv_items, section->given, section_len, base, given->given, count,
+                        c_extension, ITEMS(items), len, faulty)
+                 : CALL(loongarch_items, section->given, section_len, base, given->given, count,
+                        ITEMS(items), len, faulty);
+    expect(was_refused == (status == LINKER_UTILS_OUT_OF_MEMORY), "tells nothing of memory");
+    expect((status == LINKER_UTILS_DIFFERENT_LENGTHS) == (items_len != count), "another length");
+    expect(status != LINKER_UTILS_OK || *len <= count, "more items than relocations");
+    changes(items, 0, *len * sizeof(struct linker_utils_item));
+    finish_faulty(faulty, status == LINKER_UTILS_MALFORMED_RELOCATION, count);
+    expect(live == 0, "keeps memory");
+    allocations = 0;
+    finish_with(status, 0 OR(DIFFERENT_LENGTHS) OR(ENDS_TOO_HIGH) OR(OUT_OF_MEMORY)
+                            OR(MALFORMED_RELOCATION));
+}
+
+static void call_riscv_items(void) {
+    call_section_items(true);
+}
+
+static void call_loongarch_items(void) {
+    call_section_items(false);
+}
+
 static void (*const all[])(void) = {
     call_status_text, call_window, call_write, call_read, call_apply, call_matches,
     call_choose,
@@ -975,7 +1156,8 @@ static void (*const all[])(void) = {
     call_u32_from_slice, call_u64_from_slice, call_read_u32, call_read_uleb128, call_write_uleb128,
     call_deltas_create,
     call_deltas_merge, call_deltas_total_deleted, call_translations, call_deltas_translate_all,
-    call_deltas_heads, call_pack, call_shrink_calls,
+    call_deltas_heads, call_pack, call_shrink_calls, call_named_shapes, call_relax, call_run_deltas,
+    call_riscv_items, call_loongarch_items,
 };
 
 int main(int count, char **arguments) {
@@ -1000,7 +1182,7 @@ int main(int count, char **arguments) {
     /* each status is returned by some call */
     calling = "all calls";
     const char *unused = linker_utils_status_text(UINT32_MAX);
-    for (uint32_t status = 0; calls >= 1000000 && status < 32; status++) {
+    for (uint32_t status = 0; calls >= 1000000 && status < 64; status++) {
         const char *text = linker_utils_status_text(status);
         if (strcmp(text, unused) != 0 && returned[status] == 0) fail(text);
     }

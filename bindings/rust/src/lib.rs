@@ -183,6 +183,100 @@ pub struct Relocation {
     pub r_type: u32,
 }
 
+/// A form of a site's instructions: what it reaches, and how many bytes of the site it keeps.
+#[repr(C)]
+#[derive(Debug, Clone, Copy, Default, PartialEq, Eq)]
+pub struct Shape {
+    pub behind: u64,
+    pub ahead: u64,
+    pub kept: u32,
+    pub unit: u32,
+}
+
+/// The forms that the instructions of a site can have, by ascending length. Of `short` the first
+/// `count` count.
+#[repr(C)]
+#[derive(Debug, Clone, Copy, Default, PartialEq, Eq)]
+pub struct Shapes {
+    pub short: [Shape; 2],
+    pub longest: u32,
+    pub count: u8,
+}
+
+impl Shapes {
+    /// A deletion that is decided already, of all bytes of the site but the first `kept`.
+    pub const fn fixed(kept: u32) -> Shapes {
+        const NONE: Shape = Shape {
+            behind: 0,
+            ahead: 0,
+            kept: 0,
+            unit: 0,
+        };
+        Shapes {
+            short: [NONE; 2],
+            longest: kept,
+            count: 0,
+        }
+    }
+}
+
+/// A part of a run that relaxation may shorten. `kind` is a number of `ItemKind`, which says what the
+/// other fields mean.
+#[repr(C)]
+#[derive(Debug, Clone, Copy, Default, PartialEq, Eq)]
+pub struct Item {
+    pub offset: u64,
+    pub target: u64,
+    pub power: u64,
+    pub most: u64,
+    pub len: u32,
+    pub kind: u32,
+    pub shapes: Shapes,
+}
+
+impl Item {
+    /// Instructions that can become shorter where they reach their target.
+    pub fn site(offset: u64, len: u32, target: u64, shapes: Shapes) -> Item {
+        Item {
+            offset,
+            target,
+            len,
+            kind: ItemKind::Site.number(),
+            shapes,
+            ..Item::default()
+        }
+    }
+
+    /// Nops that align what follows them to a power of two, of which at most so many bytes may stay.
+    pub fn alignment(offset: u64, nops: u32, power: u64, most: Option<u64>) -> Item {
+        let kind = match most {
+            None => ItemKind::Alignment,
+            Some(_) => ItemKind::LimitedAlignment,
+        };
+        Item {
+            offset,
+            power,
+            most: most.unwrap_or_default(),
+            len: nops,
+            kind: kind.number(),
+            ..Item::default()
+        }
+    }
+}
+
+/// A relocation of a section, and what it refers to in a run: `target`, where `has_target` isn't 0.
+/// `has_symbol` is 0 where it has no symbol.
+#[repr(C)]
+#[derive(Debug, Clone, Copy, Default, PartialEq, Eq)]
+pub struct SectionRelocation {
+    pub offset: u64,
+    pub target: u64,
+    pub addend: i64,
+    pub r_type: u32,
+    pub has_symbol: u8,
+    pub has_target: u8,
+}
+
 fn result_of<T>(status: u32, value: T) -> Result<T, Status> {
     match status {
         0 => Ok(value),
@@ -788,4 +882,133 @@ pub fn shrink_calls(deltas: &[Delta], calls: &[Call], chosen: &mut [u8]) -> Resu
             faulty,
         )
     })
+}
+
+/// The shapes of an architecture's instructions.
+pub fn named_shapes(name: ShapesName) -> Shapes {
+    let mut shapes = Shapes::default();
+    let status = unsafe { raw::linker_utils_named_shapes(name.number(), &mut shapes) };
+    result_of(status, shapes).expect("the library has them")
+}
+
+/// An error of a call that makes items: `EndsTooHigh` is of the section there, not of an entry.
+fn of_section(error: ArrayError) -> ArrayError {
+    match error.status {
+        Status::EndsTooHigh => error.status.into(),
+        _ => error,
+    }
+}
+
+/// Writes the items that a RISC-V section's relocations make, and returns how many there are. `items`
+/// has as many elements as there are relocations. The section begins at the input offset `base` of
+/// the run. The entry at fault is a relocation.
+pub fn riscv_items(
+    section: &[u8],
+    base: u64,
+    relocations: &[SectionRelocation],
+    c_extension: bool,
+    items: &mut [Item],
+) -> Result<usize, ArrayError> {
+    let mut len = 0;
+    result_over(|faulty| unsafe {
+        raw::linker_utils_riscv_items_nonnull(
+            section.as_ptr(),
+            section.len(),
+            base,
+            relocations.as_ptr(),
+            relocations.len(),
+            c_extension,
+            items.as_mut_ptr(),
+            items.len(),
+            &mut len,
+            faulty,
+        )
+    })
+    .map_err(of_section)?;
+    Ok(len)
+}
+
+/// Writes the items that a LoongArch section's relocations make, as `riscv_items`.
+pub fn loongarch_items(
+    section: &[u8],
+    base: u64,
+    relocations: &[SectionRelocation],
+    items: &mut [Item],
+) -> Result<usize, ArrayError> {
+    let mut len = 0;
+    result_over(|faulty| unsafe {
+        raw::linker_utils_loongarch_items_nonnull(
+            section.as_ptr(),
+            section.len(),
+            base,
+            relocations.as_ptr(),
+            relocations.len(),
+            items.as_mut_ptr(),
+            items.len(),
+            &mut len,
+            faulty,
+        )
+    })
+    .map_err(of_section)?;
+    Ok(len)
+}
+
+/// Whether `relax` accepts the items of a run whose address is `start`. The entry at fault is an item,
+/// and the status its first fault.
+pub fn items_relaxable(items: &[Item], start: u64) -> Result<(), ArrayError> {
+    result_over(|faulty| unsafe {
+        raw::linker_utils_items_relaxable_nonnull(items.as_ptr(), items.len(), start, faulty)
+    })
+}
+
+/// What `relax` writes: elements for each item, and one more of `freed`.
+#[derive(Debug)]
+pub struct Relaxed<'a> {
+    /// The index of the shape that a site has.
+    pub shapes: &'a mut [u8],
+    /// How many bytes of the item stay, from its first one on.
+    pub kept: &'a mut [u64],
+    /// Room for the work.
+    pub places: &'a mut [usize],
+    /// How many bytes the items before it lose, and at the end how many all do.
+    pub freed: &'a mut [u64],
+}
+
+/// Chooses a shape for each site of a run whose address is `start`, and says what stays of each item.
+/// The entry at fault is an item, as with `items_relaxable`.
+pub fn relax(items: &[Item], start: u64, relaxed: Relaxed<'_>) -> Result<(), ArrayError> {
+    result_over(|faulty| unsafe {
+        raw::linker_utils_relax_nonnull(
+            items.as_ptr(),
+            items.len(),
+            start,
+            relaxed.shapes.as_mut_ptr(),
+            relaxed.shapes.len(),
+            relaxed.kept.as_mut_ptr(),
+            relaxed.kept.len(),
+            relaxed.places.as_mut_ptr(),
+            relaxed.places.len(),
+            relaxed.freed.as_mut_ptr(),
+            relaxed.freed.len(),
+            faulty,
+        )
+    })
+}
+
+/// Writes the deltas of what a run loses where so many bytes of each item stay, and returns how many
+/// there are. `kept` and `deltas` have an element for each item.
+pub fn run_deltas(items: &[Item], kept: &[u64], deltas: &mut [Delta]) -> Result<usize, Status> {
+    let mut len = 0;
+    let status = unsafe {
+        raw::linker_utils_run_deltas_nonnull(
+            items.as_ptr(),
+            items.len(),
+            kept.as_ptr(),
+            kept.len(),
+            deltas.as_mut_ptr(),
+            deltas.len(),
+            &mut len,
+        )
+    };
+    result_of(status, len)
 }

@@ -174,6 +174,16 @@ linker_utils_link_register! { numbered
     LinkRegister: u32
 }
 
+linker_utils_shapes_name! { numbered
+    /// The shapes of an architecture's instructions.
+    ShapesName: u32
+}
+
+linker_utils_item_kind! { numbered
+    /// What an item of a run is.
+    ItemKind: u32
+}
+
 linker_utils_role! { numbered_or_none
     /// What a relocation of a ULEB128 number does with its value, S + A.
     Uleb128Role: u32

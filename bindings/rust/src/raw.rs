@@ -1,7 +1,8 @@
 //! The static library's own symbols, as `include/linker_utils.h` declares them: what each of them
 //! requires of pointers and counts, and does, is said there. No pointer to a slice may be null.
 
-pub use crate::{BlockHead, Call, Deletion, Delta, Operands, Relocation};
+pub use crate::{BlockHead, Call, Deletion, Delta, Item, Operands, Relocation, SectionRelocation};
+pub use crate::{Shape, Shapes};
 
 /// `struct linker_utils_relocation_info`.
 #[repr(C)]
@@ -341,5 +342,58 @@ extern "C" {
         heads_len: usize,
         output_offset: u64,
         input_offset: *mut u64,
+    ) -> u32;
+    pub fn linker_utils_named_shapes(number: u32, shapes: *mut Shapes) -> u32;
+    pub fn linker_utils_riscv_items_nonnull(
+        section: *const u8,
+        section_len: usize,
+        base: u64,
+        relocations: *const SectionRelocation,
+        relocations_len: usize,
+        c_extension: bool,
+        items: *mut Item,
+        items_len: usize,
+        len: *mut usize,
+        faulty: *mut usize,
+    ) -> u32;
+    pub fn linker_utils_loongarch_items_nonnull(
+        section: *const u8,
+        section_len: usize,
+        base: u64,
+        relocations: *const SectionRelocation,
+        relocations_len: usize,
+        items: *mut Item,
+        items_len: usize,
+        len: *mut usize,
+        faulty: *mut usize,
+    ) -> u32;
+    pub fn linker_utils_items_relaxable_nonnull(
+        items: *const Item,
+        items_len: usize,
+        start: u64,
+        faulty: *mut usize,
+    ) -> u32;
+    pub fn linker_utils_relax_nonnull(
+        items: *const Item,
+        items_len: usize,
+        start: u64,
+        shapes: *mut u8,
+        shapes_len: usize,
+        kept: *mut u64,
+        kept_len: usize,
+        places: *mut usize,
+        places_len: usize,
+        freed: *mut u64,
+        freed_len: usize,
+        faulty: *mut usize,
+    ) -> u32;
+    pub fn linker_utils_run_deltas_nonnull(
+        items: *const Item,
+        items_len: usize,
+        kept: *const u64,
+        kept_len: usize,
+        deltas: *mut Delta,
+        deltas_len: usize,
+        len: *mut usize,
     ) -> u32;
 }

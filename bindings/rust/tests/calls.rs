@@ -1293,3 +1293,163 @@ fn shrinks_calls() {
     let short = shrink_calls(&[], &calls(&[(0, 8)]), &mut []);
     assert_eq!(short, Err(failure(Status::DifferentLengths)));
 }
+
+#[test]
+fn makes_items_of_relocations() {
+    let relocation = |offset, r_type, addend, target: Option<u64>| SectionRelocation {
+        offset,
+        target: target.unwrap_or_default(),
+        addend,
+        r_type,
+        has_symbol: 0,
+        has_target: target.is_some().into(),
+    };
+    // auipc ra, 0; jalr ra; auipc t1, 0; jr t1; nop; c.nop
+    let mut section = bytes_of(&[0x97, 0x80e7, 0x317, 0x30067, 0x13]);
+    section.extend([0x01, 0x00]);
+    let relocations = [
+        relocation(0, 19, 0, Some(4096)),
+        relocation(0, 51, 0, None),
+        relocation(8, 19, 0, Some(8192)),
+        relocation(8, 51, 0, None),
+        relocation(16, 43, 6, None),
+    ];
+    let other = Item::site(1, 2, 3, Shapes::fixed(1));
+    let mut items = [other; 5];
+    let made = riscv_items(&section, 64, &relocations, true, &mut items);
+    assert_eq!(made, Ok(3));
+    assert_eq!(
+        items,
+        [
+            Item::site(64, 8, 4096, named_shapes(ShapesName::RiscVCall)),
+            Item::site(72, 8, 8192, named_shapes(ShapesName::RiscVTailC)),
+            Item {
+                shapes: Shapes {
+                    short: items[2].shapes.short,
+                    ..Shapes::fixed(0)
+                },
+                ..Item::alignment(80, 6, 8, None)
+            },
+            other,
+            other,
+        ]
+    );
+    // without the C extension six bytes are no nops
+    let made = riscv_items(&section, 64, &relocations, false, &mut items);
+    assert_eq!(made, Err(at(4, Status::MalformedRelocation)));
+    let made = riscv_items(&section, u64::MAX - 21, &relocations, true, &mut items);
+    assert_eq!(made, Err(failure(Status::EndsTooHigh)));
+    let made = riscv_items(&section, 0, &relocations, true, &mut items[..4]);
+    assert_eq!(made, Err(failure(Status::DifferentLengths)));
+
+    // pcaddu18i ra, 0; jirl ra, ra, 0; pcalau12i a0, 0; addi.d a0, a0, 0; nop
+    let section = bytes_of(&[
+        0x1e000001, 0x4c000021, 0x1a000004, 0x02c00084, 0x03400000, 0x03400000, 0x03400000,
+    ]);
+    let mut relocations = [
+        relocation(0, 110, 0, Some(4096)),
+        relocation(0, 100, 0, None),
+        relocation(8, 71, 0, Some(8192)),
+        relocation(8, 100, 0, None),
+        relocation(12, 72, 0, Some(8192)),
+        relocation(12, 100, 0, None),
+        relocation(16, 102, 12 << 8 | 4, None),
+    ];
+    relocations[6].has_symbol = 1;
+    let mut items = [other; 7];
+    assert_eq!(
+        loongarch_items(&section, 0, &relocations, &mut items),
+        Ok(3)
+    );
+    let call = Item::site(0, 8, 4096, named_shapes(ShapesName::LoongArchCall36));
+    let address = Item::site(8, 8, 8192, named_shapes(ShapesName::LoongArchPcala));
+    assert_eq!(items[..2], [call, address]);
+    let aligned = Item {
+        shapes: items[2].shapes,
+        ..Item::alignment(16, 12, 16, Some(12))
+    };
+    assert_eq!(items[2..], [aligned, other, other, other, other]);
+    relocations[6].addend = -1;
+    let made = loongarch_items(&section, 0, &relocations, &mut items);
+    assert_eq!(made, Err(at(6, Status::MalformedRelocation)));
+}
+
+#[test]
+fn relaxes_runs() {
+    let call = named_shapes(ShapesName::RiscVCall);
+    // `jal` reaches even distances from -1048576 to 1048574. The address behind the nops is a multiple
+    // of 16, where the `jal` has 4 bytes and 12 bytes of nops stay.
+    let jal = Shape {
+        behind: 1048576,
+        ahead: 1048576,
+        kept: 4,
+        unit: 2,
+    };
+    assert_eq!((call.short[0], call.longest, call.count), (jal, 8, 1));
+    let items = [
+        Item::site(0, 8, 1048580, call),
+        Item::alignment(8, 14, 16, None),
+    ];
+    let (mut shapes, mut kept, mut places, mut freed) = ([9; 2], [9; 2], [9; 2], [9; 3]);
+    assert_eq!(items_relaxable(&items, 0), Ok(()));
+    let relaxed = Relaxed {
+        shapes: &mut shapes,
+        kept: &mut kept,
+        places: &mut places,
+        freed: &mut freed,
+    };
+    assert_eq!(relax(&items, 0, relaxed), Ok(()));
+    assert_eq!((shapes[0], kept, freed), (0, [4, 12], [0, 4, 6]));
+    let mut lost = [Delta::default(); 2];
+    assert_eq!(run_deltas(&items, &kept, &mut lost), Ok(2));
+    assert_eq!(lost, *deltas(&[(4, 4), (20, 2)]));
+    assert_eq!(deltas_input_to_output(&lost, 1048580), 1048574);
+    assert_eq!(run_deltas(&items, &[8, 12], &mut lost), Ok(1));
+    assert_eq!(lost[0], deltas(&[(20, 2)])[0]);
+    let short = run_deltas(&items, &kept, &mut lost[..1]);
+    assert_eq!(short, Err(Status::DifferentLengths));
+
+    // each kind of fault, of the second item
+    let site = |offset, target, shapes| Item::site(offset, 8, target, shapes);
+    let changed = |change: fn(&mut Shapes)| {
+        let mut shapes = named_shapes(ShapesName::RiscVTailC);
+        change(&mut shapes);
+        site(16, 0, shapes)
+    };
+    let faults = [
+        (site(4, 0, call), Status::ItemsOverlap),
+        (site(u64::MAX - 7, 0, call), Status::EndsTooHigh),
+        (changed(|it| it.count = 3), Status::TooManyShapes),
+        (changed(|it| it.longest = 9), Status::ShapeTooLong),
+        (
+            changed(|it| it.short[0].kept = 4),
+            Status::ShapesNotAscending,
+        ),
+        (changed(|it| it.short[0].unit = 3), Status::BadUnit),
+        (changed(|it| it.short[0].ahead = 0), Status::BadReach),
+        (Item::alignment(16, 4, 6, None), Status::BadPower),
+        (changed(|it| it.short[0].kept = 3), Status::UnevenShape),
+        (Item::alignment(16, 4, 1, None), Status::PowerBelowUnit),
+        (Item::alignment(16, 3, 4, None), Status::UnevenEnd),
+        (Item::alignment(16, 4, 16, None), Status::TooFewNops),
+        (Item::alignment(15, 5, 4, Some(3)), Status::UnevenNops),
+        (site(16, 6, call), Status::TargetInside),
+    ];
+    for (item, status) in faults {
+        let items = [site(0, 0, call), item];
+        let error = Err(at(1, status));
+        assert_eq!(items_relaxable(&items, 0), error);
+        let (mut shapes, mut kept, mut places, mut freed) = ([9; 2], [9; 2], [9; 2], [9; 3]);
+        let relaxed = Relaxed {
+            shapes: &mut shapes,
+            kept: &mut kept,
+            places: &mut places,
+            freed: &mut freed,
+        };
+        assert_eq!(relax(&items, 0, relaxed), error);
+        assert_eq!(
+            (shapes, kept, places, freed),
+            ([9; 2], [9; 2], [9; 2], [9; 3])
+        );
+    }
+}

@@ -101,12 +101,20 @@ fn type_of_c(text: &str) -> String {
         "struct linker_utils_choice" => "Choice",
         "struct linker_utils_relocation_reach" => "Reach",
         "struct linker_utils_relocation_entry" => "Relocation",
+        "struct linker_utils_shape" => "Shape",
+        "struct linker_utils_shapes" => "Shapes",
+        "struct linker_utils_item" => "Item",
+        "struct linker_utils_section_relocation" => "SectionRelocation",
         other => panic!("the header has a type {other}"),
     };
     format!("{}{name}", if pointer { kind } else { "" })
 }
 
 fn parameter_of_c(text: String) -> (String, String) {
+    if let Some((element, len)) = text.strip_suffix(']').and_then(|it| it.split_once('[')) {
+        let (name, kind) = parameter_of_c(element.to_string());
+        return (name, format!("[{kind}; {len}]"));
+    }
     let at = text.rfind(|letter: char| !letter.is_alphanumeric() && letter != '_');
     let (kind, name) = text.split_at(at.expect("a type and a name") + 1);
     (name.to_string(), type_of_c(kind))
@@ -207,6 +215,7 @@ fn as_passed(kind: &str) -> Passed {
         "RelocationNumbers" => "RelocationInfo".to_string(),
         "LinkFactNumbers" => "LinkFacts".to_string(),
         "ChoiceNumbers" => "Choice".to_string(),
+        "ItemNumbers" => "Item".to_string(),
         other => other.to_string(),
     };
     if kind == "Global" {
@@ -335,6 +344,9 @@ fn c_element(kind: &str, element: &str) -> String {
         "Call" => "struct linker_utils_call".to_string(),
         "BlockHead" => "struct linker_utils_block_head".to_string(),
         "Relocation" => "struct linker_utils_relocation_entry".to_string(),
+        "Item" => "struct linker_utils_item".to_string(),
+        "SectionRelocation" => "struct linker_utils_section_relocation".to_string(),
+        "usize" => "size_t".to_string(),
         number => format!("{}_t", number.replace('u', "uint")),
     };
     let is_const = kind.starts_with("*const");
@@ -632,6 +644,15 @@ macro_rules! layout {
     };
 }
 
+/// A field's name in Rust. `short` is a word of C.
+fn name_in_rust(field: &str) -> String {
+    match field {
+        "shorter" => "short",
+        other => other,
+    }
+    .to_string()
+}
+
 fn field_size<T: Default>(size: impl Fn(&T) -> usize) -> usize {
     size(&T::default())
 }
@@ -646,7 +667,7 @@ fn the_structs_are_those_of_the_library() {
                 .split_once('+')
                 .expect("both");
             (
-                field.clone(),
+                name_in_rust(field),
                 offset.parse().expect("a number"),
                 size.parse().expect("a number"),
             )
@@ -678,6 +699,12 @@ fn the_structs_are_those_of_the_library() {
         }
         "linker_utils_relocation_reach": raw::Reach { min, max, has_range, }
         "linker_utils_relocation_entry": Relocation { offset, value, r_type, }
+        "linker_utils_shape": Shape { behind, ahead, kept, unit, }
+        "linker_utils_shapes": Shapes { short, longest, count, }
+        "linker_utils_item": Item { offset, target, power, most, len, kind, shapes, }
+        "linker_utils_section_relocation": SectionRelocation {
+            offset, target, addend, r_type, has_symbol, has_target,
+        }
     };
     assert_eq!(of_header.collect::<Layout>(), of_crate);
 
@@ -687,7 +714,8 @@ fn the_structs_are_those_of_the_library() {
         + &repository("crates/linker_base/src/relaxation/blocks.rt")
         + &repository("crates/linker_utils/src/riscv64/calls.rt")
         + &repository("crates/linker_elf/src/elf/value.rt")
-        + &repository("crates/linker_elf/src/elf/numbers.rt");
+        + &repository("crates/linker_elf/src/elf/numbers.rt")
+        + &repository("crates/linker_relax/src/relaxation.rt");
     for (name, of_library) in [
         ("linker_utils_deletion", "Deletion"),
         ("linker_utils_call", "Call"),
@@ -699,6 +727,10 @@ fn the_structs_are_those_of_the_library() {
         ("linker_utils_choice", "ChoiceNumbers"),
         ("linker_utils_relocation_reach", "Reach"),
         ("linker_utils_relocation_entry", "Relocation"),
+        ("linker_utils_shape", "Shape"),
+        ("linker_utils_shapes", "Shapes"),
+        ("linker_utils_item", "ItemNumbers"),
+        ("linker_utils_section_relocation", "SectionRelocation"),
     ] {
         let (before, rest) = library
             .split_once(&format!("\npub struct {of_library} {{"))
@@ -713,6 +745,8 @@ fn the_structs_are_those_of_the_library() {
         let fields: Vec<_> = fields
             .map(|(name, kind)| (name.to_string(), kind.to_string()))
             .collect();
-        assert_eq!(fields, structs[name], "{of_library}");
+        let of_header = structs[name].iter();
+        let of_header = of_header.map(|(field, kind)| (name_in_rust(field), kind.clone()));
+        assert_eq!(fields, of_header.collect::<Vec<_>>(), "{of_library}");
     }
 }

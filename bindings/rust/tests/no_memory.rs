@@ -1,6 +1,6 @@
-//! Merges for which `malloc` fails. They run in a process of their own, under a limit of 1 GB.
+//! Calls for which `malloc` fails. They run in processes of their own, under a limit of 1 GB.
 
-use sathunne::{deltas_is_mergeable, deltas_merge, ArrayError, Deletion, Delta, Status};
+use sathunne::*;
 use std::alloc::{alloc_zeroed, Layout};
 use std::env;
 use std::process::Command;
@@ -9,14 +9,24 @@ const WITHIN_LIMIT: &str = "SATHUNNE_WITHIN_LIMIT";
 
 #[test]
 fn merges_without_memory_change_nothing() {
+    within_limit("merges_without_memory_change_nothing", merge_too_many);
+}
+
+#[test]
+fn runs_without_memory_change_nothing() {
+    within_limit("runs_without_memory_change_nothing", relax_too_many);
+}
+
+/// Makes the calls of a test in a process with the limit, which is the same test.
+fn within_limit(test: &str, calls: fn()) {
     if env::var_os(WITHIN_LIMIT).is_some() {
-        merge_too_many();
+        calls();
         return;
     }
     let status = Command::new("sh")
         .args(["-c", "ulimit -v 1000000 && exec \"$0\" --exact \"$1\""])
         .arg(env::current_exe().expect("this test has a path"))
-        .arg("merges_without_memory_change_nothing")
+        .arg(test)
         .env(WITHIN_LIMIT, "1")
         .status()
         .expect("`sh` runs");
@@ -52,6 +62,32 @@ fn merge_too_many() {
             (Delta::default(), Delta::default())
         );
     }
+}
+
+/// Items of 576 MB and relocations of 192 MB, of which calls have to make copies, and arrays of 150 MB.
+fn relax_too_many() {
+    const COUNT: usize = 6_000_000;
+    let items: &mut [Item] = zeros(COUNT);
+    let relocations: &mut [SectionRelocation] = zeros(COUNT);
+    let (shapes, kept) = (zeros::<u8>(COUNT), zeros::<u64>(COUNT));
+    let (places, freed) = (zeros::<usize>(COUNT), zeros::<u64>(COUNT + 1));
+    let refused = Err(ArrayError::from(Status::OutOfMemory));
+    assert_eq!(items_relaxable(items, 0), refused);
+    (shapes[0], kept[0], places[0], freed[0]) = (7, 7, 7, 7);
+    let relaxed = Relaxed {
+        shapes,
+        kept,
+        places,
+        freed,
+    };
+    assert_eq!(relax(items, 0, relaxed), refused);
+    assert_eq!((shapes[0], kept[0], places[0], freed[0]), (7, 7, 7, 7));
+    items[0].len = 7;
+    let made = riscv_items(&[], 0, relocations, true, items);
+    assert_eq!(made.map(drop), refused);
+    let made = loongarch_items(&[], 0, relocations, items);
+    assert_eq!(made.map(drop), refused);
+    assert_eq!(items[0].len, 7);
 }
 
 /// Places that are never freed, of a type that has only numbers.

@@ -20,28 +20,30 @@ mod validity;
 pub use faults::{Fault, ItemFault, are_items, first_faulty};
 use passes::{find_places, keep, lay_out, lengthen, shorten};
 
-/// One form of the instructions of a site.
+/// One form of the instructions of a site, as C has it.
+#[repr(C)]
 #[derive(Debug, Clone, Copy, PartialEq, Eq)]
 pub struct Shape {
-    /// How many bytes of the site stay, from its first one on.
-    pub kept: u32,
     /// How far below its output offset the target may lie, in bytes.
     pub behind: u64,
     /// The target has to lie less than so many bytes above its output offset, or at it.
     pub ahead: u64,
+    /// How many bytes of the site stay, from its first one on.
+    pub kept: u32,
     /// The distance has to be a multiple of this number, which is a power of two.
     pub unit: u32,
 }
 
-/// The forms that the instructions of a site can have, by ascending length.
+/// The forms that the instructions of a site can have, by ascending length, as C has them.
+#[repr(C)]
 #[derive(Debug, Clone, Copy, PartialEq, Eq)]
 pub struct Shapes {
     /// The short forms, of which the first `count` count.
     pub short: [Shape; 2],
-    /// How many short forms there are, up to two.
-    pub count: u8,
     /// How many bytes stay where no short form reaches the target.
     pub longest: u32,
+    /// How many short forms there are, up to two.
+    pub count: u8,
 }
 
 /// Instructions that can become shorter where they reach their target.

@@ -1,3 +1,5 @@
 pub mod DeltaLists
 pub mod Relocating
 pub mod RelocationNumbers
+pub mod RunItems
+pub mod SectionItems

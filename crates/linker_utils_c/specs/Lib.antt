@@ -2,8 +2,10 @@ pub mod Choices
 pub mod Deltas
 pub mod Forms
 pub mod Packing
+pub mod Relaxing
 pub mod Relocate
 pub mod Relocations
 pub mod Rewrites
+pub mod SectionItems
 pub mod Shrinking
 pub mod Status

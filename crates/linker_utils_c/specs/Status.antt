@@ -17,6 +17,15 @@ use Rattle.linker_utils_c.specs.declared.status.Status.TheVariants.{CallsNotApar
 use Rattle.linker_utils_c.specs.declared.status.Status.TheVariants.{CallsNotShrinkable, Misaligned}
 use Rattle.linker_utils_c.specs.declared.status.Status.TheVariants.{OutOfReach, NoValue}
 use Rattle.linker_utils_c.specs.declared.status.Status.TheVariants.{Unsupported, DoesNotMatch}
+use Rattle.linker_utils_c.specs.declared.status.Status.TheVariants.{UnknownShapes}
+use Rattle.linker_utils_c.specs.declared.status.Status.TheVariants.{MalformedRelocation}
+use Rattle.linker_utils_c.specs.declared.status.Status.TheVariants.{ItemsOverlap, EndsTooHigh}
+use Rattle.linker_utils_c.specs.declared.status.Status.TheVariants.{TooManyShapes, ShapeTooLong}
+use Rattle.linker_utils_c.specs.declared.status.Status.TheVariants.{ShapesNotAscending, BadUnit}
+use Rattle.linker_utils_c.specs.declared.status.Status.TheVariants.{BadReach, BadPower, UnevenShape}
+use Rattle.linker_utils_c.specs.declared.status.Status.TheVariants.{PowerBelowUnit, UnevenEnd}
+use Rattle.linker_utils_c.specs.declared.status.Status.TheVariants.{TooFewNops, UnevenNops}
+use Rattle.linker_utils_c.specs.declared.status.Status.TheVariants.{TargetInside}
 
 abbrev pub code : Status → ℕ
 code Success = 0
@@ -49,6 +58,22 @@ code OutOfReach = 28
 code NoValue = 29
 code Unsupported = 30
 code DoesNotMatch = 31
+code UnknownShapes = 32
+code MalformedRelocation = 33
+code ItemsOverlap = 34
+code EndsTooHigh = 35
+code TooManyShapes = 36
+code ShapeTooLong = 37
+code ShapesNotAscending = 38
+code BadUnit = 39
+code BadReach = 40
+code BadPower = 41
+code UnevenShape = 42
+code PowerBelowUnit = 43
+code UnevenEnd = 44
+code TooFewNops = 45
+code UnevenNops = 46
+code TargetInside = 47
 
 -- the status is one of these
 abbrev pub IsOneOf : List Status → ℕ → Type 0

@@ -65,6 +65,38 @@ pub enum Status {
     Unsupported,
     /// The bytes there are not an instruction that the rewrite is meant for.
     DoesNotMatch,
+    /// No shapes have this number.
+    UnknownShapes,
+    /// The relocation is not one that the psABI allows there.
+    MalformedRelocation,
+    /// The item begins below the end of the item before it.
+    ItemsOverlap,
+    /// The address behind the item, or behind the section, is above 2^64 - 1.
+    EndsTooHigh,
+    /// The site has more than two short shapes.
+    TooManyShapes,
+    /// A shape keeps more bytes than the site has.
+    ShapeTooLong,
+    /// A short shape keeps no fewer bytes than the next shape.
+    ShapesNotAscending,
+    /// The unit of a short shape is not a power of two, or not a multiple of the next one's.
+    BadUnit,
+    /// A short shape does not reach its own offset, or reaches farther than the next short one.
+    BadReach,
+    /// The alignment is not a power of two.
+    BadPower,
+    /// A shape frees bytes that are not a multiple of the run's greatest unit.
+    UnevenShape,
+    /// The alignment is not a multiple of the run's greatest unit.
+    PowerBelowUnit,
+    /// The address behind the nops is not a multiple of the run's greatest unit.
+    UnevenEnd,
+    /// There are fewer nops than the alignment less the unit, and fewer than may stay.
+    TooFewNops,
+    /// The alignment has a limit, and its nops are not a multiple of the run's greatest unit.
+    UnevenNops,
+    /// The target is strictly inside the bytes that an item may lose.
+    TargetInside,
 }
 
 impl Status {

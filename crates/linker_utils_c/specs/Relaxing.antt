@@ -1,0 +1,80 @@
+-- The items of a run, and their faults, in the numbers that C sees.
+use Rattle.std.specs.Prelude.{◌≡◌, ℕ, ◌+◌, ◌==◌, if◌then◌else◌, List, map}
+use Rattle.std.specs.Prelude.{Option, None, Some}
+use Rattle.linker_relax.specs.declared.relaxation.Shapes.{Shapes}
+use Rattle.linker_relax.specs.declared.relaxation.Item.{Item}
+use Rattle.linker_relax.specs.declared.relaxation.Item.TheVariants.{Site, Aligned}
+use Rattle.linker_relax.specs.declared.relaxation.faults.Fault.{Fault}
+use Rattle.linker_relax.specs.declared.relaxation.faults.Fault.TheVariants as faults
+use Rattle.linker_relax.specs.declared.shapes.riscv64.TheConstants as riscv
+use Rattle.linker_relax.specs.declared.shapes.loongarch64.TheConstants as loongarch
+use Rattle.linker_relax.specs.Faults.{IsFirstFault}
+use Rattle.linker_utils_c.specs.declared.relaxing.ItemNumbers.{ItemNumbers}
+use Rattle.linker_utils_c.specs.declared.status.Status.{Status}
+use Rattle.linker_utils_c.specs.declared.status.Status.TheVariants.{ItemsOverlap, EndsTooHigh}
+use Rattle.linker_utils_c.specs.declared.status.Status.TheVariants.{TooManyShapes, ShapeTooLong}
+use Rattle.linker_utils_c.specs.declared.status.Status.TheVariants.{ShapesNotAscending, BadUnit}
+use Rattle.linker_utils_c.specs.declared.status.Status.TheVariants.{BadReach, BadPower, UnevenShape}
+use Rattle.linker_utils_c.specs.declared.status.Status.TheVariants.{PowerBelowUnit, UnevenEnd}
+use Rattle.linker_utils_c.specs.declared.status.Status.TheVariants.{TooFewNops, UnevenNops}
+use Rattle.linker_utils_c.specs.declared.status.Status.TheVariants.{TargetInside}
+use Rattle.linker_utils_c.specs.Status.{code}
+
+-- the item that C's struct is, by its kind: 0 a site, 1 an alignment without limit, any other one
+-- with a limit
+abbrev pub item_of : ItemNumbers → Item
+item_of item = if item.kind == 0
+    then Site (record {
+      offset = item.offset;
+      len = item.len;
+      target = item.target;
+      shapes = item.shapes;
+    })
+    else Aligned (record {
+      offset = item.offset;
+      nops = item.len;
+      power = item.power;
+      most = if item.kind == 1 then None else Some item.most;
+    })
+
+abbrev pub items_in : List ItemNumbers → List Item
+items_in items = map item_of items
+
+-- the shapes that a number names
+abbrev pub named_shapes : ℕ → Option Shapes
+named_shapes number =
+    if number == 0 then Some riscv.CALL
+    else if number == 1 then Some riscv.TAIL_C
+    else if number == 2 then Some riscv.CALL_WITHOUT_C
+    else if number == 3 then Some loongarch.CALL36
+    else if number == 4 then Some loongarch.PCALA
+    else None
+
+abbrev pub fault_status : Fault → Status
+fault_status faults.Overlaps = ItemsOverlap
+fault_status faults.TooHigh = EndsTooHigh
+fault_status faults.TooManyShapes = TooManyShapes
+fault_status faults.ShapeTooLong = ShapeTooLong
+fault_status faults.ShapesNotAscending = ShapesNotAscending
+fault_status faults.BadUnit = BadUnit
+fault_status faults.BadReach = BadReach
+fault_status faults.BadPower = BadPower
+fault_status faults.UnevenShape = UnevenShape
+fault_status faults.PowerBelowUnit = PowerBelowUnit
+fault_status faults.UnevenEnd = UnevenEnd
+fault_status faults.TooFewNops = TooFewNops
+fault_status faults.UnevenNops = UnevenNops
+fault_status faults.TargetInside = TargetInside
+
+-- the status says the run's first fault, which is that of the item at the index
+pub record IsRunFault (start : ℕ) (items : List Item) (at status : ℕ) : Type 0 where
+  pub fault : Fault
+  pub says : status ≡ code (fault_status fault)
+  pub first : IsFirstFault start items (record { index = at; fault = fault })
+
+-- the arrays of a run of so many items have as many elements, and the last one has one more
+pub record HaveLengths (len shapes kept places freed : ℕ) : Type 0 where
+  pub each_shape : shapes ≡ len
+  pub each_kept : kept ≡ len
+  pub each_place : places ≡ len
+  pub one_more : freed ≡ len + 1

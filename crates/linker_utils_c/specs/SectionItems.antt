@@ -1,0 +1,29 @@
+-- The relocations of a section that make items, in the numbers that C sees.
+use Rattle.std.specs.Prelude.{◌≡◌, ℕ, if◌then◌else◌, List, map, None, Some}
+use Rattle.linker_runs.specs.declared.items.Relocation.{Relocation}
+use Rattle.linker_runs.specs.declared.items.ItemsError.{ItemsError}
+use Rattle.linker_runs.specs.declared.items.ItemsError.TheVariants as errors
+use Rattle.linker_utils_c.specs.declared.section_items.SectionRelocation.{SectionRelocation}
+use Rattle.linker_utils_c.specs.declared.status.Status.TheVariants.{OutOfMemory}
+use Rattle.linker_utils_c.specs.declared.status.Status.TheVariants.{MalformedRelocation}
+use Rattle.linker_utils_c.specs.Choices.{is_set}
+use Rattle.linker_utils_c.specs.Status.{code}
+
+-- the relocation that C's struct is
+abbrev pub relocation_of : SectionRelocation → Relocation
+relocation_of relocation = record {
+  offset = relocation.offset;
+  code = relocation.r_type;
+  has_symbol = is_set relocation.has_symbol;
+  addend = relocation.addend;
+  target = if is_set relocation.has_target then Some relocation.target else None;
+}
+
+abbrev pub relocations_in : List SectionRelocation → List Relocation
+relocations_in relocations = map relocation_of relocations
+
+-- the status and the index say why no items are made
+abbrev pub IsNotMade : ℕ → ℕ → ItemsError → Type 0
+IsNotMade at status errors.OutOfMemory = status ≡ code OutOfMemory
+IsNotMade at status (errors.Malformed index) =
+    (status ≡ code MalformedRelocation) × (at ≡ index)

@@ -1,0 +1,310 @@
+//! A run of items that is relaxed, in arrays of the caller's.
+
+ghost use Rattle.std.specs.Prelude.{◌≡◌, ◌≢◌, ◌+◌, ◌-◌, ◌^◌, ◌<◌, ◌≤◌, ◌↔◌, ◌⊎◌, ℕ, IsTrue, IfOk};
+ghost use Rattle.std.specs.Prelude.{IfSome, IfNone, length, take, slice_index_or};
+ghost use Rattle.linker_relax.specs.Relaxing.{AreInOrder};
+ghost use Rattle.linker_relax.specs.Choosing.{AreItems, IsRelaxation};
+ghost use Rattle.linker_relax.specs.Deleting.{deletions_of_run};
+ghost use Rattle.linker_utils_c.specs.Deltas.{AreDeltasOf};
+ghost use Rattle.linker_utils_c.specs.Relaxing.{item_of, items_in, named_shapes, fault_status};
+ghost use Rattle.linker_utils_c.specs.Relaxing.{IsRunFault, HaveLengths};
+ghost use Rattle.linker_utils_c.specs.Status.{code};
+
+use crate::status::Status;
+use linker_relax::relaxation::{Alignment, Fault, Item, Shapes, Site, first_faulty, relax_into};
+use linker_relax::shapes::loongarch64::{CALL36, PCALA};
+use linker_relax::shapes::riscv64::{CALL, CALL_WITHOUT_C, TAIL_C};
+use linker_utils::relaxation::{OutOfMemory, RelaxDelta};
+use std::alloc::Global;
+
+/// A part of a run that relaxation may shorten.
+#[repr(C)]
+#[derive(Clone, Copy)]
+pub struct ItemNumbers {
+    /// The input offset of its first byte.
+    pub offset: u64,
+    /// The input offset that a site has to reach. Of an alignment it means nothing.
+    pub target: u64,
+    /// What the output address behind an alignment is a multiple of: a power of two. Of a site it
+    /// means nothing.
+    pub power: u64,
+    /// How many bytes of nops of an alignment with a limit may stay. Where more are needed, none
+    /// stay.
+    pub most: u64,
+    /// How many bytes it has.
+    pub len: u32,
+    /// 0 is a site, 1 an alignment without limit, any other number an alignment with a limit.
+    pub kind: u32,
+    /// What a site can become. Of an alignment they mean nothing.
+    pub shapes: Shapes,
+}
+
+impl ItemNumbers {
+    #[inline(always)]
+    pub(crate) fn item(&self) -> Item
+        ensures { result ≡ item_of self.now }
+    {
+        if self.kind == 0 {
+            Item::Site(Site {
+                offset: self.offset,
+                len: self.len,
+                target: self.target,
+                shapes: self.shapes,
+            })
+        } else {
+            Item::Aligned(Alignment {
+                offset: self.offset,
+                nops: self.len,
+                power: self.power,
+                most: if self.kind == 1 {
+                    None
+                } else {
+                    Some(self.most)
+                },
+            })
+        }
+    }
+}
+
+#[inline]
+fn status_of(fault: Fault) -> u32
+    ensures { result ≡ code (fault_status fault) }
+{
+    let status = match fault {
+        Fault::Overlaps => Status::ItemsOverlap,
+        Fault::TooHigh => Status::EndsTooHigh,
+        Fault::TooManyShapes => Status::TooManyShapes,
+        Fault::ShapeTooLong => Status::ShapeTooLong,
+        Fault::ShapesNotAscending => Status::ShapesNotAscending,
+        Fault::BadUnit => Status::BadUnit,
+        Fault::BadReach => Status::BadReach,
+        Fault::BadPower => Status::BadPower,
+        Fault::UnevenShape => Status::UnevenShape,
+        Fault::PowerBelowUnit => Status::PowerBelowUnit,
+        Fault::UnevenEnd => Status::UnevenEnd,
+        Fault::TooFewNops => Status::TooFewNops,
+        Fault::UnevenNops => Status::UnevenNops,
+        Fault::TargetInside => Status::TargetInside,
+    };
+    status.number()
+}
+
+/// The items that C's structs are.
+fn items_of(alloc: Global, items: &[ItemNumbers]) -> Result<Vec<Item>, OutOfMemory>
+    ensures { IfOk result (λ made. made.items ≡ items_in items.now) }
+{
+    let mut made = Vec::with_capacity(alloc, items.len())?;
+    for numbers in items {
+        made.push_reserved(numbers.item());
+    }
+    Ok(made)
+}
+
+#[inline]
+fn shapes_named(number: u32) -> Option<Shapes>
+    ensures { result ≡ named_shapes number }
+{
+    if number == 0 {
+        Some(CALL)
+    } else if number == 1 {
+        Some(TAIL_C)
+    } else if number == 2 {
+        Some(CALL_WITHOUT_C)
+    } else if number == 3 {
+        Some(CALL36)
+    } else if number == 4 {
+        Some(PCALA)
+    } else {
+        None
+    }
+}
+
+/// Writes the shapes that a number names: 0 a call of RISC-V, 1 a tail call where the C extension
+/// may be used, 2 a call or tail call where it isn't; 3 `R_LARCH_CALL36`, 4 `R_LARCH_PCALA_HI20` and
+/// `_LO12`. The error is `UnknownShapes`, and `shapes` is unchanged then.
+#[unsafe(no_mangle)]
+pub extern "C" fn linker_utils_named_shapes(number: u32, shapes: &mut Shapes) -> u32
+    ensures known { IfSome (named_shapes number)
+        (λ named. (result ≡ code Status.Success) × (shapes.new ≡ named)) }
+    ensures unknown { IfNone (named_shapes number)
+        ((result ≡ code Status.UnknownShapes) × (shapes.new ≡ shapes.old)) }
+{
+    match shapes_named(number) {
+        Some(named) => {
+            *shapes = named;
+            Status::Success.number()
+        }
+        None => Status::UnknownShapes.number(),
+    }
+}
+
+/// Whether `linker_utils_relax` accepts the items of a run that begins at the address `start`. The
+/// status is else that of the first fault of the first faulty item, whose index is `faulty`, in the
+/// order of the statuses from `ItemsOverlap` on; those from `UnevenShape` on count only where no
+/// item has one of those before. `OutOfMemory` where a copy of the items is refused.
+#[unsafe(no_mangle)]
+pub extern "C" fn linker_utils_items_relaxable_nonnull(
+    alloc: Global,
+    items: &[ItemNumbers],
+    start: u64,
+    faulty: &mut usize,
+) -> u32
+    ensures outcome { (result ≡ code Status.OutOfMemory)
+        ⊎ ((result ≡ code Status.Success) × AreItems start (items_in items.now))
+        ⊎ IsRunFault start (items_in items.now) faulty.new result }
+    ensures faulty_stays { (result ≡ code Status.Success) ⊎ (result ≡ code Status.OutOfMemory)
+        → faulty.new ≡ faulty.old }
+{
+    let Ok(items) = items_of(alloc, items) else {
+        return Status::OutOfMemory.number();
+    };
+    match first_faulty(&items, start) {
+        None => Status::Success.number(),
+        Some(found) => {
+            *faulty = found.index;
+            status_of(found.fault)
+        }
+    }
+}
+
+/// Chooses a shape for each item that is a site, and says what stays of each item, as `relax_into`.
+///
+/// `shapes` and `kept` have an element for each item: the index of the shape that a site has, and
+/// how many of the item's bytes stay. `freed` has one more: how many bytes those before each item
+/// free, and at the end how many all do. `places` is room for the work, with an element for each
+/// item.
+///
+/// The first that applies of `DifferentLengths`, where an array has another length; `OutOfMemory`,
+/// where a copy of the items is refused; and those of `linker_utils_items_relaxable`, of the item at
+/// `faulty`. The arrays are unchanged then. `faulty` changes only with a status that is about an
+/// item.
+#[unsafe(no_mangle)]
+pub extern "C" fn linker_utils_relax_nonnull(
+    alloc: Global,
+    items: &[ItemNumbers],
+    start: u64,
+    shapes: &mut [u8],
+    kept: &mut [u64],
+    places: &mut [usize],
+    freed: &mut [u64],
+    faulty: &mut usize,
+) -> u32
+    ensures different_lengths { (result ≡ code Status.DifferentLengths)
+        ↔ ¬ HaveLengths (length items.now) (length shapes.old) (length kept.old)
+        (length places.old) (length freed.old) }
+    ensures outcome { (result ≡ code Status.DifferentLengths)
+        ⊎ (result ≡ code Status.OutOfMemory)
+        ⊎ ((result ≡ code Status.Success) × AreItems start (items_in items.now)
+        × IsRelaxation start (items_in items.now) shapes.new kept.new freed.new)
+        ⊎ IsRunFault start (items_in items.now) faulty.new result }
+    ensures unchanged { result ≢ code Status.Success → (shapes.new ≡ shapes.old)
+        × (kept.new ≡ kept.old) × (places.new ≡ places.old) × (freed.new ≡ freed.old) }
+    ensures faulty_stays { (result ≡ code Status.Success) ⊎ (result ≡ code Status.OutOfMemory)
+        ⊎ (result ≡ code Status.DifferentLengths) → faulty.new ≡ faulty.old }
+{
+    if !have_lengths(
+        items.len(),
+        shapes.len(),
+        kept.len(),
+        places.len(),
+        freed.len(),
+    ) {
+        return Status::DifferentLengths.number();
+    }
+    let Ok(items) = items_of(alloc, items) else {
+        return Status::OutOfMemory.number();
+    };
+    match first_faulty(&items, start) {
+        None => {
+            relax_into(&items, start, shapes, kept, places, freed);
+            Status::Success.number()
+        }
+        Some(found) => {
+            *faulty = found.index;
+            status_of(found.fault)
+        }
+    }
+}
+
+#[inline]
+fn have_lengths(len: usize, shapes: usize, kept: usize, places: usize, freed: usize) -> bool
+    ensures { IsTrue result ↔ HaveLengths len shapes kept places freed }
+{
+    shapes == len && kept == len && places == len && freed > 0 && freed - 1 == len
+}
+
+/// Writes the deltas of what a run loses where so many bytes of each item stay: one for each item
+/// that loses some. `len` is how many there are, and the elements of `deltas` from there on are
+/// unchanged.
+///
+/// The error is `DifferentLengths`, where `kept` or `deltas` has not as many elements as there are
+/// items. Nothing is written then. What is written is promised of items in order, as those of a run
+/// that `linker_utils_items_relaxable` accepts are.
+#[unsafe(no_mangle)]
+pub extern "C" fn linker_utils_run_deltas_nonnull(
+    items: &[ItemNumbers],
+    kept: &[u64],
+    deltas: &mut [RelaxDelta],
+    len: &mut usize,
+) -> u32
+    ensures known { (result ≡ code Status.Success) ⊎ (result ≡ code Status.DifferentLengths) }
+    ensures different_lengths { (result ≡ code Status.DifferentLengths)
+        ↔ ¬ ((length kept.now ≡ length items.now) × (length deltas.old ≡ length items.now)) }
+    ensures count { result ≡ code Status.Success
+        → len.new ≡ length (deletions_of_run (items_in items.now) kept.now) }
+    ensures deleted { result ≡ code Status.Success → (start : ℕ)
+        → AreInOrder start (items_in items.now)
+        → AreDeltasOf (deletions_of_run (items_in items.now) kept.now) (take len.new deltas.new) }
+    ensures others_stay { result ≡ code Status.Success → (k : ℕ) (delta : RelaxDelta)
+        → len.new ≤ k → slice_index_or deltas.new k delta ≡ slice_index_or deltas.old k delta }
+    ensures unchanged { result ≢ code Status.Success
+        → (deltas.new ≡ deltas.old) × (len.new ≡ len.old) }
+{
+    if kept.len() != items.len() || deltas.len() != items.len() {
+        return Status::DifferentLengths.number();
+    }
+    *len = write_deltas(items, kept, deltas);
+    Status::Success.number()
+}
+
+/// The delta of an item of which so many bytes stay, behind deletions of so many bytes.
+#[inline(always)]
+fn delta_of(item: &ItemNumbers, stay: u64, before: u64) -> RelaxDelta
+    requires { stay < item.now.len }
+    ensures place { item.now.offset + item.now.len < 2 ^ 64
+        → result.input_offset ≡ item.now.offset + stay }
+    ensures bytes { result.bytes_deleted ≡ item.now.len - stay }
+    ensures sum { before + (item.now.len - stay) < 2 ^ 64
+        → result.cumulative_deleted ≡ before + (item.now.len - stay) }
+{
+    let bytes_deleted = item.len - stay as u32;
+    RelaxDelta {
+        input_offset: item.offset.saturating_add(stay),
+        cumulative_deleted: before.saturating_add(u64::from(bytes_deleted)),
+        bytes_deleted,
+    }
+}
+
+fn write_deltas(items: &[ItemNumbers], kept: &[u64], deltas: &mut [RelaxDelta]) -> usize
+    requires kept { length kept.now ≡ length items.now }
+    requires deltas { length deltas.old ≡ length items.now }
+    ensures count { result ≡ length (deletions_of_run (items_in items.now) kept.now) }
+    ensures deleted { (start : ℕ) → AreInOrder start (items_in items.now)
+        → AreDeltasOf (deletions_of_run (items_in items.now) kept.now) (take result deltas.new) }
+    ensures others_stay { (k : ℕ) (delta : RelaxDelta) → result ≤ k
+        → slice_index_or deltas.new k delta ≡ slice_index_or deltas.old k delta }
+{
+    let mut cumulative_deleted = 0;
+    let mut count = 0;
+    for index in 0..items.len() {
+        let item = &items[index];
+        let stay = kept[index];
+        if stay < u64::from(item.len) {
+            let delta = delta_of(item, stay, cumulative_deleted);
+            cumulative_deleted = delta.cumulative_deleted;
+            deltas[count] = delta;
+            count += 1;
+        }
+    }
+    count
+}

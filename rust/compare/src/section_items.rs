@@ -1,0 +1,169 @@
+// Made by tools/erase of crates/linker_utils_c/src/section_items.rt.
+//! The items that a section's relocations make, in arrays of the caller's.
+
+use crate::support::*;
+use crate::relaxing::ItemNumbers;
+use crate::status::Status;
+use linker_utils::runs::relaxation::Item;
+use linker_utils::runs::shapes::fixed;
+use linker_utils::runs::items::{ItemsError, Relocation};
+use linker_utils::runs::{loongarch64, riscv64};
+use linker_utils::relaxation::OutOfMemory;
+
+/// A relocation of a section, and what it refers to in a run.
+#[repr(C)]
+#[derive(Clone, Copy)]
+pub struct SectionRelocation {
+    /// Its place, `r_offset`: an offset in the section.
+    pub offset: u64,
+    /// The input offset in the run that it refers to: S + A, or the PLT entry.
+    pub target: u64,
+    /// Its addend, `r_addend`.
+    pub addend: i64,
+    /// Its type.
+    pub r_type: u32,
+    /// Whether it has a symbol: `r_sym` isn't 0.
+    pub has_symbol: u8,
+    /// Whether `target` counts. 0 where what it refers to isn't in the run, or where the
+    /// instructions are to stay as they are.
+    pub has_target: u8,
+}
+
+impl SectionRelocation {
+    #[inline(always)]
+    fn relocation(&self) -> Relocation {
+        Relocation {
+            offset: self.offset,
+            code: self.r_type,
+            has_symbol: self.has_symbol != 0,
+            addend: self.addend,
+            target: if self.has_target != 0 {
+                Some(self.target)
+            } else {
+                None
+            },
+        }
+    }
+}
+
+/// The relocations that C's structs are.
+fn relocations_of(
+    relocations: &[SectionRelocation],
+) -> Result<Vec<Relocation>, OutOfMemory> {
+    let mut made = Vec::fallible_with_capacity(relocations.len())?;
+    for numbers in relocations {
+        made.push_reserved(numbers.relocation());
+    }
+    Ok(made)
+}
+
+#[inline]
+fn numbers_of(item: &Item) -> ItemNumbers {
+    match item {
+        Item::Site(site) => ItemNumbers {
+            offset: site.offset,
+            target: site.target,
+            power: 0,
+            most: 0,
+            len: site.len,
+            kind: 0,
+            shapes: site.shapes,
+        },
+        Item::Aligned(alignment) => ItemNumbers {
+            offset: alignment.offset,
+            target: 0,
+            power: alignment.power,
+            most: match alignment.most {
+                None => 0,
+                Some(most) => most,
+            },
+            len: alignment.nops,
+            kind: match alignment.most {
+                None => 1,
+                Some(_) => 2,
+            },
+            shapes: fixed(0),
+        },
+    }
+}
+
+fn write_items(made: &[Item], items: &mut [ItemNumbers]) {
+    for index in 0..made.len() {
+        items[index] = numbers_of(&made[index]);
+    }
+}
+
+/// Writes the items that were made, or says why none were.
+fn put(
+    made: Result<Vec<Item>, ItemsError>,
+    items: &mut [ItemNumbers],
+    len: &mut usize,
+    faulty: &mut usize,
+) -> u32 {
+    match made {
+        Ok(made) => {
+            write_items(&made, items);
+            *len = made.len();
+            Status::Success.number()
+        }
+        Err(ItemsError::Malformed(index)) => {
+            *faulty = index;
+            Status::MalformedRelocation.number()
+        }
+        Err(ItemsError::OutOfMemory) => Status::OutOfMemory.number(),
+    }
+}
+
+/// Writes the items that the relocations of a RISC-V section make, as `riscv64::items`. The section
+/// begins at the input offset `base` of the run. `c_extension` says whether the C extension may be
+/// used.
+///
+/// `items` has as many elements as there are relocations, since each makes one item at most. `len`
+/// is how many there are, and the elements from there on are unchanged. The first that applies of
+/// `DifferentLengths`; `EndsTooHigh`, where `base` and the section's length add up to 2^64 or more;
+/// and `OutOfMemory`, where a copy of the relocations or of the items is refused, or
+/// `MalformedRelocation`, of the relocation at `faulty`. Nothing is written then.
+pub fn linker_utils_riscv_items_nonnull(
+    section: &[u8],
+    base: u64,
+    relocations: &[SectionRelocation],
+    c_extension: bool,
+    items: &mut [ItemNumbers],
+    len: &mut usize,
+    faulty: &mut usize,
+) -> u32 {
+    if items.len() != relocations.len() {
+        return Status::DifferentLengths.number();
+    }
+    if section.len() as u64 > u64::MAX - base {
+        return Status::EndsTooHigh.number();
+    }
+    let Ok(relocations) = relocations_of(relocations) else {
+        return Status::OutOfMemory.number();
+    };
+    let made = riscv64::items(section, base, &relocations, c_extension);
+    put(made, items, len, faulty)
+}
+
+/// Writes the items that the relocations of a LoongArch section make, as `loongarch64::items`. What
+/// is written and the statuses are as those of `linker_utils_riscv_items`.
+pub fn linker_utils_loongarch_items_nonnull(
+    section: &[u8],
+    base: u64,
+    relocations: &[SectionRelocation],
+    items: &mut [ItemNumbers],
+    len: &mut usize,
+    faulty: &mut usize,
+) -> u32 {
+    if items.len() != relocations.len() {
+        return Status::DifferentLengths.number();
+    }
+    if section.len() as u64 > u64::MAX - base {
+        return Status::EndsTooHigh.number();
+    }
+    let Ok(relocations) = relocations_of(relocations) else {
+        return Status::OutOfMemory.number();
+    };
+    let made = loongarch64::items(section, base, &relocations);
+    put(made, items, len, faulty)
+}

@@ -1,0 +1,62 @@
+// Made by tools/erase of crates/linker_relax/src/relaxation/passes.rt.
+//! Passes over a run: the places of targets, a layout, and one round.
+
+use super::Item;
+
+/// How many items end at or below an offset.
+pub(super) fn place_of(items: &[Item], offset: u64, start: u64) -> usize {
+    items.partition_point(|item| item.ends_by(offset))
+}
+
+/// For each item the place of its target.
+pub(super) fn find_places(items: &[Item], start: u64, places: &mut [usize]) {
+    for index in 0..items.len() {
+        places[index] = place_of(items, items[index].target(), start);
+    }
+}
+
+/// Gives each item its shortest shape.
+pub(super) fn shorten(shapes: &mut [u8]) {
+    for shape in shapes.iter_mut() {
+        *shape = 0;
+    }
+}
+
+/// For each item how many bytes those before it free, and at the end how many all do.
+pub(super) fn lay_out(items: &[Item], start: u64, shapes: &[u8], freed: &mut [u64]) {
+    let mut before = 0;
+    for index in 0..items.len() {
+        let item = &items[index];
+        freed[index] = before;
+        before += item.len() - item.kept_by(start, shapes[index], before);
+    }
+    freed[items.len()] = before;
+}
+
+/// For each item how many of its bytes stay.
+pub(super) fn keep(items: &[Item], start: u64, shapes: &[u8], freed: &[u64], kept: &mut [u64]) {
+    for index in 0..items.len() {
+        kept[index] = items[index].kept_by(start, shapes[index], freed[index]);
+    }
+}
+
+/// Gives each site that is out of reach its next shape. Whether there is one.
+pub(super) fn lengthen(
+    items: &[Item],
+    start: u64,
+    places: &[usize],
+    freed: &[u64],
+    shapes: &mut [u8],
+) -> bool {
+    let mut longer = false;
+    for index in 0..items.len() {
+        let here = freed[index];
+        let there = freed[places[index]];
+        let shape = shapes[index];
+        if !items[index].reaches(shape, here, there) {
+            shapes[index] = shape + 1;
+            longer = true;
+        }
+    }
+    longer
+}

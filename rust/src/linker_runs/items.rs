@@ -1,0 +1,59 @@
+// Made by tools/erase of crates/linker_runs/src/items.rt.
+//! Relocations of a section, and why no items are made of them.
+
+use crate::support::*;
+/// A relocation of a section.
+#[derive(Debug, Clone, Copy, PartialEq, Eq, Hash)]
+pub struct Relocation {
+    /// Its place, `r_offset`: an offset in the section.
+    pub offset: u64,
+    /// Its code, `r_type` in ELF files.
+    pub code: u32,
+    /// Whether it has a symbol: `r_sym` isn't 0.
+    pub has_symbol: bool,
+    /// Its addend, `r_addend`.
+    pub addend: i64,
+    /// The input offset in the run that it refers to: S + A, or the PLT entry. None where that isn't
+    /// in the run, or where the linker wants the instructions to stay as they are.
+    pub target: Option<u64>,
+}
+
+/// Why no items are made of relocations.
+#[derive(Debug, Clone, Copy, PartialEq, Eq, Hash)]
+pub enum ItemsError {
+    /// Out of memory for the items.
+    OutOfMemory,
+    /// The index of the first relocation that isn't what the psABI allows.
+    Malformed(usize),
+}
+
+impl From<AllocError> for ItemsError {
+    fn from(_error: AllocError) -> ItemsError {
+        ItemsError::OutOfMemory
+    }
+}
+
+impl<T> From<AllocFailed<T>> for ItemsError {
+    fn from(_error: AllocFailed<T>) -> ItemsError {
+        ItemsError::OutOfMemory
+    }
+}
+
+/// A relocation that the psABI doesn't allow.
+#[derive(Debug, Clone, Copy, PartialEq, Eq)]
+pub(crate) struct NotAllowed;
+
+/// Whether so many bytes from an offset on lie in the section.
+#[inline(always)]
+pub(crate) fn has_bytes(section: &[u8], offset: u64, len: u64) -> bool {
+    let section_len = section.len() as u64;
+    offset <= section_len && len <= section_len - offset
+}
+
+/// Whether the relocation behind the one at an index has a code and is at the same place.
+#[inline(always)]
+pub(crate) fn is_marked(relocations: &[Relocation], index: usize, code: u32) -> bool {
+    index + 1 < relocations.len()
+        && relocations[index + 1].code == code
+        && relocations[index + 1].offset == relocations[index].offset
+}

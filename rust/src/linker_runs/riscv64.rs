@@ -1,0 +1,167 @@
+// Made by tools/erase of crates/linker_runs/src/riscv64.rt.
+//! RISC-V: the items that relocations make.
+
+use alloc::vec::Vec;
+use crate::support::*;
+use crate::linker_runs::items::{ItemsError, NotAllowed, Relocation, has_bytes, is_marked};
+use crate::linker_relax::relaxation::{Alignment, Item, Shapes, Site};
+use crate::linker_relax::shapes::riscv64::{CALL, CALL_WITHOUT_C, TAIL_C};
+use crate::riscv64::{LinkRegister, RiscVRelocation};
+
+/// Whether a relocation has a name.
+#[inline(always)]
+fn has_name(relocation: &Relocation, name: RiscVRelocation) -> bool {
+    relocation.code == name.elf_code()
+}
+
+/// Whether a relocation is that of a call.
+#[inline(always)]
+fn is_of_call(relocation: &Relocation) -> bool {
+    has_name(relocation, RiscVRelocation::R_RISCV_CALL)
+        || has_name(relocation, RiscVRelocation::R_RISCV_CALL_PLT)
+}
+
+/// How many bytes of nops an `R_RISCV_ALIGN` has. None where they are not whole nops in the section.
+#[inline]
+fn nops_of(section: &[u8], relocation: &Relocation, c_extension: bool) -> Option<u32> {
+    if relocation.addend < 0 || relocation.addend > i64::from(u32::MAX) {
+        return None;
+    }
+    let nops = relocation.addend as u32;
+    let nop_len = if c_extension { 2 } else { 4 };
+    if nops % nop_len == 0 && has_bytes(section, relocation.offset, u64::from(nops)) {
+        Some(nops)
+    } else {
+        None
+    }
+}
+
+/// The alignment of an `R_RISCV_ALIGN` with so many bytes of nops.
+#[inline]
+fn alignment_of(nops: u32, offset: u64) -> Alignment {
+    Alignment {
+        offset,
+        nops,
+        power: (u64::from(nops) + 1).next_power_of_two(),
+        most: None,
+    }
+}
+
+/// The register that the call at an offset links. None where no call is there.
+#[inline]
+fn link_at(section: &[u8], offset: u64) -> Option<u32> {
+    let base = LinkRegister::OfAuipc.named_at(section, offset)?;
+    if base == 0 {
+        return None;
+    }
+    LinkRegister::OfJalr.named_at(section, offset)
+}
+
+/// What a call can become that links a register.
+#[inline]
+fn shapes_of(link: u32, c_extension: bool) -> Shapes {
+    if !c_extension {
+        CALL_WITHOUT_C
+    } else if link == 0 {
+        TAIL_C
+    } else {
+        CALL
+    }
+}
+
+/// The site of a call's relocation, if it may be relaxed.
+#[inline]
+fn site_at(
+    section: &[u8],
+    base: u64,
+    relocations: &[Relocation],
+    index: usize,
+    c_extension: bool,
+) -> Option<Site> {
+    let relocation = &relocations[index];
+    if !is_marked(
+        relocations,
+        index,
+        RiscVRelocation::R_RISCV_RELAX.elf_code(),
+    ) {
+        return None;
+    }
+    let target = relocation.target?;
+    let link = link_at(section, relocation.offset)?;
+    Some(Site {
+        offset: base + relocation.offset,
+        len: 8,
+        target,
+        shapes: shapes_of(link, c_extension),
+    })
+}
+
+/// The item that the relocation at an index makes, if it makes one.
+#[inline]
+fn item_at(
+    section: &[u8],
+    base: u64,
+    relocations: &[Relocation],
+    index: usize,
+    c_extension: bool,
+) -> Result<Option<Item>, NotAllowed> {
+    let relocation = &relocations[index];
+    if !has_bytes(section, relocation.offset, 0) {
+        return Err(NotAllowed);
+    }
+    if is_of_call(relocation) {
+        if !has_bytes(section, relocation.offset, 8) {
+            return Err(NotAllowed);
+        }
+        match site_at(section, base, relocations, index, c_extension) {
+            Some(site) => Ok(Some(Item::Site(site))),
+            None => Ok(None),
+        }
+    } else if has_name(relocation, RiscVRelocation::R_RISCV_ALIGN) {
+        match nops_of(section, relocation, c_extension) {
+            None => Err(NotAllowed),
+            Some(0) => Ok(None),
+            Some(nops) => Ok(Some(Item::Aligned(alignment_of(nops, base + relocation.offset)))),
+        }
+    } else {
+        Ok(None)
+    }
+}
+
+/// The items that the relocations of a section make, in the relocations' order. The section begins at
+/// the input offset `base` of the run. The other relocations make none.
+///
+/// `R_RISCV_CALL` and `R_RISCV_CALL_PLT` make a site where `R_RISCV_RELAX` is the next relocation, at
+/// the same offset, the target is in the run, and the bytes are `auipc` and `jalr` of one register. Its
+/// shapes are `TAIL_C` where the `jalr` links x0, and else `CALL`; `CALL_WITHOUT_C` for both where the
+/// C extension may not be used. `R_RISCV_ALIGN` makes an alignment, if there are nops: the addend is
+/// how many bytes they have, and the next power of two above it what they align to (RISC-V ELF psABI,
+/// "Linker Relaxation").
+///
+/// `Malformed` names the first relocation that lies behind the section's end, that is a call's and
+/// less than eight bytes are there, or that is an `R_RISCV_ALIGN` whose addend isn't a number of whole
+/// nops in the section below 2^32: multiples of 2, or of 4 where the C extension may not be used. The
+/// vector grows as items are added. `are_items` tells whether the run can be relaxed.
+///
+/// # Requires
+///
+/// - `(base as u128) + (section.len() as u128) < 1 << 64`
+#[cfg_attr(debug_assertions, track_caller)]
+pub fn items(
+    section: &[u8],
+    base: u64,
+    relocations: &[Relocation],
+    c_extension: bool,
+) -> Result<Vec<Item>, ItemsError> {
+    debug_assert!((base as u128) + (section.len() as u128) < 1 << 64);
+    let mut items = Vec::new();
+    for index in 0..relocations.len() {
+        let Ok(made) = item_at(section, base, relocations, index, c_extension) else {
+            return Err(ItemsError::Malformed(index));
+        };
+        if let Some(item) = made {
+            items.fallible_push(item)?;
+        }
+    }
+    Ok(items)
+}
