@@ -31,15 +31,17 @@ static const char *text_at(const struct object *o, uint64_t table, uint64_t at) 
 
 /* Leaves out the sections of a group that an earlier object has too. */
 static void read_group(struct object *o, const Elf64_Shdr *head, const char *section) {
-    size_t len, symbols_len;
+    size_t len;
     Elf64_Shdr group = *head, table = {.sh_entsize = 0};
     group.sh_entsize = sizeof(Elf32_Word);
     const Elf32_Word *words = copy_table(o, &group, sizeof *words, &len);
     if (head->sh_link < o->sections_len) table = o->heads[head->sh_link];
     if (table.sh_type != SHT_SYMTAB || head->sh_info >= table.sh_size / sizeof(Elf64_Sym) || !len)
         fail("%s: %s: a group without its symbol", o->path, section);
-    const Elf64_Sym *symbol = copy_table(o, &table, sizeof *symbol, &symbols_len);
-    const char *name = text_at(o, table.sh_link, symbol[head->sh_info].st_name);
+    Elf64_Sym symbol;
+    uint64_t at = table.sh_offset + head->sh_info * sizeof symbol;
+    memcpy(&symbol, bytes_at(o, at, sizeof symbol), sizeof symbol);
+    const char *name = text_at(o, table.sh_link, symbol.st_name);
     bool is_kept = !(words[0] & GRP_COMDAT) || is_first_group(name);
     for (size_t i = 1; i < len; i++) {
         if (words[i] >= o->sections_len)
