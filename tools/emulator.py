@@ -17,24 +17,25 @@ PAGE = 1 << 14               # of the emulated processors, at most
 HEAD = 1 << 16               # the bytes in front of them in the program's file
 
 
-class Processor:
-    """One processor, and a copy of its random memory. Code goes to a new page each time, since
-    qemu lets GDB write no page that was executed."""
+class Emulator:
+    """A processor whose memory is the given segments: ascending addresses, lengths, and the first
+    bytes of each, where the others are 0."""
 
-    def __init__(self, program, cpu, machine, flags, pc):
+    def __init__(self, program, cpu, machine, flags, pc, segments):
         """`program` is qemu's; `machine` and `flags` are those of the ELF header; `pc` is the
         number that GDB gives the program counter."""
         self.pc = pc
-        self.memory = bytearray(random.Random(1).randbytes(RANDOM))
-        self.pages = iter(range(CODE, BASE + SIZE, PAGE))
-        self.pages_amid_data = iter(range(BASE + (2 << 20), ZERO - (2 << 20), PAGE))
         self.folder = tempfile.TemporaryDirectory()
         file = f"{self.folder.name}/program"
-        header = struct.pack("<16sHHIQQQIHHHHHH", b"\x7fELF\2\1\1", 2, machine, 1, BASE, 64, 0,
-                             flags, 64, 56, 1, 0, 0, 0)
-        segment = struct.pack("<IIQQQQQQ", 1, 7, HEAD, BASE, BASE, RANDOM, SIZE, HEAD)
+        headers = struct.pack("<16sHHIQQQIHHHHHH", b"\x7fELF\2\1\1", 2, machine, 1, segments[0][0],
+                              64, 0, flags, 64, 56, len(segments), 0, 0, 0)
+        contents = b""
+        for address, length, first in segments:
+            headers += struct.pack("<IIQQQQQQ", 1, 7, HEAD + len(contents), address, address,
+                                   len(first), length, HEAD)
+            contents += first
         with open(file, "wb") as out:
-            out.write((header + segment).ljust(HEAD, b"\0") + self.memory)
+            out.write(headers.ljust(HEAD, b"\0") + contents)
         os.chmod(file, 0o755)
         path = f"{self.folder.name}/gdb"
         self.qemu = subprocess.Popen([program, "-cpu", cpu, "-g", path, file],
@@ -79,8 +80,6 @@ class Processor:
     def write(self, address, data):
         if self.ask(f"M{address:x},{len(data):x}:{data.hex()}") != "OK":
             raise ValueError(f"write at {address:#x}")
-        if address < ZERO:
-            self.memory[address - BASE:address - BASE + len(data)] = data
 
     def read(self, address, length):
         parts = [bytes.fromhex(self.ask(f"m{at:x},{min(1024, address + length - at):x}"))
@@ -98,6 +97,22 @@ class Processor:
             answer = self.ask("s")
             if not answer.startswith("T05"):
                 raise ValueError(f"{code.hex()} stopped with {answer}")
+
+
+class Processor(Emulator):
+    """One processor, and a copy of its random memory. Code goes to a new page each time, since
+    qemu lets GDB write no page that was executed."""
+
+    def __init__(self, *processor):
+        self.memory = bytearray(random.Random(1).randbytes(RANDOM))
+        self.pages = iter(range(CODE, BASE + SIZE, PAGE))
+        self.pages_amid_data = iter(range(BASE + (2 << 20), ZERO - (2 << 20), PAGE))
+        super().__init__(*processor, [(BASE, SIZE, self.memory)])
+
+    def write(self, address, data):
+        super().write(address, data)
+        if address < ZERO:
+            self.memory[address - BASE:address - BASE + len(data)] = data
 
     def places_of(self, data, around, reach):
         """How far from an address the random part of the memory has these bytes: a set."""

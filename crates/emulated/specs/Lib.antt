@@ -2,7 +2,11 @@ pub mod AArch64Executed
 pub mod AArch64Steps
 pub mod AArch64Table
 pub mod Emulated
+pub mod LoongArchExecuted
+pub mod LoongArchSteps
 pub mod LoongArchTable
+pub mod Ppc64Executed
+pub mod Ppc64Steps
 pub mod Ppc64Table
 pub mod RiscVExecuted
 pub mod RiscVSteps

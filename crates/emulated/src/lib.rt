@@ -7,7 +7,9 @@
 
 ghost use Rattle.emulated.specs.AArch64Executed as aarch64_executed;
 ghost use Rattle.emulated.specs.AArch64Table as aarch64_table;
+ghost use Rattle.emulated.specs.LoongArchExecuted as loongarch_executed;
 ghost use Rattle.emulated.specs.LoongArchTable as loongarch_table;
+ghost use Rattle.emulated.specs.Ppc64Executed as ppc64_executed;
 ghost use Rattle.emulated.specs.Ppc64Table as ppc64_table;
 ghost use Rattle.emulated.specs.RiscVExecuted as riscv_executed;
 ghost use Rattle.emulated.specs.RiscVTable as riscv_table;
@@ -29,15 +31,18 @@ pub fn riscv64()
 {}
 
 /// LoongArch: immediates of 20, 16 and 12 bits, branches, `pcaddu18i` with `jirl`, numbers by two to
-/// four instructions, and addresses by two and by five.
+/// four instructions, and addresses by two and by five; and what the instructions of `rewrite_laws` do.
 pub fn loongarch64()
     ensures agrees { loongarch_table.Agrees }
+    ensures steps { loongarch_executed.Agrees }
 {}
 
 /// PowerPC64: displacements, also those in units of 4 and 16 bytes, branches, `paddi`, and `addis`
-/// with `addi` or `ori`.
+/// with `addi` or `ori`; and what the instructions of `rewrite_laws` do, but for `stfs` of a number
+/// that is too small for single precision.
 pub fn ppc64()
     ensures agrees { ppc64_table.Agrees }
+    ensures steps { ppc64_executed.Agrees }
 {}
 
 /// x86-64: what the instructions of `rewrite_laws` do.

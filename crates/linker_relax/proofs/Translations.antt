@@ -8,7 +8,7 @@ use Rattle.linker_base.proofs.Rank.{removed, removed_by, rank-removed}
 use Rattle.linker_relax.specs.declared.relaxation.Item.{Item}
 use Rattle.linker_relax.specs.declared.relaxation.Item.TheVariants.{Site, Aligned}
 use Rattle.linker_relax.specs.Relaxing.{offset_of, len_of, end_of, target_of, item_at, kept_by, freed_before, place_of, choice_of, AreInOrder}
-use Rattle.linker_relax.specs.Choosing.{least_len, run_unit}
+use Rattle.linker_relax.specs.Choosing.{least_len, run_unit, AreItems}
 use Rattle.linker_relax.specs.Inner.Validity.{ItemSuits}
 use Rattle.linker_relax.proofs.Units.{item_suits}
 use Rattle.linker_relax.specs.Deleting.{deletion_at, deletions_before, TranslationsAreExact}
@@ -94,11 +94,12 @@ offsets_ascend start items order i j up within =
     let apart = order.apart (j - 1) (omega arith) in
     omega arith
 
-pub translations_exact : TranslationsAreExact
-translations_exact start items shapes kept freed are is i within =
-    let choice = choice_of shapes in
+-- the same of any choice
+pub translations_of : (start : ℕ) (items : List Item) (choice : ℕ → ℕ) (kept : List ℕ) → AreItems start items → KeepsLayout start items choice kept → (i : ℕ) → i < length items
+    → (rank (deletions_before items kept (length items)) (offset_of (item_at items i)) ≡ offset_of (item_at items i) - freed_before start items choice i)
+    × (rank (deletions_before items kept (length items)) (target_of (item_at items i)) ≡ target_of (item_at items i) - freed_before start items choice (place_of items (target_of (item_at items i))))
+translations_of start items choice kept are keeps i within =
     let order = are.in_order in
-    let keeps : KeepsLayout start items choice kept = is.kept_bytes.each in
     let target = target_of (item_at items i) in
     let place = place_is start items order target in (
       translated start items choice kept order keeps (offset_of (item_at items i)) i (omega arith)
@@ -116,3 +117,6 @@ translations_exact start items shapes kept freed are is i within =
           (λ (ended : end_of (item_at items j) ≤ target). let o = place.others j h there in absurd (omega arith))
           (are.clear i j within there)),
     )
+
+pub translations_exact : TranslationsAreExact
+translations_exact start items shapes kept freed are is i within = translations_of start items (choice_of shapes) kept are is.kept_bytes.each i within

@@ -5,10 +5,12 @@ use Rattle.emulated.specs.LoongArchTable.{shift5_words, shift10_words, low12_wor
 use Rattle.emulated.specs.LoongArchTable.{branch26_words, call36_words}
 use Rattle.emulated.specs.LoongArchTable.{reach_words, parts_words, address_words}
 use Rattle.emulated.specs.LoongArchTable.{upper_words, four_words, near_words}
+use Rattle.emulated.specs.LoongArchSteps.{loongarch_groups}
 use Rattle.emulated.proofs.loongarch64.Goals as goal
 
 pub returns : goal.returns
-unfolding place_sum shift5_words shift10_words low12_words branch21_words branch26_words call36_words reach_words parts_words upper_words four_words near_words address_words
+unfolding place_sum shift5_words shift10_words low12_words branch21_words branch26_words call36_words reach_words parts_words upper_words four_words near_words address_words loongarch_groups
 returns c = record {
   agrees = (refl, refl, refl, refl, refl, refl, refl, refl, refl, refl, refl, refl);
+  steps = refl;
 }

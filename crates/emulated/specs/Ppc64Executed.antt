@@ -1,0 +1,77 @@
+-- PowerPC64: the instructions of `rewrite_laws` compared with an emulator. Registers 32 to 63 are those
+-- of floating-point numbers, and 64 is the link register.
+use Rattle.std.specs.Prelude.{ℕ, ◌≡◌, ◌+◌, ◌-◌, ◌*◌, ◌/◌, ◌%◌, ◌^◌, ◌==◌, nat_lt, if◌then◌else◌}
+use Rattle.std.specs.Prelude.{Bool, true, false, Option, Some, None, length}
+use Rattle.std.specs.List.{list_all}
+use Rattle.std.specs.Int.{w32, w64, from_le_bytes, leading_zeros}
+use Rattle.linker_base.specs.Bits.{field}
+use Rattle.rewrite_laws.specs.Ppc64Machine.{State, Formats, step, step_prefixed}
+use Rattle.emulated.specs.Steps.{Executed, Group, number_in, byte_in, is_left}
+use Rattle.emulated.specs.Ppc64Steps.{ppc64_groups}
+
+-- ---- single and double precision
+
+-- A number of 64 bits, by its sign, its biased exponent and 52 bits of its fraction
+abbrev pub double : ℕ → ℕ → ℕ → ℕ
+double sign exponent fraction = sign * 2 ^ 63 + exponent * 2 ^ 52 + fraction
+
+-- A denormal number of single precision, less its sign, is its fraction in units of 2^-149. In double
+-- precision the fraction's highest 1 becomes the one that isn't written.
+abbrev pub normal : ℕ → ℕ → ℕ
+normal sign fraction =
+    let top = 63 - leading_zeros w64 fraction in
+    double sign (874 + top) ((fraction - 2 ^ top) * 2 ^ (52 - top))
+
+-- "Floating-Point Load Instructions": the same number in double precision; of an infinity or a NaN, the
+-- same bits of the fraction.
+abbrev pub widened : ℕ → ℕ
+widened single =
+    let sign = single / 2 ^ 31 in
+    let exponent = field single 23 31 in
+    let fraction = field single 0 23 in
+    if exponent == 255 then double sign 2047 (fraction * 2 ^ 29) else (
+    if nat_lt 0 exponent then double sign (896 + exponent) (fraction * 2 ^ 29) else (
+    if fraction == 0 then double sign 0 0 else normal sign fraction))
+
+-- "Floating-Point Store Instructions": some of the bits, and a denormal number where the exponent is one
+-- of those. Of a number that is smaller still the manual says nothing.
+abbrev pub narrowed : ℕ → ℕ
+narrowed double =
+    let exponent = field double 52 63 in
+    let significand = 2 ^ 52 + field double 0 52 in
+    if nat_lt 896 exponent then double / 2 ^ 62 * 2 ^ 30 + field double 29 59 else (
+    if nat_lt 873 exponent then double / 2 ^ 63 * 2 ^ 31 + significand / 2 ^ (926 - exponent)
+    else double / 2 ^ 63 * 2 ^ 31)
+
+abbrev pub formats : Formats
+formats = record { widened = widened; narrowed = narrowed }
+
+-- ---- what is compared
+
+abbrev pub begun : Executed → State
+begun e =
+    record {
+      registers = number_in e.before.registers;
+      floats = λ r. number_in e.before.registers (32 + r);
+      link = number_in e.before.registers 64;
+      pc = e.before.address;
+      memory = byte_in e.at e.before.memory;
+    }
+
+abbrev pub register : State → ℕ → ℕ
+register s r =
+    if nat_lt r 32 then s.registers r else (if nat_lt r 64 then s.floats (r - 32) else s.link)
+
+abbrev pub ends_so : Executed → Option State → Bool
+ends_so e None = false
+ends_so e (Some s) = is_left 65 0 e (register s) s.pc s.memory 0
+
+-- an instruction of 4 bytes, or a prefixed one of 8
+abbrev pub executed : Executed → Option State
+executed e =
+    if length e.code == 4 then step formats (from_le_bytes w32 e.code) (begun e)
+    else step_prefixed formats (from_le_bytes w64 e.code) (begun e)
+
+-- Each instruction leaves what the emulator did.
+abbrev pub Agrees : Type 0
+Agrees = list_all (λ (g : Group). list_all (λ e. ends_so e (executed e)) g.rows) ppc64_groups ≡ true

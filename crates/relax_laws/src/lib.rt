@@ -1,0 +1,21 @@
+//! Laws of relaxation that are about several crates.
+#![tactic(auto)]
+
+ghost use Rattle.std.specs.Prelude.{◌≡◌};
+ghost use Rattle.relax_laws.specs.Calls.{call_shapes, CallsAreShrunkAlike};
+
+use linker_relax::relaxation::Shapes;
+use linker_relax::shapes::riscv64::CALL;
+
+/// The shapes of a RISC-V call, of which `calls_are_shrunk_alike` speaks.
+pub fn call_shapes() -> Shapes
+    ensures { result ≡ call_shapes }
+{
+    CALL
+}
+
+/// For calls between which nothing is aligned, with earlier deletions as items of one shape, `relax`
+/// gives those their `jal` that `shrink_calls` chooses beside these deletions.
+pub fn calls_are_shrunk_alike()
+    ensures { CallsAreShrunkAlike }
+{}

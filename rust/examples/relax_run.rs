@@ -1,0 +1,100 @@
+//! Relaxes a run of sections as a linker does, and packs them: reads lines, prints lines.
+//!
+//! ```text
+//! machine riscv64 c                      or riscv64, loongarch64
+//! start ADDRESS                          the address of input offset 0
+//! section OFFSET HEXADECIMAL             a section at its input offset
+//! relocation OFFSET CODE SYMBOL ADDEND TARGET    of the section before; SYMBOL is 0 or 1,
+//!                                        TARGET an input offset, or `-` where it stays as it is
+//! alignment OFFSET NOPS POWER            one that no section has
+//! ```
+//!
+//! It prints a line `site OFFSET TARGET KEPT` or `nops OFFSET KEPT` for each item, and
+//! `packed HEXADECIMAL` for each section, or one line that says why not.
+
+use std::error::Error;
+use std::io::{self, BufRead};
+
+use linker_utils::items::Relocation;
+use linker_utils::packing::{Machine, pack_run, packed_run_len};
+use linker_utils::relaxation::{Alignment, Item, first_faulty, relax};
+use linker_utils::{loongarch64, riscv64};
+
+#[derive(Default)]
+struct Section {
+    base: u64,
+    bytes: Vec<u8>,
+    relocations: Vec<Relocation>,
+    items: Vec<Item>,
+}
+
+fn bytes_of(text: &str) -> Result<Vec<u8>, Box<dyn Error>> {
+    let pairs = text.as_bytes().chunks(2);
+    pairs.map(|pair| Ok(u8::from_str_radix(str::from_utf8(pair)?, 16)?)).collect()
+}
+
+fn main() -> Result<(), Box<dyn Error>> {
+    let (mut machine, mut c_extension, mut start) = (Machine::RiscV64, false, 0);
+    let (mut sections, mut others) = (Vec::<Section>::new(), Vec::new());
+    for line in io::stdin().lock().lines() {
+        let line = line?;
+        let words: Vec<&str> = line.split(' ').collect();
+        match words[..] {
+            ["machine", "riscv64"] => machine = Machine::RiscV64,
+            ["machine", "riscv64", "c"] => (machine, c_extension) = (Machine::RiscV64, true),
+            ["machine", "loongarch64"] => machine = Machine::LoongArch64,
+            ["start", address] => start = address.parse()?,
+            ["section", base, bytes] => sections.push(Section {
+                base: base.parse()?,
+                bytes: bytes_of(bytes)?,
+                ..Section::default()
+            }),
+            ["relocation", offset, code, symbol, addend, target] => {
+                sections.last_mut().ok_or("no section")?.relocations.push(Relocation {
+                    offset: offset.parse()?,
+                    code: code.parse()?,
+                    has_symbol: symbol == "1",
+                    addend: addend.parse()?,
+                    target: if target == "-" { None } else { Some(target.parse()?) },
+                })
+            }
+            ["alignment", offset, nops, power] => others.push(Item::Aligned(Alignment {
+                offset: offset.parse()?,
+                nops: nops.parse()?,
+                power: power.parse()?,
+                most: None,
+            })),
+            _ => return Err(format!("not a line: {line}").into()),
+        }
+    }
+    for section in &mut sections {
+        let (bytes, base, relocations) = (&section.bytes, section.base, &section.relocations);
+        section.items = match machine {
+            Machine::RiscV64 => riscv64::items(bytes, base, relocations, c_extension)?,
+            Machine::LoongArch64 => loongarch64::items(bytes, base, relocations)?,
+        };
+    }
+    let mut items: Vec<Item> = sections.iter().flat_map(|section| &section.items).copied().collect();
+    items.extend(others);
+    items.sort_by_key(Item::offset);
+    if let Some(faulty) = first_faulty(&items, start) {
+        println!("faulty {} {:?}", items[faulty.index].offset(), faulty.fault);
+        return Ok(());
+    }
+    let plan = relax(&items, start)?;
+    for (item, kept) in items.iter().zip(&plan.kept) {
+        match item {
+            Item::Site(site) => println!("site {} {} {kept}", site.offset, site.target),
+            Item::Aligned(alignment) => println!("nops {} {kept}", alignment.offset),
+        }
+    }
+    let deltas = plan.deletions.deltas();
+    for section in &sections {
+        let (bytes, base) = (&section.bytes, section.base);
+        let mut packed = vec![0; packed_run_len(bytes, base, deltas)];
+        pack_run(machine, bytes, base, deltas, start, &section.items, &mut packed)?;
+        let text: String = packed.iter().map(|byte| format!("{byte:02x}")).collect();
+        println!("packed {text}");
+    }
+    Ok(())
+}
