@@ -57,7 +57,7 @@ int main(int argc, char **argv) {
     got = own_section(".got", SHF_ALLOC | SHF_WRITE, false);
     stubs = own_section(".iplt", SHF_ALLOC | SHF_EXECINSTR, true);
     slots = own_section(".igot.plt", SHF_ALLOC | SHF_WRITE, true);
-    irelatives = own_section(".rela.iplt", SHF_ALLOC, true);
+    irelatives = own_section(".rela_iplt", SHF_ALLOC, true);
     index_of = own_section(".eh_frame_hdr", SHF_ALLOC, true);
     headers = own_section("the headers", SHF_ALLOC, true);
     frames = output_of(".eh_frame");

@@ -62,29 +62,12 @@ static void rewrite_item(struct output *o, struct relocation *r, uint64_t kept, 
     check(r, linker_utils_apply(machine, kind, 0, o->bytes, end, &offset, &r->addend));
 }
 
-/* What stays of each item where no site depends on a distance. (`linker_utils_relax` would take 1 for
- * the unit of the code then, and ask for as many nops.) */
-static bool keep(const struct linker_utils_item *items, size_t len, uint64_t *kept) {
-    uint64_t deleted = 0;
-    for (size_t i = 0; i < len; i++) {
-        const struct linker_utils_item *item = &items[i];
-        uint64_t here = item->offset - deleted;
-        kept[i] = item->kind == LINKER_UTILS_ITEM_SITE ? item->shapes.longest
-                                                       : round_up(here, item->power) - here;
-        if (item->kind == LINKER_UTILS_ITEM_LIMITED_ALIGNMENT && kept[i] > item->most) kept[i] = 0;
-        if (kept[i] > item->len || (i && item->offset - item[-1].offset < item[-1].len))
-            return false;
-        deleted += item->len - kept[i];
-    }
-    return true;
-}
-
 /* Relaxes a section as one run, and packs it. The distance of two sections changes by at most
  * `slack` from here on. */
 void shrink(struct output *o, uint64_t slack) {
     size_t all = o->relocations_len, len = 0, at = SIZE_MAX;
     struct linker_utils_section_relocation *relocations = take(all, sizeof *relocations);
-    struct linker_utils_item *items = take(all, sizeof *items);
+    struct linker_utils_item *items = take(all + 1, sizeof *items);
     for (size_t i = 0; i < all; i++) relocations[i] = seen(o, &o->relocations[i]);
     for (size_t i = 0; i < all; i++) {
         struct relocation *r = &o->relocations[i];
@@ -106,29 +89,29 @@ void shrink(struct output *o, uint64_t slack) {
     if (status && at < all) check(&o->relocations[at], status);
     if (status) fail("section %s: %s", o->name, linker_utils_status_text(status));
     struct relocation **of = take(len, sizeof *of), *r = o->relocations;
-    bool has_sites = false;
     for (size_t i = 0; i < len; i++, r++) { /* the items are in the order of the relocations */
         while (r->offset != items[i].offset || !makes_item(r)) r++;
         of[i] = r;
         if (r->is_jump) items[i].shapes = (struct linker_utils_shapes){.longest = 4};
-        has_sites |= items[i].kind == LINKER_UTILS_ITEM_SITE && items[i].shapes.count;
         if (items[i].kind != LINKER_UTILS_ITEM_SITE && items[i].power > o->align)
             fail("%s can't be satisfied", place_of(r));
     }
+    /* one more behind the section's end, which says the unit of the code where no site does */
+    uint32_t unit = machine == EM_RISCV && machine_flags & EF_RISCV_RVC ? 2 : 4;
+    items[len++] = (struct linker_utils_item){
+        .offset = o->len, .target = o->len, .len = unit, .kind = LINKER_UTILS_ITEM_SITE,
+        .shapes = {.shorter = {{.ahead = 1, .unit = unit}}, .longest = unit, .count = 1}};
     uint64_t *kept = take(len, sizeof *kept), *freed = take(len + 1, sizeof *freed);
     size_t *places = take(len, sizeof *places);
     uint8_t *shapes = take(len, 1);
     at = SIZE_MAX;
-    if (has_sites)
-        status = linker_utils_relax(items, len, o->address, shapes, len, kept, len, places, len,
-                                    freed, len + 1, &at);
-    else if (!keep(items, len, kept))
-        fail("section %s can't be relaxed", o->name);
-    if (status && at < len) check(of[at], status);
+    status = linker_utils_relax(items, len, o->address, shapes, len, kept, len, places, len, freed,
+                                len + 1, &at);
+    if (status && at < len - 1) check(of[at], status);
     o->deltas = take(len, sizeof *o->deltas);
     if (status || linker_utils_run_deltas(items, len, kept, len, o->deltas, len, &o->deltas_len))
         fail("section %s can't be relaxed", o->name);
-    for (size_t i = 0; i < len; i++)
+    for (size_t i = 0; i + 1 < len; i++)
         if (kept[i] < items[i].len)
             rewrite_item(o, of[i], kept[i], items[i].kind == LINKER_UTILS_ITEM_SITE);
     uint64_t packed_len = linker_utils_packed_len(o->bytes, o->len, o->deltas, o->deltas_len);

@@ -100,51 +100,41 @@ static void define(const char *name, struct output *output, uint64_t offset) {
     got->has_bytes |= output == got;
 }
 
-/* The last section up to a rank, or the first of it. */
-static struct output *which(bool is_first, unsigned rank) {
+/* The last section up to a rank. */
+static struct output *last(unsigned rank) {
     struct output *found = headers;
-    for (size_t i = 0; i < outputs_len && outputs[i]->rank <= rank; i++)
-        if (!is_first || found->rank != rank) found = outputs[i];
+    for (size_t i = 0; i < outputs_len && outputs[i]->rank <= rank; i++) found = outputs[i];
     return found;
 }
 
-void define_symbols(void) {
-    static const struct {
-        const char *name, *section;
-        bool is_end;
-    } ends[] = {{"__preinit_array_start", ".preinit_array", false},
-                {"__preinit_array_end", ".preinit_array", true},
-                {"__init_array_start", ".init_array", false},
-                {"__init_array_end", ".init_array", true},
-                {"__fini_array_start", ".fini_array", false},
-                {"__fini_array_end", ".fini_array", true},
-                {"__rela_iplt_start", ".rela.iplt", false},
-                {"__rela_iplt_end", ".rela.iplt", true},
-                {"__bss_start", ".bss", false}};
+/* The symbols at both ends of a section: `__init_array_start` and `__init_array_end` of
+ * `.init_array`, or `__start_NAME` and `__stop_NAME` of a section NAME. */
+static void define_end(struct output *o, bool is_end) {
     char name[300];
-    for (size_t i = 0; i < sizeof ends / sizeof *ends; i++) output_of(ends[i].section);
+    const char *text = o->name + (*o->name == '.');
+    int len = (int)strcspn(text, "."); /* without a priority */
+    snprintf(name, sizeof name, is_end ? "__%.*s_end" : "__%.*s_start", len < 200 ? len : 200, text);
+    define(name, o, is_end ? END : 0);
+    snprintf(name, sizeof name, is_end ? "__stop_%.200s" : "__start_%.200s", o->name);
+    define(name, o, is_end ? END : 0);
+}
+
+void define_symbols(void) {
+    output_of(".preinit_array"), output_of(".init_array"), output_of(".fini_array");
     if (*global("__global_pointer$")) output_of(".sdata");
+    define("__bss_start", output_of(".bss"), 0);
     sort_outputs();
-    for (size_t i = 0; i < sizeof ends / sizeof *ends; i++) {
-        struct output *o = output_of(ends[i].section); /* the last of several with priorities */
-        bool has_others = o->rank >= RANK_ARRAYS && o->rank < RANK_RELOCATED && !ends[i].is_end;
-        define(ends[i].name, has_others ? which(true, o->rank) : o, ends[i].is_end ? END : 0);
-    }
-    for (size_t i = 0; i < outputs_len; i++) {
-        snprintf(name, sizeof name, "__start_%.200s", outputs[i]->name);
-        define(name, outputs[i], 0);
-        snprintf(name, sizeof name, "__stop_%.200s", outputs[i]->name);
-        define(name, outputs[i], END);
-    }
+    for (size_t i = 0; i < outputs_len; i++) define_end(outputs[i], false); /* the first counts */
+    for (size_t i = outputs_len; i > 0; i--) define_end(outputs[i - 1], true);
     define("_GLOBAL_OFFSET_TABLE_", got, 0);
     define(".TOC.", got, 0x8000);
     if (*global("__global_pointer$")) define("__global_pointer$", output_of(".sdata"), 0x800);
-    define("_etext", which(false, RANK_CODE), END);
-    define("etext", which(false, RANK_CODE), END);
-    define("_edata", which(false, RANK_BSS - 1), END);
-    define("edata", which(false, RANK_BSS - 1), END);
-    define("_end", which(false, RANK_BSS), END);
-    define("end", which(false, RANK_BSS), END);
+    define("_etext", last(RANK_CODE), END);
+    define("etext", last(RANK_CODE), END);
+    define("_edata", last(RANK_BSS - 1), END);
+    define("edata", last(RANK_BSS - 1), END);
+    define("_end", last(RANK_BSS), END);
+    define("end", last(RANK_BSS), END);
     if (headers->len) define("__ehdr_start", headers, 0);
     if (headers->len) define("__executable_start", headers, 0);
 }
