@@ -3,8 +3,8 @@
 
 struct output *got, *stubs, *slots, *irelatives;
 
-/* Code that the linker adds: a stub goes to the address in a word, a thunk to its target. The fields
- * have relocations. On PowerPC64 both begin with an instruction that stores the TOC pointer, which
+/* Code that the linker adds: a stub goes to the address in a word, a thunk to its target. Fields have
+ * relocations. On PowerPC64 both begin with an instruction that stores the TOC pointer, which
  * only calls with a `nop` behind them enter. */
 struct code {
     uint16_t machine;
@@ -39,7 +39,8 @@ static const struct code codes[] = {
     /* pcaddu18i $t3, target; jirl $zero, $t3, target */
     {EM_LOONGARCH, false, 2, 0, {0x1e00000f, 0x4c0001e0}, {{0, 0, LARCH_CALL36}}},
     /* .. ld 12,slot - .@l(12); and addi 12,12,target - .@l */
-    {EM_PPC64, true, 9, 4, PPC64(0xe98c0000), {{20, 8, R_PPC64_REL16_HA}, {24, 12, R_PPC64_REL16_LO}}},
+    {EM_PPC64, true, 9, 4, PPC64(0xe98c0000),
+     {{20, 8, R_PPC64_REL16_HA}, {24, 12, R_PPC64_REL16_LO}}},
     {EM_PPC64, false, 9, 4, PPC64(0x398c0000),
      {{20, 8, R_PPC64_REL16_HA}, {24, 12, R_PPC64_REL16_LO}}}};
 
@@ -140,7 +141,7 @@ void read_relocations(struct section *s) {
     struct relocation *first = add_relocations(s->output, len), *r = first;
     struct linker_utils_choice *choices = take(len + 1, sizeof *choices);
     bool is_code = s->head->sh_flags & SHF_EXECINSTR && machine != EM_RISCV;
-    for (size_t i = 0; i < len; i++, r++) { /* (those of a sequence are chosen before one is made) */
+    for (size_t i = 0; i < len; i++, r++) { /* (all are chosen before one is rewritten) */
         if (elf[i].r_offset > size || ELF64_R_SYM(elf[i].r_info) >= o->symbols_len)
             fail("%s: %s: a relocation is of no byte or no symbol", o->path, s->name);
         *r = (struct relocation){.section = s, .symbol = o->symbols[ELF64_R_SYM(elf[i].r_info)],

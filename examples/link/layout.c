@@ -108,7 +108,7 @@ void copy_section(struct section *s) {
     if (!o) return;
     s->offset = make_room(o, o == frames ? 1 : s->head->sh_addralign, s->head->sh_size);
     s->end = s->offset + s->head->sh_size;
-    if (s->head->sh_type != SHT_NOBITS)
+    if (s->head->sh_type != SHT_NOBITS && s->head->sh_size)
         memcpy(o->bytes + s->offset, s->object->bytes + s->head->sh_offset, s->head->sh_size);
     if (s->relocations) read_relocations(s);
 }
@@ -133,7 +133,7 @@ uint64_t place_outputs(void) {
             kinds = now;
         }
         if (!o->is_placed)
-            o->address = is_tls && !end ? round_up(at, align) : round_up(is_tls ? end : at, o->align);
+            o->address = round_up(is_tls && end ? end : at, is_tls && !end ? align : o->align);
         if (is_tls && !end) tls.image = o->address;
         if (o->address % o->align || o->address > UINT64_MAX / 4 ||
             (is_tls && o->address < tls.image))

@@ -1,6 +1,6 @@
 /* usage: link -o OUTPUT [--section-start=NAME=ADDRESS]... FILE...
- * A file is an object or an archive. A member of an archive is linked if it defines a symbol that is
- * asked for and that no object defines; archives search each other. */
+ * A file is an object or an archive. A member of an archive is linked if it defines a symbol that
+ * is asked for and that no object defines; archives search each other. */
 #include "link.h"
 
 uint16_t machine;

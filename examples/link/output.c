@@ -22,8 +22,8 @@ static uint8_t encoding_of(const uint8_t *bytes, uint64_t len) {
     return *text == 'R' && at < len ? bytes[at] : 0;
 }
 
-/* Counts the records of functions in a section of unwind information. Where there is a table, writes
- * a row for each: the function's address and that of its record. */
+/* Counts the records of functions in a section of unwind information. If there is a table, writes a
+ * row for each: the function's address and that of its record. */
 uint64_t read_frames(const struct section *s, const uint8_t *bytes, uint8_t *rows) {
     uint64_t count = 0, len = s->head->sh_size;
     uint32_t size, back;
@@ -70,7 +70,8 @@ void index_frames(void) {
     for (const struct object *o = objects; o && index_of->len; o = o->next)
         for (const struct section *s = o->sections; s < o->sections + o->sections_len; s++)
             if (s->output == frames)
-                count += read_frames(s, frames->bytes + s->offset, index_of->bytes + 12 + 8 * count);
+                count += read_frames(s, frames->bytes + s->offset,
+                                     index_of->bytes + 12 + 8 * count);
     uint32_t head[3] = {0x3b031b01, (uint32_t)(frames->address - index_of->address - 4),
                         (uint32_t)count};
     if (!index_of->len) return;
@@ -101,7 +102,7 @@ void write_file(const char *path, uint64_t entry) {
     head.e_flags = machine_flags;
     head.e_phoff = head.e_ehsize = sizeof head;
     head.e_phentsize = sizeof *loads;
-    uint64_t end = 0, offset = headers->len ? 0 : PAGE, align = PAGE, image = 0;
+    uint64_t end = 0, offset = headers->len ? 0 : PAGE, align = PAGE, image = 0, len;
     if (headers->len && (machine == EM_X86_64 || machine == EM_RISCV)) align = 0x1000;
     FILE *file = fopen(path, "wb");
     if (!file) fail("%s: can't be written", path);
@@ -129,7 +130,8 @@ void write_file(const char *path, uint64_t entry) {
         fwrite(o->bytes, 1, bytes, file);
     }
     if (tls.len) add_part(PT_TLS, tls.image, image, tls.len, tls.align);
-    if (index_of->len) add_part(PT_GNU_EH_FRAME, index_of->address, index_of->len, index_of->len, 4);
+    len = index_of->len;
+    if (len) add_part(PT_GNU_EH_FRAME, index_of->address, len, len, 4);
     add_part(PT_GNU_STACK, 0, 0, 0, 16);
     load->p_flags |= PF_W;
     head.e_phnum = (uint16_t)(load + 1 - loads);

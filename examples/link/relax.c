@@ -38,28 +38,28 @@ static bool is_near(const struct output *o, const struct relocation *r, uint64_t
            (machine == EM_RISCV || (target % 4 == 0 && s->output->align >= 4));
 }
 
-/* Writes the shorter instructions of a site, or the nops that stay of an alignment. */
-static void rewrite_item(struct output *o, struct relocation *r, uint64_t kept, bool is_site) {
-    uint32_t kind = LINKER_UTILS_LOONGARCH64_REWRITE_CALL_TO_B, nop = 0x03400000;
-    uint64_t end = r->section ? r->section->end : 0, offset = r->offset;
-    if (!is_site && machine == EM_RISCV) nop = 0x13;
-    for (uint64_t i = 0; !is_site && i < kept && r->section; i += 4)
-        memcpy(o->bytes + r->offset + i, kept - i < 4 ? "\x01" : (const char *)&nop, kept - i < 4 ? 2 : 4);
-    if (!is_site) return;
+/* Writes the shorter instruction of a site; where it is will be its relocation's matter. */
+static void shorten(struct output *o, struct relocation *r, uint64_t kept) {
+    const struct linker_utils_link_facts facts = {.is_local = 1, .has_fixed_distance = 1,
+                                                  .is_marked = 1, .may_compress = 1,
+                                                  .has_addresses = 1};
+    uint64_t end = r->section->end, offset = r->offset;
+    uint32_t before = r->type;
     if (machine == EM_RISCV && kept == 4) {
         check(r, linker_utils_jal_site_with(o->bytes, end, offset, 0, LINKER_UTILS_LINK_OF_JALR));
         r->type = R_RISCV_JAL;
         return;
     }
-    if (machine == EM_RISCV)
-        kind = LINKER_UTILS_RISCV_REWRITE_TAIL_TO_C_J;
-    else if (r->type == LARCH_PCALA_HI20)
-        kind = LINKER_UTILS_LOONGARCH64_REWRITE_PCALA_TO_PCADDI;
-    else if (linker_utils_matches(machine, kind, 0, o->bytes, end, offset))
-        kind = LINKER_UTILS_LOONGARCH64_REWRITE_CALL_TO_BL;
-    if (r->type == LARCH_PCALA_HI20 && machine == EM_LOONGARCH) r[2].type = 0; /* the other half's */
-    r->type = machine == EM_RISCV ? R_RISCV_RVC_JUMP : shorter(r);
-    check(r, linker_utils_apply(machine, kind, 0, o->bytes, end, &offset, &r->addend));
+    rewrite(r, o->bytes, end, &offset, &r->addend, &r->type, &facts);
+    if (r->type == before) fail("%s can't be relaxed", place_of(r));
+    if (before == LARCH_PCALA_HI20) r[2].type = 0; /* that of the other half */
+}
+
+/* Writes the nops that stay of an alignment. */
+static void write_nops(uint8_t *bytes, uint64_t len) {
+    uint32_t nop = machine == EM_RISCV ? 0x13 : 0x03400000;
+    for (; len >= 4; len -= 4, bytes += 4) memcpy(bytes, &nop, 4);
+    if (len) memcpy(bytes, "\x01", 2); /* c.nop */
 }
 
 /* Relaxes a section as one run, and packs it. The distance of two sections changes by at most
@@ -80,12 +80,14 @@ void shrink(struct output *o, uint64_t slack) {
         relocations[i + 2].has_target = true; /* the other half of the address */
         relocations[i + 2].target = r->offset;
     }
-    uint32_t status =
-        machine == EM_RISCV
-            ? linker_utils_riscv_items(o->bytes, o->len, 0, relocations, all, machine_flags & EF_RISCV_RVC, items,
-                                       all, &len, &at)
-            : linker_utils_loongarch_items(o->bytes, o->len, 0, relocations, all, items, all, &len,
-                                           &at);
+    bool has_c = machine_flags & EF_RISCV_RVC;
+    uint32_t unit = machine == EM_RISCV && has_c ? 2 : 4, status;
+    if (machine == EM_RISCV)
+        status = linker_utils_riscv_items(o->bytes, o->len, 0, relocations, all, has_c, items, all,
+                                          &len, &at);
+    else
+        status = linker_utils_loongarch_items(o->bytes, o->len, 0, relocations, all, items, all,
+                                              &len, &at);
     if (status && at < all) check(&o->relocations[at], status);
     if (status) fail("section %s: %s", o->name, linker_utils_status_text(status));
     struct relocation **of = take(len, sizeof *of), *r = o->relocations;
@@ -97,7 +99,6 @@ void shrink(struct output *o, uint64_t slack) {
             fail("%s can't be satisfied", place_of(r));
     }
     /* one more behind the section's end, which says the unit of the code where no site does */
-    uint32_t unit = machine == EM_RISCV && machine_flags & EF_RISCV_RVC ? 2 : 4;
     items[len++] = (struct linker_utils_item){
         .offset = o->len, .target = o->len, .len = unit, .kind = LINKER_UTILS_ITEM_SITE,
         .shapes = {.shorter = {{.ahead = 1, .unit = unit}}, .longest = unit, .count = 1}};
@@ -111,9 +112,11 @@ void shrink(struct output *o, uint64_t slack) {
     o->deltas = take(len, sizeof *o->deltas);
     if (status || linker_utils_run_deltas(items, len, kept, len, o->deltas, len, &o->deltas_len))
         fail("section %s can't be relaxed", o->name);
-    for (size_t i = 0; i + 1 < len; i++)
-        if (kept[i] < items[i].len)
-            rewrite_item(o, of[i], kept[i], items[i].kind == LINKER_UTILS_ITEM_SITE);
+    for (size_t i = 0; i + 1 < len; i++) {
+        bool is_site = items[i].kind == LINKER_UTILS_ITEM_SITE;
+        if (is_site && kept[i] < items[i].len) shorten(o, of[i], kept[i]);
+        if (!is_site && of[i]->section) write_nops(o->bytes + items[i].offset, kept[i]);
+    }
     uint64_t packed_len = linker_utils_packed_len(o->bytes, o->len, o->deltas, o->deltas_len);
     uint8_t *packed = take(packed_len, 1);
     if (linker_utils_pack(o->bytes, o->len, o->deltas, o->deltas_len, NULL, 0,

@@ -95,9 +95,10 @@ int64_t value_of(const struct output *o, const struct relocation *r) {
 }
 
 /* One of the relocations that together compute a ULEB128 number. */
-static void relocate_uleb128(const struct relocation *r, enum linker_utils_role role, uint64_t value,
-                             uint8_t *bytes, uint64_t len) {
+static void relocate_uleb128(const struct relocation *r, uint64_t value, uint8_t *bytes,
+                             uint64_t len) {
     static uint64_t number;
+    enum linker_utils_role role = row_of(r)->role;
     size_t used;
     if (role == LINKER_UTILS_ROLE_SUBTRACTS) {
         check(r, linker_utils_write_uleb128(bytes, len, number - value));
@@ -122,7 +123,7 @@ void relocate(struct output *o) {
         uint64_t at = address_of(o, r->offset) - o->address;
         uint64_t len = (r->section ? address_of(o, r->section->end) - o->address : o->len) - at;
         if (row->role) {
-            relocate_uleb128(r, row->role, (uint64_t)value, o->bytes + at, len);
+            relocate_uleb128(r, (uint64_t)value, o->bytes + at, len);
             continue;
         }
         uint32_t status = linker_utils_relocate(machine, r->type, value, o->bytes + at, len);

@@ -113,9 +113,9 @@ static void define_end(struct output *o, bool is_end) {
     char name[300];
     const char *text = o->name + (*o->name == '.');
     int len = (int)strcspn(text, "."); /* without a priority */
-    snprintf(name, sizeof name, is_end ? "__%.*s_end" : "__%.*s_start", len < 200 ? len : 200, text);
+    snprintf(name, sizeof name, "__%.*s_%s", len < 200 ? len : 200, text, is_end ? "end" : "start");
     define(name, o, is_end ? END : 0);
-    snprintf(name, sizeof name, is_end ? "__stop_%.200s" : "__start_%.200s", o->name);
+    snprintf(name, sizeof name, "__%s_%.200s", is_end ? "stop" : "start", o->name);
     define(name, o, is_end ? END : 0);
 }
 

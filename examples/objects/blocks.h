@@ -8,7 +8,8 @@
 
 /* blocks.c */
 extern __thread word by_offset MODEL("local-exec");
-extern const word numbers_start[] __asm__("__start_numbers"), numbers_end[] __asm__("__stop_numbers");
+extern const word numbers_start[] __asm__("__start_numbers");
+extern const word numbers_end[] __asm__("__stop_numbers");
 /* blocks_other.c */
 extern __thread word by_entry MODEL("initial-exec");
 extern __thread word by_call; /* general-dynamic in code for a shared object */

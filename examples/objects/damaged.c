@@ -1,11 +1,12 @@
-/* Links objects and archives of which one is damaged, and fails where the linker then does anything
+/* Links objects and archives, one of them damaged, and fails where the linker then does anything
  * but write a file or end with an error.
  *
  * usage: damaged CASES SEED OUTPUT FILE...
  * Half of the cases set a field of the header, of a section's header, or of an entry of a section
- * (a symbol, a relocation, a group) to an extreme number, the others change some random bytes; of an
- * archive both do so to a member, or to its index and the members' headers. With -DGUARDED each block of memory ends right before a page
- * that may not be touched, so that what the archive reads and writes is seen too. */
+ * (a symbol, a relocation, a group) to an extreme number, the others change some random bytes. Of an
+ * archive both do so to a member, or to the index and the members' headers. With -DGUARDED each
+ * block of memory ends right before a page that may not be touched, so that what the archive reads
+ * and writes is seen too. */
 #define _GNU_SOURCE
 #include <elf.h>
 #include <stdint.h>

@@ -14,7 +14,8 @@ int main(int argc, char **argv) {
     (void)argv;
     qsort(words, 4, sizeof *words, by_length);
     for (int i = 0; i < 4; i++) printf("%d %-10s %zu\n", i, words[i], strlen(words[i]));
-    snprintf(text, sizeof text, "%.6f %a %lld", sqrt(1.0 + argc), 0.1, strtoll("-9000000000", 0, 0));
+    long long number = strtoll("-9000000000", NULL, 0);
+    snprintf(text, sizeof text, "%.6f %a %lld", sqrt(1.0 + argc), 0.1, number);
     puts(text);
     char *copy = malloc(100000);
     memset(copy, 'x', 99999);
