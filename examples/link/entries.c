@@ -3,8 +3,8 @@
 
 struct output *got, *stubs, *slots, *irelatives;
 
-/* Code that the linker adds: a stub goes to the address in a word, a thunk to its target. Fields have
- * relocations. On PowerPC64 both begin with an instruction that stores the TOC pointer, which
+/* Code that the linker adds: a stub goes to the address in a word, a thunk to its target. Fields
+ * have relocations. On PowerPC64 both begin with an instruction that stores the TOC pointer, which
  * only calls with a `nop` behind them enter. */
 struct code {
     uint16_t machine;

@@ -3,8 +3,8 @@
  *
  * usage: damaged CASES SEED OUTPUT FILE...
  * Half of the cases set a field of the header, of a section's header, or of an entry of a section
- * (a symbol, a relocation, a group) to an extreme number, the others change some random bytes. Of an
- * archive both do so to a member, or to the index and the members' headers. With -DGUARDED each
+ * (a symbol, a relocation, a group) to an extreme number, the others change some random bytes. In
+ * an archive both do so to a member, or to the index and the members' headers. With -DGUARDED each
  * block of memory ends right before a page that may not be touched, so that what the archive reads
  * and writes is seen too. */
 #define _GNU_SOURCE
