@@ -61,19 +61,19 @@ fn alignment_of(nops: u32, offset: u64) -> Alignment
     ensures place { result.offset ≡ offset }
     ensures nops { result.nops ≡ nops }
     ensures power { IsNextPowerOfTwo (nops + 1) result.power }
-    ensures unlimited { result.most ≡ None }
+    ensures limit { result.most ≡ Some nops }
 {
     Alignment {
         offset,
         nops,
         power: (u64::from(nops) + 1).next_power_of_two(),
-        most: None,
+        most: Some(u64::from(nops)),
     }
 }
 
 /// The register that the call at an offset links. None where no call is there.
 #[inline]
-fn link_at(section: &[u8], offset: u64) -> Option<u32>
+pub fn link_at(section: &[u8], offset: u64) -> Option<u32>
     requires { offset + 8 ≤ length section.now }
     ensures { MatchOption result (¬ IsCallAt section.now offset)
         (λ link. IsCallAt section.now offset × (link ≡ link_register OfJalr section.now offset)) }
