@@ -157,5 +157,6 @@ uint64_t address_of(const struct output *o, uint64_t offset) {
     if (!o) return offset;
     if (offset == END) return o->address + o->len;
     if (!o->deltas_len) return o->address + offset;
-    return o->address + linker_utils_deltas_input_to_output(o->deltas, o->deltas_len, offset);
+    return o->address + linker_utils_deltas_input_to_output_by_heads(
+                            o->deltas, o->deltas_len, o->heads, o->heads_len, offset);
 }

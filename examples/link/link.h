@@ -48,7 +48,8 @@ struct output {
     unsigned rank, priority;            /* its place among the others */
     struct relocation *relocations;
     struct linker_utils_delta *deltas;
-    size_t relocations_len, relocations_room, deltas_len;
+    struct linker_utils_block_head *heads; /* of the deltas */
+    size_t relocations_len, relocations_room, deltas_len, heads_len;
 };
 
 struct object {

@@ -19,7 +19,7 @@ void *grow(void *array, size_t need, size_t *room, size_t size) {
     *room = 2 * need;
     array = realloc(array, *room * size);
     if (!array) fail("out of memory");
-    memset((uint8_t *)array + old * size, 0, (*room - old) * size);
+    if (size == 1) memset((uint8_t *)array + old, 0, *room - old); /* (bytes begin as zeros) */
     return array;
 }
 

@@ -112,6 +112,10 @@ void shrink(struct output *o, uint64_t slack) {
     o->deltas = take(len, sizeof *o->deltas);
     if (status || linker_utils_run_deltas(items, len, kept, len, o->deltas, len, &o->deltas_len))
         fail("section %s can't be relaxed", o->name);
+    o->heads_len = linker_utils_deltas_block_count(o->deltas, o->deltas_len);
+    o->heads = take(o->heads_len, sizeof *o->heads);
+    if (linker_utils_deltas_heads(o->deltas, o->deltas_len, o->heads, o->heads_len))
+        fail("section %s can't be relaxed", o->name);
     for (size_t i = 0; i + 1 < len; i++) {
         bool is_site = items[i].kind == LINKER_UTILS_ITEM_SITE;
         if (is_site && kept[i] < items[i].len) shorten(o, of[i], kept[i]);
