@@ -98,7 +98,7 @@ void shrink(struct output *o, uint64_t slack) {
         if (items[i].kind != LINKER_UTILS_ITEM_SITE && items[i].power > o->align)
             fail("%s can't be satisfied", place_of(r));
     }
-    /* one more behind the section's end, which says the unit of the code where no site does */
+    /* one more behind the section's end, which says the unit of the code where there is no site */
     items[len++] = (struct linker_utils_item){
         .offset = o->len, .target = o->len, .len = unit, .kind = LINKER_UTILS_ITEM_SITE,
         .shapes = {.shorter = {{.ahead = 1, .unit = unit}}, .longest = unit, .count = 1}};
