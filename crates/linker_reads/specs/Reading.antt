@@ -1,19 +1,24 @@
 -- What stands in the field of a relocation: which bits of its value, with what was added to it.
 use Rattle.std.specs.Prelude.{ℕ, ◌+◌, ◌-◌, ◌*◌, ◌/◌, ◌%◌, ◌^◌, ◌==◌, Bool, true, false, not, nat_lt}
-use Rattle.std.specs.Prelude.{◌&&◌, if◌then◌else◌, List, length, Option, Some, None, ℤ, pos, neg_ℤ}
+use Rattle.std.specs.Prelude.{◌&&◌, if◌then◌else◌, List, length, Option, Some, None, ℤ}
 use Rattle.std.specs.Int.{w64, cast_unsigned}
 use Rattle.std.specs.Int.Signed.{le_z}
 use Rattle.linker_base.specs.Bits.{field}
 use Rattle.linker_base.specs.Form.{window_of}
 use Rattle.linker_base.specs.declared.bit_misc.BitRange.{BitRange}
 use Rattle.linker_elf.specs.AArch64.{movnz}
-use Rattle.linker_elf.specs.Agrees.{is_of_halves}
-use Rattle.linker_elf.specs.Elf.{relocation_form}
+use Rattle.linker_elf.specs.Elf.{relocation_form, bit_bounds}
 use Rattle.linker_elf.specs.Reach.{reach_of}
 use Rattle.linker_elf.specs.Relocate.{number_of_bytes, ppc64_reads, window_len}
 use Rattle.linker_elf.specs.Rows.{Bounds}
 use Rattle.linker_elf.specs.Value.{sum_64, difference_64}
-use Rattle.linker_elf.specs.declared.aarch64.forms.AArch64Instruction.TheVariants.{Movnz}
+use Rattle.linker_elf.specs.declared.aarch64.forms.AArch64Instruction.TheVariants.{Adr, Movkz}
+use Rattle.linker_elf.specs.declared.aarch64.forms.AArch64Instruction.TheVariants.{Movnz, Ldr}
+use Rattle.linker_elf.specs.declared.aarch64.forms.AArch64Instruction.TheVariants.{LdrRegister}
+use Rattle.linker_elf.specs.declared.aarch64.forms.AArch64Instruction.TheVariants.{Add, LdSt}
+use Rattle.linker_elf.specs.declared.aarch64.forms.AArch64Instruction.TheVariants.{TstBr, Bcond}
+use Rattle.linker_elf.specs.declared.aarch64.forms.AArch64Instruction.TheVariants.{JumpCall}
+use Rattle.linker_elf.specs.declared.aarch64.forms.AArch64Instruction.TheVariants.{MachOLow12}
 use Rattle.linker_elf.specs.declared.elf.RelocationInstruction.{RelocationInstruction}
 use Rattle.linker_elf.specs.declared.elf.RelocationInstruction.TheVariants.{RiscV, Ppc64}
 use Rattle.linker_elf.specs.declared.elf.RelocationInstruction.TheVariants.{LoongArch64, AArch64}
@@ -22,15 +27,23 @@ use Rattle.linker_elf.specs.declared.elf.RelocationKind.TheVariants as kinds
 use Rattle.linker_elf.specs.declared.elf.RelocationKindInfo.{RelocationKindInfo}
 use Rattle.linker_elf.specs.declared.elf.RelocationSize.{RelocationSize}
 use Rattle.linker_elf.specs.declared.elf.RelocationSize.TheVariants.{ByteSize, BitMasking}
+use Rattle.linker_elf.specs.declared.loongarch64.forms.LoongArch64Instruction.TheVariants.{Shift5}
+use Rattle.linker_elf.specs.declared.loongarch64.forms.LoongArch64Instruction.TheVariants.{Shift10}
+use Rattle.linker_elf.specs.declared.loongarch64.forms.LoongArch64Instruction.TheVariants.{Branch26}
+use Rattle.linker_elf.specs.declared.loongarch64.forms.LoongArch64Instruction.TheVariants.{Branch21}
 use Rattle.linker_elf.specs.declared.loongarch64.forms.LoongArch64Instruction.TheVariants.{Call30}
 use Rattle.linker_elf.specs.declared.loongarch64.forms.LoongArch64Instruction.TheVariants.{Call36}
-use Rattle.linker_elf.specs.declared.ppc64.forms.Ppc64Instruction.TheVariants.{Ds}
+use Rattle.linker_elf.specs.declared.ppc64.forms.Ppc64Instruction.TheVariants.{D, Ds, Branch14}
+use Rattle.linker_elf.specs.declared.ppc64.forms.Ppc64Instruction.TheVariants.{Branch24, Prefixed}
+use Rattle.linker_elf.specs.declared.elf.Sign.TheVariants.{Signed}
 use Rattle.linker_elf.specs.declared.riscv64.forms.RiscVInstruction.TheVariants.{UType, IType}
-use Rattle.linker_elf.specs.declared.riscv64.forms.RiscVInstruction.TheVariants.{SType}
+use Rattle.linker_elf.specs.declared.riscv64.forms.RiscVInstruction.TheVariants.{SType, BType}
+use Rattle.linker_elf.specs.declared.riscv64.forms.RiscVInstruction.TheVariants.{JType, CbType}
+use Rattle.linker_elf.specs.declared.riscv64.forms.RiscVInstruction.TheVariants.{CjType}
 use Rattle.linker_elf.specs.declared.riscv64.forms.RiscVInstruction.TheVariants.{CluiType, UiType}
 use Rattle.linker_reads.specs.declared.fields.FieldValue.{FieldValue}
 
--- ---- which rows hold their value
+-- ---- what a field holds
 
 -- Bytes hold the value, or its low bits, and not a sum of it and what stood there.
 abbrev pub holds_value : RelocationKind → Bool
@@ -42,21 +55,16 @@ holds_value kinds.PairSubtractionULEB128RiscV = false
 holds_value kinds.PairSubtractionULEB128LoongArch = false
 holds_value kind = true
 
--- The instruction holds bits of that range: RISC-V's halves those of the low 32 or more,
--- PowerPC64's DS-form those from bit 0 up, `Call36` bits 2 to 37, MOVN and MOVZ 16.
+-- The instruction holds bits of the value from the range's start up. `lui`, `auipc` and `c.lui`,
+-- whose value is rounded, and a displacement that may be one of DQ-form begin with bit 0.
 abbrev pub holds_bits : RelocationInstruction → BitRange → Bool
 holds_bits (AArch64 Movnz) bits = bits.end == bits.start + 16
-holds_bits (RiscV f) bits =
-    if is_of_halves f then bits.start == 0 && not (nat_lt bits.end 32) else true
+holds_bits (AArch64 MachOLow12) bits = false
+holds_bits (RiscV UType) bits = bits.start == 0
+holds_bits (RiscV CluiType) bits = bits.start == 0
 holds_bits (Ppc64 Ds) bits = bits.start == 0
 holds_bits (LoongArch64 Call30) bits = false
-holds_bits (LoongArch64 Call36) bits = bits.start == 2 && bits.end == 38
 holds_bits insn bits = true
-
-abbrev pub holds_field : RelocationKind → RelocationSize → Bool
-holds_field kind (ByteSize n) = nat_lt 0 n && (nat_lt n 9 && holds_value kind)
-holds_field kind (BitMasking bits insn) =
-    nat_lt bits.start bits.end && (nat_lt bits.end 65 && holds_bits insn bits)
 
 -- ---- what stands in the field
 
@@ -70,20 +78,58 @@ number_held insn x = (relocation_form insn).machine x
 -- every value within bounds is a number of n signed bits
 abbrev pub are_signed : ℕ → Bounds → Bool
 are_signed n None = false
-are_signed n (Some b) = le_z (neg_ℤ (pos (2 ^ (n - 1)))) b.0 && le_z b.1 (pos (2 ^ (n - 1)))
+are_signed n (Some b) = le_z (bit_bounds n Signed).0 b.0 && le_z b.1 (bit_bounds n Signed).1
 
--- Which bits of the value, rounded, that number has: of RISC-V's halves the upper or the lower ones,
--- of MOVN and MOVZ also the sign, if the value is that short.
+-- which bits of that number the instruction has; those below are 0
+abbrev pub immediate_of : RelocationInstruction → BitRange
+immediate_of (AArch64 Adr) = record { start = 0; end = 21 }
+immediate_of (AArch64 Movkz) = record { start = 0; end = 16 }
+immediate_of (AArch64 Movnz) = record { start = 0; end = 16 }
+immediate_of (AArch64 Ldr) = record { start = 0; end = 19 }
+immediate_of (AArch64 LdrRegister) = record { start = 0; end = 12 }
+immediate_of (AArch64 Add) = record { start = 0; end = 12 }
+immediate_of (AArch64 LdSt) = record { start = 0; end = 12 }
+immediate_of (AArch64 TstBr) = record { start = 0; end = 14 }
+immediate_of (AArch64 Bcond) = record { start = 0; end = 19 }
+immediate_of (AArch64 JumpCall) = record { start = 0; end = 26 }
+immediate_of (AArch64 MachOLow12) = record { start = 0; end = 12 }
+immediate_of (RiscV UType) = record { start = 12; end = 32 }
+immediate_of (RiscV IType) = record { start = 0; end = 12 }
+immediate_of (RiscV SType) = record { start = 0; end = 12 }
+immediate_of (RiscV BType) = record { start = 1; end = 13 }
+immediate_of (RiscV JType) = record { start = 1; end = 21 }
+immediate_of (RiscV CbType) = record { start = 1; end = 9 }
+immediate_of (RiscV CjType) = record { start = 1; end = 12 }
+immediate_of (RiscV CluiType) = record { start = 12; end = 18 }
+immediate_of (RiscV UiType) = record { start = 0; end = 32 }
+immediate_of (Ppc64 D) = record { start = 0; end = 16 }
+immediate_of (Ppc64 Ds) = record { start = 2; end = 16 }
+immediate_of (Ppc64 Branch14) = record { start = 2; end = 16 }
+immediate_of (Ppc64 Branch24) = record { start = 2; end = 26 }
+immediate_of (Ppc64 Prefixed) = record { start = 0; end = 34 }
+immediate_of (LoongArch64 Shift5) = record { start = 0; end = 20 }
+immediate_of (LoongArch64 Shift10) = record { start = 0; end = 16 }
+immediate_of (LoongArch64 Branch26) = record { start = 0; end = 26 }
+immediate_of (LoongArch64 Branch21) = record { start = 0; end = 21 }
+immediate_of (LoongArch64 Call30) = record { start = 0; end = 20 }
+immediate_of (LoongArch64 Call36) = record { start = 0; end = 36 }
+
+-- the bits of a value, of a range, that an immediate has
+abbrev pub bits_within : BitRange → BitRange → BitRange
+bits_within immediate bits =
+    record {
+      start = bits.start + immediate.start;
+      end =
+          if nat_lt bits.end (bits.start + immediate.end) then bits.end
+          else bits.start + immediate.end;
+    }
+
+-- MOVN and MOVZ also have the sign, if every value is that short.
 abbrev pub bits_held : RelocationInstruction → BitRange → Bounds → BitRange
 bits_held (AArch64 Movnz) bits reached =
-    if nat_lt bits.end 64 && are_signed (bits.end + 1) reached
+    if nat_lt bits.end 49 && are_signed (bits.end + 1) reached
     then record { start = bits.start; end = bits.end + 1 } else bits
-bits_held (RiscV UType) bits reached = record { start = 12; end = 32 }
-bits_held (RiscV CluiType) bits reached = record { start = 12; end = 18 }
-bits_held (RiscV IType) bits reached = record { start = 0; end = 12 }
-bits_held (RiscV SType) bits reached = record { start = 0; end = 12 }
-bits_held (RiscV UiType) bits reached = record { start = 0; end = 32 }
-bits_held insn bits reached = bits
+bits_held insn bits reached = bits_within (immediate_of insn) bits
 
 -- what was added to the value: half of what a low part of 12 signed bits reaches
 abbrev pub rounding_of : RelocationInstruction → ℕ
@@ -118,6 +164,18 @@ field_read kind (ByteSize n) reached bytes =
     bytes_read (bits_of_bytes kind n) (number_of_bytes n bytes)
 field_read kind (BitMasking bits insn) reached bytes =
     bits_read insn bits.start (bits_held insn bits reached) (window_of (relocation_form insn) bytes)
+
+-- ---- which rows hold their value
+
+abbrev pub holds_some : RelocationInstruction → BitRange → BitRange → Bool
+holds_some insn bits known =
+    nat_lt bits.start bits.end
+    && (nat_lt bits.end 65 && (nat_lt known.start known.end && holds_bits insn bits))
+
+abbrev pub holds_field : RelocationKind → RelocationSize → Bounds → Bool
+holds_field kind (ByteSize n) reached = nat_lt 0 n && (nat_lt n 9 && holds_value kind)
+holds_field kind (BitMasking bits insn) reached =
+    holds_some insn bits (bits_held insn bits reached)
 
 -- ---- what the reach and the alignment add
 
@@ -164,7 +222,7 @@ with_alignment alignment f =
 
 abbrev pub is_readable : RelocationKindInfo → List ℕ → Bool
 is_readable row bytes =
-    holds_field row.kind row.size && not (nat_lt (length bytes) (window_len row))
+    holds_field row.kind row.size (reach_of row) && not (nat_lt (length bytes) (window_len row))
 
 -- what is known of the value of a row from the bytes at its place
 abbrev pub value_read : RelocationKindInfo → List ℕ → Option FieldValue

@@ -18,19 +18,20 @@ pub struct FieldValue {
 }
 
 /// Bits `start` and up, below `end`, of a number of 64 bits; 0 where there are none.
-fn bits_of(number: u64, start: u8, end: u8) -> u64
+pub(crate) fn bits_of(number: u64, start: u8, end: u8) -> u64
     ensures { result ≡ field number start end }
 {
-    if start >= end || start > 63 {
-        0
+    if start >= end {
+        return 0;
+    }
+    if start > 63 {
+        return 0;
+    }
+    let above = number >> start;
+    if end > 63 {
+        above
     } else {
-        let above = number >> start;
-        let count = end - start;
-        if count > 63 {
-            above
-        } else {
-            above % (1 << count)
-        }
+        above % (1 << (end - start))
     }
 }
 
