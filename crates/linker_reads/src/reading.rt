@@ -1,15 +1,16 @@
 //! The value of a relocation, read from the bytes at its place.
 
-ghost use Rattle.std.specs.Prelude.{◌≡◌, ◌≤◌, ◌<◌, ◌-◌, ◌^◌, IfSome, length, true};
+ghost use Rattle.std.specs.Prelude.{◌≡◌, ◌≤◌, ◌<◌, ◌-◌, ◌^◌, IfSome, Some, length, true, ℤ};
 ghost use Rattle.std.specs.Int.{byte_len, cast_unsigned, w64};
+ghost use Rattle.std.specs.Int.RustNames.{FitsSigned};
 ghost use Rattle.linker_base.specs.Form.{window_of};
 ghost use Rattle.linker_elf.specs.AArch64.{aarch64_form};
-ghost use Rattle.linker_elf.specs.Elf.{relocation_form};
+ghost use Rattle.linker_elf.specs.Elf.{relocation_form, IsWithin};
 ghost use Rattle.linker_elf.specs.LoongArch.{loongarch_form};
 ghost use Rattle.linker_elf.specs.Ppc64.{ppc64_form};
-ghost use Rattle.linker_elf.specs.Relocate.{number_of_bytes, is_dq_form, ppc64_reads, size_len};
+ghost use Rattle.linker_elf.specs.Relocate.{number_of_bytes, is_dq_form, ppc64_reads, size_len, IsAligned};
 ghost use Rattle.linker_elf.specs.RiscV.{riscv_form};
-ghost use Rattle.linker_reads.specs.Fields.{IsProper};
+ghost use Rattle.linker_reads.specs.Fields.{IsProper, IsOfValue};
 ghost use Rattle.linker_reads.specs.Reading.{immediate_of, bits_within};
 ghost use Rattle.linker_reads.specs.Reading.{holds_value, holds_bits, holds_field, number_held};
 ghost use Rattle.linker_reads.specs.Reading.{are_signed, bits_held, rounding_of, bits_read};
@@ -378,7 +379,10 @@ fn leaves_one(min: i64, max: i64, field: FieldValue) -> bool
 fn up_to_sign(min: i64, max: i64, field: FieldValue) -> FieldValue
     requires some { field.known.start < field.known.end }
     requires short { field.known.end < 64 }
-    ensures { result ≡ up_to_sign (min, max) field }
+    requires leaves { leaves_one (min, max) field ≡ true }
+    ensures value { result ≡ up_to_sign (min, max) field }
+    ensures known { (v : ℤ) → FitsSigned w64 v → IsWithin (Some (min, max)) v → IsOfValue field v
+        → IsOfValue result v }
 {
     let unit = power_of_two(field.known.start);
     let least = min.cast_unsigned().wrapping_add(field.rounding);
@@ -397,7 +401,9 @@ fn up_to_sign(min: i64, max: i64, field: FieldValue) -> FieldValue
 /// Adds the bits above that the reach leaves.
 fn with_reach(reach: AllowedRange, field: FieldValue) -> FieldValue
     requires { field.known.start < field.known.end }
-    ensures { result ≡ with_reach reach.bounds field }
+    ensures value { result ≡ with_reach reach.bounds field }
+    ensures known { (v : ℤ) → FitsSigned w64 v → IsWithin reach.bounds v → IsOfValue field v
+        → IsOfValue result v }
 {
     match reach.bounds {
         Some((min, max)) => {
@@ -416,7 +422,9 @@ fn with_alignment(alignment: u64, field: FieldValue) -> FieldValue
     requires some { field.known.start < field.known.end }
     requires short { field.known.end ≤ 64 }
     requires bits { field.bits < 2 ^ (field.known.end - field.known.start) }
-    ensures { result ≡ with_alignment alignment field }
+    ensures value { result ≡ with_alignment alignment field }
+    ensures known { 0 < alignment → (v : ℤ) → FitsSigned w64 v → IsAligned alignment v
+        → IsOfValue field v → IsOfValue result v }
 {
     let unit = power_of_two(field.known.start);
     if field.rounding == 0 && alignment % unit == 0 {
