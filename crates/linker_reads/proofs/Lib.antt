@@ -3,3 +3,5 @@ pub mod Proper
 pub mod Ranges
 pub mod Reached
 pub mod Aligned
+pub mod BitFields
+pub mod Written

@@ -16,6 +16,7 @@ ghost use Rattle.linker_reads.specs.Reading.{holds_value, holds_bits, holds_fiel
 ghost use Rattle.linker_reads.specs.Reading.{are_signed, bits_held, rounding_of, bits_read};
 ghost use Rattle.linker_reads.specs.Reading.{bits_of_bytes, bytes_read, field_read, with_reach};
 ghost use Rattle.linker_reads.specs.Reading.{leaves_one, up_to_sign, with_alignment, value_read};
+ghost use Rattle.linker_reads.specs.Reading.{IsReadBack};
 
 use crate::fields::{FieldValue, bits_of};
 use linker_base::bit_misc::{BitExtraction, BitRange};
@@ -445,6 +446,7 @@ fn with_alignment(alignment: u64, field: FieldValue) -> FieldValue
 pub fn read(row: &Row, bytes: &[u8]) -> Option<FieldValue>
     ensures value { result ≡ value_read row.now bytes.now }
     ensures proper { IfSome result IsProper }
+    ensures written { IsReadBack row.now bytes.now result }
 {
     read_row(&row.info(), bytes)
 }
@@ -453,6 +455,7 @@ pub fn read(row: &Row, bytes: &[u8]) -> Option<FieldValue>
 pub fn read_row(row: &RelocationKindInfo, bytes: &[u8]) -> Option<FieldValue>
     ensures value { result ≡ value_read row.now bytes.now }
     ensures proper { IfSome result IsProper }
+    ensures written { IsReadBack row.now bytes.now result }
 {
     let reach = row.reach();
     if !holds_field(row.kind, row.size, reach) {
