@@ -80,17 +80,17 @@ pub are_within : (immediate bits : BitRange) → bits.start ≤ bits.end → Are
 are_within immediate bits order =
     elim (cases_lt bits.end (bits.start + immediate.end)) [
       | inl short ↦ record {
-            count = bits.end - bits.start;
-            end_is = rw (lt-ltb bits.end (bits.start + immediate.end) short) (omega arith);
-            most = omega arith;
-            inside = omega arith;
-          }
+        count = bits.end - bits.start;
+        end_is = rw (lt-ltb bits.end (bits.start + immediate.end) short) (omega arith);
+        most = omega arith;
+        inside = omega arith;
+      }
       | inr long ↦ record {
-            count = immediate.end;
-            end_is = rw (le-ltb bits.end (bits.start + immediate.end) long) refl;
-            most = omega arith;
-            inside = omega arith;
-          }
+        count = immediate.end;
+        end_is = rw (le-ltb bits.end (bits.start + immediate.end) long) refl;
+        most = omega arith;
+        inside = omega arith;
+      }
     ]
 
 -- Bits of a number that are those of the value's bits of the range are the value's own.

@@ -5,3 +5,4 @@ pub mod Reached
 pub mod Aligned
 pub mod BitFields
 pub mod Written
+pub mod Shifts

@@ -18,7 +18,7 @@ ghost use Rattle.linker_reads.specs.Reading.{bits_of_bytes, bytes_read, field_re
 ghost use Rattle.linker_reads.specs.Reading.{leaves_one, up_to_sign, with_alignment, value_read};
 ghost use Rattle.linker_reads.specs.Reading.{IsReadBack};
 
-use crate::fields::{FieldValue, bits_of};
+use crate::fields::{FieldValue, bits_of, power_of_two};
 use linker_base::bit_misc::{BitExtraction, BitRange};
 use linker_base::utils::{u32_from_slice, u64_from_slice};
 use linker_elf::elf::{
@@ -352,14 +352,6 @@ fn field_read(row: &RelocationKindInfo, reach: AllowedRange, bytes: &[u8]) -> Fi
             }
         }
     }
-}
-
-/// 2 to a power.
-fn power_of_two(exponent: u8) -> u64
-    requires { exponent < 64 }
-    ensures { result ≡ 2 ^ exponent }
-{
-    1 << exponent
 }
 
 /// Whether the values from `min` up, below `max`, with the known bits differ below the first of
