@@ -6,3 +6,4 @@ pub mod Aligned
 pub mod BitFields
 pub mod Written
 pub mod Shifts
+pub mod Formulas
