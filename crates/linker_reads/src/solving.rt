@@ -1,6 +1,6 @@
 //! The address that a relocation's value comes from.
 
-ghost use Rattle.std.specs.Prelude.{◌≡◌, ◌↔◌, ℕ};
+ghost use Rattle.std.specs.Prelude.{◌≡◌, ◌↔◌, ℕ, IfSome};
 ghost use Rattle.linker_elf.specs.Value.{bias_number, page_if};
 ghost use Rattle.linker_reads.specs.Fields.{IsProper, IsOf};
 ghost use Rattle.linker_reads.specs.Solving.{terms, terms_of_kind, terms_of, is_paged};
@@ -153,7 +153,8 @@ fn bias_or_zero(bias: Option<Bias>) -> u64
 /// Known bits from bit 0 up, without rounding; others as they are.
 fn without_rounding(field: FieldValue) -> FieldValue
     requires { IsProper field }
-    ensures { (n : ℕ) → IsOf result n ↔ IsOf field n }
+    ensures same { (n : ℕ) → IsOf result n ↔ IsOf field n }
+    ensures proper { IsProper result }
 {
     if field.known.start != 0 {
         return field;
@@ -172,7 +173,8 @@ pub fn solve(
     operands: &Operands,
 ) -> Option<FieldValue>
     requires { IsProper field.now }
-    ensures { IsSolved row.now field.now operands.now result }
+    ensures solved { IsSolved row.now field.now operands.now result }
+    ensures proper { IfSome result IsProper }
 {
     match terms_of(row.kind, row.size) {
         Some(terms) => {
@@ -197,7 +199,8 @@ pub fn solve(
 pub fn join(high: &FieldValue, low: &FieldValue) -> Option<FieldValue>
     requires high { IsProper high.now }
     requires low { IsProper low.now }
-    ensures { IsJoined high.now low.now result }
+    ensures joined { IsJoined high.now low.now result }
+    ensures proper { IfSome result IsProper }
 {
     if low.known.start != 0 || low.rounding != 0 || low.known.end != high.known.start {
         return None;
