@@ -1,5 +1,5 @@
 -- Known bits of a number, and of one that is moved by a rounding.
-use Rattle.std.proofs.Common.{◌≡◌, ℕ, ◌+◌, ◌-◌, ◌*◌, ◌/◌, ◌%◌, ◌^◌, ◌<◌, ◌≤◌, refl, sym, ◌∙◌, ap, subst, arith}
+use Rattle.std.proofs.Common.{◌≡◌, ℕ, ◌+◌, ◌-◌, ◌*◌, ◌/◌, ◌%◌, ◌^◌, ◌<◌, ◌≤◌, sym, ◌∙◌, ap, subst, arith}
 use Rattle.std.proofs.lemmas.Nat.{mod_below, pow_pos, pow-add, mod-pow-add, div-mul-add, mod_low}
 use Rattle.std.proofs.Math.Nat.{mod-add-mod, mod-eq_of_lt, mul-add-mod_self_right}
 use Rattle.linker_base.specs.Bits.{field}

@@ -44,7 +44,7 @@ pub(crate) fn power_of_two(exponent: u8) -> u64
 }
 
 impl FieldValue {
-    /// Whether a number has the known bits.
+    /// Whether a number has the known bits. Of a value, its 64 bits in two's complement are meant.
     pub fn is_of(&self, number: u64) -> bool
         ensures { IsTrue result ↔ IsOf self.now number }
     {

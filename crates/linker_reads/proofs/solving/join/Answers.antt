@@ -1,7 +1,6 @@
-use Rattle.std.proofs.Common.{◌≡◌, ◌<◌, ◌≤◌, ◌^◌, ◌-◌, ◌*◌, ◌+◌, ◌%◌, ℕ, arith, rules, sym, ◌∙◌, ap, subst}
+use Rattle.std.proofs.Common.{◌≡◌, ◌<◌, ◌^◌, ◌-◌, ◌*◌, ◌+◌, ◌%◌, arith, rules, subst}
 use Rattle.std.proofs.lemmas.Nat.{mod_below, pow_pos}
 use Rattle.linker_base.proofs.Immediates.{subst_below}
-use Rattle.linker_reads.specs.Fields.{IsOf}
 use Rattle.linker_reads.proofs.Ranges.{moved_fits}
 use Rattle.linker_reads.proofs.Shifts.{bits_below, joined_halves, above}
 use Rattle.linker_reads.proofs.solving.join.Goals as goal

@@ -1,4 +1,4 @@
-use Rattle.std.proofs.Common.{◌≡◌, ◌-◌, ◌<◌, ◌≤◌, ◌^◌, ℕ, arith, rules, subst}
+use Rattle.std.proofs.Common.{◌≡◌, ◌-◌, ◌<◌, ◌^◌, arith, rules, subst}
 use Rattle.std.proofs.lemmas.Nat.{mod_below, pow_pos}
 use Rattle.linker_reads.proofs.Shifts.{taken_off}
 use Rattle.linker_reads.proofs.solving.without_rounding.Goals as goal
