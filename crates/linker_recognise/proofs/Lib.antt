@@ -1,0 +1,2 @@
+pub mod FieldBits
+pub mod Same

@@ -1,0 +1,6 @@
+//! What a linker made of a relocation, by the bytes before and after: which rewrite, and which
+//! relocation it then wrote.
+#![tactic(auto)]
+
+pub mod fields;
+mod candidates;
