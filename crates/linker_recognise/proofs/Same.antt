@@ -12,6 +12,16 @@ use Rattle.linker_recognise.specs.declared.fields.FieldBits.{FieldBits}
 abbrev pub HasBitsOf : RelocationKindInfo → List ℕ → ℕ → Type 0
 HasBitsOf row bytes mask = (w : ℕ) → w < 64 → (bit_at mask w == 1) ≡ is_field_bit row bytes w
 
+zero_bit : (w : ℕ) → bit_at 0 w ≡ 0
+zero_bit w = grind arith
+
+first_false : (a : Bool) {b : Bool} → b ≡ false → (a && b) ≡ false
+first_false true e = e
+first_false false e = refl
+
+zero_has_none : (w : ℕ) → (bit_at 0 w == 1) ≡ false
+zero_has_none w = ap (λ n. n == 1) (zero_bit w)
+
 -- a test that holds below 64 only
 below_64 : (mask : ℕ) (row : RelocationKindInfo) (bytes : List ℕ) → HasBitsOf row bytes mask → (w : ℕ)
     → (nat_lt w 64 && (bit_at mask w == 1)) ≡ is_field_bit row bytes w
@@ -26,6 +36,10 @@ pub in_row : (field : FieldBits) (row : RelocationKindInfo) (bytes : List ℕ) (
 in_row field row bytes at e has i j =
     ap (λ n. nat_le n i && (nat_lt (8 * (i - n) + j) 64 && (bit_at field.bits (8 * (i - n) + j) == 1))) e
     ∙ ap (λ b. nat_le at i && b) (below_64 field.bits row (drop at bytes) has (8 * (i - at) + j))
+
+-- no bits are those of no row
+pub in_none : (offset : ℕ) (i j : ℕ) → is_in (record { offset = offset; bits = 0 }) i j ≡ false
+in_none offset i j = first_false (nat_le offset i) (first_false (nat_lt (8 * (i - offset) + j) 64) (zero_has_none (8 * (i - offset) + j)))
 
 -- the same by another test with the same answers
 pub same_by : (P Q : ℕ → ℕ → Bool) (others : List FieldBits) (start count : ℕ) (a b : List ℕ)

@@ -1,21 +1,39 @@
-//! The choices that a relocation's table lists.
+//! Lists of a relocation's choices.
 
-ghost use Rattle.std.specs.Prelude.{◌≡◌, ◌↔◌, ◌⊎◌};
-ghost use Rattle.linker_recognise.specs.Recognised.{IsOneOf};
+ghost use Rattle.std.specs.Prelude.{◌≡◌, ◌∷◌, []};
+ghost use Rattle.linker_recognise.specs.Inner.Candidates.{padded};
 
-/// How many choices of a relocation there may be.
+/// How many choices a relocation may have.
 pub const CANDIDATES: usize = 6;
 
-/// One value.
+/// One choice.
+#[inline(always)]
 pub(crate) fn one<A: Copy>(a: A) -> [Option<A>; CANDIDATES]
-    ensures { (c : A) → IsOneOf c result ↔ (c ≡ a) }
+    ensures { result ≡ padded (a ∷ []) }
 {
     [Some(a), None, None, None, None, None]
 }
 
-/// Two values.
+/// Two choices.
+#[inline(always)]
 pub(crate) fn two<A: Copy>(a: A, b: A) -> [Option<A>; CANDIDATES]
-    ensures { (c : A) → IsOneOf c result ↔ ((c ≡ a) ⊎ (c ≡ b)) }
+    ensures { result ≡ padded (a ∷ b ∷ []) }
 {
     [Some(a), Some(b), None, None, None, None]
+}
+
+/// Three choices.
+#[inline(always)]
+pub(crate) fn three<A: Copy>(a: A, b: A, c: A) -> [Option<A>; CANDIDATES]
+    ensures { result ≡ padded (a ∷ b ∷ c ∷ []) }
+{
+    [Some(a), Some(b), Some(c), None, None, None]
+}
+
+/// Four choices.
+#[inline(always)]
+pub(crate) fn four<A: Copy>(a: A, b: A, c: A, d: A) -> [Option<A>; CANDIDATES]
+    ensures { result ≡ padded (a ∷ b ∷ c ∷ d ∷ []) }
+{
+    [Some(a), Some(b), Some(c), Some(d), None, None]
 }

@@ -4,3 +4,5 @@
 
 pub mod fields;
 mod candidates;
+mod engine;
+pub mod x86_64;

@@ -1,0 +1,27 @@
+-- What a linker made of a relocation of AArch64.
+use Rattle.std.specs.Prelude.{ℕ, List, None}
+use Rattle.linker_elf.specs.AArch64Relocations.{aarch64_row}
+use Rattle.linker_elf.specs.declared.aarch64.relocations.AArch64Relocation.{AArch64Relocation}
+use Rattle.linker_recognise.specs.Recognised.{IsLeft, choices_of, IsOneOf}
+use Rattle.linker_recognise.specs.declared.fields.FieldBits.{FieldBits}
+use Rattle.linker_utils.specs.AArch64Choices.{AArch64Choice, aarch64_entries}
+use Rattle.linker_utils.specs.AArch64Originals.{aarch64_matches}
+use Rattle.linker_utils.specs.AArch64Rewrites.{aarch64_rewrite}
+use Rattle.linker_utils.specs.Choices.{choice}
+use Rattle.linker_utils.specs.declared.aarch64.rewrites.RelaxationKind.TheVariants as kinds
+
+-- those of the entries of the name, and `NoOp` and the same relocation
+abbrev pub aarch64_choices : AArch64Relocation → List AArch64Choice
+aarch64_choices name = choices_of (aarch64_entries name) (choice kinds.NoOp name)
+
+-- the choice leaves the linked bytes
+abbrev pub AArch64Leaves : AArch64Choice → List ℕ → ℕ → List FieldBits → List ℕ → Type 0
+AArch64Leaves c original o others linked =
+    IsLeft (aarch64_rewrite c.kind) (aarch64_row c.relocation) None original o others linked
+
+-- It does so, is in the table of the name, and its rewrite is meant for what is there.
+pub record IsAArch64Made (name : AArch64Relocation) (original : List ℕ) (o : ℕ)
+    (others : List FieldBits) (linked : List ℕ) (c : AArch64Choice) : Type 0 where
+  pub listed : IsOneOf c (aarch64_choices name)
+  pub matches : aarch64_matches c.kind original o
+  pub leaves : AArch64Leaves c original o others linked
