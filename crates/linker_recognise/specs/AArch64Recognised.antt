@@ -2,7 +2,7 @@
 use Rattle.std.specs.Prelude.{ℕ, List, None}
 use Rattle.linker_elf.specs.AArch64Relocations.{aarch64_row}
 use Rattle.linker_elf.specs.declared.aarch64.relocations.AArch64Relocation.{AArch64Relocation}
-use Rattle.linker_recognise.specs.Recognised.{IsLeft, choices_of, IsOneOf}
+use Rattle.linker_recognise.specs.Recognised.{IsLeft, IsMade, choices_of}
 use Rattle.linker_recognise.specs.declared.fields.FieldBits.{FieldBits}
 use Rattle.linker_utils.specs.AArch64Choices.{AArch64Choice, aarch64_entries}
 use Rattle.linker_utils.specs.AArch64Originals.{aarch64_matches}
@@ -19,9 +19,8 @@ abbrev pub AArch64Leaves : AArch64Choice → List ℕ → ℕ → List FieldBits
 AArch64Leaves c original o others linked =
     IsLeft (aarch64_rewrite c.kind) (aarch64_row c.relocation) None original o others linked
 
--- It does so, is in the table of the name, and its rewrite is meant for what is there.
-pub record IsAArch64Made (name : AArch64Relocation) (original : List ℕ) (o : ℕ)
-    (others : List FieldBits) (linked : List ℕ) (c : AArch64Choice) : Type 0 where
-  pub listed : IsOneOf c (aarch64_choices name)
-  pub matches : aarch64_matches c.kind original o
-  pub leaves : AArch64Leaves c original o others linked
+-- by the table of the name
+abbrev pub IsAArch64Made : AArch64Relocation → List ℕ → ℕ → List FieldBits → List ℕ → AArch64Choice
+    → Type 0
+IsAArch64Made name original o others linked c =
+    IsMade (aarch64_choices name) aarch64_matches AArch64Leaves original o others linked c

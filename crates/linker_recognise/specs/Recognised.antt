@@ -56,6 +56,14 @@ abbrev pub IsOneOf : {A : Type 0} → A → List A → Type 0
 IsOneOf a [] = ⊥
 IsOneOf a (x ∷ xs) = (x ≡ a) ⊎ IsOneOf a xs
 
+-- It is one of some choices, its rewrite is meant for what is there, and it leaves the linked bytes.
+pub record IsMade {K R : Type 0} (choices : List (Choice K R)) (Matches : K → List ℕ → ℕ → Type 0)
+    (Leaves : Choice K R → List ℕ → ℕ → List FieldBits → List ℕ → Type 0) (original : List ℕ) (o : ℕ)
+    (others : List FieldBits) (linked : List ℕ) (c : Choice K R) : Type 0 where
+  pub listed : IsOneOf c choices
+  pub matches : Matches c.kind original o
+  pub leaves : Leaves c original o others linked
+
 -- Those that were found are those that are so.
 pub record AreThose {A : Type 0} (IsSo : A → Type 0) (found : List (Option A)) : Type 0 where
   pub only : (a : A) → IsOneOf (Some a) found → IsSo a

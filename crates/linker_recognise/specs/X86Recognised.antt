@@ -2,7 +2,7 @@
 use Rattle.std.specs.Prelude.{ℕ, ◌-◌, List, None, slice_index}
 use Rattle.linker_elf.specs.X86Relocations.{x86_64_row}
 use Rattle.linker_elf.specs.declared.x86_64.relocations.X86_64Relocation.{X86_64Relocation}
-use Rattle.linker_recognise.specs.Recognised.{IsLeft, choices_of, IsOneOf}
+use Rattle.linker_recognise.specs.Recognised.{IsLeft, IsMade, choices_of}
 use Rattle.linker_recognise.specs.declared.fields.FieldBits.{FieldBits}
 use Rattle.linker_utils.specs.Choices.{choice}
 use Rattle.linker_utils.specs.X86.{x86_64_rewrite}
@@ -24,10 +24,8 @@ abbrev pub X86Leaves : X86Choice → List ℕ → ℕ → List FieldBits → Lis
 X86Leaves c original o others linked =
     IsLeft (x86_64_rewrite c.kind) (x86_64_row c.relocation) None original o others linked
 
--- It does so, is in the table of the name and the opcode, and its rewrite is meant for what is there.
-pub record IsX86Made (name : X86_64Relocation) (original : List ℕ) (o : ℕ) (others : List FieldBits)
-    (linked : List ℕ) (c : X86Choice) : Type 0 where
-  pub listed :
-      IsOneOf c (x86_64_choices (x86_64_table name (slice_index original (o - 2))) name)
-  pub matches : x86_64_matches c.kind original o
-  pub leaves : X86Leaves c original o others linked
+-- by the table of the name and the opcode
+abbrev pub IsX86Made : X86_64Relocation → List ℕ → ℕ → List FieldBits → List ℕ → X86Choice → Type 0
+IsX86Made name original o others linked c =
+    IsMade (x86_64_choices (x86_64_table name (slice_index original (o - 2))) name) x86_64_matches
+    X86Leaves original o others linked c

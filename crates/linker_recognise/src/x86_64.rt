@@ -1,18 +1,22 @@
 //! What a linker made of a relocation of x86-64.
 
-ghost use Rattle.std.specs.Prelude.{◌≡◌, ◌-◌, ◌≤◌, ◌↔◌, IsTrue, Some, length, slice_index};
+ghost use Rattle.std.specs.Prelude.{◌≡◌, ◌-◌, ◌≤◌, ◌↔◌, Some, None, length, slice_index};
+ghost use Rattle.linker_elf.specs.X86Relocations.{x86_64_row};
 ghost use Rattle.linker_recognise.specs.Inner.Candidates.{padded};
 ghost use Rattle.linker_recognise.specs.Recognised.{IsOneOf, AreThose};
 ghost use Rattle.linker_recognise.specs.X86Recognised.{X86Choice, X86Leaves, x86_64_choices, IsX86Made};
 ghost use Rattle.linker_utils.specs.Choices as choices;
 ghost use Rattle.linker_utils.specs.X86Choices as tables;
+ghost use Rattle.linker_utils.specs.X86Choices.{IsX86Choice};
+ghost use Rattle.linker_utils.specs.declared.elf.choice.LinkFacts.{LinkFacts};
 ghost use Rattle.linker_utils.specs.X86Originals.{x86_64_matches};
 ghost use Rattle.linker_utils.specs.X86RelocationsAfter as replaced;
 
 use crate::candidates::{CANDIDATES, four, one, three, two};
-use crate::engine::is_left;
+use crate::engine::{Kind, Name, is_left, recognise_among};
 use crate::fields::FieldBits;
-use linker_utils::elf::{Choice, LinkFacts};
+use linker_utils::elf::{Choice, LinkFacts, Row};
+use linker_utils::riscv64::DeletedBytes;
 use linker_utils::x86_64::{RelaxationKind, X86_64Relocation, choose, row};
 
 type X86Choice = Choice<RelaxationKind, X86_64Relocation>;
@@ -173,37 +177,73 @@ fn opcode_before(original: &[u8], offset: u64) -> u8
         .unwrap_or(0)
 }
 
-/// Whether a choice leaves the linked bytes.
-fn leaves(
-    chosen: X86Choice,
-    original: &[u8],
-    offset: u64,
-    others: &[FieldBits],
-    linked: &[u8],
-) -> bool
-    requires { length original.now ≤ 64 }
-    ensures { IsTrue result ↔ X86Leaves chosen original.now offset others.now linked.now }
-{
-    let row = row(chosen.relocation);
-    is_left(chosen.kind, &row, None, original, offset, others, linked)
+impl Kind for RelaxationKind {
+    ghost matches = { x86_64_matches };
+
+    ghost deleted = { λ kind. None };
+
+    fn is_meant_for(self, section: &[u8], offset: u64) -> bool {
+        self.matches(section, offset)
+    }
+
+    fn deleted_bytes(self) -> Option<DeletedBytes> {
+        None
+    }
+
+    fn is(self, other: RelaxationKind) -> bool {
+        self == other
+    }
 }
 
-/// A choice, if its rewrite is meant for what is at the offset and it leaves the linked bytes.
-fn kept(
-    candidate: Option<X86Choice>,
+impl Name for X86_64Relocation {
+    ghost row_of = { x86_64_row };
+
+    fn find_row(self) -> Option<Row> {
+        row(self)
+    }
+
+    fn repeats(self, other: X86_64Relocation) -> bool {
+        matches!(
+            (self, other),
+            (X86_64Relocation::R_X86_64_32, X86_64Relocation::R_X86_64_32)
+                | (X86_64Relocation::R_X86_64_32S, X86_64Relocation::R_X86_64_32S)
+        )
+    }
+}
+
+pub fn recognise(
+    name: X86_64Relocation,
     original: &[u8],
     offset: u64,
     others: &[FieldBits],
     linked: &[u8],
+) -> [Option<X86Choice>; CANDIDATES]
+    requires { length original.now ≤ 64 }
+    ensures found { AreThose (IsX86Made name original.now offset others.now linked.now) result }
+    ensures any { (facts : LinkFacts) (c : X86Choice)
+        → IsX86Choice name original.now offset facts c
+        → X86Leaves c original.now offset others.now linked.now → IsOneOf (Some c) result }
+{
+    let choices = candidates(name, opcode_before(original, offset));
+    recognise_among(choices, original, offset, others, linked)
+}
+
+pub fn recognise_chosen(
+    name: X86_64Relocation,
+    original: &[u8],
+    offset: u64,
+    others: &[FieldBits],
+    linked: &[u8],
+    facts: &LinkFacts,
 ) -> Option<X86Choice>
     requires { length original.now ≤ 64 }
-    ensures { (c : X86Choice) → (result ≡ Some c) ↔ ((candidate ≡ Some c)
-        × x86_64_matches c.kind original.now offset
+    ensures { (c : X86Choice) → (result ≡ Some c)
+        ↔ (IsX86Choice name original.now offset facts.now c
         × X86Leaves c original.now offset others.now linked.now) }
 {
-    let chosen = candidate?;
-    if chosen.kind.matches(original, offset) && leaves(chosen, original, offset, others, linked) {
-        candidate
+    let chosen = choose(name, original, offset, facts);
+    if is_left(chosen, original, offset, others, linked) {
+        Some(chosen)
     } else {
         None
     }
