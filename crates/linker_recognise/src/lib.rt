@@ -2,7 +2,11 @@
 //! relocation it then wrote.
 #![tactic(auto)]
 
-pub mod fields;
+pub mod aarch64;
 mod candidates;
 mod engine;
+pub mod fields;
+pub mod loongarch64;
+pub mod ppc64;
+pub mod riscv64;
 pub mod x86_64;
