@@ -1,6 +1,6 @@
 -- What is chosen on AArch64 is one of the table's choices, and nothing else is chosen by the same facts.
 use Rattle.std.proofs.Common.{◌≡◌, ℕ, List}
-use Rattle.linker_recognise.proofs.Kept.{first_is_one, first_is_same}
+use Rattle.linker_recognise.proofs.Kept.{all_meant, first_is_one, first_is_same}
 use Rattle.linker_recognise.specs.Recognised.{IsOneOf}
 use Rattle.linker_recognise.specs.AArch64Recognised.{AArch64Choice, aarch64_choices}
 use Rattle.linker_utils.specs.Choices.{choice}
@@ -16,7 +16,7 @@ no_op_matches s o = tt
 pub aarch64_chosen_is_one : (name : AArch64Relocation) (s : List ℕ) (o : ℕ) (facts : LinkFacts) (c : AArch64Choice) → IsAArch64Choice name s o facts c
     → IsOneOf c (aarch64_choices name) × aarch64_matches c.kind s o
 aarch64_chosen_is_one name s o facts c is =
-    first_is_one (AArch64Applies name s o facts) (λ (d : AArch64Choice). aarch64_matches d.kind s o) (λ e a. a.matches) (aarch64_entries name) (choice kinds.NoOp name) c (no_op_matches s o) is
+    first_is_one (AArch64Applies name s o facts) (λ (d : AArch64Choice). aarch64_matches d.kind s o) (aarch64_entries name) (choice kinds.NoOp name) c (all_meant (AArch64Applies name s o facts) (λ (d : AArch64Choice). aarch64_matches d.kind s o) (λ e a. a.matches) (aarch64_entries name)) (no_op_matches s o) is
 
 pub aarch64_chosen_is_same : (name : AArch64Relocation) (s : List ℕ) (o : ℕ) (facts : LinkFacts) (c d : AArch64Choice)
     → IsAArch64Choice name s o facts c → IsAArch64Choice name s o facts d → c ≡ d

@@ -1,6 +1,6 @@
 -- What is chosen on RISC-V is one of the table's choices, and nothing else is chosen by the same facts.
 use Rattle.std.proofs.Common.{◌≡◌, ℕ, List}
-use Rattle.linker_recognise.proofs.Kept.{first_is_one, first_is_same}
+use Rattle.linker_recognise.proofs.Kept.{all_meant, first_is_one, first_is_same}
 use Rattle.linker_recognise.specs.Recognised.{IsOneOf}
 use Rattle.linker_recognise.specs.RiscVRecognised.{RiscVChoice, riscv_choices}
 use Rattle.linker_utils.specs.Choices.{choice}
@@ -16,7 +16,7 @@ no_op_matches s o = tt
 pub riscv_chosen_is_one : (name : RiscVRelocation) (s : List ℕ) (o : ℕ) (facts : LinkFacts) (c : RiscVChoice) → IsRiscVChoice name s o facts c
     → IsOneOf c (riscv_choices name) × riscv_matches c.kind s o
 riscv_chosen_is_one name s o facts c is =
-    first_is_one (AppliesToRiscV s o facts) (λ (d : RiscVChoice). riscv_matches d.kind s o) (λ e a. a.matches) (riscv_entries name) (choice kinds.NoOp name) c (no_op_matches s o) is
+    first_is_one (AppliesToRiscV s o facts) (λ (d : RiscVChoice). riscv_matches d.kind s o) (riscv_entries name) (choice kinds.NoOp name) c (all_meant (AppliesToRiscV s o facts) (λ (d : RiscVChoice). riscv_matches d.kind s o) (λ e a. a.matches) (riscv_entries name)) (no_op_matches s o) is
 
 pub riscv_chosen_is_same : (name : RiscVRelocation) (s : List ℕ) (o : ℕ) (facts : LinkFacts) (c d : RiscVChoice)
     → IsRiscVChoice name s o facts c → IsRiscVChoice name s o facts d → c ≡ d

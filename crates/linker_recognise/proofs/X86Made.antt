@@ -1,6 +1,6 @@
 -- What is chosen on x86-64 is one of the table's choices, and nothing else is chosen by the same facts.
 use Rattle.std.proofs.Common.{◌≡◌, ℕ, ◌-◌, List, slice_index, rules}
-use Rattle.linker_recognise.proofs.Kept.{first_is_one, first_is_same}
+use Rattle.linker_recognise.proofs.Kept.{all_meant, first_is_one, first_is_same}
 use Rattle.linker_recognise.specs.Recognised.{IsOneOf}
 use Rattle.linker_recognise.specs.X86Recognised.{X86Choice, x86_64_choices}
 use Rattle.linker_utils.specs.Choices.{choice}
@@ -20,7 +20,8 @@ applies t s o facts e = IsTrue (is_one_at t.instructions s o) × X86Applies s o 
 of_table : (t : Table) (name : X86_64Relocation) (s : List ℕ) (o : ℕ) (facts : LinkFacts) (c : X86Choice) → IsByTable t name s o facts c
     → IsOneOf c (x86_64_choices t name) × x86_64_matches c.kind s o
 of_table t name s o facts c is =
-    first_is_one (applies t s o facts) (λ (d : X86Choice). x86_64_matches d.kind s o) (λ e a. a.1.0) t.entries (choice kinds.NoOp name) c (no_op_matches s o) is
+    first_is_one (applies t s o facts) (λ (d : X86Choice). x86_64_matches d.kind s o) t.entries (choice kinds.NoOp name) c
+    (all_meant (applies t s o facts) (λ (d : X86Choice). x86_64_matches d.kind s o) (λ e a. a.1.0) t.entries) (no_op_matches s o) is
 
 pub x86_chosen_is_one : (name : X86_64Relocation) (s : List ℕ) (o : ℕ) (facts : LinkFacts) (c : X86Choice) → IsX86Choice name s o facts c
     → IsOneOf c (x86_64_choices (x86_64_table name (slice_index s (o - 2))) name) × x86_64_matches c.kind s o

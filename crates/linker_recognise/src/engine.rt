@@ -1,13 +1,13 @@
 //! Whether a choice of a rewrite leaves the linked bytes.
 
 ghost use Rattle.std.specs.Prelude.{◌≡◌, ℕ, ◌+◌, ◌-◌, ◌^◌, ◌≤◌, ◌↔◌, IsTrue, IfSome, IfNone, length, min};
-ghost use Rattle.std.specs.Prelude.{List, Option, Some};
+ghost use Rattle.std.specs.Prelude.{List, [], ◌∷◌, Option, Some};
 ghost use Rattle.linker_base.specs.Rewrite.{rewritten, offset_after, CanRewrite};
 ghost use Rattle.linker_recognise.specs.Fields.{is_in, is_in_field, AreSameBut};
 ghost use Rattle.linker_elf.specs.declared.elf.RelocationKindInfo.{RelocationKindInfo};
 ghost use Rattle.linker_recognise.specs.Inner.Candidates.{padded, IsKept};
 ghost use Rattle.linker_recognise.specs.Recognised.{HasField, IsLeft, AreLeft, deleted_start};
-ghost use Rattle.linker_recognise.specs.Recognised.{deleted_count, AreThose, IsMade};
+ghost use Rattle.linker_recognise.specs.Recognised.{deleted_count, AreThose, IsMade, IsOneOf};
 ghost use Rattle.linker_utils.specs.declared.riscv64.rewrites.DeletedBytes.{DeletedBytes};
 ghost use Rattle.linker_utils.specs.declared.elf.choice.Choice.{Choice};
 
@@ -158,21 +158,20 @@ fn kept<K: Kind, R: Name>(
 }
 
 /// Whether there are two choices, and they are the same.
-fn is_repeated<K: Kind, R: Name>(
-    before: Option<Choice<K, R>>,
-    candidate: Option<Choice<K, R>>,
-) -> bool
-    ensures { IsTrue result → candidate ≡ before }
+#[inline(always)]
+fn are_same<K: Kind, R: Name>(a: Option<Choice<K, R>>, b: Option<Choice<K, R>>) -> bool
+    ensures { IsTrue result → a ≡ b }
 {
-    let (Some(before), Some(candidate)) = (before, candidate) else {
+    let (Some(a), Some(b)) = (a, b) else {
         return false;
     };
-    candidate.kind.is(before.kind) && candidate.relocation.repeats(before.relocation)
+    a.kind.is(b.kind) && a.relocation.repeats(b.relocation)
 }
 
-/// The same as `kept`, but none if the choice is the one before it.
+/// The same as `kept`, but none if the choice is one of the two before it.
 fn kept_once<K: Kind, R: Name>(
     before: Option<Choice<K, R>>,
+    second_before: Option<Choice<K, R>>,
     candidate: Option<Choice<K, R>>,
     original: &[u8],
     offset: u64,
@@ -182,9 +181,9 @@ fn kept_once<K: Kind, R: Name>(
     requires { length original.now ≤ 64 }
     ensures { IsKept (λ (c : Choice K R). K.matches c.kind original.now offset
         × IsLeft (K.rewrite c.kind) (R.row_of c.relocation) (K.deleted c.kind) original.now offset
-        others.now linked.now) before candidate result }
+        others.now linked.now) (before ∷ second_before ∷ []) candidate result }
 {
-    if is_repeated(before, candidate) {
+    if are_same(candidate, before) || are_same(candidate, second_before) {
         return None;
     }
     kept(candidate, original, offset, others, linked)
@@ -206,11 +205,11 @@ pub(crate) fn recognise_among<K: Kind, R: Name>(
 {
     let [a, b, c, d, e, f] = choices;
     [
-        kept_once(None, a, original, offset, others, linked),
-        kept_once(a, b, original, offset, others, linked),
-        kept_once(b, c, original, offset, others, linked),
-        kept_once(c, d, original, offset, others, linked),
-        kept_once(d, e, original, offset, others, linked),
-        kept_once(e, f, original, offset, others, linked),
+        kept_once(None, None, a, original, offset, others, linked),
+        kept_once(a, None, b, original, offset, others, linked),
+        kept_once(b, a, c, original, offset, others, linked),
+        kept_once(c, b, d, original, offset, others, linked),
+        kept_once(d, c, e, original, offset, others, linked),
+        kept_once(e, d, f, original, offset, others, linked),
     ]
 }

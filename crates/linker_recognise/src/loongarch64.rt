@@ -132,6 +132,9 @@ pub fn recognise(
 ) -> [Option<LoongArchChoice>; CANDIDATES]
     requires { length original.now ≤ 64 }
     ensures found { AreThose (IsLoongArchMade name original.now offset others.now linked.now) result }
+    ensures any { (facts : LinkFacts) (c : LoongArchChoice)
+        → IsLoongArchChoice name original.now offset facts c
+        → LoongArchLeaves c original.now offset others.now linked.now → IsOneOf (Some c) result }
 {
     recognise_among(candidates(name), original, offset, others, linked)
 }
