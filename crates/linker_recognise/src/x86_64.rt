@@ -5,6 +5,7 @@ ghost use Rattle.linker_elf.specs.X86Relocations.{x86_64_row};
 ghost use Rattle.linker_recognise.specs.Inner.Candidates.{padded};
 ghost use Rattle.linker_recognise.specs.Recognised.{IsOneOf, AreThose};
 ghost use Rattle.linker_recognise.specs.X86Recognised.{X86Choice, X86Leaves, x86_64_choices, IsX86Made};
+ghost use Rattle.linker_recognise.specs.WrittenFields.{X86WrittenIsLeft};
 ghost use Rattle.linker_utils.specs.Choices as choices;
 ghost use Rattle.linker_utils.specs.X86Choices as tables;
 ghost use Rattle.linker_utils.specs.X86Choices.{IsX86Choice};
@@ -321,3 +322,9 @@ pub fn recognise_chosen(
         None
     }
 }
+
+/// Where a rewrite is applied, and the value of the relocation after it is written, the choice of both
+/// leaves these bytes. So `recognise` returns what `choose` chose, after `apply` and `write`.
+pub fn written_choices_are_left()
+    ensures { X86WrittenIsLeft }
+{}
