@@ -174,18 +174,20 @@ fn a_field_is_that_of_the_instruction(rt: HostRuntime) {
     let row = row.expect(&rt, "a row");
     let lq = 0xe083_0000u32;
     let ld = 0xe883_0000u32;
-    for bit in 0..32 {
-        let is_in_lq = (4..16).contains(&bit);
-        let is_in_ld = (2..16).contains(&bit);
-        let other = lq ^ (1 << bit);
+    for (word, bit, is_in) in [
+        (lq, 0x8, false),
+        (lq, 0x10, true),
+        (lq, 0x8000, true),
+        (lq, 0x1_0000, false),
+        (ld, 0x2, false),
+        (ld, 0x4, true),
+        (ld, 0x8000, true),
+        (ld, 0x1_0000, false),
+    ] {
+        let other: u32 = word ^ bit;
         assert_eq!(rt;
-            same_but_for(&row, &lq.to_le_bytes(), &other.to_le_bytes()),
-            is_in_lq
-        );
-        let other = ld ^ (1 << bit);
-        assert_eq!(rt;
-            same_but_for(&row, &ld.to_le_bytes(), &other.to_le_bytes()),
-            is_in_ld
+            same_but_for(&row, &word.to_le_bytes(), &other.to_le_bytes()),
+            is_in
         );
     }
 }
