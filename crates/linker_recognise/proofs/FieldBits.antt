@@ -1,5 +1,5 @@
 -- The masks of fields have the bits that a write of a row may change.
-use Rattle.std.proofs.Common.{◌≡◌, ◌⊎◌, ℕ, ◌+◌, ◌-◌, ◌*◌, ◌^◌, ◌<◌, ◌≤◌, Bool, true, false, not, ◌&&◌, ◌||◌, eqb, List, refl, sym, ap, ◌∙◌, inl, inr, arith, subst, min, ⊎_elim}
+use Rattle.std.proofs.Common.{◌≡◌, ℕ, ◌-◌, ◌*◌, ◌^◌, ◌<◌, ◌≤◌, Bool, true, false, not, ◌&&◌, List, refl, sym, ap, ◌∙◌, arith, min, ⊎_elim}
 use Rattle.std.specs.Prelude.{◌==◌, nat_lt, if◌then◌else◌, bit_and}
 use Rattle.std.specs.Int.{bit_at}
 use Rattle.std.proofs.lemmas.Bool.{agree_below, agree_below_at, cases_lt, lt-ltb}
@@ -10,7 +10,6 @@ use Rattle.linker_elf.specs.Elf.{relocation_form}
 use Rattle.linker_elf.specs.Inner.FormLaws.{scale_small}
 use Rattle.linker_elf.specs.LoongArch.{loongarch_form, shift10_low}
 use Rattle.linker_elf.specs.Relocate.{is_dq_form}
-use Rattle.linker_elf.specs.declared.aarch64.forms.AArch64Instruction.{AArch64Instruction}
 use Rattle.linker_elf.specs.declared.aarch64.forms.AArch64Instruction.TheVariants as aarch64
 use Rattle.linker_elf.specs.declared.elf.RelocationInstruction.{RelocationInstruction}
 use Rattle.linker_elf.specs.declared.elf.RelocationInstruction.TheVariants.{AArch64, LoongArch64, Ppc64, RiscV}

@@ -1,6 +1,6 @@
 -- What is chosen on LoongArch is one of the table's choices, and nothing else is chosen by the same
 -- facts.
-use Rattle.std.proofs.Common.{◌≡◌, ◌⊎◌, ◌≤◌, ℕ, ◌+◌, ◌-◌, List, length, inl, inr, subst, arith}
+use Rattle.std.proofs.Common.{◌≡◌, ◌⊎◌, ◌≤◌, ℕ, ◌+◌, ◌-◌, List, inl, inr, subst, arith}
 use Rattle.std.specs.Bool.{⊤}
 use Rattle.linker_recognise.proofs.Kept.{AllMeant, first_is_one, first_is_same}
 use Rattle.linker_recognise.specs.Recognised.{IsOneOf}

@@ -1,11 +1,10 @@
 -- A write of whole bytes leaves all others, and what it leaves is what is recognised.
-use Rattle.std.proofs.Common.{◌≡◌, ◌≤◌, ◌<◌, ℕ, ◌+◌, ◌-◌, ◌*◌, ◌^◌, Bool, true, false, ◌&&◌, ◌||◌, List, ◌++◌, length, take, drop, get_or, Option, Some, None, refl, sym, ap, subst, ◌∙◌, ⊎_elim, arith, ℤ, min, length-append, length-drop}
+use Rattle.std.proofs.Common.{◌≡◌, ◌≤◌, ◌<◌, ℕ, ◌+◌, ◌-◌, ◌*◌, ◌^◌, Bool, true, false, ◌&&◌, List, ◌++◌, length, take, drop, get_or, Option, Some, None, refl, sym, ap, subst, ◌∙◌, ⊎_elim, arith, length-append, length-drop}
 use Rattle.std.specs.Prelude.{nat_lt, nat_le, slice_index, if◌then◌else◌}
-use Rattle.std.specs.Bool.{⊤}
 use Rattle.std.specs.Int.{bit_at, w64, to_le_bytes}
 use Rattle.std.proofs.lemmas.Bool.{cases_lt, lt-ltb, le-ltb, le-leb, ltb-true, and_from, and_parts, or_parts, both_ways, false≢true}
 use Rattle.std.proofs.lemmas.List.{get_or_append_left, get_or-append_right, get_or-take, get_or-drop, length-take-le}
-use Rattle.linker_elf.specs.Relocate.{WritesRow, IsWritten, is_supported, takes_size, size_len, low_bytes, number_written, number_of_bytes, window_len, is_of_uleb128}
+use Rattle.linker_elf.specs.Relocate.{IsWritten, takes_size, size_len, low_bytes, number_written, number_of_bytes}
 use Rattle.linker_elf.specs.X86Relocations.{x86_64_row}
 use Rattle.linker_elf.specs.declared.elf.RelocationKind.{RelocationKind}
 use Rattle.linker_elf.specs.declared.elf.RelocationKindInfo.{RelocationKindInfo}
@@ -13,7 +12,7 @@ use Rattle.linker_elf.specs.declared.elf.RelocationSize.{RelocationSize}
 use Rattle.linker_elf.specs.declared.elf.RelocationSize.TheVariants.{ByteSize, BitMasking}
 use Rattle.linker_elf.specs.declared.x86_64.relocations.X86_64Relocation.{X86_64Relocation}
 use Rattle.linker_elf.specs.declared.x86_64.relocations.X86_64Relocation.TheVariants as r
-use Rattle.linker_recognise.specs.Fields.{is_field_bit, is_size_bit, is_value_bit, is_in_row, is_in_field, is_in_one, kept_index, IsSameBut, AreSameBut, AreSameButFor}
+use Rattle.linker_recognise.specs.Fields.{is_field_bit, is_size_bit, is_value_bit, is_in_row, is_in_one, kept_index, IsSameBut, AreSameBut, AreSameButFor}
 use Rattle.linker_recognise.specs.Recognised.{AreLeft}
 use Rattle.linker_recognise.specs.WrittenFields.{WritesField, X86WrittenIsLeft}
 use Rattle.linker_base.specs.Rewrite.{rewritten, offset_after}

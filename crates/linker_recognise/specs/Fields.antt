@@ -7,7 +7,7 @@ use Rattle.std.specs.Int.{bit_at}
 use Rattle.linker_base.specs.Form.{is_placed, window_of}
 use Rattle.linker_base.specs.declared.bit_misc.BitRange.{BitRange}
 use Rattle.linker_elf.specs.Elf.{relocation_form}
-use Rattle.linker_elf.specs.LoongArch.{loongarch_form, shift10_low}
+use Rattle.linker_elf.specs.LoongArch.{shift10_low}
 use Rattle.linker_elf.specs.Relocate.{is_dq_form, window_len}
 use Rattle.linker_elf.specs.declared.aarch64.forms.AArch64Instruction.TheVariants.{Movnz}
 use Rattle.linker_elf.specs.declared.loongarch64.forms.LoongArch64Instruction.TheVariants.{Shift10}

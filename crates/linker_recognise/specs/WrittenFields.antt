@@ -4,7 +4,6 @@ use Rattle.linker_base.specs.Rewrite.{CanRewrite, rewritten, offset_after}
 use Rattle.linker_elf.specs.Relocate.{WritesRow}
 use Rattle.linker_elf.specs.X86Relocations.{x86_64_row}
 use Rattle.linker_elf.specs.declared.elf.RelocationKindInfo.{RelocationKindInfo}
-use Rattle.linker_elf.specs.declared.x86_64.relocations.X86_64Relocation.{X86_64Relocation}
 use Rattle.linker_recognise.specs.Fields.{AreSameButFor}
 use Rattle.linker_recognise.specs.X86Recognised.{X86Choice, X86Leaves}
 use Rattle.linker_recognise.specs.declared.fields.FieldBits.{FieldBits}

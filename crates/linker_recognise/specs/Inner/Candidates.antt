@@ -1,5 +1,5 @@
 -- Lists of a relocation's choices.
-use Rattle.std.specs.Prelude.{◌≡◌, ◌⊎◌, ◌↔◌, ℕ, ◌-◌, List, [], ◌∷◌, ◌++◌, map, length, replicate}
+use Rattle.std.specs.Prelude.{◌≡◌, ◌⊎◌, ◌↔◌, ◌-◌, List, [], ◌∷◌, ◌++◌, map, length, replicate}
 use Rattle.std.specs.Prelude.{Option, Some, None, ⊤}
 use Rattle.linker_recognise.specs.Recognised.{IsOneOf}
 

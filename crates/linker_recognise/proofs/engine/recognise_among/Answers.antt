@@ -1,4 +1,4 @@
-use Rattle.std.proofs.Common.{◌≡◌, List, [], ◌∷◌, Option, None, sym, ◌∙◌, subst}
+use Rattle.std.proofs.Common.{List, [], ◌∷◌, Option, None, sym, ◌∙◌, subst}
 use Rattle.linker_recognise.specs.Inner.Candidates.{AreKept}
 use Rattle.linker_recognise.specs.Recognised.{IsLeft}
 use Rattle.linker_recognise.proofs.Kept.{six, those_made}

@@ -1,6 +1,6 @@
 use Rattle.std.proofs.Common.{ℕ, subst}
 use Rattle.linker_recognise.specs.Recognised.{AreThose, IsMade}
-use Rattle.linker_recognise.specs.X86Recognised.{X86Leaves, x86_64_choices, IsX86Made}
+use Rattle.linker_recognise.specs.X86Recognised.{X86Leaves, x86_64_choices}
 use Rattle.linker_recognise.proofs.X86Made.{x86_chosen_is_one}
 use Rattle.linker_utils.specs.X86Choices.{x86_64_table}
 use Rattle.linker_utils.specs.X86Originals.{x86_64_matches}

@@ -1,4 +1,3 @@
-use Rattle.std.proofs.Common.{sym, ◌∙◌}
 use Rattle.std.proofs.lemmas.Bool.{iff_false}
 use Rattle.linker_recognise.specs.X86Recognised.{X86Choice, X86Leaves}
 use Rattle.linker_recognise.proofs.Kept.{chosen_left, chosen_not_left}
