@@ -1,0 +1,17 @@
+//! What a linker made of a relocation, by the bytes before and after: which rewrite, and which
+//! relocation it then wrote.
+#![tactic(auto)]
+
+pub mod aarch64;
+mod candidates;
+mod engine;
+pub mod fields;
+pub mod loongarch64;
+pub mod ppc64;
+pub mod riscv64;
+#[cfg(test)]
+mod tests;
+pub mod x86_64;
+
+pub use candidates::CANDIDATES;
+pub use engine::MAX_WINDOW;

@@ -1,0 +1,143 @@
+//! What a linker made of a relocation of RISC-V.
+
+ghost use Rattle.std.specs.Prelude.{◌≡◌, ◌≤◌, ◌↔◌, Some, length};
+ghost use Rattle.linker_recognise.specs.RiscVRecognised.{RiscVChoice, RiscVLeaves, riscv_choices};
+ghost use Rattle.linker_recognise.specs.RiscVRecognised.{IsRiscVMade};
+ghost use Rattle.linker_recognise.specs.Inner.Candidates.{padded};
+ghost use Rattle.linker_recognise.specs.Recognised.{IsOneOf, AreThose};
+ghost use Rattle.linker_utils.specs.Choices as choices;
+ghost use Rattle.linker_utils.specs.RiscVChoices.{riscv_row_of, IsRiscVChoice};
+ghost use Rattle.linker_utils.specs.RiscVOriginals.{riscv_matches};
+ghost use Rattle.linker_utils.specs.RiscVRewrites.{riscv_deleted};
+ghost use Rattle.linker_utils.specs.declared.elf.choice.LinkFacts.{LinkFacts};
+
+use crate::candidates::{CANDIDATES, four, one, three, two};
+use crate::engine::{Kind, Name, is_left, recognise_among};
+use crate::fields::FieldBits;
+use linker_utils::elf::{Choice, LinkFacts, Row};
+use linker_utils::riscv64::{DeletedBytes, RelaxationKind, RiscVRelocation, choose, row};
+
+type RiscVChoice = Choice<RelaxationKind, RiscVRelocation>;
+
+#[inline(always)]
+fn choice(kind: RelaxationKind, relocation: RiscVRelocation) -> RiscVChoice
+    ensures { result ≡ choices.choice kind relocation }
+{
+    Choice { kind, relocation }
+}
+
+/// The choices of a relocation.
+fn candidates(name: RiscVRelocation) -> [Option<RiscVChoice>; CANDIDATES]
+    ensures { result ≡ padded (riscv_choices name) }
+{
+    let unchanged = choice(RelaxationKind::NoOp, name);
+    match name {
+        RiscVRelocation::R_RISCV_CALL | RiscVRelocation::R_RISCV_CALL_PLT => four(
+            choice(RelaxationKind::TailToCJ, RiscVRelocation::R_RISCV_RVC_JUMP),
+            choice(RelaxationKind::TailToJal, RiscVRelocation::R_RISCV_JAL),
+            choice(RelaxationKind::CallToJal, RiscVRelocation::R_RISCV_JAL),
+            unchanged,
+        ),
+        RiscVRelocation::R_RISCV_HI20 => three(
+            choice(RelaxationKind::Hi20Delete, RiscVRelocation::R_RISCV_NONE),
+            choice(RelaxationKind::Hi20ToCLui, RiscVRelocation::R_RISCV_RVC_LUI),
+            unchanged,
+        ),
+        RiscVRelocation::R_RISCV_LO12_I => two(
+            choice(RelaxationKind::Lo12Rs1ToZero, name),
+            unchanged,
+        ),
+        RiscVRelocation::R_RISCV_LO12_S => two(
+            choice(RelaxationKind::Lo12Rs1ToZero, name),
+            unchanged,
+        ),
+        _ => one(unchanged),
+    }
+}
+
+impl Kind for RelaxationKind {
+    ghost matches = { riscv_matches };
+
+    ghost deleted = { riscv_deleted };
+
+    fn is_meant_for(self, section: &[u8], offset: u64) -> bool {
+        self.matches(section, offset)
+    }
+
+    fn deleted_bytes(self) -> Option<DeletedBytes> {
+        self.deleted()
+    }
+
+    fn is(self, other: RelaxationKind) -> bool {
+        self == other
+    }
+}
+
+impl Name for RiscVRelocation {
+    ghost row_of = { riscv_row_of };
+
+    fn find_row(self) -> Option<Row> {
+        row(self)
+    }
+
+    fn repeats(self, _other: RiscVRelocation) -> bool {
+        false
+    }
+}
+
+/// Which rewrites, and relocations after them, a linker may have made at the relocation with a name,
+/// whose offset in the original bytes is given, as `recognise` of `x86_64` says.
+///
+/// A rewrite after which bytes are deleted leaves the others. So the linked window is shorter by the
+/// deleted bytes, and empty if they are all of the original window.
+///
+/// ```
+/// use linker_recognise::riscv64::recognise;
+/// use linker_utils::riscv64::{RelaxationKind, RiscVRelocation};
+///
+/// // `auipc ra, 0` and `jalr ra, 0(ra)` became `jal ra, 256`
+/// let original = [0x97, 0, 0, 0, 0xe7, 0x80, 0, 0];
+/// let linked = [0xef, 0, 0, 0x10];
+/// let name = RiscVRelocation::R_RISCV_CALL_PLT;
+/// let mut choices = recognise(name, &original, 0, &[], &linked).into_iter().flatten();
+/// assert_eq!(choices.next().unwrap().kind, RelaxationKind::CallToJal);
+/// assert!(choices.next().is_none());
+/// ```
+pub fn recognise(
+    name: RiscVRelocation,
+    original: &[u8],
+    offset: u64,
+    others: &[FieldBits],
+    linked: &[u8],
+) -> [Option<RiscVChoice>; CANDIDATES]
+    requires { length original.now ≤ 64 }
+    ensures found { AreThose (IsRiscVMade name original.now offset others.now linked.now) result }
+    ensures any { (facts : LinkFacts) (c : RiscVChoice)
+        → IsRiscVChoice name original.now offset facts c
+        → RiscVLeaves c original.now offset others.now linked.now → IsOneOf (Some c) result }
+{
+    recognise_among(candidates(name), original, offset, others, linked)
+}
+
+/// The choice that `choose` makes by what the linker knows, if it leaves the linked bytes, as
+/// `recognise` says.
+pub fn recognise_chosen(
+    name: RiscVRelocation,
+    original: &[u8],
+    offset: u64,
+    others: &[FieldBits],
+    linked: &[u8],
+    facts: &LinkFacts,
+) -> Option<RiscVChoice>
+    requires { length original.now ≤ 64 }
+    ensures { (c : RiscVChoice) → (result ≡ Some c)
+        ↔ (IsRiscVChoice name original.now offset facts.now c
+        × RiscVLeaves c original.now offset others.now linked.now) }
+{
+    let chosen = choose(name, original, offset, facts);
+    if is_left(chosen, original, offset, others, linked) {
+        Some(chosen)
+    } else {
+        None
+    }
+}
