@@ -5,6 +5,7 @@ pub mod AArch64Steps
 pub mod AArch64Words
 pub mod LoongArchCalls
 pub mod LoongArchDescriptors
+pub mod LoongArchOffsets
 pub mod LoongArchPairs
 pub mod LoongArchSteps
 pub mod LoongArchWords

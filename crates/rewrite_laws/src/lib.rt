@@ -91,8 +91,8 @@ pub fn riscv64()
 }
 
 /// LoongArch: the address of a symbol without its GOT entry, or by `pcaddi`; the offset of a variable
-/// from the thread pointer in the instructions, or by its GOT entry in place of a descriptor's
-/// function; a call by `b` or `bl`. Where an instruction is deleted, the code before and
+/// from the thread pointer in the instructions, in one of them, or by its GOT entry in place of a
+/// descriptor's function; a call by `b` or `bl`. Where an instruction is deleted, the code before and
 /// after the rewrite may stand at different addresses, each with its relocations applied.
 pub fn loongarch64()
     ensures got { loongarch_laws.GotToAddress }
@@ -101,6 +101,7 @@ pub fn loongarch64()
     ensures address { loongarch_laws.AddressToPcaddi }
     ensures near_got { loongarch_laws.GotToPcaddi }
     ensures calls { loongarch_laws.Calls }
+    ensures shorter_local_exec { loongarch_laws.ShorterLocalExec }
     ensures descriptor_to_local_exec { loongarch_laws.DescriptorToLocalExec }
     ensures descriptor_to_initial_exec { loongarch_laws.DescriptorToInitialExec }
 {
