@@ -1,0 +1,30 @@
+-- What a linker made of a relocation of AArch64.
+use Rattle.std.specs.Prelude.{ℕ, List, None}
+use Rattle.linker_elf.specs.AArch64Relocations.{aarch64_row}
+use Rattle.linker_elf.specs.declared.aarch64.relocations.AArch64Relocation.{AArch64Relocation}
+use Rattle.linker_recognise.specs.Recognised.{IsLeft, IsMade, choices_of}
+use Rattle.linker_recognise.specs.declared.fields.FieldBits.{FieldBits}
+use Rattle.linker_utils.specs.Choices.{choice}
+use Rattle.linker_utils.specs.AArch64Choices.{aarch64_entries}
+use Rattle.linker_utils.specs.AArch64Originals.{aarch64_matches}
+use Rattle.linker_utils.specs.AArch64Rewrites.{aarch64_rewrite}
+use Rattle.linker_utils.specs.declared.elf.choice.Choice.{Choice}
+use Rattle.linker_utils.specs.declared.aarch64.rewrites.RelaxationKind.{RelaxationKind}
+use Rattle.linker_utils.specs.declared.aarch64.rewrites.RelaxationKind.TheVariants as kinds
+
+abbrev pub AArch64Choice : Type 0
+AArch64Choice = Choice RelaxationKind AArch64Relocation
+
+-- those of the entries of the name, and `NoOp` and the same relocation
+abbrev pub aarch64_choices : AArch64Relocation → List AArch64Choice
+aarch64_choices name = choices_of (aarch64_entries name) (choice kinds.NoOp name)
+
+-- the choice leaves the linked bytes
+abbrev pub AArch64Leaves : AArch64Choice → List ℕ → ℕ → List FieldBits → List ℕ → Type 0
+AArch64Leaves c original o others linked =
+    IsLeft (aarch64_rewrite c.kind) (aarch64_row c.relocation) None original o others linked
+
+-- by the table of the name
+abbrev pub IsAArch64Made : AArch64Relocation → List ℕ → ℕ → List FieldBits → List ℕ → AArch64Choice → Type 0
+IsAArch64Made name original o others linked c =
+    IsMade (aarch64_choices name) aarch64_matches AArch64Leaves original o others linked c

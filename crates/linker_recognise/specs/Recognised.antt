@@ -1,0 +1,70 @@
+-- What a linker made of a relocation: the choices of a rewrite that leave the linked bytes.
+use Rattle.std.specs.Prelude.{◌≡◌, ◌⊎◌, ◌≤◌, ◌+◌, ℕ, List, [], ◌∷◌, length, Option, Some, None, ⊤}
+use Rattle.linker_base.specs.Rewrite.{Rewrite, CanRewrite, rewritten, offset_after}
+use Rattle.linker_elf.specs.Relocate.{window_len}
+use Rattle.linker_elf.specs.declared.elf.RelocationKindInfo.{RelocationKindInfo}
+use Rattle.linker_recognise.specs.Fields.{is_in_field, AreSameBut}
+use Rattle.linker_recognise.specs.declared.fields.FieldBits.{FieldBits}
+use Rattle.linker_utils.specs.Choices.{Entry, choice}
+use Rattle.linker_utils.specs.declared.elf.choice.Choice.{Choice}
+use Rattle.linker_utils.specs.declared.riscv64.rewrites.DeletedBytes.{DeletedBytes}
+
+-- ---- what a rewrite leaves
+
+-- the bytes that are deleted after a rewrite at an offset: where they begin, and how many they are
+abbrev pub deleted_start : Option DeletedBytes → ℕ → ℕ
+deleted_start None o = 0
+deleted_start (Some deleted) o = o + deleted.start
+
+abbrev pub deleted_count : Option DeletedBytes → ℕ
+deleted_count None = 0
+deleted_count (Some deleted) = deleted.count
+
+-- the window of the row, if there is one, lies in the bytes
+abbrev pub HasField : Option RelocationKindInfo → ℕ → List ℕ → Type 0
+HasField None at bytes = ⊤
+HasField (Some row) at bytes = at + window_len row ≤ length bytes
+
+-- From bytes, without those that are deleted, the linked bytes differ only in the field of a row at an
+-- offset and in others.
+pub record AreLeft (after : List ℕ) (at : ℕ) (row : Option RelocationKindInfo)
+    (deleted : Option DeletedBytes) (o : ℕ) (others : List FieldBits) (linked : List ℕ)
+    : Type 0 where
+  pub has_field : HasField row at after
+  pub starts : deleted_start deleted o ≤ length linked
+  pub lengths : length linked + deleted_count deleted ≡ length after
+  pub same :
+      AreSameBut (is_in_field row at after) others (deleted_start deleted o) (deleted_count deleted)
+      after linked
+
+-- They do so from what a rewrite makes of the original. The row is that of the relocation after it.
+pub record IsLeft (rewrite : Option Rewrite) (row : Option RelocationKindInfo)
+    (deleted : Option DeletedBytes) (original : List ℕ) (o : ℕ) (others : List FieldBits)
+    (linked : List ℕ) : Type 0 where
+  pub rewritable : CanRewrite rewrite original o
+  pub left :
+      AreLeft (rewritten rewrite original o) (offset_after rewrite o) row deleted o others linked
+
+-- ---- which choices there are
+
+-- those of a table's entries, and the last one
+abbrev pub choices_of : {K R : Type 0} → List (Entry K R) → Choice K R → List (Choice K R)
+choices_of [] otherwise = otherwise ∷ []
+choices_of (e ∷ es) otherwise = choice e.kind e.relocation ∷ choices_of es otherwise
+
+abbrev pub IsOneOf : {A : Type 0} → A → List A → Type 0
+IsOneOf a [] = ⊥
+IsOneOf a (x ∷ xs) = (x ≡ a) ⊎ IsOneOf a xs
+
+-- It is one of some choices, its rewrite is meant for what is there, and it leaves the linked bytes.
+pub record IsMade {K R : Type 0} (choices : List (Choice K R)) (Matches : K → List ℕ → ℕ → Type 0)
+    (Leaves : Choice K R → List ℕ → ℕ → List FieldBits → List ℕ → Type 0) (original : List ℕ) (o : ℕ)
+    (others : List FieldBits) (linked : List ℕ) (c : Choice K R) : Type 0 where
+  pub listed : IsOneOf c choices
+  pub matches : Matches c.kind original o
+  pub leaves : Leaves c original o others linked
+
+-- Those that were found are those that are so.
+pub record AreThose {A : Type 0} (IsSo : A → Type 0) (found : List (Option A)) : Type 0 where
+  pub only : (a : A) → IsOneOf (Some a) found → IsSo a
+  pub all : (a : A) → IsSo a → IsOneOf (Some a) found

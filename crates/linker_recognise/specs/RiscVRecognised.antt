@@ -1,0 +1,29 @@
+-- What a linker made of a relocation of RISC-V.
+use Rattle.std.specs.Prelude.{ℕ, List}
+use Rattle.linker_elf.specs.declared.riscv64.relocations.RiscVRelocation.{RiscVRelocation}
+use Rattle.linker_recognise.specs.Recognised.{IsLeft, IsMade, choices_of}
+use Rattle.linker_recognise.specs.declared.fields.FieldBits.{FieldBits}
+use Rattle.linker_utils.specs.Choices.{choice}
+use Rattle.linker_utils.specs.RiscVChoices.{riscv_entries, riscv_row_of}
+use Rattle.linker_utils.specs.RiscVOriginals.{riscv_matches}
+use Rattle.linker_utils.specs.RiscVRewrites.{riscv_rewrite, riscv_deleted}
+use Rattle.linker_utils.specs.declared.elf.choice.Choice.{Choice}
+use Rattle.linker_utils.specs.declared.riscv64.rewrites.RelaxationKind.{RelaxationKind}
+use Rattle.linker_utils.specs.declared.riscv64.rewrites.RelaxationKind.TheVariants as kinds
+
+abbrev pub RiscVChoice : Type 0
+RiscVChoice = Choice RelaxationKind RiscVRelocation
+
+-- those of the entries of the name, and `NoOp` and the same relocation
+abbrev pub riscv_choices : RiscVRelocation → List RiscVChoice
+riscv_choices name = choices_of (riscv_entries name) (choice kinds.NoOp name)
+
+-- the choice leaves the linked bytes
+abbrev pub RiscVLeaves : RiscVChoice → List ℕ → ℕ → List FieldBits → List ℕ → Type 0
+RiscVLeaves c original o others linked =
+    IsLeft (riscv_rewrite c.kind) (riscv_row_of c.relocation) (riscv_deleted c.kind) original o others linked
+
+-- by the table of the name
+abbrev pub IsRiscVMade : RiscVRelocation → List ℕ → ℕ → List FieldBits → List ℕ → RiscVChoice → Type 0
+IsRiscVMade name original o others linked c =
+    IsMade (riscv_choices name) riscv_matches RiscVLeaves original o others linked c

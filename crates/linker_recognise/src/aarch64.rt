@@ -1,0 +1,146 @@
+//! What a linker made of a relocation of AArch64.
+
+ghost use Rattle.std.specs.Prelude.{◌≡◌, ◌≤◌, ◌↔◌, Some, None, length};
+ghost use Rattle.linker_elf.specs.AArch64Relocations.{aarch64_row};
+ghost use Rattle.linker_recognise.specs.AArch64Recognised.{AArch64Choice, AArch64Leaves, aarch64_choices};
+ghost use Rattle.linker_recognise.specs.AArch64Recognised.{IsAArch64Made};
+ghost use Rattle.linker_recognise.specs.Inner.Candidates.{padded};
+ghost use Rattle.linker_recognise.specs.Recognised.{IsOneOf, AreThose};
+ghost use Rattle.linker_utils.specs.Choices as choices;
+ghost use Rattle.linker_utils.specs.AArch64Choices.{IsAArch64Choice};
+ghost use Rattle.linker_utils.specs.AArch64Originals.{aarch64_matches};
+ghost use Rattle.linker_utils.specs.declared.elf.choice.LinkFacts.{LinkFacts};
+
+use crate::candidates::{CANDIDATES, one, three, two};
+use crate::engine::{Kind, Name, is_left, recognise_among};
+use crate::fields::FieldBits;
+use linker_utils::elf::{Choice, LinkFacts, Row};
+use linker_utils::aarch64::{AArch64Relocation, RelaxationKind, choose, row};
+use linker_utils::riscv64::DeletedBytes;
+
+type AArch64Choice = Choice<RelaxationKind, AArch64Relocation>;
+
+#[inline(always)]
+fn choice(kind: RelaxationKind, relocation: AArch64Relocation) -> AArch64Choice
+    ensures { result ≡ choices.choice kind relocation }
+{
+    Choice { kind, relocation }
+}
+
+/// The choices of a relocation.
+fn candidates(name: AArch64Relocation) -> [Option<AArch64Choice>; CANDIDATES]
+    ensures { result ≡ padded (aarch64_choices name) }
+{
+    let unchanged = choice(RelaxationKind::NoOp, name);
+    match name {
+        AArch64Relocation::R_AARCH64_ADR_GOT_PAGE => two(
+            choice(RelaxationKind::NoOp, AArch64Relocation::R_AARCH64_ADR_PREL_PG_HI21),
+            unchanged,
+        ),
+        AArch64Relocation::R_AARCH64_LD64_GOT_LO12_NC => two(
+            choice(RelaxationKind::LdrToAdd, AArch64Relocation::R_AARCH64_ADD_ABS_LO12_NC),
+            unchanged,
+        ),
+        AArch64Relocation::R_AARCH64_ADD_ABS_LO12_NC => two(
+            choice(RelaxationKind::AdrpAddToNopAdr, AArch64Relocation::R_AARCH64_ADR_PREL_LO21),
+            unchanged,
+        ),
+        AArch64Relocation::R_AARCH64_TLSIE_ADR_GOTTPREL_PAGE21 => two(
+            choice(RelaxationKind::MovzXnLsl16, AArch64Relocation::R_AARCH64_TLSLE_MOVW_TPREL_G1),
+            unchanged,
+        ),
+        AArch64Relocation::R_AARCH64_TLSIE_LD64_GOTTPREL_LO12_NC => two(
+            choice(RelaxationKind::MovkXn, AArch64Relocation::R_AARCH64_TLSLE_MOVW_TPREL_G0_NC),
+            unchanged,
+        ),
+        AArch64Relocation::R_AARCH64_TLSDESC_ADR_PAGE21 => three(
+            choice(RelaxationKind::MovzX0Lsl16, AArch64Relocation::R_AARCH64_TLSLE_MOVW_TPREL_G1),
+            choice(RelaxationKind::AdrpX0, AArch64Relocation::R_AARCH64_TLSIE_ADR_GOTTPREL_PAGE21),
+            unchanged,
+        ),
+        AArch64Relocation::R_AARCH64_TLSDESC_LD64_LO12 => three(
+            choice(RelaxationKind::MovkX0, AArch64Relocation::R_AARCH64_TLSLE_MOVW_TPREL_G0_NC),
+            choice(RelaxationKind::LdrX0, AArch64Relocation::R_AARCH64_TLSIE_LD64_GOTTPREL_LO12_NC),
+            unchanged,
+        ),
+        AArch64Relocation::R_AARCH64_TLSDESC_ADD_LO12
+        | AArch64Relocation::R_AARCH64_TLSDESC_CALL => {
+            // for local-exec and for initial-exec
+            let erased = choice(RelaxationKind::ReplaceWithNop, AArch64Relocation::R_AARCH64_NONE);
+            three(erased, erased, unchanged)
+        }
+        AArch64Relocation::R_AARCH64_CALL26
+        | AArch64Relocation::R_AARCH64_JUMP26 => two(
+            choice(RelaxationKind::ReplaceWithNop, AArch64Relocation::R_AARCH64_NONE),
+            unchanged,
+        ),
+        _ => one(unchanged),
+    }
+}
+
+impl Kind for RelaxationKind {
+    ghost matches = { aarch64_matches };
+
+    ghost deleted = { λ kind. None };
+
+    fn is_meant_for(self, section: &[u8], offset: u64) -> bool {
+        self.matches(section, offset)
+    }
+
+    fn deleted_bytes(self) -> Option<DeletedBytes> {
+        None
+    }
+
+    fn is(self, other: RelaxationKind) -> bool {
+        self == other
+    }
+}
+
+impl Name for AArch64Relocation {
+    ghost row_of = { aarch64_row };
+
+    fn find_row(self) -> Option<Row> {
+        row(self)
+    }
+
+    fn repeats(self, other: AArch64Relocation) -> bool {
+        matches!((self, other), (AArch64Relocation::R_AARCH64_NONE, AArch64Relocation::R_AARCH64_NONE))
+    }
+}
+
+pub fn recognise(
+    name: AArch64Relocation,
+    original: &[u8],
+    offset: u64,
+    others: &[FieldBits],
+    linked: &[u8],
+) -> [Option<AArch64Choice>; CANDIDATES]
+    requires { length original.now ≤ 64 }
+    ensures found { AreThose (IsAArch64Made name original.now offset others.now linked.now) result }
+    ensures any { (facts : LinkFacts) (c : AArch64Choice)
+        → IsAArch64Choice name original.now offset facts c
+        → AArch64Leaves c original.now offset others.now linked.now → IsOneOf (Some c) result }
+{
+    recognise_among(candidates(name), original, offset, others, linked)
+}
+
+pub fn recognise_chosen(
+    name: AArch64Relocation,
+    original: &[u8],
+    offset: u64,
+    others: &[FieldBits],
+    linked: &[u8],
+    facts: &LinkFacts,
+) -> Option<AArch64Choice>
+    requires { length original.now ≤ 64 }
+    ensures { (c : AArch64Choice) → (result ≡ Some c)
+        ↔ (IsAArch64Choice name original.now offset facts.now c
+        × AArch64Leaves c original.now offset others.now linked.now) }
+{
+    let chosen = choose(name, original, offset, facts);
+    if is_left(chosen, original, offset, others, linked) {
+        Some(chosen)
+    } else {
+        None
+    }
+}

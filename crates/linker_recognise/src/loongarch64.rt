@@ -1,0 +1,161 @@
+//! What a linker made of a relocation of LoongArch.
+
+ghost use Rattle.std.specs.Prelude.{◌≡◌, ◌≤◌, ◌↔◌, Some, length};
+ghost use Rattle.linker_elf.specs.LoongArchRelocations.{loongarch_row};
+ghost use Rattle.linker_recognise.specs.LoongArchRecognised.{LoongArchChoice, LoongArchLeaves, loongarch_choices};
+ghost use Rattle.linker_recognise.specs.LoongArchRecognised.{IsLoongArchMade};
+ghost use Rattle.linker_recognise.specs.Inner.Candidates.{padded};
+ghost use Rattle.linker_recognise.specs.Recognised.{IsOneOf, AreThose};
+ghost use Rattle.linker_utils.specs.Choices as choices;
+ghost use Rattle.linker_utils.specs.LoongArchChoices.{IsLoongArchChoice};
+ghost use Rattle.linker_utils.specs.LoongArchOriginals.{loongarch_matches};
+ghost use Rattle.linker_utils.specs.LoongArchRewrites.{loongarch_deleted};
+ghost use Rattle.linker_utils.specs.declared.elf.choice.LinkFacts.{LinkFacts};
+
+use crate::candidates::{CANDIDATES, one, three, two};
+use crate::engine::{Kind, Name, is_left, recognise_among};
+use crate::fields::FieldBits;
+use linker_utils::elf::{Choice, LinkFacts, Row};
+use linker_utils::loongarch64::{LoongArch64Relocation, RelaxationKind, choose, row};
+use linker_utils::riscv64::DeletedBytes;
+
+type LoongArchChoice = Choice<RelaxationKind, LoongArch64Relocation>;
+
+#[inline(always)]
+fn choice(kind: RelaxationKind, relocation: LoongArch64Relocation) -> LoongArchChoice
+    ensures { result ≡ choices.choice kind relocation }
+{
+    Choice { kind, relocation }
+}
+
+/// The choices of a relocation.
+fn candidates(name: LoongArch64Relocation) -> [Option<LoongArchChoice>; CANDIDATES]
+    ensures { result ≡ padded (loongarch_choices name) }
+{
+    let unchanged = choice(RelaxationKind::NoOp, name);
+    match name {
+        LoongArch64Relocation::R_LARCH_GOT_PC_HI20 => three(
+            choice(RelaxationKind::PcalaToPcaddi, LoongArch64Relocation::R_LARCH_PCREL20_S2),
+            choice(RelaxationKind::NoOp, LoongArch64Relocation::R_LARCH_PCALA_HI20),
+            unchanged,
+        ),
+        LoongArch64Relocation::R_LARCH_GOT_PC_LO12 => three(
+            choice(RelaxationKind::Delete, LoongArch64Relocation::R_LARCH_NONE),
+            choice(RelaxationKind::LdToAddi, LoongArch64Relocation::R_LARCH_PCALA_LO12),
+            unchanged,
+        ),
+        LoongArch64Relocation::R_LARCH_PCALA_HI20 => two(
+            choice(RelaxationKind::PcalaToPcaddi, LoongArch64Relocation::R_LARCH_PCREL20_S2),
+            unchanged,
+        ),
+        LoongArch64Relocation::R_LARCH_PCALA_LO12
+        | LoongArch64Relocation::R_LARCH_TLS_LE_HI20_R
+        | LoongArch64Relocation::R_LARCH_TLS_LE_ADD_R => two(
+            choice(RelaxationKind::Delete, LoongArch64Relocation::R_LARCH_NONE),
+            unchanged,
+        ),
+        LoongArch64Relocation::R_LARCH_CALL36 => three(
+            choice(RelaxationKind::CallToB, LoongArch64Relocation::R_LARCH_B26),
+            choice(RelaxationKind::CallToBl, LoongArch64Relocation::R_LARCH_B26),
+            unchanged,
+        ),
+        LoongArch64Relocation::R_LARCH_TLS_IE_PC_HI20 => three(
+            choice(RelaxationKind::ReplaceWithNop, LoongArch64Relocation::R_LARCH_NONE),
+            choice(RelaxationKind::PcalaToLu12i, LoongArch64Relocation::R_LARCH_TLS_LE_HI20),
+            unchanged,
+        ),
+        LoongArch64Relocation::R_LARCH_TLS_IE_PC_LO12 => three(
+            choice(RelaxationKind::LowToOriZero, LoongArch64Relocation::R_LARCH_TLS_LE_LO12),
+            choice(RelaxationKind::LowToOri, LoongArch64Relocation::R_LARCH_TLS_LE_LO12),
+            unchanged,
+        ),
+        LoongArch64Relocation::R_LARCH_TLS_DESC_PC_HI20 => three(
+            choice(RelaxationKind::PcalaToLu12i, LoongArch64Relocation::R_LARCH_TLS_LE_HI20),
+            choice(RelaxationKind::NoOp, LoongArch64Relocation::R_LARCH_TLS_IE_PC_HI20),
+            unchanged,
+        ),
+        LoongArch64Relocation::R_LARCH_TLS_DESC_PC_LO12 => three(
+            choice(RelaxationKind::LowToOri, LoongArch64Relocation::R_LARCH_TLS_LE_LO12),
+            choice(RelaxationKind::AddiToLd, LoongArch64Relocation::R_LARCH_TLS_IE_PC_LO12),
+            unchanged,
+        ),
+        LoongArch64Relocation::R_LARCH_TLS_DESC_LD
+        | LoongArch64Relocation::R_LARCH_TLS_DESC_CALL => {
+            // for local-exec and for initial-exec
+            let erased = choice(RelaxationKind::ReplaceWithNop, LoongArch64Relocation::R_LARCH_NONE);
+            three(erased, erased, unchanged)
+        }
+        LoongArch64Relocation::R_LARCH_TLS_LE_LO12_R => two(
+            choice(RelaxationKind::BaseToTp, name),
+            unchanged,
+        ),
+        _ => one(unchanged),
+    }
+}
+
+impl Kind for RelaxationKind {
+    ghost matches = { loongarch_matches };
+
+    ghost deleted = { loongarch_deleted };
+
+    fn is_meant_for(self, section: &[u8], offset: u64) -> bool {
+        self.matches(section, offset)
+    }
+
+    fn deleted_bytes(self) -> Option<DeletedBytes> {
+        self.deleted()
+    }
+
+    fn is(self, other: RelaxationKind) -> bool {
+        self == other
+    }
+}
+
+impl Name for LoongArch64Relocation {
+    ghost row_of = { loongarch_row };
+
+    fn find_row(self) -> Option<Row> {
+        row(self)
+    }
+
+    fn repeats(self, other: LoongArch64Relocation) -> bool {
+        matches!((self, other), (LoongArch64Relocation::R_LARCH_NONE, LoongArch64Relocation::R_LARCH_NONE))
+    }
+}
+
+pub fn recognise(
+    name: LoongArch64Relocation,
+    original: &[u8],
+    offset: u64,
+    others: &[FieldBits],
+    linked: &[u8],
+) -> [Option<LoongArchChoice>; CANDIDATES]
+    requires { length original.now ≤ 64 }
+    ensures found { AreThose (IsLoongArchMade name original.now offset others.now linked.now) result }
+    ensures any { (facts : LinkFacts) (c : LoongArchChoice)
+        → IsLoongArchChoice name original.now offset facts c
+        → LoongArchLeaves c original.now offset others.now linked.now → IsOneOf (Some c) result }
+{
+    recognise_among(candidates(name), original, offset, others, linked)
+}
+
+pub fn recognise_chosen(
+    name: LoongArch64Relocation,
+    original: &[u8],
+    offset: u64,
+    others: &[FieldBits],
+    linked: &[u8],
+    facts: &LinkFacts,
+) -> Option<LoongArchChoice>
+    requires { length original.now ≤ 64 }
+    ensures { (c : LoongArchChoice) → (result ≡ Some c)
+        ↔ (IsLoongArchChoice name original.now offset facts.now c
+        × LoongArchLeaves c original.now offset others.now linked.now) }
+{
+    let chosen = choose(name, original, offset, facts);
+    if is_left(chosen, original, offset, others, linked) {
+        Some(chosen)
+    } else {
+        None
+    }
+}

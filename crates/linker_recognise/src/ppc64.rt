@@ -1,0 +1,168 @@
+//! What a linker made of a relocation of PowerPC64.
+
+ghost use Rattle.std.specs.Prelude.{◌≡◌, ◌≤◌, ◌↔◌, Some, None, length};
+ghost use Rattle.linker_elf.specs.Ppc64Relocations.{ppc64_row};
+ghost use Rattle.linker_recognise.specs.Ppc64Recognised.{Ppc64Choice, Ppc64Leaves, ppc64_choices};
+ghost use Rattle.linker_recognise.specs.Ppc64Recognised.{IsPpc64Made};
+ghost use Rattle.linker_recognise.specs.Inner.Candidates.{padded};
+ghost use Rattle.linker_recognise.specs.Recognised.{IsOneOf, AreThose};
+ghost use Rattle.linker_utils.specs.Choices as choices;
+ghost use Rattle.linker_utils.specs.Ppc64Choices.{IsPpc64Choice};
+ghost use Rattle.linker_utils.specs.Ppc64Originals.{ppc64_matches};
+ghost use Rattle.linker_utils.specs.declared.elf.choice.LinkFacts.{LinkFacts};
+
+use crate::candidates::{CANDIDATES, four, one, three, two};
+use crate::engine::{Kind, Name, is_left, recognise_among};
+use crate::fields::FieldBits;
+use linker_utils::elf::{Choice, LinkFacts, Row};
+use linker_utils::ppc64::{Ppc64Relocation, RelaxationKind, choose, row};
+use linker_utils::riscv64::DeletedBytes;
+
+type Ppc64Choice = Choice<RelaxationKind, Ppc64Relocation>;
+
+#[inline(always)]
+fn choice(kind: RelaxationKind, relocation: Ppc64Relocation) -> Ppc64Choice
+    ensures { result ≡ choices.choice kind relocation }
+{
+    Choice { kind, relocation }
+}
+
+/// The choices of a relocation.
+fn candidates(name: Ppc64Relocation) -> [Option<Ppc64Choice>; CANDIDATES]
+    ensures { result ≡ padded (ppc64_choices name) }
+{
+    let unchanged = choice(RelaxationKind::NoOp, name);
+    match name {
+        Ppc64Relocation::R_PPC64_TOC16_HA
+        | Ppc64Relocation::R_PPC64_GOT_TPREL16_HA
+        | Ppc64Relocation::R_PPC64_GOT_TLSLD16_HA => two(
+            choice(RelaxationKind::AddisToNop, Ppc64Relocation::R_PPC64_NONE),
+            unchanged,
+        ),
+        Ppc64Relocation::R_PPC64_TOC16_LO => two(
+            choice(RelaxationKind::BaseToToc, Ppc64Relocation::R_PPC64_TOC16),
+            unchanged,
+        ),
+        Ppc64Relocation::R_PPC64_TOC16_LO_DS => two(
+            choice(RelaxationKind::BaseToToc, Ppc64Relocation::R_PPC64_TOC16_DS),
+            unchanged,
+        ),
+        Ppc64Relocation::R_PPC64_GOT16_HA => two(
+            choice(RelaxationKind::NoOp, Ppc64Relocation::R_PPC64_TOC16_HA),
+            unchanged,
+        ),
+        Ppc64Relocation::R_PPC64_GOT16_LO_DS => two(
+            choice(RelaxationKind::LdToAddi, Ppc64Relocation::R_PPC64_TOC16_LO),
+            unchanged,
+        ),
+        Ppc64Relocation::R_PPC64_GOT_PCREL34 => two(
+            choice(RelaxationKind::PldToPaddi, Ppc64Relocation::R_PPC64_PCREL34),
+            unchanged,
+        ),
+        Ppc64Relocation::R_PPC64_GOT_TPREL16_LO_DS => two(
+            choice(RelaxationKind::LdToAddisThread, Ppc64Relocation::R_PPC64_TPREL16_HA),
+            unchanged,
+        ),
+        Ppc64Relocation::R_PPC64_TLS => four(
+            choice(RelaxationKind::AddToAddi, Ppc64Relocation::R_PPC64_TPREL16_LO),
+            choice(RelaxationKind::IndexedToD, Ppc64Relocation::R_PPC64_TPREL16_LO),
+            choice(RelaxationKind::IndexedToDs, Ppc64Relocation::R_PPC64_TPREL16_LO_DS),
+            unchanged,
+        ),
+        Ppc64Relocation::R_PPC64_GOT_TLSGD16_HA => three(
+            choice(RelaxationKind::AddisToNop, Ppc64Relocation::R_PPC64_NONE),
+            choice(RelaxationKind::NoOp, Ppc64Relocation::R_PPC64_GOT_TPREL16_HA),
+            unchanged,
+        ),
+        Ppc64Relocation::R_PPC64_GOT_TLSGD16_LO => three(
+            choice(RelaxationKind::AddiToAddisThread, Ppc64Relocation::R_PPC64_TPREL16_HA),
+            choice(RelaxationKind::AddiToLd, Ppc64Relocation::R_PPC64_GOT_TPREL16_LO_DS),
+            unchanged,
+        ),
+        Ppc64Relocation::R_PPC64_TLSGD => three(
+            choice(RelaxationKind::CallToAddi, Ppc64Relocation::R_PPC64_TPREL16_LO),
+            choice(RelaxationKind::CallToAdd, Ppc64Relocation::R_PPC64_NONE),
+            unchanged,
+        ),
+        Ppc64Relocation::R_PPC64_GOT_TLSLD16_LO => two(
+            choice(RelaxationKind::AddiToAddisThread, Ppc64Relocation::R_PPC64_NONE),
+            unchanged,
+        ),
+        Ppc64Relocation::R_PPC64_TLSLD => two(
+            choice(RelaxationKind::CallToAddi4096, Ppc64Relocation::R_PPC64_NONE),
+            unchanged,
+        ),
+        Ppc64Relocation::R_PPC64_REL24 => two(
+            choice(RelaxationKind::NopToRestoreToc, name),
+            unchanged,
+        ),
+        _ => one(unchanged),
+    }
+}
+
+impl Kind for RelaxationKind {
+    ghost matches = { ppc64_matches };
+
+    ghost deleted = { λ kind. None };
+
+    fn is_meant_for(self, section: &[u8], offset: u64) -> bool {
+        self.matches(section, offset)
+    }
+
+    fn deleted_bytes(self) -> Option<DeletedBytes> {
+        None
+    }
+
+    fn is(self, other: RelaxationKind) -> bool {
+        self == other
+    }
+}
+
+impl Name for Ppc64Relocation {
+    ghost row_of = { ppc64_row };
+
+    fn find_row(self) -> Option<Row> {
+        row(self)
+    }
+
+    fn repeats(self, _other: Ppc64Relocation) -> bool {
+        false
+    }
+}
+
+pub fn recognise(
+    name: Ppc64Relocation,
+    original: &[u8],
+    offset: u64,
+    others: &[FieldBits],
+    linked: &[u8],
+) -> [Option<Ppc64Choice>; CANDIDATES]
+    requires { length original.now ≤ 64 }
+    ensures found { AreThose (IsPpc64Made name original.now offset others.now linked.now) result }
+    ensures any { (facts : LinkFacts) (c : Ppc64Choice)
+        → IsPpc64Choice name original.now offset facts c
+        → Ppc64Leaves c original.now offset others.now linked.now → IsOneOf (Some c) result }
+{
+    recognise_among(candidates(name), original, offset, others, linked)
+}
+
+pub fn recognise_chosen(
+    name: Ppc64Relocation,
+    original: &[u8],
+    offset: u64,
+    others: &[FieldBits],
+    linked: &[u8],
+    facts: &LinkFacts,
+) -> Option<Ppc64Choice>
+    requires { length original.now ≤ 64 }
+    ensures { (c : Ppc64Choice) → (result ≡ Some c)
+        ↔ (IsPpc64Choice name original.now offset facts.now c
+        × Ppc64Leaves c original.now offset others.now linked.now) }
+{
+    let chosen = choose(name, original, offset, facts);
+    if is_left(chosen, original, offset, others, linked) {
+        Some(chosen)
+    } else {
+        None
+    }
+}
