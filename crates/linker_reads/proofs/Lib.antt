@@ -1,0 +1,5 @@
+pub mod Numbers
+pub mod Proper
+pub mod Ranges
+pub mod Reached
+pub mod Aligned
