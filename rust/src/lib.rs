@@ -22,6 +22,8 @@ pub mod compat;
 mod errors;
 mod linker_base;
 mod linker_elf;
+mod linker_reads;
+mod linker_recognise;
 mod linker_relax;
 mod linker_runs;
 pub mod names;
@@ -31,6 +33,19 @@ mod traits;
 pub mod runs {
     pub use crate::linker_relax::{relaxation, shapes};
     pub use crate::linker_runs::{items, loongarch64, riscv64};
+}
+
+/// What stands in the fields of relocations: the bits of a value that are known from linked bytes.
+pub mod reading {
+    pub use crate::linker_reads::fields::FieldValue;
+    pub use crate::linker_reads::reading::{read, read_row};
+}
+
+/// What a linker made of a relocation, by the bytes before and after: which rewrite, and which
+/// relocation it then wrote.
+pub mod recognise {
+    pub use crate::linker_recognise::fields::{FieldBits, field_bits, same_but_for};
+    pub use crate::linker_recognise::{aarch64, loongarch64, ppc64, riscv64, x86_64};
 }
 
 pub mod aarch64;
