@@ -93,28 +93,73 @@ pub struct Field {
     pub addend: i64,
 }
 
-/// The field of a choice's relocation, in a window that is at `address` in the linked file.
-pub fn field(
+/// A relocation and the bytes around it, before a rewrite.
+#[derive(Clone)]
+pub struct Before {
     architecture: Architecture,
-    chosen: Chosen,
-    original: &[u8],
+    code: u32,
+    bytes: Vec<u8>,
+    /// Where the relocation is in the bytes.
     offset: u64,
     addend: i64,
-    linked: &[u8],
-    address: u64,
-) -> Option<Field> {
-    let (mut after, mut at, mut addend) = (original.to_vec(), offset, addend);
-    chosen.kind.apply(&mut after, &mut at, &mut addend);
-    if let Some(deleted) = chosen.kind.deleted() {
-        let start = offset + deleted.start;
-        if at >= start {
-            at = at.saturating_sub(u64::from(deleted.count)).max(start.min(at));
-        }
+}
+
+impl Before {
+    pub fn new(
+        architecture: Architecture,
+        one: &crate::elf::Relocation,
+        bytes: &[u8],
+        offset: u64,
+    ) -> Before {
+        Before { architecture, code: one.code, bytes: bytes.to_vec(), offset, addend: one.addend }
     }
-    let row = architecture.row(chosen.relocation)?;
-    let bytes = linked.get(at as usize..)?;
-    let value = read(&row, bytes)?;
-    Some(Field { row, value, place: address.wrapping_add(at), addend })
+
+    /// The choices after which the linked bytes are as they are.
+    pub fn choices(&self, others: &[FieldBits], linked: &[u8]) -> Vec<Chosen> {
+        choices(self.architecture, self.code, &self.bytes, self.offset, others, linked)
+    }
+
+    /// The same of a second rewrite, after one that deletes nothing: what is before the second one,
+    /// the second, and the first.
+    pub fn choices_after(
+        &self,
+        others: &[FieldBits],
+        linked: &[u8],
+    ) -> Vec<(Before, Chosen, Option<Chosen>)> {
+        let all = (0..self.bytes.len() as u64).step_by(8);
+        let all: Vec<_> = all.map(|offset| FieldBits { offset, bits: u64::MAX }).collect();
+        let mut found = Vec::new();
+        for first in self.choices(&all, &self.bytes) {
+            if rewrite_name(first.kind).is_none() {
+                continue;
+            }
+            let mut after = self.clone();
+            first.kind.apply(&mut after.bytes, &mut after.offset, &mut after.addend);
+            after.code = first.relocation;
+            for chosen in after.choices(others, linked) {
+                if rewrite_name(chosen.kind).is_some() {
+                    found.push((after.clone(), chosen, Some(first)));
+                }
+            }
+        }
+        found
+    }
+
+    /// The field of a choice's relocation, in linked bytes that are at an address.
+    pub fn field(&self, chosen: Chosen, linked: &[u8], address: u64) -> Option<Field> {
+        let (mut after, mut at, mut addend) = (self.bytes.clone(), self.offset, self.addend);
+        chosen.kind.apply(&mut after, &mut at, &mut addend);
+        if let Some(deleted) = chosen.kind.deleted() {
+            let start = self.offset + deleted.start;
+            if at >= start {
+                at = at.saturating_sub(u64::from(deleted.count)).max(start);
+            }
+        }
+        let row = self.architecture.row(chosen.relocation)?;
+        let bytes = linked.get(usize::try_from(at).ok()?..)?;
+        let value = read(&row, bytes)?;
+        Some(Field { row, value, place: address.wrapping_add(at), addend })
+    }
 }
 
 impl Field {
@@ -131,7 +176,12 @@ impl Field {
     pub fn number(&self, operands: &Operands) -> Option<(u64, u8, u8)> {
         let zero = self.row.value(operands)? as u64;
         let known = self.value.known;
-        let bits = self.value.bits.checked_shl(known.start.into())?;
+        let mut bits = self.value.bits.checked_shl(known.start.into())?;
+        if known.start > 0 && known.end < 64 {
+            // in two's complement
+            let above = 64 - u32::from(known.end);
+            bits = ((bits << above) as i64 >> above) as u64;
+        }
         let number = bits.wrapping_sub(self.value.rounding).wrapping_sub(zero);
         Some((number, known.start, known.end))
     }

@@ -45,6 +45,8 @@ pub struct Side<'a> {
     anchors: Vec<Vec<Anchors>>,
     /// The same after the deletions.
     maps: Vec<Vec<Anchors>>,
+    /// Objects, sections and anchors by local symbols whose names are there more than once.
+    repeated: Vec<(usize, usize, (u64, u64))>,
     pending: Vec<Pending>,
 }
 
@@ -92,7 +94,7 @@ impl<'a> Side<'a> {
             *counts.entry(&symbol.name).or_default() += 1;
         }
         let mut seen = HashMap::<&str, usize>::new();
-        let mut anchors = Vec::with_capacity(objects.len());
+        let (mut anchors, mut repeated) = (Vec::new(), Vec::new());
         for (index, object) in objects.iter().enumerate() {
             let mut of_sections = vec![Anchors::new(); object.sections.len()];
             for symbol in &object.symbols {
@@ -111,7 +113,10 @@ impl<'a> Side<'a> {
                 } else {
                     None
                 };
-                if let Some(address) = address {
+                let Some(address) = address else { continue };
+                if symbol.is_local && counts.get(name) != Some(&1) {
+                    repeated.push((index, section, (symbol.value, address)));
+                } else {
                     of_sections[section].push((symbol.value, address));
                 }
             }
@@ -133,13 +138,13 @@ impl<'a> Side<'a> {
             _ => base("_GLOBAL_OFFSET_TABLE_").unwrap_or(linked.got_start),
         };
         let maps = anchors.clone();
-        Side { linked, objects, definers, got_base, anchors, maps, pending: Vec::new() }
+        Side { linked, objects, definers, got_base, anchors, maps, repeated, pending: Vec::new() }
     }
 
     /// Finds the places of all sections, as far as they can be found; `step` is called for each
     /// section that was looked at.
     pub fn locate(&mut self, step: &dyn Fn()) {
-        for _ in 0..3 {
+        for round in 0..5 {
             self.pending.clear();
             for object in 0..self.objects.len() {
                 for section in 0..self.objects[object].sections.len() {
@@ -147,10 +152,35 @@ impl<'a> Side<'a> {
                     step();
                 }
             }
-            if !self.learn() {
+            // the deletions have to be known before places are
+            let may_delete =
+                matches!(self.linked.architecture, Architecture::RiscV | Architecture::LoongArch64);
+            if round == 0 && may_delete {
+                continue;
+            }
+            if !self.learn() && !self.use_repeated() {
                 break;
             }
         }
+    }
+
+    /// Takes the anchors of names that are there more than once, where a section has no other.
+    fn use_repeated(&mut self) -> bool {
+        let repeated = std::mem::take(&mut self.repeated);
+        let is_known = |anchors: &Anchors| !anchors.is_empty();
+        let known: Vec<Vec<bool>> =
+            self.anchors.iter().map(|all| all.iter().map(is_known).collect()).collect();
+        let mut is_any = false;
+        for (object, section, anchor) in repeated {
+            if !known[object][section] {
+                self.anchors[object][section].push(anchor);
+                self.anchors[object][section].sort_unstable();
+                self.anchors[object][section].dedup_by_key(|(offset, _)| *offset);
+                self.maps[object][section].clone_from(&self.anchors[object][section]);
+                is_any = true;
+            }
+        }
+        is_any
     }
 
     fn address_in(&self, object: usize, section: usize, offset: u64) -> Option<u64> {
@@ -235,6 +265,10 @@ impl<'a> Side<'a> {
             // TLS offsets count from a base that isn't known
             _ if field.row.kind() == RelocationKind::TpOff => self.bits(field),
             _ if field.row.kind() == RelocationKind::DtpOff => self.bits(field),
+            Some((address, 0, 64)) if symbol == Some((0, 0)) => {
+                let distance = address.wrapping_sub(field.place) as i64;
+                Target::Other(format!("{distance} bytes from its place"))
+            }
             Some((address, 0, 64)) => Target::Other(self.name_of(address)),
             _ => self.bits(field),
         }
@@ -277,7 +311,7 @@ impl<'a> Side<'a> {
         let address = self.address_of(object, symbol);
         if let (None, Home::Section(section)) = (address, symbol.home) {
             let (home, value) = ((object, section), symbol.value);
-            self.pending.push(Pending { home, value, field: *field, operands });
+            self.add_pending(Pending { home, value, field: *field, operands });
         }
         if symbol.kind == STT_TLS {
             operands.tls_base = 0;
@@ -285,13 +319,29 @@ impl<'a> Side<'a> {
         self.target(field, address, &operands)
     }
 
+    /// Once for each relocation and each choice of it.
+    fn add_pending(&mut self, one: Pending) {
+        let is_same = |last: &&Pending| {
+            (last.field.place, last.field.row.kind()) == (one.field.place, one.field.row.kind())
+        };
+        if !self.pending.iter().rev().take(2).any(|last| is_same(&last)) {
+            self.pending.push(one);
+        }
+    }
+
     /// What the low part of a RISC-V address leads to: the symbol of the high part.
     fn low_target(&mut self, object: usize, label: &Symbol, field: &Field, low: Operands) -> Target {
         let Some((high, place)) = self.high_part(object, label) else { return self.bits(field) };
         let Some(row) = self.linked.architecture.row(high.code) else { return self.bits(field) };
         let symbol = &self.objects[object].symbols[high.symbol];
-        let Some((address, _)) = self.address_of(object, symbol) else { return self.bits(field) };
         let low = Operands { place, addend: high.addend, ..low };
+        let Some((address, _)) = self.address_of(object, symbol) else {
+            if let (Home::Section(section), false) = (symbol.home, row.asks_for_got()) {
+                let (home, value) = ((object, section), symbol.value);
+                self.add_pending(Pending { home, value, field: *field, operands: low });
+            }
+            return self.bits(field);
+        };
         let entries = self.linked.got_of.get(&address);
         let mut addresses = Vec::new();
         match row.asks_for_got() {
@@ -332,11 +382,8 @@ impl<'a> Side<'a> {
                     map.push((one.offset + nops, place.wrapping_add(kept)));
                 }
             }
-            if made::is_mark(architecture, one.code) {
-                all[index] = Made::Part;
-                continue;
-            }
-            if std::mem::take(&mut skipped) {
+            let is_skipped = std::mem::take(&mut skipped);
+            if is_skipped || made::is_mark(architecture, one.code) {
                 all[index] = Made::Part;
                 continue;
             }
@@ -351,7 +398,9 @@ impl<'a> Side<'a> {
                 };
                 continue;
             };
-            let rewrite = made::rewrite_name(found.chosen.kind);
+            let first = found.first.and_then(|first| made::rewrite_name(first.kind));
+            let names = first.into_iter().chain(made::rewrite_name(found.chosen.kind));
+            let rewrite = Some(names.collect::<Vec<_>>().join(", ")).filter(|name| !name.is_empty());
             if rewrite.is_some() {
                 for before in (0..index).rev() {
                     if it.relocations[before].offset < found.start {
@@ -393,15 +442,36 @@ impl<'a> Side<'a> {
         let architecture = self.linked.architecture;
         let row = architecture.row(one.code);
         let len = row.map_or(0, |row| row.window() as u64);
-        let is_marked = it.relocations[index..]
-            .iter()
-            .take_while(|other| other.offset == one.offset)
-            .any(|other| made::is_relax(architecture, other.code));
         let windows: &[(u64, u64)] = match architecture {
             Architecture::X86_64 => &[(6, 12), (4, 12), (6, len), (3, len), (0, len)],
             _ => &[(4, 8), (0, 8), (4, 4), (0, 4), (0, len)],
         };
         let mut best: Option<Found> = None;
+        for is_second in [false, true] {
+            self.recognise_in(object, it, (index, place, is_second), windows, &mut best);
+            if best.is_some() {
+                break;
+            }
+        }
+        best
+    }
+
+    /// The same with some windows, of a rewrite or of a second one after another.
+    fn recognise_in(
+        &mut self,
+        object: usize,
+        it: &Section,
+        (index, place, is_second): (usize, u64, bool),
+        windows: &[(u64, u64)],
+        best: &mut Option<Found>,
+    ) {
+        let one = &it.relocations[index];
+        let architecture = self.linked.architecture;
+        let len = architecture.row(one.code).map_or(0, |row| row.window() as u64);
+        let is_marked = it.relocations[index..]
+            .iter()
+            .take_while(|other| other.offset == one.offset)
+            .any(|other| made::is_relax(architecture, other.code));
         for (back, forward) in windows {
             let start = one.offset.saturating_sub(*back);
             let end = (one.offset + forward.max(&len)).min(it.bytes.len() as u64);
@@ -415,17 +485,17 @@ impl<'a> Side<'a> {
             for deleted in deletions {
                 let Some(kept) = original.len().checked_sub(*deleted) else { continue };
                 let Some(linked) = there.get(..kept) else { continue };
-                let offset = one.offset - start;
-                let found = made::choices(architecture, one.code, original, offset, &others, linked);
-                for chosen in found {
+                let before = made::Before::new(architecture, one, original, one.offset - start);
+                let found = before.choices(&others, linked);
+                let found = found.into_iter().map(|chosen| (before.clone(), chosen, None));
+                let found: Vec<_> =
+                    if is_second { before.choices_after(&others, linked) } else { found.collect() };
+                for (before, chosen, first) in found {
                     let count = chosen.kind.deleted().map_or(0, |bytes| bytes.count as usize);
                     if count != *deleted {
                         continue;
                     }
-                    let (addend, kind) = (one.addend, chosen);
-                    let field = made::field(
-                        architecture, kind, original, offset, addend, linked, address,
-                    );
+                    let field = before.field(chosen, linked, address);
                     let target = match &field {
                         Some(field) => self.target_of(object, one, field),
                         None => Target::Nothing,
@@ -433,10 +503,11 @@ impl<'a> Side<'a> {
                     let is_sure = target == Target::AsWritten;
                     let is_through_got = field.is_some_and(|field| field.is_through_got());
                     if is_sure || best.is_none() {
-                        best = Some(Found { chosen, is_through_got, target, start, end });
+                        let found = Found { first, chosen, is_through_got, target, start, end };
+                        *best = Some(found);
                     }
                     if is_sure {
-                        return best;
+                        return;
                     }
                 }
             }
@@ -444,7 +515,6 @@ impl<'a> Side<'a> {
                 break;
             }
         }
-        best
     }
 
     /// Finds sections that have no symbol by what relocations against them lead to. Whether any was
@@ -525,6 +595,8 @@ impl<'a> Side<'a> {
 }
 
 struct Found {
+    /// A rewrite before this one.
+    first: Option<Chosen>,
     chosen: Chosen,
     is_through_got: bool,
     target: Target,
