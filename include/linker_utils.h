@@ -246,7 +246,17 @@ enum linker_utils_riscv_rewrite {
     LINKER_UTILS_RISCV_REWRITE_HI20_DELETE = 4, /* nothing: the caller deletes the lui */
     LINKER_UTILS_RISCV_REWRITE_LO12_RS1_TO_ZERO = 5,
     LINKER_UTILS_RISCV_REWRITE_TAIL_TO_JAL = 6, /* the auipc; the caller deletes the jalr */
-    LINKER_UTILS_RISCV_REWRITE_TAIL_TO_C_J = 7 /* c.j; the caller deletes the last 6 bytes */
+    LINKER_UTILS_RISCV_REWRITE_TAIL_TO_C_J = 7, /* c.j; the caller deletes the last 6 bytes */
+    LINKER_UTILS_RISCV_REWRITE_DELETE = 8, /* nothing: the caller deletes the instruction */
+    LINKER_UTILS_RISCV_REWRITE_REPLACE_WITH_LONG_NOP = 9, /* one nop of 4 bytes */
+    LINKER_UTILS_RISCV_REWRITE_BASE_TO_TP = 10, /* x4 as the base of a low part */
+    /* Of a TLS descriptor: its addi becomes lui or auipc, and its jalr the addi or the ld behind */
+    LINKER_UTILS_RISCV_REWRITE_ADDI_TO_LUI = 11,
+    LINKER_UTILS_RISCV_REWRITE_ADDI_TO_AUIPC = 12,
+    LINKER_UTILS_RISCV_REWRITE_CALL_TO_ADDI = 13,
+    LINKER_UTILS_RISCV_REWRITE_CALL_TO_ADDI_ZERO = 14, /* the addi of x0, without a lui */
+    LINKER_UTILS_RISCV_REWRITE_CALL_TO_LD = 15,
+    LINKER_UTILS_RISCV_REWRITE_LD_TO_ADDI = 16 /* the address in place of its GOT entry */
 };
 
 enum linker_utils_loongarch64_rewrite {
@@ -607,6 +617,8 @@ struct linker_utils_link_facts {
     uint8_t has_local_exec_base;
     uint8_t may_compress; /* RISC-V: the code may use instructions of the C extension. */
     uint8_t is_marked; /* R_RISCV_RELAX or R_LARCH_RELAX is at the same offset. */
+    /* RISC-V: the high part whose label an R_RISCV_PCREL_LO12_I names has R_RISCV_GOT_HI20. */
+    uint8_t has_got_high_part;
     /* PowerPC64: the register through which the instruction gets the high part of its address, and
      * which an `addis` has set, is read only by instructions whose relocation is of the same symbol
      * and addend. Linkers assume so, as the ABI asks of compilers. */
@@ -642,7 +654,11 @@ struct linker_utils_choice {
  * possible: the `adrp` of a pair. The bytes are those of the object file: the two halves of a pair,
  * and the instructions of a TLS descriptor's sequence on AArch64 and LoongArch, test the whole of it, so that all
  * are chosen alike where the facts and the symbol are the same. So they have to be chosen before one
- * of them is rewritten. */
+ * of them is rewritten. On RISC-V the instructions of a descriptor, and the `auipc` and `ld` of a GOT
+ * entry, may be apart: each is chosen by the facts of the high part that its label names, `is_marked`
+ * of a descriptor's R_RISCV_TLSDESC_HI20 among them. After ADDI_TO_AUIPC the place of
+ * R_RISCV_TLS_GOT_HI20, and of the R_RISCV_PCREL_LO12_I that CALL_TO_LD leaves, is that of the `addi`,
+ * and S of the latter is the GOT entry. */
 static inline uint32_t linker_utils_choose(uint16_t machine, uint32_t r_type,
                                            const uint8_t *section, size_t section_len,
                                            uint64_t offset,
@@ -1063,7 +1079,8 @@ struct linker_utils_section_relocation {
  * R_RISCV_CALL and R_RISCV_CALL_PLT make a site where R_RISCV_RELAX is the next relocation, at the
  * same offset, the target is in the run, and the bytes are an auipc and a jalr of one register,
  * which isn't x0. R_RISCV_ALIGN makes an alignment to the next power of two above its addend, which
- * is how many bytes of nops there are, unless it is 0. The other relocations make none.
+ * is how many bytes of nops there are, unless it is 0; all of them may stay. The other relocations
+ * make none.
  *
  * `items_len` is `relocations_len`, since a relocation makes at most one item. `len` is how many
  * there are; the elements from there on are unchanged. LINKER_UTILS_DIFFERENT_LENGTHS.
@@ -1087,7 +1104,7 @@ static inline uint32_t linker_utils_riscv_items(
  * and an addi.d of one register. R_LARCH_ALIGN makes an alignment, unless there are no nops. Without
  * a symbol its addend is how many bytes of nops there are, 4 fewer than what they align to. With a
  * symbol the lowest 8 bits of the addend are the exponent of two of what they align to, and the
- * others the limit, or 0 for none.
+ * others how many bytes of nops may stay. Where these are 0, and without a symbol, all may stay.
  *
  * The statuses are the same. Malformed is an R_LARCH_CALL36 with less than eight bytes there, and an
  * R_LARCH_ALIGN whose addend is below 0, whose power is none or below 4, or whose nops reach past

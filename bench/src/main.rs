@@ -9,6 +9,7 @@ mod exports;
 mod inputs;
 mod library;
 mod measure;
+mod relaxing;
 mod table;
 
 use inputs::{Random, deletions, is_inside};
@@ -46,7 +47,7 @@ fn main() {
         let mut parts = args.iter().filter(|arg| !arg.starts_with("--")).peekable();
         parts.peek().is_none() || parts.any(|arg| arg == part)
     };
-    let parts: [(&str, fn(&mut Report)); 12] = [
+    let parts: [(&str, fn(&mut Report)); 13] = [
         ("forms", forms),
         ("rewrites", rewrites),
         ("choices", choices::choices),
@@ -57,6 +58,7 @@ fn main() {
         ("cursor", cursors),
         ("merges", lists),
         ("calls", calls),
+        ("relaxing", relaxing::relaxing),
         ("packing", packing),
         ("threads", threads),
     ];

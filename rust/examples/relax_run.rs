@@ -15,10 +15,10 @@
 use std::error::Error;
 use std::io::{self, BufRead};
 
-use linker_utils::items::Relocation;
-use linker_utils::packing::{Machine, pack_run, packed_run_len};
-use linker_utils::relaxation::{Alignment, Item, first_faulty, relax};
-use linker_utils::{loongarch64, riscv64};
+use linker_utils::runs::items::Relocation;
+use linker_utils::runs::packing::{Machine, pack_run, packed_run_len};
+use linker_utils::runs::relaxation::{Alignment, Item, first_faulty, relax};
+use linker_utils::runs::{loongarch64, riscv64};
 
 #[derive(Default)]
 struct Section {

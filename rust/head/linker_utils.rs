@@ -23,8 +23,8 @@ mod linker_runs;
 pub mod names;
 mod traits;
 
-#[doc = include_str!("../doc/runs.md")]
 pub mod runs {
+    #![doc = include_str!("../doc/runs.md")]
     pub use crate::linker_relax::{relaxation, shapes};
     pub use crate::linker_runs::{items, loongarch64, riscv64};
 }

@@ -11,6 +11,10 @@ use linker_utils::relaxation::{
     OutOfMemory, PackError, RelaxDelta, RelaxDeltaMap, SectionRelaxDeltas, pack_section,
     shrink_calls,
 };
+use linker_utils::runs::items::{ItemsError, Relocation};
+use linker_utils::runs::relaxation::{Alignment, Item, Site, relax};
+use linker_utils::runs::riscv64;
+use linker_utils::runs::shapes::riscv64::CALL;
 use linker_utils::utils::read_string;
 use std::alloc::{GlobalAlloc, Layout, System};
 use std::cell::Cell;
@@ -293,4 +297,34 @@ fn strings_are_not_read() {
         assert!(count > 0);
         assert_eq!(rest, (text.to_string(), b"b".as_slice()));
     }
+}
+
+#[test]
+fn runs_are_not_relaxed() {
+    let call = Item::Site(Site { offset: 0, len: 8, target: 22, shapes: CALL });
+    let aligned = Item::Aligned(Alignment { offset: 8, nops: 14, power: 16, most: Some(14) });
+    let (count, plan) = each_fails(|| relax(&[call, aligned], 0), |_| {});
+    // the four arrays, the pairs of the deletions and the deltas
+    assert_eq!((count, plan.kept), (6, vec![4, 12]));
+
+    let relocation = |offset, code, addend, target| Relocation {
+        offset,
+        code,
+        has_symbol: target != None,
+        addend,
+        target,
+    };
+    let relocations = [
+        relocation(0, 19, 0, Some(22)),
+        relocation(0, 51, 0, None),
+        relocation(8, 43, 14, None),
+    ];
+    let mut section = [0; 22];
+    section[..8].copy_from_slice(&0x000080e7_00000097u64.to_le_bytes());
+    let (count, items) = each_fails(
+        || riscv64::items(&section, 0, &relocations, true),
+        |error| assert_eq!(error, ItemsError::OutOfMemory),
+    );
+    assert!(count > 0);
+    assert_eq!(items, [call, aligned]);
 }

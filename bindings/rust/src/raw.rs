@@ -47,6 +47,7 @@ pub struct LinkFacts {
     pub has_local_exec_base: u8,
     pub may_compress: u8,
     pub is_marked: u8,
+    pub has_got_high_part: u8,
     pub has_private_base: u8,
     pub may_change_toc: u8,
     pub has_addresses: u8,

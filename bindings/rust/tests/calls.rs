@@ -1328,7 +1328,7 @@ fn makes_items_of_relocations() {
                     short: items[2].shapes.short,
                     ..Shapes::fixed(0)
                 },
-                ..Item::alignment(80, 6, 8, None)
+                ..Item::alignment(80, 6, 8, Some(6))
             },
             other,
             other,

@@ -1,5 +1,5 @@
 -- LoongArch: the instructions of `rewrite_laws` compared with an emulator.
-use Rattle.std.specs.Prelude.{ℕ, ◌≡◌, Bool, true, false, Option, Some, None}
+use Rattle.std.specs.Prelude.{◌≡◌, Bool, true, false, Option, Some, None}
 use Rattle.std.specs.List.{list_all}
 use Rattle.std.specs.Int.{w32, from_le_bytes}
 use Rattle.rewrite_laws.specs.LoongArchMachine.{State, step, read}

@@ -1264,248 +1264,247 @@ loongarch_groups =
     (state ((3, 0xf5f8774fbc5c599c) ∷ (7, 0x2acdd945cb90a661) ∷ (13, 0x2484058) ∷
     (17, 0xecf4bb92908a271e) ∷ [])
     0x400421858 0x767c79ffa342f9d62e80af0ed5dac6722acdd945cb90a6619f9c7251244f41ad 0) ∷
-    executed (0xa0 ∷ 0x72 ∷ 0xc5 ∷ 0x28 ∷ []) 0x28
-    (state ((21, 0xfffffffffffffed4) ∷ (22, 0xf896c1ed2ead98aa) ∷ (26, 0xffffffff) ∷
+    executed (0xa0 ∷ 0xfe ∷ 0xff ∷ 0x28 ∷ []) 0x40255cad5
+    (state ((21, 0x40255cade) ∷ (22, 0xf896c1ed2ead98aa) ∷ (26, 0xffffffff) ∷
     (29, 0x1288d00591fc9699) ∷ [])
-    0x20042532c 0x7d42eb678fcfd9c235b9d598db472730448cdeebfa435309af6a86f3d8667910 0)
-    (state ((21, 0xfffffffffffffed4) ∷ (22, 0xf896c1ed2ead98aa) ∷ (26, 0xffffffff) ∷
+    0x424910 0xdb472730448cdeebfa435309af6a86f3d86679103cbde6756912d33dd8ed231c 0)
+    (state ((21, 0x40255cade) ∷ (22, 0xf896c1ed2ead98aa) ∷ (26, 0xffffffff) ∷
     (29, 0x1288d00591fc9699) ∷ [])
-    0x200425330 0x7d42eb678fcfd9c235b9d598db472730448cdeebfa435309af6a86f3d8667910 0) ∷
-    executed (0x98 ∷ 0x06 ∷ 0xc0 ∷ 0x28 ∷ []) 0x20248faa8
-    (state ((1, 0x7fffffffffffffff) ∷ (20, 0x20248faaf) ∷ (24, 0x1dee562c2d12834b) ∷ [])
-    0x20042b75c 0xce20eb6e57ead7e0435e96e1d7d12e80dd7118638c28522645e8dd0507abdf96 0)
-    (state ((1, 0x7fffffffffffffff) ∷ (20, 0x20248faaf) ∷ (24, 0xdd7118638c285226) ∷ [])
-    0x20042b760 0xce20eb6e57ead7e0435e96e1d7d12e80dd7118638c28522645e8dd0507abdf96 0) ∷
-    executed (0x0a ∷ 0x3c ∷ 0xd4 ∷ 0x28 ∷ []) 0x507
-    (state ((3, 0x1) ∷ (14, 0x9275ff7254ecdd7f) ∷ [])
-    0x42e2ac 0x1b2efbdca84160011d5987dc9b07d10c53c270c59a7c8dd2e882bac77a9e5e40 0)
-    (state ((3, 0x1) ∷ (10, 0x53c270c59a7c8dd2) ∷ (14, 0x9275ff7254ecdd7f) ∷ [])
-    0x42e2b0 0x1b2efbdca84160011d5987dc9b07d10c53c270c59a7c8dd2e882bac77a9e5e40 0) ∷
-    executed (0x4f ∷ 0xfd ∷ 0xdf ∷ 0x28 ∷ []) 0x2024e424a
-    (state ((4, 0x4f2242c171815fe2) ∷ (10, 0x2024e3a53) ∷ (26, 0xffffffff7fffffff) ∷
-    (28, 0x7d0ed31c054aa2e0) ∷ [])
-    0x200432960 0xdbebf44f89de47197026603ae15edec2ed0f65e7cef004009fd1e3838ab19486 0)
-    (state ((4, 0x4f2242c171815fe2) ∷ (10, 0x2024e3a53) ∷ (15, 0xed0f65e7cef00400) ∷
-    (26, 0xffffffff7fffffff) ∷ (28, 0x7d0ed31c054aa2e0) ∷ [])
-    0x200432964 0xdbebf44f89de47197026603ae15edec2ed0f65e7cef004009fd1e3838ab19486 0) ∷
-    executed (0xef ∷ 0xfd ∷ 0xff ∷ 0x28 ∷ []) 0x20261fa45
-    (state ((6, 0x575e6f3cd59025c0) ∷ (15, 0x20261fa4e) ∷ [])
-    0x43795c 0x8a8a3aa3c0db7100d8c4354e83887fbb17f8e943ee7a8ca8ee8455d2559f189f 0)
-    (state ((6, 0x575e6f3cd59025c0) ∷ (15, 0x17f8e943ee7a8ca8) ∷ [])
-    0x437960 0x8a8a3aa3c0db7100d8c4354e83887fbb17f8e943ee7a8ca8ee8455d2559f189f 0) ∷
-    executed (0x36 ∷ 0x07 ∷ 0xc0 ∷ 0x28 ∷ []) 0x202201963
-    (state ((7, 0x306c6968138564ee) ∷ (9, 0xffffffffffffffff) ∷ (22, 0x7be31dc78ebfc0e6) ∷
-    (25, 0x20220196a) ∷ [])
-    0x40043bb78 0xc453fc4feed6618a1fa3269ed0abd4ac1b3ca6972c29f761db612d1d55afe81d 0)
-    (state ((7, 0x306c6968138564ee) ∷ (9, 0xffffffffffffffff) ∷ (22, 0x1b3ca6972c29f761) ∷
-    (25, 0x20220196a) ∷ [])
-    0x40043bb7c 0xc453fc4feed6618a1fa3269ed0abd4ac1b3ca6972c29f761db612d1d55afe81d 0) ∷
-    executed (0xa0 ∷ 0x00 ∷ 0xe0 ∷ 0x28 ∷ []) 0x402701124
-    (state ((5, 0x40270192c) ∷ (22, 0xffffffff80000000) ∷ (31, 0x4f6dbebe123547bb) ∷ [])
-    0x20043f748 0xec5f41d26b09419fa1a078ee2cd56734e2c64cc0e6226405c447b8342e51a0b5 0)
-    (state ((5, 0x40270192c) ∷ (22, 0xffffffff80000000) ∷ (31, 0x4f6dbebe123547bb) ∷ [])
-    0x20043f74c 0xec5f41d26b09419fa1a078ee2cd56734e2c64cc0e6226405c447b8342e51a0b5 0) ∷
-    executed (0x63 ∷ 0xfc ∷ 0xdf ∷ 0x28 ∷ []) 0x273831d
-    (state ((3, 0x2737b26) ∷ (6, 0x7fffffff) ∷ (21, 0x268e6274c0e2a1bd) ∷
-    (24, 0xe5e549e859aed118) ∷ [])
-    0x400442ccc 0x79e9864de8fa6791ed40fc40bd2608ab6c4972a3cf747b3d588f2e9a05a6f9a8 0)
-    (state ((3, 0x6c4972a3cf747b3d) ∷ (6, 0x7fffffff) ∷ (21, 0x268e6274c0e2a1bd) ∷
-    (24, 0xe5e549e859aed118) ∷ [])
-    0x400442cd0 0x79e9864de8fa6791ed40fc40bd2608ab6c4972a3cf747b3d588f2e9a05a6f9a8 0) ∷
-    executed (0x40 ∷ 0x0d ∷ 0xde ∷ 0x28 ∷ []) 0x2db
-    (state ((7, 0x8000000000000000) ∷ (9, 0x82fb1c3f51c185c2) ∷ (10, 0xfffffffffffffb60) ∷
-    (23, 0x989a44c7780fa3e9) ∷ [])
-    0x400447af8 0xb315b20cd7cbb173cd6d484b56d86f0f6c6568ddd052a3f821f6bc3ab1d0abbc 0)
-    (state ((7, 0x8000000000000000) ∷ (9, 0x82fb1c3f51c185c2) ∷ (10, 0xfffffffffffffb60) ∷
-    (23, 0x989a44c7780fa3e9) ∷ [])
-    0x400447afc 0xb315b20cd7cbb173cd6d484b56d86f0f6c6568ddd052a3f821f6bc3ab1d0abbc 0) ∷
-    executed (0xce ∷ 0x06 ∷ 0xc0 ∷ 0x28 ∷ []) 0x4020ddfad
-    (state ((7, 0x1) ∷ (21, 0x869e309d0e9d309b) ∷ (22, 0x4020ddfb4) ∷
-    (25, 0x110f389f4564a339) ∷ [])
-    0x40044a020 0x1e80f9d3f029ecdfc16feca26a9bfa745073dee830f31f816a2380421103769e 0)
-    (state ((7, 0x1) ∷ (14, 0x5073dee830f31f81) ∷ (21, 0x869e309d0e9d309b) ∷
-    (22, 0x4020ddfb4) ∷ (25, 0x110f389f4564a339) ∷ [])
-    0x40044a024 0x1e80f9d3f029ecdfc16feca26a9bfa745073dee830f31f816a2380421103769e 0) ∷
-    executed (0x02 ∷ 0xac ∷ 0xc2 ∷ 0x28 ∷ []) 0xa3
-    (state ((6, 0xffffffff7fffffff) ∷ (12, 0xcdb13a9a650caa6c) ∷ [])
-    0x44ef7c 0xa4815fc83d53dbfa7eabe6320a5406dc448cb02d031b0872e3888a67f62435b7 0)
-    (state ((2, 0x448cb02d031b0872) ∷ (6, 0xffffffff7fffffff) ∷ (12, 0xcdb13a9a650caa6c) ∷ [])
-    0x44ef80 0xa4815fc83d53dbfa7eabe6320a5406dc448cb02d031b0872e3888a67f62435b7 0) ∷
-    executed (0xd5 ∷ 0xff ∷ 0xdf ∷ 0x28 ∷ []) 0x28d160e
-    (state ((18, 0x80000000) ∷ (21, 0xa8fd3e70ae93f045) ∷ (30, 0x28d0e17) ∷ [])
-    0x200452bf0 0x3dafb7e0ccd324ce40295806712ddcff5d4cdae1062a1ab5d95f5855e6320bd6 0)
-    (state ((18, 0x80000000) ∷ (21, 0x5d4cdae1062a1ab5) ∷ (30, 0x28d0e17) ∷ [])
-    0x200452bf4 0x3dafb7e0ccd324ce40295806712ddcff5d4cdae1062a1ab5d95f5855e6320bd6 0) ∷
-    executed (0xbd ∷ 0x03 ∷ 0xc0 ∷ 0x28 ∷ []) 0x202f4df85
-    (state ((26, 0x697d7287b11122b1) ∷ (27, 0x1b6671df9b2376bd) ∷ (29, 0x202f4df8d) ∷ [])
-    0x400454b70 0xbf28429d2aa700a4a73cbcad8325f495eb4fc9fac4536f12b05012d641a59e33 0)
-    (state ((26, 0x697d7287b11122b1) ∷ (27, 0x1b6671df9b2376bd) ∷ (29, 0xeb4fc9fac4536f12) ∷ [])
-    0x400454b74 0xbf28429d2aa700a4a73cbcad8325f495eb4fc9fac4536f12b05012d641a59e33 0) ∷
-    executed (0x55 ∷ 0xfd ∷ 0xff ∷ 0x28 ∷ []) 0x40207c487
-    (state ((10, 0x40207c490) ∷ (12, 0x18dfcbaef30503fc) ∷ (14, 0x52f301915299af63) ∷
-    (15, 0xffffffff80000000) ∷ [])
-    0x4004591c0 0xbb21dea62f52507e382654a5609bdca47563d560ddd3f45b03d6857f5db66813 0)
-    (state ((10, 0x40207c490) ∷ (12, 0x18dfcbaef30503fc) ∷ (14, 0x52f301915299af63) ∷
-    (15, 0xffffffff80000000) ∷ (21, 0x7563d560ddd3f45b) ∷ [])
-    0x4004591c4 0xbb21dea62f52507e382654a5609bdca47563d560ddd3f45b03d6857f5db66813 0) ∷
-    executed (0xed ∷ 0x02 ∷ 0xe0 ∷ 0x28 ∷ []) 0x2cf415c
-    (state ((8, 0xaf8b15e21ea8cca) ∷ (13, 0x7fffffff) ∷ (19, 0xa8ed82e736b43b46) ∷
-    (23, 0x2cf4964) ∷ [])
-    0x45e82c 0x2f2c1e6f4f43f7a37e948cc705bf6c8243a90e2664d516ab6582e5311f4a8dae 0)
+    0x424914 0xdb472730448cdeebfa435309af6a86f3d86679103cbde6756912d33dd8ed231c 0) ∷
+    executed (0xed ∷ 0x2b ∷ 0xde ∷ 0x28 ∷ []) 0xa
+    (state ((17, 0x8bf5482e247d5432) ∷ (24, 0x7fffffffffffffff) ∷ (31, 0xfffffffffffff888) ∷ [])
+    0x42ab94 0x435e96e1d7d12e80dd7118638c28522645e8dd0507abdf96cd786d045b71fc0d 0)
+    (state ((13, 0x45e8dd0507abdf96) ∷ (17, 0x8bf5482e247d5432) ∷ (24, 0x7fffffffffffffff) ∷
+    (31, 0xfffffffffffff888) ∷ [])
+    0x42ab98 0x435e96e1d7d12e80dd7118638c28522645e8dd0507abdf96cd786d045b71fc0d 0) ∷
+    executed (0x15 ∷ 0x80 ∷ 0xc7 ∷ 0x28 ∷ []) 0x1d8
+    (state ((4, 0xa6ea55f29fddbde9) ∷ (10, 0xd72694ccc38ff819) ∷ (25, 0x1) ∷ [])
+    0x20042e89c 0x7ab87abc04ef6875d03d9f78a0eb78432a4b8dc9bbd7180e0e3b70848632e3e4 0)
+    (state ((4, 0xa6ea55f29fddbde9) ∷ (10, 0xd72694ccc38ff819) ∷ (21, 0x2a4b8dc9bbd7180e) ∷
+    (25, 0x1) ∷ [])
+    0x20042e8a0 0x7ab87abc04ef6875d03d9f78a0eb78432a4b8dc9bbd7180e0e3b70848632e3e4 0) ∷
+    executed (0x9e ∷ 0xfe ∷ 0xdf ∷ 0x28 ∷ []) 0x402365df7
+    (state ((7, 0xffffffff7fffffff) ∷ (15, 0x2a9c67dda199e3f3) ∷ (20, 0x402365600) ∷
+    (26, 0xf3f70730f1495e07) ∷ [])
+    0x2004330d4 0x73b994ebf9e41c2df65f7d7dcfb7e72c9d0202e0aedb976427212567d80c3530 0)
+    (state ((7, 0xffffffff7fffffff) ∷ (15, 0x2a9c67dda199e3f3) ∷ (20, 0x402365600) ∷
+    (26, 0xf3f70730f1495e07) ∷ (30, 0x9d0202e0aedb9764) ∷ [])
+    0x2004330d8 0x73b994ebf9e41c2df65f7d7dcfb7e72c9d0202e0aedb976427212567d80c3530 0) ∷
+    executed (0xff ∷ 0xff ∷ 0xff ∷ 0x28 ∷ []) 0x2029e4485
+    (state ((17, 0x8ab194869581ec62) ∷ (28, 0xdbebf44f89de4719) ∷ (31, 0x2029e448e) ∷ [])
+    0x435300 0xcacc3ac31bc9a6a130fd22ca5f3df75ede719c6fd9452dd1dce6a14b08eeb2a3 0)
+    (state ((17, 0x8ab194869581ec62) ∷ (28, 0xdbebf44f89de4719) ∷ (31, 0xde719c6fd9452dd1) ∷ [])
+    0x435304 0xcacc3ac31bc9a6a130fd22ca5f3df75ede719c6fd9452dd1dce6a14b08eeb2a3 0) ∷
+    executed (0xc6 ∷ 0x04 ∷ 0xc0 ∷ 0x28 ∷ []) 0x2ab3e31
+    (state ((5, 0xd8c4354e83887fbb) ∷ (6, 0x2ab3e38) ∷ (21, 0xffffffffffffffff) ∷
+    (22, 0x660ba2e795987ba5) ∷ [])
+    0x43b8b0 0x8ebfc0e658f47cfc100cb1a949b034eff36d5236cf08dfe8feebf27ad0f22240 0)
+    (state ((5, 0xd8c4354e83887fbb) ∷ (6, 0xf36d5236cf08dfe8) ∷ (21, 0xffffffffffffffff) ∷
+    (22, 0x660ba2e795987ba5) ∷ [])
+    0x43b8b4 0x8ebfc0e658f47cfc100cb1a949b034eff36d5236cf08dfe8feebf27ad0f22240 0) ∷
+    executed (0xfe ∷ 0x00 ∷ 0xe0 ∷ 0x28 ∷ []) 0x2ab5fd0
+    (state ((4, 0xffffffff80000000) ∷ (7, 0x2ab67d8) ∷ (11, 0xd0abd4ac1b3ca697) ∷ [])
+    0x43e7c0 0x27d77da38089211947f80bb591bdca1957aab0c15c7e048ba73e86fd95ad3e4 0)
+    (state ((4, 0xffffffff80000000) ∷ (7, 0x2ab67d8) ∷ (11, 0xd0abd4ac1b3ca697) ∷
+    (30, 0x957aab0c15c7e048) ∷ [])
+    0x43e7c4 0x27d77da38089211947f80bb591bdca1957aab0c15c7e048ba73e86fd95ad3e4 0) ∷
+    executed (0xe6 ∷ 0xff ∷ 0xdf ∷ 0x28 ∷ []) 0x2028ed83b
+    (state ((4, 0x7fffffff) ∷ (11, 0x6b09419fa1a078ee) ∷ (31, 0x2028ed044) ∷ [])
+    0x4004426f8 0xc0e2a1bd57e1cb2739c18ec8c4282c8313de7fd819e556a30c5349450e6bcfd3 0)
+    (state ((4, 0x7fffffff) ∷ (6, 0x13de7fd819e556a3) ∷ (11, 0x6b09419fa1a078ee) ∷
+    (31, 0x2028ed044) ∷ [])
+    0x4004426fc 0xc0e2a1bd57e1cb2739c18ec8c4282c8313de7fd819e556a30c5349450e6bcfd3 0) ∷
+    executed (0x00 ∷ 0x03 ∷ 0xc0 ∷ 0x28 ∷ []) 0x4020b4df3
+    (state ((22, 0x8000000000000000) ∷ (24, 0x4020b4dfb) ∷ (30, 0xb0409ff394cdc330) ∷ [])
+    0x200444ec8 0x780fa3e95ca10f1e099d3028c0a56c1c26bdb68f1ed1c7978288acd1bbb1747d 0)
+    (state ((22, 0x8000000000000000) ∷ (24, 0x4020b4dfb) ∷ (30, 0xb0409ff394cdc330) ∷ [])
+    0x200444ecc 0x780fa3e95ca10f1e099d3028c0a56c1c26bdb68f1ed1c7978288acd1bbb1747d 0) ∷
+    executed (0x89 ∷ 0x7a ∷ 0xda ∷ 0x28 ∷ []) 0xef
+    (state ((14, 0x58897755b0610201) ∷ (20, 0xfffffffffffffa59) ∷ (22, 0x1) ∷
+    (27, 0xcd6d484b56d86f0f) ∷ [])
+    0x4004485b8 0x869e309d0e9d309b569c5068fd540979110f389f4564a3396769d9cabdc527c4 0)
+    (state ((9, 0x110f389f4564a339) ∷ (14, 0x58897755b0610201) ∷ (20, 0xfffffffffffffa59) ∷
+    (22, 0x1) ∷ (27, 0xcd6d484b56d86f0f) ∷ [])
+    0x4004485bc 0x869e309d0e9d309b569c5068fd540979110f389f4564a3396769d9cabdc527c4 0) ∷
+    executed (0x1c ∷ 0x60 ∷ 0xc7 ∷ 0x28 ∷ []) 0x1d0
+    (state ((7, 0x8b16b1ba9f26f19) ∷ (26, 0xffffffff7fffffff) ∷ [])
+    0x44fa10 0x391e0478d829f366bc0bce1e92792e8ffd62150bc50108cd303001dadfb19f6c 0)
+    (state ((7, 0x8b16b1ba9f26f19) ∷ (26, 0xffffffff7fffffff) ∷ (28, 0xfd62150bc50108cd) ∷ [])
+    0x44fa14 0x391e0478d829f366bc0bce1e92792e8ffd62150bc50108cd303001dadfb19f6c 0) ∷
+    executed (0x86 ∷ 0xff ∷ 0xdf ∷ 0x28 ∷ []) 0x2ca1954
+    (state ((2, 0xadf1a08cf09f4e9a) ∷ (3, 0x80000000) ∷ (5, 0xe0fd83c9c13106c2) ∷
+    (28, 0x2ca115d) ∷ [])
+    0x451520 0xc6cebf5b96d7ecd978b78ebb574f1747a4815fc83d53dbfa7eabe6320a5406dc 0)
+    (state ((2, 0xadf1a08cf09f4e9a) ∷ (3, 0x80000000) ∷ (5, 0xe0fd83c9c13106c2) ∷
+    (6, 0xa4815fc83d53dbfa) ∷ (28, 0x2ca115d) ∷ [])
+    0x451524 0xc6cebf5b96d7ecd978b78ebb574f1747a4815fc83d53dbfa7eabe6320a5406dc 0) ∷
+    executed (0x21 ∷ 0x00 ∷ 0xc0 ∷ 0x28 ∷ []) 0x40201ee1d
+    (state ((1, 0x40201ee25) ∷ (17, 0xe6320bd69fcbf996) ∷ (31, 0x545239a283faee80) ∷ [])
+    0x455b50 0xf1a97949773717ec7914cd44f03815c93dafb7e0ccd324ce40295806712ddcff 0)
+    (state ((1, 0x3dafb7e0ccd324ce) ∷ (17, 0xe6320bd69fcbf996) ∷ (31, 0x545239a283faee80) ∷ [])
+    0x455b54 0xf1a97949773717ec7914cd44f03815c93dafb7e0ccd324ce40295806712ddcff 0) ∷
+    executed (0xac ∷ 0xfe ∷ 0xff ∷ 0x28 ∷ []) 0x20236cce3
+    (state ((7, 0xb05012d641a59e33) ∷ (21, 0x20236ccec) ∷ (26, 0x697d7287b11122b1) ∷
+    (30, 0xffffffff80000000) ∷ [])
+    0x40045adcc 0x3e243929e2d1cfdbfe320dc3ffb7c322847ce7d558473dbbf28429d2aa700a4 0)
+    (state ((7, 0xb05012d641a59e33) ∷ (12, 0x2847ce7d558473db) ∷ (21, 0x20236ccec) ∷
+    (26, 0x697d7287b11122b1) ∷ (30, 0xffffffff80000000) ∷ [])
+    0x40045add0 0x3e243929e2d1cfdbfe320dc3ffb7c322847ce7d558473dbbf28429d2aa700a4 0) ∷
+    executed (0xcc ∷ 0x00 ∷ 0xe0 ∷ 0x28 ∷ []) 0x202a5e603
+    (state ((6, 0x202a5ee0b) ∷ (13, 0x3d6857f5db66813) ∷ (14, 0x7fffffff) ∷
+    (29, 0x382654a5609bdca4) ∷ [])
+    0x45f2c8 0x9e2af558bc1b62b4ec7f452a876b124ebe887400daa70efb93fba33b8239017b 0)
+    (state ((6, 0x202a5ee0b) ∷ (12, 0xbe887400daa70efb) ∷ (13, 0x3d6857f5db66813) ∷
+    (14, 0x7fffffff) ∷ (29, 0x382654a5609bdca4) ∷ [])
+    0x45f2cc 0x9e2af558bc1b62b4ec7f452a876b124ebe887400daa70efb93fba33b8239017b 0) ∷
+    executed (0xed ∷ 0xfe ∷ 0xdf ∷ 0x28 ∷ []) 0x2cf415c
+    (state ((8, 0xaf8b15e21ea8cca) ∷ (13, 0x8000000000000000) ∷ (19, 0xa8ed82e736b43b46) ∷
+    (23, 0x2cf3965) ∷ [])
+    0x46282c 0x2f2c1e6f4f43f7a37e948cc705bf6c8243a90e2664d516ab6582e5311f4a8dae 0)
     (state ((8, 0xaf8b15e21ea8cca) ∷ (13, 0x43a90e2664d516ab) ∷ (19, 0xa8ed82e736b43b46) ∷
-    (23, 0x2cf4964) ∷ [])
-    0x45e830 0x2f2c1e6f4f43f7a37e948cc705bf6c8243a90e2664d516ab6582e5311f4a8dae 0) ∷
-    executed (0xa0 ∷ 0xfc ∷ 0xdf ∷ 0x28 ∷ []) 0x2024f0482
-    (state ((5, 0x2024efc8b) ∷ (8, 0xb757a8b3a019eb38) ∷ (23, 0x8000000000000000) ∷
-    (24, 0xf90b3e01bfbed12c) ∷ [])
-    0x4606f4 0x4faa5eecf8393db40cb1232a9f8b0cff8a511c28c1e01e621369cb422e67c49e 0)
-    (state ((5, 0x2024efc8b) ∷ (8, 0xb757a8b3a019eb38) ∷ (23, 0x8000000000000000) ∷
-    (24, 0xf90b3e01bfbed12c) ∷ [])
-    0x4606f8 0x4faa5eecf8393db40cb1232a9f8b0cff8a511c28c1e01e621369cb422e67c49e 0) ∷
-    executed (0xe0 ∷ 0xe1 ∷ 0xd2 ∷ 0x28 ∷ []) 0x284
-    (state ((4, 0xf4ca1bacd9060fa7) ∷ (12, 0xb7b5eedeb9d7b7c2) ∷ (15, 0xfffffffffffffdd4) ∷ [])
-    0x200467524 0xe464b5a8aac70df5bcc694acc324155160c4038bc0bc07cbd02376bc91607a63 0)
-    (state ((4, 0xf4ca1bacd9060fa7) ∷ (12, 0xb7b5eedeb9d7b7c2) ∷ (15, 0xfffffffffffffdd4) ∷ [])
-    0x200467528 0xe464b5a8aac70df5bcc694acc324155160c4038bc0bc07cbd02376bc91607a63 0) ∷
-    executed (0x26 ∷ 0xfc ∷ 0xff ∷ 0x28 ∷ []) 0x4025a16a0
-    (state ((1, 0x4025a16a9) ∷ (7, 0x9fb2bc9f5056072e) ∷ (24, 0xffffffff) ∷
+    (23, 0x2cf3965) ∷ [])
+    0x462830 0x2f2c1e6f4f43f7a37e948cc705bf6c8243a90e2664d516ab6582e5311f4a8dae 0) ∷
+    executed (0xa0 ∷ 0x00 ∷ 0xc0 ∷ 0x28 ∷ []) 0x2024f0482
+    (state ((5, 0x2024f048a) ∷ (8, 0xb757a8b3a019eb38) ∷ (24, 0xf90b3e01bfbed12c) ∷ [])
+    0x4646f4 0x4faa5eecf8393db40cb1232a9f8b0cff8a511c28c1e01e621369cb422e67c49e 0)
+    (state ((5, 0x2024f048a) ∷ (8, 0xb757a8b3a019eb38) ∷ (24, 0xf90b3e01bfbed12c) ∷ [])
+    0x4646f8 0x4faa5eecf8393db40cb1232a9f8b0cff8a511c28c1e01e621369cb422e67c49e 0) ∷
+    executed (0xe9 ∷ 0xe1 ∷ 0xd2 ∷ 0x28 ∷ []) 0x284
+    (state ((4, 0xf4ca1bacd9060fa7) ∷ (12, 0xb7b5eedeb9d7b7c2) ∷ (13, 0xffffffff) ∷
+    (15, 0xfffffffffffffdd4) ∷ [])
+    0x20046b524 0xe464b5a8aac70df5bcc694acc324155160c4038bc0bc07cbd02376bc91607a63 0)
+    (state ((4, 0xf4ca1bacd9060fa7) ∷ (9, 0x60c4038bc0bc07cb) ∷ (12, 0xb7b5eedeb9d7b7c2) ∷
+    (13, 0xffffffff) ∷ (15, 0xfffffffffffffdd4) ∷ [])
+    0x20046b528 0xe464b5a8aac70df5bcc694acc324155160c4038bc0bc07cbd02376bc91607a63 0) ∷
+    executed (0x06 ∷ 0x2c ∷ 0xd2 ∷ 0x28 ∷ []) 0x483
+    (state ((7, 0x9fb2bc9f5056072e) ∷ (24, 0x7fffffffffffffff) ∷ (30, 0x24e8437a5fca927e) ∷ [])
+    0x20046f68c 0x48dd241d6946b07659db7373a4e79e7fad6632615939d63ec2a3c2173b16069e 0)
+    (state ((6, 0xad6632615939d63e) ∷ (7, 0x9fb2bc9f5056072e) ∷ (24, 0x7fffffffffffffff) ∷
     (30, 0x24e8437a5fca927e) ∷ [])
-    0x400469490 0x6946b07659db7373a4e79e7fad6632615939d63ec2a3c2173b16069eca3c818a 0)
-    (state ((1, 0x4025a16a9) ∷ (6, 0x5939d63ec2a3c217) ∷ (7, 0x9fb2bc9f5056072e) ∷
-    (24, 0xffffffff) ∷ (30, 0x24e8437a5fca927e) ∷ [])
-    0x400469494 0x6946b07659db7373a4e79e7fad6632615939d63ec2a3c2173b16069eca3c818a 0) ∷
-    executed (0x12 ∷ 0x7c ∷ 0xcf ∷ 0x28 ∷ []) 0x3d7
-    (state ((9, 0x7fffffffffffffff) ∷ (16, 0xb7fcf1bd703b7bd8) ∷ (22, 0xdc1a402d295086a2) ∷ [])
-    0x20046f5f8 0xaa62fe143b558a3bc6031d1ee68b233892f2fc7a2653a0ec37028d719c2091c9 0)
-    (state ((9, 0x7fffffffffffffff) ∷ (16, 0xb7fcf1bd703b7bd8) ∷ (18, 0x92f2fc7a2653a0ec) ∷
-    (22, 0xdc1a402d295086a2) ∷ [])
-    0x20046f5fc 0xaa62fe143b558a3bc6031d1ee68b233892f2fc7a2653a0ec37028d719c2091c9 0) ∷
-    executed (0xa8 ∷ 0x44 ∷ 0xf1 ∷ 0x28 ∷ []) 0x2fa2c41
-    (state ((5, 0x2fa2ff8) ∷ (10, 0x5a85a418d3f05016) ∷ (15, 0x9b9266abad0a1918) ∷
-    (27, 0x3370f824d40bf434) ∷ [])
-    0x47286c 0x90cb286e98e38180bb58532541346d63d39f765f39fc12fcf3e1872d6b13ade4 0)
-    (state ((5, 0x2fa2ff8) ∷ (8, 0xd39f765f39fc12fc) ∷ (10, 0x5a85a418d3f05016) ∷
-    (15, 0x9b9266abad0a1918) ∷ (27, 0x3370f824d40bf434) ∷ [])
-    0x472870 0x90cb286e98e38180bb58532541346d63d39f765f39fc12fcf3e1872d6b13ade4 0) ∷
-    executed (0x18 ∷ 0x03 ∷ 0xde ∷ 0x28 ∷ []) 0x2d4f4bd
-    (state ((15, 0xf8b521d1bb63a8e0) ∷ (24, 0x2d4ed45) ∷ (26, 0xe7041328ef2223b5) ∷ [])
-    0x475ad4 0xeeeb739fed5d6fb652ab059d123b8c1f79b2aaa5610dbfc05caadf499242cec4 0)
-    (state ((15, 0xf8b521d1bb63a8e0) ∷ (24, 0x79b2aaa5610dbfc0) ∷ (26, 0xe7041328ef2223b5) ∷ [])
-    0x475ad8 0xeeeb739fed5d6fb652ab059d123b8c1f79b2aaa5610dbfc05caadf499242cec4 0) ∷
-    executed (0xaf ∷ 0x27 ∷ 0xf4 ∷ 0x28 ∷ []) 0x2d78db9
-    (state ((3, 0x939e9179621882f6) ∷ (17, 0x97ecc5b3164d2970) ∷ (20, 0x7bde1ff3e3761726) ∷
-    (29, 0x2d790b8) ∷ [])
-    0x2004798e0 0x93b3c7b7a25c112c883f163cdb242bb0de958e2c2eb16225c587cb1e32b326ea 0)
-    (state ((3, 0x939e9179621882f6) ∷ (15, 0xde958e2c2eb16225) ∷ (17, 0x97ecc5b3164d2970) ∷
-    (20, 0x7bde1ff3e3761726) ∷ (29, 0x2d790b8) ∷ [])
-    0x2004798e4 0x93b3c7b7a25c112c883f163cdb242bb0de958e2c2eb16225c587cb1e32b326ea 0) ∷
-    executed (0x8e ∷ 0x65 ∷ 0xdb ∷ 0x28 ∷ []) 0x2bee761
-    (state ((3, 0xefd6761c5bb0fc4e) ∷ (12, 0x2bee090) ∷ (15, 0x970afd7ca7fde0d5) ∷
-    (18, 0x31db82b8e46e7809) ∷ [])
-    0x47c6f0 0x8dc80df145acc4912a0ea2a27250b7559140902a335a90a6efc157b8ff25e8d6 0)
-    (state ((3, 0xefd6761c5bb0fc4e) ∷ (12, 0x2bee090) ∷ (14, 0x9140902a335a90a6) ∷
-    (15, 0x970afd7ca7fde0d5) ∷ (18, 0x31db82b8e46e7809) ∷ [])
-    0x47c6f4 0x8dc80df145acc4912a0ea2a27250b7559140902a335a90a6efc157b8ff25e8d6 0) ∷
-    executed (0x66 ∷ 0xf9 ∷ 0xe7 ∷ 0x28 ∷ []) 0x4025e74ef
-    (state ((1, 0xf7d840cc61eee2df) ∷ (10, 0x4d8a99630ae026a2) ∷ (11, 0x4025e7af9) ∷
-    (15, 0x45dc9e7b6a71e75d) ∷ [])
-    0x200481bc8 0xd387c7b3fd655db79f29749b2ff20756f7c6cd488385e629118fa546ed188290 0)
-    (state ((1, 0xf7d840cc61eee2df) ∷ (6, 0xf7c6cd488385e629) ∷ (10, 0x4d8a99630ae026a2) ∷
-    (11, 0x4025e7af9) ∷ (15, 0x45dc9e7b6a71e75d) ∷ [])
-    0x200481bcc 0xd387c7b3fd655db79f29749b2ff20756f7c6cd488385e629118fa546ed188290 0) ∷
-    executed (0x40 ∷ 0x2a ∷ 0xc9 ∷ 0x28 ∷ []) 0x13f
-    (state ((3, 0x2c7c89182c1b314) ∷ (12, 0xd22a22e75bb2a21c) ∷ (14, 0xc0d7545bdd14cc5a) ∷
-    (18, 0xfffffffffffffefd) ∷ [])
-    0x2004865b4 0x9f913c554dbe7a0f3875b22edaf70c875758276b8161d0ce2e7df02d42fa0dd0 0)
-    (state ((3, 0x2c7c89182c1b314) ∷ (12, 0xd22a22e75bb2a21c) ∷ (14, 0xc0d7545bdd14cc5a) ∷
-    (18, 0xfffffffffffffefd) ∷ [])
-    0x2004865b8 0x9f913c554dbe7a0f3875b22edaf70c875758276b8161d0ce2e7df02d42fa0dd0 0) ∷
-    executed (0x91 ∷ 0xba ∷ 0xf6 ∷ 0x28 ∷ []) 0x2477c65
-    (state ((20, 0x2477ebf) ∷ (26, 0x38eca7ea43915421) ∷ (28, 0x60b86e58bff40011) ∷ [])
-    0x200489f48 0x3b4d12b920995c2f16672b1eb1d8f012428e26d0a1808dec2809db1c32a8aaed 0)
-    (state ((17, 0x428e26d0a1808dec) ∷ (20, 0x2477ebf) ∷ (26, 0x38eca7ea43915421) ∷
+    0x20046f690 0x48dd241d6946b07659db7373a4e79e7fad6632615939d63ec2a3c2173b16069e 0) ∷
+    executed (0x3d ∷ 0x69 ∷ 0xce ∷ 0x28 ∷ []) 0x202e076f7
+    (state ((9, 0x202e07365) ∷ (13, 0x92f2fc7a2653a0ec) ∷ (29, 0xc6031d1ee68b2338) ∷
+    (30, 0xfcf93432462d20a5) ∷ [])
+    0x473ae4 0x7d162091275c5c0b05cb6c1c1c7d62b55d565547c51d622828b8a3f214a187e9 0)
+    (state ((9, 0x202e07365) ∷ (13, 0x92f2fc7a2653a0ec) ∷ (29, 0x5d565547c51d6228) ∷
+    (30, 0xfcf93432462d20a5) ∷ [])
+    0x473ae8 0x7d162091275c5c0b05cb6c1c1c7d62b55d565547c51d622828b8a3f214a187e9 0) ∷
+    executed (0x8c ∷ 0x41 ∷ 0xeb ∷ 0x28 ∷ []) 0x213af05
+    (state ((12, 0x213b43d) ∷ (16, 0x98e38180bb585325) ∷ (26, 0x39fc12fcf3e1872d) ∷ [])
+    0x200476cdc 0xcef66055c232c882d02b159b49e5fb6048caf5e1780c4c63654159b9b57116d3 0)
+    (state ((12, 0x48caf5e1780c4c63) ∷ (16, 0x98e38180bb585325) ∷ (26, 0x39fc12fcf3e1872d) ∷ [])
+    0x200476ce0 0xcef66055c232c882d02b159b49e5fb6048caf5e1780c4c63654159b9b57116d3 0) ∷
+    executed (0x4d ∷ 0xcb ∷ 0xfb ∷ 0x28 ∷ []) 0x40219ee76
+    (state ((22, 0x5caadf499242cec4) ∷ (24, 0x123b8c1f79b2aaa5) ∷ (26, 0x40219ef8c) ∷ [])
+    0x40047aa7c 0xfb38672d850d10c223696689d099b5760c76531a75272618dcc3f20d3eb66f62 0)
+    (state ((13, 0xc76531a75272618) ∷ (22, 0x5caadf499242cec4) ∷ (24, 0x123b8c1f79b2aaa5) ∷
+    (26, 0x40219ef8c) ∷ [])
+    0x40047aa80 0xfb38672d850d10c223696689d099b5760c76531a75272618dcc3f20d3eb66f62 0) ∷
+    executed (0x4c ∷ 0x93 ∷ 0xc5 ∷ 0x28 ∷ []) 0x202c43105
+    (state ((11, 0xdb242bb0de958e2c) ∷ (17, 0xa25c112c883f163c) ∷ (23, 0x32b326ea53867f61) ∷
+    (26, 0x202c42fa9) ∷ [])
+    0x47d07c 0xea631b748a6c35872cbf363b8e565d79f63cf8a4e8cad3796d9722c73f3068ca 0)
+    (state ((11, 0xdb242bb0de958e2c) ∷ (12, 0xf63cf8a4e8cad379) ∷ (17, 0xa25c112c883f163c) ∷
+    (23, 0x32b326ea53867f61) ∷ (26, 0x202c42fa9) ∷ [])
+    0x47d080 0xea631b748a6c35872cbf363b8e565d79f63cf8a4e8cad3796d9722c73f3068ca 0) ∷
+    executed (0x77 ∷ 0xf4 ∷ 0xfb ∷ 0x28 ∷ []) 0x402cb7fc1
+    (state ((3, 0x402cb80cc) ∷ (7, 0xff25e8d60bc8b45e) ∷ (12, 0x7250b7559140902a) ∷
+    (22, 0x45acc4912a0ea2a2) ∷ [])
+    0x480e6c 0xc0be29632f3a7789f69bd1d2ace5cce783b21d3974bf70c85d4bdd419fef2bb2 0)
+    (state ((3, 0x402cb80cc) ∷ (7, 0xff25e8d60bc8b45e) ∷ (12, 0x7250b7559140902a) ∷
+    (22, 0x45acc4912a0ea2a2) ∷ (23, 0x83b21d3974bf70c8) ∷ [])
+    0x480e70 0xc0be29632f3a7789f69bd1d2ace5cce783b21d3974bf70c85d4bdd419fef2bb2 0) ∷
+    executed (0x40 ∷ 0x97 ∷ 0xf8 ∷ 0x28 ∷ []) 0x29b1532
+    (state ((5, 0xf1046193c9008df1) ∷ (17, 0x118fa546ed188290) ∷ (25, 0x5f213a9bebc5cd84) ∷
+    (26, 0x29b1715) ∷ [])
+    0x486bc8 0xb784e5749a4584b14affbffa7a9468589e19ca2d90c4e823d387c7b3fd655db7 0)
+    (state ((5, 0xf1046193c9008df1) ∷ (17, 0x118fa546ed188290) ∷ (25, 0x5f213a9bebc5cd84) ∷
+    (26, 0x29b1715) ∷ [])
+    0x486bcc 0xb784e5749a4584b14affbffa7a9468589e19ca2d90c4e823d387c7b3fd655db7 0) ∷
+    executed (0x63 ∷ 0xd8 ∷ 0xd4 ∷ 0x28 ∷ []) 0x217
+    (state ((3, 0xfffffffffffffce9) ∷ (22, 0xd5aba794295dbe2e) ∷ [])
+    0x48a458 0xd3d01e2c4762969ad8e36f0b9f913c554dbe7a0f3875b22edaf70c875758276b 0)
+    (state ((3, 0x4dbe7a0f3875b22e) ∷ (22, 0xd5aba794295dbe2e) ∷ [])
+    0x48a45c 0xd3d01e2c4762969ad8e36f0b9f913c554dbe7a0f3875b22edaf70c875758276b 0) ∷
+    executed (0x14 ∷ 0x20 ∷ 0xc5 ∷ 0x28 ∷ []) 0x140
+    (state ((5, 0x5167a29a98f4c8c3) ∷ (16, 0x14be620038eca7ea) ∷ (28, 0x60b86e58bff40011) ∷ [])
+    0x40048d4a0 0xd7262b8fa370fe3f2692258c0fb9657b3b4d12b920995c2f16672b1eb1d8f012 0)
+    (state ((5, 0x5167a29a98f4c8c3) ∷ (16, 0x14be620038eca7ea) ∷ (20, 0x3b4d12b920995c2f) ∷
     (28, 0x60b86e58bff40011) ∷ [])
-    0x200489f4c 0x3b4d12b920995c2f16672b1eb1d8f012428e26d0a1808dec2809db1c32a8aaed 0) ∷
-    executed (0x03 ∷ 0x5c ∷ 0xc0 ∷ 0x28 ∷ []) 0xf
-    (state ((10, 0x11dd61043c115a94) ∷ (16, 0x3ffa1a697f5598d6) ∷ [])
-    0x48f5f8 0x7a8a11b9adabae5f71455542328a6dd4093b89b6718e4f7fb50f66c7b64c1ec9 0)
-    (state ((3, 0x93b89b6718e4f7f) ∷ (10, 0x11dd61043c115a94) ∷ (16, 0x3ffa1a697f5598d6) ∷ [])
-    0x48f5fc 0x7a8a11b9adabae5f71455542328a6dd4093b89b6718e4f7fb50f66c7b64c1ec9 0) ∷
-    executed (0xcf ∷ 0x4e ∷ 0xd5 ∷ 0x28 ∷ []) 0x202edac85
-    (state ((4, 0x59915fe5064c2b6d) ∷ (7, 0xadca51fa0f142c6) ∷ (22, 0x202eda73a) ∷
-    (29, 0xf7508f0fe48215aa) ∷ [])
-    0x200491ab4 0x40277b89597517789f8925468ba40e98055eb8881e0e7aa5f6cb0d71a7a69576 0)
-    (state ((4, 0x59915fe5064c2b6d) ∷ (7, 0xadca51fa0f142c6) ∷ (15, 0x55eb8881e0e7aa5) ∷
-    (22, 0x202eda73a) ∷ (29, 0xf7508f0fe48215aa) ∷ [])
-    0x200491ab8 0x40277b89597517789f8925468ba40e98055eb8881e0e7aa5f6cb0d71a7a69576 0) ∷
-    executed (0x94 ∷ 0x1a ∷ 0xc7 ∷ 0x28 ∷ []) 0x402a41036
-    (state ((6, 0x36d4f9ea3dfe4d00) ∷ (20, 0x402a40e78) ∷ (25, 0xde2fa47bdb694fb8) ∷ [])
-    0x400494cb8 0xbc402dfbbf93407292f79b68d0a6cf2b873799019a30903dba823eec1d987f2c 0)
-    (state ((6, 0x36d4f9ea3dfe4d00) ∷ (20, 0x873799019a30903d) ∷ (25, 0xde2fa47bdb694fb8) ∷ [])
-    0x400494cbc 0xbc402dfbbf93407292f79b68d0a6cf2b873799019a30903dba823eec1d987f2c 0) ∷
-    executed (0x77 ∷ 0x59 ∷ 0xdf ∷ 0x28 ∷ []) 0x25a0110
-    (state ((6, 0xdb1e1565bfe4d063) ∷ (11, 0x259f942) ∷ (12, 0x7eebbf30a8c2f6a6) ∷
-    (18, 0xa8f3c8dcb4eafa05) ∷ [])
-    0x499824 0xd2a7f8439651d6c92291a36d84adc2965e835e7f610e98d5ae0047feae443858 0)
-    (state ((6, 0xdb1e1565bfe4d063) ∷ (11, 0x259f942) ∷ (12, 0x7eebbf30a8c2f6a6) ∷
-    (18, 0xa8f3c8dcb4eafa05) ∷ (23, 0x5e835e7f610e98d5) ∷ [])
-    0x499828 0xd2a7f8439651d6c92291a36d84adc2965e835e7f610e98d5ae0047feae443858 0) ∷
-    executed (0xd7 ∷ 0x85 ∷ 0xc8 ∷ 0x28 ∷ []) 0x402aa0339
-    (state ((10, 0x8d8d01e39c8daece) ∷ (14, 0x402aa0120) ∷ (24, 0x32b3c1b61a558bc7) ∷ [])
-    0x40049eff4 0xc9ab485ac445482c222cc1ccab933c9571b227510f4d2f19ea115674d4c85b3 0)
-    (state ((10, 0x8d8d01e39c8daece) ∷ (14, 0x402aa0120) ∷ (23, 0x571b227510f4d2f1) ∷
-    (24, 0x32b3c1b61a558bc7) ∷ [])
-    0x40049eff8 0xc9ab485ac445482c222cc1ccab933c9571b227510f4d2f19ea115674d4c85b3 0) ∷
-    executed (0x7d ∷ 0xce ∷ 0xf2 ∷ 0x28 ∷ []) 0x2b6d1b6
-    (state ((7, 0xa5da6a6bc1f89b90) ∷ (19, 0x2b6d50b) ∷ (29, 0xa4a82617ec7f16f6) ∷
-    (30, 0xb2aab094a0ac2215) ∷ [])
-    0x2004a1ad4 0xf61b88da143c3d2e6865949fc04047434f2b7d72451c6509fc8e30c8f3dd3850 0)
-    (state ((7, 0xa5da6a6bc1f89b90) ∷ (19, 0x2b6d50b) ∷ (29, 0x4f2b7d72451c6509) ∷
-    (30, 0xb2aab094a0ac2215) ∷ [])
-    0x2004a1ad8 0xf61b88da143c3d2e6865949fc04047434f2b7d72451c6509fc8e30c8f3dd3850 0) ∷
-    executed (0x40 ∷ 0x56 ∷ 0xcb ∷ 0x28 ∷ []) 0x279
-    (state ((8, 0xa5aad2cdb4c64c79) ∷ (18, 0xffffffffffffffac) ∷ (19, 0x714c585cad218d6f) ∷ [])
-    0x2004a68e8 0x2a703154c6e025e98dd720a53416ac859dc2350d0c1a39d403c725aaa901552d 0)
-    (state ((8, 0xa5aad2cdb4c64c79) ∷ (18, 0xffffffffffffffac) ∷ (19, 0x714c585cad218d6f) ∷ [])
-    0x2004a68ec 0x2a703154c6e025e98dd720a53416ac859dc2350d0c1a39d403c725aaa901552d 0) ∷
-    executed (0x25 ∷ 0x72 ∷ 0xec ∷ 0x28 ∷ []) 0x202c61b6f
-    (state ((6, 0xb7ee334464fcfc2f) ∷ (10, 0xe31f0e2e11722280) ∷ (17, 0x202c6205b) ∷
-    (20, 0x8af9a6839187a1cd) ∷ [])
-    0x2004a9c38 0xa16bd1c864a207978016e5d9816c878ef645d026b95da0a756933d4c62828177 0)
-    (state ((5, 0xf645d026b95da0a7) ∷ (6, 0xb7ee334464fcfc2f) ∷ (10, 0xe31f0e2e11722280) ∷
-    (17, 0x202c6205b) ∷ (20, 0x8af9a6839187a1cd) ∷ [])
-    0x2004a9c3c 0xa16bd1c864a207978016e5d9816c878ef645d026b95da0a756933d4c62828177 0) ∷
-    executed (0x1f ∷ 0x78 ∷ 0xcb ∷ 0x28 ∷ []) 0x2d6
-    (state ((4, 0x4bd8742edc413fe) ∷ (16, 0xb625998af3bf61a0) ∷ (26, 0x6f0c284cb6c1dd73) ∷ [])
-    0x4004ac668 0x405a940dec855acdc470a5204de4b2f017f313fc802b7695d489c57f616ded24 0)
-    (state ((4, 0x4bd8742edc413fe) ∷ (16, 0xb625998af3bf61a0) ∷ (26, 0x6f0c284cb6c1dd73) ∷
-    (31, 0x17f313fc802b7695) ∷ [])
-    0x4004ac66c 0x405a940dec855acdc470a5204de4b2f017f313fc802b7695d489c57f616ded24 0) ∷
-    executed (0x00 ∷ 0x0e ∷ 0xd7 ∷ 0x28 ∷ []) 0x2029cb31b
-    (state ((16, 0x2029cad60) ∷ (17, 0xbd3338b5ff05e458) ∷ (29, 0x7d5f0ad6a86c4f78) ∷
-    (31, 0x7cae01f70cbf23b3) ∷ [])
-    0x4004b3ae4 0xa688e2fd74afe73054be6ca90b934eb6ac2fd1672eeede08e3cf170ba4b8fe52 0)
-    (state ((16, 0x2029cad60) ∷ (17, 0xbd3338b5ff05e458) ∷ (29, 0x7d5f0ad6a86c4f78) ∷
-    (31, 0x7cae01f70cbf23b3) ∷ [])
-    0x4004b3ae8 0xa688e2fd74afe73054be6ca90b934eb6ac2fd1672eeede08e3cf170ba4b8fe52 0) ∷
-    executed (0x18 ∷ 0x83 ∷ 0xc6 ∷ 0x28 ∷ []) 0x402f23355
-    (state ((6, 0x74681a4be97b893) ∷ (24, 0x402f231bd) ∷ (28, 0xddf76f0b672c05ad) ∷ [])
-    0x4004b7728 0x7c1f6b788b4ff1ce0c23c4e770ca55ce18c4291cffeea6da23761d36cb405b3b 0)
-    (state ((6, 0x74681a4be97b893) ∷ (24, 0x18c4291cffeea6da) ∷ (28, 0xddf76f0b672c05ad) ∷ [])
-    0x4004b772c 0x7c1f6b788b4ff1ce0c23c4e770ca55ce18c4291cffeea6da23761d36cb405b3b 0) ∷
+    0x40048d4a4 0xd7262b8fa370fe3f2692258c0fb9657b3b4d12b920995c2f16672b1eb1d8f012 0) ∷
+    executed (0x40 ∷ 0x88 ∷ 0xde ∷ 0x28 ∷ []) 0x402844e98
+    (state ((2, 0x4028446fe) ∷ (23, 0xf2dec89601e413c2) ∷ (31, 0x971285bc3ffa1a69) ∷ [])
+    0x400493140 0x3eed8604a6de98b77a8a11b9adabae5f71455542328a6dd4093b89b6718e4f7f 0)
+    (state ((2, 0x4028446fe) ∷ (23, 0xf2dec89601e413c2) ∷ (31, 0x971285bc3ffa1a69) ∷ [])
+    0x400493144 0x3eed8604a6de98b77a8a11b9adabae5f71455542328a6dd4093b89b6718e4f7f 0) ∷
+    executed (0xbd ∷ 0xef ∷ 0xc7 ∷ 0x28 ∷ []) 0x2023e0ffb
+    (state ((2, 0x64c2b6d135643c5) ∷ (22, 0xf7508f0fe48215aa) ∷ (29, 0x2023e0e08) ∷ [])
+    0x400494b80 0x509cca5a93e08d6c366eab5340277b89597517789f8925468ba40e98055eb888 0)
+    (state ((2, 0x64c2b6d135643c5) ∷ (22, 0xf7508f0fe48215aa) ∷ (29, 0x597517789f892546) ∷ [])
+    0x400494b84 0x509cca5a93e08d6c366eab5340277b89597517789f8925468ba40e98055eb888 0) ∷
+    executed (0xeb ∷ 0xcc ∷ 0xd5 ∷ 0x28 ∷ []) 0x202ca825d
+    (state ((6, 0x36d4f9ea3dfe4d00) ∷ (7, 0x202ca7cf2) ∷ (14, 0x22e8b5909dad77ef) ∷
+    (27, 0xedd50184dd7f26ea) ∷ [])
+    0x40049a5cc 0xa90b9bc2962acfc95eea07cbcfabe6d6bc402dfbbf93407292f79b68d0a6cf2b 0)
+    (state ((6, 0x36d4f9ea3dfe4d00) ∷ (7, 0x202ca7cf2) ∷ (11, 0xbc402dfbbf934072) ∷
+    (14, 0x22e8b5909dad77ef) ∷ (27, 0xedd50184dd7f26ea) ∷ [])
+    0x40049a5d0 0xa90b9bc2962acfc95eea07cbcfabe6d6bc402dfbbf93407292f79b68d0a6cf2b 0) ∷
+    executed (0xcb ∷ 0x7c ∷ 0xda ∷ 0x28 ∷ []) 0x267bf88
+    (state ((6, 0x267b8f1) ∷ (12, 0xae443858509786a9) ∷ (31, 0x610e98d5ae0047fe) ∷ [])
+    0x49e994 0x221d6dd76312033f397219dc86e2686e5f3bab18aeea64e4edc9d0d1d2a7f843 0)
+    (state ((6, 0x267b8f1) ∷ (11, 0x5f3bab18aeea64e4) ∷ (12, 0xae443858509786a9) ∷
+    (31, 0x610e98d5ae0047fe) ∷ [])
+    0x49e998 0x221d6dd76312033f397219dc86e2686e5f3bab18aeea64e4edc9d0d1d2a7f843 0) ∷
+    executed (0x15 ∷ 0xb0 ∷ 0xc1 ∷ 0x28 ∷ []) 0x64
+    (state ((15, 0xcab933c9571b2275) ∷ (19, 0x10f4d2f19ea11567) ∷ (30, 0x8159e56eda136296) ∷ [])
+    0x2004a36c8 0xf652dcc8b56ce52771c1f253cb38539d1e343b63bfa979b4abe190a54d58dc98 0)
+    (state ((15, 0xcab933c9571b2275) ∷ (19, 0x10f4d2f19ea11567) ∷ (21, 0x1e343b63bfa979b4) ∷
+    (30, 0x8159e56eda136296) ∷ [])
+    0x2004a36cc 0xf652dcc8b56ce52771c1f253cb38539d1e343b63bfa979b4abe190a54d58dc98 0) ∷
+    executed (0xc0 ∷ 0x1e ∷ 0xfb ∷ 0x28 ∷ []) 0x402e280ce
+    (state ((17, 0xc04047434f2b7d72) ∷ (18, 0x5b535b02723006d4) ∷ (22, 0x402e2820f) ∷
+    (29, 0x143c3d2e6865949f) ∷ [])
+    0x2004a7430 0x2554a4d28b8371ad9ab7b8c7f6fc9a04d0d03e2b932724fb4cea4b628ecb07c4 0)
+    (state ((17, 0xc04047434f2b7d72) ∷ (18, 0x5b535b02723006d4) ∷ (22, 0x402e2820f) ∷
+    (29, 0x143c3d2e6865949f) ∷ [])
+    0x2004a7434 0x2554a4d28b8371ad9ab7b8c7f6fc9a04d0d03e2b932724fb4cea4b628ecb07c4 0) ∷
+    executed (0x48 ∷ 0xd6 ∷ 0xda ∷ 0x28 ∷ []) 0xab
+    (state ((16, 0x8dd720a53416ac85) ∷ (18, 0xfffffffffffff9fe) ∷ (30, 0xa901552d93ae9bac) ∷ [])
+    0x2004aa7bc 0x18172f41630db7a3502f8b6e7e2555fd0610f9c203b79e6db1c4fb8129d962f2 0)
+    (state ((8, 0x610f9c203b79e6d) ∷ (16, 0x8dd720a53416ac85) ∷ (18, 0xfffffffffffff9fe) ∷
+    (30, 0xa901552d93ae9bac) ∷ [])
+    0x2004aa7c0 0x18172f41630db7a3502f8b6e7e2555fd0610f9c203b79e6db1c4fb8129d962f2 0) ∷
+    executed (0x19 ∷ 0xe0 ∷ 0xdb ∷ 0x28 ∷ []) 0x6f0
+    (state ((4, 0xb45db83d7e14250b) ∷ (21, 0xf645d026b95da0a7) ∷ (25, 0xd3656e8da16bd1c8) ∷ [])
+    0x4004aecc8 0x3d69784e300e224dc370468ed3676dbf6d051ad24b21a706100a4617950a6edf 0)
+    (state ((4, 0xb45db83d7e14250b) ∷ (21, 0xf645d026b95da0a7) ∷ (25, 0x6d051ad24b21a706) ∷ [])
+    0x4004aeccc 0x3d69784e300e224dc370468ed3676dbf6d051ad24b21a706100a4617950a6edf 0) ∷
+    executed (0x7a ∷ 0xef ∷ 0xfc ∷ 0x28 ∷ []) 0x2021f18a6
+    (state ((16, 0x4de4b2f017f313fc) ∷ (22, 0x9a8b723b089f956) ∷ (24, 0x802b7695d489c57f) ∷
+    (27, 0x2021f1973) ∷ [])
+    0x2004b2fb4 0x76af690492c30d79857a13b642fb5630ffdd2795a79a2d4e00687cf1daa67ba9 0)
+    (state ((16, 0x4de4b2f017f313fc) ∷ (22, 0x9a8b723b089f956) ∷ (24, 0x802b7695d489c57f) ∷
+    (26, 0xffdd2795a79a2d4e) ∷ (27, 0x2021f1973) ∷ [])
+    0x2004b2fb8 0x76af690492c30d79857a13b642fb5630ffdd2795a79a2d4e00687cf1daa67ba9 0) ∷
+    executed (0x94 ∷ 0xe6 ∷ 0xdf ∷ 0x28 ∷ []) 0x402fa364f
+    (state ((3, 0x9fab6a527cae01f7) ∷ (17, 0xbd3338b5ff05e458) ∷ (20, 0x402fa2e5e) ∷ [])
+    0x4004b7ae4 0xa688e2fd74afe73054be6ca90b934eb6ac2fd1672eeede08e3cf170ba4b8fe52 0)
+    (state ((3, 0x9fab6a527cae01f7) ∷ (17, 0xbd3338b5ff05e458) ∷ (20, 0xac2fd1672eeede08) ∷ [])
+    0x4004b7ae8 0xa688e2fd74afe73054be6ca90b934eb6ac2fd1672eeede08e3cf170ba4b8fe52 0) ∷
+    executed (0x07 ∷ 0x83 ∷ 0xc6 ∷ 0x28 ∷ []) 0x402f23355
+    (state ((2, 0x12e2dccfdeb25b2d) ∷ (6, 0x74681a4be97b893) ∷ (24, 0x402f231bd) ∷
+    (28, 0xddf76f0b672c05ad) ∷ [])
+    0x4004bb728 0x7c1f6b788b4ff1ce0c23c4e770ca55ce18c4291cffeea6da23761d36cb405b3b 0)
+    (state ((2, 0x12e2dccfdeb25b2d) ∷ (6, 0x74681a4be97b893) ∷ (7, 0x18c4291cffeea6da) ∷
+    (24, 0x402f231bd) ∷ (28, 0xddf76f0b672c05ad) ∷ [])
+    0x4004bb72c 0x7c1f6b788b4ff1ce0c23c4e770ca55ce18c4291cffeea6da23761d36cb405b3b 0) ∷
     executed (0x0a ∷ 0x6e ∷ 0xc4 ∷ 0x28 ∷ []) 0x402f94de7
     (state ((16, 0x402f94cd4) ∷ (18, 0xec266b6ac93b63dd) ∷ (28, 0x3afb2b2cc4aaa725) ∷
     (29, 0x4278cf0dfe72bba) ∷ [])
-    0x4b8ed4 0x43f864f16bf9a84062fe596a6840fe2b4ad35d1910da2b90c0760d2344ef8346 0)
+    0x4bced4 0x43f864f16bf9a84062fe596a6840fe2b4ad35d1910da2b90c0760d2344ef8346 0)
     (state ((10, 0x4ad35d1910da2b90) ∷ (16, 0x402f94cd4) ∷ (18, 0xec266b6ac93b63dd) ∷
     (28, 0x3afb2b2cc4aaa725) ∷ (29, 0x4278cf0dfe72bba) ∷ [])
-    0x4b8ed8 0x43f864f16bf9a84062fe596a6840fe2b4ad35d1910da2b90c0760d2344ef8346 0) ∷
-    executed (0x66 ∷ 0xc8 ∷ 0xf1 ∷ 0x28 ∷ []) 0x20294b115
-    (state ((3, 0x20294b4ab) ∷ (14, 0xd4b95e21c3ea3bac) ∷ (29, 0xcdbeca7cc1e3a7d1) ∷ [])
-    0x4bdfd8 0xc203cf58593df338968f5b042256480802c9e57a4d7243d90e2a7e2d6e6e6fe2 0)
-    (state ((3, 0x20294b4ab) ∷ (6, 0x2c9e57a4d7243d9) ∷ (14, 0xd4b95e21c3ea3bac) ∷
-    (29, 0xcdbeca7cc1e3a7d1) ∷ [])
-    0x4bdfdc 0xc203cf58593df338968f5b042256480802c9e57a4d7243d90e2a7e2d6e6e6fe2 0) ∷
+    0x4bced8 0x43f864f16bf9a84062fe596a6840fe2b4ad35d1910da2b90c0760d2344ef8346 0) ∷
     []) ∷
     -- ori
     group 0x0 (

@@ -1,6 +1,6 @@
--- PowerPC64: the instructions of `rewrite_laws` compared with an emulator. Registers 32 to 63 are those
--- of floating-point numbers, and 64 is the link register.
-use Rattle.std.specs.Prelude.{ℕ, ◌≡◌, ◌+◌, ◌-◌, ◌*◌, ◌/◌, ◌%◌, ◌^◌, ◌==◌, nat_lt, if◌then◌else◌}
+-- PowerPC64: the instructions of `rewrite_laws` compared with an emulator. Registers 32 to 63 are
+-- those of floating-point numbers, and 64 is the link register.
+use Rattle.std.specs.Prelude.{ℕ, ◌≡◌, ◌+◌, ◌-◌, ◌*◌, ◌/◌, ◌^◌, ◌==◌, nat_lt, if◌then◌else◌}
 use Rattle.std.specs.Prelude.{Bool, true, false, Option, Some, None, length}
 use Rattle.std.specs.List.{list_all}
 use Rattle.std.specs.Int.{w32, w64, from_le_bytes, leading_zeros}
@@ -11,19 +11,19 @@ use Rattle.emulated.specs.Ppc64Steps.{ppc64_groups}
 
 -- ---- single and double precision
 
--- A number of 64 bits, by its sign, its biased exponent and 52 bits of its fraction
+-- a number of 64 bits, by its sign, its biased exponent and 52 bits of its fraction
 abbrev pub double : ℕ → ℕ → ℕ → ℕ
 double sign exponent fraction = sign * 2 ^ 63 + exponent * 2 ^ 52 + fraction
 
--- A denormal number of single precision, less its sign, is its fraction in units of 2^-149. In double
--- precision the fraction's highest 1 becomes the one that isn't written.
+-- A denormal number of single precision, less its sign, is its fraction in units of 2^-149. In
+-- double precision the fraction's highest 1 becomes the one that isn't written.
 abbrev pub normal : ℕ → ℕ → ℕ
 normal sign fraction =
     let top = 63 - leading_zeros w64 fraction in
     double sign (874 + top) ((fraction - 2 ^ top) * 2 ^ (52 - top))
 
--- "Floating-Point Load Instructions": the same number in double precision; of an infinity or a NaN, the
--- same bits of the fraction.
+-- "Floating-Point Load Instructions": the same number in double precision; of an infinity or a NaN,
+-- the same bits of the fraction.
 abbrev pub widened : ℕ → ℕ
 widened single =
     let sign = single / 2 ^ 31 in
@@ -33,8 +33,8 @@ widened single =
     if nat_lt 0 exponent then double sign (896 + exponent) (fraction * 2 ^ 29) else (
     if fraction == 0 then double sign 0 0 else normal sign fraction))
 
--- "Floating-Point Store Instructions": some of the bits, and a denormal number where the exponent is one
--- of those. Of a number that is smaller still the manual says nothing.
+-- "Floating-Point Store Instructions": some of the bits, and a denormal number where the exponent is
+-- one of those. Of a number that is smaller still the manual says nothing.
 abbrev pub narrowed : ℕ → ℕ
 narrowed double =
     let exponent = field double 52 63 in

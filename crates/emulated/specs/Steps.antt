@@ -1,5 +1,5 @@
 -- Single instructions that an emulator executed, and when a state of the definitions is what it left.
-use Rattle.std.specs.Prelude.{ℕ, zero, suc, ◌+◌, ◌==◌, ◌&&◌, Bool, true, nat_lt, if◌then◌else◌}
+use Rattle.std.specs.Prelude.{ℕ, zero, suc, ◌==◌, ◌&&◌, Bool, true, nat_lt, if◌then◌else◌}
 use Rattle.std.specs.Prelude.{List, [], ◌∷◌, bit_and}
 use Rattle.std.specs.Int.{byte_at}
 use Rattle.linker_elf.specs.Value.{sum_64, difference_64}

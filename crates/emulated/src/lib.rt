@@ -1,8 +1,10 @@
 //! What the definitions say that the machine reads of instructions, compared with an emulator.
 //!
-//! The tables in `specs/` have words, pairs and sequences, and what qemu made of them. The functions
-//! do nothing. The contract of each says that the definitions of one architecture read of each word
-//! what came of it. `tools/emulate` makes the tables, and its head says what is compared.
+//! The tables in `specs/` have words, pairs and sequences, and what qemu made of them, and states
+//! before and after single instructions. The functions do nothing. The contract of each says that
+//! the definitions of one architecture read of each word what came of it, and that its machine
+//! leaves of each state what the emulator left. `tools/emulate` and `tools/emulate_steps` make the
+//! tables, and their heads say what is compared.
 #![tactic(auto)]
 
 ghost use Rattle.emulated.specs.AArch64Executed as aarch64_executed;
@@ -31,7 +33,8 @@ pub fn riscv64()
 {}
 
 /// LoongArch: immediates of 20, 16 and 12 bits, branches, `pcaddu18i` with `jirl`, numbers by two to
-/// four instructions, and addresses by two and by five; and what the instructions of `rewrite_laws` do.
+/// four instructions, and addresses by two and by five; and what the instructions of `rewrite_laws`
+/// do.
 pub fn loongarch64()
     ensures agrees { loongarch_table.Agrees }
     ensures steps { loongarch_executed.Agrees }

@@ -29,10 +29,11 @@ HasLoongArchName name relocation = relocation.code ≡ code_of (loongarch_name n
 abbrev pub stated_power : Bool → ℕ → ℕ
 stated_power has_symbol addend = if has_symbol then 2 ^ field addend 0 8 else addend + 4
 
--- How many bytes may be skipped at most: with a symbol the other bits, where 0 is no limit.
-abbrev pub stated_most : Bool → ℕ → Option ℕ
-stated_most has_symbol addend =
-    if has_symbol then (if addend / 2 ^ 8 == 0 then None else Some (addend / 2 ^ 8)) else None
+-- How many bytes may be skipped at most: with a symbol the other bits, if they aren't 0. Else all
+-- nops may stay.
+abbrev pub stated_most : Bool → ℕ → ℕ → ℕ
+stated_most has_symbol addend nops =
+    if has_symbol then (if addend / 2 ^ 8 == 0 then nops else addend / 2 ^ 8) else nops
 
 -- The nops of an `R_LARCH_ALIGN` are one instruction fewer than a power of two, and lie in the section.
 pub record AreLoongArchNops (section : List ℕ) (relocation : Relocation) (addend nops : ℕ)
@@ -51,7 +52,7 @@ pub record IsLoongArchAlignment (section : List ℕ) (base : ℕ) (relocation : 
   pub some : 0 < alignment.nops
   pub nops : AreLoongArchNops section relocation addend alignment.nops
   pub power : alignment.power ≡ alignment.nops + 4
-  pub most : alignment.most ≡ stated_most relocation.has_symbol addend
+  pub most : alignment.most ≡ Some (stated_most relocation.has_symbol addend alignment.nops)
 
 -- ---- sites
 

@@ -43,7 +43,8 @@ pub record AreRiscVNops (c : Bool) (section : List ℕ) (relocation : Relocation
   pub inside : relocation.offset + nops ≤ length section
   pub small : nops < 2 ^ 32
 
--- An `R_RISCV_ALIGN` aligns what follows its nops to the next power of two above their count.
+-- An `R_RISCV_ALIGN` aligns what follows its nops to the next power of two above their count. As many
+-- as there are may stay.
 pub record IsRiscVAlignment (c : Bool) (section : List ℕ) (base : ℕ) (relocation : Relocation)
     (alignment : Alignment) : Type 0 where
   pub name : HasRiscVName r.R_RISCV_ALIGN relocation
@@ -51,7 +52,7 @@ pub record IsRiscVAlignment (c : Bool) (section : List ℕ) (base : ℕ) (reloca
   pub some : 0 < alignment.nops
   pub nops : AreRiscVNops c section relocation alignment.nops
   pub power : IsNextPowerOfTwo (alignment.nops + 1) alignment.power
-  pub unlimited : alignment.most ≡ None
+  pub limit : alignment.most ≡ Some alignment.nops
 
 -- ---- calls
 

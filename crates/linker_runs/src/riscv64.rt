@@ -61,13 +61,13 @@ fn alignment_of(nops: u32, offset: u64) -> Alignment
     ensures place { result.offset ≡ offset }
     ensures nops { result.nops ≡ nops }
     ensures power { IsNextPowerOfTwo (nops + 1) result.power }
-    ensures unlimited { result.most ≡ None }
+    ensures limit { result.most ≡ Some nops }
 {
     Alignment {
         offset,
         nops,
         power: (u64::from(nops) + 1).next_power_of_two(),
-        most: None,
+        most: Some(u64::from(nops)),
     }
 }
 

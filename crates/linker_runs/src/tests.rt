@@ -2,7 +2,7 @@
 
 use crate::items::{ItemsError, Relocation};
 use crate::{loongarch64, riscv64};
-use linker_relax::relaxation::{Alignment, Item, Shapes, Site};
+use linker_relax::relaxation::{Alignment, Item, Shapes, Site, are_items};
 use linker_relax::shapes;
 use std::alloc::Global;
 use std::process::Abort;
@@ -83,7 +83,7 @@ fn riscv_calls_and_alignments_are_items(rt: HostRuntime) -> Result<(), Fail> {
         site(0x100, 0x900, shapes::riscv64::CALL),
         site(0x108, 0x900, shapes::riscv64::TAIL_C),
         site(0x110, 0x900, shapes::riscv64::CALL),
-        aligned(0x118, 14, 16, None),
+        aligned(0x118, 14, 16, Some(14)),
     ];
     expect_riscv(&rt, rt.alloc(), &RISC_V, &relocations, true, &expected)?;
     Ok(())
@@ -98,7 +98,7 @@ fn riscv_code_of_four_byte_instructions_has_no_short_ones(rt: HostRuntime) -> Re
     ];
     let expected = [
         site(0x108, 0x900, shapes::riscv64::CALL_WITHOUT_C),
-        aligned(0x118, 12, 16, None),
+        aligned(0x118, 12, 16, Some(12)),
     ];
     expect_riscv(&rt, rt.alloc(), &RISC_V, &relocations, false, &expected)?;
     Ok(())
@@ -177,9 +177,21 @@ fn loongarch_calls_addresses_and_alignments_are_items(rt: HostRuntime) -> Result
         site(0x100, 0x900, shapes::loongarch64::CALL36),
         site(0x108, 0x900, shapes::loongarch64::CALL36),
         site(0x110, 0x900, shapes::loongarch64::PCALA),
-        aligned(0x118, 12, 16, None),
+        aligned(0x118, 12, 16, Some(12)),
     ];
     expect_loongarch(&rt, rt.alloc(), &LOONGARCH, &relocations, &expected)?;
+    Ok(())
+}
+
+/// Without a site the units of a run are bytes, and code whose alignments need nops is still a run.
+#[test]
+fn alignments_alone_are_a_run(rt: HostRuntime) -> Result<(), Fail> {
+    let relocations = [relocation(24, 43, 14, None)];
+    let riscv = riscv64::items(rt.alloc(), &[0; 40], 0x100, &relocations, true)?;
+    assert!(rt; are_items(&riscv, 0));
+    let relocations = [relocation(24, 102, 12, None)];
+    let loongarch = loongarch64::items(rt.alloc(), &[0; 40], 0x100, &relocations)?;
+    assert!(rt; are_items(&loongarch, 0));
     Ok(())
 }
 
@@ -188,9 +200,9 @@ fn loongarch_calls_addresses_and_alignments_are_items(rt: HostRuntime) -> Result
 #[test]
 fn loongarch_alignments_have_two_spellings(rt: HostRuntime) -> Result<(), Fail> {
     let rows: [(Relocation, Item); 4] = [
-        (relocation(24, 102, 12, None), aligned(0x118, 12, 16, None)),
-        (relocation(24, 102, 4, None), aligned(0x118, 4, 8, None)),
-        (of_symbol(24, 102, 4), aligned(0x118, 12, 16, None)),
+        (relocation(24, 102, 12, None), aligned(0x118, 12, 16, Some(12))),
+        (relocation(24, 102, 4, None), aligned(0x118, 4, 8, Some(4))),
+        (of_symbol(24, 102, 4), aligned(0x118, 12, 16, Some(12))),
         (of_symbol(24, 102, 0x404), aligned(0x118, 12, 16, Some(4))),
     ];
     for &(relocation, expected) in &rows {

@@ -9,6 +9,7 @@ pub mod Ppc64Alike
 pub mod Packed
 pub mod Ppc64Rewrites
 pub mod RelocationNames
+pub mod RiscVAlike
 pub mod RiscVRewrites
 pub mod Shrinking
 pub mod X86Bytes

@@ -15,6 +15,15 @@ use Rattle.linker_utils.specs.declared.riscv64.rewrites.RelaxationKind.TheVarian
 use Rattle.linker_utils.specs.declared.riscv64.rewrites.RelaxationKind.TheVariants.{Lo12Rs1ToZero}
 use Rattle.linker_utils.specs.declared.riscv64.rewrites.RelaxationKind.TheVariants.{TailToJal}
 use Rattle.linker_utils.specs.declared.riscv64.rewrites.RelaxationKind.TheVariants.{TailToCJ}
+use Rattle.linker_utils.specs.declared.riscv64.rewrites.RelaxationKind.TheVariants.{Delete}
+use Rattle.linker_utils.specs.declared.riscv64.rewrites.RelaxationKind.TheVariants.{ReplaceWithLongNop}
+use Rattle.linker_utils.specs.declared.riscv64.rewrites.RelaxationKind.TheVariants.{BaseToTp}
+use Rattle.linker_utils.specs.declared.riscv64.rewrites.RelaxationKind.TheVariants.{AddiToLui}
+use Rattle.linker_utils.specs.declared.riscv64.rewrites.RelaxationKind.TheVariants.{AddiToAuipc}
+use Rattle.linker_utils.specs.declared.riscv64.rewrites.RelaxationKind.TheVariants.{CallToAddi}
+use Rattle.linker_utils.specs.declared.riscv64.rewrites.RelaxationKind.TheVariants.{CallToAddiZero}
+use Rattle.linker_utils.specs.declared.riscv64.rewrites.RelaxationKind.TheVariants.{CallToLd}
+use Rattle.linker_utils.specs.declared.riscv64.rewrites.RelaxationKind.TheVariants.{LdToAddi}
 
 -- the opcode, bits 0 to 6
 abbrev pub opcode_of : ℕ → ℕ
@@ -38,6 +47,31 @@ adds_low12 opcode funct3 =
     || opcode == 0x23 && nat_lt funct3 4
     || (opcode == 0x07 || opcode == 0x27) && nat_lt 0 funct3 && nat_lt funct3 5
 
+-- `lui rd`
+abbrev pub IsLui : ℕ → Type 0
+IsLui word = opcode_of word ≡ 0x37
+
+-- `auipc rd`
+abbrev pub IsAuipc : ℕ → Type 0
+IsAuipc word = opcode_of word ≡ 0x17
+
+-- `ld rd, rs1`
+abbrev pub IsLd : ℕ → Type 0
+IsLd word = (opcode_of word ≡ 0x03) × (funct3_of word ≡ 3)
+
+-- `add rd, rs1, tp`: bits 20 and up are the second source register, x4, and 7 bits that are 0.
+abbrev pub IsAddTp : ℕ → Type 0
+IsAddTp word = (opcode_of word ≡ 0x33) × (funct3_of word ≡ 0) × (field word 20 32 ≡ 4)
+
+-- `addi a0, rs1`: `a0` is register 10.
+abbrev pub IsAddiToA0 : ℕ → Type 0
+IsAddiToA0 word = (opcode_of word ≡ 0x13) × (funct3_of word ≡ 0) × (rd_of word ≡ 10)
+
+-- `jalr t0, 0(rs1)`, the call of a TLS descriptor's function: `t0` is register 5.
+abbrev pub IsCallOfDescriptor : ℕ → Type 0
+IsCallOfDescriptor word =
+    (opcode_of word ≡ 0x67) × (funct3_of word ≡ 0) × (rd_of word ≡ 5) × (field word 20 32 ≡ 0)
+
 -- At the offset there are `auipc` of a register other than x0, which is always 0, and a `jalr` from
 -- that register that links none.
 pub record IsTailCall (section : List ℕ) (o : ℕ) : Type 0 where
@@ -58,3 +92,13 @@ riscv_matches Lo12Rs1ToZero section o =
     HasWord section o (λ word. IsTrue (adds_low12 (opcode_of word) (funct3_of word)))
 riscv_matches TailToJal section o = IsTailCall section o
 riscv_matches TailToCJ section o = IsTailCall section o
+riscv_matches Delete section o = HasWord section o (λ _. ⊤)
+riscv_matches ReplaceWithLongNop section o = HasWord section o (λ _. ⊤)
+riscv_matches BaseToTp section o =
+    HasWord section o (λ word. IsTrue (adds_low12 (opcode_of word) (funct3_of word)))
+riscv_matches AddiToLui section o = HasWord section o IsAddiToA0
+riscv_matches AddiToAuipc section o = HasWord section o IsAddiToA0
+riscv_matches CallToAddi section o = HasWord section o IsCallOfDescriptor
+riscv_matches CallToAddiZero section o = HasWord section o IsCallOfDescriptor
+riscv_matches CallToLd section o = HasWord section o IsCallOfDescriptor
+riscv_matches LdToAddi section o = HasWord section o IsLd

@@ -23,6 +23,15 @@ use Rattle.linker_utils.specs.declared.riscv64.rewrites.RelaxationKind.TheVarian
 use Rattle.linker_utils.specs.declared.riscv64.rewrites.RelaxationKind.TheVariants.{Lo12Rs1ToZero}
 use Rattle.linker_utils.specs.declared.riscv64.rewrites.RelaxationKind.TheVariants.{TailToJal}
 use Rattle.linker_utils.specs.declared.riscv64.rewrites.RelaxationKind.TheVariants.{TailToCJ}
+use Rattle.linker_utils.specs.declared.riscv64.rewrites.RelaxationKind.TheVariants.{Delete}
+use Rattle.linker_utils.specs.declared.riscv64.rewrites.RelaxationKind.TheVariants.{ReplaceWithLongNop}
+use Rattle.linker_utils.specs.declared.riscv64.rewrites.RelaxationKind.TheVariants.{BaseToTp}
+use Rattle.linker_utils.specs.declared.riscv64.rewrites.RelaxationKind.TheVariants.{AddiToLui}
+use Rattle.linker_utils.specs.declared.riscv64.rewrites.RelaxationKind.TheVariants.{AddiToAuipc}
+use Rattle.linker_utils.specs.declared.riscv64.rewrites.RelaxationKind.TheVariants.{CallToAddi}
+use Rattle.linker_utils.specs.declared.riscv64.rewrites.RelaxationKind.TheVariants.{CallToAddiZero}
+use Rattle.linker_utils.specs.declared.riscv64.rewrites.RelaxationKind.TheVariants.{CallToLd}
+use Rattle.linker_utils.specs.declared.riscv64.rewrites.RelaxationKind.TheVariants.{LdToAddi}
 
 -- `jal` of distance 0, with the destination register of the word before: bits 7 to 11
 abbrev pub call_to_jal : List ℕ → List ℕ
@@ -49,6 +58,25 @@ abbrev pub rs1_to_zero : List ℕ → List ℕ
 rs1_to_zero window =
     let word = from_le_bytes w32 window in to_le_bytes w32 (word - field word 15 20 * 2 ^ 15)
 
+-- the thread pointer's number, and that of `a0`
+abbrev pub tp : ℕ
+tp = 4
+
+abbrev pub a0 : ℕ
+a0 = 10
+
+-- a rewrite of an instruction's word
+abbrev pub rewrites_word : (ℕ → ℕ) → Rewrite
+rewrites_word new = replaces 0 4 (λ window. to_le_bytes w32 (new (from_le_bytes w32 window)))
+
+-- the word with another first source register, bits 15 to 19
+abbrev pub with_rs1 : ℕ → ℕ → ℕ
+with_rs1 register word = word - field word 15 20 * 2 ^ 15 + register * 2 ^ 15
+
+-- `addi`, with the registers and the immediate of a load
+abbrev pub load_to_addi : ℕ → ℕ
+load_to_addi word = 0x13 + field word 7 12 * 2 ^ 7 + field word 15 32 * 2 ^ 15
+
 abbrev pub riscv_rewrite : RelaxationKind → Option Rewrite
 riscv_rewrite NoOp = None
 riscv_rewrite ReplaceWithNop = Some (replaces 0 4 two_nops)
@@ -58,6 +86,18 @@ riscv_rewrite Hi20Delete = None
 riscv_rewrite Lo12Rs1ToZero = Some (replaces 0 4 rs1_to_zero)
 riscv_rewrite TailToJal = Some (replaces 0 4 tail_to_jal)
 riscv_rewrite TailToCJ = Some (replaces 0 2 tail_to_cj)
+riscv_rewrite Delete = None
+-- `addi x0, x0, 0`
+riscv_rewrite ReplaceWithLongNop = Some (rewrites_word (λ _. 0x13))
+riscv_rewrite BaseToTp = Some (rewrites_word (with_rs1 tp))
+-- `lui a0, 0` and `auipc a0, 0`
+riscv_rewrite AddiToLui = Some (rewrites_word (λ _. 0x537))
+riscv_rewrite AddiToAuipc = Some (rewrites_word (λ _. 0x517))
+-- `addi a0, a0, 0`, `addi a0, x0, 0` and `ld a0, 0(a0)`
+riscv_rewrite CallToAddi = Some (rewrites_word (λ _. 0x50513))
+riscv_rewrite CallToAddiZero = Some (rewrites_word (λ _. 0x513))
+riscv_rewrite CallToLd = Some (rewrites_word (λ _. 0x53503))
+riscv_rewrite LdToAddi = Some (rewrites_word load_to_addi)
 
 abbrev pub riscv_modifier : RelaxationKind → RelocationModifier
 riscv_modifier NoOp = Normal
@@ -68,12 +108,13 @@ riscv_modifier Hi20Delete = SkipNextRelocation
 riscv_modifier Lo12Rs1ToZero = Normal
 riscv_modifier TailToJal = SkipNextRelocation
 riscv_modifier TailToCJ = SkipNextRelocation
+riscv_modifier kind = Normal
 
 abbrev pub deleted_from : ℕ → ℕ → Option DeletedBytes
 deleted_from start count = Some record { start = start; count = count }
 
 -- what is deleted after a rewrite: the `jalr` of a call, all of a tail call but the `c.j`, the
--- second half of a `lui`, and a whole `lui`
+-- second half of a `lui`, a whole `lui`, and another instruction
 abbrev pub riscv_deleted : RelaxationKind → Option DeletedBytes
 riscv_deleted NoOp = None
 riscv_deleted ReplaceWithNop = None
@@ -83,13 +124,17 @@ riscv_deleted Hi20Delete = deleted_from 0 4
 riscv_deleted Lo12Rs1ToZero = None
 riscv_deleted TailToJal = deleted_from 4 4
 riscv_deleted TailToCJ = deleted_from 2 6
+riscv_deleted Delete = deleted_from 0 4
+riscv_deleted kind = None
 
 -- the rewrites by their numbers from 0 up
 abbrev pub riscv_rewrites : List RelaxationKind
 riscv_rewrites =
     NoOp ∷ ReplaceWithNop ∷ CallToJal ∷ Hi20ToCLui ∷
     Hi20Delete ∷ Lo12Rs1ToZero ∷ TailToJal ∷
-    TailToCJ ∷ []
+    TailToCJ ∷ Delete ∷ ReplaceWithLongNop ∷ BaseToTp ∷
+    AddiToLui ∷ AddiToAuipc ∷ CallToAddi ∷ CallToAddiZero ∷
+    CallToLd ∷ LdToAddi ∷ []
 
 -- bits 12 to 31 of the value plus 0x800
 abbrev pub hi20 : ℕ → ℕ

@@ -5,6 +5,7 @@ pub mod AArch64Steps
 pub mod AArch64Words
 pub mod LoongArchCalls
 pub mod LoongArchDescriptors
+pub mod LoongArchOffsets
 pub mod LoongArchPairs
 pub mod LoongArchSteps
 pub mod LoongArchWords
@@ -18,12 +19,14 @@ pub mod Ppc64Threads
 pub mod Ppc64WholeWords
 pub mod Ppc64Words
 pub mod RiscVCalls
+pub mod RiscVDescriptors
 pub mod RiscVHighParts
 pub mod RiscVJumps
 pub mod RiscVLowParts
 pub mod RiscVLuis
 pub mod RiscVMachine
 pub mod RiscVPairs
+pub mod RiscVSums
 pub mod Words
 pub mod X86Branches
 pub mod X86Bytes

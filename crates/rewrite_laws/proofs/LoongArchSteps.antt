@@ -22,7 +22,7 @@ abbrev pub set : ℕ → ℕ → State → State
 set n v s = go_on (with_register n v s)
 
 -- an instruction that does so
-written : (n m v : ℕ) (s : State) → m ≡ n → n ≢ 0 → Some (go_on (write m v s)) ≡ Some (set n v s)
+pub written : (n m v : ℕ) (s : State) → m ≡ n → n ≢ 0 → Some (go_on (write m v s)) ≡ Some (set n v s)
 written n m v s same named =
     ap (λ r. Some (go_on (write r v s))) same ∙ ap (λ t. Some (go_on t)) (cond-false _ _ _ (ne_eqb n 0 named))
 

@@ -17,8 +17,10 @@ use Rattle.linker_elf.specs.Reach.{clui_bounds}
 use Rattle.linker_elf.specs.RiscV.{riscv_form, riscv_places}
 use Rattle.linker_utils.specs.RiscVOriginals.{opcode_of, rd_of}
 use Rattle.linker_elf.specs.RiscVRelocations.{pair_row}
-use Rattle.linker_elf.specs.Value.{sum_64}
-use Rattle.linker_elf.specs.declared.elf.RelocationKind.TheVariants.{Absolute}
+use Rattle.linker_elf.specs.Value.{sum_64, difference_64, value_of}
+use Rattle.linker_elf.specs.declared.elf.RelocationKind.{RelocationKind}
+use Rattle.linker_elf.specs.declared.elf.RelocationKind.TheVariants.{Absolute, TpOff}
+use Rattle.linker_elf.specs.declared.riscv64.forms.RiscVInstruction.{RiscVInstruction}
 use Rattle.linker_elf.specs.declared.elf.value.Operands.{Operands}
 use Rattle.linker_elf.specs.declared.riscv64.forms.RiscVInstruction.TheVariants.{UType, CluiType}
 use Rattle.linker_elf.specs.declared.riscv64.forms.RiscVInstruction.TheVariants.{CjType}
@@ -29,7 +31,7 @@ use Rattle.relocation_laws.proofs.Applied.{value_is, taken_bits}
 use Rattle.relocation_laws.proofs.Instructions.{unbiased}
 use Rattle.relocation_laws.proofs.Sums.{sum_below}
 use Rattle.rewrite_laws.specs.Machine.{wrapped}
-use Rattle.rewrite_laws.specs.RiscVLaws.{IsLow12}
+use Rattle.rewrite_laws.specs.RiscVLaws.{IsLow12, thread_offset}
 use Rattle.rewrite_laws.specs.RiscVMachine.{Hart, register, with_integer, lui, sums, jal, executed}
 use Rattle.rewrite_laws.specs.RiscVMachine.{of_half, of_clui, Runs, Instruction, adds}
 use Rattle.rewrite_laws.proofs.Words.{kept_field}
@@ -144,8 +146,33 @@ zero_written rd h =
     both true n = refl
     both false n = refl
 
-module _ (x : Operands) (before code : List ℕ)
-    (applied : IsApplied (pair_row Absolute 32 UType) x before code)
+-- S + A, and the offset from the thread pointer
+pub absolute_is : (form : RiscVInstruction) (x : Operands)
+    → value_of (pair_row Absolute 32 form) x ≡ Some (cast_signed w64 (symbol_address x))
+absolute_is form x = ap (λ n. Some (cast_signed w64 n)) (unbiased (symbol_address x) (sum_below x.symbol _))
+
+pub offset_is : (form : RiscVInstruction) (x : Operands)
+    → value_of (pair_row TpOff 32 form) x ≡ Some (cast_signed w64 (thread_offset x))
+offset_is form x =
+    ap (λ n. Some (cast_signed w64 (difference_64 n x.tls_base)))
+    (unbiased (symbol_address x) (sum_below x.symbol _))
+
+-- the value of a relocation is a number
+abbrev pub IsOf : RelocationKind → (Operands → ℕ) → Type 0
+IsOf kind number =
+    ((form : RiscVInstruction) (x : Operands)
+    → value_of (pair_row kind 32 form) x ≡ Some (cast_signed w64 (number x)))
+    × ((x : Operands) → number x < 2 ^ 64)
+
+pub of_address : IsOf Absolute symbol_address
+of_address = (absolute_is, λ x. sum_below x.symbol _)
+
+pub of_offset : IsOf TpOff thread_offset
+of_offset = (offset_is, λ x. omega arith)
+
+module _ (kind : RelocationKind) (x : Operands) (n : ℕ) (before code : List ℕ)
+    (applied : IsApplied (pair_row kind 32 UType) x before code) (below : n < 2 ^ 64)
+    (value : value_of (pair_row kind 32 UType) x ≡ Some (cast_signed w64 n))
     (len : length code ≡ length before)
     (is : opcode_of (from_le_bytes w32 before) ≡ 0x37) where
   upper : ℕ
@@ -165,16 +192,14 @@ module _ (x : Operands) (before code : List ℕ)
   pub upper_number : ℤ
   upper_number = (riscv_form UType).machine upper
 
-  pub upper_stands : place_sum (riscv_places UType) (from_le_bytes w32 code)
-      ≡ high_20 (symbol_address x)
+  pub upper_stands : place_sum (riscv_places UType) (from_le_bytes w32 code) ≡ high_20 n
   upper_stands =
       let bits : BitRange = record { start = 0; end = 32 } in
-      let n = symbol_address x in
       u_laid _ applied.written.clear (from_le_bytes w32 code) applied.written.written
       ∙ ap (λ t. (t + 0x800) % 2 ^ 64 / 4096 % 1048576 * 4096)
-      (taken_bits bits (sum_64 n 0) applied.value (sum_below n 0)
-      (value_is (pair_row Absolute 32 UType) x before code applied (cast_signed w64 (sum_64 n 0))
-      refl) ∙ low_32 n)
+      (taken_bits bits n applied.value below
+      (value_is (pair_row kind 32 UType) x before code applied (cast_signed w64 n) value)
+      ∙ (let e : field n 0 32 ≡ n % 2 ^ 32 = omega arith in e))
 
   pub loads_upper : Instruction
   loads_upper = lui (rd_of upper) upper_number

@@ -1,5 +1,5 @@
 -- A `lui` computes the same as `c.lui`, and nothing where it is deleted.
-use Rattle.std.proofs.Common.{◌≡◌, ◌≢◌, ℕ, ◌+◌, ◌*◌, ◌≤◌, refl, sym}
+use Rattle.std.proofs.Common.{◌≡◌, ◌≢◌, ℕ, ◌+◌, ◌*◌, ◌≤◌, ◌<◌, ◌^◌, refl, sym}
 use Rattle.std.proofs.Common.{◌∙◌, ap, arith, List, length, take, drop}
 use Rattle.std.proofs.Common.{Some, w64, subst}
 use Rattle.std.specs.Int.{cast_signed, w16, w32, from_le_bytes}
@@ -8,7 +8,7 @@ use Rattle.linker_base.specs.Form.{place_sum}
 use Rattle.linker_utils.specs.RiscVRewrites.{hi20_to_clui}
 use Rattle.linker_utils.specs.RiscVCalls.{word_at}
 use Rattle.linker_elf.specs.RiscV.{riscv_places}
-use Rattle.linker_utils.specs.RiscVOriginals.{rd_of}
+use Rattle.linker_utils.specs.RiscVOriginals.{rd_of, IsLui}
 use Rattle.linker_elf.specs.declared.riscv64.forms.RiscVInstruction.TheVariants.{UType, CluiType}
 use Rattle.linker_utils.specs.declared.riscv64.rewrites.RelaxationKind.TheVariants as kinds
 use Rattle.linker_utils.proofs.RiscVRewrites.{half_of_front}
@@ -19,7 +19,17 @@ use Rattle.linker_utils.specs.Choices.{low_12_bounds}
 use Rattle.linker_elf.specs.Elf.{IsWithin}
 use Rattle.rewrite_laws.proofs.RiscVHighParts.{high_20}
 use Rattle.rewrite_laws.specs.RiscVLaws.{IsLow12, after_rewrite, LuiBecomesClui, LuiIsDeleted}
-use Rattle.rewrite_laws.specs.RiscVMachine.{register, with_integer}
+use Rattle.rewrite_laws.specs.RiscVLaws.{OffsetLuiIsDeleted, thread_offset, AreAlike, EndSo, HasZero}
+use Rattle.rewrite_laws.specs.RiscVLaws.{no_register}
+use Rattle.rewrite_laws.specs.Machine.{Relocated}
+use Rattle.rewrite_laws.proofs.RiscVHighParts.{IsOf, of_address, of_offset, absolute_is}
+use Rattle.linker_elf.specs.RiscVRelocations.{pair_row}
+use Rattle.linker_elf.specs.Value.{sum_64}
+use Rattle.linker_elf.specs.declared.elf.RelocationKind.{RelocationKind}
+use Rattle.linker_elf.specs.declared.elf.RelocationKind.TheVariants.{Absolute, TpOff}
+use Rattle.linker_elf.specs.declared.elf.value.Operands.{Operands}
+use Rattle.linker_utils.specs.Originals.{HasWord}
+use Rattle.rewrite_laws.specs.RiscVMachine.{Hart, register, with_integer}
 use Rattle.rewrite_laws.proofs.RiscVHighParts.{upper_put, upper_runs, upper_is, upper_register}
 use Rattle.rewrite_laws.proofs.RiscVHighParts.{upper_stands, no_high_part, low_12_number}
 use Rattle.rewrite_laws.proofs.RiscVHighParts.{zero_written, short_put, short_runs, short_is}
@@ -28,43 +38,58 @@ use Rattle.rewrite_laws.proofs.RiscVHighParts.{same_immediates}
 use Rattle.rewrite_laws.proofs.RiscVMachine.{other, same_written}
 use Rattle.rewrite_laws.proofs.Words.{rewritten_there, half_of_bytes}
 
-pub lui_is_deleted : LuiIsDeleted
-lui_is_deleted section o m x low original new code h k small small' alike =
+-- of a number of 12 bits
+lui_deleted : (kind : RelocationKind) (number : Operands → ℕ) → IsOf kind number
+    → (section : List ℕ) (o : ℕ) → HasWord section o IsLui → (x : Operands)
+    → IsWithin (Some low_12_bounds) (cast_signed w64 (number x)) → (original new : List ℕ)
+    → Relocated (Some (pair_row kind 32 UType)) x (drop o section) original
+    → (h k : Hart) → h.pc < 2 ^ 64 → k.pc < 2 ^ 64 → AreAlike no_register h k
+    → EndSo 1 original h 0 new k
+    (λ a b. HasZero (rd_of (word_at section o)) (sum_64 h.pc 4) a b × (b.pc ≡ k.pc))
+lui_deleted kind number of section o m x low original new code h k small small' alike =
     let before = drop o section in
     let r = rd_of (word_at section o) in
     let a = code.applied in
     let l = code.len in
-    let n = symbol_address x in
+    let n = number x in
+    let small_number = of.1 x in
+    let value = of.0 UType x in
     let none : wrapped (signed 32 (place_sum (riscv_places UType) (from_le_bytes w32 original))) ≡ 0
-    = ap (λ s. wrapped (signed 32 s)) (upper_stands x before original a l m.1
-    ∙ no_high_part n (sum_below x.symbol _) (low_12_number n (sum_below x.symbol _) low)) in
-    let same : rd_of (from_le_bytes w32 original) ≡ r = upper_register x before original a l m.1 in
-    let put : (q : ℕ) → register (upper_put x before original a l m.1 h) q
+    = ap (λ s. wrapped (signed 32 s)) (upper_stands kind x n before original a small_number value l m.1
+    ∙ no_high_part n small_number (low_12_number n small_number low)) in
+    let same : rd_of (from_le_bytes w32 original) ≡ r = upper_register kind x n before original a small_number value l m.1 in
+    let put : (q : ℕ) → register (upper_put kind x n before original a small_number value l m.1 h) q
     ≡ register (with_integer r 0 h) q
-    = λ q. ap (λ e. register e q) (upper_is x before original a l m.1 h)
+    = λ q. ap (λ e. register e q) (upper_is kind x n before original a small_number value l m.1 h)
     ∙ ap (λ s. register (with_integer s (wrapped (signed 32 (place_sum (riscv_places UType)
     (from_le_bytes w32 original)))) h) q) same
     ∙ ap (λ v. register (with_integer r v h) q) none in
     record {
-      end = upper_put x before original a l m.1 h;
+      end = upper_put kind x n before original a small_number value l m.1 h;
       new_end = k;
-      runs = upper_runs x before original a l m.1 h small;
+      runs = upper_runs kind x n before original a small_number value l m.1 h small;
       new_runs = refl;
       so = (
         record {
           alike = record {
             integers = λ q e. put q ∙ other r 0 h q e ∙ alike.integers q refl;
-            floats = λ q. ap (λ e. e.floats q) (upper_is x before original a l m.1 h)
+            floats = λ q. ap (λ e. e.floats q) (upper_is kind x n before original a small_number value l m.1 h)
                 ∙ alike.floats q;
-            memory = λ q. ap (λ e. e.memory q) (upper_is x before original a l m.1 h)
+            memory = λ q. ap (λ e. e.memory q) (upper_is kind x n before original a small_number value l m.1 h)
                 ∙ alike.memory q;
           };
           zero_there = put r ∙ zero_written r h;
-          next = ap (λ e. e.pc) (upper_is x before original a l m.1 h);
+          next = ap (λ e. e.pc) (upper_is kind x n before original a small_number value l m.1 h);
         },
         refl,
       );
     }
+
+pub lui_is_deleted : LuiIsDeleted
+lui_is_deleted = lui_deleted Absolute symbol_address of_address
+
+pub offset_lui_is_deleted : OffsetLuiIsDeleted
+offset_lui_is_deleted = lui_deleted TpOff thread_offset of_offset
 
 -- the `c.lui` that a `lui` becomes
 clui_there : (section : List ℕ) (o : ℕ) → o + 4 ≤ length section
@@ -101,23 +126,23 @@ lui_becomes_clui section o m x y one high original new old_code new_code h k sma
     let number =
     wrapped (signed 32 (place_sum (riscv_places UType) (from_le_bytes w32 original))) in
     let number' = wrapped (signed 18 (place_sum (riscv_places CluiType) (from_le_bytes w16 new))) in
-    let is' = upper_is x before original a l is h in
+    let is' = upper_is Absolute x (symbol_address x) before original a (sum_below x.symbol _) (absolute_is UType x) l is h in
     let is'' = short_is y before' new a' l' low_bits function some not_sp high' k in
     let same : number ≡ number' = same_immediates n _ _ (sum_below y.symbol _)
     (near y before' new a' l' low_bits function some not_sp high')
-    (upper_stands x before original a l is ∙ ap high_20 one)
+    (upper_stands Absolute x (symbol_address x) before original a (sum_below x.symbol _) (absolute_is UType x) l is ∙ ap high_20 one)
     (short_stands y before' new a' l' low_bits function some not_sp high') in
     record {
-      end = upper_put x before original a l is h;
+      end = upper_put Absolute x (symbol_address x) before original a (sum_below x.symbol _) (absolute_is UType x) l is h;
       new_end = short_put y before' new a' l' low_bits function some not_sp high' k;
-      runs = upper_runs x before original a l is h small;
+      runs = upper_runs Absolute x (symbol_address x) before original a (sum_below x.symbol _) (absolute_is UType x) l is h small;
       new_runs = short_runs y before' new a' l' low_bits function some not_sp high' k small';
       so = record {
         alike = record {
           integers = λ q e.
               ap (λ z. register z q) is'
               ∙ ap (λ s. register (with_integer s number h) q)
-              (upper_register x before original a l is)
+              (upper_register Absolute x (symbol_address x) before original a (sum_below x.symbol _) (absolute_is UType x) l is)
               ∙ ap (λ v. register (with_integer r v h) q) same
               ∙ same_written r number' h k q (λ _. alike.integers q refl)
               ∙ ap (λ s. register (with_integer s number' k) q)

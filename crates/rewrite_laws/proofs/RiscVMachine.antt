@@ -3,7 +3,7 @@ use Rattle.std.proofs.Common.{◌≡◌, ◌≢◌, ℕ, ◌+◌, ◌-◌, ◌*�
 use Rattle.std.proofs.Common.{false, refl, sym, ◌∙◌, ap, subst, arith, List, length, drop, ℤ, pos}
 use Rattle.std.proofs.Common.{negsuc, ◌+ℤ◌, ◌*ℤ◌, unsigned_abs, Option, Some, None}
 use Rattle.std.proofs.Common.{if◌then◌else◌}
-use Rattle.std.specs.Prelude.{◌==◌, nat_le}
+use Rattle.std.specs.Prelude.{◌==◌, ◌&&◌, nat_le}
 use Rattle.std.specs.Option.{IsSomeAnd}
 use Rattle.std.specs.Int.{w16, w32, from_le_bytes}
 use Rattle.std.proofs.lemmas.Bool.{le-leb}
@@ -23,7 +23,8 @@ use Rattle.relocation_laws.proofs.RiscV.{bit_cleared}
 use Rattle.relocation_laws.proofs.Sums.{lift, lifted_is}
 use Rattle.rewrite_laws.specs.Machine.{wrapped, moved}
 use Rattle.rewrite_laws.specs.RiscVMachine.{Hart, register, with_integer, Instruction, lui, auipc}
-use Rattle.rewrite_laws.specs.RiscVMachine.{jal, sums, jumps, rs1_of, action_of, with_action}
+use Rattle.rewrite_laws.specs.RiscVMachine.{jal, sums, jumps, rs1_of, rs2_of, action_of}
+use Rattle.rewrite_laws.specs.RiscVMachine.{with_action, add}
 use Rattle.rewrite_laws.specs.RiscVMachine.{of_word, of_half, executed, sized, fetched}
 use Rattle.rewrite_laws.specs.RiscVMachine.{Steps}
 use Rattle.rewrite_laws.proofs.Words.{same_low_two}
@@ -37,7 +38,7 @@ is_address (negsuc n) = refl
 pub address_is : (z : ℤ) (t : ℕ) → IsAddress z t → wrapped z ≡ t
 address_is z t e = ap unsigned_abs e
 
-wrapped_is : (z : ℤ) (t n : ℕ) → z +ℤ pos (t * 2 ^ 64) ≡ pos n → wrapped z ≡ n % 2 ^ 64
+pub wrapped_is : (z : ℤ) (t n : ℕ) → z +ℤ pos (t * 2 ^ 64) ≡ pos n → wrapped z ≡ n % 2 ^ 64
 wrapped_is z t n e = ap unsigned_abs (lifted_is z t n e)
 
 -- a sum in two steps
@@ -124,7 +125,9 @@ module _ (x : ℕ) where
       if o == 0x37 then Some (lui (rd_of x) ((riscv_form UType).machine x))
       else (if o == 0x17 then Some (auipc (rd_of x) ((riscv_form UType).machine x))
       else (if o == 0x6f then Some (jal (rd_of x) ((riscv_form JType).machine x))
-      else with_action x (action_of o (funct3_of x))))
+      else (if o == 0x33 && (funct3_of x == 0 && field x 25 32 == 0)
+      then Some (add (rd_of x) (rs1_of x) (rs2_of x))
+      else with_action x (action_of o (funct3_of x)))))
 
   pub is_lui : opcode_of x ≡ 0x37 → of_word x ≡ Some (lui (rd_of x) ((riscv_form UType).machine x))
   unfolding by_opcode
@@ -143,6 +146,16 @@ module _ (x : ℕ) where
       → of_word x ≡ Some (sums jumps (rd_of x) (rs1_of x) 0 ((riscv_form IType).machine x))
   unfolding by_opcode
   is_jalr e f = ap by_opcode e ∙ ap (λ n. with_action x (action_of 0x67 n)) f
+
+  pub is_sum : opcode_of x ≡ 0x33 → funct3_of x ≡ 0 → field x 25 32 ≡ 0
+      → of_word x ≡ Some (add (rd_of x) (rs1_of x) (rs2_of x))
+  unfolding by_opcode
+  is_sum e f g =
+      let rest = with_action x (action_of 0x33 (funct3_of x)) in
+      ap by_opcode e
+      ∙ ap (λ n. if n == 0 && field x 25 32 == 0
+      then Some (add (rd_of x) (rs1_of x) (rs2_of x)) else rest) f
+      ∙ ap (λ n. if n == 0 then Some (add (rd_of x) (rs1_of x) (rs2_of x)) else rest) g
 
 -- ---- a window of two words
 

@@ -1,11 +1,11 @@
 -- A `lui` and its low part compute the same as the low part alone.
-use Rattle.std.proofs.Common.{◌≡◌, ℕ, ◌+◌, ◌-◌, ◌^◌, ◌<◌, ◌≤◌, Bool, true, refl}
+use Rattle.std.proofs.Common.{◌≡◌, ◌≢◌, ℕ, ◌+◌, ◌-◌, ◌^◌, ◌<◌, ◌≤◌, Bool, true, false, refl}
 use Rattle.std.proofs.Common.{sym, ◌∙◌, ap, subst, arith, List, [], ◌∷◌, ◌++◌, length, take, drop}
 use Rattle.std.proofs.Common.{Option, None, if◌then◌else◌}
 use Rattle.std.specs.Prelude.{◌==◌, nat_le}
 use Rattle.std.specs.Option.{IsSomeAnd}
 use Rattle.std.specs.Int.{w16, w32, from_le_bytes}
-use Rattle.std.proofs.lemmas.Bool.{le-leb}
+use Rattle.std.proofs.lemmas.Bool.{le-leb, ne_eqb}
 use Rattle.std.proofs.lemmas.List.{drop_at, length-take, length-append}
 use Rattle.linker_base.specs.Bits.{field}
 use Rattle.linker_utils.specs.RiscVRewrites.{rs1_to_zero}
@@ -92,15 +92,20 @@ rewritten_reaches section o inside =
 
 -- ---- the law
 
+apart_stores : (rs1 rs2 : ℕ) (h k : Hart) → rs2 ≢ rs1 → AreAlike (λ r. r == rs1) h k
+    → register h rs2 ≡ register k rs2
+apart_stores rs1 rs2 h k apart alike =
+    let differ : (rs2 == rs1) ≡ false = ne_eqb rs2 rs1 apart in alike.integers rs2 differ
+
 stores_the_same : (a : Action) (rs1 rs2 : ℕ) (h k : Hart) → StoresAnother a rs1 rs2
-    → StoresTheSame a rs1 rs2 h k
-stores_the_same adds rs1 rs2 h k apart = tt
-stores_the_same adds_word rs1 rs2 h k apart = tt
-stores_the_same jumps rs1 rs2 h k apart = tt
-stores_the_same (loads f) rs1 rs2 h k apart = tt
-stores_the_same (stores f) rs1 rs2 h k apart = λ e. absurd (apart e)
-stores_the_same (loads_float f) rs1 rs2 h k apart = tt
-stores_the_same (stores_float f) rs1 rs2 h k apart = tt
+    → AreAlike (λ r. r == rs1) h k → StoresTheSame a rs2 h k
+stores_the_same adds rs1 rs2 h k apart alike = tt
+stores_the_same adds_word rs1 rs2 h k apart alike = tt
+stores_the_same jumps rs1 rs2 h k apart alike = tt
+stores_the_same (loads f) rs1 rs2 h k apart alike = tt
+stores_the_same (stores f) rs1 rs2 h k apart alike = apart_stores rs1 rs2 h k apart alike
+stores_the_same (loads_float f) rs1 rs2 h k apart alike = tt
+stores_the_same (stores_float f) rs1 rs2 h k apart alike = tt
 
 pub pair_from_zero : PairFromZero
 pair_from_zero section o m m' base =
@@ -127,7 +132,7 @@ pair_from_zero section o m m' base =
     let second = law section (o + 4) m'.0 a some.1 some.2 x y one is_low low new low_code
     (subst (λ bytes. Relocated (low_row a) y bytes new) there new_code) middle k small_middle small'
     alike_middle zero
-    (stores_the_same a (rs1_of word) (rs2_of word) middle k apart) in
+    (stores_the_same a (rs1_of word) (rs2_of word) middle k apart alike_middle) in
     let long_before : 4 ≤ length (drop o section) = high_code.applied.accepted.long in
     let len = high_code.len in
     let long : 4 ≤ length high = omega (arith, long_before, len) in
@@ -154,7 +159,7 @@ pair_from_zero section o m m' base =
         ),
       );
       new_runs = second.new_runs;
-      so = subst (λ at. AreAlike (differs_after a (rd_of word) (rs1_of word)) second.end
+      so = subst (λ at. AreAlike (differs_after a (λ r. r == rs1_of word) (rd_of word)) second.end
           second.new_end
           × GoOn a (rd_of word) (even symbol_address x) at (sum_64 k.pc 4) second.end
           second.new_end)

@@ -1,13 +1,14 @@
 -- LoongArch: rewritten sequences compute what the original ones do (LoongArch ELF psABI, relaxation and
 -- the sequences of thread-local storage).
-use Rattle.std.specs.Prelude.{◌≡◌, ◌≢◌, ℕ, Bool, false, ◌==◌, ◌||◌, List, [], ◌∷◌, take, drop, IsSomeAnd, ◌<◌, ◌^◌, Option, Some, if◌then◌else◌}
+use Rattle.std.specs.Prelude.{◌≡◌, ◌≢◌, ℕ, Bool, false, ◌==◌, ◌||◌, ◌&&◌, not, List, [], ◌∷◌, take, drop, IsSomeAnd, ◌<◌, ◌^◌, Option, Some, if◌then◌else◌}
 use Rattle.std.specs.Int.{w32, from_le_bytes}
 use Rattle.linker_base.specs.Rewrite.{Rewrite}
 use Rattle.linker_utils.specs.Choices.{RowIsWithin}
-use Rattle.linker_utils.specs.LoongArchChoices.{AreOfDescriptor, signed_32, unsigned_12}
-use Rattle.linker_utils.specs.LoongArchOriginals.{IsAddi, IsLd, AreOfOneRegister, IsCall}
+use Rattle.linker_utils.specs.LoongArchChoices.{AreOfDescriptor, signed_32, unsigned_12, signed_12}
+use Rattle.linker_utils.specs.LoongArchOriginals.{IsAddi, IsLd, AreOfOneRegister, IsCall, IsLu12i}
+use Rattle.linker_utils.specs.LoongArchOriginals.{IsAddTp}
 use Rattle.linker_elf.specs.LoongArchRelocations.{loongarch_row}
-use Rattle.linker_utils.specs.LoongArchRewrites.{loongarch_rewrite, rd_of}
+use Rattle.linker_utils.specs.LoongArchRewrites.{loongarch_rewrite, rd_of, rj_of, tp}
 use Rattle.linker_elf.specs.Value.{sum_64, difference_64}
 use Rattle.linker_elf.specs.declared.elf.value.Operands.{Operands}
 use Rattle.linker_elf.specs.declared.loongarch64.relocations.LoongArch64Relocation.{LoongArch64Relocation}
@@ -192,6 +193,45 @@ CallToBranch kind link =
 
 abbrev pub Calls : Type 0
 Calls = CallToBranch kinds.CallToBl 1 × CallToBranch kinds.CallToB 0
+
+-- ---- the offset of a variable from the thread pointer, in 12 bits
+
+-- `lu12i.w rA`, `add.d rB, rA, tp`, and an instruction with P over rB
+pub record IsLocalExec (P : ℕ → Type 0) (lu12i add low : ℕ) : Type 0 where
+  pub first : IsLu12i lu12i
+  pub second : IsAddTp add
+  pub third : P low
+  pub base_of_add : rj_of add ≡ rd_of lu12i
+  pub base_of_low : rj_of low ≡ rd_of add
+  pub high_not_zero : rd_of lu12i ≢ 0
+  pub high_not_tp : rd_of lu12i ≢ tp
+  pub sum_not_zero : rd_of add ≢ 0
+  pub low_not_zero : rd_of low ≢ 0
+
+-- Each state is behind its instructions. Only rA and rB may differ, unless the instruction writes them.
+pub record HaveShortened (high sum low at new_at : ℕ) (s t : State) : Type 0 where
+  pub alike : AreAlikeBut (λ m. (m == high || m == sum) && not (m == low)) s t
+  pub next : s.pc ≡ at
+  pub new_next : t.pc ≡ new_at
+
+-- The low half over `tp`, once the `lu12i.w` and the `add.d` are deleted: for `addi.d` and `ld.d`.
+abbrev pub LowHalfFromThreadPointer : (ℕ → Type 0) → Type 0
+LowHalfFromThreadPointer P =
+    (x y : Operands) (s t : State) (lu12i add low base : List ℕ) → AreAddresses x
+    → AreAlikeBut no_register s t → IsLocalExec P (word_of lu12i) (word_of add) (word_of low)
+    → thread_offset x ≡ thread_offset y
+    → RowIsWithin (loongarch_row names.R_LARCH_TLS_LE_LO12_R) signed_12 y
+    → IsRewritten kinds.BaseToTp low base → (lu12i_of low_of base_of : List ℕ)
+    → Fits32 names.R_LARCH_TLS_LE_HI20_R x
+    → IsRelocated names.R_LARCH_TLS_LE_HI20_R x lu12i lu12i_of
+    → IsRelocated names.R_LARCH_TLS_LE_LO12_R (behind 8 x) low low_of
+    → IsRelocated names.R_LARCH_TLS_LE_LO12_R y base base_of
+    → EndSo (word_of lu12i_of ∷ word_of add ∷ word_of low_of ∷ []) s (word_of base_of ∷ []) t
+    (HaveShortened (rd_of (word_of lu12i)) (rd_of (word_of add)) (rd_of (word_of low))
+    (sum_64 s.pc 12) (sum_64 t.pc 4))
+
+abbrev pub ShorterLocalExec : Type 0
+ShorterLocalExec = LowHalfFromThreadPointer IsAddi × LowHalfFromThreadPointer IsLd
 
 -- ---- the offset of a variable from the thread pointer, by a TLS descriptor
 

@@ -3,7 +3,7 @@
 -- written, and code is apart from memory.
 use Rattle.std.specs.Prelude.{◌≡◌, ℕ, zero, suc, ◌+◌, ◌-◌, ◌*◌, ◌%◌, ◌^◌, ◌==◌, ◌&&◌, ◌||◌}
 use Rattle.std.specs.Prelude.{nat_lt, nat_le, if◌then◌else◌, List, length, drop, ℤ, pos}
-use Rattle.std.specs.Prelude.{Option, Some, None, IsSomeAnd}
+use Rattle.std.specs.Prelude.{Option, Some, None, IsSomeAnd, Bool}
 use Rattle.std.specs.Int.{w16, w32, from_le_bytes}
 use Rattle.linker_base.specs.Bits.{field}
 use Rattle.linker_elf.specs.RiscV.{riscv_form}
@@ -65,6 +65,7 @@ pub data Instruction : Type 0 where
   lui : (rd : ℕ) (immediate : ℤ) → Instruction
   auipc : (rd : ℕ) (immediate : ℤ) → Instruction
   jal : (rd : ℕ) (offset : ℤ) → Instruction
+  add : (rd rs1 rs2 : ℕ) → Instruction
   sums : Action → (rd rs1 rs2 : ℕ) (immediate : ℤ) → Instruction
 
 -- the source registers, bits 15 to 19 and 20 to 24
@@ -103,13 +104,18 @@ with_action word (Some (stores f)) = s_type (stores f) word
 with_action word (Some (stores_float f)) = s_type (stores_float f) word
 with_action word (Some action) = i_type action word
 
+-- `add`: the opcode, and both functions, are those ("Integer Register-Register Operations")
+abbrev pub is_add : ℕ → Bool
+is_add word = opcode_of word == 0x33 && (funct3_of word == 0 && field word 25 32 == 0)
+
 -- the instruction of a word of 32 bits, if it is one of these ("RV32/64G Instruction Set Listings")
 abbrev pub of_word : ℕ → Option Instruction
 of_word word =
     if opcode_of word == 0x37 then Some (lui (rd_of word) ((riscv_form UType).machine word))
     else (if opcode_of word == 0x17 then Some (auipc (rd_of word) ((riscv_form UType).machine word))
     else (if opcode_of word == 0x6f then Some (jal (rd_of word) ((riscv_form JType).machine word))
-    else with_action word (action_of (opcode_of word) (funct3_of word))))
+    else (if is_add word then Some (add (rd_of word) (rs1_of word) (rs2_of word))
+    else with_action word (action_of (opcode_of word) (funct3_of word)))))
 
 abbrev pub of_clui : ℕ → ℤ → Option Instruction
 of_clui rd (pos zero) = None
@@ -164,6 +170,8 @@ executed n (lui rd immediate) h = goes_on n (with_integer rd (wrapped immediate)
 executed n (auipc rd immediate) h = goes_on n (with_integer rd (moved h.pc immediate) h)
 executed n (jal rd offset) h =
     goes_to (moved h.pc offset) (with_integer rd (sum_64 h.pc n) h)
+executed n (add rd rs1 rs2) h =
+    goes_on n (with_integer rd (sum_64 (register h rs1) (register h rs2)) h)
 executed n (sums action rd rs1 rs2 immediate) h =
     used n action rd rs2 (moved (register h rs1) immediate) h
 

@@ -62,8 +62,10 @@ pub fn ppc64()
 /// of their layout, and a call links the address behind it; `c.lui` puts in its register what `lui`
 /// does; a `lui` that is deleted would put 0 there, so that x0 can be the base of the instructions
 /// that add its low part. All else that a program sees is the same, but for the register of a tail
-/// call's `auipc` and that of a deleted `lui`. The last four clauses are examples of what the
-/// machine does.
+/// call's `auipc` and that of a deleted `lui`. Where the offset of a variable has 12 bits, the thread
+/// pointer is the base in place of a register that would have its number. The offset of a variable is
+/// in the instructions, or in its GOT entry, in place of a descriptor; a symbol's address is computed in
+/// place of a load from the GOT. The last four clauses are examples of what the machine does.
 pub fn riscv64()
     ensures calls { riscv_laws.Calls }
     ensures tail_calls { riscv_laws.TailCalls }
@@ -72,15 +74,25 @@ pub fn riscv64()
     ensures no_high_parts { riscv_laws.LuiIsDeleted }
     ensures low_parts { riscv_laws.LowPartFromZero }
     ensures pairs { riscv_laws.PairFromZero }
+    ensures high_offsets { riscv_laws.OffsetLuiIsDeleted }
+    ensures sums { riscv_laws.SumIsDeleted }
+    ensures low_offsets { riscv_laws.LowPartFromThreadPointer }
+    ensures nops { riscv_laws.LongNopDoesNothing }
+    ensures descriptor_to_local_exec { riscv_laws.DescriptorToLocalExec }
+    ensures descriptor_to_short_local_exec { riscv_laws.DescriptorToShortLocalExec }
+    ensures descriptor_to_initial_exec { riscv_laws.DescriptorToInitialExec }
+    ensures got { riscv_laws.GotToAddress }
     ensures words { riscv_examples.Words }
     ensures halves { riscv_examples.Halves }
     ensures execution { riscv_examples.Execution }
     ensures sequences { riscv_examples.Sequences }
-{}
+{
+    relocation_laws::riscv64();
+}
 
 /// LoongArch: the address of a symbol without its GOT entry, or by `pcaddi`; the offset of a variable
-/// from the thread pointer in the instructions, or by its GOT entry in place of a descriptor's
-/// function; a call by `b` or `bl`. Where an instruction is deleted, the code before and
+/// from the thread pointer in the instructions, in one of them, or by its GOT entry in place of a
+/// descriptor's function; a call by `b` or `bl`. Where an instruction is deleted, the code before and
 /// after the rewrite may stand at different addresses, each with its relocations applied.
 pub fn loongarch64()
     ensures got { loongarch_laws.GotToAddress }
@@ -89,6 +101,7 @@ pub fn loongarch64()
     ensures address { loongarch_laws.AddressToPcaddi }
     ensures near_got { loongarch_laws.GotToPcaddi }
     ensures calls { loongarch_laws.Calls }
+    ensures shorter_local_exec { loongarch_laws.ShorterLocalExec }
     ensures descriptor_to_local_exec { loongarch_laws.DescriptorToLocalExec }
     ensures descriptor_to_initial_exec { loongarch_laws.DescriptorToInitialExec }
 {

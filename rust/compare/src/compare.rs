@@ -4,6 +4,8 @@
 use crate::*;
 use linker_utils::elf::{Operands, RelocationNumbers};
 use linker_utils::relaxation::{BlockHead, Call, RelaxDelta};
+use linker_utils::runs::relaxation::{Shape, Shapes};
+use linker_utils::runs::shapes::{fixed, loongarch64, riscv64};
 // It links the static library.
 use sathunne as _;
 
@@ -31,6 +33,8 @@ struct Random {
     state: u64,
     /// While deletions are listed, the offset after the last and the bytes of all.
     listed: Option<(u64, u64)>,
+    /// How many items or relocations of a run there are, as many as most arrays then have elements.
+    run: usize,
 }
 
 impl Random {
@@ -68,15 +72,32 @@ impl Random {
             "cumulative_deleted" => sum,
             "site" => next + 4 * self.below(3),
             "target" => self.below(48),
+            "len" => [8, 8, 14, 12, 6][self.below(5) as usize],
+            "kind" => self.below(3),
+            "power" => 4 << self.below(3),
+            "most" => self.below(20),
+            "addend" => 2 * self.below(8),
+            "r_type" => [18, 19, 51, 43, 110, 71, 72, 100, 102][self.below(9) as usize],
             _ => self.number(),
         };
         self.listed = Some(match name {
             "bytes" | "bytes_deleted" => (next + (number & 7), sum.wrapping_add(number)),
             "offset" | "input_offset" => ((number & 0xff) + self.below(2), sum),
             "site" => ((number & 0xff) + 4, sum),
+            "len" => (next.wrapping_add(number & 63) & !1, sum),
             _ => (next, sum),
         });
         number
+    }
+
+    /// How many elements a slice has, by its name.
+    fn len(&mut self, name: &str) -> usize {
+        let is_of_run = self.below(8) != 0;
+        match name {
+            "items" | "shapes" | "kept" | "places" if is_of_run => self.run,
+            "freed" if is_of_run => self.run + 1,
+            _ => self.below(5) as usize,
+        }
     }
 
     fn value<T: Made>(&mut self, name: &str) -> Pair<T> {
@@ -88,9 +109,9 @@ impl Random {
     }
 
     fn slice<T: Made>(&mut self, name: &str) -> Pair<Vec<T>> {
-        let state = self.state;
+        let (state, run) = (self.state, self.run);
         let ours = T::several(self, name);
-        self.state = state;
+        (self.state, self.run) = (state, run);
         let theirs = T::several(self, name);
         Pair { ours, theirs }
     }
@@ -101,7 +122,7 @@ trait Made: Sized {
     fn made(random: &mut Random, name: &str) -> Self;
 
     fn several(random: &mut Random, name: &str) -> Vec<Self> {
-        let len = random.below(5);
+        let len = random.len(name);
         (0..len).map(|_| Self::made(random, name)).collect()
     }
 }
@@ -157,7 +178,11 @@ impl Made for u8 {
     }
 
     /// Instructions that some call takes, and any bytes.
-    fn several(random: &mut Random, _name: &str) -> Vec<u8> {
+    fn several(random: &mut Random, name: &str) -> Vec<u8> {
+        if name == "shapes" {
+            let len = random.len(name);
+            return (0..len).map(|_| random.word() as u8).collect();
+        }
         const WORDS: [u32; 6] = [0x97, 0x80e7, 0xf940_0000, 0xf280_0021, 0x0080_8080, 0x0001_0537];
         let len = random.below(40) as usize;
         let mut bytes: Vec<u8> = (0..len).map(|_| random.word() as u8).collect();
@@ -191,7 +216,8 @@ macro_rules! fields {
 
             fn several(random: &mut Random, name: &str) -> Vec<$name> {
                 random.listed = Some(if name == "additional" { (3, 0) } else { (0, 0) });
-                let items = (0..random.below(5)).map(|_| Made::made(random, "")).collect();
+                random.run = random.len(name);
+                let items = (0..random.run).map(|_| Made::made(random, "")).collect();
                 random.listed = None;
                 items
             }
@@ -214,6 +240,36 @@ fields! {
     has_range, thunkable, implicit_addend, min, max, alignment, bias,
 }
 
+/// Shapes of an architecture, or others.
+impl Made for Shapes {
+    fn made(random: &mut Random, _name: &str) -> Shapes {
+        use riscv64::{CALL, CALL_WITHOUT_C, TAIL_C};
+        match random.below(9) {
+            0..4 => CALL,
+            4 => CALL_WITHOUT_C,
+            5 => TAIL_C,
+            6 => loongarch64::PCALA,
+            7 => fixed(random.below(10) as u32),
+            _ => Shapes {
+                short: [0; 2].map(|_| Shape {
+                    behind: random.number(),
+                    ahead: random.number(),
+                    kept: random.below(8) as u32,
+                    unit: random.below(5) as u32,
+                }),
+                longest: random.below(10) as u32,
+                count: random.below(4) as u8,
+            },
+        }
+    }
+}
+
+impl Seen for Shapes {
+    fn seen(&self) -> String {
+        format!("{self:?}")
+    }
+}
+
 macro_rules! compare {
     ($module:ident, $name:ident, [$($c:tt)*] -> $result:ty, |$random:ident| { $($made:tt)* },
      [$($ours:tt)*], [$($theirs:tt)*], [$($after:tt)*]) => {
@@ -223,7 +279,7 @@ macro_rules! compare {
             unsafe extern "C" {
                 fn $name($($c)*) -> $result;
             }
-            let mut $random = Random { state: 0x9e37_79b9_7f4a_7c15, listed: None };
+            let mut $random = Random { state: 0x9e37_79b9_7f4a_7c15, listed: None, run: 0 };
             let mut returned = Vec::new();
             for _ in 0..CALLS {
                 $($made)*

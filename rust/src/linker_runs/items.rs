@@ -19,6 +19,7 @@ pub struct Relocation {
 }
 
 /// Why no items are made of relocations.
+#[cfg_attr(not(exhaustive), non_exhaustive)]
 #[derive(Debug, Clone, Copy, PartialEq, Eq, Hash)]
 pub enum ItemsError {
     /// Out of memory for the items.

@@ -28,15 +28,11 @@ fn power_of(has_symbol: bool, addend: u64) -> Option<u64> {
     }
 }
 
-/// How many bytes may be skipped at most, by an addend.
+/// How many bytes of nops may stay at most, by an addend.
 #[inline]
-fn most_of(has_symbol: bool, addend: u64) -> Option<u64> {
+fn most_of(has_symbol: bool, addend: u64, nops: u64) -> u64 {
     let most = addend / 256;
-    if has_symbol && most != 0 {
-        Some(most)
-    } else {
-        None
-    }
+    if has_symbol && most != 0 { most } else { nops }
 }
 
 /// The nops of an `R_LARCH_ALIGN`, by its addend. None where they aren't what the psABI allows.
@@ -72,7 +68,7 @@ fn alignment_at(
             offset: base + relocation.offset,
             nops,
             power: u64::from(nops) + 4,
-            most: most_of(relocation.has_symbol, addend),
+            most: Some(most_of(relocation.has_symbol, addend, u64::from(nops))),
         })),
     }
 }

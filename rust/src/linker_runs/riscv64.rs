@@ -43,7 +43,7 @@ fn alignment_of(nops: u32, offset: u64) -> Alignment {
         offset,
         nops,
         power: (u64::from(nops) + 1).next_power_of_two(),
-        most: None,
+        most: Some(u64::from(nops)),
     }
 }
 

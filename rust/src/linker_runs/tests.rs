@@ -4,7 +4,7 @@
 use crate::support::*;
 use crate::linker_runs::items::{ItemsError, Relocation};
 use crate::linker_runs::{loongarch64, riscv64};
-use crate::linker_relax::relaxation::{Alignment, Item, Shapes, Site};
+use crate::linker_relax::relaxation::{Alignment, Item, Shapes, Site, are_items};
 use crate::linker_relax::shapes;
 
 fn relocation(offset: u64, code: u32, addend: i64, target: Option<u64>) -> Relocation {
@@ -80,7 +80,7 @@ fn riscv_calls_and_alignments_are_items() -> Result<(), Fail> {
         site(0x100, 0x900, shapes::riscv64::CALL),
         site(0x108, 0x900, shapes::riscv64::TAIL_C),
         site(0x110, 0x900, shapes::riscv64::CALL),
-        aligned(0x118, 14, 16, None),
+        aligned(0x118, 14, 16, Some(14)),
     ];
     expect_riscv(&RISC_V, &relocations, true, &expected)?;
     Ok(())
@@ -95,7 +95,7 @@ fn riscv_code_of_four_byte_instructions_has_no_short_ones() -> Result<(), Fail> 
     ];
     let expected = [
         site(0x108, 0x900, shapes::riscv64::CALL_WITHOUT_C),
-        aligned(0x118, 12, 16, None),
+        aligned(0x118, 12, 16, Some(12)),
     ];
     expect_riscv(&RISC_V, &relocations, false, &expected)?;
     Ok(())
@@ -172,9 +172,21 @@ fn loongarch_calls_addresses_and_alignments_are_items() -> Result<(), Fail> {
         site(0x100, 0x900, shapes::loongarch64::CALL36),
         site(0x108, 0x900, shapes::loongarch64::CALL36),
         site(0x110, 0x900, shapes::loongarch64::PCALA),
-        aligned(0x118, 12, 16, None),
+        aligned(0x118, 12, 16, Some(12)),
     ];
     expect_loongarch(&LOONGARCH, &relocations, &expected)?;
+    Ok(())
+}
+
+/// Without a site the units of a run are bytes, and code whose alignments need nops is still a run.
+#[test]
+fn alignments_alone_are_a_run() -> Result<(), Fail> {
+    let relocations = [relocation(24, 43, 14, None)];
+    let riscv = riscv64::items(&[0; 40], 0x100, &relocations, true)?;
+    assert!(are_items(&riscv, 0));
+    let relocations = [relocation(24, 102, 12, None)];
+    let loongarch = loongarch64::items(&[0; 40], 0x100, &relocations)?;
+    assert!(are_items(&loongarch, 0));
     Ok(())
 }
 
@@ -183,9 +195,9 @@ fn loongarch_calls_addresses_and_alignments_are_items() -> Result<(), Fail> {
 #[test]
 fn loongarch_alignments_have_two_spellings() -> Result<(), Fail> {
     let rows: [(Relocation, Item); 4] = [
-        (relocation(24, 102, 12, None), aligned(0x118, 12, 16, None)),
-        (relocation(24, 102, 4, None), aligned(0x118, 4, 8, None)),
-        (of_symbol(24, 102, 4), aligned(0x118, 12, 16, None)),
+        (relocation(24, 102, 12, None), aligned(0x118, 12, 16, Some(12))),
+        (relocation(24, 102, 4, None), aligned(0x118, 4, 8, Some(4))),
+        (of_symbol(24, 102, 4), aligned(0x118, 12, 16, Some(12))),
         (of_symbol(24, 102, 0x404), aligned(0x118, 12, 16, Some(4))),
     ];
     for &(relocation, expected) in &rows {

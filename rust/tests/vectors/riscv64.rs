@@ -3,6 +3,7 @@
 //! by hand from the manual.
 
 mod choices;
+mod linked;
 mod pairs;
 mod words;
 

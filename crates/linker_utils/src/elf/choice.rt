@@ -32,6 +32,8 @@ pub struct LinkFacts {
     pub may_compress: bool,
     /// The relocation may be relaxed: `R_RISCV_RELAX` or `R_LARCH_RELAX` is at the same offset.
     pub is_marked: bool,
+    /// The high part whose label an `R_RISCV_PCREL_LO12_I` names has `R_RISCV_GOT_HI20`.
+    pub has_got_high_part: bool,
     /// The register through which an instruction of PowerPC64 gets the high part of its address, and
     /// which an `addis` has set, is read only by instructions whose relocation is of the same symbol
     /// and addend. Linkers assume so, as the ABI asks of compilers ("TOC Optimizations").

@@ -1,14 +1,16 @@
 //! RISC-V: relaxation rewrites.
 
 ghost use Rattle.linker_utils.specs.RiscVRewrites.{riscv_rewrites};
-ghost use Rattle.std.specs.Prelude.{slice_get, ◌≡◌, ◌≤◌, ◌↔◌, IsTrue, Some, length, ◌≢◌, ◌+◌, drop};
-ghost use Rattle.std.specs.Int.{from_le_bytes, w16, w32};
+ghost use Rattle.std.specs.Prelude.{slice_get, ◌≡◌, ◌≤◌, ◌↔◌, IsTrue, Some, length, ◌≢◌, ◌+◌, ◌++◌};
+ghost use Rattle.std.specs.Prelude.{take, drop};
+ghost use Rattle.std.specs.Int.{from_le_bytes, to_le_bytes, w16, w32};
 ghost use Rattle.linker_base.specs.Rewrite.{CanRewrite, rewritten, offset_after, addend_after};
-ghost use Rattle.linker_base.specs.Bits.{signed};
+ghost use Rattle.linker_base.specs.Bits.{field, signed};
 ghost use Rattle.linker_utils.specs.RiscVRewrites.{riscv_rewrite, riscv_modifier, hi20, lo12, IsSigned32};
-ghost use Rattle.linker_utils.specs.RiscVRewrites.{FitsClui, HoldsHigh, riscv_deleted};
+ghost use Rattle.linker_utils.specs.RiscVRewrites.{FitsClui, HoldsHigh, riscv_deleted, with_rs1, tp};
 ghost use Rattle.linker_utils.specs.RiscVOriginals.{opcode_of, funct3_of, adds_low12, IsTailCall};
-ghost use Rattle.linker_utils.specs.RiscVOriginals.{riscv_matches};
+ghost use Rattle.linker_utils.specs.RiscVOriginals.{IsLui, IsAuipc, IsLd, IsAddTp, IsAddiToA0};
+ghost use Rattle.linker_utils.specs.RiscVOriginals.{IsCallOfDescriptor, riscv_matches};
 ghost use Rattle.linker_elf.specs.Agrees.{RowFits};
 ghost use Rattle.linker_elf.specs.Readings.{RowReadsNoOther};
 ghost use Rattle.linker_elf.specs.RiscVRelocations.{clui_row};
@@ -47,6 +49,26 @@ pub enum RelaxationKind {
     /// Turns the first two bytes of a tail call into a `c.j` of distance 0. Requires the C extension.
     /// The caller deletes the six bytes after it.
     TailToCJ,
+    /// Leaves the instruction as it is; the caller deletes its four bytes.
+    Delete,
+    /// Writes one nop of four bytes, `addi x0, x0, 0`, in place of an instruction.
+    ReplaceWithLongNop,
+    /// Makes x4, the thread pointer, the source register of the instruction that adds the low part of
+    /// an offset: bits 15 to 19.
+    BaseToTp,
+    /// Turns the `addi a0` of a TLS descriptor into `lui a0` of 0 (RISC-V ELF psABI, "TLS Descriptors
+    /// -> Local Exec Relaxation").
+    AddiToLui,
+    /// Turns it into `auipc a0` of 0 ("TLS Descriptors -> Initial Exec Relaxation").
+    AddiToAuipc,
+    /// Turns the `jalr t0` of a TLS descriptor into `addi a0, a0, 0`.
+    CallToAddi,
+    /// Turns it into `addi a0, x0, 0`.
+    CallToAddiZero,
+    /// Turns it into `ld a0, 0(a0)`.
+    CallToLd,
+    /// Turns `ld` into `addi`, with both of its registers and its immediate.
+    LdToAddi,
 }
 
 /// The bytes that a linker deletes after a rewrite.
@@ -60,11 +82,30 @@ pub struct DeletedBytes {
 
 /// The instruction at an offset of the section.
 #[inline(always)]
-fn word_at(section: &[u8], offset: u64) -> u32
+pub(super) fn word_at(section: &[u8], offset: u64) -> u32
     requires { offset + 4 ≤ length section.now }
     ensures { result ≡ from_le_bytes w32 (drop offset section.now) }
 {
     u32_from_slice(&section[offset as usize..])
+}
+
+/// That of the four bytes alone.
+#[inline(always)]
+fn window_at(section: &[u8], offset: u64) -> u32
+    requires { offset + 4 ≤ length section.now }
+    ensures { result ≡ from_le_bytes w32 (take 4 (drop offset section.now)) }
+{
+    u32_from_slice(&section[offset as usize..])
+}
+
+/// Writes an instruction at an offset of the section.
+#[inline(always)]
+fn put_word(section: &mut [u8], offset: u64, word: u32)
+    requires { offset + 4 ≤ length section.old }
+    ensures { section.new
+        ≡ take offset section.old ++ to_le_bytes w32 word ++ drop (offset + 4) section.old }
+{
+    overwrite(section, offset, &word.to_le_bytes());
 }
 
 /// The opcode of an instruction.
@@ -73,6 +114,79 @@ fn opcode(word: u32) -> u64
     ensures { result ≡ opcode_of word }
 {
     u64::from(word).extract_bit_range(0..7)
+}
+
+/// Its function: bits 12 to 14.
+#[inline(always)]
+fn function(word: u32) -> u64
+    ensures { result ≡ funct3_of word }
+{
+    u64::from(word).extract_bit_range(12..15)
+}
+
+/// Its bits 20 to 31, which are an immediate, or a register and a further function.
+#[inline(always)]
+fn upper_bits(word: u32) -> u64
+    ensures { result ≡ field word 20 32 }
+{
+    u64::from(word).extract_bit_range(20..32)
+}
+
+/// `lui`.
+#[inline(always)]
+pub(super) fn is_lui(word: u32) -> bool
+    ensures { IsTrue result ↔ IsLui word }
+{
+    opcode(word) == 0x37
+}
+
+/// `auipc`.
+#[inline(always)]
+pub(super) fn is_auipc(word: u32) -> bool
+    ensures { IsTrue result ↔ IsAuipc word }
+{
+    opcode(word) == 0x17
+}
+
+/// `ld`.
+#[inline(always)]
+pub(super) fn is_ld(word: u32) -> bool
+    ensures { IsTrue result ↔ IsLd word }
+{
+    opcode(word) == 0x03 && function(word) == 3
+}
+
+/// `add rd, rs1, tp`.
+#[inline(always)]
+pub(super) fn is_add_tp(word: u32) -> bool
+    ensures { IsTrue result ↔ IsAddTp word }
+{
+    opcode(word) == 0x33 && function(word) == 0 && upper_bits(word) == 4
+}
+
+/// `addi a0, rs1`.
+#[inline(always)]
+pub(super) fn is_addi_to_a0(word: u32) -> bool
+    ensures { IsTrue result ↔ IsAddiToA0 word }
+{
+    opcode(word) == 0x13 && function(word) == 0 && destination(word) == 10
+}
+
+/// `jalr t0, 0(rs1)`, which calls the function of a TLS descriptor.
+#[inline(always)]
+pub(super) fn is_call_of_descriptor(word: u32) -> bool
+    ensures { IsTrue result ↔ IsCallOfDescriptor word }
+{
+    opcode(word) == 0x67 && function(word) == 0 && destination(word) == 5 && upper_bits(word) == 0
+}
+
+/// The instruction with x4, the thread pointer, as its first source register.
+#[inline(always)]
+fn over_tp(word: u32) -> u32
+    ensures { result ≡ with_rs1 tp word }
+{
+    let base = (word >> 15) % 32;
+    word - base * 0x8000 + 4 * 0x8000
 }
 
 /// Whether an instruction adds a signed immediate of 12 bits to its source register.
@@ -119,6 +233,15 @@ impl RelaxationKind {
             5 => RelaxationKind::Lo12Rs1ToZero,
             6 => RelaxationKind::TailToJal,
             7 => RelaxationKind::TailToCJ,
+            8 => RelaxationKind::Delete,
+            9 => RelaxationKind::ReplaceWithLongNop,
+            10 => RelaxationKind::BaseToTp,
+            11 => RelaxationKind::AddiToLui,
+            12 => RelaxationKind::AddiToAuipc,
+            13 => RelaxationKind::CallToAddi,
+            14 => RelaxationKind::CallToAddiZero,
+            15 => RelaxationKind::CallToLd,
+            16 => RelaxationKind::LdToAddi,
             _ => return None,
         };
         Some(kind)
@@ -146,7 +269,7 @@ impl RelaxationKind {
         let _ = addend;
         let offset = *offset_in_section;
         match self {
-            RelaxationKind::NoOp | RelaxationKind::Hi20Delete => {}
+            RelaxationKind::NoOp | RelaxationKind::Hi20Delete | RelaxationKind::Delete => {}
             RelaxationKind::ReplaceWithNop => {
                 overwrite(section_bytes, offset, &[0x01, 0x00, 0x01, 0x00]);
             }
@@ -169,6 +292,21 @@ impl RelaxationKind {
                 overwrite(section_bytes, offset, &[0x6f, 0x00, 0x00, 0x00]);
             }
             RelaxationKind::TailToCJ => overwrite(section_bytes, offset, &[0x01, 0xa0]),
+            RelaxationKind::ReplaceWithLongNop => put_word(section_bytes, offset, 0x0000_0013),
+            RelaxationKind::BaseToTp => {
+                let word = window_at(section_bytes, offset);
+                put_word(section_bytes, offset, over_tp(word));
+            }
+            RelaxationKind::AddiToLui => put_word(section_bytes, offset, 0x0000_0537),
+            RelaxationKind::AddiToAuipc => put_word(section_bytes, offset, 0x0000_0517),
+            RelaxationKind::CallToAddi => put_word(section_bytes, offset, 0x0005_0513),
+            RelaxationKind::CallToAddiZero => put_word(section_bytes, offset, 0x0000_0513),
+            RelaxationKind::CallToLd => put_word(section_bytes, offset, 0x0005_3503),
+            RelaxationKind::LdToAddi => {
+                let ld = window_at(section_bytes, offset);
+                let rd = destination(ld);
+                put_word(section_bytes, offset, (ld >> 15 << 15) + (rd << 7) + 0x13);
+            }
         }
     }
 
@@ -179,11 +317,19 @@ impl RelaxationKind {
         ensures { IsTrue result ↔ CanRewrite (riscv_rewrite self) section.now offset }
     {
         match self {
-            RelaxationKind::NoOp | RelaxationKind::Hi20Delete => true,
+            RelaxationKind::NoOp | RelaxationKind::Hi20Delete | RelaxationKind::Delete => true,
             RelaxationKind::ReplaceWithNop
             | RelaxationKind::CallToJal
             | RelaxationKind::Lo12Rs1ToZero
-            | RelaxationKind::TailToJal => has_window(section, offset, 0, 4),
+            | RelaxationKind::TailToJal
+            | RelaxationKind::ReplaceWithLongNop
+            | RelaxationKind::BaseToTp
+            | RelaxationKind::AddiToLui
+            | RelaxationKind::AddiToAuipc
+            | RelaxationKind::CallToAddi
+            | RelaxationKind::CallToAddiZero
+            | RelaxationKind::CallToLd
+            | RelaxationKind::LdToAddi => has_window(section, offset, 0, 4),
             RelaxationKind::Hi20ToCLui | RelaxationKind::TailToCJ => {
                 has_window(section, offset, 0, 2)
             }
@@ -191,9 +337,11 @@ impl RelaxationKind {
     }
 
     /// Whether the instruction that begins at an offset of a section, or the pair, is one that the
-    /// rewrite is meant for: `can_apply`, and the opcodes and registers. `NoOp` is meant for any offset
-    /// and `ReplaceWithNop` for any four bytes of the section. `Lo12Rs1ToZero` is meant for `addi`,
-    /// `addiw`, `jalr`, loads and stores, which add the low part.
+    /// rewrite is meant for: `can_apply`, and the opcodes and registers. `NoOp` is meant for any offset,
+    /// and `ReplaceWithNop`, `ReplaceWithLongNop` and `Delete` for any four bytes of the section.
+    /// `Lo12Rs1ToZero` and `BaseToTp` are meant for `addi`, `addiw`, `jalr`, loads and stores, which add
+    /// the low part, and `LdToAddi` for `ld`. The instructions of a TLS descriptor are `addi a0, rs1` and
+    /// `jalr t0, 0(rs1)`.
     #[inline]
     pub fn matches(self, section: &[u8], offset: u64) -> bool
         ensures exactly { IsTrue result ↔ riscv_matches self section.now offset }
@@ -207,14 +355,22 @@ impl RelaxationKind {
         }
         let word = word_at(section, offset);
         match self {
-            RelaxationKind::NoOp | RelaxationKind::ReplaceWithNop => true,
+            RelaxationKind::NoOp
+            | RelaxationKind::ReplaceWithNop
+            | RelaxationKind::Delete
+            | RelaxationKind::ReplaceWithLongNop => true,
             RelaxationKind::CallToJal => is_plain_call(section, offset) && destination(word) != 0,
             RelaxationKind::Hi20ToCLui => {
                 opcode(word) == 0x37 && RelaxationKind::rd_valid_for_clui(destination(word))
             }
             RelaxationKind::Hi20Delete => opcode(word) == 0x37,
-            RelaxationKind::Lo12Rs1ToZero => adds_immediate(word),
+            RelaxationKind::Lo12Rs1ToZero | RelaxationKind::BaseToTp => adds_immediate(word),
             RelaxationKind::TailToJal | RelaxationKind::TailToCJ => is_tail_call(section, offset),
+            RelaxationKind::AddiToLui | RelaxationKind::AddiToAuipc => is_addi_to_a0(word),
+            RelaxationKind::CallToAddi
+            | RelaxationKind::CallToAddiZero
+            | RelaxationKind::CallToLd => is_call_of_descriptor(word),
+            RelaxationKind::LdToAddi => is_ld(word),
         }
     }
 
@@ -229,15 +385,12 @@ impl RelaxationKind {
             | RelaxationKind::Hi20Delete
             | RelaxationKind::TailToJal
             | RelaxationKind::TailToCJ => RelocationModifier::SkipNextRelocation,
-            RelaxationKind::NoOp
-            | RelaxationKind::ReplaceWithNop
-            | RelaxationKind::Hi20ToCLui
-            | RelaxationKind::Lo12Rs1ToZero => RelocationModifier::Normal,
+            _ => RelocationModifier::Normal,
         }
     }
 
-    /// The bytes to be deleted after the rewrite. `None` where there are none: after `NoOp`,
-    /// `ReplaceWithNop` and `Lo12Rs1ToZero`.
+    /// The bytes to be deleted after the rewrite. `None` where there are none: only `CallToJal`,
+    /// `TailToJal`, `TailToCJ`, `Hi20ToCLui`, `Hi20Delete` and `Delete` have some.
     ///
     /// ```
     /// use linker_utils::riscv64::RelaxationKind;
@@ -254,9 +407,8 @@ impl RelaxationKind {
             RelaxationKind::CallToJal | RelaxationKind::TailToJal => (4, 4),
             RelaxationKind::TailToCJ => (2, 6),
             RelaxationKind::Hi20ToCLui => (2, 2),
-            RelaxationKind::Hi20Delete => (0, 4),
-            RelaxationKind::NoOp | RelaxationKind::ReplaceWithNop | RelaxationKind::Lo12Rs1ToZero =>
-                return None,
+            RelaxationKind::Hi20Delete | RelaxationKind::Delete => (0, 4),
+            _ => return None,
         };
         Some(DeletedBytes { start, count })
     }

@@ -3,6 +3,7 @@ use Rattle.rewrite_laws.proofs.LoongArchPairs.{got_to_address, initial_exec, sho
 use Rattle.rewrite_laws.proofs.LoongArchPairs.{address_to_pcaddi, got_to_pcaddi}
 use Rattle.rewrite_laws.proofs.LoongArchCalls.{call_to_bl, call_to_b}
 use Rattle.rewrite_laws.proofs.LoongArchDescriptors.{to_local_exec, to_initial_exec}
+use Rattle.rewrite_laws.proofs.LoongArchOffsets.{shorter}
 use Rattle.rewrite_laws.proofs.loongarch64.Goals as goal
 
 pub returns-clause-got : goal.returns-clause-got
@@ -35,3 +36,6 @@ returns-clause-descriptor_to_local_exec c =
 
 pub returns-clause-descriptor_to_initial_exec : goal.returns-clause-descriptor_to_initial_exec
 returns-clause-descriptor_to_initial_exec c = to_initial_exec c.loongarch64.ensures.relative
+
+pub returns-clause-shorter_local_exec : goal.returns-clause-shorter_local_exec
+returns-clause-shorter_local_exec c = shorter c.loongarch64.ensures.thread

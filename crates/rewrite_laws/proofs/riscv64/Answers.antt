@@ -4,8 +4,11 @@ use Rattle.linker_base.specs.Form.{place_sum}
 use Rattle.rewrite_laws.specs.RiscVExamples.{some_hart}
 use Rattle.rewrite_laws.specs.RiscVMachine.{auipc, jal, sums, adds, jumps, executed}
 use Rattle.rewrite_laws.proofs.RiscVCalls.{call_becomes_jal, tail_becomes_jal, tail_becomes_cj}
-use Rattle.rewrite_laws.proofs.RiscVLowParts.{low_part_from_zero}
-use Rattle.rewrite_laws.proofs.RiscVLuis.{lui_becomes_clui, lui_is_deleted}
+use Rattle.rewrite_laws.proofs.RiscVLowParts.{low_part_from_zero, low_part_from_tp}
+use Rattle.rewrite_laws.proofs.RiscVLuis.{lui_becomes_clui, lui_is_deleted, offset_lui_is_deleted}
+use Rattle.rewrite_laws.proofs.RiscVSums.{sum_is_deleted}
+use Rattle.rewrite_laws.proofs.RiscVDescriptors.{to_local_exec, to_short_local_exec, to_initial_exec}
+use Rattle.rewrite_laws.proofs.RiscVDescriptors.{got_to_address, long_nop}
 use Rattle.rewrite_laws.proofs.RiscVPairs.{pair_from_zero}
 use Rattle.rewrite_laws.proofs.riscv64.Goals as goal
 
@@ -29,6 +32,34 @@ returns-clause-low_parts c = low_part_from_zero
 
 pub returns-clause-pairs : goal.returns-clause-pairs
 returns-clause-pairs c = pair_from_zero
+
+pub returns-clause-high_offsets : goal.returns-clause-high_offsets
+returns-clause-high_offsets c = offset_lui_is_deleted
+
+pub returns-clause-sums : goal.returns-clause-sums
+returns-clause-sums c = sum_is_deleted
+
+pub returns-clause-low_offsets : goal.returns-clause-low_offsets
+returns-clause-low_offsets c = low_part_from_tp
+
+pub returns-clause-nops : goal.returns-clause-nops
+returns-clause-nops c = long_nop
+
+pub returns-clause-descriptor_to_local_exec : goal.returns-clause-descriptor_to_local_exec
+returns-clause-descriptor_to_local_exec c =
+    to_local_exec c.riscv64.ensures.descriptors c.riscv64.ensures.thread
+
+pub returns-clause-descriptor_to_short_local_exec :
+    goal.returns-clause-descriptor_to_short_local_exec
+returns-clause-descriptor_to_short_local_exec c =
+    to_short_local_exec c.riscv64.ensures.descriptors
+
+pub returns-clause-descriptor_to_initial_exec : goal.returns-clause-descriptor_to_initial_exec
+returns-clause-descriptor_to_initial_exec c =
+    to_initial_exec c.riscv64.ensures.descriptors c.riscv64.ensures.entries
+
+pub returns-clause-got : goal.returns-clause-got
+returns-clause-got c = got_to_address c.riscv64.ensures.entries c.riscv64.ensures.relative
 
 pub returns-clause-words : goal.returns-clause-words
 unfolding place_sum

@@ -1,9 +1,11 @@
 //! Which rewrites are chosen, compared with what GNU ld 2.40 and `ld.lld` 19.1.7 made.
 
+use super::linked::{ADDRESS, ENTRY, IMAGE, SITES};
 use super::{both, pairs};
 use crate::rows::expect_eq;
 use linker_utils::elf::{Choice, LinkFacts, Operands};
 use linker_utils::riscv64::{DeletedBytes, RelaxationKind, RiscVRelocation, choose, row};
+use linker_utils::utils::u32_from_slice;
 use std::process::Abort;
 
 /// The facts of a relocation that may be relaxed, in a program that is loaded at one address.
@@ -177,5 +179,119 @@ fn altered_calls_are_left(rt: HostRuntime) {
         };
         let altered = (call ^ 1 << bit).to_le_bytes();
         expect_eq(&rt, bit, choose(name, &altered, 0, &facts).kind, kind);
+    }
+}
+
+/// The facts of a symbol of an executable, with a GOT entry and a thread pointer.
+fn facts_in(symbol: u64, place: u64, is_local: bool, is_marked: bool) -> LinkFacts {
+    LinkFacts {
+        is_local,
+        has_fixed_distance: true,
+        is_executable: true,
+        is_marked,
+        has_addresses: true,
+        operands: Operands {
+            symbol,
+            place,
+            got_entry: ENTRY,
+            tls_base: IMAGE,
+            ..Operands::default()
+        },
+        ..LinkFacts::default()
+    }
+}
+
+/// What is left of the instruction at an offset, and the choice.
+fn left(
+    rt: &impl Abort,
+    name: RiscVRelocation,
+    word: u32,
+    facts: &LinkFacts,
+) -> (RelaxationKind, u32) {
+    let mut section = both([word, 0]);
+    let chosen = choose(name, &section, 0, facts);
+    let (mut offset, mut addend) = (0, 0);
+    chosen
+        .kind
+        .apply(&mut section[..], &mut offset, &mut addend);
+    let is_of_entry = chosen.kind == RelaxationKind::CallToLd;
+    let operands = Operands {
+        symbol: if is_of_entry {
+            ENTRY
+        } else {
+            facts.operands.symbol
+        },
+        ..facts.operands
+    };
+    write(rt, chosen.relocation, &mut section, 0, &operands);
+    (chosen.kind, u32_from_slice(&section))
+}
+
+#[test]
+fn choices_of_thread_local_storage_match_linkers(rt: HostRuntime) {
+    for (r_type, index, flags, symbol, place, before, after) in SITES {
+        let facts = facts_in(symbol, place, flags & 2 != 0, flags & 1 != 0);
+        let (kind, word) = left(&rt, RiscVRelocation::from_elf(r_type), before, &facts);
+        let word = if kind == RelaxationKind::Delete {
+            0
+        } else {
+            word
+        };
+        expect_eq(&rt, (r_type, index, place), word, after);
+    }
+}
+
+#[test]
+fn a_load_from_the_got_becomes_the_address_of_a_linker(rt: HostRuntime) {
+    let (symbol, place, load, address) = ADDRESS;
+    let facts = LinkFacts {
+        has_got_high_part: true,
+        ..facts_in(symbol, place, true, true)
+    };
+    let (high, auipc) = left(&rt, RiscVRelocation::R_RISCV_GOT_HI20, load[0], &facts);
+    let (low, addi) = left(&rt, RiscVRelocation::R_RISCV_PCREL_LO12_I, load[1], &facts);
+    expect_eq(
+        &rt,
+        symbol,
+        (high, low),
+        (RelaxationKind::NoOp, RelaxationKind::LdToAddi),
+    );
+    expect_eq(&rt, symbol, [auipc, addi], address);
+    let of_address = LinkFacts {
+        has_got_high_part: false,
+        ..facts
+    };
+    let (kind, _) = left(
+        &rt,
+        RiscVRelocation::R_RISCV_PCREL_LO12_I,
+        load[1],
+        &of_address,
+    );
+    expect_eq(&rt, symbol, kind, RelaxationKind::NoOp);
+    for replaceable in [
+        LinkFacts {
+            is_local: false,
+            ..facts
+        },
+        LinkFacts {
+            is_ifunc: true,
+            ..facts
+        },
+        LinkFacts {
+            has_fixed_distance: false,
+            ..facts
+        },
+        LinkFacts {
+            is_marked: false,
+            ..facts
+        },
+    ] {
+        let (kind, _) = left(
+            &rt,
+            RiscVRelocation::R_RISCV_PCREL_LO12_I,
+            load[1],
+            &replaceable,
+        );
+        expect_eq(&rt, replaceable, kind, RelaxationKind::NoOp);
     }
 }

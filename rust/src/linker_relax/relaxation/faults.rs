@@ -6,6 +6,7 @@ use super::{Alignment, Item, Shapes};
 
 /// Why a run can't be relaxed: what is wrong with one of its items. Of an item that has several
 /// faults, the one that comes first here is told. u is the greatest unit of all short shapes.
+#[cfg_attr(not(exhaustive), non_exhaustive)]
 #[derive(Debug, Clone, Copy, PartialEq, Eq, Hash)]
 pub enum Fault {
     /// It begins below the end of the item before it.
