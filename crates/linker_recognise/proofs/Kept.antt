@@ -142,13 +142,13 @@ first_is_same Applies (e ∷ es) otherwise c d (inr one) (inr other) = first_is_
 pub chosen_left : {C : Type 0} (IsChoice Leaves : C → Type 0) (chosen : C) → IsChoice chosen → ((d : C) → IsChoice d → chosen ≡ d)
     → Leaves chosen → (c : C) → (Some chosen ≡ Some c) ↔ (IsChoice c × Leaves c)
 chosen_left IsChoice Leaves chosen is unique left c = (
-    (λ e. let same : chosen ≡ c = cc in (subst IsChoice same is, subst Leaves same left)),
-    (λ both. ap Some (unique c both.0)),
+  (λ e. let same : chosen ≡ c = cc in (subst IsChoice same is, subst Leaves same left)),
+  (λ both. ap Some (unique c both.0)),
 )
 
 pub chosen_not_left : {C : Type 0} (IsChoice Leaves : C → Type 0) (chosen : C) → ((d : C) → IsChoice d → chosen ≡ d)
     → (Leaves chosen → ⊥) → (c : C) → (None ≡ Some c) ↔ (IsChoice c × Leaves c)
 chosen_not_left IsChoice Leaves chosen unique not_left c = (
-    (λ e. absurd cc),
-    (λ both. absurd (not_left (subst Leaves (sym (unique c both.0)) both.1))),
+  (λ e. absurd cc),
+  (λ both. absurd (not_left (subst Leaves (sym (unique c both.0)) both.1))),
 )

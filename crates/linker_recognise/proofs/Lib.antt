@@ -5,4 +5,5 @@ pub mod LoongArchMade
 pub mod Ppc64Made
 pub mod RiscVMade
 pub mod Same
+pub mod Written
 pub mod X86Made

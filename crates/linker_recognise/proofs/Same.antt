@@ -70,12 +70,11 @@ of_whole Q a b same i h j k ignored =
 pub same_but_row : (row : RelocationKindInfo) (a b : List ℕ) (field : FieldBits) → length a ≡ length b → window_len row ≤ length a
     → field.offset ≡ 0 → HasBitsOf row a field.bits → AreSameBut (is_in field) [] 0 0 a b ↔ AreSameButFor row a b
 same_but_row row a b field lengths room at has =
-    let tests : (i j : ℕ) → is_in field i j ≡ is_in_row row 0 a i j = in_row field row a 0 at has in
-    (
-    (λ same. record {
-      lengths = lengths;
-      room = room;
-      same = λ i h. whole (is_in_row row 0 a) a b (same_by (is_in field) (is_in_row row 0 a) [] 0 0 a b tests same) i (omega arith);
-    }),
-    (λ same. same_by (is_in_row row 0 a) (is_in field) [] 0 0 a b (λ i j. sym (tests i j)) (of_whole (is_in_row row 0 a) a b (λ i h. same.same i (omega arith)))),
+    let tests : (i j : ℕ) → is_in field i j ≡ is_in_row row 0 a i j = in_row field row a 0 at has in (
+      (λ same. record {
+        lengths = lengths;
+        room = room;
+        same = λ i h. whole (is_in_row row 0 a) a b (same_by (is_in field) (is_in_row row 0 a) [] 0 0 a b tests same) i (omega arith);
+      }),
+      (λ same. same_by (is_in_row row 0 a) (is_in field) [] 0 0 a b (λ i j. sym (tests i j)) (of_whole (is_in_row row 0 a) a b (λ i h. same.same i (omega arith)))),
     )

@@ -5,4 +5,5 @@ pub mod LoongArchRecognised
 pub mod Ppc64Recognised
 pub mod RiscVRecognised
 pub mod X86Recognised
+pub mod WrittenFields
 pub mod Inner

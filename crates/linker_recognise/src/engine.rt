@@ -12,7 +12,7 @@ ghost use Rattle.linker_utils.specs.declared.riscv64.rewrites.DeletedBytes.{Dele
 ghost use Rattle.linker_utils.specs.declared.elf.choice.Choice.{Choice};
 
 use crate::candidates::CANDIDATES;
-use crate::fields::{FieldBits, are_same_but, field_bits};
+use crate::fields::{FieldBits, are_same_but};
 use linker_elf::elf::{InstructionRewrite, Row};
 use linker_utils::elf::Choice;
 use linker_utils::riscv64::DeletedBytes;
@@ -22,23 +22,16 @@ pub const MAX_WINDOW: usize = 64;
 
 /// The bits of a relocation's field at an offset, if its window is there. A relocation without a row
 /// has no bits.
-#[tactic(auto, using(crate::proofs::Same::in_row, crate::proofs::Same::in_none))]
+#[tactic(auto, using(crate::proofs::Same::in_none))]
 fn field_at(row: &Option<Row>, at: u64, bytes: &[u8]) -> Option<FieldBits>
     ensures some { IfSome result (λ field. HasField row.now at bytes.now
         × ((i j : ℕ) → is_in field i j ≡ is_in_field row.now at bytes.now i j)) }
     ensures none { IfNone result (HasField row.now at bytes.now → ⊥) }
 {
-    let Some(row) = row else {
-        return Some(FieldBits { offset: 0, bits: 0 });
-    };
-    let window = row.window();
-    if bytes.len() < window || at > (bytes.len() - window) as u64 {
-        return None;
+    match row {
+        Some(row) => FieldBits::of_row(row, at, bytes),
+        None => Some(FieldBits { offset: 0, bits: 0 }),
     }
-    Some(FieldBits {
-        offset: at,
-        bits: field_bits(row, &bytes[at as usize..]),
-    })
 }
 
 /// Where the deleted bytes begin, at most 2^64 - 1, and how many they are.
@@ -48,7 +41,10 @@ fn deleted_at(deleted: Option<DeletedBytes>, offset: u64) -> (u64, u64)
     ensures count { result.1 ≡ deleted_count deleted }
 {
     match deleted {
-        Some(deleted) => (offset.saturating_add(deleted.start), u64::from(deleted.count)),
+        Some(deleted) => (
+            offset.saturating_add(deleted.start),
+            u64::from(deleted.count),
+        ),
         None => (0, 0),
     }
 }

@@ -1,6 +1,7 @@
 //! The bits of a relocation's field, and bytes that differ in such bits only.
 
 ghost use Rattle.std.specs.Prelude.{◌≡◌, ℕ, ◌+◌, ◌-◌, ◌*◌, ◌<◌, ◌≤◌, ◌==◌, ◌↔◌, IsTrue, length};
+ghost use Rattle.std.specs.Prelude.{IfSome, IfNone};
 ghost use Rattle.std.specs.Prelude.{◌^◌, ◌||◌};
 ghost use Rattle.std.specs.Int.{bit_at, byte_len};
 ghost use Rattle.linker_base.specs.Form.{window_of};
@@ -8,7 +9,7 @@ ghost use Rattle.linker_elf.specs.Elf.{relocation_form};
 ghost use Rattle.linker_elf.specs.Relocate.{window_len, is_dq_form};
 ghost use Rattle.linker_recognise.specs.Fields.{is_field_bit, is_instruction_bit, is_in, is_in_one};
 ghost use Rattle.linker_recognise.specs.Fields.{IsSameBut, AreSameButFor};
-ghost use Rattle.linker_recognise.specs.Fields.{AreSameBut, kept_index};
+ghost use Rattle.linker_recognise.specs.Fields.{AreSameBut, kept_index, is_in_row};
 ghost use Rattle.linker_recognise.specs.Inner.Masks.{instruction_mask, bytes_mask, number_mask};
 ghost use Rattle.linker_recognise.specs.Inner.Masks.{field_mask};
 
@@ -171,6 +172,35 @@ pub fn field_bits(row: &Row, bytes: &[u8]) -> u64
 }
 
 impl FieldBits {
+    /// The bits that a write of a row at an offset of a window may change. None if the row's window
+    /// isn't there.
+    ///
+    /// ```
+    /// use linker_recognise::fields::FieldBits;
+    /// use linker_utils::riscv64::{RiscVRelocation, row};
+    ///
+    /// // the immediate of a `jal` after two bytes
+    /// let row = row(RiscVRelocation::R_RISCV_JAL).unwrap();
+    /// let jal = [0x01, 0x00, 0xef, 0x00, 0x00, 0x00];
+    /// let field = FieldBits::of_row(&row, 2, &jal).unwrap();
+    /// assert_eq!((field.offset, field.bits), (2, 0xffff_f000));
+    /// ```
+    #[tactic(auto, using(crate::proofs::Same::in_row))]
+    pub fn of_row(row: &Row, offset: u64, window: &[u8]) -> Option<FieldBits>
+        ensures some { IfSome result (λ field. (offset + window_len row.now ≤ length window.now)
+            × ((i j : ℕ) → is_in field i j ≡ is_in_row row.now offset window.now i j)) }
+        ensures none { IfNone result (length window.now < offset + window_len row.now) }
+    {
+        let row_window = row.window();
+        if window.len() < row_window || offset > (window.len() - row_window) as u64 {
+            return None;
+        }
+        Some(FieldBits {
+            offset,
+            bits: field_bits(row, &window[offset as usize..]),
+        })
+    }
+
     /// Whether a bit of a byte of the window is one of these. The byte counts from the window's first
     /// one, and bit 0 is its lowest.
     #[inline(always)]

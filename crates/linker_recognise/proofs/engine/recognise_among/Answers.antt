@@ -9,12 +9,19 @@ pub returns : goal.returns
 returns g c = λ xs e.
     let list = six c.args.choices c.requires.six c.index-choices-0.result c.index-choices-1.result c.index-choices-2.result c.index-choices-3.result c.index-choices-4.result c.index-choices-5.result in
     let holds : Choice g.row.K.Denot g.row.R.Denot → Type 0 = λ chosen. g.K.Kind.matches chosen.kind c.args.original.now c.args.offset
-        × IsLeft (g.K.InstructionRewrite.rewrite chosen.kind) (g.R.Name.row_of chosen.relocation) (g.K.Kind.deleted chosen.kind) c.args.original.now c.args.offset c.args.others.now c.args.linked.now in
+    × IsLeft (g.K.InstructionRewrite.rewrite chosen.kind) (g.R.Name.row_of chosen.relocation) (g.K.Kind.deleted chosen.kind) c.args.original.now c.args.offset c.args.others.now c.args.linked.now in
     those_made xs g.K.Kind.matches
     (λ (chosen : Choice g.row.K.Denot g.row.R.Denot). IsLeft (g.K.InstructionRewrite.rewrite chosen.kind) (g.R.Name.row_of chosen.relocation) (g.K.Kind.deleted chosen.kind))
     c.args.original.now c.args.offset c.args.others.now c.args.linked.now _
     (subst (λ (l : List (Option (Choice g.row.K.Denot g.row.R.Denot))). AreKept holds None None l
-        (c.kept_once.result ∷ c.kept_once-2.result ∷ c.kept_once-3.result ∷ c.kept_once-4.result ∷ c.kept_once-5.result ∷ c.kept_once-6.result ∷ []))
-    (sym list ∙ e)
-    (c.kept_once.ensures, (c.kept_once-2.ensures, (c.kept_once-3.ensures,
-    (c.kept_once-4.ensures, (c.kept_once-5.ensures, (c.kept_once-6.ensures, tt)))))))
+    (c.kept_once.result ∷ c.kept_once-2.result ∷ c.kept_once-3.result ∷ c.kept_once-4.result ∷ c.kept_once-5.result ∷ c.kept_once-6.result ∷ []))
+    (sym list ∙ e) (
+      c.kept_once.ensures,
+      (
+        c.kept_once-2.ensures,
+        (
+          c.kept_once-3.ensures,
+          (c.kept_once-4.ensures, (c.kept_once-5.ensures, (c.kept_once-6.ensures, tt))),
+        ),
+      ),
+    ))

@@ -1,0 +1,32 @@
+-- What a write of a relocation's value leaves is what is recognised.
+use Rattle.std.specs.Prelude.{◌≡◌, ◌≤◌, ℕ, List, ◌++◌, length, take, drop, ℤ, Some}
+use Rattle.linker_base.specs.Rewrite.{CanRewrite, rewritten, offset_after}
+use Rattle.linker_elf.specs.Relocate.{WritesRow}
+use Rattle.linker_elf.specs.X86Relocations.{x86_64_row}
+use Rattle.linker_elf.specs.declared.elf.RelocationKindInfo.{RelocationKindInfo}
+use Rattle.linker_elf.specs.declared.x86_64.relocations.X86_64Relocation.{X86_64Relocation}
+use Rattle.linker_recognise.specs.Fields.{AreSameButFor}
+use Rattle.linker_recognise.specs.X86Recognised.{X86Choice, X86Leaves}
+use Rattle.linker_recognise.specs.declared.fields.FieldBits.{FieldBits}
+use Rattle.linker_utils.specs.X86.{x86_64_rewrite}
+
+-- a write changes bits of the row's field only
+abbrev pub WritesField : RelocationKindInfo → Type 0
+WritesField row =
+    (v : ℤ) (before after : List ℕ) → WritesRow row v before after → AreSameButFor row before after
+
+-- Where the rewrite of a choice is applied, and then the value of the relocation after it written at
+-- the offset after it, the choice leaves these bytes, whatever else is ignored.
+abbrev pub X86WrittenIsLeft : Type 0
+X86WrittenIsLeft =
+    (c : X86Choice) (row : RelocationKindInfo) (original : List ℕ) (o : ℕ) (v : ℤ)
+    (written : List ℕ) (others : List FieldBits)
+    → x86_64_row c.relocation ≡ Some row
+    → CanRewrite (x86_64_rewrite c.kind) original o
+    → offset_after (x86_64_rewrite c.kind) o ≤ length (rewritten (x86_64_rewrite c.kind) original o)
+    → WritesRow row v
+    (drop (offset_after (x86_64_rewrite c.kind) o) (rewritten (x86_64_rewrite c.kind) original o))
+    written
+    → X86Leaves c original o others
+    (take (offset_after (x86_64_rewrite c.kind) o) (rewritten (x86_64_rewrite c.kind) original o)
+    ++ written)
