@@ -61,7 +61,7 @@ unrounded f n s e small zero =
     ap (λ r. field (sum_64 n r) s e) zero
     ∙ ap (λ y. field y s e) (let same : (n + 0) % 2 ^ 64 ≡ n = omega arith in same)
 
-cast_below : (v : ℤ) → FitsSigned w64 v → cast_unsigned w64 v < 2 ^ 64
+pub cast_below : (v : ℤ) → FitsSigned w64 v → cast_unsigned w64 v < 2 ^ 64
 cast_below (pos n) h = let small : n < 2 ^ 63 = h.sfits in omega arith
 cast_below (negsuc n) h = omega arith
 

@@ -51,10 +51,10 @@ ldst_held x number result is low =
 -- ---- numbers in two's complement
 
 -- from -2 ^ 32 up, below 2 ^ 32
-abbrev IsShort : ℤ → Type 0
+abbrev pub IsShort : ℤ → Type 0
 IsShort z = (neg_ℤ (pos (2 ^ 32)) ≤ℤ z) × (z <ℤ pos (2 ^ 32))
 
-short : (n f : ℕ) → 2 ^ n ≤ 2 ^ 32 → f < 2 ^ n → IsShort (signed n f)
+pub short : (n f : ℕ) → 2 ^ n ≤ 2 ^ 32 → f < 2 ^ n → IsShort (signed n f)
 short n f most small =
     elim (signed_cases n f) [
       | inl a ↦ subst IsShort (sym a.1) (omega (arith, ints), omega (arith, ints))

@@ -124,7 +124,7 @@ proper_bytes n number some inside =
           (mod_below number (2 ^ n) (pow_pos n));
     }
 
-some_of_bytes : (kind : RelocationKind) (n : ℕ) → 0 < n → n < 9
+pub some_of_bytes : (kind : RelocationKind) (n : ℕ) → 0 < n → n < 9
     → (0 < bits_of_bytes kind n) × (bits_of_bytes kind n ≤ 64)
 some_of_bytes kinds.AbsoluteSetWord6 n some few = (omega arith, omega arith)
 some_of_bytes kind n some few = (omega arith, omega arith)

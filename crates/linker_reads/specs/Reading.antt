@@ -1,7 +1,8 @@
 -- What stands in the field of a relocation: which bits of its value, with what was added to it.
 use Rattle.std.specs.Prelude.{ℕ, ◌+◌, ◌-◌, ◌*◌, ◌/◌, ◌%◌, ◌^◌, ◌==◌, Bool, true, false, not, nat_lt}
-use Rattle.std.specs.Prelude.{◌&&◌, if◌then◌else◌, List, length, Option, Some, None, ℤ}
+use Rattle.std.specs.Prelude.{◌&&◌, if◌then◌else◌, List, length, Option, Some, None, IfSome, ℤ}
 use Rattle.std.specs.Int.{w64, cast_unsigned}
+use Rattle.std.specs.Int.RustNames.{FitsSigned}
 use Rattle.std.specs.Int.Signed.{le_z}
 use Rattle.linker_base.specs.Bits.{field}
 use Rattle.linker_base.specs.Form.{window_of}
@@ -9,7 +10,7 @@ use Rattle.linker_base.specs.declared.bit_misc.BitRange.{BitRange}
 use Rattle.linker_elf.specs.AArch64.{movnz}
 use Rattle.linker_elf.specs.Elf.{relocation_form, bit_bounds}
 use Rattle.linker_elf.specs.Reach.{reach_of}
-use Rattle.linker_elf.specs.Relocate.{number_of_bytes, ppc64_reads, window_len}
+use Rattle.linker_elf.specs.Relocate.{number_of_bytes, ppc64_reads, window_len, WritesRow}
 use Rattle.linker_elf.specs.Rows.{Bounds}
 use Rattle.linker_elf.specs.Value.{sum_64, difference_64}
 use Rattle.linker_elf.specs.declared.aarch64.forms.AArch64Instruction.TheVariants.{Adr, Movkz}
@@ -41,6 +42,7 @@ use Rattle.linker_elf.specs.declared.riscv64.forms.RiscVInstruction.TheVariants.
 use Rattle.linker_elf.specs.declared.riscv64.forms.RiscVInstruction.TheVariants.{JType, CbType}
 use Rattle.linker_elf.specs.declared.riscv64.forms.RiscVInstruction.TheVariants.{CjType}
 use Rattle.linker_elf.specs.declared.riscv64.forms.RiscVInstruction.TheVariants.{CluiType, UiType}
+use Rattle.linker_reads.specs.Fields.{IsOfValue}
 use Rattle.linker_reads.specs.declared.fields.FieldValue.{FieldValue}
 
 -- ---- what a field holds
@@ -231,3 +233,9 @@ value_read row bytes =
     then Some (with_alignment row.alignment
     (with_reach (reach_of row) (field_read row.kind row.size (reach_of row) bytes)))
     else None
+
+-- Whatever value was written, it has the bits that are read.
+abbrev pub IsReadBack : RelocationKindInfo → List ℕ → Option FieldValue → Type 0
+IsReadBack row after read =
+    (v : ℤ) (before : List ℕ) → FitsSigned w64 v → WritesRow row v before after
+    → IfSome read (λ f. IsOfValue f v)

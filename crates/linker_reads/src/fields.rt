@@ -1,6 +1,6 @@
 //! Known bits of a number: of a relocation's value, or of an address.
 
-ghost use Rattle.std.specs.Prelude.{◌≡◌, ◌↔◌, IsTrue};
+ghost use Rattle.std.specs.Prelude.{◌≡◌, ◌<◌, ◌^◌, ◌↔◌, IsTrue};
 ghost use Rattle.linker_base.specs.Bits.{field};
 ghost use Rattle.linker_reads.specs.Fields.{IsOf};
 
@@ -33,6 +33,14 @@ pub(crate) fn bits_of(number: u64, start: u8, end: u8) -> u64
     } else {
         above % (1 << (end - start))
     }
+}
+
+/// 2 to a power.
+pub(crate) fn power_of_two(exponent: u8) -> u64
+    requires { exponent < 64 }
+    ensures { result ≡ 2 ^ exponent }
+{
+    1 << exponent
 }
 
 impl FieldValue {

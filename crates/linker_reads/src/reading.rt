@@ -16,8 +16,9 @@ ghost use Rattle.linker_reads.specs.Reading.{holds_value, holds_bits, holds_fiel
 ghost use Rattle.linker_reads.specs.Reading.{are_signed, bits_held, rounding_of, bits_read};
 ghost use Rattle.linker_reads.specs.Reading.{bits_of_bytes, bytes_read, field_read, with_reach};
 ghost use Rattle.linker_reads.specs.Reading.{leaves_one, up_to_sign, with_alignment, value_read};
+ghost use Rattle.linker_reads.specs.Reading.{IsReadBack};
 
-use crate::fields::{FieldValue, bits_of};
+use crate::fields::{FieldValue, bits_of, power_of_two};
 use linker_base::bit_misc::{BitExtraction, BitRange};
 use linker_base::utils::{u32_from_slice, u64_from_slice};
 use linker_elf::elf::{
@@ -353,14 +354,6 @@ fn field_read(row: &RelocationKindInfo, reach: AllowedRange, bytes: &[u8]) -> Fi
     }
 }
 
-/// 2 to a power.
-fn power_of_two(exponent: u8) -> u64
-    requires { exponent < 64 }
-    ensures { result ≡ 2 ^ exponent }
-{
-    1 << exponent
-}
-
 /// Whether the values from `min` up, below `max`, with the known bits differ below the first of
 /// these only.
 fn leaves_one(min: i64, max: i64, field: FieldValue) -> bool
@@ -445,6 +438,7 @@ fn with_alignment(alignment: u64, field: FieldValue) -> FieldValue
 pub fn read(row: &Row, bytes: &[u8]) -> Option<FieldValue>
     ensures value { result ≡ value_read row.now bytes.now }
     ensures proper { IfSome result IsProper }
+    ensures written { IsReadBack row.now bytes.now result }
 {
     read_row(&row.info(), bytes)
 }
@@ -453,6 +447,7 @@ pub fn read(row: &Row, bytes: &[u8]) -> Option<FieldValue>
 pub fn read_row(row: &RelocationKindInfo, bytes: &[u8]) -> Option<FieldValue>
     ensures value { result ≡ value_read row.now bytes.now }
     ensures proper { IfSome result IsProper }
+    ensures written { IsReadBack row.now bytes.now result }
 {
     let reach = row.reach();
     if !holds_field(row.kind, row.size, reach) {

@@ -1,0 +1,13 @@
+use Rattle.std.proofs.Common.{◌≡◌, ◌-◌, ◌<◌, ◌≤◌, ◌^◌, ℕ, arith, rules, subst}
+use Rattle.linker_reads.proofs.Shifts.{taken_off}
+use Rattle.linker_reads.proofs.solving.without_rounding.Goals as goal
+
+pub returns : goal.returns
+returns c = λ n.
+    let f = c.args.field in
+    let start : f.known.start ≡ 0 = c.if-field-ne0.false in
+    let small : f.rounding < 2 ^ 64 = search rules in
+    let size : f.known.end - f.known.start ≡ f.known.end = omega arith in
+    let few : f.bits < 2 ^ f.known.end = subst (λ k. f.bits < 2 ^ k) size c.requires.small in
+    rw (start, c.bits_of.ensures)
+    (taken_off n f.bits f.rounding f.known.end (omega arith) c.requires.inside few)
