@@ -4,3 +4,4 @@
 
 pub mod fields;
 pub mod reading;
+pub mod solving;

@@ -3,7 +3,7 @@
 use linker_utils::architecture::Relaxation;
 use linker_utils::elf::{Architecture, Choice, InstructionRewrite, Operands, RelocationKind, Row};
 use linker_utils::relaxation::RelocationModifier;
-use linker_utils::reading::{FieldValue, read};
+use linker_utils::reading::{FieldValue, read, solve};
 use linker_utils::recognise::{self, FieldBits};
 use linker_utils::{aarch64, loongarch64, ppc64, riscv64, x86_64};
 
@@ -171,18 +171,17 @@ impl Field {
         self.row.value(operands).is_some_and(|value| self.value.is_of(value as u64))
     }
 
-    /// The bits of the number that a symbol's address (or a GOT entry's) has to be, and from which
-    /// bit on and up to which they are known. The operands are those of address 0.
+    /// The symbol's address, and from which bit on and up to which its bits are known.
     pub fn number(&self, operands: &Operands) -> Option<(u64, u8, u8)> {
-        let zero = self.row.value(operands)? as u64;
-        let known = self.value.known;
-        let mut bits = self.value.bits.checked_shl(known.start.into())?;
+        let sum = solve(&self.row.info(), &self.value, operands)?;
+        let known = sum.known;
+        let mut bits = sum.bits.checked_shl(known.start.into())?;
         if known.start > 0 && known.end < 64 {
             // in two's complement
             let above = 64 - u32::from(known.end);
             bits = ((bits << above) as i64 >> above) as u64;
         }
-        let number = bits.wrapping_sub(self.value.rounding).wrapping_sub(zero);
+        let number = bits.wrapping_sub(sum.rounding).wrapping_sub(operands.addend as u64);
         Some((number, known.start, known.end))
     }
 }

@@ -30,6 +30,11 @@ pub(crate) fn bits_of(number: u64, start: u8, end: u8) -> u64 {
     }
 }
 
+/// 2 to a power.
+pub(crate) fn power_of_two(exponent: u8) -> u64 {
+    1 << exponent
+}
+
 impl FieldValue {
     /// Whether a number has the known bits.
     #[must_use]

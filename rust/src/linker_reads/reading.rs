@@ -1,7 +1,7 @@
 // Made by tools/erase of crates/linker_reads/src/reading.rt.
 //! The value of a relocation, read from the bytes at its place.
 
-use crate::linker_reads::fields::{FieldValue, bits_of};
+use crate::linker_reads::fields::{FieldValue, bits_of, power_of_two};
 use crate::linker_base::bit_misc::{BitExtraction, BitRange};
 use crate::linker_base::utils::{u32_from_slice, u64_from_slice};
 use crate::linker_elf::elf::{
@@ -274,11 +274,6 @@ fn field_read(row: &RelocationKindInfo, reach: AllowedRange, bytes: &[u8]) -> Fi
             }
         }
     }
-}
-
-/// 2 to a power.
-fn power_of_two(exponent: u8) -> u64 {
-    1 << exponent
 }
 
 /// Whether the values from `min` up, below `max`, with the known bits differ below the first of

@@ -2,7 +2,7 @@
 //! Whether a choice of a rewrite leaves the linked bytes.
 
 use crate::linker_recognise::candidates::CANDIDATES;
-use crate::linker_recognise::fields::{FieldBits, are_same_but, field_bits};
+use crate::linker_recognise::fields::{FieldBits, are_same_but};
 use crate::linker_elf::elf::{InstructionRewrite, Row};
 use crate::elf::Choice;
 use crate::riscv64::DeletedBytes;
@@ -13,24 +13,20 @@ pub const MAX_WINDOW: usize = 64;
 /// The bits of a relocation's field at an offset, if its window is there. A relocation without a row
 /// has no bits.
 fn field_at(row: &Option<Row>, at: u64, bytes: &[u8]) -> Option<FieldBits> {
-    let Some(row) = row else {
-        return Some(FieldBits { offset: 0, bits: 0 });
-    };
-    let window = row.window();
-    if bytes.len() < window || at > (bytes.len() - window) as u64 {
-        return None;
+    match row {
+        Some(row) => FieldBits::of_row(row, at, bytes),
+        None => Some(FieldBits { offset: 0, bits: 0 }),
     }
-    Some(FieldBits {
-        offset: at,
-        bits: field_bits(row, &bytes[at as usize..]),
-    })
 }
 
 /// Where the deleted bytes begin, at most 2^64 - 1, and how many they are.
 #[inline(always)]
 fn deleted_at(deleted: Option<DeletedBytes>, offset: u64) -> (u64, u64) {
     match deleted {
-        Some(deleted) => (offset.saturating_add(deleted.start), u64::from(deleted.count)),
+        Some(deleted) => (
+            offset.saturating_add(deleted.start),
+            u64::from(deleted.count),
+        ),
         None => (0, 0),
     }
 }

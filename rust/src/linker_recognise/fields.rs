@@ -147,6 +147,31 @@ pub fn field_bits(row: &Row, bytes: &[u8]) -> u64 {
 }
 
 impl FieldBits {
+    /// The bits that a write of a row at an offset of a window may change. None if the row's window
+    /// isn't there.
+    ///
+    /// ```
+    /// use linker_recognise::fields::FieldBits;
+    /// use linker_utils::riscv64::{RiscVRelocation, row};
+    ///
+    /// // the immediate of a `jal` after two bytes
+    /// let row = row(RiscVRelocation::R_RISCV_JAL).unwrap();
+    /// let jal = [0x01, 0x00, 0xef, 0x00, 0x00, 0x00];
+    /// let field = FieldBits::of_row(&row, 2, &jal).unwrap();
+    /// assert_eq!((field.offset, field.bits), (2, 0xffff_f000));
+    /// ```
+    #[must_use]
+    pub fn of_row(row: &Row, offset: u64, window: &[u8]) -> Option<FieldBits> {
+        let row_window = row.window();
+        if window.len() < row_window || offset > (window.len() - row_window) as u64 {
+            return None;
+        }
+        Some(FieldBits {
+            offset,
+            bits: field_bits(row, &window[offset as usize..]),
+        })
+    }
+
     /// Whether a bit of a byte of the window is one of these. The byte counts from the window's first
     /// one, and bit 0 is its lowest.
     #[inline(always)]

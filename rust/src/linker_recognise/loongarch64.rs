@@ -20,17 +20,29 @@ fn candidates(name: LoongArch64Relocation) -> [Option<LoongArchChoice>; CANDIDAT
     let unchanged = choice(RelaxationKind::NoOp, name);
     match name {
         LoongArch64Relocation::R_LARCH_GOT_PC_HI20 => three(
-            choice(RelaxationKind::PcalaToPcaddi, LoongArch64Relocation::R_LARCH_PCREL20_S2),
-            choice(RelaxationKind::NoOp, LoongArch64Relocation::R_LARCH_PCALA_HI20),
+            choice(
+                RelaxationKind::PcalaToPcaddi,
+                LoongArch64Relocation::R_LARCH_PCREL20_S2,
+            ),
+            choice(
+                RelaxationKind::NoOp,
+                LoongArch64Relocation::R_LARCH_PCALA_HI20,
+            ),
             unchanged,
         ),
         LoongArch64Relocation::R_LARCH_GOT_PC_LO12 => three(
             choice(RelaxationKind::Delete, LoongArch64Relocation::R_LARCH_NONE),
-            choice(RelaxationKind::LdToAddi, LoongArch64Relocation::R_LARCH_PCALA_LO12),
+            choice(
+                RelaxationKind::LdToAddi,
+                LoongArch64Relocation::R_LARCH_PCALA_LO12,
+            ),
             unchanged,
         ),
         LoongArch64Relocation::R_LARCH_PCALA_HI20 => two(
-            choice(RelaxationKind::PcalaToPcaddi, LoongArch64Relocation::R_LARCH_PCREL20_S2),
+            choice(
+                RelaxationKind::PcalaToPcaddi,
+                LoongArch64Relocation::R_LARCH_PCREL20_S2,
+            ),
             unchanged,
         ),
         LoongArch64Relocation::R_LARCH_PCALA_LO12
@@ -45,31 +57,58 @@ fn candidates(name: LoongArch64Relocation) -> [Option<LoongArchChoice>; CANDIDAT
             unchanged,
         ),
         LoongArch64Relocation::R_LARCH_TLS_IE_PC_HI20 => three(
-            choice(RelaxationKind::ReplaceWithNop, LoongArch64Relocation::R_LARCH_NONE),
-            choice(RelaxationKind::PcalaToLu12i, LoongArch64Relocation::R_LARCH_TLS_LE_HI20),
+            choice(
+                RelaxationKind::ReplaceWithNop,
+                LoongArch64Relocation::R_LARCH_NONE,
+            ),
+            choice(
+                RelaxationKind::PcalaToLu12i,
+                LoongArch64Relocation::R_LARCH_TLS_LE_HI20,
+            ),
             unchanged,
         ),
         LoongArch64Relocation::R_LARCH_TLS_IE_PC_LO12 => three(
-            choice(RelaxationKind::LowToOriZero, LoongArch64Relocation::R_LARCH_TLS_LE_LO12),
-            choice(RelaxationKind::LowToOri, LoongArch64Relocation::R_LARCH_TLS_LE_LO12),
+            choice(
+                RelaxationKind::LowToOriZero,
+                LoongArch64Relocation::R_LARCH_TLS_LE_LO12,
+            ),
+            choice(
+                RelaxationKind::LowToOri,
+                LoongArch64Relocation::R_LARCH_TLS_LE_LO12,
+            ),
             unchanged,
         ),
         LoongArch64Relocation::R_LARCH_TLS_DESC_PC_HI20 => three(
-            choice(RelaxationKind::PcalaToLu12i, LoongArch64Relocation::R_LARCH_TLS_LE_HI20),
-            choice(RelaxationKind::NoOp, LoongArch64Relocation::R_LARCH_TLS_IE_PC_HI20),
+            choice(
+                RelaxationKind::PcalaToLu12i,
+                LoongArch64Relocation::R_LARCH_TLS_LE_HI20,
+            ),
+            choice(
+                RelaxationKind::NoOp,
+                LoongArch64Relocation::R_LARCH_TLS_IE_PC_HI20,
+            ),
             unchanged,
         ),
         LoongArch64Relocation::R_LARCH_TLS_DESC_PC_LO12 => three(
-            choice(RelaxationKind::LowToOri, LoongArch64Relocation::R_LARCH_TLS_LE_LO12),
-            choice(RelaxationKind::AddiToLd, LoongArch64Relocation::R_LARCH_TLS_IE_PC_LO12),
+            choice(
+                RelaxationKind::LowToOri,
+                LoongArch64Relocation::R_LARCH_TLS_LE_LO12,
+            ),
+            choice(
+                RelaxationKind::AddiToLd,
+                LoongArch64Relocation::R_LARCH_TLS_IE_PC_LO12,
+            ),
             unchanged,
         ),
-        LoongArch64Relocation::R_LARCH_TLS_DESC_LD
-        | LoongArch64Relocation::R_LARCH_TLS_DESC_CALL => {
-            // for local-exec and for initial-exec
-            let erased = choice(RelaxationKind::ReplaceWithNop, LoongArch64Relocation::R_LARCH_NONE);
-            three(erased, erased, unchanged)
-        }
+        LoongArch64Relocation::R_LARCH_TLS_DESC_LD | LoongArch64Relocation::R_LARCH_TLS_DESC_CALL =>
+            {
+                // for local-exec and for initial-exec
+                let erased = choice(
+                    RelaxationKind::ReplaceWithNop,
+                    LoongArch64Relocation::R_LARCH_NONE,
+                );
+                three(erased, erased, unchanged)
+            }
         LoongArch64Relocation::R_LARCH_TLS_LE_LO12_R => two(
             choice(RelaxationKind::BaseToTp, name),
             unchanged,
@@ -98,10 +137,34 @@ impl Name for LoongArch64Relocation {
     }
 
     fn repeats(self, other: LoongArch64Relocation) -> bool {
-        matches!((self, other), (LoongArch64Relocation::R_LARCH_NONE, LoongArch64Relocation::R_LARCH_NONE))
+        matches!(
+            (self, other),
+            (
+                LoongArch64Relocation::R_LARCH_NONE,
+                LoongArch64Relocation::R_LARCH_NONE
+            )
+        )
     }
 }
 
+/// Which rewrites, and relocations after them, a linker may have made at the relocation with a name,
+/// whose offset in the original bytes is given, as `recognise` of `x86_64` says.
+///
+/// A rewrite after which bytes are deleted leaves the others. So the linked window is shorter by the
+/// deleted bytes, and empty if they are all of the original window.
+///
+/// ```
+/// use linker_recognise::loongarch64::recognise;
+/// use linker_utils::loongarch64::{LoongArch64Relocation, RelaxationKind};
+///
+/// // `pcaddu18i ra` and `jirl ra, ra` became `bl 4`
+/// let original = [0x01, 0, 0, 0x1e, 0x21, 0, 0, 0x4c];
+/// let linked = [0, 0x04, 0, 0x54];
+/// let name = LoongArch64Relocation::R_LARCH_CALL36;
+/// let mut choices = recognise(name, &original, 0, &[], &linked).into_iter().flatten();
+/// assert_eq!(choices.next().unwrap().kind, RelaxationKind::CallToBl);
+/// assert!(choices.next().is_none());
+/// ```
 ///
 /// # Requires
 ///
@@ -119,6 +182,8 @@ pub fn recognise(
     recognise_among(candidates(name), original, offset, others, linked)
 }
 
+/// The choice that `choose` makes by what the linker knows, if it leaves the linked bytes, as
+/// `recognise` says.
 ///
 /// # Requires
 ///

@@ -46,36 +46,66 @@ fn candidates(name: Ppc64Relocation) -> [Option<Ppc64Choice>; CANDIDATES] {
             unchanged,
         ),
         Ppc64Relocation::R_PPC64_GOT_TPREL16_LO_DS => two(
-            choice(RelaxationKind::LdToAddisThread, Ppc64Relocation::R_PPC64_TPREL16_HA),
+            choice(
+                RelaxationKind::LdToAddisThread,
+                Ppc64Relocation::R_PPC64_TPREL16_HA,
+            ),
             unchanged,
         ),
         Ppc64Relocation::R_PPC64_TLS => four(
-            choice(RelaxationKind::AddToAddi, Ppc64Relocation::R_PPC64_TPREL16_LO),
-            choice(RelaxationKind::IndexedToD, Ppc64Relocation::R_PPC64_TPREL16_LO),
-            choice(RelaxationKind::IndexedToDs, Ppc64Relocation::R_PPC64_TPREL16_LO_DS),
+            choice(
+                RelaxationKind::AddToAddi,
+                Ppc64Relocation::R_PPC64_TPREL16_LO,
+            ),
+            choice(
+                RelaxationKind::IndexedToD,
+                Ppc64Relocation::R_PPC64_TPREL16_LO,
+            ),
+            choice(
+                RelaxationKind::IndexedToDs,
+                Ppc64Relocation::R_PPC64_TPREL16_LO_DS,
+            ),
             unchanged,
         ),
         Ppc64Relocation::R_PPC64_GOT_TLSGD16_HA => three(
             choice(RelaxationKind::AddisToNop, Ppc64Relocation::R_PPC64_NONE),
-            choice(RelaxationKind::NoOp, Ppc64Relocation::R_PPC64_GOT_TPREL16_HA),
+            choice(
+                RelaxationKind::NoOp,
+                Ppc64Relocation::R_PPC64_GOT_TPREL16_HA,
+            ),
             unchanged,
         ),
         Ppc64Relocation::R_PPC64_GOT_TLSGD16_LO => three(
-            choice(RelaxationKind::AddiToAddisThread, Ppc64Relocation::R_PPC64_TPREL16_HA),
-            choice(RelaxationKind::AddiToLd, Ppc64Relocation::R_PPC64_GOT_TPREL16_LO_DS),
+            choice(
+                RelaxationKind::AddiToAddisThread,
+                Ppc64Relocation::R_PPC64_TPREL16_HA,
+            ),
+            choice(
+                RelaxationKind::AddiToLd,
+                Ppc64Relocation::R_PPC64_GOT_TPREL16_LO_DS,
+            ),
             unchanged,
         ),
         Ppc64Relocation::R_PPC64_TLSGD => three(
-            choice(RelaxationKind::CallToAddi, Ppc64Relocation::R_PPC64_TPREL16_LO),
+            choice(
+                RelaxationKind::CallToAddi,
+                Ppc64Relocation::R_PPC64_TPREL16_LO,
+            ),
             choice(RelaxationKind::CallToAdd, Ppc64Relocation::R_PPC64_NONE),
             unchanged,
         ),
         Ppc64Relocation::R_PPC64_GOT_TLSLD16_LO => two(
-            choice(RelaxationKind::AddiToAddisThread, Ppc64Relocation::R_PPC64_NONE),
+            choice(
+                RelaxationKind::AddiToAddisThread,
+                Ppc64Relocation::R_PPC64_NONE,
+            ),
             unchanged,
         ),
         Ppc64Relocation::R_PPC64_TLSLD => two(
-            choice(RelaxationKind::CallToAddi4096, Ppc64Relocation::R_PPC64_NONE),
+            choice(
+                RelaxationKind::CallToAddi4096,
+                Ppc64Relocation::R_PPC64_NONE,
+            ),
             unchanged,
         ),
         Ppc64Relocation::R_PPC64_REL24 => two(
@@ -110,6 +140,21 @@ impl Name for Ppc64Relocation {
     }
 }
 
+/// Which rewrites, and relocations after them, a linker may have made at the relocation with a name,
+/// whose offset in the original bytes is given, as `recognise` of `x86_64` says.
+///
+/// ```
+/// use linker_recognise::ppc64::recognise;
+/// use linker_utils::ppc64::{Ppc64Relocation, RelaxationKind};
+///
+/// // `ld 3, x@got@l(3)` became `addi 3, 3, 16`
+/// let original = [0, 0, 0x63, 0xe8];
+/// let linked = [0x10, 0, 0x63, 0x38];
+/// let name = Ppc64Relocation::R_PPC64_GOT16_LO_DS;
+/// let mut choices = recognise(name, &original, 0, &[], &linked).into_iter().flatten();
+/// assert_eq!(choices.next().unwrap().kind, RelaxationKind::LdToAddi);
+/// assert!(choices.next().is_none());
+/// ```
 ///
 /// # Requires
 ///
@@ -127,6 +172,8 @@ pub fn recognise(
     recognise_among(candidates(name), original, offset, others, linked)
 }
 
+/// The choice that `choose` makes by what the linker knows, if it leaves the linked bytes, as
+/// `recognise` says.
 ///
 /// # Requires
 ///

@@ -18,8 +18,7 @@ fn choice(kind: RelaxationKind, relocation: RiscVRelocation) -> RiscVChoice {
 fn candidates(name: RiscVRelocation) -> [Option<RiscVChoice>; CANDIDATES] {
     let unchanged = choice(RelaxationKind::NoOp, name);
     match name {
-        RiscVRelocation::R_RISCV_CALL
-        | RiscVRelocation::R_RISCV_CALL_PLT => four(
+        RiscVRelocation::R_RISCV_CALL | RiscVRelocation::R_RISCV_CALL_PLT => four(
             choice(RelaxationKind::TailToCJ, RiscVRelocation::R_RISCV_RVC_JUMP),
             choice(RelaxationKind::TailToJal, RiscVRelocation::R_RISCV_JAL),
             choice(RelaxationKind::CallToJal, RiscVRelocation::R_RISCV_JAL),
@@ -66,6 +65,24 @@ impl Name for RiscVRelocation {
     }
 }
 
+/// Which rewrites, and relocations after them, a linker may have made at the relocation with a name,
+/// whose offset in the original bytes is given, as `recognise` of `x86_64` says.
+///
+/// A rewrite after which bytes are deleted leaves the others. So the linked window is shorter by the
+/// deleted bytes, and empty if they are all of the original window.
+///
+/// ```
+/// use linker_recognise::riscv64::recognise;
+/// use linker_utils::riscv64::{RelaxationKind, RiscVRelocation};
+///
+/// // `auipc ra, 0` and `jalr ra, 0(ra)` became `jal ra, 256`
+/// let original = [0x97, 0, 0, 0, 0xe7, 0x80, 0, 0];
+/// let linked = [0xef, 0, 0, 0x10];
+/// let name = RiscVRelocation::R_RISCV_CALL_PLT;
+/// let mut choices = recognise(name, &original, 0, &[], &linked).into_iter().flatten();
+/// assert_eq!(choices.next().unwrap().kind, RelaxationKind::CallToJal);
+/// assert!(choices.next().is_none());
+/// ```
 ///
 /// # Requires
 ///
@@ -83,6 +100,8 @@ pub fn recognise(
     recognise_among(candidates(name), original, offset, others, linked)
 }
 
+/// The choice that `choose` makes by what the linker knows, if it leaves the linked bytes, as
+/// `recognise` says.
 ///
 /// # Requires
 ///

