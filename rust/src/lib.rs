@@ -23,6 +23,8 @@ mod errors;
 mod linker_base;
 mod linker_elf;
 mod linker_pack;
+mod linker_reads;
+mod linker_recognise;
 mod linker_relax;
 mod linker_runs;
 pub mod names;
@@ -35,6 +37,22 @@ pub mod runs {
     pub use crate::linker_pack::packing;
     pub use crate::linker_relax::{relaxation, shapes};
     pub use crate::linker_runs::{items, loongarch64, riscv64};
+}
+
+/// What stands in the fields of relocations: the bits of a value that are known from linked bytes,
+/// and the addresses that have such a value.
+pub mod reading {
+    pub use crate::linker_reads::fields::FieldValue;
+    pub use crate::linker_reads::reading::{read, read_row};
+    pub use crate::linker_reads::solving::{Origin, Reference, Terms, join, solve, terms_of};
+}
+
+/// What a linker made of a relocation, by the bytes before and after: which rewrite, and which
+/// relocation it then wrote.
+pub mod recognise {
+    pub use crate::linker_recognise::fields::{FieldBits, field_bits, same_but_for};
+    pub use crate::linker_recognise::{CANDIDATES, MAX_WINDOW};
+    pub use crate::linker_recognise::{aarch64, loongarch64, ppc64, riscv64, x86_64};
 }
 
 pub mod aarch64;

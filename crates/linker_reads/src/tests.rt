@@ -33,11 +33,11 @@ fn address(rt: &impl Abort, row: Option<Row>, place: u64, word: u32) -> FieldVal
 #[test]
 fn calls_lead_to_their_targets(rt: HostRuntime) {
     let call = aarch64::row(AArch64Relocation::R_AARCH64_CALL26);
-    assert!(&rt; address(&rt, call, 0x402000, 0x97ff_f400).number() == Some(F));
+    assert!(rt; address(&rt, call, 0x402000, 0x97ff_f400).number() == Some(F));
     let jal = riscv64::row(RiscVRelocation::R_RISCV_JAL);
-    assert!(&rt; address(&rt, jal, 0x402008, 0xff9f_c0ef).number() == Some(F));
+    assert!(rt; address(&rt, jal, 0x402008, 0xff9f_c0ef).number() == Some(F));
     let bl = loongarch64::row(LoongArch64Relocation::R_LARCH_B26);
-    assert!(&rt; address(&rt, bl, 0x402000, 0x57d0_03ff).number() == Some(F));
+    assert!(rt; address(&rt, bl, 0x402000, 0x57d0_03ff).number() == Some(F));
 }
 
 #[test]
@@ -48,27 +48,27 @@ fn two_halves_are_one_address(rt: HostRuntime) {
     let high = address(&rt, high, 0x401ff8, 0xd000_1fe0);
     let low = address(&rt, low, 0x401ffc, 0x9120_0000);
     let whole = join(&high, &low).expect(&rt, "the halves meet");
-    assert!(&rt; whole.number() == Some(V));
+    assert!(rt; whole.number() == Some(V));
     // `auipc` and `addi`, whose place is that of the `auipc`
     let high = riscv64::row(RiscVRelocation::R_RISCV_PCREL_HI20);
     let low = riscv64::row(RiscVRelocation::R_RISCV_PCREL_LO12_I);
     let high = address(&rt, high, 0x401ff8, 0x003f_e517);
     let low = address(&rt, low, 0x401ff8, 0x8085_0513);
     let whole = join(&high, &low).expect(&rt, "the halves meet");
-    assert!(&rt; whole.number() == Some(V));
+    assert!(rt; whole.number() == Some(V));
     // `lis` and `addi`
     let high = ppc64::row(Ppc64Relocation::R_PPC64_ADDR16_HA);
     let low = ppc64::row(Ppc64Relocation::R_PPC64_ADDR16_LO);
     let high = address(&rt, high, 0x402000, 0x3c80_0080);
     let low = address(&rt, low, 0x402004, 0x3884_f800);
     let whole = join(&high, &low).expect(&rt, "the halves meet");
-    assert!(&rt; whole.number() == Some(V));
+    assert!(rt; whole.number() == Some(V));
     // `pcalau12i` and `addi.d`: nothing checks the high half, so bits 0 to 31 are known
     let high = loongarch64::row(LoongArch64Relocation::R_LARCH_PCALA_HI20);
     let low = loongarch64::row(LoongArch64Relocation::R_LARCH_PCALA_LO12);
     let high = address(&rt, high, 0x401ff8, 0x1a00_7fe4);
     let low = address(&rt, low, 0x401ffc, 0x02e0_0084);
     let whole = join(&high, &low).expect(&rt, "the halves meet");
-    assert!(&rt; whole.is_of(V));
-    assert!(&rt; !whole.is_of(V + 1));
+    assert!(rt; whole.is_of(V));
+    assert!(rt; !whole.is_of(V + 1));
 }

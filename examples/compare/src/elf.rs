@@ -1,0 +1,328 @@
+//! Relocatable objects, archives of them, and linked files.
+
+use linker_utils::elf::Architecture;
+use object::LittleEndian;
+use object::elf::{self, FileHeader64};
+use object::read::archive::ArchiveFile;
+use object::read::elf::{FileHeader, ProgramHeader, Rela, SectionHeader, Sym};
+use std::collections::HashMap;
+
+/// Why a file can't be read, in a sentence without its name.
+pub type Reason = String;
+
+const LE: LittleEndian = LittleEndian;
+type Head = FileHeader64<LittleEndian>;
+
+pub struct Relocation {
+    /// An offset in its section.
+    pub offset: u64,
+    /// `r_type`.
+    pub code: u32,
+    /// An index of the object's symbols.
+    pub symbol: usize,
+    pub addend: i64,
+}
+
+pub struct Section<'a> {
+    pub name: String,
+    /// Empty where the file has no bytes for it.
+    pub bytes: &'a [u8],
+    pub size: u64,
+    pub is_allocated: bool,
+    /// In the order of their offsets.
+    pub relocations: Vec<Relocation>,
+}
+
+#[derive(Clone, Copy, PartialEq, Eq)]
+pub enum Home {
+    Undefined,
+    Absolute,
+    Common,
+    Section(usize),
+}
+
+pub struct Symbol {
+    pub name: String,
+    pub home: Home,
+    /// Of a symbol in a section its offset there.
+    pub value: u64,
+    pub size: u64,
+    pub kind: u8,
+    pub is_local: bool,
+    pub is_weak: bool,
+    /// `st_other`.
+    pub other: u8,
+}
+
+pub struct Object<'a> {
+    pub path: String,
+    pub architecture: Architecture,
+    pub sections: Vec<Section<'a>>,
+    pub symbols: Vec<Symbol>,
+}
+
+pub struct Linked<'a> {
+    pub architecture: Architecture,
+    /// Address and bytes, by address.
+    segments: Vec<(u64, &'a [u8])>,
+    /// The addresses of each name of global symbols, and of local ones in the table's order.
+    pub globals: HashMap<String, Definition>,
+    pub locals: HashMap<String, Vec<u64>>,
+    /// Address and name, by address.
+    pub by_address: Vec<(u64, String)>,
+    /// The words of the GOT: what each leads to, and its address.
+    pub got: Vec<(u64, Entry)>,
+    /// The entries of each content.
+    pub got_of: HashMap<u64, Vec<u64>>,
+    /// Where the GOT begins.
+    pub got_start: u64,
+}
+
+#[derive(Clone, Copy)]
+pub struct Definition {
+    pub address: u64,
+    pub other: u8,
+}
+
+/// What a GOT entry leads to.
+#[derive(Clone, PartialEq)]
+pub enum Entry {
+    Address(u64),
+    /// By the name of a dynamic relocation's symbol.
+    Symbol(String),
+}
+
+fn text(bytes: &[u8]) -> String {
+    String::from_utf8_lossy(bytes).into_owned()
+}
+
+fn because(error: object::read::Error) -> Reason {
+    format!("{error}")
+}
+
+fn head<'a>(bytes: &'a [u8]) -> Result<(&'a Head, Architecture), Reason> {
+    if bytes.len() < 20 || !bytes.starts_with(&elf::ELFMAG) {
+        return Err("this isn't an ELF file".into());
+    }
+    if bytes[4] != elf::ELFCLASS64 || bytes[5] != elf::ELFDATA2LSB {
+        return Err("only 64-bit files with little-endian data are read".into());
+    }
+    let head = Head::parse(bytes).map_err(because)?;
+    let machine = head.e_machine.get(LE);
+    let architecture = Architecture::from_machine(machine)
+        .ok_or_else(|| format!("the machine {machine} isn't one that is known"))?;
+    Ok((head, architecture))
+}
+
+fn symbols_of(
+    head: &Head,
+    bytes: &[u8],
+    table: u32,
+) -> Result<Vec<Symbol>, Reason> {
+    let sections = head.sections(LE, bytes).map_err(because)?;
+    let symbols = sections.symbols(LE, bytes, table).map_err(because)?;
+    let mut all = Vec::with_capacity(symbols.len());
+    for (index, symbol) in symbols.iter().enumerate() {
+        let home = match symbol.st_shndx(LE) {
+            elf::SHN_UNDEF => Home::Undefined,
+            elf::SHN_ABS => Home::Absolute,
+            elf::SHN_COMMON => Home::Common,
+            _ => match symbols.symbol_section(LE, symbol, index).map_err(because)? {
+                Some(at) if at.0 < sections.len() => Home::Section(at.0),
+                Some(_) => return Err("a symbol is in a section that isn't there".into()),
+                None => Home::Absolute,
+            },
+        };
+        all.push(Symbol {
+            name: text(symbol.name(LE, symbols.strings()).map_err(because)?),
+            home,
+            value: symbol.st_value(LE),
+            size: symbol.st_size(LE),
+            kind: symbol.st_type(),
+            is_local: symbol.st_bind() == elf::STB_LOCAL,
+            is_weak: symbol.st_bind() == elf::STB_WEAK,
+            other: symbol.st_other(),
+        });
+    }
+    Ok(all)
+}
+
+fn read_object<'a>(path: String, bytes: &'a [u8]) -> Result<Object<'a>, Reason> {
+    let (head, architecture) = head(bytes)?;
+    if head.e_type.get(LE) != elf::ET_REL {
+        return Err("this isn't a relocatable object".into());
+    }
+    let table = head.sections(LE, bytes).map_err(because)?;
+    let symbols = symbols_of(head, bytes, elf::SHT_SYMTAB)?;
+    if symbols.is_empty() {
+        return Err("it has no symbol table".into());
+    }
+    let mut sections = Vec::with_capacity(table.len());
+    for section in table.iter() {
+        let is_empty = section.sh_type(LE) == elf::SHT_NULL;
+        let data = section.data(LE, bytes).map_err(because)?;
+        sections.push(Section {
+            name: text(table.section_name(LE, section).map_err(because)?),
+            bytes: if is_empty { &[] } else { data },
+            size: section.sh_size(LE),
+            is_allocated: section.sh_flags(LE) & u64::from(elf::SHF_ALLOC) != 0,
+            relocations: Vec::new(),
+        });
+    }
+    for section in table.iter() {
+        if section.sh_type(LE) == elf::SHT_REL {
+            return Err("relocations without addends aren't read".into());
+        }
+        let Some((all, _)) = section.rela(LE, bytes).map_err(because)? else {
+            continue;
+        };
+        let target = section.sh_info(LE) as usize;
+        let Some(target) = sections.get_mut(target) else {
+            return Err("relocations are of a section that isn't there".into());
+        };
+        for one in all {
+            let symbol = one.r_sym(LE, false) as usize;
+            if symbol >= symbols.len() {
+                return Err("a relocation's symbol isn't there".into());
+            }
+            let offset = one.r_offset(LE);
+            if offset > target.size {
+                return Err("a relocation is past the end of its section".into());
+            }
+            target.relocations.push(Relocation {
+                offset,
+                code: one.r_type(LE, false),
+                symbol,
+                addend: one.r_addend(LE),
+            });
+        }
+        target.relocations.sort_by_key(|one| one.offset);
+    }
+    Ok(Object { path, architecture, sections, symbols })
+}
+
+/// The object of a file, or those of an archive.
+pub fn read_objects<'a>(path: &str, bytes: &'a [u8]) -> Result<Vec<Object<'a>>, Reason> {
+    if !bytes.starts_with(b"!<arch>\n") {
+        return Ok(vec![read_object(path.into(), bytes)?]);
+    }
+    let archive = ArchiveFile::parse(bytes).map_err(because)?;
+    let mut objects = Vec::new();
+    for member in archive.members() {
+        let member = member.map_err(because)?;
+        let name = format!("{path}({})", text(member.name()));
+        let data = member.data(bytes).map_err(because)?;
+        objects.push(read_object(name.clone(), data).map_err(|reason| format!("{name}: {reason}"))?);
+    }
+    Ok(objects)
+}
+
+fn words(address: u64, bytes: &[u8]) -> impl Iterator<Item = (u64, u64)> + '_ {
+    bytes.as_chunks::<8>().0.iter().enumerate().map(move |(index, word)| {
+        (address.wrapping_add(8 * index as u64), u64::from_le_bytes(*word))
+    })
+}
+
+pub fn read_linked<'a>(bytes: &'a [u8]) -> Result<Linked<'a>, Reason> {
+    let (head, architecture) = head(bytes)?;
+    if !matches!(head.e_type.get(LE), elf::ET_EXEC | elf::ET_DYN) {
+        return Err("this isn't a linked file".into());
+    }
+    let mut segments = Vec::new();
+    for segment in head.program_headers(LE, bytes).map_err(because)? {
+        if segment.p_type(LE) == elf::PT_LOAD && segment.p_filesz(LE) != 0 {
+            let data = segment.data(LE, bytes);
+            let data = data.map_err(|()| "a segment ends past the file's end".to_string())?;
+            segments.push((segment.p_vaddr(LE), data));
+        }
+    }
+    segments.sort_by_key(|(address, _)| *address);
+    let table = head.sections(LE, bytes).map_err(because)?;
+    let symbols = symbols_of(head, bytes, elf::SHT_SYMTAB)?;
+    if symbols.is_empty() {
+        return Err("it has no symbol table".into());
+    }
+    let (mut globals, mut locals) = (HashMap::new(), HashMap::<String, Vec<u64>>::new());
+    let mut by_address = Vec::new();
+    for symbol in symbols {
+        let is_other = matches!(symbol.kind, elf::STT_SECTION | elf::STT_FILE);
+        if symbol.home == Home::Undefined || symbol.name.is_empty() || is_other {
+            continue;
+        }
+        if symbol.is_local {
+            locals.entry(symbol.name.clone()).or_default().push(symbol.value);
+        } else {
+            let definition = Definition { address: symbol.value, other: symbol.other };
+            globals.entry(symbol.name.clone()).or_insert(definition);
+        }
+        if symbol.kind != elf::STT_TLS {
+            by_address.push((symbol.value, symbol.name));
+        }
+    }
+    // of symbols at one address those come first whose names are no compiler's labels
+    by_address.sort_by(|(a, one), (b, other)| {
+        (a, one.starts_with(['.', '$']), one).cmp(&(b, other.starts_with(['.', '$']), other))
+    });
+    let mut moved = HashMap::new();
+    for section in table.iter().filter(|section| section.sh_flags(LE) & 2 != 0) {
+        let Some((all, link)) = section.rela(LE, bytes).map_err(because)? else {
+            continue;
+        };
+        let names = table.symbol_table_by_index(LE, bytes, link).ok();
+        for one in all {
+            let entry = match (one.r_sym(LE, false) as usize, &names) {
+                (0, _) => Entry::Address(one.r_addend(LE) as u64),
+                (index, Some(names)) => {
+                    let symbol = names.symbol(index).map_err(because)?;
+                    let name = symbol.name(LE, names.strings()).map_err(because)?;
+                    Entry::Symbol(text(name))
+                }
+                _ => continue,
+            };
+            moved.insert(one.r_offset(LE), entry);
+        }
+    }
+    let mut got = Vec::new();
+    let mut got_start = None;
+    for section in table.iter() {
+        let name = table.section_name(LE, section).map_err(because)?;
+        if !name.starts_with(b".got") || section.sh_type(LE) != elf::SHT_PROGBITS {
+            continue;
+        }
+        let address = section.sh_addr(LE);
+        got_start.get_or_insert(address);
+        for (at, word) in words(address, section.data(LE, bytes).map_err(because)?) {
+            got.push((at, moved.get(&at).cloned().unwrap_or(Entry::Address(word))));
+        }
+    }
+    got.sort_by_key(|(at, _)| *at);
+    let mut got_of = HashMap::<u64, Vec<u64>>::new();
+    for (at, entry) in &got {
+        let content = match entry {
+            Entry::Address(address) => Some(*address),
+            Entry::Symbol(name) => globals.get(name).map(|one: &Definition| one.address),
+        };
+        if let Some(content) = content {
+            got_of.entry(content).or_default().push(*at);
+        }
+    }
+    let got_start = got_start.unwrap_or(0);
+    Ok(Linked { architecture, segments, globals, locals, by_address, got, got_of, got_start })
+}
+
+impl Linked<'_> {
+    /// The bytes from an address on, to the end of what the file has there.
+    pub fn bytes_at(&self, address: u64) -> Option<&[u8]> {
+        let after = self.segments.partition_point(|(start, _)| *start <= address);
+        let (start, bytes) = self.segments[..after].last()?;
+        bytes.get(usize::try_from(address - start).ok()?..).filter(|rest| !rest.is_empty())
+    }
+
+    /// The symbol at or before an address, and how far it is behind it.
+    pub fn name_at(&self, address: u64) -> Option<(&str, u64)> {
+        let after = self.by_address.partition_point(|(start, _)| *start <= address);
+        let at = self.by_address[..after].last()?.0;
+        let first = self.by_address.partition_point(|(start, _)| *start < at);
+        Some((&self.by_address[first].1, address - at))
+    }
+}

@@ -1,0 +1,89 @@
+//! Compares what two linkers made of each relocation of the same objects.
+
+pub mod elf;
+mod made;
+pub mod report;
+mod walk;
+
+use linker_utils::elf::Architecture;
+use walk::{Made, Side};
+
+/// A relocation, and what each linker made of it.
+pub struct Line {
+    pub object: String,
+    /// The symbol before it and the distance, or the section and the offset.
+    pub place: String,
+    pub architecture: Architecture,
+    pub relocation: u32,
+    /// The symbol and the addend.
+    pub symbol: String,
+    pub made: [Made; 2],
+}
+
+impl Line {
+    pub fn is_same(&self) -> bool {
+        self.made[0] == self.made[1]
+    }
+}
+
+/// What was compared.
+#[derive(Default)]
+pub struct Counts {
+    pub relocations: usize,
+    pub different: usize,
+    /// Those whose place is known in neither file.
+    pub nowhere: usize,
+}
+
+/// Compares the relocations of the objects in two linked files. `step` is called with how much is
+/// done and how much there is.
+pub fn compare<'a>(
+    objects: &'a [elf::Object<'a>],
+    files: [&'a elf::Linked<'a>; 2],
+    step: &dyn Fn(u64, u64),
+    mut each: impl FnMut(Line),
+) -> Counts {
+    let definers = walk::definers(objects);
+    let sections: usize = objects.iter().map(|object| object.sections.len()).sum();
+    let (total, done) = (4 * sections as u64, std::cell::Cell::new(0));
+    let advance = || {
+        done.set(done.get() + 1);
+        step(done.get().min(total), total);
+    };
+    let mut sides = files.map(|file| Side::new(file, objects, &definers));
+    for side in &mut sides {
+        side.locate(&advance);
+    }
+    let mut counts = Counts::default();
+    for (at, object) in objects.iter().enumerate() {
+        for (index, section) in object.sections.iter().enumerate() {
+            advance();
+            if !section.is_allocated || section.relocations.is_empty() {
+                continue;
+            }
+            let names = report::names_of(object, index);
+            let [a, b] = &mut sides;
+            let both = a.walk(at, index).into_iter().zip(b.walk(at, index));
+            for (one, (a, b)) in section.relocations.iter().zip(both) {
+                if made::is_mark(object.architecture, one.code) {
+                    continue;
+                }
+                if a == Made::Nowhere && b == Made::Nowhere {
+                    counts.nowhere += 1;
+                    continue;
+                }
+                counts.relocations += 1;
+                counts.different += usize::from(a != b);
+                each(Line {
+                    object: object.path.clone(),
+                    place: report::place(&names, &section.name, one.offset),
+                    architecture: object.architecture,
+                    relocation: one.code,
+                    symbol: report::symbol(object, one),
+                    made: [a, b],
+                });
+            }
+        }
+    }
+    counts
+}

@@ -1,0 +1,190 @@
+//! `compare OBJECT.. A B`: see `HELP`.
+
+use compare::{Line, compare, elf, report};
+use console::{Style, Term};
+use indicatif::{ProgressBar, ProgressDrawTarget, ProgressStyle};
+use std::cell::{Cell, OnceCell};
+use std::ffi::OsString;
+use std::io::{self, BufWriter, Write};
+use std::process::ExitCode;
+use std::time::{Duration, Instant};
+
+const HELP: &str = "\
+compare [--all] [--json] OBJECT.. A B
+
+Says of each relocation of the objects what two linkers made of it. A and B are linked files, with
+symbol tables, made of the same objects; an OBJECT is a relocatable object or an archive of them.
+ELF files of 64 bits of AArch64, LoongArch, PowerPC64, RISC-V and x86-64, little-endian, are read.
+
+A line has the relocation's place, by the symbol before it in the object; its name; the symbol and
+addend; and what A and B have there:
+
+  main.o: main+0x14  R_X86_64_REX_GOTPCRELX puts-0x4
+      A: MovIndirectToLea (direct)
+      B: as it was (through the GOT)
+
+A choice is the name of a rewrite, or `as RELOCATION` where only the relocation is another, or `as it
+was`. `(through the GOT)` says that the field has the address of a GOT entry. `to SYMBOL` follows where
+the field doesn't lead to the relocation's symbol and addend. Symbols are compared by their names, so
+that files with different layouts can be the same. Sums of relocations (ADD, SUB, ULEB128) are not
+read, nor what relocations that only mark or pad stand for.
+
+  --all       all relocations, not only those that differ
+  --json      an object a line for each, and a last one with the counts
+  -h, --help  this text
+
+Exit status: 0 the files are the same, 1 they differ, 2 an error.
+";
+
+enum Failure {
+    Said(String),
+    Write(io::Error),
+}
+
+impl From<io::Error> for Failure {
+    fn from(error: io::Error) -> Failure {
+        Failure::Write(error)
+    }
+}
+
+impl From<lexopt::Error> for Failure {
+    fn from(error: lexopt::Error) -> Failure {
+        Failure::Said(format!("{error}; see compare --help"))
+    }
+}
+
+struct Arguments {
+    is_all: bool,
+    is_json: bool,
+    files: Vec<OsString>,
+}
+
+fn arguments() -> Result<Option<Arguments>, lexopt::Error> {
+    use lexopt::Arg::{Long, Short, Value};
+    let mut parser = lexopt::Parser::from_env();
+    let mut it = Arguments { is_all: false, is_json: false, files: Vec::new() };
+    while let Some(argument) = parser.next()? {
+        match argument {
+            Long("all") => it.is_all = true,
+            Long("json") => it.is_json = true,
+            Short('h') | Long("help") => return Ok(None),
+            Value(file) => it.files.push(file),
+            other => return Err(other.unexpected()),
+        }
+    }
+    if it.files.len() < 3 {
+        return Err("at least one object and two linked files are needed".into());
+    }
+    Ok(Some(it))
+}
+
+/// A progress bar on a terminal, from a second on.
+struct Progress {
+    since: Instant,
+    shown: Cell<u64>,
+    bar: OnceCell<ProgressBar>,
+}
+
+impl Progress {
+    fn step(&self, done: u64, total: u64) {
+        if self.since.elapsed() < Duration::from_secs(1) || !Term::stderr().is_term() {
+            return;
+        }
+        let bar = self.bar.get_or_init(|| {
+            let bar = ProgressBar::with_draw_target(Some(total), ProgressDrawTarget::stderr());
+            let style = ProgressStyle::with_template("{wide_bar} {percent}%");
+            bar.with_style(style.unwrap_or_else(|_| ProgressStyle::default_bar()))
+        });
+        self.shown.set(done);
+        bar.set_position(done);
+    }
+}
+
+fn run() -> Result<ExitCode, Failure> {
+    let mut out = BufWriter::new(io::stdout().lock());
+    let Some(arguments) = arguments()? else {
+        out.write_all(HELP.as_bytes())?;
+        out.flush()?;
+        return Ok(ExitCode::SUCCESS);
+    };
+    let mut files = Vec::new();
+    for path in &arguments.files {
+        let name = path.to_string_lossy().into_owned();
+        let bytes = std::fs::read(path).map_err(|error| Failure::Said(format!("{name}: {error}")))?;
+        files.push((name, bytes));
+    }
+    let (inputs, linked) = files.split_at(files.len() - 2);
+    let mut objects = Vec::new();
+    for (name, bytes) in inputs {
+        let all = elf::read_objects(name, bytes);
+        objects.extend(all.map_err(|reason| Failure::Said(format!("{name}: {reason}")))?);
+    }
+    let mut both = Vec::new();
+    for (name, bytes) in linked {
+        let file = elf::read_linked(bytes);
+        both.push(file.map_err(|reason| Failure::Said(format!("{name}: {reason}")))?);
+    }
+    for (name, architecture) in (objects.iter().map(|one| (&one.path, one.architecture)))
+        .chain(linked.iter().map(|(name, _)| name).zip(both.iter().map(|one| one.architecture)))
+    {
+        if architecture != both[0].architecture {
+            let first = &linked[0].0;
+            return Err(Failure::Said(format!("{name}: of another machine than {first}")));
+        }
+    }
+    // `console` says no colours where the output is no terminal, or NO_COLOR is set
+    let (place, choice) = (Style::new().bold(), Style::new().cyan());
+    let progress =
+        Progress { since: Instant::now(), shown: Cell::new(0), bar: OnceCell::new() };
+    let mut written = Ok(());
+    let write = |line: Line, out: &mut BufWriter<_>| -> io::Result<()> {
+        if !arguments.is_all && line.is_same() {
+            return Ok(());
+        }
+        if arguments.is_json {
+            return writeln!(out, "{}", report::line_as_json(&line));
+        }
+        writeln!(out, "{}", place.apply_to(report::head(&line)))?;
+        let [a, b] = &line.made;
+        if line.is_same() {
+            return writeln!(out, "    both: {}", report::words(&line, a));
+        }
+        writeln!(out, "    A: {}", choice.apply_to(report::words(&line, a)))?;
+        writeln!(out, "    B: {}", choice.apply_to(report::words(&line, b)))
+    };
+    let step = |done, total| progress.step(done, total);
+    let counts = compare(&objects, [&both[0], &both[1]], &step, |line| {
+        if written.is_ok() {
+            written = write(line, &mut out);
+        }
+    });
+    if let Some(bar) = progress.bar.get() {
+        bar.finish_and_clear();
+    }
+    written?;
+    if arguments.is_json {
+        writeln!(out, "{}", report::counts_as_json(&counts))?;
+    } else {
+        let (all, different) = (counts.relocations, counts.different);
+        writeln!(out, "{all} relocations, {different} differ")?;
+        if counts.nowhere > 0 {
+            writeln!(out, "{} more are in sections that no symbol leads to", counts.nowhere)?;
+        }
+    }
+    out.flush()?;
+    Ok(if counts.different > 0 { ExitCode::from(1) } else { ExitCode::SUCCESS })
+}
+
+fn main() -> ExitCode {
+    match run() {
+        Ok(code) => code,
+        Err(Failure::Said(reason)) => {
+            eprintln!("compare: {reason}");
+            ExitCode::from(2)
+        }
+        Err(Failure::Write(error)) => {
+            eprintln!("compare: can't write: {error}");
+            ExitCode::from(2)
+        }
+    }
+}

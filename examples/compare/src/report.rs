@@ -1,0 +1,112 @@
+//! Places, symbols and choices as text and as JSON.
+
+use crate::elf::{Home, Object, Relocation};
+use crate::walk::{Made, Target};
+use crate::{Counts, Line};
+use linker_utils::elf::Architecture;
+use object::elf::{STT_FILE, STT_SECTION};
+use serde_json::{Value, json};
+
+/// Offset and name of the symbols of a section, by offset.
+pub fn names_of<'a>(object: &'a Object<'a>, section: usize) -> Vec<(u64, &'a str)> {
+    let mut names: Vec<(u64, &str)> = object
+        .symbols
+        .iter()
+        .filter(|one| one.home == Home::Section(section) && !one.name.starts_with(['.', '$']))
+        .filter(|one| !one.name.is_empty() && !matches!(one.kind, STT_SECTION | STT_FILE))
+        .map(|one| (one.value, one.name.as_str()))
+        .collect();
+    names.sort_unstable();
+    names
+}
+
+pub fn place(names: &[(u64, &str)], section: &str, offset: u64) -> String {
+    let after = names.partition_point(|(start, _)| *start <= offset);
+    match names[..after].last() {
+        Some((start, name)) => format!("{name}+{:#x}", offset - start),
+        None => format!("{section}+{offset:#x}"),
+    }
+}
+
+pub fn symbol(object: &Object, one: &Relocation) -> String {
+    let symbol = &object.symbols[one.symbol];
+    let name = match symbol.home {
+        Home::Section(section) if symbol.name.is_empty() => &object.sections[section].name,
+        _ => &symbol.name,
+    };
+    match one.addend {
+        0 => name.clone(),
+        addend if addend < 0 => format!("{name}-{:#x}", addend.unsigned_abs()),
+        addend => format!("{name}+{addend:#x}"),
+    }
+}
+
+fn name(architecture: Architecture, code: u32) -> String {
+    architecture.name(code).map_or_else(|| format!("relocation {code}"), str::to_string)
+}
+
+/// What a linker made of a relocation, in words.
+pub fn words(line: &Line, made: &Made) -> String {
+    match made {
+        Made::Chosen { rewrite, relocation, is_through_got, target } => {
+            let mut said = match rewrite {
+                Some(rewrite) => rewrite.clone(),
+                None if *relocation == line.relocation => "as it was".into(),
+                None => format!("as {}", name(line.architecture, *relocation)),
+            };
+            if *target != Target::Nothing {
+                said += if *is_through_got { " (through the GOT)" } else { " (direct)" };
+            }
+            match target {
+                Target::Other(to) => said + " to " + to,
+                Target::Bits(bits) => said + ": " + bits,
+                Target::AsWritten | Target::Nothing => said,
+            }
+        }
+        Made::Part => "part of another's rewrite".into(),
+        Made::Unknown(bytes) => {
+            let bytes: Vec<String> = bytes.iter().map(|byte| format!("{byte:02x}")).collect();
+            format!("not recognised: {}", bytes.join(" "))
+        }
+        Made::Nowhere => "not in the file".into(),
+    }
+}
+
+fn as_json(line: &Line, made: &Made) -> Value {
+    match made {
+        Made::Chosen { rewrite, relocation, is_through_got, target } => {
+            let (target, known) = match target {
+                Target::AsWritten => (Some(line.symbol.as_str()), None),
+                Target::Other(to) => (Some(to.as_str()), None),
+                Target::Bits(bits) => (None, Some(bits.as_str())),
+                Target::Nothing => (None, None),
+            };
+            json!({
+                "rewrite": rewrite, "relocation": name(line.architecture, *relocation),
+                "through_got": is_through_got, "target": target, "known": known,
+            })
+        }
+        _ => json!({ "other": words(line, made) }),
+    }
+}
+
+pub fn line_as_json(line: &Line) -> Value {
+    json!({
+        "object": line.object, "place": line.place, "symbol": line.symbol,
+        "relocation": name(line.architecture, line.relocation), "same": line.is_same(),
+        "a": as_json(line, &line.made[0]), "b": as_json(line, &line.made[1]),
+    })
+}
+
+pub fn counts_as_json(counts: &Counts) -> Value {
+    json!({
+        "relocations": counts.relocations, "different": counts.different,
+        "not_located": counts.nowhere,
+    })
+}
+
+/// `PLACE  RELOCATION SYMBOL`, without what was made of it.
+pub fn head(line: &Line) -> String {
+    let relocation = name(line.architecture, line.relocation);
+    format!("{}: {}  {relocation} {}", line.object, line.place, line.symbol)
+}

@@ -1,0 +1,17 @@
+// Made by tools/erase of crates/linker_recognise/src/lib.rt.
+//! What a linker made of a relocation, by the bytes before and after: which rewrite, and which
+//! relocation it then wrote.
+
+pub mod aarch64;
+mod candidates;
+mod engine;
+pub mod fields;
+pub mod loongarch64;
+pub mod ppc64;
+pub mod riscv64;
+#[cfg(test)]
+mod tests;
+pub mod x86_64;
+
+pub use candidates::CANDIDATES;
+pub use engine::MAX_WINDOW;

@@ -1,0 +1,256 @@
+// Made by tools/erase of crates/linker_recognise/src/fields.rt.
+//! The bits of a relocation's field, and bytes that differ in such bits only.
+
+use crate::linker_base::bit_misc::{BitExtraction, BitRange};
+use crate::linker_elf::elf::{
+    AArch64Instruction, LoongArch64Instruction, Ppc64Instruction, RelocationInstruction,
+    RelocationKind, RelocationSize, RiscVInstruction, Row,
+};
+
+/// Some of the bits of the eight bytes from an offset of a window on.
+#[derive(Debug, Clone, Copy, PartialEq, Eq)]
+pub struct FieldBits {
+    /// The offset in bytes.
+    pub offset: u64,
+    /// Bit 0 is the lowest of the byte at the offset, bit 8 that of the next byte.
+    pub bits: u64,
+}
+
+/// The number of a word in little-endian order.
+#[inline(always)]
+fn word_of(bytes: &[u8]) -> u32 {
+    u32::from_le_bytes([bytes[0], bytes[1], bytes[2], bytes[3]])
+}
+
+/// Whether a word is an instruction of DQ-form: `lq`, `lxvp`, `stxvp`, `lxv` or `stxv` (Power ISA,
+/// "DQ-Form").
+#[inline(always)]
+fn is_dq_form(word: u32) -> bool {
+    let opcode = word >> 26;
+    opcode == 56 || opcode == 6 || (opcode == 61 && word % 4 == 1)
+}
+
+/// The bits that a write of a row may change in an instruction.
+#[inline]
+fn instruction_bits(insn: RelocationInstruction, range: BitRange, bytes: &[u8]) -> u64 {
+    match insn {
+        RelocationInstruction::AArch64(insn) => match insn {
+            AArch64Instruction::Adr => 0x60ff_ffe0,
+            AArch64Instruction::Movkz => 0x001f_ffe0,
+            // and the opcode but for the size of the register
+            AArch64Instruction::Movnz => 0x7f9f_ffe0,
+            AArch64Instruction::Ldr | AArch64Instruction::Bcond => 0x00ff_ffe0,
+            AArch64Instruction::LdrRegister
+            | AArch64Instruction::Add
+            | AArch64Instruction::LdSt
+            | AArch64Instruction::MachOLow12 => 0x003f_fc00,
+            AArch64Instruction::TstBr => 0x0007_ffe0,
+            AArch64Instruction::JumpCall => 0x03ff_ffff,
+        },
+        RelocationInstruction::RiscV(insn) => match insn {
+            RiscVInstruction::UType | RiscVInstruction::JType => 0xffff_f000,
+            RiscVInstruction::IType => 0xfff0_0000,
+            RiscVInstruction::SType | RiscVInstruction::BType => 0xfe00_0f80,
+            RiscVInstruction::CbType => 0x1c7c,
+            RiscVInstruction::CjType => 0x1ffc,
+            RiscVInstruction::CluiType => 0x107c,
+            RiscVInstruction::UiType => 0xfff0_0000_ffff_f000,
+        },
+        RelocationInstruction::Ppc64(insn) => match insn {
+            Ppc64Instruction::D => 0xffff,
+            Ppc64Instruction::Ds => {
+                if is_dq_form(word_of(bytes)) {
+                    0xfff0
+                } else {
+                    0xfffc
+                }
+            }
+            Ppc64Instruction::Branch14 => 0xfffc,
+            Ppc64Instruction::Branch24 => 0x03ff_fffc,
+            Ppc64Instruction::Prefixed => 0xffff_0003_ffff,
+        },
+        RelocationInstruction::LoongArch64(insn) => match insn {
+            LoongArch64Instruction::Shift5 => 0x01ff_ffe0,
+            LoongArch64Instruction::Shift10 => {
+                if 12 < range.end.saturating_sub(range.start) {
+                    0x03ff_fc00
+                } else {
+                    0x003f_fc00
+                }
+            }
+            LoongArch64Instruction::Branch26 => 0x03ff_ffff,
+            LoongArch64Instruction::Branch21 => 0x03ff_fc1f,
+            LoongArch64Instruction::Call30 => 0x0007_fc00_01ff_ffe0,
+            LoongArch64Instruction::Call36 => 0x03ff_fc00_01ff_ffe0,
+        },
+    }
+}
+
+/// The lowest bits of a number of so many bytes, of at most 8.
+#[inline(always)]
+fn bits_of_bytes(len: usize) -> u64 {
+    match len {
+        0 => 0,
+        1 => 0xff,
+        2 => 0xffff,
+        3 => 0x00ff_ffff,
+        4 => 0xffff_ffff,
+        5 => 0x00ff_ffff_ffff,
+        6 => 0xffff_ffff_ffff,
+        7 => 0x00ff_ffff_ffff_ffff,
+        _ => u64::MAX,
+    }
+}
+
+/// The bits that a write of a row may change in the number that its whole bytes make.
+#[inline(always)]
+fn number_bits(kind: RelocationKind, len: usize) -> u64 {
+    let bits = bits_of_bytes(len);
+    match kind {
+        RelocationKind::AbsoluteSetWord6
+        | RelocationKind::AbsoluteAdditionWord6
+        | RelocationKind::AbsoluteSubtractionWord6 => bits & 0x3f,
+        _ => bits,
+    }
+}
+
+/// The bits that a write of a row may change, as a mask.
+#[inline(always)]
+fn mask_of(row: &Row, bytes: &[u8]) -> u64 {
+    let info = row.info();
+    match info.size {
+        RelocationSize::ByteSize(len) => number_bits(info.kind, len as usize),
+        RelocationSize::BitMasking { range, insn } => instruction_bits(insn, range, bytes),
+    }
+}
+
+/// Which bits of the bytes that `bytes` begins with a write of a row may change, bit 0 the lowest of
+/// the first byte. Of an instruction these are the bits of its form, and for `Movnz` those of the
+/// opcode that it sets. All other bits are the same after each write. Requires the row's window.
+///
+/// ```
+/// use linker_recognise::fields::field_bits;
+/// use linker_utils::x86_64::{X86_64Relocation, row};
+///
+/// let row = row(X86_64Relocation::R_X86_64_PLT32).unwrap();
+/// assert_eq!(field_bits(&row, &[0; 4]), 0xffff_ffff);
+/// ```
+///
+/// # Requires
+///
+/// - `row.window() <= bytes.len()`
+#[must_use]
+#[cfg_attr(debug_assertions, track_caller)]
+pub fn field_bits(row: &Row, bytes: &[u8]) -> u64 {
+    debug_assert!(row.window() <= bytes.len());
+    mask_of(row, bytes)
+}
+
+impl FieldBits {
+    /// The bits that a write of a row at an offset of a window may change. None if the row's window
+    /// isn't there.
+    ///
+    /// ```
+    /// use linker_recognise::fields::FieldBits;
+    /// use linker_utils::riscv64::{RiscVRelocation, row};
+    ///
+    /// // the immediate of a `jal` after two bytes
+    /// let row = row(RiscVRelocation::R_RISCV_JAL).unwrap();
+    /// let jal = [0x01, 0x00, 0xef, 0x00, 0x00, 0x00];
+    /// let field = FieldBits::of_row(&row, 2, &jal).unwrap();
+    /// assert_eq!((field.offset, field.bits), (2, 0xffff_f000));
+    /// ```
+    #[must_use]
+    pub fn of_row(row: &Row, offset: u64, window: &[u8]) -> Option<FieldBits> {
+        let row_window = row.window();
+        if window.len() < row_window || offset > (window.len() - row_window) as u64 {
+            return None;
+        }
+        Some(FieldBits {
+            offset,
+            bits: field_bits(row, &window[offset as usize..]),
+        })
+    }
+
+    /// Whether a bit of a byte of the window is one of these. The byte counts from the window's first
+    /// one, and bit 0 is its lowest.
+    #[inline(always)]
+    fn contains(&self, byte: u64, bit: u32) -> bool {
+        if byte < self.offset || byte - self.offset >= 8 {
+            return false;
+        }
+        let position = 8 * (byte - self.offset) + u64::from(bit);
+        position < 64 && self.bits.extract_bit(position as u32) == 1
+    }
+}
+
+/// Whether a bit of a byte of the window is one of some bits.
+#[inline(always)]
+fn is_in_one(fields: &[FieldBits], byte: u64, bit: u32) -> bool {
+    fields.iter().any(|field| field.contains(byte, bit))
+}
+
+/// Whether two bytes that are at the same place of a window differ in some bits only.
+#[inline(always)]
+fn is_same_but(field: &FieldBits, others: &[FieldBits], byte: u64, a: u8, b: u8) -> bool {
+    if a == b {
+        return true;
+    }
+    for bit in 0..8 {
+        if u64::from(a).extract_bit(bit) != u64::from(b).extract_bit(bit)
+            && !field.contains(byte, bit)
+            && !is_in_one(others, byte, bit)
+        {
+            return false;
+        }
+    }
+    true
+}
+
+/// The index of a byte before `count` bytes from `start` on were deleted.
+#[inline(always)]
+fn kept_index(start: u64, count: u64, index: u64) -> u64 {
+    if index < start { index } else { index + count }
+}
+
+/// Whether a window differs from another, of which `count` bytes from `start` on are deleted, in some
+/// bits only.
+pub(crate) fn are_same_but(
+    field: &FieldBits,
+    others: &[FieldBits],
+    start: u64,
+    count: u64,
+    a: &[u8],
+    b: &[u8],
+) -> bool {
+    for (index, byte) in b.iter().enumerate() {
+        let at = kept_index(start, count, index as u64);
+        if !is_same_but(field, others, at, a[at as usize], *byte) {
+            return false;
+        }
+    }
+    true
+}
+
+/// Whether two windows of the same length differ in the field of a row only, which is at their front.
+/// False if the lengths differ or the row's window isn't in them.
+///
+/// ```
+/// use linker_recognise::fields::same_but_for;
+/// use linker_utils::x86_64::{X86_64Relocation, row};
+///
+/// let row = row(X86_64Relocation::R_X86_64_PLT32).unwrap();
+/// assert!(same_but_for(&row, &[0, 0, 0, 0, 0x90], &[1, 2, 3, 4, 0x90]));
+/// assert!(!same_but_for(&row, &[0, 0, 0, 0, 0x90], &[1, 2, 3, 4, 0xcc]));
+/// ```
+#[must_use]
+pub fn same_but_for(row: &Row, a: &[u8], b: &[u8]) -> bool {
+    if a.len() != b.len() || a.len() < row.window() {
+        return false;
+    }
+    let field = FieldBits {
+        offset: 0,
+        bits: field_bits(row, a),
+    };
+    are_same_but(&field, &[], 0, 0, a, b)
+}

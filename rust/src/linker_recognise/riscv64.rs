@@ -1,0 +1,126 @@
+// Made by tools/erase of crates/linker_recognise/src/riscv64.rt.
+//! What a linker made of a relocation of RISC-V.
+
+use crate::linker_recognise::candidates::{CANDIDATES, four, one, three, two};
+use crate::linker_recognise::engine::{Kind, Name, is_left, recognise_among};
+use crate::linker_recognise::fields::FieldBits;
+use crate::elf::{Choice, LinkFacts, Row};
+use crate::riscv64::{DeletedBytes, RelaxationKind, RiscVRelocation, choose, row};
+
+type RiscVChoice = Choice<RelaxationKind, RiscVRelocation>;
+
+#[inline(always)]
+fn choice(kind: RelaxationKind, relocation: RiscVRelocation) -> RiscVChoice {
+    Choice { kind, relocation }
+}
+
+/// The choices of a relocation.
+fn candidates(name: RiscVRelocation) -> [Option<RiscVChoice>; CANDIDATES] {
+    let unchanged = choice(RelaxationKind::NoOp, name);
+    match name {
+        RiscVRelocation::R_RISCV_CALL | RiscVRelocation::R_RISCV_CALL_PLT => four(
+            choice(RelaxationKind::TailToCJ, RiscVRelocation::R_RISCV_RVC_JUMP),
+            choice(RelaxationKind::TailToJal, RiscVRelocation::R_RISCV_JAL),
+            choice(RelaxationKind::CallToJal, RiscVRelocation::R_RISCV_JAL),
+            unchanged,
+        ),
+        RiscVRelocation::R_RISCV_HI20 => three(
+            choice(RelaxationKind::Hi20Delete, RiscVRelocation::R_RISCV_NONE),
+            choice(RelaxationKind::Hi20ToCLui, RiscVRelocation::R_RISCV_RVC_LUI),
+            unchanged,
+        ),
+        RiscVRelocation::R_RISCV_LO12_I => two(
+            choice(RelaxationKind::Lo12Rs1ToZero, name),
+            unchanged,
+        ),
+        RiscVRelocation::R_RISCV_LO12_S => two(
+            choice(RelaxationKind::Lo12Rs1ToZero, name),
+            unchanged,
+        ),
+        _ => one(unchanged),
+    }
+}
+
+impl Kind for RelaxationKind {
+    fn is_meant_for(self, section: &[u8], offset: u64) -> bool {
+        self.matches(section, offset)
+    }
+
+    fn deleted_bytes(self) -> Option<DeletedBytes> {
+        self.deleted()
+    }
+
+    fn is(self, other: RelaxationKind) -> bool {
+        self == other
+    }
+}
+
+impl Name for RiscVRelocation {
+    fn find_row(self) -> Option<Row> {
+        row(self)
+    }
+
+    fn repeats(self, _other: RiscVRelocation) -> bool {
+        false
+    }
+}
+
+/// Which rewrites, and relocations after them, a linker may have made at the relocation with a name,
+/// whose offset in the original bytes is given, as `recognise` of `x86_64` says.
+///
+/// A rewrite after which bytes are deleted leaves the others. So the linked window is shorter by the
+/// deleted bytes, and empty if they are all of the original window.
+///
+/// ```
+/// use linker_recognise::riscv64::recognise;
+/// use linker_utils::riscv64::{RelaxationKind, RiscVRelocation};
+///
+/// // `auipc ra, 0` and `jalr ra, 0(ra)` became `jal ra, 256`
+/// let original = [0x97, 0, 0, 0, 0xe7, 0x80, 0, 0];
+/// let linked = [0xef, 0, 0, 0x10];
+/// let name = RiscVRelocation::R_RISCV_CALL_PLT;
+/// let mut choices = recognise(name, &original, 0, &[], &linked).into_iter().flatten();
+/// assert_eq!(choices.next().unwrap().kind, RelaxationKind::CallToJal);
+/// assert!(choices.next().is_none());
+/// ```
+///
+/// # Requires
+///
+/// - `original.len() <= 64`
+#[must_use]
+#[cfg_attr(debug_assertions, track_caller)]
+pub fn recognise(
+    name: RiscVRelocation,
+    original: &[u8],
+    offset: u64,
+    others: &[FieldBits],
+    linked: &[u8],
+) -> [Option<RiscVChoice>; CANDIDATES] {
+    debug_assert!(original.len() <= 64);
+    recognise_among(candidates(name), original, offset, others, linked)
+}
+
+/// The choice that `choose` makes by what the linker knows, if it leaves the linked bytes, as
+/// `recognise` says.
+///
+/// # Requires
+///
+/// - `original.len() <= 64`
+#[must_use]
+#[cfg_attr(debug_assertions, track_caller)]
+pub fn recognise_chosen(
+    name: RiscVRelocation,
+    original: &[u8],
+    offset: u64,
+    others: &[FieldBits],
+    linked: &[u8],
+    facts: &LinkFacts,
+) -> Option<RiscVChoice> {
+    debug_assert!(original.len() <= 64);
+    let chosen = choose(name, original, offset, facts);
+    if is_left(chosen, original, offset, others, linked) {
+        Some(chosen)
+    } else {
+        None
+    }
+}

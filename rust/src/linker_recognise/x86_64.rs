@@ -1,0 +1,295 @@
+// Made by tools/erase of crates/linker_recognise/src/x86_64.rt.
+//! What a linker made of a relocation of x86-64.
+
+use crate::linker_recognise::candidates::{CANDIDATES, four, one, three, two};
+use crate::linker_recognise::engine::{Kind, Name, is_left, recognise_among};
+use crate::linker_recognise::fields::FieldBits;
+use crate::elf::{Choice, LinkFacts, Row};
+use crate::riscv64::DeletedBytes;
+use crate::x86_64::{RelaxationKind, X86_64Relocation, choose, row};
+
+type X86Choice = Choice<RelaxationKind, X86_64Relocation>;
+
+#[inline(always)]
+fn choice(kind: RelaxationKind, relocation: X86_64Relocation) -> X86Choice {
+    Choice { kind, relocation }
+}
+
+#[inline(always)]
+fn unchanged(name: X86_64Relocation) -> X86Choice {
+    choice(RelaxationKind::NoOp, name)
+}
+
+/// The relocation of an immediate of 32 bits.
+#[inline(always)]
+fn immediate_of(n: u8) -> X86_64Relocation {
+    if n == 2 {
+        X86_64Relocation::R_X86_64_32
+    } else {
+        X86_64Relocation::R_X86_64_32S
+    }
+}
+
+/// The choices of a `mov` through the GOT.
+fn of_mov(n: u8, name: X86_64Relocation) -> [Option<X86Choice>; CANDIDATES] {
+    let kind = if n == 2 {
+        RelaxationKind::MovIndirectToAbsolute
+    } else {
+        RelaxationKind::RexMovIndirectToAbsolute(n)
+    };
+    // of a definition, and of an address that is 0
+    let absolute = choice(kind, immediate_of(n));
+    four(
+        absolute,
+        absolute,
+        choice(
+            RelaxationKind::MovIndirectToLea,
+            X86_64Relocation::R_X86_64_PC32,
+        ),
+        unchanged(name),
+    )
+}
+
+/// The choices of an instruction with an operand in the GOT, by its opcode.
+fn of_got(n: u8, opcode: u8, name: X86_64Relocation) -> [Option<X86Choice>; CANDIDATES] {
+    let kind = match opcode {
+        0x8b => return of_mov(n, name),
+        0x03 => RelaxationKind::RexAddIndirectToAbsolute(n),
+        0x2b => RelaxationKind::RexSubIndirectToAbsolute(n),
+        0x3b => RelaxationKind::RexCmpIndirectToAbsolute(n),
+        0x13 => RelaxationKind::RexAdcIndirectToAbsolute(n),
+        0x23 => RelaxationKind::RexAndIndirectToAbsolute(n),
+        0x0b => RelaxationKind::RexOrIndirectToAbsolute(n),
+        0x1b => RelaxationKind::RexSbbIndirectToAbsolute(n),
+        0x33 => RelaxationKind::RexXorIndirectToAbsolute(n),
+        0x85 => RelaxationKind::RexTestIndirectToAbsolute(n),
+        _ => return one(unchanged(name)),
+    };
+    let absolute = choice(kind, immediate_of(n));
+    three(absolute, absolute, unchanged(name))
+}
+
+/// The choices of an initial-exec access to a TLS variable, by its opcode.
+fn of_initial_exec(n: u8, opcode: u8, name: X86_64Relocation) -> [Option<X86Choice>; CANDIDATES] {
+    let kind = match opcode {
+        0x8b => RelaxationKind::RexMovIndirectToAbsolute(n),
+        0x03 => RelaxationKind::RexAddIndirectToAbsolute(n),
+        _ => return one(unchanged(name)),
+    };
+    two(
+        choice(kind, X86_64Relocation::R_X86_64_TPOFF32),
+        unchanged(name),
+    )
+}
+
+/// The choices of the `lea` of a TLS descriptor.
+fn of_descriptor(n: u8, name: X86_64Relocation) -> [Option<X86Choice>; CANDIDATES] {
+    three(
+        choice(
+            RelaxationKind::TlsDescToLocalExec(n),
+            X86_64Relocation::R_X86_64_TPOFF32,
+        ),
+        choice(
+            RelaxationKind::TlsDescToInitialExec,
+            X86_64Relocation::R_X86_64_GOTTPOFF,
+        ),
+        unchanged(name),
+    )
+}
+
+/// The choices of a relocation, by its name and the opcode two bytes before its field.
+fn candidates(name: X86_64Relocation, opcode: u8) -> [Option<X86Choice>; CANDIDATES] {
+    match name {
+        X86_64Relocation::R_X86_64_GOTPCRELX => {
+            if opcode == 0xff {
+                three(
+                    choice(
+                        RelaxationKind::CallIndirectToRelative,
+                        X86_64Relocation::R_X86_64_PC32,
+                    ),
+                    choice(
+                        RelaxationKind::JmpIndirectToRelative,
+                        X86_64Relocation::R_X86_64_PC32,
+                    ),
+                    unchanged(name),
+                )
+            } else {
+                of_got(2, opcode, name)
+            }
+        }
+        X86_64Relocation::R_X86_64_REX_GOTPCRELX => of_got(3, opcode, name),
+        X86_64Relocation::R_X86_64_CODE_4_GOTPCRELX => of_got(4, opcode, name),
+        X86_64Relocation::R_X86_64_CODE_5_GOTPCRELX => of_got(5, opcode, name),
+        X86_64Relocation::R_X86_64_CODE_6_GOTPCRELX => of_got(6, opcode, name),
+        X86_64Relocation::R_X86_64_GOTTPOFF => of_initial_exec(3, opcode, name),
+        X86_64Relocation::R_X86_64_CODE_4_GOTTPOFF => of_initial_exec(4, opcode, name),
+        X86_64Relocation::R_X86_64_CODE_5_GOTTPOFF => of_initial_exec(5, opcode, name),
+        X86_64Relocation::R_X86_64_CODE_6_GOTTPOFF => of_initial_exec(6, opcode, name),
+        X86_64Relocation::R_X86_64_TLSGD => four(
+            choice(
+                RelaxationKind::TlsGdToLocalExec,
+                X86_64Relocation::R_X86_64_TPOFF32,
+            ),
+            choice(
+                RelaxationKind::TlsGdToLocalExecLarge,
+                X86_64Relocation::R_X86_64_TPOFF32,
+            ),
+            choice(
+                RelaxationKind::TlsGdToInitialExec,
+                X86_64Relocation::R_X86_64_GOTTPOFF,
+            ),
+            unchanged(name),
+        ),
+        X86_64Relocation::R_X86_64_TLSLD => four(
+            choice(
+                RelaxationKind::TlsLdToLocalExec,
+                X86_64Relocation::R_X86_64_NONE,
+            ),
+            choice(
+                RelaxationKind::TlsLdToLocalExecNoPlt,
+                X86_64Relocation::R_X86_64_NONE,
+            ),
+            choice(
+                RelaxationKind::TlsLdToLocalExec64,
+                X86_64Relocation::R_X86_64_NONE,
+            ),
+            unchanged(name),
+        ),
+        X86_64Relocation::R_X86_64_DTPOFF32 => two(
+            choice(RelaxationKind::NoOp, X86_64Relocation::R_X86_64_TPOFF32),
+            unchanged(name),
+        ),
+        X86_64Relocation::R_X86_64_DTPOFF64 => two(
+            choice(RelaxationKind::NoOp, X86_64Relocation::R_X86_64_TPOFF64),
+            unchanged(name),
+        ),
+        X86_64Relocation::R_X86_64_GOTPC32_TLSDESC => of_descriptor(3, name),
+        X86_64Relocation::R_X86_64_CODE_4_GOTPC32_TLSDESC => of_descriptor(4, name),
+        X86_64Relocation::R_X86_64_CODE_5_GOTPC32_TLSDESC => of_descriptor(5, name),
+        X86_64Relocation::R_X86_64_CODE_6_GOTPC32_TLSDESC => of_descriptor(6, name),
+        X86_64Relocation::R_X86_64_TLSDESC_CALL => two(
+            choice(
+                RelaxationKind::SkipTlsDescCall,
+                X86_64Relocation::R_X86_64_NONE,
+            ),
+            unchanged(name),
+        ),
+        _ => one(unchanged(name)),
+    }
+}
+
+/// The byte two before an offset, which is the opcode of an instruction whose field is there.
+#[inline(always)]
+fn opcode_before(original: &[u8], offset: u64) -> u8 {
+    original
+        .get(offset.saturating_sub(2) as usize)
+        .copied()
+        .unwrap_or(0)
+}
+
+impl Kind for RelaxationKind {
+    fn is_meant_for(self, section: &[u8], offset: u64) -> bool {
+        self.matches(section, offset)
+    }
+
+    fn deleted_bytes(self) -> Option<DeletedBytes> {
+        None
+    }
+
+    fn is(self, other: RelaxationKind) -> bool {
+        self == other
+    }
+}
+
+impl Name for X86_64Relocation {
+    fn find_row(self) -> Option<Row> {
+        row(self)
+    }
+
+    fn repeats(self, other: X86_64Relocation) -> bool {
+        matches!(
+            (self, other),
+            (X86_64Relocation::R_X86_64_32, X86_64Relocation::R_X86_64_32)
+                | (
+                    X86_64Relocation::R_X86_64_32S,
+                    X86_64Relocation::R_X86_64_32S
+                )
+        )
+    }
+}
+
+/// Which rewrites, and relocations after them, a linker may have made at the relocation with a name,
+/// whose offset in the original bytes is given: those after which the original bytes differ from the
+/// linked ones only in the field of the relocation after it and in `others`. None is returned twice.
+/// They are in the order of the table of `choose`, and the last of them is `NoOp` and the same name.
+///
+/// - Both windows may begin before the relocation, at the same place. The original one has at most
+///   `MAX_WINDOW` bytes. A choice that deletes bytes leaves fewer.
+/// - `others` are bits of the original window that other relocations write, as
+///   `FieldBits::of_row` gives them, among them those of a relocation that the choice skips. Of an
+///   instruction that another relocation rewrites or deletes they are all bits. Where a skipped
+///   relocation isn't named, its field is compared with what the rewrite left, since it isn't applied.
+/// - Nothing needs to be known of the symbol. So several choices are returned where their bytes are the
+///   same, as where only the relocation changes.
+/// - A choice is returned only if its rewrite is meant for what is at the offset, as `matches` says, and
+///   the field is in the window. Each that `choose` makes, whatever the linker knows, is one of them
+///   if it leaves the linked bytes so.
+///
+/// ```
+/// use linker_recognise::x86_64::recognise;
+/// use linker_utils::x86_64::{RelaxationKind, X86_64Relocation};
+///
+/// // mov x@GOTPCREL(%rip), %rdi became lea x(%rip), %rdi
+/// let original = [0x48, 0x8b, 0x3d, 0, 0, 0, 0];
+/// let linked = [0x48, 0x8d, 0x3d, 0x10, 0x20, 0, 0];
+/// let name = X86_64Relocation::R_X86_64_REX_GOTPCRELX;
+/// let mut choices = recognise(name, &original, 3, &[], &linked).into_iter().flatten();
+/// assert_eq!(choices.next().unwrap().kind, RelaxationKind::MovIndirectToLea);
+/// assert!(choices.next().is_none());
+/// ```
+///
+/// # Requires
+///
+/// - `original.len() <= 64`
+#[must_use]
+#[cfg_attr(debug_assertions, track_caller)]
+pub fn recognise(
+    name: X86_64Relocation,
+    original: &[u8],
+    offset: u64,
+    others: &[FieldBits],
+    linked: &[u8],
+) -> [Option<X86Choice>; CANDIDATES] {
+    debug_assert!(original.len() <= 64);
+    let choices = candidates(name, opcode_before(original, offset));
+    recognise_among(choices, original, offset, others, linked)
+}
+
+/// The choice that `choose` makes by what the linker knows, if it leaves the linked bytes, as
+/// `recognise` says.
+///
+/// # Requires
+///
+/// - `original.len() <= 64`
+#[must_use]
+#[cfg_attr(debug_assertions, track_caller)]
+pub fn recognise_chosen(
+    name: X86_64Relocation,
+    original: &[u8],
+    offset: u64,
+    others: &[FieldBits],
+    linked: &[u8],
+    facts: &LinkFacts,
+) -> Option<X86Choice> {
+    debug_assert!(original.len() <= 64);
+    let chosen = choose(name, original, offset, facts);
+    if is_left(chosen, original, offset, others, linked) {
+        Some(chosen)
+    } else {
+        None
+    }
+}
+
+/// Where a rewrite is applied, and the value of the relocation after it is written, the choice of both
+/// leaves these bytes. So `recognise` returns what `choose` chose, after `apply` and `write`.
+pub fn written_choices_are_left() {}
