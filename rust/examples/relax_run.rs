@@ -9,8 +9,8 @@
 //! alignment OFFSET NOPS POWER            one that no section has
 //! ```
 //!
-//! It prints a line `site OFFSET TARGET KEPT` or `nops OFFSET KEPT` for each item, and
-//! `packed HEXADECIMAL` for each section, or one line that says why not.
+//! It prints a line `site OFFSET TARGET KEPT` or `nops OFFSET KEPT` for each item, and for each
+//! section `packed HEXADECIMAL` or, of LoongArch, `length BYTES`; or one line that says why not.
 
 use std::error::Error;
 use std::io::{self, BufRead};
@@ -34,15 +34,15 @@ fn bytes_of(text: &str) -> Result<Vec<u8>, Box<dyn Error>> {
 }
 
 fn main() -> Result<(), Box<dyn Error>> {
-    let (mut machine, mut c_extension, mut start) = (Machine::RiscV64, false, 0);
+    let (mut machine, mut c_extension, mut start) = (Some(Machine::RiscV64), false, 0);
     let (mut sections, mut others) = (Vec::<Section>::new(), Vec::new());
     for line in io::stdin().lock().lines() {
         let line = line?;
         let words: Vec<&str> = line.split(' ').collect();
         match words[..] {
-            ["machine", "riscv64"] => machine = Machine::RiscV64,
-            ["machine", "riscv64", "c"] => (machine, c_extension) = (Machine::RiscV64, true),
-            ["machine", "loongarch64"] => machine = Machine::RiscV64,
+            ["machine", "riscv64"] => {}
+            ["machine", "riscv64", "c"] => c_extension = true,
+            ["machine", "loongarch64"] => machine = None,
             ["start", address] => start = address.parse()?,
             ["section", base, bytes] => sections.push(Section {
                 base: base.parse()?,
@@ -70,7 +70,8 @@ fn main() -> Result<(), Box<dyn Error>> {
     for section in &mut sections {
         let (bytes, base, relocations) = (&section.bytes, section.base, &section.relocations);
         section.items = match machine {
-            Machine::RiscV64 => riscv64::items(bytes, base, relocations, c_extension)?,
+            Some(_) => riscv64::items(bytes, base, relocations, c_extension)?,
+            None => loongarch64::items(bytes, base, relocations)?,
 
         };
     }
@@ -92,6 +93,10 @@ fn main() -> Result<(), Box<dyn Error>> {
     for section in &sections {
         let (bytes, base) = (&section.bytes, section.base);
         let mut packed = vec![0; packed_run_len(base, bytes.len(), deltas)];
+        let Some(machine) = machine else {
+            println!("length {}", packed.len());
+            continue;
+        };
         if let Err(rejected) = pack_run(machine, bytes, base, &section.items, deltas, start, &mut packed) {
             println!("rejected {} {:?}", section.items[rejected.index].offset(), rejected.error);
             return Ok(());
