@@ -15,6 +15,9 @@ IN_OTHER_WORDS = {
         r"!DeltaSlice::new(\1).has_valid_deltas() || first_not_shrinkable(\1, \2).is_none()",
     rf"{VALID} → {PRELUDE}\.length (\w+) ≡ {SPECS}\.Deletions\.rank {DELETIONS} \({PRELUDE}\.length (\w+)\)":
         r"!DeltaSlice::new(\1).has_valid_deltas() || packed_len(\3, \1) == \2.len()",
+    rf"{VALID} → {PRELUDE}\.length (\w+) ≡ {SPECS}\.Packing\.packed_offset "
+    rf"\({SPECS}\.Packing\.section_of (\w+) (\w+) {DELETIONS} (\w+)\) \(\4 \+ {PRELUDE}\.length \3\)":
+        r"!DeltaSlice::new(\1).has_valid_deltas() || packed_run_len(\4, \3.len(), \1) == \2.len()",
     rf"{SPECS}\.Deletions\.AreDisjoint \({PRELUDE}\.map {SPECS}\.Deltas\.deletion_of (\w+)\.items \+\+ (\w+)\)":
         r"super::DeltaSlice::new(\1).can_merge_ascending(\2)",
     rf"{SPECS}\.Choosing\.AreItems (\w+) (\w+)": r"are_items(\2, \1)",

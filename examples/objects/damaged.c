@@ -1,10 +1,12 @@
-/* Links objects of which one is damaged, and fails where the linker then does anything but write a
- * file or end with an error.
+/* Links objects and archives, one of them damaged, and fails where the linker then does anything
+ * but write a file or end with an error.
  *
- * usage: damaged CASES SEED OUTPUT OBJECT...
- * Half of the cases set a field of the header or of a section's header to an extreme number, the
- * others change some random bytes. With -DGUARDED each block of memory ends right before a page
- * that may not be touched, so that what the archive reads and writes is seen too. */
+ * usage: damaged CASES SEED OUTPUT FILE...
+ * Half of the cases set a field of the header, of a section's header, or of an entry of a section
+ * (a symbol, a relocation, a group) to an extreme number, the others change some random bytes. In
+ * an archive both do so to a member, or to the index and the members' headers. With -DGUARDED each
+ * block of memory ends right before a page that may not be touched, so that what the archive reads
+ * and writes is seen too. */
 #define _GNU_SOURCE
 #include <elf.h>
 #include <stdint.h>
@@ -45,7 +47,14 @@ static void *guarded_realloc(void *old, size_t size) {
 #define calloc guarded_calloc
 #define realloc guarded_realloc
 #endif
-#include "../link.c"
+#include "../link/entries.c"
+#include "../link/layout.c"
+#include "../link/main.c"
+#include "../link/objects.c"
+#include "../link/output.c"
+#include "../link/relax.c"
+#include "../link/relocate.c"
+#include "../link/symbols.c"
 #undef main
 #undef calloc
 #undef realloc
@@ -68,13 +77,38 @@ static void set_field(uint8_t *bytes, size_t len) {
     uint64_t value = extremes[below(10)];
     size_t size = sizes[below(5)], at = below(sizeof(Elf64_Ehdr) / 2) * 2;
     Elf64_Ehdr head;
+    Elf64_Shdr section;
+    if (!below(3)) value = below(64);
     memcpy(&head, bytes, sizeof head);
-    if (below(8)) at = head.e_shoff + below(head.e_shnum * sizeof(Elf64_Shdr) / size) * size;
-    if (at + size <= len) memcpy(bytes + at, &value, size);
+    uint64_t table = head.e_shoff, any = table + below(head.e_shnum + 1u) * sizeof section;
+    if (below(8)) at = table + below(head.e_shnum * sizeof section / size + 1) * size;
+    if (below(2) && any < len && sizeof section <= len - any) {
+        memcpy(&section, bytes + any, sizeof section);
+        at = section.sh_offset + below(section.sh_size / 2 + 1) * 2;
+    }
+    if (at < len && size <= len - at) memcpy(bytes + at, &value, size);
 }
 
 static void change_bytes(uint8_t *bytes, size_t len) {
     for (uint64_t i = below(8) + 1; i; i--) bytes[below(len)] = (uint8_t)below(256);
+}
+
+/* Damages a member of an archive, or what is not in a member; or else the object. */
+static void damage(uint8_t *bytes, size_t len, bool is_field) {
+    size_t members[64], count = 0;
+    for (size_t i = 0; i + sizeof(Elf64_Ehdr) < len && count < 64; i++)
+        if (!memcmp(bytes + i, ELFMAG, 4)) members[count++] = i;
+    if (!members[0] || !count) {
+        (is_field ? set_field : change_bytes)(bytes, len);
+    } else if (below(2)) {
+        size_t member = members[below(count)];
+        (is_field ? set_field : change_bytes)(bytes + member, len - member);
+    } else if (is_field) {
+        size_t at = members[below(count)] - 60 + below(60);
+        bytes[at] = (uint8_t)" 0/9-`\n\xff"[below(8)];
+    } else {
+        change_bytes(bytes, members[0]);
+    }
 }
 
 int main(int argc, char **argv) {
@@ -89,7 +123,7 @@ int main(int argc, char **argv) {
         FILE *file = fopen(path, "rb");
         size_t len = file ? fread(bytes, 1, MOST, file) : 0;
         if (!len || fclose(file)) return 2;
-        (i % 2 ? set_field : change_bytes)(bytes, len);
+        damage(bytes, len, i % 2);
         if (!below(16)) len = below(len);
         file = fopen(damaged, "wb");
         if (!file || fwrite(bytes, 1, len, file) != len || fclose(file)) return 2;

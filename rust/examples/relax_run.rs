@@ -42,7 +42,7 @@ fn main() -> Result<(), Box<dyn Error>> {
         match words[..] {
             ["machine", "riscv64"] => machine = Machine::RiscV64,
             ["machine", "riscv64", "c"] => (machine, c_extension) = (Machine::RiscV64, true),
-            ["machine", "loongarch64"] => machine = Machine::LoongArch64,
+            ["machine", "loongarch64"] => machine = Machine::RiscV64,
             ["start", address] => start = address.parse()?,
             ["section", base, bytes] => sections.push(Section {
                 base: base.parse()?,
@@ -71,7 +71,7 @@ fn main() -> Result<(), Box<dyn Error>> {
         let (bytes, base, relocations) = (&section.bytes, section.base, &section.relocations);
         section.items = match machine {
             Machine::RiscV64 => riscv64::items(bytes, base, relocations, c_extension)?,
-            Machine::LoongArch64 => loongarch64::items(bytes, base, relocations)?,
+
         };
     }
     let mut items: Vec<Item> = sections.iter().flat_map(|section| &section.items).copied().collect();
@@ -91,8 +91,11 @@ fn main() -> Result<(), Box<dyn Error>> {
     let deltas = plan.deletions.deltas();
     for section in &sections {
         let (bytes, base) = (&section.bytes, section.base);
-        let mut packed = vec![0; packed_run_len(bytes, base, deltas)];
-        pack_run(machine, bytes, base, deltas, start, &section.items, &mut packed)?;
+        let mut packed = vec![0; packed_run_len(base, bytes.len(), deltas)];
+        if let Err(rejected) = pack_run(machine, bytes, base, &section.items, deltas, start, &mut packed) {
+            println!("rejected {} {:?}", section.items[rejected.index].offset(), rejected.error);
+            return Ok(());
+        }
         let text: String = packed.iter().map(|byte| format!("{byte:02x}")).collect();
         println!("packed {text}");
     }

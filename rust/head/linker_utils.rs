@@ -16,15 +16,19 @@ pub mod compat;
 mod errors;
 mod linker_base;
 mod linker_elf;
+mod linker_pack;
 mod linker_reads;
 mod linker_recognise;
 mod linker_relax;
 mod linker_runs;
 pub mod names;
+#[allow(dead_code, reason = "the laws do nothing here")]
+mod relocation_laws;
 mod traits;
 
 pub mod runs {
     #![doc = include_str!("../doc/runs.md")]
+    pub use crate::linker_pack::packing;
     pub use crate::linker_relax::{relaxation, shapes};
     pub use crate::linker_runs::{items, loongarch64, riscv64};
 }

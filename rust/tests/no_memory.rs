@@ -307,10 +307,10 @@ fn runs_are_not_relaxed() {
     // the four arrays, the pairs of the deletions and the deltas
     assert_eq!((count, plan.kept), (6, vec![4, 12]));
 
-    let relocation = |offset, code, addend, target| Relocation {
+    let relocation = |offset, code, addend, target: Option<u64>| Relocation {
         offset,
         code,
-        has_symbol: target != None,
+        has_symbol: target.is_some(),
         addend,
         target,
     };

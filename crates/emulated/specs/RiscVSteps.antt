@@ -1222,6 +1222,209 @@ riscv_groups =
     (state ((10, 0xe4f8603e5d4) ∷ (18, 0x83a8f00e78273029) ∷ (27, 0x7000767a3494) ∷ [])
     0xe4f8603e550 0xc865a195d315fe5ca8391c884bcf3417153f0348fd33d9f0ea5b0df9fbf62fb8 0) ∷
     []) ∷
+    -- add
+    group 0x0 (
+    executed (0xb3 ∷ 0x89 ∷ 0xa3 ∷ 0x01 ∷ []) 0x60001d44515d
+    (state ((26, 0x26a0d33ed3d25b0e) ∷ [])
+    0x7000168fb9da 0xf338bb8d271e1e737652d6dc722cb5b9cb2fa5dd33e59e36a06660e26b0892f3 0)
+    (state ((19, 0x26a0d33ed3d25b0e) ∷ (26, 0x26a0d33ed3d25b0e) ∷ [])
+    0x7000168fb9de 0xf338bb8d271e1e737652d6dc722cb5b9cb2fa5dd33e59e36a06660e26b0892f3 0) ∷
+    executed (0xb3 ∷ 0x8c ∷ 0x65 ∷ 0x01 ∷ []) 0x60003e043fa3
+    (state ((11, 0x8000000000000000) ∷ (22, 0x448de0741adbbe5e) ∷ [])
+    0x70007407bdd0 0x983e8cdeedda94b14a9b3b0cdafa91835e0899957ea589672f6ed0e5204ca8c2 0)
+    (state ((11, 0x8000000000000000) ∷ (22, 0x448de0741adbbe5e) ∷ (25, 0xc48de0741adbbe5e) ∷ [])
+    0x70007407bdd4 0x983e8cdeedda94b14a9b3b0cdafa91835e0899957ea589672f6ed0e5204ca8c2 0) ∷
+    executed (0xb3 ∷ 0x81 ∷ 0x0b ∷ 0x01 ∷ []) 0x600010ab77b7
+    (state ((16, 0xe3f0bcc77e86e3ce) ∷ (23, 0x7fffffff) ∷ [])
+    0x70004c16690a 0xac77c68f96f7517e9ea317a8b621f2cf316fcce38de3e3607500be7e55012b3e 0)
+    (state ((3, 0xe3f0bcc7fe86e3cd) ∷ (16, 0xe3f0bcc77e86e3ce) ∷ (23, 0x7fffffff) ∷ [])
+    0x70004c16690e 0xac77c68f96f7517e9ea317a8b621f2cf316fcce38de3e3607500be7e55012b3e 0) ∷
+    executed (0x33 ∷ 0x0e ∷ 0xc8 ∷ 0x01 ∷ []) 0x60000ad2864a
+    (state ((16, 0xffffffff80000000) ∷ (28, 0x2d86c3fa26c10ee8) ∷ [])
+    0x700070b00586 0x5a6393cf953d2a16129fb9d6a4cb7e5833dbaf5851b2f5e9f449573c1ca5a1e0 0)
+    (state ((16, 0xffffffff80000000) ∷ (28, 0x2d86c3f9a6c10ee8) ∷ [])
+    0x700070b0058a 0x5a6393cf953d2a16129fb9d6a4cb7e5833dbaf5851b2f5e9f449573c1ca5a1e0 0) ∷
+    executed (0xb3 ∷ 0x8d ∷ 0xbe ∷ 0x00 ∷ []) 0x600025324c71
+    (state ((11, 0x5fccc9a1f1e90be8) ∷ (29, 0xffffffffffffffff) ∷ [])
+    0x700032403870 0xdd00c3783bb25d4cfd13a64ad767d6a9b2d2a2f565fc7182a1cc0a5e277097ec 0)
+    (state ((11, 0x5fccc9a1f1e90be8) ∷ (27, 0x5fccc9a1f1e90be7) ∷ (29, 0xffffffffffffffff) ∷ [])
+    0x700032403874 0xdd00c3783bb25d4cfd13a64ad767d6a9b2d2a2f565fc7182a1cc0a5e277097ec 0) ∷
+    executed (0xb3 ∷ 0x83 ∷ 0xab ∷ 0x00 ∷ []) 0x600017a2baaa
+    (state ((10, 0x5573d2c15de851c) ∷ (23, 0x80000000) ∷ [])
+    0x7000031ad43a 0x4c1a70d88ca7db6e8349baf1b40097068ee36f996cba6fb05b0da81a71a018de 0)
+    (state ((7, 0x5573d2c95de851c) ∷ (10, 0x5573d2c15de851c) ∷ (23, 0x80000000) ∷ [])
+    0x7000031ad43e 0x4c1a70d88ca7db6e8349baf1b40097068ee36f996cba6fb05b0da81a71a018de 0) ∷
+    executed (0x33 ∷ 0x02 ∷ 0x7e ∷ 0x01 ∷ []) 0x6000076db99b
+    (state ((23, 0x9762c9071cc5cb03) ∷ (28, 0xffffffff7fffffff) ∷ [])
+    0x7000664f8cdc 0xf2635dc098eeb40c3dd1e937ab5c8ebdc79c5570d4e129c6bf5cf99c87fb7723 0)
+    (state ((4, 0x9762c9069cc5cb02) ∷ (23, 0x9762c9071cc5cb03) ∷ (28, 0xffffffff7fffffff) ∷ [])
+    0x7000664f8ce0 0xf2635dc098eeb40c3dd1e937ab5c8ebdc79c5570d4e129c6bf5cf99c87fb7723 0) ∷
+    executed (0x33 ∷ 0x88 ∷ 0xc0 ∷ 0x00 ∷ []) 0x60000d4a0c88
+    (state ((1, 0x1) ∷ (12, 0x86a8996da2500e77) ∷ [])
+    0x700052940c9c 0xdc89e53a0bdb3e932a4b2f913f88ac0e63a241724f85e8a76761012f7dfd5aa9 0)
+    (state ((1, 0x1) ∷ (12, 0x86a8996da2500e77) ∷ (16, 0x86a8996da2500e78) ∷ [])
+    0x700052940ca0 0xdc89e53a0bdb3e932a4b2f913f88ac0e63a241724f85e8a76761012f7dfd5aa9 0) ∷
+    executed (0x33 ∷ 0x07 ∷ 0x51 ∷ 0x01 ∷ []) 0x6000391b0acf
+    (state ((2, 0x7fffffffffffffff) ∷ (21, 0xd499c6f73ada3210) ∷ [])
+    0x70003759f340 0x960fba7eaa96580bb7165c39c1c9caa007e3d54e75d0799b544baf202a1a56d2 0)
+    (state ((2, 0x7fffffffffffffff) ∷ (14, 0x5499c6f73ada320f) ∷ (21, 0xd499c6f73ada3210) ∷ [])
+    0x70003759f344 0x960fba7eaa96580bb7165c39c1c9caa007e3d54e75d0799b544baf202a1a56d2 0) ∷
+    executed (0xb3 ∷ 0x85 ∷ 0x92 ∷ 0x00 ∷ []) 0x600039695994
+    (state ((5, 0xffffffff) ∷ (9, 0x1f86e28da1670c36) ∷ [])
+    0x70004b73988a 0x4cc3cd73124786eb1e65fa0825e1176e09916093ee52b809c9ba031974614601 0)
+    (state ((5, 0xffffffff) ∷ (9, 0x1f86e28da1670c36) ∷ (11, 0x1f86e28ea1670c35) ∷ [])
+    0x70004b73988e 0x4cc3cd73124786eb1e65fa0825e1176e09916093ee52b809c9ba031974614601 0) ∷
+    executed (0x33 ∷ 0x04 ∷ 0xf6 ∷ 0x01 ∷ []) 0x60002bfca32a
+    (state ((12, 0x1) ∷ (31, 0xbfcdfe13e3108f80) ∷ [])
+    0x700025ca1ffe 0xe24ceec835d482b4664db7dde499f7a5f721d2c51ad6d099ecf1742986ebae3c 0)
+    (state ((8, 0xbfcdfe13e3108f81) ∷ (12, 0x1) ∷ (31, 0xbfcdfe13e3108f80) ∷ [])
+    0x700025ca2002 0xe24ceec835d482b4664db7dde499f7a5f721d2c51ad6d099ecf1742986ebae3c 0) ∷
+    executed (0x33 ∷ 0x02 ∷ 0x77 ∷ 0x00 ∷ []) 0x60002d1ba8b6
+    (state ((7, 0xac3af9fbe49be02d) ∷ (14, 0x7fffffffffffffff) ∷ [])
+    0x70002573a0f4 0x49ac3d342ed4e9280e8e4510a9c0b548e5563e0dde8122e2043656e9b73e44d8 0)
+    (state ((4, 0x2c3af9fbe49be02c) ∷ (7, 0xac3af9fbe49be02d) ∷ (14, 0x7fffffffffffffff) ∷ [])
+    0x70002573a0f8 0x49ac3d342ed4e9280e8e4510a9c0b548e5563e0dde8122e2043656e9b73e44d8 0) ∷
+    executed (0x33 ∷ 0x0a ∷ 0x47 ∷ 0x01 ∷ []) 0x60003dc83fae
+    (state ((14, 0xffffffff) ∷ (20, 0x78e85e3f14783d41) ∷ [])
+    0x70003472f038 0x3505a1bb3c939ba6f9aea6c265c1b8a51490adf52740d9d8cc1cbc81d98d3117 0)
+    (state ((14, 0xffffffff) ∷ (20, 0x78e85e4014783d40) ∷ [])
+    0x70003472f03c 0x3505a1bb3c939ba6f9aea6c265c1b8a51490adf52740d9d8cc1cbc81d98d3117 0) ∷
+    executed (0x33 ∷ 0x0d ∷ 0xd5 ∷ 0x00 ∷ []) 0x60001baeb942
+    (state ((13, 0x2965891c9bdb4ef2) ∷ [])
+    0x70003c184320 0x1e774038fee6fd474365e0ff665c2a561705ae0db7ff3c272d69d7611cdcf22c 0)
+    (state ((13, 0x2965891c9bdb4ef2) ∷ (26, 0x2965891c9bdb4ef2) ∷ [])
+    0x70003c184324 0x1e774038fee6fd474365e0ff665c2a561705ae0db7ff3c272d69d7611cdcf22c 0) ∷
+    executed (0xb3 ∷ 0x81 ∷ 0x33 ∷ 0x00 ∷ []) 0x600001f92246
+    (state ((3, 0x1d75c50060db396d) ∷ (7, 0x8000000000000000) ∷ [])
+    0x70006841aac4 0xe5265e86d62789e1e74997724b4bf69fb34e883192e5ac615d9b407d3a4d61e1 0)
+    (state ((3, 0x9d75c50060db396d) ∷ (7, 0x8000000000000000) ∷ [])
+    0x70006841aac8 0xe5265e86d62789e1e74997724b4bf69fb34e883192e5ac615d9b407d3a4d61e1 0) ∷
+    executed (0x33 ∷ 0x8f ∷ 0x76 ∷ 0x01 ∷ []) 0x60002b0450af
+    (state ((13, 0x7fffffff) ∷ (23, 0x50507f627297ef09) ∷ [])
+    0x700033caaa62 0xea5d8afcf20b682b17c1ac5d2bd5f0c174db3bee3cc883ee5af6a90ab907b976 0)
+    (state ((13, 0x7fffffff) ∷ (23, 0x50507f627297ef09) ∷ (30, 0x50507f62f297ef08) ∷ [])
+    0x700033caaa66 0xea5d8afcf20b682b17c1ac5d2bd5f0c174db3bee3cc883ee5af6a90ab907b976 0) ∷
+    executed (0xb3 ∷ 0x8c ∷ 0xa8 ∷ 0x00 ∷ []) 0x600004477679
+    (state ((10, 0xb6741f0ac04f7511) ∷ (17, 0xffffffff80000000) ∷ [])
+    0x700037f2995c 0x9191ea0fac12a851936bf508ac1eabb73f2f88a81713f14d34441f644543a873 0)
+    (state ((10, 0xb6741f0ac04f7511) ∷ (17, 0xffffffff80000000) ∷ (25, 0xb6741f0a404f7511) ∷ [])
+    0x700037f29960 0x9191ea0fac12a851936bf508ac1eabb73f2f88a81713f14d34441f644543a873 0) ∷
+    executed (0x33 ∷ 0x06 ∷ 0xf7 ∷ 0x00 ∷ []) 0x60003f3b39d2
+    (state ((14, 0xffffffffffffffff) ∷ (15, 0x5da526607d130e63) ∷ [])
+    0x700024a2ad68 0x77103a242373ce5e388553c320c0d6a2c6d15a4f3549ebc4bcc1ca370640e023 0)
+    (state ((12, 0x5da526607d130e62) ∷ (14, 0xffffffffffffffff) ∷ (15, 0x5da526607d130e63) ∷ [])
+    0x700024a2ad6c 0x77103a242373ce5e388553c320c0d6a2c6d15a4f3549ebc4bcc1ca370640e023 0) ∷
+    executed (0xb3 ∷ 0x89 ∷ 0x0c ∷ 0x00 ∷ []) 0x60000cc8f2fd
+    (state ((25, 0x80000000) ∷ [])
+    0x70006d9bda4e 0x6966fd4667c6ffdb1f29ba220dc925c1102007b25cd5830a516fcc6ea84f5e57 0)
+    (state ((19, 0x80000000) ∷ (25, 0x80000000) ∷ [])
+    0x70006d9bda52 0x6966fd4667c6ffdb1f29ba220dc925c1102007b25cd5830a516fcc6ea84f5e57 0) ∷
+    executed (0x33 ∷ 0x89 ∷ 0x99 ∷ 0x01 ∷ []) 0x60002daaf7eb
+    (state ((19, 0xffffffff7fffffff) ∷ (25, 0x4e1715f9c4108866) ∷ [])
+    0x70004aebb432 0x645a19063767f2c2b540f708411fe6923a195f4aa4b38090a39c14a38a9732e0 0)
+    (state ((18, 0x4e1715f944108865) ∷ (19, 0xffffffff7fffffff) ∷ (25, 0x4e1715f9c4108866) ∷ [])
+    0x70004aebb436 0x645a19063767f2c2b540f708411fe6923a195f4aa4b38090a39c14a38a9732e0 0) ∷
+    executed (0xb3 ∷ 0x8f ∷ 0x41 ∷ 0x00 ∷ []) 0x60002c9571fd
+    (state ((3, 0xc075e4692dc42a5f) ∷ (4, 0xc431fc490575a5c) ∷ [])
+    0x700039ab985e 0xef1c58fd9ae9a95631fd3c2468a741749d22a1ec68ed157e1547ecd06b77df31 0)
+    (state ((3, 0xc075e4692dc42a5f) ∷ (4, 0xc431fc490575a5c) ∷ (31, 0xccb9042dbe1b84bb) ∷ [])
+    0x700039ab9862 0xef1c58fd9ae9a95631fd3c2468a741749d22a1ec68ed157e1547ecd06b77df31 0) ∷
+    executed (0x33 ∷ 0x8c ∷ 0x42 ∷ 0x01 ∷ []) 0x600020cd5866
+    (state ((5, 0x645f941268054c88) ∷ (20, 0x11e626627b07d720) ∷ [])
+    0x700027165cf2 0x9cb6f079360be46b9480e66cc8067a0328a336c3075f1a3cb0f446496d1ad2e9 0)
+    (state ((5, 0x645f941268054c88) ∷ (20, 0x11e626627b07d720) ∷ (24, 0x7645ba74e30d23a8) ∷ [])
+    0x700027165cf6 0x9cb6f079360be46b9480e66cc8067a0328a336c3075f1a3cb0f446496d1ad2e9 0) ∷
+    executed (0x33 ∷ 0x0e ∷ 0xe6 ∷ 0x00 ∷ []) 0x60003714dffd
+    (state ((12, 0x987090aa7b6192c4) ∷ (14, 0x382996e2aaf47df4) ∷ [])
+    0x700078f52c9a 0x447745b8288e8ebeb65c6c5d6c046af87d99b798f6e664c298b1b48463b690d 0)
+    (state ((12, 0x987090aa7b6192c4) ∷ (14, 0x382996e2aaf47df4) ∷ (28, 0xd09a278d265610b8) ∷ [])
+    0x700078f52c9e 0x447745b8288e8ebeb65c6c5d6c046af87d99b798f6e664c298b1b48463b690d 0) ∷
+    executed (0xb3 ∷ 0x06 ∷ 0x54 ∷ 0x01 ∷ []) 0x60000543b477
+    (state ((8, 0x8597b3f6e107ed3) ∷ (21, 0x4c3ff11adc309a2c) ∷ [])
+    0x70000ef01c04 0x3babba243a3114ab05d62f47ccc3081adaf8b5f5d72cb514156610b4d063fbf1 0)
+    (state ((8, 0x8597b3f6e107ed3) ∷ (13, 0x54996c5a4a4118ff) ∷ (21, 0x4c3ff11adc309a2c) ∷ [])
+    0x70000ef01c08 0x3babba243a3114ab05d62f47ccc3081adaf8b5f5d72cb514156610b4d063fbf1 0) ∷
+    executed (0xb3 ∷ 0x08 ∷ 0xe1 ∷ 0x01 ∷ []) 0x60001f31e5aa
+    (state ((2, 0x809a37496e2cc043) ∷ (30, 0x161a2681d2fff4b2) ∷ [])
+    0x70002cb5211a 0xf36cb0033a204a18b070bf5a69f8eaeceb3ecbfea534a77c2a8ff7c6c38e39a7 0)
+    (state ((2, 0x809a37496e2cc043) ∷ (17, 0x96b45dcb412cb4f5) ∷ (30, 0x161a2681d2fff4b2) ∷ [])
+    0x70002cb5211e 0xf36cb0033a204a18b070bf5a69f8eaeceb3ecbfea534a77c2a8ff7c6c38e39a7 0) ∷
+    executed (0x33 ∷ 0x85 ∷ 0x88 ∷ 0x01 ∷ []) 0x60001868f200
+    (state ((17, 0xd51650aebc2f75db) ∷ (24, 0x66266f45a3cc7c43) ∷ [])
+    0x7000707026f4 0xf55e2e7da77b0df7b9294f3336195fa7c007a24052b76d3d67aa77a9c39ef830 0)
+    (state ((10, 0x3b3cbff45ffbf21e) ∷ (17, 0xd51650aebc2f75db) ∷ (24, 0x66266f45a3cc7c43) ∷ [])
+    0x7000707026f8 0xf55e2e7da77b0df7b9294f3336195fa7c007a24052b76d3d67aa77a9c39ef830 0) ∷
+    executed (0xb3 ∷ 0x8e ∷ 0x78 ∷ 0x01 ∷ []) 0x60000160f9b1
+    (state ((17, 0x1336755d3ae20066) ∷ (23, 0x6ac2d3bd98e9c715) ∷ [])
+    0x7000068bc24e 0xbcdb3c2a2c9f73e2ba4481b7835d5546f17c0c2cca144776e4a9633b519d465f 0)
+    (state ((17, 0x1336755d3ae20066) ∷ (23, 0x6ac2d3bd98e9c715) ∷ (29, 0x7df9491ad3cbc77b) ∷ [])
+    0x7000068bc252 0xbcdb3c2a2c9f73e2ba4481b7835d5546f17c0c2cca144776e4a9633b519d465f 0) ∷
+    executed (0xb3 ∷ 0x01 ∷ 0x7f ∷ 0x00 ∷ []) 0x6000397fa1be
+    (state ((7, 0xb4be87dd0b4f10b4) ∷ (30, 0x7b04ef3484010c3) ∷ [])
+    0x70001d3700fa 0x5907aad0bc86b74451873dede1a8d9af7205d539b373131406755905040590c9 0)
+    (state ((3, 0xbc6ed6d0538f2177) ∷ (7, 0xb4be87dd0b4f10b4) ∷ (30, 0x7b04ef3484010c3) ∷ [])
+    0x70001d3700fe 0x5907aad0bc86b74451873dede1a8d9af7205d539b373131406755905040590c9 0) ∷
+    executed (0x33 ∷ 0x0d ∷ 0x64 ∷ 0x01 ∷ []) 0x60001454f5ad
+    (state ((8, 0x9a77c18fed5aeb00) ∷ (22, 0x7725baa2c1f4dcd6) ∷ [])
+    0x7000543070fa 0x5d3ce92a80410264a1766b9eda28e8642defd9cb1cef8882b959cf7a9c075102 0)
+    (state ((8, 0x9a77c18fed5aeb00) ∷ (22, 0x7725baa2c1f4dcd6) ∷ (26, 0x119d7c32af4fc7d6) ∷ [])
+    0x7000543070fe 0x5d3ce92a80410264a1766b9eda28e8642defd9cb1cef8882b959cf7a9c075102 0) ∷
+    executed (0xb3 ∷ 0x84 ∷ 0x6f ∷ 0x00 ∷ []) 0x600039afd0f3
+    (state ((6, 0x8ef63b50329366b9) ∷ (31, 0xd00e48081c0e3f12) ∷ [])
+    0x70005894f804 0x99731ae4199ddb2aaede423f82a89db494baafd2be13c8c5846883f0b50f495f 0)
+    (state ((6, 0x8ef63b50329366b9) ∷ (9, 0x5f0483584ea1a5cb) ∷ (31, 0xd00e48081c0e3f12) ∷ [])
+    0x70005894f808 0x99731ae4199ddb2aaede423f82a89db494baafd2be13c8c5846883f0b50f495f 0) ∷
+    executed (0xb3 ∷ 0x0f ∷ 0x31 ∷ 0x01 ∷ []) 0x60000aeae629
+    (state ((2, 0x8177948da5376aa9) ∷ (19, 0x32bec9b216ed1ed9) ∷ [])
+    0x700006b3932c 0xe1fa366e0528a22936bfd404e1f5df759df15a37caa69040561d952cfb9eb48d 0)
+    (state ((2, 0x8177948da5376aa9) ∷ (19, 0x32bec9b216ed1ed9) ∷ (31, 0xb4365e3fbc248982) ∷ [])
+    0x700006b39330 0xe1fa366e0528a22936bfd404e1f5df759df15a37caa69040561d952cfb9eb48d 0) ∷
+    executed (0x33 ∷ 0x83 ∷ 0x6e ∷ 0x01 ∷ []) 0x60002375333f
+    (state ((22, 0xc98bb0a34f73e586) ∷ (29, 0xd2fab63c3c6d47bc) ∷ [])
+    0x70007d1574d0 0xf1478c807b944c9c87e0cd9e78c316c111a9180fdee16a6a1903ff91d057ff57 0)
+    (state ((6, 0x9c8666df8be12d42) ∷ (22, 0xc98bb0a34f73e586) ∷ (29, 0xd2fab63c3c6d47bc) ∷ [])
+    0x70007d1574d4 0xf1478c807b944c9c87e0cd9e78c316c111a9180fdee16a6a1903ff91d057ff57 0) ∷
+    executed (0x33 ∷ 0x8e ∷ 0xb1 ∷ 0x00 ∷ []) 0x600033a1f729
+    (state ((3, 0x3167134cc5a30a7b) ∷ (11, 0x3c5f2f4fb39d6174) ∷ [])
+    0x700072f8e3a8 0x150e076c039ef46d67e8446145095fce3d25a153a04214e8e44da3748ef7c1e7 0)
+    (state ((3, 0x3167134cc5a30a7b) ∷ (11, 0x3c5f2f4fb39d6174) ∷ (28, 0x6dc6429c79406bef) ∷ [])
+    0x700072f8e3ac 0x150e076c039ef46d67e8446145095fce3d25a153a04214e8e44da3748ef7c1e7 0) ∷
+    executed (0x33 ∷ 0x8b ∷ 0xaf ∷ 0x00 ∷ []) 0x60000d66f2db
+    (state ((10, 0xa5e2c20005efe353) ∷ (31, 0x6d0d8041036a7c6c) ∷ [])
+    0x70001b3f267a 0x224a40ebe0461186f0812cfb8a67dce418f1141411af1cdb821a023fb0b4a326 0)
+    (state ((10, 0xa5e2c20005efe353) ∷ (22, 0x12f04241095a5fbf) ∷ (31, 0x6d0d8041036a7c6c) ∷ [])
+    0x70001b3f267e 0x224a40ebe0461186f0812cfb8a67dce418f1141411af1cdb821a023fb0b4a326 0) ∷
+    executed (0x33 ∷ 0x0b ∷ 0x7f ∷ 0x00 ∷ []) 0x60002cf7b4b8
+    (state ((7, 0x4d8756d1617f754e) ∷ (30, 0x9f7873b4cfe04461) ∷ [])
+    0x70005897e6b4 0xab1f36c35c61c57fde0332743083eda0c8b09d5da7261c3b3fde517f27e528f2 0)
+    (state ((7, 0x4d8756d1617f754e) ∷ (22, 0xecffca86315fb9af) ∷ (30, 0x9f7873b4cfe04461) ∷ [])
+    0x70005897e6b8 0xab1f36c35c61c57fde0332743083eda0c8b09d5da7261c3b3fde517f27e528f2 0) ∷
+    executed (0x33 ∷ 0x03 ∷ 0x28 ∷ 0x01 ∷ []) 0x6000131bda42
+    (state ((16, 0xfc74b3233296417f) ∷ (18, 0xbc5fa8ed6f81f52f) ∷ [])
+    0x700028beb906 0xee7c74266212ccc20fec8c81aaef438a014f1001e0b40914bc541714137f0faf 0)
+    (state ((6, 0xb8d45c10a21836ae) ∷ (16, 0xfc74b3233296417f) ∷ (18, 0xbc5fa8ed6f81f52f) ∷ [])
+    0x700028beb90a 0xee7c74266212ccc20fec8c81aaef438a014f1001e0b40914bc541714137f0faf 0) ∷
+    executed (0xb3 ∷ 0x04 ∷ 0xa8 ∷ 0x01 ∷ []) 0x60000231d4eb
+    (state ((16, 0x7d9688f1e733c822) ∷ (26, 0xb358fe58dcb93781) ∷ [])
+    0x700006a50f68 0xe2ab749a93cb01d8b13fa6338a5bee2d04b4ef866122c5f4b867454b9059ee4d 0)
+    (state ((9, 0x30ef874ac3ecffa3) ∷ (16, 0x7d9688f1e733c822) ∷ (26, 0xb358fe58dcb93781) ∷ [])
+    0x700006a50f6c 0xe2ab749a93cb01d8b13fa6338a5bee2d04b4ef866122c5f4b867454b9059ee4d 0) ∷
+    executed (0xb3 ∷ 0x09 ∷ 0xe5 ∷ 0x00 ∷ []) 0x60000d0bfab7
+    (state ((10, 0x52f7d964897cfdad) ∷ (14, 0x989c6a079c5ae5b) ∷ [])
+    0x70004db07d98 0xe666f3478e75c2ac6ffc6d19a4290d2e94d8c03fd81f60979a5a976ae2ad7bad 0)
+    (state ((10, 0x52f7d964897cfdad) ∷ (14, 0x989c6a079c5ae5b) ∷ (19, 0x5c81a0050342ac08) ∷ [])
+    0x70004db07d9c 0xe666f3478e75c2ac6ffc6d19a4290d2e94d8c03fd81f60979a5a976ae2ad7bad 0) ∷
+    executed (0xb3 ∷ 0x84 ∷ 0x1b ∷ 0x00 ∷ []) 0x60001ad39f35
+    (state ((1, 0xeb08404c88c83b26) ∷ (23, 0xac940afab6875f95) ∷ [])
+    0x70003766382c 0x89c6ae293883ab3d1e8b4b0734f65ddb3c3aefbcc711af8f4b3d5d50ac504634 0)
+    (state ((1, 0xeb08404c88c83b26) ∷ (9, 0x979c4b473f4f9abb) ∷ (23, 0xac940afab6875f95) ∷ [])
+    0x700037663830 0x89c6ae293883ab3d1e8b4b0734f65ddb3c3aefbcc711af8f4b3d5d50ac504634 0) ∷
+    executed (0x33 ∷ 0x84 ∷ 0xa5 ∷ 0x00 ∷ []) 0x60000214be07
+    (state ((10, 0xceed9f960519b3b3) ∷ (11, 0x74e32a0c7c03e8da) ∷ [])
+    0x70000377f2c4 0x91764e644e50293de6ff76ea6e7c1e44f0672b4a508e2bf7de4ed3ec36201b2a 0)
+    (state ((8, 0x43d0c9a2811d9c8d) ∷ (10, 0xceed9f960519b3b3) ∷ (11, 0x74e32a0c7c03e8da) ∷ [])
+    0x70000377f2c8 0x91764e644e50293de6ff76ea6e7c1e44f0672b4a508e2bf7de4ed3ec36201b2a 0) ∷
+    []) ∷
     -- lb
     group 0x0 (
     executed (0x03 ∷ 0x88 ∷ 0x05 ∷ 0x00 ∷ []) 0x60003dcbc427

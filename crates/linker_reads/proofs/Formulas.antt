@@ -1,9 +1,9 @@
 -- The value of a relocation is its address, biased and cut to its page, less its base.
-use Rattle.std.proofs.Common.{◌≡◌, ℕ, ◌+◌, ◌-◌, ◌*◌, ◌/◌, ◌%◌, ◌^◌, ◌<◌, ◌≤◌, refl, sym, ◌∙◌, ap, subst, arith}
-use Rattle.std.proofs.Common.{Bool, true, false, Option, Some, None, ℤ, ◌↔◌, if◌then◌else◌, eqb, not, ◌&&◌, ltb}
+use Rattle.std.proofs.Common.{◌≡◌, ℕ, ◌+◌, ◌-◌, ◌%◌, ◌^◌, ◌<◌, ◌≤◌, refl, sym, ◌∙◌, ap, arith}
+use Rattle.std.proofs.Common.{Bool, true, false, Option, Some, None, ℤ, ◌↔◌, if◌then◌else◌, eqb}
 use Rattle.std.specs.Int.{w64, cast_signed, cast_unsigned}
 use Rattle.std.proofs.lemmas.Int.{of_z-to_z}
-use Rattle.std.proofs.lemmas.Nat.{mod_below, pow_pos}
+use Rattle.std.proofs.lemmas.Nat.{mod_below}
 use Rattle.linker_base.specs.Bits.{field}
 use Rattle.linker_elf.specs.Value.{sum_64, difference_64, page_if, bias_number, formula, value_of}
 use Rattle.linker_elf.specs.Value.{read_signed, masks_place, masks_got}
@@ -14,13 +14,12 @@ use Rattle.linker_elf.specs.declared.elf.RelocationSize.{RelocationSize}
 use Rattle.linker_elf.specs.declared.elf.RelocationSize.TheVariants.{ByteSize, BitMasking}
 use Rattle.linker_elf.specs.declared.elf.value.Operands.{Operands}
 use Rattle.linker_reads.proofs.Shifts.{page_bits}
-use Rattle.linker_reads.specs.Fields.{IsOf, IsOfValue}
-use Rattle.linker_reads.specs.Solving.{terms, terms_of_kind, terms_of, address, is_paged, base}
+use Rattle.linker_reads.specs.Fields.{IsOf}
+use Rattle.linker_reads.specs.Solving.{terms_of_kind, terms_of, address, is_paged, base}
 use Rattle.linker_reads.specs.Solving.{HaveSameBase, Solves}
 use Rattle.linker_reads.specs.declared.fields.FieldValue.{FieldValue}
 use Rattle.linker_reads.specs.declared.solving.Origin.{Origin}
 use Rattle.linker_reads.specs.declared.solving.Origin.TheVariants.{Zero, Place, Got, Tls}
-use Rattle.linker_reads.specs.declared.solving.Reference.{Reference}
 use Rattle.linker_reads.specs.declared.solving.Reference.TheVariants.{Symbol, GotEntry, PltEntry}
 use Rattle.linker_reads.specs.declared.solving.Terms.{Terms}
 

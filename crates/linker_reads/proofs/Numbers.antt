@@ -1,14 +1,14 @@
 -- What an instruction holds, by what the form's read returns of it.
-use Rattle.std.proofs.Common.{◌≡◌, ℕ, suc, ◌+◌, ◌-◌, ◌*◌, ◌/◌, ◌%◌, ◌^◌, ◌<◌, ◌≤◌, List, ◌++◌, refl}
+use Rattle.std.proofs.Common.{◌≡◌, ℕ, suc, ◌+◌, ◌-◌, ◌*◌, ◌/◌, ◌%◌, ◌^◌, ◌<◌, ◌≤◌, refl}
 use Rattle.std.proofs.Common.{sym, ◌∙◌, ap, subst, arith, inl, inr, ℤ, pos, negsuc, ◌+ℤ◌, ◌-ℤ◌, ◌*ℤ◌, neg_ℤ, ◌≤ℤ◌, ◌<ℤ◌}
 use Rattle.std.proofs.Common.{true, false}
-use Rattle.std.specs.Int.{w32, w64, cast_unsigned, from_le_bytes}
+use Rattle.std.specs.Int.{w64, cast_unsigned}
 use Rattle.std.proofs.lemmas.Bool.{cases_lt}
 use Rattle.std.proofs.lemmas.Int.{ints}
 use Rattle.std.proofs.lemmas.Nat.{mod_below, pow_pos}
 use Rattle.std.proofs.Math.Nat.{mod-eq_of_lt}
 use Rattle.linker_base.specs.Bits.{field, signed}
-use Rattle.linker_base.specs.Form.{place_sum, replaced, ored, window_of, or_bits_to}
+use Rattle.linker_base.specs.Form.{place_sum, replaced, ored, or_bits_to}
 use Rattle.linker_base.proofs.ConsecutiveBits.{consecutive_bits_sum}
 use Rattle.linker_base.proofs.Fields.{signed_bits}
 use Rattle.linker_base.proofs.Immediates.{place_sum_below}

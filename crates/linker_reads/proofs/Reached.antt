@@ -14,7 +14,7 @@ use Rattle.linker_elf.specs.Elf.{IsWithin}
 use Rattle.linker_elf.specs.Value.{sum_64, difference_64}
 use Rattle.linker_reads.proofs.Ranges.{quotient_below}
 use Rattle.linker_reads.specs.Fields.{IsOfValue}
-use Rattle.linker_reads.specs.Reading.{leaves_one, least_sum, up_to_sign, steps_above}
+use Rattle.linker_reads.specs.Reading.{leaves_one, least_sum, up_to_sign}
 use Rattle.linker_reads.specs.declared.fields.FieldValue.{FieldValue}
 
 -- ---- how far a value is from the least

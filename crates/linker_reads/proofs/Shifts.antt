@@ -1,5 +1,5 @@
 -- Known bits of a number, and of one that is moved by a rounding.
-use Rattle.std.proofs.Common.{◌≡◌, ℕ, ◌+◌, ◌-◌, ◌*◌, ◌/◌, ◌%◌, ◌^◌, ◌<◌, ◌≤◌, refl, sym, ◌∙◌, ap, subst, arith}
+use Rattle.std.proofs.Common.{◌≡◌, ℕ, ◌+◌, ◌-◌, ◌*◌, ◌/◌, ◌%◌, ◌^◌, ◌<◌, ◌≤◌, sym, ◌∙◌, ap, subst, arith}
 use Rattle.std.proofs.lemmas.Nat.{mod_below, pow_pos, pow-add, mod-pow-add, div-mul-add, mod_low}
 use Rattle.std.proofs.Math.Nat.{mod-add-mod, mod-eq_of_lt, mul-add-mod_self_right}
 use Rattle.linker_base.specs.Bits.{field}
@@ -55,14 +55,13 @@ pub taken_off : (n b r e : ℕ) → r ≤ 2 ^ 64 → e ≤ 64 → b < 2 ^ e
     → field (sum_64 n 0) 0 e ≡ field ((b + (2 ^ 64 - r)) % 2 ^ 64) 0 e)
 taken_off n b r e small most few =
     let y = b + (2 ^ 64 - r) in
-    let low : field (y % 2 ^ 64) 0 e ≡ y % 2 ^ e = from_zero (y % 2 ^ 64) e ∙ mod_mod y 64 e most in
-    (
+    let low : field (y % 2 ^ 64) 0 e ≡ y % 2 ^ e = from_zero (y % 2 ^ 64) e ∙ mod_mod y 64 e most in (
       (λ h. let same : n % 2 ^ e ≡ y % 2 ^ e = sym (plain n e most) ∙ h ∙ low in
-      low_sum n r e most ∙ sym (mod-add-mod n (2 ^ e) r) ∙ ap (λ z. (z + r) % 2 ^ e) same
-      ∙ mod-add-mod y (2 ^ e) r ∙ added b r e small most few),
+          low_sum n r e most ∙ sym (mod-add-mod n (2 ^ e) r) ∙ ap (λ z. (z + r) % 2 ^ e) same
+          ∙ mod-add-mod y (2 ^ e) r ∙ added b r e small most few),
       (λ h. plain n e most
-      ∙ cancel n y r e small most (sym (low_sum n r e most) ∙ h ∙ sym (added b r e small most few))
-      ∙ sym low),
+          ∙ cancel n y r e small most (sym (low_sum n r e most) ∙ h ∙ sym (added b r e small most few))
+          ∙ sym low),
     )
 
 -- bits from k up and those below
@@ -79,22 +78,23 @@ joined n r h l k e order most small few =
     let parts : u % 2 ^ e ≡ u / 2 ^ k % 2 ^ (e - k) * 2 ^ k + u % 2 ^ k =
     ap (λ j. u % 2 ^ j) (let same : e ≡ (e - k) + k = omega arith in same) ∙ mod-pow-add u (e - k) k in
     let is : w ≡ (l + r) % 2 ^ k = mod_mod (l + r) 64 k (omega arith) in
-    let of_u : u % 2 ^ k ≡ (n + r) % 2 ^ k = mod_mod (n + r) 64 k (omega arith) in
-    (
+    let of_u : u % 2 ^ k ≡ (n + r) % 2 ^ k = mod_mod (n + r) 64 k (omega arith) in (
       (λ e_is. let both : u / 2 ^ k % 2 ^ (e - k) * 2 ^ k + u % 2 ^ k ≡ h * 2 ^ k + w =
-      sym parts ∙ sym (from_zero u e) ∙ e_is in
-      let high : u / 2 ^ k % 2 ^ (e - k) ≡ h =
-      sym (div-mul-add (u / 2 ^ k % 2 ^ (e - k)) (2 ^ k) (u % 2 ^ k) rest)
-      ∙ ap (λ y. y / 2 ^ k) both ∙ div-mul-add h (2 ^ k) w below in
-      let low : u % 2 ^ k ≡ w =
-      sym (mod_low (u / 2 ^ k % 2 ^ (e - k)) k (u % 2 ^ k) rest) ∙ ap (λ y. y % 2 ^ k) both
-      ∙ mod_low h k w below in
-      (high, plain n k (omega arith)
-      ∙ cancel n l r k small (omega arith) (sym of_u ∙ low ∙ is) ∙ mod-eq_of_lt few)),
+          sym parts ∙ sym (from_zero u e) ∙ e_is in
+          let high : u / 2 ^ k % 2 ^ (e - k) ≡ h =
+          sym (div-mul-add (u / 2 ^ k % 2 ^ (e - k)) (2 ^ k) (u % 2 ^ k) rest)
+          ∙ ap (λ y. y / 2 ^ k) both ∙ div-mul-add h (2 ^ k) w below in
+          let low : u % 2 ^ k ≡ w =
+          sym (mod_low (u / 2 ^ k % 2 ^ (e - k)) k (u % 2 ^ k) rest) ∙ ap (λ y. y % 2 ^ k) both
+          ∙ mod_low h k w below in (
+            high,
+            plain n k (omega arith)
+                ∙ cancel n l r k small (omega arith) (sym of_u ∙ low ∙ is) ∙ mod-eq_of_lt few,
+          )),
       (λ p. let same : n % 2 ^ k ≡ l = sym (plain n k (omega arith)) ∙ p.1 in
-      let low : u % 2 ^ k ≡ w =
-      of_u ∙ sym (mod-add-mod n (2 ^ k) r) ∙ ap (λ y. (y + r) % 2 ^ k) same ∙ sym is in
-      from_zero u e ∙ parts ∙ ap (λ y. y * 2 ^ k + u % 2 ^ k) p.0 ∙ ap (λ y. h * 2 ^ k + y) low),
+          let low : u % 2 ^ k ≡ w =
+          of_u ∙ sym (mod-add-mod n (2 ^ k) r) ∙ ap (λ y. (y + r) % 2 ^ k) same ∙ sym is in
+          from_zero u e ∙ parts ∙ ap (λ y. y * 2 ^ k + u % 2 ^ k) p.0 ∙ ap (λ y. h * 2 ^ k + y) low),
     )
 
 pub total_below : (h w k e : ℕ) → h < 2 ^ (e - k) → w < 2 ^ k → k ≤ e → h * 2 ^ k + w < 2 ^ e
@@ -139,8 +139,7 @@ module _ (high low : FieldValue) (a : IsProper high) (b : IsProper low)
       let of_low : field (sum_64 n 0) 0 low.known.end
       ≡ field (sum_64 n low.rounding) low.known.start low.known.end =
       ap (λ r. field (sum_64 n r) 0 low.known.end) (sym zero)
-      ∙ ap (λ s. field (sum_64 n low.rounding) s low.known.end) (sym start) in
-      (
+      ∙ ap (λ s. field (sum_64 n low.rounding) s low.known.end) (sym start) in (
         (λ h. let q = p.0 h in (sym of_high ∙ q.0, sym of_low ∙ q.1)),
         (λ q. p.1 (of_high ∙ q.0, of_low ∙ q.1)),
       )
@@ -157,3 +156,9 @@ page_bits x c s e above =
     sym (ap (bit_at (sum_64 (x - x % 4096) c)) place) ∙ sym (bit_at_shr (sum_64 (x - x % 4096) c) 12 (w - 12))
     ∙ ap (λ y. bit_at y (w - 12)) same ∙ bit_at_shr (sum_64 x (c - c % 4096)) 12 (w - 12)
     ∙ ap (bit_at (sum_64 x (c - c % 4096))) place)
+
+-- a number of which all bits are known
+pub all_bits : (n b r : ℕ) → n < 2 ^ 64 → r < 2 ^ 64 → field (sum_64 n r) 0 64 ≡ b
+    → (b + (2 ^ 64 - r)) % 2 ^ 64 ≡ n
+all_bits n b r small rounding e =
+    let sum : (n + r) % 2 ^ 64 ≡ b = sym (low_sum n r 64 (omega arith)) ∙ e in omega arith

@@ -1,5 +1,5 @@
 -- What is read after a write has the bits of the value that was written.
-use Rattle.std.proofs.Common.{FitsSigned, ◌≡◌, ℕ, suc, ◌+◌, ◌-◌, ◌*◌, ◌/◌, ◌%◌, ◌^◌, ◌<◌, ◌≤◌, refl, sym}
+use Rattle.std.proofs.Common.{FitsSigned, ◌≡◌, ℕ, ◌+◌, ◌-◌, ◌*◌, ◌/◌, ◌%◌, ◌^◌, ◌<◌, ◌≤◌, refl, sym}
 use Rattle.std.proofs.Common.{◌∙◌, ap, subst, arith, inl, inr, Bool, true, false, ◌&&◌, leb, ltb}
 use Rattle.std.proofs.Common.{List, ℤ, pos, negsuc, int_lt, eqb, unsigned_abs, Some, None, if◌then◌else◌, ◌+ℤ◌, ◌*ℤ◌, ◌≤ℤ◌, ◌<ℤ◌, neg_ℤ}
 use Rattle.std.specs.Int.{w64, cast_unsigned, int_rem_euclid, bit_at}
@@ -7,7 +7,7 @@ use Rattle.std.specs.Int.Signed.{le_z}
 use Rattle.std.proofs.lemmas.Bool.{and_parts, leb-true, ltb-true, eqb-true, cases_lt, lt-ltb, le-ltb}
 use Rattle.std.proofs.lemmas.Int.{ints}
 use Rattle.std.proofs.lemmas.Nat.{mod_below, pow_pos}
-use Rattle.std.proofs.Math.Nat.{mod-add-mod, mod-eq_of_lt}
+use Rattle.std.proofs.Math.Nat.{mod-add-mod}
 use Rattle.linker_base.specs.Bits.{field, signed}
 use Rattle.linker_base.specs.Form.{Written, IsClear, window_of, place_sum, IsSameModulo, twos_complement, one_field, replaced, ored, or_bits_to}
 use Rattle.linker_base.specs.declared.bit_misc.BitRange.{BitRange}
@@ -19,12 +19,12 @@ use Rattle.linker_base.proofs.Places.{sums}
 use Rattle.linker_elf.specs.AArch64.{aarch64_form, aarch64_layout, movnz, moved_value, moved_bits, move_opcode, imm16_places}
 use Rattle.linker_elf.specs.Agrees.{bits_from}
 use Rattle.linker_elf.specs.Elf.{IsWithin, bit_bounds, relocation_form, relocation_layout}
-use Rattle.linker_elf.specs.LoongArch.{loongarch_form, loongarch_layout, shift10_low, shift10_imm16, pcaddu18i_imm, jirl_imm}
-use Rattle.linker_elf.specs.Ppc64.{ppc64_form, ppc64_layout}
-use Rattle.linker_elf.specs.Relocate.{InstructionWritten, bits_taken, places_cleared, ppc64_reads}
+use Rattle.linker_elf.specs.LoongArch.{loongarch_form, shift10_low, shift10_imm16, pcaddu18i_imm, jirl_imm}
+use Rattle.linker_elf.specs.Ppc64.{ppc64_form}
+use Rattle.linker_elf.specs.Relocate.{InstructionWritten, bits_taken, ppc64_reads}
 use Rattle.linker_elf.specs.Relocate.{IsInUnits, HoldsBits, with_bit_31_if, whole_number, IsWritten, SizeNumber, number_of_bytes}
 use Rattle.linker_elf.specs.Relocate.{is_supported, takes_size}
-use Rattle.linker_elf.specs.RiscV.{riscv_form, riscv_layout, riscv_places, ui_high, ui_low}
+use Rattle.linker_elf.specs.RiscV.{riscv_form, riscv_places, ui_high, ui_low}
 use Rattle.linker_elf.specs.Rows.{Bounds}
 use Rattle.linker_elf.specs.Value.{sum_64}
 use Rattle.linker_elf.specs.declared.aarch64.forms.AArch64Instruction.{AArch64Instruction}
@@ -48,7 +48,7 @@ use Rattle.linker_elf.specs.declared.ppc64.forms.Ppc64Instruction.TheVariants.{D
 use Rattle.linker_elf.specs.declared.riscv64.forms.RiscVInstruction.{RiscVInstruction}
 use Rattle.linker_elf.specs.declared.riscv64.forms.RiscVInstruction.TheVariants.{UType, CluiType}
 use Rattle.linker_elf.specs.declared.riscv64.forms.RiscVInstruction.TheVariants.{UiType}
-use Rattle.linker_elf.proofs.Agreement.{from_zero, quotient_low, quotient_high, le_yes, rem_rem}
+use Rattle.linker_elf.proofs.Agreement.{from_zero, quotient_low, quotient_high, le_yes}
 use Rattle.linker_elf.proofs.Clearing.{clear_after}
 use Rattle.linker_elf.proofs.LoongArch.{loongarch_machine, shift10_low_sum}
 use Rattle.linker_elf.proofs.Placed.{reads_as}
@@ -58,7 +58,7 @@ use Rattle.linker_reads.proofs.Aligned.{cast_below}
 use Rattle.linker_reads.proofs.BitFields.{sum_bits, layout_bits, part_of_part, own_bits, low_bits_same, number_bits}
 use Rattle.linker_reads.proofs.Numbers.{IsShort, short}
 use Rattle.linker_reads.specs.Fields.{IsOfValue}
-use Rattle.linker_reads.specs.Reading.{immediate_of, bits_within, number_held, bits_held, bits_read, holds_bits, are_signed}
+use Rattle.linker_reads.specs.Reading.{immediate_of, bits_within, bits_held, bits_read, holds_bits, are_signed}
 use Rattle.linker_reads.specs.Reading.{holds_value, holds_field, field_read, bytes_read, bits_of_bytes}
 use Rattle.linker_reads.proofs.Proper.{some_of_bytes}
 

@@ -1,8 +1,9 @@
 -- Known bits of numbers.
-use Rattle.std.specs.Prelude.{◌≡◌, ℕ, ◌-◌, ◌^◌, ◌<◌, ◌≤◌, ℤ}
+use Rattle.std.specs.Prelude.{◌≡◌, ℕ, ◌-◌, ◌^◌, ◌<◌, ◌≤◌, ◌==◌, ◌&&◌, if◌then◌else◌, ℤ}
+use Rattle.std.specs.Prelude.{Option, Some, None}
 use Rattle.std.specs.Int.{w64, cast_unsigned}
 use Rattle.linker_base.specs.Bits.{field}
-use Rattle.linker_elf.specs.Value.{sum_64}
+use Rattle.linker_elf.specs.Value.{sum_64, difference_64}
 use Rattle.linker_reads.specs.declared.fields.FieldValue.{FieldValue}
 
 -- The number has the known bits.
@@ -18,3 +19,8 @@ pub record IsProper (f : FieldValue) : Type 0 where
   pub some : f.known.start < f.known.end
   pub inside : f.known.end ≤ 64
   pub small : f.bits < 2 ^ (f.known.end - f.known.start)
+
+-- the number, if all of its bits are known
+abbrev pub whole_number : FieldValue → Option ℕ
+whole_number f =
+    if f.known.start == 0 && f.known.end == 64 then Some (difference_64 f.bits f.rounding) else None

@@ -1,5 +1,5 @@
 -- The address that a relocation's value comes from: the inverse of the formulas of values.
-use Rattle.std.specs.Prelude.{◌≡◌, ◌↔◌, ℕ, ◌==◌, Bool, true, false, not, ◌&&◌, nat_lt, if◌then◌else◌}
+use Rattle.std.specs.Prelude.{◌≡◌, ◌↔◌, ℕ, ◌==◌, Bool, false, not, ◌&&◌, nat_lt, if◌then◌else◌}
 use Rattle.std.specs.Prelude.{Option, Some, None, ℤ}
 use Rattle.std.specs.Int.{w64, cast_unsigned}
 use Rattle.linker_elf.specs.Value.{sum_64, entry_addend, masks_symbol, masks_entry, place_term}

@@ -1,8 +1,8 @@
 //! Known bits of a number: of a relocation's value, or of an address.
 
-ghost use Rattle.std.specs.Prelude.{◌≡◌, ◌<◌, ◌^◌, ◌↔◌, IsTrue};
+ghost use Rattle.std.specs.Prelude.{◌≡◌, ◌<◌, ◌^◌, ◌↔◌, ℕ, IfSome, IsTrue};
 ghost use Rattle.linker_base.specs.Bits.{field};
-ghost use Rattle.linker_reads.specs.Fields.{IsOf};
+ghost use Rattle.linker_reads.specs.Fields.{IsOf, whole_number};
 
 use linker_base::bit_misc::BitRange;
 
@@ -44,11 +44,23 @@ pub(crate) fn power_of_two(exponent: u8) -> u64
 }
 
 impl FieldValue {
-    /// Whether a number has the known bits.
+    /// Whether a number has the known bits. Of a value, its 64 bits in two's complement are meant.
     pub fn is_of(&self, number: u64) -> bool
         ensures { IsTrue result ↔ IsOf self.now number }
     {
         let sum = number.wrapping_add(self.rounding);
         bits_of(sum, self.known.start, self.known.end) == self.bits
+    }
+
+    /// The number, if all of its bits are known.
+    pub fn number(&self) -> Option<u64>
+        ensures value { result ≡ whole_number self.now }
+        ensures known { (n : ℕ) → n < 2 ^ 64 → IsOf self.now n → IfSome result (λ m. m ≡ n) }
+    {
+        if self.known.start == 0 && self.known.end == 64 {
+            Some(self.bits.wrapping_sub(self.rounding))
+        } else {
+            None
+        }
     }
 }

@@ -5,3 +5,5 @@
 pub mod fields;
 pub mod reading;
 pub mod solving;
+#[cfg(test)]
+mod tests;

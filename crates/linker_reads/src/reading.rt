@@ -434,7 +434,33 @@ fn with_alignment(alignment: u64, field: FieldValue) -> FieldValue
     }
 }
 
-/// What is known of a relocation's value from the bytes at its place.
+/// What is known of a relocation's value from the bytes that begin with its field. Whatever value
+/// `write` wrote there, it has these bits. Of instructions it is what the machine reads:
+///
+/// - Bits of an instruction are those of the value from the first of the relocation's bits up. They
+///   are known up to bit 63 if `reach` leaves one choice, as a sign does, and down to bit 0 if the
+///   row's alignment says that the bits below are 0. Then `number` returns the value.
+/// - RISC-V's `lui`, `auipc` and `c.lui` have the upper bits of the value plus 0x800, which is the
+///   `rounding`. The other half has its low 12 bits. `UiType` and LoongArch's `Call36` have both
+///   halves, so that all bits are known.
+/// - PowerPC64's and LoongArch's adjusted high halves need no rounding: the row's bias is part of
+///   the value, and `solve` takes it off.
+/// - MOVN and MOVZ have 16 bits and the sign, whatever their shift is.
+/// - Whole bytes have the low bits of the value, as a little-endian number; `R_RISCV_SET6` has 6.
+///
+/// `None` if there are fewer bytes than the window. Also `None` of rows whose field isn't the value:
+/// those of no bytes, those that add or subtract, those of ULEB128 numbers, and `R_LARCH_CALL30`; and
+/// of rows that the library doesn't return, as those of `MachOLow12` or of more than 8 bytes.
+///
+/// ```
+/// use linker_reads::reading::read;
+/// use linker_utils::riscv64::{self, RiscVRelocation};
+///
+/// // `jal ra, 8`
+/// let jal = 0x0080_00efu32.to_le_bytes();
+/// let row = riscv64::row(RiscVRelocation::R_RISCV_JAL).unwrap();
+/// assert_eq!(read(&row, &jal).unwrap().number(), Some(8));
+/// ```
 pub fn read(row: &Row, bytes: &[u8]) -> Option<FieldValue>
     ensures value { result ≡ value_read row.now bytes.now }
     ensures proper { IfSome result IsProper }
@@ -443,7 +469,7 @@ pub fn read(row: &Row, bytes: &[u8]) -> Option<FieldValue>
     read_row(&row.info(), bytes)
 }
 
-/// The same of a row.
+/// The same, of a row that was read from a table.
 pub fn read_row(row: &RelocationKindInfo, bytes: &[u8]) -> Option<FieldValue>
     ensures value { result ≡ value_read row.now bytes.now }
     ensures proper { IfSome result IsProper }

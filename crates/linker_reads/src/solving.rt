@@ -1,6 +1,6 @@
-//! The address that a relocation's value comes from.
+//! The address that a relocation's value comes from, and that of a pair of instructions.
 
-ghost use Rattle.std.specs.Prelude.{◌≡◌, ◌↔◌, ℕ};
+ghost use Rattle.std.specs.Prelude.{◌≡◌, ◌↔◌, ℕ, IfSome};
 ghost use Rattle.linker_elf.specs.Value.{bias_number, page_if};
 ghost use Rattle.linker_reads.specs.Fields.{IsProper, IsOf};
 ghost use Rattle.linker_reads.specs.Solving.{terms, terms_of_kind, terms_of, is_paged};
@@ -36,19 +36,24 @@ pub enum Origin {
     Tls,
 }
 
-/// The terms of the formula of a value.
+/// The terms of the formula of a value: the address, biased and cut to its page where the row says
+/// so, less the origin.
 #[derive(Debug, Clone, Copy, PartialEq, Eq)]
 pub struct Terms {
+    /// The address.
     pub reference: Reference,
+    /// What is taken off it.
     pub origin: Origin,
 }
 
+/// Both terms.
 fn make_terms(reference: Reference, origin: Origin) -> Option<Terms>
     ensures { result ≡ terms reference origin }
 {
     Some(Terms { reference, origin })
 }
 
+/// `terms_of`, of a row that has bytes.
 fn terms_of_kind(kind: RelocationKind) -> Option<Terms>
     ensures { result ≡ terms_of_kind kind }
 {
@@ -99,6 +104,7 @@ pub fn terms_of(kind: RelocationKind, size: RelocationSize) -> Option<Terms>
     }
 }
 
+/// The address of the page of 4 KiB that contains an address, if `masked`.
 fn page_if(masked: bool, address: u64) -> u64
     ensures { result ≡ page_if masked address }
 {
@@ -141,6 +147,7 @@ fn is_paged(reference: Reference, mask: Option<PageMask>) -> bool
     }
 }
 
+/// What is added to the address.
 fn bias_or_zero(bias: Option<Bias>) -> u64
     ensures { result ≡ bias_number bias }
 {
@@ -153,7 +160,8 @@ fn bias_or_zero(bias: Option<Bias>) -> u64
 /// Known bits from bit 0 up, without rounding; others as they are.
 fn without_rounding(field: FieldValue) -> FieldValue
     requires { IsProper field }
-    ensures { (n : ℕ) → IsOf result n ↔ IsOf field n }
+    ensures same { (n : ℕ) → IsOf result n ↔ IsOf field n }
+    ensures proper { IsProper result }
 {
     if field.known.start != 0 {
         return field;
@@ -165,14 +173,26 @@ fn without_rounding(field: FieldValue) -> FieldValue
     }
 }
 
-/// The address.
+/// What is known of the address that a value comes from: the inverse of `RelocationKindInfo::value`.
+/// `terms_of` says which address it is. `field` is what is known of the value, as `read` returns it.
+/// Of the operands only the place, the GOT's address and the base of TLS are read, whichever the
+/// formula takes off.
+///
+/// With these, an address has the bits of the result exactly if its value has those of `field`. The
+/// row's bias is taken off. Of a row that takes the page of the address, bits 12 and up are known of
+/// the address plus the bias, which is the result's `rounding`. Where bit 0 is known the rounding is
+/// 0.
+///
+/// `None` of rows without an inverse, as `terms_of` says; and of a row of pages if `field` begins
+/// below bit 12.
 pub fn solve(
     row: &RelocationKindInfo,
     field: &FieldValue,
     operands: &Operands,
 ) -> Option<FieldValue>
     requires { IsProper field.now }
-    ensures { IsSolved row.now field.now operands.now result }
+    ensures solved { IsSolved row.now field.now operands.now result }
+    ensures proper { IfSome result IsProper }
 {
     match terms_of(row.kind, row.size) {
         Some(terms) => {
@@ -193,11 +213,17 @@ pub fn solve(
     }
 }
 
-/// One number of two halves.
+/// What is known of an address from both halves of a pair, as `solve` returns them: `adrp` and `add`,
+/// `auipc` and `addi`, `addis` and `addi`, `pcalau12i` and `addi.d`. A number has the bits of the
+/// result exactly if it has those of both. If the high half's bits are known up to bit 63, as `reach`
+/// makes them, `number` of the result is the address.
+///
+/// `None` unless the low half has all bits below the high half's, from bit 0 up, without rounding.
 pub fn join(high: &FieldValue, low: &FieldValue) -> Option<FieldValue>
     requires high { IsProper high.now }
     requires low { IsProper low.now }
-    ensures { IsJoined high.now low.now result }
+    ensures joined { IsJoined high.now low.now result }
+    ensures proper { IfSome result IsProper }
 {
     if low.known.start != 0 || low.rounding != 0 || low.known.end != high.known.start {
         return None;

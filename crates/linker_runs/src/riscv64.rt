@@ -73,7 +73,7 @@ fn alignment_of(nops: u32, offset: u64) -> Alignment
 
 /// The register that the call at an offset links. None where no call is there.
 #[inline]
-fn link_at(section: &[u8], offset: u64) -> Option<u32>
+pub fn link_at(section: &[u8], offset: u64) -> Option<u32>
     requires { offset + 8 ≤ length section.now }
     ensures { MatchOption result (¬ IsCallAt section.now offset)
         (λ link. IsCallAt section.now offset × (link ≡ link_register OfJalr section.now offset)) }

@@ -6,7 +6,6 @@ use Rattle.std.specs.Int.{w64, cast_signed}
 use Rattle.std.proofs.lemmas.Bool.{eq-eqb, ne_eqb, cond-true, cond-false}
 use Rattle.std.proofs.lemmas.Int.{ints}
 use Rattle.linker_base.specs.Bits.{field, signed}
-use Rattle.linker_elf.specs.Relocate.{bits_taken}
 use Rattle.linker_elf.specs.Value.{sum_64, difference_64}
 use Rattle.linker_elf.specs.declared.elf.value.Operands.{Operands}
 use Rattle.linker_utils.specs.Choices.{ValueIsWithin, RowIsWithin}
@@ -22,7 +21,7 @@ use Rattle.relocation_laws.proofs.Applied.{value_is, taken_bits}
 use Rattle.relocation_laws.proofs.Sums.{sum_below, lift}
 use Rattle.rewrite_laws.specs.LoongArchLaws.{word_of, behind, thread_offset}
 use Rattle.rewrite_laws.specs.LoongArchLaws as laws
-use Rattle.rewrite_laws.specs.LoongArchMachine.{State, AreAlikeBut, step, run, read, decode, execute, continue, next_pc, high_part, added, sum_of, loaded_of, add_d}
+use Rattle.rewrite_laws.specs.LoongArchMachine.{State, AreAlikeBut, step, run, read, decode, execute, continue, next_pc, high_part, added, sum_of, add_d}
 use Rattle.rewrite_laws.specs.Machine.{wrapped, moved, loaded}
 use Rattle.rewrite_laws.proofs.AArch64Moves.{distance_is}
 use Rattle.rewrite_laws.proofs.AArch64Pairs.{word_made}

@@ -1,7 +1,7 @@
 -- What the sequences of a TLS descriptor and of a load from the GOT leave.
 use Rattle.std.proofs.Common.{◌≡◌, ◌≢◌, ℕ, ◌+◌, ◌-◌, ◌*◌, ◌/◌, ◌%◌, ◌^◌, ◌<◌, ◌≤◌, Bool, true, false, refl}
 use Rattle.std.proofs.Common.{sym, ◌∙◌, ap, subst, arith, List, [], ◌∷◌, ◌++◌, length, drop, ℤ, pos}
-use Rattle.std.proofs.Common.{◌+ℤ◌, ◌-ℤ◌, Option, Some, inl, inr, if◌then◌else◌, w64}
+use Rattle.std.proofs.Common.{◌+ℤ◌, Option, Some, inl, inr, if◌then◌else◌, w64}
 use Rattle.std.specs.Prelude.{◌==◌, ◌||◌}
 use Rattle.std.specs.Int.{w32, from_le_bytes, to_le_bytes, cast_signed, cast_unsigned}
 use Rattle.std.proofs.lemmas.Bool.{eqb-true, ne_eqb, eq-eqb, agree_below, or_parts}
@@ -9,12 +9,11 @@ use Rattle.std.proofs.lemmas.Int.{ints, to_z_pos, of_z-to_z}
 use Rattle.std.proofs.lemmas.List.{append_assoc, drop_at, length-append}
 use Rattle.linker_base.specs.Bits.{field, signed}
 use Rattle.linker_base.specs.Form.{place_sum, replaced, is_placed}
-use Rattle.linker_base.specs.declared.bit_misc.BitRange.{BitRange}
 use Rattle.linker_base.proofs.ConsecutiveBits.{consecutive_bits_sum}
 use Rattle.linker_base.proofs.Pairs.{signed_cases}
 use Rattle.linker_elf.specs.RiscV.{riscv_form, riscv_places}
 use Rattle.linker_elf.specs.RiscVRelocations.{pair_row}
-use Rattle.linker_elf.specs.Value.{sum_64, difference_64, value_of}
+use Rattle.linker_elf.specs.Value.{sum_64, difference_64}
 use Rattle.linker_elf.specs.declared.elf.RelocationKind.{RelocationKind}
 use Rattle.linker_elf.specs.declared.elf.RelocationKind.TheVariants.{TpOff, TlsDesc, GotTpOff, GotRelative, Relative, RelativeRiscVLow12}
 use Rattle.linker_elf.specs.declared.elf.value.Operands.{Operands}
@@ -30,7 +29,7 @@ use Rattle.relocation_laws.proofs.Sums.{sum_below}
 use Rattle.rewrite_laws.specs.Machine.{wrapped, moved, loaded, extended}
 use Rattle.rewrite_laws.specs.RiscVLaws as laws
 use Rattle.rewrite_laws.specs.RiscVLaws.{AreAlike, no_register, word_of, is_scratch, thread_offset}
-use Rattle.rewrite_laws.specs.RiscVMachine.{Hart, register, Instruction, lui, auipc, sums, adds, jumps, loads, executed, Steps, Runs, fetched, of_word, action_of, rs1_of, with_integer, load_number}
+use Rattle.rewrite_laws.specs.RiscVMachine.{Hart, register, Instruction, lui, auipc, sums, adds, jumps, loads, executed, Steps, Runs, fetched, of_word, action_of, rs1_of, load_number}
 use Rattle.rewrite_laws.proofs.AArch64Moves.{distance_is}
 use Rattle.rewrite_laws.proofs.AArch64Steps.{in_two_steps}
 use Rattle.rewrite_laws.proofs.RiscVHighParts.{of_offset, low_12_number}

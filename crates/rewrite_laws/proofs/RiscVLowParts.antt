@@ -2,7 +2,7 @@
 use Rattle.std.proofs.Common.{◌≡◌, ℕ, zero, suc, ◌+◌, ◌-◌, ◌*◌, ◌%◌, ◌^◌, ◌<◌, ◌≤◌, Bool}
 use Rattle.std.proofs.Common.{true, false, refl, sym, ◌∙◌, ap, subst, arith, List, length, drop}
 use Rattle.std.proofs.Common.{◌++◌, ℤ, pos, ◌-ℤ◌, ◌+ℤ◌, Option, Some, None, inl, inr, ◌⊎◌, not}
-use Rattle.std.proofs.Common.{if◌then◌else◌, w64, unsigned_abs, int_lt}
+use Rattle.std.proofs.Common.{if◌then◌else◌, w64, int_lt}
 use Rattle.std.specs.Prelude.{◌==◌, ◌&&◌, ◌||◌, nat_lt, IsTrue}
 use Rattle.std.specs.Option.{IsSomeAnd}
 use Rattle.std.specs.Int.{w32, from_le_bytes, to_le_bytes, cast_signed}
@@ -20,7 +20,6 @@ use Rattle.linker_elf.specs.RiscV.{riscv_form, riscv_layout, riscv_places}
 use Rattle.linker_utils.specs.RiscVRewrites.{rewrites_word, with_rs1}
 use Rattle.linker_utils.specs.declared.riscv64.rewrites.RelaxationKind.{RelaxationKind}
 use Rattle.linker_elf.specs.declared.elf.RelocationKind.{RelocationKind}
-use Rattle.linker_elf.specs.declared.riscv64.forms.RiscVInstruction.{RiscVInstruction}
 use Rattle.linker_elf.specs.Elf.{IsWithin}
 use Rattle.linker_utils.specs.Choices.{low_12_bounds}
 use Rattle.linker_utils.specs.RiscVCalls.{word_at}

@@ -1,8 +1,7 @@
 -- An `add` of the thread pointer to 0 computes nothing that another register doesn't have.
-use Rattle.std.proofs.Common.{◌≡◌, ◌≢◌, ℕ, ◌+◌, ◌^◌, ◌<◌, ◌≤◌, Bool, false, refl, sym, ◌∙◌, ap, arith}
-use Rattle.std.proofs.Common.{List, length, drop}
-use Rattle.std.specs.Prelude.{◌==◌, ◌||◌}
-use Rattle.std.specs.Int.{w32, from_le_bytes}
+use Rattle.std.proofs.Common.{◌≡◌, refl, ◌∙◌, ap, arith}
+use Rattle.std.proofs.Common.{drop}
+use Rattle.std.specs.Prelude.{◌==◌}
 use Rattle.std.proofs.lemmas.Bool.{or_parts}
 use Rattle.std.proofs.lemmas.List.{length-drop}
 use Rattle.linker_base.specs.Bits.{field}

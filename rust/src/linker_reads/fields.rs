@@ -36,10 +36,20 @@ pub(crate) fn power_of_two(exponent: u8) -> u64 {
 }
 
 impl FieldValue {
-    /// Whether a number has the known bits.
+    /// Whether a number has the known bits. Of a value, its 64 bits in two's complement are meant.
     #[must_use]
     pub fn is_of(&self, number: u64) -> bool {
         let sum = number.wrapping_add(self.rounding);
         bits_of(sum, self.known.start, self.known.end) == self.bits
+    }
+
+    /// The number, if all of its bits are known.
+    #[must_use]
+    pub fn number(&self) -> Option<u64> {
+        if self.known.start == 0 && self.known.end == 64 {
+            Some(self.bits.wrapping_sub(self.rounding))
+        } else {
+            None
+        }
     }
 }

@@ -1,5 +1,5 @@
 // Made by tools/erase of crates/linker_reads/src/solving.rt.
-//! The address that a relocation's value comes from.
+//! The address that a relocation's value comes from, and that of a pair of instructions.
 
 use crate::linker_reads::fields::{FieldValue, bits_of, power_of_two};
 use crate::linker_base::bit_misc::BitRange;
@@ -31,17 +31,22 @@ pub enum Origin {
     Tls,
 }
 
-/// The terms of the formula of a value.
+/// The terms of the formula of a value: the address, biased and cut to its page where the row says
+/// so, less the origin.
 #[derive(Debug, Clone, Copy, PartialEq, Eq)]
 pub struct Terms {
+    /// The address.
     pub reference: Reference,
+    /// What is taken off it.
     pub origin: Origin,
 }
 
+/// Both terms.
 fn make_terms(reference: Reference, origin: Origin) -> Option<Terms> {
     Some(Terms { reference, origin })
 }
 
+/// `terms_of`, of a row that has bytes.
 fn terms_of_kind(kind: RelocationKind) -> Option<Terms> {
     match kind {
         RelocationKind::Absolute
@@ -89,6 +94,7 @@ pub fn terms_of(kind: RelocationKind, size: RelocationSize) -> Option<Terms> {
     }
 }
 
+/// The address of the page of 4 KiB that contains an address, if `masked`.
 fn page_if(masked: bool, address: u64) -> u64 {
     if masked {
         address - address % 4096
@@ -125,6 +131,7 @@ fn is_paged(reference: Reference, mask: Option<PageMask>) -> bool {
     }
 }
 
+/// What is added to the address.
 fn bias_or_zero(bias: Option<Bias>) -> u64 {
     match bias {
         Some(bias) => bias.value(),
@@ -144,7 +151,18 @@ fn without_rounding(field: FieldValue) -> FieldValue {
     }
 }
 
-/// The address.
+/// What is known of the address that a value comes from: the inverse of `RelocationKindInfo::value`.
+/// `terms_of` says which address it is. `field` is what is known of the value, as `read` returns it.
+/// Of the operands only the place, the GOT's address and the base of TLS are read, whichever the
+/// formula takes off.
+///
+/// With these, an address has the bits of the result exactly if its value has those of `field`. The
+/// row's bias is taken off. Of a row that takes the page of the address, bits 12 and up are known of
+/// the address plus the bias, which is the result's `rounding`. Where bit 0 is known the rounding is
+/// 0.
+///
+/// `None` of rows without an inverse, as `terms_of` says; and of a row of pages if `field` begins
+/// below bit 12.
 ///
 /// # Requires
 ///
@@ -174,7 +192,12 @@ pub fn solve(
     }
 }
 
-/// One number of two halves.
+/// What is known of an address from both halves of a pair, as `solve` returns them: `adrp` and `add`,
+/// `auipc` and `addi`, `addis` and `addi`, `pcalau12i` and `addi.d`. A number has the bits of the
+/// result exactly if it has those of both. If the high half's bits are known up to bit 63, as `reach`
+/// makes them, `number` of the result is the address.
+///
+/// `None` unless the low half has all bits below the high half's, from bit 0 up, without rounding.
 ///
 /// # Requires
 ///

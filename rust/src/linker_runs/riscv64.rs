@@ -48,8 +48,15 @@ fn alignment_of(nops: u32, offset: u64) -> Alignment {
 }
 
 /// The register that the call at an offset links. None where no call is there.
+///
+/// # Requires
+///
+/// - `(offset as u128) + 8 <= (section.len() as u128)`
+#[must_use]
+#[cfg_attr(debug_assertions, track_caller)]
 #[inline]
-fn link_at(section: &[u8], offset: u64) -> Option<u32> {
+pub fn link_at(section: &[u8], offset: u64) -> Option<u32> {
+    debug_assert!((offset as u128) + 8 <= (section.len() as u128));
     let base = LinkRegister::OfAuipc.named_at(section, offset)?;
     if base == 0 {
         return None;

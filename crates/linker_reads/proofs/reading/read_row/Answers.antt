@@ -1,7 +1,7 @@
-use Rattle.std.proofs.Common.{sym, ◌∙◌, ap, subst, ◌≡◌, true, Bool}
+use Rattle.std.proofs.Common.{sym, ◌∙◌, subst, ◌≡◌, true}
 use Rattle.linker_elf.specs.Elf.{IsWithin}
 use Rattle.linker_reads.specs.Fields.{IsProper, IsOfValue}
-use Rattle.linker_reads.specs.Reading.{field_read, with_reach, holds_field, with_alignment}
+use Rattle.linker_reads.specs.Reading.{field_read, with_reach, holds_field}
 use Rattle.linker_reads.proofs.Proper.{proper_field, proper_in_reach, proper_aligned}
 use Rattle.linker_reads.proofs.Written.{field_written, some_alignment}
 use Rattle.linker_reads.proofs.reading.read_row.Goals as goal

@@ -1,7 +1,6 @@
 use Rattle.std.proofs.Common.{arith, sym, ◌∙◌, ap, ◌%◌}
 use Rattle.linker_reads.proofs.Aligned.{alignment_leaves}
 use Rattle.linker_reads.proofs.Ranges.{moved_fits}
-use Rattle.linker_reads.specs.Fields.{IsOfValue}
 use Rattle.linker_reads.proofs.reading.with_alignment.Goals as goal
 
 pub overflow_mul-result : goal.overflow_mul-result

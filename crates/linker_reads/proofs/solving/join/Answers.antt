@@ -1,7 +1,6 @@
-use Rattle.std.proofs.Common.{◌≡◌, ◌<◌, ◌≤◌, ◌^◌, ◌-◌, ◌*◌, ◌+◌, ◌%◌, ℕ, arith, rules, sym, ◌∙◌, ap, subst}
+use Rattle.std.proofs.Common.{◌≡◌, ◌<◌, ◌^◌, ◌-◌, ◌*◌, ◌+◌, ◌%◌, arith, rules, subst}
 use Rattle.std.proofs.lemmas.Nat.{mod_below, pow_pos}
 use Rattle.linker_base.proofs.Immediates.{subst_below}
-use Rattle.linker_reads.specs.Fields.{IsOf}
 use Rattle.linker_reads.proofs.Ranges.{moved_fits}
 use Rattle.linker_reads.proofs.Shifts.{bits_below, joined_halves, above}
 use Rattle.linker_reads.proofs.solving.join.Goals as goal
@@ -45,13 +44,13 @@ without_rounding-requires c =
           (bits_below high low c.requires.high c.requires.low c.if-low-ne0.false c.if-low-high.false w small);
     })
 
-pub returns : goal.returns
-returns c = λ n.
+pub returns-clause-joined : goal.returns-clause-joined
+returns-clause-joined c = λ n.
     let high = c.args.high.now in
     let low = c.args.low.now in
     let unit : c.power_of_two-unit.result ≡ 2 ^ low.known.end = c.power_of_two-unit.ensures in
     let rounding : high.rounding < 2 ^ 64 = search rules in
     let p = joined_halves high low c.requires.high c.requires.low c.if-low-ne0.false
     c.if-low-high.false (omega arith) c.if-low-ne0-2.false n in
-    let q = rw unit at (c.without_rounding.ensures n) in
+    let q = rw unit at (c.without_rounding.ensures.same n) in
     ((λ h. p.0 (q.0 h)), (λ h. q.1 (p.1 h)))

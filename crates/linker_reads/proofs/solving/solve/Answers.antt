@@ -1,4 +1,4 @@
-use Rattle.std.proofs.Common.{◌≡◌, ◌≤◌, ◌↔◌, ℕ, true, false, Bool, Some, sym, ◌∙◌, ap, subst}
+use Rattle.std.proofs.Common.{◌≡◌, ◌≤◌, ◌↔◌, true, false, Some, sym, ◌∙◌, ap, subst}
 use Rattle.linker_base.specs.Bits.{field}
 use Rattle.linker_elf.specs.Value.{page_if, difference_64, sum_64, bias_number}
 use Rattle.linker_reads.specs.Fields.{IsOf}
@@ -7,8 +7,8 @@ use Rattle.linker_reads.proofs.Formulas.{solves, rounding_after}
 use Rattle.linker_reads.proofs.solving.solve.Goals.{else-paged-via-then-paged+else-field-lt12, else-paged-via-else-paged}
 use Rattle.linker_reads.proofs.solving.solve.Goals as goal
 
-pub returns-else-paged : goal.returns-else-paged
-returns-else-paged c =
+pub returns-else-paged-clause-solved : goal.returns-else-paged-clause-solved
+returns-else-paged-clause-solved c =
     let row = c.args.row.now in
     let f = c.args.field.now in
     let o = c.args.operands.now in
@@ -33,4 +33,4 @@ returns-else-paged c =
     rw is (solves row f o t c.without_rounding.result is above
     (λ n. subst (λ r. IsOf c.without_rounding.result n
     ↔ (field (sum_64 n r) f.known.start f.known.end ≡ f.bits)) rounding
-    (c.without_rounding.ensures n)))
+    (c.without_rounding.ensures.same n)))

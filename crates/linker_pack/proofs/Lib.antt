@@ -1,0 +1,5 @@
+mod Lists
+mod Copied
+mod Nops
+mod Items
+mod RiscV

@@ -1,0 +1,4 @@
+pub mod Sites
+pub mod RiscVSites
+pub mod Packing
+pub mod Inner

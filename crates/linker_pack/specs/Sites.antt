@@ -1,0 +1,34 @@
+-- Instructions, and the relocations that are applied to them.
+use Rattle.std.specs.Prelude.{ℕ, List, Option, IsSomeAnd, pos}
+use Rattle.linker_elf.specs.declared.elf.RelocationKindInfo.{RelocationKindInfo}
+use Rattle.linker_elf.specs.declared.elf.value.Operands.{Operands}
+use Rattle.relocation_laws.specs.Schemes.{IsApplied, IsRejected}
+
+-- An instruction or two that go nowhere yet, and the relocation that gives them their target.
+pub record Template : Type 0 where
+  pub row : Option RelocationKindInfo
+  pub bytes : List ℕ
+
+-- the operands of a relocation at a place whose symbol, or the symbol's PLT entry, is at the target
+abbrev pub operands_of : ℕ → ℕ → Operands
+operands_of place target =
+    record {
+      symbol = target;
+      addend = pos 0;
+      place = place;
+      got_entry = 0;
+      got_base = 0;
+      plt_entry = target;
+      symbol_size = 0;
+      tls_base = 0;
+    }
+
+-- the relocation can be applied at the place
+abbrev pub IsInReach : Template → ℕ → ℕ → Type 0
+IsInReach template place target = IsSomeAnd template.row
+    (λ row. (after : List ℕ) × IsApplied row (operands_of place target) template.bytes after)
+
+-- the relocation has no value there, or one that its row rejects
+abbrev pub IsOutOfReach : Template → ℕ → ℕ → Type 0
+IsOutOfReach template place target = IsSomeAnd template.row
+    (λ row. IsRejected row (operands_of place target) template.bytes)

@@ -1,0 +1,169 @@
+/* A small static linker over the library, for RISC-V, AArch64, LoongArch, PowerPC64 (ELFv2,
+ * little-endian) and x86-64. It reads relocatable ELF64 objects and archives of them, and writes a
+ * static executable that begins at `_start`. main.c has the steps; each other file is one part:
+ *
+ * - objects.c: objects, archives and groups
+ * - symbols.c: which definition a name has, and what the linker itself defines
+ * - layout.c: which sections the linked file has, and where they are
+ * - entries.c: rewrites, the GOT, thread-local storage, indirect functions and thunks
+ * - relax.c: what is deleted of RISC-V and LoongArch code
+ * - relocate.c: values, and the instructions of AArch64 that depend on them
+ * - output.c: the table of unwind information, and the file
+ *
+ * The first error ends it, and it never frees memory. */
+#ifndef LINK_H
+#define LINK_H
+
+#include <elf.h>
+#include <inttypes.h>
+#include <stdio.h>
+#include <stdlib.h>
+#include <string.h>
+#include <sys/stat.h>
+
+#include "linker_utils.h"
+
+#define PAGE UINT64_C(0x10000)          /* the largest page of the five architectures */
+#define BASE UINT64_C(0x400000)         /* where the file's header is, if no section is placed */
+#define HEADERS UINT64_C(0x400)         /* room for the headers there */
+#define MOST_BYTES UINT64_C(0x40000000) /* of a file and of a section */
+#define END UINT64_MAX                  /* the offset of a section's end, wherever that will be */
+
+/* relocation types that older versions of <elf.h> lack */
+enum { LARCH_PCALA_HI20 = 71, LARCH_PCALA_LO12 = 72, LARCH_RELAX = 100, LARCH_ALIGN = 102 };
+enum { LARCH_B26 = 66, LARCH_PCREL20_S2 = 103, LARCH_CALL36 = 110, PPC64_REL24_NOTOC = 116 };
+
+/* the order of the sections of the linked file; there are three kinds of arrays */
+enum { RANK_HEADERS, RANK_FIXED, RANK_CODE, RANK_TLS, RANK_TLS_BSS, RANK_ARRAYS, RANK_RELOCATED = 8,
+       RANK_GOT, RANK_TOC, RANK_DATA, RANK_SMALL_DATA, RANK_BSS };
+
+#define fail(...) (fprintf(stderr, __VA_ARGS__), fputc('\n', stderr), exit(1))
+
+/* A section of the linked file. Offsets in it count from before bytes are deleted. */
+struct output {
+    const char *name;
+    uint64_t flags, align, len, room, address;
+    uint8_t *bytes;
+    bool has_bytes, is_placed, shrinks; /* in the file; by the command line; code that relaxes */
+    unsigned rank, priority;            /* its place among the others */
+    struct relocation *relocations;
+    struct linker_utils_delta *deltas;
+    struct linker_utils_block_head *heads; /* of the deltas */
+    size_t relocations_len, relocations_room, deltas_len, heads_len;
+};
+
+struct object {
+    struct object *next;
+    const char *path;
+    const uint8_t *bytes;
+    const Elf64_Shdr *heads;
+    struct section *sections; /* one for each head */
+    struct symbol **symbols;
+    size_t len, sections_len, symbols_len;
+    int place; /* which argument it is of */
+};
+
+struct section {
+    const struct object *object;
+    const char *name;
+    const Elf64_Shdr *head, *relocations; /* null where it has none */
+    struct output *output;                /* null where it is left out */
+    uint64_t offset, end;                 /* in the output */
+    bool is_duplicate;                    /* of a group that another object has too */
+    bool has_lone_got_halves; /* AArch64: not all `adrp` and `ldr` of GOT entries are pairs */
+};
+
+struct archive {
+    struct object file;
+    const char *names; /* the long names of members */
+    size_t names_len;
+    bool *is_loaded; /* by half of a member's offset */
+};
+
+struct symbol {
+    const struct object *object; /* null where only an index of an archive names it */
+    const char *name;
+    Elf64_Sym elf;
+    struct symbol *next, *later, *wanted; /* in its bucket; as objects mention them; to be loaded */
+    struct archive *archive;              /* which can define it; null where none can */
+    uint64_t member, offset;              /* in the archive; in the output */
+    struct output *output; /* null where the address is absolute, and where nothing defines it */
+    struct entry *entries; /* in the GOT */
+    struct symbol *thunks; /* to it */
+    int64_t thunk_addend;
+    bool is_listed, needs_stub, is_thunk; /* (an indirect function that is used needs one) */
+};
+
+/* What an entry of the GOT has. */
+enum class { ADDRESS, THREAD_OFFSET, MODULE_OFFSET, MODULE };
+
+struct entry {
+    struct entry *next;
+    enum class class;
+    int64_t addend; /* on AArch64 and PowerPC64 the entry is of S + A */
+    uint64_t offset;
+};
+
+struct relocation {
+    struct section *section; /* null where the linker itself adds it */
+    struct symbol *symbol;
+    struct entry *entry;
+    uint64_t offset; /* in the output */
+    int64_t addend;
+    uint32_t type;
+    bool is_jump, restores_toc; /* a RISC-V call that becomes a jump; PowerPC64: by its `nop` */
+};
+
+/* What the library says of a relocation type. */
+struct row {
+    struct linker_utils_relocation_info info;
+    enum linker_utils_role role;
+    bool is_known, asks_for_got, may_use_plt;
+};
+
+/* The TLS segment: where its image is, its length and alignment, the thread pointer, and the origin
+ * of offsets in the module's block. */
+struct tls {
+    uint64_t image, len, align, thread, module;
+};
+
+extern uint16_t machine;
+extern uint32_t machine_flags;
+extern struct object *objects; /* in the order of the arguments */
+extern struct symbol *symbols; /* all that objects mention, in their order */
+extern struct output *outputs[256], *headers, *got, *stubs, *slots, *irelatives, *frames, *index_of;
+extern size_t outputs_len;
+extern struct tls tls;
+
+void *take(uint64_t count, size_t size), *grow(void *array, size_t need, size_t *room, size_t size);
+uint64_t round_up(uint64_t at, uint64_t align);
+const char *place_of(const struct relocation *r);
+void check(const struct relocation *r, uint32_t status);
+const struct row *row_of(const struct relocation *r);
+
+void *copy_table(const struct object *o, const Elf64_Shdr *head, size_t size, size_t *len);
+void read_file(const char *path, int place), load_member(struct archive *a, uint64_t offset);
+
+struct symbol **global(const char *name), *resolve(struct symbol *s);
+int rank(const Elf64_Sym *s);
+void offer(const char *name, struct archive *a, uint64_t member);
+bool is_first_group(const char *name);
+void load_members(void), list_symbols(void), define_symbols(void), place_symbol(struct symbol *s);
+
+struct output *output_of(const char *name);
+struct relocation *add_relocations(struct output *o, size_t len);
+uint64_t make_room(struct output *o, uint64_t align, uint64_t len), place_outputs(void);
+uint64_t address_of(const struct output *o, uint64_t offset);
+void add_section(struct section *s), copy_section(struct section *s), sort_outputs(void);
+
+void read_relocations(struct section *s), make_entries(void);
+bool add_thunks(void);
+uint32_t rewrite(const struct relocation *r, uint8_t *bytes, uint64_t len, uint64_t *offset,
+                 int64_t *addend, uint32_t *type, const struct linker_utils_link_facts *facts);
+void shrink(struct output *o, uint64_t slack), relocate(struct output *o);
+int64_t value_of(const struct output *o, const struct relocation *r);
+bool is_left_out(const struct relocation *r);
+uint64_t read_frames(const struct section *s, const uint8_t *bytes, uint8_t *rows);
+void index_frames(void), write_file(const char *path, uint64_t entry);
+
+#endif

@@ -1,0 +1,107 @@
+/* usage: link -o OUTPUT [--section-start=NAME=ADDRESS]... FILE...
+ * A file is an object or an archive. A member of an archive is linked if it defines a symbol that
+ * is asked for and that no object defines; archives search each other. */
+#include "link.h"
+
+uint16_t machine;
+uint32_t machine_flags;
+
+void *take(uint64_t count, size_t size) {
+    void *memory = calloc(count ? count : 1, size);
+    if (!memory) fail("out of memory");
+    return memory;
+}
+
+/* An array with room for so many elements: twice as many where it has to grow. */
+void *grow(void *array, size_t need, size_t *room, size_t size) {
+    size_t old = *room;
+    if (need <= old) return array;
+    *room = 2 * need;
+    array = realloc(array, *room * size);
+    if (!array) fail("out of memory");
+    if (size == 1) memset((uint8_t *)array + old, 0, *room - old); /* (bytes begin as zeros) */
+    return array;
+}
+
+uint64_t round_up(uint64_t at, uint64_t align) { return (at + align - 1) & ~(align - 1); }
+
+/* Where a relocation is, and its name, as "b.o: .text+0x1c: R_RISCV_JAL". */
+const char *place_of(const struct relocation *r) {
+    static char text[4096];
+    uint8_t name[LINKER_UTILS_NAME_SIZE];
+    size_t len = 0;
+    linker_utils_relocation_name(machine, r->type, name, sizeof name, &len);
+    uint64_t offset = r->section ? r->offset - r->section->offset : r->offset;
+    snprintf(text, sizeof text, "%s: %s+0x%" PRIx64 ": %.*s",
+             r->section ? r->section->object->path : "the linker's own code and tables",
+             r->section ? r->section->name : "", offset, (int)len, (const char *)name);
+    return text;
+}
+
+void check(const struct relocation *r, uint32_t status) {
+    if (status) fail("%s: %s", place_of(r), linker_utils_status_text(status));
+}
+
+/* A section that the linker itself fills. */
+static struct output *own_section(const char *name, uint64_t flags, bool has_bytes) {
+    struct output *o = output_of(name);
+    o->flags = flags;
+    o->has_bytes = has_bytes;
+    return o;
+}
+
+int main(int argc, char **argv) {
+    const char *path = NULL;
+    uint64_t address;
+    bool is_placed = false;
+    got = own_section(".got", SHF_ALLOC | SHF_WRITE, false);
+    stubs = own_section(".iplt", SHF_ALLOC | SHF_EXECINSTR, true);
+    slots = own_section(".igot.plt", SHF_ALLOC | SHF_WRITE, true);
+    irelatives = own_section(".rela_iplt", SHF_ALLOC, true);
+    index_of = own_section(".eh_frame_hdr", SHF_ALLOC, true);
+    headers = own_section("the headers", SHF_ALLOC, true);
+    frames = output_of(".eh_frame");
+    for (int i = 1, end = 0; i < argc; i++) {
+        if (sscanf(argv[i], "--section-start=%*[^=]%n=%" SCNx64, &end, &address) == 1) {
+            argv[i][end] = 0;
+            struct output *placed = output_of(argv[i] + strlen("--section-start="));
+            placed->address = address;
+            is_placed = placed->is_placed = true;
+        } else if (!strcmp(argv[i], "-o") && argv[i + 1]) {
+            path = argv[++i];
+        } else {
+            read_file(argv[i], i);
+        }
+    }
+    if (!path || !objects)
+        fail("usage: link -o OUTPUT [--section-start=NAME=ADDRESS]... FILE...");
+    if (!is_placed) make_room(headers, 8, HEADERS);
+    list_symbols();
+    for (struct object *o = objects; o; o = o->next)
+        for (size_t i = 0; i < o->sections_len; i++) add_section(&o->sections[i]);
+    uint64_t index_len = index_of->len ? index_of->len + 12 : 0;
+    index_of->len = 0;
+    make_room(index_of, 4, index_len);
+    define_symbols();
+    for (struct symbol *s = symbols; s; s = s->later) {
+        if (s->elf.st_shndx != SHN_COMMON) continue; /* these are first in `.bss`, as in ld.lld */
+        s->output = output_of(".bss");
+        s->output->flags |= SHF_WRITE | SHF_ALLOC;
+        s->offset = make_room(s->output, s->elf.st_value, s->elf.st_size);
+    }
+    for (struct object *o = objects; o; o = o->next)
+        for (size_t i = 0; i < o->sections_len; i++) copy_section(&o->sections[i]);
+    for (struct symbol *s = symbols; s; s = s->later) place_symbol(s);
+    make_entries();
+    uint64_t slack = place_outputs();
+    for (size_t i = 0; i < outputs_len; i++)
+        if (outputs[i]->shrinks) shrink(outputs[i], slack);
+    do place_outputs();
+    while (add_thunks());
+    for (size_t i = 0; i < outputs_len; i++) relocate(outputs[i]);
+    index_frames();
+    struct symbol *start = *global("_start");
+    if (!start || !start->output) fail("undefined symbol '_start'");
+    write_file(path, address_of(start->output, start->offset));
+    return 0;
+}

@@ -1,0 +1,202 @@
+/* Objects, archives and groups. Everything that is read of a file is checked to be in it. */
+#include "link.h"
+
+struct object *objects;
+
+/* Ends with an error of an object, where something does not hold of it. */
+static void demand(const struct object *o, bool holds, const char *otherwise) {
+    if (!holds) fail("%s: %s", o->path, otherwise);
+}
+
+static const uint8_t *bytes_at(const struct object *o, uint64_t offset, uint64_t len) {
+    demand(o, offset <= o->len && len <= o->len - offset, "it ends too early");
+    return o->bytes + offset;
+}
+
+/* A copy of a table, whose entries nothing aligns in the file. */
+void *copy_table(const struct object *o, const Elf64_Shdr *head, size_t size, size_t *len) {
+    demand(o, head->sh_entsize == size && !(head->sh_size % size), "entries of another size");
+    const uint8_t *bytes = bytes_at(o, head->sh_offset, head->sh_size);
+    void *copy = take(*len = head->sh_size / size, size);
+    return memcpy(copy, bytes, head->sh_size);
+}
+
+static const char *text_at(const struct object *o, uint64_t table, uint64_t at) {
+    const Elf64_Shdr *head = &o->heads[table < o->sections_len ? table : 0];
+    demand(o, head->sh_type == SHT_STRTAB && at < head->sh_size, "a name that is not there");
+    const char *text = (const char *)bytes_at(o, head->sh_offset, head->sh_size);
+    demand(o, !text[head->sh_size - 1], "a name that does not end");
+    return text + at;
+}
+
+/* Leaves out the sections of a group that an earlier object has too. */
+static void read_group(struct object *o, const Elf64_Shdr *head, const char *section) {
+    size_t len;
+    Elf64_Shdr group = *head, table = {.sh_entsize = 0};
+    group.sh_entsize = sizeof(Elf32_Word);
+    const Elf32_Word *words = copy_table(o, &group, sizeof *words, &len);
+    if (head->sh_link < o->sections_len) table = o->heads[head->sh_link];
+    if (table.sh_type != SHT_SYMTAB || head->sh_info >= table.sh_size / sizeof(Elf64_Sym) || !len)
+        fail("%s: %s: a group without its symbol", o->path, section);
+    Elf64_Sym symbol;
+    uint64_t at = table.sh_offset + head->sh_info * sizeof symbol;
+    memcpy(&symbol, bytes_at(o, at, sizeof symbol), sizeof symbol);
+    const char *name = text_at(o, table.sh_link, symbol.st_name);
+    bool is_kept = !(words[0] & GRP_COMDAT) || is_first_group(name);
+    for (size_t i = 1; i < len; i++) {
+        if (words[i] >= o->sections_len)
+            fail("%s: %s: a group of a section that is not there", o->path, section);
+        o->sections[words[i]].is_duplicate |= !is_kept;
+    }
+}
+
+static void read_symbols(struct object *o, const Elf64_Shdr *head) {
+    demand(o, !o->symbols, "two tables of symbols");
+    const Elf64_Sym *elf = copy_table(o, head, sizeof *elf, &o->symbols_len);
+    struct symbol *s = take(o->symbols_len, sizeof *s);
+    o->symbols = take(o->symbols_len, sizeof *o->symbols);
+    for (size_t i = 0; i < o->symbols_len; i++, elf++, s++) {
+        uint16_t at = elf->st_shndx;
+        unsigned type = ELF64_ST_TYPE(elf->st_info), bind = ELF64_ST_BIND(elf->st_info);
+        bool has_section = at < o->sections_len;
+        s->object = o;
+        s->name = text_at(o, head->sh_link, elf->st_name);
+        s->elf = *elf;
+        if ((!has_section && at != SHN_ABS && at != SHN_COMMON) ||
+            (bind == STB_LOCAL) != (i < head->sh_info) ||
+            (at == SHN_COMMON && (bind == STB_LOCAL || type == STT_TLS)))
+            fail("%s: symbol %zu, '%s', is of a kind that is not supported", o->path, i, s->name);
+        if (type == STT_TLS && at && has_section && !(o->heads[at].sh_flags & SHF_TLS))
+            fail("%s: %s: '%s' is thread-local in a section that is not", o->path,
+                 o->sections[at].name, s->name);
+        if (type == STT_SECTION && has_section) s->name = o->sections[at].name;
+        if (bind != STB_LOCAL && has_section && o->sections[at].is_duplicate) s->elf.st_shndx = 0;
+        o->symbols[i] = bind == STB_LOCAL ? s : resolve(s);
+    }
+}
+
+/* Reads an object, and puts it behind the others of the same and of earlier arguments. */
+static void read_object(const char *path, const uint8_t *bytes, size_t len, int place) {
+    Elf64_Ehdr head;
+    struct object *o = take(1, sizeof *o), **before = &objects;
+    *o = (struct object){.path = path, .bytes = bytes, .len = len, .place = place};
+    while (*before && (*before)->place <= place) before = &(*before)->next;
+    o->next = *before;
+    *before = o;
+    memcpy(&head, bytes_at(o, 0, sizeof head), sizeof head);
+    demand(o, !memcmp(head.e_ident, ELFMAG "\2\1", 6) && head.e_type == ET_REL && head.e_shnum,
+           "not a relocatable object of little-endian ELF64");
+    if (!machine) machine = head.e_machine;
+    demand(o, machine == head.e_machine && !linker_utils_relocate(machine, 0, 0, NULL, 0),
+           "of another architecture");
+    machine_flags |= head.e_flags;
+    Elf64_Shdr table = {.sh_offset = head.e_shoff, .sh_entsize = head.e_shentsize};
+    table.sh_size = head.e_shnum * sizeof table;
+    o->heads = copy_table(o, &table, sizeof table, &o->sections_len);
+    o->sections = take(o->sections_len, sizeof *o->sections);
+    for (size_t i = 0; i < o->sections_len; i++) {
+        const Elf64_Shdr *s = &o->heads[i];
+        o->sections[i] = (struct section){o, text_at(o, head.e_shstrndx, s->sh_name), .head = s};
+        if (s->sh_type != SHT_NOBITS && (s->sh_offset > len || s->sh_size > len - s->sh_offset))
+            fail("%s: %s: it ends too early", path, o->sections[i].name);
+    }
+    for (size_t i = 0; i < o->sections_len; i++)
+        if (o->heads[i].sh_type == SHT_GROUP) read_group(o, &o->heads[i], o->sections[i].name);
+    for (const Elf64_Shdr *s = o->heads; s < o->heads + o->sections_len; s++) {
+        if (s->sh_type == SHT_SYMTAB) read_symbols(o, s);
+        if (s->sh_type != SHT_RELA && s->sh_type != SHT_REL) continue;
+        if (s->sh_info >= o->sections_len || o->sections[s->sh_info].relocations)
+            fail("%s: relocations of no section, or twice of one", path);
+        o->sections[s->sh_info].relocations = s;
+    }
+}
+
+/* The name and the size of an archive's member, by its header. */
+static uint64_t member_head(const struct archive *a, uint64_t offset, char name[17]) {
+    char size[11] = {0}, *end;
+    const char *head = (const char *)bytes_at(&a->file, offset, 60);
+    snprintf(name, 17, "%.16s", head);
+    memcpy(size, head + 48, 10);
+    uint64_t len = strtoull(size, &end, 10);
+    demand(&a->file, !memcmp(head + 58, "`\n", 2) && end != size && *size != '-',
+           "a member's header is not there");
+    bytes_at(&a->file, offset + 60, len);
+    return len;
+}
+
+/* Reads a member that the index names. */
+void load_member(struct archive *a, uint64_t offset) {
+    char name[17];
+    if (a->is_loaded[offset / 2]) return;
+    a->is_loaded[offset / 2] = true;
+    uint64_t len = member_head(a, offset, name), at = strtoull(name + 1, NULL, 10);
+    const char *text = name;
+    if (*name == '/') {
+        demand(&a->file, at < a->names_len, "a member's name is not there");
+        text = a->names + at;
+    }
+    int text_len = (int)strcspn(text, "/"); /* (the file ends with a zero) */
+    size_t path_len = strlen(a->file.path) + (size_t)text_len + 3;
+    char *path = take(path_len, 1);
+    snprintf(path, path_len, "%s(%.*s)", a->file.path, text_len, text);
+    read_object(path, a->file.bytes + offset + 60, len, a->file.place);
+}
+
+static uint64_t big_endian(const uint8_t *bytes, size_t len) {
+    uint64_t number = 0;
+    for (size_t i = 0; i < len; i++) number = number << 8 | bytes[i];
+    return number;
+}
+
+/* Offers what the index of an archive names. */
+static void read_archive(struct object file) {
+    struct archive *a = take(1, sizeof *a);
+    const uint8_t *index = NULL;
+    uint64_t index_len = 0, word = 4;
+    char name[17];
+    *a = (struct archive){.file = file, .is_loaded = take(file.len / 2 + 1, 1)};
+    for (uint64_t at = 8, i = 0; i < 2 && at < file.len; i++) { /* the special ones are first */
+        uint64_t len = member_head(a, at, name);
+        if (!memcmp(name, "/ ", 2) || !memcmp(name, "/SYM64/ ", 8)) {
+            word = name[1] == 'S' ? 8 : 4;
+            index = file.bytes + at + 60;
+            index_len = len;
+        } else if (!memcmp(name, "// ", 3)) {
+            a->names = (const char *)file.bytes + at + 60;
+            a->names_len = len;
+        }
+        at += 60 + len + len % 2;
+    }
+    if (file.len == 8) return;
+    demand(&a->file, index && index_len >= word, "an archive without an index");
+    uint64_t count = big_endian(index, word);
+    demand(&a->file, count <= (index_len - word) / word, "the index ends too early");
+    const char *text = (const char *)index + word * (count + 1);
+    for (uint64_t i = 1; i <= count; i++) {
+        const char *next = memchr(text, 0, (size_t)((const char *)index + index_len - text));
+        uint64_t member = big_endian(index + word * i, word);
+        demand(&a->file, next, "the index ends too early");
+        if (member % 2 || member >= file.len || file.len - member < 60 ||
+            memcmp(file.bytes + member + 58, "`\n", 2))
+            fail("%s: the index points nowhere for '%.200s'", file.path, text);
+        offer(text, a, member);
+        text = next + 1;
+    }
+}
+
+void read_file(const char *path, int place) {
+    FILE *file = fopen(path, "rb");
+    long len = file && !fseek(file, 0, SEEK_END) ? ftell(file) : -1;
+    if (len < 0 || (uint64_t)len > MOST_BYTES) fail("%s: can't be read", path);
+    rewind(file);
+    uint8_t *bytes = take((uint64_t)len + 1, 1);
+    struct object o = {.path = path, .bytes = bytes, .place = place};
+    o.len = fread(bytes, 1, (size_t)len, file);
+    fclose(file);
+    demand(&o, memcmp(bytes, "!<thin>\n", o.len < 8 ? o.len : 8) || o.len < 8, "a thin archive");
+    if (o.len >= 8 && !memcmp(bytes, "!<arch>\n", 8))
+        read_archive(o);
+    else
+        read_object(path, bytes, o.len, place);
+    load_members();
+}

@@ -1,0 +1,144 @@
+/* The table of unwind information, and the file. */
+#include "link.h"
+
+struct output *frames, *index_of, *headers;
+
+/* Goes past a ULEB128 or SLEB128 number. */
+static uint64_t past_number(const uint8_t *bytes, uint64_t at, uint64_t len) {
+    while (at < len && bytes[at] & 0x80) at++;
+    return at < len ? at + 1 : len;
+}
+
+/* How a CIE says that its functions' addresses are written. */
+static uint8_t encoding_of(const uint8_t *bytes, uint64_t len) {
+    static const uint8_t sizes[8] = {8, 8, 2, 4, 8, 8, 8, 8};
+    const char *text = (const char *)bytes + 9;
+    uint64_t at = len > 9 ? 10 + strnlen(text, len - 9) : len;
+    if (at >= len || *text != 'z') return 0;
+    at = past_number(bytes, past_number(bytes, at, len), len); /* the two factors */
+    at = past_number(bytes, past_number(bytes, at, len), len); /* the register, and the length */
+    for (text++; *text && *text != 'R' && at < len; text++)
+        at += *text == 'P' ? 1u + sizes[bytes[at] & 7] : *text == 'L';
+    return *text == 'R' && at < len ? bytes[at] : 0;
+}
+
+/* Counts the records of functions in a section of unwind information. If there is a table, writes a
+ * row for each: the function's address and that of its record. */
+uint64_t read_frames(const struct section *s, const uint8_t *bytes, uint8_t *rows) {
+    uint64_t count = 0, len = s->head->sh_size;
+    uint32_t size, back;
+    for (uint64_t at = 0, next; at + 4 <= len; at = next) {
+        memcpy(&size, bytes + at, 4);
+        next = at + 4 + size;
+        if (!size) continue;
+        if (next > len || size < 8) fail("%s: %s: it ends too early", s->object->path, s->name);
+        memcpy(&back, bytes + at + 4, 4);
+        if (!back) continue; /* a CIE */
+        count += !rows;
+        if (!rows) continue;
+        uint64_t place = frames->address + s->offset + at, cie = at + 4 - back;
+        uint32_t cie_len = UINT32_MAX;
+        if (back <= at + 4) memcpy(&cie_len, bytes + cie, 4);
+        if (cie + 4 + cie_len > at)
+            fail("%s: %s: a record without its CIE", s->object->path, s->name);
+        uint8_t encoding = encoding_of(bytes + cie, 4 + (uint64_t)cie_len);
+        bool is_short = (encoding & 3) == 3;
+        int64_t address = 0;
+        if (encoding & 0x60 || (!is_short && size < 12))
+            fail("%s: %s: such addresses are not supported", s->object->path, s->name);
+        memcpy(&address, bytes + at + 8, is_short ? 4 : 8);
+        if (!address) continue; /* of a function that is left out */
+        if (is_short) address = (int32_t)address;
+        if (encoding & 0x10) address += (int64_t)place + 8;
+        int32_t row[2] = {(int32_t)(address - (int64_t)index_of->address),
+                          (int32_t)(place - index_of->address)};
+        memcpy(rows + 8 * count++, row, sizeof row);
+    }
+    return count;
+}
+
+static int by_function(const void *left, const void *right) {
+    int32_t a, b;
+    memcpy(&a, left, sizeof a);
+    memcpy(&b, right, sizeof b);
+    return a < b ? -1 : a > b;
+}
+
+/* Writes `.eh_frame_hdr`: where `.eh_frame` is, and the functions that it is of, sorted. */
+void index_frames(void) {
+    uint64_t count = 0;
+    for (const struct object *o = objects; o && index_of->len; o = o->next)
+        for (const struct section *s = o->sections; s < o->sections + o->sections_len; s++)
+            if (s->output == frames)
+                count += read_frames(s, frames->bytes + s->offset,
+                                     index_of->bytes + 12 + 8 * count);
+    uint32_t head[3] = {0x3b031b01, (uint32_t)(frames->address - index_of->address - 4),
+                        (uint32_t)count};
+    if (!index_of->len) return;
+    memcpy(index_of->bytes, head, sizeof head);
+    qsort(index_of->bytes + sizeof head, count, 8, by_function);
+}
+
+static int by_address(const void *left, const void *right) {
+    const struct output *a = *(struct output *const *)left, *b = *(struct output *const *)right;
+    if (a->address != b->address) return a->address < b->address ? -1 : 1;
+    return a->rank < b->rank ? -1 : a->rank > b->rank;
+}
+
+static Elf64_Phdr loads[sizeof outputs / sizeof *outputs + 3], *load = loads - 1;
+
+/* Adds the header of a part of a segment that is loaded. */
+static void add_part(uint32_t type, uint64_t at, uint64_t bytes, uint64_t len, uint64_t align) {
+    const Elf64_Phdr *in = load;
+    while (in > loads && (in->p_type != PT_LOAD || in->p_vaddr > at)) in--;
+    uint64_t offset = in >= loads && at ? in->p_offset + (at - in->p_vaddr) : 0;
+    *++load = (Elf64_Phdr){type, PF_R, offset, at, at, bytes, len, align};
+}
+
+void write_file(const char *path, uint64_t entry) {
+    Elf64_Ehdr head = {.e_type = ET_EXEC, .e_machine = machine, .e_version = EV_CURRENT};
+    memcpy(head.e_ident, ELFMAG "\2\1\1", 7); /* ELFCLASS64, ELFDATA2LSB, EV_CURRENT */
+    head.e_entry = entry;
+    head.e_flags = machine_flags;
+    head.e_phoff = head.e_ehsize = sizeof head;
+    head.e_phentsize = sizeof *loads;
+    uint64_t end = 0, offset = headers->len ? 0 : PAGE, align = PAGE, image = 0, len;
+    if (headers->len && (machine == EM_X86_64 || machine == EM_RISCV)) align = 0x1000;
+    FILE *file = fopen(path, "wb");
+    if (!file) fail("%s: can't be written", path);
+    qsort(outputs, outputs_len, sizeof *outputs, by_address);
+    for (size_t i = 0; i < outputs_len; i++) {
+        const struct output *o = outputs[i];
+        uint64_t bytes = o->has_bytes ? o->len : 0;
+        if (o->flags & SHF_TLS && bytes) image = o->address + o->len - tls.image;
+        if (!o->len || (o->flags & SHF_TLS && !bytes)) continue;
+        if (o->address < end) remove(path);
+        if (o->address < end) fail("section %s overlaps the one before it", o->name);
+        uint32_t flags = PF_R | (o->flags & SHF_WRITE ? PF_W : 0u);
+        flags |= o->flags & SHF_EXECINSTR ? PF_X : 0u;
+        if (load < loads || o->is_placed || flags != load->p_flags ||
+            (bytes && load->p_memsz != load->p_filesz)) {
+            offset += (o->address - offset) % align;
+            *++load = (Elf64_Phdr){PT_LOAD, flags, offset, o->address, o->address, 0, 0, align};
+        }
+        end = o->address + o->len;
+        load->p_memsz = end - load->p_vaddr;
+        if (!bytes) continue;
+        load->p_filesz = load->p_memsz;
+        offset = load->p_offset + load->p_memsz;
+        fseek(file, (long)(offset - bytes), SEEK_SET);
+        fwrite(o->bytes, 1, bytes, file);
+    }
+    if (tls.len) add_part(PT_TLS, tls.image, image, tls.len, tls.align);
+    len = index_of->len;
+    if (len) add_part(PT_GNU_EH_FRAME, index_of->address, len, len, 4);
+    add_part(PT_GNU_STACK, 0, 0, 0, 16);
+    load->p_flags |= PF_W;
+    head.e_phnum = (uint16_t)(load + 1 - loads);
+    if (headers->len && sizeof head + head.e_phnum * sizeof *loads > headers->len)
+        fail("too many segments");
+    rewind(file);
+    fwrite(&head, sizeof head, 1, file);
+    fwrite(loads, sizeof *loads, head.e_phnum, file);
+    if (ferror(file) | fclose(file) || chmod(path, 0755)) fail("%s: can't be written", path);
+}

@@ -1,0 +1,136 @@
+/* The values of relocations, and the instructions of AArch64 that depend on addresses. */
+#include "link.h"
+
+struct tls tls;
+
+/* What the library says of a relocation's type, asked once for each type. */
+const struct row *row_of(const struct relocation *r) {
+    static struct row rows[2048];
+    struct row *row = &rows[r->type < 2048 ? r->type : 2047];
+    if (row->is_known) return row;
+    check(r, linker_utils_relocation(machine, r->type, &row->info));
+    row->role = linker_utils_uleb128_role(machine, r->type);
+    row->asks_for_got = linker_utils_asks_for_got(machine, r->type);
+    row->may_use_plt = linker_utils_may_use_plt(machine, r->type);
+    row->is_known = true;
+    return row;
+}
+
+/* Whether a relocation's symbol is in a section that isn't linked, where that is nothing wrong: of
+ * functions that other objects have too, the tables that are beside them are left unset. */
+bool is_left_out(const struct relocation *r) {
+    const struct symbol *s = r->symbol;
+    if (!r->section || s->output || !s->elf.st_shndx || s->elf.st_shndx >= SHN_LORESERVE)
+        return false;
+    const char *name = r->section->output->name;
+    return s->object->sections[s->elf.st_shndx].is_duplicate &&
+           (r->section->output == frames || !strcmp(name, ".gcc_except_table") ||
+            !strcmp(name, ".toc"));
+}
+
+/* AArch64: `adrp` and `ldr` of a GOT entry become `adrp` and `add`, and `adrp` and `add` become
+ * `nop` and `adr` where that reaches. */
+static void rewrite_aarch64(struct output *o, struct relocation *page, struct relocation *low) {
+    const struct section *s = page->section;
+    bool is_of_got = page->type == R_AARCH64_ADR_GOT_PAGE;
+    if (!s || low->section != s || low->offset != page->offset + 4 || page->addend ||
+        low->symbol != page->symbol || low->addend || !page->symbol->output ||
+        (is_of_got ? low->type != R_AARCH64_LD64_GOT_LO12_NC || s->has_lone_got_halves
+                   : page->type != R_AARCH64_ADR_PREL_PG_HI21))
+        return;
+    uint8_t *bytes = o->bytes + s->offset;
+    uint64_t len = s->head->sh_size, at = page->offset - s->offset, next = at + 4;
+    struct linker_utils_link_facts facts = {.is_local = 1, .has_fixed_distance = 1,
+                                            .has_addresses = 1};
+    facts.operands.symbol = address_of(low->symbol->output, low->symbol->offset);
+    facts.operands.place = address_of(o, page->offset);
+    rewrite(page, bytes, len, &at, &page->addend, &page->type, &facts);
+    facts.operands.place += 4;
+    if (is_of_got) rewrite(low, bytes, len, &next, &low->addend, &low->type, &facts);
+    uint32_t last = rewrite(low, bytes, len, &next, &low->addend, &low->type, &facts);
+    if (last == LINKER_UTILS_AARCH64_REWRITE_ADRP_ADD_TO_NOP_ADR) page->type = R_AARCH64_NONE;
+}
+
+/* The high part that a low one of RISC-V means by its label. */
+static const struct relocation *high_part(const struct output *o, const struct relocation *low) {
+    const struct relocation *r = low, *first = o->relocations, *end = first + o->relocations_len;
+    uint64_t at = low->symbol->offset;
+    while (r > first && r->offset >= at) r--;
+    for (; r < end && low->symbol->output == o; r++)
+        if (r->offset == at &&
+            (r->type == R_RISCV_PCREL_HI20 || r->type == R_RISCV_GOT_HI20 ||
+             r->type == R_RISCV_TLS_GOT_HI20 || r->type == R_RISCV_TLS_GD_HI20))
+            return r;
+    fail("%s: no high part at '%s'", place_of(low), low->symbol->name);
+}
+
+int64_t value_of(const struct output *o, const struct relocation *r) {
+    const struct row *row = row_of(r);
+    bool is_low = row->info.kind == LINKER_UTILS_KIND_RELATIVE_RISC_V_LOW12;
+    const struct relocation *of = is_low ? high_part(o, r) : r;
+    const struct symbol *s = of->symbol;
+    if (!s->output && s->elf.st_shndx && s->elf.st_shndx < SHN_LORESERVE)
+        fail("%s: '%s' is in a section that is left out", place_of(r), s->name);
+    uint64_t entry = of->entry ? address_of(got, of->entry->offset) : 0;
+    struct linker_utils_operands operands = {
+        .symbol = address_of(s->output, s->offset), .addend = of->addend,
+        .place = address_of(o, of->offset), .got_entry = entry,
+        .got_base = got->address + (machine == EM_PPC64 ? 0x8000 : 0),
+        .symbol_size = s->elf.st_size,
+        .tls_base = row->info.kind == LINKER_UTILS_KIND_TP_OFF ? tls.thread : tls.module};
+    if (is_low && of->entry) operands.symbol = entry;
+    if (!r->section && r->entry && r->entry->class != ADDRESS) /* a word of the GOT */
+        operands.addend -= (int64_t)(r->entry->class == THREAD_OFFSET ? tls.thread : tls.module);
+    if (row->may_use_plt && s->elf.st_shndx == SHN_UNDEF) {
+        /* a call of a weak symbol that nothing defines goes where ld.lld lets it go */
+        if (machine == EM_AARCH64 || machine == EM_RISCV || machine == EM_PPC64)
+            operands.symbol = operands.place + (machine == EM_AARCH64 ? 4 : 0);
+    } else if (row->may_use_plt && machine == EM_PPC64) {
+        operands.symbol += PPC64_LOCAL_ENTRY_OFFSET(s->elf.st_other);
+    }
+    operands.plt_entry = operands.symbol;
+    int64_t value = 0;
+    check(r, linker_utils_value(machine, r->type, &operands, &value));
+    return value;
+}
+
+/* One of the relocations that together compute a ULEB128 number. */
+static void relocate_uleb128(const struct relocation *r, uint64_t value, uint8_t *bytes,
+                             uint64_t len) {
+    static uint64_t number;
+    enum linker_utils_role role = row_of(r)->role;
+    size_t used;
+    if (role == LINKER_UTILS_ROLE_SUBTRACTS) {
+        check(r, linker_utils_write_uleb128(bytes, len, number - value));
+    } else {
+        number = 0;
+        if (role == LINKER_UTILS_ROLE_ADDS)
+            check(r, linker_utils_read_uleb128(bytes, len, &number, &used));
+        number += value;
+    }
+}
+
+void relocate(struct output *o) {
+    struct relocation *end = o->relocations + o->relocations_len;
+    for (struct relocation *r = o->relocations; r < end; r++) {
+        if (machine == EM_AARCH64 && r + 1 < end) rewrite_aarch64(o, r, r + 1);
+        const struct row *row = row_of(r);
+        if (row->info.kind == LINKER_UTILS_KIND_NONE || is_left_out(r) ||
+            row->info.kind == LINKER_UTILS_KIND_ALIGNMENT ||
+            row->info.kind == LINKER_UTILS_KIND_TLS_DESC_CALL)
+            continue;
+        int64_t value = value_of(o, r);
+        uint64_t at = address_of(o, r->offset) - o->address;
+        uint64_t len = (r->section ? address_of(o, r->section->end) - o->address : o->len) - at;
+        if (row->role) {
+            relocate_uleb128(r, (uint64_t)value, o->bytes + at, len);
+            continue;
+        }
+        uint32_t status = linker_utils_relocate(machine, r->type, value, o->bytes + at, len);
+        struct linker_utils_relocation_reach reach;
+        if (status == LINKER_UTILS_OUT_OF_REACH && !linker_utils_reach(machine, r->type, &reach))
+            fail("%s out of reach: %" PRId64 " is not in [%" PRId64 ", %" PRId64 "), to '%s'",
+                 place_of(r), value, reach.min, reach.max, r->symbol->name);
+        check(r, status);
+    }
+}

@@ -1,0 +1,149 @@
+/* Which definition a name has, which members of archives are needed for that, and the symbols that
+ * the linker itself defines. */
+#include "link.h"
+
+struct symbol *symbols;
+static struct symbol *buckets[1 << 16], *groups[1 << 12], *wanted;
+
+static struct symbol **find(struct symbol **table, size_t len, const char *name) {
+    uint32_t hash = 5381;
+    for (const char *c = name; *c; c++) hash = hash * 33 + (unsigned char)*c;
+    struct symbol **at = &table[(hash ^ hash >> 16) % len];
+    while (*at && strcmp((*at)->name, name)) at = &(*at)->next;
+    return at;
+}
+
+/* Where the global symbol of a name is, or is to be put. */
+struct symbol **global(const char *name) { return find(buckets, 1 << 16, name); }
+
+bool is_first_group(const char *name) {
+    struct symbol **at = find(groups, 1 << 12, name);
+    if (*at) return false;
+    *at = take(1, sizeof **at);
+    (*at)->name = name;
+    return true;
+}
+
+/* Which of two mentions of a symbol counts: the higher, and else the first. */
+int rank(const Elf64_Sym *s) {
+    bool is_weak = ELF64_ST_BIND(s->st_info) == STB_WEAK;
+    if (s->st_shndx == SHN_UNDEF) return !is_weak;
+    return s->st_shndx == SHN_COMMON ? 3 : is_weak ? 2 : 4;
+}
+
+/* Has a member loaded that defines a symbol, if one is needed and an archive has it. */
+static void want(struct symbol *s) {
+    if (!s->object || !s->archive || s->wanted || rank(&s->elf) != 1) return;
+    s->wanted = wanted ? wanted : s; /* (the last is its own) */
+    wanted = s;
+}
+
+/* The global symbol of a name, after what one more object says of it. */
+struct symbol *resolve(struct symbol *s) {
+    struct symbol **at = global(s->name), *old = *at;
+    if (!old) return *at = s;
+    int before = old->object ? rank(&old->elf) : -1, after = rank(&s->elf);
+    if (before == 4 && after == 4)
+        fail("%s: duplicate symbol '%s', also in %s", s->object->path, s->name, old->object->path);
+    if (before == 3 && after == 3) { /* the larger size, and the larger alignment */
+        uint64_t a = old->elf.st_value, b = s->elf.st_value;
+        old->elf.st_value = s->elf.st_value = a > b ? a : b;
+        after += s->elf.st_size > old->elf.st_size;
+    }
+    if (after <= before) return old;
+    old->elf = s->elf;
+    old->object = s->object;
+    want(old);
+    return old;
+}
+
+/* A symbol of an archive's index. The first archive that has it counts. */
+void offer(const char *name, struct archive *a, uint64_t member) {
+    struct symbol **at = global(name);
+    if (!*at) *at = take(1, sizeof **at);
+    if ((*at)->archive) return;
+    if (!(*at)->name) (*at)->name = name;
+    (*at)->archive = a;
+    (*at)->member = member;
+    want(*at);
+}
+
+/* Loads members until no symbol that is not defined yet is in an archive. */
+void load_members(void) {
+    while (wanted) {
+        struct symbol *s = wanted;
+        wanted = s->wanted == s ? NULL : s->wanted;
+        if (rank(&s->elf) == 1) load_member(s->archive, s->member);
+    }
+}
+
+void list_symbols(void) {
+    struct symbol **last = &symbols;
+    for (struct object *o = objects; o; o = o->next) {
+        for (size_t i = 0; i < o->symbols_len; i++) {
+            struct symbol *s = o->symbols[i];
+            if (s->is_listed) continue;
+            s->is_listed = true;
+            *last = s;
+            last = &s->later;
+        }
+    }
+}
+
+/* A symbol at an offset of a section, if an object asks for it. */
+static void define(const char *name, struct output *output, uint64_t offset) {
+    struct symbol *s = *global(name);
+    if (!s || !s->object || s->elf.st_shndx != SHN_UNDEF) return;
+    s->elf.st_shndx = SHN_ABS;
+    s->output = output;
+    s->offset = offset;
+    got->has_bytes |= output == got;
+}
+
+/* The last section up to a rank. */
+static struct output *last(unsigned rank) {
+    struct output *found = headers;
+    for (size_t i = 0; i < outputs_len && outputs[i]->rank <= rank; i++) found = outputs[i];
+    return found;
+}
+
+/* The symbols at both ends of a section: `__init_array_start` and `__init_array_end` of
+ * `.init_array`, or `__start_NAME` and `__stop_NAME` of a section NAME. */
+static void define_end(struct output *o, bool is_end) {
+    char name[300];
+    const char *text = o->name + (*o->name == '.');
+    int len = (int)strcspn(text, "."); /* without a priority */
+    snprintf(name, sizeof name, "__%.*s_%s", len < 200 ? len : 200, text, is_end ? "end" : "start");
+    define(name, o, is_end ? END : 0);
+    snprintf(name, sizeof name, "__%s_%.200s", is_end ? "stop" : "start", o->name);
+    define(name, o, is_end ? END : 0);
+}
+
+void define_symbols(void) {
+    output_of(".preinit_array"), output_of(".init_array"), output_of(".fini_array");
+    if (*global("__global_pointer$")) output_of(".sdata");
+    define("__bss_start", output_of(".bss"), 0);
+    sort_outputs();
+    for (size_t i = 0; i < outputs_len; i++) define_end(outputs[i], false); /* the first counts */
+    for (size_t i = outputs_len; i > 0; i--) define_end(outputs[i - 1], true);
+    define("_GLOBAL_OFFSET_TABLE_", got, 0);
+    define(".TOC.", got, 0x8000);
+    if (*global("__global_pointer$")) define("__global_pointer$", output_of(".sdata"), 0x800);
+    define("_etext", last(RANK_CODE), END);
+    define("etext", last(RANK_CODE), END);
+    define("_edata", last(RANK_BSS - 1), END);
+    define("edata", last(RANK_BSS - 1), END);
+    define("_end", last(RANK_BSS), END);
+    define("end", last(RANK_BSS), END);
+    if (headers->len) define("__ehdr_start", headers, 0);
+    if (headers->len) define("__executable_start", headers, 0);
+}
+
+/* Where a symbol is that an object defines. */
+void place_symbol(struct symbol *s) {
+    if (s->output) return;
+    s->offset = s->elf.st_value;
+    if (!s->elf.st_shndx || s->elf.st_shndx >= s->object->sections_len) return;
+    s->output = s->object->sections[s->elf.st_shndx].output;
+    s->offset += s->object->sections[s->elf.st_shndx].offset;
+}

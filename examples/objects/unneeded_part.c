@@ -1,0 +1,8 @@
+/* A member that can't be linked, and that nothing asks for. */
+#include "blocks.h"
+
+NUMBER(six, 6);
+word unneeded_part(word number) {
+    in_no_object();
+    return number;
+}

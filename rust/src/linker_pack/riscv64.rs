@@ -1,0 +1,69 @@
+// Made by tools/erase of crates/linker_pack/src/riscv64.rt.
+//! RISC-V: what a call becomes.
+
+use crate::linker_pack::code::{Code, Template, relocated};
+use crate::linker_pack::packing::ItemError;
+use crate::linker_runs::riscv64::link_at;
+use crate::elf::RelocationKindInfo;
+use crate::riscv64::{RiscVRelocation, relocation_type_from_raw};
+
+/// What a relocation means that has a row.
+fn row_of(name: RiscVRelocation) -> RelocationKindInfo {
+    match relocation_type_from_raw(name) {
+        Some(row) => row,
+        None => unreachable!(),
+    }
+}
+
+/// `jal` of distance 0 that links a register.
+fn jal(link: u32) -> [u8; 4] {
+    (0x6f + link * 128).to_le_bytes()
+}
+
+/// The eight bytes at an offset.
+fn pair_at(section: &[u8], offset: u64) -> [u8; 8] {
+    let start = offset as usize;
+    let mut pair = [0; 8];
+    pair.copy_from_slice(&section[start..start + 8]);
+    pair
+}
+
+/// The instruction of which so many bytes stay of a call that links a register.
+fn template_of(section: &[u8], offset: u64, link: u32, kept: u64) -> Option<Template> {
+    match kept {
+        2 if link == 0 => Some(Template {
+            row: row_of(RiscVRelocation::R_RISCV_RVC_JUMP),
+            code: Code::Half([0x01, 0xa0]),
+        }),
+        4 => Some(Template {
+            row: row_of(RiscVRelocation::R_RISCV_JAL),
+            code: Code::Word(jal(link)),
+        }),
+        8 => Some(Template {
+            row: row_of(RiscVRelocation::R_RISCV_CALL_PLT),
+            code: Code::Pair(pair_at(section, offset)),
+        }),
+        _ => None,
+    }
+}
+
+/// What a call becomes of which so many bytes stay, at an address and for a target's.
+pub(crate) fn code_of(
+    section: &[u8],
+    offset: u64,
+    kept: u64,
+    place: u64,
+    target: u64,
+) -> Result<Code, ItemError> {
+    let Some(link) = link_at(section, offset) else {
+        return Err(ItemError::NotItsInstructions);
+    };
+    let Some(template) = template_of(section, offset, link, kept) else {
+        return Err(ItemError::NoShape);
+    };
+    crate::relocation_laws::riscv64();
+    match relocated(template, place, target) {
+        Some(code) => Ok(code),
+        None => Err(ItemError::OutOfReach),
+    }
+}
