@@ -63,7 +63,7 @@ pub fn compare<'a>(
             }
             let names = report::names_of(object, index);
             let [a, b] = &mut sides;
-            let both = a.walk(at, index).into_iter().zip(b.walk(at, index));
+            let both = a.take_made(at, index).into_iter().zip(b.take_made(at, index));
             for (one, (a, b)) in section.relocations.iter().zip(both) {
                 if made::is_mark(object.architecture, one.code) {
                     continue;

@@ -48,6 +48,8 @@ pub struct Side<'a> {
     /// Objects, sections and anchors by local symbols whose names are there more than once.
     repeated: Vec<(usize, usize, (u64, u64))>,
     pending: Vec<Pending>,
+    /// What `locate` found last, by object and section.
+    made: Vec<Vec<Vec<Made>>>,
 }
 
 /// The field of a relocation against a section whose place isn't known.
@@ -138,7 +140,7 @@ impl<'a> Side<'a> {
             _ => base("_GLOBAL_OFFSET_TABLE_").unwrap_or(linked.got_start),
         };
         let maps = anchors.clone();
-        Side { linked, objects, definers, got_base, anchors, maps, repeated, pending: Vec::new() }
+        Side { linked, objects, definers, got_base, anchors, maps, repeated, pending: Vec::new(), made: Vec::new() }
     }
 
     /// Finds the places of all sections, as far as they can be found; `step` is called for each
@@ -146,11 +148,14 @@ impl<'a> Side<'a> {
     pub fn locate(&mut self, step: &dyn Fn()) {
         for round in 0..5 {
             self.pending.clear();
+            self.made.clear();
             for object in 0..self.objects.len() {
+                let mut made = Vec::new();
                 for section in 0..self.objects[object].sections.len() {
-                    self.walk(object, section);
+                    made.push(self.walk(object, section));
                     step();
                 }
+                self.made.push(made);
             }
             // the deletions have to be known before places are
             let may_delete =
@@ -252,12 +257,7 @@ impl<'a> Side<'a> {
                 field.leads(&Operands { got_entry: *got_entry, ..with(0) })
             });
             return match (found.next(), found.next()) {
-                (Some((_, Entry::Address(address))), None) => {
-                    Target::Other(format!("the GOT entry of {}", self.name_of(*address)))
-                }
-                (Some((_, Entry::Symbol(name))), None) => {
-                    Target::Other(format!("the GOT entry of {name}"))
-                }
+                (Some((_, entry)), None) => self.entry_of(entry),
                 _ => self.bits(field),
             };
         }
@@ -272,6 +272,13 @@ impl<'a> Side<'a> {
             Some((address, 0, 64)) => Target::Other(self.name_of(address)),
             _ => self.bits(field),
         }
+    }
+
+    fn entry_of(&self, entry: &Entry) -> Target {
+        Target::Other(match entry {
+            Entry::Address(address) => format!("the GOT entry of {}", self.name_of(*address)),
+            Entry::Symbol(name) => format!("the GOT entry of {name}"),
+        })
     }
 
     fn bits(&self, field: &Field) -> Target {
@@ -348,14 +355,25 @@ impl<'a> Side<'a> {
             true => addresses.extend(entries.into_iter().flatten()),
             false => addresses.push(address),
         }
-        match addresses.iter().any(|symbol| field.leads(&Operands { symbol: *symbol, ..low })) {
-            true => Target::AsWritten,
-            false => self.bits(field),
+        if addresses.iter().any(|symbol| field.leads(&Operands { symbol: *symbol, ..low })) {
+            return Target::AsWritten;
+        }
+        let mut found = self.linked.got.iter().filter(|(symbol, _)| {
+            row.asks_for_got() && field.leads(&Operands { symbol: *symbol, ..low })
+        });
+        match (found.next(), found.next()) {
+            (Some((_, entry)), None) => self.entry_of(entry),
+            _ => self.bits(field),
         }
     }
 
-    /// What was made of each relocation of a section.
-    pub fn walk(&mut self, object: usize, section: usize) -> Vec<Made> {
+    /// What was made of each relocation of a section, after `locate`.
+    pub fn take_made(&mut self, object: usize, section: usize) -> Vec<Made> {
+        std::mem::take(&mut self.made[object][section])
+    }
+
+    /// The same, by what is known of places.
+    fn walk(&mut self, object: usize, section: usize) -> Vec<Made> {
         let it: &'a Section<'a> = &self.objects[object].sections[section];
         let anchors = self.anchors[object][section].clone();
         let mut map = Anchors::new();
