@@ -96,8 +96,8 @@ pub record HaveSameBase (a b : Operands) : Type 0 where
   pub got_base : a.got_base ≡ b.got_base
   pub tls_base : a.tls_base ≡ b.tls_base
 
--- Of operands with the same place, GOT and TLS base, the address has the bits of s exactly where the
--- value has those of f.
+-- Of operands with the same place, GOT and TLS base, the address has the bits of s exactly where
+-- the value has those of f.
 abbrev pub Solves : Terms → RelocationKindInfo → FieldValue → Operands → FieldValue → Type 0
 Solves t row f operands s =
     (o : Operands) (v : ℤ) → HaveSameBase operands o → value_of row o ≡ Some v

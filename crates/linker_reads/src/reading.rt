@@ -8,7 +8,8 @@ ghost use Rattle.linker_elf.specs.AArch64.{aarch64_form};
 ghost use Rattle.linker_elf.specs.Elf.{relocation_form, IsWithin};
 ghost use Rattle.linker_elf.specs.LoongArch.{loongarch_form};
 ghost use Rattle.linker_elf.specs.Ppc64.{ppc64_form};
-ghost use Rattle.linker_elf.specs.Relocate.{number_of_bytes, is_dq_form, ppc64_reads, size_len, IsAligned};
+ghost use Rattle.linker_elf.specs.Relocate.{number_of_bytes, is_dq_form, ppc64_reads, size_len};
+ghost use Rattle.linker_elf.specs.Relocate.{IsAligned};
 ghost use Rattle.linker_elf.specs.RiscV.{riscv_form};
 ghost use Rattle.linker_reads.specs.Fields.{IsProper, IsOfValue};
 ghost use Rattle.linker_reads.specs.Reading.{immediate_of, bits_within};
@@ -448,9 +449,10 @@ fn with_alignment(alignment: u64, field: FieldValue) -> FieldValue
 /// - MOVN and MOVZ have 16 bits and the sign, whatever their shift is.
 /// - Whole bytes have the low bits of the value, as a little-endian number; `R_RISCV_SET6` has 6.
 ///
-/// `None` if there are fewer bytes than the window. Also `None` of rows whose field isn't the value:
-/// those of no bytes, those that add or subtract, those of ULEB128 numbers, and `R_LARCH_CALL30`; and
-/// of rows that the library doesn't return, as those of `MachOLow12` or of more than 8 bytes.
+/// `None` if there are fewer bytes than the window. Also `None` of rows whose field isn't the
+/// value: those of no bytes, those that add or subtract, those of ULEB128 numbers, and
+/// `R_LARCH_CALL30`; and of rows that the library doesn't return, as those of `MachOLow12` or of
+/// more than 8 bytes.
 ///
 /// ```
 /// use linker_reads::reading::read;
