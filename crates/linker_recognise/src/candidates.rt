@@ -37,3 +37,11 @@ pub(crate) fn four<A: Copy>(a: A, b: A, c: A, d: A) -> [Option<A>; CANDIDATES]
 {
     [Some(a), Some(b), Some(c), Some(d), None, None]
 }
+
+/// Five choices.
+#[inline(always)]
+pub(crate) fn five<A: Copy>(a: A, b: A, c: A, d: A, e: A) -> [Option<A>; CANDIDATES]
+    ensures { result ≡ padded (a ∷ b ∷ c ∷ d ∷ e ∷ []) }
+{
+    [Some(a), Some(b), Some(c), Some(d), Some(e), None]
+}

@@ -11,7 +11,7 @@ ghost use Rattle.linker_utils.specs.RiscVOriginals.{riscv_matches};
 ghost use Rattle.linker_utils.specs.RiscVRewrites.{riscv_deleted};
 ghost use Rattle.linker_utils.specs.declared.elf.choice.LinkFacts.{LinkFacts};
 
-use crate::candidates::{CANDIDATES, four, one, three, two};
+use crate::candidates::{CANDIDATES, five, four, one, three, two};
 use crate::engine::{Kind, Name, is_left, recognise_among};
 use crate::fields::FieldBits;
 use linker_utils::elf::{Choice, LinkFacts, Row};
@@ -49,6 +49,70 @@ fn candidates(name: RiscVRelocation) -> [Option<RiscVChoice>; CANDIDATES]
         ),
         RiscVRelocation::R_RISCV_LO12_S => two(
             choice(RelaxationKind::Lo12Rs1ToZero, name),
+            unchanged,
+        ),
+        RiscVRelocation::R_RISCV_TPREL_HI20 | RiscVRelocation::R_RISCV_TPREL_ADD => two(
+            choice(RelaxationKind::Delete, RiscVRelocation::R_RISCV_NONE),
+            unchanged,
+        ),
+        RiscVRelocation::R_RISCV_TPREL_LO12_I => two(
+            choice(RelaxationKind::BaseToTp, name),
+            unchanged,
+        ),
+        RiscVRelocation::R_RISCV_TPREL_LO12_S => two(
+            choice(RelaxationKind::BaseToTp, name),
+            unchanged,
+        ),
+        RiscVRelocation::R_RISCV_TLSDESC_HI20 | RiscVRelocation::R_RISCV_TLSDESC_LOAD_LO12 => five(
+            choice(RelaxationKind::Delete, RiscVRelocation::R_RISCV_NONE),
+            choice(
+                RelaxationKind::ReplaceWithLongNop,
+                RiscVRelocation::R_RISCV_NONE,
+            ),
+            choice(RelaxationKind::Delete, RiscVRelocation::R_RISCV_NONE),
+            choice(
+                RelaxationKind::ReplaceWithLongNop,
+                RiscVRelocation::R_RISCV_NONE,
+            ),
+            unchanged,
+        ),
+        RiscVRelocation::R_RISCV_TLSDESC_ADD_LO12 => five(
+            choice(RelaxationKind::Delete, RiscVRelocation::R_RISCV_NONE),
+            choice(
+                RelaxationKind::ReplaceWithLongNop,
+                RiscVRelocation::R_RISCV_NONE,
+            ),
+            choice(
+                RelaxationKind::AddiToLui,
+                RiscVRelocation::R_RISCV_TPREL_HI20,
+            ),
+            choice(
+                RelaxationKind::AddiToAuipc,
+                RiscVRelocation::R_RISCV_TLS_GOT_HI20,
+            ),
+            unchanged,
+        ),
+        RiscVRelocation::R_RISCV_TLSDESC_CALL => four(
+            choice(
+                RelaxationKind::CallToAddiZero,
+                RiscVRelocation::R_RISCV_TPREL_LO12_I,
+            ),
+            choice(
+                RelaxationKind::CallToAddi,
+                RiscVRelocation::R_RISCV_TPREL_LO12_I,
+            ),
+            choice(
+                RelaxationKind::CallToLd,
+                RiscVRelocation::R_RISCV_PCREL_LO12_I,
+            ),
+            unchanged,
+        ),
+        RiscVRelocation::R_RISCV_GOT_HI20 => two(
+            choice(RelaxationKind::NoOp, RiscVRelocation::R_RISCV_PCREL_HI20),
+            unchanged,
+        ),
+        RiscVRelocation::R_RISCV_PCREL_LO12_I => two(
+            choice(RelaxationKind::LdToAddi, name),
             unchanged,
         ),
         _ => one(unchanged),
