@@ -353,7 +353,7 @@ fn with_alignment(alignment: u64, field: FieldValue) -> FieldValue {
 /// of rows that the library doesn't return, as those of `MachOLow12` or of more than 8 bytes.
 ///
 /// ```
-/// use linker_reads::reading::read;
+/// use linker_utils::reading::read;
 /// use linker_utils::riscv64::{self, RiscVRelocation};
 ///
 /// // `jal ra, 8`

@@ -130,7 +130,7 @@ impl Name for AArch64Relocation {
 /// whose offset in the original bytes is given, as `recognise` of `x86_64` says.
 ///
 /// ```
-/// use linker_recognise::aarch64::recognise;
+/// use linker_utils::recognise::aarch64::recognise;
 /// use linker_utils::aarch64::{AArch64Relocation, RelaxationKind};
 ///
 /// // `ldr x3, [x3, :got_lo12:v]` became `add x3, x3, 16`

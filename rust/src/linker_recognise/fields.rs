@@ -129,7 +129,7 @@ fn mask_of(row: &Row, bytes: &[u8]) -> u64 {
 /// opcode that it sets. All other bits are the same after each write. Requires the row's window.
 ///
 /// ```
-/// use linker_recognise::fields::field_bits;
+/// use linker_utils::recognise::field_bits;
 /// use linker_utils::x86_64::{X86_64Relocation, row};
 ///
 /// let row = row(X86_64Relocation::R_X86_64_PLT32).unwrap();
@@ -151,7 +151,7 @@ impl FieldBits {
     /// isn't there.
     ///
     /// ```
-    /// use linker_recognise::fields::FieldBits;
+    /// use linker_utils::recognise::FieldBits;
     /// use linker_utils::riscv64::{RiscVRelocation, row};
     ///
     /// // the immediate of a `jal` after two bytes
@@ -236,7 +236,7 @@ pub(crate) fn are_same_but(
 /// False if the lengths differ or the row's window isn't in them.
 ///
 /// ```
-/// use linker_recognise::fields::same_but_for;
+/// use linker_utils::recognise::same_but_for;
 /// use linker_utils::x86_64::{X86_64Relocation, row};
 ///
 /// let row = row(X86_64Relocation::R_X86_64_PLT32).unwrap();

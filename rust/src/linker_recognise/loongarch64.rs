@@ -154,7 +154,7 @@ impl Name for LoongArch64Relocation {
 /// deleted bytes, and empty if they are all of the original window.
 ///
 /// ```
-/// use linker_recognise::loongarch64::recognise;
+/// use linker_utils::recognise::loongarch64::recognise;
 /// use linker_utils::loongarch64::{LoongArch64Relocation, RelaxationKind};
 ///
 /// // `pcaddu18i ra` and `jirl ra, ra` became `bl 4`

@@ -144,7 +144,7 @@ impl Name for Ppc64Relocation {
 /// whose offset in the original bytes is given, as `recognise` of `x86_64` says.
 ///
 /// ```
-/// use linker_recognise::ppc64::recognise;
+/// use linker_utils::recognise::ppc64::recognise;
 /// use linker_utils::ppc64::{Ppc64Relocation, RelaxationKind};
 ///
 /// // `ld 3, x@got@l(3)` became `addi 3, 3, 16`

@@ -72,7 +72,7 @@ impl Name for RiscVRelocation {
 /// deleted bytes, and empty if they are all of the original window.
 ///
 /// ```
-/// use linker_recognise::riscv64::recognise;
+/// use linker_utils::recognise::riscv64::recognise;
 /// use linker_utils::riscv64::{RelaxationKind, RiscVRelocation};
 ///
 /// // `auipc ra, 0` and `jalr ra, 0(ra)` became `jal ra, 256`

@@ -236,7 +236,7 @@ impl Name for X86_64Relocation {
 ///   if it leaves the linked bytes so.
 ///
 /// ```
-/// use linker_recognise::x86_64::recognise;
+/// use linker_utils::recognise::x86_64::recognise;
 /// use linker_utils::x86_64::{RelaxationKind, X86_64Relocation};
 ///
 /// // mov x@GOTPCREL(%rip), %rdi became lea x(%rip), %rdi
