@@ -200,7 +200,10 @@ fn alignments_alone_are_a_run(rt: HostRuntime) -> Result<(), Fail> {
 #[test]
 fn loongarch_alignments_have_two_spellings(rt: HostRuntime) -> Result<(), Fail> {
     let rows: [(Relocation, Item); 4] = [
-        (relocation(24, 102, 12, None), aligned(0x118, 12, 16, Some(12))),
+        (
+            relocation(24, 102, 12, None),
+            aligned(0x118, 12, 16, Some(12)),
+        ),
         (relocation(24, 102, 4, None), aligned(0x118, 4, 8, Some(4))),
         (of_symbol(24, 102, 4), aligned(0x118, 12, 16, Some(12))),
         (of_symbol(24, 102, 0x404), aligned(0x118, 12, 16, Some(4))),

@@ -348,9 +348,10 @@ fn with_alignment(alignment: u64, field: FieldValue) -> FieldValue {
 /// - MOVN and MOVZ have 16 bits and the sign, whatever their shift is.
 /// - Whole bytes have the low bits of the value, as a little-endian number; `R_RISCV_SET6` has 6.
 ///
-/// `None` if there are fewer bytes than the window. Also `None` of rows whose field isn't the value:
-/// those of no bytes, those that add or subtract, those of ULEB128 numbers, and `R_LARCH_CALL30`; and
-/// of rows that the library doesn't return, as those of `MachOLow12` or of more than 8 bytes.
+/// `None` if there are fewer bytes than the window. Also `None` of rows whose field isn't the
+/// value: those of no bytes, those that add or subtract, those of ULEB128 numbers, and
+/// `R_LARCH_CALL30`; and of rows that the library doesn't return, as those of `MachOLow12` or of
+/// more than 8 bytes.
 ///
 /// ```
 /// use linker_utils::reading::read;

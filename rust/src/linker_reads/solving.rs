@@ -84,8 +84,8 @@ fn terms_of_kind(kind: RelocationKind) -> Option<Terms> {
 
 /// Which address a row's value is computed from, and what is taken off it. `None` of rows without
 /// an inverse: those without a value or without bytes, of sizes, of sums and differences with what
-/// stood there, of ULEB128 numbers, and LoongArch's bits 32 to 63 of a distance, which depend on the
-/// low bits of the address too.
+/// stood there, of ULEB128 numbers, and LoongArch's bits 32 to 63 of a distance, which depend on
+/// the low bits of the address too.
 #[must_use]
 pub fn terms_of(kind: RelocationKind, size: RelocationSize) -> Option<Terms> {
     match size {
@@ -151,15 +151,15 @@ fn without_rounding(field: FieldValue) -> FieldValue {
     }
 }
 
-/// What is known of the address that a value comes from: the inverse of `RelocationKindInfo::value`.
-/// `terms_of` says which address it is. `field` is what is known of the value, as `read` returns it.
-/// Of the operands only the place, the GOT's address and the base of TLS are read, whichever the
-/// formula takes off.
+/// What is known of the address that a value comes from: the inverse of
+/// `RelocationKindInfo::value`. `terms_of` says which address it is. `field` is what is known of
+/// the value, as `read` returns it. Of the operands only the place, the GOT's address and the base
+/// of TLS are read, whichever the formula takes off.
 ///
 /// With these, an address has the bits of the result exactly if its value has those of `field`. The
-/// row's bias is taken off. Of a row that takes the page of the address, bits 12 and up are known of
-/// the address plus the bias, which is the result's `rounding`. Where bit 0 is known the rounding is
-/// 0.
+/// row's bias is taken off. Of a row that takes the page of the address, bits 12 and up are known
+/// of the address plus the bias, which is the result's `rounding`. Where bit 0 is known the
+/// rounding is 0.
 ///
 /// `None` of rows without an inverse, as `terms_of` says; and of a row of pages if `field` begins
 /// below bit 12.
@@ -192,10 +192,10 @@ pub fn solve(
     }
 }
 
-/// What is known of an address from both halves of a pair, as `solve` returns them: `adrp` and `add`,
-/// `auipc` and `addi`, `addis` and `addi`, `pcalau12i` and `addi.d`. A number has the bits of the
-/// result exactly if it has those of both. If the high half's bits are known up to bit 63, as `reach`
-/// makes them, `number` of the result is the address.
+/// What is known of an address from both halves of a pair, as `solve` returns them: `adrp` and
+/// `add`, `auipc` and `addi`, `addis` and `addi`, `pcalau12i` and `addi.d`. A number has the bits
+/// of the result exactly if it has those of both. If the high half's bits are known up to bit 63,
+/// as `reach` makes them, `number` of the result is the address.
 ///
 /// `None` unless the low half has all bits below the high half's, from bit 0 up, without rounding.
 ///

@@ -27,3 +27,9 @@ pub(crate) fn three<A: Copy>(a: A, b: A, c: A) -> [Option<A>; CANDIDATES] {
 pub(crate) fn four<A: Copy>(a: A, b: A, c: A, d: A) -> [Option<A>; CANDIDATES] {
     [Some(a), Some(b), Some(c), Some(d), None, None]
 }
+
+/// Five choices.
+#[inline(always)]
+pub(crate) fn five<A: Copy>(a: A, b: A, c: A, d: A, e: A) -> [Option<A>; CANDIDATES] {
+    [Some(a), Some(b), Some(c), Some(d), Some(e), None]
+}

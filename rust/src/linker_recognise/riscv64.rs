@@ -1,7 +1,7 @@
 // Made by tools/erase of crates/linker_recognise/src/riscv64.rt.
 //! What a linker made of a relocation of RISC-V.
 
-use crate::linker_recognise::candidates::{CANDIDATES, four, one, three, two};
+use crate::linker_recognise::candidates::{CANDIDATES, five, four, one, three, two};
 use crate::linker_recognise::engine::{Kind, Name, is_left, recognise_among};
 use crate::linker_recognise::fields::FieldBits;
 use crate::elf::{Choice, LinkFacts, Row};
@@ -35,6 +35,70 @@ fn candidates(name: RiscVRelocation) -> [Option<RiscVChoice>; CANDIDATES] {
         ),
         RiscVRelocation::R_RISCV_LO12_S => two(
             choice(RelaxationKind::Lo12Rs1ToZero, name),
+            unchanged,
+        ),
+        RiscVRelocation::R_RISCV_TPREL_HI20 | RiscVRelocation::R_RISCV_TPREL_ADD => two(
+            choice(RelaxationKind::Delete, RiscVRelocation::R_RISCV_NONE),
+            unchanged,
+        ),
+        RiscVRelocation::R_RISCV_TPREL_LO12_I => two(
+            choice(RelaxationKind::BaseToTp, name),
+            unchanged,
+        ),
+        RiscVRelocation::R_RISCV_TPREL_LO12_S => two(
+            choice(RelaxationKind::BaseToTp, name),
+            unchanged,
+        ),
+        RiscVRelocation::R_RISCV_TLSDESC_HI20 | RiscVRelocation::R_RISCV_TLSDESC_LOAD_LO12 => five(
+            choice(RelaxationKind::Delete, RiscVRelocation::R_RISCV_NONE),
+            choice(
+                RelaxationKind::ReplaceWithLongNop,
+                RiscVRelocation::R_RISCV_NONE,
+            ),
+            choice(RelaxationKind::Delete, RiscVRelocation::R_RISCV_NONE),
+            choice(
+                RelaxationKind::ReplaceWithLongNop,
+                RiscVRelocation::R_RISCV_NONE,
+            ),
+            unchanged,
+        ),
+        RiscVRelocation::R_RISCV_TLSDESC_ADD_LO12 => five(
+            choice(RelaxationKind::Delete, RiscVRelocation::R_RISCV_NONE),
+            choice(
+                RelaxationKind::ReplaceWithLongNop,
+                RiscVRelocation::R_RISCV_NONE,
+            ),
+            choice(
+                RelaxationKind::AddiToLui,
+                RiscVRelocation::R_RISCV_TPREL_HI20,
+            ),
+            choice(
+                RelaxationKind::AddiToAuipc,
+                RiscVRelocation::R_RISCV_TLS_GOT_HI20,
+            ),
+            unchanged,
+        ),
+        RiscVRelocation::R_RISCV_TLSDESC_CALL => four(
+            choice(
+                RelaxationKind::CallToAddiZero,
+                RiscVRelocation::R_RISCV_TPREL_LO12_I,
+            ),
+            choice(
+                RelaxationKind::CallToAddi,
+                RiscVRelocation::R_RISCV_TPREL_LO12_I,
+            ),
+            choice(
+                RelaxationKind::CallToLd,
+                RiscVRelocation::R_RISCV_PCREL_LO12_I,
+            ),
+            unchanged,
+        ),
+        RiscVRelocation::R_RISCV_GOT_HI20 => two(
+            choice(RelaxationKind::NoOp, RiscVRelocation::R_RISCV_PCREL_HI20),
+            unchanged,
+        ),
+        RiscVRelocation::R_RISCV_PCREL_LO12_I => two(
+            choice(RelaxationKind::LdToAddi, name),
             unchanged,
         ),
         _ => one(unchanged),
