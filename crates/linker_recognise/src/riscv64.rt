@@ -144,8 +144,11 @@ impl Name for RiscVRelocation {
         row(self)
     }
 
-    fn repeats(self, _other: RiscVRelocation) -> bool {
-        false
+    fn repeats(self, other: RiscVRelocation) -> bool {
+        matches!(
+            (self, other),
+            (RiscVRelocation::R_RISCV_NONE, RiscVRelocation::R_RISCV_NONE)
+        )
     }
 }
 
