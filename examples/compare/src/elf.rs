@@ -100,7 +100,7 @@ fn because(error: object::read::Error) -> Reason {
     format!("{error}")
 }
 
-fn head<'a>(bytes: &'a [u8]) -> Result<(&'a Head, Architecture), Reason> {
+fn head(bytes: &[u8]) -> Result<(&Head, Architecture), Reason> {
     if bytes.len() < 20 || !bytes.starts_with(&elf::ELFMAG) {
         return Err("this isn't an ELF file".into());
     }

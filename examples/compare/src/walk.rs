@@ -292,8 +292,8 @@ impl<'a> Side<'a> {
         let all = &self.objects[object].sections[section].relocations;
         let first = all.partition_point(|one| one.offset < symbol.value);
         let architecture = self.linked.architecture;
-        let high = all[first..].iter().take_while(|one| one.offset == symbol.value);
-        let high = high.filter(|one| !made::is_mark(architecture, one.code)).next()?;
+        let mut high = all[first..].iter().take_while(|one| one.offset == symbol.value);
+        let high = high.find(|one| !made::is_mark(architecture, one.code))?;
         Some((high, self.address_in(object, section, symbol.value)?))
     }
 
@@ -448,7 +448,7 @@ impl<'a> Side<'a> {
     }
 
     /// The choice that leaves the bytes of the widest window; of several the one whose relocation
-    /// leads to its symbol.
+    /// leads to its symbol, and of these the one that is unchanged.
     fn recognise(
         &mut self,
         object: usize,
@@ -506,8 +506,10 @@ impl<'a> Side<'a> {
                 let before = made::Before::new(architecture, one, original, one.offset - start);
                 let found = before.choices(&others, linked);
                 let found = found.into_iter().map(|chosen| (before.clone(), chosen, None));
-                let found: Vec<_> =
+                let mut found: Vec<_> =
                     if is_second { before.choices_after(&others, linked) } else { found.collect() };
+                // a high part alone may lead to its symbol by either relocation
+                found.sort_by_key(|(_, chosen, _)| chosen.relocation != one.code);
                 for (before, chosen, first) in found {
                     let count = chosen.kind.deleted().map_or(0, |bytes| bytes.count as usize);
                     if count != *deleted {
