@@ -59,8 +59,8 @@ impl Relaxation {
 }
 
 impl Relaxation {
-    /// The bytes to be deleted after the rewrite, as `deleted` of the `RelaxationKind` of `riscv64` and
-    /// `loongarch64` says. `None` where there are none, and for all other architectures.
+    /// The bytes to be deleted after the rewrite, as `deleted` of the `RelaxationKind` of `riscv64`
+    /// and `loongarch64` says. `None` where there are none, and for all other architectures.
     #[must_use]
     #[inline]
     pub fn deleted(self) -> Option<DeletedBytes> {

@@ -48,8 +48,8 @@ DependsOn put row =
 
 -- ---- GOT entries
 
--- RISC-V's low parts: their symbol labels a high part, whose value they take, so that it is the high
--- part that asks for an entry
+-- RISC-V's low parts: their symbol labels a high part, whose value they take, so that it is the
+-- high part that asks for an entry
 abbrev pub is_of_high_part : RelocationSize → Bool
 is_of_high_part (BitMasking bits (RiscV IType)) = true
 is_of_high_part (BitMasking bits (RiscV SType)) = true

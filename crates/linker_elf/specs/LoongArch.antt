@@ -1,5 +1,5 @@
--- LoongArch: its instruction forms (LoongArch Reference Manual, volume 1), and its calls and addresses
--- of several instructions (LoongArch ELF psABI).
+-- LoongArch: its instruction forms (LoongArch Reference Manual, volume 1), and its calls and
+-- addresses of several instructions (LoongArch ELF psABI).
 use Rattle.std.specs.Prelude.{◌≡◌, ℕ, ◌+◌, ◌-◌, ◌*◌, ◌%◌, ◌^◌, true, false, ◌==◌, if◌then◌else◌}
 use Rattle.std.specs.Prelude.{List, [], ◌∷◌, ◌++◌, drop, ℤ, pos, neg_ℤ, ◌+ℤ◌}
 use Rattle.std.specs.Prelude.{◌-ℤ◌, ◌*ℤ◌, ◌≤ℤ◌, ◌<ℤ◌, ⊤, ◌≤◌}

@@ -7,7 +7,8 @@ use Rattle.linker_elf.specs.declared.elf.RelocationKind.{RelocationKind}
 use Rattle.linker_elf.specs.declared.elf.RelocationKind.TheVariants.{Absolute, DtpOff}
 use Rattle.linker_elf.specs.declared.elf.RelocationKind.TheVariants.{GotRelative, GotTpOffGotBase}
 use Rattle.linker_elf.specs.declared.elf.RelocationKind.TheVariants.{GotRelGotBase, GotTpOff}
-use Rattle.linker_elf.specs.declared.elf.RelocationKind.TheVariants.{PltRelGotBase, PltRelative, TlsGd, TlsLd}
+use Rattle.linker_elf.specs.declared.elf.RelocationKind.TheVariants.{PltRelGotBase, PltRelative}
+use Rattle.linker_elf.specs.declared.elf.RelocationKind.TheVariants.{TlsGd, TlsLd}
 use Rattle.linker_elf.specs.declared.elf.RelocationKind.TheVariants.{None as NoValue, Relative}
 use Rattle.linker_elf.specs.declared.elf.RelocationKind.TheVariants.{SymRelGotBase, TlsGdGotBase}
 use Rattle.linker_elf.specs.declared.elf.RelocationKind.TheVariants.{TlsLdGotBase, TpOff}

@@ -122,7 +122,8 @@ fn ppc64_number(insn: Ppc64Instruction, bytes: &[u8]) -> u64
 fn loongarch_number(insn: LoongArch64Instruction, bytes: &[u8]) -> u64
     requires { byte_len (loongarch_form insn).window ≤ length bytes.now }
     ensures { result ≡ cast_unsigned w64
-        (number_held (RelocationInstruction.LoongArch64 insn) (window_of (loongarch_form insn) bytes.now)) }
+        (number_held (RelocationInstruction.LoongArch64 insn)
+        (window_of (loongarch_form insn) bytes.now)) }
 {
     match insn {
         LoongArch64Instruction::Shift5 => insn.read(bytes).0.low_bits_signed(20),
@@ -143,7 +144,8 @@ fn loongarch_number(insn: LoongArch64Instruction, bytes: &[u8]) -> u64
 /// What the machine reads of an instruction, in units of the first bit of its range, modulo 2^64.
 fn number_held(insn: RelocationInstruction, bytes: &[u8]) -> u64
     requires { byte_len (relocation_form insn).window ≤ length bytes.now }
-    ensures { result ≡ cast_unsigned w64 (number_held insn (window_of (relocation_form insn) bytes.now)) }
+    ensures { result ≡ cast_unsigned w64 (number_held insn
+        (window_of (relocation_form insn) bytes.now)) }
 {
     match insn {
         RelocationInstruction::AArch64(insn) => aarch64_number(insn, bytes),

@@ -10,7 +10,8 @@ use Rattle.linker_relax.specs.declared.relaxation.Alignment.{Alignment}
 use Rattle.linker_relax.specs.declared.relaxation.Item.{Item}
 use Rattle.linker_relax.specs.declared.relaxation.Item.TheVariants.{Site, Aligned}
 use Rattle.linker_relax.specs.Relaxing.{offset_of, end_of, target_of, item_at, place_of, shape_len}
-use Rattle.linker_relax.specs.Relaxing.{short_shape, needed, freed_before, item_reaches, is_in_reach}
+use Rattle.linker_relax.specs.Relaxing.{short_shape, needed, freed_before, item_reaches}
+use Rattle.linker_relax.specs.Relaxing.{is_in_reach}
 use Rattle.linker_relax.specs.Relaxing.{choice_of, AreInOrder, AreRelaxed}
 use Rattle.linker_relax.specs.Relaxing.{AreKeptBytes, AreFreed}
 

@@ -15,7 +15,8 @@ use Rattle.linker_relax.specs.declared.relaxation.faults.Fault.TheVariants.{BadU
 use Rattle.linker_relax.specs.declared.relaxation.faults.Fault.TheVariants.{BadPower, UnevenShape}
 use Rattle.linker_relax.specs.declared.relaxation.faults.Fault.TheVariants.{PowerBelowUnit}
 use Rattle.linker_relax.specs.declared.relaxation.faults.Fault.TheVariants.{UnevenEnd, TooFewNops}
-use Rattle.linker_relax.specs.declared.relaxation.faults.Fault.TheVariants.{UnevenNops, TargetInside}
+use Rattle.linker_relax.specs.declared.relaxation.faults.Fault.TheVariants.{UnevenNops}
+use Rattle.linker_relax.specs.declared.relaxation.faults.Fault.TheVariants.{TargetInside}
 use Rattle.linker_relax.specs.declared.relaxation.faults.ItemFault.{ItemFault}
 use Rattle.linker_relax.specs.Relaxing.{offset_of, end_of, target_of, item_at, shape_len}
 use Rattle.linker_relax.specs.Relaxing.{short_shape}

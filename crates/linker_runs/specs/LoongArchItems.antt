@@ -35,7 +35,8 @@ abbrev pub stated_most : Bool → ℕ → ℕ → ℕ
 stated_most has_symbol addend nops =
     if has_symbol then (if addend / 2 ^ 8 == 0 then nops else addend / 2 ^ 8) else nops
 
--- The nops of an `R_LARCH_ALIGN` are one instruction fewer than a power of two, and lie in the section.
+-- The nops of an `R_LARCH_ALIGN` are one instruction fewer than a power of two, and lie in the
+-- section.
 pub record AreLoongArchNops (section : List ℕ) (relocation : Relocation) (addend nops : ℕ)
     : Type 0 where
   pub addend_is : relocation.addend ≡ pos addend
@@ -67,13 +68,14 @@ pub record IsCall36 (section : List ℕ) (relocations : List Relocation) (i : �
   pub call : IsCall 1 section (relocation_at relocations i).offset
       ⊎ IsCall 0 section (relocation_at relocations i).offset
 
--- `pcalau12i` and `addi.d` of one register, next to each other and for one target, whose relocations
--- are next to each other too
+-- `pcalau12i` and `addi.d` of one register, next to each other and for one target, whose
+-- relocations are next to each other too
 pub record IsPcala (section : List ℕ) (relocations : List Relocation) (i : ℕ) : Type 0 where
   pub high : IsRelaxable r.R_LARCH_PCALA_HI20 relocations i
   pub low : IsRelaxable r.R_LARCH_PCALA_LO12 relocations (i + 2)
   pub next : (relocation_at relocations (i + 2)).offset ≡ (relocation_at relocations i).offset + 4
-  pub same_target : (relocation_at relocations (i + 2)).target ≡ (relocation_at relocations i).target
+  pub same_target : (relocation_at relocations (i + 2)).target
+      ≡ (relocation_at relocations i).target
   pub pair : IsPair IsAddi section (relocation_at relocations i).offset
 
 -- the site of eight bytes at a relocation

@@ -34,8 +34,8 @@ IsOfCall relocation =
 abbrev pub nop_len : Bool → ℕ
 nop_len c = if c then 2 else 4
 
--- So many bytes of nops are those of an `R_RISCV_ALIGN`: its addend. They are whole nops, and lie in
--- the section.
+-- So many bytes of nops are those of an `R_RISCV_ALIGN`: its addend. They are whole nops, and lie
+-- in the section.
 pub record AreRiscVNops (c : Bool) (section : List ℕ) (relocation : Relocation) (nops : ℕ)
     : Type 0 where
   pub addend : relocation.addend ≡ pos nops
@@ -43,8 +43,8 @@ pub record AreRiscVNops (c : Bool) (section : List ℕ) (relocation : Relocation
   pub inside : relocation.offset + nops ≤ length section
   pub small : nops < 2 ^ 32
 
--- An `R_RISCV_ALIGN` aligns what follows its nops to the next power of two above their count. As many
--- as there are may stay.
+-- An `R_RISCV_ALIGN` aligns what follows its nops to the next power of two above their count. As
+-- many as there are may stay.
 pub record IsRiscVAlignment (c : Bool) (section : List ℕ) (base : ℕ) (relocation : Relocation)
     (alignment : Alignment) : Type 0 where
   pub name : HasRiscVName r.R_RISCV_ALIGN relocation

@@ -16,8 +16,8 @@ pub struct Relocation {
     pub has_symbol: bool,
     /// Its addend, `r_addend`.
     pub addend: i64,
-    /// The input offset in the run that it refers to: S + A, or the PLT entry. None where that isn't
-    /// in the run, or where the linker wants the instructions to stay as they are.
+    /// The input offset in the run that it refers to: S + A, or the PLT entry. None where that
+    /// isn't in the run, or where the linker wants the instructions to stay as they are.
     pub target: Option<u64>,
 }
 

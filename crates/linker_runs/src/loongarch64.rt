@@ -13,7 +13,8 @@ ghost use Rattle.linker_runs.specs.Relocations.{IsItemsCause};
 ghost use Rattle.linker_runs.specs.LoongArchItems.{HasLoongArchName, stated_power, stated_most};
 ghost use Rattle.linker_runs.specs.LoongArchItems.{AreLoongArchNops, IsLoongArchAlignment};
 ghost use Rattle.linker_runs.specs.LoongArchItems.{IsRelaxable, IsCall36, IsPcala};
-ghost use Rattle.linker_runs.specs.LoongArchItems.{IsLoongArchSite, LoongArchMakes, IsLoongArchFormed};
+ghost use Rattle.linker_runs.specs.LoongArchItems.{IsLoongArchSite, LoongArchMakes};
+ghost use Rattle.linker_runs.specs.LoongArchItems.{IsLoongArchFormed};
 
 use crate::items::{ItemsError, NotAllowed, Relocation, has_bytes, is_marked};
 use linker_relax::relaxation::{Alignment, Item, Shapes, Site};
@@ -89,7 +90,8 @@ fn alignment_at(
     ensures formed { OnOk result ((addend : ℕ) × (nops : ℕ)
         × AreLoongArchNops section.now relocation.now addend nops) }
     ensures alignment { IfOk result (λ made. MatchOption made
-        ((alignment : alignments) → ¬ IsLoongArchAlignment section.now base relocation.now alignment)
+        ((alignment : alignments) → ¬ IsLoongArchAlignment section.now base relocation.now
+        alignment)
         (IsLoongArchAlignment section.now base relocation.now)) }
     ensures malformed { OnErr result ((addend nops : ℕ)
         → ¬ AreLoongArchNops section.now relocation.now addend nops) }
@@ -262,25 +264,25 @@ fn item_at(
     }
 }
 
-/// The items that the relocations of a section make, in the relocations' order. The section begins at
-/// the input offset `base` of the run. The other relocations make none.
+/// The items that the relocations of a section make, in the relocations' order. The section begins
+/// at the input offset `base` of the run. The other relocations make none.
 ///
 /// Where `R_LARCH_RELAX` is the next relocation, at the same offset, and the target is in the run,
-/// `R_LARCH_CALL36` makes a `CALL36` if the bytes are `pcaddu18i` and `jirl` of one register and the
-/// `jirl` links `ra` or none. `R_LARCH_PCALA_HI20` makes a `PCALA` if behind its `R_LARCH_RELAX` are
-/// `R_LARCH_PCALA_LO12` of the next instruction, with the same target, and an `R_LARCH_RELAX` there,
-/// and the bytes are `pcalau12i` and `addi.d` of one register.
+/// `R_LARCH_CALL36` makes a `CALL36` if the bytes are `pcaddu18i` and `jirl` of one register and
+/// the `jirl` links `ra` or none. `R_LARCH_PCALA_HI20` makes a `PCALA` if behind its
+/// `R_LARCH_RELAX` are `R_LARCH_PCALA_LO12` of the next instruction, with the same target, and an
+/// `R_LARCH_RELAX` there, and the bytes are `pcalau12i` and `addi.d` of one register.
 ///
-/// `R_LARCH_ALIGN` makes an alignment, if there are nops. Without a symbol its addend is how many bytes
-/// the nops have, and what they align to is 4 more. With a symbol the addend's lowest 8 bits are the
-/// exponent of two of what they align to, whose nops are 4 bytes fewer, and the other bits are the
-/// most bytes that may stay, or 0 for no limit (LoongArch ELF psABI, "Relocations").
+/// `R_LARCH_ALIGN` makes an alignment, if there are nops. Without a symbol its addend is how many
+/// bytes the nops have, and what they align to is 4 more. With a symbol the addend's lowest 8 bits
+/// are the exponent of two of what they align to, whose nops are 4 bytes fewer, and the other bits
+/// are the most bytes that may stay, or 0 for no limit (LoongArch ELF psABI, "Relocations").
 ///
 /// `Malformed` names the first relocation that lies behind the section's end, that is an
-/// `R_LARCH_CALL36` and less than eight bytes are there, or that is an `R_LARCH_ALIGN` whose addend is
-/// below 0, whose power of two is none or below 4, or whose nops reach past the section's end or have
-/// 2^32 bytes or more. The vector grows as items are added. `are_items` tells whether the run can be
-/// relaxed.
+/// `R_LARCH_CALL36` and less than eight bytes are there, or that is an `R_LARCH_ALIGN` whose addend
+/// is below 0, whose power of two is none or below 4, or whose nops reach past the section's end or
+/// have 2^32 bytes or more. The vector grows as items are added. `are_items` tells whether the run
+/// can be relaxed.
 pub fn items(
     alloc: Global,
     section: &[u8],

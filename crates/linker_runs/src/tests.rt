@@ -61,7 +61,8 @@ fn expect_riscv(
     Ok(())
 }
 
-/// `call f`, `tail f`, `call t0, f` and the nops of `.p2align 4`, as GNU as and clang assemble them.
+/// `call f`, `tail f`, `call t0, f` and the nops of `.p2align 4`, as GNU as and clang assemble
+/// them.
 const RISC_V: [u8; 38] = [
     0x97, 0x00, 0x00, 0x00, 0xe7, 0x80, 0x00, 0x00, 0x17, 0x03, 0x00, 0x00, 0x67, 0x00, 0x03, 0x00,
     0x97, 0x02, 0x00, 0x00, 0xe7, 0x82, 0x02, 0x00, 0x13, 0x00, 0x00, 0x00, 0x13, 0x00, 0x00, 0x00,
@@ -104,8 +105,8 @@ fn riscv_code_of_four_byte_instructions_has_no_short_ones(rt: HostRuntime) -> Re
     Ok(())
 }
 
-/// A call that isn't marked, one whose target isn't in the run, one marked at another place, and bytes
-/// that aren't a call.
+/// A call that isn't marked, one whose target isn't in the run, one marked at another place, and
+/// bytes that aren't a call.
 #[test]
 fn riscv_calls_that_stay_are_left_out(rt: HostRuntime) -> Result<(), Fail> {
     let relocations = [
@@ -195,8 +196,8 @@ fn alignments_alone_are_a_run(rt: HostRuntime) -> Result<(), Fail> {
     Ok(())
 }
 
-/// `.p2align 4` and `.p2align 4, , 4` in a section with a symbol: the exponent, and the most bytes above
-/// its 8 bits.
+/// `.p2align 4` and `.p2align 4, , 4` in a section with a symbol: the exponent, and the most bytes
+/// above its 8 bits.
 #[test]
 fn loongarch_alignments_have_two_spellings(rt: HostRuntime) -> Result<(), Fail> {
     let rows: [(Relocation, Item); 4] = [

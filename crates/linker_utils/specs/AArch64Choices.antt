@@ -1,6 +1,6 @@
 -- AArch64: the rewrite that a linker chooses for a relocation (ELF for the Arm 64-bit Architecture,
--- "Relocation optimization" and the sequences of thread-local storage; a branch to an undefined weak
--- symbol goes on behind itself).
+-- "Relocation optimization" and the sequences of thread-local storage; a branch to an undefined
+-- weak symbol goes on behind itself).
 use Rattle.std.specs.Prelude.{◌≡◌, ◌≢◌, ◌≤◌, ◌+◌, ◌-◌, ◌*◌, ◌/◌, ◌^◌, ℕ, List, [], ◌∷◌, ⊤}
 use Rattle.std.specs.Prelude.{length, drop, ◌<◌, ◌⊎◌}
 use Rattle.std.specs.Int.{w32, from_le_bytes}

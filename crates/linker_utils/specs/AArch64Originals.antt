@@ -30,9 +30,9 @@ IsAdd64 word = bit_and word 0xffc00000 ≡ 0x91000000
 abbrev pub IsLdr64 : ℕ → Type 0
 IsLdr64 word = IsTrue (is_ldr64 word)
 
--- The source register is the destination register. The number 31 is no such register: as a source of
--- `add` and `ldr` and as the destination of `add` it is the stack pointer, and as the destination of
--- `ldr`, `adrp`, `adr` and the moves the zero register.
+-- The source register is the destination register. The number 31 is no such register: as a source
+-- of `add` and `ldr` and as the destination of `add` it is the stack pointer, and as the
+-- destination of `ldr`, `adrp`, `adr` and the moves the zero register.
 pub record IsIntoOwnSource (word : ℕ) : Type 0 where
   pub same : rn_of word ≡ rd_of word
   pub not_31 : rd_of word ≢ 31
@@ -55,8 +55,8 @@ abbrev pub IsAdrpPair : List ℕ → ℕ → Type 0
 IsAdrpPair section o = FollowsAdrp (λ word. IsAdd64 word ⊎ IsLdr64 word) section o
 
 -- What a rewrite is meant for is at an offset of the section. MOVZ and MOVK of x0, `adrp x0` and
--- `ldr x0` take the place of the `adrp x0` and the `ldr xD, [x0]` of a TLS descriptor; MOVZ and MOVK
--- of xN that of the `adrp xN` and the `ldr xN, [xN]` of initial-exec.
+-- `ldr x0` take the place of the `adrp x0` and the `ldr xD, [x0]` of a TLS descriptor; MOVZ and
+-- MOVK of xN that of the `adrp xN` and the `ldr xN, [xN]` of initial-exec.
 abbrev pub aarch64_matches : RelaxationKind → List ℕ → ℕ → Type 0
 aarch64_matches NoOp section o = ⊤
 aarch64_matches ReplaceWithNop section o = HasWord section o (λ _. ⊤)

@@ -1,9 +1,11 @@
--- LoongArch: the rewrite that a linker chooses for a relocation (LoongArch ELF psABI, relaxation and the
--- sequences of thread-local storage).
-use Rattle.std.specs.Prelude.{◌≡◌, ◌≤◌, ◌+◌, ◌-◌, ◌^◌, ◌<◌, ℕ, List, [], ◌∷◌, ◌⊎◌, length, ◌++◌, ℤ, pos, neg_ℤ}
+-- LoongArch: the rewrite that a linker chooses for a relocation (LoongArch ELF psABI, relaxation
+-- and the sequences of thread-local storage).
+use Rattle.std.specs.Prelude.{◌≡◌, ◌≤◌, ◌+◌, ◌-◌, ◌^◌, ◌<◌, ℕ, List, [], ◌∷◌, ◌⊎◌, length, ◌++◌, ℤ}
+use Rattle.std.specs.Prelude.{pos, neg_ℤ}
 use Rattle.linker_utils.specs.AArch64Choices.{facts_on}
 use Rattle.linker_utils.specs.Choices.{Condition, bound, fixed_distance, executable, marked}
-use Rattle.linker_utils.specs.Choices.{addend, in_reach, within, within_if_known, Entry, entry, choice}
+use Rattle.linker_utils.specs.Choices.{addend, in_reach, within, within_if_known, Entry, entry}
+use Rattle.linker_utils.specs.Choices.{choice}
 use Rattle.linker_utils.specs.Choices.{AllHold, IsFirst}
 use Rattle.linker_utils.specs.LoongArchOriginals.{IsAddi, IsLd, IsLu12i, IsAddTp, IsPair}
 use Rattle.linker_utils.specs.LoongArchOriginals.{word_at, AreOfOneRegister, loongarch_matches}
@@ -19,8 +21,8 @@ use Rattle.linker_utils.specs.declared.loongarch64.rewrites.RelaxationKind.TheVa
 
 -- ---- the instructions that a relocation and a rewrite ask for
 
--- `pcalau12i a0`, `addi.d a0, a0`, `ld.d ra, a0, 0` and `jirl ra, ra, 0`, where `a0` is register 4 and
--- `ra` register 1
+-- `pcalau12i a0`, `addi.d a0, a0`, `ld.d ra, a0, 0` and `jirl ra, ra, 0`, where `a0` is register 4
+-- and `ra` register 1
 pub record AreOfDescriptor (pcala addi ld jirl : ℕ) : Type 0 where
   pub low_opcode : IsAddi addi
   pub one_register : AreOfOneRegister pcala addi
@@ -168,8 +170,8 @@ abbrev pub IsAmong : LoongArchChoice × LoongArchChoice → List (LoongArchChoic
 IsAmong x [] = ⊥
 IsAmong x (y ∷ ys) = (x ≡ y) ⊎ IsAmong x ys
 
--- Two relocations, n bytes apart, with the same facts but for the place: both choices are those of one
--- line, or both relocations are left.
+-- Two relocations, n bytes apart, with the same facts but for the place: both choices are those of
+-- one line, or both relocations are left.
 abbrev pub AreChosenAlike : ℕ → LoongArch64Relocation → LoongArch64Relocation
     → List (LoongArchChoice × LoongArchChoice) → Type 0
 AreChosenAlike n first second lines =
@@ -201,8 +203,8 @@ InitialExecPairIsChosenAlike =
       choice kinds.LowToOri r.R_LARCH_TLS_LE_LO12,
     ) ∷ [])
 
--- one of the other relocations of a TLS descriptor with the first one: its choices for local-exec and
--- for initial-exec
+-- one of the other relocations of a TLS descriptor with the first one: its choices for local-exec
+-- and for initial-exec
 abbrev pub DescriptorIsChosenAlike : ℕ → LoongArch64Relocation → LoongArchChoice → LoongArchChoice
     → Type 0
 DescriptorIsChosenAlike n name local initial =

@@ -1,5 +1,5 @@
--- The instructions that each rewrite of LoongArch is meant for (LoongArch Reference Manual, volume 1;
--- LoongArch ELF psABI, relaxation and the sequences of thread-local storage).
+-- The instructions that each rewrite of LoongArch is meant for (LoongArch Reference Manual, volume
+-- 1; LoongArch ELF psABI, relaxation and the sequences of thread-local storage).
 use Rattle.std.specs.Prelude.{◌≡◌, ◌≢◌, ◌≤◌, ◌+◌, ◌/◌, ◌^◌, ℕ, List, length, drop, Bool, ◌==◌, ◌||◌}
 use Rattle.std.specs.Prelude.{◌&&◌, nat_le, IsTrue, ⊤, ◌⊎◌}
 use Rattle.std.specs.Int.{w32, from_le_bytes}
@@ -50,8 +50,8 @@ abbrev pub IsAddTp : ℕ → Type 0
 IsAddTp word = word / 2 ^ 10 ≡ 0x422
 
 -- The instruction adds a signed immediate of 12 bits to its first source register, by its opcode:
--- `addi.w` and `addi.d`; `ld.b`, `ld.h`, `ld.w` and `ld.d`; `st.b`, `st.h`, `st.w` and `st.d`; `ld.bu`,
--- `ld.hu` and `ld.wu`; `fld.s`, `fst.s`, `fld.d` and `fst.d`.
+-- `addi.w` and `addi.d`; `ld.b`, `ld.h`, `ld.w` and `ld.d`; `st.b`, `st.h`, `st.w` and `st.d`;
+-- `ld.bu`, `ld.hu` and `ld.wu`; `fld.s`, `fst.s`, `fld.d` and `fst.d`.
 abbrev pub adds_low12 : ℕ → Bool
 adds_low12 opcode =
     opcode == 0x00a || opcode == 0x00b || nat_le 0x0a0 opcode && nat_le opcode 0x0aa
@@ -80,7 +80,8 @@ pub record IsPair (P : ℕ → Type 0) (section : List ℕ) (o : ℕ) : Type 0 w
   pub second : P (word_at section (o + 4))
   pub one_register : AreOfOneRegister (word_at section o) (word_at section (o + 4))
 
--- `pcaddu18i` of a register other than `zero`, and a `jirl` from that register that links another one
+-- `pcaddu18i` of a register other than `zero`, and a `jirl` from that register that links another
+-- one
 pub record IsCall (link : ℕ) (section : List ℕ) (o : ℕ) : Type 0 where
   pub within : o + 8 ≤ length section
   pub first : IsPcaddu18i (word_at section o)

@@ -1,5 +1,5 @@
--- LoongArch: its rewrites (LoongArch ELF psABI, relaxation and the sequences of thread-local storage;
--- LoongArch Reference Manual, volume 1).
+-- LoongArch: its rewrites (LoongArch ELF psABI, relaxation and the sequences of thread-local
+-- storage; LoongArch Reference Manual, volume 1).
 use Rattle.std.specs.Prelude.{ℕ, ◌+◌, ◌-◌, ◌*◌, ◌^◌, List, [], ◌∷◌, Option, None, Some}
 use Rattle.std.specs.Int.{w32, from_le_bytes, to_le_bytes}
 use Rattle.linker_base.specs.Bits.{field}

@@ -4,7 +4,8 @@ use Rattle.std.specs.Prelude.{slice_index_or, take, pos, ◌+ℤ◌, ⊤}
 use Rattle.linker_base.specs.Deletions.{IsSelected, rank}
 use Rattle.linker_elf.specs.RiscV.{riscv_form}
 use Rattle.linker_utils.specs.RiscVCalls.{word_at, IsEven, IsJalDistance, IsSiteKept}
-use Rattle.linker_utils.specs.RiscVCalls.{output_distance, call_len, NamesRegister, link_register, IsJal}
+use Rattle.linker_utils.specs.RiscVCalls.{output_distance, call_len, NamesRegister, link_register}
+use Rattle.linker_utils.specs.RiscVCalls.{IsJal}
 use Rattle.linker_elf.specs.declared.riscv64.forms.RiscVInstruction.TheVariants.{JType}
 use Rattle.linker_utils.specs.declared.riscv64.packing.PackError.{PackError}
 use Rattle.linker_utils.specs.declared.riscv64.packing.PackError.TheVariants.{OutOfMemory}

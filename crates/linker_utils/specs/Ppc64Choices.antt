@@ -1,6 +1,6 @@
--- Which rewrite of PowerPC64 is chosen (64-bit ELF V2 ABI for Power, "TOC Optimizations", "TLS Linkage
--- Optimizations" and "The TOC Pointer Register"). No condition depends on the place of a rewrite that
--- moves it.
+-- Which rewrite of PowerPC64 is chosen (64-bit ELF V2 ABI for Power, "TOC Optimizations", "TLS
+-- Linkage Optimizations" and "The TOC Pointer Register"). No condition depends on the place of a
+-- rewrite that moves it.
 use Rattle.std.specs.Prelude.{◌≡◌, ◌⊎◌, ◌++◌, ℕ, List, [], ◌∷◌, ⊤}
 use Rattle.linker_utils.specs.Choices.{Condition, bound, fixed_distance, executable, private_base}
 use Rattle.linker_utils.specs.Choices.{changed_toc, in_reach, in_reach_if_known}
@@ -150,8 +150,8 @@ InitialExecPairIsChosenAlike =
     AreChosenAlike r.R_PPC64_GOT_TPREL16_HA r.R_PPC64_GOT_TPREL16_LO_DS
     ((nop, choice kinds.LdToAddisThread r.R_PPC64_TPREL16_HA) ∷ [])
 
--- one of the other relocations of general-dynamic TLS with the first one: its choices for local-exec
--- and for initial-exec
+-- one of the other relocations of general-dynamic TLS with the first one: its choices for
+-- local-exec and for initial-exec
 abbrev pub IsOfGeneralDynamic : Ppc64Relocation → Ppc64Choice → Ppc64Choice → Type 0
 IsOfGeneralDynamic name local initial =
     AreChosenAlike r.R_PPC64_GOT_TLSGD16_HA name

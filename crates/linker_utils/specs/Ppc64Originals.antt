@@ -1,5 +1,5 @@
--- The instructions that each rewrite of PowerPC64 is meant for (Power ISA, "Fixed-Point Facility" and
--- "Floating-Point Facility"; 64-bit ELF V2 ABI for Power, "TLS Linkage Optimizations" and "TOC
+-- The instructions that each rewrite of PowerPC64 is meant for (Power ISA, "Fixed-Point Facility"
+-- and "Floating-Point Facility"; 64-bit ELF V2 ABI for Power, "TLS Linkage Optimizations" and "TOC
 -- Optimizations"). As a base, register 0 is the number 0.
 use Rattle.std.specs.Prelude.{◌+◌, ℕ, List, Bool, ◌==◌, ◌&&◌, ◌||◌, not, nat_lt, IsTrue, ⊤}
 use Rattle.std.specs.Prelude.{◌%◌, true}

@@ -76,8 +76,8 @@ low_offset name = entry kinds.BaseToTp name by_low_offset
 abbrev pub without_entry : List (Condition RiscVRelocation) → List (Condition RiscVRelocation)
 without_entry conditions = bound ∷ addend (pos 0) ∷ conditions
 
--- The offset from the thread pointer in place of a descriptor: in two instructions, in one, and in the
--- GOT.
+-- The offset from the thread pointer in place of a descriptor: in two instructions, in one, and in
+-- the GOT.
 abbrev pub to_local_exec : List (Condition RiscVRelocation)
 to_local_exec = executable ∷ without_entry (in_reach_if_known r.R_RISCV_TPREL_HI20 0 ∷ [])
 
@@ -145,8 +145,8 @@ IsAskedFor r.R_RISCV_TLSDESC_CALL = λ kind section o. HasWord section o IsCallO
 IsAskedFor r.R_RISCV_GOT_HI20 = λ kind section o. HasWord section o IsAuipc
 IsAskedFor name = riscv_matches
 
--- What the relocation asks for is at the offset, and the conditions hold. No rewrite of RISC-V moves
--- the offset or the addend.
+-- What the relocation asks for is at the offset, and the conditions hold. No rewrite of RISC-V
+-- moves the offset or the addend.
 pub record AppliesToRiscV (Asked : RelaxationKind → List ℕ → ℕ → Type 0) (section : List ℕ) (o : ℕ)
     (facts : LinkFacts) (e : RiscVEntry) : Type 0 where
   pub matches : Asked e.kind section o
@@ -155,7 +155,8 @@ pub record AppliesToRiscV (Asked : RelaxationKind → List ℕ → ℕ → Type 
 -- `NoOp` and the same relocation where no entry applies
 abbrev pub IsRiscVChoice : RiscVRelocation → List ℕ → ℕ → LinkFacts → RiscVChoice → Type 0
 IsRiscVChoice name section o facts chosen =
-    IsFirst (AppliesToRiscV (IsAskedFor name) section o facts) (riscv_entries name) (choice kinds.NoOp name) chosen
+    IsFirst (AppliesToRiscV (IsAskedFor name) section o facts) (riscv_entries name)
+    (choice kinds.NoOp name) chosen
 
 -- ---- the relocations of a pair or of a sequence
 

@@ -37,9 +37,9 @@ funct3_of word = field word 12 15
 abbrev pub rd_of : ℕ → ℕ
 rd_of word = field word 7 12
 
--- The instruction adds a signed immediate of 12 bits to its first source register, by its opcode and
--- function: `addi`, `addiw` and `jalr`; `lb`, `lh`, `lw`, `ld`, `lbu`, `lhu` and `lwu`; `sb`, `sh`, `sw`
--- and `sd`; `flh`, `flw`, `fld` and `flq`, and `fsh`, `fsw`, `fsd` and `fsq`.
+-- The instruction adds a signed immediate of 12 bits to its first source register, by its opcode
+-- and function: `addi`, `addiw` and `jalr`; `lb`, `lh`, `lw`, `ld`, `lbu`, `lhu` and `lwu`; `sb`,
+-- `sh`, `sw` and `sd`; `flh`, `flw`, `fld` and `flq`, and `fsh`, `fsw`, `fsd` and `fsq`.
 abbrev pub adds_low12 : ℕ → ℕ → Bool
 adds_low12 opcode funct3 =
     (opcode == 0x13 || opcode == 0x1b || opcode == 0x67) && funct3 == 0

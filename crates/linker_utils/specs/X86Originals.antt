@@ -1,7 +1,7 @@
 -- x86-64: the instructions that each rewrite is for (x86-64 psABI, "Optimize GOTPCRELX
--- Relocations"; "ELF Handling For Thread-Local Storage", "x86-64"; prefixes, opcodes and ModRM bytes
--- by the Intel 64 and IA-32 Software Developer's Manual, "Instruction Format"; REX2 and EVEX by the
--- Intel Advanced Performance Extensions Architecture Specification).
+-- Relocations"; "ELF Handling For Thread-Local Storage", "x86-64"; prefixes, opcodes and ModRM
+-- bytes by the Intel 64 and IA-32 Software Developer's Manual, "Instruction Format"; REX2 and EVEX
+-- by the Intel Advanced Performance Extensions Architecture Specification).
 use Rattle.std.specs.Prelude.{ℕ, ◌-◌, Bool, true, false, ◌==◌, ◌&&◌, ◌||◌, nat_le, if◌then◌else◌}
 use Rattle.std.specs.Prelude.{IsTrue, List, [], ◌∷◌, ◌++◌, drop, bit_and, bit_or}
 use Rattle.linker_base.specs.Rewrite.{CanRewrite}
@@ -42,8 +42,8 @@ abbrev pub evex_registers : ℕ × ℕ
 evex_registers = (0x6f, 0x64)
 
 -- The second has W, V3 to V0 and X4 inverted, and 00, which is no prefix 66; the third 000, ND, V4
--- inverted, NF and 00. Where ND is 1, V names the new destination, and else it names none. `fixed` is
--- 4 where NF has to be 0, and else 0.
+-- inverted, NF and 00. Where ND is 1, V names the new destination, and else it names none. `fixed`
+-- is 4 where NF has to be 0, and else 0.
 abbrev pub evex_any_v : ℕ × ℕ
 evex_any_v = (0x07, 0x04)
 

@@ -81,7 +81,8 @@ impl AcceptedCalls {
 /// The index at which a call at `site` belongs among calls by site, as `insertion_index` gives it.
 fn insertion_index_among(calls: &[(u64, u64)], site: u64) -> Option<usize>
     requires { AreApart calls.now }
-    ensures { MatchOption result (¬ All (IsFarFrom site) calls.now) (IsInsertionIndex calls.now site) }
+    ensures { MatchOption result (¬ All (IsFarFrom site) calls.now)
+        (IsInsertionIndex calls.now site) }
 {
     let index = count_below(calls, site);
     if index > 0 && site.saturating_sub(calls[index - 1].0) < JUMP_LEN {

@@ -14,8 +14,8 @@ pub fn call_shapes() -> Shapes
     CALL
 }
 
-/// For calls between which nothing is aligned, with earlier deletions as items of one shape, `relax`
-/// gives those their `jal` that `shrink_calls` chooses beside these deletions.
+/// For calls between which nothing is aligned, with earlier deletions as items of one shape,
+/// `relax` gives those their `jal` that `shrink_calls` chooses beside these deletions.
 pub fn calls_are_shrunk_alike()
     ensures { CallsAreShrunkAlike }
 {}

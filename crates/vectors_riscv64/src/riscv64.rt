@@ -381,7 +381,8 @@ fn tail_calls_become_jumps_of_linkers(rt: HostRuntime) {
 
 #[test]
 fn rewrites_match_their_instructions(rt: HostRuntime) {
-    // by GNU as: `call f`, `tail f`, `call t0, f`; and a `jalr` from another register than the `auipc`'s
+    // by GNU as: `call f`, `tail f`, `call t0, f`; and a `jalr` from another register than the
+    // `auipc`'s
     let call = both([0x0000_0097, 0x0000_80e7]);
     let tail = both([0x0000_0317, 0x0003_0067]);
     let call_t0 = both([0x0000_0317, 0x0003_02e7]);

@@ -110,9 +110,9 @@ pub(super) fn are_of_one_register(adrp: u32, word: u32) -> bool {
 }
 
 /// Whether `adrp xN` and `add xN, xN, #imm` or `ldr xN, [xN, #imm]`, both of 64 bits, stand next to
-/// each other: the second instruction at an offset of the section, and the `adrp` 4 bytes before it.
-/// Then the value that `adrp` leaves in xN is used by the second instruction alone, and the two may
-/// be rewritten together: to `nop` and `adr`, to another `adrp` and `add`, or to MOVZ and MOVK.
+/// each other: the second instruction at an offset of the section, and the `adrp` 4 bytes before
+/// it. Then the value that `adrp` leaves in xN is used by the second instruction alone, and the two
+/// may be rewritten together: to `nop` and `adr`, to another `adrp` and `add`, or to MOVZ and MOVK.
 #[must_use]
 #[inline]
 pub fn is_adrp_pair(section: &[u8], offset: u64) -> bool {
@@ -239,9 +239,9 @@ impl RelaxationKind {
         }
     }
 
-    /// Whether the instruction at an offset of a section, or the pair that ends there, is one that the
-    /// rewrite is meant for: `can_apply`, and the opcodes and registers. `NoOp` is meant for any offset
-    /// and `ReplaceWithNop` for any instruction in the section.
+    /// Whether the instruction at an offset of a section, or the pair that ends there, is one that
+    /// the rewrite is meant for: `can_apply`, and the opcodes and registers. `NoOp` is meant for
+    /// any offset and `ReplaceWithNop` for any instruction in the section.
     #[must_use]
     #[inline]
     pub fn matches(self, section: &[u8], offset: u64) -> bool {

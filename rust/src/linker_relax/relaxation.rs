@@ -187,17 +187,17 @@ impl Shapes {
 
 /// Chooses a shape for each site, and says what stays of each item.
 ///
-/// Each site has its shortest shape at first. Then the run is laid out, and each site that is out of
-/// reach by that layout has its next shape; again, until none is.
+/// Each site has its shortest shape at first. Then the run is laid out, and each site that is out
+/// of reach by that layout has its next shape; again, until none is.
 ///
-/// `shapes` and `kept` have an element for each item: the index of the shape that a site has, and how
-/// many of the item's bytes stay. `places` and `freed` are room for the work: `places` has an element
-/// for each item too, and `freed` one more. Then `freed` has for each item how many bytes those
-/// before it free, and at the end how many all do. What the arrays had before means nothing.
+/// `shapes` and `kept` have an element for each item: the index of the shape that a site has, and
+/// how many of the item's bytes stay. `places` and `freed` are room for the work: `places` has an
+/// element for each item too, and `freed` one more. Then `freed` has for each item how many bytes
+/// those before it free, and at the end how many all do. What the arrays had before means nothing.
 ///
 /// It doesn't allocate. A round is two passes over the items and takes O(n) for n items; the places
-/// of targets take O(n log n) once. Each round but the last gives at least one site its next shape, so
-/// that there are at most 2 n + 1 rounds.
+/// of targets take O(n log n) once. Each round but the last gives at least one site its next shape,
+/// so that there are at most 2 n + 1 rounds.
 ///
 /// # Requires
 ///
@@ -242,8 +242,8 @@ pub struct Plan {
     pub deletions: SectionRelaxDeltas,
 }
 
-/// What a run loses, where so many bytes of each item stay from its first one on: a deletion for each
-/// item that loses some. It allocates two times, and once more for more than 1,024 deletions.
+/// What a run loses, where so many bytes of each item stay from its first one on: a deletion for
+/// each item that loses some. It allocates two times, and once more for more than 1,024 deletions.
 ///
 /// # Requires
 ///
@@ -266,8 +266,8 @@ pub fn deletions(
     SectionRelaxDeltas::new(&raw)
 }
 
-/// `relax_into` in memory of its own, with the deletions. It allocates six times, once for each array
-/// and as `deletions` does.
+/// `relax_into` in memory of its own, with the deletions. It allocates six times, once for each
+/// array and as `deletions` does.
 ///
 /// # Requires
 ///
@@ -296,8 +296,8 @@ pub fn relax(items: &[Item], start: u64) -> Result<Plan, OutOfMemory> {
     })
 }
 
-/// The deletions of a relaxed run, as `deletions` lists them, translate the offset of each item and of
-/// each target to what the layout leaves below it. So each distance that a shape reaches is one of
-/// output offsets.
+/// The deletions of a relaxed run, as `deletions` lists them, translate the offset of each item and
+/// of each target to what the layout leaves below it. So each distance that a shape reaches is one
+/// of output offsets.
 #[doc(hidden)]
 pub fn translations_are_exact() {}

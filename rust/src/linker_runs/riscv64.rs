@@ -21,7 +21,8 @@ fn is_of_call(relocation: &Relocation) -> bool {
         || has_name(relocation, RiscVRelocation::R_RISCV_CALL_PLT)
 }
 
-/// How many bytes of nops an `R_RISCV_ALIGN` has. None where they are not whole nops in the section.
+/// How many bytes of nops an `R_RISCV_ALIGN` has. None where they are not whole nops in the
+/// section.
 #[inline]
 fn nops_of(section: &[u8], relocation: &Relocation, c_extension: bool) -> Option<u32> {
     if relocation.addend < 0 || relocation.addend > i64::from(u32::MAX) {
@@ -135,20 +136,20 @@ fn item_at(
     }
 }
 
-/// The items that the relocations of a section make, in the relocations' order. The section begins at
-/// the input offset `base` of the run. The other relocations make none.
+/// The items that the relocations of a section make, in the relocations' order. The section begins
+/// at the input offset `base` of the run. The other relocations make none.
 ///
-/// `R_RISCV_CALL` and `R_RISCV_CALL_PLT` make a site where `R_RISCV_RELAX` is the next relocation, at
-/// the same offset, the target is in the run, and the bytes are `auipc` and `jalr` of one register. Its
-/// shapes are `TAIL_C` where the `jalr` links x0, and else `CALL`; `CALL_WITHOUT_C` for both where the
-/// C extension may not be used. `R_RISCV_ALIGN` makes an alignment, if there are nops: the addend is
-/// how many bytes they have, and the next power of two above it what they align to (RISC-V ELF psABI,
-/// "Linker Relaxation").
+/// `R_RISCV_CALL` and `R_RISCV_CALL_PLT` make a site where `R_RISCV_RELAX` is the next relocation,
+/// at the same offset, the target is in the run, and the bytes are `auipc` and `jalr` of one
+/// register. Its shapes are `TAIL_C` where the `jalr` links x0, and else `CALL`; `CALL_WITHOUT_C`
+/// for both where the C extension may not be used. `R_RISCV_ALIGN` makes an alignment, if there are
+/// nops: the addend is how many bytes they have, and the next power of two above it what they align
+/// to (RISC-V ELF psABI, "Linker Relaxation").
 ///
 /// `Malformed` names the first relocation that lies behind the section's end, that is a call's and
-/// less than eight bytes are there, or that is an `R_RISCV_ALIGN` whose addend isn't a number of whole
-/// nops in the section below 2^32: multiples of 2, or of 4 where the C extension may not be used. The
-/// vector grows as items are added. `are_items` tells whether the run can be relaxed.
+/// less than eight bytes are there, or that is an `R_RISCV_ALIGN` whose addend isn't a number of
+/// whole nops in the section below 2^32: multiples of 2, or of 4 where the C extension may not be
+/// used. The vector grows as items are added. `are_items` tells whether the run can be relaxed.
 ///
 /// # Requires
 ///

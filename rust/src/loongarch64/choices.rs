@@ -64,8 +64,8 @@ fn are_of_descriptor(pcala: u32, addi: u32, ld: u32, jirl: u32) -> bool {
 }
 
 /// Whether the sequence of a TLS descriptor is at an offset of the section: `pcalau12i a0`,
-/// `addi.d a0, a0, #imm`, `ld.d ra, a0, 0` and `jirl ra, ra, 0`. Compilers emit it as it is, so that a
-/// linker may rewrite it (LoongArch ELF psABI, the sequences of thread-local storage).
+/// `addi.d a0, a0, #imm`, `ld.d ra, a0, 0` and `jirl ra, ra, 0`. Compilers emit it as it is, so
+/// that a linker may rewrite it (LoongArch ELF psABI, the sequences of thread-local storage).
 #[must_use]
 #[inline]
 pub fn is_tls_descriptor_sequence(section: &[u8], offset: u64) -> bool {
@@ -506,12 +506,12 @@ fn of_local_exec_low(section: &[u8], offset: u64, facts: &LinkFacts) -> LoongArc
 ///
 /// - The sequence is that of a TLS descriptor (`is_tls_descriptor_sequence`).
 /// - Bound: `is_local` and not `is_ifunc`, and an addend of 0.
-/// - Near: `is_marked`, `has_fixed_distance`, and the distance is known, is a multiple of 4 and is in
-///   reach of `pcaddi`, 2 MiB.
+/// - Near: `is_marked`, `has_fixed_distance`, and the distance is known, is a multiple of 4 and is
+///   in reach of `pcaddi`, 2 MiB.
 /// - In pages: `has_fixed_distance`, and the distance in pages has 32 signed bits.
 /// - Local-exec: `is_executable`, bound, and the offset from `tls_base` has 32 signed bits.
-/// - Initial-exec: `is_executable`, and the distance in pages to `got_entry` has 32 signed bits. It has
-///   to be the address of the entry for initial-exec.
+/// - Initial-exec: `is_executable`, and the distance in pages to `got_entry` has 32 signed bits. It
+///   has to be the address of the entry for initial-exec.
 /// - Short: `is_marked`, and the offset from `tls_base` is known and is from -0x800 to 0x7ff.
 /// - Where no address is known, numbers of 32 bits are taken to fit, and nothing else.
 ///
@@ -521,14 +521,14 @@ fn of_local_exec_low(section: &[u8], offset: u64, facts: &LinkFacts) -> LoongArc
 /// (`relocations_are_chosen_alike`). The linker sees to the rest:
 ///
 /// - The relocations of one pair or sequence are all there, with the same symbol and addend, and
-///   the facts are the same for all of them, except for `place`, which is that of each. Where one is
-///   marked all are.
+///   the facts are the same for all of them, except for `place`, which is that of each. Where one
+///   is marked all are.
 /// - All of them are chosen before any is rewritten: what was rewritten isn't what the others are
 ///   chosen by.
 /// - Nothing jumps between the instructions.
 /// - It deletes the bytes that `RelaxationKind::deleted` names.
-/// - Once a `lu12i.w` of local-exec is deleted, its `add.d` has to be deleted and each low part of it
-///   rewritten. They are, if they have the same symbol and addend and are marked, and are
+/// - Once a `lu12i.w` of local-exec is deleted, its `add.d` has to be deleted and each low part of
+///   it rewritten. They are, if they have the same symbol and addend and are marked, and are
 ///   instructions that `BaseToTp` is meant for.
 /// - The distance is that of the addresses in `facts`. Deleted bytes make it smaller, but the
 ///   padding of an alignment between may grow. `write` then returns an error if the distance is out
@@ -585,9 +585,9 @@ pub fn choose(
     }
 }
 
-/// With the same facts, except that each has its own place, both relocations of a pair are rewritten
-/// alike or neither is: of a load of a GOT entry, also where it loads an offset for initial-exec, and
-/// of an address. And so are the four of a TLS descriptor: all for local-exec, all for initial-exec, or
-/// none.
+/// With the same facts, except that each has its own place, both relocations of a pair are
+/// rewritten alike or neither is: of a load of a GOT entry, also where it loads an offset for
+/// initial-exec, and of an address. And so are the four of a TLS descriptor: all for local-exec,
+/// all for initial-exec, or none.
 #[doc(hidden)]
 pub fn relocations_are_chosen_alike() {}

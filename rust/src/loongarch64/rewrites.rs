@@ -7,9 +7,9 @@ use crate::rewrite::{has_window, overwrite};
 use crate::riscv64::DeletedBytes;
 use crate::utils::u32_from_slice;
 
-/// A rewrite of one instruction, or of a pair whose second instruction is then deleted. The window is
-/// the instruction's 4 bytes, which begin at the offset. The destination register of an instruction
-/// is its bits 0 to 4, and the first source register its bits 5 to 9.
+/// A rewrite of one instruction, or of a pair whose second instruction is then deleted. The window
+/// is the instruction's 4 bytes, which begin at the offset. The destination register of an
+/// instruction is its bits 0 to 4, and the first source register its bits 5 to 9.
 ///
 /// ```
 /// use linker_utils::loongarch64::RelaxationKind;
@@ -30,14 +30,14 @@ pub enum RelaxationKind {
     LdToAddi,
     /// Turns `addi.d` into `ld.d`. Bits 0 to 21 are unchanged.
     AddiToLd,
-    /// Turns the `pcalau12i` of a pair into `pcaddi` of distance 0, with its destination register. The
-    /// pair's second instruction is deleted for its own relocation.
+    /// Turns the `pcalau12i` of a pair into `pcaddi` of distance 0, with its destination register.
+    /// The pair's second instruction is deleted for its own relocation.
     PcalaToPcaddi,
-    /// Turns the `pcaddu18i` of a call, whose `jirl` links `ra`, into `bl` of distance 0. The caller
-    /// deletes the `jirl` after it.
+    /// Turns the `pcaddu18i` of a call, whose `jirl` links `ra`, into `bl` of distance 0. The
+    /// caller deletes the `jirl` after it.
     CallToBl,
-    /// Turns the `pcaddu18i` of a tail call, whose `jirl` links no register, into `b` of distance 0.
-    /// The caller deletes the `jirl` after it.
+    /// Turns the `pcaddu18i` of a tail call, whose `jirl` links no register, into `b` of distance
+    /// 0. The caller deletes the `jirl` after it.
     CallToB,
     /// Turns `pcalau12i` into `lu12i.w` of 0, with its destination register.
     PcalaToLu12i,
@@ -239,8 +239,8 @@ impl RelaxationKind {
     /// Whether the instruction that begins at an offset of a section, or the pair, is one that the
     /// rewrite is meant for: `can_apply`, and the opcodes and registers. `NoOp` is meant for any
     /// offset, and `ReplaceWithNop` and `Delete` for any instruction in the section. `BaseToTp` is
-    /// meant for `addi.w`, `addi.d`, and loads and stores of integers and floating-point numbers with
-    /// a signed offset of 12 bits.
+    /// meant for `addi.w`, `addi.d`, and loads and stores of integers and floating-point numbers
+    /// with a signed offset of 12 bits.
     #[must_use]
     #[inline]
     pub fn matches(self, section: &[u8], offset: u64) -> bool {
@@ -273,8 +273,8 @@ impl RelaxationKind {
         RelocationModifier::Normal
     }
 
-    /// The bytes to be deleted after the rewrite: the `jirl` of a call after `CallToBl` and `CallToB`,
-    /// and the instruction itself for `Delete`. `None` for the others.
+    /// The bytes to be deleted after the rewrite: the `jirl` of a call after `CallToBl` and
+    /// `CallToB`, and the instruction itself for `Delete`. `None` for the others.
     ///
     /// ```
     /// use linker_utils::loongarch64::RelaxationKind;

@@ -7,8 +7,8 @@ use crate::rewrite::{has_window, overwrite};
 use crate::utils::u32_from_slice;
 
 /// A rewrite of an instruction, or of a call and the `nop` after it (64-bit ELF V2 ABI for Power,
-/// "TOC Optimizations" and "TLS Linkage Optimizations"). The window is the instruction's 4 bytes, or
-/// the 8 bytes of a prefixed instruction or of a call and its `nop`; it begins at the offset. An
+/// "TOC Optimizations" and "TLS Linkage Optimizations"). The window is the instruction's 4 bytes,
+/// or the 8 bytes of a prefixed instruction or of a call and its `nop`; it begins at the offset. An
 /// immediate that a rewrite writes is 0, for the relocation after it.
 ///
 /// ```
@@ -39,7 +39,8 @@ pub enum RelaxationKind {
     /// Turns an indexed load or store, as `lwzx rT,rA,13`, into that with a displacement, as
     /// `lwz rT,0(rA)`.
     IndexedToD,
-    /// Turns `ldx`, `stdx` or `lwax` into `ld`, `std` or `lwa`, whose displacement is in whole words.
+    /// Turns `ldx`, `stdx` or `lwax` into `ld`, `std` or `lwa`, whose displacement is in whole
+    /// words.
     IndexedToDs,
     /// Turns `addi rT` into `addis rT,13,0`.
     AddiToAddisThread,
@@ -51,11 +52,11 @@ pub enum RelaxationKind {
     /// Turns the call of `__tls_get_addr` and the `nop` after it into `nop` and `add 3,3,13`. The
     /// offset is then that of the `add`, 4 bytes on.
     CallToAdd,
-    /// Turns the call of `__tls_get_addr` and the `nop` after it into `nop` and `addi 3,3,4096`. The
-    /// offset is then that of the `addi`, 4 bytes on.
+    /// Turns the call of `__tls_get_addr` and the `nop` after it into `nop` and `addi 3,3,4096`.
+    /// The offset is then that of the `addi`, 4 bytes on.
     CallToAddi4096,
-    /// Turns the `nop` after a call into `ld 2,24(1)`, which restores the TOC pointer. The offset is
-    /// that of the call, which stays.
+    /// Turns the `nop` after a call into `ld 2,24(1)`, which restores the TOC pointer. The offset
+    /// is that of the call, which stays.
     NopToRestoreToc,
 }
 
@@ -296,8 +297,8 @@ impl RelaxationKind {
     }
 
     /// Rewrites the instruction at an offset of a section. All other bytes and the addend are
-    /// unchanged. So is the offset, except that `CallToAddi`, `CallToAdd` and `CallToAddi4096` move it
-    /// 4 bytes on.
+    /// unchanged. So is the offset, except that `CallToAddi`, `CallToAdd` and `CallToAddi4096` move
+    /// it 4 bytes on.
     ///
     /// # Requires
     ///
@@ -383,9 +384,9 @@ impl RelaxationKind {
     }
 
     /// Whether the instruction at an offset of a section is one that the rewrite is meant for:
-    /// `can_apply`, and the opcodes and registers. `NoOp` is meant for any offset. No instruction is
-    /// meant whose base is register 0, which stands for the number 0, nor an access with update, which
-    /// changes its base, nor a store of the base itself.
+    /// `can_apply`, and the opcodes and registers. `NoOp` is meant for any offset. No instruction
+    /// is meant whose base is register 0, which stands for the number 0, nor an access with update,
+    /// which changes its base, nor a store of the base itself.
     #[must_use]
     #[inline]
     pub fn matches(self, section: &[u8], offset: u64) -> bool {

@@ -113,7 +113,8 @@ impl LinkRegister {
     }
 
     /// The register, where a call at a site of a section names it: any `auipc` does, a `jalr` only
-    /// where its base is the register of an `auipc` before it. Requires `call_len` bytes at the site.
+    /// where its base is the register of an `auipc` before it. Requires `call_len` bytes at the
+    /// site.
     ///
     /// # Requires
     ///

@@ -343,17 +343,18 @@ fn of_entry_low(section: &[u8], offset: u64, facts: &LinkFacts) -> RiscVChoice {
 ///
 /// - Near `tp`: `is_marked`, and the offset from `tls_base` is known and is from -0x800 to 0x7ff.
 /// - `Delete` where `is_marked`, else `ReplaceWithLongNop`: no other row asks for the mark.
-/// - Local-exec: `is_executable`, `is_local` and not `is_ifunc`, an addend of 0, and the offset from
-///   `tls_base` is in reach of `lui` and `addi`. Short: it is known, and is from -0x800 to 0x7ff.
-/// - Initial-exec: `is_executable`, and the distance to `got_entry` is in reach of `auipc` and `ld`. It
-///   has to be the address of the entry for initial-exec.
-/// - Without GOT: `is_marked`, `has_fixed_distance`, `is_local` and not `is_ifunc`, an addend of 0, and
-///   the distance to the symbol is in reach of `auipc` and `addi`.
+/// - Local-exec: `is_executable`, `is_local` and not `is_ifunc`, an addend of 0, and the offset
+///   from `tls_base` is in reach of `lui` and `addi`. Short: it is known, and is from -0x800 to
+///   0x7ff.
+/// - Initial-exec: `is_executable`, and the distance to `got_entry` is in reach of `auipc` and
+///   `ld`. It has to be the address of the entry for initial-exec.
+/// - Without GOT: `is_marked`, `has_fixed_distance`, `is_local` and not `is_ifunc`, an addend of 0,
+///   and the distance to the symbol is in reach of `auipc` and `addi`.
 /// - Where no address is known, a pair is taken to reach, and nothing else.
 ///
 /// All four relocations of a descriptor, and both of a load from the GOT, are chosen alike
-/// (`relocations_are_chosen_alike`), with the same facts: those of the high part that the label of the
-/// others names, also its symbol, addend and place. Of a descriptor also `is_marked` is that of
+/// (`relocations_are_chosen_alike`), with the same facts: those of the high part that the label of
+/// the others names, also its symbol, addend and place. Of a descriptor also `is_marked` is that of
 /// `R_RISCV_TLSDESC_HI20`.
 ///
 /// The linker sees to the rest:
@@ -361,11 +362,11 @@ fn of_entry_low(section: &[u8], offset: u64, facts: &LinkFacts) -> RiscVChoice {
 /// - Once a `lui` is deleted, each low part of it has to be rewritten. They are, if they have the
 ///   same S + A and are marked, and are instructions that `Lo12Rs1ToZero` is meant for. So have the
 ///   `add` and the low parts of a `lui` of an offset, with `BaseToTp`.
-/// - After `AddiToAuipc` the place is that of the `addi`, for the `ld` behind it too, and the symbol of
-///   the latter's `R_RISCV_PCREL_LO12_I` is the GOT entry. So it is of an `R_RISCV_PCREL_LO12_I` that
-///   isn't rewritten and has a high part of the GOT.
-/// - The `lui` or the `auipc` that an `addi` becomes, and what the `jalr` becomes, are of one descriptor,
-///   and nothing between them changes `a0`. All are chosen before any is rewritten.
+/// - After `AddiToAuipc` the place is that of the `addi`, for the `ld` behind it too, and the
+///   symbol of the latter's `R_RISCV_PCREL_LO12_I` is the GOT entry. So it is of an
+///   `R_RISCV_PCREL_LO12_I` that isn't rewritten and has a high part of the GOT.
+/// - The `lui` or the `auipc` that an `addi` becomes, and what the `jalr` becomes, are of one
+///   descriptor, and nothing between them changes `a0`. All are chosen before any is rewritten.
 /// - It deletes the bytes that `RelaxationKind::deleted` names.
 /// - The distance is that of the addresses in `facts`. Deleted bytes make it smaller, but the
 ///   padding of an alignment between the call and the symbol may grow. `write` then returns an
@@ -449,8 +450,8 @@ pub fn choose(
     Choice { kind, relocation }
 }
 
-/// With the same facts, all four relocations of a TLS descriptor are rewritten for local-exec, all for
-/// initial-exec, or none; and the `auipc` and the `ld` of a GOT entry are both rewritten or neither is.
-/// This holds where each is at an instruction that it asks for, wherever that is.
+/// With the same facts, all four relocations of a TLS descriptor are rewritten for local-exec, all
+/// for initial-exec, or none; and the `auipc` and the `ld` of a GOT entry are both rewritten or
+/// neither is. This holds where each is at an instruction that it asks for, wherever that is.
 #[doc(hidden)]
 pub fn relocations_are_chosen_alike() {}

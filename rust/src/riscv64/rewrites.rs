@@ -29,21 +29,22 @@ pub enum RelaxationKind {
     /// Clears bits 15 to 19: the source register of the instruction that adds the low part becomes
     /// x0.
     Lo12Rs1ToZero,
-    /// Turns the `auipc` of a tail call, whose `jalr` links no register, into a `jal x0` of distance
+    /// Turns the `auipc` of a tail call, whose `jalr` links no register, into a `jal x0` of
+    /// distance
     /// 0. The caller deletes the `jalr` after it.
     TailToJal,
-    /// Turns the first two bytes of a tail call into a `c.j` of distance 0. Requires the C extension.
-    /// The caller deletes the six bytes after it.
+    /// Turns the first two bytes of a tail call into a `c.j` of distance 0. Requires the C
+    /// extension. The caller deletes the six bytes after it.
     TailToCJ,
     /// Leaves the instruction as it is; the caller deletes its four bytes.
     Delete,
     /// Writes one nop of four bytes, `addi x0, x0, 0`, in place of an instruction.
     ReplaceWithLongNop,
-    /// Makes x4, the thread pointer, the source register of the instruction that adds the low part of
-    /// an offset: bits 15 to 19.
+    /// Makes x4, the thread pointer, the source register of the instruction that adds the low part
+    /// of an offset: bits 15 to 19.
     BaseToTp,
-    /// Turns the `addi a0` of a TLS descriptor into `lui a0` of 0 (RISC-V ELF psABI, "TLS Descriptors
-    /// -> Local Exec Relaxation").
+    /// Turns the `addi a0` of a TLS descriptor into `lui a0` of 0 (RISC-V ELF psABI, "TLS
+    /// Descriptors -> Local Exec Relaxation").
     AddiToLui,
     /// Turns it into `auipc a0` of 0 ("TLS Descriptors -> Initial Exec Relaxation").
     AddiToAuipc,
@@ -158,8 +159,8 @@ fn adds_immediate(word: u32) -> bool {
     }
 }
 
-/// Whether the eight bytes at an offset of the section are a tail call: an `auipc`, and a `jalr` from
-/// its register that links none.
+/// Whether the eight bytes at an offset of the section are a tail call: an `auipc`, and a `jalr`
+/// from its register that links none.
 #[inline]
 fn is_tail_call(section: &[u8], offset: u64) -> bool {
     if !has_window(section, offset, 0, 8) {
@@ -285,11 +286,11 @@ impl RelaxationKind {
     }
 
     /// Whether the instruction that begins at an offset of a section, or the pair, is one that the
-    /// rewrite is meant for: `can_apply`, and the opcodes and registers. `NoOp` is meant for any offset,
-    /// and `ReplaceWithNop`, `ReplaceWithLongNop` and `Delete` for any four bytes of the section.
-    /// `Lo12Rs1ToZero` and `BaseToTp` are meant for `addi`, `addiw`, `jalr`, loads and stores, which add
-    /// the low part, and `LdToAddi` for `ld`. The instructions of a TLS descriptor are `addi a0, rs1` and
-    /// `jalr t0, 0(rs1)`.
+    /// rewrite is meant for: `can_apply`, and the opcodes and registers. `NoOp` is meant for any
+    /// offset, and `ReplaceWithNop`, `ReplaceWithLongNop` and `Delete` for any four bytes of the
+    /// section. `Lo12Rs1ToZero` and `BaseToTp` are meant for `addi`, `addiw`, `jalr`, loads and
+    /// stores, which add the low part, and `LdToAddi` for `ld`. The instructions of a TLS
+    /// descriptor are `addi a0, rs1` and `jalr t0, 0(rs1)`.
     #[must_use]
     #[inline]
     pub fn matches(self, section: &[u8], offset: u64) -> bool {
@@ -320,8 +321,8 @@ impl RelaxationKind {
         }
     }
 
-    /// What happens to the next relocation: `CallToJal`, `TailToJal`, `TailToCJ` and `Hi20Delete` skip
-    /// it.
+    /// What happens to the next relocation: `CallToJal`, `TailToJal`, `TailToCJ` and `Hi20Delete`
+    /// skip it.
     #[must_use]
     #[inline]
     pub fn next_modifier(&self) -> RelocationModifier {

@@ -86,11 +86,13 @@ pub(super) fn insert_ascending(
 )
     requires sound { IsSound deltas.old.items heads.old.items }
     requires room { vec_len deltas.old + length pairs.now ≤ vec_capacity deltas.old }
-    requires heads_room { heads_kept (vec_len deltas.old + length pairs.now) ≤ vec_capacity heads.old }
+    requires heads_room { heads_kept (vec_len deltas.old + length pairs.now) ≤ vec_capacity
+        heads.old }
     requires ascending { IsValid pairs.now }
     requires disjoint { AreDisjoint (map deletion_of deltas.old.items ++ pairs.now) }
     ensures sound { IsSound deltas.new.items heads.new.items }
-    ensures union { IsSortedUnion (map deletion_of deltas.old.items ++ pairs.now) (map deletion_of deltas.new.items) }
+    ensures union { IsSortedUnion (map deletion_of deltas.old.items ++ pairs.now)
+        (map deletion_of deltas.new.items) }
 {
     let count = deltas.len();
     append(deltas, pairs);

@@ -67,7 +67,8 @@ fn end_fits(pair: (u64, u32)) -> bool
 /// list is valid.
 #[inline]
 pub fn first_invalid<D: AsDeletion>(deletions: &[D]) -> Option<usize>
-    ensures { MatchOption result (IsValid (map D.deletion deletions.now)) (IsFirstInvalid (map D.deletion deletions.now)) }
+    ensures { MatchOption result (IsValid (map D.deletion deletions.now))
+        (IsFirstInvalid (map D.deletion deletions.now)) }
 {
     let rising = count_rising(deletions);
     if rising > 0 && !end_fits(deletions[rising - 1].as_deletion()) {
@@ -116,7 +117,9 @@ pub(super) fn first_overlapping<D: AsDeletion>(
     additional: &[D],
 ) -> Option<usize>
     ensures { IsValid (map deletion_of deltas.now)
-        → MatchOption result (AreDisjoint (map deletion_of deltas.now ++ map D.deletion additional.now)) (IsFirstOverlapping (map deletion_of deltas.now) (map D.deletion additional.now)) }
+        → MatchOption result (AreDisjoint (map deletion_of deltas.now ++ map D.deletion
+        additional.now)) (IsFirstOverlapping (map deletion_of deltas.now)
+        (map D.deletion additional.now)) }
 {
     if can_be_merged(deltas, additional) {
         return None;
@@ -141,7 +144,9 @@ pub(super) fn first_overlapping_sorted<D: AsDeletion>(
     additional: &[D],
 ) -> Option<usize>
     ensures { IsValid (map deletion_of deltas.now)
-        → MatchOption result (AreDisjoint (map deletion_of deltas.now ++ map D.deletion additional.now)) (IsFirstOverlapping (map deletion_of deltas.now) (map D.deletion additional.now)) }
+        → MatchOption result (AreDisjoint (map deletion_of deltas.now ++ map D.deletion
+        additional.now)) (IsFirstOverlapping (map deletion_of deltas.now)
+        (map D.deletion additional.now)) }
 {
     if can_be_merged_sorted(alloc, deltas, additional) {
         return None;
@@ -167,7 +172,8 @@ pub(super) fn can_be_merged_sorted<D: AsDeletion>(
     additional: &[D],
 ) -> bool
     ensures { IsValid (map deletion_of deltas.now)
-        → (IsTrue result ↔ AreDisjoint (map deletion_of deltas.now ++ map D.deletion additional.now)) }
+        → (IsTrue result ↔ AreDisjoint (map deletion_of deltas.now ++ map D.deletion
+        additional.now)) }
 {
     if first_invalid(additional).is_some() {
         if let Ok(pairs) = copy_deletions(alloc, additional) {
@@ -191,7 +197,8 @@ fn inner_or_middle(number: usize, low: usize, high: usize) -> usize
 // Whether the deletions are disjoint, and none overlaps a delta.
 pub(super) fn can_be_merged<D: AsDeletion>(deltas: &[RelaxDelta], additional: &[D]) -> bool
     ensures { IsValid (map deletion_of deltas.now)
-        → (IsTrue result ↔ AreDisjoint (map deletion_of deltas.now ++ map D.deletion additional.now)) }
+        → (IsTrue result ↔ AreDisjoint (map deletion_of deltas.now ++ map D.deletion
+        additional.now)) }
 {
     are_disjoint_beside(additional, &[]) && are_beside_deltas(deltas, additional)
 }
@@ -199,7 +206,8 @@ pub(super) fn can_be_merged<D: AsDeletion>(deltas: &[RelaxDelta], additional: &[
 // Whether both are valid lists, and no deletion of one overlaps one of the other. A few among many
 // are sooner searched for than met in a walk.
 pub(super) fn are_valid_together<D: AsDeletion>(deltas: &[RelaxDelta], additional: &[D]) -> bool
-    ensures { IsTrue result ↔ AreValidTogether (map deletion_of deltas.now) (map D.deletion additional.now) }
+    ensures { IsTrue result ↔ AreValidTogether (map deletion_of deltas.now)
+        (map D.deletion additional.now) }
 {
     if additional.len() > deltas.len() / 16 {
         return rise_together(deltas, additional);
@@ -212,7 +220,8 @@ pub(super) fn are_valid_together<D: AsDeletion>(deltas: &[RelaxDelta], additiona
 // The same, by a walk through both. Which of both comes next is unpredictable, and no branch
 // depends on it.
 fn rise_together<D: AsDeletion>(deltas: &[RelaxDelta], additional: &[D]) -> bool
-    ensures { IsTrue result ↔ AreValidTogether (map deletion_of deltas.now) (map D.deletion additional.now) }
+    ensures { IsTrue result ↔ AreValidTogether (map deletion_of deltas.now)
+        (map D.deletion additional.now) }
 {
     let (mut passed, mut taken) = (0, 0);
     let mut next = 0;
@@ -248,7 +257,8 @@ fn rise_together<D: AsDeletion>(deltas: &[RelaxDelta], additional: &[D]) -> bool
 // may be one past the 64 bits of an offset.
 #[inline(always)]
 fn follow(from: u128, deletion: (u64, u32)) -> Option<u128>
-    ensures { MatchOption result (¬ (CanFollow from deletion)) (λ next. CanFollow from deletion × (next ≡ deletion.0 + max deletion.1 1)) }
+    ensures { MatchOption result (¬ (CanFollow from deletion))
+        (λ next. CanFollow from deletion × (next ≡ deletion.0 + max deletion.1 1)) }
 {
     let begin = u128::from(deletion.0);
     if begin < from || !end_fits(deletion) {
@@ -486,7 +496,8 @@ pub(super) fn are_ascending(batches: &[Vec<(u64, u32)>]) -> bool
 // The lowest offset that may follow the pairs, where they are a valid list that begins at `from`
 // or above. It may be one past the 64 bits of an offset.
 fn next_after(from: u128, pairs: &[(u64, u32)]) -> Option<u128>
-    ensures { MatchOption result (¬ (IsValid pairs.now × All (λ d. from ≤ d.0) pairs.now)) (λ next. IsRun from next pairs.now) }
+    ensures { MatchOption result (¬ (IsValid pairs.now × All (λ d. from ≤ d.0) pairs.now))
+        (λ next. IsRun from next pairs.now) }
 {
     let mut next = from;
     for &pair in pairs {
@@ -502,7 +513,8 @@ fn next_after(from: u128, pairs: &[(u64, u32)]) -> Option<u128>
 // Whether no pair of the batches overlaps a delta.
 pub(super) fn are_beside_deltas_batches(deltas: &[RelaxDelta], batches: &[Vec<(u64, u32)>]) -> bool
     ensures { IsValid (map deletion_of deltas.now)
-        → (IsTrue result ↔ All (λ pair. All (λ d. DoNotOverlap d pair) (map deletion_of deltas.now)) (pairs_of batches.now)) }
+        → (IsTrue result ↔ All (λ pair. All (λ d. DoNotOverlap d pair) (map deletion_of deltas.now))
+        (pairs_of batches.now)) }
 {
     for batch in batches {
         if !are_beside_deltas(deltas, batch) {

@@ -39,7 +39,8 @@ info_of entry =
       size = entry.size;
       mask = entry.mask;
       range = record {
-        bounds = if entry.numbers.has_range == 1 then Some (entry.numbers.min, entry.numbers.max) else None;
+        bounds = if entry.numbers.has_range == 1 then Some (entry.numbers.min, entry.numbers.max)
+            else None;
       };
       alignment = entry.numbers.alignment;
       bias = if entry.numbers.bias == 0 then None else Some entry.numbers.bias;

@@ -105,7 +105,8 @@ fn number_over(kind: RelocationKind, len: usize, value: i64, dest: &[u8]) -> u64
 pub(crate) fn write_bytes(kind: RelocationKind, len: usize, value: i64, dest: &mut [u8])
     requires short { len ≤ 8 }
     requires room { len ≤ length dest.old }
-    ensures { dest.new ≡ low_bytes len (number_written kind value (number_of_bytes len dest.old)) ++ drop len dest.old }
+    ensures { dest.new ≡ low_bytes len (number_written kind value (number_of_bytes len dest.old)) ++
+        drop len dest.old }
 {
     let number = number_over(kind, len, value, dest);
     store(len, number, dest);
@@ -140,7 +141,8 @@ fn is_dq_form(word: u64) -> bool
 fn displacement(insn: Ppc64Instruction, number: u64, dest: &[u8]) -> u64
     requires { byte_len (ppc64_form insn).window ≤ length dest.now }
     ensures { result
-        ≡ number_placed (RelocationInstruction.Ppc64 insn) (window_of (ppc64_form insn) dest.now) number }
+        ≡ number_placed (RelocationInstruction.Ppc64 insn) (window_of (ppc64_form insn) dest.now)
+        number }
 {
     if let Ppc64Instruction::Ds = insn {
         let word = Window::Four.load(dest);
@@ -169,7 +171,8 @@ fn clear_loongarch(insn: LoongArch64Instruction, bits: BitRange, dest: &mut [u8]
     requires room { byte_len (loongarch_form insn).window ≤ length dest.old }
     requires some { bits.start < bits.end }
     ensures clears { BitsWritten
-        (places_cleared (RelocationInstruction.LoongArch64 insn) bits (window_of (loongarch_form insn) dest.old))
+        (places_cleared (RelocationInstruction.LoongArch64 insn) bits
+        (window_of (loongarch_form insn) dest.old))
         0 (window_of (loongarch_form insn) dest.old) (window_of (loongarch_form insn) dest.new) }
     ensures rest { drop (byte_len (loongarch_form insn).window) dest.new
         ≡ drop (byte_len (loongarch_form insn).window) dest.old }
@@ -188,7 +191,8 @@ pub(crate) fn write_bits(insn: RelocationInstruction, bits: BitRange, value: i64
     requires room { byte_len (relocation_form insn).window ≤ length dest.old }
     requires some { bits.start < bits.end }
     requires inside { bits.end ≤ 64 }
-    requires fits { Fits (relocation_form insn) (bits_taken bits value) (window_of (relocation_form insn) dest.old) }
+    requires fits { Fits (relocation_form insn) (bits_taken bits value)
+        (window_of (relocation_form insn) dest.old) }
     ensures { InstructionWritten insn bits value dest.old dest.new }
 {
     let number = taken_bits(bits, value);

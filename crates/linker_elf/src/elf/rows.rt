@@ -8,7 +8,8 @@ ghost use Rattle.linker_elf.specs.Numbers.{numbers_of};
 ghost use Rattle.linker_elf.specs.Reach.{reach_of};
 ghost use Rattle.linker_elf.specs.Relocate.{WritesRow, RejectsValue, window_len};
 ghost use Rattle.linker_elf.specs.Value.{value_of};
-ghost use Rattle.linker_elf.specs.Inner.RowTables.{info_in, info_of, raw_info_in, IsSound, tests_of};
+ghost use Rattle.linker_elf.specs.Inner.RowTables.{info_in, info_of, raw_info_in, IsSound};
+ghost use Rattle.linker_elf.specs.Inner.RowTables.{tests_of};
 
 use crate::elf::relocate::{write_bits, write_bytes};
 use crate::elf::{
@@ -193,8 +194,8 @@ impl Row {
         self.info().value(operands)
     }
 
-    /// Whether the relocation has a value that can be written: one within `reach`, and a multiple of
-    /// the row's alignment.
+    /// Whether the relocation has a value that can be written: one within `reach`, and a multiple
+    /// of the row's alignment.
     #[inline(always)]
     pub fn reaches(&self, operands: &Operands) -> bool
         ensures { IsTrue result ↔ Reaches self.now operands.now }

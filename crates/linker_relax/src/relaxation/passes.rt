@@ -2,7 +2,8 @@
 
 ghost use Rattle.std.specs.Prelude.{◌≡◌, ◌+◌, ◌<◌, ◌≤◌, ◌^◌, ℕ, length, true, false, sum};
 ghost use Rattle.std.specs.Prelude.{slice_index_or};
-ghost use Rattle.linker_relax.specs.Relaxing.{place_of, item_at, choice_of, lengthened, is_in_reach};
+ghost use Rattle.linker_relax.specs.Relaxing.{place_of, item_at, choice_of, lengthened};
+ghost use Rattle.linker_relax.specs.Relaxing.{is_in_reach};
 ghost use Rattle.linker_relax.specs.Relaxing.{AreInOrder, AreFreed, AreKeptBytes, kept_by};
 ghost use Rattle.linker_relax.specs.Relaxing.{freed_before};
 ghost use Rattle.linker_relax.specs.Inner.Relaxing.{ArePlaces};

@@ -4,8 +4,10 @@ ghost use Rattle.std.specs.Prelude.{◌≡◌, ◌+◌, ◌<◌, ◌≤◌, ◌^
 ghost use Rattle.std.specs.Int.{IsPowerOfTwo};
 ghost use Rattle.linker_relax.specs.declared.relaxation.faults.Fault.TheVariants.{ShapeTooLong};
 ghost use Rattle.linker_relax.specs.declared.relaxation.faults.Fault.TheVariants.{ShapesNotAscending};
-ghost use Rattle.linker_relax.specs.declared.relaxation.faults.Fault.TheVariants.{BadUnit, BadReach};
-ghost use Rattle.linker_relax.specs.declared.relaxation.faults.Fault.TheVariants.{TooFewNops, UnevenNops};
+ghost use Rattle.linker_relax.specs.declared.relaxation.faults.Fault.TheVariants.{BadUnit};
+ghost use Rattle.linker_relax.specs.declared.relaxation.faults.Fault.TheVariants.{BadReach};
+ghost use Rattle.linker_relax.specs.declared.relaxation.faults.Fault.TheVariants.{TooFewNops};
+ghost use Rattle.linker_relax.specs.declared.relaxation.faults.Fault.TheVariants.{UnevenNops};
 ghost use Rattle.linker_relax.specs.Relaxing.{end_of, short_shape, IsSound, AreInOrder};
 ghost use Rattle.linker_relax.specs.Choosing.{item_unit, run_unit, least_len, shapes_unit};
 ghost use Rattle.linker_relax.specs.Choosing.{HasUnit, ShapesFit};

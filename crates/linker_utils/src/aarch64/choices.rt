@@ -132,8 +132,8 @@ fn is_for_initial_exec(facts: &LinkFacts, back: u64) -> bool
     facts.is_executable && facts.is_in_reach_if_known(adrp, &facts.operands, back)
 }
 
-/// What is chosen for a relocation `back` bytes after the start of the sequence of a TLS descriptor:
-/// for local-exec, else for initial-exec, else a third.
+/// What is chosen for a relocation `back` bytes after the start of the sequence of a TLS
+/// descriptor: for local-exec, else for initial-exec, else a third.
 #[inline]
 fn choice_of_descriptor(
     section: &[u8],
@@ -347,9 +347,9 @@ pub fn choose(
     }
 }
 
-/// With the same facts, except that each has its own place, both relocations of a load of a GOT entry
-/// are rewritten or neither is, also where it loads an offset for initial-exec; and of the four of a
-/// TLS descriptor all are rewritten for local-exec, all for initial-exec, or none is.
+/// With the same facts, except that each has its own place, both relocations of a load of a GOT
+/// entry are rewritten or neither is, also where it loads an offset for initial-exec; and of the
+/// four of a TLS descriptor all are rewritten for local-exec, all for initial-exec, or none is.
 pub fn relocations_are_chosen_alike()
     ensures got { GotPairIsChosenAlike }
     ensures initial_exec { InitialExecPairIsChosenAlike }

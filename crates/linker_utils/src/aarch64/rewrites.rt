@@ -15,7 +15,8 @@ ghost use Rattle.linker_elf.specs.AArch64.{access_scale};
 ghost use Rattle.linker_utils.specs.AArch64Rewrites.{rd_of, rn_of, mov_word, mov_words, mov4};
 ghost use Rattle.linker_elf.specs.AArch64.{moved_bits, move_opcode};
 ghost use Rattle.linker_utils.specs.AArch64Originals.{IsAdrp, IsAdd64, IsLdr64, IsIntoOwnSource};
-ghost use Rattle.linker_utils.specs.AArch64Originals.{AreOfOneRegister, IsAdrpPair, aarch64_matches};
+ghost use Rattle.linker_utils.specs.AArch64Originals.{AreOfOneRegister, IsAdrpPair};
+ghost use Rattle.linker_utils.specs.AArch64Originals.{aarch64_matches};
 ghost use Rattle.linker_elf.specs.Relocate.{ored_cleared};
 ghost use Rattle.linker_elf.specs.Inner.Immediates.{is_ored_alone, aarch64_immediate};
 
@@ -149,9 +150,9 @@ pub(super) fn are_of_one_register(adrp: u32, word: u32) -> bool
 }
 
 /// Whether `adrp xN` and `add xN, xN, #imm` or `ldr xN, [xN, #imm]`, both of 64 bits, stand next to
-/// each other: the second instruction at an offset of the section, and the `adrp` 4 bytes before it.
-/// Then the value that `adrp` leaves in xN is used by the second instruction alone, and the two may
-/// be rewritten together: to `nop` and `adr`, to another `adrp` and `add`, or to MOVZ and MOVK.
+/// each other: the second instruction at an offset of the section, and the `adrp` 4 bytes before
+/// it. Then the value that `adrp` leaves in xN is used by the second instruction alone, and the two
+/// may be rewritten together: to `nop` and `adr`, to another `adrp` and `add`, or to MOVZ and MOVK.
 #[inline]
 pub fn is_adrp_pair(section: &[u8], offset: u64) -> bool
     ensures { IsTrue result ↔ IsAdrpPair section.now offset }
@@ -283,9 +284,9 @@ impl RelaxationKind {
         }
     }
 
-    /// Whether the instruction at an offset of a section, or the pair that ends there, is one that the
-    /// rewrite is meant for: `can_apply`, and the opcodes and registers. `NoOp` is meant for any offset
-    /// and `ReplaceWithNop` for any instruction in the section.
+    /// Whether the instruction at an offset of a section, or the pair that ends there, is one that
+    /// the rewrite is meant for: `can_apply`, and the opcodes and registers. `NoOp` is meant for
+    /// any offset and `ReplaceWithNop` for any instruction in the section.
     #[inline]
     pub fn matches(self, section: &[u8], offset: u64) -> bool
         ensures exactly { IsTrue result ↔ aarch64_matches self section.now offset }

@@ -25,8 +25,8 @@ pub struct LinkFacts {
     pub has_fixed_distance: bool,
     /// The output is an executable, position-independent or not.
     pub is_executable: bool,
-    /// The sequence that computed the base of local-dynamic TLS for this relocation was rewritten to
-    /// local-exec, so that the base is the thread pointer.
+    /// The sequence that computed the base of local-dynamic TLS for this relocation was rewritten
+    /// to local-exec, so that the base is the thread pointer.
     pub has_local_exec_base: bool,
     /// The code may use instructions of the C extension (`EF_RISCV_RVC`).
     pub may_compress: bool,
@@ -34,13 +34,13 @@ pub struct LinkFacts {
     pub is_marked: bool,
     /// The high part whose label an `R_RISCV_PCREL_LO12_I` names has `R_RISCV_GOT_HI20`.
     pub has_got_high_part: bool,
-    /// The register through which an instruction of PowerPC64 gets the high part of its address, and
-    /// which an `addis` has set, is read only by instructions whose relocation is of the same symbol
-    /// and addend. Linkers assume so, as the ABI asks of compilers ("TOC Optimizations").
+    /// The register through which an instruction of PowerPC64 gets the high part of its address,
+    /// and which an `addis` has set, is read only by instructions whose relocation is of the same
+    /// symbol and addend. Linkers assume so, as the ABI asks of compilers ("TOC Optimizations").
     pub has_private_base: bool,
     /// The function that is called may return with another TOC pointer in register 2 of PowerPC64,
-    /// since it is called through a PLT entry or its symbol's `st_other` says so ("The st_other Field
-    /// Values").
+    /// since it is called through a PLT entry or its symbol's `st_other` says so ("The st_other
+    /// Field Values").
     pub may_change_toc: bool,
     /// The addresses in `operands` are known. Where they are not, a rewrite that depends on a
     /// distance is not chosen; another is, and its value may turn out to be out of reach.
@@ -69,8 +69,8 @@ impl LinkFacts {
         self.is_local && !self.is_ifunc
     }
 
-    /// Whether the value of a relocation of a row, `back` bytes before the place, is known and can be
-    /// written.
+    /// Whether the value of a relocation of a row, `back` bytes before the place, is known and can
+    /// be written.
     #[inline(always)]
     pub(crate) fn is_in_reach(&self, row: Option<Row>, after: &Operands, back: u64) -> bool
         ensures { IsTrue result
@@ -88,8 +88,8 @@ impl LinkFacts {
         !self.has_addresses || reaches(row, after, back)
     }
 
-    /// Whether the value of a relocation of a row, `back` bytes before the place, is known and is from
-    /// the first bound up and below the second.
+    /// Whether the value of a relocation of a row, `back` bytes before the place, is known and is
+    /// from the first bound up and below the second.
     #[inline(always)]
     pub(crate) fn is_within(&self, row: Option<Row>, bounds: (i64, i64), back: u64) -> bool
         ensures { IsTrue result ↔ (HasAddresses self.now

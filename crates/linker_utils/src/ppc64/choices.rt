@@ -115,8 +115,8 @@ fn is_for_other_toc(section: &[u8], offset: u64, facts: &LinkFacts) -> bool
 /// Which rewrite a linker may make of the instruction at a relocation's offset, and the relocation
 /// whose value is then written (64-bit ELF V2 ABI for Power, "TOC Optimizations" and "TLS Linkage
 /// Optimizations"). It is the first of this table whose instruction is there and whose conditions
-/// hold, and else `NoOp` and the same relocation, as for any name that isn't listed and for an offset
-/// that isn't in the section. Names have the prefix `R_PPC64_`.
+/// hold, and else `NoOp` and the same relocation, as for any name that isn't listed and for an
+/// offset that isn't in the section. Names have the prefix `R_PPC64_`.
 ///
 /// | Relocation | Rewrite | Relocation after it | Where |
 /// |---|---|---|---|
@@ -143,29 +143,30 @@ fn is_for_other_toc(section: &[u8], offset: u64, facts: &LinkFacts) -> bool
 ///
 /// - Near the TOC: `has_private_base`, and S + A less `got_base`, the TOC pointer, is known and is
 ///   from -0x8000 to 0x7fff.
-/// - Direct: `is_local` and not `is_ifunc`, `has_fixed_distance`, and the value after it is in reach:
-///   from -2^31 - 0x8000 to 2^31 - 0x8001 from the TOC pointer, or 34 signed bits.
-/// - Local-exec: `is_executable`, `is_local` and not `is_ifunc`, and the offset from `tls_base` is in
-///   reach of `TPREL16_HA`.
-/// - Initial-exec: `is_executable`, and `got_entry` is in reach of `GOT_TPREL16_HA`. It has to be the
-///   address of the entry for initial-exec.
+/// - Direct: `is_local` and not `is_ifunc`, `has_fixed_distance`, and the value after it is in
+///   reach: from -2^31 - 0x8000 to 2^31 - 0x8001 from the TOC pointer, or 34 signed bits.
+/// - Local-exec: `is_executable`, `is_local` and not `is_ifunc`, and the offset from `tls_base` is
+///   in reach of `TPREL16_HA`.
+/// - Initial-exec: `is_executable`, and `got_entry` is in reach of `GOT_TPREL16_HA`. It has to be
+///   the address of the entry for initial-exec.
 /// - Where no address is known, all is in reach but what is near the TOC.
 ///
 /// A doubleword of the TOC that holds the address of a symbol is a GOT entry of that symbol: for
-/// `TOC16_HA` and `TOC16_LO_DS` of it, ask for `GOT16_HA` and `GOT16_LO_DS`, with the symbol's facts and
-/// the doubleword's address as `got_entry`. What is then computed from the TOC pointer may be near it:
-/// ask once more, for `TOC16_HA` and `TOC16_LO` of the symbol, after the rewrite.
+/// `TOC16_HA` and `TOC16_LO_DS` of it, ask for `GOT16_HA` and `GOT16_LO_DS`, with the symbol's
+/// facts and the doubleword's address as `got_entry`. What is then computed from the TOC pointer
+/// may be near it: ask once more, for `TOC16_HA` and `TOC16_LO` of the symbol, after the rewrite.
 ///
 /// The linker sees to the rest:
 ///
-/// - The instructions of one sequence are not next to each other, and each is chosen alone. The facts
-///   are the same for all of them, except for `place`. If one of them keeps its relocation, all do:
-///   where each is the instruction that its rewrites are meant for, those of a pair and of
+/// - The instructions of one sequence are not next to each other, and each is chosen alone. The
+///   facts are the same for all of them, except for `place`. If one of them keeps its relocation,
+///   all do: where each is the instruction that its rewrites are meant for, those of a pair and of
 ///   `__tls_get_addr` are chosen alike (`relocations_are_chosen_alike`).
-/// - The register that an `addis` before a `nop` has set, and for TLS also the one that the `ld` has
-///   set, are read by the instructions of the sequence only, as the ABI asks of compilers.
+/// - The register that an `addis` before a `nop` has set, and for TLS also the one that the `ld`
+///   has set, are read by the instructions of the sequence only, as the ABI asks of compilers.
 /// - `tls_base` is the thread pointer, 0x7000 above the first byte of the TLS segment. After
-///   `CallToAddi4096` register 3 is 0x1000 above it, which the `DTPREL` relocations are relative to.
+///   `CallToAddi4096` register 3 is 0x1000 above it, which the `DTPREL` relocations are relative
+///   to.
 ///
 /// ```
 /// use linker_utils::elf::LinkFacts;
@@ -351,11 +352,11 @@ pub fn choose(
 }
 
 /// With the same facts, except that each has its own place, and each at an instruction that its
-/// rewrites are meant for, both relocations of a pair are rewritten alike or neither is: of an address
-/// near the TOC, of a GOT entry, and of the entry for initial-exec. And so are those of
-/// general-dynamic TLS, all for local-exec, all for initial-exec or none, and those of local-dynamic
-/// TLS. Nothing is said of `R_PPC64_TLS`: an indexed access of whole words is left where the offset
-/// isn't a multiple of 4.
+/// rewrites are meant for, both relocations of a pair are rewritten alike or neither is: of an
+/// address near the TOC, of a GOT entry, and of the entry for initial-exec. And so are those of
+/// general-dynamic TLS, all for local-exec, all for initial-exec or none, and those of
+/// local-dynamic TLS. Nothing is said of `R_PPC64_TLS`: an indexed access of whole words is left
+/// where the offset isn't a multiple of 4.
 pub fn relocations_are_chosen_alike()
     ensures toc { TocPairsAreChosenAlike }
     ensures got { GotPairIsChosenAlike }

@@ -6,8 +6,10 @@ ghost use Rattle.linker_base.specs.Bits.{field};
 ghost use Rattle.linker_base.specs.Deltas.{deletions_of};
 ghost use Rattle.linker_base.specs.Blocks.{IsValidView};
 ghost use Rattle.linker_utils.specs.RiscVCalls.{IsEven, IsJalDistance, JumpsAndLinks, JumpsAt};
-ghost use Rattle.linker_utils.specs.RiscVCalls.{IsInSection, IsSiteKept, output_distance, IsCallPair};
-ghost use Rattle.linker_utils.specs.RiscVCalls.{IsPlainCall, call_len, NamesRegister, link_register};
+ghost use Rattle.linker_utils.specs.RiscVCalls.{IsInSection, IsSiteKept, output_distance};
+ghost use Rattle.linker_utils.specs.RiscVCalls.{IsCallPair};
+ghost use Rattle.linker_utils.specs.RiscVCalls.{IsPlainCall, call_len, NamesRegister};
+ghost use Rattle.linker_utils.specs.RiscVCalls.{link_register};
 
 use crate::bit_misc::BitExtraction;
 use crate::elf::RiscVInstruction;
@@ -140,7 +142,8 @@ impl LinkRegister {
     }
 
     /// The register, where a call at a site of a section names it: any `auipc` does, a `jalr` only
-    /// where its base is the register of an `auipc` before it. Requires `call_len` bytes at the site.
+    /// where its base is the register of an `auipc` before it. Requires `call_len` bytes at the
+    /// site.
     #[inline(always)]
     pub fn named_at(self, section: &[u8], site: u64) -> Option<u32>
         requires { site + call_len self ≤ length section.now }
@@ -375,7 +378,8 @@ pub fn relax_call_over(
     ensures out_of_section { (result ≡ Err CallError.OutOfSection)
         ↔ ¬ IsInSection section.old site target }
     ensures site_deleted { IsValidView deltas.now → ((result ≡ Err CallError.SiteDeleted)
-        ↔ (IsInSection section.old site target × ¬ IsSiteKept (deletions_of deltas.now.deltas) site)) }
+        ↔ (IsInSection section.old site target × ¬ IsSiteKept (deletions_of deltas.now.deltas)
+        site)) }
     ensures odd_distance { IsValidView deltas.now → ((result ≡ Err CallError.OddDistance)
         ↔ (IsInSection section.old site target × IsSiteKept (deletions_of deltas.now.deltas) site
         × ¬ IsEven (output_distance (deletions_of deltas.now.deltas) site target))) }

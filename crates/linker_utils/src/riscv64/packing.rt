@@ -225,7 +225,8 @@ fn test_calls<C: AsCall>(
 /// Puts a jump into the packed section, where four bytes are there.
 fn put_jump(section: &[u8], site: u64, link: LinkRegister, jump: Jump, packed: &mut [u8])
     requires { site + call_len link ≤ length section.now }
-    ensures { jump.output_offset + 4 ≤ length packed.old → IsEven jump.distance → IsJalDistance jump.distance
+    ensures { jump.output_offset + 4 ≤ length packed.old → IsEven jump.distance
+        → IsJalDistance jump.distance
         → JumpsAndLinks packed.old packed.new jump.output_offset
         (link_register link section.now site) jump.distance }
 {

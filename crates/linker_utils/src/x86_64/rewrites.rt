@@ -20,8 +20,9 @@ use crate::rewrite::{has_window, overwrite};
 
 /// A rewrite of the instructions around a relocated field of 4 or 8 bytes, whose offset is the
 /// field's (x86-64 psABI, "Optimize GOTPCRELX Relocations", and "ELF Handling For Thread-Local
-/// Storage"). A variant's number is the count of the instruction's bytes before the field: 2 without
-/// a prefix, 3 with REX, 4 with REX2, 6 with EVEX. With any other number the prefix is unchanged.
+/// Storage"). A variant's number is the count of the instruction's bytes before the field: 2
+/// without a prefix, 3 with REX, 4 with REX2, 6 with EVEX. With any other number the prefix is
+/// unchanged.
 ///
 /// ```
 /// use linker_utils::x86_64::RelaxationKind;
@@ -775,9 +776,10 @@ impl RelaxationKind {
     /// registers, around fields of any value. A number of bytes before the field for which there is
     /// no such instruction matches nothing, and `NoOp` matches any bytes.
     ///
-    /// Bytes before the instruction are not tested: `MovIndirectToLea` takes any prefix, which stays,
-    /// and for the others the relocation's type says where the instruction begins. With a prefix 0x66
-    /// for operands of 16 bits assemblers write `R_X86_64_GOTPCREL`, which no rewrite is for.
+    /// Bytes before the instruction are not tested: `MovIndirectToLea` takes any prefix, which
+    /// stays, and for the others the relocation's type says where the instruction begins. With a
+    /// prefix 0x66 for operands of 16 bits assemblers write `R_X86_64_GOTPCREL`, which no rewrite
+    /// is for.
     #[inline]
     pub fn matches(self, section: &[u8], offset: u64) -> bool
         ensures { IsTrue result ↔ x86_64_matches self section.now offset }
@@ -785,12 +787,12 @@ impl RelaxationKind {
         self.can_apply(section, offset) && self.is_for(section, offset)
     }
 
-    /// The relocation of the field after the rewrite, by the one before it. `R_X86_64_NONE` says that
-    /// nothing is relocated any more. Returns `None` where the rewrite is not for such a relocation,
-    /// and for `NoOp`, whose relocation the caller chooses.
+    /// The relocation of the field after the rewrite, by the one before it. `R_X86_64_NONE` says
+    /// that nothing is relocated any more. Returns `None` where the rewrite is not for such a
+    /// relocation, and for `NoOp`, whose relocation the caller chooses.
     ///
-    /// An immediate has `R_X86_64_32S`, and without a prefix `R_X86_64_32`. With a prefix whose W is
-    /// 0 the operand has 32 bits too, and `R_X86_64_32` is also right.
+    /// An immediate has `R_X86_64_32S`, and without a prefix `R_X86_64_32`. With a prefix whose W
+    /// is 0 the operand has 32 bits too, and `R_X86_64_32` is also right.
     #[inline]
     pub fn relocation_after(self, before: X86_64Relocation) -> Option<X86_64Relocation>
         ensures { result ≡ replaced.x86_64_relocation_after self before }

@@ -88,8 +88,8 @@ fn is_made(
     }
 }
 
-/// Whether something is chosen for a relocation, and is not once one bit is altered of those that the
-/// masks of the words have.
+/// Whether something is chosen for a relocation, and is not once one bit is altered of those that
+/// the masks of the words have.
 fn is_chosen_by_each_bit(
     section: &mut [u8],
     masks: &[u32],

@@ -8,8 +8,8 @@ pub(crate) const ENTRY: u64 = 0x1_3e98;
 
 /// A relocation's type, its instruction in a sequence, 1 where it is marked plus 2 where the symbol
 /// is defined there, the symbol's address, or 0 of one elsewhere, the place by which its value is
-/// computed, and the instruction before and after, or 0 where it was deleted. GNU ld 2.40 leaves the
-/// same of local-exec.
+/// computed, and the instruction before and after, or 0 where it was deleted. GNU ld 2.40 leaves
+/// the same of local-exec.
 pub(crate) static SITES: [(u32, u64, u8, u64, u64, u32, u32); 44] = [
     (29, 0, 3, 0x1_239c, 0x1_1310, 0x537, 0x0),
     (32, 0, 3, 0x1_239c, 0x1_1310, 0x45_0533, 0x0),

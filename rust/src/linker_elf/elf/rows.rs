@@ -152,8 +152,8 @@ impl Row {
         self.info().value(operands)
     }
 
-    /// Whether the relocation has a value that can be written: one within `reach`, and a multiple of
-    /// the row's alignment.
+    /// Whether the relocation has a value that can be written: one within `reach`, and a multiple
+    /// of the row's alignment.
     #[must_use]
     #[inline(always)]
     pub fn reaches(&self, operands: &Operands) -> bool {

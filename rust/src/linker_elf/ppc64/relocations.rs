@@ -264,8 +264,8 @@ const fn index(name: Ppc64Relocation) -> usize {
 ///
 /// The PLT entry of `R_PPC64_PLT16_HA`, `R_PPC64_PLT16_LO_DS`, `R_PPC64_PLT_PCREL34` and its
 /// `_NOTOC` is the doubleword of `.plt` that holds the function's address. `R_PPC64_ENTRY`,
-/// `R_PPC64_PLTSEQ`, `R_PPC64_PLTCALL`, their `_NOTOC` and `R_PPC64_PCREL_OPT` mark instructions and
-/// have no value.
+/// `R_PPC64_PLTSEQ`, `R_PPC64_PLTCALL`, their `_NOTOC` and `R_PPC64_PCREL_OPT` mark instructions
+/// and have no value.
 ///
 /// # Ranges of pairs
 ///
@@ -273,21 +273,21 @@ const fn index(name: Ppc64Relocation) -> usize {
 /// value. A `_HA` half with its signed low half is the value itself only from -2^31 - 0x8000 to
 /// 2^31 - 0x8001. Elsewhere it is the value modulo 2^32.
 ///
-/// `R_PPC64_D34_HA30` and `R_PPC64_D34_LO`, and `R_PPC64_D34_HI30` with an unsigned low part, are the
-/// parts of a value of 64 bits. The 30 bits of a high part are written to an immediate of 34 bits, of
-/// which the upper 4 become 0.
+/// `R_PPC64_D34_HA30` and `R_PPC64_D34_LO`, and `R_PPC64_D34_HI30` with an unsigned low part, are
+/// the parts of a value of 64 bits. The 30 bits of a high part are written to an immediate of 34
+/// bits, of which the upper 4 become 0.
 #[must_use]
 #[inline(always)]
 pub const fn row(name: Ppc64Relocation) -> Option<Row> {
     row_in(&ROWS[index(name)])
 }
 
-/// What a relocation means, as `row` says, or `None` for those that PowerPC64 compilers write and the
-/// crate `linker-utils` has no name for: the GOT and PLT entries by two halves (`R_PPC64_GOT16_HA`,
-/// `R_PPC64_PLT16_HA` and their `_LO_DS`), `R_PPC64_ENTRY`, the marks of calls through the PLT
-/// (`R_PPC64_PLTSEQ`, `R_PPC64_PLTCALL` and their `_NOTOC`), and prefixed instructions with an
-/// address or a part of one (`R_PPC64_D34` and its like), a PLT entry (`R_PPC64_PLT_PCREL34` and its
-/// `_NOTOC`) or TLS (`R_PPC64_TPREL34` and those after it).
+/// What a relocation means, as `row` says, or `None` for those that PowerPC64 compilers write and
+/// the crate `linker-utils` has no name for: the GOT and PLT entries by two halves
+/// (`R_PPC64_GOT16_HA`, `R_PPC64_PLT16_HA` and their `_LO_DS`), `R_PPC64_ENTRY`, the marks of calls
+/// through the PLT (`R_PPC64_PLTSEQ`, `R_PPC64_PLTCALL` and their `_NOTOC`), and prefixed
+/// instructions with an address or a part of one (`R_PPC64_D34` and its like), a PLT entry
+/// (`R_PPC64_PLT_PCREL34` and its `_NOTOC`) or TLS (`R_PPC64_TPREL34` and those after it).
 #[must_use]
 #[inline(always)]
 pub const fn relocation_type_from_raw(name: Ppc64Relocation) -> Option<RelocationKindInfo> {

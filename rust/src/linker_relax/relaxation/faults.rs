@@ -163,8 +163,8 @@ fn first_run_fault(items: &[Item], start: u64) -> Option<ItemFault> {
 /// The first faulty item of a run at an address, and its first fault; none where `relax` and
 /// `relax_into` accept the run.
 ///
-/// The faults from `UnevenShape` on are about an item among the others. They count only where no item
-/// has one of those before.
+/// The faults from `UnevenShape` on are about an item among the others. They count only where no
+/// item has one of those before.
 ///
 /// It doesn't allocate, and takes O(n log n) for n items.
 #[must_use]
@@ -178,13 +178,13 @@ pub fn first_faulty(items: &[Item], start: u64) -> Option<ItemFault> {
 /// Whether `relax` and `relax_into` accept a run at an address.
 ///
 /// The items ascend, none reaches past the next, and the address behind the last is below 2^64. No
-/// shape of a site keeps more bytes than the site has, and each keeps fewer than the next. Each short
-/// one reaches its own offset and no farther than the next short one; its unit is a power of two and
-/// a multiple of the next one's. With u the greatest unit of all short shapes each shape frees a
-/// multiple of u, and each alignment, a power of two, and the address behind its nops are multiples
-/// of u. There are as many nops as the alignment less u, or no more may stay than there are; where a
-/// number may stay, the nops are a multiple of u, too. No target is strictly inside the bytes that an
-/// item may lose.
+/// shape of a site keeps more bytes than the site has, and each keeps fewer than the next. Each
+/// short one reaches its own offset and no farther than the next short one; its unit is a power of
+/// two and a multiple of the next one's. With u the greatest unit of all short shapes each shape
+/// frees a multiple of u, and each alignment, a power of two, and the address behind its nops are
+/// multiples of u. There are as many nops as the alignment less u, or no more may stay than there
+/// are; where a number may stay, the nops are a multiple of u, too. No target is strictly inside
+/// the bytes that an item may lose.
 ///
 /// It doesn't allocate, and takes O(n log n) for n items. `first_faulty` says what is wrong.
 #[must_use]

@@ -617,7 +617,8 @@ fn rewrites_match_linkers() {
     }
 }
 
-/// A TLS sequence as GNU as assembles it, with what follows it, and as GNU ld links it into a program.
+/// A TLS sequence as GNU as assembles it, with what follows it, and as GNU ld links it into a
+/// program.
 struct Sequence {
     /// The relocation of the `lea`.
     name: X86_64Relocation,

@@ -1,14 +1,14 @@
 // Made by tools/erase of crates/vectors_ppc64/src/ppc64/choices.rt.
-//! Which rewrites are chosen, and the words that they leave with the relocation after them. The words
-//! are encoded after the Power ISA, "Instruction Formats", or are those that linkers wrote.
+//! Which rewrites are chosen, and the words that they leave with the relocation after them. The
+//! words are encoded after the Power ISA, "Instruction Formats", or are those that linkers wrote.
 
 use super::linked::SITES;
 use linker_utils::elf::{Choice, LinkFacts, Operands};
 use linker_utils::ppc64::{Ppc64Relocation, RelaxationKind, choose, row};
 use crate::rows::expect_eq;
 
-/// The facts of a symbol of an executable, 0x7fe8 below the TOC pointer, 0x6fe8 below the thread pointer
-/// and 0x10018 above the instruction.
+/// The facts of a symbol of an executable, 0x7fe8 below the TOC pointer, 0x6fe8 below the thread
+/// pointer and 0x10018 above the instruction.
 fn own() -> LinkFacts {
     LinkFacts {
         is_local: true,
@@ -253,8 +253,8 @@ fn other_variables_of_an_executable_have_an_entry() {
 
 #[test]
 fn other_instructions_stay() {
-    // `addis 9,3`; `lwzu 3,0(9)`; `std 9,0(9)`; `ld 3,0(0)`; `add 3,9,12`; `lwzux 3,9,13`; `stwx 9,9,13`;
-    // `bl` without `nop`; `addi 4,9,0`
+    // `addis 9,3`; `lwzu 3,0(9)`; `std 9,0(9)`; `ld 3,0(0)`; `add 3,9,12`; `lwzux 3,9,13`; `stwx
+    // 9,9,13`; `bl` without `nop`; `addi 4,9,0`
     let table: [(Ppc64Relocation, [u32; 2]); 9] = [
         (Ppc64Relocation::R_PPC64_TOC16_HA, [0x3d23_0000, 0]),
         (Ppc64Relocation::R_PPC64_TOC16_LO, [0x8469_0000, 0]),
@@ -285,8 +285,8 @@ fn words_of(bytes: u64) -> [u32; 2] {
     [(bytes & 0xffff_ffff) as u32, (bytes >> 32) as u32]
 }
 
-/// In an executable whose GOT begins at 0x10040000, and whose TLS segment at 0x10020000. The only GOT
-/// entry is that of a variable elsewhere.
+/// In an executable whose GOT begins at 0x10040000, and whose TLS segment at 0x10020000. The only
+/// GOT entry is that of a variable elsewhere.
 #[test]
 fn words_match_linkers() {
     for (r_type, flags, symbol, place, before, after) in SITES {
