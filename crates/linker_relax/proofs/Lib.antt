@@ -1,3 +1,4 @@
+pub mod AlwaysInReach
 pub mod Bounds
 pub mod Choices
 pub mod Firsts

@@ -68,43 +68,44 @@ multiple_less : (unit far near e : ℕ) → far ≡ near + e → Multiple unit e
 multiple_less unit far near e is m none =
     sym (add-mul-mod_self_right near m.0 unit) ∙ ap (λ n. n % unit) (let k = m.1 in let h : near + m.0 * unit ≡ far = omega arith in h) ∙ none
 
+-- what it is that a shape reaches a target above, or one below
+pub above_is : (shape : Shape) (from to : ℕ) → from ≤ to → is_reached shape from to ≡ true → (to - from < shape.ahead) × ((to - from) % shape.unit ≡ 0)
+above_is shape from to up reached = (grind (arith, nat_tests), grind (arith, nat_tests))
+
+pub is_above : (shape : Shape) (from to : ℕ) → from ≤ to → to - from < shape.ahead → (to - from) % shape.unit ≡ 0 → is_reached shape from to ≡ true
+is_above shape from to up ahead none = grind (arith, nat_tests)
+
+pub below_is : (shape : Shape) (from to : ℕ) → to < from → is_reached shape from to ≡ true → (from - to ≤ shape.behind) × ((from - to) % shape.unit ≡ 0)
+below_is shape from to down reached = (grind (arith, nat_tests), grind (arith, nat_tests))
+
+pub is_below : (shape : Shape) (from to : ℕ) → to < from → from - to ≤ shape.behind → (from - to) % shape.unit ≡ 0 → is_reached shape from to ≡ true
+is_below shape from to down behind none = grind (arith, nat_tests)
+
 -- a nearer target above is reached too, and one below
 reached_above : (shape : Shape) (from to from' to' : ℕ) → from ≤ to → from' ≤ to' → to' - from' ≤ to - from → Multiple shape.unit ((to - from) - (to' - from')) → is_reached shape from to ≡ true → is_reached shape from' to' ≡ true
 reached_above shape from to from' to' up up' near m reached =
-    let old : (to - from < shape.ahead) × ((to - from) % shape.unit ≡ 0) = above_is from to up reached in
+    let old = above_is shape from to up reached in
     let rest = multiple_less shape.unit (to - from) (to' - from') ((to - from) - (to' - from')) (omega arith) m old.1 in
     let ahead : to' - from' < shape.ahead = omega (arith, old.0) in
-    is_above from' to' up' ahead rest
-  where
-    above_is : (from to : ℕ) → from ≤ to → is_reached shape from to ≡ true → (to - from < shape.ahead) × ((to - from) % shape.unit ≡ 0)
-    above_is from to up reached = (grind (arith, nat_tests), grind (arith, nat_tests))
-
-    is_above : (from to : ℕ) → from ≤ to → to - from < shape.ahead → (to - from) % shape.unit ≡ 0 → is_reached shape from to ≡ true
-    is_above from to up ahead none = grind (arith, nat_tests)
+    is_above shape from' to' up' ahead rest
 
 reached_below : (shape : Shape) (from to from' to' : ℕ) → to ≤ from → to' ≤ from' → from' - to' ≤ from - to → 0 < shape.ahead → Multiple shape.unit ((from - to) - (from' - to')) → is_reached shape from to ≡ true → is_reached shape from' to' ≡ true
 reached_below shape from to from' to' down down' near some m reached =
     ⊎_elim
     (λ (strict : to' < from').
-    let old : (from - to ≤ shape.behind) × ((from - to) % shape.unit ≡ 0) = below_is from to (omega arith) reached in
+    let old = below_is shape from to (omega arith) reached in
     let rest = multiple_less shape.unit (from - to) (from' - to') ((from - to) - (from' - to')) (omega arith) m old.1 in
     let behind : from' - to' ≤ shape.behind = omega (arith, old.0) in
-    is_below from' to' strict behind rest)
+    is_below shape from' to' strict behind rest)
     (λ (level : from' ≤ to'). is_level from' to' (omega arith))
     (cases_lt to' from')
   where
-    below_is : (from to : ℕ) → to < from → is_reached shape from to ≡ true → (from - to ≤ shape.behind) × ((from - to) % shape.unit ≡ 0)
-    below_is from to down reached = (grind (arith, nat_tests), grind (arith, nat_tests))
-
-    is_below : (from to : ℕ) → to < from → from - to ≤ shape.behind → (from - to) % shape.unit ≡ 0 → is_reached shape from to ≡ true
-    is_below from to down behind none = grind (arith, nat_tests)
-
     is_level : (from to : ℕ) → from ≡ to → is_reached shape from to ≡ true
     is_level from to same =
         let e : to - from ≡ 0 = omega arith in
         let none : (to - from) % shape.unit ≡ 0 = ap (λ n. n % shape.unit) e ∙ zero-mod shape.unit in
         let ahead : to - from < shape.ahead = omega arith in
-        grind (arith, nat_tests)
+        is_above shape from to (omega arith) ahead none
 
 -- the difference of two multiples of u is a multiple of what divides u
 pub multiple_between : (u unit a b : ℕ) → Multiple unit u → Multiple u a → Multiple u b → Multiple unit (a - b)

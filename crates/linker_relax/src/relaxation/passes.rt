@@ -1,11 +1,12 @@
 //! Passes over a run: the places of targets, a layout, and one round.
 
 ghost use Rattle.std.specs.Prelude.{◌≡◌, ◌+◌, ◌<◌, ◌≤◌, ◌^◌, ℕ, length, true, false, sum};
-ghost use Rattle.std.specs.Prelude.{slice_index_or};
+ghost use Rattle.std.specs.Prelude.{List, slice_index_or};
 ghost use Rattle.linker_relax.specs.Relaxing.{place_of, item_at, choice_of, lengthened};
 ghost use Rattle.linker_relax.specs.Relaxing.{is_in_reach};
 ghost use Rattle.linker_relax.specs.Relaxing.{AreInOrder, AreFreed, AreKeptBytes, kept_by};
 ghost use Rattle.linker_relax.specs.Relaxing.{freed_before};
+ghost use Rattle.linker_relax.specs.Choosing.{AreItems};
 ghost use Rattle.linker_relax.specs.Inner.Relaxing.{ArePlaces};
 
 use super::Item;
@@ -19,14 +20,21 @@ pub(super) fn place_of(items: &[Item], offset: u64, start: u64) -> usize
     items.partition_point(|item| item.ends_by(offset))
 }
 
-/// For each item the place of its target.
+/// For each item the place of its target, or `usize::MAX` where its shortest shape reaches that while
+/// nothing is freed: then it is always in reach.
 pub(super) fn find_places(items: &[Item], start: u64, places: &mut [usize])
-    requires in_order { AreInOrder start items.now }
+    requires items { AreItems start items.now }
+    requires fewer { length items.now + 1 < 2 ^ 64 }
     requires one_each { length places.old ≡ length items.now }
-    ensures { ArePlaces items.now places.new }
+    ensures { ArePlaces start items.now places.new }
 {
     for index in 0..items.len() {
-        places[index] = place_of(items, items[index].target(), start);
+        let item = &items[index];
+        places[index] = if item.reaches(0, 0, 0) {
+            usize::MAX
+        } else {
+            place_of(items, item.target(), start)
+        };
     }
 }
 
@@ -69,6 +77,30 @@ pub(super) fn keep(items: &[Item], start: u64, shapes: &[u8], freed: &[u64], kep
     }
 }
 
+/// Whether the item at an index, which has a shape, is in reach of its target by a layout.
+#[inline(always)]
+fn is_in_reach(
+    items: &[Item],
+    start: u64,
+    places: &[usize],
+    freed: &[u64],
+    shape: u8,
+    index: usize,
+) -> bool
+    requires in_order { AreInOrder start items.now }
+    requires within { index < length items.now }
+    requires places { length places.now ≡ length items.now }
+    requires placed { ArePlaces start items.now places.now }
+    requires one_more { length freed.now ≡ length items.now + 1 }
+    ensures reached { (shapes : List ℕ) → choice_of shapes index ≡ shape
+        → AreFreed start items.now shapes freed.now
+        → result ≡ is_in_reach start items.now (choice_of shapes) index }
+    ensures can_grow { result ≡ false → shape < 2 }
+{
+    let place = places[index];
+    place > items.len() || items[index].reaches(shape, freed[index], freed[place])
+}
+
 /// Gives each site that is out of reach its next shape. Whether there is one.
 pub(super) fn lengthen(
     items: &[Item],
@@ -81,7 +113,7 @@ pub(super) fn lengthen(
     requires shapes { length shapes.old ≡ length items.now }
     requires places { length places.now ≡ length items.now }
     requires short { (i : ℕ) → choice_of shapes.old i ≤ 2 }
-    requires placed { ArePlaces items.now places.now }
+    requires placed { ArePlaces start items.now places.now }
     requires one_more { length freed.now ≡ length items.now + 1 }
     requires freed { AreFreed start items.now shapes.old freed.now }
     ensures lengthened { (i : ℕ) → i < length items.now
@@ -94,10 +126,8 @@ pub(super) fn lengthen(
 {
     let mut longer = false;
     for index in 0..items.len() {
-        let here = freed[index];
-        let there = freed[places[index]];
         let shape = shapes[index];
-        if !items[index].reaches(shape, here, there) {
+        if !is_in_reach(items, start, places, freed, shape, index) {
             shapes[index] = shape + 1;
             longer = true;
         }

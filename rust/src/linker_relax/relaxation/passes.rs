@@ -8,10 +8,16 @@ pub(super) fn place_of(items: &[Item], offset: u64, start: u64) -> usize {
     items.partition_point(|item| item.ends_by(offset))
 }
 
-/// For each item the place of its target.
+/// For each item the place of its target, or `usize::MAX` where its shortest shape reaches that while
+/// nothing is freed: then it is always in reach.
 pub(super) fn find_places(items: &[Item], start: u64, places: &mut [usize]) {
     for index in 0..items.len() {
-        places[index] = place_of(items, items[index].target(), start);
+        let item = &items[index];
+        places[index] = if item.reaches(0, 0, 0) {
+            usize::MAX
+        } else {
+            place_of(items, item.target(), start)
+        };
     }
 }
 
@@ -40,6 +46,20 @@ pub(super) fn keep(items: &[Item], start: u64, shapes: &[u8], freed: &[u64], kep
     }
 }
 
+/// Whether the item at an index, which has a shape, is in reach of its target by a layout.
+#[inline(always)]
+fn is_in_reach(
+    items: &[Item],
+    start: u64,
+    places: &[usize],
+    freed: &[u64],
+    shape: u8,
+    index: usize,
+) -> bool {
+    let place = places[index];
+    place > items.len() || items[index].reaches(shape, freed[index], freed[place])
+}
+
 /// Gives each site that is out of reach its next shape. Whether there is one.
 pub(super) fn lengthen(
     items: &[Item],
@@ -50,10 +70,8 @@ pub(super) fn lengthen(
 ) -> bool {
     let mut longer = false;
     for index in 0..items.len() {
-        let here = freed[index];
-        let there = freed[places[index]];
         let shape = shapes[index];
-        if !items[index].reaches(shape, here, there) {
+        if !is_in_reach(items, start, places, freed, shape, index) {
             shapes[index] = shape + 1;
             longer = true;
         }

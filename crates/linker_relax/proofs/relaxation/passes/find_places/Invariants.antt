@@ -1,9 +1,11 @@
-use Rattle.std.proofs.Common.{◌≡◌, ◌<◌, ◌≤◌, ℕ, length, get_or}
+use Rattle.std.proofs.Common.{◌≡◌, ◌<◌, ℕ, length, get_or}
+use Rattle.std.specs.Prelude.{◌⊎◌}
 use Rattle.linker_relax.specs.Relaxing.{place_of, target_of, item_at}
+use Rattle.linker_relax.specs.Inner.Relaxing.{IsAlwaysInReach}
 use Rattle.linker_relax.proofs.relaxation.passes.find_places.Given as goal
 
 abbrev pub invariant-loop-index : goal.invariant-loop-index
 invariant-loop-index l = record {
-  each : (k : ℕ) → k < l.index → get_or l.places k 0 ≡ place_of l.items (target_of (item_at l.items k));
-  within : (k : ℕ) → k < l.index → get_or l.places k 0 ≤ length l.items;
+  each : (k : ℕ) → k < l.index → (get_or l.places k 0 ≡ place_of l.items (target_of (item_at l.items k)))
+      ⊎ ((length l.items < get_or l.places k 0) × IsAlwaysInReach l.start l.items k);
 }

@@ -1,11 +1,11 @@
 use Rattle.std.proofs.Common.{◌≡◌, ◌≢◌, ◌+◌, ◌<◌, ◌≤◌, ◌∙◌, ℕ, length, true, false, sum, get_or, ⊎_elim, refl, ap, sym, subst, arith, below_more, set, get_or-set_other, get_or-set_same}
 use Rattle.std.specs.Prelude.{List, ◌⊎◌}
-use Rattle.linker_relax.specs.Relaxing.{place_of, item_at, choice_of, is_in_reach, freed_before, target_of}
-use Rattle.linker_relax.proofs.Layouts.{reaches_alike, lengthened_in, lengthened_out}
+use Rattle.linker_relax.specs.Relaxing.{choice_of, is_in_reach}
+use Rattle.linker_relax.proofs.Layouts.{lengthened_in, lengthened_out}
 use Rattle.std.proofs.lemmas.List.Sums.{sum_by-set}
 use Rattle.std.proofs.lemmas.Bool.{cases_order}
 use Rattle.linker_relax.proofs.relaxation.passes.lengthen.Goals as goal
-use Rattle.linker_relax.proofs.relaxation.passes.lengthen.Goals.{then-not-reaches, else-not-reaches}
+use Rattle.linker_relax.proofs.relaxation.passes.lengthen.Goals.{then-not-is_in_reach, else-not-is_in_reach}
 
 other_here : (xs ys : List ℕ) (i y k : ℕ) → ys ≡ set xs i y → k ≢ i → get_or ys k 0 ≡ get_or xs k 0
 other_here xs ys i y k e ne = rw e (get_or-set_other xs i k y 0 ne)
@@ -29,32 +29,27 @@ loop-index-preserved c =
     let old = c.args.shapes.now in
     let i = c.loop-index.index in
     let shapes = c.loop-index.shapes in
-    let place = get_or c.args.places.now i 0 in
     let shape : get_or shapes i 0 ≡ choice_of old i = c.loop-index.invariant.left i (omega arith) in
-    let here = c.requires.freed.each i (omega arith) in
-    let at = c.requires.placed.each i (omega arith) in
-    let there = c.requires.freed.each place (c.requires.placed.within i (omega arith)) ∙ ap (freed_before start items (choice_of old)) at in
-    let reach : c.reaches.result ≡ is_in_reach start items (choice_of old) i = c.reaches.ensures.reached
-    ∙ reaches_alike (item_at items i) (get_or shapes i 0) (choice_of old i) (get_or c.args.freed.now i 0) (freed_before start items (choice_of old) i) (get_or c.args.freed.now place 0) (freed_before start items (choice_of old) (place_of items (target_of (item_at items i)))) shape here there in
+    let reach : c.is_in_reach.result ≡ is_in_reach start items (choice_of old) i = c.is_in_reach.ensures.reached old (sym shape) c.requires.freed in
     let lt : i < length shapes = omega arith in
-    elim c.if-not-reaches.branch [
-      | then-not-reaches w ↦
-          let new = c.if-not-reaches.shapes in
+    elim c.if-not-is_in_reach.branch [
+      | then-not-is_in_reach w ↦
+          let new = c.if-not-is_in_reach.shapes in
           let is : new ≡ set shapes i (get_or shapes i 0 + 1) = w.shapes-is in
-          let out : is_in_reach start items (choice_of old) i ≡ false = sym reach ∙ w.if-not-reaches.true in
+          let out : is_in_reach start items (choice_of old) i ≡ false = sym reach ∙ w.if-not-is_in_reach.true in
           let more : sum new ≡ sum shapes + 1 = one_more shapes new i (get_or shapes i 0 + 1) is refl lt in
           record {
             done = below_more _ _ (λ k h. other_here shapes new i (get_or shapes i 0 + 1) k is (omega arith) ∙ c.loop-index.invariant.done k h)
                 (same_here shapes new i (get_or shapes i 0 + 1) is lt ∙ ap (λ x. x + 1) shape ∙ sym (lengthened_out start items (choice_of old) i out));
             left = λ k h. other_here shapes new i (get_or shapes i 0 + 1) k is (omega arith) ∙ c.loop-index.invariant.left k (omega arith);
-            short = short_still shapes new i (get_or shapes i 0 + 1) is lt c.loop-index.invariant.short (omega (arith, c.reaches.ensures.can_grow w.if-not-reaches.true));
+            short = short_still shapes new i (get_or shapes i 0 + 1) is lt c.loop-index.invariant.short (omega (arith, c.is_in_reach.ensures.can_grow w.if-not-is_in_reach.true));
             same = λ h. cc;
             reached = λ h k below. cc;
             no_less = omega (arith, c.loop-index.invariant.no_less);
             longer = λ h. omega (arith, c.loop-index.invariant.no_less);
           }
-      | else-not-reaches w ↦
-          let into : is_in_reach start items (choice_of old) i ≡ true = sym reach ∙ w.if-not-reaches.false in
+      | else-not-is_in_reach w ↦
+          let into : is_in_reach start items (choice_of old) i ≡ true = sym reach ∙ w.if-not-is_in_reach.false in
           record {
             done = below_more _ _ (λ k h. ap (λ s. get_or s k 0) w.shapes-is ∙ c.loop-index.invariant.done k h)
                 (ap (λ s. get_or s i 0) w.shapes-is ∙ shape ∙ sym (lengthened_in start items (choice_of old) i into));

@@ -1,0 +1,89 @@
+-- A site that its shortest shape reaches while nothing is freed is in reach whatever is freed.
+use Rattle.std.proofs.Common.{◌≡◌, ℕ, zero, suc, ◌+◌, ◌-◌, ◌*◌, ◌%◌, ◌<◌, ◌≤◌, ◌∙◌, true, false, List, length, refl, ap, sym, ⊎_elim, arith, cond}
+use Rattle.std.specs.Prelude.{nat_lt}
+use Rattle.std.proofs.Math.Nat.{mul_assoc}
+use Rattle.std.proofs.lemmas.Bool.{cases_lt}
+use Rattle.std.proofs.lemmas.Bool.Decides.{nat_tests}
+use Rattle.linker_relax.specs.declared.relaxation.Shapes.{Shapes}
+use Rattle.linker_relax.specs.declared.relaxation.Item.{Item}
+use Rattle.linker_relax.specs.declared.relaxation.Item.TheVariants.{Site, Aligned}
+use Rattle.linker_relax.specs.Relaxing.{offset_of, end_of, len_of, target_of, item_at, is_reached, short_shape, freed_before, place_of, item_reaches, IsSound}
+use Rattle.linker_relax.specs.Choosing.{least_len, run_unit, AreItems, AreNested, IsFormed}
+use Rattle.linker_relax.specs.Inner.Relaxing.{IsAlwaysInReach}
+use Rattle.linker_relax.proofs.Bounds.{item_nearer, len_fits}
+use Rattle.linker_relax.proofs.Choices.{place_is}
+use Rattle.linker_relax.proofs.Frees.{exact_frees}
+use Rattle.linker_relax.proofs.Layouts.{freed_next}
+use Rattle.linker_relax.proofs.Multiples.{multiple_of, no_rest}
+use Rattle.linker_relax.proofs.Nearer.{Frees, FreesLess, shape_nearer, above_is, is_above, below_is, is_below}
+use Rattle.linker_relax.proofs.Units.{item_suits, power_divides}
+
+-- a multiple of a number is one of what divides that
+multiple_of_divisor : (less more d : ℕ) → more % less ≡ 0 → d % more ≡ 0 → d % less ≡ 0
+multiple_of_divisor less more d whole none =
+    let a = multiple_of less more whole in
+    let b = multiple_of more d none in
+    no_rest less d (b.0 * a.0, b.1 ∙ ap (λ n. b.0 * n) a.1 ∙ sym (mul_assoc b.0 a.0 less))
+
+-- what the shortest shape reaches the next one reaches too
+next_reaches : (shapes : Shapes) → AreNested shapes → 1 < shapes.count → (from to : ℕ) → is_reached (short_shape shapes 0) from to ≡ true → is_reached (short_shape shapes 1) from to ≡ true
+next_reaches shapes nested two from to reached =
+    let wider = nested.reaches 0 two in
+    let unit = nested.units 0 two in
+    let divides = power_divides (short_shape shapes 1).unit (short_shape shapes 0).unit (nested.powers 1 two).power (nested.powers 0 (omega arith)).power unit in
+    ⊎_elim
+    (λ (down : to < from).
+    let old = below_is (short_shape shapes 0) from to down reached in
+    is_below (short_shape shapes 1) from to down (omega (arith, wider.0, old.0)) (multiple_of_divisor (short_shape shapes 1).unit (short_shape shapes 0).unit (from - to) divides old.1))
+    (λ (up : from ≤ to).
+    let old = above_is (short_shape shapes 0) from to up reached in
+    is_above (short_shape shapes 1) from to up (omega (arith, wider.1, old.0)) (multiple_of_divisor (short_shape shapes 1).unit (short_shape shapes 0).unit (to - from) divides old.1))
+    (cases_lt to from)
+
+-- an item that its shortest shape reaches is reached by each
+longer_reaches : (item : Item) → IsSound item → IsFormed item → item_reaches item 0 0 0 ≡ true → (k : ℕ) → item_reaches item k 0 0 ≡ true
+longer_reaches (Aligned alignment) sound formed reached k = refl
+longer_reaches (Site site) sound formed reached k = ⊎_elim
+    (λ (below : k < site.shapes.count). short k below)
+    (λ (past : site.shapes.count ≤ k).
+    let test : nat_lt k site.shapes.count ≡ false = grind (arith, nat_tests) in
+    ap (λ b. cond b (is_reached (short_shape site.shapes k) (site.offset - 0) (site.target - 0)) true) test)
+    (cases_lt k site.shapes.count)
+  where
+    at : (k : ℕ) → k < site.shapes.count → is_reached (short_shape site.shapes k) (site.offset - 0) (site.target - 0) ≡ true → item_reaches (Site site) k 0 0 ≡ true
+    at k below is =
+        let test : nat_lt k site.shapes.count ≡ true = grind (arith, nat_tests) in
+        ap (λ b. cond b (is_reached (short_shape site.shapes k) (site.offset - 0) (site.target - 0)) true) test ∙ is
+
+    first : 0 < site.shapes.count → is_reached (short_shape site.shapes 0) (site.offset - 0) (site.target - 0) ≡ true
+    first some =
+        let test : nat_lt 0 site.shapes.count ≡ true = grind (arith, nat_tests) in
+        sym (ap (λ b. cond b (is_reached (short_shape site.shapes 0) (site.offset - 0) (site.target - 0)) true) test) ∙ reached
+
+    short : (k : ℕ) → k < site.shapes.count → item_reaches (Site site) k 0 0 ≡ true
+    short zero below = reached
+    short (suc zero) below = at 1 below (next_reaches site.shapes formed below (site.offset - 0) (site.target - 0) (first (omega arith)))
+    short (suc (suc k)) below = let few = sound.0 in absurd (omega arith)
+
+least_fits : (item : Item) → IsSound item → least_len item ≤ len_of item
+least_fits (Site site) sound = len_fits site.shapes site.len 0 sound.1 sound.2
+least_fits (Aligned alignment) sound = omega arith
+
+pub always_in_reach : (start : ℕ) (items : List Item) → AreItems start items → (i : ℕ) → i < length items → item_reaches (item_at items i) 0 0 0 ≡ true → IsAlwaysInReach start items i
+always_in_reach start items are i within reached choice =
+    let item = item_at items i in
+    let t = target_of item in
+    let p = place_of items t in
+    let place = place_is start items are.in_order t in
+    let nothing : Frees (run_unit items) items (λ n. 0) = record {
+      none = refl;
+      step = λ j there. (0, omega arith, (let h = least_fits (item_at items j) (are.in_order.sound j there) in omega arith));
+    } in
+    let no_more : FreesLess items (λ n. 0) (freed_before start items choice) = λ j there. (let h = freed_next start items choice j in omega arith) in
+    let clear : p < length items → t ≤ offset_of (item_at items p) + least_len (item_at items p) = λ below.
+    ⊎_elim (λ (h : t ≤ offset_of (item_at items p) + least_len (item_at items p)). h)
+    (λ (h : end_of (item_at items p) ≤ t). let o = place.others p (omega arith) below in absurd (omega arith))
+    (are.clear i p within below) in
+    item_nearer (run_unit items) start item (item_suits start items are i within) (choice i) 0 0 (freed_before start items choice i) (freed_before start items choice p)
+    (λ shape some d. shape_nearer start (run_unit items) items (λ n. 0) (freed_before start items choice) are.in_order nothing (exact_frees start items choice are) no_more shape some d i t p within place clear)
+    (longer_reaches item (are.in_order.sound i within) (are.formed i within) reached (choice i))
