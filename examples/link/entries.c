@@ -131,6 +131,32 @@ static bool waits(const struct row *row, const Elf64_Rela *r, const Elf64_Rela *
            (machine == EM_AARCH64 || (machine == EM_LOONGARCH && !is_marked));
 }
 
+/* PowerPC64: the section `.toc` that has the address of a relocation, and the offset there; null where
+ * none of the same object has it. */
+struct section *toc_section(const struct relocation *r, uint64_t *offset) {
+    const struct symbol *s = r->symbol;
+    if (s->object != r->section->object || s->elf.st_shndx >= s->object->sections_len) return NULL;
+    struct section *toc = &s->object->sections[s->elf.st_shndx];
+    *offset = s->elf.st_value + (uint64_t)r->addend;
+    return !strcmp(toc->name, ".toc") && toc->output && *offset < toc->head->sh_size ? toc : NULL;
+}
+
+/* PowerPC64: looks whether the instruction with the low half of an address is one that can do without
+ * the high half, and whether it loads a doubleword of the TOC. All uses of one have to be alike. */
+static void note_low_half(const struct relocation *r, const uint8_t *bytes, uint64_t len) {
+    uint64_t offset, at = r->offset - r->section->offset;
+    if (r->type != R_PPC64_TOC16_LO && r->type != R_PPC64_TOC16_LO_DS) return;
+    if (linker_utils_matches(machine, LINKER_UTILS_PPC64_REWRITE_BASE_TO_TOC, 0, bytes, len, at))
+        r->section->object->has_other_low_halves = true;
+    struct section *toc = toc_section(r, &offset);
+    if (!toc || (r->type == R_PPC64_TOC16_LO_DS &&
+                 !linker_utils_matches(machine, LINKER_UTILS_PPC64_REWRITE_LD_TO_ADDI, 0, bytes, len,
+                                       at)))
+        return;
+    if (!toc->words_kept) toc->words_kept = take(toc->head->sh_size / 8 + 1, 1);
+    toc->words_kept[offset / 8] = 1;
+}
+
 /* Reads the relocations of a section, and rewrites instructions where that needs no address. */
 void read_relocations(struct section *s) {
     const struct object *o = s->object;
@@ -153,6 +179,7 @@ void read_relocations(struct section *s) {
         bool is_here = is_defined(of) && of->elf.st_shndx != SHN_ABS;
         if (!is_code || !r->type || waits(row_of(r), elf + i, i + 1 < len ? elf + i + 1 : NULL))
             continue;
+        if (machine == EM_PPC64) note_low_half(r, bytes, size);
         struct linker_utils_link_facts facts = {
             .is_local = is_here, .has_fixed_address = is_here, .has_fixed_distance = is_here,
             .is_executable = 1, .has_local_exec_base = 1, .operands.addend = r->addend};
@@ -176,7 +203,8 @@ void read_relocations(struct section *s) {
             fail("%s: undefined symbol '%s'", place_of(r), r->symbol->name);
         if (row->info.kind == LINKER_UTILS_KIND_ALIGNMENT && !s->output->shrinks)
             fail("%s is not supported", place_of(r));
-        if (row->asks_for_got) r->entry = entry_of(r, row->info.kind);
+        bool is_direct = machine == EM_RISCV && row->info.kind == LINKER_UTILS_KIND_TLS_DESC;
+        if (row->asks_for_got && !is_direct) r->entry = entry_of(r, row->info.kind);
         if (row->info.kind && is_ifunc(r->symbol)) r->symbol->needs_stub = true;
         if (r->restores_toc && is_ifunc(r->symbol)) r->addend -= 4;
         bool is_page = i && r[-1].type == R_AARCH64_ADR_GOT_PAGE;
