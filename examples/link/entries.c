@@ -127,7 +127,7 @@ static struct entry *entry_of(const struct relocation *r, uint32_t kind) {
  * that the GOT is as ld.lld's; on LoongArch those that R_LARCH_RELAX doesn't mark. */
 static bool waits(const struct row *row, const Elf64_Rela *r, const Elf64_Rela *next) {
     bool is_marked = next && next->r_offset == r->r_offset && next->r_info == LARCH_RELAX;
-    return row->info.kind < LINKER_UTILS_KIND_TLS_GD &&
+    return row->info.kind && row->info.kind < LINKER_UTILS_KIND_TLS_GD &&
            (machine == EM_AARCH64 || (machine == EM_LOONGARCH && !is_marked));
 }
 

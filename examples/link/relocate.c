@@ -179,7 +179,8 @@ int64_t value_of(const struct output *o, const struct relocation *r) {
         operands.addend -= (int64_t)(r->entry->class == THREAD_OFFSET ? tls.thread : tls.module);
     if (row->may_use_plt && s->elf.st_shndx == SHN_UNDEF) {
         /* a call of a weak symbol that nothing defines goes where ld.lld lets it go */
-        if (machine == EM_AARCH64 || machine == EM_RISCV || machine == EM_PPC64)
+        if (machine == EM_AARCH64 || machine == EM_RISCV ||
+            (machine == EM_PPC64 && r->type == R_PPC64_REL24))
             operands.symbol = operands.place + (machine == EM_AARCH64 ? 4 : 0);
     } else if (row->may_use_plt && machine == EM_PPC64) {
         operands.symbol += PPC64_LOCAL_ENTRY_OFFSET(s->elf.st_other);
