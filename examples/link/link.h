@@ -73,7 +73,7 @@ struct section {
     uint64_t offset, end;                 /* in the output */
     bool is_duplicate;                    /* of a group that another object has too */
     bool has_lone_got_halves; /* AArch64: not all `adrp` and `ldr` of GOT entries are pairs */
-    uint8_t *words_kept; /* PowerPC64, of `.toc`: for each doubleword 1 if not only `ld`s are of it */
+    uint8_t *words_kept; /* PowerPC64, `.toc`: 1 for a doubleword that not only `ld`s refer to */
 };
 
 struct archive {
@@ -123,6 +123,7 @@ struct row {
     struct linker_utils_relocation_info info;
     enum linker_utils_role role;
     bool is_known, asks_for_got, may_use_plt;
+    bool loads_plt; /* PowerPC64: of code that itself loads what the PLT has */
 };
 
 /* The TLS segment: where its image is, its length and alignment, the thread pointer, and the origin
