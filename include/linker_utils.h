@@ -594,8 +594,8 @@ uint32_t linker_utils_value(uint16_t machine, uint32_t r_type,
  *   2,24(1)` is in the object.
  * - `bl __tls_get_addr` has R_PPC64_TLSGD or R_PPC64_TLSLD and then R_PPC64_REL24 or
  *   R_PPC64_REL24_NOTOC at the same offset. After a rewrite of the former the latter is skipped.
- *   Before R_PPC64_REL24_NOTOC the former isn't rewritten: the instruction that computes the entry's
- *   address is a prefixed one then, for which there is no rewrite. */
+ *   Before R_PPC64_REL24_NOTOC the former isn't rewritten: the instruction that computes the
+ *   entry's address is a prefixed one then, for which there is no rewrite. */
 
 /* ---- Which rewrite.
  *

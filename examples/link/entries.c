@@ -158,8 +158,8 @@ static void note_low_half(const struct relocation *r, const uint8_t *bytes, uint
         toc->words_kept[offset / 8] = 1;
 }
 
-/* PowerPC64: whether a relocation marks a call of `__tls_get_addr` by code that doesn't use the TOC.
- * The instruction before it is prefixed, and stays. */
+/* PowerPC64: whether a relocation marks a call of `__tls_get_addr` by code that doesn't use the
+ * TOC. The instruction before it is prefixed, and stays. */
 static bool is_notoc_mark(const struct relocation *r, const Elf64_Rela *next) {
     return machine == EM_PPC64 && (r->type == R_PPC64_TLSGD || r->type == R_PPC64_TLSLD) && next &&
            ELF64_R_TYPE(next->r_info) == PPC64_REL24_NOTOC;
