@@ -242,8 +242,8 @@ ShorterLocalExec =
     → IsRelocated names.R_LARCH_TLS_LE_LO12_R y base base_of
     → EndSo (word_of lu12i_of ∷ word_of add ∷ word_of low_of ∷ []) s (word_of base_of ∷ []) t
     (HaveShortened
-    (but_written (action_of (word_of low / 2 ^ 22))
-    (is_either (rd_of (word_of lu12i)) (rd_of (word_of add))) (rd_of (word_of low)))
+    (but_written (is_either (rd_of (word_of lu12i)) (rd_of (word_of add)))
+    (action_of (word_of low / 2 ^ 22)) (rd_of (word_of low)))
     (sum_64 s.pc 12) (sum_64 t.pc 4))
 
 -- ---- the offset of a variable from the thread pointer, by a TLS descriptor
