@@ -11,7 +11,7 @@ use Rattle.std.proofs.lemmas.List.{drop_at, length-take, length-append, length-d
 use Rattle.std.proofs.lemmas.Bool.{or_from}
 use Rattle.linker_base.specs.Bits.{field}
 use Rattle.linker_base.specs.Rewrite.{replaces, rewritten}
-use Rattle.linker_utils.specs.RiscVRewrites.{rs1_to_zero, rewrites_word, with_rs1, tp}
+use Rattle.linker_utils.specs.RiscVRewrites.{rs1_to_zero, with_rs1, tp}
 use Rattle.linker_utils.specs.RiscVCalls.{word_at}
 use Rattle.linker_utils.specs.RiscVOriginals.{opcode_of, funct3_of, rd_of}
 use Rattle.linker_elf.specs.Value.{sum_64, difference_64}
