@@ -207,8 +207,8 @@ abbrev pub StoresTheSame : Action → (ℕ → Bool) → ℕ → Type 0
 StoresTheSame (stores n) differing r = differing r ≡ false
 StoresTheSame action differing r = ⊤
 
--- `lu12i.w rA`, `add.d rB, rA, tp`, and an instruction over rB that `BaseToTp` is meant for. A store
--- stores neither rA nor rB, which have parts of the address.
+-- `lu12i.w rA`, `add.d rB, rA, tp`, and an instruction over rB that `BaseToTp` is meant for. A
+-- store stores neither rA nor rB, which have parts of the address.
 pub record IsLocalExec (lu12i add low : ℕ) : Type 0 where
   pub first : IsLu12i lu12i
   pub second : IsAddTp add
@@ -227,8 +227,8 @@ pub record HaveShortened (differing : ℕ → Bool) (at new_at : ℕ) (s t : Sta
   pub next : s.pc ≡ at
   pub new_next : t.pc ≡ new_at
 
--- The low half over `tp`, once the `lu12i.w` and the `add.d` are deleted. Only rA and rB may differ,
--- unless the instruction writes them.
+-- The low half over `tp`, once the `lu12i.w` and the `add.d` are deleted. Only rA and rB may
+-- differ, unless the instruction writes them.
 abbrev pub ShorterLocalExec : Type 0
 ShorterLocalExec =
     (x y : Operands) (s t : State) (lu12i add low base : List ℕ) → AreAddresses x

@@ -60,8 +60,8 @@ go_on s = go_to (next_pc s) s
 
 -- ---- what an instruction does with a sum
 
--- What is done with the sum of the source register and the immediate. Loads and stores have a number
--- of bytes.
+-- What is done with the sum of the source register and the immediate. Loads and stores have a
+-- number of bytes.
 pub data Action : Type 0 where
   -- `addi.d`; `addi.w`, whose sum has 32 bits
   adds : Action

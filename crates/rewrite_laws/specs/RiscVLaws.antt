@@ -317,8 +317,8 @@ LowPartFromThreadPointer =
     (section : List ℕ) (o : ℕ) → riscv_matches kinds.BaseToTp section o
     → IsSomeAnd (action_at section o) (FromThreadPointer section o)
 
--- `lui rA`, `add rB, rA, tp`, and an instruction over rB that `BaseToTp` is meant for, one behind the
--- other from an offset on. rA isn't the thread pointer.
+-- `lui rA`, `add rB, rA, tp`, and an instruction over rB that `BaseToTp` is meant for, one behind
+-- the other from an offset on. rA isn't the thread pointer.
 pub record IsLocalExec (section : List ℕ) (o : ℕ) : Type 0 where
   pub first : HasWord section o IsLui
   pub second : HasWord section (o + 4) IsAddTp
