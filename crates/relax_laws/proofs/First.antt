@@ -11,7 +11,7 @@ use Rattle.linker_relax.specs.Deleting.{deletion_at, deletions_before}
 use Rattle.linker_relax.proofs.Layouts.{ends_ascend}
 use Rattle.linker_utils.proofs.Packed.{rank-kept, rank-gone}
 use Rattle.relax_laws.specs.FirstBytes.{FirstBytesAreKept}
-use Rattle.relax_laws.proofs.Covering.{takes, losing, lost, Loses}
+use Rattle.relax_laws.proofs.Covering.{takes, losing, lost}
 use Rattle.relax_laws.proofs.Reaching.{loses_some, loses_none}
 
 -- ---- what an item loses
