@@ -8,7 +8,7 @@
  * - entries.c: rewrites, the GOT, thread-local storage, indirect functions and thunks
  * - relax.c: what is deleted of RISC-V and LoongArch code
  * - relocate.c: values, and the instructions of AArch64 that depend on them
- * - output.c: the table of unwind information, and the file
+ * - output.c: the table of unwind information, and the file with its symbols
  *
  * The first error ends it, and it never frees memory. */
 #ifndef LINK_H
@@ -46,6 +46,7 @@ struct output {
     uint8_t *bytes;
     bool has_bytes, is_placed, shrinks; /* in the file; by the command line; code that relaxes */
     unsigned rank, priority;            /* its place among the others */
+    uint16_t index;                     /* of its header; 0 where it has none */
     struct relocation *relocations;
     struct linker_utils_delta *deltas;
     struct linker_utils_block_head *heads; /* of the deltas */
@@ -129,6 +130,7 @@ struct tls {
 
 extern uint16_t machine;
 extern uint32_t machine_flags;
+extern bool relaxes; /* whether instructions are rewritten that need not be */
 extern struct object *objects; /* in the order of the arguments */
 extern struct symbol *symbols; /* all that objects mention, in their order */
 extern struct output *outputs[256], *headers, *got, *stubs, *slots, *irelatives, *frames, *index_of;
@@ -164,6 +166,6 @@ void shrink(struct output *o, uint64_t slack), relocate(struct output *o);
 int64_t value_of(const struct output *o, const struct relocation *r);
 bool is_left_out(const struct relocation *r);
 uint64_t read_frames(const struct section *s, const uint8_t *bytes, uint8_t *rows);
-void index_frames(void), write_file(const char *path, uint64_t entry);
+void index_frames(void), write_file(const char *path, uint64_t entry, bool has_symbols);
 
 #endif

@@ -10,7 +10,7 @@ static struct linker_utils_section_relocation seen(const struct output *o,
     return (struct linker_utils_section_relocation){
         .offset = r->offset, .target = target, .addend = r->addend, .r_type = r->type,
         .has_symbol = s && s != *r->section->object->symbols,
-        .has_target = s && s->output == o && s->offset <= o->len && target <= o->len};
+        .has_target = relaxes && s && s->output == o && s->offset <= o->len && target <= o->len};
 }
 
 /* The relocation of the short instruction that a call or an address can become; 0 of an alignment
@@ -30,7 +30,8 @@ static bool makes_item(const struct relocation *r) {
 static bool is_near(const struct output *o, const struct relocation *r, uint64_t slack) {
     const struct symbol *s = r->symbol;
     struct linker_utils_relocation_reach reach;
-    if (!s || !shorter(r) || !s->output || s->output == o || s->offset == END) return false;
+    if (!relaxes || !s || !shorter(r)) return false;
+    if (!s->output || s->output == o || s->offset == END) return false;
     uint64_t target = s->output->address + s->offset + (uint64_t)r->addend;
     int64_t distance = (int64_t)(target - (o->address + r->offset));
     check(r, linker_utils_reach(machine, shorter(r), &reach));

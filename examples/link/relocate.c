@@ -113,7 +113,7 @@ static void relocate_uleb128(const struct relocation *r, uint64_t value, uint8_t
 void relocate(struct output *o) {
     struct relocation *end = o->relocations + o->relocations_len;
     for (struct relocation *r = o->relocations; r < end; r++) {
-        if (machine == EM_AARCH64 && r + 1 < end) rewrite_aarch64(o, r, r + 1);
+        if (relaxes && machine == EM_AARCH64 && r + 1 < end) rewrite_aarch64(o, r, r + 1);
         const struct row *row = row_of(r);
         if (row->info.kind == LINKER_UTILS_KIND_NONE || is_left_out(r) ||
             row->info.kind == LINKER_UTILS_KIND_ALIGNMENT ||

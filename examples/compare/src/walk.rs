@@ -422,14 +422,10 @@ impl<'a> Side<'a> {
             }
             let (from, address) = *map.last().unwrap_or(&(0, 0));
             let place = address.wrapping_add(one.offset).wrapping_sub(from);
-            let row = architecture.row(one.code);
-            if let Some((nops, to)) =
-                row.and_then(|row| made::alignment(row, one.symbol != 0, one.addend))
+            if let Some((nops, kept)) = made::alignment(architecture, one, place)
+                && kept < nops
             {
-                let kept = place.wrapping_neg() % to;
-                if kept < nops {
-                    map.push((one.offset + nops, place.wrapping_add(kept)));
-                }
+                map.push((one.offset + nops, place.wrapping_add(kept)));
             }
             let is_skipped = std::mem::take(&mut skipped);
             if is_skipped || made::is_mark(architecture, one.code) {
@@ -441,6 +437,7 @@ impl<'a> Side<'a> {
                 all[index] = if one.offset < covered {
                     Made::Part
                 } else {
+                    let row = architecture.row(one.code);
                     let len = row.map_or(4, |row| row.window().max(4));
                     let bytes = self.linked.bytes_at(place).unwrap_or(&[]);
                     Made::Unknown(bytes[..bytes.len().min(len)].to_vec())
@@ -582,22 +579,14 @@ impl<'a> Side<'a> {
                     };
                     let is_sure = target == Target::AsWritten;
                     let is_through_got = field.is_some_and(|field| field.is_through_got());
-                    match best {
-                        Some(best) if best.is_sure() => {
-                            if is_sure && is_alone && best.is_through_got != is_through_got {
-                                best.other = Some(chosen.relocation);
-                            }
-                        }
-                        _ if is_sure || best.is_none() => {
-                            let other = None;
-                            let found =
-                                Found { first, chosen, other, is_through_got, target, start, end };
-                            *best = Some(found);
-                            if is_sure && !is_alone {
-                                return;
-                            }
-                        }
-                        _ => {}
+                    if let Some(best) = best.as_mut().filter(|best| best.is_sure()) {
+                        let is_other =
+                            is_sure && is_alone && best.is_through_got != is_through_got;
+                        best.other = best.other.or(is_other.then_some(chosen.relocation));
+                    } else if is_sure || best.is_none() {
+                        let other = None;
+                        *best =
+                            Some(Found { first, chosen, other, is_through_got, target, start, end });
                     }
                 }
                 if best.as_ref().is_some_and(Found::is_sure) {

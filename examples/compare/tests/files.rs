@@ -136,14 +136,11 @@ fn relaxed_code_differs_at_the_counted_places() {
     );
     for ((head, line), (_, [before, after])) in named.iter().zip(counted) {
         let [a, b] = &line.made;
-        // ld.lld lets a call of a weak symbol that nothing defines go to itself
-        let end = if head.ends_with(" absent") { " to 0 bytes from its place" } else { "" };
         let said = report::words(line, b);
-        let said = said.strip_suffix(end).unwrap();
-        let known = REWRITES.iter().any(|rewrite| *rewrite == (before, after, said));
+        let known = REWRITES.iter().any(|rewrite| *rewrite == (before, after, &said[..]));
         assert!(known, "{head}: {before} is {after}, and {said}");
         let wanted = if head.contains("GOT") { "as it was (through the GOT)" } else { "as it was (direct)" };
-        assert_eq!(report::words(line, a), format!("{wanted}{end}"), "{head}");
+        assert_eq!(report::words(line, a), wanted, "{head}");
     }
 }
 
@@ -243,6 +240,48 @@ fn another_symbols_got_entry_is_found() {
         assert!(lines.iter().any(|line| report::words(line, &line.made[1]).ends_with("said")), "{way}");
     }
     assert!(named > 0);
+}
+
+/// `adrp` and `ldr` of a GOT entry become `adrp` and `add`, where the entry is in the symbol's page.
+#[test]
+fn a_high_part_is_told_by_its_low_half() {
+    let way = "aarch64/gcc-O2-PIC";
+    let inputs = objects_of(way);
+    let plain = linked(way, "plain");
+    let at = addresses(&plain);
+    let file = Parsed::parse(&plain[..]).unwrap();
+    let got = file.section_by_name(".got").unwrap();
+    assert_eq!(got.address() >> 12, (got.address() + got.size() - 1) >> 12);
+    assert_eq!(got.address() >> 12, at["swaps"] >> 12);
+    let all = elf::read_objects("main.o", &inputs[1].1).unwrap();
+    let main = all[0].symbols.iter().find(|one| one.name == "main").unwrap();
+    let elf::Home::Section(section) = main.home else { panic!() };
+    let of_swaps = |code: u32| {
+        let mut found = all[0].sections[section].relocations.iter();
+        found.find(|one| one.code == code && all[0].symbols[one.symbol].name == "swaps").unwrap()
+    };
+    // R_AARCH64_ADR_GOT_PAGE, and R_AARCH64_LD64_GOT_LO12_NC
+    let (high, low) = (of_swaps(311), of_swaps(312));
+    let mut planted = plain.clone();
+    let field = file_offset(&plain, at["main"] + low.offset - main.value);
+    let load = u32::from_le_bytes(plain[field..field + 4].try_into().unwrap());
+    assert_eq!(load >> 22, 0xf9400000 >> 22);
+    let add = 0x91000000 | ((at["swaps"] & 0xfff) as u32) << 10 | (load & 0x3ff);
+    planted[field..field + 4].copy_from_slice(&add.to_le_bytes());
+    let (lines, _) = differences(&inputs, &plain, &planted);
+    let said: String = lines.iter().map(text).collect();
+    let (high, low) = (high.offset - main.value, low.offset - main.value);
+    let wanted = format!(
+        "\
+main.o: main+{high:#x}  R_AARCH64_ADR_GOT_PAGE swaps
+    A: as it was (through the GOT)
+    B: as R_AARCH64_ADR_PREL_PG_HI21 (direct)
+main.o: main+{low:#x}  R_AARCH64_LD64_GOT_LO12_NC swaps
+    A: as it was (through the GOT)
+    B: LdrToAdd (direct)
+"
+    );
+    assert_eq!(said, wanted);
 }
 
 struct Random(u64);

@@ -1,14 +1,14 @@
 """Relocatable ELF64 objects, read by their tables alone."""
 import struct
 
-SHF_ALLOC, SHF_EXECINSTR = 2, 4
+CODE = 2 | 4  # SHF_ALLOC, SHF_EXECINSTR
 MARKS = {"riscv64": {43, 51}, "loongarch64": {100, 102}}  # ALIGN and RELAX
 
 
 class Section:
-    def __init__(self, name, kind, flags, size, link, info, align, data):
+    def __init__(self, name, kind, flags, address, size, link, info, align, data):
         self.name, self.kind, self.flags, self.size = name, kind, flags, size
-        self.link, self.info, self.align, self.data = link, info, align, data
+        self.address, self.link, self.info, self.align, self.data = address, link, info, align, data
         self.relocations = []  # offset, type, index of the symbol, addend
 
 
@@ -24,16 +24,16 @@ class Object:
             return file[at:file.index(b"\0", at)].decode()
 
         self.sections = [
-            Section(text(names, h[0]), h[1], h[2], h[5], h[6], h[7], h[8],
+            Section(text(names, h[0]), h[1], h[2], h[3], h[5], h[6], h[7], h[8],
                     file[h[4]:h[4] + h[5]] if h[1] != 8 else b"")
             for h in heads]
-        self.symbols = []  # name, type, is local, section, value
+        self.symbols = []  # name, type, binding, section, value
         for section in self.sections:
             if section.kind == 2:
                 for at in range(0, section.size, 24):
                     name, info, _, home, value, _ = struct.unpack_from("<IBBHQQ", section.data, at)
                     name = text(section.link, name)
-                    self.symbols.append((name, info & 15, info >> 4 == 0, home, value))
+                    self.symbols.append((name, info & 15, info >> 4, home, value))
         for section in self.sections:
             if section.kind == 4:
                 of = self.sections[section.info].relocations
@@ -44,9 +44,8 @@ class Object:
 
     def code(self):
         """The index of each section of code that has relocations."""
-        flags = SHF_ALLOC | SHF_EXECINSTR
         return [index for index, section in enumerate(self.sections)
-                if section.relocations and section.flags & flags == flags]
+                if section.relocations and section.flags & CODE == CODE]
 
     def symbol(self, index, addend):
         """The symbol and the addend of a relocation."""
