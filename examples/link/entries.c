@@ -176,7 +176,8 @@ void read_relocations(struct section *s) {
             fail("%s: undefined symbol '%s'", place_of(r), r->symbol->name);
         if (row->info.kind == LINKER_UTILS_KIND_ALIGNMENT && !s->output->shrinks)
             fail("%s is not supported", place_of(r));
-        if (row->asks_for_got) r->entry = entry_of(r, row->info.kind);
+        bool is_direct = machine == EM_RISCV && row->info.kind == LINKER_UTILS_KIND_TLS_DESC;
+        if (row->asks_for_got && !is_direct) r->entry = entry_of(r, row->info.kind);
         if (row->info.kind && is_ifunc(r->symbol)) r->symbol->needs_stub = true;
         if (r->restores_toc && is_ifunc(r->symbol)) r->addend -= 4;
         bool is_page = i && r[-1].type == R_AARCH64_ADR_GOT_PAGE;

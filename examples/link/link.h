@@ -32,6 +32,7 @@
 /* relocation types that older versions of <elf.h> lack */
 enum { LARCH_PCALA_HI20 = 71, LARCH_PCALA_LO12 = 72, LARCH_RELAX = 100, LARCH_ALIGN = 102 };
 enum { LARCH_B26 = 66, LARCH_PCREL20_S2 = 103, LARCH_CALL36 = 110, PPC64_REL24_NOTOC = 116 };
+enum { RISCV_TLSDESC_HI20 = 62, RISCV_TLSDESC_CALL = 65 };
 
 /* the order of the sections of the linked file; there are three kinds of arrays */
 enum { RANK_HEADERS, RANK_FIXED, RANK_CODE, RANK_TLS, RANK_TLS_BSS, RANK_ARRAYS, RANK_RELOCATED = 8,
@@ -39,17 +40,29 @@ enum { RANK_HEADERS, RANK_FIXED, RANK_CODE, RANK_TLS, RANK_TLS_BSS, RANK_ARRAYS,
 
 #define fail(...) (fprintf(stderr, __VA_ARGS__), fputc('\n', stderr), exit(1))
 
+/* Sections that are relaxed together, one behind the other from `start` on: all of the linked file,
+ * as far as the addresses of the command line allow it. Their offsets in it count from before bytes
+ * are deleted. */
+struct run {
+    uint64_t start;
+    struct linker_utils_delta *deltas;
+    struct linker_utils_block_head *heads; /* of the deltas */
+    size_t deltas_len, heads_len;
+};
+
 /* A section of the linked file. Offsets in it count from before bytes are deleted. */
 struct output {
     const char *name;
-    uint64_t flags, align, len, room, address;
+    uint64_t flags, align, len, room, place, address; /* (before code is shorter, as if it stayed) */
     uint8_t *bytes;
+    struct run *run;
+    uint64_t base; /* its offset in the run */
+    struct linker_utils_item before; /* the alignment before it; its length is 0 where there is none */
+    size_t items_len;
     bool has_bytes, is_placed, shrinks; /* in the file; by the command line; code that relaxes */
     unsigned rank, priority;            /* its place among the others */
     struct relocation *relocations;
-    struct linker_utils_delta *deltas;
-    struct linker_utils_block_head *heads; /* of the deltas */
-    size_t relocations_len, relocations_room, deltas_len, heads_len;
+    size_t relocations_len, relocations_room;
 };
 
 struct object {
@@ -111,7 +124,7 @@ struct relocation {
     uint64_t offset; /* in the output */
     int64_t addend;
     uint32_t type;
-    bool is_jump, restores_toc; /* a RISC-V call that becomes a jump; PowerPC64: by its `nop` */
+    bool restores_toc; /* PowerPC64: by its `nop` */
 };
 
 /* What the library says of a relocation type. */
@@ -152,15 +165,18 @@ void load_members(void), list_symbols(void), define_symbols(void), place_symbol(
 
 struct output *output_of(const char *name);
 struct relocation *add_relocations(struct output *o, size_t len);
-uint64_t make_room(struct output *o, uint64_t align, uint64_t len), place_outputs(void);
+uint64_t code_unit(void), make_room(struct output *o, uint64_t align, uint64_t len);
 uint64_t address_of(const struct output *o, uint64_t offset);
+void place_outputs(void), set_addresses(void);
 void add_section(struct section *s), copy_section(struct section *s), sort_outputs(void);
 
 void read_relocations(struct section *s), make_entries(void);
 bool add_thunks(void);
 uint32_t rewrite(const struct relocation *r, uint8_t *bytes, uint64_t len, uint64_t *offset,
                  int64_t *addend, uint32_t *type, const struct linker_utils_link_facts *facts);
-void shrink(struct output *o, uint64_t slack), relocate(struct output *o);
+bool is_marked(const struct output *o, const struct relocation *r);
+void relax(void), relocate(struct output *o);
+struct relocation *high_part(const struct output *o, const struct relocation *low);
 int64_t value_of(const struct output *o, const struct relocation *r);
 bool is_left_out(const struct relocation *r);
 uint64_t read_frames(const struct section *s, const uint8_t *bytes, uint8_t *rows);

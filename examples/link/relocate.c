@@ -52,14 +52,16 @@ static void rewrite_aarch64(struct output *o, struct relocation *page, struct re
 }
 
 /* The high part that a low one of RISC-V means by its label. */
-static const struct relocation *high_part(const struct output *o, const struct relocation *low) {
-    const struct relocation *r = low, *first = o->relocations, *end = first + o->relocations_len;
+struct relocation *high_part(const struct output *o, const struct relocation *low) {
+    struct relocation *first = o->relocations, *end = first + o->relocations_len;
+    struct relocation *r = first + (low - first);
     uint64_t at = low->symbol->offset;
     while (r > first && r->offset >= at) r--;
     for (; r < end && low->symbol->output == o; r++)
         if (r->offset == at &&
             (r->type == R_RISCV_PCREL_HI20 || r->type == R_RISCV_GOT_HI20 ||
-             r->type == R_RISCV_TLS_GOT_HI20 || r->type == R_RISCV_TLS_GD_HI20))
+             r->type == R_RISCV_TLS_GOT_HI20 || r->type == R_RISCV_TLS_GD_HI20 ||
+             r->type == RISCV_TLSDESC_HI20))
             return r;
     fail("%s: no high part at '%s'", place_of(low), low->symbol->name);
 }
