@@ -128,7 +128,8 @@ static struct entry *entry_of(const struct relocation *r, uint32_t kind) {
 static bool waits(const struct row *row, const Elf64_Rela *r, const Elf64_Rela *next) {
     bool is_marked = next && next->r_offset == r->r_offset && next->r_info == LARCH_RELAX;
     return row->info.kind < LINKER_UTILS_KIND_TLS_GD &&
-           (machine == EM_AARCH64 || (machine == EM_LOONGARCH && !is_marked));
+           (machine == EM_AARCH64 ||
+            (machine == EM_LOONGARCH && row->asks_for_got && !is_marked));
 }
 
 /* Reads the relocations of a section, and rewrites instructions where that needs no address. */

@@ -157,19 +157,18 @@ static void align_next(struct place *p, struct output *o, uint64_t align) {
 }
 
 /* Puts the next section at its address. Behind code that becomes shorter an alignment comes first,
- * which ends at one address wherever the code ends. If there is none, another run begins. */
+ * which ends at one address wherever the code ends. Where there is no room for one, another run
+ * begins. */
 static void place_next(struct place *p, struct output *o) {
     uint64_t align = code_unit();
-    while (align < UINT32_MAX / 2 && round_up(p->low + 1, align) != round_up(p->high, align))
-        align *= 2;
-    uint64_t end = round_up(p->high, align);
-    if (p->low != p->high && round_up(p->low + 1, align) == end && end <= o->place) {
+    while (align <= p->high - p->low) align *= 2;
+    uint64_t end = o->place & ~(align - 1);
+    if (p->low != p->high && end >= p->high && align < UINT32_MAX / 2) {
+        skip(p, end - p->high);
         align_next(p, o, align);
-        p->low = p->high;
     }
     if (!p->run || p->low != p->high || p->high > o->place) begin_run(p, o->place);
-    p->at += o->place - p->high;
-    p->low = p->high = o->place;
+    skip(p, o->place - p->high);
 }
 
 static int by_place(const void *left, const void *right) {

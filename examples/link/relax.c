@@ -129,7 +129,7 @@ static void pack(struct output *o, const struct linker_utils_item *items, const 
     for (size_t i = 0; i < o->items_len; i++) {
         bool is_site = items[i].kind == LINKER_UTILS_ITEM_SITE;
         if (is_site && items[i].shapes.count && kept[i] < items[i].len) shorten(o, of[i], kept[i]);
-        if (!is_site && of[i]->section)
+        if (!is_site && of[i]->section && kept[i] < items[i].len)
             write_nops(o->bytes + (items[i].offset - o->base), kept[i]);
     }
     const struct run *run = o->run;
