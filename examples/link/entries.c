@@ -127,9 +127,34 @@ static struct entry *entry_of(const struct relocation *r, uint32_t kind) {
  * that the GOT is as ld.lld's; on LoongArch those that R_LARCH_RELAX doesn't mark. */
 static bool waits(const struct row *row, const Elf64_Rela *r, const Elf64_Rela *next) {
     bool is_marked = next && next->r_offset == r->r_offset && next->r_info == LARCH_RELAX;
-    return row->info.kind < LINKER_UTILS_KIND_TLS_GD &&
-           (machine == EM_AARCH64 ||
-            (machine == EM_LOONGARCH && row->asks_for_got && !is_marked));
+    return row->info.kind && row->info.kind < LINKER_UTILS_KIND_TLS_GD &&
+           (machine == EM_AARCH64 || (machine == EM_LOONGARCH && !is_marked));
+}
+
+/* PowerPC64: the section `.toc` that has the address of a relocation, and the offset there; null where
+ * none of the same object has it. */
+struct section *toc_section(const struct relocation *r, uint64_t *offset) {
+    const struct symbol *s = r->symbol;
+    if (s->object != r->section->object || s->elf.st_shndx >= s->object->sections_len) return NULL;
+    struct section *toc = &s->object->sections[s->elf.st_shndx];
+    *offset = s->elf.st_value + (uint64_t)r->addend;
+    return !strcmp(toc->name, ".toc") && toc->output && *offset < toc->head->sh_size ? toc : NULL;
+}
+
+/* PowerPC64: looks whether the instruction with the low half of an address is one that can do without
+ * the high half, and whether it loads a doubleword of the TOC. All uses of one have to be alike. */
+static void note_low_half(const struct relocation *r, const uint8_t *bytes, uint64_t len) {
+    uint64_t offset, at = r->offset - r->section->offset;
+    if (r->type != R_PPC64_TOC16_LO && r->type != R_PPC64_TOC16_LO_DS) return;
+    if (linker_utils_matches(machine, LINKER_UTILS_PPC64_REWRITE_BASE_TO_TOC, 0, bytes, len, at))
+        r->section->object->has_other_low_halves = true;
+    struct section *toc = toc_section(r, &offset);
+    if (!toc || (r->type == R_PPC64_TOC16_LO_DS &&
+                 !linker_utils_matches(machine, LINKER_UTILS_PPC64_REWRITE_LD_TO_ADDI, 0, bytes, len,
+                                       at)))
+        return;
+    if (!toc->words_kept) toc->words_kept = take(toc->head->sh_size / 8 + 1, 1);
+    toc->words_kept[offset / 8] = 1;
 }
 
 /* Reads the relocations of a section, and rewrites instructions where that needs no address. */
@@ -154,6 +179,7 @@ void read_relocations(struct section *s) {
         bool is_here = is_defined(of) && of->elf.st_shndx != SHN_ABS;
         if (!is_code || !r->type || waits(row_of(r), elf + i, i + 1 < len ? elf + i + 1 : NULL))
             continue;
+        if (machine == EM_PPC64) note_low_half(r, bytes, size);
         struct linker_utils_link_facts facts = {
             .is_local = is_here, .has_fixed_address = is_here, .has_fixed_distance = is_here,
             .is_executable = 1, .has_local_exec_base = 1, .operands.addend = r->addend};

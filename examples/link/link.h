@@ -74,16 +74,18 @@ struct object {
     struct symbol **symbols;
     size_t len, sections_len, symbols_len;
     int place; /* which argument it is of */
+    bool has_other_low_halves; /* PowerPC64: not all can be over the TOC pointer */
 };
 
 struct section {
-    const struct object *object;
+    struct object *object;
     const char *name;
     const Elf64_Shdr *head, *relocations; /* null where it has none */
     struct output *output;                /* null where it is left out */
     uint64_t offset, end;                 /* in the output */
     bool is_duplicate;                    /* of a group that another object has too */
     bool has_lone_got_halves; /* AArch64: not all `adrp` and `ldr` of GOT entries are pairs */
+    uint8_t *words_kept; /* PowerPC64, of `.toc`: for each doubleword 1 if not only `ld`s are of it */
 };
 
 struct archive {
@@ -125,6 +127,7 @@ struct relocation {
     int64_t addend;
     uint32_t type;
     bool restores_toc; /* PowerPC64: by its `nop` */
+    bool keeps_entry; /* RISC-V: an `auipc` whose loads from the GOT stay */
 };
 
 /* What the library says of a relocation type. */
@@ -171,6 +174,7 @@ void place_outputs(void), set_addresses(void);
 void add_section(struct section *s), copy_section(struct section *s), sort_outputs(void);
 
 void read_relocations(struct section *s), make_entries(void);
+struct section *toc_section(const struct relocation *r, uint64_t *offset);
 bool add_thunks(void);
 uint32_t rewrite(const struct relocation *r, uint8_t *bytes, uint64_t len, uint64_t *offset,
                  int64_t *addend, uint32_t *type, const struct linker_utils_link_facts *facts);
