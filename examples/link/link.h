@@ -27,6 +27,7 @@
 #define BASE UINT64_C(0x400000)         /* where the file's header is, if no section is placed */
 #define HEADERS UINT64_C(0x400)         /* room for the headers there */
 #define MOST_BYTES UINT64_C(0x40000000) /* of a file and of a section */
+#define NO_ENTRY (UINT64_C(1) << 63)    /* the address of a GOT entry that nothing reaches */
 #define END UINT64_MAX                  /* the offset of a section's end, wherever that will be */
 
 /* relocation types that older versions of <elf.h> lack */
@@ -85,7 +86,7 @@ struct section {
     uint64_t offset, end;                 /* in the output */
     bool is_duplicate;                    /* of a group that another object has too */
     bool has_lone_got_halves; /* AArch64: not all `adrp` and `ldr` of GOT entries are pairs */
-    uint8_t *words_kept; /* PowerPC64, of `.toc`: for each doubleword 1 if not only `ld`s are of it */
+    uint8_t *words_kept; /* PowerPC64, `.toc`: 1 for a doubleword that not only `ld`s refer to */
 };
 
 struct archive {
@@ -135,6 +136,7 @@ struct row {
     struct linker_utils_relocation_info info;
     enum linker_utils_role role;
     bool is_known, asks_for_got, may_use_plt;
+    bool loads_plt; /* PowerPC64: of code that itself loads what the PLT has */
 };
 
 /* The TLS segment: where its image is, its length and alignment, the thread pointer, and the origin
