@@ -8,7 +8,7 @@
  * - entries.c: rewrites, the GOT, thread-local storage, indirect functions and thunks
  * - relax.c: what is deleted of RISC-V and LoongArch code
  * - relocate.c: values, and the instructions of AArch64 that depend on them
- * - output.c: the table of unwind information, and the file
+ * - output.c: the table of unwind information, and the file with its symbols
  *
  * The first error ends it, and it never frees memory. */
 #ifndef LINK_H
@@ -54,14 +54,16 @@ struct run {
 /* A section of the linked file. Offsets in it count from before bytes are deleted. */
 struct output {
     const char *name;
-    uint64_t flags, align, len, room, place, address; /* (before code is shorter, as if it stayed) */
+    uint64_t flags, align, len, room;
+    uint64_t place, address; /* by the command line; and at last, or if all bytes stayed */
     uint8_t *bytes;
     struct run *run;
-    uint64_t base; /* its offset in the run */
-    struct linker_utils_item before; /* the alignment before it; its length is 0 where there is none */
-    size_t items_len;
+    uint64_t base;                   /* its offset in the run */
+    struct linker_utils_item before; /* the alignment before it; of length 0 where there is none */
+    size_t items_len;                /* in it */
     bool has_bytes, is_placed, shrinks; /* in the file; by the command line; code that relaxes */
     unsigned rank, priority;            /* its place among the others */
+    uint16_t index;                     /* of its header; 0 where it has none */
     struct relocation *relocations;
     size_t relocations_len, relocations_room;
 };
@@ -147,6 +149,7 @@ struct tls {
 
 extern uint16_t machine;
 extern uint32_t machine_flags;
+extern bool relaxes; /* whether instructions are rewritten that need not be */
 extern struct object *objects; /* in the order of the arguments */
 extern struct symbol *symbols; /* all that objects mention, in their order */
 extern struct output *outputs[256], *headers, *got, *stubs, *slots, *irelatives, *frames, *index_of;
@@ -186,6 +189,6 @@ struct relocation *high_part(const struct output *o, const struct relocation *lo
 int64_t value_of(const struct output *o, const struct relocation *r);
 bool is_left_out(const struct relocation *r);
 uint64_t read_frames(const struct section *s, const uint8_t *bytes, uint8_t *rows);
-void index_frames(void), write_file(const char *path, uint64_t entry);
+void index_frames(void), write_file(const char *path, uint64_t entry, bool has_symbols);
 
 #endif

@@ -228,8 +228,8 @@ void relocate(struct output *o) {
     struct relocation *end = o->relocations + o->relocations_len;
     if (machine == EM_RISCV) rewrite_riscv(o);
     for (struct relocation *r = o->relocations; r < end; r++) {
-        if (machine == EM_AARCH64 && r + 1 < end) rewrite_aarch64(o, r, r + 1);
-        if (machine == EM_PPC64) rewrite_ppc64(o, r);
+        if (relaxes && machine == EM_AARCH64 && r + 1 < end) rewrite_aarch64(o, r, r + 1);
+        if (relaxes && machine == EM_PPC64) rewrite_ppc64(o, r);
         const struct row *row = row_of(r);
         if (row->info.kind == LINKER_UTILS_KIND_NONE || is_left_out(r) ||
             row->info.kind == LINKER_UTILS_KIND_ALIGNMENT ||
