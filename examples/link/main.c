@@ -68,7 +68,7 @@ int main(int argc, char **argv) {
         if (sscanf(argv[i], "--section-start=%*[^=]%n=%" SCNx64, &end, &address) == 1) {
             argv[i][end] = 0;
             struct output *placed = output_of(argv[i] + strlen("--section-start="));
-            placed->address = address;
+            placed->place = address;
             is_placed = placed->is_placed = true;
         } else if (!strcmp(argv[i], "-s")) {
             has_symbols = false;
@@ -100,11 +100,9 @@ int main(int argc, char **argv) {
         for (size_t i = 0; i < o->sections_len; i++) copy_section(&o->sections[i]);
     for (struct symbol *s = symbols; s; s = s->later) place_symbol(s);
     make_entries();
-    uint64_t slack = place_outputs();
-    for (size_t i = 0; i < outputs_len; i++)
-        if (outputs[i]->shrinks) shrink(outputs[i], slack);
     do place_outputs();
     while (add_thunks());
+    relax();
     for (size_t i = 0; i < outputs_len; i++) relocate(outputs[i]);
     index_frames();
     struct symbol *start = *global("_start");
