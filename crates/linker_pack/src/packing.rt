@@ -19,8 +19,7 @@ ghost use Rattle.linker_pack.specs.Inner.Packing.{IsFilled, AreReady};
 
 use crate::code::Code;
 use crate::copying::copy_kept;
-use crate::loongarch64;
-use crate::riscv64;
+use crate::{loongarch64, riscv64};
 use linker_base::relaxation::{DeltaSlice, RelaxDelta};
 use linker_relax::relaxation::{Item, Site};
 

@@ -130,7 +130,15 @@ fn sections_of_riscv_are_packed_as_linkers_pack_them(rt: HostRuntime) -> Result<
     assert_eq!(rt; plan.kept.as_slice(), [0, 4, 2, 8, 14].as_slice());
     let deltas = plan.deletions.deltas();
     let machine = Machine::RiscV64;
-    expect(&rt, machine, &RISC_V, &items[1..], deltas, Ok(()), &RISC_V_PACKED);
+    expect(
+        &rt,
+        machine,
+        &RISC_V,
+        &items[1..],
+        deltas,
+        Ok(()),
+        &RISC_V_PACKED,
+    );
     Ok(())
 }
 
@@ -142,7 +150,15 @@ fn sections_of_loongarch_are_packed(rt: HostRuntime) -> Result<(), OutOfMemory> 
     assert_eq!(rt; plan.kept.as_slice(), [0, 4, 4, 4, 8, 8, 8].as_slice());
     let deltas = plan.deletions.deltas();
     let machine = Machine::LoongArch64;
-    expect(&rt, machine, &LOONGARCH, &items[1..], deltas, Ok(()), &LOONGARCH_PACKED);
+    expect(
+        &rt,
+        machine,
+        &LOONGARCH,
+        &items[1..],
+        deltas,
+        Ok(()),
+        &LOONGARCH_PACKED,
+    );
     Ok(())
 }
 
@@ -165,7 +181,15 @@ fn rejected_items_of_riscv_are_named(rt: HostRuntime) -> Result<(), OutOfMemory>
     let machine = Machine::RiscV64;
     for &(item, error) in &rows {
         let rejected = Err(RejectedItem { index: 1, error });
-        expect(&rt, machine, &RISC_V, &[items[1], item], deltas, rejected, &[0xee; 34]);
+        expect(
+            &rt,
+            machine,
+            &RISC_V,
+            &[items[1], item],
+            deltas,
+            rejected,
+            &[0xee; 34],
+        );
     }
     let overlaps = Err(RejectedItem {
         index: 2,
@@ -194,7 +218,15 @@ fn rejected_items_of_loongarch_are_named(rt: HostRuntime) -> Result<(), OutOfMem
     let machine = Machine::LoongArch64;
     for &(item, error) in &rows {
         let rejected = Err(RejectedItem { index: 1, error });
-        expect(&rt, machine, &LOONGARCH, &[items[1], item], deltas, rejected, &[0xee; 52]);
+        expect(
+            &rt,
+            machine,
+            &LOONGARCH,
+            &[items[1], item],
+            deltas,
+            rejected,
+            &[0xee; 52],
+        );
     }
     Ok(())
 }
@@ -208,11 +240,35 @@ fn items_of_which_two_bytes_stay_are_rejected(rt: HostRuntime) {
     // `c.j` links none
     let items = [site(0x100, 0x12a, CALL)];
     let deltas = all_but_two(0x100, 8);
-    expect(&rt, Machine::RiscV64, &RISC_V, &items, &deltas, no_shape, &[0xee; 38]);
+    expect(
+        &rt,
+        Machine::RiscV64,
+        &RISC_V,
+        &items,
+        &deltas,
+        no_shape,
+        &[0xee; 38],
+    );
     let machine = Machine::LoongArch64;
     let items = [site(0x100, 0x140, CALL36)];
-    expect(&rt, machine, &LOONGARCH, &items, &deltas, no_shape, &[0xee; 62]);
+    expect(
+        &rt,
+        machine,
+        &LOONGARCH,
+        &items,
+        &deltas,
+        no_shape,
+        &[0xee; 62],
+    );
     let items = [aligned(0x134, 12, 16)];
     let deltas = all_but_two(0x134, 12);
-    expect(&rt, machine, &LOONGARCH, &items, &deltas, no_shape, &[0xee; 58]);
+    expect(
+        &rt,
+        machine,
+        &LOONGARCH,
+        &items,
+        &deltas,
+        no_shape,
+        &[0xee; 58],
+    );
 }
