@@ -1,5 +1,5 @@
 -- What calls and addresses of LoongArch become.
-use Rattle.std.proofs.Common.{◌≡◌, ℕ, ◌+◌, ◌*◌, ◌^◌, ◌<◌, List, length, take, drop, refl, sym, subst, ◌∙◌, ap, arith, inl, inr, ℤ, pos, ◌+ℤ◌, Bool, true, false, int_lt, Some}
+use Rattle.std.proofs.Common.{◌≡◌, ℕ, ◌+◌, ◌*◌, ◌^◌, ◌<◌, List, length, take, drop, refl, subst, ◌∙◌, ap, arith, inl, inr, ℤ, pos, ◌+ℤ◌, Bool, true, false, int_lt, Some}
 use Rattle.std.specs.Prelude.{IsSomeAnd, ◌*ℤ◌, ◌⊎◌}
 use Rattle.std.specs.Int.{w32, w64, from_le_bytes, to_le_bytes}
 use Rattle.std.proofs.lemmas.Bool.{agree_below}
@@ -15,11 +15,10 @@ use Rattle.linker_elf.specs.declared.elf.Sign.TheVariants.{Signed}
 use Rattle.linker_elf.specs.declared.loongarch64.forms.LoongArch64Instruction.{LoongArch64Instruction}
 use Rattle.linker_elf.specs.declared.loongarch64.forms.LoongArch64Instruction.TheVariants.{Shift5, Branch26}
 use Rattle.linker_elf.specs.Value.{sum_64}
-use Rattle.linker_utils.specs.LoongArchOriginals.{IsCall, word_at}
 use Rattle.relocation_laws.specs.LoongArchLaws.{Branches, Calls, RelativeAddresses, page_and_low}
-use Rattle.relocation_laws.specs.Schemes.{IsApplied, IsAddress, AreAddresses}
+use Rattle.relocation_laws.specs.Schemes.{IsAddress, AreAddresses}
 use Rattle.linker_pack.specs.Sites.{operands_of, IsRelocated, IsOutOfReach}
-use Rattle.linker_pack.specs.LoongArchSites.{IsCall36At, IsPcalaAt, IsSiteAt, destination, branch_template, pcaddi_template, call_template, high_template, low_template, IsBranch, IsPcaddi, IsFarCall, IsFarAddress, ArePagesNear, LoongArchBecomes, LoongArchAccepts, LoongArchCause}
+use Rattle.linker_pack.specs.LoongArchSites.{IsCall36At, IsPcalaAt, IsSiteAt, destination, branch_template, pcaddi_template, call_template, IsBranch, IsPcaddi, IsFarCall, IsFarAddress, LoongArchBecomes, LoongArchAccepts, LoongArchCause}
 use Rattle.linker_pack.specs.LoongArchSites.{jump, call, far_call, address, far_address, short_call, long_call, short_address, long_address}
 use Rattle.linker_pack.specs.Inner.LoongArch.{IsKindAt, short_template, AreRelocated, IsLongOf, IsLongInReach}
 use Rattle.linker_pack.specs.declared.loongarch64.Kind.{Kind}

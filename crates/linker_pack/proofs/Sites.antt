@@ -1,5 +1,5 @@
 -- Relocations of instructions: what they keep, where their operands are, and which are in reach.
-use Rattle.std.proofs.Common.{◌≡◌, ℕ, ◌+◌, ◌-◌, ◌%◌, ◌^◌, ◌<◌, refl, ◌∙◌, ap, arith, ℤ, pos, ◌+ℤ◌, Bool, true, false}
+use Rattle.std.proofs.Common.{◌≡◌, ℕ, ◌+◌, ◌-◌, ◌%◌, ◌^◌, ◌<◌, ◌∙◌, ap, arith, ℤ, pos, ◌+ℤ◌, Bool, true, false}
 use Rattle.std.specs.Prelude.{◌*ℤ◌, IsSomeAnd, Option, Some, None}
 use Rattle.std.specs.Int.{bit_at}
 use Rattle.std.proofs.lemmas.Bool.{agree_below, agree_below_at}

@@ -1,4 +1,4 @@
-use Rattle.std.proofs.Common.{◌∙◌, inl, subst, sym, arith}
+use Rattle.std.proofs.Common.{◌∙◌, inl, subst, arith}
 use Rattle.linker_pack.specs.Sites.{IsRelocated, IsOutOfReach}
 use Rattle.linker_pack.specs.Inner.Pieces.{code_bytes}
 use Rattle.linker_pack.proofs.LoongArch.{becomes_short, becomes_long, short_accepts, long_accepts, short_rejected, kind_is_site}
@@ -19,10 +19,12 @@ returns-in-Some-relocated-clause-accepts c =
     (subst (λ t. IsRelocated t c.args.place c.args.target (code_bytes code)) c.short_of.ensures.template c.in-Some-relocated.ensures.applied)
 
 pub returns-in-None-clause-rejected : goal.returns-in-None-clause-rejected
-returns-in-None-clause-rejected c =
-    (kind_is_site c.args.section.now c.args.offset c.in-Some.kind c.in-Some.ensures, inl c.in-4.is,
-    short_rejected c.args.section.now c.args.offset c.args.kept c.args.place c.args.target c.in-Some.kind c.in-Some.ensures c.in-4.is
-    (subst (λ t. IsOutOfReach t c.args.place c.args.target) c.short_of.ensures.template c.in-None.ensures.applied))
+returns-in-None-clause-rejected c = (
+  kind_is_site c.args.section.now c.args.offset c.in-Some.kind c.in-Some.ensures,
+  inl c.in-4.is,
+  short_rejected c.args.section.now c.args.offset c.args.kept c.args.place c.args.target c.in-Some.kind c.in-Some.ensures c.in-4.is
+      (subst (λ t. IsOutOfReach t c.args.place c.args.target) c.short_of.ensures.template c.in-None.ensures.applied),
+)
 
 pub returns-in-Some-long_of-clause-becomes : goal.returns-in-Some-long_of-clause-becomes
 returns-in-Some-long_of-clause-becomes c =

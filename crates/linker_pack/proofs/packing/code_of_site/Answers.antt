@@ -2,7 +2,7 @@ use Rattle.std.proofs.Common.{◌≡◌, ◌+◌, ◌-◌, ◌%◌, ◌^◌, ℕ
 use Rattle.linker_base.specs.Deltas.{deletions_of}
 use Rattle.linker_base.specs.Deletions.{rank}
 use Rattle.linker_pack.specs.LoongArchSites.{LoongArchAccepts}
-use Rattle.linker_pack.specs.Packing.{section_of, address_of, SiteAccepts}
+use Rattle.linker_pack.specs.Packing.{section_of, SiteAccepts}
 use Rattle.linker_pack.proofs.packing.code_of_site.Goals as goal
 
 on_ok : {T E : Type 0} (r : Result T E) (P Q : Type 0) → (P → Q) → OnOk r P → OnOk r Q
