@@ -29,7 +29,7 @@ fn aligned(offset: u64, nops: u32, power: u64) -> Item {
     })
 }
 
-/// Requires that items of a section are packed so, or rejected. It begins at the input offset 0x100.
+/// Requires that items of a section at the input offset 0x100 are packed so, or rejected.
 fn expect(
     rt: &impl Abort,
     machine: Machine,

@@ -305,8 +305,8 @@ pub fn packed_run_len(base: u64, len: usize, deltas: &[RelaxDelta]) -> usize {
 ///   the `jalr`, and of eight the call as it is, with `R_RISCV_CALL_PLT` applied (RISC-V ELF psABI,
 ///   "Function Call Relaxation");
 /// - of LoongArch four bytes of `b` for a call whose `jirl` links none, of `bl` for one that links
-///   `ra`, and of `pcaddi`, with the `addi.d`'s register, for an address; of eight the instructions as
-///   they are, with `R_LARCH_CALL36`, or `R_LARCH_PCALA_HI20` and `R_LARCH_PCALA_LO12`, applied
+///   `ra`, and of `pcaddi`, with the `addi.d`'s register, for an address; of eight the instructions
+///   as they are, with `R_LARCH_CALL36`, or `R_LARCH_PCALA_HI20` and `R_LARCH_PCALA_LO12`, applied
 ///   (LoongArch ELF psABI, "Linker Relaxation"). The instructions tell which of both a site is;
 /// - of an alignment nops: of RISC-V `nop`, and at most one `c.nop` at the end; of LoongArch
 ///   `andi zero, zero, 0`.
