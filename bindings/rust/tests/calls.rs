@@ -1474,7 +1474,15 @@ fn packs_sections_of_runs() {
     ];
     let lost = deltas(&[(0x104, 4), (0x10a, 6), (0x112, 4)]);
     let pack = |base, items: &[Item], packed: &mut [u8]| {
-        pack_run(Architecture::RiscV, &section, base, items, &lost, start, packed)
+        pack_run(
+            Architecture::RiscV,
+            &section,
+            base,
+            items,
+            &lost,
+            start,
+            packed,
+        )
     };
     assert!(has_valid_deltas(&lost));
     assert_eq!(packed_run_len(base, section.len(), &lost), linked.len());
@@ -1499,8 +1507,19 @@ fn packs_sections_of_runs() {
     let different = Err(failure(Status::DifferentLengths));
     assert_eq!(pack(base, &items, &mut packed[..9]), different);
     let high = u64::MAX - 22;
-    assert_eq!(pack(high, &items, &mut packed), Err(failure(Status::EndsTooHigh)));
-    let other = pack_run(Architecture::AArch64, &section, base, &items, &lost, start, &mut packed);
+    assert_eq!(
+        pack(high, &items, &mut packed),
+        Err(failure(Status::EndsTooHigh))
+    );
+    let other = pack_run(
+        Architecture::AArch64,
+        &section,
+        base,
+        &items,
+        &lost,
+        start,
+        &mut packed,
+    );
     assert_eq!(other, Err(failure(Status::UnknownArchitecture)));
     assert_eq!(packed, [0xaa; 10]);
     assert_eq!(packed_run_len(high, section.len(), &[]), 0);
