@@ -1187,11 +1187,16 @@ static inline size_t linker_utils_packed_run_len(uint64_t base, size_t section_l
  *   links x0, jal with the link register of the jalr where 4 stay, and where 8 stay the call with
  *   R_RISCV_CALL_PLT applied. In place of nops as many bytes of nop, and at most one c.nop at the
  *   end.
- * Each instruction goes from the address where its site goes to the one where the target goes; of
- * this a call with R_RISCV_CALL_PLT leaves out bit 0. What stays of a site with one shape isn't
- * changed.
+ * - LoongArch: where 4 bytes stay, b in place of a pcaddu18i and a jirl that links none, bl in place
+ *   of those that link ra, and pcaddi with the register of the addi.d in place of a pcalau12i and an
+ *   addi.d. Where 8 stay, the two with R_LARCH_CALL36, or R_LARCH_PCALA_HI20 and R_LARCH_PCALA_LO12,
+ *   applied. In place of nops andi zero, zero, 0, of 4 bytes.
+ * Each goes from the address where its site goes to the one where the target goes, or makes that
+ * address; a call with R_RISCV_CALL_PLT leaves out bit 0 of it. What stays of a site with one shape
+ * isn't changed.
  *
- * LINKER_UTILS_UNKNOWN_ARCHITECTURE for each machine except for LINKER_UTILS_RISCV.
+ * LINKER_UTILS_UNKNOWN_ARCHITECTURE for each machine except for LINKER_UTILS_RISCV and
+ * LINKER_UTILS_LOONGARCH64.
  * LINKER_UTILS_ENDS_TOO_HIGH where `base` and `section_len` add up to 2^64 or more.
  * LINKER_UTILS_DIFFERENT_LENGTHS where `packed_len` is not `linker_utils_packed_run_len`.
  * LINKER_UTILS_OUT_OF_MEMORY where a copy of the items can't be allocated. Else `faulty` is the

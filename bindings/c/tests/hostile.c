@@ -270,16 +270,17 @@ static void *output(size_t size) {
 
 /* Bytes, of which some are the instructions of calls. */
 static struct buffer *bytes(enum use use, size_t len) {
-    static const uint32_t words[8] = {0x00000097, 0x000080e7, 0x00000317, 0x00030067,
-                                      0xf9400421, 0xf9400021, 0x00000013, 0x80808080};
+    static const uint32_t words[12] = {0x00000097, 0x000080e7, 0x00000317, 0x00030067,
+                                       0x1e000001, 0x4c000021, 0x1a000004, 0x02c00084,
+                                       0xf9400421, 0xf9400021, 0x00000013, 0x80808080};
     struct buffer *buffer = place(use, len, 1);
     uint8_t *at = filled(buffer);
     for (size_t i = 0; i < len; i++) at[i] = (uint8_t)(once_in(8) ? 0x80 : any());
     size_t pairs = once_in(2) ? len / 8 : 0;
     for (size_t i = 0; i < pairs; i++) {
-        size_t word = once_in(2) ? 2 * below(4) : below(8);
+        size_t word = once_in(2) ? 2 * below(6) : below(12);
         for (size_t k = 0; k < 8; k++) {
-            at[8 * i + k] = (uint8_t)(words[(word + k / 4) % 8] >> 8 * (k % 4));
+            at[8 * i + k] = (uint8_t)(words[(word + k / 4) % 12] >> 8 * (k % 4));
         }
     }
     return buffer;
@@ -1206,8 +1207,10 @@ static void call_pack_run(void) {
     size_t len = wanted > BUFFER_LEN || once_in(8) ? any_len(40) : wanted;
     struct buffer *packed = bytes(WRITTEN, len);
     size_t *faulty = any_faulty();
-    uint16_t machine = once_in(4) ? any_machine() : LINKER_UTILS_RISCV;
-    bool is_packed = machine == LINKER_UTILS_RISCV;
+    uint16_t machine = once_in(4)   ? any_machine()
+                       : once_in(3) ? LINKER_UTILS_LOONGARCH64
+                                    : LINKER_UTILS_RISCV;
+    bool is_packed = machine == LINKER_UTILS_RISCV || machine == LINKER_UTILS_LOONGARCH64;
     uint32_t status = CALL(pack_run, machine, section->given, section_len, base, ITEMS(items),
                            DELTAS(listed), any_number(), packed->given, len, faulty);
     expect((status == LINKER_UTILS_UNKNOWN_ARCHITECTURE) == !is_packed, "another machine");

@@ -1525,3 +1525,40 @@ fn packs_sections_of_runs() {
     assert_eq!(packed_run_len(high, section.len(), &[]), 0);
     assert_eq!(packed_run_len(high - 2, section.len(), &[]), section.len());
 }
+
+#[test]
+fn packs_sections_of_loongarch() {
+    // `call36 f`, `tail36 $t8, f`, the nops of `.p2align 4`, and `f: ret`
+    let section = bytes_of(&[
+        0x1e00_0001,
+        0x4c00_0021,
+        0x1e00_0014,
+        0x4c00_0280,
+        0x0340_0000,
+        0x0340_0000,
+        0x0340_0000,
+        0x4c00_0020,
+    ]);
+    // `bl 16`, `b 12`, two nops, `ret`, as clang assembles them
+    let packed_words = [
+        0x5400_1000,
+        0x5000_0c00,
+        0x0340_0000,
+        0x0340_0000,
+        0x4c00_0020,
+    ];
+    let call = named_shapes(ShapesName::LoongArchCall36);
+    let items = [
+        Item::site(0, 8, 28, call),
+        Item::site(8, 8, 28, call),
+        Item::alignment(16, 12, 16, None),
+    ];
+    let lost = deltas(&[(4, 4), (12, 4), (24, 4)]);
+    let mut packed = [0; 20];
+    let machine = Architecture::LoongArch64;
+    assert_eq!(
+        pack_run(machine, &section, 0, &items, &lost, 0x10000, &mut packed),
+        Ok(())
+    );
+    assert_eq!(packed.to_vec(), bytes_of(&packed_words));
+}

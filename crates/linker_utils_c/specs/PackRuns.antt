@@ -20,6 +20,7 @@ use Rattle.linker_utils_c.specs.Status.{code}
 -- the machine of an architecture whose sections are packed
 abbrev pub packed_as : Option Architecture → Option Machine
 packed_as (Some architectures.RiscV) = Some machines.RiscV64
+packed_as (Some architectures.LoongArch64) = Some machines.LoongArch64
 packed_as other = None
 
 -- the same by e_machine

@@ -12,6 +12,7 @@ use linker_utils::relaxation::RelaxDelta;
 fn packing_machine(machine: u16) -> Option<Machine> {
     match Architecture::from_machine(machine) {
         Some(Architecture::RiscV) => Some(Machine::RiscV64),
+        Some(Architecture::LoongArch64) => Some(Machine::LoongArch64),
         _ => None,
     }
 }
