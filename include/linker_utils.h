@@ -118,7 +118,15 @@ extern "C" {
     STATUS(UNEVEN_NOPS, 46, \
            "The alignment has a limit, and its nops are not a multiple of the run's greatest " \
            "unit.") \
-    STATUS(TARGET_INSIDE, 47, "The target is strictly inside the bytes that an item may lose.")
+    STATUS(TARGET_INSIDE, 47, "The target is strictly inside the bytes that an item may lose.") \
+    STATUS(HOLDS_NO_VALUE, 48, "The relocation's field does not hold bits of its value.") \
+    STATUS(BAD_FIELD_VALUE, 49, \
+           "No bits are known, or some above bit 63, or there are more bits than are known.") \
+    STATUS(NO_ADDRESS, 50, \
+           "No address is behind the relocation's value, or it is that of a page and known from " \
+           "below bit 12.") \
+    STATUS(NOT_HALVES, 51, \
+           "The low half does not have all bits below those of the high half, without rounding.")
 
 enum linker_utils_status {
 #define LINKER_UTILS_STATUS(name, number, text) LINKER_UTILS_##name = number,
@@ -1152,6 +1160,81 @@ static inline uint32_t linker_utils_relax(
 static inline uint32_t linker_utils_run_deltas(
     const struct linker_utils_item *items, size_t items_len, const uint64_t *kept, size_t kept_len,
     struct linker_utils_delta *deltas, size_t deltas_len, size_t *len);
+
+/* ---- Reading back: what a linker wrote, from the linked bytes.
+ *
+ * A machine and a relocation type name a relocation. The statuses LINKER_UTILS_UNKNOWN_ARCHITECTURE
+ * and LINKER_UTILS_UNKNOWN_RELOCATION come first. */
+
+/* What is known of a number of 64 bits, which is a relocation's value in two's complement, or an
+ * address: bits of the sum of the number and `rounding`, modulo 2^64. Where bits 0 to 63 are known
+ * the number is `bits - rounding`. */
+struct linker_utils_field_value {
+    uint64_t bits; /* the known bits, the first of them at bit 0, and no others */
+    uint64_t rounding; /* what was added to the number before its bits were taken */
+    uint8_t first_bit; /* which bits are known: `first_bit` and up, below `end_bit` */
+    uint8_t end_bit;
+};
+
+/* What is known of a relocation's value from the bytes that begin with its field, into `value`.
+ * Whatever value `linker_utils_relocate` wrote there, it has these bits.
+ *
+ * - Of an instruction they are what the machine reads: bits from `first_bit` of the relocation up.
+ *   They are known up to bit 63 where `linker_utils_reach` leaves one choice, as a sign does, and
+ *   down to bit 0 where the value is a multiple of an alignment that says that those below are 0.
+ * - RISC-V's lui, auipc and c.lui have the upper bits of the value plus 0x800, the `rounding`. The
+ *   other half has the low 12 bits of the value. Of the pair of R_RISCV_CALL and R_LARCH_CALL36 all
+ *   bits are known.
+ * - The value of PowerPC64's and LoongArch's adjusted high halves has their `bias` in it, so that
+ *   the rounding is 0: `linker_utils_solve` takes the bias off.
+ * - MOVN and MOVZ have 16 bits and the sign.
+ * - Whole bytes have the low bits of the value; that of R_RISCV_SET6 has 6.
+ *
+ * LINKER_UTILS_TOO_SHORT where there are fewer bytes than the field has. LINKER_UTILS_HOLDS_NO_VALUE
+ * of a relocation of no bytes, of one that adds or subtracts, of one at a ULEB128 number, and of
+ * R_LARCH_CALL30. */
+static inline uint32_t linker_utils_read_value(uint16_t machine, uint32_t r_type,
+                                               const uint8_t *bytes, size_t bytes_len,
+                                               struct linker_utils_field_value *value);
+
+/* Which address a relocation's value is computed from, in the letters of `enum
+ * linker_utils_relocation_kind`. */
+enum linker_utils_reference {
+    LINKER_UTILS_REFERENCE_SYMBOL = 0, /* S + A */
+    LINKER_UTILS_REFERENCE_GOT_ENTRY = 1, /* of the GOT entry, of TLS too, plus A where it is added */
+    LINKER_UTILS_REFERENCE_PLT_ENTRY = 2 /* L + A */
+};
+
+/* What is known of the address that a value comes from, into `address`, and which address it is, by
+ * `enum linker_utils_reference`, into `reference`: the inverse of `linker_utils_value`. `value` is
+ * what is known of the value, as `linker_utils_read_value` returns it. Of the operands only `place`,
+ * `got_base` and `tls_base` are read, whichever the formula takes off. Of R_RISCV_PCREL_LO12_* the
+ * place is that of the high part.
+ *
+ * With these operands an address has the bits of `address` exactly where its value has those of
+ * `value`. The bias of the relocation is taken off. Where the formula takes the page of the address,
+ * bits 12 and up are known of the address plus the bias, which is then the `rounding`. Where bit 0
+ * is known the rounding is 0.
+ *
+ * LINKER_UTILS_BAD_FIELD_VALUE where `value` isn't one that the library returns: no bits are known,
+ * or some above bit 63, or `bits` has others. LINKER_UTILS_NO_ADDRESS of a relocation without a
+ * value or without bytes, of one that is computed from a size, adds or subtracts, or is at a
+ * ULEB128 number, and of LoongArch's upper halves of 64-bit addresses; and where the formula takes
+ * the page of the address and `value` is known from below bit 12. */
+uint32_t linker_utils_solve(uint16_t machine, uint32_t r_type,
+                            const struct linker_utils_field_value *value,
+                            const struct linker_utils_operands *operands, uint32_t *reference,
+                            struct linker_utils_field_value *address);
+
+/* What is known of an address from both halves of a pair, as `linker_utils_solve` returns them:
+ * adrp and add, auipc and addi, addis and addi, pcalau12i and addi.d. A number has the bits of
+ * `whole` exactly where it has those of both.
+ *
+ * LINKER_UTILS_BAD_FIELD_VALUE of either half, as in `linker_utils_solve`. LINKER_UTILS_NOT_HALVES
+ * unless the low half has bits 0 up to the first of the high half, and no rounding. */
+uint32_t linker_utils_join(const struct linker_utils_field_value *high,
+                           const struct linker_utils_field_value *low,
+                           struct linker_utils_field_value *whole);
 
 #include "linker_utils_inline.h"
 

@@ -467,6 +467,16 @@ static inline uint32_t linker_utils_run_deltas(
         LINKER_UTILS_SLICE(struct linker_utils_delta, deltas), deltas_len, len);
 }
 
+uint32_t linker_utils_read_value_nonnull(uint16_t machine, uint32_t r_type, const uint8_t *bytes,
+                                         size_t bytes_len,
+                                         struct linker_utils_field_value *value);
+static inline uint32_t linker_utils_read_value(uint16_t machine, uint32_t r_type,
+                                               const uint8_t *bytes, size_t bytes_len,
+                                               struct linker_utils_field_value *value) {
+    return linker_utils_read_value_nonnull(
+        machine, r_type, LINKER_UTILS_SLICE(const uint8_t, bytes), bytes_len, value);
+}
+
 #undef LINKER_UTILS_SLICE
 
 #endif

@@ -17,6 +17,7 @@ fn main() {
         "linker_relax",
         "linker_utils",
         "linker_runs",
+        "linker_reads",
         "linker_utils_c",
     ] {
         println!("cargo:rerun-if-changed=../../crates/{library}/src");

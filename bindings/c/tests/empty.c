@@ -20,6 +20,7 @@ int main(void) {
     uint32_t word;
     uint8_t flag;
     size_t count;
+    struct linker_utils_field_value known;
 
     EXPECT(TOO_SHORT, fits(machine, 0, 0, NULL, 0));
     EXPECT(TOO_SHORT, write(machine, 0, 0, false, NULL, 0));
@@ -56,5 +57,6 @@ int main(void) {
     EXPECT(UNKNOWN_LINK_REGISTER, pack(NULL, 0, NULL, 0, NULL, 0, 2, NULL, 0, NULL));
     EXPECT(OK, calls_shrinkable(NULL, 0, NULL, 0, NULL));
     EXPECT(OK, shrink_calls(NULL, 0, NULL, 0, NULL, 0, NULL));
+    EXPECT(TOO_SHORT, read_value(machine, 257, NULL, 0, &known)); /* R_AARCH64_ABS64 */
     return failures != 0;
 }

@@ -1146,6 +1146,77 @@ static void call_loongarch_items(void) {
     call_section_items(false);
 }
 
+/* Known bits, most of them as the library returns them: of a value from bit 0, 2 or 12 up. */
+static struct linker_utils_field_value any_field_value(void) {
+    static const uint8_t limits[6] = {0, 2, 12, 16, 32, 64};
+    struct linker_utils_field_value value;
+    memset(&value, 0, sizeof value);
+    value.bits = once_in(2) ? below(4) : any_number();
+    value.rounding = once_in(2) ? 0 : any_number();
+    value.first_bit = (uint8_t)(once_in(8) ? any() : limits[below(3)]);
+    value.end_bit = (uint8_t)(once_in(8) ? any() : limits[2 + below(4)]);
+    return value;
+}
+
+/* One value that a call only reads. */
+static const void *input(const void *value, size_t size) {
+    struct buffer *buffer = place(READ, 1, size);
+    memcpy(filled(buffer), value, size);
+    return buffer->given;
+}
+
+static void expect_field_value(const struct linker_utils_field_value *value) {
+    expect(value->first_bit < value->end_bit && value->end_bit <= 64, "no known bits");
+    unsigned count = value->end_bit - (unsigned)value->first_bit;
+    expect(count == 64 || value->bits >> count == 0, "more bits than are known");
+}
+
+static void call_read_value(void) {
+    uint16_t machine = any_machine();
+    struct buffer *from = bytes(READ, any_len(16));
+    struct linker_utils_field_value *value = output(sizeof *value);
+    uint32_t status =
+        CALL(read_value, machine, any_relocation_type(), from->given, from->len, value);
+    if (status == LINKER_UTILS_OK) expect_field_value(value);
+    finish_with(status, 0 NO_RELOCATION OR(TOO_SHORT) OR(HOLDS_NO_VALUE));
+}
+
+/* Of what was read, or of any known bits. */
+static void call_solve(void) {
+    uint16_t machine = any_machine();
+    uint32_t r_type = any_relocation_type();
+    struct linker_utils_field_value value = any_field_value();
+    uint8_t word[8];
+    for (size_t i = 0; i < sizeof word; i++) word[i] = (uint8_t)any();
+    if (once_in(2)) linker_utils_read_value(machine, r_type, word, sizeof word, &value);
+    const struct linker_utils_field_value *given = input(&value, sizeof value);
+    struct buffer *operands = place(READ, 1, sizeof(struct linker_utils_operands));
+    uint64_t *operand = filled(operands);
+    for (size_t i = 0; i < operands->len / sizeof *operand; i++) operand[i] = any_number();
+    uint32_t *reference = output(sizeof *reference);
+    struct linker_utils_field_value *address = output(sizeof *address);
+    uint32_t status = CALL(solve, machine, r_type, given, operands->given, reference, address);
+    if (status == LINKER_UTILS_OK) {
+        expect(*reference <= LINKER_UTILS_REFERENCE_PLT_ENTRY, "no reference");
+        expect_field_value(address);
+    }
+    finish_with(status, 0 NO_RELOCATION OR(BAD_FIELD_VALUE) OR(NO_ADDRESS));
+}
+
+static void call_join(void) {
+    struct linker_utils_field_value high = any_field_value(), low = any_field_value();
+    if (once_in(2)) low.end_bit = high.first_bit;
+    const struct linker_utils_field_value *given = input(&high, sizeof high);
+    const struct linker_utils_field_value *other = input(&low, sizeof low);
+    struct linker_utils_field_value *whole = output(sizeof *whole);
+    uint32_t status = CALL(join, given, other, whole);
+    if (status == LINKER_UTILS_OK) {
+        expect_field_value(whole);
+        expect(whole->first_bit == 0 && whole->end_bit == high.end_bit, "not the halves' bits");
+    }
+    finish_with(status, 0 OR(BAD_FIELD_VALUE) OR(NOT_HALVES));
+}
+
 static void (*const all[])(void) = {
     call_status_text, call_window, call_write, call_read, call_apply, call_matches,
     call_choose,
@@ -1158,6 +1229,7 @@ static void (*const all[])(void) = {
     call_deltas_merge, call_deltas_total_deleted, call_translations, call_deltas_translate_all,
     call_deltas_heads, call_pack, call_shrink_calls, call_named_shapes, call_relax, call_run_deltas,
     call_riscv_items, call_loongarch_items,
+    call_read_value, call_solve, call_join,
 };
 
 int main(int count, char **arguments) {

@@ -279,6 +279,36 @@ pub struct SectionRelocation {
     pub has_target: u8,
 }
 
+/// What is known of a number of 64 bits, a relocation's value or an address: bits `first_bit` and up,
+/// below `end_bit`, of the sum of the number and `rounding`, modulo 2^64. The first of them is bit 0
+/// of `bits`.
+#[repr(C)]
+#[derive(Debug, Clone, Copy, Default, PartialEq, Eq)]
+pub struct FieldValue {
+    pub bits: u64,
+    pub rounding: u64,
+    pub first_bit: u8,
+    pub end_bit: u8,
+}
+
+impl FieldValue {
+    /// Whether a number has the known bits. Of a value, its 64 bits in two's complement are meant.
+    /// None has them if no bits are known, or some above bit 63.
+    pub fn is_of(&self, number: u64) -> bool {
+        if self.first_bit >= self.end_bit || self.end_bit > 64 {
+            return false;
+        }
+        let above = number.wrapping_add(self.rounding) >> self.first_bit;
+        above & (u64::MAX >> (64 - (self.end_bit - self.first_bit))) == self.bits
+    }
+
+    /// The number, if all of its bits are known.
+    pub fn number(&self) -> Option<u64> {
+        let is_whole = self.first_bit == 0 && self.end_bit == 64;
+        is_whole.then_some(self.bits.wrapping_sub(self.rounding))
+    }
+}
+
 fn result_of<T>(status: u32, value: T) -> Result<T, Status> {
     match status {
         0 => Ok(value),
@@ -1013,4 +1043,48 @@ pub fn run_deltas(items: &[Item], kept: &[u64], deltas: &mut [Delta]) -> Result<
         )
     };
     result_of(status, len)
+}
+
+/// What is known of a relocation's value from the linked bytes that begin with its field.
+pub fn read_value(
+    architecture: Architecture,
+    r_type: u32,
+    bytes: &[u8],
+) -> Result<FieldValue, Status> {
+    let mut value = FieldValue::default();
+    let (machine, at, len) = (architecture.machine(), bytes.as_ptr(), bytes.len());
+    let status =
+        unsafe { raw::linker_utils_read_value_nonnull(machine, r_type, at, len, &mut value) };
+    result_of(status, value)
+}
+
+/// Which address a relocation's value comes from, and what is known of it. Of the operands only the
+/// place, the GOT's address and the base of TLS are read.
+pub fn solve(
+    architecture: Architecture,
+    r_type: u32,
+    value: &FieldValue,
+    operands: &Operands,
+) -> Result<(Reference, FieldValue), Status> {
+    let (mut reference, mut address) = (0, FieldValue::default());
+    let status = unsafe {
+        raw::linker_utils_solve(
+            architecture.machine(),
+            r_type,
+            value,
+            operands,
+            &mut reference,
+            &mut address,
+        )
+    };
+    result_of(status, ())?;
+    let reference = Reference::from_number(reference).expect("a reference of the library's");
+    Ok((reference, address))
+}
+
+/// What is known of an address from both halves of a pair, as `solve` returns them.
+pub fn join(high: &FieldValue, low: &FieldValue) -> Result<FieldValue, Status> {
+    let mut whole = FieldValue::default();
+    let status = unsafe { raw::linker_utils_join(high, low, &mut whole) };
+    result_of(status, whole)
 }

@@ -200,6 +200,12 @@ linker_utils_mask! { numbered_or_none
     PageMask: u32
 }
 
+linker_utils_reference! { numbered
+    /// Which address a relocation's value is computed from, in the letters that
+    /// `include/linker_utils.h` explains at `enum linker_utils_relocation_kind`.
+    Reference: u32
+}
+
 /// A form of instructions that hold a value.
 #[derive(Debug, Clone, Copy, PartialEq, Eq, Hash)]
 pub enum Form {

@@ -1,8 +1,8 @@
 //! The static library's own symbols, as `include/linker_utils.h` declares them: what each of them
 //! requires of pointers and counts, and does, is said there. No pointer to a slice may be null.
 
-pub use crate::{BlockHead, Call, Deletion, Delta, Item, Operands, Relocation, SectionRelocation};
-pub use crate::{Shape, Shapes};
+pub use crate::{BlockHead, Call, Deletion, Delta, FieldValue, Item, Operands, Relocation};
+pub use crate::{SectionRelocation, Shape, Shapes};
 
 /// `struct linker_utils_relocation_info`.
 #[repr(C)]
@@ -396,5 +396,25 @@ extern "C" {
         deltas: *mut Delta,
         deltas_len: usize,
         len: *mut usize,
+    ) -> u32;
+    pub fn linker_utils_read_value_nonnull(
+        machine: u16,
+        r_type: u32,
+        bytes: *const u8,
+        bytes_len: usize,
+        value: *mut FieldValue,
+    ) -> u32;
+    pub fn linker_utils_solve(
+        machine: u16,
+        r_type: u32,
+        value: *const FieldValue,
+        operands: *const Operands,
+        reference: *mut u32,
+        address: *mut FieldValue,
+    ) -> u32;
+    pub fn linker_utils_join(
+        high: *const FieldValue,
+        low: *const FieldValue,
+        whole: *mut FieldValue,
     ) -> u32;
 }

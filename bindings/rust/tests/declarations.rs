@@ -105,6 +105,7 @@ fn type_of_c(text: &str) -> String {
         "struct linker_utils_shapes" => "Shapes",
         "struct linker_utils_item" => "Item",
         "struct linker_utils_section_relocation" => "SectionRelocation",
+        "struct linker_utils_field_value" => "FieldValue",
         other => panic!("the header has a type {other}"),
     };
     format!("{}{name}", if pointer { kind } else { "" })
@@ -216,6 +217,7 @@ fn as_passed(kind: &str) -> Passed {
         "LinkFactNumbers" => "LinkFacts".to_string(),
         "ChoiceNumbers" => "Choice".to_string(),
         "ItemNumbers" => "Item".to_string(),
+        "FieldValueNumbers" => "FieldValue".to_string(),
         other => other.to_string(),
     };
     if kind == "Global" {
@@ -584,6 +586,10 @@ fn the_numbers_are_those_of_the_library() {
     let mut masks = equations("linker_elf/specs/Numbers", "mask_number");
     assert_eq!(masks.remove("None"), Some(0));
     assert_eq!(numbers(PageMask::ALL, PageMask::number), masks);
+    assert_eq!(
+        numbers(Reference::ALL, Reference::number),
+        equations("linker_utils_c/specs/Reading", "reference_number")
+    );
 }
 
 #[test]
@@ -705,6 +711,7 @@ fn the_structs_are_those_of_the_library() {
         "linker_utils_section_relocation": SectionRelocation {
             offset, target, addend, r_type, has_symbol, has_target,
         }
+        "linker_utils_field_value": FieldValue { bits, rounding, first_bit, end_bit, }
     };
     assert_eq!(of_header.collect::<Layout>(), of_crate);
 
@@ -731,6 +738,7 @@ fn the_structs_are_those_of_the_library() {
         ("linker_utils_shapes", "Shapes"),
         ("linker_utils_item", "ItemNumbers"),
         ("linker_utils_section_relocation", "SectionRelocation"),
+        ("linker_utils_field_value", "FieldValueNumbers"),
     ] {
         let (before, rest) = library
             .split_once(&format!("\npub struct {of_library} {{"))

@@ -49,6 +49,26 @@ fn rows<const N: usize>(data: &str) -> Vec<[&str; N]> {
         .collect()
 }
 
+/// The offset and the type of a relocation of `data/linked.txt`, and what its value is computed from.
+fn linked(architecture: Architecture, text: &str, pc: &str, target: &str) -> (u64, u32, Operands) {
+    let (offset, r_type) = text.split_once(':').expect("an offset and a type");
+    let offset: u64 = offset.parse().expect("an offset");
+    let r_type = r_type.parse().expect("a type");
+    // a RISC-V low part has the place of its high part
+    let from_pc = if architecture == Architecture::RiscV {
+        0
+    } else {
+        offset
+    };
+    let operands = Operands {
+        symbol: address(target),
+        plt_entry: address(target),
+        place: address(pc) + from_pc,
+        ..Operands::default()
+    };
+    (offset, r_type, operands)
+}
+
 #[test]
 fn relocated_words_are_those_of_lld() {
     let rows = rows(include_str!("data/linked.txt"));
@@ -57,21 +77,7 @@ fn relocated_words_are_those_of_lld() {
         let architecture = architecture_of(machine);
         let mut section = bytes_of(before);
         let relocation = |text: &str| {
-            let (offset, r_type) = text.split_once(':').expect("an offset and a type");
-            let offset: u64 = offset.parse().expect("an offset");
-            let r_type = r_type.parse().expect("a type");
-            // a RISC-V low part has the place of its high part
-            let from_pc = if architecture == Architecture::RiscV {
-                0
-            } else {
-                offset
-            };
-            let operands = Operands {
-                symbol: address(target),
-                plt_entry: address(target),
-                place: address(pc) + from_pc,
-                ..Operands::default()
-            };
+            let (offset, r_type, operands) = linked(architecture, text, pc, target);
             let value = value(architecture, r_type, &operands).expect("it has a value");
             Relocation {
                 offset,
@@ -84,6 +90,45 @@ fn relocated_words_are_those_of_lld() {
         assert_eq!(done, Ok(()), "{machine} {pc} {target} {before}");
         assert_eq!(section, bytes_of(after), "{machine} {pc} {target} {before}");
     }
+}
+
+/// From each word that lld wrote the symbol's address is read back, as far as it is there.
+#[test]
+fn words_of_lld_lead_to_their_targets() {
+    let (mut whole, mut without) = (0, Vec::new());
+    for [machine, relocations, pc, target, _, after] in rows(include_str!("data/linked.txt")) {
+        let architecture = architecture_of(machine);
+        let section = bytes_of(after);
+        let target_address = address(target);
+        let mut joined: Option<FieldValue> = None;
+        for text in relocations.split(',') {
+            let (offset, r_type, operands) = linked(architecture, text, pc, target);
+            let known = read_value(architecture, r_type, &section[offset as usize..])
+                .and_then(|value| solve(architecture, r_type, &value, &operands));
+            let found = match known {
+                Ok((Reference::Symbol | Reference::PltEntry, found)) => found,
+                Err(_) => {
+                    without.push(relocation_name(architecture, r_type).expect("a name"));
+                    continue;
+                }
+                Ok(other) => panic!("{machine} {text}: {other:?}"),
+            };
+            assert!(found.is_of(target_address), "{machine} {text} {after} {found:?}");
+            let other = target_address.wrapping_add(1 << found.first_bit);
+            assert!(!found.is_of(other), "{machine} {text} {after} {found:?}");
+            joined = Some(match joined {
+                Some(high) => join(&high, &found).unwrap_or(found),
+                None => found,
+            });
+        }
+        if let Some(number) = joined.and_then(|known| known.number()) {
+            assert_eq!(number, target_address, "{machine} {relocations} {after}");
+            whole += 1;
+        }
+    }
+    without.sort();
+    without.dedup();
+    println!("{whole} {without:?}");
 }
 
 #[test]

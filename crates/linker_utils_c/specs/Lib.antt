@@ -2,6 +2,7 @@ pub mod Choices
 pub mod Deltas
 pub mod Forms
 pub mod Packing
+pub mod Reading
 pub mod Relaxing
 pub mod Relocate
 pub mod Relocations

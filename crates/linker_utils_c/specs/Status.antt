@@ -26,6 +26,8 @@ use Rattle.linker_utils_c.specs.declared.status.Status.TheVariants.{BadReach, Ba
 use Rattle.linker_utils_c.specs.declared.status.Status.TheVariants.{PowerBelowUnit, UnevenEnd}
 use Rattle.linker_utils_c.specs.declared.status.Status.TheVariants.{TooFewNops, UnevenNops}
 use Rattle.linker_utils_c.specs.declared.status.Status.TheVariants.{TargetInside}
+use Rattle.linker_utils_c.specs.declared.status.Status.TheVariants.{HoldsNoValue, BadFieldValue}
+use Rattle.linker_utils_c.specs.declared.status.Status.TheVariants.{NoAddress, NotHalves}
 
 abbrev pub code : Status → ℕ
 code Success = 0
@@ -74,6 +76,10 @@ code UnevenEnd = 44
 code TooFewNops = 45
 code UnevenNops = 46
 code TargetInside = 47
+code HoldsNoValue = 48
+code BadFieldValue = 49
+code NoAddress = 50
+code NotHalves = 51
 
 -- the status is one of these
 abbrev pub IsOneOf : List Status → ℕ → Type 0

@@ -9,6 +9,7 @@ mod heads;
 mod merges;
 mod packing;
 mod readers;
+mod reading;
 mod relaxing;
 mod relocate;
 mod relocations;

@@ -99,6 +99,15 @@ pub enum Status {
     UnevenNops,
     /// The target is strictly inside the bytes that an item may lose.
     TargetInside,
+    /// The relocation's field does not hold bits of its value.
+    HoldsNoValue,
+    /// No bits are known, or some above bit 63, or there are more bits than are known.
+    BadFieldValue,
+    /// No address is behind the relocation's value, or it is that of a page and known from below
+    /// bit 12.
+    NoAddress,
+    /// The low half does not have all bits below those of the high half, without rounding.
+    NotHalves,
 }
 
 impl Status {

@@ -143,6 +143,8 @@ macro_rules! made {
                         "relocation" | "r_type" => random.below(1200),
                         "rd" => random.below(34),
                         "link" => random.below(3),
+                        "bits" if random.below(2) == 0 => random.below(4),
+                        "rounding" if random.below(2) == 0 => 0,
                         _ => random.number(),
                     };
                     number as $kind
@@ -174,7 +176,11 @@ impl Seen for bool {
 
 impl Made for u8 {
     fn made(random: &mut Random, name: &str) -> u8 {
-        if name == "n" { random.below(8) as u8 } else { random.word() as u8 }
+        match name {
+            "n" => random.below(8) as u8,
+            "first_bit" | "end_bit" => [0, 0, 12, 12, 32, 64, 65][random.below(7) as usize],
+            _ => random.word() as u8,
+        }
     }
 
     /// Instructions that some call takes, and any bytes.

@@ -166,13 +166,15 @@ fn without_rounding(field: FieldValue) -> FieldValue {
 ///
 /// # Requires
 ///
-/// - `field` is what `read` returns of a row, or has its known bits only
+/// - `field.is_proper()`
 #[must_use]
+#[cfg_attr(debug_assertions, track_caller)]
 pub fn solve(
     row: &RelocationKindInfo,
     field: &FieldValue,
     operands: &Operands,
 ) -> Option<FieldValue> {
+    debug_assert!(field.is_proper());
     match terms_of(row.kind, row.size) {
         Some(terms) => {
             let base = base(terms.origin, row, operands);
@@ -201,10 +203,13 @@ pub fn solve(
 ///
 /// # Requires
 ///
-/// - high: `high` is what `read` or `solve` returns
-/// - low: so is `low`
+/// - high: `high.is_proper()`
+/// - low: `low.is_proper()`
 #[must_use]
+#[cfg_attr(debug_assertions, track_caller)]
 pub fn join(high: &FieldValue, low: &FieldValue) -> Option<FieldValue> {
+    debug_assert!(high.is_proper());
+    debug_assert!(low.is_proper());
     if low.known.start != 0 || low.rounding != 0 || low.known.end != high.known.start {
         return None;
     }
