@@ -1212,9 +1212,9 @@ enum linker_utils_reference {
  * place is that of the high part.
  *
  * With these operands an address has the bits of `address` exactly where its value has those of
- * `value`. The bias of the relocation is taken off. Where the formula takes the page of the address,
- * bits 12 and up are known of the address plus the bias, which is then the `rounding`. Where bit 0
- * is known the rounding is 0.
+ * `value`. The bias of the relocation is taken off. Where bit 0 is known the rounding is 0. Where
+ * the formula takes the page of the address, bits 12 and up are known, and the rounding is the bias
+ * less the page of the place or of the GOT.
  *
  * LINKER_UTILS_BAD_FIELD_VALUE where `value` isn't one that the library returns: no bits are known,
  * or some above bit 63, or `bits` has others. LINKER_UTILS_NO_ADDRESS of a relocation without a

@@ -124,12 +124,7 @@ fn solve_row(
     }
     let info = row.info();
     let solution = solve(&info, &field, operands);
-    put_address(
-        terms_of(info.kind, info.size),
-        solution,
-        reference,
-        address,
-    )
+    put_address(terms_of(info.kind, info.size), solution, reference, address)
 }
 
 /// What is known of the address that the value of the relocation with `r_type` comes from, as

@@ -43,8 +43,8 @@ impl FieldValue {
         if self.known.start >= self.known.end || self.known.end > 64 {
             return false;
         }
-        let count = self.known.end - self.known.start;
-        count == 64 || self.bits < power_of_two(count)
+        let (bits, count) = (self.bits, self.known.end - self.known.start);
+        count == 64 || bits < power_of_two(count)
     }
 
     /// Whether a number has the known bits. Of a value, its 64 bits in two's complement are meant.
