@@ -1,10 +1,11 @@
 //! What a linker made of a relocation of x86-64.
 
 ghost use Rattle.std.specs.Prelude.{◌≡◌, ◌-◌, ◌≤◌, ◌↔◌, Some, None, length, slice_index};
-ghost use Rattle.linker_elf.specs.X86Relocations.{x86_64_row};
+ghost use Rattle.linker_elf.specs.X86Relocations.{x86_64_name, x86_64_row};
 ghost use Rattle.linker_recognise.specs.Inner.Candidates.{padded};
-ghost use Rattle.linker_recognise.specs.Recognised.{IsOneOf, AreThose};
-ghost use Rattle.linker_recognise.specs.X86Recognised.{X86Choice, X86Leaves, x86_64_choices, IsX86Made};
+ghost use Rattle.linker_recognise.specs.Recognised.{IsOneOf, AreThose, NoneTwice};
+ghost use Rattle.linker_recognise.specs.X86Recognised.{X86Choice, X86Leaves, x86_64_choices};
+ghost use Rattle.linker_recognise.specs.X86Recognised.{X86Made, X86Reads, IsX86Found};
 ghost use Rattle.linker_recognise.specs.WrittenFields.{X86WrittenIsLeft};
 ghost use Rattle.linker_utils.specs.Choices as choices;
 ghost use Rattle.linker_utils.specs.X86Choices as tables;
@@ -14,13 +15,15 @@ ghost use Rattle.linker_utils.specs.X86Originals.{x86_64_matches};
 ghost use Rattle.linker_utils.specs.X86RelocationsAfter as replaced;
 
 use crate::candidates::{CANDIDATES, four, one, three, two};
-use crate::engine::{Kind, Name, is_left, recognise_among};
+use crate::engine::{Kind, Made, Name, recognise_among, recognise_one};
 use crate::fields::FieldBits;
+use linker_utils::architecture::Relaxation;
 use linker_utils::elf::{Choice, LinkFacts, Row};
 use linker_utils::riscv64::DeletedBytes;
 use linker_utils::x86_64::{RelaxationKind, X86_64Relocation, choose, row};
 
 type X86Choice = Choice<RelaxationKind, X86_64Relocation>;
+type X86Made = Made<RelaxationKind, X86_64Relocation>;
 
 #[inline(always)]
 fn choice(kind: RelaxationKind, relocation: X86_64Relocation) -> X86Choice
@@ -222,6 +225,8 @@ impl Kind for RelaxationKind {
 
     ghost deleted = { λ kind. None };
 
+    ghost relaxation_of = { Relaxation.X86_64 };
+
     fn is_meant_for(self, section: &[u8], offset: u64) -> bool {
         self.matches(section, offset)
     }
@@ -233,24 +238,27 @@ impl Kind for RelaxationKind {
     fn is(self, other: RelaxationKind) -> bool {
         self == other
     }
+
+    fn relaxation(self) -> Relaxation {
+        Relaxation::X86_64(self)
+    }
 }
 
 impl Name for X86_64Relocation {
     ghost row_of = { x86_64_row };
 
+    ghost elf_name = { x86_64_name };
+
     fn find_row(self) -> Option<Row> {
         row(self)
     }
 
-    fn repeats(self, other: X86_64Relocation) -> bool {
-        matches!(
-            (self, other),
-            (X86_64Relocation::R_X86_64_32, X86_64Relocation::R_X86_64_32)
-                | (
-                    X86_64Relocation::R_X86_64_32S,
-                    X86_64Relocation::R_X86_64_32S
-                )
-        )
+    fn is(self, other: X86_64Relocation) -> bool {
+        self == other
+    }
+
+    fn code(self) -> u32 {
+        self.elf_code()
     }
 }
 
@@ -280,7 +288,7 @@ impl Name for X86_64Relocation {
 /// let linked = [0x48, 0x8d, 0x3d, 0x10, 0x20, 0, 0];
 /// let name = X86_64Relocation::R_X86_64_REX_GOTPCRELX;
 /// let mut choices = recognise(name, &original, 3, &[], &linked).into_iter().flatten();
-/// assert_eq!(choices.next().unwrap().kind, RelaxationKind::MovIndirectToLea);
+/// assert_eq!(choices.next().unwrap().choice.kind, RelaxationKind::MovIndirectToLea);
 /// assert!(choices.next().is_none());
 /// ```
 pub fn recognise(
@@ -289,12 +297,15 @@ pub fn recognise(
     offset: u64,
     others: &[FieldBits],
     linked: &[u8],
-) -> [Option<X86Choice>; CANDIDATES]
+) -> [Option<X86Made>; CANDIDATES]
     requires { length original.now ≤ 64 }
-    ensures found { AreThose (IsX86Made name original.now offset others.now linked.now) result }
-    ensures any { (facts : LinkFacts) (c : X86Choice)
-        → IsX86Choice name original.now offset facts c
-        → X86Leaves c original.now offset others.now linked.now → IsOneOf (Some c) result }
+    ensures found { AreThose (IsX86Found name original.now offset others.now linked.now)
+        result }
+    ensures once { NoneTwice result }
+    ensures any { (facts : LinkFacts) (m : X86Made)
+        → IsX86Choice name original.now offset facts m.choice
+        → X86Leaves m.choice original.now offset others.now linked.now
+        → X86Reads m.choice offset linked.now m.offset m.value → IsOneOf (Some m) result }
 {
     let choices = candidates(name, opcode_before(original, offset));
     recognise_among(choices, original, offset, others, linked)
@@ -309,18 +320,15 @@ pub fn recognise_chosen(
     others: &[FieldBits],
     linked: &[u8],
     facts: &LinkFacts,
-) -> Option<X86Choice>
+) -> Option<X86Made>
     requires { length original.now ≤ 64 }
-    ensures { (c : X86Choice) → (result ≡ Some c)
-        ↔ (IsX86Choice name original.now offset facts.now c
-        × X86Leaves c original.now offset others.now linked.now) }
+    ensures { (m : X86Made) → (result ≡ Some m)
+        ↔ (IsX86Choice name original.now offset facts.now m.choice
+        × (X86Leaves m.choice original.now offset others.now linked.now
+        × X86Reads m.choice offset linked.now m.offset m.value)) }
 {
     let chosen = choose(name, original, offset, facts);
-    if is_left(chosen, original, offset, others, linked) {
-        Some(chosen)
-    } else {
-        None
-    }
+    recognise_one(chosen, original, offset, others, linked)
 }
 
 /// Where a rewrite is applied, and the value of the relocation after it is written, the choice of both
