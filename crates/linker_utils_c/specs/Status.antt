@@ -28,6 +28,8 @@ use Rattle.linker_utils_c.specs.declared.status.Status.TheVariants.{TooFewNops, 
 use Rattle.linker_utils_c.specs.declared.status.Status.TheVariants.{TargetInside}
 use Rattle.linker_utils_c.specs.declared.status.Status.TheVariants.{HoldsNoValue, BadFieldValue}
 use Rattle.linker_utils_c.specs.declared.status.Status.TheVariants.{NoAddress, NotHalves}
+use Rattle.linker_utils_c.specs.declared.status.Status.TheVariants.{WindowTooLong}
+use Rattle.linker_utils_c.specs.declared.status.Status.TheVariants.{LeavesOtherBytes}
 
 abbrev pub code : Status → ℕ
 code Success = 0
@@ -80,6 +82,8 @@ code HoldsNoValue = 48
 code BadFieldValue = 49
 code NoAddress = 50
 code NotHalves = 51
+code WindowTooLong = 52
+code LeavesOtherBytes = 58
 
 -- the status is one of these
 abbrev pub IsOneOf : List Status → ℕ → Type 0
