@@ -1104,6 +1104,13 @@ pub fn field_bits(architecture: Architecture, r_type: u32, bytes: &[u8]) -> Resu
 pub fn same_but_for(architecture: Architecture, r_type: u32, a: &[u8], b: &[u8]) -> bool {
     let (machine, a_len, b_len) = (architecture.machine(), a.len(), b.len());
     unsafe {
-        raw::linker_utils_same_but_for_nonnull(machine, r_type, a.as_ptr(), a_len, b.as_ptr(), b_len)
+        raw::linker_utils_same_but_for_nonnull(
+            machine,
+            r_type,
+            a.as_ptr(),
+            a_len,
+            b.as_ptr(),
+            b_len,
+        )
     }
 }

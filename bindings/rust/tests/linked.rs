@@ -146,7 +146,9 @@ fn words_of_lld_differ_in_their_fields_only() {
         let mut others = vec![0xff_u8; section.len()];
         for text in relocations.split(',') {
             let (offset, r_type, _) = linked(architecture, text, pc, target);
-            let field = object[offset as usize..].iter().zip(&section[offset as usize..]);
+            let field = object[offset as usize..]
+                .iter()
+                .zip(&section[offset as usize..]);
             let (a, b): (Vec<u8>, Vec<u8>) = field.take(8).unzip();
             let bits = field_bits(architecture, r_type, &a).expect("the field is there");
             let changed = |bytes: &[u8]| {
@@ -158,10 +160,18 @@ fn words_of_lld_differ_in_their_fields_only() {
                 others[offset as usize + at] &= !byte;
             }
             let is_alone = (changed(&a) ^ changed(&b)) & !bits == 0;
-            assert_eq!(same_but_for(architecture, r_type, &a, &b), is_alone, "{machine} {after}");
+            assert_eq!(
+                same_but_for(architecture, r_type, &a, &b),
+                is_alone,
+                "{machine} {after}"
+            );
         }
         for (at, mask) in others.iter().enumerate() {
-            assert_eq!(object[at] & mask, section[at] & mask, "{machine} {relocations} {after}");
+            assert_eq!(
+                object[at] & mask,
+                section[at] & mask,
+                "{machine} {relocations} {after}"
+            );
         }
     }
 }
