@@ -601,7 +601,9 @@ uint32_t linker_utils_value(uint16_t machine, uint32_t r_type,
  *   R_PPC64_PLTCALL, and their _NOTOC, mark the other instructions of such a call, and the `ld
  *   2,24(1)` is in the object.
  * - `bl __tls_get_addr` has R_PPC64_TLSGD or R_PPC64_TLSLD and then R_PPC64_REL24 or
- *   R_PPC64_REL24_NOTOC at the same offset. After a rewrite of the former the latter is skipped. */
+ *   R_PPC64_REL24_NOTOC at the same offset. After a rewrite of the former the latter is skipped.
+ *   Before R_PPC64_REL24_NOTOC the former isn't rewritten: the instruction that computes the
+ *   entry's address is a prefixed one then, for which there is no rewrite. */
 
 /* ---- Which rewrite.
  *
@@ -1235,6 +1237,21 @@ uint32_t linker_utils_solve(uint16_t machine, uint32_t r_type,
 uint32_t linker_utils_join(const struct linker_utils_field_value *high,
                            const struct linker_utils_field_value *low,
                            struct linker_utils_field_value *whole);
+
+/* Which bits of the bytes that begin with a relocation's field `linker_utils_relocate` may change,
+ * into `bits`: bit 0 is the lowest of the first byte, bit 8 that of the second. All others are the
+ * same after each write. Of an instruction they are the bits of its form, and for
+ * LINKER_UTILS_AARCH64_FORM_MOVNZ those of the opcode that it sets. LINKER_UTILS_TOO_SHORT where
+ * there are fewer bytes than the field has. */
+static inline uint32_t linker_utils_field_bits(uint16_t machine, uint32_t r_type,
+                                               const uint8_t *bytes, size_t bytes_len,
+                                               uint64_t *bits);
+
+/* Whether two windows of the same length, which begin with a relocation's field, differ in bits of
+ * the field only. False where the machine or the type is unknown, the lengths differ, or the field
+ * isn't in the windows. */
+static inline bool linker_utils_same_but_for(uint16_t machine, uint32_t r_type, const uint8_t *a,
+                                             size_t a_len, const uint8_t *b, size_t b_len);
 
 #include "linker_utils_inline.h"
 

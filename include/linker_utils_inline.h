@@ -477,6 +477,23 @@ static inline uint32_t linker_utils_read_value(uint16_t machine, uint32_t r_type
         machine, r_type, LINKER_UTILS_SLICE(const uint8_t, bytes), bytes_len, value);
 }
 
+uint32_t linker_utils_field_bits_nonnull(uint16_t machine, uint32_t r_type, const uint8_t *bytes,
+                                         size_t bytes_len, uint64_t *bits);
+static inline uint32_t linker_utils_field_bits(uint16_t machine, uint32_t r_type,
+                                               const uint8_t *bytes, size_t bytes_len,
+                                               uint64_t *bits) {
+    return linker_utils_field_bits_nonnull(
+        machine, r_type, LINKER_UTILS_SLICE(const uint8_t, bytes), bytes_len, bits);
+}
+
+bool linker_utils_same_but_for_nonnull(uint16_t machine, uint32_t r_type, const uint8_t *a,
+                                       size_t a_len, const uint8_t *b, size_t b_len);
+static inline bool linker_utils_same_but_for(uint16_t machine, uint32_t r_type, const uint8_t *a,
+                                             size_t a_len, const uint8_t *b, size_t b_len) {
+    return linker_utils_same_but_for_nonnull(machine, r_type, LINKER_UTILS_SLICE(const uint8_t, a),
+                                             a_len, LINKER_UTILS_SLICE(const uint8_t, b), b_len);
+}
+
 #undef LINKER_UTILS_SLICE
 
 #endif

@@ -18,6 +18,7 @@ fn main() {
         "linker_utils",
         "linker_runs",
         "linker_reads",
+        "linker_recognise",
         "linker_utils_c",
     ] {
         println!("cargo:rerun-if-changed=../../crates/{library}/src");

@@ -58,5 +58,7 @@ int main(void) {
     EXPECT(OK, calls_shrinkable(NULL, 0, NULL, 0, NULL));
     EXPECT(OK, shrink_calls(NULL, 0, NULL, 0, NULL, 0, NULL));
     EXPECT(TOO_SHORT, read_value(machine, 257, NULL, 0, &known)); /* R_AARCH64_ABS64 */
+    EXPECT(TOO_SHORT, field_bits(machine, 257, NULL, 0, &value));
+    if (linker_utils_same_but_for(machine, 257, NULL, 0, NULL, 0)) failures++;
     return failures != 0;
 }

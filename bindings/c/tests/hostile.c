@@ -1217,6 +1217,33 @@ static void call_join(void) {
     finish_with(status, 0 OR(BAD_FIELD_VALUE) OR(NOT_HALVES));
 }
 
+static void call_field_bits(void) {
+    uint16_t machine = any_machine();
+    struct buffer *from = bytes(READ, any_len(16));
+    uint64_t *field = output(sizeof *field);
+    uint32_t status =
+        CALL(field_bits, machine, any_relocation_type(), from->given, from->len, field);
+    finish_with(status, 0 NO_RELOCATION OR(TOO_SHORT));
+}
+
+/* A window and another that differs from it in few bits. */
+static void call_same_but_for(void) {
+    uint16_t machine = any_machine();
+    uint32_t r_type = any_relocation_type();
+    struct buffer *a = bytes(READ, any_len(16));
+    struct buffer *b = bytes(READ, once_in(8) ? any_len(16) : a->len);
+    uint8_t *from = filled(a), *to = filled(b);
+    if (a->len == b->len && a->len > 0) memcpy(to, from, a->len);
+    if (a->len == b->len && a->len > 0 && once_in(2)) to[below(b->len)] ^= (uint8_t)any();
+    bool is_equal = a->len == b->len && memcmp(from, to, a->len) == 0;
+    uint64_t field;
+    bool is_known =
+        linker_utils_field_bits(machine, r_type, a->given, a->len, &field) == LINKER_UTILS_OK;
+    bool is_same = CALL(same_but_for, machine, r_type, a->given, a->len, b->given, b->len);
+    expect(is_same ? is_known : !(is_known && is_equal), "another answer");
+    finish(true);
+}
+
 static void (*const all[])(void) = {
     call_status_text, call_window, call_write, call_read, call_apply, call_matches,
     call_choose,
@@ -1229,7 +1256,7 @@ static void (*const all[])(void) = {
     call_deltas_merge, call_deltas_total_deleted, call_translations, call_deltas_translate_all,
     call_deltas_heads, call_pack, call_shrink_calls, call_named_shapes, call_relax, call_run_deltas,
     call_riscv_items, call_loongarch_items,
-    call_read_value, call_solve, call_join,
+    call_read_value, call_solve, call_join, call_field_bits, call_same_but_for,
 };
 
 int main(int count, char **arguments) {

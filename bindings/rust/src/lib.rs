@@ -1088,3 +1088,29 @@ pub fn join(high: &FieldValue, low: &FieldValue) -> Result<FieldValue, Status> {
     let status = unsafe { raw::linker_utils_join(high, low, &mut whole) };
     result_of(status, whole)
 }
+
+/// Which bits of the bytes that begin with a relocation's field `relocate` may change. Bit 0 is the
+/// lowest of the first byte.
+pub fn field_bits(architecture: Architecture, r_type: u32, bytes: &[u8]) -> Result<u64, Status> {
+    let mut bits = 0;
+    let (machine, at, len) = (architecture.machine(), bytes.as_ptr(), bytes.len());
+    let status =
+        unsafe { raw::linker_utils_field_bits_nonnull(machine, r_type, at, len, &mut bits) };
+    result_of(status, bits)
+}
+
+/// Whether two windows of the same length, which begin with a relocation's field, differ in bits of
+/// the field only.
+pub fn same_but_for(architecture: Architecture, r_type: u32, a: &[u8], b: &[u8]) -> bool {
+    let (machine, a_len, b_len) = (architecture.machine(), a.len(), b.len());
+    unsafe {
+        raw::linker_utils_same_but_for_nonnull(
+            machine,
+            r_type,
+            a.as_ptr(),
+            a_len,
+            b.as_ptr(),
+            b_len,
+        )
+    }
+}

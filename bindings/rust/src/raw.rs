@@ -417,4 +417,19 @@ extern "C" {
         low: *const FieldValue,
         whole: *mut FieldValue,
     ) -> u32;
+    pub fn linker_utils_field_bits_nonnull(
+        machine: u16,
+        r_type: u32,
+        bytes: *const u8,
+        bytes_len: usize,
+        bits: *mut u64,
+    ) -> u32;
+    pub fn linker_utils_same_but_for_nonnull(
+        machine: u16,
+        r_type: u32,
+        a: *const u8,
+        a_len: usize,
+        b: *const u8,
+        b_len: usize,
+    ) -> bool;
 }

@@ -1,5 +1,6 @@
 //! Relocations as ld.lld writes them, and where it stops to accept them: the words of
-//! `data/linked.txt` and `data/bounds.txt`, which LLVM made.
+//! `data/linked.txt` and `data/bounds.txt`, which LLVM made. Those of `data/gnu.txt` are GNU ld's
+//! (`tools/link_words`).
 
 use sathunne::*;
 
@@ -136,6 +137,45 @@ fn words_of_lld_lead_to_their_targets() {
     assert_eq!(without, ["R_LARCH_PCALA64_HI12", "R_LARCH_PCALA64_LO20"]);
 }
 
+/// What lld wrote is the relocation's field: all other bits are those of the object.
+#[test]
+fn words_of_lld_differ_in_their_fields_only() {
+    for [machine, relocations, pc, target, before, after] in rows(include_str!("data/linked.txt")) {
+        let architecture = architecture_of(machine);
+        let (object, section) = (bytes_of(before), bytes_of(after));
+        let mut others = vec![0xff_u8; section.len()];
+        for text in relocations.split(',') {
+            let (offset, r_type, _) = linked(architecture, text, pc, target);
+            let field = object[offset as usize..]
+                .iter()
+                .zip(&section[offset as usize..]);
+            let (a, b): (Vec<u8>, Vec<u8>) = field.take(8).unzip();
+            let bits = field_bits(architecture, r_type, &a).expect("the field is there");
+            let changed = |bytes: &[u8]| {
+                let shifts = (0..64).step_by(8);
+                let words = bytes.iter().zip(shifts);
+                words.fold(0, |sum, (byte, shift)| sum | u64::from(*byte) << shift)
+            };
+            for (at, byte) in bits.to_le_bytes().iter().enumerate().take(a.len()) {
+                others[offset as usize + at] &= !byte;
+            }
+            let is_alone = (changed(&a) ^ changed(&b)) & !bits == 0;
+            assert_eq!(
+                same_but_for(architecture, r_type, &a, &b),
+                is_alone,
+                "{machine} {after}"
+            );
+        }
+        for (at, mask) in others.iter().enumerate() {
+            assert_eq!(
+                object[at] & mask,
+                section[at] & mask,
+                "{machine} {relocations} {after}"
+            );
+        }
+    }
+}
+
 #[test]
 fn bounds_are_those_of_lld() {
     let rows = rows(include_str!("data/bounds.txt"));
@@ -209,6 +249,61 @@ fn words_of_got_entries_are_those_of_lld() {
     // R_RISCV_TLSDESC_CALL
     let none = value(Architecture::RiscV, 65, &Operands::default());
     assert_eq!(none, Err(Status::NoValue));
+}
+
+/// Relocations that ld.lld 19 doesn't know, by GNU ld: PowerPC64's of what the PLT has, and of
+/// prefixed instructions with a part of an address or with TLS; LoongArch's entries for TLS by
+/// `pcaddi`.
+#[test]
+fn words_are_those_of_gnu_ld() {
+    let rows = rows::<11>(include_str!("data/gnu.txt"));
+    assert_eq!(rows.len(), 19);
+    for [machine, r_type, name, addresses @ .., before, after] in rows {
+        let [place, symbol, got_entry, plt_entry, got_base, tls_base] = addresses.map(address);
+        let architecture = architecture_of(machine);
+        let r_type = r_type.parse().expect("a type");
+        assert_eq!(relocation_name(architecture, r_type).as_deref(), Ok(name));
+        let operands = Operands {
+            symbol,
+            place,
+            got_entry,
+            plt_entry,
+            got_base,
+            tls_base,
+            ..Operands::default()
+        };
+        let value = value(architecture, r_type, &operands).expect("it has a value");
+        let mut section = bytes_of(before);
+        let done = relocate(architecture, r_type, value, &mut section);
+        assert_eq!(
+            (done, section),
+            (Ok(()), bytes_of(after)),
+            "{name} at {place:#x}"
+        );
+    }
+}
+
+/// PowerPC64's relocations that only mark an instruction (64-bit ELF V2 ABI for Power, "Relocation
+/// Types").
+#[test]
+fn marks_have_no_value() {
+    let marks = [
+        (118, "R_PPC64_ENTRY"),
+        (119, "R_PPC64_PLTSEQ"),
+        (120, "R_PPC64_PLTCALL"),
+        (121, "R_PPC64_PLTSEQ_NOTOC"),
+        (122, "R_PPC64_PLTCALL_NOTOC"),
+        (123, "R_PPC64_PCREL_OPT"),
+    ];
+    for (r_type, name) in marks {
+        let named = relocation_name(Architecture::Ppc64, r_type);
+        assert_eq!(named.as_deref(), Ok(name));
+        let none = value(Architecture::Ppc64, r_type, &Operands::default());
+        assert_eq!(none, Err(Status::NoValue), "{name}");
+        let mut section = [0xff; 4];
+        let done = relocate(Architecture::Ppc64, r_type, -1, &mut section);
+        assert_eq!((done, section), (Ok(()), [0xff; 4]), "{name}");
+    }
 }
 
 /// `paddi 3, 4, VALUE, 0` and `pld 3, VALUE(4), 0` by llvm-mc 19.

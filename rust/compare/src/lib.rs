@@ -23,6 +23,7 @@ mod merges;
 mod packing;
 mod readers;
 mod reading;
+mod recognising;
 mod relaxing;
 mod relocate;
 mod relocations;
