@@ -28,15 +28,20 @@ in_padded a (x ∷ xs) n (inr h) = inr (in_padded a xs n h)
 
 -- ---- by their indices
 
-pub one_at : {A : Type 0} (a : A) (xs : List (Option A)) (i : ℕ) → i < length xs → get_or xs i None ≡ Some a → IsOneOf (Some a) xs
-one_at a [] i h e = absurd (omega arith)
-one_at a (x ∷ xs) zero h e = inl e
-one_at a (x ∷ xs) (suc i) h e = inr (one_at a xs i (omega arith) e)
+pub one_at : {A : Type 0} (a : A) (xs : List (Option A)) (i : ℕ) (d : Option A) → i < length xs → get_or xs i d ≡ Some a → IsOneOf (Some a) xs
+one_at a [] i d h e = absurd (omega arith)
+one_at a (x ∷ xs) zero d h e = inl e
+one_at a (x ∷ xs) (suc i) d h e = inr (one_at a xs i d (omega arith) e)
 
 pub none_at : {A : Type 0} (a : A) (xs : List (Option A)) → ((i : ℕ) → i < length xs → get_or xs i None ≡ Some a → ⊥) → IsOneOf (Some a) xs → ⊥
 none_at a [] other h = h
 none_at a (x ∷ xs) other (inl e) = other 0 (omega arith) e
 none_at a (x ∷ xs) other (inr h) = none_at a xs (λ i k e. other (suc i) (omega arith) e) h
+
+pub any_default : {A : Type 0} (xs : List A) (i : ℕ) (d e : A) → i < length xs → get_or xs i d ≡ get_or xs i e
+any_default [] i d e h = absurd (omega arith)
+any_default (x ∷ xs) zero d e h = refl
+any_default (x ∷ xs) (suc i) d e h = any_default xs i d e (omega arith)
 
 -- ---- those that are kept
 
@@ -170,4 +175,25 @@ pub chosen_made : {K R : Type 0} (IsChoice : Choice K R → Type 0) (P : Made K 
 chosen_made IsChoice P chosen found is unique test m = (
   (λ e. let both = (test m).0 e in (subst IsChoice (sym both.0) is, both.1)),
   (λ both. (test m).1 (sym (unique m.choice both.0), both.1)),
+)
+
+-- ---- what one choice is
+
+same_choice : {K R : Type 0} (a b : Choice K R) → a.kind ≡ b.kind → a.relocation ≡ b.relocation → a ≡ b
+same_choice {K} {R} a b k r = ap (λ (t : K). choice t a.relocation) k ∙ ap (λ (t : R). choice b.kind t) r
+
+pub both_are : {K R : Type 0} (x y : Option (Choice K R)) (a b : Choice K R) (T : Type 0) → x ≡ Some a → y ≡ Some b → a.kind ≡ b.kind
+    → T ↔ (a.relocation ≡ b.relocation) → T ↔ ((c : Choice K R) × ((x ≡ Some c) × (y ≡ Some c)))
+both_are {K} {R} x y a b T p q k r = (
+  (λ t. (a, (p, q ∙ ap Some (sym (same_choice a b k (r.0 t)))))),
+  (λ h. let e : Some a ≡ Some b = sym p ∙ h.1.0 ∙ sym h.1.1 ∙ q in let same : a ≡ b = cc in r.1 (ap (λ (t : Choice K R). t.relocation) same)),
+)
+
+-- what was made of a candidate is what was made of the choice that it is
+pub candidate_made : {K R : Type 0} (M : Choice K R → Type 0) (P : Made K R → Type 0) (candidate : Option (Choice K R)) (chosen : Choice K R) (found : Option (Made K R))
+    → candidate ≡ Some chosen → M chosen → ((m : Made K R) → (found ≡ Some m) ↔ ((m.choice ≡ chosen) × P m))
+    → (m : Made K R) → (found ≡ Some m) ↔ ((candidate ≡ Some m.choice) × (M m.choice × P m))
+candidate_made M P candidate chosen found is meant test m = (
+  (λ e. let both = (test m).0 e in (is ∙ ap Some (sym both.0), (subst M (sym both.0) meant, both.1))),
+  (λ h. let e : Some m.choice ≡ Some chosen = sym h.0 ∙ is in let same : m.choice ≡ chosen = cc in (test m).1 (same, h.1.1)),
 )

@@ -79,7 +79,8 @@ abbrev pub IsOneOf : {A : Type 0} → A → List A → Type 0
 IsOneOf a [] = ⊥
 IsOneOf a (x ∷ xs) = (x ≡ a) ⊎ IsOneOf a xs
 
--- It is one of some choices, its rewrite is meant for what is there, and it leaves the linked bytes.
+-- It is one of some choices, its rewrite is meant for what is there, and it leaves the linked
+-- bytes.
 pub record IsMade {K R : Type 0} (choices : List (Choice K R))
     (Matches : K → List ℕ → ℕ → Type 0)
     (Leaves : Choice K R → List ℕ → ℕ → List FieldBits → List ℕ → Type 0) (original : List ℕ)

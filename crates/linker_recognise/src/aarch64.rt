@@ -3,13 +3,15 @@
 ghost use Rattle.std.specs.Prelude.{◌≡◌, ◌≤◌, ◌↔◌, Some, None, length};
 ghost use Rattle.linker_elf.specs.AArch64Relocations.{aarch64_name, aarch64_row};
 ghost use Rattle.linker_recognise.specs.AArch64Recognised.{AArch64Choice, AArch64Leaves};
-ghost use Rattle.linker_recognise.specs.AArch64Recognised.{aarch64_choices};
-ghost use Rattle.linker_recognise.specs.AArch64Recognised.{AArch64Made, AArch64Reads, IsAArch64Found};
+ghost use Rattle.linker_recognise.specs.AArch64Recognised.{aarch64_choices, AArch64Made};
+ghost use Rattle.linker_recognise.specs.AArch64Recognised.{AArch64Reads, IsAArch64Found};
 ghost use Rattle.linker_recognise.specs.Inner.Candidates.{padded};
 ghost use Rattle.linker_recognise.specs.Recognised.{IsOneOf, AreThose, NoneTwice};
+ghost use Rattle.linker_recognise.specs.WrittenRows.{WrittenIsLeft};
 ghost use Rattle.linker_utils.specs.Choices as choices;
 ghost use Rattle.linker_utils.specs.AArch64Choices.{IsAArch64Choice};
 ghost use Rattle.linker_utils.specs.AArch64Originals.{aarch64_matches};
+ghost use Rattle.linker_utils.specs.AArch64Rewrites.{aarch64_rewrite};
 ghost use Rattle.linker_utils.specs.declared.elf.choice.LinkFacts.{LinkFacts};
 
 use crate::candidates::{CANDIDATES, one, three, two};
@@ -155,8 +157,8 @@ impl Name for AArch64Relocation {
     }
 }
 
-/// Which rewrites, and relocations after them, a linker may have made at the relocation with a name,
-/// whose offset in the original bytes is given, as `recognise` of `x86_64` says.
+/// Which rewrites, and relocations after them, a linker may have made at the relocation with a
+/// name, whose offset in the original bytes is given, as `recognise` of `x86_64` says.
 ///
 /// ```
 /// use linker_recognise::aarch64::recognise;
@@ -208,3 +210,9 @@ pub fn recognise_chosen(
     let chosen = choose(name, original, offset, facts);
     recognise_one(chosen, original, offset, others, linked)
 }
+
+/// Where a rewrite is applied, and the value of the relocation after it is written, the choice of
+/// both leaves these bytes. So `recognise` returns what `choose` chose, after `apply` and `write`.
+pub fn written_choices_are_left()
+    ensures { WrittenIsLeft aarch64_rewrite aarch64_row (λ kind. None) }
+{}

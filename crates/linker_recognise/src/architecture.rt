@@ -52,8 +52,8 @@ fn all_by_code<K: Kind, R: Name>(
     ]
 }
 
-/// Which rewrites, and relocations after them, a linker may have made at the relocation with a code,
-/// `r_type` in ELF files, as `recognise` of `aarch64`, `riscv64`, `loongarch64`, `ppc64` and
+/// Which rewrites, and relocations after them, a linker may have made at the relocation with a
+/// code, `r_type` in ELF files, as `recognise` of `aarch64`, `riscv64`, `loongarch64`, `ppc64` and
 /// `x86_64` says.
 ///
 /// ```

@@ -41,8 +41,8 @@ pub struct Made<K, R> {
     pub value: Option<FieldValue>,
 }
 
-/// The bits of a relocation's field at an offset, if its window is there. A relocation without a row
-/// has no bits.
+/// The bits of a relocation's field at an offset, if its window is there. A relocation without a
+/// row has no bits.
 #[tactic(auto, using(crate::proofs::Same::in_none))]
 fn field_at(row: &Option<Row>, at: u64, bytes: &[u8]) -> Option<FieldBits>
     ensures some { IfSome result (λ field. HasField row.now at bytes.now
@@ -70,8 +70,8 @@ fn deleted_at(deleted: Option<DeletedBytes>, offset: u64) -> (u64, u64)
     }
 }
 
-/// Whether the linked bytes are those after a rewrite, without the deleted ones, but for the field of
-/// a row and some other bits.
+/// Whether the linked bytes are those after a rewrite, without the deleted ones, but for the field
+/// of a row and some other bits.
 fn are_left(
     after: &[u8],
     at: u64,

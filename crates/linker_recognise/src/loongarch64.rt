@@ -2,14 +2,16 @@
 
 ghost use Rattle.std.specs.Prelude.{◌≡◌, ◌≤◌, ◌↔◌, Some, length};
 ghost use Rattle.linker_elf.specs.LoongArchRelocations.{loongarch_name, loongarch_row};
-ghost use Rattle.linker_recognise.specs.LoongArchRecognised.{LoongArchChoice, LoongArchLeaves, loongarch_choices};
-ghost use Rattle.linker_recognise.specs.LoongArchRecognised.{LoongArchMade, LoongArchReads, IsLoongArchFound};
+ghost use Rattle.linker_recognise.specs.LoongArchRecognised.{LoongArchChoice, LoongArchLeaves};
+ghost use Rattle.linker_recognise.specs.LoongArchRecognised.{loongarch_choices, LoongArchMade};
+ghost use Rattle.linker_recognise.specs.LoongArchRecognised.{LoongArchReads, IsLoongArchFound};
 ghost use Rattle.linker_recognise.specs.Inner.Candidates.{padded};
 ghost use Rattle.linker_recognise.specs.Recognised.{IsOneOf, AreThose, NoneTwice};
+ghost use Rattle.linker_recognise.specs.WrittenRows.{WrittenIsLeft};
 ghost use Rattle.linker_utils.specs.Choices as choices;
 ghost use Rattle.linker_utils.specs.LoongArchChoices.{IsLoongArchChoice};
 ghost use Rattle.linker_utils.specs.LoongArchOriginals.{loongarch_matches};
-ghost use Rattle.linker_utils.specs.LoongArchRewrites.{loongarch_deleted};
+ghost use Rattle.linker_utils.specs.LoongArchRewrites.{loongarch_rewrite, loongarch_deleted};
 ghost use Rattle.linker_utils.specs.declared.elf.choice.LinkFacts.{LinkFacts};
 
 use crate::candidates::{CANDIDATES, one, three, two};
@@ -176,11 +178,11 @@ impl Name for LoongArch64Relocation {
     }
 }
 
-/// Which rewrites, and relocations after them, a linker may have made at the relocation with a name,
-/// whose offset in the original bytes is given, as `recognise` of `x86_64` says.
+/// Which rewrites, and relocations after them, a linker may have made at the relocation with a
+/// name, whose offset in the original bytes is given, as `recognise` of `x86_64` says.
 ///
-/// A rewrite after which bytes are deleted leaves the others. So the linked window is shorter by the
-/// deleted bytes, and empty if they are all of the original window.
+/// A rewrite after which bytes are deleted leaves the others. So the linked window is shorter by
+/// the deleted bytes, and empty if they are all of the original window.
 ///
 /// ```
 /// use linker_recognise::loongarch64::recognise;
@@ -232,3 +234,10 @@ pub fn recognise_chosen(
     let chosen = choose(name, original, offset, facts);
     recognise_one(chosen, original, offset, others, linked)
 }
+
+/// Where a rewrite is applied, the value of the relocation after it is written, and the deleted
+/// bytes are taken out, the choice of both leaves the bytes that stay. So `recognise` returns what
+/// `choose` chose, after `apply` and `write`.
+pub fn written_choices_are_left()
+    ensures { WrittenIsLeft loongarch_rewrite loongarch_row loongarch_deleted }
+{}

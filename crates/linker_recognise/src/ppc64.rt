@@ -6,9 +6,11 @@ ghost use Rattle.linker_recognise.specs.Ppc64Recognised.{Ppc64Choice, Ppc64Leave
 ghost use Rattle.linker_recognise.specs.Ppc64Recognised.{Ppc64Made, Ppc64Reads, IsPpc64Found};
 ghost use Rattle.linker_recognise.specs.Inner.Candidates.{padded};
 ghost use Rattle.linker_recognise.specs.Recognised.{IsOneOf, AreThose, NoneTwice};
+ghost use Rattle.linker_recognise.specs.WrittenRows.{WrittenIsLeft};
 ghost use Rattle.linker_utils.specs.Choices as choices;
 ghost use Rattle.linker_utils.specs.Ppc64Choices.{IsPpc64Choice};
 ghost use Rattle.linker_utils.specs.Ppc64Originals.{ppc64_matches};
+ghost use Rattle.linker_utils.specs.Ppc64Rewrites.{ppc64_rewrite};
 ghost use Rattle.linker_utils.specs.declared.elf.choice.LinkFacts.{LinkFacts};
 
 use crate::candidates::{CANDIDATES, four, one, three, two};
@@ -174,8 +176,8 @@ impl Name for Ppc64Relocation {
     }
 }
 
-/// Which rewrites, and relocations after them, a linker may have made at the relocation with a name,
-/// whose offset in the original bytes is given, as `recognise` of `x86_64` says.
+/// Which rewrites, and relocations after them, a linker may have made at the relocation with a
+/// name, whose offset in the original bytes is given, as `recognise` of `x86_64` says.
 ///
 /// ```
 /// use linker_recognise::ppc64::recognise;
@@ -227,3 +229,9 @@ pub fn recognise_chosen(
     let chosen = choose(name, original, offset, facts);
     recognise_one(chosen, original, offset, others, linked)
 }
+
+/// Where a rewrite is applied, and the value of the relocation after it is written, the choice of
+/// both leaves these bytes. So `recognise` returns what `choose` chose, after `apply` and `write`.
+pub fn written_choices_are_left()
+    ensures { WrittenIsLeft ppc64_rewrite ppc64_row (λ kind. None) }
+{}
