@@ -12,6 +12,7 @@ ghost use Rattle.linker_utils.specs.Choices as choices;
 ghost use Rattle.linker_utils.specs.AArch64Choices.{IsAArch64Choice};
 ghost use Rattle.linker_utils.specs.AArch64Originals.{aarch64_matches};
 ghost use Rattle.linker_utils.specs.AArch64Rewrites.{aarch64_rewrite};
+ghost use Rattle.linker_utils.specs.declared.architecture.Relaxation.TheVariants as relaxations;
 ghost use Rattle.linker_utils.specs.declared.elf.choice.LinkFacts.{LinkFacts};
 
 use crate::candidates::{CANDIDATES, one, three, two};
@@ -120,7 +121,7 @@ impl Kind for RelaxationKind {
 
     ghost deleted = { λ kind. None };
 
-    ghost relaxation_of = { Relaxation.AArch64 };
+    ghost relaxation_of = { relaxations.AArch64 };
 
     fn is_meant_for(self, section: &[u8], offset: u64) -> bool {
         self.matches(section, offset)

@@ -12,6 +12,7 @@ ghost use Rattle.linker_utils.specs.Choices as choices;
 ghost use Rattle.linker_utils.specs.LoongArchChoices.{IsLoongArchChoice};
 ghost use Rattle.linker_utils.specs.LoongArchOriginals.{loongarch_matches};
 ghost use Rattle.linker_utils.specs.LoongArchRewrites.{loongarch_rewrite, loongarch_deleted};
+ghost use Rattle.linker_utils.specs.declared.architecture.Relaxation.TheVariants as relaxations;
 ghost use Rattle.linker_utils.specs.declared.elf.choice.LinkFacts.{LinkFacts};
 
 use crate::candidates::{CANDIDATES, one, three, two};
@@ -141,7 +142,7 @@ impl Kind for RelaxationKind {
 
     ghost deleted = { loongarch_deleted };
 
-    ghost relaxation_of = { Relaxation.LoongArch64 };
+    ghost relaxation_of = { relaxations.LoongArch64 };
 
     fn is_meant_for(self, section: &[u8], offset: u64) -> bool {
         self.matches(section, offset)

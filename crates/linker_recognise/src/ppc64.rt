@@ -11,6 +11,7 @@ ghost use Rattle.linker_utils.specs.Choices as choices;
 ghost use Rattle.linker_utils.specs.Ppc64Choices.{IsPpc64Choice};
 ghost use Rattle.linker_utils.specs.Ppc64Originals.{ppc64_matches};
 ghost use Rattle.linker_utils.specs.Ppc64Rewrites.{ppc64_rewrite};
+ghost use Rattle.linker_utils.specs.declared.architecture.Relaxation.TheVariants as relaxations;
 ghost use Rattle.linker_utils.specs.declared.elf.choice.LinkFacts.{LinkFacts};
 
 use crate::candidates::{CANDIDATES, four, one, three, two};
@@ -139,7 +140,7 @@ impl Kind for RelaxationKind {
 
     ghost deleted = { λ kind. None };
 
-    ghost relaxation_of = { Relaxation.Ppc64 };
+    ghost relaxation_of = { relaxations.Ppc64 };
 
     fn is_meant_for(self, section: &[u8], offset: u64) -> bool {
         self.matches(section, offset)

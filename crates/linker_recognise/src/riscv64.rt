@@ -11,6 +11,7 @@ ghost use Rattle.linker_utils.specs.Choices as choices;
 ghost use Rattle.linker_utils.specs.RiscVChoices.{riscv_row_of, IsRiscVChoice};
 ghost use Rattle.linker_utils.specs.RiscVOriginals.{riscv_matches};
 ghost use Rattle.linker_utils.specs.RiscVRewrites.{riscv_rewrite, riscv_deleted};
+ghost use Rattle.linker_utils.specs.declared.architecture.Relaxation.TheVariants as relaxations;
 ghost use Rattle.linker_utils.specs.declared.elf.choice.LinkFacts.{LinkFacts};
 
 use crate::candidates::{CANDIDATES, five, four, one, three, two};
@@ -128,7 +129,7 @@ impl Kind for RelaxationKind {
 
     ghost deleted = { riscv_deleted };
 
-    ghost relaxation_of = { Relaxation.RiscV };
+    ghost relaxation_of = { relaxations.RiscV };
 
     fn is_meant_for(self, section: &[u8], offset: u64) -> bool {
         self.matches(section, offset)

@@ -10,6 +10,7 @@ ghost use Rattle.linker_recognise.specs.WrittenFields.{X86WrittenIsLeft};
 ghost use Rattle.linker_utils.specs.Choices as choices;
 ghost use Rattle.linker_utils.specs.X86Choices as tables;
 ghost use Rattle.linker_utils.specs.X86Choices.{IsX86Choice};
+ghost use Rattle.linker_utils.specs.declared.architecture.Relaxation.TheVariants as relaxations;
 ghost use Rattle.linker_utils.specs.declared.elf.choice.LinkFacts.{LinkFacts};
 ghost use Rattle.linker_utils.specs.X86Originals.{x86_64_matches};
 ghost use Rattle.linker_utils.specs.X86RelocationsAfter as replaced;
@@ -225,7 +226,7 @@ impl Kind for RelaxationKind {
 
     ghost deleted = { λ kind. None };
 
-    ghost relaxation_of = { Relaxation.X86_64 };
+    ghost relaxation_of = { relaxations.X86_64 };
 
     fn is_meant_for(self, section: &[u8], offset: u64) -> bool {
         self.matches(section, offset)
