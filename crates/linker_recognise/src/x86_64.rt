@@ -3,7 +3,7 @@
 ghost use Rattle.std.specs.Prelude.{◌≡◌, ◌-◌, ◌≤◌, ◌↔◌, Some, None, length, slice_index};
 ghost use Rattle.linker_elf.specs.X86Relocations.{x86_64_name, x86_64_row};
 ghost use Rattle.linker_recognise.specs.Inner.Candidates.{padded};
-ghost use Rattle.linker_recognise.specs.Recognised.{IsOneOf, AreThose, NoneTwice};
+ghost use Rattle.linker_recognise.specs.Recognised.{IsOneOf, AreThose};
 ghost use Rattle.linker_recognise.specs.X86Recognised.{X86Choice, X86Leaves, x86_64_choices};
 ghost use Rattle.linker_recognise.specs.X86Recognised.{X86Made, X86Reads, IsX86Found};
 ghost use Rattle.linker_recognise.specs.WrittenFields.{X86WrittenIsLeft};
@@ -24,6 +24,7 @@ use linker_utils::riscv64::DeletedBytes;
 use linker_utils::x86_64::{RelaxationKind, X86_64Relocation, choose, row};
 
 type X86Choice = Choice<RelaxationKind, X86_64Relocation>;
+
 type X86Made = Made<RelaxationKind, X86_64Relocation>;
 
 #[inline(always)]
@@ -254,8 +255,15 @@ impl Name for X86_64Relocation {
         row(self)
     }
 
-    fn is(self, other: X86_64Relocation) -> bool {
-        self == other
+    fn repeats(self, other: X86_64Relocation) -> bool {
+        matches!(
+            (self, other),
+            (X86_64Relocation::R_X86_64_32, X86_64Relocation::R_X86_64_32)
+                | (
+                    X86_64Relocation::R_X86_64_32S,
+                    X86_64Relocation::R_X86_64_32S
+                )
+        )
     }
 
     fn code(self) -> u32 {
@@ -307,7 +315,6 @@ pub fn recognise(
     requires { length original.now ≤ 64 }
     ensures found { AreThose (IsX86Found name original.now offset others.now linked.now)
         result }
-    ensures once { NoneTwice result }
     ensures any { (facts : LinkFacts) (m : X86Made)
         → IsX86Choice name original.now offset facts m.choice
         → X86Leaves m.choice original.now offset others.now linked.now

@@ -10,6 +10,7 @@ use crate::elf::{Choice, LinkFacts, Row};
 use crate::riscv64::DeletedBytes;
 
 type AArch64Choice = Choice<RelaxationKind, AArch64Relocation>;
+
 type AArch64Made = Made<RelaxationKind, AArch64Relocation>;
 
 #[inline(always)]
@@ -121,8 +122,14 @@ impl Name for AArch64Relocation {
         row(self)
     }
 
-    fn is(self, other: AArch64Relocation) -> bool {
-        self == other
+    fn repeats(self, other: AArch64Relocation) -> bool {
+        matches!(
+            (self, other),
+            (
+                AArch64Relocation::R_AARCH64_NONE,
+                AArch64Relocation::R_AARCH64_NONE
+            )
+        )
     }
 
     fn code(self) -> u32 {

@@ -103,7 +103,8 @@ pub(crate) trait Kind: InstructionRewrite {
 pub(crate) trait Name: Copy {
     fn find_row(self) -> Option<Row>;
 
-    fn is(self, other: Self) -> bool;
+    /// Whether both are one of the names that a table lists twice.
+    fn repeats(self, other: Self) -> bool;
 
     fn code(self) -> u32;
 }
@@ -161,10 +162,10 @@ fn are_same<K: Kind, R: Name>(a: Option<Choice<K, R>>, b: Option<Choice<K, R>>) 
     let (Some(a), Some(b)) = (a, b) else {
         return false;
     };
-    a.kind.is(b.kind) && a.relocation.is(b.relocation)
+    a.kind.is(b.kind) && a.relocation.repeats(b.relocation)
 }
 
-/// Whether there is a choice, and it is one of some.
+/// Whether there is a choice, and it is found to be one of some.
 fn is_among<K: Kind, R: Name>(
     candidate: Option<Choice<K, R>>,
     earlier: &[Option<Choice<K, R>>],
@@ -192,8 +193,7 @@ fn kept_once<K: Kind, R: Name>(
     kept(candidate, original, offset, others, linked)
 }
 
-/// Those of some choices that are meant for what is at the offset and leave the linked bytes, each
-/// once.
+/// Those of some choices that are meant for what is at the offset and leave the linked bytes.
 pub(crate) fn recognise_among<K: Kind, R: Name>(
     choices: [Option<Choice<K, R>>; CANDIDATES],
     original: &[u8],

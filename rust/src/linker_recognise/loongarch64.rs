@@ -10,6 +10,7 @@ use crate::loongarch64::{LoongArch64Relocation, RelaxationKind, choose, row};
 use crate::riscv64::DeletedBytes;
 
 type LoongArchChoice = Choice<RelaxationKind, LoongArch64Relocation>;
+
 type LoongArchMade = Made<RelaxationKind, LoongArch64Relocation>;
 
 #[inline(always)]
@@ -142,8 +143,14 @@ impl Name for LoongArch64Relocation {
         row(self)
     }
 
-    fn is(self, other: LoongArch64Relocation) -> bool {
-        self == other
+    fn repeats(self, other: LoongArch64Relocation) -> bool {
+        matches!(
+            (self, other),
+            (
+                LoongArch64Relocation::R_LARCH_NONE,
+                LoongArch64Relocation::R_LARCH_NONE
+            )
+        )
     }
 
     fn code(self) -> u32 {

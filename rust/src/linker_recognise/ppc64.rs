@@ -10,6 +10,7 @@ use crate::ppc64::{Ppc64Relocation, RelaxationKind, choose, row};
 use crate::riscv64::DeletedBytes;
 
 type Ppc64Choice = Choice<RelaxationKind, Ppc64Relocation>;
+
 type Ppc64Made = Made<RelaxationKind, Ppc64Relocation>;
 
 #[inline(always)]
@@ -141,8 +142,8 @@ impl Name for Ppc64Relocation {
         row(self)
     }
 
-    fn is(self, other: Ppc64Relocation) -> bool {
-        self == other
+    fn repeats(self, _other: Ppc64Relocation) -> bool {
+        false
     }
 
     fn code(self) -> u32 {

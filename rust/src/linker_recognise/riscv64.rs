@@ -9,6 +9,7 @@ use crate::elf::{Choice, LinkFacts, Row};
 use crate::riscv64::{DeletedBytes, RelaxationKind, RiscVRelocation, choose, row};
 
 type RiscVChoice = Choice<RelaxationKind, RiscVRelocation>;
+
 type RiscVMade = Made<RelaxationKind, RiscVRelocation>;
 
 #[inline(always)]
@@ -130,8 +131,11 @@ impl Name for RiscVRelocation {
         row(self)
     }
 
-    fn is(self, other: RiscVRelocation) -> bool {
-        self == other
+    fn repeats(self, other: RiscVRelocation) -> bool {
+        matches!(
+            (self, other),
+            (RiscVRelocation::R_RISCV_NONE, RiscVRelocation::R_RISCV_NONE)
+        )
     }
 
     fn code(self) -> u32 {

@@ -10,6 +10,7 @@ use crate::riscv64::DeletedBytes;
 use crate::x86_64::{RelaxationKind, X86_64Relocation, choose, row};
 
 type X86Choice = Choice<RelaxationKind, X86_64Relocation>;
+
 type X86Made = Made<RelaxationKind, X86_64Relocation>;
 
 #[inline(always)]
@@ -212,8 +213,15 @@ impl Name for X86_64Relocation {
         row(self)
     }
 
-    fn is(self, other: X86_64Relocation) -> bool {
-        self == other
+    fn repeats(self, other: X86_64Relocation) -> bool {
+        matches!(
+            (self, other),
+            (X86_64Relocation::R_X86_64_32, X86_64Relocation::R_X86_64_32)
+                | (
+                    X86_64Relocation::R_X86_64_32S,
+                    X86_64Relocation::R_X86_64_32S
+                )
+        )
     }
 
     fn code(self) -> u32 {
