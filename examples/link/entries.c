@@ -127,8 +127,42 @@ static struct entry *entry_of(const struct relocation *r, uint32_t kind) {
  * that the GOT is as ld.lld's; on LoongArch those that R_LARCH_RELAX doesn't mark. */
 static bool waits(const struct row *row, const Elf64_Rela *r, const Elf64_Rela *next) {
     bool is_marked = next && next->r_offset == r->r_offset && next->r_info == LARCH_RELAX;
-    return row->info.kind < LINKER_UTILS_KIND_TLS_GD &&
+    return row->info.kind && row->info.kind < LINKER_UTILS_KIND_TLS_GD &&
            (machine == EM_AARCH64 || (machine == EM_LOONGARCH && !is_marked));
+}
+
+/* PowerPC64: the section `.toc` of the same object that a relocation refers to, and the offset
+ * there; else null. */
+struct section *toc_section(const struct relocation *r, uint64_t *offset) {
+    const struct symbol *s = r->symbol;
+    if (s->object != r->section->object || s->elf.st_shndx >= s->object->sections_len) return NULL;
+    struct section *toc = &s->object->sections[s->elf.st_shndx];
+    *offset = s->elf.st_value + (uint64_t)r->addend;
+    return !strcmp(toc->name, ".toc") && toc->output && *offset < toc->head->sh_size ? toc : NULL;
+}
+
+/* PowerPC64: notes an instruction with the low half of an address that can't be over the TOC
+ * pointer, and one that isn't an `ld` of a doubleword of the TOC: then others of the same address
+ * stay. */
+static void note_low_half(const struct relocation *r, const uint8_t *bytes, uint64_t len) {
+    const uint32_t near = LINKER_UTILS_PPC64_REWRITE_BASE_TO_TOC;
+    const uint32_t load = LINKER_UTILS_PPC64_REWRITE_LD_TO_ADDI;
+    uint64_t offset, at = r->offset - r->section->offset;
+    if (r->type != R_PPC64_TOC16_LO && r->type != R_PPC64_TOC16_LO_DS) return;
+    if (linker_utils_matches(machine, near, 0, bytes, len, at))
+        r->section->object->has_other_low_halves = true;
+    struct section *toc = toc_section(r, &offset);
+    if (!toc) return;
+    if (!toc->words_kept) toc->words_kept = take(toc->head->sh_size / 8 + 1, 1);
+    if (r->type == R_PPC64_TOC16_LO || linker_utils_matches(machine, load, 0, bytes, len, at))
+        toc->words_kept[offset / 8] = 1;
+}
+
+/* PowerPC64: whether a relocation marks a call of `__tls_get_addr` by code that doesn't use the
+ * TOC. The instruction before it is prefixed, and stays. */
+static bool is_notoc_mark(const struct relocation *r, const Elf64_Rela *next) {
+    return machine == EM_PPC64 && (r->type == R_PPC64_TLSGD || r->type == R_PPC64_TLSLD) && next &&
+           ELF64_R_TYPE(next->r_info) == PPC64_REL24_NOTOC;
 }
 
 /* Reads the relocations of a section, and rewrites instructions where that needs no address. */
@@ -153,6 +187,8 @@ void read_relocations(struct section *s) {
         bool is_here = is_defined(of) && of->elf.st_shndx != SHN_ABS;
         if (!is_code || !r->type || waits(row_of(r), elf + i, i + 1 < len ? elf + i + 1 : NULL))
             continue;
+        if (machine == EM_PPC64) note_low_half(r, bytes, size);
+        if (is_notoc_mark(r, i + 1 < len ? elf + i + 1 : NULL)) continue;
         struct linker_utils_link_facts facts = {
             .is_local = is_here, .has_fixed_address = is_here, .has_fixed_distance = is_here,
             .is_executable = 1, .has_local_exec_base = 1, .operands.addend = r->addend};
@@ -176,7 +212,9 @@ void read_relocations(struct section *s) {
             fail("%s: undefined symbol '%s'", place_of(r), r->symbol->name);
         if (row->info.kind == LINKER_UTILS_KIND_ALIGNMENT && !s->output->shrinks)
             fail("%s is not supported", place_of(r));
-        if (row->asks_for_got) r->entry = entry_of(r, row->info.kind);
+        bool is_direct = machine == EM_RISCV && row->info.kind == LINKER_UTILS_KIND_TLS_DESC;
+        if ((row->asks_for_got && !is_direct) || row->loads_plt)
+            r->entry = entry_of(r, row->info.kind);
         if (row->info.kind && is_ifunc(r->symbol)) r->symbol->needs_stub = true;
         if (r->restores_toc && is_ifunc(r->symbol)) r->addend -= 4;
         bool is_page = i && r[-1].type == R_AARCH64_ADR_GOT_PAGE;
@@ -247,8 +285,8 @@ bool add_thunks(void) {
         for (size_t j = 0, len = o->relocations_len; j < len; j++) {
             struct relocation *r = &o->relocations[j];
             struct symbol *s = r->symbol;
-            if (!r->section || !row_of(r)->may_use_plt || s->is_thunk || !is_defined(s) ||
-                is_left_out(r))
+            if (!r->section || !row_of(r)->may_use_plt || row_of(r)->loads_plt || s->is_thunk ||
+                !is_defined(s) || is_left_out(r))
                 continue;
             bool is_notoc = machine == EM_PPC64 && r->type == PPC64_REL24_NOTOC;
             bool is_needed = is_notoc ? toc_of(s) > 1 : toc_of(s) == 1;

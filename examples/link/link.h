@@ -32,6 +32,7 @@
 /* relocation types that older versions of <elf.h> lack */
 enum { LARCH_PCALA_HI20 = 71, LARCH_PCALA_LO12 = 72, LARCH_RELAX = 100, LARCH_ALIGN = 102 };
 enum { LARCH_B26 = 66, LARCH_PCREL20_S2 = 103, LARCH_CALL36 = 110, PPC64_REL24_NOTOC = 116 };
+enum { RISCV_TLSDESC_HI20 = 62, RISCV_TLSDESC_CALL = 65 };
 
 /* the order of the sections of the linked file; there are three kinds of arrays */
 enum { RANK_HEADERS, RANK_FIXED, RANK_CODE, RANK_TLS, RANK_TLS_BSS, RANK_ARRAYS, RANK_RELOCATED = 8,
@@ -61,16 +62,18 @@ struct object {
     struct symbol **symbols;
     size_t len, sections_len, symbols_len;
     int place; /* which argument it is of */
+    bool has_other_low_halves; /* PowerPC64: not all can be over the TOC pointer */
 };
 
 struct section {
-    const struct object *object;
+    struct object *object;
     const char *name;
     const Elf64_Shdr *head, *relocations; /* null where it has none */
     struct output *output;                /* null where it is left out */
     uint64_t offset, end;                 /* in the output */
     bool is_duplicate;                    /* of a group that another object has too */
     bool has_lone_got_halves; /* AArch64: not all `adrp` and `ldr` of GOT entries are pairs */
+    uint8_t *words_kept; /* PowerPC64, `.toc`: 1 for a doubleword that not only `ld`s refer to */
 };
 
 struct archive {
@@ -112,6 +115,7 @@ struct relocation {
     int64_t addend;
     uint32_t type;
     bool is_jump, restores_toc; /* a RISC-V call that becomes a jump; PowerPC64: by its `nop` */
+    bool keeps_entry; /* RISC-V: an `auipc` whose loads from the GOT stay */
 };
 
 /* What the library says of a relocation type. */
@@ -119,6 +123,7 @@ struct row {
     struct linker_utils_relocation_info info;
     enum linker_utils_role role;
     bool is_known, asks_for_got, may_use_plt;
+    bool loads_plt; /* PowerPC64: of code that itself loads what the PLT has */
 };
 
 /* The TLS segment: where its image is, its length and alignment, the thread pointer, and the origin
@@ -157,6 +162,7 @@ uint64_t address_of(const struct output *o, uint64_t offset);
 void add_section(struct section *s), copy_section(struct section *s), sort_outputs(void);
 
 void read_relocations(struct section *s), make_entries(void);
+struct section *toc_section(const struct relocation *r, uint64_t *offset);
 bool add_thunks(void);
 uint32_t rewrite(const struct relocation *r, uint8_t *bytes, uint64_t len, uint64_t *offset,
                  int64_t *addend, uint32_t *type, const struct linker_utils_link_facts *facts);

@@ -12,6 +12,9 @@ const struct row *row_of(const struct relocation *r) {
     row->role = linker_utils_uleb128_role(machine, r->type);
     row->asks_for_got = linker_utils_asks_for_got(machine, r->type);
     row->may_use_plt = linker_utils_may_use_plt(machine, r->type);
+    row->loads_plt = machine == EM_PPC64 &&
+                     (row->info.kind == LINKER_UTILS_KIND_PLT_RELATIVE ||
+                      row->info.kind == LINKER_UTILS_KIND_PLT_REL_GOT_BASE);
     row->is_known = true;
     return row;
 }
@@ -51,17 +54,128 @@ static void rewrite_aarch64(struct output *o, struct relocation *page, struct re
     if (last == LINKER_UTILS_AARCH64_REWRITE_ADRP_ADD_TO_NOP_ADR) page->type = R_AARCH64_NONE;
 }
 
+static int by_offset(const void *left, const void *right) {
+    const struct relocation *a = left, *b = right;
+    return a->offset < b->offset ? -1 : a->offset > b->offset;
+}
+
+/* PowerPC64: the address in the doubleword of the TOC that a relocation refers to, if only `ld`s
+ * do; else null. */
+static const struct relocation *toc_word(const struct relocation *r) {
+    struct relocation key = {0}, *word;
+    const struct section *toc = toc_section(r, &key.offset);
+    if (!toc || (toc->words_kept && toc->words_kept[key.offset / 8])) return NULL;
+    key.offset += toc->offset;
+    word = bsearch(&key, toc->output->relocations, toc->output->relocations_len, sizeof key,
+                   by_offset);
+    return word && word->type == R_PPC64_ADDR64 && !is_left_out(word) ? word : NULL;
+}
+
+/* PowerPC64: a load of an address from the TOC becomes a sum of the TOC pointer and a distance, and
+ * distances of 16 bits need no high half. */
+static void rewrite_ppc64(struct output *o, struct relocation *r) {
+    const struct section *s = r->section;
+    bool is_high = r->type == R_PPC64_TOC16_HA;
+    if (!s || !(s->head->sh_flags & SHF_EXECINSTR) ||
+        (!is_high && r->type != R_PPC64_TOC16_LO && r->type != R_PPC64_TOC16_LO_DS))
+        return;
+    uint8_t *bytes = o->bytes + s->offset;
+    uint64_t len = s->head->sh_size, at = r->offset - s->offset;
+    struct linker_utils_link_facts facts = {.has_fixed_distance = 1, .has_addresses = 1,
+                                            .operands.got_base = got->address + 0x8000};
+    const struct relocation *word = toc_word(r);
+    if (word) {
+        uint32_t entry = is_high ? R_PPC64_GOT16_HA : R_PPC64_GOT16_LO_DS, type = entry;
+        struct relocation direct = *word;
+        facts.is_local = direct.symbol->elf.st_shndx != SHN_UNDEF;
+        facts.operands.symbol = address_of(direct.symbol->output, direct.symbol->offset);
+        facts.operands.addend = direct.addend;
+        rewrite(r, bytes, len, &at, &direct.addend, &type, &facts);
+        if (type != entry) {
+            r->symbol = direct.symbol;
+            r->addend = direct.addend;
+            r->type = type;
+        }
+    }
+    facts.has_private_base = !s->object->has_other_low_halves;
+    facts.operands.symbol = address_of(r->symbol->output, r->symbol->offset);
+    facts.operands.addend = r->addend;
+    rewrite(r, bytes, len, &at, &r->addend, &r->type, &facts);
+}
+
 /* The high part that a low one of RISC-V means by its label. */
-static const struct relocation *high_part(const struct output *o, const struct relocation *low) {
-    const struct relocation *r = low, *first = o->relocations, *end = first + o->relocations_len;
+static struct relocation *high_part(const struct output *o, const struct relocation *low) {
+    struct relocation *first = o->relocations, *end = first + o->relocations_len;
+    struct relocation *r = first + (low - first);
     uint64_t at = low->symbol->offset;
     while (r > first && r->offset >= at) r--;
     for (; r < end && low->symbol->output == o; r++)
         if (r->offset == at &&
             (r->type == R_RISCV_PCREL_HI20 || r->type == R_RISCV_GOT_HI20 ||
-             r->type == R_RISCV_TLS_GOT_HI20 || r->type == R_RISCV_TLS_GD_HI20))
+             r->type == R_RISCV_TLS_GOT_HI20 || r->type == R_RISCV_TLS_GD_HI20 ||
+             r->type == RISCV_TLSDESC_HI20))
             return r;
     fail("%s: no high part at '%s'", place_of(low), low->symbol->name);
+}
+
+/* The high part that a relocation of RISC-V is or names, if that is of a GOT entry or of a TLS
+ * descriptor; else null. */
+static struct relocation *entry_part(const struct output *o, struct relocation *r) {
+    bool is_low = r->type == R_RISCV_PCREL_LO12_I || r->type == R_RISCV_PCREL_LO12_S ||
+                  (r->type > RISCV_TLSDESC_HI20 && r->type <= RISCV_TLSDESC_CALL);
+    struct relocation *high = is_low ? high_part(o, r) : r;
+    return high->type == R_RISCV_GOT_HI20 || high->type == RISCV_TLSDESC_HI20 ? high : NULL;
+}
+
+static bool is_marked(const struct output *o, const struct relocation *r) {
+    const struct relocation *next = r + 1;
+    return next < o->relocations + o->relocations_len && next->type == R_RISCV_RELAX &&
+           next->offset == r->offset;
+}
+
+/* What is known of the symbol of a high part, for a rewrite at it or at one of its low parts. Loads
+ * from the GOT have to be marked; a TLS descriptor has to be only where bytes are deleted. */
+static struct linker_utils_link_facts facts_of(const struct output *o,
+                                               const struct relocation *high,
+                                               const struct relocation *r) {
+    const struct symbol *s = high->symbol;
+    bool is_load = high->type == R_RISCV_GOT_HI20;
+    return (struct linker_utils_link_facts){
+        .is_local = s->output != NULL, .has_fixed_distance = 1, .is_executable = 1,
+        .has_got_high_part = is_load, .has_addresses = 1,
+        .is_marked = is_load && is_marked(o, high) && is_marked(o, r),
+        .operands = {.symbol = address_of(s->output, s->offset), .addend = high->addend,
+                     .place = address_of(o, high->offset), .tls_base = tls.thread}};
+}
+
+/* RISC-V: TLS descriptors become offsets from the thread pointer, and loads from the GOT sums, if
+ * all of one high part can. The GOT stays, as ld.lld's. */
+static void rewrite_riscv(struct output *o) {
+    struct relocation *end = o->relocations + o->relocations_len, *high;
+    struct linker_utils_link_facts facts;
+    for (struct relocation *r = o->relocations; r < end; r++) {
+        if (!(high = entry_part(o, r))) continue;
+        struct linker_utils_choice choice;
+        uint64_t at = address_of(o, r->offset) - o->address;
+        facts = facts_of(o, high, r);
+        check(r, linker_utils_choose(machine, r->type, o->bytes, o->len, at, &facts, &choice));
+        if (choice.rewrite != LINKER_UTILS_RISCV_REWRITE_NO_OP || choice.relocation != r->type)
+            continue;
+        if (high->type == RISCV_TLSDESC_HI20) fail("%s is not supported", place_of(r));
+        high->keeps_entry = true;
+    }
+    for (int step = 0; step < 2; step++) { /* the low parts first, while the high ones are there */
+        for (struct relocation *r = o->relocations; r < end; r++) {
+            if (!(high = entry_part(o, r)) || high->keeps_entry || (high == r) != step) continue;
+            uint64_t at = address_of(o, r->offset) - o->address;
+            facts = facts_of(o, high, r);
+            rewrite(r, o->bytes, o->len, &at, &r->addend, &r->type, &facts);
+            if (high == r) r->entry = NULL;
+            if (high->type != RISCV_TLSDESC_HI20) continue;
+            r->symbol = high->symbol;
+            r->addend = high->addend;
+        }
+    }
 }
 
 int64_t value_of(const struct output *o, const struct relocation *r) {
@@ -83,12 +197,17 @@ int64_t value_of(const struct output *o, const struct relocation *r) {
         operands.addend -= (int64_t)(r->entry->class == THREAD_OFFSET ? tls.thread : tls.module);
     if (row->may_use_plt && s->elf.st_shndx == SHN_UNDEF) {
         /* a call of a weak symbol that nothing defines goes where ld.lld lets it go */
-        if (machine == EM_AARCH64 || machine == EM_RISCV || machine == EM_PPC64)
+        if (machine == EM_AARCH64 || machine == EM_RISCV ||
+            (machine == EM_PPC64 && r->type == R_PPC64_REL24))
             operands.symbol = operands.place + (machine == EM_AARCH64 ? 4 : 0);
     } else if (row->may_use_plt && machine == EM_PPC64) {
         operands.symbol += PPC64_LOCAL_ENTRY_OFFSET(s->elf.st_other);
     }
     operands.plt_entry = operands.symbol;
+    if (row->loads_plt) { /* there the entry of S + A is in the GOT */
+        operands.plt_entry = entry;
+        operands.addend = 0;
+    }
     int64_t value = 0;
     check(r, linker_utils_value(machine, r->type, &operands, &value));
     return value;
@@ -112,8 +231,10 @@ static void relocate_uleb128(const struct relocation *r, uint64_t value, uint8_t
 
 void relocate(struct output *o) {
     struct relocation *end = o->relocations + o->relocations_len;
+    if (machine == EM_RISCV) rewrite_riscv(o);
     for (struct relocation *r = o->relocations; r < end; r++) {
         if (machine == EM_AARCH64 && r + 1 < end) rewrite_aarch64(o, r, r + 1);
+        if (machine == EM_PPC64) rewrite_ppc64(o, r);
         const struct row *row = row_of(r);
         if (row->info.kind == LINKER_UTILS_KIND_NONE || is_left_out(r) ||
             row->info.kind == LINKER_UTILS_KIND_ALIGNMENT ||

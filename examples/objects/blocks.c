@@ -19,7 +19,7 @@ extern constructor *const made_start[] __asm__("__init_array_start");
 extern constructor *const made_end[] __asm__("__init_array_end");
 
 __thread word by_offset = 11;
-static __thread word unset[40];
+static __thread word unset[300]; /* what follows it has a large offset */
 static __thread unsigned char aligned[64] __attribute__((aligned(64))) = {3};
 static unsigned char memory[4096] __attribute__((aligned(64)));
 static unsigned char *block;
@@ -51,10 +51,13 @@ static void set_thread_pointer(const struct header *tls) {
 #endif
 }
 
-/* Where RISC-V and LoongArch go for general-dynamic variables; the others' code is rewritten. */
+/* Where RISC-V, LoongArch and PowerPC64's prefixed instructions go for general-dynamic variables; the
+ * others' code is rewritten. */
 void *__tls_get_addr(const word *index) {
 #ifdef __riscv
     return block + index[1] + 0x800;
+#elif defined __powerpc64__
+    return block + index[1] + 0x8000;
 #else
     return block + index[1];
 #endif
@@ -79,10 +82,12 @@ static __attribute__((noinline)) void run(void) {
     word (*volatile function)(word) = twice;
     word sum = 0;
     for (const word *at = numbers_start; at < numbers_end; at++) sum += *at;
-    unset[39] += by_entry;
+    unset[299] += by_entry;
     by_call += by_offset;
+    *of_far_call() += *of_call() + 1;
     say_all("thread-local", by_offset, by_entry, by_call);
-    say_all("thread-local", unset[39], aligned[0] + ((word)aligned & 63), *of_module(1));
+    say_all("thread-local", unset[299], aligned[0] + ((word)aligned & 63), *of_module(1));
+    say_all("thread-local", *of_call(), *of_far_call(), of_call() == &by_call);
     say_all("indirect", twice(21), function(4), function == twice);
     say_all("constructors and sections", made, sum, (word)(numbers_end - numbers_start));
     say_all("groups", shared_word, shared_by(), &shared_word == (const word *)shared_by);

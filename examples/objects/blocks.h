@@ -13,7 +13,7 @@ extern const word numbers_end[] __asm__("__stop_numbers");
 /* blocks_other.c */
 extern __thread word by_entry MODEL("initial-exec");
 extern __thread word by_call; /* general-dynamic in code for a shared object */
-word *of_module(word index);
+word *of_module(word index), *of_call(void), *of_far_call(void);
 word twice(word number); /* an indirect function */
 word shared_by(void);
 /* first_part.c and others, in archives */

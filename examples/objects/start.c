@@ -19,7 +19,12 @@ static long call3(long number, long a, long b, long c) {
 #define NUMBER_WRITE 4
 #define NUMBER_EXIT 1
 __asm__(".text\n.globl _start\n_start: bcl 20, 31, 1f\n1: mflr 12\n"
-        " addis 2, 12, .TOC. - 1b@ha\n addi 2, 2, .TOC. - 1b@l\n bl begin\n nop\n");
+        " addis 2, 12, .TOC. - 1b@ha\n addi 2, 2, .TOC. - 1b@l\n"
+#if defined __PCREL__
+        " bl begin@notoc\n");
+#else
+        " bl begin\n nop\n");
+#endif
 static long call3(long number, long a, long b, long c) {
     register long r0 __asm__("r0") = number;
     register long r3 __asm__("r3") = a;
