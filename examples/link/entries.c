@@ -185,6 +185,7 @@ void read_relocations(struct section *s) {
         choices[i] = (struct linker_utils_choice){.rewrite = UINT32_MAX, .relocation = r->type};
         const struct symbol *of = r->symbol;
         bool is_here = is_defined(of) && of->elf.st_shndx != SHN_ABS;
+        if (!relaxes && ELF64_ST_TYPE(of->elf.st_info) != STT_TLS) is_here = false;
         if (!is_code || !r->type || waits(row_of(r), elf + i, i + 1 < len ? elf + i + 1 : NULL))
             continue;
         if (machine == EM_PPC64) note_low_half(r, bytes, size);

@@ -59,11 +59,14 @@ struct relocation *add_relocations(struct output *o, size_t len) {
     return o->relocations + o->relocations_len - len;
 }
 
+/* How many bytes the shortest instruction has of code that becomes shorter. */
+uint64_t code_unit(void) { return machine == EM_RISCV && machine_flags & EF_RISCV_RVC ? 2 : 4; }
+
 /* The offset of new room at a section's end. Gaps in code have instructions that trap, or zeros, as
  * ld.lld's; where code shrinks they are as long as may be needed, and a relocation cuts them. */
 uint64_t make_room(struct output *o, uint64_t align, uint64_t len) {
     uint64_t start = o->len, offset = align ? round_up(start, align) : start;
-    uint64_t unit = machine == EM_RISCV && machine_flags & EF_RISCV_RVC ? 2 : 4;
+    uint64_t unit = code_unit();
     uint32_t trap = machine == EM_X86_64 ? 0xcccccccc : machine == EM_PPC64 ? 0x7fe00008 : 0;
     if (machine == EM_LOONGARCH) trap = 0x002a0000;
     if (len > MOST_BYTES || offset + len > MOST_BYTES) fail("section %s is too large", o->name);
@@ -97,7 +100,8 @@ void add_section(struct section *s) {
         fail("%s: %s is thread-local, and elsewhere it is not", s->object->path, s->name);
     o->flags |= head->sh_flags;
     o->has_bytes |= has_bytes;
-    o->shrinks |= (machine == EM_RISCV || machine == EM_LOONGARCH) && has_bytes && is_code;
+    o->shrinks |= (machine == EM_RISCV || machine == EM_LOONGARCH) && has_bytes && is_code &&
+                  !(head->sh_flags & SHF_TLS);
     if (o == frames)
         index_of->len += 8 * read_frames(s, s->object->bytes + head->sh_offset, NULL);
 }
@@ -113,36 +117,138 @@ void copy_section(struct section *s) {
     if (s->relocations) read_relocations(s);
 }
 
-/* Places the sections, so that one with other permissions begins a new page, at the same offset in
- * the page as the one before it ends. Returns by how much a distance of two can change when code
- * shrinks. */
-uint64_t place_outputs(void) {
-    uint64_t at = BASE, slack = 0, page = PAGE, end = 0, align = 1, kinds = 0, now;
-    if (machine == EM_X86_64 || machine == EM_RISCV) page = 0x1000;
-    for (size_t i = 0; i < outputs_len; i++) {
-        const struct output *o = outputs[i];
-        if (o->flags & SHF_TLS && o->align > align) align = o->align;
-        if (o->is_placed && o->address + o->len > at) at = round_up(o->address + o->len, PAGE);
+/* Where the next section goes: its offset in a run, and the least and the greatest address that it
+ * may have once code is shorter. */
+struct place {
+    struct run *run;
+    uint64_t at, low, high;
+};
+
+static struct run runs[sizeof outputs / sizeof *outputs];
+
+static void begin_run(struct place *p, uint64_t address) {
+    p->run = p->run ? p->run + 1 : runs;
+    *p->run = (struct run){.start = address};
+    p->at = 0;
+    p->low = p->high = address;
+}
+
+static void skip(struct place *p, uint64_t len) {
+    p->at += len;
+    p->low += len;
+    p->high += len;
+}
+
+/* Aligns the next section. Behind code that becomes shorter this is an alignment of the run, with
+ * as many bytes as it may need. */
+static void align_next(struct place *p, struct output *o, uint64_t align) {
+    uint64_t unit = code_unit(), len = round_up(p->low, align) - p->low;
+    if (p->low != p->high) {
+        uint64_t address = p->run->start + p->at;
+        if (align < unit) align = unit;
+        len = round_up(address + align - unit, unit) - address;
+        o->before = (struct linker_utils_item){.offset = p->at, .target = p->at, .power = align,
+                                               .len = (uint32_t)len,
+                                               .kind = LINKER_UTILS_ITEM_ALIGNMENT};
     }
+    p->at += len;
+    p->low = round_up(p->low, align);
+    p->high = round_up(p->high, align);
+}
+
+/* Puts the next section at its address. Behind code that becomes shorter an alignment comes first,
+ * which ends at one address wherever the code ends. Where there is no room for one, another run
+ * begins. */
+static void place_next(struct place *p, struct output *o) {
+    uint64_t align = code_unit();
+    while (align <= p->high - p->low) align *= 2;
+    uint64_t end = o->place & ~(align - 1);
+    if (p->low != p->high && end >= p->high && align < UINT32_MAX / 2) {
+        skip(p, end - p->high);
+        align_next(p, o, align);
+    }
+    if (!p->run || p->low != p->high || p->high > o->place) begin_run(p, o->place);
+    skip(p, o->place - p->high);
+}
+
+static int by_place(const void *left, const void *right) {
+    const struct output *a = *(struct output *const *)left, *b = *(struct output *const *)right;
+    if (a->is_placed != b->is_placed) return a->is_placed ? -1 : 1;
+    if (a->is_placed && a->place != b->place) return a->place < b->place ? -1 : 1;
+    return by_rank(left, right);
+}
+
+/* Places the sections, first those that the command line places. One with other permissions begins
+ * a new page, at the same offset in the page as the one before it ends. */
+void place_outputs(void) {
+    uint64_t page = PAGE, align = 1, kinds = 0, now, end = 0;
+    struct place p = {.run = NULL};
+    const struct output *first = NULL; /* of thread-local storage */
+    bool is_behind_placed = false;
+    if (machine == EM_X86_64 || machine == EM_RISCV) page = 0x1000;
+    for (size_t i = 0; i < outputs_len; i++)
+        if (outputs[i]->flags & SHF_TLS && outputs[i]->align > align) align = outputs[i]->align;
+    qsort(outputs, outputs_len, sizeof *outputs, by_place);
     for (size_t i = 0; i < outputs_len; i++) {
         struct output *o = outputs[i];
         bool is_tls = o->flags & SHF_TLS;
-        if (o->len && (now = o->flags & (SHF_WRITE | SHF_EXECINSTR)) != kinds) {
-            at += at % page ? page : 0;
-            slack += page;
-            kinds = now;
+        o->before.len = 0;
+        if (o->is_placed && o->place > UINT64_MAX / 4)
+            fail("section %s can't be at 0x%" PRIx64, o->name, o->place);
+        if (is_tls && first) { /* thread-local storage has no other gaps */
+            end = round_up(end, o->align);
+            o->run = first->run;
+            o->base = first->base + end;
+            end += o->len;
+            if (o->is_placed || (o->has_bytes && (p.run != o->run || p.at > o->base)))
+                fail("section %s can't be apart from %s", o->name, first->name);
+            if (o->has_bytes) skip(&p, o->base + o->len - p.at);
+            continue;
         }
-        if (!o->is_placed)
-            o->address = round_up(is_tls && end ? end : at, is_tls && !end ? align : o->align);
-        if (is_tls && !end) tls.image = o->address;
-        if (o->address % o->align || o->address > UINT64_MAX / 4 ||
-            (is_tls && o->address < tls.image))
-            fail("section %s can't be at 0x%" PRIx64, o->name, o->address);
-        if (is_tls) end = o->address + o->len;
-        if (!o->is_placed && (!is_tls || o->has_bytes)) at = o->address + o->len;
-        slack += (o->is_placed ? 0 : o->align) + (o->shrinks ? o->len : 0);
+        if (o->is_placed) {
+            place_next(&p, o);
+            is_behind_placed = true;
+        } else {
+            if (!p.run) begin_run(&p, BASE);
+            if (o->len && (now = o->flags & (SHF_WRITE | SHF_EXECINSTR)) != kinds) {
+                skip(&p, page);
+                kinds = now;
+            }
+            align_next(&p, o, is_behind_placed ? PAGE : is_tls ? align : o->align);
+            is_behind_placed = false;
+        }
+        o->run = p.run;
+        o->base = p.at;
+        if (is_tls) first = o;
+        if (is_tls) end = o->len;
+        if (is_tls && !o->has_bytes) continue;
+        uint64_t least = o->shrinks ? p.low : p.low + o->len;
+        skip(&p, o->len);
+        p.low = least;
     }
-    tls.len = end ? end - tls.image : 0;
+    set_addresses();
+}
+
+static uint64_t address_in(const struct run *run, uint64_t offset) {
+    if (!run->deltas_len) return run->start + offset;
+    return run->start + linker_utils_deltas_input_to_output_by_heads(
+                            run->deltas, run->deltas_len, run->heads, run->heads_len, offset);
+}
+
+/* Sets the addresses of the sections, by what the runs lose. */
+void set_addresses(void) {
+    const struct output *first = NULL;
+    uint64_t align = 1;
+    tls.image = tls.len = 0;
+    for (size_t i = 0; i < outputs_len; i++) {
+        struct output *o = outputs[i];
+        o->address = address_in(o->run, o->base);
+        if (!(o->flags & SHF_TLS)) continue;
+        if (!first) tls.image = (first = o)->address;
+        o->address = tls.image + (o->base - first->base);
+        tls.len = o->address + o->len - tls.image;
+        if (o->align > align) align = o->align;
+    }
     tls.align = align;
     tls.thread = tls.module = tls.image;
     if (machine == EM_AARCH64) tls.thread -= round_up(16, align);
@@ -150,13 +256,10 @@ uint64_t place_outputs(void) {
     if (machine == EM_X86_64) tls.thread += round_up(tls.len, align);
     if (machine == EM_PPC64) tls.module += 0x8000;
     if (machine == EM_RISCV) tls.module += 0x800;
-    return slack;
 }
 
 uint64_t address_of(const struct output *o, uint64_t offset) {
     if (!o) return offset;
     if (offset == END) return o->address + o->len;
-    if (!o->deltas_len) return o->address + offset;
-    return o->address + linker_utils_deltas_input_to_output_by_heads(
-                            o->deltas, o->deltas_len, o->heads, o->heads_len, offset);
+    return o->shrinks ? address_in(o->run, o->base + offset) : o->address + offset;
 }

@@ -8,7 +8,7 @@
  * - entries.c: rewrites, the GOT, thread-local storage, indirect functions and thunks
  * - relax.c: what is deleted of RISC-V and LoongArch code
  * - relocate.c: values, and the instructions of AArch64 that depend on them
- * - output.c: the table of unwind information, and the file
+ * - output.c: the table of unwind information, and the file with its symbols
  *
  * The first error ends it, and it never frees memory. */
 #ifndef LINK_H
@@ -27,11 +27,12 @@
 #define BASE UINT64_C(0x400000)         /* where the file's header is, if no section is placed */
 #define HEADERS UINT64_C(0x400)         /* room for the headers there */
 #define MOST_BYTES UINT64_C(0x40000000) /* of a file and of a section */
+#define NO_ENTRY (UINT64_C(1) << 63)    /* the address of a GOT entry that nothing reaches */
 #define END UINT64_MAX                  /* the offset of a section's end, wherever that will be */
 
 /* relocation types that older versions of <elf.h> lack */
 enum { LARCH_PCALA_HI20 = 71, LARCH_PCALA_LO12 = 72, LARCH_RELAX = 100, LARCH_ALIGN = 102 };
-enum { LARCH_B26 = 66, LARCH_PCREL20_S2 = 103, LARCH_CALL36 = 110, PPC64_REL24_NOTOC = 116 };
+enum { LARCH_CALL36 = 110, PPC64_REL24_NOTOC = 116 };
 enum { RISCV_TLSDESC_HI20 = 62, RISCV_TLSDESC_CALL = 65 };
 
 /* the order of the sections of the linked file; there are three kinds of arrays */
@@ -40,17 +41,31 @@ enum { RANK_HEADERS, RANK_FIXED, RANK_CODE, RANK_TLS, RANK_TLS_BSS, RANK_ARRAYS,
 
 #define fail(...) (fprintf(stderr, __VA_ARGS__), fputc('\n', stderr), exit(1))
 
+/* Sections that are relaxed together, one behind the other from `start` on: all of the linked file,
+ * as far as the addresses of the command line allow it. Their offsets in it count from before bytes
+ * are deleted. */
+struct run {
+    uint64_t start;
+    struct linker_utils_delta *deltas;
+    struct linker_utils_block_head *heads; /* of the deltas */
+    size_t deltas_len, heads_len;
+};
+
 /* A section of the linked file. Offsets in it count from before bytes are deleted. */
 struct output {
     const char *name;
-    uint64_t flags, align, len, room, address;
+    uint64_t flags, align, len, room;
+    uint64_t place, address; /* by the command line; and at last, or if all bytes stayed */
     uint8_t *bytes;
+    struct run *run;
+    uint64_t base;                   /* its offset in the run */
+    struct linker_utils_item before; /* the alignment before it; of length 0 where there is none */
+    size_t items_len;                /* in it */
     bool has_bytes, is_placed, shrinks; /* in the file; by the command line; code that relaxes */
     unsigned rank, priority;            /* its place among the others */
+    uint16_t index;                     /* of its header; 0 where it has none */
     struct relocation *relocations;
-    struct linker_utils_delta *deltas;
-    struct linker_utils_block_head *heads; /* of the deltas */
-    size_t relocations_len, relocations_room, deltas_len, heads_len;
+    size_t relocations_len, relocations_room;
 };
 
 struct object {
@@ -114,7 +129,7 @@ struct relocation {
     uint64_t offset; /* in the output */
     int64_t addend;
     uint32_t type;
-    bool is_jump, restores_toc; /* a RISC-V call that becomes a jump; PowerPC64: by its `nop` */
+    bool restores_toc; /* PowerPC64: by its `nop` */
     bool keeps_entry; /* RISC-V: an `auipc` whose loads from the GOT stay */
 };
 
@@ -134,6 +149,7 @@ struct tls {
 
 extern uint16_t machine;
 extern uint32_t machine_flags;
+extern bool relaxes; /* whether instructions are rewritten that need not be */
 extern struct object *objects; /* in the order of the arguments */
 extern struct symbol *symbols; /* all that objects mention, in their order */
 extern struct output *outputs[256], *headers, *got, *stubs, *slots, *irelatives, *frames, *index_of;
@@ -157,8 +173,9 @@ void load_members(void), list_symbols(void), define_symbols(void), place_symbol(
 
 struct output *output_of(const char *name);
 struct relocation *add_relocations(struct output *o, size_t len);
-uint64_t make_room(struct output *o, uint64_t align, uint64_t len), place_outputs(void);
+uint64_t code_unit(void), make_room(struct output *o, uint64_t align, uint64_t len);
 uint64_t address_of(const struct output *o, uint64_t offset);
+void place_outputs(void), set_addresses(void);
 void add_section(struct section *s), copy_section(struct section *s), sort_outputs(void);
 
 void read_relocations(struct section *s), make_entries(void);
@@ -166,10 +183,12 @@ struct section *toc_section(const struct relocation *r, uint64_t *offset);
 bool add_thunks(void);
 uint32_t rewrite(const struct relocation *r, uint8_t *bytes, uint64_t len, uint64_t *offset,
                  int64_t *addend, uint32_t *type, const struct linker_utils_link_facts *facts);
-void shrink(struct output *o, uint64_t slack), relocate(struct output *o);
+bool is_marked(const struct output *o, const struct relocation *r);
+void relax(void), relocate(struct output *o);
+struct relocation *high_part(const struct output *o, const struct relocation *low);
 int64_t value_of(const struct output *o, const struct relocation *r);
 bool is_left_out(const struct relocation *r);
 uint64_t read_frames(const struct section *s, const uint8_t *bytes, uint8_t *rows);
-void index_frames(void), write_file(const char *path, uint64_t entry);
+void index_frames(void), write_file(const char *path, uint64_t entry, bool has_symbols);
 
 #endif

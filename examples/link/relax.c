@@ -1,41 +1,104 @@
 /* What is deleted of RISC-V and LoongArch code: the second halves of calls and of addresses that
- * one instruction reaches, and the nops that an alignment doesn't need. */
+ * one instruction reaches, what thread-local offsets of 12 bits don't need, and the nops that an
+ * alignment doesn't need. All sections are relaxed together, with the gaps between them, so that
+ * each distance is known exactly. */
 #include "link.h"
 
-/* What the library is told of a relocation: its target, if that is in the same section. */
+/* Whether an instruction may be relaxed. */
+bool is_marked(const struct output *o, const struct relocation *r) {
+    uint32_t mark = machine == EM_RISCV ? R_RISCV_RELAX : LARCH_RELAX;
+    const struct relocation *next = r + 1, *end = o->relocations + o->relocations_len;
+    return relaxes && next < end && next->type == mark && next->offset == r->offset;
+}
+
+/* What the library is told of a relocation: its target, if that is in the same run. Between a
+ * symbol in code and what is some bytes behind it code may become shorter. */
 static struct linker_utils_section_relocation seen(const struct output *o,
                                                    const struct relocation *r) {
     const struct symbol *s = r->symbol; /* null where the linker aligns a section */
-    uint64_t target = s ? s->offset + (uint64_t)r->addend : 0;
-    return (struct linker_utils_section_relocation){
-        .offset = r->offset, .target = target, .addend = r->addend, .r_type = r->type,
-        .has_symbol = s && s != *r->section->object->symbols,
-        .has_target = s && s->output == o && s->offset <= o->len && target <= o->len};
+    const struct output *to = s ? s->output : NULL;
+    struct linker_utils_section_relocation seen = {
+        .offset = r->offset, .addend = r->addend, .r_type = r->type,
+        .has_symbol = r->section && s != *r->section->object->symbols};
+    if (!relaxes || !to || to->run != o->run || to->flags & SHF_TLS || (to->shrinks && r->addend))
+        return seen;
+    uint64_t offset = (s->offset == END ? to->len : s->offset) + (uint64_t)r->addend;
+    seen.has_target = offset <= to->len;
+    seen.target = to->base + offset;
+    return seen;
 }
 
-/* The relocation of the short instruction that a call or an address can become; 0 of an alignment
- * and of what stays. */
-static uint32_t shorter(const struct relocation *r) {
+/* The rewrite of an instruction with a thread-local offset, which relaxation doesn't change. */
+static struct linker_utils_choice choose_offset(const struct output *o, struct relocation *r) {
+    struct linker_utils_choice choice = {.rewrite = 0, .relocation = r->type};
+    bool is_descriptor = machine == EM_RISCV && r->type >= RISCV_TLSDESC_HI20 &&
+                         r->type <= RISCV_TLSDESC_CALL;
+    const struct relocation *high = r;
+    if (is_descriptor && r->type != RISCV_TLSDESC_HI20) high = high_part(o, r);
+    const struct symbol *s = high->symbol;
+    if (!s || !s->output || !(s->output->flags & SHF_TLS) || !is_marked(o, high)) return choice;
+    struct linker_utils_link_facts facts = {
+        .is_local = 1, .is_executable = is_descriptor, .is_marked = 1, .has_addresses = 1,
+        .operands = {.symbol = address_of(s->output, s->offset), .addend = high->addend,
+                     .tls_base = tls.thread, .got_entry = NO_ENTRY}};
+    check(r, linker_utils_choose(machine, r->type, o->bytes, r->section->end, r->offset, &facts,
+                                 &choice));
+    if (!is_descriptor || !choice.rewrite) return choice;
+    r->symbol = high->symbol;
+    r->addend = high->addend;
+    return choice;
+}
+
+/* Whether a relocation can be that of an item of a kind: of a call or an address, or of nops. */
+static bool makes(const struct relocation *r, uint32_t kind) {
+    bool is_site = kind == LINKER_UTILS_ITEM_SITE;
     if (machine == EM_RISCV)
-        return r->type == R_RISCV_CALL || r->type == R_RISCV_CALL_PLT ? R_RISCV_JAL : 0;
-    return r->type == LARCH_CALL36 ? LARCH_B26 : r->type == LARCH_PCALA_HI20 ? LARCH_PCREL20_S2 : 0;
+        return is_site ? r->type == R_RISCV_CALL || r->type == R_RISCV_CALL_PLT
+                       : r->type == R_RISCV_ALIGN;
+    return is_site ? r->type == LARCH_CALL36 || r->type == LARCH_PCALA_HI20
+                   : r->type == LARCH_ALIGN;
 }
 
-static bool makes_item(const struct relocation *r) {
-    return shorter(r) || r->type == (machine == EM_RISCV ? R_RISCV_ALIGN : LARCH_ALIGN);
-}
-
-/* Whether what is in another section is near enough, whatever shrinks: their distance changes by at
- * most `slack`. */
-static bool is_near(const struct output *o, const struct relocation *r, uint64_t slack) {
-    const struct symbol *s = r->symbol;
-    struct linker_utils_relocation_reach reach;
-    if (!s || !shorter(r) || !s->output || s->output == o || s->offset == END) return false;
-    uint64_t target = s->output->address + s->offset + (uint64_t)r->addend;
-    int64_t distance = (int64_t)(target - (o->address + r->offset));
-    check(r, linker_utils_reach(machine, shorter(r), &reach));
-    return distance - (int64_t)slack >= reach.min && distance + (int64_t)slack < reach.max &&
-           (machine == EM_RISCV || (target % 4 == 0 && s->output->align >= 4));
+/* Adds the items of a section to those of its run, each with its relocation. */
+static size_t add_items(struct output *o, struct linker_utils_item *items, struct relocation **of) {
+    size_t all = o->relocations_len, found_len = 0, len = 0, k = 0, at = SIZE_MAX;
+    struct linker_utils_choice *choices = take(all, sizeof *choices);
+    struct linker_utils_section_relocation *relocations = take(all, sizeof *relocations);
+    struct linker_utils_item *found = take(all, sizeof *found);
+    uint32_t status;
+    for (size_t i = 0; i < all; i++) choices[i] = choose_offset(o, &o->relocations[i]);
+    for (size_t i = 0; i < all; i++) {
+        struct relocation *r = &o->relocations[i];
+        uint64_t offset = r->offset;
+        if (choices[i].rewrite)
+            check(r, linker_utils_apply(machine, choices[i].rewrite, choices[i].n, o->bytes,
+                                        r->section->end, &offset, &r->addend));
+        r->type = choices[i].relocation;
+        relocations[i] = seen(o, r);
+    }
+    if (machine == EM_RISCV)
+        status = linker_utils_riscv_items(o->bytes, o->len, o->base, relocations, all,
+                                          machine_flags & EF_RISCV_RVC, found, all, &found_len,
+                                          &at);
+    else
+        status = linker_utils_loongarch_items(o->bytes, o->len, o->base, relocations, all, found,
+                                              all, &found_len, &at);
+    if (status && at < all) check(&o->relocations[at], status);
+    if (status) fail("section %s: %s", o->name, linker_utils_status_text(status));
+    for (size_t i = 0; i < all; i++) { /* the items are in the order of the relocations */
+        struct relocation *r = &o->relocations[i];
+        uint64_t offset = o->base + r->offset + choices[i].deleted_start;
+        bool may_be_site = relocations[i].has_target && is_marked(o, r);
+        of[len] = r;
+        if (choices[i].deleted_len)
+            items[len++] = (struct linker_utils_item){
+                .offset = offset, .target = offset, .len = choices[i].deleted_len,
+                .kind = LINKER_UTILS_ITEM_SITE};
+        else if (k < found_len && found[k].offset == offset && makes(r, found[k].kind) &&
+                 (may_be_site || found[k].kind != LINKER_UTILS_ITEM_SITE))
+            items[len++] = found[k++];
+    }
+    return o->items_len = len;
 }
 
 /* Writes the shorter instruction of a site; where it is will be its relocation's matter. */
@@ -62,70 +125,92 @@ static void write_nops(uint8_t *bytes, uint64_t len) {
     if (len) memcpy(bytes, "\x01", 2); /* c.nop */
 }
 
-/* Relaxes a section as one run, and packs it. The distance of two sections changes by at most
- * `slack` from here on. */
-void shrink(struct output *o, uint64_t slack) {
-    size_t all = o->relocations_len, len = 0, at = SIZE_MAX;
-    struct linker_utils_section_relocation *relocations = take(all, sizeof *relocations);
-    struct linker_utils_item *items = take(all + 1, sizeof *items);
-    for (size_t i = 0; i < all; i++) relocations[i] = seen(o, &o->relocations[i]);
-    for (size_t i = 0; i < all; i++) {
-        struct relocation *r = &o->relocations[i];
-        if (!is_near(o, r, slack)) continue;
-        relocations[i].has_target = r->is_jump = true;
-        relocations[i].target = r->offset;
-        if (r->type != LARCH_PCALA_HI20 || all - i < 3 || r[2].type != LARCH_PCALA_LO12 ||
-            r[2].symbol != r->symbol || r[2].addend != r->addend)
-            continue;
-        relocations[i + 2].has_target = true; /* the other half of the address */
-        relocations[i + 2].target = r->offset;
+/* Omits what a section loses. */
+static void pack(struct output *o, const struct linker_utils_item *items, const uint64_t *kept,
+                 struct relocation **of) {
+    for (size_t i = 0; i < o->items_len; i++) {
+        bool is_site = items[i].kind == LINKER_UTILS_ITEM_SITE;
+        if (is_site && items[i].shapes.count && kept[i] < items[i].len) shorten(o, of[i], kept[i]);
+        if (!is_site && of[i]->section && kept[i] < items[i].len)
+            write_nops(o->bytes + (items[i].offset - o->base), kept[i]);
     }
-    bool has_c = machine_flags & EF_RISCV_RVC;
-    uint32_t unit = machine == EM_RISCV && has_c ? 2 : 4, status;
-    if (machine == EM_RISCV)
-        status = linker_utils_riscv_items(o->bytes, o->len, 0, relocations, all, has_c, items, all,
-                                          &len, &at);
-    else
-        status = linker_utils_loongarch_items(o->bytes, o->len, 0, relocations, all, items, all,
-                                              &len, &at);
-    if (status && at < all) check(&o->relocations[at], status);
-    if (status) fail("section %s: %s", o->name, linker_utils_status_text(status));
-    struct relocation **of = take(len, sizeof *of), *r = o->relocations;
-    for (size_t i = 0; i < len; i++, r++) { /* the items are in the order of the relocations */
-        while (r->offset != items[i].offset || !makes_item(r)) r++;
-        of[i] = r;
-        if (r->is_jump) items[i].shapes = (struct linker_utils_shapes){.longest = 4};
-        if (items[i].kind != LINKER_UTILS_ITEM_SITE && items[i].power > o->align)
-            fail("%s can't be satisfied", place_of(r));
+    const struct run *run = o->run;
+    struct linker_utils_deletion *deletions = take(run->deltas_len, sizeof *deletions);
+    struct linker_utils_delta *deltas = take(run->deltas_len, sizeof *deltas);
+    size_t len = 0;
+    for (const struct linker_utils_delta *d = run->deltas; d < run->deltas + run->deltas_len; d++)
+        if (d->input_offset >= o->base && d->input_offset - o->base < o->len)
+            deletions[len++] = (struct linker_utils_deletion){d->input_offset - o->base,
+                                                              d->bytes_deleted};
+    if (linker_utils_deltas_create(deletions, len, deltas, len, NULL))
+        fail("section %s can't be packed", o->name);
+    uint64_t packed_len = linker_utils_packed_len(o->bytes, o->len, deltas, len);
+    uint8_t *packed = take(packed_len, 1);
+    if (linker_utils_pack(o->bytes, o->len, deltas, len, NULL, 0, LINKER_UTILS_LINK_OF_JALR, packed,
+                          packed_len, NULL))
+        fail("section %s can't be packed", o->name);
+    o->bytes = packed;
+    o->len = o->room = packed_len;
+}
+
+/* Relaxes the sections of a run. */
+static void relax_run(struct run *run) {
+    size_t room = 1, len = 0, at = SIZE_MAX;
+    uint64_t end = 0;
+    uint32_t unit = (uint32_t)code_unit();
+    bool shrinks = false;
+    for (size_t i = 0; i < outputs_len; i++) {
+        const struct output *o = outputs[i];
+        if (o->run != run) continue;
+        room += o->relocations_len + 1;
+        shrinks |= o->shrinks;
+        if (o->base + o->len > end) end = o->base + o->len;
     }
-    /* one more behind the section's end, which says the unit of the code where there is no site */
+    if (!shrinks) return;
+    struct linker_utils_item *items = take(room, sizeof *items);
+    struct relocation **of = take(room, sizeof *of);
+    for (size_t i = 0; i < outputs_len; i++) {
+        struct output *o = outputs[i];
+        if (o->run != run) continue;
+        if (o->before.len) items[len++] = o->before;
+        if (o->shrinks) len += add_items(o, items + len, of + len);
+    }
+    /* one more at the end, which says the unit of the code where there is no site */
     items[len++] = (struct linker_utils_item){
-        .offset = o->len, .target = o->len, .len = unit, .kind = LINKER_UTILS_ITEM_SITE,
+        .offset = end, .target = end, .len = unit, .kind = LINKER_UTILS_ITEM_SITE,
         .shapes = {.shorter = {{.ahead = 1, .unit = unit}}, .longest = unit, .count = 1}};
     uint64_t *kept = take(len, sizeof *kept), *freed = take(len + 1, sizeof *freed);
     size_t *places = take(len, sizeof *places);
     uint8_t *shapes = take(len, 1);
-    at = SIZE_MAX;
-    status = linker_utils_relax(items, len, o->address, shapes, len, kept, len, places, len, freed,
-                                len + 1, &at);
-    if (status && at < len - 1) check(of[at], status);
-    o->deltas = take(len, sizeof *o->deltas);
-    if (status || linker_utils_run_deltas(items, len, kept, len, o->deltas, len, &o->deltas_len))
-        fail("section %s can't be relaxed", o->name);
-    o->heads_len = linker_utils_deltas_block_count(o->deltas, o->deltas_len);
-    o->heads = take(o->heads_len, sizeof *o->heads);
-    if (linker_utils_deltas_heads(o->deltas, o->deltas_len, o->heads, o->heads_len))
-        fail("section %s can't be relaxed", o->name);
-    for (size_t i = 0; i + 1 < len; i++) {
-        bool is_site = items[i].kind == LINKER_UTILS_ITEM_SITE;
-        if (is_site && kept[i] < items[i].len) shorten(o, of[i], kept[i]);
-        if (!is_site && of[i]->section) write_nops(o->bytes + items[i].offset, kept[i]);
+    uint32_t status = linker_utils_relax(items, len, run->start, shapes, len, kept, len, places,
+                                         len, freed, len + 1, &at);
+    if (status && at < len && of[at]) check(of[at], status);
+    if (status) fail("the code can't be relaxed: %s", linker_utils_status_text(status));
+    run->deltas = take(len, sizeof *run->deltas);
+    linker_utils_run_deltas(items, len, kept, len, run->deltas, len, &run->deltas_len);
+    run->heads_len = linker_utils_deltas_block_count(run->deltas, run->deltas_len);
+    run->heads = take(run->heads_len, sizeof *run->heads);
+    linker_utils_deltas_heads(run->deltas, run->deltas_len, run->heads, run->heads_len);
+    len = 0;
+    for (size_t i = 0; i < outputs_len; i++) {
+        struct output *o = outputs[i];
+        if (o->run != run) continue;
+        len += o->before.len > 0;
+        if (o->shrinks) pack(o, items + len, kept + len, of + len);
+        len += o->items_len;
     }
-    uint64_t packed_len = linker_utils_packed_len(o->bytes, o->len, o->deltas, o->deltas_len);
-    uint8_t *packed = take(packed_len, 1);
-    if (linker_utils_pack(o->bytes, o->len, o->deltas, o->deltas_len, NULL, 0,
-                          LINKER_UTILS_LINK_OF_JALR, packed, packed_len, NULL))
-        fail("section %s can't be packed", o->name);
-    o->bytes = packed;
-    o->len = o->room = packed_len;
+}
+
+/* Relaxes all code. */
+void relax(void) {
+    for (size_t i = 0; i < outputs_len; i++)
+        if (!outputs[i]->run->deltas) relax_run(outputs[i]->run);
+    set_addresses();
+    for (size_t i = 0; i < outputs_len; i++) {
+        const struct output *o = outputs[i];
+        uint64_t align = o->flags & SHF_TLS && o->address == tls.image ? tls.align : o->align;
+        uint64_t wanted = o->is_placed ? o->place : o->address;
+        if (wanted % align || wanted != o->address)
+            fail("section %s can't be at 0x%" PRIx64, o->name, wanted);
+    }
 }

@@ -104,7 +104,7 @@ static void rewrite_ppc64(struct output *o, struct relocation *r) {
 }
 
 /* The high part that a low one of RISC-V means by its label. */
-static struct relocation *high_part(const struct output *o, const struct relocation *low) {
+struct relocation *high_part(const struct output *o, const struct relocation *low) {
     struct relocation *first = o->relocations, *end = first + o->relocations_len;
     struct relocation *r = first + (low - first);
     uint64_t at = low->symbol->offset;
@@ -127,12 +127,6 @@ static struct relocation *entry_part(const struct output *o, struct relocation *
     return high->type == R_RISCV_GOT_HI20 || high->type == RISCV_TLSDESC_HI20 ? high : NULL;
 }
 
-static bool is_marked(const struct output *o, const struct relocation *r) {
-    const struct relocation *next = r + 1;
-    return next < o->relocations + o->relocations_len && next->type == R_RISCV_RELAX &&
-           next->offset == r->offset;
-}
-
 /* What is known of the symbol of a high part, for a rewrite at it or at one of its low parts. Loads
  * from the GOT have to be marked; a TLS descriptor has to be only where bytes are deleted. */
 static struct linker_utils_link_facts facts_of(const struct output *o,
@@ -145,7 +139,8 @@ static struct linker_utils_link_facts facts_of(const struct output *o,
         .has_got_high_part = is_load, .has_addresses = 1,
         .is_marked = is_load && is_marked(o, high) && is_marked(o, r),
         .operands = {.symbol = address_of(s->output, s->offset), .addend = high->addend,
-                     .place = address_of(o, high->offset), .tls_base = tls.thread}};
+                     .place = address_of(o, high->offset), .tls_base = tls.thread,
+                     .got_entry = NO_ENTRY}};
 }
 
 /* RISC-V: TLS descriptors become offsets from the thread pointer, and loads from the GOT sums, if
@@ -233,8 +228,8 @@ void relocate(struct output *o) {
     struct relocation *end = o->relocations + o->relocations_len;
     if (machine == EM_RISCV) rewrite_riscv(o);
     for (struct relocation *r = o->relocations; r < end; r++) {
-        if (machine == EM_AARCH64 && r + 1 < end) rewrite_aarch64(o, r, r + 1);
-        if (machine == EM_PPC64) rewrite_ppc64(o, r);
+        if (relaxes && machine == EM_AARCH64 && r + 1 < end) rewrite_aarch64(o, r, r + 1);
+        if (relaxes && machine == EM_PPC64) rewrite_ppc64(o, r);
         const struct row *row = row_of(r);
         if (row->info.kind == LINKER_UTILS_KIND_NONE || is_left_out(r) ||
             row->info.kind == LINKER_UTILS_KIND_ALIGNMENT ||

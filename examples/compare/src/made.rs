@@ -1,7 +1,8 @@
 //! What the library says of a relocation: its choices, its field, and what that leads to.
 
+use crate::elf::Relocation;
 use linker_utils::architecture::Relaxation;
-use linker_utils::elf::{Architecture, Choice, InstructionRewrite, Operands, RelocationKind, Row};
+use linker_utils::elf::{Architecture, Choice, InstructionRewrite, Operands, Row};
 use linker_utils::relaxation::RelocationModifier;
 use linker_utils::reading::{FieldValue, read, solve};
 use linker_utils::recognise::{self, FieldBits};
@@ -24,17 +25,28 @@ pub fn choices(
         .collect()
 }
 
+/// Whether a choice changes instructions.
+pub fn is_rewrite(kind: Relaxation) -> bool {
+    !matches!(
+        kind,
+        Relaxation::AArch64(aarch64::RelaxationKind::NoOp)
+            | Relaxation::RiscV(riscv64::RelaxationKind::NoOp)
+            | Relaxation::LoongArch64(loongarch64::RelaxationKind::NoOp)
+            | Relaxation::Ppc64(ppc64::RelaxationKind::NoOp)
+            | Relaxation::X86_64(x86_64::RelaxationKind::NoOp)
+    )
+}
+
 /// The rewrite's name, and nothing for `NoOp`.
 pub fn rewrite_name(kind: Relaxation) -> Option<String> {
-    let name = match kind {
+    is_rewrite(kind).then(|| match kind {
         Relaxation::AArch64(kind) => format!("{kind:?}"),
         Relaxation::RiscV(kind) => format!("{kind:?}"),
         Relaxation::LoongArch64(kind) => format!("{kind:?}"),
         Relaxation::Ppc64(kind) => format!("{kind:?}"),
         Relaxation::X86_64(kind) => format!("{kind:?}"),
         _ => format!("{kind:?}"),
-    };
-    (name != "NoOp").then_some(name)
+    })
 }
 
 pub fn skips_next(kind: Relaxation) -> bool {
@@ -52,17 +64,22 @@ pub fn is_relax(architecture: Architecture, code: u32) -> bool {
     architecture.name(code).is_some_and(|name| name.ends_with("_RELAX"))
 }
 
-/// How many bytes of nops a relocation aligns with, and to how many bytes.
-pub fn alignment(row: Row, has_symbol: bool, addend: i64) -> Option<(u64, u64)> {
-    if row.kind() != RelocationKind::Alignment {
-        return None;
-    }
-    if has_symbol {
-        let to = 1 << (addend as u64 & 0xff).min(16);
-        return Some((to - 4, to));
-    }
-    let nops = u64::try_from(addend).ok().filter(|nops| *nops < 1 << 16)?;
-    Some((nops, (nops + 1).next_power_of_two()))
+/// Of an alignment how many bytes of nops the object has, and how many stay at a place.
+pub fn alignment(architecture: Architecture, one: &Relocation, place: u64) -> Option<(u64, u64)> {
+    let (nops, to, most) = match architecture.name(one.code)? {
+        "R_LARCH_ALIGN" if one.symbol != 0 => {
+            // the psABI: the power of two, and from bit 8 on how many bytes of nops may stay
+            let to = 1 << (one.addend as u64 & 0xff).min(16);
+            (u64::saturating_sub(to, 4), to, one.addend as u64 >> 8)
+        }
+        "R_LARCH_ALIGN" | "R_RISCV_ALIGN" => {
+            let nops = u64::try_from(one.addend).ok().filter(|nops| *nops < 1 << 16)?;
+            (nops, (nops + 1).next_power_of_two(), 0)
+        }
+        _ => return None,
+    };
+    let kept = place.wrapping_neg() % to;
+    Some((nops, if most != 0 && kept > most { 0 } else { kept }))
 }
 
 /// What stands in the field of a choice's relocation.
@@ -90,7 +107,7 @@ pub struct Before {
 impl Before {
     pub fn new(
         architecture: Architecture,
-        one: &crate::elf::Relocation,
+        one: &Relocation,
         bytes: &[u8],
         offset: u64,
     ) -> Before {
@@ -113,14 +130,14 @@ impl Before {
         let all: Vec<_> = all.map(|offset| FieldBits { offset, bits: u64::MAX }).collect();
         let mut found = Vec::new();
         for first in self.choices(&all, &self.bytes) {
-            if rewrite_name(first.kind).is_none() {
+            if !is_rewrite(first.kind) {
                 continue;
             }
             let mut after = self.clone();
             first.kind.apply(&mut after.bytes, &mut after.offset, &mut after.addend);
             after.code = first.relocation;
             for chosen in after.choices(others, linked) {
-                if rewrite_name(chosen.kind).is_some() {
+                if is_rewrite(chosen.kind) {
                     found.push((after.clone(), chosen, Some(first)));
                 }
             }
