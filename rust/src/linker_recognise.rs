@@ -3,6 +3,7 @@
 //! relocation it then wrote.
 
 pub mod aarch64;
+pub mod architecture;
 mod candidates;
 mod engine;
 pub mod fields;
@@ -14,4 +15,4 @@ mod tests;
 pub mod x86_64;
 
 pub use candidates::CANDIDATES;
-pub use engine::MAX_WINDOW;
+pub use engine::{MAX_WINDOW, Made};

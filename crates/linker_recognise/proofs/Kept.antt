@@ -2,8 +2,8 @@
 use Rattle.std.proofs.Common.{◌≡◌, ◌⊎◌, ◌↔◌, ◌<◌, ℕ, ◌-◌, zero, suc, List, [], ◌∷◌, ◌++◌, map, length, replicate, Option, Some, None, refl, sym, ◌∙◌, inl, inr, ⊎_elim, ap, subst, get_or, arith}
 use Rattle.std.specs.Bool.{⊤}
 use Rattle.linker_reads.specs.declared.fields.FieldValue.{FieldValue}
-use Rattle.linker_recognise.specs.Recognised.{IsOneOf, AreThose, IsMade, IsFound, NoneTwice, choices_of}
-use Rattle.linker_recognise.specs.Inner.Candidates.{padded, IsAmong, IsKept, AreKept}
+use Rattle.linker_recognise.specs.Recognised.{IsOneOf, AreThose, IsMade, IsFound, choices_of}
+use Rattle.linker_recognise.specs.Inner.Candidates.{padded, IsKept, AreKept}
 use Rattle.linker_recognise.specs.declared.engine.Made.{Made}
 use Rattle.linker_recognise.specs.declared.fields.FieldBits.{FieldBits}
 use Rattle.linker_utils.specs.Choices.{Entry, IsFirst, choice}
@@ -26,17 +26,11 @@ in_padded a [] n h = absurd h
 in_padded a (x ∷ xs) n (inl e) = inl (ap Some e)
 in_padded a (x ∷ xs) n (inr h) = inr (in_padded a xs n h)
 
--- ---- by their indices
-
-pub one_at : {A : Type 0} (a : A) (xs : List (Option A)) (i : ℕ) → i < length xs → get_or xs i None ≡ Some a → IsOneOf (Some a) xs
-one_at a [] i h e = absurd (omega arith)
-one_at a (x ∷ xs) zero h e = inl e
-one_at a (x ∷ xs) (suc i) h e = inr (one_at a xs i (omega arith) e)
-
-pub none_at : {A : Type 0} (a : A) (xs : List (Option A)) → ((i : ℕ) → i < length xs → get_or xs i None ≡ Some a → ⊥) → IsOneOf (Some a) xs → ⊥
-none_at a [] other h = h
-none_at a (x ∷ xs) other (inl e) = other 0 (omega arith) e
-none_at a (x ∷ xs) other (inr h) = none_at a xs (λ i k e. other (suc i) (omega arith) e) h
+-- by its index
+pub one_at : {A : Type 0} (a : A) (xs : List A) (i : ℕ) (d : A) → i < length xs → get_or xs i d ≡ a → IsOneOf a xs
+one_at a [] i d h e = absurd (omega arith)
+one_at a (x ∷ xs) zero d h e = inl e
+one_at a (x ∷ xs) (suc i) d h e = inr (one_at a xs i d (omega arith) e)
 
 -- ---- those that are kept
 
@@ -49,14 +43,14 @@ kept_only of P earlier [] [] kept b h = absurd h
 kept_only of P earlier [] (y ∷ ys) kept b h = absurd kept
 kept_only of P earlier (x ∷ xs) [] kept b h = absurd kept
 kept_only of P earlier (x ∷ xs) (y ∷ ys) (inl dropped, kept) b (inl e) = absurd (not_none y b dropped.1 e)
-kept_only of P earlier (x ∷ xs) (y ∷ ys) (inr test, kept) b (inl e) = let both = (test.1 b).0 e in (inl both.0, both.1)
+kept_only of P earlier (x ∷ xs) (y ∷ ys) (inr test, kept) b (inl e) = let both = (test b).0 e in (inl both.0, both.1)
 kept_only of P earlier (x ∷ xs) (y ∷ ys) (first, kept) b (inr h) = let both = kept_only of P (x ∷ earlier) xs ys kept b h in (inr both.0, both.1)
 
 first_kept : {A B : Type 0} (of : B → A) (P : B → Type 0) (earlier : List (Option A)) (x : Option A) (y : Option B) (ys : List (Option B)) → IsKept of P earlier x y → (b : B)
     → x ≡ Some (of b) → P b → IsOneOf (Some (of b)) earlier ⊎ IsOneOf (Some b) (y ∷ ys)
 first_kept {A} of P earlier x y ys (inl dropped) b e holds =
-    inl (subst (λ (t : Option A). IsOneOf t earlier) (sym dropped.0.1.0 ∙ e) dropped.0.1.1)
-first_kept of P earlier x y ys (inr test) b e holds = inr (inl ((test.1 b).1 (e, holds)))
+    inl (subst (λ (t : Option A). IsOneOf t earlier) e dropped.0)
+first_kept of P earlier x y ys (inr test) b e holds = inr (inl ((test b).1 (e, holds)))
 
 rest_kept : {A B : Type 0} (of : B → A) (P : B → Type 0) (earlier : List (Option A)) (x : Option A) (y : Option B) (ys : List (Option B)) → IsKept of P earlier x y → (b : B)
     → P b → IsOneOf (Some (of b)) (x ∷ earlier) ⊎ IsOneOf (Some b) ys → IsOneOf (Some (of b)) earlier ⊎ IsOneOf (Some b) (y ∷ ys)
@@ -80,29 +74,6 @@ those_kept of P xs ys kept =
       only = λ b h. let both = kept_only of P [] (padded xs) ys kept b h in (of_padded (of b) xs (6 - length xs) both.0, both.1);
       all = λ b h. ⊎_elim (λ e. absurd e) (λ is. is) (kept_all of P [] (padded xs) ys kept b (in_padded (of b) xs (6 - length xs) h.0) h.1);
     }
-
--- what is kept isn't of an earlier value
-apart : {A B : Type 0} (of : B → A) (P : B → Type 0) (earlier xs : List (Option A)) (ys : List (Option B)) → AreKept of P earlier xs ys → (b : B)
-    → IsOneOf (Some b) ys → IsOneOf (Some (of b)) earlier → ⊥
-apart of P earlier [] [] kept b h among = h
-apart of P earlier [] (y ∷ ys) kept b h among = kept
-apart of P earlier (x ∷ xs) [] kept b h among = kept
-apart of P earlier (x ∷ xs) (y ∷ ys) (inl dropped, kept) b (inl e) among = not_none y b dropped.1 e
-apart of P earlier (x ∷ xs) (y ∷ ys) (inr test, kept) b (inl e) among = test.0 (of b, (((test.1 b).0 e).0, among))
-apart of P earlier (x ∷ xs) (y ∷ ys) (first, kept) b (inr h) among = apart of P (x ∷ earlier) xs ys kept b h (inr among)
-
-
-pub none_twice : {K R : Type 0} (P : Made K R → Type 0) (earlier xs : List (Option (Choice K R))) (ys : List (Option (Made K R)))
-    → AreKept (λ (m : Made K R). m.choice) P earlier xs ys → NoneTwice ys
-none_twice P earlier [] [] kept = tt
-none_twice P earlier [] (y ∷ ys) kept = absurd kept
-none_twice P earlier (x ∷ xs) [] kept = absurd kept
-none_twice P earlier (x ∷ xs) (None ∷ ys) kept = none_twice P (x ∷ earlier) xs ys kept.1
-none_twice P earlier (x ∷ xs) (Some m ∷ ys) (inl dropped, kept) = absurd (not_none (Some m) m dropped.1 refl)
-none_twice {K} {R} P earlier (x ∷ xs) (Some m ∷ ys) (inr test, kept) = (
-  (λ n h e. apart (λ (m : Made K R). m.choice) P (x ∷ earlier) xs ys kept n h (inl (((test.1 m).0 refl).0 ∙ ap Some e))),
-  none_twice P (x ∷ earlier) xs ys kept,
-)
 
 -- a list of six by its elements
 pub six : {A : Type 0} (l : List A) → length l ≡ 6 → (a b c d e f : A)
@@ -170,4 +141,15 @@ pub chosen_made : {K R : Type 0} (IsChoice : Choice K R → Type 0) (P : Made K 
 chosen_made IsChoice P chosen found is unique test m = (
   (λ e. let both = (test m).0 e in (subst IsChoice (sym both.0) is, both.1)),
   (λ both. (test m).1 (sym (unique m.choice both.0), both.1)),
+)
+
+-- ---- what one choice is
+
+-- what was made of a candidate is what was made of the choice that it is
+pub candidate_made : {K R : Type 0} (M : Choice K R → Type 0) (P : Made K R → Type 0) (candidate : Option (Choice K R)) (chosen : Choice K R) (found : Option (Made K R))
+    → candidate ≡ Some chosen → M chosen → ((m : Made K R) → (found ≡ Some m) ↔ ((m.choice ≡ chosen) × P m))
+    → (m : Made K R) → (found ≡ Some m) ↔ ((candidate ≡ Some m.choice) × (M m.choice × P m))
+candidate_made M P candidate chosen found is meant test m = (
+  (λ e. let both = (test m).0 e in (is ∙ ap Some (sym both.0), (subst M (sym both.0) meant, both.1))),
+  (λ h. let e : Some m.choice ≡ Some chosen = sym h.0 ∙ is in let same : m.choice ≡ chosen = cc in (test m).1 (same, h.1.1)),
 )

@@ -11,7 +11,7 @@ use Rattle.linker_recognise.specs.AArch64Recognised.{AArch64Leaves, AArch64Reads
 use Rattle.linker_recognise.specs.LoongArchRecognised.{IsLoongArchFound}
 use Rattle.linker_recognise.specs.LoongArchRecognised.{LoongArchLeaves, LoongArchReads}
 use Rattle.linker_recognise.specs.Ppc64Recognised.{Ppc64Leaves, Ppc64Reads, IsPpc64Found}
-use Rattle.linker_recognise.specs.Recognised.{AreThose, NoneTwice}
+use Rattle.linker_recognise.specs.Recognised.{AreThose}
 use Rattle.linker_recognise.specs.RiscVRecognised.{RiscVLeaves, RiscVReads, IsRiscVFound}
 use Rattle.linker_recognise.specs.X86Recognised.{X86Leaves, X86Reads, IsX86Found}
 use Rattle.linker_recognise.specs.declared.engine.Made.{Made}
@@ -41,7 +41,7 @@ by_code relaxation elf m =
       value = m.value;
     }
 
--- Those that were found for the name of a code, in their order. None is there twice.
+-- Those that were found for the name of a code, in their order.
 pub record AreFoundBy {K R : Type 0} (elf : R → ElfName) (relaxation : K → Relaxation)
     (IsFound : R → Made K R → Type 0) (code : ℕ) (found : List (Option (Made Relaxation ℕ)))
     : Type 0 where
@@ -49,7 +49,6 @@ pub record AreFoundBy {K R : Type 0} (elf : R → ElfName) (relaxation : K → R
   pub named : List (Option (Made K R))
   pub is_name : IsNameOf elf code name
   pub those : AreThose (IsFound name) named
-  pub once : NoneTwice named
   pub found_are : found ≡ map (of_some (by_code relaxation elf)) named
 
 -- of an architecture

@@ -7,4 +7,5 @@ pub mod RiscVRecognised
 pub mod X86Recognised
 pub mod FoundByCode
 pub mod WrittenFields
+pub mod WrittenRows
 pub mod Inner

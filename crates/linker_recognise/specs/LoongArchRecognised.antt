@@ -24,8 +24,8 @@ loongarch_choices name = choices_of (loongarch_entries name) (choice kinds.NoOp 
 -- the choice leaves the linked bytes
 abbrev pub LoongArchLeaves : LoongArchChoice → List ℕ → ℕ → List FieldBits → List ℕ → Type 0
 LoongArchLeaves c original o others linked =
-    IsLeft (loongarch_rewrite c.kind) (loongarch_row c.relocation) (loongarch_deleted c.kind) original o
-    others linked
+    IsLeft (loongarch_rewrite c.kind) (loongarch_row c.relocation) (loongarch_deleted c.kind)
+    original o others linked
 
 -- by the table of the name
 abbrev pub IsLoongArchMade : LoongArch64Relocation → List ℕ → ℕ → List FieldBits → List ℕ
@@ -36,13 +36,14 @@ IsLoongArchMade name original o others linked c =
 -- where the field of its relocation is in the linked bytes, and what is known of the value
 abbrev pub LoongArchReads : LoongArchChoice → ℕ → List ℕ → ℕ → Option FieldValue → Type 0
 LoongArchReads c o linked at value =
-    IsRead (loongarch_rewrite c.kind) (loongarch_row c.relocation) (loongarch_deleted c.kind) o linked at value
+    IsRead (loongarch_rewrite c.kind) (loongarch_row c.relocation) (loongarch_deleted c.kind) o
+    linked at value
 
 abbrev pub LoongArchMade : Type 0
 LoongArchMade = Made RelaxationKind LoongArch64Relocation
 
 -- a choice that was made, with its field
-abbrev pub IsLoongArchFound : LoongArch64Relocation → List ℕ → ℕ → List FieldBits → List ℕ → LoongArchMade
-    → Type 0
+abbrev pub IsLoongArchFound : LoongArch64Relocation → List ℕ → ℕ → List FieldBits → List ℕ
+    → LoongArchMade → Type 0
 IsLoongArchFound name original o others linked m =
     IsFound (IsLoongArchMade name original o others linked) (λ c. LoongArchReads c o linked) m

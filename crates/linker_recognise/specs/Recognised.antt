@@ -79,7 +79,8 @@ abbrev pub IsOneOf : {A : Type 0} → A → List A → Type 0
 IsOneOf a [] = ⊥
 IsOneOf a (x ∷ xs) = (x ≡ a) ⊎ IsOneOf a xs
 
--- It is one of some choices, its rewrite is meant for what is there, and it leaves the linked bytes.
+-- It is one of some choices, its rewrite is meant for what is there, and it leaves the linked
+-- bytes.
 pub record IsMade {K R : Type 0} (choices : List (Choice K R))
     (Matches : K → List ℕ → ℕ → Type 0)
     (Leaves : Choice K R → List ℕ → ℕ → List FieldBits → List ℕ → Type 0) (original : List ℕ)
@@ -97,10 +98,3 @@ IsFound IsMade Reads m = IsMade m.choice × Reads m.choice m.offset m.value
 pub record AreThose {A : Type 0} (IsSo : A → Type 0) (found : List (Option A)) : Type 0 where
   pub only : (a : A) → IsOneOf (Some a) found → IsSo a
   pub all : (a : A) → IsSo a → IsOneOf (Some a) found
-
--- No two of them have the same choice.
-abbrev pub NoneTwice : {K R : Type 0} → List (Option (Made K R)) → Type 0
-NoneTwice [] = ⊤
-NoneTwice (None ∷ rest) = NoneTwice rest
-NoneTwice {K} {R} (Some m ∷ rest) =
-    ((n : Made K R) → IsOneOf (Some n) rest → m.choice ≡ n.choice → ⊥) × NoneTwice rest

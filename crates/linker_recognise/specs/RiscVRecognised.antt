@@ -35,7 +35,8 @@ IsRiscVMade name original o others linked c =
 -- where the field of its relocation is in the linked bytes, and what is known of the value
 abbrev pub RiscVReads : RiscVChoice → ℕ → List ℕ → ℕ → Option FieldValue → Type 0
 RiscVReads c o linked at value =
-    IsRead (riscv_rewrite c.kind) (riscv_row_of c.relocation) (riscv_deleted c.kind) o linked at value
+    IsRead (riscv_rewrite c.kind) (riscv_row_of c.relocation) (riscv_deleted c.kind) o linked at
+    value
 
 abbrev pub RiscVMade : Type 0
 RiscVMade = Made RelaxationKind RiscVRelocation

@@ -3,13 +3,16 @@
 ghost use Rattle.std.specs.Prelude.{◌≡◌, ◌≤◌, ◌↔◌, Some, None, length};
 ghost use Rattle.linker_elf.specs.AArch64Relocations.{aarch64_name, aarch64_row};
 ghost use Rattle.linker_recognise.specs.AArch64Recognised.{AArch64Choice, AArch64Leaves};
-ghost use Rattle.linker_recognise.specs.AArch64Recognised.{aarch64_choices};
-ghost use Rattle.linker_recognise.specs.AArch64Recognised.{AArch64Made, AArch64Reads, IsAArch64Found};
+ghost use Rattle.linker_recognise.specs.AArch64Recognised.{aarch64_choices, AArch64Made};
+ghost use Rattle.linker_recognise.specs.AArch64Recognised.{AArch64Reads, IsAArch64Found};
 ghost use Rattle.linker_recognise.specs.Inner.Candidates.{padded};
-ghost use Rattle.linker_recognise.specs.Recognised.{IsOneOf, AreThose, NoneTwice};
+ghost use Rattle.linker_recognise.specs.Recognised.{IsOneOf, AreThose};
+ghost use Rattle.linker_recognise.specs.WrittenRows.{WrittenIsLeft};
 ghost use Rattle.linker_utils.specs.Choices as choices;
 ghost use Rattle.linker_utils.specs.AArch64Choices.{IsAArch64Choice};
 ghost use Rattle.linker_utils.specs.AArch64Originals.{aarch64_matches};
+ghost use Rattle.linker_utils.specs.AArch64Rewrites.{aarch64_rewrite};
+ghost use Rattle.linker_utils.specs.declared.architecture.Relaxation.TheVariants as relaxations;
 ghost use Rattle.linker_utils.specs.declared.elf.choice.LinkFacts.{LinkFacts};
 
 use crate::candidates::{CANDIDATES, one, three, two};
@@ -21,6 +24,7 @@ use linker_utils::elf::{Choice, LinkFacts, Row};
 use linker_utils::riscv64::DeletedBytes;
 
 type AArch64Choice = Choice<RelaxationKind, AArch64Relocation>;
+
 type AArch64Made = Made<RelaxationKind, AArch64Relocation>;
 
 #[inline(always)]
@@ -118,7 +122,7 @@ impl Kind for RelaxationKind {
 
     ghost deleted = { λ kind. None };
 
-    ghost relaxation_of = { Relaxation.AArch64 };
+    ghost relaxation_of = { relaxations.AArch64 };
 
     fn is_meant_for(self, section: &[u8], offset: u64) -> bool {
         self.matches(section, offset)
@@ -146,8 +150,14 @@ impl Name for AArch64Relocation {
         row(self)
     }
 
-    fn is(self, other: AArch64Relocation) -> bool {
-        self == other
+    fn repeats(self, other: AArch64Relocation) -> bool {
+        matches!(
+            (self, other),
+            (
+                AArch64Relocation::R_AARCH64_NONE,
+                AArch64Relocation::R_AARCH64_NONE
+            )
+        )
     }
 
     fn code(self) -> u32 {
@@ -155,8 +165,8 @@ impl Name for AArch64Relocation {
     }
 }
 
-/// Which rewrites, and relocations after them, a linker may have made at the relocation with a name,
-/// whose offset in the original bytes is given, as `recognise` of `x86_64` says.
+/// Which rewrites, and relocations after them, a linker may have made at the relocation with a
+/// name, whose offset in the original bytes is given, as `recognise` of `x86_64` says.
 ///
 /// ```
 /// use linker_recognise::aarch64::recognise;
@@ -180,7 +190,6 @@ pub fn recognise(
     requires { length original.now ≤ 64 }
     ensures found { AreThose (IsAArch64Found name original.now offset others.now linked.now)
         result }
-    ensures once { NoneTwice result }
     ensures any { (facts : LinkFacts) (m : AArch64Made)
         → IsAArch64Choice name original.now offset facts m.choice
         → AArch64Leaves m.choice original.now offset others.now linked.now
@@ -208,3 +217,9 @@ pub fn recognise_chosen(
     let chosen = choose(name, original, offset, facts);
     recognise_one(chosen, original, offset, others, linked)
 }
+
+/// Where a rewrite is applied, and the value of the relocation after it is written, the choice of
+/// both leaves these bytes. So `recognise` returns what `choose` chose, after `apply` and `write`.
+pub fn written_choices_are_left()
+    ensures { WrittenIsLeft aarch64_rewrite aarch64_row (λ kind. None) }
+{}

@@ -52,8 +52,8 @@ fn all_by_code<K: Kind, R: Name>(
     ]
 }
 
-/// Which rewrites, and relocations after them, a linker may have made at the relocation with a code,
-/// `r_type` in ELF files, as `recognise` of `aarch64`, `riscv64`, `loongarch64`, `ppc64` and
+/// Which rewrites, and relocations after them, a linker may have made at the relocation with a
+/// code, `r_type` in ELF files, as `recognise` of `aarch64`, `riscv64`, `loongarch64`, `ppc64` and
 /// `x86_64` says.
 ///
 /// ```
@@ -93,9 +93,7 @@ pub fn recognise(
         }
         Architecture::LoongArch64 => {
             let name = LoongArch64Relocation::from_elf(code);
-            all_by_code(loongarch64::recognise(
-                name, original, offset, others, linked,
-            ))
+            all_by_code(loongarch64::recognise(name, original, offset, others, linked))
         }
         Architecture::Ppc64 => {
             let name = Ppc64Relocation::from_elf(code);
@@ -126,33 +124,23 @@ pub fn recognise_chosen(
     match architecture {
         Architecture::AArch64 => {
             let name = AArch64Relocation::from_elf(code);
-            by_code(aarch64::recognise_chosen(
-                name, original, offset, others, linked, facts,
-            ))
+            by_code(aarch64::recognise_chosen(name, original, offset, others, linked, facts))
         }
         Architecture::RiscV => {
             let name = RiscVRelocation::from_elf(code);
-            by_code(riscv64::recognise_chosen(
-                name, original, offset, others, linked, facts,
-            ))
+            by_code(riscv64::recognise_chosen(name, original, offset, others, linked, facts))
         }
         Architecture::LoongArch64 => {
             let name = LoongArch64Relocation::from_elf(code);
-            by_code(loongarch64::recognise_chosen(
-                name, original, offset, others, linked, facts,
-            ))
+            by_code(loongarch64::recognise_chosen(name, original, offset, others, linked, facts))
         }
         Architecture::Ppc64 => {
             let name = Ppc64Relocation::from_elf(code);
-            by_code(ppc64::recognise_chosen(
-                name, original, offset, others, linked, facts,
-            ))
+            by_code(ppc64::recognise_chosen(name, original, offset, others, linked, facts))
         }
         Architecture::X86_64 => {
             let name = X86_64Relocation::from_elf(code);
-            by_code(x86_64::recognise_chosen(
-                name, original, offset, others, linked, facts,
-            ))
+            by_code(x86_64::recognise_chosen(name, original, offset, others, linked, facts))
         }
     }
 }

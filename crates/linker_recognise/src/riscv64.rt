@@ -5,11 +5,13 @@ ghost use Rattle.linker_elf.specs.RiscVRelocations.{riscv_name};
 ghost use Rattle.linker_recognise.specs.RiscVRecognised.{RiscVChoice, RiscVLeaves, riscv_choices};
 ghost use Rattle.linker_recognise.specs.RiscVRecognised.{RiscVMade, RiscVReads, IsRiscVFound};
 ghost use Rattle.linker_recognise.specs.Inner.Candidates.{padded};
-ghost use Rattle.linker_recognise.specs.Recognised.{IsOneOf, AreThose, NoneTwice};
+ghost use Rattle.linker_recognise.specs.Recognised.{IsOneOf, AreThose};
+ghost use Rattle.linker_recognise.specs.WrittenRows.{WrittenIsLeft};
 ghost use Rattle.linker_utils.specs.Choices as choices;
 ghost use Rattle.linker_utils.specs.RiscVChoices.{riscv_row_of, IsRiscVChoice};
 ghost use Rattle.linker_utils.specs.RiscVOriginals.{riscv_matches};
-ghost use Rattle.linker_utils.specs.RiscVRewrites.{riscv_deleted};
+ghost use Rattle.linker_utils.specs.RiscVRewrites.{riscv_rewrite, riscv_deleted};
+ghost use Rattle.linker_utils.specs.declared.architecture.Relaxation.TheVariants as relaxations;
 ghost use Rattle.linker_utils.specs.declared.elf.choice.LinkFacts.{LinkFacts};
 
 use crate::candidates::{CANDIDATES, five, four, one, three, two};
@@ -20,6 +22,7 @@ use linker_utils::elf::{Choice, LinkFacts, Row};
 use linker_utils::riscv64::{DeletedBytes, RelaxationKind, RiscVRelocation, choose, row};
 
 type RiscVChoice = Choice<RelaxationKind, RiscVRelocation>;
+
 type RiscVMade = Made<RelaxationKind, RiscVRelocation>;
 
 #[inline(always)]
@@ -127,7 +130,7 @@ impl Kind for RelaxationKind {
 
     ghost deleted = { riscv_deleted };
 
-    ghost relaxation_of = { Relaxation.RiscV };
+    ghost relaxation_of = { relaxations.RiscV };
 
     fn is_meant_for(self, section: &[u8], offset: u64) -> bool {
         self.matches(section, offset)
@@ -155,8 +158,11 @@ impl Name for RiscVRelocation {
         row(self)
     }
 
-    fn is(self, other: RiscVRelocation) -> bool {
-        self == other
+    fn repeats(self, other: RiscVRelocation) -> bool {
+        matches!(
+            (self, other),
+            (RiscVRelocation::R_RISCV_NONE, RiscVRelocation::R_RISCV_NONE)
+        )
     }
 
     fn code(self) -> u32 {
@@ -164,11 +170,11 @@ impl Name for RiscVRelocation {
     }
 }
 
-/// Which rewrites, and relocations after them, a linker may have made at the relocation with a name,
-/// whose offset in the original bytes is given, as `recognise` of `x86_64` says.
+/// Which rewrites, and relocations after them, a linker may have made at the relocation with a
+/// name, whose offset in the original bytes is given, as `recognise` of `x86_64` says.
 ///
-/// A rewrite after which bytes are deleted leaves the others. So the linked window is shorter by the
-/// deleted bytes, and empty if they are all of the original window.
+/// A rewrite after which bytes are deleted leaves the others. So the linked window is shorter by
+/// the deleted bytes, and empty if they are all of the original window.
 ///
 /// ```
 /// use linker_recognise::riscv64::recognise;
@@ -192,7 +198,6 @@ pub fn recognise(
     requires { length original.now ≤ 64 }
     ensures found { AreThose (IsRiscVFound name original.now offset others.now linked.now)
         result }
-    ensures once { NoneTwice result }
     ensures any { (facts : LinkFacts) (m : RiscVMade)
         → IsRiscVChoice name original.now offset facts m.choice
         → RiscVLeaves m.choice original.now offset others.now linked.now
@@ -220,3 +225,10 @@ pub fn recognise_chosen(
     let chosen = choose(name, original, offset, facts);
     recognise_one(chosen, original, offset, others, linked)
 }
+
+/// Where a rewrite is applied, the value of the relocation after it is written, and the deleted
+/// bytes are taken out, the choice of both leaves the bytes that stay. So `recognise` returns what
+/// `choose` chose, after `apply` and `write`.
+pub fn written_choices_are_left()
+    ensures { WrittenIsLeft riscv_rewrite riscv_row_of riscv_deleted }
+{}

@@ -3,13 +3,14 @@
 ghost use Rattle.std.specs.Prelude.{◌≡◌, ◌-◌, ◌≤◌, ◌↔◌, Some, None, length, slice_index};
 ghost use Rattle.linker_elf.specs.X86Relocations.{x86_64_name, x86_64_row};
 ghost use Rattle.linker_recognise.specs.Inner.Candidates.{padded};
-ghost use Rattle.linker_recognise.specs.Recognised.{IsOneOf, AreThose, NoneTwice};
+ghost use Rattle.linker_recognise.specs.Recognised.{IsOneOf, AreThose};
 ghost use Rattle.linker_recognise.specs.X86Recognised.{X86Choice, X86Leaves, x86_64_choices};
 ghost use Rattle.linker_recognise.specs.X86Recognised.{X86Made, X86Reads, IsX86Found};
 ghost use Rattle.linker_recognise.specs.WrittenFields.{X86WrittenIsLeft};
 ghost use Rattle.linker_utils.specs.Choices as choices;
 ghost use Rattle.linker_utils.specs.X86Choices as tables;
 ghost use Rattle.linker_utils.specs.X86Choices.{IsX86Choice};
+ghost use Rattle.linker_utils.specs.declared.architecture.Relaxation.TheVariants as relaxations;
 ghost use Rattle.linker_utils.specs.declared.elf.choice.LinkFacts.{LinkFacts};
 ghost use Rattle.linker_utils.specs.X86Originals.{x86_64_matches};
 ghost use Rattle.linker_utils.specs.X86RelocationsAfter as replaced;
@@ -23,6 +24,7 @@ use linker_utils::riscv64::DeletedBytes;
 use linker_utils::x86_64::{RelaxationKind, X86_64Relocation, choose, row};
 
 type X86Choice = Choice<RelaxationKind, X86_64Relocation>;
+
 type X86Made = Made<RelaxationKind, X86_64Relocation>;
 
 #[inline(always)]
@@ -225,7 +227,7 @@ impl Kind for RelaxationKind {
 
     ghost deleted = { λ kind. None };
 
-    ghost relaxation_of = { Relaxation.X86_64 };
+    ghost relaxation_of = { relaxations.X86_64 };
 
     fn is_meant_for(self, section: &[u8], offset: u64) -> bool {
         self.matches(section, offset)
@@ -253,8 +255,15 @@ impl Name for X86_64Relocation {
         row(self)
     }
 
-    fn is(self, other: X86_64Relocation) -> bool {
-        self == other
+    fn repeats(self, other: X86_64Relocation) -> bool {
+        matches!(
+            (self, other),
+            (X86_64Relocation::R_X86_64_32, X86_64Relocation::R_X86_64_32)
+                | (
+                    X86_64Relocation::R_X86_64_32S,
+                    X86_64Relocation::R_X86_64_32S
+                )
+        )
     }
 
     fn code(self) -> u32 {
@@ -262,22 +271,25 @@ impl Name for X86_64Relocation {
     }
 }
 
-/// Which rewrites, and relocations after them, a linker may have made at the relocation with a name,
-/// whose offset in the original bytes is given: those after which the original bytes differ from the
-/// linked ones only in the field of the relocation after it and in `others`. None is returned twice.
-/// They are in the order of the table of `choose`, and the last of them is `NoOp` and the same name.
+/// Which rewrites, and relocations after them, a linker may have made at the relocation with a
+/// name, whose offset in the original bytes is given: those after which the original bytes differ
+/// from the linked ones only in the field of the relocation after it and in `others`. No choice is
+/// returned twice. They are in the order of the table of `choose`, and the last of them is `NoOp`
+/// and the same name.
 ///
 /// - Both windows may begin before the relocation, at the same place. The original one has at most
 ///   `MAX_WINDOW` bytes. A choice that deletes bytes leaves fewer.
 /// - `others` are bits of the original window that other relocations write, as
 ///   `FieldBits::of_row` gives them, among them those of a relocation that the choice skips. Of an
 ///   instruction that another relocation rewrites or deletes they are all bits. Where a skipped
-///   relocation isn't named, its field is compared with what the rewrite left, since it isn't applied.
-/// - Nothing needs to be known of the symbol. So several choices are returned where their bytes are the
-///   same, as where only the relocation changes.
-/// - A choice is returned only if its rewrite is meant for what is at the offset, as `matches` says, and
-///   the field is in the window. Each that `choose` makes, whatever the linker knows, is one of them
-///   if it leaves the linked bytes so.
+///   relocation isn't named, its field is compared with what the rewrite left, since it isn't
+///   applied.
+/// - Nothing needs to be known of the symbol. So several choices are returned where their bytes are
+///   the same, as where only the relocation changes. Each comes with the offset of its field in the
+///   linked bytes and with what `read` of `linker_reads` returns there.
+/// - A choice is returned only if its rewrite is meant for what is at the offset, as `matches`
+///   says, and the field is in the window. Each that `choose` makes, whatever the linker knows, is
+///   one of them if it leaves the linked bytes so.
 ///
 /// ```
 /// use linker_recognise::x86_64::recognise;
@@ -288,7 +300,9 @@ impl Name for X86_64Relocation {
 /// let linked = [0x48, 0x8d, 0x3d, 0x10, 0x20, 0, 0];
 /// let name = X86_64Relocation::R_X86_64_REX_GOTPCRELX;
 /// let mut choices = recognise(name, &original, 3, &[], &linked).into_iter().flatten();
-/// assert_eq!(choices.next().unwrap().choice.kind, RelaxationKind::MovIndirectToLea);
+/// let made = choices.next().unwrap();
+/// assert_eq!(made.choice.kind, RelaxationKind::MovIndirectToLea);
+/// assert_eq!(made.value.unwrap().number(), Some(0x2010));
 /// assert!(choices.next().is_none());
 /// ```
 pub fn recognise(
@@ -301,7 +315,6 @@ pub fn recognise(
     requires { length original.now ≤ 64 }
     ensures found { AreThose (IsX86Found name original.now offset others.now linked.now)
         result }
-    ensures once { NoneTwice result }
     ensures any { (facts : LinkFacts) (m : X86Made)
         → IsX86Choice name original.now offset facts m.choice
         → X86Leaves m.choice original.now offset others.now linked.now
@@ -331,8 +344,8 @@ pub fn recognise_chosen(
     recognise_one(chosen, original, offset, others, linked)
 }
 
-/// Where a rewrite is applied, and the value of the relocation after it is written, the choice of both
-/// leaves these bytes. So `recognise` returns what `choose` chose, after `apply` and `write`.
+/// Where a rewrite is applied, and the value of the relocation after it is written, the choice of
+/// both leaves these bytes. So `recognise` returns what `choose` chose, after `apply` and `write`.
 pub fn written_choices_are_left()
     ensures { X86WrittenIsLeft }
 {}

@@ -6,7 +6,6 @@ use linker_utils::elf::{Architecture, Choice, InstructionRewrite, Operands, Row}
 use linker_utils::relaxation::RelocationModifier;
 use linker_utils::reading::{FieldValue, read, solve};
 use linker_utils::recognise::{self, FieldBits};
-use linker_utils::{aarch64, loongarch64, ppc64, riscv64, x86_64};
 
 pub type Chosen = Choice<Relaxation, u32>;
 
@@ -19,27 +18,11 @@ pub fn choices(
     others: &[FieldBits],
     linked: &[u8],
 ) -> Vec<Chosen> {
-    macro_rules! of {
-        ($module:ident, $name:ident, $variant:ident) => {{
-            let name = $module::$name::from_elf(code);
-            recognise::$module::recognise(name, original, offset, others, linked)
-                .into_iter()
-                .flatten()
-                .map(|one| Choice {
-                    kind: Relaxation::$variant(one.kind),
-                    relocation: one.relocation.elf_code(),
-                })
-                .collect()
-        }};
-    }
-    match architecture {
-        Architecture::AArch64 => of!(aarch64, AArch64Relocation, AArch64),
-        Architecture::RiscV => of!(riscv64, RiscVRelocation, RiscV),
-        Architecture::LoongArch64 => of!(loongarch64, LoongArch64Relocation, LoongArch64),
-        Architecture::Ppc64 => of!(ppc64, Ppc64Relocation, Ppc64),
-        Architecture::X86_64 => of!(x86_64, X86_64Relocation, X86_64),
-        _ => Vec::new(),
-    }
+    recognise::architecture::recognise(architecture, code, original, offset, others, linked)
+        .into_iter()
+        .flatten()
+        .map(|made| made.choice)
+        .collect()
 }
 
 /// Whether a choice changes instructions.

@@ -21,16 +21,11 @@ LeavesRead rewrite row deleted original o others linked m =
     × IsRead (rewrite m.choice.kind) (row m.choice.relocation) (deleted m.choice.kind) o linked
     m.offset m.value
 
--- there is a value, and it is among earlier ones
-abbrev pub IsAmong : {A : Type 0} → Option A → List (Option A) → Type 0
-IsAmong {A} x earlier = (a : A) × ((x ≡ Some a) × IsOneOf (Some a) earlier)
-
--- Of a value x that isn't among earlier ones stays what is of it and so.
+-- Of a value x that isn't dropped as one of the earlier ones stays what is of it and so.
 abbrev pub IsKept : {A B : Type 0} → (B → A) → (B → Type 0) → List (Option A) → Option A → Option B
     → Type 0
 IsKept {A} {B} of P earlier x y =
-    (IsAmong x earlier × (y ≡ None))
-    ⊎ ((IsAmong x earlier → ⊥) × ((b : B) → (y ≡ Some b) ↔ ((x ≡ Some (of b)) × P b)))
+    (IsOneOf x earlier × (y ≡ None)) ⊎ ((b : B) → (y ≡ Some b) ↔ ((x ≡ Some (of b)) × P b))
 
 -- the same of each value of a list, where those before it are among the earlier ones
 abbrev pub AreKept : {A B : Type 0} → (B → A) → (B → Type 0) → List (Option A) → List (Option A)

@@ -2,7 +2,7 @@ use Rattle.linker_recognise.proofs.RiscVMade.{riscv_chosen_is_one}
 use Rattle.linker_recognise.proofs.riscv64.recognise.Goals as goal
 
 pub returns-clause-found : goal.returns-clause-found
-returns-clause-found c = c.recognise_among.ensures.those _ c.candidates.ensures
+returns-clause-found c = c.recognise_among.ensures _ c.candidates.ensures
 
 pub returns-clause-any : goal.returns-clause-any
 returns-clause-any c = λ facts m is leaves reads.

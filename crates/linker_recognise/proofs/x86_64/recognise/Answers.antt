@@ -10,7 +10,7 @@ pub returns-clause-found : goal.returns-clause-found
 returns-clause-found c =
     subst (λ (opcode : ℕ). AreThose (IsFound (IsMade (x86_64_choices (x86_64_table c.args.name opcode) c.args.name) x86_64_matches X86Leaves c.args.original.now c.args.offset c.args.others.now c.args.linked.now)
     (λ (d : X86Choice). X86Reads d c.args.offset c.args.linked.now)) c.recognise_among.result)
-    c.opcode_before.ensures (c.recognise_among.ensures.those _ c.candidates-choices.ensures)
+    c.opcode_before.ensures (c.recognise_among.ensures _ c.candidates-choices.ensures)
 
 pub returns-clause-any : goal.returns-clause-any
 returns-clause-any c = λ facts m is leaves reads.
