@@ -126,7 +126,9 @@ extern "C" {
            "No address is behind the relocation's value, or it is that of a page and known from " \
            "below bit 12.") \
     STATUS(NOT_HALVES, 51, \
-           "The low half does not have all bits below those of the high half, without rounding.")
+           "The low half does not have all bits below those of the high half, without rounding.") \
+    STATUS(WINDOW_TOO_LONG, 52, "The original bytes are more than 64.") \
+    STATUS(LEAVES_OTHER_BYTES, 58, "The rewrite that is chosen leaves other bytes.")
 
 enum linker_utils_status {
 #define LINKER_UTILS_STATUS(name, number, text) LINKER_UTILS_##name = number,
@@ -1252,6 +1254,58 @@ static inline uint32_t linker_utils_field_bits(uint16_t machine, uint32_t r_type
  * isn't in the windows. */
 static inline bool linker_utils_same_but_for(uint16_t machine, uint32_t r_type, const uint8_t *a,
                                              size_t a_len, const uint8_t *b, size_t b_len);
+
+/* Bits of a window: some of the eight bytes from an offset on. */
+struct linker_utils_window_bits {
+    uint64_t offset; /* of the first of the bytes, in the original window */
+    uint64_t bits; /* bit 0 is the lowest of that byte, bit 8 that of the next */
+};
+
+/* A rewrite that leaves the linked bytes, and what stands in the field of the relocation after it. */
+struct linker_utils_recognised {
+    struct linker_utils_choice choice; /* as `linker_utils_choose` returns it */
+    uint64_t offset; /* of the relocation's field in the linked bytes, from which none are deleted */
+    /* What is known of the relocation's value from that field, as `linker_utils_read_value` returns
+     * it. `end_bit` is 0 where nothing is known: the relocation holds no value. */
+    struct linker_utils_field_value value;
+};
+
+/* How many rewrites a relocation may have at most, NO_OP among them. */
+#define LINKER_UTILS_CANDIDATES 6
+
+/* Writes which rewrites, and relocations after them, a linker may have made at a relocation: those
+ * after which the original bytes differ from the linked ones only in the field of the relocation
+ * after it and in `others`. `count` is how many there are; the elements of `found` from there on are
+ * unchanged. Nothing needs to be known of the symbol: so several are returned where their bytes are
+ * the same, as where only the relocation changes.
+ *
+ * - `offset` is that of the relocation in the original bytes. Both windows may begin before it, at
+ *   the same place. The original one has at most 64 bytes. After a rewrite that deletes bytes the
+ *   linked one has fewer.
+ * - `others` are bits that other relocations write, as `linker_utils_field_bits` returns them, among
+ *   them those of a relocation that the rewrite skips. Of an instruction that another relocation
+ *   rewrites or deletes they are all bits.
+ * - A rewrite is among them only where `linker_utils_matches` returns LINKER_UTILS_OK of it and the
+ *   field is in the window. What `linker_utils_choose` returns is one of them, whatever the facts,
+ *   where it leaves the linked bytes so.
+ *
+ * LINKER_UTILS_UNKNOWN_ARCHITECTURE. LINKER_UTILS_DIFFERENT_LENGTHS where `found_len` is not
+ * LINKER_UTILS_CANDIDATES. LINKER_UTILS_WINDOW_TOO_LONG. A type that the library doesn't know has
+ * NO_OP only. */
+static inline uint32_t linker_utils_recognise(
+    uint16_t machine, uint32_t r_type, const uint8_t *original, size_t original_len,
+    uint64_t offset, const struct linker_utils_window_bits *others, size_t others_len,
+    const uint8_t *linked, size_t linked_len, struct linker_utils_recognised *found,
+    size_t found_len, size_t *count);
+
+/* Writes what `linker_utils_choose` returns by these facts, if it leaves the linked bytes, as
+ * `linker_utils_recognise` says. LINKER_UTILS_UNKNOWN_ARCHITECTURE. LINKER_UTILS_WINDOW_TOO_LONG.
+ * LINKER_UTILS_LEAVES_OTHER_BYTES. */
+static inline uint32_t linker_utils_recognise_chosen(
+    uint16_t machine, uint32_t r_type, const uint8_t *original, size_t original_len,
+    uint64_t offset, const struct linker_utils_window_bits *others, size_t others_len,
+    const uint8_t *linked, size_t linked_len, const struct linker_utils_link_facts *facts,
+    struct linker_utils_recognised *found);
 
 #include "linker_utils_inline.h"
 

@@ -526,12 +526,8 @@ static void call_matches(void) {
     finish_with(status, 0 NO_REWRITE OR(DOES_NOT_MATCH));
 }
 
-/* What is chosen matches. */
-static void call_choose(void) {
-    uint16_t machine = any_machine();
-    uint32_t r_type = any_relocation_type();
-    struct buffer *section = bytes(READ, any_section_len());
-    uint64_t offset = any_offset(section->len);
+/* Facts of which some hold. */
+static struct buffer *any_facts(void) {
     struct buffer *given = place(READ, 1, sizeof(struct linker_utils_link_facts));
     struct linker_utils_link_facts *facts = filled(given);
     uint64_t *operand = &facts->operands.symbol;
@@ -539,6 +535,16 @@ static void call_choose(void) {
     for (uint8_t *fact = &facts->is_local; fact <= &facts->has_addresses; fact++)
         *fact = (uint8_t)(once_in(8) ? any() : below(2));
     if (once_in(2)) facts->operands.addend = -4;
+    return given;
+}
+
+/* What is chosen matches. */
+static void call_choose(void) {
+    uint16_t machine = any_machine();
+    uint32_t r_type = any_relocation_type();
+    struct buffer *section = bytes(READ, any_section_len());
+    uint64_t offset = any_offset(section->len);
+    struct buffer *given = any_facts();
     struct linker_utils_choice *choice = output(sizeof *choice);
     uint32_t status =
         CALL(choose, machine, r_type, section->given, section->len, offset, given->given, choice);
@@ -1244,6 +1250,60 @@ static void call_same_but_for(void) {
     finish(true);
 }
 
+static void expect_recognised(const struct linker_utils_recognised *found) {
+    expect(found->choice.modifier <= 1 && found->choice.deleted_len <= 6, "no choice's numbers");
+    if (found->value.end_bit) expect_field_value(&found->value);
+}
+
+/* Windows that are the same but for a byte or a few that are deleted, or any two. */
+static void call_recognised(bool is_chosen) {
+    uint16_t machine = any_machine();
+    uint32_t r_type = any_relocation_type();
+    struct buffer *original = bytes(READ, once_in(16) ? 60 + below(10) : any_len(24));
+    uint64_t offset = any_offset(original->len);
+    size_t others_len = any_len(3);
+    struct buffer *others = place(READ, others_len, sizeof(struct linker_utils_window_bits));
+    struct linker_utils_window_bits *other = filled(others);
+    for (size_t i = 0; i < others_len; i++) {
+        other[i] = (struct linker_utils_window_bits){any_offset(original->len), any_number()};
+    }
+    size_t deleted = once_in(4) ? 2 * below(4) : 0;
+    size_t linked_len = original->len < deleted ? 0 : original->len - deleted;
+    struct buffer *linked = bytes(READ, linked_len);
+    if (linked_len > 0 && once_in(2)) memcpy(filled(linked), filled(original), linked_len);
+    struct buffer *facts = is_chosen ? any_facts() : NULL;
+    size_t found_len = is_chosen ? 1 : once_in(8) ? any_len(8) : LINKER_UTILS_CANDIDATES;
+    struct buffer *found = place(WRITTEN, found_len, sizeof(struct linker_utils_recognised));
+    struct linker_utils_recognised *at = filled(found);
+    size_t *count = is_chosen ? NULL : output(sizeof *count);
+    if (is_chosen) {
+        uint32_t status = CALL(recognise_chosen, machine, r_type, original->given, original->len,
+                               offset, others->given, others_len, linked->given, linked_len,
+                               facts->given, found->given);
+        if (status == LINKER_UTILS_OK) expect_recognised(at);
+        finish_with(status,
+                    0 OR(UNKNOWN_ARCHITECTURE) OR(WINDOW_TOO_LONG) OR(LEAVES_OTHER_BYTES));
+        return;
+    }
+    uint32_t status = CALL(recognise, machine, r_type, original->given, original->len, offset,
+                           others->given, others_len, linked->given, linked_len, found->given,
+                           found_len, count);
+    if (status == LINKER_UTILS_OK) {
+        expect(*count <= found_len, "more than there is room for");
+        for (size_t i = 0; i < *count; i++) expect_recognised(&at[i]);
+        changes(found, 0, *count * sizeof *at);
+    }
+    finish_with(status, 0 OR(UNKNOWN_ARCHITECTURE) OR(DIFFERENT_LENGTHS) OR(WINDOW_TOO_LONG));
+}
+
+static void call_recognise(void) {
+    call_recognised(false);
+}
+
+static void call_recognise_chosen(void) {
+    call_recognised(true);
+}
+
 static void (*const all[])(void) = {
     call_status_text, call_window, call_write, call_read, call_apply, call_matches,
     call_choose,
@@ -1257,6 +1317,7 @@ static void (*const all[])(void) = {
     call_deltas_heads, call_pack, call_shrink_calls, call_named_shapes, call_relax, call_run_deltas,
     call_riscv_items, call_loongarch_items,
     call_read_value, call_solve, call_join, call_field_bits, call_same_but_for,
+    call_recognise, call_recognise_chosen,
 };
 
 int main(int count, char **arguments) {

@@ -309,6 +309,38 @@ impl FieldValue {
     }
 }
 
+/// Some bits of the eight bytes from an offset of a window on. Bit 0 is the lowest of the byte at the
+/// offset.
+#[repr(C)]
+#[derive(Debug, Clone, Copy, Default, PartialEq, Eq)]
+pub struct FieldBits {
+    pub offset: u64,
+    pub bits: u64,
+}
+
+/// The bytes at a relocation before and after linking, as `recognise` compares them.
+#[derive(Debug, Clone, Copy, PartialEq, Eq)]
+pub struct Windows<'a> {
+    /// At most 64 bytes.
+    pub original: &'a [u8],
+    /// The relocation's offset in them.
+    pub offset: u64,
+    /// The bits of them that other relocations write.
+    pub others: &'a [FieldBits],
+    /// From the same place on.
+    pub linked: &'a [u8],
+}
+
+/// A rewrite that leaves the linked bytes, and what stands in the field of the relocation after it.
+#[derive(Debug, Clone, PartialEq, Eq)]
+pub struct Recognised {
+    pub choice: Choice,
+    /// The offset of the relocation's field in the linked bytes.
+    pub offset: u64,
+    /// What is known of its value; `None` if the relocation holds no value.
+    pub value: Option<FieldValue>,
+}
+
 fn result_of<T>(status: u32, value: T) -> Result<T, Status> {
     match status {
         0 => Ok(value),
@@ -464,13 +496,18 @@ pub fn choose(
         raw::linker_utils_choose_nonnull(machine, r_type, at, len, offset, &facts, &mut choice)
     };
     result_of(status, ())?;
-    Ok(Choice {
+    Ok(choice_of(architecture, &choice))
+}
+
+/// A choice for an architecture.
+fn choice_of(architecture: Architecture, choice: &raw::Choice) -> Choice {
+    Choice {
         rewrite: Rewrite::from_numbers(architecture, choice.rewrite, choice.n)
             .expect("a rewrite of the library's"),
         relocation: choice.relocation,
         modifier: Modifier::from_number(choice.modifier).expect("a modifier of the library's"),
         deleted: choice.deleted_start..choice.deleted_start + u64::from(choice.deleted_len),
-    })
+    }
 }
 
 /// What the relocation of an ELF type means.
@@ -1113,4 +1150,67 @@ pub fn same_but_for(architecture: Architecture, r_type: u32, a: &[u8], b: &[u8])
             b_len,
         )
     }
+}
+
+fn recognised(architecture: Architecture, found: &raw::Recognised) -> Recognised {
+    Recognised {
+        choice: choice_of(architecture, &found.choice),
+        offset: found.offset,
+        value: (found.value.end_bit != 0).then_some(found.value),
+    }
+}
+
+/// Which rewrites, and relocations after them, a linker may have made at a relocation.
+pub fn recognise(
+    architecture: Architecture,
+    r_type: u32,
+    windows: Windows<'_>,
+) -> Result<Vec<Recognised>, Status> {
+    let (mut found, mut count) = ([raw::Recognised::default(); names::CANDIDATES], 0);
+    let status = unsafe {
+        raw::linker_utils_recognise_nonnull(
+            architecture.machine(),
+            r_type,
+            windows.original.as_ptr(),
+            windows.original.len(),
+            windows.offset,
+            windows.others.as_ptr(),
+            windows.others.len(),
+            windows.linked.as_ptr(),
+            windows.linked.len(),
+            found.as_mut_ptr(),
+            found.len(),
+            &mut count,
+        )
+    };
+    result_of(status, ())?;
+    let found = found[..count].iter();
+    Ok(found.map(|found| recognised(architecture, found)).collect())
+}
+
+/// What `choose` returns by these facts, if it leaves the linked bytes; else `LeavesOtherBytes`.
+pub fn recognise_chosen(
+    architecture: Architecture,
+    r_type: u32,
+    windows: Windows<'_>,
+    facts: &LinkFacts,
+) -> Result<Recognised, Status> {
+    let (facts, mut found) = (raw::LinkFacts::from(facts), raw::Recognised::default());
+    let status = unsafe {
+        raw::linker_utils_recognise_chosen_nonnull(
+            architecture.machine(),
+            r_type,
+            windows.original.as_ptr(),
+            windows.original.len(),
+            windows.offset,
+            windows.others.as_ptr(),
+            windows.others.len(),
+            windows.linked.as_ptr(),
+            windows.linked.len(),
+            &facts,
+            &mut found,
+        )
+    };
+    result_of(status, ())?;
+    Ok(recognised(architecture, &found))
 }

@@ -5,7 +5,7 @@
 
 use std::fmt;
 
-// `NAME_SIZE`, and for each enum of the header a macro of its name
+// `NAME_SIZE`, `CANDIDATES`, and for each enum of the header a macro of its name
 include!(concat!(env!("OUT_DIR"), "/constants.rs"));
 
 macro_rules! numbered {

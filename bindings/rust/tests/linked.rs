@@ -329,3 +329,56 @@ fn prefixed_words_are_those_of_llvm() {
         }
     }
 }
+
+/// A general-dynamic TLS sequence of GNU as's, and what GNU ld linked of it into a program.
+#[test]
+fn a_sequence_that_gnu_ld_rewrote_is_recognised() {
+    let original = bytes_of("66488d3d00000000666648e800000000c3");
+    let linked = bytes_of("64488b042500000000488d8048f3ffffc3");
+    let windows = Windows {
+        original: &original,
+        offset: 4,
+        others: &[],
+        linked: &linked,
+    };
+    // R_X86_64_TLSGD, and R_X86_64_TPOFF32
+    let found = recognise(Architecture::X86_64, 19, windows).expect("it is no long window");
+    assert_eq!(found.len(), 1);
+    let choice = &found[0].choice;
+    assert_eq!(choice.rewrite, X86_64Rewrite::TlsGdToLocalExec.into());
+    assert_eq!(choice.relocation, 23);
+    assert_eq!(choice.modifier, Modifier::SkipNextRelocation);
+    assert_eq!(found[0].offset, 12);
+    let value = found[0]
+        .value
+        .expect("the field has the offset from the thread pointer");
+    assert_eq!(value.number(), Some(-3256i64 as u64));
+
+    let mut facts = LinkFacts {
+        is_local: true,
+        is_executable: true,
+        ..LinkFacts::default()
+    };
+    facts.operands.addend = -4;
+    let chosen = recognise_chosen(Architecture::X86_64, 19, windows, &facts);
+    assert_eq!(chosen.as_ref(), Ok(&found[0]));
+    facts.is_executable = false;
+    let other = recognise_chosen(Architecture::X86_64, 19, windows, &facts);
+    assert_eq!(other, Err(Status::LeavesOtherBytes));
+
+    // with another operation on `%rax`
+    let mut altered = linked.clone();
+    altered[10] ^= 8;
+    let windows = Windows {
+        linked: &altered,
+        ..windows
+    };
+    assert_eq!(recognise(Architecture::X86_64, 19, windows), Ok(Vec::new()));
+    let long = [0; 65];
+    let windows = Windows {
+        original: &long,
+        ..windows
+    };
+    let error = recognise(Architecture::X86_64, 19, windows);
+    assert_eq!(error, Err(Status::WindowTooLong));
+}

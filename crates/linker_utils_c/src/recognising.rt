@@ -119,10 +119,7 @@ fn numbers_of(made: Made<Relaxation, u32>) -> RecognisedNumbers
 }
 
 /// Writes what was found, and returns how many it is.
-fn write_found(
-    made: &[Option<Made<Relaxation, u32>>],
-    found: &mut [RecognisedNumbers],
-) -> usize
+fn write_found(made: &[Option<Made<Relaxation, u32>>], found: &mut [RecognisedNumbers]) -> usize
     requires { length made.now ≤ length found.old }
     ensures { AreWritten made.now found.old found.new result }
 {
@@ -162,7 +159,16 @@ pub extern "C" fn linker_utils_recognise_nonnull(
     let Some(architecture) = Architecture::from_machine(machine) else {
         return Status::UnknownArchitecture.number();
     };
-    recognise_into(architecture, r_type, original, offset, others, linked, found, count)
+    recognise_into(
+        architecture,
+        r_type,
+        original,
+        offset,
+        others,
+        linked,
+        found,
+        count,
+    )
 }
 
 fn recognise_into(

@@ -3,6 +3,7 @@
 
 use crate::*;
 use linker_utils::elf::{Operands, RelocationNumbers};
+use linker_utils::recognise::FieldBits;
 use linker_utils::relaxation::{BlockHead, Call, RelaxDelta};
 use linker_utils::runs::relaxation::{Shape, Shapes};
 use linker_utils::runs::shapes::{fixed, loongarch64, riscv64};
@@ -35,6 +36,8 @@ struct Random {
     listed: Option<(u64, u64)>,
     /// How many items or relocations of a run there are, as many as most arrays then have elements.
     run: usize,
+    /// The window to which the next one is compared.
+    window: Vec<u8>,
 }
 
 impl Random {
@@ -96,6 +99,7 @@ impl Random {
         match name {
             "items" | "shapes" | "kept" | "places" if is_of_run => self.run,
             "freed" if is_of_run => self.run + 1,
+            "found" if is_of_run => 6,
             _ => self.below(5) as usize,
         }
     }
@@ -189,6 +193,12 @@ impl Made for u8 {
             let len = random.len(name);
             return (0..len).map(|_| random.word() as u8).collect();
         }
+        if matches!(name, "linked" | "b") && random.below(2) == 0 {
+            let mut bytes = random.window.clone();
+            let changed = random.below(2) as usize;
+            bytes.iter_mut().take(changed).for_each(|byte| *byte ^= 1);
+            return bytes;
+        }
         const WORDS: [u32; 6] = [0x97, 0x80e7, 0xf940_0000, 0xf280_0021, 0x0080_8080, 0x0001_0537];
         let len = random.below(40) as usize;
         let mut bytes: Vec<u8> = (0..len).map(|_| random.word() as u8).collect();
@@ -196,6 +206,9 @@ impl Made for u8 {
             for word in bytes.chunks_exact_mut(4) {
                 word.copy_from_slice(&WORDS[random.below(6) as usize].to_le_bytes());
             }
+        }
+        if matches!(name, "original" | "a") {
+            random.window.clone_from(&bytes);
         }
         bytes
     }
@@ -231,7 +244,7 @@ macro_rules! fields {
 
         impl Seen for $name {
             fn seen(&self) -> String {
-                [$(format!("{:?} ", self.$field)),*].concat()
+                [$(self.$field.seen() + " "),*].concat()
             }
         }
     };
@@ -240,6 +253,7 @@ macro_rules! fields {
 fields! { RelaxDelta: input_offset, bytes_deleted, cumulative_deleted, }
 fields! { BlockHead: input_offset, output_offset, }
 fields! { Call: site, target, }
+fields! { FieldBits: offset, bits, }
 fields! { Operands: symbol, addend, place, got_entry, got_base, plt_entry, symbol_size, tls_base, }
 fields! {
     RelocationNumbers: kind, form, mask, machine, is_bits, byte_size, first_bit, end_bit,
@@ -285,7 +299,7 @@ macro_rules! compare {
             unsafe extern "C" {
                 fn $name($($c)*) -> $result;
             }
-            let mut $random = Random { state: 0x9e37_79b9_7f4a_7c15, listed: None, run: 0 };
+            let mut $random = Random { state: 0x9e37_79b9_7f4a_7c15, listed: None, run: 0, window: Vec::new() };
             let mut returned = Vec::new();
             for _ in 0..CALLS {
                 $($made)*

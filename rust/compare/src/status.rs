@@ -106,6 +106,10 @@ pub enum Status {
     NoAddress,
     /// The low half does not have all bits below those of the high half, without rounding.
     NotHalves,
+    /// The original bytes are more than 64.
+    WindowTooLong,
+    /// The rewrite that is chosen leaves other bytes.
+    LeavesOtherBytes = 58,
 }
 
 impl Status {

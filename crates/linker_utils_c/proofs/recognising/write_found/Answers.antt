@@ -1,4 +1,4 @@
-use Rattle.std.proofs.Common.{◌≡◌, ◌≢◌, ◌∙◌, ℕ, rules, arith, sym, get_or, get_or-set_other, Some, None, length}
+use Rattle.std.proofs.Common.{◌≡◌, ◌≢◌, ◌∙◌, rules, arith, get_or, get_or-set_other, Some, None}
 use Rattle.std.proofs.lemmas.List.{length-set}
 use Rattle.linker_utils_c.proofs.Found.{found_more, none_more}
 use Rattle.linker_utils_c.proofs.recognising.write_found.Goals.{in-Some, in_default}
