@@ -91,10 +91,7 @@ fn numbers_of(made: Made<Relaxation, u32>) -> RecognisedNumbers {
 }
 
 /// Writes what was found, and returns how many it is.
-fn write_found(
-    made: &[Option<Made<Relaxation, u32>>],
-    found: &mut [RecognisedNumbers],
-) -> usize {
+fn write_found(made: &[Option<Made<Relaxation, u32>>], found: &mut [RecognisedNumbers]) -> usize {
     let mut count = 0;
     for index in 0..made.len() {
         if let Some(one) = made[index] {
@@ -124,7 +121,16 @@ pub fn linker_utils_recognise_nonnull(
     let Some(architecture) = Architecture::from_machine(machine) else {
         return Status::UnknownArchitecture.number();
     };
-    recognise_into(architecture, r_type, original, offset, others, linked, found, count)
+    recognise_into(
+        architecture,
+        r_type,
+        original,
+        offset,
+        others,
+        linked,
+        found,
+        count,
+    )
 }
 
 fn recognise_into(
