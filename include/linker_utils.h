@@ -1194,9 +1194,9 @@ struct linker_utils_field_value {
  * - MOVN and MOVZ have 16 bits and the sign.
  * - Whole bytes have the low bits of the value; that of R_RISCV_SET6 has 6.
  *
- * LINKER_UTILS_TOO_SHORT where there are fewer bytes than the field has. LINKER_UTILS_HOLDS_NO_VALUE
- * of a relocation of no bytes, of one that adds or subtracts, of one at a ULEB128 number, and of
- * R_LARCH_CALL30. */
+ * LINKER_UTILS_TOO_SHORT where there are fewer bytes than the field has.
+ * LINKER_UTILS_HOLDS_NO_VALUE of a relocation of no bytes, of one that adds or subtracts, of one at
+ * a ULEB128 number, and of R_LARCH_CALL30. */
 static inline uint32_t linker_utils_read_value(uint16_t machine, uint32_t r_type,
                                                const uint8_t *bytes, size_t bytes_len,
                                                struct linker_utils_field_value *value);
@@ -1205,15 +1205,15 @@ static inline uint32_t linker_utils_read_value(uint16_t machine, uint32_t r_type
  * linker_utils_relocation_kind`. */
 enum linker_utils_reference {
     LINKER_UTILS_REFERENCE_SYMBOL = 0, /* S + A */
-    LINKER_UTILS_REFERENCE_GOT_ENTRY = 1, /* of the GOT entry, of TLS too, plus A where it is added */
+    LINKER_UTILS_REFERENCE_GOT_ENTRY = 1, /* the GOT entry's, of TLS too, plus A where it is added */
     LINKER_UTILS_REFERENCE_PLT_ENTRY = 2 /* L + A */
 };
 
 /* What is known of the address that a value comes from, into `address`, and which address it is, by
  * `enum linker_utils_reference`, into `reference`: the inverse of `linker_utils_value`. `value` is
- * what is known of the value, as `linker_utils_read_value` returns it. Of the operands only `place`,
- * `got_base` and `tls_base` are read, whichever the formula takes off. Of R_RISCV_PCREL_LO12_* the
- * place is that of the high part.
+ * what is known of the value, as `linker_utils_read_value` returns it. Of the operands only
+ * `place`, `got_base` and `tls_base` are read, whichever the formula takes off. Of
+ * R_RISCV_PCREL_LO12_* the place is that of the high part.
  *
  * With these operands an address has the bits of `address` exactly where its value has those of
  * `value`. The bias of the relocation is taken off. Where bit 0 is known the rounding is 0. Where
@@ -1261,10 +1261,11 @@ struct linker_utils_window_bits {
     uint64_t bits; /* bit 0 is the lowest of that byte, bit 8 that of the next */
 };
 
-/* A rewrite that leaves the linked bytes, and what stands in the field of the relocation after it. */
+/* A rewrite that leaves the linked bytes, and what stands in the field of the relocation after
+ * it. */
 struct linker_utils_recognised {
     struct linker_utils_choice choice; /* as `linker_utils_choose` returns it */
-    uint64_t offset; /* of the relocation's field in the linked bytes, from which none are deleted */
+    uint64_t offset; /* of the relocation's field in the linked bytes */
     /* What is known of the relocation's value from that field, as `linker_utils_read_value` returns
      * it. `end_bit` is 0 where nothing is known: the relocation holds no value. */
     struct linker_utils_field_value value;
@@ -1275,16 +1276,16 @@ struct linker_utils_recognised {
 
 /* Writes which rewrites, and relocations after them, a linker may have made at a relocation: those
  * after which the original bytes differ from the linked ones only in the field of the relocation
- * after it and in `others`. `count` is how many there are; the elements of `found` from there on are
- * unchanged. Nothing needs to be known of the symbol: so several are returned where their bytes are
- * the same, as where only the relocation changes.
+ * after it and in `others`. `count` is how many there are; the elements of `found` from there on
+ * are unchanged. Nothing needs to be known of the symbol: so several are returned where their bytes
+ * are the same, as where only the relocation changes.
  *
  * - `offset` is that of the relocation in the original bytes. Both windows may begin before it, at
  *   the same place. The original one has at most 64 bytes. After a rewrite that deletes bytes the
  *   linked one has fewer.
- * - `others` are bits that other relocations write, as `linker_utils_field_bits` returns them, among
- *   them those of a relocation that the rewrite skips. Of an instruction that another relocation
- *   rewrites or deletes they are all bits.
+ * - `others` are bits that other relocations write, as `linker_utils_field_bits` returns them,
+ *   among them those of a relocation that the rewrite skips. Of an instruction that another
+ *   relocation rewrites or deletes they are all bits.
  * - A rewrite is among them only where `linker_utils_matches` returns LINKER_UTILS_OK of it and the
  *   field is in the window. What `linker_utils_choose` returns is one of them, whatever the facts,
  *   where it leaves the linked bytes so.

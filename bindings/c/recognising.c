@@ -1,4 +1,4 @@
-/* Recognising: what GNU ld and ld.lld made of relocated instructions, by the bytes before and after. */
+/* Recognising: what GNU ld and ld.lld made of instructions, by the bytes before and after. */
 #include <elf.h>
 #include <stdio.h>
 
@@ -29,7 +29,8 @@ static void show(uint16_t machine, uint32_t r_type, const uint8_t *original, siz
             printf(" with bits %d to %d: 0x%llx", value->first_bit, value->end_bit - 1,
                    (unsigned long long)value->bits);
         }
-        if (found[i].choice.deleted_len) printf(", less %d bytes", (int)found[i].choice.deleted_len);
+        uint32_t deleted = found[i].choice.deleted_len;
+        if (deleted) printf(", less %d bytes", (int)deleted);
         printf("\n");
     }
 }
