@@ -10,7 +10,7 @@
 //! ```
 //!
 //! It prints a line `site OFFSET TARGET KEPT` or `nops OFFSET KEPT` for each item, and for each
-//! section `packed HEXADECIMAL` or, of LoongArch, `length BYTES`; or one line that says why not.
+//! section `packed HEXADECIMAL`; or one line that says why not.
 
 use std::error::Error;
 use std::io::{self, BufRead};
@@ -34,7 +34,7 @@ fn bytes_of(text: &str) -> Result<Vec<u8>, Box<dyn Error>> {
 }
 
 fn main() -> Result<(), Box<dyn Error>> {
-    let (mut machine, mut c_extension, mut start) = (Some(Machine::RiscV64), false, 0);
+    let (mut machine, mut c_extension, mut start) = (Machine::RiscV64, false, 0);
     let (mut sections, mut others) = (Vec::<Section>::new(), Vec::new());
     for line in io::stdin().lock().lines() {
         let line = line?;
@@ -42,7 +42,7 @@ fn main() -> Result<(), Box<dyn Error>> {
         match words[..] {
             ["machine", "riscv64"] => {}
             ["machine", "riscv64", "c"] => c_extension = true,
-            ["machine", "loongarch64"] => machine = None,
+            ["machine", "loongarch64"] => machine = Machine::LoongArch64,
             ["start", address] => start = address.parse()?,
             ["section", base, bytes] => sections.push(Section {
                 base: base.parse()?,
@@ -70,9 +70,8 @@ fn main() -> Result<(), Box<dyn Error>> {
     for section in &mut sections {
         let (bytes, base, relocations) = (&section.bytes, section.base, &section.relocations);
         section.items = match machine {
-            Some(_) => riscv64::items(bytes, base, relocations, c_extension)?,
-            None => loongarch64::items(bytes, base, relocations)?,
-
+            Machine::RiscV64 => riscv64::items(bytes, base, relocations, c_extension)?,
+            Machine::LoongArch64 => loongarch64::items(bytes, base, relocations)?,
         };
     }
     let mut items: Vec<Item> = sections.iter().flat_map(|section| &section.items).copied().collect();
@@ -93,10 +92,6 @@ fn main() -> Result<(), Box<dyn Error>> {
     for section in &sections {
         let (bytes, base) = (&section.bytes, section.base);
         let mut packed = vec![0; packed_run_len(base, bytes.len(), deltas)];
-        let Some(machine) = machine else {
-            println!("length {}", packed.len());
-            continue;
-        };
         if let Err(rejected) = pack_run(machine, bytes, base, &section.items, deltas, start, &mut packed) {
             println!("rejected {} {:?}", section.items[rejected.index].offset(), rejected.error);
             return Ok(());

@@ -1,6 +1,6 @@
 // Made by tools/erase of crates/linker_recognise/src/lib.rt.
-//! What a linker made of a relocation, by the bytes before and after: which rewrite, and which
-//! relocation it then wrote.
+//! What a linker made of a relocation, by the bytes before and after: which rewrite, which
+//! relocation it then wrote, and what stands in its field.
 
 pub mod aarch64;
 pub mod architecture;

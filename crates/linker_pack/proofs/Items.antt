@@ -1,6 +1,6 @@
 -- What is written of each item.
 use Rattle.std.proofs.Common.{◌≡◌, ℕ, zero, suc, ◌+◌, ◌-◌, ◌<◌, ◌≤◌, true, false, List, ◌++◌, length, get_or, take, drop, refl, sym, subst, ◌∙◌, ap, arith, inl, inr}
-use Rattle.std.specs.Prelude.{if◌then◌else◌, IsSomeAnd, Option, Some, None}
+use Rattle.std.specs.Prelude.{if◌then◌else◌, IsSomeAnd}
 use Rattle.std.proofs.lemmas.Bool.{cases_lt, cases_Bool}
 use Rattle.std.proofs.lemmas.List.{append_assoc, length-append, length-take, length-drop, get_or-take, get_or-drop, get_or-append_right, get_or_default, take_at, drop_at, same_lists}
 use Rattle.linker_base.specs.Deletions.{is_kept, rank}
@@ -9,26 +9,21 @@ use Rattle.linker_utils.proofs.Packed.{put_below}
 use Rattle.linker_relax.specs.declared.relaxation.Item.{Item}
 use Rattle.linker_relax.specs.declared.relaxation.Item.TheVariants.{Site, Aligned}
 use Rattle.linker_relax.specs.Relaxing.{offset_of, len_of, end_of, item_at}
-use Rattle.linker_pack.specs.Sites.{Template, IsInReach, IsOutOfReach}
+use Rattle.linker_pack.specs.Sites.{IsInReach}
 use Rattle.linker_pack.specs.RiscVSites.{riscv_template, RiscVAccepts, RiscVCause}
 use Rattle.linker_pack.specs.Packing.{Section, packed_offset, kept_len, is_fixed, written_len, IsApart, IsInside, IsNotIn, ItemAccepts, ItemCause, ItemBecomes, IsWritable, IsUnwritable, IsCause, IsPackedRun}
 use Rattle.linker_pack.specs.Inner.Pieces.{piece_bytes, IsWhole, IsPieceOf}
 use Rattle.linker_pack.specs.Inner.Copying.{IsFilledTo}
 use Rattle.linker_pack.specs.Inner.Packing.{AreReady, IsWrittenTo}
 use Rattle.linker_pack.specs.declared.packing.Machine.{Machine}
-use Rattle.linker_pack.specs.declared.packing.Machine.TheVariants.{RiscV64}
+use Rattle.linker_pack.specs.declared.packing.Machine.TheVariants.{RiscV64, LoongArch64}
+use Rattle.linker_pack.proofs.Sites.{both_some, in_reach}
+use Rattle.linker_pack.proofs.LoongArch.{loongarch_excludes}
 use Rattle.linker_pack.specs.declared.packing.Piece.{Piece}
 use Rattle.linker_pack.specs.declared.packing.ItemError.{ItemError}
 use Rattle.linker_pack.specs.declared.packing.ItemError.TheVariants.{Overlaps, OutOfSection, NotItsFirstBytes, NotItsInstructions, NoShape, OutOfReach}
 
 -- ---- what is accepted isn't rejected
-
-both_some : {T : Type 0} (o : Option T) (P Q : T → Type 0) → IsSomeAnd o P → IsSomeAnd o Q → ((x : T) → P x → Q x → ⊥) → ⊥
-both_some None P Q p q h = p
-both_some (Some x) P Q p q h = h x p q
-
-in_reach : (template : Template) (place target : ℕ) → IsInReach template place target → IsOutOfReach template place target → ⊥
-in_reach template place target a b = both_some template.row _ _ a b (λ row p q. q p.1.value p.1.value_is p.1.accepted)
 
 riscv_excludes : (section : List ℕ) (o kept place target : ℕ) (error : ItemError) → RiscVAccepts section o kept place target → RiscVCause section o kept place target error → ⊥
 riscv_excludes section o kept place target NotItsInstructions a cause = cause a.call
@@ -45,6 +40,12 @@ item_excludes RiscV64 s (Site site) kept OutOfReach a cause = riscv_excludes _ _
 item_excludes RiscV64 s (Site site) kept Overlaps a cause = cause.1
 item_excludes RiscV64 s (Site site) kept OutOfSection a cause = cause.1
 item_excludes RiscV64 s (Site site) kept NotItsFirstBytes a cause = cause.1
+item_excludes LoongArch64 s (Site site) kept NotItsInstructions a cause = loongarch_excludes _ _ kept _ _ NotItsInstructions a.1 (cause a.0)
+item_excludes LoongArch64 s (Site site) kept NoShape a cause = loongarch_excludes _ _ kept _ _ NoShape a.1 cause.1
+item_excludes LoongArch64 s (Site site) kept OutOfReach a cause = loongarch_excludes _ _ kept _ _ OutOfReach a.1 cause.1
+item_excludes LoongArch64 s (Site site) kept Overlaps a cause = cause.1
+item_excludes LoongArch64 s (Site site) kept OutOfSection a cause = cause.1
+item_excludes LoongArch64 s (Site site) kept NotItsFirstBytes a cause = cause.1
 item_excludes machine s (Aligned alignment) kept NoShape a cause = cause a
 item_excludes machine s (Aligned alignment) kept NotItsInstructions a cause = cause
 item_excludes machine s (Aligned alignment) kept OutOfReach a cause = cause
@@ -63,6 +64,7 @@ writable_excludes machine s item OutOfSection w u = item_excludes machine s item
 -- an item in its place that isn't written
 not_own : (machine : Machine) (s : Section) (item : Item) (kept : ℕ) → (ItemCause machine s item kept Overlaps → ⊥) × (ItemCause machine s item kept OutOfSection → ⊥)
 not_own RiscV64 s (Site site) kept = (λ c. c.1, λ c. c.1)
+not_own LoongArch64 s (Site site) kept = (λ c. c.1, λ c. c.1)
 not_own machine s (Aligned alignment) kept = (λ c. c, λ c. c)
 
 pub cause_of : (machine : Machine) (s : Section) (items : List Item) (i : ℕ) (error : ItemError) → IsApart items i → IsInside s (item_at items i) → is_fixed (item_at items i) ≡ false → IsUnwritable machine s (item_at items i) error → IsCause machine s items i error

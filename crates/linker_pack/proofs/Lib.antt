@@ -1,5 +1,7 @@
 mod Lists
 mod Copied
 mod Nops
-mod Items
+mod Sites
 mod RiscV
+mod LoongArch
+mod Items

@@ -6,7 +6,7 @@ use Rattle.std.proofs.lemmas.Bool.Decides.{nat_tests}
 use Rattle.std.proofs.lemmas.List.{append_assoc, append-nil, length-append, length-take, take_at, drop_at, drop-drop, take-append-drop}
 use Rattle.linker_pack.specs.Packing.{repeated, nops, nop_len}
 use Rattle.linker_pack.specs.declared.packing.Machine.{Machine}
-use Rattle.linker_pack.specs.declared.packing.Machine.TheVariants.{RiscV64}
+use Rattle.linker_pack.specs.declared.packing.Machine.TheVariants.{RiscV64, LoongArch64}
 
 pub repeated_none : (word : List ℕ) → repeated word 0 ≡ []
 unfolding repeated
@@ -65,6 +65,7 @@ nops_length RiscV64 n even =
       | inr other ↦ ap (λ b. length (if b then short else none)) other ∙ (let e : 0 ≡ n % 4 = grind (arith, nat_tests, other) in e)
     ] in
     length-append (repeated word (n / 4)) (if n % 4 == 2 then short else none) ∙ omega (arith, words, tail)
+nops_length LoongArch64 n even = repeated_length (0x00 ∷ 0x00 ∷ 0x40 ∷ 0x03 ∷ []) (n / 4) refl ∙ omega arith
 
-pub nops_two : (machine : Machine) (n : ℕ) → n % 4 ≡ 2 → nops machine n ≡ repeated (0x13 ∷ 0x00 ∷ 0x00 ∷ 0x00 ∷ []) (n / 4) ++ 0x01 ∷ 0x00 ∷ []
-nops_two RiscV64 n two = ap (λ k. repeated (0x13 ∷ 0x00 ∷ 0x00 ∷ 0x00 ∷ []) (n / 4) ++ (if k == 2 then 0x01 ∷ 0x00 ∷ [] else [])) two
+pub nops_two : (n : ℕ) → n % 4 ≡ 2 → nops RiscV64 n ≡ repeated (0x13 ∷ 0x00 ∷ 0x00 ∷ 0x00 ∷ []) (n / 4) ++ 0x01 ∷ 0x00 ∷ []
+nops_two n two = ap (λ k. repeated (0x13 ∷ 0x00 ∷ 0x00 ∷ 0x00 ∷ []) (n / 4) ++ (if k == 2 then 0x01 ∷ 0x00 ∷ [] else [])) two

@@ -1,15 +1,13 @@
 -- What calls of RISC-V become.
 use Rattle.std.proofs.Common.{◌≡◌, ℕ, ◌+◌, ◌-◌, ◌*◌, ◌%◌, ◌^◌, ◌<◌, List, [], length, take, drop, refl, subst, ◌∙◌, ap, arith, inl, inr, ℤ, pos, ◌+ℤ◌, Option, Some, None, Bool, true, false, int_lt}
 use Rattle.std.specs.Prelude.{◌==◌, ◌&&◌, if◌then◌else◌, IsSomeAnd, ◌*ℤ◌}
-use Rattle.std.specs.Int.{w16, w32, w64, bit_at, from_le_bytes, to_le_bytes}
-use Rattle.std.proofs.lemmas.Bool.{cases_Bool, eqb-true, agree_below, agree_below_at}
-use Rattle.std.proofs.lemmas.Int.{ints}
+use Rattle.std.specs.Int.{w16, w32, w64, from_le_bytes, to_le_bytes}
+use Rattle.std.proofs.lemmas.Bool.{cases_Bool, eqb-true, agree_below}
 use Rattle.std.proofs.lemmas.Nat.{from_le_bytes-to_le_bytes_4}
 use Rattle.linker_base.specs.Bits.{field}
 use Rattle.linker_base.specs.Form.{window_of, is_placed}
 use Rattle.linker_base.specs.declared.bit_misc.BitRange.{BitRange}
-use Rattle.linker_base.proofs.Fields.{same_fields}
-use Rattle.linker_elf.specs.Relocate.{InstructionWritten}
+use Rattle.linker_elf.specs.Relocate.{InstructionWritten, bits_taken}
 use Rattle.linker_elf.specs.RiscV.{riscv_form}
 use Rattle.linker_elf.specs.declared.elf.RelocationInstruction.TheVariants.{RiscV}
 use Rattle.linker_elf.specs.declared.riscv64.forms.RiscVInstruction.{RiscVInstruction}
@@ -23,38 +21,16 @@ use Rattle.relocation_laws.specs.RiscVLaws.{Jumps, Calls, without_bit_0}
 use Rattle.relocation_laws.specs.Schemes.{IsApplied, IsAddress, AreAddresses}
 use Rattle.linker_pack.specs.Sites.{Template, operands_of}
 use Rattle.linker_pack.specs.RiscVSites.{IsCj, IsJal, IsFarCall, RiscVBecomes, short_jump, jump, call, riscv_template}
+use Rattle.linker_pack.proofs.Sites.{kept_field, operands_small, unit_sum, target_is}
 
--- ---- what a write keeps
-
-module _ (f : RiscVInstruction) (bits : BitRange) (v : ℤ) (before after : List ℕ)
-    (w : InstructionWritten (RiscV f) bits v before after)
-    (same : (b : Bool) (x : ℕ) → (riscv_form f).base b x ≡ x) where
-  kept_bit : (i : ℕ) → is_placed ((riscv_form f).places w.clear) i ≡ false
-      → bit_at (window_of (riscv_form f) after) i ≡ bit_at (window_of (riscv_form f) before) i
-  kept_bit i outside =
-      w.written.kept i outside
-      ∙ ap (λ x. bit_at x i) (same (int_lt v (pos 0)) w.clear)
-      ∙ w.clears.kept i refl
-
-  -- n bits from bit s up, of which none is placed
-  kept_field : (s n : ℕ)
-      → agree_below (λ i. is_placed ((riscv_form f).places w.clear) (s + i)) (λ _. false) n ≡ true
-      → field (window_of (riscv_form f) after) s (s + n)
-      ≡ field (window_of (riscv_form f) before) s (s + n)
-  kept_field s n outside =
-      same_fields (window_of (riscv_form f) after) (window_of (riscv_form f) before) s (s + n)
-      (λ i from below. kept_bit i
-      (ap (is_placed ((riscv_form f).places w.clear)) (let e : i ≡ s + (i - s) = omega arith in e)
-      ∙ agree_below_at (λ j. is_placed ((riscv_form f).places w.clear) (s + j)) (λ _. false) n
-      (i - s) outside (omega arith)))
-
--- ---- addresses
-
-operands_small : (place target : ℕ) → place < 2 ^ 64 → target < 2 ^ 64 → AreAddresses (operands_of place target)
-operands_small place target p t = record { symbol = t; place = p; got_entry = omega arith; got_base = omega arith; plt_entry = t; tls_base = omega arith }
-
-unit_sum : (a b : ℤ) → a +ℤ (b *ℤ pos 1) ≡ a +ℤ b
-unit_sum a b = omega (arith, ints)
+-- what writing an immediate keeps: n bits from bit s up, of which none is placed
+riscv_kept : (f : RiscVInstruction) (bits : BitRange) (v : ℤ) (before after : List ℕ) (w : InstructionWritten (RiscV f) bits v before after)
+    (same : (b : Bool) (x : ℕ) → (riscv_form f).base b x ≡ x) (s n : ℕ)
+    → agree_below (λ i. is_placed ((riscv_form f).places w.clear) (s + i)) (λ _. false) n ≡ true
+    → field (window_of (riscv_form f) after) s (s + n) ≡ field (window_of (riscv_form f) before) s (s + n)
+riscv_kept f bits v before after w same s n outside =
+    kept_field (riscv_form f) (bits_taken bits v) (int_lt v (pos 0)) (window_of (riscv_form f) before) w.clear (window_of (riscv_form f) after)
+    (λ i. w.clears.kept i refl) w.written (same (int_lt v (pos 0)) w.clear) s n outside
 
 -- the template's relocation is applied
 abbrev pub IsRelocated : ℕ → ℕ → List ℕ → Option Template → Type 0
@@ -66,15 +42,12 @@ module _ (section : List ℕ) (o place target : ℕ) (written : List ℕ) (jumps
   small : AreAddresses (operands_of place target)
   small = operands_small place target p t
 
-  target_is : (target + 0) % 2 ^ 64 ≡ target
-  target_is = omega arith
-
   cj_is : IsRelocated place target written (Some (record { row = riscv_row r.R_RISCV_RVC_JUMP; bytes = tail_to_cj [] })) → IsCj (from_le_bytes w16 written) place target
   cj_is applied = record {
-    quadrant = kept_field CjType (record { start = 0; end = 16 }) applied.value (tail_to_cj []) written applied.written (λ b w. refl) 0 2 refl;
-    function = kept_field CjType (record { start = 0; end = 16 }) applied.value (tail_to_cj []) written applied.written (λ b w. refl) 13 3 refl;
+    quadrant = riscv_kept CjType (record { start = 0; end = 16 }) applied.value (tail_to_cj []) written applied.written (λ b w. refl) 0 2 refl;
+    function = riscv_kept CjType (record { start = 0; end = 16 }) applied.value (tail_to_cj []) written applied.written (λ b w. refl) 13 3 refl;
     goes = subst (λ s. IsAddress s target) (unit_sum (pos place) ((riscv_form CjType).machine (from_le_bytes w16 written)))
-        (subst (λ a. IsAddress (pos place +ℤ ((riscv_form CjType).machine (from_le_bytes w16 written) *ℤ pos 1)) a) target_is
+        (subst (λ a. IsAddress (pos place +ℤ ((riscv_form CjType).machine (from_le_bytes w16 written) *ℤ pos 1)) a) (target_is target t)
         (jumps.2 (operands_of place target) small place (tail_to_cj []) written applied tt));
   }
 
@@ -86,17 +59,17 @@ module _ (section : List ℕ) (o place target : ℕ) (written : List ℕ) (jumps
       let bytes : List ℕ = to_le_bytes w32 (0x6f + link_register OfJalr section o * 2 ^ 7) in
       let word : from_le_bytes w32 bytes ≡ 0x6f + link_register OfJalr section o * 2 ^ 7 = jal_word in
       record {
-        opcode = kept_field JType (record { start = 0; end = 32 }) applied.value bytes written applied.written (λ b w. refl) 0 7 refl ∙ ap (λ w. field w 0 7) word ∙ omega arith;
-        links = kept_field JType (record { start = 0; end = 32 }) applied.value bytes written applied.written (λ b w. refl) 7 5 refl ∙ ap (λ w. field w 7 12) word ∙ omega arith;
+        opcode = riscv_kept JType (record { start = 0; end = 32 }) applied.value bytes written applied.written (λ b w. refl) 0 7 refl ∙ ap (λ w. field w 0 7) word ∙ omega arith;
+        links = riscv_kept JType (record { start = 0; end = 32 }) applied.value bytes written applied.written (λ b w. refl) 7 5 refl ∙ ap (λ w. field w 7 12) word ∙ omega arith;
         goes = subst (λ s. IsAddress s target) (unit_sum (pos place) ((riscv_form JType).machine (from_le_bytes w32 written)))
-            (subst (λ a. IsAddress (pos place +ℤ ((riscv_form JType).machine (from_le_bytes w32 written) *ℤ pos 1)) a) target_is
+            (subst (λ a. IsAddress (pos place +ℤ ((riscv_form JType).machine (from_le_bytes w32 written) *ℤ pos 1)) a) (target_is target t)
             (jumps.0 (operands_of place target) small place bytes written applied tt));
       }
 
   call_is : IsRelocated place target written (Some (record { row = riscv_row r.R_RISCV_CALL_PLT; bytes = take 8 (drop o section) })) → IsFarCall section o place target written
   call_is applied = record {
     relocated = applied;
-    goes = subst (λ a. IsAddress (without_bit_0 (pos place +ℤ (riscv_form UiType).machine (from_le_bytes w64 written))) (a - a % 2)) target_is
+    goes = subst (λ a. IsAddress (without_bit_0 (pos place +ℤ (riscv_form UiType).machine (from_le_bytes w64 written))) (a - a % 2)) (target_is target t)
         (calls.1 (operands_of place target) small place (take 8 (drop o section)) written applied tt);
   }
 

@@ -1,3 +1,4 @@
 pub mod Pieces
+pub mod LoongArch
 pub mod Copying
 pub mod Packing

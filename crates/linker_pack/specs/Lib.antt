@@ -1,4 +1,5 @@
 pub mod Sites
 pub mod RiscVSites
+pub mod LoongArchSites
 pub mod Packing
 pub mod Inner

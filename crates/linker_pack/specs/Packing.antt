@@ -10,8 +10,9 @@ use Rattle.linker_relax.specs.declared.relaxation.Item.{Item}
 use Rattle.linker_relax.specs.declared.relaxation.Item.TheVariants.{Site, Aligned}
 use Rattle.linker_relax.specs.Relaxing.{offset_of, end_of, item_at}
 use Rattle.linker_pack.specs.RiscVSites.{RiscVBecomes, RiscVAccepts, RiscVCause}
+use Rattle.linker_pack.specs.LoongArchSites.{LoongArchBecomes, LoongArchAccepts, LoongArchCause}
 use Rattle.linker_pack.specs.declared.packing.Machine.{Machine}
-use Rattle.linker_pack.specs.declared.packing.Machine.TheVariants.{RiscV64}
+use Rattle.linker_pack.specs.declared.packing.Machine.TheVariants.{RiscV64, LoongArch64}
 use Rattle.linker_pack.specs.declared.packing.ItemError.{ItemError}
 use Rattle.linker_pack.specs.declared.packing.ItemError.TheVariants.{Overlaps, OutOfSection}
 use Rattle.linker_pack.specs.declared.packing.ItemError.TheVariants.{NotItsFirstBytes}
@@ -78,17 +79,22 @@ repeated word (suc n) = word ++ repeated word n
 -- the length of the shortest nop
 abbrev pub nop_len : Machine → ℕ
 nop_len RiscV64 = 2
+nop_len LoongArch64 = 4
 
--- so many bytes of nops: of RISC-V `nop`, and at most one `c.nop` at the end
+-- so many bytes of nops: of RISC-V `nop`, and at most one `c.nop` at the end; of LoongArch
+-- `andi zero, zero, 0`
 abbrev pub nops : Machine → ℕ → List ℕ
 nops RiscV64 n = repeated (0x13 ∷ 0x00 ∷ 0x00 ∷ 0x00 ∷ []) (n / 4)
     ++ (if n % 4 == 2 then 0x01 ∷ 0x00 ∷ [] else [])
+nops LoongArch64 n = repeated (0x00 ∷ 0x00 ∷ 0x40 ∷ 0x03 ∷ []) (n / 4)
 
 -- ---- what is written
 
 -- what a site's instructions become
 abbrev pub SiteBecomes : Machine → Section → site → List ℕ → Type 0
 SiteBecomes RiscV64 s site written = RiscVBecomes s.bytes (site.offset - s.base)
+    (address_of s site.offset) (address_of s site.target) written
+SiteBecomes LoongArch64 s site written = LoongArchBecomes s.bytes (site.offset - s.base)
     (address_of s site.offset) (address_of s site.target) written
 
 abbrev pub ItemBecomes : Machine → Section → Item → List ℕ → Type 0
@@ -101,8 +107,8 @@ IsNotIn deletions p item =
     offset_of item ≤ p → offset_of item + written_len deletions item ≤ p
 
 -- The section's bytes that stay, in order, but for those of its items that are written anew: there
--- each site's instructions go from the address where the site goes to the address where its target
--- goes, and each alignment has nops.
+-- each site's instructions go, from the address where the site goes, to the one where its target
+-- goes, or compute that, and each alignment has nops.
 pub record IsPackedRun (machine : Machine) (s : Section) (items : List Item) (packed : List ℕ)
     : Type 0 where
   pub len : length packed ≡ packed_offset s (s.base + length s.bytes)
@@ -121,6 +127,9 @@ abbrev pub SiteAccepts : Machine → Section → site → ℕ → Type 0
 SiteAccepts RiscV64 s site kept =
     (site.len ≡ 8) × RiscVAccepts s.bytes (site.offset - s.base) kept (address_of s site.offset)
     (address_of s site.target)
+SiteAccepts LoongArch64 s site kept =
+    (site.len ≡ 8) × LoongArchAccepts s.bytes (site.offset - s.base) kept
+    (address_of s site.offset) (address_of s site.target)
 
 -- there is something to write of an item of which so many bytes stay: of an alignment whole nops
 abbrev pub ItemAccepts : Machine → Section → Item → ℕ → Type 0
@@ -145,6 +154,12 @@ SiteCause RiscV64 s site kept NotItsInstructions =
     (address_of s site.target) NotItsInstructions
 SiteCause RiscV64 s site kept error =
     (site.len ≡ 8) × RiscVCause s.bytes (site.offset - s.base) kept (address_of s site.offset)
+    (address_of s site.target) error
+SiteCause LoongArch64 s site kept NotItsInstructions =
+    site.len ≡ 8 → LoongArchCause s.bytes (site.offset - s.base) kept (address_of s site.offset)
+    (address_of s site.target) NotItsInstructions
+SiteCause LoongArch64 s site kept error =
+    (site.len ≡ 8) × LoongArchCause s.bytes (site.offset - s.base) kept (address_of s site.offset)
     (address_of s site.target) error
 
 abbrev pub ItemCause : Machine → Section → Item → ℕ → ItemError → Type 0

@@ -23,6 +23,11 @@ operands_of place target =
       tls_base = 0;
     }
 
+-- its bytes with the relocation applied at the place
+abbrev pub IsRelocated : Template → ℕ → ℕ → List ℕ → Type 0
+IsRelocated template place target written = IsSomeAnd template.row
+    (λ row. IsApplied row (operands_of place target) template.bytes written)
+
 -- the relocation can be applied at the place
 abbrev pub IsInReach : Template → ℕ → ℕ → Type 0
 IsInReach template place target = IsSomeAnd template.row

@@ -1,6 +1,6 @@
 //! Instructions, and the relocations that are applied to them.
 
-ghost use Rattle.std.specs.Prelude.{◌≡◌, MatchOption, IfSome, length};
+ghost use Rattle.std.specs.Prelude.{◌≡◌, ◌+◌, ◌≤◌, MatchOption, IfSome, length, take, drop};
 ghost use Rattle.relocation_laws.specs.Schemes.{IsApplied, IsRejected};
 ghost use Rattle.linker_pack.specs.Sites.{operands_of};
 ghost use Rattle.linker_pack.specs.Inner.Pieces.{code_bytes};
@@ -23,6 +23,29 @@ pub(crate) struct Template {
     pub(crate) code: Code,
 }
 
+/// The eight bytes at an offset.
+pub(crate) fn pair_at(section: &[u8], offset: u64) -> [u8; 8]
+    requires { offset + 8 ≤ length section.now }
+    ensures { result ≡ take 8 (drop offset section.now) }
+{
+    let start = offset as usize;
+    let mut pair = [0; 8];
+    pair.copy_from_slice(&section[start..start + 8]);
+    pair
+}
+
+/// The operands of a relocation at a place, of a symbol and a PLT entry at the target.
+pub(crate) fn operands_of(place: u64, target: u64) -> Operands
+    ensures { result ≡ operands_of place target }
+{
+    Operands {
+        symbol: target,
+        plt_entry: target,
+        place,
+        ..Operands::default()
+    }
+}
+
 /// A template with its relocation applied, at an address and for a target's. None where the
 /// relocation's value is rejected.
 pub(crate) fn relocated(template: Template, place: u64, target: u64) -> Option<Code>
@@ -33,12 +56,7 @@ pub(crate) fn relocated(template: Template, place: u64, target: u64) -> Option<C
     ensures len { IfSome result
         (λ code. length (code_bytes code) ≡ length (code_bytes template.code)) }
 {
-    let operands = Operands {
-        symbol: target,
-        plt_entry: target,
-        place,
-        ..Operands::default()
-    };
+    let operands = operands_of(place, target);
     match template.code {
         Code::Half(bytes) => {
             let mut bytes = bytes;

@@ -4,6 +4,7 @@
 
 mod code;
 mod copying;
+mod loongarch64;
 pub mod packing;
 mod riscv64;
 #[cfg(test)]

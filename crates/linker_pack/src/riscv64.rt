@@ -1,7 +1,7 @@
 //! RISC-V: what a call becomes.
 
 ghost use Rattle.std.specs.Prelude.{◌≡◌, ◌+◌, ◌≤◌, ◌<◌, ◌*◌, ◌^◌, Some, None, IfOk, IfErr, OnOk};
-ghost use Rattle.std.specs.Prelude.{length, take, drop};
+ghost use Rattle.std.specs.Prelude.{length};
 ghost use Rattle.std.specs.Prelude.{IsSomeAnd, IfSome, IfNone, ⊤};
 ghost use Rattle.std.specs.Int.{w32, to_le_bytes};
 ghost use Rattle.linker_elf.specs.RiscVRelocations.{riscv_row};
@@ -12,7 +12,7 @@ ghost use Rattle.linker_pack.specs.RiscVSites.{riscv_template, RiscVBecomes, Ris
 ghost use Rattle.linker_pack.specs.RiscVSites.{RiscVCause};
 ghost use Rattle.linker_pack.specs.Inner.Pieces.{template_is, code_bytes};
 
-use crate::code::{Code, Template, relocated};
+use crate::code::{Code, Template, pair_at, relocated};
 use crate::packing::ItemError;
 use linker_runs::riscv64::link_at;
 use linker_utils::elf::RelocationKindInfo;
@@ -35,17 +35,6 @@ fn jal(link: u32) -> [u8; 4]
     ensures { result ≡ to_le_bytes w32 (0x6f + link * 2 ^ 7) }
 {
     (0x6f + link * 128).to_le_bytes()
-}
-
-/// The eight bytes at an offset.
-fn pair_at(section: &[u8], offset: u64) -> [u8; 8]
-    requires { offset + 8 ≤ length section.now }
-    ensures { result ≡ take 8 (drop offset section.now) }
-{
-    let start = offset as usize;
-    let mut pair = [0; 8];
-    pair.copy_from_slice(&section[start..start + 8]);
-    pair
 }
 
 /// The instruction of which so many bytes stay of a call that links a register.

@@ -1,9 +1,12 @@
 //! Sections as linkers pack them.
 
+ghost use Rattle.std.specs.Prelude.{◌≤◌, length};
+
 use crate::packing::{ItemError, Machine, RejectedItem, pack_run, packed_run_len};
 use linker_base::relaxation::{OutOfMemory, RelaxDelta};
 use linker_relax::relaxation::{Alignment, Item, Shapes, Site, are_items, relax};
 use linker_relax::shapes::fixed;
+use linker_relax::shapes::loongarch64::{CALL36, PCALA};
 use linker_relax::shapes::riscv64::{CALL, TAIL_C};
 use std::process::Abort;
 use std::test::Fail;
@@ -26,6 +29,39 @@ fn aligned(offset: u64, nops: u32, power: u64) -> Item {
     })
 }
 
+/// Requires that items of a section at the input offset 0x100 are packed so, or rejected.
+fn expect(
+    rt: &impl Abort,
+    machine: Machine,
+    section: &[u8],
+    items: &[Item],
+    deltas: &[RelaxDelta],
+    expected: Result<(), RejectedItem>,
+    bytes: &[u8],
+)
+    requires { length section.now ≤ 68 }
+{
+    let mut out = [0xee; 68];
+    let len = packed_run_len(0x100, section.len(), deltas);
+    assert!(rt; len <= out.len());
+    let packed = &mut out[..len];
+    let result = pack_run(machine, section, 0x100, items, deltas, 0xff08, packed);
+    assert_eq!(rt; result, expected);
+    assert_eq!(rt; &packed[..bytes.len().min(len)], bytes);
+}
+
+/// The bytes of an item from its third one on are deleted.
+fn all_but_two(offset: u64, len: u32) -> [RelaxDelta; 1]
+    requires some { 2 ≤ len }
+    requires small { offset ≤ 1000 }
+{
+    [RelaxDelta {
+        input_offset: offset + 2,
+        cumulative_deleted: u64::from(len - 2),
+        bytes_deleted: len - 2,
+    }]
+}
+
 /// `call f`, `nop`, `tail f`, `call t0, far`, the nops of `.p2align 4`, and `f: ret`, as GNU as
 /// assembles them.
 const RISC_V: [u8; 44] = [
@@ -36,7 +72,7 @@ const RISC_V: [u8; 44] = [
 
 /// The items of that section at the input offset 0x100 of a run that loses 8 bytes before it. `far`
 /// goes to the address 0x40000000.
-fn items() -> [Item; 5] {
+fn riscv_items() -> [Item; 5] {
     [
         site(0x10, 0, fixed(0)),
         site(0x100, 0x12a, CALL),
@@ -48,50 +84,87 @@ fn items() -> [Item; 5] {
 
 /// `jal ra, f`, `nop`, `j f`, `call t0, far`, three `nop` and `c.nop`, and `f: ret`: as GNU ld 2.40
 /// and ld.lld 19 link them at 0x10000, where these leave all nops as they are, with `c.nop` first.
-const PACKED: [u8; 34] = [
+const RISC_V_PACKED: [u8; 34] = [
     0xef, 0x00, 0x00, 0x02, 0x13, 0x00, 0x00, 0x00, 0x21, 0xa8, 0x17, 0x03, 0xff, 0x3f, 0xe7, 0x02,
     0x63, 0xff, 0x13, 0x00, 0x00, 0x00, 0x13, 0x00, 0x00, 0x00, 0x13, 0x00, 0x00, 0x00, 0x01, 0x00,
     0x82, 0x80,
 ];
 
-/// Requires that the items of `RISC_V` from the second one on are packed so, or rejected.
-fn expect(
-    rt: &impl Abort,
-    items: &[Item],
-    deltas: &[RelaxDelta],
-    expected: Result<(), RejectedItem>,
-    bytes: &[u8],
-) {
-    let mut out = [0xee; 44];
-    let len = packed_run_len(0x100, RISC_V.len(), deltas);
-    assert!(rt; len <= out.len());
-    let packed = &mut out[..len];
-    let result = pack_run(
-        Machine::RiscV64,
-        &RISC_V,
-        0x100,
-        items,
-        deltas,
-        0xff08,
-        packed,
-    );
-    assert_eq!(rt; result, expected);
-    assert_eq!(rt; &packed[..bytes.len().min(len)], bytes);
+/// `call36 f`, three `nop`, `tail36 $t0, f`, `la.pcrel $a0, f`, `call36 far`, `la.pcrel $a1, data`,
+/// the nops of `.p2align 4`, and `f: ret`, as clang 19 assembles them.
+const LOONGARCH: [u8; 68] = [
+    0x01, 0x00, 0x00, 0x1e, 0x21, 0x00, 0x00, 0x4c, 0x00, 0x00, 0x40, 0x03, 0x00, 0x00, 0x40, 0x03,
+    0x00, 0x00, 0x40, 0x03, 0x0c, 0x00, 0x00, 0x1e, 0x80, 0x01, 0x00, 0x4c, 0x04, 0x00, 0x00, 0x1a,
+    0x84, 0x00, 0xc0, 0x02, 0x01, 0x00, 0x00, 0x1e, 0x21, 0x00, 0x00, 0x4c, 0x05, 0x00, 0x00, 0x1a,
+    0xa5, 0x00, 0xc0, 0x02, 0x00, 0x00, 0x40, 0x03, 0x00, 0x00, 0x40, 0x03, 0x00, 0x00, 0x40, 0x03,
+    0x20, 0x00, 0x00, 0x4c,
+];
+
+/// The items of that section, as for RISC-V. `data` is at the address 0x40000808.
+fn loongarch_items() -> [Item; 7] {
+    [
+        site(0x10, 0, fixed(0)),
+        site(0x100, 0x140, CALL36),
+        site(0x114, 0x140, CALL36),
+        site(0x11c, 0x140, PCALA),
+        site(0x124, 0x3fff_0110, CALL36),
+        site(0x12c, 0x3fff_0918, PCALA),
+        aligned(0x134, 12, 16),
+    ]
 }
 
+/// `bl f`, three `nop`, `b f`, `pcaddi $a0, f`, as clang 19 assembles them; `call36 far` and
+/// `la.pcrel $a1, data` as ld.lld 19 links them at 0x10018; two `nop`, and `f: ret`.
+const LOONGARCH_PACKED: [u8; 52] = [
+    0x00, 0x30, 0x00, 0x54, 0x00, 0x00, 0x40, 0x03, 0x00, 0x00, 0x40, 0x03, 0x00, 0x00, 0x40, 0x03,
+    0x00, 0x20, 0x00, 0x50, 0xe4, 0x00, 0x00, 0x18, 0x01, 0x00, 0x02, 0x1e, 0x21, 0xe8, 0xff, 0x4e,
+    0x25, 0xfe, 0x7f, 0x1a, 0xa5, 0x20, 0xe0, 0x02, 0x00, 0x00, 0x40, 0x03, 0x00, 0x00, 0x40, 0x03,
+    0x20, 0x00, 0x00, 0x4c,
+];
+
 #[test]
-fn sections_are_packed_as_linkers_pack_them(rt: HostRuntime) -> Result<(), OutOfMemory> {
-    let items = items();
+fn sections_of_riscv_are_packed_as_linkers_pack_them(rt: HostRuntime) -> Result<(), OutOfMemory> {
+    let items = riscv_items();
     assert!(rt; are_items(&items, 0xff08));
     let plan = relax(rt.alloc(), &items, 0xff08)?;
     assert_eq!(rt; plan.kept.as_slice(), [0, 4, 2, 8, 14].as_slice());
-    expect(&rt, &items[1..], plan.deletions.deltas(), Ok(()), &PACKED);
+    let deltas = plan.deletions.deltas();
+    let machine = Machine::RiscV64;
+    expect(
+        &rt,
+        machine,
+        &RISC_V,
+        &items[1..],
+        deltas,
+        Ok(()),
+        &RISC_V_PACKED,
+    );
     Ok(())
 }
 
 #[test]
-fn rejected_items_are_named(rt: HostRuntime) -> Result<(), OutOfMemory> {
-    let items = items();
+fn sections_of_loongarch_are_packed(rt: HostRuntime) -> Result<(), OutOfMemory> {
+    let items = loongarch_items();
+    assert!(rt; are_items(&items, 0xff08));
+    let plan = relax(rt.alloc(), &items, 0xff08)?;
+    assert_eq!(rt; plan.kept.as_slice(), [0, 4, 4, 4, 8, 8, 8].as_slice());
+    let deltas = plan.deletions.deltas();
+    let machine = Machine::LoongArch64;
+    expect(
+        &rt,
+        machine,
+        &LOONGARCH,
+        &items[1..],
+        deltas,
+        Ok(()),
+        &LOONGARCH_PACKED,
+    );
+    Ok(())
+}
+
+#[test]
+fn rejected_items_of_riscv_are_named(rt: HostRuntime) -> Result<(), OutOfMemory> {
+    let items = riscv_items();
     assert!(rt; are_items(&items, 0xff08));
     let plan = relax(rt.alloc(), &items, 0xff08)?;
     let deltas = plan.deletions.deltas();
@@ -105,30 +178,97 @@ fn rejected_items_are_named(rt: HostRuntime) -> Result<(), OutOfMemory> {
         (site(0x10c, 0x1140, TAIL_C), ItemError::OutOfReach),
         (site(0x10c, 0x129, TAIL_C), ItemError::OutOfReach),
     ];
+    let machine = Machine::RiscV64;
     for &(item, error) in &rows {
-        let rejected = RejectedItem { index: 1, error };
-        expect(&rt, &[items[1], item], deltas, Err(rejected), &[0xee; 34]);
+        let rejected = Err(RejectedItem { index: 1, error });
+        expect(
+            &rt,
+            machine,
+            &RISC_V,
+            &[items[1], item],
+            deltas,
+            rejected,
+            &[0xee; 34],
+        );
     }
-    let overlaps = RejectedItem {
+    let overlaps = Err(RejectedItem {
         index: 2,
         error: ItemError::Overlaps,
-    };
+    });
     let twice = [items[1], items[2], items[2]];
-    expect(&rt, &twice, deltas, Err(overlaps), &[0xee; 34]);
+    expect(&rt, machine, &RISC_V, &twice, deltas, overlaps, &[0xee; 34]);
     Ok(())
 }
 
 #[test]
-fn only_a_call_that_links_none_becomes_a_short_jump(rt: HostRuntime) {
-    let deltas = [RelaxDelta {
-        input_offset: 0x102,
-        cumulative_deleted: 6,
-        bytes_deleted: 6,
-    }];
-    let no_shape = RejectedItem {
+fn rejected_items_of_loongarch_are_named(rt: HostRuntime) -> Result<(), OutOfMemory> {
+    let items = loongarch_items();
+    assert!(rt; are_items(&items, 0xff08));
+    let plan = relax(rt.alloc(), &items, 0xff08)?;
+    let deltas = plan.deletions.deltas();
+    let rows = [
+        (site(0x108, 0x140, CALL36), ItemError::NotItsInstructions),
+        // `b` over 2^27 bytes and more, `pcaddi` and `call36` over an odd number of them
+        (site(0x114, 0x0800_0200, CALL36), ItemError::OutOfReach),
+        (site(0x11c, 0x141, PCALA), ItemError::OutOfReach),
+        (site(0x124, 0x141, CALL36), ItemError::OutOfReach),
+        // `la.pcrel` over 2^31 bytes and more
+        (site(0x12c, 0x8001_0000, PCALA), ItemError::OutOfReach),
+    ];
+    let machine = Machine::LoongArch64;
+    for &(item, error) in &rows {
+        let rejected = Err(RejectedItem { index: 1, error });
+        expect(
+            &rt,
+            machine,
+            &LOONGARCH,
+            &[items[1], item],
+            deltas,
+            rejected,
+            &[0xee; 52],
+        );
+    }
+    Ok(())
+}
+
+#[test]
+fn items_of_which_two_bytes_stay_are_rejected(rt: HostRuntime) {
+    let no_shape = Err(RejectedItem {
         index: 0,
         error: ItemError::NoShape,
-    };
+    });
+    // `c.j` links none
     let items = [site(0x100, 0x12a, CALL)];
-    expect(&rt, &items, &deltas, Err(no_shape), &[0xee; 38]);
+    let deltas = all_but_two(0x100, 8);
+    expect(
+        &rt,
+        Machine::RiscV64,
+        &RISC_V,
+        &items,
+        &deltas,
+        no_shape,
+        &[0xee; 38],
+    );
+    let machine = Machine::LoongArch64;
+    let items = [site(0x100, 0x140, CALL36)];
+    expect(
+        &rt,
+        machine,
+        &LOONGARCH,
+        &items,
+        &deltas,
+        no_shape,
+        &[0xee; 62],
+    );
+    let items = [aligned(0x134, 12, 16)];
+    let deltas = all_but_two(0x134, 12);
+    expect(
+        &rt,
+        machine,
+        &LOONGARCH,
+        &items,
+        &deltas,
+        no_shape,
+        &[0xee; 58],
+    );
 }

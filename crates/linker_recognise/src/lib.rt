@@ -1,5 +1,5 @@
-//! What a linker made of a relocation, by the bytes before and after: which rewrite, and which
-//! relocation it then wrote.
+//! What a linker made of a relocation, by the bytes before and after: which rewrite, which
+//! relocation it then wrote, and what stands in its field.
 #![tactic(auto)]
 
 pub mod aarch64;

@@ -68,8 +68,8 @@ pub extern "C" fn linker_utils_read_value_nonnull(
     bytes: &[u8],
     value: &mut FieldValueNumbers,
 ) -> u32
-    ensures known { IfSome (architecture_of machine) (λ architecture. (meaning : Option RelocationKindInfo)
-        × IsRow architecture r_type meaning
+    ensures known { IfSome (architecture_of machine)
+        (λ architecture. (meaning : Option RelocationKindInfo) × IsRow architecture r_type meaning
         × IsValueRead meaning bytes.now value.old value.new result) }
     ensures unknown { IfNone (architecture_of machine)
         ((result ≡ code Status.UnknownArchitecture) × (value.new ≡ value.old)) }
@@ -169,8 +169,8 @@ pub extern "C" fn linker_utils_solve(
     reference: &mut u32,
     address: &mut FieldValueNumbers,
 ) -> u32
-    ensures known { IfSome (architecture_of machine) (λ architecture. (meaning : Option RelocationKindInfo)
-        × IsRow architecture r_type meaning
+    ensures known { IfSome (architecture_of machine)
+        (λ architecture. (meaning : Option RelocationKindInfo) × IsRow architecture r_type meaning
         × IsValueSolved meaning (field_of value.now) operands.now reference.old reference.new
         address.old address.new result) }
     ensures unknown { IfNone (architecture_of machine)

@@ -32,8 +32,9 @@ pub extern "C" fn linker_utils_field_bits_nonnull(
     bytes: &[u8],
     bits: &mut u64,
 ) -> u32
-    ensures known { IfSome (architecture_of machine) (λ architecture. (meaning : Option RelocationKindInfo)
-        × IsRow architecture r_type meaning × AreBitsOf meaning bytes.now bits.old bits.new result) }
+    ensures known { IfSome (architecture_of machine)
+        (λ architecture. (meaning : Option RelocationKindInfo) × IsRow architecture r_type meaning
+        × AreBitsOf meaning bytes.now bits.old bits.new result) }
     ensures unknown { IfNone (architecture_of machine)
         ((result ≡ code Status.UnknownArchitecture) × (bits.new ≡ bits.old)) }
 {
@@ -67,8 +68,9 @@ pub extern "C" fn linker_utils_same_but_for_nonnull(
     a: &[u8],
     b: &[u8],
 ) -> bool
-    ensures known { IfSome (architecture_of machine) (λ architecture. (meaning : Option RelocationKindInfo)
-        × IsRow architecture r_type meaning × IsAnswerOf (IsSameAnswer a.now b.now) meaning result) }
+    ensures known { IfSome (architecture_of machine)
+        (λ architecture. (meaning : Option RelocationKindInfo) × IsRow architecture r_type meaning
+        × IsAnswerOf (IsSameAnswer a.now b.now) meaning result) }
     ensures unknown { IfNone (architecture_of machine) (result ≡ false) }
 {
     let Some(architecture) = Architecture::from_machine(machine) else {
@@ -134,7 +136,7 @@ fn write_found(made: &[Option<Made<Relaxation, u32>>], found: &mut [RecognisedNu
 }
 
 /// Writes which rewrites, and relocations after them, a linker may have made at the relocation with
-/// `r_type`, whose offset in the original bytes is given, as `recognise` of `linker_recognise` says.
+/// `r_type`, whose offset in the original bytes is given, as `recognise` of `linker_recognise`.
 /// `count` is how many there are, and the elements of `found` from there on are unchanged.
 ///
 /// `found` has 6 elements. The first that applies of `UnknownArchitecture`; `DifferentLengths`;
@@ -151,8 +153,8 @@ pub extern "C" fn linker_utils_recognise_nonnull(
     count: &mut usize,
 ) -> u32
     ensures known { IfSome (architecture_of machine) (λ architecture.
-        AreRecognised architecture r_type original.now offset others.now linked.now found.old found.new
-        count.old count.new result) }
+        AreRecognised architecture r_type original.now offset others.now linked.now found.old
+        found.new count.old count.new result) }
     ensures unknown { IfNone (architecture_of machine) ((result ≡ code Status.UnknownArchitecture)
         × (found.new ≡ found.old) × (count.new ≡ count.old)) }
 {
@@ -195,8 +197,8 @@ fn recognise_into(
     Status::Success.number()
 }
 
-/// Writes the choice that `linker_utils_choose` makes by these facts, if it leaves the linked bytes,
-/// as `linker_utils_recognise` says. The first that applies of `UnknownArchitecture`;
+/// Writes the choice that `linker_utils_choose` makes by these facts, if it leaves the linked
+/// bytes, as `linker_utils_recognise` says. The first that applies of `UnknownArchitecture`;
 /// `WindowTooLong`; `LeavesOtherBytes`.
 #[unsafe(no_mangle)]
 pub extern "C" fn linker_utils_recognise_chosen_nonnull(
@@ -210,8 +212,8 @@ pub extern "C" fn linker_utils_recognise_chosen_nonnull(
     found: &mut RecognisedNumbers,
 ) -> u32
     ensures known { IfSome (architecture_of machine) (λ architecture.
-        IsRecognised architecture r_type original.now offset others.now linked.now (facts_of facts.now)
-        found.old found.new result) }
+        IsRecognised architecture r_type original.now offset others.now linked.now
+        (facts_of facts.now) found.old found.new result) }
     ensures unknown { IfNone (architecture_of machine) ((result ≡ code Status.UnknownArchitecture)
         × (found.new ≡ found.old)) }
 {

@@ -8,7 +8,7 @@ ghost use Rattle.linker_utils_c.specs.Status.{code};
 pub enum Status {
     /// The call did what it says.
     Success,
-    /// No architecture has this machine number, or it has no instruction forms.
+    /// No architecture has this machine number, or the call isn't for this architecture.
     UnknownArchitecture,
     /// The architecture has no form with this number.
     UnknownForm,
@@ -110,8 +110,19 @@ pub enum Status {
     NotHalves,
     /// The original bytes are more than 64.
     WindowTooLong,
+    /// The item is not in the section.
+    ItemOutOfSection,
+    /// The bytes of the item that stay are not its first ones.
+    NotItsFirstBytes,
+    /// The instructions of the site are not those that its shapes stand for.
+    NotItsInstructions,
+    /// No instruction, or no nops, have as many bytes as stay of the item.
+    NoShape,
+    /// The instruction of as many bytes as stay does not reach the target: it is too far, or its
+    /// distance is not a multiple of what the instruction counts in.
+    TargetOutOfReach,
     /// The rewrite that is chosen leaves other bytes.
-    LeavesOtherBytes = 58,
+    LeavesOtherBytes,
 }
 
 impl Status {

@@ -103,7 +103,7 @@ fn write_found(made: &[Option<Made<Relaxation, u32>>], found: &mut [RecognisedNu
 }
 
 /// Writes which rewrites, and relocations after them, a linker may have made at the relocation with
-/// `r_type`, whose offset in the original bytes is given, as `recognise` of `linker_recognise` says.
+/// `r_type`, whose offset in the original bytes is given, as `recognise` of `linker_recognise`.
 /// `count` is how many there are, and the elements of `found` from there on are unchanged.
 ///
 /// `found` has 6 elements. The first that applies of `UnknownArchitecture`; `DifferentLengths`;
@@ -154,8 +154,8 @@ fn recognise_into(
     Status::Success.number()
 }
 
-/// Writes the choice that `linker_utils_choose` makes by these facts, if it leaves the linked bytes,
-/// as `linker_utils_recognise` says. The first that applies of `UnknownArchitecture`;
+/// Writes the choice that `linker_utils_choose` makes by these facts, if it leaves the linked
+/// bytes, as `linker_utils_recognise` says. The first that applies of `UnknownArchitecture`;
 /// `WindowTooLong`; `LeavesOtherBytes`.
 pub fn linker_utils_recognise_chosen_nonnull(
     machine: u16,

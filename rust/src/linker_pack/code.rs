@@ -19,15 +19,28 @@ pub(crate) struct Template {
     pub(crate) code: Code,
 }
 
-/// A template with its relocation applied, at an address and for a target's. None where the
-/// relocation's value is rejected.
-pub(crate) fn relocated(template: Template, place: u64, target: u64) -> Option<Code> {
-    let operands = Operands {
+/// The eight bytes at an offset.
+pub(crate) fn pair_at(section: &[u8], offset: u64) -> [u8; 8] {
+    let start = offset as usize;
+    let mut pair = [0; 8];
+    pair.copy_from_slice(&section[start..start + 8]);
+    pair
+}
+
+/// The operands of a relocation at a place, of a symbol and a PLT entry at the target.
+pub(crate) fn operands_of(place: u64, target: u64) -> Operands {
+    Operands {
         symbol: target,
         plt_entry: target,
         place,
         ..Operands::default()
-    };
+    }
+}
+
+/// A template with its relocation applied, at an address and for a target's. None where the
+/// relocation's value is rejected.
+pub(crate) fn relocated(template: Template, place: u64, target: u64) -> Option<Code> {
+    let operands = operands_of(place, target);
     match template.code {
         Code::Half(bytes) => {
             let mut bytes = bytes;

@@ -3,7 +3,7 @@
 
 use crate::linker_pack::code::Code;
 use crate::linker_pack::copying::copy_kept;
-use crate::linker_pack::riscv64;
+use crate::linker_pack::{loongarch64, riscv64};
 use crate::linker_base::relaxation::{DeltaSlice, RelaxDelta};
 use crate::linker_relax::relaxation::{Item, Site};
 
@@ -12,6 +12,8 @@ use crate::linker_relax::relaxation::{Item, Site};
 pub enum Machine {
     /// RISC-V of 64 bits.
     RiscV64,
+    /// LoongArch of 64 bits.
+    LoongArch64,
 }
 
 /// Why an item isn't written.
@@ -27,8 +29,8 @@ pub enum ItemError {
     NotItsInstructions,
     /// No instruction, or no nops, have as many bytes as stay.
     NoShape,
-    /// The relocation's row rejects the distance: it is too far, or isn't a multiple of what the
-    /// instruction counts in.
+    /// The instructions don't reach the target: it is too far, or the distance isn't a multiple of
+    /// what the instruction counts in.
     OutOfReach,
 }
 
@@ -95,6 +97,9 @@ fn code_of_site(
     let target = start.wrapping_add(to_output(deltas, site.target));
     match machine {
         Machine::RiscV64 => riscv64::code_of(section, site.offset - base, kept, place, target),
+        Machine::LoongArch64 => {
+            loongarch64::code_of(section, site.offset - base, kept, place, target)
+        }
     }
 }
 
@@ -102,6 +107,7 @@ fn code_of_site(
 fn nop_len(machine: Machine) -> u64 {
     match machine {
         Machine::RiscV64 => 2,
+        Machine::LoongArch64 => 4,
     }
 }
 
@@ -230,6 +236,7 @@ fn put_nops(machine: Machine, packed: &mut [u8], at: u64, len: u64) {
                 put_bytes(packed, at.wrapping_add(len - 2), &[0x01, 0x00]);
             }
         }
+        Machine::LoongArch64 => put_words(packed, at, [0x00, 0x00, 0x40, 0x03], len / 4),
     }
 }
 
@@ -297,7 +304,12 @@ pub fn packed_run_len(base: u64, len: usize, deltas: &[RelaxDelta]) -> usize {
 /// - of RISC-V `c.j` of two bytes for a call that links x0, `jal` of four with the link register of
 ///   the `jalr`, and of eight the call as it is, with `R_RISCV_CALL_PLT` applied (RISC-V ELF psABI,
 ///   "Function Call Relaxation");
-/// - of an alignment nops: of RISC-V `nop`, and at most one `c.nop` at the end.
+/// - of LoongArch four bytes of `b` for a call whose `jirl` links none, of `bl` for one that links
+///   `ra`, and of `pcaddi`, with the `addi.d`'s register, for an address; of eight the instructions
+///   as they are, with `R_LARCH_CALL36`, or `R_LARCH_PCALA_HI20` and `R_LARCH_PCALA_LO12`, applied
+///   (LoongArch ELF psABI, "Linker Relaxation"). The instructions tell which of both a site is;
+/// - of an alignment nops: of RISC-V `nop`, and at most one `c.nop` at the end; of LoongArch
+///   `andi zero, zero, 0`.
 ///
 /// A site without short shapes, as `fixed` has it, is left as it is.
 ///

@@ -1,7 +1,7 @@
 // Made by tools/erase of crates/linker_pack/src/riscv64.rt.
 //! RISC-V: what a call becomes.
 
-use crate::linker_pack::code::{Code, Template, relocated};
+use crate::linker_pack::code::{Code, Template, pair_at, relocated};
 use crate::linker_pack::packing::ItemError;
 use crate::linker_runs::riscv64::link_at;
 use crate::elf::RelocationKindInfo;
@@ -18,14 +18,6 @@ fn row_of(name: RiscVRelocation) -> RelocationKindInfo {
 /// `jal` of distance 0 that links a register.
 fn jal(link: u32) -> [u8; 4] {
     (0x6f + link * 128).to_le_bytes()
-}
-
-/// The eight bytes at an offset.
-fn pair_at(section: &[u8], offset: u64) -> [u8; 8] {
-    let start = offset as usize;
-    let mut pair = [0; 8];
-    pair.copy_from_slice(&section[start..start + 8]);
-    pair
 }
 
 /// The instruction of which so many bytes stay of a call that links a register.

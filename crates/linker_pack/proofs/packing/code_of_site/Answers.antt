@@ -1,0 +1,23 @@
+use Rattle.std.proofs.Common.{◌≡◌, ◌+◌, ◌-◌, ◌%◌, ◌^◌, ℕ, Result, Ok, Err, OnOk, sym, subst}
+use Rattle.linker_base.specs.Deltas.{deletions_of}
+use Rattle.linker_base.specs.Deletions.{rank}
+use Rattle.linker_pack.specs.LoongArchSites.{LoongArchAccepts}
+use Rattle.linker_pack.specs.Packing.{section_of, SiteAccepts}
+use Rattle.linker_pack.proofs.packing.code_of_site.Goals as goal
+
+on_ok : {T E : Type 0} (r : Result T E) (P Q : Type 0) → (P → Q) → OnOk r P → OnOk r Q
+on_ok (Ok x) P Q f p = f p
+on_ok (Err e) P Q f p = p
+
+pub returns-in-LoongArch64-clause-accepts : goal.returns-in-LoongArch64-clause-accepts
+returns-in-LoongArch64-clause-accepts c = λ valid.
+    let s = section_of c.args.section.now c.args.base (deletions_of c.args.deltas.now) c.args.start in
+    let site = c.args.site.now in
+    let r = c.code_of-in-LoongArch64.result in
+    let accepts = λ (place target : ℕ). LoongArchAccepts s.bytes (site.offset - s.base) c.args.kept ((s.start + place) % 2 ^ 64) ((s.start + target) % 2 ^ 64) in
+    let a : OnOk r (accepts (rank s.deletions site.offset) c.to_output-2.result) =
+    subst (λ n. OnOk r (accepts n c.to_output-2.result)) (c.to_output.ensures valid) c.code_of-in-LoongArch64.ensures.accepts in
+    let b : OnOk r (accepts (rank s.deletions site.offset) (rank s.deletions site.target)) =
+    subst (λ n. OnOk r (accepts (rank s.deletions site.offset) n)) (c.to_output-2.ensures valid) a in
+    subst (λ m. OnOk r (SiteAccepts m s site c.args.kept)) (sym c.in-LoongArch64.is)
+    (on_ok r (accepts (rank s.deletions site.offset) (rank s.deletions site.target)) ((site.len ≡ 8) × accepts (rank s.deletions site.offset) (rank s.deletions site.target)) (λ h. (c.if-site-ne8.false, h)) b)
