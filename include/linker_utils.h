@@ -119,6 +119,15 @@ extern "C" {
            "The alignment has a limit, and its nops are not a multiple of the run's greatest " \
            "unit.") \
     STATUS(TARGET_INSIDE, 47, "The target is strictly inside the bytes that an item may lose.") \
+    STATUS(HOLDS_NO_VALUE, 48, "The relocation's field does not hold bits of its value.") \
+    STATUS(BAD_FIELD_VALUE, 49, \
+           "No bits are known, or some above bit 63, or there are more bits than are known.") \
+    STATUS(NO_ADDRESS, 50, \
+           "No address is behind the relocation's value, or it is that of a page and known from " \
+           "below bit 12.") \
+    STATUS(NOT_HALVES, 51, \
+           "The low half does not have all bits below those of the high half, without rounding.") \
+    STATUS(WINDOW_TOO_LONG, 52, "The original bytes are more than 64.") \
     STATUS(ITEM_OUT_OF_SECTION, 53, "The item is not in the section.") \
     STATUS(NOT_ITS_FIRST_BYTES, 54, "The bytes of the item that stay are not its first ones.") \
     STATUS(NOT_ITS_INSTRUCTIONS, 55, \
@@ -127,7 +136,8 @@ extern "C" {
            "No instruction, or no nops, have as many bytes as stay of the item.") \
     STATUS(TARGET_OUT_OF_REACH, 57, \
            "The instruction of as many bytes as stay does not reach the target: it is too far, " \
-           "or its distance is not a multiple of what the instruction counts in.")
+           "or its distance is not a multiple of what the instruction counts in.") \
+    STATUS(LEAVES_OTHER_BYTES, 58, "The rewrite that is chosen leaves other bytes.")
 
 enum linker_utils_status {
 #define LINKER_UTILS_STATUS(name, number, text) LINKER_UTILS_##name = number,
@@ -1210,6 +1220,150 @@ static inline uint32_t linker_utils_pack_run(
     const struct linker_utils_item *items, size_t items_len,
     const struct linker_utils_delta *deltas, size_t deltas_len, uint64_t start, uint8_t *packed,
     size_t packed_len, size_t *faulty);
+
+/* ---- Reading back: what a linker wrote, from the linked bytes.
+ *
+ * A machine and a relocation type name a relocation. The statuses LINKER_UTILS_UNKNOWN_ARCHITECTURE
+ * and LINKER_UTILS_UNKNOWN_RELOCATION come first, but `linker_utils_recognise` and
+ * `linker_utils_recognise_chosen` take any type. */
+
+/* What is known of a number of 64 bits, which is a relocation's value in two's complement, or an
+ * address: bits of the sum of the number and `rounding`, modulo 2^64. Where bits 0 to 63 are known
+ * the number is `bits - rounding`. */
+struct linker_utils_field_value {
+    uint64_t bits; /* the known bits, the first of them at bit 0, and no others */
+    uint64_t rounding; /* what was added to the number before its bits were taken */
+    uint8_t first_bit; /* which bits are known: `first_bit` and up, below `end_bit` */
+    uint8_t end_bit;
+};
+
+/* What is known of a relocation's value from the bytes that begin with its field, into `value`.
+ * Whatever value `linker_utils_relocate` wrote there, it has these bits.
+ *
+ * - Of an instruction they are what the machine reads: bits from `first_bit` of the relocation up.
+ *   They are known up to bit 63 where `linker_utils_reach` leaves one choice, as a sign does, and
+ *   down to bit 0 where the value is a multiple of an alignment that says that those below are 0.
+ * - RISC-V's lui, auipc and c.lui have the upper bits of the value plus 0x800, the `rounding`. The
+ *   other half has the low 12 bits of the value. Of the pair of R_RISCV_CALL and R_LARCH_CALL36 all
+ *   bits are known.
+ * - The value of PowerPC64's and LoongArch's adjusted high halves has their `bias` in it, so that
+ *   the rounding is 0: `linker_utils_solve` takes the bias off.
+ * - MOVN and MOVZ have 16 bits and the sign.
+ * - Whole bytes have the low bits of the value; that of R_RISCV_SET6 has 6.
+ *
+ * LINKER_UTILS_TOO_SHORT where there are fewer bytes than the field has.
+ * LINKER_UTILS_HOLDS_NO_VALUE of a relocation of no bytes, of one that adds or subtracts, of one at
+ * a ULEB128 number, and of R_LARCH_CALL30. */
+static inline uint32_t linker_utils_read_value(uint16_t machine, uint32_t r_type,
+                                               const uint8_t *bytes, size_t bytes_len,
+                                               struct linker_utils_field_value *value);
+
+/* Which address a relocation's value is computed from, in the letters of `enum
+ * linker_utils_relocation_kind`. */
+enum linker_utils_reference {
+    LINKER_UTILS_REFERENCE_SYMBOL = 0, /* S + A */
+    LINKER_UTILS_REFERENCE_GOT_ENTRY = 1, /* the GOT entry's, of TLS too, plus A where it is added */
+    LINKER_UTILS_REFERENCE_PLT_ENTRY = 2 /* L + A */
+};
+
+/* What is known of the address that a value comes from, into `address`, and which address it is, by
+ * `enum linker_utils_reference`, into `reference`: the inverse of `linker_utils_value`. `value` is
+ * what is known of the value, as `linker_utils_read_value` returns it. Of the operands only
+ * `place`, `got_base` and `tls_base` are read, whichever the formula takes off. Of
+ * R_RISCV_PCREL_LO12_* the place is that of the high part.
+ *
+ * With these operands an address has the bits of `address` exactly where its value has those of
+ * `value`. The bias of the relocation is taken off. Where bit 0 is known the rounding is 0. Where
+ * the formula takes the page of the address, bits 12 and up are known, and the rounding is the bias
+ * less the page of the place or of the GOT.
+ *
+ * LINKER_UTILS_BAD_FIELD_VALUE where `value` isn't one that the library returns: no bits are known,
+ * or some above bit 63, or `bits` has others. LINKER_UTILS_NO_ADDRESS of a relocation without a
+ * value or without bytes, of one that is computed from a size, adds or subtracts, or is at a
+ * ULEB128 number, and of LoongArch's upper halves of 64-bit addresses; and where the formula takes
+ * the page of the address and `value` is known from below bit 12. */
+uint32_t linker_utils_solve(uint16_t machine, uint32_t r_type,
+                            const struct linker_utils_field_value *value,
+                            const struct linker_utils_operands *operands, uint32_t *reference,
+                            struct linker_utils_field_value *address);
+
+/* What is known of an address from both halves of a pair, as `linker_utils_solve` returns them:
+ * adrp and add, auipc and addi, addis and addi, pcalau12i and addi.d. A number has the bits of
+ * `whole` exactly where it has those of both.
+ *
+ * LINKER_UTILS_BAD_FIELD_VALUE of either half, as in `linker_utils_solve`. LINKER_UTILS_NOT_HALVES
+ * unless the low half has bits 0 up to the first of the high half, and no rounding. */
+uint32_t linker_utils_join(const struct linker_utils_field_value *high,
+                           const struct linker_utils_field_value *low,
+                           struct linker_utils_field_value *whole);
+
+/* Which bits of the bytes that begin with a relocation's field `linker_utils_relocate` may change,
+ * into `bits`: bit 0 is the lowest of the first byte, bit 8 that of the second. All others are the
+ * same after each write. Of an instruction they are the bits of its form, and for
+ * LINKER_UTILS_AARCH64_FORM_MOVNZ those of the opcode that it sets. LINKER_UTILS_TOO_SHORT where
+ * there are fewer bytes than the field has. */
+static inline uint32_t linker_utils_field_bits(uint16_t machine, uint32_t r_type,
+                                               const uint8_t *bytes, size_t bytes_len,
+                                               uint64_t *bits);
+
+/* Whether two windows of the same length, which begin with a relocation's field, differ in bits of
+ * the field only. False where the machine or the type is unknown, the lengths differ, or the field
+ * isn't in the windows. */
+static inline bool linker_utils_same_but_for(uint16_t machine, uint32_t r_type, const uint8_t *a,
+                                             size_t a_len, const uint8_t *b, size_t b_len);
+
+/* Bits of a window: some of the eight bytes from an offset on. */
+struct linker_utils_window_bits {
+    uint64_t offset; /* of the first of the bytes, in the original window */
+    uint64_t bits; /* bit 0 is the lowest of that byte, bit 8 that of the next */
+};
+
+/* A rewrite that leaves the linked bytes, and what stands in the field of the relocation after
+ * it. */
+struct linker_utils_recognised {
+    struct linker_utils_choice choice; /* as `linker_utils_choose` returns it */
+    uint64_t offset; /* of the relocation's field in the linked bytes */
+    /* What is known of the relocation's value from that field, as `linker_utils_read_value` returns
+     * it. `end_bit` is 0 where nothing is known: the relocation holds no value. */
+    struct linker_utils_field_value value;
+};
+
+/* How many rewrites a relocation may have at most, NO_OP among them. */
+#define LINKER_UTILS_CANDIDATES 6
+
+/* Writes which rewrites, and relocations after them, a linker may have made at a relocation: those
+ * after which the original bytes differ from the linked ones only in the field of the relocation
+ * after it and in `others`. `count` is how many there are; the elements of `found` from there on
+ * are unchanged. Nothing needs to be known of the symbol: so several are returned where their bytes
+ * are the same, as where only the relocation changes.
+ *
+ * - `offset` is that of the relocation in the original bytes. Both windows may begin before it, at
+ *   the same place. The original one has at most 64 bytes. After a rewrite that deletes bytes the
+ *   linked one has fewer.
+ * - `others` are bits that other relocations write, as `linker_utils_field_bits` returns them,
+ *   among them those of a relocation that the rewrite skips. Of an instruction that another
+ *   relocation rewrites or deletes they are all bits.
+ * - A rewrite is among them only where `linker_utils_matches` returns LINKER_UTILS_OK of it and the
+ *   field is in the window. What `linker_utils_choose` returns is one of them, whatever the facts,
+ *   where it leaves the linked bytes so.
+ *
+ * LINKER_UTILS_UNKNOWN_ARCHITECTURE. LINKER_UTILS_DIFFERENT_LENGTHS where `found_len` is not
+ * LINKER_UTILS_CANDIDATES. LINKER_UTILS_WINDOW_TOO_LONG. A type that the library doesn't know has
+ * NO_OP only. */
+static inline uint32_t linker_utils_recognise(
+    uint16_t machine, uint32_t r_type, const uint8_t *original, size_t original_len,
+    uint64_t offset, const struct linker_utils_window_bits *others, size_t others_len,
+    const uint8_t *linked, size_t linked_len, struct linker_utils_recognised *found,
+    size_t found_len, size_t *count);
+
+/* Writes what `linker_utils_choose` returns by these facts, if it leaves the linked bytes, as
+ * `linker_utils_recognise` says. LINKER_UTILS_UNKNOWN_ARCHITECTURE. LINKER_UTILS_WINDOW_TOO_LONG.
+ * LINKER_UTILS_LEAVES_OTHER_BYTES. */
+static inline uint32_t linker_utils_recognise_chosen(
+    uint16_t machine, uint32_t r_type, const uint8_t *original, size_t original_len,
+    uint64_t offset, const struct linker_utils_window_bits *others, size_t others_len,
+    const uint8_t *linked, size_t linked_len, const struct linker_utils_link_facts *facts,
+    struct linker_utils_recognised *found);
 
 #include "linker_utils_inline.h"
 

@@ -503,6 +503,67 @@ static inline uint32_t linker_utils_pack_run(
         LINKER_UTILS_SLICE(uint8_t, packed), packed_len, faulty ? faulty : &ignored);
 }
 
+uint32_t linker_utils_read_value_nonnull(uint16_t machine, uint32_t r_type, const uint8_t *bytes,
+                                         size_t bytes_len,
+                                         struct linker_utils_field_value *value);
+static inline uint32_t linker_utils_read_value(uint16_t machine, uint32_t r_type,
+                                               const uint8_t *bytes, size_t bytes_len,
+                                               struct linker_utils_field_value *value) {
+    return linker_utils_read_value_nonnull(
+        machine, r_type, LINKER_UTILS_SLICE(const uint8_t, bytes), bytes_len, value);
+}
+
+uint32_t linker_utils_field_bits_nonnull(uint16_t machine, uint32_t r_type, const uint8_t *bytes,
+                                         size_t bytes_len, uint64_t *bits);
+static inline uint32_t linker_utils_field_bits(uint16_t machine, uint32_t r_type,
+                                               const uint8_t *bytes, size_t bytes_len,
+                                               uint64_t *bits) {
+    return linker_utils_field_bits_nonnull(
+        machine, r_type, LINKER_UTILS_SLICE(const uint8_t, bytes), bytes_len, bits);
+}
+
+bool linker_utils_same_but_for_nonnull(uint16_t machine, uint32_t r_type, const uint8_t *a,
+                                       size_t a_len, const uint8_t *b, size_t b_len);
+static inline bool linker_utils_same_but_for(uint16_t machine, uint32_t r_type, const uint8_t *a,
+                                             size_t a_len, const uint8_t *b, size_t b_len) {
+    return linker_utils_same_but_for_nonnull(machine, r_type, LINKER_UTILS_SLICE(const uint8_t, a),
+                                             a_len, LINKER_UTILS_SLICE(const uint8_t, b), b_len);
+}
+
+uint32_t linker_utils_recognise_nonnull(
+    uint16_t machine, uint32_t r_type, const uint8_t *original, size_t original_len,
+    uint64_t offset, const struct linker_utils_window_bits *others, size_t others_len,
+    const uint8_t *linked, size_t linked_len, struct linker_utils_recognised *found,
+    size_t found_len, size_t *count);
+static inline uint32_t linker_utils_recognise(
+    uint16_t machine, uint32_t r_type, const uint8_t *original, size_t original_len,
+    uint64_t offset, const struct linker_utils_window_bits *others, size_t others_len,
+    const uint8_t *linked, size_t linked_len, struct linker_utils_recognised *found,
+    size_t found_len, size_t *count) {
+    return linker_utils_recognise_nonnull(
+        machine, r_type, LINKER_UTILS_SLICE(const uint8_t, original), original_len, offset,
+        LINKER_UTILS_SLICE(const struct linker_utils_window_bits, others), others_len,
+        LINKER_UTILS_SLICE(const uint8_t, linked), linked_len,
+        LINKER_UTILS_SLICE(struct linker_utils_recognised, found), found_len, count);
+}
+
+uint32_t linker_utils_recognise_chosen_nonnull(
+    uint16_t machine, uint32_t r_type, const uint8_t *original, size_t original_len,
+    uint64_t offset, const struct linker_utils_window_bits *others, size_t others_len,
+    const uint8_t *linked, size_t linked_len, const struct linker_utils_link_facts *facts,
+    struct linker_utils_recognised *found);
+static inline uint32_t linker_utils_recognise_chosen(
+    uint16_t machine, uint32_t r_type, const uint8_t *original, size_t original_len,
+    uint64_t offset, const struct linker_utils_window_bits *others, size_t others_len,
+    const uint8_t *linked, size_t linked_len, const struct linker_utils_link_facts *facts,
+    struct linker_utils_recognised *found) {
+    return linker_utils_recognise_chosen_nonnull(
+        machine, r_type, LINKER_UTILS_SLICE(const uint8_t, original), original_len, offset,
+        LINKER_UTILS_SLICE(const struct linker_utils_window_bits, others), others_len,
+        LINKER_UTILS_SLICE(const uint8_t, linked), linked_len,
+        facts, found);
+}
+
 #undef LINKER_UTILS_SLICE
 
 #endif

@@ -26,9 +26,7 @@ IN_OTHER_WORDS = {
 LATER = {"merge_additional": "insert_ascending", "merge_all": "insert_ascending"}
 # Requirements that only the call itself tests, in words, by function and name: its addition overflows.
 IN_WORDS = {"output_to_input_counted.fits": "the input offset is at most `u64::MAX`, or an addition overflows",
-            "deletions.items": "the items are in order, as `are_items` accepts them",
-            "solve.": "`field` is what `read` returns of a row, or has its known bits only",
-            "join.high": "`high` is what `read` or `solve` returns", "join.low": "so is `low`"}
+            "deletions.items": "the items are in order, as `are_items` accepts them"}
 COMPARISONS = {"≡": "==", "≤": "<=", "<": "<"}
 
 

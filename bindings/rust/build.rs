@@ -19,6 +19,8 @@ fn main() {
         "linker_runs",
         "linker_pack",
         "relocation_laws",
+        "linker_reads",
+        "linker_recognise",
         "linker_utils_c",
     ] {
         println!("cargo:rerun-if-changed=../../crates/{library}/src");
@@ -66,16 +68,19 @@ const SPELLED: [(&str, &str); 10] = [
     ("LoongarchPcala", "LoongArchPcala"),
 ];
 
-/// How many bytes hold any name, and for each of the header's enums a macro of its name:
+/// How many bytes hold any name, how many rewrites a relocation may have, and for each of the header's enums a macro of its name:
 /// `ENUM! { MACRO START }` is `MACRO! { START { CONSTANTS } }`. A constant is
 /// `#[doc = "COMMENT"] NAME = NUMBER,` or, where its comment is `n`, `NAME(n) = NUMBER,`, and a status
 /// `NAME = NUMBER "TEXT",`.
 fn constants(header: &str) -> String {
-    let (_, size) = header
-        .split_once("#define LINKER_UTILS_NAME_SIZE ")
-        .expect("the size");
-    let size = size.lines().next().expect("a number");
-    let mut code = format!("pub(crate) const NAME_SIZE: usize = {size};\n");
+    let mut code = String::new();
+    for name in ["NAME_SIZE", "CANDIDATES"] {
+        let (_, size) = header
+            .split_once(&format!("#define LINKER_UTILS_{name} "))
+            .expect("the size");
+        let size = size.lines().next().expect("a number");
+        code += &format!("pub(crate) const {name}: usize = {size};\n");
+    }
     for part in header.split("\nenum ").skip(1) {
         let (name, rest) = part.split_once(' ').expect("a name");
         let Some(rest) = rest.strip_prefix("{\n") else {

@@ -1,5 +1,6 @@
 /* Passes null with a count of 0 for each slice of each call, and outputs that are not initialised. */
 #include <stdio.h>
+#include <string.h>
 
 #include "linker_utils.h"
 
@@ -20,6 +21,10 @@ int main(void) {
     uint32_t word;
     uint8_t flag;
     size_t count;
+    struct linker_utils_field_value known;
+    struct linker_utils_recognised found[LINKER_UTILS_CANDIDATES];
+    struct linker_utils_link_facts facts;
+    memset(&facts, 0, sizeof facts);
 
     EXPECT(TOO_SHORT, fits(machine, 0, 0, NULL, 0));
     EXPECT(TOO_SHORT, write(machine, 0, 0, false, NULL, 0));
@@ -59,5 +64,13 @@ int main(void) {
     EXPECT(OK, shrink_calls(NULL, 0, NULL, 0, NULL, 0, NULL));
     if (linker_utils_packed_run_len(0, 0, NULL, 0) != 0) failures++;
     EXPECT(OK, pack_run(LINKER_UTILS_RISCV, NULL, 0, 0, NULL, 0, NULL, 0, 0, NULL, 0, NULL));
+    EXPECT(TOO_SHORT, read_value(machine, 257, NULL, 0, &known)); /* R_AARCH64_ABS64 */
+    EXPECT(TOO_SHORT, field_bits(machine, 257, NULL, 0, &value));
+    if (linker_utils_same_but_for(machine, 257, NULL, 0, NULL, 0)) failures++;
+    EXPECT(DIFFERENT_LENGTHS, recognise(machine, 257, NULL, 0, 0, NULL, 0, NULL, 0, NULL, 0, &count));
+    EXPECT(OK, recognise(machine, 257, NULL, 0, 0, NULL, 0, NULL, 0, found, 6, &count));
+    if (count != 0) failures++;
+    EXPECT(LEAVES_OTHER_BYTES,
+           recognise_chosen(machine, 257, NULL, 0, 0, NULL, 0, NULL, 0, &facts, found));
     return failures != 0;
 }

@@ -527,12 +527,8 @@ static void call_matches(void) {
     finish_with(status, 0 NO_REWRITE OR(DOES_NOT_MATCH));
 }
 
-/* What is chosen matches. */
-static void call_choose(void) {
-    uint16_t machine = any_machine();
-    uint32_t r_type = any_relocation_type();
-    struct buffer *section = bytes(READ, any_section_len());
-    uint64_t offset = any_offset(section->len);
+/* Facts of which some hold. */
+static struct buffer *any_facts(void) {
     struct buffer *given = place(READ, 1, sizeof(struct linker_utils_link_facts));
     struct linker_utils_link_facts *facts = filled(given);
     uint64_t *operand = &facts->operands.symbol;
@@ -540,6 +536,16 @@ static void call_choose(void) {
     for (uint8_t *fact = &facts->is_local; fact <= &facts->has_addresses; fact++)
         *fact = (uint8_t)(once_in(8) ? any() : below(2));
     if (once_in(2)) facts->operands.addend = -4;
+    return given;
+}
+
+/* What is chosen matches. */
+static void call_choose(void) {
+    uint16_t machine = any_machine();
+    uint32_t r_type = any_relocation_type();
+    struct buffer *section = bytes(READ, any_section_len());
+    uint64_t offset = any_offset(section->len);
+    struct buffer *given = any_facts();
     struct linker_utils_choice *choice = output(sizeof *choice);
     uint32_t status =
         CALL(choose, machine, r_type, section->given, section->len, offset, given->given, choice);
@@ -1232,6 +1238,158 @@ static void call_pack_run(void) {
                             OR(TARGET_OUT_OF_REACH));
 }
 
+/* Known bits, most of them as the library returns them: of a value from bit 0, 2 or 12 up. */
+static struct linker_utils_field_value any_field_value(void) {
+    static const uint8_t limits[6] = {0, 2, 12, 16, 32, 64};
+    struct linker_utils_field_value value;
+    memset(&value, 0, sizeof value);
+    value.bits = once_in(2) ? below(4) : any_number();
+    value.rounding = once_in(2) ? 0 : any_number();
+    value.first_bit = (uint8_t)(once_in(8) ? any() : limits[below(3)]);
+    value.end_bit = (uint8_t)(once_in(8) ? any() : limits[2 + below(4)]);
+    return value;
+}
+
+/* One value that a call only reads. */
+static const void *input(const void *value, size_t size) {
+    struct buffer *buffer = place(READ, 1, size);
+    memcpy(filled(buffer), value, size);
+    return buffer->given;
+}
+
+static void expect_field_value(const struct linker_utils_field_value *value) {
+    expect(value->first_bit < value->end_bit && value->end_bit <= 64, "no known bits");
+    unsigned count = value->end_bit - (unsigned)value->first_bit;
+    expect(count == 64 || value->bits >> count == 0, "more bits than are known");
+}
+
+static void call_read_value(void) {
+    uint16_t machine = any_machine();
+    struct buffer *from = bytes(READ, any_len(16));
+    struct linker_utils_field_value *value = output(sizeof *value);
+    uint32_t status =
+        CALL(read_value, machine, any_relocation_type(), from->given, from->len, value);
+    if (status == LINKER_UTILS_OK) expect_field_value(value);
+    finish_with(status, 0 NO_RELOCATION OR(TOO_SHORT) OR(HOLDS_NO_VALUE));
+}
+
+/* Of what was read, or of any known bits. */
+static void call_solve(void) {
+    uint16_t machine = any_machine();
+    uint32_t r_type = any_relocation_type();
+    struct linker_utils_field_value value = any_field_value();
+    uint8_t word[8];
+    for (size_t i = 0; i < sizeof word; i++) word[i] = (uint8_t)any();
+    if (once_in(2)) linker_utils_read_value(machine, r_type, word, sizeof word, &value);
+    const struct linker_utils_field_value *given = input(&value, sizeof value);
+    struct buffer *operands = place(READ, 1, sizeof(struct linker_utils_operands));
+    uint64_t *operand = filled(operands);
+    for (size_t i = 0; i < operands->len / sizeof *operand; i++) operand[i] = any_number();
+    uint32_t *reference = output(sizeof *reference);
+    struct linker_utils_field_value *address = output(sizeof *address);
+    uint32_t status = CALL(solve, machine, r_type, given, operands->given, reference, address);
+    if (status == LINKER_UTILS_OK) {
+        expect(*reference <= LINKER_UTILS_REFERENCE_PLT_ENTRY, "no reference");
+        expect_field_value(address);
+    }
+    finish_with(status, 0 NO_RELOCATION OR(BAD_FIELD_VALUE) OR(NO_ADDRESS));
+}
+
+static void call_join(void) {
+    struct linker_utils_field_value high = any_field_value(), low = any_field_value();
+    if (once_in(2)) low.end_bit = high.first_bit;
+    const struct linker_utils_field_value *given = input(&high, sizeof high);
+    const struct linker_utils_field_value *other = input(&low, sizeof low);
+    struct linker_utils_field_value *whole = output(sizeof *whole);
+    uint32_t status = CALL(join, given, other, whole);
+    if (status == LINKER_UTILS_OK) {
+        expect_field_value(whole);
+        expect(whole->first_bit == 0 && whole->end_bit == high.end_bit, "not the halves' bits");
+    }
+    finish_with(status, 0 OR(BAD_FIELD_VALUE) OR(NOT_HALVES));
+}
+
+static void call_field_bits(void) {
+    uint16_t machine = any_machine();
+    struct buffer *from = bytes(READ, any_len(16));
+    uint64_t *field = output(sizeof *field);
+    uint32_t status =
+        CALL(field_bits, machine, any_relocation_type(), from->given, from->len, field);
+    finish_with(status, 0 NO_RELOCATION OR(TOO_SHORT));
+}
+
+/* A window and another that differs from it in few bits. */
+static void call_same_but_for(void) {
+    uint16_t machine = any_machine();
+    uint32_t r_type = any_relocation_type();
+    struct buffer *a = bytes(READ, any_len(16));
+    struct buffer *b = bytes(READ, once_in(8) ? any_len(16) : a->len);
+    uint8_t *from = filled(a), *to = filled(b);
+    if (a->len == b->len && a->len > 0) memcpy(to, from, a->len);
+    if (a->len == b->len && a->len > 0 && once_in(2)) to[below(b->len)] ^= (uint8_t)any();
+    bool is_equal = a->len == b->len && memcmp(from, to, a->len) == 0;
+    uint64_t field;
+    bool is_known =
+        linker_utils_field_bits(machine, r_type, a->given, a->len, &field) == LINKER_UTILS_OK;
+    bool is_same = CALL(same_but_for, machine, r_type, a->given, a->len, b->given, b->len);
+    expect(is_same ? is_known : !(is_known && is_equal), "another answer");
+    finish(true);
+}
+
+static void expect_recognised(const struct linker_utils_recognised *found) {
+    expect(found->choice.modifier <= 1 && found->choice.deleted_len <= 6, "no choice's numbers");
+    if (found->value.end_bit) expect_field_value(&found->value);
+}
+
+/* Windows that are the same but for a byte or a few that are deleted, or any two. */
+static void call_recognised(bool is_chosen) {
+    uint16_t machine = any_machine();
+    uint32_t r_type = any_relocation_type();
+    struct buffer *original = bytes(READ, once_in(16) ? 60 + below(10) : any_len(24));
+    uint64_t offset = any_offset(original->len);
+    size_t others_len = any_len(3);
+    struct buffer *others = place(READ, others_len, sizeof(struct linker_utils_window_bits));
+    struct linker_utils_window_bits *other = filled(others);
+    for (size_t i = 0; i < others_len; i++) {
+        other[i] = (struct linker_utils_window_bits){any_offset(original->len), any_number()};
+    }
+    size_t deleted = once_in(4) ? 2 * below(4) : 0;
+    size_t linked_len = original->len < deleted ? 0 : original->len - deleted;
+    struct buffer *linked = bytes(READ, linked_len);
+    if (linked_len > 0 && once_in(2)) memcpy(filled(linked), filled(original), linked_len);
+    struct buffer *facts = is_chosen ? any_facts() : NULL;
+    size_t found_len = is_chosen ? 1 : once_in(8) ? any_len(8) : LINKER_UTILS_CANDIDATES;
+    struct buffer *found = place(WRITTEN, found_len, sizeof(struct linker_utils_recognised));
+    struct linker_utils_recognised *at = filled(found);
+    size_t *count = is_chosen ? NULL : output(sizeof *count);
+    if (is_chosen) {
+        uint32_t status = CALL(recognise_chosen, machine, r_type, original->given, original->len,
+                               offset, others->given, others_len, linked->given, linked_len,
+                               facts->given, found->given);
+        if (status == LINKER_UTILS_OK) expect_recognised(at);
+        finish_with(status,
+                    0 OR(UNKNOWN_ARCHITECTURE) OR(WINDOW_TOO_LONG) OR(LEAVES_OTHER_BYTES));
+        return;
+    }
+    uint32_t status = CALL(recognise, machine, r_type, original->given, original->len, offset,
+                           others->given, others_len, linked->given, linked_len, found->given,
+                           found_len, count);
+    if (status == LINKER_UTILS_OK) {
+        expect(*count <= found_len, "more than there is room for");
+        for (size_t i = 0; i < *count; i++) expect_recognised(&at[i]);
+        changes(found, 0, *count * sizeof *at);
+    }
+    finish_with(status, 0 OR(UNKNOWN_ARCHITECTURE) OR(DIFFERENT_LENGTHS) OR(WINDOW_TOO_LONG));
+}
+
+static void call_recognise(void) {
+    call_recognised(false);
+}
+
+static void call_recognise_chosen(void) {
+    call_recognised(true);
+}
+
 static void (*const all[])(void) = {
     call_status_text, call_window, call_write, call_read, call_apply, call_matches,
     call_choose,
@@ -1245,6 +1403,8 @@ static void (*const all[])(void) = {
     call_deltas_translate_all,
     call_deltas_heads, call_pack, call_shrink_calls, call_named_shapes, call_relax, call_run_deltas,
     call_riscv_items, call_loongarch_items, call_pack_run,
+    call_read_value, call_solve, call_join, call_field_bits, call_same_but_for,
+    call_recognise, call_recognise_chosen,
 };
 
 int main(int count, char **arguments) {

@@ -279,6 +279,68 @@ pub struct SectionRelocation {
     pub has_target: u8,
 }
 
+/// What is known of a number of 64 bits, a relocation's value or an address: bits `first_bit` and up,
+/// below `end_bit`, of the sum of the number and `rounding`, modulo 2^64. The first of them is bit 0
+/// of `bits`.
+#[repr(C)]
+#[derive(Debug, Clone, Copy, Default, PartialEq, Eq)]
+pub struct FieldValue {
+    pub bits: u64,
+    pub rounding: u64,
+    pub first_bit: u8,
+    pub end_bit: u8,
+}
+
+impl FieldValue {
+    /// Whether a number has the known bits. Of a value, its 64 bits in two's complement are meant.
+    /// None has them if no bits are known, or some above bit 63.
+    pub fn is_of(&self, number: u64) -> bool {
+        if self.first_bit >= self.end_bit || self.end_bit > 64 {
+            return false;
+        }
+        let above = number.wrapping_add(self.rounding) >> self.first_bit;
+        above & (u64::MAX >> (64 - (self.end_bit - self.first_bit))) == self.bits
+    }
+
+    /// The number, if all of its bits are known.
+    pub fn number(&self) -> Option<u64> {
+        let is_whole = self.first_bit == 0 && self.end_bit == 64;
+        is_whole.then_some(self.bits.wrapping_sub(self.rounding))
+    }
+}
+
+/// Some bits of the eight bytes from an offset of a window on. Bit 0 is the lowest of the byte at the
+/// offset.
+#[repr(C)]
+#[derive(Debug, Clone, Copy, Default, PartialEq, Eq)]
+pub struct FieldBits {
+    pub offset: u64,
+    pub bits: u64,
+}
+
+/// The bytes at a relocation before and after linking, as `recognise` compares them.
+#[derive(Debug, Clone, Copy, PartialEq, Eq)]
+pub struct Windows<'a> {
+    /// At most 64 bytes.
+    pub original: &'a [u8],
+    /// The relocation's offset in them.
+    pub offset: u64,
+    /// The bits of them that other relocations write.
+    pub others: &'a [FieldBits],
+    /// From the same place on.
+    pub linked: &'a [u8],
+}
+
+/// A rewrite that leaves the linked bytes, and what stands in the field of the relocation after it.
+#[derive(Debug, Clone, PartialEq, Eq)]
+pub struct Recognised {
+    pub choice: Choice,
+    /// The offset of the relocation's field in the linked bytes.
+    pub offset: u64,
+    /// What is known of its value; `None` if the relocation holds no value.
+    pub value: Option<FieldValue>,
+}
+
 fn result_of<T>(status: u32, value: T) -> Result<T, Status> {
     match status {
         0 => Ok(value),
@@ -434,13 +496,18 @@ pub fn choose(
         raw::linker_utils_choose_nonnull(machine, r_type, at, len, offset, &facts, &mut choice)
     };
     result_of(status, ())?;
-    Ok(Choice {
+    Ok(choice_of(architecture, &choice))
+}
+
+/// A choice for an architecture.
+fn choice_of(architecture: Architecture, choice: &raw::Choice) -> Choice {
+    Choice {
         rewrite: Rewrite::from_numbers(architecture, choice.rewrite, choice.n)
             .expect("a rewrite of the library's"),
         relocation: choice.relocation,
         modifier: Modifier::from_number(choice.modifier).expect("a modifier of the library's"),
         deleted: choice.deleted_start..choice.deleted_start + u64::from(choice.deleted_len),
-    })
+    }
 }
 
 /// What the relocation of an ELF type means.
@@ -1061,4 +1128,137 @@ pub fn pack_run(
         )
     })
     .map_err(of_section)
+}
+
+/// What is known of a relocation's value from the linked bytes that begin with its field.
+pub fn read_value(
+    architecture: Architecture,
+    r_type: u32,
+    bytes: &[u8],
+) -> Result<FieldValue, Status> {
+    let mut value = FieldValue::default();
+    let (machine, at, len) = (architecture.machine(), bytes.as_ptr(), bytes.len());
+    let status =
+        unsafe { raw::linker_utils_read_value_nonnull(machine, r_type, at, len, &mut value) };
+    result_of(status, value)
+}
+
+/// Which address a relocation's value comes from, and what is known of it. Of the operands only the
+/// place, the GOT's address and the base of TLS are read.
+pub fn solve(
+    architecture: Architecture,
+    r_type: u32,
+    value: &FieldValue,
+    operands: &Operands,
+) -> Result<(Reference, FieldValue), Status> {
+    let (mut reference, mut address) = (0, FieldValue::default());
+    let status = unsafe {
+        raw::linker_utils_solve(
+            architecture.machine(),
+            r_type,
+            value,
+            operands,
+            &mut reference,
+            &mut address,
+        )
+    };
+    result_of(status, ())?;
+    let reference = Reference::from_number(reference).expect("a reference of the library's");
+    Ok((reference, address))
+}
+
+/// What is known of an address from both halves of a pair, as `solve` returns them.
+pub fn join(high: &FieldValue, low: &FieldValue) -> Result<FieldValue, Status> {
+    let mut whole = FieldValue::default();
+    let status = unsafe { raw::linker_utils_join(high, low, &mut whole) };
+    result_of(status, whole)
+}
+
+/// Which bits of the bytes that begin with a relocation's field `relocate` may change. Bit 0 is the
+/// lowest of the first byte.
+pub fn field_bits(architecture: Architecture, r_type: u32, bytes: &[u8]) -> Result<u64, Status> {
+    let mut bits = 0;
+    let (machine, at, len) = (architecture.machine(), bytes.as_ptr(), bytes.len());
+    let status =
+        unsafe { raw::linker_utils_field_bits_nonnull(machine, r_type, at, len, &mut bits) };
+    result_of(status, bits)
+}
+
+/// Whether two windows of the same length, which begin with a relocation's field, differ in bits of
+/// the field only.
+pub fn same_but_for(architecture: Architecture, r_type: u32, a: &[u8], b: &[u8]) -> bool {
+    let (machine, a_len, b_len) = (architecture.machine(), a.len(), b.len());
+    unsafe {
+        raw::linker_utils_same_but_for_nonnull(
+            machine,
+            r_type,
+            a.as_ptr(),
+            a_len,
+            b.as_ptr(),
+            b_len,
+        )
+    }
+}
+
+fn recognised(architecture: Architecture, found: &raw::Recognised) -> Recognised {
+    Recognised {
+        choice: choice_of(architecture, &found.choice),
+        offset: found.offset,
+        value: (found.value.end_bit != 0).then_some(found.value),
+    }
+}
+
+/// Which rewrites, and relocations after them, a linker may have made at a relocation.
+pub fn recognise(
+    architecture: Architecture,
+    r_type: u32,
+    windows: Windows<'_>,
+) -> Result<Vec<Recognised>, Status> {
+    let (mut found, mut count) = ([raw::Recognised::default(); names::CANDIDATES], 0);
+    let status = unsafe {
+        raw::linker_utils_recognise_nonnull(
+            architecture.machine(),
+            r_type,
+            windows.original.as_ptr(),
+            windows.original.len(),
+            windows.offset,
+            windows.others.as_ptr(),
+            windows.others.len(),
+            windows.linked.as_ptr(),
+            windows.linked.len(),
+            found.as_mut_ptr(),
+            found.len(),
+            &mut count,
+        )
+    };
+    result_of(status, ())?;
+    let found = found[..count].iter();
+    Ok(found.map(|found| recognised(architecture, found)).collect())
+}
+
+/// What `choose` returns by these facts, if it leaves the linked bytes; else `LeavesOtherBytes`.
+pub fn recognise_chosen(
+    architecture: Architecture,
+    r_type: u32,
+    windows: Windows<'_>,
+    facts: &LinkFacts,
+) -> Result<Recognised, Status> {
+    let (facts, mut found) = (raw::LinkFacts::from(facts), raw::Recognised::default());
+    let status = unsafe {
+        raw::linker_utils_recognise_chosen_nonnull(
+            architecture.machine(),
+            r_type,
+            windows.original.as_ptr(),
+            windows.original.len(),
+            windows.offset,
+            windows.others.as_ptr(),
+            windows.others.len(),
+            windows.linked.as_ptr(),
+            windows.linked.len(),
+            &facts,
+            &mut found,
+        )
+    };
+    result_of(status, ())?;
+    Ok(recognised(architecture, &found))
 }

@@ -5,7 +5,7 @@
 
 use std::fmt;
 
-// `NAME_SIZE`, and for each enum of the header a macro of its name
+// `NAME_SIZE`, `CANDIDATES`, and for each enum of the header a macro of its name
 include!(concat!(env!("OUT_DIR"), "/constants.rs"));
 
 macro_rules! numbered {
@@ -198,6 +198,12 @@ linker_utils_relocation_kind! { numbered
 linker_utils_mask! { numbered_or_none
     /// Which addresses of the formula are cut to their page of 4 KiB.
     PageMask: u32
+}
+
+linker_utils_reference! { numbered
+    /// Which address a relocation's value is computed from, in the letters that
+    /// `include/linker_utils.h` explains at `enum linker_utils_relocation_kind`.
+    Reference: u32
 }
 
 /// A form of instructions that hold a value.

@@ -1,8 +1,8 @@
 //! The static library's own symbols, as `include/linker_utils.h` declares them: what each of them
 //! requires of pointers and counts, and does, is said there. No pointer to a slice may be null.
 
-pub use crate::{BlockHead, Call, Deletion, Delta, Item, Operands, Relocation, SectionRelocation};
-pub use crate::{Shape, Shapes};
+pub use crate::{BlockHead, Call, Deletion, Delta, FieldBits, FieldValue, Item, Operands};
+pub use crate::{Relocation, SectionRelocation, Shape, Shapes};
 
 /// `struct linker_utils_relocation_info`.
 #[repr(C)]
@@ -64,6 +64,15 @@ pub struct Choice {
     pub deleted_len: u32,
     pub deleted_start: u64,
     pub n: u8,
+}
+
+/// `struct linker_utils_recognised`.
+#[repr(C)]
+#[derive(Debug, Clone, Copy, Default, PartialEq, Eq)]
+pub struct Recognised {
+    pub choice: Choice,
+    pub offset: u64,
+    pub value: FieldValue,
 }
 
 extern "C" {
@@ -417,5 +426,67 @@ extern "C" {
         packed: *mut u8,
         packed_len: usize,
         faulty: *mut usize,
+    ) -> u32;
+    pub fn linker_utils_read_value_nonnull(
+        machine: u16,
+        r_type: u32,
+        bytes: *const u8,
+        bytes_len: usize,
+        value: *mut FieldValue,
+    ) -> u32;
+    pub fn linker_utils_solve(
+        machine: u16,
+        r_type: u32,
+        value: *const FieldValue,
+        operands: *const Operands,
+        reference: *mut u32,
+        address: *mut FieldValue,
+    ) -> u32;
+    pub fn linker_utils_join(
+        high: *const FieldValue,
+        low: *const FieldValue,
+        whole: *mut FieldValue,
+    ) -> u32;
+    pub fn linker_utils_field_bits_nonnull(
+        machine: u16,
+        r_type: u32,
+        bytes: *const u8,
+        bytes_len: usize,
+        bits: *mut u64,
+    ) -> u32;
+    pub fn linker_utils_same_but_for_nonnull(
+        machine: u16,
+        r_type: u32,
+        a: *const u8,
+        a_len: usize,
+        b: *const u8,
+        b_len: usize,
+    ) -> bool;
+    pub fn linker_utils_recognise_nonnull(
+        machine: u16,
+        r_type: u32,
+        original: *const u8,
+        original_len: usize,
+        offset: u64,
+        others: *const FieldBits,
+        others_len: usize,
+        linked: *const u8,
+        linked_len: usize,
+        found: *mut Recognised,
+        found_len: usize,
+        count: *mut usize,
+    ) -> u32;
+    pub fn linker_utils_recognise_chosen_nonnull(
+        machine: u16,
+        r_type: u32,
+        original: *const u8,
+        original_len: usize,
+        offset: u64,
+        others: *const FieldBits,
+        others_len: usize,
+        linked: *const u8,
+        linked_len: usize,
+        facts: *const LinkFacts,
+        found: *mut Recognised,
     ) -> u32;
 }

@@ -105,6 +105,9 @@ fn type_of_c(text: &str) -> String {
         "struct linker_utils_shapes" => "Shapes",
         "struct linker_utils_item" => "Item",
         "struct linker_utils_section_relocation" => "SectionRelocation",
+        "struct linker_utils_field_value" => "FieldValue",
+        "struct linker_utils_window_bits" => "FieldBits",
+        "struct linker_utils_recognised" => "Recognised",
         other => panic!("the header has a type {other}"),
     };
     format!("{}{name}", if pointer { kind } else { "" })
@@ -209,15 +212,21 @@ enum Passed {
     Slice(String),
 }
 
-fn as_passed(kind: &str) -> Passed {
-    let element = |kind: &str| match kind.trim() {
+/// This crate's name of a type of the library's.
+fn element(kind: &str) -> String {
+    match kind.trim() {
         "RelaxDelta" => "Delta".to_string(),
         "RelocationNumbers" => "RelocationInfo".to_string(),
         "LinkFactNumbers" => "LinkFacts".to_string(),
         "ChoiceNumbers" => "Choice".to_string(),
         "ItemNumbers" => "Item".to_string(),
+        "FieldValueNumbers" => "FieldValue".to_string(),
+        "RecognisedNumbers" => "Recognised".to_string(),
         other => other.to_string(),
-    };
+    }
+}
+
+fn as_passed(kind: &str) -> Passed {
     if kind == "Global" {
         return Passed::Nothing;
     }
@@ -346,6 +355,8 @@ fn c_element(kind: &str, element: &str) -> String {
         "Relocation" => "struct linker_utils_relocation_entry".to_string(),
         "Item" => "struct linker_utils_item".to_string(),
         "SectionRelocation" => "struct linker_utils_section_relocation".to_string(),
+        "FieldBits" => "struct linker_utils_window_bits".to_string(),
+        "Recognised" => "struct linker_utils_recognised".to_string(),
         "usize" => "size_t".to_string(),
         number => format!("{}_t", number.replace('u', "uint")),
     };
@@ -584,6 +595,10 @@ fn the_numbers_are_those_of_the_library() {
     let mut masks = equations("linker_elf/specs/Numbers", "mask_number");
     assert_eq!(masks.remove("None"), Some(0));
     assert_eq!(numbers(PageMask::ALL, PageMask::number), masks);
+    assert_eq!(
+        numbers(Reference::ALL, Reference::number),
+        equations("linker_utils_c/specs/Reading", "reference_number")
+    );
 }
 
 #[test]
@@ -705,6 +720,9 @@ fn the_structs_are_those_of_the_library() {
         "linker_utils_section_relocation": SectionRelocation {
             offset, target, addend, r_type, has_symbol, has_target,
         }
+        "linker_utils_field_value": FieldValue { bits, rounding, first_bit, end_bit, }
+        "linker_utils_window_bits": FieldBits { offset, bits, }
+        "linker_utils_recognised": raw::Recognised { choice, offset, value, }
     };
     assert_eq!(of_header.collect::<Layout>(), of_crate);
 
@@ -715,7 +733,8 @@ fn the_structs_are_those_of_the_library() {
         + &repository("crates/linker_utils/src/riscv64/calls.rt")
         + &repository("crates/linker_elf/src/elf/value.rt")
         + &repository("crates/linker_elf/src/elf/numbers.rt")
-        + &repository("crates/linker_relax/src/relaxation.rt");
+        + &repository("crates/linker_relax/src/relaxation.rt")
+        + &repository("crates/linker_recognise/src/fields.rt");
     for (name, of_library) in [
         ("linker_utils_deletion", "Deletion"),
         ("linker_utils_call", "Call"),
@@ -731,6 +750,9 @@ fn the_structs_are_those_of_the_library() {
         ("linker_utils_shapes", "Shapes"),
         ("linker_utils_item", "ItemNumbers"),
         ("linker_utils_section_relocation", "SectionRelocation"),
+        ("linker_utils_field_value", "FieldValueNumbers"),
+        ("linker_utils_window_bits", "FieldBits"),
+        ("linker_utils_recognised", "RecognisedNumbers"),
     ] {
         let (before, rest) = library
             .split_once(&format!("\npub struct {of_library} {{"))
@@ -743,7 +765,7 @@ fn the_structs_are_those_of_the_library() {
             .filter_map(|line| line.trim().strip_prefix("pub "));
         let fields = fields.filter_map(|field| field.trim_end_matches(',').split_once(": "));
         let fields: Vec<_> = fields
-            .map(|(name, kind)| (name.to_string(), kind.to_string()))
+            .map(|(name, kind)| (name.to_string(), element(kind)))
             .collect();
         let of_header = structs[name].iter();
         let of_header = of_header.map(|(field, kind)| (name_in_rust(field), kind.clone()));

@@ -50,6 +50,26 @@ fn rows<const N: usize>(data: &str) -> Vec<[&str; N]> {
         .collect()
 }
 
+/// The offset and the type of a relocation of `data/linked.txt`, and what its value is computed from.
+fn linked(architecture: Architecture, text: &str, pc: &str, target: &str) -> (u64, u32, Operands) {
+    let (offset, r_type) = text.split_once(':').expect("an offset and a type");
+    let offset: u64 = offset.parse().expect("an offset");
+    let r_type = r_type.parse().expect("a type");
+    // a RISC-V low part has the place of its high part
+    let from_pc = if architecture == Architecture::RiscV {
+        0
+    } else {
+        offset
+    };
+    let operands = Operands {
+        symbol: address(target),
+        plt_entry: address(target),
+        place: address(pc) + from_pc,
+        ..Operands::default()
+    };
+    (offset, r_type, operands)
+}
+
 #[test]
 fn relocated_words_are_those_of_lld() {
     let rows = rows(include_str!("data/linked.txt"));
@@ -58,21 +78,7 @@ fn relocated_words_are_those_of_lld() {
         let architecture = architecture_of(machine);
         let mut section = bytes_of(before);
         let relocation = |text: &str| {
-            let (offset, r_type) = text.split_once(':').expect("an offset and a type");
-            let offset: u64 = offset.parse().expect("an offset");
-            let r_type = r_type.parse().expect("a type");
-            // a RISC-V low part has the place of its high part
-            let from_pc = if architecture == Architecture::RiscV {
-                0
-            } else {
-                offset
-            };
-            let operands = Operands {
-                symbol: address(target),
-                plt_entry: address(target),
-                place: address(pc) + from_pc,
-                ..Operands::default()
-            };
+            let (offset, r_type, operands) = linked(architecture, text, pc, target);
             let value = value(architecture, r_type, &operands).expect("it has a value");
             Relocation {
                 offset,
@@ -84,6 +90,89 @@ fn relocated_words_are_those_of_lld() {
         let done = relocate_all(architecture, &mut section, &relocations);
         assert_eq!(done, Ok(()), "{machine} {pc} {target} {before}");
         assert_eq!(section, bytes_of(after), "{machine} {pc} {target} {before}");
+    }
+}
+
+/// From each word that lld wrote the symbol's address is read back, as far as it is there.
+#[test]
+fn words_of_lld_lead_to_their_targets() {
+    let (mut whole, mut without) = (0, Vec::new());
+    for [machine, relocations, pc, target, _, after] in rows(include_str!("data/linked.txt")) {
+        let architecture = architecture_of(machine);
+        let section = bytes_of(after);
+        let target_address = address(target);
+        let mut joined: Option<FieldValue> = None;
+        for text in relocations.split(',') {
+            let (offset, r_type, operands) = linked(architecture, text, pc, target);
+            let known = read_value(architecture, r_type, &section[offset as usize..])
+                .and_then(|value| solve(architecture, r_type, &value, &operands));
+            let found = match known {
+                Ok((Reference::Symbol | Reference::PltEntry, found)) => found,
+                Err(Status::NoAddress) => {
+                    without.push(relocation_name(architecture, r_type).expect("a name"));
+                    continue;
+                }
+                other => panic!("{machine} {text}: {other:?}"),
+            };
+            assert!(
+                found.is_of(target_address),
+                "{machine} {text} {after} {found:?}"
+            );
+            let other = target_address.wrapping_add(1 << found.first_bit);
+            assert!(!found.is_of(other), "{machine} {text} {after} {found:?}");
+            joined = Some(match joined {
+                Some(high) => join(&high, &found).unwrap_or(found),
+                None => found,
+            });
+        }
+        if let Some(number) = joined.and_then(|known| known.number()) {
+            assert_eq!(number, target_address, "{machine} {relocations} {after}");
+            whole += 1;
+        }
+    }
+    assert!(whole > 0, "some words have their target whole");
+    // of LoongArch's upper halves of 64-bit addresses there is no inverse
+    without.sort();
+    without.dedup();
+    assert_eq!(without, ["R_LARCH_PCALA64_HI12", "R_LARCH_PCALA64_LO20"]);
+}
+
+/// What lld wrote is the relocation's field: all other bits are those of the object.
+#[test]
+fn words_of_lld_differ_in_their_fields_only() {
+    for [machine, relocations, pc, target, before, after] in rows(include_str!("data/linked.txt")) {
+        let architecture = architecture_of(machine);
+        let (object, section) = (bytes_of(before), bytes_of(after));
+        let mut others = vec![0xff_u8; section.len()];
+        for text in relocations.split(',') {
+            let (offset, r_type, _) = linked(architecture, text, pc, target);
+            let field = object[offset as usize..]
+                .iter()
+                .zip(&section[offset as usize..]);
+            let (a, b): (Vec<u8>, Vec<u8>) = field.take(8).unzip();
+            let bits = field_bits(architecture, r_type, &a).expect("the field is there");
+            let changed = |bytes: &[u8]| {
+                let shifts = (0..64).step_by(8);
+                let words = bytes.iter().zip(shifts);
+                words.fold(0, |sum, (byte, shift)| sum | u64::from(*byte) << shift)
+            };
+            for (at, byte) in bits.to_le_bytes().iter().enumerate().take(a.len()) {
+                others[offset as usize + at] &= !byte;
+            }
+            let is_alone = (changed(&a) ^ changed(&b)) & !bits == 0;
+            assert_eq!(
+                same_but_for(architecture, r_type, &a, &b),
+                is_alone,
+                "{machine} {after}"
+            );
+        }
+        for (at, mask) in others.iter().enumerate() {
+            assert_eq!(
+                object[at] & mask,
+                section[at] & mask,
+                "{machine} {relocations} {after}"
+            );
+        }
     }
 }
 
@@ -239,4 +328,57 @@ fn prefixed_words_are_those_of_llvm() {
             assert_eq!(read(Ppc64Form::Prefixed, &pair), Ok((value, false)));
         }
     }
+}
+
+/// A general-dynamic TLS sequence of GNU as's, and what GNU ld linked of it into a program.
+#[test]
+fn a_sequence_that_gnu_ld_rewrote_is_recognised() {
+    let original = bytes_of("66488d3d00000000666648e800000000c3");
+    let linked = bytes_of("64488b042500000000488d8048f3ffffc3");
+    let windows = Windows {
+        original: &original,
+        offset: 4,
+        others: &[],
+        linked: &linked,
+    };
+    // R_X86_64_TLSGD, and R_X86_64_TPOFF32
+    let found = recognise(Architecture::X86_64, 19, windows).expect("it is no long window");
+    assert_eq!(found.len(), 1);
+    let choice = &found[0].choice;
+    assert_eq!(choice.rewrite, X86_64Rewrite::TlsGdToLocalExec.into());
+    assert_eq!(choice.relocation, 23);
+    assert_eq!(choice.modifier, Modifier::SkipNextRelocation);
+    assert_eq!(found[0].offset, 12);
+    let value = found[0]
+        .value
+        .expect("the field has the offset from the thread pointer");
+    assert_eq!(value.number(), Some(-3256i64 as u64));
+
+    let mut facts = LinkFacts {
+        is_local: true,
+        is_executable: true,
+        ..LinkFacts::default()
+    };
+    facts.operands.addend = -4;
+    let chosen = recognise_chosen(Architecture::X86_64, 19, windows, &facts);
+    assert_eq!(chosen.as_ref(), Ok(&found[0]));
+    facts.is_executable = false;
+    let other = recognise_chosen(Architecture::X86_64, 19, windows, &facts);
+    assert_eq!(other, Err(Status::LeavesOtherBytes));
+
+    // with another operation on `%rax`
+    let mut altered = linked.clone();
+    altered[10] ^= 8;
+    let windows = Windows {
+        linked: &altered,
+        ..windows
+    };
+    assert_eq!(recognise(Architecture::X86_64, 19, windows), Ok(Vec::new()));
+    let long = [0; 65];
+    let windows = Windows {
+        original: &long,
+        ..windows
+    };
+    let error = recognise(Architecture::X86_64, 19, windows);
+    assert_eq!(error, Err(Status::WindowTooLong));
 }

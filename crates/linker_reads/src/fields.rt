@@ -2,7 +2,7 @@
 
 ghost use Rattle.std.specs.Prelude.{◌≡◌, ◌<◌, ◌^◌, ◌↔◌, ℕ, IfSome, IsTrue};
 ghost use Rattle.linker_base.specs.Bits.{field};
-ghost use Rattle.linker_reads.specs.Fields.{IsOf, whole_number};
+ghost use Rattle.linker_reads.specs.Fields.{IsOf, IsProper, whole_number};
 
 use linker_base::bit_misc::BitRange;
 
@@ -44,6 +44,18 @@ pub(crate) fn power_of_two(exponent: u8) -> u64
 }
 
 impl FieldValue {
+    /// Whether some bits are known, none above bit 63, and `bits` has no others. What `read`, `solve`
+    /// and `join` return is so, and the latter two require it.
+    pub fn is_proper(&self) -> bool
+        ensures { IsTrue result ↔ IsProper self.now }
+    {
+        if self.known.start >= self.known.end || self.known.end > 64 {
+            return false;
+        }
+        let (bits, count) = (self.bits, self.known.end - self.known.start);
+        count == 64 || bits < power_of_two(count)
+    }
+
     /// Whether a number has the known bits. Of a value, its 64 bits in two's complement are meant.
     pub fn is_of(&self, number: u64) -> bool
         ensures { IsTrue result ↔ IsOf self.now number }

@@ -179,9 +179,9 @@ fn without_rounding(field: FieldValue) -> FieldValue
 /// of TLS are read, whichever the formula takes off.
 ///
 /// With these, an address has the bits of the result exactly if its value has those of `field`. The
-/// row's bias is taken off. Of a row that takes the page of the address, bits 12 and up are known
-/// of the address plus the bias, which is the result's `rounding`. Where bit 0 is known the
-/// rounding is 0.
+/// row's bias is taken off. Where bit 0 is known the rounding is 0. Of a row that takes the page of
+/// the address, bits 12 and up are known, and the rounding is the bias less the page of the place
+/// or of the GOT.
 ///
 /// `None` of rows without an inverse, as `terms_of` says; and of a row of pages if `field` begins
 /// below bit 12.

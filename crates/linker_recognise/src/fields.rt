@@ -22,6 +22,7 @@ use linker_elf::elf::{
 };
 
 /// Some of the bits of the eight bytes from an offset of a window on.
+#[repr(C)]
 #[derive(Debug, Clone, Copy, PartialEq, Eq)]
 pub struct FieldBits {
     /// The offset in bytes.

@@ -1,4 +1,5 @@
 pub mod DeltaLists
+pub mod Found
 pub mod Relocating
 pub mod RelocationNumbers
 pub mod RunItems

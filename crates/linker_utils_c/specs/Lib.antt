@@ -3,6 +3,8 @@ pub mod Deltas
 pub mod Forms
 pub mod PackRuns
 pub mod Packing
+pub mod Reading
+pub mod Recognising
 pub mod Relaxing
 pub mod Relocate
 pub mod Relocations

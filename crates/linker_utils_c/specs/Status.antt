@@ -26,10 +26,14 @@ use Rattle.linker_utils_c.specs.declared.status.Status.TheVariants.{BadReach, Ba
 use Rattle.linker_utils_c.specs.declared.status.Status.TheVariants.{PowerBelowUnit, UnevenEnd}
 use Rattle.linker_utils_c.specs.declared.status.Status.TheVariants.{TooFewNops, UnevenNops}
 use Rattle.linker_utils_c.specs.declared.status.Status.TheVariants.{TargetInside}
+use Rattle.linker_utils_c.specs.declared.status.Status.TheVariants.{HoldsNoValue, BadFieldValue}
+use Rattle.linker_utils_c.specs.declared.status.Status.TheVariants.{NoAddress, NotHalves}
+use Rattle.linker_utils_c.specs.declared.status.Status.TheVariants.{WindowTooLong}
 use Rattle.linker_utils_c.specs.declared.status.Status.TheVariants.{ItemOutOfSection}
 use Rattle.linker_utils_c.specs.declared.status.Status.TheVariants.{NotItsFirstBytes}
 use Rattle.linker_utils_c.specs.declared.status.Status.TheVariants.{NotItsInstructions, NoShape}
 use Rattle.linker_utils_c.specs.declared.status.Status.TheVariants.{TargetOutOfReach}
+use Rattle.linker_utils_c.specs.declared.status.Status.TheVariants.{LeavesOtherBytes}
 
 abbrev pub code : Status → ℕ
 code Success = 0
@@ -78,11 +82,17 @@ code UnevenEnd = 44
 code TooFewNops = 45
 code UnevenNops = 46
 code TargetInside = 47
+code HoldsNoValue = 48
+code BadFieldValue = 49
+code NoAddress = 50
+code NotHalves = 51
+code WindowTooLong = 52
 code ItemOutOfSection = 53
 code NotItsFirstBytes = 54
 code NotItsInstructions = 55
 code NoShape = 56
 code TargetOutOfReach = 57
+code LeavesOtherBytes = 58
 
 -- the status is one of these
 abbrev pub IsOneOf : List Status → ℕ → Type 0

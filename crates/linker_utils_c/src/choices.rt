@@ -54,7 +54,7 @@ pub struct ChoiceNumbers {
 
 impl LinkFactNumbers {
     #[inline(always)]
-    fn facts(&self) -> LinkFacts
+    pub(crate) fn facts(&self) -> LinkFacts
         ensures { result ≡ facts_of self.now }
     {
         LinkFacts {
@@ -77,7 +77,7 @@ impl LinkFactNumbers {
 }
 
 #[inline(always)]
-fn in_numbers(chosen: Choice<Relaxation, u32>) -> ChoiceNumbers
+pub(crate) fn in_numbers(chosen: Choice<Relaxation, u32>) -> ChoiceNumbers
     ensures { IsChoiceInNumbers (relaxation_architecture chosen.kind) chosen result }
 {
     let (rewrite, n) = chosen.kind.number();

@@ -10,6 +10,8 @@ mod merges;
 mod pack_runs;
 mod packing;
 mod readers;
+mod reading;
+mod recognising;
 mod relaxing;
 mod relocate;
 mod relocations;

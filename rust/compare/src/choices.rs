@@ -47,7 +47,7 @@ pub struct ChoiceNumbers {
 
 impl LinkFactNumbers {
     #[inline(always)]
-    fn facts(&self) -> LinkFacts {
+    pub(crate) fn facts(&self) -> LinkFacts {
         LinkFacts {
             is_local: self.is_local != 0,
             is_ifunc: self.is_ifunc != 0,
@@ -68,7 +68,7 @@ impl LinkFactNumbers {
 }
 
 #[inline(always)]
-fn in_numbers(chosen: Choice<Relaxation, u32>) -> ChoiceNumbers {
+pub(crate) fn in_numbers(chosen: Choice<Relaxation, u32>) -> ChoiceNumbers {
     let (rewrite, n) = chosen.kind.number();
     let (deleted_start, deleted_len) = match chosen.kind.deleted() {
         Some(bytes) => (bytes.start, bytes.count),

@@ -3,6 +3,7 @@
 
 use crate::*;
 use linker_utils::elf::{Operands, RelocationNumbers};
+use linker_utils::recognise::FieldBits;
 use linker_utils::relaxation::{BlockHead, Call, RelaxDelta};
 use linker_utils::runs::relaxation::{Shape, Shapes};
 use linker_utils::runs::shapes::{fixed, loongarch64, riscv64};
@@ -37,6 +38,8 @@ struct Random {
     run: usize,
     /// How many bytes a section has, of which an output then has mostly as many or a few less.
     section: usize,
+    /// The window to which the next one is compared.
+    window: Vec<u8>,
 }
 
 impl Random {
@@ -98,6 +101,7 @@ impl Random {
         match name {
             "items" | "shapes" | "kept" | "places" if is_of_run => self.run,
             "freed" if is_of_run => self.run + 1,
+            "found" if is_of_run => 6,
             _ => self.below(5) as usize,
         }
     }
@@ -146,6 +150,8 @@ macro_rules! made {
                         "rd" => random.below(34),
                         "link" => random.below(3),
                         "base" if random.below(2) == 0 => 0,
+                        "bits" if random.below(2) == 0 => random.below(4),
+                        "rounding" if random.below(2) == 0 => 0,
                         _ => random.number(),
                     };
                     number as $kind
@@ -177,7 +183,11 @@ impl Seen for bool {
 
 impl Made for u8 {
     fn made(random: &mut Random, name: &str) -> u8 {
-        if name == "n" { random.below(8) as u8 } else { random.word() as u8 }
+        match name {
+            "n" => random.below(8) as u8,
+            "first_bit" | "end_bit" => [0, 0, 12, 12, 32, 64, 65][random.below(7) as usize],
+            _ => random.word() as u8,
+        }
     }
 
     /// Instructions that some call takes, and any bytes.
@@ -185,6 +195,12 @@ impl Made for u8 {
         if name == "shapes" {
             let len = random.len(name);
             return (0..len).map(|_| random.word() as u8).collect();
+        }
+        if matches!(name, "linked" | "b") && random.below(2) == 0 {
+            let mut bytes = random.window.clone();
+            let changed = random.below(2) as usize;
+            bytes.iter_mut().take(changed).for_each(|byte| *byte ^= 1);
+            return bytes;
         }
         const WORDS: [u32; 6] = [0x97, 0x80e7, 0xf940_0000, 0xf280_0021, 0x0080_8080, 0x0001_0537];
         let len = match name {
@@ -203,6 +219,9 @@ impl Made for u8 {
                 let chosen = if is_of_calls { index % 2 } else { random.below(6) as usize };
                 word.copy_from_slice(&WORDS[chosen].to_le_bytes());
             }
+        }
+        if matches!(name, "original" | "a") {
+            random.window.clone_from(&bytes);
         }
         bytes
     }
@@ -238,7 +257,7 @@ macro_rules! fields {
 
         impl Seen for $name {
             fn seen(&self) -> String {
-                [$(format!("{:?} ", self.$field)),*].concat()
+                [$(self.$field.seen() + " "),*].concat()
             }
         }
     };
@@ -247,6 +266,7 @@ macro_rules! fields {
 fields! { RelaxDelta: input_offset, bytes_deleted, cumulative_deleted, }
 fields! { BlockHead: input_offset, output_offset, }
 fields! { Call: site, target, }
+fields! { FieldBits: offset, bits, }
 fields! { Operands: symbol, addend, place, got_entry, got_base, plt_entry, symbol_size, tls_base, }
 fields! {
     RelocationNumbers: kind, form, mask, machine, is_bits, byte_size, first_bit, end_bit,
@@ -292,7 +312,13 @@ macro_rules! compare {
             unsafe extern "C" {
                 fn $name($($c)*) -> $result;
             }
-            let mut $random = Random { state: 0x9e37_79b9_7f4a_7c15, listed: None, run: 0, section: 0 };
+            let mut $random = Random {
+                state: 0x9e37_79b9_7f4a_7c15,
+                listed: None,
+                run: 0,
+                section: 0,
+                window: Vec::new(),
+            };
             let mut returned = Vec::new();
             for _ in 0..CALLS {
                 $($made)*

@@ -97,8 +97,19 @@ pub enum Status {
     UnevenNops,
     /// The target is strictly inside the bytes that an item may lose.
     TargetInside,
+    /// The relocation's field does not hold bits of its value.
+    HoldsNoValue,
+    /// No bits are known, or some above bit 63, or there are more bits than are known.
+    BadFieldValue,
+    /// No address is behind the relocation's value, or it is that of a page and known from below
+    /// bit 12.
+    NoAddress,
+    /// The low half does not have all bits below those of the high half, without rounding.
+    NotHalves,
+    /// The original bytes are more than 64.
+    WindowTooLong,
     /// The item is not in the section.
-    ItemOutOfSection = 53,
+    ItemOutOfSection,
     /// The bytes of the item that stay are not its first ones.
     NotItsFirstBytes,
     /// The instructions of the site are not those that its shapes stand for.
@@ -108,6 +119,8 @@ pub enum Status {
     /// The instruction of as many bytes as stay does not reach the target: it is too far, or its
     /// distance is not a multiple of what the instruction counts in.
     TargetOutOfReach,
+    /// The rewrite that is chosen leaves other bytes.
+    LeavesOtherBytes,
 }
 
 impl Status {

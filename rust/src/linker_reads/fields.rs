@@ -36,6 +36,17 @@ pub(crate) fn power_of_two(exponent: u8) -> u64 {
 }
 
 impl FieldValue {
+    /// Whether some bits are known, none above bit 63, and `bits` has no others. What `read`, `solve`
+    /// and `join` return is so, and the latter two require it.
+    #[must_use]
+    pub fn is_proper(&self) -> bool {
+        if self.known.start >= self.known.end || self.known.end > 64 {
+            return false;
+        }
+        let (bits, count) = (self.bits, self.known.end - self.known.start);
+        count == 64 || bits < power_of_two(count)
+    }
+
     /// Whether a number has the known bits. Of a value, its 64 bits in two's complement are meant.
     #[must_use]
     pub fn is_of(&self, number: u64) -> bool {

@@ -157,22 +157,24 @@ fn without_rounding(field: FieldValue) -> FieldValue {
 /// of TLS are read, whichever the formula takes off.
 ///
 /// With these, an address has the bits of the result exactly if its value has those of `field`. The
-/// row's bias is taken off. Of a row that takes the page of the address, bits 12 and up are known
-/// of the address plus the bias, which is the result's `rounding`. Where bit 0 is known the
-/// rounding is 0.
+/// row's bias is taken off. Where bit 0 is known the rounding is 0. Of a row that takes the page of
+/// the address, bits 12 and up are known, and the rounding is the bias less the page of the place
+/// or of the GOT.
 ///
 /// `None` of rows without an inverse, as `terms_of` says; and of a row of pages if `field` begins
 /// below bit 12.
 ///
 /// # Requires
 ///
-/// - `field` is what `read` returns of a row, or has its known bits only
+/// - `field.is_proper()`
 #[must_use]
+#[cfg_attr(debug_assertions, track_caller)]
 pub fn solve(
     row: &RelocationKindInfo,
     field: &FieldValue,
     operands: &Operands,
 ) -> Option<FieldValue> {
+    debug_assert!(field.is_proper());
     match terms_of(row.kind, row.size) {
         Some(terms) => {
             let base = base(terms.origin, row, operands);
@@ -201,10 +203,13 @@ pub fn solve(
 ///
 /// # Requires
 ///
-/// - high: `high` is what `read` or `solve` returns
-/// - low: so is `low`
+/// - high: `high.is_proper()`
+/// - low: `low.is_proper()`
 #[must_use]
+#[cfg_attr(debug_assertions, track_caller)]
 pub fn join(high: &FieldValue, low: &FieldValue) -> Option<FieldValue> {
+    debug_assert!(high.is_proper());
+    debug_assert!(low.is_proper());
     if low.known.start != 0 || low.rounding != 0 || low.known.end != high.known.start {
         return None;
     }

@@ -1,0 +1,101 @@
+-- What a linker made of a relocation that is named by numbers, and the bits of its field.
+use Rattle.std.specs.Prelude.{◌≡◌, ◌≢◌, ◌<◌, ◌≤◌, ◌==◌, ◌↔◌, ℕ, List, [], ◌∷◌, length, take, ⊤}
+use Rattle.std.specs.Prelude.{slice_index_or, Bool, Option, None, Some, IsTrue}
+use Rattle.std.specs.Int.{bit_at}
+use Rattle.linker_elf.specs.Relocate.{window_len}
+use Rattle.linker_elf.specs.declared.elf.RelocationKindInfo.{RelocationKindInfo}
+use Rattle.linker_reads.specs.declared.fields.FieldValue.{FieldValue}
+use Rattle.linker_recognise.specs.Fields.{is_field_bit, AreSameButFor}
+use Rattle.linker_recognise.specs.FoundByCode.{AreFound, IsFoundChosen}
+use Rattle.linker_recognise.specs.declared.engine.Made.{Made}
+use Rattle.linker_recognise.specs.declared.fields.FieldBits.{FieldBits}
+use Rattle.linker_utils.specs.Architectures.{relaxation_architecture}
+use Rattle.linker_utils.specs.declared.architecture.Relaxation.{Relaxation}
+use Rattle.linker_utils.specs.declared.elf.Architecture.{Architecture}
+use Rattle.linker_utils.specs.declared.elf.choice.LinkFacts.{LinkFacts}
+use Rattle.linker_utils_c.specs.Choices.{IsChoiceInNumbers}
+use Rattle.linker_utils_c.specs.Reading.{field_of}
+use Rattle.linker_utils_c.specs.Status.{code}
+use Rattle.linker_utils_c.specs.declared.recognising.RecognisedNumbers.{RecognisedNumbers}
+use Rattle.linker_utils_c.specs.declared.status.Status.TheVariants.{Success, UnknownRelocation}
+use Rattle.linker_utils_c.specs.declared.status.Status.TheVariants.{TooShort, DifferentLengths}
+use Rattle.linker_utils_c.specs.declared.status.Status.TheVariants.{WindowTooLong}
+use Rattle.linker_utils_c.specs.declared.status.Status.TheVariants.{LeavesOtherBytes}
+
+-- ---- the bits of a field
+
+-- the bits that a write of the row may change, if the bytes have its window
+pub record AreFieldBits (row : RelocationKindInfo) (bytes : List ℕ) (old bits status : ℕ)
+    : Type 0 where
+  pub short : length bytes < window_len row → (status ≡ code TooShort) × (bits ≡ old)
+  pub long : window_len row ≤ length bytes → (status ≡ code Success)
+      × ((w : ℕ) → w < 64 → (bit_at bits w == 1) ≡ is_field_bit row bytes w)
+
+abbrev pub AreBitsOf : Option RelocationKindInfo → List ℕ → ℕ → ℕ → ℕ → Type 0
+AreBitsOf None bytes old bits status = (status ≡ code UnknownRelocation) × (bits ≡ old)
+AreBitsOf (Some row) bytes old bits status = AreFieldBits row bytes old bits status
+
+-- whether two windows differ in the field of a row only
+abbrev pub IsSameAnswer : List ℕ → List ℕ → RelocationKindInfo → Bool → Type 0
+IsSameAnswer a b row answer = IsTrue answer ↔ AreSameButFor row a b
+
+-- ---- what was found, in numbers
+
+-- what is known of a value; no bits where nothing is
+abbrev pub field_or_none : Option FieldValue → FieldValue
+field_or_none None = record { known = record { start = 0; end = 0 }; bits = 0; rounding = 0 }
+field_or_none (Some f) = f
+
+pub record IsMadeInNumbers (m : Made Relaxation ℕ) (numbers : RecognisedNumbers) : Type 0 where
+  pub choice :
+      IsChoiceInNumbers (relaxation_architecture m.choice.kind) m.choice numbers.choice
+  pub offset : numbers.offset ≡ m.offset
+  pub value : field_of numbers.value ≡ field_or_none m.value
+
+-- each of a list, in its order
+abbrev pub AreInNumbers : List (Made Relaxation ℕ) → List RecognisedNumbers → Type 0
+AreInNumbers [] [] = ⊤
+AreInNumbers [] (numbers ∷ others) = ⊥
+AreInNumbers (m ∷ ms) [] = ⊥
+AreInNumbers (m ∷ ms) (numbers ∷ others) = IsMadeInNumbers m numbers × AreInNumbers ms others
+
+-- those that are there, in their order
+abbrev pub present : {A : Type 0} → List (Option A) → List A
+present [] = []
+present (None ∷ found) = present found
+present (Some a ∷ found) = a ∷ present found
+
+-- ---- recognising
+
+-- what was found is written first, and how many it is; the others stay
+pub record AreWritten (found : List (Option (Made Relaxation ℕ)))
+    (old new : List RecognisedNumbers) (count : ℕ) : Type 0 where
+  pub written : AreInNumbers (present found) (take count new)
+  pub others_stay : (k : ℕ) (numbers : RecognisedNumbers) → count ≤ k
+      → slice_index_or new k numbers ≡ slice_index_or old k numbers
+
+-- of an architecture's relocation, in a window of at most 64 bytes, into an array of 6
+pub record AreRecognised (architecture : Architecture) (r_type : ℕ) (original : List ℕ) (o : ℕ)
+    (others : List FieldBits) (linked : List ℕ) (old new : List RecognisedNumbers)
+    (old_count count status : ℕ) : Type 0 where
+  pub lengths : length old ≢ 6
+      → (status ≡ code DifferentLengths) × (new ≡ old) × (count ≡ old_count)
+  pub long : length old ≡ 6 → 64 < length original
+      → (status ≡ code WindowTooLong) × (new ≡ old) × (count ≡ old_count)
+  pub found : length old ≡ 6 → length original ≤ 64 → (status ≡ code Success)
+      × (made : List (Option (Made Relaxation ℕ)))
+      × AreFound architecture r_type original o others linked made × AreWritten made old new count
+
+-- what was found of the choice, or that it leaves other bytes
+abbrev pub IsChosenInNumbers : Option (Made Relaxation ℕ) → RecognisedNumbers → RecognisedNumbers
+    → ℕ → Type 0
+IsChosenInNumbers None old new status = (status ≡ code LeavesOtherBytes) × (new ≡ old)
+IsChosenInNumbers (Some m) old new status = (status ≡ code Success) × IsMadeInNumbers m new
+
+pub record IsRecognised (architecture : Architecture) (r_type : ℕ) (original : List ℕ) (o : ℕ)
+    (others : List FieldBits) (linked : List ℕ) (facts : LinkFacts) (old new : RecognisedNumbers)
+    (status : ℕ) : Type 0 where
+  pub long : 64 < length original → (status ≡ code WindowTooLong) × (new ≡ old)
+  pub found : length original ≤ 64 → (made : Option (Made Relaxation ℕ))
+      × IsFoundChosen architecture r_type original o others linked facts made
+      × IsChosenInNumbers made old new status

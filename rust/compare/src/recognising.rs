@@ -1,0 +1,199 @@
+// Made by tools/erase of crates/linker_utils_c/src/recognising.rt.
+//! What a linker made of a relocation, by the bytes before and after, and the bits of its field.
+
+use crate::choices::{ChoiceNumbers, LinkFactNumbers, in_numbers};
+use crate::reading::FieldValueNumbers;
+use crate::status::Status;
+use linker_utils::reading::FieldValue;
+use linker_utils::recognise::architecture::{recognise, recognise_chosen};
+use linker_utils::recognise::{FieldBits, field_bits, same_but_for};
+use linker_utils::recognise::{CANDIDATES, MAX_WINDOW, Made};
+use linker_utils::architecture::Relaxation;
+use linker_utils::elf::{Architecture, Row};
+
+/// Which bits of the bytes that `bytes` begins with a write of the relocation with `r_type` may
+/// change, bit 0 the lowest of the first byte, as `field_bits` of `linker_recognise` returns them.
+/// The first that applies of `UnknownArchitecture`; `UnknownRelocation`; `TooShort`.
+pub fn linker_utils_field_bits_nonnull(
+    machine: u16,
+    r_type: u32,
+    bytes: &[u8],
+    bits: &mut u64,
+) -> u32 {
+    let Some(architecture) = Architecture::from_machine(machine) else {
+        return Status::UnknownArchitecture.number();
+    };
+    match architecture.row(r_type) {
+        Some(meaning) => put_bits(&meaning, bytes, bits),
+        None => Status::UnknownRelocation.number(),
+    }
+}
+
+#[inline(always)]
+fn put_bits(row: &Row, bytes: &[u8], bits: &mut u64) -> u32 {
+    if bytes.len() < row.window() {
+        return Status::TooShort.number();
+    }
+    *bits = field_bits(row, bytes);
+    Status::Success.number()
+}
+
+/// Whether two windows of the same length, which begin with the field of the relocation with
+/// `r_type`, differ in the field only. False where the machine or the type is unknown, the lengths
+/// differ or the field isn't in the windows.
+pub fn linker_utils_same_but_for_nonnull(
+    machine: u16,
+    r_type: u32,
+    a: &[u8],
+    b: &[u8],
+) -> bool {
+    let Some(architecture) = Architecture::from_machine(machine) else {
+        return false;
+    };
+    match architecture.row(r_type) {
+        Some(meaning) => same_but_for(&meaning, a, b),
+        None => false,
+    }
+}
+
+/// A rewrite that leaves the linked bytes, in numbers.
+#[repr(C)]
+#[derive(Clone, Copy)]
+pub struct RecognisedNumbers {
+    /// The rewrite, the relocation after it and what is deleted.
+    pub choice: ChoiceNumbers,
+    /// The offset of that relocation's field in the linked bytes.
+    pub offset: u64,
+    /// What is known of its value from the field; no bits where nothing is.
+    pub value: FieldValueNumbers,
+}
+
+#[inline(always)]
+fn known_of(value: Option<FieldValue>) -> FieldValueNumbers {
+    match value {
+        Some(field) => FieldValueNumbers::of(field),
+        None => FieldValueNumbers {
+            bits: 0,
+            rounding: 0,
+            first_bit: 0,
+            end_bit: 0,
+        },
+    }
+}
+
+#[inline]
+fn numbers_of(made: Made<Relaxation, u32>) -> RecognisedNumbers {
+    RecognisedNumbers {
+        choice: in_numbers(made.choice),
+        offset: made.offset,
+        value: known_of(made.value),
+    }
+}
+
+/// Writes what was found, and returns how many it is.
+fn write_found(made: &[Option<Made<Relaxation, u32>>], found: &mut [RecognisedNumbers]) -> usize {
+    let mut count = 0;
+    for index in 0..made.len() {
+        if let Some(one) = made[index] {
+            found[count] = numbers_of(one);
+            count += 1;
+        }
+    }
+    count
+}
+
+/// Writes which rewrites, and relocations after them, a linker may have made at the relocation with
+/// `r_type`, whose offset in the original bytes is given, as `recognise` of `linker_recognise`.
+/// `count` is how many there are, and the elements of `found` from there on are unchanged.
+///
+/// `found` has 6 elements. The first that applies of `UnknownArchitecture`; `DifferentLengths`;
+/// `WindowTooLong`. Nothing is written then.
+pub fn linker_utils_recognise_nonnull(
+    machine: u16,
+    r_type: u32,
+    original: &[u8],
+    offset: u64,
+    others: &[FieldBits],
+    linked: &[u8],
+    found: &mut [RecognisedNumbers],
+    count: &mut usize,
+) -> u32 {
+    let Some(architecture) = Architecture::from_machine(machine) else {
+        return Status::UnknownArchitecture.number();
+    };
+    recognise_into(
+        architecture,
+        r_type,
+        original,
+        offset,
+        others,
+        linked,
+        found,
+        count,
+    )
+}
+
+fn recognise_into(
+    architecture: Architecture,
+    r_type: u32,
+    original: &[u8],
+    offset: u64,
+    others: &[FieldBits],
+    linked: &[u8],
+    found: &mut [RecognisedNumbers],
+    count: &mut usize,
+) -> u32 {
+    if found.len() != CANDIDATES {
+        return Status::DifferentLengths.number();
+    }
+    if original.len() > MAX_WINDOW {
+        return Status::WindowTooLong.number();
+    }
+    let made = recognise(architecture, r_type, original, offset, others, linked);
+    *count = write_found(&made, found);
+    Status::Success.number()
+}
+
+/// Writes the choice that `linker_utils_choose` makes by these facts, if it leaves the linked
+/// bytes, as `linker_utils_recognise` says. The first that applies of `UnknownArchitecture`;
+/// `WindowTooLong`; `LeavesOtherBytes`.
+pub fn linker_utils_recognise_chosen_nonnull(
+    machine: u16,
+    r_type: u32,
+    original: &[u8],
+    offset: u64,
+    others: &[FieldBits],
+    linked: &[u8],
+    facts: &LinkFactNumbers,
+    found: &mut RecognisedNumbers,
+) -> u32 {
+    let Some(architecture) = Architecture::from_machine(machine) else {
+        return Status::UnknownArchitecture.number();
+    };
+    if original.len() > MAX_WINDOW {
+        return Status::WindowTooLong.number();
+    }
+    put_chosen(
+        recognise_chosen(
+            architecture,
+            r_type,
+            original,
+            offset,
+            others,
+            linked,
+            &facts.facts(),
+        ),
+        found,
+    )
+}
+
+#[inline(always)]
+fn put_chosen(made: Option<Made<Relaxation, u32>>, found: &mut RecognisedNumbers) -> u32 {
+    match made {
+        Some(made) => {
+            *found = numbers_of(made);
+            Status::Success.number()
+        }
+        None => Status::LeavesOtherBytes.number(),
+    }
+}
