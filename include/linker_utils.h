@@ -52,7 +52,7 @@ extern "C" {
 #define LINKER_UTILS_STATUSES(STATUS) \
     STATUS(OK, 0, "The call did what it says.") \
     STATUS(UNKNOWN_ARCHITECTURE, 1, \
-           "No architecture has this machine number, or it has no instruction forms.") \
+           "No architecture has this machine number, or the call isn't for this architecture.") \
     STATUS(UNKNOWN_FORM, 2, "The architecture has no form with this number.") \
     STATUS(UNKNOWN_REWRITE, 3, "The architecture has no rewrite with this number.") \
     STATUS(UNKNOWN_RELOCATION, 4, \
@@ -118,7 +118,16 @@ extern "C" {
     STATUS(UNEVEN_NOPS, 46, \
            "The alignment has a limit, and its nops are not a multiple of the run's greatest " \
            "unit.") \
-    STATUS(TARGET_INSIDE, 47, "The target is strictly inside the bytes that an item may lose.")
+    STATUS(TARGET_INSIDE, 47, "The target is strictly inside the bytes that an item may lose.") \
+    STATUS(ITEM_OUT_OF_SECTION, 53, "The item is not in the section.") \
+    STATUS(NOT_ITS_FIRST_BYTES, 54, "The bytes of the item that stay are not its first ones.") \
+    STATUS(NOT_ITS_INSTRUCTIONS, 55, \
+           "The instructions of the site are not those that its shapes stand for.") \
+    STATUS(NO_SHAPE, 56, \
+           "No instruction, or no nops, have as many bytes as stay of the item.") \
+    STATUS(TARGET_OUT_OF_REACH, 57, \
+           "The instruction of as many bytes as stay does not reach the target: it is too far, " \
+           "or its distance is not a multiple of what the instruction counts in.")
 
 enum linker_utils_status {
 #define LINKER_UTILS_STATUS(name, number, text) LINKER_UTILS_##name = number,
@@ -896,6 +905,11 @@ static inline uint32_t linker_utils_deltas_merge(
     const struct linker_utils_deletion *additional, size_t additional_len,
     struct linker_utils_delta *merged, size_t merged_len, size_t *faulty);
 
+/* Whether the deltas are valid: they list deletions that `linker_utils_deltas_create` accepts, each
+ * with the sum of the bytes up to it. O(n). */
+static inline bool linker_utils_has_valid_deltas(const struct linker_utils_delta *deltas,
+                                                 size_t deltas_len);
+
 /* The sum of the bytes of all deletions. */
 static inline uint64_t linker_utils_deltas_total_deleted(const struct linker_utils_delta *deltas,
                                                          size_t deltas_len);
@@ -1154,6 +1168,48 @@ static inline uint32_t linker_utils_relax(
 static inline uint32_t linker_utils_run_deltas(
     const struct linker_utils_item *items, size_t items_len, const uint64_t *kept, size_t kept_len,
     struct linker_utils_delta *deltas, size_t deltas_len, size_t *len);
+
+/* How many bytes of a section of a relaxed run stay: as many as `linker_utils_pack_run` writes. The
+ * section has `section_len` bytes and begins at the input offset `base` of the run. 0 where the two
+ * add up to 2^64 or more. O(log n) for n deltas. */
+static inline size_t linker_utils_packed_run_len(uint64_t base, size_t section_len,
+                                                 const struct linker_utils_delta *deltas,
+                                                 size_t deltas_len);
+
+/* Packs a section of a relaxed run: writes the bytes that stay, in order, with the instructions of
+ * its sites and the nops of its alignments written anew. The section begins at the input offset
+ * `base` of the run. The run begins at the address `start` and loses what the deltas list, as
+ * `linker_utils_run_deltas` writes them; addresses are modulo 2^64. `items` are those of the run
+ * that lie in the section, in their order. Their targets may lie anywhere in the run.
+ *
+ * How many bytes of an item stay, which have to be its first ones, says what is written:
+ * - RISC-V: in place of a call, which is an auipc and a jalr, c.j where 2 bytes stay and the jalr
+ *   links x0, jal with the link register of the jalr where 4 stay, and where 8 stay the call with
+ *   R_RISCV_CALL_PLT applied. In place of nops as many bytes of nop, and at most one c.nop at the
+ *   end.
+ * - LoongArch: where 4 bytes stay, b in place of a pcaddu18i and a jirl that links none, bl in place
+ *   of those that link ra, and pcaddi with the register of the addi.d in place of a pcalau12i and an
+ *   addi.d. Where 8 stay, the two with R_LARCH_CALL36, or R_LARCH_PCALA_HI20 and R_LARCH_PCALA_LO12,
+ *   applied. In place of nops andi zero, zero, 0, of 4 bytes.
+ * Each goes from the address where its site goes to the one where the target goes, or makes that
+ * address; a call with R_RISCV_CALL_PLT leaves out bit 0 of it. What stays of a site with one shape
+ * isn't changed.
+ *
+ * LINKER_UTILS_UNKNOWN_ARCHITECTURE for each machine except for LINKER_UTILS_RISCV and
+ * LINKER_UTILS_LOONGARCH64.
+ * LINKER_UTILS_ENDS_TOO_HIGH where `base` and `section_len` add up to 2^64 or more.
+ * LINKER_UTILS_DIFFERENT_LENGTHS where `packed_len` is not `linker_utils_packed_run_len`.
+ * LINKER_UTILS_OUT_OF_MEMORY where a copy of the items can't be allocated. Else `faulty` is the
+ * first item that can't be written, and the status the first that applies to it of
+ * LINKER_UTILS_ITEMS_OVERLAP, LINKER_UTILS_ITEM_OUT_OF_SECTION, LINKER_UTILS_NOT_ITS_FIRST_BYTES,
+ * LINKER_UTILS_NOT_ITS_INSTRUCTIONS, LINKER_UTILS_NO_SHAPE and LINKER_UTILS_TARGET_OUT_OF_REACH, of
+ * which only the first two can be of a site with one shape. For k items and n deltas it takes O(k
+ * log n), and a step for each byte of the section and each delta in it. */
+static inline uint32_t linker_utils_pack_run(
+    uint16_t machine, const uint8_t *section, size_t section_len, uint64_t base,
+    const struct linker_utils_item *items, size_t items_len,
+    const struct linker_utils_delta *deltas, size_t deltas_len, uint64_t start, uint8_t *packed,
+    size_t packed_len, size_t *faulty);
 
 #include "linker_utils_inline.h"
 

@@ -257,6 +257,14 @@ static inline uint32_t linker_utils_deltas_merge(const struct linker_utils_delta
         faulty ? faulty : &ignored);
 }
 
+bool linker_utils_has_valid_deltas_nonnull(const struct linker_utils_delta *deltas,
+                                           size_t deltas_len);
+static inline bool linker_utils_has_valid_deltas(const struct linker_utils_delta *deltas,
+                                                 size_t deltas_len) {
+    return linker_utils_has_valid_deltas_nonnull(
+        LINKER_UTILS_SLICE(const struct linker_utils_delta, deltas), deltas_len);
+}
+
 uint64_t linker_utils_deltas_total_deleted_nonnull(const struct linker_utils_delta *deltas,
                                                    size_t deltas_len);
 static inline uint64_t linker_utils_deltas_total_deleted(const struct linker_utils_delta *deltas,
@@ -465,6 +473,34 @@ static inline uint32_t linker_utils_run_deltas(
         LINKER_UTILS_SLICE(const struct linker_utils_item, items), items_len,
         LINKER_UTILS_SLICE(const uint64_t, kept), kept_len,
         LINKER_UTILS_SLICE(struct linker_utils_delta, deltas), deltas_len, len);
+}
+
+size_t linker_utils_packed_run_len_nonnull(uint64_t base, size_t section_len,
+                                           const struct linker_utils_delta *deltas,
+                                           size_t deltas_len);
+static inline size_t linker_utils_packed_run_len(uint64_t base, size_t section_len,
+                                                 const struct linker_utils_delta *deltas,
+                                                 size_t deltas_len) {
+    return linker_utils_packed_run_len_nonnull(
+        base, section_len, LINKER_UTILS_SLICE(const struct linker_utils_delta, deltas), deltas_len);
+}
+
+uint32_t linker_utils_pack_run_nonnull(
+    uint16_t machine, const uint8_t *section, size_t section_len, uint64_t base,
+    const struct linker_utils_item *items, size_t items_len,
+    const struct linker_utils_delta *deltas, size_t deltas_len, uint64_t start, uint8_t *packed,
+    size_t packed_len, size_t *faulty);
+static inline uint32_t linker_utils_pack_run(
+    uint16_t machine, const uint8_t *section, size_t section_len, uint64_t base,
+    const struct linker_utils_item *items, size_t items_len,
+    const struct linker_utils_delta *deltas, size_t deltas_len, uint64_t start, uint8_t *packed,
+    size_t packed_len, size_t *faulty) {
+    size_t ignored;
+    return linker_utils_pack_run_nonnull(
+        machine, LINKER_UTILS_SLICE(const uint8_t, section), section_len, base,
+        LINKER_UTILS_SLICE(const struct linker_utils_item, items), items_len,
+        LINKER_UTILS_SLICE(const struct linker_utils_delta, deltas), deltas_len, start,
+        LINKER_UTILS_SLICE(uint8_t, packed), packed_len, faulty ? faulty : &ignored);
 }
 
 #undef LINKER_UTILS_SLICE

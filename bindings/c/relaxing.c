@@ -1,5 +1,5 @@
 /* Relaxing: a section whose relocations allow it. Makes its items of the relocations, chooses what
- * becomes shorter and how many nops its alignment keeps, and writes the bytes that are left. */
+ * becomes shorter and how many nops its alignment keeps, and packs the section. */
 #include <elf.h>
 #include <stdio.h>
 #include <string.h>
@@ -21,10 +21,9 @@ int main(void) {
     struct linker_utils_section_relocation relocations[RELOCATIONS];
     struct linker_utils_item items[RELOCATIONS];
     struct linker_utils_delta deltas[RELOCATIONS];
-    struct linker_utils_call jumps[RELOCATIONS];
     uint8_t shapes[RELOCATIONS], packed[18];
     uint64_t kept[RELOCATIONS], freed[RELOCATIONS + 1];
-    size_t places[RELOCATIONS], faulty, count, deltas_len, jumps_len = 0;
+    size_t places[RELOCATIONS], faulty, count, deltas_len;
     uint32_t status;
 
     memset(relocations, 0, sizeof relocations);
@@ -51,19 +50,15 @@ int main(void) {
     }
     if (linker_utils_run_deltas(items, count, kept, count, deltas, count, &deltas_len)) return 1;
     for (size_t i = 0; i < count; i++) {
-        bool is_call = items[i].kind == LINKER_UTILS_ITEM_SITE;
-        printf("%s at %d: %d of %d bytes stay\n", is_call ? "call" : "nops",
-               (int)items[i].offset, (int)kept[i], (int)items[i].len);
-        if (is_call && kept[i] == 4) {
-            jumps[jumps_len].site = items[i].offset;
-            jumps[jumps_len++].target = items[i].target;
-        }
+        printf("%s at %d: %d of %d bytes stay\n",
+               items[i].kind == LINKER_UTILS_ITEM_SITE ? "call" : "nops", (int)items[i].offset,
+               (int)kept[i], (int)items[i].len);
     }
-    size_t len = linker_utils_packed_len(section, sizeof section, deltas, deltas_len);
-    status = linker_utils_pack(section, sizeof section, deltas, deltas_len, jumps, jumps_len,
-                               LINKER_UTILS_LINK_OF_JALR, packed, len, &faulty);
+    size_t len = linker_utils_packed_run_len(0, sizeof section, deltas, deltas_len);
+    status = linker_utils_pack_run(LINKER_UTILS_RISCV, section, sizeof section, 0, items, count,
+                                   deltas, deltas_len, 0, packed, len, &faulty);
     if (status != LINKER_UTILS_OK) {
-        fprintf(stderr, "jump %zu: %s\n", faulty, linker_utils_status_text(status));
+        fprintf(stderr, "item %zu: %s\n", faulty, linker_utils_status_text(status));
         return 1;
     }
     print("before", section, sizeof section);

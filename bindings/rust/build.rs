@@ -17,6 +17,8 @@ fn main() {
         "linker_relax",
         "linker_utils",
         "linker_runs",
+        "linker_pack",
+        "relocation_laws",
         "linker_utils_c",
     ] {
         println!("cargo:rerun-if-changed=../../crates/{library}/src");

@@ -47,12 +47,14 @@ pub mod reading {
     pub use crate::linker_reads::solving::{Origin, Reference, Terms, join, solve, terms_of};
 }
 
-/// What a linker made of a relocation, by the bytes before and after: which rewrite, and which
-/// relocation it then wrote.
+/// What a linker made of a relocation, by the bytes before and after: which rewrite, which
+/// relocation it then wrote, and what stands in its field.
 pub mod recognise {
-    pub use crate::linker_recognise::fields::{FieldBits, field_bits, same_but_for};
-    pub use crate::linker_recognise::{CANDIDATES, MAX_WINDOW};
-    pub use crate::linker_recognise::{aarch64, loongarch64, ppc64, riscv64, x86_64};
+    pub use crate::linker_recognise::fields::{
+        FieldBits, field_bits, same_but_for, writes_change_fields,
+    };
+    pub use crate::linker_recognise::{CANDIDATES, MAX_WINDOW, Made};
+    pub use crate::linker_recognise::{aarch64, architecture, loongarch64, ppc64, riscv64, x86_64};
 }
 
 pub mod aarch64;

@@ -1,8 +1,9 @@
 // Made by tools/erase of crates/linker_recognise/src/lib.rt.
-//! What a linker made of a relocation, by the bytes before and after: which rewrite, and which
-//! relocation it then wrote.
+//! What a linker made of a relocation, by the bytes before and after: which rewrite, which
+//! relocation it then wrote, and what stands in its field.
 
 pub mod aarch64;
+pub mod architecture;
 mod candidates;
 mod engine;
 pub mod fields;
@@ -14,4 +15,4 @@ mod tests;
 pub mod x86_64;
 
 pub use candidates::CANDIDATES;
-pub use engine::MAX_WINDOW;
+pub use engine::{MAX_WINDOW, Made};

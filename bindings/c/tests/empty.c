@@ -43,6 +43,7 @@ int main(void) {
     EXPECT(OK, deltas_create(NULL, 0, NULL, 0, NULL));
     EXPECT(OK, deltas_is_mergeable(NULL, 0, NULL, 0));
     EXPECT(OK, deltas_merge(NULL, 0, NULL, 0, NULL, 0, NULL));
+    if (!linker_utils_has_valid_deltas(NULL, 0)) failures++;
     if (linker_utils_deltas_total_deleted(NULL, 0) != 0) failures++;
     if (linker_utils_deltas_input_to_output(NULL, 0, 5) != 5) failures++;
     EXPECT(OK, deltas_output_to_input(NULL, 0, 5, &value));
@@ -56,5 +57,7 @@ int main(void) {
     EXPECT(UNKNOWN_LINK_REGISTER, pack(NULL, 0, NULL, 0, NULL, 0, 2, NULL, 0, NULL));
     EXPECT(OK, calls_shrinkable(NULL, 0, NULL, 0, NULL));
     EXPECT(OK, shrink_calls(NULL, 0, NULL, 0, NULL, 0, NULL));
+    if (linker_utils_packed_run_len(0, 0, NULL, 0) != 0) failures++;
+    EXPECT(OK, pack_run(LINKER_UTILS_RISCV, NULL, 0, 0, NULL, 0, NULL, 0, 0, NULL, 0, NULL));
     return failures != 0;
 }

@@ -270,16 +270,17 @@ static void *output(size_t size) {
 
 /* Bytes, of which some are the instructions of calls. */
 static struct buffer *bytes(enum use use, size_t len) {
-    static const uint32_t words[8] = {0x00000097, 0x000080e7, 0x00000317, 0x00030067,
-                                      0xf9400421, 0xf9400021, 0x00000013, 0x80808080};
+    static const uint32_t words[12] = {0x00000097, 0x000080e7, 0x00000317, 0x00030067,
+                                       0x1e000001, 0x4c000021, 0x1a000004, 0x02c00084,
+                                       0xf9400421, 0xf9400021, 0x00000013, 0x80808080};
     struct buffer *buffer = place(use, len, 1);
     uint8_t *at = filled(buffer);
     for (size_t i = 0; i < len; i++) at[i] = (uint8_t)(once_in(8) ? 0x80 : any());
     size_t pairs = once_in(2) ? len / 8 : 0;
     for (size_t i = 0; i < pairs; i++) {
-        size_t word = once_in(2) ? 2 * below(4) : below(8);
+        size_t word = once_in(2) ? 2 * below(6) : below(12);
         for (size_t k = 0; k < 8; k++) {
-            at[8 * i + k] = (uint8_t)(words[(word + k / 4) % 8] >> 8 * (k % 4));
+            at[8 * i + k] = (uint8_t)(words[(word + k / 4) % 12] >> 8 * (k % 4));
         }
     }
     return buffer;
@@ -844,6 +845,23 @@ static void call_deltas_merge(void) {
                             OR(OUT_OF_MEMORY));
 }
 
+static void call_has_valid_deltas(void) {
+    struct buffer *listed = deltas(any_count());
+    bool are_valid = CALL(has_valid_deltas, DELTAS(listed));
+    const struct linker_utils_delta *at = filled(listed);
+    uint64_t end = 0, sum = 0;
+    bool expected = true;
+    for (size_t i = 0; i < LEN(listed, struct linker_utils_delta); i++) {
+        sum += at[i].bytes_deleted;
+        expected &= at[i].input_offset >= end && at[i].cumulative_deleted == sum &&
+                    at[i].input_offset <= UINT64_MAX - at[i].bytes_deleted &&
+                    (i == 0 || at[i].input_offset > at[i - 1].input_offset);
+        end = at[i].input_offset + at[i].bytes_deleted;
+    }
+    expect(are_valid == expected, "other deltas are valid");
+    finish(true);
+}
+
 static void call_deltas_total_deleted(void) {
     struct buffer *listed = deltas(any_count());
     uint64_t total = CALL(deltas_total_deleted, DELTAS(listed));
@@ -1146,6 +1164,74 @@ static void call_loongarch_items(void) {
     call_section_items(false);
 }
 
+/* A section of a run, items that mostly are calls and nops in it, and deltas that mostly are theirs. */
+static void call_pack_run(void) {
+    size_t section_len = any_section_len(), count = any_len(4), lost_len = 0;
+    struct buffer *section = bytes(READ, section_len);
+    struct buffer *items = place(READ, count, sizeof(struct linker_utils_item));
+    struct linker_utils_item *item = filled(items);
+    struct linker_utils_delta lost[4];
+    uint64_t base = once_in(8) ? any_number() : 4 * below(4), offset = base, sum = 0;
+    for (size_t i = 0; i < count; i++) {
+        bool is_call = !once_in(3);
+        uint32_t len = is_call || once_in(2) ? 8 : 2 * (uint32_t)below(8);
+        uint32_t kept = is_call ? (uint32_t)2 << below(3) : 2 * (uint32_t)below(5);
+        if (once_in(16)) kept = (uint32_t)below(9);
+        if (once_in(4)) offset += once_in(4) ? below(8) : 8;
+        item[i] = (struct linker_utils_item){
+            .offset = once_in(32) ? any_number() : offset,
+            .target = once_in(8) ? any_number() : base + 2 * below(64),
+            .power = 8,
+            .len = once_in(32) ? (uint32_t)any_number() : len,
+            .kind = is_call ? LINKER_UTILS_ITEM_SITE : 1 + (uint32_t)below(2),
+            .shapes = any_shapes(),
+        };
+        if (kept < len) {
+            sum += len - kept;
+            lost[lost_len++] = (struct linker_utils_delta){
+                once_in(16) ? offset : offset + kept, sum, len - kept};
+        }
+        offset += len;
+    }
+    struct buffer *listed;
+    if (once_in(4)) {
+        listed = deltas(any_count());
+    } else {
+        listed = place(READ, lost_len, sizeof *lost);
+        memcpy(filled(listed), lost, lost_len * sizeof *lost);
+    }
+    size_t wanted = CALL(packed_run_len, base, section_len, DELTAS(listed));
+    finish_buffers(false);
+    bool is_high = section_len > UINT64_MAX - base;
+    expect(!is_high || wanted == 0, "has a length above 2^64 - 1");
+    size_t len = wanted > BUFFER_LEN || once_in(8) ? any_len(40) : wanted;
+    struct buffer *packed = bytes(WRITTEN, len);
+    size_t *faulty = any_faulty();
+    uint16_t machine = once_in(4)   ? any_machine()
+                       : once_in(3) ? LINKER_UTILS_LOONGARCH64
+                                    : LINKER_UTILS_RISCV;
+    bool is_packed = machine == LINKER_UTILS_RISCV || machine == LINKER_UTILS_LOONGARCH64;
+    uint32_t status = CALL(pack_run, machine, section->given, section_len, base, ITEMS(items),
+                           DELTAS(listed), any_number(), packed->given, len, faulty);
+    expect((status == LINKER_UTILS_UNKNOWN_ARCHITECTURE) == !is_packed, "another machine");
+    expect((status == LINKER_UTILS_ENDS_TOO_HIGH) == (is_packed && is_high), "another end");
+    expect((status == LINKER_UTILS_DIFFERENT_LENGTHS) == (is_packed && !is_high && len != wanted),
+           "another length");
+    expect(was_refused == (status == LINKER_UTILS_OUT_OF_MEMORY), "tells nothing of memory");
+    finish_faulty(faulty,
+                  status != LINKER_UTILS_OK && status != LINKER_UTILS_UNKNOWN_ARCHITECTURE &&
+                      status != LINKER_UTILS_ENDS_TOO_HIGH &&
+                      status != LINKER_UTILS_DIFFERENT_LENGTHS &&
+                      status != LINKER_UTILS_OUT_OF_MEMORY,
+                  count);
+    expect(live == 0, "keeps memory");
+    allocations = 0;
+    finish_with(status, 0 OR(UNKNOWN_ARCHITECTURE) OR(ENDS_TOO_HIGH) OR(DIFFERENT_LENGTHS)
+                            OR(OUT_OF_MEMORY) OR(ITEMS_OVERLAP) OR(ITEM_OUT_OF_SECTION)
+                            OR(NOT_ITS_FIRST_BYTES) OR(NOT_ITS_INSTRUCTIONS) OR(NO_SHAPE)
+                            OR(TARGET_OUT_OF_REACH));
+}
+
 static void (*const all[])(void) = {
     call_status_text, call_window, call_write, call_read, call_apply, call_matches,
     call_choose,
@@ -1155,9 +1241,10 @@ static void (*const all[])(void) = {
     call_tests, call_write_mov_sequence, call_write_address_sequence, call_write_ha_lo,
     call_u32_from_slice, call_u64_from_slice, call_read_u32, call_read_uleb128, call_write_uleb128,
     call_deltas_create,
-    call_deltas_merge, call_deltas_total_deleted, call_translations, call_deltas_translate_all,
+    call_deltas_merge, call_has_valid_deltas, call_deltas_total_deleted, call_translations,
+    call_deltas_translate_all,
     call_deltas_heads, call_pack, call_shrink_calls, call_named_shapes, call_relax, call_run_deltas,
-    call_riscv_items, call_loongarch_items,
+    call_riscv_items, call_loongarch_items, call_pack_run,
 };
 
 int main(int count, char **arguments) {

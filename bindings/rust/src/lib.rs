@@ -727,6 +727,12 @@ pub fn deltas_merge(
     })
 }
 
+/// Whether the deltas are valid: they list deletions that `deltas_create` accepts, each with the sum of
+/// the bytes up to it.
+pub fn has_valid_deltas(deltas: &[Delta]) -> bool {
+    unsafe { raw::linker_utils_has_valid_deltas_nonnull(deltas.as_ptr(), deltas.len()) }
+}
+
 /// The bytes that all deletions take together.
 pub fn deltas_total_deleted(deltas: &[Delta]) -> u64 {
     unsafe { raw::linker_utils_deltas_total_deleted_nonnull(deltas.as_ptr(), deltas.len()) }
@@ -893,7 +899,8 @@ pub fn named_shapes(name: ShapesName) -> Shapes {
     result_of(status, shapes).expect("the library has them")
 }
 
-/// An error of a call that makes items: `EndsTooHigh` is of the section there, not of an entry.
+/// An error of a call over a section of a run: `EndsTooHigh` is of the section there, not of an
+/// entry.
 fn of_section(error: ArrayError) -> ArrayError {
     match error.status {
         Status::EndsTooHigh => error.status.into(),
@@ -1013,4 +1020,45 @@ pub fn run_deltas(items: &[Item], kept: &[u64], deltas: &mut [Delta]) -> Result<
         )
     };
     result_of(status, len)
+}
+
+/// How many bytes of a section of a relaxed run stay: as many as `pack_run` writes. The section
+/// begins at the input offset `base` of the run. 0 where that and its length add up to 2^64 or
+/// more.
+pub fn packed_run_len(base: u64, section_len: usize, deltas: &[Delta]) -> usize {
+    let (at, len) = (deltas.as_ptr(), deltas.len());
+    unsafe { raw::linker_utils_packed_run_len_nonnull(base, section_len, at, len) }
+}
+
+/// Packs a section of a relaxed run, which begins at the input offset `base` of the run: writes the
+/// bytes that stay, in order, with the instructions of its sites and the nops of its alignments
+/// written anew. The run begins at the address `start` and loses what `deltas` list. `items` are
+/// the run's items that lie in the section. The entry at fault is the first of them that can't be
+/// written.
+pub fn pack_run(
+    architecture: Architecture,
+    section: &[u8],
+    base: u64,
+    items: &[Item],
+    deltas: &[Delta],
+    start: u64,
+    packed: &mut [u8],
+) -> Result<(), ArrayError> {
+    result_over(|faulty| unsafe {
+        raw::linker_utils_pack_run_nonnull(
+            architecture.machine(),
+            section.as_ptr(),
+            section.len(),
+            base,
+            items.as_ptr(),
+            items.len(),
+            deltas.as_ptr(),
+            deltas.len(),
+            start,
+            packed.as_mut_ptr(),
+            packed.len(),
+            faulty,
+        )
+    })
+    .map_err(of_section)
 }

@@ -261,6 +261,7 @@ extern "C" {
         merged_len: usize,
         faulty: *mut usize,
     ) -> u32;
+    pub fn linker_utils_has_valid_deltas_nonnull(deltas: *const Delta, deltas_len: usize) -> bool;
     pub fn linker_utils_deltas_total_deleted_nonnull(
         deltas: *const Delta,
         deltas_len: usize,
@@ -396,5 +397,25 @@ extern "C" {
         deltas: *mut Delta,
         deltas_len: usize,
         len: *mut usize,
+    ) -> u32;
+    pub fn linker_utils_packed_run_len_nonnull(
+        base: u64,
+        section_len: usize,
+        deltas: *const Delta,
+        deltas_len: usize,
+    ) -> usize;
+    pub fn linker_utils_pack_run_nonnull(
+        machine: u16,
+        section: *const u8,
+        section_len: usize,
+        base: u64,
+        items: *const Item,
+        items_len: usize,
+        deltas: *const Delta,
+        deltas_len: usize,
+        start: u64,
+        packed: *mut u8,
+        packed_len: usize,
+        faulty: *mut usize,
     ) -> u32;
 }

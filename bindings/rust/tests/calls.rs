@@ -1112,6 +1112,7 @@ fn any_array_of_deltas_is_safe() {
         let _ = relax_call(&mut CALL.clone(), &odd, 0, offset);
     }
     let _ = deltas_total_deleted(&odd);
+    assert!(!has_valid_deltas(&odd));
 }
 
 #[test]
@@ -1452,4 +1453,112 @@ fn relaxes_runs() {
             ([9; 2], [9; 2], [9; 2], [9; 3])
         );
     }
+}
+
+#[test]
+fn packs_sections_of_runs() {
+    // `call f`, `tail f`, the nops of `.p2align 3`, and `f: ret`, as GNU as assembles them, and as
+    // GNU ld and ld.lld link them at 0x10000
+    let section = [
+        0x97, 0x00, 0x00, 0x00, 0xe7, 0x80, 0x00, 0x00, 0x17, 0x03, 0x00, 0x00, 0x67, 0x00, 0x03,
+        0x00, 0x01, 0x00, 0x13, 0x00, 0x00, 0x00, 0x82, 0x80,
+    ];
+    let linked = [0xef, 0x00, 0x80, 0x00, 0x11, 0xa0, 0x01, 0x00, 0x82, 0x80];
+    let (base, start, f) = (0x100, 0xff00, 0x116);
+    let call = named_shapes(ShapesName::RiscVCall);
+    let tail = named_shapes(ShapesName::RiscVTailC);
+    let items = [
+        Item::site(0x100, 8, f, call),
+        Item::site(0x108, 8, f, tail),
+        Item::alignment(0x110, 6, 8, None),
+    ];
+    let lost = deltas(&[(0x104, 4), (0x10a, 6), (0x112, 4)]);
+    let pack = |base, items: &[Item], packed: &mut [u8]| {
+        pack_run(
+            Architecture::RiscV,
+            &section,
+            base,
+            items,
+            &lost,
+            start,
+            packed,
+        )
+    };
+    assert!(has_valid_deltas(&lost));
+    assert_eq!(packed_run_len(base, section.len(), &lost), linked.len());
+    let mut packed = [0; 10];
+    assert_eq!(pack(base, &items, &mut packed), Ok(()));
+    assert_eq!(packed, linked);
+
+    // each reason why the second item isn't written
+    let rejected = [
+        (Item::site(0x107, 8, f, tail), Status::ItemsOverlap),
+        (Item::alignment(0x113, 6, 8, None), Status::ItemOutOfSection),
+        (Item::site(0x10c, 8, f, tail), Status::NotItsFirstBytes),
+        (Item::site(0x108, 4, f, tail), Status::NotItsInstructions),
+        (Item::alignment(0x111, 5, 8, None), Status::NoShape),
+        (Item::site(0x108, 8, f + 1, tail), Status::TargetOutOfReach),
+    ];
+    let mut packed = [0xaa; 10];
+    for (item, status) in rejected {
+        let result = pack(base, &[items[0], item], &mut packed);
+        assert_eq!(result, Err(at(1, status)));
+    }
+    let different = Err(failure(Status::DifferentLengths));
+    assert_eq!(pack(base, &items, &mut packed[..9]), different);
+    let high = u64::MAX - 22;
+    assert_eq!(
+        pack(high, &items, &mut packed),
+        Err(failure(Status::EndsTooHigh))
+    );
+    let other = pack_run(
+        Architecture::AArch64,
+        &section,
+        base,
+        &items,
+        &lost,
+        start,
+        &mut packed,
+    );
+    assert_eq!(other, Err(failure(Status::UnknownArchitecture)));
+    assert_eq!(packed, [0xaa; 10]);
+    assert_eq!(packed_run_len(high, section.len(), &[]), 0);
+    assert_eq!(packed_run_len(high - 2, section.len(), &[]), section.len());
+}
+
+#[test]
+fn packs_sections_of_loongarch() {
+    // `call36 f`, `tail36 $t8, f`, the nops of `.p2align 4`, and `f: ret`
+    let section = bytes_of(&[
+        0x1e00_0001,
+        0x4c00_0021,
+        0x1e00_0014,
+        0x4c00_0280,
+        0x0340_0000,
+        0x0340_0000,
+        0x0340_0000,
+        0x4c00_0020,
+    ]);
+    // `bl 16`, `b 12`, two nops, `ret`, as clang assembles them
+    let packed_words = [
+        0x5400_1000,
+        0x5000_0c00,
+        0x0340_0000,
+        0x0340_0000,
+        0x4c00_0020,
+    ];
+    let call = named_shapes(ShapesName::LoongArchCall36);
+    let items = [
+        Item::site(0, 8, 28, call),
+        Item::site(8, 8, 28, call),
+        Item::alignment(16, 12, 16, None),
+    ];
+    let lost = deltas(&[(4, 4), (12, 4), (24, 4)]);
+    let mut packed = [0; 20];
+    let machine = Architecture::LoongArch64;
+    assert_eq!(
+        pack_run(machine, &section, 0, &items, &lost, 0x10000, &mut packed),
+        Ok(())
+    );
+    assert_eq!(packed.to_vec(), bytes_of(&packed_words));
 }

@@ -87,6 +87,8 @@ fn relax_too_many() {
     assert_eq!(made.map(drop), refused);
     let made = loongarch_items(&[], 0, relocations, items);
     assert_eq!(made.map(drop), refused);
+    let packed = pack_run(Architecture::RiscV, &[], 0, items, &[], 0, &mut []);
+    assert_eq!(packed, refused);
     assert_eq!(items[0].len, 7);
 }
 

@@ -1,8 +1,10 @@
 -- The choices that are kept of those of a table.
-use Rattle.std.proofs.Common.{◌≡◌, ◌⊎◌, ◌↔◌, ℕ, ◌-◌, zero, suc, List, [], ◌∷◌, ◌++◌, map, length, replicate, Option, Some, None, refl, sym, ◌∙◌, inl, inr, ⊎_elim, ap, subst, get_or, arith}
+use Rattle.std.proofs.Common.{◌≡◌, ◌⊎◌, ◌↔◌, ◌<◌, ℕ, ◌-◌, zero, suc, List, [], ◌∷◌, ◌++◌, map, length, replicate, Option, Some, None, refl, sym, ◌∙◌, inl, inr, ⊎_elim, ap, subst, get_or, arith}
 use Rattle.std.specs.Bool.{⊤}
-use Rattle.linker_recognise.specs.Recognised.{IsOneOf, AreThose, IsMade, choices_of}
+use Rattle.linker_reads.specs.declared.fields.FieldValue.{FieldValue}
+use Rattle.linker_recognise.specs.Recognised.{IsOneOf, AreThose, IsMade, IsFound, choices_of}
 use Rattle.linker_recognise.specs.Inner.Candidates.{padded, IsKept, AreKept}
+use Rattle.linker_recognise.specs.declared.engine.Made.{Made}
 use Rattle.linker_recognise.specs.declared.fields.FieldBits.{FieldBits}
 use Rattle.linker_utils.specs.Choices.{Entry, IsFirst, choice}
 use Rattle.linker_utils.specs.declared.elf.choice.Choice.{Choice}
@@ -24,64 +26,53 @@ in_padded a [] n h = absurd h
 in_padded a (x ∷ xs) n (inl e) = inl (ap Some e)
 in_padded a (x ∷ xs) n (inr h) = inr (in_padded a xs n h)
 
+-- by its index
+pub one_at : {A : Type 0} (a : A) (xs : List A) (i : ℕ) (d : A) → i < length xs → get_or xs i d ≡ a → IsOneOf a xs
+one_at a [] i d h e = absurd (omega arith)
+one_at a (x ∷ xs) zero d h e = inl e
+one_at a (x ∷ xs) (suc i) d h e = inr (one_at a xs i d (omega arith) e)
+
 -- ---- those that are kept
 
--- two are among more
-wider : {A : Type 0} (P : A → Type 0) (p q x y : Option A) (rest : List (Option A)) → IsKept P (p ∷ q ∷ []) x y → IsKept P (p ∷ q ∷ rest) x y
-wider P p q x y rest (inl (inl e, none)) = inl (inl e, none)
-wider P p q x y rest (inl (inr (inl e), none)) = inl (inr (inl e), none)
-wider P p q x y rest (inl (inr (inr h), none)) = absurd h
-wider P p q x y rest (inr test) = inr test
+not_none : {B : Type 0} (y : Option B) (b : B) → y ≡ None → y ≡ Some b → ⊥
+not_none y b n e = let none : None ≡ Some b = sym n ∙ e in cc
 
--- each is kept or dropped by all before it
-abbrev AreAllKept : {A : Type 0} → (A → Type 0) → List (Option A) → List (Option A) → List (Option A) → Type 0
-AreAllKept P earlier [] [] = ⊤
-AreAllKept P earlier [] (y ∷ ys) = ⊥
-AreAllKept P earlier (x ∷ xs) [] = ⊥
-AreAllKept P earlier (x ∷ xs) (y ∷ ys) = IsKept P earlier x y × AreAllKept P (x ∷ earlier) xs ys
+kept_only : {A B : Type 0} (of : B → A) (P : B → Type 0) (earlier xs : List (Option A)) (ys : List (Option B)) → AreKept of P earlier xs ys → (b : B)
+    → IsOneOf (Some b) ys → IsOneOf (Some (of b)) xs × P b
+kept_only of P earlier [] [] kept b h = absurd h
+kept_only of P earlier [] (y ∷ ys) kept b h = absurd kept
+kept_only of P earlier (x ∷ xs) [] kept b h = absurd kept
+kept_only of P earlier (x ∷ xs) (y ∷ ys) (inl dropped, kept) b (inl e) = absurd (not_none y b dropped.1 e)
+kept_only of P earlier (x ∷ xs) (y ∷ ys) (inr test, kept) b (inl e) = let both = (test b).0 e in (inl both.0, both.1)
+kept_only of P earlier (x ∷ xs) (y ∷ ys) (first, kept) b (inr h) = let both = kept_only of P (x ∷ earlier) xs ys kept b h in (inr both.0, both.1)
 
-by_all : {A : Type 0} (P : A → Type 0) (p q : Option A) (rest xs ys : List (Option A)) → AreKept P p q xs ys → AreAllKept P (p ∷ q ∷ rest) xs ys
-by_all P p q rest [] [] kept = tt
-by_all P p q rest [] (y ∷ ys) kept = absurd kept
-by_all P p q rest (x ∷ xs) [] kept = absurd kept
-by_all P p q rest (x ∷ xs) (y ∷ ys) kept = (wider P p q x y rest kept.0, by_all P x p (q ∷ rest) xs ys kept.1)
+first_kept : {A B : Type 0} (of : B → A) (P : B → Type 0) (earlier : List (Option A)) (x : Option A) (y : Option B) (ys : List (Option B)) → IsKept of P earlier x y → (b : B)
+    → x ≡ Some (of b) → P b → IsOneOf (Some (of b)) earlier ⊎ IsOneOf (Some b) (y ∷ ys)
+first_kept {A} of P earlier x y ys (inl dropped) b e holds =
+    inl (subst (λ (t : Option A). IsOneOf t earlier) e dropped.0)
+first_kept of P earlier x y ys (inr test) b e holds = inr (inl ((test b).1 (e, holds)))
 
-kept_only : {A : Type 0} (P : A → Type 0) (earlier xs ys : List (Option A)) → AreAllKept P earlier xs ys → (a : A)
-    → IsOneOf (Some a) ys → IsOneOf (Some a) xs × P a
-kept_only P earlier [] [] kept a h = absurd h
-kept_only P earlier [] (y ∷ ys) kept a h = absurd kept
-kept_only P earlier (x ∷ xs) [] kept a h = absurd kept
-kept_only P earlier (x ∷ xs) (y ∷ ys) (inl dropped, kept) a (inl e) = absurd (let n : y ≡ None = dropped.1 in let none : None ≡ Some a = sym n ∙ e in cc)
-kept_only P earlier (x ∷ xs) (y ∷ ys) (inr test, kept) a (inl e) = let both = (test a).0 e in (inl both.0, both.1)
-kept_only P earlier (x ∷ xs) (y ∷ ys) (first, kept) a (inr h) = let both = kept_only P (x ∷ earlier) xs ys kept a h in (inr both.0, both.1)
+rest_kept : {A B : Type 0} (of : B → A) (P : B → Type 0) (earlier : List (Option A)) (x : Option A) (y : Option B) (ys : List (Option B)) → IsKept of P earlier x y → (b : B)
+    → P b → IsOneOf (Some (of b)) (x ∷ earlier) ⊎ IsOneOf (Some b) ys → IsOneOf (Some (of b)) earlier ⊎ IsOneOf (Some b) (y ∷ ys)
+rest_kept of P earlier x y ys first b holds (inl (inl e)) = first_kept of P earlier x y ys first b e holds
+rest_kept of P earlier x y ys first b holds (inl (inr h)) = inl h
+rest_kept of P earlier x y ys first b holds (inr h) = inr (inr h)
 
-first_kept : {A : Type 0} (P : A → Type 0) (earlier : List (Option A)) (x y : Option A) (ys : List (Option A)) → IsKept P earlier x y → (a : A)
-    → x ≡ Some a → P a → IsOneOf (Some a) earlier ⊎ IsOneOf (Some a) (y ∷ ys)
-first_kept {A} P earlier x y ys (inl dropped) a e holds = inl (subst (λ (t : Option A). IsOneOf t earlier) e dropped.0)
-first_kept P earlier x y ys (inr test) a e holds = inr (inl ((test a).1 (e, holds)))
-
-rest_kept : {A : Type 0} (P : A → Type 0) (earlier : List (Option A)) (x y : Option A) (ys : List (Option A)) → IsKept P earlier x y → (a : A)
-    → P a → IsOneOf (Some a) (x ∷ earlier) ⊎ IsOneOf (Some a) ys → IsOneOf (Some a) earlier ⊎ IsOneOf (Some a) (y ∷ ys)
-rest_kept P earlier x y ys first a holds (inl (inl e)) = first_kept P earlier x y ys first a e holds
-rest_kept P earlier x y ys first a holds (inl (inr h)) = inl h
-rest_kept P earlier x y ys first a holds (inr h) = inr (inr h)
-
-kept_all : {A : Type 0} (P : A → Type 0) (earlier xs ys : List (Option A)) → AreAllKept P earlier xs ys → (a : A)
-    → IsOneOf (Some a) xs → P a → IsOneOf (Some a) earlier ⊎ IsOneOf (Some a) ys
-kept_all P earlier [] ys kept a h holds = absurd h
-kept_all P earlier (x ∷ xs) [] kept a h holds = absurd kept
-kept_all P earlier (x ∷ xs) (y ∷ ys) (first, kept) a (inl e) holds = first_kept P earlier x y ys first a e holds
-kept_all P earlier (x ∷ xs) (y ∷ ys) (first, kept) a (inr h) holds =
-    rest_kept P earlier x y ys first a holds (kept_all P (x ∷ earlier) xs ys kept a h holds)
+kept_all : {A B : Type 0} (of : B → A) (P : B → Type 0) (earlier xs : List (Option A)) (ys : List (Option B)) → AreKept of P earlier xs ys → (b : B)
+    → IsOneOf (Some (of b)) xs → P b → IsOneOf (Some (of b)) earlier ⊎ IsOneOf (Some b) ys
+kept_all of P earlier [] ys kept b h holds = absurd h
+kept_all of P earlier (x ∷ xs) [] kept b h holds = absurd kept
+kept_all of P earlier (x ∷ xs) (y ∷ ys) (first, kept) b (inl e) holds = first_kept of P earlier x y ys first b e holds
+kept_all of P earlier (x ∷ xs) (y ∷ ys) (first, kept) b (inr h) holds =
+    rest_kept of P earlier x y ys first b holds (kept_all of P (x ∷ earlier) xs ys kept b h holds)
 
 -- those of the values that are so
-those_kept : {A : Type 0} (P : A → Type 0) (xs : List A) (ys : List (Option A)) → AreKept P None None (padded xs) ys
-    → AreThose (λ a. IsOneOf a xs × P a) ys
-those_kept P xs ys kept =
-    let all = by_all P None None [] (padded xs) ys kept in
+those_kept : {A B : Type 0} (of : B → A) (P : B → Type 0) (xs : List A) (ys : List (Option B)) → AreKept of P [] (padded xs) ys
+    → AreThose (λ b. IsOneOf (of b) xs × P b) ys
+those_kept of P xs ys kept =
     record {
-      only = λ a h. let both = kept_only P (None ∷ None ∷ []) (padded xs) ys all a h in (of_padded a xs (6 - length xs) both.0, both.1);
-      all = λ a h. ⊎_elim (λ e. absurd (none_is_one a 2 e)) (λ is. is) (kept_all P (None ∷ None ∷ []) (padded xs) ys all a (in_padded a xs (6 - length xs) h.0) h.1);
+      only = λ b h. let both = kept_only of P [] (padded xs) ys kept b h in (of_padded (of b) xs (6 - length xs) both.0, both.1);
+      all = λ b h. ⊎_elim (λ e. absurd e) (λ is. is) (kept_all of P [] (padded xs) ys kept b (in_padded (of b) xs (6 - length xs) h.0) h.1);
     }
 
 -- a list of six by its elements
@@ -97,15 +88,18 @@ six (_ ∷ _ ∷ _ ∷ _ ∷ _ ∷ _ ∷ []) h a b c d e f = refl
 six (_ ∷ _ ∷ _ ∷ _ ∷ _ ∷ _ ∷ _ ∷ r) h a b c d e f = absurd (omega arith)
 
 pub those_made : {K R : Type 0} (xs : List (Choice K R)) (Matches : K → List ℕ → ℕ → Type 0)
-    (Leaves : Choice K R → List ℕ → ℕ → List FieldBits → List ℕ → Type 0) (original : List ℕ) (o : ℕ)
-    (others : List FieldBits) (linked : List ℕ) (ys : List (Option (Choice K R)))
-    → AreKept (λ (c : Choice K R). Matches c.kind original o × Leaves c original o others linked) None None (padded xs) ys
-    → AreThose (IsMade xs Matches Leaves original o others linked) ys
-those_made {K} {R} xs Matches Leaves original o others linked ys kept =
-    let those = those_kept (λ (c : Choice K R). Matches c.kind original o × Leaves c original o others linked) xs ys kept in
+    (Leaves : Choice K R → List ℕ → ℕ → List FieldBits → List ℕ → Type 0)
+    (Reads : Choice K R → ℕ → Option FieldValue → Type 0) (original : List ℕ) (o : ℕ)
+    (others : List FieldBits) (linked : List ℕ) (ys : List (Option (Made K R)))
+    → AreKept (λ (m : Made K R). m.choice)
+    (λ (m : Made K R). Matches m.choice.kind original o × (Leaves m.choice original o others linked × Reads m.choice m.offset m.value)) [] (padded xs) ys
+    → AreThose (IsFound (IsMade xs Matches Leaves original o others linked) Reads) ys
+those_made {K} {R} xs Matches Leaves Reads original o others linked ys kept =
+    let those = those_kept (λ (m : Made K R). m.choice)
+    (λ (m : Made K R). Matches m.choice.kind original o × (Leaves m.choice original o others linked × Reads m.choice m.offset m.value)) xs ys kept in
     record {
-      only = λ a h. let is = those.only a h in record { listed = is.0; matches = is.1.0; leaves = is.1.1 };
-      all = λ a is. those.all a (is.listed, (is.matches, is.leaves));
+      only = λ m h. let is = those.only m h in (record { listed = is.0; matches = is.1.0; leaves = is.1.1.0 }, is.1.1.1);
+      all = λ m is. those.all m (is.0.listed, (is.0.matches, (is.0.leaves, is.1)));
     }
 
 -- ---- what is chosen
@@ -139,16 +133,23 @@ first_is_same Applies (e ∷ es) otherwise c d (inl one) (inr other) = absurd (o
 first_is_same Applies (e ∷ es) otherwise c d (inr one) (inl other) = absurd (one.0 other.0)
 first_is_same Applies (e ∷ es) otherwise c d (inr one) (inr other) = first_is_same Applies es otherwise c d one.1 other.1
 
-pub chosen_left : {C : Type 0} (IsChoice Leaves : C → Type 0) (chosen : C) → IsChoice chosen → ((d : C) → IsChoice d → chosen ≡ d)
-    → Leaves chosen → (c : C) → (Some chosen ≡ Some c) ↔ (IsChoice c × Leaves c)
-chosen_left IsChoice Leaves chosen is unique left c = (
-  (λ e. let same : chosen ≡ c = cc in (subst IsChoice same is, subst Leaves same left)),
-  (λ both. ap Some (unique c both.0)),
+-- what was made of a choice is what was made of the one that is chosen
+pub chosen_made : {K R : Type 0} (IsChoice : Choice K R → Type 0) (P : Made K R → Type 0) (chosen : Choice K R) (found : Option (Made K R))
+    → IsChoice chosen → ((d : Choice K R) → IsChoice d → chosen ≡ d)
+    → ((m : Made K R) → (found ≡ Some m) ↔ ((m.choice ≡ chosen) × P m))
+    → (m : Made K R) → (found ≡ Some m) ↔ (IsChoice m.choice × P m)
+chosen_made IsChoice P chosen found is unique test m = (
+  (λ e. let both = (test m).0 e in (subst IsChoice (sym both.0) is, both.1)),
+  (λ both. (test m).1 (sym (unique m.choice both.0), both.1)),
 )
 
-pub chosen_not_left : {C : Type 0} (IsChoice Leaves : C → Type 0) (chosen : C) → ((d : C) → IsChoice d → chosen ≡ d)
-    → (Leaves chosen → ⊥) → (c : C) → (None ≡ Some c) ↔ (IsChoice c × Leaves c)
-chosen_not_left IsChoice Leaves chosen unique not_left c = (
-  (λ e. absurd cc),
-  (λ both. absurd (not_left (subst Leaves (sym (unique c both.0)) both.1))),
+-- ---- what one choice is
+
+-- what was made of a candidate is what was made of the choice that it is
+pub candidate_made : {K R : Type 0} (M : Choice K R → Type 0) (P : Made K R → Type 0) (candidate : Option (Choice K R)) (chosen : Choice K R) (found : Option (Made K R))
+    → candidate ≡ Some chosen → M chosen → ((m : Made K R) → (found ≡ Some m) ↔ ((m.choice ≡ chosen) × P m))
+    → (m : Made K R) → (found ≡ Some m) ↔ ((candidate ≡ Some m.choice) × (M m.choice × P m))
+candidate_made M P candidate chosen found is meant test m = (
+  (λ e. let both = (test m).0 e in (is ∙ ap Some (sym both.0), (subst M (sym both.0) meant, both.1))),
+  (λ h. let e : Some m.choice ≡ Some chosen = sym h.0 ∙ is in let same : m.choice ≡ chosen = cc in (test m).1 (same, h.1.1)),
 )

@@ -3,7 +3,12 @@ pub mod FieldBits
 pub mod Kept
 pub mod LoongArchMade
 pub mod Ppc64Made
+pub mod Read
 pub mod RiscVMade
 pub mod Same
+pub mod WindowBits
 pub mod Written
+pub mod WrittenBits
+pub mod WrittenLeft
+pub mod WrittenRows
 pub mod X86Made

@@ -81,7 +81,7 @@ whole_writes_field row whole = by_size row row.size refl whole
 
 -- ---- bytes behind others
 
-no_gap : (i : ℕ) → kept_index 0 0 i ≡ i
+pub no_gap : (i : ℕ) → kept_index 0 0 i ≡ i
 no_gap i = ap (λ b. if b then i else i + 0) (le-ltb i 0 (omega arith)) ∙ omega arith
 
 with_others : (Q : ℕ → ℕ → Bool) (others : List FieldBits) (a b : List ℕ)

@@ -1,7 +1,8 @@
 -- The bits of a relocation's field, and bytes that differ in no other bits. Bits are counted from
 -- the lowest of the first byte of a window.
 use Rattle.std.specs.Prelude.{◌≡◌, ℕ, ◌+◌, ◌-◌, ◌*◌, ◌<◌, ◌≤◌, ◌==◌, Bool, true, false, not, ◌&&◌}
-use Rattle.std.specs.Prelude.{◌||◌, nat_lt, nat_le, if◌then◌else◌, Option, Some, None, List, length, drop, slice_index}
+use Rattle.std.specs.Prelude.{◌||◌, nat_lt, nat_le, if◌then◌else◌, Option, Some, None}
+use Rattle.std.specs.Prelude.{List, length, drop, slice_index}
 use Rattle.std.specs.List.{list_any}
 use Rattle.std.specs.Int.{bit_at}
 use Rattle.linker_base.specs.Form.{is_placed, window_of}
@@ -85,8 +86,8 @@ IsSameBut ignored a b = (j : ℕ) → j < 8 → ignored j ≡ false → bit_at a
 abbrev pub kept_index : ℕ → ℕ → ℕ → ℕ
 kept_index start count i = if nat_lt i start then i else i + count
 
--- Each byte of the second window differs from that of the first, without some deleted bytes, in bits
--- of a field and of others only. `is_in_field` and the others name bits of the first window.
+-- Each byte of the second window differs from that of the first, without some deleted bytes, in
+-- bits of a field and of others only. `is_in_field` and the others name bits of the first window.
 abbrev pub AreSameBut : (ℕ → ℕ → Bool) → List FieldBits → ℕ → ℕ → List ℕ → List ℕ → Type 0
 AreSameBut is_in_field others start count a b =
     (i : ℕ) → i < length b

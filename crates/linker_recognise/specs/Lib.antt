@@ -5,5 +5,7 @@ pub mod LoongArchRecognised
 pub mod Ppc64Recognised
 pub mod RiscVRecognised
 pub mod X86Recognised
+pub mod FoundByCode
 pub mod WrittenFields
+pub mod WrittenRows
 pub mod Inner

@@ -1,9 +1,13 @@
 -- What a linker made of a relocation: the choices of a rewrite that leave the linked bytes.
-use Rattle.std.specs.Prelude.{◌≡◌, ◌⊎◌, ◌≤◌, ◌+◌, ℕ, List, [], ◌∷◌, length, Option, Some, None, ⊤}
+use Rattle.std.specs.Prelude.{◌≡◌, ◌⊎◌, ◌≤◌, ◌+◌, ◌-◌, ℕ, List, [], ◌∷◌, length, drop, min}
+use Rattle.std.specs.Prelude.{Option, Some, None, ⊤}
 use Rattle.linker_base.specs.Rewrite.{Rewrite, CanRewrite, rewritten, offset_after}
 use Rattle.linker_elf.specs.Relocate.{window_len}
 use Rattle.linker_elf.specs.declared.elf.RelocationKindInfo.{RelocationKindInfo}
+use Rattle.linker_reads.specs.Reading.{value_read}
+use Rattle.linker_reads.specs.declared.fields.FieldValue.{FieldValue}
 use Rattle.linker_recognise.specs.Fields.{is_in_field, AreSameBut}
+use Rattle.linker_recognise.specs.declared.engine.Made.{Made}
 use Rattle.linker_recognise.specs.declared.fields.FieldBits.{FieldBits}
 use Rattle.linker_utils.specs.Choices.{Entry, choice}
 use Rattle.linker_utils.specs.declared.elf.choice.Choice.{Choice}
@@ -25,8 +29,8 @@ abbrev pub HasField : Option RelocationKindInfo → ℕ → List ℕ → Type 0
 HasField None at bytes = ⊤
 HasField (Some row) at bytes = at + window_len row ≤ length bytes
 
--- From bytes, without those that are deleted, the linked bytes differ only in the field of a row at an
--- offset and in others.
+-- From bytes, without those that are deleted, the linked bytes differ only in the field of a row at
+-- an offset and in others.
 pub record AreLeft (after : List ℕ) (at : ℕ) (row : Option RelocationKindInfo)
     (deleted : Option DeletedBytes) (o : ℕ) (others : List FieldBits) (linked : List ℕ)
     : Type 0 where
@@ -45,6 +49,25 @@ pub record IsLeft (rewrite : Option Rewrite) (row : Option RelocationKindInfo)
   pub left :
       AreLeft (rewritten rewrite original o) (offset_after rewrite o) row deleted o others linked
 
+-- ---- what stands in the field
+
+-- an offset after a rewrite, less the deleted bytes before it
+abbrev pub linked_offset : Option DeletedBytes → ℕ → ℕ → ℕ
+linked_offset deleted o at = at - min (deleted_count deleted) (at - deleted_start deleted o)
+
+-- what is known of a relocation's value from the bytes at an offset; nothing without a row
+abbrev pub value_at : Option RelocationKindInfo → ℕ → List ℕ → Option FieldValue
+value_at None at linked = None
+value_at (Some row) at linked = value_read row (drop at linked)
+
+-- The field of the relocation after a rewrite at an offset: where it is in the linked bytes, and
+-- what is known of the value from it.
+pub record IsRead (rewrite : Option Rewrite) (row : Option RelocationKindInfo)
+    (deleted : Option DeletedBytes) (o : ℕ) (linked : List ℕ) (at : ℕ) (value : Option FieldValue)
+    : Type 0 where
+  pub at_is : at ≡ linked_offset deleted o (offset_after rewrite o)
+  pub value_is : value ≡ value_at row at linked
+
 -- ---- which choices there are
 
 -- those of a table's entries, and the last one
@@ -56,13 +79,20 @@ abbrev pub IsOneOf : {A : Type 0} → A → List A → Type 0
 IsOneOf a [] = ⊥
 IsOneOf a (x ∷ xs) = (x ≡ a) ⊎ IsOneOf a xs
 
--- It is one of some choices, its rewrite is meant for what is there, and it leaves the linked bytes.
-pub record IsMade {K R : Type 0} (choices : List (Choice K R)) (Matches : K → List ℕ → ℕ → Type 0)
-    (Leaves : Choice K R → List ℕ → ℕ → List FieldBits → List ℕ → Type 0) (original : List ℕ) (o : ℕ)
-    (others : List FieldBits) (linked : List ℕ) (c : Choice K R) : Type 0 where
+-- It is one of some choices, its rewrite is meant for what is there, and it leaves the linked
+-- bytes.
+pub record IsMade {K R : Type 0} (choices : List (Choice K R))
+    (Matches : K → List ℕ → ℕ → Type 0)
+    (Leaves : Choice K R → List ℕ → ℕ → List FieldBits → List ℕ → Type 0) (original : List ℕ)
+    (o : ℕ) (others : List FieldBits) (linked : List ℕ) (c : Choice K R) : Type 0 where
   pub listed : IsOneOf c choices
   pub matches : Matches c.kind original o
   pub leaves : Leaves c original o others linked
+
+-- The choice was made, with the offset of its relocation's field and what is known of the value.
+abbrev pub IsFound : {K R : Type 0} → (Choice K R → Type 0)
+    → (Choice K R → ℕ → Option FieldValue → Type 0) → Made K R → Type 0
+IsFound IsMade Reads m = IsMade m.choice × Reads m.choice m.offset m.value
 
 -- Those that were found are those that are so.
 pub record AreThose {A : Type 0} (IsSo : A → Type 0) (found : List (Option A)) : Type 0 where

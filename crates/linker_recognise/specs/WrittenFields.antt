@@ -14,8 +14,8 @@ abbrev pub WritesField : RelocationKindInfo → Type 0
 WritesField row =
     (v : ℤ) (before after : List ℕ) → WritesRow row v before after → AreSameButFor row before after
 
--- Where the rewrite of a choice is applied, and then the value of the relocation after it written at
--- the offset after it, the choice leaves these bytes, whatever else is ignored.
+-- Where the rewrite of a choice is applied, and then the value of the relocation after it written
+-- at the offset after it, the choice leaves these bytes, whatever else is ignored.
 abbrev pub X86WrittenIsLeft : Type 0
 X86WrittenIsLeft =
     (c : X86Choice) (row : RelocationKindInfo) (original : List ℕ) (o : ℕ) (v : ℤ)

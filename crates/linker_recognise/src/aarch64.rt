@@ -1,24 +1,31 @@
 //! What a linker made of a relocation of AArch64.
 
 ghost use Rattle.std.specs.Prelude.{◌≡◌, ◌≤◌, ◌↔◌, Some, None, length};
-ghost use Rattle.linker_elf.specs.AArch64Relocations.{aarch64_row};
-ghost use Rattle.linker_recognise.specs.AArch64Recognised.{AArch64Choice, AArch64Leaves, aarch64_choices};
-ghost use Rattle.linker_recognise.specs.AArch64Recognised.{IsAArch64Made};
+ghost use Rattle.linker_elf.specs.AArch64Relocations.{aarch64_name, aarch64_row};
+ghost use Rattle.linker_recognise.specs.AArch64Recognised.{AArch64Choice, AArch64Leaves};
+ghost use Rattle.linker_recognise.specs.AArch64Recognised.{aarch64_choices, AArch64Made};
+ghost use Rattle.linker_recognise.specs.AArch64Recognised.{AArch64Reads, IsAArch64Found};
 ghost use Rattle.linker_recognise.specs.Inner.Candidates.{padded};
 ghost use Rattle.linker_recognise.specs.Recognised.{IsOneOf, AreThose};
+ghost use Rattle.linker_recognise.specs.WrittenRows.{WrittenIsLeft};
 ghost use Rattle.linker_utils.specs.Choices as choices;
 ghost use Rattle.linker_utils.specs.AArch64Choices.{IsAArch64Choice};
 ghost use Rattle.linker_utils.specs.AArch64Originals.{aarch64_matches};
+ghost use Rattle.linker_utils.specs.AArch64Rewrites.{aarch64_rewrite};
+ghost use Rattle.linker_utils.specs.declared.architecture.Relaxation.TheVariants as relaxations;
 ghost use Rattle.linker_utils.specs.declared.elf.choice.LinkFacts.{LinkFacts};
 
 use crate::candidates::{CANDIDATES, one, three, two};
-use crate::engine::{Kind, Name, is_left, recognise_among};
+use crate::engine::{Kind, Made, Name, recognise_among, recognise_one};
 use crate::fields::FieldBits;
 use linker_utils::aarch64::{AArch64Relocation, RelaxationKind, choose, row};
+use linker_utils::architecture::Relaxation;
 use linker_utils::elf::{Choice, LinkFacts, Row};
 use linker_utils::riscv64::DeletedBytes;
 
 type AArch64Choice = Choice<RelaxationKind, AArch64Relocation>;
+
+type AArch64Made = Made<RelaxationKind, AArch64Relocation>;
 
 #[inline(always)]
 fn choice(kind: RelaxationKind, relocation: AArch64Relocation) -> AArch64Choice
@@ -115,6 +122,8 @@ impl Kind for RelaxationKind {
 
     ghost deleted = { λ kind. None };
 
+    ghost relaxation_of = { relaxations.AArch64 };
+
     fn is_meant_for(self, section: &[u8], offset: u64) -> bool {
         self.matches(section, offset)
     }
@@ -126,10 +135,16 @@ impl Kind for RelaxationKind {
     fn is(self, other: RelaxationKind) -> bool {
         self == other
     }
+
+    fn relaxation(self) -> Relaxation {
+        Relaxation::AArch64(self)
+    }
 }
 
 impl Name for AArch64Relocation {
     ghost row_of = { aarch64_row };
+
+    ghost elf_name = { aarch64_name };
 
     fn find_row(self) -> Option<Row> {
         row(self)
@@ -144,10 +159,14 @@ impl Name for AArch64Relocation {
             )
         )
     }
+
+    fn code(self) -> u32 {
+        self.elf_code()
+    }
 }
 
-/// Which rewrites, and relocations after them, a linker may have made at the relocation with a name,
-/// whose offset in the original bytes is given, as `recognise` of `x86_64` says.
+/// Which rewrites, and relocations after them, a linker may have made at the relocation with a
+/// name, whose offset in the original bytes is given, as `recognise` of `x86_64` says.
 ///
 /// ```
 /// use linker_recognise::aarch64::recognise;
@@ -158,7 +177,7 @@ impl Name for AArch64Relocation {
 /// let linked = [0x63, 0x40, 0x00, 0x91];
 /// let name = AArch64Relocation::R_AARCH64_LD64_GOT_LO12_NC;
 /// let mut choices = recognise(name, &original, 0, &[], &linked).into_iter().flatten();
-/// assert_eq!(choices.next().unwrap().kind, RelaxationKind::LdrToAdd);
+/// assert_eq!(choices.next().unwrap().choice.kind, RelaxationKind::LdrToAdd);
 /// assert!(choices.next().is_none());
 /// ```
 pub fn recognise(
@@ -167,12 +186,14 @@ pub fn recognise(
     offset: u64,
     others: &[FieldBits],
     linked: &[u8],
-) -> [Option<AArch64Choice>; CANDIDATES]
+) -> [Option<AArch64Made>; CANDIDATES]
     requires { length original.now ≤ 64 }
-    ensures found { AreThose (IsAArch64Made name original.now offset others.now linked.now) result }
-    ensures any { (facts : LinkFacts) (c : AArch64Choice)
-        → IsAArch64Choice name original.now offset facts c
-        → AArch64Leaves c original.now offset others.now linked.now → IsOneOf (Some c) result }
+    ensures found { AreThose (IsAArch64Found name original.now offset others.now linked.now)
+        result }
+    ensures any { (facts : LinkFacts) (m : AArch64Made)
+        → IsAArch64Choice name original.now offset facts m.choice
+        → AArch64Leaves m.choice original.now offset others.now linked.now
+        → AArch64Reads m.choice offset linked.now m.offset m.value → IsOneOf (Some m) result }
 {
     recognise_among(candidates(name), original, offset, others, linked)
 }
@@ -186,16 +207,19 @@ pub fn recognise_chosen(
     others: &[FieldBits],
     linked: &[u8],
     facts: &LinkFacts,
-) -> Option<AArch64Choice>
+) -> Option<AArch64Made>
     requires { length original.now ≤ 64 }
-    ensures { (c : AArch64Choice) → (result ≡ Some c)
-        ↔ (IsAArch64Choice name original.now offset facts.now c
-        × AArch64Leaves c original.now offset others.now linked.now) }
+    ensures { (m : AArch64Made) → (result ≡ Some m)
+        ↔ (IsAArch64Choice name original.now offset facts.now m.choice
+        × (AArch64Leaves m.choice original.now offset others.now linked.now
+        × AArch64Reads m.choice offset linked.now m.offset m.value)) }
 {
     let chosen = choose(name, original, offset, facts);
-    if is_left(chosen, original, offset, others, linked) {
-        Some(chosen)
-    } else {
-        None
-    }
+    recognise_one(chosen, original, offset, others, linked)
 }
+
+/// Where a rewrite is applied, and the value of the relocation after it is written, the choice of
+/// both leaves these bytes. So `recognise` returns what `choose` chose, after `apply` and `write`.
+pub fn written_choices_are_left()
+    ensures { WrittenIsLeft aarch64_rewrite aarch64_row (λ kind. None) }
+{}

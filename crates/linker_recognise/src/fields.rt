@@ -7,11 +7,13 @@ ghost use Rattle.std.specs.Int.{bit_at, byte_len};
 ghost use Rattle.linker_base.specs.Form.{window_of};
 ghost use Rattle.linker_elf.specs.Elf.{relocation_form};
 ghost use Rattle.linker_elf.specs.Relocate.{window_len, is_dq_form};
+ghost use Rattle.linker_elf.specs.declared.elf.RelocationKindInfo.{RelocationKindInfo};
 ghost use Rattle.linker_recognise.specs.Fields.{is_field_bit, is_instruction_bit, is_in, is_in_one};
 ghost use Rattle.linker_recognise.specs.Fields.{IsSameBut, AreSameButFor};
 ghost use Rattle.linker_recognise.specs.Fields.{AreSameBut, kept_index, is_in_row};
 ghost use Rattle.linker_recognise.specs.Inner.Masks.{instruction_mask, bytes_mask, number_mask};
 ghost use Rattle.linker_recognise.specs.Inner.Masks.{field_mask};
+ghost use Rattle.linker_recognise.specs.WrittenRows.{ChangesField};
 
 use linker_base::bit_misc::{BitExtraction, BitRange};
 use linker_elf::elf::{
@@ -32,7 +34,8 @@ pub struct FieldBits {
 #[inline(always)]
 fn word_of(bytes: &[u8]) -> u32
     requires { 4 ≤ length bytes.now }
-    ensures { result ≡ window_of (relocation_form (RelocationInstruction.Ppc64 Ppc64Instruction.Ds)) bytes.now }
+    ensures { result
+        ≡ window_of (relocation_form (RelocationInstruction.Ppc64 Ppc64Instruction.Ds)) bytes.now }
 {
     u32::from_le_bytes([bytes[0], bytes[1], bytes[2], bytes[3]])
 }
@@ -152,9 +155,10 @@ fn mask_of(row: &Row, bytes: &[u8]) -> u64
     }
 }
 
-/// Which bits of the bytes that `bytes` begins with a write of a row may change, bit 0 the lowest of
-/// the first byte. Of an instruction these are the bits of its form, and for `Movnz` those of the
-/// opcode that it sets. All other bits are the same after each write. Requires the row's window.
+/// Which bits of the bytes that `bytes` begins with a write of a row may change, bit 0 the lowest
+/// of the first byte. Of an instruction these are the bits of its form, and for `Movnz` those of
+/// the opcode that it sets. All other bits are the same after each write. Requires the row's
+/// window.
 ///
 /// ```
 /// use linker_recognise::fields::field_bits;
@@ -201,8 +205,8 @@ impl FieldBits {
         })
     }
 
-    /// Whether a bit of a byte of the window is one of these. The byte counts from the window's first
-    /// one, and bit 0 is its lowest.
+    /// Whether a bit of a byte of the window is one of these. The byte counts from the window's
+    /// first one, and bit 0 is its lowest.
     #[inline(always)]
     fn contains(&self, byte: u64, bit: u32) -> bool
         ensures { result ≡ is_in self.now byte bit }
@@ -252,8 +256,8 @@ fn kept_index(start: u64, count: u64, index: u64) -> u64
     if index < start { index } else { index + count }
 }
 
-/// Whether a window differs from another, of which `count` bytes from `start` on are deleted, in some
-/// bits only.
+/// Whether a window differs from another, of which `count` bytes from `start` on are deleted, in
+/// some bits only.
 pub(crate) fn are_same_but(
     field: &FieldBits,
     others: &[FieldBits],
@@ -275,8 +279,8 @@ pub(crate) fn are_same_but(
     true
 }
 
-/// Whether two windows of the same length differ in the field of a row only, which is at their front.
-/// False if the lengths differ or the row's window isn't in them.
+/// Whether two windows of the same length differ in the field of a row only, which is at their
+/// front. False if the lengths differ or the row's window isn't in them.
 ///
 /// ```
 /// use linker_recognise::fields::same_but_for;
@@ -298,3 +302,9 @@ pub fn same_but_for(row: &Row, a: &[u8], b: &[u8]) -> bool
     };
     are_same_but(&field, &[], 0, 0, a, b)
 }
+
+/// A write of the value of any row to its window changes bits of the row's field only, which are
+/// those that `field_bits` returns.
+pub fn writes_change_fields()
+    ensures { (row : RelocationKindInfo) → ChangesField row }
+{}

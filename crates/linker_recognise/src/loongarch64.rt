@@ -1,25 +1,31 @@
 //! What a linker made of a relocation of LoongArch.
 
 ghost use Rattle.std.specs.Prelude.{◌≡◌, ◌≤◌, ◌↔◌, Some, length};
-ghost use Rattle.linker_elf.specs.LoongArchRelocations.{loongarch_row};
-ghost use Rattle.linker_recognise.specs.LoongArchRecognised.{LoongArchChoice, LoongArchLeaves, loongarch_choices};
-ghost use Rattle.linker_recognise.specs.LoongArchRecognised.{IsLoongArchMade};
+ghost use Rattle.linker_elf.specs.LoongArchRelocations.{loongarch_name, loongarch_row};
+ghost use Rattle.linker_recognise.specs.LoongArchRecognised.{LoongArchChoice, LoongArchLeaves};
+ghost use Rattle.linker_recognise.specs.LoongArchRecognised.{loongarch_choices, LoongArchMade};
+ghost use Rattle.linker_recognise.specs.LoongArchRecognised.{LoongArchReads, IsLoongArchFound};
 ghost use Rattle.linker_recognise.specs.Inner.Candidates.{padded};
 ghost use Rattle.linker_recognise.specs.Recognised.{IsOneOf, AreThose};
+ghost use Rattle.linker_recognise.specs.WrittenRows.{WrittenIsLeft};
 ghost use Rattle.linker_utils.specs.Choices as choices;
 ghost use Rattle.linker_utils.specs.LoongArchChoices.{IsLoongArchChoice};
 ghost use Rattle.linker_utils.specs.LoongArchOriginals.{loongarch_matches};
-ghost use Rattle.linker_utils.specs.LoongArchRewrites.{loongarch_deleted};
+ghost use Rattle.linker_utils.specs.LoongArchRewrites.{loongarch_rewrite, loongarch_deleted};
+ghost use Rattle.linker_utils.specs.declared.architecture.Relaxation.TheVariants as relaxations;
 ghost use Rattle.linker_utils.specs.declared.elf.choice.LinkFacts.{LinkFacts};
 
 use crate::candidates::{CANDIDATES, one, three, two};
-use crate::engine::{Kind, Name, is_left, recognise_among};
+use crate::engine::{Kind, Made, Name, recognise_among, recognise_one};
 use crate::fields::FieldBits;
+use linker_utils::architecture::Relaxation;
 use linker_utils::elf::{Choice, LinkFacts, Row};
 use linker_utils::loongarch64::{LoongArch64Relocation, RelaxationKind, choose, row};
 use linker_utils::riscv64::DeletedBytes;
 
 type LoongArchChoice = Choice<RelaxationKind, LoongArch64Relocation>;
+
+type LoongArchMade = Made<RelaxationKind, LoongArch64Relocation>;
 
 #[inline(always)]
 fn choice(kind: RelaxationKind, relocation: LoongArch64Relocation) -> LoongArchChoice
@@ -137,6 +143,8 @@ impl Kind for RelaxationKind {
 
     ghost deleted = { loongarch_deleted };
 
+    ghost relaxation_of = { relaxations.LoongArch64 };
+
     fn is_meant_for(self, section: &[u8], offset: u64) -> bool {
         self.matches(section, offset)
     }
@@ -148,10 +156,16 @@ impl Kind for RelaxationKind {
     fn is(self, other: RelaxationKind) -> bool {
         self == other
     }
+
+    fn relaxation(self) -> Relaxation {
+        Relaxation::LoongArch64(self)
+    }
 }
 
 impl Name for LoongArch64Relocation {
     ghost row_of = { loongarch_row };
+
+    ghost elf_name = { loongarch_name };
 
     fn find_row(self) -> Option<Row> {
         row(self)
@@ -166,13 +180,17 @@ impl Name for LoongArch64Relocation {
             )
         )
     }
+
+    fn code(self) -> u32 {
+        self.elf_code()
+    }
 }
 
-/// Which rewrites, and relocations after them, a linker may have made at the relocation with a name,
-/// whose offset in the original bytes is given, as `recognise` of `x86_64` says.
+/// Which rewrites, and relocations after them, a linker may have made at the relocation with a
+/// name, whose offset in the original bytes is given, as `recognise` of `x86_64` says.
 ///
-/// A rewrite after which bytes are deleted leaves the others. So the linked window is shorter by the
-/// deleted bytes, and empty if they are all of the original window.
+/// A rewrite after which bytes are deleted leaves the others. So the linked window is shorter by
+/// the deleted bytes, and empty if they are all of the original window.
 ///
 /// ```
 /// use linker_recognise::loongarch64::recognise;
@@ -183,7 +201,7 @@ impl Name for LoongArch64Relocation {
 /// let linked = [0, 0x04, 0, 0x54];
 /// let name = LoongArch64Relocation::R_LARCH_CALL36;
 /// let mut choices = recognise(name, &original, 0, &[], &linked).into_iter().flatten();
-/// assert_eq!(choices.next().unwrap().kind, RelaxationKind::CallToBl);
+/// assert_eq!(choices.next().unwrap().choice.kind, RelaxationKind::CallToBl);
 /// assert!(choices.next().is_none());
 /// ```
 pub fn recognise(
@@ -192,12 +210,14 @@ pub fn recognise(
     offset: u64,
     others: &[FieldBits],
     linked: &[u8],
-) -> [Option<LoongArchChoice>; CANDIDATES]
+) -> [Option<LoongArchMade>; CANDIDATES]
     requires { length original.now ≤ 64 }
-    ensures found { AreThose (IsLoongArchMade name original.now offset others.now linked.now) result }
-    ensures any { (facts : LinkFacts) (c : LoongArchChoice)
-        → IsLoongArchChoice name original.now offset facts c
-        → LoongArchLeaves c original.now offset others.now linked.now → IsOneOf (Some c) result }
+    ensures found { AreThose (IsLoongArchFound name original.now offset others.now linked.now)
+        result }
+    ensures any { (facts : LinkFacts) (m : LoongArchMade)
+        → IsLoongArchChoice name original.now offset facts m.choice
+        → LoongArchLeaves m.choice original.now offset others.now linked.now
+        → LoongArchReads m.choice offset linked.now m.offset m.value → IsOneOf (Some m) result }
 {
     recognise_among(candidates(name), original, offset, others, linked)
 }
@@ -211,16 +231,20 @@ pub fn recognise_chosen(
     others: &[FieldBits],
     linked: &[u8],
     facts: &LinkFacts,
-) -> Option<LoongArchChoice>
+) -> Option<LoongArchMade>
     requires { length original.now ≤ 64 }
-    ensures { (c : LoongArchChoice) → (result ≡ Some c)
-        ↔ (IsLoongArchChoice name original.now offset facts.now c
-        × LoongArchLeaves c original.now offset others.now linked.now) }
+    ensures { (m : LoongArchMade) → (result ≡ Some m)
+        ↔ (IsLoongArchChoice name original.now offset facts.now m.choice
+        × (LoongArchLeaves m.choice original.now offset others.now linked.now
+        × LoongArchReads m.choice offset linked.now m.offset m.value)) }
 {
     let chosen = choose(name, original, offset, facts);
-    if is_left(chosen, original, offset, others, linked) {
-        Some(chosen)
-    } else {
-        None
-    }
+    recognise_one(chosen, original, offset, others, linked)
 }
+
+/// Where a rewrite is applied, the value of the relocation after it is written, and the deleted
+/// bytes are taken out, the choice of both leaves the bytes that stay. So `recognise` returns what
+/// `choose` chose, after `apply` and `write`.
+pub fn written_choices_are_left()
+    ensures { WrittenIsLeft loongarch_rewrite loongarch_row loongarch_deleted }
+{}

@@ -1,23 +1,29 @@
 //! What a linker made of a relocation of RISC-V.
 
 ghost use Rattle.std.specs.Prelude.{◌≡◌, ◌≤◌, ◌↔◌, Some, length};
+ghost use Rattle.linker_elf.specs.RiscVRelocations.{riscv_name};
 ghost use Rattle.linker_recognise.specs.RiscVRecognised.{RiscVChoice, RiscVLeaves, riscv_choices};
-ghost use Rattle.linker_recognise.specs.RiscVRecognised.{IsRiscVMade};
+ghost use Rattle.linker_recognise.specs.RiscVRecognised.{RiscVMade, RiscVReads, IsRiscVFound};
 ghost use Rattle.linker_recognise.specs.Inner.Candidates.{padded};
 ghost use Rattle.linker_recognise.specs.Recognised.{IsOneOf, AreThose};
+ghost use Rattle.linker_recognise.specs.WrittenRows.{WrittenIsLeft};
 ghost use Rattle.linker_utils.specs.Choices as choices;
 ghost use Rattle.linker_utils.specs.RiscVChoices.{riscv_row_of, IsRiscVChoice};
 ghost use Rattle.linker_utils.specs.RiscVOriginals.{riscv_matches};
-ghost use Rattle.linker_utils.specs.RiscVRewrites.{riscv_deleted};
+ghost use Rattle.linker_utils.specs.RiscVRewrites.{riscv_rewrite, riscv_deleted};
+ghost use Rattle.linker_utils.specs.declared.architecture.Relaxation.TheVariants as relaxations;
 ghost use Rattle.linker_utils.specs.declared.elf.choice.LinkFacts.{LinkFacts};
 
 use crate::candidates::{CANDIDATES, five, four, one, three, two};
-use crate::engine::{Kind, Name, is_left, recognise_among};
+use crate::engine::{Kind, Made, Name, recognise_among, recognise_one};
 use crate::fields::FieldBits;
+use linker_utils::architecture::Relaxation;
 use linker_utils::elf::{Choice, LinkFacts, Row};
 use linker_utils::riscv64::{DeletedBytes, RelaxationKind, RiscVRelocation, choose, row};
 
 type RiscVChoice = Choice<RelaxationKind, RiscVRelocation>;
+
+type RiscVMade = Made<RelaxationKind, RiscVRelocation>;
 
 #[inline(always)]
 fn choice(kind: RelaxationKind, relocation: RiscVRelocation) -> RiscVChoice
@@ -124,6 +130,8 @@ impl Kind for RelaxationKind {
 
     ghost deleted = { riscv_deleted };
 
+    ghost relaxation_of = { relaxations.RiscV };
+
     fn is_meant_for(self, section: &[u8], offset: u64) -> bool {
         self.matches(section, offset)
     }
@@ -135,10 +143,16 @@ impl Kind for RelaxationKind {
     fn is(self, other: RelaxationKind) -> bool {
         self == other
     }
+
+    fn relaxation(self) -> Relaxation {
+        Relaxation::RiscV(self)
+    }
 }
 
 impl Name for RiscVRelocation {
     ghost row_of = { riscv_row_of };
+
+    ghost elf_name = { riscv_name };
 
     fn find_row(self) -> Option<Row> {
         row(self)
@@ -150,13 +164,17 @@ impl Name for RiscVRelocation {
             (RiscVRelocation::R_RISCV_NONE, RiscVRelocation::R_RISCV_NONE)
         )
     }
+
+    fn code(self) -> u32 {
+        self.elf_code()
+    }
 }
 
-/// Which rewrites, and relocations after them, a linker may have made at the relocation with a name,
-/// whose offset in the original bytes is given, as `recognise` of `x86_64` says.
+/// Which rewrites, and relocations after them, a linker may have made at the relocation with a
+/// name, whose offset in the original bytes is given, as `recognise` of `x86_64` says.
 ///
-/// A rewrite after which bytes are deleted leaves the others. So the linked window is shorter by the
-/// deleted bytes, and empty if they are all of the original window.
+/// A rewrite after which bytes are deleted leaves the others. So the linked window is shorter by
+/// the deleted bytes, and empty if they are all of the original window.
 ///
 /// ```
 /// use linker_recognise::riscv64::recognise;
@@ -167,7 +185,7 @@ impl Name for RiscVRelocation {
 /// let linked = [0xef, 0, 0, 0x10];
 /// let name = RiscVRelocation::R_RISCV_CALL_PLT;
 /// let mut choices = recognise(name, &original, 0, &[], &linked).into_iter().flatten();
-/// assert_eq!(choices.next().unwrap().kind, RelaxationKind::CallToJal);
+/// assert_eq!(choices.next().unwrap().choice.kind, RelaxationKind::CallToJal);
 /// assert!(choices.next().is_none());
 /// ```
 pub fn recognise(
@@ -176,12 +194,14 @@ pub fn recognise(
     offset: u64,
     others: &[FieldBits],
     linked: &[u8],
-) -> [Option<RiscVChoice>; CANDIDATES]
+) -> [Option<RiscVMade>; CANDIDATES]
     requires { length original.now ≤ 64 }
-    ensures found { AreThose (IsRiscVMade name original.now offset others.now linked.now) result }
-    ensures any { (facts : LinkFacts) (c : RiscVChoice)
-        → IsRiscVChoice name original.now offset facts c
-        → RiscVLeaves c original.now offset others.now linked.now → IsOneOf (Some c) result }
+    ensures found { AreThose (IsRiscVFound name original.now offset others.now linked.now)
+        result }
+    ensures any { (facts : LinkFacts) (m : RiscVMade)
+        → IsRiscVChoice name original.now offset facts m.choice
+        → RiscVLeaves m.choice original.now offset others.now linked.now
+        → RiscVReads m.choice offset linked.now m.offset m.value → IsOneOf (Some m) result }
 {
     recognise_among(candidates(name), original, offset, others, linked)
 }
@@ -195,16 +215,20 @@ pub fn recognise_chosen(
     others: &[FieldBits],
     linked: &[u8],
     facts: &LinkFacts,
-) -> Option<RiscVChoice>
+) -> Option<RiscVMade>
     requires { length original.now ≤ 64 }
-    ensures { (c : RiscVChoice) → (result ≡ Some c)
-        ↔ (IsRiscVChoice name original.now offset facts.now c
-        × RiscVLeaves c original.now offset others.now linked.now) }
+    ensures { (m : RiscVMade) → (result ≡ Some m)
+        ↔ (IsRiscVChoice name original.now offset facts.now m.choice
+        × (RiscVLeaves m.choice original.now offset others.now linked.now
+        × RiscVReads m.choice offset linked.now m.offset m.value)) }
 {
     let chosen = choose(name, original, offset, facts);
-    if is_left(chosen, original, offset, others, linked) {
-        Some(chosen)
-    } else {
-        None
-    }
+    recognise_one(chosen, original, offset, others, linked)
 }
+
+/// Where a rewrite is applied, the value of the relocation after it is written, and the deleted
+/// bytes are taken out, the choice of both leaves the bytes that stay. So `recognise` returns what
+/// `choose` chose, after `apply` and `write`.
+pub fn written_choices_are_left()
+    ensures { WrittenIsLeft riscv_rewrite riscv_row_of riscv_deleted }
+{}

@@ -1,26 +1,31 @@
 //! What a linker made of a relocation of x86-64.
 
 ghost use Rattle.std.specs.Prelude.{◌≡◌, ◌-◌, ◌≤◌, ◌↔◌, Some, None, length, slice_index};
-ghost use Rattle.linker_elf.specs.X86Relocations.{x86_64_row};
+ghost use Rattle.linker_elf.specs.X86Relocations.{x86_64_name, x86_64_row};
 ghost use Rattle.linker_recognise.specs.Inner.Candidates.{padded};
 ghost use Rattle.linker_recognise.specs.Recognised.{IsOneOf, AreThose};
-ghost use Rattle.linker_recognise.specs.X86Recognised.{X86Choice, X86Leaves, x86_64_choices, IsX86Made};
+ghost use Rattle.linker_recognise.specs.X86Recognised.{X86Choice, X86Leaves, x86_64_choices};
+ghost use Rattle.linker_recognise.specs.X86Recognised.{X86Made, X86Reads, IsX86Found};
 ghost use Rattle.linker_recognise.specs.WrittenFields.{X86WrittenIsLeft};
 ghost use Rattle.linker_utils.specs.Choices as choices;
 ghost use Rattle.linker_utils.specs.X86Choices as tables;
 ghost use Rattle.linker_utils.specs.X86Choices.{IsX86Choice};
+ghost use Rattle.linker_utils.specs.declared.architecture.Relaxation.TheVariants as relaxations;
 ghost use Rattle.linker_utils.specs.declared.elf.choice.LinkFacts.{LinkFacts};
 ghost use Rattle.linker_utils.specs.X86Originals.{x86_64_matches};
 ghost use Rattle.linker_utils.specs.X86RelocationsAfter as replaced;
 
 use crate::candidates::{CANDIDATES, four, one, three, two};
-use crate::engine::{Kind, Name, is_left, recognise_among};
+use crate::engine::{Kind, Made, Name, recognise_among, recognise_one};
 use crate::fields::FieldBits;
+use linker_utils::architecture::Relaxation;
 use linker_utils::elf::{Choice, LinkFacts, Row};
 use linker_utils::riscv64::DeletedBytes;
 use linker_utils::x86_64::{RelaxationKind, X86_64Relocation, choose, row};
 
 type X86Choice = Choice<RelaxationKind, X86_64Relocation>;
+
+type X86Made = Made<RelaxationKind, X86_64Relocation>;
 
 #[inline(always)]
 fn choice(kind: RelaxationKind, relocation: X86_64Relocation) -> X86Choice
@@ -222,6 +227,8 @@ impl Kind for RelaxationKind {
 
     ghost deleted = { λ kind. None };
 
+    ghost relaxation_of = { relaxations.X86_64 };
+
     fn is_meant_for(self, section: &[u8], offset: u64) -> bool {
         self.matches(section, offset)
     }
@@ -233,10 +240,16 @@ impl Kind for RelaxationKind {
     fn is(self, other: RelaxationKind) -> bool {
         self == other
     }
+
+    fn relaxation(self) -> Relaxation {
+        Relaxation::X86_64(self)
+    }
 }
 
 impl Name for X86_64Relocation {
     ghost row_of = { x86_64_row };
+
+    ghost elf_name = { x86_64_name };
 
     fn find_row(self) -> Option<Row> {
         row(self)
@@ -252,24 +265,31 @@ impl Name for X86_64Relocation {
                 )
         )
     }
+
+    fn code(self) -> u32 {
+        self.elf_code()
+    }
 }
 
-/// Which rewrites, and relocations after them, a linker may have made at the relocation with a name,
-/// whose offset in the original bytes is given: those after which the original bytes differ from the
-/// linked ones only in the field of the relocation after it and in `others`. None is returned twice.
-/// They are in the order of the table of `choose`, and the last of them is `NoOp` and the same name.
+/// Which rewrites, and relocations after them, a linker may have made at the relocation with a
+/// name, whose offset in the original bytes is given: those after which the original bytes differ
+/// from the linked ones only in the field of the relocation after it and in `others`. No choice is
+/// returned twice. They are in the order of the table of `choose`, and the last of them is `NoOp`
+/// and the same name.
 ///
 /// - Both windows may begin before the relocation, at the same place. The original one has at most
 ///   `MAX_WINDOW` bytes. A choice that deletes bytes leaves fewer.
 /// - `others` are bits of the original window that other relocations write, as
 ///   `FieldBits::of_row` gives them, among them those of a relocation that the choice skips. Of an
 ///   instruction that another relocation rewrites or deletes they are all bits. Where a skipped
-///   relocation isn't named, its field is compared with what the rewrite left, since it isn't applied.
-/// - Nothing needs to be known of the symbol. So several choices are returned where their bytes are the
-///   same, as where only the relocation changes.
-/// - A choice is returned only if its rewrite is meant for what is at the offset, as `matches` says, and
-///   the field is in the window. Each that `choose` makes, whatever the linker knows, is one of them
-///   if it leaves the linked bytes so.
+///   relocation isn't named, its field is compared with what the rewrite left, since it isn't
+///   applied.
+/// - Nothing needs to be known of the symbol. So several choices are returned where their bytes are
+///   the same, as where only the relocation changes. Each comes with the offset of its field in the
+///   linked bytes and with what `read` of `linker_reads` returns there.
+/// - A choice is returned only if its rewrite is meant for what is at the offset, as `matches`
+///   says, and the field is in the window. Each that `choose` makes, whatever the linker knows, is
+///   one of them if it leaves the linked bytes so.
 ///
 /// ```
 /// use linker_recognise::x86_64::recognise;
@@ -280,7 +300,9 @@ impl Name for X86_64Relocation {
 /// let linked = [0x48, 0x8d, 0x3d, 0x10, 0x20, 0, 0];
 /// let name = X86_64Relocation::R_X86_64_REX_GOTPCRELX;
 /// let mut choices = recognise(name, &original, 3, &[], &linked).into_iter().flatten();
-/// assert_eq!(choices.next().unwrap().kind, RelaxationKind::MovIndirectToLea);
+/// let made = choices.next().unwrap();
+/// assert_eq!(made.choice.kind, RelaxationKind::MovIndirectToLea);
+/// assert_eq!(made.value.unwrap().number(), Some(0x2010));
 /// assert!(choices.next().is_none());
 /// ```
 pub fn recognise(
@@ -289,12 +311,14 @@ pub fn recognise(
     offset: u64,
     others: &[FieldBits],
     linked: &[u8],
-) -> [Option<X86Choice>; CANDIDATES]
+) -> [Option<X86Made>; CANDIDATES]
     requires { length original.now ≤ 64 }
-    ensures found { AreThose (IsX86Made name original.now offset others.now linked.now) result }
-    ensures any { (facts : LinkFacts) (c : X86Choice)
-        → IsX86Choice name original.now offset facts c
-        → X86Leaves c original.now offset others.now linked.now → IsOneOf (Some c) result }
+    ensures found { AreThose (IsX86Found name original.now offset others.now linked.now)
+        result }
+    ensures any { (facts : LinkFacts) (m : X86Made)
+        → IsX86Choice name original.now offset facts m.choice
+        → X86Leaves m.choice original.now offset others.now linked.now
+        → X86Reads m.choice offset linked.now m.offset m.value → IsOneOf (Some m) result }
 {
     let choices = candidates(name, opcode_before(original, offset));
     recognise_among(choices, original, offset, others, linked)
@@ -309,22 +333,19 @@ pub fn recognise_chosen(
     others: &[FieldBits],
     linked: &[u8],
     facts: &LinkFacts,
-) -> Option<X86Choice>
+) -> Option<X86Made>
     requires { length original.now ≤ 64 }
-    ensures { (c : X86Choice) → (result ≡ Some c)
-        ↔ (IsX86Choice name original.now offset facts.now c
-        × X86Leaves c original.now offset others.now linked.now) }
+    ensures { (m : X86Made) → (result ≡ Some m)
+        ↔ (IsX86Choice name original.now offset facts.now m.choice
+        × (X86Leaves m.choice original.now offset others.now linked.now
+        × X86Reads m.choice offset linked.now m.offset m.value)) }
 {
     let chosen = choose(name, original, offset, facts);
-    if is_left(chosen, original, offset, others, linked) {
-        Some(chosen)
-    } else {
-        None
-    }
+    recognise_one(chosen, original, offset, others, linked)
 }
 
-/// Where a rewrite is applied, and the value of the relocation after it is written, the choice of both
-/// leaves these bytes. So `recognise` returns what `choose` chose, after `apply` and `write`.
+/// Where a rewrite is applied, and the value of the relocation after it is written, the choice of
+/// both leaves these bytes. So `recognise` returns what `choose` chose, after `apply` and `write`.
 pub fn written_choices_are_left()
     ensures { X86WrittenIsLeft }
 {}

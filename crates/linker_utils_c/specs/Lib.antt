@@ -1,6 +1,7 @@
 pub mod Choices
 pub mod Deltas
 pub mod Forms
+pub mod PackRuns
 pub mod Packing
 pub mod Relaxing
 pub mod Relocate

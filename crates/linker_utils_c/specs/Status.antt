@@ -26,6 +26,10 @@ use Rattle.linker_utils_c.specs.declared.status.Status.TheVariants.{BadReach, Ba
 use Rattle.linker_utils_c.specs.declared.status.Status.TheVariants.{PowerBelowUnit, UnevenEnd}
 use Rattle.linker_utils_c.specs.declared.status.Status.TheVariants.{TooFewNops, UnevenNops}
 use Rattle.linker_utils_c.specs.declared.status.Status.TheVariants.{TargetInside}
+use Rattle.linker_utils_c.specs.declared.status.Status.TheVariants.{ItemOutOfSection}
+use Rattle.linker_utils_c.specs.declared.status.Status.TheVariants.{NotItsFirstBytes}
+use Rattle.linker_utils_c.specs.declared.status.Status.TheVariants.{NotItsInstructions, NoShape}
+use Rattle.linker_utils_c.specs.declared.status.Status.TheVariants.{TargetOutOfReach}
 
 abbrev pub code : Status → ℕ
 code Success = 0
@@ -74,6 +78,11 @@ code UnevenEnd = 44
 code TooFewNops = 45
 code UnevenNops = 46
 code TargetInside = 47
+code ItemOutOfSection = 53
+code NotItsFirstBytes = 54
+code NotItsInstructions = 55
+code NoShape = 56
+code TargetOutOfReach = 57
 
 -- the status is one of these
 abbrev pub IsOneOf : List Status → ℕ → Type 0

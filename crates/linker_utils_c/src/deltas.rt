@@ -4,7 +4,7 @@
 //! list deletions. Each call is safe for any deltas, and returns one of the statuses that it names.
 //! What else it returns is promised of valid ones.
 
-ghost use Rattle.std.specs.Prelude.{◌≡◌, ◌≢◌, ◌↔◌, ◌⊎◌, MatchOption, length, map};
+ghost use Rattle.std.specs.Prelude.{◌≡◌, ◌≢◌, ◌↔◌, ◌⊎◌, MatchOption, length, map, IsTrue};
 ghost use Rattle.std.specs.List.Sorted.{IsNonDecreasing};
 ghost use Rattle.linker_base.specs.Deletions.{IsValid, IsSelected, HasInput, bytes_of, rank};
 ghost use Rattle.linker_base.specs.Deltas.{RecordsDeletions, deletions_of};
@@ -136,6 +136,15 @@ pub extern "C" fn linker_utils_deltas_output_to_input_nonnull(
             Status::Success.number()
         }
     }
+}
+
+/// Whether the deltas are valid: they list deletions that `linker_utils_deltas_create` accepts,
+/// each with the sum of the bytes up to it. O(n).
+#[unsafe(no_mangle)]
+pub extern "C" fn linker_utils_has_valid_deltas_nonnull(deltas: &[RelaxDelta]) -> bool
+    ensures { IsTrue result ↔ AreValidDeltas deltas.now }
+{
+    DeltaSlice::new(deltas).has_valid_deltas()
 }
 
 /// The bytes that all deletions take together.

@@ -7,6 +7,7 @@ mod deltas;
 mod forms;
 mod heads;
 mod merges;
+mod pack_runs;
 mod packing;
 mod readers;
 mod relaxing;

@@ -90,7 +90,7 @@ fn status_of(fault: Fault) -> u32
 }
 
 /// The items that C's structs are.
-fn items_of(alloc: Global, items: &[ItemNumbers]) -> Result<Vec<Item>, OutOfMemory>
+pub(crate) fn items_of(alloc: Global, items: &[ItemNumbers]) -> Result<Vec<Item>, OutOfMemory>
     ensures { IfOk result (λ made. made.items ≡ items_in items.now) }
 {
     let mut made = Vec::with_capacity(alloc, items.len())?;

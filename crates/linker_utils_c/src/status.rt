@@ -8,7 +8,7 @@ ghost use Rattle.linker_utils_c.specs.Status.{code};
 pub enum Status {
     /// The call did what it says.
     Success,
-    /// No architecture has this machine number, or it has no instruction forms.
+    /// No architecture has this machine number, or the call isn't for this architecture.
     UnknownArchitecture,
     /// The architecture has no form with this number.
     UnknownForm,
@@ -99,6 +99,17 @@ pub enum Status {
     UnevenNops,
     /// The target is strictly inside the bytes that an item may lose.
     TargetInside,
+    /// The item is not in the section.
+    ItemOutOfSection = 53,
+    /// The bytes of the item that stay are not its first ones.
+    NotItsFirstBytes,
+    /// The instructions of the site are not those that its shapes stand for.
+    NotItsInstructions,
+    /// No instruction, or no nops, have as many bytes as stay of the item.
+    NoShape,
+    /// The instruction of as many bytes as stay does not reach the target: it is too far, or its
+    /// distance is not a multiple of what the instruction counts in.
+    TargetOutOfReach,
 }
 
 impl Status {

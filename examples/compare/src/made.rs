@@ -19,27 +19,11 @@ pub fn choices(
     others: &[FieldBits],
     linked: &[u8],
 ) -> Vec<Chosen> {
-    macro_rules! of {
-        ($module:ident, $name:ident, $variant:ident) => {{
-            let name = $module::$name::from_elf(code);
-            recognise::$module::recognise(name, original, offset, others, linked)
-                .into_iter()
-                .flatten()
-                .map(|one| Choice {
-                    kind: Relaxation::$variant(one.kind),
-                    relocation: one.relocation.elf_code(),
-                })
-                .collect()
-        }};
-    }
-    match architecture {
-        Architecture::AArch64 => of!(aarch64, AArch64Relocation, AArch64),
-        Architecture::RiscV => of!(riscv64, RiscVRelocation, RiscV),
-        Architecture::LoongArch64 => of!(loongarch64, LoongArch64Relocation, LoongArch64),
-        Architecture::Ppc64 => of!(ppc64, Ppc64Relocation, Ppc64),
-        Architecture::X86_64 => of!(x86_64, X86_64Relocation, X86_64),
-        _ => Vec::new(),
-    }
+    recognise::architecture::recognise(architecture, code, original, offset, others, linked)
+        .into_iter()
+        .flatten()
+        .map(|made| made.choice)
+        .collect()
 }
 
 /// Whether a choice changes instructions.

@@ -35,6 +35,8 @@ struct Random {
     listed: Option<(u64, u64)>,
     /// How many items or relocations of a run there are, as many as most arrays then have elements.
     run: usize,
+    /// How many bytes a section has, of which an output then has mostly as many or a few less.
+    section: usize,
 }
 
 impl Random {
@@ -143,6 +145,7 @@ macro_rules! made {
                         "relocation" | "r_type" => random.below(1200),
                         "rd" => random.below(34),
                         "link" => random.below(3),
+                        "base" if random.below(2) == 0 => 0,
                         _ => random.number(),
                     };
                     number as $kind
@@ -184,11 +187,21 @@ impl Made for u8 {
             return (0..len).map(|_| random.word() as u8).collect();
         }
         const WORDS: [u32; 6] = [0x97, 0x80e7, 0xf940_0000, 0xf280_0021, 0x0080_8080, 0x0001_0537];
-        let len = random.below(40) as usize;
+        let len = match name {
+            "packed" if random.below(8) != 0 => {
+                random.section.saturating_sub(2 * random.below(4) as usize)
+            }
+            _ => random.below(40) as usize,
+        };
+        if name == "section" {
+            random.section = len;
+        }
         let mut bytes: Vec<u8> = (0..len).map(|_| random.word() as u8).collect();
         if random.below(2) == 0 {
-            for word in bytes.chunks_exact_mut(4) {
-                word.copy_from_slice(&WORDS[random.below(6) as usize].to_le_bytes());
+            let is_of_calls = random.below(2) == 0;
+            for (index, word) in bytes.chunks_exact_mut(4).enumerate() {
+                let chosen = if is_of_calls { index % 2 } else { random.below(6) as usize };
+                word.copy_from_slice(&WORDS[chosen].to_le_bytes());
             }
         }
         bytes
@@ -279,7 +292,7 @@ macro_rules! compare {
             unsafe extern "C" {
                 fn $name($($c)*) -> $result;
             }
-            let mut $random = Random { state: 0x9e37_79b9_7f4a_7c15, listed: None, run: 0 };
+            let mut $random = Random { state: 0x9e37_79b9_7f4a_7c15, listed: None, run: 0, section: 0 };
             let mut returned = Vec::new();
             for _ in 0..CALLS {
                 $($made)*

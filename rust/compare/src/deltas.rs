@@ -95,6 +95,12 @@ pub fn linker_utils_deltas_output_to_input_nonnull(
     }
 }
 
+/// Whether the deltas are valid: they list deletions that `linker_utils_deltas_create` accepts,
+/// each with the sum of the bytes up to it. O(n).
+pub fn linker_utils_has_valid_deltas_nonnull(deltas: &[RelaxDelta]) -> bool {
+    DeltaSlice::new(deltas).has_valid_deltas()
+}
+
 /// The bytes that all deletions take together.
 pub fn linker_utils_deltas_total_deleted_nonnull(deltas: &[RelaxDelta]) -> u64 {
     DeltaSlice::new(deltas).total_deleted()

@@ -77,7 +77,7 @@ fn status_of(fault: Fault) -> u32 {
 }
 
 /// The items that C's structs are.
-fn items_of(items: &[ItemNumbers]) -> Result<Vec<Item>, OutOfMemory> {
+pub(crate) fn items_of(items: &[ItemNumbers]) -> Result<Vec<Item>, OutOfMemory> {
     let mut made = Vec::fallible_with_capacity(items.len())?;
     for numbers in items {
         made.push_reserved(numbers.item());

@@ -2,13 +2,16 @@
 //! What a linker made of a relocation of AArch64.
 
 use crate::linker_recognise::candidates::{CANDIDATES, one, three, two};
-use crate::linker_recognise::engine::{Kind, Name, is_left, recognise_among};
+use crate::linker_recognise::engine::{Kind, Made, Name, recognise_among, recognise_one};
 use crate::linker_recognise::fields::FieldBits;
 use crate::aarch64::{AArch64Relocation, RelaxationKind, choose, row};
+use crate::architecture::Relaxation;
 use crate::elf::{Choice, LinkFacts, Row};
 use crate::riscv64::DeletedBytes;
 
 type AArch64Choice = Choice<RelaxationKind, AArch64Relocation>;
+
+type AArch64Made = Made<RelaxationKind, AArch64Relocation>;
 
 #[inline(always)]
 fn choice(kind: RelaxationKind, relocation: AArch64Relocation) -> AArch64Choice {
@@ -108,6 +111,10 @@ impl Kind for RelaxationKind {
     fn is(self, other: RelaxationKind) -> bool {
         self == other
     }
+
+    fn relaxation(self) -> Relaxation {
+        Relaxation::AArch64(self)
+    }
 }
 
 impl Name for AArch64Relocation {
@@ -124,10 +131,14 @@ impl Name for AArch64Relocation {
             )
         )
     }
+
+    fn code(self) -> u32 {
+        self.elf_code()
+    }
 }
 
-/// Which rewrites, and relocations after them, a linker may have made at the relocation with a name,
-/// whose offset in the original bytes is given, as `recognise` of `x86_64` says.
+/// Which rewrites, and relocations after them, a linker may have made at the relocation with a
+/// name, whose offset in the original bytes is given, as `recognise` of `x86_64` says.
 ///
 /// ```
 /// use linker_utils::recognise::aarch64::recognise;
@@ -138,7 +149,7 @@ impl Name for AArch64Relocation {
 /// let linked = [0x63, 0x40, 0x00, 0x91];
 /// let name = AArch64Relocation::R_AARCH64_LD64_GOT_LO12_NC;
 /// let mut choices = recognise(name, &original, 0, &[], &linked).into_iter().flatten();
-/// assert_eq!(choices.next().unwrap().kind, RelaxationKind::LdrToAdd);
+/// assert_eq!(choices.next().unwrap().choice.kind, RelaxationKind::LdrToAdd);
 /// assert!(choices.next().is_none());
 /// ```
 ///
@@ -153,7 +164,7 @@ pub fn recognise(
     offset: u64,
     others: &[FieldBits],
     linked: &[u8],
-) -> [Option<AArch64Choice>; CANDIDATES] {
+) -> [Option<AArch64Made>; CANDIDATES] {
     debug_assert!(original.len() <= 64);
     recognise_among(candidates(name), original, offset, others, linked)
 }
@@ -173,12 +184,13 @@ pub fn recognise_chosen(
     others: &[FieldBits],
     linked: &[u8],
     facts: &LinkFacts,
-) -> Option<AArch64Choice> {
+) -> Option<AArch64Made> {
     debug_assert!(original.len() <= 64);
     let chosen = choose(name, original, offset, facts);
-    if is_left(chosen, original, offset, others, linked) {
-        Some(chosen)
-    } else {
-        None
-    }
+    recognise_one(chosen, original, offset, others, linked)
 }
+
+/// Where a rewrite is applied, and the value of the relocation after it is written, the choice of
+/// both leaves these bytes. So `recognise` returns what `choose` chose, after `apply` and `write`.
+#[doc(hidden)]
+pub fn written_choices_are_left() {}

@@ -124,9 +124,10 @@ fn mask_of(row: &Row, bytes: &[u8]) -> u64 {
     }
 }
 
-/// Which bits of the bytes that `bytes` begins with a write of a row may change, bit 0 the lowest of
-/// the first byte. Of an instruction these are the bits of its form, and for `Movnz` those of the
-/// opcode that it sets. All other bits are the same after each write. Requires the row's window.
+/// Which bits of the bytes that `bytes` begins with a write of a row may change, bit 0 the lowest
+/// of the first byte. Of an instruction these are the bits of its form, and for `Movnz` those of
+/// the opcode that it sets. All other bits are the same after each write. Requires the row's
+/// window.
 ///
 /// ```
 /// use linker_utils::recognise::field_bits;
@@ -172,8 +173,8 @@ impl FieldBits {
         })
     }
 
-    /// Whether a bit of a byte of the window is one of these. The byte counts from the window's first
-    /// one, and bit 0 is its lowest.
+    /// Whether a bit of a byte of the window is one of these. The byte counts from the window's
+    /// first one, and bit 0 is its lowest.
     #[inline(always)]
     fn contains(&self, byte: u64, bit: u32) -> bool {
         if byte < self.offset || byte - self.offset >= 8 {
@@ -213,8 +214,8 @@ fn kept_index(start: u64, count: u64, index: u64) -> u64 {
     if index < start { index } else { index + count }
 }
 
-/// Whether a window differs from another, of which `count` bytes from `start` on are deleted, in some
-/// bits only.
+/// Whether a window differs from another, of which `count` bytes from `start` on are deleted, in
+/// some bits only.
 pub(crate) fn are_same_but(
     field: &FieldBits,
     others: &[FieldBits],
@@ -232,8 +233,8 @@ pub(crate) fn are_same_but(
     true
 }
 
-/// Whether two windows of the same length differ in the field of a row only, which is at their front.
-/// False if the lengths differ or the row's window isn't in them.
+/// Whether two windows of the same length differ in the field of a row only, which is at their
+/// front. False if the lengths differ or the row's window isn't in them.
 ///
 /// ```
 /// use linker_utils::recognise::same_but_for;
@@ -254,3 +255,8 @@ pub fn same_but_for(row: &Row, a: &[u8], b: &[u8]) -> bool {
     };
     are_same_but(&field, &[], 0, 0, a, b)
 }
+
+/// A write of the value of any row to its window changes bits of the row's field only, which are
+/// those that `field_bits` returns.
+#[doc(hidden)]
+pub fn writes_change_fields() {}

@@ -2,13 +2,16 @@
 //! What a linker made of a relocation of LoongArch.
 
 use crate::linker_recognise::candidates::{CANDIDATES, one, three, two};
-use crate::linker_recognise::engine::{Kind, Name, is_left, recognise_among};
+use crate::linker_recognise::engine::{Kind, Made, Name, recognise_among, recognise_one};
 use crate::linker_recognise::fields::FieldBits;
+use crate::architecture::Relaxation;
 use crate::elf::{Choice, LinkFacts, Row};
 use crate::loongarch64::{LoongArch64Relocation, RelaxationKind, choose, row};
 use crate::riscv64::DeletedBytes;
 
 type LoongArchChoice = Choice<RelaxationKind, LoongArch64Relocation>;
+
+type LoongArchMade = Made<RelaxationKind, LoongArch64Relocation>;
 
 #[inline(always)]
 fn choice(kind: RelaxationKind, relocation: LoongArch64Relocation) -> LoongArchChoice {
@@ -129,6 +132,10 @@ impl Kind for RelaxationKind {
     fn is(self, other: RelaxationKind) -> bool {
         self == other
     }
+
+    fn relaxation(self) -> Relaxation {
+        Relaxation::LoongArch64(self)
+    }
 }
 
 impl Name for LoongArch64Relocation {
@@ -145,13 +152,17 @@ impl Name for LoongArch64Relocation {
             )
         )
     }
+
+    fn code(self) -> u32 {
+        self.elf_code()
+    }
 }
 
-/// Which rewrites, and relocations after them, a linker may have made at the relocation with a name,
-/// whose offset in the original bytes is given, as `recognise` of `x86_64` says.
+/// Which rewrites, and relocations after them, a linker may have made at the relocation with a
+/// name, whose offset in the original bytes is given, as `recognise` of `x86_64` says.
 ///
-/// A rewrite after which bytes are deleted leaves the others. So the linked window is shorter by the
-/// deleted bytes, and empty if they are all of the original window.
+/// A rewrite after which bytes are deleted leaves the others. So the linked window is shorter by
+/// the deleted bytes, and empty if they are all of the original window.
 ///
 /// ```
 /// use linker_utils::recognise::loongarch64::recognise;
@@ -162,7 +173,7 @@ impl Name for LoongArch64Relocation {
 /// let linked = [0, 0x04, 0, 0x54];
 /// let name = LoongArch64Relocation::R_LARCH_CALL36;
 /// let mut choices = recognise(name, &original, 0, &[], &linked).into_iter().flatten();
-/// assert_eq!(choices.next().unwrap().kind, RelaxationKind::CallToBl);
+/// assert_eq!(choices.next().unwrap().choice.kind, RelaxationKind::CallToBl);
 /// assert!(choices.next().is_none());
 /// ```
 ///
@@ -177,7 +188,7 @@ pub fn recognise(
     offset: u64,
     others: &[FieldBits],
     linked: &[u8],
-) -> [Option<LoongArchChoice>; CANDIDATES] {
+) -> [Option<LoongArchMade>; CANDIDATES] {
     debug_assert!(original.len() <= 64);
     recognise_among(candidates(name), original, offset, others, linked)
 }
@@ -197,12 +208,14 @@ pub fn recognise_chosen(
     others: &[FieldBits],
     linked: &[u8],
     facts: &LinkFacts,
-) -> Option<LoongArchChoice> {
+) -> Option<LoongArchMade> {
     debug_assert!(original.len() <= 64);
     let chosen = choose(name, original, offset, facts);
-    if is_left(chosen, original, offset, others, linked) {
-        Some(chosen)
-    } else {
-        None
-    }
+    recognise_one(chosen, original, offset, others, linked)
 }
+
+/// Where a rewrite is applied, the value of the relocation after it is written, and the deleted
+/// bytes are taken out, the choice of both leaves the bytes that stay. So `recognise` returns what
+/// `choose` chose, after `apply` and `write`.
+#[doc(hidden)]
+pub fn written_choices_are_left() {}

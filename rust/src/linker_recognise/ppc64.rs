@@ -2,13 +2,16 @@
 //! What a linker made of a relocation of PowerPC64.
 
 use crate::linker_recognise::candidates::{CANDIDATES, four, one, three, two};
-use crate::linker_recognise::engine::{Kind, Name, is_left, recognise_among};
+use crate::linker_recognise::engine::{Kind, Made, Name, recognise_among, recognise_one};
 use crate::linker_recognise::fields::FieldBits;
+use crate::architecture::Relaxation;
 use crate::elf::{Choice, LinkFacts, Row};
 use crate::ppc64::{Ppc64Relocation, RelaxationKind, choose, row};
 use crate::riscv64::DeletedBytes;
 
 type Ppc64Choice = Choice<RelaxationKind, Ppc64Relocation>;
+
+type Ppc64Made = Made<RelaxationKind, Ppc64Relocation>;
 
 #[inline(always)]
 fn choice(kind: RelaxationKind, relocation: Ppc64Relocation) -> Ppc64Choice {
@@ -128,6 +131,10 @@ impl Kind for RelaxationKind {
     fn is(self, other: RelaxationKind) -> bool {
         self == other
     }
+
+    fn relaxation(self) -> Relaxation {
+        Relaxation::Ppc64(self)
+    }
 }
 
 impl Name for Ppc64Relocation {
@@ -138,10 +145,14 @@ impl Name for Ppc64Relocation {
     fn repeats(self, _other: Ppc64Relocation) -> bool {
         false
     }
+
+    fn code(self) -> u32 {
+        self.elf_code()
+    }
 }
 
-/// Which rewrites, and relocations after them, a linker may have made at the relocation with a name,
-/// whose offset in the original bytes is given, as `recognise` of `x86_64` says.
+/// Which rewrites, and relocations after them, a linker may have made at the relocation with a
+/// name, whose offset in the original bytes is given, as `recognise` of `x86_64` says.
 ///
 /// ```
 /// use linker_utils::recognise::ppc64::recognise;
@@ -152,7 +163,7 @@ impl Name for Ppc64Relocation {
 /// let linked = [0x10, 0, 0x63, 0x38];
 /// let name = Ppc64Relocation::R_PPC64_GOT16_LO_DS;
 /// let mut choices = recognise(name, &original, 0, &[], &linked).into_iter().flatten();
-/// assert_eq!(choices.next().unwrap().kind, RelaxationKind::LdToAddi);
+/// assert_eq!(choices.next().unwrap().choice.kind, RelaxationKind::LdToAddi);
 /// assert!(choices.next().is_none());
 /// ```
 ///
@@ -167,7 +178,7 @@ pub fn recognise(
     offset: u64,
     others: &[FieldBits],
     linked: &[u8],
-) -> [Option<Ppc64Choice>; CANDIDATES] {
+) -> [Option<Ppc64Made>; CANDIDATES] {
     debug_assert!(original.len() <= 64);
     recognise_among(candidates(name), original, offset, others, linked)
 }
@@ -187,12 +198,13 @@ pub fn recognise_chosen(
     others: &[FieldBits],
     linked: &[u8],
     facts: &LinkFacts,
-) -> Option<Ppc64Choice> {
+) -> Option<Ppc64Made> {
     debug_assert!(original.len() <= 64);
     let chosen = choose(name, original, offset, facts);
-    if is_left(chosen, original, offset, others, linked) {
-        Some(chosen)
-    } else {
-        None
-    }
+    recognise_one(chosen, original, offset, others, linked)
 }
+
+/// Where a rewrite is applied, and the value of the relocation after it is written, the choice of
+/// both leaves these bytes. So `recognise` returns what `choose` chose, after `apply` and `write`.
+#[doc(hidden)]
+pub fn written_choices_are_left() {}

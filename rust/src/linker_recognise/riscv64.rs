@@ -2,12 +2,15 @@
 //! What a linker made of a relocation of RISC-V.
 
 use crate::linker_recognise::candidates::{CANDIDATES, five, four, one, three, two};
-use crate::linker_recognise::engine::{Kind, Name, is_left, recognise_among};
+use crate::linker_recognise::engine::{Kind, Made, Name, recognise_among, recognise_one};
 use crate::linker_recognise::fields::FieldBits;
+use crate::architecture::Relaxation;
 use crate::elf::{Choice, LinkFacts, Row};
 use crate::riscv64::{DeletedBytes, RelaxationKind, RiscVRelocation, choose, row};
 
 type RiscVChoice = Choice<RelaxationKind, RiscVRelocation>;
+
+type RiscVMade = Made<RelaxationKind, RiscVRelocation>;
 
 #[inline(always)]
 fn choice(kind: RelaxationKind, relocation: RiscVRelocation) -> RiscVChoice {
@@ -117,6 +120,10 @@ impl Kind for RelaxationKind {
     fn is(self, other: RelaxationKind) -> bool {
         self == other
     }
+
+    fn relaxation(self) -> Relaxation {
+        Relaxation::RiscV(self)
+    }
 }
 
 impl Name for RiscVRelocation {
@@ -130,13 +137,17 @@ impl Name for RiscVRelocation {
             (RiscVRelocation::R_RISCV_NONE, RiscVRelocation::R_RISCV_NONE)
         )
     }
+
+    fn code(self) -> u32 {
+        self.elf_code()
+    }
 }
 
-/// Which rewrites, and relocations after them, a linker may have made at the relocation with a name,
-/// whose offset in the original bytes is given, as `recognise` of `x86_64` says.
+/// Which rewrites, and relocations after them, a linker may have made at the relocation with a
+/// name, whose offset in the original bytes is given, as `recognise` of `x86_64` says.
 ///
-/// A rewrite after which bytes are deleted leaves the others. So the linked window is shorter by the
-/// deleted bytes, and empty if they are all of the original window.
+/// A rewrite after which bytes are deleted leaves the others. So the linked window is shorter by
+/// the deleted bytes, and empty if they are all of the original window.
 ///
 /// ```
 /// use linker_utils::recognise::riscv64::recognise;
@@ -147,7 +158,7 @@ impl Name for RiscVRelocation {
 /// let linked = [0xef, 0, 0, 0x10];
 /// let name = RiscVRelocation::R_RISCV_CALL_PLT;
 /// let mut choices = recognise(name, &original, 0, &[], &linked).into_iter().flatten();
-/// assert_eq!(choices.next().unwrap().kind, RelaxationKind::CallToJal);
+/// assert_eq!(choices.next().unwrap().choice.kind, RelaxationKind::CallToJal);
 /// assert!(choices.next().is_none());
 /// ```
 ///
@@ -162,7 +173,7 @@ pub fn recognise(
     offset: u64,
     others: &[FieldBits],
     linked: &[u8],
-) -> [Option<RiscVChoice>; CANDIDATES] {
+) -> [Option<RiscVMade>; CANDIDATES] {
     debug_assert!(original.len() <= 64);
     recognise_among(candidates(name), original, offset, others, linked)
 }
@@ -182,12 +193,14 @@ pub fn recognise_chosen(
     others: &[FieldBits],
     linked: &[u8],
     facts: &LinkFacts,
-) -> Option<RiscVChoice> {
+) -> Option<RiscVMade> {
     debug_assert!(original.len() <= 64);
     let chosen = choose(name, original, offset, facts);
-    if is_left(chosen, original, offset, others, linked) {
-        Some(chosen)
-    } else {
-        None
-    }
+    recognise_one(chosen, original, offset, others, linked)
 }
+
+/// Where a rewrite is applied, the value of the relocation after it is written, and the deleted
+/// bytes are taken out, the choice of both leaves the bytes that stay. So `recognise` returns what
+/// `choose` chose, after `apply` and `write`.
+#[doc(hidden)]
+pub fn written_choices_are_left() {}

@@ -2,9 +2,12 @@
 //! What linkers made of instructions and sequences.
 
 use crate::linker_recognise::fields::{FieldBits, same_but_for};
-use crate::linker_recognise::{aarch64, loongarch64, ppc64, riscv64, x86_64};
+use crate::linker_recognise::{Made, aarch64, architecture, loongarch64, ppc64, riscv64, x86_64};
+use crate::linker_base::bit_misc::BitRange;
+use crate::linker_reads::fields::FieldValue;
 use crate::aarch64::{AArch64Relocation, RelaxationKind as AArch64Kind};
-use crate::elf::Choice;
+use crate::architecture::Relaxation;
+use crate::elf::{Architecture, Choice, LinkFacts};
 use crate::loongarch64::{LoongArch64Relocation, RelaxationKind as LoongArchKind};
 use crate::ppc64::{Ppc64Relocation, RelaxationKind as Ppc64Kind};
 use crate::riscv64::{RelaxationKind as RiscVKind, RiscVRelocation};
@@ -12,6 +15,24 @@ use crate::x86_64::{RelaxationKind as X86Kind, X86_64Relocation};
 
 fn x86_64_choice(kind: X86Kind, relocation: X86_64Relocation) -> Choice<X86Kind, X86_64Relocation> {
     Choice { kind, relocation }
+}
+
+/// A value of which all 64 bits are known.
+fn whole(number: i64) -> FieldValue {
+    FieldValue {
+        known: BitRange { start: 0, end: 64 },
+        bits: number.cast_unsigned(),
+        rounding: 0,
+    }
+}
+
+/// A value of which the bits below `end` are known.
+fn low_bits(end: u8, bits: u64) -> FieldValue {
+    FieldValue {
+        known: BitRange { start: 0, end },
+        bits,
+        rounding: 0,
+    }
 }
 
 /// A general-dynamic TLS sequence as GNU as assembles it, and a byte behind it.
@@ -34,7 +55,13 @@ fn a_sequence_that_gnu_ld_rewrote_is_recognised() {
         X86_64Relocation::R_X86_64_TPOFF32,
     );
     let found = x86_64::recognise(name, &GENERAL_DYNAMIC, 4, &[], &LOCAL_EXEC);
-    assert_eq!(found, [Some(local_exec), None, None, None, None, None]);
+    // lea -0xcb8(%rax), %rax
+    let made = Made {
+        choice: local_exec,
+        offset: 12,
+        value: Some(whole(-0xcb8)),
+    };
+    assert_eq!(found, [Some(made), None, None, None, None, None]);
 
     // with another operation on `%rax`, and with another byte behind the sequence
     for at in [10, 16] {
@@ -58,7 +85,12 @@ fn fields_of_other_relocations_are_ignored_and_their_neighbours_are_not() {
         bits: 0xffff_ffff,
     };
     let found = x86_64::recognise(name, &GENERAL_DYNAMIC, 4, &[call], &linked);
-    assert_eq!(found, [None, None, None, Some(unchanged), None, None]);
+    let made = Made {
+        choice: unchanged,
+        offset: 4,
+        value: Some(whole(0x10)),
+    };
+    assert_eq!(found, [None, None, None, Some(made), None, None]);
     let found = x86_64::recognise(name, &GENERAL_DYNAMIC, 4, &[], &linked);
     assert_eq!(found, [None; 6]);
     linked[11] ^= 1;
@@ -71,27 +103,36 @@ fn fields_of_other_relocations_are_ignored_and_their_neighbours_are_not() {
 #[test]
 fn instructions_of_aarch64_that_lld_rewrote_are_recognised() {
     let name = AArch64Relocation::R_AARCH64_TLSDESC_LD64_LO12;
-    for (linked, kind, relocation) in [
+    for (linked, kind, relocation, number, end) in [
         (
             [0x00, 0x00, 0x80, 0xf2],
             AArch64Kind::MovkX0,
             AArch64Relocation::R_AARCH64_TLSLE_MOVW_TPREL_G0_NC,
+            0,
+            16,
         ),
         (
             [0x00, 0x14, 0x44, 0xf9],
             AArch64Kind::LdrX0,
             AArch64Relocation::R_AARCH64_TLSIE_LD64_GOTTPREL_LO12_NC,
+            0x828,
+            12,
         ),
     ] {
         let found = aarch64::recognise(name, &[0x01, 0x00, 0x40, 0xf9], 0, &[], &linked);
         let mut choices = found.into_iter().flatten();
-        assert_eq!(choices.next(), Some(Choice { kind, relocation }));
+        let made = Made {
+            choice: Choice { kind, relocation },
+            offset: 0,
+            value: Some(low_bits(end, number)),
+        };
+        assert_eq!(choices.next(), Some(made));
         assert_eq!(choices.next(), None);
     }
 }
 
-/// `lui a0, 0` was deleted, and `lui s1, 2` became `c.lui s1, 2`, by GNU ld; a call became a `jal` by
-/// both linkers.
+/// `lui a0, 0` was deleted, and `lui s1, 2` became `c.lui s1, 2`, by GNU ld; a call became a `jal`
+/// by both linkers.
 #[test]
 fn what_linkers_deleted_on_riscv_is_not_compared() {
     let delete = Choice {
@@ -105,10 +146,21 @@ fn what_linkers_deleted_on_riscv_is_not_compared() {
     let name = RiscVRelocation::R_RISCV_HI20;
     let lui = [0x37, 0x05, 0x00, 0x00];
     let found = riscv64::recognise(name, &lui, 0, &[], &[]);
-    assert_eq!(found, [Some(delete), None, None, None, None, None]);
+    let deleted = Made {
+        choice: delete,
+        offset: 0,
+        value: None,
+    };
+    assert_eq!(found, [Some(deleted), None, None, None, None, None]);
     let lui = [0xb7, 0x04, 0x00, 0x00];
     let found = riscv64::recognise(name, &lui, 0, &[], &[0x89, 0x64]);
-    assert_eq!(found, [None, Some(compress), None, None, None, None]);
+    let made = found[1].expect("a choice");
+    assert_eq!(found, [None, Some(made), None, None, None, None]);
+    assert_eq!((made.choice, made.offset), (compress, 0));
+    let value = made.value.expect("a value");
+    for (number, is_read) in [(0x1800, true), (0x27ff, true), (0x2800, false), (0, false)] {
+        assert_eq!(value.is_of(number), is_read);
+    }
     // `c.li s1, 2` isn't what a linker makes of it
     let found = riscv64::recognise(name, &lui, 0, &[], &[0x89, 0x44]);
     assert_eq!(found, [None; 6]);
@@ -135,10 +187,21 @@ fn what_gnu_ld_made_on_loongarch_is_recognised() {
     let linked = [0xc4, 0xec, 0x0f, 0x18, 0x04, 0x64, 0x00, 0x1a];
     let name = LoongArch64Relocation::R_LARCH_GOT_PC_HI20;
     let found = loongarch64::recognise(name, &pair, 0, &[second], &linked);
-    assert_eq!(found, [Some(near), None, None, None, None, None]);
+    // `pcaddi a0, 0x7f66`, in units of 4 bytes
+    let made = Made {
+        choice: near,
+        offset: 0,
+        value: Some(whole(0x1fd98)),
+    };
+    assert_eq!(found, [Some(made), None, None, None, None, None]);
     let name = LoongArch64Relocation::R_LARCH_GOT_PC_LO12;
     let found = loongarch64::recognise(name, &pair, 4, &[first], &linked[..4]);
-    assert_eq!(found, [Some(delete), None, None, None, None, None]);
+    let made = Made {
+        choice: delete,
+        offset: 4,
+        value: None,
+    };
+    assert_eq!(found, [Some(made), None, None, None, None, None]);
     // into another register
     let altered = [0xc5, 0xec, 0x0f, 0x18, 0x04, 0x64, 0x00, 0x1a];
     let name = LoongArch64Relocation::R_LARCH_GOT_PC_HI20;
@@ -146,7 +209,8 @@ fn what_gnu_ld_made_on_loongarch_is_recognised() {
     assert_eq!(found, [None; 6]);
 }
 
-/// `addis 3, 2, 0` became `nop`, and `addi 3, 3, 0` became `addi 3, 2, -32512`, by ld.lld and GNU ld.
+/// `addis 3, 2, 0` became `nop`, and `addi 3, 3, 0` became `addi 3, 2, -32512`, by ld.lld and GNU
+/// ld.
 #[test]
 fn what_linkers_made_on_powerpc64_is_recognised() {
     let nop = Choice {
@@ -160,11 +224,21 @@ fn what_linkers_made_on_powerpc64_is_recognised() {
     let name = Ppc64Relocation::R_PPC64_TOC16_HA;
     let original = 0x3c62_0000u32.to_le_bytes();
     let found = ppc64::recognise(name, &original, 0, &[], &0x6000_0000u32.to_le_bytes());
-    assert_eq!(found, [Some(nop), None, None, None, None, None]);
+    let made = Made {
+        choice: nop,
+        offset: 0,
+        value: None,
+    };
+    assert_eq!(found, [Some(made), None, None, None, None, None]);
     let name = Ppc64Relocation::R_PPC64_TOC16_LO;
     let original = 0x3863_0000u32.to_le_bytes();
     let found = ppc64::recognise(name, &original, 0, &[], &0x3862_8100u32.to_le_bytes());
-    assert_eq!(found, [Some(low), None, None, None, None, None]);
+    let made = Made {
+        choice: low,
+        offset: 0,
+        value: Some(whole(-32512)),
+    };
+    assert_eq!(found, [Some(made), None, None, None, None, None]);
 }
 
 /// `lq`, whose lowest four bits aren't its displacement's, and `ld`, of which that are two.
@@ -190,4 +264,50 @@ fn a_field_is_that_of_the_instruction() {
             is_in
         );
     }
+}
+
+/// R_RISCV_CALL_PLT (19) at `auipc` and `jalr`, which became `jal ra, -8`, R_RISCV_JAL (17).
+#[test]
+fn a_relocation_is_recognised_by_its_code() {
+    let pair = [0x97, 0x00, 0x00, 0x00, 0xe7, 0x80, 0x00, 0x00];
+    let jal = 0xff9f_f0efu32.to_le_bytes();
+    let made = Made {
+        choice: Choice {
+            kind: Relaxation::RiscV(RiscVKind::CallToJal),
+            relocation: 17,
+        },
+        offset: 0,
+        value: Some(whole(-8)),
+    };
+    let found = architecture::recognise(Architecture::RiscV, 19, &pair, 0, &[], &jal);
+    assert_eq!(found, [None, None, Some(made), None, None, None]);
+    // nothing is known that lets `choose` choose it
+    let facts = LinkFacts::default();
+    let found = architecture::recognise_chosen(
+        Architecture::RiscV,
+        19,
+        &pair,
+        0,
+        &[],
+        &jal,
+        &facts,
+    );
+    assert_eq!(found, None);
+}
+
+/// Both ways of erasing an instruction of a TLS descriptor leave the same bytes.
+#[test]
+fn no_choice_is_returned_twice() {
+    let name = RiscVRelocation::R_RISCV_TLSDESC_HI20;
+    let auipc = [0x17, 0x05, 0x00, 0x00];
+    let made = Made {
+        choice: Choice {
+            kind: RiscVKind::Delete,
+            relocation: RiscVRelocation::R_RISCV_NONE,
+        },
+        offset: 0,
+        value: None,
+    };
+    let found = riscv64::recognise(name, &auipc, 0, &[], &[]);
+    assert_eq!(found, [Some(made), None, None, None, None, None]);
 }

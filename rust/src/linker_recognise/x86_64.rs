@@ -2,13 +2,16 @@
 //! What a linker made of a relocation of x86-64.
 
 use crate::linker_recognise::candidates::{CANDIDATES, four, one, three, two};
-use crate::linker_recognise::engine::{Kind, Name, is_left, recognise_among};
+use crate::linker_recognise::engine::{Kind, Made, Name, recognise_among, recognise_one};
 use crate::linker_recognise::fields::FieldBits;
+use crate::architecture::Relaxation;
 use crate::elf::{Choice, LinkFacts, Row};
 use crate::riscv64::DeletedBytes;
 use crate::x86_64::{RelaxationKind, X86_64Relocation, choose, row};
 
 type X86Choice = Choice<RelaxationKind, X86_64Relocation>;
+
+type X86Made = Made<RelaxationKind, X86_64Relocation>;
 
 #[inline(always)]
 fn choice(kind: RelaxationKind, relocation: X86_64Relocation) -> X86Choice {
@@ -199,6 +202,10 @@ impl Kind for RelaxationKind {
     fn is(self, other: RelaxationKind) -> bool {
         self == other
     }
+
+    fn relaxation(self) -> Relaxation {
+        Relaxation::X86_64(self)
+    }
 }
 
 impl Name for X86_64Relocation {
@@ -216,24 +223,31 @@ impl Name for X86_64Relocation {
                 )
         )
     }
+
+    fn code(self) -> u32 {
+        self.elf_code()
+    }
 }
 
-/// Which rewrites, and relocations after them, a linker may have made at the relocation with a name,
-/// whose offset in the original bytes is given: those after which the original bytes differ from the
-/// linked ones only in the field of the relocation after it and in `others`. None is returned twice.
-/// They are in the order of the table of `choose`, and the last of them is `NoOp` and the same name.
+/// Which rewrites, and relocations after them, a linker may have made at the relocation with a
+/// name, whose offset in the original bytes is given: those after which the original bytes differ
+/// from the linked ones only in the field of the relocation after it and in `others`. No choice is
+/// returned twice. They are in the order of the table of `choose`, and the last of them is `NoOp`
+/// and the same name.
 ///
 /// - Both windows may begin before the relocation, at the same place. The original one has at most
 ///   `MAX_WINDOW` bytes. A choice that deletes bytes leaves fewer.
 /// - `others` are bits of the original window that other relocations write, as
 ///   `FieldBits::of_row` gives them, among them those of a relocation that the choice skips. Of an
 ///   instruction that another relocation rewrites or deletes they are all bits. Where a skipped
-///   relocation isn't named, its field is compared with what the rewrite left, since it isn't applied.
-/// - Nothing needs to be known of the symbol. So several choices are returned where their bytes are the
-///   same, as where only the relocation changes.
-/// - A choice is returned only if its rewrite is meant for what is at the offset, as `matches` says, and
-///   the field is in the window. Each that `choose` makes, whatever the linker knows, is one of them
-///   if it leaves the linked bytes so.
+///   relocation isn't named, its field is compared with what the rewrite left, since it isn't
+///   applied.
+/// - Nothing needs to be known of the symbol. So several choices are returned where their bytes are
+///   the same, as where only the relocation changes. Each comes with the offset of its field in the
+///   linked bytes and with what `read` of `linker_reads` returns there.
+/// - A choice is returned only if its rewrite is meant for what is at the offset, as `matches`
+///   says, and the field is in the window. Each that `choose` makes, whatever the linker knows, is
+///   one of them if it leaves the linked bytes so.
 ///
 /// ```
 /// use linker_utils::recognise::x86_64::recognise;
@@ -244,7 +258,9 @@ impl Name for X86_64Relocation {
 /// let linked = [0x48, 0x8d, 0x3d, 0x10, 0x20, 0, 0];
 /// let name = X86_64Relocation::R_X86_64_REX_GOTPCRELX;
 /// let mut choices = recognise(name, &original, 3, &[], &linked).into_iter().flatten();
-/// assert_eq!(choices.next().unwrap().kind, RelaxationKind::MovIndirectToLea);
+/// let made = choices.next().unwrap();
+/// assert_eq!(made.choice.kind, RelaxationKind::MovIndirectToLea);
+/// assert_eq!(made.value.unwrap().number(), Some(0x2010));
 /// assert!(choices.next().is_none());
 /// ```
 ///
@@ -259,7 +275,7 @@ pub fn recognise(
     offset: u64,
     others: &[FieldBits],
     linked: &[u8],
-) -> [Option<X86Choice>; CANDIDATES] {
+) -> [Option<X86Made>; CANDIDATES] {
     debug_assert!(original.len() <= 64);
     let choices = candidates(name, opcode_before(original, offset));
     recognise_among(choices, original, offset, others, linked)
@@ -280,16 +296,13 @@ pub fn recognise_chosen(
     others: &[FieldBits],
     linked: &[u8],
     facts: &LinkFacts,
-) -> Option<X86Choice> {
+) -> Option<X86Made> {
     debug_assert!(original.len() <= 64);
     let chosen = choose(name, original, offset, facts);
-    if is_left(chosen, original, offset, others, linked) {
-        Some(chosen)
-    } else {
-        None
-    }
+    recognise_one(chosen, original, offset, others, linked)
 }
 
-/// Where a rewrite is applied, and the value of the relocation after it is written, the choice of both
-/// leaves these bytes. So `recognise` returns what `choose` chose, after `apply` and `write`.
+/// Where a rewrite is applied, and the value of the relocation after it is written, the choice of
+/// both leaves these bytes. So `recognise` returns what `choose` chose, after `apply` and `write`.
+#[doc(hidden)]
 pub fn written_choices_are_left() {}

@@ -1,21 +1,37 @@
 -- Lists of a relocation's choices.
-use Rattle.std.specs.Prelude.{◌≡◌, ◌⊎◌, ◌↔◌, ◌-◌, List, [], ◌∷◌, ◌++◌, map, length, replicate}
+use Rattle.std.specs.Prelude.{◌≡◌, ◌⊎◌, ◌↔◌, ◌-◌, ℕ, List, [], ◌∷◌, ◌++◌, map, length, replicate}
 use Rattle.std.specs.Prelude.{Option, Some, None, ⊤}
-use Rattle.linker_recognise.specs.Recognised.{IsOneOf}
+use Rattle.linker_base.specs.Rewrite.{Rewrite}
+use Rattle.linker_elf.specs.declared.elf.RelocationKindInfo.{RelocationKindInfo}
+use Rattle.linker_recognise.specs.Recognised.{IsOneOf, IsLeft, IsRead}
+use Rattle.linker_recognise.specs.declared.engine.Made.{Made}
+use Rattle.linker_recognise.specs.declared.fields.FieldBits.{FieldBits}
+use Rattle.linker_utils.specs.declared.riscv64.rewrites.DeletedBytes.{DeletedBytes}
 
 -- the values, and none in the rest of a list of six
 abbrev pub padded : {A : Type 0} → List A → List (Option A)
 padded xs = map Some xs ++ replicate (6 - length xs) None
 
--- A value is kept if P holds of it, or is dropped since it is among earlier ones.
-abbrev pub IsKept : {A : Type 0} → (A → Type 0) → List (Option A) → Option A → Option A → Type 0
-IsKept {A} P earlier x y =
-    (IsOneOf x earlier × (y ≡ None)) ⊎ ((a : A) → (y ≡ Some a) ↔ ((x ≡ Some a) × P a))
+-- The choice leaves the linked bytes, and its field is read there.
+abbrev pub LeavesRead : {K R : Type 0} → (K → Option Rewrite) → (R → Option RelocationKindInfo)
+    → (K → Option DeletedBytes) → List ℕ → ℕ → List FieldBits → List ℕ → Made K R → Type 0
+LeavesRead rewrite row deleted original o others linked m =
+    IsLeft (rewrite m.choice.kind) (row m.choice.relocation) (deleted m.choice.kind) original o
+    others linked
+    × IsRead (rewrite m.choice.kind) (row m.choice.relocation) (deleted m.choice.kind) o linked
+    m.offset m.value
 
--- Each of a list is kept or dropped by the two before it. The first come after p, and that after q.
-abbrev pub AreKept : {A : Type 0} → (A → Type 0) → Option A → Option A → List (Option A)
-    → List (Option A) → Type 0
-AreKept P p q [] [] = ⊤
-AreKept P p q [] (y ∷ ys) = ⊥
-AreKept P p q (x ∷ xs) [] = ⊥
-AreKept P p q (x ∷ xs) (y ∷ ys) = IsKept P (p ∷ q ∷ []) x y × AreKept P x p xs ys
+-- Of a value x that isn't dropped as one of the earlier ones stays what is of it and so.
+abbrev pub IsKept : {A B : Type 0} → (B → A) → (B → Type 0) → List (Option A) → Option A → Option B
+    → Type 0
+IsKept {A} {B} of P earlier x y =
+    (IsOneOf x earlier × (y ≡ None)) ⊎ ((b : B) → (y ≡ Some b) ↔ ((x ≡ Some (of b)) × P b))
+
+-- the same of each value of a list, where those before it are among the earlier ones
+abbrev pub AreKept : {A B : Type 0} → (B → A) → (B → Type 0) → List (Option A) → List (Option A)
+    → List (Option B) → Type 0
+AreKept of P earlier [] [] = ⊤
+AreKept of P earlier [] (y ∷ ys) = ⊥
+AreKept of P earlier (x ∷ xs) [] = ⊥
+AreKept of P earlier (x ∷ xs) (y ∷ ys) =
+    IsKept of P earlier x y × AreKept of P (x ∷ earlier) xs ys

@@ -1,20 +1,13 @@
-use Rattle.std.proofs.lemmas.Bool.{iff_false}
-use Rattle.linker_recognise.specs.LoongArchRecognised.{LoongArchChoice, LoongArchLeaves}
-use Rattle.linker_recognise.proofs.Kept.{chosen_left, chosen_not_left}
+use Rattle.linker_recognise.specs.LoongArchRecognised.{LoongArchMade, LoongArchLeaves, LoongArchReads}
+use Rattle.linker_recognise.proofs.Kept.{chosen_made}
 use Rattle.linker_recognise.proofs.LoongArchMade.{loongarch_chosen_is_same}
 use Rattle.linker_utils.specs.LoongArchChoices.{IsLoongArchChoice}
 use Rattle.linker_recognise.proofs.loongarch64.recognise_chosen.Goals as goal
 
-pub returns-then-is_left : goal.returns-then-is_left
-returns-then-is_left c =
-    chosen_left (IsLoongArchChoice c.args.name c.args.original.now c.args.offset c.args.facts.now)
-    (λ (d : LoongArchChoice). LoongArchLeaves d c.args.original.now c.args.offset c.args.others.now c.args.linked.now) c.choose-chosen.result
-    c.choose-chosen.ensures.chosen (λ d is. loongarch_chosen_is_same c.args.name c.args.original.now c.args.offset c.args.facts.now c.choose-chosen.result d c.choose-chosen.ensures.chosen is)
-    (c.is_left.ensures.0 c.if-is_left.true)
-
-pub returns-else-is_left : goal.returns-else-is_left
-returns-else-is_left c =
-    chosen_not_left (IsLoongArchChoice c.args.name c.args.original.now c.args.offset c.args.facts.now)
-    (λ (d : LoongArchChoice). LoongArchLeaves d c.args.original.now c.args.offset c.args.others.now c.args.linked.now) c.choose-chosen.result
+pub returns : goal.returns
+returns c =
+    chosen_made (IsLoongArchChoice c.args.name c.args.original.now c.args.offset c.args.facts.now)
+    (λ (m : LoongArchMade). LoongArchLeaves m.choice c.args.original.now c.args.offset c.args.others.now c.args.linked.now × LoongArchReads m.choice c.args.offset c.args.linked.now m.offset m.value)
+    c.choose-chosen.result c.recognise_one.result c.choose-chosen.ensures.chosen
     (λ d is. loongarch_chosen_is_same c.args.name c.args.original.now c.args.offset c.args.facts.now c.choose-chosen.result d c.choose-chosen.ensures.chosen is)
-    (iff_false c.is_left.ensures c.if-is_left.false)
+    c.recognise_one.ensures

@@ -1,20 +1,13 @@
-use Rattle.std.proofs.lemmas.Bool.{iff_false}
-use Rattle.linker_recognise.specs.X86Recognised.{X86Choice, X86Leaves}
-use Rattle.linker_recognise.proofs.Kept.{chosen_left, chosen_not_left}
+use Rattle.linker_recognise.specs.X86Recognised.{X86Made, X86Leaves, X86Reads}
+use Rattle.linker_recognise.proofs.Kept.{chosen_made}
 use Rattle.linker_recognise.proofs.X86Made.{x86_chosen_is_same}
 use Rattle.linker_utils.specs.X86Choices.{IsX86Choice}
 use Rattle.linker_recognise.proofs.x86_64.recognise_chosen.Goals as goal
 
-pub returns-then-is_left : goal.returns-then-is_left
-returns-then-is_left c =
-    chosen_left (IsX86Choice c.args.name c.args.original.now c.args.offset c.args.facts.now)
-    (λ (d : X86Choice). X86Leaves d c.args.original.now c.args.offset c.args.others.now c.args.linked.now) c.choose-chosen.result
-    c.choose-chosen.ensures.chosen (λ d is. x86_chosen_is_same c.args.name c.args.original.now c.args.offset c.args.facts.now c.choose-chosen.result d c.choose-chosen.ensures.chosen is)
-    (c.is_left.ensures.0 c.if-is_left.true)
-
-pub returns-else-is_left : goal.returns-else-is_left
-returns-else-is_left c =
-    chosen_not_left (IsX86Choice c.args.name c.args.original.now c.args.offset c.args.facts.now)
-    (λ (d : X86Choice). X86Leaves d c.args.original.now c.args.offset c.args.others.now c.args.linked.now) c.choose-chosen.result
+pub returns : goal.returns
+returns c =
+    chosen_made (IsX86Choice c.args.name c.args.original.now c.args.offset c.args.facts.now)
+    (λ (m : X86Made). X86Leaves m.choice c.args.original.now c.args.offset c.args.others.now c.args.linked.now × X86Reads m.choice c.args.offset c.args.linked.now m.offset m.value)
+    c.choose-chosen.result c.recognise_one.result c.choose-chosen.ensures.chosen
     (λ d is. x86_chosen_is_same c.args.name c.args.original.now c.args.offset c.args.facts.now c.choose-chosen.result d c.choose-chosen.ensures.chosen is)
-    (iff_false c.is_left.ensures c.if-is_left.false)
+    c.recognise_one.ensures

@@ -1,0 +1,11 @@
+-- What is read of linked bytes at an offset that may be behind them.
+use Rattle.std.proofs.Common.{◌≡◌, ◌-◌, ℕ, List, length, take, drop, min, sym, ap, ◌∙◌, ⊎_elim, arith}
+use Rattle.std.proofs.lemmas.Bool.{cases_lt}
+use Rattle.std.proofs.lemmas.List.{drop_all, take_rest}
+
+pub read_from : (at start : ℕ) (bytes : List ℕ) → start ≡ min at (length bytes) → take (length bytes - start) (drop start bytes) ≡ drop at bytes
+read_from at start bytes e =
+    take_rest bytes start ∙ ⊎_elim
+    (λ inside. ap (λ n. drop n bytes) (let same : start ≡ at = omega (arith, e) in same))
+    (λ behind. drop_all start bytes (omega (arith, e)) ∙ sym (drop_all at bytes behind))
+    (cases_lt at (length bytes))

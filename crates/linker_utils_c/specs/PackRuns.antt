@@ -1,0 +1,54 @@
+-- Packed sections of a run, in the numbers that C sees.
+use Rattle.std.specs.Prelude.{◌≡◌, ◌⊎◌, ℕ, List, [], ◌∷◌, Option, None, Some}
+use Rattle.linker_utils.specs.Machines.{architecture_of}
+use Rattle.linker_utils.specs.declared.elf.Architecture.{Architecture}
+use Rattle.linker_utils.specs.declared.elf.Architecture.TheVariants as architectures
+use Rattle.linker_relax.specs.declared.relaxation.Item.{Item}
+use Rattle.linker_pack.specs.declared.packing.Machine.{Machine}
+use Rattle.linker_pack.specs.declared.packing.Machine.TheVariants as machines
+use Rattle.linker_pack.specs.declared.packing.ItemError.{ItemError}
+use Rattle.linker_pack.specs.declared.packing.ItemError.TheVariants as errors
+use Rattle.linker_pack.specs.Packing.{Section, IsPackedRun, IsFirstRejected}
+use Rattle.linker_utils_c.specs.declared.status.Status.{Status}
+use Rattle.linker_utils_c.specs.declared.status.Status.TheVariants.{Success, ItemsOverlap}
+use Rattle.linker_utils_c.specs.declared.status.Status.TheVariants.{ItemOutOfSection}
+use Rattle.linker_utils_c.specs.declared.status.Status.TheVariants.{NotItsFirstBytes}
+use Rattle.linker_utils_c.specs.declared.status.Status.TheVariants.{NotItsInstructions, NoShape}
+use Rattle.linker_utils_c.specs.declared.status.Status.TheVariants.{TargetOutOfReach}
+use Rattle.linker_utils_c.specs.Status.{code}
+
+-- the machine of an architecture whose sections are packed
+abbrev pub packed_as : Option Architecture → Option Machine
+packed_as (Some architectures.RiscV) = Some machines.RiscV64
+packed_as (Some architectures.LoongArch64) = Some machines.LoongArch64
+packed_as other = None
+
+-- the same by e_machine
+abbrev pub packing_machine : ℕ → Option Machine
+packing_machine machine = packed_as (architecture_of machine)
+
+-- the status of why an item isn't written
+abbrev pub item_status : ItemError → Status
+item_status errors.Overlaps = ItemsOverlap
+item_status errors.OutOfSection = ItemOutOfSection
+item_status errors.NotItsFirstBytes = NotItsFirstBytes
+item_status errors.NotItsInstructions = NotItsInstructions
+item_status errors.NoShape = NoShape
+item_status errors.OutOfReach = TargetOutOfReach
+
+-- what is returned that is about one of the items
+abbrev pub item_statuses : List Status
+item_statuses = ItemsOverlap ∷ ItemOutOfSection ∷ NotItsFirstBytes ∷ NotItsInstructions ∷ NoShape
+    ∷ TargetOutOfReach ∷ []
+
+-- the status says why the item at the index isn't written, and it is the first that can't be
+pub record IsItemRejected (machine : Machine) (s : Section) (items : List Item) (at status : ℕ)
+    : Type 0 where
+  pub error : ItemError
+  pub says : status ≡ code (item_status error)
+  pub first : IsFirstRejected machine s items (record { index = at; error = error })
+
+abbrev pub IsRunPackedOrRejected : Machine → Section → List Item → List ℕ → ℕ → ℕ → Type 0
+IsRunPackedOrRejected machine s items packed at status =
+    ((status ≡ code Success) × IsPackedRun machine s items packed)
+    ⊎ IsItemRejected machine s items at status

@@ -1,0 +1,164 @@
+//! The sections of a relaxed run, packed.
+
+ghost use Rattle.std.specs.Prelude.{◌≡◌, ◌≢◌, ◌+◌, ◌-◌, ◌^◌, ◌<◌, ◌≤◌, ◌↔◌, ◌⊎◌, ◌∷◌, length};
+ghost use Rattle.std.specs.Prelude.{IsNone, IfSome};
+ghost use Rattle.linker_base.specs.Deletions.{rank};
+ghost use Rattle.linker_base.specs.Deltas.{deletions_of};
+ghost use Rattle.linker_base.specs.Listed.{AreValidDeltas};
+ghost use Rattle.linker_pack.specs.Packing.{section_of, packed_offset};
+ghost use Rattle.linker_utils_c.specs.PackRuns.{packing_machine, item_status, item_statuses};
+ghost use Rattle.linker_utils_c.specs.PackRuns.{IsRunPackedOrRejected};
+ghost use Rattle.linker_utils_c.specs.Relaxing.{items_in};
+ghost use Rattle.linker_utils_c.specs.Status.{code, IsOneOf};
+
+use crate::relaxing::{ItemNumbers, items_of};
+use crate::status::Status;
+use linker_pack::packing::{ItemError, Machine, pack_run, packed_run_len};
+use linker_utils::elf::Architecture;
+use linker_utils::relaxation::RelaxDelta;
+use std::alloc::Global;
+
+/// The machine whose sections are packed, by `e_machine`.
+#[inline]
+fn packing_machine(machine: u16) -> Option<Machine>
+    ensures { result ≡ packing_machine machine }
+{
+    match Architecture::from_machine(machine) {
+        Some(Architecture::RiscV) => Some(Machine::RiscV64),
+        Some(Architecture::LoongArch64) => Some(Machine::LoongArch64),
+        _ => None,
+    }
+}
+
+#[inline]
+fn status_of(error: ItemError) -> u32
+    ensures { result ≡ code (item_status error) }
+{
+    let status = match error {
+        ItemError::Overlaps => Status::ItemsOverlap,
+        ItemError::OutOfSection => Status::ItemOutOfSection,
+        ItemError::NotItsFirstBytes => Status::NotItsFirstBytes,
+        ItemError::NotItsInstructions => Status::NotItsInstructions,
+        ItemError::NoShape => Status::NoShape,
+        ItemError::OutOfReach => Status::TargetOutOfReach,
+    };
+    status.number()
+}
+
+/// How many bytes of a section of a relaxed run stay: as many as `linker_utils_pack_run` writes.
+/// The section begins at the input offset `base` of the run. 0 where that and its length add up to
+/// 2^64 or more.
+#[unsafe(no_mangle)]
+pub extern "C" fn linker_utils_packed_run_len_nonnull(
+    base: u64,
+    section_len: usize,
+    deltas: &[RelaxDelta],
+) -> usize
+    ensures stay { base + section_len < 2 ^ 64 → AreValidDeltas deltas.now
+        → result ≡ rank (deletions_of deltas.now) (base + section_len)
+        - rank (deletions_of deltas.now) base }
+    ensures too_high { 2 ^ 64 ≤ base + section_len → result ≡ 0 }
+{
+    if section_len as u64 > u64::MAX - base {
+        return 0;
+    }
+    packed_run_len(base, section_len, deltas)
+}
+
+/// Packs a section of a relaxed run, as `pack_run`: writes the bytes that stay, in order, with the
+/// instructions of its sites and the nops of its alignments written anew. The section begins at the
+/// input offset `base` of the run. The run begins at the address `start` and loses what the deltas
+/// list. `items` are the run's items that lie in the section.
+///
+/// The first that applies of `UnknownArchitecture`, where no section of the machine is packed;
+/// `EndsTooHigh`, where `base` and the section's length add up to 2^64 or more;
+/// `DifferentLengths`, where `packed` has not `linker_utils_packed_run_len` bytes; `OutOfMemory`,
+/// where a copy of the items is refused; and of the first item that can't be written, whose index
+/// is `faulty`, the first that applies of `ItemsOverlap`, `ItemOutOfSection`, `NotItsFirstBytes`,
+/// `NotItsInstructions`, `NoShape` and `TargetOutOfReach`. `packed` is unchanged then. `faulty`
+/// changes only with a status that is about an item.
+#[unsafe(no_mangle)]
+pub extern "C" fn linker_utils_pack_run_nonnull(
+    alloc: Global,
+    machine: u16,
+    section: &[u8],
+    base: u64,
+    items: &[ItemNumbers],
+    deltas: &[RelaxDelta],
+    start: u64,
+    packed: &mut [u8],
+    faulty: &mut usize,
+) -> u32
+    ensures listed { IsOneOf (Status.Success ∷ Status.UnknownArchitecture ∷ Status.EndsTooHigh
+        ∷ Status.DifferentLengths ∷ Status.OutOfMemory ∷ item_statuses) result }
+    ensures unknown_machine { (result ≡ code Status.UnknownArchitecture)
+        ↔ IsNone (packing_machine machine) }
+    ensures too_high { IfSome (packing_machine machine) (λ known.
+        (result ≡ code Status.EndsTooHigh) ↔ (2 ^ 64 ≤ base + length section.now)) }
+    ensures different_lengths { AreValidDeltas deltas.now → IfSome (packing_machine machine)
+        (λ known. base + length section.now < 2 ^ 64
+        → (result ≡ code Status.DifferentLengths)
+        ↔ (length packed.old
+        ≢ packed_offset (section_of section.now base (deletions_of deltas.now) start)
+        (base + length section.now))) }
+    ensures outcome { AreValidDeltas deltas.now → IfSome (packing_machine machine) (λ known.
+        (result ≡ code Status.EndsTooHigh) ⊎ (result ≡ code Status.DifferentLengths)
+        ⊎ (result ≡ code Status.OutOfMemory)
+        ⊎ IsRunPackedOrRejected known (section_of section.now base (deletions_of deltas.now) start)
+        (items_in items.now) packed.new faulty.new result) }
+    ensures unchanged { result ≢ code Status.Success → packed.new ≡ packed.old }
+    ensures faulty_stays { ¬ IsOneOf item_statuses result → faulty.new ≡ faulty.old }
+{
+    match packing_machine(machine) {
+        Some(known) => pack(
+            alloc, known, section, base, items, deltas, start, packed, faulty,
+        ),
+        None => Status::UnknownArchitecture.number(),
+    }
+}
+
+fn pack(
+    alloc: Global,
+    machine: Machine,
+    section: &[u8],
+    base: u64,
+    items: &[ItemNumbers],
+    deltas: &[RelaxDelta],
+    start: u64,
+    packed: &mut [u8],
+    faulty: &mut usize,
+) -> u32
+    ensures listed { IsOneOf (Status.Success ∷ Status.EndsTooHigh ∷ Status.DifferentLengths
+        ∷ Status.OutOfMemory ∷ item_statuses) result }
+    ensures known { result ≢ code Status.UnknownArchitecture }
+    ensures too_high { (result ≡ code Status.EndsTooHigh) ↔ (2 ^ 64 ≤ base + length section.now) }
+    ensures different_lengths { AreValidDeltas deltas.now → base + length section.now < 2 ^ 64
+        → (result ≡ code Status.DifferentLengths)
+        ↔ (length packed.old
+        ≢ packed_offset (section_of section.now base (deletions_of deltas.now) start)
+        (base + length section.now)) }
+    ensures outcome { AreValidDeltas deltas.now → (result ≡ code Status.EndsTooHigh)
+        ⊎ (result ≡ code Status.DifferentLengths) ⊎ (result ≡ code Status.OutOfMemory)
+        ⊎ IsRunPackedOrRejected machine
+        (section_of section.now base (deletions_of deltas.now) start) (items_in items.now)
+        packed.new faulty.new result }
+    ensures unchanged { result ≢ code Status.Success → packed.new ≡ packed.old }
+    ensures faulty_stays { ¬ IsOneOf item_statuses result → faulty.new ≡ faulty.old }
+{
+    if section.len() as u64 > u64::MAX - base {
+        return Status::EndsTooHigh.number();
+    }
+    if packed.len() != packed_run_len(base, section.len(), deltas) {
+        return Status::DifferentLengths.number();
+    }
+    let Ok(items) = items_of(alloc, items) else {
+        return Status::OutOfMemory.number();
+    };
+    match pack_run(machine, section, base, &items, deltas, start, packed) {
+        Ok(()) => Status::Success.number(),
+        Err(rejected) => {
+            *faulty = rejected.index;
+            status_of(rejected.error)
+        }
+    }
+}

@@ -1,0 +1,103 @@
+// Made by tools/erase of crates/linker_utils_c/src/pack_runs.rt.
+//! The sections of a relaxed run, packed.
+
+use crate::relaxing::{ItemNumbers, items_of};
+use crate::status::Status;
+use linker_utils::runs::packing::{ItemError, Machine, pack_run, packed_run_len};
+use linker_utils::elf::Architecture;
+use linker_utils::relaxation::RelaxDelta;
+
+/// The machine whose sections are packed, by `e_machine`.
+#[inline]
+fn packing_machine(machine: u16) -> Option<Machine> {
+    match Architecture::from_machine(machine) {
+        Some(Architecture::RiscV) => Some(Machine::RiscV64),
+        Some(Architecture::LoongArch64) => Some(Machine::LoongArch64),
+        _ => None,
+    }
+}
+
+#[inline]
+fn status_of(error: ItemError) -> u32 {
+    let status = match error {
+        ItemError::Overlaps => Status::ItemsOverlap,
+        ItemError::OutOfSection => Status::ItemOutOfSection,
+        ItemError::NotItsFirstBytes => Status::NotItsFirstBytes,
+        ItemError::NotItsInstructions => Status::NotItsInstructions,
+        ItemError::NoShape => Status::NoShape,
+        ItemError::OutOfReach => Status::TargetOutOfReach,
+    };
+    status.number()
+}
+
+/// How many bytes of a section of a relaxed run stay: as many as `linker_utils_pack_run` writes.
+/// The section begins at the input offset `base` of the run. 0 where that and its length add up to
+/// 2^64 or more.
+pub fn linker_utils_packed_run_len_nonnull(
+    base: u64,
+    section_len: usize,
+    deltas: &[RelaxDelta],
+) -> usize {
+    if section_len as u64 > u64::MAX - base {
+        return 0;
+    }
+    packed_run_len(base, section_len, deltas)
+}
+
+/// Packs a section of a relaxed run, as `pack_run`: writes the bytes that stay, in order, with the
+/// instructions of its sites and the nops of its alignments written anew. The section begins at the
+/// input offset `base` of the run. The run begins at the address `start` and loses what the deltas
+/// list. `items` are the run's items that lie in the section.
+///
+/// The first that applies of `UnknownArchitecture`, where no section of the machine is packed;
+/// `EndsTooHigh`, where `base` and the section's length add up to 2^64 or more;
+/// `DifferentLengths`, where `packed` has not `linker_utils_packed_run_len` bytes; `OutOfMemory`,
+/// where a copy of the items is refused; and of the first item that can't be written, whose index
+/// is `faulty`, the first that applies of `ItemsOverlap`, `ItemOutOfSection`, `NotItsFirstBytes`,
+/// `NotItsInstructions`, `NoShape` and `TargetOutOfReach`. `packed` is unchanged then. `faulty`
+/// changes only with a status that is about an item.
+pub fn linker_utils_pack_run_nonnull(
+    machine: u16,
+    section: &[u8],
+    base: u64,
+    items: &[ItemNumbers],
+    deltas: &[RelaxDelta],
+    start: u64,
+    packed: &mut [u8],
+    faulty: &mut usize,
+) -> u32 {
+    match packing_machine(machine) {
+        Some(known) => pack(
+            known, section, base, items, deltas, start, packed, faulty,
+        ),
+        None => Status::UnknownArchitecture.number(),
+    }
+}
+
+fn pack(
+    machine: Machine,
+    section: &[u8],
+    base: u64,
+    items: &[ItemNumbers],
+    deltas: &[RelaxDelta],
+    start: u64,
+    packed: &mut [u8],
+    faulty: &mut usize,
+) -> u32 {
+    if section.len() as u64 > u64::MAX - base {
+        return Status::EndsTooHigh.number();
+    }
+    if packed.len() != packed_run_len(base, section.len(), deltas) {
+        return Status::DifferentLengths.number();
+    }
+    let Ok(items) = items_of(items) else {
+        return Status::OutOfMemory.number();
+    };
+    match pack_run(machine, section, base, &items, deltas, start, packed) {
+        Ok(()) => Status::Success.number(),
+        Err(rejected) => {
+            *faulty = rejected.index;
+            status_of(rejected.error)
+        }
+    }
+}

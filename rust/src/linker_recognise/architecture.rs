@@ -1,0 +1,144 @@
+// Made by tools/erase of crates/linker_recognise/src/architecture.rt.
+//! What a linker made of a relocation, by its architecture and its code.
+
+use crate::linker_recognise::candidates::CANDIDATES;
+use crate::linker_recognise::engine::{Kind, Made, Name};
+use crate::linker_recognise::fields::FieldBits;
+use crate::linker_recognise::{aarch64, loongarch64, ppc64, riscv64, x86_64};
+use crate::aarch64::AArch64Relocation;
+use crate::architecture::Relaxation;
+use crate::elf::{Architecture, Choice, LinkFacts};
+use crate::loongarch64::LoongArch64Relocation;
+use crate::ppc64::Ppc64Relocation;
+use crate::riscv64::RiscVRelocation;
+use crate::x86_64::X86_64Relocation;
+
+/// The same with the rewrite as one of all architectures', and the relocation's code.
+fn by_code<K: Kind, R: Name>(found: Option<Made<K, R>>) -> Option<Made<Relaxation, u32>> {
+    match found {
+        Some(made) => Some(Made {
+            choice: Choice {
+                kind: made.choice.kind.relaxation(),
+                relocation: made.choice.relocation.code(),
+            },
+            offset: made.offset,
+            value: made.value,
+        }),
+        None => None,
+    }
+}
+
+/// The same of each.
+fn all_by_code<K: Kind, R: Name>(
+    found: [Option<Made<K, R>>; CANDIDATES],
+) -> [Option<Made<Relaxation, u32>>; CANDIDATES] {
+    let [a, b, c, d, e, f] = found;
+    [
+        by_code(a),
+        by_code(b),
+        by_code(c),
+        by_code(d),
+        by_code(e),
+        by_code(f),
+    ]
+}
+
+/// Which rewrites, and relocations after them, a linker may have made at the relocation with a
+/// code, `r_type` in ELF files, as `recognise` of `aarch64`, `riscv64`, `loongarch64`, `ppc64` and
+/// `x86_64` says.
+///
+/// ```
+/// use linker_utils::recognise::architecture::recognise;
+/// use linker_utils::architecture::Relaxation;
+/// use linker_utils::elf::Architecture;
+/// use linker_utils::x86_64::RelaxationKind;
+///
+/// // mov x@GOTPCREL(%rip), %rdi, with R_X86_64_REX_GOTPCRELX, became lea x(%rip), %rdi
+/// let original = [0x48, 0x8b, 0x3d, 0, 0, 0, 0];
+/// let linked = [0x48, 0x8d, 0x3d, 0x10, 0x20, 0, 0];
+/// let found = recognise(Architecture::X86_64, 42, &original, 3, &[], &linked);
+/// let made = found.into_iter().flatten().next().unwrap();
+/// assert_eq!(made.choice.kind, Relaxation::X86_64(RelaxationKind::MovIndirectToLea));
+/// assert_eq!(Architecture::X86_64.name(made.choice.relocation), Some("R_X86_64_PC32"));
+/// assert_eq!(made.value.unwrap().number(), Some(0x2010));
+/// ```
+///
+/// # Requires
+///
+/// - `original.len() <= 64`
+#[must_use]
+#[cfg_attr(debug_assertions, track_caller)]
+pub fn recognise(
+    architecture: Architecture,
+    code: u32,
+    original: &[u8],
+    offset: u64,
+    others: &[FieldBits],
+    linked: &[u8],
+) -> [Option<Made<Relaxation, u32>>; CANDIDATES] {
+    debug_assert!(original.len() <= 64);
+    match architecture {
+        Architecture::AArch64 => {
+            let name = AArch64Relocation::from_elf(code);
+            all_by_code(aarch64::recognise(name, original, offset, others, linked))
+        }
+        Architecture::RiscV => {
+            let name = RiscVRelocation::from_elf(code);
+            all_by_code(riscv64::recognise(name, original, offset, others, linked))
+        }
+        Architecture::LoongArch64 => {
+            let name = LoongArch64Relocation::from_elf(code);
+            all_by_code(loongarch64::recognise(name, original, offset, others, linked))
+        }
+        Architecture::Ppc64 => {
+            let name = Ppc64Relocation::from_elf(code);
+            all_by_code(ppc64::recognise(name, original, offset, others, linked))
+        }
+        Architecture::X86_64 => {
+            let name = X86_64Relocation::from_elf(code);
+            all_by_code(x86_64::recognise(name, original, offset, others, linked))
+        }
+    }
+}
+
+/// The choice that `choose` makes by what the linker knows, if it leaves the linked bytes, as
+/// `recognise_chosen` of the architecture's module says.
+///
+/// # Requires
+///
+/// - `original.len() <= 64`
+#[must_use]
+#[cfg_attr(debug_assertions, track_caller)]
+pub fn recognise_chosen(
+    architecture: Architecture,
+    code: u32,
+    original: &[u8],
+    offset: u64,
+    others: &[FieldBits],
+    linked: &[u8],
+    facts: &LinkFacts,
+) -> Option<Made<Relaxation, u32>> {
+    debug_assert!(original.len() <= 64);
+    match architecture {
+        Architecture::AArch64 => {
+            let name = AArch64Relocation::from_elf(code);
+            by_code(aarch64::recognise_chosen(name, original, offset, others, linked, facts))
+        }
+        Architecture::RiscV => {
+            let name = RiscVRelocation::from_elf(code);
+            by_code(riscv64::recognise_chosen(name, original, offset, others, linked, facts))
+        }
+        Architecture::LoongArch64 => {
+            let name = LoongArch64Relocation::from_elf(code);
+            by_code(loongarch64::recognise_chosen(name, original, offset, others, linked, facts))
+        }
+        Architecture::Ppc64 => {
+            let name = Ppc64Relocation::from_elf(code);
+            by_code(ppc64::recognise_chosen(name, original, offset, others, linked, facts))
+        }
+        Architecture::X86_64 => {
+            let name = X86_64Relocation::from_elf(code);
+            by_code(x86_64::recognise_chosen(name, original, offset, others, linked, facts))
+        }
+    }
+}
