@@ -131,8 +131,8 @@ static bool waits(const struct row *row, const Elf64_Rela *r, const Elf64_Rela *
            (machine == EM_AARCH64 || (machine == EM_LOONGARCH && !is_marked));
 }
 
-/* PowerPC64: the section `.toc` that has the address of a relocation, and the offset there; null where
- * none of the same object has it. */
+/* PowerPC64: the section `.toc` of the same object that a relocation refers to, and the offset
+ * there; else null. */
 struct section *toc_section(const struct relocation *r, uint64_t *offset) {
     const struct symbol *s = r->symbol;
     if (s->object != r->section->object || s->elf.st_shndx >= s->object->sections_len) return NULL;
@@ -141,20 +141,21 @@ struct section *toc_section(const struct relocation *r, uint64_t *offset) {
     return !strcmp(toc->name, ".toc") && toc->output && *offset < toc->head->sh_size ? toc : NULL;
 }
 
-/* PowerPC64: looks whether the instruction with the low half of an address is one that can do without
- * the high half, and whether it loads a doubleword of the TOC. All uses of one have to be alike. */
+/* PowerPC64: notes an instruction with the low half of an address that can't be over the TOC
+ * pointer, and one that isn't an `ld` of a doubleword of the TOC: then others of the same address
+ * stay. */
 static void note_low_half(const struct relocation *r, const uint8_t *bytes, uint64_t len) {
+    const uint32_t near = LINKER_UTILS_PPC64_REWRITE_BASE_TO_TOC;
+    const uint32_t load = LINKER_UTILS_PPC64_REWRITE_LD_TO_ADDI;
     uint64_t offset, at = r->offset - r->section->offset;
     if (r->type != R_PPC64_TOC16_LO && r->type != R_PPC64_TOC16_LO_DS) return;
-    if (linker_utils_matches(machine, LINKER_UTILS_PPC64_REWRITE_BASE_TO_TOC, 0, bytes, len, at))
+    if (linker_utils_matches(machine, near, 0, bytes, len, at))
         r->section->object->has_other_low_halves = true;
     struct section *toc = toc_section(r, &offset);
-    if (!toc || (r->type == R_PPC64_TOC16_LO_DS &&
-                 !linker_utils_matches(machine, LINKER_UTILS_PPC64_REWRITE_LD_TO_ADDI, 0, bytes, len,
-                                       at)))
-        return;
+    if (!toc) return;
     if (!toc->words_kept) toc->words_kept = take(toc->head->sh_size / 8 + 1, 1);
-    toc->words_kept[offset / 8] = 1;
+    if (r->type == R_PPC64_TOC16_LO || linker_utils_matches(machine, load, 0, bytes, len, at))
+        toc->words_kept[offset / 8] = 1;
 }
 
 /* Reads the relocations of a section, and rewrites instructions where that needs no address. */
@@ -177,6 +178,7 @@ void read_relocations(struct section *s) {
         choices[i] = (struct linker_utils_choice){.rewrite = UINT32_MAX, .relocation = r->type};
         const struct symbol *of = r->symbol;
         bool is_here = is_defined(of) && of->elf.st_shndx != SHN_ABS;
+        if (!relaxes && ELF64_ST_TYPE(of->elf.st_info) != STT_TLS) is_here = false;
         if (!is_code || !r->type || waits(row_of(r), elf + i, i + 1 < len ? elf + i + 1 : NULL))
             continue;
         if (machine == EM_PPC64) note_low_half(r, bytes, size);
@@ -204,7 +206,8 @@ void read_relocations(struct section *s) {
         if (row->info.kind == LINKER_UTILS_KIND_ALIGNMENT && !s->output->shrinks)
             fail("%s is not supported", place_of(r));
         bool is_direct = machine == EM_RISCV && row->info.kind == LINKER_UTILS_KIND_TLS_DESC;
-        if (row->asks_for_got && !is_direct) r->entry = entry_of(r, row->info.kind);
+        if ((row->asks_for_got && !is_direct) || row->loads_plt)
+            r->entry = entry_of(r, row->info.kind);
         if (row->info.kind && is_ifunc(r->symbol)) r->symbol->needs_stub = true;
         if (r->restores_toc && is_ifunc(r->symbol)) r->addend -= 4;
         bool is_page = i && r[-1].type == R_AARCH64_ADR_GOT_PAGE;
@@ -275,8 +278,8 @@ bool add_thunks(void) {
         for (size_t j = 0, len = o->relocations_len; j < len; j++) {
             struct relocation *r = &o->relocations[j];
             struct symbol *s = r->symbol;
-            if (!r->section || !row_of(r)->may_use_plt || s->is_thunk || !is_defined(s) ||
-                is_left_out(r))
+            if (!r->section || !row_of(r)->may_use_plt || row_of(r)->loads_plt || s->is_thunk ||
+                !is_defined(s) || is_left_out(r))
                 continue;
             bool is_notoc = machine == EM_PPC64 && r->type == PPC64_REL24_NOTOC;
             bool is_needed = is_notoc ? toc_of(s) > 1 : toc_of(s) == 1;

@@ -139,8 +139,8 @@ static void skip(struct place *p, uint64_t len) {
     p->high += len;
 }
 
-/* Aligns the next section. Behind code that becomes shorter this is an alignment of the run, with as
- * many bytes as it may need. */
+/* Aligns the next section. Behind code that becomes shorter this is an alignment of the run, with
+ * as many bytes as it may need. */
 static void align_next(struct place *p, struct output *o, uint64_t align) {
     uint64_t unit = code_unit(), len = round_up(p->low, align) - p->low;
     if (p->low != p->high) {
@@ -178,8 +178,8 @@ static int by_place(const void *left, const void *right) {
     return by_rank(left, right);
 }
 
-/* Places the sections, first those that the command line places. One with other permissions begins a
- * new page, at the same offset in the page as the one before it ends. */
+/* Places the sections, first those that the command line places. One with other permissions begins
+ * a new page, at the same offset in the page as the one before it ends. */
 void place_outputs(void) {
     uint64_t page = PAGE, align = 1, kinds = 0, now, end = 0;
     struct place p = {.run = NULL};

@@ -8,7 +8,7 @@
  * - entries.c: rewrites, the GOT, thread-local storage, indirect functions and thunks
  * - relax.c: what is deleted of RISC-V and LoongArch code
  * - relocate.c: values, and the instructions of AArch64 that depend on them
- * - output.c: the table of unwind information, and the file
+ * - output.c: the table of unwind information, and the file with its symbols
  *
  * The first error ends it, and it never frees memory. */
 #ifndef LINK_H
@@ -27,6 +27,7 @@
 #define BASE UINT64_C(0x400000)         /* where the file's header is, if no section is placed */
 #define HEADERS UINT64_C(0x400)         /* room for the headers there */
 #define MOST_BYTES UINT64_C(0x40000000) /* of a file and of a section */
+#define NO_ENTRY (UINT64_C(1) << 63)    /* the address of a GOT entry that nothing reaches */
 #define END UINT64_MAX                  /* the offset of a section's end, wherever that will be */
 
 /* relocation types that older versions of <elf.h> lack */
@@ -53,14 +54,16 @@ struct run {
 /* A section of the linked file. Offsets in it count from before bytes are deleted. */
 struct output {
     const char *name;
-    uint64_t flags, align, len, room, place, address; /* (before code is shorter, as if it stayed) */
+    uint64_t flags, align, len, room;
+    uint64_t place, address; /* by the command line; and at last, or if all bytes stayed */
     uint8_t *bytes;
     struct run *run;
-    uint64_t base; /* its offset in the run */
-    struct linker_utils_item before; /* the alignment before it; its length is 0 where there is none */
-    size_t items_len;
+    uint64_t base;                   /* its offset in the run */
+    struct linker_utils_item before; /* the alignment before it; of length 0 where there is none */
+    size_t items_len;                /* in it */
     bool has_bytes, is_placed, shrinks; /* in the file; by the command line; code that relaxes */
     unsigned rank, priority;            /* its place among the others */
+    uint16_t index;                     /* of its header; 0 where it has none */
     struct relocation *relocations;
     size_t relocations_len, relocations_room;
 };
@@ -85,7 +88,7 @@ struct section {
     uint64_t offset, end;                 /* in the output */
     bool is_duplicate;                    /* of a group that another object has too */
     bool has_lone_got_halves; /* AArch64: not all `adrp` and `ldr` of GOT entries are pairs */
-    uint8_t *words_kept; /* PowerPC64, of `.toc`: for each doubleword 1 if not only `ld`s are of it */
+    uint8_t *words_kept; /* PowerPC64, `.toc`: 1 for a doubleword that not only `ld`s refer to */
 };
 
 struct archive {
@@ -135,6 +138,7 @@ struct row {
     struct linker_utils_relocation_info info;
     enum linker_utils_role role;
     bool is_known, asks_for_got, may_use_plt;
+    bool loads_plt; /* PowerPC64: of code that itself loads what the PLT has */
 };
 
 /* The TLS segment: where its image is, its length and alignment, the thread pointer, and the origin
@@ -145,6 +149,7 @@ struct tls {
 
 extern uint16_t machine;
 extern uint32_t machine_flags;
+extern bool relaxes; /* whether instructions are rewritten that need not be */
 extern struct object *objects; /* in the order of the arguments */
 extern struct symbol *symbols; /* all that objects mention, in their order */
 extern struct output *outputs[256], *headers, *got, *stubs, *slots, *irelatives, *frames, *index_of;
@@ -184,6 +189,6 @@ struct relocation *high_part(const struct output *o, const struct relocation *lo
 int64_t value_of(const struct output *o, const struct relocation *r);
 bool is_left_out(const struct relocation *r);
 uint64_t read_frames(const struct section *s, const uint8_t *bytes, uint8_t *rows);
-void index_frames(void), write_file(const char *path, uint64_t entry);
+void index_frames(void), write_file(const char *path, uint64_t entry, bool has_symbols);
 
 #endif

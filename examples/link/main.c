@@ -1,10 +1,13 @@
-/* usage: link -o OUTPUT [--section-start=NAME=ADDRESS]... FILE...
+/* usage: link [-s] [--no-relax] -o OUTPUT [--section-start=NAME=ADDRESS]... FILE...
  * A file is an object or an archive. A member of an archive is linked if it defines a symbol that
- * is asked for and that no object defines; archives search each other. */
+ * is asked for and that no object defines; archives search each other. The output has all symbols,
+ * and section headers, but with `-s`. With `--no-relax` only instructions of thread-local storage
+ * are rewritten. */
 #include "link.h"
 
 uint16_t machine;
 uint32_t machine_flags;
+bool relaxes = true;
 
 void *take(uint64_t count, size_t size) {
     void *memory = calloc(count ? count : 1, size);
@@ -53,7 +56,7 @@ static struct output *own_section(const char *name, uint64_t flags, bool has_byt
 int main(int argc, char **argv) {
     const char *path = NULL;
     uint64_t address;
-    bool is_placed = false;
+    bool is_placed = false, has_symbols = true;
     got = own_section(".got", SHF_ALLOC | SHF_WRITE, false);
     stubs = own_section(".iplt", SHF_ALLOC | SHF_EXECINSTR, true);
     slots = own_section(".igot.plt", SHF_ALLOC | SHF_WRITE, true);
@@ -67,6 +70,10 @@ int main(int argc, char **argv) {
             struct output *placed = output_of(argv[i] + strlen("--section-start="));
             placed->place = address;
             is_placed = placed->is_placed = true;
+        } else if (!strcmp(argv[i], "-s")) {
+            has_symbols = false;
+        } else if (!strcmp(argv[i], "--no-relax")) {
+            relaxes = false;
         } else if (!strcmp(argv[i], "-o") && argv[i + 1]) {
             path = argv[++i];
         } else {
@@ -74,7 +81,7 @@ int main(int argc, char **argv) {
         }
     }
     if (!path || !objects)
-        fail("usage: link -o OUTPUT [--section-start=NAME=ADDRESS]... FILE...");
+        fail("usage: link [-s] [--no-relax] -o OUTPUT [--section-start=NAME=ADDRESS]... FILE...");
     if (!is_placed) make_room(headers, 8, HEADERS);
     list_symbols();
     for (struct object *o = objects; o; o = o->next)
@@ -100,6 +107,6 @@ int main(int argc, char **argv) {
     index_frames();
     struct symbol *start = *global("_start");
     if (!start || !start->output) fail("undefined symbol '_start'");
-    write_file(path, address_of(start->output, start->offset));
+    write_file(path, address_of(start->output, start->offset), has_symbols);
     return 0;
 }

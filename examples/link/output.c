@@ -1,4 +1,4 @@
-/* The table of unwind information, and the file. */
+/* The table of unwind information, and the file with its symbols. */
 #include "link.h"
 
 struct output *frames, *index_of, *headers;
@@ -86,6 +86,9 @@ static int by_address(const void *left, const void *right) {
 }
 
 static Elf64_Phdr loads[sizeof outputs / sizeof *outputs + 3], *load = loads - 1;
+static Elf64_Shdr section_heads[sizeof outputs / sizeof *outputs + 3]; /* the first is empty */
+static size_t section_heads_len = 1, names_len = 1, names_room;
+static char *names; /* of sections and symbols; the first is empty */
 
 /* Adds the header of a part of a segment that is loaded. */
 static void add_part(uint32_t type, uint64_t at, uint64_t bytes, uint64_t len, uint64_t align) {
@@ -95,7 +98,85 @@ static void add_part(uint32_t type, uint64_t at, uint64_t bytes, uint64_t len, u
     *++load = (Elf64_Phdr){type, PF_R, offset, at, at, bytes, len, align};
 }
 
-void write_file(const char *path, uint64_t entry) {
+/* Adds a name, and returns its offset among them. */
+static uint32_t add_name(const char *name) {
+    size_t len = strlen(name) + 1;
+    names = grow(names, names_len + len, &names_room, 1);
+    memcpy(names + names_len, name, len);
+    names_len += len;
+    if (names_len > MOST_BYTES) fail("too many names of symbols");
+    return (uint32_t)(names_len - len);
+}
+
+static void add_head(struct output *o, uint64_t offset) {
+    uint64_t flags = SHF_ALLOC | SHF_WRITE | SHF_EXECINSTR | SHF_TLS;
+    o->index = (uint16_t)section_heads_len;
+    section_heads[section_heads_len++] = (Elf64_Shdr){
+        .sh_name = add_name(o->name), .sh_type = o->has_bytes ? SHT_PROGBITS : SHT_NOBITS,
+        .sh_flags = o->flags & flags, .sh_addr = o->address, .sh_offset = offset,
+        .sh_size = o->len, .sh_addralign = o->align};
+    if (o != irelatives) return;
+    section_heads[o->index].sh_type = SHT_RELA;
+    section_heads[o->index].sh_entsize = sizeof(Elf64_Rela);
+}
+
+/* What the table of symbols says of one. */
+static Elf64_Sym symbol_of(const struct symbol *s) {
+    Elf64_Sym elf = s->elf;
+    const struct output *o = s->output;
+    unsigned type = ELF64_ST_TYPE(elf.st_info), bind = ELF64_ST_BIND(elf.st_info);
+    elf.st_name = add_name(s->name);
+    elf.st_value = address_of(o, s->offset);
+    if (!o) return elf;
+    if (elf.st_shndx < SHN_LORESERVE) { /* less is left of code that shrinks */
+        elf.st_size = address_of(o, s->offset + elf.st_size) - elf.st_value;
+    } else if (type == STT_GNU_IFUNC) { /* its stub */
+        elf.st_info = ELF64_ST_INFO(bind, STT_FUNC);
+        elf.st_size = 0;
+    }
+    if (type == STT_TLS) elf.st_value -= tls.image;
+    elf.st_shndx = o->index ? o->index : SHN_ABS;
+    return elf;
+}
+
+/* Writes the objects' symbols, local ones first, and the section headers behind the segments. */
+static void write_symbols(FILE *file, uint64_t offset, Elf64_Ehdr *head) {
+    size_t len = 1, room = 0, locals = 0, table = section_heads_len;
+    Elf64_Sym *all = grow(NULL, 1, &room, sizeof *all);
+    memset(all, 0, sizeof *all);
+    for (int is_global = 0; is_global < 2; is_global++) {
+        for (const struct symbol *s = symbols; s; s = s->later) {
+            uint16_t at = s->elf.st_shndx;
+            if (is_global == (ELF64_ST_BIND(s->elf.st_info) == STB_LOCAL) || !*s->name ||
+                (at && at < SHN_LORESERVE && !s->output) ||
+                ELF64_ST_TYPE(s->elf.st_info) == STT_SECTION)
+                continue;
+            all = grow(all, len + 1, &room, sizeof *all);
+            all[len++] = symbol_of(s);
+        }
+        if (!is_global) locals = len;
+    }
+    uint32_t table_name = add_name(".symtab"), text_name = add_name(".strtab");
+    uint64_t start = round_up(offset, 8), text = start + len * sizeof *all;
+    section_heads[table] = (Elf64_Shdr){
+        .sh_name = table_name, .sh_type = SHT_SYMTAB, .sh_offset = start,
+        .sh_size = len * sizeof *all, .sh_link = (uint32_t)table + 1, .sh_info = (uint32_t)locals,
+        .sh_addralign = 8, .sh_entsize = sizeof *all};
+    section_heads[table + 1] = (Elf64_Shdr){.sh_name = text_name, .sh_type = SHT_STRTAB,
+                                            .sh_offset = text, .sh_size = names_len,
+                                            .sh_addralign = 1};
+    head->e_shoff = round_up(text + names_len, 8);
+    head->e_shentsize = sizeof *section_heads;
+    head->e_shnum = (uint16_t)(table + 2);
+    head->e_shstrndx = (uint16_t)(table + 1);
+    fseek(file, (long)start, SEEK_SET);
+    fwrite(all, sizeof *all, len, file);
+    fwrite(names, 1, names_len, file);
+    fseek(file, (long)head->e_shoff, SEEK_SET);
+    fwrite(section_heads, sizeof *section_heads, head->e_shnum, file);
+}
+
+void write_file(const char *path, uint64_t entry, bool has_symbols) {
     Elf64_Ehdr head = {.e_type = ET_EXEC, .e_machine = machine, .e_version = EV_CURRENT};
     memcpy(head.e_ident, ELFMAG "\2\1\1", 7); /* ELFCLASS64, ELFDATA2LSB, EV_CURRENT */
     head.e_entry = entry;
@@ -108,9 +189,10 @@ void write_file(const char *path, uint64_t entry) {
     if (!file) fail("%s: can't be written", path);
     qsort(outputs, outputs_len, sizeof *outputs, by_address);
     for (size_t i = 0; i < outputs_len; i++) {
-        const struct output *o = outputs[i];
+        struct output *o = outputs[i];
         uint64_t bytes = o->has_bytes ? o->len : 0;
         if (o->flags & SHF_TLS && bytes) image = o->address + o->len - tls.image;
+        if (o->len && o != headers) add_head(o, offset);
         if (!o->len || (o->flags & SHF_TLS && !bytes)) continue;
         if (o->address < end) remove(path);
         if (o->address < end) fail("section %s overlaps the one before it", o->name);
@@ -126,6 +208,7 @@ void write_file(const char *path, uint64_t entry) {
         if (!bytes) continue;
         load->p_filesz = load->p_memsz;
         offset = load->p_offset + load->p_memsz;
+        if (o->index) section_heads[o->index].sh_offset = offset - bytes;
         fseek(file, (long)(offset - bytes), SEEK_SET);
         fwrite(o->bytes, 1, bytes, file);
     }
@@ -137,6 +220,7 @@ void write_file(const char *path, uint64_t entry) {
     head.e_phnum = (uint16_t)(load + 1 - loads);
     if (headers->len && sizeof head + head.e_phnum * sizeof *loads > headers->len)
         fail("too many segments");
+    if (has_symbols) write_symbols(file, offset, &head);
     rewind(file);
     fwrite(&head, sizeof head, 1, file);
     fwrite(loads, sizeof *loads, head.e_phnum, file);

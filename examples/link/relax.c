@@ -1,18 +1,18 @@
 /* What is deleted of RISC-V and LoongArch code: the second halves of calls and of addresses that
  * one instruction reaches, what thread-local offsets of 12 bits don't need, and the nops that an
- * alignment doesn't need. All sections are relaxed together, with the gaps between them, so that each
- * distance is known exactly. */
+ * alignment doesn't need. All sections are relaxed together, with the gaps between them, so that
+ * each distance is known exactly. */
 #include "link.h"
 
 /* Whether an instruction may be relaxed. */
 bool is_marked(const struct output *o, const struct relocation *r) {
     uint32_t mark = machine == EM_RISCV ? R_RISCV_RELAX : LARCH_RELAX;
     const struct relocation *next = r + 1, *end = o->relocations + o->relocations_len;
-    return next < end && next->type == mark && next->offset == r->offset;
+    return relaxes && next < end && next->type == mark && next->offset == r->offset;
 }
 
-/* What the library is told of a relocation: its target, if that is in the same run. Between a symbol
- * in code and what is some bytes behind it code may become shorter. */
+/* What the library is told of a relocation: its target, if that is in the same run. Between a
+ * symbol in code and what is some bytes behind it code may become shorter. */
 static struct linker_utils_section_relocation seen(const struct output *o,
                                                    const struct relocation *r) {
     const struct symbol *s = r->symbol; /* null where the linker aligns a section */
@@ -20,7 +20,8 @@ static struct linker_utils_section_relocation seen(const struct output *o,
     struct linker_utils_section_relocation seen = {
         .offset = r->offset, .addend = r->addend, .r_type = r->type,
         .has_symbol = r->section && s != *r->section->object->symbols};
-    if (!to || to->run != o->run || to->flags & SHF_TLS || (to->shrinks && r->addend)) return seen;
+    if (!relaxes || !to || to->run != o->run || to->flags & SHF_TLS || (to->shrinks && r->addend))
+        return seen;
     uint64_t offset = (s->offset == END ? to->len : s->offset) + (uint64_t)r->addend;
     seen.has_target = offset <= to->len;
     seen.target = to->base + offset;
@@ -39,7 +40,7 @@ static struct linker_utils_choice choose_offset(const struct output *o, struct r
     struct linker_utils_link_facts facts = {
         .is_local = 1, .is_executable = is_descriptor, .is_marked = 1, .has_addresses = 1,
         .operands = {.symbol = address_of(s->output, s->offset), .addend = high->addend,
-                     .tls_base = tls.thread, .got_entry = (uint64_t)1 << 63}}; /* there is none */
+                     .tls_base = tls.thread, .got_entry = NO_ENTRY}};
     check(r, linker_utils_choose(machine, r->type, o->bytes, r->section->end, r->offset, &facts,
                                  &choice));
     if (!is_descriptor || !choice.rewrite) return choice;
@@ -180,7 +181,8 @@ void relax(void) {
     for (size_t i = 0; i < outputs_len; i++) {
         const struct output *o = outputs[i];
         uint64_t align = o->flags & SHF_TLS && o->address == tls.image ? tls.align : o->align;
-        if (o->address % align || (o->is_placed && o->address != o->place))
-            fail("section %s can't be at 0x%" PRIx64, o->name, o->is_placed ? o->place : o->address);
+        uint64_t wanted = o->is_placed ? o->place : o->address;
+        if (wanted % align || wanted != o->address)
+            fail("section %s can't be at 0x%" PRIx64, o->name, wanted);
     }
 }

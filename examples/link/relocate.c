@@ -12,6 +12,9 @@ const struct row *row_of(const struct relocation *r) {
     row->role = linker_utils_uleb128_role(machine, r->type);
     row->asks_for_got = linker_utils_asks_for_got(machine, r->type);
     row->may_use_plt = linker_utils_may_use_plt(machine, r->type);
+    row->loads_plt = machine == EM_PPC64 &&
+                     (row->info.kind == LINKER_UTILS_KIND_PLT_RELATIVE ||
+                      row->info.kind == LINKER_UTILS_KIND_PLT_REL_GOT_BASE);
     row->is_known = true;
     return row;
 }
@@ -56,8 +59,8 @@ static int by_offset(const void *left, const void *right) {
     return a->offset < b->offset ? -1 : a->offset > b->offset;
 }
 
-/* PowerPC64: the address in the doubleword of the TOC that a relocation is of, if only `ld`s of it are;
- * null where there is none. */
+/* PowerPC64: the address in the doubleword of the TOC that a relocation refers to, if only `ld`s
+ * do; else null. */
 static const struct relocation *toc_word(const struct relocation *r) {
     struct relocation key = {0}, *word;
     const struct section *toc = toc_section(r, &key.offset);
@@ -115,43 +118,59 @@ struct relocation *high_part(const struct output *o, const struct relocation *lo
     fail("%s: no high part at '%s'", place_of(low), low->symbol->name);
 }
 
-/* RISC-V: TLS descriptors become offsets from the thread pointer, and loads from the GOT addresses.
- * The GOT stays, as ld.lld's. The low parts are rewritten before the high parts that they depend on,
- * and loads only if all of one high part can be. */
+/* The high part that a relocation of RISC-V is or names, if that is of a GOT entry or of a TLS
+ * descriptor; else null. */
+static struct relocation *entry_part(const struct output *o, struct relocation *r) {
+    bool is_low = r->type == R_RISCV_PCREL_LO12_I || r->type == R_RISCV_PCREL_LO12_S ||
+                  (r->type > RISCV_TLSDESC_HI20 && r->type <= RISCV_TLSDESC_CALL);
+    struct relocation *high = is_low ? high_part(o, r) : r;
+    return high->type == R_RISCV_GOT_HI20 || high->type == RISCV_TLSDESC_HI20 ? high : NULL;
+}
+
+/* What is known of the symbol of a high part, for a rewrite at it or at one of its low parts. Loads
+ * from the GOT have to be marked; a TLS descriptor has to be only where bytes are deleted. */
+static struct linker_utils_link_facts facts_of(const struct output *o,
+                                               const struct relocation *high,
+                                               const struct relocation *r) {
+    const struct symbol *s = high->symbol;
+    bool is_load = high->type == R_RISCV_GOT_HI20;
+    return (struct linker_utils_link_facts){
+        .is_local = s->output != NULL, .has_fixed_distance = 1, .is_executable = 1,
+        .has_got_high_part = is_load, .has_addresses = 1,
+        .is_marked = is_load && is_marked(o, high) && is_marked(o, r),
+        .operands = {.symbol = address_of(s->output, s->offset), .addend = high->addend,
+                     .place = address_of(o, high->offset), .tls_base = tls.thread,
+                     .got_entry = NO_ENTRY}};
+}
+
+/* RISC-V: TLS descriptors become offsets from the thread pointer, and loads from the GOT sums, if
+ * all of one high part can. The GOT stays, as ld.lld's. */
 static void rewrite_riscv(struct output *o) {
-    enum { LOOK, LOW, HIGH };
-    for (int step = LOOK; step <= HIGH; step++)
-        for (struct relocation *r = o->relocations; r < o->relocations + o->relocations_len; r++) {
-            bool is_descriptor = r->type >= RISCV_TLSDESC_HI20 && r->type <= RISCV_TLSDESC_CALL;
-            bool is_high = r->type == RISCV_TLSDESC_HI20 || r->type == R_RISCV_GOT_HI20;
-            bool is_low = !is_high && (is_descriptor || r->type == R_RISCV_PCREL_LO12_I ||
-                                       r->type == R_RISCV_PCREL_LO12_S);
-            if (step == LOOK ? is_descriptor || (!is_low && !is_high) : step == LOW ? !is_low : !is_high)
-                continue;
-            struct relocation *high = is_low ? high_part(o, r) : r;
-            if (!is_descriptor && high->type != R_RISCV_GOT_HI20) continue;
-            if (step != LOOK && high->keeps_entry) continue;
-            struct linker_utils_link_facts facts = {
-                .is_local = high->symbol->output != NULL, .has_fixed_distance = 1,
-                .is_executable = 1, .has_got_high_part = 1, .has_addresses = 1,
-                .is_marked = !is_descriptor && is_marked(o, r) && is_marked(o, high),
-                .operands = {.symbol = address_of(high->symbol->output, high->symbol->offset),
-                             .addend = high->addend, .place = address_of(o, high->offset),
-                             .tls_base = tls.thread}};
+    struct relocation *end = o->relocations + o->relocations_len, *high;
+    struct linker_utils_link_facts facts;
+    for (struct relocation *r = o->relocations; r < end; r++) {
+        if (!(high = entry_part(o, r))) continue;
+        struct linker_utils_choice choice;
+        uint64_t at = address_of(o, r->offset) - o->address;
+        facts = facts_of(o, high, r);
+        check(r, linker_utils_choose(machine, r->type, o->bytes, o->len, at, &facts, &choice));
+        if (choice.rewrite != LINKER_UTILS_RISCV_REWRITE_NO_OP || choice.relocation != r->type)
+            continue;
+        if (high->type == RISCV_TLSDESC_HI20) fail("%s is not supported", place_of(r));
+        high->keeps_entry = true;
+    }
+    for (int step = 0; step < 2; step++) { /* the low parts first, while the high ones are there */
+        for (struct relocation *r = o->relocations; r < end; r++) {
+            if (!(high = entry_part(o, r)) || high->keeps_entry || (high == r) != step) continue;
             uint64_t at = address_of(o, r->offset) - o->address;
-            if (step == LOOK) {
-                struct linker_utils_choice choice;
-                check(r, linker_utils_choose(machine, r->type, o->bytes, o->len, at, &facts, &choice));
-                high->keeps_entry |= choice.rewrite == LINKER_UTILS_RISCV_REWRITE_NO_OP &&
-                                     choice.relocation == r->type;
-                continue;
-            }
-            uint32_t before = r->type;
+            facts = facts_of(o, high, r);
             rewrite(r, o->bytes, o->len, &at, &r->addend, &r->type, &facts);
-            if (is_descriptor && r->type == before) fail("%s is not supported", place_of(r));
-            if (is_descriptor) r->symbol = high->symbol, r->addend = high->addend;
-            if (r->type == R_RISCV_PCREL_HI20) r->entry = NULL;
+            if (high == r) r->entry = NULL;
+            if (high->type != RISCV_TLSDESC_HI20) continue;
+            r->symbol = high->symbol;
+            r->addend = high->addend;
         }
+    }
 }
 
 int64_t value_of(const struct output *o, const struct relocation *r) {
@@ -180,6 +199,10 @@ int64_t value_of(const struct output *o, const struct relocation *r) {
         operands.symbol += PPC64_LOCAL_ENTRY_OFFSET(s->elf.st_other);
     }
     operands.plt_entry = operands.symbol;
+    if (row->loads_plt) { /* there the entry of S + A is in the GOT */
+        operands.plt_entry = entry;
+        operands.addend = 0;
+    }
     int64_t value = 0;
     check(r, linker_utils_value(machine, r->type, &operands, &value));
     return value;
@@ -205,8 +228,8 @@ void relocate(struct output *o) {
     struct relocation *end = o->relocations + o->relocations_len;
     if (machine == EM_RISCV) rewrite_riscv(o);
     for (struct relocation *r = o->relocations; r < end; r++) {
-        if (machine == EM_AARCH64 && r + 1 < end) rewrite_aarch64(o, r, r + 1);
-        if (machine == EM_PPC64) rewrite_ppc64(o, r);
+        if (relaxes && machine == EM_AARCH64 && r + 1 < end) rewrite_aarch64(o, r, r + 1);
+        if (relaxes && machine == EM_PPC64) rewrite_ppc64(o, r);
         const struct row *row = row_of(r);
         if (row->info.kind == LINKER_UTILS_KIND_NONE || is_left_out(r) ||
             row->info.kind == LINKER_UTILS_KIND_ALIGNMENT ||

@@ -1,5 +1,5 @@
-/* Thread-local storage at both ends of what offsets of 12 bits reach, and calls between sections. The
- * descriptors are marked here, since clang 19 marks none. */
+/* Thread-local storage at both ends of what offsets of 12 bits reach, and calls between sections.
+ * RISC-V's descriptors are marked here, since clang 19 marks none. */
 #include "program.h"
 
 static word block[0x900 / sizeof(word)] __attribute__((aligned(64)));

@@ -2,33 +2,22 @@
 #![tactic(auto)]
 
 #[cfg(test)]
-mod aarch64;
-#[cfg(test)]
 mod bits;
 #[cfg(test)]
 mod deltas;
 #[cfg(test)]
 mod jumps;
 #[cfg(test)]
-mod loongarch64;
-#[cfg(test)]
 mod packing;
 pub mod poke;
-#[cfg(test)]
-mod ppc64;
 #[cfg(test)]
 mod readers;
 #[cfg(test)]
 mod refused_growth;
-#[cfg(test)]
-mod riscv64;
-#[cfg(test)]
-mod rows;
+pub mod rows;
 #[cfg(test)]
 mod shrinking;
 #[cfg(test)]
 mod taken_memory;
 #[cfg(test)]
 mod windows;
-#[cfg(test)]
-mod x86_64;

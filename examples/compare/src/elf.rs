@@ -2,9 +2,9 @@
 
 use linker_utils::elf::Architecture;
 use object::LittleEndian;
-use object::elf::{self, FileHeader64};
+use object::elf::{self, FileHeader64, SectionHeader64};
 use object::read::archive::ArchiveFile;
-use object::read::elf::{FileHeader, ProgramHeader, Rela, SectionHeader, Sym};
+use object::read::elf::{FileHeader, ProgramHeader, Rela, SectionHeader, SectionTable, Sym};
 use std::collections::HashMap;
 
 /// Why a file can't be read, in a sentence without its name.
@@ -29,6 +29,8 @@ pub struct Section<'a> {
     pub bytes: &'a [u8],
     pub size: u64,
     pub is_allocated: bool,
+    /// Whether linkers keep its symbols as far apart as they are.
+    pub is_whole: bool,
     /// In the order of their offsets.
     pub relocations: Vec<Relocation>,
 }
@@ -114,6 +116,20 @@ fn head(bytes: &[u8]) -> Result<(&Head, Architecture), Reason> {
     Ok((head, architecture))
 }
 
+/// A section's name and bytes.
+fn name_and_bytes<'a>(
+    table: &SectionTable<'a, Head>,
+    section: &SectionHeader64<LittleEndian>,
+    bytes: &'a [u8],
+) -> Result<(String, &'a [u8]), Reason> {
+    let name = text(table.section_name(LE, section).map_err(because)?);
+    match section.data(LE, bytes) {
+        _ if section.sh_type(LE) == elf::SHT_NULL => Ok((name, &[])),
+        Ok(data) => Ok((name, data)),
+        Err(_) => Err(format!("section {name} ends past the file's end")),
+    }
+}
+
 fn symbols_of(
     head: &Head,
     bytes: &[u8],
@@ -159,13 +175,14 @@ fn read_object<'a>(path: String, bytes: &'a [u8]) -> Result<Object<'a>, Reason> 
     }
     let mut sections = Vec::with_capacity(table.len());
     for section in table.iter() {
-        let is_empty = section.sh_type(LE) == elf::SHT_NULL;
-        let data = section.data(LE, bytes).map_err(because)?;
+        let (name, bytes) = name_and_bytes(&table, section, bytes)?;
+        let flags = section.sh_flags(LE);
         sections.push(Section {
-            name: text(table.section_name(LE, section).map_err(because)?),
-            bytes: if is_empty { &[] } else { data },
+            name,
+            bytes,
             size: section.sh_size(LE),
-            is_allocated: section.sh_flags(LE) & u64::from(elf::SHF_ALLOC) != 0,
+            is_allocated: flags & u64::from(elf::SHF_ALLOC) != 0,
+            is_whole: flags & u64::from(elf::SHF_MERGE) == 0,
             relocations: Vec::new(),
         });
     }
@@ -285,13 +302,13 @@ pub fn read_linked<'a>(bytes: &'a [u8]) -> Result<Linked<'a>, Reason> {
     let mut got = Vec::new();
     let mut got_start = None;
     for section in table.iter() {
-        let name = table.section_name(LE, section).map_err(because)?;
-        if !name.starts_with(b".got") || section.sh_type(LE) != elf::SHT_PROGBITS {
+        let (name, bytes) = name_and_bytes(&table, section, bytes)?;
+        if !name.starts_with(".got") || section.sh_type(LE) != elf::SHT_PROGBITS {
             continue;
         }
         let address = section.sh_addr(LE);
         got_start.get_or_insert(address);
-        for (at, word) in words(address, section.data(LE, bytes).map_err(because)?) {
+        for (at, word) in words(address, bytes) {
             got.push((at, moved.get(&at).cloned().unwrap_or(Entry::Address(word))));
         }
     }

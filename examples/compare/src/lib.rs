@@ -36,13 +36,13 @@ pub struct Counts {
 }
 
 /// Compares the relocations of the objects in two linked files. `step` is called with how much is
-/// done and how much there is.
+/// done and how much there is. The error is of the first file or the second.
 pub fn compare<'a>(
     objects: &'a [elf::Object<'a>],
     files: [&'a elf::Linked<'a>; 2],
     step: &dyn Fn(u64, u64),
     mut each: impl FnMut(Line),
-) -> Counts {
+) -> Result<Counts, (usize, elf::Reason)> {
     let definers = walk::definers(objects);
     let sections: usize = objects.iter().map(|object| object.sections.len()).sum();
     let (total, done) = (4 * sections as u64, std::cell::Cell::new(0));
@@ -50,7 +50,10 @@ pub fn compare<'a>(
         done.set(done.get() + 1);
         step(done.get().min(total), total);
     };
-    let mut sides = files.map(|file| Side::new(file, objects, &definers));
+    let side = |which: usize| {
+        Side::new(files[which], objects, &definers).map_err(|reason| (which, reason))
+    };
+    let mut sides = [side(0)?, side(1)?];
     for side in &mut sides {
         side.locate(&advance);
     }
@@ -85,5 +88,5 @@ pub fn compare<'a>(
             }
         }
     }
-    counts
+    Ok(counts)
 }

@@ -1,7 +1,8 @@
 //! What the library says of a relocation: its choices, its field, and what that leads to.
 
+use crate::elf::Relocation;
 use linker_utils::architecture::Relaxation;
-use linker_utils::elf::{Architecture, Choice, InstructionRewrite, Operands, RelocationKind, Row};
+use linker_utils::elf::{Architecture, Choice, InstructionRewrite, Operands, Row};
 use linker_utils::relaxation::RelocationModifier;
 use linker_utils::reading::{FieldValue, read, solve};
 use linker_utils::recognise::{self, FieldBits};
@@ -69,17 +70,22 @@ pub fn is_relax(architecture: Architecture, code: u32) -> bool {
     architecture.name(code).is_some_and(|name| name.ends_with("_RELAX"))
 }
 
-/// How many bytes of nops a relocation aligns with, and to how many bytes.
-pub fn alignment(row: Row, has_symbol: bool, addend: i64) -> Option<(u64, u64)> {
-    if row.kind() != RelocationKind::Alignment {
-        return None;
-    }
-    if has_symbol {
-        let to = 1 << (addend as u64 & 0xff).min(16);
-        return Some((to - 4, to));
-    }
-    let nops = u64::try_from(addend).ok().filter(|nops| *nops < 1 << 16)?;
-    Some((nops, (nops + 1).next_power_of_two()))
+/// Of an alignment how many bytes of nops the object has, and how many stay at a place.
+pub fn alignment(architecture: Architecture, one: &Relocation, place: u64) -> Option<(u64, u64)> {
+    let (nops, to, most) = match architecture.name(one.code)? {
+        "R_LARCH_ALIGN" if one.symbol != 0 => {
+            // the psABI: the power of two, and from bit 8 on how many bytes of nops may stay
+            let to = 1 << (one.addend as u64 & 0xff).min(16);
+            (u64::saturating_sub(to, 4), to, one.addend as u64 >> 8)
+        }
+        "R_LARCH_ALIGN" | "R_RISCV_ALIGN" => {
+            let nops = u64::try_from(one.addend).ok().filter(|nops| *nops < 1 << 16)?;
+            (nops, (nops + 1).next_power_of_two(), 0)
+        }
+        _ => return None,
+    };
+    let kept = place.wrapping_neg() % to;
+    Some((nops, if most != 0 && kept > most { 0 } else { kept }))
 }
 
 /// What stands in the field of a choice's relocation.
@@ -107,7 +113,7 @@ pub struct Before {
 impl Before {
     pub fn new(
         architecture: Architecture,
-        one: &crate::elf::Relocation,
+        one: &Relocation,
         bytes: &[u8],
         offset: u64,
     ) -> Before {

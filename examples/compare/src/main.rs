@@ -161,6 +161,9 @@ fn run() -> Result<ExitCode, Failure> {
     if let Some(bar) = progress.bar.get() {
         bar.finish_and_clear();
     }
+    let counts = counts.map_err(|(which, reason)| {
+        Failure::Said(format!("{}: {reason}", linked[which].0))
+    })?;
     written?;
     if arguments.is_json {
         writeln!(out, "{}", report::counts_as_json(&counts))?;

@@ -1,10 +1,10 @@
 //! The relocations of the objects in a linked file: where each is, and what was made of it.
 
-use crate::elf::{Entry, Home, Linked, Object, Relocation, Section, Symbol};
+use crate::elf::{Entry, Home, Linked, Object, Reason, Relocation, Section, Symbol};
 use crate::made::{self, Chosen, Field};
 use linker_utils::elf::{Architecture, Operands, RelocationKind};
 use linker_utils::recognise::{FieldBits, field_bits};
-use object::elf::{STT_FILE, STT_SECTION, STT_TLS};
+use object::elf::{STT_FILE, STT_GNU_IFUNC, STT_SECTION, STT_TLS};
 use std::collections::HashMap;
 
 /// What a relocation leads to.
@@ -79,12 +79,35 @@ fn is_named(symbol: &Symbol) -> bool {
     !symbol.name.is_empty() && !matches!(symbol.kind, STT_SECTION | STT_FILE | STT_TLS)
 }
 
+/// Whether linkers delete bytes of code.
+fn may_delete(architecture: Architecture) -> bool {
+    matches!(architecture, Architecture::RiscV | Architecture::LoongArch64)
+}
+
+/// An error where symbols of one section, with their offsets and addresses, are in another order or
+/// at other distances than where a linker leaves them.
+fn check_distances(
+    object: &Object,
+    mut symbols: Vec<(u64, u64, &str)>,
+) -> Result<(), Reason> {
+    symbols.sort_unstable();
+    for pair in symbols.windows(2) {
+        let [(offset, address, first), (next, at, second)] = [pair[0], pair[1]];
+        let (distance, now) = (next - offset, at.wrapping_sub(address));
+        if now > distance || (now < distance && !may_delete(object.architecture)) {
+            let path = &object.path;
+            return Err(format!("{first} and {second} overlap, or aren't those of {path}"));
+        }
+    }
+    Ok(())
+}
+
 impl<'a> Side<'a> {
     pub fn new(
         linked: &'a Linked<'a>,
         objects: &'a [Object<'a>],
         definers: &'a HashMap<&'a str, usize>,
-    ) -> Side<'a> {
+    ) -> Result<Side<'a>, Reason> {
         // local symbols by their order, where the file has as many of the name as the objects
         let mut counts = HashMap::<&str, usize>::new();
         let locals = |object: &'a Object<'a>| {
@@ -99,6 +122,7 @@ impl<'a> Side<'a> {
         let (mut anchors, mut repeated) = (Vec::new(), Vec::new());
         for (index, object) in objects.iter().enumerate() {
             let mut of_sections = vec![Anchors::new(); object.sections.len()];
+            let mut firm = vec![Vec::new(); object.sections.len()];
             for symbol in &object.symbols {
                 let Home::Section(section) = symbol.home else { continue };
                 let name = symbol.name.as_str();
@@ -116,11 +140,18 @@ impl<'a> Side<'a> {
                     None
                 };
                 let Some(address) = address else { continue };
+                let is_firm = !symbol.is_local && !symbol.is_weak && symbol.kind != STT_GNU_IFUNC;
+                if is_firm && object.sections[section].is_whole {
+                    firm[section].push((symbol.value, address, name));
+                }
                 if symbol.is_local && counts.get(name) != Some(&1) {
                     repeated.push((index, section, (symbol.value, address)));
                 } else {
                     of_sections[section].push((symbol.value, address));
                 }
+            }
+            for symbols in firm {
+                check_distances(object, symbols)?;
             }
             for of_section in &mut of_sections {
                 of_section.sort_unstable();
@@ -140,7 +171,8 @@ impl<'a> Side<'a> {
             _ => base("_GLOBAL_OFFSET_TABLE_").unwrap_or(linked.got_start),
         };
         let maps = anchors.clone();
-        Side { linked, objects, definers, got_base, anchors, maps, repeated, pending: Vec::new(), made: Vec::new() }
+        let (pending, made) = (Vec::new(), Vec::new());
+        Ok(Side { linked, objects, definers, got_base, anchors, maps, repeated, pending, made })
     }
 
     /// Finds the places of all sections, as far as they can be found; `step` is called for each
@@ -158,9 +190,7 @@ impl<'a> Side<'a> {
                 self.made.push(made);
             }
             // the deletions have to be known before places are
-            let may_delete =
-                matches!(self.linked.architecture, Architecture::RiscV | Architecture::LoongArch64);
-            if round == 0 && may_delete {
+            if round == 0 && may_delete(self.linked.architecture) {
                 continue;
             }
             if !self.learn() && !self.use_repeated() {
@@ -379,6 +409,7 @@ impl<'a> Side<'a> {
         let mut map = Anchors::new();
         let mut all = vec![Made::Nowhere; it.relocations.len()];
         let (mut next, mut skipped, mut covered) = (0, false, 0);
+        let mut either = Vec::new();
         if !it.is_allocated || anchors.is_empty() || it.bytes.is_empty() {
             return all;
         }
@@ -391,14 +422,10 @@ impl<'a> Side<'a> {
             }
             let (from, address) = *map.last().unwrap_or(&(0, 0));
             let place = address.wrapping_add(one.offset).wrapping_sub(from);
-            let row = architecture.row(one.code);
-            if let Some((nops, to)) =
-                row.and_then(|row| made::alignment(row, one.symbol != 0, one.addend))
+            if let Some((nops, kept)) = made::alignment(architecture, one, place)
+                && kept < nops
             {
-                let kept = place.wrapping_neg() % to;
-                if kept < nops {
-                    map.push((one.offset + nops, place.wrapping_add(kept)));
-                }
+                map.push((one.offset + nops, place.wrapping_add(kept)));
             }
             let is_skipped = std::mem::take(&mut skipped);
             if is_skipped || made::is_mark(architecture, one.code) {
@@ -410,6 +437,7 @@ impl<'a> Side<'a> {
                 all[index] = if one.offset < covered {
                     Made::Part
                 } else {
+                    let row = architecture.row(one.code);
                     let len = row.map_or(4, |row| row.window().max(4));
                     let bytes = self.linked.bytes_at(place).unwrap_or(&[]);
                     Made::Unknown(bytes[..bytes.len().min(len)].to_vec())
@@ -435,16 +463,44 @@ impl<'a> Side<'a> {
                 let at = one.offset + deleted.start;
                 map.push((at + u64::from(deleted.count), place.wrapping_add(deleted.start)));
             }
-            all[index] = Made::Chosen {
-                rewrite,
-                relocation: found.chosen.relocation,
-                is_through_got: found.is_through_got,
-                target: found.target,
-            };
+            let (is_through_got, target) = (found.is_through_got, found.target);
+            if let Some(relocation) = found.other {
+                let (target, is_through_got) = (target.clone(), !is_through_got);
+                let rewrite = rewrite.clone();
+                either.push((index, Made::Chosen { rewrite, relocation, is_through_got, target }));
+            }
+            let relocation = found.chosen.relocation;
+            all[index] = Made::Chosen { rewrite, relocation, is_through_got, target };
+        }
+        for (index, other) in either {
+            if self.low_half(object, section, index).is_some_and(|low| {
+                matches!(&all[low], Made::Chosen { rewrite, relocation, .. }
+                    if rewrite.is_some() || *relocation != it.relocations[low].code)
+            }) {
+                all[index] = other;
+            }
         }
         map.extend_from_slice(&anchors[next.min(anchors.len())..]);
         self.maps[object][section] = map;
         all
+    }
+
+    /// The relocation of the other half of an address whose high part this is.
+    fn low_half(&self, object: usize, section: usize, index: usize) -> Option<usize> {
+        let it = &self.objects[object];
+        let all = &it.sections[section].relocations;
+        let high = &all[index];
+        let is_low = |one: &Relocation| {
+            let row = self.linked.architecture.row(one.code);
+            let symbol = &it.symbols[one.symbol];
+            if row.is_some_and(|row| row.kind() == RelocationKind::RelativeRiscVLow12) {
+                return symbol.home == Home::Section(section) && symbol.value == high.offset;
+            }
+            (one.symbol, one.addend) == (high.symbol, high.addend) && one.code != high.code
+        };
+        // compilers leave little between both
+        let near = all.iter().enumerate().skip(index + 1).take(64);
+        near.filter(|(_, one)| one.offset > high.offset).find(|(_, one)| is_low(one)).map(|(at, _)| at)
     }
 
     /// The choice that leaves the bytes of the widest window; of several the one whose relocation
@@ -508,9 +564,10 @@ impl<'a> Side<'a> {
                 let found = found.into_iter().map(|chosen| (before.clone(), chosen, None));
                 let mut found: Vec<_> =
                     if is_second { before.choices_after(&others, linked) } else { found.collect() };
-                // a high part alone may lead to its symbol by either relocation
+                // a high part alone may lead to its symbol by either relocation: its low half tells
                 found.sort_by_key(|(_, chosen, _)| chosen.relocation != one.code);
                 for (before, chosen, first) in found {
+                    let is_alone = first.is_none() && made::rewrite_name(chosen.kind).is_none();
                     let count = chosen.kind.deleted().map_or(0, |bytes| bytes.count as usize);
                     if count != *deleted {
                         continue;
@@ -522,13 +579,18 @@ impl<'a> Side<'a> {
                     };
                     let is_sure = target == Target::AsWritten;
                     let is_through_got = field.is_some_and(|field| field.is_through_got());
-                    if is_sure || best.is_none() {
-                        let found = Found { first, chosen, is_through_got, target, start, end };
-                        *best = Some(found);
+                    if let Some(best) = best.as_mut().filter(|best| best.is_sure()) {
+                        let is_other =
+                            is_sure && is_alone && best.is_through_got != is_through_got;
+                        best.other = best.other.or(is_other.then_some(chosen.relocation));
+                    } else if is_sure || best.is_none() {
+                        let other = None;
+                        *best =
+                            Some(Found { first, chosen, other, is_through_got, target, start, end });
                     }
-                    if is_sure {
-                        return;
-                    }
+                }
+                if best.as_ref().is_some_and(Found::is_sure) {
+                    return;
                 }
             }
             if best.is_some() && !is_marked {
@@ -618,11 +680,20 @@ struct Found {
     /// A rewrite before this one.
     first: Option<Chosen>,
     chosen: Chosen,
+    /// A relocation after which the bytes are the same, where this one leads through the GOT and the
+    /// other doesn't, or the reverse: of a high part alone.
+    other: Option<u32>,
     is_through_got: bool,
     target: Target,
     /// The window of the section that was looked at.
     start: u64,
     end: u64,
+}
+
+impl Found {
+    fn is_sure(&self) -> bool {
+        self.target == Target::AsWritten
+    }
 }
 
 /// A window that cuts no field, and the fields of the other relocations in it.

@@ -1,7 +1,7 @@
 //! The objects of `examples/objects`, as ld.lld 19 linked them (`tests/make`).
 
 use compare::{Counts, Line, compare, elf, report};
-use linker_utils::elf::{Architecture, Operands};
+use linker_utils::elf::Operands;
 use object::{Object, ObjectSection, ObjectSymbol};
 use std::collections::HashMap;
 use std::fs;
@@ -20,12 +20,14 @@ fn ways() -> Vec<String> {
         .map(|way| way.strip_prefix(&root).unwrap().to_str().unwrap().to_string())
         .collect();
     ways.sort();
-    assert_eq!(ways.len(), 18);
+    assert_eq!(ways.len(), 20);
     ways
 }
 
 fn objects_of(way: &str) -> Vec<(String, Vec<u8>)> {
-    let folder = Path::new(env!("CARGO_MANIFEST_DIR")).join("../objects").join(way);
+    let root = Path::new(env!("CARGO_MANIFEST_DIR"));
+    let own = root.join("tests/objects").join(way);
+    let folder = if own.exists() { own } else { root.join("../objects").join(way) };
     let read = |name: &&str| {
         let path = folder.join(format!("{name}.o"));
         (format!("{name}.o"), fs::read(path).unwrap())
@@ -49,6 +51,7 @@ fn differences(inputs: &[(String, Vec<u8>)], a: &[u8], b: &[u8]) -> (Vec<Line>, 
             lines.push(line);
         }
     });
+    let counts = counts.unwrap();
     assert_eq!(lines.len(), counts.different);
     (lines, counts)
 }
@@ -58,8 +61,8 @@ fn text(line: &Line) -> String {
     format!("{}\n    A: {}\n    B: {}\n", report::head(line), report::words(line, a), report::words(line, b))
 }
 
-/// Offset, code, the word there, symbol and addend of each relocation, by the section tables alone.
-fn codes(inputs: &[(String, Vec<u8>)]) -> Vec<(u64, u32, u32, [u64; 3])> {
+/// The types of all relocations, by the section tables alone.
+fn codes(inputs: &[(String, Vec<u8>)]) -> Vec<u32> {
     let mut all = Vec::new();
     for (_, bytes) in inputs {
         let file = object::read::elf::ElfFile64::<object::LittleEndian>::parse(&bytes[..]).unwrap();
@@ -71,13 +74,7 @@ fn codes(inputs: &[(String, Vec<u8>)]) -> Vec<(u64, u32, u32, [u64; 3])> {
             let name = format!(".rela{}", section.name().unwrap());
             let Some(table) = file.section_by_name(&name) else { continue };
             for entry in table.data().unwrap().chunks_exact(24) {
-                let word = |at: usize| u64::from_le_bytes(entry[at..at + 8].try_into().unwrap());
-                let symbol = object::SymbolIndex((word(8) >> 32) as usize);
-                let name = file.symbol_by_index(symbol).map(|one| one.name() == Ok("absent"));
-                let is_absent = u64::from(name == Ok(true));
-                let there = section.data().unwrap().get(word(0) as usize..).unwrap_or(&[]);
-                let insn = there.first_chunk().map_or(0, |bytes| u32::from_le_bytes(*bytes));
-                all.push((word(0), word(8) as u32, insn, [word(8) >> 32, word(16), is_absent]));
+                all.push(u32::from_le_bytes(entry[8..12].try_into().unwrap()));
             }
         }
     }
@@ -96,44 +93,55 @@ fn another_layout_is_the_same() {
         let marks = ["R_RISCV_RELAX", "R_RISCV_ALIGN", "R_LARCH_RELAX", "R_LARCH_ALIGN"];
         let architecture = elf::read_linked(&linked(&way, "plain")).unwrap().architecture;
         let is_mark = |code: u32| marks.contains(&architecture.name(code).unwrap());
-        let all = codes(&inputs).into_iter().filter(|(_, code, ..)| !is_mark(*code)).count();
+        let all = codes(&inputs).into_iter().filter(|code| !is_mark(*code)).count();
         assert_eq!(counts.relocations, all, "{way}");
     }
 }
 
+/// What a rewrite is called, by the mnemonics of both instructions.
+const REWRITES: [(&str, &str, &str); 5] = [
+    // x86-64
+    ("movq", "leaq", "MovIndirectToLea (direct)"),
+    // AArch64: the low half of an address, and the high one
+    ("add", "adr", "AdrpAddToNopAdr (direct)"),
+    ("ldr", "adr", "LdrToAdd, AdrpAddToNopAdr (direct)"),
+    ("adrp", "nop", "part of another's rewrite"),
+    // RISC-V
+    ("auipc", "jal", "CallToJal (direct)"),
+];
+
+/// `tests/changed.py` counted the places from the instructions.
 #[test]
-fn relaxed_code_differs_at_the_listed_places() {
-    let mut said = String::new();
+fn relaxed_code_differs_at_the_counted_places() {
+    let path = Path::new(env!("CARGO_MANIFEST_DIR")).join("tests/relaxed.txt");
+    let counted = fs::read_to_string(path).unwrap();
+    let counted: Vec<(&str, [&str; 2])> = counted
+        .lines()
+        .map(|line| {
+            let (head, both) = line.rsplit_once(": ").unwrap();
+            let (before, after) = both.split_once(" -> ").unwrap();
+            (head, [before, after])
+        })
+        .collect();
+    let mut named = Vec::new();
     for way in ways() {
         let inputs = objects_of(&way);
         let (lines, _) = differences(&inputs, &linked(&way, "plain"), &linked(&way, "relaxed"));
-        // how many ld.lld relaxes: on x86-64 each load, call and jump through the GOT; on RISC-V each
-        // call, since all are near; on AArch64 each `adrp` and `add` (loads from the GOT only where all
-        // of a section are pairs: these are not counted); nothing on PowerPC64 (--no-toc-optimize) and,
-        // but for alignments, on LoongArch
-        let codes = codes(&inputs);
-        // ld.lld asks for one register and symbol that is defined, and no addend
-        let pairs = codes.windows(2).filter(|pair| {
-            let ((a, high, adrp, first), (b, low, second, last)) = (pair[0], pair[1]);
-            let registers = [adrp & 31, second & 31, second >> 5 & 31];
-            let is_one = registers.iter().all(|register| *register == registers[0]);
-            b == a + 4 && is_one && first == last && last[1..] == [0, 0] && (high, low) == (275, 277)
-        });
-        let count = match &way[..3] {
-            "x86" => codes.iter().filter(|(_, code, ..)| matches!(code, 41 | 42)).count(),
-            "ris" => codes.iter().filter(|(_, code, ..)| *code == 19).count(),
-            "aar" => pairs.count(),
-            _ => 0,
-        };
-        let is_counted = |line: &&Line| !way.starts_with("aarch64") || line.relocation == 277;
-        assert_eq!(lines.iter().filter(is_counted).count(), count, "{way}");
-        lines.iter().for_each(|line| said += &format!("{way}/{}", text(line)));
+        named.extend(lines.into_iter().map(|line| (format!("{way}/{}", report::head(&line)), line)));
     }
-    let path = Path::new(env!("CARGO_MANIFEST_DIR")).join("tests/relaxed.txt");
-    if std::env::var_os("STORE").is_some() {
-        fs::write(&path, &said).unwrap();
+    let heads = |all: &mut dyn Iterator<Item = String>| all.collect::<Vec<_>>().join("\n");
+    assert_eq!(
+        heads(&mut named.iter().map(|(head, _)| head.clone())),
+        heads(&mut counted.iter().map(|(head, _)| head.to_string())),
+    );
+    for ((head, line), (_, [before, after])) in named.iter().zip(counted) {
+        let [a, b] = &line.made;
+        let said = report::words(line, b);
+        let known = REWRITES.iter().any(|rewrite| *rewrite == (before, after, &said[..]));
+        assert!(known, "{head}: {before} is {after}, and {said}");
+        let wanted = if head.contains("GOT") { "as it was (through the GOT)" } else { "as it was (direct)" };
+        assert_eq!(report::words(line, a), wanted, "{head}");
     }
-    assert!(said == fs::read_to_string(path).unwrap(), "not as tests/relaxed.txt has it:\n{said}");
 }
 
 type Parsed<'a> = object::read::elf::ElfFile64<'a, object::LittleEndian>;
@@ -234,6 +242,48 @@ fn another_symbols_got_entry_is_found() {
     assert!(named > 0);
 }
 
+/// `adrp` and `ldr` of a GOT entry become `adrp` and `add`, where the entry is in the symbol's page.
+#[test]
+fn a_high_part_is_told_by_its_low_half() {
+    let way = "aarch64/gcc-O2-PIC";
+    let inputs = objects_of(way);
+    let plain = linked(way, "plain");
+    let at = addresses(&plain);
+    let file = Parsed::parse(&plain[..]).unwrap();
+    let got = file.section_by_name(".got").unwrap();
+    assert_eq!(got.address() >> 12, (got.address() + got.size() - 1) >> 12);
+    assert_eq!(got.address() >> 12, at["swaps"] >> 12);
+    let all = elf::read_objects("main.o", &inputs[1].1).unwrap();
+    let main = all[0].symbols.iter().find(|one| one.name == "main").unwrap();
+    let elf::Home::Section(section) = main.home else { panic!() };
+    let of_swaps = |code: u32| {
+        let mut found = all[0].sections[section].relocations.iter();
+        found.find(|one| one.code == code && all[0].symbols[one.symbol].name == "swaps").unwrap()
+    };
+    // R_AARCH64_ADR_GOT_PAGE, and R_AARCH64_LD64_GOT_LO12_NC
+    let (high, low) = (of_swaps(311), of_swaps(312));
+    let mut planted = plain.clone();
+    let field = file_offset(&plain, at["main"] + low.offset - main.value);
+    let load = u32::from_le_bytes(plain[field..field + 4].try_into().unwrap());
+    assert_eq!(load >> 22, 0xf9400000 >> 22);
+    let add = 0x91000000 | ((at["swaps"] & 0xfff) as u32) << 10 | (load & 0x3ff);
+    planted[field..field + 4].copy_from_slice(&add.to_le_bytes());
+    let (lines, _) = differences(&inputs, &plain, &planted);
+    let said: String = lines.iter().map(text).collect();
+    let (high, low) = (high.offset - main.value, low.offset - main.value);
+    let wanted = format!(
+        "\
+main.o: main+{high:#x}  R_AARCH64_ADR_GOT_PAGE swaps
+    A: as it was (through the GOT)
+    B: as R_AARCH64_ADR_PREL_PG_HI21 (direct)
+main.o: main+{low:#x}  R_AARCH64_LD64_GOT_LO12_NC swaps
+    A: as it was (through the GOT)
+    B: LdrToAdd (direct)
+"
+    );
+    assert_eq!(said, wanted);
+}
+
 struct Random(u64);
 
 impl Random {
@@ -249,7 +299,7 @@ impl Random {
 fn mutated_files_are_read_without_a_panic() {
     let mut random = Random(0x5eed_1e55_c0ff_ee11);
     let ways = ways();
-    let (mut rejected, mut read) = (0, 0);
+    let (mut rejected, mut read, mut contradictory) = (0, 0, 0);
     for round in 0..10_000 {
         let way = &ways[round % ways.len()];
         let mut files = objects_of(way);
@@ -281,12 +331,14 @@ fn mutated_files_are_read_without_a_panic() {
         };
         let objects: Vec<_> = objects.into_iter().flatten().collect();
         read += 1;
-        compare(&objects, [&a, &b], &|_, _| (), |line| {
+        let counts = compare(&objects, [&a, &b], &|_, _| (), |line| {
             text(&line);
             report::line_as_json(&line).to_string();
         });
+        contradictory += usize::from(counts.is_err());
     }
     assert!(rejected > 1000 && read > 1000, "{rejected} rejected, {read} read");
+    assert!(contradictory > 10, "{contradictory}");
 }
 
 /// An x86-64 program of 100,000 relocations, as the system's assembler and linker make it.
@@ -357,7 +409,6 @@ fn the_program_returns_its_status() {
     assert_eq!(lines[0]["b"]["rewrite"], "MovIndirectToLea");
     assert_eq!(run(&files, Some("--all")).1.lines().filter(|line| line.contains("both: ")).count(), 69);
 
-    // errors: a file that isn't there, one that is cut short, another machine, no symbol table
     let fails = |file: PathBuf, wanted: &str| {
         let mut files = files.clone();
         files[6] = file.clone();
@@ -369,16 +420,116 @@ fn the_program_returns_its_status() {
     fails(objects.join("main.o"), "this isn't a linked file");
     let other = root.join("tests/linked/aarch64/gcc-Os/plain");
     fails(other, &format!("of another machine than {}", files[5].display()));
-    let bytes = fs::read(&files[6]).unwrap();
-    let room = std::env::temp_dir().join(format!("compare-status-{}", std::process::id()));
-    fs::create_dir_all(&room).unwrap();
-    let cut = room.join("cut");
-    fs::write(&cut, &bytes[..1000]).unwrap();
-    let (status, _, errors) = run(&[&files[..6], std::slice::from_ref(&cut)].concat(), None);
-    assert_eq!(status, Some(2));
-    assert_eq!(errors.lines().count(), 1);
-    fs::remove_dir_all(room).unwrap();
+    files[0] = linked.join("plain");
+    let wanted = format!("compare: {}: this isn't a relocatable object\n", files[0].display());
+    assert_eq!(run(&files, None), (Some(2), String::new(), wanted));
     assert_eq!(program(&[Path::new("--help")]).0, Some(0));
-    assert_eq!(program(&[]).0, Some(2));
-    assert!(Architecture::from_machine(0).is_none());
+    let (status, said, errors) = program(&[]);
+    assert_eq!((status, &said[..]), (Some(2), ""));
+    let wanted = "at least one object and two linked files are needed; see compare --help";
+    assert_eq!(errors, format!("compare: {wanted}\n"));
+}
+
+fn number(bytes: &[u8], at: usize) -> usize {
+    u64::from_le_bytes(bytes[at..at + 8].try_into().unwrap()) as usize
+}
+
+/// Where the first section header of a type is.
+fn head_of(bytes: &[u8], kind: u32) -> usize {
+    let count = usize::from(u16::from_le_bytes(bytes[60..62].try_into().unwrap()));
+    let mut heads = (0..count).map(|index| number(bytes, 40) + 64 * index);
+    heads.find(|at| bytes[at + 4..at + 8] == kind.to_le_bytes()).unwrap()
+}
+
+/// Where the value of a symbol is.
+fn value_of(bytes: &[u8], name: &str) -> usize {
+    let file = Parsed::parse(bytes).unwrap();
+    let symbol = file.symbols().find(|one| one.name() == Ok(name)).unwrap();
+    number(bytes, head_of(bytes, 2) + 24) + 24 * symbol.index().0 + 8
+}
+
+#[test]
+fn bad_files_are_rejected_with_a_sentence() {
+    let room = std::env::temp_dir().join(format!("compare-bad-{}", std::process::id()));
+    fs::create_dir_all(&room).unwrap();
+    for way in ["aarch64/gcc-Os", "loongarch64/clang-O2", "powerpc64le/gcc-O1", "riscv64/gcc-Os", "x86_64/gcc-Os"] {
+        let inputs = objects_of(way);
+        let plain = linked(way, "plain");
+        for (name, bytes) in &inputs {
+            fs::write(room.join(name), bytes).unwrap();
+        }
+        fs::write(room.join("plain"), &plain).unwrap();
+        // the whole of a line for one of the files that is bad
+        let says = |bad: &str, bytes: &[u8], wanted: &str| {
+            let is_object = bad.ends_with(".o");
+            fs::write(room.join("bad"), bytes).unwrap();
+            let place = |name: &str| room.join(if name == bad { "bad" } else { name });
+            let mut files: Vec<_> = FILES.iter().map(|name| place(&format!("{name}.o"))).collect();
+            files.push(room.join("plain"));
+            files.push(room.join(if is_object { "plain" } else { "bad" }));
+            let files: Vec<&Path> = files.iter().map(PathBuf::as_path).collect();
+            let wanted = format!("compare: {}: {wanted}\n", room.join("bad").display());
+            assert_eq!(program(&files), (Some(2), String::new(), wanted), "{way}");
+        };
+        for (name, bytes) in [("text.o", &inputs[4].1), ("plain", &plain)] {
+            let changed = |at: usize, new: &[u8]| {
+                let mut bytes = bytes.clone();
+                bytes[at..at + new.len()].copy_from_slice(new);
+                bytes
+            };
+            says(name, &[], "this isn't an ELF file");
+            says(name, &bytes[..40], "Invalid ELF header size or alignment");
+            says(name, &bytes[..bytes.len() - 1], "Invalid ELF section header offset/size/alignment");
+            let only = "only 64-bit files with little-endian data are read";
+            says(name, &changed(4, &[1]), only);
+            says(name, &changed(5, &[2]), only);
+            says(name, &changed(18, &[40, 0]), "the machine 40 isn't one that is known");
+            let code = head_of(bytes, 1);
+            let file = Parsed::parse(&bytes[..]).unwrap();
+            let index = object::SectionIndex((code - number(bytes, 40)) / 64);
+            let section = file.section_by_index(index).unwrap();
+            let wanted = format!("section {} ends past the file's end", section.name().unwrap());
+            says(name, &changed(code + 32, &u64::to_le_bytes(1 << 40)), &wanted);
+            says(name, &changed(head_of(bytes, 2) + 4, &[1]), "it has no symbol table");
+        }
+        // two functions of a section that have changed places
+        let objects = elf::read_objects("text.o", &inputs[4].1).unwrap();
+        let offset = |name: &&str| objects[0].symbols.iter().find(|one| one.name == *name).unwrap().value;
+        let mut names = ["length", "say", "say_number"];
+        names.sort_by_key(offset);
+        let names = [names[0], names[1]];
+        let [first, second] = names.map(|name| value_of(&plain, name));
+        let mut bad = plain.clone();
+        bad[first..first + 8].copy_from_slice(&plain[second..second + 8]);
+        bad[second..second + 8].copy_from_slice(&plain[first..first + 8]);
+        let (path, [first, second]) = (room.join("text.o"), names);
+        says("plain", &bad, &format!("{first} and {second} overlap, or aren't those of {}", path.display()));
+    }
+    fs::remove_dir_all(room).unwrap();
+}
+
+/// The section headers are the last of each file.
+#[test]
+fn files_that_are_cut_short_are_rejected() {
+    for way in ways() {
+        let plain = linked(&way, "plain");
+        let (name, object) = &objects_of(&way)[1];
+        for len in 0..plain.len() {
+            assert!(elf::read_linked(&plain[..len]).is_err(), "{way} {len}");
+        }
+        for len in 0..object.len() {
+            assert!(elf::read_objects(name, &object[..len]).is_err(), "{way} {len}");
+        }
+    }
+}
+
+#[test]
+fn archives_are_read() {
+    for architecture in ["aarch64", "loongarch64", "powerpc64le", "riscv64", "x86_64"] {
+        let root = Path::new(env!("CARGO_MANIFEST_DIR")).join("../objects").join(architecture).join("tls");
+        let bytes = fs::read(root.join("first.a")).unwrap();
+        let objects = elf::read_objects("first.a", &bytes).unwrap();
+        let paths: Vec<&str> = objects.iter().map(|one| one.path.as_str()).collect();
+        assert_eq!(paths, ["first.a(first_part.o)", "first.a(third_part.o)", "first.a(unneeded_part.o)"]);
+    }
 }

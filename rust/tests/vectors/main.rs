@@ -9,8 +9,12 @@ extern crate alloc;
 #[path = "../../src/support.rs"]
 mod support;
 
-#[cfg(test)]
-mod aarch64;
+mod vectors_aarch64;
+mod vectors_loongarch64;
+mod vectors_ppc64;
+mod vectors_riscv64;
+mod vectors_x86_64;
+
 #[cfg(test)]
 mod bits;
 #[cfg(test)]
@@ -18,25 +22,16 @@ mod deltas;
 #[cfg(test)]
 mod jumps;
 #[cfg(test)]
-mod loongarch64;
-#[cfg(test)]
 mod packing;
 pub mod poke;
-#[cfg(test)]
-mod ppc64;
 #[cfg(test)]
 mod readers;
 #[cfg(test)]
 mod refused_growth;
-#[cfg(test)]
-mod riscv64;
-#[cfg(test)]
-mod rows;
+pub mod rows;
 #[cfg(test)]
 mod shrinking;
 #[cfg(test)]
 mod taken_memory;
 #[cfg(test)]
 mod windows;
-#[cfg(test)]
-mod x86_64;

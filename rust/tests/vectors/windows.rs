@@ -2,38 +2,13 @@
 //! Rewrites and writes near the end of a section and past it. A window is the bytes of the
 //! instructions that a rewrite or a relocation is of, whose lengths are those of the manuals.
 
-use crate::rows::expect_eq;
+use crate::rows::{expect_eq, requires_window};
 use linker_utils::elf::{
     Architecture, InstructionRewrite, LoongArch64Instruction, RelocateError, RelocationInstruction,
     RelocationKind, RelocationKindInfo, RelocationSize, RiscVInstruction, Row,
 };
 use linker_utils::{aarch64, loongarch64, riscv64};
 use core::fmt::Debug;
-
-/// Requires that a rewrite may be applied to a section that is its window alone, of which the bytes
-/// from `back` on are the instruction at the offset, and to none where a byte of it is missing.
-pub fn requires_window<R: InstructionRewrite + Copy + Debug>(
-    kind: R,
-    section: &[u8],
-    back: u64,
-) {
-    expect_eq(kind, kind.can_apply(section, back), true);
-    for len in 0..section.len() {
-        expect_eq(
-            (kind, len),
-            kind.can_apply(&section[..len], back),
-            false,
-        );
-    }
-    for below in 0..back {
-        expect_eq((kind, below), kind.can_apply(section, below), false);
-    }
-    for far in 0..16 {
-        for offset in [back.wrapping_add(1 + far), (1 << 32) + far, u64::MAX - far] {
-            expect_eq((kind, offset), kind.can_apply(section, offset), false);
-        }
-    }
-}
 
 /// Requires that a rewrite of no bytes may be applied anywhere.
 fn requires_nothing<R: InstructionRewrite + Copy + Debug>(kind: R) {

@@ -1,0 +1,5 @@
+//! Test vectors of AArch64.
+#![tactic(auto)]
+
+#[cfg(test)]
+mod aarch64;

@@ -1,0 +1,5 @@
+//! Test vectors of LoongArch.
+#![tactic(auto)]
+
+#[cfg(test)]
+mod loongarch64;

@@ -1,0 +1,5 @@
+//! Test vectors of PowerPC64.
+#![tactic(auto)]
+
+#[cfg(test)]
+mod ppc64;

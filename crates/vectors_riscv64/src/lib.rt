@@ -1,0 +1,5 @@
+//! Test vectors of RISC-V.
+#![tactic(auto)]
+
+#[cfg(test)]
+mod riscv64;

@@ -1,0 +1,5 @@
+//! Test vectors of x86-64.
+#![tactic(auto)]
+
+#[cfg(test)]
+mod x86_64;
