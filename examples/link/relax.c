@@ -49,11 +49,14 @@ static struct linker_utils_choice choose_offset(const struct output *o, struct r
     return choice;
 }
 
-/* The relocation of the short instruction that a call or an address can become; 0 of what stays. */
-static uint32_t shorter(const struct relocation *r) {
+/* Whether a relocation can be that of an item of a kind: of a call or an address, or of nops. */
+static bool makes(const struct relocation *r, uint32_t kind) {
+    bool is_site = kind == LINKER_UTILS_ITEM_SITE;
     if (machine == EM_RISCV)
-        return r->type == R_RISCV_CALL || r->type == R_RISCV_CALL_PLT ? R_RISCV_JAL : 0;
-    return r->type == LARCH_CALL36 ? LARCH_B26 : r->type == LARCH_PCALA_HI20 ? LARCH_PCREL20_S2 : 0;
+        return is_site ? r->type == R_RISCV_CALL || r->type == R_RISCV_CALL_PLT
+                       : r->type == R_RISCV_ALIGN;
+    return is_site ? r->type == LARCH_CALL36 || r->type == LARCH_PCALA_HI20
+                   : r->type == LARCH_ALIGN;
 }
 
 /* Adds the items of a section to those of its run, each with its relocation. */
@@ -85,16 +88,14 @@ static size_t add_items(struct output *o, struct linker_utils_item *items, struc
     for (size_t i = 0; i < all; i++) { /* the items are in the order of the relocations */
         struct relocation *r = &o->relocations[i];
         uint64_t offset = o->base + r->offset + choices[i].deleted_start;
-        bool is_site = shorter(r) && relocations[i].has_target && is_marked(o, r);
+        bool may_be_site = relocations[i].has_target && is_marked(o, r);
         of[len] = r;
         if (choices[i].deleted_len)
             items[len++] = (struct linker_utils_item){
                 .offset = offset, .target = offset, .len = choices[i].deleted_len,
                 .kind = LINKER_UTILS_ITEM_SITE};
-        else if (k < found_len && found[k].offset == offset &&
-                 (found[k].kind == LINKER_UTILS_ITEM_SITE
-                      ? is_site
-                      : r->type == (machine == EM_RISCV ? R_RISCV_ALIGN : LARCH_ALIGN)))
+        else if (k < found_len && found[k].offset == offset && makes(r, found[k].kind) &&
+                 (may_be_site || found[k].kind != LINKER_UTILS_ITEM_SITE))
             items[len++] = found[k++];
     }
     return o->items_len = len;

@@ -1,5 +1,6 @@
 //! Relocations as ld.lld writes them, and where it stops to accept them: the words of
-//! `data/linked.txt` and `data/bounds.txt`, which LLVM made.
+//! `data/linked.txt` and `data/bounds.txt`, which LLVM made. Those of `data/gnu.txt` are GNU ld's
+//! (`tools/link_words`).
 
 use sathunne::*;
 
@@ -159,6 +160,61 @@ fn words_of_got_entries_are_those_of_lld() {
     // R_RISCV_TLSDESC_CALL
     let none = value(Architecture::RiscV, 65, &Operands::default());
     assert_eq!(none, Err(Status::NoValue));
+}
+
+/// Relocations that ld.lld 19 doesn't know, by GNU ld: PowerPC64's of what the PLT has, and of
+/// prefixed instructions with a part of an address or with TLS; LoongArch's entries for TLS by
+/// `pcaddi`.
+#[test]
+fn words_are_those_of_gnu_ld() {
+    let rows = rows::<11>(include_str!("data/gnu.txt"));
+    assert_eq!(rows.len(), 19);
+    for [machine, r_type, name, addresses @ .., before, after] in rows {
+        let [place, symbol, got_entry, plt_entry, got_base, tls_base] = addresses.map(address);
+        let architecture = architecture_of(machine);
+        let r_type = r_type.parse().expect("a type");
+        assert_eq!(relocation_name(architecture, r_type).as_deref(), Ok(name));
+        let operands = Operands {
+            symbol,
+            place,
+            got_entry,
+            plt_entry,
+            got_base,
+            tls_base,
+            ..Operands::default()
+        };
+        let value = value(architecture, r_type, &operands).expect("it has a value");
+        let mut section = bytes_of(before);
+        let done = relocate(architecture, r_type, value, &mut section);
+        assert_eq!(
+            (done, section),
+            (Ok(()), bytes_of(after)),
+            "{name} at {place:#x}"
+        );
+    }
+}
+
+/// PowerPC64's relocations that only mark an instruction (64-bit ELF V2 ABI for Power, "Relocation
+/// Types").
+#[test]
+fn marks_have_no_value() {
+    let marks = [
+        (118, "R_PPC64_ENTRY"),
+        (119, "R_PPC64_PLTSEQ"),
+        (120, "R_PPC64_PLTCALL"),
+        (121, "R_PPC64_PLTSEQ_NOTOC"),
+        (122, "R_PPC64_PLTCALL_NOTOC"),
+        (123, "R_PPC64_PCREL_OPT"),
+    ];
+    for (r_type, name) in marks {
+        let named = relocation_name(Architecture::Ppc64, r_type);
+        assert_eq!(named.as_deref(), Ok(name));
+        let none = value(Architecture::Ppc64, r_type, &Operands::default());
+        assert_eq!(none, Err(Status::NoValue), "{name}");
+        let mut section = [0xff; 4];
+        let done = relocate(Architecture::Ppc64, r_type, -1, &mut section);
+        assert_eq!((done, section), (Ok(()), [0xff; 4]), "{name}");
+    }
 }
 
 /// `paddi 3, 4, VALUE, 0` and `pld 3, VALUE(4), 0` by llvm-mc 19.

@@ -170,7 +170,8 @@ fn read_object<'a>(path: String, bytes: &'a [u8]) -> Result<Object<'a>, Reason> 
     }
     let table = head.sections(LE, bytes).map_err(because)?;
     let symbols = symbols_of(head, bytes, elf::SHT_SYMTAB)?;
-    if symbols.is_empty() {
+    // some members of archives have neither
+    if symbols.is_empty() && table.iter().any(|section| section.sh_type(LE) == elf::SHT_RELA) {
         return Err("it has no symbol table".into());
     }
     let mut sections = Vec::with_capacity(table.len());
@@ -227,9 +228,10 @@ pub fn read_objects<'a>(path: &str, bytes: &'a [u8]) -> Result<Vec<Object<'a>>, 
     let mut objects = Vec::new();
     for member in archive.members() {
         let member = member.map_err(because)?;
-        let name = format!("{path}({})", text(member.name()));
+        let name = text(member.name());
         let data = member.data(bytes).map_err(because)?;
-        objects.push(read_object(name.clone(), data).map_err(|reason| format!("{name}: {reason}"))?);
+        let object = read_object(format!("{path}({name})"), data);
+        objects.push(object.map_err(|reason| format!("{name}: {reason}"))?);
     }
     Ok(objects)
 }
