@@ -101,13 +101,15 @@ static size_t add_items(struct output *o, struct linker_utils_item *items, struc
     return o->items_len = len;
 }
 
-/* Writes a section anew, without what it loses. The linker's own gaps stay as they are. */
-static void pack(struct output *o, const struct linker_utils_item *items, struct relocation **of) {
+/* Writes a section anew: what becomes shorter, and without what it loses. What stays of the
+ * linker's own gaps stays as it is. */
+static void pack(struct output *o, const struct linker_utils_item *items, const uint64_t *kept,
+                 struct relocation **of) {
     const struct run *run = o->run;
     struct linker_utils_item *written = take(o->items_len, sizeof *written);
     size_t len = 0, at = SIZE_MAX;
     for (size_t i = 0; i < o->items_len; i++)
-        if (of[i]->section) {
+        if (of[i]->section && kept[i] < items[i].len) {
             of[len] = of[i];
             written[len++] = items[i];
         }
@@ -118,8 +120,8 @@ static void pack(struct output *o, const struct linker_utils_item *items, struct
                               run->deltas_len, run->start, packed, packed_len, &at);
     if (status && at < len) check(of[at], status);
     if (status) fail("section %s: %s", o->name, linker_utils_status_text(status));
-    for (size_t i = 0; i < len; i++) { /* sites have their targets already */
-        if (written[i].shapes.count && of[i]->type == LARCH_PCALA_HI20) of[i][2].type = 0;
+    for (size_t i = 0; i < len; i++) { /* these have their values already */
+        if (of[i]->type == LARCH_PCALA_HI20) of[i][2].type = 0; /* the other half of the address */
         if (written[i].shapes.count) of[i]->type = 0;
     }
     o->bytes = packed;
@@ -169,7 +171,7 @@ static void relax_run(struct run *run) {
         struct output *o = outputs[i];
         if (o->run != run) continue;
         len += o->before.len > 0;
-        if (o->shrinks) pack(o, items + len, of + len);
+        if (o->shrinks) pack(o, items + len, kept + len, of + len);
         len += o->items_len;
     }
 }
