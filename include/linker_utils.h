@@ -593,7 +593,9 @@ uint32_t linker_utils_value(uint16_t machine, uint32_t r_type,
  *   R_PPC64_PLTCALL, and their _NOTOC, mark the other instructions of such a call, and the `ld
  *   2,24(1)` is in the object.
  * - `bl __tls_get_addr` has R_PPC64_TLSGD or R_PPC64_TLSLD and then R_PPC64_REL24 or
- *   R_PPC64_REL24_NOTOC at the same offset. After a rewrite of the former the latter is skipped. */
+ *   R_PPC64_REL24_NOTOC at the same offset. After a rewrite of the former the latter is skipped.
+ *   Before R_PPC64_REL24_NOTOC the former isn't rewritten: the instruction that computes the
+ *   entry's address is a prefixed one then, for which there is no rewrite. */
 
 /* ---- Which rewrite.
  *

@@ -158,6 +158,13 @@ static void note_low_half(const struct relocation *r, const uint8_t *bytes, uint
         toc->words_kept[offset / 8] = 1;
 }
 
+/* PowerPC64: whether a relocation marks a call of `__tls_get_addr` by code that doesn't use the
+ * TOC. The instruction before it is prefixed, and stays. */
+static bool is_notoc_mark(const struct relocation *r, const Elf64_Rela *next) {
+    return machine == EM_PPC64 && (r->type == R_PPC64_TLSGD || r->type == R_PPC64_TLSLD) && next &&
+           ELF64_R_TYPE(next->r_info) == PPC64_REL24_NOTOC;
+}
+
 /* Reads the relocations of a section, and rewrites instructions where that needs no address. */
 void read_relocations(struct section *s) {
     const struct object *o = s->object;
@@ -182,6 +189,7 @@ void read_relocations(struct section *s) {
         if (!is_code || !r->type || waits(row_of(r), elf + i, i + 1 < len ? elf + i + 1 : NULL))
             continue;
         if (machine == EM_PPC64) note_low_half(r, bytes, size);
+        if (is_notoc_mark(r, i + 1 < len ? elf + i + 1 : NULL)) continue;
         struct linker_utils_link_facts facts = {
             .is_local = is_here, .has_fixed_address = is_here, .has_fixed_distance = is_here,
             .is_executable = 1, .has_local_exec_base = 1, .operands.addend = r->addend};

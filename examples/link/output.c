@@ -120,18 +120,26 @@ static void add_head(struct output *o, uint64_t offset) {
     section_heads[o->index].sh_entsize = sizeof(Elf64_Rela);
 }
 
+/* Whether a symbol is local in the linked file: so are those that other files may not see. */
+static bool is_local(const struct symbol *s) {
+    unsigned visibility = ELF64_ST_VISIBILITY(s->elf.st_other);
+    bool is_hidden = visibility == STV_HIDDEN || visibility == STV_INTERNAL;
+    return ELF64_ST_BIND(s->elf.st_info) == STB_LOCAL || (is_hidden && s->elf.st_shndx);
+}
+
 /* What the table of symbols says of one. */
 static Elf64_Sym symbol_of(const struct symbol *s) {
     Elf64_Sym elf = s->elf;
     const struct output *o = s->output;
-    unsigned type = ELF64_ST_TYPE(elf.st_info), bind = ELF64_ST_BIND(elf.st_info);
+    unsigned type = ELF64_ST_TYPE(elf.st_info);
     elf.st_name = add_name(s->name);
     elf.st_value = address_of(o, s->offset);
+    if (is_local(s)) elf.st_info = ELF64_ST_INFO(STB_LOCAL, type);
     if (!o) return elf;
     if (elf.st_shndx < SHN_LORESERVE) { /* less is left of code that shrinks */
         elf.st_size = address_of(o, s->offset + elf.st_size) - elf.st_value;
     } else if (type == STT_GNU_IFUNC) { /* its stub */
-        elf.st_info = ELF64_ST_INFO(bind, STT_FUNC);
+        elf.st_info = ELF64_ST_INFO(ELF64_ST_BIND(elf.st_info), STT_FUNC);
         elf.st_size = 0;
     }
     if (type == STT_TLS) elf.st_value -= tls.image;
@@ -147,7 +155,7 @@ static void write_symbols(FILE *file, uint64_t offset, Elf64_Ehdr *head) {
     for (int is_global = 0; is_global < 2; is_global++) {
         for (const struct symbol *s = symbols; s; s = s->later) {
             uint16_t at = s->elf.st_shndx;
-            if (is_global == (ELF64_ST_BIND(s->elf.st_info) == STB_LOCAL) || !*s->name ||
+            if (is_global == is_local(s) || !*s->name ||
                 (at && at < SHN_LORESERVE && !s->output) ||
                 ELF64_ST_TYPE(s->elf.st_info) == STT_SECTION)
                 continue;

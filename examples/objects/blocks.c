@@ -51,10 +51,13 @@ static void set_thread_pointer(const struct header *tls) {
 #endif
 }
 
-/* Where RISC-V and LoongArch go for general-dynamic variables; the others' code is rewritten. */
+/* Where RISC-V, LoongArch and PowerPC64's prefixed instructions go for general-dynamic variables; the
+ * others' code is rewritten. */
 void *__tls_get_addr(const word *index) {
 #ifdef __riscv
     return block + index[1] + 0x800;
+#elif defined __powerpc64__
+    return block + index[1] + 0x8000;
 #else
     return block + index[1];
 #endif

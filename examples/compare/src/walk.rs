@@ -4,7 +4,10 @@ use crate::elf::{Entry, Home, Linked, Object, Reason, Relocation, Section, Symbo
 use crate::made::{self, Chosen, Field};
 use linker_utils::elf::{Architecture, Operands, RelocationKind};
 use linker_utils::recognise::{FieldBits, field_bits};
-use object::elf::{STT_FILE, STT_GNU_IFUNC, STT_SECTION, STT_TLS};
+use object::elf::{
+    R_PPC64_ADDR64, R_PPC64_GOT16_HA, R_PPC64_GOT16_LO_DS, R_PPC64_TOC16_HA, R_PPC64_TOC16_LO_DS,
+    STT_FILE, STT_GNU_IFUNC, STT_SECTION, STT_TLS,
+};
 use std::collections::HashMap;
 
 /// What a relocation leads to.
@@ -135,7 +138,10 @@ impl<'a> Side<'a> {
                     let found = linked.locals.get(name);
                     found.filter(|all| counts.get(name) == Some(&all.len())).map(|all| all[*at - 1])
                 } else if definers.get(name) == Some(&index) {
-                    linked.globals.get(name).map(|one| one.address)
+                    // linkers make hidden symbols local ones
+                    let hidden = || linked.locals.get(name).filter(|all| all.len() == 1);
+                    let global = linked.globals.get(name).map(|one| one.address);
+                    global.or_else(|| hidden().map(|all| all[0]))
                 } else {
                     None
                 };
@@ -513,6 +519,55 @@ impl<'a> Side<'a> {
         place: u64,
     ) -> Option<Found> {
         let one = &it.relocations[index];
+        let mut best = self.recognise_as(object, it, index, one, place);
+        let Some(word) = self.address_in_toc(object, one) else { return best };
+        let is_alone = |found: &Found| {
+            found.first.is_none() && made::rewrite_name(found.chosen.kind).is_none()
+        };
+        if let Some(best) = best.as_mut().filter(|best| is_alone(best)) {
+            best.is_through_got = true; // the word is an entry of the GOT
+        }
+        let direct = self.recognise_as(object, it, index, &word, place);
+        let direct = direct.filter(|direct| direct.is_sure() && !direct.is_through_got);
+        match (best, direct) {
+            (Some(mut best), Some(direct)) if best.is_sure() => {
+                if is_alone(&best) && is_alone(&direct) {
+                    best.other = Some(direct.chosen.relocation);
+                }
+                Some(best)
+            }
+            (best, None) => best,
+            (_, direct) => direct,
+        }
+    }
+
+    /// PowerPC64: what a load from the TOC is of the address that is in the word there. So linkers see
+    /// it that take the address itself.
+    fn address_in_toc(&self, object: usize, one: &Relocation) -> Option<Relocation> {
+        let code = match (self.linked.architecture, one.code) {
+            (Architecture::Ppc64, R_PPC64_TOC16_HA) => R_PPC64_GOT16_HA,
+            (Architecture::Ppc64, R_PPC64_TOC16_LO_DS) => R_PPC64_GOT16_LO_DS,
+            _ => return None,
+        };
+        let symbol = &self.objects[object].symbols[one.symbol];
+        let Home::Section(section) = symbol.home else { return None };
+        let toc = &self.objects[object].sections[section];
+        let at = symbol.value.wrapping_add(one.addend as u64);
+        let words = &toc.relocations;
+        let word = words.get(words.partition_point(|word| word.offset < at))?;
+        let is_address = toc.name == ".toc" && word.offset == at && word.code == R_PPC64_ADDR64;
+        let (offset, symbol, addend) = (one.offset, word.symbol, word.addend);
+        is_address.then_some(Relocation { offset, code, symbol, addend })
+    }
+
+    fn recognise_as(
+        &mut self,
+        object: usize,
+        it: &Section,
+        index: usize,
+        one: &Relocation,
+        place: u64,
+    ) -> Option<Found> {
         let architecture = self.linked.architecture;
         let row = architecture.row(one.code);
         let len = row.map_or(0, |row| row.window() as u64);
@@ -522,7 +577,7 @@ impl<'a> Side<'a> {
         };
         let mut best: Option<Found> = None;
         for is_second in [false, true] {
-            self.recognise_in(object, it, (index, place, is_second), windows, &mut best);
+            self.recognise_in(object, it, one, (index, place, is_second), windows, &mut best);
             if best.is_some() {
                 break;
             }
@@ -535,11 +590,11 @@ impl<'a> Side<'a> {
         &mut self,
         object: usize,
         it: &Section,
+        one: &Relocation,
         (index, place, is_second): (usize, u64, bool),
         windows: &[(u64, u64)],
         best: &mut Option<Found>,
     ) {
-        let one = &it.relocations[index];
         let architecture = self.linked.architecture;
         let len = architecture.row(one.code).map_or(0, |row| row.window() as u64);
         let is_marked = it.relocations[index..]

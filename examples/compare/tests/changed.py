@@ -39,11 +39,14 @@ class Linked:
         for line in output("llvm-objdump-19", "-d", "--no-show-raw-insn", path).splitlines():
             words = re.match(r" *([0-9a-f]+): +\t?(.*)$", line)
             if words:
-                words_of = words[2].replace("\t", " ").split()
+                words_of = words[2].replace("\t", " ").replace(",", " ").split()
                 # with `*` where it goes to what a word in memory says
                 star = "*" if any(word.startswith("*") for word in words_of) else ""
                 prefix = 1 + (words_of[0] == "addr32")
-                self.code[int(words[1], 16)] = " ".join(words_of[:prefix]) + star
+                # PowerPC64: the register that an offset is added to
+                base = re.search(r"\((\d+)\)", words[2]) or re.match(r"addi \d+ ()(\d+)", " ".join(words_of))
+                base = f" of r{base[base.lastindex]}" if base else ""
+                self.code[int(words[1], 16)] = " ".join(words_of[:prefix]) + star + base
         self.starts = sorted(self.code)
 
     def mnemonic(self, address):
@@ -98,6 +101,12 @@ def main():
             section = it.sections[index]
             a, b = (walk(architecture, file, path, section, it) for file in files)
             changed = [one != other for one, other in zip(a, b)]
+            for at in range(len(a)):  # the register's name only where it becomes that of the TOC
+                if architecture == "powerpc64le" and a[at]:
+                    a[at], before = re.subn(" of r.*", "", a[at]), a[at]
+                    a[at] = a[at][0]
+                    if not (b[at].endswith(" of r2") and before != b[at] and not before.endswith(" of r2")):
+                        b[at] = re.sub(" of r.*", "", b[at])
             for at, (offset, kind, symbol, addend) in enumerate(section.relocations):
                 lows = HALVES[architecture].get(kind, ())
                 for low in range(at + 1, len(section.relocations)):
