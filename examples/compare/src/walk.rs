@@ -78,8 +78,10 @@ pub fn definers<'a>(objects: &'a [Object<'a>]) -> HashMap<&'a str, usize> {
     all
 }
 
+/// Whether a symbol says where its section is. That of an indirect function may be its stub's.
 fn is_named(symbol: &Symbol) -> bool {
-    !symbol.name.is_empty() && !matches!(symbol.kind, STT_SECTION | STT_FILE | STT_TLS)
+    let is_other = matches!(symbol.kind, STT_SECTION | STT_FILE | STT_TLS | STT_GNU_IFUNC);
+    !symbol.name.is_empty() && !is_other
 }
 
 /// Whether linkers delete bytes of code.
@@ -146,8 +148,7 @@ impl<'a> Side<'a> {
                     None
                 };
                 let Some(address) = address else { continue };
-                let is_firm = !symbol.is_local && !symbol.is_weak && symbol.kind != STT_GNU_IFUNC;
-                if is_firm && object.sections[section].is_whole {
+                if !symbol.is_local && !symbol.is_weak && object.sections[section].is_whole {
                     firm[section].push((symbol.value, address, name));
                 }
                 if symbol.is_local && counts.get(name) != Some(&1) {
@@ -253,7 +254,11 @@ impl<'a> Side<'a> {
             }
             Home::Absolute => Some((symbol.value, 0)),
             Home::Undefined if symbol.name == ".TOC." => Some((self.got_base, 0)),
-            Home::Undefined if symbol.is_weak => Some(global().unwrap_or((0, 0))),
+            Home::Undefined if symbol.is_weak => {
+                let is_hidden = self.definers.contains_key(symbol.name.as_str());
+                let hidden = || local().filter(|_| is_hidden);
+                Some(global().or_else(hidden).unwrap_or((0, 0)))
+            }
             Home::Undefined | Home::Common => global().or_else(local),
         }
     }
