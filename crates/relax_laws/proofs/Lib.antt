@@ -1,3 +1,4 @@
 pub mod Covering
+pub mod First
 pub mod Reaching
 pub mod Shrunk

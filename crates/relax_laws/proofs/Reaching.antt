@@ -23,10 +23,10 @@ or_none false = refl
 covers_same : (p a b c d : ℕ) → a ≡ c → b ≡ d → covers (a, b) p ≡ covers (c, d) p
 covers_same p a b c d e f = ap (λ x. covers (x, b) p) e ∙ ap (λ y. covers (c, y) p) f
 
-loses_some : (item : Item) (kept p : ℕ) → kept < len_of item → takes (deletion_at item kept) p ≡ covers (offset_of item + kept, len_of item - kept) p
+pub loses_some : (item : Item) (kept p : ℕ) → kept < len_of item → takes (deletion_at item kept) p ≡ covers (offset_of item + kept, len_of item - kept) p
 loses_some item kept p less = ap (λ ds. takes ds p) (deletion_some item kept less) ∙ or_none (covers (offset_of item + kept, len_of item - kept) p)
 
-loses_none : (item : Item) (kept p : ℕ) → len_of item ≤ kept → takes (deletion_at item kept) p ≡ false
+pub loses_none : (item : Item) (kept p : ℕ) → len_of item ≤ kept → takes (deletion_at item kept) p ≡ false
 loses_none item kept p all = ap (λ ds. takes ds p) (deletion_none item kept all)
 
 none : {A : Type 0} → false ≡ true → A

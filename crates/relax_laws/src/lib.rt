@@ -3,6 +3,7 @@
 
 ghost use Rattle.std.specs.Prelude.{◌≡◌};
 ghost use Rattle.relax_laws.specs.Calls.{call_shapes, CallsAreShrunkAlike};
+ghost use Rattle.relax_laws.specs.FirstBytes.{FirstBytesAreKept};
 
 use linker_relax::relaxation::Shapes;
 use linker_relax::shapes::riscv64::CALL;
@@ -18,4 +19,10 @@ pub fn call_shapes() -> Shapes
 /// gives those their `jal` that `shrink_calls` chooses beside these deletions.
 pub fn calls_are_shrunk_alike()
     ensures { CallsAreShrunkAlike }
+{}
+
+/// As many bytes of each item stay as `relax` says, where a run is packed with the deletions that it
+/// returns, and they are the item's first ones. So `pack_run` never returns `NotItsFirstBytes` then.
+pub fn first_bytes_are_kept()
+    ensures { FirstBytesAreKept }
 {}

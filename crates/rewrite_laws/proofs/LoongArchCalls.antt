@@ -9,7 +9,7 @@ use Rattle.std.proofs.lemmas.List.Elements.{All-drop}
 use Rattle.linker_base.specs.Bits.{field, signed}
 use Rattle.linker_base.specs.Form.{bits_to}
 use Rattle.linker_elf.specs.LoongArch.{loongarch_form, call36_high, call36_low, reach}
-use Rattle.linker_utils.specs.LoongArchOriginals.{IsCall}
+use Rattle.linker_utils.specs.LoongArchOriginals.{IsCall, adds_low12}
 use Rattle.linker_elf.specs.LoongArchRelocations.{loongarch_row}
 use Rattle.linker_elf.specs.declared.loongarch64.relocations.LoongArch64Relocation.TheVariants as names
 use Rattle.linker_utils.specs.LoongArchRewrites.{rd_of, rj_of}
@@ -30,6 +30,7 @@ use Rattle.rewrite_laws.proofs.AArch64Steps.{address_is, in_two_steps}
 use Rattle.rewrite_laws.proofs.AArch64Words.{field_kept, top_kept}
 use Rattle.rewrite_laws.proofs.Words.{two_words, word_below}
 use Rattle.rewrite_laws.proofs.LoongArchSteps.{set, read_back, run_pair, ends_so}
+use Rattle.rewrite_laws.proofs.LoongArchWords.{no_low12}
 
 -- ---- which instruction a word is
 
@@ -40,31 +41,30 @@ decodes_far x op =
 
 -- one whose highest six bits are at least 0x13 and at most 0x15
 module _ (x k : ℕ) (op : x / 2 ^ 26 ≡ k) (from : 0x12 < k) (to : k < 0x16) where
-  pub not_higher : {A : Type 0} (a c d e f g h i j : A)
+  pub not_higher : {A : Type 0} (a c d e f g h i : A)
       → (if eqb (x / 2 ^ 25) 0x0d then a else (if eqb (x / 2 ^ 25) 0x0c then c else (if eqb (x / 2 ^ 25) 0x0f then d else (if eqb (x / 2 ^ 25) 0x0a then e
-      else (if eqb (x / 2 ^ 22) 0x00b then f else (if eqb (x / 2 ^ 22) 0x0a3 then g else (if eqb (x / 2 ^ 22) 0x00e then h else (if eqb (x / 2 ^ 22) 0x00d then i else j)))))))) ≡ j
-  not_higher a c d e f g h i j =
+      else (if adds_low12 (x / 2 ^ 22) then f else (if eqb (x / 2 ^ 22) 0x00e then g else (if eqb (x / 2 ^ 22) 0x00d then h else i))))))) ≡ i
+  not_higher a c d e f g h i =
       cond-false _ _ _ (ne_eqb (x / 2 ^ 25) 0x0d (λ z. omega arith))
       ∙ cond-false _ _ _ (ne_eqb (x / 2 ^ 25) 0x0c (λ z. omega arith))
       ∙ cond-false _ _ _ (ne_eqb (x / 2 ^ 25) 0x0f (λ z. omega arith))
       ∙ cond-false _ _ _ (ne_eqb (x / 2 ^ 25) 0x0a (λ z. omega arith))
-      ∙ cond-false _ _ _ (ne_eqb (x / 2 ^ 22) 0x00b (λ z. omega arith))
-      ∙ cond-false _ _ _ (ne_eqb (x / 2 ^ 22) 0x0a3 (λ z. omega arith))
+      ∙ cond-false _ _ _ (no_low12 (x / 2 ^ 22) (omega arith))
       ∙ cond-false _ _ _ (ne_eqb (x / 2 ^ 22) 0x00e (λ z. omega arith))
       ∙ cond-false _ _ _ (ne_eqb (x / 2 ^ 22) 0x00d (λ z. omega arith))
 
 decodes_jirl : (x : ℕ) → x / 2 ^ 26 ≡ 0x13 → decode x ≡ jirl
 decodes_jirl x op =
-    not_higher x 0x13 op (omega arith) (omega arith) _ _ _ _ _ _ _ _ _ ∙ cond-true _ _ _ (ap (λ t. eqb t 0x13) op)
+    not_higher x 0x13 op (omega arith) (omega arith) _ _ _ _ _ _ _ _ ∙ cond-true _ _ _ (ap (λ t. eqb t 0x13) op)
 
 decodes_b : (x : ℕ) → x / 2 ^ 26 ≡ 0x14 → decode x ≡ b
 decodes_b x op =
-    not_higher x 0x14 op (omega arith) (omega arith) _ _ _ _ _ _ _ _ _
+    not_higher x 0x14 op (omega arith) (omega arith) _ _ _ _ _ _ _ _
     ∙ cond-false _ _ _ (ap (λ t. eqb t 0x13) op) ∙ cond-true _ _ _ (ap (λ t. eqb t 0x14) op)
 
 decodes_bl : (x : ℕ) → x / 2 ^ 26 ≡ 0x15 → decode x ≡ bl
 decodes_bl x op =
-    not_higher x 0x15 op (omega arith) (omega arith) _ _ _ _ _ _ _ _ _
+    not_higher x 0x15 op (omega arith) (omega arith) _ _ _ _ _ _ _ _
     ∙ cond-false _ _ _ (ap (λ t. eqb t 0x13) op) ∙ cond-false _ _ _ (ap (λ t. eqb t 0x14) op) ∙ cond-true _ _ _ (ap (λ t. eqb t 0x15) op)
 
 -- ---- the words of a pair
@@ -181,6 +181,7 @@ call_to_bl calls branches x y s t call branch small small2 at at2 alike is made 
     (record {
       alike = record {
         registers = λ m other. bl_others (eqb m 1) (eqb m n) (eqb m 0) _ _ _ (s.registers m) (t.registers m) other (alike.registers m refl);
+        floats = alike.floats;
         memory = alike.memory;
       };
       links = λ _. ap (λ a. sum_64 (sum_64 a 4) 4) at ∙ (let e : sum_64 (sum_64 x.place 4) 4 ≡ sum_64 x.place 8 = omega arith in e);
@@ -212,6 +213,7 @@ call_to_b calls branches x y s t call branch small small2 at at2 alike is made c
     (record {
       alike = record {
         registers = λ m other. b_others (eqb m n) (eqb m 0) _ (s.registers m) (t.registers m) other (alike.registers m refl);
+        floats = alike.floats;
         memory = alike.memory;
       };
       links = λ other. absurd (other refl);

@@ -47,6 +47,7 @@ pub record Calls (words : List ℕ) (function entry : ℕ) (s : State) : Type 0 
   pub argument : read 4 state ≡ entry
   pub link : read 1 state ≡ sum_64 (sum_64 (sum_64 (sum_64 s.pc 4) 4) 4) 4
   pub others : (n : ℕ) → eqb n 4 ≡ false → eqb n 1 ≡ false → read n state ≡ read n s
+  pub floats : state.floats ≡ s.floats
   pub memory : state.memory ≡ s.memory
 
 -- Registers that were written keep the others.
@@ -89,6 +90,7 @@ calls relative call changed o s pcala addi ld jirl pcala1 addi1 d is =
       argument = l.value_is;
       link = refl;
       others = λ n not_4 not_1. untouched n (page_address x s) v f (next_pc t3) (s.registers n) not_4 not_1;
+      floats = refl;
       memory = refl;
     }
 
@@ -136,6 +138,7 @@ behind_call call changed o s pcala addi ld jirl old a b nop nop2 u v d c first s
               r.others n differs.1 parts.1 ∙ c.others n differs.0 parts.0
               ∙ sym (twice_other n u v (s.registers n) differs.0)
         ];
+        floats = r.floats ∙ c.floats;
         memory = r.memory ∙ c.memory;
       };
       pc = r.back ∙ c.link;

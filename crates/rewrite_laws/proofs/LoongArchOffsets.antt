@@ -1,9 +1,10 @@
 -- An offset of 12 bits from the thread pointer, by three instructions and by one.
 use Rattle.std.proofs.Common.{◌≡◌, ◌≢◌, ℕ, ◌+◌, ◌-◌, ◌*◌, ◌/◌, ◌%◌, ◌^◌, ◌<◌, Bool, true, false, refl, sym, ◌∙◌, ap, subst, arith}
+use Rattle.std.proofs.Common.{if◌then◌else◌}
 use Rattle.std.proofs.Common.{List, [], ◌∷◌, eqb, cond, ℤ, pos, ◌+ℤ◌, ◌*ℤ◌, Some, None, not}
 use Rattle.std.specs.Prelude.{◌&&◌, ◌||◌}
 use Rattle.std.specs.Int.{w64, cast_signed}
-use Rattle.std.proofs.lemmas.Bool.{eq-eqb, ne_eqb, cond-true, cond-false}
+use Rattle.std.proofs.lemmas.Bool.{eq-eqb, eqb-true, ne_eqb, cond-true, cond-false, false≢true}
 use Rattle.std.proofs.lemmas.Int.{ints}
 use Rattle.linker_base.specs.Bits.{field, signed}
 use Rattle.linker_elf.specs.Value.{sum_64, difference_64}
@@ -13,20 +14,21 @@ use Rattle.linker_utils.specs.LoongArchChoices.{signed_32, signed_12}
 use Rattle.linker_elf.specs.LoongArchRelocations.{loongarch_row}
 use Rattle.linker_elf.specs.declared.loongarch64.relocations.LoongArch64Relocation.TheVariants as names
 use Rattle.linker_utils.specs.declared.loongarch64.rewrites.RelaxationKind.TheVariants as kinds
-use Rattle.linker_utils.specs.LoongArchOriginals.{IsAddi, IsLd}
+use Rattle.linker_utils.specs.LoongArchOriginals.{adds_low12}
 use Rattle.linker_utils.specs.LoongArchRewrites.{rd_of, rj_of}
 use Rattle.relocation_laws.specs.LoongArchLaws as relocation_laws
 use Rattle.relocation_laws.specs.Schemes.{IsAddress, AreAddresses, symbol_address}
 use Rattle.relocation_laws.proofs.Applied.{value_is, taken_bits}
 use Rattle.relocation_laws.proofs.Sums.{sum_below, lift}
-use Rattle.rewrite_laws.specs.LoongArchLaws.{word_of, behind, thread_offset}
+use Rattle.rewrite_laws.specs.LoongArchLaws.{word_of, behind, thread_offset, is_either, StoresTheSame}
 use Rattle.rewrite_laws.specs.LoongArchLaws as laws
-use Rattle.rewrite_laws.specs.LoongArchMachine.{State, AreAlikeBut, step, run, read, decode, execute, continue, next_pc, high_part, added, sum_of, add_d}
-use Rattle.rewrite_laws.specs.Machine.{wrapped, moved, loaded}
+use Rattle.rewrite_laws.specs.LoongArchMachine.{State, AreAlikeBut, but_written, step, run, read, write, with_register, with_float, go_on, decode, execute, continue, next_pc, high_part, added, sum_of, add_d}
+use Rattle.rewrite_laws.specs.LoongArchMachine.{Action, action_of, used, adds, adds_word, loads, loads_signed, stores, loads_single, loads_double, stores_single, stores_double}
+use Rattle.rewrite_laws.specs.Machine.{wrapped, moved, extended, loaded, stored}
 use Rattle.rewrite_laws.proofs.AArch64Moves.{distance_is}
 use Rattle.rewrite_laws.proofs.AArch64Pairs.{word_made}
-use Rattle.rewrite_laws.proofs.LoongArchSteps.{set, written, step_high, step_sum, step_load, read_back, run_pair, ends_so}
-use Rattle.rewrite_laws.proofs.LoongArchWords.{not_high, decodes_high, decodes_sum, decodes_load, high_after, low_after, low_is}
+use Rattle.rewrite_laws.proofs.LoongArchSteps.{set, written, step_high, read_back, run_pair, ends_so}
+use Rattle.rewrite_laws.proofs.LoongArchWords.{not_high, low12_is, decodes_high, decodes_action, high_after, low_after, low_is}
 use Rattle.rewrite_laws.proofs.RiscVHighParts.{low_12_number}
 use Rattle.rewrite_laws.proofs.RiscVLowParts.{low_sum}
 use Rattle.rewrite_laws.proofs.RiscVMachine.{moved_twice, wrapped_is}
@@ -55,8 +57,7 @@ decodes_add x op =
     let branch : x / 2 ^ 26 ≡ 0 = omega arith in
     let sum : x / 2 ^ 15 ≡ 0x21 = omega arith in
     not_high x 0 high (λ i. omega arith) (λ i. omega arith) (λ i. omega arith) (λ i. omega arith) _ _ _ _ _
-    ∙ cond-false _ _ _ (ap (λ t. eqb t 0x00b) high) ∙ cond-false _ _ _ (ap (λ t. eqb t 0x0a3) high)
-    ∙ cond-false _ _ _ (ap (λ t. eqb t 0x00e) high) ∙ cond-false _ _ _ (ap (λ t. eqb t 0x00d) high)
+    ∙ cond-false _ _ _ (ap adds_low12 high) ∙ cond-false _ _ _ (ap (λ t. eqb t 0x00e) high) ∙ cond-false _ _ _ (ap (λ t. eqb t 0x00d) high)
     ∙ cond-false _ _ _ (ap (λ t. eqb t 0x13) branch) ∙ cond-false _ _ _ (ap (λ t. eqb t 0x14) branch)
     ∙ cond-false _ _ _ (ap (λ t. eqb t 0x15) branch) ∙ cond-true _ _ _ (ap (λ t. eqb t 0x21) sum)
 
@@ -75,28 +76,131 @@ run_three x y z s t u v first on second on2 third =
     ap (continue (next_pc s) (λ r. run (y ∷ z ∷ []) r)) first
     ∙ cond-true (eqb t.pc (next_pc s)) (run (y ∷ z ∷ []) t) None (eq-eqb t.pc (next_pc s) on) ∙ run_pair y z t u v second on2 third
 
--- the last of three writes counts
-last_counts : (b3 b2 b1 c : Bool) (v u2 u1 r q : ℕ) → ((b1 || b2) && not b3) ≡ false → cond c 0 r ≡ cond c 0 q
-    → cond c 0 (cond b3 v (cond b2 u2 (cond b1 u1 r))) ≡ cond c 0 (cond b3 v q)
-last_counts true b2 b1 c v u2 u1 r q d e = refl
-last_counts false true true c v u2 u1 r q d e = cc
-last_counts false true false c v u2 u1 r q d e = cc
-last_counts false false true c v u2 u1 r q d e = cc
-last_counts false false false c v u2 u1 r q d e = e
+-- two writes keep the other registers
+others_stay : (b1 b2 c : Bool) (u1 u2 r q : ℕ) → (b1 || b2) ≡ false → cond c 0 r ≡ cond c 0 q
+    → cond c 0 (cond b2 u2 (cond b1 u1 r)) ≡ cond c 0 q
+others_stay true b2 c u1 u2 r q d e = cc
+others_stay false true c u1 u2 r q d e = cc
+others_stay false false c u1 u2 r q d e = e
 
-shortened : (n1 n2 n3 u1 u2 v w : ℕ) (s t : State) → AreAlikeBut (λ _. false) s t → v ≡ w
-    → laws.HaveShortened n1 n2 n3 (sum_64 s.pc 12) (sum_64 t.pc 4) (set n3 v (set n2 u2 (set n1 u1 s))) (set n3 w t)
-shortened n1 n2 n3 u1 u2 v w s t alike same =
+starts_alike : (n1 n2 u1 u2 : ℕ) (s t : State) → AreAlikeBut (λ _. false) s t
+    → AreAlikeBut (is_either n1 n2) (set n2 u2 (set n1 u1 s)) t
+starts_alike n1 n2 u1 u2 s t alike =
     record {
-      alike = record {
-        registers = λ m d.
-            last_counts (eqb m n3) (eqb m n2) (eqb m n1) (eqb m 0) v u2 u1 (s.registers m) (t.registers m) d (alike.registers m refl)
-            ∙ ap (λ n. cond (eqb m 0) 0 (cond (eqb m n3) n (t.registers m))) same;
-        memory = alike.memory;
-      };
-      next = let e : sum_64 (sum_64 (sum_64 s.pc 4) 4) 4 ≡ sum_64 s.pc 12 = omega arith in e;
-      new_next = refl;
+      registers = λ m d.
+          others_stay (eqb m n1) (eqb m n2) (eqb m 0) u1 u2 (s.registers m) (t.registers m) d (alike.registers m refl);
+      floats = alike.floats;
+      memory = alike.memory;
     }
+
+-- ---- what an action leaves of states that are alike
+
+still : (d : Bool) → (d && true) ≡ false → d ≡ false
+still false h = refl
+still true h = absurd (false≢true (sym h))
+
+-- `zero`, which stays
+zero_read : (b c d : Bool) (p q : ℕ) → (b ≡ true → c ≡ true) → (d && not b) ≡ false
+    → (d ≡ false → cond c 0 p ≡ cond c 0 q) → cond c 0 p ≡ cond c 0 q
+zero_read true c d p q z o k = cond-true c 0 p (z refl) ∙ sym (cond-true c 0 q (z refl))
+zero_read false c d p q z o k = k (still d o)
+
+-- another register, which is written
+written_read : (b c d : Bool) (v w p q : ℕ) → (d && not b) ≡ false → v ≡ w
+    → (d ≡ false → cond c 0 p ≡ cond c 0 q) → cond c 0 (cond b v p) ≡ cond c 0 (cond b w q)
+written_read true c d v w p q o e k = ap (cond c 0) e
+written_read false c d v w p q o e k = k (still d o)
+
+module _ (differing : ℕ → Bool) (r : ℕ) (s t : State) (h : AreAlikeBut differing s t) where
+  written_alike : (v w : ℕ) → v ≡ w → AreAlikeBut (λ n. differing n && not (eqb n r)) (write r v s) (write r w t)
+  written_alike v w e = by (eqb r 0) refl
+    where
+      by : (z : Bool) → eqb r 0 ≡ z
+          → AreAlikeBut (λ n. differing n && not (eqb n r)) (if z then s else with_register r v s) (if z then t else with_register r w t)
+      by true z =
+          record {
+            registers = λ n o.
+                zero_read (eqb n r) (eqb n 0) (differing n) (s.registers n) (t.registers n)
+                (λ i. eq-eqb n 0 (eqb-true n r i ∙ eqb-true r 0 z)) o (h.registers n);
+            floats = h.floats;
+            memory = h.memory;
+          }
+      by false z =
+          record {
+            registers = λ n o.
+                written_read (eqb n r) (eqb n 0) (differing n) v w (s.registers n) (t.registers n) o e (h.registers n);
+            floats = h.floats;
+            memory = h.memory;
+          }
+
+  kept : (n : ℕ) → (differing n && true) ≡ false → read n s ≡ read n t
+  kept n o = h.registers n (still (differing n) o)
+
+  pub used_alike : (a : Action) (sum : ℕ) → StoresTheSame a differing r
+      → AreAlikeBut (but_written differing a r) (used a r sum s) (used a r sum t)
+  used_alike adds sum same = written_alike sum sum refl
+  used_alike adds_word sum same = written_alike (extended 32 (sum % 2 ^ 32)) (extended 32 (sum % 2 ^ 32)) refl
+  used_alike (loads n) sum same = written_alike (loaded n s.memory sum) (loaded n t.memory sum) (ap (λ m. loaded n m sum) h.memory)
+  used_alike (loads_signed n) sum same =
+      written_alike (extended (8 * n) (loaded n s.memory sum)) (extended (8 * n) (loaded n t.memory sum))
+      (ap (λ m. extended (8 * n) (loaded n m sum)) h.memory)
+  used_alike (stores n) sum same =
+      record {
+        registers = kept;
+        floats = h.floats;
+        memory = ap (λ v. stored n v sum s.memory) (h.registers r same) ∙ ap (stored n (read r t) sum) h.memory;
+      }
+  used_alike loads_single sum same =
+      record {
+        registers = kept;
+        floats = ap (λ f. with_float r (f.widened (f.numbers r) (loaded 4 s.memory sum)) f) h.floats
+            ∙ ap (λ m. with_float r (t.floats.widened (t.floats.numbers r) (loaded 4 m sum)) t.floats) h.memory;
+        memory = h.memory;
+      }
+  used_alike loads_double sum same =
+      record {
+        registers = kept;
+        floats = ap (λ m. with_float r (loaded 8 m sum) s.floats) h.memory
+            ∙ ap (with_float r (loaded 8 t.memory sum)) h.floats;
+        memory = h.memory;
+      }
+  used_alike stores_single sum same =
+      record {
+        registers = kept;
+        floats = h.floats;
+        memory = ap (λ f. stored 4 (f.numbers r) sum s.memory) h.floats ∙ ap (stored 4 (t.floats.numbers r) sum) h.memory;
+      }
+  used_alike stores_double sum same =
+      record {
+        registers = kept;
+        floats = h.floats;
+        memory = ap (λ f. stored 8 (f.numbers r) sum s.memory) h.floats ∙ ap (stored 8 (t.floats.numbers r) sum) h.memory;
+      }
+
+-- An action doesn't jump.
+write_pc : (r v : ℕ) (s : State) → (write r v s).pc ≡ s.pc
+write_pc r v s = by (eqb r 0)
+  where
+    by : (z : Bool) → (if z then s else with_register r v s).pc ≡ s.pc
+    by true = refl
+    by false = refl
+
+used_pc : (a : Action) (r sum : ℕ) (s : State) → (used a r sum s).pc ≡ s.pc
+used_pc adds r sum s = write_pc r sum s
+used_pc adds_word r sum s = write_pc r (extended 32 (sum % 2 ^ 32)) s
+used_pc (loads n) r sum s = write_pc r (loaded n s.memory sum) s
+used_pc (loads_signed n) r sum s = write_pc r (extended (8 * n) (loaded n s.memory sum)) s
+used_pc (stores n) r sum s = refl
+used_pc loads_single r sum s = refl
+used_pc loads_double r sum s = refl
+used_pc stores_single r sum s = refl
+used_pc stores_double r sum s = refl
+
+step_action : (x op r : ℕ) (s : State) → x / 2 ^ 22 ≡ op → adds_low12 op ≡ true → rd_of x ≡ r
+    → step x s ≡ Some (go_on (used (action_of op) r (sum_of x s) s))
+step_action x op r s is low rd =
+    ap (λ c. execute c x s) (decodes_action x op is low)
+    ∙ ap (λ n. Some (go_on (used (action_of op) n (sum_of x s) s))) rd
 
 -- ---- the law
 
@@ -110,28 +214,27 @@ pub record Adds (op n1 n2 n3 x z low base : ℕ) (s t : State) : Type 0 where
   pub base_rd : rd_of base ≡ n3
   pub same : sum_of low (set n2 (added z (set n1 (high_part x) s)) (set n1 (high_part x) s)) ≡ sum_of base t
 
-adds : relocation_laws.ThreadAddresses → (op : ℕ) → op < 0x400 → (P : ℕ → Type 0) → ((w : ℕ) → P w → w / 2 ^ 22 ≡ op)
-    → (x y : Operands) (s t : State) (lu12i add low base lu12i1 low1 base1 : List ℕ)
-    → laws.IsLocalExec P (word_of lu12i) (word_of add) (word_of low)
+adds_both : relocation_laws.ThreadAddresses → (x y : Operands) (s t : State) (lu12i add low base lu12i1 low1 base1 : List ℕ)
+    → laws.IsLocalExec (word_of lu12i) (word_of add) (word_of low)
     → (small : AreAddresses x) → AreAlikeBut laws.no_register s t → thread_offset x ≡ thread_offset y
     → RowIsWithin (loongarch_row names.R_LARCH_TLS_LE_LO12_R) signed_12 y
     → laws.IsRewritten kinds.BaseToTp low base → laws.Fits32 names.R_LARCH_TLS_LE_HI20_R x
     → laws.IsRelocated names.R_LARCH_TLS_LE_HI20_R x lu12i lu12i1
     → laws.IsRelocated names.R_LARCH_TLS_LE_LO12_R (behind 8 x) low low1
     → laws.IsRelocated names.R_LARCH_TLS_LE_LO12_R y base base1
-    → Adds op (rd_of (word_of lu12i)) (rd_of (word_of add)) (rd_of (word_of low)) (word_of lu12i1) (word_of add) (word_of low1) (word_of base1) s t
-adds thread op bounded P of x y s t lu12i add low base lu12i1 low1 base1 is small alike one fits made wide a1 a2 a3 =
+    → Adds (word_of low / 2 ^ 22) (rd_of (word_of lu12i)) (rd_of (word_of add)) (rd_of (word_of low)) (word_of lu12i1) (word_of add) (word_of low1) (word_of base1) s t
+adds_both thread x y s t lu12i add low base lu12i1 low1 base1 is small alike one fits made wide a1 a2 a3 =
     let n1 = rd_of (word_of lu12i) in
     let n2 = rd_of (word_of add) in
     let n3 = rd_of (word_of low) in
-    let op_low = of (word_of low) is.third in
-    let below : word_of low < 2 ^ 32 = omega (arith, op_low, bounded) in
-    let word = word_made (λ w. w - rj_of w * 2 ^ 5 + 2 * 2 ^ 5) low base (omega (arith, below, op_low, bounded)) made in
-    let base_op : word_of base / 2 ^ 22 ≡ op = omega (arith, word, op_low) in
+    let op = word_of low / 2 ^ 22 in
+    let bounded : word_of low / 2 ^ 22 < 0x0b0 = (low12_is (word_of low / 2 ^ 22) is.third).below in
+    let word = word_made (λ w. w - rj_of w * 2 ^ 5 + 2 * 2 ^ 5) low base (omega (arith, bounded)) made in
+    let base_op : word_of base / 2 ^ 22 ≡ op = omega (arith, word) in
     let base_rd : rd_of (word_of base) ≡ n3 = omega (arith, word) in
     let base_rj : rj_of (word_of base) ≡ 2 = omega (arith, word) in
     let h = high_after 12 0x0a n1 _ lu12i lu12i1 a1.written is.first refl in
-    let l = low_after op n3 n2 _ low low1 a2.written op_low refl is.base_of_low in
+    let l = low_after op n3 n2 _ low low1 a2.written refl refl is.base_of_low in
     let b = low_after op n3 2 _ base base1 a3.written base_op base_rd base_rj in
     let X = word_of lu12i1 in
     let Z = word_of add in
@@ -172,30 +275,28 @@ adds thread op bounded P of x y s t lu12i add low base lu12i1 low1 base1 is smal
     }
 
 pub shorter : relocation_laws.ThreadAddresses → laws.ShorterLocalExec
-shorter thread = (
-  λ x y s t lu12i add low base small alike is one fits made lu12i1 low1 base1 wide a1 a2 a3.
-      let n1 = rd_of (word_of lu12i) in
-      let n2 = rd_of (word_of add) in
-      let n3 = rd_of (word_of low) in
-      let d = adds thread 0x00b (omega arith) IsAddi (λ w e. e) x y s t lu12i add low base lu12i1 low1 base1 is small alike one fits made wide a1 a2 a3 in
-      let s1 = set n1 (high_part (word_of lu12i1)) s in
-      let s2 = set n2 (added (word_of add) s1) s1 in
-      ends_so (word_of lu12i1 ∷ word_of add ∷ word_of low1 ∷ []) (word_of base1 ∷ []) s t _ _ (laws.HaveShortened n1 n2 n3 (sum_64 s.pc 12) (sum_64 t.pc 4))
-      (run_three (word_of lu12i1) (word_of add) (word_of low1) s s1 s2 _ d.high refl d.sum refl
-      (step_sum (word_of low1) n3 s2 (decodes_sum (word_of low1) d.low_op) d.low_rd is.low_not_zero))
-      (step_sum (word_of base1) n3 t (decodes_sum (word_of base1) d.base_op) d.base_rd is.low_not_zero)
-      (shortened n1 n2 n3 _ _ _ _ s t alike d.same),
-  λ x y s t lu12i add low base small alike is one fits made lu12i1 low1 base1 wide a1 a2 a3.
-      let n1 = rd_of (word_of lu12i) in
-      let n2 = rd_of (word_of add) in
-      let n3 = rd_of (word_of low) in
-      let d = adds thread 0x0a3 (omega arith) IsLd (λ w e. e) x y s t lu12i add low base lu12i1 low1 base1 is small alike one fits made wide a1 a2 a3 in
-      let s1 = set n1 (high_part (word_of lu12i1)) s in
-      let s2 = set n2 (added (word_of add) s1) s1 in
-      ends_so (word_of lu12i1 ∷ word_of add ∷ word_of low1 ∷ []) (word_of base1 ∷ []) s t _ _ (laws.HaveShortened n1 n2 n3 (sum_64 s.pc 12) (sum_64 t.pc 4))
-      (run_three (word_of lu12i1) (word_of add) (word_of low1) s s1 s2 _ d.high refl d.sum refl
-      (step_load (word_of low1) n3 s2 (decodes_load (word_of low1) d.low_op) d.low_rd is.low_not_zero))
-      (step_load (word_of base1) n3 t (decodes_load (word_of base1) d.base_op) d.base_rd is.low_not_zero)
-      (shortened n1 n2 n3 _ _ _ _ s t alike
-      (ap (loaded 8 s.memory) d.same ∙ ap (λ m. loaded 8 m (sum_of (word_of base1) t)) alike.memory)),
-)
+shorter thread x y s t lu12i add low base small alike is one fits made lu12i1 low1 base1 wide a1 a2 a3 =
+    let n1 = rd_of (word_of lu12i) in
+    let n2 = rd_of (word_of add) in
+    let n3 = rd_of (word_of low) in
+    let op = word_of low / 2 ^ 22 in
+    let a = action_of op in
+    let d = adds_both thread x y s t lu12i add low base lu12i1 low1 base1 is small alike one fits made wide a1 a2 a3 in
+    let u1 = high_part (word_of lu12i1) in
+    let s1 = set n1 u1 s in
+    let u2 = added (word_of add) s1 in
+    let s2 = set n2 u2 s1 in
+    let sum = sum_of (word_of base1) t in
+    let ends = used_alike (is_either n1 n2) n3 s2 t (starts_alike n1 n2 u1 u2 s t alike) a sum is.stores_other in
+    ends_so (word_of lu12i1 ∷ word_of add ∷ word_of low1 ∷ []) (word_of base1 ∷ []) s t
+    (go_on (used a n3 sum s2)) (go_on (used a n3 sum t))
+    (laws.HaveShortened (but_written (is_either n1 n2) a n3) (sum_64 s.pc 12) (sum_64 t.pc 4))
+    (run_three (word_of lu12i1) (word_of add) (word_of low1) s s1 s2 _ d.high refl d.sum refl
+    (step_action (word_of low1) op n3 s2 d.low_op is.third d.low_rd ∙ ap (λ v. Some (go_on (used a n3 v s2))) d.same))
+    (step_action (word_of base1) op n3 t d.base_op is.third d.base_rd)
+    (record {
+      alike = record { registers = ends.registers; floats = ends.floats; memory = ends.memory };
+      next = ap (λ p. sum_64 p 4) (used_pc a n3 sum s2)
+          ∙ (let e : sum_64 (sum_64 (sum_64 s.pc 4) 4) 4 ≡ sum_64 s.pc 12 = omega arith in e);
+      new_next = ap (λ p. sum_64 p 4) (used_pc a n3 sum t);
+    })

@@ -19,12 +19,12 @@ use Rattle.relocation_laws.proofs.Applied.{value_is, taken_bits}
 use Rattle.relocation_laws.proofs.Sums.{sum_below}
 use Rattle.rewrite_laws.specs.LoongArchLaws.{word_of, pair, behind, thread_offset}
 use Rattle.rewrite_laws.specs.LoongArchLaws as laws
-use Rattle.rewrite_laws.specs.LoongArchMachine.{State, AreAlikeBut, step, run, page_address, near_address, high_part, sum_of, loaded_of, ored, go_on}
+use Rattle.rewrite_laws.specs.LoongArchMachine.{State, AreAlikeBut, step, run, page_address, near_address, high_part, sum_of, ored, go_on}
 use Rattle.rewrite_laws.specs.Machine.{wrapped, loaded}
 use Rattle.rewrite_laws.proofs.AArch64Moves.{distance_is}
 use Rattle.rewrite_laws.proofs.AArch64Pairs.{word_made}
 use Rattle.rewrite_laws.proofs.AArch64Steps.{address_is}
-use Rattle.rewrite_laws.proofs.LoongArchSteps.{set, step_page, step_near, step_high, step_sum, step_load, step_or, read_back, run_pair, ends_so, alike_twice, alike_once, alike_others, sum_is, ored_is, ored_zero}
+use Rattle.rewrite_laws.proofs.LoongArchSteps.{set, step_page, step_near, step_high, step_sum, step_load, step_or, loaded_of, read_back, run_pair, ends_so, alike_twice, alike_once, alike_others, sum_is, ored_is, ored_zero}
 use Rattle.rewrite_laws.proofs.LoongArchWords.{decodes_page, decodes_near, decodes_high, decodes_sum, decodes_load, decodes_or, IsHigh, IsLow, high_after, low_after, low_is}
 
 -- ---- `pcalau12i` and what adds the low part

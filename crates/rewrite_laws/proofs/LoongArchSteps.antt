@@ -11,8 +11,8 @@ use Rattle.linker_base.specs.Bits.{field, signed}
 use Rattle.linker_base.proofs.Pairs.{signed_cases}
 use Rattle.linker_utils.specs.LoongArchRewrites.{rd_of, rj_of}
 use Rattle.relocation_laws.proofs.Sums.{lifted_is}
-use Rattle.rewrite_laws.specs.Machine.{wrapped}
-use Rattle.rewrite_laws.specs.LoongArchMachine.{State, step, run, decode, read, write, with_register, go_on, next_pc, continue, execute, EndSo, AreAlikeBut, pcalau_12, pcadd_2, lu12i_w, addi_d, ld_d, ori, page_address, near_address, high_part, sum_of, loaded_of, ored}
+use Rattle.rewrite_laws.specs.Machine.{wrapped, loaded}
+use Rattle.rewrite_laws.specs.LoongArchMachine.{State, step, run, decode, read, write, with_register, go_on, next_pc, continue, execute, EndSo, AreAlikeBut, pcalau_12, pcadd_2, lu12i_w, sums, adds, loads, ori, page_address, near_address, high_part, sum_of, ored}
 use Rattle.rewrite_laws.proofs.AArch64Steps.{address_is, in_two_steps}
 
 -- ---- one instruction
@@ -35,10 +35,15 @@ step_near x n s is rd named = ap (λ c. execute c x s) is ∙ written n (rd_of x
 pub step_high : (x n : ℕ) (s : State) → decode x ≡ lu12i_w → rd_of x ≡ n → n ≢ 0 → step x s ≡ Some (set n (high_part x) s)
 step_high x n s is rd named = ap (λ c. execute c x s) is ∙ written n (rd_of x) _ s rd named
 
-pub step_sum : (x n : ℕ) (s : State) → decode x ≡ addi_d → rd_of x ≡ n → n ≢ 0 → step x s ≡ Some (set n (sum_of x s) s)
+-- `addi.d` and `ld.d`
+pub step_sum : (x n : ℕ) (s : State) → decode x ≡ sums adds → rd_of x ≡ n → n ≢ 0 → step x s ≡ Some (set n (sum_of x s) s)
 step_sum x n s is rd named = ap (λ c. execute c x s) is ∙ written n (rd_of x) _ s rd named
 
-pub step_load : (x n : ℕ) (s : State) → decode x ≡ ld_d → rd_of x ≡ n → n ≢ 0 → step x s ≡ Some (set n (loaded_of x s) s)
+-- what `ld.d` loads
+abbrev pub loaded_of : ℕ → State → ℕ
+loaded_of word s = loaded 8 s.memory (sum_of word s)
+
+pub step_load : (x n : ℕ) (s : State) → decode x ≡ sums (loads 8) → rd_of x ≡ n → n ≢ 0 → step x s ≡ Some (set n (loaded_of x s) s)
 step_load x n s is rd named = ap (λ c. execute c x s) is ∙ written n (rd_of x) _ s rd named
 
 pub step_or : (x n : ℕ) (s : State) → decode x ≡ ori → rd_of x ≡ n → n ≢ 0 → step x s ≡ Some (set n (ored x s) s)
@@ -71,6 +76,7 @@ pub alike_twice : (n u v u2 v2 : ℕ) (s : State) → v ≡ v2 → AreAlikeBut (
 alike_twice n u v u2 v2 s same =
     record {
       registers = λ m any. last_counts (eqb m n) (eqb m 0) u v u2 v2 (s.registers m) same;
+      floats = refl;
       memory = refl;
     }
 
@@ -83,6 +89,7 @@ pub alike_once : (n u v v2 : ℕ) (s : State) → v ≡ v2 → AreAlikeBut (λ _
 alike_once n u v v2 s same =
     record {
       registers = λ m any. once_counts (eqb m n) (eqb m 0) u v v2 (s.registers m) same;
+      floats = refl;
       memory = refl;
     }
 
@@ -95,6 +102,7 @@ pub alike_others : (n u v v2 : ℕ) (s t : State) → AreAlikeBut (λ _. false) 
 alike_others n u v v2 s t alike =
     record {
       registers = λ m other. others_count (eqb m n) (eqb m 0) u v v2 (s.registers m) (t.registers m) other (alike.registers m refl);
+      floats = alike.floats;
       memory = alike.memory;
     }
 

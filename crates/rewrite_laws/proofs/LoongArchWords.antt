@@ -1,11 +1,13 @@
 -- Words of LoongArch to which a relocation was applied, and which instructions they are.
-use Rattle.std.proofs.Common.{◌≡◌, ◌≢◌, ℕ, ◌+◌, ◌-◌, ◌/◌, ◌%◌, ◌^◌, ◌<◌, refl, max}
-use Rattle.std.proofs.Common.{sym, ◌∙◌, ap, subst, arith, List, [], eqb, ltb, if◌then◌else◌, ℤ}
+use Rattle.std.proofs.Common.{◌≡◌, ◌≢◌, ℕ, ◌+◌, ◌-◌, ◌/◌, ◌%◌, ◌^◌, ◌<◌, ◌≤◌, ◌⊎◌, inl, inr, refl, max}
+use Rattle.std.proofs.Common.{sym, ◌∙◌, ap, subst, arith, List, [], eqb, ltb, if◌then◌else◌, ℤ, true, false}
+use Rattle.std.specs.Prelude.{◌==◌, ◌&&◌, ◌||◌, nat_le}
 use Rattle.std.specs.Int.{bit_at, w32, from_le_bytes}
 use Rattle.std.proofs.lemmas.List.Elements.{All-nil}
-use Rattle.std.proofs.lemmas.Bool.{ne_eqb, cond-true, cond-false}
+use Rattle.std.proofs.lemmas.Bool.{ne_eqb, cond-true, cond-false, or_cases, and_parts, eqb-true, leb-true, false_from_ne_true}
 use Rattle.linker_base.specs.Bits.{field}
 use Rattle.linker_base.specs.Form.{ImmediateBit, BitsWritten, bit_for, placed_bit, ored}
+use Rattle.linker_utils.specs.LoongArchOriginals.{adds_low12}
 use Rattle.linker_utils.specs.LoongArchRewrites.{rd_of, rj_of}
 use Rattle.linker_elf.specs.Relocate.{InstructionWritten, bits_taken, ored_cleared}
 use Rattle.linker_elf.specs.declared.loongarch64.forms.LoongArch64Instruction.TheVariants.{Shift5, Shift10}
@@ -13,7 +15,7 @@ use Rattle.linker_elf.specs.declared.elf.RelocationInstruction.TheVariants.{Loon
 use Rattle.linker_elf.proofs.AArch64Forms.{high_kept}
 use Rattle.linker_elf.proofs.Clearing.{same_window}
 use Rattle.linker_elf.proofs.LoongArch.{shift5_places, shift10_places, shift10_field}
-use Rattle.rewrite_laws.specs.LoongArchMachine.{decode, pcalau_12, pcadd_2, lu12i_w, addi_d, ld_d, ori}
+use Rattle.rewrite_laws.specs.LoongArchMachine.{decode, pcalau_12, pcadd_2, lu12i_w, sums, action_of, adds, loads, ori}
 use Rattle.rewrite_laws.proofs.AArch64Words.{field_kept, top_kept}
 
 -- ---- which instruction a word is
@@ -29,6 +31,45 @@ decodes_high x op =
     cond-false _ _ _ (ap (λ t. eqb t 0x0d) op) ∙ cond-false _ _ _ (ap (λ t. eqb t 0x0c) op)
     ∙ cond-false _ _ _ (ap (λ t. eqb t 0x0f) op) ∙ cond-true _ _ _ (ap (λ t. eqb t 0x0a) op)
 
+-- ---- those that add a low half
+
+-- by their upper 10 bits
+pub record IsLow12 (op : ℕ) : Type 0 where
+  pub is : (op < 12) ⊎ (0x0a0 ≤ op)
+  pub below : op < 0x0b0
+
+pub low12_is : (op : ℕ) → adds_low12 op ≡ true → IsLow12 op
+low12_is op is =
+    elim (or_cases (op == 0x00a || op == 0x00b || nat_le 0x0a0 op && nat_le op 0x0aa) (nat_le 0x0ac op && nat_le op 0x0af) is) [
+      | inl first ↦ elim (or_cases (op == 0x00a || op == 0x00b) (nat_le 0x0a0 op && nat_le op 0x0aa) first) [
+        | inl sum ↦ elim (or_cases (op == 0x00a) (op == 0x00b) sum) [
+          | inl a ↦ let e = eqb-true op 0x00a a in record { is = inl (omega arith); below = omega arith }
+          | inr b ↦ let e = eqb-true op 0x00b b in record { is = inl (omega arith); below = omega arith }
+        ]
+        | inr between ↦
+            let p = and_parts (nat_le 0x0a0 op) (nat_le op 0x0aa) between in
+            let from = leb-true 0x0a0 op p.0 in
+            let to = leb-true op 0x0aa p.1 in
+            record { is = inr from; below = omega arith }
+      ]
+      | inr between ↦
+          let p = and_parts (nat_le 0x0ac op) (nat_le op 0x0af) between in
+          let from = leb-true 0x0ac op p.0 in
+          let to = leb-true op 0x0af p.1 in
+          record { is = inr (omega arith); below = omega arith }
+    ]
+
+pub no_low12 : (op : ℕ) → 0x0af < op → adds_low12 op ≡ false
+no_low12 op high = false_from_ne_true (adds_low12 op) (λ is. let below = (low12_is op is).below in omega arith)
+
+-- which isn't one of the first four
+low12_not : (op k : ℕ) → adds_low12 op ≡ true → 1 < k → k < 20 → op / 8 ≢ k
+low12_not op k is from to e =
+    elim (low12_is op is).is [
+      | inl near ↦ omega arith
+      | inr far ↦ omega arith
+    ]
+
 -- none of the first four
 module _ (x : ℕ) (k : ℕ) (op : x / 2 ^ 22 ≡ k) (first : k / 8 ≢ 0x0d) (second : k / 8 ≢ 0x0c) (third : k / 8 ≢ 0x0f) (fourth : k / 8 ≢ 0x0a) where
   high_is : x / 2 ^ 25 ≡ k / 8
@@ -43,21 +84,22 @@ module _ (x : ℕ) (k : ℕ) (op : x / 2 ^ 22 ≡ k) (first : k / 8 ≢ 0x0d) (s
       ∙ cond-false _ _ _ (ne_eqb (x / 2 ^ 25) 0x0f (λ i. third (sym h ∙ i)))
       ∙ cond-false _ _ _ (ne_eqb (x / 2 ^ 25) 0x0a (λ i. fourth (sym h ∙ i)))
 
-pub decodes_sum : (x : ℕ) → x / 2 ^ 22 ≡ 0x00b → decode x ≡ addi_d
-decodes_sum x op =
-    not_high x 0x00b op (λ i. omega arith) (λ i. omega arith) (λ i. omega arith) (λ i. omega arith) _ _ _ _ _
-    ∙ cond-true _ _ _ (ap (λ t. eqb t 0x00b) op)
+pub decodes_action : (x op : ℕ) → x / 2 ^ 22 ≡ op → adds_low12 op ≡ true → decode x ≡ sums (action_of op)
+decodes_action x op is low =
+    not_high x op is (low12_not op 0x0d low (omega arith) (omega arith)) (low12_not op 0x0c low (omega arith) (omega arith))
+    (low12_not op 0x0f low (omega arith) (omega arith)) (low12_not op 0x0a low (omega arith) (omega arith)) _ _ _ _ _
+    ∙ cond-true _ _ _ (ap adds_low12 is ∙ low) ∙ ap (λ k. sums (action_of k)) is
 
-pub decodes_load : (x : ℕ) → x / 2 ^ 22 ≡ 0x0a3 → decode x ≡ ld_d
-decodes_load x op =
-    not_high x 0x0a3 op (λ i. omega arith) (λ i. omega arith) (λ i. omega arith) (λ i. omega arith) _ _ _ _ _
-    ∙ cond-false _ _ _ (ap (λ t. eqb t 0x00b) op) ∙ cond-true _ _ _ (ap (λ t. eqb t 0x0a3) op)
+pub decodes_sum : (x : ℕ) → x / 2 ^ 22 ≡ 0x00b → decode x ≡ sums adds
+decodes_sum x op = decodes_action x 0x00b op refl
+
+pub decodes_load : (x : ℕ) → x / 2 ^ 22 ≡ 0x0a3 → decode x ≡ sums (loads 8)
+decodes_load x op = decodes_action x 0x0a3 op refl
 
 pub decodes_or : (x : ℕ) → x / 2 ^ 22 ≡ 0x00e → decode x ≡ ori
 decodes_or x op =
     not_high x 0x00e op (λ i. omega arith) (λ i. omega arith) (λ i. omega arith) (λ i. omega arith) _ _ _ _ _
-    ∙ cond-false _ _ _ (ap (λ t. eqb t 0x00b) op) ∙ cond-false _ _ _ (ap (λ t. eqb t 0x0a3) op)
-    ∙ cond-true _ _ _ (ap (λ t. eqb t 0x00e) op)
+    ∙ cond-false _ _ _ (ap adds_low12 op) ∙ cond-true _ _ _ (ap (λ t. eqb t 0x00e) op)
 
 -- ---- words after a relocation
 

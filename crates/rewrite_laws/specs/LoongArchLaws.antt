@@ -1,12 +1,13 @@
 -- LoongArch: rewritten sequences compute what the original ones do (LoongArch ELF psABI, relaxation and
 -- the sequences of thread-local storage).
-use Rattle.std.specs.Prelude.{◌≡◌, ◌≢◌, ℕ, Bool, false, ◌==◌, ◌||◌, ◌&&◌, not, List, [], ◌∷◌, take, drop, IsSomeAnd, ◌<◌, ◌^◌, Option, Some, if◌then◌else◌}
+use Rattle.std.specs.Prelude.{◌≡◌, ◌≢◌, ℕ, Bool, false, ◌==◌, ◌||◌, List, [], ◌∷◌, take, drop, ◌<◌}
+use Rattle.std.specs.Prelude.{IsSomeAnd, IsTrue, ⊤, ◌/◌, ◌^◌, Option, Some, if◌then◌else◌}
 use Rattle.std.specs.Int.{w32, from_le_bytes}
 use Rattle.linker_base.specs.Rewrite.{Rewrite}
 use Rattle.linker_utils.specs.Choices.{RowIsWithin}
 use Rattle.linker_utils.specs.LoongArchChoices.{AreOfDescriptor, signed_32, unsigned_12, signed_12}
 use Rattle.linker_utils.specs.LoongArchOriginals.{IsAddi, IsLd, AreOfOneRegister, IsCall, IsLu12i}
-use Rattle.linker_utils.specs.LoongArchOriginals.{IsAddTp}
+use Rattle.linker_utils.specs.LoongArchOriginals.{IsAddTp, adds_low12}
 use Rattle.linker_elf.specs.LoongArchRelocations.{loongarch_row}
 use Rattle.linker_utils.specs.LoongArchRewrites.{loongarch_rewrite, rd_of, rj_of, tp}
 use Rattle.linker_elf.specs.Value.{sum_64, difference_64}
@@ -18,7 +19,8 @@ use Rattle.linker_utils.specs.declared.loongarch64.rewrites.RelaxationKind.TheVa
 use Rattle.relocation_laws.specs.Schemes.{IsApplied, AreAddresses, symbol_address, plt_address}
 use Rattle.relocation_laws.specs.Schemes.{entry_and_addend}
 use Rattle.rewrite_laws.specs.Machine.{loaded, Relocated}
-use Rattle.rewrite_laws.specs.LoongArchMachine.{State, read, run, EndSo, AreAlikeBut}
+use Rattle.rewrite_laws.specs.LoongArchMachine.{State, read, run, EndSo, AreAlikeBut, but_written}
+use Rattle.rewrite_laws.specs.LoongArchMachine.{Action, stores, action_of}
 
 -- ---- instructions as bytes
 
@@ -196,29 +198,41 @@ Calls = CallToBranch kinds.CallToBl 1 × CallToBranch kinds.CallToB 0
 
 -- ---- the offset of a variable from the thread pointer, in 12 bits
 
--- `lu12i.w rA`, `add.d rB, rA, tp`, and an instruction with P over rB
-pub record IsLocalExec (P : ℕ → Type 0) (lu12i add low : ℕ) : Type 0 where
+-- rA or rB
+abbrev pub is_either : ℕ → ℕ → ℕ → Bool
+is_either a b m = m == a || m == b
+
+-- A store doesn't store a register that differs.
+abbrev pub StoresTheSame : Action → (ℕ → Bool) → ℕ → Type 0
+StoresTheSame (stores n) differing r = differing r ≡ false
+StoresTheSame action differing r = ⊤
+
+-- `lu12i.w rA`, `add.d rB, rA, tp`, and an instruction over rB that `BaseToTp` is meant for. A
+-- store stores neither rA nor rB, which have parts of the address.
+pub record IsLocalExec (lu12i add low : ℕ) : Type 0 where
   pub first : IsLu12i lu12i
   pub second : IsAddTp add
-  pub third : P low
+  pub third : IsTrue (adds_low12 (low / 2 ^ 22))
   pub base_of_add : rj_of add ≡ rd_of lu12i
   pub base_of_low : rj_of low ≡ rd_of add
   pub high_not_zero : rd_of lu12i ≢ 0
   pub high_not_tp : rd_of lu12i ≢ tp
   pub sum_not_zero : rd_of add ≢ 0
-  pub low_not_zero : rd_of low ≢ 0
+  pub stores_other :
+      StoresTheSame (action_of (low / 2 ^ 22)) (is_either (rd_of lu12i) (rd_of add)) (rd_of low)
 
--- Each state is behind its instructions. Only rA and rB may differ, unless the instruction writes them.
-pub record HaveShortened (high sum low at new_at : ℕ) (s t : State) : Type 0 where
-  pub alike : AreAlikeBut (λ m. (m == high || m == sum) && not (m == low)) s t
+-- Each state is behind its instructions.
+pub record HaveShortened (differing : ℕ → Bool) (at new_at : ℕ) (s t : State) : Type 0 where
+  pub alike : AreAlikeBut differing s t
   pub next : s.pc ≡ at
   pub new_next : t.pc ≡ new_at
 
--- The low half over `tp`, once the `lu12i.w` and the `add.d` are deleted: for `addi.d` and `ld.d`.
-abbrev pub LowHalfFromThreadPointer : (ℕ → Type 0) → Type 0
-LowHalfFromThreadPointer P =
+-- The low half over `tp`, once the `lu12i.w` and the `add.d` are deleted. Only rA and rB may
+-- differ, unless the instruction writes them.
+abbrev pub ShorterLocalExec : Type 0
+ShorterLocalExec =
     (x y : Operands) (s t : State) (lu12i add low base : List ℕ) → AreAddresses x
-    → AreAlikeBut no_register s t → IsLocalExec P (word_of lu12i) (word_of add) (word_of low)
+    → AreAlikeBut no_register s t → IsLocalExec (word_of lu12i) (word_of add) (word_of low)
     → thread_offset x ≡ thread_offset y
     → RowIsWithin (loongarch_row names.R_LARCH_TLS_LE_LO12_R) signed_12 y
     → IsRewritten kinds.BaseToTp low base → (lu12i_of low_of base_of : List ℕ)
@@ -227,11 +241,10 @@ LowHalfFromThreadPointer P =
     → IsRelocated names.R_LARCH_TLS_LE_LO12_R (behind 8 x) low low_of
     → IsRelocated names.R_LARCH_TLS_LE_LO12_R y base base_of
     → EndSo (word_of lu12i_of ∷ word_of add ∷ word_of low_of ∷ []) s (word_of base_of ∷ []) t
-    (HaveShortened (rd_of (word_of lu12i)) (rd_of (word_of add)) (rd_of (word_of low))
+    (HaveShortened
+    (but_written (is_either (rd_of (word_of lu12i)) (rd_of (word_of add)))
+    (action_of (word_of low / 2 ^ 22)) (rd_of (word_of low)))
     (sum_64 s.pc 12) (sum_64 t.pc 4))
-
-abbrev pub ShorterLocalExec : Type 0
-ShorterLocalExec = LowHalfFromThreadPointer IsAddi × LowHalfFromThreadPointer IsLd
 
 -- ---- the offset of a variable from the thread pointer, by a TLS descriptor
 
@@ -242,10 +255,12 @@ abbrev pub is_scratch : (ℕ → Bool) → ℕ → Bool
 is_scratch changed n = if n == 4 then false else (n == 1 || changed n)
 
 -- A descriptor's function, called in state u, returns in v. It leaves the offset in `a0`, and keeps
--- the memory and the other registers, except those that `changed` names.
+-- the memory, the floating-point registers and the other registers, except those that `changed`
+-- names.
 pub record ReturnsOffset (changed : ℕ → Bool) (offset : ℕ) (u v : State) : Type 0 where
   pub offset_is : read 4 v ≡ offset
   pub others : (n : ℕ) → n ≢ 4 → changed n ≡ false → read n v ≡ read n u
+  pub floats : v.floats ≡ u.floats
   pub back : v.pc ≡ read 1 u
   pub memory : v.memory ≡ u.memory
 

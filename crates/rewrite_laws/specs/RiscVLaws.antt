@@ -317,6 +317,46 @@ LowPartFromThreadPointer =
     (section : List ℕ) (o : ℕ) → riscv_matches kinds.BaseToTp section o
     → IsSomeAnd (action_at section o) (FromThreadPointer section o)
 
+-- `lui rA`, `add rB, rA, tp`, and an instruction over rB that `BaseToTp` is meant for, one behind
+-- the other from an offset on. rA isn't the thread pointer.
+pub record IsLocalExec (section : List ℕ) (o : ℕ) : Type 0 where
+  pub first : HasWord section o IsLui
+  pub second : HasWord section (o + 4) IsAddTp
+  pub third : riscv_matches kinds.BaseToTp section (o + 8)
+  pub base_of_add : rs1_of (word_at section (o + 4)) ≡ rd_of (word_at section o)
+  pub base_of_low : rs1_of (word_at section (o + 8)) ≡ rd_of (word_at section (o + 4))
+  pub high_not_tp : rd_of (word_at section o) ≢ tp
+  pub sum_not_zero : rd_of (word_at section (o + 4)) ≢ 0
+
+-- rA or rB
+abbrev pub is_either : ℕ → ℕ → ℕ → Bool
+is_either a b r = r == a || r == b
+
+-- The three together, and the third alone over the thread pointer, once the others are deleted. A
+-- store stores neither rA nor rB.
+abbrev pub AloneFromThreadPointer : List ℕ → ℕ → Action → Type 0
+AloneFromThreadPointer section o action =
+    let high = rd_of (word_at section o) in
+    let sum = rd_of (word_at section (o + 4)) in
+    let word = word_at section (o + 8) in
+    StoresAnother action high (rs2_of word) → StoresAnother action sum (rs2_of word)
+    → (x y : Operands) → HaveOneOffset x y → IsLowOffset x → (lui low new : List ℕ)
+    → Relocated (riscv_row names.R_RISCV_TPREL_HI20) x (drop o section) lui
+    → Relocated (offset_row action) x (drop (o + 8) section) low
+    → Relocated (offset_row action) y
+    (drop o (deleted 8 o (after_rewrite kinds.BaseToTp section (o + 8)))) new
+    → (h k : Hart) → h.pc < 2 ^ 64 → k.pc < 2 ^ 64 → AreAlike no_register h k
+    → register k tp < 2 ^ 64
+    → EndSo 3 (take 4 lui ++ (take 4 (drop (o + 4) section) ++ low)) h 1 new k (λ a b.
+    AreAlike (differs_after action (is_either high sum) (rd_of word)) a b
+    × GoOn action (rd_of word) (even_in_thread (register k tp) x) (sum_64 h.pc 12) (sum_64 k.pc 4)
+    a b)
+
+abbrev pub LocalExecIsShortened : Type 0
+LocalExecIsShortened =
+    (section : List ℕ) (o : ℕ) → IsLocalExec section o
+    → IsSomeAnd (action_at section (o + 8)) (AloneFromThreadPointer section o)
+
 -- What is left of an instruction that isn't deleted changes nothing but the pc.
 abbrev pub LongNopDoesNothing : Type 0
 LongNopDoesNothing =

@@ -62,9 +62,10 @@ pub fn ppc64()
 /// of their layout, and a call links the address behind it; `c.lui` puts in its register what `lui`
 /// does; a `lui` that is deleted would put 0 there, so that x0 can be the base of the instructions
 /// that add its low part. All else that a program sees is the same, but for the register of a tail
-/// call's `auipc` and that of a deleted `lui`. Where the offset of a variable has 12 bits, the thread
-/// pointer is the base in place of a register that would have its number. The offset of a variable is
-/// in the instructions, or in its GOT entry, in place of a descriptor; a symbol's address is computed in
+/// call's `auipc` and that of a deleted `lui`. Where the offset of a variable has 12 bits, the
+/// thread pointer is the base in place of a register that would have its number, and the instruction
+/// over it does alone what it does behind `lui` and `add`. The offset of a variable is in the
+/// instructions, or in its GOT entry, in place of a descriptor; a symbol's address is computed in
 /// place of a load from the GOT. The last four clauses are examples of what the machine does.
 pub fn riscv64()
     ensures calls { riscv_laws.Calls }
@@ -77,6 +78,7 @@ pub fn riscv64()
     ensures high_offsets { riscv_laws.OffsetLuiIsDeleted }
     ensures sums { riscv_laws.SumIsDeleted }
     ensures low_offsets { riscv_laws.LowPartFromThreadPointer }
+    ensures local_exec { riscv_laws.LocalExecIsShortened }
     ensures nops { riscv_laws.LongNopDoesNothing }
     ensures descriptor_to_local_exec { riscv_laws.DescriptorToLocalExec }
     ensures descriptor_to_short_local_exec { riscv_laws.DescriptorToShortLocalExec }
@@ -90,10 +92,11 @@ pub fn riscv64()
     relocation_laws::riscv64();
 }
 
-/// LoongArch: the address of a symbol without its GOT entry, or by `pcaddi`; the offset of a variable
-/// from the thread pointer in the instructions, in one of them, or by its GOT entry in place of a
-/// descriptor's function; a call by `b` or `bl`. Where an instruction is deleted, the code before and
-/// after the rewrite may stand at different addresses, each with its relocations applied.
+/// LoongArch: the address of a symbol without its GOT entry, or by `pcaddi`; the offset of a
+/// variable from the thread pointer in the instructions, in one of them, or by its GOT entry in
+/// place of a descriptor's function; loads, stores and additions over the thread pointer; a call by
+/// `b` or `bl`. Where an instruction is deleted, the code before and after the rewrite may stand at
+/// different addresses, each with its relocations applied.
 pub fn loongarch64()
     ensures got { loongarch_laws.GotToAddress }
     ensures initial_exec { loongarch_laws.InitialExecToLocalExec }

@@ -42,17 +42,28 @@ pub fn choices(
     }
 }
 
+/// Whether a choice changes instructions.
+pub fn is_rewrite(kind: Relaxation) -> bool {
+    !matches!(
+        kind,
+        Relaxation::AArch64(aarch64::RelaxationKind::NoOp)
+            | Relaxation::RiscV(riscv64::RelaxationKind::NoOp)
+            | Relaxation::LoongArch64(loongarch64::RelaxationKind::NoOp)
+            | Relaxation::Ppc64(ppc64::RelaxationKind::NoOp)
+            | Relaxation::X86_64(x86_64::RelaxationKind::NoOp)
+    )
+}
+
 /// The rewrite's name, and nothing for `NoOp`.
 pub fn rewrite_name(kind: Relaxation) -> Option<String> {
-    let name = match kind {
+    is_rewrite(kind).then(|| match kind {
         Relaxation::AArch64(kind) => format!("{kind:?}"),
         Relaxation::RiscV(kind) => format!("{kind:?}"),
         Relaxation::LoongArch64(kind) => format!("{kind:?}"),
         Relaxation::Ppc64(kind) => format!("{kind:?}"),
         Relaxation::X86_64(kind) => format!("{kind:?}"),
         _ => format!("{kind:?}"),
-    };
-    (name != "NoOp").then_some(name)
+    })
 }
 
 pub fn skips_next(kind: Relaxation) -> bool {
@@ -136,14 +147,14 @@ impl Before {
         let all: Vec<_> = all.map(|offset| FieldBits { offset, bits: u64::MAX }).collect();
         let mut found = Vec::new();
         for first in self.choices(&all, &self.bytes) {
-            if rewrite_name(first.kind).is_none() {
+            if !is_rewrite(first.kind) {
                 continue;
             }
             let mut after = self.clone();
             first.kind.apply(&mut after.bytes, &mut after.offset, &mut after.addend);
             after.code = first.relocation;
             for chosen in after.choices(others, linked) {
-                if rewrite_name(chosen.kind).is_some() {
+                if is_rewrite(chosen.kind) {
                     found.push((after.clone(), chosen, Some(first)));
                 }
             }

@@ -1,6 +1,6 @@
 //! The relocations of the objects in a linked file: where each is, and what was made of it.
 
-use crate::elf::{Entry, Home, Linked, Object, Reason, Relocation, Section, Symbol};
+use crate::elf::{Definition, Entry, Home, Linked, Object, Reason, Relocation, Section, Symbol};
 use crate::made::{self, Chosen, Field};
 use linker_utils::elf::{Architecture, Operands, RelocationKind};
 use linker_utils::recognise::{FieldBits, field_bits};
@@ -44,6 +44,8 @@ pub struct Side<'a> {
     objects: &'a [Object<'a>],
     /// Which object defines a global symbol.
     definers: &'a HashMap<&'a str, usize>,
+    /// What the file says of the objects' global symbols.
+    globals: Vec<Vec<Option<Definition>>>,
     got_base: u64,
     anchors: Vec<Vec<Anchors>>,
     /// The same after the deletions.
@@ -178,8 +180,24 @@ impl<'a> Side<'a> {
             _ => base("_GLOBAL_OFFSET_TABLE_").unwrap_or(linked.got_start),
         };
         let maps = anchors.clone();
+        let global = |one: &Symbol| match one.is_local {
+            true => None,
+            false => linked.globals.get(&one.name).copied(),
+        };
+        let globals = objects.iter().map(|it| it.symbols.iter().map(global).collect()).collect();
         let (pending, made) = (Vec::new(), Vec::new());
-        Ok(Side { linked, objects, definers, got_base, anchors, maps, repeated, pending, made })
+        Ok(Side {
+            linked,
+            objects,
+            definers,
+            globals,
+            got_base,
+            anchors,
+            maps,
+            repeated,
+            pending,
+            made,
+        })
     }
 
     /// Finds the places of all sections, as far as they can be found; `step` is called for each
@@ -233,11 +251,9 @@ impl<'a> Side<'a> {
     }
 
     /// The address of an object's symbol, and what local entry it has.
-    fn address_of(&self, object: usize, symbol: &Symbol) -> Option<(u64, u8)> {
-        let global = || {
-            let found = self.linked.globals.get(&symbol.name);
-            found.map(|one| (one.address, one.other))
-        };
+    fn address_of(&self, object: usize, index: usize) -> Option<(u64, u8)> {
+        let symbol = &self.objects[object].symbols[index];
+        let global = || self.globals[object][index].map(|one| (one.address, one.other));
         let local = || {
             let found = self.linked.locals.get(&symbol.name)?;
             (found.len() == 1).then(|| (found[0], 0))
@@ -356,7 +372,7 @@ impl<'a> Side<'a> {
         if is_low {
             return self.low_target(object, symbol, field, operands);
         }
-        let address = self.address_of(object, symbol);
+        let address = self.address_of(object, one.symbol);
         if let (None, Home::Section(section)) = (address, symbol.home) {
             let (home, value) = ((object, section), symbol.value);
             self.add_pending(Pending { home, value, field: *field, operands });
@@ -383,7 +399,7 @@ impl<'a> Side<'a> {
         let Some(row) = self.linked.architecture.row(high.code) else { return self.bits(field) };
         let symbol = &self.objects[object].symbols[high.symbol];
         let low = Operands { place, addend: high.addend, ..low };
-        let Some((address, _)) = self.address_of(object, symbol) else {
+        let Some((address, _)) = self.address_of(object, high.symbol) else {
             if let (Home::Section(section), false) = (symbol.home, row.asks_for_got()) {
                 let (home, value) = ((object, section), symbol.value);
                 self.add_pending(Pending { home, value, field: *field, operands: low });
@@ -527,7 +543,7 @@ impl<'a> Side<'a> {
         let mut best = self.recognise_as(object, it, index, one, place);
         let Some(word) = self.address_in_toc(object, one) else { return best };
         let is_alone = |found: &Found| {
-            found.first.is_none() && made::rewrite_name(found.chosen.kind).is_none()
+            found.first.is_none() && !made::is_rewrite(found.chosen.kind)
         };
         if let Some(best) = best.as_mut().filter(|best| is_alone(best)) {
             best.is_through_got = true; // the word is an entry of the GOT
@@ -627,7 +643,7 @@ impl<'a> Side<'a> {
                 // a high part alone may lead to its symbol by either relocation: its low half tells
                 found.sort_by_key(|(_, chosen, _)| chosen.relocation != one.code);
                 for (before, chosen, first) in found {
-                    let is_alone = first.is_none() && made::rewrite_name(chosen.kind).is_none();
+                    let is_alone = first.is_none() && !made::is_rewrite(chosen.kind);
                     let count = chosen.kind.deleted().map_or(0, |bytes| bytes.count as usize);
                     if count != *deleted {
                         continue;

@@ -1,7 +1,8 @@
 #!/usr/bin/env python3
 """Which relocations of code ld.lld's relaxation changes, without what `compare` has of it: ld.lld's
 maps say where each section is, and llvm-objdump-19 which instructions are there. A relocation is
-changed if its instruction has another mnemonic, and the high part of an address if its low half is.
+changed if its instruction has another mnemonic, or on PowerPC64 another base register, and the high
+part of an address if its low half is.
 
 usage: tests/changed.py NAME ARCHITECTURE PLAIN RELAXED OBJECT..
 Beside PLAIN and RELAXED are their maps. NAME begins each line."""
@@ -10,6 +11,7 @@ import subprocess
 import sys
 from bisect import bisect
 
+sys.dont_write_bytecode = True
 from objects import MARKS, Object
 
 # high parts, and the low parts that go with them

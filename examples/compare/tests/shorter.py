@@ -13,6 +13,7 @@ usage: tests/shorter.py NAME ARCHITECTURE LINKED OBJECT.."""
 import struct
 import sys
 
+sys.dont_write_bytecode = True
 from objects import CODE, Object
 
 NAMES = {110: "R_LARCH_CALL36", 71: "R_LARCH_PCALA_HI20", 72: "R_LARCH_PCALA_LO12",

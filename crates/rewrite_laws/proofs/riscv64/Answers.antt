@@ -9,7 +9,7 @@ use Rattle.rewrite_laws.proofs.RiscVLuis.{lui_becomes_clui, lui_is_deleted, offs
 use Rattle.rewrite_laws.proofs.RiscVSums.{sum_is_deleted}
 use Rattle.rewrite_laws.proofs.RiscVDescriptors.{to_local_exec, to_short_local_exec, to_initial_exec}
 use Rattle.rewrite_laws.proofs.RiscVDescriptors.{got_to_address, long_nop}
-use Rattle.rewrite_laws.proofs.RiscVPairs.{pair_from_zero}
+use Rattle.rewrite_laws.proofs.RiscVPairs.{pair_from_zero, local_exec_is_shortened}
 use Rattle.rewrite_laws.proofs.riscv64.Goals as goal
 
 pub returns-clause-calls : goal.returns-clause-calls
@@ -41,6 +41,9 @@ returns-clause-sums c = sum_is_deleted
 
 pub returns-clause-low_offsets : goal.returns-clause-low_offsets
 returns-clause-low_offsets c = low_part_from_tp
+
+pub returns-clause-local_exec : goal.returns-clause-local_exec
+returns-clause-local_exec c = local_exec_is_shortened
 
 pub returns-clause-nops : goal.returns-clause-nops
 returns-clause-nops c = long_nop
