@@ -101,54 +101,29 @@ static size_t add_items(struct output *o, struct linker_utils_item *items, struc
     return o->items_len = len;
 }
 
-/* Writes the shorter instruction of a site; where it is will be its relocation's matter. */
-static void shorten(struct output *o, struct relocation *r, uint64_t kept) {
-    const struct linker_utils_link_facts facts = {.is_local = 1, .has_fixed_distance = 1,
-                                                  .is_marked = 1, .may_compress = 1,
-                                                  .has_addresses = 1};
-    uint64_t end = r->section->end, offset = r->offset;
-    uint32_t before = r->type;
-    if (machine == EM_RISCV && kept == 4) {
-        check(r, linker_utils_jal_site_with(o->bytes, end, offset, 0, LINKER_UTILS_LINK_OF_JALR));
-        r->type = R_RISCV_JAL;
-        return;
-    }
-    rewrite(r, o->bytes, end, &offset, &r->addend, &r->type, &facts);
-    if (r->type == before) fail("%s can't be relaxed", place_of(r));
-    if (before == LARCH_PCALA_HI20) r[2].type = 0; /* that of the other half */
-}
-
-/* Writes the nops that stay of an alignment. */
-static void write_nops(uint8_t *bytes, uint64_t len) {
-    uint32_t nop = machine == EM_RISCV ? 0x13 : 0x03400000;
-    for (; len >= 4; len -= 4, bytes += 4) memcpy(bytes, &nop, 4);
-    if (len) memcpy(bytes, "\x01", 2); /* c.nop */
-}
-
-/* Omits what a section loses. */
+/* Writes a section anew: what becomes shorter, and without what it loses. What stays of the
+ * linker's own gaps stays as it is. */
 static void pack(struct output *o, const struct linker_utils_item *items, const uint64_t *kept,
                  struct relocation **of) {
-    for (size_t i = 0; i < o->items_len; i++) {
-        bool is_site = items[i].kind == LINKER_UTILS_ITEM_SITE;
-        if (is_site && items[i].shapes.count && kept[i] < items[i].len) shorten(o, of[i], kept[i]);
-        if (!is_site && of[i]->section && kept[i] < items[i].len)
-            write_nops(o->bytes + (items[i].offset - o->base), kept[i]);
-    }
     const struct run *run = o->run;
-    struct linker_utils_deletion *deletions = take(run->deltas_len, sizeof *deletions);
-    struct linker_utils_delta *deltas = take(run->deltas_len, sizeof *deltas);
-    size_t len = 0;
-    for (const struct linker_utils_delta *d = run->deltas; d < run->deltas + run->deltas_len; d++)
-        if (d->input_offset >= o->base && d->input_offset - o->base < o->len)
-            deletions[len++] = (struct linker_utils_deletion){d->input_offset - o->base,
-                                                              d->bytes_deleted};
-    if (linker_utils_deltas_create(deletions, len, deltas, len, NULL))
-        fail("section %s can't be packed", o->name);
-    uint64_t packed_len = linker_utils_packed_len(o->bytes, o->len, deltas, len);
+    struct linker_utils_item *written = take(o->items_len, sizeof *written);
+    size_t len = 0, at = SIZE_MAX;
+    for (size_t i = 0; i < o->items_len; i++)
+        if (of[i]->section && kept[i] < items[i].len) {
+            of[len] = of[i];
+            written[len++] = items[i];
+        }
+    size_t packed_len = linker_utils_packed_run_len(o->base, o->len, run->deltas, run->deltas_len);
     uint8_t *packed = take(packed_len, 1);
-    if (linker_utils_pack(o->bytes, o->len, deltas, len, NULL, 0, LINKER_UTILS_LINK_OF_JALR, packed,
-                          packed_len, NULL))
-        fail("section %s can't be packed", o->name);
+    uint32_t status =
+        linker_utils_pack_run(machine, o->bytes, o->len, o->base, written, len, run->deltas,
+                              run->deltas_len, run->start, packed, packed_len, &at);
+    if (status && at < len) check(of[at], status);
+    if (status) fail("section %s: %s", o->name, linker_utils_status_text(status));
+    for (size_t i = 0; i < len; i++) { /* these have their values already */
+        if (of[i]->type == LARCH_PCALA_HI20) of[i][2].type = 0; /* the other half of the address */
+        if (written[i].shapes.count) of[i]->type = 0;
+    }
     o->bytes = packed;
     o->len = o->room = packed_len;
 }
