@@ -14,7 +14,8 @@ pub mod poke;
 mod readers;
 #[cfg(test)]
 mod refused_growth;
-pub mod rows;
+#[cfg(test)]
+mod rows;
 #[cfg(test)]
 mod shrinking;
 #[cfg(test)]

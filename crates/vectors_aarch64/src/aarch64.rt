@@ -7,6 +7,7 @@ mod moves;
 mod offsets;
 mod pairs;
 
+use crate::rows::{expect, expect_eq};
 use linker_utils::aarch64::{
     AArch64Relocation, RelaxationKind, TLS_TCB_SIZE, is_adrp_pair, relocation_type_from_raw,
     write_mov_sequence,
@@ -18,7 +19,6 @@ use linker_utils::elf::{
 };
 use linker_utils::relaxation::RelocationModifier;
 use linker_utils::utils::u32_from_slice;
-use vectors::rows::{expect, expect_eq};
 
 /// The word after a write, or `None` if the value does not fit.
 fn written(form: AArch64Instruction, value: u64, negative: bool, before: u32) -> Option<u32> {

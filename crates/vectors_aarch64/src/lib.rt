@@ -3,3 +3,5 @@
 
 #[cfg(test)]
 mod aarch64;
+#[cfg(test)]
+mod rows;

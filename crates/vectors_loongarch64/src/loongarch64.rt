@@ -5,6 +5,7 @@ mod choices;
 mod linked;
 mod relaxed;
 
+use crate::rows::expect_eq;
 use assembled::{BRANCH_21, BRANCH_26, SHIFT_5, SHIFT_10};
 use linked::{ABSOLUTE, CALL_36, FIVE, PAGE_PAIR};
 use linker_utils::bit_misc::BitExtraction;
@@ -15,7 +16,6 @@ use linker_utils::loongarch64::{
 };
 use linker_utils::utils::u32_from_slice;
 use std::process::Abort;
-use vectors::rows::expect_eq;
 
 fn written(rt: &impl Abort, form: LoongArch64Instruction, before: u64, value: u64) -> u64 {
     let mut bytes = before.to_le_bytes();

@@ -4,13 +4,13 @@
 mod choices;
 mod linked;
 
+use crate::rows::expect_eq;
 use linker_utils::bit_misc::BitExtraction;
 use linker_utils::elf::{
     AllowedRange, Bias, Ppc64Instruction, RelocationKind, RelocationKindInfo, RelocationSize,
 };
 use linker_utils::ppc64::{Ppc64Relocation, RelaxationKind, relocation_type_from_raw, write_ha_lo};
 use linker_utils::relaxation::RelocationModifier;
-use vectors::rows::expect_eq;
 
 /// `addi` and other D-forms: the word before, the value, the word after, and the number that the
 /// machine reads.

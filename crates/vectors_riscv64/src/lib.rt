@@ -3,3 +3,5 @@
 
 #[cfg(test)]
 mod riscv64;
+#[cfg(test)]
+mod rows;

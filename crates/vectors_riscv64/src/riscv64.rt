@@ -6,6 +6,7 @@ mod linked;
 mod pairs;
 mod words;
 
+use crate::rows::{expect, expect_eq};
 use linker_utils::elf::{
     AllowedRange, Bias, InstructionForm, RelocationInstruction, RelocationSize, RiscVInstruction,
     Sign,
@@ -16,7 +17,6 @@ use linker_utils::riscv64::{
     relocation_type_from_raw,
 };
 use linker_utils::utils::u32_from_slice;
-use vectors::rows::{expect, expect_eq};
 
 /// What `read_value` returns where the machine reads `machine`.
 fn reading(form: RiscVInstruction, machine: i64) -> (u64, bool) {

@@ -9,10 +9,15 @@ extern crate alloc;
 #[path = "../../src/support.rs"]
 mod support;
 
+#[allow(dead_code, reason = "not all of rows is used")]
 mod vectors_aarch64;
+#[allow(dead_code, reason = "not all of rows is used")]
 mod vectors_loongarch64;
+#[allow(dead_code, reason = "not all of rows is used")]
 mod vectors_ppc64;
+#[allow(dead_code, reason = "not all of rows is used")]
 mod vectors_riscv64;
+#[allow(dead_code, reason = "not all of rows is used")]
 mod vectors_x86_64;
 
 #[cfg(test)]
@@ -28,7 +33,8 @@ pub mod poke;
 mod readers;
 #[cfg(test)]
 mod refused_growth;
-pub mod rows;
+#[cfg(test)]
+mod rows;
 #[cfg(test)]
 mod shrinking;
 #[cfg(test)]

@@ -3,3 +3,5 @@
 
 #[cfg(test)]
 mod loongarch64;
+#[cfg(test)]
+mod rows;

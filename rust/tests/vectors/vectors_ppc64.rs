@@ -3,3 +3,5 @@
 
 #[cfg(test)]
 mod ppc64;
+#[cfg(test)]
+mod rows;

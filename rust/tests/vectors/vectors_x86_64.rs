@@ -2,4 +2,6 @@
 //! Test vectors of x86-64.
 
 #[cfg(test)]
+mod rows;
+#[cfg(test)]
 mod x86_64;

@@ -2,13 +2,13 @@
 //! Manual, volume 1, and as GNU ld writes them.
 
 use super::relaxed::{ENTRY, IMAGE, SITES};
+use crate::rows::expect_eq;
 use linker_utils::elf::{LinkFacts, Operands};
 use linker_utils::loongarch64::{
     LoongArch64Relocation as Name, RelaxationKind as Kind, choose, row,
 };
 use linker_utils::utils::u32_from_slice;
 use std::process::Abort;
-use vectors::rows::expect_eq;
 
 const NOP: u32 = 0x0340_0000;
 

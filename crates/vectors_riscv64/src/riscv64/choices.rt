@@ -2,11 +2,11 @@
 
 use super::linked::{ADDRESS, ENTRY, IMAGE, SITES};
 use super::{both, pairs};
+use crate::rows::expect_eq;
 use linker_utils::elf::{Choice, LinkFacts, Operands};
 use linker_utils::riscv64::{DeletedBytes, RelaxationKind, RiscVRelocation, choose, row};
 use linker_utils::utils::u32_from_slice;
 use std::process::Abort;
-use vectors::rows::expect_eq;
 
 /// The facts of a relocation that may be relaxed, in a program that is loaded at one address.
 fn facts_at(symbol: u64, place: u64) -> LinkFacts {

@@ -6,6 +6,7 @@ mod choices;
 mod linked;
 mod relaxed;
 
+use crate::vectors_loongarch64::rows::expect_eq;
 use assembled::{BRANCH_21, BRANCH_26, SHIFT_5, SHIFT_10};
 use linked::{ABSOLUTE, CALL_36, FIVE, PAGE_PAIR};
 use linker_utils::bit_misc::BitExtraction;
@@ -15,7 +16,6 @@ use linker_utils::loongarch64::{
     write_address_sequence,
 };
 use linker_utils::utils::u32_from_slice;
-use crate::rows::expect_eq;
 
 fn written(form: LoongArch64Instruction, before: u64, value: u64) -> u64 {
     let mut bytes = before.to_le_bytes();

@@ -4,10 +4,10 @@
 
 mod choices;
 
+use crate::vectors_x86_64::rows::{expect_eq, requires_window};
 use linker_utils::elf::{AllowedRange, RelocationKind, RelocationKindInfo, RelocationSize};
 use linker_utils::relaxation::RelocationModifier;
 use linker_utils::x86_64::{RelaxationKind, X86_64Relocation, relocation_from_raw};
-use crate::rows::{expect_eq, requires_window};
 
 struct Rewrite {
     /// The relocation that the assembler writes.

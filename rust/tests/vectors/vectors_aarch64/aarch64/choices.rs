@@ -2,11 +2,11 @@
 //! Choices of rewrites: what linkers made of pairs and sequences, under the facts that they had.
 
 use super::{ADRP_TO_ADD, NOP_ADR, TO_MOVES};
+use crate::vectors_aarch64::rows::expect_eq;
 use linker_utils::aarch64::{
     AArch64Relocation, RelaxationKind, choose, is_tls_descriptor_sequence, row,
 };
 use linker_utils::elf::{Choice, LinkFacts, Operands};
-use crate::rows::expect_eq;
 
 /// The bits beside the immediates of `adrp`, and of `add` and `ldr`.
 const ADRP: u32 = 0x9f00_001f;

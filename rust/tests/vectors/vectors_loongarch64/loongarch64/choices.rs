@@ -3,12 +3,12 @@
 //! Manual, volume 1, and as GNU ld writes them.
 
 use super::relaxed::{ENTRY, IMAGE, SITES};
+use crate::vectors_loongarch64::rows::expect_eq;
 use linker_utils::elf::{LinkFacts, Operands};
 use linker_utils::loongarch64::{
     LoongArch64Relocation as Name, RelaxationKind as Kind, choose, row,
 };
 use linker_utils::utils::u32_from_slice;
-use crate::rows::expect_eq;
 
 const NOP: u32 = 0x0340_0000;
 

@@ -3,9 +3,9 @@
 //! words are encoded after the Power ISA, "Instruction Formats", or are those that linkers wrote.
 
 use super::linked::SITES;
+use crate::vectors_ppc64::rows::expect_eq;
 use linker_utils::elf::{Choice, LinkFacts, Operands};
 use linker_utils::ppc64::{Ppc64Relocation, RelaxationKind, choose, row};
-use crate::rows::expect_eq;
 
 /// The facts of a symbol of an executable, 0x7fe8 below the TOC pointer, 0x6fe8 below the thread
 /// pointer and 0x10018 above the instruction.

@@ -2,9 +2,9 @@
 //! The rewrites that linkers chose, by what they knew.
 
 use super::{REWRITES, SEQUENCES};
+use crate::vectors_x86_64::rows::expect_eq;
 use linker_utils::elf::{Choice, LinkFacts, Operands};
 use linker_utils::x86_64::{RelaxationKind, X86_64Relocation, choose, row};
-use crate::rows::expect_eq;
 
 /// The address of a field before the rewrite.
 const PLACE: u64 = 0x401000;
