@@ -6,6 +6,7 @@ use linker_utils::elf::{Architecture, Choice, InstructionRewrite, Operands, Row}
 use linker_utils::relaxation::RelocationModifier;
 use linker_utils::reading::{FieldValue, read, solve};
 use linker_utils::recognise::{self, FieldBits};
+use linker_utils::{aarch64, loongarch64, ppc64, riscv64, x86_64};
 
 pub type Chosen = Choice<Relaxation, u32>;
 
