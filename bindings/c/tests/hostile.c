@@ -1018,7 +1018,7 @@ static struct buffer *run_items(size_t count) {
     for (size_t i = 0; i < count; i++) {
         struct linker_utils_item item = {.offset = offset,
                                          .target = 4 * below(8 * count + 1),
-                                         .power = (uint64_t)4 << below(4),
+                                         .power = (uint64_t)(once_in(16) ? 2 : 4) << below(4),
                                          .most = 2 * below(16),
                                          .len = 8,
                                          .kind = LINKER_UTILS_ITEM_SITE,
