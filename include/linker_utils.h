@@ -19,7 +19,9 @@
  *   that the call only writes need not be initialised, and neither need the elements of an array
  *   that it only writes. Everything else that is passed is initialised.
  * - Memory that a call writes overlaps no other memory that is passed to it, and no other thread
- *   reads or writes it while the call runs. Memory that a call only reads may be shared.
+ *   reads or writes it while the call runs. Memory that a call only reads may be shared: one array
+ *   of deltas, heads, items or relocations by any number of threads. So threads may also write
+ *   parts of one section at once, each through a slice that no other overlaps.
  * - With such pointers and counts each call is defined, whatever the numbers and bytes.
  * - A call that returns `uint32_t` returns a status of `enum linker_utils_status`. With any except
  *   `LINKER_UTILS_OK` it has written nothing, except for `faulty`, and for what
@@ -906,10 +908,11 @@ static inline uint32_t linker_utils_deltas_is_mergeable(
  * LINKER_UTILS_INVALID_DELETIONS where the deltas list no valid deletions, and `faulty` is the
  * first delta at fault, as above. LINKER_UTILS_NOT_MERGEABLE, and `faulty` is the first additional
  * deletion that overlaps an old or an earlier additional one, or ends past 2^64 - 1.
- * LINKER_UTILS_OUT_OF_MEMORY where they can be merged, but a copy of them can't be allocated. It
- * doesn't allocate where the additional deletions ascend and can be merged. To find the first that
- * can't be merged, it allocates further copies, of the first of them. Where an allocation fails,
- * those deletions are tested as linker_utils_deltas_is_mergeable tests them. */
+ * LINKER_UTILS_OUT_OF_MEMORY where they can be merged, but no copy of them can be allocated. It
+ * doesn't allocate where the additional deletions ascend and can be merged. Else it sorts a copy of
+ * them, of 8 bytes each, and where 8 bytes are too few or can't be allocated, of 16 bytes each. To
+ * find the first that can't be merged, it allocates further copies, of the first of them. Where an
+ * allocation fails, those deletions are tested as linker_utils_deltas_is_mergeable tests them. */
 static inline uint32_t linker_utils_deltas_merge(
     const struct linker_utils_delta *deltas, size_t deltas_len,
     const struct linker_utils_deletion *additional, size_t additional_len,
@@ -1023,9 +1026,10 @@ static inline uint32_t linker_utils_calls_shrinkable(
  * its calls.
  *
  * LINKER_UTILS_DIFFERENT_LENGTHS where `chosen_len` is not `calls_len`.
- * LINKER_UTILS_CALLS_NOT_SHRINKABLE as `linker_utils_calls_shrinkable`. It doesn't allocate. A
- * sweep over k calls with n deltas takes O(k (log n + log k + k / 1024)). There are usually fewer
- * than ten sweeps, and at most k + 1. */
+ * LINKER_UTILS_CALLS_NOT_SHRINKABLE as `linker_utils_calls_shrinkable`. It doesn't allocate,
+ * and takes 40 KiB of the stack. For k calls and n deltas a test of a call takes
+ * O(log n + log k + k / 1024). The first sweep and the last test all calls; the others test only
+ * runs of k / 1024 calls that a drop can concern, and take O(1024) more. */
 static inline uint32_t linker_utils_shrink_calls(
     const struct linker_utils_delta *deltas, size_t deltas_len,
     const struct linker_utils_call *calls, size_t calls_len, uint8_t *chosen, size_t chosen_len,

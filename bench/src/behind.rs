@@ -22,7 +22,14 @@ pub const BEHIND: Calls = Calls {
     next_modifier,
     relocation,
     read_uleb128,
+    read_u32,
+    u32_from_slice,
+    u64_from_slice,
     hi20_is_zero,
+    hi20_fits_clui,
+    rd_valid_for_clui,
+    distance_fits_jal,
+    clui_rel_info,
     highest: highest_relocation_with_bias,
     relocate: |machine, relocations, section| {
         original::Direct.relocate(machine, relocations, section)
@@ -333,6 +340,67 @@ unsafe extern "C" fn hi20_is_zero(value: u64) -> bool {
 }
 
 #[inline(never)]
+unsafe extern "C" fn hi20_fits_clui(value: u64) -> bool {
+    riscv64::RelaxationKind::hi20_fits_clui(value)
+}
+
+#[inline(never)]
+unsafe extern "C" fn rd_valid_for_clui(rd: u32) -> bool {
+    riscv64::RelaxationKind::rd_valid_for_clui(rd)
+}
+
+#[inline(never)]
+unsafe extern "C" fn distance_fits_jal(distance: i64) -> bool {
+    riscv64::distance_fits_jal(distance)
+}
+
+#[inline(never)]
+unsafe extern "C" fn clui_rel_info(row: *mut Row) {
+    let info = riscv64::RelaxationKind::clui_rel_info();
+    unsafe { row.cast::<RelocationKindInfo>().write(info) };
+}
+
+#[inline(never)]
+unsafe extern "C" fn u32_from_slice(bytes: *const u8, bytes_len: usize, value: *mut u32) -> u32 {
+    if bytes_len < 4 {
+        return TOO_SHORT;
+    }
+    let content = unsafe { slice::from_raw_parts(bytes, bytes_len) };
+    unsafe { *value = linker_utils::utils::u32_from_slice(content) };
+    OK
+}
+
+#[inline(never)]
+unsafe extern "C" fn u64_from_slice(bytes: *const u8, bytes_len: usize, value: *mut u64) -> u32 {
+    if bytes_len < 8 {
+        return TOO_SHORT;
+    }
+    let content = unsafe { slice::from_raw_parts(bytes, bytes_len) };
+    unsafe { *value = linker_utils::utils::u64_from_slice(content) };
+    OK
+}
+
+#[inline(never)]
+unsafe extern "C" fn read_u32(
+    bytes: *const u8,
+    bytes_len: usize,
+    value: *mut u32,
+    consumed: *mut usize,
+) -> u32 {
+    let mut content = unsafe { slice::from_raw_parts(bytes, bytes_len) };
+    match linker_utils::utils::read_u32(&mut content) {
+        Ok(number) => {
+            unsafe {
+                *value = number;
+                *consumed = bytes_len - content.len();
+            }
+            OK
+        }
+        Err(_) => TOO_SHORT,
+    }
+}
+
+#[inline(never)]
 unsafe extern "C" fn highest_relocation_with_bias(s: u64, pc: u64) -> u64 {
     loongarch64::highest_relocation_with_bias(s, pc)
 }
@@ -360,6 +428,11 @@ unsafe extern "C" fn read_uleb128(
 #[inline(never)]
 unsafe extern "C" fn input_to_output(deltas: &SectionRelaxDeltas, input_offset: u64) -> u64 {
     deltas.input_to_output_offset(input_offset)
+}
+
+#[inline(never)]
+unsafe extern "C" fn total_deleted(deltas: &SectionRelaxDeltas) -> u64 {
+    deltas.total_deleted()
 }
 
 #[inline(never)]
@@ -391,6 +464,11 @@ impl Deltas for Behind {
             unsafe { translate(&self.0, *query, &mut input) };
             added(sum, input)
         })
+    }
+
+    fn totals(&self, count: usize) -> u64 {
+        let total: unsafe extern "C" fn(&SectionRelaxDeltas) -> u64 = black_box(total_deleted);
+        (0..count).fold(0, |sum, _| added(sum, unsafe { total(&self.0) }))
     }
 
     fn walk(&self, queries: &[u64], outputs: &mut [u64]) {

@@ -1,7 +1,7 @@
 //! A stream of relocations whose instructions are rewritten: each is looked up, its rewrite chosen
 //! and applied, and its value computed and written; beside the same without a rewrite.
 
-use crate::measure::{Report, Side};
+use crate::measure::{Beside, Report, Side};
 use crate::table::{AARCH64, RISCV, X86_64};
 use erased_crate::architecture::Relaxation;
 use erased_crate::elf::{Architecture, InstructionRewrite, LinkFacts, Operands};
@@ -9,13 +9,95 @@ use sathunne::raw::*;
 
 const COUNT: usize = 20_000;
 
-/// Bytes of an instruction or a pair, with those around it.
-const STRIDE: usize = 16;
+/// Bytes of an instruction or a pair, with those around it: a window.
+pub const STRIDE: usize = 16;
 
-struct Site {
-    offset: u64,
-    r_type: u32,
+pub struct Site {
+    pub offset: u64,
+    pub r_type: u32,
     addend: i64,
+}
+
+impl Site {
+    pub fn operands(&self) -> sathunne::Operands {
+        of_c(&operands(self))
+    }
+
+    pub fn facts(&self) -> sathunne::LinkFacts {
+        let facts = facts(self);
+        sathunne::LinkFacts {
+            is_local: facts.is_local,
+            has_fixed_distance: facts.has_fixed_distance,
+            is_marked: facts.is_marked,
+            has_addresses: facts.has_addresses,
+            operands: self.operands(),
+            ..sathunne::LinkFacts::default()
+        }
+    }
+}
+
+/// A section of the same instructions again and again, and its relocations.
+pub struct Stream {
+    pub name: &'static str,
+    pub machine: u16,
+    pub section: Vec<u8>,
+    pub sites: Vec<Site>,
+}
+
+impl Stream {
+    pub fn all() -> [Stream; 3] {
+        STREAMS.map(|(name, machine, bytes, relocations, addend)| {
+            let mut section = vec![0; COUNT * STRIDE];
+            let mut sites = Vec::new();
+            for (at, part) in section.chunks_exact_mut(STRIDE).enumerate() {
+                part[..8].copy_from_slice(&bytes);
+                let sites_here = relocations.iter().map(|&(offset, r_type)| Site {
+                    offset: (at * STRIDE) as u64 + offset,
+                    r_type,
+                    addend,
+                });
+                sites.extend(sites_here);
+            }
+            Stream {
+                name,
+                machine,
+                section,
+                sites,
+            }
+        })
+    }
+
+    /// Each window after its rewrites and relocations, without the bytes that are deleted.
+    pub fn linked(&self) -> Vec<Vec<u8>> {
+        let architecture = sathunne::Architecture::from_machine(self.machine).expect("one of five");
+        let mut windows: Vec<Vec<u8>> = self
+            .section
+            .chunks_exact(STRIDE)
+            .map(<[u8]>::to_vec)
+            .collect();
+        let mut deleted = Vec::new();
+        for site in &self.sites {
+            let (facts, offset) = (site.facts(), site.offset);
+            let choice = sathunne::choose(architecture, site.r_type, &self.section, offset, &facts)
+                .expect("a choice");
+            let window = &mut windows[offset as usize / STRIDE];
+            let (mut within, mut of) = (offset % STRIDE as u64, site.operands());
+            let begin = within;
+            sathunne::apply(choice.rewrite, window, &mut within, &mut of.addend)
+                .expect("the rewrite applies");
+            of.place = of.place + within - begin;
+            let value = sathunne::value(architecture, choice.relocation, &of).expect("a value");
+            let field = &mut window[within as usize..];
+            sathunne::relocate(architecture, choice.relocation, value, field)
+                .expect("it is written");
+            let range = begin + choice.deleted.start..begin + choice.deleted.end;
+            deleted.push((offset as usize / STRIDE, range));
+        }
+        for (at, range) in deleted {
+            windows[at].drain(range.start as usize..range.end as usize);
+        }
+        windows
+    }
 }
 
 /// An architecture's instructions, with the offsets and types of their relocations.
@@ -157,21 +239,10 @@ fn by_crate(machine: u16, sites: &[Site], section: &mut [u8], chooses: bool) -> 
 pub fn choices(report: &mut Report) {
     report.heading(
         "Relocations with a rewrite chosen and applied",
-        "without a rewrite",
+        Beside::Task("without a rewrite"),
     );
-    for (name, machine, bytes, relocations, addend) in STREAMS {
-        let mut section = vec![0; COUNT * STRIDE];
-        let mut sites = Vec::new();
-        for (at, part) in section.chunks_exact_mut(STRIDE).enumerate() {
-            part[..8].copy_from_slice(&bytes);
-            let sites_here = relocations.iter().map(|&(offset, r_type)| Site {
-                offset: (at * STRIDE) as u64 + offset,
-                r_type,
-                addend,
-            });
-            sites.extend(sites_here);
-        }
-        let (section, sites) = (&section, &sites);
+    for stream in &Stream::all() {
+        let (machine, section, sites) = (stream.machine, &stream.section, &stream.sites);
         let side = |run: fn(u16, &[Site], &mut [u8], bool) -> bool, chooses: bool| {
             Some(Side::over(
                 section.clone(),
@@ -186,6 +257,6 @@ pub fn choices(report: &mut Report) {
             side(by_crate, true),
             side(by_crate, false),
         ];
-        report.line(name, sites.len(), false, sides);
+        report.line(stream.name, sites.len(), false, sides);
     }
 }

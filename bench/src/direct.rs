@@ -197,12 +197,24 @@ macro_rules! library {
                     })
                 }
 
-                fn words(&self, mut content: &[u8]) -> Option<u64> {
+                fn words(&self, mut content: &[u8]) -> u64 {
                     let mut sum = 0;
                     while let Ok(word) = library::utils::read_u32(&mut content) {
                         sum = added(sum, u64::from(word));
                     }
-                    Some(sum)
+                    sum
+                }
+
+                fn words_of_slices(&self, content: &[u8]) -> u64 {
+                    content.chunks_exact(4).fold(0, |sum, word| {
+                        added(sum, u64::from(library::utils::u32_from_slice(word)))
+                    })
+                }
+
+                fn longs_of_slices(&self, content: &[u8]) -> u64 {
+                    content.chunks_exact(8).fold(0, |sum, long| {
+                        added(sum, library::utils::u64_from_slice(long))
+                    })
                 }
 
                 fn strings(&self, mut content: &[u8]) -> Option<u64> {
@@ -213,9 +225,30 @@ macro_rules! library {
                     Some(sum)
                 }
 
-                fn hi20_is_zero(&self, values: &[u64]) -> u64 {
-                    let is_zero = library::riscv64::RelaxationKind::hi20_is_zero;
-                    values.iter().filter(|value| is_zero(**value)).count() as u64
+                fn passing(&self, test: Test, values: &[u64]) -> u64 {
+                    use library::riscv64::RelaxationKind as Kind;
+                    let values = values.iter();
+                    let passing = match test {
+                        Test::HighIsZero => values.filter(|it| Kind::hi20_is_zero(**it)).count(),
+                        Test::HighFitsClui => {
+                            values.filter(|it| Kind::hi20_fits_clui(**it)).count()
+                        }
+                        Test::RegisterFitsClui => {
+                            values.filter(|it| Kind::rd_valid_for_clui(**it as u32)).count()
+                        }
+                        Test::DistanceFitsJal => {
+                            let fits = library::riscv64::distance_fits_jal;
+                            values.filter(|it| fits(**it as i64)).count()
+                        }
+                    };
+                    passing as u64
+                }
+
+                fn clui_rows(&self, count: usize) -> u64 {
+                    for _ in 0..count {
+                        black_box(library::riscv64::RelaxationKind::clui_rel_info());
+                    }
+                    0
                 }
 
                 fn highest_relocation_with_bias(&self, values: &[u64]) -> u64 {
@@ -279,6 +312,10 @@ macro_rules! library {
                     queries.iter().fold(0, |sum, query| {
                         added(sum, self.output_to_input_offset(*query))
                     })
+                }
+
+                fn totals(&self, count: usize) -> u64 {
+                    (0..count).fold(0, |sum, _| added(sum, black_box(self).total_deleted()))
                 }
 
                 fn walk(&self, queries: &[u64], outputs: &mut [u64]) {

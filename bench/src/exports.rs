@@ -19,7 +19,14 @@ pub struct Calls {
     pub next_modifier: unsafe extern "C" fn(u16, u32, u8, *mut u32) -> u32,
     pub relocation: unsafe extern "C" fn(u16, u32, *mut Row) -> u32,
     pub read_uleb128: unsafe extern "C" fn(*const u8, usize, *mut u64, *mut usize) -> u32,
+    pub read_u32: unsafe extern "C" fn(*const u8, usize, *mut u32, *mut usize) -> u32,
+    pub u32_from_slice: unsafe extern "C" fn(*const u8, usize, *mut u32) -> u32,
+    pub u64_from_slice: unsafe extern "C" fn(*const u8, usize, *mut u64) -> u32,
     pub hi20_is_zero: unsafe extern "C" fn(u64) -> bool,
+    pub hi20_fits_clui: unsafe extern "C" fn(u64) -> bool,
+    pub rd_valid_for_clui: unsafe extern "C" fn(u32) -> bool,
+    pub distance_fits_jal: unsafe extern "C" fn(i64) -> bool,
+    pub clui_rel_info: unsafe extern "C" fn(*mut Row),
     pub highest: unsafe extern "C" fn(u64, u64) -> u64,
     pub relocate: fn(u16, &[Fixup], &mut [u8]) -> bool,
     pub relocate_all: for<'a> fn(u16, &'a [Fixup]) -> Option<RelocateAll<'a>>,
@@ -44,11 +51,23 @@ pub const EXPORTS: Calls = Calls {
         )
     },
     read_uleb128: linker_utils_read_uleb128_nonnull,
+    read_u32: linker_utils_read_u32_nonnull,
+    u32_from_slice: linker_utils_u32_from_slice_nonnull,
+    u64_from_slice: linker_utils_u64_from_slice_nonnull,
     hi20_is_zero: linker_utils_hi20_is_zero,
+    hi20_fits_clui: linker_utils_hi20_fits_clui,
+    rd_valid_for_clui: linker_utils_rd_valid_for_clui,
+    distance_fits_jal: linker_utils_distance_fits_jal,
+    // SAFETY: as of `relocation`
+    clui_rel_info: unsafe {
+        std::mem::transmute::<
+            unsafe extern "C" fn(*mut RelocationInfo),
+            unsafe extern "C" fn(*mut Row),
+        >(linker_utils_clui_rel_info)
+    },
     highest: linker_utils_highest_relocation_with_bias,
     relocate,
     relocate_all: |machine, list| {
-        let architecture = sathunne::Architecture::from_machine(machine)?;
         let entry = |fixup: &Fixup| sathunne::Relocation {
             offset: fixup.offset as u64,
             value: fixup.value,
@@ -56,7 +75,12 @@ pub const EXPORTS: Calls = Calls {
         };
         let entries: Vec<sathunne::Relocation> = list.iter().map(entry).collect();
         Some(Box::new(move |section| {
-            sathunne::relocate_all(architecture, section, &entries).is_ok()
+            let (at, len) = (section.as_mut_ptr(), section.len());
+            let (entries, count) = (entries.as_ptr(), entries.len());
+            let faulty = &mut 0;
+            unsafe {
+                linker_utils_relocate_all_nonnull(machine, at, len, entries, count, faulty) == 0
+            }
         }))
     },
     relocate_each: |machine, relocations, section| {
@@ -70,23 +94,22 @@ pub const EXPORTS: Calls = Calls {
     },
     deltas: |list| Box::new(created(&deletions_of(list))),
     new_side: |list| {
-        let list = deletions_of(list);
         let deltas = vec![Delta::default(); list.len()];
+        // the others' lists are made right before each round too, so that they are in the cache
         Side::over(
-            deltas,
-            |_| (),
-            move |deltas| create(&list, deltas),
-            |deltas| listed(deltas),
+            (Vec::new(), deltas),
+            move |state| state.0 = deletions_of(list),
+            |state| create(&state.0, &mut state.1),
+            |state| listed(&state.1),
         )
     },
     merge_side: |first, second| {
-        let (old, more) = (created(&deletions_of(first)), deletions_of(second));
-        let merged = vec![Delta::default(); old.len() + more.len()];
+        let merged = vec![Delta::default(); first.len() + second.len()];
         Side::over(
-            merged,
-            |_| (),
-            move |merged| merge(&old, &more, merged),
-            |merged| listed(merged),
+            ((Vec::new(), Vec::new()), merged),
+            move |state| state.0 = (created(&deletions_of(first)), deletions_of(second)),
+            |state| merge(&state.0.0, &state.0.1, &mut state.1),
+            |state| listed(&state.1),
         )
     },
     pack_side: |section, list, calls| {
@@ -97,16 +120,21 @@ pub const EXPORTS: Calls = Calls {
             .collect();
         let packed = vec![0; sathunne::packed_len(section, &deltas)];
         Some(Side::writes(packed, move |packed| {
-            assert!(
-                sathunne::pack(
-                    section,
-                    &deltas,
-                    &calls,
-                    sathunne::LinkRegister::OfJalr,
-                    packed
+            let status = unsafe {
+                linker_utils_pack_nonnull(
+                    section.as_ptr(),
+                    section.len(),
+                    deltas.as_ptr(),
+                    deltas.len(),
+                    calls.as_ptr(),
+                    calls.len(),
+                    sathunne::LinkRegister::OfJalr.number(),
+                    packed.as_mut_ptr(),
+                    packed.len(),
+                    &mut 0,
                 )
-                .is_ok()
-            );
+            };
+            assert_eq!(status, 0);
         }))
     },
 };
@@ -206,12 +234,59 @@ impl Library for Calls {
         })
     }
 
-    fn hi20_is_zero(&self, values: &[u64]) -> u64 {
-        let is_zero = black_box(self.hi20_is_zero);
-        values
-            .iter()
-            .filter(|value| unsafe { is_zero(**value) })
-            .count() as u64
+    fn passing(&self, test: Test, values: &[u64]) -> u64 {
+        fn count<T>(
+            passes: unsafe extern "C" fn(T) -> bool,
+            values: &[u64],
+            of: fn(u64) -> T,
+        ) -> u64 {
+            let passes = black_box(passes);
+            let values = values.iter();
+            values.filter(|it| unsafe { passes(of(**it)) }).count() as u64
+        }
+        match test {
+            Test::HighIsZero => count(self.hi20_is_zero, values, |it| it),
+            Test::HighFitsClui => count(self.hi20_fits_clui, values, |it| it),
+            Test::RegisterFitsClui => count(self.rd_valid_for_clui, values, |it| it as u32),
+            Test::DistanceFitsJal => count(self.distance_fits_jal, values, |it| it as i64),
+        }
+    }
+
+    fn clui_rows(&self, count: usize) -> u64 {
+        let clui_rel_info = black_box(self.clui_rel_info);
+        let mut row = Row([0; 128]);
+        for _ in 0..count {
+            unsafe { clui_rel_info(black_box(&mut row)) };
+        }
+        0
+    }
+
+    fn words_of_slices(&self, content: &[u8]) -> u64 {
+        let read = black_box(self.u32_from_slice);
+        let mut value = 0;
+        content.chunks_exact(4).fold(0, |sum, word| {
+            unsafe { read(word.as_ptr(), word.len(), &mut value) };
+            added(sum, u64::from(value))
+        })
+    }
+
+    fn longs_of_slices(&self, content: &[u8]) -> u64 {
+        let read = black_box(self.u64_from_slice);
+        let mut value = 0;
+        content.chunks_exact(8).fold(0, |sum, long| {
+            unsafe { read(long.as_ptr(), long.len(), &mut value) };
+            added(sum, value)
+        })
+    }
+
+    fn words(&self, mut content: &[u8]) -> u64 {
+        let read = black_box(self.read_u32);
+        let (mut value, mut consumed, mut sum) = (0, 0, 0);
+        while unsafe { read(content.as_ptr(), content.len(), &mut value, &mut consumed) } == 0 {
+            content = &content[consumed..];
+            sum = added(sum, u64::from(value));
+        }
+        sum
     }
 
     fn highest_relocation_with_bias(&self, values: &[u64]) -> u64 {
@@ -280,7 +355,10 @@ fn deletions_of(list: &[(u64, u32)]) -> Vec<Deletion> {
 }
 
 fn create(list: &[Deletion], deltas: &mut [Delta]) {
-    assert_eq!(sathunne::deltas_create(list, deltas), Ok(()));
+    let (given, count) = (list.as_ptr(), list.len());
+    let (at, len) = (deltas.as_mut_ptr(), deltas.len());
+    let status = unsafe { linker_utils_deltas_create_nonnull(given, count, at, len, &mut 0) };
+    assert_eq!(status, 0);
 }
 
 fn created(list: &[Deletion]) -> Vec<Delta> {
@@ -290,7 +368,12 @@ fn created(list: &[Deletion]) -> Vec<Delta> {
 }
 
 fn merge(old: &[Delta], more: &[Deletion], merged: &mut [Delta]) {
-    assert_eq!(sathunne::deltas_merge(old, more, merged), Ok(()));
+    let (given, count) = (more.as_ptr(), more.len());
+    let (at, len) = (merged.as_mut_ptr(), merged.len());
+    let (old, of_old) = (old.as_ptr(), old.len());
+    let status =
+        unsafe { linker_utils_deltas_merge_nonnull(old, of_old, given, count, at, len, &mut 0) };
+    assert_eq!(status, 0);
 }
 
 fn listed(deltas: &[Delta]) -> Vec<(u64, u64, u32)> {
@@ -301,6 +384,13 @@ fn listed(deltas: &[Delta]) -> Vec<(u64, u64, u32)> {
 }
 
 impl Deltas for Vec<Delta> {
+    fn totals(&self, count: usize) -> u64 {
+        let total: unsafe extern "C" fn(*const Delta, usize) -> u64 =
+            black_box(linker_utils_deltas_total_deleted_nonnull);
+        let (deltas, len) = (self.as_ptr(), self.len());
+        (0..count).fold(0, |sum, _| added(sum, unsafe { total(deltas, len) }))
+    }
+
     fn inputs(&self, queries: &[u64]) -> u64 {
         let translate: unsafe extern "C" fn(*const Delta, usize, u64) -> u64 =
             black_box(linker_utils_deltas_input_to_output_nonnull);
@@ -321,10 +411,18 @@ impl Deltas for Vec<Delta> {
     }
 
     fn walk(&self, queries: &[u64], outputs: &mut [u64]) {
-        assert_eq!(
-            sathunne::deltas_translate_all(self, queries, outputs),
-            Ok(())
-        );
+        let status = unsafe {
+            linker_utils_deltas_translate_all_nonnull(
+                self.as_ptr(),
+                self.len(),
+                queries.as_ptr(),
+                queries.len(),
+                outputs.as_mut_ptr(),
+                outputs.len(),
+                &mut 0,
+            )
+        };
+        assert_eq!(status, 0);
     }
 
     fn by_heads(&self) -> Option<Box<dyn Deltas>> {
@@ -378,5 +476,11 @@ impl Deltas for ByHeads {
         })
     }
 
-    fn walk(&self, _queries: &[u64], _outputs: &mut [u64]) {}
+    fn totals(&self, count: usize) -> u64 {
+        self.deltas.totals(count)
+    }
+
+    fn walk(&self, queries: &[u64], outputs: &mut [u64]) {
+        self.deltas.walk(queries, outputs);
+    }
 }

@@ -32,6 +32,15 @@ pub struct Fixup {
 /// Applies relocations to a section. Whether all succeed.
 pub type RelocateAll<'a> = Box<dyn Fn(&mut [u8]) -> bool + Sync + 'a>;
 
+/// Tests of a number, for RISC-V.
+#[derive(Clone, Copy)]
+pub enum Test {
+    HighIsZero,
+    HighFitsClui,
+    RegisterFitsClui,
+    DistanceFitsJal,
+}
+
 /// Bytes between instructions: a window has at most eight.
 pub const WINDOW: usize = 8;
 /// Bytes of a section, in which the rewritten instruction is at `SITE`.
@@ -45,7 +54,7 @@ pub fn added(sum: u64, number: u64) -> u64 {
 }
 
 /// The calls of a round, for each kind of call. Numbers are made of all that they return.
-pub trait Library {
+pub trait Library: Sync {
     fn write(&self, mix: Mix, values: &[Value], words: &mut [u8]);
     fn read(&self, mix: Mix, values: &[Value], words: &[u8]) -> u64;
     fn apply(&self, mix: Mix, rewrites: &[Rewrite], sections: &mut [u8]) -> u64;
@@ -54,7 +63,16 @@ pub trait Library {
     /// succeed.
     fn relocate(&self, machine: u16, relocations: &[Fixup], section: &mut [u8]) -> bool;
     fn uleb128(&self, content: &[u8], count: usize) -> u64;
-    fn hi20_is_zero(&self, values: &[u64]) -> u64;
+    /// How many of the values pass.
+    fn passing(&self, test: Test, values: &[u64]) -> u64;
+    /// The row at a `c.lui`, so many times.
+    fn clui_rows(&self, count: usize) -> u64;
+    /// The numbers of 4 and of 8 bytes, one after the other, as `u32_from_slice` and
+    /// `u64_from_slice` read them.
+    fn words_of_slices(&self, content: &[u8]) -> u64;
+    fn longs_of_slices(&self, content: &[u8]) -> u64;
+    /// By `read_u32`.
+    fn words(&self, content: &[u8]) -> u64;
     fn highest_relocation_with_bias(&self, values: &[u64]) -> u64;
     fn deltas(&self, list: &[(u64, u32)]) -> Box<dyn Deltas>;
     fn new_side<'a>(&self, list: &'a [(u64, u32)]) -> Side<'a>;
@@ -77,9 +95,6 @@ pub trait Library {
     fn modifiers(&self, _rewrites: &[Rewrite]) -> Option<u64> {
         None
     }
-    fn words(&self, _content: &[u8]) -> Option<u64> {
-        None
-    }
     fn strings(&self, _content: &[u8]) -> Option<u64> {
         None
     }
@@ -98,6 +113,8 @@ pub trait Library {
 pub trait Deltas: Sync {
     fn inputs(&self, queries: &[u64]) -> u64;
     fn outputs(&self, queries: &[u64]) -> u64;
+    /// How many bytes all delete, so many times.
+    fn totals(&self, count: usize) -> u64;
     /// By a cursor.
     fn walk(&self, queries: &[u64], outputs: &mut [u64]);
     /// The same deletions, searched by the heads of their blocks.

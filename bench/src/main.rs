@@ -1,20 +1,23 @@
-//! Measures the static library and the crate in `rust/`, and compares each with the original crate where
-//! it is built in. Before a line is timed all sides do the same, and have to give the same.
+//! Measures the static library and the crate in `rust/`, and compares each with the original crate
+//! where it is built in. Before a line is timed all sides do the same, and have to give the same.
 
 #[cfg(feature = "upstream")]
 mod behind;
 mod choices;
 mod direct;
 mod exports;
+mod further;
+mod growth;
 mod inputs;
 mod library;
 mod measure;
 mod relaxing;
 mod table;
+mod threads;
 
 use inputs::{Random, deletions, is_inside};
 use library::*;
-use measure::{Report, Side, Sides};
+use measure::{Beside, Report, Side, Sides};
 use sathunne::{Architecture, Ppc64Form, RelocationSize};
 use table::*;
 
@@ -42,12 +45,13 @@ fn each<'a>(side: impl Fn(&'static dyn Library) -> Option<Side<'a>>) -> Sides<'a
 fn main() {
     let args: Vec<String> = std::env::args().skip(1).collect();
     let is_quick = args.iter().any(|arg| arg == "--quick");
+    let checks = args.iter().any(|arg| arg == "--check");
     let picture = args.iter().find_map(|arg| arg.strip_prefix("--picture="));
     let wants = |part: &str| {
         let mut parts = args.iter().filter(|arg| !arg.starts_with("--")).peekable();
         parts.peek().is_none() || parts.any(|arg| arg == part)
     };
-    let parts: [(&str, fn(&mut Report)); 13] = [
+    let parts: [(&str, fn(&mut Report)); 15] = [
         ("forms", forms),
         ("rewrites", rewrites),
         ("choices", choices::choices),
@@ -60,32 +64,39 @@ fn main() {
         ("calls", calls),
         ("relaxing", relaxing::relaxing),
         ("packing", packing),
-        ("threads", threads),
+        ("further", further::further),
+        ("growth", growth::growth),
+        ("threads", threads::threads),
     ];
+    let is_known = |arg: &String| {
+        ["--quick", "--check"].contains(&arg.as_str())
+            || arg.starts_with("--picture=")
+            || parts.iter().any(|part| part.0 == arg)
+    };
+    assert!(args.iter().all(is_known), "an unknown part or option");
+    assert!(!(is_quick && checks), "--check takes the whole rounds");
     assert!(
-        args.iter()
-            .all(|arg| arg.starts_with("--") || parts.iter().any(|part| part.0 == arg))
+        !checks || cfg!(feature = "upstream"),
+        "--check compares with the original: LINKER_UTILS_UPSTREAM names its folder"
     );
     let mut report = if is_quick {
         Report::new(0.03, 9)
     } else {
-        Report::new(0.15, 30)
+        Report::new(0.1, 31)
     };
     for (name, part) in parts {
         if wants(name) {
             part(&mut report);
         }
     }
-    report.summary();
+    let failures = report.summary();
+    report.progress("the end");
     if let Some(path) = picture {
         std::fs::write(path, report.picture()).expect("the picture is written");
     }
-    if args.iter().any(|arg| arg == "--check") {
-        let failures = report.failures();
-        for line in &failures {
-            println!("above 1.00, beyond the noise: {line}");
-        }
-        std::process::exit(i32::from(!failures.is_empty()));
+    if checks {
+        eprintln!("{failures} lines fail");
+        std::process::exit(i32::from(failures > 0));
     }
 }
 
@@ -114,7 +125,7 @@ fn forms(report: &mut Report) {
         };
         (0..CALLS).map(one).collect()
     };
-    report.heading("Writes of a value", "original");
+    report.heading("Writes of a value", Beside::Original);
     let mut line = |random: &mut Random, name: &str, mix: Mix, values: &[Value]| {
         let words = random.bytes(WINDOW * CALLS);
         let side = |library: &'static dyn Library| {
@@ -134,7 +145,7 @@ fn forms(report: &mut Report) {
         line(random, &name, Mix::All(*machine), &values);
     }
 
-    report.heading("Reads of a value", "original");
+    report.heading("Reads of a value", Beside::Original);
     let mut line = |random: &mut Random, name: &str, mix: Mix, values: &[Value], reads: Reads| {
         let words = &random.bytes(WINDOW * CALLS);
         let side = |library: &'static dyn Library| {
@@ -186,7 +197,7 @@ fn section_of(random: &mut Random, rewrite: &Rewrite) -> Vec<u8> {
 fn rewrites(report: &mut Report) {
     const COUNT: usize = 512;
     let random = &mut Random::new(4);
-    report.heading("Rewrites", "original");
+    report.heading("Rewrites", Beside::Original);
     let mut line = |random: &mut Random, name: &str, mix: Mix, list: &[Rewrite]| {
         let fresh: Vec<u8> = list
             .iter()
@@ -253,7 +264,10 @@ fn architecture(machine: u16) -> Architecture {
 
 fn rows(report: &mut Report) {
     let random = &mut Random::new(6);
-    report.heading("Rows of relocations, by ELF types at random", "original");
+    report.heading(
+        "Rows of relocations, by ELF types at random",
+        Beside::Original,
+    );
     let mut line = |name: &str, machine: u16, types: &[u32]| {
         let side = |library: &'static dyn Library| {
             Some(Side::number(move || library.rows(machine, types)))
@@ -263,7 +277,13 @@ fn rows(report: &mut Report) {
     for machine in MACHINES {
         let is_other = |r_type: u32| machine == LOONGARCH64 && OTHER_TYPES.contains(&r_type);
         let has_row = |library: &&dyn Library, r_type| library.row(machine, r_type).is_some();
-        let count = |r_type| LIBRARIES.iter().flatten().filter(|it| has_row(it, r_type)).count();
+        let count = |r_type| {
+            LIBRARIES
+                .iter()
+                .flatten()
+                .filter(|it| has_row(it, r_type))
+                .count()
+        };
         let types = 0..1 << 11;
         let all = types.clone().map(count).max();
         let known: Vec<u32> = types
@@ -334,7 +354,10 @@ fn stream(
 
 fn streams(report: &mut Report) {
     let random = &mut Random::new(12);
-    report.heading("Relocations of 4 MiB, one after the other", "original");
+    report.heading(
+        "Relocations of 4 MiB, one after the other",
+        Beside::Original,
+    );
     for mix in MIXES {
         let machine = mix.0;
         let (relocations, section, is_same) = stream(random, mix);
@@ -375,70 +398,6 @@ fn streams(report: &mut Report) {
     }
 }
 
-/// What takes less time with threads: relocations of sections, each by one thread, and queries of one
-/// list of deletions, which all threads read.
-fn threads(_: &mut Report) {
-    const SECTIONS: usize = 16;
-    const QUERIES: usize = 1 << 20;
-    let random = &mut Random::new(21);
-    let (relocations, section, _) = stream(random, MIXES[0]);
-    let (list, len) = deletions(random, 1 << 16);
-    let queries: Vec<u64> = (0..QUERIES).map(|_| random.below(len.into())).collect();
-    println!("\n### Threads\n");
-    println!("| | threads | exports, ns | times as fast | erased, ns | times as fast |");
-    println!("|---|--:|--:|--:|--:|--:|");
-    let sides = [LIBRARIES[0], LIBRARIES[2]].map(|side| side.expect("ours"));
-    let ours = sides.map(|library| {
-        (
-            library.relocate_all(AARCH64, &relocations),
-            library.deltas(&list),
-        )
-    });
-    let mut first = [[0.0; 2]; 2];
-    for count in [1, 2, 4] {
-        let mut relocated = format!("| relocations of {SECTIONS} sections | {count} |");
-        let mut translated = format!("| translations, one list | {count} |");
-        for (which, (relocate_all, deltas)) in ours.iter().enumerate() {
-            let mut sections = vec![section.clone(); SECTIONS];
-            let of_sections = median_of_rounds(|| {
-                std::thread::scope(|scope| {
-                    for part in sections.chunks_mut(SECTIONS / count) {
-                        let run = relocate_all.as_ref().expect("relocate_all");
-                        scope.spawn(move || assert!(part.iter_mut().all(|section| run(section))));
-                    }
-                });
-            }) / (SECTIONS * relocations.len()) as f64;
-            let of_queries = median_of_rounds(|| {
-                std::thread::scope(|scope| {
-                    for part in queries.chunks(QUERIES / count) {
-                        scope.spawn(move || std::hint::black_box(deltas.inputs(part)));
-                    }
-                });
-            }) / QUERIES as f64;
-            if count == 1 {
-                first[which] = [of_sections, of_queries];
-            }
-            let [alone, alone_translated] = first[which];
-            relocated += &format!(" {of_sections:.2} | {:.2} |", alone / of_sections);
-            translated += &format!(" {of_queries:.2} | {:.2} |", alone_translated / of_queries);
-        }
-        println!("{relocated}\n{translated}");
-    }
-}
-
-/// The median of 15 rounds, in nanoseconds.
-fn median_of_rounds(mut round: impl FnMut()) -> f64 {
-    let mut times: Vec<f64> = (0..15)
-        .map(|_| {
-            let begin = std::time::Instant::now();
-            round();
-            begin.elapsed().as_secs_f64() * 1e9
-        })
-        .collect();
-    times.sort_by(f64::total_cmp);
-    times[times.len() / 2]
-}
-
 /// Clears the field of a relocation's form, as assemblers leave it: some forms only OR their bits.
 fn clear_field(machine: u16, fixup: &Fixup, section: &mut [u8]) {
     let info = sathunne::relocation(architecture(machine), fixup.r_type).expect("a row");
@@ -462,7 +421,7 @@ fn clear_field(machine: u16, fixup: &Fixup, section: &mut [u8]) {
 
 fn numbers(report: &mut Report) {
     let random = &mut Random::new(8);
-    report.heading("ULEB128 and other numbers", "original");
+    report.heading("ULEB128 and other numbers", Beside::Original);
     for (name, bits) in [
         ("below 128", 7),
         ("below 2^14", 14),
@@ -487,8 +446,23 @@ fn numbers(report: &mut Report) {
     let values: Vec<u64> = (0..CALLS)
         .map(|_| random.word() >> random.below(64))
         .collect();
-    let side = |library: &'static dyn Library| Some(Side::number(|| library.hi20_is_zero(&values)));
-    report.line("RISC-V hi20_is_zero", CALLS, true, each(side));
+    // the original says of a value that it takes for negative that it doesn't fit
+    let small: Vec<u64> = values.iter().map(|value| value >> 33).collect();
+    let registers: Vec<u64> = (0..CALLS).map(|_| random.below(32)).collect();
+    let tests: [(&str, Test, &[u64]); 4] = [
+        ("hi20_is_zero", Test::HighIsZero, &values),
+        ("hi20_fits_clui", Test::HighFitsClui, &small),
+        ("rd_valid_for_clui", Test::RegisterFitsClui, &registers),
+        ("distance_fits_jal", Test::DistanceFitsJal, &values),
+    ];
+    for (name, test, values) in tests {
+        let side = |library: &'static dyn Library| {
+            Some(Side::number(move || library.passing(test, values)))
+        };
+        report.line(&format!("RISC-V {name}"), CALLS, true, each(side));
+    }
+    let side = |library: &'static dyn Library| Some(Side::number(|| library.clui_rows(CALLS)));
+    report.line("RISC-V clui_rel_info", CALLS, true, each(side));
     let side = |library: &'static dyn Library| {
         Some(Side::number(|| {
             library.highest_relocation_with_bias(&values)
@@ -501,30 +475,34 @@ fn numbers(report: &mut Report) {
         each(side),
     );
 
-    let words = random.bytes(4 * CALLS);
+    let bytes = random.bytes(8 * CALLS);
+    type Read = fn(&'static dyn Library, &[u8]) -> u64;
+    let readers: [(&str, &[u8], Read); 3] = [
+        ("u32_from_slice", &bytes[4 * CALLS..], |library, content| {
+            library.words_of_slices(content)
+        }),
+        ("u64_from_slice", &bytes, |library, content| {
+            library.longs_of_slices(content)
+        }),
+        ("read_u32", &bytes[4 * CALLS..], |library, content| {
+            library.words(content)
+        }),
+    ];
+    for (name, content, read) in readers {
+        let side =
+            |library: &'static dyn Library| Some(Side::number(move || read(library, content)));
+        report.line(name, CALLS, true, each(side));
+    }
     let mut texts = Vec::new();
     for _ in 0..CALLS {
         texts.extend((0..random.below(24)).map(|_| b'a' + random.below(26) as u8));
         texts.push(0);
     }
-    type Read = fn(&'static dyn Library, &[u8]) -> Option<u64>;
-    let readers: [(&str, &[u8], Read); 2] = [
-        ("read_u32", &words, |library, content| {
-            library.words(content)
-        }),
-        ("read_string", &texts, |library, content| {
-            library.strings(content)
-        }),
-    ];
-    for (name, content, read) in readers {
-        let side = |library: &'static dyn Library| {
-            read(library, content)?;
-            Some(Side::number(move || {
-                read(library, content).expect("a reader")
-            }))
-        };
-        report.line(name, CALLS, true, each(side));
-    }
+    let side = |library: &'static dyn Library| {
+        library.strings(&texts)?;
+        Some(Side::number(|| library.strings(&texts).expect("a reader")))
+    };
+    report.line("read_string", CALLS, true, each(side));
 }
 
 // ---- deletions
@@ -554,7 +532,7 @@ fn translated<'a>(
 
 fn translations(report: &mut Report) {
     let random = &mut Random::new(9);
-    report.heading("Translations of an offset", "original");
+    report.heading("Translations of an offset", Beside::Original);
     for count in [10, 1_000, 100_000, 10_000_000] {
         let (list, len) = deletions(random, count);
         let deltas = LIBRARIES.map(|library| library.map(|library| library.deltas(&list)));
@@ -577,6 +555,13 @@ fn translations(report: &mut Report) {
                 outputs,
             ),
         ];
+        if count == 1_000 {
+            let sides = deltas.each_ref().map(|deltas| {
+                let deltas = deltas.as_deref()?;
+                Some(Side::number(|| deltas.totals(CALLS)))
+            });
+            report.line("total deleted", CALLS, true, sides);
+        }
         for (direction, translate, random_queries) in directions {
             let mut ascending = random_queries.clone();
             ascending.sort_unstable();
@@ -602,7 +587,7 @@ fn translations(report: &mut Report) {
 
 fn cursors(report: &mut Report) {
     let random = &mut Random::new(10);
-    report.heading("The cursor, a query", "original");
+    report.heading("The cursor, a query", Beside::Original);
     for count in [10, 1_000, 100_000, 1_000_000] {
         let (list, len) = deletions(random, count);
         let mut queries = outside(random, &list, len, 2 * count);
@@ -625,7 +610,7 @@ fn cursors(report: &mut Report) {
 
 fn lists(report: &mut Report) {
     let random = &mut Random::new(11);
-    report.heading("New lists and merges, a deletion", "original");
+    report.heading("New lists and merges, a deletion", Beside::Original);
     for count in [10, 1_000, 100_000, 1_000_000] {
         let (list, _) = deletions(random, count);
         report.line(
@@ -668,8 +653,11 @@ fn lists(report: &mut Report) {
 
 /// The original tests no merge, so that only ours are measured.
 fn merge_tests(report: &mut Report, random: &mut Random) {
-    const COUNT: usize = 50_000;
-    report.heading("Tests of merges without memory, a deletion", "original");
+    const COUNT: usize = 20_000;
+    report.heading(
+        "Tests of merges by `linker_utils_deltas_is_mergeable`, a deletion",
+        Beside::Nothing,
+    );
     let (list, _) = deletions(random, COUNT);
     let falling = list.iter().rev().copied().collect();
     let fourth = |first| list.iter().copied().skip(first).step_by(4);
@@ -702,7 +690,7 @@ fn merge_tests(report: &mut Report, random: &mut Random) {
 
 fn packing(report: &mut Report) {
     const LEN: usize = 64 << 20;
-    report.heading("Packing of 64 MiB", "one memcpy");
+    report.heading("Packing of 64 MiB", Beside::Other("one memcpy"));
     let mut section = Random::new(13).bytes(LEN);
     for step in [1024, 64] {
         // `call`, of which the second instruction is deleted
@@ -727,8 +715,10 @@ fn packing(report: &mut Report) {
         let [exports, _, erased, _] = each(|library| library.pack_side(&section, &list, &[]));
         let name = format!("a deletion each {step} bytes, a KiB of the section");
         report.line(&name, LEN >> 10, false, [exports, copy(), erased, copy()]);
-        let [exports, _, erased, _] = each(|library| library.pack_side(&section, &list, &calls));
-        let name = format!("a call and a deletion each {step} bytes, a call");
+        let (list, calls) = (&list[..list.len() / 4], &calls[..calls.len() / 4]);
+        let quarter = &section[..LEN / 4];
+        let [exports, _, erased, _] = each(|library| library.pack_side(quarter, list, calls));
+        let name = format!("16 MiB, a call and a deletion each {step} bytes, a call");
         report.line(&name, calls.len(), true, [exports, None, erased, None]);
     }
 }
@@ -736,14 +726,18 @@ fn packing(report: &mut Report) {
 /// The original crate chooses no calls, so that only ours are measured.
 fn calls(report: &mut Report) {
     let mut random = Random::new(12);
-    report.heading("The choice of calls, a call", "original");
+    report.heading(
+        "The choice of calls by `linker_utils_shrink_calls`, a call",
+        Beside::Nothing,
+    );
     for (count, gap, deleted) in [
+        (100_000, 1024, 0),
         (100_000, 64, 0),
-        (1_000_000, 1024, 0),
+        // fewer are all in reach of each other
+        (200_000, 8, 0),
+        (100_000, 1024, 10_000),
+        (100_000, 64, 10_000),
         (1_000_000, 64, 0),
-        (1_000_000, 8, 0),
-        (1_000_000, 1024, 100_000),
-        (1_000_000, 64, 100_000),
     ] {
         let calls = calls_apart(&mut random, count, gap);
         let between = count as u64 / (deleted as u64).max(1) * gap;
@@ -762,8 +756,8 @@ fn calls(report: &mut Report) {
     }
 }
 
-/// Calls of sites so far apart: of the targets, each a site, 60 % are within 200,000 bytes, 30 % from
-/// 1,000,000 to 2,200,000 bytes away, and 10 % anywhere.
+/// Calls of sites so far apart: of the targets, each a site, 60 % are within 200,000 bytes, 30 %
+/// from 1,000,000 to 2,200,000 bytes away, and 10 % anywhere.
 fn calls_apart(random: &mut Random, count: usize, gap: u64) -> Vec<sathunne::Call> {
     let end = count as u64 * gap;
     let sites = (0..count as u64).map(|k| k * gap);

@@ -47,10 +47,37 @@ impl<'a> Side<'a> {
     }
 }
 
+/// What the lines of a table are compared with.
+#[derive(Clone, Copy, PartialEq)]
+pub enum Beside {
+    Nothing,
+    /// The original crate. Only such lines can fail.
+    Original,
+    /// Another way to the same result, by its name.
+    Other(&'static str),
+    /// Another task, by its name: the ratio says how much more this one takes.
+    Task(&'static str),
+}
+
+impl Beside {
+    fn name(self) -> &'static str {
+        match self {
+            Beside::Nothing => "",
+            Beside::Original => "the original",
+            Beside::Other(name) | Beside::Task(name) => name,
+        }
+    }
+
+    /// Whether both sides of a line do the same.
+    fn is_same_task(self) -> bool {
+        matches!(self, Beside::Original | Beside::Other(_))
+    }
+}
+
 /// The ratios of the lines of one table: of the exports, and of the erased crate.
 struct Group {
     title: String,
-    beside: String,
+    beside: Beside,
     lines: [Vec<Line>; 2],
 }
 
@@ -58,22 +85,29 @@ struct Line {
     name: String,
     /// Of the medians.
     ratio: f64,
-    /// Of the rounds: above a tenth of their ratios.
-    low: f64,
+    /// Of the rounds: above a tenth of their ratios, and above nine tenths.
+    spread: (f64, f64),
 }
 
 impl Line {
-    /// Whether ours takes more time, beyond the noise.
+    /// Whether ours takes more time than the original, beyond the noise.
     fn fails(&self) -> bool {
-        self.ratio > 1.03 || self.ratio > 1.00 && self.low > 1.00
+        self.ratio > 1.03 || self.ratio > 1.00 && self.spread.0 > 1.00
     }
 }
 
-/// Prints tables in Markdown, and keeps the ratios.
+/// Sorts numbers, and returns that above so many tenths of them.
+pub fn quantile(numbers: &mut [f64], tenths: usize) -> f64 {
+    numbers.sort_by(f64::total_cmp);
+    numbers[numbers.len() * tenths / 10]
+}
+
+/// Prints tables in Markdown, and keeps the ratios. Says on standard error which one it measures.
 pub struct Report {
     budget: f64,
     rounds: usize,
     groups: Vec<Group>,
+    begin: Instant,
 }
 
 impl Report {
@@ -83,18 +117,34 @@ impl Report {
             budget,
             rounds,
             groups: Vec::new(),
+            begin: Instant::now(),
         }
     }
 
-    /// Begins a table, whose lines are compared with the original crate or something else.
-    pub fn heading(&mut self, title: &str, beside: &str) {
+    /// How many rounds a line has at least.
+    pub fn rounds(&self) -> usize {
+        self.rounds
+    }
+
+    /// Says what is done next, and how long all before it took.
+    pub fn progress(&self, next: &str) {
+        eprintln!("{:>4} s: {next}", self.begin.elapsed().as_secs());
+    }
+
+    /// Begins a table.
+    pub fn heading(&mut self, title: &str, beside: Beside) {
+        self.progress(title);
         println!("\n### {title}\n");
-        let columns = |ours: &str| format!("{ours}, ns | {beside}, ns | ratio | spread |");
-        println!("| | {} {}", columns("exports"), columns("erased"));
-        println!("|---|--:|--:|--:|--:|--:|--:|--:|--:|");
-        let (title, beside) = (title.to_string(), beside.to_string());
+        if beside == Beside::Nothing {
+            println!("| | exports, ns | erased, ns |\n|---|--:|--:|");
+        } else {
+            let other = beside.name().trim_start_matches("the ");
+            let columns = |ours: &str| format!("{ours}, ns | {other}, ns | ratio | spread |");
+            println!("| | {} {}", columns("exports"), columns("erased"));
+            println!("|---|--:|--:|--:|--:|--:|--:|--:|--:|");
+        }
         self.groups.push(Group {
-            title,
+            title: title.to_string(),
             beside,
             lines: Default::default(),
         });
@@ -122,90 +172,95 @@ impl Report {
                 rounds[at].extend(time.map(|time| time * 1e9 / calls as f64));
             }
         }
+        let group = self.groups.last_mut().expect("a heading");
+        let digits = |time: f64| if time < 1e4 { 2 } else { 0 };
+        let number = |time: f64| format!(" {time:.*}", digits(time));
+        let text = |time: Option<f64>| time.map_or(String::new(), number);
         print!("| {name} |");
         for (pair, which) in rounds.chunks_mut(2).zip(0..) {
             let each_round = pair[0].iter().zip(&pair[1]);
             let mut ratios: Vec<f64> = each_round.map(|(ours, theirs)| ours / theirs).collect();
-            for times in pair.iter_mut().chain([&mut ratios]) {
-                times.sort_by(f64::total_cmp);
+            let medians: Vec<Option<f64>> = pair
+                .iter_mut()
+                .map(|times| (!times.is_empty()).then(|| quantile(times, 5)))
+                .collect();
+            print!("{} |", text(medians[0]));
+            if group.beside == Beside::Nothing {
+                continue;
             }
-            let median = |side: usize| pair[side].get(pair[side].len() / 2).copied();
-            let text = |time: Option<f64>| time.map_or(String::new(), |time| format!("{time:.2}"));
-            let (Some(ours), Some(theirs)) = (median(0), median(1)) else {
-                print!(" {} | {} | | |", text(median(0)), text(median(1)));
+            let (Some(ours), Some(theirs)) = (medians[0], medians[1]) else {
+                print!("{} | | |", text(medians[1]));
                 continue;
             };
             let ratio = ours / theirs;
-            let (low, high) = (ratios[ratios.len() / 10], ratios[ratios.len() * 9 / 10]);
-            print!(" {ours:.2} | {theirs:.2} | {ratio:.2} | {low:.2} to {high:.2} |");
-            let line = Line {
-                name: name.to_string(),
+            let spread = (quantile(&mut ratios, 1), quantile(&mut ratios, 9));
+            let (low, high) = spread;
+            print!("{} | {ratio:.2} | {low:.2} to {high:.2} |", number(theirs));
+            let name = name.to_string();
+            group.lines[which].push(Line {
+                name,
                 ratio,
-                low,
-            };
-            self.groups.last_mut().expect("a heading").lines[which].push(line);
+                spread,
+            });
         }
         println!();
     }
 
-    /// How many lines compared with the original have a ratio of medians above 1.00, 1.05 and 1.25.
-    pub fn summary(&self) {
-        for (which, of) in ["exports", "the erased crate"].iter().enumerate() {
-            let groups = self
-                .groups
-                .iter()
-                .filter(|group| group.beside == "original");
-            let mut lines: Vec<(f64, String)> = groups
-                .flat_map(|group| group.lines[which].iter().map(move |line| (group, line)))
-                .map(|(group, line)| (line.ratio, format!("{}: {}", group.title, line.name)))
-                .collect();
-            if lines.is_empty() {
-                continue;
-            }
-            lines.sort_by(|a, b| b.0.total_cmp(&a.0));
-            let above = |bound: f64| lines.iter().filter(|line| line.0 > bound).count();
-            let (one, some, much) = (above(1.005), above(1.05), above(1.25));
-            print!(
-                "\nOf {} lines of {of}, by the ratio of the medians: ",
-                lines.len()
-            );
-            println!("{one} above 1.00, {some} above 1.05, {much} above 1.25.\n");
-            for (ratio, name) in &lines[..one] {
-                println!("- {ratio:.2} {name}");
+    /// Prints each line that takes more time than another way to the same result, and which of those
+    /// beside the original fail. Returns how many fail.
+    pub fn summary(&self) -> usize {
+        let mut ways: Vec<Beside> = self.groups.iter().map(|group| group.beside).collect();
+        ways.retain(|beside| beside.is_same_task());
+        ways.sort_by_key(|beside| (*beside != Beside::Original, beside.name()));
+        ways.dedup();
+        let mut failures = 0;
+        for beside in ways {
+            for (which, of) in ["exports", "the erased crate"].iter().enumerate() {
+                let groups = self.groups.iter().filter(|group| group.beside == beside);
+                let mut lines: Vec<(&str, &Line)> = groups
+                    .flat_map(|group| group.lines[which].iter().map(|it| (&*group.title, it)))
+                    .collect();
+                if lines.is_empty() {
+                    continue;
+                }
+                lines.sort_by(|a, b| b.1.ratio.total_cmp(&a.1.ratio));
+                let above = |bound: f64| lines.iter().filter(|it| it.1.ratio > bound).count();
+                let (one, some, much) = (above(1.0), above(1.05), above(1.25));
+                let fails = |line: &Line| beside == Beside::Original && line.fails();
+                let failing = lines.iter().filter(|it| fails(it.1)).count();
+                println!(
+                    "\nOf {} lines of {of} beside {}, by the ratio of the medians: {one} above \
+                     1.00, {some} above 1.05, {much} above 1.25.{}\n",
+                    lines.len(),
+                    beside.name(),
+                    match beside {
+                        Beside::Original => format!(" {failing} fail."),
+                        _ => String::new(),
+                    }
+                );
+                for (title, line) in &lines[..one] {
+                    let ((low, high), name) = (line.spread, &line.name);
+                    let mark = if fails(line) { ", fails" } else { "" };
+                    let ratio = line.ratio;
+                    println!("- {ratio:.3} ({low:.2} to {high:.2}{mark}) {title}: {name}");
+                }
+                failures += failing;
             }
         }
+        failures
     }
 
-    /// The lines compared with the original that take more time, beyond the noise.
-    pub fn failures(&self) -> Vec<String> {
-        let groups = self
-            .groups
-            .iter()
-            .filter(|group| group.beside == "original");
-        let lines = groups.flat_map(|group| {
-            let sides = ["exports", "the erased crate"]
-                .into_iter()
-                .zip(&group.lines);
-            sides.flat_map(move |(of, lines)| lines.iter().map(move |line| (group, of, line)))
-        });
-        let failing = lines.filter(|(_, _, line)| line.fails());
-        let text = |(group, of, line): (&Group, &str, &Line)| {
-            let (ratio, low) = (line.ratio, line.low);
-            format!(
-                "{ratio:.2} (from {low:.2}) {of}, {}: {}",
-                group.title, line.name
-            )
-        };
-        failing.map(text).collect()
-    }
-
-    /// A picture of the tables by the ratios of the medians: their mean as a bar to the left or right
-    /// of 1.00, and a line from the least to the greatest, on a logarithmic scale. Its colours are for
-    /// light and dark pages.
+    /// A picture of the tables of two ways to the same result, by the ratios of the medians: their
+    /// mean as a bar to the left or right of 1.00, and a line from the least to the greatest, on a
+    /// logarithmic scale. Its colours are for light and dark pages.
     pub fn picture(&self) -> String {
         const COLOURS: [&str; 2] = ["#3b82c4", "#c9822b"];
+        let is_drawn = |group: &&Group| {
+            group.beside.is_same_task() && group.lines.iter().any(|lines| !lines.is_empty())
+        };
+        let groups: Vec<&Group> = self.groups.iter().filter(is_drawn).collect();
         let place = |ratio: f64| 640.0 + 100.0 * ratio.clamp(0.125, 8.0).log2();
-        let bottom = 44 + 40 * self.groups.len();
+        let bottom = 44 + 40 * groups.len();
         let mut svg = format!(
             r##"<svg xmlns="http://www.w3.org/2000/svg" viewBox="0 0 990 {}"
   font-family="sans-serif" font-size="13" fill="#768390">
@@ -227,10 +282,10 @@ impl Report {
             svg += &format!("stroke-width=\"{width}\"/>\n");
             svg += &format!("<text x=\"{x}\" y=\"{y}\" text-anchor=\"middle\">{tick}</text>\n");
         }
-        for (group, top) in self.groups.iter().zip((44..).step_by(40)) {
-            let beside = match group.beside.as_str() {
-                "original" => String::new(),
-                other => format!(", compared with {other}"),
+        for (group, top) in groups.into_iter().zip((44..).step_by(40)) {
+            let beside = match group.beside {
+                Beside::Original => String::new(),
+                other => format!(", compared with {}", other.name()),
             };
             svg += &format!(
                 "<text x=\"4\" y=\"{}\">{}{beside}</text>\n",

@@ -2,7 +2,7 @@
 
 use crate::calls_apart;
 use crate::inputs::Random;
-use crate::measure::{Report, Side};
+use crate::measure::{Beside, Report, Side};
 use erased_crate::runs::relaxation as erased;
 use erased_crate::runs::shapes::riscv64::CALL;
 use sathunne::{Item, Relaxed, ShapesName, named_shapes};
@@ -88,9 +88,12 @@ impl Run {
 
 /// The original crate relaxes no runs. The exports also copy the items and test them.
 pub fn relaxing(report: &mut Report) {
-    const COUNT: usize = 1_000_000;
+    const COUNT: usize = 200_000;
     let mut random = Random::new(14);
-    report.heading("Runs relaxed, a call", "original");
+    report.heading(
+        "Runs relaxed by `linker_utils_relax`, a call",
+        Beside::Nothing,
+    );
     for gap in [64, 32] {
         let mut run = Run::new();
         for (k, call) in (0..).zip(calls_apart(&mut random, COUNT, gap)) {

@@ -14,6 +14,11 @@ fn main() {
     for library in [
         "linker_base",
         "linker_elf",
+        "linker_aarch64",
+        "linker_riscv64",
+        "linker_loongarch64",
+        "linker_ppc64",
+        "linker_x86_64",
         "linker_relax",
         "linker_utils",
         "linker_runs",

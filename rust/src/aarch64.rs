@@ -1,4 +1,4 @@
-// Made by tools/erase of crates/linker_utils/src/aarch64.rt.
+// Made by tools/erase of crates/linker_aarch64/src/lib.rt.
 //! AArch64: instruction forms, relaxation rewrites, and the moves that load a number of 64 bits.
 //!
 #![doc = include_str!("../doc/aarch64.md")]

@@ -57,14 +57,13 @@ pub mod recognise {
     pub use crate::linker_recognise::{aarch64, architecture, loongarch64, ppc64, riscv64, x86_64};
 }
 
-pub mod aarch64;
 pub mod architecture;
 pub mod elf;
+pub mod relaxation;
+
+pub mod aarch64;
+pub use crate::linker_base::{bit_misc, utils};
 pub mod loongarch64;
 pub mod ppc64;
-pub mod relaxation;
-mod rewrite;
 pub mod riscv64;
 pub mod x86_64;
-
-pub use crate::linker_base::{bit_misc, utils};

@@ -3,4 +3,5 @@
 
 pub mod bit_misc;
 pub mod relaxation;
+pub mod rewrite;
 pub mod utils;

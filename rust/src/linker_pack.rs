@@ -7,5 +7,3 @@ mod copying;
 mod loongarch64;
 pub mod packing;
 mod riscv64;
-#[cfg(test)]
-mod tests;

@@ -5,5 +5,3 @@
 pub mod fields;
 pub mod reading;
 pub mod solving;
-#[cfg(test)]
-mod tests;

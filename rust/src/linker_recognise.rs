@@ -10,8 +10,6 @@ pub mod fields;
 pub mod loongarch64;
 pub mod ppc64;
 pub mod riscv64;
-#[cfg(test)]
-mod tests;
 pub mod x86_64;
 
 pub use candidates::CANDIDATES;

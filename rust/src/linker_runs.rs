@@ -4,5 +4,3 @@
 pub mod items;
 pub mod loongarch64;
 pub mod riscv64;
-#[cfg(test)]
-mod tests;

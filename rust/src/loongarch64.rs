@@ -1,4 +1,4 @@
-// Made by tools/erase of crates/linker_utils/src/loongarch64.rt.
+// Made by tools/erase of crates/linker_loongarch64/src/lib.rt.
 //! LoongArch: instruction forms, relaxation rewrites, what relocations mean, and addresses made by
 //! five instructions.
 //!

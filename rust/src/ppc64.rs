@@ -1,4 +1,4 @@
-// Made by tools/erase of crates/linker_utils/src/ppc64.rt.
+// Made by tools/erase of crates/linker_ppc64/src/lib.rt.
 //! PowerPC64: instruction forms, what relocations mean, rewrites and their choice, and addresses in
 //! two halves.
 //!

@@ -9,7 +9,7 @@
 //! the contract of each has the laws of one architecture. They are in `specs/`, over one scheme
 //! (`specs/Schemes`).
 
-use crate::elf::{Operands, RelocationKindInfo};
+use crate::linker_elf::elf::{Operands, RelocationKindInfo};
 
 /// Computes the value of a relocation and writes it. Returns `true` if it has one and `write`
 /// accepts it. Then the relocation is applied, as the laws require. Otherwise nothing is written.

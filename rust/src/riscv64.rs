@@ -1,4 +1,4 @@
-// Made by tools/erase of crates/linker_utils/src/riscv64.rt.
+// Made by tools/erase of crates/linker_riscv64/src/lib.rt.
 //! RISC-V: instruction forms, relaxation rewrites, what relocations mean, and calls that become
 //! jumps.
 //!
@@ -15,6 +15,7 @@ pub use calls::{
     jal_site, jal_site_with, relax_call, relax_call_over,
 };
 pub use choices::{choose, relocations_are_chosen_alike};
+pub use crate::linker_base::rewrite::DeletedBytes;
 pub use crate::linker_elf::riscv64::{
     RiscVInstruction, RiscVRelocation, clui_row, relocation_type_from_raw, row,
 };
@@ -22,7 +23,7 @@ pub use packing::{
     PackError, RejectedCall, calls_apart, first_not_apart, pack_into, pack_section,
     packed_calls_reach_targets, packed_len,
 };
-pub use rewrites::{DeletedBytes, RelaxationKind};
+pub use rewrites::RelaxationKind;
 pub use shrinking::{
     AsChoice, calls_shrinkable, first_not_shrinkable, shrink_calls, shrink_calls_into,
     shrunk_calls_are_accepted,

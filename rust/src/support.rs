@@ -116,15 +116,21 @@ pub(crate) trait FallibleText {
 }
 
 impl FallibleText for [u8] {
+    #[inline]
     fn fallible_to_str_lossy(&self) -> Result<Cow<'_, str>, AllocError> {
-        if let Ok(text) = core::str::from_utf8(self) {
-            return Ok(Cow::Borrowed(text));
+        match core::str::from_utf8(self) {
+            Ok(text) => Ok(Cow::Borrowed(text)),
+            Err(_) => replaced(self).map(Cow::Owned),
         }
-        let texts = self.utf8_chunks().flat_map(|chunk| {
-            [chunk.valid(), if chunk.invalid().is_empty() { "" } else { "\u{fffd}" }]
-        });
-        joined(texts).map(Cow::Owned)
     }
+}
+
+/// A text with U+FFFD for each sequence of bytes that is not UTF-8.
+#[cold]
+fn replaced(bytes: &[u8]) -> Result<String, AllocError> {
+    joined(bytes.utf8_chunks().flat_map(|chunk| {
+        [chunk.valid(), if chunk.invalid().is_empty() { "" } else { "\u{fffd}" }]
+    }))
 }
 
 /// A text that becomes the caller's.
@@ -133,10 +139,16 @@ pub(crate) trait FallibleOwned {
 }
 
 impl FallibleOwned for Cow<'_, str> {
+    #[inline]
     fn fallible_into_owned(self) -> Result<String, AllocError> {
         match self {
             Cow::Owned(text) => Ok(text),
-            Cow::Borrowed(text) => joined([text].into_iter()),
+            Cow::Borrowed(text) => {
+                let mut owned = String::new();
+                owned.try_reserve_exact(text.len())?;
+                owned.push_str(text);
+                Ok(owned)
+            }
         }
     }
 }

@@ -1,4 +1,4 @@
-// Made by tools/erase of crates/linker_utils/src/x86_64.rt.
+// Made by tools/erase of crates/linker_x86_64/src/lib.rt.
 //! x86-64: relaxation rewrites, and what relocations mean.
 //!
 #![doc = include_str!("../doc/x86_64.md")]

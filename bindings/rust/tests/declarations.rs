@@ -474,7 +474,7 @@ fn forms_of(architecture: &str, of_enum: &str) -> Numbers {
 
 /// The rewrites of an architecture of the proved library's, by their numbers.
 fn rewrites_of(architecture: &str) -> Numbers {
-    let source = format!("linker_utils/src/{architecture}/rewrites");
+    let source = format!("linker_{architecture}/src/rewrites");
     arms(&source, "RelaxationKind")
 }
 
@@ -730,7 +730,7 @@ fn the_structs_are_those_of_the_library() {
     let library = exporting_sources()
         + &repository("crates/linker_base/src/relaxation.rt")
         + &repository("crates/linker_base/src/relaxation/blocks.rt")
-        + &repository("crates/linker_utils/src/riscv64/calls.rt")
+        + &repository("crates/linker_riscv64/src/calls.rt")
         + &repository("crates/linker_elf/src/elf/value.rt")
         + &repository("crates/linker_elf/src/elf/numbers.rt")
         + &repository("crates/linker_relax/src/relaxation.rt")

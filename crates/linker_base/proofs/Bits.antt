@@ -1,11 +1,12 @@
 -- Masks, fields and two's complement in 64 bits.
-use Rattle.std.proofs.Common.{◌≡◌, ℕ, ◌+◌, ◌-◌, ◌*◌, ◌/◌, ◌%◌, ◌^◌, ◌<◌, ◌≤◌, ◌⊎◌, inl, inr, max, pos, negsuc, ◌-ℤ◌, nat_lt, true, false, refl, sym, ◌∙◌, ap, arith, bit_and, bit_or}
+use Rattle.std.proofs.Common.{◌≡◌, ℕ, ◌+◌, ◌-◌, ◌*◌, ◌/◌, ◌%◌, ◌^◌, ◌<◌, ◌≤◌, ◌⊎◌, inl, inr, max, suc, pos, negsuc, ◌-ℤ◌, nat_lt, true, false, refl, sym, ◌∙◌, ap, arith, bit_and, bit_or}
+use Rattle.std.proofs.Math.Facts.{to_z-neg}
 use Rattle.std.proofs.Math.Nat.{mod-eq_of_lt}
 use Rattle.std.proofs.lemmas.Int.{ints}
 use Rattle.std.proofs.lemmas.Bool.{cases_lt, cases_order, lt-ltb, le-ltb}
 use Rattle.std.proofs.lemmas.Nat.{and_mask, one_shl, or_lt, pow_pos, pow-add, shr_split, mod_below, mul-le, pow_below, shr_high}
 use Rattle.std.proofs.lemmas.Nat.Bits.{ones_shl, ones_shr, bit_at_or, bit_at_ones, bit_at_mask_below, bit_at_mask_inside, bit_at_cat_low, bit_at_cat_high, bit_at-lt, bit_at_above, same_from_bits_below, and_pow}
-use Rattle.std.specs.Int.{bit_at, cast_unsigned, w64}
+use Rattle.std.specs.Int.{bit_at, cast_signed, cast_unsigned, w64}
 use Rattle.linker_base.specs.Bits.{signed}
 
 -- the code's mask of the lowest n bits, made from the top
@@ -147,3 +148,9 @@ signed_bits n f r some most within clear set =
     let back : n - 1 + 1 ≡ n = omega arith in
     let small : f < 2 ^ (n - 1 + 1) = rw back within in
     rw back at (signed_cases (n - 1) f r (omega arith) small (cases_lt f (2 ^ (n - 1))) clear set)
+
+-- the negative number of 64 bits with these bits
+pub cast_negative : (x : ℕ) → x < 2 ^ 64 → 2 ^ 63 ≤ x → cast_signed w64 x ≡ negsuc (2 ^ 64 - suc x)
+cast_negative x h l =
+    let e : x ≡ 2 ^ 64 - suc (2 ^ 64 - suc x) = omega arith in
+    ap (cast_signed w64) e ∙ to_z-neg w64 (2 ^ 64 - suc x) (omega arith)

@@ -1,10 +1,8 @@
 -- A merge of two ascending lists, from the back.
-use Rattle.std.proofs.Common.{◌≡◌, ℕ, false, zero, suc, ◌+◌, ◌-◌, ◌<◌, ◌≤◌, List, [], ◌∷◌, ◌++◌, length, map, get_or, set, take, drop, refl, sym, ap, ◌∙◌, inl, inr, arith}
-use Rattle.std.specs.Prelude.{◌^◌, Option, Some, None, All, IsPermutation}
-use Rattle.std.specs.Borrow.{Bor}
-use Rattle.std.specs.Option.{is_some}
+use Rattle.std.proofs.Common.{◌≡◌, ℕ, zero, suc, ◌+◌, ◌-◌, ◌<◌, ◌≤◌, List, [], ◌∷◌, ◌++◌, length, map, get_or, set, take, drop, refl, sym, ap, ◌∙◌, inl, inr, arith}
+use Rattle.std.specs.Prelude.{◌^◌, All, IsPermutation}
 use Rattle.std.specs.List.Sorted.{IsNonDecreasingBy}
-use Rattle.std.proofs.lemmas.Bool.{cases_lt, cases_order, false≢true}
+use Rattle.std.proofs.lemmas.Bool.{cases_lt, cases_order}
 use Rattle.std.proofs.lemmas.List.{append_assoc, take-append-drop, take-append-le, take-take, take-map, take_all, take-set-le, drop_more, drop_all, drop-set, get_or-take, get_or_default, get_or_append_left, get_or-append_right, map-append, length-append, length-map, length-set, length-take}
 use Rattle.std.proofs.Math.Seq.{take-append-add}
 use Rattle.std.proofs.lemmas.List.Elements.{All-cons}
@@ -14,7 +12,6 @@ use Rattle.linker_base.specs.declared.relaxation.RelaxDelta.{RelaxDelta}
 use Rattle.linker_base.specs.Deletions.{AreDisjoint, IsValid, IsSortedUnion, bytes_of}
 use Rattle.linker_base.specs.Deltas.{deletion_of}
 use Rattle.linker_base.specs.Listed.{AreValidDeltas}
-use Rattle.linker_base.specs.Inner.Listed.{read_from}
 use Rattle.linker_base.proofs.OutputOffsets.{AreParted, rank-parted}
 use Rattle.linker_base.proofs.Search.{deletion_at}
 use Rattle.linker_base.proofs.Unions.{union_from_sort}
@@ -43,7 +40,7 @@ rise-cons x xs least rise zero (suc j) d le within = least j d (omega arith)
 rise-cons x xs least rise (suc i) zero d le within = absurd (omega arith)
 rise-cons x xs least rise (suc i) (suc j) d le within = rise i j d (omega arith) (omega arith)
 
-rise-append : (xs ys : List (ℕ × ℕ)) → IsNonDecreasingBy (λ d. d.0) xs → IsNonDecreasingBy (λ d. d.0) ys → ((k : ℕ) → k < length xs → All (λ d. (get_or xs k (0, 0)).0 ≤ d.0) ys) → IsNonDecreasingBy (λ d. d.0) (xs ++ ys)
+pub rise-append : (xs ys : List (ℕ × ℕ)) → IsNonDecreasingBy (λ d. d.0) xs → IsNonDecreasingBy (λ d. d.0) ys → ((k : ℕ) → k < length xs → All (λ d. (get_or xs k (0, 0)).0 ≤ d.0) ys) → IsNonDecreasingBy (λ d. d.0) (xs ++ ys)
 rise-append xs ys first second above i j d le within = elim (cases_lt j (length xs)) [
   | inl low ↦
       let lower : i < length xs = omega arith in
@@ -72,7 +69,7 @@ HaveSums-cons before delta deltas sum rest = record { each = each }
         let more : take (suc k + 1) (map deletion_of (delta ∷ deltas)) ≡ deletion_of delta ∷ take (k + 1) (map deletion_of deltas) = take_suc (map deletion_of deltas) (deletion_of delta) k in
         rw more (omega (arith, rest.each k d (omega arith), sum_by-cons (λ (e : ℕ × ℕ). e.1) (deletion_of delta) (take (k + 1) (map deletion_of deltas))))
 
-HaveSums-append : (before : ℕ) (xs ys : List RelaxDelta) → HaveSums before xs → HaveSums (before + bytes_of (map deletion_of xs)) ys → HaveSums before (xs ++ ys)
+pub HaveSums-append : (before : ℕ) (xs ys : List RelaxDelta) → HaveSums before xs → HaveSums (before + bytes_of (map deletion_of xs)) ys → HaveSums before (xs ++ ys)
 HaveSums-append before xs ys first second = record {
   each = λ k d within. elim (cases_lt k (length xs)) [
     | inl low ↦
@@ -141,51 +138,42 @@ IsTail-left ds ps i j tail delta valid rises within inside merged is above sum =
           rw before merged.sums);
     }
 
-pub in_place : (apart : Option (Bor (List RelaxDelta))) → is_some apart ≡ false → apart ≡ None
-in_place None none = refl
-in_place (Some deltas) none = absurd (false≢true (sym none))
-
 -- what isn't free is merged, so many bytes are left, and the first i deltas are read as at first
-pub record IsMerging (apart : Option (Bor (List RelaxDelta))) (start : List RelaxDelta) (ps : List (ℕ × ℕ)) (i j : ℕ) (merged : List RelaxDelta) (bytes : ℕ) : Type 0 where
+pub record IsMerging (start : List RelaxDelta) (ps : List (ℕ × ℕ)) (i j : ℕ) (merged : List RelaxDelta) (bytes : ℕ) : Type 0 where
   pub old_within : i ≤ length start
   pub left_within : j ≤ length ps
   pub size : length merged ≡ length start + length ps
-  pub front : take i (read_from apart merged) ≡ take i start
+  pub front : take i merged ≡ take i start
   pub tail : IsTail (map deletion_of start) ps i j (drop (i + j) merged)
   pub sum : bytes ≡ bytes_of (take i (map deletion_of start)) + bytes_of (take j ps)
 
 -- at first all room is free
-pub merging_first : (apart : Option (Bor (List RelaxDelta))) (ps : List (ℕ × ℕ)) (count : ℕ) (merged : List RelaxDelta) (j bytes : ℕ) → count ≤ length (read_from apart merged) → count + length ps ≡ length merged → j ≡ length ps
-    → bytes ≡ bytes_of (map deletion_of (take count (read_from apart merged))) + bytes_of ps → IsMerging apart (take count (read_from apart merged)) ps count j merged bytes
-merging_first apart ps count merged j bytes within room left sum =
-    let start = take count (read_from apart merged) in
-    let long : length start ≡ count = omega (arith, length-take count (read_from apart merged)) in
+pub merging_first : (ps : List (ℕ × ℕ)) (count : ℕ) (merged : List RelaxDelta) (j bytes : ℕ) → count ≤ length merged → count + length ps ≡ length merged → j ≡ length ps
+    → bytes ≡ bytes_of (map deletion_of (take count merged)) + bytes_of ps → IsMerging (take count merged) ps count j merged bytes
+merging_first ps count merged j bytes within room left sum =
+    let start = take count merged in
+    let long : length start ≡ count = omega (arith, length-take count merged) in
     let listed : length (map deletion_of start) ≡ count = omega (arith, long, length-map start deletion_of) in
     record {
       old_within = omega (arith, long);
       left_within = omega (arith, left);
       size = omega (arith, long, room);
-      front = sym (take-take count count (read_from apart merged) (omega arith));
+      front = sym (take-take count count merged (omega arith));
       tail = rw (drop_all (count + j) merged (omega (arith, room, left)), left) (rw listed at (IsTail-nil (map deletion_of start) ps));
       sum = rw (left, take_all count (map deletion_of start) (omega (arith, listed)), take_all (length ps) ps (omega arith)) sum;
     }
 
--- what is written behind the first i deltas changes none of them
-front_kept : (apart : Option (Bor (List RelaxDelta))) (i at : ℕ) (merged : List RelaxDelta) (delta : RelaxDelta) → i ≤ at → take i (read_from apart (set merged at delta)) ≡ take i (read_from apart merged)
-front_kept (Some deltas) i at merged delta low = refl
-front_kept None i at merged delta low = take-set-le i merged at delta low
-
 -- the last of the first i deltas
-pub merging_end : (apart : Option (Bor (List RelaxDelta))) (start : List RelaxDelta) (ps : List (ℕ × ℕ)) (i j bytes : ℕ) (merged : List RelaxDelta) (d : RelaxDelta) → IsMerging apart start ps i j merged bytes → 0 < i → get_or (map deletion_of start) (i - 1) (0, 0) ≡ deletion_of (get_or (read_from apart merged) (i - 1) d)
-merging_end apart start ps i j bytes merged d merging some =
+pub merging_end : (start : List RelaxDelta) (ps : List (ℕ × ℕ)) (i j bytes : ℕ) (merged : List RelaxDelta) (d : RelaxDelta) → IsMerging start ps i j merged bytes → 0 < i → get_or (map deletion_of start) (i - 1) (0, 0) ≡ deletion_of (get_or merged (i - 1) d)
+merging_end start ps i j bytes merged d merging some =
     let low : i - 1 < i = omega arith in
     let inside : i - 1 < length start = omega (arith, merging.old_within) in
-    deletion_at start (i - 1) d (0, 0) inside ∙ ap deletion_of (sym (get_or-take i start (i - 1) d low) ∙ ap (λ front. get_or front (i - 1) d) (sym merging.front) ∙ get_or-take i (read_from apart merged) (i - 1) d low)
+    deletion_at start (i - 1) d (0, 0) inside ∙ ap deletion_of (sym (get_or-take i start (i - 1) d low) ∙ ap (λ front. get_or front (i - 1) d) (sym merging.front) ∙ get_or-take i merged (i - 1) d low)
 
 -- an old deletion is written
-pub merging_old : (apart : Option (Bor (List RelaxDelta))) (start : List RelaxDelta) (ps : List (ℕ × ℕ)) (old left at : ℕ) (merged : List RelaxDelta) (delta : RelaxDelta) (bytes : ℕ) → IsValid (map deletion_of start) → IsValid ps → 0 < old → at ≡ old + left - 1 → IsMerging apart start ps old left merged bytes
-    → deletion_of delta ≡ get_or (map deletion_of start) (old - 1) (0, 0) → (0 < left → (get_or ps (left - 1) (0, 0)).0 ≤ (get_or (map deletion_of start) (old - 1) (0, 0)).0) → delta.cumulative_deleted ≡ bytes → IsMerging apart start ps (old - 1) left (set merged at delta) (bytes - delta.bytes_deleted)
-merging_old apart start ps old left at merged delta bytes valid rises some place merging is above sum =
+pub merging_old : (start : List RelaxDelta) (ps : List (ℕ × ℕ)) (old left at : ℕ) (merged : List RelaxDelta) (delta : RelaxDelta) (bytes : ℕ) → IsValid (map deletion_of start) → IsValid ps → 0 < old → at ≡ old + left - 1 → IsMerging start ps old left merged bytes
+    → deletion_of delta ≡ get_or (map deletion_of start) (old - 1) (0, 0) → (0 < left → (get_or ps (left - 1) (0, 0)).0 ≤ (get_or (map deletion_of start) (old - 1) (0, 0)).0) → delta.cumulative_deleted ≡ bytes → IsMerging start ps (old - 1) left (set merged at delta) (bytes - delta.bytes_deleted)
+merging_old start ps old left at merged delta bytes valid rises some place merging is above sum =
     let ds = map deletion_of start in
     let long : length ds ≡ length start = length-map start deletion_of in
     let one : old ≡ old - 1 + 1 = omega arith in
@@ -200,15 +188,15 @@ merging_old apart start ps old left at merged delta bytes valid rises some place
       old_within = omega (arith, merging.old_within);
       left_within = merging.left_within;
       size = omega (arith, merging.size, length-set merged at delta);
-      front = front_kept apart (old - 1) at merged delta low ∙ sym (take-take (old - 1) old (read_from apart merged) (omega arith)) ∙ ap (take (old - 1)) merging.front ∙ take-take (old - 1) old start (omega arith);
+      front = take-set-le (old - 1) merged at delta low ∙ sym (take-take (old - 1) old merged (omega arith)) ∙ ap (take (old - 1)) merging.front ∙ take-take (old - 1) old start (omega arith);
       tail = rw (here, drop-set merged at delta free, next) written;
       sum = omega (arith, merging.sum, rw (← one) at (sum_by_more (λ (e : ℕ × ℕ). e.1) ds (old - 1) (0, 0) inside), ap (λ (e : ℕ × ℕ). e.1) is);
     }
 
 -- an additional deletion is written
-pub merging_left : (apart : Option (Bor (List RelaxDelta))) (start : List RelaxDelta) (ps : List (ℕ × ℕ)) (old left at : ℕ) (merged : List RelaxDelta) (delta : RelaxDelta) (bytes : ℕ) → IsValid (map deletion_of start) → IsValid ps → 0 < left → at ≡ old + left - 1 → IsMerging apart start ps old left merged bytes
-    → deletion_of delta ≡ get_or ps (left - 1) (0, 0) → (0 < old → (get_or (map deletion_of start) (old - 1) (0, 0)).0 ≤ (get_or ps (left - 1) (0, 0)).0) → delta.cumulative_deleted ≡ bytes → IsMerging apart start ps old (left - 1) (set merged at delta) (bytes - delta.bytes_deleted)
-merging_left apart start ps old left at merged delta bytes valid rises more place merging is above sum =
+pub merging_left : (start : List RelaxDelta) (ps : List (ℕ × ℕ)) (old left at : ℕ) (merged : List RelaxDelta) (delta : RelaxDelta) (bytes : ℕ) → IsValid (map deletion_of start) → IsValid ps → 0 < left → at ≡ old + left - 1 → IsMerging start ps old left merged bytes
+    → deletion_of delta ≡ get_or ps (left - 1) (0, 0) → (0 < old → (get_or (map deletion_of start) (old - 1) (0, 0)).0 ≤ (get_or ps (left - 1) (0, 0)).0) → delta.cumulative_deleted ≡ bytes → IsMerging start ps old (left - 1) (set merged at delta) (bytes - delta.bytes_deleted)
+merging_left start ps old left at merged delta bytes valid rises more place merging is above sum =
     let ds = map deletion_of start in
     let long : length ds ≡ length start = length-map start deletion_of in
     let other : left ≡ left - 1 + 1 = omega arith in
@@ -223,24 +211,24 @@ merging_left apart start ps old left at merged delta bytes valid rises more plac
       old_within = merging.old_within;
       left_within = omega (arith, merging.left_within);
       size = omega (arith, merging.size, length-set merged at delta);
-      front = front_kept apart old at merged delta low ∙ merging.front;
+      front = take-set-le old merged at delta low ∙ merging.front;
       tail = rw (here, drop-set merged at delta free, next) written;
       sum = omega (arith, merging.sum, rw (← other) at (sum_by_more (λ (e : ℕ × ℕ). e.1) ps (left - 1) (0, 0) inside), ap (λ (e : ℕ × ℕ). e.1) is);
     }
 
 -- the bytes of the next deletion are among those left
-pub spends_old : (apart : Option (Bor (List RelaxDelta))) (start : List RelaxDelta) (ps : List (ℕ × ℕ)) (old left : ℕ) (merged : List RelaxDelta) (bytes : ℕ) → 0 < old → IsMerging apart start ps old left merged bytes → (get_or (map deletion_of start) (old - 1) (0, 0)).1 ≤ bytes
-spends_old apart start ps old left merged bytes some merging =
+pub spends_old : (start : List RelaxDelta) (ps : List (ℕ × ℕ)) (old left : ℕ) (merged : List RelaxDelta) (bytes : ℕ) → 0 < old → IsMerging start ps old left merged bytes → (get_or (map deletion_of start) (old - 1) (0, 0)).1 ≤ bytes
+spends_old start ps old left merged bytes some merging =
     let one : old - 1 + 1 ≡ old = omega arith in
     omega (arith, merging.sum, rw one at (sum_by_more (λ (e : ℕ × ℕ). e.1) (map deletion_of start) (old - 1) (0, 0) (omega (arith, merging.old_within, length-map start deletion_of))))
 
-pub spends_left : (apart : Option (Bor (List RelaxDelta))) (start : List RelaxDelta) (ps : List (ℕ × ℕ)) (old left : ℕ) (merged : List RelaxDelta) (bytes : ℕ) → 0 < left → IsMerging apart start ps old left merged bytes → (get_or ps (left - 1) (0, 0)).1 ≤ bytes
-spends_left apart start ps old left merged bytes some merging =
+pub spends_left : (start : List RelaxDelta) (ps : List (ℕ × ℕ)) (old left : ℕ) (merged : List RelaxDelta) (bytes : ℕ) → 0 < left → IsMerging start ps old left merged bytes → (get_or ps (left - 1) (0, 0)).1 ≤ bytes
+spends_left start ps old left merged bytes some merging =
     let one : left - 1 + 1 ≡ left = omega arith in
     omega (arith, merging.sum, rw one at (sum_by_more (λ (e : ℕ × ℕ). e.1) ps (left - 1) (0, 0) (omega (arith, merging.left_within))))
 
 -- the first i deltas, where they stood, and those behind them list all
-pub merging_last : (start : List RelaxDelta) (ps : List (ℕ × ℕ)) (i bytes : ℕ) (deltas : List RelaxDelta) → AreValidDeltas start → AreDisjoint (map deletion_of start ++ ps) → IsMerging None start ps i 0 deltas bytes → IsSortedUnion (map deletion_of start ++ ps) (map deletion_of deltas) × AreValidDeltas deltas
+pub merging_last : (start : List RelaxDelta) (ps : List (ℕ × ℕ)) (i bytes : ℕ) (deltas : List RelaxDelta) → AreValidDeltas start → AreDisjoint (map deletion_of start ++ ps) → IsMerging start ps i 0 deltas bytes → IsSortedUnion (map deletion_of start ++ ps) (map deletion_of deltas) × AreValidDeltas deltas
 merging_last start ps i bytes deltas listed disjoint merging = (union, record { valid = union.valid; listing = record { same = refl; sums = λ k d within. omega (arith, sums.each k d within) } })
   where
     ds : List (ℕ × ℕ)
@@ -290,9 +278,3 @@ merging_last start ps i bytes deltas listed disjoint merging = (union, record { 
     sums = rw whole (HaveSums-append 0 (take i start) tail front (
         let before : 0 + bytes_of (map deletion_of (take i start)) ≡ bytes_of (take i ds) + bytes_of (take 0 ps) = omega (arith, ap bytes_of (take-map deletion_of i start)) in
         rw before merged.sums))
-
--- and so do those that are written alone
-pub merging_written : (apart : Option (Bor (List RelaxDelta))) (start : List RelaxDelta) (ps : List (ℕ × ℕ)) (merged : List RelaxDelta) (bytes : ℕ) → AreDisjoint (map deletion_of start ++ ps) → IsMerging apart start ps 0 0 merged bytes → IsSortedUnion (map deletion_of start ++ ps) (map deletion_of merged) × AreValidDeltas merged
-merging_written apart start ps merged bytes disjoint merging =
-    let union : IsSortedUnion (map deletion_of start ++ ps) (map deletion_of merged) = union_from_sort (map deletion_of start ++ ps) (map deletion_of merged) merging.tail.same disjoint merging.tail.rise in
-    (union, record { valid = union.valid; listing = record { same = refl; sums = λ k d within. omega (arith, merging.tail.sums.each k d within) } })

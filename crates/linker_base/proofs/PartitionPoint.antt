@@ -1,5 +1,5 @@
 -- Parts of a search: what one test says of all other elements, and how many probes a search takes.
-use Rattle.std.proofs.Common.{◌≡◌, ℕ, zero, suc, ◌+◌, ◌-◌, ◌*◌, ◌<◌, ◌≤◌, Bool, true, false, sym, ◌∙◌, inl, inr, arith}
+use Rattle.std.proofs.Common.{◌≡◌, ℕ, zero, suc, ◌+◌, ◌-◌, ◌*◌, ◌<◌, ◌≤◌, Bool, true, false, refl, sym, ◌∙◌, inl, inr, arith}
 use Rattle.std.specs.Prelude.{◌^◌}
 use Rattle.std.proofs.lemmas.Bool.{cases_Bool, cases_lt, false≢true}
 use Rattle.std.proofs.lemmas.Nat.{pow_pos}
@@ -7,17 +7,16 @@ use mir.Val.{bool_byte}
 use Rattle.linker_base.specs.declared.relaxation.partition_point.Level.{Level}
 use Rattle.linker_base.specs.declared.relaxation.partition_point.Level.TheVariants.{Heads, Deltas}
 use Rattle.linker_base.specs.declared.relaxation.partition_point.SearchRange.{SearchRange}
-use Rattle.linker_base.specs.declared.relaxation.partition_point.Test.{Test}
-use Rattle.linker_base.specs.Inner.PartitionPoint.{Subject, Probed, OnlyProbes, HeadsHaveDeltas, size_of, passing}
-use Rattle.linker_base.specs.Inner.PartitionPoint.{IsPartitioned, IsPointOf, HeadsAgree, IsRangeOf, IsNarrowed, IsPowerOfTwo, AreParts, CanHalve, Narrows}
+use Rattle.linker_base.specs.Inner.PartitionPoint.{Subject, Probed, HeadTest, OnlyProbes, HeadsHaveDeltas, size_of, passing}
+use Rattle.linker_base.specs.Inner.PartitionPoint.{IsPartitioned, IsPointOf, HeadsAgree, IsRangeOf, IsNarrowed, AreOnes, TakesLess, AreParts, CanHalve, Narrows}
 
 -- ---- probes
 
--- a halving of more than one element takes one probe
-pub can_once : (spent now len half : ℕ) → now ≤ spent + 1 → 1 < len → 2 * half ≤ len + 1
-    → (limit : ℕ) → CanHalve limit spent len → CanHalve limit now half
-can_once spent now len half le long part limit (zero, fits, room) = absurd (omega arith)
-can_once spent now len half le long part limit (suc left, fits, room) = (left, omega arith, omega arith)
+-- a cut to a part that takes fewer probes takes one
+pub can_cut : (spent now len width : ℕ) → now ≤ spent + 1 → width < len → TakesLess width len
+    → (limit : ℕ) → CanHalve limit spent len → CanHalve limit now width
+can_cut spent now len width le long less limit (zero, fits, room) = absurd (omega arith)
+can_cut spent now len width le long less limit (suc left, fits, room) = (left, less left (omega (arith, fits)), omega arith)
 
 -- a power of two below another is at most its half
 power_below : (m k : ℕ) → 2 ^ m < 2 ^ suc k → 2 ^ m ≤ 2 ^ k
@@ -25,16 +24,19 @@ power_below zero k below = omega (arith, pow_pos k)
 power_below (suc m) zero below = absurd (omega (arith, pow_pos m))
 power_below (suc m) (suc k) below = omega (arith, power_below m k (omega arith))
 
--- a cut to fewer elements, a power of two, takes one probe
-pub can_cut : (spent now len width : ℕ) → now ≤ spent + 1 → IsPowerOfTwo width → width < len
-    → (limit : ℕ) → CanHalve limit spent len → CanHalve limit now width
-can_cut spent now len width le (m, is) long limit (zero, fits, room) = absurd (omega (arith, is, pow_pos m))
-can_cut spent now len width le (m, is) long limit (suc left, fits, room) = (left, omega (arith, is, power_below m left (omega (arith, is))), omega arith)
+-- fewer elements, whose number has only ones, take fewer probes
+pub ones_take_less : (width len : ℕ) → AreOnes width → width < len → TakesLess width len
+ones_take_less width len (m, is) long left fits = omega (arith, is, power_below m left (omega (arith, is, fits)))
 
 pub can_end : (limit spent len : ℕ) → CanHalve limit spent len → spent ≤ limit
 can_end limit spent len (left, long, room) = omega arith
 
-pub can_begin : (spent len digits : ℕ) → len ≤ 2 ^ digits → CanHalve (spent + digits) spent len
+-- what is left of some elements takes a probe
+pub can_last : (limit spent len : ℕ) → 0 < len → CanHalve limit spent len → spent + 1 ≤ limit
+can_last limit spent len some (zero, long, room) = absurd (omega arith)
+can_last limit spent len some (suc left, long, room) = omega arith
+
+pub can_begin : (spent len digits : ℕ) → len < 2 ^ digits → CanHalve (spent + digits) spent len
 can_begin spent len digits fits = (digits, fits, omega arith)
 
 -- the deltas of some blocks: six digits more
@@ -44,7 +46,7 @@ can_begin_blocks spent size blocks digits few fits = (suc (suc (suc (suc (suc (s
 
 -- ---- one test
 
-module _ (s : Subject) (level : Level) (test : Test) where
+module _ (s : Subject) (level : Level) (test : HeadTest) where
   -- all before one that passes pass, and all after one that fails fail
   passes_until : IsPartitioned s level test → (m : ℕ) → m < size_of s level
       → true ≡ passing s level test m → (k : ℕ) → k < m → passing s level test k ≡ true
@@ -57,11 +59,11 @@ module _ (s : Subject) (level : Level) (test : Test) where
     | inr fails ↦ fails
   ]
 
-  narrowed_up : IsPartitioned s level test → (a b : SearchRange) → b.start < size_of s level
-      → a.start + a.len ≤ b.start + b.len → passing s level test b.start ≡ true
+  narrowed_up : IsPartitioned s level test → (a b : SearchRange) (m : ℕ) → m < size_of s level
+      → b.start ≡ m + 1 → a.start + a.len ≤ b.start + b.len → passing s level test m ≡ true
       → IsNarrowed s level test a → IsNarrowed s level test b
-  narrowed_up parted a b within end passes known = record {
-    before = passes_until parted b.start within (sym passes);
+  narrowed_up parted a b m within start end passes known = record {
+    before = λ k low. parted k m (omega arith) within passes;
     after = λ k low high. known.after k (omega arith) high;
   }
 
@@ -108,6 +110,11 @@ module _ (s : Subject) (level : Level) (test : Test) where
       → IsNarrowed s level test range
   narrowed_all range start len = record { before = λ k low. absurd (omega arith); after = λ k low high. absurd (omega arith) }
 
+  -- nothing is left
+  pub point_none : (range : SearchRange) → range.len ≡ 0 → IsNarrowed s level test range
+      → IsPointOf s level test range.start
+  point_none range none known = record { before = known.before; after = λ k low high. known.after k (omega arith) high }
+
   -- one element is left, and it passes or fails
   pub point_one : (range : SearchRange) (b : Bool) → range.len ≤ 1
       → b ≡ passing s level test range.start → IsNarrowed s level test range
@@ -129,15 +136,14 @@ module _ (s : Subject) (level : Level) (test : Test) where
 
 -- ---- what remains of a range
 
-module _ {level : Level} {test : Test} where
+module _ {level : Level} {test : HeadTest} where
   -- what remains of what remains
   pub narrows_then : {m n : ℕ} {a b c : Probed} {x y z : SearchRange} → Narrows m level test a x b y
       → Narrows n level test b y c z → Narrows (m + n) level test a x c z
   narrows_then one two = record {
     probes = record { same = two.probes.same ∙ one.probes.same; counted = omega (arith, one.probes.counted, two.probes.counted) };
     within = two.within;
-    some = λ s. two.some (one.some s);
-    first = λ f. (rw one.probes.same at two.first) (one.first f);
+    from = omega (arith, one.from, two.from);
     narrowed = λ parted known. (rw one.probes.same at two.narrowed) parted (one.narrowed parted known);
     can = λ limit held. two.can limit (one.can limit held);
   }
@@ -148,23 +154,21 @@ module _ {level : Level} {test : Test} where
   narrows_most counted one = record {
     probes = record { same = one.probes.same; counted = counted };
     within = one.within;
-    some = one.some;
-    first = one.first;
+    from = one.from;
     narrowed = one.narrowed;
     can = one.can;
   }
 
-  module _ {a b : Probed} (probed : OnlyProbes 1 a b) (range : SearchRange) (middle width : ℕ) (within : IsRangeOf a.subject level range) (parts : AreParts range middle width) (can : (limit : ℕ) → CanHalve limit a.probes range.len → CanHalve limit b.probes width) where
+  module _ {a b : Probed} (probed : OnlyProbes 1 a b) (range : SearchRange) (middle width : ℕ) (within : IsRangeOf a.subject level range) (parts : AreParts range middle width) (less : TakesLess width range.len) where
     -- the last elements, where the test of the middle passes
     pub narrows_up : passing a.subject level test middle ≡ true
-        → Narrows 1 level test a range b (record { start = middle; len = width })
+        → Narrows 1 level test a range b (record { start = middle + 1; len = width })
     narrows_up passes = record {
       probes = probed;
       within = rw probed.same (record { end = omega (arith, within.end, parts.end); fits = within.fits });
-      some = λ _. omega (arith, parts.shorter, parts.all);
-      first = λ _. passes;
-      narrowed = λ parted known. narrowed_up a.subject level test parted range _ (omega (arith, within.end, parts.shorter, parts.all, parts.end)) (omega (arith, parts.end)) passes known;
-      can = can;
+      from = omega (arith, parts.shorter, parts.end);
+      narrowed = λ parted known. narrowed_up a.subject level test parted range _ middle (omega (arith, within.end, parts.end)) refl (omega (arith, parts.end)) passes known;
+      can = can_cut _ _ range.len width probed.counted parts.shorter less;
     }
 
     -- the first elements, where it fails
@@ -173,15 +177,14 @@ module _ {level : Level} {test : Test} where
     narrows_down fails = record {
       probes = probed;
       within = rw probed.same (record { end = omega (arith, within.end, parts.shorter); fits = within.fits });
-      some = λ _. omega (arith, parts.shorter, parts.all);
-      first = λ f. f;
-      narrowed = λ parted known. narrowed_down a.subject level test parted range _ middle (omega (arith, within.end, parts.shorter, parts.all, parts.end)) (omega arith) (omega (arith, parts.all, parts.end)) fails known;
-      can = can;
+      from = omega arith;
+      narrowed = λ parted known. narrowed_down a.subject level test parted range _ middle (omega (arith, within.end, parts.end)) (omega arith) (omega (arith, parts.all, parts.end)) fails known;
+      can = can_cut _ _ range.len width probed.counted parts.shorter less;
     }
 
 -- ---- heads and the deltas of their blocks
 
-module _ (s : Subject) (test : Test) where
+module _ (s : Subject) (test : HeadTest) where
   pub heads_partitioned : HeadsHaveDeltas s → IsPartitioned s Deltas test → HeadsAgree s test
       → IsPartitioned s Heads test
   heads_partitioned few parted agree i j le low passes =

@@ -4,23 +4,12 @@ use Rattle.std.specs.Prelude.{max, All, IsPermutation}
 use Rattle.std.proofs.lemmas.List.{append_assoc, take_all, take_more, get_or-take, get_or_default, length-take}
 use Rattle.std.proofs.lemmas.List.Elements.{All-append, All-push}
 use Rattle.std.proofs.lemmas.List.Sorted.{All-permutation, IsPermutation-refl, IsPermutation-sym, IsPermutation-trans, IsPermutation-append_left, IsPermutation-append_right, IsPermutation-append_comm}
-use Rattle.linker_base.specs.Deletions.{IsValid}
 use Rattle.linker_base.specs.Listed.{AreValidTogether}
-use Rattle.linker_base.specs.Inner.Listed.{IsRun, CanFollow}
+use Rattle.linker_base.specs.Inner.Listed.{CanFollow, AreWalked}
 use Rattle.linker_base.proofs.Batches.{All-front, IsRun-nil, IsRun-push}
 use Rattle.linker_base.proofs.Listed.{IsValid-nil, IsValid-push}
 use Rattle.linker_base.proofs.Merging.{disjoint_across}
 use Rattle.linker_base.proofs.Unions.{disjoint_permutation, disjoint_from_union}
-
--- what was passed of both lists is a run up to `next`, and none of it lies above what comes next
-pub record AreWalked (ds ps : List (ℕ × ℕ)) (i j next : ℕ) : Type 0 where
-  pub run : List (ℕ × ℕ)
-  pub same : IsPermutation (take i ds ++ take j ps) run
-  pub rises : IsRun 0 next run
-  pub old : IsValid (take i ds)
-  pub added : IsValid (take j ps)
-  pub below_old : AreValidTogether ds ps → i < length ds → All (λ p. p.0 ≤ (get_or ds i (0, 0)).0) (take j ps)
-  pub below_added : AreValidTogether ds ps → j < length ps → All (λ d. d.0 ≤ (get_or ps j (0, 0)).0) (take i ds)
 
 pub walked_none : (ds ps : List (ℕ × ℕ)) → AreWalked ds ps 0 0 0
 walked_none ds ps = record {

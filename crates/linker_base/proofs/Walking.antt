@@ -1,9 +1,11 @@
 -- How far a cursor's walk goes at a query.
-use Rattle.std.proofs.Common.{◌≡◌, ℕ, ◌+◌, ◌-◌, ◌<◌, ◌≤◌, List, length, map, get_or, take, ap, ◌∙◌, inl, inr, arith}
+use Rattle.std.proofs.Common.{◌≡◌, ℕ, ◌+◌, ◌-◌, ◌<◌, ◌≤◌, List, length, map, get_or, take, drop, zero, suc, sym, ap, ◌∙◌, inl, inr, arith}
 use Rattle.std.specs.Prelude.{◌↔◌, ◌%◌, ◌^◌, max, nat_lt, All, AllPairs}
 use Rattle.std.proofs.lemmas.Bool.{cases_lt}
-use Rattle.std.proofs.lemmas.List.{length-map, length-take, get_or-take, get_or_default}
-use Rattle.std.proofs.lemmas.List.Sums.{count_by-le-length}
+use Rattle.std.proofs.lemmas.List.{length-map, length-take, get_or-take, get_or-drop, get_or_default, take_all}
+use Rattle.std.proofs.lemmas.List.Sums.{count_by-le-length, fold_more}
+use Rattle.std.specs.List.Sorted.{IsNonDecreasing}
+use Rattle.linker_base.specs.Walk.{walk_at, walk_to, walk_through}
 use Rattle.linker_base.specs.declared.relaxation.RelaxDelta.{RelaxDelta}
 use Rattle.linker_base.specs.Deletions.{IsBefore, IsValid, rank}
 use Rattle.linker_base.specs.Deltas.{deletion_of}
@@ -125,3 +127,70 @@ walked_over deltas listed k within deleted end sum wrapped =
         last = λ d some. rw (back, deletion_at deltas k blank d within) (omega (arith, fits, wrapped));
       };
     }
+
+-- more begin below a later offset
+begun_rises : (ds : List (ℕ × ℕ)) → IsValid ds → (i j : ℕ) → i ≤ j → begun_below ds i ≤ begun_below ds j
+begun_rises ds valid i j le =
+    let a = begun_below ds i in
+    let b = begun_below ds j in
+    let bound = count_by-le-length (λ (d : ℕ × ℕ). nat_lt d.0 i) ds in
+    elim (cases_lt b a) [
+      | inl short ↦ absurd (omega (arith, (begun_parted ds i valid.ascending).0 b (0, 0) (omega arith) short, (begun_parted ds j valid.ascending).1 b (0, 0) (omega arith) (omega arith), le))
+      | inr le ↦ le
+    ]
+
+-- a query ahead that the next delta doesn't begin below
+pub begun_here : (deltas : List RelaxDelta) → AreValidDeltas deltas → (passed i : ℕ) → passed ≤ length deltas → All (λ d. d.0 < i) (take passed (map deletion_of deltas)) → (passed < length deltas → i ≤ (get_or deltas passed blank).input_offset) → passed ≡ begun_below (map deletion_of deltas) i
+begun_here deltas listed passed i within ahead stop =
+    walked_to deltas listed i passed passed (omega arith) within (λ j d low high. absurd (omega arith)) stop ∙ begun_ahead (map deletion_of deltas) listed.valid passed i (omega (arith, length-map deltas deletion_of)) ahead
+
+-- a delta of those that are left
+pub delta_left : (deltas : List RelaxDelta) → (from index passed : ℕ) → passed ≡ from + index → passed < length deltas → get_or (take (length deltas - from) (drop from deltas)) index blank ≡ get_or deltas passed blank
+delta_left deltas from index passed at within = get_or-take (length deltas - from) (drop from deltas) index blank (omega (arith, at, within)) ∙ get_or-drop from deltas index blank ∙ ap (λ k. get_or deltas k blank) (sym at)
+
+-- a query ahead, below the end of what is passed, has that end's output offset
+pub rank_inside : (deltas : List RelaxDelta) → AreValidDeltas deltas → (reached : Reached) → reached.passed ≤ length deltas → IsWalked (map deletion_of deltas) reached → (i : ℕ) → All (λ d. d.0 < i) (take reached.passed (map deletion_of deltas)) → i < reached.end → rank (map deletion_of deltas) i + reached.deleted ≡ reached.end
+rank_inside deltas listed reached within walked i ahead inside =
+    let ds = map deletion_of deltas in
+    let some : 0 < reached.passed = elim (cases_lt 0 reached.passed) [
+      | inl some ↦ some
+      | inr none ↦ absurd (omega (arith, inside, walked.end.none (omega arith)))
+    ] in
+    let begun = begun_here deltas listed reached.passed i within ahead (λ more.
+    let next = rw (deletion_at deltas reached.passed blank (0, 0) more) at (listed.valid.ascending (reached.passed - 1) reached.passed (0, 0) (omega arith) (omega (arith, length-map deltas deletion_of))) in
+    omega (arith, next, walked.end.last (0, 0) some, inside)) in
+    omega (arith, rank_walked ds listed.valid reached i begun walked, inside)
+
+-- a query is ahead of a delta that is passed, if that begins below it
+pub ahead_of : (deltas : List RelaxDelta) → AreValidDeltas deltas → (passed i : ℕ) → passed < length deltas → (get_or deltas passed blank).input_offset < i → All (λ d. d.0 < i) (take (passed + 1) (map deletion_of deltas))
+ahead_of deltas listed passed i within below =
+    let ds = map deletion_of deltas in
+    let back : passed + 1 - 1 ≡ passed = omega arith in
+    (taken_begin_below ds listed.valid.ascending i (passed + 1) (omega arith) (omega (arith, length-map deltas deletion_of))).0 (rw (back, deletion_at deltas passed blank (0, 0) within) below)
+
+-- the first queries, where they don't decrease, pass what begins below the last of them
+through_taken : (ds : List (ℕ × ℕ)) → IsValid ds → (from : ℕ) (queries : List ℕ) → IsNonDecreasing queries → (k : ℕ) → k < length queries → walk_through (walk_at ds from) (take (k + 1) queries) ≡ walk_at ds (max from (begun_below ds (get_or queries k 0)))
+through_taken ds valid from queries ascending zero within = fold_more walk_to (walk_at ds from) queries 0 0 within
+through_taken ds valid from queries ascending (suc k) within =
+    let next : k + 1 ≡ suc k = omega arith in
+    let before = rw next at (through_taken ds valid from queries ascending k (omega arith)) in
+    let rises = begun_rises ds valid (get_or queries k 0) (get_or queries (suc k) 0) (ascending k (suc k) 0 (omega arith) within) in
+    let i = get_or queries (suc k) 0 in
+    fold_more walk_to (walk_at ds from) queries (suc k) 0 within ∙ ap (λ walk. walk_to walk i) before ∙ ap (walk_at ds) (omega (arith, rises))
+
+-- and so do all
+pub through_last : (ds : List (ℕ × ℕ)) → IsValid ds → (from : ℕ) (queries : List ℕ) → IsNonDecreasing queries → 0 < length queries → walk_at ds (max from (begun_below ds (get_or queries (length queries - 1) 0))) ≡ walk_through (walk_at ds from) queries
+through_last ds valid from queries ascending some =
+    let one : length queries - 1 + 1 ≡ length queries = omega arith in
+    sym (rw (one, take_all (length queries) queries (omega arith)) at (through_taken ds valid from queries ascending (length queries - 1) (omega arith)))
+
+-- offsets that rise up to one, and no less at the next
+pub rises_more : (offsets : List ℕ) (before at after : ℕ) → before + 1 ≡ at → at + 1 ≡ after → at < length offsets → ((k d : ℕ) → k + 1 < at → get_or offsets k d ≤ get_or offsets (k + 1) d) → get_or offsets before 0 ≤ get_or offsets at 0
+    → (k d : ℕ) → k + 1 < after → get_or offsets k d ≤ get_or offsets (k + 1) d
+rises_more offsets before at after one two within rises here k d low = elim (cases_lt (k + 1) at) [
+  | inl earlier ↦ rises k d earlier
+  | inr last ↦
+      let next : k + 1 ≡ at = omega arith in
+      let same : k ≡ before = omega arith in
+      rw (next, same, get_or_default offsets at d 0 within, get_or_default offsets before d 0 (omega arith)) here
+]

@@ -180,7 +180,7 @@ adr_cleared x small =
     first (mask_cleared 19 2 5 0 y (omega arith) (omega arith) below)
 
 -- no bit is ORed
-none_cleared : (x : ℕ) (ps : List ImmediateBit) → x < 2 ^ 32 → ps ≡ [] → ClearsBits (lowest_bits 0 0 0) x ps
+none_cleared : (x : ℕ) (ps : List ImmediateBit) → x < 2 ^ 32 → ps ≡ [] → ClearsBits (lowest_bits 63 0 0) x ps
 unfolding ClearsBits
 none_cleared x ps small e =
     let same : bit_and (bit_and x (2 ^ 64 - 1 - 0 * 2 ^ 29 % 2 ^ 64)) (2 ^ 64 - 1 - (2 ^ 0 - 1) * 2 ^ 0) ≡ x =
@@ -278,6 +278,13 @@ read_number f bytes x number bits result a b w n s r =
 
 pub read_flag : (f : AArch64Instruction) (bytes : List ℕ) → f ≢ Movnz → f ≢ MachOLow12 → false ≡ (aarch64_form f).flag (window_of (aarch64_form f) bytes)
 read_flag f bytes a b = unflagged f (window_of (aarch64_form f) bytes) (alone f a b)
+
+pub sign_is : (f : AArch64Instruction) (i : Immediate) → i ≡ aarch64_immediate f → i.sign ≡ 2 ^ (i.sign_bits - 1)
+sign_is f i e = subst (λ j. j.sign ≡ 2 ^ (j.sign_bits - 1)) (sym e) (known f)
+  where
+    known : (g : AArch64Instruction) → (aarch64_immediate g).sign ≡ 2 ^ ((aarch64_immediate g).sign_bits - 1)
+    known Adr = refl
+    known g = refl
 
 abbrev pub low12_run : ℕ → List Run
 low12_run s = record { value = s; insn_bit = 10; len = 12; added = 0; mark = Replaced } ∷ []

@@ -1,6 +1,7 @@
 pub mod AArch64Forms
 pub mod Agreement
 pub mod Bounds
+pub mod Choices
 pub mod Clearing
 pub mod Entries
 pub mod Halves

@@ -1,12 +1,13 @@
 -- Bits that move by shifts and masks: from a value to a window, and back.
-use Rattle.std.proofs.Common.{◌≡◌, ℕ, ◌+◌, ◌-◌, ◌*◌, ◌/◌, ◌%◌, ◌^◌, ◌<◌, ◌≤◌, max, min, Bool, true, false, ◌&&◌, ◌||◌, ltb, eqb, List, [], ◌∷◌, refl, sym, ◌∙◌, ap, subst, arith, inl, inr, cond, pos, ◌-ℤ◌, if◌then◌else◌}
-use Rattle.std.specs.Int.{bit_at, w64, cast_unsigned}
+use Rattle.std.proofs.Common.{◌≡◌, ℕ, ◌+◌, ◌-◌, ◌*◌, ◌/◌, ◌%◌, ◌^◌, ◌<◌, ◌≤◌, max, min, Bool, true, false, ◌&&◌, ◌||◌, ltb, eqb, List, [], ◌∷◌, refl, sym, ◌∙◌, ap, subst, arith, inl, inr, cond, pos, negsuc, ◌-ℤ◌, if◌then◌else◌, nat_lt, suc, FitsSigned, pow_mono}
+use Rattle.std.specs.Int.{bit_at, w64, cast_unsigned, cast_signed, int_shr}
+use Rattle.std.proofs.lemmas.Int.{ints, to_z_pos}
 use Rattle.std.specs.Int.RustNames.{bit_or}
 use lib.Bits.{bit_and}
 use Rattle.std.specs.List.{All}
-use Rattle.std.proofs.lemmas.Bool.{agree_below, agree_below_at, and_parts, or_cases, cases_lt, cases_Bool, lt-ltb, eqb-true, ltb-true, cond-true, cond-false}
+use Rattle.std.proofs.lemmas.Bool.{agree_below, agree_below_at, and_parts, or_cases, cases_lt, cases_Bool, lt-ltb, le-ltb, eqb-true, ltb-true, cond-true, cond-false}
 use Rattle.std.proofs.lemmas.List.Elements.{All-nil, All-cons}
-use Rattle.std.proofs.lemmas.Nat.{and_le_l, mod_below, or_lt, pow_pos, pow_below, pow-add}
+use Rattle.std.proofs.lemmas.Nat.{and_le_l, mod_below, mul-le, shl-shr, shr_high, or_lt, pow_pos, pow_below, pow-add}
 use Rattle.std.proofs.Math.Nat.{div-le_self, mod-eq_of_lt}
 use Rattle.std.proofs.lemmas.Nat.Bits.{bit_at_and, bit_at_or, bit_at_above, bit_at-lt, bit_at-zero, and_pow, same_from_bits_below}
 use Rattle.linker_base.specs.Bits.{signed}
@@ -311,6 +312,66 @@ sign_taken_off n f sign some short small is =
     rw none (omega (arith, below, within)))
     (λ set. let one : bit_and f sign ≡ 2 ^ (n - 1) = bit ∙ ap (λ b. b * 2 ^ (n - 1)) set ∙ omega arith in
     rw (one, whole) (omega (arith, double, below, within)))
+
+-- ---- a number in two's complement, as the code moves it to the top of 64 bits and back
+
+module _ (n k f : ℕ) (sum : n - 1 + 1 + k ≡ 64) (small : f < 2 ^ (n - 1 + 1)) where
+  double : 2 ^ (n - 1 + 1) ≡ 2 ^ (n - 1) * 2 ^ 1
+  double = pow-add 2 (n - 1) 1
+
+  half : 2 ^ (n - 1) * 2 ^ k ≡ 2 ^ 63
+  half = sym (pow-add 2 (n - 1) k) ∙ ap (λ e. 2 ^ e) (let e : n - 1 + k ≡ 63 = omega (arith, sum) in e)
+
+  within : f * 2 ^ k + 2 ^ k ≤ 2 ^ 64
+  within =
+      let place = mul-le (f + 1) (2 ^ k) (2 ^ (n - 1 + 1)) (2 ^ k) (omega (arith, small)) (omega arith) in
+      let all : 2 ^ (n - 1 + 1) * 2 ^ k ≡ 2 ^ 64 = sym (pow-add 2 (n - 1 + 1) k) ∙ ap (λ e. 2 ^ e) sum in
+      omega (arith, place, all)
+
+  moved : f * 2 ^ k % 2 ^ 64 ≡ f * 2 ^ k
+  moved = mod-eq_of_lt (let some = pow_pos k in omega (arith, within, some))
+
+  back_up : f < 2 ^ (n - 1) → int_shr (cast_signed w64 (f * 2 ^ k % 2 ^ 64)) k ≡ pos f
+  back_up less =
+      let place = mul-le (f + 1) (2 ^ k) (2 ^ (n - 1)) (2 ^ k) (omega (arith, less)) (omega arith) in
+      let some = pow_pos k in
+      let below : f * 2 ^ k < 2 ^ 63 = omega (arith, place, half, some) in
+      let same : cast_signed w64 (f * 2 ^ k) ≡ pos (f * 2 ^ k) = to_z_pos w64 (f * 2 ^ k) below in
+      rw (moved, same) (ap pos (shl-shr f k))
+
+  back_down : 2 ^ (n - 1) ≤ f → int_shr (cast_signed w64 (f * 2 ^ k % 2 ^ 64)) k ≡ negsuc (2 ^ (n - 1 + 1) - f - 1)
+  back_down most =
+      let place = mul-le (2 ^ (n - 1)) (2 ^ k) f (2 ^ k) most (omega arith) in
+      let above : 2 ^ 63 ≤ f * 2 ^ k = omega (arith, place, half) in
+      let high : nat_lt (f * 2 ^ k) (2 ^ 63) ≡ false = le-ltb (f * 2 ^ k) (2 ^ 63) above in
+      let same : cast_signed w64 (f * 2 ^ k) ≡ negsuc (2 ^ 64 - suc (f * 2 ^ k)) = rw high refl in
+      let all : (2 ^ (n - 1 + 1) - f - 1 + f + 1) * 2 ^ k ≡ 2 ^ 64 =
+      ap (λ m. m * 2 ^ k) (let e : 2 ^ (n - 1 + 1) - f - 1 + f + 1 ≡ 2 ^ (n - 1) * 2 ^ 1 = omega (arith, small, double) in e) ∙ omega (arith, half) in
+      let split : 2 ^ 64 - suc (f * 2 ^ k) ≡ (2 ^ (n - 1 + 1) - f - 1) * 2 ^ k + (2 ^ k - 1) = omega (arith, all, pow_pos k) in
+      rw (moved, same, split) (ap negsuc (shr_high (2 ^ (n - 1 + 1) - f - 1) k (2 ^ k - 1) (let some = pow_pos k in omega (arith, some))))
+
+pub sign_by_shifts : (n f : ℕ) → 0 < n → n < 64 → f < 2 ^ n → int_shr (cast_signed w64 (f * 2 ^ (64 - n) % 2 ^ 64)) (64 - n) ≡ signed n f
+sign_by_shifts n f some short small =
+    let back : n - 1 + 1 ≡ n = omega arith in
+    let sum : n - 1 + 1 + (64 - n) ≡ 64 = omega arith in
+    let below : f < 2 ^ (n - 1 + 1) = rw back small in
+    elim (cases_lt f (2 ^ (n - 1))) [
+      | inl less ↦ back_up n (64 - n) f sum below less ∙ sym (ap (λ b. if b then pos f else pos f -ℤ pos (2 ^ n)) (lt-ltb f (2 ^ (n - 1)) less))
+      | inr most ↦
+          let high = ap (λ b. if b then pos f else pos f -ℤ pos (2 ^ n)) (le-ltb f (2 ^ (n - 1)) most) in
+          let down : negsuc (2 ^ n - f - 1) ≡ pos f -ℤ pos (2 ^ n) = omega (arith, ints, small) in
+          (rw back at (back_down n (64 - n) f sum below most)) ∙ down ∙ sym high
+    ]
+
+pub signed_fits : (n f : ℕ) → 0 < n → n < 64 → f < 2 ^ n → FitsSigned w64 (signed n f)
+signed_fits n f some short small =
+    let fits : 2 ^ n ≤ 2 ^ 63 = pow_mono {i = n} {j = 63} (omega arith) in
+    elim (cases_lt f (2 ^ (n - 1))) [
+      | inl less ↦ rw (lt-ltb f (2 ^ (n - 1)) less) (record { sfits = omega (arith, fits, small) })
+      | inr most ↦
+          let down : negsuc (2 ^ n - f - 1) ≡ pos f -ℤ pos (2 ^ n) = omega (arith, ints, small) in
+          rw (le-ltb f (2 ^ (n - 1)) most, sym down) (record { sfits = omega (arith, fits, small) })
+    ]
 
 -- ---- a number that is read without a sign, as one of 63 bits with a sign
 

@@ -2,6 +2,7 @@ pub mod AArch64
 pub mod AArch64Relocations
 pub mod Agrees
 pub mod Bounds
+pub mod Choices
 pub mod Elf
 pub mod ElfNames
 pub mod Entries
@@ -9,6 +10,7 @@ pub mod Inner
 pub mod LoongArch
 pub mod LoongArchRelocations
 pub mod Numbers
+pub mod Originals
 pub mod Ppc64
 pub mod Ppc64Relocations
 pub mod Reach

@@ -1,6 +1,7 @@
-//! The vocabulary of relocations, the forms of instructions that hold a value, and the interfaces
-//! of forms and of rewrites.
+//! The vocabulary of relocations, the forms of instructions that hold a value, the interfaces of
+//! forms and of rewrites, and what a linker knows when it chooses a rewrite.
 
+mod choice;
 pub(crate) mod engine;
 mod entries;
 mod numbers;
@@ -25,6 +26,7 @@ pub use crate::aarch64::AArch64Instruction;
 pub use crate::loongarch64::LoongArch64Instruction;
 pub use crate::ppc64::Ppc64Instruction;
 pub use crate::riscv64::RiscVInstruction;
+pub use choice::{Choice, LinkFacts};
 use linker_base::bit_misc::BitRange;
 use linker_base::relaxation::RelocationModifier;
 pub use numbers::RelocationNumbers;

@@ -4,8 +4,8 @@ use Rattle.std.proofs.Common.{◌≡◌, ℕ, suc, ◌+◌, ◌-◌, ◌<◌, �
 use Rattle.std.proofs.lemmas.Bool.{cases_lt, both_ways, lt-ltb, ltb-true, ltb-false}
 use Rattle.linker_base.specs.Deletions.{IsValid, is_kept, rank}
 use Rattle.linker_base.proofs.Rank.{rank_kept, rank-mono}
-use Rattle.linker_utils.specs.Inner.Packing.{IsFilled, IsCopied}
-use Rattle.linker_utils.proofs.Packed.{run_kept, run_copied, run_fits, rank-gone, deleted_gone, copy_step}
+use Rattle.linker_riscv64.specs.Inner.Packing.{IsFilled, IsCopied}
+use Rattle.linker_riscv64.proofs.Packed.{run_kept, run_copied, run_fits, rank-gone, deleted_gone, copy_step}
 use Rattle.std.specs.Prelude.{nat_lt}
 use Rattle.std.specs.List.Sorted.{IsPartitionedBy, IsPartitionPoint}
 use Rattle.linker_base.specs.Deltas.{deletion_of}

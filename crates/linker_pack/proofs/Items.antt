@@ -5,7 +5,7 @@ use Rattle.std.proofs.lemmas.Bool.{cases_lt, cases_Bool}
 use Rattle.std.proofs.lemmas.List.{append_assoc, length-append, length-take, length-drop, get_or-take, get_or-drop, get_or-append_right, get_or_default, take_at, drop_at, same_lists}
 use Rattle.linker_base.specs.Deletions.{is_kept, rank}
 use Rattle.linker_base.proofs.Rank.{rank_kept, rank-mono, rank_steps}
-use Rattle.linker_utils.proofs.Packed.{put_below}
+use Rattle.linker_riscv64.proofs.Packed.{put_below}
 use Rattle.linker_relax.specs.declared.relaxation.Item.{Item}
 use Rattle.linker_relax.specs.declared.relaxation.Item.TheVariants.{Site, Aligned}
 use Rattle.linker_relax.specs.Relaxing.{offset_of, len_of, end_of, item_at}

@@ -5,7 +5,7 @@ ghost use Rattle.relocation_laws.specs.Schemes.{IsApplied, IsRejected};
 ghost use Rattle.linker_pack.specs.Sites.{operands_of};
 ghost use Rattle.linker_pack.specs.Inner.Pieces.{code_bytes};
 
-use linker_utils::elf::{Operands, RelocationKindInfo};
+use linker_elf::elf::{Operands, RelocationKindInfo};
 use relocation_laws::apply;
 
 /// The bytes of an instruction or of two.

@@ -15,9 +15,9 @@ ghost use Rattle.linker_pack.specs.Inner.Pieces.{template_is, code_bytes};
 
 use crate::code::{Code, Template, operands_of, pair_at, relocated};
 use crate::packing::ItemError;
-use linker_utils::elf::{AllowedRange, RelocationKindInfo, Sign};
-use linker_utils::loongarch64::{LoongArch64Relocation, RelaxationKind, relocation_type_from_raw};
-use linker_utils::utils::u32_from_slice;
+use linker_base::utils::u32_from_slice;
+use linker_elf::elf::{AllowedRange, RelocationKindInfo, Sign};
+use linker_loongarch64::{LoongArch64Relocation, RelaxationKind, relocation_type_from_raw};
 use relocation_laws::apply;
 
 /// The instructions of a site.

@@ -5,18 +5,18 @@ ghost use Rattle.std.specs.Prelude.{length};
 ghost use Rattle.std.specs.Prelude.{IsSomeAnd, IfSome, IfNone, ⊤};
 ghost use Rattle.std.specs.Int.{w32, to_le_bytes};
 ghost use Rattle.linker_elf.specs.RiscVRelocations.{riscv_row};
-ghost use Rattle.linker_utils.specs.RiscVRewrites.{tail_to_cj};
-ghost use Rattle.linker_utils.specs.RiscVCalls.{link_register};
-ghost use Rattle.linker_utils.specs.declared.riscv64.calls.LinkRegister.TheVariants.{OfJalr};
+ghost use Rattle.linker_riscv64.specs.RiscVRewrites.{tail_to_cj};
+ghost use Rattle.linker_riscv64.specs.RiscVCalls.{link_register};
+ghost use Rattle.linker_riscv64.specs.declared.calls.LinkRegister.TheVariants.{OfJalr};
 ghost use Rattle.linker_pack.specs.RiscVSites.{riscv_template, RiscVBecomes, RiscVAccepts};
 ghost use Rattle.linker_pack.specs.RiscVSites.{RiscVCause};
 ghost use Rattle.linker_pack.specs.Inner.Pieces.{template_is, code_bytes};
 
 use crate::code::{Code, Template, pair_at, relocated};
 use crate::packing::ItemError;
+use linker_elf::elf::RelocationKindInfo;
+use linker_riscv64::{RiscVRelocation, relocation_type_from_raw};
 use linker_runs::riscv64::link_at;
-use linker_utils::elf::RelocationKindInfo;
-use linker_utils::riscv64::{RiscVRelocation, relocation_type_from_raw};
 
 /// What a relocation means that has a row.
 fn row_of(name: RiscVRelocation) -> RelocationKindInfo

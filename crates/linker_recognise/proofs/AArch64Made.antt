@@ -3,12 +3,12 @@ use Rattle.std.proofs.Common.{◌≡◌, ℕ, List}
 use Rattle.linker_recognise.proofs.Kept.{all_meant, first_is_one, first_is_same}
 use Rattle.linker_recognise.specs.Recognised.{IsOneOf}
 use Rattle.linker_recognise.specs.AArch64Recognised.{AArch64Choice, aarch64_choices}
-use Rattle.linker_utils.specs.Choices.{choice}
-use Rattle.linker_utils.specs.AArch64Choices.{IsAArch64Choice, aarch64_entries, AArch64Applies}
-use Rattle.linker_utils.specs.AArch64Originals.{aarch64_matches}
-use Rattle.linker_utils.specs.declared.elf.choice.LinkFacts.{LinkFacts}
+use Rattle.linker_elf.specs.Choices.{choice}
+use Rattle.linker_aarch64.specs.AArch64Choices.{IsAArch64Choice, aarch64_entries, AArch64Applies}
+use Rattle.linker_aarch64.specs.AArch64Originals.{aarch64_matches}
+use Rattle.linker_elf.specs.declared.elf.choice.LinkFacts.{LinkFacts}
 use Rattle.linker_elf.specs.declared.aarch64.relocations.AArch64Relocation.{AArch64Relocation}
-use Rattle.linker_utils.specs.declared.aarch64.rewrites.RelaxationKind.TheVariants as kinds
+use Rattle.linker_aarch64.specs.declared.rewrites.RelaxationKind.TheVariants as kinds
 
 no_op_matches : (s : List ℕ) (o : ℕ) → aarch64_matches kinds.NoOp s o
 no_op_matches s o = tt

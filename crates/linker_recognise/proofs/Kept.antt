@@ -6,8 +6,8 @@ use Rattle.linker_recognise.specs.Recognised.{IsOneOf, AreThose, IsMade, IsFound
 use Rattle.linker_recognise.specs.Inner.Candidates.{padded, IsKept, AreKept}
 use Rattle.linker_recognise.specs.declared.engine.Made.{Made}
 use Rattle.linker_recognise.specs.declared.fields.FieldBits.{FieldBits}
-use Rattle.linker_utils.specs.Choices.{Entry, IsFirst, choice}
-use Rattle.linker_utils.specs.declared.elf.choice.Choice.{Choice}
+use Rattle.linker_elf.specs.Choices.{Entry, IsFirst, choice}
+use Rattle.linker_elf.specs.declared.elf.choice.Choice.{Choice}
 
 -- ---- lists with none at the end
 

@@ -5,14 +5,14 @@ use Rattle.std.specs.Bool.{⊤}
 use Rattle.linker_recognise.proofs.Kept.{AllMeant, first_is_one, first_is_same}
 use Rattle.linker_recognise.specs.Recognised.{IsOneOf}
 use Rattle.linker_recognise.specs.LoongArchRecognised.{LoongArchChoice, loongarch_choices}
-use Rattle.linker_utils.specs.Choices.{choice}
-use Rattle.linker_utils.specs.LoongArchChoices.{IsLoongArchChoice, loongarch_entries, LoongArchApplies, IsBehind, IsDescriptorSequence}
-use Rattle.linker_utils.specs.LoongArchOriginals.{loongarch_matches, IsPair, IsAddi, IsLd, IsPcalau12i, IsIntoOwnSource, word_at}
-use Rattle.linker_utils.specs.Originals.{HasWord}
-use Rattle.linker_utils.specs.declared.elf.choice.LinkFacts.{LinkFacts}
+use Rattle.linker_elf.specs.Choices.{choice}
+use Rattle.linker_loongarch64.specs.LoongArchChoices.{IsLoongArchChoice, loongarch_entries, LoongArchApplies, IsBehind, IsDescriptorSequence}
+use Rattle.linker_loongarch64.specs.LoongArchOriginals.{loongarch_matches, IsPair, IsAddi, IsLd, IsPcalau12i, IsIntoOwnSource, word_at}
+use Rattle.linker_elf.specs.Originals.{HasWord}
+use Rattle.linker_elf.specs.declared.elf.choice.LinkFacts.{LinkFacts}
 use Rattle.linker_elf.specs.declared.loongarch64.relocations.LoongArch64Relocation.{LoongArch64Relocation}
 use Rattle.linker_elf.specs.declared.loongarch64.relocations.LoongArch64Relocation.TheVariants as r
-use Rattle.linker_utils.specs.declared.loongarch64.rewrites.RelaxationKind.TheVariants as kinds
+use Rattle.linker_loongarch64.specs.declared.rewrites.RelaxationKind.TheVariants as kinds
 
 -- ---- what a relocation asks for is what its rewrites are meant for
 

@@ -3,12 +3,12 @@ use Rattle.std.proofs.Common.{◌≡◌, ℕ, List}
 use Rattle.linker_recognise.proofs.Kept.{all_meant, first_is_one, first_is_same}
 use Rattle.linker_recognise.specs.Recognised.{IsOneOf}
 use Rattle.linker_recognise.specs.Ppc64Recognised.{Ppc64Choice, ppc64_choices}
-use Rattle.linker_utils.specs.Choices.{choice}
-use Rattle.linker_utils.specs.Ppc64Choices.{IsPpc64Choice, ppc64_entries, Ppc64Applies}
-use Rattle.linker_utils.specs.Ppc64Originals.{ppc64_matches}
-use Rattle.linker_utils.specs.declared.elf.choice.LinkFacts.{LinkFacts}
+use Rattle.linker_elf.specs.Choices.{choice}
+use Rattle.linker_ppc64.specs.Ppc64Choices.{IsPpc64Choice, ppc64_entries, Ppc64Applies}
+use Rattle.linker_ppc64.specs.Ppc64Originals.{ppc64_matches}
+use Rattle.linker_elf.specs.declared.elf.choice.LinkFacts.{LinkFacts}
 use Rattle.linker_elf.specs.declared.ppc64.relocations.Ppc64Relocation.{Ppc64Relocation}
-use Rattle.linker_utils.specs.declared.ppc64.rewrites.RelaxationKind.TheVariants as kinds
+use Rattle.linker_ppc64.specs.declared.rewrites.RelaxationKind.TheVariants as kinds
 
 no_op_matches : (s : List ℕ) (o : ℕ) → ppc64_matches kinds.NoOp s o
 no_op_matches s o = tt

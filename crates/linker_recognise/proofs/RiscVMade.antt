@@ -3,13 +3,13 @@ use Rattle.std.proofs.Common.{◌≡◌, ℕ, List}
 use Rattle.linker_recognise.proofs.Kept.{AllMeant, all_meant, first_is_one, first_is_same}
 use Rattle.linker_recognise.specs.Recognised.{IsOneOf}
 use Rattle.linker_recognise.specs.RiscVRecognised.{RiscVChoice, riscv_choices}
-use Rattle.linker_utils.specs.Choices.{choice}
-use Rattle.linker_utils.specs.RiscVChoices.{IsRiscVChoice, riscv_entries, AppliesToRiscV, IsAskedFor}
-use Rattle.linker_utils.specs.RiscVOriginals.{riscv_matches}
-use Rattle.linker_utils.specs.declared.elf.choice.LinkFacts.{LinkFacts}
+use Rattle.linker_elf.specs.Choices.{choice}
+use Rattle.linker_riscv64.specs.RiscVChoices.{IsRiscVChoice, riscv_entries, AppliesToRiscV, IsAskedFor}
+use Rattle.linker_riscv64.specs.RiscVOriginals.{riscv_matches}
+use Rattle.linker_elf.specs.declared.elf.choice.LinkFacts.{LinkFacts}
 use Rattle.linker_elf.specs.declared.riscv64.relocations.RiscVRelocation.{RiscVRelocation}
 use Rattle.linker_elf.specs.declared.riscv64.relocations.RiscVRelocation.TheVariants as r
-use Rattle.linker_utils.specs.declared.riscv64.rewrites.RelaxationKind.TheVariants as kinds
+use Rattle.linker_riscv64.specs.declared.rewrites.RelaxationKind.TheVariants as kinds
 
 no_op_matches : (s : List ℕ) (o : ℕ) → riscv_matches kinds.NoOp s o
 no_op_matches s o = tt

@@ -12,7 +12,7 @@ use Rattle.linker_recognise.specs.WrittenRows.{WrittenIsLeft, without_deleted}
 use Rattle.linker_recognise.specs.declared.fields.FieldBits.{FieldBits}
 use Rattle.linker_recognise.proofs.Written.{written_is_left, no_gap}
 use Rattle.linker_recognise.proofs.WrittenRows.{row_changes_field}
-use Rattle.linker_utils.specs.declared.riscv64.rewrites.DeletedBytes.{DeletedBytes}
+use Rattle.linker_base.specs.declared.rewrite.DeletedBytes.{DeletedBytes}
 
 abbrev without : ℕ → ℕ → List ℕ → List ℕ
 without start count bytes = take start bytes ++ drop (start + count) bytes

@@ -3,13 +3,13 @@ use Rattle.std.proofs.Common.{◌≡◌, ℕ, ◌-◌, List, slice_index, rules}
 use Rattle.linker_recognise.proofs.Kept.{all_meant, first_is_one, first_is_same}
 use Rattle.linker_recognise.specs.Recognised.{IsOneOf}
 use Rattle.linker_recognise.specs.X86Recognised.{X86Choice, x86_64_choices}
-use Rattle.linker_utils.specs.Choices.{choice}
-use Rattle.linker_utils.specs.X86Choices.{X86Entry, Table, IsByTable, IsX86Choice, X86Applies, x86_64_table}
-use Rattle.linker_utils.specs.X86Originals.{is_one_at, x86_64_matches}
+use Rattle.linker_elf.specs.Choices.{choice}
+use Rattle.linker_x86_64.specs.X86Choices.{X86Entry, Table, IsByTable, IsX86Choice, X86Applies, x86_64_table}
+use Rattle.linker_x86_64.specs.X86Originals.{is_one_at, x86_64_matches}
 use Rattle.std.specs.Prelude.{IsTrue}
-use Rattle.linker_utils.specs.declared.elf.choice.LinkFacts.{LinkFacts}
+use Rattle.linker_elf.specs.declared.elf.choice.LinkFacts.{LinkFacts}
 use Rattle.linker_elf.specs.declared.x86_64.relocations.X86_64Relocation.{X86_64Relocation}
-use Rattle.linker_utils.specs.declared.x86_64.rewrites.RelaxationKind.TheVariants as kinds
+use Rattle.linker_x86_64.specs.declared.rewrites.RelaxationKind.TheVariants as kinds
 
 no_op_matches : (s : List ℕ) (o : ℕ) → x86_64_matches kinds.NoOp s o
 no_op_matches s o = search rules

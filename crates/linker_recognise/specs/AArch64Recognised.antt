@@ -6,13 +6,13 @@ use Rattle.linker_reads.specs.declared.fields.FieldValue.{FieldValue}
 use Rattle.linker_recognise.specs.Recognised.{IsLeft, IsMade, IsRead, IsFound, choices_of}
 use Rattle.linker_recognise.specs.declared.engine.Made.{Made}
 use Rattle.linker_recognise.specs.declared.fields.FieldBits.{FieldBits}
-use Rattle.linker_utils.specs.Choices.{choice}
-use Rattle.linker_utils.specs.AArch64Choices.{aarch64_entries}
-use Rattle.linker_utils.specs.AArch64Originals.{aarch64_matches}
-use Rattle.linker_utils.specs.AArch64Rewrites.{aarch64_rewrite}
-use Rattle.linker_utils.specs.declared.elf.choice.Choice.{Choice}
-use Rattle.linker_utils.specs.declared.aarch64.rewrites.RelaxationKind.{RelaxationKind}
-use Rattle.linker_utils.specs.declared.aarch64.rewrites.RelaxationKind.TheVariants as kinds
+use Rattle.linker_elf.specs.Choices.{choice}
+use Rattle.linker_aarch64.specs.AArch64Choices.{aarch64_entries}
+use Rattle.linker_aarch64.specs.AArch64Originals.{aarch64_matches}
+use Rattle.linker_aarch64.specs.AArch64Rewrites.{aarch64_rewrite}
+use Rattle.linker_elf.specs.declared.elf.choice.Choice.{Choice}
+use Rattle.linker_aarch64.specs.declared.rewrites.RelaxationKind.{RelaxationKind}
+use Rattle.linker_aarch64.specs.declared.rewrites.RelaxationKind.TheVariants as kinds
 
 abbrev pub AArch64Choice : Type 0
 AArch64Choice = Choice RelaxationKind AArch64Relocation

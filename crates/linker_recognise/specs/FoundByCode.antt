@@ -16,20 +16,20 @@ use Rattle.linker_recognise.specs.RiscVRecognised.{RiscVLeaves, RiscVReads, IsRi
 use Rattle.linker_recognise.specs.X86Recognised.{X86Leaves, X86Reads, IsX86Found}
 use Rattle.linker_recognise.specs.declared.engine.Made.{Made}
 use Rattle.linker_recognise.specs.declared.fields.FieldBits.{FieldBits}
-use Rattle.linker_utils.specs.AArch64Choices.{IsAArch64Choice}
+use Rattle.linker_aarch64.specs.AArch64Choices.{IsAArch64Choice}
 use Rattle.linker_utils.specs.Architectures.{of_some}
-use Rattle.linker_utils.specs.Choices.{choice}
-use Rattle.linker_utils.specs.LoongArchChoices.{IsLoongArchChoice}
-use Rattle.linker_utils.specs.Ppc64Choices.{IsPpc64Choice}
-use Rattle.linker_utils.specs.RiscVChoices.{IsRiscVChoice}
-use Rattle.linker_utils.specs.X86Choices.{IsX86Choice}
+use Rattle.linker_elf.specs.Choices.{choice}
+use Rattle.linker_loongarch64.specs.LoongArchChoices.{IsLoongArchChoice}
+use Rattle.linker_ppc64.specs.Ppc64Choices.{IsPpc64Choice}
+use Rattle.linker_riscv64.specs.RiscVChoices.{IsRiscVChoice}
+use Rattle.linker_x86_64.specs.X86Choices.{IsX86Choice}
 use Rattle.linker_utils.specs.declared.architecture.Relaxation.TheVariants as relaxations
 use Rattle.linker_utils.specs.declared.architecture.Relaxation.{Relaxation}
 use Rattle.linker_utils.specs.declared.elf.Architecture.TheVariants.{AArch64, RiscV, LoongArch64}
 use Rattle.linker_utils.specs.declared.elf.Architecture.TheVariants.{Ppc64, X86_64}
 use Rattle.linker_utils.specs.declared.elf.Architecture.{Architecture}
-use Rattle.linker_utils.specs.declared.elf.choice.Choice.{Choice}
-use Rattle.linker_utils.specs.declared.elf.choice.LinkFacts.{LinkFacts}
+use Rattle.linker_elf.specs.declared.elf.choice.Choice.{Choice}
+use Rattle.linker_elf.specs.declared.elf.choice.LinkFacts.{LinkFacts}
 
 -- the same with the rewrite as one of all architectures', and the relocation's code
 abbrev pub by_code : {K R : Type 0} → (K → Relaxation) → (R → ElfName) → Made K R

@@ -6,13 +6,13 @@ use Rattle.linker_reads.specs.declared.fields.FieldValue.{FieldValue}
 use Rattle.linker_recognise.specs.Recognised.{IsLeft, IsMade, IsRead, IsFound, choices_of}
 use Rattle.linker_recognise.specs.declared.engine.Made.{Made}
 use Rattle.linker_recognise.specs.declared.fields.FieldBits.{FieldBits}
-use Rattle.linker_utils.specs.Choices.{choice}
-use Rattle.linker_utils.specs.LoongArchChoices.{loongarch_entries}
-use Rattle.linker_utils.specs.LoongArchOriginals.{loongarch_matches}
-use Rattle.linker_utils.specs.LoongArchRewrites.{loongarch_rewrite, loongarch_deleted}
-use Rattle.linker_utils.specs.declared.elf.choice.Choice.{Choice}
-use Rattle.linker_utils.specs.declared.loongarch64.rewrites.RelaxationKind.{RelaxationKind}
-use Rattle.linker_utils.specs.declared.loongarch64.rewrites.RelaxationKind.TheVariants as kinds
+use Rattle.linker_elf.specs.Choices.{choice}
+use Rattle.linker_loongarch64.specs.LoongArchChoices.{loongarch_entries}
+use Rattle.linker_loongarch64.specs.LoongArchOriginals.{loongarch_matches}
+use Rattle.linker_loongarch64.specs.LoongArchRewrites.{loongarch_rewrite, loongarch_deleted}
+use Rattle.linker_elf.specs.declared.elf.choice.Choice.{Choice}
+use Rattle.linker_loongarch64.specs.declared.rewrites.RelaxationKind.{RelaxationKind}
+use Rattle.linker_loongarch64.specs.declared.rewrites.RelaxationKind.TheVariants as kinds
 
 abbrev pub LoongArchChoice : Type 0
 LoongArchChoice = Choice RelaxationKind LoongArch64Relocation

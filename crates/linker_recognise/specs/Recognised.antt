@@ -9,9 +9,9 @@ use Rattle.linker_reads.specs.declared.fields.FieldValue.{FieldValue}
 use Rattle.linker_recognise.specs.Fields.{is_in_field, AreSameBut}
 use Rattle.linker_recognise.specs.declared.engine.Made.{Made}
 use Rattle.linker_recognise.specs.declared.fields.FieldBits.{FieldBits}
-use Rattle.linker_utils.specs.Choices.{Entry, choice}
-use Rattle.linker_utils.specs.declared.elf.choice.Choice.{Choice}
-use Rattle.linker_utils.specs.declared.riscv64.rewrites.DeletedBytes.{DeletedBytes}
+use Rattle.linker_elf.specs.Choices.{Entry, choice}
+use Rattle.linker_elf.specs.declared.elf.choice.Choice.{Choice}
+use Rattle.linker_base.specs.declared.rewrite.DeletedBytes.{DeletedBytes}
 
 -- ---- what a rewrite leaves
 

@@ -5,13 +5,13 @@ use Rattle.linker_reads.specs.declared.fields.FieldValue.{FieldValue}
 use Rattle.linker_recognise.specs.Recognised.{IsLeft, IsMade, IsRead, IsFound, choices_of}
 use Rattle.linker_recognise.specs.declared.engine.Made.{Made}
 use Rattle.linker_recognise.specs.declared.fields.FieldBits.{FieldBits}
-use Rattle.linker_utils.specs.Choices.{choice}
-use Rattle.linker_utils.specs.RiscVChoices.{riscv_entries, riscv_row_of}
-use Rattle.linker_utils.specs.RiscVOriginals.{riscv_matches}
-use Rattle.linker_utils.specs.RiscVRewrites.{riscv_rewrite, riscv_deleted}
-use Rattle.linker_utils.specs.declared.elf.choice.Choice.{Choice}
-use Rattle.linker_utils.specs.declared.riscv64.rewrites.RelaxationKind.{RelaxationKind}
-use Rattle.linker_utils.specs.declared.riscv64.rewrites.RelaxationKind.TheVariants as kinds
+use Rattle.linker_elf.specs.Choices.{choice}
+use Rattle.linker_riscv64.specs.RiscVChoices.{riscv_entries, riscv_row_of}
+use Rattle.linker_riscv64.specs.RiscVOriginals.{riscv_matches}
+use Rattle.linker_riscv64.specs.RiscVRewrites.{riscv_rewrite, riscv_deleted}
+use Rattle.linker_elf.specs.declared.elf.choice.Choice.{Choice}
+use Rattle.linker_riscv64.specs.declared.rewrites.RelaxationKind.{RelaxationKind}
+use Rattle.linker_riscv64.specs.declared.rewrites.RelaxationKind.TheVariants as kinds
 
 abbrev pub RiscVChoice : Type 0
 RiscVChoice = Choice RelaxationKind RiscVRelocation

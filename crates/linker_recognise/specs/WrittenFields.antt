@@ -7,7 +7,7 @@ use Rattle.linker_elf.specs.declared.elf.RelocationKindInfo.{RelocationKindInfo}
 use Rattle.linker_recognise.specs.Fields.{AreSameButFor}
 use Rattle.linker_recognise.specs.X86Recognised.{X86Choice, X86Leaves}
 use Rattle.linker_recognise.specs.declared.fields.FieldBits.{FieldBits}
-use Rattle.linker_utils.specs.X86.{x86_64_rewrite}
+use Rattle.linker_x86_64.specs.X86.{x86_64_rewrite}
 
 -- a write changes bits of the row's field only
 abbrev pub WritesField : RelocationKindInfo → Type 0

@@ -7,8 +7,8 @@ use Rattle.linker_elf.specs.declared.elf.RelocationKindInfo.{RelocationKindInfo}
 use Rattle.linker_recognise.specs.Fields.{AreSameButFor}
 use Rattle.linker_recognise.specs.Recognised.{IsLeft, deleted_start, deleted_count}
 use Rattle.linker_recognise.specs.declared.fields.FieldBits.{FieldBits}
-use Rattle.linker_utils.specs.declared.elf.choice.Choice.{Choice}
-use Rattle.linker_utils.specs.declared.riscv64.rewrites.DeletedBytes.{DeletedBytes}
+use Rattle.linker_elf.specs.declared.elf.choice.Choice.{Choice}
+use Rattle.linker_base.specs.declared.rewrite.DeletedBytes.{DeletedBytes}
 
 -- both are bytes, and as many
 pub record AreBytes (before after : List ℕ) : Type 0 where

@@ -6,13 +6,13 @@ use Rattle.linker_reads.specs.declared.fields.FieldValue.{FieldValue}
 use Rattle.linker_recognise.specs.Recognised.{IsLeft, IsMade, IsRead, IsFound, choices_of}
 use Rattle.linker_recognise.specs.declared.engine.Made.{Made}
 use Rattle.linker_recognise.specs.declared.fields.FieldBits.{FieldBits}
-use Rattle.linker_utils.specs.Choices.{choice}
-use Rattle.linker_utils.specs.X86.{x86_64_rewrite}
-use Rattle.linker_utils.specs.X86Choices.{Table, x86_64_table}
-use Rattle.linker_utils.specs.X86Originals.{x86_64_matches}
-use Rattle.linker_utils.specs.declared.elf.choice.Choice.{Choice}
-use Rattle.linker_utils.specs.declared.x86_64.rewrites.RelaxationKind.{RelaxationKind}
-use Rattle.linker_utils.specs.declared.x86_64.rewrites.RelaxationKind.TheVariants as kinds
+use Rattle.linker_elf.specs.Choices.{choice}
+use Rattle.linker_x86_64.specs.X86.{x86_64_rewrite}
+use Rattle.linker_x86_64.specs.X86Choices.{Table, x86_64_table}
+use Rattle.linker_x86_64.specs.X86Originals.{x86_64_matches}
+use Rattle.linker_elf.specs.declared.elf.choice.Choice.{Choice}
+use Rattle.linker_x86_64.specs.declared.rewrites.RelaxationKind.{RelaxationKind}
+use Rattle.linker_x86_64.specs.declared.rewrites.RelaxationKind.TheVariants as kinds
 
 abbrev pub X86Choice : Type 0
 X86Choice = Choice RelaxationKind X86_64Relocation

@@ -8,12 +8,12 @@ ghost use Rattle.linker_recognise.specs.AArch64Recognised.{AArch64Reads, IsAArch
 ghost use Rattle.linker_recognise.specs.Inner.Candidates.{padded};
 ghost use Rattle.linker_recognise.specs.Recognised.{IsOneOf, AreThose};
 ghost use Rattle.linker_recognise.specs.WrittenRows.{WrittenIsLeft};
-ghost use Rattle.linker_utils.specs.Choices as choices;
-ghost use Rattle.linker_utils.specs.AArch64Choices.{IsAArch64Choice};
-ghost use Rattle.linker_utils.specs.AArch64Originals.{aarch64_matches};
-ghost use Rattle.linker_utils.specs.AArch64Rewrites.{aarch64_rewrite};
+ghost use Rattle.linker_elf.specs.Choices as choices;
+ghost use Rattle.linker_aarch64.specs.AArch64Choices.{IsAArch64Choice};
+ghost use Rattle.linker_aarch64.specs.AArch64Originals.{aarch64_matches};
+ghost use Rattle.linker_aarch64.specs.AArch64Rewrites.{aarch64_rewrite};
 ghost use Rattle.linker_utils.specs.declared.architecture.Relaxation.TheVariants as relaxations;
-ghost use Rattle.linker_utils.specs.declared.elf.choice.LinkFacts.{LinkFacts};
+ghost use Rattle.linker_elf.specs.declared.elf.choice.LinkFacts.{LinkFacts};
 
 use crate::candidates::{CANDIDATES, one, three, two};
 use crate::engine::{Kind, Made, Name, recognise_among, recognise_one};

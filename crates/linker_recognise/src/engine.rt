@@ -11,8 +11,8 @@ ghost use Rattle.linker_recognise.specs.Recognised.{HasField, IsLeft, AreLeft, d
 ghost use Rattle.linker_recognise.specs.Recognised.{deleted_count, linked_offset, value_at};
 ghost use Rattle.linker_recognise.specs.Recognised.{IsRead, IsOneOf, AreThose, IsMade, IsFound};
 ghost use Rattle.linker_utils.specs.declared.architecture.Relaxation.{Relaxation};
-ghost use Rattle.linker_utils.specs.declared.riscv64.rewrites.DeletedBytes.{DeletedBytes};
-ghost use Rattle.linker_utils.specs.declared.elf.choice.Choice.{Choice};
+ghost use Rattle.linker_base.specs.declared.rewrite.DeletedBytes.{DeletedBytes};
+ghost use Rattle.linker_elf.specs.declared.elf.choice.Choice.{Choice};
 
 use crate::candidates::CANDIDATES;
 use crate::fields::{FieldBits, are_same_but};

@@ -8,12 +8,12 @@ ghost use Rattle.linker_recognise.specs.LoongArchRecognised.{LoongArchReads, IsL
 ghost use Rattle.linker_recognise.specs.Inner.Candidates.{padded};
 ghost use Rattle.linker_recognise.specs.Recognised.{IsOneOf, AreThose};
 ghost use Rattle.linker_recognise.specs.WrittenRows.{WrittenIsLeft};
-ghost use Rattle.linker_utils.specs.Choices as choices;
-ghost use Rattle.linker_utils.specs.LoongArchChoices.{IsLoongArchChoice};
-ghost use Rattle.linker_utils.specs.LoongArchOriginals.{loongarch_matches};
-ghost use Rattle.linker_utils.specs.LoongArchRewrites.{loongarch_rewrite, loongarch_deleted};
+ghost use Rattle.linker_elf.specs.Choices as choices;
+ghost use Rattle.linker_loongarch64.specs.LoongArchChoices.{IsLoongArchChoice};
+ghost use Rattle.linker_loongarch64.specs.LoongArchOriginals.{loongarch_matches};
+ghost use Rattle.linker_loongarch64.specs.LoongArchRewrites.{loongarch_rewrite, loongarch_deleted};
 ghost use Rattle.linker_utils.specs.declared.architecture.Relaxation.TheVariants as relaxations;
-ghost use Rattle.linker_utils.specs.declared.elf.choice.LinkFacts.{LinkFacts};
+ghost use Rattle.linker_elf.specs.declared.elf.choice.LinkFacts.{LinkFacts};
 
 use crate::candidates::{CANDIDATES, one, three, two};
 use crate::engine::{Kind, Made, Name, recognise_among, recognise_one};

@@ -7,12 +7,12 @@ ghost use Rattle.linker_recognise.specs.Ppc64Recognised.{Ppc64Made, Ppc64Reads, 
 ghost use Rattle.linker_recognise.specs.Inner.Candidates.{padded};
 ghost use Rattle.linker_recognise.specs.Recognised.{IsOneOf, AreThose};
 ghost use Rattle.linker_recognise.specs.WrittenRows.{WrittenIsLeft};
-ghost use Rattle.linker_utils.specs.Choices as choices;
-ghost use Rattle.linker_utils.specs.Ppc64Choices.{IsPpc64Choice};
-ghost use Rattle.linker_utils.specs.Ppc64Originals.{ppc64_matches};
-ghost use Rattle.linker_utils.specs.Ppc64Rewrites.{ppc64_rewrite};
+ghost use Rattle.linker_elf.specs.Choices as choices;
+ghost use Rattle.linker_ppc64.specs.Ppc64Choices.{IsPpc64Choice};
+ghost use Rattle.linker_ppc64.specs.Ppc64Originals.{ppc64_matches};
+ghost use Rattle.linker_ppc64.specs.Ppc64Rewrites.{ppc64_rewrite};
 ghost use Rattle.linker_utils.specs.declared.architecture.Relaxation.TheVariants as relaxations;
-ghost use Rattle.linker_utils.specs.declared.elf.choice.LinkFacts.{LinkFacts};
+ghost use Rattle.linker_elf.specs.declared.elf.choice.LinkFacts.{LinkFacts};
 
 use crate::candidates::{CANDIDATES, four, one, three, two};
 use crate::engine::{Kind, Made, Name, recognise_among, recognise_one};

@@ -7,12 +7,12 @@ ghost use Rattle.linker_recognise.specs.RiscVRecognised.{RiscVMade, RiscVReads, 
 ghost use Rattle.linker_recognise.specs.Inner.Candidates.{padded};
 ghost use Rattle.linker_recognise.specs.Recognised.{IsOneOf, AreThose};
 ghost use Rattle.linker_recognise.specs.WrittenRows.{WrittenIsLeft};
-ghost use Rattle.linker_utils.specs.Choices as choices;
-ghost use Rattle.linker_utils.specs.RiscVChoices.{riscv_row_of, IsRiscVChoice};
-ghost use Rattle.linker_utils.specs.RiscVOriginals.{riscv_matches};
-ghost use Rattle.linker_utils.specs.RiscVRewrites.{riscv_rewrite, riscv_deleted};
+ghost use Rattle.linker_elf.specs.Choices as choices;
+ghost use Rattle.linker_riscv64.specs.RiscVChoices.{riscv_row_of, IsRiscVChoice};
+ghost use Rattle.linker_riscv64.specs.RiscVOriginals.{riscv_matches};
+ghost use Rattle.linker_riscv64.specs.RiscVRewrites.{riscv_rewrite, riscv_deleted};
 ghost use Rattle.linker_utils.specs.declared.architecture.Relaxation.TheVariants as relaxations;
-ghost use Rattle.linker_utils.specs.declared.elf.choice.LinkFacts.{LinkFacts};
+ghost use Rattle.linker_elf.specs.declared.elf.choice.LinkFacts.{LinkFacts};
 
 use crate::candidates::{CANDIDATES, five, four, one, three, two};
 use crate::engine::{Kind, Made, Name, recognise_among, recognise_one};

@@ -2,13 +2,5 @@
 //! alignment keeps.
 #![tactic(auto)]
 
-#[cfg(test)]
-mod random_runs;
-#[cfg(test)]
-mod refused_growth;
 pub mod relaxation;
 pub mod shapes;
-#[cfg(test)]
-mod taken_memory;
-#[cfg(test)]
-mod tests;

@@ -7,7 +7,7 @@ ghost use Rattle.linker_elf.specs.LoongArchRelocations.{loongarch_name};
 ghost use Rattle.linker_relax.specs.declared.relaxation.Item.{Item as items};
 ghost use Rattle.linker_relax.specs.declared.relaxation.Site.{Site as sites};
 ghost use Rattle.linker_relax.specs.declared.relaxation.Alignment.{Alignment as alignments};
-ghost use Rattle.linker_utils.specs.LoongArchOriginals.{IsAddi, IsCall, IsPair};
+ghost use Rattle.linker_loongarch64.specs.LoongArchOriginals.{IsAddi, IsCall, IsPair};
 ghost use Rattle.linker_runs.specs.Relocations.{relocation_at, AreMade, AreWellFormed};
 ghost use Rattle.linker_runs.specs.Relocations.{IsItemsCause};
 ghost use Rattle.linker_runs.specs.LoongArchItems.{HasLoongArchName, stated_power, stated_most};
@@ -17,9 +17,9 @@ ghost use Rattle.linker_runs.specs.LoongArchItems.{IsLoongArchSite, LoongArchMak
 ghost use Rattle.linker_runs.specs.LoongArchItems.{IsLoongArchFormed};
 
 use crate::items::{ItemsError, NotAllowed, Relocation, has_bytes, is_marked};
+use linker_loongarch64::{LoongArch64Relocation, RelaxationKind};
 use linker_relax::relaxation::{Alignment, Item, Shapes, Site};
 use linker_relax::shapes::loongarch64::{CALL36, PCALA};
-use linker_utils::loongarch64::{LoongArch64Relocation, RelaxationKind};
 use std::alloc::Global;
 
 /// Whether a relocation has a name.

@@ -4,8 +4,8 @@ ghost use Rattle.std.specs.Prelude.{◌≡◌, ◌+◌, ◌≤◌, ◌<◌, ◌^
 ghost use Rattle.std.specs.Prelude.{IfOk, OnOk, OnErr, IfErr, IfSome, IfNone, MatchOption, None};
 ghost use Rattle.std.specs.Int.{IsNextPowerOfTwo};
 ghost use Rattle.linker_relax.specs.declared.relaxation.Item.{Item as items};
-ghost use Rattle.linker_utils.specs.RiscVCalls.{link_register};
-ghost use Rattle.linker_utils.specs.declared.riscv64.calls.LinkRegister.TheVariants.{OfJalr};
+ghost use Rattle.linker_riscv64.specs.RiscVCalls.{link_register};
+ghost use Rattle.linker_riscv64.specs.declared.calls.LinkRegister.TheVariants.{OfJalr};
 ghost use Rattle.linker_runs.specs.Relocations.{relocation_at, AreMade, AreWellFormed};
 ghost use Rattle.linker_runs.specs.Relocations.{IsItemsCause};
 ghost use Rattle.linker_runs.specs.RiscVItems.{HasRiscVName, IsOfCall, AreRiscVNops, IsCallAt};
@@ -15,7 +15,7 @@ ghost use Rattle.linker_runs.specs.RiscVItems.{RiscVMakes, IsRiscVFormed, nop_le
 use crate::items::{ItemsError, NotAllowed, Relocation, has_bytes, is_marked};
 use linker_relax::relaxation::{Alignment, Item, Shapes, Site};
 use linker_relax::shapes::riscv64::{CALL, CALL_WITHOUT_C, TAIL_C};
-use linker_utils::riscv64::{LinkRegister, RiscVRelocation};
+use linker_riscv64::{LinkRegister, RiscVRelocation};
 use std::alloc::Global;
 
 /// Whether a relocation has a name.

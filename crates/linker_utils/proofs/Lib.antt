@@ -1,17 +1,1 @@
-pub mod AArch64Alike
-pub mod AArch64Choices
-pub mod AArch64Moves
-pub mod AArch64Rewrites
-pub mod Calls
-pub mod Jumps
-pub mod LoongArchAlike
-pub mod Ppc64Alike
-pub mod Packed
-pub mod Ppc64Rewrites
 pub mod RelocationNames
-pub mod RiscVAlike
-pub mod RiscVRewrites
-pub mod Shrinking
-pub mod X86Bytes
-pub mod X86Choices
-pub mod X86Originals

@@ -2,48 +2,48 @@
 use Rattle.std.specs.Prelude.{◌≡◌, ℕ, List, slice_get, Option, Some, None}
 use Rattle.linker_base.specs.Rewrite.{Rewrite, CanRewrite}
 use Rattle.linker_base.specs.declared.relaxation.RelocationModifier.{RelocationModifier}
-use Rattle.linker_utils.specs.AArch64Rewrites.{aarch64_rewrite, aarch64_modifier}
+use Rattle.linker_aarch64.specs.AArch64Rewrites.{aarch64_rewrite, aarch64_modifier}
 use Rattle.linker_elf.specs.AArch64.{aarch64_forms}
-use Rattle.linker_utils.specs.AArch64Rewrites.{aarch64_rewrites}
-use Rattle.linker_utils.specs.AArch64Choices.{IsAArch64Choice}
-use Rattle.linker_utils.specs.AArch64Originals.{aarch64_matches}
+use Rattle.linker_aarch64.specs.AArch64Rewrites.{aarch64_rewrites}
+use Rattle.linker_aarch64.specs.AArch64Choices.{IsAArch64Choice}
+use Rattle.linker_aarch64.specs.AArch64Originals.{aarch64_matches}
 use Rattle.linker_elf.specs.AArch64Relocations.{aarch64_name, aarch64_row}
-use Rattle.linker_utils.specs.Choices.{choice}
+use Rattle.linker_elf.specs.Choices.{choice}
 use Rattle.linker_elf.specs.ElfNames.{ElfName, IsNameOf, code_of}
 use Rattle.linker_elf.specs.LoongArch.{loongarch64_forms}
-use Rattle.linker_utils.specs.LoongArchChoices.{IsLoongArchChoice}
-use Rattle.linker_utils.specs.LoongArchOriginals.{loongarch_matches}
+use Rattle.linker_loongarch64.specs.LoongArchChoices.{IsLoongArchChoice}
+use Rattle.linker_loongarch64.specs.LoongArchOriginals.{loongarch_matches}
 use Rattle.linker_elf.specs.LoongArchRelocations.{loongarch_name, loongarch_row}
 use Rattle.linker_elf.specs.LoongArchRelocations.{loongarch_uleb128_role}
-use Rattle.linker_utils.specs.LoongArchRewrites.{loongarch_rewrite, loongarch_modifier}
-use Rattle.linker_utils.specs.LoongArchRewrites.{loongarch_deleted, loongarch64_rewrites}
+use Rattle.linker_loongarch64.specs.LoongArchRewrites.{loongarch_rewrite, loongarch_modifier}
+use Rattle.linker_loongarch64.specs.LoongArchRewrites.{loongarch_deleted, loongarch64_rewrites}
 use Rattle.linker_elf.specs.Ppc64.{ppc64_forms}
-use Rattle.linker_utils.specs.Ppc64Choices.{IsPpc64Choice}
-use Rattle.linker_utils.specs.Ppc64Originals.{ppc64_matches}
+use Rattle.linker_ppc64.specs.Ppc64Choices.{IsPpc64Choice}
+use Rattle.linker_ppc64.specs.Ppc64Originals.{ppc64_matches}
 use Rattle.linker_elf.specs.Ppc64Relocations.{ppc64_name, ppc64_row}
-use Rattle.linker_utils.specs.Ppc64Rewrites.{ppc64_rewrites, ppc64_rewrite, ppc64_modifier}
+use Rattle.linker_ppc64.specs.Ppc64Rewrites.{ppc64_rewrites, ppc64_rewrite, ppc64_modifier}
 use Rattle.linker_elf.specs.RiscV.{riscv_forms}
-use Rattle.linker_utils.specs.RiscVRewrites.{riscv_rewrites, riscv_rewrite, riscv_modifier}
-use Rattle.linker_utils.specs.RiscVRewrites.{riscv_deleted}
-use Rattle.linker_utils.specs.RiscVChoices.{IsRiscVChoice}
-use Rattle.linker_utils.specs.RiscVOriginals.{riscv_matches}
+use Rattle.linker_riscv64.specs.RiscVRewrites.{riscv_rewrites, riscv_rewrite, riscv_modifier}
+use Rattle.linker_riscv64.specs.RiscVRewrites.{riscv_deleted}
+use Rattle.linker_riscv64.specs.RiscVChoices.{IsRiscVChoice}
+use Rattle.linker_riscv64.specs.RiscVOriginals.{riscv_matches}
 use Rattle.linker_elf.specs.RiscVRelocations.{riscv_relocation, riscv_name, riscv_uleb128_role}
-use Rattle.linker_utils.specs.X86.{x86_64_rewrites, x86_64_rewrite, x86_64_modifier}
-use Rattle.linker_utils.specs.X86Choices.{IsX86Choice}
-use Rattle.linker_utils.specs.X86Originals.{x86_64_matches}
+use Rattle.linker_x86_64.specs.X86.{x86_64_rewrites, x86_64_rewrite, x86_64_modifier}
+use Rattle.linker_x86_64.specs.X86Choices.{IsX86Choice}
+use Rattle.linker_x86_64.specs.X86Originals.{x86_64_matches}
 use Rattle.linker_elf.specs.X86Relocations.{x86_64_name, x86_64_row}
 use Rattle.linker_utils.specs.declared.architecture.Relaxation.{Relaxation}
 use Rattle.linker_utils.specs.declared.architecture.Relaxation.TheVariants as relaxations
 use Rattle.linker_utils.specs.declared.elf.Architecture.{Architecture}
 use Rattle.linker_utils.specs.declared.elf.Architecture.TheVariants.{AArch64, RiscV, LoongArch64}
 use Rattle.linker_utils.specs.declared.elf.Architecture.TheVariants.{Ppc64, X86_64}
-use Rattle.linker_utils.specs.declared.elf.choice.Choice.{Choice}
-use Rattle.linker_utils.specs.declared.elf.choice.LinkFacts.{LinkFacts}
+use Rattle.linker_elf.specs.declared.elf.choice.Choice.{Choice}
+use Rattle.linker_elf.specs.declared.elf.choice.LinkFacts.{LinkFacts}
 use Rattle.linker_elf.specs.declared.elf.RelocationInstruction.{RelocationInstruction}
 use Rattle.linker_elf.specs.declared.elf.RelocationInstruction.TheVariants as insns
 use Rattle.linker_elf.specs.declared.elf.RelocationKindInfo.{RelocationKindInfo}
 use Rattle.linker_elf.specs.declared.elf.Uleb128Role.{Uleb128Role}
-use Rattle.linker_utils.specs.declared.riscv64.rewrites.DeletedBytes.{DeletedBytes}
+use Rattle.linker_base.specs.declared.rewrite.DeletedBytes.{DeletedBytes}
 
 -- ---- relocations, by their codes
 

@@ -1,15 +1,12 @@
 //! The vocabulary of relocations, the forms of instructions that hold a value, the interfaces of
 //! forms and of rewrites, the architectures, and what a linker knows when it chooses a rewrite.
 
-mod choice;
-
 ghost use Rattle.std.specs.Prelude.{◌≡◌};
 ghost use Rattle.linker_utils.specs.Machines.{architecture_of, machine_of};
 
-pub use choice::{Choice, LinkFacts};
 pub use linker_elf::elf::{
-    AArch64Instruction, AllowedRange, Bias, EM_AARCH64, EM_LOONGARCH, EM_PPC64, EM_RISCV,
-    EM_X86_64, InstructionForm, InstructionRewrite, LoongArch64Instruction, Operands,
+    AArch64Instruction, AllowedRange, Bias, Choice, EM_AARCH64, EM_LOONGARCH, EM_PPC64, EM_RISCV,
+    EM_X86_64, InstructionForm, InstructionRewrite, LinkFacts, LoongArch64Instruction, Operands,
     PAGE_MASK_4KB, PageMask, PageMaskPattern, Ppc64Instruction, RelocateError,
     RelocationInstruction, RelocationKind, RelocationKindInfo, RelocationNumbers, RelocationSize,
     RiscVInstruction, Row, SIZE_2GB, SIZE_2KB, SIZE_4GB, SIZE_4KB, Sign, Uleb128Role,

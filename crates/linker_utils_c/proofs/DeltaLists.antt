@@ -1,8 +1,11 @@
 -- Lists of deletions and deltas that are made one by one.
 use Rattle.std.proofs.Common.{◌≡◌, ℕ, ◌+◌, ◌<◌, List, [], ◌∷◌, ◌++◌, length, map, get_or, take, ap, ◌∙◌, arith}
+use Rattle.std.specs.List.Sorted.{IsNonDecreasingBy}
+use Rattle.std.proofs.lemmas.List.Sorted.{IsNonDecreasingBy-from_default}
 use Rattle.std.proofs.lemmas.List.{get_or-map, length-map, take_more}
 use Rattle.linker_utils_c.specs.declared.deltas.Deletion.{Deletion}
-use Rattle.linker_utils_c.specs.Deltas.{pair_of, pairs_in}
+use Rattle.linker_utils_c.specs.declared.merges.Key.{Key}
+use Rattle.linker_utils_c.specs.Deltas.{pair_of, pair_of_key, pairs_in}
 
 -- what a read past the end gives
 abbrev pub no_deletion : Deletion
@@ -17,3 +20,14 @@ pub take_more_map : {A B : Type 0} (f : A → B) (xs : List A) (i : ℕ) (d : A)
 take_more_map f xs i d within =
     let inside : i < length (map f xs) = omega (arith, length-map xs f) in
     take_more (map f xs) i (f d) inside ∙ ap (λ b. take i (map f xs) ++ b ∷ []) (get_or-map f xs i d (f d) within)
+
+abbrev pub no_key : Key
+no_key = record { bits = 0 }
+
+-- by ascending keys the offsets ascend
+pub keys_rise : (keys : List Key) → IsNonDecreasingBy (λ key. key.bits) keys → IsNonDecreasingBy (λ d. d.0) (map pair_of_key keys)
+keys_rise keys rise = IsNonDecreasingBy-from_default (λ d. d.0) (map pair_of_key keys) (0, 0) (λ i j before within.
+    let inside : j < length keys = omega (arith, length-map keys pair_of_key, within) in
+    let low : i < length keys = omega (arith, before, inside) in
+    let step = rise i j no_key before inside in
+    rw (get_or-map pair_of_key keys i no_key (0, 0) low, get_or-map pair_of_key keys j no_key (0, 0) inside) (omega (arith, step)))

@@ -1,16 +1,22 @@
 -- The deletions and deltas that C passes.
-use Rattle.std.specs.Prelude.{◌≡◌, ℕ, ◌+◌, ◌++◌, ◌<◌, List, length, map, take}
+use Rattle.std.specs.Prelude.{◌≡◌, ℕ, ◌+◌, ◌/◌, ◌%◌, ◌^◌, ◌++◌, ◌<◌, List, length, map, take}
 use Rattle.std.specs.List.Sorted.{IsNonDecreasing}
 use Rattle.linker_base.specs.declared.relaxation.RelaxDelta.{RelaxDelta}
-use Rattle.linker_base.specs.Deletions.{AreDisjoint, IsSortedUnion}
+use Rattle.linker_base.specs.Deletions.{AreDisjoint, IsValid, IsSortedUnion}
 use Rattle.linker_base.specs.Deltas.{deletions_of}
-use Rattle.linker_base.specs.Listed.{AreValidDeltas, IsFirstOverlapping}
+use Rattle.linker_base.specs.Listed.{AreValidDeltas, IsFirstInvalid, IsFirstOverlapping}
 use Rattle.linker_utils_c.specs.declared.deltas.Deletion.{Deletion}
 use Rattle.linker_utils_c.specs.declared.merges.MergeError.{MergeError}
-use Rattle.linker_utils_c.specs.declared.merges.MergeError.TheVariants.{OutOfMemory, Overlapping}
+use Rattle.linker_utils_c.specs.declared.merges.MergeError.TheVariants.{OutOfMemory, Invalid}
+use Rattle.linker_utils_c.specs.declared.merges.MergeError.TheVariants.{Overlapping}
+use Rattle.linker_utils_c.specs.declared.merges.Key.{Key}
 
 abbrev pub pair_of : Deletion → ℕ × ℕ
 pair_of deletion = (deletion.offset, deletion.bytes)
+
+-- the pair that a key stands for
+abbrev pub pair_of_key : Key → ℕ × ℕ
+pair_of_key key = (key.bits / 2 ^ 24, key.bits % 2 ^ 24)
 
 -- the deletions as pairs of an offset and a count of bytes
 abbrev pub pairs_in : List Deletion → List (ℕ × ℕ)
@@ -26,11 +32,12 @@ pub record AreMerged (all : List (ℕ × ℕ)) (deltas : List RelaxDelta) : Type
   pub union : IsSortedUnion all (deletions_of deltas)
   pub listed : AreValidDeltas deltas
 
--- why the additional deletions aren't merged: out of memory although they can be, or the first of
--- them that overlaps others
+-- why the additional deletions aren't merged: out of memory although they can be, the first of the
+-- old ones that isn't valid, or the first of the additional ones that overlaps others
 abbrev pub IsMergeError : List (ℕ × ℕ) → List (ℕ × ℕ) → MergeError → Type 0
-IsMergeError deletions additional OutOfMemory = AreDisjoint (deletions ++ additional)
-IsMergeError deletions additional (Overlapping at) = IsFirstOverlapping deletions additional at
+IsMergeError deletions additional OutOfMemory = IsValid deletions × AreDisjoint (deletions ++ additional)
+IsMergeError deletions additional (Invalid at) = IsFirstInvalid deletions at
+IsMergeError deletions additional (Overlapping at) = IsValid deletions × IsFirstOverlapping deletions additional at
 
 -- the query at the index is the first that is less than the one before it
 pub record IsFirstDecrease (queries : List ℕ) (at : ℕ) : Type 0 where

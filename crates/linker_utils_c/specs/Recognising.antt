@@ -12,7 +12,7 @@ use Rattle.linker_recognise.specs.declared.fields.FieldBits.{FieldBits}
 use Rattle.linker_utils.specs.Architectures.{relaxation_architecture}
 use Rattle.linker_utils.specs.declared.architecture.Relaxation.{Relaxation}
 use Rattle.linker_utils.specs.declared.elf.Architecture.{Architecture}
-use Rattle.linker_utils.specs.declared.elf.choice.LinkFacts.{LinkFacts}
+use Rattle.linker_elf.specs.declared.elf.choice.LinkFacts.{LinkFacts}
 use Rattle.linker_utils_c.specs.Choices.{IsChoiceInNumbers}
 use Rattle.linker_utils_c.specs.Reading.{field_of}
 use Rattle.linker_utils_c.specs.Status.{code}

@@ -4,7 +4,7 @@ ghost use Rattle.std.specs.Prelude.{◌≡◌, ℕ, IfSome, IfNone, Some};
 ghost use Rattle.linker_utils.specs.Architectures.{IsArchitectureChoice, relaxation_architecture};
 ghost use Rattle.linker_utils.specs.Machines.{architecture_of};
 ghost use Rattle.linker_utils.specs.declared.architecture.Relaxation.{Relaxation};
-ghost use Rattle.linker_utils.specs.declared.elf.choice.Choice.{Choice};
+ghost use Rattle.linker_elf.specs.declared.elf.choice.Choice.{Choice};
 ghost use Rattle.linker_utils_c.specs.Choices.{is_set, facts_of, IsChoiceInNumbers};
 ghost use Rattle.linker_utils_c.specs.Status.{code};
 

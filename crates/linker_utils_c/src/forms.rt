@@ -1,6 +1,6 @@
 //! Values in the immediates of instructions, by `e_machine` and a form's number.
 
-ghost use Rattle.std.specs.Prelude.{◌≡◌, ◌≢◌, IfOk, IfErr, IfSome, IfNone};
+ghost use Rattle.std.specs.Prelude.{◌≡◌, ◌≢◌, ◌≤◌, IfOk, IfErr, IfSome, IfNone};
 ghost use Rattle.std.specs.Int.{byte_len, cast_unsigned, w64};
 ghost use Rattle.linker_base.specs.Form.{window_of};
 ghost use Rattle.linker_elf.specs.Elf.{relocation_form};
@@ -152,6 +152,10 @@ pub extern "C" fn linker_utils_write_nonnull(
     }
 }
 
+/// The longest window of a form, in bytes. Only near a section's end are fewer left, so that the
+/// window of the form itself is seldom asked for.
+const LONGEST_WINDOW: usize = 8;
+
 // Reads a value by a form, if there is one.
 #[inline(always)]
 fn read_by<F: InstructionForm>(
@@ -160,6 +164,7 @@ fn read_by<F: InstructionForm>(
     value: &mut u64,
     negative: &mut u8,
 ) -> Status
+    requires { (named : F) → byte_len (F.form named).window ≤ 8 }
     ensures known { IfSome form
         (λ named. HasRoom (byte_len (F.form named).window) bytes.now (code result)) }
     ensures number { IfSome form (λ named. result ≡ Status.Success
@@ -174,7 +179,7 @@ fn read_by<F: InstructionForm>(
     let Some(named) = form else {
         return Status::UnknownForm;
     };
-    if bytes.len() < named.window() {
+    if bytes.len() < LONGEST_WINDOW && bytes.len() < named.window() {
         return Status::TooShort;
     }
     let (number, flag) = named.read(bytes);

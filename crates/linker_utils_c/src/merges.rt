@@ -1,12 +1,14 @@
 //! Deletions that are merged into deltas.
 
-ghost use Rattle.std.specs.Prelude.{◌≡◌, ◌≢◌, ◌+◌, ◌++◌, ◌↔◌, ◌⊎◌, IfOk, OnErr, MatchResult};
-ghost use Rattle.std.specs.Prelude.{length, map};
+ghost use Rattle.std.specs.Prelude.{◌≡◌, ◌≢◌, ◌+◌, ◌++◌, ◌↔◌, ◌⊎◌, IfOk, IfSome, OnErr};
+ghost use Rattle.std.specs.Prelude.{MatchOption, MatchResult, length, map, IsPermutation};
+ghost use Rattle.std.specs.List.Sorted.{IsNonDecreasingBy};
 ghost use Rattle.linker_base.specs.Deletions.{AreDisjoint, IsValid};
 ghost use Rattle.linker_base.specs.Deltas.{deletions_of};
 ghost use Rattle.linker_base.specs.Listed.{AreValidTogether, IsFirstInvalid, IsFirstOverlapping};
 ghost use Rattle.linker_utils_c.specs.Status.{code};
-ghost use Rattle.linker_utils_c.specs.Deltas.{pairs_in, AreMerged, IsMergeError};
+ghost use Rattle.linker_utils_c.specs.Deltas.{pair_of, pair_of_key, pairs_in, AreMerged};
+ghost use Rattle.linker_utils_c.specs.Deltas.{IsMergeError};
 
 use crate::deltas::Deletion;
 use crate::status::Status;
@@ -49,8 +51,8 @@ pub extern "C" fn linker_utils_deltas_is_mergeable_nonnull(
 /// `InvalidDeletions`, of the delta at `faulty`; `NotMergeable`, of the additional deletion at
 /// `faulty`, which overlaps a delta or an earlier one, or ends above 2^64 - 1; and `OutOfMemory`.
 /// Where the additional deletions ascend and can be merged it doesn't allocate, else it allocates
-/// one copy of them, and where they can't be merged further ones of the first of them. Where a copy
-/// is refused the work is as in `linker_utils_deltas_is_mergeable`.
+/// one copy of them at a time, and where they can't be merged further ones of the first of them.
+/// Where a copy is refused the work is as in `linker_utils_deltas_is_mergeable`.
 #[unsafe(no_mangle)]
 pub extern "C" fn linker_utils_deltas_merge_nonnull(
     alloc: Global,
@@ -93,12 +95,12 @@ pub extern "C" fn linker_utils_deltas_merge_nonnull(
         slice.merge_ascending(additional, merged);
         return Status::Success.number();
     }
-    if let Some(at) = first_invalid(deltas) {
-        *faulty = at;
-        return Status::InvalidDeletions.number();
-    }
     match merge_sorted(alloc, deltas, additional, merged) {
         Ok(()) => Status::Success.number(),
+        Err(MergeError::Invalid(at)) => {
+            *faulty = at;
+            Status::InvalidDeletions.number()
+        }
         Err(MergeError::Overlapping(at)) => {
             *faulty = at;
             Status::NotMergeable.number()
@@ -111,12 +113,15 @@ pub extern "C" fn linker_utils_deltas_merge_nonnull(
 enum MergeError {
     // They can be merged.
     OutOfMemory,
+    // The index of the first delta that isn't valid after those before it.
+    Invalid(usize),
     // The index of the first that can't be merged.
     Overlapping(usize),
 }
 
-// Merges deletions in any order: sorted, they are tested in the fewest steps. Without memory to
-// sort a copy of all, it is sorted copies of the first that are tested, or they as they are.
+// Merges deletions in any order: sorted, as keys where all have one, they are tested in the fewest
+// steps. Without memory to sort a copy of all, it is sorted copies of the first that are tested, or
+// they as they are.
 fn merge_sorted(
     alloc: Global,
     deltas: &[RelaxDelta],
@@ -124,26 +129,110 @@ fn merge_sorted(
     merged: &mut [RelaxDelta],
 ) -> Result<(), MergeError>
     requires places { length merged.old ≡ length deltas.now + length additional.now }
-    requires valid { IsValid (deletions_of deltas.now) }
-    ensures outcome { MatchResult result (λ _. AreMerged (deletions_of deltas.now ++ pairs_in additional.now) merged.new)
+    ensures outcome { MatchResult result (λ _. IsValid (deletions_of deltas.now)
+        × AreMerged (deletions_of deltas.now ++ pairs_in additional.now) merged.new)
         (IsMergeError (deletions_of deltas.now) (pairs_in additional.now)) }
     ensures err { OnErr result (merged.new ≡ merged.old) }
 {
-    let slice = DeltaSlice::new(deltas);
+    if let Some(mut keys) = keys(alloc, additional) {
+        keys.sort_unstable_by_key(|key| key.bits);
+        return merge_copy(alloc, deltas, additional, &keys, merged);
+    }
     let Ok(mut sorted) = pairs(alloc, additional) else {
-        return Err(match slice.first_overlapping_sorted(alloc, additional) {
-            Some(at) => MergeError::Overlapping(at),
+        return Err(match why_not(alloc, deltas, additional) {
+            Some(error) => error,
             None => MergeError::OutOfMemory,
         });
     };
     sorted.sort_unstable_by_key(|pair| pair.0);
-    if !slice.can_merge_ascending(&sorted) {
-        if let Some(at) = slice.first_overlapping_sorted(alloc, additional) {
-            return Err(MergeError::Overlapping(at));
+    merge_copy(alloc, deltas, additional, &sorted, merged)
+}
+
+// Merges deletions of which there is a sorted copy.
+fn merge_copy<D: AsDeletion>(
+    alloc: Global,
+    deltas: &[RelaxDelta],
+    additional: &[Deletion],
+    sorted: &[D],
+    merged: &mut [RelaxDelta],
+) -> Result<(), MergeError>
+    requires places { length merged.old ≡ length deltas.now + length additional.now }
+    requires same { IsPermutation (pairs_in additional.now) (map D.deletion sorted.now) }
+    requires rise { IsNonDecreasingBy (λ d. d.0) (map D.deletion sorted.now) }
+    ensures outcome { MatchResult result (λ _. IsValid (deletions_of deltas.now)
+        × AreMerged (deletions_of deltas.now ++ pairs_in additional.now) merged.new)
+        (IsMergeError (deletions_of deltas.now) (pairs_in additional.now)) }
+    ensures err { OnErr result (merged.new ≡ merged.old) }
+{
+    let slice = DeltaSlice::new(deltas);
+    if !slice.can_merge_ascending(sorted) {
+        if let Some(error) = why_not(alloc, deltas, additional) {
+            return Err(error);
         }
     }
-    slice.merge_ascending(&sorted, merged);
+    slice.merge_ascending(sorted, merged);
     Ok(())
+}
+
+// Why the deletions can't be merged, or none where they can.
+fn why_not(alloc: Global, deltas: &[RelaxDelta], additional: &[Deletion]) -> Option<MergeError>
+    ensures { MatchOption result
+        (IsValid (deletions_of deltas.now)
+        × AreDisjoint (deletions_of deltas.now ++ pairs_in additional.now))
+        (IsMergeError (deletions_of deltas.now) (pairs_in additional.now)) }
+{
+    if let Some(at) = first_invalid(deltas) {
+        return Some(MergeError::Invalid(at));
+    }
+    match DeltaSlice::new(deltas).first_overlapping_sorted(alloc, additional) {
+        Some(at) => Some(MergeError::Overlapping(at)),
+        None => None,
+    }
+}
+
+// A deletion in 64 bits: 40 of its offset, above 24 of how many bytes it is. Such numbers are sorted
+// sooner than pairs.
+#[derive(Clone, Copy)]
+struct Key {
+    bits: u64,
+}
+
+impl AsDeletion for Key {
+    ghost deletion = { pair_of_key };
+
+    #[inline(always)]
+    fn as_deletion(self) -> (u64, u32) {
+        (self.bits / 0x100_0000, (self.bits % 0x100_0000) as u32)
+    }
+}
+
+// The key of a deletion, or none where its offset or how many bytes it is has more bits than that.
+#[inline(always)]
+fn key_of(deletion: Deletion) -> Option<Key>
+    ensures { IfSome result (λ key. pair_of_key key ≡ pair_of deletion) }
+{
+    if deletion.offset >= 0x100_0000_0000 || deletion.bytes >= 0x100_0000 {
+        return None;
+    }
+    Some(Key {
+        bits: deletion.offset * 0x100_0000 + u64::from(deletion.bytes),
+    })
+}
+
+// The keys of the deletions, or none where one has no key or there is no memory for them.
+fn keys(alloc: Global, deletions: &[Deletion]) -> Option<Vec<Key>>
+    ensures { IfSome result (λ keys. map pair_of_key keys.items ≡ pairs_in deletions.now) }
+{
+    let Ok(mut keys) = Vec::with_capacity(alloc, deletions.len()) else {
+        return None;
+    };
+    for &deletion in deletions {
+        let Some(key) = key_of(deletion) else {
+            return None;
+        };
+        keys.push_reserved(key);
+    }
+    Some(keys)
 }
 
 fn pairs<D: AsDeletion>(alloc: Global, deletions: &[D]) -> Result<Vec<(u64, u32)>, OutOfMemory>

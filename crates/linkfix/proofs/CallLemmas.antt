@@ -1,16 +1,18 @@
 -- Calls by site, and where one more belongs.
-use Rattle.std.proofs.Common.{◌≡◌, ℕ, ◌+◌, ◌-◌, ◌<◌, ◌≤◌, List, [], ◌∷◌, ◌++◌, length, get_or, take, drop, nat_lt, true, false, refl, inl, inr, arith}
-use Rattle.std.specs.Prelude.{All, insert}
+use Rattle.std.proofs.Common.{Err, IsOk, ◌↔◌, subst, ◌≡◌, ℕ, ◌+◌, ◌-◌, ◌<◌, ◌≤◌, List, [], ◌∷◌, ◌++◌, length, get_or, take, drop, nat_lt, true, false, refl, inl, inr, arith}
+use Rattle.std.specs.Prelude.{Result, All, insert}
 use Rattle.std.specs.List.Sorted.{IsNonDecreasingBy, IsPartitionPoint}
-use Rattle.std.proofs.lemmas.Bool.{cases_lt, cases_order}
+use Rattle.std.proofs.lemmas.Bool.{cases_lt, cases_order, false≢true}
 use Rattle.std.proofs.lemmas.Bool.Decides.{nat_tests}
 use Rattle.std.proofs.lemmas.List.{get_or-take, get_or-drop, get_or_default, get_or_append_left, get_or-append_right, length-append, length-drop, length-take}
 use Rattle.std.proofs.lemmas.List.Elements.{All-cons}
 use Rattle.std.proofs.lemmas.List.Kept.{AllPairs-cons}
 use Rattle.std.proofs.lemmas.List.Sorted.{IsPermutation-insert, IsPermutation-to_front, IsPermutation-trans}
-use Rattle.linker_utils.specs.Packing.{AreApart, IsApart}
-use Rattle.linker_utils.proofs.Packed.{apart_take}
-use Rattle.linker_utils.specs.declared.riscv64.calls.CallError.{CallError}
+use Rattle.linker_riscv64.specs.Packing.{AreApart, IsApart}
+use Rattle.linker_riscv64.specs.RiscVCalls.{IsEven, IsJalDistance, IsSiteKept, output_distance}
+use Rattle.linker_riscv64.specs.declared.calls.CallError.TheVariants.{OutOfSection, SiteDeleted, OddDistance, TooFar}
+use Rattle.linker_riscv64.proofs.Packed.{apart_take}
+use Rattle.linker_riscv64.specs.declared.calls.CallError.{CallError}
 use Rattle.linkfix.specs.AcceptedCalls.{AreBySite, IsFarFrom, IsInsertionIndex}
 use Rattle.linkfix.specs.Execution.{CallFailsWith, Rejects}
 use Rattle.linkfix.specs.declared.commands.Command.TheVariants.{Call}
@@ -105,3 +107,23 @@ pub call_fails : (site target : ℕ) (state : SectionState) (error : ReportedErr
     → (cause : CallError) × (error ≡ CallFailed cause) × CallFailsWith cause state.section.items state.deltas site target
 call_fails site target state error far (inl bad) = absurd (bad.1 far)
 call_fails site target state error far (inr fails) = (fails.1, fails.2, fails.3)
+
+-- a jump over a distance fails as the call does, where the site lies in the section and is kept
+module _ (section : List ℕ) (ds : List (ℕ × ℕ)) (site target : ℕ) (result : Result (Unit {0}) CallError)
+    (four : site + 4 ≤ length section) (short : target ≤ length section) (kept : IsSiteKept ds site)
+    (accepted : IsOk result ↔ ((site + 4 ≤ length section) × IsEven (output_distance ds site target) × IsJalDistance (output_distance ds site target)))
+    (outside : (result ≡ Err OutOfSection) ↔ (length section < site + 4))
+    (odd : (result ≡ Err OddDistance) ↔ ((site + 4 ≤ length section) × ¬ (IsEven (output_distance ds site target))))
+    (far : (result ≡ Err TooFar) ↔ ((site + 4 ≤ length section) × IsEven (output_distance ds site target) × ¬ (IsJalDistance (output_distance ds site target)))) where
+  never_deleted : result ≡ Err SiteDeleted → ⊥
+  never_deleted is =
+      let uneven : IsEven (output_distance ds site target) → ⊥ = λ even.
+      let not_near : IsJalDistance (output_distance ds site target) → ⊥ = λ near. absurd (false≢true (subst IsOk is (accepted.1 (four, even, near)))) in
+      cc (is, far.1 (four, even, not_near)) in
+      cc (is, odd.1 (four, uneven))
+
+  pub jump_errors : (error : CallError) → (result ≡ Err error) ↔ CallFailsWith error section ds site target
+  jump_errors OutOfSection = (λ is. absurd (omega (arith, outside.0 is, four)), λ out. absurd (out (four, short)))
+  jump_errors SiteDeleted = (λ is. absurd (never_deleted is), λ gone. absurd (gone.1 kept))
+  jump_errors OddDistance = (λ is. ((four, short), kept, (odd.0 is).1), λ fails. odd.1 (four, fails.2))
+  jump_errors TooFar = (λ is. ((four, short), kept, (far.0 is).1, (far.0 is).2), λ fails. far.1 (four, fails.2, fails.3))

@@ -1,4 +1,5 @@
 mod CallLemmas
+mod DeletionLemmas
 mod Determined
 mod Digits
 mod LineLemmas

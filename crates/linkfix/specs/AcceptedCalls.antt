@@ -1,6 +1,6 @@
 -- The calls that were made jumps.
 use Rattle.std.specs.Prelude.{ℕ, ◌+◌, ◌≤◌, ◌⊎◌, List, All, IsPermutation, length, take, drop}
-use Rattle.linker_utils.specs.Packing.{AreApart}
+use Rattle.linker_riscv64.specs.Packing.{AreApart}
 
 -- calls, each a site and a target, and for how many more there is room
 pub record CallList : Type 0 where

@@ -1,5 +1,6 @@
 pub mod AcceptedCalls
 pub mod AnswerLines
+pub mod ByOffset
 pub mod CommandSyntax
 pub mod DecodedHex
 pub mod ErrorLines

@@ -2,7 +2,7 @@
 
 ghost use Rattle.std.specs.Prelude.{◌≡◌, ◌<◌, ◌≤◌, ◌++◌, ◌∷◌, [], All, OnOk, MatchOption, length};
 ghost use Rattle.std.specs.List.Sorted.{IsPartitionPoint};
-ghost use Rattle.linker_utils.specs.Packing.{AreApart};
+ghost use Rattle.linker_riscv64.specs.Packing.{AreApart};
 ghost use Rattle.linkfix.specs.AcceptedCalls.{AreBySite, IsFarFrom, IsInsertionIndex};
 
 use std::alloc::{AllocError, Global};
@@ -20,7 +20,7 @@ pub struct AcceptedCalls {
 
 impl Model for AcceptedCalls {
     ghost use Rattle.std.specs.Prelude.{◌-◌, vec_len, vec_capacity};
-    ghost use Rattle.linker_utils.specs.Packing.{AreApart};
+    ghost use Rattle.linker_riscv64.specs.Packing.{AreApart};
     ghost use Rattle.linkfix.specs.AcceptedCalls.{CallList};
 
     ghost Value = { CallList };

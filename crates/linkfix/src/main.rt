@@ -4,11 +4,10 @@
 
 mod accepted_calls;
 mod commands;
+mod deletions;
 mod input;
 mod program;
 mod sections;
-#[cfg(test)]
-mod tests;
 
 use std::process::ExitCode;
 

@@ -6,10 +6,10 @@ ghost use Rattle.std.specs.String.{string_bytes};
 ghost use Rattle.std.specs.Io.KnownBytes.{Appends};
 ghost use Rattle.hex.specs.Hex.{encode_lower};
 ghost use Rattle.linker_base.specs.Deletions.{AreDisjoint, IsSortedUnion, IsSelected, HasInput};
-ghost use Rattle.linker_utils.specs.Packing.{IsPacked};
-ghost use Rattle.linker_utils.specs.RiscVCalls.{JumpsAt, output_distance};
-ghost use Rattle.linker_utils.specs.declared.riscv64.calls.CallError.{CallError};
-ghost use Rattle.linker_utils.specs.declared.riscv64.calls.LinkRegister.{LinkRegister};
+ghost use Rattle.linker_riscv64.specs.Packing.{IsPacked};
+ghost use Rattle.linker_riscv64.specs.RiscVCalls.{JumpsAt, output_distance};
+ghost use Rattle.linker_riscv64.specs.declared.calls.CallError.{CallError};
+ghost use Rattle.linker_riscv64.specs.declared.calls.LinkRegister.{LinkRegister};
 ghost use Rattle.linkfix.specs.AnswerLines.{answer_line};
 ghost use Rattle.linkfix.specs.ErrorLines.{error_line};
 ghost use Rattle.linkfix.specs.Execution.{CallFailsWith, EndsWith, Executes, ExecutesInput};
@@ -23,10 +23,11 @@ ghost use Rattle.linkfix.specs.declared.sections.LineFault.{LineFault};
 
 use crate::accepted_calls::AcceptedCalls;
 use crate::commands::{BadLine, Command, parse_command};
+use crate::deletions::Deletions;
 use crate::input::{InputError, Lines};
 use crate::sections::{LineFault, read_section, show_section};
-use linker_utils::relaxation::{OutOfMemory, PackError, SectionRelaxDeltas, pack_section};
-use linker_utils::riscv64::{CallError, relax_call};
+use linker_utils::relaxation::{OutOfMemory, PackError, pack_section};
+use linker_utils::riscv64::CallError;
 use std::alloc::{AllocError, Global};
 use std::io;
 use std::io::{Read, Write};
@@ -122,6 +123,14 @@ impl From<AllocError> for ReportedError {
     }
 }
 
+impl From<OutOfMemory> for ReportedError {
+    ghost from_gives = { λ _ reported. reported ≡ ReportedError.OutOfMemory };
+
+    fn from(_e: OutOfMemory) -> ReportedError {
+        ReportedError::OutOfMemory
+    }
+}
+
 impl From<ReportedError> for RunError {
     ghost from_gives = { λ error run_error. run_error ≡ RunError.Reported error };
 
@@ -196,7 +205,7 @@ fn execute_lines<R: Read + Drop, W: Write>(
     let mut state = SectionState {
         alloc,
         section: read_section(alloc, &line)?,
-        deltas: SectionRelaxDeltas::new(alloc, &[])?,
+        deltas: Deletions::new(alloc)?,
         calls: AcceptedCalls::new(alloc),
     };
     while lines.next_line(&mut line)? {
@@ -240,7 +249,7 @@ impl Answer {
 struct SectionState {
     alloc: Global,
     section: Vec<u8>,
-    deltas: SectionRelaxDeltas,
+    deltas: Deletions,
     calls: AcceptedCalls,
 }
 
@@ -282,7 +291,7 @@ impl SectionState {
                 Ok(Answer::Done)
             }
             Command::ToOutput { input_offset } => {
-                let number = self.deltas.input_to_output_offset(input_offset);
+                let number = self.deltas.to_output(input_offset);
                 Ok(Answer::Line(number_line(self.alloc, number)?))
             }
             Command::ToInput { output_offset } => {
@@ -302,7 +311,7 @@ impl SectionState {
     }
 
     /// Adds a deletion. `BadDeletion` if it overlaps an earlier one, begins at the same offset, or
-    /// ends past 2^64 - 1. It takes O(m) for the m deletions above it, whose sums change.
+    /// ends past 2^64 - 1.
     fn delete(&mut self, offset: u64, bytes: u32) -> Result<(), ReportedError>
         ensures deleted { OnOk result
             (IsSortedUnion (self.old.deltas ++ (offset, bytes) ∷ []) self.new.deltas) }
@@ -314,12 +323,11 @@ impl SectionState {
         ensures section_stays { self.new.section ≡ self.old.section }
         ensures calls_stay { self.new.calls ≡ self.old.calls }
     {
-        let pair = [(offset, bytes)];
-        if !self.deltas.is_mergeable(&pair) {
+        if !self.deltas.can_add(offset, bytes) {
             return Err(ReportedError::BadDeletion);
         }
         self.deltas
-            .merge_additional(&pair)
+            .add(self.alloc, offset, bytes)
             .map_err(|_| ReportedError::OutOfMemory)
     }
 
@@ -330,10 +338,9 @@ impl SectionState {
             ↔ ¬ HasInput self.now.deltas output_offset }
         ensures errors { IfErr result (λ e. e ≡ ReportedError.TooLarge) }
     {
-        if !self.deltas.output_fits(output_offset) {
-            return Err(ReportedError::TooLarge);
-        }
-        Ok(self.deltas.output_to_input_offset(output_offset))
+        self.deltas
+            .to_input(output_offset)
+            .ok_or(ReportedError::TooLarge)
     }
 
     /// Replaces the call at `site` by one jump to `target`, and accepts it. `BadCall` if its site
@@ -372,7 +379,7 @@ impl SectionState {
         ensures calls_stay { self.new.calls ≡ self.old.calls }
         ensures len_stays { length self.new.section.items ≡ length self.old.section.items }
     {
-        relax_call(self.section.as_mut_slice(), &self.deltas, site, target)
+        self.deltas.jump(self.section.as_mut_slice(), site, target)
     }
 
     /// The section packed, with the accepted calls made jumps.
@@ -384,12 +391,8 @@ impl SectionState {
         ensures causes { (error : ReportedError) → Rejects Command.Pack self.now error
             → (result ≡ Err error) ⊎ (result ≡ Err ReportedError.OutOfMemory) }
     {
-        match pack_section(
-            self.alloc,
-            &self.section,
-            &self.deltas,
-            self.calls.as_slice(),
-        ) {
+        let deltas = self.deltas.all(self.alloc)?;
+        match pack_section(self.alloc, &self.section, &deltas, self.calls.as_slice()) {
             Ok(packed) => Ok(packed),
             Err(PackError::OutOfMemory) => Err(ReportedError::OutOfMemory),
             Err(PackError::Call { error, .. }) => Err(ReportedError::Call(error)),

@@ -9,7 +9,7 @@ use Rattle.linker_relax.specs.declared.relaxation.Item.{Item}
 use Rattle.linker_relax.specs.Relaxing.{item_at}
 use Rattle.linker_relax.specs.Deleting.{deletion_at, deletions_before}
 use Rattle.linker_relax.proofs.Deletions.{deletions_none, deletions_next}
-use Rattle.linker_utils.specs.Shrinking.{shrinking, chosen_deletions, IsChosen}
+use Rattle.linker_riscv64.specs.Shrinking.{shrinking, chosen_deletions, IsChosen}
 use Rattle.relax_laws.specs.Calls.{pair_at}
 
 -- whether one of the deletions takes the position

@@ -9,7 +9,7 @@ use Rattle.linker_relax.specs.declared.relaxation.Item.TheVariants.{Site, Aligne
 use Rattle.linker_relax.specs.Relaxing.{offset_of, len_of, end_of, item_at, kept_by, freed_before, choice_of, short_shape, needed, limit_of, AreInOrder, IsSound}
 use Rattle.linker_relax.specs.Deleting.{deletion_at, deletions_before}
 use Rattle.linker_relax.proofs.Layouts.{ends_ascend}
-use Rattle.linker_utils.proofs.Packed.{rank-kept, rank-gone}
+use Rattle.linker_riscv64.proofs.Packed.{rank-kept, rank-gone}
 use Rattle.relax_laws.specs.FirstBytes.{FirstBytesAreKept}
 use Rattle.relax_laws.proofs.Covering.{takes, losing, lost}
 use Rattle.relax_laws.proofs.Reaching.{loses_some, loses_none}

@@ -10,7 +10,7 @@ use Rattle.linker_relax.specs.Relaxing.{item_at, offset_of, target_of, kept_by, 
 use Rattle.linker_relax.specs.Choosing.{AreItems, IsRelaxation, IsInReachExactly, HaveNoAlignment, IsSite}
 use Rattle.linker_relax.specs.Deleting.{deletions_before}
 use Rattle.linker_relax.proofs.Translations.{KeepsLayout, translations_of}
-use Rattle.linker_utils.specs.Shrinking.{chosen_deletions, with_chosen, IsChosen, IsInReach, AreInReach, IsGreatest}
+use Rattle.linker_riscv64.specs.Shrinking.{chosen_deletions, with_chosen, IsChosen, IsInReach, AreInReach, IsGreatest}
 use Rattle.relax_laws.specs.Calls.{call_shapes, IsRunOf, IsDeletedItem, pair_at, CallsAreShrunkAlike}
 use Rattle.relax_laws.proofs.Covering.{takes, same_test, takes_joined, takes_left, takes_right, Loses, losing, lost, taking, taken, choosing, chosen_takes, rank_alike}
 use Rattle.relax_laws.proofs.Reaching.{call_loses, call_keeps, deleted_loses, jal_reaches, call_reaches, long_reaches, deleted_reaches, call_place, deleted_site}

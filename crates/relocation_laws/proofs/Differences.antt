@@ -19,7 +19,7 @@ use Rattle.linker_elf.specs.declared.elf.RelocationKind.TheVariants.{AbsoluteSub
 use Rattle.linker_elf.specs.declared.elf.RelocationSize.TheVariants.{ByteSize}
 use Rattle.linker_elf.specs.declared.elf.value.Operands.{Operands}
 use Rattle.linker_elf.proofs.Agreement.{rem_rem}
-use Rattle.linker_utils.proofs.RiscVRewrites.{cast_negative}
+use Rattle.linker_base.proofs.Bits.{cast_negative}
 use Rattle.linker_elf.proofs.WrittenNumbers.{row_number}
 use Rattle.linker_base.proofs.Fields.{mod_mod}
 use Rattle.relocation_laws.specs.Differences.{distance}

@@ -13,7 +13,7 @@ use Rattle.linker_elf.specs.Agrees.{bits_from}
 use Rattle.linker_elf.specs.LoongArch.{page}
 use Rattle.linker_elf.specs.Value.{sum_64, difference_64}
 use Rattle.linker_elf.proofs.Agreement.{rem_rem}
-use Rattle.linker_utils.proofs.RiscVRewrites.{cast_negative}
+use Rattle.linker_base.proofs.Bits.{cast_negative}
 use Rattle.relocation_laws.specs.Schemes.{IsAddress}
 
 -- ---- addresses of sums

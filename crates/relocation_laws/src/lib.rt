@@ -17,7 +17,7 @@ ghost use Rattle.relocation_laws.specs.Ppc64Laws as ppc64_laws;
 ghost use Rattle.relocation_laws.specs.RiscVLaws as riscv_laws;
 ghost use Rattle.relocation_laws.specs.X86Laws as x86_laws;
 
-use linker_utils::elf::{Operands, RelocationKindInfo};
+use linker_elf::elf::{Operands, RelocationKindInfo};
 
 /// Computes the value of a relocation and writes it. Returns `true` if it has one and `write`
 /// accepts it. Then the relocation is applied, as the laws require. Otherwise nothing is written.

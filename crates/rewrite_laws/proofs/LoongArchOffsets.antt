@@ -9,13 +9,13 @@ use Rattle.std.proofs.lemmas.Int.{ints}
 use Rattle.linker_base.specs.Bits.{field, signed}
 use Rattle.linker_elf.specs.Value.{sum_64, difference_64}
 use Rattle.linker_elf.specs.declared.elf.value.Operands.{Operands}
-use Rattle.linker_utils.specs.Choices.{ValueIsWithin, RowIsWithin}
-use Rattle.linker_utils.specs.LoongArchChoices.{signed_32, signed_12}
+use Rattle.linker_elf.specs.Choices.{ValueIsWithin, RowIsWithin}
+use Rattle.linker_loongarch64.specs.LoongArchChoices.{signed_32, signed_12}
 use Rattle.linker_elf.specs.LoongArchRelocations.{loongarch_row}
 use Rattle.linker_elf.specs.declared.loongarch64.relocations.LoongArch64Relocation.TheVariants as names
-use Rattle.linker_utils.specs.declared.loongarch64.rewrites.RelaxationKind.TheVariants as kinds
-use Rattle.linker_utils.specs.LoongArchOriginals.{adds_low12}
-use Rattle.linker_utils.specs.LoongArchRewrites.{rd_of, rj_of}
+use Rattle.linker_loongarch64.specs.declared.rewrites.RelaxationKind.TheVariants as kinds
+use Rattle.linker_loongarch64.specs.LoongArchOriginals.{adds_low12}
+use Rattle.linker_loongarch64.specs.LoongArchRewrites.{rd_of, rj_of}
 use Rattle.relocation_laws.specs.LoongArchLaws as relocation_laws
 use Rattle.relocation_laws.specs.Schemes.{IsAddress, AreAddresses, symbol_address}
 use Rattle.relocation_laws.proofs.Applied.{value_is, taken_bits}

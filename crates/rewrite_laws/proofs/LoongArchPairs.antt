@@ -4,15 +4,15 @@ use Rattle.std.specs.Int.{w64, cast_signed}
 use Rattle.std.proofs.lemmas.Bool.{cases_lt}
 use Rattle.std.proofs.lemmas.Int.{ints, to_z_pos}
 use Rattle.linker_base.specs.Bits.{field, signed}
-use Rattle.linker_utils.specs.Choices.{ValueIsWithin}
+use Rattle.linker_elf.specs.Choices.{ValueIsWithin}
 use Rattle.linker_elf.specs.LoongArch.{pcalau12i, loongarch_form}
-use Rattle.linker_utils.specs.LoongArchChoices.{signed_32}
-use Rattle.linker_utils.specs.LoongArchRewrites.{rd_of, rj_of}
+use Rattle.linker_loongarch64.specs.LoongArchChoices.{signed_32}
+use Rattle.linker_loongarch64.specs.LoongArchRewrites.{rd_of, rj_of}
 use Rattle.linker_elf.specs.Relocate.{bits_taken}
 use Rattle.linker_elf.specs.Value.{sum_64, difference_64}
 use Rattle.linker_elf.specs.declared.elf.value.Operands.{Operands}
 use Rattle.linker_elf.specs.declared.loongarch64.forms.LoongArch64Instruction.TheVariants.{Shift5}
-use Rattle.linker_utils.proofs.RiscVRewrites.{cast_negative}
+use Rattle.linker_base.proofs.Bits.{cast_negative}
 use Rattle.relocation_laws.specs.LoongArchLaws as relocation_laws
 use Rattle.relocation_laws.specs.Schemes.{IsAddress, AreAddresses, symbol_address, entry_and_addend}
 use Rattle.relocation_laws.proofs.Applied.{value_is, taken_bits}

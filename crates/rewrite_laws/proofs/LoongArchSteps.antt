@@ -9,7 +9,7 @@ use Rattle.std.proofs.lemmas.Int.{ints}
 use Rattle.std.proofs.lemmas.Nat.{or_shifted}
 use Rattle.linker_base.specs.Bits.{field, signed}
 use Rattle.linker_base.proofs.Pairs.{signed_cases}
-use Rattle.linker_utils.specs.LoongArchRewrites.{rd_of, rj_of}
+use Rattle.linker_loongarch64.specs.LoongArchRewrites.{rd_of, rj_of}
 use Rattle.relocation_laws.proofs.Sums.{lifted_is}
 use Rattle.rewrite_laws.specs.Machine.{wrapped, loaded}
 use Rattle.rewrite_laws.specs.LoongArchMachine.{State, step, run, decode, read, write, with_register, go_on, next_pc, continue, execute, EndSo, AreAlikeBut, pcalau_12, pcadd_2, lu12i_w, sums, adds, loads, ori, page_address, near_address, high_part, sum_of, ored}

@@ -18,11 +18,11 @@ use Rattle.linker_elf.specs.declared.elf.RelocationKind.{RelocationKind}
 use Rattle.linker_elf.specs.declared.elf.RelocationKind.TheVariants.{TpOff, TlsDesc, GotTpOff, GotRelative, Relative, RelativeRiscVLow12}
 use Rattle.linker_elf.specs.declared.elf.value.Operands.{Operands}
 use Rattle.linker_elf.specs.declared.riscv64.forms.RiscVInstruction.TheVariants.{UType, IType}
-use Rattle.linker_utils.specs.RiscVOriginals.{opcode_of, funct3_of, rd_of}
-use Rattle.linker_utils.specs.RiscVRewrites.{rewrites_word, load_to_addi}
+use Rattle.linker_riscv64.specs.RiscVOriginals.{opcode_of, funct3_of, rd_of}
+use Rattle.linker_riscv64.specs.RiscVRewrites.{rewrites_word, load_to_addi}
 use Rattle.linker_base.specs.Rewrite.{rewritten}
-use Rattle.linker_utils.specs.declared.riscv64.rewrites.RelaxationKind.TheVariants as kinds
-use Rattle.linker_utils.proofs.RiscVRewrites.{cast_negative}
+use Rattle.linker_riscv64.specs.declared.rewrites.RelaxationKind.TheVariants as kinds
+use Rattle.linker_base.proofs.Bits.{cast_negative}
 use Rattle.relocation_laws.specs.RiscVLaws.{DescriptorAddresses, EntryAddresses, ThreadAddresses, RelativeAddresses}
 use Rattle.relocation_laws.specs.Schemes.{IsApplied, symbol_address, entry_and_addend}
 use Rattle.relocation_laws.proofs.Sums.{sum_below}

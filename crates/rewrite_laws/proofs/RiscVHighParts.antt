@@ -11,11 +11,11 @@ use Rattle.linker_base.specs.Bits.{field, signed}
 use Rattle.linker_base.specs.Form.{place_sum}
 use Rattle.linker_base.specs.declared.bit_misc.BitRange.{BitRange}
 use Rattle.linker_base.proofs.Pairs.{signed_cases}
-use Rattle.linker_utils.specs.Choices.{low_12_bounds}
+use Rattle.linker_elf.specs.Choices.{low_12_bounds}
 use Rattle.linker_elf.specs.Elf.{IsWithin}
 use Rattle.linker_elf.specs.Reach.{clui_bounds}
 use Rattle.linker_elf.specs.RiscV.{riscv_form, riscv_places}
-use Rattle.linker_utils.specs.RiscVOriginals.{opcode_of, rd_of}
+use Rattle.linker_riscv64.specs.RiscVOriginals.{opcode_of, rd_of}
 use Rattle.linker_elf.specs.RiscVRelocations.{pair_row}
 use Rattle.linker_elf.specs.Value.{sum_64, difference_64, value_of}
 use Rattle.linker_elf.specs.declared.elf.RelocationKind.{RelocationKind}
@@ -25,7 +25,7 @@ use Rattle.linker_elf.specs.declared.elf.value.Operands.{Operands}
 use Rattle.linker_elf.specs.declared.riscv64.forms.RiscVInstruction.TheVariants.{UType, CluiType}
 use Rattle.linker_elf.specs.declared.riscv64.forms.RiscVInstruction.TheVariants.{CjType}
 use Rattle.linker_elf.proofs.RiscV.{u_laid, clui_laid}
-use Rattle.linker_utils.proofs.RiscVRewrites.{cast_negative}
+use Rattle.linker_base.proofs.Bits.{cast_negative}
 use Rattle.relocation_laws.specs.Schemes.{IsApplied, symbol_address}
 use Rattle.relocation_laws.proofs.Applied.{value_is, taken_bits}
 use Rattle.relocation_laws.proofs.Instructions.{unbiased}

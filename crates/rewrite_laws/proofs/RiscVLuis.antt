@@ -5,17 +5,17 @@ use Rattle.std.proofs.Common.{Some, w64, subst}
 use Rattle.std.specs.Int.{cast_signed, w16, w32, from_le_bytes}
 use Rattle.linker_base.specs.Bits.{field, signed}
 use Rattle.linker_base.specs.Form.{place_sum}
-use Rattle.linker_utils.specs.RiscVRewrites.{hi20_to_clui}
-use Rattle.linker_utils.specs.RiscVCalls.{word_at}
+use Rattle.linker_riscv64.specs.RiscVRewrites.{hi20_to_clui}
+use Rattle.linker_riscv64.specs.RiscVCalls.{word_at}
 use Rattle.linker_elf.specs.RiscV.{riscv_places}
-use Rattle.linker_utils.specs.RiscVOriginals.{rd_of, IsLui}
+use Rattle.linker_riscv64.specs.RiscVOriginals.{rd_of, IsLui}
 use Rattle.linker_elf.specs.declared.riscv64.forms.RiscVInstruction.TheVariants.{UType, CluiType}
-use Rattle.linker_utils.specs.declared.riscv64.rewrites.RelaxationKind.TheVariants as kinds
-use Rattle.linker_utils.proofs.RiscVRewrites.{half_of_front}
+use Rattle.linker_riscv64.specs.declared.rewrites.RelaxationKind.TheVariants as kinds
+use Rattle.linker_riscv64.proofs.RiscVRewrites.{half_of_front}
 use Rattle.relocation_laws.specs.Schemes.{symbol_address}
 use Rattle.relocation_laws.proofs.Sums.{sum_below}
 use Rattle.rewrite_laws.specs.Machine.{deleted, wrapped}
-use Rattle.linker_utils.specs.Choices.{low_12_bounds}
+use Rattle.linker_elf.specs.Choices.{low_12_bounds}
 use Rattle.linker_elf.specs.Elf.{IsWithin}
 use Rattle.rewrite_laws.proofs.RiscVHighParts.{high_20}
 use Rattle.rewrite_laws.specs.RiscVLaws.{IsLow12, after_rewrite, LuiBecomesClui, LuiIsDeleted}
@@ -28,7 +28,7 @@ use Rattle.linker_elf.specs.Value.{sum_64}
 use Rattle.linker_elf.specs.declared.elf.RelocationKind.{RelocationKind}
 use Rattle.linker_elf.specs.declared.elf.RelocationKind.TheVariants.{Absolute, TpOff}
 use Rattle.linker_elf.specs.declared.elf.value.Operands.{Operands}
-use Rattle.linker_utils.specs.Originals.{HasWord}
+use Rattle.linker_elf.specs.Originals.{HasWord}
 use Rattle.rewrite_laws.specs.RiscVMachine.{Hart, register, with_integer}
 use Rattle.rewrite_laws.proofs.RiscVHighParts.{upper_put, upper_runs, upper_is, upper_register}
 use Rattle.rewrite_laws.proofs.RiscVHighParts.{upper_stands, no_high_part, low_12_number}

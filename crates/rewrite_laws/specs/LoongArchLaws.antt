@@ -4,18 +4,20 @@ use Rattle.std.specs.Prelude.{◌≡◌, ◌≢◌, ℕ, Bool, false, ◌==◌, 
 use Rattle.std.specs.Prelude.{IsSomeAnd, IsTrue, ⊤, ◌/◌, ◌^◌, Option, Some, if◌then◌else◌}
 use Rattle.std.specs.Int.{w32, from_le_bytes}
 use Rattle.linker_base.specs.Rewrite.{Rewrite}
-use Rattle.linker_utils.specs.Choices.{RowIsWithin}
-use Rattle.linker_utils.specs.LoongArchChoices.{AreOfDescriptor, signed_32, unsigned_12, signed_12}
-use Rattle.linker_utils.specs.LoongArchOriginals.{IsAddi, IsLd, AreOfOneRegister, IsCall, IsLu12i}
-use Rattle.linker_utils.specs.LoongArchOriginals.{IsAddTp, adds_low12}
+use Rattle.linker_elf.specs.Choices.{RowIsWithin}
+use Rattle.linker_loongarch64.specs.LoongArchChoices.{AreOfDescriptor, signed_32, unsigned_12}
+use Rattle.linker_loongarch64.specs.LoongArchChoices.{signed_12}
+use Rattle.linker_loongarch64.specs.LoongArchOriginals.{IsAddi, IsLd, AreOfOneRegister, IsCall}
+use Rattle.linker_loongarch64.specs.LoongArchOriginals.{IsLu12i}
+use Rattle.linker_loongarch64.specs.LoongArchOriginals.{IsAddTp, adds_low12}
 use Rattle.linker_elf.specs.LoongArchRelocations.{loongarch_row}
-use Rattle.linker_utils.specs.LoongArchRewrites.{loongarch_rewrite, rd_of, rj_of, tp}
+use Rattle.linker_loongarch64.specs.LoongArchRewrites.{loongarch_rewrite, rd_of, rj_of, tp}
 use Rattle.linker_elf.specs.Value.{sum_64, difference_64}
 use Rattle.linker_elf.specs.declared.elf.value.Operands.{Operands}
 use Rattle.linker_elf.specs.declared.loongarch64.relocations.LoongArch64Relocation.{LoongArch64Relocation}
 use Rattle.linker_elf.specs.declared.loongarch64.relocations.LoongArch64Relocation.TheVariants as names
-use Rattle.linker_utils.specs.declared.loongarch64.rewrites.RelaxationKind.{RelaxationKind}
-use Rattle.linker_utils.specs.declared.loongarch64.rewrites.RelaxationKind.TheVariants as kinds
+use Rattle.linker_loongarch64.specs.declared.rewrites.RelaxationKind.{RelaxationKind}
+use Rattle.linker_loongarch64.specs.declared.rewrites.RelaxationKind.TheVariants as kinds
 use Rattle.relocation_laws.specs.Schemes.{IsApplied, AreAddresses, symbol_address, plt_address}
 use Rattle.relocation_laws.specs.Schemes.{entry_and_addend}
 use Rattle.rewrite_laws.specs.Machine.{loaded, Relocated}

@@ -4,19 +4,19 @@ use Rattle.std.specs.Prelude.{◌≡◌, ℕ, ◌-◌, ◌^◌, ◌<◌, ◌++�
 use Rattle.std.specs.Prelude.{Some, neg_ℤ, pos}
 use Rattle.std.specs.List.{All}
 use Rattle.linker_base.specs.Rewrite.{rewritten, offset_after}
-use Rattle.linker_utils.specs.Choices.{operands_after}
+use Rattle.linker_elf.specs.Choices.{operands_after}
 use Rattle.linker_elf.specs.Value.{difference_64}
-use Rattle.linker_utils.specs.X86.{x86_64_rewrite}
-use Rattle.linker_utils.specs.X86Originals.{Original, is_one_at, legacy, x86_64_matches}
-use Rattle.linker_utils.specs.X86Originals.{x86_64_originals}
+use Rattle.linker_x86_64.specs.X86.{x86_64_rewrite}
+use Rattle.linker_x86_64.specs.X86Originals.{Original, is_one_at, legacy, x86_64_matches}
+use Rattle.linker_x86_64.specs.X86Originals.{x86_64_originals}
 use Rattle.linker_elf.specs.X86Relocations.{x86_64_row}
-use Rattle.linker_utils.specs.X86RelocationsAfter.{x86_64_relocation_after}
+use Rattle.linker_x86_64.specs.X86RelocationsAfter.{x86_64_relocation_after}
 use Rattle.linker_elf.specs.declared.elf.RelocationKindInfo.{RelocationKindInfo}
 use Rattle.linker_elf.specs.declared.elf.value.Operands.{Operands}
 use Rattle.linker_elf.specs.declared.x86_64.relocations.X86_64Relocation.{X86_64Relocation}
 use Rattle.linker_elf.specs.declared.x86_64.relocations.X86_64Relocation.TheVariants as names
-use Rattle.linker_utils.specs.declared.x86_64.rewrites.RelaxationKind.{RelaxationKind}
-use Rattle.linker_utils.specs.declared.x86_64.rewrites.RelaxationKind.TheVariants as kinds
+use Rattle.linker_x86_64.specs.declared.rewrites.RelaxationKind.{RelaxationKind}
+use Rattle.linker_x86_64.specs.declared.rewrites.RelaxationKind.TheVariants as kinds
 use Rattle.relocation_laws.specs.Schemes.{AreAddresses, IsApplied}
 use Rattle.rewrite_laws.specs.X86Machine.{State, load, step}
 

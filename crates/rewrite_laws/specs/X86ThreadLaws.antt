@@ -4,20 +4,20 @@ use Rattle.std.specs.Prelude.{◌≡◌, ℕ, ◌-◌, ◌^◌, ◌<◌, ◌≤�
 use Rattle.std.specs.Prelude.{Bool}
 use Rattle.std.specs.Prelude.{IsTrue, IsSomeAnd, List, drop, Some, ⊤}
 use Rattle.linker_base.specs.Rewrite.{rewritten, offset_after}
-use Rattle.linker_utils.specs.Choices.{operands_after}
+use Rattle.linker_elf.specs.Choices.{operands_after}
 use Rattle.linker_elf.specs.Relocate.{number_of_bytes}
 use Rattle.linker_elf.specs.Value.{sum_64, difference_64}
-use Rattle.linker_utils.specs.X86.{x86_64_rewrite}
-use Rattle.linker_utils.specs.X86Originals.{x86_64_matches, Original, original, byte, field4}
-use Rattle.linker_utils.specs.X86Originals.{is_one_at}
+use Rattle.linker_x86_64.specs.X86.{x86_64_rewrite}
+use Rattle.linker_x86_64.specs.X86Originals.{x86_64_matches, Original, original, byte, field4}
+use Rattle.linker_x86_64.specs.X86Originals.{is_one_at}
 use Rattle.linker_elf.specs.X86Relocations.{x86_64_row}
-use Rattle.linker_utils.specs.X86RelocationsAfter.{x86_64_relocation_after}
+use Rattle.linker_x86_64.specs.X86RelocationsAfter.{x86_64_relocation_after}
 use Rattle.std.specs.Prelude.{IsFalse, [], ◌∷◌}
 use Rattle.linker_elf.specs.declared.elf.value.Operands.{Operands}
 use Rattle.linker_elf.specs.declared.x86_64.relocations.X86_64Relocation.TheVariants as names
 use Rattle.linker_elf.specs.declared.x86_64.relocations.X86_64Relocation.{X86_64Relocation}
-use Rattle.linker_utils.specs.declared.x86_64.rewrites.RelaxationKind.{RelaxationKind}
-use Rattle.linker_utils.specs.declared.x86_64.rewrites.RelaxationKind.TheVariants as kinds
+use Rattle.linker_x86_64.specs.declared.rewrites.RelaxationKind.{RelaxationKind}
+use Rattle.linker_x86_64.specs.declared.rewrites.RelaxationKind.TheVariants as kinds
 use Rattle.relocation_laws.specs.Schemes.{AreAddresses, IsApplied}
 use Rattle.rewrite_laws.specs.X86Laws.{IsBefore, IsRelocated, thread_offset}
 use Rattle.rewrite_laws.specs.X86Machine.{State, load, extended, step, run}

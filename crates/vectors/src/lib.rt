@@ -1,24 +1,11 @@
-//! Test vectors that cross crates, and `poke`, which uses only the interface of instruction forms.
+//! `poke`, which uses only the interface of instruction forms, and tests of calls that take memory,
+//! which have to run as the prover's compiler built them.
 #![tactic(auto)]
 
-#[cfg(test)]
-mod bits;
-#[cfg(test)]
-mod deltas;
-#[cfg(test)]
-mod jumps;
-#[cfg(test)]
-mod packing;
 pub mod poke;
-#[cfg(test)]
-mod readers;
 #[cfg(test)]
 mod refused_growth;
 #[cfg(test)]
 mod rows;
 #[cfg(test)]
-mod shrinking;
-#[cfg(test)]
 mod taken_memory;
-#[cfg(test)]
-mod windows;

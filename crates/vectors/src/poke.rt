@@ -2,10 +2,13 @@
 //! `InstructionForm` alone.
 //!
 //! ```
+//! use linker_utils::elf::RiscVInstruction;
+//! use vectors::poke::poke;
+//!
 //! // jal x0, 0 at offset 4 becomes jal x0, 8
 //! let mut section = [0x00, 0x00, 0x00, 0x00, 0x6f, 0x00, 0x00, 0x00];
-//! poke(RiscVInstruction::JType, 8, false, &mut section, 4);
-//! // section[4..] is now 6f 00 80 00
+//! assert!(poke(RiscVInstruction::JType, 8, false, &mut section, 4));
+//! assert_eq!(section[4..], [0x6f, 0x00, 0x80, 0x00]);
 //! ```
 
 ghost use Rattle.std.specs.Prelude.{◌≡◌, ◌≤◌, ◌%◌, ◌^◌, ◌↔◌, IsTrue, false, length};
@@ -81,66 +84,4 @@ pub fn write_back<F: InstructionForm>(form: F, section: &mut [u8], offset: usize
     let (value, negative) = form.read(bytes);
     let field = truncate(form, value, bytes);
     poke(form, field, negative, section, offset)
-}
-
-#[cfg(test)]
-mod tests {
-    use super::{poke, write_back};
-    use crate::rows::expect_eq;
-    use linker_utils::elf::{AArch64Instruction, LoongArch64Instruction, RiscVInstruction};
-
-    /// A word of 0, and `jal x0, 0`.
-    const JUMP: [u8; 8] = [0x00, 0x00, 0x00, 0x00, 0x6f, 0x00, 0x00, 0x00];
-
-    #[test]
-    fn values_are_written_at_an_offset(rt: HostRuntime) {
-        let mut section = JUMP;
-        assert!(rt; poke(RiscVInstruction::JType, 8, false, &mut section, 4));
-        expect_eq(
-            &rt,
-            "section",
-            section,
-            [0x00, 0x00, 0x00, 0x00, 0x6f, 0x00, 0x80, 0x00],
-        );
-    }
-
-    #[test]
-    fn windows_past_the_end_are_rejected(rt: HostRuntime) {
-        for offset in [5, 8, 9, usize::MAX] {
-            let mut section = JUMP;
-            assert!(rt; !poke(RiscVInstruction::JType, 8, false, &mut section, offset));
-            expect_eq(&rt, offset, section, JUMP);
-        }
-    }
-
-    #[test]
-    fn values_that_do_not_fit_are_rejected(rt: HostRuntime) {
-        let mut section = [0; 4];
-        assert!(rt; !poke(AArch64Instruction::Adr, 1 << 21, false, &mut section, 0));
-        expect_eq(&rt, "section", section, [0; 4]);
-    }
-
-    /// Bits 16 to 31 of -65537, the complement of 0x10000: `movz x3, #0, lsl #16` becomes
-    /// `movn x3, #1, lsl #16`.
-    #[test]
-    fn negative_values_set_the_opcode_of_movn(rt: HostRuntime) {
-        let mut section = 0xd2a0_0003u32.to_le_bytes();
-        assert!(rt; poke(AArch64Instruction::Movnz, 0xfffe, true, &mut section, 0));
-        expect_eq(&rt, "section", section, 0x92a0_0023u32.to_le_bytes());
-    }
-
-    /// `b.eq` by -4 bytes, whose 19 bits are all 1, and a pair of `CALL30` with bit 5 set in word
-    /// one.
-    #[test]
-    fn values_are_read_and_written_back(rt: HostRuntime) {
-        let branch = [0x00, 0x00, 0x00, 0x00, 0xe0, 0xff, 0xff, 0x54];
-        let mut section = branch;
-        assert!(rt; write_back(AArch64Instruction::Bcond, &mut section, 4));
-        expect_eq(&rt, "section", section, branch);
-        assert!(rt; !write_back(AArch64Instruction::Bcond, &mut section, 5));
-        expect_eq(&rt, "section", section, branch);
-        let mut call = [0x20, 0x00, 0x00, 0x00, 0x00, 0x00, 0x00, 0x00];
-        assert!(rt; write_back(LoongArch64Instruction::Call30, &mut call, 0));
-        expect_eq(&rt, "call", call, [0; 8]);
-    }
 }

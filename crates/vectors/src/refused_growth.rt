@@ -3,6 +3,10 @@
 //! whichever growth is refused.
 
 use crate::rows::expect_eq;
+use linker_relax::relaxation::{Item, Site, are_items, relax};
+use linker_relax::shapes::riscv64::CALL as CALL_SHAPES;
+use linker_runs::items::Relocation;
+use linker_runs::{loongarch64, riscv64};
 use linker_utils::relaxation::{
     OutOfMemory, PackError, RelaxDeltaMap, SectionRelaxDeltas, calls_apart, calls_shrinkable,
     pack_section, shrink_calls,
@@ -258,5 +262,78 @@ fn an_error_leaves_the_text_unread(rt: HostRuntime) -> Result<(), Fail> {
         expect_eq(&rt, bytes, read?.as_str(), text);
         expect_eq(&rt, bytes, content, b"b".as_slice());
     }
+    Ok(())
+}
+
+/// So many calls of themselves that their deletions have more than one block.
+pub(crate) fn many_calls() -> [Item; 1100] {
+    let mut items = [call_at(0); 1100];
+    for at in 0..1100 {
+        items[at] = call_at(8 * at as u64);
+    }
+    items
+}
+
+fn call_at(offset: u64) -> Item {
+    Item::Site(Site {
+        offset,
+        len: 8,
+        target: offset,
+        shapes: CALL_SHAPES,
+    })
+}
+
+#[test]
+fn a_refused_run_is_relaxed_when_tried_again(rt: HostRuntime) -> Result<(), Fail> {
+    let alloc = rt.alloc();
+    let items = many_calls();
+    assert!(rt; are_items(&items, 0));
+    let plan = relax(alloc, &items, 0).or_else(|_| relax(alloc, &items, 0))?;
+    assert!(rt; items == many_calls());
+    assert!(rt; plan.shapes.iter().all(|shape| *shape == 0));
+    assert!(rt; plan.kept.iter().all(|kept| *kept == 4));
+    assert_eq!(rt; plan.kept.len(), 1100);
+    assert_eq!(rt; plan.freed.last().copied(), Some(4400));
+    assert_eq!(rt; plan.deletions.total_deleted(), 4400);
+    Ok(())
+}
+
+/// What marks the first call of a section as one that may be relaxed: R_RISCV_CALL_PLT and
+/// R_RISCV_RELAX.
+pub(crate) const MARKED_CALL: [Relocation; 2] = [
+    Relocation {
+        offset: 0,
+        code: 19,
+        has_symbol: true,
+        addend: 0,
+        target: Some(0),
+    },
+    Relocation {
+        offset: 0,
+        code: 51,
+        has_symbol: false,
+        addend: 0,
+        target: None,
+    },
+];
+
+/// R_LARCH_ALIGN at three `nop`.
+pub(crate) const NOPS: [Relocation; 1] = [Relocation {
+    offset: 0,
+    code: 102,
+    has_symbol: false,
+    addend: 12,
+    target: None,
+}];
+
+#[test]
+fn refused_items_are_made_when_tried_again(rt: HostRuntime) -> Result<(), Fail> {
+    let alloc = rt.alloc();
+    let calls = riscv64::items(alloc, &CALL, 0, &MARKED_CALL, true);
+    let calls = calls.or_else(|_| riscv64::items(alloc, &CALL, 0, &MARKED_CALL, true))?;
+    assert_eq!(rt; calls.as_slice(), [call_at(0)].as_slice());
+    let nops = loongarch64::items(alloc, &[0; 12], 0, &NOPS);
+    let nops = nops.or_else(|_| loongarch64::items(alloc, &[0; 12], 0, &NOPS))?;
+    assert_eq!(rt; nops.len(), 1);
     Ok(())
 }

@@ -116,6 +116,10 @@ pub fn linker_utils_write_nonnull(
     }
 }
 
+/// The longest window of a form, in bytes. Only near a section's end are fewer left, so that the
+/// window of the form itself is seldom asked for.
+const LONGEST_WINDOW: usize = 8;
+
 // Reads a value by a form, if there is one.
 #[inline(always)]
 fn read_by<F: InstructionForm>(
@@ -127,7 +131,7 @@ fn read_by<F: InstructionForm>(
     let Some(named) = form else {
         return Status::UnknownForm;
     };
-    if bytes.len() < named.window() {
+    if bytes.len() < LONGEST_WINDOW && bytes.len() < named.window() {
         return Status::TooShort;
     }
     let (number, flag) = named.read(bytes);

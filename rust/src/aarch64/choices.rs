@@ -1,12 +1,12 @@
-// Made by tools/erase of crates/linker_utils/src/aarch64/choices.rt.
+// Made by tools/erase of crates/linker_aarch64/src/choices.rt.
 //! The rewrites that a linker of AArch64 chooses.
 
 use super::rewrites::{
     RelaxationKind, are_of_one_register, destination, is_add64, is_adrp, is_ldr64, source, word_at,
 };
-use crate::elf::{Choice, LinkFacts};
-use crate::rewrite::has_window;
+use crate::linker_base::rewrite::has_window;
 use crate::linker_elf::aarch64::{AArch64Relocation, row};
+use crate::linker_elf::elf::{Choice, LinkFacts};
 
 type AArch64Choice = Choice<RelaxationKind, AArch64Relocation>;
 

@@ -1,11 +1,11 @@
-// Made by tools/erase of crates/linker_utils/src/aarch64/rewrites.rt.
+// Made by tools/erase of crates/linker_aarch64/src/rewrites.rt.
 //! Relaxation rewrites of AArch64.
 
-use crate::bit_misc::BitExtraction;
-use crate::elf::InstructionRewrite;
-use crate::relaxation::RelocationModifier;
-use crate::rewrite::{has_window, overwrite};
-use crate::utils::u32_from_slice;
+use crate::linker_base::bit_misc::BitExtraction;
+use crate::linker_base::relaxation::RelocationModifier;
+use crate::linker_base::rewrite::{has_window, overwrite};
+use crate::linker_base::utils::u32_from_slice;
+use crate::linker_elf::elf::InstructionRewrite;
 
 /// A rewrite of one instruction, or of a pair (ELF for the Arm 64-bit Architecture, "Relocation
 /// optimization"). Except for `AdrpAddToNopAdr` the window is the instruction's 4 bytes, which

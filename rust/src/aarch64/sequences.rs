@@ -1,8 +1,8 @@
-// Made by tools/erase of crates/linker_utils/src/aarch64/sequences.rt.
+// Made by tools/erase of crates/linker_aarch64/src/sequences.rt.
 //! Moves that load a number of 64 bits.
 
 use super::rewrites::put_word;
-use crate::bit_misc::BitExtraction;
+use crate::linker_base::bit_misc::BitExtraction;
 
 /// A move of 16 bits into a register.
 #[inline(always)]

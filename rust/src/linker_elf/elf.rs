@@ -1,7 +1,8 @@
 // Made by tools/erase of crates/linker_elf/src/elf.rt.
-//! The vocabulary of relocations, the forms of instructions that hold a value, and the interfaces
-//! of forms and of rewrites.
+//! The vocabulary of relocations, the forms of instructions that hold a value, the interfaces of
+//! forms and of rewrites, and what a linker knows when it chooses a rewrite.
 
+mod choice;
 pub(crate) mod engine;
 mod entries;
 mod numbers;
@@ -14,6 +15,7 @@ pub use crate::linker_elf::aarch64::AArch64Instruction;
 pub use crate::linker_elf::loongarch64::LoongArch64Instruction;
 pub use crate::linker_elf::ppc64::Ppc64Instruction;
 pub use crate::linker_elf::riscv64::RiscVInstruction;
+pub use choice::{Choice, LinkFacts};
 use crate::linker_base::bit_misc::BitRange;
 use crate::linker_base::relaxation::RelocationModifier;
 pub use numbers::RelocationNumbers;

@@ -1,7 +1,7 @@
 // Made by tools/erase of crates/linker_pack/src/code.rt.
 //! Instructions, and the relocations that are applied to them.
 
-use crate::elf::{Operands, RelocationKindInfo};
+use crate::linker_elf::elf::{Operands, RelocationKindInfo};
 use crate::relocation_laws::apply;
 
 /// The bytes of an instruction or of two.

@@ -3,9 +3,9 @@
 
 use crate::linker_pack::code::{Code, Template, operands_of, pair_at, relocated};
 use crate::linker_pack::packing::ItemError;
-use crate::elf::{AllowedRange, RelocationKindInfo, Sign};
+use crate::linker_base::utils::u32_from_slice;
+use crate::linker_elf::elf::{AllowedRange, RelocationKindInfo, Sign};
 use crate::loongarch64::{LoongArch64Relocation, RelaxationKind, relocation_type_from_raw};
-use crate::utils::u32_from_slice;
 use crate::relocation_laws::apply;
 
 /// The instructions of a site.

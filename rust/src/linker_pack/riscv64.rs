@@ -3,9 +3,9 @@
 
 use crate::linker_pack::code::{Code, Template, pair_at, relocated};
 use crate::linker_pack::packing::ItemError;
-use crate::linker_runs::riscv64::link_at;
-use crate::elf::RelocationKindInfo;
+use crate::linker_elf::elf::RelocationKindInfo;
 use crate::riscv64::{RiscVRelocation, relocation_type_from_raw};
+use crate::linker_runs::riscv64::link_at;
 
 /// What a relocation means that has a row.
 fn row_of(name: RiscVRelocation) -> RelocationKindInfo {

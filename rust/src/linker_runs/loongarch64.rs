@@ -4,9 +4,9 @@
 use alloc::vec::Vec;
 use crate::support::*;
 use crate::linker_runs::items::{ItemsError, NotAllowed, Relocation, has_bytes, is_marked};
+use crate::loongarch64::{LoongArch64Relocation, RelaxationKind};
 use crate::linker_relax::relaxation::{Alignment, Item, Shapes, Site};
 use crate::linker_relax::shapes::loongarch64::{CALL36, PCALA};
-use crate::loongarch64::{LoongArch64Relocation, RelaxationKind};
 
 /// Whether a relocation has a name.
 #[inline(always)]

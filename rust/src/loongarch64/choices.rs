@@ -1,9 +1,9 @@
-// Made by tools/erase of crates/linker_utils/src/loongarch64/choices.rt.
+// Made by tools/erase of crates/linker_loongarch64/src/choices.rt.
 //! LoongArch: which rewrite a linker chooses for a relocation.
 
 use super::rewrites::{RelaxationKind, are_of_one_register, destination, is_addi, is_ld, word_at};
-use crate::elf::{Choice, LinkFacts};
-use crate::rewrite::has_window;
+use crate::linker_base::rewrite::has_window;
+use crate::linker_elf::elf::{Choice, LinkFacts};
 use crate::linker_elf::loongarch64::{LoongArch64Relocation, row};
 
 type LoongArchChoice = Choice<RelaxationKind, LoongArch64Relocation>;

@@ -1,11 +1,10 @@
-// Made by tools/erase of crates/linker_utils/src/loongarch64/rewrites.rt.
+// Made by tools/erase of crates/linker_loongarch64/src/rewrites.rt.
 //! LoongArch: relaxation rewrites.
 
-use crate::elf::InstructionRewrite;
-use crate::relaxation::RelocationModifier;
-use crate::rewrite::{has_window, overwrite};
-use crate::riscv64::DeletedBytes;
-use crate::utils::u32_from_slice;
+use crate::linker_base::relaxation::RelocationModifier;
+use crate::linker_base::rewrite::{DeletedBytes, has_window, overwrite};
+use crate::linker_base::utils::u32_from_slice;
+use crate::linker_elf::elf::InstructionRewrite;
 
 /// A rewrite of one instruction, or of a pair whose second instruction is then deleted. The window
 /// is the instruction's 4 bytes, which begin at the offset. The destination register of an

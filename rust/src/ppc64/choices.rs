@@ -1,8 +1,8 @@
-// Made by tools/erase of crates/linker_utils/src/ppc64/choices.rt.
+// Made by tools/erase of crates/linker_ppc64/src/choices.rt.
 //! PowerPC64: which rewrite a linker chooses for a relocation.
 
 use super::rewrites::RelaxationKind;
-use crate::elf::{Choice, LinkFacts};
+use crate::linker_elf::elf::{Choice, LinkFacts};
 use crate::linker_elf::ppc64::{Ppc64Relocation, row};
 
 /// Whether the high part of the distance from the TOC pointer is 0 and may go.

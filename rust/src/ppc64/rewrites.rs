@@ -1,10 +1,10 @@
-// Made by tools/erase of crates/linker_utils/src/ppc64/rewrites.rt.
+// Made by tools/erase of crates/linker_ppc64/src/rewrites.rt.
 //! Relaxation rewrites of PowerPC64.
 
-use crate::elf::InstructionRewrite;
-use crate::relaxation::RelocationModifier;
-use crate::rewrite::{has_window, overwrite};
-use crate::utils::u32_from_slice;
+use crate::linker_base::relaxation::RelocationModifier;
+use crate::linker_base::rewrite::{has_window, overwrite};
+use crate::linker_base::utils::u32_from_slice;
+use crate::linker_elf::elf::InstructionRewrite;
 
 /// A rewrite of an instruction, or of a call and the `nop` after it (64-bit ELF V2 ABI for Power,
 /// "TOC Optimizations" and "TLS Linkage Optimizations"). The window is the instruction's 4 bytes,

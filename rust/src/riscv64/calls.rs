@@ -1,11 +1,11 @@
-// Made by tools/erase of crates/linker_utils/src/riscv64/calls.rt.
+// Made by tools/erase of crates/linker_riscv64/src/calls.rt.
 //! RISC-V: calls that become jumps.
 
-use crate::bit_misc::BitExtraction;
-use crate::elf::RiscVInstruction;
-use crate::relaxation::{DeltaSlice, SectionRelaxDeltas};
-use crate::rewrite::{has_window, overwrite};
-use crate::utils::u32_from_slice;
+use crate::linker_base::bit_misc::BitExtraction;
+use crate::linker_base::relaxation::{DeltaSlice, SectionRelaxDeltas};
+use crate::linker_base::rewrite::{has_window, overwrite};
+use crate::linker_base::utils::u32_from_slice;
+use crate::linker_elf::elf::RiscVInstruction;
 
 /// The least distance that `distance_fits_jal` accepts, in bytes.
 pub const JAL_MIN: i64 = -1048576;

@@ -1,12 +1,12 @@
-// Made by tools/erase of crates/linker_utils/src/riscv64/choices.rt.
+// Made by tools/erase of crates/linker_riscv64/src/choices.rt.
 //! RISC-V: which rewrite a linker chooses for a relocation.
 
 use super::rewrites::{
     is_add_tp, is_addi_to_a0, is_auipc, is_call_of_descriptor, is_ld, is_lui, word_at,
 };
 use super::{RelaxationKind, RiscVRelocation, row};
-use crate::elf::{Choice, LinkFacts};
-use crate::rewrite::has_window;
+use crate::linker_base::rewrite::has_window;
+use crate::linker_elf::elf::{Choice, LinkFacts};
 
 type RiscVChoice = Choice<RelaxationKind, RiscVRelocation>;
 

@@ -1,4 +1,4 @@
-// Made by tools/erase of crates/linker_utils/src/riscv64/packing.rt.
+// Made by tools/erase of crates/linker_riscv64/src/packing.rt.
 //! The kept bytes of a section, with its calls made jumps.
 
 use alloc::vec::Vec;
@@ -6,8 +6,8 @@ use crate::support::*;
 use super::calls::{
     AsCall, CallError, JumpError, LinkRegister, distance_between, jal_site, test_distance,
 };
-use crate::relaxation::{DeltaSlice, RelaxDelta, SectionRelaxDeltas};
-use crate::rewrite::{has_window, overwrite};
+use crate::linker_base::relaxation::{DeltaSlice, RelaxDelta, SectionRelaxDeltas};
+use crate::linker_base::rewrite::{has_window, overwrite};
 
 /// The first of some calls that can't become a jump.
 #[derive(Debug, Clone, Copy, PartialEq, Eq, Hash)]
@@ -48,6 +48,9 @@ impl<T> From<AllocFailed<T>> for PackError {
 /// The output offset of an input offset.
 #[inline(always)]
 pub(super) fn to_output_offset(deltas: &[RelaxDelta], input_offset: u64) -> u64 {
+    if deltas.is_empty() {
+        return input_offset;
+    }
     DeltaSlice::new(deltas).input_to_output_offset(input_offset)
 }
 

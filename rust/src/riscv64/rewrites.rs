@@ -1,12 +1,12 @@
-// Made by tools/erase of crates/linker_utils/src/riscv64/rewrites.rt.
+// Made by tools/erase of crates/linker_riscv64/src/rewrites.rt.
 //! RISC-V: relaxation rewrites.
 
 use super::calls::{destination, is_call_pair, is_plain_call};
-use crate::bit_misc::BitExtraction;
-use crate::elf::{InstructionRewrite, RelocationKindInfo, RiscVInstruction};
-use crate::relaxation::RelocationModifier;
-use crate::rewrite::{has_window, overwrite};
-use crate::utils::u32_from_slice;
+use crate::linker_base::bit_misc::BitExtraction;
+use crate::linker_base::relaxation::RelocationModifier;
+use crate::linker_base::rewrite::{DeletedBytes, has_window, overwrite};
+use crate::linker_base::utils::u32_from_slice;
+use crate::linker_elf::elf::{InstructionRewrite, RelocationKindInfo, RiscVInstruction};
 use crate::linker_elf::riscv64 as relocations;
 
 /// A rewrite of one instruction, or of a pair whose second instruction is then deleted.
@@ -56,15 +56,6 @@ pub enum RelaxationKind {
     CallToLd,
     /// Turns `ld` into `addi`, with both of its registers and its immediate.
     LdToAddi,
-}
-
-/// The bytes that a linker deletes after a rewrite.
-#[derive(Debug, Clone, Copy, PartialEq, Eq, Hash)]
-pub struct DeletedBytes {
-    /// Where they begin, in bytes from the rewrite's offset.
-    pub start: u64,
-    /// How many they are.
-    pub count: u32,
 }
 
 /// The instruction at an offset of the section.
@@ -387,6 +378,7 @@ impl RelaxationKind {
     /// What `R_RISCV_HI20` means once its `lui` has become a `c.lui` (`Hi20ToCLui`). Its range is
     /// wider than what `c.lui` holds: `hi20_fits_clui` is the test.
     #[must_use]
+    #[inline]
     pub fn clui_rel_info() -> RelocationKindInfo {
         relocations::clui_row().info()
     }
@@ -413,8 +405,9 @@ impl InstructionRewrite for RelaxationKind {
 
 #[inline(always)]
 fn has_clui_high(value: u64) -> bool {
-    let high = value.wrapping_add(0x800).cast_signed() >> 12;
-    -32 <= high && high <= 31 && high != 0
+    // above the least such value, with the bit flipped that parts those below 0 from the others
+    let flipped = value.wrapping_add(0x2_0800) ^ 0x2_0000;
+    flipped.wrapping_sub(0x1000) < 0x3_f000
 }
 
 #[inline(always)]

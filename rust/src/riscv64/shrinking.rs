@@ -1,10 +1,10 @@
-// Made by tools/erase of crates/linker_utils/src/riscv64/shrinking.rt.
+// Made by tools/erase of crates/linker_riscv64/src/shrinking.rt.
 //! The calls of a section that can become jumps at once.
 
 use alloc::vec::Vec;
-use super::calls::{AsCall, test_distance};
+use super::calls::{AsCall, JAL_MAX, test_distance};
 use super::packing::to_output_offset;
-use crate::relaxation::{DeltaSlice, OutOfMemory, RelaxDelta, SectionRelaxDeltas};
+use crate::linker_base::relaxation::{DeltaSlice, OutOfMemory, RelaxDelta, SectionRelaxDeltas};
 
 /// An element of an answer, which tells whether a call is chosen: a `bool`, or a byte that is 0 or
 /// 1.
@@ -44,9 +44,10 @@ impl AsChoice for u8 {
 
 /// How many of the calls have their second instruction below an offset.
 fn calls_below<C: AsCall>(calls: &[C], offset: u64) -> usize {
+    let bound = offset.saturating_sub(4);
     calls.partition_point(|call| {
         let (site, _) = call.as_call();
-        site.saturating_add(4) < offset
+        site < bound
     })
 }
 
@@ -104,6 +105,124 @@ impl Runs {
     }
 }
 
+/// A call that stands fewer drops than this is watched apart from those that stand more.
+const FEW_DROPS: usize = 32;
+
+/// The ends of the runs, with the first one's start.
+const RUN_ENDS: usize = 1025;
+
+/// The runs from the least site or target of some calls to the greatest, and how many calls have to
+/// be dropped there before one of those can be out of reach.
+#[derive(Clone, Copy)]
+struct Span {
+    from: u32,
+    to: u32,
+    drops: u32,
+}
+
+impl Span {
+    /// That of no calls.
+    const NONE: Span = Span {
+        from: u32::MAX,
+        to: 0,
+        drops: u32::MAX,
+    };
+
+    /// Adds a call.
+    fn add(&mut self, call: Span) {
+        self.from = self.from.min(call.from);
+        self.to = self.to.max(call.to);
+        self.drops = self.drops.min(call.drops);
+    }
+
+    /// Takes off the drops there, of which the sums before each run are given.
+    fn take(&mut self, before: &[u32; RUN_ENDS]) {
+        if self.from < self.to {
+            let from = (self.from as usize).min(RUNS);
+            let to = (self.to as usize).min(RUNS);
+            let dropped = before[to].saturating_sub(before[from]);
+            self.drops = self.drops.saturating_sub(dropped);
+        }
+    }
+}
+
+/// In which runs drops can have taken a call out of reach since it was tested. This spares tests,
+/// and decides nothing: a sweep over all calls comes last.
+struct Watch {
+    /// For each run the span of its calls that stand few drops.
+    near: [Span; RUNS],
+    /// And that of the others that drops can take out of reach.
+    far: [Span; RUNS],
+    /// How many calls were dropped in the run before each end.
+    dropped: [u32; RUN_ENDS],
+}
+
+impl Watch {
+    /// No call is watched.
+    fn new() -> Watch {
+        Watch {
+            near: [Span::NONE; RUNS],
+            far: [Span::NONE; RUNS],
+            dropped: [0; RUN_ENDS],
+        }
+    }
+
+    /// Whether a call of the run can be out of reach.
+    fn is_due(&self, run: usize) -> bool {
+        self.near[run].drops == 0 || self.far[run].drops == 0
+    }
+
+    /// Forgets the calls of a run, which are tested anew.
+    fn clear(&mut self, run: usize) {
+        self.near[run] = Span::NONE;
+        self.far[run] = Span::NONE;
+    }
+
+    /// Adds a call of a run that stands so many drops.
+    fn add(&mut self, run: usize, call: Span, stands: usize) {
+        if stands < FEW_DROPS {
+            self.near[run].add(call);
+        } else {
+            self.far[run].add(call);
+        }
+    }
+
+    /// Counts a drop in a run.
+    fn count_drop(&mut self, run: usize) {
+        self.dropped[run + 1] = self.dropped[run + 1].saturating_add(1);
+    }
+
+    /// Takes the drops that were counted off what the calls stand.
+    fn take_drops(&mut self) {
+        let mut sum = 0u32;
+        for count in &mut self.dropped {
+            sum = sum.saturating_add(*count);
+            *count = sum;
+        }
+        for span in &mut self.near {
+            span.take(&self.dropped);
+        }
+        for span in &mut self.far {
+            span.take(&self.dropped);
+        }
+        self.dropped = [0; RUN_ENDS];
+    }
+}
+
+/// A number as 32 bits, or the greatest of these.
+fn saturate(number: usize) -> u32 {
+    u32::try_from(number).unwrap_or(u32::MAX)
+}
+
+/// How many of the counted calls between a call's site and its target can be dropped before it is
+/// out of reach, or fewer.
+fn stands(from: u64, to: u64, count: usize) -> usize {
+    let freed = (count as u64).saturating_mul(4);
+    let distance = from.abs_diff(to).saturating_sub(freed);
+    let spare = JAL_MAX.unsigned_abs().saturating_sub(distance);
+    usize::try_from(spare / 4).unwrap_or(usize::MAX)
+}
+
 /// Whether a `jal` at an output offset reaches another.
 fn reaches(from: u64, to: u64) -> bool {
     let distance = to.abs_diff(from);
@@ -130,13 +249,45 @@ fn reaches_over(from: u64, to: u64, index: usize, split: usize, count: usize) ->
     }
 }
 
+/// Whether the call at an index, of which these are the output offsets of site and target, is in
+/// reach once the chosen calls have lost their bytes. They are counted only where the call is in
+/// reach with all of them, and is then watched.
+#[inline(never)]
+fn is_in_reach_over<C: AsCall, A: AsChoice>(
+    calls: &[C],
+    answer: &[A],
+    runs: &Runs,
+    watch: &mut Watch,
+    index: usize,
+    from: u64,
+    to: u64,
+) -> bool {
+    let (_, target) = calls[index].as_call();
+    let split = calls_below(calls, target);
+    if !reaches_over(from, to, index, split, index.abs_diff(split)) {
+        return false;
+    }
+    let (first, end) = (index.min(split), index.max(split));
+    let count = runs.count_between(answer, first, end);
+    let stands = stands(from, to, count);
+    let span = Span {
+        from: saturate(first / runs.len),
+        to: saturate(end / runs.len).saturating_add(1),
+        drops: saturate(stands).saturating_add(1),
+    };
+    watch.add(index / runs.len, span, stands);
+    reaches_over(from, to, index, split, count)
+}
+
 /// Whether the call at an index is in reach once the chosen calls have lost their bytes. They
-/// are counted only where the call is in reach with all and out of reach with none.
+/// are counted only where the call is out of reach with none.
+#[inline(always)]
 fn is_in_reach<C: AsCall, A: AsChoice>(
     deltas: &[RelaxDelta],
     calls: &[C],
     answer: &[A],
     runs: &Runs,
+    watch: &mut Watch,
     index: usize,
 ) -> bool {
     let (site, target) = calls[index].as_call();
@@ -145,44 +296,82 @@ fn is_in_reach<C: AsCall, A: AsChoice>(
     if reaches(from, to) {
         return true;
     }
-    let split = calls_below(calls, target);
-    if !reaches_over(from, to, index, split, index.abs_diff(split)) {
-        return false;
-    }
-    let count = runs.count_between(answer, index.min(split), index.max(split));
-    reaches_over(from, to, index, split, count)
+    is_in_reach_over(calls, answer, runs, watch, index, from, to)
 }
 
 /// Drops the call at an index from the choice where it is out of reach. Whether it was dropped.
+#[inline(always)]
 fn drop_unreached<C: AsCall, A: AsChoice>(
     deltas: &[RelaxDelta],
     calls: &[C],
     answer: &mut [A],
     runs: &mut Runs,
+    watch: &mut Watch,
     index: usize,
 ) -> bool {
-    if !answer[index].as_choice() || is_in_reach(deltas, calls, answer, runs, index) {
+    if !answer[index].as_choice() || is_in_reach(deltas, calls, answer, runs, watch, index) {
         return false;
     }
     runs.drop_call(answer, index);
+    watch.count_drop(index / runs.len);
     true
 }
 
-/// Drops from the choice each call that is out of reach, one after the other. Whether one was
-/// dropped.
+/// Drops from the choice each call from an index up to another that is out of reach, one after the
+/// other. Whether one was dropped.
 fn sweep<C: AsCall, A: AsChoice>(
     deltas: &[RelaxDelta],
     calls: &[C],
     answer: &mut [A],
     runs: &mut Runs,
+    watch: &mut Watch,
+    from: usize,
+    to: usize,
 ) -> bool {
     let mut dropped = false;
-    for index in 0..calls.len() {
-        if drop_unreached(deltas, calls, answer, runs, index) {
+    for index in from..to {
+        if drop_unreached(deltas, calls, answer, runs, watch, index) {
             dropped = true;
         }
     }
     dropped
+}
+
+/// Sweeps over the runs in which a call can be out of reach. Whether one was dropped.
+fn sweep_due<C: AsCall, A: AsChoice>(
+    deltas: &[RelaxDelta],
+    calls: &[C],
+    answer: &mut [A],
+    runs: &mut Runs,
+    watch: &mut Watch,
+) -> bool {
+    let mut dropped = false;
+    let mut start = 0;
+    for run in 0..RUNS {
+        let end = start + runs.len.min(calls.len() - start);
+        if watch.is_due(run) {
+            watch.clear(run);
+            if sweep(deltas, calls, answer, runs, watch, start, end) {
+                dropped = true;
+            }
+        }
+        start = end;
+    }
+    if dropped {
+        watch.take_drops();
+    }
+    dropped
+}
+
+/// Sweeps over the runs in which a call can be out of reach, until there is none.
+fn sweep_while_due<C: AsCall, A: AsChoice>(
+    deltas: &[RelaxDelta],
+    calls: &[C],
+    answer: &mut [A],
+    runs: &mut Runs,
+    watch: &mut Watch,
+) {
+    while sweep_due(deltas, calls, answer, runs, watch) {}
 }
 
 /// Chooses all calls.
@@ -194,10 +383,14 @@ fn choose_all<A: AsChoice>(answer: &mut [A]) {
 
 /// Whether a call's eight bytes are kept, and the four that it loses may be deleted.
 fn is_shrinkable_site(deltas: &[RelaxDelta], site: u64) -> bool {
+    if site > u64::MAX - 8 {
+        return false;
+    }
+    if deltas.is_empty() {
+        return true;
+    }
     let deltas = DeltaSlice::new(deltas);
-    site <= u64::MAX - 8
-        && deltas.kept_output_offset(site, 8).is_some()
-        && deltas.first_overlapping(&[(site + 4, 4)]).is_none()
+    deltas.kept_output_offset(site, 8).is_some() && deltas.can_merge(&[(site + 4, 4)])
 }
 
 /// Whether the site of the call at an index is at least 8 above the one before it, if there is one.
@@ -277,14 +470,21 @@ pub fn calls_shrinkable(deltas: &SectionRelaxDeltas, calls: &[(u64, u64)]) -> bo
 ///
 /// Requires calls that `first_not_shrinkable` accepts, and as many elements as calls. The deltas
 /// are as `SectionRelaxDeltas::deltas` lists them (`DeltaSlice::has_valid_deltas`); of others
-/// nothing is promised but that the call is safe. It takes 8 KiB of the stack and doesn't allocate.
+/// nothing is promised but that the call is safe. It takes 40 KiB of the stack and doesn't
+/// allocate.
 ///
 /// All calls are chosen at first, and sweeps over them drop those out of reach until none is. Their
 /// order doesn't matter, since more deletions never take a call out of reach. For k calls and n
-/// deltas a sweep takes O(k (log n + log k + k / 1024)): the chosen calls between a site and its
-/// target are counted by runs of k / 1024 calls, and only where the call is in reach with all of
-/// them and out of reach with none. Sections take few sweeps, but each may drop only one call, so
-/// that there are k + 1 at worst.
+/// deltas a test of a call takes O(log n + log k + k / 1024): the chosen calls between a site and
+/// its target are counted by runs of k / 1024 calls, and only where the call is in reach with all
+/// of them and out of reach with none.
+///
+/// The first sweep tests all calls, and is the last one if it drops none. The following ones test
+/// only the calls of runs that drops can concern: of each run it is known from where to where its
+/// calls jump, and how many drops there they stand, those that stand few apart from the others. Such
+/// a sweep takes O(1024) more, and drops a call, or is the last before another sweep over all. So a
+/// cascade, where each drop takes one more call out of reach, takes a sweep for each call, which
+/// tests one run or few.
 ///
 /// # Requires
 ///
@@ -300,7 +500,11 @@ pub fn shrink_calls_into<C: AsCall, A: AsChoice>(
     debug_assert!(!DeltaSlice::new(deltas).has_valid_deltas() || first_not_shrinkable(deltas, calls).is_none());
     choose_all(answer);
     let mut runs = Runs::of(answer);
-    while sweep(deltas, calls, answer, &mut runs) {}
+    let mut watch = Watch::new();
+    while sweep(deltas, calls, answer, &mut runs, &mut watch, 0, calls.len()) {
+        watch.take_drops();
+        sweep_while_due(deltas, calls, answer, &mut runs, &mut watch);
+    }
 }
 
 /// Which calls can become jumps at once: for each call whether it is chosen, so that the four bytes

@@ -1,9 +1,9 @@
-// Made by tools/erase of crates/linker_utils/src/x86_64/choices.rt.
+// Made by tools/erase of crates/linker_x86_64/src/choices.rt.
 //! Which rewrite is chosen for a relocation of x86-64.
 
 use super::rewrites::{immediate_of, is_lea_of_descriptor, is_legacy};
 use super::{RelaxationKind, X86_64Relocation, row};
-use crate::elf::{Choice, LinkFacts, Operands};
+use crate::linker_elf::elf::{Choice, LinkFacts, Operands};
 
 /// The operands after a rewrite at an offset.
 #[inline(always)]

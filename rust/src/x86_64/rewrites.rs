@@ -1,10 +1,10 @@
-// Made by tools/erase of crates/linker_utils/src/x86_64/rewrites.rt.
+// Made by tools/erase of crates/linker_x86_64/src/rewrites.rt.
 //! Relaxation rewrites of x86-64.
 
 use super::X86_64Relocation;
-use crate::elf::InstructionRewrite;
-use crate::relaxation::RelocationModifier;
-use crate::rewrite::{has_window, overwrite};
+use crate::linker_base::relaxation::RelocationModifier;
+use crate::linker_base::rewrite::{has_window, overwrite};
+use crate::linker_elf::elf::InstructionRewrite;
 
 /// A rewrite of the instructions around a relocated field of 4 or 8 bytes, whose offset is the
 /// field's (x86-64 psABI, "Optimize GOTPCRELX Relocations", and "ELF Handling For Thread-Local
@@ -101,6 +101,44 @@ fn moved_modrm(others: u8, byte: u8) -> u8 {
     others + (byte >> 3 & 7)
 }
 
+// Constant bytes are copied to a local array before they are written. LLVM then knows that the
+// section doesn't overlap them, and writes them by a few stores.
+
+/// `addr32 call x`, before its field.
+const ADDR32_CALL: [u8; 2] = [0x67, 0xe8];
+
+/// `jmp x; nop`.
+const JMP_NOP: [u8; 6] = [0xe9, 0, 0, 0, 0, 0x90];
+
+/// `mov %fs:0, %rax; lea x(%rax), %rax`, before its field.
+const LOCAL_EXEC: [u8; 12] = [0x64, 0x48, 0x8b, 0x04, 0x25, 0, 0, 0, 0, 0x48, 0x8d, 0x80];
+
+/// `mov %fs:0, %rax; lea x(%rax), %rax; nopw (%rax,%rax)`.
+const LOCAL_EXEC_LARGE: [u8; 22] = [
+    0x64, 0x48, 0x8b, 0x04, 0x25, 0, 0, 0, 0, 0x48, 0x8d, 0x80, 0, 0, 0, 0, 0x66, 0x0f, 0x1f, 0x44,
+    0, 0,
+];
+
+/// `mov %fs:0, %rax`, with prefixes that do nothing.
+const THREAD_POINTER: [u8; 12] = [0x66, 0x66, 0x66, 0x64, 0x48, 0x8b, 0x04, 0x25, 0, 0, 0, 0];
+
+/// The same, a byte longer.
+const THREAD_POINTER_NO_PLT: [u8; 13] = [
+    0x66, 0x66, 0x66, 0x66, 0x64, 0x48, 0x8b, 0x04, 0x25, 0, 0, 0, 0,
+];
+
+/// `nopw %cs:(%rax,%rax); mov %fs:0, %rax`.
+const THREAD_POINTER_LARGE: [u8; 22] = [
+    0x66, 0x66, 0x66, 0x66, 0x2e, 0x0f, 0x1f, 0x84, 0, 0, 0, 0, 0, 0x64, 0x48, 0x8b, 0x04, 0x25, 0,
+    0, 0, 0,
+];
+
+/// `mov %fs:0, %rax; add x@GOTTPOFF(%rip), %rax`, before its field.
+const INITIAL_EXEC: [u8; 12] = [0x64, 0x48, 0x8b, 0x04, 0x25, 0, 0, 0, 0, 0x48, 0x03, 0x05];
+
+/// A `nop` of two bytes.
+const NOP_2: [u8; 2] = [0x66, 0x90];
+
 /// Rewrites an opcode and a ModRM byte.
 #[inline(always)]
 fn put_operand(section: &mut [u8], offset: u64, opcode: u8, others: u8) {
@@ -137,6 +175,13 @@ fn put_immediate(section: &mut [u8], offset: u64, n: u8, opcode: u8, others: u8)
         6 => put_evex(section, offset, opcode, others),
         _ => put_operand(section, offset, opcode, others),
     }
+}
+
+/// The same, as a call of its own. With `put_immediate` inlined for each operation the kit's compiler
+/// doesn't inline `rewrite`, which is then too large.
+#[inline]
+fn call_put_immediate(section: &mut [u8], offset: u64, n: u8, opcode: u8, others: u8) {
+    put_immediate(section, offset, n, opcode, others);
 }
 
 /// The masks and values of an instruction's bytes. Each word is that of the definition.
@@ -444,126 +489,99 @@ impl RelaxationKind {
         match self {
             RelaxationKind::MovIndirectToLea => overwrite(section, offset - 2, &[0x8d]),
             RelaxationKind::MovIndirectToAbsolute => {
-                put_operand(section, offset, 0xc7, 0xc0);
                 *addend = 0;
+                put_operand(section, offset, 0xc7, 0xc0);
             }
             RelaxationKind::RexMovIndirectToAbsolute(n) => {
-                put_prefixed(section, offset, n, 0xc7, 0xc0);
                 *addend = 0;
+                put_prefixed(section, offset, n, 0xc7, 0xc0);
             }
             RelaxationKind::RexAddIndirectToAbsolute(n) => {
-                put_immediate(section, offset, n, 0x81, 0xc0);
                 *addend = 0;
+                put_immediate(section, offset, n, 0x81, 0xc0);
             }
             RelaxationKind::RexSubIndirectToAbsolute(n) => {
-                put_prefixed(section, offset, n, 0x81, 0xe8);
                 *addend = 0;
+                put_prefixed(section, offset, n, 0x81, 0xe8);
             }
             RelaxationKind::RexCmpIndirectToAbsolute(n) => {
-                put_prefixed(section, offset, n, 0x81, 0xf8);
                 *addend = 0;
+                put_prefixed(section, offset, n, 0x81, 0xf8);
             }
             RelaxationKind::CallIndirectToRelative => {
-                overwrite(section, offset - 2, &[0x67, 0xe8]);
+                let bytes = ADDR32_CALL;
+                overwrite(section, offset - 2, &bytes);
             }
             RelaxationKind::JmpIndirectToRelative => {
-                overwrite(section, offset - 2, &[0xe9, 0, 0, 0, 0, 0x90]);
+                let bytes = JMP_NOP;
+                overwrite(section, offset - 2, &bytes);
                 *offset_in_section = offset - 1;
             }
             RelaxationKind::NoOp => {}
             RelaxationKind::TlsGdToLocalExec => {
-                // mov %fs:0, %rax; lea x(%rax), %rax
-                overwrite(
-                    section,
-                    offset - 4,
-                    &[0x64, 0x48, 0x8b, 0x04, 0x25, 0, 0, 0, 0, 0x48, 0x8d, 0x80],
-                );
-                *offset_in_section = offset + 8;
                 *addend = 0;
+                let bytes = LOCAL_EXEC;
+                overwrite(section, offset - 4, &bytes);
+                *offset_in_section = offset + 8;
             }
             RelaxationKind::TlsGdToLocalExecLarge => {
-                // mov %fs:0, %rax; lea x(%rax), %rax; nopw (%rax,%rax)
-                overwrite(
-                    section,
-                    offset - 3,
-                    &[
-                        0x64, 0x48, 0x8b, 0x04, 0x25, 0, 0, 0, 0, 0x48, 0x8d, 0x80, 0, 0, 0, 0,
-                        0x66, 0x0f, 0x1f, 0x44, 0, 0,
-                    ],
-                );
-                *offset_in_section = offset + 9;
                 *addend = 0;
+                let bytes = LOCAL_EXEC_LARGE;
+                overwrite(section, offset - 3, &bytes);
+                *offset_in_section = offset + 9;
             }
             RelaxationKind::TlsLdToLocalExec => {
-                // mov %fs:0, %rax
-                overwrite(
-                    section,
-                    offset - 3,
-                    &[0x66, 0x66, 0x66, 0x64, 0x48, 0x8b, 0x04, 0x25, 0, 0, 0, 0],
-                );
+                let bytes = THREAD_POINTER;
+                overwrite(section, offset - 3, &bytes);
                 *offset_in_section = offset + 5;
             }
             RelaxationKind::TlsLdToLocalExecNoPlt => {
-                // mov %fs:0, %rax
-                overwrite(
-                    section,
-                    offset - 3,
-                    &[
-                        0x66, 0x66, 0x66, 0x66, 0x64, 0x48, 0x8b, 0x04, 0x25, 0, 0, 0, 0,
-                    ],
-                );
+                let bytes = THREAD_POINTER_NO_PLT;
+                overwrite(section, offset - 3, &bytes);
                 *offset_in_section = offset + 5;
             }
             RelaxationKind::TlsLdToLocalExec64 => {
-                // nopw %cs:(%rax,%rax); mov %fs:0, %rax
-                overwrite(
-                    section,
-                    offset - 3,
-                    &[
-                        0x66, 0x66, 0x66, 0x66, 0x2e, 0x0f, 0x1f, 0x84, 0, 0, 0, 0, 0, 0x64, 0x48,
-                        0x8b, 0x04, 0x25, 0, 0, 0, 0,
-                    ],
-                );
+                let bytes = THREAD_POINTER_LARGE;
+                overwrite(section, offset - 3, &bytes);
                 *offset_in_section = offset + 15;
             }
             RelaxationKind::TlsGdToInitialExec => {
-                // mov %fs:0, %rax; add x@GOTTPOFF(%rip), %rax
-                overwrite(
-                    section,
-                    offset - 4,
-                    &[0x64, 0x48, 0x8b, 0x04, 0x25, 0, 0, 0, 0, 0x48, 0x03, 0x05],
-                );
+                let bytes = INITIAL_EXEC;
+                overwrite(section, offset - 4, &bytes);
                 *offset_in_section = offset + 8;
             }
             RelaxationKind::TlsDescToLocalExec(n) => {
-                put_prefixed(section, offset, n, 0xc7, 0xc0);
                 *addend = 0;
+                put_prefixed(section, offset, n, 0xc7, 0xc0);
             }
             RelaxationKind::TlsDescToInitialExec => overwrite(section, offset - 2, &[0x8b]),
-            RelaxationKind::SkipTlsDescCall => overwrite(section, offset, &[0x66, 0x90]),
+            RelaxationKind::SkipTlsDescCall => {
+                let bytes = NOP_2;
+                overwrite(section, offset, &bytes);
+            }
             RelaxationKind::RexAdcIndirectToAbsolute(n) => {
-                put_immediate(section, offset, n, 0x81, 0xd0);
                 *addend = 0;
+                call_put_immediate(section, offset, n, 0x81, 0xd0);
             }
             RelaxationKind::RexAndIndirectToAbsolute(n) => {
-                put_immediate(section, offset, n, 0x81, 0xe0);
                 *addend = 0;
+                call_put_immediate(section, offset, n, 0x81, 0xe0);
             }
             RelaxationKind::RexOrIndirectToAbsolute(n) => {
-                put_immediate(section, offset, n, 0x81, 0xc8);
                 *addend = 0;
+                call_put_immediate(section, offset, n, 0x81, 0xc8);
             }
             RelaxationKind::RexSbbIndirectToAbsolute(n) => {
-                put_immediate(section, offset, n, 0x81, 0xd8);
                 *addend = 0;
+                call_put_immediate(section, offset, n, 0x81, 0xd8);
             }
             RelaxationKind::RexXorIndirectToAbsolute(n) => {
-                put_immediate(section, offset, n, 0x81, 0xf0);
                 *addend = 0;
+                call_put_immediate(section, offset, n, 0x81, 0xf0);
             }
             RelaxationKind::RexTestIndirectToAbsolute(n) => {
-                put_immediate(section, offset, n, 0xf7, 0xc0);
                 *addend = 0;
+                call_put_immediate(section, offset, n, 0xf7, 0xc0);
             }
         }
     }
@@ -591,41 +609,41 @@ impl RelaxationKind {
     #[inline(always)]
     pub fn can_apply(self, section: &[u8], offset: u64) -> bool {
         match self {
+            RelaxationKind::MovIndirectToLea => has_window(section, offset, 2, 1),
+            RelaxationKind::MovIndirectToAbsolute => has_window(section, offset, 2, 2),
+            RelaxationKind::RexMovIndirectToAbsolute(_) => has_window(section, offset, 3, 3),
+            RelaxationKind::RexSubIndirectToAbsolute(_) => has_window(section, offset, 3, 3),
+            RelaxationKind::RexCmpIndirectToAbsolute(_) => has_window(section, offset, 3, 3),
+            RelaxationKind::CallIndirectToRelative => has_window(section, offset, 2, 2),
+            RelaxationKind::JmpIndirectToRelative => has_window(section, offset, 2, 6),
             RelaxationKind::NoOp => true,
-            RelaxationKind::MovIndirectToLea | RelaxationKind::TlsDescToInitialExec => {
-                has_window(section, offset, 2, 1)
-            }
-            RelaxationKind::MovIndirectToAbsolute | RelaxationKind::CallIndirectToRelative => {
-                has_window(section, offset, 2, 2)
-            }
-            RelaxationKind::RexMovIndirectToAbsolute(_)
-            | RelaxationKind::RexSubIndirectToAbsolute(_)
-            | RelaxationKind::RexCmpIndirectToAbsolute(_)
-            | RelaxationKind::TlsDescToLocalExec(_) => has_window(section, offset, 3, 3),
-            RelaxationKind::RexAddIndirectToAbsolute(n)
-            | RelaxationKind::RexAdcIndirectToAbsolute(n)
+            RelaxationKind::TlsGdToLocalExec => has_window(section, offset, 4, 12),
+            RelaxationKind::TlsGdToLocalExecLarge => has_window(section, offset, 3, 22),
+            RelaxationKind::TlsLdToLocalExec => has_window(section, offset, 3, 12),
+            RelaxationKind::TlsLdToLocalExecNoPlt => has_window(section, offset, 3, 13),
+            RelaxationKind::TlsLdToLocalExec64 => has_window(section, offset, 3, 22),
+            RelaxationKind::TlsGdToInitialExec => has_window(section, offset, 4, 12),
+            RelaxationKind::TlsDescToLocalExec(_) => has_window(section, offset, 3, 3),
+            RelaxationKind::TlsDescToInitialExec => has_window(section, offset, 2, 1),
+            RelaxationKind::SkipTlsDescCall => has_window(section, offset, 0, 2),
+            // apart from the operations below, so that `linker_utils_apply` jumps once for `add`
+            RelaxationKind::RexAddIndirectToAbsolute(n) => match n {
+                3 | 4 => has_window(section, offset, 3, 3),
+                6 => has_window(section, offset, 5, 5),
+                _ => has_window(section, offset, 2, 2),
+            },
+            RelaxationKind::RexAdcIndirectToAbsolute(n)
             | RelaxationKind::RexAndIndirectToAbsolute(n)
             | RelaxationKind::RexOrIndirectToAbsolute(n)
             | RelaxationKind::RexSbbIndirectToAbsolute(n)
             | RelaxationKind::RexXorIndirectToAbsolute(n)
             | RelaxationKind::RexTestIndirectToAbsolute(n) => {
-                let back = match n {
-                    3 | 4 => 3,
-                    6 => 5,
-                    _ => 2,
-                };
-                has_window(section, offset, back, back)
+                match n {
+                    3 | 4 => has_window(section, offset, 3, 3),
+                    6 => has_window(section, offset, 5, 5),
+                    _ => has_window(section, offset, 2, 2),
+                }
             }
-            RelaxationKind::JmpIndirectToRelative => has_window(section, offset, 2, 6),
-            RelaxationKind::TlsGdToLocalExec | RelaxationKind::TlsGdToInitialExec => {
-                has_window(section, offset, 4, 12)
-            }
-            RelaxationKind::TlsLdToLocalExec => has_window(section, offset, 3, 12),
-            RelaxationKind::TlsLdToLocalExecNoPlt => has_window(section, offset, 3, 13),
-            RelaxationKind::TlsGdToLocalExecLarge | RelaxationKind::TlsLdToLocalExec64 => {
-                has_window(section, offset, 3, 22)
-            }
-            RelaxationKind::SkipTlsDescCall => has_window(section, offset, 0, 2),
         }
     }
 

@@ -1,20 +1,14 @@
 -- What holds of the fields of deltas and of a cursor, and of what searches and tests in them find.
 use Rattle.std.specs.Prelude.{◌≡◌, ℕ, ◌+◌, ◌-◌, ◌<◌, ◌≤◌, List, length, map, take, slice_index_or}
-use Rattle.std.specs.Prelude.{Option, Some, None, All, AllPairs, Any, Bool, true, false, ◌++◌, drop}
-use Rattle.std.specs.Borrow.{Bor}
+use Rattle.std.specs.Prelude.{slice_index, All, AllPairs, Any, Bool, true, false, ◌++◌, drop, IsPermutation}
 use Rattle.linker_base.specs.declared.relaxation.RelaxDelta.{RelaxDelta}
 use Rattle.linker_base.specs.declared.relaxation.blocks.BlockHead.{BlockHead}
 use Rattle.linker_base.specs.declared.relaxation.walk.Reached.{Reached}
 use Rattle.linker_base.specs.Deletions.{IsBefore, DoNotOverlap, EndFits, AreDisjoint, IsValid}
 use Rattle.linker_base.specs.Deletions.{bytes_of}
 use Rattle.linker_base.specs.Deltas.{deletion_of}
-use Rattle.linker_base.specs.Listed.{AreValidDeltas}
+use Rattle.linker_base.specs.Listed.{AreValidDeltas, AreValidTogether}
 use Rattle.linker_base.specs.Inner.Blocks.{AreKeptHeads}
-
--- the deltas that a merge reads: a list apart, or what stands where it writes
-abbrev pub read_from : Option (Bor (List RelaxDelta)) → List RelaxDelta → List RelaxDelta
-read_from (Some deltas) merged = deltas.now
-read_from None merged = merged
 
 -- what holds of the fields of a section's deltas
 pub record IsSound (list : List RelaxDelta) (blocks : List BlockHead) : Type 0 where
@@ -46,6 +40,18 @@ pub record CanFollow (from : ℕ) (deletion : ℕ × ℕ) : Type 0 where
 abbrev pub Goes : Bool → ℕ × ℕ → ℕ × ℕ → Type 0
 Goes true a b = IsBefore b a
 Goes false a b = IsBefore a b
+
+-- what was passed of both lists is a run up to `next`, and none of it lies above what comes next
+pub record AreWalked (ds ps : List (ℕ × ℕ)) (i j next : ℕ) : Type 0 where
+  pub run : List (ℕ × ℕ)
+  pub same : IsPermutation (take i ds ++ take j ps) run
+  pub rises : IsRun 0 next run
+  pub old : IsValid (take i ds)
+  pub added : IsValid (take j ps)
+  pub below_old : AreValidTogether ds ps → i < length ds
+      → All (λ p. p.0 ≤ (slice_index_or ds i (0, 0)).0) (take j ps)
+  pub below_added : AreValidTogether ds ps → j < length ps
+      → All (λ d. d.0 ≤ (slice_index_or ps j (0, 0)).0) (take i ds)
 
 -- deletions that fit, and all descend or all ascend
 pub record GoOneWay (falls : Bool) (deletions : List (ℕ × ℕ)) : Type 0 where
@@ -83,6 +89,18 @@ pub record IsEndOf (deletions : List (ℕ × ℕ)) (passed end : ℕ) : Type 0 w
 pub record IsWalked (deletions : List (ℕ × ℕ)) (reached : Reached) : Type 0 where
   pub sum : reached.deleted ≡ bytes_of (take reached.passed deletions)
   pub end : IsEndOf deletions reached.passed reached.end
+
+-- from the first query on, those up to an index lie below an end and have this output, and the query
+-- at the index is the last or lies at the end or above
+pub record IsWrittenInside (queries : List ℕ) (first end output : ℕ) (old : List ℕ) (next : ℕ)
+    (out : List ℕ) : Type 0 where
+  pub from : first ≤ next
+  pub within : next < length queries
+  pub same_length : length out ≡ length old
+  pub before : (k d : ℕ) → k < first → slice_index_or out k d ≡ slice_index_or old k d
+  pub inside : (k d : ℕ) → first ≤ k → k < next
+      → (slice_index_or queries k d < end) × (slice_index_or out k d ≡ output)
+  pub past : next + 1 < length queries → end ≤ slice_index queries next
 
 -- what holds of a cursor's fields
 pub record IsWalking (deltas : List RelaxDelta) (reached : Reached) : Type 0 where

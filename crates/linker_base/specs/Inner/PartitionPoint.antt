@@ -5,8 +5,6 @@ use Rattle.linker_base.specs.declared.relaxation.RelaxDelta.{RelaxDelta}
 use Rattle.linker_base.specs.declared.relaxation.blocks.BlockHead.{BlockHead}
 use Rattle.linker_base.specs.declared.relaxation.partition_point.Level.{Level}
 use Rattle.linker_base.specs.declared.relaxation.partition_point.Level.TheVariants.{Heads, Deltas}
-use Rattle.linker_base.specs.declared.relaxation.partition_point.Test.{Test}
-use Rattle.linker_base.specs.declared.relaxation.partition_point.Test.TheVariants.{Begins, IsPlaced}
 use Rattle.linker_base.specs.declared.relaxation.partition_point.SearchRange.{SearchRange}
 use Rattle.linker_base.specs.Blocks.{head_of}
 
@@ -48,33 +46,38 @@ abbrev pub size_of : Subject → Level → ℕ
 size_of subject Heads = subject.blocks
 size_of subject Deltas = length subject.deltas
 
--- whether a head passes a test
-abbrev pub head_passes : Test → BlockHead → Bool
-head_passes (Begins offset) head = nat_lt head.input_offset offset
-head_passes (IsPlaced offset) head = nat_le head.output_offset offset
+-- a test of heads
+abbrev pub HeadTest : Type 0
+HeadTest = BlockHead → Bool
 
--- whether a delta does
-abbrev pub passes : Test → RelaxDelta → Bool
-passes test delta = head_passes test (head_of delta)
+-- whether it begins strictly below an offset
+abbrev pub begins_below : ℕ → HeadTest
+begins_below offset head = nat_lt head.input_offset offset
 
--- whether the head or delta at an index does
-abbrev pub passing : Subject → Level → Test → ℕ → Bool
-passing subject Heads test at = head_passes test (subject.head at)
-passing subject Deltas test at = passes test (slice_index_or subject.deltas at no_delta)
+-- whether its output offset is at most an offset
+abbrev pub placed_up_to : ℕ → HeadTest
+placed_up_to offset head = nat_le head.output_offset offset
+
+-- whether the head or delta at an index passes: a delta where the head of a block that begins
+-- with it does
+abbrev pub passing : Subject → Level → HeadTest → ℕ → Bool
+passing subject Heads test at = test (subject.head at)
+passing subject Deltas test at = test (head_of (slice_index_or subject.deltas at no_delta))
 
 -- none that passes comes after one that fails
-abbrev pub IsPartitioned : Subject → Level → Test → Type 0
+abbrev pub IsPartitioned : Subject → Level → HeadTest → Type 0
 IsPartitioned subject level test = (i j : ℕ) → i ≤ j → j < size_of subject level
     → passing subject level test j ≡ true → passing subject level test i ≡ true
 
 -- those below the point pass, and those from it on fail
-pub record IsPointOf (subject : Subject) (level : Level) (test : Test) (point : ℕ) : Type 0 where
+pub record IsPointOf (subject : Subject) (level : Level) (test : HeadTest) (point : ℕ)
+    : Type 0 where
   pub before : (k : ℕ) → k < point → passing subject level test k ≡ true
   pub after : (k : ℕ) → point ≤ k → k < size_of subject level
       → passing subject level test k ≡ false
 
 -- a head passes where the first delta of its block does, and each delta is in a block
-pub record HeadsAgree (subject : Subject) (test : Test) : Type 0 where
+pub record HeadsAgree (subject : Subject) (test : HeadTest) : Type 0 where
   pub same : (b : ℕ) → b < subject.blocks
       → passing subject Heads test b ≡ passing subject Deltas test (64 * b)
   pub all : DeltasHaveHeads subject
@@ -85,39 +88,41 @@ pub record IsRangeOf (subject : Subject) (level : Level) (range : SearchRange) :
   pub fits : size_of subject level < 2 ^ 64
 
 -- all before a search range are known to pass, and all after it to fail
-pub record IsNarrowed (subject : Subject) (level : Level) (test : Test) (range : SearchRange)
+pub record IsNarrowed (subject : Subject) (level : Level) (test : HeadTest) (range : SearchRange)
     : Type 0 where
   pub before : (k : ℕ) → k < range.start → passing subject level test k ≡ true
   pub after : (k : ℕ) → range.start + range.len ≤ k → k < size_of subject level
       → passing subject level test k ≡ false
 
--- a power of two
-abbrev pub IsPowerOfTwo : ℕ → Type 0
-IsPowerOfTwo n = (exponent : ℕ) × (n ≡ 2 ^ exponent)
+-- a number whose binary digits are all ones, or 0
+abbrev pub AreOnes : ℕ → Type 0
+AreOnes n = (digits : ℕ) × (n + 1 ≡ 2 ^ digits)
 
--- the first `width` elements of a range and the last, from `middle` on, are all of it
+-- a search of so many elements takes fewer probes than that of `len`
+abbrev pub TakesLess : ℕ → ℕ → Type 0
+TakesLess width len = (left : ℕ) → len < 2 * 2 ^ left → width < 2 ^ left
+
+-- the first `width` elements of a range, `middle`, and the last `width`, behind it, are all of it
 pub record AreParts (range : SearchRange) (middle width : ℕ) : Type 0 where
   pub shorter : width < range.len
-  pub all : range.len ≤ 2 * width
-  pub end : middle + width ≡ range.start + range.len
+  pub all : range.len ≤ 2 * width + 1
+  pub end : middle + 1 + width ≡ range.start + range.len
 
 -- `width` elements of a range, or all of a shorter one
 pub record IsPartOf (all : SearchRange) (width : ℕ) (part : SearchRange) : Type 0 where
   pub len : part.len ≡ min all.len width
   pub whole : all.len ≤ width → part ≡ all
 
--- with one probe a halving, down to one element, the probes stay within the limit
+-- with one probe a halving, down to no element, the probes stay within the limit
 abbrev pub CanHalve : ℕ → ℕ → ℕ → Type 0
-CanHalve limit probes len = (left : ℕ) × (len ≤ 2 ^ left) × (probes + left ≤ limit)
+CanHalve limit probes len = (left : ℕ) × (len < 2 ^ left) × (probes + left ≤ limit)
 
 -- what halvings leave of a search range, with at most so many probes
-pub record Narrows (most : ℕ) (level : Level) (test : Test) (before : Probed) (range : SearchRange)
-    (after : Probed) (part : SearchRange) : Type 0 where
+pub record Narrows (most : ℕ) (level : Level) (test : HeadTest) (before : Probed)
+    (range : SearchRange) (after : Probed) (part : SearchRange) : Type 0 where
   pub probes : OnlyProbes most before after
   pub within : IsRangeOf after.subject level part
-  pub some : 0 < range.len → 0 < part.len
-  pub first : passing before.subject level test range.start ≡ true
-      → passing before.subject level test part.start ≡ true
+  pub from : range.start ≤ part.start
   pub narrowed : IsPartitioned before.subject level test
       → IsNarrowed before.subject level test range → IsNarrowed before.subject level test part
   pub can : (limit : ℕ) → CanHalve limit before.probes range.len

@@ -1,13 +1,13 @@
-//! The growth of the deltas by a merge.
+//! Merges: the growth of deltas in place, and lists apart.
 
-ghost use Rattle.std.specs.Prelude.{◌≡◌, ◌≤◌, ◌<◌, ◌+◌, ◌-◌, ◌^◌, ◌++◌, ℕ, IfOk, IfNone, map, min};
+ghost use Rattle.std.specs.Prelude.{◌≡◌, ◌≤◌, ◌<◌, ◌+◌, ◌-◌, ◌^◌, ◌++◌, ℕ, IfOk, map, min};
 ghost use Rattle.std.specs.Prelude.{length, take, slice_index_or, vec_len, vec_capacity};
 ghost use Rattle.linker_base.specs.declared.relaxation.RelaxDelta.{RelaxDelta};
 ghost use Rattle.linker_base.specs.Deletions.{AreDisjoint, IsValid, IsSortedUnion, bytes_of};
 ghost use Rattle.linker_base.specs.Deltas.{deletion_of, pairs_of};
 ghost use Rattle.linker_base.specs.Listed.{AreValidDeltas, AreValidTogether};
 ghost use Rattle.linker_base.specs.Inner.Blocks.{heads_kept};
-ghost use Rattle.linker_base.specs.Inner.Listed.{IsSound, read_from};
+ghost use Rattle.linker_base.specs.Inner.Listed.{IsSound};
 
 use super::blocks::{BlockHead, count_blocks, fill_heads};
 use super::delta_slice::bytes_of_first;
@@ -96,7 +96,7 @@ pub(super) fn insert_ascending(
 {
     let count = deltas.len();
     append(deltas, pairs);
-    let kept = merge_ascending(None, deltas, count, pairs);
+    let kept = merge_in_place(deltas, count, pairs);
     heads.truncate(count_blocks(kept));
     fill_heads(deltas, heads);
 }
@@ -116,54 +116,44 @@ fn append(deltas: &mut Vec<RelaxDelta>, pairs: &[(u64, u32)])
     }
 }
 
-// An old delta: of a list apart, or where it stood.
+// Merges ascending deletions and the first `count` deltas, from the back, in place: the rest of
+// `merged` is room for as many as the additional ones. Returns how many of the first deltas are
+// unchanged. Where many are additional, which of both comes next is unpredictable, and no branch
+// depends on it.
 #[inline(always)]
-fn old_delta(apart: Option<&[RelaxDelta]>, merged: &[RelaxDelta], index: usize) -> RelaxDelta
-    requires { index < length (read_from apart merged.now) }
-    ensures { (d : RelaxDelta)
-        → result ≡ slice_index_or (read_from apart.entry merged.now) index d }
-{
-    match apart {
-        Some(deltas) => deltas[index],
-        None => merged[index],
-    }
-}
-
-// Merges ascending deletions and the first `count` old deltas, from the back. The old ones are of a
-// list apart, and need no right sums: those of all are made anew. Or they stand in `merged`, where
-// the rest is room for as many as the additional ones. Returns how many of the first deltas are
-// unchanged.
-#[inline(always)]
-pub(super) fn merge_ascending<D: AsDeletion>(
-    apart: Option<&[RelaxDelta]>,
-    merged: &mut [RelaxDelta],
-    count: usize,
-    additional: &[D],
-) -> usize
+fn merge_in_place(merged: &mut [RelaxDelta], count: usize, additional: &[(u64, u32)]) -> usize
     requires room { count + length additional.now ≡ length merged.old }
-    requires within { count ≤ length (read_from apart merged.old) }
-    requires valid { AreValidTogether (map deletion_of (take count (read_from apart merged.old)))
-        (map D.deletion additional.now) }
-    requires listed { IfNone apart (AreValidDeltas (take count merged.old)) }
+    requires valid { AreValidTogether (map deletion_of (take count merged.old)) additional.now }
+    requires listed { AreValidDeltas (take count merged.old) }
     ensures within { result ≤ count }
     ensures front { (k : ℕ) (d : RelaxDelta) → k < result
         → slice_index_or merged.new k d ≡ slice_index_or merged.old k d }
-    ensures union { IsSortedUnion
-        (map deletion_of (take count (read_from apart.entry merged.old))
-        ++ map D.deletion additional.now) (map deletion_of merged.new) }
+    ensures union { IsSortedUnion (map deletion_of (take count merged.old) ++ additional.now)
+        (map deletion_of merged.new) }
     ensures listed { AreValidDeltas merged.new }
 {
     let mut old = count;
     let mut left = additional.len();
-    let mut bytes = bytes_in(additional)
-        + match apart {
-            Some(deltas) => bytes_in(&deltas[..count]),
-            None => bytes_of_first(&merged[..count], count),
+    let mut bytes = bytes_in(additional) + bytes_of_first(&merged[..count], count);
+    let are_many = left > count / 16;
+    while are_many && old > 0 && left > 0 {
+        let listed = merged[old - 1].as_deletion();
+        let added = additional[left - 1];
+        let is_old = added.0 < listed.0;
+        let (input_offset, bytes_deleted) = if is_old { listed } else { added };
+        merged[old + left - 1] = RelaxDelta {
+            input_offset,
+            cumulative_deleted: bytes,
+            bytes_deleted,
         };
+        bytes -= u64::from(bytes_deleted);
+        old -= usize::from(is_old);
+        left -= usize::from(!is_old);
+    }
     while left > 0 {
-        let (input_offset, bytes_deleted) = additional[left - 1].as_deletion();
-        while old > 0 && input_offset < old_delta(apart, merged, old - 1).input_offset {
-            let delta = old_delta(apart, merged, old - 1);
+        let (input_offset, bytes_deleted) = additional[left - 1];
+        while old > 0 && input_offset < merged[old - 1].input_offset {
+            let delta = merged[old - 1];
             merged[old + left - 1] = RelaxDelta {
                 cumulative_deleted: bytes,
                 ..delta
@@ -179,29 +169,71 @@ pub(super) fn merge_ascending<D: AsDeletion>(
         bytes -= u64::from(bytes_deleted);
         left -= 1;
     }
-    if apart.is_none() {
-        return old;
+    old
+}
+
+// Writes the deltas of two lists, merged from the front. Which of both comes next is unpredictable,
+// and no branch depends on it.
+pub(super) fn merge_apart<D: AsDeletion>(
+    deltas: &[RelaxDelta],
+    additional: &[D],
+    merged: &mut [RelaxDelta],
+)
+    requires room { length deltas.now + length additional.now ≡ length merged.old }
+    requires valid { AreValidTogether (map deletion_of deltas.now)
+        (map D.deletion additional.now) }
+    ensures union { IsSortedUnion (map deletion_of deltas.now ++ map D.deletion additional.now)
+        (map deletion_of merged.new) }
+    ensures listed { AreValidDeltas merged.new }
+{
+    let (mut passed, mut taken) = (0, 0);
+    let mut bytes = 0;
+    while passed < deltas.len() && taken < additional.len() {
+        let old = deltas[passed].as_deletion();
+        let added = additional[taken].as_deletion();
+        let is_old = old.0 < added.0;
+        let delta = delta_after(bytes, if is_old { old } else { added });
+        bytes = delta.cumulative_deleted;
+        merged[passed + taken] = delta;
+        passed += usize::from(is_old);
+        taken += usize::from(!is_old);
     }
-    while old > 0 {
-        let delta = old_delta(apart, merged, old - 1);
-        merged[old - 1] = RelaxDelta {
-            cumulative_deleted: bytes,
-            ..delta
-        };
-        bytes -= u64::from(delta.bytes_deleted);
-        old -= 1;
+    while passed < deltas.len() {
+        let delta = delta_after(bytes, deltas[passed].as_deletion());
+        bytes = delta.cumulative_deleted;
+        merged[passed + taken] = delta;
+        passed += 1;
     }
-    0
+    while taken < additional.len() {
+        let delta = delta_after(bytes, additional[taken].as_deletion());
+        bytes = delta.cumulative_deleted;
+        merged[passed + taken] = delta;
+        taken += 1;
+    }
+}
+
+// The delta of a deletion, where so many bytes are deleted before it.
+#[inline(always)]
+fn delta_after(before: u64, deletion: (u64, u32)) -> RelaxDelta
+    requires { before + deletion.1 < 2 ^ 64 }
+    ensures deletion { deletion_of result ≡ deletion }
+    ensures sum { result.cumulative_deleted ≡ before + deletion.1 }
+{
+    RelaxDelta {
+        input_offset: deletion.0,
+        cumulative_deleted: before + u64::from(deletion.1),
+        bytes_deleted: deletion.1,
+    }
 }
 
 // The bytes that the deletions of a valid list take together.
-fn bytes_in<D: AsDeletion>(deletions: &[D]) -> u64
-    requires { IsValid (map D.deletion deletions.now) }
-    ensures { result ≡ bytes_of (map D.deletion deletions.now) }
+fn bytes_in(deletions: &[(u64, u32)]) -> u64
+    requires { IsValid deletions.now }
+    ensures { result ≡ bytes_of deletions.now }
 {
     let mut sum = 0;
     for deletion in deletions {
-        sum += u64::from(deletion.as_deletion().1);
+        sum += u64::from(deletion.1);
     }
     sum
 }

@@ -3,47 +3,70 @@
 ghost use Rattle.std.specs.Prelude.{◌≡◌, ◌<◌, ◌≤◌, ◌+◌, ◌-◌, ◌*◌, ◌^◌, ℕ, length, true, false};
 ghost use Rattle.linker_base.specs.declared.relaxation.partition_point.Level.TheVariants.{Heads};
 ghost use Rattle.linker_base.specs.declared.relaxation.partition_point.Level.TheVariants.{Deltas};
+ghost use Rattle.linker_base.specs.Blocks.{head_of};
 ghost use Rattle.linker_base.specs.Inner.PartitionPoint.{Probed, OnlyProbes, size_of, passing};
-ghost use Rattle.linker_base.specs.Inner.PartitionPoint.{passes, head_passes, IsRangeOf, IsPartOf};
-ghost use Rattle.linker_base.specs.Inner.PartitionPoint.{IsPartitioned, IsPointOf, IsNarrowed};
-ghost use Rattle.linker_base.specs.Inner.PartitionPoint.{CanHalve, HeadsAgree, IsPowerOfTwo};
+ghost use Rattle.linker_base.specs.Inner.PartitionPoint.{HeadTest, begins_below, placed_up_to};
+ghost use Rattle.linker_base.specs.Inner.PartitionPoint.{IsRangeOf, IsPartOf, IsPartitioned};
+ghost use Rattle.linker_base.specs.Inner.PartitionPoint.{IsPointOf, IsNarrowed, CanHalve};
+ghost use Rattle.linker_base.specs.Inner.PartitionPoint.{HeadsAgree, AreOnes, TakesLess};
 ghost use Rattle.linker_base.specs.Inner.PartitionPoint.{AreParts, Narrows, ProbesDigits};
 ghost use Rattle.linker_base.specs.Inner.PartitionPoint.{DeltasHaveHeads, HeadsHaveDeltas};
 
 use super::RelaxDelta;
 use super::blocks::{BLOCK_LEN, BlockHead};
 
-/// So many deltas are searched at once, without their heads: they lie in the processor's cache.
-pub(super) const FEW: usize = 1024;
+/// So many deltas are searched at once, without their heads, by ten probes: they lie in the
+/// processor's cache.
+pub(super) const AT_ONCE: usize = 1023;
 
-/// A test that the first deltas of a valid list pass, and the others fail.
-#[derive(Clone, Copy)]
-pub(super) enum Test {
-    /// Whether it begins strictly below an offset.
-    Begins(u64),
-    /// Whether its output offset, its offset less the bytes deleted before, is at most an offset.
-    IsPlaced(u64),
+/// A test that the first deltas of a valid list pass, and the others fail. A search is compiled
+/// for each kind of test, so that no probe asks for the kind.
+pub(super) trait Test: Copy {
+    /// Whether a head passes.
+    ghost test: { Self → HeadTest };
+
+    /// Whether the delta passes: where the head of a block that begins with it does.
+    fn passes(self, delta: &RelaxDelta) -> bool
+        ensures { result ≡ test self (head_of delta.now) };
+
+    /// Whether the head passes.
+    fn head_passes(self, head: &BlockHead) -> bool
+        ensures { result ≡ test self head.now };
 }
 
-impl Test {
+/// Whether it begins strictly below an offset.
+#[derive(Clone, Copy)]
+pub(super) struct BeginsBelow(pub u64);
+
+impl Test for BeginsBelow {
+    ghost test = { λ below. begins_below below.0 };
+
     #[inline(always)]
-    pub(super) fn passes(self, delta: &RelaxDelta) -> bool
-        ensures { result ≡ passes self delta.now }
-    {
-        match self {
-            Test::Begins(offset) => delta.input_offset < offset,
-            Test::IsPlaced(offset) => delta.output_offset() <= offset,
-        }
+    fn passes(self, delta: &RelaxDelta) -> bool {
+        delta.input_offset < self.0
     }
 
     #[inline(always)]
-    pub(super) fn head_passes(self, head: &BlockHead) -> bool
-        ensures { result ≡ head_passes self head.now }
-    {
-        match self {
-            Test::Begins(offset) => head.input_offset < offset,
-            Test::IsPlaced(offset) => head.output_offset <= offset,
-        }
+    fn head_passes(self, head: &BlockHead) -> bool {
+        head.input_offset < self.0
+    }
+}
+
+/// Whether its output offset, its offset less the bytes deleted before, is at most an offset.
+#[derive(Clone, Copy)]
+pub(super) struct IsPlacedUpTo(pub u64);
+
+impl Test for IsPlacedUpTo {
+    ghost test = { λ last. placed_up_to last.0 };
+
+    #[inline(always)]
+    fn passes(self, delta: &RelaxDelta) -> bool {
+        delta.output_offset() <= self.0
+    }
+
+    #[inline(always)]
+    fn head_passes(self, head: &BlockHead) -> bool {
+        head.output_offset <= self.0
     }
 }
 
@@ -66,10 +89,10 @@ pub(super) trait Probe {
         ensures alone { (state self.now).subject.blocks ≡ 0
             → length (state self.now).subject.deltas < 2 ^ 60 };
 
-    fn passes(&mut self, level: Level, test: Test, at: usize) -> bool
+    fn passes<T: Test>(&mut self, level: Level, test: T, at: usize) -> bool
         requires within { at < size_of (state self.old).subject level }
         requires room { (state self.old).probes < 2 ^ 63 }
-        ensures value { result ≡ passing (state self.old).subject level test at }
+        ensures value { result ≡ passing (state self.old).subject level (T.test test) at }
         ensures probes { OnlyProbes 1 (state self.old) (state self.new) };
 }
 
@@ -80,129 +103,150 @@ pub(super) struct SearchRange {
     len: usize,
 }
 
-/// The half of the range, rounded up, in which the partition point lies.
+/// The `width` elements from `start` on or behind `middle` in which the partition point lies.
 #[inline(always)]
-fn halve<P: Probe>(probe: &mut P, level: Level, test: Test, range: SearchRange) -> SearchRange
-    requires within { IsRangeOf (P.state probe.old).subject level range }
-    requires room { (P.state probe.old).probes < 2 ^ 63 }
-    ensures narrows { Narrows 1 level test (P.state probe.old) range (P.state probe.new) result }
-    ensures half { 2 * result.len ≤ range.len + 1 }
-{
-    if range.len <= 1 {
-        return range;
-    }
-    let half = range.len / 2;
-    let middle = range.start + half;
-    let start = if probe.passes(level, test, middle) {
-        middle
-    } else {
-        range.start
-    };
-    SearchRange {
-        start,
-        len: range.len - half,
-    }
-}
-
-/// The `width` elements from `start` or from `middle` on in which the partition point lies.
-#[inline(always)]
-fn choose<P: Probe>(
+fn choose<P: Probe, T: Test>(
     probe: &mut P,
     level: Level,
-    test: Test,
+    test: T,
     range: SearchRange,
     middle: usize,
     width: usize,
 ) -> SearchRange
     requires within { IsRangeOf (P.state probe.old).subject level range }
-    requires power { IsPowerOfTwo width }
     requires parts { AreParts range middle width }
+    requires less { TakesLess width range.len }
     requires room { (P.state probe.old).probes < 2 ^ 63 }
-    ensures narrows { Narrows 1 level test (P.state probe.old) range (P.state probe.new) result }
+    ensures narrows { Narrows 1 level (T.test test) (P.state probe.old) range
+        (P.state probe.new) result }
     ensures len { result.len ≡ width }
 {
     let start = if probe.passes(level, test, middle) {
-        middle
+        middle + 1
     } else {
         range.start
     };
     SearchRange { start, len: width }
 }
 
-/// Of a part of at most `2 * width` elements of a range the part of at most `width` in which the
-/// partition point lies. Where the widths are constants, LLVM sees from the length of the whole
+/// The half of the range, rounded down, in which the partition point lies.
+#[inline(always)]
+fn halve<P: Probe, T: Test>(probe: &mut P, level: Level, test: T, range: SearchRange) -> SearchRange
+    requires within { IsRangeOf (P.state probe.old).subject level range }
+    requires some { 0 < range.len }
+    requires room { (P.state probe.old).probes < 2 ^ 63 }
+    ensures narrows { Narrows 1 level (T.test test) (P.state probe.old) range
+        (P.state probe.new) result }
+    ensures half { 2 * result.len ≤ range.len }
+{
+    let width = range.len / 2;
+    let middle = range.start + (range.len - width - 1);
+    choose(probe, level, test, range, middle, width)
+}
+
+/// Of a part of at most `2 * width + 1` elements of a range the part of at most `width` in which
+/// the partition point lies. Where the widths are constants, LLVM sees from the length of the whole
 /// range that all steps after the first halve: no length is computed, and nothing compared but one
 /// element.
 #[inline(always)]
-fn narrow<P: Probe>(
+fn narrow<P: Probe, T: Test>(
     probe: &mut P,
     level: Level,
-    test: Test,
+    test: T,
     all: SearchRange,
     part: SearchRange,
     width: usize,
 ) -> SearchRange
     requires within { IsRangeOf (P.state probe.old).subject level part }
-    requires power { IsPowerOfTwo width }
+    requires ones { AreOnes width }
     requires small { width < 2 ^ 62 }
-    requires part { IsPartOf all (2 * width) part }
+    requires part { IsPartOf all (2 * width + 1) part }
     requires room { (P.state probe.old).probes < 2 ^ 63 }
-    ensures narrows { Narrows 1 level test (P.state probe.old) part (P.state probe.new) result }
+    ensures narrows { Narrows 1 level (T.test test) (P.state probe.old) part
+        (P.state probe.new) result }
     ensures part { IsPartOf all width result }
 {
-    if all.len > 2 * width {
+    if all.len > 2 * width + 1 {
         return choose(probe, level, test, part, part.start + width, width);
     }
     if all.len > width {
-        let middle = all.start + (all.len - width);
+        let middle = all.start + (all.len - width - 1);
         return choose(probe, level, test, all, middle, width);
     }
     part
 }
 
-/// Of a part of at most `32 * width` elements of a range the part of at most `width` in which the
-/// partition point lies. The steps are written out, as LLVM makes a branch of what a loop selects,
-/// and that is mispredicted half the time.
+/// `narrow` by four halvings, from `16 * width + 15` elements at most. The steps are written out,
+/// as LLVM makes a branch of what a loop selects, and that is mispredicted half the time.
 #[inline(always)]
-fn narrow_five_times<P: Probe>(
+fn narrow_four_times<P: Probe, T: Test>(
     probe: &mut P,
     level: Level,
-    test: Test,
+    test: T,
     all: SearchRange,
     part: SearchRange,
     width: usize,
 ) -> SearchRange
     requires within { IsRangeOf (P.state probe.old).subject level part }
-    requires power { IsPowerOfTwo width }
+    requires ones { AreOnes width }
     requires small { width < 2 ^ 32 }
-    requires part { IsPartOf all (32 * width) part }
+    requires part { IsPartOf all (16 * width + 15) part }
     requires room { (P.state probe.old).probes < 2 ^ 62 }
-    ensures narrows { Narrows 5 level test (P.state probe.old) part (P.state probe.new) result }
+    ensures narrows { Narrows 4 level (T.test test) (P.state probe.old) part
+        (P.state probe.new) result }
+    ensures part { IsPartOf all width result }
+{
+    let half = narrow(probe, level, test, all, part, 8 * width + 7);
+    let quarter = narrow(probe, level, test, all, half, 4 * width + 3);
+    let eighth = narrow(probe, level, test, all, quarter, 2 * width + 1);
+    narrow(probe, level, test, all, eighth, width)
+}
+
+/// `narrow` by five halvings, from `32 * width + 31` elements at most. That is one comparison where
+/// the whole range has at most `width`.
+#[inline(always)]
+fn narrow_five_times<P: Probe, T: Test>(
+    probe: &mut P,
+    level: Level,
+    test: T,
+    all: SearchRange,
+    part: SearchRange,
+    width: usize,
+) -> SearchRange
+    requires within { IsRangeOf (P.state probe.old).subject level part }
+    requires ones { AreOnes width }
+    requires small { width < 2 ^ 32 }
+    requires part { IsPartOf all (32 * width + 31) part }
+    requires room { (P.state probe.old).probes < 2 ^ 62 - 1 }
+    ensures narrows { Narrows 5 level (T.test test) (P.state probe.old) part
+        (P.state probe.new) result }
     ensures part { IsPartOf all width result }
 {
     if all.len <= width {
         return part;
     }
-    let half = narrow(probe, level, test, all, part, 16 * width);
-    let quarter = narrow(probe, level, test, all, half, 8 * width);
-    let eighth = narrow(probe, level, test, all, quarter, 4 * width);
-    let sixteenth = narrow(probe, level, test, all, eighth, 2 * width);
-    narrow(probe, level, test, all, sixteenth, width)
+    let half = narrow(probe, level, test, all, part, 16 * width + 15);
+    narrow_four_times(probe, level, test, all, half, width)
 }
 
 /// The quarter of the range in which the partition point lies, and up to three elements more. The
 /// three elements are read side by side, so that a long list waits for memory half as often.
 #[inline(always)]
-fn quarter<P: Probe>(probe: &mut P, level: Level, test: Test, range: SearchRange) -> SearchRange
+fn quarter<P: Probe, T: Test>(
+    probe: &mut P,
+    level: Level,
+    test: T,
+    range: SearchRange,
+) -> SearchRange
     requires within { IsRangeOf (P.state probe.old).subject level range }
     requires long { 4 ≤ range.len }
     requires room { (P.state probe.old).probes < 2 ^ 62 }
     ensures probes { OnlyProbes 3 (P.state probe.old) (P.state probe.new) }
     ensures within { IsRangeOf (P.state probe.old).subject level result }
     ensures shorter { 4 * result.len ≤ range.len + 12 }
-    ensures narrowed { IsPartitioned (P.state probe.old).subject level test
-        → IsNarrowed (P.state probe.old).subject level test range
-        → IsNarrowed (P.state probe.old).subject level test result }
+    ensures narrowed { IsPartitioned (P.state probe.old).subject level (T.test test)
+        → IsNarrowed (P.state probe.old).subject level (T.test test) range
+        → IsNarrowed (P.state probe.old).subject level (T.test test) result }
 {
     let quarter = range.len / 4;
     let first = probe.passes(level, test, range.start + quarter) as usize;
@@ -214,59 +258,109 @@ fn quarter<P: Probe>(probe: &mut P, level: Level, test: Test, range: SearchRange
     }
 }
 
-/// The part of the range, of 2^20 elements at most, in which the partition point lies.
+/// The part of the range, of fewer than 2^20 elements, in which the partition point lies.
 #[inline(always)]
-fn shorten<P: Probe>(probe: &mut P, level: Level, test: Test, range: SearchRange) -> SearchRange
+fn shorten<P: Probe, T: Test>(
+    probe: &mut P,
+    level: Level,
+    test: T,
+    range: SearchRange,
+) -> SearchRange
     requires within { IsRangeOf (P.state probe.old).subject level range }
     requires room { (P.state probe.old).probes + range.len < 2 ^ 61 }
-    ensures narrows { Narrows range.len level test (P.state probe.old) range
+    ensures narrows { Narrows range.len level (T.test test) (P.state probe.old) range
         (P.state probe.new) result }
-    ensures short { result.len ≤ 1048576 }
+    ensures short { result.len ≤ 1048575 }
 {
     let mut part = range;
-    while part.len > 1048576 {
+    while part.len > 1048575 {
         part = halve(probe, level, test, part);
     }
     part
 }
 
-/// How many pass, where the partition point lies in a part of a range, of 1,024 elements at most.
+/// How many pass, where the partition point lies in a part of a range, of one element at most. A
+/// sum, as LLVM makes a branch of what is selected last.
 #[inline(always)]
-fn point_in<P: Probe>(
+fn point_at<P: Probe, T: Test>(
     probe: &mut P,
     level: Level,
-    test: Test,
+    test: T,
     all: SearchRange,
     part: SearchRange,
 ) -> usize
     requires within { IsRangeOf (P.state probe.old).subject level part }
-    requires part { IsPartOf all 1024 part }
-    requires room { (P.state probe.old).probes < 2 ^ 61 + 10 }
-    ensures probes { OnlyProbes 11 (P.state probe.old) (P.state probe.new) }
+    requires part { IsPartOf all 1 part }
+    requires room { (P.state probe.old).probes < 2 ^ 63 }
+    ensures probes { OnlyProbes 1 (P.state probe.old) (P.state probe.new) }
     ensures within { result ≤ size_of (P.state probe.old).subject level }
-    ensures point { IsPartitioned (P.state probe.old).subject level test
-        → IsNarrowed (P.state probe.old).subject level test part
-        → IsPointOf (P.state probe.old).subject level test result }
+    ensures from { part.start ≤ result }
+    ensures point { IsPartitioned (P.state probe.old).subject level (T.test test)
+        → IsNarrowed (P.state probe.old).subject level (T.test test) part
+        → IsPointOf (P.state probe.old).subject level (T.test test) result }
     ensures spent { (limit : ℕ) → CanHalve limit (P.state probe.old).probes part.len
-        → (P.state probe.new).probes ≤ limit + 1 }
+        → (P.state probe.new).probes ≤ limit }
 {
-    let some = narrow_five_times(probe, level, test, all, part, 32);
-    let last = narrow_five_times(probe, level, test, all, some, 1);
     if all.len == 0 {
-        return last.start;
+        return part.start;
     }
-    last.start + probe.passes(level, test, last.start) as usize
+    part.start + probe.passes(level, test, part.start) as usize
+}
+
+/// How many pass, where the partition point lies in a part of a range, of 1,023 elements at most.
+#[inline(always)]
+fn point_in<P: Probe, T: Test>(
+    probe: &mut P,
+    level: Level,
+    test: T,
+    all: SearchRange,
+    part: SearchRange,
+) -> usize
+    requires within { IsRangeOf (P.state probe.old).subject level part }
+    requires part { IsPartOf all 1023 part }
+    requires room { (P.state probe.old).probes < 2 ^ 61 + 10 }
+    ensures probes { OnlyProbes 10 (P.state probe.old) (P.state probe.new) }
+    ensures within { result ≤ size_of (P.state probe.old).subject level }
+    ensures point { IsPartitioned (P.state probe.old).subject level (T.test test)
+        → IsNarrowed (P.state probe.old).subject level (T.test test) part
+        → IsPointOf (P.state probe.old).subject level (T.test test) result }
+    ensures spent { (limit : ℕ) → CanHalve limit (P.state probe.old).probes part.len
+        → (P.state probe.new).probes ≤ limit }
+{
+    let some = narrow_five_times(probe, level, test, all, part, 31);
+    let last = narrow_four_times(probe, level, test, all, some, 1);
+    point_at(probe, level, test, all, last)
+}
+
+/// Of a range of fewer than 2^20 elements the part of at most 1,023 in which the partition point
+/// lies.
+#[inline(always)]
+fn narrow_ten_times<P: Probe, T: Test>(
+    probe: &mut P,
+    level: Level,
+    test: T,
+    all: SearchRange,
+) -> SearchRange
+    requires within { IsRangeOf (P.state probe.old).subject level all }
+    requires short { all.len ≤ 1048575 }
+    requires room { (P.state probe.old).probes < 2 ^ 61 }
+    ensures narrows { Narrows 10 level (T.test test) (P.state probe.old) all
+        (P.state probe.new) result }
+    ensures part { IsPartOf all 1023 result }
+{
+    let some = narrow_five_times(probe, level, test, all, all, 32767);
+    narrow_five_times(probe, level, test, all, some, 1023)
 }
 
 /// How many heads pass.
 #[inline(always)]
-fn search_heads<P: Probe>(probe: &mut P, test: Test) -> usize
+fn search_heads<P: Probe, T: Test>(probe: &mut P, test: T) -> usize
     requires room { (P.state probe.old).probes < 2 ^ 33 }
     ensures probes { OnlyProbes (2 ^ 60) (P.state probe.old) (P.state probe.new) }
     ensures within { result ≤ (P.state probe.old).subject.blocks }
-    ensures point { IsPartitioned (P.state probe.old).subject Heads test
-        → IsPointOf (P.state probe.old).subject Heads test result }
-    ensures spent { ProbesDigits 1 (P.state probe.old) (P.state probe.new) }
+    ensures point { IsPartitioned (P.state probe.old).subject Heads (T.test test)
+        → IsPointOf (P.state probe.old).subject Heads (T.test test) result }
+    ensures spent { ProbesDigits 0 (P.state probe.old) (P.state probe.new) }
     ensures blocks { HeadsHaveDeltas (P.state probe.old).subject }
 {
     let range = SearchRange {
@@ -274,76 +368,110 @@ fn search_heads<P: Probe>(probe: &mut P, test: Test) -> usize
         len: probe.len(Level::Heads),
     };
     let all = shorten(probe, Level::Heads, test, range);
-    let some = narrow_five_times(probe, Level::Heads, test, all, all, 32768);
-    let less = narrow_five_times(probe, Level::Heads, test, all, some, 1024);
+    let less = narrow_ten_times(probe, Level::Heads, test, all);
     point_in(probe, Level::Heads, test, all, less)
 }
 
-/// How many deltas pass, where the first of the block does and none after the block.
+/// How many deltas pass, without the heads.
 #[inline(always)]
-fn search_block<P: Probe>(probe: &mut P, test: Test, block: usize) -> usize
-    requires begins { 64 * block < length (P.state probe.old).subject.deltas }
-    requires long { 64 ≤ length (P.state probe.old).subject.deltas }
-    requires room { (P.state probe.old).probes < 2 ^ 62 - 6 }
-    ensures probes { OnlyProbes 6 (P.state probe.old) (P.state probe.new) }
-    ensures within { 0 < result × (result ≤ length (P.state probe.old).subject.deltas) }
-    ensures point { IsPartitioned (P.state probe.old).subject Deltas test
-        → passing (P.state probe.old).subject Deltas test (64 * block) ≡ true
-        → ((k : ℕ) → 64 * block + 64 ≤ k → k < length (P.state probe.old).subject.deltas
-        → passing (P.state probe.old).subject Deltas test k ≡ false)
-        → IsPointOf (P.state probe.old).subject Deltas test result }
-{
-    let len = probe.len(Level::Deltas);
-    // The last block may be shorter. Its search begins in the one before.
-    let all = SearchRange {
-        start: (BLOCK_LEN * block).min(len - BLOCK_LEN),
-        len: BLOCK_LEN,
-    };
-    let some = narrow_five_times(probe, Level::Deltas, test, all, all, 2);
-    let last = narrow(probe, Level::Deltas, test, all, some, 1);
-    last.start + 1
-}
-
-/// How many deltas pass. Where they are more than a few and there are heads, by these first.
-#[inline(always)]
-pub(super) fn search<P: Probe>(probe: &mut P, test: Test) -> usize
+pub(super) fn search_deltas<P: Probe, T: Test>(probe: &mut P, test: T) -> usize
+    requires fits { length (P.state probe.old).subject.deltas < 2 ^ 60 }
     requires room { (P.state probe.old).probes < 2 ^ 33 }
     ensures probes { OnlyProbes (2 ^ 61) (P.state probe.old) (P.state probe.new) }
     ensures within { result ≤ length (P.state probe.old).subject.deltas }
-    ensures point { IsPartitioned (P.state probe.old).subject Deltas test
-        → (0 < (P.state probe.old).subject.blocks → HeadsAgree (P.state probe.old).subject test)
-        → IsPointOf (P.state probe.old).subject Deltas test result }
-    ensures spent { DeltasHaveHeads (P.state probe.old).subject
-        → ProbesDigits 7 (P.state probe.old) (P.state probe.new) }
+    ensures point { IsPartitioned (P.state probe.old).subject Deltas (T.test test)
+        → IsPointOf (P.state probe.old).subject Deltas (T.test test) result }
+    ensures spent { length (P.state probe.old).subject.deltas ≤ 1048575
+        → (limit : ℕ)
+        → CanHalve limit (P.state probe.old).probes (length (P.state probe.old).subject.deltas)
+        → (P.state probe.new).probes ≤ limit }
 {
     let mut range = SearchRange {
         start: 0,
         len: probe.len(Level::Deltas),
     };
-    if range.len > FEW && probe.len(Level::Heads) > 0 {
-        return search_many(probe, test);
-    }
-    while range.len > FEW {
+    while range.len > 1048575 {
         range = quarter(probe, Level::Deltas, test, range);
     }
-    point_in(probe, Level::Deltas, test, range, range)
+    let less = narrow_ten_times(probe, Level::Deltas, test, range);
+    point_in(probe, Level::Deltas, test, range, less)
+}
+
+/// How many deltas pass, where the first of the block does and none after the block.
+#[inline(always)]
+fn search_block<P: Probe, T: Test>(probe: &mut P, test: T, block: usize) -> usize
+    requires begins { 64 * block < length (P.state probe.old).subject.deltas }
+    requires long { 64 ≤ length (P.state probe.old).subject.deltas }
+    requires room { (P.state probe.old).probes < 2 ^ 62 - 6 }
+    ensures probes { OnlyProbes 6 (P.state probe.old) (P.state probe.new) }
+    ensures within { 0 < result × (result ≤ length (P.state probe.old).subject.deltas) }
+    ensures point { IsPartitioned (P.state probe.old).subject Deltas (T.test test)
+        → passing (P.state probe.old).subject Deltas (T.test test) (64 * block) ≡ true
+        → ((k : ℕ) → 64 * block + 64 ≤ k → k < length (P.state probe.old).subject.deltas
+        → passing (P.state probe.old).subject Deltas (T.test test) k ≡ false)
+        → IsPointOf (P.state probe.old).subject Deltas (T.test test) result }
+{
+    let len = probe.len(Level::Deltas);
+    // The last block may be shorter. Its search begins in the one before.
+    let all = SearchRange {
+        start: (BLOCK_LEN * block + 1).min(len - (BLOCK_LEN - 1)),
+        len: BLOCK_LEN - 1,
+    };
+    let half = narrow(probe, Level::Deltas, test, all, all, 31);
+    let last = narrow_four_times(probe, Level::Deltas, test, all, half, 1);
+    point_at(probe, Level::Deltas, test, all, last)
+}
+
+/// How many deltas pass, where they are searched at once.
+#[inline(always)]
+pub(super) fn search_at_once<P: Probe, T: Test>(probe: &mut P, test: T) -> usize
+    requires few { length (P.state probe.old).subject.deltas ≤ 1023 }
+    requires room { (P.state probe.old).probes < 2 ^ 33 }
+    ensures within { result ≤ length (P.state probe.old).subject.deltas }
+    ensures point { IsPartitioned (P.state probe.old).subject Deltas (T.test test)
+        → IsPointOf (P.state probe.old).subject Deltas (T.test test) result }
+{
+    let all = SearchRange {
+        start: 0,
+        len: probe.len(Level::Deltas),
+    };
+    point_in(probe, Level::Deltas, test, all, all)
 }
 
 /// How many deltas pass, by the heads of their blocks. There is a whole block.
 #[inline(always)]
-fn search_many<P: Probe>(probe: &mut P, test: Test) -> usize
+pub(super) fn search_many<P: Probe, T: Test>(probe: &mut P, test: T) -> usize
     requires room { (P.state probe.old).probes < 2 ^ 33 }
     requires long { 64 ≤ length (P.state probe.old).subject.deltas }
     ensures probes { OnlyProbes (2 ^ 61) (P.state probe.old) (P.state probe.new) }
     ensures within { result ≤ length (P.state probe.old).subject.deltas }
-    ensures point { IsPartitioned (P.state probe.old).subject Deltas test
-        → HeadsAgree (P.state probe.old).subject test
-        → IsPointOf (P.state probe.old).subject Deltas test result }
+    ensures point { IsPartitioned (P.state probe.old).subject Deltas (T.test test)
+        → HeadsAgree (P.state probe.old).subject (T.test test)
+        → IsPointOf (P.state probe.old).subject Deltas (T.test test) result }
     ensures spent { DeltasHaveHeads (P.state probe.old).subject
-        → ProbesDigits 7 (P.state probe.old) (P.state probe.new) }
+        → ProbesDigits 6 (P.state probe.old) (P.state probe.new) }
 {
     match search_heads(probe, test).checked_sub(1) {
         Some(block) => search_block(probe, test, block),
         None => 0,
     }
+}
+
+/// How many deltas pass. Where they are more than are searched at once and there are heads, by
+/// these first.
+pub(super) fn search<P: Probe, T: Test>(probe: &mut P, test: T) -> usize
+    requires room { (P.state probe.old).probes < 2 ^ 33 }
+    ensures probes { OnlyProbes (2 ^ 61) (P.state probe.old) (P.state probe.new) }
+    ensures within { result ≤ length (P.state probe.old).subject.deltas }
+    ensures point { IsPartitioned (P.state probe.old).subject Deltas (T.test test)
+        → (0 < (P.state probe.old).subject.blocks
+        → HeadsAgree (P.state probe.old).subject (T.test test))
+        → IsPointOf (P.state probe.old).subject Deltas (T.test test) result }
+    ensures spent { DeltasHaveHeads (P.state probe.old).subject
+        → ProbesDigits 6 (P.state probe.old) (P.state probe.new) }
+{
+    if probe.len(Level::Deltas) > AT_ONCE && probe.len(Level::Heads) > 0 {
+        return search_many(probe, test);
+    }
+    search_deltas(probe, test)
 }

@@ -1,11 +1,12 @@
 //! A walk through deltas, for offsets that don't decrease.
 
-ghost use Rattle.std.specs.Prelude.{◌≡◌, ◌<◌, ◌≤◌, ◌↔◌, IsTrue, length, map, max};
+ghost use Rattle.std.specs.Prelude.{◌≡◌, ◌+◌, ◌-◌, ◌%◌, ◌^◌, ◌<◌, ◌≤◌, ◌↔◌, IsTrue};
+ghost use Rattle.std.specs.Prelude.{length, map, max};
 ghost use Rattle.std.specs.List.Sorted.{IsNonDecreasing};
 ghost use Rattle.linker_base.specs.Deletions.{begun_below, rank};
 ghost use Rattle.linker_base.specs.Deltas.{deletion_of};
 ghost use Rattle.linker_base.specs.Listed.{AreValidDeltas};
-ghost use Rattle.linker_base.specs.Inner.Listed.{IsWalked};
+ghost use Rattle.linker_base.specs.Inner.Listed.{IsWalked, IsWrittenInside};
 ghost use Rattle.linker_base.specs.Walk.{walk_at, walk_through, AreAhead};
 
 use super::RelaxDelta;
@@ -50,7 +51,41 @@ pub(super) fn pass(deltas: &[RelaxDelta], from: Reached, offset: u64) -> Reached
     reached
 }
 
-// Writes the output offset of each query, and passes the deltas that begin below it.
+// Writes this output for the queries from the first on that lie below the end, except for the last
+// query. Returns the next to write. Not inlined, as few queries lie inside a deletion.
+#[inline(never)]
+fn write_inside(queries: &[u64], first: usize, end: u64, output: u64, out: &mut [u64]) -> usize
+    requires within { first < length queries.now }
+    requires same_length { length queries.now ≡ length out.old }
+    ensures { IsWrittenInside queries.now first end output out.old result out.new }
+{
+    let mut at = first;
+    while at < queries.len() - 1 && queries[at] < end {
+        out[at] = output;
+        at += 1;
+    }
+    at
+}
+
+// Writes the output offsets of the queries from this one on that lie below the end of what is
+// passed, except for the last query. Returns the next to write.
+#[inline(always)]
+fn leave(queries: &[u64], at: usize, reached: Reached, out: &mut [u64]) -> usize
+    requires within { at < length queries.now }
+    requires same_length { length queries.now ≡ length out.old }
+    ensures { IsWrittenInside queries.now at reached.end
+        ((reached.end + 2 ^ 64 - reached.deleted) % 2 ^ 64) out.old result out.new }
+{
+    if queries[at] < reached.end {
+        let output = reached.end.wrapping_sub(reached.deleted);
+        return write_inside(queries, at, reached.end, output, out);
+    }
+    at
+}
+
+// Writes the output offset of each query, and passes the deltas that begin below the last one. So
+// only the last query has to be compared with the length. Queries inside a deletion are written as
+// it is passed. So the others need no maximum of offset and end.
 #[inline]
 pub(super) fn walk(
     deltas: &[RelaxDelta],
@@ -64,28 +99,66 @@ pub(super) fn walk(
     ensures walked { AreValidDeltas deltas.now → IsWalked (map deletion_of deltas.now) from
         → IsWalked (map deletion_of deltas.now) result }
     ensures passed { AreValidDeltas deltas.now
+        → AreAhead (walk_at (map deletion_of deltas.now) from.passed) queries.now
         → walk_at (map deletion_of deltas.now) result.passed
         ≡ walk_through (walk_at (map deletion_of deltas.now) from.passed) queries.now }
     ensures ranks { AreValidDeltas deltas.now → IsWalked (map deletion_of deltas.now) from
         → AreAhead (walk_at (map deletion_of deltas.now) from.passed) queries.now
         → out.new ≡ map (rank (map deletion_of deltas.now)) queries.now }
 {
-    let mut reached = from;
-    for (at, &query) in queries.iter().enumerate() {
-        reached = pass(deltas, reached, query);
-        out[at] = query.max(reached.end).wrapping_sub(reached.deleted);
+    // The lengths are the same: where the compiler knows it, `out[at]` needs no test.
+    if queries.is_empty() || out.len() != queries.len() {
+        return from;
     }
+    let last = queries.len() - 1;
+    let mut reached = from;
+    let mut at = leave(queries, 0, from, out);
+    for &delta in &deltas[from.passed..] {
+        if delta.input_offset >= queries[last] {
+            break;
+        }
+        while queries[at] <= delta.input_offset {
+            out[at] = queries[at].wrapping_sub(reached.deleted);
+            at += 1;
+        }
+        reached = Reached {
+            passed: reached.passed + 1,
+            deleted: delta.cumulative_deleted,
+            end: delta
+                .input_offset
+                .wrapping_add(u64::from(delta.bytes_deleted)),
+        };
+        at = leave(queries, at, reached, out);
+    }
+    while at < last {
+        out[at] = queries[at].wrapping_sub(reached.deleted);
+        at += 1;
+    }
+    out[last] = queries[last].max(reached.end).wrapping_sub(reached.deleted);
     reached
 }
 
-// Whether the offsets don't decrease. No early return, so that several are compared at a time.
+// Whether the offsets don't decrease. Four are compared before a branch.
 #[inline]
 pub(super) fn ascend(offsets: &[u64]) -> bool
     ensures { IsTrue result ↔ IsNonDecreasing offsets.now }
 {
-    let mut falls = false;
-    for at in 1..offsets.len() {
-        falls |= offsets[at] < offsets[at - 1];
+    let mut at = 1;
+    while at + 3 < offsets.len() {
+        if (offsets[at] < offsets[at - 1])
+            | (offsets[at + 1] < offsets[at])
+            | (offsets[at + 2] < offsets[at + 1])
+            | (offsets[at + 3] < offsets[at + 2])
+        {
+            return false;
+        }
+        at += 4;
     }
-    !falls
+    while at < offsets.len() {
+        if offsets[at] < offsets[at - 1] {
+            return false;
+        }
+        at += 1;
+    }
+    true
 }

@@ -181,7 +181,8 @@ pub(crate) fn signed_by(number: u64, _bits: u32, sign: u64) -> (u64, bool)
     (number.wrapping_sub((number & sign) << 1), number >= sign)
 }
 
-/// The same, where the highest bit isn't known yet.
+/// The same by shifts, which LLVM merges with those that take the number from its window, where
+/// `bits` is a constant.
 #[inline(always)]
 pub(crate) fn signed_number(number: u64, bits: u32) -> (u64, bool)
     requires some { 0 < bits }
@@ -190,7 +191,8 @@ pub(crate) fn signed_number(number: u64, bits: u32) -> (u64, bool)
     ensures number { result.0 ≡ cast_unsigned w64 (signed bits number) }
     ensures flag { result.1 ≡ int_lt (signed bits number) (pos 0) }
 {
-    signed_by(number, bits, 1 << (bits - 1))
+    let extended = (number << (64 - bits)).cast_signed() >> (64 - bits);
+    (extended.cast_unsigned(), extended < 0)
 }
 
 /// Writes a value into the instruction that `dest` begins with. The runs are those of its form.

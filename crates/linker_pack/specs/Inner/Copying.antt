@@ -1,7 +1,7 @@
 -- What holds while the bytes that stay are copied.
 use Rattle.std.specs.Prelude.{◌≡◌, ℕ, ◌+◌, ◌-◌, ◌<◌, ◌≤◌, List, length, IsTrue, slice_index, false}
 use Rattle.linker_base.specs.Deletions.{is_kept, rank}
-use Rattle.linker_utils.specs.Inner.Packing.{IsRunStart}
+use Rattle.linker_riscv64.specs.Inner.Packing.{IsRunStart}
 
 -- the bytes of a section from its base up to an offset that stay stand where they go
 abbrev pub IsFilledTo : List (ℕ × ℕ) → ℕ → List ℕ → ℕ → List ℕ → Type 0

@@ -6,7 +6,7 @@ use Rattle.linker_elf.specs.declared.elf.RelocationKindInfo.{RelocationKindInfo}
 use Rattle.linker_recognise.specs.Recognised.{IsOneOf, IsLeft, IsRead}
 use Rattle.linker_recognise.specs.declared.engine.Made.{Made}
 use Rattle.linker_recognise.specs.declared.fields.FieldBits.{FieldBits}
-use Rattle.linker_utils.specs.declared.riscv64.rewrites.DeletedBytes.{DeletedBytes}
+use Rattle.linker_base.specs.declared.rewrite.DeletedBytes.{DeletedBytes}
 
 -- the values, and none in the rest of a list of six
 abbrev pub padded : {A : Type 0} → List A → List (Option A)

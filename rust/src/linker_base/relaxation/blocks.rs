@@ -4,11 +4,14 @@
 use alloc::vec::Vec;
 use crate::support::*;
 use super::delta_slice::rank_after;
-use super::partition_point::{FEW, Level, Probe, Test, search};
+use super::partition_point::{BeginsBelow, IsPlacedUpTo, Level, Probe, Test, search};
 use super::{OutOfMemory, RelaxDelta};
 
 /// How many deltas a block has. The last block may have fewer.
 pub const BLOCK_LEN: usize = 64;
+
+/// A section keeps no heads with so many deltas.
+const FEW: usize = 1024;
 
 /// The first delta of a block, as far as a search reads it.
 #[repr(C)]
@@ -75,7 +78,7 @@ impl<K: Looks> Probe for K {
     }
 
     #[inline(always)]
-    fn passes(&mut self, level: Level, test: Test, at: usize) -> bool {
+    fn passes<T: Test>(&mut self, level: Level, test: T, at: usize) -> bool {
         match level {
             Level::Heads => {
                 let (input_offset, output_offset) = self.head(at);
@@ -193,7 +196,7 @@ pub fn input_to_output_counted<K: Looks>(looks: &mut K, input_offset: u64) -> u6
     debug_assert!((looks.count() as u128) < 1 << 32);
     // What it ensures is that the list is valid.
     let _len = looks.len();
-    match search(looks, Test::Begins(input_offset)).checked_sub(1) {
+    match search(looks, BeginsBelow(input_offset)).checked_sub(1) {
         Some(last) => rank_after(looks.delta(last), input_offset),
         None => input_offset,
     }
@@ -216,7 +219,7 @@ pub fn output_to_input_counted<K: Looks>(looks: &mut K, output_offset: u64) -> u
     debug_assert!((looks.count() as u128) < 1 << 32);
     // What it ensures is that the list is valid.
     let _len = looks.len();
-    match search(looks, Test::IsPlaced(output_offset)).checked_sub(1) {
+    match search(looks, IsPlacedUpTo(output_offset)).checked_sub(1) {
         Some(last) => output_offset + looks.delta(last).cumulative_deleted,
         None => output_offset,
     }

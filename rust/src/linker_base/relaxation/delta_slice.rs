@@ -3,9 +3,12 @@
 
 use super::RelaxDelta;
 use super::blocks::{BlockHead, count_blocks, write_heads};
-use super::merge::merge_ascending;
+use super::merge::merge_apart;
 use super::overlap::{self, AsDeletion, first_invalid};
-use super::partition_point::{FEW, Level, Probe, Test, search};
+use super::partition_point::{
+    AT_ONCE, BeginsBelow, IsPlacedUpTo, Level, Probe, Test, search, search_at_once, search_deltas,
+    search_many,
+};
 use super::walk::{Reached, ascend, walk};
 
 /// A borrowed list of deltas, of any contents, and the heads of their blocks, or none.
@@ -30,7 +33,7 @@ impl<'a> Probe for DeltaSlice<'a> {
     }
 
     #[inline(always)]
-    fn passes(&mut self, level: Level, test: Test, at: usize) -> bool {
+    fn passes<T: Test>(&mut self, level: Level, test: T, at: usize) -> bool {
         match level {
             Level::Heads => test.head_passes(&self.heads[at]),
             Level::Deltas => test.passes(&self.deltas[at]),
@@ -127,14 +130,7 @@ impl<'a> DeltaSlice<'a> {
     // How many deltas lie at offsets strictly below `offset`.
     #[inline(always)]
     pub(super) fn count_below(&self, offset: u64) -> usize {
-        search(&mut self.copy(), Test::Begins(offset))
-    }
-
-    // How many deltas have an output offset, their offset less the bytes deleted before, of at
-    // most `offset`.
-    #[inline(always)]
-    fn count_placed(&self, offset: u64) -> usize {
-        search(&mut self.copy(), Test::IsPlaced(offset))
+        search(&mut self.copy(), BeginsBelow(offset))
     }
 
     // The delta at the offset, if one is listed there.
@@ -172,10 +168,13 @@ impl<'a> DeltaSlice<'a> {
     #[must_use]
     #[inline(always)]
     pub fn input_to_output_offset(&self, input_offset: u64) -> u64 {
-        match self.count_below(input_offset).checked_sub(1) {
-            Some(last) => rank_after(self.deltas()[last], input_offset),
-            None => input_offset,
+        if !self.has_many() {
+            return rank_among_few(self.deltas(), input_offset);
         }
+        if self.heads.is_empty() {
+            return rank_among_many(self.deltas(), input_offset);
+        }
+        rank_by_heads(self.deltas(), self.heads, input_offset)
     }
 
     /// The output offset of the `len` bytes from `input_offset` on, or none where one of them is
@@ -214,7 +213,13 @@ impl<'a> DeltaSlice<'a> {
     // The bytes that are deleted before the kept byte at an output offset.
     #[inline(always)]
     pub(super) fn bytes_before(&self, output_offset: u64) -> u64 {
-        bytes_of_first(self.deltas(), self.count_placed(output_offset))
+        if !self.has_many() {
+            return bytes_among_few(self.deltas(), output_offset);
+        }
+        if self.heads.is_empty() {
+            return bytes_among_many(self.deltas(), output_offset);
+        }
+        bytes_by_heads(self.deltas(), self.heads, output_offset)
     }
 
     /// The offset in the input section of the kept byte at `output_offset`, or none where that is
@@ -225,10 +230,16 @@ impl<'a> DeltaSlice<'a> {
         output_offset.checked_add(self.bytes_before(output_offset))
     }
 
-    // Whether the deltas are more than a few, and the heads as many as their blocks.
+    // Whether the deltas are more than are searched at once.
+    #[inline(always)]
+    fn has_many(&self) -> bool {
+        self.len() > AT_ONCE
+    }
+
+    // Whether the deltas are more than are searched at once, and the heads as many as their blocks.
     #[inline(always)]
     fn has_many_heads(&self, heads: &[BlockHead]) -> bool {
-        self.len() > FEW && heads.len() == self.block_count()
+        self.has_many() && heads.len() == self.block_count()
     }
 
     /// As `input_to_output_offset`, with these heads of the blocks. It looks at them first where
@@ -338,7 +349,7 @@ impl<'a> DeltaSlice<'a> {
     pub fn merge_ascending<D: AsDeletion>(&self, additional: &[D], merged: &mut [RelaxDelta]) {
         debug_assert!((merged.len() as u128) == (self.len() as u128) + (additional.len() as u128));
         debug_assert!(self.can_merge_ascending(additional));
-        merge_ascending(Some(self.deltas()), merged, self.len(), additional);
+        merge_apart(self.deltas(), additional, merged);
     }
 }
 
@@ -359,9 +370,11 @@ fn have_sums(deltas: &[RelaxDelta]) -> bool {
 // The bytes that the first `count` deltas delete.
 #[inline(always)]
 pub(super) fn bytes_of_first(deltas: &[RelaxDelta], count: usize) -> u64 {
-    match count.checked_sub(1) {
-        Some(last) => deltas[last].cumulative_deleted,
-        None => 0,
+    let last = count.wrapping_sub(1);
+    if last < deltas.len() {
+        deltas[last].cumulative_deleted
+    } else {
+        0
     }
 }
 
@@ -375,15 +388,56 @@ pub(super) fn rank_after(last: RelaxDelta, offset: u64) -> u64 {
     offset.max(end).wrapping_sub(last.cumulative_deleted)
 }
 
-// `input_to_output_offset` by heads. Not inlined, so that a caller's search of a few deltas remains
-// small.
-#[inline(never)]
-fn rank_by_heads(deltas: &[RelaxDelta], heads: &[BlockHead], offset: u64) -> u64 {
-    DeltaSlice::over(deltas, heads).input_to_output_offset(offset)
+// The rank of an offset, where so many deltas begin below it.
+#[inline(always)]
+fn rank_past(deltas: &[RelaxDelta], below: usize, offset: u64) -> u64 {
+    let last = below.wrapping_sub(1);
+    if last < deltas.len() {
+        rank_after(deltas[last], offset)
+    } else {
+        offset
+    }
 }
 
-// `bytes_before` by heads.
+// `input_to_output_offset` of few deltas. Not inlined, as LLVM makes branches of what is selected
+// in a caller's loop.
+#[inline(never)]
+fn rank_among_few(deltas: &[RelaxDelta], offset: u64) -> u64 {
+    let below = search_at_once(&mut DeltaSlice::new(deltas), BeginsBelow(offset));
+    rank_past(deltas, below, offset)
+}
+
+// `input_to_output_offset` of many deltas without heads.
+#[inline(never)]
+fn rank_among_many(deltas: &[RelaxDelta], offset: u64) -> u64 {
+    let below = search_deltas(&mut DeltaSlice::new(deltas), BeginsBelow(offset));
+    rank_past(deltas, below, offset)
+}
+
+// `input_to_output_offset` by heads, of which there is one at least.
+#[inline(never)]
+fn rank_by_heads(deltas: &[RelaxDelta], heads: &[BlockHead], offset: u64) -> u64 {
+    let below = search_many(&mut DeltaSlice::over(deltas, heads), BeginsBelow(offset));
+    rank_past(deltas, below, offset)
+}
+
+// `bytes_before` of few deltas.
+#[inline(never)]
+fn bytes_among_few(deltas: &[RelaxDelta], offset: u64) -> u64 {
+    let placed = search_at_once(&mut DeltaSlice::new(deltas), IsPlacedUpTo(offset));
+    bytes_of_first(deltas, placed)
+}
+
+// `bytes_before` of many deltas without heads.
+#[inline(never)]
+fn bytes_among_many(deltas: &[RelaxDelta], offset: u64) -> u64 {
+    let placed = search_deltas(&mut DeltaSlice::new(deltas), IsPlacedUpTo(offset));
+    bytes_of_first(deltas, placed)
+}
+
+// `bytes_before` by heads, of which there is one at least.
 #[inline(never)]
 fn bytes_by_heads(deltas: &[RelaxDelta], heads: &[BlockHead], offset: u64) -> u64 {
-    DeltaSlice::over(deltas, heads).bytes_before(offset)
+    let placed = search_many(&mut DeltaSlice::over(deltas, heads), IsPlacedUpTo(offset));
+    bytes_of_first(deltas, placed)
 }

@@ -1,5 +1,5 @@
 // Made by tools/erase of crates/linker_base/src/relaxation/merge.rt.
-//! The growth of the deltas by a merge.
+//! Merges: the growth of deltas in place, and lists apart.
 
 use alloc::vec::Vec;
 use crate::support::*;
@@ -67,7 +67,7 @@ pub(super) fn insert_ascending(
     debug_assert!(super::DeltaSlice::new(deltas).can_merge_ascending(pairs));
     let count = deltas.len();
     append(deltas, pairs);
-    let kept = merge_ascending(None, deltas, count, pairs);
+    let kept = merge_in_place(deltas, count, pairs);
     heads.truncate(count_blocks(kept));
     fill_heads(deltas, heads);
 }
@@ -83,37 +83,34 @@ fn append(deltas: &mut Vec<RelaxDelta>, pairs: &[(u64, u32)]) {
     }
 }
 
-// An old delta: of a list apart, or where it stood.
+// Merges ascending deletions and the first `count` deltas, from the back, in place: the rest of
+// `merged` is room for as many as the additional ones. Returns how many of the first deltas are
+// unchanged. Where many are additional, which of both comes next is unpredictable, and no branch
+// depends on it.
 #[inline(always)]
-fn old_delta(apart: Option<&[RelaxDelta]>, merged: &[RelaxDelta], index: usize) -> RelaxDelta {
-    match apart {
-        Some(deltas) => deltas[index],
-        None => merged[index],
-    }
-}
-
-// Merges ascending deletions and the first `count` old deltas, from the back. The old ones are of a
-// list apart, and need no right sums: those of all are made anew. Or they stand in `merged`, where
-// the rest is room for as many as the additional ones. Returns how many of the first deltas are
-// unchanged.
-#[inline(always)]
-pub(super) fn merge_ascending<D: AsDeletion>(
-    apart: Option<&[RelaxDelta]>,
-    merged: &mut [RelaxDelta],
-    count: usize,
-    additional: &[D],
-) -> usize {
+fn merge_in_place(merged: &mut [RelaxDelta], count: usize, additional: &[(u64, u32)]) -> usize {
     let mut old = count;
     let mut left = additional.len();
-    let mut bytes = bytes_in(additional)
-        + match apart {
-            Some(deltas) => bytes_in(&deltas[..count]),
-            None => bytes_of_first(&merged[..count], count),
+    let mut bytes = bytes_in(additional) + bytes_of_first(&merged[..count], count);
+    let are_many = left > count / 16;
+    while are_many && old > 0 && left > 0 {
+        let listed = merged[old - 1].as_deletion();
+        let added = additional[left - 1];
+        let is_old = added.0 < listed.0;
+        let (input_offset, bytes_deleted) = if is_old { listed } else { added };
+        merged[old + left - 1] = RelaxDelta {
+            input_offset,
+            cumulative_deleted: bytes,
+            bytes_deleted,
         };
+        bytes -= u64::from(bytes_deleted);
+        old -= usize::from(is_old);
+        left -= usize::from(!is_old);
+    }
     while left > 0 {
-        let (input_offset, bytes_deleted) = additional[left - 1].as_deletion();
-        while old > 0 && input_offset < old_delta(apart, merged, old - 1).input_offset {
-            let delta = old_delta(apart, merged, old - 1);
+        let (input_offset, bytes_deleted) = additional[left - 1];
+        while old > 0 && input_offset < merged[old - 1].input_offset {
+            let delta = merged[old - 1];
             merged[old + left - 1] = RelaxDelta {
                 cumulative_deleted: bytes,
                 ..delta
@@ -129,26 +126,57 @@ pub(super) fn merge_ascending<D: AsDeletion>(
         bytes -= u64::from(bytes_deleted);
         left -= 1;
     }
-    if apart.is_none() {
-        return old;
+    old
+}
+
+// Writes the deltas of two lists, merged from the front. Which of both comes next is unpredictable,
+// and no branch depends on it.
+pub(super) fn merge_apart<D: AsDeletion>(
+    deltas: &[RelaxDelta],
+    additional: &[D],
+    merged: &mut [RelaxDelta],
+) {
+    let (mut passed, mut taken) = (0, 0);
+    let mut bytes = 0;
+    while passed < deltas.len() && taken < additional.len() {
+        let old = deltas[passed].as_deletion();
+        let added = additional[taken].as_deletion();
+        let is_old = old.0 < added.0;
+        let delta = delta_after(bytes, if is_old { old } else { added });
+        bytes = delta.cumulative_deleted;
+        merged[passed + taken] = delta;
+        passed += usize::from(is_old);
+        taken += usize::from(!is_old);
     }
-    while old > 0 {
-        let delta = old_delta(apart, merged, old - 1);
-        merged[old - 1] = RelaxDelta {
-            cumulative_deleted: bytes,
-            ..delta
-        };
-        bytes -= u64::from(delta.bytes_deleted);
-        old -= 1;
+    while passed < deltas.len() {
+        let delta = delta_after(bytes, deltas[passed].as_deletion());
+        bytes = delta.cumulative_deleted;
+        merged[passed + taken] = delta;
+        passed += 1;
     }
-    0
+    while taken < additional.len() {
+        let delta = delta_after(bytes, additional[taken].as_deletion());
+        bytes = delta.cumulative_deleted;
+        merged[passed + taken] = delta;
+        taken += 1;
+    }
+}
+
+// The delta of a deletion, where so many bytes are deleted before it.
+#[inline(always)]
+fn delta_after(before: u64, deletion: (u64, u32)) -> RelaxDelta {
+    RelaxDelta {
+        input_offset: deletion.0,
+        cumulative_deleted: before + u64::from(deletion.1),
+        bytes_deleted: deletion.1,
+    }
 }
 
 // The bytes that the deletions of a valid list take together.
-fn bytes_in<D: AsDeletion>(deletions: &[D]) -> u64 {
+fn bytes_in(deletions: &[(u64, u32)]) -> u64 {
     let mut sum = 0;
     for deletion in deletions {
-        sum += u64::from(deletion.as_deletion().1);
+        sum += u64::from(deletion.1);
     }
     sum
 }

@@ -33,7 +33,7 @@ impl AsDeletion for RelaxDelta {
 // Whether the first pair lies below the second: it has a lower offset and does not reach past it.
 #[inline(always)]
 fn is_before(first: (u64, u32), second: (u64, u32)) -> bool {
-    first.0 < second.0 && u64::from(first.1) <= second.0 - first.0
+    (first.0 < second.0) & (u64::from(first.1) <= second.0.wrapping_sub(first.0))
 }
 
 // Whether the pair ends at `u64::MAX` or below.
@@ -58,7 +58,7 @@ pub fn first_invalid<D: AsDeletion>(deletions: &[D]) -> Option<usize> {
     None
 }
 
-// How many of the first deletions lie each below the next. So all of them but the last fit. Two are
+// How many of the first deletions lie each below the next. So all of them but the last fit. Four are
 // tested in a turn.
 #[inline]
 fn count_rising<D: AsDeletion>(deletions: &[D]) -> usize {
@@ -66,11 +66,8 @@ fn count_rising<D: AsDeletion>(deletions: &[D]) -> usize {
         return 0;
     }
     let mut at = 1;
-    while at < deletions.len() - 1
-        && is_before(deletions[at - 1].as_deletion(), deletions[at].as_deletion())
-        && is_before(deletions[at].as_deletion(), deletions[at + 1].as_deletion())
-    {
-        at += 2;
+    while deletions.len() > 3 && at < deletions.len() - 3 && four_rise(deletions, at) {
+        at += 4;
     }
     while at < deletions.len()
         && is_before(deletions[at - 1].as_deletion(), deletions[at].as_deletion())
@@ -78,6 +75,20 @@ fn count_rising<D: AsDeletion>(deletions: &[D]) -> usize {
         at += 1;
     }
     at
+}
+
+// Whether each of the four deletions from `at` on lies above the one before it.
+#[inline(always)]
+fn four_rise<D: AsDeletion>(deletions: &[D], at: usize) -> bool {
+    let before = deletions[at - 1].as_deletion();
+    let first = deletions[at].as_deletion();
+    let second = deletions[at + 1].as_deletion();
+    let third = deletions[at + 2].as_deletion();
+    let fourth = deletions[at + 3].as_deletion();
+    is_before(before, first)
+        & is_before(first, second)
+        & is_before(second, third)
+        & is_before(third, fourth)
 }
 
 // The index of the first of the additional deletions that overlaps a delta or an earlier one of
@@ -166,6 +177,35 @@ pub(super) fn are_valid_together<D: AsDeletion>(deltas: &[RelaxDelta], additiona
 fn rise_together<D: AsDeletion>(deltas: &[RelaxDelta], additional: &[D]) -> bool {
     let (mut passed, mut taken) = (0, 0);
     let mut next = 0;
+    while passed < deltas.len() && taken < additional.len() {
+        let old = deltas[passed].as_deletion();
+        let added = additional[taken].as_deletion();
+        let is_old = old.0 < added.0;
+        let deletion = if is_old { old } else { added };
+        // Only at the very end of the offsets, or past it, 64 bits are too few.
+        let Some(after) = deletion.0.checked_add(u64::from(deletion.1).max(1)) else {
+            return rise_on(deltas, additional, passed, taken, u128::from(next));
+        };
+        if deletion.0 < next {
+            return false;
+        }
+        next = after;
+        passed += usize::from(is_old);
+        taken += usize::from(!is_old);
+    }
+    rise_on(deltas, additional, passed, taken, u128::from(next))
+}
+
+// The walk from the first deletions on that it has passed, up to the offset `from`.
+fn rise_on<D: AsDeletion>(
+    deltas: &[RelaxDelta],
+    additional: &[D],
+    passed: usize,
+    taken: usize,
+    from: u128,
+) -> bool {
+    let (mut passed, mut taken) = (passed, taken);
+    let mut next = from;
     while passed < deltas.len() && taken < additional.len() {
         let old = deltas[passed].as_deletion();
         let added = additional[taken].as_deletion();

@@ -36,7 +36,32 @@ pub(super) fn pass(deltas: &[RelaxDelta], from: Reached, offset: u64) -> Reached
     reached
 }
 
-// Writes the output offset of each query, and passes the deltas that begin below it.
+// Writes this output for the queries from the first on that lie below the end, except for the last
+// query. Returns the next to write. Not inlined, as few queries lie inside a deletion.
+#[inline(never)]
+fn write_inside(queries: &[u64], first: usize, end: u64, output: u64, out: &mut [u64]) -> usize {
+    let mut at = first;
+    while at < queries.len() - 1 && queries[at] < end {
+        out[at] = output;
+        at += 1;
+    }
+    at
+}
+
+// Writes the output offsets of the queries from this one on that lie below the end of what is
+// passed, except for the last query. Returns the next to write.
+#[inline(always)]
+fn leave(queries: &[u64], at: usize, reached: Reached, out: &mut [u64]) -> usize {
+    if queries[at] < reached.end {
+        let output = reached.end.wrapping_sub(reached.deleted);
+        return write_inside(queries, at, reached.end, output, out);
+    }
+    at
+}
+
+// Writes the output offset of each query, and passes the deltas that begin below the last one. So
+// only the last query has to be compared with the length. Queries inside a deletion are written as
+// it is passed. So the others need no maximum of offset and end.
 #[inline]
 pub(super) fn walk(
     deltas: &[RelaxDelta],
@@ -44,20 +69,57 @@ pub(super) fn walk(
     queries: &[u64],
     out: &mut [u64],
 ) -> Reached {
-    let mut reached = from;
-    for (at, &query) in queries.iter().enumerate() {
-        reached = pass(deltas, reached, query);
-        out[at] = query.max(reached.end).wrapping_sub(reached.deleted);
+    // The lengths are the same: where the compiler knows it, `out[at]` needs no test.
+    if queries.is_empty() || out.len() != queries.len() {
+        return from;
     }
+    let last = queries.len() - 1;
+    let mut reached = from;
+    let mut at = leave(queries, 0, from, out);
+    for &delta in &deltas[from.passed..] {
+        if delta.input_offset >= queries[last] {
+            break;
+        }
+        while queries[at] <= delta.input_offset {
+            out[at] = queries[at].wrapping_sub(reached.deleted);
+            at += 1;
+        }
+        reached = Reached {
+            passed: reached.passed + 1,
+            deleted: delta.cumulative_deleted,
+            end: delta
+                .input_offset
+                .wrapping_add(u64::from(delta.bytes_deleted)),
+        };
+        at = leave(queries, at, reached, out);
+    }
+    while at < last {
+        out[at] = queries[at].wrapping_sub(reached.deleted);
+        at += 1;
+    }
+    out[last] = queries[last].max(reached.end).wrapping_sub(reached.deleted);
     reached
 }
 
-// Whether the offsets don't decrease. No early return, so that several are compared at a time.
+// Whether the offsets don't decrease. Four are compared before a branch.
 #[inline]
 pub(super) fn ascend(offsets: &[u64]) -> bool {
-    let mut falls = false;
-    for at in 1..offsets.len() {
-        falls |= offsets[at] < offsets[at - 1];
+    let mut at = 1;
+    while at + 3 < offsets.len() {
+        if (offsets[at] < offsets[at - 1])
+            | (offsets[at + 1] < offsets[at])
+            | (offsets[at + 2] < offsets[at + 1])
+            | (offsets[at + 3] < offsets[at + 2])
+        {
+            return false;
+        }
+        at += 4;
     }
-    !falls
+    while at < offsets.len() {
+        if offsets[at] < offsets[at - 1] {
+            return false;
+        }
+        at += 1;
+    }
+    true
 }

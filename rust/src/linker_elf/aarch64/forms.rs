@@ -46,11 +46,13 @@ pub enum AArch64Instruction {
 
 /// Where a form has its `width` bits that are ORed to the instruction: `mask` takes them from the
 /// value moved up by `shift`, and `low` takes `adr`'s lowest two, which are at bit 29 and up. The
-/// number is read in two's complement of `sign_bits` bits: of 63, if it is read without a sign.
+/// number is read in two's complement of `sign_bits` bits, of which `sign` is the highest: of 63,
+/// if it is read without a sign.
 #[derive(Clone, Copy)]
 struct Immediate {
     width: u32,
     sign_bits: u32,
+    sign: u64,
     low: u64,
     shift: u32,
     mask: u64,
@@ -68,6 +70,7 @@ macro_rules! immediate {
         Immediate {
             width: $len,
             sign_bits: $sign_bits,
+            sign: 1 << ($sign_bits - 1),
             low: 0,
             shift: $insn_bit,
             mask: ((1 << $len) - 1) << $insn_bit,
@@ -80,12 +83,13 @@ static IMMEDIATES: [Immediate; 11] = [
     Immediate {
         width: 21,
         sign_bits: 21,
+        sign: 1 << 20,
         low: 3,
         shift: 3,
         mask: 0x00ff_ffe0,
     },
     immediate!(5, 16),
-    immediate!(0, 0),
+    immediate!(unsigned 0, 0),
     immediate!(5, 19),
     immediate!(unsigned 10, 12),
     immediate!(unsigned 10, 12),
@@ -93,7 +97,7 @@ static IMMEDIATES: [Immediate; 11] = [
     immediate!(5, 14),
     immediate!(5, 19),
     immediate!(0, 26),
-    immediate!(0, 0),
+    immediate!(unsigned 0, 0),
 ];
 
 const MOVE: [Run; 1] = [run!(0, 5, 16)];
@@ -222,10 +226,9 @@ impl AArch64Instruction {
             }
             _ => {
                 let number = self.extract(Window::Four.load(bytes));
-                (
-                    engine::signed_number(number, self.immediate().sign_bits).0,
-                    false,
-                )
+                let immediate = self.immediate();
+                let (value, _) = engine::signed_by(number, immediate.sign_bits, immediate.sign);
+                (value, false)
             }
         }
     }

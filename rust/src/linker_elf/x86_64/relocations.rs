@@ -142,7 +142,8 @@ impl X86_64Relocation {
     }
 }
 
-static ROWS: &[Option<TableRow>] = &relocations!(table());
+/// A constant, from which LLVM knows which codes have a row, and what all rows share.
+const ROWS: &[Option<TableRow>] = &relocations!(table());
 
 /// The index of a name in the table.
 #[inline(always)]

@@ -1,7 +1,7 @@
 use Rattle.linker_recognise.specs.AArch64Recognised.{AArch64Made, AArch64Leaves, AArch64Reads}
 use Rattle.linker_recognise.proofs.Kept.{chosen_made}
 use Rattle.linker_recognise.proofs.AArch64Made.{aarch64_chosen_is_same}
-use Rattle.linker_utils.specs.AArch64Choices.{IsAArch64Choice}
+use Rattle.linker_aarch64.specs.AArch64Choices.{IsAArch64Choice}
 use Rattle.linker_recognise.proofs.aarch64.recognise_chosen.Goals as goal
 
 pub returns : goal.returns

@@ -1,6 +1,6 @@
 use Rattle.linker_recognise.specs.Inner.Candidates.{LeavesRead}
 use Rattle.linker_recognise.specs.declared.engine.Made.{Made}
-use Rattle.linker_utils.specs.declared.elf.choice.Choice.{Choice}
+use Rattle.linker_elf.specs.declared.elf.choice.Choice.{Choice}
 use Rattle.linker_recognise.proofs.Kept.{candidate_made}
 use Rattle.linker_recognise.proofs.engine.kept.Goals as goal
 

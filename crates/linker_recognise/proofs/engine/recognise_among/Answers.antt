@@ -3,7 +3,7 @@ use Rattle.linker_recognise.specs.Inner.Candidates.{AreKept, LeavesRead}
 use Rattle.linker_recognise.specs.Recognised.{IsLeft, IsRead}
 use Rattle.linker_recognise.specs.declared.engine.Made.{Made}
 use Rattle.linker_recognise.proofs.Kept.{six, those_made}
-use Rattle.linker_utils.specs.declared.elf.choice.Choice.{Choice}
+use Rattle.linker_elf.specs.declared.elf.choice.Choice.{Choice}
 use Rattle.linker_recognise.proofs.engine.recognise_among.Goals as goal
 
 pub returns : goal.returns

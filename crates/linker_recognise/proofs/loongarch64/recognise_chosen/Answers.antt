@@ -1,7 +1,7 @@
 use Rattle.linker_recognise.specs.LoongArchRecognised.{LoongArchMade, LoongArchLeaves, LoongArchReads}
 use Rattle.linker_recognise.proofs.Kept.{chosen_made}
 use Rattle.linker_recognise.proofs.LoongArchMade.{loongarch_chosen_is_same}
-use Rattle.linker_utils.specs.LoongArchChoices.{IsLoongArchChoice}
+use Rattle.linker_loongarch64.specs.LoongArchChoices.{IsLoongArchChoice}
 use Rattle.linker_recognise.proofs.loongarch64.recognise_chosen.Goals as goal
 
 pub returns : goal.returns

@@ -1,7 +1,7 @@
 use Rattle.linker_recognise.specs.Ppc64Recognised.{Ppc64Made, Ppc64Leaves, Ppc64Reads}
 use Rattle.linker_recognise.proofs.Kept.{chosen_made}
 use Rattle.linker_recognise.proofs.Ppc64Made.{ppc64_chosen_is_same}
-use Rattle.linker_utils.specs.Ppc64Choices.{IsPpc64Choice}
+use Rattle.linker_ppc64.specs.Ppc64Choices.{IsPpc64Choice}
 use Rattle.linker_recognise.proofs.ppc64.recognise_chosen.Goals as goal
 
 pub returns : goal.returns

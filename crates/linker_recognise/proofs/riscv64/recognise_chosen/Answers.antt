@@ -1,7 +1,7 @@
 use Rattle.linker_recognise.specs.RiscVRecognised.{RiscVMade, RiscVLeaves, RiscVReads}
 use Rattle.linker_recognise.proofs.Kept.{chosen_made}
 use Rattle.linker_recognise.proofs.RiscVMade.{riscv_chosen_is_same}
-use Rattle.linker_utils.specs.RiscVChoices.{IsRiscVChoice}
+use Rattle.linker_riscv64.specs.RiscVChoices.{IsRiscVChoice}
 use Rattle.linker_recognise.proofs.riscv64.recognise_chosen.Goals as goal
 
 pub returns : goal.returns

@@ -2,8 +2,8 @@ use Rattle.std.proofs.Common.{ℕ, subst}
 use Rattle.linker_recognise.specs.Recognised.{AreThose, IsMade, IsFound}
 use Rattle.linker_recognise.specs.X86Recognised.{X86Choice, X86Leaves, X86Reads, x86_64_choices}
 use Rattle.linker_recognise.proofs.X86Made.{x86_chosen_is_one}
-use Rattle.linker_utils.specs.X86Choices.{x86_64_table}
-use Rattle.linker_utils.specs.X86Originals.{x86_64_matches}
+use Rattle.linker_x86_64.specs.X86Choices.{x86_64_table}
+use Rattle.linker_x86_64.specs.X86Originals.{x86_64_matches}
 use Rattle.linker_recognise.proofs.x86_64.recognise.Goals as goal
 
 pub returns-clause-found : goal.returns-clause-found

@@ -1,7 +1,7 @@
 use Rattle.linker_recognise.specs.X86Recognised.{X86Made, X86Leaves, X86Reads}
 use Rattle.linker_recognise.proofs.Kept.{chosen_made}
 use Rattle.linker_recognise.proofs.X86Made.{x86_chosen_is_same}
-use Rattle.linker_utils.specs.X86Choices.{IsX86Choice}
+use Rattle.linker_x86_64.specs.X86Choices.{IsX86Choice}
 use Rattle.linker_recognise.proofs.x86_64.recognise_chosen.Goals as goal
 
 pub returns : goal.returns

@@ -1,6 +1,6 @@
 use Rattle.std.proofs.Common.{◌≡◌, ◌+◌, ◌<◌, length, arith}
-use Rattle.linker_base.specs.declared.relaxation.partition_point.Test.TheVariants.{Begins}
 use Rattle.linker_base.specs.Inner.Blocks.{list_subject}
+use Rattle.linker_base.specs.Inner.PartitionPoint.{begins_below}
 use Rattle.linker_base.proofs.Search.{blank, list_heads_agree, same_listed, begins_partitioned, parted_from_point, rank_at_last, rank_at_none}
 use Rattle.linker_base.proofs.relaxation.blocks.input_to_output_counted.Goals as goal
 
@@ -15,7 +15,7 @@ returns-in-Some-clause-output g c =
     let last = c.in-Some.last in
     let count : c.search.result ≡ last + 1 = omega (arith, c.in-Some.ensures.0, c.in-Some.ensures.1) in
     let within : last < length deltas = omega (arith, c.search.ensures.within) in
-    let point = c.search.ensures.point (begins_partitioned s listed.valid c.args.input_offset) (λ _. list_heads_agree deltas (Begins c.args.input_offset)) in
+    let point = c.search.ensures.point (begins_partitioned s listed.valid c.args.input_offset) (λ _. list_heads_agree deltas (begins_below c.args.input_offset)) in
     let parted = parted_from_point s c.args.input_offset c.search.result c.search.ensures.within point in
     let ranked = rank_at_last deltas listed c.args.input_offset last within (rw count at parted) in
     let read = rw (same_listed c.search.ensures.probes) at (c.delta.ensures.delta blank) in
@@ -27,6 +27,6 @@ returns-in-None-clause-output g c =
     let s = list_subject deltas in
     let listed = c.len-len.ensures.valid in
     let count : c.search.result ≡ 0 = omega (arith, c.in-None.ensures) in
-    let point = c.search.ensures.point (begins_partitioned s listed.valid c.args.input_offset) (λ _. list_heads_agree deltas (Begins c.args.input_offset)) in
+    let point = c.search.ensures.point (begins_partitioned s listed.valid c.args.input_offset) (λ _. list_heads_agree deltas (begins_below c.args.input_offset)) in
     let parted = parted_from_point s c.args.input_offset c.search.result c.search.ensures.within point in
     rank_at_none deltas listed c.args.input_offset (rw count at parted)

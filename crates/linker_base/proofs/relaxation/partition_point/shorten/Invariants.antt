@@ -4,7 +4,7 @@ use Rattle.linker_base.proofs.relaxation.partition_point.shorten.Given as goal
 
 abbrev pub invariant-loop-part : goal.invariant-loop-part
 invariant-loop-part g l = record {
-  narrows : Narrows l.initial.part.len l.level l.test (g.P.Probe.state l.initial.probe) l.initial.part (g.P.Probe.state l.probe) l.part;
+  narrows : Narrows l.initial.part.len l.level (g.T.Test.test l.test) (g.P.Probe.state l.initial.probe) l.initial.part (g.P.Probe.state l.probe) l.part;
   room : (g.P.Probe.state l.probe).probes + l.part.len ≤ (g.P.Probe.state l.initial.probe).probes + l.initial.part.len;
 }
 

@@ -1,5 +1,5 @@
 use Rattle.std.proofs.Common.{ap}
-use Rattle.linker_elf.proofs.AArch64Forms.{low12_read, macho_number, read_number, read_flag}
+use Rattle.linker_elf.proofs.AArch64Forms.{low12_read, macho_number, read_number, read_flag, sign_is}
 use Rattle.linker_elf.proofs.aarch64.forms.AArch64Instruction.read_value.Goals as goal
 
 pub read-requires-clause-sound : goal.read-requires-clause-sound
@@ -14,8 +14,11 @@ pub returns-in_default : goal.returns-in_default
 returns-in_default c =
     let f = c.args.self in
     record {
-      number = read_number f c.args.bytes.now c.load-in_default.result c.extract-number.result c.immediate.result.sign_bits c.signed_number.result.0
+      number = read_number f c.args.bytes.now c.load-in_default.result c.extract-number.result c.immediate-immediate.result.sign_bits c.signed_by-value.result.0
           c.in_default.not-Movnz c.in_default.not-MachOLow12 c.load-in_default.ensures.loaded c.extract-number.ensures.number
-          (ap (λ i. i.sign_bits) c.immediate.ensures) c.signed_number.ensures.number;
+          (ap (λ i. i.sign_bits) c.immediate-immediate.ensures) c.signed_by-value.ensures.number;
       flag = read_flag f c.args.bytes.now c.in_default.not-Movnz c.in_default.not-MachOLow12;
     }
+
+pub signed_by-value-requires-clause-sign : goal.signed_by-value-requires-clause-sign
+signed_by-value-requires-clause-sign c = sign_is c.args.self c.immediate-immediate.result c.immediate-immediate.ensures

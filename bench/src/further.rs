@@ -1,0 +1,609 @@
+//! The exports without a counterpart in the original crate that no other part measures.
+
+use crate::choices::{STRIDE, Stream};
+use crate::inputs::{Random, deletions};
+use crate::library::{SITE, WINDOW, added};
+use crate::measure::{Beside, Report, Side};
+use crate::table::{FORMS, LOONGARCH64, MACHINES, REWRITES, RISCV, name_of};
+use crate::{CALLS, architecture, calls_apart, section_of};
+use sathunne::raw::*;
+
+// SAFETY of each call of an export below: a slice's pointer and length are its own, and a reference
+// is of one value.
+
+/// A line of an export's calls, one for each input, which give numbers.
+fn numbers<T>(report: &mut Report, name: &str, inputs: &[T], mut call: impl FnMut(&T) -> u64) {
+    let round = || inputs.iter().fold(0, |sum, input| added(sum, call(input)));
+    let sides = [Some(Side::number(round)), None, None, None];
+    report.line(name, inputs.len(), true, sides);
+}
+
+/// The same of calls that have to return 0.
+fn line<T>(report: &mut Report, name: &str, inputs: &[T], mut call: impl FnMut(&T) -> u32) {
+    numbers(report, name, inputs, |input| {
+        assert_eq!(call(input), 0, "{name}");
+        0
+    });
+}
+
+/// A line of one call over so many entries, which has to return 0.
+fn whole(report: &mut Report, name: &str, entries: usize, mut call: impl FnMut() -> u32) {
+    let round = || {
+        assert_eq!(call(), 0, "{name}");
+        0
+    };
+    let sides = [Some(Side::number(round)), None, None, None];
+    report.line(name, entries, true, sides);
+}
+
+pub fn further(report: &mut Report) {
+    let random = &mut Random::new(16);
+    report.heading("Other calls of the exports, a call", Beside::Nothing);
+    words(report, random);
+    relocations(report, random);
+    instructions(report, random);
+    reading(report);
+    report.heading("Other calls of the exports, an entry", Beside::Nothing);
+    lists(report, random);
+    runs(report, random);
+}
+
+fn words(report: &mut Report, random: &mut Random) {
+    let inputs: Vec<_> = (0..CALLS)
+        .map(|_| {
+            let form = random.one_of(FORMS);
+            (form, random.below(form.values), random.bytes(WINDOW))
+        })
+        .collect();
+    let mut window = 0;
+    line(
+        report,
+        "`linker_utils_window`, forms at random",
+        &inputs,
+        |(form, ..)| unsafe { linker_utils_window(form.machine, form.number, &mut window) },
+    );
+    numbers(
+        report,
+        "`linker_utils_fits`, forms at random",
+        &inputs,
+        |(form, value, bytes)| {
+            let (bytes, len) = (bytes.as_ptr(), bytes.len());
+            u64::from(unsafe {
+                linker_utils_fits_nonnull(form.machine, form.number, *value, bytes, len)
+            })
+        },
+    );
+
+    let inputs: Vec<_> = (0..CALLS)
+        .map(|_| {
+            let rewrite = *random.one_of(REWRITES);
+            (rewrite, section_of(random, &rewrite))
+        })
+        .collect();
+    line(
+        report,
+        "`linker_utils_can_apply`, rewrites at random",
+        &inputs,
+        |(rewrite, bytes)| {
+            let (bytes, len) = (bytes.as_ptr(), bytes.len());
+            let (machine, number, n) = (rewrite.machine, rewrite.number, rewrite.n);
+            unsafe { linker_utils_can_apply_nonnull(machine, number, n, bytes, len, SITE) }
+        },
+    );
+    numbers(
+        report,
+        "`linker_utils_matches`, rewrites at random",
+        &inputs,
+        |(rewrite, bytes)| {
+            let (bytes, len) = (bytes.as_ptr(), bytes.len());
+            let (machine, number, n) = (rewrite.machine, rewrite.number, rewrite.n);
+            u64::from(unsafe { linker_utils_matches_nonnull(machine, number, n, bytes, len, SITE) })
+        },
+    );
+}
+
+fn relocations(report: &mut Report, random: &mut Random) {
+    let all: Vec<(u16, u32)> = MACHINES
+        .iter()
+        .flat_map(|&machine| (0..1 << 11).map(move |r_type| (machine, r_type)))
+        .filter(|&(machine, r_type)| sathunne::relocation(architecture(machine), r_type).is_ok())
+        .collect();
+    let types: Vec<(u16, u32)> = (0..CALLS).map(|_| *random.one_of(&all)).collect();
+    let mut name = [0; 64];
+    let mut used = 0;
+    line(
+        report,
+        "`linker_utils_relocation_name`, at random",
+        &types,
+        |&(machine, r_type)| unsafe {
+            let (name, len) = (name.as_mut_ptr(), name.len());
+            linker_utils_relocation_name_nonnull(machine, r_type, name, len, &mut used)
+        },
+    );
+    numbers(
+        report,
+        "`linker_utils_asks_for_got`, at random",
+        &types,
+        |&(machine, r_type)| unsafe { linker_utils_asks_for_got(machine, r_type).into() },
+    );
+    numbers(
+        report,
+        "`linker_utils_may_use_plt`, at random",
+        &types,
+        |&(machine, r_type)| unsafe { linker_utils_may_use_plt(machine, r_type).into() },
+    );
+    numbers(
+        report,
+        "`linker_utils_uleb128_role`, at random",
+        &types,
+        |&(machine, r_type)| unsafe { linker_utils_uleb128_role(machine, r_type).into() },
+    );
+    let mut reach = Reach::default();
+    line(
+        report,
+        "`linker_utils_reach`, at random",
+        &types,
+        |&(machine, r_type)| unsafe { linker_utils_reach(machine, r_type, &mut reach) },
+    );
+    let operands = Operands {
+        symbol: 0x8_0000,
+        place: 0x4_0000,
+        ..Operands::default()
+    };
+    let mut value = 0;
+    numbers(
+        report,
+        "`linker_utils_value`, at random",
+        &types,
+        |&(machine, r_type)| unsafe {
+            linker_utils_value(machine, r_type, &operands, &mut value).into()
+        },
+    );
+}
+
+fn instructions(report: &mut Report, random: &mut Random) {
+    // `auipc` and `jalr`, and each 64 bytes a deletion behind them
+    let call = 0x000080e7_00000097_u64.to_le_bytes();
+    let fresh: Vec<u8> = (0..CALLS)
+        .flat_map(|_| [&call[..], &[0; 56]].concat())
+        .collect();
+    let sites: Vec<u64> = (0..CALLS as u64).map(|k| 64 * k).collect();
+    let list: Vec<sathunne::Deletion> = sites
+        .iter()
+        .map(|site| sathunne::Deletion {
+            offset: site + 32,
+            bytes: 4,
+        })
+        .collect();
+    let mut deltas = vec![sathunne::Delta::default(); list.len()];
+    assert_eq!(sathunne::deltas_create(&list, &mut deltas), Ok(()));
+    let targets: Vec<(u64, u64)> = sites
+        .iter()
+        .map(|site| (*site, *random.one_of(&sites)))
+        .collect();
+
+    let (bytes, len) = (fresh.as_ptr(), fresh.len());
+    numbers(
+        report,
+        "`linker_utils_is_plain_call`",
+        &sites,
+        |&site| unsafe { linker_utils_is_plain_call_nonnull(bytes, len, site).into() },
+    );
+    let mut section = fresh.clone();
+    line(report, "`linker_utils_jal_site`", &sites, |&site| {
+        let (bytes, len) = (section.as_mut_ptr(), section.len());
+        unsafe { linker_utils_jal_site_nonnull(bytes, len, site, 16) }
+    });
+    let name = "`linker_utils_relax_call`, 2048 deletions";
+    line(report, name, &targets, |&(site, target)| {
+        let (bytes, len) = (section.as_mut_ptr(), section.len());
+        let (deltas, count) = (deltas.as_ptr(), deltas.len());
+        unsafe { linker_utils_relax_call_nonnull(bytes, len, deltas, count, site, target) }
+    });
+    // the call has to be there, so that each round has a section of its own
+    let jumps = Side::over(
+        fresh.clone(),
+        |section| section.copy_from_slice(&fresh),
+        |section| {
+            let (bytes, len) = (section.as_mut_ptr(), section.len());
+            for site in &sites {
+                let link = sathunne::LinkRegister::OfJalr.number();
+                let status =
+                    unsafe { linker_utils_jal_site_with_nonnull(bytes, len, *site, 16, link) };
+                assert_eq!(status, 0);
+            }
+        },
+        |_| 0,
+    );
+    let sides = [Some(jumps), None, None, None];
+    report.line(
+        "`linker_utils_jal_site_with` the link of the jalr",
+        CALLS,
+        true,
+        sides,
+    );
+
+    let numbers_of_all: Vec<u64> = (0..CALLS).map(|_| random.word()).collect();
+    let values = &numbers_of_all;
+    let mut bytes = [0; 20];
+    line(
+        report,
+        "`linker_utils_write_mov_sequence`",
+        values,
+        |&value| unsafe {
+            linker_utils_write_mov_sequence_nonnull(bytes.as_mut_ptr(), 16, 3, value)
+        },
+    );
+    line(
+        report,
+        "`linker_utils_write_address_sequence`",
+        values,
+        |&value| unsafe {
+            linker_utils_write_address_sequence_nonnull(bytes.as_mut_ptr(), 20, 0x4_0000, value)
+        },
+    );
+    let (mut high, mut low) = ([0; 4], [0; 4]);
+    line(
+        report,
+        "`linker_utils_write_ha_lo`",
+        values,
+        |&value| unsafe {
+            linker_utils_write_ha_lo_nonnull(high.as_mut_ptr(), 4, low.as_mut_ptr(), 4, value)
+        },
+    );
+    let mut padded = [0x80; 10];
+    padded[9] = 0;
+    line(
+        report,
+        "`linker_utils_write_uleb128` over ten bytes",
+        values,
+        |&value| unsafe {
+            linker_utils_write_uleb128_nonnull(padded.as_mut_ptr(), padded.len(), value)
+        },
+    );
+    let mut shapes = sathunne::Shapes::default();
+    line(
+        report,
+        "`linker_utils_named_shapes`",
+        values,
+        |&value| unsafe { linker_utils_named_shapes((value % 5) as u32, &mut shapes) },
+    );
+}
+
+/// What linked bytes say, where the original ones are those of the choices.
+fn reading(report: &mut Report) {
+    for stream in Stream::all() {
+        let (machine, name, original) = (stream.machine, stream.name, &stream.section);
+        let of_machine = architecture(machine);
+        let windows = stream.linked();
+        let sites = &stream.sites[..CALLS];
+        let facts: Vec<LinkFacts> = sites.iter().map(|site| (&site.facts()).into()).collect();
+        let chosen: Vec<_> = sites.iter().zip(&facts).collect();
+        let mut choice = Choice::default();
+        line(
+            report,
+            &format!("`linker_utils_choose`, {name}"),
+            &chosen,
+            |(site, facts)| {
+                let (at, len, r_type) = (original.as_ptr(), original.len(), site.r_type);
+                let choice = &mut choice;
+                unsafe {
+                    linker_utils_choose_nonnull(
+                        machine,
+                        r_type,
+                        at,
+                        len,
+                        site.offset,
+                        *facts,
+                        choice,
+                    )
+                }
+            },
+        );
+
+        // the other instruction of the window is another relocation's
+        let others: Vec<Vec<FieldBits>> = sites
+            .iter()
+            .map(|site| {
+                let window = site.offset / STRIDE as u64;
+                let offsets = stream
+                    .sites
+                    .iter()
+                    .take(2 * CALLS)
+                    .map(|other| other.offset);
+                let beside = offsets
+                    .filter(|other| other / STRIDE as u64 == window && *other != site.offset);
+                beside
+                    .map(|other| FieldBits {
+                        offset: other % STRIDE as u64,
+                        bits: u64::from(u32::MAX),
+                    })
+                    .collect()
+            })
+            .collect();
+        let compared: Vec<_> = chosen
+            .iter()
+            .zip(&others)
+            .map(|(&(site, facts), others)| {
+                let at = site.offset as usize / STRIDE;
+                let original = &original[at * STRIDE..(at + 1) * STRIDE];
+                (site, facts, original, others, &windows[at])
+            })
+            .collect();
+        let mut found = [Recognised::default(); 6];
+        let mut count = 0;
+        let what = format!("`linker_utils_recognise`, {name}");
+        line(
+            report,
+            &what,
+            &compared,
+            |(site, _, original, others, linked)| unsafe {
+                linker_utils_recognise_nonnull(
+                    machine,
+                    site.r_type,
+                    original.as_ptr(),
+                    original.len(),
+                    site.offset % STRIDE as u64,
+                    others.as_ptr(),
+                    others.len(),
+                    linked.as_ptr(),
+                    linked.len(),
+                    found.as_mut_ptr(),
+                    found.len(),
+                    &mut count,
+                )
+            },
+        );
+        assert!(count > 0, "{what}");
+        let what = format!("`linker_utils_recognise_chosen`, {name}");
+        line(
+            report,
+            &what,
+            &compared,
+            |(site, facts, original, others, linked)| unsafe {
+                linker_utils_recognise_chosen_nonnull(
+                    machine,
+                    site.r_type,
+                    original.as_ptr(),
+                    original.len(),
+                    site.offset % STRIDE as u64,
+                    others.as_ptr(),
+                    others.len(),
+                    linked.as_ptr(),
+                    linked.len(),
+                    *facts,
+                    &mut found[0],
+                )
+            },
+        );
+
+        let fields: Vec<_> = sites
+            .iter()
+            .map(|site| {
+                let bytes = &original[site.offset as usize..];
+                let value = sathunne::read_value(of_machine, site.r_type, bytes).expect("a value");
+                (site.r_type, bytes, value, site.operands())
+            })
+            .collect();
+        let mut value = FieldValue::default();
+        let what = format!("`linker_utils_read_value`, {name}");
+        line(report, &what, &fields, |(r_type, bytes, ..)| {
+            let (at, len) = (bytes.as_ptr(), bytes.len());
+            unsafe { linker_utils_read_value_nonnull(machine, *r_type, at, len, &mut value) }
+        });
+        let (mut reference, mut address) = (0, FieldValue::default());
+        let what = format!("`linker_utils_solve`, {name}");
+        line(report, &what, &fields, |(r_type, _, value, operands)| {
+            let (reference, address) = (&mut reference, &mut address);
+            unsafe { linker_utils_solve(machine, *r_type, value, operands, reference, address) }
+        });
+        let mut bits = 0;
+        let what = format!("`linker_utils_field_bits`, {name}");
+        line(report, &what, &fields, |(r_type, bytes, ..)| {
+            let (at, len) = (bytes.as_ptr(), bytes.len());
+            unsafe { linker_utils_field_bits_nonnull(machine, *r_type, at, len, &mut bits) }
+        });
+        let what = format!("`linker_utils_same_but_for`, {name}");
+        numbers(report, &what, &fields, |(r_type, bytes, ..)| {
+            let at = bytes.as_ptr();
+            unsafe { linker_utils_same_but_for_nonnull(machine, *r_type, at, 8, at, 8).into() }
+        });
+    }
+    let high = FieldValue {
+        bits: 0x401,
+        first_bit: 12,
+        end_bit: 64,
+        ..FieldValue::default()
+    };
+    let low = |bits| FieldValue {
+        bits,
+        end_bit: 12,
+        ..FieldValue::default()
+    };
+    let lows: Vec<FieldValue> = (0..CALLS as u64).map(low).collect();
+    let mut whole = FieldValue::default();
+    line(report, "`linker_utils_join`", &lows, |low| unsafe {
+        linker_utils_join(&high, low, &mut whole)
+    });
+}
+
+fn lists(report: &mut Report, random: &mut Random) {
+    const COUNT: usize = 100_000;
+    let (list, _) = deletions(random, COUNT);
+    let list: Vec<sathunne::Deletion> = list
+        .into_iter()
+        .map(|(offset, bytes)| sathunne::Deletion { offset, bytes })
+        .collect();
+    let mut deltas = vec![sathunne::Delta::default(); COUNT];
+    assert_eq!(sathunne::deltas_create(&list, &mut deltas), Ok(()));
+    whole(
+        report,
+        "`linker_utils_deltas_is_valid`, 100000 deletions",
+        COUNT,
+        || unsafe { linker_utils_deltas_is_valid_nonnull(list.as_ptr(), list.len(), &mut 0) },
+    );
+    let (at, len) = (deltas.as_ptr(), deltas.len());
+    whole(
+        report,
+        "`linker_utils_has_valid_deltas`, 100000 deltas",
+        COUNT,
+        || unsafe { u32::from(!linker_utils_has_valid_deltas_nonnull(at, len)) },
+    );
+    let mut heads = vec![sathunne::BlockHead::default(); sathunne::deltas_block_count(&deltas)];
+    whole(
+        report,
+        "`linker_utils_deltas_heads`, 100000 deltas",
+        COUNT,
+        || unsafe { linker_utils_deltas_heads_nonnull(at, len, heads.as_mut_ptr(), heads.len()) },
+    );
+    let lens: Vec<usize> = (0..CALLS).map(|k| COUNT - k).collect();
+    numbers(
+        report,
+        "`linker_utils_deltas_block_count`, a call",
+        &lens,
+        |&len| unsafe { linker_utils_deltas_block_count_nonnull(at, len) as u64 },
+    );
+    let section = vec![0; 1 << 20];
+    numbers(
+        report,
+        "`linker_utils_packed_len`, 100000 deltas, a call",
+        &lens,
+        |&k| unsafe {
+            linker_utils_packed_len_nonnull(section.as_ptr(), section.len() - k, at, len) as u64
+        },
+    );
+    numbers(
+        report,
+        "`linker_utils_packed_run_len`, 100000 deltas, a call",
+        &lens,
+        |&k| unsafe { linker_utils_packed_run_len_nonnull(64, section.len() - k, at, len) as u64 },
+    );
+    let calls = calls_apart(random, COUNT, 64);
+    whole(
+        report,
+        "`linker_utils_calls_shrinkable`, 100000 calls",
+        COUNT,
+        || unsafe {
+            linker_utils_calls_shrinkable_nonnull(at, 0, calls.as_ptr(), calls.len(), &mut 0)
+        },
+    );
+}
+
+/// Sections whose relocations make items, relaxed and packed: calls with an alignment after each
+/// eighth.
+fn runs(report: &mut Report, random: &mut Random) {
+    const COUNT: usize = 100_000;
+    // a call, the mark of relaxation, an alignment and its addend, and the instructions' bytes
+    let machines = [
+        (RISCV, [19, 51, 43], 14, 0x000080e7_00000097_u64, 0x0001),
+        (
+            LOONGARCH64,
+            [110, 100, 102],
+            12,
+            0x4c000021_1e000001,
+            0x03400000,
+        ),
+    ];
+    for (machine, [of_call, of_mark, of_alignment], nops, call, nop) in machines {
+        let name = name_of(machine);
+        let mut section = vec![0; COUNT * 64];
+        let mut relocations = Vec::new();
+        for call_of in calls_apart(random, COUNT, 64) {
+            let (site, at) = (call_of.site, call_of.site as usize);
+            let relocation = |offset, target, addend, r_type| sathunne::SectionRelocation {
+                offset,
+                target,
+                addend,
+                r_type,
+                has_symbol: u8::from(r_type == of_call),
+                has_target: u8::from(r_type == of_call),
+            };
+            section[at..at + 8].copy_from_slice(&u64::to_le_bytes(call));
+            relocations.push(relocation(site, call_of.target, 0, of_call));
+            relocations.push(relocation(site, 0, 0, of_mark));
+            if site / 64 % 8 == 7 {
+                let (nop, len) = (u32::to_le_bytes(nop), if nops == 14 { 2 } else { 4 });
+                for part in section[at + 8..at + 8 + nops].chunks_exact_mut(len) {
+                    part.copy_from_slice(&nop[..len]);
+                }
+                relocations.push(relocation(site + 8, 0, nops as i64, of_alignment));
+            }
+        }
+        let mut items = vec![sathunne::Item::default(); relocations.len()];
+        let (bytes, len) = (section.as_ptr(), section.len());
+        let (given, count) = (relocations.as_ptr(), relocations.len());
+        let mut used = 0;
+        let export = match machine {
+            RISCV => "`linker_utils_riscv_items`, a relocation",
+            _ => "`linker_utils_loongarch_items`, a relocation",
+        };
+        whole(report, export, count, || {
+            let (items, used, faulty) = (items.as_mut_ptr(), &mut used, &mut 0);
+            unsafe {
+                match machine {
+                    RISCV => linker_utils_riscv_items_nonnull(
+                        bytes, len, 0, given, count, true, items, count, used, faulty,
+                    ),
+                    _ => linker_utils_loongarch_items_nonnull(
+                        bytes, len, 0, given, count, items, count, used, faulty,
+                    ),
+                }
+            }
+        });
+        items.truncate(used);
+        assert_eq!(items.len(), COUNT + COUNT / 8);
+
+        let (item, count) = (items.as_ptr(), items.len());
+        whole(
+            report,
+            &format!("`linker_utils_items_relaxable`, {name}"),
+            count,
+            || unsafe { linker_utils_items_relaxable_nonnull(item, count, 0, &mut 0) },
+        );
+        let (mut shapes, mut kept) = (vec![0; count], vec![0; count]);
+        let (mut places, mut freed) = (vec![0; count], vec![0; count + 1]);
+        let relaxed = sathunne::Relaxed {
+            shapes: &mut shapes,
+            kept: &mut kept,
+            places: &mut places,
+            freed: &mut freed,
+        };
+        assert_eq!(sathunne::relax(&items, 0, relaxed), Ok(()));
+        let mut deltas = vec![sathunne::Delta::default(); count];
+        let mut used = 0;
+        whole(
+            report,
+            &format!("`linker_utils_run_deltas`, {name}"),
+            count,
+            || {
+                let (kept, deltas, used) = (kept.as_ptr(), deltas.as_mut_ptr(), &mut used);
+                unsafe {
+                    linker_utils_run_deltas_nonnull(item, count, kept, count, deltas, count, used)
+                }
+            },
+        );
+        deltas.truncate(used);
+        let mut packed = vec![0; sathunne::packed_run_len(0, len, &deltas)];
+        whole(
+            report,
+            &format!("`linker_utils_pack_run`, {name}"),
+            count,
+            || unsafe {
+                linker_utils_pack_run_nonnull(
+                    machine,
+                    bytes,
+                    len,
+                    0,
+                    item,
+                    count,
+                    deltas.as_ptr(),
+                    deltas.len(),
+                    0,
+                    packed.as_mut_ptr(),
+                    packed.len(),
+                    &mut 0,
+                )
+            },
+        );
+    }
+}

@@ -1,0 +1,90 @@
+//! What takes less time with threads: relocations of sections, each by one thread, and translations
+//! by one array of deltas, which all threads read.
+
+use crate::inputs::{Random, deletions};
+use crate::library::RelocateAll;
+use crate::measure::{Report, quantile};
+use crate::table::{AARCH64, MIXES};
+use crate::{LIBRARIES, stream};
+use std::time::Instant;
+
+const SECTIONS: usize = 16;
+const QUERIES: usize = 1 << 20;
+const THREADS: [usize; 3] = [1, 2, 4];
+
+pub fn threads(report: &mut Report) {
+    let title = "Threads";
+    report.progress(title);
+    println!("\n### {title}\n");
+    println!(
+        "| | threads | exports, ns | times as fast | spread | erased, ns | times as fast | spread |"
+    );
+    println!("|---|--:|--:|--:|--:|--:|--:|--:|");
+    let random = &mut Random::new(21);
+    let (relocations, section, _) = stream(random, MIXES[0]);
+    let (list, len) = deletions(random, 1 << 16);
+    let queries: Vec<u64> = (0..QUERIES).map(|_| random.below(len.into())).collect();
+    let sections = &mut vec![section; SECTIONS];
+    let ours = [LIBRARIES[0], LIBRARIES[2]].map(|side| side.expect("ours"));
+
+    let relocated = ours.map(|library| {
+        let run: RelocateAll = match library.relocate_all(AARCH64, &relocations) {
+            Some(run) => run,
+            None => Box::new(|section| {
+                library.relocate_each(AARCH64, &relocations, section) == Some(true)
+            }),
+        };
+        rounds(report.rounds(), SECTIONS * relocations.len(), |threads| {
+            std::thread::scope(|scope| {
+                for part in sections.chunks_mut(SECTIONS / threads) {
+                    let run = &run;
+                    scope.spawn(move || assert!(part.iter_mut().all(|section| run(section))));
+                }
+            });
+        })
+    });
+    print("relocations of 16 sections of 4 MiB, each", relocated);
+    let translated = ours.map(|library| {
+        let deltas = &library.deltas(&list);
+        rounds(report.rounds(), QUERIES, |threads| {
+            std::thread::scope(|scope| {
+                for part in queries.chunks(QUERIES / threads) {
+                    scope.spawn(move || std::hint::black_box(deltas.inputs(part)));
+                }
+            });
+        })
+    });
+    print(
+        "translations by one array of 65536 deltas, each",
+        translated,
+    );
+}
+
+/// The nanoseconds for each of so many calls in each round, with each number of threads in turn.
+fn rounds(count: usize, calls: usize, mut round: impl FnMut(usize)) -> [Vec<f64>; 3] {
+    let mut times = [const { Vec::new() }; 3];
+    for _ in 0..count {
+        for (threads, times) in THREADS.into_iter().zip(&mut times) {
+            let begin = Instant::now();
+            round(threads);
+            times.push(begin.elapsed().as_secs_f64() * 1e9 / calls as f64);
+        }
+    }
+    times
+}
+
+/// A line for each number of threads: the medians, how much faster than one thread that is, and the
+/// 10th and the 90th percentile of the same of the rounds.
+fn print(name: &str, sides: [[Vec<f64>; 3]; 2]) {
+    for (which, threads) in THREADS.into_iter().enumerate() {
+        print!("| {name} | {threads} |");
+        for times in &sides {
+            let alone = times[0].iter().zip(&times[which]);
+            let mut faster: Vec<f64> = alone.map(|(alone, time)| alone / time).collect();
+            let [alone, time] = [0, which].map(|which| quantile(&mut times[which].clone(), 5));
+            let [low, high] = [1, 9].map(|tenths| quantile(&mut faster, tenths));
+            print!(" {time:.2} | {:.2} | {low:.2} to {high:.2} |", alone / time);
+        }
+        println!();
+    }
+}

@@ -1,0 +1,3 @@
+pub mod AArch64Choices
+pub mod AArch64Originals
+pub mod AArch64Rewrites

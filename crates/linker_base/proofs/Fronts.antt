@@ -1,0 +1,141 @@
+-- A merge of two ascending lists, from the front.
+use Rattle.std.proofs.Common.{◌≡◌, ℕ, ◌+◌, ◌<◌, ◌≤◌, List, [], ◌∷◌, ◌++◌, length, map, get_or, set, take, drop, refl, sym, ap, arith}
+use Rattle.std.specs.Prelude.{◌^◌, All, IsPermutation}
+use Rattle.std.specs.List.Sorted.{IsNonDecreasingBy}
+use Rattle.std.proofs.lemmas.List.{append_assoc, take-append-drop, take-set-le, take_all, take_more, get_or-set_same, map-append, length-set}
+use Rattle.std.proofs.lemmas.List.Elements.{All-nil, All-cons, All-push}
+use Rattle.std.proofs.lemmas.List.Sorted.{sum_by-IsPermutation, IsPermutation-refl, IsPermutation-trans, IsPermutation-append_left, IsPermutation-append_right, IsPermutation-append_comm}
+use Rattle.std.proofs.lemmas.List.Sums.{sum_by_more, sum_by-append}
+use Rattle.linker_base.specs.declared.relaxation.RelaxDelta.{RelaxDelta}
+use Rattle.linker_base.specs.Deletions.{AreDisjoint, IsValid, IsSortedUnion, bytes_of}
+use Rattle.linker_base.specs.Deltas.{deletion_of}
+use Rattle.linker_base.specs.Listed.{AreValidDeltas}
+use Rattle.linker_base.proofs.Merges.{HaveSums, HaveSums-append, disjoint_fit, rise-append}
+use Rattle.linker_base.proofs.Unions.{union_from_sort}
+
+-- deltas that list the first i deletions and the first j additional ones, merged
+pub record IsFront (ds ps : List (ℕ × ℕ)) (i j : ℕ) (front : List RelaxDelta) : Type 0 where
+  pub same : IsPermutation (take i ds ++ take j ps) (map deletion_of front)
+  pub rise : IsNonDecreasingBy (λ d. d.0) (map deletion_of front)
+  pub below_old : i < length ds → All (λ d. d.0 ≤ (get_or ds i (0, 0)).0) (map deletion_of front)
+  pub below_added : j < length ps → All (λ d. d.0 ≤ (get_or ps j (0, 0)).0) (map deletion_of front)
+  pub sums : HaveSums 0 front
+
+-- so far is written, and so many bytes are deleted there
+pub record IsMergedUpTo (ds ps : List (ℕ × ℕ)) (i j : ℕ) (merged : List RelaxDelta) (bytes : ℕ) : Type 0 where
+  pub old_within : i ≤ length ds
+  pub added_within : j ≤ length ps
+  pub size : length merged ≡ length ds + length ps
+  pub front : IsFront ds ps i j (take (i + j) merged)
+  pub sum : bytes ≡ bytes_of (take i ds) + bytes_of (take j ps)
+
+pub merged_none : (ds ps : List (ℕ × ℕ)) (merged : List RelaxDelta) → length ds + length ps ≡ length merged → IsMergedUpTo ds ps 0 0 merged 0
+merged_none ds ps merged room = record {
+  old_within = omega arith;
+  added_within = omega arith;
+  size = sym room;
+  front = record {
+    same = IsPermutation-refl [];
+    rise = λ i j d le within. absurd (omega arith);
+    below_old = λ some k d within. absurd (omega arith);
+    below_added = λ some k d within. absurd (omega arith);
+    sums = record { each = λ k d within. absurd (omega arith) };
+  };
+  sum = refl;
+}
+
+pub merged_swapped : (ds ps : List (ℕ × ℕ)) (i j : ℕ) (merged : List RelaxDelta) (bytes : ℕ) → IsMergedUpTo ds ps i j merged bytes → IsMergedUpTo ps ds j i merged bytes
+merged_swapped ds ps i j merged bytes upto =
+    let count : j + i ≡ i + j = omega arith in
+    record {
+      old_within = upto.added_within;
+      added_within = upto.old_within;
+      size = omega (arith, upto.size);
+      front = rw count (record {
+        same = IsPermutation-trans (take j ps ++ take i ds) (take i ds ++ take j ps) (map deletion_of (take (i + j) merged)) (IsPermutation-append_comm (take j ps) (take i ds)) upto.front.same;
+        rise = upto.front.rise;
+        below_old = upto.front.below_added;
+        below_added = upto.front.below_old;
+        sums = upto.front.sums;
+      });
+      sum = omega (arith, upto.sum);
+    }
+
+-- the bytes of the first of both lists, and of one more, fit
+pub spends_more : (ds ps : List (ℕ × ℕ)) (i j : ℕ) (merged : List RelaxDelta) (bytes : ℕ) → IsMergedUpTo ds ps i j merged bytes → AreDisjoint (ds ++ ps) → i < length ds → bytes + (get_or ds i (0, 0)).1 < 2 ^ 64
+spends_more ds ps i j merged bytes upto disjoint within =
+    let f : ℕ × ℕ → ℕ = λ e. e.1 in
+    let first = rw (take-append-drop (i + 1) ds) at (sum_by-append f (take (i + 1) ds) (drop (i + 1) ds)) in
+    let second = rw (take-append-drop j ps) at (sum_by-append f (take j ps) (drop j ps)) in
+    omega (arith, upto.sum, sum_by_more f ds i (0, 0) within, first, second, sum_by-append f ds ps, disjoint_fit (ds ++ ps) disjoint)
+
+-- one more of the first list is written behind, where it isn't above what comes next of the other
+pub merged_more : (ds ps : List (ℕ × ℕ)) (i j at : ℕ) (merged : List RelaxDelta) (delta : RelaxDelta) (bytes : ℕ) → IsValid ds → i < length ds → at ≡ i + j → IsMergedUpTo ds ps i j merged bytes
+    → deletion_of delta ≡ get_or ds i (0, 0) → (j < length ps → (get_or ds i (0, 0)).0 ≤ (get_or ps j (0, 0)).0) → delta.cumulative_deleted ≡ bytes + (get_or ds i (0, 0)).1 → IsMergedUpTo ds ps (i + 1) j (set merged at delta) delta.cumulative_deleted
+merged_more ds ps i j at merged delta bytes valid within place upto is first sum = record {
+  old_within = omega arith;
+  added_within = upto.added_within;
+  size = omega (arith, upto.size, length-set merged at delta);
+  front = rw whole (record {
+    same = rw (joined, is, more) (IsPermutation-trans ((take i ds ++ d ∷ []) ++ take j ps) ((take i ds ++ take j ps) ++ d ∷ []) (map deletion_of old ++ d ∷ []) behind (IsPermutation-append_left (d ∷ []) (take i ds ++ take j ps) (map deletion_of old) upto.front.same));
+    rise = rw (joined, is) (rise-append (map deletion_of old) (d ∷ []) upto.front.rise alone above);
+    below_old = λ some. rw (joined, is) (All-push (λ e. e.0 ≤ (get_or ds (i + 1) (0, 0)).0) (map deletion_of old) d (λ k e low. omega (arith, upto.front.below_old within k e low, (valid.ascending i (i + 1) (0, 0) (omega arith) some).0)) (omega (arith, (valid.ascending i (i + 1) (0, 0) (omega arith) some).0)));
+    below_added = λ some. rw (joined, is) (All-push (λ e. e.0 ≤ (get_or ps j (0, 0)).0) (map deletion_of old) d (upto.front.below_added some) (first some));
+    sums = HaveSums-append 0 old (delta ∷ []) upto.front.sums (record { each = λ k e low. last k e low });
+  });
+  sum = omega (arith, sum, upto.sum, sum_by_more (λ (e : ℕ × ℕ). e.1) ds i (0, 0) within);
+}
+  where
+    d : ℕ × ℕ
+    d = get_or ds i (0, 0)
+
+    old : List RelaxDelta
+    old = take (i + j) merged
+
+    more : take (i + 1) ds ≡ take i ds ++ d ∷ []
+    more = take_more ds i (0, 0) within
+
+    free : at < length merged
+    free = omega (arith, place, upto.size, upto.added_within, within)
+
+    whole : take (i + 1 + j) (set merged at delta) ≡ old ++ delta ∷ []
+    whole =
+        let next : i + 1 + j ≡ at + 1 = omega (arith, place) in
+        let written : take (at + 1) (set merged at delta) ≡ take at (set merged at delta) ++ get_or (set merged at delta) at delta ∷ [] = take_more (set merged at delta) at delta (omega (arith, free, length-set merged at delta)) in
+        let kept : take at (set merged at delta) ≡ take at merged = take-set-le at merged at delta (omega arith) in
+        let here : get_or (set merged at delta) at delta ≡ delta = get_or-set_same merged at delta delta free in
+        rw (next, written, kept, here, place) refl
+
+    joined : map deletion_of (old ++ delta ∷ []) ≡ map deletion_of old ++ deletion_of delta ∷ []
+    joined = map-append deletion_of old (delta ∷ [])
+
+    behind : IsPermutation ((take i ds ++ d ∷ []) ++ take j ps) ((take i ds ++ take j ps) ++ d ∷ [])
+    behind = rw (append_assoc (take i ds) (d ∷ []) (take j ps), append_assoc (take i ds) (take j ps) (d ∷ [])) (IsPermutation-append_right (take i ds) (d ∷ [] ++ take j ps) (take j ps ++ d ∷ []) (IsPermutation-append_comm (d ∷ []) (take j ps)))
+
+    alone : IsNonDecreasingBy (λ e. e.0) (d ∷ [])
+    alone a b e le low =
+        let first : a ≡ 0 = omega (arith, le, low) in
+        let second : b ≡ 0 = omega (arith, low) in
+        rw (first, second) (omega arith)
+
+    above : (k : ℕ) → k < length (map deletion_of old) → All (λ e. (get_or (map deletion_of old) k (0, 0)).0 ≤ e.0) (d ∷ [])
+    above k low = All-cons (λ e. (get_or (map deletion_of old) k (0, 0)).0 ≤ e.0) d [] (upto.front.below_old within k (0, 0) low) (All-nil (λ e. (get_or (map deletion_of old) k (0, 0)).0 ≤ e.0))
+
+    bytes_before : bytes ≡ bytes_of (map deletion_of old)
+    bytes_before = omega (arith, upto.sum, sum_by-append (λ (e : ℕ × ℕ). e.1) (take i ds) (take j ps), sum_by-IsPermutation (λ (e : ℕ × ℕ). e.1) (take i ds ++ take j ps) (map deletion_of old) upto.front.same)
+
+    last : (k : ℕ) (e : RelaxDelta) → k < length (delta ∷ []) → (get_or (delta ∷ []) k e).cumulative_deleted ≡ 0 + bytes_of (map deletion_of old) + bytes_of (take (k + 1) (map deletion_of (delta ∷ [])))
+    last k e low =
+        let only : k ≡ 0 = omega (arith, low) in
+        rw only (omega (arith, sum, bytes_before, ap (λ (x : ℕ × ℕ). x.1) is))
+
+-- after all of both, all are written
+pub merged_all : (ds ps : List (ℕ × ℕ)) (i j : ℕ) (merged : List RelaxDelta) (bytes : ℕ) → AreDisjoint (ds ++ ps) → IsMergedUpTo ds ps i j merged bytes → length ds ≤ i → length ps ≤ j → IsSortedUnion (ds ++ ps) (map deletion_of merged) × AreValidDeltas merged
+merged_all ds ps i j merged bytes disjoint upto past end =
+    let whole : take (i + j) merged ≡ merged = take_all (i + j) merged (omega (arith, upto.size, past, end)) in
+    let first : take i ds ≡ ds = take_all i ds past in
+    let second : take j ps ≡ ps = take_all j ps end in
+    let front : IsFront ds ps i j merged = rw whole at upto.front in
+    let same : IsPermutation (ds ++ ps) (map deletion_of merged) = rw (first, second) at front.same in
+    let union : IsSortedUnion (ds ++ ps) (map deletion_of merged) = union_from_sort (ds ++ ps) (map deletion_of merged) same disjoint front.rise in
+    (union, record { valid = union.valid; listing = record { same = refl; sums = λ k d within. omega (arith, front.sums.each k d within) } })

@@ -1,0 +1,153 @@
+-- Choosing a rewrite: entries of tables, and which of them is chosen. The tables of an architecture
+-- are in `specs/ARCHChoices`.
+use Rattle.std.specs.Prelude.{◌≡◌, ℕ, ℤ, pos, neg_ℤ, ◌⊎◌, ⊤, List, [], ◌∷◌}
+use Rattle.std.specs.Prelude.{true, false, Option, None, Some}
+use Rattle.std.specs.Int.{w64, cast_signed, cast_unsigned}
+use Rattle.linker_base.specs.Rewrite.{Rewrite, offset_after, addend_after}
+use Rattle.linker_elf.specs.Elf.{IsWithin}
+use Rattle.linker_elf.specs.Relocate.{Reaches}
+use Rattle.linker_elf.specs.Value.{sum_64, difference_64, value_of}
+use Rattle.linker_elf.specs.declared.elf.RelocationKindInfo.{RelocationKindInfo}
+use Rattle.linker_elf.specs.declared.elf.choice.Choice.{Choice}
+use Rattle.linker_elf.specs.declared.elf.choice.LinkFacts.{LinkFacts}
+use Rattle.linker_elf.specs.declared.elf.value.Operands.{Operands}
+
+-- What an entry of a table asks of what the linker knows.
+pub data Condition (R : Type 0) : Type 0 where
+  -- the definition in this output is the one at run time, and is no indirect function
+  bound : Condition R
+  -- undefined and weak, so that the address is 0
+  weak_zero : Condition R
+  fixed_address : Condition R
+  fixed_distance : Condition R
+  executable : Condition R
+  -- the base of local-dynamic TLS is the thread pointer
+  local_exec_base : Condition R
+  compressible : Condition R
+  marked : Condition R
+  -- the high part of a low part of RISC-V asks for a GOT entry
+  got_high_part : Condition R
+  -- what reads a register for the high part of an address is of the same symbol
+  private_base : Condition R
+  -- a call may change the TOC pointer
+  changed_toc : Condition R
+  -- the address of the symbol's PLT entry is S: it has none
+  without_plt : Condition R
+  -- the addend before the rewrite
+  addend : ℤ → Condition R
+  -- S + A is known, and is a number of 12 bits in two's complement
+  low_12 : Condition R
+  -- the value of a relocation is known and can be written: after the rewrite, so many bytes before
+  -- the place
+  in_reach : R → ℕ → Condition R
+  -- the same, unless no address is known
+  in_reach_if_known : R → ℕ → Condition R
+  -- the value of a relocation is known, and is from one number up and below another: after the
+  -- rewrite, so many bytes before the place
+  within : R → ℤ × ℤ → ℕ → Condition R
+  -- the same, unless no address is known
+  within_if_known : R → ℤ × ℤ → ℕ → Condition R
+
+-- An entry: the rewrite, the relocation after it, and the conditions.
+pub record Entry (K R : Type 0) : Type 0 where
+  pub kind : K
+  pub relocation : R
+  pub conditions : List (Condition R)
+
+abbrev pub entry : {K R : Type 0} → K → R → List (Condition R) → Entry K R
+entry kind relocation conditions =
+    record { kind = kind; relocation = relocation; conditions = conditions }
+
+abbrev pub choice : {K R : Type 0} → K → R → Choice K R
+choice kind relocation = record { kind = kind; relocation = relocation }
+
+-- ---- values in reach
+
+abbrev pub RowReaches : Option RelocationKindInfo → Operands → Type 0
+RowReaches None operands = ⊥
+RowReaches (Some row) operands = Reaches row operands
+
+abbrev pub ValueIsWithin : ℤ × ℤ → Option ℤ → Type 0
+ValueIsWithin bounds None = ⊥
+ValueIsWithin bounds (Some v) = IsWithin (Some bounds) v
+
+-- the relocation has a value, which is from one number up and below another
+abbrev pub RowIsWithin : Option RelocationKindInfo → ℤ × ℤ → Operands → Type 0
+RowIsWithin None bounds operands = ⊥
+RowIsWithin (Some row) bounds operands = ValueIsWithin bounds (value_of row operands)
+
+-- The operands after a rewrite at an offset: the place moves as the offset does.
+abbrev pub operands_after : Option Rewrite → ℕ → Operands → Operands
+operands_after rewrite o operands =
+    record operands {
+      place = difference_64 (sum_64 operands.place (offset_after rewrite o)) o;
+      addend = addend_after rewrite operands.addend;
+    }
+
+-- those of a field so many bytes before the place
+abbrev pub operands_before : ℕ → Operands → Operands
+operands_before n operands = record operands { place = difference_64 operands.place n }
+
+-- the facts of a relocation so many bytes on
+abbrev pub facts_on : ℕ → LinkFacts → LinkFacts
+facts_on n facts =
+    record facts {
+      operands = record facts.operands { place = sum_64 facts.operands.place n };
+    }
+
+-- ---- which entry is chosen
+
+-- the definition in this output is what is used at run time
+abbrev pub IsBound : LinkFacts → Type 0
+IsBound facts = (facts.is_local ≡ true) × (facts.is_ifunc ≡ false)
+
+abbrev pub HasAddresses : LinkFacts → Type 0
+HasAddresses facts = facts.has_addresses ≡ true
+
+abbrev pub low_12_bounds : ℤ × ℤ
+low_12_bounds = (neg_ℤ (pos 0x800), pos 0x800)
+
+abbrev pub symbol_and_addend : Operands → ℤ
+symbol_and_addend operands =
+    cast_signed w64 (sum_64 operands.symbol (cast_unsigned w64 operands.addend))
+
+-- A condition holds of the facts, where `row` is that of a name, and `after` are the operands after
+-- the rewrite.
+abbrev pub Holds : {R : Type 0} → (R → Option RelocationKindInfo) → Operands → LinkFacts
+    → Condition R → Type 0
+Holds row after facts bound = IsBound facts
+Holds row after facts weak_zero = facts.is_undefined_weak ≡ true
+Holds row after facts fixed_address = facts.has_fixed_address ≡ true
+Holds row after facts fixed_distance = facts.has_fixed_distance ≡ true
+Holds row after facts executable = facts.is_executable ≡ true
+Holds row after facts local_exec_base = facts.has_local_exec_base ≡ true
+Holds row after facts compressible = facts.may_compress ≡ true
+Holds row after facts marked = facts.is_marked ≡ true
+Holds row after facts got_high_part = facts.has_got_high_part ≡ true
+Holds row after facts private_base = facts.has_private_base ≡ true
+Holds row after facts changed_toc = facts.may_change_toc ≡ true
+Holds row after facts without_plt = facts.operands.plt_entry ≡ facts.operands.symbol
+Holds row after facts (addend a) = facts.operands.addend ≡ a
+Holds row after facts low_12 =
+    HasAddresses facts × IsWithin (Some low_12_bounds) (symbol_and_addend facts.operands)
+Holds row after facts (in_reach name n) =
+    HasAddresses facts × RowReaches (row name) (operands_before n after)
+Holds row after facts (in_reach_if_known name n) =
+    HasAddresses facts → RowReaches (row name) (operands_before n after)
+Holds row after facts (within name bounds n) =
+    HasAddresses facts × RowIsWithin (row name) bounds (operands_before n after)
+Holds row after facts (within_if_known name bounds n) =
+    HasAddresses facts → RowIsWithin (row name) bounds (operands_before n after)
+
+abbrev pub AllHold : {R : Type 0} → (R → Option RelocationKindInfo) → Operands → LinkFacts
+    → List (Condition R) → Type 0
+AllHold row after facts [] = ⊤
+AllHold row after facts (c ∷ cs) = Holds row after facts c × AllHold row after facts cs
+
+-- The choice is that of the first entry that applies, and else the last one.
+abbrev pub IsFirst : {K R : Type 0} → (Entry K R → Type 0) → List (Entry K R) → Choice K R
+    → Choice K R → Type 0
+IsFirst Applies [] otherwise chosen = chosen ≡ otherwise
+IsFirst Applies (e ∷ es) otherwise chosen =
+    (Applies e × (chosen ≡ choice e.kind e.relocation))
+    ⊎ (¬ Applies e × IsFirst Applies es otherwise chosen)

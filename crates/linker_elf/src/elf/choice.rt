@@ -1,0 +1,135 @@
+//! What a linker knows of a symbol and of its output, and the rewrite that it chooses by that.
+
+ghost use Rattle.std.specs.Prelude.{◌↔◌, IsTrue};
+ghost use Rattle.linker_elf.specs.Choices.{IsBound, HasAddresses, RowReaches, operands_before};
+ghost use Rattle.linker_elf.specs.Choices.{RowIsWithin};
+
+use crate::elf::{Operands, Row};
+
+/// What a linker knows of a relocation's symbol and of its output when it chooses a rewrite. By
+/// default no fact holds, and nothing is rewritten.
+#[derive(Debug, Default, Clone, Copy, PartialEq, Eq)]
+pub struct LinkFacts {
+    /// The symbol is defined in this output, and no other definition can replace it at run time.
+    pub is_local: bool,
+    /// The symbol is an indirect function (`STT_GNU_IFUNC`).
+    pub is_ifunc: bool,
+    /// The symbol is undefined and weak, and nothing defines it at run time: its address is 0.
+    pub is_undefined_weak: bool,
+    /// The symbol's address is the same wherever the output is loaded: that of an absolute symbol
+    /// and of an undefined weak one, and any in an output that is always loaded at one address.
+    pub has_fixed_address: bool,
+    /// The distance from the code to the symbol is the same wherever the output is loaded: that to
+    /// any symbol of the output, but to an absolute one only in an output that is always loaded at
+    /// one address.
+    pub has_fixed_distance: bool,
+    /// The output is an executable, position-independent or not.
+    pub is_executable: bool,
+    /// The sequence that computed the base of local-dynamic TLS for this relocation was rewritten
+    /// to local-exec, so that the base is the thread pointer.
+    pub has_local_exec_base: bool,
+    /// The code may use instructions of the C extension (`EF_RISCV_RVC`).
+    pub may_compress: bool,
+    /// The relocation may be relaxed: `R_RISCV_RELAX` or `R_LARCH_RELAX` is at the same offset.
+    pub is_marked: bool,
+    /// The high part whose label an `R_RISCV_PCREL_LO12_I` names has `R_RISCV_GOT_HI20`.
+    pub has_got_high_part: bool,
+    /// The register through which an instruction of PowerPC64 gets the high part of its address,
+    /// and which an `addis` has set, is read only by instructions whose relocation is of the same
+    /// symbol and addend. Linkers assume so, as the ABI asks of compilers ("TOC Optimizations").
+    pub has_private_base: bool,
+    /// The function that is called may return with another TOC pointer in register 2 of PowerPC64,
+    /// since it is called through a PLT entry or its symbol's `st_other` says so ("The st_other
+    /// Field Values").
+    pub may_change_toc: bool,
+    /// The addresses in `operands` are known. Where they are not, a rewrite that depends on a
+    /// distance is not chosen; another is, and its value may turn out to be out of reach.
+    pub has_addresses: bool,
+    /// What the relocation's value is computed from before the rewrite. The addend is always read.
+    /// `got_entry` is that of the relocation after it: of a rewrite to initial-exec TLS that of the
+    /// offset from the thread pointer.
+    pub operands: Operands,
+}
+
+/// A rewrite of an instruction, and the relocation whose value is then written.
+#[derive(Debug, Clone, Copy, PartialEq, Eq)]
+pub struct Choice<K, R> {
+    /// The rewrite; `NoOp` where none is chosen, and where only the relocation changes.
+    pub kind: K,
+    /// The relocation's name after the rewrite.
+    pub relocation: R,
+}
+
+impl LinkFacts {
+    /// Whether the symbol's definition in this output is what is used at run time.
+    #[inline(always)]
+    pub fn is_bound(&self) -> bool
+        ensures { IsTrue result ↔ IsBound self.now }
+    {
+        self.is_local && !self.is_ifunc
+    }
+
+    /// Whether the value of a relocation of a row, `back` bytes before the place, is known and can
+    /// be written.
+    #[inline(always)]
+    pub fn is_in_reach(&self, row: Option<Row>, after: &Operands, back: u64) -> bool
+        ensures { IsTrue result
+            ↔ (HasAddresses self.now × RowReaches row (operands_before back after.now)) }
+    {
+        self.has_addresses && reaches(row, after, back)
+    }
+
+    /// The same, or that no address is known.
+    #[inline(always)]
+    pub fn is_in_reach_if_known(&self, row: Option<Row>, after: &Operands, back: u64) -> bool
+        ensures { IsTrue result
+            ↔ (HasAddresses self.now → RowReaches row (operands_before back after.now)) }
+    {
+        !self.has_addresses || reaches(row, after, back)
+    }
+
+    /// Whether the value of a relocation of a row, `back` bytes before the place, is known and is
+    /// from the first bound up and below the second.
+    #[inline(always)]
+    pub fn is_within(&self, row: Option<Row>, bounds: (i64, i64), back: u64) -> bool
+        ensures { IsTrue result ↔ (HasAddresses self.now
+            × RowIsWithin row bounds (operands_before back self.now.operands)) }
+    {
+        self.has_addresses && value_is_within(row, bounds, &self.operands, back)
+    }
+
+    /// The same, or that no address is known.
+    #[inline(always)]
+    pub fn is_within_if_known(&self, row: Option<Row>, bounds: (i64, i64), back: u64) -> bool
+        ensures { IsTrue result ↔ (HasAddresses self.now
+            → RowIsWithin row bounds (operands_before back self.now.operands)) }
+    {
+        !self.has_addresses || value_is_within(row, bounds, &self.operands, back)
+    }
+}
+
+#[inline(always)]
+fn reaches(row: Option<Row>, after: &Operands, back: u64) -> bool
+    ensures { IsTrue result ↔ RowReaches row (operands_before back after.now) }
+{
+    let place = after.place.wrapping_sub(back);
+    match row {
+        Some(row) => row.reaches(&Operands { place, ..*after }),
+        None => false,
+    }
+}
+
+#[inline(always)]
+fn value_is_within(row: Option<Row>, bounds: (i64, i64), operands: &Operands, back: u64) -> bool
+    ensures { IsTrue result ↔ RowIsWithin row bounds (operands_before back operands.now) }
+{
+    let place = operands.place.wrapping_sub(back);
+    let value = match row {
+        Some(row) => row.value(&Operands { place, ..*operands }),
+        None => None,
+    };
+    match value {
+        Some(value) => bounds.0 <= value && value < bounds.1,
+        None => false,
+    }
+}

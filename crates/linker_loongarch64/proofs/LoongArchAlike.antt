@@ -1,0 +1,160 @@
+-- The relocations of a pair or of a sequence are chosen alike: each by the same conditions of the place
+-- of the first.
+use Rattle.std.proofs.Common.{◌≡◌, ◌↔◌, ◌≤◌, inl, inr, ℕ, ◌+◌, ◌-◌, List, [], ◌∷◌, ap, ◌∙◌, sym, subst, arith}
+use Rattle.linker_elf.specs.Choices.{facts_on}
+use Rattle.linker_elf.specs.Choices.{AllHold, IsFirst, entry, choice, RowReaches, RowIsWithin, Condition}
+use Rattle.linker_loongarch64.specs.LoongArchChoices.{LoongArchEntry, LoongArchChoice, LoongArchApplies, IsBehind, IsAmong, IsDescriptorSequence, by_pcaddi, by_pages, without_entry, to_initial_exec, to_local_exec, to_short_local_exec, signed_32, GotPairIsChosenAlike, AddressPairIsChosenAlike, InitialExecPairIsChosenAlike, DescriptorIsChosenAlike, erased}
+use Rattle.linker_loongarch64.specs.LoongArchOriginals.{IsPair, IsAddi, IsLd}
+use Rattle.linker_elf.specs.LoongArchRelocations.{loongarch_row}
+use Rattle.linker_elf.specs.declared.elf.choice.LinkFacts.{LinkFacts}
+use Rattle.linker_elf.specs.declared.loongarch64.relocations.LoongArch64Relocation.{LoongArch64Relocation}
+use Rattle.linker_elf.specs.declared.loongarch64.relocations.LoongArch64Relocation.TheVariants as r
+use Rattle.linker_loongarch64.specs.declared.rewrites.RelaxationKind.TheVariants as kinds
+use Rattle.linker_elf.proofs.Choices.{same_reach}
+
+-- ---- of the same conditions
+
+abbrev two : LoongArchChoice → LoongArchChoice → LoongArchChoice × LoongArchChoice
+two a b = (a, b)
+
+both : {a b x y : LoongArchChoice} → a ≡ x → b ≡ y → two a b ≡ two x y
+both {a} {b} {x} {y} e f = ap (λ t. two t b) e ∙ ap (two x) f
+
+one_alike : (A B : LoongArchEntry → Type 0) (d e : LoongArchEntry) (m n a b : LoongArchChoice) → (A d ↔ B e)
+    → IsFirst A (d ∷ []) m a → IsFirst B (e ∷ []) n b
+    → IsAmong (a, b) ((choice d.kind d.relocation, choice e.kind e.relocation) ∷ (m, n) ∷ [])
+one_alike A B d e m n a b f (inl h) (inl k) = inl (both h.1 k.1)
+one_alike A B d e m n a b f (inl h) (inr k) = absurd (k.0 (f.0 h.0))
+one_alike A B d e m n a b f (inr h) (inl k) = absurd (h.0 (f.1 k.0))
+one_alike A B d e m n a b f (inr h) (inr k) = inr (inl (both h.1 k.1))
+
+two_alike : (A B : LoongArchEntry → Type 0) (d d' e e' : LoongArchEntry) (m n a b : LoongArchChoice) → (A d ↔ B e) → (A d' ↔ B e')
+    → IsFirst A (d ∷ d' ∷ []) m a → IsFirst B (e ∷ e' ∷ []) n b
+    → IsAmong (a, b) ((choice d.kind d.relocation, choice e.kind e.relocation) ∷ (choice d'.kind d'.relocation, choice e'.kind e'.relocation) ∷ (m, n) ∷ [])
+two_alike A B d d' e e' m n a b f g (inl h) (inl k) = inl (both h.1 k.1)
+two_alike A B d d' e e' m n a b f g (inl h) (inr k) = absurd (k.0 (f.0 h.0))
+two_alike A B d d' e e' m n a b f g (inr h) (inl k) = absurd (h.0 (f.1 k.0))
+two_alike A B d d' e e' m n a b f g (inr h) (inr k) = inr (one_alike A B d' e' m n a b g h.1 k.1)
+
+-- ---- the place of the first
+
+-- what is asked for at the first offset, and conditions of the first place
+behind : (n : ℕ) (P : List ℕ → ℕ → Type 0) (s : List ℕ) (o : ℕ) → P s o ↔ IsBehind n P s (o + n)
+behind n P s o =
+    let e : o + n - n ≡ o = omega arith in
+    (λ h. (omega arith, subst (P s) (sym e) h), λ h. subst (P s) e h.1)
+
+product : {P Q R S : Type 0} → (P ↔ Q) → (R ↔ S) → (P × R) ↔ (Q × S)
+product f g = (λ h. (f.0 h.0, g.0 h.1), λ h. (f.1 h.0, g.1 h.1))
+
+first_behind : (P : List ℕ → ℕ → Type 0) (s : List ℕ) (o : ℕ) → IsBehind 0 P s o ↔ P s o
+first_behind P s o =
+    let e : o - 0 ≡ o = omega arith in
+    (λ h. subst (P s) e h.1, λ h. (omega arith, subst (P s) (sym e) h))
+
+joined : {P Q R : Type 0} → (P ↔ Q) → (Q ↔ R) → P ↔ R
+joined f g = (λ h. g.0 (f.0 h), λ h. f.1 (g.1 h))
+
+itself : {P : Type 0} → P ↔ P
+itself = (λ h. h, λ h. h)
+
+near : (n : ℕ) (facts : LinkFacts) → n ≤ 12
+    → AllHold loongarch_row facts.operands facts (by_pcaddi 0)
+    ↔ AllHold loongarch_row (facts_on n facts).operands (facts_on n facts) (by_pcaddi n)
+near n facts small =
+    let reaches = RowReaches (loongarch_row r.R_LARCH_PCREL20_S2) in
+    let e = same_reach n facts small in (
+      λ h. (h.0, (h.1.0, ((h.1.1.0.0, subst reaches (sym e) h.1.1.0.1), h.1.1.1))),
+      λ h. (h.0, (h.1.0, ((h.1.1.0.0, subst reaches e h.1.1.0.1), h.1.1.1))),
+    )
+
+paged : (n : ℕ) (facts : LinkFacts) → n ≤ 12
+    → AllHold loongarch_row facts.operands facts (by_pages 0)
+    ↔ AllHold loongarch_row (facts_on n facts).operands (facts_on n facts) (by_pages n)
+paged n facts small =
+    let fits = RowIsWithin (loongarch_row r.R_LARCH_PCALA_HI20) signed_32 in
+    let e = same_reach n facts small in (
+      λ h. (h.0, (λ known. subst fits (sym e) (h.1.0 known), h.1.1)),
+      λ h. (h.0, (λ known. subst fits e (h.1.0 known), h.1.1)),
+    )
+
+initial_exec : (n : ℕ) (facts : LinkFacts) → n ≤ 12
+    → AllHold loongarch_row facts.operands facts (to_initial_exec 0)
+    ↔ AllHold loongarch_row (facts_on n facts).operands (facts_on n facts) (to_initial_exec n)
+initial_exec n facts small =
+    let fits = RowIsWithin (loongarch_row r.R_LARCH_TLS_IE_PC_HI20) signed_32 in
+    let e = same_reach n facts small in (
+      λ h. (h.0, (λ known. subst fits (sym e) (h.1.0 known), h.1.1)),
+      λ h. (h.0, (λ known. subst fits e (h.1.0 known), h.1.1)),
+    )
+
+-- an offset from the thread pointer doesn't depend on the place
+local_exec : (n : ℕ) (facts : LinkFacts)
+    → AllHold loongarch_row facts.operands facts to_local_exec
+    ↔ AllHold loongarch_row (facts_on n facts).operands (facts_on n facts) to_local_exec
+local_exec n facts = (λ h. h, λ h. h)
+
+short_local_exec : (n : ℕ) (facts : LinkFacts)
+    → AllHold loongarch_row facts.operands facts to_short_local_exec
+    ↔ AllHold loongarch_row (facts_on n facts).operands (facts_on n facts) to_short_local_exec
+short_local_exec n facts = (λ h. h, λ h. h)
+
+without : (n : ℕ) (facts : LinkFacts) (xs ys : List (Condition LoongArch64Relocation))
+    → (AllHold loongarch_row facts.operands facts xs
+    ↔ AllHold loongarch_row (facts_on n facts).operands (facts_on n facts) ys)
+    → AllHold loongarch_row facts.operands facts (without_entry xs)
+    ↔ AllHold loongarch_row (facts_on n facts).operands (facts_on n facts) (without_entry ys)
+without n facts xs ys f =
+    (λ h. (h.0, (h.1.0, f.0 h.1.1)), λ h. (h.0, (h.1.0, f.1 h.1.1)))
+
+-- ---- pairs
+
+pub got_pair : GotPairIsChosenAlike
+got_pair s o facts a b small h k =
+    let there = behind 4 (IsPair IsLd) s o in
+    two_alike (LoongArchApplies r.R_LARCH_GOT_PC_HI20 s o facts) (LoongArchApplies r.R_LARCH_GOT_PC_LO12 s (o + 4) (facts_on 4 facts))
+    (entry kinds.PcalaToPcaddi r.R_LARCH_PCREL20_S2 (without_entry (by_pcaddi 0))) (entry kinds.NoOp r.R_LARCH_PCALA_HI20 (without_entry (by_pages 0)))
+    (entry kinds.Delete r.R_LARCH_NONE (without_entry (by_pcaddi 4))) (entry kinds.LdToAddi r.R_LARCH_PCALA_LO12 (without_entry (by_pages 4)))
+    _ _ a b
+    (product there (without 4 facts (by_pcaddi 0) (by_pcaddi 4) (near 4 facts (omega arith))))
+    (product there (without 4 facts (by_pages 0) (by_pages 4) (paged 4 facts (omega arith)))) h k
+
+pub address_pair : AddressPairIsChosenAlike
+address_pair s o facts a b small h k =
+    one_alike (LoongArchApplies r.R_LARCH_PCALA_HI20 s o facts) (LoongArchApplies r.R_LARCH_PCALA_LO12 s (o + 4) (facts_on 4 facts))
+    (entry kinds.PcalaToPcaddi r.R_LARCH_PCREL20_S2 (by_pcaddi 0)) (entry kinds.Delete r.R_LARCH_NONE (by_pcaddi 4))
+    _ _ a b (product (behind 4 (IsPair IsAddi) s o) (near 4 facts (omega arith))) h k
+
+pub initial_exec_pair : InitialExecPairIsChosenAlike
+initial_exec_pair s o facts a b small h k =
+    let there = behind 4 (IsPair IsLd) s o in
+    two_alike (LoongArchApplies r.R_LARCH_TLS_IE_PC_HI20 s o facts) (LoongArchApplies r.R_LARCH_TLS_IE_PC_LO12 s (o + 4) (facts_on 4 facts))
+    (entry kinds.ReplaceWithNop r.R_LARCH_NONE to_short_local_exec) (entry kinds.PcalaToLu12i r.R_LARCH_TLS_LE_HI20 to_local_exec)
+    (entry kinds.LowToOriZero r.R_LARCH_TLS_LE_LO12 to_short_local_exec) (entry kinds.LowToOri r.R_LARCH_TLS_LE_LO12 to_local_exec)
+    _ _ a b (product there (short_local_exec 4 facts)) (product there (local_exec 4 facts)) h k
+
+-- ---- the four of a descriptor
+
+there_on : (n : ℕ) (s : List ℕ) (o : ℕ) → IsBehind 0 IsDescriptorSequence s o ↔ IsBehind n IsDescriptorSequence s (o + n)
+there_on n s o = joined (first_behind IsDescriptorSequence s o) (behind n IsDescriptorSequence s o)
+
+pub descriptor_low : DescriptorIsChosenAlike 4 r.R_LARCH_TLS_DESC_PC_LO12 (choice kinds.LowToOri r.R_LARCH_TLS_LE_LO12) (choice kinds.AddiToLd r.R_LARCH_TLS_IE_PC_LO12)
+descriptor_low s o facts a b small h k =
+    two_alike (LoongArchApplies r.R_LARCH_TLS_DESC_PC_HI20 s o facts) (LoongArchApplies r.R_LARCH_TLS_DESC_PC_LO12 s (o + 4) (facts_on 4 facts))
+    (entry kinds.PcalaToLu12i r.R_LARCH_TLS_LE_HI20 to_local_exec) (entry kinds.NoOp r.R_LARCH_TLS_IE_PC_HI20 (to_initial_exec 0))
+    (entry kinds.LowToOri r.R_LARCH_TLS_LE_LO12 to_local_exec) (entry kinds.AddiToLd r.R_LARCH_TLS_IE_PC_LO12 (to_initial_exec 4))
+    _ _ a b (product (there_on 4 s o) (local_exec 4 facts)) (product (there_on 4 s o) (initial_exec 4 facts (omega arith))) h k
+
+pub descriptor_load : DescriptorIsChosenAlike 8 r.R_LARCH_TLS_DESC_LD erased erased
+descriptor_load s o facts a b small h k =
+    two_alike (LoongArchApplies r.R_LARCH_TLS_DESC_PC_HI20 s o facts) (LoongArchApplies r.R_LARCH_TLS_DESC_LD s (o + 8) (facts_on 8 facts))
+    (entry kinds.PcalaToLu12i r.R_LARCH_TLS_LE_HI20 to_local_exec) (entry kinds.NoOp r.R_LARCH_TLS_IE_PC_HI20 (to_initial_exec 0))
+    (entry kinds.ReplaceWithNop r.R_LARCH_NONE to_local_exec) (entry kinds.ReplaceWithNop r.R_LARCH_NONE (to_initial_exec 8))
+    _ _ a b (product (there_on 8 s o) (local_exec 8 facts)) (product (there_on 8 s o) (initial_exec 8 facts (omega arith))) h k
+
+pub descriptor_call : DescriptorIsChosenAlike 12 r.R_LARCH_TLS_DESC_CALL erased erased
+descriptor_call s o facts a b small h k =
+    two_alike (LoongArchApplies r.R_LARCH_TLS_DESC_PC_HI20 s o facts) (LoongArchApplies r.R_LARCH_TLS_DESC_CALL s (o + 12) (facts_on 12 facts))
+    (entry kinds.PcalaToLu12i r.R_LARCH_TLS_LE_HI20 to_local_exec) (entry kinds.NoOp r.R_LARCH_TLS_IE_PC_HI20 (to_initial_exec 0))
+    (entry kinds.ReplaceWithNop r.R_LARCH_NONE to_local_exec) (entry kinds.ReplaceWithNop r.R_LARCH_NONE (to_initial_exec 12))
+    _ _ a b (product (there_on 12 s o) (local_exec 12 facts)) (product (there_on 12 s o) (initial_exec 12 facts (omega arith))) h k

@@ -1,0 +1,3 @@
+pub mod LoongArchChoices
+pub mod LoongArchOriginals
+pub mod LoongArchRewrites

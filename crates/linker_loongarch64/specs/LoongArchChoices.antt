@@ -1,0 +1,225 @@
+-- LoongArch: the rewrite that a linker chooses for a relocation (LoongArch ELF psABI, relaxation
+-- and the sequences of thread-local storage).
+use Rattle.std.specs.Prelude.{◌≡◌, ◌≤◌, ◌+◌, ◌-◌, ◌^◌, ◌<◌, ℕ, List, [], ◌∷◌, ◌⊎◌, length, ◌++◌, ℤ}
+use Rattle.std.specs.Prelude.{pos, neg_ℤ}
+use Rattle.linker_elf.specs.Choices.{facts_on}
+use Rattle.linker_elf.specs.Choices.{Condition, bound, fixed_distance, executable, marked}
+use Rattle.linker_elf.specs.Choices.{addend, in_reach, within, within_if_known, Entry, entry}
+use Rattle.linker_elf.specs.Choices.{choice}
+use Rattle.linker_elf.specs.Choices.{AllHold, IsFirst}
+use Rattle.linker_loongarch64.specs.LoongArchOriginals.{IsAddi, IsLd, IsLu12i, IsAddTp, IsPair}
+use Rattle.linker_loongarch64.specs.LoongArchOriginals.{word_at, AreOfOneRegister}
+use Rattle.linker_loongarch64.specs.LoongArchOriginals.{loongarch_matches}
+use Rattle.linker_elf.specs.LoongArchRelocations.{loongarch_row}
+use Rattle.linker_loongarch64.specs.LoongArchRewrites.{rd_of}
+use Rattle.linker_elf.specs.Originals.{HasWord}
+use Rattle.linker_elf.specs.declared.elf.choice.Choice.{Choice}
+use Rattle.linker_elf.specs.declared.elf.choice.LinkFacts.{LinkFacts}
+use Rattle.linker_elf.specs.declared.loongarch64.relocations.LoongArch64Relocation.{LoongArch64Relocation}
+use Rattle.linker_elf.specs.declared.loongarch64.relocations.LoongArch64Relocation.TheVariants as r
+use Rattle.linker_loongarch64.specs.declared.rewrites.RelaxationKind.{RelaxationKind}
+use Rattle.linker_loongarch64.specs.declared.rewrites.RelaxationKind.TheVariants as kinds
+
+-- ---- the instructions that a relocation and a rewrite ask for
+
+-- `pcalau12i a0`, `addi.d a0, a0`, `ld.d ra, a0, 0` and `jirl ra, ra, 0`, where `a0` is register 4
+-- and `ra` register 1
+pub record AreOfDescriptor (pcala addi ld jirl : ℕ) : Type 0 where
+  pub low_opcode : IsAddi addi
+  pub one_register : AreOfOneRegister pcala addi
+  pub into_a0 : rd_of addi ≡ 4
+  pub loads : ld ≡ 0x28c00081
+  pub calls : jirl ≡ 0x4c000021
+
+-- the sequence of a TLS descriptor, of which the first instruction is at the offset
+pub record IsDescriptorSequence (section : List ℕ) (o : ℕ) : Type 0 where
+  pub within : o + 16 ≤ length section
+  pub instructions :
+      AreOfDescriptor (word_at section o) (word_at section (o + 4)) (word_at section (o + 8))
+      (word_at section (o + 12))
+
+-- What P says is at an offset so many bytes before.
+abbrev pub IsBehind : ℕ → (List ℕ → ℕ → Type 0) → List ℕ → ℕ → Type 0
+IsBehind back P section o = (back ≤ o) × P section (o - back)
+
+abbrev pub IsAskedFor : LoongArch64Relocation → RelaxationKind → List ℕ → ℕ → Type 0
+IsAskedFor r.R_LARCH_GOT_PC_HI20 kind = IsPair IsLd
+IsAskedFor r.R_LARCH_GOT_PC_LO12 kind = IsBehind 4 (IsPair IsLd)
+IsAskedFor r.R_LARCH_PCALA_HI20 kind = IsPair IsAddi
+IsAskedFor r.R_LARCH_PCALA_LO12 kind = IsBehind 4 (IsPair IsAddi)
+IsAskedFor r.R_LARCH_TLS_IE_PC_HI20 kind = IsPair IsLd
+IsAskedFor r.R_LARCH_TLS_IE_PC_LO12 kind = IsBehind 4 (IsPair IsLd)
+IsAskedFor r.R_LARCH_TLS_DESC_PC_HI20 kind = IsBehind 0 IsDescriptorSequence
+IsAskedFor r.R_LARCH_TLS_DESC_PC_LO12 kind = IsBehind 4 IsDescriptorSequence
+IsAskedFor r.R_LARCH_TLS_DESC_LD kind = IsBehind 8 IsDescriptorSequence
+IsAskedFor r.R_LARCH_TLS_DESC_CALL kind = IsBehind 12 IsDescriptorSequence
+IsAskedFor r.R_LARCH_TLS_LE_HI20_R kind = λ section o. HasWord section o IsLu12i
+IsAskedFor r.R_LARCH_TLS_LE_ADD_R kind = λ section o. HasWord section o IsAddTp
+-- what the rewrite is meant for
+IsAskedFor name kind = loongarch_matches kind
+
+-- ---- the table
+
+-- numbers of 32 bits in two's complement
+abbrev pub signed_32 : ℤ × ℤ
+signed_32 = (neg_ℤ (pos (2 ^ 31)), pos (2 ^ 31))
+
+-- the immediates of `ori`, and of `addi.d`, loads and stores
+abbrev pub unsigned_12 : ℤ × ℤ
+unsigned_12 = (pos 0, pos (2 ^ 12))
+
+abbrev pub signed_12 : ℤ × ℤ
+signed_12 = (neg_ℤ (pos (2 ^ 11)), pos (2 ^ 11))
+
+-- by `pcaddi` alone, which is so many bytes before
+abbrev pub by_pcaddi : ℕ → List (Condition LoongArch64Relocation)
+by_pcaddi back = marked ∷ fixed_distance ∷ in_reach r.R_LARCH_PCREL20_S2 back ∷ []
+
+-- the symbol's definition in this output, in place of its GOT entry
+abbrev pub without_entry : List (Condition LoongArch64Relocation)
+    → List (Condition LoongArch64Relocation)
+without_entry conditions = bound ∷ addend (pos 0) ∷ conditions
+
+-- by the distance in pages from `pcalau12i`, which is so many bytes before
+abbrev pub by_pages : ℕ → List (Condition LoongArch64Relocation)
+by_pages back = fixed_distance ∷ within_if_known r.R_LARCH_PCALA_HI20 signed_32 back ∷ []
+
+-- by `b` or `bl`
+abbrev pub by_branch : List (Condition LoongArch64Relocation)
+by_branch = marked ∷ fixed_distance ∷ in_reach r.R_LARCH_B26 0 ∷ []
+
+-- the offset from the thread pointer in the instructions, and by `ori` alone
+abbrev pub to_local_exec : List (Condition LoongArch64Relocation)
+to_local_exec =
+    executable ∷ without_entry (within_if_known r.R_LARCH_TLS_LE_HI20 signed_32 0 ∷ [])
+
+abbrev pub to_short_local_exec : List (Condition LoongArch64Relocation)
+to_short_local_exec =
+    executable ∷ without_entry (within r.R_LARCH_TLS_LE_LO12 unsigned_12 0 ∷ [])
+
+-- the offset from the thread pointer in the GOT: `pcalau12i` is so many bytes before
+abbrev pub to_initial_exec : ℕ → List (Condition LoongArch64Relocation)
+to_initial_exec back =
+    executable ∷ within_if_known r.R_LARCH_TLS_IE_PC_HI20 signed_32 back ∷ []
+
+-- the offset from the thread pointer in 12 signed bits
+abbrev pub by_low_part : List (Condition LoongArch64Relocation)
+by_low_part = marked ∷ within r.R_LARCH_TLS_LE_LO12_R signed_12 0 ∷ []
+
+abbrev pub LoongArchEntry : Type 0
+LoongArchEntry = Entry RelaxationKind LoongArch64Relocation
+
+abbrev pub LoongArchChoice : Type 0
+LoongArchChoice = Choice RelaxationKind LoongArch64Relocation
+
+abbrev pub loongarch_entries : LoongArch64Relocation → List LoongArchEntry
+loongarch_entries r.R_LARCH_GOT_PC_HI20 =
+    entry kinds.PcalaToPcaddi r.R_LARCH_PCREL20_S2 (without_entry (by_pcaddi 0))
+    ∷ entry kinds.NoOp r.R_LARCH_PCALA_HI20 (without_entry (by_pages 0)) ∷ []
+loongarch_entries r.R_LARCH_GOT_PC_LO12 =
+    entry kinds.Delete r.R_LARCH_NONE (without_entry (by_pcaddi 4))
+    ∷ entry kinds.LdToAddi r.R_LARCH_PCALA_LO12 (without_entry (by_pages 4)) ∷ []
+loongarch_entries r.R_LARCH_PCALA_HI20 =
+    entry kinds.PcalaToPcaddi r.R_LARCH_PCREL20_S2 (by_pcaddi 0) ∷ []
+loongarch_entries r.R_LARCH_PCALA_LO12 = entry kinds.Delete r.R_LARCH_NONE (by_pcaddi 4) ∷ []
+loongarch_entries r.R_LARCH_CALL36 =
+    entry kinds.CallToB r.R_LARCH_B26 by_branch ∷ entry kinds.CallToBl r.R_LARCH_B26 by_branch ∷ []
+loongarch_entries r.R_LARCH_TLS_IE_PC_HI20 =
+    entry kinds.ReplaceWithNop r.R_LARCH_NONE to_short_local_exec
+    ∷ entry kinds.PcalaToLu12i r.R_LARCH_TLS_LE_HI20 to_local_exec ∷ []
+loongarch_entries r.R_LARCH_TLS_IE_PC_LO12 =
+    entry kinds.LowToOriZero r.R_LARCH_TLS_LE_LO12 to_short_local_exec
+    ∷ entry kinds.LowToOri r.R_LARCH_TLS_LE_LO12 to_local_exec ∷ []
+loongarch_entries r.R_LARCH_TLS_DESC_PC_HI20 =
+    entry kinds.PcalaToLu12i r.R_LARCH_TLS_LE_HI20 to_local_exec
+    ∷ entry kinds.NoOp r.R_LARCH_TLS_IE_PC_HI20 (to_initial_exec 0) ∷ []
+loongarch_entries r.R_LARCH_TLS_DESC_PC_LO12 =
+    entry kinds.LowToOri r.R_LARCH_TLS_LE_LO12 to_local_exec
+    ∷ entry kinds.AddiToLd r.R_LARCH_TLS_IE_PC_LO12 (to_initial_exec 4) ∷ []
+loongarch_entries r.R_LARCH_TLS_DESC_LD =
+    entry kinds.ReplaceWithNop r.R_LARCH_NONE to_local_exec
+    ∷ entry kinds.ReplaceWithNop r.R_LARCH_NONE (to_initial_exec 8) ∷ []
+loongarch_entries r.R_LARCH_TLS_DESC_CALL =
+    entry kinds.ReplaceWithNop r.R_LARCH_NONE to_local_exec
+    ∷ entry kinds.ReplaceWithNop r.R_LARCH_NONE (to_initial_exec 12) ∷ []
+loongarch_entries r.R_LARCH_TLS_LE_HI20_R = entry kinds.Delete r.R_LARCH_NONE by_low_part ∷ []
+loongarch_entries r.R_LARCH_TLS_LE_ADD_R = entry kinds.Delete r.R_LARCH_NONE by_low_part ∷ []
+loongarch_entries r.R_LARCH_TLS_LE_LO12_R =
+    entry kinds.BaseToTp r.R_LARCH_TLS_LE_LO12_R by_low_part ∷ []
+loongarch_entries name = []
+
+-- ---- the choice
+
+-- What the relocation asks for is there, and the conditions hold. No rewrite of LoongArch moves the
+-- offset or the addend.
+abbrev pub LoongArchApplies : LoongArch64Relocation → List ℕ → ℕ → LinkFacts → LoongArchEntry
+    → Type 0
+LoongArchApplies name section o facts e =
+    IsAskedFor name e.kind section o × AllHold loongarch_row facts.operands facts e.conditions
+
+-- that of the first entry that applies, and else to leave the instruction and the relocation
+abbrev pub IsLoongArchChoice : LoongArch64Relocation → List ℕ → ℕ → LinkFacts → LoongArchChoice
+    → Type 0
+IsLoongArchChoice name section o facts chosen =
+    IsFirst (LoongArchApplies name section o facts) (loongarch_entries name)
+    (choice kinds.NoOp name) chosen
+
+-- ---- the relocations of a pair or of a sequence
+
+abbrev pub IsAmong : LoongArchChoice × LoongArchChoice → List (LoongArchChoice × LoongArchChoice)
+    → Type 0
+IsAmong x [] = ⊥
+IsAmong x (y ∷ ys) = (x ≡ y) ⊎ IsAmong x ys
+
+-- Two relocations, n bytes apart, with the same facts but for the place: both choices are those of
+-- one line, or both relocations are left.
+abbrev pub AreChosenAlike : ℕ → LoongArch64Relocation → LoongArch64Relocation
+    → List (LoongArchChoice × LoongArchChoice) → Type 0
+AreChosenAlike n first second lines =
+    (section : List ℕ) (o : ℕ) (facts : LinkFacts) (a b : LoongArchChoice) → o + n < 2 ^ 64
+    → IsLoongArchChoice first section o facts a
+    → IsLoongArchChoice second section (o + n) (facts_on n facts) b
+    → IsAmong (a, b) (lines ++ (choice kinds.NoOp first, choice kinds.NoOp second) ∷ [])
+
+abbrev pub GotPairIsChosenAlike : Type 0
+GotPairIsChosenAlike =
+    AreChosenAlike 4 r.R_LARCH_GOT_PC_HI20 r.R_LARCH_GOT_PC_LO12
+    ((choice kinds.PcalaToPcaddi r.R_LARCH_PCREL20_S2, choice kinds.Delete r.R_LARCH_NONE)
+    ∷ (choice kinds.NoOp r.R_LARCH_PCALA_HI20, choice kinds.LdToAddi r.R_LARCH_PCALA_LO12) ∷ [])
+
+abbrev pub AddressPairIsChosenAlike : Type 0
+AddressPairIsChosenAlike =
+    AreChosenAlike 4 r.R_LARCH_PCALA_HI20 r.R_LARCH_PCALA_LO12
+    ((choice kinds.PcalaToPcaddi r.R_LARCH_PCREL20_S2, choice kinds.Delete r.R_LARCH_NONE) ∷ [])
+
+abbrev pub InitialExecPairIsChosenAlike : Type 0
+InitialExecPairIsChosenAlike =
+    AreChosenAlike 4 r.R_LARCH_TLS_IE_PC_HI20 r.R_LARCH_TLS_IE_PC_LO12
+    ((
+      choice kinds.ReplaceWithNop r.R_LARCH_NONE,
+      choice kinds.LowToOriZero r.R_LARCH_TLS_LE_LO12,
+    )
+    ∷ (
+      choice kinds.PcalaToLu12i r.R_LARCH_TLS_LE_HI20,
+      choice kinds.LowToOri r.R_LARCH_TLS_LE_LO12,
+    ) ∷ [])
+
+-- one of the other relocations of a TLS descriptor with the first one: its choices for local-exec
+-- and for initial-exec
+abbrev pub DescriptorIsChosenAlike : ℕ → LoongArch64Relocation → LoongArchChoice → LoongArchChoice
+    → Type 0
+DescriptorIsChosenAlike n name local initial =
+    AreChosenAlike n r.R_LARCH_TLS_DESC_PC_HI20 name
+    ((choice kinds.PcalaToLu12i r.R_LARCH_TLS_LE_HI20, local)
+    ∷ (choice kinds.NoOp r.R_LARCH_TLS_IE_PC_HI20, initial) ∷ [])
+
+abbrev pub erased : LoongArchChoice
+erased = choice kinds.ReplaceWithNop r.R_LARCH_NONE
+
+abbrev pub DescriptorsAreChosenAlike : Type 0
+DescriptorsAreChosenAlike =
+    DescriptorIsChosenAlike 4 r.R_LARCH_TLS_DESC_PC_LO12
+    (choice kinds.LowToOri r.R_LARCH_TLS_LE_LO12)
+    (choice kinds.AddiToLd r.R_LARCH_TLS_IE_PC_LO12)
+    × DescriptorIsChosenAlike 8 r.R_LARCH_TLS_DESC_LD erased erased
+    × DescriptorIsChosenAlike 12 r.R_LARCH_TLS_DESC_CALL erased erased

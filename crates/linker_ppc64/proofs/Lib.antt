@@ -1,0 +1,2 @@
+pub mod Ppc64Alike
+pub mod Ppc64Rewrites

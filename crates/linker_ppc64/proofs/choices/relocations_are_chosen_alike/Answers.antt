@@ -1,0 +1,17 @@
+use Rattle.linker_ppc64.proofs.Ppc64Alike.{toc_pairs, got_pair, initial_exec_pair, general_dynamic, local_dynamic}
+use Rattle.linker_ppc64.proofs.choices.relocations_are_chosen_alike.Goals as goal
+
+pub returns-clause-toc : goal.returns-clause-toc
+returns-clause-toc c = toc_pairs
+
+pub returns-clause-got : goal.returns-clause-got
+returns-clause-got c = got_pair
+
+pub returns-clause-initial_exec : goal.returns-clause-initial_exec
+returns-clause-initial_exec c = initial_exec_pair
+
+pub returns-clause-general_dynamic : goal.returns-clause-general_dynamic
+returns-clause-general_dynamic c = general_dynamic
+
+pub returns-clause-local_dynamic : goal.returns-clause-local_dynamic
+returns-clause-local_dynamic c = local_dynamic

@@ -1,0 +1,6 @@
+pub mod CallSites
+pub mod Jumps
+pub mod Packed
+pub mod RiscVAlike
+pub mod RiscVRewrites
+pub mod Shrunk

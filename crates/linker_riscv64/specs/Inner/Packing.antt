@@ -1,0 +1,51 @@
+-- What holds while a section is packed.
+use Rattle.std.specs.Prelude.{◌≡◌, ℕ, ◌+◌, ◌<◌, ◌≤◌, List, min, length, IsTrue, slice_index}
+use Rattle.std.specs.Prelude.{slice_index_or}
+use Rattle.linker_base.specs.Deletions.{is_kept, rank}
+use Rattle.linker_riscv64.specs.RiscVCalls.{word_at, output_distance, link_register, IsJal}
+use Rattle.linker_riscv64.specs.Packing.{IsApart, CanJump, IsNotAt}
+use Rattle.linker_riscv64.specs.declared.packing.Jump.{Jump}
+use Rattle.linker_riscv64.specs.declared.calls.LinkRegister.{LinkRegister}
+
+-- the kept bytes below an offset stand where they go
+abbrev pub IsFilled : List (ℕ × ℕ) → List ℕ → ℕ → List ℕ → Type 0
+IsFilled deletions section upto packed = (p : ℕ) → p < upto → IsTrue (is_kept deletions p)
+    → slice_index packed (rank deletions p) ≡ slice_index section p
+
+-- the first deletions end at an offset or below it, and the others begin at it or above
+pub record IsRunStart (deletions : List (ℕ × ℕ)) (passed from : ℕ) : Type 0 where
+  pub ended : (j : ℕ) (d : ℕ × ℕ) → j < passed
+      → (slice_index_or deletions j d).0 + (slice_index_or deletions j d).1 ≤ from
+  pub ahead : (j : ℕ) (d : ℕ × ℕ) → passed ≤ j → j < length deletions
+      → from ≤ (slice_index_or deletions j d).0
+
+-- the kept bytes up to the run that begins at an offset are copied, and the next has the output
+-- offset
+pub record IsCopied (deletions : List (ℕ × ℕ)) (section : List ℕ) (passed from output_offset : ℕ)
+    (packed : List ℕ) : Type 0 where
+  pub start : IsRunStart deletions passed from
+  pub output_offset_is : output_offset ≡ rank deletions (min from (length section))
+  pub filled : IsFilled deletions section (min from (length section)) packed
+
+-- the jump that a call becomes
+pub record IsJumpOf (link : LinkRegister) (deletions : List (ℕ × ℕ)) (section : List ℕ)
+    (call : ℕ × ℕ) (jump : Jump) : Type 0 where
+  pub can : CanJump link deletions section call
+  pub output_offset : jump.output_offset ≡ rank deletions call.0
+  pub distance : jump.distance ≡ output_distance deletions call.0 call.1
+
+-- all is packed, and the first calls are jumps
+pub record IsPackedTo (link : LinkRegister) (deletions : List (ℕ × ℕ)) (section : List ℕ)
+    (calls : List (ℕ × ℕ)) (upto : ℕ) (packed : List ℕ) : Type 0 where
+  pub kept : (p : ℕ) → p < length section → IsTrue (is_kept deletions p)
+      → ((i : ℕ) (call : ℕ × ℕ) → i < upto → IsNotAt p (slice_index_or calls i call))
+      → slice_index packed (rank deletions p) ≡ slice_index section p
+  pub jumps : (i : ℕ) (call : ℕ × ℕ) → i < upto
+      → IsJal (word_at packed (rank deletions (slice_index_or calls i call).0))
+      (link_register link section (slice_index_or calls i call).0)
+      (output_distance deletions (slice_index_or calls i call).0 (slice_index_or calls i call).1)
+
+-- the first calls are apart
+abbrev pub AreApartTo : List (ℕ × ℕ) → ℕ → Type 0
+AreApartTo calls upto = (i j : ℕ) (call : ℕ × ℕ) → i < j → j < upto
+    → IsApart (slice_index_or calls i call) (slice_index_or calls j call)

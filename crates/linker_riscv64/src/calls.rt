@@ -1,0 +1,406 @@
+//! RISC-V: calls that become jumps.
+
+ghost use Rattle.std.specs.Prelude.{◌≡◌, ◌≤◌, ◌<◌, ◌+◌, ◌^◌, ◌↔◌, ◌⊎◌, ℕ, IsTrue, IsOk, OnOk};
+ghost use Rattle.std.specs.Prelude.{OnErr, IfErr, IsNone, IfSome, length, pos, ◌-ℤ◌};
+ghost use Rattle.linker_base.specs.Bits.{field};
+ghost use Rattle.linker_base.specs.Deltas.{deletions_of};
+ghost use Rattle.linker_base.specs.Blocks.{IsValidView};
+ghost use Rattle.linker_riscv64.specs.RiscVCalls.{IsEven, IsJalDistance, JumpsAndLinks, JumpsAt};
+ghost use Rattle.linker_riscv64.specs.RiscVCalls.{IsInSection, IsSiteKept, output_distance};
+ghost use Rattle.linker_riscv64.specs.RiscVCalls.{IsCallPair};
+ghost use Rattle.linker_riscv64.specs.RiscVCalls.{IsPlainCall, call_len, NamesRegister};
+ghost use Rattle.linker_riscv64.specs.RiscVCalls.{link_register};
+
+use linker_base::bit_misc::BitExtraction;
+use linker_base::relaxation::{DeltaSlice, SectionRelaxDeltas};
+use linker_base::rewrite::{has_window, overwrite};
+use linker_base::utils::u32_from_slice;
+use linker_elf::elf::RiscVInstruction;
+
+/// The least distance that `distance_fits_jal` accepts, in bytes.
+pub const JAL_MIN: i64 = -1048576;
+
+/// The greatest distance that `distance_fits_jal` accepts, in bytes. The J-immediate holds even
+/// distances, so that the greatest that `jal` reaches is one less.
+pub const JAL_MAX: i64 = 1048575;
+
+/// Whether a distance in bytes lies in the range of `jal`'s signed 21 bits, both ends included
+/// (RISC-V unprivileged ISA, "Unconditional Jumps").
+#[inline]
+pub fn distance_fits_jal(distance: i64) -> bool
+    ensures { IsTrue result ↔ IsJalDistance distance }
+{
+    JAL_MIN <= distance && distance <= JAL_MAX
+}
+
+#[inline]
+fn is_even(distance: i64) -> bool
+    ensures { IsTrue result ↔ IsEven distance }
+{
+    distance.cast_unsigned() % 2 == 0
+}
+
+/// The register that an instruction writes: its bits 7 to 11.
+#[inline(always)]
+#[tactic(auto, using(crate::proofs::Jumps::destination_bits))]
+pub(super) fn destination(word: u32) -> u32
+    ensures { result ≡ field word 7 12 }
+{
+    word >> 7 & 0x1f
+}
+
+/// Whether the eight bytes at a site of a section are a call that `CallToJal` makes a jump
+/// that links the same register: `auipc` and then `jalr` with the same register as base and as
+/// both destinations. (RISC-V ELF psABI, "Function Call Relaxation"; linkers take the register of
+/// the `jalr`, `CallToJal` that of the `auipc`.)
+pub fn is_plain_call(section: &[u8], site: u64) -> bool
+    ensures { IsTrue result ↔ IsPlainCall section.now site }
+{
+    if !has_window(section, site, 0, 8) {
+        return false;
+    }
+    let start = site as usize;
+    let auipc = u32_from_slice(&section[start..]);
+    let jalr = u32_from_slice(&section[start + 4..]);
+    is_call_pair(auipc, jalr) && destination(jalr) == destination(auipc)
+}
+
+/// Whether the words are an `auipc` and a `jalr` whose base is the register of the `auipc`.
+#[inline(always)]
+pub(super) fn is_call_pair(auipc: u32, jalr: u32) -> bool
+    ensures { IsTrue result ↔ IsCallPair auipc jalr }
+{
+    let (auipc, jalr) = (u64::from(auipc), u64::from(jalr));
+    auipc.extract_bit_range(0..7) == 0x17
+        && jalr.extract_bit_range(0..7) == 0x67
+        && jalr.extract_bit_range(12..15) == 0
+        && jalr.extract_bit_range(15..20) == auipc.extract_bit_range(7..12)
+}
+
+/// A call in a section, as C has it.
+#[repr(C)]
+#[derive(Debug, Clone, Copy, PartialEq, Eq)]
+pub struct Call {
+    /// The offset in the input section of the `auipc`.
+    pub site: u64,
+    /// The offset in the input section of what it calls.
+    pub target: u64,
+}
+
+/// A call in a section: a `Call`, or a pair of its site and its target. Others can't implement it.
+pub trait AsCall: Copy {
+    /// The call as a pair, in a contract.
+    ghost call: { Self → ℕ × ℕ };
+
+    /// The offsets of the call's first instruction and of what it calls.
+    fn as_call(self) -> (u64, u64)
+        ensures { result ≡ call self };
+}
+
+impl AsCall for Call {
+    ghost use Rattle.linker_riscv64.specs.Packing.{call_of};
+
+    ghost call = { call_of };
+
+    #[inline(always)]
+    fn as_call(self) -> (u64, u64) {
+        (self.site, self.target)
+    }
+}
+
+impl AsCall for (u64, u64) {
+    ghost call = { λ c. c };
+
+    #[inline(always)]
+    fn as_call(self) -> (u64, u64) {
+        self
+    }
+}
+
+/// Which register the jump of a call links: the destination of one of the call's instructions,
+/// bits 7 to 11.
+#[derive(Debug, Clone, Copy, PartialEq, Eq)]
+pub enum LinkRegister {
+    /// The register of the `auipc`, as `RelaxationKind::CallToJal` takes it. The call itself links
+    /// it only where `is_plain_call` holds.
+    OfAuipc,
+    /// The register of the `jalr`, which is the one that the call links and that linkers take:
+    /// x0 for `tail f`, t0 for `call t0, f`.
+    OfJalr,
+}
+
+impl LinkRegister {
+    /// How many bytes of a call say which register it is: 4 for `OfAuipc`, 8 for `OfJalr`.
+    #[inline(always)]
+    pub fn call_len(self) -> u64
+        ensures { result ≡ call_len self }
+    {
+        match self {
+            LinkRegister::OfAuipc => 4,
+            LinkRegister::OfJalr => 8,
+        }
+    }
+
+    /// The register, where a call at a site of a section names it: any `auipc` does, a `jalr` only
+    /// where its base is the register of an `auipc` before it. Requires `call_len` bytes at the
+    /// site.
+    #[inline(always)]
+    pub fn named_at(self, section: &[u8], site: u64) -> Option<u32>
+        requires { site + call_len self ≤ length section.now }
+        ensures none { IsNone result ↔ ¬ NamesRegister self section.now site }
+        ensures some { IfSome result
+            (λ register. NamesRegister self section.now site
+            × (register ≡ link_register self section.now site)) }
+    {
+        let start = site as usize;
+        let auipc = u32_from_slice(&section[start..]);
+        match self {
+            LinkRegister::OfAuipc => Some(destination(auipc)),
+            LinkRegister::OfJalr => {
+                let jalr = u32_from_slice(&section[start + 4..]);
+                if is_call_pair(auipc, jalr) {
+                    Some(destination(jalr))
+                } else {
+                    None
+                }
+            }
+        }
+    }
+}
+
+/// Why a call doesn't become a jump.
+#[derive(Debug, Clone, Copy, PartialEq, Eq)]
+pub enum CallError {
+    /// The four bytes at the site, or eight where the `jalr` says which register is linked, don't
+    /// lie in the section, or the target is past its end.
+    OutOfSection,
+    /// One of the four bytes at the site is deleted.
+    SiteDeleted,
+    /// The distance is odd.
+    OddDistance,
+    /// The distance is out of the range of `jal`.
+    TooFar,
+}
+
+/// Why a call doesn't become a jump that links the register that was chosen.
+#[derive(Debug, Clone, Copy, PartialEq, Eq)]
+pub enum JumpError {
+    /// For a cause that any choice has.
+    Call(CallError),
+    /// The register is that of the `jalr`, and the eight bytes at the site aren't an `auipc` and a
+    /// `jalr`, with 0 in its bits 12 to 14, whose base is the register of the `auipc`.
+    NotACall,
+}
+
+impl From<CallError> for JumpError {
+    ghost use Rattle.linker_riscv64.specs.declared.calls.JumpError.TheVariants.{Call};
+
+    ghost from_gives = { λ error e. e ≡ Call error };
+
+    fn from(error: CallError) -> JumpError {
+        JumpError::Call(error)
+    }
+}
+
+/// The distance from one offset to another, where both are below 2^63.
+#[inline(always)]
+pub(crate) fn distance_between(from: u64, to: u64) -> i64
+    ensures { from < 2 ^ 63 → to < 2 ^ 63 → result ≡ pos to -ℤ pos from }
+{
+    to.wrapping_sub(from).cast_signed()
+}
+
+/// Whether a `jal` jumps by a distance in bytes. The errors are `OddDistance` and `TooFar`, the
+/// first of them that applies.
+#[inline(always)]
+pub(super) fn test_distance(distance: i64) -> Result<(), CallError>
+    ensures accepted { IsOk result ↔ (IsEven distance × IsJalDistance distance) }
+    ensures odd_distance { (result ≡ Err CallError.OddDistance) ↔ ¬ IsEven distance }
+    ensures too_far { (result ≡ Err CallError.TooFar)
+        ↔ (IsEven distance × ¬ IsJalDistance distance) }
+    ensures listed { IfErr result
+        (λ error. (error ≡ CallError.OddDistance) ⊎ (error ≡ CallError.TooFar)) }
+{
+    if !is_even(distance) {
+        return Err(CallError::OddDistance);
+    }
+    if !distance_fits_jal(distance) {
+        return Err(CallError::TooFar);
+    }
+    Ok(())
+}
+
+/// Puts a `jal` by a distance in bytes, which links a register, in place of the four bytes at a
+/// site. The errors are `OddDistance` and `TooFar`, the first of them that applies.
+fn put_jal(section: &mut [u8], site: u64, register: u32, distance: i64) -> Result<(), CallError>
+    requires inside { site + 4 ≤ length section.old }
+    requires register_fits { register < 32 }
+    ensures jumps { OnOk result (JumpsAndLinks section.old section.new site register distance) }
+    ensures accepted { IsOk result ↔ (IsEven distance × IsJalDistance distance) }
+    ensures odd_distance { (result ≡ Err CallError.OddDistance) ↔ ¬ IsEven distance }
+    ensures too_far { (result ≡ Err CallError.TooFar)
+        ↔ (IsEven distance × ¬ IsJalDistance distance) }
+    ensures unchanged { OnErr result (section.new ≡ section.old) }
+{
+    test_distance(distance)?;
+    let jal = 0x6f | register << 7;
+    overwrite(section, site, &jal.to_le_bytes());
+    let jal = &mut section[site as usize..];
+    RiscVInstruction::JType.write_to_value(distance.cast_unsigned(), distance < 0, jal);
+    Ok(())
+}
+
+/// Turns the `auipc` at a site of a section into a `jal` by a distance in bytes, with the `auipc`'s
+/// destination register: `CallToJal` and then the J-immediate. `is_plain_call` tells whether the
+/// call links that register; `jal_site_with` takes the `jalr`'s.
+///
+/// On an error the section is unchanged. The errors are `OutOfSection`, `OddDistance` and `TooFar`,
+/// the first of them that applies.
+pub fn jal_site(section: &mut [u8], site: u64, distance: i64) -> Result<(), CallError>
+    ensures jumps { OnOk result (JumpsAt section.old section.new site distance) }
+    ensures accepted { IsOk result
+        ↔ ((site + 4 ≤ length section.old) × IsEven distance × IsJalDistance distance) }
+
+    ensures out_of_section { (result ≡ Err CallError.OutOfSection)
+        ↔ (length section.old < site + 4) }
+    ensures odd_distance { (result ≡ Err CallError.OddDistance)
+        ↔ ((site + 4 ≤ length section.old) × ¬ IsEven distance) }
+    ensures too_far { (result ≡ Err CallError.TooFar)
+        ↔ ((site + 4 ≤ length section.old) × IsEven distance × ¬ IsJalDistance distance) }
+    ensures unchanged { OnErr result (section.new ≡ section.old) }
+{
+    if !has_window(section, site, 0, 4) {
+        return Err(CallError::OutOfSection);
+    }
+    let auipc = u32_from_slice(&section[site as usize..]);
+    put_jal(section, site, destination(auipc), distance)
+}
+
+/// Replaces the call at a site of a section by a `jal` over a distance in bytes. The jump is in
+/// place of the `auipc`, links the register that is chosen, and leaves all other bytes as they
+/// were. Linkers take the register of the `jalr`, which `tail f` and `call t0, f` need (RISC-V ELF
+/// psABI, "Function Call Relaxation").
+///
+/// On an error the section is unchanged. The errors are `OutOfSection`, `NotACall`, `OddDistance`
+/// and `TooFar`, the first of them that applies. With `OfAuipc` four bytes have to lie in the
+/// section, and any four are taken; with `OfJalr` it is eight, and they have to be a call.
+pub fn jal_site_with(
+    section: &mut [u8],
+    site: u64,
+    distance: i64,
+    link: LinkRegister,
+) -> Result<(), JumpError>
+    ensures jumps { OnOk result
+        (JumpsAndLinks section.old section.new site (link_register link section.old site)
+        distance) }
+    ensures accepted { IsOk result
+        ↔ ((site + call_len link ≤ length section.old) × NamesRegister link section.old site
+        × IsEven distance × IsJalDistance distance) }
+
+    ensures out_of_section { (result ≡ Err (JumpError.Call CallError.OutOfSection))
+        ↔ (length section.old < site + call_len link) }
+    ensures not_a_call { (result ≡ Err JumpError.NotACall)
+        ↔ ((site + call_len link ≤ length section.old) × ¬ NamesRegister link section.old site) }
+    ensures odd_distance { (result ≡ Err (JumpError.Call CallError.OddDistance))
+        ↔ ((site + call_len link ≤ length section.old) × NamesRegister link section.old site
+        × ¬ IsEven distance) }
+    ensures too_far { (result ≡ Err (JumpError.Call CallError.TooFar))
+        ↔ ((site + call_len link ≤ length section.old) × NamesRegister link section.old site
+        × IsEven distance
+        × ¬ IsJalDistance distance) }
+    ensures unchanged { OnErr result (section.new ≡ section.old) }
+{
+    if !has_window(section, site, 0, link.call_len()) {
+        return Err(JumpError::Call(CallError::OutOfSection));
+    }
+    let Some(register) = link.named_at(section, site) else {
+        return Err(JumpError::NotACall);
+    };
+    put_jal(section, site, register, distance)?;
+    Ok(())
+}
+
+/// Replaces a call by a jump as `jal_site` does, in a section whose bytes are where they were
+/// before the deletions: the distance is that from the site's output offset to the target's, so
+/// that the jump is right once the deleted bytes are gone. A target inside a deletion is what
+/// follows the deletion. The target may be the section's end.
+///
+/// On an error the section is unchanged. The errors are `OutOfSection`, `SiteDeleted`,
+/// `OddDistance` and `TooFar`, the first of them that applies.
+///
+/// The jump links the register of the `auipc`, which for a plain call is the `jalr`'s too:
+/// `is_plain_call` tells these from others, as `tail f`.
+pub fn relax_call(
+    section: &mut [u8],
+    deltas: &SectionRelaxDeltas,
+    site: u64,
+    target: u64,
+) -> Result<(), CallError>
+    ensures jumps { OnOk result
+        (JumpsAt section.old section.new site (output_distance deltas.now site target)) }
+    ensures accepted { IsOk result
+        ↔ (IsInSection section.old site target × IsSiteKept deltas.now site
+        × IsEven (output_distance deltas.now site target)
+        × IsJalDistance (output_distance deltas.now site target)) }
+
+    ensures out_of_section { (result ≡ Err CallError.OutOfSection)
+        ↔ ¬ IsInSection section.old site target }
+    ensures site_deleted { (result ≡ Err CallError.SiteDeleted)
+        ↔ (IsInSection section.old site target × ¬ IsSiteKept deltas.now site) }
+    ensures odd_distance { (result ≡ Err CallError.OddDistance)
+        ↔ (IsInSection section.old site target × IsSiteKept deltas.now site
+        × ¬ IsEven (output_distance deltas.now site target)) }
+    ensures too_far { (result ≡ Err CallError.TooFar)
+        ↔ (IsInSection section.old site target × IsSiteKept deltas.now site
+        × IsEven (output_distance deltas.now site target)
+        × ¬ IsJalDistance (output_distance deltas.now site target)) }
+    ensures unchanged { OnErr result (section.new ≡ section.old) }
+{
+    relax_call_over(section, &deltas.as_delta_slice(), site, target)
+}
+
+/// `relax_call` over deltas that anyone owns. It is safe for any deltas, and does what `relax_call`
+/// does where they are valid. It takes three searches.
+pub fn relax_call_over(
+    section: &mut [u8],
+    deltas: &DeltaSlice<'_>,
+    site: u64,
+    target: u64,
+) -> Result<(), CallError>
+    ensures jumps { IsValidView deltas.now
+        → OnOk result (JumpsAt section.old section.new site
+        (output_distance (deletions_of deltas.now.deltas) site target)) }
+    ensures accepted { IsValidView deltas.now → (IsOk result
+        ↔ (IsInSection section.old site target × IsSiteKept (deletions_of deltas.now.deltas) site
+        × IsEven (output_distance (deletions_of deltas.now.deltas) site target)
+        × IsJalDistance (output_distance (deletions_of deltas.now.deltas) site target))) }
+
+    ensures out_of_section { (result ≡ Err CallError.OutOfSection)
+        ↔ ¬ IsInSection section.old site target }
+    ensures site_deleted { IsValidView deltas.now → ((result ≡ Err CallError.SiteDeleted)
+        ↔ (IsInSection section.old site target × ¬ IsSiteKept (deletions_of deltas.now.deltas)
+        site)) }
+    ensures odd_distance { IsValidView deltas.now → ((result ≡ Err CallError.OddDistance)
+        ↔ (IsInSection section.old site target × IsSiteKept (deletions_of deltas.now.deltas) site
+        × ¬ IsEven (output_distance (deletions_of deltas.now.deltas) site target))) }
+    ensures too_far { IsValidView deltas.now → ((result ≡ Err CallError.TooFar)
+        ↔ (IsInSection section.old site target × IsSiteKept (deletions_of deltas.now.deltas) site
+        × IsEven (output_distance (deletions_of deltas.now.deltas) site target)
+        × ¬ IsJalDistance (output_distance (deletions_of deltas.now.deltas) site target))) }
+    ensures unchanged { OnErr result (section.new ≡ section.old) }
+{
+    if !has_window(section, site, 0, 4) || target > section.len() as u64 {
+        return Err(CallError::OutOfSection);
+    }
+    let Some(from) = deltas.kept_output_offset(site, 4) else {
+        return Err(CallError::SiteDeleted);
+    };
+    let to = deltas.input_to_output_offset(target);
+    let auipc = u32_from_slice(&section[site as usize..]);
+    put_jal(
+        section,
+        site,
+        destination(auipc),
+        distance_between(from, to),
+    )
+}

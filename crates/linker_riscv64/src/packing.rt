@@ -1,0 +1,371 @@
+//! The kept bytes of a section, with its calls made jumps.
+
+ghost use Rattle.std.specs.Prelude.{◌≡◌, ◌≤◌, ◌<◌, ◌+◌, ◌-◌, ◌^◌, ◌++◌, ◌↔◌, ℕ, min, map, take};
+ghost use Rattle.std.specs.Prelude.{drop, length, All, IsTrue, IsOk, IfOk, IfErr, OnOk, OnErr};
+ghost use Rattle.std.specs.Prelude.{MatchOption};
+ghost use Rattle.linker_base.specs.Deletions.{rank};
+ghost use Rattle.linker_base.specs.Deltas.{deletions_of};
+ghost use Rattle.linker_base.specs.Listed.{AreValidDeltas};
+ghost use Rattle.linker_riscv64.specs.Inner.Packing.{IsFilled, IsPackedTo, IsJumpOf};
+ghost use Rattle.linker_riscv64.specs.Packing.{AreApart, IsFirstNotApart, CanJump, IsRejected};
+ghost use Rattle.linker_riscv64.specs.Packing.{IsFirstRejected, IsFirstFailing, IsPacked};
+ghost use Rattle.linker_riscv64.specs.Packing.{PackedCallsReachTargets};
+ghost use Rattle.linker_riscv64.specs.RiscVCalls.{IsEven, IsJalDistance, IsSiteKept, JumpsAndLinks};
+ghost use Rattle.linker_riscv64.specs.RiscVCalls.{call_len, link_register, output_distance};
+
+use super::calls::{
+    AsCall, CallError, JumpError, LinkRegister, distance_between, jal_site, test_distance,
+};
+use linker_base::relaxation::{DeltaSlice, RelaxDelta, SectionRelaxDeltas};
+use linker_base::rewrite::{has_window, overwrite};
+use std::alloc::{AllocError, AllocFailed, Global};
+
+/// The first of some calls that can't become a jump.
+#[derive(Debug, Clone, Copy, PartialEq, Eq)]
+pub struct RejectedCall {
+    /// Its index among the calls.
+    pub index: usize,
+    /// Why it can't.
+    pub error: JumpError,
+}
+
+/// Why a section isn't packed.
+#[derive(Debug, Clone, Copy, PartialEq, Eq)]
+pub enum PackError {
+    /// Out of memory for the packed section.
+    OutOfMemory,
+    /// The first call that can't become a jump.
+    Call {
+        /// Its index among the calls.
+        index: usize,
+        /// Why it can't.
+        error: CallError,
+    },
+}
+
+impl From<AllocError> for PackError {
+    ghost use Rattle.linker_riscv64.specs.declared.packing.PackError.TheVariants.{OutOfMemory};
+
+    ghost from_gives = { λ _ e. e ≡ OutOfMemory };
+
+    fn from(_error: AllocError) -> PackError {
+        PackError::OutOfMemory
+    }
+}
+
+impl<T: Drop> From<AllocFailed<T>> for PackError {
+    ghost use Rattle.linker_riscv64.specs.declared.packing.PackError.TheVariants.{OutOfMemory};
+
+    ghost from_gives = { λ _ e. e ≡ OutOfMemory };
+
+    fn from(_error: AllocFailed<T>) -> PackError {
+        PackError::OutOfMemory
+    }
+}
+
+/// The output offset of an input offset.
+#[inline(always)]
+pub(super) fn to_output_offset(deltas: &[RelaxDelta], input_offset: u64) -> u64
+    ensures { AreValidDeltas deltas.now → result ≡ rank (deletions_of deltas.now) input_offset }
+{
+    if deltas.is_empty() {
+        return input_offset;
+    }
+    DeltaSlice::new(deltas).input_to_output_offset(input_offset)
+}
+
+/// The output offset of the four bytes at a site, or none where one of them is deleted.
+#[inline(always)]
+fn site_output_offset(deltas: &[RelaxDelta], site: u64) -> Option<u64>
+    requires { site + 4 < 2 ^ 64 }
+    ensures { AreValidDeltas deltas.now
+        → MatchOption result (¬ IsSiteKept (deletions_of deltas.now) site)
+        (λ output. IsSiteKept (deletions_of deltas.now) site
+        × (output ≡ rank (deletions_of deltas.now) site)) }
+{
+    DeltaSlice::new(deltas).kept_output_offset(site, 4)
+}
+
+/// The index of the first call whose site is less than 4 above the site before it. None where the
+/// sites ascend by at least 4.
+#[inline]
+pub fn first_not_apart<C: AsCall>(calls: &[C]) -> Option<usize>
+    ensures { MatchOption result (AreApart (map C.call calls.now))
+        (IsFirstNotApart (map C.call calls.now)) }
+{
+    for index in 1..calls.len() {
+        let (before, _) = calls[index - 1].as_call();
+        let (site, _) = calls[index].as_call();
+        if site.saturating_sub(before) < 4 {
+            return Some(index);
+        }
+    }
+    None
+}
+
+/// Whether the sites of calls, each a site and a target, ascend by at least 4.
+pub fn calls_apart(calls: &[(u64, u64)]) -> bool
+    ensures { IsTrue result ↔ AreApart calls.now }
+{
+    first_not_apart(calls).is_none()
+}
+
+/// The bytes of a section from an offset up to another, as far as they lie in the section.
+#[inline(always)]
+fn between(section: &[u8], from: u64, to: u64) -> &[u8]
+    ensures { result.now
+        ≡ take (min to (length section.now) - min from (length section.now))
+        (drop (min from (length section.now)) section.now) }
+{
+    let len = section.len();
+    let start = (from.min(len as u64)) as usize;
+    let end = (to.min(len as u64)) as usize;
+    if start < end {
+        &section[start..end]
+    } else {
+        &[]
+    }
+}
+
+/// Puts bytes at an output offset of the packed section, as far as they fit there, and returns the
+/// offset behind them.
+#[inline(always)]
+fn put(packed: &mut [u8], output_offset: usize, bytes: &[u8]) -> usize
+    requires { output_offset ≤ length packed.old }
+    ensures bytes { packed.new
+        ≡ take output_offset packed.old ++ take (length packed.old - output_offset) bytes.now
+        ++ drop (output_offset + length bytes.now) packed.old }
+    ensures end { result
+        ≡ output_offset + min (length bytes.now) (length packed.old - output_offset) }
+{
+    let len = bytes.len().min(packed.len() - output_offset);
+    let end = output_offset + len;
+    packed[output_offset..end].copy_from_slice(&bytes[..len]);
+    end
+}
+
+/// Copies the kept bytes of a section.
+fn copy_kept(section: &[u8], deltas: &[RelaxDelta], packed: &mut [u8])
+    ensures { AreValidDeltas deltas.now
+        → length packed.old ≡ rank (deletions_of deltas.now) (length section.now)
+        → IsFilled (deletions_of deltas.now) section.now (length section.now) packed.new }
+{
+    let mut from = 0;
+    let mut output_offset = 0;
+    for delta in deltas {
+        let run = between(section, from, delta.input_offset);
+        output_offset = put(packed, output_offset, run);
+        from = delta
+            .input_offset
+            .saturating_add(u64::from(delta.bytes_deleted));
+    }
+    let run = between(section, from, section.len() as u64);
+    let _end = put(packed, output_offset, run);
+}
+
+/// Where the jump of a call goes in the packed section, and how far it jumps.
+#[derive(Clone, Copy)]
+struct Jump {
+    output_offset: u64,
+    distance: i64,
+}
+
+/// The jump that a call becomes, or why it can't.
+fn jump_of(
+    section: &[u8],
+    deltas: &[RelaxDelta],
+    site: u64,
+    target: u64,
+    link: LinkRegister,
+) -> Result<Jump, JumpError>
+    ensures inside { OnOk result (site + call_len link ≤ length section.now) }
+    ensures ok { AreValidDeltas deltas.now
+        → IfOk result (IsJumpOf link (deletions_of deltas.now) section.now (site, target)) }
+    ensures err { AreValidDeltas deltas.now
+        → IfErr result (IsRejected link (deletions_of deltas.now) section.now (site, target)) }
+{
+    if !has_window(section, site, 0, link.call_len()) || target > section.len() as u64 {
+        return Err(JumpError::Call(CallError::OutOfSection));
+    }
+    let Some(output_offset) = site_output_offset(deltas, site) else {
+        return Err(JumpError::Call(CallError::SiteDeleted));
+    };
+    let Some(_register) = link.named_at(section, site) else {
+        return Err(JumpError::NotACall);
+    };
+    let distance = distance_between(output_offset, to_output_offset(deltas, target));
+    test_distance(distance)?;
+    Ok(Jump {
+        output_offset,
+        distance,
+    })
+}
+
+/// Whether each call can become a jump; the error is that of the first that can't.
+fn test_calls<C: AsCall>(
+    section: &[u8],
+    deltas: &[RelaxDelta],
+    calls: &[C],
+    link: LinkRegister,
+) -> Result<(), RejectedCall>
+    ensures ok { AreValidDeltas deltas.now
+        → OnOk result (All (CanJump link (deletions_of deltas.now) section.now)
+        (map C.call calls.now)) }
+    ensures err { AreValidDeltas deltas.now
+        → IfErr result (λ rejected.
+        IsFirstRejected link (deletions_of deltas.now) section.now (map C.call calls.now)
+        rejected.index rejected.error) }
+{
+    for index in 0..calls.len() {
+        let (site, target) = calls[index].as_call();
+        if let Err(error) = jump_of(section, deltas, site, target, link) {
+            return Err(RejectedCall { index, error });
+        }
+    }
+    Ok(())
+}
+
+/// Puts a jump into the packed section, where four bytes are there.
+fn put_jump(section: &[u8], site: u64, link: LinkRegister, jump: Jump, packed: &mut [u8])
+    requires { site + call_len link ≤ length section.now }
+    ensures { jump.output_offset + 4 ≤ length packed.old → IsEven jump.distance
+        → IsJalDistance jump.distance
+        → JumpsAndLinks packed.old packed.new jump.output_offset
+        (link_register link section.now site) jump.distance }
+{
+    if !has_window(packed, jump.output_offset, 0, 4) {
+        return;
+    }
+    // `jal_site` links the register of the instruction that it replaces.
+    let start = (site + link.call_len() - 4) as usize;
+    overwrite(packed, jump.output_offset, &section[start..start + 4]);
+    let _ = jal_site(packed, jump.output_offset, jump.distance);
+}
+
+/// Puts the jump of a call into the packed section, where it can become one.
+fn put_call(
+    section: &[u8],
+    deltas: &[RelaxDelta],
+    site: u64,
+    target: u64,
+    link: LinkRegister,
+    packed: &mut [u8],
+)
+    ensures { AreValidDeltas deltas.now
+        → length packed.old ≡ rank (deletions_of deltas.now) (length section.now)
+        → CanJump link (deletions_of deltas.now) section.now (site, target)
+        → JumpsAndLinks packed.old packed.new (rank (deletions_of deltas.now) site)
+        (link_register link section.now site)
+        (output_distance (deletions_of deltas.now) site target) }
+{
+    if let Ok(jump) = jump_of(section, deltas, site, target, link) {
+        put_jump(section, site, link, jump, packed);
+    }
+}
+
+/// Puts the jumps of all calls into the packed section.
+fn put_calls<C: AsCall>(
+    section: &[u8],
+    deltas: &[RelaxDelta],
+    calls: &[C],
+    link: LinkRegister,
+    packed: &mut [u8],
+)
+    ensures { AreValidDeltas deltas.now
+        → length packed.old ≡ rank (deletions_of deltas.now) (length section.now)
+        → AreApart (map C.call calls.now)
+        → All (CanJump link (deletions_of deltas.now) section.now) (map C.call calls.now)
+        → IsFilled (deletions_of deltas.now) section.now (length section.now) packed.old
+        → IsPacked link (deletions_of deltas.now) section.now (map C.call calls.now) packed.new }
+{
+    for index in 0..calls.len() {
+        let (site, target) = calls[index].as_call();
+        put_call(section, deltas, site, target, link, packed);
+    }
+}
+
+/// How many bytes of a section are kept: as many as it takes when it is packed.
+#[inline]
+pub fn packed_len(section: &[u8], deltas: &[RelaxDelta]) -> usize
+    ensures { AreValidDeltas deltas.now
+        → result ≡ rank (deletions_of deltas.now) (length section.now) }
+{
+    to_output_offset(deltas, section.len() as u64) as usize
+}
+
+/// Packs a section into memory of the caller's: its kept bytes in order, and at each call's site,
+/// in place of the `auipc`, a `jal` to where the target goes, which links the register that is
+/// chosen. A deletion that reaches past the section's end deletes up to there, and one past it
+/// nothing.
+///
+/// Requires sites that ascend by at least 4 (`calls_apart`), and an output of `packed_len` bytes.
+/// The deltas are as `SectionRelaxDeltas::deltas` lists them (`DeltaSlice::has_valid_deltas`); of
+/// others nothing is promised but that the call is safe. The error tells the first call that can't
+/// become a jump, and nothing is written then. It takes O(section + deltas + calls log deltas).
+pub fn pack_into<C: AsCall>(
+    section: &[u8],
+    deltas: &[RelaxDelta],
+    calls: &[C],
+    link: LinkRegister,
+    out: &mut [u8],
+) -> Result<(), RejectedCall>
+    requires apart { AreApart (map C.call calls.now) }
+    requires room { AreValidDeltas deltas.now
+        → length out.old ≡ rank (deletions_of deltas.now) (length section.now) }
+    ensures packed { AreValidDeltas deltas.now
+        → OnOk result (IsPacked link (deletions_of deltas.now) section.now (map C.call calls.now)
+        out.new) }
+    ensures accepted { AreValidDeltas deltas.now
+        → OnOk result (All (CanJump link (deletions_of deltas.now) section.now)
+        (map C.call calls.now)) }
+    ensures rejected { AreValidDeltas deltas.now
+        → IfErr result (λ rejected.
+        IsFirstRejected link (deletions_of deltas.now) section.now (map C.call calls.now)
+        rejected.index rejected.error) }
+    ensures unchanged { OnErr result (out.new ≡ out.old) }
+{
+    test_calls(section, deltas, calls, link)?;
+    copy_kept(section, deltas, out);
+    put_calls(section, deltas, calls, link, out);
+    Ok(())
+}
+
+/// A section packed: its kept bytes in order, and at each call's site, in place of the `auipc`, a
+/// `jal` to where the target goes, with the `auipc`'s destination register.
+/// A deletion that reaches past the section's end deletes up to there, and one past it nothing.
+///
+/// Requires sites that ascend by at least 4 (`calls_apart`). It allocates once, before it looks
+/// at the calls, and O(section + deltas + calls log deltas). `pack_into` links the register of the
+/// `jalr`, which `tail f` and `call t0, f` need.
+pub fn pack_section(
+    alloc: Global,
+    section: &[u8],
+    deltas: &SectionRelaxDeltas,
+    calls: &[(u64, u64)],
+) -> Result<Vec<u8>, PackError>
+    requires { AreApart calls.now }
+    ensures packed { IfOk result
+        (λ packed. IsPacked LinkRegister.OfAuipc deltas.now section.now calls.now packed.items) }
+    ensures accepted { OnOk result
+        (All (CanJump LinkRegister.OfAuipc deltas.now section.now) calls.now) }
+    ensures rejected { IfErr result (IsFirstFailing deltas.now section.now calls.now) }
+{
+    let deltas = deltas.deltas();
+    let mut packed = vec![in alloc; 0; packed_len(section, deltas)]?;
+    match pack_into(section, deltas, calls, LinkRegister::OfAuipc, &mut packed) {
+        Ok(()) => Ok(packed),
+        Err(rejected) => match rejected.error {
+            JumpError::Call(error) => Err(PackError::Call {
+                index: rejected.index,
+                error,
+            }),
+            JumpError::NotACall => unreachable!(),
+        },
+    }
+}
+
+/// In a packed section each call that was listed is a jump from where its site goes to where its
+/// target goes.
+pub fn packed_calls_reach_targets()
+    ensures { PackedCallsReachTargets }
+{}

@@ -1,0 +1,11 @@
+use Rattle.std.proofs.Common.{◌≡◌, length, map, take, vec_len}
+use Rattle.std.specs.Vec.{vec_capacity}
+use Rattle.linker_utils_c.specs.Deltas.{pair_of_key, pairs_in}
+use Rattle.linker_utils_c.proofs.merges.keys.Given as goal
+
+abbrev pub invariant-loop-deletion : goal.invariant-loop-deletion
+invariant-loop-deletion l = record {
+  room : vec_capacity l.keys ≡ length l.deletions;
+  pushed : vec_len l.keys ≡ l.deletion-index;
+  same : map pair_of_key l.keys.items ≡ take l.deletion-index (pairs_in l.deletions);
+}

@@ -1,0 +1,3 @@
+pub mod X86Bytes
+pub mod X86Choices
+pub mod X86Originals

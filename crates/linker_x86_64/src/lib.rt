@@ -1,0 +1,9 @@
+//! x86-64: relaxation rewrites, and what relocations mean.
+#![tactic(auto)]
+
+mod choices;
+mod rewrites;
+
+pub use choices::choose;
+pub use linker_elf::x86_64::{X86_64Relocation, relocation_from_raw, row};
+pub use rewrites::RelaxationKind;

@@ -1,7 +1,0 @@
-//! Test vectors of LoongArch.
-#![tactic(auto)]
-
-#[cfg(test)]
-mod loongarch64;
-#[cfg(test)]
-mod rows;

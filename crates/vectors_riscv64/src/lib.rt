@@ -1,7 +1,0 @@
-//! Test vectors of RISC-V.
-#![tactic(auto)]
-
-#[cfg(test)]
-mod riscv64;
-#[cfg(test)]
-mod rows;

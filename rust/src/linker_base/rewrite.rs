@@ -1,0 +1,32 @@
+// Made by tools/erase of crates/linker_base/src/rewrite.rt.
+//! What the rewrites of all architectures share.
+
+/// The bytes that a linker deletes after a rewrite.
+#[derive(Debug, Clone, Copy, PartialEq, Eq, Hash)]
+pub struct DeletedBytes {
+    /// Where they begin, in bytes from the rewrite's offset.
+    pub start: u64,
+    /// How many they are.
+    pub count: u32,
+}
+
+/// Whether the `len` bytes that begin `back` bytes below `offset` lie in the section.
+#[must_use]
+#[inline(always)]
+pub fn has_window(section: &[u8], offset: u64, back: u64, len: u64) -> bool {
+    let section_len = section.len() as u64;
+    back <= offset && len <= section_len && offset - back <= section_len - len
+}
+
+/// Overwrites bytes at an offset of the section.
+///
+/// # Requires
+///
+/// - `(at as u128) + (bytes.len() as u128) <= (section.len() as u128)`
+#[cfg_attr(debug_assertions, track_caller)]
+#[inline(always)]
+pub fn overwrite(section: &mut [u8], at: u64, bytes: &[u8]) {
+    debug_assert!((at as u128) + (bytes.len() as u128) <= (section.len() as u128));
+    let start = at as usize;
+    section[start..start + bytes.len()].copy_from_slice(bytes);
+}

@@ -1,0 +1,20 @@
+// Made by tools/erase of crates/vectors/src/lib.rt.
+//! `poke`, which uses only the interface of instruction forms, and tests of calls that take memory,
+//! which have to run as the prover's compiler built them.
+
+#![allow(unused_imports, reason = "some are there for contracts alone")]
+#![allow(clippy::complexity, clippy::style, reason = "the text is that of the proved source")]
+
+extern crate alloc;
+
+#[macro_use]
+#[path = "../../src/support.rs"]
+mod support;
+
+pub mod poke;
+#[cfg(test)]
+mod refused_growth;
+#[cfg(test)]
+mod rows;
+#[cfg(test)]
+mod taken_memory;

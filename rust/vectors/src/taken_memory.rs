@@ -1,0 +1,122 @@
+// Made by tools/erase of crates/vectors/src/taken_memory.rt.
+//! How often calls allocate. Each test allocates as often as its name says:
+//! `tools/test_refused_growth` counts.
+
+use crate::support::*;
+use crate::refused_growth::{MARKED_CALL, NOPS, many_calls};
+use crate::rows::expect_eq;
+use linker_utils::runs::relaxation::{are_items, relax};
+use linker_utils::runs::{loongarch64, riscv64};
+use linker_utils::relaxation::{
+    RelaxDeltaMap, SectionRelaxDeltas, calls_apart, calls_shrinkable, pack_section, shrink_calls,
+};
+
+const FEW: [(u64, u32); 2] = [(8, 4), (16, 4)];
+
+/// So many deletions that the heads of their blocks are listed too.
+fn many() -> [(u64, u32); 1025] {
+    let mut deletions = [(0, 4); 1025];
+    for at in 0..1025 {
+        deletions[at] = (8 * at as u64, 4);
+    }
+    deletions
+}
+
+// none of no deletions, the deltas of a few, and the heads of many too
+#[test]
+fn lists_and_their_copies_take_6() -> Result<(), Fail> {
+    let many = many();
+    for raw in [[].as_slice(), &FEW, &many] {
+        assert!(SectionRelaxDeltas::is_valid(raw));
+        let copy = SectionRelaxDeltas::new(raw)?.try_clone()?;
+        expect_eq(raw, copy.deltas().len(), raw.len());
+    }
+    Ok(())
+}
+
+// the deltas of a few; a copy of pairs that don't ascend too; and the heads of many
+#[test]
+fn merges_take_5() -> Result<(), Fail> {
+    let many = many();
+    for more in [[].as_slice(), &FEW, &[(16, 4), (8, 4)], &many] {
+        let mut deltas = SectionRelaxDeltas::new(&[])?;
+        assert!(deltas.is_mergeable(more));
+        deltas.merge_additional(more)?;
+        expect_eq(more, deltas.deltas().len(), more.len());
+    }
+    Ok(())
+}
+
+// the batches themselves, which are two; then none of empty ones, and the deltas and a copy
+#[test]
+fn batches_take_4() -> Result<(), Fail> {
+    let batches = try_vec![Vec::new(), FEW.fallible_to_vec()?]?;
+    for (first, count) in [(&batches[..1], 0), (&batches[..], 2)] {
+        let mut deltas = SectionRelaxDeltas::new(&[])?;
+        assert!(deltas.are_mergeable(first));
+        deltas.merge_all(first)?;
+        expect_eq(first.len(), deltas.deltas().len(), count);
+    }
+    Ok(())
+}
+
+// the deltas of a section and the map's entries, and the same of a copy
+#[test]
+fn maps_and_their_copies_take_4() -> Result<(), Fail> {
+    let mut map = RelaxDeltaMap::new();
+    assert!(map.try_clone()?.is_empty());
+    assert!(SectionRelaxDeltas::is_valid(&FEW));
+    let deltas = SectionRelaxDeltas::new(&FEW)?;
+    assert_eq!(map.last_index(), None);
+    if map.insert(3, deltas).is_err() {
+        return Err(Fail::from("no memory"));
+    }
+    expect_eq(
+        "map.clone()?.last_index()",
+        map.try_clone()?.last_index(),
+        Some(3),
+    );
+    Ok(())
+}
+
+// what each returns
+#[test]
+fn packing_and_choosing_take_2() -> Result<(), Fail> {
+    let none = SectionRelaxDeltas::new(&[])?;
+    let calls = [(0, 8)];
+    assert!(calls_apart(&calls) && calls_shrinkable(&none, &calls));
+    let packed = pack_section(
+        &[0x97, 0, 0, 0, 0xe7, 0x80, 0, 0],
+        &none,
+        &calls,
+    );
+    assert!(packed.is_ok());
+    expect_eq(
+        "shrink_calls(rt.alloc(), &none, &calls)?.len()",
+        shrink_calls(&none, &calls)?.len(),
+        1,
+    );
+    Ok(())
+}
+
+// none for an empty run but that of `freed`, six for a few items, and one more for many deletions
+#[test]
+fn runs_take_14() -> Result<(), Fail> {
+    let items = many_calls();
+    for run in [&items[..0], &items[..2], &items[..]] {
+        assert!(are_items(run, 0));
+        assert_eq!(relax(run, 0)?.shapes.len(), run.len());
+    }
+    Ok(())
+}
+
+// what each returns
+#[test]
+fn items_of_relocations_take_2() -> Result<(), Fail> {
+    let call = [0x97, 0, 0, 0, 0xe7, 0x80, 0, 0];
+    let calls = riscv64::items(&call, 0, &MARKED_CALL, true)?;
+    assert_eq!(calls.len(), 1);
+    let nops = loongarch64::items(&[0; 12], 0, &NOPS)?;
+    assert_eq!(nops.len(), 1);
+    Ok(())
+}

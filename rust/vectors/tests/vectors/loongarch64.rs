@@ -1,0 +1,226 @@
+//! LoongArch: what assemblers and linkers write, and values worked by hand.
+
+mod assembled;
+mod choices;
+mod linked;
+mod relaxed;
+
+use assembled::{BRANCH_21, BRANCH_26, SHIFT_5, SHIFT_10};
+use linked::{ABSOLUTE, CALL_36, FIVE, PAGE_PAIR};
+use linker_utils::bit_misc::BitExtraction;
+use linker_utils::elf::{InstructionForm, LoongArch64Instruction, RelocationSize};
+use linker_utils::loongarch64::{
+    LoongArch64Relocation, RelaxationKind, highest_relocation_with_bias, relocation_type_from_raw,
+    write_address_sequence,
+};
+use linker_utils::utils::u32_from_slice;
+
+fn written(form: LoongArch64Instruction, before: u64, value: u64) -> u64 {
+    let mut bytes = before.to_le_bytes();
+    assert!(form.window() <= 8);
+    assert!(form.fits(value, &bytes));
+    form.write_to_value(value, false, &mut bytes);
+    u64::from_le_bytes(bytes)
+}
+
+fn read(form: LoongArch64Instruction, word: u64) -> (u64, bool) {
+    let bytes = word.to_le_bytes();
+    assert!(form.window() <= 8);
+    form.read_value(&bytes)
+}
+
+/// The word after a relocation's bits of the value are written to it.
+fn relocated(name: LoongArch64Relocation, before: u32, value: u64) -> u32 {
+    let info = relocation_type_from_raw(name).expect("a row");
+    let mut bytes = before.to_le_bytes();
+    match info.size {
+        RelocationSize::BitMasking { range, insn } => {
+            assert!(range.start < range.end && range.end <= 64);
+            let bits = value.extract_bit_range(range.start as u32..range.end as u32);
+            assert!(insn.window() <= 4);
+            assert!(insn.fits(bits, &bytes));
+            insn.write(bits, false, &mut bytes);
+        }
+        RelocationSize::ByteSize(_) => panic!("{name:?} is not of bits of an instruction"),
+    }
+    u32::from_le_bytes(bytes)
+}
+
+#[test]
+fn immediates_match_assemblers() {
+    for (before, value, after) in SHIFT_5 {
+        assert_eq!(
+            written(LoongArch64Instruction::Shift5, before, value),
+            after,
+            "{value:?}, {before:?}"
+        );
+        assert_eq!(
+            read(LoongArch64Instruction::Shift5, after),
+            (value, false),
+            "{value:?}, {before:?}"
+        );
+    }
+    for (before, value, after) in SHIFT_10 {
+        assert_eq!(
+            written(LoongArch64Instruction::Shift10, before, value),
+            after,
+            "{value:?}, {before:?}"
+        );
+        let (low, negative) = read(LoongArch64Instruction::Shift10, after);
+        assert_eq!(low, value.low_bits(12), "{value:?}, {before:?}");
+        assert!(!negative, "{value} in {before}");
+    }
+}
+
+#[test]
+fn branches_match_assemblers() {
+    for (before, value, after, distance) in BRANCH_26 {
+        assert_eq!(
+            written(LoongArch64Instruction::Branch26, before, value),
+            after,
+            "{value:?}, {before:?}"
+        );
+        assert_eq!(
+            read(LoongArch64Instruction::Branch26, after),
+            (distance.cast_unsigned(), distance < 0),
+            "{value:?}, {before:?}"
+        );
+    }
+    for (before, value, after, distance) in BRANCH_21 {
+        assert_eq!(
+            written(LoongArch64Instruction::Branch21, before, value),
+            after,
+            "{value:?}, {before:?}"
+        );
+        assert_eq!(
+            read(LoongArch64Instruction::Branch21, after),
+            (distance.cast_unsigned(), distance < 0),
+            "{value:?}, {before:?}"
+        );
+    }
+}
+
+#[test]
+fn calls_match_linkers() {
+    for (value, after, distance) in CALL_36 {
+        assert_eq!(distance.cast_unsigned().low_bits(36), value, "{value:?}");
+        assert_eq!(
+            written(LoongArch64Instruction::Call36, 0x4c00_0021_1e00_0001, value),
+            after,
+            "{value:?}"
+        );
+        assert_eq!(read(LoongArch64Instruction::Call36, after), (value, false), "{value:?}");
+    }
+}
+
+#[test]
+fn absolute_and_page_addresses_match_linkers() {
+    for (address, high, low, middle, upper) in ABSOLUTE {
+        assert_eq!(
+            relocated(LoongArch64Relocation::R_LARCH_ABS_HI20, 0x1400_0004, address),
+            high,
+            "{address:?}"
+        );
+        assert_eq!(
+            relocated(LoongArch64Relocation::R_LARCH_ABS_LO12, 0x0380_0084, address),
+            low,
+            "{address:?}"
+        );
+        assert_eq!(
+            relocated(LoongArch64Relocation::R_LARCH_ABS64_LO20, 0x1600_0004, address),
+            middle,
+            "{address:?}"
+        );
+        assert_eq!(
+            relocated(LoongArch64Relocation::R_LARCH_ABS64_HI12, 0x0300_0084, address),
+            upper,
+            "{address:?}"
+        );
+    }
+    for (pc, target, high, low) in PAGE_PAIR {
+        let distance = (target.wrapping_add(0x800) & !0xfff).wrapping_sub(pc & !0xfff);
+        assert_eq!(
+            relocated(LoongArch64Relocation::R_LARCH_PCALA_HI20, 0x1a00_0004, distance),
+            high,
+            "{target:?}"
+        );
+        assert_eq!(
+            relocated(LoongArch64Relocation::R_LARCH_PCALA_LO12, 0x02c0_0084, target),
+            low,
+            "{target:?}"
+        );
+    }
+}
+
+/// The five instructions after an address is written to them.
+fn addressed(before: [u8; 20], pc: u64, target: u64) -> [u32; 5] {
+    let mut bytes = before;
+    write_address_sequence(&mut bytes, pc, target);
+    [
+        u32_from_slice(&bytes),
+        u32_from_slice(&bytes[4..]),
+        u32_from_slice(&bytes[8..]),
+        u32_from_slice(&bytes[12..]),
+        u32_from_slice(&bytes[16..]),
+    ]
+}
+
+#[test]
+fn address_sequences_match_linkers() {
+    let before = [
+        0x04, 0x00, 0x00, 0x1a, 0x05, 0x00, 0xc0, 0x02, 0x05, 0x00, 0x00, 0x16, 0xa5, 0x00, 0x00,
+        0x03, 0x84, 0x94, 0x10, 0x00,
+    ];
+    for (pc, target, first, second) in FIVE {
+        let [a, b, c, d, e] = addressed(before, pc, target);
+        assert_eq!(
+            (a as u64 | (b as u64) << 32, c as u64 | (d as u64) << 32),
+            (first, second),
+            "{target:?}, {pc:?}"
+        );
+        assert_eq!(e, 0x0010_9484, "{target:?}, {pc:?}");
+    }
+    assert_eq!(highest_relocation_with_bias(0x800, 8), 0xffff_ffff_8000_1000);
+    assert_eq!(addressed([0; 20], 0, 0x800), [0x20, 0x0020_0000, 0x01ff_ffe0, 0x003f_fc00, 0]);
+    assert_eq!(highest_relocation_with_bias(0xffff_ffff_8000_0000, 0x1008), 0xffff_ffff_ffff_f000);
+    assert_eq!(
+        addressed([0; 20], 0x1000, 0xffff_ffff_8000_0000),
+        [0x00ff_ffe0, 0, 0x01ff_ffe0, 0x003f_fc00, 0]
+    );
+}
+
+#[test]
+fn calls_wrap_at_the_ends_of_their_range() {
+    let form = LoongArch64Instruction::Call36;
+    let last: u64 = (1 << 37) - (1 << 17) - 4;
+    assert_eq!(written(form, 0, last.extract_bit_range(2..38)), 0x01ff_fc00_00ff_ffe0);
+    assert_eq!(read(form, 0x01ff_fc00_00ff_ffe0), (last / 4, false));
+    let past: u64 = (1 << 37) - (1 << 17);
+    assert_eq!(written(form, 0, past.extract_bit_range(2..38)), 0x0200_0000_0100_0000);
+    let back = (-4i64).cast_unsigned().extract_bit_range(2..38);
+    assert_eq!(written(form, 0, back), 0x03ff_fc00_0000_0000);
+    assert_eq!(read(form, 0x03ff_fc00_0000_0000), ((1 << 36) - 1, false));
+    assert_eq!(written(LoongArch64Instruction::Call30, 0, 0xf_ffff), 0x0007_fc00_01ff_c000);
+    assert_eq!(read(LoongArch64Instruction::Call30, 0x0007_fc00_01ff_c000), (0xf_ffff, false));
+}
+
+#[test]
+fn fields_of_ones_are_written_and_read() {
+    assert_eq!(written(LoongArch64Instruction::Branch21, 0x4000_0000, 0x1f_ffff), 0x43ff_fc1f);
+    assert_eq!(read(LoongArch64Instruction::Branch21, 0x43ff_fc1f), (u64::MAX, true));
+    assert_eq!(written(LoongArch64Instruction::Shift10, 0x02c0_0000, 0x800), 0x02e0_0000);
+    assert_eq!(read(LoongArch64Instruction::Shift10, 0x02e0_0000), (0x800, false));
+}
+
+#[test]
+fn nops_are_written_and_other_names_have_no_meaning() {
+    let mut section = [0xff; 6];
+    let mut offset = 1;
+    let mut addend = 7;
+    assert!(RelaxationKind::ReplaceWithNop.can_apply(&section, 1));
+    RelaxationKind::ReplaceWithNop.apply(&mut section, &mut offset, &mut addend);
+    assert_eq!(section, [0xff, 0x00, 0x00, 0x40, 0x03, 0xff]);
+    assert_eq!((offset, addend), (1, 7));
+    assert!(relocation_type_from_raw(LoongArch64Relocation::Other(7)).is_none());
+    assert!(relocation_type_from_raw(LoongArch64Relocation::R_LARCH_TLS_LD_PCREL20_S2).is_none());
+}

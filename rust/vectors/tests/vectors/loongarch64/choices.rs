@@ -1,0 +1,150 @@
+//! Which rewrites are chosen, and the words after them, by the encodings of the LoongArch Reference
+//! Manual, volume 1, and as GNU ld writes them.
+
+use super::relaxed::{ENTRY, IMAGE, SITES};
+use linker_utils::elf::{LinkFacts, Operands};
+use linker_utils::loongarch64::{
+    LoongArch64Relocation as Name, RelaxationKind as Kind, choose, row,
+};
+use linker_utils::utils::u32_from_slice;
+
+const NOP: u32 = 0x0340_0000;
+
+/// `pcalau12i a0`, `ld.d a0, a0` and `addi.d a0, a0`.
+const PCALA: u32 = 0x1a00_0004;
+
+const LD: u32 = 0x28c0_0084;
+
+const ADDI: u32 = 0x02c0_0084;
+
+const LOAD: [u32; 4] = [PCALA, LD, 0, 0];
+
+const ADDRESS: [u32; 4] = [PCALA, ADDI, 0, 0];
+
+/// The sequence of a TLS descriptor.
+const DESCRIPTOR: [u32; 4] = [PCALA, ADDI, 0x28c0_0081, 0x4c00_0021];
+
+/// `pcaddu18i ra` and `jirl ra, ra`; `pcaddu18i t0` and `jirl zero, t0`.
+const CALL: [u32; 4] = [0x1e00_0001, 0x4c00_0021, 0, 0];
+
+const TAIL: [u32; 4] = [0x1e00_000c, 0x4c00_0180, 0, 0];
+
+/// `lu12i.w a1`, `add.d a1, a1, tp` and `ld.w a0, a1`.
+const THREAD: [u32; 4] = [0x1400_0005, 0x0010_88a5, 0x2880_00a4, 0];
+
+fn bytes_of(words: [u32; 4]) -> [u8; 16] {
+    let [a, b, c, d] = words[0].to_le_bytes();
+    let [e, f, g, h] = words[1].to_le_bytes();
+    let [i, j, k, l] = words[2].to_le_bytes();
+    let [m, n, o, p] = words[3].to_le_bytes();
+    [a, b, c, d, e, f, g, h, i, j, k, l, m, n, o, p]
+}
+
+/// What is chosen for the relocation at an offset, and the word there with the value written.
+fn rewritten(name: Name, words: [u32; 4], at: u64, facts: &LinkFacts) -> (Kind, u32) {
+    assert!(at <= 12);
+    let mut section = bytes_of(words);
+    let place = facts.operands.place.wrapping_add(at);
+    let operands = Operands { place, ..facts.operands };
+    let here = LinkFacts { operands, ..*facts };
+    let chosen = choose(name, &section, at, &here);
+    let (mut offset, mut addend) = (at, 0);
+    chosen.kind.apply(&mut section, &mut offset, &mut addend);
+    let row = row(chosen.relocation).expect("a row");
+    if let Some(value) = row.value(&operands) {
+        assert!(row.write(value, &mut section[at as usize..]).is_ok());
+    }
+    (chosen.kind, u32_from_slice(&section[at as usize..]))
+}
+
+/// The facts of a local symbol in an executable, whose code is at 0x1_2000_0100.
+fn facts_of(symbol: u64, tls_base: u64, is_marked: bool) -> LinkFacts {
+    LinkFacts {
+        is_local: true,
+        has_fixed_distance: true,
+        is_executable: true,
+        is_marked,
+        has_addresses: true,
+        operands: Operands {
+            symbol,
+            plt_entry: symbol,
+            got_entry: 0x1_2001_0020,
+            tls_base,
+            place: 0x1_2000_0100,
+            ..Operands::default()
+        },
+        ..LinkFacts::default()
+    }
+}
+
+#[test]
+fn addresses_and_calls_have_their_encodings() {
+    let far = facts_of(0x1_2000_8010, 0, false);
+    let near = facts_of(0x1_2000_8010, 0, true);
+    let call = facts_of(0x1_2000_1100, 0, true);
+    let table = [
+        (Name::R_LARCH_GOT_PC_HI20, LOAD, 0, far, Kind::NoOp, 0x1a00_0104),
+        (Name::R_LARCH_GOT_PC_LO12, LOAD, 4, far, Kind::LdToAddi, 0x02c0_4084),
+        (Name::R_LARCH_GOT_PC_HI20, LOAD, 0, near, Kind::PcalaToPcaddi, 0x1803_f884),
+        (Name::R_LARCH_GOT_PC_LO12, LOAD, 4, near, Kind::Delete, LD),
+        (Name::R_LARCH_PCALA_HI20, ADDRESS, 0, near, Kind::PcalaToPcaddi, 0x1803_f884),
+        (Name::R_LARCH_PCALA_LO12, ADDRESS, 4, near, Kind::Delete, ADDI),
+        (Name::R_LARCH_CALL36, CALL, 0, call, Kind::CallToBl, 0x5410_0000),
+        (Name::R_LARCH_CALL36, TAIL, 0, call, Kind::CallToB, 0x5010_0000),
+    ];
+    for (name, words, at, facts, kind, want) in table {
+        assert_eq!(rewritten(name, words, at, &facts), (kind, want), "{want:?}");
+    }
+}
+
+#[test]
+fn thread_offsets_have_their_encodings() {
+    let long = facts_of(0x1_2003_2345, 0x1_2002_0000, false);
+    let short = facts_of(0x1_2002_0345, 0x1_2002_0000, true);
+    let table = [
+        (Name::R_LARCH_TLS_IE_PC_HI20, LOAD, 0, long, Kind::PcalaToLu12i, 0x1400_0244),
+        (Name::R_LARCH_TLS_IE_PC_LO12, LOAD, 4, long, Kind::LowToOri, 0x038d_1484),
+        (Name::R_LARCH_TLS_IE_PC_HI20, LOAD, 0, short, Kind::ReplaceWithNop, NOP),
+        (Name::R_LARCH_TLS_IE_PC_LO12, LOAD, 4, short, Kind::LowToOriZero, 0x038d_1404),
+        (Name::R_LARCH_TLS_DESC_PC_HI20, DESCRIPTOR, 0, long, Kind::PcalaToLu12i, 0x1400_0244),
+        (Name::R_LARCH_TLS_DESC_PC_LO12, DESCRIPTOR, 4, long, Kind::LowToOri, 0x038d_1484),
+        (Name::R_LARCH_TLS_DESC_LD, DESCRIPTOR, 8, long, Kind::ReplaceWithNop, NOP),
+        (Name::R_LARCH_TLS_DESC_CALL, DESCRIPTOR, 12, long, Kind::ReplaceWithNop, NOP),
+        (Name::R_LARCH_TLS_LE_HI20_R, THREAD, 0, short, Kind::Delete, 0x1400_0005),
+        (Name::R_LARCH_TLS_LE_ADD_R, THREAD, 4, short, Kind::Delete, 0x0010_88a5),
+        (Name::R_LARCH_TLS_LE_LO12_R, THREAD, 8, short, Kind::BaseToTp, 0x288d_1444),
+    ];
+    for (name, words, at, facts, kind, want) in table {
+        assert_eq!(rewritten(name, words, at, &facts), (kind, want), "{want:?}");
+    }
+}
+
+#[test]
+fn other_offsets_go_by_the_got() {
+    let mut facts = facts_of(0x1_2003_2345, 0x1_2002_0000, false);
+    facts.is_local = false;
+    let table = [
+        (Name::R_LARCH_TLS_DESC_PC_HI20, 0, Kind::NoOp, 0x1a00_0204),
+        (Name::R_LARCH_TLS_DESC_PC_LO12, 4, Kind::AddiToLd, 0x28c0_8084),
+        (Name::R_LARCH_TLS_DESC_LD, 8, Kind::ReplaceWithNop, NOP),
+        (Name::R_LARCH_TLS_DESC_CALL, 12, Kind::ReplaceWithNop, NOP),
+    ];
+    for (name, at, kind, want) in table {
+        assert_eq!(rewritten(name, DESCRIPTOR, at, &facts), (kind, want), "{want:?}");
+    }
+}
+
+/// Where `choose` leaves a `nop`, GNU ld deletes the instruction.
+#[test]
+fn words_match_gnu_ld() {
+    for (r_type, at, symbol, place, words, after) in SITES {
+        let local = facts_of(symbol, IMAGE, true);
+        let operands =
+            Operands { got_entry: ENTRY, place: place.wrapping_sub(at), ..local.operands };
+        let facts = LinkFacts { is_local: symbol != 0, operands, ..local };
+        let (kind, word) = rewritten(Name::from_elf(r_type), words, at, &facts);
+        let is_deleted = matches!(kind, Kind::Delete | Kind::ReplaceWithNop);
+        let left = if is_deleted { 0 } else { word };
+        assert_eq!(left, after, "{r_type:?}, {place:?}");
+    }
+}

@@ -1,0 +1,296 @@
+//! Which rewrites are chosen, and the words that they leave with the relocation after them. The
+//! words are encoded after the Power ISA, "Instruction Formats", or are those that linkers wrote.
+
+use super::linked::SITES;
+use linker_utils::elf::{Choice, LinkFacts, Operands};
+use linker_utils::ppc64::{Ppc64Relocation, RelaxationKind, choose, row};
+
+/// The facts of a symbol of an executable, 0x7fe8 below the TOC pointer, 0x6fe8 below the thread
+/// pointer and 0x10018 above the instruction.
+fn own() -> LinkFacts {
+    LinkFacts {
+        is_local: true,
+        has_fixed_distance: true,
+        is_executable: true,
+        has_private_base: true,
+        may_change_toc: true,
+        has_addresses: true,
+        operands: Operands {
+            symbol: 0x1001_0018,
+            place: 0x1000_0000,
+            got_entry: 0x1001_0100,
+            got_base: 0x1001_8000,
+            plt_entry: 0x1001_0018,
+            tls_base: 0x1001_7000,
+            ..Operands::default()
+        },
+        ..LinkFacts::default()
+    }
+}
+
+/// Rewrites two words, writes the value, and returns the choice and the words.
+fn linked(
+    name: Ppc64Relocation,
+    words: [u32; 2],
+    facts: &LinkFacts,
+) -> (Choice<RelaxationKind, Ppc64Relocation>, [u32; 2]) {
+    let [a, b, c, d] = words[0].to_le_bytes();
+    let [e, f, g, h] = words[1].to_le_bytes();
+    let mut section = [a, b, c, d, e, f, g, h];
+    let chosen = choose(name, &section[..], 0, facts);
+    let (mut offset, mut addend) = (0, facts.operands.addend);
+    chosen.kind.apply(&mut section[..], &mut offset, &mut addend);
+    assert!(offset <= 4);
+    let row = row(chosen.relocation).expect("a row");
+    if let Some(value) = row.value(&facts.operands) {
+        assert!(row.write(value, &mut section[offset as usize..]).is_ok());
+    }
+    let [a, b, c, d, e, f, g, h] = section;
+    let made = [u32::from_le_bytes([a, b, c, d]), u32::from_le_bytes([e, f, g, h])];
+    (chosen, made)
+}
+
+/// A relocation, the two words there, the choice, and the words that it leaves.
+type Rewritten = (Ppc64Relocation, [u32; 2], RelaxationKind, Ppc64Relocation, [u32; 2]);
+
+const CALL: [u32; 2] = [0x4800_0001, 0x6000_0000];
+
+#[test]
+fn own_symbols_need_no_entry() {
+    let table: [Rewritten; 19] = [
+        (
+            Ppc64Relocation::R_PPC64_TOC16_HA,
+            [0x3d22_0000, 0],
+            RelaxationKind::AddisToNop,
+            Ppc64Relocation::R_PPC64_NONE,
+            [0x6000_0000, 0],
+        ),
+        (
+            Ppc64Relocation::R_PPC64_TOC16_LO,
+            [0x3869_0000, 0],
+            RelaxationKind::BaseToToc,
+            Ppc64Relocation::R_PPC64_TOC16,
+            [0x3862_8018, 0],
+        ),
+        (
+            Ppc64Relocation::R_PPC64_TOC16_LO_DS,
+            [0xe869_0000, 0],
+            RelaxationKind::BaseToToc,
+            Ppc64Relocation::R_PPC64_TOC16_DS,
+            [0xe862_8018, 0],
+        ),
+        (
+            Ppc64Relocation::R_PPC64_GOT16_HA,
+            [0x3d22_0000, 0],
+            RelaxationKind::NoOp,
+            Ppc64Relocation::R_PPC64_TOC16_HA,
+            [0x3d22_0000, 0],
+        ),
+        (
+            Ppc64Relocation::R_PPC64_GOT16_LO_DS,
+            [0xe869_0000, 0],
+            RelaxationKind::LdToAddi,
+            Ppc64Relocation::R_PPC64_TOC16_LO,
+            [0x3869_8018, 0],
+        ),
+        (
+            Ppc64Relocation::R_PPC64_GOT_PCREL34,
+            [0x0410_0000, 0xe460_0000],
+            RelaxationKind::PldToPaddi,
+            Ppc64Relocation::R_PPC64_PCREL34,
+            [0x0610_0001, 0x3860_0018],
+        ),
+        (
+            Ppc64Relocation::R_PPC64_GOT_TPREL16_HA,
+            [0x3d22_0000, 0],
+            RelaxationKind::AddisToNop,
+            Ppc64Relocation::R_PPC64_NONE,
+            [0x6000_0000, 0],
+        ),
+        (
+            Ppc64Relocation::R_PPC64_GOT_TPREL16_LO_DS,
+            [0xe929_0000, 0],
+            RelaxationKind::LdToAddisThread,
+            Ppc64Relocation::R_PPC64_TPREL16_HA,
+            [0x3d2d_0000, 0],
+        ),
+        (
+            Ppc64Relocation::R_PPC64_TLS,
+            [0x7c69_6a14, 0],
+            RelaxationKind::AddToAddi,
+            Ppc64Relocation::R_PPC64_TPREL16_LO,
+            [0x3869_9018, 0],
+        ),
+        (
+            Ppc64Relocation::R_PPC64_TLS,
+            [0x7c69_682e, 0],
+            RelaxationKind::IndexedToD,
+            Ppc64Relocation::R_PPC64_TPREL16_LO,
+            [0x8069_9018, 0],
+        ),
+        (
+            Ppc64Relocation::R_PPC64_TLS,
+            [0x7c29_6dae, 0],
+            RelaxationKind::IndexedToD,
+            Ppc64Relocation::R_PPC64_TPREL16_LO,
+            [0xd829_9018, 0],
+        ),
+        (
+            Ppc64Relocation::R_PPC64_TLS,
+            [0x7c69_682a, 0],
+            RelaxationKind::IndexedToDs,
+            Ppc64Relocation::R_PPC64_TPREL16_LO_DS,
+            [0xe869_9018, 0],
+        ),
+        (
+            Ppc64Relocation::R_PPC64_TLS,
+            [0x7c69_692a, 0],
+            RelaxationKind::IndexedToDs,
+            Ppc64Relocation::R_PPC64_TPREL16_LO_DS,
+            [0xf869_9018, 0],
+        ),
+        (
+            Ppc64Relocation::R_PPC64_TLS,
+            [0x7c69_6aaa, 0],
+            RelaxationKind::IndexedToDs,
+            Ppc64Relocation::R_PPC64_TPREL16_LO_DS,
+            [0xe869_901a, 0],
+        ),
+        (
+            Ppc64Relocation::R_PPC64_GOT_TLSGD16_LO,
+            [0x3869_0000, 0],
+            RelaxationKind::AddiToAddisThread,
+            Ppc64Relocation::R_PPC64_TPREL16_HA,
+            [0x3c6d_0000, 0],
+        ),
+        (
+            Ppc64Relocation::R_PPC64_TLSGD,
+            CALL,
+            RelaxationKind::CallToAddi,
+            Ppc64Relocation::R_PPC64_TPREL16_LO,
+            [0x6000_0000, 0x3863_9018],
+        ),
+        (
+            Ppc64Relocation::R_PPC64_GOT_TLSLD16_LO,
+            [0x3869_0000, 0],
+            RelaxationKind::AddiToAddisThread,
+            Ppc64Relocation::R_PPC64_NONE,
+            [0x3c6d_0000, 0],
+        ),
+        (
+            Ppc64Relocation::R_PPC64_TLSLD,
+            CALL,
+            RelaxationKind::CallToAddi4096,
+            Ppc64Relocation::R_PPC64_NONE,
+            [0x6000_0000, 0x3863_1000],
+        ),
+        (
+            Ppc64Relocation::R_PPC64_REL24,
+            CALL,
+            RelaxationKind::NopToRestoreToc,
+            Ppc64Relocation::R_PPC64_REL24,
+            [0x4801_0019, 0xe841_0018],
+        ),
+    ];
+    for (name, before, kind, relocation, after) in table {
+        let (chosen, made) = linked(name, before, &own());
+        assert_eq!(chosen, Choice { kind, relocation }, "{name:?}");
+        assert_eq!(made, after, "{name:?}");
+    }
+}
+
+#[test]
+fn other_variables_of_an_executable_have_an_entry() {
+    let table: [Rewritten; 3] = [
+        (
+            Ppc64Relocation::R_PPC64_GOT_TLSGD16_HA,
+            [0x3d22_0000, 0],
+            RelaxationKind::NoOp,
+            Ppc64Relocation::R_PPC64_GOT_TPREL16_HA,
+            [0x3d22_0000, 0],
+        ),
+        (
+            Ppc64Relocation::R_PPC64_GOT_TLSGD16_LO,
+            [0x3869_0000, 0],
+            RelaxationKind::AddiToLd,
+            Ppc64Relocation::R_PPC64_GOT_TPREL16_LO_DS,
+            [0xe869_8100, 0],
+        ),
+        (
+            Ppc64Relocation::R_PPC64_TLSGD,
+            CALL,
+            RelaxationKind::CallToAdd,
+            Ppc64Relocation::R_PPC64_NONE,
+            [0x6000_0000, 0x7c63_6a14],
+        ),
+    ];
+    let facts = LinkFacts { is_local: false, ..own() };
+    for (name, before, kind, relocation, after) in table {
+        let (chosen, made) = linked(name, before, &facts);
+        assert_eq!(chosen, Choice { kind, relocation }, "{name:?}");
+        assert_eq!(made, after, "{name:?}");
+    }
+}
+
+#[test]
+fn other_instructions_stay() {
+    // `addis 9,3`; `lwzu 3,0(9)`; `std 9,0(9)`; `ld 3,0(0)`; `add 3,9,12`; `lwzux 3,9,13`; `stwx
+    // 9,9,13`; `bl` without `nop`; `addi 4,9,0`
+    let table: [(Ppc64Relocation, [u32; 2]); 9] = [
+        (Ppc64Relocation::R_PPC64_TOC16_HA, [0x3d23_0000, 0]),
+        (Ppc64Relocation::R_PPC64_TOC16_LO, [0x8469_0000, 0]),
+        (Ppc64Relocation::R_PPC64_TOC16_LO_DS, [0xf929_0000, 0]),
+        (Ppc64Relocation::R_PPC64_GOT16_LO_DS, [0xe860_0000, 0]),
+        (Ppc64Relocation::R_PPC64_TLS, [0x7c69_6214, 0]),
+        (Ppc64Relocation::R_PPC64_TLS, [0x7c69_686e, 0]),
+        (Ppc64Relocation::R_PPC64_TLS, [0x7d29_692e, 0]),
+        (Ppc64Relocation::R_PPC64_TLSGD, [0x4800_0001, 0x4800_0001]),
+        (Ppc64Relocation::R_PPC64_GOT_TLSGD16_LO, [0x3889_0000, 0]),
+    ];
+    for (name, before) in table {
+        let chosen = {
+            let [a, b, c, d] = before[0].to_le_bytes();
+            let [e, f, g, h] = before[1].to_le_bytes();
+            choose(name, &[a, b, c, d, e, f, g, h], 0, &own())
+        };
+        let unchanged = Choice { kind: RelaxationKind::NoOp, relocation: name };
+        assert_eq!(chosen, unchanged, "{before:?}");
+    }
+}
+
+/// The two words of eight bytes.
+fn words_of(bytes: u64) -> [u32; 2] {
+    [(bytes & 0xffff_ffff) as u32, (bytes >> 32) as u32]
+}
+
+/// In an executable whose GOT begins at 0x10040000, and whose TLS segment at 0x10020000. The only
+/// GOT entry is that of a variable elsewhere.
+#[test]
+fn words_match_linkers() {
+    for (r_type, flags, symbol, place, before, after) in SITES {
+        let name = Ppc64Relocation::from_elf(r_type);
+        let is_in_module = matches!(
+            name,
+            Ppc64Relocation::R_PPC64_DTPREL16_LO | Ppc64Relocation::R_PPC64_DTPREL16_HA
+        );
+        let facts = LinkFacts {
+            is_local: flags == 1,
+            may_change_toc: flags == 2,
+            has_fixed_distance: true,
+            is_executable: true,
+            has_private_base: true,
+            has_addresses: true,
+            operands: Operands {
+                symbol,
+                place,
+                got_entry: 0x1004_0008,
+                got_base: 0x1004_8000,
+                tls_base: if is_in_module { 0x1002_8000 } else { 0x1002_7000 },
+                ..Operands::default()
+            },
+            ..LinkFacts::default()
+        };
+        let (_, made) = linked(name, words_of(before), &facts);
+        assert_eq!(made, words_of(after), "{r_type:?}, {place:?}");
+    }
+}

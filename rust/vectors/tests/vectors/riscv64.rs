@@ -1,0 +1,339 @@
+//! RISC-V: instructions, pairs and rewrites as assemblers and linkers write them, and values worked
+//! by hand from the manual.
+
+mod choices;
+mod linked;
+mod pairs;
+mod words;
+
+use linker_utils::elf::{
+    AllowedRange, Bias, InstructionForm, RelocationInstruction, RelocationSize, RiscVInstruction,
+    Sign,
+};
+use linker_utils::relaxation::RelocationModifier;
+use linker_utils::riscv64::{
+    CallError, RelaxationKind, RiscVRelocation, distance_fits_jal, is_plain_call, jal_site,
+    relocation_type_from_raw,
+};
+use linker_utils::utils::u32_from_slice;
+
+/// What `read_value` returns where the machine reads `machine`.
+fn reading(form: RiscVInstruction, machine: i64) -> (u64, bool) {
+    match form {
+        RiscVInstruction::UType => (machine.cast_unsigned().wrapping_sub(0x800), false),
+        RiscVInstruction::CluiType => (machine.cast_unsigned().wrapping_sub(0x800), machine < 0),
+        RiscVInstruction::UiType => (machine.cast_unsigned(), false),
+        _ => (machine.cast_unsigned(), machine < 0),
+    }
+}
+
+#[test]
+fn words_match_assemblers() {
+    let forms: [(RiscVInstruction, &[words::Word]); 8] = [
+        (RiscVInstruction::UType, &words::U_TYPE),
+        (RiscVInstruction::IType, &words::I_TYPE),
+        (RiscVInstruction::SType, &words::S_TYPE),
+        (RiscVInstruction::BType, &words::B_TYPE),
+        (RiscVInstruction::JType, &words::J_TYPE),
+        (RiscVInstruction::CbType, &words::CB_TYPE),
+        (RiscVInstruction::CjType, &words::CJ_TYPE),
+        (RiscVInstruction::CluiType, &words::CLUI_TYPE),
+    ];
+    for (form, words) in forms {
+        for (before, value, after, machine) in words {
+            let mut bytes = before.to_le_bytes();
+            form.write_to_value(value.cast_unsigned(), *value < 0, &mut bytes);
+            assert_eq!(u32::from_le_bytes(bytes), *after, "{form:?}, {value:?}");
+            assert_eq!(form.read_value(&bytes), reading(form, *machine), "{form:?}, {value:?}");
+        }
+    }
+}
+
+#[test]
+fn hi20_lo12_i_pairs_match_linkers() {
+    for (before, value, after) in &pairs::U_WITH_I {
+        let mut high = before[0].to_le_bytes();
+        let mut low = before[1].to_le_bytes();
+        RiscVInstruction::UType.write_to_value(value.cast_unsigned(), false, &mut high);
+        RiscVInstruction::IType.write_to_value(value.cast_unsigned(), false, &mut low);
+        assert_eq!(u32::from_le_bytes(high), after[0], "{value:?}");
+        assert_eq!(u32::from_le_bytes(low), after[1], "{value:?}");
+        let (rounded, _) = RiscVInstruction::UType.read_value(&high);
+        let (rest, _) = RiscVInstruction::IType.read_value(&low);
+        let sum = rounded.wrapping_add(0x800).wrapping_add(rest);
+        assert_eq!(sum, value.cast_unsigned(), "{value:?}");
+    }
+}
+
+#[test]
+fn hi20_lo12_s_pairs_match_linkers() {
+    for (before, value, after) in &pairs::U_WITH_S {
+        let mut high = before[0].to_le_bytes();
+        let mut low = before[1].to_le_bytes();
+        RiscVInstruction::UType.write_to_value(value.cast_unsigned(), false, &mut high);
+        RiscVInstruction::SType.write_to_value(value.cast_unsigned(), false, &mut low);
+        assert_eq!(u32::from_le_bytes(high), after[0], "{value:?}");
+        assert_eq!(u32::from_le_bytes(low), after[1], "{value:?}");
+        let (rounded, _) = RiscVInstruction::UType.read_value(&high);
+        let (rest, _) = RiscVInstruction::SType.read_value(&low);
+        let sum = rounded.wrapping_add(0x800).wrapping_add(rest);
+        assert_eq!(sum, value.cast_unsigned(), "{value:?}");
+    }
+}
+
+#[test]
+fn call_pairs_match_linkers() {
+    for (before, value, after) in &pairs::UI {
+        let mut bytes = both(*before);
+        RiscVInstruction::UiType.write_to_value(value.cast_unsigned(), false, &mut bytes);
+        assert_eq!(bytes, both(*after), "{value:?}");
+        let read = RiscVInstruction::UiType.read_value(&bytes);
+        assert_eq!(read, (value.cast_unsigned(), false), "{value:?}");
+    }
+}
+
+/// Two words as the bytes of a section.
+fn both(words: [u32; 2]) -> [u8; 8] {
+    (words[0] as u64 | (words[1] as u64) << 32).to_le_bytes()
+}
+
+#[test]
+fn shortened_lui_match_gnu_ld() {
+    for (before, value, after) in pairs::SHORTENED_LUI {
+        let value = value.cast_unsigned();
+        assert!(RelaxationKind::hi20_fits_clui(value), "{value:?}");
+        let mut section = before;
+        let mut offset = 0;
+        let mut addend = 0;
+        RelaxationKind::Hi20ToCLui.apply(&mut section, &mut offset, &mut addend);
+        RiscVInstruction::CluiType.write_to_value(value, false, &mut section);
+        RiscVInstruction::IType.write_to_value(value, false, &mut section[4..]);
+        let [a, b, _, _, c, d, e, f] = section;
+        assert_eq!([a, b, c, d, e, f], after, "{value:?}");
+    }
+}
+
+#[test]
+fn deleted_lui_match_gnu_ld() {
+    for (before, value, after) in pairs::DELETED_LUI {
+        assert!(RelaxationKind::hi20_is_zero(value), "{value:?}");
+        let mut section = before;
+        let mut addend = 0;
+        let mut high = 0;
+        RelaxationKind::Hi20Delete.apply(&mut section, &mut high, &mut addend);
+        assert_eq!(section, before, "{value:?}");
+        let mut low = 4;
+        RelaxationKind::Lo12Rs1ToZero.apply(&mut section, &mut low, &mut addend);
+        RiscVInstruction::IType.write_to_value(value, false, &mut section[4..]);
+        let [_, _, _, _, a, b, c, d] = section;
+        assert_eq!([a, b, c, d], after, "{value:?}");
+    }
+}
+
+#[test]
+fn immediates_match_the_manual() {
+    let table: [(RiscVInstruction, u32, i64, u32, i64, bool); 19] = [
+        (RiscVInstruction::UType, 0x0000_0537, 0x800, 0x0000_1537, 0x800, false),
+        (RiscVInstruction::IType, 0x0005_0513, 0x800, 0x8005_0513, -2048, true),
+        (RiscVInstruction::BType, 0x0000_0063, -4096, 0x8000_0063, -4096, true),
+        (RiscVInstruction::BType, 0x0000_0063, 4094, 0x7e00_0fe3, 4094, false),
+        (RiscVInstruction::JType, 0x0000_006f, -1048576, 0x8000_006f, -1048576, true),
+        (RiscVInstruction::JType, 0x0000_006f, 1048574, 0x7fff_f06f, 1048574, false),
+        (RiscVInstruction::CbType, 0xc001, 254, 0xcc7d, 254, false),
+        (RiscVInstruction::CjType, 0xa001, -2, 0xbffd, -2, true),
+        (RiscVInstruction::CluiType, 0x6501, -0x1000, 0x757d, -0x1800, true),
+        (RiscVInstruction::UType, 0, -0x801, 0xffff_f000, -0x1800, false),
+        (RiscVInstruction::IType, 0, -1, 0xfff0_0000, -1, true),
+        (RiscVInstruction::SType, 0, -1, 0xfe00_0f80, -1, true),
+        (RiscVInstruction::BType, 0, -1, 0xfe00_0f80, -2, true),
+        (RiscVInstruction::JType, 0, -1, 0xffff_f000, -2, true),
+        (RiscVInstruction::CbType, 0, 0xffff, 0x1c7c, -2, true),
+        (RiscVInstruction::CjType, 0, 0xffff, 0x1ffc, -2, true),
+        (RiscVInstruction::UType, 0, 0xffff_fff6, 0, -0x800, false),
+        (RiscVInstruction::IType, 0, 0xffff_fff6, 0xff60_0000, -10, true),
+        (RiscVInstruction::UType, 0x0000_0037, 0x7fff_f7ff, 0x7fff_f037, 0x7fff_e800, false),
+    ];
+    for (form, before, value, after, read, negative) in table {
+        let mut bytes = before.to_le_bytes();
+        assert!(form.window() <= bytes.len(), "{form:?} of {value}");
+        form.write_to_value(value.cast_unsigned(), negative, &mut bytes);
+        assert_eq!(u32::from_le_bytes(bytes), after, "{form:?}, {value:?}");
+        assert_eq!(
+            form.read_value(&bytes),
+            (read.cast_unsigned(), negative),
+            "{form:?}, {value:?}"
+        );
+    }
+    let mut call = [0; 8];
+    RiscVInstruction::UiType.write_to_value(0x800, false, &mut call);
+    assert_eq!(call, both([0x0000_1000, 0x8000_0000]));
+    assert_eq!(RiscVInstruction::UiType.read_value(&call), (0x800, false));
+}
+
+#[test]
+fn trait_calls_match_calls_of_the_form() {
+    let insn = RelocationInstruction::RiscV(RiscVInstruction::UiType);
+    let mut call = both([0x0000_0097, 0x0000_80e7]);
+    assert_eq!(insn.window(), 8);
+    assert!(insn.fits(u64::MAX, &call));
+    insn.write(0x800, false, &mut call);
+    assert_eq!(call, both([0x0000_1097, 0x8000_80e7]));
+    assert_eq!(insn.read(&call), (0x800, false));
+}
+
+#[test]
+fn rewrites_of_one_instruction_match_worked_words() {
+    let table: [(RelaxationKind, u32, u32); 4] = [
+        (RelaxationKind::Hi20ToCLui, 0x0000_0537, 0x0000_6501),
+        (RelaxationKind::Lo12Rs1ToZero, 0x0005_0513, 0x0000_0513),
+        (RelaxationKind::ReplaceWithNop, 0x0005_0513, 0x0001_0001),
+        (RelaxationKind::CallToJal, 0x0000_0097, 0x0000_00ef),
+    ];
+    for (kind, before, after) in table {
+        let mut section = before.to_le_bytes();
+        assert!(kind.can_apply(&section, 0), "{kind:?}");
+        let mut offset = 0;
+        let mut addend = 5;
+        kind.apply(&mut section, &mut offset, &mut addend);
+        assert_eq!(u32::from_le_bytes(section), after, "{kind:?}");
+        assert_eq!((offset, addend), (0, 5), "{kind:?}");
+    }
+    let mut half = 0x0000_0537u32.to_le_bytes();
+    RelaxationKind::Hi20ToCLui.apply(&mut half, &mut 0, &mut 0);
+    RiscVInstruction::CluiType.write_to_value((-0x1000i64).cast_unsigned(), true, &mut half);
+    assert_eq!(u32::from_le_bytes(half), 0x757d);
+}
+
+#[test]
+fn high_parts_are_zero_or_fit_clui() {
+    for (value, want) in [(0x7ff, true), (1u64 << 32, true), (0x800, false)] {
+        assert_eq!(RelaxationKind::hi20_is_zero(value), want, "{value:?}");
+    }
+    let table: [(i64, bool); 9] = [
+        (-0x1000, true),
+        (-0x20800, true),
+        (-0x20801, false),
+        (-0x800, false),
+        (0x1f7ff, true),
+        (0x1f800, false),
+        (0x1000, true),
+        (0x20000, false),
+        (0, false),
+    ];
+    for (value, want) in table {
+        assert_eq!(RelaxationKind::hi20_fits_clui(value.cast_unsigned()), want, "{value:?}");
+    }
+    for (register, want) in [(0, false), (1, true), (2, false), (3, true), (31, true)] {
+        assert_eq!(RelaxationKind::rd_valid_for_clui(register), want, "{register:?}");
+    }
+}
+
+#[test]
+fn tail_calls_are_not_plain_calls() {
+    let plain = both([0x0000_0097, 0x0000_80e7]);
+    assert!(is_plain_call(&plain, 0));
+    assert!(!is_plain_call(&plain, 1));
+    assert!(!is_plain_call(&plain[..7], 0));
+    let tail = [0x17, 0x03, 0x00, 0x00, 0x67, 0x00, 0x03, 0x00];
+    assert!(!is_plain_call(&tail, 0));
+    let mut section = tail;
+    assert_eq!(jal_site(&mut section, 0, 8194), Ok(()));
+    assert!(section.starts_with(&[0x6f, 0x23, 0x20, 0x00]));
+}
+
+#[test]
+fn tail_calls_become_jumps_of_linkers() {
+    let tail = [0x17, 0x03, 0x00, 0x00, 0x67, 0x00, 0x03, 0x00];
+    // what GNU ld writes for a distance of 8194, and `c.j` of distance 8
+    let table: [(RelaxationKind, RiscVInstruction, u64, u32); 2] = [
+        (RelaxationKind::TailToJal, RiscVInstruction::JType, 8194, 0x0020_206f),
+        (RelaxationKind::TailToCJ, RiscVInstruction::CjType, 8, 0x0000_a021),
+    ];
+    for (kind, form, distance, after) in table {
+        let mut section = tail;
+        let mut offset = 0;
+        let mut addend = 5;
+        assert!(kind.can_apply(&section, 0), "{kind:?}");
+        kind.apply(&mut section, &mut offset, &mut addend);
+        assert_eq!((offset, addend), (0, 5), "{kind:?}");
+        assert_eq!(kind.next_modifier(), RelocationModifier::SkipNextRelocation, "{kind:?}");
+        form.write_to_value(distance, false, &mut section);
+        assert_eq!(u32_from_slice(&section), after, "{kind:?}");
+    }
+}
+
+#[test]
+fn rewrites_match_their_instructions() {
+    // by GNU as: `call f`, `tail f`, `call t0, f`; and a `jalr` from another register than the
+    // `auipc`'s
+    let call = both([0x0000_0097, 0x0000_80e7]);
+    let tail = both([0x0000_0317, 0x0003_0067]);
+    let call_t0 = both([0x0000_0317, 0x0003_02e7]);
+    let apart = both([0x0000_0317, 0x0003_8067]);
+    // `lui a0` and `lui sp`, and then `addi a0, a0` and `ori a0, a0`
+    let lui = both([0x0000_0537, 0x0005_0513]);
+    let lui_sp = both([0x0000_0137, 0x0005_6513]);
+    let table: [(RelaxationKind, &[u8], u64, bool); 15] = [
+        (RelaxationKind::CallToJal, &call, 0, true),
+        (RelaxationKind::CallToJal, &tail, 0, false),
+        (RelaxationKind::CallToJal, &call_t0, 0, false),
+        (RelaxationKind::CallToJal, &call, 4, false),
+        (RelaxationKind::TailToJal, &tail, 0, true),
+        (RelaxationKind::TailToCJ, &tail, 0, true),
+        (RelaxationKind::TailToJal, &call, 0, false),
+        (RelaxationKind::TailToJal, &call_t0, 0, false),
+        (RelaxationKind::TailToJal, &apart, 0, false),
+        (RelaxationKind::Hi20ToCLui, &lui, 0, true),
+        (RelaxationKind::Hi20ToCLui, &lui_sp, 0, false),
+        (RelaxationKind::Hi20Delete, &lui_sp, 0, true),
+        (RelaxationKind::Hi20Delete, &lui, 4, false),
+        (RelaxationKind::Lo12Rs1ToZero, &lui, 4, true),
+        (RelaxationKind::Lo12Rs1ToZero, &lui_sp, 4, false),
+    ];
+    for (kind, section, offset, want) in table {
+        assert_eq!(kind.matches(section, offset), want, "{kind:?}, {section:?}");
+        assert!(!kind.matches(section, 5), "{kind:?}");
+    }
+    // `lb`, `lwu`, `flw`, `fsd`, `sd`, `jalr`, and a vector load, which has no immediate
+    let words: [(u32, bool); 7] = [
+        (0x0005_0503, true),
+        (0x0005_6503, true),
+        (0x0005_2507, true),
+        (0x00a5_3027, true),
+        (0x00a5_3023, true),
+        (0x0005_0567, true),
+        (0x0205_6007, false),
+    ];
+    for (word, want) in words {
+        let section = word.to_le_bytes();
+        assert_eq!(RelaxationKind::Lo12Rs1ToZero.matches(&section, 0), want, "{word:?}");
+    }
+}
+
+#[test]
+fn distances_that_jal_cannot_hold_are_rejected() {
+    for (distance, want) in [(-1048576, true), (1048575, true), (1048576, false)] {
+        assert_eq!(distance_fits_jal(distance), want, "{distance:?}");
+    }
+    let mut section = 0x0000_0097u32.to_le_bytes();
+    assert_eq!(jal_site(&mut section, 0, 1048576), Err(CallError::TooFar));
+    assert_eq!(jal_site(&mut section, 0, 1048575), Err(CallError::OddDistance));
+    assert_eq!(jal_site(&mut section, 1, 2), Err(CallError::OutOfSection));
+}
+
+#[test]
+fn relocations_have_their_meaning() {
+    assert!(relocation_type_from_raw(RiscVRelocation::Other(7)).is_none());
+    assert!(relocation_type_from_raw(RiscVRelocation::R_RISCV_TLSDESC_CALL).is_none());
+    let clui = RelaxationKind::clui_rel_info();
+    assert_eq!(clui.size, RelocationSize::bit_mask_riscv(0, 32, RiscVInstruction::CluiType));
+    for (value, want) in [(1048574, true), (1048575, false), (-1048576, true), (-1048577, false)] {
+        let jal = relocation_type_from_raw(RiscVRelocation::R_RISCV_JAL);
+        assert_eq!(jal.is_some_and(|info| info.range.contains(value)), want, "{value:?}");
+    }
+    assert!(Bias::from_value(0).is_none());
+    let signed = AllowedRange::from_bit_size(17, Sign::Signed);
+    for (value, want) in [(-65536, true), (65535, true), (65536, false), (-65537, false)] {
+        assert_eq!(signed.contains(value), want, "{value:?}");
+    }
+}

@@ -1,0 +1,201 @@
+//! Which rewrites are chosen, compared with what GNU ld 2.40 and `ld.lld` 19.1.7 made.
+
+use super::linked::{ADDRESS, ENTRY, IMAGE, SITES};
+use super::{both, pairs};
+use linker_utils::elf::{Choice, LinkFacts, Operands};
+use linker_utils::riscv64::{DeletedBytes, RelaxationKind, RiscVRelocation, choose, row};
+use linker_utils::utils::u32_from_slice;
+
+/// The facts of a relocation that may be relaxed, in a program that is loaded at one address.
+fn facts_at(symbol: u64, place: u64) -> LinkFacts {
+    LinkFacts {
+        has_fixed_address: true,
+        has_fixed_distance: true,
+        may_compress: true,
+        is_marked: true,
+        has_addresses: true,
+        operands: Operands { symbol, plt_entry: symbol, place, ..Operands::default() },
+        ..LinkFacts::default()
+    }
+}
+
+/// Rewrites what is at an offset, writes the value there, and returns the choice.
+fn link(
+    name: RiscVRelocation,
+    section: &mut [u8; 8],
+    at: u64,
+    facts: &LinkFacts,
+) -> Choice<RelaxationKind, RiscVRelocation> {
+    let chosen = choose(name, &*section, at, facts);
+    let (mut offset, mut addend) = (at, facts.operands.addend);
+    chosen.kind.apply(&mut section[..], &mut offset, &mut addend);
+    write(chosen.relocation, section, at, &facts.operands);
+    chosen
+}
+
+fn write(name: RiscVRelocation, section: &mut [u8; 8], at: u64, operands: &Operands) {
+    assert!(at <= 8);
+    let row = row(name).expect("a row");
+    if let Some(value) = row.value(operands) {
+        assert!(row.write(value, &mut section[at as usize..]).is_ok());
+    }
+}
+
+fn choice(
+    kind: RelaxationKind,
+    relocation: RiscVRelocation,
+) -> Choice<RelaxationKind, RiscVRelocation> {
+    Choice { kind, relocation }
+}
+
+#[test]
+fn choices_of_shortened_lui_match_gnu_ld() {
+    let shortened = choice(RelaxationKind::Hi20ToCLui, RiscVRelocation::R_RISCV_RVC_LUI);
+    let as_it_is = choice(RelaxationKind::NoOp, RiscVRelocation::R_RISCV_LO12_I);
+    for (before, value, after) in pairs::SHORTENED_LUI {
+        let facts = facts_at(value.cast_unsigned(), 0x10000);
+        let mut section = before;
+        let high = link(RiscVRelocation::R_RISCV_HI20, &mut section, 0, &facts);
+        let low = link(RiscVRelocation::R_RISCV_LO12_I, &mut section, 4, &facts);
+        assert_eq!((high, low), (shortened, as_it_is), "{value:?}");
+        let deleted = Some(DeletedBytes { start: 2, count: 2 });
+        assert_eq!(high.kind.deleted(), deleted, "{value:?}");
+        let [a, b, _, _, c, d, e, f] = section;
+        assert_eq!([a, b, c, d, e, f], after, "{value:?}");
+    }
+}
+
+#[test]
+fn choices_of_deleted_lui_match_gnu_ld() {
+    let gone = choice(RelaxationKind::Hi20Delete, RiscVRelocation::R_RISCV_NONE);
+    let from_x0 = choice(RelaxationKind::Lo12Rs1ToZero, RiscVRelocation::R_RISCV_LO12_I);
+    for (before, value, after) in pairs::DELETED_LUI {
+        let facts = facts_at(value, 0x10000);
+        let mut section = before;
+        let high = link(RiscVRelocation::R_RISCV_HI20, &mut section, 0, &facts);
+        let low = link(RiscVRelocation::R_RISCV_LO12_I, &mut section, 4, &facts);
+        assert_eq!((high, low), (gone, from_x0), "{value:?}");
+        let deleted = Some(DeletedBytes { start: 0, count: 4 });
+        assert_eq!(high.kind.deleted(), deleted, "{value:?}");
+        let [_, _, _, _, a, b, c, d] = section;
+        assert_eq!([a, b, c, d], after, "{value:?}");
+    }
+}
+
+const CALL: [u32; 2] = [0x0000_0097, 0x0000_80e7];
+
+const TAIL: [u32; 2] = [0x0000_0317, 0x0003_0067];
+
+#[test]
+fn choices_of_calls_match_linkers() {
+    // each distance before and after the deletion of the `jalr`, and the linker's word
+    let table: [([u32; 2], RelaxationKind, i64, i64, u32); 3] = [
+        (CALL, RelaxationKind::CallToJal, 1048572, 1048568, 0x7f9f_f0ef),
+        (CALL, RelaxationKind::CallToJal, -1048574, -1048574, 0x8020_00ef),
+        (TAIL, RelaxationKind::TailToJal, 8198, 8194, 0x0020_206f),
+    ];
+    for (words, kind, input, output, want) in table {
+        let place = 0x20_0000u64;
+        let facts = facts_at(place.wrapping_add_signed(input), place);
+        let mut section = both(words);
+        let name = RiscVRelocation::R_RISCV_CALL_PLT;
+        let chosen = choose(name, &section, 0, &facts);
+        assert_eq!(chosen, choice(kind, RiscVRelocation::R_RISCV_JAL), "{input:?}");
+        let deleted = Some(DeletedBytes { start: 4, count: 4 });
+        assert_eq!(chosen.kind.deleted(), deleted, "{input:?}");
+        let (mut offset, mut addend) = (0, 0);
+        chosen.kind.apply(&mut section, &mut offset, &mut addend);
+        let closer = facts_at(place.wrapping_add_signed(output), place);
+        write(chosen.relocation, &mut section, 0, &closer.operands);
+        let [a, b, c, d, _, _, _, _] = section;
+        assert_eq!(u32::from_le_bytes([a, b, c, d]), want, "{input:?}");
+    }
+    // `call t0, f`, of which GNU ld makes a `jal t0`: no rewrite writes that
+    let call_t0 = both([0x0000_0317, 0x0003_02e7]);
+    let name = RiscVRelocation::R_RISCV_CALL_PLT;
+    let chosen = choose(name, &call_t0, 0, &facts_at(4098, 0));
+    assert_eq!(chosen, choice(RelaxationKind::NoOp, name), "call t0");
+}
+
+#[test]
+fn altered_calls_are_left() {
+    let name = RiscVRelocation::R_RISCV_CALL;
+    let facts = facts_at(0x1800, 0x1000);
+    let call = u64::from_le_bytes(both(CALL));
+    for bit in 0..64u32 {
+        let kind = match bit {
+            12..=31 | 52..=63 => RelaxationKind::CallToJal,
+            // the `jalr` links no register
+            39 => RelaxationKind::TailToJal,
+            _ => RelaxationKind::NoOp,
+        };
+        let altered = (call ^ 1 << bit).to_le_bytes();
+        assert_eq!(choose(name, &altered, 0, &facts).kind, kind, "{bit:?}");
+    }
+}
+
+/// The facts of a symbol of an executable, with a GOT entry and a thread pointer.
+fn facts_in(symbol: u64, place: u64, is_local: bool, is_marked: bool) -> LinkFacts {
+    LinkFacts {
+        is_local,
+        has_fixed_distance: true,
+        is_executable: true,
+        is_marked,
+        has_addresses: true,
+        operands: Operands {
+            symbol,
+            place,
+            got_entry: ENTRY,
+            tls_base: IMAGE,
+            ..Operands::default()
+        },
+        ..LinkFacts::default()
+    }
+}
+
+/// What is left of the instruction at an offset, and the choice.
+fn left(name: RiscVRelocation, word: u32, facts: &LinkFacts) -> (RelaxationKind, u32) {
+    let mut section = both([word, 0]);
+    let chosen = choose(name, &section, 0, facts);
+    let (mut offset, mut addend) = (0, 0);
+    chosen.kind.apply(&mut section[..], &mut offset, &mut addend);
+    let is_of_entry = chosen.kind == RelaxationKind::CallToLd;
+    let operands = Operands {
+        symbol: if is_of_entry { ENTRY } else { facts.operands.symbol },
+        ..facts.operands
+    };
+    write(chosen.relocation, &mut section, 0, &operands);
+    (chosen.kind, u32_from_slice(&section))
+}
+
+#[test]
+fn choices_of_thread_local_storage_match_linkers() {
+    for (r_type, index, flags, symbol, place, before, after) in SITES {
+        let facts = facts_in(symbol, place, flags & 2 != 0, flags & 1 != 0);
+        let (kind, word) = left(RiscVRelocation::from_elf(r_type), before, &facts);
+        let word = if kind == RelaxationKind::Delete { 0 } else { word };
+        assert_eq!(word, after, "{r_type:?}, {index:?}, {place:?}");
+    }
+}
+
+#[test]
+fn a_load_from_the_got_becomes_the_address_of_a_linker() {
+    let (symbol, place, load, address) = ADDRESS;
+    let facts = LinkFacts { has_got_high_part: true, ..facts_in(symbol, place, true, true) };
+    let (high, auipc) = left(RiscVRelocation::R_RISCV_GOT_HI20, load[0], &facts);
+    let (low, addi) = left(RiscVRelocation::R_RISCV_PCREL_LO12_I, load[1], &facts);
+    assert_eq!((high, low), (RelaxationKind::NoOp, RelaxationKind::LdToAddi), "{symbol:?}");
+    assert_eq!([auipc, addi], address, "{symbol:?}");
+    let of_address = LinkFacts { has_got_high_part: false, ..facts };
+    let (kind, _) = left(RiscVRelocation::R_RISCV_PCREL_LO12_I, load[1], &of_address);
+    assert_eq!(kind, RelaxationKind::NoOp, "{symbol:?}");
+    for replaceable in [
+        LinkFacts { is_local: false, ..facts },
+        LinkFacts { is_ifunc: true, ..facts },
+        LinkFacts { has_fixed_distance: false, ..facts },
+        LinkFacts { is_marked: false, ..facts },
+    ] {
+        let (kind, _) = left(RiscVRelocation::R_RISCV_PCREL_LO12_I, load[1], &replaceable);
+        assert_eq!(kind, RelaxationKind::NoOp, "{replaceable:?}");
+    }
+}

@@ -1,0 +1,17 @@
+//! Runs of code: their items, their relaxation, and their packed sections.
+
+mod items;
+mod packing;
+mod random;
+mod relax;
+
+use linker_utils::runs::relaxation::{Alignment, Item, Shapes, Site};
+
+/// A site of eight bytes.
+fn site(offset: u64, target: u64, shapes: Shapes) -> Item {
+    Item::Site(Site { offset, len: 8, target, shapes })
+}
+
+fn aligned(offset: u64, nops: u32, power: u64, most: Option<u64>) -> Item {
+    Item::Aligned(Alignment { offset, nops, power, most })
+}

@@ -1,0 +1,195 @@
+//! Relocations and bytes as assemblers make them.
+
+use super::{aligned, site};
+use linker_utils::runs::items::{ItemsError, Relocation};
+use linker_utils::runs::relaxation::{Item, are_items};
+use linker_utils::runs::{loongarch64, riscv64, shapes};
+
+fn relocation(offset: u64, code: u32, addend: i64, target: Option<u64>) -> Relocation {
+    Relocation { offset, code, has_symbol: false, addend, target }
+}
+
+/// As `relocation`, with a symbol.
+fn of_symbol(offset: u64, code: u32, addend: i64) -> Relocation {
+    Relocation { has_symbol: true, ..relocation(offset, code, addend, None) }
+}
+
+/// Requires these items of a RISC-V section.
+fn expect_riscv(section: &[u8], relocations: &[Relocation], c_extension: bool, expected: &[Item]) {
+    let items = riscv64::items(section, 0x100, relocations, c_extension).unwrap();
+    assert_eq!(items, expected);
+}
+
+/// `call f`, `tail f`, `call t0, f` and the nops of `.p2align 4`, as GNU as and clang assemble
+/// them.
+const RISC_V: [u8; 38] = [
+    0x97, 0x00, 0x00, 0x00, 0xe7, 0x80, 0x00, 0x00, 0x17, 0x03, 0x00, 0x00, 0x67, 0x00, 0x03, 0x00,
+    0x97, 0x02, 0x00, 0x00, 0xe7, 0x82, 0x02, 0x00, 0x13, 0x00, 0x00, 0x00, 0x13, 0x00, 0x00, 0x00,
+    0x13, 0x00, 0x00, 0x00, 0x01, 0x00,
+];
+
+#[test]
+fn riscv_calls_and_alignments_are_items() {
+    let relocations = [
+        relocation(0, 19, 0, Some(0x900)),
+        relocation(0, 51, 0, None),
+        relocation(8, 19, 0, Some(0x900)),
+        relocation(8, 51, 0, None),
+        relocation(16, 18, 0, Some(0x900)),
+        relocation(16, 51, 0, None),
+        relocation(24, 43, 14, None),
+    ];
+    let expected = [
+        site(0x100, 0x900, shapes::riscv64::CALL),
+        site(0x108, 0x900, shapes::riscv64::TAIL_C),
+        site(0x110, 0x900, shapes::riscv64::CALL),
+        aligned(0x118, 14, 16, Some(14)),
+    ];
+    expect_riscv(&RISC_V, &relocations, true, &expected);
+}
+
+#[test]
+fn riscv_code_of_four_byte_instructions_has_no_short_ones() {
+    let relocations = [
+        relocation(8, 19, 0, Some(0x900)),
+        relocation(8, 51, 0, None),
+        relocation(24, 43, 12, None),
+    ];
+    let expected =
+        [site(0x108, 0x900, shapes::riscv64::CALL_WITHOUT_C), aligned(0x118, 12, 16, Some(12))];
+    expect_riscv(&RISC_V, &relocations, false, &expected);
+}
+
+/// A call that isn't marked, one whose target isn't in the run, one marked at another place, and
+/// bytes that aren't a call.
+#[test]
+fn riscv_calls_that_stay_are_left_out() {
+    let relocations = [
+        relocation(0, 19, 0, Some(0x900)),
+        relocation(8, 19, 0, None),
+        relocation(8, 51, 0, None),
+        relocation(16, 19, 0, Some(0x900)),
+        relocation(8, 51, 0, None),
+        relocation(4, 19, 0, Some(0x900)),
+        relocation(4, 51, 0, None),
+        relocation(24, 43, 0, None),
+    ];
+    expect_riscv(&RISC_V, &relocations, true, &[]);
+}
+
+#[test]
+fn malformed_riscv_relocations_are_named() {
+    let rows: [(Relocation, bool); 6] = [
+        (relocation(39, 2, 0, None), true),
+        (relocation(31, 19, 0, None), true),
+        (relocation(24, 43, 16, None), true),
+        (relocation(24, 43, 13, None), true),
+        (relocation(24, 43, -2, None), true),
+        (relocation(24, 43, 14, None), false),
+    ];
+    for &(malformed, c_extension) in &rows {
+        let relocations = [relocation(38, 51, 0, None), malformed];
+        let items = riscv64::items(&RISC_V, 0, &relocations, c_extension);
+        assert_eq!(items.err(), Some(ItemsError::Malformed(1)), "{malformed:?}");
+    }
+}
+
+/// `pcaddu18i ra` and `jirl ra, ra, 0`; `pcaddu18i t0` and `jirl zero, t0, 0`; `pcalau12i a0` and
+/// `addi.d a0, a0, 0`; three nops.
+const LOONGARCH: [u8; 36] = [
+    0x01, 0x00, 0x00, 0x1e, 0x21, 0x00, 0x00, 0x4c, 0x0c, 0x00, 0x00, 0x1e, 0x80, 0x01, 0x00, 0x4c,
+    0x04, 0x00, 0x00, 0x1a, 0x84, 0x00, 0xc0, 0x02, 0x00, 0x00, 0x40, 0x03, 0x00, 0x00, 0x40, 0x03,
+    0x00, 0x00, 0x40, 0x03,
+];
+
+/// Requires these items of a LoongArch section.
+fn expect_loongarch(section: &[u8], relocations: &[Relocation], expected: &[Item]) {
+    let items = loongarch64::items(section, 0x100, relocations).unwrap();
+    assert_eq!(items, expected);
+}
+
+#[test]
+fn loongarch_calls_addresses_and_alignments_are_items() {
+    let relocations = [
+        relocation(0, 110, 0, Some(0x900)),
+        relocation(0, 100, 0, None),
+        relocation(8, 110, 0, Some(0x900)),
+        relocation(8, 100, 0, None),
+        relocation(16, 71, 0, Some(0x900)),
+        relocation(16, 100, 0, None),
+        relocation(20, 72, 0, Some(0x900)),
+        relocation(20, 100, 0, None),
+        relocation(24, 102, 12, None),
+    ];
+    let expected = [
+        site(0x100, 0x900, shapes::loongarch64::CALL36),
+        site(0x108, 0x900, shapes::loongarch64::CALL36),
+        site(0x110, 0x900, shapes::loongarch64::PCALA),
+        aligned(0x118, 12, 16, Some(12)),
+    ];
+    expect_loongarch(&LOONGARCH, &relocations, &expected);
+}
+
+/// Without a site the units of a run are bytes, and code whose alignments need nops is still a run.
+#[test]
+fn alignments_alone_are_a_run() {
+    let relocations = [relocation(24, 43, 14, None)];
+    let riscv = riscv64::items(&[0; 40], 0x100, &relocations, true).unwrap();
+    assert!(are_items(&riscv, 0));
+    let relocations = [relocation(24, 102, 12, None)];
+    let loongarch = loongarch64::items(&[0; 40], 0x100, &relocations).unwrap();
+    assert!(are_items(&loongarch, 0));
+}
+
+/// `.p2align 4` and `.p2align 4, , 4` in a section with a symbol: the exponent, and the most bytes
+/// above its 8 bits.
+#[test]
+fn loongarch_alignments_have_two_spellings() {
+    let rows: [(Relocation, Item); 4] = [
+        (relocation(24, 102, 12, None), aligned(0x118, 12, 16, Some(12))),
+        (relocation(24, 102, 4, None), aligned(0x118, 4, 8, Some(4))),
+        (of_symbol(24, 102, 4), aligned(0x118, 12, 16, Some(12))),
+        (of_symbol(24, 102, 0x404), aligned(0x118, 12, 16, Some(4))),
+    ];
+    for &(relocation, expected) in &rows {
+        expect_loongarch(&LOONGARCH, &[relocation], &[expected]);
+    }
+}
+
+/// An address in two registers, one whose low part has another target, and one whose low part isn't
+/// marked.
+#[test]
+fn loongarch_addresses_that_stay_are_left_out() {
+    let mut other_register = LOONGARCH;
+    other_register[20] = 0x85;
+    let mut relocations = [
+        relocation(16, 71, 0, Some(0x900)),
+        relocation(16, 100, 0, None),
+        relocation(20, 72, 0, Some(0x900)),
+        relocation(20, 100, 0, None),
+    ];
+    expect_loongarch(&other_register, &relocations, &[]);
+    relocations[2].target = Some(0x904);
+    expect_loongarch(&LOONGARCH, &relocations, &[]);
+    relocations[2].target = Some(0x900);
+    expect_loongarch(&LOONGARCH, &relocations[..3], &[]);
+}
+
+#[test]
+fn malformed_loongarch_relocations_are_named() {
+    let rows = [
+        relocation(37, 2, 0, None),
+        relocation(32, 110, 0, None),
+        relocation(24, 102, 8, None),
+        relocation(28, 102, 12, None),
+        relocation(24, 102, -4, None),
+        of_symbol(24, 102, 5),
+        of_symbol(24, 102, 1),
+        of_symbol(24, 102, 64),
+    ];
+    for &malformed in &rows {
+        let relocations = [relocation(36, 100, 0, None), malformed];
+        let items = loongarch64::items(&LOONGARCH, 0, &relocations);
+        assert_eq!(items.err(), Some(ItemsError::Malformed(1)), "{malformed:?}");
+    }
+}

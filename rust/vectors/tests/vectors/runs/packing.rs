@@ -1,0 +1,181 @@
+//! Sections as linkers pack them.
+
+use super::{aligned, site};
+use linker_utils::relaxation::RelaxDelta;
+use linker_utils::runs::packing::{ItemError, Machine, RejectedItem, pack_run, packed_run_len};
+use linker_utils::runs::relaxation::{Item, are_items, relax};
+use linker_utils::runs::shapes::fixed;
+use linker_utils::runs::shapes::loongarch64::{CALL36, PCALA};
+use linker_utils::runs::shapes::riscv64::{CALL, TAIL_C};
+
+/// Requires that items of a section at the input offset 0x100 are packed so, or rejected.
+fn expect(
+    machine: Machine,
+    section: &[u8],
+    items: &[Item],
+    deltas: &[RelaxDelta],
+    expected: Result<(), RejectedItem>,
+    bytes: &[u8],
+) {
+    let mut out = [0xee; 68];
+    let len = packed_run_len(0x100, section.len(), deltas);
+    assert!(len <= out.len());
+    let packed = &mut out[..len];
+    let result = pack_run(machine, section, 0x100, items, deltas, 0xff08, packed);
+    assert_eq!(result, expected);
+    assert_eq!(&packed[..bytes.len().min(len)], bytes);
+}
+
+/// The bytes of an item from its third one on are deleted.
+fn all_but_two(offset: u64, len: u32) -> [RelaxDelta; 1] {
+    [RelaxDelta {
+        input_offset: offset + 2,
+        cumulative_deleted: u64::from(len - 2),
+        bytes_deleted: len - 2,
+    }]
+}
+
+/// `call f`, `nop`, `tail f`, `call t0, far`, the nops of `.p2align 4`, and `f: ret`, as GNU as
+/// assembles them.
+const RISC_V: [u8; 44] = [
+    0x97, 0x00, 0x00, 0x00, 0xe7, 0x80, 0x00, 0x00, 0x13, 0x00, 0x00, 0x00, 0x17, 0x03, 0x00, 0x00,
+    0x67, 0x00, 0x03, 0x00, 0x17, 0x03, 0x00, 0x00, 0xe7, 0x02, 0x03, 0x00, 0x01, 0x00, 0x13, 0x00,
+    0x00, 0x00, 0x13, 0x00, 0x00, 0x00, 0x13, 0x00, 0x00, 0x00, 0x82, 0x80,
+];
+
+/// The items of that section at the input offset 0x100 of a run that loses 8 bytes before it. `far`
+/// goes to the address 0x40000000.
+fn riscv_items() -> [Item; 5] {
+    [
+        site(0x10, 0, fixed(0)),
+        site(0x100, 0x12a, CALL),
+        site(0x10c, 0x12a, TAIL_C),
+        site(0x114, 0x3fff_010a, CALL),
+        aligned(0x11c, 14, 16, None),
+    ]
+}
+
+/// `jal ra, f`, `nop`, `j f`, `call t0, far`, three `nop` and `c.nop`, and `f: ret`: as GNU ld 2.40
+/// and ld.lld 19 link them at 0x10000, where these leave all nops as they are, with `c.nop` first.
+const RISC_V_PACKED: [u8; 34] = [
+    0xef, 0x00, 0x00, 0x02, 0x13, 0x00, 0x00, 0x00, 0x21, 0xa8, 0x17, 0x03, 0xff, 0x3f, 0xe7, 0x02,
+    0x63, 0xff, 0x13, 0x00, 0x00, 0x00, 0x13, 0x00, 0x00, 0x00, 0x13, 0x00, 0x00, 0x00, 0x01, 0x00,
+    0x82, 0x80,
+];
+
+/// `call36 f`, three `nop`, `tail36 $t0, f`, `la.pcrel $a0, f`, `call36 far`, `la.pcrel $a1, data`,
+/// the nops of `.p2align 4`, and `f: ret`, as clang 19 assembles them.
+const LOONGARCH: [u8; 68] = [
+    0x01, 0x00, 0x00, 0x1e, 0x21, 0x00, 0x00, 0x4c, 0x00, 0x00, 0x40, 0x03, 0x00, 0x00, 0x40, 0x03,
+    0x00, 0x00, 0x40, 0x03, 0x0c, 0x00, 0x00, 0x1e, 0x80, 0x01, 0x00, 0x4c, 0x04, 0x00, 0x00, 0x1a,
+    0x84, 0x00, 0xc0, 0x02, 0x01, 0x00, 0x00, 0x1e, 0x21, 0x00, 0x00, 0x4c, 0x05, 0x00, 0x00, 0x1a,
+    0xa5, 0x00, 0xc0, 0x02, 0x00, 0x00, 0x40, 0x03, 0x00, 0x00, 0x40, 0x03, 0x00, 0x00, 0x40, 0x03,
+    0x20, 0x00, 0x00, 0x4c,
+];
+
+/// The items of that section, as for RISC-V. `data` is at the address 0x40000808.
+fn loongarch_items() -> [Item; 7] {
+    [
+        site(0x10, 0, fixed(0)),
+        site(0x100, 0x140, CALL36),
+        site(0x114, 0x140, CALL36),
+        site(0x11c, 0x140, PCALA),
+        site(0x124, 0x3fff_0110, CALL36),
+        site(0x12c, 0x3fff_0918, PCALA),
+        aligned(0x134, 12, 16, None),
+    ]
+}
+
+/// `bl f`, three `nop`, `b f`, `pcaddi $a0, f`, as clang 19 assembles them; `call36 far` and
+/// `la.pcrel $a1, data` as ld.lld 19 links them at 0x10018; two `nop`, and `f: ret`.
+const LOONGARCH_PACKED: [u8; 52] = [
+    0x00, 0x30, 0x00, 0x54, 0x00, 0x00, 0x40, 0x03, 0x00, 0x00, 0x40, 0x03, 0x00, 0x00, 0x40, 0x03,
+    0x00, 0x20, 0x00, 0x50, 0xe4, 0x00, 0x00, 0x18, 0x01, 0x00, 0x02, 0x1e, 0x21, 0xe8, 0xff, 0x4e,
+    0x25, 0xfe, 0x7f, 0x1a, 0xa5, 0x20, 0xe0, 0x02, 0x00, 0x00, 0x40, 0x03, 0x00, 0x00, 0x40, 0x03,
+    0x20, 0x00, 0x00, 0x4c,
+];
+
+#[test]
+fn sections_of_riscv_are_packed_as_linkers_pack_them() {
+    let items = riscv_items();
+    assert!(are_items(&items, 0xff08));
+    let plan = relax(&items, 0xff08).unwrap();
+    assert_eq!(plan.kept, [0, 4, 2, 8, 14]);
+    let deltas = plan.deletions.deltas();
+    let machine = Machine::RiscV64;
+    expect(machine, &RISC_V, &items[1..], deltas, Ok(()), &RISC_V_PACKED);
+}
+
+#[test]
+fn sections_of_loongarch_are_packed() {
+    let items = loongarch_items();
+    assert!(are_items(&items, 0xff08));
+    let plan = relax(&items, 0xff08).unwrap();
+    assert_eq!(plan.kept, [0, 4, 4, 4, 8, 8, 8]);
+    let deltas = plan.deletions.deltas();
+    let machine = Machine::LoongArch64;
+    expect(machine, &LOONGARCH, &items[1..], deltas, Ok(()), &LOONGARCH_PACKED);
+}
+
+#[test]
+fn rejected_items_of_riscv_are_named() {
+    let items = riscv_items();
+    assert!(are_items(&items, 0xff08));
+    let plan = relax(&items, 0xff08).unwrap();
+    let deltas = plan.deletions.deltas();
+    let rows = [
+        (aligned(0x128, 6, 8, None), ItemError::OutOfSection),
+        // from the `tail f` on, which is deleted but for its first two bytes
+        (site(0x110, 0x12a, CALL), ItemError::NotItsFirstBytes),
+        (site(0x10a, 0x12a, CALL), ItemError::NotItsInstructions),
+        (site(0x118, 0x12a, CALL), ItemError::NotItsInstructions),
+        // `j` over too many bytes, and over an odd number of them
+        (site(0x10c, 0x1140, TAIL_C), ItemError::OutOfReach),
+        (site(0x10c, 0x129, TAIL_C), ItemError::OutOfReach),
+    ];
+    let machine = Machine::RiscV64;
+    for &(item, error) in &rows {
+        let rejected = Err(RejectedItem { index: 1, error });
+        expect(machine, &RISC_V, &[items[1], item], deltas, rejected, &[0xee; 34]);
+    }
+    let overlaps = Err(RejectedItem { index: 2, error: ItemError::Overlaps });
+    let twice = [items[1], items[2], items[2]];
+    expect(machine, &RISC_V, &twice, deltas, overlaps, &[0xee; 34]);
+}
+
+#[test]
+fn rejected_items_of_loongarch_are_named() {
+    let items = loongarch_items();
+    assert!(are_items(&items, 0xff08));
+    let plan = relax(&items, 0xff08).unwrap();
+    let deltas = plan.deletions.deltas();
+    let rows = [
+        (site(0x108, 0x140, CALL36), ItemError::NotItsInstructions),
+        // `b` over 2^27 bytes and more, `pcaddi` and `call36` over an odd number of them
+        (site(0x114, 0x0800_0200, CALL36), ItemError::OutOfReach),
+        (site(0x11c, 0x141, PCALA), ItemError::OutOfReach),
+        (site(0x124, 0x141, CALL36), ItemError::OutOfReach),
+        // `la.pcrel` over 2^31 bytes and more
+        (site(0x12c, 0x8001_0000, PCALA), ItemError::OutOfReach),
+    ];
+    let machine = Machine::LoongArch64;
+    for &(item, error) in &rows {
+        let rejected = Err(RejectedItem { index: 1, error });
+        expect(machine, &LOONGARCH, &[items[1], item], deltas, rejected, &[0xee; 52]);
+    }
+}
+
+#[test]
+fn items_of_which_two_bytes_stay_are_rejected() {
+    let no_shape = Err(RejectedItem { index: 0, error: ItemError::NoShape });
+    // `c.j` links none
+    let items = [site(0x100, 0x12a, CALL)];
+    let deltas = all_but_two(0x100, 8);
+    expect(Machine::RiscV64, &RISC_V, &items, &deltas, no_shape, &[0xee; 38]);
+    let machine = Machine::LoongArch64;
+    let items = [site(0x100, 0x140, CALL36)];
+    expect(machine, &LOONGARCH, &items, &deltas, no_shape, &[0xee; 62]);
+    let items = [aligned(0x134, 12, 16, None)];
+    let deltas = all_but_two(0x134, 12);
+    expect(machine, &LOONGARCH, &items, &deltas, no_shape, &[0xee; 58]);
+}

@@ -1,0 +1,115 @@
+//! Runs worked by hand.
+
+use super::{aligned, site};
+use linker_utils::runs::relaxation::{
+    Fault, Item, ItemFault, Shape, Shapes, are_items, first_faulty, relax,
+};
+use linker_utils::runs::shapes::{fixed, loongarch64, riscv64};
+
+/// Requires these shapes and kept bytes of a run.
+fn expect_plan(items: &[Item], shapes: &[u8], kept: &[u64]) {
+    assert!(are_items(items, 0));
+    let plan = relax(items, 0).unwrap();
+    assert_eq!(plan.shapes, shapes);
+    assert_eq!(plan.kept, kept);
+}
+
+/// With all nops kept the distance would be 1048576, which `jal` doesn't reach.
+#[test]
+fn a_call_takes_the_bytes_that_an_alignment_frees() {
+    let items = [site(0, 1048580, riscv64::CALL), aligned(8, 14, 16, None)];
+    expect_plan(&items, &[0, 0], &[4, 12]);
+    assert!(are_items(&items, 0));
+    let plan = relax(&items, 0).unwrap();
+    assert_eq!(plan.deletions.input_to_output_offset(1048580), 1048574);
+    let farther = [site(0, 1048582, riscv64::CALL), aligned(8, 14, 16, None)];
+    expect_plan(&farther, &[1, 0], &[8, 8]);
+}
+
+#[test]
+fn shapes_reach_as_far_as_their_instructions() {
+    let rows: [(Shapes, u64, u8, u64); 8] = [
+        (riscv64::CALL, 1048574 + 4, 0, 4),
+        (riscv64::CALL, 1048576 + 4, 1, 8),
+        (riscv64::TAIL_C, 2046 + 6, 0, 2),
+        (riscv64::TAIL_C, 2048 + 6, 1, 4),
+        (loongarch64::PCALA, 2097148 + 4, 0, 4),
+        (loongarch64::PCALA, 2097152 + 4, 1, 8),
+        (loongarch64::CALL36, 134217724 + 4, 0, 4),
+        (loongarch64::CALL36, 134217728 + 4, 1, 8),
+    ];
+    for &(shapes, target, shape, kept) in &rows {
+        expect_plan(&[site(0, target, shapes)], &[shape], &[kept]);
+    }
+    expect_plan(&[site(0, 0, fixed(4))], &[0], &[4]);
+}
+
+/// ld.lld 19 keeps none of 12 nops for the addend 0x404, where 8 bytes are needed.
+#[test]
+fn an_alignment_keeps_none_where_more_are_needed_than_may_stay() {
+    let items = [aligned(8, 12, 16, Some(4))];
+    expect_plan(&items, &[0], &[0]);
+    let items = [aligned(8, 12, 16, Some(8))];
+    expect_plan(&items, &[0], &[8]);
+}
+
+/// Requires that the item at an index is the first faulty one, and the fault its first.
+fn expect_fault(items: &[Item], index: usize, fault: Fault) {
+    assert!(!are_items(items, 0));
+    assert_eq!(first_faulty(items, 0), Some(ItemFault { index, fault }));
+}
+
+/// A site of eight bytes at 0 whose short shapes keep 4 bytes and more.
+fn shaped(short: [Shape; 2], count: u8, longest: u32) -> Item {
+    site(0, 0, Shapes { short, count, longest })
+}
+
+fn reaching(kept: u32, behind: u64, ahead: u64, unit: u32) -> Shape {
+    Shape { kept, behind, ahead, unit }
+}
+
+#[test]
+fn items_by_themselves_are_rejected() {
+    let call = riscv64::CALL;
+    assert!(are_items(&[site(0, 8, call)], 0));
+    expect_fault(&[site(0, 8, call), site(6, 8, call)], 1, Fault::Overlaps);
+    expect_fault(&[site(8, 8, call), site(0, 8, call)], 1, Fault::Overlaps);
+    expect_fault(&[site(u64::MAX - 7, 0, call)], 0, Fault::TooHigh);
+    expect_fault(&[site(0, 0, fixed(9))], 0, Fault::ShapeTooLong);
+    let jal = reaching(4, 1 << 20, 1 << 20, 2);
+    let c_j = reaching(2, 1 << 11, 1 << 11, 2);
+    expect_fault(&[shaped([c_j, jal], 3, 8)], 0, Fault::TooManyShapes);
+    expect_fault(&[shaped([jal, c_j], 2, 8)], 0, Fault::ShapesNotAscending);
+    expect_fault(&[shaped([jal, jal], 1, 4)], 0, Fault::ShapesNotAscending);
+    let odd = reaching(4, 1 << 20, 1 << 20, 3);
+    expect_fault(&[shaped([odd, jal], 1, 8)], 0, Fault::BadUnit);
+    let wide = reaching(4, 1 << 20, 1 << 20, 4);
+    expect_fault(&[shaped([c_j, wide], 2, 8)], 0, Fault::BadUnit);
+    let ahead = reaching(4, 1 << 20, 0, 2);
+    expect_fault(&[shaped([ahead, jal], 1, 8)], 0, Fault::BadReach);
+    let far = reaching(2, 1 << 21, 1 << 11, 2);
+    expect_fault(&[shaped([far, jal], 2, 8)], 0, Fault::BadReach);
+    let items = [site(0, 0, call), aligned(8, 14, 12, None)];
+    expect_fault(&items, 1, Fault::BadPower);
+}
+
+#[test]
+fn items_are_rejected_among_the_others() {
+    let call = riscv64::CALL;
+    expect_fault(&[site(0, 6, call)], 0, Fault::TargetInside);
+    let items = [site(0, 8, call), site(8, 14, call), site(16, 16, call)];
+    expect_fault(&items, 1, Fault::TargetInside);
+    let items = [site(0, 12, call), aligned(8, 14, 16, None)];
+    expect_fault(&items, 0, Fault::TargetInside);
+    let pcala = loongarch64::PCALA;
+    let items = [site(0, 0, pcala), aligned(10, 2, 2, None)];
+    expect_fault(&items, 1, Fault::PowerBelowUnit);
+    let items = [site(0, 0, pcala), aligned(10, 12, 16, None)];
+    expect_fault(&items, 1, Fault::UnevenEnd);
+    let items = [site(0, 0, call), aligned(8, 12, 16, None)];
+    expect_fault(&items, 1, Fault::TooFewNops);
+    let items = [site(0, 0, pcala), aligned(10, 14, 16, Some(4))];
+    expect_fault(&items, 1, Fault::UnevenNops);
+    let items = [site(0, 0, fixed(6)), site(8, 0, pcala)];
+    expect_fault(&items, 0, Fault::UnevenShape);
+}

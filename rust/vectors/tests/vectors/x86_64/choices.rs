@@ -1,0 +1,246 @@
+//! The rewrites that linkers chose, by what they knew.
+
+use super::{REWRITES, SEQUENCES};
+use linker_utils::elf::{Choice, LinkFacts, Operands};
+use linker_utils::x86_64::{RelaxationKind, X86_64Relocation, choose, row};
+
+/// The address of a field before the rewrite.
+const PLACE: u64 = 0x401000;
+
+/// What a linker knows that makes a rewrite of a field, after which it writes a number there.
+fn facts_of(name: X86_64Relocation, kind: RelaxationKind, number: u32) -> LinkFacts {
+    let number = i64::from(number.cast_signed()).cast_unsigned();
+    let operands = Operands { addend: -4, place: PLACE, tls_base: 0x8000, ..Operands::default() };
+    let facts = LinkFacts { has_addresses: true, ..LinkFacts::default() };
+    match kind {
+        RelaxationKind::MovIndirectToLea => LinkFacts {
+            is_local: true,
+            has_fixed_distance: true,
+            operands: Operands { symbol: number.wrapping_add(PLACE + 4), ..operands },
+            ..facts
+        },
+        // the field is one byte lower
+        RelaxationKind::JmpIndirectToRelative => LinkFacts {
+            is_local: true,
+            has_fixed_distance: true,
+            operands: Operands { symbol: number.wrapping_add(PLACE + 3), ..operands },
+            ..facts
+        },
+        RelaxationKind::TlsDescToInitialExec => LinkFacts {
+            is_executable: true,
+            operands: Operands { got_entry: number.wrapping_add(PLACE + 4), ..operands },
+            ..facts
+        },
+        // the field is eight bytes higher
+        RelaxationKind::TlsGdToInitialExec => LinkFacts {
+            is_executable: true,
+            operands: Operands { got_entry: number.wrapping_add(PLACE + 12), ..operands },
+            ..facts
+        },
+        _ => match name {
+            X86_64Relocation::R_X86_64_GOTPCRELX
+            | X86_64Relocation::R_X86_64_REX_GOTPCRELX
+            | X86_64Relocation::R_X86_64_CODE_4_GOTPCRELX
+            | X86_64Relocation::R_X86_64_CODE_6_GOTPCRELX => LinkFacts {
+                is_local: true,
+                has_fixed_address: true,
+                has_fixed_distance: true,
+                operands: Operands { symbol: number, ..operands },
+                ..facts
+            },
+            _ => LinkFacts {
+                is_local: true,
+                is_executable: true,
+                operands: Operands { symbol: number.wrapping_add(operands.tls_base), ..operands },
+                ..facts
+            },
+        },
+    }
+}
+
+/// Chooses a rewrite, makes it, and writes the field's value.
+fn link(
+    name: X86_64Relocation,
+    section: &mut [u8],
+    offset: u64,
+    facts: &LinkFacts,
+) -> RelaxationKind {
+    let choice = choose(name, section, offset, facts);
+    let (mut at, mut addend) = (offset, facts.operands.addend);
+    choice.kind.apply(section, &mut at, &mut addend);
+    let place = facts.operands.place.wrapping_add(at).wrapping_sub(offset);
+    let operands = Operands { place, addend, ..facts.operands };
+    if let Some(row) = row(choice.relocation)
+        && let Some(value) = row.value(&operands)
+        && at <= section.len() as u64
+    {
+        let _ = row.write(value, &mut section[at as usize..]);
+    }
+    choice.kind
+}
+
+fn linked(
+    name: X86_64Relocation,
+    before: [u8; 10],
+    offset: u64,
+    facts: &LinkFacts,
+) -> (RelaxationKind, [u8; 10]) {
+    let mut section = before;
+    let kind = link(name, &mut section, offset, facts);
+    (kind, section)
+}
+
+#[test]
+fn choices_are_those_of_linkers() {
+    for rewrite in &REWRITES {
+        let facts = facts_of(rewrite.name, rewrite.kind, rewrite.field.unwrap_or(0));
+        let found = linked(rewrite.name, rewrite.before, rewrite.offset, &facts);
+        assert_eq!(found, (rewrite.kind, rewrite.after), "{:?}", rewrite.kind);
+    }
+}
+
+#[test]
+fn choices_for_tls_sequences_are_those_of_linkers() {
+    for sequence in &SEQUENCES {
+        let number = match sequence.field {
+            Some((_, number)) => number,
+            None => 0,
+        };
+        let facts = facts_of(sequence.name, sequence.kind, number);
+        let mut section = sequence.before;
+        let kind = link(sequence.name, &mut section, sequence.offset, &facts);
+        assert_eq!(kind, sequence.kind, "{:?}", sequence.kind);
+        assert_eq!(section, sequence.after, "{:?}", sequence.kind);
+    }
+}
+
+/// An instruction, and the bits that can be others so that it is still one with a rewrite: the
+/// register, the width, and the operation.
+struct Instruction {
+    name: X86_64Relocation,
+    offset: u64,
+    bytes: [u8; 10],
+    free: [u8; 10],
+}
+
+static INSTRUCTIONS: [Instruction; 14] = [
+    // mov; or
+    Instruction {
+        name: X86_64Relocation::R_X86_64_REX_GOTPCRELX,
+        offset: 3,
+        bytes: [0x48, 0x8b, 0x1d, 0, 0, 0, 0, 0, 0, 0],
+        free: [0x0c, 0x80, 0x38, 255, 255, 255, 255, 255, 255, 255],
+    },
+    Instruction {
+        name: X86_64Relocation::R_X86_64_CODE_4_GOTPCRELX,
+        offset: 4,
+        bytes: [0xd5, 0x48, 0x8b, 0x1d, 0, 0, 0, 0, 0, 0],
+        free: [0, 0x4c, 0x80, 0x38, 255, 255, 255, 255, 255, 255],
+    },
+    // add; or, adc, and
+    Instruction {
+        name: X86_64Relocation::R_X86_64_REX_GOTPCRELX,
+        offset: 3,
+        bytes: [0x48, 0x03, 0x2d, 0, 0, 0, 0, 0, 0, 0],
+        free: [0x0c, 0x38, 0x38, 255, 255, 255, 255, 255, 255, 255],
+    },
+    Instruction {
+        name: X86_64Relocation::R_X86_64_CODE_6_GOTPCRELX,
+        offset: 6,
+        bytes: [0x62, 0xf4, 0xec, 0x10, 0x03, 0x0d, 0, 0, 0, 0],
+        free: [0, 0x90, 0xf8, 0x0c, 0x38, 0x38, 255, 255, 255, 255],
+    },
+    // cmp; xor, sub, sbb
+    Instruction {
+        name: X86_64Relocation::R_X86_64_REX_GOTPCRELX,
+        offset: 3,
+        bytes: [0x48, 0x3b, 0x2d, 0, 0, 0, 0, 0, 0, 0],
+        free: [0x0c, 0x38, 0x38, 255, 255, 255, 255, 255, 255, 255],
+    },
+    // test
+    Instruction {
+        name: X86_64Relocation::R_X86_64_REX_GOTPCRELX,
+        offset: 3,
+        bytes: [0x48, 0x85, 0x2d, 0, 0, 0, 0, 0, 0, 0],
+        free: [0x0c, 0, 0x38, 255, 255, 255, 255, 255, 255, 255],
+    },
+    // jmp, call
+    Instruction {
+        name: X86_64Relocation::R_X86_64_GOTPCRELX,
+        offset: 2,
+        bytes: [0xff, 0x25, 0, 0, 0, 0, 0, 0, 0, 0],
+        free: [0, 0, 255, 255, 255, 255, 255, 255, 255, 255],
+    },
+    Instruction {
+        name: X86_64Relocation::R_X86_64_GOTPCRELX,
+        offset: 2,
+        bytes: [0xff, 0x15, 0, 0, 0, 0, 0, 0, 0, 0],
+        free: [0, 0, 255, 255, 255, 255, 255, 255, 255, 255],
+    },
+    // mov and add of an offset from the thread pointer
+    Instruction {
+        name: X86_64Relocation::R_X86_64_GOTTPOFF,
+        offset: 3,
+        bytes: [0x48, 0x8b, 0x05, 0, 0, 0, 0, 0, 0, 0],
+        free: [0x0c, 0, 0x38, 255, 255, 255, 255, 255, 255, 255],
+    },
+    Instruction {
+        name: X86_64Relocation::R_X86_64_GOTTPOFF,
+        offset: 3,
+        bytes: [0x48, 0x03, 0x25, 0, 0, 0, 0, 0, 0, 0],
+        free: [0x0c, 0, 0x38, 255, 255, 255, 255, 255, 255, 255],
+    },
+    // lea and call of a descriptor
+    Instruction {
+        name: X86_64Relocation::R_X86_64_GOTPC32_TLSDESC,
+        offset: 3,
+        bytes: [0x48, 0x8d, 0x0d, 0, 0, 0, 0, 0, 0, 0],
+        free: [0x04, 0, 0x38, 255, 255, 255, 255, 255, 255, 255],
+    },
+    Instruction {
+        name: X86_64Relocation::R_X86_64_CODE_4_GOTPC32_TLSDESC,
+        offset: 4,
+        bytes: [0xd5, 0x48, 0x8d, 0x0d, 0, 0, 0, 0, 0, 0],
+        free: [0, 0x44, 0, 0x38, 255, 255, 255, 255, 255, 255],
+    },
+    Instruction {
+        name: X86_64Relocation::R_X86_64_TLSDESC_CALL,
+        offset: 0,
+        bytes: [0xff, 0x10, 0, 0, 0, 0, 0, 0, 0, 0],
+        free: [0, 0, 255, 255, 255, 255, 255, 255, 255, 255],
+    },
+    // an offset whatever the instruction is
+    Instruction {
+        name: X86_64Relocation::R_X86_64_DTPOFF32,
+        offset: 3,
+        bytes: [0x48, 0x8d, 0x80, 0, 0, 0, 0, 0, 0, 0],
+        free: [255; 10],
+    },
+];
+
+#[test]
+fn other_instructions_are_not_rewritten() {
+    let facts = LinkFacts {
+        is_local: true,
+        has_fixed_address: true,
+        has_fixed_distance: true,
+        is_executable: true,
+        has_local_exec_base: true,
+        has_addresses: true,
+        operands: Operands { addend: -4, ..Operands::default() },
+        ..LinkFacts::default()
+    };
+    for instruction in &INSTRUCTIONS {
+        let name = instruction.name;
+        let unchanged = Choice { kind: RelaxationKind::NoOp, relocation: name };
+        for index in 0..10 {
+            for bit in [0x01, 0x02, 0x04, 0x08, 0x10, 0x20, 0x40, 0x80] {
+                let mut bytes = instruction.bytes;
+                bytes[index] ^= bit;
+                let choice = choose(name, &bytes, instruction.offset, &facts);
+                let is_rewritten = instruction.free[index] & bit != 0;
+                assert_eq!(choice != unchanged, is_rewritten, "{bytes:?}");
+            }
+        }
+    }
+}

@@ -1,0 +1,83 @@
+#!/usr/bin/env python3
+"""The arguments with which the kit's compiler reads a crate over the libraries below it that
+`rt ci` proved and left in out/, with their statements only. `rt check` and `rt lib` would prove
+these a second time.
+
+usage: tools/over_rt_ci.py CRATE    prints them, one a line. Status 1: a library isn't there, or is
+                                    one of the checkout's own checks, which `rt ci` leaves.
+       tools/over_rt_ci.py --wait LOG CRATE    returns once `rt ci`, which writes LOG, has proved all
+                                               libraries below. Status 1: it ended before.
+"""
+import re
+import shutil
+import sys
+import time
+from pathlib import Path
+
+ROOT = Path(__file__).resolve().parent.parent
+KIT = Path(shutil.which("rt")).resolve().parent.parent
+
+
+def crates():
+    """The lines of crates.txt: each crate, whether it is a static library, and its dependencies."""
+    listed = {}
+    for line in (ROOT / "crates.txt").read_text().splitlines():
+        head, _, needs = line.partition("#")[0].partition(":")
+        if not head.strip():
+            continue
+        name, *kind = head.split()
+        listed[name] = ("staticlib" in kind, needs.split())
+    return listed
+
+
+def libraries(name):
+    """The repository's libraries below a crate: those that it uses, and those that these use."""
+    listed = crates()
+    below = [need for need in listed[name][1] if need in listed]
+    for need in below:
+        below += [other for other in listed[need][1] if other in listed and other not in below]
+    return below
+
+
+def wait(log, name):
+    """Waits for the libraries below a crate, and returns whether `rt ci` proved them."""
+    own = libraries(name)
+    while True:
+        said = Path(log).read_text(errors="replace") if Path(log).exists() else ""
+        if all(re.search(rf"^rt: {need} (proved|is kept)\b", said, re.MULTILINE) for need in own):
+            return True
+        if re.search(r"^\d+ passed, \d+ failed$", said, re.MULTILINE):
+            return False
+        time.sleep(1)
+
+
+def arguments(name):
+    """The arguments for a crate, or None where a library below it isn't one of `rt ci`."""
+    is_static, needs = crates()[name]
+    folders = {need: ROOT / "crates" / need / "out/rlib" for need in libraries(name)}
+    for need, folder in folders.items():
+        # `rt ci` writes no stamp
+        if not (folder / f"{need}.rlib/format").exists() or (folder / "stamp").exists():
+            return None
+    root = next(it for it in ("src/lib.rt", "src/main.rt") if (ROOT / "crates" / name / it).exists())
+    words = ["--crate-name", name, root, "-L", f"dependency={KIT}/rlibs"]
+    for need in ["std", *needs]:
+        words += ["--extern", f"{need}={folders.get(need, KIT / 'rlibs')}/{need}.rlib"]
+    for folder in folders.values():
+        words += ["-L", f"dependency={folder}"]
+    words += ["--antt-project", f"{KIT}/rattle/logic/antt-project.json"]
+    words += ["--logic-built", f"{KIT}/logic_built", "--links", f"{name}="]
+    return words + ["--crate-type", "staticlib"] * is_static
+
+
+def main(words):
+    if words[0] == "--wait":
+        return not wait(*words[1:])
+    if (found := arguments(*words)) is None:
+        return 1
+    print("\n".join(found))
+    return 0
+
+
+if __name__ == "__main__":
+    sys.exit(main(sys.argv[1:]))
