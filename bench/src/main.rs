@@ -19,10 +19,16 @@ use inputs::{Random, deletions, is_inside};
 use library::*;
 use measure::{Beside, Report, Side, Sides};
 use sathunne::{Architecture, Ppc64Form, RelocationSize};
+use std::process::{Command, Stdio};
 use table::*;
 
 /// Calls of a round.
 const CALLS: usize = 2048;
+
+/// So many processes measure each line, as stack and heap lie elsewhere in each.
+const PROCESSES: usize = 4;
+/// The option of those whose rounds another one adds to its own.
+const PRINTS_ROUNDS: &str = "--print-rounds";
 
 /// The four sides, of which the original crate's may be missing.
 const LIBRARIES: [Option<&'static dyn Library>; 4] = [
@@ -69,7 +75,7 @@ fn main() {
         ("threads", threads::threads),
     ];
     let is_known = |arg: &String| {
-        ["--quick", "--check"].contains(&arg.as_str())
+        ["--quick", "--check", PRINTS_ROUNDS].contains(&arg.as_str())
             || arg.starts_with("--picture=")
             || parts.iter().any(|part| part.0 == arg)
     };
@@ -82,8 +88,15 @@ fn main() {
     let mut report = if is_quick {
         Report::new(0.03, 9)
     } else {
-        Report::new(0.1, 31)
+        Report::new(0.1 / PROCESSES as f64, 31usize.div_ceil(PROCESSES))
     };
+    if args.iter().any(|arg| arg == PRINTS_ROUNDS) {
+        report.print_rounds();
+    } else if !is_quick {
+        for _ in 1..PROCESSES {
+            report.add_process(&rounds_of_another(&args));
+        }
+    }
     for (name, part) in parts {
         if wants(name) {
             part(&mut report);
@@ -98,6 +111,16 @@ fn main() {
         eprintln!("{failures} lines fail");
         std::process::exit(i32::from(failures > 0));
     }
+}
+
+/// What another process prints that measures the same parts, with the rounds of each line.
+fn rounds_of_another(args: &[String]) -> String {
+    let mut process = Command::new(std::env::current_exe().expect("the path of this program"));
+    let parts = args.iter().filter(|arg| !arg.starts_with("--"));
+    process.args(parts).arg(PRINTS_ROUNDS).stderr(Stdio::inherit());
+    let output = process.output().expect("another process");
+    assert!(output.status.success(), "another process fails");
+    String::from_utf8(output.stdout).expect("a text")
 }
 
 // ---- forms

@@ -102,12 +102,18 @@ pub fn quantile(numbers: &mut [f64], tenths: usize) -> f64 {
     numbers[numbers.len() * tenths / 10]
 }
 
+/// Before the rounds of a line, where a process prints them.
+const ROUNDS: &str = "rounds of ";
+
 /// Prints tables in Markdown, and keeps the ratios. Says on standard error which one it measures.
 pub struct Report {
     budget: f64,
     rounds: usize,
     groups: Vec<Group>,
     begin: Instant,
+    prints_rounds: bool,
+    /// For each other process the rounds of the lines that are still to be measured.
+    others: Vec<std::vec::IntoIter<String>>,
 }
 
 impl Report {
@@ -118,6 +124,42 @@ impl Report {
             rounds,
             groups: Vec::new(),
             begin: Instant::now(),
+            prints_rounds: false,
+            others: Vec::new(),
+        }
+    }
+
+    /// Prints the rounds of each line, for a process that adds them.
+    pub fn print_rounds(&mut self) {
+        self.prints_rounds = true;
+    }
+
+    /// Adds the rounds that a process printed, which measures the same lines.
+    pub fn add_process(&mut self, printed: &str) {
+        let lines = printed.lines().filter_map(|line| line.strip_prefix(ROUNDS));
+        let lines: Vec<String> = lines.map(str::to_string).collect();
+        self.others.push(lines.into_iter());
+    }
+
+    /// Prints the rounds of the sides of a line where that is asked for, and adds those of other
+    /// processes.
+    pub fn share(&mut self, name: &str, sides: &mut [Vec<f64>]) {
+        if self.prints_rounds {
+            let times = |side: &Vec<f64>| -> String {
+                let times: Vec<String> = side.iter().map(f64::to_string).collect();
+                times.join(" ")
+            };
+            let sides: Vec<String> = sides.iter().map(times).collect();
+            println!("{ROUNDS}{name}\t{}", sides.join("\t"));
+        }
+        for other in &mut self.others {
+            let line = other.next().expect("the same lines");
+            let mut fields = line.split('\t');
+            assert_eq!(fields.next(), Some(name), "the same lines");
+            for (side, times) in sides.iter_mut().zip(fields) {
+                let times = times.split_whitespace();
+                side.extend(times.map(|time| time.parse::<f64>().expect("a time")));
+            }
         }
     }
 
@@ -172,6 +214,7 @@ impl Report {
                 rounds[at].extend(time.map(|time| time * 1e9 / calls as f64));
             }
         }
+        self.share(name, &mut rounds);
         let group = self.groups.last_mut().expect("a heading");
         let digits = |time: f64| if time < 1e4 { 2 } else { 0 };
         let number = |time: f64| format!(" {time:.*}", digits(time));

@@ -43,7 +43,11 @@ pub fn threads(report: &mut Report) {
             });
         })
     });
-    print("relocations of 16 sections of 4 MiB, each", relocated);
+    print(
+        report,
+        "relocations of 16 sections of 4 MiB, each",
+        relocated,
+    );
     let translated = ours.map(|library| {
         let deltas = &library.deltas(&list);
         rounds(report.rounds(), QUERIES, |threads| {
@@ -55,6 +59,7 @@ pub fn threads(report: &mut Report) {
         })
     });
     print(
+        report,
         "translations by one array of 65536 deltas, each",
         translated,
     );
@@ -75,7 +80,8 @@ fn rounds(count: usize, calls: usize, mut round: impl FnMut(usize)) -> [Vec<f64>
 
 /// A line for each number of threads: the medians, how much faster than one thread that is, and the
 /// 10th and the 90th percentile of the same of the rounds.
-fn print(name: &str, sides: [[Vec<f64>; 3]; 2]) {
+fn print(report: &mut Report, name: &str, mut sides: [[Vec<f64>; 3]; 2]) {
+    report.share(name, sides.as_flattened_mut());
     for (which, threads) in THREADS.into_iter().enumerate() {
         print!("| {name} | {threads} |");
         for times in &sides {
