@@ -87,7 +87,8 @@ macro_rules! rewrite_loops {
 /// are not the same.
 macro_rules! library {
     (
-        $module:ident, $crate_name:ident, $row_of:expr, $new:expr, $merge:expr, { $($more:item)* }
+        $module:ident, $crate_name:ident, $row_of:expr, $new:expr, $merge:expr, $walk:expr,
+        { $($more:item)* }
     ) => {
         pub mod $module {
             use super::*;
@@ -319,10 +320,15 @@ macro_rules! library {
                 }
 
                 fn walk(&self, queries: &[u64], outputs: &mut [u64]) {
+                    $walk(self, queries, outputs)
+                }
+
+                fn walk_each(&self, queries: &[u64], outputs: &mut [u64]) -> bool {
                     let mut cursor = self.cursor();
                     for (query, output) in queries.iter().zip(outputs) {
                         *output = cursor.translate(*query);
                     }
+                    true
                 }
             }
         }
@@ -357,6 +363,9 @@ library!(
     |list: Vec<(u64, u32)>| SectionRelaxDeltas::new(&list).expect("memory"),
     |deltas: &mut SectionRelaxDeltas, more: Vec<(u64, u32)>| {
         deltas.merge_additional(&more).expect("memory")
+    },
+    |deltas: &SectionRelaxDeltas, queries, outputs| {
+        deltas.cursor().translate_all(queries, outputs)
     },
     {
         fn relocate_each(
@@ -410,5 +419,8 @@ library!(
     },
     SectionRelaxDeltas::new,
     SectionRelaxDeltas::merge_additional,
+    |deltas: &SectionRelaxDeltas, queries, outputs| {
+        deltas.walk_each(queries, outputs);
+    },
     {}
 );

@@ -115,8 +115,12 @@ pub trait Deltas: Sync {
     fn outputs(&self, queries: &[u64]) -> u64;
     /// How many bytes all delete, so many times.
     fn totals(&self, count: usize) -> u64;
-    /// By a cursor.
+    /// Of all queries, by a cursor.
     fn walk(&self, queries: &[u64], outputs: &mut [u64]);
+    /// The same by one call for each, or false where there is none.
+    fn walk_each(&self, _queries: &[u64], _outputs: &mut [u64]) -> bool {
+        false
+    }
     /// The same deletions, searched by the heads of their blocks.
     fn by_heads(&self) -> Option<Box<dyn Deltas>> {
         None

@@ -19,16 +19,20 @@ use inputs::{Random, deletions, is_inside};
 use library::*;
 use measure::{Beside, Report, Side, Sides};
 use sathunne::{Architecture, Ppc64Form, RelocationSize};
-use std::process::{Command, Stdio};
+use std::process::Command;
 use table::*;
 
 /// Calls of a round.
 const CALLS: usize = 2048;
 
-/// So many processes measure each line, as stack and heap lie elsewhere in each.
+/// So many processes time each side, as stack and heap lie elsewhere in each.
 const PROCESSES: usize = 4;
-/// The option of those whose rounds another one adds to its own.
-const PRINTS_ROUNDS: &str = "--print-rounds";
+/// The option of a program that times the exports and the original crate behind functions.
+const EXPORTS_BY: &str = "--exports-by=";
+/// The option of a program that times the erased crate and the original one, both called directly.
+const CRATES_BY: &str = "--crates-by=";
+/// The option of those programs for which sides they time. They print their rounds.
+const SIDES: &str = "--sides=";
 
 /// The four sides, of which the original crate's may be missing.
 const LIBRARIES: [Option<&'static dyn Library>; 4] = [
@@ -52,12 +56,11 @@ fn main() {
     let args: Vec<String> = std::env::args().skip(1).collect();
     let is_quick = args.iter().any(|arg| arg == "--quick");
     let checks = args.iter().any(|arg| arg == "--check");
-    let picture = args.iter().find_map(|arg| arg.strip_prefix("--picture="));
     let wants = |part: &str| {
         let mut parts = args.iter().filter(|arg| !arg.starts_with("--")).peekable();
         parts.peek().is_none() || parts.any(|arg| arg == part)
     };
-    let parts: [(&str, fn(&mut Report)); 15] = [
+    let parts: [(&str, fn(&mut Report)); 16] = [
         ("forms", forms),
         ("rewrites", rewrites),
         ("choices", choices::choices),
@@ -70,13 +73,16 @@ fn main() {
         ("calls", calls),
         ("relaxing", relaxing::relaxing),
         ("packing", packing),
+        ("more", more),
         ("further", further::further),
         ("growth", growth::growth),
         ("threads", threads::threads),
     ];
+    let given = |option: &str| args.iter().find_map(|arg| arg.strip_prefix(option));
+    let with_value = ["--picture=", EXPORTS_BY, CRATES_BY, SIDES];
     let is_known = |arg: &String| {
-        ["--quick", "--check", PRINTS_ROUNDS].contains(&arg.as_str())
-            || arg.starts_with("--picture=")
+        ["--quick", "--check"].contains(&arg.as_str())
+            || with_value.iter().any(|option| arg.starts_with(option))
             || parts.iter().any(|part| part.0 == arg)
     };
     assert!(args.iter().all(is_known), "an unknown part or option");
@@ -90,11 +96,15 @@ fn main() {
     } else {
         Report::new(0.1 / PROCESSES as f64, 31usize.div_ceil(PROCESSES))
     };
-    if args.iter().any(|arg| arg == PRINTS_ROUNDS) {
-        report.print_rounds();
-    } else if !is_quick {
-        for _ in 1..PROCESSES {
-            report.add_process(&rounds_of_another(&args));
+    if let Some(sides) = given(SIDES) {
+        report.print_rounds(if sides == EXPORTS_BY { [0, 1] } else { [2, 3] });
+    }
+    for option in [EXPORTS_BY, CRATES_BY] {
+        let Some(path) = given(option) else { continue };
+        for _ in 0..PROCESSES {
+            let mut program = Command::new(path);
+            program.args(args.iter().filter(|arg| !arg.starts_with("--")));
+            report.add_program(program.arg(format!("{SIDES}{option}")));
         }
     }
     for (name, part) in parts {
@@ -104,23 +114,13 @@ fn main() {
     }
     let failures = report.summary();
     report.progress("the end");
-    if let Some(path) = picture {
+    if let Some(path) = given("--picture=") {
         std::fs::write(path, report.picture()).expect("the picture is written");
     }
     if checks {
         eprintln!("{failures} lines fail");
         std::process::exit(i32::from(failures > 0));
     }
-}
-
-/// What another process prints that measures the same parts, with the rounds of each line.
-fn rounds_of_another(args: &[String]) -> String {
-    let mut process = Command::new(std::env::current_exe().expect("the path of this program"));
-    let parts = args.iter().filter(|arg| !arg.starts_with("--"));
-    process.args(parts).arg(PRINTS_ROUNDS).stderr(Stdio::inherit());
-    let output = process.output().expect("another process");
-    assert!(output.status.success(), "another process fails");
-    String::from_utf8(output.stdout).expect("a text")
 }
 
 // ---- forms
@@ -469,12 +469,9 @@ fn numbers(report: &mut Report) {
     let values: Vec<u64> = (0..CALLS)
         .map(|_| random.word() >> random.below(64))
         .collect();
-    // the original says of a value that it takes for negative that it doesn't fit
-    let small: Vec<u64> = values.iter().map(|value| value >> 33).collect();
     let registers: Vec<u64> = (0..CALLS).map(|_| random.below(32)).collect();
-    let tests: [(&str, Test, &[u64]); 4] = [
+    let tests: [(&str, Test, &[u64]); 3] = [
         ("hi20_is_zero", Test::HighIsZero, &values),
-        ("hi20_fits_clui", Test::HighFitsClui, &small),
         ("rd_valid_for_clui", Test::RegisterFitsClui, &registers),
         ("distance_fits_jal", Test::DistanceFitsJal, &values),
     ];
@@ -608,26 +605,89 @@ fn translations(report: &mut Report) {
     }
 }
 
+/// Sections of so many deletions with twice as many ascending queries. There are so many sections
+/// that the branch predictor doesn't learn which offset comes next.
+struct Queried {
+    count: usize,
+    sections: Vec<(Vec<(u64, u32)>, Vec<u64>)>,
+}
+
+impl Queried {
+    fn new(random: &mut Random, count: usize) -> Queried {
+        let sections = (0..100_000usize.div_ceil(count))
+            .map(|_| {
+                let (list, len) = deletions(random, count);
+                let mut queries = outside(random, &list, len, 2 * count);
+                queries.sort_unstable();
+                (list, queries)
+            })
+            .collect();
+        Queried { count, sections }
+    }
+
+    fn name(&self) -> String {
+        let (count, sections) = (self.count, self.sections.len());
+        let name = format!("{count} deletions, {} ascending queries", 2 * count);
+        match sections {
+            1 => name,
+            _ => format!("{name}, of {sections} sections"),
+        }
+    }
+
+    fn queries(&self) -> usize {
+        2 * self.count * self.sections.len()
+    }
+
+    fn side<'a>(
+        &'a self,
+        library: &'static dyn Library,
+        walk: fn(&dyn Deltas, &[u64], &mut [u64]),
+    ) -> Option<Side<'a>> {
+        let lists = self.sections.iter();
+        let deltas: Vec<_> = lists.map(|(list, _)| library.deltas(list)).collect();
+        Some(Side::writes(vec![0; self.queries()], move |outputs| {
+            let outputs = outputs.chunks_mut(2 * self.count);
+            for ((deltas, (_, queries)), outputs) in deltas.iter().zip(&self.sections).zip(outputs)
+            {
+                walk(&**deltas, queries, outputs);
+            }
+        }))
+    }
+}
+
 fn cursors(report: &mut Report) {
     let random = &mut Random::new(10);
     report.heading("The cursor, a query", Beside::Original);
     for count in [10, 1_000, 100_000, 1_000_000] {
-        let (list, len) = deletions(random, count);
-        let mut queries = outside(random, &list, len, 2 * count);
-        queries.sort_unstable();
-        let queries = &queries;
-        let side = |library: &'static dyn Library| {
-            let deltas = library.deltas(&list);
-            Some(Side::writes(vec![0; queries.len()], move |outputs| {
-                deltas.walk(queries, outputs)
-            }))
+        let queried = Queried::new(random, count);
+        let side = |library| queried.side(library, |deltas, queries, out| deltas.walk(queries, out));
+        report.line(&queried.name(), queried.queries(), true, each(side));
+    }
+}
+
+/// What does more than the original's counterpart, so that it isn't the same task.
+fn more(report: &mut Report) {
+    let random = &mut Random::new(16);
+    report.heading(
+        "Calls that do more than those of the original",
+        Beside::Task("the original"),
+    );
+    let values: Vec<u64> = (0..CALLS).map(|_| random.word() >> (33 + random.below(31))).collect();
+    let side = |library: &'static dyn Library| {
+        Some(Side::number(|| library.passing(Test::HighFitsClui, &values)))
+    };
+    report.line("RISC-V hi20_fits_clui, also below 0", CALLS, true, each(side));
+    for count in [10, 1_000, 100_000] {
+        let queried = Queried::new(random, count);
+        let side = |library| {
+            queried.side(library, |deltas, queries, out| {
+                assert!(deltas.walk_each(queries, out), "one call for each query");
+            })
         };
-        report.line(
-            &format!("{count} deletions, {} ascending queries", 2 * count),
-            2 * count,
-            true,
-            each(side),
-        );
+        let [_, _, erased, original] = LIBRARIES;
+        let sides = [None, None, erased.and_then(side), original.and_then(side)];
+        let name = format!("a query a call of the cursor, also inside deletions: {}", queried.name());
+        report.line(&name, queried.queries(), true, sides);
     }
 }
 

@@ -2,6 +2,7 @@
 
 use std::hash::{DefaultHasher, Hash, Hasher};
 use std::hint::black_box;
+use std::process::{Command, Stdio};
 use std::time::{Duration, Instant};
 
 /// What is compared, in the order of the table: the exports and the original crate behind functions
@@ -102,7 +103,7 @@ pub fn quantile(numbers: &mut [f64], tenths: usize) -> f64 {
     numbers[numbers.len() * tenths / 10]
 }
 
-/// Before the rounds of a line, where a process prints them.
+/// Before the rounds of a line, where they are printed.
 const ROUNDS: &str = "rounds of ";
 
 /// Prints tables in Markdown, and keeps the ratios. Says on standard error which one it measures.
@@ -111,8 +112,9 @@ pub struct Report {
     rounds: usize,
     groups: Vec<Group>,
     begin: Instant,
-    prints_rounds: bool,
-    /// For each other process the rounds of the lines that are still to be measured.
+    /// Which sides are timed, where the rounds are printed.
+    timed: Option<[usize; 2]>,
+    /// For each other program the rounds of the lines that are still to be measured.
     others: Vec<std::vec::IntoIter<String>>,
 }
 
@@ -124,27 +126,38 @@ impl Report {
             rounds,
             groups: Vec::new(),
             begin: Instant::now(),
-            prints_rounds: false,
+            timed: None,
             others: Vec::new(),
         }
     }
 
-    /// Prints the rounds of each line, for a process that adds them.
-    pub fn print_rounds(&mut self) {
-        self.prints_rounds = true;
+    /// Times these sides only, and prints the rounds of each line, for a program that adds them.
+    pub fn print_rounds(&mut self, sides: [usize; 2]) {
+        self.timed = Some(sides);
     }
 
-    /// Adds the rounds that a process printed, which measures the same lines.
-    pub fn add_process(&mut self, printed: &str) {
+    /// Runs a program that measures the same lines and prints its rounds. This one then times none,
+    /// but adds theirs.
+    pub fn add_program(&mut self, program: &mut Command) {
+        let path = program.get_program().to_string_lossy().into_owned();
+        self.progress(&path);
+        let output = program.stderr(Stdio::inherit()).output().expect("a program");
+        assert!(output.status.success(), "{path} fails");
+        let printed = String::from_utf8(output.stdout).expect("a text");
         let lines = printed.lines().filter_map(|line| line.strip_prefix(ROUNDS));
         let lines: Vec<String> = lines.map(str::to_string).collect();
         self.others.push(lines.into_iter());
     }
 
+    /// Whether this program times a side itself.
+    pub fn times(&self, side: usize) -> bool {
+        self.others.is_empty() && self.timed.is_none_or(|sides| sides.contains(&side))
+    }
+
     /// Prints the rounds of the sides of a line where that is asked for, and adds those of other
-    /// processes.
+    /// programs.
     pub fn share(&mut self, name: &str, sides: &mut [Vec<f64>]) {
-        if self.prints_rounds {
+        if self.timed.is_some() {
             let times = |side: &Vec<f64>| -> String {
                 let times: Vec<String> = side.iter().map(f64::to_string).collect();
                 times.join(" ")
@@ -195,21 +208,22 @@ impl Report {
     /// Measures rounds of so many calls. Sides have to give the same, unless they differ on
     /// purpose.
     pub fn line(&mut self, name: &str, calls: usize, is_same: bool, mut sides: Sides) {
-        let gave: Vec<u64> = sides
-            .iter_mut()
-            .flatten()
-            .map(|side| (side.0)(true).1)
-            .collect();
+        let mut rounds = [const { Vec::new() }; 4];
+        let gave: Vec<u64> = sides.iter_mut().flatten().map(|side| (side.0)(true).1).collect();
         let has_same = gave.windows(2).all(|pair| pair[0] == pair[1]);
         assert!(!is_same || has_same, "{name}: the sides differ");
-        let limit = Duration::from_secs_f64(self.budget * gave.len() as f64);
-        let (mut rounds, begin) = ([const { Vec::new() }; 4], Instant::now());
+        let timed: Vec<usize> = (0..4)
+            .filter(|&at| self.times(at) && sides[at].is_some())
+            .collect();
+        let limit = Duration::from_secs_f64(self.budget * timed.len() as f64);
+        let begin = Instant::now();
         for round in 0.. {
-            if round >= self.rounds && begin.elapsed() > limit {
+            if timed.is_empty() || round >= self.rounds && begin.elapsed() > limit {
                 break;
             }
             // each goes first in turn
-            for at in (0..4).map(|at| (at + round) % 4) {
+            for k in 0..timed.len() {
+                let at = timed[(k + round) % timed.len()];
                 let time = sides[at].as_mut().map(|side| (side.0)(false).0);
                 rounds[at].extend(time.map(|time| time * 1e9 / calls as f64));
             }

@@ -25,16 +25,19 @@ pub fn threads(report: &mut Report) {
     let (list, len) = deletions(random, 1 << 16);
     let queries: Vec<u64> = (0..QUERIES).map(|_| random.below(len.into())).collect();
     let sections = &mut vec![section; SECTIONS];
-    let ours = [LIBRARIES[0], LIBRARIES[2]].map(|side| side.expect("ours"));
+    let ours = [0, 2].map(|side| {
+        let count = if report.times(side) { report.rounds() } else { 0 };
+        (LIBRARIES[side].expect("ours"), count)
+    });
 
-    let relocated = ours.map(|library| {
+    let relocated = ours.map(|(library, count)| {
         let run: RelocateAll = match library.relocate_all(AARCH64, &relocations) {
             Some(run) => run,
             None => Box::new(|section| {
                 library.relocate_each(AARCH64, &relocations, section) == Some(true)
             }),
         };
-        rounds(report.rounds(), SECTIONS * relocations.len(), |threads| {
+        rounds(count, SECTIONS * relocations.len(), |threads| {
             std::thread::scope(|scope| {
                 for part in sections.chunks_mut(SECTIONS / threads) {
                     let run = &run;
@@ -48,9 +51,9 @@ pub fn threads(report: &mut Report) {
         "relocations of 16 sections of 4 MiB, each",
         relocated,
     );
-    let translated = ours.map(|library| {
+    let translated = ours.map(|(library, count)| {
         let deltas = &library.deltas(&list);
-        rounds(report.rounds(), QUERIES, |threads| {
+        rounds(count, QUERIES, |threads| {
             std::thread::scope(|scope| {
                 for part in queries.chunks(QUERIES / threads) {
                     scope.spawn(move || std::hint::black_box(deltas.inputs(part)));
@@ -85,6 +88,10 @@ fn print(report: &mut Report, name: &str, mut sides: [[Vec<f64>; 3]; 2]) {
     for (which, threads) in THREADS.into_iter().enumerate() {
         print!("| {name} | {threads} |");
         for times in &sides {
+            if times[which].is_empty() {
+                print!(" | | |");
+                continue;
+            }
             let alone = times[0].iter().zip(&times[which]);
             let mut faster: Vec<f64> = alone.map(|(alone, time)| alone / time).collect();
             let [alone, time] = [0, which].map(|which| quantile(&mut times[which].clone(), 5));

@@ -32,7 +32,10 @@ impl<T> Fallible<T> for Vec<T> {
     #[inline]
     fn fallible_with_capacity(capacity: usize) -> Result<Vec<T>, AllocError> {
         let mut items = Vec::new();
-        items.try_reserve_exact(capacity)?;
+        // else a call that isn't inlined
+        if capacity > 0 {
+            items.try_reserve_exact(capacity)?;
+        }
         Ok(items)
     }
 
