@@ -1,4 +1,5 @@
-//! Branchless binary search among deltas, and among the heads of their blocks.
+//! Branchless search among deltas, and among the heads of their blocks. It halves what is left, and
+//! quarters longer lists of deltas without heads.
 
 ghost use Rattle.std.specs.Prelude.{◌≡◌, ◌<◌, ◌≤◌, ◌+◌, ◌-◌, ◌*◌, ◌^◌, ℕ, length, true, false};
 ghost use Rattle.linker_base.specs.declared.relaxation.partition_point.Level.TheVariants.{Heads};
@@ -18,6 +19,10 @@ use super::blocks::{BLOCK_LEN, BlockHead};
 /// So many deltas are searched at once, without their heads, by ten probes: they lie in the
 /// processor's cache.
 pub(super) const AT_ONCE: usize = 1023;
+
+/// So many deltas without heads are halved, by sixteen probes. Longer lists are quartered down to a
+/// few, since it is their last probes that wait for memory.
+const HALVED: usize = 65535;
 
 /// A test that the first deltas of a valid list pass, and the others fail. A search is compiled
 /// for each kind of test, so that no probe asks for the kind.
@@ -230,7 +235,8 @@ fn narrow_five_times<P: Probe, T: Test>(
 }
 
 /// The quarter of the range in which the partition point lies, and up to three elements more. The
-/// three elements are read side by side, so that a long list waits for memory half as often.
+/// three elements are read side by side, so that a long list waits for memory half as often. It is
+/// more work than two halvings, so that elements in the cache are halved in less time.
 #[inline(always)]
 fn quarter<P: Probe, T: Test>(
     probe: &mut P,
@@ -381,20 +387,26 @@ pub(super) fn search_deltas<P: Probe, T: Test>(probe: &mut P, test: T) -> usize
     ensures within { result ≤ length (P.state probe.old).subject.deltas }
     ensures point { IsPartitioned (P.state probe.old).subject Deltas (T.test test)
         → IsPointOf (P.state probe.old).subject Deltas (T.test test) result }
-    ensures spent { length (P.state probe.old).subject.deltas ≤ 1048575
+    ensures spent { length (P.state probe.old).subject.deltas ≤ 65535
         → (limit : ℕ)
         → CanHalve limit (P.state probe.old).probes (length (P.state probe.old).subject.deltas)
         → (P.state probe.new).probes ≤ limit }
 {
-    let mut range = SearchRange {
+    let all = SearchRange {
         start: 0,
         len: probe.len(Level::Deltas),
     };
-    while range.len > 1048575 {
+    if all.len <= HALVED {
+        let half = narrow(probe, Level::Deltas, test, all, all, 32767);
+        let less = narrow_five_times(probe, Level::Deltas, test, all, half, 1023);
+        return point_in(probe, Level::Deltas, test, all, less);
+    }
+    let mut range = all;
+    while range.len > 15 {
         range = quarter(probe, Level::Deltas, test, range);
     }
-    let less = narrow_ten_times(probe, Level::Deltas, test, range);
-    point_in(probe, Level::Deltas, test, range, less)
+    let last = narrow_four_times(probe, Level::Deltas, test, range, range, 1);
+    point_at(probe, Level::Deltas, test, range, last)
 }
 
 /// How many deltas pass, where the first of the block does and none after the block.

@@ -1,5 +1,6 @@
 // Made by tools/erase of crates/linker_base/src/relaxation/partition_point.rt.
-//! Branchless binary search among deltas, and among the heads of their blocks.
+//! Branchless search among deltas, and among the heads of their blocks. It halves what is left, and
+//! quarters longer lists of deltas without heads.
 
 use super::RelaxDelta;
 use super::blocks::{BLOCK_LEN, BlockHead};
@@ -7,6 +8,10 @@ use super::blocks::{BLOCK_LEN, BlockHead};
 /// So many deltas are searched at once, without their heads, by ten probes: they lie in the
 /// processor's cache.
 pub(super) const AT_ONCE: usize = 1023;
+
+/// So many deltas without heads are halved, by sixteen probes. Longer lists are quartered down to a
+/// few, since it is their last probes that wait for memory.
+const HALVED: usize = 65535;
 
 /// A test that the first deltas of a valid list pass, and the others fail. A search is compiled
 /// for each kind of test, so that no probe asks for the kind.
@@ -156,7 +161,8 @@ fn narrow_five_times<P: Probe, T: Test>(
 }
 
 /// The quarter of the range in which the partition point lies, and up to three elements more. The
-/// three elements are read side by side, so that a long list waits for memory half as often.
+/// three elements are read side by side, so that a long list waits for memory half as often. It is
+/// more work than two halvings, so that elements in the cache are halved in less time.
 #[inline(always)]
 fn quarter<P: Probe, T: Test>(
     probe: &mut P,
@@ -247,15 +253,21 @@ fn search_heads<P: Probe, T: Test>(probe: &mut P, test: T) -> usize {
 /// How many deltas pass, without the heads.
 #[inline(always)]
 pub(super) fn search_deltas<P: Probe, T: Test>(probe: &mut P, test: T) -> usize {
-    let mut range = SearchRange {
+    let all = SearchRange {
         start: 0,
         len: probe.len(Level::Deltas),
     };
-    while range.len > 1048575 {
+    if all.len <= HALVED {
+        let half = narrow(probe, Level::Deltas, test, all, all, 32767);
+        let less = narrow_five_times(probe, Level::Deltas, test, all, half, 1023);
+        return point_in(probe, Level::Deltas, test, all, less);
+    }
+    let mut range = all;
+    while range.len > 15 {
         range = quarter(probe, Level::Deltas, test, range);
     }
-    let less = narrow_ten_times(probe, Level::Deltas, test, range);
-    point_in(probe, Level::Deltas, test, range, less)
+    let last = narrow_four_times(probe, Level::Deltas, test, range, range, 1);
+    point_at(probe, Level::Deltas, test, range, last)
 }
 
 /// How many deltas pass, where the first of the block does and none after the block.

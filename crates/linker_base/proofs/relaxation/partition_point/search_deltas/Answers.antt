@@ -1,15 +1,18 @@
-use Rattle.std.proofs.Common.{◌∙◌}
+use Rattle.std.proofs.Common.{refl}
+use Rattle.linker_base.proofs.PartitionPoint.{narrows_then}
 use Rattle.linker_base.proofs.relaxation.partition_point.search_deltas.Goals as goal
 
-pub returns-clause-spent : goal.returns-clause-spent
-returns-clause-spent g c few limit can =
-    let short = c.loop-range.invariant.short few in
-    let left = (rw (short.0, short.1) at (c.narrow_ten_times-less.ensures.narrows.can limit)) can in
-    c.point_in.ensures.spent limit left
+pub narrow-half-requires-clause-ones : goal.narrow-half-requires-clause-ones
+narrow-half-requires-clause-ones g c = (15, refl)
 
-pub returns-clause-point : goal.returns-clause-point
-returns-clause-point g c parted =
-    let loop = c.loop-range.invariant in
-    let narrows = c.narrow_ten_times-less.ensures.narrows in
-    let known = (rw loop.same at narrows.narrowed) parted (loop.narrowed parted) in
-    (rw (narrows.probes.same ∙ loop.same) at c.point_in.ensures.point) parted known
+pub narrow_five_times-less-requires-clause-ones : goal.narrow_five_times-less-requires-clause-ones
+narrow_five_times-less-requires-clause-ones g c = (10, refl)
+
+pub narrow_four_times-last-requires-clause-ones : goal.narrow_four_times-last-requires-clause-ones
+narrow_four_times-last-requires-clause-ones g c = (1, refl)
+
+pub returns-then-all-le-HALVED-clause-spent : goal.returns-then-all-le-HALVED-clause-spent
+returns-then-all-le-HALVED-clause-spent g c few limit can =
+    let narrows = narrows_then c.narrow-half.ensures.narrows c.narrow_five_times-less.ensures.narrows in
+    let left = (rw c.len.ensures.size at narrows.can limit) can in
+    c.point_in.ensures.spent limit left
