@@ -3,6 +3,7 @@ pub mod Batches
 pub mod Bits
 pub mod ConsecutiveBits
 pub mod Fields
+pub mod Fours
 pub mod Fronts
 pub mod Immediates
 pub mod Laws

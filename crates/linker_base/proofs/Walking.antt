@@ -5,12 +5,12 @@ use Rattle.std.proofs.lemmas.Bool.{cases_lt}
 use Rattle.std.proofs.lemmas.List.{length-map, length-take, get_or-take, get_or-drop, get_or_default, take_all}
 use Rattle.std.proofs.lemmas.List.Sums.{count_by-le-length, fold_more}
 use Rattle.std.specs.List.Sorted.{IsNonDecreasing}
-use Rattle.linker_base.specs.Walk.{walk_at, walk_to, walk_through}
+use Rattle.linker_base.specs.Walk.{walk_at, walk_to, walk_through, AreAhead}
 use Rattle.linker_base.specs.declared.relaxation.RelaxDelta.{RelaxDelta}
 use Rattle.linker_base.specs.Deletions.{IsBefore, IsValid, rank}
 use Rattle.linker_base.specs.Deltas.{deletion_of}
 use Rattle.linker_base.specs.Listed.{AreValidDeltas}
-use Rattle.linker_base.specs.Inner.Listed.{IsWalked}
+use Rattle.linker_base.specs.Inner.Listed.{IsWalked, IsWrittenInside, AreWrittenUpTo, IsFollowed}
 use Rattle.linker_base.specs.declared.relaxation.walk.Reached.{Reached}
 use Rattle.linker_base.specs.Deletions.{begun_below}
 use Rattle.linker_base.proofs.Laws.{begun_parted}
@@ -194,3 +194,72 @@ rises_more offsets before at after one two within rises here k d low = elim (cas
       let same : k ≡ before = omega arith in
       rw (next, same, get_or_default offsets at d 0 within, get_or_default offsets before d 0 (omega arith)) here
 ]
+
+-- what holds at the first delta, once the queries inside a deletion that was passed before are written
+pub followed_first : (deltas : List RelaxDelta) (start : Reached) (queries old out : List ℕ) (next : ℕ) → start.passed ≤ length deltas → start.end < 2 ^ 64 → length queries ≡ length old → IsWrittenInside queries 0 start.end ((start.end + 2 ^ 64 - start.deleted) % 2 ^ 64) old next out
+    → IsFollowed deltas start queries start next out
+followed_first deltas start queries old out next within fits same wrote =
+    let ds = map deletion_of deltas in
+    let first : AreAhead (walk_at ds start.passed) queries → (k : ℕ) → k < length queries → All (λ d. d.0 < get_or queries k 0) (take start.passed ds) = λ ahead k low j d within. omega (arith, ahead.first (omega arith) j d within, ahead.ascending 0 k 0 (omega arith) low) in
+    record {
+      from = omega arith;
+      within = within;
+      some = wrote.within;
+      same_length = omega (arith, wrote.same_length, same);
+      begun = λ _ k d low high. absurd (omega arith);
+      walked = λ _ walked. walked;
+      ahead = λ _ ahead. first ahead next wrote.within;
+      past = wrote.past;
+      ranks = λ listed walked ahead k below.
+          let here = wrote.inside k 0 (omega arith) below in
+          omega (arith, here.1, rank_inside deltas listed start within walked (get_or queries k 0) (first ahead k (omega (arith, wrote.within))) here.0, fits);
+    }
+
+-- and at the next delta, once the queries up to this one and those inside it are written
+pub followed_over : (deltas : List RelaxDelta) (start : Reached) (queries : List ℕ) (reached : Reached) (at : ℕ) (old : List ℕ) → ((k : ℕ) → get_or queries k 0 < 2 ^ 64) → IsFollowed deltas start queries reached at old
+    → (delta : RelaxDelta) → reached.passed < length deltas → delta ≡ get_or deltas reached.passed blank → (IsNonDecreasing queries → delta.input_offset < get_or queries (length queries - 1) 0)
+    → (next : ℕ) (written : List ℕ) → AreWrittenUpTo queries at delta.input_offset reached.deleted old next written
+    → (after : Reached) → after ≡ record { passed = reached.passed + 1; deleted = delta.cumulative_deleted; end = (delta.input_offset + delta.bytes_deleted) % 2 ^ 64 }
+    → (later : ℕ) (out : List ℕ) → IsWrittenInside queries next after.end ((after.end + 2 ^ 64 - after.deleted) % 2 ^ 64) written later out
+    → IsFollowed deltas start queries after later out
+followed_over deltas start queries reached at old fits before delta inside item low next written upto after over later out wrote =
+    let ds = map deletion_of deltas in
+    let passed = reached.passed in
+    let offset = ap (λ (d : RelaxDelta). d.input_offset) item in
+    let bytes = ap (λ (d : RelaxDelta). d.bytes_deleted) item in
+    let sum = ap (λ (d : RelaxDelta). d.cumulative_deleted) item in
+    let over_passed = ap (λ (r : Reached). r.passed) over in
+    let over_end = ap (λ (r : Reached). r.end) over in
+    let walked_after : AreValidDeltas deltas → IsWalked ds after = λ listed. rw over (walked_over deltas listed passed inside _ _ sum (omega (arith, offset, bytes))) in
+    let ahead_at : AreValidDeltas deltas → AreAhead (walk_at ds start.passed) queries → (k : ℕ) → next ≤ k → k < length queries → All (λ d. d.0 < get_or queries k 0) (take after.passed ds) = λ listed ahead k from below. rw over_passed (ahead_of deltas listed passed (get_or queries k 0) inside (omega (arith, upto.past ahead.ascending, offset, ahead.ascending next k 0 from below))) in
+    record {
+      from = omega (arith, before.from, over_passed);
+      within = omega (arith, inside, over_passed);
+      some = wrote.within;
+      same_length = omega (arith, wrote.same_length, upto.same_length, before.same_length);
+      begun = λ ascending j d from below. elim (cases_lt j passed) [
+        | inl earlier ↦ before.begun ascending j d from earlier
+        | inr last ↦
+            let here : j ≡ passed = omega (arith, over_passed) in
+            rw (here, get_or_default deltas passed d blank inside) (omega (arith, low ascending, offset))
+      ];
+      walked = λ listed _. walked_after listed;
+      ahead = λ listed ahead. ahead_at listed ahead later wrote.from wrote.within;
+      past = wrote.past;
+      ranks = λ listed walked ahead k below. elim (cases_lt k next) [
+        | inr inner ↦
+            let here = wrote.inside k 0 inner below in
+            let ranked = rank_inside deltas listed after (omega (arith, inside, over_passed)) (walked_after listed) (get_or queries k 0) (ahead_at listed ahead k inner (omega (arith, wrote.within))) here.0 in
+            omega (arith, here.1, ranked, over_end)
+        | inl outer ↦ wrote.before k 0 outer ∙ elim (cases_lt k at) [
+          | inl earlier ↦ upto.before k 0 earlier ∙ before.ranks listed walked ahead k earlier
+          | inr due ↦
+              let here = upto.due ahead.ascending k due outer in
+              let long : k < length queries = omega (arith, upto.within) in
+              let rises = ahead.ascending at k 0 due long in
+              let begun = begun_here deltas listed passed (get_or queries k 0) before.within (λ j d within. omega (arith, before.ahead listed ahead j d within, rises)) (λ _. omega (arith, here.0, offset)) in
+              let ranked = rank_walked ds listed.valid reached (get_or queries k 0) begun (before.walked listed walked) in
+              omega (arith, here.1, ranked, rises, before.past (omega (arith, upto.within)), fits k)
+        ]
+      ];
+    }

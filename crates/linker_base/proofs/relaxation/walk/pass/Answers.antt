@@ -1,6 +1,7 @@
-use Rattle.std.proofs.Common.{◌≡◌, refl, inl, inr, arith}
+use Rattle.std.proofs.Common.{◌≡◌, refl, ap, inl, inr, arith}
 use Rattle.std.proofs.lemmas.Bool.{cases_lt}
 use Rattle.std.proofs.lemmas.List.{get_or_default}
+use Rattle.linker_base.specs.declared.relaxation.walk.Reached.{Reached}
 use Rattle.linker_base.proofs.Search.{blank}
 use Rattle.linker_base.proofs.Walking.{walked_to, walked_over}
 use Rattle.linker_base.proofs.relaxation.walk.pass.Goals as goal
@@ -18,14 +19,15 @@ pub loop-reached-preserved : goal.loop-reached-preserved
 loop-reached-preserved c =
     let deltas = c.args.deltas.now in
     let k = c.loop-reached.reached.passed in
+    let passed = ap (λ (r : Reached). r.passed) c.over-reached.ensures in
     record {
-      within = omega arith;
-      from = omega (arith, c.loop-reached.invariant.from);
+      within = omega (arith, passed);
+      from = omega (arith, c.loop-reached.invariant.from, passed);
       begun = λ j d low high. elim (cases_lt j k) [
         | inl earlier ↦ c.loop-reached.invariant.begun j d low earlier
         | inr last ↦
-            let here : j ≡ k = omega arith in
+            let here : j ≡ k = omega (arith, passed) in
             rw (here, get_or_default deltas k d blank c.loop-reached-test.true) c.if-deltas-reached.true
       ];
-      walked = λ listed _. walked_over deltas listed k c.loop-reached-test.true _ _ refl (omega arith);
+      walked = λ listed _. rw c.over-reached.ensures (walked_over deltas listed k c.loop-reached-test.true _ _ refl refl);
     }
