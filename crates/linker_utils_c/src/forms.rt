@@ -1,10 +1,11 @@
 //! Values in the immediates of instructions, by `e_machine` and a form's number.
 
-ghost use Rattle.std.specs.Prelude.{◌≡◌, ◌≢◌, ◌≤◌, IfOk, IfErr, IfSome, IfNone};
+ghost use Rattle.std.specs.Prelude.{◌≡◌, ◌≢◌, ◌≤◌, IfOk, IfErr, IfSome, IfNone, slice_get};
 ghost use Rattle.std.specs.Int.{byte_len, cast_unsigned, w64};
 ghost use Rattle.linker_base.specs.Form.{window_of};
 ghost use Rattle.linker_elf.specs.Elf.{relocation_form};
 ghost use Rattle.linker_elf.specs.Numbers.{flag_number};
+ghost use Rattle.linker_elf.specs.RiscV.{riscv_form, riscv_forms};
 ghost use Rattle.linker_utils_c.specs.Forms.{named_form, TakesValue, HasValue};
 ghost use Rattle.linker_utils_c.specs.Status.{code, HasRoom};
 
@@ -188,6 +189,25 @@ fn read_by<F: InstructionForm>(
     Status::Success
 }
 
+// Reads a value by a form of RISC-V. Only this read calls another function. It isn't inlined, so
+// that the reads of other architectures save no registers for that call.
+#[inline(never)]
+fn read_riscv(form: u32, bytes: &[u8], value: &mut u64, negative: &mut u8) -> u32
+    ensures known { IfSome (slice_get riscv_forms form)
+        (λ named. HasRoom (byte_len (riscv_form named).window) bytes.now result) }
+    ensures number { IfSome (slice_get riscv_forms form) (λ named. result ≡ code Status.Success
+        → value.new ≡ cast_unsigned w64
+        ((riscv_form named).reading (window_of (riscv_form named) bytes.now))) }
+    ensures flag { IfSome (slice_get riscv_forms form) (λ named. result ≡ code Status.Success
+        → negative.new
+        ≡ flag_number ((riscv_form named).flag (window_of (riscv_form named) bytes.now))) }
+    ensures unknown { IfNone (slice_get riscv_forms form) (result ≡ code Status.UnknownForm) }
+    ensures value_stays { result ≢ code Status.Success → value.new ≡ value.old }
+    ensures flag_stays { result ≢ code Status.Success → negative.new ≡ negative.old }
+{
+    read_by(RiscVInstruction::from_number(form), bytes, value, negative).number()
+}
+
 /// Reads the value in the instruction that `bytes` begins with, modulo 2^64, and the form's flag,
 /// 0 or 1. The error is the first that applies of `UnknownArchitecture`, `UnknownForm`, and
 /// `TooShort` with fewer bytes than the window.
@@ -222,12 +242,7 @@ pub extern "C" fn linker_utils_read_nonnull(
             negative,
         )
         .number(),
-        Architecture::RiscV => read_by(
-            RiscVInstruction::from_number(form),
-            bytes,
-            value,
-            negative,
-        ).number(),
+        Architecture::RiscV => read_riscv(form, bytes, value, negative),
         Architecture::LoongArch64 => read_by(
             LoongArch64Instruction::from_number(form),
             bytes,

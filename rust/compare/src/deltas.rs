@@ -62,11 +62,10 @@ fn fill(deletions: &[Deletion], deltas: &mut [RelaxDelta]) {
     let mut cumulative_deleted = 0;
     for (at, &deletion) in deletions.iter().enumerate() {
         cumulative_deleted += u64::from(deletion.bytes);
-        deltas[at] = RelaxDelta {
-            input_offset: deletion.offset,
-            cumulative_deleted,
-            bytes_deleted: deletion.bytes,
-        };
+        let delta = &mut deltas[at];
+        delta.input_offset = deletion.offset;
+        delta.cumulative_deleted = cumulative_deleted;
+        delta.bytes_deleted = deletion.bytes;
     }
 }
 

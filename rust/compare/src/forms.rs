@@ -140,6 +140,13 @@ fn read_by<F: InstructionForm>(
     Status::Success
 }
 
+// Reads a value by a form of RISC-V. Only this read calls another function. It isn't inlined, so
+// that the reads of other architectures save no registers for that call.
+#[inline(never)]
+fn read_riscv(form: u32, bytes: &[u8], value: &mut u64, negative: &mut u8) -> u32 {
+    read_by(RiscVInstruction::from_number(form), bytes, value, negative).number()
+}
+
 /// Reads the value in the instruction that `bytes` begins with, modulo 2^64, and the form's flag,
 /// 0 or 1. The error is the first that applies of `UnknownArchitecture`, `UnknownForm`, and
 /// `TooShort` with fewer bytes than the window.
@@ -161,12 +168,7 @@ pub fn linker_utils_read_nonnull(
             negative,
         )
         .number(),
-        Architecture::RiscV => read_by(
-            RiscVInstruction::from_number(form),
-            bytes,
-            value,
-            negative,
-        ).number(),
+        Architecture::RiscV => read_riscv(form, bytes, value, negative),
         Architecture::LoongArch64 => read_by(
             LoongArch64Instruction::from_number(form),
             bytes,

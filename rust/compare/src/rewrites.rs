@@ -36,6 +36,54 @@ fn apply_by<R: InstructionRewrite>(
     Status::Success
 }
 
+// Applies the rewrite of a machine and a number, if there is one.
+#[inline(always)]
+fn apply_of(
+    machine: u16,
+    rewrite: u32,
+    n: u8,
+    section: &mut [u8],
+    offset: &mut u64,
+    addend: &mut i64,
+) -> u32 {
+    let Some(architecture) = Architecture::from_machine(machine) else {
+        return Status::UnknownArchitecture.number();
+    };
+    let status = match architecture {
+        Architecture::AArch64 => apply_by(
+            aarch64::RelaxationKind::from_number(rewrite),
+            section,
+            offset,
+            addend,
+        ),
+        Architecture::RiscV => apply_by(
+            riscv64::RelaxationKind::from_number(rewrite),
+            section,
+            offset,
+            addend,
+        ),
+        Architecture::LoongArch64 => apply_by(
+            loongarch64::RelaxationKind::from_number(rewrite),
+            section,
+            offset,
+            addend,
+        ),
+        Architecture::Ppc64 => apply_by(
+            ppc64::RelaxationKind::from_number(rewrite),
+            section,
+            offset,
+            addend,
+        ),
+        Architecture::X86_64 => apply_by(
+            x86_64::RelaxationKind::from_number(rewrite, n),
+            section,
+            offset,
+            addend,
+        ),
+    };
+    status.number()
+}
+
 #[inline(always)]
 pub(crate) fn number_of(modifier: RelocationModifier) -> u32 {
     match modifier {
@@ -128,42 +176,12 @@ pub fn linker_utils_apply_nonnull(
     offset: &mut u64,
     addend: &mut i64,
 ) -> u32 {
-    let Some(architecture) = Architecture::from_machine(machine) else {
-        return Status::UnknownArchitecture.number();
-    };
-    let status = match architecture {
-        Architecture::AArch64 => apply_by(
-            aarch64::RelaxationKind::from_number(rewrite),
-            section,
-            offset,
-            addend,
-        ),
-        Architecture::RiscV => apply_by(
-            riscv64::RelaxationKind::from_number(rewrite),
-            section,
-            offset,
-            addend,
-        ),
-        Architecture::LoongArch64 => apply_by(
-            loongarch64::RelaxationKind::from_number(rewrite),
-            section,
-            offset,
-            addend,
-        ),
-        Architecture::Ppc64 => apply_by(
-            ppc64::RelaxationKind::from_number(rewrite),
-            section,
-            offset,
-            addend,
-        ),
-        Architecture::X86_64 => apply_by(
-            x86_64::RelaxationKind::from_number(rewrite, n),
-            section,
-            offset,
-            addend,
-        ),
-    };
-    status.number()
+    // Most relocations take rewrite 0, which changes nothing except on x86-64. It is tested before
+    // the machine: so 0 needs no jump through a table, and the others need no second one.
+    if rewrite == 0 {
+        return apply_of(machine, 0, n, section, offset, addend);
+    }
+    apply_of(machine, rewrite, n, section, offset, addend)
 }
 
 /// What becomes of the relocation after that of the rewritten instruction, into `modifier`: 0 where
