@@ -127,6 +127,7 @@ fn lossy_text(alloc: Global, bytes: &[u8]) -> Result<String, AllocError>
 ///
 /// "Failed to read ULEB128 value: ended" if the content ends first, and ".. too large" if the tenth
 /// byte is neither 0 nor 1. The content is then unchanged.
+#[inline]
 pub fn read_uleb128(content: &mut &[u8]) -> Result<u64>
     ensures number { IfOk result (λ n. Uleb content.old.now n content.new.now) }
     ensures accepted { (n : ℕ) (rest : List ℕ) → Uleb content.old.now n rest

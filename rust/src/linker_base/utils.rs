@@ -117,6 +117,7 @@ fn lossy_text(bytes: &[u8]) -> Result<String, AllocError> {
 /// "Failed to read ULEB128 value: ended" if the content ends first, and ".. too large" if the tenth
 /// byte is neither 0 nor 1. The content is then unchanged.
 #[cfg(feature = "readers")]
+#[inline]
 pub fn read_uleb128(content: &mut &[u8]) -> Result<u64> {
     let bytes: &[u8] = *content;
     let mut value = 0;
