@@ -25,9 +25,9 @@
  * - With such pointers and counts each call is defined, whatever the numbers and bytes.
  * - A call that returns `uint32_t` returns a status of `enum linker_utils_status`. With any except
  *   `LINKER_UTILS_OK` it has written nothing, except for `faulty`, and for what
- *   `linker_utils_relocate_all` writes before the relocation that it rejects. Where several
- *   statuses apply, the first in the order that the call names is returned. A call that returns
- *   anything else can't fail.
+ *   `linker_utils_relocate_all` and `linker_utils_deltas_create_in_one_pass` write before the entry
+ *   that they reject. Where several statuses apply, the first in the order that the call names is
+ *   returned. A call that returns anything else can't fail.
  * - `faulty` may be null. If the status is about one entry of an array, the index of that entry is
  *   written there; with any other status nothing is.
  * - Only a call that may return `LINKER_UTILS_OUT_OF_MEMORY` allocates. It is not for a signal
@@ -889,6 +889,13 @@ static inline uint32_t linker_utils_deltas_is_valid(const struct linker_utils_de
 /* Writes the deltas of the deletions, one for each. LINKER_UTILS_INVALID_DELETIONS, with `faulty`
  * as above; LINKER_UTILS_DIFFERENT_LENGTHS where `deltas_len` is not `deletions_len`. */
 static inline uint32_t linker_utils_deltas_create(
+    const struct linker_utils_deletion *deletions, size_t deletions_len,
+    struct linker_utils_delta *deltas, size_t deltas_len, size_t *faulty);
+
+/* As `linker_utils_deltas_create`, but it tests each deletion when it writes its delta, so that it
+ * reads the deletions once. After LINKER_UTILS_INVALID_DELETIONS the deltas may be anything, unless
+ * `deltas_len` is not `deletions_len`. */
+static inline uint32_t linker_utils_deltas_create_in_one_pass(
     const struct linker_utils_deletion *deletions, size_t deletions_len,
     struct linker_utils_delta *deltas, size_t deltas_len, size_t *faulty);
 

@@ -234,6 +234,19 @@ static inline uint32_t linker_utils_deltas_create(const struct linker_utils_dele
         faulty ? faulty : &ignored);
 }
 
+uint32_t linker_utils_deltas_create_in_one_pass_nonnull(
+    const struct linker_utils_deletion *deletions, size_t deletions_len,
+    struct linker_utils_delta *deltas, size_t deltas_len, size_t *faulty);
+static inline uint32_t linker_utils_deltas_create_in_one_pass(
+    const struct linker_utils_deletion *deletions, size_t deletions_len,
+    struct linker_utils_delta *deltas, size_t deltas_len, size_t *faulty) {
+    size_t ignored;
+    return linker_utils_deltas_create_in_one_pass_nonnull(
+        LINKER_UTILS_SLICE(const struct linker_utils_deletion, deletions), deletions_len,
+        LINKER_UTILS_SLICE(struct linker_utils_delta, deltas), deltas_len,
+        faulty ? faulty : &ignored);
+}
+
 uint32_t linker_utils_deltas_is_mergeable_nonnull(const struct linker_utils_delta *deltas,
     size_t deltas_len, const struct linker_utils_deletion *additional, size_t additional_len);
 static inline uint32_t linker_utils_deltas_is_mergeable(const struct linker_utils_delta *deltas,

@@ -361,6 +361,25 @@ fn create(list: &[Deletion], deltas: &mut [Delta]) {
     assert_eq!(status, 0);
 }
 
+/// `new_side` of `EXPORTS`, by the export that reads the deletions once.
+pub fn new_side_in_one_pass(list: &[(u64, u32)]) -> Side<'_> {
+    let deltas = vec![Delta::default(); list.len()];
+    Side::over(
+        (Vec::new(), deltas),
+        move |state| state.0 = deletions_of(list),
+        |state| create_in_one_pass(&state.0, &mut state.1),
+        |state| listed(&state.1),
+    )
+}
+
+fn create_in_one_pass(list: &[Deletion], deltas: &mut [Delta]) {
+    let (given, count) = (list.as_ptr(), list.len());
+    let (at, len) = (deltas.as_mut_ptr(), deltas.len());
+    let status =
+        unsafe { linker_utils_deltas_create_in_one_pass_nonnull(given, count, at, len, &mut 0) };
+    assert_eq!(status, 0);
+}
+
 fn created(list: &[Deletion]) -> Vec<Delta> {
     let mut deltas = vec![Delta::default(); list.len()];
     create(list, &mut deltas);

@@ -702,6 +702,9 @@ fn lists(report: &mut Report) {
             true,
             each(|library| Some(library.new_side(&list))),
         );
+        let mut sides = each(|library| Some(library.new_side(&list)));
+        sides[0] = Some(exports::new_side_in_one_pass(&list));
+        report.line(&format!("new of {count} in one pass"), count, true, sides);
     }
     for (old, more) in [
         (1_000, 10),

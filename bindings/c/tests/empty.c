@@ -46,6 +46,7 @@ int main(void) {
     EXPECT(ULEB128_ENDED, write_uleb128(NULL, 0, 0));
     EXPECT(OK, deltas_is_valid(NULL, 0, NULL));
     EXPECT(OK, deltas_create(NULL, 0, NULL, 0, NULL));
+    EXPECT(OK, deltas_create_in_one_pass(NULL, 0, NULL, 0, NULL));
     EXPECT(OK, deltas_is_mergeable(NULL, 0, NULL, 0));
     EXPECT(OK, deltas_merge(NULL, 0, NULL, 0, NULL, 0, NULL));
     if (!linker_utils_has_valid_deltas(NULL, 0)) failures++;

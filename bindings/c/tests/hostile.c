@@ -815,6 +815,25 @@ static void call_deltas_create(void) {
     finish_with(status, 0 OR(INVALID_DELETIONS) OR(DIFFERENT_LENGTHS));
 }
 
+/* What is before the invalid deletion may be written, where the lengths are the same. */
+static void call_deltas_create_in_one_pass(void) {
+    size_t count = any_count();
+    struct buffer *raw = deletions(count);
+    size_t deltas_len = once_in(8) ? any_count() : count;
+    struct buffer *made = place(WRITTEN, deltas_len, sizeof(struct linker_utils_delta));
+    size_t *faulty = any_faulty();
+    uint32_t valid = CALL(deltas_is_valid, DELETIONS(raw), NULL);
+    finish_buffers(false);
+    uint32_t status = CALL(deltas_create_in_one_pass, DELETIONS(raw), DELTAS(made), faulty);
+    expect((valid == LINKER_UTILS_OK) == (status != LINKER_UTILS_INVALID_DELETIONS),
+           "`deltas_is_valid` and `deltas_create_in_one_pass` differ");
+    expect((status == LINKER_UTILS_OK) == (valid == LINKER_UTILS_OK && deltas_len == count),
+           "a wrong status");
+    finish_faulty(faulty, status == LINKER_UTILS_INVALID_DELETIONS, count);
+    expect_status(status, 0 OR(INVALID_DELETIONS) OR(DIFFERENT_LENGTHS));
+    finish(status != LINKER_UTILS_DIFFERENT_LENGTHS && deltas_len == count);
+}
+
 /* `deltas_is_mergeable`, and `deltas_merge` where that says that it will do. */
 static void call_deltas_merge(void) {
     size_t count = any_count(), additional_len = any_count();
@@ -1400,7 +1419,7 @@ static void (*const all[])(void) = {
     call_clui_rel_info, call_jal_site, call_jal_site_with, call_relax_call,
     call_tests, call_write_mov_sequence, call_write_address_sequence, call_write_ha_lo,
     call_u32_from_slice, call_u64_from_slice, call_read_u32, call_read_uleb128, call_write_uleb128,
-    call_deltas_create,
+    call_deltas_create, call_deltas_create_in_one_pass,
     call_deltas_merge, call_has_valid_deltas, call_deltas_total_deleted, call_translations,
     call_deltas_translate_all,
     call_deltas_heads, call_pack, call_shrink_calls, call_named_shapes, call_relax, call_run_deltas,

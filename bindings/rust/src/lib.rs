@@ -761,6 +761,23 @@ pub fn deltas_create(deletions: &[Deletion], deltas: &mut [Delta]) -> Result<(),
     })
 }
 
+/// As `deltas_create`, but the deletions are read once, and after `InvalidDeletions` the deltas may
+/// be anything.
+pub fn deltas_create_in_one_pass(
+    deletions: &[Deletion],
+    deltas: &mut [Delta],
+) -> Result<(), ArrayError> {
+    result_over(|faulty| unsafe {
+        raw::linker_utils_deltas_create_in_one_pass_nonnull(
+            deletions.as_ptr(),
+            deletions.len(),
+            deltas.as_mut_ptr(),
+            deltas.len(),
+            faulty,
+        )
+    })
+}
+
 /// Whether `deltas_merge` takes the additional deletions.
 pub fn deltas_is_mergeable(deltas: &[Delta], additional: &[Deletion]) -> Result<(), Status> {
     let status = unsafe {

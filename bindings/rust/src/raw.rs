@@ -255,6 +255,13 @@ extern "C" {
         deltas_len: usize,
         faulty: *mut usize,
     ) -> u32;
+    pub fn linker_utils_deltas_create_in_one_pass_nonnull(
+        deletions: *const Deletion,
+        deletions_len: usize,
+        deltas: *mut Delta,
+        deltas_len: usize,
+        faulty: *mut usize,
+    ) -> u32;
     pub fn linker_utils_deltas_is_mergeable_nonnull(
         deltas: *const Delta,
         deltas_len: usize,

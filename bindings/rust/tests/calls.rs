@@ -50,6 +50,9 @@ fn deltas(pairs: &[(u64, u32)]) -> Vec<Delta> {
     let mut deltas = vec![Delta::default(); deletions.len()];
     assert_eq!(deltas_is_valid(&deletions), Ok(()));
     assert_eq!(deltas_create(&deletions, &mut deltas), Ok(()));
+    let mut in_one_pass = vec![Delta::default(); deletions.len()];
+    let created = deltas_create_in_one_pass(&deletions, &mut in_one_pass);
+    assert_eq!((created, &in_one_pass), (Ok(()), &deltas));
     deltas
 }
 
@@ -1022,6 +1025,8 @@ fn translates_many_offsets() {
 #[test]
 fn tests_and_lists_deletions() {
     assert_eq!(sums(&deltas(&[(0, 2), (8, 4), (16, 4)])), [2, 6, 10]);
+    // after the last no offset is left
+    assert_eq!(sums(&deltas(&[(8, 4), (u64::MAX, 0)])), [4, 4]);
     let mut places = [Delta::default(); 2];
     let invalid: [(&[(u64, u32)], usize); 5] = [
         (&[(4, 4), (7, 1)], 1),
@@ -1035,11 +1040,18 @@ fn tests_and_lists_deletions() {
         let error = Err(at(index, Status::InvalidDeletions));
         assert_eq!(deltas_is_valid(&list), error, "{pairs:?}");
         assert_eq!(deltas_create(&list, &mut places), error, "{pairs:?}");
+        let mut written = vec![Delta::default(); list.len()];
+        let created = deltas_create_in_one_pass(&list, &mut written);
+        assert_eq!(created, error, "{pairs:?}");
+        let created = deltas_create_in_one_pass(&list, &mut places[..1]);
+        assert_eq!(created, error, "{pairs:?}");
     }
-    let longer = deltas_create(&deletions(&[(4, 4)]), &mut places);
-    assert_eq!(longer, Err(failure(Status::DifferentLengths)));
+    for create in [deltas_create, deltas_create_in_one_pass] {
+        let longer = create(&deletions(&[(4, 4)]), &mut places);
+        assert_eq!(longer, Err(failure(Status::DifferentLengths)));
+        assert_eq!(create(&[], &mut []), Ok(()));
+    }
     assert_eq!(places, [Delta::default(); 2]);
-    assert_eq!(deltas_create(&[], &mut []), Ok(()));
 }
 
 #[test]

@@ -100,6 +100,59 @@ fn fill(deletions: &[Deletion], deltas: &mut [RelaxDelta])
     }
 }
 
+/// As `linker_utils_deltas_create`, but the deletions are read once, and after `InvalidDeletions`
+/// the deltas may be anything, unless the lengths differ.
+#[unsafe(no_mangle)]
+pub extern "C" fn linker_utils_deltas_create_in_one_pass_nonnull(
+    deletions: &[Deletion],
+    deltas: &mut [RelaxDelta],
+    faulty: &mut usize,
+) -> u32
+    ensures created { IsValid (pairs_in deletions.now) → length deltas.old ≡ length deletions.now
+        → (result ≡ code Status.Success) × AreDeltasOf (pairs_in deletions.now) deltas.new }
+    ensures invalid { ¬ IsValid (pairs_in deletions.now) → result ≡ code Status.InvalidDeletions }
+    ensures different_lengths { IsValid (pairs_in deletions.now)
+        → length deltas.old ≢ length deletions.now → result ≡ code Status.DifferentLengths }
+    ensures unchanged { length deltas.old ≢ length deletions.now → deltas.new ≡ deltas.old }
+    ensures faulty { result ≡ code Status.InvalidDeletions
+        → IsFirstInvalid (pairs_in deletions.now) faulty.new }
+    ensures faulty_stays { result ≢ code Status.InvalidDeletions → faulty.new ≡ faulty.old }
+{
+    if deltas.len() == deletions.len() && fill_valid(deletions, deltas) {
+        return Status::Success.number();
+    }
+    linker_utils_deltas_create_nonnull(deletions, deltas, faulty)
+}
+
+// Writes the deltas while the deletions are valid, and returns whether it wrote all. It also stops
+// at a deletion of no bytes at `u64::MAX`, since no offset is left for another.
+fn fill_valid(deletions: &[Deletion], deltas: &mut [RelaxDelta]) -> bool
+    requires { length deletions.now ≡ length deltas.old }
+    ensures valid { IsTrue result → IsValid (pairs_in deletions.now) }
+    ensures recorded { IsTrue result → RecordsDeletions (pairs_in deletions.now) deltas.new }
+{
+    let mut from = 0;
+    let mut cumulative_deleted = 0;
+    for (at, &deletion) in deletions.iter().enumerate() {
+        if deletion.offset < from {
+            return false;
+        }
+        let Some(next) = deletion
+            .offset
+            .checked_add(u64::from(deletion.bytes).max(1))
+        else {
+            return false;
+        };
+        from = next;
+        cumulative_deleted += u64::from(deletion.bytes);
+        let delta = &mut deltas[at];
+        delta.input_offset = deletion.offset;
+        delta.cumulative_deleted = cumulative_deleted;
+        delta.bytes_deleted = deletion.bytes;
+    }
+    true
+}
+
 /// The offset in the output section of what is at an input offset, or, inside a deletion, of
 /// what follows that. O(log n).
 #[unsafe(no_mangle)]

@@ -69,6 +69,44 @@ fn fill(deletions: &[Deletion], deltas: &mut [RelaxDelta]) {
     }
 }
 
+/// As `linker_utils_deltas_create`, but the deletions are read once, and after `InvalidDeletions`
+/// the deltas may be anything, unless the lengths differ.
+pub fn linker_utils_deltas_create_in_one_pass_nonnull(
+    deletions: &[Deletion],
+    deltas: &mut [RelaxDelta],
+    faulty: &mut usize,
+) -> u32 {
+    if deltas.len() == deletions.len() && fill_valid(deletions, deltas) {
+        return Status::Success.number();
+    }
+    linker_utils_deltas_create_nonnull(deletions, deltas, faulty)
+}
+
+// Writes the deltas while the deletions are valid, and returns whether it wrote all. It also stops
+// at a deletion of no bytes at `u64::MAX`, since no offset is left for another.
+fn fill_valid(deletions: &[Deletion], deltas: &mut [RelaxDelta]) -> bool {
+    let mut from = 0;
+    let mut cumulative_deleted = 0;
+    for (at, &deletion) in deletions.iter().enumerate() {
+        if deletion.offset < from {
+            return false;
+        }
+        let Some(next) = deletion
+            .offset
+            .checked_add(u64::from(deletion.bytes).max(1))
+        else {
+            return false;
+        };
+        from = next;
+        cumulative_deleted += u64::from(deletion.bytes);
+        let delta = &mut deltas[at];
+        delta.input_offset = deletion.offset;
+        delta.cumulative_deleted = cumulative_deleted;
+        delta.bytes_deleted = deletion.bytes;
+    }
+    true
+}
+
 /// The offset in the output section of what is at an input offset, or, inside a deletion, of
 /// what follows that. O(log n).
 pub fn linker_utils_deltas_input_to_output_nonnull(

@@ -1,0 +1,14 @@
+use Rattle.std.proofs.Common.{◌≡◌, length, take}
+use Rattle.linker_base.specs.Deletions.{bytes_of}
+use Rattle.linker_base.specs.Deltas.{RecordsDeletions}
+use Rattle.linker_base.specs.Inner.Listed.{IsRun}
+use Rattle.linker_utils_c.specs.Deltas.{pairs_in}
+use Rattle.linker_utils_c.proofs.deltas.fill_valid.Given as goal
+
+abbrev pub invariant-loop-at : goal.invariant-loop-at
+invariant-loop-at l = record {
+  room : length l.deltas ≡ length l.deletions;
+  run : IsRun 0 l.from (take l.at (pairs_in l.deletions));
+  listing : RecordsDeletions (take l.at (pairs_in l.deletions)) (take l.at l.deltas);
+  sum : l.cumulative_deleted ≡ bytes_of (take l.at (pairs_in l.deletions));
+}
