@@ -677,6 +677,12 @@ fn more(report: &mut Report) {
         Some(Side::number(|| library.passing(Test::HighFitsClui, &values)))
     };
     report.line("RISC-V hi20_fits_clui, also below 0", CALLS, true, each(side));
+    for count in [10, 1_000, 100_000, 1_000_000] {
+        let (list, _) = deletions(random, count);
+        let [exports, behind, ..] = each(|library| Some(library.new_side(&list)));
+        let name = format!("new of {count} by `linker_utils_deltas_create`");
+        report.line(&name, count, true, [exports, behind, None, None]);
+    }
     for count in [10, 1_000, 100_000] {
         let queried = Queried::new(random, count);
         let side = |library| {
@@ -696,15 +702,9 @@ fn lists(report: &mut Report) {
     report.heading("New lists and merges, a deletion", Beside::Original);
     for count in [10, 1_000, 100_000, 1_000_000] {
         let (list, _) = deletions(random, count);
-        report.line(
-            &format!("new of {count}"),
-            count,
-            true,
-            each(|library| Some(library.new_side(&list))),
-        );
         let mut sides = each(|library| Some(library.new_side(&list)));
         sides[0] = Some(exports::new_side_in_one_pass(&list));
-        report.line(&format!("new of {count} in one pass"), count, true, sides);
+        report.line(&format!("new of {count}"), count, true, sides);
     }
     for (old, more) in [
         (1_000, 10),
