@@ -228,9 +228,38 @@ fn follow(
     (reached, at)
 }
 
+// Passes deltas for each query, and writes its output offset.
+#[inline(always)]
+fn walk_by_queries(
+    deltas: &[RelaxDelta],
+    from: Reached,
+    queries: &[u64],
+    out: &mut [u64],
+) -> Reached
+    requires within { from.passed ≤ length deltas.now }
+    requires same_length { length queries.now ≡ length out.old }
+    ensures within { result.passed ≤ length deltas.now }
+    ensures walked { AreValidDeltas deltas.now → IsWalked (map deletion_of deltas.now) from
+        → IsWalked (map deletion_of deltas.now) result }
+    ensures passed { AreValidDeltas deltas.now
+        → walk_at (map deletion_of deltas.now) result.passed
+        ≡ walk_through (walk_at (map deletion_of deltas.now) from.passed) queries.now }
+    ensures ranks { AreValidDeltas deltas.now → IsWalked (map deletion_of deltas.now) from
+        → AreAhead (walk_at (map deletion_of deltas.now) from.passed) queries.now
+        → out.new ≡ map (rank (map deletion_of deltas.now)) queries.now }
+{
+    let mut reached = from;
+    for (at, &query) in queries.iter().enumerate() {
+        reached = pass(deltas, reached, query);
+        out[at] = query.max(reached.end).wrapping_sub(reached.deleted);
+    }
+    reached
+}
+
 // Writes the output offset of each query, and passes the deltas that begin below the last one.
 // Where a few queries are due at a delta, the end of a loop over them is mispredicted at nearly
-// every delta. So they are written by fours, until the last four.
+// every delta. So they are written by fours, until the last four. With fewer queries than deltas
+// none is due at most deltas, and four would be written for nothing.
 #[inline]
 pub(super) fn walk(
     deltas: &[RelaxDelta],
@@ -254,6 +283,9 @@ pub(super) fn walk(
     // The lengths are the same: where the compiler knows it, `out[at]` needs no test.
     if queries.is_empty() || out.len() != queries.len() {
         return from;
+    }
+    if queries.len() < deltas.len() - from.passed {
+        return walk_by_queries(deltas, from, queries, out);
     }
     let last = queries.len() - 1;
     let first = leave(queries, 0, from, out);

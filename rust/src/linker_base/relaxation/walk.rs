@@ -162,9 +162,26 @@ fn follow(
     (reached, at)
 }
 
+// Passes deltas for each query, and writes its output offset.
+#[inline(always)]
+fn walk_by_queries(
+    deltas: &[RelaxDelta],
+    from: Reached,
+    queries: &[u64],
+    out: &mut [u64],
+) -> Reached {
+    let mut reached = from;
+    for (at, &query) in queries.iter().enumerate() {
+        reached = pass(deltas, reached, query);
+        out[at] = query.max(reached.end).wrapping_sub(reached.deleted);
+    }
+    reached
+}
+
 // Writes the output offset of each query, and passes the deltas that begin below the last one.
 // Where a few queries are due at a delta, the end of a loop over them is mispredicted at nearly
-// every delta. So they are written by fours, until the last four.
+// every delta. So they are written by fours, until the last four. With fewer queries than deltas
+// none is due at most deltas, and four would be written for nothing.
 #[inline]
 pub(super) fn walk(
     deltas: &[RelaxDelta],
@@ -175,6 +192,9 @@ pub(super) fn walk(
     // The lengths are the same: where the compiler knows it, `out[at]` needs no test.
     if queries.is_empty() || out.len() != queries.len() {
         return from;
+    }
+    if queries.len() < deltas.len() - from.passed {
+        return walk_by_queries(deltas, from, queries, out);
     }
     let last = queries.len() - 1;
     let first = leave(queries, 0, from, out);
