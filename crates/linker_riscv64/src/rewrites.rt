@@ -102,6 +102,16 @@ fn put_word(section: &mut [u8], offset: u64, word: u32)
     overwrite(section, offset, &word.to_le_bytes());
 }
 
+/// Writes a compressed instruction at an offset of the section.
+#[inline(always)]
+fn put_half(section: &mut [u8], offset: u64, half: u16)
+    requires { offset + 2 ≤ length section.old }
+    ensures { section.new
+        ≡ take offset section.old ++ to_le_bytes w16 half ++ drop (offset + 2) section.old }
+{
+    overwrite(section, offset, &half.to_le_bytes());
+}
+
 /// The opcode of an instruction.
 #[inline(always)]
 fn opcode(word: u32) -> u64
@@ -270,17 +280,17 @@ impl RelaxationKind {
             RelaxationKind::CallToJal => {
                 let auipc = u32_from_slice(&section_bytes[offset as usize..]);
                 let jal = 0x6f | (auipc >> 7 & 0x1f) << 7;
-                overwrite(section_bytes, offset, &jal.to_le_bytes());
+                put_word(section_bytes, offset, jal);
             }
             RelaxationKind::Hi20ToCLui => {
                 let lui = u16_from_slice(&section_bytes[offset as usize..]);
                 let c_lui = 0x6001 | (lui >> 7 & 0x1f) << 7;
-                overwrite(section_bytes, offset, &c_lui.to_le_bytes());
+                put_half(section_bytes, offset, c_lui);
             }
             RelaxationKind::Lo12Rs1ToZero => {
                 let word = u32_from_slice(&section_bytes[offset as usize..]);
                 let from_x0 = word >> 20 << 20 | word & 0x7fff;
-                overwrite(section_bytes, offset, &from_x0.to_le_bytes());
+                put_word(section_bytes, offset, from_x0);
             }
             RelaxationKind::TailToJal => {
                 overwrite(section_bytes, offset, &[0x6f, 0x00, 0x00, 0x00]);

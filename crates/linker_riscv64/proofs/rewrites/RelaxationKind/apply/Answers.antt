@@ -18,22 +18,22 @@ pub returns-in-CallToJal-clause-bytes : goal.returns-in-CallToJal-clause-bytes
 returns-in-CallToJal-clause-bytes c =
     let s = c.args.section_bytes.now in
     let o = c.args.offset_in_section.now in
-    let made = call_made s c.to_le_bytes.result o c.u32_from_slice-auipc.result c.u32_from_slice-auipc.ensures c.to_le_bytes.ensures in
-    rewritten_as c.args.self CallToJal (replaces 0 4 call_to_jal) s c.overwrite-in-CallToJal.new.section o c.in-CallToJal.is refl
-    (c.overwrite-in-CallToJal.ensures ∙ overwritten (replaces 0 4 call_to_jal) s c.to_le_bytes.result o o (omega arith) (search rules) made)
+    let made = call_made s _ o c.u32_from_slice-auipc.result c.u32_from_slice-auipc.ensures refl in
+    rewritten_as c.args.self CallToJal (replaces 0 4 call_to_jal) s c.put_word.new.section o c.in-CallToJal.is refl
+    (c.put_word.ensures ∙ overwritten (replaces 0 4 call_to_jal) s _ o o (omega arith) (search rules) made)
 
 pub returns-in-Hi20ToCLui-clause-bytes : goal.returns-in-Hi20ToCLui-clause-bytes
 returns-in-Hi20ToCLui-clause-bytes c =
     let s = c.args.section_bytes.now in
     let o = c.args.offset_in_section.now in
-    let made = clui_made s c.to_le_bytes-in-Hi20ToCLui.result o c.u16_from_slice-lui.result c.u16_from_slice-lui.ensures c.to_le_bytes-in-Hi20ToCLui.ensures in
-    rewritten_as c.args.self Hi20ToCLui (replaces 0 2 hi20_to_clui) s c.overwrite-in-Hi20ToCLui.new.section o c.in-Hi20ToCLui.is refl
-    (c.overwrite-in-Hi20ToCLui.ensures ∙ overwritten (replaces 0 2 hi20_to_clui) s c.to_le_bytes-in-Hi20ToCLui.result o o (omega arith) (search rules) made)
+    let made = clui_made s _ o c.u16_from_slice-lui.result c.u16_from_slice-lui.ensures refl in
+    rewritten_as c.args.self Hi20ToCLui (replaces 0 2 hi20_to_clui) s c.put_half.new.section o c.in-Hi20ToCLui.is refl
+    (c.put_half.ensures ∙ overwritten (replaces 0 2 hi20_to_clui) s _ o o (omega arith) (search rules) made)
 
 pub returns-in-Lo12Rs1ToZero-clause-bytes : goal.returns-in-Lo12Rs1ToZero-clause-bytes
 returns-in-Lo12Rs1ToZero-clause-bytes c =
     let s = c.args.section_bytes.now in
     let o = c.args.offset_in_section.now in
-    let made = rs1_made s c.to_le_bytes-in-Lo12Rs1ToZero.result o c.u32_from_slice-word.result (search rules) c.u32_from_slice-word.ensures c.to_le_bytes-in-Lo12Rs1ToZero.ensures in
-    rewritten_as c.args.self Lo12Rs1ToZero (replaces 0 4 rs1_to_zero) s c.overwrite-in-Lo12Rs1ToZero.new.section o c.in-Lo12Rs1ToZero.is refl
-    (c.overwrite-in-Lo12Rs1ToZero.ensures ∙ overwritten (replaces 0 4 rs1_to_zero) s c.to_le_bytes-in-Lo12Rs1ToZero.result o o (omega arith) (search rules) made)
+    let made = rs1_made s _ o c.u32_from_slice-word.result (search rules) c.u32_from_slice-word.ensures refl in
+    rewritten_as c.args.self Lo12Rs1ToZero (replaces 0 4 rs1_to_zero) s c.put_word-in-Lo12Rs1ToZero.new.section o c.in-Lo12Rs1ToZero.is refl
+    (c.put_word-in-Lo12Rs1ToZero.ensures ∙ overwritten (replaces 0 4 rs1_to_zero) s _ o o (omega arith) (search rules) made)
