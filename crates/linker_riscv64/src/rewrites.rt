@@ -261,7 +261,7 @@ impl RelaxationKind {
 
     /// Rewrites the instruction at an offset of a section. All other bytes, the offset and the
     /// addend are unchanged.
-    #[inline]
+    #[inline(always)]
     pub fn apply(self, section_bytes: &mut [u8], offset_in_section: &mut u64, addend: &mut i64)
         requires { CanRewrite (riscv_rewrite self) section_bytes.old offset_in_section.old }
         ensures bytes { section_bytes.new
@@ -316,7 +316,7 @@ impl RelaxationKind {
 
     /// Whether `apply` may be called at an offset of a section: the bytes that it rewrites lie in
     /// the section.
-    #[inline]
+    #[inline(always)]
     pub fn can_apply(self, section: &[u8], offset: u64) -> bool
         ensures { IsTrue result ↔ CanRewrite (riscv_rewrite self) section.now offset }
     {

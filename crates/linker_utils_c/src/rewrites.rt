@@ -1,7 +1,8 @@
 //! Rewrites of instructions, by `e_machine` and a rewrite's number.
 
-ghost use Rattle.std.specs.Prelude.{◌≡◌, ◌≢◌, IfOk, IfErr, IfSome, IfNone};
+ghost use Rattle.std.specs.Prelude.{◌≡◌, ◌≢◌, IfOk, IfErr, IfSome, IfNone, slice_get};
 ghost use Rattle.linker_base.specs.Rewrite.{CanRewrite};
+ghost use Rattle.linker_riscv64.specs.RiscVRewrites.{riscv_rewrite, riscv_rewrites};
 ghost use Rattle.linker_utils.specs.Architectures.{relaxation_rewrite, relaxation_modifier};
 ghost use Rattle.linker_utils_c.specs.Rewrites.{named_rewrite, modifier_number, TakesRewrite};
 ghost use Rattle.linker_utils_c.specs.Rewrites.{IsRewritten, MatchesRewrite};
@@ -56,6 +57,31 @@ fn apply_by<R: InstructionRewrite>(
     Status::Success
 }
 
+// Applies a rewrite of RISC-V. It isn't inlined: LLVM would then inline the rewrites of another
+// architecture no longer.
+#[inline(never)]
+fn apply_riscv(rewrite: u32, section: &mut [u8], offset: &mut u64, addend: &mut i64) -> u32
+    ensures known { IfSome (slice_get riscv_rewrites rewrite)
+        (λ named. TakesRewrite (riscv_rewrite named) section.old offset.old result) }
+    ensures rewritten { IfSome (slice_get riscv_rewrites rewrite)
+        (λ named. result ≡ code Status.Success
+        → IsRewritten (riscv_rewrite named) section.old section.new
+        offset.old offset.new addend.old addend.new) }
+    ensures unknown { IfNone (slice_get riscv_rewrites rewrite)
+        (result ≡ code Status.UnknownRewrite) }
+    ensures section_stays { result ≢ code Status.Success → section.new ≡ section.old }
+    ensures offset_stays { result ≢ code Status.Success → offset.new ≡ offset.old }
+    ensures addend_stays { result ≢ code Status.Success → addend.new ≡ addend.old }
+{
+    apply_by(
+        riscv64::RelaxationKind::from_number(rewrite),
+        section,
+        offset,
+        addend,
+    )
+    .number()
+}
+
 // Applies the rewrite of a machine and a number, if there is one.
 #[inline(always)]
 fn apply_of(
@@ -81,39 +107,37 @@ fn apply_of(
     let Some(architecture) = Architecture::from_machine(machine) else {
         return Status::UnknownArchitecture.number();
     };
-    let status = match architecture {
+    match architecture {
         Architecture::AArch64 => apply_by(
             aarch64::RelaxationKind::from_number(rewrite),
             section,
             offset,
             addend,
-        ),
-        Architecture::RiscV => apply_by(
-            riscv64::RelaxationKind::from_number(rewrite),
-            section,
-            offset,
-            addend,
-        ),
+        )
+        .number(),
+        Architecture::RiscV => apply_riscv(rewrite, section, offset, addend),
         Architecture::LoongArch64 => apply_by(
             loongarch64::RelaxationKind::from_number(rewrite),
             section,
             offset,
             addend,
-        ),
+        )
+        .number(),
         Architecture::Ppc64 => apply_by(
             ppc64::RelaxationKind::from_number(rewrite),
             section,
             offset,
             addend,
-        ),
+        )
+        .number(),
         Architecture::X86_64 => apply_by(
             x86_64::RelaxationKind::from_number(rewrite, n),
             section,
             offset,
             addend,
-        ),
-    };
-    status.number()
+        )
+        .number(),
+    }
 }
 
 #[inline(always)]

@@ -36,6 +36,19 @@ fn apply_by<R: InstructionRewrite>(
     Status::Success
 }
 
+// Applies a rewrite of RISC-V. It isn't inlined: LLVM would then inline the rewrites of another
+// architecture no longer.
+#[inline(never)]
+fn apply_riscv(rewrite: u32, section: &mut [u8], offset: &mut u64, addend: &mut i64) -> u32 {
+    apply_by(
+        riscv64::RelaxationKind::from_number(rewrite),
+        section,
+        offset,
+        addend,
+    )
+    .number()
+}
+
 // Applies the rewrite of a machine and a number, if there is one.
 #[inline(always)]
 fn apply_of(
@@ -49,39 +62,37 @@ fn apply_of(
     let Some(architecture) = Architecture::from_machine(machine) else {
         return Status::UnknownArchitecture.number();
     };
-    let status = match architecture {
+    match architecture {
         Architecture::AArch64 => apply_by(
             aarch64::RelaxationKind::from_number(rewrite),
             section,
             offset,
             addend,
-        ),
-        Architecture::RiscV => apply_by(
-            riscv64::RelaxationKind::from_number(rewrite),
-            section,
-            offset,
-            addend,
-        ),
+        )
+        .number(),
+        Architecture::RiscV => apply_riscv(rewrite, section, offset, addend),
         Architecture::LoongArch64 => apply_by(
             loongarch64::RelaxationKind::from_number(rewrite),
             section,
             offset,
             addend,
-        ),
+        )
+        .number(),
         Architecture::Ppc64 => apply_by(
             ppc64::RelaxationKind::from_number(rewrite),
             section,
             offset,
             addend,
-        ),
+        )
+        .number(),
         Architecture::X86_64 => apply_by(
             x86_64::RelaxationKind::from_number(rewrite, n),
             section,
             offset,
             addend,
-        ),
-    };
-    status.number()
+        )
+        .number(),
+    }
 }
 
 #[inline(always)]

@@ -210,7 +210,7 @@ impl RelaxationKind {
     ///
     /// - `self.can_apply(section_bytes, *offset_in_section)`
     #[cfg_attr(debug_assertions, track_caller)]
-    #[inline]
+    #[inline(always)]
     pub fn apply(self, section_bytes: &mut [u8], offset_in_section: &mut u64, addend: &mut i64) {
         debug_assert!(self.can_apply(section_bytes, *offset_in_section));
         let _ = addend;
@@ -260,7 +260,7 @@ impl RelaxationKind {
     /// Whether `apply` may be called at an offset of a section: the bytes that it rewrites lie in
     /// the section.
     #[must_use]
-    #[inline]
+    #[inline(always)]
     pub fn can_apply(self, section: &[u8], offset: u64) -> bool {
         match self {
             RelaxationKind::NoOp | RelaxationKind::Hi20Delete | RelaxationKind::Delete => true,

@@ -222,7 +222,7 @@ impl RiscVInstruction {
     /// it is below 0. For `UType` and `CluiType` it is the least value that gives those bits. For
     /// `CluiType` the flag is whether the immediate itself is below 0; for `UType` and `UiType` it
     /// is false.
-    #[inline]
+    #[inline(always)]
     pub fn read_value(self, bytes: &[u8]) -> (u64, bool)
         requires { byte_len (riscv_form self).window ≤ length bytes.now }
         ensures number { result.0 ≡ cast_unsigned w64
@@ -292,7 +292,7 @@ impl InstructionForm for RiscVInstruction {
         self.write_to_value(value, negative, dest);
     }
 
-    #[inline]
+    #[inline(always)]
     fn read(self, bytes: &[u8]) -> (u64, bool) {
         self.read_value(bytes)
     }

@@ -200,7 +200,7 @@ impl RiscVInstruction {
     /// - `self.window() <= bytes.len()`
     #[must_use]
     #[cfg_attr(debug_assertions, track_caller)]
-    #[inline]
+    #[inline(always)]
     pub fn read_value(self, bytes: &[u8]) -> (u64, bool) {
         debug_assert!(self.window() <= bytes.len());
         let insn = RelocationInstruction::RiscV(self);
@@ -266,7 +266,7 @@ impl InstructionForm for RiscVInstruction {
     }
 
     #[cfg_attr(debug_assertions, track_caller)]
-    #[inline]
+    #[inline(always)]
     fn read(self, bytes: &[u8]) -> (u64, bool) {
         debug_assert!(self.window() <= bytes.len());
         self.read_value(bytes)
