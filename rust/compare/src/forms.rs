@@ -140,8 +140,8 @@ fn read_by<F: InstructionForm>(
     Status::Success
 }
 
-// Reads a value by a form of RISC-V, by a jump to the form. It isn't inlined, so that the reads of other
-// architectures, which have tables of masks, need no more registers for it.
+// Reads a value by a form of RISC-V. It isn't inlined, and jumps by the form, so that
+// `linker_utils_read` saves no registers for it.
 #[inline(never)]
 fn read_riscv(form: u32, bytes: &[u8], value: &mut u64, negative: &mut u8) -> u32 {
     read_by(RiscVInstruction::from_number(form), bytes, value, negative).number()

@@ -36,8 +36,8 @@ fn apply_by<R: InstructionRewrite>(
     Status::Success
 }
 
-// Applies a rewrite of RISC-V. It isn't inlined: LLVM would then inline the rewrites of another
-// architecture no longer.
+// Applies a rewrite of RISC-V. It isn't inlined, so that `linker_utils_apply` stays small: the kit
+// drops `inline(always)` of very large functions.
 #[inline(never)]
 fn apply_riscv(rewrite: u32, section: &mut [u8], offset: &mut u64, addend: &mut i64) -> u32 {
     apply_by(
