@@ -87,7 +87,7 @@ macro_rules! rewrite_loops {
 /// are not the same.
 macro_rules! library {
     (
-        $module:ident, $crate_name:ident, $row_of:expr, $new:expr, $merge:expr, $walk:expr,
+        $module:ident, $crate_name:ident, $row_of:expr, $new_each:expr, $merge:expr, $walk:expr,
         { $($more:item)* }
     ) => {
         pub mod $module {
@@ -262,11 +262,14 @@ macro_rules! library {
                 }
 
                 fn new_side<'a>(&self, list: &'a [(u64, u32)]) -> Side<'a> {
+                    let count = lists_a_round(list.len());
                     Side::over(
-                        (Vec::new(), None),
-                        move |state| *state = (list.to_vec(), None),
-                        |state| state.1 = Some(new(std::mem::take(&mut state.0))),
-                        |state| listed(state.1.as_ref()),
+                        (Vec::new(), Vec::new()),
+                        move |state| {
+                            *state = (vec![list.to_vec(); count], Vec::with_capacity(count))
+                        },
+                        |state| $new_each(&mut state.0, &mut state.1),
+                        |state| state.1.iter().map(listed).collect::<Vec<_>>(),
                     )
                 }
 
@@ -278,11 +281,8 @@ macro_rules! library {
                     Side::over(
                         (Vec::new(), None),
                         move |state| *state = (second.to_vec(), Some(new(first.to_vec()))),
-                        |state| {
-                            let more = std::mem::take(&mut state.0);
-                            merge(state.1.as_mut().expect("a list"), more)
-                        },
-                        |state| listed(state.1.as_ref()),
+                        |state| $merge(state.1.as_mut().expect("a list"), &mut state.0),
+                        |state| listed(state.1.as_ref().expect("a list")),
                     )
                 }
 
@@ -290,15 +290,13 @@ macro_rules! library {
             }
 
             pub fn new(list: Vec<(u64, u32)>) -> SectionRelaxDeltas {
-                $new(list)
+                let mut made = Vec::with_capacity(1);
+                $new_each(&mut vec![list], &mut made);
+                made.pop().expect("one")
             }
 
-            pub fn merge(deltas: &mut SectionRelaxDeltas, more: Vec<(u64, u32)>) {
-                $merge(deltas, more)
-            }
-
-            pub fn listed(deltas: Option<&SectionRelaxDeltas>) -> Vec<(u64, u64, u32)> {
-                let deltas = deltas.expect("a list").deltas().iter();
+            pub fn listed(deltas: &SectionRelaxDeltas) -> Vec<(u64, u64, u32)> {
+                let deltas = deltas.deltas().iter();
                 deltas.map(|d| (d.input_offset, d.cumulative_deleted, d.bytes_deleted)).collect()
             }
 
@@ -360,9 +358,15 @@ library!(
             library::x86_64::relocation_from_raw(name)
         }
     },
-    |list: Vec<(u64, u32)>| SectionRelaxDeltas::new(&list).expect("memory"),
-    |deltas: &mut SectionRelaxDeltas, more: Vec<(u64, u32)>| {
-        deltas.merge_additional(&more).expect("memory")
+    |lists: &mut Vec<Vec<(u64, u32)>>, made: &mut Vec<SectionRelaxDeltas>| {
+        made.extend(
+            lists
+                .iter()
+                .map(|list| SectionRelaxDeltas::new(list).expect("memory")),
+        )
+    },
+    |deltas: &mut SectionRelaxDeltas, more: &mut Vec<(u64, u32)>| {
+        deltas.merge_additional(more).expect("memory")
     },
     |deltas: &SectionRelaxDeltas, queries, outputs| {
         deltas.cursor().translate_all(queries, outputs)
@@ -417,8 +421,12 @@ library!(
         PPC64 => library::ppc64::relocation_type_from_raw(r_type),
         _ => library::x86_64::relocation_from_raw(r_type),
     },
-    SectionRelaxDeltas::new,
-    SectionRelaxDeltas::merge_additional,
+    |lists: &mut Vec<Vec<(u64, u32)>>, made: &mut Vec<SectionRelaxDeltas>| {
+        made.extend(lists.drain(..).map(SectionRelaxDeltas::new))
+    },
+    |deltas: &mut SectionRelaxDeltas, more: &mut Vec<(u64, u32)>| {
+        deltas.merge_additional(std::mem::take(more))
+    },
     |deltas: &SectionRelaxDeltas, queries, outputs| {
         deltas.walk_each(queries, outputs);
     },

@@ -93,16 +93,7 @@ pub const EXPORTS: Calls = Calls {
         }))
     },
     deltas: |list| Box::new(created(&deletions_of(list))),
-    new_side: |list| {
-        let deltas = vec![Delta::default(); list.len()];
-        // the others' lists are made right before each round too, so that they are in the cache
-        Side::over(
-            (Vec::new(), deltas),
-            move |state| state.0 = deletions_of(list),
-            |state| create(&state.0, &mut state.1),
-            |state| listed(&state.1),
-        )
-    },
+    new_side: |list| new_side_by(create, list),
     merge_side: |first, second| {
         let merged = vec![Delta::default(); first.len() + second.len()];
         Side::over(
@@ -363,12 +354,27 @@ fn create(list: &[Deletion], deltas: &mut [Delta]) {
 
 /// `new_side` of `EXPORTS`, by the export that reads the deletions once.
 pub fn new_side_in_one_pass(list: &[(u64, u32)]) -> Side<'_> {
-    let deltas = vec![Delta::default(); list.len()];
+    new_side_by(create_in_one_pass, list)
+}
+
+fn new_side_by<'a>(create: fn(&[Deletion], &mut [Delta]), list: &'a [(u64, u32)]) -> Side<'a> {
+    let count = lists_a_round(list.len());
+    // the others' lists are made right before each round too, so that they are in the cache
     Side::over(
-        (Vec::new(), deltas),
-        move |state| state.0 = deletions_of(list),
-        |state| create_in_one_pass(&state.0, &mut state.1),
-        |state| listed(&state.1),
+        (Vec::new(), vec![vec![Delta::default(); list.len()]; count]),
+        move |state| state.0 = vec![deletions_of(list); count],
+        move |state| {
+            for (given, deltas) in state.0.iter().zip(&mut state.1) {
+                create(given, deltas);
+            }
+        },
+        |state| {
+            state
+                .1
+                .iter()
+                .map(|deltas| listed(deltas))
+                .collect::<Vec<_>>()
+        },
     )
 }
 

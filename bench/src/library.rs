@@ -75,6 +75,7 @@ pub trait Library: Sync {
     fn words(&self, content: &[u8]) -> u64;
     fn highest_relocation_with_bias(&self, values: &[u64]) -> u64;
     fn deltas(&self, list: &[(u64, u32)]) -> Box<dyn Deltas>;
+    /// The deltas of `lists_a_round` such lists.
     fn new_side<'a>(&self, list: &'a [(u64, u32)]) -> Side<'a>;
     fn merge_side<'a>(&self, first: &'a [(u64, u32)], second: &'a [(u64, u32)]) -> Side<'a>;
 
@@ -125,4 +126,10 @@ pub trait Deltas: Sync {
     fn by_heads(&self) -> Option<Box<dyn Deltas>> {
         None
     }
+}
+
+/// Of how many lists of so many deletions a round makes the deltas: for one of ten that takes hardly
+/// longer than to read the clock.
+pub fn lists_a_round(deletions: usize) -> usize {
+    (1_000 / deletions).max(1)
 }

@@ -27,9 +27,10 @@ const CALLS: usize = 2048;
 
 /// So many processes time each side, as stack and heap lie elsewhere in each.
 const PROCESSES: usize = 4;
-/// The option of a program that times the exports and the original crate behind functions.
+/// The option, once for each process, of a program that times the exports and the original crate
+/// behind functions.
 const EXPORTS_BY: &str = "--exports-by=";
-/// The option of a program that times the erased crate and the original one, both called directly.
+/// As above, of one that times the erased crate and the original one, both called directly.
 const CRATES_BY: &str = "--crates-by=";
 /// The option of those programs for which sides they time. They print their rounds.
 const SIDES: &str = "--sides=";
@@ -100,8 +101,10 @@ fn main() {
         report.print_rounds(if sides == EXPORTS_BY { [0, 1] } else { [2, 3] });
     }
     for option in [EXPORTS_BY, CRATES_BY] {
-        let Some(path) = given(option) else { continue };
-        for _ in 0..PROCESSES {
+        let programs = args.iter().filter_map(|arg| arg.strip_prefix(option));
+        let count = programs.clone().count();
+        assert!(count == 0 || count == PROCESSES, "so many processes");
+        for path in programs {
             let mut program = Command::new(path);
             program.args(args.iter().filter(|arg| !arg.starts_with("--")));
             report.add_program(program.arg(format!("{SIDES}{option}")));
@@ -660,7 +663,8 @@ fn cursors(report: &mut Report) {
     report.heading("The cursor, a query", Beside::Original);
     for count in [10, 1_000, 100_000, 1_000_000] {
         let queried = Queried::new(random, count);
-        let side = |library| queried.side(library, |deltas, queries, out| deltas.walk(queries, out));
+        let side =
+            |library| queried.side(library, |deltas, queries, out| deltas.walk(queries, out));
         report.line(&queried.name(), queried.queries(), true, each(side));
     }
 }
@@ -672,16 +676,26 @@ fn more(report: &mut Report) {
         "Calls that do more than those of the original",
         Beside::Task("the original"),
     );
-    let values: Vec<u64> = (0..CALLS).map(|_| random.word() >> (33 + random.below(31))).collect();
+    let values: Vec<u64> = (0..CALLS)
+        .map(|_| random.word() >> (33 + random.below(31)))
+        .collect();
     let side = |library: &'static dyn Library| {
-        Some(Side::number(|| library.passing(Test::HighFitsClui, &values)))
+        Some(Side::number(|| {
+            library.passing(Test::HighFitsClui, &values)
+        }))
     };
-    report.line("RISC-V hi20_fits_clui, also below 0", CALLS, true, each(side));
+    report.line(
+        "RISC-V hi20_fits_clui, also below 0",
+        CALLS,
+        true,
+        each(side),
+    );
     for count in [10, 1_000, 100_000, 1_000_000] {
         let (list, _) = deletions(random, count);
         let [exports, behind, ..] = each(|library| Some(library.new_side(&list)));
         let name = format!("new of {count} by `linker_utils_deltas_create`");
-        report.line(&name, count, true, [exports, behind, None, None]);
+        let calls = count * lists_a_round(count);
+        report.line(&name, calls, true, [exports, behind, None, None]);
     }
     for count in [10, 1_000, 100_000] {
         let queried = Queried::new(random, count);
@@ -692,7 +706,10 @@ fn more(report: &mut Report) {
         };
         let [_, _, erased, original] = LIBRARIES;
         let sides = [None, None, erased.and_then(side), original.and_then(side)];
-        let name = format!("a query a call of the cursor, also inside deletions: {}", queried.name());
+        let name = format!(
+            "a query a call of the cursor, also inside deletions: {}",
+            queried.name()
+        );
         report.line(&name, queried.queries(), true, sides);
     }
 }
@@ -704,7 +721,8 @@ fn lists(report: &mut Report) {
         let (list, _) = deletions(random, count);
         let mut sides = each(|library| Some(library.new_side(&list)));
         sides[0] = Some(exports::new_side_in_one_pass(&list));
-        report.line(&format!("new of {count}"), count, true, sides);
+        let calls = count * lists_a_round(count);
+        report.line(&format!("new of {count}"), calls, true, sides);
     }
     for (old, more) in [
         (1_000, 10),

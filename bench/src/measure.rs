@@ -84,7 +84,7 @@ struct Group {
 
 struct Line {
     name: String,
-    /// Of the medians.
+    /// Of the means of the processes' medians.
     ratio: f64,
     /// Of the rounds: above a tenth of their ratios, and above nine tenths.
     spread: (f64, f64),
@@ -101,6 +101,25 @@ impl Line {
 pub fn quantile(numbers: &mut [f64], tenths: usize) -> f64 {
     numbers.sort_by(f64::total_cmp);
     numbers[numbers.len() * tenths / 10]
+}
+
+/// The times of the rounds of a process, for each side.
+pub type Rounds = Vec<Vec<f64>>;
+
+/// The mean of the processes' medians of a side, where it was timed.
+pub fn mean_of_medians(processes: &[Rounds], side: usize) -> Option<f64> {
+    let timed = processes.iter().filter(|rounds| !rounds[side].is_empty());
+    let medians = timed.map(|rounds| quantile(&mut rounds[side].clone(), 5));
+    let (sum, count) = medians.fold((0.0, 0), |(sum, count), median| (sum + median, count + 1));
+    (count > 0).then(|| sum / f64::from(count))
+}
+
+/// How many times as long each round of one side took as that of another.
+pub fn ratios(processes: &[Rounds], side: usize, other: usize) -> Vec<f64> {
+    let pairs = processes
+        .iter()
+        .flat_map(|rounds| rounds[side].iter().zip(&rounds[other]));
+    pairs.map(|(time, its)| time / its).collect()
 }
 
 /// Before the rounds of a line, where they are printed.
@@ -141,7 +160,10 @@ impl Report {
     pub fn add_program(&mut self, program: &mut Command) {
         let path = program.get_program().to_string_lossy().into_owned();
         self.progress(&path);
-        let output = program.stderr(Stdio::inherit()).output().expect("a program");
+        let output = program
+            .stderr(Stdio::inherit())
+            .output()
+            .expect("a program");
         assert!(output.status.success(), "{path} fails");
         let printed = String::from_utf8(output.stdout).expect("a text");
         let lines = printed.lines().filter_map(|line| line.strip_prefix(ROUNDS));
@@ -154,9 +176,9 @@ impl Report {
         self.others.is_empty() && self.timed.is_none_or(|sides| sides.contains(&side))
     }
 
-    /// Prints the rounds of the sides of a line where that is asked for, and adds those of other
-    /// programs.
-    pub fn share(&mut self, name: &str, sides: &mut [Vec<f64>]) {
+    /// The rounds of the sides of a line, of each process that timed some. Prints those of this one
+    /// where that is asked for.
+    pub fn share(&mut self, name: &str, sides: Rounds) -> Vec<Rounds> {
         if self.timed.is_some() {
             let times = |side: &Vec<f64>| -> String {
                 let times: Vec<String> = side.iter().map(f64::to_string).collect();
@@ -165,15 +187,21 @@ impl Report {
             let sides: Vec<String> = sides.iter().map(times).collect();
             println!("{ROUNDS}{name}\t{}", sides.join("\t"));
         }
-        for other in &mut self.others {
+        let of_others = self.others.iter_mut().map(|other| {
             let line = other.next().expect("the same lines");
             let mut fields = line.split('\t');
             assert_eq!(fields.next(), Some(name), "the same lines");
-            for (side, times) in sides.iter_mut().zip(fields) {
-                let times = times.split_whitespace();
-                side.extend(times.map(|time| time.parse::<f64>().expect("a time")));
-            }
+            let times = |side: &str| {
+                let times = side.split_whitespace();
+                times.map(|time| time.parse().expect("a time")).collect()
+            };
+            fields.map(times).collect()
+        });
+        let mut processes: Vec<Rounds> = of_others.collect();
+        if sides.iter().any(|side| !side.is_empty()) {
+            processes.push(sides);
         }
+        processes
     }
 
     /// How many rounds a line has at least.
@@ -208,8 +236,12 @@ impl Report {
     /// Measures rounds of so many calls. Sides have to give the same, unless they differ on
     /// purpose.
     pub fn line(&mut self, name: &str, calls: usize, is_same: bool, mut sides: Sides) {
-        let mut rounds = [const { Vec::new() }; 4];
-        let gave: Vec<u64> = sides.iter_mut().flatten().map(|side| (side.0)(true).1).collect();
+        let mut rounds = vec![Vec::new(); 4];
+        let gave: Vec<u64> = sides
+            .iter_mut()
+            .flatten()
+            .map(|side| (side.0)(true).1)
+            .collect();
         let has_same = gave.windows(2).all(|pair| pair[0] == pair[1]);
         assert!(!is_same || has_same, "{name}: the sides differ");
         let timed: Vec<usize> = (0..4)
@@ -228,19 +260,16 @@ impl Report {
                 rounds[at].extend(time.map(|time| time * 1e9 / calls as f64));
             }
         }
-        self.share(name, &mut rounds);
+        let processes = self.share(name, rounds);
         let group = self.groups.last_mut().expect("a heading");
         let digits = |time: f64| if time < 1e4 { 2 } else { 0 };
         let number = |time: f64| format!(" {time:.*}", digits(time));
         let text = |time: Option<f64>| time.map_or(String::new(), number);
         print!("| {name} |");
-        for (pair, which) in rounds.chunks_mut(2).zip(0..) {
-            let each_round = pair[0].iter().zip(&pair[1]);
-            let mut ratios: Vec<f64> = each_round.map(|(ours, theirs)| ours / theirs).collect();
-            let medians: Vec<Option<f64>> = pair
-                .iter_mut()
-                .map(|times| (!times.is_empty()).then(|| quantile(times, 5)))
-                .collect();
+        for which in 0..2 {
+            let (ours, theirs) = (2 * which, 2 * which + 1);
+            let mut ratios = ratios(&processes, ours, theirs);
+            let medians = [ours, theirs].map(|side| mean_of_medians(&processes, side));
             print!("{} |", text(medians[0]));
             if group.beside == Beside::Nothing {
                 continue;
@@ -286,7 +315,7 @@ impl Report {
                 let fails = |line: &Line| beside == Beside::Original && line.fails();
                 let failing = lines.iter().filter(|it| fails(it.1)).count();
                 println!(
-                    "\nOf {} lines of {of} beside {}, by the ratio of the medians: {one} above \
+                    "\nOf {} lines of {of} beside {}, by the ratio of the means of the medians: {one} above \
                      1.00, {some} above 1.05, {much} above 1.25.{}\n",
                     lines.len(),
                     beside.name(),

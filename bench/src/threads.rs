@@ -3,7 +3,7 @@
 
 use crate::inputs::{Random, deletions};
 use crate::library::RelocateAll;
-use crate::measure::{Report, quantile};
+use crate::measure::{Report, mean_of_medians, quantile, ratios};
 use crate::table::{AARCH64, MIXES};
 use crate::{LIBRARIES, stream};
 use std::time::Instant;
@@ -26,7 +26,11 @@ pub fn threads(report: &mut Report) {
     let queries: Vec<u64> = (0..QUERIES).map(|_| random.below(len.into())).collect();
     let sections = &mut vec![section; SECTIONS];
     let ours = [0, 2].map(|side| {
-        let count = if report.times(side) { report.rounds() } else { 0 };
+        let count = if report.times(side) {
+            report.rounds()
+        } else {
+            0
+        };
         (LIBRARIES[side].expect("ours"), count)
     });
 
@@ -81,22 +85,24 @@ fn rounds(count: usize, calls: usize, mut round: impl FnMut(usize)) -> [Vec<f64>
     times
 }
 
-/// A line for each number of threads: the medians, how much faster than one thread that is, and the
-/// 10th and the 90th percentile of the same of the rounds.
-fn print(report: &mut Report, name: &str, mut sides: [[Vec<f64>; 3]; 2]) {
-    report.share(name, sides.as_flattened_mut());
+/// A line for each number of threads: the means of the processes' medians, how much faster than one
+/// thread that is, and the 10th and the 90th percentile of the same of the rounds.
+fn print(report: &mut Report, name: &str, sides: [[Vec<f64>; 3]; 2]) {
+    let processes = report.share(name, sides.into_iter().flatten().collect());
     for (which, threads) in THREADS.into_iter().enumerate() {
         print!("| {name} | {threads} |");
-        for times in &sides {
-            if times[which].is_empty() {
+        for alone in [0, THREADS.len()] {
+            let medians = [alone, alone + which].map(|side| mean_of_medians(&processes, side));
+            let [Some(time_alone), Some(time)] = medians else {
                 print!(" | | |");
                 continue;
-            }
-            let alone = times[0].iter().zip(&times[which]);
-            let mut faster: Vec<f64> = alone.map(|(alone, time)| alone / time).collect();
-            let [alone, time] = [0, which].map(|which| quantile(&mut times[which].clone(), 5));
+            };
+            let mut faster = ratios(&processes, alone, alone + which);
             let [low, high] = [1, 9].map(|tenths| quantile(&mut faster, tenths));
-            print!(" {time:.2} | {:.2} | {low:.2} to {high:.2} |", alone / time);
+            print!(
+                " {time:.2} | {:.2} | {low:.2} to {high:.2} |",
+                time_alone / time
+            );
         }
         println!();
     }

@@ -9,7 +9,7 @@ ghost use Rattle.linker_utils_c.specs.Rewrites.{IsRewritten, MatchesRewrite};
 ghost use Rattle.linker_utils_c.specs.Status.{code};
 
 use crate::status::Status;
-use linker_utils::elf::{Architecture, InstructionRewrite};
+use linker_utils::elf::{Architecture, EM_X86_64, InstructionRewrite};
 use linker_utils::relaxation::RelocationModifier;
 use linker_utils::{aarch64, loongarch64, ppc64, riscv64, x86_64};
 
@@ -82,6 +82,29 @@ fn apply_riscv(rewrite: u32, section: &mut [u8], offset: &mut u64, addend: &mut 
     .number()
 }
 
+// Applies a rewrite of x86-64. It isn't inlined, so that `linker_utils_apply` stays small.
+#[inline(never)]
+fn apply_x86_64(rewrite: u32, n: u8, section: &mut [u8], offset: &mut u64, addend: &mut i64) -> u32
+    ensures known { IfOk (named_rewrite 62 rewrite n)
+        (λ named. TakesRewrite (relaxation_rewrite named) section.old offset.old result) }
+    ensures rewritten { IfOk (named_rewrite 62 rewrite n)
+        (λ named. result ≡ code Status.Success
+        → IsRewritten (relaxation_rewrite named) section.old section.new
+        offset.old offset.new addend.old addend.new) }
+    ensures unknown { IfErr (named_rewrite 62 rewrite n) (λ status. result ≡ code status) }
+    ensures section_stays { result ≢ code Status.Success → section.new ≡ section.old }
+    ensures offset_stays { result ≢ code Status.Success → offset.new ≡ offset.old }
+    ensures addend_stays { result ≢ code Status.Success → addend.new ≡ addend.old }
+{
+    apply_by(
+        x86_64::RelaxationKind::from_number(rewrite, n),
+        section,
+        offset,
+        addend,
+    )
+    .number()
+}
+
 // Applies the rewrite of a machine and a number, if there is one.
 #[inline(always)]
 fn apply_of(
@@ -130,14 +153,33 @@ fn apply_of(
             addend,
         )
         .number(),
-        Architecture::X86_64 => apply_by(
-            x86_64::RelaxationKind::from_number(rewrite, n),
-            section,
-            offset,
-            addend,
-        )
-        .number(),
+        Architecture::X86_64 => apply_x86_64(rewrite, n, section, offset, addend),
     }
+}
+
+// As `apply_of`, not inlined.
+#[inline(never)]
+fn apply_any(
+    machine: u16,
+    rewrite: u32,
+    n: u8,
+    section: &mut [u8],
+    offset: &mut u64,
+    addend: &mut i64,
+) -> u32
+    ensures known { IfOk (named_rewrite machine rewrite n)
+        (λ named. TakesRewrite (relaxation_rewrite named) section.old offset.old result) }
+    ensures rewritten { IfOk (named_rewrite machine rewrite n)
+        (λ named. result ≡ code Status.Success
+        → IsRewritten (relaxation_rewrite named) section.old section.new
+        offset.old offset.new addend.old addend.new) }
+    ensures unknown { IfErr (named_rewrite machine rewrite n)
+        (λ status. result ≡ code status) }
+    ensures section_stays { result ≢ code Status.Success → section.new ≡ section.old }
+    ensures offset_stays { result ≢ code Status.Success → offset.new ≡ offset.old }
+    ensures addend_stays { result ≢ code Status.Success → addend.new ≡ addend.old }
+{
+    apply_of(machine, rewrite, n, section, offset, addend)
 }
 
 #[inline(always)]
@@ -263,9 +305,12 @@ pub extern "C" fn linker_utils_apply_nonnull(
     ensures offset_stays { result ≢ code Status.Success → offset.new ≡ offset.old }
     ensures addend_stays { result ≢ code Status.Success → addend.new ≡ addend.old }
 {
-    // Most relocations take rewrite 0, which changes nothing except on x86-64. It is tested before
-    // the machine: so 0 needs no jump through a table, and the others need no second one.
-    if rewrite == 0 {
+    // Most relocations take rewrite 0, which changes nothing except on x86-64. So 0 needs no jump
+    // through a table, and no room on the stack.
+    if machine != EM_X86_64 {
+        if rewrite != 0 {
+            return apply_any(machine, rewrite, n, section, offset, addend);
+        }
         return apply_of(machine, 0, n, section, offset, addend);
     }
     apply_of(machine, rewrite, n, section, offset, addend)

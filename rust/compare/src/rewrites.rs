@@ -2,7 +2,7 @@
 //! Rewrites of instructions, by `e_machine` and a rewrite's number.
 
 use crate::status::Status;
-use linker_utils::elf::{Architecture, InstructionRewrite};
+use linker_utils::elf::{Architecture, EM_X86_64, InstructionRewrite};
 use linker_utils::relaxation::RelocationModifier;
 use linker_utils::{aarch64, loongarch64, ppc64, riscv64, x86_64};
 
@@ -49,6 +49,18 @@ fn apply_riscv(rewrite: u32, section: &mut [u8], offset: &mut u64, addend: &mut 
     .number()
 }
 
+// Applies a rewrite of x86-64. It isn't inlined, so that `linker_utils_apply` stays small.
+#[inline(never)]
+fn apply_x86_64(rewrite: u32, n: u8, section: &mut [u8], offset: &mut u64, addend: &mut i64) -> u32 {
+    apply_by(
+        x86_64::RelaxationKind::from_number(rewrite, n),
+        section,
+        offset,
+        addend,
+    )
+    .number()
+}
+
 // Applies the rewrite of a machine and a number, if there is one.
 #[inline(always)]
 fn apply_of(
@@ -85,14 +97,21 @@ fn apply_of(
             addend,
         )
         .number(),
-        Architecture::X86_64 => apply_by(
-            x86_64::RelaxationKind::from_number(rewrite, n),
-            section,
-            offset,
-            addend,
-        )
-        .number(),
+        Architecture::X86_64 => apply_x86_64(rewrite, n, section, offset, addend),
     }
+}
+
+// As `apply_of`, not inlined.
+#[inline(never)]
+fn apply_any(
+    machine: u16,
+    rewrite: u32,
+    n: u8,
+    section: &mut [u8],
+    offset: &mut u64,
+    addend: &mut i64,
+) -> u32 {
+    apply_of(machine, rewrite, n, section, offset, addend)
 }
 
 #[inline(always)]
@@ -187,9 +206,12 @@ pub fn linker_utils_apply_nonnull(
     offset: &mut u64,
     addend: &mut i64,
 ) -> u32 {
-    // Most relocations take rewrite 0, which changes nothing except on x86-64. It is tested before
-    // the machine: so 0 needs no jump through a table, and the others need no second one.
-    if rewrite == 0 {
+    // Most relocations take rewrite 0, which changes nothing except on x86-64. So 0 needs no jump
+    // through a table, and no room on the stack.
+    if machine != EM_X86_64 {
+        if rewrite != 0 {
+            return apply_any(machine, rewrite, n, section, offset, addend);
+        }
         return apply_of(machine, 0, n, section, offset, addend);
     }
     apply_of(machine, rewrite, n, section, offset, addend)
