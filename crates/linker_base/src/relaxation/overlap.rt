@@ -235,7 +235,7 @@ pub(super) fn are_valid_together<D: AsDeletion>(deltas: &[RelaxDelta], additiona
 }
 
 // The same, by a walk through both. Which of both comes next is unpredictable, and no branch
-// depends on it.
+// depends on it. Both have as many left as there are turns, so that a turn tests neither.
 fn rise_together<D: AsDeletion>(deltas: &[RelaxDelta], additional: &[D]) -> bool
     ensures { IsTrue result ↔ AreValidTogether (map deletion_of deltas.now)
         (map D.deletion additional.now) }
@@ -243,20 +243,24 @@ fn rise_together<D: AsDeletion>(deltas: &[RelaxDelta], additional: &[D]) -> bool
     let (mut passed, mut taken) = (0, 0);
     let mut next = 0;
     while passed < deltas.len() && taken < additional.len() {
-        let old = deltas[passed].as_deletion();
-        let added = additional[taken].as_deletion();
-        let is_old = old.0 < added.0;
-        let deletion = if is_old { old } else { added };
-        // Only at the very end of the offsets, or past it, 64 bits are too few.
-        let Some(after) = deletion.0.checked_add(u64::from(deletion.1).max(1)) else {
-            return rise_on(deltas, additional, passed, taken, u128::from(next));
-        };
-        if deletion.0 < next {
-            return false;
+        let mut turns = (deltas.len() - passed).min(additional.len() - taken);
+        while turns > 0 {
+            let old = deltas[passed].as_deletion();
+            let added = additional[taken].as_deletion();
+            let is_old = old.0 < added.0;
+            let deletion = if is_old { old } else { added };
+            // Only at the very end of the offsets, or past it, 64 bits are too few.
+            let Some(after) = deletion.0.checked_add(u64::from(deletion.1).max(1)) else {
+                return rise_on(deltas, additional, passed, taken, u128::from(next));
+            };
+            if deletion.0 < next {
+                return false;
+            }
+            next = after;
+            passed += usize::from(is_old);
+            taken += usize::from(!is_old);
+            turns -= 1;
         }
-        next = after;
-        passed += usize::from(is_old);
-        taken += usize::from(!is_old);
     }
     rise_on(deltas, additional, passed, taken, u128::from(next))
 }

@@ -130,7 +130,8 @@ fn merge_in_place(merged: &mut [RelaxDelta], count: usize, additional: &[(u64, u
 }
 
 // Writes the deltas of two lists, merged from the front. Which of both comes next is unpredictable,
-// and no branch depends on it.
+// and no branch depends on it. Both have as many left as there are turns, so that a turn tests
+// neither.
 pub(super) fn merge_apart<D: AsDeletion>(
     deltas: &[RelaxDelta],
     additional: &[D],
@@ -139,14 +140,18 @@ pub(super) fn merge_apart<D: AsDeletion>(
     let (mut passed, mut taken) = (0, 0);
     let mut bytes = 0;
     while passed < deltas.len() && taken < additional.len() {
-        let old = deltas[passed].as_deletion();
-        let added = additional[taken].as_deletion();
-        let is_old = old.0 < added.0;
-        let delta = delta_after(bytes, if is_old { old } else { added });
-        bytes = delta.cumulative_deleted;
-        merged[passed + taken] = delta;
-        passed += usize::from(is_old);
-        taken += usize::from(!is_old);
+        let mut turns = (deltas.len() - passed).min(additional.len() - taken);
+        while turns > 0 {
+            let old = deltas[passed].as_deletion();
+            let added = additional[taken].as_deletion();
+            let is_old = old.0 < added.0;
+            let delta = delta_after(bytes, if is_old { old } else { added });
+            bytes = delta.cumulative_deleted;
+            merged[passed + taken] = delta;
+            passed += usize::from(is_old);
+            taken += usize::from(!is_old);
+            turns -= 1;
+        }
     }
     while passed < deltas.len() {
         let delta = delta_after(bytes, deltas[passed].as_deletion());

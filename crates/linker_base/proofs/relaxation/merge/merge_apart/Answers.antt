@@ -25,49 +25,65 @@ delta_after-delta-requires g c =
     let xs = c.args.additional.now in
     let ds = map deletion_of deltas in
     let ps = map f xs in
-    let i = c.loop-passed.passed in
-    let j = c.loop-passed.taken in
-    let upto = c.loop-passed.invariant in
-    let old : get_or ds i (0, 0) ≡ c.as_deletion-old.result = deletion_at deltas i blank (0, 0) c.loop-passed-test.true ∙ sym c.as_deletion-old.ensures in
-    let added : get_or ps j (0, 0) ≡ c.as_deletion-added.result = get_or-map f xs j c.index-additional-taken.result (0, 0) c.if-taken-additional.true ∙ rw (← c.index-additional-taken.is) (sym c.as_deletion-added.ensures) in
-    let old_in : i < length ds = omega (arith, length-map deltas deletion_of, c.loop-passed-test.true) in
-    let added_in : j < length ps = omega (arith, length-map xs f, c.if-taken-additional.true) in
+    let i = c.loop-turns.passed in
+    let j = c.loop-turns.taken in
+    let old_left : i < length deltas = omega (arith, c.loop-turns.invariant.old_left, c.loop-turns-test.true) in
+    let added_left : j < length xs = omega (arith, c.loop-turns.invariant.added_left, c.loop-turns-test.true) in
+    let upto = c.loop-turns.invariant.upto in
+    let old : get_or ds i (0, 0) ≡ c.as_deletion-old.result = deletion_at deltas i blank (0, 0) old_left ∙ sym c.as_deletion-old.ensures in
+    let added : get_or ps j (0, 0) ≡ c.as_deletion-added.result = get_or-map f xs j c.index-additional-taken.result (0, 0) added_left ∙ rw (← c.index-additional-taken.is) (sym c.as_deletion-added.ensures) in
+    let old_in : i < length ds = omega (arith, length-map deltas deletion_of, old_left) in
+    let added_in : j < length ps = omega (arith, length-map xs f, added_left) in
     elim c.if-is_old.branch [
-      | then-is_old w ↦ rw (w.delta_after-is, ← old) (spends_more ds ps i j c.loop-passed.merged c.loop-passed.bytes upto c.requires.valid.disjoint old_in)
-      | else-is_old w ↦ rw (w.delta_after-is, ← added) (spends_more ps ds j i c.loop-passed.merged c.loop-passed.bytes (merged_swapped ds ps i j c.loop-passed.merged c.loop-passed.bytes upto) (disjoint_permutation (ds ++ ps) (ps ++ ds) (IsPermutation-append_comm ds ps) c.requires.valid.disjoint) added_in)
+      | then-is_old w ↦ rw (w.delta_after-is, ← old) (spends_more ds ps i j c.loop-turns.merged c.loop-turns.bytes upto c.requires.valid.disjoint old_in)
+      | else-is_old w ↦ rw (w.delta_after-is, ← added) (spends_more ps ds j i c.loop-turns.merged c.loop-turns.bytes (merged_swapped ds ps i j c.loop-turns.merged c.loop-turns.bytes upto) (disjoint_permutation (ds ++ ps) (ps ++ ds) (IsPermutation-append_comm ds ps) c.requires.valid.disjoint) added_in)
     ]
 
-pub loop-passed-preserved : goal.loop-passed-preserved
-loop-passed-preserved g c =
+pub loop-turns-preserved : goal.loop-turns-preserved
+loop-turns-preserved g c =
     let f = g.D.AsDeletion.deletion in
     let deltas = c.args.deltas.now in
     let xs = c.args.additional.now in
     let ds = map deletion_of deltas in
     let ps = map f xs in
-    let i = c.loop-passed.passed in
-    let j = c.loop-passed.taken in
-    let upto = c.loop-passed.invariant in
-    let old : get_or ds i (0, 0) ≡ c.as_deletion-old.result = deletion_at deltas i blank (0, 0) c.loop-passed-test.true ∙ sym c.as_deletion-old.ensures in
-    let added : get_or ps j (0, 0) ≡ c.as_deletion-added.result = get_or-map f xs j c.index-additional-taken.result (0, 0) c.if-taken-additional.true ∙ rw (← c.index-additional-taken.is) (sym c.as_deletion-added.ensures) in
-    let old_in : i < length ds = omega (arith, length-map deltas deletion_of, c.loop-passed-test.true) in
-    let added_in : j < length ps = omega (arith, length-map xs f, c.if-taken-additional.true) in
+    let i = c.loop-turns.passed in
+    let j = c.loop-turns.taken in
+    let old_left : i < length deltas = omega (arith, c.loop-turns.invariant.old_left, c.loop-turns-test.true) in
+    let added_left : j < length xs = omega (arith, c.loop-turns.invariant.added_left, c.loop-turns-test.true) in
+    let upto = c.loop-turns.invariant.upto in
+    let old : get_or ds i (0, 0) ≡ c.as_deletion-old.result = deletion_at deltas i blank (0, 0) old_left ∙ sym c.as_deletion-old.ensures in
+    let added : get_or ps j (0, 0) ≡ c.as_deletion-added.result = get_or-map f xs j c.index-additional-taken.result (0, 0) added_left ∙ rw (← c.index-additional-taken.is) (sym c.as_deletion-added.ensures) in
+    let old_in : i < length ds = omega (arith, length-map deltas deletion_of, old_left) in
+    let added_in : j < length ps = omega (arith, length-map xs f, added_left) in
     let at = i + j in
     let delta = c.delta_after-delta.result in
     elim c.if-is_old.branch [
       | then-is_old w ↦
           let one : c.from.result ≡ 1 = grind (arith, nat_tests, c.from.ensures, w.if-is_old.true) in
-          let none : j + c.from-in-loop-passed.result ≡ j = grind (arith, nat_tests, c.from-in-loop-passed.ensures, w.if-is_old.true) in
+          let none : c.from-in-loop-turns.result ≡ 0 = grind (arith, nat_tests, c.from-in-loop-turns.ensures, w.if-is_old.true) in
+          let stays : j + c.from-in-loop-turns.result ≡ j = omega (arith, none) in
           let here : c.if-is_old.delta_after ≡ get_or ds i (0, 0) = w.delta_after-is ∙ sym old in
-          rw (one, none) (merged_more ds ps i j at c.loop-passed.merged delta c.loop-passed.bytes c.requires.valid.old old_in refl upto (c.delta_after-delta.ensures.deletion ∙ here)
-          (λ _. omega (arith, ap (λ (e : ℕ × ℕ). e.0) old, ap (λ (e : ℕ × ℕ). e.0) added, w.if-is_old.true))
-          (omega (arith, c.delta_after-delta.ensures.sum, ap (λ (e : ℕ × ℕ). e.1) here)))
+          record {
+            upto = rw (one, stays) (merged_more ds ps i j at c.loop-turns.merged delta c.loop-turns.bytes c.requires.valid.old old_in refl upto (c.delta_after-delta.ensures.deletion ∙ here)
+                (λ _. omega (arith, ap (λ (e : ℕ × ℕ). e.0) old, ap (λ (e : ℕ × ℕ). e.0) added, w.if-is_old.true))
+                (omega (arith, c.delta_after-delta.ensures.sum, ap (λ (e : ℕ × ℕ). e.1) here)));
+            old_left = omega (arith, one, c.loop-turns.invariant.old_left, c.loop-turns-test.true);
+            added_left = omega (arith, none, c.loop-turns.invariant.added_left, c.loop-turns-test.true);
+            turned = omega (arith, one, none, c.loop-turns.invariant.turned, c.loop-turns-test.true);
+          }
       | else-is_old w ↦
-          let none : i + c.from.result ≡ i = grind (arith, nat_tests, c.from.ensures, w.if-is_old.false) in
-          let one : c.from-in-loop-passed.result ≡ 1 = grind (arith, nat_tests, c.from-in-loop-passed.ensures, w.if-is_old.false) in
+          let none : c.from.result ≡ 0 = grind (arith, nat_tests, c.from.ensures, w.if-is_old.false) in
+          let stays : i + c.from.result ≡ i = omega (arith, none) in
+          let one : c.from-in-loop-turns.result ≡ 1 = grind (arith, nat_tests, c.from-in-loop-turns.ensures, w.if-is_old.false) in
           let here : c.if-is_old.delta_after ≡ get_or ps j (0, 0) = w.delta_after-is ∙ sym added in
-          rw (none, one) (merged_swapped ps ds (j + 1) i _ _ (merged_more ps ds j i at c.loop-passed.merged delta c.loop-passed.bytes c.requires.valid.added added_in (omega arith) (merged_swapped ds ps i j c.loop-passed.merged c.loop-passed.bytes upto) (c.delta_after-delta.ensures.deletion ∙ here)
-          (λ _. omega (arith, ap (λ (e : ℕ × ℕ). e.0) old, ap (λ (e : ℕ × ℕ). e.0) added, w.if-is_old.false))
-          (omega (arith, c.delta_after-delta.ensures.sum, ap (λ (e : ℕ × ℕ). e.1) here))))
+          record {
+            upto = rw (stays, one) (merged_swapped ps ds (j + 1) i _ _ (merged_more ps ds j i at c.loop-turns.merged delta c.loop-turns.bytes c.requires.valid.added added_in (omega arith) (merged_swapped ds ps i j c.loop-turns.merged c.loop-turns.bytes upto) (c.delta_after-delta.ensures.deletion ∙ here)
+                (λ _. omega (arith, ap (λ (e : ℕ × ℕ). e.0) old, ap (λ (e : ℕ × ℕ). e.0) added, w.if-is_old.false))
+                (omega (arith, c.delta_after-delta.ensures.sum, ap (λ (e : ℕ × ℕ). e.1) here))));
+            old_left = omega (arith, none, c.loop-turns.invariant.old_left, c.loop-turns-test.true);
+            added_left = omega (arith, one, c.loop-turns.invariant.added_left, c.loop-turns-test.true);
+            turned = omega (arith, one, none, c.loop-turns.invariant.turned, c.loop-turns-test.true);
+          }
     ]
 
 pub delta_after-delta-requires-in-loop-passed-2 : goal.delta_after-delta-requires-in-loop-passed-2
