@@ -1,5 +1,6 @@
 //! What takes less time with threads: relocations of sections, each by one thread, and translations
-//! by one array of deltas, which all threads read.
+//! by one array of deltas, which all threads read. Steps that use no memory show how many times as
+//! fast the machine itself is with threads.
 
 use crate::inputs::{Random, deletions};
 use crate::library::RelocateAll;
@@ -11,6 +12,7 @@ use std::time::Instant;
 const SECTIONS: usize = 16;
 const QUERIES: usize = 1 << 20;
 const THREADS: [usize; 3] = [1, 2, 4];
+const STEPS: usize = 1 << 23;
 
 pub fn threads(report: &mut Report) {
     let title = "Threads";
@@ -70,6 +72,27 @@ pub fn threads(report: &mut Report) {
         "translations by one array of 65536 deltas, each",
         translated,
     );
+    let computed = ours.map(|(_, count)| {
+        rounds(count, STEPS, |threads| {
+            std::thread::scope(|scope| {
+                for _ in 0..threads {
+                    scope.spawn(move || std::hint::black_box(compute(STEPS / threads)));
+                }
+            });
+        })
+    });
+    print(report, "steps that use no memory, each", computed);
+}
+
+/// So many steps of a generator of random numbers, which read and write no memory.
+fn compute(steps: usize) -> u64 {
+    let mut state = std::hint::black_box(1u64);
+    for _ in 0..steps {
+        state ^= state << 13;
+        state ^= state >> 7;
+        state ^= state << 17;
+    }
+    state
 }
 
 /// The nanoseconds for each of so many calls in each round, with each number of threads in turn.

@@ -2,7 +2,6 @@
 //! memory and return an error where there is none, a push that takes none, and what tests name.
 #![allow(dead_code, unused_macros, reason = "each of three crates uses a part")]
 
-use alloc::borrow::Cow;
 use alloc::boxed::Box;
 pub(crate) use alloc::collections::TryReserveError as AllocError;
 use alloc::string::{String, ToString};
@@ -113,18 +112,35 @@ fn joined<'a>(texts: impl Iterator<Item = &'a str> + Clone) -> Result<String, Al
     Ok(text)
 }
 
+/// A text with U+FFFD in place of each sequence of bytes that is not UTF-8, for which no memory is
+/// taken before it becomes the caller's.
+pub(crate) struct LossyText<'a>(&'a [u8]);
+
 /// What `String::from_utf8_lossy` returns.
 pub(crate) trait FallibleText {
-    fn fallible_to_str_lossy(&self) -> Result<Cow<'_, str>, AllocError>;
+    fn fallible_to_str_lossy(&self) -> Result<LossyText<'_>, AllocError>;
 }
 
 impl FallibleText for [u8] {
     #[inline]
-    fn fallible_to_str_lossy(&self) -> Result<Cow<'_, str>, AllocError> {
-        match core::str::from_utf8(self) {
-            Ok(text) => Ok(Cow::Borrowed(text)),
-            Err(_) => replaced(self).map(Cow::Owned),
-        }
+    fn fallible_to_str_lossy(&self) -> Result<LossyText<'_>, AllocError> {
+        Ok(LossyText(self))
+    }
+}
+
+/// A text that becomes the caller's.
+pub(crate) trait FallibleOwned {
+    fn fallible_into_owned(self) -> Result<String, AllocError>;
+}
+
+impl FallibleOwned for LossyText<'_> {
+    // The copy is tested, which is aligned, as the bytes may not be: that takes less time.
+    #[inline]
+    fn fallible_into_owned(self) -> Result<String, AllocError> {
+        let mut copy = Vec::new();
+        copy.try_reserve_exact(self.0.len())?;
+        copy.extend_from_slice(self.0);
+        String::from_utf8(copy).or_else(|_| replaced(self.0))
     }
 }
 
@@ -134,26 +150,6 @@ fn replaced(bytes: &[u8]) -> Result<String, AllocError> {
     joined(bytes.utf8_chunks().flat_map(|chunk| {
         [chunk.valid(), if chunk.invalid().is_empty() { "" } else { "\u{fffd}" }]
     }))
-}
-
-/// A text that becomes the caller's.
-pub(crate) trait FallibleOwned {
-    fn fallible_into_owned(self) -> Result<String, AllocError>;
-}
-
-impl FallibleOwned for Cow<'_, str> {
-    #[inline]
-    fn fallible_into_owned(self) -> Result<String, AllocError> {
-        match self {
-            Cow::Owned(text) => Ok(text),
-            Cow::Borrowed(text) => {
-                let mut owned = String::new();
-                owned.try_reserve_exact(text.len())?;
-                owned.push_str(text);
-                Ok(owned)
-            }
-        }
-    }
 }
 
 /// Why a test fails.

@@ -49,9 +49,10 @@ fn apply_riscv(rewrite: u32, section: &mut [u8], offset: &mut u64, addend: &mut 
     .number()
 }
 
-// Applies a rewrite of x86-64. It isn't inlined, so that `linker_utils_apply` stays small.
+// Applies a rewrite of x86-64. It isn't inlined, so that `linker_utils_apply` stays small. In this
+// order the rewrite and the offset stay in the registers that they have there.
 #[inline(never)]
-fn apply_x86_64(rewrite: u32, n: u8, section: &mut [u8], offset: &mut u64, addend: &mut i64) -> u32 {
+fn apply_x86_64(n: u8, rewrite: u32, section: &mut [u8], addend: &mut i64, offset: &mut u64) -> u32 {
     apply_by(
         x86_64::RelaxationKind::from_number(rewrite, n),
         section,
@@ -97,7 +98,7 @@ fn apply_of(
             addend,
         )
         .number(),
-        Architecture::X86_64 => apply_x86_64(rewrite, n, section, offset, addend),
+        Architecture::X86_64 => apply_x86_64(n, rewrite, section, addend, offset),
     }
 }
 

@@ -29,9 +29,8 @@ pub enum Ppc64Instruction {
 }
 
 /// The bits that each form holds in its word. A match of them would be merged with that of
-/// `write_to_value`, into a jump by the form, and a constant would be written to the stack at each
-/// use.
-static MASKS: [u64; 5] = [0xffff, 0xfffc, 0xfffc, 0x03ff_fffc, 0];
+/// `write_to_value`, into a jump by the form.
+const MASKS: &[u64; 5] = &[0xffff, 0xfffc, 0xfffc, 0x03ff_fffc, 0];
 
 const PREFIXED: [Run; 2] = [run!(0, 32, 16), run!(16, 0, 18)];
 
