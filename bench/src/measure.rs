@@ -122,6 +122,22 @@ pub fn ratios(processes: &[Rounds], side: usize, other: usize) -> Vec<f64> {
     pairs.map(|(time, its)| time / its).collect()
 }
 
+/// Whether the rounds of a process tell which side takes more time: by thrice the standard error of a
+/// median, which is half of what lies between the 10th and the 90th percentile by the root of how
+/// many rounds there are.
+fn tells(rounds: &Rounds, side: usize, other: usize) -> bool {
+    let mut ratios = ratios(std::slice::from_ref(rounds), side, other);
+    if ratios.is_empty() {
+        return true;
+    }
+    let [low, median, high] = [1, 5, 9].map(|tenths| quantile(&mut ratios, tenths));
+    let error = (high - low) / 2.0 / (ratios.len() as f64).sqrt();
+    (median - 1.0).abs() > 3.0 * error
+}
+
+/// For how many times as long a line is measured at most, until its rounds tell which side takes more.
+const MOST: u32 = 8;
+
 /// Before the rounds of a line, where they are printed.
 const ROUNDS: &str = "rounds of ";
 
@@ -247,11 +263,22 @@ impl Report {
         let timed: Vec<usize> = (0..4)
             .filter(|&at| self.times(at) && sides[at].is_some())
             .collect();
-        let limit = Duration::from_secs_f64(self.budget * timed.len() as f64);
+        let group = self.groups.last().expect("a heading");
+        let can_fail = group.beside == Beside::Original;
         let begin = Instant::now();
+        let mut limit = Duration::from_secs_f64(self.budget * timed.len() as f64);
+        let mut most = None;
         for round in 0.. {
-            if timed.is_empty() || round >= self.rounds && begin.elapsed() > limit {
+            if timed.is_empty() {
                 break;
+            }
+            if round >= self.rounds && begin.elapsed() > limit {
+                let now = begin.elapsed();
+                let most = *most.get_or_insert(now * MOST);
+                if !can_fail || now > most || (tells(&rounds, 0, 1) && tells(&rounds, 2, 3)) {
+                    break;
+                }
+                limit = now * 2;
             }
             // each goes first in turn
             for k in 0..timed.len() {
