@@ -272,10 +272,10 @@ fn vectors_and_texts_are_not_made() {
         let (count, longer) = each_fails_of(|| one.to_vec(), insert, |it| assert_eq!(it, &one));
         assert_eq!((count, longer), (1, if at == 0 { vec![5, 9] } else { vec![9, 5] }));
     }
-    let text = || b"a\xe2\x82b".fallible_to_str_lossy();
-    assert_eq!(each_fails(text, |_| {}), (1, "a\u{fffd}b".into()));
-    let owned = || std::borrow::Cow::Borrowed("a").fallible_into_owned();
-    assert_eq!(each_fails(owned, |_| {}), (1, "a".into()));
+    let text = |bytes: &[u8]| bytes.fallible_to_str_lossy()?.fallible_into_owned();
+    assert_eq!(each_fails(|| text(b"a"), |_| {}), (1, "a".to_string()));
+    // of bytes that are not UTF-8 there is a copy before
+    assert_eq!(each_fails(|| text(b"a\xe2\x82b"), |_| {}), (2, "a\u{fffd}b".to_string()));
 }
 
 #[test]
