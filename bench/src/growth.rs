@@ -63,27 +63,37 @@ fn rejected_merges(report: &mut Report) {
     }
 }
 
-/// Calls of which none can become a jump, but each only since the next one, or the one before it,
-/// can't.
+/// Calls of which none can become a jump, but each only since others can't.
 fn cascades(report: &mut Report) {
     const REACH: u64 = 1 << 20;
-    // its target is in reach if the bytes of two calls between are deleted, its own and one more
-    let of_next = |site| Call {
-        site,
-        target: site + REACH + 6,
+    let site = |k: usize| 2 * REACH + 8 * k as u64;
+    // its target is in reach if the bytes of so many calls behind it, or its own, are deleted
+    let ahead = |k, needed: u64| Call {
+        site: site(k),
+        target: site(k) + REACH - 2 + 4 * needed,
     };
     // its target is in reach if the bytes of one call between are deleted
-    let of_last = |site| Call {
-        site,
-        target: site - REACH - 4,
+    let behind = |k| Call {
+        site: site(k),
+        target: site(k) - REACH - 4,
     };
-    let chains: [(&str, &dyn Fn(u64) -> Call); 2] = [
+    let of_next = |count| (0..count).map(|k| ahead(k, 2)).collect();
+    let of_last = |count| (0..count).map(behind).collect();
+    // out of reach once those behind it are of which the turn comes first
+    let in_any_order = |count| {
+        let mut turns: Vec<u32> = (0..count as u32).collect();
+        Random::new(16).shuffle(&mut turns);
+        let left = |k: usize| turns[k..].iter().filter(|turn| **turn >= turns[k]).count() as u64;
+        (0..count).map(|k| ahead(k, left(k) + 1)).collect()
+    };
+    let chains: [(&str, &dyn Fn(usize) -> Vec<Call>); 3] = [
         ("each out of reach without the next", &of_next),
         ("each out of reach without the one before", &of_last),
+        ("each out of reach without others, in any order", &in_any_order),
     ];
-    for (name, call) in chains {
+    for (name, calls) in chains {
         let of = |count: usize| {
-            let calls: Vec<Call> = (0..count as u64).map(|k| call(2 * REACH + 8 * k)).collect();
+            let calls = calls(count);
             Side::over(
                 vec![0; count],
                 |_| (),
@@ -98,7 +108,7 @@ fn cascades(report: &mut Report) {
             report,
             &format!("`linker_utils_shrink_calls`, {name}"),
             of,
-            2_000,
+            32_000,
         );
     }
 }

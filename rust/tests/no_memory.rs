@@ -9,7 +9,7 @@ mod support;
 
 use linker_utils::relaxation::{
     OutOfMemory, PackError, RelaxDelta, RelaxDeltaMap, SectionRelaxDeltas, pack_section,
-    shrink_calls,
+    shrink_calls, shrink_calls_into,
 };
 use linker_utils::runs::items::{ItemsError, Relocation};
 use linker_utils::runs::relaxation::{Alignment, Item, Site, relax};
@@ -252,6 +252,26 @@ fn calls_are_not_chosen() {
         |error| assert_eq!(error, OutOfMemory),
     );
     assert_eq!((count, chosen), (1, vec![true]));
+}
+
+/// Each reaches its target only with the bytes of the next one deleted, and the last one has no next.
+/// With all memory or without, all are dropped.
+#[test]
+fn calls_are_dropped_without_memory() {
+    let calls: Vec<(u64, u64)> = (0..100).map(|k| (8 * k, 8 * k + (1 << 20) + 6)).collect();
+    let mut refused = 0;
+    loop {
+        let mut chosen = [true; 100];
+        let ((), has_failed) = failing(refused, || {
+            shrink_calls_into(&[] as &[RelaxDelta], &calls, &mut chosen);
+        });
+        assert_eq!(chosen, [false; 100]);
+        if !has_failed {
+            break;
+        }
+        refused += 1;
+    }
+    assert!(refused > 1);
 }
 
 #[test]

@@ -1,10 +1,13 @@
 // Made by tools/erase of crates/linker_riscv64/src/shrinking.rt.
 //! The calls of a section that can become jumps at once.
 
+mod watch;
+
 use alloc::vec::Vec;
-use super::calls::{AsCall, JAL_MAX, test_distance};
+use super::calls::{AsCall, JAL_MAX, JAL_MIN, test_distance};
 use super::packing::to_output_offset;
 use crate::linker_base::relaxation::{DeltaSlice, OutOfMemory, RelaxDelta, SectionRelaxDeltas};
+use watch::{Watch, add_ends};
 
 /// An element of an answer, which tells whether a call is chosen: a `bool`, or a byte that is 0 or
 /// 1.
@@ -105,122 +108,14 @@ impl Runs {
     }
 }
 
-/// A call that stands fewer drops than this is watched apart from those that stand more.
-const FEW_DROPS: usize = 32;
-
-/// The ends of the runs, with the first one's start.
-const RUN_ENDS: usize = 1025;
-
-/// The runs from the least site or target of some calls to the greatest, and how many calls have to
-/// be dropped there before one of those can be out of reach.
-#[derive(Clone, Copy)]
-struct Span {
-    from: u32,
-    to: u32,
-    drops: u32,
-}
-
-impl Span {
-    /// That of no calls.
-    const NONE: Span = Span {
-        from: u32::MAX,
-        to: 0,
-        drops: u32::MAX,
-    };
-
-    /// Adds a call.
-    fn add(&mut self, call: Span) {
-        self.from = self.from.min(call.from);
-        self.to = self.to.max(call.to);
-        self.drops = self.drops.min(call.drops);
-    }
-
-    /// Takes off the drops there, of which the sums before each run are given.
-    fn take(&mut self, before: &[u32; RUN_ENDS]) {
-        if self.from < self.to {
-            let from = (self.from as usize).min(RUNS);
-            let to = (self.to as usize).min(RUNS);
-            let dropped = before[to].saturating_sub(before[from]);
-            self.drops = self.drops.saturating_sub(dropped);
-        }
-    }
-}
-
-/// In which runs drops can have taken a call out of reach since it was tested. This spares tests,
-/// and decides nothing: a sweep over all calls comes last.
-struct Watch {
-    /// For each run the span of its calls that stand few drops.
-    near: [Span; RUNS],
-    /// And that of the others that drops can take out of reach.
-    far: [Span; RUNS],
-    /// How many calls were dropped in the run before each end.
-    dropped: [u32; RUN_ENDS],
-}
-
-impl Watch {
-    /// No call is watched.
-    fn new() -> Watch {
-        Watch {
-            near: [Span::NONE; RUNS],
-            far: [Span::NONE; RUNS],
-            dropped: [0; RUN_ENDS],
-        }
-    }
-
-    /// Whether a call of the run can be out of reach.
-    fn is_due(&self, run: usize) -> bool {
-        self.near[run].drops == 0 || self.far[run].drops == 0
-    }
-
-    /// Forgets the calls of a run, which are tested anew.
-    fn clear(&mut self, run: usize) {
-        self.near[run] = Span::NONE;
-        self.far[run] = Span::NONE;
-    }
-
-    /// Adds a call of a run that stands so many drops.
-    fn add(&mut self, run: usize, call: Span, stands: usize) {
-        if stands < FEW_DROPS {
-            self.near[run].add(call);
-        } else {
-            self.far[run].add(call);
-        }
-    }
-
-    /// Counts a drop in a run.
-    fn count_drop(&mut self, run: usize) {
-        self.dropped[run + 1] = self.dropped[run + 1].saturating_add(1);
-    }
-
-    /// Takes the drops that were counted off what the calls stand.
-    fn take_drops(&mut self) {
-        let mut sum = 0u32;
-        for count in &mut self.dropped {
-            sum = sum.saturating_add(*count);
-            *count = sum;
-        }
-        for span in &mut self.near {
-            span.take(&self.dropped);
-        }
-        for span in &mut self.far {
-            span.take(&self.dropped);
-        }
-        self.dropped = [0; RUN_ENDS];
-    }
-}
-
-/// A number as 32 bits, or the greatest of these.
-fn saturate(number: usize) -> u32 {
-    u32::try_from(number).unwrap_or(u32::MAX)
-}
-
-/// How many of the counted calls between a call's site and its target can be dropped before it is
-/// out of reach, or fewer.
-fn stands(from: u64, to: u64, count: usize) -> usize {
+/// How many of the counted calls between a call's site and its target have to be dropped before it is
+/// out of reach.
+fn drops_left(from: u64, to: u64, count: usize) -> i32 {
     let freed = (count as u64).saturating_mul(4);
     let distance = from.abs_diff(to).saturating_sub(freed);
-    let spare = JAL_MAX.unsigned_abs().saturating_sub(distance);
-    usize::try_from(spare / 4).unwrap_or(usize::MAX)
+    let reach = if from <= to { JAL_MAX } else { JAL_MIN };
+    let spare = (reach.unsigned_abs() + 4).saturating_sub(distance);
+    i32::try_from(spare / 4).unwrap_or(i32::MAX)
 }
 
 /// Whether a `jal` at an output offset reaches another.
@@ -251,13 +146,12 @@ fn reaches_over(from: u64, to: u64, index: usize, split: usize, count: usize) ->
 
 /// Whether the call at an index, of which these are the output offsets of site and target, is in
 /// reach once the chosen calls have lost their bytes. They are counted only where the call is in
-/// reach with all of them, and is then watched.
+/// reach with all of them.
 #[inline(never)]
 fn is_in_reach_over<C: AsCall, A: AsChoice>(
     calls: &[C],
     answer: &[A],
     runs: &Runs,
-    watch: &mut Watch,
     index: usize,
     from: u64,
     to: u64,
@@ -269,13 +163,6 @@ fn is_in_reach_over<C: AsCall, A: AsChoice>(
     }
     let (first, end) = (index.min(split), index.max(split));
     let count = runs.count_between(answer, first, end);
-    let stands = stands(from, to, count);
-    let span = Span {
-        from: saturate(first / runs.len),
-        to: saturate(end / runs.len).saturating_add(1),
-        drops: saturate(stands).saturating_add(1),
-    };
-    watch.add(index / runs.len, span, stands);
     reaches_over(from, to, index, split, count)
 }
 
@@ -287,7 +174,6 @@ fn is_in_reach<C: AsCall, A: AsChoice>(
     calls: &[C],
     answer: &[A],
     runs: &Runs,
-    watch: &mut Watch,
     index: usize,
 ) -> bool {
     let (site, target) = calls[index].as_call();
@@ -296,7 +182,7 @@ fn is_in_reach<C: AsCall, A: AsChoice>(
     if reaches(from, to) {
         return true;
     }
-    is_in_reach_over(calls, answer, runs, watch, index, from, to)
+    is_in_reach_over(calls, answer, runs, index, from, to)
 }
 
 /// Drops the call at an index from the choice where it is out of reach. Whether it was dropped.
@@ -306,72 +192,71 @@ fn drop_unreached<C: AsCall, A: AsChoice>(
     calls: &[C],
     answer: &mut [A],
     runs: &mut Runs,
-    watch: &mut Watch,
     index: usize,
 ) -> bool {
-    if !answer[index].as_choice() || is_in_reach(deltas, calls, answer, runs, watch, index) {
+    if !answer[index].as_choice() || is_in_reach(deltas, calls, answer, runs, index) {
         return false;
     }
     runs.drop_call(answer, index);
-    watch.count_drop(index / runs.len);
     true
 }
 
-/// Drops from the choice each call from an index up to another that is out of reach, one after the
-/// other. Whether one was dropped.
+/// Drops from the choice each call that is out of reach, one after the other. Whether one was
+/// dropped.
 fn sweep<C: AsCall, A: AsChoice>(
     deltas: &[RelaxDelta],
     calls: &[C],
     answer: &mut [A],
     runs: &mut Runs,
-    watch: &mut Watch,
-    from: usize,
-    to: usize,
 ) -> bool {
     let mut dropped = false;
-    for index in from..to {
-        if drop_unreached(deltas, calls, answer, runs, watch, index) {
+    for index in 0..calls.len() {
+        if drop_unreached(deltas, calls, answer, runs, index) {
             dropped = true;
         }
     }
     dropped
 }
 
-/// Sweeps over the runs in which a call can be out of reach. Whether one was dropped.
-fn sweep_due<C: AsCall, A: AsChoice>(
+/// Watches the chosen calls that are out of reach without the others.
+fn watched<C: AsCall, A: AsChoice>(
     deltas: &[RelaxDelta],
     calls: &[C],
-    answer: &mut [A],
-    runs: &mut Runs,
-    watch: &mut Watch,
-) -> bool {
-    let mut dropped = false;
-    let mut start = 0;
-    for run in 0..RUNS {
-        let end = start + runs.len.min(calls.len() - start);
-        if watch.is_due(run) {
-            watch.clear(run);
-            if sweep(deltas, calls, answer, runs, watch, start, end) {
-                dropped = true;
-            }
+    answer: &[A],
+    runs: &Runs,
+) -> Result<Watch, OutOfMemory> {
+    let mut ends = Vec::new();
+    for index in 0..calls.len() {
+        let (site, target) = calls[index].as_call();
+        let from = to_output_offset(deltas, site);
+        let to = to_output_offset(deltas, target);
+        if answer[index].as_choice() && !reaches(from, to) {
+            let split = calls_below(calls, target);
+            let (first, end) = (index.min(split), index.max(split));
+            let count = runs.count_between(answer, first, end);
+            add_ends(&mut ends, index, first, end, drops_left(from, to, count))?;
         }
-        start = end;
     }
-    if dropped {
-        watch.take_drops();
-    }
-    dropped
+    Watch::of(ends)
 }
 
-/// Sweeps over the runs in which a call can be out of reach, until there is none.
-fn sweep_while_due<C: AsCall, A: AsChoice>(
+/// Drops calls that are out of reach, one after the other, until there is none, if there is memory to
+/// know which.
+fn drop_due<C: AsCall, A: AsChoice>(
     deltas: &[RelaxDelta],
     calls: &[C],
     answer: &mut [A],
     runs: &mut Runs,
-    watch: &mut Watch,
 ) {
-    while sweep_due(deltas, calls, answer, runs, watch) {}
+    let Ok(mut watch) = watched(deltas, calls, answer, runs) else {
+        return;
+    };
+    while let Some(index) = watch.next_due() {
+        if index >= calls.len() || !drop_unreached(deltas, calls, answer, runs, index) {
+            return;
+        }
+        watch.count_drop(index);
+    }
 }
 
 /// Chooses all calls.
@@ -470,8 +355,7 @@ pub fn calls_shrinkable(deltas: &SectionRelaxDeltas, calls: &[(u64, u64)]) -> bo
 ///
 /// Requires calls that `first_not_shrinkable` accepts, and as many elements as calls. The deltas
 /// are as `SectionRelaxDeltas::deltas` lists them (`DeltaSlice::has_valid_deltas`); of others
-/// nothing is promised but that the call is safe. It takes 40 KiB of the stack and doesn't
-/// allocate.
+/// nothing is promised but that the call is safe. It takes 9 KiB of the stack.
 ///
 /// All calls are chosen at first, and sweeps over them drop those out of reach until none is. Their
 /// order doesn't matter, since more deletions never take a call out of reach. For k calls and n
@@ -479,12 +363,12 @@ pub fn calls_shrinkable(deltas: &SectionRelaxDeltas, calls: &[(u64, u64)]) -> bo
 /// its target are counted by runs of k / 1024 calls, and only where the call is in reach with all
 /// of them and out of reach with none.
 ///
-/// The first sweep tests all calls, and is the last one if it drops none. The following ones test
-/// only the calls of runs that drops can concern: of each run it is known from where to where its
-/// calls jump, and how many drops there they stand, those that stand few apart from the others. Such
-/// a sweep takes O(1024) more, and drops a call, or is the last before another sweep over all. So a
-/// cascade, where each drop takes one more call out of reach, takes a sweep for each call, which
-/// tests one run or few.
+/// A sweep that drops none is the last. After one that drops a call it is known of each other call how
+/// many drops between its site and its target it stands, and it is tested again when there were so
+/// many. So two sweeps do, however the calls depend on each other. What lies between them takes
+/// O(k log k log k), and a test for each call that it drops. For this it allocates at most 120 bytes for
+/// each call that is in reach only with others. Refused memory is no error: then sweeps do it, of which
+/// there may be as many as calls.
 ///
 /// # Requires
 ///
@@ -500,10 +384,8 @@ pub fn shrink_calls_into<C: AsCall, A: AsChoice>(
     debug_assert!(!DeltaSlice::new(deltas).has_valid_deltas() || first_not_shrinkable(deltas, calls).is_none());
     choose_all(answer);
     let mut runs = Runs::of(answer);
-    let mut watch = Watch::new();
-    while sweep(deltas, calls, answer, &mut runs, &mut watch, 0, calls.len()) {
-        watch.take_drops();
-        sweep_while_due(deltas, calls, answer, &mut runs, &mut watch);
+    while sweep(deltas, calls, answer, &mut runs) {
+        drop_due(deltas, calls, answer, &mut runs);
     }
 }
 
@@ -516,8 +398,8 @@ pub fn shrink_calls_into<C: AsCall, A: AsChoice>(
 /// So it deletes the most bytes, and once its deletions (site + 4, 4) are merged, `pack_section`
 /// rejects none of its calls for its distance (`shrunk_calls_are_accepted`).
 ///
-/// Requires calls that `calls_shrinkable` accepts. It allocates once, for what it returns;
-/// `shrink_calls_into` takes none, and says how long it takes.
+/// Requires calls that `calls_shrinkable` accepts. It allocates once, for what it returns, and as
+/// `shrink_calls_into` does, which says how long it takes.
 ///
 /// # Requires
 ///

@@ -12,7 +12,7 @@ invariant-loop-index g l = record {
   keeps : AreValidDeltas l.deltas → AreShrinkable (deletions_of l.deltas) (map g.C.AsCall.call l.calls)
       → KeepsOthers (deletions_of l.deltas) (map g.C.AsCall.call l.calls) (map g.A.AsChoice.choice l.initial.answer) (map g.A.AsChoice.choice l.answer);
   in_reach : AreValidDeltas l.deltas → AreShrinkable (deletions_of l.deltas) (map g.C.AsCall.call l.calls) → l.dropped ≡ false
-      → (i : ℕ) → l.from ≤ i → i < l.index → IsChosen (map g.A.AsChoice.choice l.answer) i → IsInReachAt (deletions_of l.deltas) (map g.C.AsCall.call l.calls) (map g.A.AsChoice.choice l.answer) i;
+      → (i : ℕ) → i < l.index → IsChosen (map g.A.AsChoice.choice l.answer) i → IsInReachAt (deletions_of l.deltas) (map g.C.AsCall.call l.calls) (map g.A.AsChoice.choice l.answer) i;
   no_more : chosen_count (map g.A.AsChoice.choice l.answer) ≤ chosen_count (map g.A.AsChoice.choice l.initial.answer);
   fewer : l.dropped ≡ true → chosen_count (map g.A.AsChoice.choice l.answer) < chosen_count (map g.A.AsChoice.choice l.initial.answer);
   written : All g.A.AsChoice.is_written l.initial.answer → All g.A.AsChoice.is_written l.answer;

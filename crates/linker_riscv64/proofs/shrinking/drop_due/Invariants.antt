@@ -1,13 +1,13 @@
-use Rattle.std.proofs.Common.{◌≡◌, ◌≤◌, length, map}
+use Rattle.std.proofs.Common.{◌≤◌, map}
 use Rattle.std.specs.Prelude.{All}
 use Rattle.linker_base.specs.Deltas.{deletions_of}
 use Rattle.linker_base.specs.Listed.{AreValidDeltas}
 use Rattle.linker_riscv64.specs.Shrinking.{AreShrinkable}
 use Rattle.linker_riscv64.specs.Inner.Shrinking.{AreRunsOf, chosen_count, KeepsOthers}
-use Rattle.linker_riscv64.proofs.shrinking.sweep_while_due.Given as goal
+use Rattle.linker_riscv64.proofs.shrinking.drop_due.Given as goal
 
-abbrev pub invariant-loop : goal.invariant-loop
-invariant-loop g l = record {
+abbrev pub invariant-loop-index : goal.invariant-loop-index
+invariant-loop-index g l = record {
   runs : AreRunsOf l.runs (map g.A.AsChoice.choice l.answer);
   keeps : AreValidDeltas l.deltas → AreShrinkable (deletions_of l.deltas) (map g.C.AsCall.call l.calls)
       → KeepsOthers (deletions_of l.deltas) (map g.C.AsCall.call l.calls) (map g.A.AsChoice.choice l.initial.answer) (map g.A.AsChoice.choice l.answer);
@@ -15,5 +15,5 @@ invariant-loop g l = record {
   written : All g.A.AsChoice.is_written l.initial.answer → All g.A.AsChoice.is_written l.answer;
 }
 
-abbrev pub decreases-loop : goal.decreases-loop
-decreases-loop g l = chosen_count (map g.A.AsChoice.choice l.answer)
+abbrev pub decreases-loop-index : goal.decreases-loop-index
+decreases-loop-index g l = chosen_count (map g.A.AsChoice.choice l.answer)
