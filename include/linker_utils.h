@@ -1037,7 +1037,7 @@ static inline uint32_t linker_utils_calls_shrinkable(
  * stack. For k calls and n deltas a test of a call takes O(log n + log k + k / 1024). All calls are
  * tested once or twice, and between that those that others take out of reach, which takes
  * O(k log k log k) more. For these it allocates at most 120 bytes for each call that is in reach only
- * with others, and frees them. Refused memory is no error: then all calls are tested up to k times. */
+ * with others, and frees them. Out of memory, it returns no error, but tests all calls up to k times. */
 static inline uint32_t linker_utils_shrink_calls(
     const struct linker_utils_delta *deltas, size_t deltas_len,
     const struct linker_utils_call *calls, size_t calls_len, uint8_t *chosen, size_t chosen_len,

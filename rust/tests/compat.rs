@@ -87,17 +87,17 @@ fn bytes_are_slices() {
 
 #[test]
 #[cfg(debug_assertions)]
-fn sections_that_are_there_or_not_in_order_are_refused() {
+fn sections_that_are_there_or_not_in_order_are_rejected() {
     let one = || {
         let mut map = RelaxDeltaMap::new();
         map.insert(5, SectionRelaxDeltas::default());
         map
     };
-    let refuses = |insert: fn(&mut RelaxDeltaMap, usize, SectionRelaxDeltas), index| {
+    let rejects = |insert: fn(&mut RelaxDeltaMap, usize, SectionRelaxDeltas), index| {
         let mut map = one();
         std::panic::catch_unwind(move || insert(&mut map, index, SectionRelaxDeltas::default()))
             .is_err()
     };
-    assert!(refuses(RelaxDeltaMap::insert, 5) && refuses(RelaxDeltaMap::insert, 4));
-    assert!(refuses(RelaxDeltaMap::insert_sorted, 5) && !refuses(RelaxDeltaMap::insert_sorted, 4));
+    assert!(rejects(RelaxDeltaMap::insert, 5) && rejects(RelaxDeltaMap::insert, 4));
+    assert!(rejects(RelaxDeltaMap::insert_sorted, 5) && !rejects(RelaxDeltaMap::insert_sorted, 4));
 }

@@ -857,7 +857,7 @@ static void call_deltas_merge(void) {
         expect(status == LINKER_UTILS_DIFFERENT_LENGTHS, "writes to another length");
         expect(!was_refused, "allocates for another length");
     } else if (was_refused && can == LINKER_UTILS_OK) {
-        // where the first copy is refused, of numbers, another one, of pairs, is made
+        // out of memory for a copy of numbers, it makes one of pairs
         expect(status == (refused_allocation == 1 ? LINKER_UTILS_OK : LINKER_UTILS_OUT_OF_MEMORY),
                "merges without memory");
     } else {
