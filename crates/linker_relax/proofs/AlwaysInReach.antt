@@ -7,10 +7,10 @@ use Rattle.std.proofs.lemmas.Bool.Decides.{nat_tests}
 use Rattle.linker_relax.specs.declared.relaxation.Shapes.{Shapes}
 use Rattle.linker_relax.specs.declared.relaxation.Item.{Item}
 use Rattle.linker_relax.specs.declared.relaxation.Item.TheVariants.{Site, Aligned}
-use Rattle.linker_relax.specs.Relaxing.{offset_of, end_of, len_of, target_of, item_at, is_reached, short_shape, freed_before, place_of, item_reaches, IsSound}
+use Rattle.linker_relax.specs.Relaxing.{offset_of, end_of, len_of, target_of, item_at, is_reached, short_shape, freed_before, place_of, item_reaches, shape_reaches, IsSound}
 use Rattle.linker_relax.specs.Choosing.{least_len, run_unit, AreItems, AreNested, IsFormed}
 use Rattle.linker_relax.specs.Inner.Relaxing.{IsAlwaysInReach}
-use Rattle.linker_relax.proofs.Bounds.{item_nearer, len_fits}
+use Rattle.linker_relax.proofs.Bounds.{item_nearer, len_fits, is_short, is_past}
 use Rattle.linker_relax.proofs.Choices.{place_is}
 use Rattle.linker_relax.proofs.Frees.{exact_frees}
 use Rattle.linker_relax.proofs.Layouts.{freed_next}
@@ -40,30 +40,27 @@ next_reaches shapes nested two from to reached =
     is_above (short_shape shapes 1) from to up (omega (arith, wider.1, old.0)) (multiple_of_divisor (short_shape shapes 1).unit (short_shape shapes 0).unit (to - from) divides old.1))
     (cases_lt to from)
 
--- an item that its shortest shape reaches is reached by each
+-- a target that the shortest shape of a site reaches is reached by each
+longer_shapes : (shapes : Shapes) (from to : ℕ) → shapes.count ≤ 2 → AreNested shapes → shape_reaches shapes 0 from to ≡ true → (k : ℕ) → shape_reaches shapes k from to ≡ true
+longer_shapes shapes from to few nested reached k = ⊎_elim
+    (λ (below : k < shapes.count). short k below)
+    (λ (past : shapes.count ≤ k). ap (λ b. cond b (is_reached (short_shape shapes k) from to) true) (is_past k shapes.count past))
+    (cases_lt k shapes.count)
+  where
+    at : (k : ℕ) → k < shapes.count → is_reached (short_shape shapes k) from to ≡ true → shape_reaches shapes k from to ≡ true
+    at k below is = ap (λ b. cond b (is_reached (short_shape shapes k) from to) true) (is_short k shapes.count below) ∙ is
+
+    first : 0 < shapes.count → is_reached (short_shape shapes 0) from to ≡ true
+    first some = sym (ap (λ b. cond b (is_reached (short_shape shapes 0) from to) true) (is_short 0 shapes.count some)) ∙ reached
+
+    short : (k : ℕ) → k < shapes.count → shape_reaches shapes k from to ≡ true
+    short zero below = reached
+    short (suc zero) below = at 1 below (next_reaches shapes nested below from to (first (omega arith)))
+    short (suc (suc k)) below = absurd (omega arith)
+
 longer_reaches : (item : Item) → IsSound item → IsFormed item → item_reaches item 0 0 0 ≡ true → (k : ℕ) → item_reaches item k 0 0 ≡ true
 longer_reaches (Aligned alignment) sound formed reached k = refl
-longer_reaches (Site site) sound formed reached k = ⊎_elim
-    (λ (below : k < site.shapes.count). short k below)
-    (λ (past : site.shapes.count ≤ k).
-    let test : nat_lt k site.shapes.count ≡ false = grind (arith, nat_tests) in
-    ap (λ b. cond b (is_reached (short_shape site.shapes k) (site.offset - 0) (site.target - 0)) true) test)
-    (cases_lt k site.shapes.count)
-  where
-    at : (k : ℕ) → k < site.shapes.count → is_reached (short_shape site.shapes k) (site.offset - 0) (site.target - 0) ≡ true → item_reaches (Site site) k 0 0 ≡ true
-    at k below is =
-        let test : nat_lt k site.shapes.count ≡ true = grind (arith, nat_tests) in
-        ap (λ b. cond b (is_reached (short_shape site.shapes k) (site.offset - 0) (site.target - 0)) true) test ∙ is
-
-    first : 0 < site.shapes.count → is_reached (short_shape site.shapes 0) (site.offset - 0) (site.target - 0) ≡ true
-    first some =
-        let test : nat_lt 0 site.shapes.count ≡ true = grind (arith, nat_tests) in
-        sym (ap (λ b. cond b (is_reached (short_shape site.shapes 0) (site.offset - 0) (site.target - 0)) true) test) ∙ reached
-
-    short : (k : ℕ) → k < site.shapes.count → item_reaches (Site site) k 0 0 ≡ true
-    short zero below = reached
-    short (suc zero) below = at 1 below (next_reaches site.shapes formed below (site.offset - 0) (site.target - 0) (first (omega arith)))
-    short (suc (suc k)) below = let few = sound.0 in absurd (omega arith)
+longer_reaches (Site site) sound formed reached k = longer_shapes site.shapes (site.offset - 0) (target_of (Site site) - 0) sound.0 formed reached k
 
 least_fits : (item : Item) → IsSound item → least_len item ≤ len_of item
 least_fits (Site site) sound = len_fits site.shapes site.len 0 sound.1 sound.2

@@ -7,7 +7,7 @@ use Rattle.linker_relax.specs.declared.relaxation.Shape.{Shape}
 use Rattle.linker_relax.specs.declared.relaxation.Shapes.{Shapes}
 use Rattle.linker_relax.specs.declared.relaxation.Item.{Item}
 use Rattle.linker_relax.specs.declared.relaxation.Item.TheVariants.{Site, Aligned}
-use Rattle.linker_relax.specs.Relaxing.{offset_of, end_of, target_of, item_at, is_reached, shape_len, short_shape, freed_before, place_of, item_reaches, is_in_reach, lengthened}
+use Rattle.linker_relax.specs.Relaxing.{offset_of, end_of, target_of, item_at, is_reached, shape_len, short_shape, freed_before, place_of, item_reaches, shape_reaches, is_in_reach, lengthened}
 use Rattle.linker_relax.specs.Choosing.{least_len, run_unit, AreItems}
 use Rattle.linker_relax.specs.Inner.Validity.{ShapesSuit, ItemSuits}
 use Rattle.linker_relax.proofs.Units.{item_suits}
@@ -33,23 +33,31 @@ len_fits shapes len k longest short =
     (λ (past : shapes.count ≤ k). grind (arith, nat_tests))
     (cases_lt k shapes.count)
 
+pub is_short : (k count : ℕ) → k < count → nat_lt k count ≡ true
+is_short k count below = grind (arith, nat_tests)
+
+pub is_past : (k count : ℕ) → count ≤ k → nat_lt k count ≡ false
+is_past k count past = grind (arith, nat_tests)
+
 -- an item that reaches its target where less is freed reaches it where more is freed
 pub item_nearer : (u start : ℕ) (item : Item) → ItemSuits u start item → (k less_here less_there here there : ℕ)
     → ((shape : Shape) → 0 < shape.ahead → Multiple shape.unit u → is_reached shape (offset_of item - less_here) (target_of item - less_there) ≡ true → is_reached shape (offset_of item - here) (target_of item - there) ≡ true)
     → item_reaches item k less_here less_there ≡ true → item_reaches item k here there ≡ true
 item_nearer u start (Aligned alignment) fit k less_here less_there here there nearer reached = refl
-item_nearer u start (Site site) fit k less_here less_there here there nearer reached =
-    ⊎_elim
-    (λ (below : k < site.shapes.count).
-    let shape = short_shape site.shapes k in
-    let test : nat_lt k site.shapes.count ≡ true = grind (arith, nat_tests) in
-    let was = sym (ap (λ b. cond b (is_reached shape (site.offset - less_here) (site.target - less_there)) true) test) ∙ reached in
-    ap (λ b. cond b (is_reached shape (site.offset - here) (site.target - there)) true) test
-    ∙ nearer shape (fit.ahead k below) (multiple_of shape.unit u (fit.units k below)) was)
-    (λ (past : site.shapes.count ≤ k).
-    let test : nat_lt k site.shapes.count ≡ false = grind (arith, nat_tests) in
-    ap (λ b. cond b (is_reached (short_shape site.shapes k) (site.offset - here) (site.target - there)) true) test)
-    (cases_lt k site.shapes.count)
+item_nearer u start (Site site) fit k less_here less_there here there nearer reached = by_target (target_of (Site site)) nearer reached
+  where
+    by_target : (target : ℕ) → ((shape : Shape) → 0 < shape.ahead → Multiple shape.unit u → is_reached shape (site.offset - less_here) (target - less_there) ≡ true → is_reached shape (site.offset - here) (target - there) ≡ true)
+        → shape_reaches site.shapes k (site.offset - less_here) (target - less_there) ≡ true → shape_reaches site.shapes k (site.offset - here) (target - there) ≡ true
+    by_target target nearer reached = ⊎_elim
+        (λ (below : k < site.shapes.count).
+        let shape = short_shape site.shapes k in
+        let test = is_short k site.shapes.count below in
+        let was = sym (ap (λ b. cond b (is_reached shape (site.offset - less_here) (target - less_there)) true) test) ∙ reached in
+        ap (λ b. cond b (is_reached shape (site.offset - here) (target - there)) true) test
+        ∙ nearer shape (fit.ahead k below) (multiple_of shape.unit u (fit.units k below)) was)
+        (λ (past : site.shapes.count ≤ k).
+        ap (λ b. cond b (is_reached (short_shape site.shapes k) (site.offset - here) (target - there)) true) (is_past k site.shapes.count past))
+        (cases_lt k site.shapes.count)
 
 -- While a choice is no longer than another, which is in reach where less is freed, so is the next.
 -- The place of each target is given.

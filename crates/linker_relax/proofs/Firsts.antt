@@ -4,7 +4,7 @@ use Rattle.linker_relax.specs.declared.relaxation.Shape.{Shape}
 use Rattle.linker_relax.specs.declared.relaxation.Shapes.{Shapes}
 use Rattle.linker_relax.specs.declared.relaxation.Alignment.{Alignment}
 use Rattle.linker_relax.specs.declared.relaxation.faults.Fault.{Fault}
-use Rattle.linker_relax.specs.declared.relaxation.faults.Fault.TheVariants.{Overlaps, TooHigh, TooManyShapes, ShapeTooLong, ShapesNotAscending, BadUnit, BadReach, BadPower, UnevenShape, PowerBelowUnit, UnevenEnd, TooFewNops, UnevenNops, TargetInside}
+use Rattle.linker_relax.specs.declared.relaxation.faults.Fault.TheVariants.{Overlaps, TooHigh, TooManyShapes, ShapeTooLong, ShapesNotAscending, BadUnit, BadReach, BadPower, UnevenShape, PowerBelowUnit, UnevenEnd, TooFewNops, UnevenNops, TargetInside, MayBeMisaligned}
 use Rattle.linker_relax.specs.Relaxing.{short_shape}
 use Rattle.linker_relax.specs.Faults.{number_of, ShapesMeet, AlignmentMeets}
 
@@ -31,8 +31,8 @@ alignment_upto u start alignment n power end enough even TooFewNops below = enou
 alignment_upto u start alignment n power end enough even UnevenNops below = even below
 alignment_upto u start alignment n power end enough even other below = tt
 
--- the greatest number of a fault is 13
-pub numbers : (fault : Fault) → number_of fault < 14
+-- the greatest number of a fault is 14
+pub numbers : (fault : Fault) → number_of fault < 15
 numbers Overlaps = omega arith
 numbers TooHigh = omega arith
 numbers TooManyShapes = omega arith
@@ -47,6 +47,7 @@ numbers UnevenEnd = omega arith
 numbers TooFewNops = omega arith
 numbers UnevenNops = omega arith
 numbers TargetInside = omega arith
+numbers MayBeMisaligned = omega arith
 
 -- what holds of the two short shapes there may be
 pub of_both : (shapes : Shapes) (P : Shape → Type 0) → shapes.count ≤ 2 → (0 < shapes.count → P (short_shape shapes 0)) → (1 < shapes.count → P (short_shape shapes 1)) → (k : ℕ) → k < shapes.count → P (short_shape shapes k)

@@ -1,6 +1,8 @@
 -- What runs that can be relaxed free: multiples of their unit. What their alignments keep.
 use Rattle.std.proofs.Common.{◌≡◌, ℕ, zero, suc, ◌+◌, ◌-◌, ◌*◌, ◌%◌, ◌<◌, ◌≤◌, ◌∙◌, List, length, refl, ap, sym, ⊎_elim, arith, cond}
-use Rattle.std.specs.Prelude.{◌⊎◌, nat_le, Option, None, Some, min, MatchOption}
+use Rattle.std.proofs.Common.{subst, below_more}
+use Rattle.std.specs.Prelude.{◌⊎◌, nat_le, Option, None, Some, min, MatchOption, ⊤}
+use Rattle.std.specs.Int.{IsNextPowerOfTwo}
 use Rattle.std.proofs.Math.Nat.{mul-le-mul_left, mul_assoc}
 use Rattle.std.proofs.lemmas.Bool.{cases_lt}
 use Rattle.std.proofs.lemmas.Bool.Decides.{nat_tests}
@@ -8,20 +10,14 @@ use Rattle.linker_relax.specs.declared.relaxation.Alignment.{Alignment}
 use Rattle.linker_relax.specs.declared.relaxation.Item.{Item}
 use Rattle.linker_relax.specs.declared.relaxation.Item.TheVariants.{Site, Aligned}
 use Rattle.linker_relax.specs.Relaxing.{offset_of, len_of, item_at, shape_len, needed, limit_of, kept_by, freed_before, IsSound}
-use Rattle.linker_relax.specs.Choosing.{least_len, AlignmentFits, run_unit, AreItems, IsExactItem}
+use Rattle.linker_relax.specs.Choosing.{least_len, AlignmentFits, run_unit, AreItems, IsExactItem, IsFormed, IsAlwaysMultiple, AreAlwaysEnough, HasItsNops}
 use Rattle.linker_relax.specs.Inner.Validity.{ItemSuits}
 use Rattle.linker_relax.proofs.Units.{item_suits}
 use Rattle.linker_relax.proofs.Layouts.{freed_next, freed_none, freed_fits}
 use Rattle.linker_relax.proofs.Multiples.{Multiple, multiple_of, needed_fills, needed_below}
 use Rattle.linker_relax.proofs.Nearer.{Frees, multiple_between}
 use Rattle.linker_relax.proofs.Bounds.{lens_ascend, len_fits}
-
--- the next multiple is a unit away
-next_multiple : (a b u : ℕ) → a * u < b * u → a * u + u ≤ b * u
-next_multiple a b u below = ⊎_elim
-    (λ (less : a < b). let h : u * (a + 1) ≤ u * b = mul-le-mul_left u (omega arith) in omega arith)
-    (λ (more : b ≤ a). let h : u * b ≤ u * a = mul-le-mul_left u more in absurd (omega arith))
-    (cases_lt a b)
+use Rattle.linker_relax.proofs.Addresses.{HoldsAt, padding, padding_all, padding_none, next_multiple, address_multiple, filled_by, next_positive, ends_by}
 
 -- what an alignment needs at the output address `at`, where `freed` bytes go before it
 record Needs (u : ℕ) (power nops input freed need : ℕ) : Type 0 where
@@ -56,24 +52,14 @@ rest_multiple u power nops input freed need n enough =
     let e = m.1 in
     (m.0, (let same : nops - need ≡ n.behind.0 * u - (n.filled.0 + n.gone.0) * u = omega arith in same ∙ e))
 
--- what stays where so much is needed and at most so much may stay
-abbrev pub padding : ℕ → ℕ → ℕ
-padding need limit = cond (nat_le need limit) need 0
+-- without a limit there are as many nops as are needed
+abbrev pub Enough : ℕ → ℕ → ℕ → ℕ → Option ℕ → Type 0
+Enough u power nops need most = MatchOption most (need ≤ nops) (λ most. (nops % u ≡ 0) × ((power ≤ nops + u) ⊎ (most ≤ nops)))
 
-padding_all : (need limit : ℕ) → need ≤ limit → padding need limit ≡ need
-padding_all need limit h = grind (arith, nat_tests)
-
-padding_none : (need limit : ℕ) → limit < need → padding need limit ≡ 0
-padding_none need limit h = grind (arith, nat_tests)
-
-abbrev pub Enough : ℕ → ℕ → ℕ → Option ℕ → Type 0
-Enough u power nops most = MatchOption most (power ≤ nops + u) (λ most. (nops % u ≡ 0) × ((power ≤ nops + u) ⊎ (most ≤ nops)))
-
-padding_frees : (u power nops input freed need : ℕ) (most : Option ℕ) → Needs u power nops input freed need → Enough u power nops most → Multiple u (nops - padding need (limit_of nops most)) × (padding need (limit_of nops most) ≤ nops)
+padding_frees : (u power nops input freed need : ℕ) (most : Option ℕ) → Needs u power nops input freed need → Enough u power nops need most → Multiple u (nops - padding need (limit_of nops most)) × (padding need (limit_of nops most) ≤ nops)
 padding_frees u power nops input freed need None n many =
-    let enough = enough_nops u power nops input freed need n many in
-    let e = padding_all need nops enough in
-    let m = rest_multiple u power nops input freed need n enough in
+    let e = padding_all need nops many in
+    let m = rest_multiple u power nops input freed need n many in
     let h = m.1 in
     ((m.0, ap (λ k. nops - k) e ∙ h), omega arith)
 padding_frees u power nops input freed need (Some most) n many =
@@ -91,9 +77,9 @@ padding_frees u power nops input freed need (Some most) n many =
     ((m.0, ap (λ k. nops - k) e ∙ h), omega arith))
     (cases_lt (min most nops) need)
 
-padding_exact : (u power nops input freed need : ℕ) (most : Option ℕ) → Needs u power nops input freed need → Enough u power nops most → (kept : ℕ) → kept ≡ padding need (limit_of nops most)
+padding_exact : (u power nops input freed need : ℕ) (most : Option ℕ) → Needs u power nops input freed need → Enough u power nops need most → (kept : ℕ) → kept ≡ padding need (limit_of nops most)
     → MatchOption most (kept ≡ need) (λ most. (need ≤ most → kept ≡ need) × (most < need → kept ≡ 0))
-padding_exact u power nops input freed need None n many kept is = is ∙ padding_all need nops (enough_nops u power nops input freed need n many)
+padding_exact u power nops input freed need None n many kept is = is ∙ padding_all need nops many
 padding_exact u power nops input freed need (Some most) n many kept is = (
   (λ within. is ∙ padding_all need (min most nops) (⊎_elim
       (λ (h : power ≤ nops + u). let e = enough_nops u power nops input freed need n h in omega arith)
@@ -115,12 +101,16 @@ needs u start alignment freed fit some within gone =
       filled = (whole.0 * power.0, whole.1 ∙ ap (λ x. whole.0 * x) power.1 ∙ sym (mul_assoc whole.0 power.0 u));
     }
 
+enough_at : (u power nops need : ℕ) (most : Option ℕ) → MatchOption most ⊤ (λ most. (nops % u ≡ 0) × ((power ≤ nops + u) ⊎ (most ≤ nops))) → MatchOption most (need ≤ nops) (λ most. ⊤) → Enough u power nops need most
+enough_at u power nops need None limited holds = holds
+enough_at u power nops need (Some most) limited holds = limited
+
 -- what one item frees
 abbrev pub ItemFrees : ℕ → Item → ℕ → Type 0
 ItemFrees u item freed = (m : ℕ) × (freed ≡ m * u) × (m * u + least_len item ≤ len_of item)
 
-item_frees : (u start : ℕ) (item : Item) (k freed : ℕ) → ItemSuits u start item → IsSound item → freed ≤ offset_of item → Multiple u freed → ItemFrees u item (len_of item - kept_by start item k freed)
-item_frees u start (Site site) k freed fit sound within gone =
+item_frees : (u start : ℕ) (item : Item) (k freed : ℕ) → ItemSuits u start item → IsSound item → freed ≤ offset_of item → Multiple u freed → HoldsAt start item freed → ItemFrees u item (len_of item - kept_by start item k freed)
+item_frees u start (Site site) k freed fit sound within gone holds =
     let m = multiple_of u (site.len - shape_len site.shapes k) (fit.freed k) in
     let e = m.1 in
     let z : 0 + k ≡ k = omega arith in
@@ -128,38 +118,78 @@ item_frees u start (Site site) k freed fit sound within gone =
     let up = lens_ascend u site.len site.shapes fit 0 k in
     let in_site = len_fits site.shapes site.len k sound.1 sound.2 in
     (m.0, e, omega arith)
-item_frees u start (Aligned alignment) k freed fit sound within gone =
-    let h = padding_frees u alignment.power alignment.nops (start + alignment.offset) freed (needed alignment.power (start + alignment.offset - freed)) alignment.most (needs u start alignment freed fit sound within gone) fit.enough in
+item_frees u start (Aligned alignment) k freed fit sound within gone holds =
+    let need = needed alignment.power (start + alignment.offset - freed) in
+    let h = padding_frees u alignment.power alignment.nops (start + alignment.offset) freed need alignment.most (needs u start alignment freed fit sound within gone)
+        (enough_at u alignment.power alignment.nops need alignment.most fit.limited holds) in
     let e = h.0.1 in
     (h.0.0, e, omega arith)
 
--- the items before an index free a multiple of the unit
-freed_multiple : (start : ℕ) (items : List Item) (choice : ℕ → ℕ) → AreItems start items → (i : ℕ) → i ≤ length items → Multiple (run_unit items) (freed_before start items choice i)
-freed_multiple start items choice are zero within = (0, freed_none start items choice ∙ omega arith)
-freed_multiple start items choice are (suc i) within =
-    let before = freed_multiple start items choice are i (omega arith) in
-    let here = item_frees (run_unit items) start (item_at items i) (choice i) (freed_before start items choice i) (item_suits start items are i (omega arith)) (are.in_order.sound i (omega arith)) (freed_fits start items choice are.in_order i (omega arith)) before in
-    let z : suc i ≡ i + 1 = omega arith in
-    let a = ap (freed_before start items choice) z in
+-- Up to an index the items free a multiple of the unit, and each alignment has its nops.
+record Upto (start : ℕ) (items : List Item) (choice : ℕ → ℕ) (i : ℕ) : Type 0 where
+  multiple : Multiple (run_unit items) (freed_before start items choice i)
+  holds : (j : ℕ) → j < i → HoldsAt start (item_at items j) (freed_before start items choice j)
+
+-- an alignment has its nops where it has them in every layout
+item_holds : (start : ℕ) (items : List Item) (choice : ℕ → ℕ) → AreItems start items → (i : ℕ) → i < length items → Upto start items choice i → HoldsAt start (item_at items i) (freed_before start items choice i)
+item_holds start items choice are i within upto = by_item (item_at items i) refl (item_suits start items are i within) (are.in_order.sound i within) (are.formed i within) (freed_fits start items choice are.in_order i within) (are.enough i within)
+  where
+    u : ℕ
+    u = run_unit items
+    freed : ℕ
+    freed = freed_before start items choice i
+    by_item : (item : Item) → item_at items i ≡ item → ItemSuits u start item → IsSound item → IsFormed item → freed ≤ offset_of item → HasItsNops u start items i item → HoldsAt start item freed
+    by_item (Site site) is fit sound formed below enough = tt
+    by_item (Aligned alignment) is fit sound formed below enough = by_limit alignment.most enough
+      where
+        need : ℕ
+        need = needed alignment.power (start + alignment.offset - freed)
+        by_limit : (most : Option ℕ) → MatchOption most (AreAlwaysEnough u start items i alignment) (λ most. ⊤) → MatchOption most (need ≤ alignment.nops) (λ most. ⊤)
+        by_limit (Some most) enough = tt
+        by_limit None enough = ⊎_elim
+            (λ (many : alignment.power ≤ alignment.nops + u). enough_nops u alignment.power alignment.nops (start + alignment.offset) freed need (needs u start alignment freed fit sound below upto.multiple) many)
+            (λ (other : (w : ℕ) × IsNextPowerOfTwo (alignment.power - alignment.nops) w × IsAlwaysMultiple w start alignment.offset items i).
+            let o = ap offset_of is in
+            let address = address_multiple start items choice are other.0 alignment.offset (next_positive (alignment.power - alignment.nops) other.0 other.1) i (omega arith) (λ j before. (let s = ends_by start items are.in_order i j within before in omega arith)) upto.holds other.2 in
+            filled_by alignment.power alignment.nops other.0 (start + alignment.offset - freed) formed other.1 address)
+            enough
+
+upto_next : (start : ℕ) (items : List Item) (choice : ℕ → ℕ) → AreItems start items → (i : ℕ) → i < length items → Upto start items choice i → Upto start items choice (i + 1)
+upto_next start items choice are i within upto =
+    let holds = item_holds start items choice are i within upto in
+    let here = item_frees (run_unit items) start (item_at items i) (choice i) (freed_before start items choice i) (item_suits start items are i within) (are.in_order.sound i within) (freed_fits start items choice are.in_order i within) upto.multiple holds in
     let next = freed_next start items choice i in
-    let e = before.1 in
+    let e = upto.multiple.1 in
     let f = here.1 in
-    (before.0 + here.0, omega arith)
+    record {
+      multiple = (upto.multiple.0 + here.0, omega arith);
+      holds = below_more (λ j. HoldsAt start (item_at items j) (freed_before start items choice j)) i upto.holds holds;
+    }
+
+all_upto : (start : ℕ) (items : List Item) (choice : ℕ → ℕ) → AreItems start items → (i : ℕ) → i ≤ length items → Upto start items choice i
+all_upto start items choice are zero within = record { multiple = (0, freed_none start items choice ∙ omega arith); holds = λ j below. absurd (omega arith) }
+all_upto start items choice are (suc i) within =
+    let z : i + 1 ≡ suc i = omega arith in
+    subst (Upto start items choice) z (upto_next start items choice are i (omega arith) (all_upto start items choice are i (omega arith)))
 
 pub exact_frees : (start : ℕ) (items : List Item) (choice : ℕ → ℕ) → AreItems start items → Frees (run_unit items) items (freed_before start items choice)
 exact_frees start items choice are = record {
   none = freed_none start items choice;
   step = λ j within.
-      let here = item_frees (run_unit items) start (item_at items j) (choice j) (freed_before start items choice j) (item_suits start items are j within) (are.in_order.sound j within) (freed_fits start items choice are.in_order j within) (freed_multiple start items choice are j (omega arith)) in
+      let upto = all_upto start items choice are j (omega arith) in
+      let here = item_frees (run_unit items) start (item_at items j) (choice j) (freed_before start items choice j) (item_suits start items are j within) (are.in_order.sound j within) (freed_fits start items choice are.in_order j within) upto.multiple (item_holds start items choice are j within upto) in
       (here.0, freed_next start items choice j ∙ ap (λ x. freed_before start items choice j + x) here.1, here.2);
 }
 
 -- each alignment of the run is exact
-item_exact : (u start : ℕ) (item : Item) (k freed kept : ℕ) → ItemSuits u start item → IsSound item → freed ≤ offset_of item → Multiple u freed → kept ≡ kept_by start item k freed → IsExactItem item start freed kept
-item_exact u start (Site site) k freed kept fit sound within gone is = tt
-item_exact u start (Aligned alignment) k freed kept fit sound within gone is =
-    padding_exact u alignment.power alignment.nops (start + alignment.offset) freed (needed alignment.power (start + alignment.offset - freed)) alignment.most (needs u start alignment freed fit sound within gone) fit.enough kept is
+item_exact : (u start : ℕ) (item : Item) (k freed kept : ℕ) → ItemSuits u start item → IsSound item → freed ≤ offset_of item → Multiple u freed → HoldsAt start item freed → kept ≡ kept_by start item k freed → IsExactItem item start freed kept
+item_exact u start (Site site) k freed kept fit sound within gone holds is = tt
+item_exact u start (Aligned alignment) k freed kept fit sound within gone holds is =
+    let need = needed alignment.power (start + alignment.offset - freed) in
+    padding_exact u alignment.power alignment.nops (start + alignment.offset) freed need alignment.most (needs u start alignment freed fit sound within gone)
+    (enough_at u alignment.power alignment.nops need alignment.most fit.limited holds) kept is
 
 pub all_exact : (start : ℕ) (items : List Item) (choice : ℕ → ℕ) → AreItems start items → (i : ℕ) → i < length items → (kept : ℕ) → kept ≡ kept_by start (item_at items i) (choice i) (freed_before start items choice i) → IsExactItem (item_at items i) start (freed_before start items choice i) kept
 all_exact start items choice are i within kept is =
-    item_exact (run_unit items) start (item_at items i) (choice i) (freed_before start items choice i) kept (item_suits start items are i within) (are.in_order.sound i within) (freed_fits start items choice are.in_order i within) (freed_multiple start items choice are i (omega arith)) is
+    let upto = all_upto start items choice are i (omega arith) in
+    item_exact (run_unit items) start (item_at items i) (choice i) (freed_before start items choice i) kept (item_suits start items are i within) (are.in_order.sound i within) (freed_fits start items choice are.in_order i within) upto.multiple (item_holds start items choice are i within upto) is

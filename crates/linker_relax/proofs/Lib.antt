@@ -1,3 +1,4 @@
+pub mod Addresses
 pub mod AlwaysInReach
 pub mod Bounds
 pub mod Choices

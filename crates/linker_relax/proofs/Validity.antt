@@ -6,14 +6,13 @@ use Rattle.std.proofs.lemmas.Nat.{pow_pos}
 use Rattle.linker_relax.specs.declared.relaxation.Item.{Item}
 use Rattle.linker_relax.specs.declared.relaxation.Item.TheVariants.{Site, Aligned}
 use Rattle.linker_relax.specs.declared.relaxation.faults.Fault.{Fault}
-use Rattle.linker_relax.specs.declared.relaxation.faults.Fault.TheVariants.{Overlaps, TooHigh, TooManyShapes, ShapeTooLong, ShapesNotAscending, BadUnit, BadReach, BadPower, UnevenShape, PowerBelowUnit, UnevenEnd, TooFewNops, UnevenNops, TargetInside}
+use Rattle.linker_relax.specs.declared.relaxation.faults.Fault.TheVariants.{Overlaps, TooHigh, TooManyShapes, ShapeTooLong, ShapesNotAscending, BadUnit, BadReach, BadPower, UnevenShape, PowerBelowUnit, UnevenEnd, TooFewNops, UnevenNops, TargetInside, MayBeMisaligned}
 use Rattle.linker_relax.specs.declared.relaxation.faults.ItemFault.{ItemFault}
 use Rattle.linker_relax.specs.Relaxing.{offset_of, end_of, target_of, item_at, place_of, IsSound, AreInOrder}
-use Rattle.linker_relax.specs.Choosing.{least_len, run_unit, IsFormed, ItemFits, AreItems, IsClear}
+use Rattle.linker_relax.specs.Choosing.{least_len, run_unit, IsFormed, ItemFits, AreItems, IsClear, HasItsNops}
 use Rattle.linker_relax.specs.Faults.{number_of, ItemMeets, OwnMeets, UnitMeets, RunMeets, AreSound, Meets, IsFirstOf, IsFirstAt, IsFirstFault}
 use Rattle.linker_relax.specs.Inner.Validity.{IsClearRun}
 use Rattle.linker_relax.proofs.Choices.{place_is}
-use Rattle.linker_relax.proofs.Firsts.{numbers}
 
 -- an offset is clear of all items where it is clear of that at its place
 clear_all : (start : ℕ) (items : List Item) (offset : ℕ) → AreInOrder start items → IsClearRun items offset → (j : ℕ) → j < length items → IsClear (item_at items j) offset
@@ -90,6 +89,9 @@ own_item start items i met TooHigh = by_place (item_at items i)
     by_place (Aligned alignment) = tt
 own_item start items i met other = met other
 
+pub own_formed : (start : ℕ) (items : List Item) → AreSound start items → (i : ℕ) → i < length items → IsFormed (item_at items i)
+own_formed start items sound i within = item_formed (item_at items i) (own_item start items i (sound i within))
+
 own_meets : (start : ℕ) (items : List Item) → AreItems start items → AreSound start items
 own_meets start items are i within Overlaps = λ some.
     let z : i - 1 + 1 ≡ i = omega arith in
@@ -111,16 +113,16 @@ in_order start items sound = record {
 }
 
 -- what an item meets in a run of a unit is what fits
-enough : (u power nops : ℕ) (most : Option ℕ) → MatchOption most (power ≤ nops + u) (λ most. (power ≤ nops + u) ⊎ (most ≤ nops)) → MatchOption most ⊤ (λ most. nops % u ≡ 0)
-    → MatchOption most (power ≤ nops + u) (λ most. (nops % u ≡ 0) × ((power ≤ nops + u) ⊎ (most ≤ nops)))
-enough u power nops None many even = many
-enough u power nops (Some most) many even = (even, many)
+limited : (u power nops : ℕ) (most : Option ℕ) → MatchOption most ⊤ (λ most. (power ≤ nops + u) ⊎ (most ≤ nops)) → MatchOption most ⊤ (λ most. nops % u ≡ 0)
+    → MatchOption most ⊤ (λ most. (nops % u ≡ 0) × ((power ≤ nops + u) ⊎ (most ≤ nops)))
+limited u power nops None many even = tt
+limited u power nops (Some most) many even = (even, many)
 
-many_nops : (u power nops : ℕ) (most : Option ℕ) → MatchOption most (power ≤ nops + u) (λ most. (nops % u ≡ 0) × ((power ≤ nops + u) ⊎ (most ≤ nops))) → MatchOption most (power ≤ nops + u) (λ most. (power ≤ nops + u) ⊎ (most ≤ nops))
-many_nops u power nops None fits = fits
+many_nops : (u power nops : ℕ) (most : Option ℕ) → MatchOption most ⊤ (λ most. (nops % u ≡ 0) × ((power ≤ nops + u) ⊎ (most ≤ nops))) → MatchOption most ⊤ (λ most. (power ≤ nops + u) ⊎ (most ≤ nops))
+many_nops u power nops None fits = tt
 many_nops u power nops (Some most) fits = fits.1
 
-even_nops : (u power nops : ℕ) (most : Option ℕ) → MatchOption most (power ≤ nops + u) (λ most. (nops % u ≡ 0) × ((power ≤ nops + u) ⊎ (most ≤ nops))) → MatchOption most ⊤ (λ most. nops % u ≡ 0)
+even_nops : (u power nops : ℕ) (most : Option ℕ) → MatchOption most ⊤ (λ most. (nops % u ≡ 0) × ((power ≤ nops + u) ⊎ (most ≤ nops))) → MatchOption most ⊤ (λ most. nops % u ≡ 0)
 even_nops u power nops None fits = tt
 even_nops u power nops (Some most) fits = fits.0
 
@@ -129,7 +131,7 @@ item_fits u start (Site site) met = met UnevenShape
 item_fits u start (Aligned alignment) met = record {
   power = met PowerBelowUnit;
   behind = met UnevenEnd;
-  enough = enough u alignment.power alignment.nops alignment.most (met TooFewNops) (met UnevenNops);
+  limited = limited u alignment.power alignment.nops alignment.most (met TooFewNops) (met UnevenNops);
 }
 
 unit_meets : (u start : ℕ) (item : Item) → ItemFits u start item → (fault : Fault) → UnitMeets u start item fault
@@ -137,38 +139,70 @@ unit_meets u start (Site site) fit UnevenShape = fit
 unit_meets u start (Site site) fit other = tt
 unit_meets u start (Aligned alignment) fit PowerBelowUnit = fit.power
 unit_meets u start (Aligned alignment) fit UnevenEnd = fit.behind
-unit_meets u start (Aligned alignment) fit TooFewNops = many_nops u alignment.power alignment.nops alignment.most fit.enough
-unit_meets u start (Aligned alignment) fit UnevenNops = even_nops u alignment.power alignment.nops alignment.most fit.enough
+unit_meets u start (Aligned alignment) fit TooFewNops = many_nops u alignment.power alignment.nops alignment.most fit.limited
+unit_meets u start (Aligned alignment) fit UnevenNops = even_nops u alignment.power alignment.nops alignment.most fit.limited
 unit_meets u start (Aligned alignment) fit other = tt
 
 no_target : (u start : ℕ) (item : Item) → UnitMeets u start item TargetInside
 no_target u start (Site site) = tt
 no_target u start (Aligned alignment) = tt
 
--- what an item meets among the others, its target aside
+no_nops : (u start : ℕ) (item : Item) → UnitMeets u start item MayBeMisaligned
+no_nops u start (Site site) = tt
+no_nops u start (Aligned alignment) = tt
+
+-- what an item meets among the others, its target and its nops aside
 of_unit : (u start : ℕ) (items : List Item) (i : ℕ) → ((fault : Fault) → RunMeets u start items i fault) → (fault : Fault) → UnitMeets u start (item_at items i) fault
 of_unit u start items i met TargetInside = no_target u start (item_at items i)
+of_unit u start items i met MayBeMisaligned = no_nops u start (item_at items i)
 of_unit u start items i met other = met other
 
-pub run_met : (u start : ℕ) (items : List Item) (i : ℕ) → AreInOrder start items → ((fault : Fault) → UnitMeets u start (item_at items i) fault) → IsClearRun items (target_of (item_at items i)) → (fault : Fault) → RunMeets u start items i fault
-run_met u start items i order met clear TargetInside = clear_all start items (target_of (item_at items i)) order clear
-run_met u start items i order met clear other = met other
+pub run_met : (u start : ℕ) (items : List Item) (i : ℕ) → AreInOrder start items → ((fault : Fault) → UnitMeets u start (item_at items i) fault) → IsClearRun items (target_of (item_at items i)) → HasItsNops u start items i (item_at items i) → (fault : Fault) → RunMeets u start items i fault
+run_met u start items i order met clear enough TargetInside = clear_all start items (target_of (item_at items i)) order clear
+run_met u start items i order met clear enough MayBeMisaligned = enough
+run_met u start items i order met clear enough other = met other
 
--- where all before the target is met
-pub run_earlier : (u start : ℕ) (items : List Item) (i : ℕ) → ((fault : Fault) → UnitMeets u start (item_at items i) fault) → (fault : Fault) → number_of fault < 13 → RunMeets u start items i fault
-run_earlier u start items i met TargetInside below = absurd (omega arith)
-run_earlier u start items i met other below = met other
+-- where all before the target is met, and that too
+pub run_earlier : (u start : ℕ) (items : List Item) (i n : ℕ) → ((fault : Fault) → UnitMeets u start (item_at items i) fault) → n < 15 → (13 < n → RunMeets u start items i TargetInside) → (fault : Fault) → number_of fault < n → RunMeets u start items i fault
+run_earlier u start items i n met few clear TargetInside below = clear below
+run_earlier u start items i n met few clear MayBeMisaligned below = absurd (omega arith)
+run_earlier u start items i n met few clear other below = met other
+
+pub clear_met : (u start : ℕ) (items : List Item) (i : ℕ) → AreInOrder start items → IsClearRun items (target_of (item_at items i)) → RunMeets u start items i TargetInside
+clear_met u start items i order clear = clear_all start items (target_of (item_at items i)) order clear
+
+-- an item's own fault in a run of a unit comes before those
+few : (u start : ℕ) (item : Item) (fault : Fault) → ¬ UnitMeets u start item fault → number_of fault < 13
+few u start item Overlaps not_met = omega arith
+few u start item TooHigh not_met = omega arith
+few u start item TooManyShapes not_met = omega arith
+few u start item ShapeTooLong not_met = omega arith
+few u start item ShapesNotAscending not_met = omega arith
+few u start item BadUnit not_met = omega arith
+few u start item BadReach not_met = omega arith
+few u start item BadPower not_met = omega arith
+few u start item UnevenShape not_met = omega arith
+few u start item PowerBelowUnit not_met = omega arith
+few u start item UnevenEnd not_met = omega arith
+few u start item TooFewNops not_met = omega arith
+few u start item UnevenNops not_met = omega arith
+few u start item TargetInside not_met = absurd (not_met (no_target u start item))
+few u start item MayBeMisaligned not_met = absurd (not_met (no_nops u start item))
 
 pub first_unit : (u start : ℕ) (items : List Item) (i : ℕ) (fault : Fault) → IsFirstOf (UnitMeets u start (item_at items i)) fault → IsFirstOf (RunMeets u start items i) fault
-first_unit u start items i TargetInside first = absurd (first.here (no_target u start (item_at items i)))
 first_unit u start items i fault first = record {
-  here = first.here;
-  earlier = λ other below. run_before fault other below (first.earlier other below);
+  here = λ met. first.here (of_run fault met);
+  earlier = λ other below. run_before other (let least = few u start (item_at items i) fault first.here in omega arith) (first.earlier other below);
 }
   where
-    run_before : (fault other : Fault) → number_of other < number_of fault → UnitMeets u start (item_at items i) other → RunMeets u start items i other
-    run_before fault TargetInside below met = let most = numbers fault in absurd (omega arith)
-    run_before fault other below met = met
+    of_run : (fault : Fault) → RunMeets u start items i fault → UnitMeets u start (item_at items i) fault
+    of_run TargetInside met = no_target u start (item_at items i)
+    of_run MayBeMisaligned met = no_nops u start (item_at items i)
+    of_run other met = met
+    run_before : (other : Fault) → number_of other < 13 → UnitMeets u start (item_at items i) other → RunMeets u start items i other
+    run_before TargetInside below met = absurd (omega arith)
+    run_before MayBeMisaligned below met = absurd (omega arith)
+    run_before other below met = met
 
 pub all_items : (start : ℕ) (items : List Item) → AreSound start items → ((i : ℕ) → i < length items → (fault : Fault) → RunMeets (run_unit items) start items i fault) → AreItems start items
 all_items start items sound run = record {
@@ -176,10 +210,12 @@ all_items start items sound run = record {
   formed = λ i within. item_formed (item_at items i) (own_item start items i (sound i within));
   fit = λ i within. item_fits (run_unit items) start (item_at items i) (of_unit (run_unit items) start items i (run i within));
   clear = λ i j within there. run i within TargetInside j there;
+  enough = λ i within. run i within MayBeMisaligned;
 }
 
 run_meets : (start : ℕ) (items : List Item) → AreItems start items → (i : ℕ) → i < length items → (fault : Fault) → RunMeets (run_unit items) start items i fault
 run_meets start items are i within TargetInside = λ j there. are.clear i j within there
+run_meets start items are i within MayBeMisaligned = are.enough i within
 run_meets start items are i within other = unit_meets (run_unit items) start (item_at items i) (are.fit i within) other
 
 pub all_met : (start : ℕ) (items : List Item) → AreItems start items → (i : ℕ) → i < length items → (fault : Fault) → Meets start items i fault

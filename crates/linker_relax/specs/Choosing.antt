@@ -1,8 +1,8 @@
 -- Which runs keep every distance a multiple of its unit, and what the choice for these is compared
 -- with.
 use Rattle.std.specs.Prelude.{◌≡◌, ℕ, zero, suc, ◌+◌, ◌-◌, ◌%◌, ◌<◌, ◌≤◌, ◌⊎◌, List, length}
-use Rattle.std.specs.Prelude.{true, if◌then◌else◌, nat_lt, max, MatchOption, ⊤, slice_index_or}
-use Rattle.std.specs.Int.{IsPowerOfTwo}
+use Rattle.std.specs.Prelude.{true, if◌then◌else◌, nat_lt, max, MatchOption, None, ⊤, slice_index_or}
+use Rattle.std.specs.Int.{IsPowerOfTwo, IsNextPowerOfTwo}
 use Rattle.std.specs.List.{fold}
 use Rattle.linker_relax.specs.declared.relaxation.Shape.{Shape}
 use Rattle.linker_relax.specs.declared.relaxation.Shapes.{Shapes}
@@ -53,19 +53,50 @@ IsFormed (Aligned alignment) = IsPowerOfTwo alignment.power
 abbrev pub ShapesFit : ℕ → ℕ → Shapes → Type 0
 ShapesFit u len shapes = (k : ℕ) → (len - shape_len shapes k) % u ≡ 0
 
--- An alignment of a run at an address: it and the address behind its nops are multiples of u, and
--- there are enough nops, or no more may stay than there are. Where all may go, they are a multiple
--- of u.
+-- An alignment of a run at an address: it and the address behind its nops are multiples of u. One
+-- with a limit has enough nops, or no more may stay than there are; since all may go, they are a
+-- multiple of u.
 pub record AlignmentFits (u start : ℕ) (alignment : Alignment) : Type 0 where
   pub power : alignment.power % u ≡ 0
   pub behind : (start + alignment.offset + alignment.nops) % u ≡ 0
-  pub enough : MatchOption alignment.most (alignment.power ≤ alignment.nops + u)
-      (λ most. (alignment.nops % u ≡ 0)
+  pub limited : MatchOption alignment.most ⊤ (λ most. (alignment.nops % u ≡ 0)
       × ((alignment.power ≤ alignment.nops + u) ⊎ (most ≤ alignment.nops)))
 
 abbrev pub ItemFits : ℕ → ℕ → Item → Type 0
 ItemFits u start (Site site) = ShapesFit u site.len site.shapes
 ItemFits u start (Aligned alignment) = AlignmentFits u start alignment
+
+-- The item is an alignment without a limit, and w divides it and the bytes between its nops and the
+-- offset o.
+abbrev pub IsAnchor : ℕ → ℕ → Item → Type 0
+IsAnchor w o (Site site) = ⊥
+IsAnchor w o (Aligned alignment) = (alignment.most ≡ None) × (alignment.power % w ≡ 0)
+    × ((o - (alignment.offset + alignment.nops)) % w ≡ 0)
+
+-- Where w divides the output address of o less what an item frees, it divides what the item frees.
+abbrev pub FreesMultiples : ℕ → ℕ → Item → Type 0
+FreesMultiples w o (Site site) = ShapesFit w site.len site.shapes
+FreesMultiples w o (Aligned alignment) = ((o - alignment.offset) % w ≡ 0)
+    × (alignment.power % w ≡ 0) × (alignment.nops % w ≡ 0)
+
+-- In each layout w divides the output address of the offset o. The last items before it tell: it is
+-- aligned by one of them, or is what the run's address makes it, and no item in between changes that.
+abbrev pub IsAlwaysMultiple : ℕ → ℕ → ℕ → List Item → ℕ → Type 0
+IsAlwaysMultiple w start o items zero = (start + o) % w ≡ 0
+IsAlwaysMultiple w start o items (suc i) = IsAnchor w o (item_at items i)
+    ⊎ (FreesMultiples w o (item_at items i) × IsAlwaysMultiple w start o items i)
+
+-- In each layout an alignment without a limit has as many nops as it needs: w is the least power of
+-- two that leaves no more to fill than there are nops.
+abbrev pub AreAlwaysEnough : ℕ → ℕ → List Item → ℕ → Alignment → Type 0
+AreAlwaysEnough u start items i alignment = (alignment.power ≤ alignment.nops + u)
+    ⊎ ((w : ℕ) × IsNextPowerOfTwo (alignment.power - alignment.nops) w
+    × IsAlwaysMultiple w start alignment.offset items i)
+
+abbrev pub HasItsNops : ℕ → ℕ → List Item → ℕ → Item → Type 0
+HasItsNops u start items i (Site site) = ⊤
+HasItsNops u start items i (Aligned alignment) =
+    MatchOption alignment.most (AreAlwaysEnough u start items i alignment) (λ most. ⊤)
 
 -- how many bytes of an item stay in each choice
 abbrev pub least_len : Item → ℕ
@@ -83,6 +114,8 @@ pub record AreItems (start : ℕ) (items : List Item) : Type 0 where
   pub fit : (i : ℕ) → i < length items → ItemFits (run_unit items) start (item_at items i)
   pub clear : (i j : ℕ) → i < length items → j < length items
       → IsClear (item_at items j) (target_of (item_at items i))
+  pub enough : (i : ℕ) → i < length items
+      → HasItsNops (run_unit items) start items i (item_at items i)
 
 -- An alignment keeps exactly the bytes that are needed, and none where more are needed than it may
 -- keep.

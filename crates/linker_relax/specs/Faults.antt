@@ -17,10 +17,11 @@ use Rattle.linker_relax.specs.declared.relaxation.faults.Fault.TheVariants.{Powe
 use Rattle.linker_relax.specs.declared.relaxation.faults.Fault.TheVariants.{UnevenEnd, TooFewNops}
 use Rattle.linker_relax.specs.declared.relaxation.faults.Fault.TheVariants.{UnevenNops}
 use Rattle.linker_relax.specs.declared.relaxation.faults.Fault.TheVariants.{TargetInside}
+use Rattle.linker_relax.specs.declared.relaxation.faults.Fault.TheVariants.{MayBeMisaligned}
 use Rattle.linker_relax.specs.declared.relaxation.faults.ItemFault.{ItemFault}
 use Rattle.linker_relax.specs.Relaxing.{offset_of, end_of, target_of, item_at, shape_len}
 use Rattle.linker_relax.specs.Relaxing.{short_shape}
-use Rattle.linker_relax.specs.Choosing.{run_unit, HasUnit, IsClear}
+use Rattle.linker_relax.specs.Choosing.{run_unit, HasUnit, IsClear, HasItsNops}
 
 -- the order in which faults are told: of an item that has several, the one with the least number
 abbrev pub number_of : Fault → ℕ
@@ -38,6 +39,7 @@ number_of UnevenEnd = 10
 number_of TooFewNops = 11
 number_of UnevenNops = 12
 number_of TargetInside = 13
+number_of MayBeMisaligned = 14
 
 -- what the shapes of a site of so many bytes meet that doesn't have the fault
 abbrev pub ShapesMeet : Shapes → ℕ → Fault → Type 0
@@ -76,7 +78,7 @@ AlignmentMeets u start alignment PowerBelowUnit = alignment.power % u ≡ 0
 AlignmentMeets u start alignment UnevenEnd =
     (start + alignment.offset + alignment.nops) % u ≡ 0
 AlignmentMeets u start alignment TooFewNops =
-    MatchOption alignment.most (alignment.power ≤ alignment.nops + u)
+    MatchOption alignment.most ⊤
     (λ most. (alignment.power ≤ alignment.nops + u) ⊎ (most ≤ alignment.nops))
 AlignmentMeets u start alignment UnevenNops =
     MatchOption alignment.most ⊤ (λ most. alignment.nops % u ≡ 0)
@@ -93,6 +95,7 @@ UnitMeets u start (Aligned alignment) fault = AlignmentMeets u start alignment f
 abbrev pub RunMeets : ℕ → ℕ → List Item → ℕ → Fault → Type 0
 RunMeets u start items i TargetInside = (j : ℕ) → j < length items
     → IsClear (item_at items j) (target_of (item_at items i))
+RunMeets u start items i MayBeMisaligned = HasItsNops u start items i (item_at items i)
 RunMeets u start items i other = UnitMeets u start (item_at items i) other
 
 -- no item has a fault by itself or by its place

@@ -98,16 +98,16 @@ abbrev pub shape_reaches : Shapes → ℕ → ℕ → ℕ → Bool
 shape_reaches shapes k from to =
     if nat_lt k shapes.count then is_reached (short_shape shapes k) from to else true
 
--- the input offset that an item has to reach
+-- The input offset that an item has to reach. What has nothing to reach reaches its own.
 abbrev pub target_of : Item → ℕ
-target_of (Site site) = site.target
+target_of (Site site) = if nat_lt 0 site.shapes.count then site.target else site.offset
 target_of (Aligned alignment) = alignment.offset
 
 -- whether an item that has the shape at an index reaches its target, where so many bytes are freed
 -- before the item, and so many before the target
 abbrev pub item_reaches : Item → ℕ → ℕ → ℕ → Bool
 item_reaches (Site site) k here there =
-    shape_reaches site.shapes k (site.offset - here) (site.target - there)
+    shape_reaches site.shapes k (site.offset - here) (target_of (Site site) - there)
 item_reaches (Aligned alignment) k here there = true
 
 -- whether the item at an index is in reach of its target, with what the whole choice frees

@@ -54,7 +54,8 @@ pub struct Site {
     pub offset: u64,
     /// How many bytes it has.
     pub len: u32,
-    /// The input offset that it jumps to, or the address of which it computes.
+    /// The input offset that it jumps to, or the address of which it computes. It means nothing
+    /// where there are no short shapes.
     pub target: u64,
     /// What it can become.
     pub shapes: Shapes,
@@ -157,13 +158,13 @@ impl Item {
         }
     }
 
-    /// The input offset that it has to reach.
+    /// The input offset that it has to reach: its own where it has nothing to reach.
     fn target(&self) -> u64
         ensures { result ≡ target_of self.now }
     {
         match self {
-            Item::Site(site) => site.target,
-            Item::Aligned(alignment) => alignment.offset,
+            Item::Site(site) if site.shapes.count > 0 => site.target,
+            _ => self.offset(),
         }
     }
 
@@ -192,7 +193,7 @@ impl Item {
             Item::Site(site) => site.shapes.reaches(
                 shape,
                 site.offset.saturating_sub(here),
-                site.target.saturating_sub(there),
+                self.target().saturating_sub(there),
             ),
             Item::Aligned(_) => true,
         }

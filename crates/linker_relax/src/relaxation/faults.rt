@@ -7,7 +7,7 @@ ghost use Rattle.linker_relax.specs.Faults.{ShapesMeet, ItemMeets, OwnMeets, Ali
 ghost use Rattle.linker_relax.specs.Faults.{UnitMeets, RunMeets, AreSound, IsFirstIn, IsFirstAt};
 ghost use Rattle.linker_relax.specs.Faults.{IsFirstFault};
 
-use super::validity::{is_clear, run_unit};
+use super::validity::{has_its_nops, is_clear, run_unit};
 use super::{Alignment, Item, Shapes};
 
 /// Why a run can't be relaxed: what is wrong with one of its items. Of an item that has several
@@ -36,12 +36,14 @@ pub enum Fault {
     PowerBelowUnit,
     /// The address behind the nops isn't a multiple of u.
     UnevenEnd,
-    /// There are fewer nops than the alignment less u, and fewer than may stay.
+    /// It has a limit, and there are fewer nops than the alignment less u, and fewer than may stay.
     TooFewNops,
     /// It has a limit, and its nops aren't a multiple of u.
     UnevenNops,
     /// Its target is strictly inside the bytes that an item may lose.
     TargetInside,
+    /// It is an alignment without a limit, and in some layout more nops may be needed than there are.
+    MayBeMisaligned,
 }
 
 /// A faulty item of a run.
@@ -159,10 +161,12 @@ fn run_fault(items: &[Item], start: u64, unit: u64, index: usize) -> Option<Faul
     if let Some(fault) = item.unit_fault(unit, start) {
         return Some(fault);
     }
-    if is_clear(items, start, item.target()) {
-        None
-    } else {
+    if !is_clear(items, start, item.target()) {
         Some(Fault::TargetInside)
+    } else if !has_its_nops(items, start, unit, index) {
+        Some(Fault::MayBeMisaligned)
+    } else {
+        None
     }
 }
 
@@ -219,9 +223,16 @@ pub fn first_faulty(items: &[Item], start: u64) -> Option<ItemFault>
 /// short one reaches its own offset and no farther than the next short one; its unit is a power of
 /// two and a multiple of the next one's. With u the greatest unit of all short shapes each shape
 /// frees a multiple of u, and each alignment, a power of two, and the address behind its nops are
-/// multiples of u. There are as many nops as the alignment less u, or no more may stay than there
-/// are; where a number may stay, the nops are a multiple of u, too. No target is strictly inside
-/// the bytes that an item may lose.
+/// multiples of u. No target is strictly inside the bytes that an item may lose; that of a site
+/// without short shapes isn't asked for.
+///
+/// An alignment with a limit has as many nops as the alignment less u, or no more may stay than there
+/// are; its nops are a multiple of u. One without a limit has as many as it needs in every layout:
+/// as many as the alignment less u, or as many as it less w, where w is the least such power of two
+/// and divides the address of the first nop in every layout. It does if it divides the alignment
+/// without a limit before it, or the address `start`, and the bytes from there, and if what lies in
+/// between frees multiples of w: each shape of a site; an alignment with a limit where w divides
+/// the alignment, its nops and the bytes from there.
 ///
 /// It doesn't allocate, and takes O(n log n) for n items. `first_faulty` says what is wrong.
 pub fn are_items(items: &[Item], start: u64) -> bool

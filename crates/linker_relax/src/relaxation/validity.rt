@@ -9,8 +9,11 @@ ghost use Rattle.linker_relax.specs.declared.relaxation.faults.Fault.TheVariants
 ghost use Rattle.linker_relax.specs.declared.relaxation.faults.Fault.TheVariants.{TooFewNops};
 ghost use Rattle.linker_relax.specs.declared.relaxation.faults.Fault.TheVariants.{UnevenNops};
 ghost use Rattle.linker_relax.specs.Relaxing.{end_of, short_shape, IsSound, AreInOrder};
+ghost use Rattle.linker_relax.specs.Relaxing.{item_at, offset_of};
 ghost use Rattle.linker_relax.specs.Choosing.{item_unit, run_unit, least_len, shapes_unit};
-ghost use Rattle.linker_relax.specs.Choosing.{HasUnit, ShapesFit};
+ghost use Rattle.linker_relax.specs.Choosing.{HasUnit, ShapesFit, IsFormed, IsAnchor};
+ghost use Rattle.linker_relax.specs.Choosing.{FreesMultiples, IsAlwaysMultiple, AreAlwaysEnough};
+ghost use Rattle.linker_relax.specs.Choosing.{HasItsNops};
 ghost use Rattle.linker_relax.specs.Faults.{ShapesMeet, AlignmentMeets};
 ghost use Rattle.linker_relax.specs.Inner.Validity.{IsClearRun};
 
@@ -126,16 +129,15 @@ impl Alignment {
         is_power_of_two(self.power)
     }
 
-    /// Whether it has as many nops as it may need in a run of a unit.
+    /// Whether it has as many nops as it may need in a run of a unit, if it has a limit.
     pub(super) fn has_nops(&self, unit: u64) -> bool
         ensures { (start : ℕ) → IsTrue result ↔ AlignmentMeets unit start self.now TooFewNops }
     {
         let nops = u64::from(self.nops);
-        self.power.saturating_sub(nops) <= unit
-            || match self.most {
-                None => false,
-                Some(most) => most <= nops,
-            }
+        match self.most {
+            None => true,
+            Some(most) => self.power.saturating_sub(nops) <= unit || most <= nops,
+        }
     }
 
     /// Whether its nops are a multiple of a unit, if it has a limit.
@@ -167,6 +169,39 @@ impl Item {
         match self {
             Item::Site(site) => site.shapes.unit(),
             Item::Aligned(_) => 1,
+        }
+    }
+
+    /// Whether it aligns an offset behind it to a multiple of a number in every layout.
+    fn is_anchor(&self, number: u64, offset: u64) -> bool
+        requires number { 0 < number }
+        requires behind { end_of self.now ≤ offset }
+        ensures { IsTrue result ↔ IsAnchor number offset self.now }
+    {
+        match self {
+            Item::Site(_) => false,
+            Item::Aligned(alignment) => {
+                alignment.most.is_none()
+                    && alignment.power % number == 0
+                    && (offset - (alignment.offset + u64::from(alignment.nops))) % number == 0
+            }
+        }
+    }
+
+    /// Whether it frees only multiples of a number that divides the address of an offset behind it.
+    fn frees_multiples(&self, number: u64, offset: u64) -> bool
+        requires number { 0 < number }
+        requires sound { IsSound self.now }
+        requires behind { end_of self.now ≤ offset }
+        ensures { IsTrue result ↔ FreesMultiples number offset self.now }
+    {
+        match self {
+            Item::Site(site) => site.shapes.are_even(number, u64::from(site.len)),
+            Item::Aligned(alignment) => {
+                (offset - alignment.offset) % number == 0
+                    && alignment.power % number == 0
+                    && u64::from(alignment.nops) % number == 0
+            }
         }
     }
 
@@ -202,4 +237,60 @@ pub(super) fn is_clear(items: &[Item], start: u64, offset: u64) -> bool
 {
     let place = place_of(items, offset, start);
     place == items.len() || offset.saturating_sub(items[place].offset()) <= items[place].least_len()
+}
+
+/// Whether a number divides the output address of the item at an index in every layout.
+fn is_always_multiple(items: &[Item], start: u64, number: u64, index: usize) -> bool
+    requires number { 0 < number }
+    requires in_order { AreInOrder start items.now }
+    requires within { index < length items.now }
+    ensures { IsTrue result
+        ↔ IsAlwaysMultiple number start (offset_of (item_at items.now index)) items.now index }
+{
+    let offset = items[index].offset();
+    for behind in 0..index {
+        let item = &items[index - 1 - behind];
+        if item.is_anchor(number, offset) {
+            return true;
+        }
+        if !item.frees_multiples(number, offset) {
+            return false;
+        }
+    }
+    (start + offset) % number == 0
+}
+
+/// Whether an alignment, the item at an index, has as many nops as it needs in every layout of a run
+/// of a unit.
+fn are_always_enough(
+    items: &[Item],
+    start: u64,
+    unit: u64,
+    index: usize,
+    alignment: &Alignment,
+) -> bool
+    requires in_order { AreInOrder start items.now }
+    requires within { index < length items.now }
+    requires is_there { offset_of (item_at items.now index) ≡ alignment.now.offset }
+    requires power { IsPowerOfTwo alignment.now.power }
+    ensures { IsTrue result ↔ AreAlwaysEnough unit start items.now index alignment.now }
+{
+    let unfilled = alignment.power.saturating_sub(u64::from(alignment.nops));
+    unfilled <= unit || is_always_multiple(items, start, unfilled.next_power_of_two(), index)
+}
+
+/// Whether the item at an index has as many nops as it needs in every layout of a run of a unit, if
+/// it is an alignment without a limit.
+pub(super) fn has_its_nops(items: &[Item], start: u64, unit: u64, index: usize) -> bool
+    requires in_order { AreInOrder start items.now }
+    requires within { index < length items.now }
+    requires formed { IsFormed (item_at items.now index) }
+    ensures { IsTrue result ↔ HasItsNops unit start items.now index (item_at items.now index) }
+{
+    match &items[index] {
+        Item::Site(_) => true,
+        Item::Aligned(alignment) => {
+            alignment.most.is_some() || are_always_enough(items, start, unit, index, alignment)
+        }
+    }
 }

@@ -20,4 +20,4 @@ pub returns-else-not-has_even_nops : goal.returns-else-not-has_even_nops
 returns-else-not-has_even_nops c =
     let many = (c.has_nops.ensures c.args.start).0 c.if-not-has_nops.false in
     let even = (c.has_even_nops.ensures c.args.start).0 c.if-not-has_even_nops.false in
-    λ fault. alignment_upto c.args.unit c.args.start c.args.self.now 14 (λ _. search rules) (λ _. search rules) (λ _. many) (λ _. even) fault (numbers fault)
+    λ fault. alignment_upto c.args.unit c.args.start c.args.self.now 15 (λ _. search rules) (λ _. search rules) (λ _. many) (λ _. even) fault (numbers fault)
