@@ -1,12 +1,11 @@
 -- Addresses that are multiples of a number in every layout, and the nops that are then enough.
-use Rattle.std.proofs.Common.{◌≡◌, ℕ, zero, suc, ◌+◌, ◌-◌, ◌*◌, ◌/◌, ◌%◌, ◌^◌, ◌<◌, ◌≤◌, ◌∙◌, List, length, refl, ap, sym, subst, ⊎_elim, inl, inr, arith, cond}
-use Rattle.std.specs.Prelude.{◌⊎◌, nat_le, max, min, Option, None, Some, MatchOption, ⊤}
+use Rattle.std.proofs.Common.{◌≡◌, ℕ, zero, suc, ◌+◌, ◌-◌, ◌*◌, ◌/◌, ◌<◌, ◌≤◌, ◌∙◌, List, length, ap, sym, ⊎_elim, arith, cond}
+use Rattle.std.specs.Prelude.{nat_le, max, Option, None, Some, MatchOption, ⊤}
 use Rattle.std.specs.Int.{IsPowerOfTwo, IsNextPowerOfTwo}
 use Rattle.std.proofs.Math.Nat.{mul-le-mul_left, mul_assoc}
 use Rattle.std.proofs.lemmas.Bool.{cases_lt}
 use Rattle.std.proofs.lemmas.Bool.Decides.{nat_tests}
 use Rattle.std.proofs.lemmas.Nat.{pow_pos, le-div}
-use Rattle.linker_relax.specs.declared.relaxation.Alignment.{Alignment}
 use Rattle.linker_relax.specs.declared.relaxation.Item.{Item}
 use Rattle.linker_relax.specs.declared.relaxation.Item.TheVariants.{Site, Aligned}
 use Rattle.linker_relax.specs.Relaxing.{offset_of, len_of, end_of, item_at, shape_len, needed, limit_of, kept_by, freed_before, IsSound, AreInOrder}
@@ -15,7 +14,6 @@ use Rattle.linker_relax.proofs.Units.{power_divides}
 use Rattle.linker_relax.proofs.Layouts.{freed_next, freed_none, freed_fits, ends_ascend}
 use Rattle.linker_relax.proofs.Multiples.{Multiple, multiple_of, needed_fills, needed_below}
 use Rattle.linker_relax.proofs.Nearer.{multiple_between}
-use Rattle.linker_relax.proofs.Bounds.{len_fits}
 
 -- the next multiple is a unit away
 pub next_multiple : (a b u : ℕ) → a * u < b * u → a * u + u ≤ b * u
@@ -91,9 +89,9 @@ behind_multiple w start o (Aligned alignment) k freed sound below past frees bef
     let filled = of_multiple w alignment.power (need + at) power (needed_fills alignment.power at sound) in
     let needs : Multiple w need = same_multiple w (need + at - at) need (omega arith) (less_multiple w (need + at) at filled here) in
     let kept : Multiple w (padding need limit) = ⊎_elim
-        (λ (above : limit < need). same_multiple w 0 (padding need limit) (sym (padding_none need limit above)) (0, omega arith))
-        (λ (fits : need ≤ limit). same_multiple w need (padding need limit) (sym (padding_all need limit fits)) needs)
-        (cases_lt limit need) in
+    (λ (above : limit < need). same_multiple w 0 (padding need limit) (sym (padding_none need limit above)) (0, omega arith))
+    (λ (fits : need ≤ limit). same_multiple w need (padding need limit) (sym (padding_all need limit fits)) needs)
+    (cases_lt limit need) in
     let gone = alignment.nops - padding need limit in
     let goes = less_multiple w alignment.nops (padding need limit) (multiple_of w alignment.nops frees.2) kept in
     same_multiple w (start + o - freed - gone) (start + o - (freed + gone)) (omega arith)

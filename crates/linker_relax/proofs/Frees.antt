@@ -1,16 +1,15 @@
 -- What runs that can be relaxed free: multiples of their unit. What their alignments keep.
-use Rattle.std.proofs.Common.{◌≡◌, ℕ, zero, suc, ◌+◌, ◌-◌, ◌*◌, ◌%◌, ◌<◌, ◌≤◌, ◌∙◌, List, length, refl, ap, sym, ⊎_elim, arith, cond}
+use Rattle.std.proofs.Common.{◌≡◌, ℕ, zero, suc, ◌+◌, ◌-◌, ◌*◌, ◌%◌, ◌<◌, ◌≤◌, ◌∙◌, List, length, refl, ap, sym, ⊎_elim, arith}
 use Rattle.std.proofs.Common.{subst, below_more}
-use Rattle.std.specs.Prelude.{◌⊎◌, nat_le, Option, None, Some, min, MatchOption, ⊤}
+use Rattle.std.specs.Prelude.{◌⊎◌, Option, None, Some, min, MatchOption, ⊤}
 use Rattle.std.specs.Int.{IsNextPowerOfTwo}
-use Rattle.std.proofs.Math.Nat.{mul-le-mul_left, mul_assoc}
+use Rattle.std.proofs.Math.Nat.{mul_assoc, add-mul-mod_self_right}
 use Rattle.std.proofs.lemmas.Bool.{cases_lt}
-use Rattle.std.proofs.lemmas.Bool.Decides.{nat_tests}
 use Rattle.linker_relax.specs.declared.relaxation.Alignment.{Alignment}
 use Rattle.linker_relax.specs.declared.relaxation.Item.{Item}
 use Rattle.linker_relax.specs.declared.relaxation.Item.TheVariants.{Site, Aligned}
 use Rattle.linker_relax.specs.Relaxing.{offset_of, len_of, item_at, shape_len, needed, limit_of, kept_by, freed_before, IsSound}
-use Rattle.linker_relax.specs.Choosing.{least_len, AlignmentFits, run_unit, AreItems, IsExactItem, IsFormed, IsAlwaysMultiple, AreAlwaysEnough, HasItsNops}
+use Rattle.linker_relax.specs.Choosing.{least_len, AlignmentFits, run_unit, AreItems, IsExactItem, IsExact, IsStill, IsFormed, IsAlwaysMultiple, AreAlwaysEnough, HasItsNops}
 use Rattle.linker_relax.specs.Inner.Validity.{ItemSuits}
 use Rattle.linker_relax.proofs.Units.{item_suits}
 use Rattle.linker_relax.proofs.Layouts.{freed_next, freed_none, freed_fits}
@@ -105,6 +104,25 @@ enough_at : (u power nops need : ℕ) (most : Option ℕ) → MatchOption most �
 enough_at u power nops need None limited holds = holds
 enough_at u power nops need (Some most) limited holds = limited
 
+-- a still alignment needs what its input address needs
+still_need : (u power input freed : ℕ) → u % power ≡ 0 → freed ≤ input → Multiple u freed → needed power (input - freed) ≡ needed power input
+still_need u power input freed divides within gone =
+    let parts = multiple_of power u divides in
+    let e = gone.1 ∙ ap (λ x. gone.0 * x) parts.1 ∙ sym (mul_assoc gone.0 parts.0 power) in
+    let whole : input - freed + gone.0 * parts.0 * power ≡ input = omega arith in
+    let same : (input - freed) % power ≡ input % power = sym (add-mul-mod_self_right (input - freed) (gone.0 * parts.0) power) ∙ ap (λ n. n % power) whole in
+    ap (λ r. (power - r) % power) same
+
+-- and keeps that
+still_keeps : (nops need here : ℕ) (most : Option ℕ) → most ≡ None → need ≤ nops → here ≡ need → padding here (limit_of nops most) ≡ need
+still_keeps nops need here None none enough same = padding_all here nops (omega arith) ∙ same
+still_keeps nops need here (Some most) none enough same = cc
+
+still_padding : (u start : ℕ) (alignment : Alignment) (freed : ℕ) → IsStill u start alignment → freed ≤ alignment.offset → Multiple u freed → padding (needed alignment.power (start + alignment.offset - freed)) (limit_of alignment.nops alignment.most) ≡ needed alignment.power (start + alignment.offset)
+still_padding u start alignment freed still within gone =
+    still_keeps alignment.nops (needed alignment.power (start + alignment.offset)) (needed alignment.power (start + alignment.offset - freed)) alignment.most still.unlimited still.enough
+    (still_need u alignment.power (start + alignment.offset) freed still.divides (omega arith) gone)
+
 -- what one item frees
 abbrev pub ItemFrees : ℕ → Item → ℕ → Type 0
 ItemFrees u item freed = (m : ℕ) × (freed ≡ m * u) × (m * u + least_len item ≤ len_of item)
@@ -118,12 +136,19 @@ item_frees u start (Site site) k freed fit sound within gone holds =
     let up = lens_ascend u site.len site.shapes fit 0 k in
     let in_site = len_fits site.shapes site.len k sound.1 sound.2 in
     (m.0, e, omega arith)
-item_frees u start (Aligned alignment) k freed fit sound within gone holds =
+item_frees u start (Aligned alignment) k freed fit sound within gone holds = ⊎_elim
+    (λ (fits : AlignmentFits u start alignment).
     let need = needed alignment.power (start + alignment.offset - freed) in
-    let h = padding_frees u alignment.power alignment.nops (start + alignment.offset) freed need alignment.most (needs u start alignment freed fit sound within gone)
-        (enough_at u alignment.power alignment.nops need alignment.most fit.limited holds) in
+    let h = padding_frees u alignment.power alignment.nops (start + alignment.offset) freed need alignment.most (needs u start alignment freed fits sound within gone)
+    (enough_at u alignment.power alignment.nops need alignment.most fits.limited holds) in
     let e = h.0.1 in
-    (h.0.0, e, omega arith)
+    (h.0.0, e, omega arith))
+    (λ (still : IsStill u start alignment).
+    let is = still_padding u start alignment freed still within gone in
+    let m = multiple_of u (alignment.nops - needed alignment.power (start + alignment.offset)) still.others in
+    let e = m.1 in
+    (m.0, ap (λ k. alignment.nops - k) is ∙ e, omega arith))
+    fit
 
 -- Up to an index the items free a multiple of the unit, and each alignment has its nops.
 record Upto (start : ℕ) (items : List Item) (choice : ℕ → ℕ) (i : ℕ) : Type 0 where
@@ -136,18 +161,27 @@ item_holds start items choice are i within upto = by_item (item_at items i) refl
   where
     u : ℕ
     u = run_unit items
+
     freed : ℕ
     freed = freed_before start items choice i
+
     by_item : (item : Item) → item_at items i ≡ item → ItemSuits u start item → IsSound item → IsFormed item → freed ≤ offset_of item → HasItsNops u start items i item → HoldsAt start item freed
     by_item (Site site) is fit sound formed below enough = tt
     by_item (Aligned alignment) is fit sound formed below enough = by_limit alignment.most enough
       where
         need : ℕ
         need = needed alignment.power (start + alignment.offset - freed)
+
         by_limit : (most : Option ℕ) → MatchOption most (AreAlwaysEnough u start items i alignment) (λ most. ⊤) → MatchOption most (need ≤ alignment.nops) (λ most. ⊤)
         by_limit (Some most) enough = tt
         by_limit None enough = ⊎_elim
-            (λ (many : alignment.power ≤ alignment.nops + u). enough_nops u alignment.power alignment.nops (start + alignment.offset) freed need (needs u start alignment freed fit sound below upto.multiple) many)
+            (λ (many : alignment.power ≤ alignment.nops + u). ⊎_elim
+            (λ (fits : AlignmentFits u start alignment). enough_nops u alignment.power alignment.nops (start + alignment.offset) freed need (needs u start alignment freed fits sound below upto.multiple) many)
+            (λ (still : IsStill u start alignment).
+            let same = still_need u alignment.power (start + alignment.offset) freed still.divides (omega arith) upto.multiple in
+            let enough = still.enough in
+            omega arith)
+            fit)
             (λ (other : (w : ℕ) × IsNextPowerOfTwo (alignment.power - alignment.nops) w × IsAlwaysMultiple w start alignment.offset items i).
             let o = ap offset_of is in
             let address = address_multiple start items choice are other.0 alignment.offset (next_positive (alignment.power - alignment.nops) other.0 other.1) i (omega arith) (λ j before. (let s = ends_by start items are.in_order i j within before in omega arith)) upto.holds other.2 in
@@ -184,10 +218,18 @@ exact_frees start items choice are = record {
 -- each alignment of the run is exact
 item_exact : (u start : ℕ) (item : Item) (k freed kept : ℕ) → ItemSuits u start item → IsSound item → freed ≤ offset_of item → Multiple u freed → HoldsAt start item freed → kept ≡ kept_by start item k freed → IsExactItem item start freed kept
 item_exact u start (Site site) k freed kept fit sound within gone holds is = tt
-item_exact u start (Aligned alignment) k freed kept fit sound within gone holds is =
+item_exact u start (Aligned alignment) k freed kept fit sound within gone holds is = ⊎_elim
+    (λ (fits : AlignmentFits u start alignment).
     let need = needed alignment.power (start + alignment.offset - freed) in
-    padding_exact u alignment.power alignment.nops (start + alignment.offset) freed need alignment.most (needs u start alignment freed fit sound within gone)
-    (enough_at u alignment.power alignment.nops need alignment.most fit.limited holds) kept is
+    padding_exact u alignment.power alignment.nops (start + alignment.offset) freed need alignment.most (needs u start alignment freed fits sound within gone)
+    (enough_at u alignment.power alignment.nops need alignment.most fits.limited holds) kept is)
+    (λ (still : IsStill u start alignment).
+    still_exact alignment.most still.unlimited (is ∙ still_padding u start alignment freed still within gone ∙ sym (still_need u alignment.power (start + alignment.offset) freed still.divides (omega arith) gone)))
+    fit
+  where
+    still_exact : (most : Option ℕ) → most ≡ None → kept ≡ needed alignment.power (start + alignment.offset - freed) → IsExact (record alignment { most = most }) (needed alignment.power (start + alignment.offset - freed)) kept
+    still_exact None none same = same
+    still_exact (Some most) none same = cc
 
 pub all_exact : (start : ℕ) (items : List Item) (choice : ℕ → ℕ) → AreItems start items → (i : ℕ) → i < length items → (kept : ℕ) → kept ≡ kept_by start (item_at items i) (choice i) (freed_before start items choice i) → IsExactItem (item_at items i) start (freed_before start items choice i) kept
 all_exact start items choice are i within kept is =

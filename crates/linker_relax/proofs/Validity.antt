@@ -9,8 +9,9 @@ use Rattle.linker_relax.specs.declared.relaxation.faults.Fault.{Fault}
 use Rattle.linker_relax.specs.declared.relaxation.faults.Fault.TheVariants.{Overlaps, TooHigh, TooManyShapes, ShapeTooLong, ShapesNotAscending, BadUnit, BadReach, BadPower, UnevenShape, PowerBelowUnit, UnevenEnd, TooFewNops, UnevenNops, TargetInside, MayBeMisaligned}
 use Rattle.linker_relax.specs.declared.relaxation.faults.ItemFault.{ItemFault}
 use Rattle.linker_relax.specs.Relaxing.{offset_of, end_of, target_of, item_at, place_of, IsSound, AreInOrder}
-use Rattle.linker_relax.specs.Choosing.{least_len, run_unit, IsFormed, ItemFits, AreItems, IsClear, HasItsNops}
-use Rattle.linker_relax.specs.Faults.{number_of, ItemMeets, OwnMeets, UnitMeets, RunMeets, AreSound, Meets, IsFirstOf, IsFirstAt, IsFirstFault}
+use Rattle.linker_relax.specs.Choosing.{least_len, run_unit, IsFormed, ItemFits, AlignmentFits, IsStill, AreItems, IsClear, HasItsNops}
+use Rattle.linker_relax.specs.declared.relaxation.Alignment.{Alignment}
+use Rattle.linker_relax.specs.Faults.{number_of, ItemMeets, OwnMeets, AlignmentMeets, UnitMeets, RunMeets, AreSound, Meets, IsFirstOf, IsFirstAt, IsFirstFault}
 use Rattle.linker_relax.specs.Inner.Validity.{IsClearRun}
 use Rattle.linker_relax.proofs.Choices.{place_is}
 
@@ -126,22 +127,49 @@ even_nops : (u power nops : ℕ) (most : Option ℕ) → MatchOption most ⊤ (�
 even_nops u power nops None fits = tt
 even_nops u power nops (Some most) fits = fits.0
 
+alignment_fits : (u start : ℕ) (alignment : Alignment) → ((fault : Fault) → AlignmentMeets u start alignment fault) → AlignmentFits u start alignment ⊎ IsStill u start alignment
+alignment_fits u start alignment met = ⊎_elim
+    (λ (power : alignment.power % u ≡ 0). ⊎_elim
+    (λ (behind : (start + alignment.offset + alignment.nops) % u ≡ 0). inl (record {
+      power = power;
+      behind = behind;
+      limited = limited u alignment.power alignment.nops alignment.most (met TooFewNops) (met UnevenNops);
+    }))
+    (λ (still : IsStill u start alignment). inr still)
+    (met UnevenEnd))
+    (λ (still : IsStill u start alignment). inr still)
+    (met PowerBelowUnit)
+
 item_fits : (u start : ℕ) (item : Item) → ((fault : Fault) → UnitMeets u start item fault) → ItemFits u start item
 item_fits u start (Site site) met = met UnevenShape
-item_fits u start (Aligned alignment) met = record {
-  power = met PowerBelowUnit;
-  behind = met UnevenEnd;
-  limited = limited u alignment.power alignment.nops alignment.most (met TooFewNops) (met UnevenNops);
-}
+item_fits u start (Aligned alignment) met = alignment_fits u start alignment met
+
+-- an alignment without a limit has no fault of one with a limit
+no_limit : (u power nops : ℕ) (most : Option ℕ) → most ≡ None → MatchOption most ⊤ (λ most. (power ≤ nops + u) ⊎ (most ≤ nops)) × MatchOption most ⊤ (λ most. nops % u ≡ 0)
+no_limit u power nops None none = (tt, tt)
+no_limit u power nops (Some most) none = cc
+
+pub still_meets : (u start : ℕ) (alignment : Alignment) → IsStill u start alignment → (fault : Fault) → AlignmentMeets u start alignment fault
+still_meets u start alignment still PowerBelowUnit = inr still
+still_meets u start alignment still UnevenEnd = inr still
+still_meets u start alignment still TooFewNops = (no_limit u alignment.power alignment.nops alignment.most still.unlimited).0
+still_meets u start alignment still UnevenNops = (no_limit u alignment.power alignment.nops alignment.most still.unlimited).1
+still_meets u start alignment still other = tt
+
+fits_meets : (u start : ℕ) (alignment : Alignment) → AlignmentFits u start alignment → (fault : Fault) → AlignmentMeets u start alignment fault
+fits_meets u start alignment fit PowerBelowUnit = inl fit.power
+fits_meets u start alignment fit UnevenEnd = inl fit.behind
+fits_meets u start alignment fit TooFewNops = many_nops u alignment.power alignment.nops alignment.most fit.limited
+fits_meets u start alignment fit UnevenNops = even_nops u alignment.power alignment.nops alignment.most fit.limited
+fits_meets u start alignment fit other = tt
 
 unit_meets : (u start : ℕ) (item : Item) → ItemFits u start item → (fault : Fault) → UnitMeets u start item fault
 unit_meets u start (Site site) fit UnevenShape = fit
 unit_meets u start (Site site) fit other = tt
-unit_meets u start (Aligned alignment) fit PowerBelowUnit = fit.power
-unit_meets u start (Aligned alignment) fit UnevenEnd = fit.behind
-unit_meets u start (Aligned alignment) fit TooFewNops = many_nops u alignment.power alignment.nops alignment.most fit.limited
-unit_meets u start (Aligned alignment) fit UnevenNops = even_nops u alignment.power alignment.nops alignment.most fit.limited
-unit_meets u start (Aligned alignment) fit other = tt
+unit_meets u start (Aligned alignment) fit fault = ⊎_elim
+    (λ (fits : AlignmentFits u start alignment). fits_meets u start alignment fits fault)
+    (λ (still : IsStill u start alignment). still_meets u start alignment still fault)
+    fit
 
 no_target : (u start : ℕ) (item : Item) → UnitMeets u start item TargetInside
 no_target u start (Site site) = tt
@@ -199,6 +227,7 @@ first_unit u start items i fault first = record {
     of_run TargetInside met = no_target u start (item_at items i)
     of_run MayBeMisaligned met = no_nops u start (item_at items i)
     of_run other met = met
+
     run_before : (other : Fault) → number_of other < 13 → UnitMeets u start (item_at items i) other → RunMeets u start items i other
     run_before TargetInside below met = absurd (omega arith)
     run_before MayBeMisaligned below met = absurd (omega arith)

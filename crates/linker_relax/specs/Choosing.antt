@@ -62,9 +62,18 @@ pub record AlignmentFits (u start : ℕ) (alignment : Alignment) : Type 0 where
   pub limited : MatchOption alignment.most ⊤ (λ most. (alignment.nops % u ≡ 0)
       × ((alignment.power ≤ alignment.nops + u) ⊎ (most ≤ alignment.nops)))
 
+-- An alignment that divides u keeps the same nops in each layout, since no address changes modulo u:
+-- those that its input address needs. It has these, and the others are a multiple of u.
+pub record IsStill (u start : ℕ) (alignment : Alignment) : Type 0 where
+  pub divides : u % alignment.power ≡ 0
+  pub unlimited : alignment.most ≡ None
+  pub enough : needed alignment.power (start + alignment.offset) ≤ alignment.nops
+  pub others :
+      (alignment.nops - needed alignment.power (start + alignment.offset)) % u ≡ 0
+
 abbrev pub ItemFits : ℕ → ℕ → Item → Type 0
 ItemFits u start (Site site) = ShapesFit u site.len site.shapes
-ItemFits u start (Aligned alignment) = AlignmentFits u start alignment
+ItemFits u start (Aligned alignment) = AlignmentFits u start alignment ⊎ IsStill u start alignment
 
 -- The item is an alignment without a limit, and w divides it and the bytes between its nops and the
 -- offset o.

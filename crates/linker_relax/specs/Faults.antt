@@ -21,7 +21,7 @@ use Rattle.linker_relax.specs.declared.relaxation.faults.Fault.TheVariants.{MayB
 use Rattle.linker_relax.specs.declared.relaxation.faults.ItemFault.{ItemFault}
 use Rattle.linker_relax.specs.Relaxing.{offset_of, end_of, target_of, item_at, shape_len}
 use Rattle.linker_relax.specs.Relaxing.{short_shape}
-use Rattle.linker_relax.specs.Choosing.{run_unit, HasUnit, IsClear, HasItsNops}
+use Rattle.linker_relax.specs.Choosing.{run_unit, HasUnit, IsClear, HasItsNops, IsStill}
 
 -- the order in which faults are told: of an item that has several, the one with the least number
 abbrev pub number_of : Fault → ℕ
@@ -74,9 +74,10 @@ OwnMeets start items i other = ItemMeets (item_at items i) other
 
 -- what an alignment meets in a run of unit u at an address
 abbrev pub AlignmentMeets : ℕ → ℕ → Alignment → Fault → Type 0
-AlignmentMeets u start alignment PowerBelowUnit = alignment.power % u ≡ 0
+AlignmentMeets u start alignment PowerBelowUnit =
+    (alignment.power % u ≡ 0) ⊎ IsStill u start alignment
 AlignmentMeets u start alignment UnevenEnd =
-    (start + alignment.offset + alignment.nops) % u ≡ 0
+    ((start + alignment.offset + alignment.nops) % u ≡ 0) ⊎ IsStill u start alignment
 AlignmentMeets u start alignment TooFewNops =
     MatchOption alignment.most ⊤
     (λ most. (alignment.power ≤ alignment.nops + u) ⊎ (most ≤ alignment.nops))

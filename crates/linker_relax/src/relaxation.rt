@@ -4,7 +4,8 @@
 ghost use Rattle.std.specs.Prelude.{◌≡◌, ◌+◌, ◌-◌, ◌<◌, ◌≤◌, ◌^◌, ℕ, length, true, false, nat_le};
 ghost use Rattle.std.specs.Prelude.{IfOk};
 ghost use Rattle.std.specs.Prelude.{slice_index_or};
-ghost use Rattle.linker_relax.specs.Relaxing.{offset_of, len_of, end_of, target_of, padding_at};
+ghost use Rattle.linker_relax.specs.Relaxing.{offset_of, len_of, end_of, target_of, needed};
+ghost use Rattle.linker_relax.specs.Relaxing.{padding_at};
 ghost use Rattle.linker_relax.specs.Relaxing.{shape_len, short_shape, shape_reaches, is_reached};
 ghost use Rattle.linker_relax.specs.Relaxing.{kept_by, item_reaches, IsSound};
 ghost use Rattle.linker_relax.specs.Relaxing.{AreInOrder};
@@ -123,13 +124,21 @@ impl Shape {
 }
 
 impl Alignment {
+    /// How many bytes of nops it takes from an address to the next multiple of the alignment.
+    fn needed_at(&self, address: u64) -> u64
+        requires { 0 < self.now.power }
+        ensures { result ≡ needed self.now.power address }
+    {
+        (self.power - address % self.power) % self.power
+    }
+
     /// How many nops stay where the first one has an output address.
     fn padding_at(&self, address: u64) -> u64
         requires { 0 < self.now.power }
         ensures kept { result ≡ padding_at self.now address }
         ensures within { result ≤ self.now.nops }
     {
-        let needed = (self.power - address % self.power) % self.power;
+        let needed = self.needed_at(address);
         let nops = u64::from(self.nops);
         let limit = match self.most {
             Some(most) => most.min(nops),

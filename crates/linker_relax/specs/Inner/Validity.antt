@@ -1,10 +1,10 @@
 -- What proofs use of runs that can be relaxed.
-use Rattle.std.specs.Prelude.{◌≡◌, ℕ, ◌+◌, ◌-◌, ◌%◌, ◌<◌, ◌≤◌, List, length}
+use Rattle.std.specs.Prelude.{◌≡◌, ℕ, ◌+◌, ◌-◌, ◌%◌, ◌<◌, ◌≤◌, ◌⊎◌, List, length}
 use Rattle.linker_relax.specs.declared.relaxation.Shapes.{Shapes}
 use Rattle.linker_relax.specs.declared.relaxation.Item.{Item}
 use Rattle.linker_relax.specs.declared.relaxation.Item.TheVariants.{Site, Aligned}
 use Rattle.linker_relax.specs.Relaxing.{shape_len, short_shape, item_at, place_of, offset_of}
-use Rattle.linker_relax.specs.Choosing.{least_len, AlignmentFits}
+use Rattle.linker_relax.specs.Choosing.{least_len, AlignmentFits, IsStill}
 
 -- Shapes of a site of so many bytes in a run of unit u: each frees a multiple of u, none keeps more
 -- than the next, each short one reaches itself, and its unit divides u.
@@ -16,7 +16,7 @@ pub record ShapesSuit (u len : ℕ) (shapes : Shapes) : Type 0 where
 
 abbrev pub ItemSuits : ℕ → ℕ → Item → Type 0
 ItemSuits u start (Site site) = ShapesSuit u site.len site.shapes
-ItemSuits u start (Aligned alignment) = AlignmentFits u start alignment
+ItemSuits u start (Aligned alignment) = AlignmentFits u start alignment ⊎ IsStill u start alignment
 
 -- the item at the place of an offset, if there is one, has the offset no farther in than it keeps
 abbrev pub IsClearRun : List Item → ℕ → Type 0

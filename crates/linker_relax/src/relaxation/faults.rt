@@ -12,6 +12,9 @@ use super::{Alignment, Item, Shapes};
 
 /// Why a run can't be relaxed: what is wrong with one of its items. Of an item that has several
 /// faults, the one that comes first here is told. u is the greatest unit of all short shapes.
+///
+/// An alignment is *still* if it divides u, has no limit, and has the nops that its input address
+/// needs, and beside these a multiple of u. It keeps the same nops in each layout.
 #[derive(Debug, Clone, Copy, PartialEq, Eq)]
 pub enum Fault {
     /// It begins below the end of the item before it.
@@ -32,9 +35,9 @@ pub enum Fault {
     BadPower,
     /// A shape frees bytes that aren't a multiple of u.
     UnevenShape,
-    /// The alignment isn't a multiple of u.
+    /// The alignment isn't a multiple of u, nor still.
     PowerBelowUnit,
-    /// The address behind the nops isn't a multiple of u.
+    /// The address behind the nops isn't a multiple of u, and the alignment isn't still.
     UnevenEnd,
     /// It has a limit, and there are fewer nops than the alignment less u, and fewer than may stay.
     TooFewNops,
@@ -80,10 +83,13 @@ impl Alignment {
     /// What is wrong with it in a run of a unit at an address.
     fn fault(&self, unit: u64, start: u64) -> Option<Fault>
         requires unit { 0 < unit }
+        requires power { 0 < self.now.power }
         requires ends { start + (self.now.offset + self.now.nops) < 2 ^ 64 }
         ensures { IsFirstIn (AlignmentMeets unit start self.now) result }
     {
-        if self.power % unit != 0 {
+        if self.is_still(unit, start) {
+            None
+        } else if self.power % unit != 0 {
             Some(Fault::PowerBelowUnit)
         } else if (start + (self.offset + u64::from(self.nops))) % unit != 0 {
             Some(Fault::UnevenEnd)
@@ -223,7 +229,8 @@ pub fn first_faulty(items: &[Item], start: u64) -> Option<ItemFault>
 /// short one reaches its own offset and no farther than the next short one; its unit is a power of
 /// two and a multiple of the next one's. With u the greatest unit of all short shapes each shape
 /// frees a multiple of u, and each alignment, a power of two, and the address behind its nops are
-/// multiples of u. No target is strictly inside the bytes that an item may lose; that of a site
+/// multiples of u; but an alignment may also divide u, have no limit and have the nops that its input
+/// address needs, and beside these a multiple of u. No target is strictly inside the bytes that an item may lose; that of a site
 /// without short shapes isn't asked for.
 ///
 /// An alignment with a limit has as many nops as the alignment less u, or no more may stay than there

@@ -11,7 +11,8 @@ ghost use Rattle.linker_relax.specs.declared.relaxation.faults.Fault.TheVariants
 ghost use Rattle.linker_relax.specs.Relaxing.{end_of, short_shape, IsSound, AreInOrder};
 ghost use Rattle.linker_relax.specs.Relaxing.{item_at, offset_of};
 ghost use Rattle.linker_relax.specs.Choosing.{item_unit, run_unit, least_len, shapes_unit};
-ghost use Rattle.linker_relax.specs.Choosing.{HasUnit, ShapesFit, IsFormed, IsAnchor};
+ghost use Rattle.linker_relax.specs.Choosing.{HasUnit, ShapesFit, IsStill, IsFormed};
+ghost use Rattle.linker_relax.specs.Choosing.{IsAnchor};
 ghost use Rattle.linker_relax.specs.Choosing.{FreesMultiples, IsAlwaysMultiple, AreAlwaysEnough};
 ghost use Rattle.linker_relax.specs.Choosing.{HasItsNops};
 ghost use Rattle.linker_relax.specs.Faults.{ShapesMeet, AlignmentMeets};
@@ -127,6 +128,21 @@ impl Alignment {
         ensures { IsTrue result ↔ IsPowerOfTwo self.now.power }
     {
         is_power_of_two(self.power)
+    }
+
+    /// Whether it keeps the nops that its input address needs in each layout of a run of a unit.
+    pub(super) fn is_still(&self, unit: u64, start: u64) -> bool
+        requires unit { 0 < unit }
+        requires power { 0 < self.now.power }
+        requires ends { start + (self.now.offset + self.now.nops) < 2 ^ 64 }
+        ensures { IsTrue result ↔ IsStill unit start self.now }
+    {
+        let nops = u64::from(self.nops);
+        let needed = self.needed_at(start + self.offset);
+        unit % self.power == 0
+            && self.most.is_none()
+            && needed <= nops
+            && (nops - needed) % unit == 0
     }
 
     /// Whether it has as many nops as it may need in a run of a unit, if it has a limit.

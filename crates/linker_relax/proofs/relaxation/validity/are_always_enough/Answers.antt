@@ -1,9 +1,8 @@
-use Rattle.std.proofs.Common.{◌≡◌, ◌+◌, ◌-◌, ◌^◌, ◌<◌, ◌≤◌, ◌↔◌, ℕ, IsTrue, inl, inr, ⊎_elim, ap, sym, subst, arith, rules}
+use Rattle.std.proofs.Common.{◌≡◌, ◌+◌, ◌-◌, ◌^◌, ◌<◌, ◌≤◌, ℕ, inr, ⊎_elim, sym, subst, arith}
 use Rattle.std.specs.Int.{IsPowerOfTwo, IsNextPowerOfTwo}
 use Rattle.std.proofs.Math.Pow.{pow_mono}
 use Rattle.std.proofs.lemmas.Bool.{cases_lt}
-use Rattle.linker_relax.specs.Relaxing.{item_at, offset_of}
-use Rattle.linker_relax.specs.Choosing.{IsAlwaysMultiple, AreAlwaysEnough}
+use Rattle.linker_relax.specs.Choosing.{IsAlwaysMultiple}
 use Rattle.linker_relax.proofs.Addresses.{next_unique}
 use Rattle.linker_relax.proofs.relaxation.validity.are_always_enough.Goals as goal
 

@@ -1,7 +1,7 @@
-use Rattle.std.proofs.Common.{◌≡◌, ◌+◌, ◌-◌, ◌%◌, ◌<◌, ◌≤◌, ◌↔◌, ℕ, nat_eq, length, IsTrue, Bool, true, false, suc, List, inl, inr, ⊎_elim, ap, sym, subst, arith, rules}
+use Rattle.std.proofs.Common.{◌≡◌, ◌+◌, ◌-◌, ◌%◌, ◌<◌, ◌↔◌, ℕ, nat_eq, IsTrue, false, suc, List, inl, inr, ⊎_elim, sym, subst, arith, rules}
 use Rattle.linker_relax.specs.declared.relaxation.Item.{Item}
-use Rattle.linker_relax.specs.Relaxing.{item_at, offset_of, end_of}
-use Rattle.linker_relax.specs.Choosing.{IsAnchor, FreesMultiples, IsAlwaysMultiple}
+use Rattle.linker_relax.specs.Relaxing.{item_at, offset_of}
+use Rattle.linker_relax.specs.Choosing.{IsAlwaysMultiple}
 use Rattle.linker_relax.proofs.Addresses.{ends_by}
 use Rattle.linker_relax.proofs.relaxation.validity.is_always_multiple.Goals as goal
 
@@ -89,5 +89,6 @@ returns c =
   where
     divides : IsTrue (nat_eq ((c.args.start + c.offset-offset.result) % c.args.number) 0) → (c.args.start + c.offset-offset.result) % c.args.number ≡ 0
     divides test = search rules
+
     divided : (c.args.start + c.offset-offset.result) % c.args.number ≡ 0 → IsTrue (nat_eq ((c.args.start + c.offset-offset.result) % c.args.number) 0)
     divided none = search rules

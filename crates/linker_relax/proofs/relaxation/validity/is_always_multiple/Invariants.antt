@@ -1,4 +1,4 @@
-use Rattle.std.proofs.Common.{◌-◌, ◌↔◌, ℕ}
+use Rattle.std.proofs.Common.{◌-◌, ◌↔◌}
 use Rattle.linker_relax.specs.Choosing.{IsAlwaysMultiple}
 use Rattle.linker_relax.proofs.relaxation.validity.is_always_multiple.Given as goal
 
