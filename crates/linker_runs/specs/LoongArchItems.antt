@@ -1,8 +1,9 @@
 -- The items that LoongArch's relocations make (LoongArch ELF psABI, "Relocations", `R_LARCH_ALIGN`,
 -- `R_LARCH_RELAX`, and linker relaxation).
 use Rattle.std.specs.Prelude.{◌≡◌, ℕ, ◌+◌, ◌/◌, ◌^◌, ◌<◌, ◌≤◌, ◌⊎◌, List, length, pos}
-use Rattle.std.specs.Prelude.{Option, None, Some, Bool, ◌==◌, if◌then◌else◌, IsTrue}
-use Rattle.std.specs.Int.{is_power_of_two}
+use Rattle.std.specs.Prelude.{Option, None, Some, Bool, true, false, ◌&&◌, nat_lt, ◌%◌}
+use Rattle.std.specs.Prelude.{if◌then◌else◌}
+use Rattle.std.specs.Int.{IsNextPowerOfTwo}
 use Rattle.linker_base.specs.Bits.{field}
 use Rattle.linker_elf.specs.ElfNames.{code_of}
 use Rattle.linker_elf.specs.LoongArchRelocations.{loongarch_name}
@@ -23,25 +24,28 @@ HasLoongArchName name relocation = relocation.code ≡ code_of (loongarch_name n
 
 -- ---- alignments
 
--- What an `R_LARCH_ALIGN` aligns to. With a symbol the lowest 8 bits of its addend are the exponent
--- of two; without one the addend is how many bytes the nops have, and all but one instruction of
--- what is aligned to may be skipped.
-abbrev pub stated_power : Bool → ℕ → ℕ
-stated_power has_symbol addend = if has_symbol then 2 ^ field addend 0 8 else addend + 4
+-- How many bytes of nops an `R_LARCH_ALIGN` with an addend stands for, and what they align to. With a
+-- symbol the addend's lowest 8 bits are the exponent of two of what they align to, and the nops are
+-- one instruction fewer. Without one the addend is the nops, and they align to the next power of two
+-- above it.
+abbrev pub AreStated : Bool → ℕ → ℕ → ℕ → Type 0
+AreStated true addend nops power = (power ≡ 2 ^ field addend 0 8) × (nops + 4 ≡ power)
+AreStated false addend nops power = (nops ≡ addend) × IsNextPowerOfTwo (nops + 1) power
 
--- How many bytes may be skipped at most: with a symbol the other bits, if they aren't 0. Else all
--- nops may stay.
-abbrev pub stated_most : Bool → ℕ → ℕ → ℕ
-stated_most has_symbol addend nops =
-    if has_symbol then (if addend / 2 ^ 8 == 0 then nops else addend / 2 ^ 8) else nops
+-- How many bytes may be skipped at most: with a symbol the addend's other bits, if they aren't 0. As
+-- many as all nops are no limit, since all instructions have four bytes.
+abbrev pub stated_limit : Bool → ℕ → ℕ → Option ℕ
+stated_limit has_symbol addend nops =
+    if has_symbol && nat_lt 0 (addend / 2 ^ 8) && nat_lt (addend / 2 ^ 8) nops
+    then Some (addend / 2 ^ 8)
+    else None
 
--- The nops of an `R_LARCH_ALIGN` are one instruction fewer than a power of two, and lie in the
--- section.
-pub record AreLoongArchNops (section : List ℕ) (relocation : Relocation) (addend nops : ℕ)
+-- The nops of an `R_LARCH_ALIGN` are instructions, and lie in the section.
+pub record AreLoongArchNops (section : List ℕ) (relocation : Relocation) (addend nops power : ℕ)
     : Type 0 where
   pub addend_is : relocation.addend ≡ pos addend
-  pub power : IsTrue (is_power_of_two (nops + 4))
-  pub stated : nops + 4 ≡ stated_power relocation.has_symbol addend
+  pub stated : AreStated relocation.has_symbol addend nops power
+  pub whole : nops % 4 ≡ 0
   pub inside : relocation.offset + nops ≤ length section
   pub small : nops < 2 ^ 32
 
@@ -51,9 +55,8 @@ pub record IsLoongArchAlignment (section : List ℕ) (base : ℕ) (relocation : 
   pub addend : ℕ
   pub place : alignment.offset ≡ base + relocation.offset
   pub some : 0 < alignment.nops
-  pub nops : AreLoongArchNops section relocation addend alignment.nops
-  pub power : alignment.power ≡ alignment.nops + 4
-  pub most : alignment.most ≡ Some (stated_most relocation.has_symbol addend alignment.nops)
+  pub nops : AreLoongArchNops section relocation addend alignment.nops alignment.power
+  pub limit : alignment.most ≡ stated_limit relocation.has_symbol addend alignment.nops
 
 -- ---- sites
 
@@ -104,4 +107,5 @@ pub record IsLoongArchFormed (section : List ℕ) (relocation : Relocation) : Ty
   pub call : HasLoongArchName r.R_LARCH_CALL36 relocation
       → relocation.offset + 8 ≤ length section
   pub alignment : HasLoongArchName r.R_LARCH_ALIGN relocation
-      → (addend : ℕ) × (nops : ℕ) × AreLoongArchNops section relocation addend nops
+      → (addend : ℕ) × (nops : ℕ) × (power : ℕ)
+      × AreLoongArchNops section relocation addend nops power

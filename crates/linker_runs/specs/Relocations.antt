@@ -8,7 +8,14 @@ use Rattle.linker_runs.specs.declared.items.ItemsError.TheVariants.{OutOfMemory,
 
 -- what stands at an index outside of a list of relocations
 abbrev pub no_relocation : Relocation
-no_relocation = record { offset = 0; code = 0; has_symbol = false; addend = pos 0; target = None }
+no_relocation = record {
+  offset = 0;
+  code = 0;
+  has_symbol = false;
+  addend = pos 0;
+  target = None;
+  may_compress = false;
+}
 
 abbrev pub relocation_at : List Relocation → ℕ → Relocation
 relocation_at relocations i = slice_index_or relocations i no_relocation

@@ -1,6 +1,7 @@
 //! Relocations of a section, and why no items are made of them.
 
-ghost use Rattle.std.specs.Prelude.{◌≡◌, ◌+◌, ◌≤◌, ◌<◌, ◌↔◌, IsTrue, length};
+ghost use Rattle.std.specs.Prelude.{◌≡◌, ◌≢◌, ◌+◌, ◌≤◌, ◌<◌, ◌^◌, ◌↔◌, ℕ, IsTrue, length};
+ghost use Rattle.std.specs.Prelude.{IfSome, IfNone, pos};
 ghost use Rattle.linker_runs.specs.Relocations.{IsMarked};
 
 use std::alloc::{AllocError, AllocFailed};
@@ -17,8 +18,12 @@ pub struct Relocation {
     /// Its addend, `r_addend`.
     pub addend: i64,
     /// The input offset in the run that it refers to: S + A, or the PLT entry. None where that
-    /// isn't in the run, or where the linker wants the instructions to stay as they are.
+    /// isn't in the run, where bytes between S and S + A may be deleted, or where the linker wants
+    /// the instructions to stay as they are.
     pub target: Option<u64>,
+    /// The code there may use instructions of RISC-V's C extension: its object's `e_flags` have
+    /// `EF_RISCV_RVC`. It means nothing for other architectures.
+    pub may_compress: bool,
 }
 
 /// Why no items are made of relocations.
@@ -72,4 +77,18 @@ pub(crate) fn is_marked(relocations: &[Relocation], index: usize, code: u32) -> 
     index + 1 < relocations.len()
         && relocations[index + 1].code == code
         && relocations[index + 1].offset == relocations[index].offset
+}
+
+/// The addend of a relocation, if it isn't below 0.
+#[inline(always)]
+pub(crate) fn unsigned_addend(relocation: &Relocation) -> Option<u64>
+    ensures some { IfSome result
+        (λ addend. (relocation.now.addend ≡ pos addend) × (addend < 2 ^ 63)) }
+    ensures none { IfNone result ((addend : ℕ) → relocation.now.addend ≢ pos addend) }
+{
+    if relocation.addend < 0 {
+        None
+    } else {
+        Some(relocation.addend as u64)
+    }
 }

@@ -9,12 +9,13 @@ ghost use Rattle.linker_riscv64.specs.declared.calls.LinkRegister.TheVariants.{O
 ghost use Rattle.linker_runs.specs.Relocations.{relocation_at, AreMade, AreWellFormed};
 ghost use Rattle.linker_runs.specs.Relocations.{IsItemsCause};
 ghost use Rattle.linker_runs.specs.RiscVItems.{HasRiscVName, IsOfCall, AreRiscVNops, IsCallAt};
-ghost use Rattle.linker_runs.specs.RiscVItems.{IsRiscVAlignment, IsRiscVSite, call_shapes};
-ghost use Rattle.linker_runs.specs.RiscVItems.{RiscVMakes, IsRiscVFormed, nop_len};
+ghost use Rattle.linker_runs.specs.RiscVItems.{IsRiscVAlignment, Aligns, IsNextAlignment};
+ghost use Rattle.linker_runs.specs.RiscVItems.{AreEnoughAt, MayFree, IsShapesOf, IsRiscVSite};
+ghost use Rattle.linker_runs.specs.RiscVItems.{RiscVMakes, IsRiscVFormed};
 
-use crate::items::{ItemsError, NotAllowed, Relocation, has_bytes, is_marked};
+use crate::items::{ItemsError, NotAllowed, Relocation, has_bytes, is_marked, unsigned_addend};
 use linker_relax::relaxation::{Alignment, Item, Shapes, Site};
-use linker_relax::shapes::riscv64::{CALL, CALL_WITHOUT_C, TAIL_C};
+use linker_relax::shapes::riscv64::{CALL, TAIL_C};
 use linker_riscv64::{LinkRegister, RiscVRelocation};
 use std::alloc::Global;
 
@@ -38,18 +39,15 @@ fn is_of_call(relocation: &Relocation) -> bool
 /// How many bytes of nops an `R_RISCV_ALIGN` has. None where they are not whole nops in the
 /// section.
 #[inline]
-fn nops_of(section: &[u8], relocation: &Relocation, c_extension: bool) -> Option<u32>
-    ensures some { IfSome result
-        (AreRiscVNops c_extension section.now relocation.now) }
-    ensures none { IfNone result
-        ((nops : ℕ) → ¬ AreRiscVNops c_extension section.now relocation.now nops) }
+fn nops_of(section: &[u8], relocation: &Relocation) -> Option<u32>
+    ensures some { IfSome result (AreRiscVNops section.now relocation.now) }
+    ensures none { IfNone result ((nops : ℕ) → ¬ AreRiscVNops section.now relocation.now nops) }
 {
     if relocation.addend < 0 || relocation.addend > i64::from(u32::MAX) {
         return None;
     }
     let nops = relocation.addend as u32;
-    let nop_len = if c_extension { 2 } else { 4 };
-    if nops % nop_len == 0 && has_bytes(section, relocation.offset, u64::from(nops)) {
+    if nops % 2 == 0 && has_bytes(section, relocation.offset, u64::from(nops)) {
         Some(nops)
     } else {
         None
@@ -62,13 +60,62 @@ fn alignment_of(nops: u32, offset: u64) -> Alignment
     ensures place { result.offset ≡ offset }
     ensures nops { result.nops ≡ nops }
     ensures power { IsNextPowerOfTwo (nops + 1) result.power }
-    ensures limit { result.most ≡ Some nops }
+    ensures no_limit { result.most ≡ None }
 {
     Alignment {
         offset,
         nops,
         power: (u64::from(nops) + 1).next_power_of_two(),
-        most: Some(u64::from(nops)),
+        most: None,
+    }
+}
+
+/// Whether a relocation is an `R_RISCV_ALIGN` that has nops.
+#[inline]
+fn aligns(relocation: &Relocation) -> bool
+    ensures { IsTrue result ↔ Aligns relocation.now }
+{
+    has_name(relocation, RiscVRelocation::R_RISCV_ALIGN) && relocation.addend != 0
+}
+
+/// The index of the next alignment behind the relocation at an index, or how many relocations there
+/// are.
+fn next_alignment(relocations: &[Relocation], index: usize) -> usize
+    requires { index < length relocations.now }
+    ensures { IsNextAlignment relocations.now index result }
+{
+    for next in index + 1..relocations.len() {
+        if aligns(&relocations[next]) {
+            return next;
+        }
+    }
+    relocations.len()
+}
+
+/// What has to divide the address of the first of so many bytes of nops, so that they are enough: the
+/// least power of two that leaves no more to fill.
+#[inline]
+fn enough_at(nops: u64) -> u64
+    requires { nops < 2 ^ 63 }
+    ensures enough { AreEnoughAt nops result }
+    ensures some { 0 < result }
+{
+    ((nops + 1).next_power_of_two() - nops).next_power_of_two()
+}
+
+/// Whether the relocation at an index may free so many bytes, and the next alignment, at an index,
+/// has its nops wherever it had them.
+#[inline]
+fn may_free(freed: u64, relocations: &[Relocation], index: usize, next: usize) -> bool
+    requires { IsNextAlignment relocations.now index next }
+    ensures { IsTrue result ↔ MayFree freed relocations.now index }
+{
+    if next >= relocations.len() {
+        return true;
+    }
+    match unsigned_addend(&relocations[next]) {
+        Some(nops) => freed % enough_at(nops) == 0,
+        None => true,
     }
 }
 
@@ -86,14 +133,21 @@ pub fn link_at(section: &[u8], offset: u64) -> Option<u32>
     LinkRegister::OfJalr.named_at(section, offset)
 }
 
-/// What a call can become that links a register.
+/// What a call at an index can become that links a register.
 #[inline]
-fn shapes_of(link: u32, c_extension: bool) -> Shapes
-    ensures { result ≡ call_shapes c_extension link }
+fn shapes_of(
+    link: u32,
+    section: &[u8],
+    relocations: &[Relocation],
+    index: usize,
+    next: usize,
+) -> Shapes
+    requires index { index < length relocations.now }
+    requires link { link ≡ link_register OfJalr section.now (relocation_at relocations.now index).offset }
+    requires next { IsNextAlignment relocations.now index next }
+    ensures { IsShapesOf section.now relocations.now index result }
 {
-    if !c_extension {
-        CALL_WITHOUT_C
-    } else if link == 0 {
+    if relocations[index].may_compress && link == 0 && may_free(6, relocations, index, next) {
         TAIL_C
     } else {
         CALL
@@ -107,16 +161,16 @@ fn site_at(
     base: u64,
     relocations: &[Relocation],
     index: usize,
-    c_extension: bool,
+    next: usize,
 ) -> Option<Site>
     requires index { index < length relocations.now }
     requires base { base + length section.now < 2 ^ 64 }
     requires called { IsOfCall (relocation_at relocations.now index) }
     requires inside { (relocation_at relocations.now index).offset + 8 ≤ length section.now }
-    ensures some { IfSome result
-        (IsRiscVSite c_extension section.now base relocations.now index) }
+    requires next { IsNextAlignment relocations.now index next }
+    ensures some { IfSome result (IsRiscVSite section.now base relocations.now index) }
     ensures none { IfNone result ((item : items)
-        → ¬ RiscVMakes c_extension section.now base relocations.now index item) }
+        → ¬ RiscVMakes section.now base relocations.now index item) }
 {
     let relocation = &relocations[index];
     if !is_marked(
@@ -128,11 +182,14 @@ fn site_at(
     }
     let target = relocation.target?;
     let link = link_at(section, relocation.offset)?;
+    if !may_free(4, relocations, index, next) {
+        return None;
+    }
     Some(Site {
         offset: base + relocation.offset,
         len: 8,
         target,
-        shapes: shapes_of(link, c_extension),
+        shapes: shapes_of(link, section, relocations, index, next),
     })
 }
 
@@ -143,17 +200,18 @@ fn item_at(
     base: u64,
     relocations: &[Relocation],
     index: usize,
-    c_extension: bool,
+    next: usize,
 ) -> Result<Option<Item>, NotAllowed>
     requires index { index < length relocations.now }
     requires base { base + length section.now < 2 ^ 64 }
+    requires next { IsNextAlignment relocations.now index next }
     ensures formed { OnOk result
-        (IsRiscVFormed c_extension section.now (relocation_at relocations.now index)) }
+        (IsRiscVFormed section.now (relocation_at relocations.now index)) }
     ensures item { IfOk result (λ made. MatchOption made ((item : items)
-        → ¬ RiscVMakes c_extension section.now base relocations.now index item)
-        (RiscVMakes c_extension section.now base relocations.now index)) }
+        → ¬ RiscVMakes section.now base relocations.now index item)
+        (RiscVMakes section.now base relocations.now index)) }
     ensures malformed { OnErr result
-        (¬ IsRiscVFormed c_extension section.now (relocation_at relocations.now index)) }
+        (¬ IsRiscVFormed section.now (relocation_at relocations.now index)) }
 {
     let relocation = &relocations[index];
     if !has_bytes(section, relocation.offset, 0) {
@@ -163,12 +221,12 @@ fn item_at(
         if !has_bytes(section, relocation.offset, 8) {
             return Err(NotAllowed);
         }
-        match site_at(section, base, relocations, index, c_extension) {
+        match site_at(section, base, relocations, index, next) {
             Some(site) => Ok(Some(Item::Site(site))),
             None => Ok(None),
         }
     } else if has_name(relocation, RiscVRelocation::R_RISCV_ALIGN) {
-        match nops_of(section, relocation, c_extension) {
+        match nops_of(section, relocation) {
             None => Err(NotAllowed),
             Some(0) => Ok(None),
             Some(nops) => Ok(Some(Item::Aligned(alignment_of(nops, base + relocation.offset)))),
@@ -183,34 +241,41 @@ fn item_at(
 ///
 /// `R_RISCV_CALL` and `R_RISCV_CALL_PLT` make a site where `R_RISCV_RELAX` is the next relocation,
 /// at the same offset, the target is in the run, and the bytes are `auipc` and `jalr` of one
-/// register. Its shapes are `TAIL_C` where the `jalr` links x0, and else `CALL`; `CALL_WITHOUT_C`
-/// for both where the C extension may not be used. `R_RISCV_ALIGN` makes an alignment, if there are
-/// nops: the addend is how many bytes they have, and the next power of two above it what they align
-/// to (RISC-V ELF psABI, "Linker Relaxation").
+/// register. Its shapes are `TAIL_C` where the `jalr` links x0 and the relocation's `may_compress` is
+/// set, and else `CALL`. `R_RISCV_ALIGN` makes an alignment without a limit, if there are nops: the
+/// addend is how many bytes they have, and the next power of two above it what they align to (RISC-V
+/// ELF psABI, "Linker Relaxation").
+///
+/// Where fewer nops stand before an alignment than it may need at any even address, as the 12 bytes
+/// that assemblers write for `.balign 16` in code without the C extension, the calls between it and the
+/// alignment before it free only multiples of what has to divide its address: then no call there has
+/// `TAIL_C`, and none is a site if that is more than 4.
 ///
 /// `Malformed` names the first relocation that lies behind the section's end, that is a call's and
-/// less than eight bytes are there, or that is an `R_RISCV_ALIGN` whose addend isn't a number of
-/// whole nops in the section below 2^32: multiples of 2, or of 4 where the C extension may not be
-/// used. The vector grows as items are added. `are_items` tells whether the run can be relaxed.
+/// less than eight bytes are there, or that is an `R_RISCV_ALIGN` whose addend isn't a multiple of 2
+/// from 0 up, below 2^32, of bytes in the section. The vector grows as items are added. `are_items`
+/// tells whether the run can be relaxed.
 pub fn items(
     alloc: Global,
     section: &[u8],
     base: u64,
     relocations: &[Relocation],
-    c_extension: bool,
 ) -> Result<Vec<Item>, ItemsError>
     requires { base + length section.now < 2 ^ 64 }
     ensures made { IfOk result (λ made.
-        AreMade (RiscVMakes c_extension section.now base relocations.now) (length relocations.now)
+        AreMade (RiscVMakes section.now base relocations.now) (length relocations.now)
         made.items) }
-    ensures formed { OnOk result (AreWellFormed (IsRiscVFormed c_extension section.now)
-        relocations.now (length relocations.now)) }
-    ensures cause { IfErr result
-        (IsItemsCause (IsRiscVFormed c_extension section.now) relocations.now) }
+    ensures formed { OnOk result (AreWellFormed (IsRiscVFormed section.now) relocations.now
+        (length relocations.now)) }
+    ensures cause { IfErr result (IsItemsCause (IsRiscVFormed section.now) relocations.now) }
 {
     let mut items = Vec::new(alloc);
+    let mut next = 0;
     for index in 0..relocations.len() {
-        let Ok(made) = item_at(section, base, relocations, index, c_extension) else {
+        if next <= index {
+            next = next_alignment(relocations, index);
+        }
+        let Ok(made) = item_at(section, base, relocations, index, next) else {
             return Err(ItemsError::Malformed(index));
         };
         if let Some(item) = made {

@@ -1,0 +1,36 @@
+use Rattle.std.proofs.Common.{ℕ, ⊎_elim, refl, subst, arith, rules}
+use Rattle.linker_elf.specs.declared.riscv64.relocations.RiscVRelocation.TheVariants as r
+use Rattle.linker_relax.specs.declared.relaxation.Item.{Item}
+use Rattle.linker_relax.specs.declared.relaxation.Item.TheVariants.{Site, Aligned}
+use Rattle.linker_runs.specs.Relocations.{relocation_at, IsMarked}
+use Rattle.linker_runs.specs.RiscVItems.{HasRiscVName, IsOfCall, RiscVMakes, MayFree}
+use Rattle.linker_runs.specs.declared.items.Relocation.{Relocation}
+use Rattle.std.specs.Prelude.{List}
+use Rattle.linker_runs.proofs.riscv64.site_at.Goals as goal
+
+-- a call's relocation makes no site where it may free nothing, and never an alignment
+no_item : (section : List ℕ) (base : ℕ) (relocations : List Relocation) (i : ℕ) → IsOfCall (relocation_at relocations i) → ¬ MayFree 4 relocations i → (item : Item) → ¬ RiscVMakes section base relocations i item
+no_item section base relocations i called not_free (Site call) made = not_free made.frees
+no_item section base relocations i called not_free (Aligned alignment) made =
+    let align = made.name in
+    ⊎_elim
+    (λ (call : HasRiscVName r.R_RISCV_CALL (relocation_at relocations i)). absurd (omega arith))
+    (λ (plt : HasRiscVName r.R_RISCV_CALL_PLT (relocation_at relocations i)). absurd (omega arith))
+    called
+
+pub returns-then-not-may_free-clause-none : goal.returns-then-not-may_free-clause-none
+returns-then-not-may_free-clause-none c =
+    no_item c.args.section.now c.args.base c.args.relocations.now c.args.index c.requires.called
+    (λ free. (let h = c.may_free.ensures.1 free in let g = c.if-not-may_free.true in cc))
+
+pub returns-clause-some : goal.returns-clause-some
+returns-clause-some c = record {
+  name = c.requires.called;
+  marked = subst (λ code. IsMarked code c.args.relocations.now c.args.index) c.elf_code.ensures (c.is_marked.ensures.0 (search rules));
+  frees = c.may_free.ensures.0 (search rules);
+  place = refl;
+  is_call = c.in_ok-link.ensures.0;
+  len = refl;
+  target = search rules;
+  shapes = c.shapes_of.ensures;
+}
