@@ -112,11 +112,15 @@ extern "C" {
     STATUS(BAD_POWER, 41, "The alignment is not a power of two.") \
     STATUS(UNEVEN_SHAPE, 42, \
            "A shape frees bytes that are not a multiple of the run's greatest unit.") \
-    STATUS(POWER_BELOW_UNIT, 43, "The alignment is not a multiple of the run's greatest unit.") \
+    STATUS(POWER_BELOW_UNIT, 43, \
+           "The alignment is not a multiple of the run's greatest unit, and may keep other nops " \
+           "in other layouts.") \
     STATUS(UNEVEN_END, 44, \
-           "The address behind the nops is not a multiple of the run's greatest unit.") \
+           "The address behind the nops is not a multiple of the run's greatest unit, and the " \
+           "alignment may keep other nops in other layouts.") \
     STATUS(TOO_FEW_NOPS, 45, \
-           "There are fewer nops than the alignment less the unit, and fewer than may stay.") \
+           "The alignment has a limit, and there are fewer nops than it less the unit, and fewer " \
+           "than may stay.") \
     STATUS(UNEVEN_NOPS, 46, \
            "The alignment has a limit, and its nops are not a multiple of the run's greatest " \
            "unit.") \
@@ -139,7 +143,12 @@ extern "C" {
     STATUS(TARGET_OUT_OF_REACH, 57, \
            "The instruction of as many bytes as stay does not reach the target: it is too far, " \
            "or its distance is not a multiple of what the instruction counts in.") \
-    STATUS(LEAVES_OTHER_BYTES, 58, "The rewrite that is chosen leaves other bytes.")
+    STATUS(LEAVES_OTHER_BYTES, 58, "The rewrite that is chosen leaves other bytes.") \
+    STATUS(MAY_BE_MISALIGNED, 59, \
+           "The alignment has no limit, and in some layout more nops may be needed than there " \
+           "are.") \
+    STATUS(DELETED_OUTSIDE, 60, \
+           "Bytes before the item, or behind the last one, are deleted that are of no item.")
 
 enum linker_utils_status {
 #define LINKER_UTILS_STATUS(name, number, text) LINKER_UTILS_##name = number,
@@ -1091,7 +1100,8 @@ enum linker_utils_item_kind {
 /* A part of a run that relaxation may shorten. */
 struct linker_utils_item {
     uint64_t offset; /* the input offset of its first byte */
-    uint64_t target; /* of a site: the input offset that it has to reach */
+    uint64_t target; /* of a site: the input offset that it has to reach; it means nothing where
+                        there are no shorter shapes */
     uint64_t power; /* of an alignment: what the output address behind it is a multiple of */
     uint64_t most; /* of a limited alignment: how many bytes of nops may stay; where more are
                       needed, none stay */
@@ -1107,18 +1117,24 @@ struct linker_utils_section_relocation {
     int64_t addend; /* r_addend */
     uint32_t r_type;
     uint8_t has_symbol; /* 0 where r_sym is 0 */
-    uint8_t has_target; /* 0 where what it refers to isn't in the run, or where the instructions are
-                           to stay as they are */
+    uint8_t has_target; /* 0 where what it refers to isn't in the run, where bytes between S and S + A
+                           may be deleted, or where the instructions are to stay as they are */
+    uint8_t may_compress; /* 1 where the code may use RISC-V's C extension: EF_RISCV_RVC is in the
+                             `e_flags` of its object */
 };
 
 /* Writes the items that a RISC-V section's relocations make, in their order. The section begins at
- * the input offset `base` of the run. `c_extension` says whether the C extension may be used.
+ * the input offset `base` of the run.
  *
  * R_RISCV_CALL and R_RISCV_CALL_PLT make a site where R_RISCV_RELAX is the next relocation, at the
  * same offset, the target is in the run, and the bytes are an auipc and a jalr of one register,
- * which isn't x0. R_RISCV_ALIGN makes an alignment to the next power of two above its addend, which
- * is how many bytes of nops there are, unless it is 0; all of them may stay. The other relocations
- * make none.
+ * which isn't x0. It can become c.j where the jalr links x0 and `may_compress` is set, and jal.
+ * R_RISCV_ALIGN makes an alignment without a limit to the next power of two above its addend, which
+ * is how many bytes of nops there are, unless it is 0. The other relocations make none.
+ *
+ * Before an alignment that has fewer nops than it may need at an even address, as the 12 bytes for
+ * `.balign 16` in code without the C extension, no call becomes c.j, back to the alignment before it;
+ * and none becomes jal where the nops are enough only at multiples of more than 4.
  *
  * `items_len` is `relocations_len`, since a relocation makes at most one item. `len` is how many
  * there are; the elements from there on are unchanged. LINKER_UTILS_DIFFERENT_LENGTHS.
@@ -1126,13 +1142,11 @@ struct linker_utils_section_relocation {
  * relocations and one of the items are allocated: LINKER_UTILS_OUT_OF_MEMORY.
  * LINKER_UTILS_MALFORMED_RELOCATION, and `faulty` is the first relocation that lies behind the
  * section's end, is a call's with less than eight bytes there, or is an R_RISCV_ALIGN whose addend
- * isn't a number of whole nops in the section, below 2^32: multiples of 2, or of 4 without the C
- * extension. */
+ * isn't a multiple of 2 from 0 up, below 2^32, of bytes in the section. */
 static inline uint32_t linker_utils_riscv_items(
     const uint8_t *section, size_t section_len, uint64_t base,
     const struct linker_utils_section_relocation *relocations, size_t relocations_len,
-    bool c_extension, struct linker_utils_item *items, size_t items_len, size_t *len,
-    size_t *faulty);
+    struct linker_utils_item *items, size_t items_len, size_t *len, size_t *faulty);
 
 /* The same of a LoongArch section, where R_LARCH_RELAX is the relocation that has to be next.
  *
@@ -1140,13 +1154,14 @@ static inline uint32_t linker_utils_riscv_items(
  * or none. R_LARCH_PCALA_HI20 makes one if R_LARCH_PCALA_LO12 of the next instruction comes behind
  * its R_LARCH_RELAX, with the same target and an R_LARCH_RELAX too, and the bytes are a pcalau12i
  * and an addi.d of one register. R_LARCH_ALIGN makes an alignment, unless there are no nops. Without
- * a symbol its addend is how many bytes of nops there are, 4 fewer than what they align to. With a
- * symbol the lowest 8 bits of the addend are the exponent of two of what they align to, and the
- * others how many bytes of nops may stay. Where these are 0, and without a symbol, all may stay.
+ * a symbol its addend is how many bytes of nops there are, and they align to the next power of two
+ * above it. With a symbol the lowest 8 bits of the addend are the exponent of two of what they align
+ * to, 4 bytes more than the nops, and the others its limit: how many bytes of nops may stay. Without
+ * a symbol, and where these are 0 or as many as the nops, the alignment has no limit.
  *
  * The statuses are the same. Malformed is an R_LARCH_CALL36 with less than eight bytes there, and an
- * R_LARCH_ALIGN whose addend is below 0, whose power is none or below 4, or whose nops reach past
- * the section's end or have 2^32 bytes or more. */
+ * R_LARCH_ALIGN whose addend is below 0, whose exponent is below 2 or above 32, or whose nops aren't
+ * a multiple of 4, reach past the section's end or have 2^32 bytes or more. */
 static inline uint32_t linker_utils_loongarch_items(
     const uint8_t *section, size_t section_len, uint64_t base,
     const struct linker_utils_section_relocation *relocations, size_t relocations_len,
@@ -1157,9 +1172,19 @@ static inline uint32_t linker_utils_loongarch_items(
  * its short shapes, and 1 where there are none.
  *
  * LINKER_UTILS_OUT_OF_MEMORY where a copy of the items can't be allocated. Else the first fault of
- * the first faulty item, in the order of these statuses, and `faulty` is this item. Those from
- * LINKER_UTILS_UNEVEN_SHAPE on are returned only where no item has one of those before. O(n log n)
- * for n items. */
+ * the first faulty item, in the order of these statuses and with LINKER_UTILS_MAY_BE_MISALIGNED as
+ * the last, and `faulty` is this item. Those from LINKER_UTILS_UNEVEN_SHAPE on are returned only
+ * where no item has one of those before. O(n log n) for n items.
+ *
+ * LINKER_UTILS_MAY_BE_MISALIGNED: an alignment without a limit needs as many nops as it is itself
+ * less the unit. Fewer are accepted, as many as it less w, a power of two, where w divides the
+ * address of the first nop in every layout: where it divides the alignment without a limit before it,
+ * or `start`, and the bytes from there, and what lies between loses only multiples of w. So the begin
+ * of a section is an item, too: an alignment.
+ *
+ * LINKER_UTILS_POWER_BELOW_UNIT and LINKER_UTILS_UNEVEN_END aren't of an alignment without a limit
+ * that divides the unit, and has exactly the nops that its input address needs, or a multiple of the
+ * unit more: these are the same in every layout. */
 static inline uint32_t linker_utils_items_relaxable(
     const struct linker_utils_item *items, size_t items_len, uint64_t start, size_t *faulty);
 
@@ -1201,8 +1226,9 @@ static inline size_t linker_utils_packed_run_len(uint64_t base, size_t section_l
 /* Packs a section of a relaxed run: writes the bytes that stay, in order, with the instructions of
  * its sites and the nops of its alignments written anew. The section begins at the input offset
  * `base` of the run. The run begins at the address `start` and loses what the deltas list, as
- * `linker_utils_run_deltas` writes them; addresses are modulo 2^64. `items` are those of the run
- * that lie in the section, in their order. Their targets may lie anywhere in the run.
+ * `linker_utils_run_deltas` writes them; addresses are modulo 2^64. `items` are all of the run that
+ * lie in the section and lose bytes, in their order, and any others there. Their targets may lie
+ * anywhere in the run.
  *
  * How many bytes of an item stay, which have to be its first ones, says what is written:
  * - RISC-V: in place of a call, which is an auipc and a jalr, c.j where 2 bytes stay and the jalr
@@ -1223,10 +1249,12 @@ static inline size_t linker_utils_packed_run_len(uint64_t base, size_t section_l
  * LINKER_UTILS_DIFFERENT_LENGTHS where `packed_len` is not `linker_utils_packed_run_len`.
  * LINKER_UTILS_OUT_OF_MEMORY where a copy of the items can't be allocated. Else `faulty` is the
  * first item that can't be written, and the status the first that applies to it of
- * LINKER_UTILS_ITEMS_OVERLAP, LINKER_UTILS_ITEM_OUT_OF_SECTION, LINKER_UTILS_NOT_ITS_FIRST_BYTES,
- * LINKER_UTILS_NOT_ITS_INSTRUCTIONS, LINKER_UTILS_NO_SHAPE and LINKER_UTILS_TARGET_OUT_OF_REACH, of
- * which only the first two can be of a site with one shape. For k items and n deltas it takes O(k
- * log n), and a step for each byte of the section and each delta in it. */
+ * LINKER_UTILS_ITEMS_OVERLAP, LINKER_UTILS_ITEM_OUT_OF_SECTION, LINKER_UTILS_DELETED_OUTSIDE,
+ * LINKER_UTILS_NOT_ITS_FIRST_BYTES, LINKER_UTILS_NOT_ITS_INSTRUCTIONS, LINKER_UTILS_NO_SHAPE and
+ * LINKER_UTILS_TARGET_OUT_OF_REACH, of which only the first three can be of a site with one shape.
+ * LINKER_UTILS_DELETED_OUTSIDE where bytes before the item are deleted that are of no item: an item
+ * is missing; `faulty` is `items_len` where they are behind the last item. For k items and n deltas
+ * it takes O(k log n), and a step for each byte of the section and each delta in it. */
 static inline uint32_t linker_utils_pack_run(
     uint16_t machine, const uint8_t *section, size_t section_len, uint64_t base,
     const struct linker_utils_item *items, size_t items_len,

@@ -419,19 +419,17 @@ static inline uint32_t linker_utils_shrink_calls(const struct linker_utils_delta
 uint32_t linker_utils_riscv_items_nonnull(
     const uint8_t *section, size_t section_len, uint64_t base,
     const struct linker_utils_section_relocation *relocations, size_t relocations_len,
-    bool c_extension, struct linker_utils_item *items, size_t items_len, size_t *len,
-    size_t *faulty);
+    struct linker_utils_item *items, size_t items_len, size_t *len, size_t *faulty);
 static inline uint32_t linker_utils_riscv_items(
     const uint8_t *section, size_t section_len, uint64_t base,
     const struct linker_utils_section_relocation *relocations, size_t relocations_len,
-    bool c_extension, struct linker_utils_item *items, size_t items_len, size_t *len,
-    size_t *faulty) {
+    struct linker_utils_item *items, size_t items_len, size_t *len, size_t *faulty) {
     size_t ignored;
     return linker_utils_riscv_items_nonnull(
         LINKER_UTILS_SLICE(const uint8_t, section), section_len, base,
         LINKER_UTILS_SLICE(const struct linker_utils_section_relocation, relocations),
-        relocations_len, c_extension, LINKER_UTILS_SLICE(struct linker_utils_item, items),
-        items_len, len, faulty ? faulty : &ignored);
+        relocations_len, LINKER_UTILS_SLICE(struct linker_utils_item, items), items_len, len,
+        faulty ? faulty : &ignored);
 }
 
 uint32_t linker_utils_loongarch_items_nonnull(

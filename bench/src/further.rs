@@ -517,6 +517,7 @@ fn runs(report: &mut Report, random: &mut Random) {
                 r_type,
                 has_symbol: u8::from(r_type == of_call),
                 has_target: u8::from(r_type == of_call),
+                may_compress: 1,
             };
             section[at..at + 8].copy_from_slice(&u64::to_le_bytes(call));
             relocations.push(relocation(site, call_of.target, 0, of_call));
@@ -542,7 +543,7 @@ fn runs(report: &mut Report, random: &mut Random) {
             unsafe {
                 match machine {
                     RISCV => linker_utils_riscv_items_nonnull(
-                        bytes, len, 0, given, count, true, items, count, used, faulty,
+                        bytes, len, 0, given, count, items, count, used, faulty,
                     ),
                     _ => linker_utils_loongarch_items_nonnull(
                         bytes, len, 0, given, count, items, count, used, faulty,

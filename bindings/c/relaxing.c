@@ -30,14 +30,15 @@ int main(void) {
     relocations[0].r_type = R_RISCV_CALL_PLT;
     relocations[0].has_symbol = 1;
     relocations[0].has_target = 1;
+    relocations[0].may_compress = 1;
     relocations[0].target = 14;
     relocations[1].r_type = R_RISCV_RELAX;
     relocations[2].r_type = R_RISCV_ALIGN;
     relocations[2].offset = 8;
     relocations[2].addend = 6;
 
-    status = linker_utils_riscv_items(section, sizeof section, 0, relocations, RELOCATIONS, true,
-                                      items, RELOCATIONS, &count, &faulty);
+    status = linker_utils_riscv_items(section, sizeof section, 0, relocations, RELOCATIONS, items,
+                                      RELOCATIONS, &count, &faulty);
     if (status != LINKER_UTILS_OK) {
         fprintf(stderr, "relocation %zu: %s\n", faulty, linker_utils_status_text(status));
         return 1;

@@ -34,14 +34,14 @@ fn bytes_of(text: &str) -> Result<Vec<u8>, Box<dyn Error>> {
 }
 
 fn main() -> Result<(), Box<dyn Error>> {
-    let (mut machine, mut c_extension, mut start) = (Machine::RiscV64, false, 0);
+    let (mut machine, mut may_compress, mut start) = (Machine::RiscV64, false, 0);
     let (mut sections, mut others) = (Vec::<Section>::new(), Vec::new());
     for line in io::stdin().lock().lines() {
         let line = line?;
         let words: Vec<&str> = line.split(' ').collect();
         match words[..] {
             ["machine", "riscv64"] => {}
-            ["machine", "riscv64", "c"] => c_extension = true,
+            ["machine", "riscv64", "c"] => may_compress = true,
             ["machine", "loongarch64"] => machine = Machine::LoongArch64,
             ["start", address] => start = address.parse()?,
             ["section", base, bytes] => sections.push(Section {
@@ -56,6 +56,7 @@ fn main() -> Result<(), Box<dyn Error>> {
                     has_symbol: symbol == "1",
                     addend: addend.parse()?,
                     target: if target == "-" { None } else { Some(target.parse()?) },
+                    may_compress,
                 })
             }
             ["alignment", offset, nops, power] => others.push(Item::Aligned(Alignment {
@@ -70,7 +71,7 @@ fn main() -> Result<(), Box<dyn Error>> {
     for section in &mut sections {
         let (bytes, base, relocations) = (&section.bytes, section.base, &section.relocations);
         section.items = match machine {
-            Machine::RiscV64 => riscv64::items(bytes, base, relocations, c_extension)?,
+            Machine::RiscV64 => riscv64::items(bytes, base, relocations)?,
             Machine::LoongArch64 => loongarch64::items(bytes, base, relocations)?,
         };
     }
@@ -93,7 +94,8 @@ fn main() -> Result<(), Box<dyn Error>> {
         let (bytes, base) = (&section.bytes, section.base);
         let mut packed = vec![0; packed_run_len(base, bytes.len(), deltas)];
         if let Err(rejected) = pack_run(machine, bytes, base, &section.items, deltas, start, &mut packed) {
-            println!("rejected {} {:?}", section.items[rejected.index].offset(), rejected.error);
+            let offset = section.items.get(rejected.index).map(Item::offset);
+            println!("rejected {offset:?} {:?}", rejected.error);
             return Ok(());
         }
         let text: String = packed.iter().map(|byte| format!("{byte:02x}")).collect();

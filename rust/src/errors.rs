@@ -151,18 +151,27 @@ impl Display for Fault {
             Fault::UnevenShape => {
                 "a shape frees bytes that are not a multiple of the run's greatest unit"
             }
-            Fault::PowerBelowUnit => "the alignment is not a multiple of the run's greatest unit",
+            Fault::PowerBelowUnit => {
+                "the alignment is not a multiple of the run's greatest unit, and may keep other \
+                 nops in other layouts"
+            }
             Fault::UnevenEnd => {
-                "the address behind the nops is not a multiple of the run's greatest unit"
+                "the address behind the nops is not a multiple of the run's greatest unit, and the \
+                 alignment may keep other nops in other layouts"
             }
             Fault::TooFewNops => {
-                "there are fewer nops than the alignment less the unit, and fewer than may stay"
+                "the alignment has a limit, and there are fewer nops than it less the unit, and \
+                 fewer than may stay"
             }
             Fault::UnevenNops => {
                 "the alignment has a limit, and its nops are not a multiple of the run's greatest \
                  unit"
             }
             Fault::TargetInside => "the target is strictly inside the bytes that an item may lose",
+            Fault::MayBeMisaligned => {
+                "the alignment has no limit, and in some layout more nops may be needed than there \
+                 are"
+            }
         })
     }
 }

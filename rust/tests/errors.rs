@@ -118,6 +118,7 @@ fn errors_of_runs_are_printed() {
         (Fault::TooFewNops, "TOO_FEW_NOPS"),
         (Fault::UnevenNops, "UNEVEN_NOPS"),
         (Fault::TargetInside, "TARGET_INSIDE"),
+        (Fault::MayBeMisaligned, "MAY_BE_MISALIGNED"),
     ] {
         let found = ItemFault { index: 3, fault };
         let said = status(name);

@@ -333,6 +333,7 @@ fn runs_are_not_relaxed() {
         has_symbol: target.is_some(),
         addend,
         target,
+        may_compress: true,
     };
     let relocations = [
         relocation(0, 19, 0, Some(22)),
@@ -342,7 +343,7 @@ fn runs_are_not_relaxed() {
     let mut section = [0; 22];
     section[..8].copy_from_slice(&0x000080e7_00000097u64.to_le_bytes());
     let (count, items) = each_fails(
-        || riscv64::items(&section, 0, &relocations, true),
+        || riscv64::items(&section, 0, &relocations),
         |error| assert_eq!(error, ItemsError::OutOfMemory),
     );
     assert!(count > 0);

@@ -1157,6 +1157,7 @@ static void call_section_items(bool is_riscv) {
             .r_type = once_in(32) ? any_relocation_type() : types[is_riscv][below(5)],
             .has_symbol = (uint8_t)(once_in(2) ? 0 : any()),
             .has_target = (uint8_t)(once_in(4) ? 0 : any()),
+            .may_compress = (uint8_t)(once_in(2) ? 0 : any()),
         };
         if (i > 0 && once_in(2)) at[i].r_type = types[is_riscv][2];
         if (once_in(2)) offset += 4 * below(3);
@@ -1164,12 +1165,11 @@ static void call_section_items(bool is_riscv) {
     size_t items_len = once_in(8) ? any_len(8) : count;
     struct buffer *items = place(WRITTEN, items_len, sizeof(struct linker_utils_item));
     uint64_t base = once_in(8) ? any_number() : below(64);
-    bool c_extension = once_in(2);
     size_t *len = output(sizeof(size_t));
     size_t *faulty = any_faulty();
     uint32_t status =
         is_riscv ? CALL(riscv_items, section->given, section_len, base, given->given, count,
-                        c_extension, ITEMS(items), len, faulty)
+                        ITEMS(items), len, faulty)
                  : CALL(loongarch_items, section->given, section_len, base, given->given, count,
                         ITEMS(items), len, faulty);
     expect(was_refused == (status == LINKER_UTILS_OUT_OF_MEMORY), "tells nothing of memory");

@@ -80,7 +80,7 @@ static void run(uint8_t *part, struct results *to) {
     EXPECT(pack(code, LENGTH, of_jumps, CALLS, calls, CALLS, LINKER_UTILS_LINK_OF_JALR, to->packed,
                 linker_utils_packed_len(code, LENGTH, of_jumps, CALLS), &faulty));
 
-    EXPECT(riscv_items(code, LENGTH, 0, relocations, 3 * CALLS, true, to->items, 3 * CALLS,
+    EXPECT(riscv_items(code, LENGTH, 0, relocations, 3 * CALLS, to->items, 3 * CALLS,
                        &to->items_len, &faulty));
     const size_t items = to->items_len;
     EXPECT(relax(to->items, items, 0x10000, to->shapes, items, to->kept, items, to->places, items,
@@ -142,10 +142,11 @@ int main(void) {
             static const uint32_t types[3] = {R_RISCV_CALL_PLT, R_RISCV_RELAX, R_RISCV_ALIGN};
             relocations[count].offset = 16 * i + (kind == 2 ? 8 : 0);
             relocations[count].target = calls[i].target;
-            relocations[count].addend = kind == 2 ? 8 : 0;
+            relocations[count].addend = kind == 2 ? 6 : 0;
             relocations[count].r_type = types[kind];
             relocations[count].has_symbol = kind == 0;
             relocations[count].has_target = kind == 0;
+            relocations[count].may_compress = 1;
         }
     }
     facts.is_local = facts.has_fixed_distance = facts.is_marked = facts.has_addresses = 1;

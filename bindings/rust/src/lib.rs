@@ -267,7 +267,8 @@ impl Item {
 }
 
 /// A relocation of a section, and what it refers to in a run: `target`, where `has_target` isn't 0.
-/// `has_symbol` is 0 where it has no symbol.
+/// `has_symbol` is 0 where it has no symbol. `may_compress` isn't 0 where the code may use RISC-V's C
+/// extension.
 #[repr(C)]
 #[derive(Debug, Clone, Copy, Default, PartialEq, Eq)]
 pub struct SectionRelocation {
@@ -277,6 +278,7 @@ pub struct SectionRelocation {
     pub r_type: u32,
     pub has_symbol: u8,
     pub has_target: u8,
+    pub may_compress: u8,
 }
 
 /// What is known of a number of 64 bits, a relocation's value or an address: bits `first_bit` and up,
@@ -999,7 +1001,6 @@ pub fn riscv_items(
     section: &[u8],
     base: u64,
     relocations: &[SectionRelocation],
-    c_extension: bool,
     items: &mut [Item],
 ) -> Result<usize, ArrayError> {
     let mut len = 0;
@@ -1010,7 +1011,6 @@ pub fn riscv_items(
             base,
             relocations.as_ptr(),
             relocations.len(),
-            c_extension,
             items.as_mut_ptr(),
             items.len(),
             &mut len,

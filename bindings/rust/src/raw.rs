@@ -368,7 +368,6 @@ extern "C" {
         base: u64,
         relocations: *const SectionRelocation,
         relocations_len: usize,
-        c_extension: bool,
         items: *mut Item,
         items_len: usize,
         len: *mut usize,

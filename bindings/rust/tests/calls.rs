@@ -1316,11 +1316,12 @@ fn makes_items_of_relocations() {
         r_type,
         has_symbol: 0,
         has_target: target.is_some().into(),
+        may_compress: 1,
     };
     // auipc ra, 0; jalr ra; auipc t1, 0; jr t1; nop; c.nop
     let mut section = bytes_of(&[0x97, 0x80e7, 0x317, 0x30067, 0x13]);
     section.extend([0x01, 0x00]);
-    let relocations = [
+    let mut relocations = [
         relocation(0, 19, 0, Some(4096)),
         relocation(0, 51, 0, None),
         relocation(8, 19, 0, Some(8192)),
@@ -1329,7 +1330,7 @@ fn makes_items_of_relocations() {
     ];
     let other = Item::site(1, 2, 3, Shapes::fixed(1));
     let mut items = [other; 5];
-    let made = riscv_items(&section, 64, &relocations, true, &mut items);
+    let made = riscv_items(&section, 64, &relocations, &mut items);
     assert_eq!(made, Ok(3));
     assert_eq!(
         items,
@@ -1341,18 +1342,24 @@ fn makes_items_of_relocations() {
                     short: items[2].shapes.short,
                     ..Shapes::fixed(0)
                 },
-                ..Item::alignment(80, 6, 8, Some(6))
+                ..Item::alignment(80, 6, 8, None)
             },
             other,
             other,
         ]
     );
-    // without the C extension six bytes are no nops
-    let made = riscv_items(&section, 64, &relocations, false, &mut items);
+    // without the C extension the tail call can only become a `jal`
+    relocations[2].may_compress = 0;
+    let made = riscv_items(&section, 64, &relocations, &mut items);
+    assert_eq!(made, Ok(3));
+    assert_eq!(items[1].shapes, named_shapes(ShapesName::RiscVCall));
+    // five bytes are no nops
+    relocations[4].addend = 5;
+    let made = riscv_items(&section, 64, &relocations, &mut items);
     assert_eq!(made, Err(at(4, Status::MalformedRelocation)));
-    let made = riscv_items(&section, u64::MAX - 21, &relocations, true, &mut items);
+    let made = riscv_items(&section, u64::MAX - 21, &relocations, &mut items);
     assert_eq!(made, Err(failure(Status::EndsTooHigh)));
-    let made = riscv_items(&section, 0, &relocations, true, &mut items[..4]);
+    let made = riscv_items(&section, 0, &relocations, &mut items[..4]);
     assert_eq!(made, Err(failure(Status::DifferentLengths)));
 
     // pcaddu18i ra, 0; jirl ra, ra, 0; pcalau12i a0, 0; addi.d a0, a0, 0; nop
@@ -1379,7 +1386,7 @@ fn makes_items_of_relocations() {
     assert_eq!(items[..2], [call, address]);
     let aligned = Item {
         shapes: items[2].shapes,
-        ..Item::alignment(16, 12, 16, Some(12))
+        ..Item::alignment(16, 12, 16, None)
     };
     assert_eq!(items[2..], [aligned, other, other, other, other]);
     relocations[6].addend = -1;
@@ -1442,11 +1449,12 @@ fn relaxes_runs() {
         (changed(|it| it.short[0].ahead = 0), Status::BadReach),
         (Item::alignment(16, 4, 6, None), Status::BadPower),
         (changed(|it| it.short[0].kept = 3), Status::UnevenShape),
-        (Item::alignment(16, 4, 1, None), Status::PowerBelowUnit),
+        (Item::alignment(16, 3, 1, None), Status::PowerBelowUnit),
         (Item::alignment(16, 3, 4, None), Status::UnevenEnd),
-        (Item::alignment(16, 4, 16, None), Status::TooFewNops),
+        (Item::alignment(16, 4, 16, Some(9)), Status::TooFewNops),
         (Item::alignment(15, 5, 4, Some(3)), Status::UnevenNops),
         (site(16, 6, call), Status::TargetInside),
+        (Item::alignment(16, 4, 16, None), Status::MayBeMisaligned),
     ];
     for (item, status) in faults {
         let items = [site(0, 0, call), item];

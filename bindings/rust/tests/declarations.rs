@@ -718,7 +718,7 @@ fn the_structs_are_those_of_the_library() {
         "linker_utils_shapes": Shapes { short, longest, count, }
         "linker_utils_item": Item { offset, target, power, most, len, kind, shapes, }
         "linker_utils_section_relocation": SectionRelocation {
-            offset, target, addend, r_type, has_symbol, has_target,
+            offset, target, addend, r_type, has_symbol, has_target, may_compress,
         }
         "linker_utils_field_value": FieldValue { bits, rounding, first_bit, end_bit, }
         "linker_utils_window_bits": FieldBits { offset, bits, }

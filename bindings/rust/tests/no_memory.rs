@@ -83,7 +83,7 @@ fn relax_too_many() {
     assert_eq!(relax(items, 0, relaxed), refused);
     assert_eq!((shapes[0], kept[0], places[0], freed[0]), (7, 7, 7, 7));
     items[0].len = 7;
-    let made = riscv_items(&[], 0, relocations, true, items);
+    let made = riscv_items(&[], 0, relocations, items);
     assert_eq!(made.map(drop), refused);
     let made = loongarch_items(&[], 0, relocations, items);
     assert_eq!(made.map(drop), refused);

@@ -11,7 +11,7 @@ use Rattle.linker_relax.specs.declared.relaxation.Item.TheVariants.{Site, Aligne
 use Rattle.linker_relax.specs.Relaxing.{offset_of, len_of, end_of, item_at}
 use Rattle.linker_pack.specs.Sites.{IsInReach}
 use Rattle.linker_pack.specs.RiscVSites.{riscv_template, RiscVAccepts, RiscVCause}
-use Rattle.linker_pack.specs.Packing.{Section, packed_offset, kept_len, is_fixed, written_len, IsApart, IsInside, IsNotIn, ItemAccepts, ItemCause, ItemBecomes, IsWritable, IsUnwritable, IsCause, IsPackedRun}
+use Rattle.linker_pack.specs.Packing.{Section, packed_offset, kept_len, is_fixed, written_len, IsApart, IsInside, KeepsGap, gap_start, IsNotIn, ItemAccepts, ItemCause, ItemBecomes, IsWritable, IsUnwritable, IsCause, IsPackedRun}
 use Rattle.linker_pack.specs.Inner.Pieces.{piece_bytes, IsWhole, IsPieceOf}
 use Rattle.linker_pack.specs.Inner.Copying.{IsFilledTo}
 use Rattle.linker_pack.specs.Inner.Packing.{AreReady, IsWrittenTo}
@@ -21,7 +21,7 @@ use Rattle.linker_pack.proofs.Sites.{both_some, in_reach}
 use Rattle.linker_pack.proofs.LoongArch.{loongarch_excludes}
 use Rattle.linker_pack.specs.declared.packing.Piece.{Piece}
 use Rattle.linker_pack.specs.declared.packing.ItemError.{ItemError}
-use Rattle.linker_pack.specs.declared.packing.ItemError.TheVariants.{Overlaps, OutOfSection, NotItsFirstBytes, NotItsInstructions, NoShape, OutOfReach}
+use Rattle.linker_pack.specs.declared.packing.ItemError.TheVariants.{Overlaps, OutOfSection, DeletedOutside, NotItsFirstBytes, NotItsInstructions, NoShape, OutOfReach}
 
 -- ---- what is accepted isn't rejected
 
@@ -31,6 +31,7 @@ riscv_excludes section o kept place target NoShape a cause = subst (λ t. IsSome
 riscv_excludes section o kept place target OutOfReach a cause = both_some (riscv_template section o kept) _ _ a.reached cause.1 (λ t p q. in_reach t place target p q)
 riscv_excludes section o kept place target Overlaps a cause = cause
 riscv_excludes section o kept place target OutOfSection a cause = cause
+riscv_excludes section o kept place target DeletedOutside a cause = cause
 riscv_excludes section o kept place target NotItsFirstBytes a cause = cause
 
 item_excludes : (machine : Machine) (s : Section) (item : Item) (kept : ℕ) (error : ItemError) → ItemAccepts machine s item kept → ItemCause machine s item kept error → ⊥
@@ -39,18 +40,21 @@ item_excludes RiscV64 s (Site site) kept NoShape a cause = riscv_excludes _ _ ke
 item_excludes RiscV64 s (Site site) kept OutOfReach a cause = riscv_excludes _ _ kept _ _ OutOfReach a.1 cause.1
 item_excludes RiscV64 s (Site site) kept Overlaps a cause = cause.1
 item_excludes RiscV64 s (Site site) kept OutOfSection a cause = cause.1
+item_excludes RiscV64 s (Site site) kept DeletedOutside a cause = cause.1
 item_excludes RiscV64 s (Site site) kept NotItsFirstBytes a cause = cause.1
 item_excludes LoongArch64 s (Site site) kept NotItsInstructions a cause = loongarch_excludes _ _ kept _ _ NotItsInstructions a.1 (cause a.0)
 item_excludes LoongArch64 s (Site site) kept NoShape a cause = loongarch_excludes _ _ kept _ _ NoShape a.1 cause.1
 item_excludes LoongArch64 s (Site site) kept OutOfReach a cause = loongarch_excludes _ _ kept _ _ OutOfReach a.1 cause.1
 item_excludes LoongArch64 s (Site site) kept Overlaps a cause = cause.1
 item_excludes LoongArch64 s (Site site) kept OutOfSection a cause = cause.1
+item_excludes LoongArch64 s (Site site) kept DeletedOutside a cause = cause.1
 item_excludes LoongArch64 s (Site site) kept NotItsFirstBytes a cause = cause.1
 item_excludes machine s (Aligned alignment) kept NoShape a cause = cause a
 item_excludes machine s (Aligned alignment) kept NotItsInstructions a cause = cause
 item_excludes machine s (Aligned alignment) kept OutOfReach a cause = cause
 item_excludes machine s (Aligned alignment) kept Overlaps a cause = cause
 item_excludes machine s (Aligned alignment) kept OutOfSection a cause = cause
+item_excludes machine s (Aligned alignment) kept DeletedOutside a cause = cause
 item_excludes machine s (Aligned alignment) kept NotItsFirstBytes a cause = cause
 
 pub writable_excludes : (machine : Machine) (s : Section) (item : Item) (error : ItemError) → IsWritable machine s item → IsUnwritable machine s item error → ⊥
@@ -60,20 +64,36 @@ writable_excludes machine s item NoShape w u = item_excludes machine s item _ No
 writable_excludes machine s item OutOfReach w u = item_excludes machine s item _ OutOfReach w.accepts u.1
 writable_excludes machine s item Overlaps w u = item_excludes machine s item _ Overlaps w.accepts u.1
 writable_excludes machine s item OutOfSection w u = item_excludes machine s item _ OutOfSection w.accepts u.1
+writable_excludes machine s item DeletedOutside w u = item_excludes machine s item _ DeletedOutside w.accepts u.1
 
 -- an item in its place that isn't written
-not_own : (machine : Machine) (s : Section) (item : Item) (kept : ℕ) → (ItemCause machine s item kept Overlaps → ⊥) × (ItemCause machine s item kept OutOfSection → ⊥)
-not_own RiscV64 s (Site site) kept = (λ c. c.1, λ c. c.1)
-not_own LoongArch64 s (Site site) kept = (λ c. c.1, λ c. c.1)
-not_own machine s (Aligned alignment) kept = (λ c. c, λ c. c)
+not_own : (machine : Machine) (s : Section) (item : Item) (kept : ℕ) → (ItemCause machine s item kept Overlaps → ⊥) × (ItemCause machine s item kept OutOfSection → ⊥) × (ItemCause machine s item kept DeletedOutside → ⊥)
+not_own RiscV64 s (Site site) kept = (λ c. c.1, λ c. c.1, λ c. c.1)
+not_own LoongArch64 s (Site site) kept = (λ c. c.1, λ c. c.1, λ c. c.1)
+not_own machine s (Aligned alignment) kept = (λ c. c, λ c. c, λ c. c)
 
-pub cause_of : (machine : Machine) (s : Section) (items : List Item) (i : ℕ) (error : ItemError) → IsApart items i → IsInside s (item_at items i) → is_fixed (item_at items i) ≡ false → IsUnwritable machine s (item_at items i) error → IsCause machine s items i error
-cause_of machine s items i NotItsFirstBytes apart inside free u = (apart, inside, free, u)
-cause_of machine s items i NotItsInstructions apart inside free u = (apart, inside, free, u)
-cause_of machine s items i NoShape apart inside free u = (apart, inside, free, u)
-cause_of machine s items i OutOfReach apart inside free u = (apart, inside, free, u)
-cause_of machine s items i Overlaps apart inside free u = absurd ((not_own machine s (item_at items i) _).0 u.1)
-cause_of machine s items i OutOfSection apart inside free u = absurd ((not_own machine s (item_at items i) _).1 u.1)
+pub cause_of : (machine : Machine) (s : Section) (items : List Item) (i : ℕ) (error : ItemError) → IsApart items i → IsInside s (item_at items i) → KeepsGap s items i → is_fixed (item_at items i) ≡ false → IsUnwritable machine s (item_at items i) error → IsCause machine s items i error
+cause_of machine s items i NotItsFirstBytes apart inside gap free u = (apart, inside, gap, free, u)
+cause_of machine s items i NotItsInstructions apart inside gap free u = (apart, inside, gap, free, u)
+cause_of machine s items i NoShape apart inside gap free u = (apart, inside, gap, free, u)
+cause_of machine s items i OutOfReach apart inside gap free u = (apart, inside, gap, free, u)
+cause_of machine s items i Overlaps apart inside gap free u = absurd ((not_own machine s (item_at items i) _).0 u.1)
+cause_of machine s items i OutOfSection apart inside gap free u = absurd ((not_own machine s (item_at items i) _).1 u.1)
+cause_of machine s items i DeletedOutside apart inside gap free u = absurd ((not_own machine s (item_at items i) _).2 u.1)
+
+-- where the bytes before an item begin, at or below it
+pub gap_below : (s : Section) (items : List Item) (i : ℕ) → IsApart items i → IsInside s (item_at items i) → gap_start s items i ≤ offset_of (item_at items i)
+gap_below s items zero apart inside = inside.0
+gap_below s items (suc i) apart inside =
+    let z : suc i - 1 ≡ i = omega arith in
+    let a = ap (λ n. end_of (item_at items n)) z in
+    let h = apart (omega arith) in
+    omega arith
+
+-- and those behind the last one
+pub end_below : (machine : Machine) (s : Section) (items : List Item) (n : ℕ) → AreReady machine s items n → gap_start s items n ≤ s.base + length s.bytes
+end_below machine s items zero ready = omega arith
+end_below machine s items (suc i) ready = (ready i (omega arith)).inside.1
 
 -- ---- bytes put over others
 

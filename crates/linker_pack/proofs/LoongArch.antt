@@ -24,7 +24,7 @@ use Rattle.linker_pack.specs.Inner.LoongArch.{IsKindAt, short_template, AreReloc
 use Rattle.linker_pack.specs.declared.loongarch64.Kind.{Kind}
 use Rattle.linker_pack.specs.declared.loongarch64.Kind.TheVariants.{Call, Address}
 use Rattle.linker_pack.specs.declared.packing.ItemError.{ItemError}
-use Rattle.linker_pack.specs.declared.packing.ItemError.TheVariants.{Overlaps, OutOfSection, NotItsFirstBytes, NotItsInstructions, NoShape, OutOfReach}
+use Rattle.linker_pack.specs.declared.packing.ItemError.TheVariants.{Overlaps, OutOfSection, DeletedOutside, NotItsFirstBytes, NotItsInstructions, NoShape, OutOfReach}
 use Rattle.linker_pack.proofs.Sites.{kept_field, operands_small, unit_sum, target_is, in_reach}
 
 -- what writing an immediate keeps: n bits from bit s up, of which none is placed
@@ -126,6 +126,7 @@ loongarch_excludes section o kept place target NoShape a cause = elim (accepted_
 loongarch_excludes section o kept place target OutOfReach a cause = cause.2 a
 loongarch_excludes section o kept place target Overlaps a cause = cause
 loongarch_excludes section o kept place target OutOfSection a cause = cause
+loongarch_excludes section o kept place target DeletedOutside a cause = cause
 loongarch_excludes section o kept place target NotItsFirstBytes a cause = cause
 
 module _ (section : List ℕ) (o kept place target : ℕ) where

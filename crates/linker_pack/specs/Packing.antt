@@ -2,7 +2,7 @@
 -- and the nops of alignments written anew.
 use Rattle.std.specs.Prelude.{◌≡◌, ◌≢◌, ℕ, zero, suc, ◌+◌, ◌-◌, ◌/◌, ◌%◌, ◌<◌, ◌≤◌, List, []}
 use Rattle.std.specs.Prelude.{◌∷◌, ◌++◌, length, take, drop, slice_index, Bool, false, ◌==◌}
-use Rattle.std.specs.Prelude.{if◌then◌else◌, IsTrue}
+use Rattle.std.specs.Prelude.{if◌then◌else◌, IsTrue, ◌⊎◌}
 use Rattle.linker_base.specs.Deletions.{rank, is_kept}
 use Rattle.linker_elf.specs.Value.{sum_64}
 use Rattle.linker_relax.specs.declared.relaxation.Site.{Site as site}
@@ -15,6 +15,7 @@ use Rattle.linker_pack.specs.declared.packing.Machine.{Machine}
 use Rattle.linker_pack.specs.declared.packing.Machine.TheVariants.{RiscV64, LoongArch64}
 use Rattle.linker_pack.specs.declared.packing.ItemError.{ItemError}
 use Rattle.linker_pack.specs.declared.packing.ItemError.TheVariants.{Overlaps, OutOfSection}
+use Rattle.linker_pack.specs.declared.packing.ItemError.TheVariants.{DeletedOutside}
 use Rattle.linker_pack.specs.declared.packing.ItemError.TheVariants.{NotItsFirstBytes}
 use Rattle.linker_pack.specs.declared.packing.ItemError.TheVariants.{NotItsInstructions, NoShape}
 use Rattle.linker_pack.specs.declared.packing.RejectedItem.{RejectedItem}
@@ -69,6 +70,23 @@ IsApart items i = 0 < i → end_of (item_at items (i - 1)) ≤ offset_of (item_a
 -- it lies in the section
 abbrev pub IsInside : Section → Item → Type 0
 IsInside s item = (s.base ≤ offset_of item) × (end_of item ≤ s.base + length s.bytes)
+
+-- where the bytes before the item at an index, which are of no item, begin
+abbrev pub gap_start : Section → List Item → ℕ → ℕ
+gap_start s items zero = s.base
+gap_start s items (suc i) = end_of (item_at items i)
+
+-- all bytes from an input offset up to another stay
+abbrev pub StayWhole : List (ℕ × ℕ) → ℕ → ℕ → Type 0
+StayWhole deletions from to = rank deletions to ≡ rank deletions from + (to - from)
+
+-- those before the item at an index do, and those behind the last item
+abbrev pub KeepsGap : Section → List Item → ℕ → Type 0
+KeepsGap s items i = StayWhole s.deletions (gap_start s items i) (offset_of (item_at items i))
+
+abbrev pub KeepsEnd : Section → List Item → Type 0
+KeepsEnd s items =
+    StayWhole s.deletions (gap_start s items (length items)) (s.base + length s.bytes)
 
 -- ---- nops
 
@@ -145,6 +163,7 @@ pub record IsWritable (machine : Machine) (s : Section) (item : Item) : Type 0 w
 pub record CanWrite (machine : Machine) (s : Section) (items : List Item) (i : ℕ) : Type 0 where
   pub apart : IsApart items i
   pub inside : IsInside s (item_at items i)
+  pub gap : KeepsGap s items i
   pub writable : is_fixed (item_at items i) ≡ false → IsWritable machine s (item_at items i)
 
 -- why nothing is written of a site in the section of which so many bytes stay
@@ -177,12 +196,20 @@ IsUnwritable machine s item error = KeepsFirst s.deletions item
 abbrev pub IsCause : Machine → Section → List Item → ℕ → ItemError → Type 0
 IsCause machine s items i Overlaps = ¬ IsApart items i
 IsCause machine s items i OutOfSection = IsApart items i × ¬ IsInside s (item_at items i)
+IsCause machine s items i DeletedOutside =
+    IsApart items i × IsInside s (item_at items i) × ¬ KeepsGap s items i
 IsCause machine s items i error = IsApart items i × IsInside s (item_at items i)
-    × (is_fixed (item_at items i) ≡ false) × IsUnwritable machine s (item_at items i) error
+    × KeepsGap s items i × (is_fixed (item_at items i) ≡ false)
+    × IsUnwritable machine s (item_at items i) error
+
+-- an item isn't written, or bytes behind the last one don't stay
+abbrev pub IsRejectedAt : Machine → Section → List Item → RejectedItem → Type 0
+IsRejectedAt machine s items rejected = ((rejected.index < length items)
+    × IsCause machine s items rejected.index rejected.error)
+    ⊎ ((rejected.index ≡ length items) × (rejected.error ≡ DeletedOutside) × ¬ KeepsEnd s items)
 
 -- the item at the index is the first that can't be written, for this cause
 pub record IsFirstRejected (machine : Machine) (s : Section) (items : List Item)
     (rejected : RejectedItem) : Type 0 where
-  pub within : rejected.index < length items
   pub before : (i : ℕ) → i < rejected.index → CanWrite machine s items i
-  pub here : IsCause machine s items rejected.index rejected.error
+  pub here : IsRejectedAt machine s items rejected

@@ -8,7 +8,8 @@ ghost use Rattle.linker_base.specs.Deltas.{deletions_of};
 ghost use Rattle.linker_base.specs.Listed.{AreValidDeltas};
 ghost use Rattle.linker_relax.specs.Relaxing.{item_at, offset_of, end_of};
 ghost use Rattle.linker_pack.specs.Packing.{section_of, kept_len, packed_offset, is_fixed};
-ghost use Rattle.linker_pack.specs.Packing.{IsApart, IsInside, nop_len, nops, repeated};
+ghost use Rattle.linker_pack.specs.Packing.{IsApart, IsInside, gap_start, StayWhole, nop_len};
+ghost use Rattle.linker_pack.specs.Packing.{nops, repeated};
 ghost use Rattle.linker_pack.specs.Packing.{IsPackedRun};
 ghost use Rattle.linker_pack.specs.Packing.{IsFirstRejected, SiteBecomes, SiteAccepts, SiteCause};
 ghost use Rattle.linker_pack.specs.Packing.{ItemCause};
@@ -39,6 +40,10 @@ pub enum ItemError {
     Overlaps,
     /// It doesn't lie in the section.
     OutOfSection,
+    /// Bytes between the item before it, or the section's begin, and it are deleted, so that an item
+    /// is missing. The index is that behind the last item where bytes between that and the section's
+    /// end are.
+    DeletedOutside,
     /// So many bytes of it stay, but they aren't its first ones.
     NotItsFirstBytes,
     /// The instructions of the site aren't those that its shapes stand for.
@@ -53,7 +58,7 @@ pub enum ItemError {
 /// The first item of a section that can't be written.
 #[derive(Debug, Clone, Copy, PartialEq, Eq)]
 pub struct RejectedItem {
-    /// Its index among the items.
+    /// Its index among the items, or how many there are.
     pub index: usize,
     /// Why it can't.
     pub error: ItemError,
@@ -102,6 +107,30 @@ fn is_inside(section: &[u8], base: u64, item: &Item) -> bool
     }
     let at = item.offset() - base;
     at <= len && item.len() <= len - at
+}
+
+/// Where the bytes before the item at an index, which are of no item, begin.
+fn gap_start(base: u64, items: &[Item], index: usize) -> u64
+    requires index { index ≤ length items.now }
+    requires small { (i : ℕ) → i < index → end_of (item_at items.now i) < 2 ^ 64 }
+    ensures { (bytes : List ℕ) (deletions : List (ℕ × ℕ)) (start : ℕ)
+        → result ≡ gap_start (section_of bytes base deletions start) items.now index }
+{
+    if index == 0 {
+        return base;
+    }
+    let before = &items[index - 1];
+    before.offset() + before.len()
+}
+
+/// Whether all bytes from an input offset up to another stay.
+fn stay_whole(deltas: &[RelaxDelta], from: u64, to: u64) -> bool
+    requires { from ≤ to }
+    ensures { AreValidDeltas deltas.now
+        → (IsTrue result ↔ StayWhole (deletions_of deltas.now) from to) }
+{
+    let output = to_output(deltas, from);
+    to_output(deltas, to).saturating_sub(output) == to - from
 }
 
 /// What the instructions of a site become of which so many bytes stay.
@@ -292,11 +321,25 @@ fn test_items(
                 error: ItemError::OutOfSection,
             });
         }
+        if !stay_whole(deltas, gap_start(base, items, index), item.offset()) {
+            return Err(RejectedItem {
+                index,
+                error: ItemError::DeletedOutside,
+            });
+        }
         if let Err(error) = piece_of(machine, section, base, deltas, start, item) {
             return Err(RejectedItem { index, error });
         }
     }
-    Ok(())
+    let end = base + section.len() as u64;
+    if stay_whole(deltas, gap_start(base, items, items.len()), end) {
+        Ok(())
+    } else {
+        Err(RejectedItem {
+            index: items.len(),
+            error: ItemError::DeletedOutside,
+        })
+    }
 }
 
 /// Puts bytes at an offset, where they fit there.
@@ -415,8 +458,9 @@ pub fn packed_run_len(base: u64, len: usize, deltas: &[RelaxDelta]) -> usize
 /// with the instructions of its sites and the nops of its alignments written anew.
 ///
 /// The section begins at the input offset `base` of the run. The run begins at the address `start`
-/// and loses what `deltas` list, as `relax` returns it; addresses are modulo 2^64. `items` are the
-/// run's items that lie in the section, in their order. Targets may lie anywhere in the run.
+/// and loses what `deltas` list, as `relax` returns it; addresses are modulo 2^64. `items` are all
+/// of the run's items that lie in the section and lose bytes, in their order, and any others there.
+/// Targets may lie anywhere in the run.
 ///
 /// How many bytes of an item stay, which have to be its first ones, says what is written:
 /// - of RISC-V `c.j` of two bytes for a call that links x0, `jal` of four with the link register of
@@ -433,7 +477,8 @@ pub fn packed_run_len(base: u64, len: usize, deltas: &[RelaxDelta]) -> usize
 ///
 /// Requires an output of `packed_run_len` bytes. The deltas are as `SectionRelaxDeltas::deltas`
 /// lists them (`DeltaSlice::has_valid_deltas`); of others nothing is promised but that the call is
-/// safe. The error tells the first item that can't be written, and nothing is written then.
+/// safe. The error tells the first item that can't be written, or before which bytes are deleted
+/// that are of no item, and nothing is written then.
 ///
 /// It doesn't allocate. It takes O(section + deltas + items log deltas).
 pub fn pack_run(

@@ -12,6 +12,7 @@ use Rattle.linker_pack.specs.Packing.{Section, IsPackedRun, IsFirstRejected}
 use Rattle.linker_utils_c.specs.declared.status.Status.{Status}
 use Rattle.linker_utils_c.specs.declared.status.Status.TheVariants.{Success, ItemsOverlap}
 use Rattle.linker_utils_c.specs.declared.status.Status.TheVariants.{ItemOutOfSection}
+use Rattle.linker_utils_c.specs.declared.status.Status.TheVariants.{DeletedOutside}
 use Rattle.linker_utils_c.specs.declared.status.Status.TheVariants.{NotItsFirstBytes}
 use Rattle.linker_utils_c.specs.declared.status.Status.TheVariants.{NotItsInstructions, NoShape}
 use Rattle.linker_utils_c.specs.declared.status.Status.TheVariants.{TargetOutOfReach}
@@ -31,6 +32,7 @@ packing_machine machine = packed_as (architecture_of machine)
 abbrev pub item_status : ItemError → Status
 item_status errors.Overlaps = ItemsOverlap
 item_status errors.OutOfSection = ItemOutOfSection
+item_status errors.DeletedOutside = DeletedOutside
 item_status errors.NotItsFirstBytes = NotItsFirstBytes
 item_status errors.NotItsInstructions = NotItsInstructions
 item_status errors.NoShape = NoShape
@@ -38,8 +40,8 @@ item_status errors.OutOfReach = TargetOutOfReach
 
 -- what is returned that is about one of the items
 abbrev pub item_statuses : List Status
-item_statuses = ItemsOverlap ∷ ItemOutOfSection ∷ NotItsFirstBytes ∷ NotItsInstructions ∷ NoShape
-    ∷ TargetOutOfReach ∷ []
+item_statuses = ItemsOverlap ∷ ItemOutOfSection ∷ DeletedOutside ∷ NotItsFirstBytes
+    ∷ NotItsInstructions ∷ NoShape ∷ TargetOutOfReach ∷ []
 
 -- the status says why the item at the index isn't written, and it is the first that can't be
 pub record IsItemRejected (machine : Machine) (s : Section) (items : List Item) (at status : ℕ)

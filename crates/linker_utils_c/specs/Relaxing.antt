@@ -18,6 +18,7 @@ use Rattle.linker_utils_c.specs.declared.status.Status.TheVariants.{BadReach, Ba
 use Rattle.linker_utils_c.specs.declared.status.Status.TheVariants.{PowerBelowUnit, UnevenEnd}
 use Rattle.linker_utils_c.specs.declared.status.Status.TheVariants.{TooFewNops, UnevenNops}
 use Rattle.linker_utils_c.specs.declared.status.Status.TheVariants.{TargetInside}
+use Rattle.linker_utils_c.specs.declared.status.Status.TheVariants.{MayBeMisaligned}
 use Rattle.linker_utils_c.specs.Status.{code}
 
 -- the item that C's struct is, by its kind: 0 a site, 1 an alignment without limit, any other one
@@ -65,6 +66,7 @@ fault_status faults.UnevenEnd = UnevenEnd
 fault_status faults.TooFewNops = TooFewNops
 fault_status faults.UnevenNops = UnevenNops
 fault_status faults.TargetInside = TargetInside
+fault_status faults.MayBeMisaligned = MayBeMisaligned
 
 -- the status says the run's first fault, which is that of the item at the index
 pub record IsRunFault (start : ℕ) (items : List Item) (at status : ℕ) : Type 0 where

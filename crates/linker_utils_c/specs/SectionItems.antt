@@ -17,6 +17,7 @@ relocation_of relocation = record {
   has_symbol = is_set relocation.has_symbol;
   addend = relocation.addend;
   target = if is_set relocation.has_target then Some relocation.target else None;
+  may_compress = is_set relocation.may_compress;
 }
 
 abbrev pub relocations_in : List SectionRelocation → List Relocation

@@ -34,6 +34,8 @@ use Rattle.linker_utils_c.specs.declared.status.Status.TheVariants.{NotItsFirstB
 use Rattle.linker_utils_c.specs.declared.status.Status.TheVariants.{NotItsInstructions, NoShape}
 use Rattle.linker_utils_c.specs.declared.status.Status.TheVariants.{TargetOutOfReach}
 use Rattle.linker_utils_c.specs.declared.status.Status.TheVariants.{LeavesOtherBytes}
+use Rattle.linker_utils_c.specs.declared.status.Status.TheVariants.{MayBeMisaligned}
+use Rattle.linker_utils_c.specs.declared.status.Status.TheVariants.{DeletedOutside}
 
 abbrev pub code : Status → ℕ
 code Success = 0
@@ -93,6 +95,8 @@ code NotItsInstructions = 55
 code NoShape = 56
 code TargetOutOfReach = 57
 code LeavesOtherBytes = 58
+code MayBeMisaligned = 59
+code DeletedOutside = 60
 
 -- the status is one of these
 abbrev pub IsOneOf : List Status → ℕ → Type 0

@@ -37,6 +37,7 @@ fn status_of(error: ItemError) -> u32
     let status = match error {
         ItemError::Overlaps => Status::ItemsOverlap,
         ItemError::OutOfSection => Status::ItemOutOfSection,
+        ItemError::DeletedOutside => Status::DeletedOutside,
         ItemError::NotItsFirstBytes => Status::NotItsFirstBytes,
         ItemError::NotItsInstructions => Status::NotItsInstructions,
         ItemError::NoShape => Status::NoShape,
@@ -74,9 +75,10 @@ pub extern "C" fn linker_utils_packed_run_len_nonnull(
 /// `EndsTooHigh`, where `base` and the section's length add up to 2^64 or more;
 /// `DifferentLengths`, where `packed` has not `linker_utils_packed_run_len` bytes; `OutOfMemory`,
 /// where a copy of the items is refused; and of the first item that can't be written, whose index
-/// is `faulty`, the first that applies of `ItemsOverlap`, `ItemOutOfSection`, `NotItsFirstBytes`,
-/// `NotItsInstructions`, `NoShape` and `TargetOutOfReach`. `packed` is unchanged then. `faulty`
-/// changes only with a status that is about an item.
+/// is `faulty`, the first that applies of `ItemsOverlap`, `ItemOutOfSection`, `DeletedOutside`,
+/// `NotItsFirstBytes`, `NotItsInstructions`, `NoShape` and `TargetOutOfReach`. `DeletedOutside` may
+/// also be of what is behind the last item, and `faulty` is how many there are then. `packed` is
+/// unchanged then. `faulty` changes only with a status that is about an item.
 #[unsafe(no_mangle)]
 pub extern "C" fn linker_utils_pack_run_nonnull(
     alloc: Global,

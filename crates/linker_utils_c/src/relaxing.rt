@@ -85,6 +85,7 @@ fn status_of(fault: Fault) -> u32
         Fault::TooFewNops => Status::TooFewNops,
         Fault::UnevenNops => Status::UnevenNops,
         Fault::TargetInside => Status::TargetInside,
+        Fault::MayBeMisaligned => Status::MayBeMisaligned,
     };
     status.number()
 }
@@ -140,8 +141,9 @@ pub extern "C" fn linker_utils_named_shapes(number: u32, shapes: &mut Shapes) ->
 
 /// Whether `linker_utils_relax` accepts the items of a run that begins at the address `start`. The
 /// status is else that of the first fault of the first faulty item, whose index is `faulty`, in the
-/// order of the statuses from `ItemsOverlap` on; those from `UnevenShape` on count only where no
-/// item has one of those before. `OutOfMemory` where a copy of the items is refused.
+/// order of the statuses from `ItemsOverlap` on, with `MayBeMisaligned` as the last; those from
+/// `UnevenShape` on count only where no item has one of those before. `OutOfMemory` where a copy of
+/// the items is refused.
 #[unsafe(no_mangle)]
 pub extern "C" fn linker_utils_items_relaxable_nonnull(
     alloc: Global,

@@ -32,9 +32,12 @@ pub struct SectionRelocation {
     pub r_type: u32,
     /// Whether it has a symbol: `r_sym` isn't 0.
     pub has_symbol: u8,
-    /// Whether `target` counts. 0 where what it refers to isn't in the run, or where the
-    /// instructions are to stay as they are.
+    /// Whether `target` counts. 0 where what it refers to isn't in the run, where bytes between S and
+    /// S + A may be deleted, or where the instructions are to stay as they are.
     pub has_target: u8,
+    /// Whether the code there may use instructions of RISC-V's C extension: its object's `e_flags`
+    /// have `EF_RISCV_RVC`.
+    pub may_compress: u8,
 }
 
 impl SectionRelocation {
@@ -52,6 +55,7 @@ impl SectionRelocation {
             } else {
                 None
             },
+            may_compress: self.may_compress != 0,
         }
     }
 }
@@ -145,8 +149,7 @@ fn put(
 }
 
 /// Writes the items that the relocations of a RISC-V section make, as `riscv64::items`. The section
-/// begins at the input offset `base` of the run. `c_extension` says whether the C extension may be
-/// used.
+/// begins at the input offset `base` of the run.
 ///
 /// `items` has as many elements as there are relocations, since each makes one item at most. `len`
 /// is how many there are, and the elements from there on are unchanged. The first that applies of
@@ -159,7 +162,6 @@ pub extern "C" fn linker_utils_riscv_items_nonnull(
     section: &[u8],
     base: u64,
     relocations: &[SectionRelocation],
-    c_extension: bool,
     items: &mut [ItemNumbers],
     len: &mut usize,
     faulty: &mut usize,
@@ -172,13 +174,13 @@ pub extern "C" fn linker_utils_riscv_items_nonnull(
     ensures too_high { (result ≡ code Status.EndsTooHigh)
         ↔ ((length items.old ≡ length relocations.now) × (2 ^ 64 ≤ base + length section.now)) }
     ensures made { result ≡ code Status.Success
-        → AreMade (RiscVMakes c_extension section.now base (relocations_in relocations.now))
+        → AreMade (RiscVMakes section.now base (relocations_in relocations.now))
         (length relocations.now) (items_in (take len.new items.new)) }
     ensures formed { result ≡ code Status.Success
-        → AreWellFormed (IsRiscVFormed c_extension section.now)
+        → AreWellFormed (IsRiscVFormed section.now)
         (relocations_in relocations.now) (length relocations.now) }
     ensures malformed { result ≡ code Status.MalformedRelocation
-        → IsFirstMalformed (IsRiscVFormed c_extension section.now)
+        → IsFirstMalformed (IsRiscVFormed section.now)
         (relocations_in relocations.now) faulty.new }
     ensures others_stay { result ≡ code Status.Success → (k : ℕ) (item : ItemNumbers) → len.new ≤ k
         → slice_index_or items.new k item ≡ slice_index_or items.old k item }
@@ -195,7 +197,7 @@ pub extern "C" fn linker_utils_riscv_items_nonnull(
     let Ok(relocations) = relocations_of(alloc, relocations) else {
         return Status::OutOfMemory.number();
     };
-    let made = riscv64::items(alloc, section, base, &relocations, c_extension);
+    let made = riscv64::items(alloc, section, base, &relocations);
     put(made, items, len, faulty)
 }
 

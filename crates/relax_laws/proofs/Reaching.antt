@@ -1,5 +1,5 @@
 -- What a call loses, and what its `jal` reaches.
-use Rattle.std.proofs.Common.{◌≡◌, ℕ, ◌+◌, ◌-◌, ◌%◌, ◌<◌, ◌≤◌, ◌∙◌, ◌↔◌, Bool, true, false, refl, ap, sym, inl, inr, ⊎_elim, arith}
+use Rattle.std.proofs.Common.{◌≡◌, ℕ, ◌+◌, ◌-◌, ◌%◌, ◌<◌, ◌≤◌, ◌∙◌, ◌↔◌, Bool, true, false, cond, refl, ap, sym, inl, inr, ⊎_elim, arith}
 use Rattle.std.specs.Prelude.{◌||◌, nat_lt, pos, negsuc, ◌-ℤ◌}
 use Rattle.std.proofs.lemmas.Int.{ints}
 use Rattle.std.proofs.lemmas.Bool.{cases_lt}
@@ -101,19 +101,19 @@ jal_reaches from to = (
 
 -- the item of a call, whatever it reaches
 pub call_reaches : (item : Item) (call : ℕ × ℕ) (k here there : ℕ) → IsCallItem call item → k ≡ 0 → item_reaches item k here there ≡ shape_reaches call_shapes 0 (offset_of item - here) (target_of item - there)
-call_reaches (Site site) call k here there is short = ap (λ s. shape_reaches s k (site.offset - here) (site.target - there)) is.3 ∙ ap (λ n. shape_reaches call_shapes n (site.offset - here) (site.target - there)) short
+call_reaches (Site site) call k here there is short = ap (λ s. shape_reaches s k (site.offset - here) (target_of (Site site) - there)) is.3 ∙ ap (λ n. shape_reaches call_shapes n (site.offset - here) (target_of (Site site) - there)) short
 call_reaches (Aligned alignment) call k here there is short = absurd is
 
 pub long_reaches : (item : Item) (call : ℕ × ℕ) (k here there : ℕ) → IsCallItem call item → 0 < k → item_reaches item k here there ≡ true
-long_reaches (Site site) call k here there is long = ap (λ s. shape_reaches s k (site.offset - here) (site.target - there)) is.3 ∙ grind (arith, nat_tests)
+long_reaches (Site site) call k here there is long = ap (λ s. shape_reaches s k (site.offset - here) (target_of (Site site) - there)) is.3 ∙ grind (arith, nat_tests)
 long_reaches (Aligned alignment) call k here there is long = absurd is
 
 pub deleted_reaches : (item : Item) (deletion : ℕ × ℕ) (k here there : ℕ) → IsDeletedItem deletion item → item_reaches item k here there ≡ true
-deleted_reaches (Site site) deletion k here there is = is.3 k (site.offset - here) (site.target - there)
+deleted_reaches (Site site) deletion k here there is = is.3 k (site.offset - here) (target_of (Site site) - there)
 deleted_reaches (Aligned alignment) deletion k here there is = absurd is
 
 pub call_place : (item : Item) (call : ℕ × ℕ) → IsCallItem call item → (offset_of item ≡ call.0) × (target_of item ≡ call.1) × IsSite item
-call_place (Site site) call is = (is.0, is.1, tt)
+call_place (Site site) call is = (is.0, ap (λ s. cond (nat_lt 0 s.count) site.target site.offset) is.3 ∙ is.1, tt)
 call_place (Aligned alignment) call is = absurd is
 
 pub deleted_site : (item : Item) (deletion : ℕ × ℕ) → IsDeletedItem deletion item → IsSite item

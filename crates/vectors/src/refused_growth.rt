@@ -307,6 +307,7 @@ pub(crate) const MARKED_CALL: [Relocation; 2] = [
         has_symbol: true,
         addend: 0,
         target: Some(0),
+        may_compress: true,
     },
     Relocation {
         offset: 0,
@@ -314,6 +315,7 @@ pub(crate) const MARKED_CALL: [Relocation; 2] = [
         has_symbol: false,
         addend: 0,
         target: None,
+        may_compress: true,
     },
 ];
 
@@ -324,13 +326,14 @@ pub(crate) const NOPS: [Relocation; 1] = [Relocation {
     has_symbol: false,
     addend: 12,
     target: None,
+    may_compress: false,
 }];
 
 #[test]
 fn refused_items_are_made_when_tried_again(rt: HostRuntime) -> Result<(), Fail> {
     let alloc = rt.alloc();
-    let calls = riscv64::items(alloc, &CALL, 0, &MARKED_CALL, true);
-    let calls = calls.or_else(|_| riscv64::items(alloc, &CALL, 0, &MARKED_CALL, true))?;
+    let calls = riscv64::items(alloc, &CALL, 0, &MARKED_CALL);
+    let calls = calls.or_else(|_| riscv64::items(alloc, &CALL, 0, &MARKED_CALL))?;
     assert_eq!(rt; calls.as_slice(), [call_at(0)].as_slice());
     let nops = loongarch64::items(alloc, &[0; 12], 0, &NOPS);
     let nops = nops.or_else(|_| loongarch64::items(alloc, &[0; 12], 0, &NOPS))?;

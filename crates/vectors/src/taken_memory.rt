@@ -116,7 +116,7 @@ fn runs_take_14(rt: HostRuntime) -> Result<(), Fail> {
 #[test]
 fn items_of_relocations_take_2(rt: HostRuntime) -> Result<(), Fail> {
     let call = [0x97, 0, 0, 0, 0xe7, 0x80, 0, 0];
-    let calls = riscv64::items(rt.alloc(), &call, 0, &MARKED_CALL, true)?;
+    let calls = riscv64::items(rt.alloc(), &call, 0, &MARKED_CALL)?;
     assert_eq!(rt; calls.len(), 1);
     let nops = loongarch64::items(rt.alloc(), &[0; 12], 0, &NOPS)?;
     assert_eq!(rt; nops.len(), 1);

@@ -87,11 +87,14 @@ pub enum Status {
     BadPower,
     /// A shape frees bytes that are not a multiple of the run's greatest unit.
     UnevenShape,
-    /// The alignment is not a multiple of the run's greatest unit.
+    /// The alignment is not a multiple of the run's greatest unit, and may keep other nops in other
+    /// layouts.
     PowerBelowUnit,
-    /// The address behind the nops is not a multiple of the run's greatest unit.
+    /// The address behind the nops is not a multiple of the run's greatest unit, and the alignment
+    /// may keep other nops in other layouts.
     UnevenEnd,
-    /// There are fewer nops than the alignment less the unit, and fewer than may stay.
+    /// The alignment has a limit, and there are fewer nops than it less the unit, and fewer than may
+    /// stay.
     TooFewNops,
     /// The alignment has a limit, and its nops are not a multiple of the run's greatest unit.
     UnevenNops,
@@ -121,6 +124,10 @@ pub enum Status {
     TargetOutOfReach,
     /// The rewrite that is chosen leaves other bytes.
     LeavesOtherBytes,
+    /// The alignment has no limit, and in some layout more nops may be needed than there are.
+    MayBeMisaligned,
+    /// Bytes before the item, or behind the last one, are deleted that are of no item.
+    DeletedOutside,
 }
 
 impl Status {

@@ -46,7 +46,8 @@ pub struct Site {
     pub offset: u64,
     /// How many bytes it has.
     pub len: u32,
-    /// The input offset that it jumps to, or the address of which it computes.
+    /// The input offset that it jumps to, or the address of which it computes. It means nothing
+    /// where there are no short shapes.
     pub target: u64,
     /// What it can become.
     pub shapes: Shapes,
@@ -109,9 +110,14 @@ impl Shape {
 }
 
 impl Alignment {
+    /// How many bytes of nops it takes from an address to the next multiple of the alignment.
+    fn needed_at(&self, address: u64) -> u64 {
+        (self.power - address % self.power) % self.power
+    }
+
     /// How many nops stay where the first one has an output address.
     fn padding_at(&self, address: u64) -> u64 {
-        let needed = (self.power - address % self.power) % self.power;
+        let needed = self.needed_at(address);
         let nops = u64::from(self.nops);
         let limit = match self.most {
             Some(most) => most.min(nops),
@@ -135,11 +141,11 @@ impl Item {
         }
     }
 
-    /// The input offset that it has to reach.
+    /// The input offset that it has to reach: its own where it has nothing to reach.
     fn target(&self) -> u64 {
         match self {
-            Item::Site(site) => site.target,
-            Item::Aligned(alignment) => alignment.offset,
+            Item::Site(site) if site.shapes.count > 0 => site.target,
+            _ => self.offset(),
         }
     }
 
@@ -158,7 +164,7 @@ impl Item {
             Item::Site(site) => site.shapes.reaches(
                 shape,
                 site.offset.saturating_sub(here),
-                site.target.saturating_sub(there),
+                self.target().saturating_sub(there),
             ),
             Item::Aligned(_) => true,
         }

@@ -14,8 +14,12 @@ pub struct Relocation {
     /// Its addend, `r_addend`.
     pub addend: i64,
     /// The input offset in the run that it refers to: S + A, or the PLT entry. None where that
-    /// isn't in the run, or where the linker wants the instructions to stay as they are.
+    /// isn't in the run, where bytes between S and S + A may be deleted, or where the linker wants
+    /// the instructions to stay as they are.
     pub target: Option<u64>,
+    /// The code there may use instructions of RISC-V's C extension: its object's `e_flags` have
+    /// `EF_RISCV_RVC`. It means nothing for other architectures.
+    pub may_compress: bool,
 }
 
 /// Why no items are made of relocations.
@@ -57,4 +61,14 @@ pub(crate) fn is_marked(relocations: &[Relocation], index: usize, code: u32) -> 
     index + 1 < relocations.len()
         && relocations[index + 1].code == code
         && relocations[index + 1].offset == relocations[index].offset
+}
+
+/// The addend of a relocation, if it isn't below 0.
+#[inline(always)]
+pub(crate) fn unsigned_addend(relocation: &Relocation) -> Option<u64> {
+    if relocation.addend < 0 {
+        None
+    } else {
+        Some(relocation.addend as u64)
+    }
 }

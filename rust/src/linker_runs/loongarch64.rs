@@ -3,7 +3,7 @@
 
 use alloc::vec::Vec;
 use crate::support::*;
-use crate::linker_runs::items::{ItemsError, NotAllowed, Relocation, has_bytes, is_marked};
+use crate::linker_runs::items::{ItemsError, NotAllowed, Relocation, has_bytes, is_marked, unsigned_addend};
 use crate::loongarch64::{LoongArch64Relocation, RelaxationKind};
 use crate::linker_relax::relaxation::{Alignment, Item, Shapes, Site};
 use crate::linker_relax::shapes::loongarch64::{CALL36, PCALA};
@@ -14,40 +14,47 @@ fn has_name(relocation: &Relocation, name: LoongArch64Relocation) -> bool {
     relocation.code == name.elf_code()
 }
 
-/// What an addend aligns to. None where its exponent isn't below 64.
+/// How many bytes of nops an addend stands for, and what they align to. None where these are no
+/// numbers of 32 and 64 bits, or where nothing is aligned to less than an instruction.
 #[inline]
-fn power_of(has_symbol: bool, addend: u64) -> Option<u64> {
+fn stated(has_symbol: bool, addend: u64) -> Option<(u64, u64)> {
     if !has_symbol {
-        return Some(addend + 4);
+        return Some((addend, (addend + 1).next_power_of_two()));
     }
     let exponent = addend % 256;
-    if exponent < 64 {
-        Some(1 << exponent)
-    } else {
-        None
+    if exponent < 2 || exponent > 32 {
+        return None;
     }
+    let power = 1 << exponent;
+    Some((power - 4, power))
 }
 
 /// How many bytes of nops may stay at most, by an addend.
 #[inline]
-fn most_of(has_symbol: bool, addend: u64, nops: u64) -> u64 {
+fn limit_of(has_symbol: bool, addend: u64, nops: u64) -> Option<u64> {
     let most = addend / 256;
-    if has_symbol && most != 0 { most } else { nops }
-}
-
-/// The nops of an `R_LARCH_ALIGN`, by its addend. None where they aren't what the psABI allows.
-#[inline]
-fn nops_of(section: &[u8], relocation: &Relocation, addend: u64) -> Option<u32> {
-    let power = power_of(relocation.has_symbol, addend)?;
-    if !power.is_power_of_two() || power < 4 || power - 4 > u64::from(u32::MAX) {
-        return None;
-    }
-    let nops = power - 4;
-    if has_bytes(section, relocation.offset, nops) {
-        Some(nops as u32)
+    if has_symbol && 0 < most && most < nops {
+        Some(most)
     } else {
         None
     }
+}
+
+/// The alignment of an `R_LARCH_ALIGN` at an offset of the run. None where its nops aren't what the
+/// psABI allows.
+#[inline]
+fn stated_alignment(section: &[u8], relocation: &Relocation, offset: u64) -> Option<Alignment> {
+    let addend = unsigned_addend(relocation)?;
+    let (nops, power) = stated(relocation.has_symbol, addend)?;
+    if nops % 4 != 0 || nops > u64::from(u32::MAX) || !has_bytes(section, relocation.offset, nops) {
+        return None;
+    }
+    Some(Alignment {
+        offset,
+        nops: nops as u32,
+        power,
+        most: limit_of(relocation.has_symbol, addend, nops),
+    })
 }
 
 /// The item of an `R_LARCH_ALIGN` that has nops.
@@ -57,20 +64,13 @@ fn alignment_at(
     base: u64,
     relocation: &Relocation,
 ) -> Result<Option<Alignment>, NotAllowed> {
-    if relocation.addend < 0 {
+    let Some(alignment) = stated_alignment(section, relocation, base + relocation.offset) else {
         return Err(NotAllowed);
+    };
+    if alignment.nops == 0 {
+        return Ok(None);
     }
-    let addend = relocation.addend as u64;
-    match nops_of(section, relocation, addend) {
-        None => Err(NotAllowed),
-        Some(0) => Ok(None),
-        Some(nops) => Ok(Some(Alignment {
-            offset: base + relocation.offset,
-            nops,
-            power: u64::from(nops) + 4,
-            most: Some(most_of(relocation.has_symbol, addend, u64::from(nops))),
-        })),
-    }
+    Ok(Some(alignment))
 }
 
 /// Whether the relocation at an index has a name, and the instruction may be relaxed.
@@ -192,14 +192,15 @@ fn item_at(
 /// `R_LARCH_RELAX` there, and the bytes are `pcalau12i` and `addi.d` of one register.
 ///
 /// `R_LARCH_ALIGN` makes an alignment, if there are nops. Without a symbol its addend is how many
-/// bytes the nops have, and what they align to is 4 more. With a symbol the addend's lowest 8 bits
-/// are the exponent of two of what they align to, whose nops are 4 bytes fewer, and the other bits
-/// are the most bytes that may stay, or 0 for no limit (LoongArch ELF psABI, "Relocations").
+/// bytes the nops have, and what they align to is the next power of two above it. With a symbol the
+/// addend's lowest 8 bits are the exponent of two of what they align to, whose nops are 4 bytes
+/// fewer. The other bits are the most bytes that may stay: its limit, if they are neither 0 nor as
+/// many as the nops (LoongArch ELF psABI, "Relocations").
 ///
 /// `Malformed` names the first relocation that lies behind the section's end, that is an
 /// `R_LARCH_CALL36` and less than eight bytes are there, or that is an `R_LARCH_ALIGN` whose addend
-/// is below 0, whose power of two is none or below 4, or whose nops reach past the section's end or
-/// have 2^32 bytes or more. The vector grows as items are added. `are_items` tells whether the run
+/// is below 0, whose exponent is below 2 or above 32, or whose nops aren't a multiple of 4, reach
+/// past the section's end or have 2^32 bytes or more. The vector grows as items are added. `are_items` tells whether the run
 /// can be relaxed.
 ///
 /// # Requires

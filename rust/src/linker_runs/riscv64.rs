@@ -3,9 +3,9 @@
 
 use alloc::vec::Vec;
 use crate::support::*;
-use crate::linker_runs::items::{ItemsError, NotAllowed, Relocation, has_bytes, is_marked};
+use crate::linker_runs::items::{ItemsError, NotAllowed, Relocation, has_bytes, is_marked, unsigned_addend};
 use crate::linker_relax::relaxation::{Alignment, Item, Shapes, Site};
-use crate::linker_relax::shapes::riscv64::{CALL, CALL_WITHOUT_C, TAIL_C};
+use crate::linker_relax::shapes::riscv64::{CALL, TAIL_C};
 use crate::riscv64::{LinkRegister, RiscVRelocation};
 
 /// Whether a relocation has a name.
@@ -24,13 +24,12 @@ fn is_of_call(relocation: &Relocation) -> bool {
 /// How many bytes of nops an `R_RISCV_ALIGN` has. None where they are not whole nops in the
 /// section.
 #[inline]
-fn nops_of(section: &[u8], relocation: &Relocation, c_extension: bool) -> Option<u32> {
+fn nops_of(section: &[u8], relocation: &Relocation) -> Option<u32> {
     if relocation.addend < 0 || relocation.addend > i64::from(u32::MAX) {
         return None;
     }
     let nops = relocation.addend as u32;
-    let nop_len = if c_extension { 2 } else { 4 };
-    if nops % nop_len == 0 && has_bytes(section, relocation.offset, u64::from(nops)) {
+    if nops % 2 == 0 && has_bytes(section, relocation.offset, u64::from(nops)) {
         Some(nops)
     } else {
         None
@@ -44,7 +43,44 @@ fn alignment_of(nops: u32, offset: u64) -> Alignment {
         offset,
         nops,
         power: (u64::from(nops) + 1).next_power_of_two(),
-        most: Some(u64::from(nops)),
+        most: None,
+    }
+}
+
+/// Whether a relocation is an `R_RISCV_ALIGN` that has nops.
+#[inline]
+fn aligns(relocation: &Relocation) -> bool {
+    has_name(relocation, RiscVRelocation::R_RISCV_ALIGN) && relocation.addend != 0
+}
+
+/// The index of the next alignment behind the relocation at an index, or how many relocations there
+/// are.
+fn next_alignment(relocations: &[Relocation], index: usize) -> usize {
+    for next in index + 1..relocations.len() {
+        if aligns(&relocations[next]) {
+            return next;
+        }
+    }
+    relocations.len()
+}
+
+/// What has to divide the address of the first of so many bytes of nops, so that they are enough: the
+/// least power of two that leaves no more to fill.
+#[inline]
+fn enough_at(nops: u64) -> u64 {
+    ((nops + 1).next_power_of_two() - nops).next_power_of_two()
+}
+
+/// Whether the relocation at an index may free so many bytes, and the next alignment, at an index,
+/// has its nops wherever it had them.
+#[inline]
+fn may_free(freed: u64, relocations: &[Relocation], index: usize, next: usize) -> bool {
+    if next >= relocations.len() {
+        return true;
+    }
+    match unsigned_addend(&relocations[next]) {
+        Some(nops) => freed % enough_at(nops) == 0,
+        None => true,
     }
 }
 
@@ -65,12 +101,16 @@ pub fn link_at(section: &[u8], offset: u64) -> Option<u32> {
     LinkRegister::OfJalr.named_at(section, offset)
 }
 
-/// What a call can become that links a register.
+/// What a call at an index can become that links a register.
 #[inline]
-fn shapes_of(link: u32, c_extension: bool) -> Shapes {
-    if !c_extension {
-        CALL_WITHOUT_C
-    } else if link == 0 {
+fn shapes_of(
+    link: u32,
+    section: &[u8],
+    relocations: &[Relocation],
+    index: usize,
+    next: usize,
+) -> Shapes {
+    if relocations[index].may_compress && link == 0 && may_free(6, relocations, index, next) {
         TAIL_C
     } else {
         CALL
@@ -84,7 +124,7 @@ fn site_at(
     base: u64,
     relocations: &[Relocation],
     index: usize,
-    c_extension: bool,
+    next: usize,
 ) -> Option<Site> {
     let relocation = &relocations[index];
     if !is_marked(
@@ -96,11 +136,14 @@ fn site_at(
     }
     let target = relocation.target?;
     let link = link_at(section, relocation.offset)?;
+    if !may_free(4, relocations, index, next) {
+        return None;
+    }
     Some(Site {
         offset: base + relocation.offset,
         len: 8,
         target,
-        shapes: shapes_of(link, c_extension),
+        shapes: shapes_of(link, section, relocations, index, next),
     })
 }
 
@@ -111,7 +154,7 @@ fn item_at(
     base: u64,
     relocations: &[Relocation],
     index: usize,
-    c_extension: bool,
+    next: usize,
 ) -> Result<Option<Item>, NotAllowed> {
     let relocation = &relocations[index];
     if !has_bytes(section, relocation.offset, 0) {
@@ -121,12 +164,12 @@ fn item_at(
         if !has_bytes(section, relocation.offset, 8) {
             return Err(NotAllowed);
         }
-        match site_at(section, base, relocations, index, c_extension) {
+        match site_at(section, base, relocations, index, next) {
             Some(site) => Ok(Some(Item::Site(site))),
             None => Ok(None),
         }
     } else if has_name(relocation, RiscVRelocation::R_RISCV_ALIGN) {
-        match nops_of(section, relocation, c_extension) {
+        match nops_of(section, relocation) {
             None => Err(NotAllowed),
             Some(0) => Ok(None),
             Some(nops) => Ok(Some(Item::Aligned(alignment_of(nops, base + relocation.offset)))),
@@ -141,15 +184,20 @@ fn item_at(
 ///
 /// `R_RISCV_CALL` and `R_RISCV_CALL_PLT` make a site where `R_RISCV_RELAX` is the next relocation,
 /// at the same offset, the target is in the run, and the bytes are `auipc` and `jalr` of one
-/// register. Its shapes are `TAIL_C` where the `jalr` links x0, and else `CALL`; `CALL_WITHOUT_C`
-/// for both where the C extension may not be used. `R_RISCV_ALIGN` makes an alignment, if there are
-/// nops: the addend is how many bytes they have, and the next power of two above it what they align
-/// to (RISC-V ELF psABI, "Linker Relaxation").
+/// register. Its shapes are `TAIL_C` where the `jalr` links x0 and the relocation's `may_compress` is
+/// set, and else `CALL`. `R_RISCV_ALIGN` makes an alignment without a limit, if there are nops: the
+/// addend is how many bytes they have, and the next power of two above it what they align to (RISC-V
+/// ELF psABI, "Linker Relaxation").
+///
+/// Where fewer nops stand before an alignment than it may need at any even address, as the 12 bytes
+/// that assemblers write for `.balign 16` in code without the C extension, the calls between it and the
+/// alignment before it free only multiples of what has to divide its address: then no call there has
+/// `TAIL_C`, and none is a site if that is more than 4.
 ///
 /// `Malformed` names the first relocation that lies behind the section's end, that is a call's and
-/// less than eight bytes are there, or that is an `R_RISCV_ALIGN` whose addend isn't a number of
-/// whole nops in the section below 2^32: multiples of 2, or of 4 where the C extension may not be
-/// used. The vector grows as items are added. `are_items` tells whether the run can be relaxed.
+/// less than eight bytes are there, or that is an `R_RISCV_ALIGN` whose addend isn't a multiple of 2
+/// from 0 up, below 2^32, of bytes in the section. The vector grows as items are added. `are_items`
+/// tells whether the run can be relaxed.
 ///
 /// # Requires
 ///
@@ -159,12 +207,15 @@ pub fn items(
     section: &[u8],
     base: u64,
     relocations: &[Relocation],
-    c_extension: bool,
 ) -> Result<Vec<Item>, ItemsError> {
     debug_assert!((base as u128) + (section.len() as u128) < 1 << 64);
     let mut items = Vec::new();
+    let mut next = 0;
     for index in 0..relocations.len() {
-        let Ok(made) = item_at(section, base, relocations, index, c_extension) else {
+        if next <= index {
+            next = next_alignment(relocations, index);
+        }
+        let Ok(made) = item_at(section, base, relocations, index, next) else {
             return Err(ItemsError::Malformed(index));
         };
         if let Some(item) = made {

@@ -1,11 +1,14 @@
 // Made by tools/erase of crates/linker_relax/src/relaxation/faults.rt.
 //! Which runs can be relaxed, and what is wrong with the others.
 
-use super::validity::{is_clear, run_unit};
+use super::validity::{has_its_nops, is_clear, run_unit};
 use super::{Alignment, Item, Shapes};
 
 /// Why a run can't be relaxed: what is wrong with one of its items. Of an item that has several
 /// faults, the one that comes first here is told. u is the greatest unit of all short shapes.
+///
+/// An alignment is *still* if it divides u, has no limit, and has the nops that its input address
+/// needs, and beside these a multiple of u. It keeps the same nops in each layout.
 #[cfg_attr(not(exhaustive), non_exhaustive)]
 #[derive(Debug, Clone, Copy, PartialEq, Eq, Hash)]
 pub enum Fault {
@@ -27,16 +30,18 @@ pub enum Fault {
     BadPower,
     /// A shape frees bytes that aren't a multiple of u.
     UnevenShape,
-    /// The alignment isn't a multiple of u.
+    /// The alignment isn't a multiple of u, nor still.
     PowerBelowUnit,
-    /// The address behind the nops isn't a multiple of u.
+    /// The address behind the nops isn't a multiple of u, and the alignment isn't still.
     UnevenEnd,
-    /// There are fewer nops than the alignment less u, and fewer than may stay.
+    /// It has a limit, and there are fewer nops than the alignment less u, and fewer than may stay.
     TooFewNops,
     /// It has a limit, and its nops aren't a multiple of u.
     UnevenNops,
     /// Its target is strictly inside the bytes that an item may lose.
     TargetInside,
+    /// It is an alignment without a limit, and in some layout more nops may be needed than there are.
+    MayBeMisaligned,
 }
 
 /// A faulty item of a run.
@@ -70,7 +75,9 @@ impl Shapes {
 impl Alignment {
     /// What is wrong with it in a run of a unit at an address.
     fn fault(&self, unit: u64, start: u64) -> Option<Fault> {
-        if self.power % unit != 0 {
+        if self.is_still(unit, start) {
+            None
+        } else if self.power % unit != 0 {
             Some(Fault::PowerBelowUnit)
         } else if (start + (self.offset + u64::from(self.nops))) % unit != 0 {
             Some(Fault::UnevenEnd)
@@ -132,10 +139,12 @@ fn run_fault(items: &[Item], start: u64, unit: u64, index: usize) -> Option<Faul
     if let Some(fault) = item.unit_fault(unit, start) {
         return Some(fault);
     }
-    if is_clear(items, start, item.target()) {
-        None
-    } else {
+    if !is_clear(items, start, item.target()) {
         Some(Fault::TargetInside)
+    } else if !has_its_nops(items, start, unit, index) {
+        Some(Fault::MayBeMisaligned)
+    } else {
+        None
     }
 }
 
@@ -182,9 +191,17 @@ pub fn first_faulty(items: &[Item], start: u64) -> Option<ItemFault> {
 /// short one reaches its own offset and no farther than the next short one; its unit is a power of
 /// two and a multiple of the next one's. With u the greatest unit of all short shapes each shape
 /// frees a multiple of u, and each alignment, a power of two, and the address behind its nops are
-/// multiples of u. There are as many nops as the alignment less u, or no more may stay than there
-/// are; where a number may stay, the nops are a multiple of u, too. No target is strictly inside
-/// the bytes that an item may lose.
+/// multiples of u; but an alignment may also divide u, have no limit and have the nops that its input
+/// address needs, and beside these a multiple of u. No target is strictly inside the bytes that an item may lose; that of a site
+/// without short shapes isn't asked for.
+///
+/// An alignment with a limit has as many nops as the alignment less u, or no more may stay than there
+/// are; its nops are a multiple of u. One without a limit has as many as it needs in every layout:
+/// as many as the alignment less u, or as many as it less w, where w is the least such power of two
+/// and divides the address of the first nop in every layout. It does if it divides the alignment
+/// without a limit before it, or the address `start`, and the bytes from there, and if what lies in
+/// between frees multiples of w: each shape of a site; an alignment with a limit where w divides
+/// the alignment, its nops and the bytes from there.
 ///
 /// It doesn't allocate, and takes O(n log n) for n items. `first_faulty` says what is wrong.
 #[must_use]

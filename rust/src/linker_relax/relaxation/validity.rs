@@ -77,14 +77,23 @@ impl Alignment {
         is_power_of_two(self.power)
     }
 
-    /// Whether it has as many nops as it may need in a run of a unit.
+    /// Whether it keeps the nops that its input address needs in each layout of a run of a unit.
+    pub(super) fn is_still(&self, unit: u64, start: u64) -> bool {
+        let nops = u64::from(self.nops);
+        let needed = self.needed_at(start + self.offset);
+        unit % self.power == 0
+            && self.most.is_none()
+            && needed <= nops
+            && (nops - needed) % unit == 0
+    }
+
+    /// Whether it has as many nops as it may need in a run of a unit, if it has a limit.
     pub(super) fn has_nops(&self, unit: u64) -> bool {
         let nops = u64::from(self.nops);
-        self.power.saturating_sub(nops) <= unit
-            || match self.most {
-                None => false,
-                Some(most) => most <= nops,
-            }
+        match self.most {
+            None => true,
+            Some(most) => self.power.saturating_sub(nops) <= unit || most <= nops,
+        }
     }
 
     /// Whether its nops are a multiple of a unit, if it has a limit.
@@ -111,6 +120,30 @@ impl Item {
         }
     }
 
+    /// Whether it aligns an offset behind it to a multiple of a number in every layout.
+    fn is_anchor(&self, number: u64, offset: u64) -> bool {
+        match self {
+            Item::Site(_) => false,
+            Item::Aligned(alignment) => {
+                alignment.most.is_none()
+                    && alignment.power % number == 0
+                    && (offset - (alignment.offset + u64::from(alignment.nops))) % number == 0
+            }
+        }
+    }
+
+    /// Whether it frees only multiples of a number that divides the address of an offset behind it.
+    fn frees_multiples(&self, number: u64, offset: u64) -> bool {
+        match self {
+            Item::Site(site) => site.shapes.are_even(number, u64::from(site.len)),
+            Item::Aligned(alignment) => {
+                (offset - alignment.offset) % number == 0
+                    && alignment.power % number == 0
+                    && u64::from(alignment.nops) % number == 0
+            }
+        }
+    }
+
     /// How many of its bytes stay in each choice.
     fn least_len(&self) -> u64 {
         match self {
@@ -133,4 +166,43 @@ pub(super) fn run_unit(items: &[Item], start: u64) -> u64 {
 pub(super) fn is_clear(items: &[Item], start: u64, offset: u64) -> bool {
     let place = place_of(items, offset, start);
     place == items.len() || offset.saturating_sub(items[place].offset()) <= items[place].least_len()
+}
+
+/// Whether a number divides the output address of the item at an index in every layout.
+fn is_always_multiple(items: &[Item], start: u64, number: u64, index: usize) -> bool {
+    let offset = items[index].offset();
+    for behind in 0..index {
+        let item = &items[index - 1 - behind];
+        if item.is_anchor(number, offset) {
+            return true;
+        }
+        if !item.frees_multiples(number, offset) {
+            return false;
+        }
+    }
+    (start + offset) % number == 0
+}
+
+/// Whether an alignment, the item at an index, has as many nops as it needs in every layout of a run
+/// of a unit.
+fn are_always_enough(
+    items: &[Item],
+    start: u64,
+    unit: u64,
+    index: usize,
+    alignment: &Alignment,
+) -> bool {
+    let unfilled = alignment.power.saturating_sub(u64::from(alignment.nops));
+    unfilled <= unit || is_always_multiple(items, start, unfilled.next_power_of_two(), index)
+}
+
+/// Whether the item at an index has as many nops as it needs in every layout of a run of a unit, if
+/// it is an alignment without a limit.
+pub(super) fn has_its_nops(items: &[Item], start: u64, unit: u64, index: usize) -> bool {
+    match &items[index] {
+        Item::Site(_) => true,
+        Item::Aligned(alignment) => {
+            alignment.most.is_some() || are_always_enough(items, start, unit, index, alignment)
+        }
+    }
 }

@@ -36,13 +36,6 @@ pub const TAIL_C: Shapes = Shapes {
     longest: 8,
 };
 
-/// `jal` where all instructions have four bytes.
-const JAL_WITHOUT_C: Shape = Shape { unit: 4, ..JAL };
-
-/// A call or a tail call where the C extension isn't used: all instructions have four bytes, so
-/// that distances are multiples of 4.
-pub const CALL_WITHOUT_C: Shapes = Shapes {
-    short: [JAL_WITHOUT_C, NONE],
-    count: 1,
-    longest: 8,
-};
+/// A call or a tail call where the C extension may not be used: a `jal` where it reaches, as of a
+/// call that links a register.
+pub const CALL_WITHOUT_C: Shapes = CALL;

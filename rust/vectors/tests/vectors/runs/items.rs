@@ -6,7 +6,7 @@ use linker_utils::runs::relaxation::{Item, are_items};
 use linker_utils::runs::{loongarch64, riscv64, shapes};
 
 fn relocation(offset: u64, code: u32, addend: i64, target: Option<u64>) -> Relocation {
-    Relocation { offset, code, has_symbol: false, addend, target }
+    Relocation { offset, code, has_symbol: false, addend, target, may_compress: true }
 }
 
 /// As `relocation`, with a symbol.
@@ -15,8 +15,8 @@ fn of_symbol(offset: u64, code: u32, addend: i64) -> Relocation {
 }
 
 /// Requires these items of a RISC-V section.
-fn expect_riscv(section: &[u8], relocations: &[Relocation], c_extension: bool, expected: &[Item]) {
-    let items = riscv64::items(section, 0x100, relocations, c_extension).unwrap();
+fn expect_riscv(section: &[u8], relocations: &[Relocation], expected: &[Item]) {
+    let items = riscv64::items(section, 0x100, relocations).unwrap();
     assert_eq!(items, expected);
 }
 
@@ -43,21 +43,40 @@ fn riscv_calls_and_alignments_are_items() {
         site(0x100, 0x900, shapes::riscv64::CALL),
         site(0x108, 0x900, shapes::riscv64::TAIL_C),
         site(0x110, 0x900, shapes::riscv64::CALL),
-        aligned(0x118, 14, 16, Some(14)),
+        aligned(0x118, 14, 16, None),
     ];
-    expect_riscv(&RISC_V, &relocations, true, &expected);
+    expect_riscv(&RISC_V, &relocations, &expected);
 }
 
 #[test]
 fn riscv_code_of_four_byte_instructions_has_no_short_ones() {
-    let relocations = [
-        relocation(8, 19, 0, Some(0x900)),
-        relocation(8, 51, 0, None),
-        relocation(24, 43, 12, None),
-    ];
+    let call = Relocation { may_compress: false, ..relocation(8, 19, 0, Some(0x900)) };
+    let relocations = [call, relocation(8, 51, 0, None), relocation(24, 43, 12, None)];
     let expected =
-        [site(0x108, 0x900, shapes::riscv64::CALL_WITHOUT_C), aligned(0x118, 12, 16, Some(12))];
-    expect_riscv(&RISC_V, &relocations, false, &expected);
+        [site(0x108, 0x900, shapes::riscv64::CALL_WITHOUT_C), aligned(0x118, 12, 16, None)];
+    expect_riscv(&RISC_V, &relocations, &expected);
+}
+
+/// `tail f`, `.option norvc` and `.balign 16`: assemblers write 12 bytes of nops, for a multiple of 4.
+/// With 8 bytes for 16 the address has to be a multiple of 8, and no call may become shorter. Where
+/// the next alignment is another, its nops count.
+#[test]
+fn riscv_calls_leave_the_next_alignment_its_nops() {
+    let tail = [relocation(8, 19, 0, Some(0x900)), relocation(8, 51, 0, None)];
+    let run = |addends: [i64; 2]| {
+        let [first, second] = addends.map(|addend| relocation(24, 43, addend, None));
+        riscv64::items(&RISC_V, 0x100, &[tail[0], tail[1], first, second]).unwrap()
+    };
+    let (call, c_j) = (shapes::riscv64::CALL, shapes::riscv64::TAIL_C);
+    assert_eq!(run([12, 14])[0], site(0x108, 0x900, call));
+    assert_eq!(run([14, 12])[0], site(0x108, 0x900, c_j));
+    assert_eq!(run([0, 12])[0], site(0x108, 0x900, call));
+    assert_eq!(run([8, 14])[0], aligned(0x118, 8, 16, None));
+    let items = run([12, 0]);
+    assert_eq!(items, [site(0x108, 0x900, call), aligned(0x118, 12, 16, None)]);
+    assert!(are_items(&items, 0));
+    // two bytes of the object's own before it are in the way
+    assert!(!are_items(&items, 2));
 }
 
 /// A call that isn't marked, one whose target isn't in the run, one marked at another place, and
@@ -74,22 +93,21 @@ fn riscv_calls_that_stay_are_left_out() {
         relocation(4, 51, 0, None),
         relocation(24, 43, 0, None),
     ];
-    expect_riscv(&RISC_V, &relocations, true, &[]);
+    expect_riscv(&RISC_V, &relocations, &[]);
 }
 
 #[test]
 fn malformed_riscv_relocations_are_named() {
-    let rows: [(Relocation, bool); 6] = [
-        (relocation(39, 2, 0, None), true),
-        (relocation(31, 19, 0, None), true),
-        (relocation(24, 43, 16, None), true),
-        (relocation(24, 43, 13, None), true),
-        (relocation(24, 43, -2, None), true),
-        (relocation(24, 43, 14, None), false),
+    let rows = [
+        relocation(39, 2, 0, None),
+        relocation(31, 19, 0, None),
+        relocation(24, 43, 16, None),
+        relocation(24, 43, 13, None),
+        relocation(24, 43, -2, None),
     ];
-    for &(malformed, c_extension) in &rows {
+    for &malformed in &rows {
         let relocations = [relocation(38, 51, 0, None), malformed];
-        let items = riscv64::items(&RISC_V, 0, &relocations, c_extension);
+        let items = riscv64::items(&RISC_V, 0, &relocations);
         assert_eq!(items.err(), Some(ItemsError::Malformed(1)), "{malformed:?}");
     }
 }
@@ -125,7 +143,7 @@ fn loongarch_calls_addresses_and_alignments_are_items() {
         site(0x100, 0x900, shapes::loongarch64::CALL36),
         site(0x108, 0x900, shapes::loongarch64::CALL36),
         site(0x110, 0x900, shapes::loongarch64::PCALA),
-        aligned(0x118, 12, 16, Some(12)),
+        aligned(0x118, 12, 16, None),
     ];
     expect_loongarch(&LOONGARCH, &relocations, &expected);
 }
@@ -134,7 +152,7 @@ fn loongarch_calls_addresses_and_alignments_are_items() {
 #[test]
 fn alignments_alone_are_a_run() {
     let relocations = [relocation(24, 43, 14, None)];
-    let riscv = riscv64::items(&[0; 40], 0x100, &relocations, true).unwrap();
+    let riscv = riscv64::items(&[0; 40], 0x100, &relocations).unwrap();
     assert!(are_items(&riscv, 0));
     let relocations = [relocation(24, 102, 12, None)];
     let loongarch = loongarch64::items(&[0; 40], 0x100, &relocations).unwrap();
@@ -145,11 +163,15 @@ fn alignments_alone_are_a_run() {
 /// above its 8 bits.
 #[test]
 fn loongarch_alignments_have_two_spellings() {
-    let rows: [(Relocation, Item); 4] = [
-        (relocation(24, 102, 12, None), aligned(0x118, 12, 16, Some(12))),
-        (relocation(24, 102, 4, None), aligned(0x118, 4, 8, Some(4))),
-        (of_symbol(24, 102, 4), aligned(0x118, 12, 16, Some(12))),
+    let rows = [
+        (relocation(24, 102, 12, None), aligned(0x118, 12, 16, None)),
+        (relocation(24, 102, 8, None), aligned(0x118, 8, 16, None)),
+        (relocation(24, 102, 4, None), aligned(0x118, 4, 8, None)),
+        (of_symbol(24, 102, 4), aligned(0x118, 12, 16, None)),
         (of_symbol(24, 102, 0x404), aligned(0x118, 12, 16, Some(4))),
+        (of_symbol(24, 102, 0xb04), aligned(0x118, 12, 16, Some(11))),
+        (of_symbol(24, 102, 0xc04), aligned(0x118, 12, 16, None)),
+        (of_symbol(24, 102, 0x1404), aligned(0x118, 12, 16, None)),
     ];
     for &(relocation, expected) in &rows {
         expect_loongarch(&LOONGARCH, &[relocation], &[expected]);
@@ -180,7 +202,7 @@ fn malformed_loongarch_relocations_are_named() {
     let rows = [
         relocation(37, 2, 0, None),
         relocation(32, 110, 0, None),
-        relocation(24, 102, 8, None),
+        relocation(24, 102, 6, None),
         relocation(28, 102, 12, None),
         relocation(24, 102, -4, None),
         of_symbol(24, 102, 5),

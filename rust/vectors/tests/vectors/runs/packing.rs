@@ -26,6 +26,23 @@ fn expect(
     assert_eq!(&packed[..bytes.len().min(len)], bytes);
 }
 
+/// Requires that an item behind all that end before it is rejected so.
+fn expect_rejected(
+    machine: Machine,
+    section: &[u8],
+    items: &[Item],
+    item: Item,
+    deltas: &[RelaxDelta],
+    error: ItemError,
+) {
+    let is_before = |other: &&Item| other.offset() + other.len() <= item.offset();
+    let mut items: Vec<Item> = items.iter().filter(is_before).copied().collect();
+    let rejected = RejectedItem { index: items.len(), error };
+    items.push(item);
+    let len = packed_run_len(0x100, section.len(), deltas);
+    expect(machine, section, &items, deltas, Err(rejected), &[0xee; 68][..len]);
+}
+
 /// The bytes of an item from its third one on are deleted.
 fn all_but_two(offset: u64, len: u32) -> [RelaxDelta; 1] {
     [RelaxDelta {
@@ -125,8 +142,10 @@ fn rejected_items_of_riscv_are_named() {
     let deltas = plan.deletions.deltas();
     let rows = [
         (aligned(0x128, 6, 8, None), ItemError::OutOfSection),
-        // from the `tail f` on, which is deleted but for its first two bytes
-        (site(0x110, 0x12a, CALL), ItemError::NotItsFirstBytes),
+        // the `tail f`, which is deleted but for its first two bytes, and the call behind it
+        (aligned(0x10c, 16, 16, None), ItemError::NotItsFirstBytes),
+        // from its last bytes on: the others are of no item
+        (site(0x110, 0x12a, CALL), ItemError::DeletedOutside),
         (site(0x10a, 0x12a, CALL), ItemError::NotItsInstructions),
         (site(0x118, 0x12a, CALL), ItemError::NotItsInstructions),
         // `j` over too many bytes, and over an odd number of them
@@ -135,12 +154,30 @@ fn rejected_items_of_riscv_are_named() {
     ];
     let machine = Machine::RiscV64;
     for &(item, error) in &rows {
-        let rejected = Err(RejectedItem { index: 1, error });
-        expect(machine, &RISC_V, &[items[1], item], deltas, rejected, &[0xee; 34]);
+        expect_rejected(machine, &RISC_V, &items[1..], item, deltas, error);
     }
     let overlaps = Err(RejectedItem { index: 2, error: ItemError::Overlaps });
     let twice = [items[1], items[2], items[2]];
     expect(machine, &RISC_V, &twice, deltas, overlaps, &[0xee; 34]);
+}
+
+/// Where an item is left out, half of its instructions would stay.
+#[test]
+fn items_that_lose_bytes_are_not_left_out() {
+    let items = riscv_items();
+    let plan = relax(&items, 0xff08).unwrap();
+    let deltas = plan.deletions.deltas();
+    let machine = Machine::RiscV64;
+    let missing = |index| Err(RejectedItem { index, error: ItemError::DeletedOutside });
+    expect(machine, &RISC_V, &items[2..], deltas, missing(0), &[0xee; 34]);
+    expect(machine, &RISC_V, &[items[1], items[3]], deltas, missing(1), &[0xee; 34]);
+    expect(machine, &RISC_V, &items[1..2], deltas, missing(1), &[0xee; 34]);
+    // the call that stays and the nops, which all stay, needn't be told
+    let without = [items[1], items[2]];
+    let mut packed = RISC_V_PACKED;
+    packed[10..18].copy_from_slice(&RISC_V[20..28]);
+    packed[18..32].copy_from_slice(&RISC_V[28..42]);
+    expect(machine, &RISC_V, &without, deltas, Ok(()), &packed);
 }
 
 #[test]
@@ -160,8 +197,7 @@ fn rejected_items_of_loongarch_are_named() {
     ];
     let machine = Machine::LoongArch64;
     for &(item, error) in &rows {
-        let rejected = Err(RejectedItem { index: 1, error });
-        expect(machine, &LOONGARCH, &[items[1], item], deltas, rejected, &[0xee; 52]);
+        expect_rejected(machine, &LOONGARCH, &items[1..], item, deltas, error);
     }
 }
 

@@ -106,10 +106,67 @@ fn items_are_rejected_among_the_others() {
     expect_fault(&items, 1, Fault::PowerBelowUnit);
     let items = [site(0, 0, pcala), aligned(10, 12, 16, None)];
     expect_fault(&items, 1, Fault::UnevenEnd);
-    let items = [site(0, 0, call), aligned(8, 12, 16, None)];
+    let items = [site(0, 0, call), aligned(8, 12, 16, Some(14))];
     expect_fault(&items, 1, Fault::TooFewNops);
     let items = [site(0, 0, pcala), aligned(10, 14, 16, Some(4))];
     expect_fault(&items, 1, Fault::UnevenNops);
     let items = [site(0, 0, fixed(6)), site(8, 0, pcala)];
     expect_fault(&items, 0, Fault::UnevenShape);
+}
+
+/// Where a site has nothing to reach, its target may be inside of what is deleted.
+#[test]
+fn targets_of_decided_deletions_mean_nothing() {
+    assert!(are_items(&[site(0, 6, fixed(4))], 0));
+    assert!(are_items(&[site(0, 0, riscv64::CALL), site(8, 6, fixed(4))], 0));
+}
+
+/// The 12 bytes of nops that assemblers write for `.option norvc` and `.balign 16` are enough at
+/// multiples of 4: behind a `jal`, but not behind a `c.j`, and not behind a `c.nop`. GNU ld and
+/// ld.lld reject the last: "12 bytes required for alignment to 16-byte boundary".
+#[test]
+fn fewer_nops_need_addresses_that_are_always_multiples() {
+    let (call, tail) = (riscv64::CALL, riscv64::TAIL_C);
+    let before = aligned(0, 14, 16, None);
+    for start in [0, 2] {
+        let run = |shapes, at| {
+            [aligned(0, 16 - 2, 16, None), site(14, 14, shapes), aligned(at, 12, 16, None)]
+        };
+        let start = start + 2;
+        assert!(are_items(&run(call, 22), start));
+        assert_eq!(first(&run(tail, 22), start), Some((2, Fault::MayBeMisaligned)));
+        assert_eq!(first(&run(call, 24), start), Some((2, Fault::MayBeMisaligned)));
+        assert!(are_items(&run(call, 26), start));
+    }
+    // the run's address aligns, too
+    let items = [site(0, 0, call), aligned(8, 12, 16, None)];
+    assert!(are_items(&items, 0x1000));
+    assert_eq!(first(&items, 0x1002), Some((1, Fault::MayBeMisaligned)));
+    // an alignment to 2 doesn't; one with a limit lets multiples through, if there are only such
+    let items = [before, aligned(14, 2, 2, None), site(16, 14, call), aligned(24, 12, 16, None)];
+    assert_eq!(first(&items, 2), Some((3, Fault::MayBeMisaligned)));
+    let items = [before, aligned(14, 4, 8, Some(4)), site(18, 14, call), aligned(26, 12, 16, None)];
+    assert!(are_items(&items, 2));
+    let items = [before, aligned(14, 6, 8, Some(4)), site(20, 14, call), aligned(28, 12, 16, None)];
+    assert_eq!(first(&items, 2), Some((3, Fault::MayBeMisaligned)));
+}
+
+fn first(items: &[Item], start: u64) -> Option<(usize, Fault)> {
+    first_faulty(items, start).map(|found| (found.index, found.fault))
+}
+
+/// An alignment below the unit keeps what its input address needs.
+#[test]
+fn alignments_below_the_unit_keep_their_nops() {
+    let pcala = loongarch64::PCALA;
+    for (offset, nops, power) in [(9, 1, 2), (9, 5, 2), (9, 0, 1), (9, 4, 1), (10, 0, 2)] {
+        let items = [site(0, 0, pcala), aligned(offset, nops, power, None)];
+        assert!(are_items(&items, 0), "{offset} {nops} {power}");
+        let plan = relax(&items, 0).unwrap();
+        assert_eq!(plan.kept[1], offset % power, "{offset} {nops} {power}");
+    }
+    for (offset, nops, power) in [(9, 2, 2), (9, 1, 1), (9, 0, 2), (10, 1, 2)] {
+        let items = [site(0, 0, pcala), aligned(offset, nops, power, None)];
+        assert_eq!(first(&items, 0), Some((1, Fault::PowerBelowUnit)), "{offset} {nops} {power}");
+    }
 }
