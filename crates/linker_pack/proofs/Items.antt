@@ -11,7 +11,7 @@ use Rattle.linker_relax.specs.declared.relaxation.Item.TheVariants.{Site, Aligne
 use Rattle.linker_relax.specs.Relaxing.{offset_of, len_of, end_of, item_at}
 use Rattle.linker_pack.specs.Sites.{IsInReach}
 use Rattle.linker_pack.specs.RiscVSites.{riscv_template, RiscVAccepts, RiscVCause}
-use Rattle.linker_pack.specs.Packing.{Section, packed_offset, kept_len, is_fixed, written_len, IsApart, IsInside, KeepsGap, gap_start, IsNotIn, ItemAccepts, ItemCause, ItemBecomes, IsWritable, IsUnwritable, IsCause, IsPackedRun}
+use Rattle.linker_pack.specs.Packing.{Section, packed_offset, kept_len, is_fixed, written_len, IsApart, IsInside, KeepsGap, gap_start, IsNotIn, ItemAccepts, ItemCause, ItemBecomes, IsWritable, IsUnwritable, IsCause, LosesItems, IsPackedRun}
 use Rattle.linker_pack.specs.Inner.Pieces.{piece_bytes, IsWhole, IsPieceOf}
 use Rattle.linker_pack.specs.Inner.Copying.{IsFilledTo}
 use Rattle.linker_pack.specs.Inner.Packing.{AreReady, IsWrittenTo}
@@ -277,9 +277,10 @@ module _ (machine : Machine) (s : Section) (items : List Item) (n at : ℕ) (p0 
   }
 
 -- with all items written, the section is packed
-pub written_end : (machine : Machine) (s : Section) (items : List Item) (n : ℕ) (p : List ℕ) → length items ≡ n → length p ≡ packed_offset s (s.base + length s.bytes) → IsWrittenTo machine s items n p → IsPackedRun machine s items p
-written_end machine s items n p past room all = record {
+pub written_end : (machine : Machine) (s : Section) (items : List Item) (n : ℕ) (p : List ℕ) → length items ≡ n → length p ≡ packed_offset s (s.base + length s.bytes) → LosesItems s items → IsWrittenTo machine s items n p → IsPackedRun machine s items p
+written_end machine s items n p past room lost all = record {
   len = room;
+  lost = lost;
   kept = λ q low kept off. all.kept q low kept (λ i h. off i (omega arith));
   written = λ i low free. all.written i (omega arith) free;
 }

@@ -88,6 +88,11 @@ abbrev pub KeepsEnd : Section → List Item → Type 0
 KeepsEnd s items =
     StayWhole s.deletions (gap_start s items (length items)) (s.base + length s.bytes)
 
+-- What the section loses is of its items.
+pub record LosesItems (s : Section) (items : List Item) : Type 0 where
+  pub gaps : (i : ℕ) → i < length items → KeepsGap s items i
+  pub end : KeepsEnd s items
+
 -- ---- nops
 
 unfoldable pub repeated : List ℕ → ℕ → List ℕ
@@ -124,12 +129,13 @@ abbrev pub IsNotIn : List (ℕ × ℕ) → ℕ → Item → Type 0
 IsNotIn deletions p item =
     offset_of item ≤ p → offset_of item + written_len deletions item ≤ p
 
--- The section's bytes that stay, in order, but for those of its items that are written anew: there
--- each site's instructions go, from the address where the site goes, to the one where its target
--- goes, or compute that, and each alignment has nops.
+-- The section's bytes that stay, in order, all those of no item among them, but for those of its
+-- items that are written anew: there each site's instructions go, from the address where the site
+-- goes, to the one where its target goes, or compute that, and each alignment has nops.
 pub record IsPackedRun (machine : Machine) (s : Section) (items : List Item) (packed : List ℕ)
     : Type 0 where
   pub len : length packed ≡ packed_offset s (s.base + length s.bytes)
+  pub lost : LosesItems s items
   pub kept : (p : ℕ) → p < length s.bytes → IsTrue (is_kept s.deletions (s.base + p))
       → ((i : ℕ) → i < length items → IsNotIn s.deletions (s.base + p) (item_at items i))
       → slice_index packed (packed_offset s (s.base + p)) ≡ slice_index s.bytes p

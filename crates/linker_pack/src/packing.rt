@@ -8,8 +8,8 @@ ghost use Rattle.linker_base.specs.Deltas.{deletions_of};
 ghost use Rattle.linker_base.specs.Listed.{AreValidDeltas};
 ghost use Rattle.linker_relax.specs.Relaxing.{item_at, offset_of, end_of};
 ghost use Rattle.linker_pack.specs.Packing.{section_of, kept_len, packed_offset, is_fixed};
-ghost use Rattle.linker_pack.specs.Packing.{IsApart, IsInside, gap_start, StayWhole, nop_len};
-ghost use Rattle.linker_pack.specs.Packing.{nops, repeated};
+ghost use Rattle.linker_pack.specs.Packing.{IsApart, IsInside, gap_start, StayWhole, KeepsEnd};
+ghost use Rattle.linker_pack.specs.Packing.{nop_len, nops, repeated};
 ghost use Rattle.linker_pack.specs.Packing.{IsPackedRun};
 ghost use Rattle.linker_pack.specs.Packing.{IsFirstRejected, SiteBecomes, SiteAccepts, SiteCause};
 ghost use Rattle.linker_pack.specs.Packing.{ItemCause};
@@ -301,7 +301,8 @@ fn test_items(
     ensures ok { AreValidDeltas deltas.now
         → OnOk result
         (AreReady machine (section_of section.now base (deletions_of deltas.now) start) items.now
-        (length items.now)) }
+        (length items.now)
+        × KeepsEnd (section_of section.now base (deletions_of deltas.now) start) items.now) }
     ensures err { AreValidDeltas deltas.now
         → IfErr result
         (IsFirstRejected machine (section_of section.now base (deletions_of deltas.now) start)
@@ -422,6 +423,7 @@ fn put_items(
         (base + length section.now)
         → AreReady machine (section_of section.now base (deletions_of deltas.now) start) items.now
         (length items.now)
+        → KeepsEnd (section_of section.now base (deletions_of deltas.now) start) items.now
         → IsFilled (deletions_of deltas.now) base section.now packed.old
         → IsPackedRun machine (section_of section.now base (deletions_of deltas.now) start)
         items.now packed.new }

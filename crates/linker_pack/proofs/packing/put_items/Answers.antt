@@ -14,7 +14,7 @@ loop-index-init c = λ valid room ready filled.
     written_start c.args.machine (section_of c.args.section.now c.args.base (deletions_of c.args.deltas.now) c.args.start) c.args.items.now c.args.packed.now filled
 
 pub returns-then-not-is_inside : goal.returns-then-not-is_inside
-returns-then-not-is_inside c = λ valid room ready filled.
+returns-then-not-is_inside c = λ valid room ready stays filled.
     let ds = deletions_of c.args.deltas.now in
     absurd (both_ways c.is_inside.result c.if-not-is_inside.true ((c.is_inside.ensures ds c.args.start).1 (ready c.loop-index.index (omega arith)).inside))
 
@@ -25,7 +25,7 @@ pub piece_of-requires-clause-to : goal.piece_of-requires-clause-to
 piece_of-requires-clause-to c = ((c.is_inside.ensures [] 0).0 c.if-not-is_inside.false).1
 
 pub returns-in-Err : goal.returns-in-Err
-returns-in-Err c = λ valid room ready filled.
+returns-in-Err c = λ valid room ready stays filled.
     let ds = deletions_of c.args.deltas.now in
     let s = section_of c.args.section.now c.args.base ds c.args.start in
     let rejected = c.in-Err.ensures.rejected valid in
@@ -53,7 +53,7 @@ loop-index-preserved c = λ valid room ready filled.
     (piece_becomes machine s (item_at items n) c.in-Ok.piece piece)
 
 pub returns : goal.returns
-returns c = λ valid room ready filled.
+returns c = λ valid room ready stays filled.
     let s = section_of c.args.section.now c.args.base (deletions_of c.args.deltas.now) c.args.start in
     let room' = c.loop-index.auto.packed ∙ room in
-    written_end c.args.machine s c.args.items.now c.loop-index.index c.loop-index.packed (omega arith) room' (c.loop-index.invariant valid room' ready filled)
+    written_end c.args.machine s c.args.items.now c.loop-index.index c.loop-index.packed (omega arith) room' (record { gaps = λ i within. (ready i within).gap; end = stays }) (c.loop-index.invariant valid room' ready filled)

@@ -1,10 +1,10 @@
-use Rattle.std.proofs.Common.{List, zero, suc, ◌≡◌, ◌+◌, ◌<◌, ◌≤◌, ℕ, length, [], inl, inr, refl, ap, sym, subst, arith, below_more}
-use Rattle.std.proofs.lemmas.Bool.{cases_lt, both_ways}
+use Rattle.std.proofs.Common.{List, zero, suc, ◌+◌, ◌<◌, ◌≤◌, ℕ, length, [], inl, sym, subst, arith, below_more}
+use Rattle.std.proofs.lemmas.Bool.{both_ways}
 use Rattle.linker_base.specs.Deltas.{deletions_of}
 use Rattle.linker_relax.specs.declared.relaxation.Item.{Item}
-use Rattle.linker_relax.specs.Relaxing.{item_at, offset_of, end_of}
+use Rattle.linker_relax.specs.Relaxing.{item_at, end_of}
 use Rattle.linker_pack.specs.Packing.{section_of, gap_start, StayWhole, CanWrite}
-use Rattle.linker_pack.proofs.Items.{cause_of, gap_below, end_below}
+use Rattle.linker_pack.proofs.Items.{cause_of, gap_below}
 use Rattle.linker_pack.proofs.packing.test_items.Goals as goal
 
 pub returns-then-not-is_apart-clause-err : goal.returns-then-not-is_apart-clause-err
@@ -38,8 +38,14 @@ returns-then-not-stay_whole-clause-err c = λ valid.
     let o = c.offset.ensures in
     record {
       before = c.loop-index.invariant.ready valid;
-      here = inl (c.loop-index-test.true, (c.is_apart.ensures.0 c.if-not-is_apart.false, (c.is_inside.ensures ds start).0 c.if-not-is_inside.false,
-          λ keeps. both_ways c.stay_whole.result c.if-not-stay_whole.true ((c.stay_whole.ensures valid).1 (subst (λ x. StayWhole ds x c.offset.result) (sym g) (subst (StayWhole ds (gap_start (section_of c.args.section.now c.args.base ds start) c.args.items.now c.loop-index.index)) (sym o) keeps)))));
+      here = inl (
+        c.loop-index-test.true,
+        (
+          c.is_apart.ensures.0 c.if-not-is_apart.false,
+          (c.is_inside.ensures ds start).0 c.if-not-is_inside.false,
+          λ keeps. both_ways c.stay_whole.result c.if-not-stay_whole.true ((c.stay_whole.ensures valid).1 (subst (λ x. StayWhole ds x c.offset.result) (sym g) (subst (StayWhole ds (gap_start (section_of c.args.section.now c.args.base ds start) c.args.items.now c.loop-index.index)) (sym o) keeps))),
+        ),
+      );
     }
 
 pub piece_of-requires-clause-from : goal.piece_of-requires-clause-from
