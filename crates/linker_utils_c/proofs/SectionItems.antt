@@ -14,7 +14,7 @@ use Rattle.linker_utils_c.specs.Relaxing.{item_of, items_in}
 
 -- what a read past the end gives
 abbrev pub no_numbers : SectionRelocation
-no_numbers = record { offset = 0; target = 0; addend = pos 0; r_type = 0; has_symbol = 0; has_target = 0 }
+no_numbers = record { offset = 0; target = 0; addend = pos 0; r_type = 0; has_symbol = 0; has_target = 0; may_compress = 0 }
 
 -- there are no more items than relocations
 pub made_few : (Makes : ℕ → Item → Type 0) (n : ℕ) (items : List Item) → AreMade Makes n items → length items ≤ n
