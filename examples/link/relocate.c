@@ -187,14 +187,22 @@ int64_t value_of(const struct output *o, const struct relocation *r) {
         .got_base = got->address + (machine == EM_PPC64 ? 0x8000 : 0),
         .symbol_size = s->elf.st_size,
         .tls_base = row->info.kind == LINKER_UTILS_KIND_TP_OFF ? tls.thread : tls.module};
+    bool is_nowhere = s->elf.st_shndx == SHN_UNDEF && rank(s) == 0; /* a weak symbol */
     if (is_low && of->entry) operands.symbol = entry;
-    if (!r->section && r->entry && r->entry->class != ADDRESS) /* a word of the GOT */
+    if (is_nowhere && (row->info.kind == LINKER_UTILS_KIND_TP_OFF ||
+                       row->info.kind == LINKER_UTILS_KIND_DTP_OFF))
+        operands.symbol = operands.tls_base; /* an offset of 0, as in ld.lld */
+    if (!is_nowhere && !r->section && r->entry && r->entry->class != ADDRESS) /* of the GOT */
         operands.addend -= (int64_t)(r->entry->class == THREAD_OFFSET ? tls.thread : tls.module);
-    if (row->may_use_plt && s->elf.st_shndx == SHN_UNDEF) {
-        /* a call of a weak symbol that nothing defines goes where ld.lld lets it go */
-        if (machine == EM_AARCH64 || machine == EM_RISCV ||
-            (machine == EM_PPC64 && r->type == R_PPC64_REL24))
-            operands.symbol = operands.place + (machine == EM_AARCH64 ? 4 : 0);
+    if (is_nowhere && machine == EM_AARCH64 &&
+        (row->info.kind == LINKER_UTILS_KIND_RELATIVE || row->may_use_plt)) {
+        /* it is where it is asked for, and behind a branch, as in ld.lld */
+        bool is_branch = row->may_use_plt && r->type != AARCH64_PLT32;
+        operands.symbol = operands.place + (is_branch ? 4 : 0);
+    } else if (is_nowhere && row->may_use_plt) {
+        /* a call of it goes where ld.lld lets it go */
+        if (machine == EM_RISCV || (machine == EM_PPC64 && r->type == R_PPC64_REL24))
+            operands.symbol = operands.place;
     } else if (row->may_use_plt && machine == EM_PPC64) {
         operands.symbol += PPC64_LOCAL_ENTRY_OFFSET(s->elf.st_other);
     }
@@ -208,20 +216,24 @@ int64_t value_of(const struct output *o, const struct relocation *r) {
     return value;
 }
 
-/* One of the relocations that together compute a ULEB128 number. */
-static void relocate_uleb128(const struct relocation *r, uint64_t value, uint8_t *bytes,
-                             uint64_t len) {
-    static uint64_t number;
+/* Computes a ULEB128 number by a pair of relocations, or on LoongArch, as in ld.lld, by one alone,
+ * modulo what the number's bytes hold. Returns whether the next relocation is of the pair. */
+static bool relocate_uleb128(const struct output *o, const struct relocation *r, bool is_last,
+                             uint8_t *bytes, uint64_t len) {
+    const struct relocation *next = r + 1;
     enum linker_utils_role role = row_of(r)->role;
-    size_t used;
-    if (role == LINKER_UTILS_ROLE_SUBTRACTS) {
-        check(r, linker_utils_write_uleb128(bytes, len, number - value));
-    } else {
-        number = 0;
-        if (role == LINKER_UTILS_ROLE_ADDS)
-            check(r, linker_utils_read_uleb128(bytes, len, &number, &used));
-        number += value;
-    }
+    bool is_pair = role != LINKER_UTILS_ROLE_SUBTRACTS && !is_last && next->section == r->section &&
+                   next->offset == r->offset && row_of(next)->role == LINKER_UTILS_ROLE_SUBTRACTS;
+    uint64_t number = 0, value = (uint64_t)value_of(o, r);
+    size_t used = 0;
+    if (!is_pair && machine == EM_RISCV) fail("%s has no other half", place_of(r));
+    if (role != LINKER_UTILS_ROLE_SETS)
+        check(r, linker_utils_read_uleb128(bytes, len, &number, &used));
+    number += role == LINKER_UTILS_ROLE_SUBTRACTS ? -value : value;
+    if (is_pair) number -= (uint64_t)value_of(o, next);
+    else if (used < 9) number &= (UINT64_C(1) << 7 * used) - 1;
+    check(r, linker_utils_write_uleb128(bytes, len, number));
+    return is_pair;
 }
 
 void relocate(struct output *o) {
@@ -235,13 +247,13 @@ void relocate(struct output *o) {
             row->info.kind == LINKER_UTILS_KIND_ALIGNMENT ||
             row->info.kind == LINKER_UTILS_KIND_TLS_DESC_CALL)
             continue;
-        int64_t value = value_of(o, r);
         uint64_t at = address_of(o, r->offset) - o->address;
         uint64_t len = (r->section ? address_of(o, r->section->end) - o->address : o->len) - at;
         if (row->role) {
-            relocate_uleb128(r, (uint64_t)value, o->bytes + at, len);
+            r += relocate_uleb128(o, r, r + 1 == end, o->bytes + at, len);
             continue;
         }
+        int64_t value = value_of(o, r);
         uint32_t status = linker_utils_relocate(machine, r->type, value, o->bytes + at, len);
         struct linker_utils_relocation_reach reach;
         if (status == LINKER_UTILS_OUT_OF_REACH && !linker_utils_reach(machine, r->type, &reach))
