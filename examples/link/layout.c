@@ -90,9 +90,7 @@ uint64_t make_room(struct output *o, uint64_t align, uint64_t len) {
 /* Says which section a section goes into, and what that one is like. */
 void add_section(struct section *s) {
     const Elf64_Shdr *head = s->head;
-    if (!(head->sh_flags & SHF_ALLOC) || head->sh_flags & SHF_EXCLUDE ||
-        head->sh_type == SHT_NOTE || s->is_duplicate)
-        return;
+    if (!(head->sh_flags & SHF_ALLOC) || head->sh_type == SHT_NOTE || s->is_discarded) return;
     bool has_bytes = head->sh_type != SHT_NOBITS, is_code = head->sh_flags & SHF_EXECINSTR;
     struct output *o = s->output = output_of(s->name);
     if (o == got || o == slots || o == stubs || o == irelatives || o == index_of || o == headers ||

@@ -87,7 +87,7 @@ struct section {
     const Elf64_Shdr *head, *relocations; /* null where it has none */
     struct output *output;                /* null where it is left out */
     uint64_t offset, end;                 /* in the output */
-    bool is_duplicate;                    /* of a group that another object has too */
+    bool is_discarded; /* SHF_EXCLUDE, or of a group that an earlier object has too */
     bool has_lone_got_halves; /* AArch64: not all `adrp` and `ldr` of GOT entries are pairs */
     uint8_t *words_kept; /* PowerPC64, `.toc`: 1 for a doubleword that not only `ld`s refer to */
 };

@@ -48,7 +48,7 @@ static void read_group(struct object *o, const Elf64_Shdr *head, const char *sec
     for (size_t i = 1; i < len; i++) {
         if (words[i] >= o->sections_len)
             fail("%s: %s: a group of a section that is not there", o->path, section);
-        o->sections[words[i]].is_duplicate |= !is_kept;
+        o->sections[words[i]].is_discarded |= !is_kept;
     }
 }
 
@@ -72,7 +72,7 @@ static void read_symbols(struct object *o, const Elf64_Shdr *head) {
             fail("%s: %s: '%s' is thread-local in a section that is not", o->path,
                  o->sections[at].name, s->name);
         if (type == STT_SECTION && has_section) s->name = o->sections[at].name;
-        if (bind == STB_WEAK && has_section && o->sections[at].is_duplicate) s->elf.st_shndx = 0;
+        if (bind == STB_WEAK && has_section && o->sections[at].is_discarded) s->elf.st_shndx = 0;
         if (bind == STB_LOCAL) o->symbols[i] = s;
         else if (s->elf.st_shndx != SHN_UNDEF) o->symbols[i] = resolve(s);
     }
@@ -114,7 +114,8 @@ static void read_object(const char *path, const uint8_t *bytes, size_t len) {
     o->sections = take(o->sections_len, sizeof *o->sections);
     for (size_t i = 0; i < o->sections_len; i++) {
         const Elf64_Shdr *s = &o->heads[i];
-        o->sections[i] = (struct section){o, text_at(o, head.e_shstrndx, s->sh_name), .head = s};
+        o->sections[i] = (struct section){o, text_at(o, head.e_shstrndx, s->sh_name), .head = s,
+                                          .is_discarded = s->sh_flags & SHF_EXCLUDE};
         if (s->sh_type != SHT_NOBITS && (s->sh_offset > len || s->sh_size > len - s->sh_offset))
             fail("%s: %s: it ends too early", path, o->sections[i].name);
     }

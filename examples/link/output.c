@@ -49,18 +49,18 @@ static int32_t in_index(const struct section *s, uint64_t address) {
  * row for each: the function's address and that of its record. */
 uint64_t read_frames(const struct section *s, const uint8_t *bytes, uint8_t *rows) {
     uint64_t count = 0, len = s->head->sh_size;
-    uint8_t *is_cie = take(len, 1);
-    uint32_t size, back;
+    uint8_t *is_cie = rows ? take(len, 1) : NULL; /* whether one begins at an offset */
+    uint32_t size, back, cie_len;
     for (uint64_t at = 0, next; at + 4 <= len; at = next) {
         memcpy(&size, bytes + at, 4);
         next = at + 4 + size;
         if (!size) continue;
         if (next > len || size < 8) fail("%s: %s: it ends too early", s->object->path, s->name);
         memcpy(&back, bytes + at + 4, 4);
-        if (!back) is_cie[at] = true;
-        if (!back) continue;
-        uint64_t place = frames->address + s->offset + at, cie = at + 4 - back;
-        uint32_t cie_len;
+        count += !rows && back;
+        if (rows && !back) is_cie[at] = true;
+        if (!rows || !back) continue;
+        uint64_t place = frames->address + s->offset + at, cie = at + 4 - back, address = 0;
         if (back > at + 4 || !is_cie[cie])
             fail("%s: %s: a record without its CIE", s->object->path, s->name);
         memcpy(&cie_len, bytes + cie, 4);
@@ -68,9 +68,6 @@ uint64_t read_frames(const struct section *s, const uint8_t *bytes, uint8_t *row
         bool is_short = (encoding & 7) == 3;
         if (encoding & 0xe0 || (!is_short && (encoding & 3 || size < 12)))
             fail("%s: %s: such addresses are not supported", s->object->path, s->name);
-        count += !rows;
-        if (!rows) continue;
-        uint64_t address = 0;
         memcpy(&address, bytes + at + 8, is_short ? 4 : 8);
         if (!address) continue; /* of a function that is left out */
         if (is_short && encoding & 8) address = (uint64_t)(int32_t)address;
@@ -111,14 +108,17 @@ static int by_address(const void *left, const void *right) {
     return a->rank < b->rank ? -1 : a->rank > b->rank;
 }
 
-static uint8_t *file_bytes;
-static size_t file_len, file_room;
+/* The parts of the file, by their offsets. Between them are zeros. */
+static struct {
+    uint64_t offset, len;
+    const void *bytes;
+} parts[sizeof outputs / sizeof *outputs + 5];
+static size_t parts_len;
 
-/* Puts bytes at an offset of the file. */
 static void put(uint64_t offset, const void *bytes, uint64_t len) {
-    if (offset + len > file_len) file_len = offset + len;
-    file_bytes = grow(file_bytes, file_len, &file_room, 1);
-    memcpy(file_bytes + offset, bytes, len);
+    parts[parts_len].offset = offset;
+    parts[parts_len].len = len;
+    parts[parts_len++].bytes = bytes;
 }
 
 static Elf64_Phdr loads[sizeof outputs / sizeof *outputs + 3], *load = loads - 1;
@@ -219,16 +219,21 @@ static void put_symbols(uint64_t offset, Elf64_Ehdr *head) {
     put(head->e_shoff, section_heads, head->e_shnum * sizeof *section_heads);
 }
 
-/* Writes the file once all of it is known. One that is there already stays what it is: a device or
+/* Writes the parts, once all are known. A file that is there already stays what it is: a device or
  * a pipe is written to. Only an ordinary one is made executable. */
-static void write_bytes(const char *path) {
+static void write_parts(const char *path) {
     struct stat status;
     FILE *file = fopen(path, "wb");
+    uint64_t end = 0;
     if (!file) fail("%s: can't be written", path);
-    bool is_written = fwrite(file_bytes, 1, file_len, file) == file_len &&
-                      !fstat(fileno(file), &status) &&
-                      (!S_ISREG(status.st_mode) || !fchmod(fileno(file), 0755));
-    if (fclose(file) || !is_written) fail("%s: can't be written", path);
+    for (size_t i = 0; i < parts_len; i++) {
+        for (; end < parts[i].offset; end++) putc(0, file);
+        fwrite(parts[i].bytes, 1, parts[i].len, file);
+        end += parts[i].len;
+    }
+    bool is_ordinary = !fstat(fileno(file), &status) && S_ISREG(status.st_mode);
+    bool holds = !ferror(file) && (!is_ordinary || !fchmod(fileno(file), 0755));
+    if (fclose(file) || !holds) fail("%s: can't be written", path);
 }
 
 void write_file(const char *path, uint64_t entry, bool has_symbols) {
@@ -241,6 +246,8 @@ void write_file(const char *path, uint64_t entry, bool has_symbols) {
     uint64_t end = 0, offset = headers->len ? 0 : PAGE, align = PAGE, image = 0, len;
     if (headers->len && (machine == EM_X86_64 || machine == EM_RISCV)) align = 0x1000;
     qsort(outputs, outputs_len, sizeof *outputs, by_address);
+    put(0, &head, sizeof head);
+    put(sizeof head, loads, 0); /* (how many there are is said below) */
     for (size_t i = 0; i < outputs_len; i++) {
         struct output *o = outputs[i];
         uint64_t bytes = o->has_bytes ? o->len : 0;
@@ -261,7 +268,7 @@ void write_file(const char *path, uint64_t entry, bool has_symbols) {
         load->p_filesz = load->p_memsz;
         offset = load->p_offset + load->p_memsz;
         if (o->index) section_heads[o->index].sh_offset = offset - bytes;
-        put(offset - bytes, o->bytes, bytes);
+        if (o != headers) put(offset - bytes, o->bytes, bytes);
     }
     if (tls.len) add_part(PT_TLS, tls.image, image, tls.len, tls.align);
     len = index_of->len;
@@ -272,7 +279,6 @@ void write_file(const char *path, uint64_t entry, bool has_symbols) {
     if (headers->len && sizeof head + head.e_phnum * sizeof *loads > headers->len)
         fail("too many segments");
     if (has_symbols) put_symbols(offset, &head);
-    put(0, &head, sizeof head);
-    put(sizeof head, loads, head.e_phnum * sizeof *loads);
-    write_bytes(path);
+    parts[1].len = head.e_phnum * sizeof *loads;
+    write_parts(path);
 }

@@ -19,14 +19,14 @@ const struct row *row_of(const struct relocation *r) {
     return row;
 }
 
-/* Whether a relocation's symbol is in a section that isn't linked, where that is nothing wrong: of
- * functions that other objects have too, the tables that are beside them are left unset. */
+/* Whether a relocation's symbol is in a discarded section, where that is nothing wrong: in tables
+ * beside functions that other objects have too, it is left unset. */
 bool is_left_out(const struct relocation *r) {
     const struct symbol *s = r->symbol;
     if (!r->section || s->output || !s->elf.st_shndx || s->elf.st_shndx >= SHN_LORESERVE)
         return false;
     const char *name = r->section->output->name;
-    return s->object->sections[s->elf.st_shndx].is_duplicate &&
+    return s->object->sections[s->elf.st_shndx].is_discarded &&
            (r->section->output == frames || !strcmp(name, ".gcc_except_table") ||
             !strcmp(name, ".toc"));
 }

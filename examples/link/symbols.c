@@ -24,13 +24,13 @@ bool is_first_group(const char *name) {
     return true;
 }
 
-/* Which of two mentions of a symbol counts: the higher, and else the first. A definition in a group
- * that an earlier object has too counts less than any other, but no member is loaded for it. */
+/* Which of two mentions of a symbol counts: the higher, and else the first. A definition in a
+ * discarded section counts less than any other, but no member is loaded for it. */
 int rank(const struct symbol *s) {
     bool is_weak = ELF64_ST_BIND(s->elf.st_info) == STB_WEAK;
     uint16_t at = s->elf.st_shndx;
     if (at == SHN_UNDEF) return !is_weak;
-    if (at < SHN_LORESERVE && s->object->sections[at].is_duplicate) return 2;
+    if (at < SHN_LORESERVE && s->object->sections[at].is_discarded) return 2;
     return at == SHN_COMMON ? 4 : is_weak ? 3 : 5;
 }
 
