@@ -54,6 +54,10 @@ static void rewrite_aarch64(struct output *o, struct relocation *page, struct re
     if (last == LINKER_UTILS_AARCH64_REWRITE_ADRP_ADD_TO_NOP_ADR) page->type = R_AARCH64_NONE;
 }
 
+static bool is_undefined_weak(const struct symbol *s) {
+    return s->elf.st_shndx == SHN_UNDEF && ELF64_ST_BIND(s->elf.st_info) == STB_WEAK;
+}
+
 static int by_offset(const void *left, const void *right) {
     const struct relocation *a = left, *b = right;
     return a->offset < b->offset ? -1 : a->offset > b->offset;
@@ -133,14 +137,14 @@ static struct linker_utils_link_facts facts_of(const struct output *o,
                                                const struct relocation *high,
                                                const struct relocation *r) {
     const struct symbol *s = high->symbol;
-    bool is_load = high->type == R_RISCV_GOT_HI20;
+    bool is_load = high->type == R_RISCV_GOT_HI20, is_nowhere = !is_load && is_undefined_weak(s);
     return (struct linker_utils_link_facts){
-        .is_local = s->output != NULL, .has_fixed_distance = 1, .is_executable = 1,
+        .is_local = s->output != NULL || is_nowhere, .has_fixed_distance = 1, .is_executable = 1,
         .has_got_high_part = is_load, .has_addresses = 1,
         .is_marked = is_load && is_marked(o, high) && is_marked(o, r),
-        .operands = {.symbol = address_of(s->output, s->offset), .addend = high->addend,
-                     .place = address_of(o, high->offset), .tls_base = tls.thread,
-                     .got_entry = NO_ENTRY}};
+        .operands = {.symbol = is_nowhere ? tls.thread : address_of(s->output, s->offset),
+                     .addend = high->addend, .place = address_of(o, high->offset),
+                     .tls_base = tls.thread, .got_entry = NO_ENTRY}};
 }
 
 /* RISC-V: TLS descriptors become offsets from the thread pointer, and loads from the GOT sums, if
@@ -181,19 +185,20 @@ int64_t value_of(const struct output *o, const struct relocation *r) {
     if (!s->output && s->elf.st_shndx && s->elf.st_shndx < SHN_LORESERVE)
         fail("%s: '%s' is in a section that is left out", place_of(r), s->name);
     uint64_t entry = of->entry ? address_of(got, of->entry->offset) : 0;
+    bool is_nowhere = is_undefined_weak(s);
+    bool is_word = !r->section && r->entry && r->entry->class != ADDRESS; /* of the GOT */
+    bool is_of_thread = row->info.kind == LINKER_UTILS_KIND_TP_OFF ||
+                        (is_word && r->entry->class == THREAD_OFFSET);
+    uint64_t origin = is_of_thread ? tls.thread : tls.module;
     struct linker_utils_operands operands = {
         .symbol = address_of(s->output, s->offset), .addend = of->addend,
         .place = address_of(o, of->offset), .got_entry = entry,
         .got_base = got->address + (machine == EM_PPC64 ? 0x8000 : 0),
-        .symbol_size = s->elf.st_size,
-        .tls_base = row->info.kind == LINKER_UTILS_KIND_TP_OFF ? tls.thread : tls.module};
-    bool is_nowhere = s->elf.st_shndx == SHN_UNDEF && rank(s) == 0; /* a weak symbol */
+        .symbol_size = s->elf.st_size, .tls_base = origin};
     if (is_low && of->entry) operands.symbol = entry;
-    if (is_nowhere && (row->info.kind == LINKER_UTILS_KIND_TP_OFF ||
-                       row->info.kind == LINKER_UTILS_KIND_DTP_OFF))
-        operands.symbol = operands.tls_base; /* an offset of 0, as in ld.lld */
-    if (!is_nowhere && !r->section && r->entry && r->entry->class != ADDRESS) /* of the GOT */
-        operands.addend -= (int64_t)(r->entry->class == THREAD_OFFSET ? tls.thread : tls.module);
+    if (is_nowhere && (is_of_thread || is_word || row->info.kind == LINKER_UTILS_KIND_DTP_OFF))
+        operands.symbol = is_of_thread ? tls.thread : tls.image; /* as in ld.lld */
+    if (is_word) operands.addend -= (int64_t)origin;
     if (is_nowhere && machine == EM_AARCH64 &&
         (row->info.kind == LINKER_UTILS_KIND_RELATIVE || row->may_use_plt)) {
         /* it is where it is asked for, and behind a branch, as in ld.lld */
@@ -201,7 +206,8 @@ int64_t value_of(const struct output *o, const struct relocation *r) {
         operands.symbol = operands.place + (is_branch ? 4 : 0);
     } else if (is_nowhere && row->may_use_plt) {
         /* a call of it goes where ld.lld lets it go */
-        if (machine == EM_RISCV || (machine == EM_PPC64 && r->type == R_PPC64_REL24))
+        if (machine == EM_RISCV || (machine == EM_PPC64 && (r->type == R_PPC64_REL24 ||
+                                                            r->type == R_PPC64_REL14)))
             operands.symbol = operands.place;
     } else if (row->may_use_plt && machine == EM_PPC64) {
         operands.symbol += PPC64_LOCAL_ENTRY_OFFSET(s->elf.st_other);
