@@ -74,9 +74,8 @@ struct object {
     const uint8_t *bytes;
     const Elf64_Shdr *heads;
     struct section *sections; /* one for each head */
-    struct symbol **symbols;
-    struct symbol *mentions;  /* what it says itself of its symbols */
-    struct object *below;     /* in the stack of those that are being read */
+    struct symbol **symbols, *mentions; /* as all objects say; as it says itself */
+    struct object *below;               /* in the stack of those that are being read */
     size_t len, sections_len, symbols_len, resolved_len;
     bool has_other_low_halves; /* PowerPC64: not all can be over the TOC pointer */
 };
@@ -103,9 +102,9 @@ struct symbol {
     const struct object *object; /* null where only an index of an archive names it */
     const char *name;
     Elf64_Sym elf;
-    struct symbol *next, *later;          /* in its bucket; as objects mention them */
-    struct archive *archive;              /* which can define it; null where none can */
-    uint64_t member, offset;              /* in the archive; in the output */
+    struct symbol *next, *later; /* in its bucket; as objects mention them */
+    struct archive *archive;     /* which can define it; null where none can */
+    uint64_t member, offset;     /* in the archive; in the output */
     struct output *output; /* null where the address is absolute, and where nothing defines it */
     struct entry *entries; /* in the GOT */
     struct symbol *thunks; /* to it */
