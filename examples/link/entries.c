@@ -95,6 +95,15 @@ static bool is_ifunc(const struct symbol *s) {
     return ELF64_ST_TYPE(s->elf.st_info) == STT_GNU_IFUNC && is_defined(s);
 }
 
+/* Whether a rewrite may take where a symbol is: in the linked file, or, of a weak thread-local
+ * variable that nothing defines, at the thread pointer. */
+static bool is_here(const struct symbol *s) {
+    bool is_thread_local = ELF64_ST_TYPE(s->elf.st_info) == STT_TLS;
+    if (!is_defined(s)) return is_thread_local && rank(s) == 0;
+    return (relaxes || is_thread_local) &&
+           (s->output || s == module_base || s->elf.st_shndx != SHN_ABS);
+}
+
 /* PowerPC64: what the symbol says of the TOC pointer. 1: it may be lost; above 1: it is needed. */
 static unsigned toc_of(const struct symbol *s) {
     return machine == EM_PPC64 && is_defined(s) ? s->elf.st_other >> 5 : 0;
@@ -184,16 +193,15 @@ void read_relocations(struct section *s) {
         if (i && choices[i - 1].modifier == LINKER_UTILS_MODIFIER_SKIP_NEXT_RELOCATION) r->type = 0;
         choices[i] = (struct linker_utils_choice){.rewrite = UINT32_MAX, .relocation = r->type};
         const struct symbol *of = r->symbol;
-        bool is_here = is_defined(of) && of->elf.st_shndx != SHN_ABS;
-        if (!relaxes && ELF64_ST_TYPE(of->elf.st_info) != STT_TLS) is_here = false;
         if (!is_code || !r->type || waits(row_of(r), elf + i, i + 1 < len ? elf + i + 1 : NULL))
             continue;
         if (machine == EM_PPC64) note_low_half(r, bytes, size);
         if (is_notoc_mark(r, i + 1 < len ? elf + i + 1 : NULL)) continue;
+        bool is_known = is_here(of);
         struct linker_utils_link_facts facts = {
-            .is_local = is_here, .has_fixed_address = is_here, .has_fixed_distance = is_here,
-            .is_executable = 1, .has_local_exec_base = 1, .operands.addend = r->addend};
-        facts.may_change_toc = is_ifunc(of) || toc_of(of) == 1;
+            .is_local = is_known, .has_fixed_address = is_known, .has_fixed_distance = is_known,
+            .is_executable = 1, .has_local_exec_base = 1, .operands.addend = r->addend,
+            .may_change_toc = is_ifunc(of) || toc_of(of) == 1};
         check(r, linker_utils_choose(machine, r->type, bytes, size, elf[i].r_offset, &facts,
                                      &choices[i]));
     }
@@ -209,7 +217,7 @@ void read_relocations(struct section *s) {
         }
         r->type = choices[i].relocation;
         const struct row *row = row_of(r);
-        if (r->symbol != *o->symbols && row->info.kind && rank(&r->symbol->elf) == 1)
+        if (r->symbol != *o->symbols && row->info.kind && rank(r->symbol) == 1)
             fail("%s: undefined symbol '%s'", place_of(r), r->symbol->name);
         if (row->info.kind == LINKER_UTILS_KIND_ALIGNMENT && !s->output->shrinks)
             fail("%s is not supported", place_of(r));
@@ -277,13 +285,14 @@ static struct symbol *thunk_to(struct output *o, struct symbol *target, int64_t 
     return t;
 }
 
-/* Adds a thunk for each branch that doesn't reach its target, and for each call on PowerPC64 of
+/* Adds a thunk for each branch in code that doesn't reach its target, and on PowerPC64 for calls of
  * code that uses the TOC otherwise. Whether it has added one: then addresses change. */
 bool add_thunks(void) {
     bool has_added = false;
     for (size_t i = 0; i < outputs_len && code_of(false); i++) {
         struct output *o = outputs[i];
-        for (size_t j = 0, len = o->relocations_len; j < len; j++) {
+        size_t len = o->flags & SHF_EXECINSTR ? o->relocations_len : 0;
+        for (size_t j = 0; j < len; j++) {
             struct relocation *r = &o->relocations[j];
             struct symbol *s = r->symbol;
             if (!r->section || !row_of(r)->may_use_plt || row_of(r)->loads_plt || s->is_thunk ||

@@ -90,7 +90,7 @@ uint64_t make_room(struct output *o, uint64_t align, uint64_t len) {
 /* Says which section a section goes into, and what that one is like. */
 void add_section(struct section *s) {
     const Elf64_Shdr *head = s->head;
-    if (!(head->sh_flags & SHF_ALLOC) || head->sh_type == SHT_NOTE || s->is_duplicate) return;
+    if (!(head->sh_flags & SHF_ALLOC) || head->sh_type == SHT_NOTE || s->is_discarded) return;
     bool has_bytes = head->sh_type != SHT_NOBITS, is_code = head->sh_flags & SHF_EXECINSTR;
     struct output *o = s->output = output_of(s->name);
     if (o == got || o == slots || o == stubs || o == irelatives || o == index_of || o == headers ||
@@ -256,6 +256,8 @@ void set_addresses(void) {
     if (machine == EM_X86_64) tls.thread += round_up(tls.len, align);
     if (machine == EM_PPC64) tls.module += 0x8000;
     if (machine == EM_RISCV) tls.module += 0x800;
+    /* on x86-64 the offsets in the module's block become those from the thread pointer */
+    if (module_base) module_base->offset = machine == EM_X86_64 ? tls.thread : tls.module;
 }
 
 uint64_t address_of(const struct output *o, uint64_t offset) {

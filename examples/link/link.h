@@ -33,7 +33,7 @@
 /* relocation types that older versions of <elf.h> lack */
 enum { LARCH_PCALA_HI20 = 71, LARCH_PCALA_LO12 = 72, LARCH_RELAX = 100, LARCH_ALIGN = 102 };
 enum { LARCH_CALL36 = 110, PPC64_REL24_NOTOC = 116 };
-enum { RISCV_TLSDESC_HI20 = 62, RISCV_TLSDESC_CALL = 65 };
+enum { RISCV_TLSDESC_HI20 = 62, RISCV_TLSDESC_CALL = 65, AARCH64_PLT32 = 314 };
 
 /* the order of the sections of the linked file; there are three kinds of arrays */
 enum { RANK_HEADERS, RANK_FIXED, RANK_CODE, RANK_TLS, RANK_TLS_BSS, RANK_ARRAYS, RANK_RELOCATED = 8,
@@ -74,9 +74,9 @@ struct object {
     const uint8_t *bytes;
     const Elf64_Shdr *heads;
     struct section *sections; /* one for each head */
-    struct symbol **symbols;
-    size_t len, sections_len, symbols_len;
-    int place; /* which argument it is of */
+    struct symbol **symbols, *mentions; /* as all objects say; as it says itself */
+    struct object *below;               /* in the stack of those that are being read */
+    size_t len, sections_len, symbols_len, resolved_len;
     bool has_other_low_halves; /* PowerPC64: not all can be over the TOC pointer */
 };
 
@@ -86,7 +86,7 @@ struct section {
     const Elf64_Shdr *head, *relocations; /* null where it has none */
     struct output *output;                /* null where it is left out */
     uint64_t offset, end;                 /* in the output */
-    bool is_duplicate;                    /* of a group that another object has too */
+    bool is_discarded; /* SHF_EXCLUDE, or of a group that an earlier object has too */
     bool has_lone_got_halves; /* AArch64: not all `adrp` and `ldr` of GOT entries are pairs */
     uint8_t *words_kept; /* PowerPC64, `.toc`: 1 for a doubleword that not only `ld`s refer to */
 };
@@ -102,9 +102,9 @@ struct symbol {
     const struct object *object; /* null where only an index of an archive names it */
     const char *name;
     Elf64_Sym elf;
-    struct symbol *next, *later, *wanted; /* in its bucket; as objects mention them; to be loaded */
-    struct archive *archive;              /* which can define it; null where none can */
-    uint64_t member, offset;              /* in the archive; in the output */
+    struct symbol *next, *later; /* in its bucket; as objects mention them */
+    struct archive *archive;     /* which can define it; null where none can */
+    uint64_t member, offset;     /* in the archive; in the output */
     struct output *output; /* null where the address is absolute, and where nothing defines it */
     struct entry *entries; /* in the GOT */
     struct symbol *thunks; /* to it */
@@ -150,8 +150,9 @@ struct tls {
 extern uint16_t machine;
 extern uint32_t machine_flags;
 extern bool relaxes; /* whether instructions are rewritten that need not be */
-extern struct object *objects; /* in the order of the arguments */
+extern struct object *objects; /* in the order in which they are read */
 extern struct symbol *symbols; /* all that objects mention, in their order */
+extern struct symbol *module_base; /* `_TLS_MODULE_BASE_`; null where no object asks for it */
 extern struct output *outputs[256], *headers, *got, *stubs, *slots, *irelatives, *frames, *index_of;
 extern size_t outputs_len;
 extern struct tls tls;
@@ -163,13 +164,13 @@ void check(const struct relocation *r, uint32_t status);
 const struct row *row_of(const struct relocation *r);
 
 void *copy_table(const struct object *o, const Elf64_Shdr *head, size_t size, size_t *len);
-void read_file(const char *path, int place), load_member(struct archive *a, uint64_t offset);
+void read_file(const char *path), load_member(struct archive *a, uint64_t offset);
 
 struct symbol **global(const char *name), *resolve(struct symbol *s);
-int rank(const Elf64_Sym *s);
+int rank(const struct symbol *s);
 void offer(const char *name, struct archive *a, uint64_t member);
 bool is_first_group(const char *name);
-void load_members(void), list_symbols(void), define_symbols(void), place_symbol(struct symbol *s);
+void list_symbols(void), define_symbols(void), place_symbol(struct symbol *s);
 
 struct output *output_of(const char *name);
 struct relocation *add_relocations(struct output *o, size_t len);

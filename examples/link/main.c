@@ -77,7 +77,7 @@ int main(int argc, char **argv) {
         } else if (!strcmp(argv[i], "-o") && argv[i + 1]) {
             path = argv[++i];
         } else {
-            read_file(argv[i], i);
+            read_file(argv[i]);
         }
     }
     if (!path || !objects)

@@ -2,6 +2,8 @@
 #include "link.h"
 
 struct object *objects;
+static struct object **objects_end = &objects;
+static struct object *reading; /* a stack of those whose undefined symbols are to be looked up */
 
 /* Ends with an error of an object, where something does not hold of it. */
 static void demand(const struct object *o, bool holds, const char *otherwise) {
@@ -46,14 +48,14 @@ static void read_group(struct object *o, const Elf64_Shdr *head, const char *sec
     for (size_t i = 1; i < len; i++) {
         if (words[i] >= o->sections_len)
             fail("%s: %s: a group of a section that is not there", o->path, section);
-        o->sections[words[i]].is_duplicate |= !is_kept;
+        o->sections[words[i]].is_discarded |= !is_kept;
     }
 }
 
 static void read_symbols(struct object *o, const Elf64_Shdr *head) {
     demand(o, !o->symbols, "two tables of symbols");
     const Elf64_Sym *elf = copy_table(o, head, sizeof *elf, &o->symbols_len);
-    struct symbol *s = take(o->symbols_len, sizeof *s);
+    struct symbol *s = o->mentions = take(o->symbols_len, sizeof *s);
     o->symbols = take(o->symbols_len, sizeof *o->symbols);
     for (size_t i = 0; i < o->symbols_len; i++, elf++, s++) {
         uint16_t at = elf->st_shndx;
@@ -70,19 +72,35 @@ static void read_symbols(struct object *o, const Elf64_Shdr *head) {
             fail("%s: %s: '%s' is thread-local in a section that is not", o->path,
                  o->sections[at].name, s->name);
         if (type == STT_SECTION && has_section) s->name = o->sections[at].name;
-        if (bind != STB_LOCAL && has_section && o->sections[at].is_duplicate) s->elf.st_shndx = 0;
-        o->symbols[i] = bind == STB_LOCAL ? s : resolve(s);
+        if (bind == STB_WEAK && has_section && o->sections[at].is_discarded) s->elf.st_shndx = 0;
+        if (bind == STB_LOCAL) o->symbols[i] = s;
+        else if (s->elf.st_shndx != SHN_UNDEF) o->symbols[i] = resolve(s);
+    }
+    o->below = reading;
+    reading = o;
+}
+
+/* Looks up the undefined symbols of all objects that are being read. Where one of them loads a
+ * member, those of the member come first, as in ld.lld. */
+static void resolve_all(void) {
+    for (struct object *o; (o = reading);) {
+        size_t i = o->resolved_len;
+        if (i == o->symbols_len) {
+            reading = o->below;
+            continue;
+        }
+        o->resolved_len++;
+        if (!o->symbols[i]) o->symbols[i] = resolve(&o->mentions[i]);
     }
 }
 
-/* Reads an object, and puts it behind the others of the same and of earlier arguments. */
-static void read_object(const char *path, const uint8_t *bytes, size_t len, int place) {
+/* Reads an object, and puts it behind the others. */
+static void read_object(const char *path, const uint8_t *bytes, size_t len) {
     Elf64_Ehdr head;
-    struct object *o = take(1, sizeof *o), **before = &objects;
-    *o = (struct object){.path = path, .bytes = bytes, .len = len, .place = place};
-    while (*before && (*before)->place <= place) before = &(*before)->next;
-    o->next = *before;
-    *before = o;
+    struct object *o = take(1, sizeof *o);
+    *o = (struct object){.path = path, .bytes = bytes, .len = len};
+    *objects_end = o;
+    objects_end = &o->next;
     memcpy(&head, bytes_at(o, 0, sizeof head), sizeof head);
     demand(o, !memcmp(head.e_ident, ELFMAG "\2\1", 6) && head.e_type == ET_REL && head.e_shnum,
            "not a relocatable object of little-endian ELF64");
@@ -96,7 +114,8 @@ static void read_object(const char *path, const uint8_t *bytes, size_t len, int 
     o->sections = take(o->sections_len, sizeof *o->sections);
     for (size_t i = 0; i < o->sections_len; i++) {
         const Elf64_Shdr *s = &o->heads[i];
-        o->sections[i] = (struct section){o, text_at(o, head.e_shstrndx, s->sh_name), .head = s};
+        o->sections[i] = (struct section){o, text_at(o, head.e_shstrndx, s->sh_name), .head = s,
+                                          .is_discarded = s->sh_flags & SHF_EXCLUDE};
         if (s->sh_type != SHT_NOBITS && (s->sh_offset > len || s->sh_size > len - s->sh_offset))
             fail("%s: %s: it ends too early", path, o->sections[i].name);
     }
@@ -139,7 +158,7 @@ void load_member(struct archive *a, uint64_t offset) {
     size_t path_len = strlen(a->file.path) + (size_t)text_len + 3;
     char *path = take(path_len, 1);
     snprintf(path, path_len, "%s(%.*s)", a->file.path, text_len, text);
-    read_object(path, a->file.bytes + offset + 60, len, a->file.place);
+    read_object(path, a->file.bytes + offset + 60, len);
 }
 
 static uint64_t big_endian(const uint8_t *bytes, size_t len) {
@@ -148,7 +167,7 @@ static uint64_t big_endian(const uint8_t *bytes, size_t len) {
     return number;
 }
 
-/* Offers what the index of an archive names. */
+/* Offers what the index of an archive names. A member that is needed already is read at once. */
 static void read_archive(struct object file) {
     struct archive *a = take(1, sizeof *a);
     const uint8_t *index = NULL;
@@ -180,23 +199,24 @@ static void read_archive(struct object file) {
             memcmp(file.bytes + member + 58, "`\n", 2))
             fail("%s: the index points nowhere for '%.200s'", file.path, text);
         offer(text, a, member);
+        resolve_all();
         text = next + 1;
     }
 }
 
-void read_file(const char *path, int place) {
+void read_file(const char *path) {
     FILE *file = fopen(path, "rb");
     long len = file && !fseek(file, 0, SEEK_END) ? ftell(file) : -1;
     if (len < 0 || (uint64_t)len > MOST_BYTES) fail("%s: can't be read", path);
     rewind(file);
     uint8_t *bytes = take((uint64_t)len + 1, 1);
-    struct object o = {.path = path, .bytes = bytes, .place = place};
+    struct object o = {.path = path, .bytes = bytes};
     o.len = fread(bytes, 1, (size_t)len, file);
     fclose(file);
     demand(&o, memcmp(bytes, "!<thin>\n", o.len < 8 ? o.len : 8) || o.len < 8, "a thin archive");
     if (o.len >= 8 && !memcmp(bytes, "!<arch>\n", 8))
         read_archive(o);
     else
-        read_object(path, bytes, o.len, place);
-    load_members();
+        read_object(path, bytes, o.len);
+    resolve_all();
 }

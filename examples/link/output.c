@@ -3,55 +3,76 @@
 
 struct output *frames, *index_of, *headers;
 
-/* Goes past a ULEB128 or SLEB128 number. */
+/* Goes past a ULEB128 or SLEB128 number; past the end where it doesn't end before that. */
 static uint64_t past_number(const uint8_t *bytes, uint64_t at, uint64_t len) {
     while (at < len && bytes[at] & 0x80) at++;
-    return at < len ? at + 1 : len;
+    return at < len ? at + 1 : len + 1;
 }
 
 /* How a CIE says that its functions' addresses are written. */
-static uint8_t encoding_of(const uint8_t *bytes, uint64_t len) {
-    static const uint8_t sizes[8] = {8, 8, 2, 4, 8, 8, 8, 8};
+static uint8_t encoding_of(const struct section *s, const uint8_t *bytes, uint64_t len) {
+    static const uint8_t sizes[8] = {8, 0, 2, 4, 8}; /* of what a personality is written as */
     const char *text = (const char *)bytes + 9;
     uint64_t at = len > 9 ? 10 + strnlen(text, len - 9) : len;
-    if (at >= len || *text != 'z') return 0;
+    uint8_t encoding = 0, size, version = len > 8 ? bytes[8] : 0;
+    bool holds = at < len && (version == 1 || version == 3);
     at = past_number(bytes, past_number(bytes, at, len), len); /* the two factors */
-    at = past_number(bytes, past_number(bytes, at, len), len); /* the register, and the length */
-    for (text++; *text && *text != 'R' && at < len; text++)
-        at += *text == 'P' ? 1u + sizes[bytes[at] & 7] : *text == 'L';
-    return *text == 'R' && at < len ? bytes[at] : 0;
+    at = version == 1 ? at + 1 : past_number(bytes, at, len);  /* the register */
+    for (; holds && *text; text++) {
+        uint8_t byte = at < len ? bytes[at] : 0;
+        if (*text == 'z') {
+            at = past_number(bytes, at, len);
+        } else if (*text == 'P') {
+            size = sizes[byte & 7];
+            holds = size && (byte & 0x70) != 0x50; /* (not aligned) */
+            at += 1 + size;
+        } else if (*text == 'R' || *text == 'L') {
+            if (*text == 'R') encoding = byte;
+            at++;
+        } else {
+            holds = strchr("BGS", *text);
+        }
+    }
+    if (!holds || at > len) fail("%s: %s: a malformed CIE", s->object->path, s->name);
+    return encoding;
+}
+
+/* The offset from `.eh_frame_hdr` of an address that a section of unwind information has. */
+static int32_t in_index(const struct section *s, uint64_t address) {
+    int64_t offset = (int64_t)(address - index_of->address);
+    if (offset != (int32_t)offset)
+        fail("%s: %s: .eh_frame_hdr doesn't reach 0x%" PRIx64, s->object->path, s->name, address);
+    return (int32_t)offset;
 }
 
 /* Counts the records of functions in a section of unwind information. If there is a table, writes a
  * row for each: the function's address and that of its record. */
 uint64_t read_frames(const struct section *s, const uint8_t *bytes, uint8_t *rows) {
     uint64_t count = 0, len = s->head->sh_size;
-    uint32_t size, back;
+    uint8_t *is_cie = rows ? take(len, 1) : NULL; /* whether one begins at an offset */
+    uint32_t size, back, cie_len;
     for (uint64_t at = 0, next; at + 4 <= len; at = next) {
         memcpy(&size, bytes + at, 4);
         next = at + 4 + size;
         if (!size) continue;
         if (next > len || size < 8) fail("%s: %s: it ends too early", s->object->path, s->name);
         memcpy(&back, bytes + at + 4, 4);
-        if (!back) continue; /* a CIE */
-        count += !rows;
-        if (!rows) continue;
-        uint64_t place = frames->address + s->offset + at, cie = at + 4 - back;
-        uint32_t cie_len = UINT32_MAX;
-        if (back <= at + 4) memcpy(&cie_len, bytes + cie, 4);
-        if (cie + 4 + cie_len > at)
+        count += !rows && back;
+        if (rows && !back) is_cie[at] = true;
+        if (!rows || !back) continue;
+        uint64_t place = frames->address + s->offset + at, cie = at + 4 - back, address = 0;
+        if (back > at + 4 || !is_cie[cie])
             fail("%s: %s: a record without its CIE", s->object->path, s->name);
-        uint8_t encoding = encoding_of(bytes + cie, 4 + (uint64_t)cie_len);
-        bool is_short = (encoding & 3) == 3;
-        int64_t address = 0;
-        if (encoding & 0x60 || (!is_short && size < 12))
+        memcpy(&cie_len, bytes + cie, 4);
+        uint8_t encoding = encoding_of(s, bytes + cie, 4 + (uint64_t)cie_len);
+        bool is_short = (encoding & 7) == 3;
+        if (encoding & 0xe0 || (!is_short && (encoding & 3 || size < 12)))
             fail("%s: %s: such addresses are not supported", s->object->path, s->name);
         memcpy(&address, bytes + at + 8, is_short ? 4 : 8);
         if (!address) continue; /* of a function that is left out */
-        if (is_short) address = (int32_t)address;
-        if (encoding & 0x10) address += (int64_t)place + 8;
-        int32_t row[2] = {(int32_t)(address - (int64_t)index_of->address),
-                          (int32_t)(place - index_of->address)};
+        if (is_short && encoding & 8) address = (uint64_t)(int32_t)address;
+        if (encoding & 0x10) address += place + 8;
+        int32_t row[2] = {in_index(s, address), in_index(s, place)};
         memcpy(rows + 8 * count++, row, sizeof row);
     }
     return count;
@@ -75,6 +96,8 @@ void index_frames(void) {
     uint32_t head[3] = {0x3b031b01, (uint32_t)(frames->address - index_of->address - 4),
                         (uint32_t)count};
     if (!index_of->len) return;
+    if ((int64_t)(frames->address - index_of->address - 4) != (int32_t)head[1])
+        fail(".eh_frame_hdr doesn't reach .eh_frame");
     memcpy(index_of->bytes, head, sizeof head);
     qsort(index_of->bytes + sizeof head, count, 8, by_function);
 }
@@ -83,6 +106,19 @@ static int by_address(const void *left, const void *right) {
     const struct output *a = *(struct output *const *)left, *b = *(struct output *const *)right;
     if (a->address != b->address) return a->address < b->address ? -1 : 1;
     return a->rank < b->rank ? -1 : a->rank > b->rank;
+}
+
+/* The parts of the file, by their offsets. Between them are zeros. */
+static struct {
+    uint64_t offset, len;
+    const void *bytes;
+} parts[sizeof outputs / sizeof *outputs + 5];
+static size_t parts_len;
+
+static void put(uint64_t offset, const void *bytes, uint64_t len) {
+    parts[parts_len].offset = offset;
+    parts[parts_len].len = len;
+    parts[parts_len++].bytes = bytes;
 }
 
 static Elf64_Phdr loads[sizeof outputs / sizeof *outputs + 3], *load = loads - 1;
@@ -135,6 +171,7 @@ static Elf64_Sym symbol_of(const struct symbol *s) {
     elf.st_name = add_name(s->name);
     elf.st_value = address_of(o, s->offset);
     if (is_local(s)) elf.st_info = ELF64_ST_INFO(STB_LOCAL, type);
+    if (s == module_base) elf.st_value -= tls.image;
     if (!o) return elf;
     if (elf.st_shndx < SHN_LORESERVE) { /* less is left of code that shrinks */
         elf.st_size = address_of(o, s->offset + elf.st_size) - elf.st_value;
@@ -147,8 +184,8 @@ static Elf64_Sym symbol_of(const struct symbol *s) {
     return elf;
 }
 
-/* Writes the objects' symbols, local ones first, and the section headers behind the segments. */
-static void write_symbols(FILE *file, uint64_t offset, Elf64_Ehdr *head) {
+/* Puts the objects' symbols, local ones first, and the section headers behind the segments. */
+static void put_symbols(uint64_t offset, Elf64_Ehdr *head) {
     size_t len = 1, room = 0, locals = 0, table = section_heads_len;
     Elf64_Sym *all = grow(NULL, 1, &room, sizeof *all);
     memset(all, 0, sizeof *all);
@@ -177,11 +214,26 @@ static void write_symbols(FILE *file, uint64_t offset, Elf64_Ehdr *head) {
     head->e_shentsize = sizeof *section_heads;
     head->e_shnum = (uint16_t)(table + 2);
     head->e_shstrndx = (uint16_t)(table + 1);
-    fseek(file, (long)start, SEEK_SET);
-    fwrite(all, sizeof *all, len, file);
-    fwrite(names, 1, names_len, file);
-    fseek(file, (long)head->e_shoff, SEEK_SET);
-    fwrite(section_heads, sizeof *section_heads, head->e_shnum, file);
+    put(start, all, len * sizeof *all);
+    put(text, names, names_len);
+    put(head->e_shoff, section_heads, head->e_shnum * sizeof *section_heads);
+}
+
+/* Writes the parts, once all are known. A file that is there already stays what it is: a device or
+ * a pipe is written to. Only an ordinary one is made executable. */
+static void write_parts(const char *path) {
+    struct stat status;
+    FILE *file = fopen(path, "wb");
+    uint64_t end = 0;
+    if (!file) fail("%s: can't be written", path);
+    for (size_t i = 0; i < parts_len; i++) {
+        for (; end < parts[i].offset; end++) putc(0, file);
+        fwrite(parts[i].bytes, 1, parts[i].len, file);
+        end += parts[i].len;
+    }
+    bool is_ordinary = !fstat(fileno(file), &status) && S_ISREG(status.st_mode);
+    bool holds = !ferror(file) && (!is_ordinary || !fchmod(fileno(file), 0755));
+    if (fclose(file) || !holds) fail("%s: can't be written", path);
 }
 
 void write_file(const char *path, uint64_t entry, bool has_symbols) {
@@ -193,16 +245,15 @@ void write_file(const char *path, uint64_t entry, bool has_symbols) {
     head.e_phentsize = sizeof *loads;
     uint64_t end = 0, offset = headers->len ? 0 : PAGE, align = PAGE, image = 0, len;
     if (headers->len && (machine == EM_X86_64 || machine == EM_RISCV)) align = 0x1000;
-    FILE *file = fopen(path, "wb");
-    if (!file) fail("%s: can't be written", path);
     qsort(outputs, outputs_len, sizeof *outputs, by_address);
+    put(0, &head, sizeof head);
+    put(sizeof head, loads, 0); /* (how many there are is said below) */
     for (size_t i = 0; i < outputs_len; i++) {
         struct output *o = outputs[i];
         uint64_t bytes = o->has_bytes ? o->len : 0;
         if (o->flags & SHF_TLS && bytes) image = o->address + o->len - tls.image;
         if (o->len && o != headers) add_head(o, offset);
         if (!o->len || (o->flags & SHF_TLS && !bytes)) continue;
-        if (o->address < end) remove(path);
         if (o->address < end) fail("section %s overlaps the one before it", o->name);
         uint32_t flags = PF_R | (o->flags & SHF_WRITE ? PF_W : 0u);
         flags |= o->flags & SHF_EXECINSTR ? PF_X : 0u;
@@ -217,8 +268,7 @@ void write_file(const char *path, uint64_t entry, bool has_symbols) {
         load->p_filesz = load->p_memsz;
         offset = load->p_offset + load->p_memsz;
         if (o->index) section_heads[o->index].sh_offset = offset - bytes;
-        fseek(file, (long)(offset - bytes), SEEK_SET);
-        fwrite(o->bytes, 1, bytes, file);
+        if (o != headers) put(offset - bytes, o->bytes, bytes);
     }
     if (tls.len) add_part(PT_TLS, tls.image, image, tls.len, tls.align);
     len = index_of->len;
@@ -228,9 +278,7 @@ void write_file(const char *path, uint64_t entry, bool has_symbols) {
     head.e_phnum = (uint16_t)(load + 1 - loads);
     if (headers->len && sizeof head + head.e_phnum * sizeof *loads > headers->len)
         fail("too many segments");
-    if (has_symbols) write_symbols(file, offset, &head);
-    rewind(file);
-    fwrite(&head, sizeof head, 1, file);
-    fwrite(loads, sizeof *loads, head.e_phnum, file);
-    if (ferror(file) | fclose(file) || chmod(path, 0755)) fail("%s: can't be written", path);
+    if (has_symbols) put_symbols(offset, &head);
+    parts[1].len = head.e_phnum * sizeof *loads;
+    write_parts(path);
 }

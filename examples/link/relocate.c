@@ -19,14 +19,14 @@ const struct row *row_of(const struct relocation *r) {
     return row;
 }
 
-/* Whether a relocation's symbol is in a section that isn't linked, where that is nothing wrong: of
- * functions that other objects have too, the tables that are beside them are left unset. */
+/* Whether a relocation's symbol is in a discarded section, where that is nothing wrong: in tables
+ * beside functions that other objects have too, it is left unset. */
 bool is_left_out(const struct relocation *r) {
     const struct symbol *s = r->symbol;
     if (!r->section || s->output || !s->elf.st_shndx || s->elf.st_shndx >= SHN_LORESERVE)
         return false;
     const char *name = r->section->output->name;
-    return s->object->sections[s->elf.st_shndx].is_duplicate &&
+    return s->object->sections[s->elf.st_shndx].is_discarded &&
            (r->section->output == frames || !strcmp(name, ".gcc_except_table") ||
             !strcmp(name, ".toc"));
 }
@@ -52,6 +52,10 @@ static void rewrite_aarch64(struct output *o, struct relocation *page, struct re
     if (is_of_got) rewrite(low, bytes, len, &next, &low->addend, &low->type, &facts);
     uint32_t last = rewrite(low, bytes, len, &next, &low->addend, &low->type, &facts);
     if (last == LINKER_UTILS_AARCH64_REWRITE_ADRP_ADD_TO_NOP_ADR) page->type = R_AARCH64_NONE;
+}
+
+static bool is_undefined_weak(const struct symbol *s) {
+    return s->elf.st_shndx == SHN_UNDEF && ELF64_ST_BIND(s->elf.st_info) == STB_WEAK;
 }
 
 static int by_offset(const void *left, const void *right) {
@@ -133,14 +137,14 @@ static struct linker_utils_link_facts facts_of(const struct output *o,
                                                const struct relocation *high,
                                                const struct relocation *r) {
     const struct symbol *s = high->symbol;
-    bool is_load = high->type == R_RISCV_GOT_HI20;
+    bool is_load = high->type == R_RISCV_GOT_HI20, is_nowhere = !is_load && is_undefined_weak(s);
     return (struct linker_utils_link_facts){
-        .is_local = s->output != NULL, .has_fixed_distance = 1, .is_executable = 1,
+        .is_local = s->output != NULL || is_nowhere, .has_fixed_distance = 1, .is_executable = 1,
         .has_got_high_part = is_load, .has_addresses = 1,
         .is_marked = is_load && is_marked(o, high) && is_marked(o, r),
-        .operands = {.symbol = address_of(s->output, s->offset), .addend = high->addend,
-                     .place = address_of(o, high->offset), .tls_base = tls.thread,
-                     .got_entry = NO_ENTRY}};
+        .operands = {.symbol = is_nowhere ? tls.thread : address_of(s->output, s->offset),
+                     .addend = high->addend, .place = address_of(o, high->offset),
+                     .tls_base = tls.thread, .got_entry = NO_ENTRY}};
 }
 
 /* RISC-V: TLS descriptors become offsets from the thread pointer, and loads from the GOT sums, if
@@ -181,20 +185,30 @@ int64_t value_of(const struct output *o, const struct relocation *r) {
     if (!s->output && s->elf.st_shndx && s->elf.st_shndx < SHN_LORESERVE)
         fail("%s: '%s' is in a section that is left out", place_of(r), s->name);
     uint64_t entry = of->entry ? address_of(got, of->entry->offset) : 0;
+    bool is_nowhere = is_undefined_weak(s);
+    bool is_word = !r->section && r->entry && r->entry->class != ADDRESS; /* of the GOT */
+    bool is_of_thread = row->info.kind == LINKER_UTILS_KIND_TP_OFF ||
+                        (is_word && r->entry->class == THREAD_OFFSET);
+    uint64_t origin = is_of_thread ? tls.thread : tls.module;
     struct linker_utils_operands operands = {
         .symbol = address_of(s->output, s->offset), .addend = of->addend,
         .place = address_of(o, of->offset), .got_entry = entry,
         .got_base = got->address + (machine == EM_PPC64 ? 0x8000 : 0),
-        .symbol_size = s->elf.st_size,
-        .tls_base = row->info.kind == LINKER_UTILS_KIND_TP_OFF ? tls.thread : tls.module};
+        .symbol_size = s->elf.st_size, .tls_base = origin};
     if (is_low && of->entry) operands.symbol = entry;
-    if (!r->section && r->entry && r->entry->class != ADDRESS) /* a word of the GOT */
-        operands.addend -= (int64_t)(r->entry->class == THREAD_OFFSET ? tls.thread : tls.module);
-    if (row->may_use_plt && s->elf.st_shndx == SHN_UNDEF) {
-        /* a call of a weak symbol that nothing defines goes where ld.lld lets it go */
-        if (machine == EM_AARCH64 || machine == EM_RISCV ||
-            (machine == EM_PPC64 && r->type == R_PPC64_REL24))
-            operands.symbol = operands.place + (machine == EM_AARCH64 ? 4 : 0);
+    if (is_nowhere && (is_of_thread || is_word || row->info.kind == LINKER_UTILS_KIND_DTP_OFF))
+        operands.symbol = is_of_thread ? tls.thread : tls.image; /* as in ld.lld */
+    if (is_word) operands.addend -= (int64_t)origin;
+    if (is_nowhere && machine == EM_AARCH64 &&
+        (row->info.kind == LINKER_UTILS_KIND_RELATIVE || row->may_use_plt)) {
+        /* it is where it is asked for, and behind a branch, as in ld.lld */
+        bool is_branch = row->may_use_plt && r->type != AARCH64_PLT32;
+        operands.symbol = operands.place + (is_branch ? 4 : 0);
+    } else if (is_nowhere && row->may_use_plt) {
+        /* a call of it goes where ld.lld lets it go */
+        if (machine == EM_RISCV || (machine == EM_PPC64 && (r->type == R_PPC64_REL24 ||
+                                                            r->type == R_PPC64_REL14)))
+            operands.symbol = operands.place;
     } else if (row->may_use_plt && machine == EM_PPC64) {
         operands.symbol += PPC64_LOCAL_ENTRY_OFFSET(s->elf.st_other);
     }
@@ -208,20 +222,24 @@ int64_t value_of(const struct output *o, const struct relocation *r) {
     return value;
 }
 
-/* One of the relocations that together compute a ULEB128 number. */
-static void relocate_uleb128(const struct relocation *r, uint64_t value, uint8_t *bytes,
-                             uint64_t len) {
-    static uint64_t number;
+/* Computes a ULEB128 number by a pair of relocations, or on LoongArch, as in ld.lld, by one alone,
+ * modulo what the number's bytes hold. Returns whether the next relocation is of the pair. */
+static bool relocate_uleb128(const struct output *o, const struct relocation *r, bool is_last,
+                             uint8_t *bytes, uint64_t len) {
+    const struct relocation *next = r + 1;
     enum linker_utils_role role = row_of(r)->role;
-    size_t used;
-    if (role == LINKER_UTILS_ROLE_SUBTRACTS) {
-        check(r, linker_utils_write_uleb128(bytes, len, number - value));
-    } else {
-        number = 0;
-        if (role == LINKER_UTILS_ROLE_ADDS)
-            check(r, linker_utils_read_uleb128(bytes, len, &number, &used));
-        number += value;
-    }
+    bool is_pair = role != LINKER_UTILS_ROLE_SUBTRACTS && !is_last && next->section == r->section &&
+                   next->offset == r->offset && row_of(next)->role == LINKER_UTILS_ROLE_SUBTRACTS;
+    uint64_t number = 0, value = (uint64_t)value_of(o, r);
+    size_t used = 0;
+    if (!is_pair && machine == EM_RISCV) fail("%s has no other half", place_of(r));
+    if (role != LINKER_UTILS_ROLE_SETS)
+        check(r, linker_utils_read_uleb128(bytes, len, &number, &used));
+    number += role == LINKER_UTILS_ROLE_SUBTRACTS ? -value : value;
+    if (is_pair) number -= (uint64_t)value_of(o, next);
+    else if (used < 9) number &= (UINT64_C(1) << 7 * used) - 1;
+    check(r, linker_utils_write_uleb128(bytes, len, number));
+    return is_pair;
 }
 
 void relocate(struct output *o) {
@@ -235,13 +253,13 @@ void relocate(struct output *o) {
             row->info.kind == LINKER_UTILS_KIND_ALIGNMENT ||
             row->info.kind == LINKER_UTILS_KIND_TLS_DESC_CALL)
             continue;
-        int64_t value = value_of(o, r);
         uint64_t at = address_of(o, r->offset) - o->address;
         uint64_t len = (r->section ? address_of(o, r->section->end) - o->address : o->len) - at;
         if (row->role) {
-            relocate_uleb128(r, (uint64_t)value, o->bytes + at, len);
+            r += relocate_uleb128(o, r, r + 1 == end, o->bytes + at, len);
             continue;
         }
+        int64_t value = value_of(o, r);
         uint32_t status = linker_utils_relocate(machine, r->type, value, o->bytes + at, len);
         struct linker_utils_relocation_reach reach;
         if (status == LINKER_UTILS_OUT_OF_REACH && !linker_utils_reach(machine, r->type, &reach))

@@ -2,8 +2,8 @@
  * the linker itself defines. */
 #include "link.h"
 
-struct symbol *symbols;
-static struct symbol *buckets[1 << 16], *groups[1 << 12], *wanted;
+struct symbol *symbols, *module_base;
+static struct symbol *buckets[1 << 16], *groups[1 << 12];
 
 static struct symbol **find(struct symbol **table, size_t len, const char *name) {
     uint32_t hash = 5381;
@@ -24,28 +24,36 @@ bool is_first_group(const char *name) {
     return true;
 }
 
-/* Which of two mentions of a symbol counts: the higher, and else the first. */
-int rank(const Elf64_Sym *s) {
-    bool is_weak = ELF64_ST_BIND(s->st_info) == STB_WEAK;
-    if (s->st_shndx == SHN_UNDEF) return !is_weak;
-    return s->st_shndx == SHN_COMMON ? 3 : is_weak ? 2 : 4;
+/* Which of two mentions of a symbol counts: the higher, and else the first. A definition in a
+ * discarded section counts less than any other, but no member is loaded for it. */
+int rank(const struct symbol *s) {
+    bool is_weak = ELF64_ST_BIND(s->elf.st_info) == STB_WEAK;
+    uint16_t at = s->elf.st_shndx;
+    if (at == SHN_UNDEF) return !is_weak;
+    if (at < SHN_LORESERVE && s->object->sections[at].is_discarded) return 2;
+    return at == SHN_COMMON ? 4 : is_weak ? 3 : 5;
 }
 
-/* Has a member loaded that defines a symbol, if one is needed and an archive has it. */
-static void want(struct symbol *s) {
-    if (!s->object || !s->archive || s->wanted || rank(&s->elf) != 1) return;
-    s->wanted = wanted ? wanted : s; /* (the last is its own) */
-    wanted = s;
+/* Loads the member that defines a symbol, if one is needed and an archive has it. */
+static void want(const struct symbol *s) {
+    if (s->object && s->archive && rank(s) == 1) load_member(s->archive, s->member);
+}
+
+static bool is_thread_local(const struct symbol *s) {
+    return ELF64_ST_TYPE(s->elf.st_info) == STT_TLS;
 }
 
 /* The global symbol of a name, after what one more object says of it. */
 struct symbol *resolve(struct symbol *s) {
     struct symbol **at = global(s->name), *old = *at;
     if (!old) return *at = s;
-    int before = old->object ? rank(&old->elf) : -1, after = rank(&s->elf);
-    if (before == 4 && after == 4)
+    int before = old->object ? rank(old) : -1, after = rank(s);
+    if (before >= 0 && is_thread_local(old) != is_thread_local(s))
+        fail("%s: '%s' is %sthread-local, and in %s it is%s", s->object->path, s->name,
+             is_thread_local(s) ? "" : "not ", old->object->path, is_thread_local(s) ? " not" : "");
+    if (before == 5 && after == 5)
         fail("%s: duplicate symbol '%s', also in %s", s->object->path, s->name, old->object->path);
-    if (before == 3 && after == 3) { /* the larger size, and the larger alignment */
+    if (before == 4 && after == 4) { /* the larger size, and the larger alignment */
         uint64_t a = old->elf.st_value, b = s->elf.st_value;
         old->elf.st_value = s->elf.st_value = a > b ? a : b;
         after += s->elf.st_size > old->elf.st_size;
@@ -66,15 +74,6 @@ void offer(const char *name, struct archive *a, uint64_t member) {
     (*at)->archive = a;
     (*at)->member = member;
     want(*at);
-}
-
-/* Loads members until no symbol that is not defined yet is in an archive. */
-void load_members(void) {
-    while (wanted) {
-        struct symbol *s = wanted;
-        wanted = s->wanted == s ? NULL : s->wanted;
-        if (rank(&s->elf) == 1) load_member(s->archive, s->member);
-    }
 }
 
 void list_symbols(void) {
@@ -137,6 +136,12 @@ void define_symbols(void) {
     define("end", last(RANK_BSS), END);
     if (headers->len) define("__ehdr_start", headers, 0);
     if (headers->len) define("__executable_start", headers, 0);
+    struct symbol *base = *global("_TLS_MODULE_BASE_"); /* (it has no section) */
+    if (!base || !base->object || base->elf.st_shndx != SHN_UNDEF) return;
+    module_base = base;
+    base->elf.st_shndx = SHN_ABS;
+    base->elf.st_info = ELF64_ST_INFO(STB_GLOBAL, STT_TLS);
+    base->elf.st_other = STV_HIDDEN;
 }
 
 /* Where a symbol is that an object defines. */

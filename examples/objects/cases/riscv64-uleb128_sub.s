@@ -1,0 +1,12 @@
+# A ULEB128 number behind another that lacks its first half.
+    .globl _start
+_start:
+    nop
+    .data
+one:
+    .byte 0x80, 0
+two:
+    .byte 0x80, 0
+    .reloc one, R_RISCV_SET_ULEB128, _start + 4
+    .reloc one, R_RISCV_SUB_ULEB128, _start
+    .reloc two, R_RISCV_SUB_ULEB128, _start
