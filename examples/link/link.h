@@ -77,6 +77,7 @@ struct object {
     struct symbol **symbols, *mentions; /* as all objects say; as it says itself */
     struct object *below;               /* in the stack of those that are being read */
     size_t len, sections_len, symbols_len, resolved_len;
+    uint32_t flags; /* `e_flags` */
     bool has_other_low_halves; /* PowerPC64: not all can be over the TOC pointer */
 };
 

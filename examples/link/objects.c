@@ -107,7 +107,7 @@ static void read_object(const char *path, const uint8_t *bytes, size_t len) {
     if (!machine) machine = head.e_machine;
     demand(o, machine == head.e_machine && !linker_utils_relocate(machine, 0, 0, NULL, 0),
            "of another architecture");
-    machine_flags |= head.e_flags;
+    machine_flags |= o->flags = head.e_flags;
     Elf64_Shdr table = {.sh_offset = head.e_shoff, .sh_entsize = head.e_shentsize};
     table.sh_size = head.e_shnum * sizeof table;
     o->heads = copy_table(o, &table, sizeof table, &o->sections_len);

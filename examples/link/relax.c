@@ -19,7 +19,8 @@ static struct linker_utils_section_relocation seen(const struct output *o,
     const struct output *to = s ? s->output : NULL;
     struct linker_utils_section_relocation seen = {
         .offset = r->offset, .addend = r->addend, .r_type = r->type,
-        .has_symbol = r->section && s != *r->section->object->symbols};
+        .has_symbol = r->section && s != *r->section->object->symbols,
+        .may_compress = r->section && r->section->object->flags & EF_RISCV_RVC};
     if (!relaxes || !to || to->run != o->run || to->flags & SHF_TLS || (to->shrinks && r->addend))
         return seen;
     uint64_t offset = (s->offset == END ? to->len : s->offset) + (uint64_t)r->addend;
@@ -77,9 +78,8 @@ static size_t add_items(struct output *o, struct linker_utils_item *items, struc
         relocations[i] = seen(o, r);
     }
     if (machine == EM_RISCV)
-        status = linker_utils_riscv_items(o->bytes, o->len, o->base, relocations, all,
-                                          machine_flags & EF_RISCV_RVC, found, all, &found_len,
-                                          &at);
+        status = linker_utils_riscv_items(o->bytes, o->len, o->base, relocations, all, found, all,
+                                          &found_len, &at);
     else
         status = linker_utils_loongarch_items(o->bytes, o->len, o->base, relocations, all, found,
                                               all, &found_len, &at);
@@ -102,16 +102,20 @@ static size_t add_items(struct output *o, struct linker_utils_item *items, struc
 }
 
 /* Writes a section anew: what becomes shorter, and without what it loses. What stays of the
- * linker's own gaps stays as it is. */
+ * linker's own gaps stays as it is, as of deletions that are decided. */
 static void pack(struct output *o, const struct linker_utils_item *items, const uint64_t *kept,
                  struct relocation **of) {
     const struct run *run = o->run;
     struct linker_utils_item *written = take(o->items_len, sizeof *written);
     size_t len = 0, at = SIZE_MAX;
     for (size_t i = 0; i < o->items_len; i++)
-        if (of[i]->section && kept[i] < items[i].len) {
-            of[len] = of[i];
-            written[len++] = items[i];
+        if (kept[i] < items[i].len) {
+            written[len] = items[i];
+            if (!of[i]->section)
+                written[len] = (struct linker_utils_item){
+                    .offset = items[i].offset, .target = items[i].offset, .len = items[i].len,
+                    .kind = LINKER_UTILS_ITEM_SITE, .shapes = {.longest = (uint32_t)kept[i]}};
+            of[len++] = of[i];
         }
     size_t packed_len = linker_utils_packed_run_len(o->base, o->len, run->deltas, run->deltas_len);
     uint8_t *packed = take(packed_len, 1);

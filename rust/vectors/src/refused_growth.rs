@@ -3,17 +3,17 @@
 //! turn, one a run. So what is refused once succeeds when it is tried again, and each test holds
 //! whichever growth is refused.
 
-use crate::rows::expect_eq;
 use crate::support::*;
+use crate::rows::expect_eq;
+use linker_utils::runs::relaxation::{Item, Site, are_items, relax};
+use linker_utils::runs::shapes::riscv64::CALL as CALL_SHAPES;
+use linker_utils::runs::items::Relocation;
+use linker_utils::runs::{loongarch64, riscv64};
 use linker_utils::relaxation::{
     OutOfMemory, PackError, RelaxDeltaMap, SectionRelaxDeltas, calls_apart, calls_shrinkable,
     pack_section, shrink_calls,
 };
 use linker_utils::riscv64::CallError;
-use linker_utils::runs::items::Relocation;
-use linker_utils::runs::relaxation::{Item, Site, are_items, relax};
-use linker_utils::runs::shapes::riscv64::CALL as CALL_SHAPES;
-use linker_utils::runs::{loongarch64, riscv64};
 use linker_utils::utils::read_string;
 
 /// Deletions, and where some kept bytes go.
@@ -24,15 +24,19 @@ struct Listing {
     kept: &'static [(u64, u64)],
 }
 
-const ONE: Listing =
-    Listing { deletions: &[(4, 4)], kept: &[(3, 3), (8, 4), (12, 8), (20, 16), (8800, 8796)] };
+const ONE: Listing = Listing {
+    deletions: &[(4, 4)],
+    kept: &[(3, 3), (8, 4), (12, 8), (20, 16), (8800, 8796)],
+};
 
 const THREE: Listing = Listing {
     deletions: &[(4, 4), (8, 4), (16, 4)],
     kept: &[(3, 3), (12, 4), (15, 7), (20, 8), (8800, 8788)],
 };
 
-fn deltas_of(raw: &[(u64, u32)]) -> Result<SectionRelaxDeltas, OutOfMemory> {
+fn deltas_of(
+    raw: &[(u64, u32)],
+) -> Result<SectionRelaxDeltas, OutOfMemory> {
     assert!(SectionRelaxDeltas::is_valid(raw));
     SectionRelaxDeltas::new(raw).or_else(|_| SectionRelaxDeltas::new(raw))
 }
@@ -61,7 +65,9 @@ fn expect_listing(deltas: &SectionRelaxDeltas, listing: Listing) {
 }
 
 /// Merges pairs into the deltas of `ONE`. A refused merge leaves them.
-fn merge_into_one(more: &[(u64, u32)]) -> Result<SectionRelaxDeltas, OutOfMemory> {
+fn merge_into_one(
+    more: &[(u64, u32)],
+) -> Result<SectionRelaxDeltas, OutOfMemory> {
     let mut deltas = deltas_of(ONE.deletions)?;
     assert!(deltas.is_mergeable(more));
     if deltas.merge_additional(more).is_err() {
@@ -178,13 +184,18 @@ fn a_refused_section_is_handed_back() -> Result<(), Fail> {
 }
 
 /// `auipc ra, 0` and `jalr ra, 0(ra)`, and `nop`.
-const CALL: [u8; 12] = [0x97, 0x00, 0x00, 0x00, 0xe7, 0x80, 0x00, 0x00, 0x13, 0x00, 0x00, 0x00];
+const CALL: [u8; 12] = [
+    0x97, 0x00, 0x00, 0x00, 0xe7, 0x80, 0x00, 0x00, 0x13, 0x00, 0x00, 0x00,
+];
 
 #[test]
 fn a_refused_section_is_packed_when_tried_again() -> Result<(), Fail> {
     let deltas = deltas_of(&[(4, 4)])?;
     let packed = [0xef, 0x00, 0x40, 0x00, 0x13, 0x00, 0x00, 0x00];
-    let deleted = PackError::Call { index: 0, error: CallError::SiteDeleted };
+    let deleted = PackError::Call {
+        index: 0,
+        error: CallError::SiteDeleted,
+    };
     // out of memory comes before the first call that can't become a jump
     for (call, want) in [((0, 8), Ok(packed.as_slice())), ((4, 0), Err(deleted))] {
         assert!(calls_apart(&[call]));
@@ -207,7 +218,11 @@ fn a_refused_choice_is_made_when_tried_again() -> Result<(), Fail> {
     assert!(calls_shrinkable(&none, &calls));
     let chosen = shrink_calls(&none, &calls);
     let chosen = chosen.or_else(|_| shrink_calls(&none, &calls))?;
-    expect_eq("chosen.as_slice()", chosen.as_slice(), [true, false].as_slice());
+    expect_eq(
+        "chosen.as_slice()",
+        chosen.as_slice(),
+        [true, false].as_slice(),
+    );
     Ok(())
 }
 
@@ -251,7 +266,12 @@ pub(crate) fn many_calls() -> [Item; 1100] {
 }
 
 fn call_at(offset: u64) -> Item {
-    Item::Site(Site { offset, len: 8, target: offset, shapes: CALL_SHAPES })
+    Item::Site(Site {
+        offset,
+        len: 8,
+        target: offset,
+        shapes: CALL_SHAPES,
+    })
 }
 
 #[test]

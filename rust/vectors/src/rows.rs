@@ -4,6 +4,10 @@
 use core::fmt::Debug;
 
 /// Requires equal values in the row.
-pub fn expect_eq<R: Copy + Debug, T: Copy + PartialEq + Debug>(row: R, found: T, expected: T) {
+pub fn expect_eq<R: Copy + Debug, T: Copy + PartialEq + Debug>(
+    row: R,
+    found: T,
+    expected: T,
+) {
     assert_eq!(found, expected, "{row:?}");
 }

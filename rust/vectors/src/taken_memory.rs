@@ -2,14 +2,14 @@
 //! How often calls allocate. Each test allocates as often as its name says:
 //! `tools/test_refused_growth` counts.
 
+use crate::support::*;
 use crate::refused_growth::{MARKED_CALL, NOPS, many_calls};
 use crate::rows::expect_eq;
-use crate::support::*;
+use linker_utils::runs::relaxation::{are_items, relax};
+use linker_utils::runs::{loongarch64, riscv64};
 use linker_utils::relaxation::{
     RelaxDeltaMap, SectionRelaxDeltas, calls_apart, calls_shrinkable, pack_section, shrink_calls,
 };
-use linker_utils::runs::relaxation::{are_items, relax};
-use linker_utils::runs::{loongarch64, riscv64};
 
 const FEW: [(u64, u32); 2] = [(8, 4), (16, 4)];
 
@@ -71,7 +71,11 @@ fn maps_and_their_copies_take_4() -> Result<(), Fail> {
     if map.insert(3, deltas).is_err() {
         return Err(Fail::from("no memory"));
     }
-    expect_eq("map.clone()?.last_index()", map.try_clone()?.last_index(), Some(3));
+    expect_eq(
+        "map.clone()?.last_index()",
+        map.try_clone()?.last_index(),
+        Some(3),
+    );
     Ok(())
 }
 
@@ -81,7 +85,11 @@ fn packing_and_choosing_take_2() -> Result<(), Fail> {
     let none = SectionRelaxDeltas::new(&[])?;
     let calls = [(0, 8)];
     assert!(calls_apart(&calls) && calls_shrinkable(&none, &calls));
-    let packed = pack_section(&[0x97, 0, 0, 0, 0xe7, 0x80, 0, 0], &none, &calls);
+    let packed = pack_section(
+        &[0x97, 0, 0, 0, 0xe7, 0x80, 0, 0],
+        &none,
+        &calls,
+    );
     assert!(packed.is_ok());
     expect_eq(
         "shrink_calls(rt.alloc(), &none, &calls)?.len()",
